@@ -1,0 +1,7 @@
+pub mod Names
+pub mod Padded
+pub mod Pages
+pub mod IdText
+pub mod Keys
+pub mod KeyLaws
+pub mod Causes

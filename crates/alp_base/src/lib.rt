@@ -2,6 +2,23 @@
 //! forms in which their fields are written as bytes.
 #![tactic(auto)]
 
+mod bytes;
+mod choices;
+mod faults;
+mod id_text;
+mod ids;
+mod key;
+mod lists;
 mod memory;
+mod name;
+mod page;
 
+pub use bytes::{Bytes, NoteChange};
+pub use choices::{Access, Choice};
+pub use faults::{Failed, Halt, Sizes, VaultFault};
+pub use ids::{FileId, JoinNo, Run, Stamp, TransId};
+pub use key::{Key, Resource};
+pub use lists::{AccessList, NAMES_PER_LIST, PAGES_PER_FILE, PageList};
 pub use memory::OutOfMemory;
+pub use name::{NAME_BYTES, Name};
+pub use page::{PAGE_BYTES, Page, PageRef};
