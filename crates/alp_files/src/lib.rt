@@ -1,0 +1,12 @@
+//! Files as one map of cells: calls of clients, their replies, and what one thread's calls mean.
+#![tactic(auto)]
+
+mod call;
+mod cell;
+mod refusal;
+mod reply;
+
+pub use call::{Call, PropChange};
+pub use cell::{Cell, OwnerRecord, Props};
+pub use refusal::{Cause, ListName, Refusal, What, Why};
+pub use reply::{Ended, Reply};

@@ -1,0 +1,74 @@
+//! Why a server refuses a call, with what its caller needs to know.
+use alp_base::TransId;
+
+/// An access list of a file, of an owner, or of the server.
+#[derive(Clone, Copy, Debug, PartialEq, Eq)]
+pub enum ListName {
+    Read,
+    Modify,
+    Create,
+    Admin,
+}
+
+/// What there would be too many of.
+#[derive(Clone, Copy, Debug, PartialEq, Eq)]
+pub enum What {
+    Run,
+    Pages,
+    Opens,
+    Cells,
+    Locks,
+    Files,
+    Owners,
+    Transactions,
+}
+
+/// Why a part voted against its transaction.
+#[derive(Clone, Copy, Debug, PartialEq, Eq)]
+pub enum Why {
+    UnknownJoin,
+    Waiting,
+    LogFull { room: u32, asked: u32 },
+    ReadFault,
+    ClockEnd,
+}
+
+/// Why a transaction was aborted.
+#[derive(Clone, Copy, Debug, PartialEq, Eq)]
+pub enum Cause {
+    Asked,
+    TimedOut,
+    Voted { server: u8, why: Why },
+    Lost { epoch: u32 },
+}
+
+/// The refusals, in the order of their numbers from 1 on.
+#[derive(Clone, Copy, Debug, PartialEq, Eq)]
+pub enum Refusal {
+    BadFrame,
+    StaleSession { epoch: u32 },
+    UnknownTrans,
+    Finishing,
+    UnknownOpen,
+    UnknownFile,
+    UnknownOwner,
+    OwnerExists,
+    ReadOnlyOpen,
+    AccessDenied { list: ListName },
+    /// The run passes the file's size.
+    NoSuchPage { size: u32 },
+    /// The charge with what is asked passes the quota.
+    QuotaExceeded { charge: u32, asked: u32, quota: u32 },
+    VolumeFull { left: u32, asked: u32 },
+    LogFull { room: u32, asked: u32 },
+    TooMany { what: What, limit: u32 },
+    /// The least transaction whose lock is in the way.
+    LockConflict { holder: TransId },
+    Aborted { cause: Cause },
+    /// What was asked about is not granted or not decided yet.
+    NotYet,
+    ReadFault,
+    Down,
+    OutOfMemory,
+    JournalFull,
+}

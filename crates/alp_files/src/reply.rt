@@ -1,0 +1,29 @@
+//! Replies of a server.
+use crate::{OwnerRecord, Props, Refusal};
+use alp_base::{FileId, PageList, Stamp, TransId};
+
+/// How a transaction stands.
+#[derive(Clone, Copy, PartialEq, Eq)]
+pub enum Ended {
+    Running,
+    Committed { stamp: Stamp },
+    Aborted,
+    Unknown,
+}
+
+/// What a server answers.
+#[derive(Clone, Drop, PartialEq, Eq)]
+pub enum Reply {
+    Welcome { epoch: u32 },
+    Begun { trans: TransId },
+    Joined,
+    Created { file: FileId, open_no: u32 },
+    Opened { open_no: u32 },
+    Plain,
+    Pages(PageList),
+    Props(Props),
+    Owner(OwnerRecord),
+    Committed { stamp: Stamp },
+    Ended(Ended),
+    Refused(Refusal),
+}
