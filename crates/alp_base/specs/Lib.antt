@@ -5,3 +5,4 @@ pub mod IdText
 pub mod Keys
 pub mod KeyLaws
 pub mod Causes
+pub mod Streams
