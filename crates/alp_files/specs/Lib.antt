@@ -1,0 +1,5 @@
+pub mod Cells
+pub mod Edits
+pub mod Act
+pub mod History
+pub mod Files

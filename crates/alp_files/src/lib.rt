@@ -3,10 +3,12 @@
 
 mod call;
 mod cell;
+mod open;
 mod refusal;
 mod reply;
 
 pub use call::{Call, PropChange};
 pub use cell::{Cell, OwnerRecord, Props};
+pub use open::Open;
 pub use refusal::{Cause, ListName, Refusal, What, Why};
 pub use reply::{Ended, Reply};
