@@ -1,5 +1,6 @@
 -- The files of one server: cells at keys.
 use Rattle.std.specs.Prelude.{◌≡◌, ℕ, Bool, true, false, nat_eq, ◌==◌, ◌&&◌, ◌||◌, List, [], ◌∷◌, Option, None, Some, replicate}
+use Rattle.std.specs.List.{list_any}
 use Rattle.std.specs.FinMap.{FinMap}
 use Rattle.std.specs.Cmp.Lexicographic.{pointwise}
 use Rattle.alp_base.specs.declared.ids.FileId.{FileId}
@@ -27,12 +28,10 @@ abbrev pub same_file : FileId → FileId → Bool
 same_file a b = a.server == b.server && a.epoch == b.epoch && a.counter == b.counter
 
 abbrev pub has_name : List ℕ → List (List ℕ) → Bool
-has_name n [] = false
-has_name n (x ∷ xs) = same_name x n || has_name n xs
+has_name n names = list_any (λ x. same_name x n) names
 
 abbrev pub has_file : FileId → List FileId → Bool
-has_file f [] = false
-has_file f (g ∷ gs) = same_file g f || has_file f gs
+has_file f files = list_any (λ x. same_file x f) files
 
 -- stand-ins where a cell is missing or of another kind; no call that is answered reads them
 abbrev pub no_props : Props

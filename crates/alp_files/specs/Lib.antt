@@ -3,3 +3,4 @@ pub mod Edits
 pub mod Act
 pub mod History
 pub mod Files
+pub mod Parts

@@ -1,0 +1,3 @@
+pub mod CellMapLemmas
+pub mod EditLemmas
+pub mod PartLemmas
