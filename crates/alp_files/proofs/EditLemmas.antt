@@ -14,9 +14,9 @@ use Rattle.alp_base.specs.KeyLaws.{keys_total}
 use Rattle.alp_files.specs.declared.cell.Cell.{Cell}
 use Rattle.alp_files.specs.declared.cell.Cell.TheVariants as cell
 use Rattle.alp_files.specs.Cells.{Cells, View, page_in}
-use Rattle.alp_files.specs.Edits.{Edit, Put, edits_at, edit_at, after}
+use Rattle.alp_files.specs.Edits.{Edit, Put, edits_at, edit_at, after, over}
 use Rattle.alp_files.specs.Act.{page_puts}
-use Rattle.alp_files.specs.Parts.{over, ChangesBy, pages_at}
+use Rattle.alp_files.specs.Parts.{ChangesBy, pages_at}
 
 -- a put laid over what is seen shows where it stands
 pub or_cond : {X : Type 0} (b : Bool) (x : X) (o p : Option X) → option_or (cond b (Some x) o) p ≡ cond b (Some x) (option_or o p)

@@ -22,7 +22,7 @@ use Rattle.alp_files.specs.declared.part.Part.{Part}
 use Rattle.alp_files.specs.Cells.{Cells, View, has_file, props_in, owner_in, page_in, no_owner}
 use Rattle.alp_files.specs.Edits.{Edit, Put, after}
 use Rattle.alp_files.specs.Act.{Own, Answer, Look, Ask, run, unless, refused, told, no_answer, admits, is_admin, is_over, over, open_at, on_open, on_change, on_props, if_change, is_new, created_file, create_file, read_pages, write_pages, make_owner, ask_pages, page_puts, mark_put, charge_put, opened, page_past}
-use Rattle.alp_files.specs.Parts.{over as laid, seen, own_of, Performs, ChangesBy, Gives, Answers, pages_at}
+use Rattle.alp_files.specs.Parts.{seen, own_of, Performs, ChangesBy, Gives, Answers, pages_at}
 use Rattle.alp_files.proofs.EditLemmas.{changes-append}
 
 pub unless-false : (own : Own) (t : Bool) (r : Refusal) (ts : List (Bool × Refusal)) (a : Answer) → t ≡ false → unless own ((t, r) ∷ ts) a ≡ unless own ts a

@@ -1,6 +1,7 @@
 -- The files of one server: cells at keys.
 use Rattle.std.specs.Prelude.{◌≡◌, ℕ, Bool, true, false, nat_eq, ◌==◌, ◌&&◌, ◌||◌, List, [], ◌∷◌, Option, None, Some, replicate}
-use Rattle.std.specs.List.{list_any}
+use Rattle.std.specs.List.{list_any, filter_map}
+use Rattle.std.specs.FinMap as map
 use Rattle.std.specs.FinMap.{FinMap}
 use Rattle.std.specs.Cmp.Lexicographic.{pointwise}
 use Rattle.alp_base.specs.declared.ids.FileId.{FileId}
@@ -59,3 +60,17 @@ page_in (Some (cell.Page bytes)) = bytes
 page_in (Some (cell.Leader p)) = zero_page
 page_in (Some (cell.Owner o)) = zero_page
 page_in None = zero_page
+
+-- the size in a leader's cell
+abbrev pub size_in : Cell → Option ℕ
+size_in (cell.Leader p) = Some p.size
+size_in (cell.Page bytes) = None
+size_in (cell.Owner o) = None
+
+-- the sizes of the files, in key order
+abbrev pub sizes_of : Cells → List ℕ
+sizes_of m = filter_map size_in (map.values m)
+
+-- the owners' records, by name
+abbrev pub owners_of : Cells → List OwnerRecord
+owners_of m = filter_map (λ c. owner_in (Some c)) (map.values m)

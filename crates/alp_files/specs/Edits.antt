@@ -1,5 +1,6 @@
 -- Changes of a map of cells, and what they make of one cell.
 use Rattle.std.specs.Prelude.{◌≡◌, ℕ, Bool, true, false, not, ◌&&◌, nat_le, List, [], ◌∷◌, ◌++◌, Option, None, Some, if◌then◌else◌}
+use Rattle.std.specs.Option.{option_or}
 use Rattle.std.specs.FinMap as map
 use Rattle.std.specs.Ordering.{eq_by_cmp}
 use Rattle.alp_base.specs.declared.ids.FileId.{FileId}
@@ -40,6 +41,10 @@ edits_at (e ∷ es) q old = edits_at es q (edit_at e q old)
 -- what is seen after the edits
 abbrev pub after : List Edit → View → View
 after es m q = edits_at es q (m q)
+
+-- puts laid over what is seen
+abbrev pub over : Cells → View → View
+over puts m q = option_or (map.get puts q) (m q)
 
 -- the same of maps
 abbrev pub edit_map : Edit → Cells → Cells

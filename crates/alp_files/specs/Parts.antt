@@ -9,12 +9,8 @@ use Rattle.alp_files.specs.declared.reply.Reply.{Reply}
 use Rattle.alp_files.specs.declared.part.Part.{Part}
 use Rattle.alp_base.specs.declared.key.Key.TheVariants.{PageOf}
 use Rattle.alp_files.specs.Cells.{Cells, View, has_file, page_in}
-use Rattle.alp_files.specs.Edits.{Edit, after}
+use Rattle.alp_files.specs.Edits.{Edit, after, over}
 use Rattle.alp_files.specs.Act.{Own, Answer, Look, run, id_in, program}
-
--- puts laid over what is seen
-abbrev pub over : Cells → View → View
-over puts m q = option_or (map.get puts q) (m q)
 
 -- what a part sees of the files that are held
 abbrev pub seen : Cells → Part → View
@@ -50,7 +46,10 @@ abbrev pub pages_at : View → FileId → ℕ → ℕ → List (List ℕ)
 pages_at m f first zero = []
 pages_at m f first (suc n) = page_in (m (PageOf f first)) ∷ pages_at m f (first + 1) n
 
--- a write has as many pages as its run
-abbrev pub HasPages : Call → Type 0
-HasPages (call.WritePages trans open_no run pages choice) = length pages ≡ run.count
-HasPages _ = Unit {0}
+-- The file calls that are built so far; a write has as many pages as its run.
+abbrev pub IsBuilt : Call → Type 0
+IsBuilt (call.CreateFile trans start choice) = Unit {0}
+IsBuilt (call.ReadPages trans open_no r mode choice) = Unit {0}
+IsBuilt (call.WritePages trans open_no r pages choice) = length pages ≡ r.count
+IsBuilt (call.MakeOwner trans owner quota create choice) = Unit {0}
+IsBuilt _ = ⊥

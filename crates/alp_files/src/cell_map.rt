@@ -1,9 +1,14 @@
 //! A map of cells by their keys.
-ghost use Rattle.std.specs.Prelude.{◌≡◌, ℕ, List, IfOk, OnOk, OnErr, map as list_map};
+ghost use Rattle.std.specs.Prelude.{◌≡◌, ℕ, List, IfOk, OnOk, OnErr, Some};
+ghost use Rattle.std.specs.List.{filter_map};
+ghost use Rattle.std.specs.BTreeMap.{values, IsOrdered};
+ghost use Rattle.alp_base.specs.Keys.{key_cmp};
+ghost use Rattle.alp_files.specs.Cells.{View, size_in, sizes_of, owner_in, owners_of};
+ghost use Rattle.alp_files.specs.Edits.{over};
 ghost use Rattle.std.specs.FinMap as map;
 ghost use Rattle.std.specs.Option.{option_copied as copied};
 
-use crate::Cell;
+use crate::{Cell, OwnerRecord};
 use alp_base::{Key, OutOfMemory};
 use std::alloc::Global;
 use std::collections::BTreeMap;
@@ -52,4 +57,74 @@ impl CellMap {
         self.cells.insert(key, cell)?;
         Ok(())
     }
+
+    /// Takes all cells of `puts`, each in place of what stood at its key.
+    pub fn absorb(&mut self, puts: &mut CellMap) -> Result<(), OutOfMemory>
+        ensures { OnOk result (map.get self.new ≡ over puts.old (map.get self.old)) }
+    {
+        while let Some((key, cell)) = puts.cells.pop_last() {
+            self.put(key, cell)?;
+        }
+        Ok(())
+    }
+
+    /// The sizes of the files, in pages.
+    pub fn sizes(&self, alloc: Global) -> Result<Vec<u32>, OutOfMemory>
+        ensures { IfOk result (λ v. v.items ≡ sizes_of self.now) }
+    {
+        let sizes = sizes_in(alloc, &self.cells)?;
+        Ok(sizes)
+    }
+
+    /// The owners' records, by name.
+    pub fn owners(&self, alloc: Global) -> Result<Vec<OwnerRecord>, OutOfMemory>
+        ensures { IfOk result (λ v. v.items ≡ owners_of self.now) }
+    {
+        let owners = owners_in(alloc, &self.cells)?;
+        Ok(owners)
+    }
+}
+
+fn size_of(cell: &Cell) -> Option<u32>
+    ensures { result ≡ size_in cell.now }
+{
+    match cell {
+        Cell::Leader(props) => Some(props.size),
+        _ => None,
+    }
+}
+
+fn owner_of(cell: &Cell) -> Option<&OwnerRecord>
+    ensures { copied result ≡ owner_in (Some cell.now) }
+{
+    match cell {
+        Cell::Owner(record) => Some(record),
+        _ => None,
+    }
+}
+
+fn sizes_in(alloc: Global, cells: &BTreeMap<Key, Cell>) -> Result<Vec<u32>, OutOfMemory>
+    ensures sizes { IfOk result (λ v. v.items ≡ filter_map size_in (values cells.now)) }
+    ensures rising { IsOrdered key_cmp cells.now }
+{
+    let mut sizes = Vec::new(alloc);
+    for cell in cells.values() {
+        if let Some(size) = size_of(cell) {
+            sizes.push(size)?;
+        }
+    }
+    Ok(sizes)
+}
+
+fn owners_in(alloc: Global, cells: &BTreeMap<Key, Cell>) -> Result<Vec<OwnerRecord>, OutOfMemory>
+    ensures owners { IfOk result (λ v. v.items ≡ filter_map (λ c. owner_in (Some c)) (values cells.now)) }
+    ensures rising { IsOrdered key_cmp cells.now }
+{
+    let mut owners = Vec::new(alloc);
+    for cell in cells.values() {
+        if let Some(record) = owner_of(cell) {
+            owners.push(record.clone()?)?;
+        }
+    }
+    Ok(owners)
 }

@@ -6,9 +6,9 @@ ghost use Rattle.alp_base.specs.declared.ids.FileId.{FileId as File};
 ghost use Rattle.alp_base.specs.declared.key.Key.TheVariants as key;
 ghost use Rattle.alp_files.specs.declared.cell.Cell.TheVariants as cell;
 ghost use Rattle.alp_files.specs.Cells.{Cells, has_name as has_name_said, has_file, props_in, owner_in, page_in};
-ghost use Rattle.alp_files.specs.Edits.{Put};
+ghost use Rattle.alp_files.specs.Edits.{Put, over};
 ghost use Rattle.alp_files.specs.Act.{admits as admitting, is_admin as admin, is_over as over_quota, open_at, no_opens, on_open, on_change, page_puts, mark_put, create_file as create_file_said, read_pages as read_pages_said, write_pages as write_pages_said, make_owner as make_owner_said};
-ghost use Rattle.alp_files.specs.Parts.{over, seen, own_of, ChangesBy, Gives, Answers, pages_at};
+ghost use Rattle.alp_files.specs.Parts.{seen, own_of, ChangesBy, Gives, Answers, AnswersCall, IsBuilt, pages_at};
 
 use crate::{Call, Cell, CellMap, ListName, Open, OwnerRecord, Props, Refusal, Reply};
 use alp_base::{Access, AccessList, FileId, Key, Name, OutOfMemory, Page, PageList, PageRef, Run};
@@ -305,5 +305,50 @@ impl Part {
         };
         put(&mut self.intents, Key::OwnerOf(owner), Cell::Owner(record))?;
         Ok(Reply::Plain)
+    }
+
+    /// Performs a file call of `who` on the files that are held. `id` is the next id for a file.
+    pub fn perform(
+        &mut self,
+        alloc: Global,
+        held: &CellMap,
+        who: Name,
+        id: FileId,
+        call: &Call,
+    ) -> Result<Reply, OutOfMemory>
+        requires room { self.old.last + 1 < 2 ^ 32 }
+        requires new { seen held.now self.old (key.Leader id) ≡ None }
+        requires built { IsBuilt call.now }
+        ensures { IfOk result (λ r. AnswersCall held.now self.old self.new who id call.now r) }
+    {
+        match call {
+            Call::CreateFile {
+                trans: _,
+                start,
+                choice: _,
+            } => self.create_file(held, who, id, start),
+            Call::ReadPages {
+                trans: _,
+                open_no,
+                run,
+                mode: _,
+                choice: _,
+            } => self.read_pages(alloc, held, *open_no, *run),
+            Call::WritePages {
+                trans: _,
+                open_no,
+                run,
+                pages,
+                choice: _,
+            } => self.write_pages(held, *open_no, *run, pages),
+            Call::MakeOwner {
+                trans: _,
+                owner,
+                quota,
+                create,
+                choice: _,
+            } => self.make_owner(held, who, *owner, *quota, create),
+            _ => unreachable!(),
+        }
     }
 }

@@ -1,6 +1,7 @@
 use Rattle.std.proofs.Common.{◌≡◌, ℕ, ◌+◌, ◌-◌, List, [], ◌∷◌, ◌++◌, ap, ◌∙◌}
 use Rattle.std.specs.FinMap as map
-use Rattle.alp_files.specs.Parts.{over, pages_at}
+use Rattle.alp_files.specs.Parts.{pages_at}
+use Rattle.alp_files.specs.Edits.{over}
 use Rattle.alp_files.proofs.EditLemmas.{pages_at-step}
 use Rattle.alp_files.proofs.part.pages_of.Goals as goal
 

@@ -1,6 +1,7 @@
 use Rattle.std.proofs.Common.{◌≡◌, ◌+◌, ◌-◌, ◌++◌}
 use Rattle.std.specs.FinMap as map
-use Rattle.alp_files.specs.Parts.{over, pages_at}
+use Rattle.alp_files.specs.Parts.{pages_at}
+use Rattle.alp_files.specs.Edits.{over}
 use Rattle.alp_files.proofs.part.pages_of.Given as goal
 
 abbrev pub invariant-loop-i : goal.invariant-loop-i

@@ -1,6 +1,6 @@
 use Rattle.std.proofs.Common.{◌≡◌, ◌∷◌, [], ap, ◌∙◌}
 use Rattle.alp_files.specs.Cells.{Cells}
-use Rattle.alp_files.specs.Parts.{over}
+use Rattle.alp_files.specs.Edits.{over}
 use Rattle.alp_files.proofs.EditLemmas.{over_insert}
 use Rattle.alp_files.proofs.part.put.Goals as goal
 

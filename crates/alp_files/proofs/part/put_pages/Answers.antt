@@ -5,7 +5,7 @@ use Rattle.alp_files.specs.declared.cell.Cell.TheVariants as cell
 use Rattle.alp_files.specs.Cells.{View}
 use Rattle.alp_files.specs.Edits.{Edit, Put, after}
 use Rattle.alp_files.specs.Act.{page_puts}
-use Rattle.alp_files.specs.Parts.{over}
+use Rattle.alp_files.specs.Edits.{over}
 use Rattle.alp_files.proofs.EditLemmas.{page_puts-drop}
 use Rattle.alp_files.proofs.part.put_pages.Goals as goal
 
@@ -15,7 +15,7 @@ loop-i-preserved c m =
     ap (after rest) (c.in_ok-put.ensures m)
     ∙ ap (λ (p : List ℕ). after (Put (PageOf c.args.file (c.args.first + c.loop-i.i)) (cell.Page p) ∷ rest) (over c.loop-i.intents m)) c.in_ok-share.ensures
     ∙ ap (λ (es : List Edit). after es (over c.loop-i.intents m))
-      (sym (page_puts-drop c.args.file c.args.first c.loop-i.i c.args.pages.now c.index-pages-i.result c.loop-i-test.true (sym c.index-pages-i.is)))
+    (sym (page_puts-drop c.args.file c.args.first c.loop-i.i c.args.pages.now c.index-pages-i.result c.loop-i-test.true (sym c.index-pages-i.is)))
     ∙ c.loop-i.invariant m
 
 pub returns : goal.returns

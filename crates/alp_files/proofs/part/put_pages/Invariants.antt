@@ -2,7 +2,7 @@ use Rattle.std.proofs.Common.{◌≡◌, ◌+◌, drop}
 use Rattle.alp_files.specs.Cells.{View}
 use Rattle.alp_files.specs.Edits.{after}
 use Rattle.alp_files.specs.Act.{page_puts}
-use Rattle.alp_files.specs.Parts.{over}
+use Rattle.alp_files.specs.Edits.{over}
 use Rattle.alp_files.proofs.part.put_pages.Given as goal
 
 abbrev pub invariant-loop-i : goal.invariant-loop-i

@@ -4,7 +4,7 @@ use Rattle.std.proofs.lemmas.Bool.{lt-ltb}
 use Rattle.alp_base.specs.declared.key.Key.TheVariants.{Leader}
 use Rattle.alp_files.specs.declared.cell.Cell.TheVariants as cell
 use Rattle.alp_files.specs.Edits.{Edit, Put, after}
-use Rattle.alp_files.specs.Parts.{over}
+use Rattle.alp_files.specs.Edits.{over}
 use Rattle.alp_files.proofs.part.raise_mark.Goals as goal
 
 pub returns-then-props-last : goal.returns-then-props-last
