@@ -189,6 +189,7 @@ opened o = record {
   cells = o.cells.value;
   sessions = λ c. None;
   lives = λ t. None;
+  drawn = 0;
   decided = [];
 }
 
