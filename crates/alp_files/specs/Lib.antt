@@ -4,3 +4,4 @@ pub mod Act
 pub mod History
 pub mod Files
 pub mod Parts
+pub mod Born

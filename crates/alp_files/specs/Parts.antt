@@ -6,6 +6,7 @@ use Rattle.alp_base.specs.declared.ids.FileId.{FileId}
 use Rattle.alp_files.specs.declared.call.Call.{Call}
 use Rattle.alp_files.specs.declared.call.Call.TheVariants as call
 use Rattle.alp_files.specs.declared.reply.Reply.{Reply}
+use Rattle.alp_files.specs.declared.reply.Reply.TheVariants as reply
 use Rattle.alp_files.specs.declared.part.Part.{Part}
 use Rattle.alp_base.specs.declared.key.Key.TheVariants.{PageOf}
 use Rattle.alp_files.specs.Cells.{Cells, View, has_file, page_in}
@@ -40,6 +41,14 @@ Answers held old new id r look = (made : List FileId) → has_file id made ≡ f
 -- the part gave the right reply to the call, where this id is the next one
 abbrev pub AnswersCall : Cells → Part → Part → List ℕ → FileId → Call → Reply → Type 0
 AnswersCall held old new who id c r = Answers held old new id r (λ made own. program id.server made who own c)
+
+-- if a new file got an id, it is this one
+abbrev pub GivesOnly : FileId → Reply → Type 0
+GivesOnly id r = (f : FileId) (n : ℕ) → r ≡ reply.Created f n → f ≡ id
+
+-- no new file got an id
+abbrev pub GivesNone : Reply → Type 0
+GivesNone r = (f : FileId) (n : ℕ) → r ≡ reply.Created f n → ⊥
 
 -- the pages in a row that are seen
 abbrev pub pages_at : View → FileId → ℕ → ℕ → List (List ℕ)

@@ -8,7 +8,7 @@ ghost use Rattle.alp_files.specs.declared.cell.Cell.TheVariants as cell;
 ghost use Rattle.alp_files.specs.Cells.{Cells, has_name as has_name_said, has_file, props_in, owner_in, page_in};
 ghost use Rattle.alp_files.specs.Edits.{Put, over};
 ghost use Rattle.alp_files.specs.Act.{admits as admitting, is_admin as admin, is_over as over_quota, open_at, no_opens, on_open, on_change, page_puts, mark_put, create_file as create_file_said, read_pages as read_pages_said, write_pages as write_pages_said, make_owner as make_owner_said};
-ghost use Rattle.alp_files.specs.Parts.{seen, own_of, ChangesBy, Gives, Answers, AnswersCall, IsBuilt, pages_at};
+ghost use Rattle.alp_files.specs.Parts.{seen, own_of, ChangesBy, Gives, Answers, AnswersCall, GivesOnly, GivesNone, IsBuilt, pages_at};
 
 use crate::{Call, Cell, CellMap, ListName, Open, OwnerRecord, Props, Refusal, Reply};
 use alp_base::{Access, AccessList, FileId, Key, Name, OutOfMemory, Page, PageList, PageRef, Run};
@@ -182,7 +182,8 @@ impl Part {
     ) -> Result<Reply, OutOfMemory>
         requires room { self.old.last + 1 < 2 ^ 32 }
         requires new { seen held.now self.old (key.Leader id) ≡ None }
-        ensures { IfOk result (λ r. Answers held.now self.old self.new id r (λ made own. create_file_said id.server made own who start.now)) }
+        ensures right { IfOk result (λ r. Answers held.now self.old self.new id r (λ made own. create_file_said id.server made own who start.now)) }
+        ensures id { IfOk result (λ r. GivesOnly id r) }
     {
         let mut owner = match owner_at(held, &self.intents, start.owner) {
             Some(record) => record.clone()?,
@@ -231,7 +232,8 @@ impl Part {
         open_no: u32,
         run: Run,
     ) -> Result<Reply, OutOfMemory>
-        ensures { IfOk result (λ r. Gives held.now self.old self.new r (λ own. on_open own (open_at own.opens open_no) (read_pages_said own run))) }
+        ensures right { IfOk result (λ r. Gives held.now self.old self.new r (λ own. on_open own (open_at own.opens open_no) (read_pages_said own run))) }
+        ensures id { IfOk result (λ r. GivesNone r) }
     {
         let Some(open) = open_of(self.opens.as_slice(), open_no) else {
             return Ok(Reply::Refused(Refusal::UnknownOpen));
@@ -254,7 +256,8 @@ impl Part {
         pages: &PageList,
     ) -> Result<Reply, OutOfMemory>
         requires { length pages.now ≡ run.count }
-        ensures { IfOk result (λ r. Gives held.now self.old self.new r (λ own. on_change own (open_at own.opens open_no) (write_pages_said own run pages.now))) }
+        ensures right { IfOk result (λ r. Gives held.now self.old self.new r (λ own. on_change own (open_at own.opens open_no) (write_pages_said own run pages.now))) }
+        ensures id { IfOk result (λ r. GivesNone r) }
     {
         let Some(open) = open_of(self.opens.as_slice(), open_no) else {
             return Ok(Reply::Refused(Refusal::UnknownOpen));
@@ -287,7 +290,8 @@ impl Part {
         quota: u32,
         create: &AccessList,
     ) -> Result<Reply, OutOfMemory>
-        ensures { IfOk result (λ r. Gives held.now self.old self.new r (λ own. make_owner_said own who owner quota create.now)) }
+        ensures right { IfOk result (λ r. Gives held.now self.old self.new r (λ own. make_owner_said own who owner quota create.now)) }
+        ensures id { IfOk result (λ r. GivesNone r) }
     {
         if owner_at(held, &self.intents, owner).is_some() {
             return Ok(Reply::Refused(Refusal::OwnerExists));
@@ -319,7 +323,8 @@ impl Part {
         requires room { self.old.last + 1 < 2 ^ 32 }
         requires new { seen held.now self.old (key.Leader id) ≡ None }
         requires built { IsBuilt call.now }
-        ensures { IfOk result (λ r. AnswersCall held.now self.old self.new who id call.now r) }
+        ensures right { IfOk result (λ r. AnswersCall held.now self.old self.new who id call.now r) }
+        ensures id { IfOk result (λ r. GivesOnly id r) }
     {
         match call {
             Call::CreateFile {

@@ -13,8 +13,8 @@ use Rattle.alp_files.proofs.EditLemmas.{changes-append}
 use Rattle.alp_files.proofs.PartLemmas.{file_created}
 use Rattle.alp_files.proofs.part.Part.create_file.Goals as goal
 
-pub returns : goal.returns
-returns c =
+pub returns-clause-right : goal.returns-clause-right
+returns-clause-right c =
     let same : c.in_ok-owner-in-Some.owner ≡ c.in-Some.record.now = search rules in
     let start : c.in_ok-props.props ≡ c.args.start.now = search rules in
     let leader : Props → Edit = λ (p : Props). Put (Leader c.args.id) (cell.Leader (record p { byte_length = 0; high_water = 0 })) in

@@ -9,8 +9,8 @@ use Rattle.alp_files.specs.declared.open.Open.{Open}
 use Rattle.alp_files.proofs.PartLemmas.{pages_written}
 use Rattle.alp_files.proofs.part.Part.write_pages.Goals as goal
 
-pub returns : goal.returns
-returns c =
+pub returns-clause-right : goal.returns-clause-right
+returns-clause-right c =
     let same : c.in_ok-props-in-Some-props_at.props ≡ c.in-Some-props_at.props.now = search rules in
     pages_written c.args.held.now c.args.self.now (record c.args.self.now { intents = c.raise_mark.new.intents }) c.args.open_no c.args.run c.args.pages.now c.in-Some.open c.in-Some-props_at.props.now
     (ap (λ (os : List Open). open_at os c.args.open_no) (sym c.as_slice.ensures.value) ∙ sym c.in-Some.ensures) (search rules) (sym c.in-Some-props_at.ensures)
