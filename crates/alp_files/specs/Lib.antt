@@ -5,3 +5,4 @@ pub mod History
 pub mod Files
 pub mod Parts
 pub mod Born
+pub mod Passing

@@ -8,6 +8,7 @@ ghost use Rattle.alp_files.specs.declared.cell.Cell.TheVariants as cell;
 ghost use Rattle.alp_files.specs.Cells.{Cells, has_name as has_name_said, has_file, props_in, owner_in, page_in};
 ghost use Rattle.alp_files.specs.Edits.{Put, over};
 ghost use Rattle.alp_files.specs.Act.{admits as admitting, is_admin as admin, is_over as over_quota, open_at, no_opens, on_open, on_change, page_puts, mark_put, create_file as create_file_said, read_pages as read_pages_said, write_pages as write_pages_said, make_owner as make_owner_said};
+ghost use Rattle.alp_files.specs.Passing.{is_passing};
 ghost use Rattle.alp_files.specs.Parts.{seen, own_of, ChangesBy, Gives, Answers, AnswersCall, GivesOnly, GivesNone, IsBuilt, pages_at};
 
 use crate::{Call, Cell, CellMap, ListName, Open, OwnerRecord, Props, Refusal, Reply};
@@ -184,6 +185,7 @@ impl Part {
         requires new { seen held.now self.old (key.Leader id) ≡ None }
         ensures right { IfOk result (λ r. Answers held.now self.old self.new id r (λ made own. create_file_said id.server made own who start.now)) }
         ensures id { IfOk result (λ r. GivesOnly id r) }
+        ensures own { IfOk result (λ r. is_passing r ≡ false) }
     {
         let mut owner = match owner_at(held, &self.intents, start.owner) {
             Some(record) => record.clone()?,
@@ -234,6 +236,7 @@ impl Part {
     ) -> Result<Reply, OutOfMemory>
         ensures right { IfOk result (λ r. Gives held.now self.old self.new r (λ own. on_open own (open_at own.opens open_no) (read_pages_said own run))) }
         ensures id { IfOk result (λ r. GivesNone r) }
+        ensures own { IfOk result (λ r. is_passing r ≡ false) }
     {
         let Some(open) = open_of(self.opens.as_slice(), open_no) else {
             return Ok(Reply::Refused(Refusal::UnknownOpen));
@@ -258,6 +261,7 @@ impl Part {
         requires { length pages.now ≡ run.count }
         ensures right { IfOk result (λ r. Gives held.now self.old self.new r (λ own. on_change own (open_at own.opens open_no) (write_pages_said own run pages.now))) }
         ensures id { IfOk result (λ r. GivesNone r) }
+        ensures own { IfOk result (λ r. is_passing r ≡ false) }
     {
         let Some(open) = open_of(self.opens.as_slice(), open_no) else {
             return Ok(Reply::Refused(Refusal::UnknownOpen));
@@ -292,6 +296,7 @@ impl Part {
     ) -> Result<Reply, OutOfMemory>
         ensures right { IfOk result (λ r. Gives held.now self.old self.new r (λ own. make_owner_said own who owner quota create.now)) }
         ensures id { IfOk result (λ r. GivesNone r) }
+        ensures own { IfOk result (λ r. is_passing r ≡ false) }
     {
         if owner_at(held, &self.intents, owner).is_some() {
             return Ok(Reply::Refused(Refusal::OwnerExists));
@@ -325,6 +330,7 @@ impl Part {
         requires built { IsBuilt call.now }
         ensures right { IfOk result (λ r. AnswersCall held.now self.old self.new who id call.now r) }
         ensures id { IfOk result (λ r. GivesOnly id r) }
+        ensures own { IfOk result (λ r. is_passing r ≡ false) }
     {
         match call {
             Call::CreateFile {

@@ -10,9 +10,8 @@ use Rattle.alp_files.specs.declared.call.Call.{Call}
 use Rattle.alp_files.specs.declared.call.Call.TheVariants as call
 use Rattle.alp_files.specs.declared.reply.Reply.{Reply}
 use Rattle.alp_files.specs.declared.reply.Reply.TheVariants as reply
-use Rattle.alp_files.specs.declared.refusal.Refusal.{Refusal}
-use Rattle.alp_files.specs.declared.refusal.Refusal.TheVariants as refusal
-use Rattle.alp_files.specs.Cells.{Cells, View}
+use Rattle.alp_files.specs.Passing.{is_passing}
+use Rattle.alp_files.specs.Cells.{Cells}
 use Rattle.alp_files.specs.Edits.{Edit, edits_map}
 use Rattle.alp_files.specs.Act.{Own, no_opens, Answer, answer}
 use Rattle.alp_files.specs.History.{Done, Decided}
@@ -65,25 +64,6 @@ abbrev pub stamp_cmp : Stamp → Stamp → Ordering
 stamp_cmp = (stamp_ord.ghosts).cmp
 
 -- ---- which entries perform what
-
--- a refusal that rests on what a thread by itself would not see; it changes nothing of files and opens
-abbrev pub is_passing_refusal : Refusal → Bool
-is_passing_refusal (refusal.StaleSession epoch) = true
-is_passing_refusal refusal.UnknownTrans = true
-is_passing_refusal refusal.Finishing = true
-is_passing_refusal (refusal.VolumeFull left asked) = true
-is_passing_refusal (refusal.LogFull room asked) = true
-is_passing_refusal (refusal.TooMany what limit) = true
-is_passing_refusal (refusal.LockConflict holder) = true
-is_passing_refusal (refusal.Aborted cause) = true
-is_passing_refusal refusal.NotYet = true
-is_passing_refusal refusal.ReadFault = true
-is_passing_refusal refusal.Down = true
-is_passing_refusal _ = false
-
-abbrev pub is_passing : Reply → Bool
-is_passing (reply.Refused r) = is_passing_refusal r
-is_passing _ = false
 
 -- the transaction of a file call
 abbrev pub file_trans : Call → Option TransId
