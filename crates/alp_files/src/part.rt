@@ -1,5 +1,5 @@
 //! A transaction's part at one server: its intents and its opens, and how it performs file calls.
-ghost use Rattle.std.specs.Prelude.{◌≡◌, ◌+◌, ◌^◌, ◌<◌, ◌∷◌, [], length, List, IfOk, OnOk, IfSome, Some, None, false, nat_eq, is_some};
+ghost use Rattle.std.specs.Prelude.{◌≡◌, ◌+◌, ◌^◌, ◌<◌, ◌≤◌, ◌∷◌, [], length, List, IfOk, OnOk, IfSome, Some, None, false, nat_eq, is_some};
 ghost use Rattle.std.specs.Option.{option_copied as copied};
 ghost use Rattle.std.specs.FinMap as map;
 ghost use Rattle.alp_base.specs.declared.ids.FileId.{FileId as File};
@@ -186,6 +186,7 @@ impl Part {
         ensures right { IfOk result (λ r. Answers held.now self.old self.new id r (λ made own. create_file_said id.server made own who start.now)) }
         ensures id { IfOk result (λ r. GivesOnly id r) }
         ensures own { IfOk result (λ r. is_passing r ≡ false) }
+        ensures last { OnOk result (self.new.last ≤ self.old.last + 1) }
     {
         let mut owner = match owner_at(held, &self.intents, start.owner) {
             Some(record) => record.clone()?,
@@ -237,6 +238,7 @@ impl Part {
         ensures right { IfOk result (λ r. Gives held.now self.old self.new r (λ own. on_open own (open_at own.opens open_no) (read_pages_said own run))) }
         ensures id { IfOk result (λ r. GivesNone r) }
         ensures own { IfOk result (λ r. is_passing r ≡ false) }
+        ensures last { OnOk result (self.new.last ≤ self.old.last + 1) }
     {
         let Some(open) = open_of(self.opens.as_slice(), open_no) else {
             return Ok(Reply::Refused(Refusal::UnknownOpen));
@@ -262,6 +264,7 @@ impl Part {
         ensures right { IfOk result (λ r. Gives held.now self.old self.new r (λ own. on_change own (open_at own.opens open_no) (write_pages_said own run pages.now))) }
         ensures id { IfOk result (λ r. GivesNone r) }
         ensures own { IfOk result (λ r. is_passing r ≡ false) }
+        ensures last { OnOk result (self.new.last ≤ self.old.last + 1) }
     {
         let Some(open) = open_of(self.opens.as_slice(), open_no) else {
             return Ok(Reply::Refused(Refusal::UnknownOpen));
@@ -297,6 +300,7 @@ impl Part {
         ensures right { IfOk result (λ r. Gives held.now self.old self.new r (λ own. make_owner_said own who owner quota create.now)) }
         ensures id { IfOk result (λ r. GivesNone r) }
         ensures own { IfOk result (λ r. is_passing r ≡ false) }
+        ensures last { OnOk result (self.new.last ≤ self.old.last + 1) }
     {
         if owner_at(held, &self.intents, owner).is_some() {
             return Ok(Reply::Refused(Refusal::OwnerExists));
@@ -331,6 +335,7 @@ impl Part {
         ensures right { IfOk result (λ r. AnswersCall held.now self.old self.new who id call.now r) }
         ensures id { IfOk result (λ r. GivesOnly id r) }
         ensures own { IfOk result (λ r. is_passing r ≡ false) }
+        ensures last { OnOk result (self.new.last ≤ self.old.last + 1) }
     {
         match call {
             Call::CreateFile {

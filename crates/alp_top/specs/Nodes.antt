@@ -12,6 +12,7 @@ use Rattle.alp_files.specs.Act.{Own, no_opens}
 use Rattle.alp_files.specs.Parts.{seen, own_of}
 use Rattle.alp_files.specs.Born.{IsUnborn, AreBelow}
 use Rattle.alp_files.specs.History.{Done, Standing, Decided, AreRight, steps, begun, IsSerial, serial_end, starting}
+use Rattle.alp_journal.specs.declared.log.Opening.{Opening}
 use Rattle.alp_journal.specs.declared.entry.Entry.{Entry}
 use Rattle.alp_journal.specs.declared.event.Event.{Event}
 use Rattle.alp_journal.specs.declared.act.Act.{Act}
@@ -58,21 +59,24 @@ AreEarlier clock [] = Unit {0}
 AreEarlier clock (d ∷ ds) = (d.0.ts ≤ clock) × AreEarlier clock ds
 
 -- the live part sees what its calls left, and each of its replies was the right one
-pub record IsLife (n : Node) (life : Life) (at : Standing) (l : Live) : Type 0 where
+pub record IsLife (o : Opening) (held : Cells) (count : ℕ) (life : Life) (at : Standing) (l : Live) : Type 0 where
   pub client : life.client ≡ l.client
   pub who : life.who ≡ l.who
-  pub view : seen n.files l.part ≡ map.get (edits_map life.edits n.files)
+  pub view : seen held l.part ≡ map.get (edits_map life.edits held)
   pub own : own_of l.part ≡ life.own
-  pub right : AreRight n.opening.server (begun at) life.who life.calls
-  pub files : (steps n.opening.server (begun at) life.who life.calls).files ≡ edits_map life.edits n.files
-  pub opens : (steps n.opening.server (begun at) life.who life.calls).own ≡ life.own
-  pub made : AreBelow n.file_count (steps n.opening.server (begun at) life.who life.calls).made
-  pub unborn : IsUnborn n.opening.server n.opening.epoch (seen n.files l.part) n.file_count
-  pub last : l.part.last ≤ length n.journal
+  pub right : AreRight o.server (begun at) life.who life.calls
+  pub files : (steps o.server (begun at) life.who life.calls).files ≡ edits_map life.edits held
+  pub opens : (steps o.server (begun at) life.who life.calls).own ≡ life.own
+  pub made : AreBelow count (steps o.server (begun at) life.who life.calls).made
+  pub unborn : IsUnborn o.server o.epoch (seen held l.part) count
 
-abbrev pub OnLife : Node → Life → Standing → Option Live → Type 0
-OnLife n life at None = Unit {0}
-OnLife n life at (Some l) = IsLife n life at l
+abbrev pub OnLife : Opening → Cells → ℕ → Life → Standing → Option Live → Type 0
+OnLife o held count life at None = Unit {0}
+OnLife o held count life at (Some l) = IsLife o held count life at l
+
+abbrev pub OpensWithin : ℕ → Option Live → Type 0
+OpensWithin most None = Unit {0}
+OpensWithin most (Some l) = l.part.last ≤ most
 
 -- the counts go no further than the journal
 pub record AreCounted (n : Node) : Type 0 where
@@ -80,6 +84,7 @@ pub record AreCounted (n : Node) : Type 0 where
   pub trans : n.trans_count ≤ length n.journal
   pub files : n.file_count ≤ length n.journal
   pub committed : n.committed ≤ length n.journal
+  pub opens : OpensWithin (length n.journal) n.live
 
 -- the server is what its journal says, with this live part and these decided transactions
 pub record IsKeptAs (n : Node) (life : Life) (decided : List (Stamp × Decided)) : Type 0 where
@@ -90,7 +95,7 @@ pub record IsKeptAs (n : Node) (life : Life) (decided : List (Stamp × Decided))
   pub earlier : AreEarlier n.clock decided
   pub committed : length decided ≡ n.committed
   pub unborn : IsUnborn n.opening.server n.opening.epoch (map.get n.files) n.file_count
-  pub live : OnLife n life (standing_after n decided) n.live
+  pub live : OnLife n.opening n.files n.file_count life (standing_after n decided) n.live
   pub counted : AreCounted n
 
 abbrev pub IsKept : Node → Type 0

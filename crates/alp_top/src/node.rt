@@ -213,6 +213,82 @@ impl Node {
         self.live = Some(live);
         Ok(handed)
     }
+
+    /// The transaction that runs is committed, and its stamp is above all that were given.
+    pub fn commit(
+        &mut self,
+        alloc: Global,
+        client: u8,
+        number: u32,
+        trans: TransId,
+    ) -> Result<Reply, OutOfMemory>
+        requires kept { IsKept self.old }
+        requires room { HasRoom self.old }
+        requires turn { IsNext self.old.session client number }
+        requires running { IsRunning self.old.live trans }
+        ensures kept { OnOk result (IsKept self.new) }
+        ensures stepped { IfOk result (λ r. Stepped self.old self.new (event.Call client self.old.opening.epoch number (call.Finish trans true)) (Some r)) }
+        ensures reply { IfOk result (λ r. r ≡ reply.Committed (record { ts = self.old.clock + 1; trans = trans })) }
+        ensures live { OnOk result (self.new.live ≡ None) }
+        ensures session { OnOk result (CountsCall self.old.session self.new.session number) }
+        ensures same { OnOk result ((self.new.clock ≡ self.old.clock + 1) × (self.new.opening ≡ self.old.opening)) }
+    {
+        let session = self.session.unwrap();
+        let Some(mut live) = self.live.take() else {
+            unreachable!()
+        };
+        let stamp = Stamp {
+            ts: self.clock + 1,
+            trans,
+        };
+        let parts = Parts::new(Vec::new(alloc));
+        let acts = Acts::new(vec![in alloc;
+            Act::Decided { stamp, parts },
+            Act::Released { trans },
+        ]?);
+        let event = Event::Call {
+            client,
+            epoch: self.opening.epoch,
+            number,
+            call: Call::Finish {
+                trans,
+                commit: true,
+            },
+        };
+        self.files.absorb(&mut live.part.intents)?;
+        self.journal.push(Entry {
+            event,
+            reply: Some(Reply::Committed { stamp }),
+            acts,
+        })?;
+        self.clock += 1;
+        self.committed += 1;
+        self.session = Some(Session {
+            client: session.client,
+            who: session.who,
+            last: number,
+        });
+        Ok(Reply::Committed { stamp })
+    }
+
+    /// The transaction that runs took too long, and ends without effect.
+    pub fn time_out(&mut self, alloc: Global, trans: TransId) -> Result<(), OutOfMemory>
+        requires kept { IsKept self.old }
+        requires running { IsRunning self.old.live trans }
+        ensures kept { OnOk result (IsKept self.new) }
+        ensures stepped { OnOk result (Stepped self.old self.new (event.Timeout trans) None) }
+        ensures live { OnOk result (self.new.live ≡ None) }
+        ensures same { OnOk result (self.new.opening ≡ self.old.opening) }
+    {
+        let acts = Acts::new(vec![in alloc; Act::Released { trans }]?);
+        self.journal.push(Entry {
+            event: Event::Timeout { trans },
+            reply: None,
+            acts,
+        })?;
+        self.live = None;
+        Ok(())
+    }
 }
 
 fn count_after(count: u32, reply: &Reply) -> u32
