@@ -13,7 +13,8 @@ use Rattle.alp_files.specs.declared.part.Part.{Part}
 use Rattle.alp_files.specs.Passing.{is_passing}
 use Rattle.alp_files.specs.Cells.{Cells, View}
 use Rattle.alp_files.specs.Edits.{edits_map, after, over}
-use Rattle.alp_files.proofs.CellMapLemmas.{over-none}
+use Rattle.alp_files.proofs.CellMapLemmas.{over-none, get_cell}
+use Rattle.alp_base.specs.declared.key.Key.TheVariants.{Leader}
 use Rattle.alp_files.specs.Act.{Own, Answer, answer, id_in, no_opens}
 use Rattle.std.specs.Option.{option_to_list}
 use Rattle.alp_base.specs.declared.ids.FileId.{FileId}
@@ -414,3 +415,25 @@ module _ (n : Node) (life : Life) (ds : List (Stamp × Decided)) (s : Session) (
           opens = tt;
         };
       }
+
+-- ---- a server that was just made
+
+abbrev pub new_node : Opening → Cells → List Entry → Node
+new_node o files js = record {
+  opening = o; clock = o.clock; trans_count = 0; file_count = 0; committed = 0; session = None; live = None; files = files; journal = js
+}
+
+pub new_kept : (o : Opening) (files : Cells) (js : List Entry) (life : Life) → o.cells.value ≡ files → files ≡ map.empty → o.clock ≡ 0 → js ≡ [] → IsKeptAs (new_node o files js) life []
+new_kept o files js life is none clock empty = record {
+    state =
+      ap (state_after next (opened o)) empty
+      ∙ (λ i. record { server = o.server; epoch = o.epoch; clock = o.clock; cells = is i; sessions = λ c. None; lives = λ t. None; drawn = 0; decided = [] });
+    serial = tt;
+    files = is;
+    made = tt;
+    earlier = tt;
+    committed = refl;
+    unborn = λ n high. ap (λ (x : Cells). map.get x (Leader (record { server = o.server; epoch = o.epoch; counter = n }))) none ∙ get_cell [] (Leader (record { server = o.server; epoch = o.epoch; counter = n }));
+    live = tt;
+    counted = record { clock = omega (arith, clock); trans = omega arith; files = omega arith; committed = omega arith; opens = tt };
+  }
