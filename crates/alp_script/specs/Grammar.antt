@@ -28,6 +28,13 @@ list_of w = do
   name ← name_of w
   when (says w (codes "World")) (name ∷ [])
 
+-- the lists of those who may read a file and of those who may change it
+unfoldable pub lists_of : List ℕ → List ℕ → Option (List (List ℕ) × List (List ℕ))
+lists_of read modify = do
+  r ← list_of read
+  m ← list_of modify
+  Some (r, m)
+
 unfoldable pub servers_line : List (List ℕ) → Option Line
 servers_line (count ∷ []) = do
   n ← server_of count
@@ -56,15 +63,19 @@ owner_line client (server ∷ owner ∷ quota ∷ create ∷ []) = do
   Some (line.MakeOwner client s o q c choice.Fail)
 owner_line client _ = None
 
-unfoldable pub create_line : ℕ → List (List ℕ) → Option Line
-create_line client (server ∷ word ∷ owner ∷ size ∷ read ∷ modify ∷ []) = do
-  s ← server_of server
+-- a new file of the server
+unfoldable pub file_line : ℕ → ℕ → List ℕ → List ℕ → List ℕ → Option (List (List ℕ) × List (List ℕ)) → Option Line
+file_line client server word owner size lists = do
   w ← new_word_of word
   o ← name_of owner
   n ← within 0 PAGES_PER_FILE size
-  r ← list_of read
-  m ← list_of modify
-  Some (line.Create client s w o n r m choice.Fail)
+  l ← lists
+  Some (line.Create client server w o n l.0 l.1 choice.Fail)
+
+unfoldable pub create_line : ℕ → List (List ℕ) → Option Line
+create_line client (server ∷ word ∷ owner ∷ size ∷ read ∷ modify ∷ []) = do
+  s ← server_of server
+  file_line client s word owner size (lists_of read modify)
 create_line client _ = None
 
 unfoldable pub write_line : ℕ → List (List ℕ) → Option Line

@@ -1,3 +1,6 @@
 pub mod Words
 pub mod Telling
 pub mod Grammar
+pub mod Stages
+pub mod Script
+pub mod Progress

@@ -2,7 +2,7 @@
 ghost use Rattle.std.specs.Prelude.{◌≡◌, ℕ, List, codes};
 ghost use Rattle.alp_script.specs.Telling.{Tells};
 ghost use Rattle.alp_script.specs.Words.{shown};
-ghost use Rattle.alp_script.specs.Grammar.{server_of, client_of, run_of, list_of, servers_line as servers_said, client_line as client_said, begin_line as begin_said, owner_line as owner_said, create_line as create_said, write_line as write_said, read_line as read_said, commit_line as commit_said, line_by_verb as said_by_verb, line_of_client as said_of_client, line_by as said_by, line_of as said_of, line_said as said_in};
+ghost use Rattle.alp_script.specs.Grammar.{server_of, client_of, run_of, list_of, lists_of, servers_line as servers_said, client_line as client_said, begin_line as begin_said, owner_line as owner_said, file_line as file_said, create_line as create_said, write_line as write_said, read_line as read_said, commit_line as commit_said, line_by_verb as said_by_verb, line_of_client as said_of_client, line_by as said_by, line_of as said_of, line_said as said_in};
 
 use crate::Line;
 use crate::fault::LineFault;
@@ -58,6 +58,19 @@ fn list(alloc: Global, word: &[u8]) -> Result<AccessList, LineFault>
     let mut names = Vec::new(alloc);
     names.push(name)?;
     Ok(AccessList::new(names))
+}
+
+#[tactic(auto, unfolding(crate::specs::Grammar::lists_of))]
+fn lists(
+    alloc: Global,
+    read: &[u8],
+    modify: &[u8],
+) -> Result<(AccessList, AccessList), LineFault>
+    ensures { Tells result (lists_of read.now modify.now) }
+{
+    let read = list(alloc, read)?;
+    let modify = list(alloc, modify)?;
+    Ok((read, modify))
 }
 
 #[tactic(auto, unfolding(crate::specs::Grammar::servers_line))]
@@ -123,6 +136,32 @@ fn owner_line(alloc: Global, client: u8, args: &[&[u8]]) -> Result<Line, LineFau
     }
 }
 
+#[tactic(auto, unfolding(crate::specs::Grammar::file_line))]
+fn file_line(
+    alloc: Global,
+    client: u8,
+    server: u8,
+    file: (&[u8], &[u8], &[u8]),
+    access: (&[u8], &[u8]),
+) -> Result<Line, LineFault>
+    ensures { Tells result (file_said client server file.0.now file.1.now file.2.now (lists_of access.0.now access.1.now)) }
+{
+    let word = new_word(alloc, file.0)?;
+    let owner = name(file.1)?;
+    let size = within(file.2, 0, PAGES_PER_FILE)?;
+    let (read, modify) = lists(alloc, access.0, access.1)?;
+    Ok(Line::Create {
+        client,
+        server,
+        word,
+        owner,
+        size,
+        read,
+        modify,
+        choice: Choice::Fail,
+    })
+}
+
 #[tactic(auto, unfolding(crate::specs::Grammar::create_line))]
 fn create_line(alloc: Global, client: u8, args: &[&[u8]]) -> Result<Line, LineFault>
     ensures { Tells result (create_said client (shown args.now)) }
@@ -130,21 +169,7 @@ fn create_line(alloc: Global, client: u8, args: &[&[u8]]) -> Result<Line, LineFa
     match args {
         [at, word, owner, size, read, modify] => {
             let server = server(at)?;
-            let word = new_word(alloc, word)?;
-            let owner = name(owner)?;
-            let size = within(size, 0, PAGES_PER_FILE)?;
-            let read = list(alloc, read)?;
-            let modify = list(alloc, modify)?;
-            Ok(Line::Create {
-                client,
-                server,
-                word,
-                owner,
-                size,
-                read,
-                modify,
-                choice: Choice::Fail,
-            })
+            file_line(alloc, client, server, (word, owner, size), (read, modify))
         }
         _ => Err(LineFault::Outside),
     }

@@ -4,9 +4,14 @@
 mod fault;
 mod grammar;
 mod line;
+mod numbered;
+mod reader;
+mod stage;
 mod words;
 
 pub use fault::ScriptFault;
 pub use grammar::{CLIENTS_MOST, RUN_MOST, SERVERS_MOST};
 pub use line::{FileWord, Line};
+pub use numbered::{NumberedLine, SCRIPT_LINES_MOST};
+pub use reader::Reader;
 pub use words::{LINE_BYTES, TEXT_BYTES};
