@@ -64,19 +64,20 @@ owner_line client (server ∷ owner ∷ quota ∷ create ∷ []) = do
 owner_line client _ = None
 
 -- a new file of the server
-unfoldable pub file_line : ℕ → ℕ → List ℕ → List ℕ → List ℕ → Option (List (List ℕ) × List (List ℕ)) → Option Line
-file_line client server word owner size lists = do
+unfoldable pub file_line : ℕ → ℕ → List (List ℕ) → Option Line
+file_line client server (word ∷ owner ∷ size ∷ read ∷ modify ∷ []) = do
   w ← new_word_of word
   o ← name_of owner
   n ← within 0 PAGES_PER_FILE size
-  l ← lists
-  Some (line.Create client server w o n l.0 l.1 choice.Fail)
+  lists ← lists_of read modify
+  Some (line.Create client server w o n lists.0 lists.1 choice.Fail)
+file_line client server _ = None
 
 unfoldable pub create_line : ℕ → List (List ℕ) → Option Line
-create_line client (server ∷ word ∷ owner ∷ size ∷ read ∷ modify ∷ []) = do
+create_line client (server ∷ args) = do
   s ← server_of server
-  file_line client s word owner size (lists_of read modify)
-create_line client _ = None
+  file_line client s args
+create_line client [] = None
 
 unfoldable pub write_line : ℕ → List (List ℕ) → Option Line
 write_line client (file ∷ first ∷ count ∷ text ∷ []) = do

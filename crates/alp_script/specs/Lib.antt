@@ -4,3 +4,4 @@ pub mod Grammar
 pub mod Stages
 pub mod Script
 pub mod Progress
+pub mod Reading

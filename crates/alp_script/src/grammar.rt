@@ -141,25 +141,30 @@ fn file_line(
     alloc: Global,
     client: u8,
     server: u8,
-    file: (&[u8], &[u8], &[u8]),
-    access: (&[u8], &[u8]),
+    args: &[&[u8]],
 ) -> Result<Line, LineFault>
-    ensures { Tells result (file_said client server file.0.now file.1.now file.2.now (lists_of access.0.now access.1.now)) }
+    ensures { Tells result (file_said client server (shown args.now)) }
 {
-    let word = new_word(alloc, file.0)?;
-    let owner = name(file.1)?;
-    let size = within(file.2, 0, PAGES_PER_FILE)?;
-    let (read, modify) = lists(alloc, access.0, access.1)?;
-    Ok(Line::Create {
-        client,
-        server,
-        word,
-        owner,
-        size,
-        read,
-        modify,
-        choice: Choice::Fail,
-    })
+    match args {
+        [word, owner, size, read, modify] => {
+            let word = new_word(alloc, word)?;
+            let owner = name(owner)?;
+            let size = within(size, 0, PAGES_PER_FILE)?;
+            let access = lists(alloc, read, modify)?;
+            let (read, modify) = access;
+            Ok(Line::Create {
+                client,
+                server,
+                word,
+                owner,
+                size,
+                read,
+                modify,
+                choice: Choice::Fail,
+            })
+        }
+        _ => Err(LineFault::Outside),
+    }
 }
 
 #[tactic(auto, unfolding(crate::specs::Grammar::create_line))]
@@ -167,11 +172,11 @@ fn create_line(alloc: Global, client: u8, args: &[&[u8]]) -> Result<Line, LineFa
     ensures { Tells result (create_said client (shown args.now)) }
 {
     match args {
-        [at, word, owner, size, read, modify] => {
+        [at, args @ ..] => {
             let server = server(at)?;
-            file_line(alloc, client, server, (word, owner, size), (read, modify))
+            file_line(alloc, client, server, args)
         }
-        _ => Err(LineFault::Outside),
+        [] => Err(LineFault::Outside),
     }
 }
 
