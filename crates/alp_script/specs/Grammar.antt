@@ -29,11 +29,12 @@ list_of w = do
   when (says w (codes "World")) (name ∷ [])
 
 -- the lists of those who may read a file and of those who may change it
-unfoldable pub lists_of : List ℕ → List ℕ → Option (List (List ℕ) × List (List ℕ))
-lists_of read modify = do
+unfoldable pub lists_of : List (List ℕ) → Option (List (List ℕ) × List (List ℕ))
+lists_of (read ∷ modify ∷ []) = do
   r ← list_of read
   m ← list_of modify
   Some (r, m)
+lists_of _ = None
 
 unfoldable pub servers_line : List (List ℕ) → Option Line
 servers_line (count ∷ []) = do
@@ -65,11 +66,11 @@ owner_line client _ = None
 
 -- a new file of the server
 unfoldable pub file_line : ℕ → ℕ → List (List ℕ) → Option Line
-file_line client server (word ∷ owner ∷ size ∷ read ∷ modify ∷ []) = do
+file_line client server (word ∷ owner ∷ size ∷ access) = do
   w ← new_word_of word
   o ← name_of owner
   n ← within 0 PAGES_PER_FILE size
-  lists ← lists_of read modify
+  lists ← lists_of access
   Some (line.Create client server w o n lists.0 lists.1 choice.Fail)
 file_line client server _ = None
 

@@ -61,16 +61,17 @@ fn list(alloc: Global, word: &[u8]) -> Result<AccessList, LineFault>
 }
 
 #[tactic(auto, unfolding(crate::specs::Grammar::lists_of))]
-fn lists(
-    alloc: Global,
-    read: &[u8],
-    modify: &[u8],
-) -> Result<(AccessList, AccessList), LineFault>
-    ensures { Tells result (lists_of read.now modify.now) }
+fn lists(alloc: Global, args: &[&[u8]]) -> Result<(AccessList, AccessList), LineFault>
+    ensures { Tells result (lists_of (shown args.now)) }
 {
-    let read = list(alloc, read)?;
-    let modify = list(alloc, modify)?;
-    Ok((read, modify))
+    match args {
+        [read, modify] => {
+            let read = list(alloc, read)?;
+            let modify = list(alloc, modify)?;
+            Ok((read, modify))
+        }
+        _ => Err(LineFault::Outside),
+    }
 }
 
 #[tactic(auto, unfolding(crate::specs::Grammar::servers_line))]
@@ -146,12 +147,11 @@ fn file_line(
     ensures { Tells result (file_said client server (shown args.now)) }
 {
     match args {
-        [word, owner, size, read, modify] => {
+        [word, owner, size, access @ ..] => {
             let word = new_word(alloc, word)?;
             let owner = name(owner)?;
             let size = within(size, 0, PAGES_PER_FILE)?;
-            let access = lists(alloc, read, modify)?;
-            let (read, modify) = access;
+            let (read, modify) = lists(alloc, access)?;
             Ok(Line::Create {
                 client,
                 server,
