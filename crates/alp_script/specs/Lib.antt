@@ -1,6 +1,7 @@
 pub mod Words
 pub mod Telling
 pub mod Grammar
+pub mod Named
 pub mod Stages
 pub mod Script
 pub mod Progress

@@ -6,6 +6,9 @@ use crate::{NumberedLine, Reader, ScriptFault};
 use alp_base::Source;
 use std::alloc::Global;
 
+// How much is asked of the source at a time.
+const PIECE_BYTES: usize = 4096;
+
 /// The lines of the script that the source gives. A line that is outside is answered before any
 /// further read.
 pub fn read_script<S: Source>(
@@ -16,7 +19,7 @@ pub fn read_script<S: Source>(
     ensures later { S.faults source.old ≤ S.faults source.new }
 {
     let mut reader = Reader::new(alloc);
-    let mut buf = [0u8; 4096];
+    let mut buf = [0u8; PIECE_BYTES];
     loop {
         let Ok(count) = source.read(&mut buf) else {
             return Err(ScriptFault::ReadFault);

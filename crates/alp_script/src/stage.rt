@@ -1,7 +1,7 @@
 //! How far a script has come, and which line may come next.
 ghost use Rattle.std.specs.Prelude.{◌≡◌, ℕ, ◌+◌, ◌&&◌, ◌==◌, nat_le, codes};
 ghost use Rattle.alp_script.specs.Words.{says as says_so};
-ghost use Rattle.alp_script.specs.Stages.{is_spelled, is_covered, after_start as start_said, after_servers as servers_said, after_client as client_said, after_begin as begin_said, after_owner as owner_said, after_create as create_said, after_write as write_said, after_read as read_said, next as next_said};
+ghost use Rattle.alp_script.specs.Stages.{is_spelled, is_covered, after_start as start_said, after_servers as servers_said, after_client as client_said, after_begin as begin_said, after_owner as owner_said, after_create as create_said, after_write as write_said, after_read as read_said, after as after_said, is_one as is_one_said, is_declared as is_declared_said, next as next_said};
 
 use crate::{FileWord, Line};
 use crate::words::says;
@@ -75,9 +75,7 @@ fn after_client(line: &Line) -> Option<Stage>
     ensures { result ≡ client_said line.now }
 {
     match line {
-        Line::Begin { client, server } => {
-            if *client == 1 && *server == 1 { Some(Stage::Begun) } else { None }
-        }
+        Line::Begin { client: _, server: _ } => Some(Stage::Begun),
         _ => None,
     }
 }
@@ -87,12 +85,8 @@ fn after_begin(line: &Line) -> Option<Stage>
     ensures { result ≡ begin_said line.now }
 {
     match line {
-        Line::MakeOwner { client, server, owner, quota, create: _, choice: _ } => {
-            if *client == 1 && *server == 1 {
-                Some(Stage::Owner { owner: *owner, quota: *quota })
-            } else {
-                None
-            }
+        Line::MakeOwner { client: _, server: _, owner, quota, create: _, choice: _ } => {
+            Some(Stage::Owner { owner: *owner, quota: *quota })
         }
         _ => None,
     }
@@ -109,8 +103,8 @@ fn after_owner(owner: &Name, quota: u32, line: &Line) -> Option<Stage>
     ensures { result ≡ owner_said owner.now quota line.now }
 {
     match line {
-        Line::Create { client, server, word, owner: own, size, read: _, modify: _, choice: _ } => {
-            if *client == 1 && *server == 1 && may_create(owner, quota, own, *size) {
+        Line::Create { client: _, server: _, word, owner: own, size, read: _, modify: _, choice: _ } => {
+            if may_create(owner, quota, own, *size) {
                 Some(Stage::File { word: *word, size: *size })
             } else {
                 None
@@ -125,8 +119,8 @@ fn after_create(word: &Name, size: u32, line: &Line) -> Option<Stage>
     ensures { result ≡ create_said word.now size line.now }
 {
     match line {
-        Line::WritePages { client, file, run, text: _, choice: _ } => {
-            if *client == 1 && covers(word, size, file, *run) {
+        Line::WritePages { client: _, file, run, text: _, choice: _ } => {
+            if covers(word, size, file, *run) {
                 Some(Stage::Written { word: *word, size })
             } else {
                 None
@@ -141,8 +135,8 @@ fn after_write(word: &Name, size: u32, line: &Line) -> Option<Stage>
     ensures { result ≡ write_said word.now size line.now }
 {
     match line {
-        Line::ReadPages { client, file, run, mode: _, choice: _ } => {
-            if *client == 1 && covers(word, size, file, *run) { Some(Stage::Read) } else { None }
+        Line::ReadPages { client: _, file, run, mode: _, choice: _ } => {
+            if covers(word, size, file, *run) { Some(Stage::Read) } else { None }
         }
         _ => None,
     }
@@ -153,14 +147,14 @@ fn after_read(line: &Line) -> Option<Stage>
     ensures { result ≡ read_said line.now }
 {
     match line {
-        Line::Commit { client } => if *client == 1 { Some(Stage::Ended) } else { None },
+        Line::Commit { client: _ } => Some(Stage::Ended),
         _ => None,
     }
 }
 
-/// The stage after a line, where the line may stand there.
-pub(crate) fn next(stage: &Stage, line: &Line) -> Option<Stage>
-    ensures { result ≡ next_said stage.now line.now }
+#[tactic(auto, unfolding(crate::specs::Stages::after))]
+fn after(stage: &Stage, line: &Line) -> Option<Stage>
+    ensures { result ≡ after_said stage.now line.now }
 {
     match stage {
         Stage::Start => after_start(line),
@@ -173,4 +167,28 @@ pub(crate) fn next(stage: &Stage, line: &Line) -> Option<Stage>
         Stage::Read => after_read(line),
         Stage::Ended => None,
     }
+}
+
+fn is_one(number: Option<u8>) -> bool
+    ensures { result ≡ is_one_said number }
+{
+    match number {
+        Some(number) => number == 1,
+        None => true,
+    }
+}
+
+#[tactic(auto, unfolding(crate::specs::Stages::is_declared))]
+fn is_declared(line: &Line) -> bool
+    ensures { result ≡ is_declared_said line.now }
+{
+    is_one(line.client()) && is_one(line.server())
+}
+
+/// The stage after a line, where the line may stand there.
+#[tactic(auto, unfolding(crate::specs::Stages::next))]
+pub(crate) fn next(stage: &Stage, line: &Line) -> Option<Stage>
+    ensures { result ≡ next_said stage.now line.now }
+{
+    if is_declared(line) { after(stage, line) } else { None }
 }
