@@ -1,3 +1,4 @@
 pub mod WordsLemmas
 pub mod ScriptLemmas
 pub mod ReadingLemmas
+pub mod AcceptedLemmas

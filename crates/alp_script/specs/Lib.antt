@@ -6,3 +6,4 @@ pub mod Stages
 pub mod Script
 pub mod Progress
 pub mod Reading
+pub mod Accepted

@@ -185,12 +185,27 @@ impl Line {
         ensures { result ≡ client_named self.now }
     {
         match self {
-            Line::Begin { client, server: _ } => Some(*client),
+            Line::Begin { client, .. } => Some(*client),
             Line::Create { client, .. } => Some(*client),
+            Line::OpenFile { client, .. } => Some(*client),
+            Line::CloseFile { client, .. } => Some(*client),
+            Line::DeleteFile { client, .. } => Some(*client),
             Line::ReadPages { client, .. } => Some(*client),
             Line::WritePages { client, .. } => Some(*client),
+            Line::LockPages { client, .. } => Some(*client),
+            Line::SetSize { client, .. } => Some(*client),
+            Line::ReadProps { client, .. } => Some(*client),
+            Line::WriteProps { client, .. } => Some(*client),
+            Line::ReadOwner { client, .. } => Some(*client),
             Line::MakeOwner { client, .. } => Some(*client),
+            Line::SetQuota { client, .. } => Some(*client),
             Line::Commit { client } => Some(*client),
+            Line::Abort { client } => Some(*client),
+            Line::Outcome { client } => Some(*client),
+            Line::Collect { client } => Some(*client),
+            Line::Repeat { client } => Some(*client),
+            Line::Old { client } => Some(*client),
+            Line::Raw { client, .. } => Some(*client),
             _ => None,
         }
     }
@@ -201,9 +216,12 @@ impl Line {
         ensures { result ≡ server_named self.now }
     {
         match self {
-            Line::Begin { client: _, server } => Some(*server),
+            Line::Begin { server, .. } => Some(*server),
             Line::Create { server, .. } => Some(*server),
+            Line::ReadOwner { server, .. } => Some(*server),
             Line::MakeOwner { server, .. } => Some(*server),
+            Line::SetQuota { server, .. } => Some(*server),
+            Line::Raw { server, .. } => Some(*server),
             _ => None,
         }
     }

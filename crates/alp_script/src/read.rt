@@ -1,6 +1,8 @@
 //! Reading a script from a source.
 ghost use Rattle.std.specs.Prelude.{◌≡◌, ℕ, ◌≤◌, List};
+ghost use Rattle.alp_script.specs.Accepted.{IsAccepted};
 ghost use Rattle.alp_script.specs.Reading.{ReadsScript};
+ghost use Rattle.alp_script.specs.Script.{script};
 
 use crate::{NumberedLine, Reader, ScriptFault};
 use alp_base::Source;
@@ -29,4 +31,11 @@ pub fn read_script<S: Source>(
         }
         reader.feed(&buf[..count])?;
     }
+}
+
+/// The lines of a script stand where they may, their numbers rise, there is at least one and there
+/// are not too many, and each names the declared client and server.
+pub fn accepted_lines()
+    ensures { (bytes : List ℕ) (lines : List NumberedLine) → script bytes ≡ Ok lines → IsAccepted lines }
+{
 }
