@@ -3,7 +3,6 @@ use Rattle.std.specs.Prelude.{Option, None, Some, Result, Ok, Err, Vec}
 use Rattle.std.specs.Global.{Global}
 use Rattle.std.specs.Io.KnownBytes.{Consumes, IsAtEnd}
 use Rattle.std.proofs.Common.{◌≡◌, ℕ, List, [], ◌++◌, refl, subst, inl, inr, sym, ◌∙◌, ap, append_assoc, append-nil}
-use Rattle.alp_base.specs.Causes.{Rose}
 use Rattle.alp_script.specs.Script.{script}
 use Rattle.alp_script.specs.Progress.{Progress, resume, Follows, Takes, Gives}
 use Rattle.alp_script.specs.Reading.{HasRead, GaveScript, GaveBadLine, ReadsScript}
@@ -85,6 +84,6 @@ script-bad xs None n h = absurd h.consumed
 script-bad xs (Some ys) n h =
     let given : xs ≡ h.bytes ++ ys = h.consumed in
     elim h.final [
-      inl always ↦ ap script given ∙ always ys
-    | inr end ↦ ap script (given ∙ ap (λ rest. h.bytes ++ rest) end ∙ append-nil h.bytes) ∙ h.outside
+      | inl always ↦ ap script given ∙ always ys
+      | inr end ↦ ap script (given ∙ ap (λ rest. h.bytes ++ rest) end ∙ append-nil h.bytes) ∙ h.outside
     ]

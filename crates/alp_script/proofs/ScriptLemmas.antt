@@ -1,16 +1,16 @@
 -- lemmas on the lines of a script that is read in pieces
-use Rattle.std.specs.Prelude.{nat_le, nat_lt, ◌&&◌, ◌==◌, Bool, Option, None, Some, cond, All, Result, Ok, Err}
+use Rattle.std.specs.Prelude.{nat_le, ◌&&◌, ◌==◌, Bool, Option, None, Some, cond, All, Result, Ok, Err}
 use Rattle.std.specs.List.{slice_split, onto_first, list_all}
 use Rattle.std.specs.Str.Lines.{lines, lines_of_parts, strip_carriage_return}
-use Rattle.std.proofs.Common.{◌≡◌, ℕ, ◌+◌, ◌-◌, ◌*◌, ◌<◌, ◌≤◌, List, [], ◌∷◌, ◌++◌, length, take, drop, true, false, refl, sym, ◌∙◌, ap, arith, append_assoc, append-nil, length-append, slice_index, get_or, suc, add-one}
+use Rattle.std.proofs.Common.{◌≡◌, ℕ, ◌+◌, ◌-◌, ◌<◌, ◌≤◌, List, [], ◌∷◌, ◌++◌, length, take, drop, true, false, refl, sym, ◌∙◌, ap, arith, append_assoc, append-nil, length-append, slice_index, get_or, suc, add-one}
 use Rattle.std.proofs.Math.Seq.{drop-cons}
 use Rattle.std.proofs.Math.Dec.{eqb-suc-zero}
 use Rattle.std.proofs.lemmas.Bool.{lt-leb}
 use Rattle.std.proofs.lemmas.List.{length-take, drop_all, nil_from_length}
 use Rattle.std.proofs.lemmas.List.Splits.{slice_split_none, slice_split_at}
 use Rattle.std.proofs.lemmas.List.Elements.{All-push}
-use Rattle.alp_script.specs.Words.{◌>>=◌, is_ascii, is_line, words_of}
-use Rattle.alp_script.specs.Grammar.{line_said, line_of}
+use Rattle.alp_script.specs.Words.{◌>>=◌, is_ascii}
+use Rattle.alp_script.specs.Grammar.{line_said}
 use Rattle.alp_script.specs.Script.{read_at, with_front, line_then, script_from, script, ended}
 use Rattle.alp_script.specs.Progress.{Progress, at_start, IsUnfinished, resume, room, Follows, IsOutside, Takes}
 use Rattle.alp_script.specs.declared.fault.ScriptFault.{ScriptFault}
@@ -79,8 +79,8 @@ script_from-outside s n text texts e = ap (λ said. line_then n said (λ t. scri
 stripped_length : (p : List ℕ) → length p ≤ length (strip_carriage_return p) + 1
 stripped_length p =
     elim (slice_index p (length p - 1) == 13) as (λ v. length p ≤ length (cond v (take (length p - 1) p) p) + 1) [
-      true ↦ omega (arith, length-take (length p - 1) p)
-    | false ↦ omega arith
+      | true ↦ omega (arith, length-take (length p - 1) p)
+      | false ↦ omega arith
     ]
 
 -- what is too long already is outside, whatever follows
@@ -112,9 +112,9 @@ pub outside-byte : (p : Progress) (b : ℕ) → (b == 10) ≡ false → IsOpen p
 unfolding resume
 outside-byte p b e open_ended long = record {
   always = λ rest.
-    ap (with_front p.said)
-    (ap (λ bytes. script_from p.stage (p.lines + 1) (lines bytes)) (sym (append_assoc p.partial (b ∷ []) rest))
-    ∙ script_from-long p.stage (p.lines + 1) (p.partial ++ b ∷ []) rest (All-push (λ x. (x == 10) ≡ false) p.partial b open_ended e) (omega (arith, length-append p.partial (b ∷ []))));
+      ap (with_front p.said)
+      (ap (λ bytes. script_from p.stage (p.lines + 1) (lines bytes)) (sym (append_assoc p.partial (b ∷ []) rest))
+      ∙ script_from-long p.stage (p.lines + 1) (p.partial ++ b ∷ []) rest (All-push (λ x. (x == 10) ≡ false) p.partial b open_ended e) (omega (arith, length-append p.partial (b ∷ []))));
 }
 
 -- the progress after a whole line
@@ -126,9 +126,9 @@ pub follows-line : (p : Progress) (l : Line) (t : Stage) → IsUnfinished p.line
 unfolding resume
 follows-line p l t unfinished few said = record {
   same = λ rest.
-    ap (λ texts. with_front p.said (script_from p.stage (p.lines + 1) texts)) (lines-at p.partial rest 10 unfinished.open_ended refl)
-    ∙ ap (λ o. with_front p.said (line_then (p.lines + 1) o (λ s. script_from s (p.lines + 1 + 1) (lines rest)))) said
-    ∙ with_front-twice p.said (record { number = p.lines + 1; line = l } ∷ []) (script_from t (p.lines + 1 + 1) (lines rest));
+      ap (λ texts. with_front p.said (script_from p.stage (p.lines + 1) texts)) (lines-at p.partial rest 10 unfinished.open_ended refl)
+      ∙ ap (λ o. with_front p.said (line_then (p.lines + 1) o (λ s. script_from s (p.lines + 1 + 1) (lines rest)))) said
+      ∙ with_front-twice p.said (record { number = p.lines + 1; line = l } ∷ []) (script_from t (p.lines + 1 + 1) (lines rest));
   nearer = omega (arith, unfinished.short);
 }
 
@@ -137,8 +137,8 @@ pub outside-line : (p : Progress) → IsUnfinished p.lines p.partial
 unfolding resume
 outside-line p unfinished said = record {
   always = λ rest.
-    ap (λ texts. with_front p.said (script_from p.stage (p.lines + 1) texts)) (lines-at p.partial rest 10 unfinished.open_ended refl)
-    ∙ ap (with_front p.said) (script_from-outside p.stage (p.lines + 1) (strip_carriage_return p.partial) (lines rest) said);
+      ap (λ texts. with_front p.said (script_from p.stage (p.lines + 1) texts)) (lines-at p.partial rest 10 unfinished.open_ended refl)
+      ∙ ap (with_front p.said) (script_from-outside p.stage (p.lines + 1) (strip_carriage_return p.partial) (lines rest) said);
 }
 
 -- a reader that starts reads a whole script

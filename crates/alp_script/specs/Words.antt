@@ -1,8 +1,7 @@
 -- the words of a line, and the numbers, names, texts and file words that they spell
-use Rattle.std.specs.Prelude.{ℕ, ◌+◌, ◌-◌, ◌*◌, ◌^◌, Bool, true, false, ◌&&◌, ◌||◌, not, ◌==◌, nat_eq, nat_le, nat_lt, List, [], ◌∷◌, length, map, filter, Option, None, Some, if◌then◌else◌}
+use Rattle.std.specs.Prelude.{ℕ, ◌+◌, ◌-◌, ◌*◌, ◌^◌, Bool, false, ◌&&◌, ◌||◌, not, ◌==◌, nat_eq, nat_le, nat_lt, List, [], ◌∷◌, length, map, filter, Option, None, Some, if◌then◌else◌}
 use Rattle.std.specs.Borrow.{Bor}
 use Rattle.std.specs.List.{slice_split, list_all, starts_with, ends_with}
-use Rattle.std.specs.Option.{option_map}
 use Rattle.std.specs.Cmp.Lexicographic.{pointwise}
 use Rattle.alp_base.specs.Names.{is_name, is_between}
 use Rattle.alp_base.specs.declared.ids.FileId.{FileId}

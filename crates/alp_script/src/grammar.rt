@@ -138,12 +138,7 @@ fn owner_line(alloc: Global, client: u8, args: &[&[u8]]) -> Result<Line, LineFau
 }
 
 #[tactic(auto, unfolding(crate::specs::Grammar::file_line))]
-fn file_line(
-    alloc: Global,
-    client: u8,
-    server: u8,
-    args: &[&[u8]],
-) -> Result<Line, LineFault>
+fn file_line(alloc: Global, client: u8, server: u8, args: &[&[u8]]) -> Result<Line, LineFault>
     ensures { Tells result (file_said client server (shown args.now)) }
 {
     match args {
@@ -233,12 +228,7 @@ fn commit_line(client: u8, args: &[&[u8]]) -> Result<Line, LineFault>
 }
 
 #[tactic(auto, unfolding(crate::specs::Grammar::line_by_verb))]
-fn line_by_verb(
-    alloc: Global,
-    client: u8,
-    verb: &[u8],
-    args: &[&[u8]],
-) -> Result<Line, LineFault>
+fn line_by_verb(alloc: Global, client: u8, verb: &[u8], args: &[&[u8]]) -> Result<Line, LineFault>
     ensures { Tells result (said_by_verb client verb.now (shown args.now)) }
 {
     if says(verb, b"begin") {

@@ -17,3 +17,6 @@ pub use numbered::{NumberedLine, SCRIPT_LINES_MOST};
 pub use read::{accepted_lines, read_script};
 pub use reader::Reader;
 pub use words::{LINE_BYTES, TEXT_BYTES};
+
+#[cfg(test)]
+mod tests;

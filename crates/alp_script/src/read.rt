@@ -37,5 +37,4 @@ pub fn read_script<S: Source>(
 /// are not too many, and each names the declared client and server.
 pub fn accepted_lines()
     ensures { (bytes : List ℕ) (lines : List NumberedLine) → script bytes ≡ Ok lines → IsAccepted lines }
-{
-}
+{}

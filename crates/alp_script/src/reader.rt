@@ -119,7 +119,9 @@ impl Reader {
         ensures { Takes self.old self.new (byte ∷ []) result }
     {
         if self.partial.len() > LINE_BYTES {
-            return Err(ScriptFault::Bad { line: self.lines + 1 });
+            return Err(ScriptFault::Bad {
+                line: self.lines + 1,
+            });
         }
         self.partial.push(byte)?;
         Ok(())
@@ -147,7 +149,11 @@ impl Reader {
     fn take(&mut self, byte: u8) -> Result<(), ScriptFault>
         ensures { Takes self.old self.new (byte ∷ []) result }
     {
-        if byte == b'\n' { self.end_line() } else { self.hold(byte) }
+        if byte == b'\n' {
+            self.end_line()
+        } else {
+            self.hold(byte)
+        }
     }
 
     fn take_all(&mut self, piece: &[u8]) -> Result<(), ScriptFault>

@@ -3,8 +3,8 @@ ghost use Rattle.std.specs.Prelude.{◌≡◌, ℕ, ◌+◌, ◌&&◌, ◌==◌,
 ghost use Rattle.alp_script.specs.Words.{says as says_so};
 ghost use Rattle.alp_script.specs.Stages.{is_spelled, is_covered, after_start as start_said, after_servers as servers_said, after_client as client_said, after_begin as begin_said, after_owner as owner_said, after_create as create_said, after_write as write_said, after_read as read_said, after as after_said, is_one as is_one_said, is_declared as is_declared_said, next as next_said};
 
-use crate::{FileWord, Line};
 use crate::words::says;
+use crate::{FileWord, Line};
 use alp_base::{Name, Run};
 
 /// The line that came last, with what later lines are measured by.
@@ -53,7 +53,11 @@ fn after_start(line: &Line) -> Option<Stage>
     ensures { result ≡ start_said line.now }
 {
     match line {
-        Line::Servers { count } => if *count == 1 { Some(Stage::Servers) } else { None },
+        Line::Servers { count } => if *count == 1 {
+            Some(Stage::Servers)
+        } else {
+            None
+        },
         _ => None,
     }
 }
@@ -64,7 +68,11 @@ fn after_servers(line: &Line) -> Option<Stage>
 {
     match line {
         Line::Client { client, name } => {
-            if *client == 1 && is_admin(name) { Some(Stage::Client) } else { None }
+            if *client == 1 && is_admin(name) {
+                Some(Stage::Client)
+            } else {
+                None
+            }
         }
         _ => None,
     }
@@ -75,7 +83,10 @@ fn after_client(line: &Line) -> Option<Stage>
     ensures { result ≡ client_said line.now }
 {
     match line {
-        Line::Begin { client: _, server: _ } => Some(Stage::Begun),
+        Line::Begin {
+            client: _,
+            server: _,
+        } => Some(Stage::Begun),
         _ => None,
     }
 }
@@ -85,8 +96,18 @@ fn after_begin(line: &Line) -> Option<Stage>
     ensures { result ≡ begin_said line.now }
 {
     match line {
-        Line::MakeOwner { client: _, server: _, owner, quota, create: _, choice: _ } => {
-            Some(Stage::Owner { owner: *owner, quota: *quota })
+        Line::MakeOwner {
+            client: _,
+            server: _,
+            owner,
+            quota,
+            create: _,
+            choice: _,
+        } => {
+            Some(Stage::Owner {
+                owner: *owner,
+                quota: *quota,
+            })
         }
         _ => None,
     }
@@ -103,9 +124,21 @@ fn after_owner(owner: &Name, quota: u32, line: &Line) -> Option<Stage>
     ensures { result ≡ owner_said owner.now quota line.now }
 {
     match line {
-        Line::Create { client: _, server: _, word, owner: own, size, read: _, modify: _, choice: _ } => {
+        Line::Create {
+            client: _,
+            server: _,
+            word,
+            owner: own,
+            size,
+            read: _,
+            modify: _,
+            choice: _,
+        } => {
             if may_create(owner, quota, own, *size) {
-                Some(Stage::File { word: *word, size: *size })
+                Some(Stage::File {
+                    word: *word,
+                    size: *size,
+                })
             } else {
                 None
             }
@@ -119,7 +152,13 @@ fn after_create(word: &Name, size: u32, line: &Line) -> Option<Stage>
     ensures { result ≡ create_said word.now size line.now }
 {
     match line {
-        Line::WritePages { client: _, file, run, text: _, choice: _ } => {
+        Line::WritePages {
+            client: _,
+            file,
+            run,
+            text: _,
+            choice: _,
+        } => {
             if covers(word, size, file, *run) {
                 Some(Stage::Written { word: *word, size })
             } else {
@@ -135,8 +174,18 @@ fn after_write(word: &Name, size: u32, line: &Line) -> Option<Stage>
     ensures { result ≡ write_said word.now size line.now }
 {
     match line {
-        Line::ReadPages { client: _, file, run, mode: _, choice: _ } => {
-            if covers(word, size, file, *run) { Some(Stage::Read) } else { None }
+        Line::ReadPages {
+            client: _,
+            file,
+            run,
+            mode: _,
+            choice: _,
+        } => {
+            if covers(word, size, file, *run) {
+                Some(Stage::Read)
+            } else {
+                None
+            }
         }
         _ => None,
     }
@@ -190,5 +239,9 @@ fn is_declared(line: &Line) -> bool
 pub(crate) fn next(stage: &Stage, line: &Line) -> Option<Stage>
     ensures { result ≡ next_said stage.now line.now }
 {
-    if is_declared(line) { after(stage, line) } else { None }
+    if is_declared(line) {
+        after(stage, line)
+    } else {
+        None
+    }
 }

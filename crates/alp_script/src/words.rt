@@ -120,7 +120,11 @@ pub(crate) fn within(word: &[u8], low: u32, high: u32) -> Result<u32, LineFault>
     ensures value { Tells result (within_said low high word.now) }
 {
     let n = number(word, high)?;
-    if low <= n { Ok(n) } else { Err(LineFault::Outside) }
+    if low <= n {
+        Ok(n)
+    } else {
+        Err(LineFault::Outside)
+    }
 }
 
 fn is_text_byte(b: u8) -> bool

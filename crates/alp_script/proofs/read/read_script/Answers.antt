@@ -1,4 +1,4 @@
-use Rattle.std.proofs.Common.{rules, ◌≡◌, ◌<◌, ℕ, List, [], length, take, subst, arith}
+use Rattle.std.proofs.Common.{rules, ℕ, [], take, subst, arith}
 use Rattle.std.specs.Io.KnownBytes.{Consumes}
 use Rattle.std.proofs.lemmas.Result.{err_from_is_err_and}
 use Rattle.alp_script.proofs.ReadingLemmas.{has_read-nothing, has_read-more, reads-refused, reads-finished}
@@ -26,6 +26,6 @@ returns-in_err-feed-clause-script g c =
 pub returns-then-count-eq0-clause-script : goal.returns-then-count-eq0-clause-script
 returns-then-count-eq0-clause-script g c =
     let none : Consumes (g.S.Source.left c.loop-count.source) (g.S.Source.left c.read.new.self) [] =
-        subst (λ (n : ℕ). Consumes (g.S.Source.left c.loop-count.source) (g.S.Source.left c.read.new.self) (take n c.read.new.buf)) c.if-count-eq0.true c.in-Ok.ensures.bytes.0 in
+    subst (λ (n : ℕ). Consumes (g.S.Source.left c.loop-count.source) (g.S.Source.left c.read.new.self) (take n c.read.new.buf)) c.if-count-eq0.true c.in-Ok.ensures.bytes.0 in
     reads-finished (g.S.Source.left c.args.source.now) (g.S.Source.left c.loop-count.source) (g.S.Source.left c.read.new.self) (g.S.Source.faults c.args.source.now) (g.S.Source.faults c.read.new.self)
     c.loop-count.reader c.finish.result c.loop-count.invariant.read none (c.in-Ok.ensures.bytes.1 c.if-count-eq0.true (search rules)) c.finish.ensures

@@ -1,7 +1,5 @@
-use Rattle.std.proofs.Common.{◌≡◌, ◌≤◌, ℕ, List, ◌++◌}
-use Rattle.std.specs.Io.KnownBytes.{Consumes}
-use Rattle.alp_script.specs.Script.{script}
-use Rattle.alp_script.specs.Progress.{Progress, resume, room}
+use Rattle.std.proofs.Common.{◌≤◌}
+use Rattle.alp_script.specs.Progress.{room}
 use Rattle.alp_script.specs.Reading.{HasRead}
 use Rattle.alp_script.proofs.read.read_script.Given as goal
 

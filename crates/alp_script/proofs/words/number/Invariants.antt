@@ -1,5 +1,5 @@
-use Rattle.std.proofs.Common.{◌≡◌, ◌<◌, ◌≤◌, ◌^◌, drop, true}
-use Rattle.alp_script.specs.Words.{value_from, is_numeral}
+use Rattle.std.proofs.Common.{◌≡◌, ◌≤◌, drop}
+use Rattle.alp_script.specs.Words.{value_from}
 use Rattle.alp_script.proofs.words.number.Given as goal
 
 abbrev pub invariant-loop-b : goal.invariant-loop-b

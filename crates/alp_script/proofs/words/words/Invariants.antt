@@ -1,4 +1,4 @@
-use Rattle.std.proofs.Common.{◌≡◌, ℕ, List, ◌++◌, filter, drop}
+use Rattle.std.proofs.Common.{◌≡◌, ◌++◌, filter, drop}
 use Rattle.alp_script.specs.Words.{is_word, shown}
 use Rattle.alp_script.proofs.words.words.Given as goal
 

@@ -1,5 +1,5 @@
 use Rattle.std.specs.Prelude.{Err}
-use Rattle.std.proofs.Common.{◌≡◌, List, [], ◌++◌, ap, subst, sym, ◌∙◌}
+use Rattle.std.proofs.Common.{subst}
 use Rattle.std.proofs.lemmas.Result.{err_from_is_err_and}
 use Rattle.alp_script.specs.Progress.{Progress, Follows, Takes}
 use Rattle.alp_script.proofs.ScriptLemmas.{follows-joined, refused-joined}

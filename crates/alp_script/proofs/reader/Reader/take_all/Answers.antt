@@ -1,4 +1,4 @@
-use Rattle.std.proofs.Common.{◌≡◌, ◌+◌, ◌≤◌, refl, arith}
+use Rattle.std.proofs.Common.{refl, arith}
 use Rattle.std.proofs.lemmas.Result.{err_from_is_err_and}
 use Rattle.alp_script.proofs.ScriptLemmas.{resume-next, refused-next, follows-all}
 use Rattle.alp_script.proofs.reader.Reader.take_all.Goals as goal
