@@ -2,3 +2,4 @@ pub mod WordsLemmas
 pub mod ScriptLemmas
 pub mod ReadingLemmas
 pub mod AcceptedLemmas
+mod ScriptFacts
