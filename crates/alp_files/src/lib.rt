@@ -3,10 +3,16 @@
 
 mod call;
 mod cell;
+mod cell_map;
+mod open;
+mod part;
 mod refusal;
 mod reply;
 
 pub use call::{Call, PropChange};
 pub use cell::{Cell, OwnerRecord, Props};
+pub use cell_map::CellMap;
+pub use open::Open;
+pub use part::Part;
 pub use refusal::{Cause, ListName, Refusal, What, Why};
 pub use reply::{Ended, Reply};

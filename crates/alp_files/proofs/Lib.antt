@@ -1,0 +1,5 @@
+pub mod CellMapLemmas
+pub mod EditLemmas
+pub mod PartLemmas
+pub mod HistoryLemmas
+pub mod BornLemmas
