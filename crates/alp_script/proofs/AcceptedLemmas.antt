@@ -2,122 +2,129 @@
 use Rattle.std.specs.Prelude.{nat_le, Bool, Option, None, Some, Result, Ok, Err, cond}
 use Rattle.std.specs.List.{AllByRecursion}
 use Rattle.std.specs.Str.Lines.{lines}
-use Rattle.std.proofs.Common.{◌≡◌, ℕ, ◌+◌, ◌<◌, ◌≤◌, List, [], ◌∷◌, length, true, false, refl, sym, subst, arith}
-use Rattle.std.proofs.lemmas.Bool.{leb-true}
+use Rattle.std.proofs.Common.{◌≡◌, ℕ, ◌+◌, ◌<◌, ◌≤◌, List, [], ◌∷◌, ◌++◌, length, true, false, refl, sym, ◌∙◌, ap, subst, arith}
+use Rattle.std.proofs.lemmas.Bool.{leb-true, and_parts}
 use Rattle.alp_script.specs.Words.{◌>>=◌}
-use Rattle.alp_script.specs.Grammar.{line_said}
-use Rattle.alp_script.specs.Stages.{after, is_declared, next}
-use Rattle.alp_script.specs.Script.{read_at, with_front, ended, line_then, script_from, script}
+use Rattle.alp_script.specs.Grammar.{text_said}
+use Rattle.alp_script.specs.Known.{Known, nothing_known}
+use Rattle.alp_script.specs.Order.{after, is_declared, names_ours, next}
+use Rattle.alp_script.specs.Script.{step, read_at, numbered, with_front, ended, line_then, script_from, script}
 use Rattle.alp_script.specs.Accepted.{LeadsFrom, RisesFrom, IsAccepted}
 use Rattle.alp_script.specs.declared.line.Line.{Line}
 use Rattle.alp_script.specs.declared.numbered.NumberedLine.{NumberedLine}
 use Rattle.alp_script.specs.declared.numbered.TheConstants.{SCRIPT_LINES_MOST}
-use Rattle.alp_script.specs.declared.stage.Stage.{Stage}
-use Rattle.alp_script.specs.declared.stage.Stage.TheVariants as stage
 
 -- what is known of a line that was read at its place
-record IsRead (s : Stage) (n : ℕ) (l : Line) (t : Stage) : Type 0 where
+record IsRead (k : Known) (n : ℕ) (said : Option Line) (t : Known) : Type 0 where
   few : n ≤ SCRIPT_LINES_MOST
-  may : next s l ≡ Some t
+  may : step k said ≡ Some t
 
-stepped : (s : Stage) (l : Line) (said : Option Stage) (p : Line × Stage) → next s l ≡ said → (said >>= λ t. Some (l, t)) ≡ Some p → next s p.0 ≡ Some p.1
-stepped s l None p e h = cc
-stepped s l (Some t) p e h =
-    let is : (l, t) ≡ p = cc in
-    subst (λ (q : Line × Stage). next s q.0 ≡ Some q.1) is e
+stepped : (k : Known) (said : Option Line) (to : Option Known) (p : Option Line × Known) → step k said ≡ to → (to >>= λ t. Some (said, t)) ≡ Some p → step k p.0 ≡ Some p.1
+stepped k said None p e h = cc
+stepped k said (Some t) p e h =
+    let is : (said, t) ≡ p = cc in
+    subst (λ (q : Option Line × Known). step k q.0 ≡ Some q.1) is e
 
-spoken : (s : Stage) (said : Option Line) (p : Line × Stage) → (said >>= λ l. next s l >>= λ t. Some (l, t)) ≡ Some p → next s p.0 ≡ Some p.1
-spoken s None p h = cc
-spoken s (Some l) p h = stepped s l (next s l) p refl h
+spoken : (k : Known) (text : Option (Option Line)) (p : Option Line × Known) → (text >>= λ said. step k said >>= λ t. Some (said, t)) ≡ Some p → step k p.0 ≡ Some p.1
+spoken k None p h = cc
+spoken k (Some said) p h = stepped k said (step k said) p refl h
 
-in_bounds : (b : Bool) (said : Option (Line × Stage)) (p : Line × Stage) → cond b said None ≡ Some p → (b ≡ true) × (said ≡ Some p)
+in_bounds : (b : Bool) (said : Option (Option Line × Known)) (p : Option Line × Known) → cond b said None ≡ Some p → (b ≡ true) × (said ≡ Some p)
 in_bounds true said p h = (refl, h)
 in_bounds false said p h = cc
 
-read_at-some : (s : Stage) (n : ℕ) (text : List ℕ) (p : Line × Stage) → read_at s n text ≡ Some p → IsRead s n p.0 p.1
+read_at-some : (k : Known) (n : ℕ) (text : List ℕ) (p : Option Line × Known) → read_at k n text ≡ Some p → IsRead k n p.0 p.1
 unfolding read_at
-read_at-some s n text p h =
+read_at-some k n text p h =
     let both = in_bounds (nat_le n SCRIPT_LINES_MOST) _ p h in
-    record { few = leb-true _ _ both.0; may = spoken s (line_said text) p both.1 }
+    record { few = leb-true _ _ both.0; may = spoken k (text_said text) p both.1 }
 
-ended-none : (s : Stage) (n : ℕ) (ls : List NumberedLine) → ended s n ≡ Ok ls → ls ≡ []
-ended-none stage.Start n ls h = cc
-ended-none stage.Servers n ls h = cc
-ended-none stage.Client n ls h = cc
-ended-none stage.Begun n ls h = cc
-ended-none (stage.Owner owner quota) n ls h = cc
-ended-none (stage.File word size) n ls h = cc
-ended-none (stage.Written word size) n ls h = cc
-ended-none stage.Read n ls h = cc
-ended-none stage.Ended n ls h = cc
+closed : (b : Bool) (n : ℕ) (ls : List NumberedLine) → cond b (Ok []) (Err n) ≡ Ok ls → (b ≡ true) × (ls ≡ [])
+closed true n ls h = (refl, cc)
+closed false n ls h = cc
 
--- the lines behind a first one
-front_then : (l : NumberedLine) (r : Result (List NumberedLine) ℕ) (ls : List NumberedLine) → with_front (l ∷ []) r ≡ Ok ls → (more : List NumberedLine) × (r ≡ Ok more) × (l ∷ more ≡ ls)
-front_then l (Ok more) ls h = (more, refl, cc)
-front_then l (Err n) ls h = cc
+-- the lines behind a first part
+front_then : (front : List NumberedLine) (r : Result (List NumberedLine) ℕ) (ls : List NumberedLine) → with_front front r ≡ Ok ls → (more : List NumberedLine) × (r ≡ Ok more) × (front ++ more ≡ ls)
+front_then front (Ok more) ls h = (more, refl, cc)
+front_then front (Err n) ls h = cc
 
 -- what is known of lines that were read from a place on
-record IsReadFrom (s : Stage) (n : ℕ) (ls : List NumberedLine) : Type 0 where
-  leads : LeadsFrom s ls
+record IsReadFrom (k : Known) (n : ℕ) (ls : List NumberedLine) : Type 0 where
+  leads : LeadsFrom k ls
   rises : RisesFrom n ls
 
-read_first : (s : Stage) (n : ℕ) (said : Option (Line × Stage)) (texts : List (List ℕ)) (ls : List NumberedLine)
-    → ((p : Line × Stage) → said ≡ Some p → IsRead s n p.0 p.1)
-    → ((t : Stage) (more : List NumberedLine) → script_from t (n + 1) texts ≡ Ok more → IsReadFrom t (n + 1) more)
-    → line_then n said (λ t. script_from t (n + 1) texts) ≡ Ok ls → IsReadFrom s n ls
-read_first s n None texts ls first more h = cc
-read_first s n (Some p) texts ls first more h =
-    let split = front_then (record { number = n; line = p.0 }) (script_from p.1 (n + 1) texts) ls h in
-    let here : IsRead s n p.0 p.1 = first p refl in
-    let there : IsReadFrom p.1 (n + 1) split.0 = more p.1 split.0 split.1 in
-    subst (IsReadFrom s n) split.2 (record {
-      leads = (p.1, here.may, there.leads);
-      rises = (omega arith, here.few, there.rises);
-    })
+-- numbers that rise from a later place rise from an earlier one
+rises_earlier : (n : ℕ) (ls : List NumberedLine) → RisesFrom (n + 1) ls → RisesFrom n ls
+rises_earlier n [] h = tt
+rises_earlier n (l ∷ ls) h = (omega (arith, h.0), h.1, h.2)
 
-read_from : (s : Stage) (n : ℕ) (texts : List (List ℕ)) (ls : List NumberedLine) → script_from s n texts ≡ Ok ls → IsReadFrom s n ls
-read_from s n [] ls h = subst (IsReadFrom s n) (sym (ended-none s n ls h)) (record { leads = tt; rises = tt })
-read_from s n (text ∷ texts) ls h = read_first s n (read_at s n text) texts ls (read_at-some s n text) (λ t more. read_from t (n + 1) texts more) h
+first_added : (k : Known) (n : ℕ) (said : Option Line) (t : Known) (more : List NumberedLine) → IsRead k n said t → IsReadFrom t (n + 1) more → IsReadFrom k n (numbered n said ++ more)
+first_added k n None t more here there =
+    let same : k ≡ t = cc (here.may) in
+    record { leads = subst (λ (q : Known). LeadsFrom q more) (sym same) there.leads; rises = rises_earlier n more there.rises }
+first_added k n (Some l) t more here there = record {
+  leads = (t, here.may, there.leads);
+  rises = (omega arith, here.few, there.rises);
+}
+
+read_first : (k : Known) (n : ℕ) (said : Option (Option Line × Known)) (texts : List (List ℕ)) (ls : List NumberedLine)
+    → ((p : Option Line × Known) → said ≡ Some p → IsRead k n p.0 p.1)
+    → ((t : Known) (more : List NumberedLine) → script_from t (n + 1) texts ≡ Ok more → IsReadFrom t (n + 1) more)
+    → line_then n said (λ t. script_from t (n + 1) texts) ≡ Ok ls → IsReadFrom k n ls
+read_first k n None texts ls first more h = cc
+read_first k n (Some p) texts ls first more h =
+    let split = front_then (numbered n p.0) (script_from p.1 (n + 1) texts) ls h in
+    subst (IsReadFrom k n) split.2 (first_added k n p.0 p.1 split.0 (first p refl) (more p.1 split.0 split.1))
+
+read_from : (k : Known) (n : ℕ) (texts : List (List ℕ)) (ls : List NumberedLine) → script_from k n texts ≡ Ok ls → IsReadFrom k n ls
+read_from k n [] ls h = subst (IsReadFrom k n) (sym (closed k.servers n ls h).1) (record { leads = tt; rises = tt })
+read_from k n (text ∷ texts) ls h = read_first k n (read_at k n text) texts ls (read_at-some k n text) (λ t more. read_from t (n + 1) texts more) h
 
 few_from : (n : ℕ) (ls : List NumberedLine) → RisesFrom n ls → n ≤ SCRIPT_LINES_MOST + 1 → n + length ls ≤ SCRIPT_LINES_MOST + 1
 few_from n [] rises within = omega arith
 few_from n (l ∷ ls) rises within = omega (arith, few_from (l.number + 1) ls rises.2 (omega (arith, rises.1)), rises.0)
 
-guarded : (b : Bool) (said : Option Stage) (t : Stage) → cond b said None ≡ Some t → b ≡ true
+guarded : (b : Bool) (said : Option Known) (t : Known) → cond b said None ≡ Some t → b ≡ true
 guarded true said t h = refl
 guarded false said t h = cc
 
--- a line that may stand is declared
-pub next-declared : (s : Stage) (l : Line) (t : Stage) → next s l ≡ Some t → is_declared l ≡ true
-unfolding next
-next-declared s l t h = (guarded (is_declared l) (after s l) t h)
+-- a line that may stand names the client and the server of the run
+pub next-ours : (k : Known) (l : Line) (t : Known) → next k l ≡ Some t → names_ours l ≡ true
+unfolding next is_declared
+next-ours k l t h = (and_parts (names_ours l) _ (guarded _ (after k l) t h)).0
 
-declared_from : (s : Stage) (ls : List NumberedLine) → LeadsFrom s ls → AllByRecursion (λ l. is_declared l.line ≡ true) ls
-declared_from s [] leads = tt
-declared_from s (l ∷ ls) leads = (next-declared s l.line leads.0 leads.1, declared_from leads.0 ls leads.2)
+ours_from : (k : Known) (ls : List NumberedLine) → LeadsFrom k ls → AllByRecursion (λ l. names_ours l.line ≡ true) ls
+ours_from k [] leads = tt
+ours_from k (l ∷ ls) leads = (next-ours k l.line leads.0 leads.1, ours_from leads.0 ls leads.2)
 
-nothing_bad : (n : ℕ) (ls : List NumberedLine) → ended stage.Start n ≡ Ok ls → ⊥
-nothing_bad n ls h = cc
-
-some_first : (n : ℕ) (said : Option (Line × Stage)) (texts : List (List ℕ)) (ls : List NumberedLine) → line_then n said (λ t. script_from t (n + 1) texts) ≡ Ok ls → 0 < length ls
-some_first n None texts ls h = cc
-some_first n (Some p) texts ls h =
-    let split = front_then (record { number = n; line = p.0 }) (script_from p.1 (n + 1) texts) ls h in
+some_first : (k : Known) (n : ℕ) (said : Option (Option Line × Known)) (texts : List (List ℕ)) (ls : List NumberedLine)
+    → k.servers ≡ false
+    → ((p : Option Line × Known) → said ≡ Some p → IsRead k n p.0 p.1)
+    → ((t : Known) (more : List NumberedLine) → t.servers ≡ false → script_from t (n + 1) texts ≡ Ok more → 0 < length more)
+    → line_then n said (λ t. script_from t (n + 1) texts) ≡ Ok ls → 0 < length ls
+some_first k n None texts ls none first more h = cc
+some_first k n (Some (None, t)) texts ls none first more h =
+    let split = front_then [] (script_from t (n + 1) texts) ls h in
+    let same : k ≡ t = cc ((first (None, t) refl).may) in
+    let some : 0 < length split.0 = more t split.0 (ap (λ (q : Known). q.servers) (sym same) ∙ none) split.1 in
+    subst (λ (xs : List NumberedLine). 0 < length xs) split.2 some
+some_first k n (Some (Some l, t)) texts ls none first more h =
+    let split = front_then (numbered n (Some l)) (script_from t (n + 1) texts) ls h in
     subst (λ (xs : List NumberedLine). 0 < length xs) split.2 (omega arith)
 
 -- a script has its first line
-some_from : (n : ℕ) (texts : List (List ℕ)) (ls : List NumberedLine) → script_from stage.Start n texts ≡ Ok ls → 0 < length ls
-some_from n [] ls h = absurd (nothing_bad n ls h)
-some_from n (text ∷ texts) ls h = some_first n (read_at stage.Start n text) texts ls h
+some_from : (k : Known) (n : ℕ) (texts : List (List ℕ)) (ls : List NumberedLine) → k.servers ≡ false → script_from k n texts ≡ Ok ls → 0 < length ls
+some_from k n [] ls none h = cc (none, (closed k.servers n ls h).0)
+some_from k n (text ∷ texts) ls none h = some_first k n (read_at k n text) texts ls none (read_at-some k n text) (λ t more. some_from t (n + 1) texts more) h
 
 pub accepted : (bytes : List ℕ) (ls : List NumberedLine) → script bytes ≡ Ok ls → IsAccepted ls
 unfolding script
 accepted bytes ls h =
-    let read : IsReadFrom stage.Start 1 ls = read_from stage.Start 1 (lines bytes) ls h in
+    let read : IsReadFrom nothing_known 1 ls = read_from nothing_known 1 (lines bytes) ls h in
     record {
       leads = read.leads;
       rises = read.rises;
-      some = some_from 1 (lines bytes) ls h;
+      some = some_from nothing_known 1 (lines bytes) ls refl h;
       few = omega (arith, few_from 1 ls read.rises (omega arith));
-      declared = declared_from stage.Start ls read.leads;
+      ours = ours_from nothing_known ls read.leads;
     }

@@ -4,9 +4,9 @@ use Rattle.std.proofs.Common.{◌≡◌, ℕ, List, [], ◌∷◌, ◌++◌, ref
 use Rattle.alp_base.specs.declared.choices.Choice.TheVariants as choice
 use Rattle.alp_modes.specs.declared.Mode.TheVariants as mode
 use Rattle.alp_script.specs.Words.{words_of, number_of, within, name_of, text_of, id_of, file_word_of, new_word_of}
-use Rattle.alp_script.specs.Grammar.{run_of, list_of, lists_of, servers_line, client_line, begin_line, owner_line, file_line, create_line, write_line, read_line, commit_line, line_by_verb, line_of_client, line_by, line_said}
+use Rattle.alp_script.specs.Grammar.{text_said, run_of, list_of, lists_of, servers_line, client_line, begin_line, owner_line, file_line, create_line, write_line, read_line, commit_line, line_by_verb, line_of_client, line_by, line_said}
 use Rattle.alp_script.specs.Named.{client_named, server_named}
-use Rattle.alp_script.specs.Stages.{after_start, after_servers, after_client, after_begin, after_owner, after_create, after_write, after_read, after, is_declared, next}
+use Rattle.alp_script.specs.Order.{after_servers, after_client, after_begin, after_owner, after_create, after_run, after_commit, after, names_ours, is_declared, next}
 use Rattle.alp_script.specs.Script.{read_at, script}
 use Rattle.alp_script.specs.declared.line.FileWord.TheVariants as file_word
 use Rattle.alp_script.specs.declared.line.Line.{Line}
@@ -17,7 +17,7 @@ abbrev line_end : List ℕ
 line_end = 10 ∷ []
 
 one_line : script (codes "servers 1") ≡ Ok (record { number = 1; line = line.Servers 1 } ∷ [])
-unfolding script read_at line_said words_of line_by servers_line within number_of next is_declared client_named server_named after after_start
+unfolding script read_at text_said line_said words_of line_by servers_line within number_of next is_declared names_ours client_named server_named after after_servers
 one_line = refl
 
 no_line : script [] ≡ Err 1
@@ -25,11 +25,16 @@ unfolding script
 no_line = refl
 
 second_servers : script (codes "servers 1" ++ line_end ++ codes "servers 1" ++ line_end) ≡ Err 2
-unfolding script read_at line_said words_of line_by servers_line within number_of next is_declared client_named server_named after after_start after_servers
+unfolding script read_at text_said line_said words_of line_by servers_line within number_of next is_declared names_ours client_named server_named after after_servers
 second_servers = refl
 
+-- an empty line and a comment say nothing
+skipped_lines : script (line_end ++ codes "# servers 2" ++ line_end ++ codes "servers 1") ≡ Ok (record { number = 3; line = line.Servers 1 } ∷ [])
+unfolding script read_at text_said line_said words_of line_by servers_line within number_of next is_declared names_ours client_named server_named after after_servers
+skipped_lines = refl
+
 leading_zero : script (codes "servers 01" ++ line_end) ≡ Err 1
-unfolding script read_at line_said words_of line_by servers_line within number_of
+unfolding script read_at text_said line_said words_of line_by servers_line within number_of
 leading_zero = refl
 
 abbrev world : List (List ℕ)
@@ -53,5 +58,5 @@ whole_path : script (codes "servers 1" ++ line_end ++ codes "client 1 Admin" ++ 
     ∷ numbered 8 (line.Commit 1)
     ∷ []
     )
-unfolding script read_at line_said words_of line_by servers_line client_line line_of_client line_by_verb begin_line owner_line create_line file_line write_line read_line commit_line lists_of list_of run_of within number_of name_of text_of id_of file_word_of new_word_of next is_declared client_named server_named after after_start after_servers after_client after_begin after_owner after_create after_write after_read
+unfolding script read_at text_said line_said words_of line_by servers_line client_line line_of_client line_by_verb begin_line owner_line create_line file_line write_line read_line commit_line lists_of list_of run_of within number_of name_of text_of id_of file_word_of new_word_of next is_declared names_ours client_named server_named after after_servers after_client after_begin after_owner after_create after_run after_commit
 whole_path = refl

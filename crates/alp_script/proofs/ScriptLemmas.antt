@@ -9,17 +9,16 @@ use Rattle.std.proofs.lemmas.Bool.{lt-leb}
 use Rattle.std.proofs.lemmas.List.{length-take, drop_all, nil_from_length}
 use Rattle.std.proofs.lemmas.List.Splits.{slice_split_none, slice_split_at}
 use Rattle.std.proofs.lemmas.List.Elements.{All-push}
-use Rattle.alp_script.specs.Words.{◌>>=◌, is_ascii}
-use Rattle.alp_script.specs.Grammar.{line_said}
-use Rattle.alp_script.specs.Script.{read_at, with_front, line_then, script_from, script, ended}
+use Rattle.alp_script.specs.Words.{◌>>=◌, is_ascii, is_line}
+use Rattle.alp_script.specs.Grammar.{text_said}
+use Rattle.alp_script.specs.Known.{Known, nothing_known}
+use Rattle.alp_script.specs.Script.{read_at, with_front, numbered, step, line_then, script_from, script, ended}
 use Rattle.alp_script.specs.Progress.{Progress, at_start, IsUnfinished, resume, room, Follows, IsOutside, Takes}
 use Rattle.alp_script.specs.declared.fault.ScriptFault.{ScriptFault}
 use Rattle.alp_script.specs.declared.fault.ScriptFault.TheVariants as fault
 use Rattle.alp_script.specs.declared.line.Line.{Line}
 use Rattle.alp_script.specs.declared.numbered.NumberedLine.{NumberedLine}
 use Rattle.alp_script.specs.declared.numbered.TheConstants.{SCRIPT_LINES_MOST}
-use Rattle.alp_script.specs.declared.stage.Stage.{Stage}
-use Rattle.alp_script.specs.declared.stage.Stage.TheVariants as stage
 use Rattle.alp_script.specs.declared.words.TheConstants.{LINE_BYTES}
 
 -- bytes without a line's end
@@ -56,24 +55,24 @@ pub with_front-twice : (a b : List NumberedLine) (r : Result (List NumberedLine)
 with_front-twice a b (Ok ls) = ap Ok (sym (append_assoc a b ls))
 with_front-twice a b (Err n) = refl
 
-not_line : (b c : Bool) (said : Option Line) → b ≡ false → cond (b && c) said None ≡ None
+not_line : (b c : Bool) (said : Option (Option Line)) → b ≡ false → cond (b && c) said None ≡ None
 not_line b c said e = ap (λ t. cond (t && c) said None) e
 
-line_said-long : (text : List ℕ) → LINE_BYTES < length text → line_said text ≡ None
-unfolding line_said
-line_said-long text long = not_line (nat_le (length text) LINE_BYTES) (list_all is_ascii text) _ (lt-leb _ _ long)
+text_said-long : (text : List ℕ) → LINE_BYTES < length text → text_said text ≡ None
+unfolding text_said
+text_said-long text long = not_line (nat_le (length text) LINE_BYTES) (list_all is_ascii text) _ (lt-leb _ _ long)
 
-no_more : (b : Bool) (o : Option Line) (more : Line → Option (Line × Stage)) → o ≡ None → cond b (o >>= more) None ≡ None
+no_more : (b : Bool) (o : Option (Option Line)) (more : Option Line → Option (Option Line × Known)) → o ≡ None → cond b (o >>= more) None ≡ None
 no_more true o more e = ap (λ said. said >>= more) e
 no_more false o more e = refl
 
 -- a line that is too long says nothing
-pub read_at-long : (s : Stage) (n : ℕ) (text : List ℕ) → LINE_BYTES < length text → read_at s n text ≡ None
+pub read_at-long : (s : Known) (n : ℕ) (text : List ℕ) → LINE_BYTES < length text → read_at s n text ≡ None
 unfolding read_at
-read_at-long s n text long = no_more (nat_le n SCRIPT_LINES_MOST) (line_said text) _ (line_said-long text long)
+read_at-long s n text long = no_more (nat_le n SCRIPT_LINES_MOST) (text_said text) _ (text_said-long text long)
 
 -- where a line is outside, so is the script
-pub script_from-outside : (s : Stage) (n : ℕ) (text : List ℕ) (texts : List (List ℕ)) → read_at s n text ≡ None → script_from s n (text ∷ texts) ≡ Err n
+pub script_from-outside : (s : Known) (n : ℕ) (text : List ℕ) (texts : List (List ℕ)) → read_at s n text ≡ None → script_from s n (text ∷ texts) ≡ Err n
 script_from-outside s n text texts e = ap (λ said. line_then n said (λ t. script_from t (n + 1) texts)) e
 
 stripped_length : (p : List ℕ) → length p ≤ length (strip_carriage_return p) + 1
@@ -84,7 +83,7 @@ stripped_length p =
     ]
 
 -- what is too long already is outside, whatever follows
-pub script_from-long : (s : Stage) (n : ℕ) (p rest : List ℕ) → IsOpen p → LINE_BYTES + 1 < length p → script_from s n (lines (p ++ rest)) ≡ Err n
+pub script_from-long : (s : Known) (n : ℕ) (p rest : List ℕ) → IsOpen p → LINE_BYTES + 1 < length p → script_from s n (lines (p ++ rest)) ≡ Err n
 script_from-long s n p [] open_ended long =
     ap (λ bytes. script_from s n (lines bytes)) (append-nil p) ∙ ap (script_from s n) (lines-last p open_ended (omega arith))
     ∙ script_from-outside s n p [] (read_at-long s n p (omega arith))
@@ -103,7 +102,7 @@ script_from-long s n p (b ∷ rest) open_ended long = go (b == 10) refl (λ q o 
 pub follows-byte : (p : Progress) (b : ℕ) → length p.partial ≤ LINE_BYTES → Follows p (record p { partial = p.partial ++ b ∷ [] }) (b ∷ [])
 unfolding resume
 follows-byte p b short = record {
-  same = λ rest. ap (λ bytes. with_front p.said (script_from p.stage (p.lines + 1) (lines bytes))) (sym (append_assoc p.partial (b ∷ []) rest));
+  same = λ rest. ap (λ bytes. with_front p.said (script_from p.known (p.lines + 1) (lines bytes))) (sym (append_assoc p.partial (b ∷ []) rest));
   nearer = omega (arith, length-append p.partial (b ∷ []));
 }
 
@@ -113,38 +112,38 @@ unfolding resume
 outside-byte p b e open_ended long = record {
   always = λ rest.
       ap (with_front p.said)
-      (ap (λ bytes. script_from p.stage (p.lines + 1) (lines bytes)) (sym (append_assoc p.partial (b ∷ []) rest))
-      ∙ script_from-long p.stage (p.lines + 1) (p.partial ++ b ∷ []) rest (All-push (λ x. (x == 10) ≡ false) p.partial b open_ended e) (omega (arith, length-append p.partial (b ∷ []))));
+      (ap (λ bytes. script_from p.known (p.lines + 1) (lines bytes)) (sym (append_assoc p.partial (b ∷ []) rest))
+      ∙ script_from-long p.known (p.lines + 1) (p.partial ++ b ∷ []) rest (All-push (λ x. (x == 10) ≡ false) p.partial b open_ended e) (omega (arith, length-append p.partial (b ∷ []))));
 }
 
 -- the progress after a whole line
-abbrev pub after_line : Progress → Line → Stage → Progress
-after_line p l t = record { said = p.said ++ record { number = p.lines + 1; line = l } ∷ []; stage = t; lines = p.lines + 1; partial = [] }
+abbrev pub after_line : Progress → Option Line → Known → Progress
+after_line p l t = record { said = p.said ++ numbered (p.lines + 1) l; known = t; lines = p.lines + 1; partial = [] }
 
-pub follows-line : (p : Progress) (l : Line) (t : Stage) → IsUnfinished p.lines p.partial → p.lines + 1 ≤ SCRIPT_LINES_MOST
-    → read_at p.stage (p.lines + 1) (strip_carriage_return p.partial) ≡ Some (l, t) → Follows p (after_line p l t) (10 ∷ [])
+pub follows-line : (p : Progress) (l : Option Line) (t : Known) → IsUnfinished p.lines p.partial → p.lines + 1 ≤ SCRIPT_LINES_MOST
+    → read_at p.known (p.lines + 1) (strip_carriage_return p.partial) ≡ Some (l, t) → Follows p (after_line p l t) (10 ∷ [])
 unfolding resume
 follows-line p l t unfinished few said = record {
   same = λ rest.
-      ap (λ texts. with_front p.said (script_from p.stage (p.lines + 1) texts)) (lines-at p.partial rest 10 unfinished.open_ended refl)
+      ap (λ texts. with_front p.said (script_from p.known (p.lines + 1) texts)) (lines-at p.partial rest 10 unfinished.open_ended refl)
       ∙ ap (λ o. with_front p.said (line_then (p.lines + 1) o (λ s. script_from s (p.lines + 1 + 1) (lines rest)))) said
-      ∙ with_front-twice p.said (record { number = p.lines + 1; line = l } ∷ []) (script_from t (p.lines + 1 + 1) (lines rest));
+      ∙ with_front-twice p.said (numbered (p.lines + 1) l) (script_from t (p.lines + 1 + 1) (lines rest));
   nearer = omega (arith, unfinished.short);
 }
 
 pub outside-line : (p : Progress) → IsUnfinished p.lines p.partial
-    → read_at p.stage (p.lines + 1) (strip_carriage_return p.partial) ≡ None → IsOutside p (10 ∷ []) (p.lines + 1)
+    → read_at p.known (p.lines + 1) (strip_carriage_return p.partial) ≡ None → IsOutside p (10 ∷ []) (p.lines + 1)
 unfolding resume
 outside-line p unfinished said = record {
   always = λ rest.
-      ap (λ texts. with_front p.said (script_from p.stage (p.lines + 1) texts)) (lines-at p.partial rest 10 unfinished.open_ended refl)
-      ∙ ap (with_front p.said) (script_from-outside p.stage (p.lines + 1) (strip_carriage_return p.partial) (lines rest) said);
+      ap (λ texts. with_front p.said (script_from p.known (p.lines + 1) texts)) (lines-at p.partial rest 10 unfinished.open_ended refl)
+      ∙ ap (with_front p.said) (script_from-outside p.known (p.lines + 1) (strip_carriage_return p.partial) (lines rest) said);
 }
 
 -- a reader that starts reads a whole script
 pub resume-start : (bytes : List ℕ) → resume at_start bytes ≡ script bytes
 unfolding resume script
-resume-start bytes = with_front-none (script_from stage.Start 1 (lines bytes))
+resume-start bytes = with_front-none (script_from nothing_known 1 (lines bytes))
 
 -- one more byte of a piece
 pub resume-next : (old mid new : Progress) (piece : List ℕ) (i : ℕ) → i < length piece
@@ -176,25 +175,25 @@ follows-all old new piece i all same nearer = record {
 }
 
 -- a script that ends after a whole line
-pub resume-ended : (p : Progress) → length p.partial ≡ 0 → resume p [] ≡ with_front p.said (ended p.stage (p.lines + 1))
+pub resume-ended : (p : Progress) → length p.partial ≡ 0 → resume p [] ≡ with_front p.said (ended p.known (p.lines + 1))
 unfolding resume
-resume-ended p e = ap (λ bytes. with_front p.said (script_from p.stage (p.lines + 1) (lines (bytes ++ [])))) (nil_from_length p.partial e)
+resume-ended p e = ap (λ bytes. with_front p.said (script_from p.known (p.lines + 1) (lines (bytes ++ [])))) (nil_from_length p.partial e)
 
 -- a script that ends within a line
-pub resume-last : (p : Progress) → IsOpen p.partial → 0 < length p.partial → resume p [] ≡ with_front p.said (script_from p.stage (p.lines + 1) (p.partial ∷ []))
+pub resume-last : (p : Progress) → IsOpen p.partial → 0 < length p.partial → resume p [] ≡ with_front p.said (script_from p.known (p.lines + 1) (p.partial ∷ []))
 unfolding resume
 resume-last p open_ended some =
-    ap (λ bytes. with_front p.said (script_from p.stage (p.lines + 1) (lines bytes))) (append-nil p.partial)
-    ∙ ap (λ texts. with_front p.said (script_from p.stage (p.lines + 1) texts)) (lines-last p.partial open_ended some)
+    ap (λ bytes. with_front p.said (script_from p.known (p.lines + 1) (lines bytes))) (append-nil p.partial)
+    ∙ ap (λ texts. with_front p.said (script_from p.known (p.lines + 1) texts)) (lines-last p.partial open_ended some)
 
 -- lines that were said come before what the rest says
 resume-front : (p : Progress) (front : List NumberedLine) (rest : List ℕ) → resume (record p { said = front ++ p.said }) rest ≡ with_front front (resume p rest)
 unfolding resume
-resume-front p front rest = sym (with_front-twice front p.said (script_from p.stage (p.lines + 1) (lines (p.partial ++ rest))))
+resume-front p front rest = sym (with_front-twice front p.said (script_from p.known (p.lines + 1) (lines (p.partial ++ rest))))
 
 resume-without : (p : Progress) (rest : List ℕ) → resume p rest ≡ with_front p.said (resume (record p { said = [] }) rest)
 unfolding resume
-resume-without p rest = ap (λ r. with_front p.said r) (sym (with_front-none (script_from p.stage (p.lines + 1) (lines (p.partial ++ rest)))))
+resume-without p rest = ap (λ r. with_front p.said r) (sym (with_front-none (script_from p.known (p.lines + 1) (lines (p.partial ++ rest)))))
 
 -- what a follower of the same progress took
 pub follows-joined : (p q : Progress) (piece : List ℕ) → Follows (record p { said = [] }) q piece → Follows p (record q { said = p.said ++ q.said }) piece

@@ -1,5 +1,6 @@
 -- what the words of a line say
-use Rattle.std.specs.Prelude.{ℕ, List, [], ◌∷◌, codes, Option, None, Some, if◌then◌else◌}
+use Rattle.std.specs.Prelude.{Bool, true, ◌==◌, ℕ, List, [], ◌∷◌, codes, Option, None, Some, if◌then◌else◌}
+use Rattle.std.specs.Option.{option_map}
 use Rattle.alp_base.specs.declared.choices.Choice.TheVariants as choice
 use Rattle.alp_base.specs.declared.ids.Run.{Run}
 use Rattle.alp_base.specs.declared.lists.TheConstants.{PAGES_PER_FILE}
@@ -129,6 +130,14 @@ abbrev pub line_of : List (List ℕ) → Option Line
 line_of [] = None
 line_of (first ∷ args) = line_by first args
 
--- what the text of a line says
+-- an empty line and a comment say nothing
+abbrev pub is_skipped : List ℕ → Bool
+is_skipped [] = true
+is_skipped (b ∷ bs) = b == 35
+
 unfoldable pub line_said : List ℕ → Option Line
-line_said text = if is_line text then words_of text >>= line_of else None
+line_said text = words_of text >>= line_of
+
+-- what the text of a line says, where it is inside the language: maybe nothing
+unfoldable pub text_said : List ℕ → Option (Option Line)
+text_said text = if is_line text then (if is_skipped text then Some None else option_map Some (line_said text)) else None

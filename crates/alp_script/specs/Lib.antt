@@ -2,7 +2,8 @@ pub mod Words
 pub mod Telling
 pub mod Grammar
 pub mod Named
-pub mod Stages
+pub mod Known
+pub mod Order
 pub mod Script
 pub mod Progress
 pub mod Reading

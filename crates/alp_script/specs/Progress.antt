@@ -1,26 +1,25 @@
 -- a script that is read in pieces
 use Rattle.std.specs.Prelude.{◌≡◌, ℕ, ◌+◌, ◌-◌, ◌*◌, ◌≤◌, ◌==◌, false, List, [], ◌++◌, length, All, Result, Ok, Err}
 use Rattle.std.specs.Str.Lines.{lines}
+use Rattle.alp_script.specs.Known.{Known, nothing_known}
 use Rattle.alp_script.specs.Script.{with_front, script_from}
 use Rattle.alp_script.specs.declared.fault.ScriptFault.{ScriptFault}
 use Rattle.alp_script.specs.declared.fault.ScriptFault.TheVariants as fault
 use Rattle.alp_script.specs.declared.numbered.NumberedLine.{NumberedLine}
 use Rattle.alp_script.specs.declared.numbered.TheConstants.{SCRIPT_LINES_MOST}
-use Rattle.alp_script.specs.declared.stage.Stage.{Stage}
-use Rattle.alp_script.specs.declared.stage.Stage.TheVariants as stage
 use Rattle.alp_script.specs.declared.words.TheConstants.{LINE_BYTES}
 
--- what the bytes so far gave: the lines that they say, the stage after them, how many lines were
+-- what the bytes so far gave: the lines that they say, what they tell of those that may follow, how many lines were
 -- whole, and the bytes of the line that is not
 pub record Progress : Type 0 where
   pub said : List NumberedLine
-  pub stage : Stage
+  pub known : Known
   pub lines : ℕ
   pub partial : List ℕ
 
 -- nothing was read
 abbrev pub at_start : Progress
-at_start = record { said = []; stage = stage.Start; lines = 0; partial = [] }
+at_start = record { said = []; known = nothing_known; lines = 0; partial = [] }
 
 -- the whole lines are not too many, and the other has no end and is not much too long
 pub record IsUnfinished (lines : ℕ) (partial : List ℕ) : Type 0 where
@@ -30,7 +29,7 @@ pub record IsUnfinished (lines : ℕ) (partial : List ℕ) : Type 0 where
 
 -- what the whole script says, where this is the rest of it
 unfoldable pub resume : Progress → List ℕ → Result (List NumberedLine) ℕ
-resume p rest = with_front p.said (script_from p.stage (p.lines + 1) (lines (p.partial ++ rest)))
+resume p rest = with_front p.said (script_from p.known (p.lines + 1) (lines (p.partial ++ rest)))
 
 -- a bound on the bytes that can follow before a line is outside
 abbrev pub room : Progress → ℕ

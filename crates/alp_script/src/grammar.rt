@@ -2,7 +2,7 @@
 ghost use Rattle.std.specs.Prelude.{◌≡◌, ℕ, List, codes};
 ghost use Rattle.alp_script.specs.Telling.{Tells};
 ghost use Rattle.alp_script.specs.Words.{shown};
-ghost use Rattle.alp_script.specs.Grammar.{server_of, client_of, run_of, list_of, lists_of, servers_line as servers_said, client_line as client_said, begin_line as begin_said, owner_line as owner_said, file_line as file_said, create_line as create_said, write_line as write_said, read_line as read_said, commit_line as commit_said, line_by_verb as said_by_verb, line_of_client as said_of_client, line_by as said_by, line_of as said_of, line_said as said_in};
+ghost use Rattle.alp_script.specs.Grammar.{server_of, client_of, run_of, list_of, lists_of, servers_line as servers_said, client_line as client_said, begin_line as begin_said, owner_line as owner_said, file_line as file_said, create_line as create_said, write_line as write_said, read_line as read_said, commit_line as commit_said, line_by_verb as said_by_verb, line_of_client as said_of_client, line_by as said_by, line_of as said_of, is_skipped as is_skipped_said, line_said, text_said};
 
 use crate::Line;
 use crate::fault::LineFault;
@@ -283,14 +283,34 @@ fn line_of(alloc: Global, words: &[&[u8]]) -> Result<Line, LineFault>
     }
 }
 
-/// What the text of a line says.
+fn is_skipped(text: &[u8]) -> bool
+    ensures { result ≡ is_skipped_said text.now }
+{
+    match text {
+        [] => true,
+        [first, ..] => *first == b'#',
+    }
+}
+
 #[tactic(auto, unfolding(crate::specs::Grammar::line_said))]
-pub(crate) fn line_in(alloc: Global, text: &[u8]) -> Result<Line, LineFault>
-    ensures { Tells result (said_in text.now) }
+fn line_in(alloc: Global, text: &[u8]) -> Result<Line, LineFault>
+    ensures { Tells result (line_said text.now) }
+{
+    let words = words(alloc, text)?;
+    line_of(alloc, words.as_slice())
+}
+
+/// What the text of a line says: maybe nothing.
+#[tactic(auto, unfolding(crate::specs::Grammar::text_said))]
+pub(crate) fn text_in(alloc: Global, text: &[u8]) -> Result<Option<Line>, LineFault>
+    ensures { Tells result (text_said text.now) }
 {
     if !is_line(text) {
         return Err(LineFault::Outside);
     }
-    let words = words(alloc, text)?;
-    line_of(alloc, words.as_slice())
+    if is_skipped(text) {
+        return Ok(None);
+    }
+    let line = line_in(alloc, text)?;
+    Ok(Some(line))
 }

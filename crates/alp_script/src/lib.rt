@@ -1,13 +1,13 @@
 //! The script language: from bytes to numbered lines, or to the first line that is outside.
 #![tactic(auto)]
 
+mod context;
 mod fault;
 mod grammar;
 mod line;
 mod numbered;
 mod read;
 mod reader;
-mod stage;
 mod words;
 
 pub use fault::ScriptFault;

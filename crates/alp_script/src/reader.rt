@@ -1,14 +1,15 @@
 //! A script that is read in pieces.
-ghost use Rattle.std.specs.Prelude.{◌≡◌, ℕ, ◌+◌, ◌==◌, List, [], ◌∷◌, ◌++◌, length, false, IfOk, OnErr, OnOk, ◌<◌, ◌≤◌};
+ghost use Rattle.std.specs.Prelude.{◌≡◌, ℕ, ◌+◌, ◌==◌, List, [], ◌∷◌, ◌++◌, length, false, IfOk, IfErr, OnErr, OnOk, ◌<◌, ◌≤◌};
 ghost use Rattle.std.specs.Str.Lines.{strip_carriage_return};
-ghost use Rattle.alp_script.specs.Telling.{Tells};
-ghost use Rattle.alp_script.specs.Script.{read_at as said_at, script, with_front, ended as ended_said, script_from};
+ghost use Rattle.alp_script.specs.Telling.{TellsBy};
+ghost use Rattle.alp_script.specs.Script.{read_at as said_at, script, with_front, ended as ended_said, script_from, numbered, step as step_said};
+ghost use Rattle.alp_script.specs.declared.fault.ScriptFault.TheVariants as fault;
 ghost use Rattle.alp_script.specs.Progress.{Progress, at_start, resume, Follows, Takes, Gives};
 
 use crate::fault::LineFault;
-use crate::grammar::line_in;
+use crate::context::Context;
+use crate::grammar::text_in;
 use crate::numbered::SCRIPT_LINES_MOST;
-use crate::stage::{Stage, next};
 use crate::words::LINE_BYTES;
 use crate::{Line, NumberedLine, ScriptFault};
 use std::alloc::{AllocError, Global};
@@ -18,7 +19,7 @@ use std::marker::Model;
 #[derive(Drop)]
 pub struct Reader {
     alloc: Global,
-    stage: Stage,
+    context: Context,
     lines: u32,
     partial: Vec<u8>,
     said: Vec<NumberedLine>,
@@ -29,29 +30,47 @@ impl Model for Reader {
 
     ghost Value = { Progress };
 
-    ghost view = { λ r. record { said = r.said.items; stage = r.stage; lines = r.lines; partial = r.partial.items } };
+    ghost view = { λ r. record { said = r.said.items; known = r.context; lines = r.lines; partial = r.partial.items } };
 
     ghost invariant = { λ r. IsUnfinished r.lines r.partial.items };
+}
+
+fn step(context: &mut Context, said: &Option<Line>) -> Result<(), LineFault>
+    ensures { TellsBy (λ _. context.new) result (step_said context.old said.now) }
+{
+    match said {
+        Some(line) => context.next(line),
+        None => Ok(()),
+    }
 }
 
 #[tactic(auto, unfolding(crate::specs::Script::read_at))]
 fn read_at(
     alloc: Global,
-    stage: &Stage,
+    context: &mut Context,
     number: u32,
     text: &[u8],
-) -> Result<(Line, Stage), LineFault>
+) -> Result<Option<Line>, LineFault>
     ensures few { OnOk result (number ≤ SCRIPT_LINES_MOST) }
-    ensures said { Tells result (said_at stage.now number text.now) }
+    ensures said { TellsBy (λ said. (said, context.new)) result (said_at context.old number text.now) }
 {
     if number > SCRIPT_LINES_MOST {
         return Err(LineFault::Outside);
     }
-    let line = line_in(alloc, text)?;
-    match next(stage, &line) {
-        Some(after) => Ok((line, after)),
-        None => Err(LineFault::Outside),
+    let said = text_in(alloc, text)?;
+    step(context, &said)?;
+    Ok(said)
+}
+
+// Keeps the line, where there is one.
+fn keep(said: &mut Vec<NumberedLine>, number: u32, line: Option<Line>) -> Result<(), ScriptFault>
+    ensures kept { OnOk result (said.new.items ≡ said.old.items ++ numbered number line) }
+    ensures err { IfErr result (λ e. e ≡ fault.OutOfMemory) }
+{
+    if let Some(line) = line {
+        said.push(NumberedLine { number, line })?;
     }
+    Ok(())
 }
 
 fn without_return(line: &[u8]) -> &[u8]
@@ -67,32 +86,33 @@ fn without_return(line: &[u8]) -> &[u8]
 
 // The lines of a script that ends here.
 fn ended(
-    stage: &Stage,
+    context: &Context,
     number: u32,
     said: Vec<NumberedLine>,
 ) -> Result<Vec<NumberedLine>, ScriptFault>
-    ensures { Gives (λ v. v.items) result (with_front said.items (ended_said stage.now number)) }
+    ensures { Gives (λ v. v.items) result (with_front said.items (ended_said context.now number)) }
 {
-    match stage {
-        Stage::Start => Err(ScriptFault::Bad { line: number }),
-        _ => Ok(said),
+    if context.has_servers() {
+        Ok(said)
+    } else {
+        Err(ScriptFault::Bad { line: number })
     }
 }
 
 // The lines of a script that ends with this line.
 fn last_line(
     alloc: Global,
-    stage: &Stage,
+    mut context: Context,
     number: u32,
     text: &[u8],
     mut said: Vec<NumberedLine>,
 ) -> Result<Vec<NumberedLine>, ScriptFault>
-    ensures { Gives (λ v. v.items) result (with_front said.items (script_from stage.now number (text.now ∷ []))) }
+    ensures { Gives (λ v. v.items) result (with_front said.items (script_from context number (text.now ∷ []))) }
 {
-    match read_at(alloc, stage, number, text) {
-        Ok((line, after)) => {
-            said.push(NumberedLine { number, line })?;
-            ended(&after, number + 1, said)
+    match read_at(alloc, &mut context, number, text) {
+        Ok(line) => {
+            keep(&mut said, number, line)?;
+            ended(&context, number + 1, said)
         }
         Err(LineFault::Outside) => Err(ScriptFault::Bad { line: number }),
         Err(LineFault::OutOfMemory) => Err(ScriptFault::OutOfMemory),
@@ -106,7 +126,7 @@ impl Reader {
     {
         Reader {
             alloc,
-            stage: Stage::Start,
+            context: Context::new(alloc),
             lines: 0,
             partial: Vec::new(alloc),
             said: Vec::new(alloc),
@@ -133,10 +153,9 @@ impl Reader {
     {
         let number = self.lines + 1;
         let text = without_return(self.partial.as_slice());
-        match read_at(self.alloc, &self.stage, number, text) {
-            Ok((line, stage)) => {
-                self.said.push(NumberedLine { number, line })?;
-                self.stage = stage;
+        match read_at(self.alloc, &mut self.context, number, text) {
+            Ok(line) => {
+                keep(&mut self.said, number, line)?;
                 self.lines = number;
                 self.partial.clear();
                 Ok(())
@@ -170,9 +189,10 @@ impl Reader {
         ensures { IfOk result (λ r. r ≡ record self.now { said = [] }) }
     {
         let partial = self.partial.clone()?;
+        let context = self.context.clone()?;
         Ok(Reader {
             alloc: self.alloc,
-            stage: self.stage,
+            context,
             lines: self.lines,
             partial,
             said: Vec::new(self.alloc),
@@ -186,13 +206,13 @@ impl Reader {
     {
         let Reader {
             alloc: _,
-            stage,
+            context,
             lines,
             partial,
             mut said,
         } = follower;
         self.said.append(&mut said)?;
-        self.stage = stage;
+        self.context = context;
         self.lines = lines;
         self.partial = partial;
         Ok(())
@@ -215,14 +235,14 @@ impl Reader {
     {
         let Reader {
             alloc,
-            stage,
+            context,
             lines,
             partial,
             said,
         } = self;
         if partial.is_empty() {
-            return ended(&stage, lines + 1, said);
+            return ended(&context, lines + 1, said);
         }
-        last_line(alloc, &stage, lines + 1, partial.as_slice(), said)
+        last_line(alloc, context, lines + 1, partial.as_slice(), said)
     }
 }

@@ -59,39 +59,58 @@ fn says_what_the_lines_say(rt: HostRuntime) -> Result<(), Fail> {
 #[test]
 fn finds_the_first_bad_line(rt: HostRuntime) -> Result<(), Fail> {
     let alloc = rt.alloc();
-    let cases: [(&[u8], u32); 16] = [
+    let cases: [(&[u8], u32); 20] = [
         (b"", 1),
-        (b"\n", 1),
+        (b"\n# none\n", 3),
+        (b" \n", 1),
+        (b"# \xc3\xa9\n", 1),
         (b"servers 9\n", 1),
         (b"servers 01\n", 1),
+        (b"client 1 Admin\n", 1),
         (b"servers 1\nservers 1\n", 2),
-        (b"servers 1\n\nclient 1 Admin\n", 2),
-        (b"servers 1\nclient 1 ann\n", 2),
+        (b"servers 1\n\nclient 1 ann\n", 3),
         (b"servers 1\nclient 2 Admin\n", 2),
         (b"servers  1\r\nclient 1 Admin \n", 2),
-        (b" servers 1\n", 1),
         (b"servers\t1\n", 1),
         (b"servers 1\nclient 1 Admin\r", 2),
-        (
-            b"servers 1\nclient 1 Admin\n1 begin 1\n1 mkowner 1 ann 3 World\n1 create 1 A ann 4 World World\n",
-            5,
-        ),
-        (
-            b"servers 1\nclient 1 Admin\n1 begin 1\n1 mkowner 1 ann 4 World\n1 create 1 1.0.0 ann 4 World World\n",
-            5,
-        ),
-        (
-            b"servers 1\nclient 1 Admin\n1 begin 1\n1 mkowner 1 ann 4 World\n1 create 1 A ann 4 World World\n1 write A 3 2 x\n",
-            6,
-        ),
-        (
-            b"servers 1\nclient 1 Admin\n1 begin 1\n1 mkowner 1 ann 4294967296 World\n",
-            4,
-        ),
+        (b"servers 1\n1 begin 1\n", 2),
+        (b"servers 1\nclient 1 Admin\n1 commit\n", 3),
+        (b"servers 1\nclient 1 Admin\n1 begin 1\n1 begin 1\n", 4),
+        (b"servers 1\nclient 1 Admin\n1 begin 1\n1 read 1.1.1 0 1\n1 mkowner 1 ann 4 World\n", 5),
+        (b"servers 1\nclient 1 Admin\n1 begin 1\n1 create 1 A ann 4 World World\n", 4),
+        (b"servers 1\nclient 1 Admin\n1 begin 1\n1 write 2.1.1 0 1 x\n", 4),
+        (b"servers 1\nclient 1 Admin\n1 begin 1\n1 mkowner 1 ann 4 World\n1 create 1 A ann 4097 World World\n", 5),
     ];
     for (text, line) in cases {
         assert_eq!(rt; count(alloc, text), Err(ScriptFault::Bad { line }));
     }
+    Ok(())
+}
+
+#[test]
+fn reads_many_transactions(rt: HostRuntime) -> Result<(), Fail> {
+    let alloc = rt.alloc();
+    let text = b"# two transactions\n\nservers 1\nclient 1 Admin\n1 begin 1\n1 mkowner 1 ann 4 World\n1 create 1 A ann 4096 World World\n1 create 1 A ann 1 World World\n1 commit\n1 read A 4294967295 16\n1 begin 1\n1 write 1.7.9 0 1 x\n1 commit\n1 commit\n";
+    assert_eq!(rt; count(alloc, text), Ok(12));
+    Ok(())
+}
+
+// A script of so many lines, all but the first without a word.
+fn empty_lines(alloc: Global, lines: usize) -> Result<Vec<u8>, ScriptFault> {
+    let mut bytes = Vec::from_slice(alloc, b"servers 1\n")?;
+    for _ in 1..lines {
+        bytes.push(b'\n')?;
+    }
+    Ok(bytes)
+}
+
+#[test]
+fn takes_1000_lines(rt: HostRuntime) -> Result<(), Fail> {
+    let alloc = rt.alloc();
+    let fits = empty_lines(alloc, 1000)?;
+    assert_eq!(rt; count(alloc, fits.as_slice()), Ok(1));
+    let long = empty_lines(alloc, 1001)?;
+    assert_eq!(rt; count(alloc, long.as_slice()), Err(ScriptFault::Bad { line: 1001 }));
     Ok(())
 }
 

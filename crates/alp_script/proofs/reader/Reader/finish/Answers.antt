@@ -8,10 +8,10 @@ pub returns-then-is_empty : goal.returns-then-is_empty
 returns-then-is_empty c =
     let none : vec_len c.self.inside.partial ≡ 0 = eqb-true _ _ (sym c.is_empty.ensures ∙ c.if-is_empty.true) in
     let short : length c.self.inside.partial.items ≡ 0 = omega arith in
-    rw (← c.self.view_is, resume-ended (record { said = c.self.inside.said.items; stage = c.self.inside.stage; lines = c.self.inside.lines; partial = c.self.inside.partial.items }) short) c.ended.ensures
+    rw (← c.self.view_is, resume-ended (record { said = c.self.inside.said.items; known = c.self.inside.context; lines = c.self.inside.lines; partial = c.self.inside.partial.items }) short) c.ended.ensures
 
 pub returns : goal.returns
 returns c =
     let none : (vec_len c.self.inside.partial ≡ 0) → ⊥ = eqb-false _ _ (sym c.is_empty.ensures ∙ c.if-is_empty.false) in
     let some : 0 < length c.self.inside.partial.items = omega (arith, none) in
-    rw (← c.self.view_is, resume-last (record { said = c.self.inside.said.items; stage = c.self.inside.stage; lines = c.self.inside.lines; partial = c.self.inside.partial.items }) c.self.invariant.open_ended some, ← c.as_slice.ensures.value) c.last_line.ensures
+    rw (← c.self.view_is, resume-last (record { said = c.self.inside.said.items; known = c.self.inside.context; lines = c.self.inside.lines; partial = c.self.inside.partial.items }) c.self.invariant.open_ended some, ← c.as_slice.ensures.value) c.last_line.ensures
