@@ -9,10 +9,10 @@ use Rattle.std.proofs.lemmas.Bool.{lt-leb}
 use Rattle.std.proofs.lemmas.List.{length-take, drop_all, nil_from_length}
 use Rattle.std.proofs.lemmas.List.Splits.{slice_split_none, slice_split_at}
 use Rattle.std.proofs.lemmas.List.Elements.{All-push}
-use Rattle.alp_script.specs.Words.{◌>>=◌, is_ascii, is_line}
+use Rattle.alp_script.specs.Words.{◌>>=◌, is_ascii}
 use Rattle.alp_script.specs.Grammar.{text_said}
 use Rattle.alp_script.specs.Known.{Known, nothing_known}
-use Rattle.alp_script.specs.Script.{read_at, with_front, numbered, step, line_then, script_from, script, ended}
+use Rattle.alp_script.specs.Script.{read_at, with_front, numbered, line_then, script_from, script, ended}
 use Rattle.alp_script.specs.Progress.{Progress, at_start, IsUnfinished, resume, room, Follows, IsOutside, Takes}
 use Rattle.alp_script.specs.declared.fault.ScriptFault.{ScriptFault}
 use Rattle.alp_script.specs.declared.fault.ScriptFault.TheVariants as fault

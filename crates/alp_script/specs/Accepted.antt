@@ -2,6 +2,7 @@
 use Rattle.std.specs.Prelude.{◌≡◌, ℕ, ◌+◌, ◌≤◌, ◌<◌, true, List, [], ◌∷◌, length, Some}
 use Rattle.std.specs.List.{AllByRecursion}
 use Rattle.alp_script.specs.Known.{Known, nothing_known}
+use Rattle.alp_script.specs.Forms.{IsForm}
 use Rattle.alp_script.specs.Order.{next, names_ours}
 use Rattle.alp_script.specs.declared.numbered.NumberedLine.{NumberedLine}
 use Rattle.alp_script.specs.declared.numbered.TheConstants.{SCRIPT_LINES_MOST}
@@ -22,3 +23,4 @@ pub record IsAccepted (lines : List NumberedLine) : Type 0 where
   pub some : 0 < length lines
   pub few : length lines ≤ SCRIPT_LINES_MOST
   pub ours : AllByRecursion (λ l. names_ours l.line ≡ true) lines
+  pub forms : AllByRecursion (λ l. IsForm l.line) lines

@@ -7,4 +7,5 @@ pub mod Order
 pub mod Script
 pub mod Progress
 pub mod Reading
+pub mod Forms
 pub mod Accepted

@@ -6,8 +6,8 @@ ghost use Rattle.alp_script.specs.Script.{read_at as said_at, script, with_front
 ghost use Rattle.alp_script.specs.declared.fault.ScriptFault.TheVariants as fault;
 ghost use Rattle.alp_script.specs.Progress.{Progress, at_start, resume, Follows, Takes, Gives};
 
-use crate::fault::LineFault;
 use crate::context::Context;
+use crate::fault::LineFault;
 use crate::grammar::text_in;
 use crate::numbered::SCRIPT_LINES_MOST;
 use crate::words::LINE_BYTES;

@@ -76,10 +76,22 @@ fn finds_the_first_bad_line(rt: HostRuntime) -> Result<(), Fail> {
         (b"servers 1\n1 begin 1\n", 2),
         (b"servers 1\nclient 1 Admin\n1 commit\n", 3),
         (b"servers 1\nclient 1 Admin\n1 begin 1\n1 begin 1\n", 4),
-        (b"servers 1\nclient 1 Admin\n1 begin 1\n1 read 1.1.1 0 1\n1 mkowner 1 ann 4 World\n", 5),
-        (b"servers 1\nclient 1 Admin\n1 begin 1\n1 create 1 A ann 4 World World\n", 4),
-        (b"servers 1\nclient 1 Admin\n1 begin 1\n1 write 2.1.1 0 1 x\n", 4),
-        (b"servers 1\nclient 1 Admin\n1 begin 1\n1 mkowner 1 ann 4 World\n1 create 1 A ann 4097 World World\n", 5),
+        (
+            b"servers 1\nclient 1 Admin\n1 begin 1\n1 read 1.1.1 0 1\n1 mkowner 1 ann 4 World\n",
+            5,
+        ),
+        (
+            b"servers 1\nclient 1 Admin\n1 begin 1\n1 create 1 A ann 4 World World\n",
+            4,
+        ),
+        (
+            b"servers 1\nclient 1 Admin\n1 begin 1\n1 write 2.1.1 0 1 x\n",
+            4,
+        ),
+        (
+            b"servers 1\nclient 1 Admin\n1 begin 1\n1 mkowner 1 ann 4 World\n1 create 1 A ann 4097 World World\n",
+            5,
+        ),
     ];
     for (text, line) in cases {
         assert_eq!(rt; count(alloc, text), Err(ScriptFault::Bad { line }));
@@ -90,7 +102,8 @@ fn finds_the_first_bad_line(rt: HostRuntime) -> Result<(), Fail> {
 #[test]
 fn reads_many_transactions(rt: HostRuntime) -> Result<(), Fail> {
     let alloc = rt.alloc();
-    let text = b"# two transactions\n\nservers 1\nclient 1 Admin\n1 begin 1\n1 mkowner 1 ann 4 World\n1 create 1 A ann 4096 World World\n1 create 1 A ann 1 World World\n1 commit\n1 read A 4294967295 16\n1 begin 1\n1 write 1.7.9 0 1 x\n1 commit\n1 commit\n";
+    let text =
+        b"# two transactions\n\nservers 1\nclient 1 Admin\n1 begin 1\n1 mkowner 1 ann 4 World\n1 create 1 A ann 4096 World World\n1 create 1 A ann 1 World World\n1 commit\n1 read A 4294967295 16\n1 begin 1\n1 write 1.7.9 0 1 x\n1 commit\n1 commit\n";
     assert_eq!(rt; count(alloc, text), Ok(12));
     Ok(())
 }
@@ -110,7 +123,10 @@ fn takes_1000_lines(rt: HostRuntime) -> Result<(), Fail> {
     let fits = empty_lines(alloc, 1000)?;
     assert_eq!(rt; count(alloc, fits.as_slice()), Ok(1));
     let long = empty_lines(alloc, 1001)?;
-    assert_eq!(rt; count(alloc, long.as_slice()), Err(ScriptFault::Bad { line: 1001 }));
+    assert_eq!(rt;
+        count(alloc, long.as_slice()),
+        Err(ScriptFault::Bad { line: 1001 })
+    );
     Ok(())
 }
 
