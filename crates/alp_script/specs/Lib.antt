@@ -1,0 +1,11 @@
+pub mod Words
+pub mod Telling
+pub mod Grammar
+pub mod Named
+pub mod Known
+pub mod Order
+pub mod Script
+pub mod Progress
+pub mod Reading
+pub mod Forms
+pub mod Accepted

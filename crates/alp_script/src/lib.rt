@@ -1,6 +1,22 @@
 //! The script language: from bytes to numbered lines, or to the first line that is outside.
 #![tactic(auto)]
 
+mod context;
+mod fault;
+mod grammar;
 mod line;
+mod numbered;
+mod read;
+mod reader;
+mod words;
 
+pub use fault::ScriptFault;
+pub use grammar::{CLIENTS_MOST, RUN_MOST, SERVERS_MOST};
 pub use line::{FileWord, Line};
+pub use numbered::{NumberedLine, SCRIPT_LINES_MOST};
+pub use read::{accepted_lines, read_script};
+pub use reader::Reader;
+pub use words::{LINE_BYTES, TEXT_BYTES};
+
+#[cfg(test)]
+mod tests;

@@ -1,4 +1,7 @@
 //! One line of a script.
+ghost use Rattle.std.specs.Prelude.{◌≡◌};
+ghost use Rattle.alp_script.specs.Named.{client_named, server_named};
+
 use alp_base::{Access, AccessList, Bytes, Choice, FileId, Name, Run};
 use alp_files::PropChange;
 use alp_modes::Mode;
@@ -173,4 +176,53 @@ pub enum Line {
         server: u8,
         bytes: Bytes,
     },
+}
+
+impl Line {
+    /// The client that is to do what the line says.
+    #[tactic(auto, unfolding(crate::specs::Named::client_named))]
+    pub fn client(&self) -> Option<u8>
+        ensures { result ≡ client_named self.now }
+    {
+        match self {
+            Line::Begin { client, .. } => Some(*client),
+            Line::Create { client, .. } => Some(*client),
+            Line::OpenFile { client, .. } => Some(*client),
+            Line::CloseFile { client, .. } => Some(*client),
+            Line::DeleteFile { client, .. } => Some(*client),
+            Line::ReadPages { client, .. } => Some(*client),
+            Line::WritePages { client, .. } => Some(*client),
+            Line::LockPages { client, .. } => Some(*client),
+            Line::SetSize { client, .. } => Some(*client),
+            Line::ReadProps { client, .. } => Some(*client),
+            Line::WriteProps { client, .. } => Some(*client),
+            Line::ReadOwner { client, .. } => Some(*client),
+            Line::MakeOwner { client, .. } => Some(*client),
+            Line::SetQuota { client, .. } => Some(*client),
+            Line::Commit { client } => Some(*client),
+            Line::Abort { client } => Some(*client),
+            Line::Outcome { client } => Some(*client),
+            Line::Collect { client } => Some(*client),
+            Line::Repeat { client } => Some(*client),
+            Line::Old { client } => Some(*client),
+            Line::Raw { client, .. } => Some(*client),
+            _ => None,
+        }
+    }
+
+    /// The server that a client's line names.
+    #[tactic(auto, unfolding(crate::specs::Named::server_named))]
+    pub fn server(&self) -> Option<u8>
+        ensures { result ≡ server_named self.now }
+    {
+        match self {
+            Line::Begin { server, .. } => Some(*server),
+            Line::Create { server, .. } => Some(*server),
+            Line::ReadOwner { server, .. } => Some(*server),
+            Line::MakeOwner { server, .. } => Some(*server),
+            Line::SetQuota { server, .. } => Some(*server),
+            Line::Raw { server, .. } => Some(*server),
+            _ => None,
+        }
+    }
 }

@@ -1,0 +1,158 @@
+-- what holds of the lines of a script
+use Rattle.std.specs.Prelude.{nat_le, Bool, Option, None, Some, IfSome, Result, Ok, Err, cond}
+use Rattle.std.specs.List.{AllByRecursion}
+use Rattle.std.specs.Option.{option_map}
+use Rattle.std.specs.Str.Lines.{lines}
+use Rattle.std.proofs.Common.{◌≡◌, ℕ, ◌+◌, ◌<◌, ◌≤◌, List, [], ◌∷◌, ◌++◌, length, true, false, refl, sym, ◌∙◌, ap, subst, arith}
+use Rattle.std.proofs.lemmas.Bool.{leb-true, and_parts}
+use Rattle.std.proofs.lemmas.Option.{same_Some}
+use Rattle.alp_script.specs.Words.{◌>>=◌, is_line, words_of}
+use Rattle.alp_script.specs.Grammar.{is_skipped, line_said, line_of, text_said}
+use Rattle.alp_script.specs.Known.{Known, nothing_known}
+use Rattle.alp_script.specs.Order.{after, is_declared, names_ours, next}
+use Rattle.alp_script.specs.Script.{step, read_at, numbered, with_front, line_then, script_from, script}
+use Rattle.alp_script.specs.Forms.{IsForm}
+use Rattle.alp_script.specs.Accepted.{LeadsFrom, RisesFrom, IsAccepted}
+use Rattle.alp_script.proofs.FormLemmas.{line_of-form}
+use Rattle.alp_script.specs.declared.line.Line.{Line}
+use Rattle.alp_script.specs.declared.numbered.NumberedLine.{NumberedLine}
+use Rattle.alp_script.specs.declared.numbered.TheConstants.{SCRIPT_LINES_MOST}
+
+-- what is known of a line that was read at its place
+record IsRead (k : Known) (n : ℕ) (said : Option Line) (t : Known) : Type 0 where
+  few : n ≤ SCRIPT_LINES_MOST
+  may : step k said ≡ Some t
+  form : IfSome said IsForm
+
+stepped : (k : Known) (said : Option Line) (to : Option Known) (p : Option Line × Known) → step k said ≡ to → (to >>= λ t. Some (said, t)) ≡ Some p
+    → (step k p.0 ≡ Some p.1) × (said ≡ p.0)
+stepped k said None p e h = cc
+stepped k said (Some t) p e h =
+    let is : (said, t) ≡ p = cc in
+    (subst (λ (q : Option Line × Known). step k q.0 ≡ Some q.1) is e, ap (λ (q : Option Line × Known). q.0) is)
+
+spoken : (k : Known) (text : Option (Option Line)) (p : Option Line × Known) → (text >>= λ said. step k said >>= λ t. Some (said, t)) ≡ Some p
+    → (step k p.0 ≡ Some p.1) × (text ≡ Some p.0)
+spoken k None p h = cc
+spoken k (Some said) p h =
+    let both = stepped k said (step k said) p refl h in
+    (both.0, ap Some both.1)
+
+said_form : (b c : Bool) (line : Option Line) (said : Option Line) → ((l : Line) → line ≡ Some l → IsForm l)
+    → cond b (cond c (Some None) (option_map Some line)) None ≡ Some said → IfSome said IsForm
+said_form false c line said form h = cc
+said_form true true line said form h = subst (λ (o : Option Line). IfSome o IsForm) (same_Some None said h) tt
+said_form true false None said form h = cc
+said_form true false (Some l) said form h = subst (λ (o : Option Line). IfSome o IsForm) (same_Some (Some l) said h) (form l refl)
+
+words_form : (words : Option (List (List ℕ))) (l : Line) → (words >>= line_of) ≡ Some l → IsForm l
+words_form None l h = cc
+words_form (Some words) l h = line_of-form words l h
+
+text_said-form : (text : List ℕ) (said : Option Line) → text_said text ≡ Some said → IfSome said IsForm
+unfolding text_said line_said
+text_said-form text said h = said_form (is_line text) (is_skipped text) (words_of text >>= line_of) said (words_form (words_of text)) h
+
+in_bounds : (b : Bool) (said : Option (Option Line × Known)) (p : Option Line × Known) → cond b said None ≡ Some p → (b ≡ true) × (said ≡ Some p)
+in_bounds true said p h = (refl, h)
+in_bounds false said p h = cc
+
+read_at-some : (k : Known) (n : ℕ) (text : List ℕ) (p : Option Line × Known) → read_at k n text ≡ Some p → IsRead k n p.0 p.1
+unfolding read_at
+read_at-some k n text p h =
+    let both = in_bounds (nat_le n SCRIPT_LINES_MOST) _ p h in
+    let told = spoken k (text_said text) p both.1 in
+    record { few = leb-true _ _ both.0; may = told.0; form = text_said-form text p.0 told.1 }
+
+closed : (b : Bool) (n : ℕ) (ls : List NumberedLine) → cond b (Ok []) (Err n) ≡ Ok ls → (b ≡ true) × (ls ≡ [])
+closed true n ls h = (refl, cc)
+closed false n ls h = cc
+
+-- the lines behind a first part
+front_then : (front : List NumberedLine) (r : Result (List NumberedLine) ℕ) (ls : List NumberedLine) → with_front front r ≡ Ok ls → (more : List NumberedLine) × (r ≡ Ok more) × (front ++ more ≡ ls)
+front_then front (Ok more) ls h = (more, refl, cc)
+front_then front (Err n) ls h = cc
+
+-- what is known of lines that were read from a place on
+record IsReadFrom (k : Known) (n : ℕ) (ls : List NumberedLine) : Type 0 where
+  leads : LeadsFrom k ls
+  rises : RisesFrom n ls
+  forms : AllByRecursion (λ l. IsForm l.line) ls
+
+-- numbers that rise from a later place rise from an earlier one
+rises_earlier : (n : ℕ) (ls : List NumberedLine) → RisesFrom (n + 1) ls → RisesFrom n ls
+rises_earlier n [] h = tt
+rises_earlier n (l ∷ ls) h = (omega (arith, h.0), h.1, h.2)
+
+first_added : (k : Known) (n : ℕ) (said : Option Line) (t : Known) (more : List NumberedLine) → IsRead k n said t → IsReadFrom t (n + 1) more → IsReadFrom k n (numbered n said ++ more)
+first_added k n None t more here there =
+    let same : k ≡ t = cc (here.may) in
+    record { leads = subst (λ (q : Known). LeadsFrom q more) (sym same) there.leads; rises = rises_earlier n more there.rises; forms = there.forms }
+first_added k n (Some l) t more here there = record {
+  leads = (t, here.may, there.leads);
+  rises = (omega arith, here.few, there.rises);
+  forms = (here.form, there.forms);
+}
+
+read_first : (k : Known) (n : ℕ) (said : Option (Option Line × Known)) (texts : List (List ℕ)) (ls : List NumberedLine)
+    → ((p : Option Line × Known) → said ≡ Some p → IsRead k n p.0 p.1)
+    → ((t : Known) (more : List NumberedLine) → script_from t (n + 1) texts ≡ Ok more → IsReadFrom t (n + 1) more)
+    → line_then n said (λ t. script_from t (n + 1) texts) ≡ Ok ls → IsReadFrom k n ls
+read_first k n None texts ls first more h = cc
+read_first k n (Some p) texts ls first more h =
+    let split = front_then (numbered n p.0) (script_from p.1 (n + 1) texts) ls h in
+    subst (IsReadFrom k n) split.2 (first_added k n p.0 p.1 split.0 (first p refl) (more p.1 split.0 split.1))
+
+read_from : (k : Known) (n : ℕ) (texts : List (List ℕ)) (ls : List NumberedLine) → script_from k n texts ≡ Ok ls → IsReadFrom k n ls
+read_from k n [] ls h = subst (IsReadFrom k n) (sym (closed k.servers n ls h).1) (record { leads = tt; rises = tt; forms = tt })
+read_from k n (text ∷ texts) ls h = read_first k n (read_at k n text) texts ls (read_at-some k n text) (λ t more. read_from t (n + 1) texts more) h
+
+few_from : (n : ℕ) (ls : List NumberedLine) → RisesFrom n ls → n ≤ SCRIPT_LINES_MOST + 1 → n + length ls ≤ SCRIPT_LINES_MOST + 1
+few_from n [] rises within = omega arith
+few_from n (l ∷ ls) rises within = omega (arith, few_from (l.number + 1) ls rises.2 (omega (arith, rises.1)), rises.0)
+
+guarded : (b : Bool) (said : Option Known) (t : Known) → cond b said None ≡ Some t → b ≡ true
+guarded true said t h = refl
+guarded false said t h = cc
+
+-- a line that may stand names the client and the server of the run
+pub next-ours : (k : Known) (l : Line) (t : Known) → next k l ≡ Some t → names_ours l ≡ true
+unfolding next is_declared
+next-ours k l t h = (and_parts (names_ours l) _ (guarded _ (after k l) t h)).0
+
+ours_from : (k : Known) (ls : List NumberedLine) → LeadsFrom k ls → AllByRecursion (λ l. names_ours l.line ≡ true) ls
+ours_from k [] leads = tt
+ours_from k (l ∷ ls) leads = (next-ours k l.line leads.0 leads.1, ours_from leads.0 ls leads.2)
+
+some_first : (k : Known) (n : ℕ) (said : Option (Option Line × Known)) (texts : List (List ℕ)) (ls : List NumberedLine)
+    → k.servers ≡ false
+    → ((p : Option Line × Known) → said ≡ Some p → IsRead k n p.0 p.1)
+    → ((t : Known) (more : List NumberedLine) → t.servers ≡ false → script_from t (n + 1) texts ≡ Ok more → 0 < length more)
+    → line_then n said (λ t. script_from t (n + 1) texts) ≡ Ok ls → 0 < length ls
+some_first k n None texts ls none first more h = cc
+some_first k n (Some (None, t)) texts ls none first more h =
+    let split = front_then [] (script_from t (n + 1) texts) ls h in
+    let same : k ≡ t = cc ((first (None, t) refl).may) in
+    let some : 0 < length split.0 = more t split.0 (ap (λ (q : Known). q.servers) (sym same) ∙ none) split.1 in
+    subst (λ (xs : List NumberedLine). 0 < length xs) split.2 some
+some_first k n (Some (Some l, t)) texts ls none first more h =
+    let split = front_then (numbered n (Some l)) (script_from t (n + 1) texts) ls h in
+    subst (λ (xs : List NumberedLine). 0 < length xs) split.2 (omega arith)
+
+-- a script has its first line
+some_from : (k : Known) (n : ℕ) (texts : List (List ℕ)) (ls : List NumberedLine) → k.servers ≡ false → script_from k n texts ≡ Ok ls → 0 < length ls
+some_from k n [] ls none h = cc (none, (closed k.servers n ls h).0)
+some_from k n (text ∷ texts) ls none h = some_first k n (read_at k n text) texts ls none (read_at-some k n text) (λ t more. some_from t (n + 1) texts more) h
+
+pub accepted : (bytes : List ℕ) (ls : List NumberedLine) → script bytes ≡ Ok ls → IsAccepted ls
+unfolding script
+accepted bytes ls h =
+    let read : IsReadFrom nothing_known 1 ls = read_from nothing_known 1 (lines bytes) ls h in
+    record {
+      leads = read.leads;
+      rises = read.rises;
+      some = some_from nothing_known 1 (lines bytes) ls refl h;
+      few = omega (arith, few_from 1 ls read.rises (omega arith));
+      ours = ours_from nothing_known ls read.leads;
+      forms = read.forms;
+    }

@@ -1,0 +1,6 @@
+pub mod WordsLemmas
+pub mod ScriptLemmas
+pub mod ReadingLemmas
+pub mod FormLemmas
+pub mod AcceptedLemmas
+mod ScriptFacts

@@ -1,0 +1,62 @@
+-- scripts that are computed: what the definitions say of the first path and of some bad lines
+use Rattle.std.specs.Prelude.{codes, Ok, Err}
+use Rattle.std.proofs.Common.{◌≡◌, ℕ, List, [], ◌∷◌, ◌++◌, refl}
+use Rattle.alp_base.specs.declared.choices.Choice.TheVariants as choice
+use Rattle.alp_modes.specs.declared.Mode.TheVariants as mode
+use Rattle.alp_script.specs.Words.{words_of, number_of, within, name_of, text_of, id_of, file_word_of, new_word_of}
+use Rattle.alp_script.specs.Grammar.{text_said, run_of, list_of, lists_of, servers_line, client_line, begin_line, owner_line, file_line, create_line, write_line, read_line, commit_line, line_by_verb, line_of_client, line_by, line_said}
+use Rattle.alp_script.specs.Named.{client_named, server_named}
+use Rattle.alp_script.specs.Order.{after_servers, after_client, after_begin, after_owner, after_create, after_run, after_commit, after, names_ours, is_declared, next}
+use Rattle.alp_script.specs.Script.{read_at, script}
+use Rattle.alp_script.specs.declared.line.FileWord.TheVariants as file_word
+use Rattle.alp_script.specs.declared.line.Line.{Line}
+use Rattle.alp_script.specs.declared.line.Line.TheVariants as line
+use Rattle.alp_script.specs.declared.numbered.NumberedLine.{NumberedLine}
+
+abbrev line_end : List ℕ
+line_end = 10 ∷ []
+
+one_line : script (codes "servers 1") ≡ Ok (record { number = 1; line = line.Servers 1 } ∷ [])
+unfolding script read_at text_said line_said words_of line_by servers_line within number_of next is_declared names_ours client_named server_named after after_servers
+one_line = refl
+
+no_line : script [] ≡ Err 1
+unfolding script
+no_line = refl
+
+second_servers : script (codes "servers 1" ++ line_end ++ codes "servers 1" ++ line_end) ≡ Err 2
+unfolding script read_at text_said line_said words_of line_by servers_line within number_of next is_declared names_ours client_named server_named after after_servers
+second_servers = refl
+
+-- an empty line and a comment say nothing
+skipped_lines : script (line_end ++ codes "# servers 2" ++ line_end ++ codes "servers 1") ≡ Ok (record { number = 3; line = line.Servers 1 } ∷ [])
+unfolding script read_at text_said line_said words_of line_by servers_line within number_of next is_declared names_ours client_named server_named after after_servers
+skipped_lines = refl
+
+leading_zero : script (codes "servers 01" ++ line_end) ≡ Err 1
+unfolding script read_at text_said line_said words_of line_by servers_line within number_of
+leading_zero = refl
+
+abbrev world : List (List ℕ)
+world = codes "World" ∷ []
+
+abbrev numbered : ℕ → Line → NumberedLine
+numbered n l = record { number = n; line = l }
+
+-- the script of the first path
+whole_path : script (codes "servers 1" ++ line_end ++ codes "client 1 Admin" ++ 13 ∷ line_end ++ codes "1 begin 1" ++ line_end
+    ++ codes "1 mkowner 1 ann 10 World" ++ line_end ++ codes "1 create 1 A ann 4 World World" ++ line_end
+    ++ codes "1 write A 0 1 hello" ++ line_end ++ codes "1 read A 0 2" ++ line_end ++ codes "1 commit")
+    ≡ Ok (
+    numbered 1 (line.Servers 1)
+    ∷ numbered 2 (line.Client 1 (codes "Admin"))
+    ∷ numbered 3 (line.Begin 1 1)
+    ∷ numbered 4 (line.MakeOwner 1 1 (codes "ann") 10 world choice.Fail)
+    ∷ numbered 5 (line.Create 1 1 (codes "A") (codes "ann") 4 world world choice.Fail)
+    ∷ numbered 6 (line.WritePages 1 (file_word.Word (codes "A")) (record { first = 0; count = 1 }) (codes "hello") choice.Fail)
+    ∷ numbered 7 (line.ReadPages 1 (file_word.Word (codes "A")) (record { first = 0; count = 2 }) mode.Read choice.Fail)
+    ∷ numbered 8 (line.Commit 1)
+    ∷ []
+    )
+unfolding script read_at text_said line_said words_of line_by servers_line client_line line_of_client line_by_verb begin_line owner_line create_line file_line write_line read_line commit_line lists_of list_of run_of within number_of name_of text_of id_of file_word_of new_word_of next is_declared names_ours client_named server_named after after_servers after_client after_begin after_owner after_create after_run after_commit
+whole_path = refl

@@ -1,0 +1,211 @@
+-- lemmas on the lines of a script that is read in pieces
+use Rattle.std.specs.Prelude.{nat_le, ◌&&◌, ◌==◌, Bool, Option, None, Some, cond, All, Result, Ok, Err}
+use Rattle.std.specs.List.{slice_split, onto_first, list_all}
+use Rattle.std.specs.Str.Lines.{lines, lines_of_parts, strip_carriage_return}
+use Rattle.std.proofs.Common.{◌≡◌, ℕ, ◌+◌, ◌-◌, ◌<◌, ◌≤◌, List, [], ◌∷◌, ◌++◌, length, take, drop, true, false, refl, sym, ◌∙◌, ap, arith, append_assoc, append-nil, length-append, slice_index, get_or, suc, add-one}
+use Rattle.std.proofs.Math.Seq.{drop-cons}
+use Rattle.std.proofs.Math.Dec.{eqb-suc-zero}
+use Rattle.std.proofs.lemmas.Bool.{lt-leb}
+use Rattle.std.proofs.lemmas.List.{length-take, drop_all, nil_from_length}
+use Rattle.std.proofs.lemmas.List.Splits.{slice_split_none, slice_split_at}
+use Rattle.std.proofs.lemmas.List.Elements.{All-push}
+use Rattle.alp_script.specs.Words.{◌>>=◌, is_ascii}
+use Rattle.alp_script.specs.Grammar.{text_said}
+use Rattle.alp_script.specs.Known.{Known, nothing_known}
+use Rattle.alp_script.specs.Script.{read_at, with_front, numbered, line_then, script_from, script, ended}
+use Rattle.alp_script.specs.Progress.{Progress, at_start, IsUnfinished, resume, room, Follows, IsOutside, Takes}
+use Rattle.alp_script.specs.declared.fault.ScriptFault.{ScriptFault}
+use Rattle.alp_script.specs.declared.fault.ScriptFault.TheVariants as fault
+use Rattle.alp_script.specs.declared.line.Line.{Line}
+use Rattle.alp_script.specs.declared.numbered.NumberedLine.{NumberedLine}
+use Rattle.alp_script.specs.declared.numbered.TheConstants.{SCRIPT_LINES_MOST}
+use Rattle.alp_script.specs.declared.words.TheConstants.{LINE_BYTES}
+
+-- bytes without a line's end
+abbrev pub IsOpen : List ℕ → Type 0
+IsOpen xs = All (λ b. (b == 10) ≡ false) xs
+
+first_onto : (x : List ℕ) (b : ℕ) (parts : List (List ℕ)) → lines_of_parts (x ∷ onto_first b parts) ≡ strip_carriage_return x ∷ lines_of_parts (onto_first b parts)
+first_onto x b [] = refl
+first_onto x b (part ∷ parts) = refl
+
+first_of_parts : (x bs : List ℕ) → lines_of_parts (x ∷ slice_split (λ b. b == 10) bs) ≡ strip_carriage_return x ∷ lines bs
+first_of_parts x [] = refl
+first_of_parts x (b ∷ bs) =
+    let parts : List (List ℕ) = slice_split (λ b. b == 10) bs in
+    elim (b == 10) as (λ v. lines_of_parts (x ∷ cond v ([] ∷ parts) (onto_first b parts)) ≡ strip_carriage_return x ∷ lines_of_parts (cond v ([] ∷ parts) (onto_first b parts))) [ true ↦ refl | false ↦ first_onto x b parts ]
+
+-- the first line ends at the first line's end
+pub lines-at : (p rest : List ℕ) (b : ℕ) → IsOpen p → (b == 10) ≡ true → lines (p ++ b ∷ rest) ≡ strip_carriage_return p ∷ lines rest
+lines-at p rest b open_ended e = ap lines_of_parts (slice_split_at (λ b. b == 10) p b rest open_ended e) ∙ first_of_parts p rest
+
+one_part : (p : List ℕ) → 0 < length p → lines_of_parts (p ∷ []) ≡ p ∷ []
+one_part [] some = absurd (omega arith)
+one_part (b ∷ bs) some = ap (λ t. cond t [] ((b ∷ bs) ∷ [])) (eqb-suc-zero (length bs))
+
+-- bytes without a line's end are one line
+pub lines-last : (p : List ℕ) → IsOpen p → 0 < length p → lines p ≡ p ∷ []
+lines-last p open_ended some = ap lines_of_parts (slice_split_none (λ b. b == 10) p open_ended) ∙ one_part p some
+
+with_front-none : (r : Result (List NumberedLine) ℕ) → with_front [] r ≡ r
+with_front-none (Ok ls) = refl
+with_front-none (Err n) = refl
+
+pub with_front-twice : (a b : List NumberedLine) (r : Result (List NumberedLine) ℕ) → with_front a (with_front b r) ≡ with_front (a ++ b) r
+with_front-twice a b (Ok ls) = ap Ok (sym (append_assoc a b ls))
+with_front-twice a b (Err n) = refl
+
+not_line : (b c : Bool) (said : Option (Option Line)) → b ≡ false → cond (b && c) said None ≡ None
+not_line b c said e = ap (λ t. cond (t && c) said None) e
+
+text_said-long : (text : List ℕ) → LINE_BYTES < length text → text_said text ≡ None
+unfolding text_said
+text_said-long text long = not_line (nat_le (length text) LINE_BYTES) (list_all is_ascii text) _ (lt-leb _ _ long)
+
+no_more : (b : Bool) (o : Option (Option Line)) (more : Option Line → Option (Option Line × Known)) → o ≡ None → cond b (o >>= more) None ≡ None
+no_more true o more e = ap (λ said. said >>= more) e
+no_more false o more e = refl
+
+-- a line that is too long says nothing
+pub read_at-long : (s : Known) (n : ℕ) (text : List ℕ) → LINE_BYTES < length text → read_at s n text ≡ None
+unfolding read_at
+read_at-long s n text long = no_more (nat_le n SCRIPT_LINES_MOST) (text_said text) _ (text_said-long text long)
+
+-- where a line is outside, so is the script
+pub script_from-outside : (s : Known) (n : ℕ) (text : List ℕ) (texts : List (List ℕ)) → read_at s n text ≡ None → script_from s n (text ∷ texts) ≡ Err n
+script_from-outside s n text texts e = ap (λ said. line_then n said (λ t. script_from t (n + 1) texts)) e
+
+stripped_length : (p : List ℕ) → length p ≤ length (strip_carriage_return p) + 1
+stripped_length p =
+    elim (slice_index p (length p - 1) == 13) as (λ v. length p ≤ length (cond v (take (length p - 1) p) p) + 1) [
+      | true ↦ omega (arith, length-take (length p - 1) p)
+      | false ↦ omega arith
+    ]
+
+-- what is too long already is outside, whatever follows
+pub script_from-long : (s : Known) (n : ℕ) (p rest : List ℕ) → IsOpen p → LINE_BYTES + 1 < length p → script_from s n (lines (p ++ rest)) ≡ Err n
+script_from-long s n p [] open_ended long =
+    ap (λ bytes. script_from s n (lines bytes)) (append-nil p) ∙ ap (script_from s n) (lines-last p open_ended (omega arith))
+    ∙ script_from-outside s n p [] (read_at-long s n p (omega arith))
+script_from-long s n p (b ∷ rest) open_ended long = go (b == 10) refl (λ q o l. script_from-long s n q rest o l)
+  where
+    go : (v : Bool) → (b == 10) ≡ v → ((q : List ℕ) → IsOpen q → LINE_BYTES + 1 < length q → script_from s n (lines (q ++ rest)) ≡ Err n)
+        → script_from s n (lines (p ++ b ∷ rest)) ≡ Err n
+    go true e longer =
+        ap (script_from s n) (lines-at p rest b open_ended e)
+        ∙ script_from-outside s n (strip_carriage_return p) (lines rest) (read_at-long s n (strip_carriage_return p) (omega (arith, stripped_length p)))
+    go false e longer =
+        ap (λ bytes. script_from s n (lines bytes)) (sym (append_assoc p (b ∷ []) rest))
+        ∙ longer (p ++ b ∷ []) (All-push (λ x. (x == 10) ≡ false) p b open_ended e) (omega (arith, length-append p (b ∷ [])))
+
+-- a byte more in the unfinished line
+pub follows-byte : (p : Progress) (b : ℕ) → length p.partial ≤ LINE_BYTES → Follows p (record p { partial = p.partial ++ b ∷ [] }) (b ∷ [])
+unfolding resume
+follows-byte p b short = record {
+  same = λ rest. ap (λ bytes. with_front p.said (script_from p.known (p.lines + 1) (lines bytes))) (sym (append_assoc p.partial (b ∷ []) rest));
+  nearer = omega (arith, length-append p.partial (b ∷ []));
+}
+
+-- a byte too many
+pub outside-byte : (p : Progress) (b : ℕ) → (b == 10) ≡ false → IsOpen p.partial → LINE_BYTES < length p.partial → IsOutside p (b ∷ []) (p.lines + 1)
+unfolding resume
+outside-byte p b e open_ended long = record {
+  always = λ rest.
+      ap (with_front p.said)
+      (ap (λ bytes. script_from p.known (p.lines + 1) (lines bytes)) (sym (append_assoc p.partial (b ∷ []) rest))
+      ∙ script_from-long p.known (p.lines + 1) (p.partial ++ b ∷ []) rest (All-push (λ x. (x == 10) ≡ false) p.partial b open_ended e) (omega (arith, length-append p.partial (b ∷ []))));
+}
+
+-- the progress after a whole line
+abbrev pub after_line : Progress → Option Line → Known → Progress
+after_line p l t = record { said = p.said ++ numbered (p.lines + 1) l; known = t; lines = p.lines + 1; partial = [] }
+
+pub follows-line : (p : Progress) (l : Option Line) (t : Known) → IsUnfinished p.lines p.partial → p.lines + 1 ≤ SCRIPT_LINES_MOST
+    → read_at p.known (p.lines + 1) (strip_carriage_return p.partial) ≡ Some (l, t) → Follows p (after_line p l t) (10 ∷ [])
+unfolding resume
+follows-line p l t unfinished few said = record {
+  same = λ rest.
+      ap (λ texts. with_front p.said (script_from p.known (p.lines + 1) texts)) (lines-at p.partial rest 10 unfinished.open_ended refl)
+      ∙ ap (λ o. with_front p.said (line_then (p.lines + 1) o (λ s. script_from s (p.lines + 1 + 1) (lines rest)))) said
+      ∙ with_front-twice p.said (numbered (p.lines + 1) l) (script_from t (p.lines + 1 + 1) (lines rest));
+  nearer = omega (arith, unfinished.short);
+}
+
+pub outside-line : (p : Progress) → IsUnfinished p.lines p.partial
+    → read_at p.known (p.lines + 1) (strip_carriage_return p.partial) ≡ None → IsOutside p (10 ∷ []) (p.lines + 1)
+unfolding resume
+outside-line p unfinished said = record {
+  always = λ rest.
+      ap (λ texts. with_front p.said (script_from p.known (p.lines + 1) texts)) (lines-at p.partial rest 10 unfinished.open_ended refl)
+      ∙ ap (with_front p.said) (script_from-outside p.known (p.lines + 1) (strip_carriage_return p.partial) (lines rest) said);
+}
+
+-- a reader that starts reads a whole script
+pub resume-start : (bytes : List ℕ) → resume at_start bytes ≡ script bytes
+unfolding resume script
+resume-start bytes = with_front-none (script_from nothing_known 1 (lines bytes))
+
+-- one more byte of a piece
+pub resume-next : (old mid new : Progress) (piece : List ℕ) (i : ℕ) → i < length piece
+    → ((rest : List ℕ) → resume old (piece ++ rest) ≡ resume mid (drop i piece ++ rest)) → Follows mid new (get_or piece i 0 ∷ [])
+    → (rest : List ℕ) → resume old (piece ++ rest) ≡ resume new (drop (i + 1) piece ++ rest)
+resume-next old mid new piece i within same next rest =
+    rw add-one (same rest ∙ ap (λ bytes. resume mid (bytes ++ rest)) (drop-cons piece i 0 within) ∙ next.same (drop (suc i) piece ++ rest))
+
+outside-next : (old mid : Progress) (piece : List ℕ) (i n : ℕ) → i < length piece
+    → ((rest : List ℕ) → resume old (piece ++ rest) ≡ resume mid (drop i piece ++ rest)) → IsOutside mid (get_or piece i 0 ∷ []) n → IsOutside old piece n
+outside-next old mid piece i n within same next = record {
+  always = λ rest. same rest ∙ ap (λ bytes. resume mid (bytes ++ rest)) (drop-cons piece i 0 within) ∙ next.always (drop (suc i) piece ++ rest);
+}
+
+-- where the next byte is not taken, neither is the piece
+pub refused-next : (old mid new : Progress) (piece : List ℕ) (i : ℕ) (e : ScriptFault) → i < length piece
+    → ((rest : List ℕ) → resume old (piece ++ rest) ≡ resume mid (drop i piece ++ rest)) → Takes {X = Unit {0}} mid new (get_or piece i 0 ∷ []) (Err e)
+    → Takes {X = Unit {0}} old new piece (Err e)
+refused-next old mid new piece i (fault.Bad n) within same next = outside-next old mid piece i n within same next
+refused-next old mid new piece i fault.ReadFault within same next = absurd next
+refused-next old mid new piece i fault.OutOfMemory within same next = tt
+
+-- all of a piece
+pub follows-all : (old new : Progress) (piece : List ℕ) (i : ℕ) → length piece ≤ i
+    → ((rest : List ℕ) → resume old (piece ++ rest) ≡ resume new (drop i piece ++ rest)) → room new + i ≤ room old → Follows old new piece
+follows-all old new piece i all same nearer = record {
+  same = λ rest. same rest ∙ ap (λ bytes. resume new (bytes ++ rest)) (drop_all i piece all);
+  nearer = omega arith;
+}
+
+-- a script that ends after a whole line
+pub resume-ended : (p : Progress) → length p.partial ≡ 0 → resume p [] ≡ with_front p.said (ended p.known (p.lines + 1))
+unfolding resume
+resume-ended p e = ap (λ bytes. with_front p.said (script_from p.known (p.lines + 1) (lines (bytes ++ [])))) (nil_from_length p.partial e)
+
+-- a script that ends within a line
+pub resume-last : (p : Progress) → IsOpen p.partial → 0 < length p.partial → resume p [] ≡ with_front p.said (script_from p.known (p.lines + 1) (p.partial ∷ []))
+unfolding resume
+resume-last p open_ended some =
+    ap (λ bytes. with_front p.said (script_from p.known (p.lines + 1) (lines bytes))) (append-nil p.partial)
+    ∙ ap (λ texts. with_front p.said (script_from p.known (p.lines + 1) texts)) (lines-last p.partial open_ended some)
+
+-- lines that were said come before what the rest says
+resume-front : (p : Progress) (front : List NumberedLine) (rest : List ℕ) → resume (record p { said = front ++ p.said }) rest ≡ with_front front (resume p rest)
+unfolding resume
+resume-front p front rest = sym (with_front-twice front p.said (script_from p.known (p.lines + 1) (lines (p.partial ++ rest))))
+
+resume-without : (p : Progress) (rest : List ℕ) → resume p rest ≡ with_front p.said (resume (record p { said = [] }) rest)
+unfolding resume
+resume-without p rest = ap (λ r. with_front p.said r) (sym (with_front-none (script_from p.known (p.lines + 1) (lines (p.partial ++ rest)))))
+
+-- what a follower of the same progress took
+pub follows-joined : (p q : Progress) (piece : List ℕ) → Follows (record p { said = [] }) q piece → Follows p (record q { said = p.said ++ q.said }) piece
+follows-joined p q piece h = record {
+  same = λ rest. resume-without p (piece ++ rest) ∙ ap (with_front p.said) (h.same rest) ∙ sym (resume-front q p.said rest);
+  nearer = h.nearer;
+}
+
+-- what a follower did not take
+pub refused-joined : (p q : Progress) (piece : List ℕ) (e : ScriptFault) → Takes {X = Unit {0}} (record p { said = [] }) q piece (Err e) → Takes {X = Unit {0}} p p piece (Err e)
+refused-joined p q piece (fault.Bad n) h = record {
+  always = λ rest. resume-without p (piece ++ rest) ∙ ap (with_front p.said) (h.always rest);
+}
+refused-joined p q piece fault.ReadFault h = absurd h
+refused-joined p q piece fault.OutOfMemory h = tt

@@ -1,0 +1,21 @@
+use Rattle.std.proofs.Common.{refl, arith}
+use Rattle.std.proofs.lemmas.Result.{err_from_is_err_and}
+use Rattle.alp_script.proofs.ScriptLemmas.{resume-next, refused-next, follows-all}
+use Rattle.alp_script.proofs.reader.Reader.take_all.Goals as goal
+
+pub loop-byte-init : goal.loop-byte-init
+loop-byte-init c = record { same = λ rest. refl; nearer = omega arith }
+
+pub loop-byte-preserved : goal.loop-byte-preserved
+loop-byte-preserved c = record {
+  same = resume-next _ _ _ c.args.piece.now c.loop-byte.byte-index c.loop-byte-test.true c.loop-byte.invariant.same c.in_ok-take.ensures;
+  nearer = omega (arith, c.loop-byte.invariant.nearer, c.in_ok-take.ensures.nearer);
+}
+
+pub returns-in_err-take : goal.returns-in_err-take
+returns-in_err-take c =
+    let p = err_from_is_err_and c.from_residual.result c.from_residual.ensures.1 in
+    rw (p.1, p.2) (refused-next c.args.self.now c.loop-byte.self c.take.new.self c.args.piece.now c.loop-byte.byte-index c.in_err-take.field-0.0 c.loop-byte-test.true c.loop-byte.invariant.same c.in_err-take.ensures)
+
+pub returns : goal.returns
+returns c = follows-all _ _ c.args.piece.now c.loop-byte.byte-index c.loop-byte-test.false c.loop-byte.invariant.same c.loop-byte.invariant.nearer

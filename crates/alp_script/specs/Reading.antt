@@ -1,0 +1,38 @@
+-- a script that is read from a source
+use Rattle.std.specs.Prelude.{◌≡◌, ℕ, List, ◌++◌, ◌⊎◌, Option, Result, Ok, Err, Vec}
+use Rattle.std.specs.Global.{Global}
+use Rattle.std.specs.Io.KnownBytes.{Consumes, IsAtEnd}
+use Rattle.alp_base.specs.Causes.{Rose}
+use Rattle.alp_script.specs.Script.{script}
+use Rattle.alp_script.specs.Progress.{Progress, resume}
+use Rattle.alp_script.specs.declared.fault.ScriptFault.{ScriptFault}
+use Rattle.alp_script.specs.declared.fault.ScriptFault.TheVariants as fault
+use Rattle.alp_script.specs.declared.numbered.NumberedLine.{NumberedLine}
+
+-- the source gave these bytes, and the script is what the rest makes of the progress
+pub record HasRead (old new : Option (List ℕ)) (progress : Progress) : Type 0 where
+  pub bytes : List ℕ
+  pub consumed : Consumes old new bytes
+  pub same : (rest : List ℕ) → script (bytes ++ rest) ≡ resume progress rest
+
+-- the source gave these bytes and came to its end, and they are the script of these lines
+pub record GaveScript (old new : Option (List ℕ)) (lines : List NumberedLine) : Type 0 where
+  pub bytes : List ℕ
+  pub consumed : Consumes old new bytes
+  pub said : script bytes ≡ Ok lines
+  pub end : IsAtEnd new
+
+-- the source gave these bytes, whose n-th line is the first that is outside; either that stays so
+-- whatever follows, or nothing follows
+pub record GaveBadLine (old new : Option (List ℕ)) (n : ℕ) : Type 0 where
+  pub bytes : List ℕ
+  pub consumed : Consumes old new bytes
+  pub outside : script bytes ≡ Err n
+  pub final : ((rest : List ℕ) → script (bytes ++ rest) ≡ Err n) ⊎ IsAtEnd new
+
+-- what was read of a source that had old and has new, with its counts of faults before and now
+abbrev pub ReadsScript : Option (List ℕ) → Option (List ℕ) → ℕ → ℕ → Result (Vec NumberedLine Global) ScriptFault → Type 0
+ReadsScript old new before now (Ok v) = GaveScript old new v.items
+ReadsScript old new before now (Err (fault.Bad n)) = GaveBadLine old new n
+ReadsScript old new before now (Err fault.ReadFault) = Rose before now
+ReadsScript old new before now (Err fault.OutOfMemory) = Unit {0}

@@ -1,0 +1,12 @@
+//! Lines with their numbers.
+use crate::Line;
+
+/// The most lines that a script has.
+pub const SCRIPT_LINES_MOST: u32 = 1000;
+
+/// A line of a script, and which line of it, counted from 1.
+#[derive(Clone, Drop, PartialEq, Eq)]
+pub struct NumberedLine {
+    pub number: u32,
+    pub line: Line,
+}

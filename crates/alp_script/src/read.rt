@@ -1,0 +1,41 @@
+//! Reading a script from a source.
+ghost use Rattle.std.specs.Prelude.{◌≡◌, ℕ, ◌≤◌, List};
+ghost use Rattle.alp_script.specs.Accepted.{IsAccepted};
+ghost use Rattle.alp_script.specs.Reading.{ReadsScript};
+ghost use Rattle.alp_script.specs.Script.{script};
+
+use crate::{NumberedLine, Reader, ScriptFault};
+use alp_base::Source;
+use std::alloc::Global;
+
+// How much is asked of the source at a time.
+const PIECE_BYTES: usize = 4096;
+
+/// The lines of the script that the source gives. A line that is outside is answered before any
+/// further read.
+pub fn read_script<S: Source>(
+    alloc: Global,
+    source: &mut S,
+) -> Result<Vec<NumberedLine>, ScriptFault>
+    ensures script { ReadsScript (S.left source.old) (S.left source.new) (S.faults source.old) (S.faults source.new) result }
+    ensures later { S.faults source.old ≤ S.faults source.new }
+{
+    let mut reader = Reader::new(alloc);
+    let mut buf = [0u8; PIECE_BYTES];
+    loop {
+        let Ok(count) = source.read(&mut buf) else {
+            return Err(ScriptFault::ReadFault);
+        };
+        if count == 0 {
+            return reader.finish();
+        }
+        reader.feed(&buf[..count])?;
+    }
+}
+
+/// The lines of a script stand where they may and are of the language's forms, their numbers rise,
+/// there is at least one and there are not too many, and each names the client and the server of the
+/// run.
+pub fn accepted_lines()
+    ensures { (bytes : List ℕ) (lines : List NumberedLine) → script bytes ≡ Ok lines → IsAccepted lines }
+{}

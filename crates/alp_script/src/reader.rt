@@ -1,0 +1,248 @@
+//! A script that is read in pieces.
+ghost use Rattle.std.specs.Prelude.{◌≡◌, ℕ, ◌+◌, ◌==◌, List, [], ◌∷◌, ◌++◌, length, false, IfOk, IfErr, OnErr, OnOk, ◌<◌, ◌≤◌};
+ghost use Rattle.std.specs.Str.Lines.{strip_carriage_return};
+ghost use Rattle.alp_script.specs.Telling.{TellsBy};
+ghost use Rattle.alp_script.specs.Script.{read_at as said_at, script, with_front, ended as ended_said, script_from, numbered, step as step_said};
+ghost use Rattle.alp_script.specs.declared.fault.ScriptFault.TheVariants as fault;
+ghost use Rattle.alp_script.specs.Progress.{Progress, at_start, resume, Follows, Takes, Gives};
+
+use crate::context::Context;
+use crate::fault::LineFault;
+use crate::grammar::text_in;
+use crate::numbered::SCRIPT_LINES_MOST;
+use crate::words::LINE_BYTES;
+use crate::{Line, NumberedLine, ScriptFault};
+use std::alloc::{AllocError, Global};
+use std::marker::Model;
+
+/// A reader that is given a script in pieces, and keeps the lines so far and the unfinished one.
+#[derive(Drop)]
+pub struct Reader {
+    alloc: Global,
+    context: Context,
+    lines: u32,
+    partial: Vec<u8>,
+    said: Vec<NumberedLine>,
+}
+
+impl Model for Reader {
+    ghost use Rattle.alp_script.specs.Progress.{Progress, IsUnfinished};
+
+    ghost Value = { Progress };
+
+    ghost view = { λ r. record { said = r.said.items; known = r.context; lines = r.lines; partial = r.partial.items } };
+
+    ghost invariant = { λ r. IsUnfinished r.lines r.partial.items };
+}
+
+fn step(context: &mut Context, said: &Option<Line>) -> Result<(), LineFault>
+    ensures { TellsBy (λ _. context.new) result (step_said context.old said.now) }
+{
+    match said {
+        Some(line) => context.next(line),
+        None => Ok(()),
+    }
+}
+
+#[tactic(auto, unfolding(crate::specs::Script::read_at))]
+fn read_at(
+    alloc: Global,
+    context: &mut Context,
+    number: u32,
+    text: &[u8],
+) -> Result<Option<Line>, LineFault>
+    ensures few { OnOk result (number ≤ SCRIPT_LINES_MOST) }
+    ensures said { TellsBy (λ said. (said, context.new)) result (said_at context.old number text.now) }
+{
+    if number > SCRIPT_LINES_MOST {
+        return Err(LineFault::Outside);
+    }
+    let said = text_in(alloc, text)?;
+    step(context, &said)?;
+    Ok(said)
+}
+
+// Keeps the line, where there is one.
+fn keep(said: &mut Vec<NumberedLine>, number: u32, line: Option<Line>) -> Result<(), ScriptFault>
+    ensures kept { OnOk result (said.new.items ≡ said.old.items ++ numbered number line) }
+    ensures err { IfErr result (λ e. e ≡ fault.OutOfMemory) }
+{
+    if let Some(line) = line {
+        said.push(NumberedLine { number, line })?;
+    }
+    Ok(())
+}
+
+fn without_return(line: &[u8]) -> &[u8]
+    ensures { result.now ≡ strip_carriage_return line.now }
+{
+    let len = line.len();
+    if len > 0 && line[len - 1] == b'\r' {
+        &line[..len - 1]
+    } else {
+        line
+    }
+}
+
+// The lines of a script that ends here.
+fn ended(
+    context: &Context,
+    number: u32,
+    said: Vec<NumberedLine>,
+) -> Result<Vec<NumberedLine>, ScriptFault>
+    ensures { Gives (λ v. v.items) result (with_front said.items (ended_said context.now number)) }
+{
+    if context.has_servers() {
+        Ok(said)
+    } else {
+        Err(ScriptFault::Bad { line: number })
+    }
+}
+
+// The lines of a script that ends with this line.
+fn last_line(
+    alloc: Global,
+    mut context: Context,
+    number: u32,
+    text: &[u8],
+    mut said: Vec<NumberedLine>,
+) -> Result<Vec<NumberedLine>, ScriptFault>
+    ensures { Gives (λ v. v.items) result (with_front said.items (script_from context number (text.now ∷ []))) }
+{
+    match read_at(alloc, &mut context, number, text) {
+        Ok(line) => {
+            keep(&mut said, number, line)?;
+            ended(&context, number + 1, said)
+        }
+        Err(LineFault::Outside) => Err(ScriptFault::Bad { line: number }),
+        Err(LineFault::OutOfMemory) => Err(ScriptFault::OutOfMemory),
+    }
+}
+
+impl Reader {
+    pub fn new(alloc: Global) -> Reader
+        ensures start { result ≡ at_start }
+        ensures whole { (bytes : List ℕ) → resume result bytes ≡ script bytes }
+    {
+        Reader {
+            alloc,
+            context: Context::new(alloc),
+            lines: 0,
+            partial: Vec::new(alloc),
+            said: Vec::new(alloc),
+        }
+    }
+
+    // Adds a byte to the unfinished line.
+    fn hold(&mut self, byte: u8) -> Result<(), ScriptFault>
+        requires { (byte == 10) ≡ false }
+        ensures { Takes self.old self.new (byte ∷ []) result }
+    {
+        if self.partial.len() > LINE_BYTES {
+            return Err(ScriptFault::Bad {
+                line: self.lines + 1,
+            });
+        }
+        self.partial.push(byte)?;
+        Ok(())
+    }
+
+    // Ends the unfinished line.
+    fn end_line(&mut self) -> Result<(), ScriptFault>
+        ensures { Takes self.old self.new (10 ∷ []) result }
+    {
+        let number = self.lines + 1;
+        let text = without_return(self.partial.as_slice());
+        match read_at(self.alloc, &mut self.context, number, text) {
+            Ok(line) => {
+                keep(&mut self.said, number, line)?;
+                self.lines = number;
+                self.partial.clear();
+                Ok(())
+            }
+            Err(LineFault::Outside) => Err(ScriptFault::Bad { line: number }),
+            Err(LineFault::OutOfMemory) => Err(ScriptFault::OutOfMemory),
+        }
+    }
+
+    fn take(&mut self, byte: u8) -> Result<(), ScriptFault>
+        ensures { Takes self.old self.new (byte ∷ []) result }
+    {
+        if byte == b'\n' {
+            self.end_line()
+        } else {
+            self.hold(byte)
+        }
+    }
+
+    fn take_all(&mut self, piece: &[u8]) -> Result<(), ScriptFault>
+        ensures { Takes self.old self.new piece.now result }
+    {
+        for byte in piece {
+            self.take(*byte)?;
+        }
+        Ok(())
+    }
+
+    // A reader of the same progress that keeps no lines yet.
+    fn follower(&self) -> Result<Reader, AllocError>
+        ensures { IfOk result (λ r. r ≡ record self.now { said = [] }) }
+    {
+        let partial = self.partial.clone()?;
+        let context = self.context.clone()?;
+        Ok(Reader {
+            alloc: self.alloc,
+            context,
+            lines: self.lines,
+            partial,
+            said: Vec::new(self.alloc),
+        })
+    }
+
+    // Goes on from where the follower is, with its lines behind the own ones.
+    fn join(&mut self, follower: Reader) -> Result<(), AllocError>
+        ensures ok { OnOk result (self.new ≡ record follower { said = self.old.said ++ follower.said }) }
+        ensures err { OnErr result (self.new ≡ self.old) }
+    {
+        let Reader {
+            alloc: _,
+            context,
+            lines,
+            partial,
+            mut said,
+        } = follower;
+        self.said.append(&mut said)?;
+        self.context = context;
+        self.lines = lines;
+        self.partial = partial;
+        Ok(())
+    }
+
+    /// Takes the next piece of the script. An `Err` changes nothing.
+    pub fn feed(&mut self, piece: &[u8]) -> Result<(), ScriptFault>
+        ensures taken { Takes self.old self.new piece.now result }
+        ensures unchanged { OnErr result (self.new ≡ self.old) }
+    {
+        let mut follower = self.follower()?;
+        follower.take_all(piece)?;
+        self.join(follower)?;
+        Ok(())
+    }
+
+    /// The lines of the script, where nothing follows.
+    pub fn finish(self) -> Result<Vec<NumberedLine>, ScriptFault>
+        ensures { Gives (λ v. v.items) result (resume self []) }
+    {
+        let Reader {
+            alloc,
+            context,
+            lines,
+            partial,
+            said,
+        } = self;
+        if partial.is_empty() {
+            return ended(&context, lines + 1, said);
+        }
+        last_line(alloc, context, lines + 1, partial.as_slice(), said)
+    }
+}
