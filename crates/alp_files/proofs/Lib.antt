@@ -1,3 +1,4 @@
+pub mod TreeLemmas
 pub mod CellMapLemmas
 pub mod EditLemmas
 pub mod PartLemmas

@@ -51,9 +51,9 @@ OpensWithin-more m n (Some l) le h = omega (arith, h)
 -- the journal goes on by an entry that changes nothing of what it tells but the session
 pub hello_kept : (n : Node) (life : Life) (ds : List (Stamp × Decided)) (client : ℕ) (name : List ℕ) → IsKeptAs n life ds → n.session ≡ None
     → IsKeptAs (record n {
-        journal = n.journal ++ (record { event = event.Call client 0 1 (call.Hello name); reply = Some (reply.Welcome n.opening.epoch); acts = [] }) ∷ [];
-        session = Some (record { client = client; who = name; last = 1 });
-      }) life ds
+      journal = n.journal ++ (record { event = event.Call client 0 1 (call.Hello name); reply = Some (reply.Welcome n.opening.epoch); acts = [] }) ∷ [];
+      session = Some (record { client = client; who = name; last = 1 });
+    }) life ds
 hello_kept n life ds client name h first =
     let e : Entry = record { event = event.Call client 0 1 (call.Hello name); reply = Some (reply.Welcome n.opening.epoch); acts = [] } in
     let more : length n.journal ≤ length (n.journal ++ e ∷ []) = longer n.journal e in
@@ -90,12 +90,12 @@ session_there n life ds s client is own =
 -- the sessions after a call of that client
 sessions_after : (ses : Option Session) (s : Session) (client number : ℕ) → ses ≡ Some s → s.client ≡ client → number ≡ s.last + 1
     → (λ (c : ℕ). cond {A = Option state.Session} (c == client) (Some (record { who = s.who; last = s.last + 1 })) (sessions_of ses c))
-      ≡ sessions_of (Some (record { client = s.client; who = s.who; last = number }))
+    ≡ sessions_of (Some (record { client = s.client; who = s.who; last = number }))
 sessions_after ses s client number is own next_number = λ i c.
-    ( ap (λ (x : Option Session). cond {A = Option state.Session} (c == client) (Some (record { who = s.who; last = s.last + 1 })) (sessions_of x c)) is
+    (ap (λ (x : Option Session). cond {A = Option state.Session} (c == client) (Some (record { who = s.who; last = s.last + 1 })) (sessions_of x c)) is
     ∙ ap (λ (k : ℕ). cond {A = Option state.Session} (c == k) (Some (record { who = s.who; last = s.last + 1 })) (sessions_of (Some s) c)) (sym own)
     ∙ cond_twice {A = Option state.Session} (c == s.client) (Some (record { who = s.who; last = s.last + 1 })) (Some (record { who = s.who; last = s.last })) None
-    ∙ ap (λ (k : ℕ). cond {A = Option state.Session} (c == s.client) (Some (record { who = s.who; last = k })) None) (sym next_number) ) i
+    ∙ ap (λ (k : ℕ). cond {A = Option state.Session} (c == s.client) (Some (record { who = s.who; last = k })) None) (sym next_number)) i
 
 -- a transaction begins
 module _ (n : Node) (life : Life) (ds : List (Stamp × Decided)) (s : Session) (client number : ℕ) (seen_stamp : Stamp) (p : Part) where
@@ -129,13 +129,13 @@ module _ (n : Node) (life : Life) (ds : List (Stamp × Decided)) (s : Session) (
       let clock : max n.clock seen_stamp.ts ≡ n.clock = omega arith in
       let sees : seen n.files p ≡ map.get n.files = ap (λ (puts : Cells). over puts (map.get n.files)) none ∙ over-none (map.get n.files) in
       let lives : (λ (u : TransId). cond {A = Option Life} (same_trans u t) (Some new_life) (lives_of n.live life u)) ≡ lives_of (after_begin.live) new_life =
-          λ i u. (ap (λ (x : Option Live). cond {A = Option Life} (same_trans u t) (Some new_life) (lives_of x life u)) idle) i in
+      λ i u. (ap (λ (x : Option Live). cond {A = Option Life} (same_trans u t) (Some new_life) (lives_of x life u)) idle) i in
       let sessions = sessions_after n.session s client number is own turn in
       record {
         state =
-          state_after-push next (opened n.opening) n.journal e ∙ ap (λ (x : State). next x e) h.state
-          ∙ ap (λ (x : State). state_after after_act x (act.Drawn t ∷ [])) (called-begin k client n.opening.epoch number w seen_stamp (reply.Begun t) (session_there n life ds s client is own) refl turn)
-          ∙ (λ i. record { server = n.opening.server; epoch = n.opening.epoch; clock = clock i; cells = n.files; sessions = sessions i; lives = lives i; drawn = n.trans_count + 1; decided = ds });
+            state_after-push next (opened n.opening) n.journal e ∙ ap (λ (x : State). next x e) h.state
+            ∙ ap (λ (x : State). state_after after_act x (act.Drawn t ∷ [])) (called-begin k client n.opening.epoch number w seen_stamp (reply.Begun t) (session_there n life ds s client is own) refl turn)
+            ∙ (λ i. record { server = n.opening.server; epoch = n.opening.epoch; clock = clock i; cells = n.files; sessions = sessions i; lives = lives i; drawn = n.trans_count + 1; decided = ds });
         serial = h.serial;
         files = h.files;
         made = h.made;
@@ -255,20 +255,20 @@ module _ (o : Opening) (held : Cells) (count : ℕ) (life : Life) (at : Standing
       let v : View = seen held l.part in
       let first : Performs held l.part p (answer o.server [] v l.who (own_of l.part) c r) r = right [] refl in
       let same : answer o.server [] v l.who (own_of l.part) c r ≡ a =
-          ap (λ (x : View). answer o.server [] x l.who (own_of l.part) c r) h.view
-          ∙ ap (λ (x : List ℕ). answer o.server [] (map.get files) x (own_of l.part) c r) (sym h.who)
-          ∙ ap (λ (x : Own). answer o.server [] (map.get files) life.who x c r) h.own in
+      ap (λ (x : View). answer o.server [] x l.who (own_of l.part) c r) h.view
+      ∙ ap (λ (x : List ℕ). answer o.server [] (map.get files) x (own_of l.part) c r) (sym h.who)
+      ∙ ap (λ (x : Own). answer o.server [] (map.get files) life.who x c r) h.own in
       let done : Performs held l.part p a r = subst (λ (x : Answer). Performs held l.part p x r) same first in
       let fresh : has_file id t.made ≡ false = fresh_id o.server o.epoch count t.made h.made in
       let b : Answer = answer_to o.server t life.who d in
       let same_b : answer o.server t.made v l.who (own_of l.part) c r ≡ b =
-          ap (λ (x : View). answer o.server t.made x l.who (own_of l.part) c r) (h.view ∙ ap (λ (x : Cells). map.get x) (sym h.files))
-          ∙ ap (λ (x : List ℕ). answer o.server t.made (map.get t.files) x (own_of l.part) c r) (sym h.who)
-          ∙ ap (λ (x : Own). answer o.server t.made (map.get t.files) life.who x c r) (h.own ∙ sym h.opens) in
+      ap (λ (x : View). answer o.server t.made x l.who (own_of l.part) c r) (h.view ∙ ap (λ (x : Cells). map.get x) (sym h.files))
+      ∙ ap (λ (x : List ℕ). answer o.server t.made (map.get t.files) x (own_of l.part) c r) (sym h.who)
+      ∙ ap (λ (x : Own). answer o.server t.made (map.get t.files) life.who x c r) (h.own ∙ sym h.opens) in
       let done_b : Performs held l.part p b r = subst (λ (x : Answer). Performs held l.part p x r) same_b (right t.made fresh) in
       let pushed : steps o.server base life.who (life.calls ++ d ∷ []) ≡ step o.server t life.who d = steps-push o.server base life.who life.calls d in
       let shown : seen held p ≡ map.get (edits_map (life.edits ++ a.edits) held) =
-          done.view ∙ ap (after a.edits) h.view ∙ sym (get-edits_map a.edits files) ∙ ap (λ (x : Cells). map.get x) (sym (edits_map-append life.edits a.edits held)) in
+      done.view ∙ ap (after a.edits) h.view ∙ sym (get-edits_map a.edits files) ∙ ap (λ (x : Cells). map.get x) (sym (edits_map-append life.edits a.edits held)) in
       record {
         client = h.client;
         who = h.who;
@@ -276,13 +276,13 @@ module _ (o : Opening) (held : Cells) (count : ℕ) (life : Life) (at : Standing
         own = done.own;
         right = AreRight-push o.server base life.who life.calls d h.right done_b.reply;
         files =
-          ap (λ (x : Standing). x.files) pushed
-          ∙ same_cells (edits_map b.edits t.files) (edits_map (life.edits ++ a.edits) held)
-              (get-edits_map b.edits t.files ∙ ap (after b.edits) (ap (λ (x : Cells). map.get x) h.files ∙ sym h.view) ∙ sym done_b.view ∙ shown);
+            ap (λ (x : Standing). x.files) pushed
+            ∙ same_cells (edits_map b.edits t.files) (edits_map (life.edits ++ a.edits) held)
+            (get-edits_map b.edits t.files ∙ ap (after b.edits) (ap (λ (x : Cells). map.get x) h.files ∙ sym h.view) ∙ sym done_b.view ∙ shown);
         opens = ap (λ (x : Standing). x.own) pushed ∙ sym done_b.own ∙ done.own;
         made = subst (λ (x : Standing). AreBelow (count_after count r) x.made) (sym pushed) (made_below id count r t.made refl only h.made);
         unborn = subst (λ (x : View). IsUnborn o.server o.epoch x (count_after count r)) (sym first.view)
-          (unborn_kept o.server o.epoch count [] v l.who (own_of l.part) c r built h.unborn only);
+            (unborn_kept o.server o.epoch count [] v l.who (own_of l.part) c r built h.unborn only);
       }
 
 life_there : (n : Node) (life : Life) (ds : List (Stamp × Decided)) (l : Live) (t : TransId) → n.live ≡ Some l → l.trans ≡ t → (kept_state n life ds).lives t ≡ Some life
@@ -295,9 +295,9 @@ life_there n life ds l t is own =
 lives_after : (live : Option Live) (l m : Live) (t : TransId) (old : Life) (new : Option Life) → live ≡ Some l → l.trans ≡ t
     → ◌≡◌ {A = TransId → Option Life} (λ (u : TransId). cond {A = Option Life} (same_trans u t) new (lives_of live old u)) (λ (u : TransId). cond {A = Option Life} (same_trans u l.trans) new None)
 lives_after live l m t old new is own = λ i u.
-    ( ap (λ (x : Option Live). cond {A = Option Life} (same_trans u t) new (lives_of x old u)) is
+    (ap (λ (x : Option Live). cond {A = Option Life} (same_trans u t) new (lives_of x old u)) is
     ∙ ap (λ (v : TransId). cond {A = Option Life} (same_trans u v) new (lives_of (Some l) old u)) (sym own)
-    ∙ cond_twice {A = Option Life} (same_trans u l.trans) new (Some old) None ) i
+    ∙ cond_twice {A = Option Life} (same_trans u l.trans) new (Some old) None) i
 
 on_some : (o : Opening) (held : Cells) (count : ℕ) (life : Life) (at : Standing) (live : Option Live) (l : Live) → live ≡ Some l → OnLife o held count life at live → IsLife o held count life at l
 on_some o held count life at live l is h = subst (λ (x : Option Live). OnLife o held count life at x) is h
@@ -329,10 +329,10 @@ module _ (n : Node) (life : Life) (ds : List (Stamp × Decided)) (s : Session) (
       let within : l.part.last ≤ length n.journal = subst (λ (x : Option Live). OpensWithin (length n.journal) x) runs h.counted.opens in
       record {
         state =
-          state_after-push next (opened n.opening) n.journal e ∙ ap (λ (x : State). next x e) h.state
-          ∙ called-next k client n.opening.epoch number w c r (Some t) (session_there n life ds s client is own) refl turn (quiet_built c built) of
-          ∙ does_call-performs (with_session k client (Some (record w { last = w.last + 1 }))) c r t life plain there
-          ∙ (λ i. record { server = n.opening.server; epoch = n.opening.epoch; clock = n.clock; cells = n.files; sessions = sessions i; lives = lives i; drawn = n.trans_count; decided = ds });
+            state_after-push next (opened n.opening) n.journal e ∙ ap (λ (x : State). next x e) h.state
+            ∙ called-next k client n.opening.epoch number w c r (Some t) (session_there n life ds s client is own) refl turn (quiet_built c built) of
+            ∙ does_call-performs (with_session k client (Some (record w { last = w.last + 1 }))) c r t life plain there
+            ∙ (λ i. record { server = n.opening.server; epoch = n.opening.epoch; clock = n.clock; cells = n.files; sessions = sessions i; lives = lives i; drawn = n.trans_count; decided = ds });
         serial = h.serial;
         files = h.files;
         made = AreBelow-more n.file_count (count_after n.file_count r) (standing_after n ds).made (count_grows n.file_count r) h.made;
@@ -392,14 +392,14 @@ module _ (n : Node) (life : Life) (ds : List (Stamp × Decided)) (s : Session) (
       let thread : Standing = starting n.opening.cells.value in
       let list : List Decided = list_map (λ (y : Stamp × Decided). y.1) ds in
       let pushed : standing_after n (ds ++ decided_now ∷ []) ≡ steps n.opening.server (begun (standing_after n ds)) life.who life.calls =
-          ap (serial_end n.opening.server thread) (decided_push ds decided_now) ∙ serial_end-push n.opening.server thread list decided_now.1 in
+      ap (serial_end n.opening.server thread) (decided_push ds decided_now) ∙ serial_end-push n.opening.server thread list decided_now.1 in
       record {
         state =
-          state_after-push next (opened n.opening) n.journal e ∙ ap (λ (x : State). next x e) h.state
-          ∙ ap (λ (x : State). state_after after_act x (act.Decided stamp [] ∷ act.Released t ∷ []))
-              (called-next k client n.opening.epoch number w (call.Finish t true) (reply.Committed stamp) None (session_there n life ds s client is own) refl turn tt refl)
-          ∙ ap (λ (x : Option Life). with_life (decides (with_session k client (Some (record w { last = w.last + 1 }))) stamp x) t None) there
-          ∙ (λ i. record { server = n.opening.server; epoch = n.opening.epoch; clock = clock i; cells = cells i; sessions = sessions i; lives = lives i; drawn = n.trans_count; decided = places i });
+            state_after-push next (opened n.opening) n.journal e ∙ ap (λ (x : State). next x e) h.state
+            ∙ ap (λ (x : State). state_after after_act x (act.Decided stamp [] ∷ act.Released t ∷ []))
+            (called-next k client n.opening.epoch number w (call.Finish t true) (reply.Committed stamp) None (session_there n life ds s client is own) refl turn tt refl)
+            ∙ ap (λ (x : Option Life). with_life (decides (with_session k client (Some (record w { last = w.last + 1 }))) stamp x) t None) there
+            ∙ (λ i. record { server = n.opening.server; epoch = n.opening.epoch; clock = clock i; cells = cells i; sessions = sessions i; lives = lives i; drawn = n.trans_count; decided = places i });
         serial = subst (λ (x : List Decided). IsSerial n.opening.server thread x) (sym (decided_push ds decided_now)) (IsSerial-push n.opening.server thread list decided_now.1 h.serial was.right);
         files = ap (λ (x : Standing). x.files) pushed ∙ was.files ∙ cells;
         made = subst (λ (x : Standing). AreBelow n.file_count x.made) (sym pushed) was.made;
@@ -420,20 +420,28 @@ module _ (n : Node) (life : Life) (ds : List (Stamp × Decided)) (s : Session) (
 
 abbrev pub new_node : Opening → Cells → List Entry → Node
 new_node o files js = record {
-  opening = o; clock = o.clock; trans_count = 0; file_count = 0; committed = 0; session = None; live = None; files = files; journal = js
+  opening = o;
+  clock = o.clock;
+  trans_count = 0;
+  file_count = 0;
+  committed = 0;
+  session = None;
+  live = None;
+  files = files;
+  journal = js;
 }
 
 pub new_kept : (o : Opening) (files : Cells) (js : List Entry) (life : Life) → o.cells.value ≡ files → files ≡ map.empty → o.clock ≡ 0 → js ≡ [] → IsKeptAs (new_node o files js) life []
 new_kept o files js life is none clock empty = record {
-    state =
+  state =
       ap (state_after next (opened o)) empty
       ∙ (λ i. record { server = o.server; epoch = o.epoch; clock = o.clock; cells = is i; sessions = λ c. None; lives = λ t. None; drawn = 0; decided = [] });
-    serial = tt;
-    files = is;
-    made = tt;
-    earlier = tt;
-    committed = refl;
-    unborn = λ n high. ap (λ (x : Cells). map.get x (Leader (record { server = o.server; epoch = o.epoch; counter = n }))) none ∙ get_cell [] (Leader (record { server = o.server; epoch = o.epoch; counter = n }));
-    live = tt;
-    counted = record { clock = omega (arith, clock); trans = omega arith; files = omega arith; committed = omega arith; opens = tt };
-  }
+  serial = tt;
+  files = is;
+  made = tt;
+  earlier = tt;
+  committed = refl;
+  unborn = λ n high. ap (λ (x : Cells). map.get x (Leader (record { server = o.server; epoch = o.epoch; counter = n }))) none ∙ get_cell [] (Leader (record { server = o.server; epoch = o.epoch; counter = n }));
+  live = tt;
+  counted = record { clock = omega (arith, clock); trans = omega arith; files = omega arith; committed = omega arith; opens = tt };
+}

@@ -19,8 +19,10 @@ returns-clause-kept c =
     let t : TransId = record { server = c.args.self.now.opening.server; epoch = c.args.self.now.opening.epoch; counter = c.args.self.now.trans_count + 1 } in
     let turn : (s.client ≡ c.args.client) × (c.args.number ≡ s.last + 1) = subst (λ (x : Option Session). IsNext x c.args.client c.args.number) c.unwrap-session.ensures c.requires.turn in
     let journal : c.push.new.self ≡ c.args.self.now.journal ++ (record { event = event.Call c.args.client c.args.self.now.opening.epoch c.args.number (call.Begin c.args.seen); reply = Some (reply.Begun t); acts = act.Drawn t ∷ [] }) ∷ [] =
-        c.in_ok-push.ensures.ok
-        ∙ ap (λ (acts : List Act). c.args.self.now.journal ++ (record { event = event.Call c.args.client c.args.self.now.opening.epoch c.args.number (call.Begin c.args.seen); reply = Some (reply.Begun t); acts = acts }) ∷ []) (c.new-acts.ensures ∙ c.in_ok-vec.ensures.items) in
-    (new_life c.args.self.now life ds s c.args.client c.args.number c.args.seen c.new.result, ds,
+    c.in_ok-push.ensures.ok
+    ∙ ap (λ (acts : List Act). c.args.self.now.journal ++ (record { event = event.Call c.args.client c.args.self.now.opening.epoch c.args.number (call.Begin c.args.seen); reply = Some (reply.Begun t); acts = acts }) ∷ []) (c.new-acts.ensures ∙ c.in_ok-vec.ensures.items) in (
+      new_life c.args.self.now life ds s c.args.client c.args.number c.args.seen c.new.result,
+      ds,
       subst (λ (js : List Entry). IsKeptAs (record (after_begin c.args.self.now life ds s c.args.client c.args.number c.args.seen c.new.result) { journal = js }) (new_life c.args.self.now life ds s c.args.client c.args.number c.args.seen c.new.result) ds) (sym journal)
-        (begin_kept c.args.self.now life ds s c.args.client c.args.number c.args.seen c.new.result h c.unwrap-session.ensures turn.0 turn.1 c.requires.idle c.requires.heard c.new.ensures.own c.new.ensures.intents))
+          (begin_kept c.args.self.now life ds s c.args.client c.args.number c.args.seen c.new.result h c.unwrap-session.ensures turn.0 turn.1 c.requires.idle c.requires.heard c.new.ensures.own c.new.ensures.intents),
+    )

@@ -25,11 +25,13 @@ returns-clause-kept c =
     let this : l.trans ≡ c.args.trans = subst (λ (x : Option Live). IsRunning x c.args.trans) runs c.requires.running in
     let entry : List Act → Entry = λ (acts : List Act). record { event = event.Call c.args.client c.args.self.now.opening.epoch c.args.number (call.Finish c.args.trans true); reply = Some (reply.Committed stamp); acts = acts } in
     let journal : c.push.new.self ≡ c.args.self.now.journal ++ entry (act.Decided stamp [] ∷ act.Released c.args.trans ∷ []) ∷ [] =
-        c.in_ok-push.ensures.ok
-        ∙ ap (λ (acts : List Act). c.args.self.now.journal ++ entry acts ∷ []) (c.new-acts.ensures ∙ c.in_ok-vec.ensures.items)
-        ∙ ap (λ (parts : List JoinNo). c.args.self.now.journal ++ entry (act.Decided stamp parts ∷ act.Released c.args.trans ∷ []) ∷ []) (c.new-parts.ensures ∙ c.new.ensures.items) in
-    let ds2 = ds ++ decided_now c.args.self.now life ds s c.args.client c.args.number l c.args.trans c.absorb.new.self ∷ [] in
-    (life, ds2,
+    c.in_ok-push.ensures.ok
+    ∙ ap (λ (acts : List Act). c.args.self.now.journal ++ entry acts ∷ []) (c.new-acts.ensures ∙ c.in_ok-vec.ensures.items)
+    ∙ ap (λ (parts : List JoinNo). c.args.self.now.journal ++ entry (act.Decided stamp parts ∷ act.Released c.args.trans ∷ []) ∷ []) (c.new-parts.ensures ∙ c.new.ensures.items) in
+    let ds2 = ds ++ decided_now c.args.self.now life ds s c.args.client c.args.number l c.args.trans c.absorb.new.self ∷ [] in (
+      life,
+      ds2,
       subst (λ (x : Option Live). IsKeptAs (record (after_commit c.args.self.now life ds s c.args.client c.args.number l c.args.trans c.absorb.new.self) { live = x; journal = c.push.new.self }) life ds2) (sym c.in-Some.ensures.after)
-        (subst (λ (js : List Entry). IsKeptAs (record (after_commit c.args.self.now life ds s c.args.client c.args.number l c.args.trans c.absorb.new.self) { journal = js }) life ds2) (sym journal)
-          (commit_kept c.args.self.now life ds s c.args.client c.args.number l c.args.trans c.absorb.new.self h c.unwrap-session.ensures turn.0 turn.1 runs this c.in_ok-absorb.ensures)))
+          (subst (λ (js : List Entry). IsKeptAs (record (after_commit c.args.self.now life ds s c.args.client c.args.number l c.args.trans c.absorb.new.self) { journal = js }) life ds2) (sym journal)
+          (commit_kept c.args.self.now life ds s c.args.client c.args.number l c.args.trans c.absorb.new.self h c.unwrap-session.ensures turn.0 turn.1 runs this c.in_ok-absorb.ensures)),
+    )

@@ -13,7 +13,10 @@ pub returns-clause-kept : goal.returns-clause-kept
 returns-clause-kept c =
     let (life, ds, h) = c.requires.kept in
     let journal : c.push.new.self ≡ c.args.self.now.journal ++ (record { event = event.Call c.args.client 0 1 (call.Hello c.args.name); reply = Some (reply.Welcome c.args.self.now.opening.epoch); acts = [] }) ∷ [] =
-        c.in_ok-push.ensures.ok
-        ∙ ap (λ (acts : List Act). c.args.self.now.journal ++ (record { event = event.Call c.args.client 0 1 (call.Hello c.args.name); reply = Some (reply.Welcome c.args.self.now.opening.epoch); acts = acts }) ∷ []) (c.new-acts.ensures ∙ c.new.ensures.items) in
-    (life, ds, subst (λ (js : List Entry). IsKeptAs (record c.args.self.now { session = Some (record { client = c.args.client; who = c.args.name; last = 1 }); journal = js }) life ds) (sym journal)
-      (hello_kept c.args.self.now life ds c.args.client c.args.name h c.requires.first))
+    c.in_ok-push.ensures.ok
+    ∙ ap (λ (acts : List Act). c.args.self.now.journal ++ (record { event = event.Call c.args.client 0 1 (call.Hello c.args.name); reply = Some (reply.Welcome c.args.self.now.opening.epoch); acts = acts }) ∷ []) (c.new-acts.ensures ∙ c.new.ensures.items) in (
+      life,
+      ds,
+      subst (λ (js : List Entry). IsKeptAs (record c.args.self.now { session = Some (record { client = c.args.client; who = c.args.name; last = 1 }); journal = js }) life ds) (sym journal)
+          (hello_kept c.args.self.now life ds c.args.client c.args.name h c.requires.first),
+    )
