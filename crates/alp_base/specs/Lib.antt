@@ -5,3 +5,5 @@ pub mod IdText
 pub mod Keys
 pub mod KeyLaws
 pub mod Causes
+pub mod Forms
+pub mod Fields
