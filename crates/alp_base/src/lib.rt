@@ -5,6 +5,7 @@
 mod bytes;
 mod choices;
 mod faults;
+mod fields;
 mod id_text;
 mod ids;
 mod key;
@@ -16,6 +17,7 @@ mod page;
 pub use bytes::{Bytes, NoteChange};
 pub use choices::{Access, Choice};
 pub use faults::{Failed, Halt, Sizes, VaultFault};
+pub use fields::FieldReader;
 pub use ids::{FileId, JoinNo, Run, Stamp, TransId};
 pub use key::{Key, Resource};
 pub use lists::{AccessList, NAMES_PER_LIST, PAGES_PER_FILE, PageList};

@@ -1,0 +1,5 @@
+//! Fields as bytes: readers of the front of bytes, and writers.
+mod numbers;
+mod reader;
+
+pub use reader::FieldReader;
