@@ -1,6 +1,5 @@
 -- The forms of the fields of frames, records and pages.
-use Rattle.std.specs.Prelude.{◌≡◌, ℕ, ◌-◌, ◌<◌, ◌^◌, Bool, true, false, nat_lt, nat_le, List, [], ◌∷◌, ◌++◌, length, Option, Some, None, if◌then◌else◌}
-use Rattle.std.specs.Int.{w16, w32, w64}
+use Rattle.std.specs.Prelude.{◌≡◌, ℕ, ◌-◌, ◌<◌, ◌^◌, Bool, true, false, nat_le, List, [], ◌∷◌, ◌++◌, length}
 use Rattle.alp_base.specs.declared.ids.FileId.{FileId}
 use Rattle.alp_base.specs.declared.ids.TransId.{TransId}
 use Rattle.alp_base.specs.declared.ids.JoinNo.{JoinNo}
@@ -17,37 +16,23 @@ use Rattle.alp_base.specs.declared.key.Resource.TheVariants.{Whole, Leaf}
 use Rattle.alp_base.specs.declared.lists.TheConstants.{NAMES_PER_LIST}
 use Rattle.alp_base.specs.Names.{is_name}
 use Rattle.alp_base.specs.Pages.{page_bytes}
-use Rattle.alp_base.specs.Forms.{Form, pair, mapped, checked, sized, repeated, zeros_behind, read_choice, just, variant, bytes_of, number_of}
-
--- ---- numbers: their bytes, the highest first
-
-abbrev pub read_byte : List ℕ → Option (ℕ × List ℕ)
-read_byte [] = None
-read_byte (b ∷ rest) = if nat_lt b (2 ^ 8) then Some (b, rest) else None
-
-unfoldable pub u8 : Form ℕ
-u8 = record { spell = λ n. n ∷ []; Fits = λ n. n < 2 ^ 8; read = read_byte }
-
-unfoldable pub u16 : Form ℕ
-u16 = number_of w16
-
-unfoldable pub u32 : Form ℕ
-u32 = number_of w32
-
-unfoldable pub u64 : Form ℕ
-u64 = number_of w64
+use Rattle.alp_base.specs.Forms.{Form, pair, mapped, checked, sized, repeated, zeros_behind, read_choice, just, variant, bytes_of, u8, u32, u64}
 
 -- ---- ids, stamps and runs
 
+-- server, epoch and counter
+abbrev pub id_parts : Form (ℕ × (ℕ × ℕ))
+id_parts = pair u8 (pair u32 u32)
+
 
 unfoldable pub file_id : Form FileId
-file_id = mapped (λ x. record { server = x.0; epoch = x.1.0; counter = x.1.1 }) (λ i. (i.server, (i.epoch, i.counter))) (pair u8 (pair u32 u32))
+file_id = mapped (λ x. record { server = x.0; epoch = x.1.0; counter = x.1.1 }) (λ i. (i.server, (i.epoch, i.counter))) id_parts
 
 unfoldable pub trans_id : Form TransId
-trans_id = mapped (λ x. record { server = x.0; epoch = x.1.0; counter = x.1.1 }) (λ i. (i.server, (i.epoch, i.counter))) (pair u8 (pair u32 u32))
+trans_id = mapped (λ x. record { server = x.0; epoch = x.1.0; counter = x.1.1 }) (λ i. (i.server, (i.epoch, i.counter))) id_parts
 
 unfoldable pub join_no : Form JoinNo
-join_no = mapped (λ x. record { server = x.0; epoch = x.1.0; counter = x.1.1 }) (λ i. (i.server, (i.epoch, i.counter))) (pair u8 (pair u32 u32))
+join_no = mapped (λ x. record { server = x.0; epoch = x.1.0; counter = x.1.1 }) (λ i. (i.server, (i.epoch, i.counter))) id_parts
 
 -- a time of at most 2 ^ 62, and the transaction
 abbrev pub is_time : ℕ → Bool

@@ -1,7 +1,7 @@
 -- Forms: how values are spelled as bytes, and how they are read from the front of bytes.
 use Rattle.std.specs.Prelude.{◌≡◌, ℕ, zero, suc, ◌*◌, ◌-◌, ◌<◌, ◌^◌, Bool, true, ◌&&◌, ◌==◌, nat_lt, nat_le, List, [], ◌∷◌, ◌++◌, length, take, drop, replicate, Option, Some, None, if◌then◌else◌}
 use Rattle.std.specs.List.{flat_map, list_all, AllByRecursion}
-use Rattle.std.specs.Int.{Width, byte_len, to_be_bytes, from_be_bytes}
+use Rattle.std.specs.Int.{Width, w16, w32, w64, byte_len, to_be_bytes, from_be_bytes}
 
 -- A form of the values of T: the bytes that spell a value, which values have a spelling, and what is read
 -- from the front of bytes, with the bytes that follow it. Nothing is read where no spelling stands in front.
@@ -35,6 +35,10 @@ pub record IsWritten {T : Type 0} (form : Form T) (v : T) (old new : List ℕ) :
 abbrev pub ended : {T : Type 0} → Option (T × List ℕ) → Option T
 ended None = None
 ended (Some x) = if length x.1 == 0 then Some x.0 else None
+
+-- new is old with something or nothing behind it
+abbrev pub Extends : List ℕ → List ℕ → Type 0
+Extends old new = take (length old) new ≡ old
 
 -- the value that all of the bytes spell, if they spell one
 abbrev pub whole : {T : Type 0} → Form T → List ℕ → Option T
@@ -114,24 +118,6 @@ zeros_behind n a = record {
     if length (take n x.1) == n && list_all (λ b. b == 0) (take n x.1) then Some (x.0, drop n x.1) else None;
 }
 
--- which reader goes with the tag in front
-abbrev pub read_tagged : {T : Type 0} → List (ℕ × (List ℕ → Option (T × List ℕ))) → ℕ → List ℕ → Option (T × List ℕ)
-read_tagged [] tag bytes = None
-read_tagged (choice ∷ choices) tag bytes = if tag == choice.0 then choice.1 bytes else read_tagged choices tag bytes
-
-abbrev pub read_choice : {T : Type 0} → List (ℕ × (List ℕ → Option (T × List ℕ))) → List ℕ → Option (T × List ℕ)
-read_choice choices [] = None
-read_choice choices (tag ∷ bytes) = read_tagged choices tag bytes
-
--- the variants of a choice: one that is its tag alone, and one that has a value behind the tag
-abbrev pub just : {T : Type 0} → T → List ℕ → Option (T × List ℕ)
-just v bytes = Some (v, bytes)
-
-abbrev pub variant : {A T : Type 0} → (A → T) → Form A → List ℕ → Option (T × List ℕ)
-variant into a bytes = do
-  x ← a.read bytes
-  Some (into x.0, x.1)
-
 -- ---- forms of bytes and numbers
 
 -- n bytes, whatever they are
@@ -150,3 +136,44 @@ number_of w = record {
   read = λ bytes. let front = take (byte_len w) bytes in
     if length front == byte_len w && list_all (λ b. nat_lt b 256) front then Some (from_be_bytes w front, drop (byte_len w) bytes) else None;
 }
+
+-- ---- numbers: their bytes, the highest first
+
+abbrev pub read_byte : List ℕ → Option (ℕ × List ℕ)
+read_byte [] = None
+read_byte (b ∷ rest) = if nat_lt b (2 ^ 8) then Some (b, rest) else None
+
+unfoldable pub u8 : Form ℕ
+u8 = record { spell = λ n. n ∷ []; Fits = λ n. n < 2 ^ 8; read = read_byte }
+
+unfoldable pub u16 : Form ℕ
+u16 = number_of w16
+
+unfoldable pub u32 : Form ℕ
+u32 = number_of w32
+
+unfoldable pub u64 : Form ℕ
+u64 = number_of w64
+
+-- ---- choices: a tag in front, and what goes with it
+
+-- the reader of a variant that is its tag alone
+abbrev pub just : {T : Type 0} → T → List ℕ → Option (T × List ℕ)
+just v bytes = Some (v, bytes)
+
+-- the reader of a variant that has a value behind its tag
+abbrev pub variant : {A T : Type 0} → (A → T) → Form A → List ℕ → Option (T × List ℕ)
+variant into a bytes = do
+  x ← a.read bytes
+  Some (into x.0, x.1)
+
+-- the reader that goes with the tag
+abbrev pub read_tagged : {T : Type 0} → List (ℕ × (List ℕ → Option (T × List ℕ))) → ℕ → List ℕ → Option (T × List ℕ)
+read_tagged [] tag bytes = None
+read_tagged (choice ∷ choices) tag bytes = if tag == choice.0 then choice.1 bytes else read_tagged choices tag bytes
+
+-- a tag, and what its reader reads
+abbrev pub read_choice : {T : Type 0} → List (ℕ × (List ℕ → Option (T × List ℕ))) → List ℕ → Option (T × List ℕ)
+read_choice choices bytes = do
+  tag ← u8.read bytes
+  read_tagged choices tag.0 tag.1

@@ -1,4 +1,5 @@
 //! Fields as bytes: readers of the front of bytes, and writers.
+mod ids;
 mod numbers;
 mod reader;
 
