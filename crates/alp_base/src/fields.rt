@@ -1,5 +1,7 @@
 //! Fields as bytes: readers of the front of bytes, and writers.
+mod choices;
 mod ids;
+mod names;
 mod numbers;
 mod reader;
 
