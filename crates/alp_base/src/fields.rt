@@ -1,6 +1,7 @@
 //! Fields as bytes: readers of the front of bytes, and writers.
 mod choices;
 mod ids;
+mod keys;
 mod names;
 mod numbers;
 mod reader;

@@ -1,5 +1,5 @@
 //! Bytes, names and pages.
-ghost use Rattle.std.specs.Prelude.{◌≡◌, ◌<◌, ◌^◌, OnOk, OnErr, IfOk, length, option_map};
+ghost use Rattle.std.specs.Prelude.{◌≡◌, ◌<◌, ◌^◌, OnOk, OnErr, IfSome, length, option_map};
 ghost use Rattle.alp_base.specs.Forms.{IsRead, IsWritten, Extends, bytes_of};
 ghost use Rattle.alp_base.specs.Fields.{name, page};
 
@@ -10,7 +10,8 @@ use std::alloc::Global;
 impl<'a> FieldReader<'a> {
     /// The next so many bytes, whatever they are.
     pub fn bytes(&mut self, count: usize) -> Option<&'a [u8]>
-        ensures { IsRead (bytes_of count) self.old self.new (option_map (λ b. b.now) result) }
+        ensures read { IsRead (bytes_of count) self.old self.new (option_map (λ b. b.now) result) }
+        ensures all { IfSome result (λ b. length b.now ≡ count) }
     {
         let bytes = self.rest;
         if bytes.len() < count {
@@ -35,7 +36,9 @@ impl<'a> FieldReader<'a> {
         ensures { IsRead page self.old self.new result }
     {
         let bytes = self.bytes(PAGE_BYTES)?;
-        Some(Page::beginning(bytes))
+        let mut whole = [0u8; 512];
+        whole.copy_from_slice(bytes);
+        Some(Page::new(whole))
     }
 }
 
