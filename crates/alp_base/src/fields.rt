@@ -2,6 +2,7 @@
 mod choices;
 mod ids;
 mod keys;
+mod lists;
 mod names;
 mod numbers;
 mod reader;
