@@ -1,8 +1,10 @@
 //! Access lists, and pages in a row: a count, and that many.
-ghost use Rattle.std.specs.Prelude.{◌≡◌, ◌<◌, ◌≤◌, ◌^◌, List, OnOk, OnErr, IfOk, IfSome, length, option_map};
+ghost use Rattle.std.specs.Prelude.{◌≡◌, ◌<◌, ◌≤◌, ◌^◌, OnOk, OnErr, IfOk, IfSome, length, option_map};
 ghost use Rattle.alp_base.specs.Forms.{IsRead, IsWritten, Extends, repeated};
 ghost use Rattle.alp_base.specs.Fields.{name, page, list, list_count, pages, some_count};
 
+use crate::fields::names::{put_name, put_page};
+use crate::fields::numbers::put_u8;
 use crate::{AccessList, FieldReader, NAMES_PER_LIST, Name, OutOfMemory, PageList, PageRef};
 use std::alloc::Global;
 
@@ -77,4 +79,72 @@ impl<'a> FieldReader<'a> {
         };
         Ok(Some(PageList::new(found)))
     }
+}
+
+fn append_names(out: &mut Vec<u8>, names: &[Name]) -> Result<(), OutOfMemory>
+    ensures ok { OnOk result (IsWritten (repeated name (length names.now)) names.now out.old.items out.new.items) }
+    ensures err { OnErr result (Extends out.old.items out.new.items) }
+{
+    for next in names {
+        put_name(out, next)?;
+    }
+    Ok(())
+}
+
+#[tactic(auto, unfolding(crate::specs::Fields::list, crate::specs::Fields::list_count))]
+fn append_list(out: &mut Vec<u8>, names: &[Name]) -> Result<(), OutOfMemory>
+    requires { length names.now ≤ NAMES_PER_LIST }
+    ensures ok { OnOk result (IsWritten list names.now out.old.items out.new.items) }
+    ensures err { OnErr result (Extends out.old.items out.new.items) }
+{
+    put_u8(out, names.len() as u8)?;
+    append_names(out, names)
+}
+
+pub fn put_list(out: &mut Vec<u8>, names: &AccessList) -> Result<(), OutOfMemory>
+    ensures ok { OnOk result (IsWritten list names.now out.old.items out.new.items) }
+    ensures err { OnErr result (out.new.items ≡ out.old.items) }
+{
+    let begun = out.len();
+    let done = append_list(out, names.names());
+    if done.is_err() {
+        out.truncate(begun);
+    }
+    done
+}
+
+fn append_page_refs(out: &mut Vec<u8>, pages: &[PageRef]) -> Result<(), OutOfMemory>
+    ensures ok { OnOk result (IsWritten (repeated page (length pages.now)) pages.now out.old.items out.new.items) }
+    ensures err { OnErr result (Extends out.old.items out.new.items) }
+{
+    for next in pages {
+        put_page(out, next.bytes())?;
+    }
+    Ok(())
+}
+
+#[tactic(auto, unfolding(crate::specs::Fields::pages, crate::specs::Fields::some_count))]
+fn append_pages(out: &mut Vec<u8>, given: &[PageRef]) -> Result<(), OutOfMemory>
+    requires some { 0 < length given.now }
+    requires few { length given.now < 2 ^ 8 }
+    ensures ok { OnOk result (IsWritten pages given.now out.old.items out.new.items) }
+    ensures err { OnErr result (Extends out.old.items out.new.items) }
+{
+    put_u8(out, given.len() as u8)?;
+    append_page_refs(out, given)
+}
+
+/// Writes pages, of which there are some and no more than a byte counts.
+pub fn put_pages(out: &mut Vec<u8>, given: &PageList) -> Result<(), OutOfMemory>
+    requires some { 0 < length given.now }
+    requires few { length given.now < 2 ^ 8 }
+    ensures ok { OnOk result (IsWritten pages given.now out.old.items out.new.items) }
+    ensures err { OnErr result (out.new.items ≡ out.old.items) }
+{
+    let begun = out.len();
+    let done = append_pages(out, given.pages());
+    if done.is_err() {
+        out.truncate(begun);
+    }
+    done
 }

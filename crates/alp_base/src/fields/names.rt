@@ -2,6 +2,7 @@
 ghost use Rattle.std.specs.Prelude.{◌≡◌, ◌<◌, ◌^◌, OnOk, OnErr, IfSome, length, option_map};
 ghost use Rattle.alp_base.specs.Forms.{IsRead, IsWritten, Extends, bytes_of};
 ghost use Rattle.alp_base.specs.Fields.{name, page};
+ghost use Rattle.alp_base.specs.Pages.{page_bytes};
 
 use crate::fields::numbers::put_u8;
 use crate::{FieldReader, Name, OutOfMemory, PAGE_BYTES, Page, PageRef};
@@ -71,4 +72,14 @@ pub fn put_name(out: &mut Vec<u8>, spelled: &Name) -> Result<(), OutOfMemory>
         out.truncate(begun);
     }
     done
+}
+
+/// Writes the bytes of a page.
+#[tactic(auto, unfolding(crate::specs::Fields::page))]
+pub fn put_page(out: &mut Vec<u8>, bytes: &[u8]) -> Result<(), OutOfMemory>
+    requires { length bytes.now ≡ page_bytes }
+    ensures ok { OnOk result (IsWritten page bytes.now out.old.items out.new.items) }
+    ensures err { OnErr result (out.new.items ≡ out.old.items) }
+{
+    put_bytes(out, bytes)
 }

@@ -1,0 +1,134 @@
+-- The laws of forms that are made of others: each from those of its parts.
+use Rattle.std.proofs.Common.{◌≡◌, ℕ, zero, suc, ◌+◌, ◌-◌, ◌*◌, ◌<◌, ◌≤◌, ◌^◌, Bool, true, false, cond, eqb, ◌&&◌, List, [], ◌∷◌, ◌++◌, length, get_or, take, drop, replicate, Option, Some, None, refl, sym, ap, subst, ◌∙◌, append_assoc, arith, length-append, length-take, ◌⊎◌, inl, inr}
+use Rattle.std.specs.Prelude.{nat_lt, nat_le, ◌==◌}
+use Rattle.std.specs.List.{flat_map, list_all, AllByRecursion}
+use Rattle.std.proofs.lemmas.List.{length-replicate, append-nil, take_at, drop_at, take-append-drop, nil_from_length}
+use Rattle.std.proofs.lemmas.Bool.{eqb-true, leb-true, le-leb, ltb-true}
+use Rattle.alp_base.specs.Forms.{Form, IsForm, ◌>>=◌, pair, mapped, checked, sized, read_repeated, repeated, zeros_behind, bytes_of, ended, whole}
+
+-- ---- what a step that read something says
+
+pub step_some : {A B : Type 0} (r : Option (A × List ℕ)) (next : A × List ℕ → Option (B × List ℕ)) (y : B × List ℕ) → (r >>= next) ≡ Some y → (x : A × List ℕ) × (r ≡ Some x) × (next x ≡ Some y)
+step_some None next y e = absurd cc
+step_some (Some x) next y e = (x, refl, e)
+
+pub guard_some : {X : Type 0} (b : Bool) (x y : X) → cond b (Some x) None ≡ Some y → (b ≡ true) × (x ≡ y)
+guard_some true x y e = (refl, cc)
+guard_some false x y e = absurd cc
+
+pub some_is : {X : Type 0} (x y : X) → ◌≡◌ {A = Option X} (Some x) (Some y) → x ≡ y
+some_is x y e = cc
+
+-- what was read: the bytes are the spelling and what follows, and the value is one of the form
+abbrev pub Spells : {T : Type 0} → Form T → List ℕ → T × List ℕ → Type 0
+Spells form bytes x = (bytes ≡ form.spell x.0 ++ x.1) × form.Fits x.0
+
+-- ---- the parts
+
+pub pair_law : {A B : Type 0} (a : Form A) (b : Form B) → IsForm a → IsForm b → IsForm (pair a b)
+pair_law {A} {B} a b la lb = record {
+  back = λ v rest fits.
+    let one : a.read ((a.spell v.0 ++ b.spell v.1) ++ rest) ≡ Some (v.0, b.spell v.1 ++ rest) = ap a.read (append_assoc (a.spell v.0) (b.spell v.1) rest) ∙ la.back v.0 (b.spell v.1 ++ rest) fits.0 in
+    rw (one, lb.back v.1 rest fits.1) refl;
+  spelled = λ bytes v rest e.
+    let p = step_some (a.read bytes) (λ x. b.read x.1 >>= λ y. Some ((x.0, y.0), y.1)) (v, rest) e in
+    let q = step_some (b.read p.0.1) (λ y. Some ((p.0.0, y.0), y.1)) (v, rest) p.2 in
+    let front = la.spelled bytes p.0.0 p.0.1 p.1 in
+    let behind = lb.spelled p.0.1 q.0.0 q.0.1 q.1 in
+    let made : (A × B) × List ℕ = ((p.0.0, q.0.0), q.0.1) in
+    subst (Spells (pair a b) bytes) (some_is made (v, rest) q.2)
+      (front.0 ∙ ap (λ (bs : List ℕ). a.spell p.0.0 ++ bs) behind.0 ∙ sym (append_assoc (a.spell p.0.0) (b.spell q.0.0) q.0.1), (front.1, behind.1));
+}
+
+-- the two functions undo each other
+pub mapped_law : {A T : Type 0} (into : A → T) (out : T → A) (a : Form A) → ((v : T) → into (out v) ≡ v) → ((x : A) → out (into x) ≡ x) → IsForm a → IsForm (mapped into out a)
+mapped_law {A} {T} into out a there here la = record {
+  back = λ v rest fits. rw (la.back (out v) rest fits) (ap (λ (w : T). Some (w, rest)) (there v));
+  spelled = λ bytes v rest e.
+    let p = step_some (a.read bytes) (λ x. Some (into x.0, x.1)) (v, rest) e in
+    let front = la.spelled bytes p.0.0 p.0.1 p.1 in
+    let made : T × List ℕ = (into p.0.0, p.0.1) in
+    subst (Spells (mapped into out a) bytes) (some_is made (v, rest) p.2)
+      (front.0 ∙ ap (λ (x : A). a.spell x ++ p.0.1) (sym (here p.0.0)), subst a.Fits (sym (here p.0.0)) front.1);
+}
+
+pub checked_law : {A : Type 0} (test : A → Bool) (a : Form A) → IsForm a → IsForm (checked test a)
+checked_law {A} test a la = record {
+  back = λ v rest fits. rw (la.back v rest fits.0, fits.1) refl;
+  spelled = λ bytes v rest e.
+    let p = step_some (a.read bytes) (λ x. cond (test x.0) (Some x) None) (v, rest) e in
+    let q = guard_some (test p.0.0) p.0 (v, rest) p.2 in
+    let front = la.spelled bytes p.0.0 p.0.1 p.1 in
+    subst (Spells (checked test a) bytes) q.1 (front.0, (front.1, q.0));
+}
+
+-- each body has the size that the number says
+pub sized_law : {A : Type 0} (number : Form ℕ) (body : ℕ → Form A) (size : A → ℕ) → IsForm number → ((n : ℕ) → IsForm (body n)) → ((n : ℕ) (v : A) → (body n).Fits v → size v ≡ n) → IsForm (sized number body size)
+sized_law {A} number body size ln lb is = record {
+  back = λ v rest fits.
+    let one : number.read ((number.spell (size v) ++ (body (size v)).spell v) ++ rest) ≡ Some (size v, (body (size v)).spell v ++ rest) =
+      ap number.read (append_assoc (number.spell (size v)) ((body (size v)).spell v) rest) ∙ ln.back (size v) ((body (size v)).spell v ++ rest) fits.0 in
+    rw (one, (lb (size v)).back v rest fits.1) refl;
+  spelled = λ bytes v rest e.
+    let p = step_some (number.read bytes) (λ n. (body n.0).read n.1) (v, rest) e in
+    let front = ln.spelled bytes p.0.0 p.0.1 p.1 in
+    let behind = (lb p.0.0).spelled p.0.1 v rest p.2 in
+    let n : size v ≡ p.0.0 = is p.0.0 v behind.1 in
+    let whole : bytes ≡ (number.spell p.0.0 ++ (body p.0.0).spell v) ++ rest = front.0 ∙ ap (λ (bs : List ℕ). number.spell p.0.0 ++ bs) behind.0 ∙ sym (append_assoc (number.spell p.0.0) ((body p.0.0).spell v) rest) in
+    let P : ℕ → Type 0 = λ k. (bytes ≡ (number.spell k ++ (body k).spell v) ++ rest) × (number.Fits k × (body k).Fits v) in
+    subst P (sym n) (whole, (front.1, behind.1));
+}
+
+-- ---- several in a row
+
+repeated_spelled : {A : Type 0} (a : Form A) → IsForm a → (n : ℕ) (bytes : List ℕ) (x : List A × List ℕ) → read_repeated a n bytes ≡ Some x → Spells (repeated a n) bytes x
+repeated_spelled {A} a la zero bytes x e =
+    let made : List A × List ℕ = ([], bytes) in
+    subst (Spells (repeated a 0) bytes) (some_is made x e) (refl, (refl, tt))
+repeated_spelled {A} a la (suc n) bytes x e =
+    let p = step_some (a.read bytes) (λ v. read_repeated a n v.1 >>= λ vs. Some (v.0 ∷ vs.0, vs.1)) x e in
+    let q = step_some (read_repeated a n p.0.1) (λ vs. Some (p.0.0 ∷ vs.0, vs.1)) x p.2 in
+    let front = la.spelled bytes p.0.0 p.0.1 p.1 in
+    let behind = repeated_spelled a la n p.0.1 q.0 q.1 in
+    let made : List A × List ℕ = (p.0.0 ∷ q.0.0, q.0.1) in
+    subst (Spells (repeated a (suc n)) bytes) (some_is made x q.2)
+      (front.0 ∙ ap (λ (bs : List ℕ). a.spell p.0.0 ++ bs) behind.0 ∙ sym (append_assoc (a.spell p.0.0) (flat_map a.spell q.0.0) q.0.1),
+       (ap suc behind.1.0, (front.1, behind.1.1)))
+
+repeated_back : {A : Type 0} (a : Form A) → IsForm a → (vs : List A) (rest : List ℕ) → AllByRecursion a.Fits vs → read_repeated a (length vs) (flat_map a.spell vs ++ rest) ≡ Some (vs, rest)
+repeated_back a la [] rest fits = refl
+repeated_back a la (v ∷ vs) rest fits =
+    let one : a.read ((a.spell v ++ flat_map a.spell vs) ++ rest) ≡ Some (v, flat_map a.spell vs ++ rest) = ap a.read (append_assoc (a.spell v) (flat_map a.spell vs) rest) ∙ la.back v (flat_map a.spell vs ++ rest) fits.0 in
+    rw (one, repeated_back a la vs rest fits.1) refl
+
+pub repeated_law : {A : Type 0} (a : Form A) (n : ℕ) → IsForm a → IsForm (repeated a n)
+repeated_law {A} a n la = record {
+  back = λ vs rest fits. rw (← fits.0) (repeated_back a la vs rest fits.1);
+  spelled = λ bytes vs rest e. repeated_spelled a la n bytes (vs, rest) e;
+}
+
+pub repeated_size : {A : Type 0} (a : Form A) (n : ℕ) (vs : List A) → (repeated a n).Fits vs → length vs ≡ n
+repeated_size a n vs fits = fits.0
+
+-- ---- zeros behind
+
+and_parts : (a b : Bool) → (a && b) ≡ true → (a ≡ true) × (b ≡ true)
+and_parts true b e = (refl, e)
+and_parts false b e = absurd cc
+
+are_zeros : (bs : List ℕ) → list_all (λ b. b == 0) bs ≡ true → bs ≡ replicate (length bs) 0
+are_zeros [] e = refl
+are_zeros (b ∷ bs) e =
+    let p = and_parts (b == 0) (list_all (λ c. c == 0) bs) e in
+    let zero_here : b ≡ 0 = eqb-true b 0 p.0 in
+    let others : bs ≡ replicate (length bs) 0 = are_zeros bs p.1 in
+    ap (λ (c : ℕ). c ∷ bs) zero_here ∙ ap (λ (cs : List ℕ). 0 ∷ cs) others
+
+zeros_are : (n : ℕ) → list_all (λ b. b == 0) (replicate n 0) ≡ true
+zeros_are zero = refl
+zeros_are (suc n) = zeros_are n
+
+zeros_found : (n : ℕ) (rest : List ℕ) → (length (take n (replicate n 0 ++ rest)) == n && list_all (λ b. b == 0) (take n (replicate n 0 ++ rest))) ≡ true
+zeros_found n rest =
+    let front : take n (replicate n 0 ++ rest) ≡ replicate n 0 = take_at (replicate n 0) rest n (length-replicate n 0) in
+    rw (front, length-replicate n 0, zeros_are n) (eqb_same n)
