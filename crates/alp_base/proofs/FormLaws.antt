@@ -3,7 +3,7 @@ use Rattle.std.proofs.Common.{◌≡◌, ℕ, zero, suc, ◌+◌, ◌-◌, ◌*�
 use Rattle.std.specs.Prelude.{nat_lt, nat_le, ◌==◌}
 use Rattle.std.specs.List.{flat_map, list_all, AllByRecursion}
 use Rattle.std.proofs.lemmas.List.{length-replicate, append-nil, take_at, drop_at, take-append-drop, nil_from_length}
-use Rattle.std.proofs.lemmas.Bool.{eqb-true, leb-true, le-leb, ltb-true}
+use Rattle.std.proofs.lemmas.Bool.{eqb-true, eq-eqb, leb-true, le-leb, ltb-true}
 use Rattle.alp_base.specs.Forms.{Form, IsForm, ◌>>=◌, pair, mapped, checked, sized, read_repeated, repeated, zeros_behind, bytes_of, ended, whole}
 
 -- ---- what a step that read something says
@@ -112,7 +112,7 @@ repeated_size a n vs fits = fits.0
 
 -- ---- zeros behind
 
-and_parts : (a b : Bool) → (a && b) ≡ true → (a ≡ true) × (b ≡ true)
+pub and_parts : (a b : Bool) → (a && b) ≡ true → (a ≡ true) × (b ≡ true)
 and_parts true b e = (refl, e)
 and_parts false b e = absurd cc
 
@@ -130,5 +130,73 @@ zeros_are (suc n) = zeros_are n
 
 zeros_found : (n : ℕ) (rest : List ℕ) → (length (take n (replicate n 0 ++ rest)) == n && list_all (λ b. b == 0) (take n (replicate n 0 ++ rest))) ≡ true
 zeros_found n rest =
-    let front : take n (replicate n 0 ++ rest) ≡ replicate n 0 = take_at (replicate n 0) rest n (length-replicate n 0) in
-    rw (front, length-replicate n 0, zeros_are n) (eqb_same n)
+    let front : take n (replicate n 0 ++ rest) ≡ replicate n 0 = take_at (replicate n 0) rest n (length-replicate {A = ℕ} n 0) in
+    rw (front, length-replicate {A = ℕ} n 0, eq-eqb n n refl) (zeros_are n)
+
+pub zeros_behind_law : {A : Type 0} (n : ℕ) (a : Form A) → IsForm a → IsForm (zeros_behind n a)
+zeros_behind_law {A} n a la = record {
+  back = λ v rest fits.
+    let one : a.read ((a.spell v ++ replicate n 0) ++ rest) ≡ Some (v, replicate n 0 ++ rest) = ap a.read (append_assoc (a.spell v) (replicate n 0) rest) ∙ la.back v (replicate n 0 ++ rest) fits in
+    rw (one, zeros_found n rest, drop_at (replicate n 0) rest n (length-replicate {A = ℕ} n 0)) refl;
+  spelled = λ bytes v rest e.
+    let test : List ℕ → Bool = λ bs. length (take n bs) == n && list_all (λ b. b == 0) (take n bs) in
+    let p = step_some (a.read bytes) (λ x. cond (test x.1) (Some (x.0, drop n x.1)) None) (v, rest) e in
+    let q = guard_some (test p.0.1) (p.0.0, drop n p.0.1) (v, rest) p.2 in
+    let tests = and_parts (length (take n p.0.1) == n) (list_all (λ b. b == 0) (take n p.0.1)) q.0 in
+    let front = la.spelled bytes p.0.0 p.0.1 p.1 in
+    let zeros : take n p.0.1 ≡ replicate n 0 = are_zeros (take n p.0.1) tests.1 ∙ ap (λ (k : ℕ). replicate k 0) (eqb-true (length (take n p.0.1)) n tests.0) in
+    let behind : p.0.1 ≡ replicate n 0 ++ drop n p.0.1 = sym (take-append-drop n p.0.1) ∙ ap (λ (bs : List ℕ). bs ++ drop n p.0.1) zeros in
+    subst (Spells (zeros_behind n a) bytes) q.1
+      (front.0 ∙ ap (λ (bs : List ℕ). a.spell p.0.0 ++ bs) behind ∙ sym (append_assoc (a.spell p.0.0) (replicate n 0) (drop n p.0.1)), front.1);
+}
+
+-- ---- bytes
+
+pub bytes_law : (n : ℕ) → IsForm (bytes_of n)
+bytes_law n = record {
+  back = λ v rest fits.
+    let long : nat_le n (length (v ++ rest)) ≡ true = le-leb n (length (v ++ rest)) (omega (arith, length-append v rest, fits)) in
+    rw (long, take_at v rest n fits, drop_at v rest n fits) refl;
+  spelled = λ bytes v rest e.
+    let q = guard_some (nat_le n (length bytes)) (take n bytes, drop n bytes) (v, rest) e in
+    let long : n ≤ length bytes = leb-true n (length bytes) q.0 in
+    subst (Spells (bytes_of n) bytes) q.1 (sym (take-append-drop n bytes), omega (arith, length-take n bytes));
+}
+
+pub bytes_size : (n : ℕ) (v : List ℕ) → (bytes_of n).Fits v → length v ≡ n
+bytes_size n v fits = fits
+
+-- ---- what follows from the laws of a form
+
+-- Two spellings with whatever behind them are one, and one value's: no value has two spellings, no spelling
+-- is another value's, and none begins a longer one.
+pub spelling_is_one : {T : Type 0} (form : Form T) → IsForm form → (v w : T) (rest others : List ℕ) → form.Fits v → form.Fits w
+    → form.spell v ++ rest ≡ form.spell w ++ others → (v ≡ w) × (rest ≡ others)
+spelling_is_one {T} form laws v w rest others fits fits' same =
+    let both : ◌≡◌ {A = Option (T × List ℕ)} (Some (v, rest)) (Some (w, others)) = sym (laws.back v rest fits) ∙ ap form.read same ∙ laws.back w others fits' in
+    let parts : (v, rest) ≡ (w, others) = some_is (v, rest) (w, others) both in
+    (ap (λ (x : T × List ℕ). x.0) parts, ap (λ (x : T × List ℕ). x.1) parts)
+
+-- Nothing is read only where no spelling stands in front.
+pub nothing_spelled : {T : Type 0} (form : Form T) → IsForm form → (bytes : List ℕ) (v : T) (rest : List ℕ) → form.read bytes ≡ None → form.Fits v → bytes ≡ form.spell v ++ rest → ⊥
+nothing_spelled {T} form laws bytes v rest none fits is =
+    let both : ◌≡◌ {A = Option (T × List ℕ)} None (Some (v, rest)) = sym none ∙ ap form.read is ∙ laws.back v rest fits in
+    cc
+
+-- what all of the bytes spell is what they are the spelling of
+pub whole_back : {T : Type 0} (form : Form T) → IsForm form → (v : T) → form.Fits v → whole form (form.spell v) ≡ Some v
+whole_back form laws v fits =
+    let one : form.read (form.spell v) ≡ Some (v, []) = ap form.read (sym (append-nil (form.spell v))) ∙ laws.back v [] fits in
+    rw one refl
+
+ended_some : {T : Type 0} (r : Option (T × List ℕ)) (v : T) → ended r ≡ Some v → r ≡ Some (v, [])
+ended_some None v e = absurd cc
+ended_some (Some x) v e =
+    let q = guard_some (length x.1 == 0) x.0 v e in
+    let nothing : x.1 ≡ [] = nil_from_length x.1 (eqb-true (length x.1) 0 q.0) in
+    ap (λ (w : _). Some (w, x.1)) q.1 ∙ ap (λ (bs : List ℕ). Some (v, bs)) nothing
+
+pub whole_spelled : {T : Type 0} (form : Form T) → IsForm form → (bytes : List ℕ) (v : T) → whole form bytes ≡ Some v → (bytes ≡ form.spell v) × form.Fits v
+whole_spelled form laws bytes v e =
+    let p = laws.spelled bytes v [] (ended_some (form.read bytes) v e) in
+    (p.0 ∙ append-nil (form.spell v), p.1)
