@@ -1,13 +1,16 @@
 -- The laws of the forms of fields.
-use Rattle.std.proofs.Common.{◌≡◌, ℕ, zero, suc, ◌+◌, ◌-◌, ◌*◌, ◌/◌, ◌%◌, ◌<◌, ◌≤◌, ◌^◌, Bool, true, false, cond, eqb, ◌&&◌, List, [], ◌∷◌, ◌++◌, length, get_or, take, drop, Option, Some, None, refl, sym, ap, subst, ◌∙◌, append_assoc, arith, length-append, length-take, inl, inr}
+use Rattle.std.proofs.Common.{◌≡◌, ℕ, zero, suc, ◌+◌, ◌-◌, ◌*◌, ◌/◌, ◌%◌, ◌<◌, ◌≤◌, ◌^◌, Bool, true, false, cond, eqb, ◌&&◌, List, [], ◌∷◌, ◌++◌, length, get_or, take, drop, Option, Some, None, refl, sym, ap, subst, ◌∙◌, append_assoc, arith, length-append, length-take, ◌⊎◌, inl, inr}
 use Rattle.std.specs.Prelude.{nat_lt, nat_le, ◌==◌}
 use Rattle.std.specs.List.{list_all, AllByRecursion}
 use Rattle.std.specs.Int.{Width, w16, w32, w64, byte_len, byte_at, bytes_high_first, to_be_bytes, from_be_bytes}
 use Rattle.std.proofs.lemmas.List.{take_at, drop_at, take-append-drop}
 use Rattle.std.proofs.lemmas.Bool.{eqb-true, eq-eqb, ltb-true, lt-ltb}
 use Rattle.std.proofs.lemmas.Nat.{mod_below, be_bytes_2, be_bytes_4, be_bytes_8, from_be_bytes-to_be_bytes_2, from_be_bytes-to_be_bytes_4, from_be_bytes-to_be_bytes_8}
-use Rattle.alp_base.specs.Forms.{Form, IsForm, number_of, u8, u16, u32, u64, read_byte}
-use Rattle.alp_base.proofs.FormLaws.{Spells, step_some, guard_some, some_is, and_parts}
+use Rattle.alp_base.specs.Forms.{Form, IsForm, ◌>>=◌, number_of, u8, u16, u32, u64, read_byte, pair, mapped, checked, sized, repeated, bytes_of, just, variant, read_tagged, read_choice, tagged}
+use Rattle.alp_base.specs.Fields.{id_parts, file_id, trans_id, join_no, is_time, stamp, is_some_count, some_count, run, name, is_list_count, list_count, list, page, pages}
+use Rattle.alp_base.specs.Names.{is_name}
+use Rattle.alp_base.specs.Pages.{page_bytes}
+use Rattle.alp_base.proofs.FormLaws.{Spells, step_some, guard_some, some_is, and_parts, pair_law, mapped_law, checked_law, sized_law, repeated_law, repeated_size, bytes_law, bytes_size}
 
 -- ---- numbers
 
@@ -102,3 +105,111 @@ u32_law = number_law w32 wide32
 pub u64_law : IsForm u64
 unfolding u64
 u64_law = number_law w64 wide64
+
+-- ---- choices by tag
+
+-- a reader reads, behind the tag, what the spelling has there
+abbrev pub ReadsTagged : {T : Type 0} → (T → List ℕ) → (T → Type 0) → ℕ × (List ℕ → Option (T × List ℕ)) → Type 0
+ReadsTagged {T} spell Fits choice = (bytes : List ℕ) (v : T) (rest : List ℕ) → choice.1 bytes ≡ Some (v, rest) → (choice.0 ∷ bytes ≡ spell v ++ rest) × Fits v
+
+pub just_reads : {T : Type 0} (spell : T → List ℕ) (Fits : T → Type 0) (tag : ℕ) (v : T) → spell v ≡ tag ∷ [] → Fits v → ReadsTagged spell Fits (tag, just v)
+just_reads {T} spell Fits tag v is fits bytes w rest e =
+    let P : T × List ℕ → Type 0 = λ x. (tag ∷ bytes ≡ spell x.0 ++ x.1) × Fits x.0 in
+    subst P (some_is (v, bytes) (w, rest) e) (ap (λ (bs : List ℕ). bs ++ bytes) (sym is), fits)
+
+pub variant_reads : {A T : Type 0} (spell : T → List ℕ) (Fits : T → Type 0) (tag : ℕ) (into : A → T) (a : Form A) → IsForm a → ((v : A) → spell (into v) ≡ tag ∷ a.spell v) → ((v : A) → a.Fits v → Fits (into v)) → ReadsTagged spell Fits (tag, variant into a)
+variant_reads {A} {T} spell Fits tag into a la is fits bytes w rest e =
+    let p = step_some (a.read bytes) (λ x. Some (into x.0, x.1)) (w, rest) e in
+    let front = la.spelled bytes p.0.0 p.0.1 p.1 in
+    let P : T × List ℕ → Type 0 = λ x. (tag ∷ bytes ≡ spell x.0 ++ x.1) × Fits x.0 in
+    let made : T × List ℕ = (into p.0.0, p.0.1) in
+    subst P (some_is made (w, rest) p.2)
+      (ap (λ (bs : List ℕ). tag ∷ bs) front.0 ∙ ap (λ (bs : List ℕ). bs ++ p.0.1) (sym (is p.0.0)), fits p.0.0 front.1)
+
+pub variant_back : {A T : Type 0} (into : A → T) (a : Form A) → IsForm a → (v : A) (rest : List ℕ) → a.Fits v → variant into a (a.spell v ++ rest) ≡ Some (into v, rest)
+variant_back into a la v rest fits = rw (la.back v rest fits) refl
+
+chosen : {X : Type 0} (b : Bool) (x y z : X) → cond b x y ≡ z → ((b ≡ true) × (x ≡ z)) ⊎ ((b ≡ false) × (y ≡ z))
+chosen true x y z e = inl (refl, e)
+chosen false x y z e = inr (refl, e)
+
+tagged_reads : {T : Type 0} (spell : T → List ℕ) (Fits : T → Type 0) (choices : List (ℕ × (List ℕ → Option (T × List ℕ)))) → AllByRecursion (ReadsTagged spell Fits) choices
+    → (tag : ℕ) (bytes : List ℕ) (v : T) (rest : List ℕ) → read_tagged choices tag bytes ≡ Some (v, rest) → (tag ∷ bytes ≡ spell v ++ rest) × Fits v
+tagged_reads spell Fits [] all tag bytes v rest e = absurd cc
+tagged_reads {T} spell Fits (choice ∷ choices) all tag bytes v rest e =
+    elim (chosen (tag == choice.0) (choice.1 bytes) (read_tagged choices tag bytes) (Some (v, rest)) e) [
+      | inl here ↦ subst (λ (k : ℕ). (k ∷ bytes ≡ spell v ++ rest) × Fits v) (sym (eqb-true tag choice.0 here.0)) (all.0 bytes v rest here.1)
+      | inr there ↦ tagged_reads spell Fits choices all.1 tag bytes v rest there.1
+    ]
+
+pub u8_spell : (n : ℕ) → u8.spell n ≡ n ∷ []
+unfolding u8
+u8_spell n = refl
+
+pub u8_fits : (n : ℕ) → n < 256 → u8.Fits n
+unfolding u8
+u8_fits n lt = lt
+
+-- the tag in front is read, and then its reader reads
+pub tag_back : {T : Type 0} (choices : List (ℕ × (List ℕ → Option (T × List ℕ)))) (tag : ℕ) (bytes : List ℕ) → tag < 256 → read_choice choices (tag ∷ bytes) ≡ read_tagged choices tag bytes
+tag_back choices tag bytes lt =
+    let one : u8.read (tag ∷ bytes) ≡ Some (tag, bytes) = ap (λ (bs : List ℕ). u8.read (bs ++ bytes)) (sym (u8_spell tag)) ∙ u8_law.back tag bytes (u8_fits tag lt) in
+    rw one refl
+
+pub tagged_law : {T : Type 0} (spell : T → List ℕ) (Fits : T → Type 0) (choices : List (ℕ × (List ℕ → Option (T × List ℕ)))) → ((v : T) (rest : List ℕ) → Fits v → read_choice choices (spell v ++ rest) ≡ Some (v, rest))
+    → AllByRecursion (ReadsTagged spell Fits) choices → IsForm (tagged spell Fits choices)
+tagged_law spell Fits choices back reads = record {
+  back = back;
+  spelled = λ bytes v rest e.
+    let p = step_some (u8.read bytes) (λ tag. read_tagged choices tag.0 tag.1) (v, rest) e in
+    let front = u8_law.spelled bytes p.0.0 p.0.1 p.1 in
+    let whole = tagged_reads spell Fits choices reads p.0.0 p.0.1 v rest p.2 in
+    (front.0 ∙ ap (λ (bs : List ℕ). bs ++ p.0.1) (u8_spell p.0.0) ∙ whole.0, whole.1);
+}
+
+-- ---- ids, stamps and runs
+
+id_parts_law : IsForm id_parts
+id_parts_law = pair_law u8 (pair u32 u32) u8_law (pair_law u32 u32 u32_law u32_law)
+
+pub file_id_law : IsForm file_id
+unfolding file_id
+file_id_law = mapped_law _ _ id_parts (λ v. refl) (λ x. refl) id_parts_law
+
+pub trans_id_law : IsForm trans_id
+unfolding trans_id
+trans_id_law = mapped_law _ _ id_parts (λ v. refl) (λ x. refl) id_parts_law
+
+pub join_no_law : IsForm join_no
+unfolding join_no
+join_no_law = mapped_law _ _ id_parts (λ v. refl) (λ x. refl) id_parts_law
+
+pub stamp_law : IsForm stamp
+unfolding stamp
+stamp_law = mapped_law _ _ (pair (checked is_time u64) trans_id) (λ v. refl) (λ x. refl) (pair_law (checked is_time u64) trans_id (checked_law is_time u64 u64_law) trans_id_law)
+
+pub some_count_law : IsForm some_count
+unfolding some_count
+some_count_law = checked_law is_some_count u8 u8_law
+
+pub run_law : IsForm run
+unfolding run
+run_law = mapped_law _ _ (pair u32 some_count) (λ v. refl) (λ x. refl) (pair_law u32 some_count u32_law some_count_law)
+
+-- ---- names, lists and pages
+
+pub name_law : IsForm name
+unfolding name
+name_law = checked_law is_name (sized u8 bytes_of length) (sized_law u8 bytes_of length u8_law bytes_law bytes_size)
+
+pub list_law : IsForm list
+unfolding list list_count
+list_law = sized_law list_count (repeated name) length (checked_law is_list_count u8 u8_law) (λ n. repeated_law name n name_law) (λ n vs fits. repeated_size name n vs fits)
+
+pub page_law : IsForm page
+unfolding page
+page_law = bytes_law page_bytes
+
+pub pages_law : IsForm pages
+unfolding pages
+pages_law = sized_law some_count (repeated page) length some_count_law (λ n. repeated_law page n page_law) (λ n vs fits. repeated_size page n vs fits)

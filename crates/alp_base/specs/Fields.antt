@@ -16,7 +16,7 @@ use Rattle.alp_base.specs.declared.key.Resource.TheVariants.{Whole, Leaf}
 use Rattle.alp_base.specs.declared.lists.TheConstants.{NAMES_PER_LIST}
 use Rattle.alp_base.specs.Names.{is_name}
 use Rattle.alp_base.specs.Pages.{page_bytes}
-use Rattle.alp_base.specs.Forms.{Form, pair, mapped, checked, sized, repeated, zeros_behind, read_choice, just, variant, bytes_of, u8, u32, u64}
+use Rattle.alp_base.specs.Forms.{Form, pair, mapped, checked, sized, repeated, zeros_behind, tagged, just, variant, bytes_of, u8, u32, u64}
 
 -- ---- ids, stamps and runs
 
@@ -58,21 +58,21 @@ spell_choice Fail = 0 ∷ []
 spell_choice Wait = 1 ∷ []
 
 unfoldable pub choice : Form Choice
-choice = record { spell = spell_choice; Fits = λ _. Unit {0}; read = read_choice ((0, just Fail) ∷ (1, just Wait) ∷ []) }
+choice = tagged spell_choice (λ _. Unit {0}) ((0, just Fail) ∷ (1, just Wait) ∷ [])
 
 abbrev pub spell_access : Access → List ℕ
 spell_access ReadOnly = 0 ∷ []
 spell_access Change = 1 ∷ []
 
 unfoldable pub access : Form Access
-access = record { spell = spell_access; Fits = λ _. Unit {0}; read = read_choice ((0, just ReadOnly) ∷ (1, just Change) ∷ []) }
+access = tagged spell_access (λ _. Unit {0}) ((0, just ReadOnly) ∷ (1, just Change) ∷ [])
 
 abbrev pub spell_flag : Bool → List ℕ
 spell_flag false = 0 ∷ []
 spell_flag true = 1 ∷ []
 
 unfoldable pub flag : Form Bool
-flag = record { spell = spell_flag; Fits = λ _. Unit {0}; read = read_choice ((0, just false) ∷ (1, just true) ∷ []) }
+flag = tagged spell_flag (λ _. Unit {0}) ((0, just false) ∷ (1, just true) ∷ [])
 
 -- ---- names, lists and pages
 
@@ -120,15 +120,11 @@ FitsKey (PageOf file number) = file_id.Fits file × u32.Fits number
 FitsKey (OwnerOf owner) = name.Fits owner
 
 unfoldable pub key : Form Key
-key = record {
-  spell = spell_key;
-  Fits = FitsKey;
-  read = read_choice (
+key = tagged spell_key FitsKey (
     (1, variant Leader file_id)
     ∷ (2, variant (λ x. PageOf x.0 x.1) (pair file_id u32))
     ∷ (3, variant OwnerOf name)
-    ∷ []);
-}
+    ∷ [])
 
 -- a whole file has tag 0, a leaf that of its key
 abbrev pub spell_resource : Resource → List ℕ
@@ -140,13 +136,9 @@ FitsResource (Whole file) = file_id.Fits file
 FitsResource (Leaf leaf) = FitsKey leaf
 
 unfoldable pub resource : Form Resource
-resource = record {
-  spell = spell_resource;
-  Fits = FitsResource;
-  read = read_choice (
+resource = tagged spell_resource FitsResource (
     (0, variant Whole file_id)
     ∷ (1, variant (λ f. Leaf (Leader f)) file_id)
     ∷ (2, variant (λ x. Leaf (PageOf x.0 x.1)) (pair file_id u32))
     ∷ (3, variant (λ n. Leaf (OwnerOf n)) name)
-    ∷ []);
-}
+    ∷ [])

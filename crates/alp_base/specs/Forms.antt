@@ -177,3 +177,7 @@ abbrev pub read_choice : {T : Type 0} → List (ℕ × (List ℕ → Option (T �
 read_choice choices bytes = do
   tag ← u8.read bytes
   read_tagged choices tag.0 tag.1
+
+-- values that are told apart by their tags: their spellings, and the readers by tag
+abbrev pub tagged : {T : Type 0} → (T → List ℕ) → (T → Type 0) → List (ℕ × (List ℕ → Option (T × List ℕ))) → Form T
+tagged spell Fits choices = record { spell = spell; Fits = Fits; read = read_choice choices }
