@@ -6,8 +6,16 @@ use Rattle.std.specs.Int.{Width, w16, w32, w64, byte_len, byte_at, bytes_high_fi
 use Rattle.std.proofs.lemmas.List.{take_at, drop_at, take-append-drop}
 use Rattle.std.proofs.lemmas.Bool.{eqb-true, eq-eqb, ltb-true, lt-ltb}
 use Rattle.std.proofs.lemmas.Nat.{mod_below, be_bytes_2, be_bytes_4, be_bytes_8, from_be_bytes-to_be_bytes_2, from_be_bytes-to_be_bytes_4, from_be_bytes-to_be_bytes_8}
-use Rattle.alp_base.specs.Forms.{Form, IsForm, ◌>>=◌, number_of, u8, u16, u32, u64, read_byte, pair, mapped, checked, sized, repeated, bytes_of, just, variant, read_tagged, read_choice, tagged}
-use Rattle.alp_base.specs.Fields.{id_parts, file_id, trans_id, join_no, is_time, stamp, is_some_count, some_count, run, name, is_list_count, list_count, list, page, pages}
+use Rattle.alp_base.specs.declared.choices.Choice.{Choice}
+use Rattle.alp_base.specs.declared.choices.Choice.TheVariants.{Fail, Wait}
+use Rattle.alp_base.specs.declared.choices.Access.{Access}
+use Rattle.alp_base.specs.declared.choices.Access.TheVariants.{ReadOnly, Change}
+use Rattle.alp_base.specs.declared.key.Key.{Key}
+use Rattle.alp_base.specs.declared.key.Key.TheVariants.{Leader, PageOf, OwnerOf}
+use Rattle.alp_base.specs.declared.key.Resource.{Resource}
+use Rattle.alp_base.specs.declared.key.Resource.TheVariants.{Whole, Leaf}
+use Rattle.alp_base.specs.Forms.{Form, IsForm, ◌>>=◌, number_of, u8, u16, u32, u64, read_byte, pair, mapped, checked, sized, repeated, bytes_of, just, variant, Reader, Readers, read_tagged, read_choice, tagged}
+use Rattle.alp_base.specs.Fields.{id_parts, file_id, trans_id, join_no, is_time, stamp, is_some_count, some_count, run, name, is_list_count, list_count, list, page, pages, spell_choice, choice_readers, choice, spell_access, access_readers, access, spell_flag, flag_readers, flag, spell_key, FitsKey, key_readers, key, spell_resource, FitsResource, resource_readers, resource}
 use Rattle.alp_base.specs.Names.{is_name}
 use Rattle.alp_base.specs.Pages.{page_bytes}
 use Rattle.alp_base.proofs.FormLaws.{Spells, step_some, guard_some, some_is, and_parts, pair_law, mapped_law, checked_law, sized_law, repeated_law, repeated_size, bytes_law, bytes_size}
@@ -109,7 +117,7 @@ u64_law = number_law w64 wide64
 -- ---- choices by tag
 
 -- a reader reads, behind the tag, what the spelling has there
-abbrev pub ReadsTagged : {T : Type 0} → (T → List ℕ) → (T → Type 0) → ℕ × (List ℕ → Option (T × List ℕ)) → Type 0
+abbrev pub ReadsTagged : {T : Type 0} → (T → List ℕ) → (T → Type 0) → ℕ × Reader T → Type 0
 ReadsTagged {T} spell Fits choice = (bytes : List ℕ) (v : T) (rest : List ℕ) → choice.1 bytes ≡ Some (v, rest) → (choice.0 ∷ bytes ≡ spell v ++ rest) × Fits v
 
 pub just_reads : {T : Type 0} (spell : T → List ℕ) (Fits : T → Type 0) (tag : ℕ) (v : T) → spell v ≡ tag ∷ [] → Fits v → ReadsTagged spell Fits (tag, just v)
@@ -133,7 +141,7 @@ chosen : {X : Type 0} (b : Bool) (x y z : X) → cond b x y ≡ z → ((b ≡ tr
 chosen true x y z e = inl (refl, e)
 chosen false x y z e = inr (refl, e)
 
-tagged_reads : {T : Type 0} (spell : T → List ℕ) (Fits : T → Type 0) (choices : List (ℕ × (List ℕ → Option (T × List ℕ)))) → AllByRecursion (ReadsTagged spell Fits) choices
+tagged_reads : {T : Type 0} (spell : T → List ℕ) (Fits : T → Type 0) (choices : Readers T) → AllByRecursion (ReadsTagged spell Fits) choices
     → (tag : ℕ) (bytes : List ℕ) (v : T) (rest : List ℕ) → read_tagged choices tag bytes ≡ Some (v, rest) → (tag ∷ bytes ≡ spell v ++ rest) × Fits v
 tagged_reads spell Fits [] all tag bytes v rest e = absurd cc
 tagged_reads {T} spell Fits (choice ∷ choices) all tag bytes v rest e =
@@ -151,12 +159,12 @@ unfolding u8
 u8_fits n lt = lt
 
 -- the tag in front is read, and then its reader reads
-pub tag_back : {T : Type 0} (choices : List (ℕ × (List ℕ → Option (T × List ℕ)))) (tag : ℕ) (bytes : List ℕ) → tag < 256 → read_choice choices (tag ∷ bytes) ≡ read_tagged choices tag bytes
+pub tag_back : {T : Type 0} (choices : Readers T) (tag : ℕ) (bytes : List ℕ) → tag < 256 → read_choice choices (tag ∷ bytes) ≡ read_tagged choices tag bytes
 tag_back choices tag bytes lt =
     let one : u8.read (tag ∷ bytes) ≡ Some (tag, bytes) = ap (λ (bs : List ℕ). u8.read (bs ++ bytes)) (sym (u8_spell tag)) ∙ u8_law.back tag bytes (u8_fits tag lt) in
     rw one refl
 
-pub tagged_law : {T : Type 0} (spell : T → List ℕ) (Fits : T → Type 0) (choices : List (ℕ × (List ℕ → Option (T × List ℕ)))) → ((v : T) (rest : List ℕ) → Fits v → read_choice choices (spell v ++ rest) ≡ Some (v, rest))
+pub tagged_law : {T : Type 0} (spell : T → List ℕ) (Fits : T → Type 0) (choices : Readers T) → ((v : T) (rest : List ℕ) → Fits v → read_choice choices (spell v ++ rest) ≡ Some (v, rest))
     → AllByRecursion (ReadsTagged spell Fits) choices → IsForm (tagged spell Fits choices)
 tagged_law spell Fits choices back reads = record {
   back = back;
@@ -213,3 +221,60 @@ page_law = bytes_law page_bytes
 pub pages_law : IsForm pages
 unfolding pages
 pages_law = sized_law some_count (repeated page) length some_count_law (λ n. repeated_law page n page_law) (λ n vs fits. repeated_size page n vs fits)
+
+-- ---- choices of two
+
+pub choice_law : IsForm choice
+unfolding choice
+choice_law = tagged_law spell_choice (λ _. Unit {0}) choice_readers back (just_reads spell_choice (λ _. Unit {0}) 0 Fail refl tt, (just_reads spell_choice (λ _. Unit {0}) 1 Wait refl tt, tt))
+  where
+    back : (v : Choice) (rest : List ℕ) → Unit {0} → read_choice choice_readers (spell_choice v ++ rest) ≡ Some (v, rest)
+    back Fail rest fits = tag_back choice_readers 0 rest (omega arith)
+    back Wait rest fits = tag_back choice_readers 1 rest (omega arith)
+
+pub access_law : IsForm access
+unfolding access
+access_law = tagged_law spell_access (λ _. Unit {0}) access_readers back (just_reads spell_access (λ _. Unit {0}) 0 ReadOnly refl tt, (just_reads spell_access (λ _. Unit {0}) 1 Change refl tt, tt))
+  where
+    back : (v : Access) (rest : List ℕ) → Unit {0} → read_choice access_readers (spell_access v ++ rest) ≡ Some (v, rest)
+    back ReadOnly rest fits = tag_back access_readers 0 rest (omega arith)
+    back Change rest fits = tag_back access_readers 1 rest (omega arith)
+
+pub flag_law : IsForm flag
+unfolding flag
+flag_law = tagged_law spell_flag (λ _. Unit {0}) flag_readers back (just_reads spell_flag (λ _. Unit {0}) 0 false refl tt, (just_reads spell_flag (λ _. Unit {0}) 1 true refl tt, tt))
+  where
+    back : (v : Bool) (rest : List ℕ) → Unit {0} → read_choice flag_readers (spell_flag v ++ rest) ≡ Some (v, rest)
+    back false rest fits = tag_back flag_readers 0 rest (omega arith)
+    back true rest fits = tag_back flag_readers 1 rest (omega arith)
+
+-- ---- keys and resources
+
+place_law : IsForm (pair file_id u32)
+place_law = pair_law file_id u32 file_id_law u32_law
+
+pub key_law : IsForm key
+unfolding key
+key_law = tagged_law spell_key FitsKey key_readers back
+    (variant_reads spell_key FitsKey 1 Leader file_id file_id_law (λ v. refl) (λ v fits. fits),
+    (variant_reads spell_key FitsKey 2 (λ x. PageOf x.0 x.1) (pair file_id u32) place_law (λ v. refl) (λ v fits. fits),
+    (variant_reads spell_key FitsKey 3 OwnerOf name name_law (λ v. refl) (λ v fits. fits), tt)))
+  where
+    back : (v : Key) (rest : List ℕ) → FitsKey v → read_choice key_readers (spell_key v ++ rest) ≡ Some (v, rest)
+    back (Leader file) rest fits = tag_back key_readers 1 (file_id.spell file ++ rest) (omega arith) ∙ variant_back Leader file_id file_id_law file rest fits
+    back (PageOf file n) rest fits = tag_back key_readers 2 ((file_id.spell file ++ u32.spell n) ++ rest) (omega arith) ∙ variant_back (λ x. PageOf x.0 x.1) (pair file_id u32) place_law (file, n) rest fits
+    back (OwnerOf owner) rest fits = tag_back key_readers 3 (name.spell owner ++ rest) (omega arith) ∙ variant_back OwnerOf name name_law owner rest fits
+
+pub resource_law : IsForm resource
+unfolding resource
+resource_law = tagged_law spell_resource FitsResource resource_readers back
+    (variant_reads spell_resource FitsResource 0 Whole file_id file_id_law (λ v. refl) (λ v fits. fits),
+    (variant_reads spell_resource FitsResource 1 (λ f. Leaf (Leader f)) file_id file_id_law (λ v. refl) (λ v fits. fits),
+    (variant_reads spell_resource FitsResource 2 (λ x. Leaf (PageOf x.0 x.1)) (pair file_id u32) place_law (λ v. refl) (λ v fits. fits),
+    (variant_reads spell_resource FitsResource 3 (λ n. Leaf (OwnerOf n)) name name_law (λ v. refl) (λ v fits. fits), tt))))
+  where
+    back : (v : Resource) (rest : List ℕ) → FitsResource v → read_choice resource_readers (spell_resource v ++ rest) ≡ Some (v, rest)
+    back (Whole file) rest fits = tag_back resource_readers 0 (file_id.spell file ++ rest) (omega arith) ∙ variant_back Whole file_id file_id_law file rest fits
+    back (Leaf (Leader file)) rest fits = tag_back resource_readers 1 (file_id.spell file ++ rest) (omega arith) ∙ variant_back (λ f. Leaf (Leader f)) file_id file_id_law file rest fits
+    back (Leaf (PageOf file n)) rest fits = tag_back resource_readers 2 ((file_id.spell file ++ u32.spell n) ++ rest) (omega arith) ∙ variant_back (λ x. Leaf (PageOf x.0 x.1)) (pair file_id u32) place_law (file, n) rest fits
+    back (Leaf (OwnerOf owner)) rest fits = tag_back resource_readers 3 (name.spell owner ++ rest) (omega arith) ∙ variant_back (λ n. Leaf (OwnerOf n)) name name_law owner rest fits

@@ -16,7 +16,7 @@ use Rattle.alp_base.specs.declared.key.Resource.TheVariants.{Whole, Leaf}
 use Rattle.alp_base.specs.declared.lists.TheConstants.{NAMES_PER_LIST}
 use Rattle.alp_base.specs.Names.{is_name}
 use Rattle.alp_base.specs.Pages.{page_bytes}
-use Rattle.alp_base.specs.Forms.{Form, pair, mapped, checked, sized, repeated, zeros_behind, tagged, just, variant, bytes_of, u8, u32, u64}
+use Rattle.alp_base.specs.Forms.{Form, pair, mapped, checked, sized, repeated, zeros_behind, Readers, tagged, just, variant, bytes_of, u8, u32, u64}
 
 -- ---- ids, stamps and runs
 
@@ -57,22 +57,31 @@ abbrev pub spell_choice : Choice → List ℕ
 spell_choice Fail = 0 ∷ []
 spell_choice Wait = 1 ∷ []
 
+abbrev pub choice_readers : Readers Choice
+choice_readers = (0, just Fail) ∷ (1, just Wait) ∷ []
+
 unfoldable pub choice : Form Choice
-choice = tagged spell_choice (λ _. Unit {0}) ((0, just Fail) ∷ (1, just Wait) ∷ [])
+choice = tagged spell_choice (λ _. Unit {0}) choice_readers
 
 abbrev pub spell_access : Access → List ℕ
 spell_access ReadOnly = 0 ∷ []
 spell_access Change = 1 ∷ []
 
+abbrev pub access_readers : Readers Access
+access_readers = (0, just ReadOnly) ∷ (1, just Change) ∷ []
+
 unfoldable pub access : Form Access
-access = tagged spell_access (λ _. Unit {0}) ((0, just ReadOnly) ∷ (1, just Change) ∷ [])
+access = tagged spell_access (λ _. Unit {0}) access_readers
 
 abbrev pub spell_flag : Bool → List ℕ
 spell_flag false = 0 ∷ []
 spell_flag true = 1 ∷ []
 
+abbrev pub flag_readers : Readers Bool
+flag_readers = (0, just false) ∷ (1, just true) ∷ []
+
 unfoldable pub flag : Form Bool
-flag = tagged spell_flag (λ _. Unit {0}) ((0, just false) ∷ (1, just true) ∷ [])
+flag = tagged spell_flag (λ _. Unit {0}) flag_readers
 
 -- ---- names, lists and pages
 
@@ -119,12 +128,15 @@ FitsKey (Leader file) = file_id.Fits file
 FitsKey (PageOf file number) = file_id.Fits file × u32.Fits number
 FitsKey (OwnerOf owner) = name.Fits owner
 
-unfoldable pub key : Form Key
-key = tagged spell_key FitsKey (
+abbrev pub key_readers : Readers Key
+key_readers =
     (1, variant Leader file_id)
     ∷ (2, variant (λ x. PageOf x.0 x.1) (pair file_id u32))
     ∷ (3, variant OwnerOf name)
-    ∷ [])
+    ∷ []
+
+unfoldable pub key : Form Key
+key = tagged spell_key FitsKey key_readers
 
 -- a whole file has tag 0, a leaf that of its key
 abbrev pub spell_resource : Resource → List ℕ
@@ -135,10 +147,13 @@ abbrev pub FitsResource : Resource → Type 0
 FitsResource (Whole file) = file_id.Fits file
 FitsResource (Leaf leaf) = FitsKey leaf
 
-unfoldable pub resource : Form Resource
-resource = tagged spell_resource FitsResource (
+abbrev pub resource_readers : Readers Resource
+resource_readers =
     (0, variant Whole file_id)
     ∷ (1, variant (λ f. Leaf (Leader f)) file_id)
     ∷ (2, variant (λ x. Leaf (PageOf x.0 x.1)) (pair file_id u32))
     ∷ (3, variant (λ n. Leaf (OwnerOf n)) name)
-    ∷ [])
+    ∷ []
+
+unfoldable pub resource : Form Resource
+resource = tagged spell_resource FitsResource resource_readers

@@ -157,27 +157,34 @@ u64 = number_of w64
 
 -- ---- choices: a tag in front, and what goes with it
 
+abbrev pub Reader : Type 0 → Type 0
+Reader T = List ℕ → Option (T × List ℕ)
+
+-- the readers of the values of a type, each with its tag
+abbrev pub Readers : Type 0 → Type 0
+Readers T = List (ℕ × Reader T)
+
 -- the reader of a variant that is its tag alone
-abbrev pub just : {T : Type 0} → T → List ℕ → Option (T × List ℕ)
+abbrev pub just : {T : Type 0} → T → Reader T
 just v bytes = Some (v, bytes)
 
 -- the reader of a variant that has a value behind its tag
-abbrev pub variant : {A T : Type 0} → (A → T) → Form A → List ℕ → Option (T × List ℕ)
+abbrev pub variant : {A T : Type 0} → (A → T) → Form A → Reader T
 variant into a bytes = do
   x ← a.read bytes
   Some (into x.0, x.1)
 
 -- the reader that goes with the tag
-abbrev pub read_tagged : {T : Type 0} → List (ℕ × (List ℕ → Option (T × List ℕ))) → ℕ → List ℕ → Option (T × List ℕ)
+abbrev pub read_tagged : {T : Type 0} → Readers T → ℕ → Reader T
 read_tagged [] tag bytes = None
-read_tagged (choice ∷ choices) tag bytes = if tag == choice.0 then choice.1 bytes else read_tagged choices tag bytes
+read_tagged (reader ∷ readers) tag bytes = if tag == reader.0 then reader.1 bytes else read_tagged readers tag bytes
 
 -- a tag, and what its reader reads
-abbrev pub read_choice : {T : Type 0} → List (ℕ × (List ℕ → Option (T × List ℕ))) → List ℕ → Option (T × List ℕ)
-read_choice choices bytes = do
+abbrev pub read_choice : {T : Type 0} → Readers T → Reader T
+read_choice readers bytes = do
   tag ← u8.read bytes
-  read_tagged choices tag.0 tag.1
+  read_tagged readers tag.0 tag.1
 
 -- values that are told apart by their tags: their spellings, and the readers by tag
-abbrev pub tagged : {T : Type 0} → (T → List ℕ) → (T → Type 0) → List (ℕ × (List ℕ → Option (T × List ℕ))) → Form T
-tagged spell Fits choices = record { spell = spell; Fits = Fits; read = read_choice choices }
+abbrev pub tagged : {T : Type 0} → (T → List ℕ) → (T → Type 0) → Readers T → Form T
+tagged spell Fits readers = record { spell = spell; Fits = Fits; read = read_choice readers }
