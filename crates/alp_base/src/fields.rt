@@ -1,4 +1,8 @@
-//! Fields as bytes: readers of the front of bytes, and writers.
+//! Fields as bytes: a reader over bytes, and writers that append.
+//!
+//! Each form of a field is a definition: how a value is spelled, and what is read from the front of
+//! bytes. A reader answers a value exactly where the bytes begin with a spelling of it, and a
+//! writer appends that spelling. What is spelled is read back whatever follows it.
 mod choices;
 mod ids;
 mod keys;
@@ -7,4 +11,10 @@ mod names;
 mod numbers;
 mod reader;
 
+pub use choices::{put_access, put_choice, put_flag};
+pub use ids::{GREATEST_TIME, put_file_id, put_join_no, put_run, put_stamp, put_trans_id};
+pub use keys::{put_key, put_resource};
+pub use lists::{put_list, put_pages};
+pub use names::{put_bytes, put_name, put_page};
+pub use numbers::{put_u16, put_u32, put_u64, put_u8};
 pub use reader::FieldReader;

@@ -5,7 +5,7 @@
 mod bytes;
 mod choices;
 mod faults;
-mod fields;
+pub mod fields;
 mod id_text;
 mod ids;
 mod key;
@@ -17,7 +17,6 @@ mod page;
 pub use bytes::{Bytes, NoteChange};
 pub use choices::{Access, Choice};
 pub use faults::{Failed, Halt, Sizes, VaultFault};
-pub use fields::FieldReader;
 pub use ids::{FileId, JoinNo, Run, Stamp, TransId};
 pub use key::{Key, Resource};
 pub use lists::{AccessList, NAMES_PER_LIST, PAGES_PER_FILE, PageList};

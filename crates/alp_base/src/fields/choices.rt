@@ -3,8 +3,9 @@ ghost use Rattle.std.specs.Prelude.{◌≡◌, OnOk, OnErr};
 ghost use Rattle.alp_base.specs.Forms.{IsRead, IsWritten};
 ghost use Rattle.alp_base.specs.Fields.{choice, access, flag};
 
+use crate::fields::FieldReader;
 use crate::fields::numbers::put_u8;
-use crate::{Access, Choice, FieldReader, OutOfMemory};
+use crate::{Access, Choice, OutOfMemory};
 
 impl<'a> FieldReader<'a> {
     #[tactic(auto, unfolding(crate::specs::Fields::choice))]

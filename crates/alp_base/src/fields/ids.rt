@@ -3,7 +3,8 @@ ghost use Rattle.std.specs.Prelude.{◌≡◌, ◌<◌, ◌≤◌, ◌^◌, OnOk
 ghost use Rattle.alp_base.specs.Forms.{IsRead, IsWritten, Extends};
 ghost use Rattle.alp_base.specs.Fields.{id_parts, file_id, trans_id, join_no, stamp, run};
 
-use crate::{FieldReader, FileId, JoinNo, OutOfMemory, Run, Stamp, TransId};
+use crate::{FileId, JoinNo, OutOfMemory, Run, Stamp, TransId};
+use crate::fields::FieldReader;
 use crate::fields::numbers::{put_u32, put_u64, put_u8};
 
 /// The greatest time of a stamp.

@@ -3,10 +3,11 @@ ghost use Rattle.std.specs.Prelude.{◌≡◌, OnOk, OnErr};
 ghost use Rattle.alp_base.specs.Forms.{IsRead, IsWritten, Extends};
 ghost use Rattle.alp_base.specs.Fields.{key, resource};
 
+use crate::fields::FieldReader;
 use crate::fields::ids::put_file_id;
 use crate::fields::names::put_name;
 use crate::fields::numbers::{put_u8, put_u32};
-use crate::{FieldReader, Key, OutOfMemory, Resource};
+use crate::{Key, OutOfMemory, Resource};
 
 impl<'a> FieldReader<'a> {
     #[tactic(auto, unfolding(crate::specs::Fields::key))]

@@ -4,8 +4,9 @@ ghost use Rattle.alp_base.specs.Forms.{IsRead, IsWritten, Extends, bytes_of};
 ghost use Rattle.alp_base.specs.Fields.{name, page};
 ghost use Rattle.alp_base.specs.Pages.{page_bytes};
 
+use crate::fields::FieldReader;
 use crate::fields::numbers::put_u8;
-use crate::{FieldReader, Name, OutOfMemory, PAGE_BYTES, Page, PageRef};
+use crate::{Name, OutOfMemory, PAGE_BYTES, Page, PageRef};
 use std::alloc::Global;
 
 impl<'a> FieldReader<'a> {

@@ -2,7 +2,8 @@
 ghost use Rattle.std.specs.Prelude.{◌≡◌, OnOk, OnErr};
 ghost use Rattle.alp_base.specs.Forms.{IsRead, IsWritten, u8 as byte, u16 as short, u32 as word, u64 as long};
 
-use crate::{FieldReader, OutOfMemory};
+use crate::OutOfMemory;
+use crate::fields::FieldReader;
 
 impl<'a> FieldReader<'a> {
     #[tactic(auto, unfolding(crate::specs::Forms::u8))]
