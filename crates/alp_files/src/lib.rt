@@ -3,10 +3,12 @@
 
 mod call;
 mod cell;
+mod props_field;
 mod refusal;
 mod reply;
 
 pub use call::{Call, PropChange};
 pub use cell::{Cell, OwnerRecord, Props};
+pub use props_field::read_props;
 pub use refusal::{Cause, ListName, Refusal, What, Why};
 pub use reply::{Ended, Reply};
