@@ -8,6 +8,9 @@ use Rattle.alp_files.specs.declared.cell.Props.{Props}
 abbrev pub Numbers : Type 0
 Numbers = ℕ × (ℕ × (ℕ × (ℕ × ℕ)))
 
+abbrev pub numbers_of : Props → Numbers
+numbers_of p = (p.type_no, (p.create_time, (p.byte_length, (p.size, p.high_water))))
+
 unfoldable pub numbers : Form Numbers
 numbers = pair u16 (pair u64 (pair u64 (pair u32 u32)))
 
@@ -29,7 +32,7 @@ props_of x = record {
 }
 
 abbrev pub parts_of : Props → PropsParts
-parts_of p = (p.owner, (p.name, ((p.type_no, (p.create_time, (p.byte_length, (p.size, p.high_water)))), (p.read, p.modify))))
+parts_of p = (p.owner, (p.name, (numbers_of p, (p.read, p.modify))))
 
 unfoldable pub props : Form Props
 props = mapped props_of parts_of (pair name (pair name (pair numbers (pair list list))))

@@ -1,7 +1,7 @@
 //! The properties of a file as a field.
 ghost use Rattle.std.specs.Prelude.{◌≡◌, OnOk, OnErr, IfOk, option_map};
 ghost use Rattle.alp_base.specs.Forms.{IsRead, IsWritten, Extends};
-ghost use Rattle.alp_files.specs.PropsField.{numbers, props};
+ghost use Rattle.alp_files.specs.PropsField.{numbers, numbers_of, props};
 
 use crate::Props;
 use alp_base::OutOfMemory;
@@ -55,9 +55,7 @@ pub fn read_props(alloc: Global, reader: &mut FieldReader) -> Result<Option<Prop
 
 #[tactic(auto, unfolding(crate::specs::PropsField::numbers))]
 fn append_numbers(out: &mut Vec<u8>, of: &Props) -> Result<(), OutOfMemory>
-    ensures ok { OnOk result (IsWritten numbers
-        (of.now.type_no, (of.now.create_time, (of.now.byte_length, (of.now.size, of.now.high_water))))
-        out.old.items out.new.items) }
+    ensures ok { OnOk result (IsWritten numbers (numbers_of of.now) out.old.items out.new.items) }
     ensures err { OnErr result (Extends out.old.items out.new.items) }
 {
     put_u16(out, of.type_no)?;
@@ -67,13 +65,38 @@ fn append_numbers(out: &mut Vec<u8>, of: &Props) -> Result<(), OutOfMemory>
     put_u32(out, of.high_water)
 }
 
+fn put_numbers(out: &mut Vec<u8>, of: &Props) -> Result<(), OutOfMemory>
+    ensures ok { OnOk result (IsWritten numbers (numbers_of of.now) out.old.items out.new.items) }
+    ensures err { OnErr result (out.new.items ≡ out.old.items) }
+{
+    let begun = out.len();
+    let done = append_numbers(out, of);
+    if done.is_err() {
+        out.truncate(begun);
+    }
+    done
+}
+
 #[tactic(auto, unfolding(crate::specs::PropsField::props))]
 fn append_props(out: &mut Vec<u8>, of: &Props) -> Result<(), OutOfMemory>
-    ensures { OnOk result (IsWritten props of.now out.old.items out.new.items) }
+    ensures ok { OnOk result (IsWritten props of.now out.old.items out.new.items) }
+    ensures err { OnErr result (Extends out.old.items out.new.items) }
 {
     put_name(out, &of.owner)?;
     put_name(out, &of.name)?;
-    append_numbers(out, of)?;
+    put_numbers(out, of)?;
     put_list(out, &of.read)?;
     put_list(out, &of.modify)
+}
+
+pub fn put_props(out: &mut Vec<u8>, of: &Props) -> Result<(), OutOfMemory>
+    ensures ok { OnOk result (IsWritten props of.now out.old.items out.new.items) }
+    ensures err { OnErr result (out.new.items ≡ out.old.items) }
+{
+    let begun = out.len();
+    let done = append_props(out, of);
+    if done.is_err() {
+        out.truncate(begun);
+    }
+    done
 }
