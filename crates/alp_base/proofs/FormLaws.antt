@@ -4,7 +4,7 @@ use Rattle.std.specs.Prelude.{nat_lt, nat_le, ◌==◌}
 use Rattle.std.specs.List.{flat_map, list_all, AllByRecursion}
 use Rattle.std.proofs.lemmas.List.{length-replicate, append-nil, take_at, drop_at, take-append-drop, nil_from_length}
 use Rattle.std.proofs.lemmas.Bool.{eqb-true, eq-eqb, leb-true, le-leb, ltb-true}
-use Rattle.alp_base.specs.Forms.{Form, IsForm, ◌>>=◌, pair, mapped, checked, sized, read_repeated, repeated, zeros_behind, bytes_of, ended, whole}
+use Rattle.alp_base.specs.Forms.{Form, IsForm, ◌>>=◌, pair, mapped, checked, sized, read_repeated, repeated, zeros_of, zeros_behind, bytes_of, ended, whole}
 
 -- ---- what a step that read something says
 
@@ -128,27 +128,23 @@ zeros_are : (n : ℕ) → list_all (λ b. b == 0) (replicate n 0) ≡ true
 zeros_are zero = refl
 zeros_are (suc n) = zeros_are n
 
-zeros_found : (n : ℕ) (rest : List ℕ) → (length (take n (replicate n 0 ++ rest)) == n && list_all (λ b. b == 0) (take n (replicate n 0 ++ rest))) ≡ true
-zeros_found n rest =
+pub zeros_law : (n : ℕ) → IsForm (zeros_of n)
+zeros_law n = record {
+  back = λ v rest fits.
     let front : take n (replicate n 0 ++ rest) ≡ replicate n 0 = take_at (replicate n 0) rest n (length-replicate {A = ℕ} n 0) in
-    rw (front, length-replicate {A = ℕ} n 0, eq-eqb n n refl) (zeros_are n)
+    let behind : drop n (replicate n 0 ++ rest) ≡ rest = drop_at (replicate n 0) rest n (length-replicate {A = ℕ} n 0) in
+    let long : nat_le n (length (replicate n 0 ++ rest)) ≡ true = le-leb n _ (omega (arith, length-append (replicate n 0) rest, length-replicate {A = ℕ} n 0)) in
+    rw (long, front, behind, zeros_are n) refl;
+  spelled = λ bytes v rest e.
+    let q = guard_some (nat_le n (length bytes) && list_all (λ b. b == 0) (take n bytes)) (tt, drop n bytes) (v, rest) e in
+    let tests = and_parts (nat_le n (length bytes)) (list_all (λ b. b == 0) (take n bytes)) q.0 in
+    let long : length (take n bytes) ≡ n = omega (arith, length-take n bytes, leb-true n (length bytes) tests.0) in
+    let zeros : take n bytes ≡ replicate n 0 = are_zeros (take n bytes) tests.1 ∙ ap (λ (k : ℕ). replicate k 0) long in
+    subst (Spells (zeros_of n) bytes) q.1 (sym (take-append-drop n bytes) ∙ ap (λ (bs : List ℕ). bs ++ drop n bytes) zeros, tt);
+}
 
 pub zeros_behind_law : {A : Type 0} (n : ℕ) (a : Form A) → IsForm a → IsForm (zeros_behind n a)
-zeros_behind_law {A} n a la = record {
-  back = λ v rest fits.
-    let one : a.read ((a.spell v ++ replicate n 0) ++ rest) ≡ Some (v, replicate n 0 ++ rest) = ap a.read (append_assoc (a.spell v) (replicate n 0) rest) ∙ la.back v (replicate n 0 ++ rest) fits in
-    rw (one, zeros_found n rest, drop_at (replicate n 0) rest n (length-replicate {A = ℕ} n 0)) refl;
-  spelled = λ bytes v rest e.
-    let test : List ℕ → Bool = λ bs. length (take n bs) == n && list_all (λ b. b == 0) (take n bs) in
-    let p = step_some (a.read bytes) (λ x. cond (test x.1) (Some (x.0, drop n x.1)) None) (v, rest) e in
-    let q = guard_some (test p.0.1) (p.0.0, drop n p.0.1) (v, rest) p.2 in
-    let tests = and_parts (length (take n p.0.1) == n) (list_all (λ b. b == 0) (take n p.0.1)) q.0 in
-    let front = la.spelled bytes p.0.0 p.0.1 p.1 in
-    let zeros : take n p.0.1 ≡ replicate n 0 = are_zeros (take n p.0.1) tests.1 ∙ ap (λ (k : ℕ). replicate k 0) (eqb-true (length (take n p.0.1)) n tests.0) in
-    let behind : p.0.1 ≡ replicate n 0 ++ drop n p.0.1 = sym (take-append-drop n p.0.1) ∙ ap (λ (bs : List ℕ). bs ++ drop n p.0.1) zeros in
-    subst (Spells (zeros_behind n a) bytes) q.1
-      (front.0 ∙ ap (λ (bs : List ℕ). a.spell p.0.0 ++ bs) behind ∙ sym (append_assoc (a.spell p.0.0) (replicate n 0) (drop n p.0.1)), front.1);
-}
+zeros_behind_law n a la = mapped_law _ _ (pair a (zeros_of n)) (λ v. refl) (λ x. refl) (pair_law a (zeros_of n) la (zeros_law n))
 
 -- ---- bytes
 

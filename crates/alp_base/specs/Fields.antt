@@ -1,5 +1,5 @@
 -- The forms of the fields of frames, records and pages.
-use Rattle.std.specs.Prelude.{◌≡◌, ℕ, ◌-◌, ◌<◌, ◌^◌, Bool, true, false, nat_le, List, [], ◌∷◌, ◌++◌, length}
+use Rattle.std.specs.Prelude.{◌≡◌, ℕ, ◌+◌, ◌-◌, ◌*◌, ◌^◌, Bool, true, false, ◌==◌, nat_le, List, [], ◌∷◌, ◌++◌, length, Option, Some, None, if◌then◌else◌}
 use Rattle.alp_base.specs.declared.ids.FileId.{FileId}
 use Rattle.alp_base.specs.declared.ids.TransId.{TransId}
 use Rattle.alp_base.specs.declared.ids.JoinNo.{JoinNo}
@@ -14,9 +14,10 @@ use Rattle.alp_base.specs.declared.key.Key.TheVariants.{Leader, PageOf, OwnerOf}
 use Rattle.alp_base.specs.declared.key.Resource.{Resource}
 use Rattle.alp_base.specs.declared.key.Resource.TheVariants.{Whole, Leaf}
 use Rattle.alp_base.specs.declared.lists.TheConstants.{NAMES_PER_LIST}
+use Rattle.alp_base.specs.declared.name.TheConstants.{NAME_BYTES}
 use Rattle.alp_base.specs.Names.{is_name}
 use Rattle.alp_base.specs.Pages.{page_bytes}
-use Rattle.alp_base.specs.Forms.{Form, pair, mapped, checked, sized, repeated, zeros_behind, Readers, tagged, just, variant, bytes_of, u8, u32, u64}
+use Rattle.alp_base.specs.Forms.{Form, ◌>>=◌, pair, mapped, checked, sized, repeated, zeros_behind, Readers, tagged, just, variant, bytes_of, u8, u32, u64}
 
 -- ---- ids, stamps and runs
 
@@ -108,13 +109,44 @@ pages = sized some_count (repeated page) length
 
 -- ---- names and lists of one length whatever they hold
 
--- the most bytes of a name
+-- a length and that many bytes, with zeros up to the length of the longest name
 abbrev pub is_name_length : ℕ → Bool
-is_name_length n = nat_le n 24
+is_name_length n = nat_le n NAME_BYTES
 
--- a name's length and its bytes, with zeros up to the length of the longest name
+unfoldable pub name_length : Form ℕ
+name_length = checked is_name_length u8
+
+unfoldable pub text_field : Form (List ℕ)
+text_field = sized name_length (λ n. zeros_behind (NAME_BYTES - n) (bytes_of n)) length
+
+-- a name in a field
 unfoldable pub named_field : Form (List ℕ)
-named_field = checked is_name (sized (checked is_name_length u8) (λ n. zeros_behind (24 - n) (bytes_of n)) length)
+named_field = checked is_name text_field
+
+-- a name in a field, or a field of zeros alone
+abbrev pub text_of : Option (List ℕ) → List ℕ
+text_of None = []
+text_of (Some n) = n
+
+abbrev pub FitsNameField : Option (List ℕ) → Type 0
+FitsNameField None = Unit {0}
+FitsNameField (Some n) = is_name n ≡ true
+
+unfoldable pub name_field : Form (Option (List ℕ))
+name_field = record {
+  spell = λ o. text_field.spell (text_of o);
+  Fits = FitsNameField;
+  read = λ bytes. do
+    x ← text_field.read bytes
+    if length x.0 == 0 then Some (None, x.1) else if is_name x.0 then Some (Some x.0, x.1) else None;
+}
+
+-- how many, that many names in fields, and zeros in place of the names that a list could have besides
+abbrev pub name_field_bytes : ℕ
+name_field_bytes = 1 + NAME_BYTES
+
+unfoldable pub list_field : Form (List (List ℕ))
+list_field = sized list_count (λ n. zeros_behind ((NAMES_PER_LIST - n) * name_field_bytes) (repeated named_field n)) length
 
 -- ---- keys and resources
 

@@ -1,5 +1,5 @@
 -- Forms: how values are spelled as bytes, and how they are read from the front of bytes.
-use Rattle.std.specs.Prelude.{◌≡◌, ℕ, zero, suc, ◌*◌, ◌-◌, ◌<◌, ◌^◌, Bool, true, ◌&&◌, ◌==◌, nat_lt, nat_le, List, [], ◌∷◌, ◌++◌, length, take, drop, replicate, Option, Some, None, if◌then◌else◌}
+use Rattle.std.specs.Prelude.{◌≡◌, ℕ, zero, suc, ◌+◌, ◌*◌, ◌-◌, ◌<◌, ◌^◌, Bool, true, ◌&&◌, ◌==◌, nat_lt, nat_le, List, [], ◌∷◌, ◌++◌, length, take, drop, replicate, Option, Some, None, if◌then◌else◌}
 use Rattle.std.specs.List.{flat_map, list_all, AllByRecursion}
 use Rattle.std.specs.Int.{Width, w16, w32, w64, byte_len, to_be_bytes, from_be_bytes}
 
@@ -39,6 +39,15 @@ ended (Some x) = if length x.1 == 0 then Some x.0 else None
 -- new is old with something or nothing behind it
 abbrev pub Extends : List ℕ → List ℕ → Type 0
 Extends old new = take (length old) new ≡ old
+
+-- the list with these in place of as many from place at on
+abbrev pub overwritten : List ℕ → ℕ → List ℕ → List ℕ
+overwritten old at bytes = take at old ++ (bytes ++ drop (at + length bytes) old)
+
+-- A writer put the spelling of the value, which is one that is read back, at that place.
+pub record IsSet {T : Type 0} (form : Form T) (v : T) (at : ℕ) (old new : List ℕ) : Type 0 where
+  pub set : new ≡ overwritten old at (form.spell v)
+  pub fits : form.Fits v
 
 -- the value that all of the bytes spell, if they spell one
 abbrev pub whole : {T : Type 0} → Form T → List ℕ → Option T
@@ -108,15 +117,17 @@ repeated a n = record {
   read = read_repeated a n;
 }
 
+-- n zeros, which say nothing
+abbrev pub zeros_of : ℕ → Form (Unit {0})
+zeros_of n = record {
+  spell = λ _. replicate n 0;
+  Fits = λ _. Unit {0};
+  read = λ bytes. if nat_le n (length bytes) && list_all (λ b. b == 0) (take n bytes) then Some (tt, drop n bytes) else None;
+}
+
 -- that, and n zeros behind it
 abbrev pub zeros_behind : {A : Type 0} → ℕ → Form A → Form A
-zeros_behind n a = record {
-  spell = λ v. a.spell v ++ replicate n 0;
-  Fits = a.Fits;
-  read = λ bytes. do
-    x ← a.read bytes
-    if length (take n x.1) == n && list_all (λ b. b == 0) (take n x.1) then Some (x.0, drop n x.1) else None;
-}
+zeros_behind n a = mapped (λ x. x.0) (λ v. (v, tt)) (pair a (zeros_of n))
 
 -- ---- forms of bytes and numbers
 
