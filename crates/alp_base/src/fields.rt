@@ -4,6 +4,7 @@
 //! bytes. A reader answers a value exactly where the bytes begin with a spelling of it, and a
 //! writer appends that spelling. What is spelled is read back whatever follows it.
 mod choices;
+mod fixed;
 mod ids;
 mod keys;
 mod lists;
@@ -12,6 +13,7 @@ mod numbers;
 mod reader;
 
 pub use choices::{put_access, put_choice, put_flag};
+pub use fixed::{LIST_FIELD_BYTES, NAME_FIELD_BYTES};
 pub use ids::{GREATEST_TIME, put_file_id, put_join_no, put_run, put_stamp, put_trans_id};
 pub use keys::{put_key, put_resource};
 pub use lists::{put_list, put_pages};

@@ -11,7 +11,7 @@ use std::alloc::Global;
 
 impl<'a> FieldReader<'a> {
     #[tactic(auto, unfolding(crate::specs::Fields::list_count))]
-    fn list_count(&mut self) -> Option<u8>
+    pub(super) fn list_count(&mut self) -> Option<u8>
         ensures read { IsRead list_count self.old self.new result }
         ensures few { IfSome result (λ n. n ≤ NAMES_PER_LIST) }
     {
