@@ -5,6 +5,7 @@ use Rattle.std.specs.List.{flat_map, list_all, AllByRecursion}
 use Rattle.std.specs.Int.{Width, w16, w32, w64, to_be_bytes, byte_len}
 use Rattle.std.proofs.lemmas.List.{length-replicate, nil_from_length}
 use Rattle.std.proofs.Math.Dec.{eqb-suc-zero}
+use Rattle.std.proofs.Math.Nat.{suc-mul, zero-mul}
 use Rattle.std.proofs.lemmas.Bool.{eqb-true, le-leb}
 use Rattle.alp_base.specs.declared.ids.FileId.{FileId}
 use Rattle.alp_base.specs.declared.lists.TheConstants.{NAMES_PER_LIST}
@@ -24,7 +25,7 @@ unfolding text_field name_length
 text_field_law = sized_law name_length (λ n. zeros_behind (NAME_BYTES - n) (bytes_of n)) length (checked_law is_name_length u8 u8_law)
     (λ n. zeros_behind_law (NAME_BYTES - n) (bytes_of n) (bytes_law n)) (λ n v fits. fits.0)
 
-text_fits : (v : List ℕ) → length v ≤ NAME_BYTES → text_field.Fits v
+pub text_fits : (v : List ℕ) → length v ≤ NAME_BYTES → text_field.Fits v
 unfolding text_field name_length
 text_fits v short = ((u8_fits (length v) (omega arith), le-leb (length v) NAME_BYTES short), (refl, tt))
 
@@ -70,6 +71,9 @@ list_field_law = sized_law list_count (λ n. zeros_behind ((NAMES_PER_LIST - n) 
 
 -- ---- lengths
 
+suc_times : (n k : ℕ) → k + n * k ≡ suc n * k
+suc_times n k = omega (arith, suc-mul n k)
+
 pub u8_length : (n : ℕ) → length (u8.spell n) ≡ 1
 unfolding u8
 u8_length n = refl
@@ -106,6 +110,11 @@ unfolding name_field
 name_field_length None fits = text_length [] (omega arith)
 name_field_length (Some n) fits = text_length n (names.name_length n fits)
 
+pub repeated_length : {A : Type 0} (a : Form A) (k : ℕ) → HasLength a k → (vs : List A) → AllByRecursion a.Fits vs → length (flat_map a.spell vs) ≡ length vs * k
+repeated_length a k long [] fits = sym (zero-mul k)
+repeated_length a k long (v ∷ vs) fits =
+    length-append (a.spell v) (flat_map a.spell vs) ∙ ap (λ (n : ℕ). n + length (flat_map a.spell vs)) (long v fits.0)
+    ∙ ap (λ (n : ℕ). k + n) (repeated_length a k long vs fits.1) ∙ suc_times (length vs) k
+
 pub names_length : (vs : List (List ℕ)) → AllByRecursion named_field.Fits vs → length (flat_map named_field.spell vs) ≡ length vs * name_field_bytes
-names_length [] fits = refl
-names_length (v ∷ vs) fits = omega (arith, length-append (named_field.spell v) (flat_map named_field.spell vs), named_field_length v fits.0, names_length vs fits.1)
+names_length vs fits = repeated_length named_field name_field_bytes named_field_length vs fits
