@@ -4,7 +4,7 @@ use Rattle.std.specs.Prelude.{nat_lt, nat_le, ◌==◌}
 use Rattle.std.specs.List.{flat_map, list_all, AllByRecursion}
 use Rattle.std.proofs.lemmas.List.{length-replicate, append-nil, take_at, drop_at, take-append-drop, nil_from_length}
 use Rattle.std.proofs.lemmas.Bool.{eqb-true, eq-eqb, leb-true, le-leb, ltb-true}
-use Rattle.alp_base.specs.Forms.{Form, IsForm, ◌>>=◌, pair, mapped, checked, sized, read_repeated, repeated, zeros_of, zeros_behind, bytes_of, ended, whole}
+use Rattle.alp_base.specs.Forms.{Form, IsForm, SpellsOnce, ◌>>=◌, pair, mapped, checked, sized, read_repeated, repeated, zeros_of, zeros_behind, bytes_of, ended, whole}
 
 -- ---- what a step that read something says
 
@@ -164,10 +164,7 @@ bytes_size n v fits = fits
 
 -- ---- what follows from the laws of a form
 
--- Two spellings with whatever behind them are one, and one value's: no value has two spellings, no spelling
--- is another value's, and none begins a longer one.
-pub spelling_is_one : {T : Type 0} (form : Form T) → IsForm form → (v w : T) (rest others : List ℕ) → form.Fits v → form.Fits w
-    → form.spell v ++ rest ≡ form.spell w ++ others → (v ≡ w) × (rest ≡ others)
+pub spelling_is_one : {T : Type 0} (form : Form T) → IsForm form → SpellsOnce form
 spelling_is_one {T} form laws v w rest others fits fits' same =
     let both : ◌≡◌ {A = Option (T × List ℕ)} (Some (v, rest)) (Some (w, others)) = sym (laws.back v rest fits) ∙ ap form.read same ∙ laws.back w others fits' in
     let parts : (v, rest) ≡ (w, others) = some_is (v, rest) (w, others) both in

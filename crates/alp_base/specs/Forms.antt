@@ -199,3 +199,8 @@ read_choice readers bytes = do
 -- values that are told apart by their tags: their spellings, and the readers by tag
 abbrev pub tagged : {T : Type 0} → (T → List ℕ) → (T → Type 0) → Readers T → Form T
 tagged spell Fits readers = record { spell = spell; Fits = Fits; read = read_choice readers }
+
+-- Two spellings with whatever behind them are one, and one value's: no value has two, no two values share one,
+-- and none begins a longer one.
+abbrev pub SpellsOnce : {T : Type 0} → Form T → Type 0
+SpellsOnce {T} form = (v w : T) (rest others : List ℕ) → form.Fits v → form.Fits w → form.spell v ++ rest ≡ form.spell w ++ others → (v ≡ w) × (rest ≡ others)
