@@ -1,6 +1,6 @@
 -- The laws of the forms of fields.
-use Rattle.std.proofs.Common.{◌≡◌, ℕ, zero, suc, ◌+◌, ◌-◌, ◌*◌, ◌/◌, ◌%◌, ◌<◌, ◌≤◌, ◌^◌, Bool, true, false, cond, eqb, ◌&&◌, List, [], ◌∷◌, ◌++◌, length, get_or, take, drop, Option, Some, None, refl, sym, ap, subst, ◌∙◌, append_assoc, arith, length-append, length-take, ◌⊎◌, inl, inr}
-use Rattle.std.specs.Prelude.{nat_lt, nat_le, ◌==◌}
+use Rattle.std.proofs.Common.{◌≡◌, ℕ, zero, suc, ◌*◌, ◌/◌, ◌<◌, ◌^◌, Bool, true, false, cond, ◌&&◌, List, [], ◌∷◌, ◌++◌, length, get_or, take, drop, Some, refl, sym, ap, subst, ◌∙◌, arith, ◌⊎◌, inl, inr}
+use Rattle.std.specs.Prelude.{nat_lt, ◌==◌}
 use Rattle.std.specs.List.{list_all, AllByRecursion}
 use Rattle.std.specs.Int.{Width, w16, w32, w64, byte_len, byte_at, bytes_high_first, to_be_bytes, from_be_bytes}
 use Rattle.std.proofs.lemmas.List.{take_at, drop_at, take-append-drop}
@@ -14,7 +14,7 @@ use Rattle.alp_base.specs.declared.key.Key.{Key}
 use Rattle.alp_base.specs.declared.key.Key.TheVariants.{Leader, PageOf, OwnerOf}
 use Rattle.alp_base.specs.declared.key.Resource.{Resource}
 use Rattle.alp_base.specs.declared.key.Resource.TheVariants.{Whole, Leaf}
-use Rattle.alp_base.specs.Forms.{Form, IsForm, ◌>>=◌, number_of, u8, u16, u32, u64, read_byte, pair, mapped, checked, sized, repeated, bytes_of, just, variant, Reader, Readers, read_tagged, read_choice, tagged}
+use Rattle.alp_base.specs.Forms.{Form, IsForm, number_of, u8, u16, u32, u64, read_byte, pair, checked, sized, repeated, bytes_of, just, variant, Reader, Readers, read_tagged, read_choice, tagged}
 use Rattle.alp_base.specs.Fields.{id_parts, file_id, trans_id, join_no, is_time, stamp, is_some_count, some_count, run, name, is_list_count, list_count, list, page, pages, spell_choice, choice_readers, choice, spell_access, access_readers, access, spell_flag, flag_readers, flag, spell_key, FitsKey, key_readers, key, spell_resource, FitsResource, resource_readers, resource}
 use Rattle.alp_base.specs.Names.{is_name}
 use Rattle.alp_base.specs.Pages.{page_bytes}
@@ -75,17 +75,17 @@ wide64 = record {
 number_law : (w : Width) → IsWide w → IsForm (number_of w)
 number_law w wide = record {
   back = λ n rest fits.
-    let front : take (byte_len w) (to_be_bytes w n ++ rest) ≡ to_be_bytes w n = take_at (to_be_bytes w n) rest (byte_len w) (wide.len n) in
-    let behind : drop (byte_len w) (to_be_bytes w n ++ rest) ≡ rest = drop_at (to_be_bytes w n) rest (byte_len w) (wide.len n) in
-    let test : (length (to_be_bytes w n) == byte_len w && are_bytes (to_be_bytes w n)) ≡ true = rw (eq-eqb _ _ (wide.len n)) (spelled_bytes (byte_len w) n) in
-    rw (front, behind, test, wide.again n fits) refl;
+      let front : take (byte_len w) (to_be_bytes w n ++ rest) ≡ to_be_bytes w n = take_at (to_be_bytes w n) rest (byte_len w) (wide.len n) in
+      let behind : drop (byte_len w) (to_be_bytes w n ++ rest) ≡ rest = drop_at (to_be_bytes w n) rest (byte_len w) (wide.len n) in
+      let test : (length (to_be_bytes w n) == byte_len w && are_bytes (to_be_bytes w n)) ≡ true = rw (eq-eqb _ _ (wide.len n)) (spelled_bytes (byte_len w) n) in
+      rw (front, behind, test, wide.again n fits) refl;
   spelled = λ bytes n rest e.
-    let front : List ℕ = take (byte_len w) bytes in
-    let q = guard_some (length front == byte_len w && are_bytes front) (from_be_bytes w front, drop (byte_len w) bytes) (n, rest) e in
-    let tests = and_parts (length front == byte_len w) (are_bytes front) q.0 in
-    let fits = all_bytes front tests.1 in
-    let again : to_be_bytes w (from_be_bytes w front) ≡ front = wide.back front (eqb-true (length front) (byte_len w) tests.0) fits in
-    subst (Spells (number_of w) bytes) q.1 (sym (take-append-drop (byte_len w) bytes) ∙ ap (λ (bs : List ℕ). bs ++ drop (byte_len w) bytes) (sym again), wide.below front fits);
+      let front : List ℕ = take (byte_len w) bytes in
+      let q = guard_some (length front == byte_len w && are_bytes front) (from_be_bytes w front, drop (byte_len w) bytes) (n, rest) e in
+      let tests = and_parts (length front == byte_len w) (are_bytes front) q.0 in
+      let fits = all_bytes front tests.1 in
+      let again : to_be_bytes w (from_be_bytes w front) ≡ front = wide.back front (eqb-true (length front) (byte_len w) tests.0) fits in
+      subst (Spells (number_of w) bytes) q.1 (sym (take-append-drop (byte_len w) bytes) ∙ ap (λ (bs : List ℕ). bs ++ drop (byte_len w) bytes) (sym again), wide.below front fits);
 }
 
 byte_spelled : (bytes : List ℕ) (n : ℕ) (rest : List ℕ) → read_byte bytes ≡ Some (n, rest) → (bytes ≡ n ∷ rest) × (n < 256)
@@ -132,7 +132,7 @@ variant_reads {A} {T} spell Fits tag into a la is fits bytes w rest e =
     let P : T × List ℕ → Type 0 = λ x. (tag ∷ bytes ≡ spell x.0 ++ x.1) × Fits x.0 in
     let made : T × List ℕ = (into p.0.0, p.0.1) in
     subst P (some_is made (w, rest) p.2)
-      (ap (λ (bs : List ℕ). tag ∷ bs) front.0 ∙ ap (λ (bs : List ℕ). bs ++ p.0.1) (sym (is p.0.0)), fits p.0.0 front.1)
+    (ap (λ (bs : List ℕ). tag ∷ bs) front.0 ∙ ap (λ (bs : List ℕ). bs ++ p.0.1) (sym (is p.0.0)), fits p.0.0 front.1)
 
 pub variant_back : {A T : Type 0} (into : A → T) (a : Form A) → IsForm a → (v : A) (rest : List ℕ) → a.Fits v → variant into a (a.spell v ++ rest) ≡ Some (into v, rest)
 variant_back into a la v rest fits = rw (la.back v rest fits) refl
@@ -169,10 +169,10 @@ pub tagged_law : {T : Type 0} (spell : T → List ℕ) (Fits : T → Type 0) (ch
 tagged_law spell Fits choices back reads = record {
   back = back;
   spelled = λ bytes v rest e.
-    let p = step_some (u8.read bytes) (λ tag. read_tagged choices tag.0 tag.1) (v, rest) e in
-    let front = u8_law.spelled bytes p.0.0 p.0.1 p.1 in
-    let whole = tagged_reads spell Fits choices reads p.0.0 p.0.1 v rest p.2 in
-    (front.0 ∙ ap (λ (bs : List ℕ). bs ++ p.0.1) (u8_spell p.0.0) ∙ whole.0, whole.1);
+      let p = step_some (u8.read bytes) (λ tag. read_tagged choices tag.0 tag.1) (v, rest) e in
+      let front = u8_law.spelled bytes p.0.0 p.0.1 p.1 in
+      let whole = tagged_reads spell Fits choices reads p.0.0 p.0.1 v rest p.2 in
+      (front.0 ∙ ap (λ (bs : List ℕ). bs ++ p.0.1) (u8_spell p.0.0) ∙ whole.0, whole.1);
 }
 
 -- ---- ids, stamps and runs
@@ -255,10 +255,13 @@ place_law = pair_law file_id u32 file_id_law u32_law
 
 pub key_law : IsForm key
 unfolding key
-key_law = tagged_law spell_key FitsKey key_readers back
-    (variant_reads spell_key FitsKey 1 Leader file_id file_id_law (λ v. refl) (λ v fits. fits),
-    (variant_reads spell_key FitsKey 2 (λ x. PageOf x.0 x.1) (pair file_id u32) place_law (λ v. refl) (λ v fits. fits),
-    (variant_reads spell_key FitsKey 3 OwnerOf name name_law (λ v. refl) (λ v fits. fits), tt)))
+key_law = tagged_law spell_key FitsKey key_readers back (
+  variant_reads spell_key FitsKey 1 Leader file_id file_id_law (λ v. refl) (λ v fits. fits),
+  (
+    variant_reads spell_key FitsKey 2 (λ x. PageOf x.0 x.1) (pair file_id u32) place_law (λ v. refl) (λ v fits. fits),
+    (variant_reads spell_key FitsKey 3 OwnerOf name name_law (λ v. refl) (λ v fits. fits), tt),
+  ),
+)
   where
     back : (v : Key) (rest : List ℕ) → FitsKey v → read_choice key_readers (spell_key v ++ rest) ≡ Some (v, rest)
     back (Leader file) rest fits = tag_back key_readers 1 (file_id.spell file ++ rest) (omega arith) ∙ variant_back Leader file_id file_id_law file rest fits
@@ -267,11 +270,16 @@ key_law = tagged_law spell_key FitsKey key_readers back
 
 pub resource_law : IsForm resource
 unfolding resource
-resource_law = tagged_law spell_resource FitsResource resource_readers back
-    (variant_reads spell_resource FitsResource 0 Whole file_id file_id_law (λ v. refl) (λ v fits. fits),
-    (variant_reads spell_resource FitsResource 1 (λ f. Leaf (Leader f)) file_id file_id_law (λ v. refl) (λ v fits. fits),
-    (variant_reads spell_resource FitsResource 2 (λ x. Leaf (PageOf x.0 x.1)) (pair file_id u32) place_law (λ v. refl) (λ v fits. fits),
-    (variant_reads spell_resource FitsResource 3 (λ n. Leaf (OwnerOf n)) name name_law (λ v. refl) (λ v fits. fits), tt))))
+resource_law = tagged_law spell_resource FitsResource resource_readers back (
+  variant_reads spell_resource FitsResource 0 Whole file_id file_id_law (λ v. refl) (λ v fits. fits),
+  (
+    variant_reads spell_resource FitsResource 1 (λ f. Leaf (Leader f)) file_id file_id_law (λ v. refl) (λ v fits. fits),
+    (
+      variant_reads spell_resource FitsResource 2 (λ x. Leaf (PageOf x.0 x.1)) (pair file_id u32) place_law (λ v. refl) (λ v fits. fits),
+      (variant_reads spell_resource FitsResource 3 (λ n. Leaf (OwnerOf n)) name name_law (λ v. refl) (λ v fits. fits), tt),
+    ),
+  ),
+)
   where
     back : (v : Resource) (rest : List ℕ) → FitsResource v → read_choice resource_readers (spell_resource v ++ rest) ≡ Some (v, rest)
     back (Whole file) rest fits = tag_back resource_readers 0 (file_id.spell file ++ rest) (omega arith) ∙ variant_back Whole file_id file_id_law file rest fits

@@ -1,8 +1,7 @@
 -- The laws of the fields that are as long whatever they hold, and how long the spellings of fields are.
-use Rattle.std.proofs.Common.{◌≡◌, ℕ, zero, suc, ◌+◌, ◌-◌, ◌*◌, ◌<◌, ◌≤◌, ◌^◌, Bool, true, false, cond, eqb, ◌&&◌, List, [], ◌∷◌, ◌++◌, length, take, drop, replicate, Option, Some, None, refl, sym, ap, subst, ◌∙◌, append_assoc, arith, length-append, ◌⊎◌, inl, inr}
-use Rattle.std.specs.Prelude.{nat_le, ◌==◌}
-use Rattle.std.specs.List.{flat_map, list_all, AllByRecursion}
-use Rattle.std.specs.Int.{Width, w16, w32, w64, to_be_bytes, byte_len}
+use Rattle.std.proofs.Common.{◌≡◌, ℕ, suc, ◌+◌, ◌-◌, ◌*◌, ◌≤◌, Bool, true, false, cond, List, [], ◌∷◌, ◌++◌, length, replicate, Option, Some, None, refl, sym, ap, subst, ◌∙◌, arith, length-append}
+use Rattle.std.specs.Prelude.{◌==◌}
+use Rattle.std.specs.List.{flat_map, AllByRecursion}
 use Rattle.std.proofs.lemmas.List.{length-replicate, nil_from_length}
 use Rattle.std.proofs.Math.Dec.{eqb-suc-zero}
 use Rattle.std.proofs.Math.Nat.{suc-mul, zero-mul}
@@ -10,13 +9,13 @@ use Rattle.std.proofs.lemmas.Bool.{eqb-true, le-leb}
 use Rattle.alp_base.specs.declared.ids.FileId.{FileId}
 use Rattle.alp_base.specs.declared.lists.TheConstants.{NAMES_PER_LIST}
 use Rattle.alp_base.specs.declared.name.TheConstants.{NAME_BYTES}
-use Rattle.alp_base.specs.Names.{is_name, is_name_byte}
-use Rattle.alp_base.specs.Forms.{Form, IsForm, HasLength, ◌>>=◌, pair, checked, sized, repeated, zeros_of, zeros_behind, bytes_of, u8, u16, u32, u64}
+use Rattle.alp_base.specs.Names.{is_name}
+use Rattle.alp_base.specs.Forms.{Form, IsForm, HasLength, repeated, zeros_behind, bytes_of, u8, u16, u32, u64}
 use Rattle.alp_base.specs.Fields.{id_parts, file_id, is_list_count, list_count, is_name_length, name_length, text_field, named_field, text_of, FitsNameField, name_field, name_field_bytes, list_field}
 use Rattle.alp_base.proofs.NameLemmas.{and_left, and_right}
 use Rattle.alp_base.proofs.NameLemmas as names
-use Rattle.alp_base.proofs.FormLaws.{Spells, step_some, guard_some, some_is, mapped_law, pair_law, checked_law, sized_law, repeated_law, repeated_size, bytes_law, bytes_size, zeros_behind_law}
-use Rattle.alp_base.proofs.FieldLaws.{u8_law, u8_spell, u8_fits}
+use Rattle.alp_base.proofs.FormLaws.{Spells, step_some, some_is, checked_law, sized_law, repeated_law, bytes_law, zeros_behind_law}
+use Rattle.alp_base.proofs.FieldLaws.{u8_law, u8_fits}
 
 -- ---- names in fields
 

@@ -1,9 +1,9 @@
 -- The laws of forms that are made of others: each from those of its parts.
-use Rattle.std.proofs.Common.{◌≡◌, ℕ, zero, suc, ◌+◌, ◌-◌, ◌*◌, ◌<◌, ◌≤◌, ◌^◌, Bool, true, false, cond, eqb, ◌&&◌, List, [], ◌∷◌, ◌++◌, length, get_or, take, drop, replicate, Option, Some, None, refl, sym, ap, subst, ◌∙◌, append_assoc, arith, length-append, length-take, ◌⊎◌, inl, inr}
-use Rattle.std.specs.Prelude.{nat_lt, nat_le, ◌==◌}
+use Rattle.std.proofs.Common.{◌≡◌, ℕ, zero, suc, ◌≤◌, Bool, true, false, cond, ◌&&◌, List, [], ◌∷◌, ◌++◌, length, take, drop, replicate, Option, Some, None, refl, sym, ap, subst, ◌∙◌, append_assoc, arith, length-append, length-take}
+use Rattle.std.specs.Prelude.{nat_le, ◌==◌}
 use Rattle.std.specs.List.{flat_map, list_all, AllByRecursion}
 use Rattle.std.proofs.lemmas.List.{length-replicate, append-nil, take_at, drop_at, take-append-drop, nil_from_length}
-use Rattle.std.proofs.lemmas.Bool.{eqb-true, eq-eqb, leb-true, le-leb, ltb-true}
+use Rattle.std.proofs.lemmas.Bool.{eqb-true, leb-true, le-leb}
 use Rattle.alp_base.specs.Forms.{Form, IsForm, SpellsOnce, ◌>>=◌, pair, mapped, checked, sized, read_repeated, repeated, zeros_of, zeros_behind, bytes_of, ended, whole}
 
 -- ---- what a step that read something says
@@ -28,15 +28,15 @@ Spells form bytes x = (bytes ≡ form.spell x.0 ++ x.1) × form.Fits x.0
 pub pair_law : {A B : Type 0} (a : Form A) (b : Form B) → IsForm a → IsForm b → IsForm (pair a b)
 pair_law {A} {B} a b la lb = record {
   back = λ v rest fits.
-    let one : a.read ((a.spell v.0 ++ b.spell v.1) ++ rest) ≡ Some (v.0, b.spell v.1 ++ rest) = ap a.read (append_assoc (a.spell v.0) (b.spell v.1) rest) ∙ la.back v.0 (b.spell v.1 ++ rest) fits.0 in
-    rw (one, lb.back v.1 rest fits.1) refl;
+      let one : a.read ((a.spell v.0 ++ b.spell v.1) ++ rest) ≡ Some (v.0, b.spell v.1 ++ rest) = ap a.read (append_assoc (a.spell v.0) (b.spell v.1) rest) ∙ la.back v.0 (b.spell v.1 ++ rest) fits.0 in
+      rw (one, lb.back v.1 rest fits.1) refl;
   spelled = λ bytes v rest e.
-    let p = step_some (a.read bytes) (λ x. b.read x.1 >>= λ y. Some ((x.0, y.0), y.1)) (v, rest) e in
-    let q = step_some (b.read p.0.1) (λ y. Some ((p.0.0, y.0), y.1)) (v, rest) p.2 in
-    let front = la.spelled bytes p.0.0 p.0.1 p.1 in
-    let behind = lb.spelled p.0.1 q.0.0 q.0.1 q.1 in
-    let made : (A × B) × List ℕ = ((p.0.0, q.0.0), q.0.1) in
-    subst (Spells (pair a b) bytes) (some_is made (v, rest) q.2)
+      let p = step_some (a.read bytes) (λ x. b.read x.1 >>= λ y. Some ((x.0, y.0), y.1)) (v, rest) e in
+      let q = step_some (b.read p.0.1) (λ y. Some ((p.0.0, y.0), y.1)) (v, rest) p.2 in
+      let front = la.spelled bytes p.0.0 p.0.1 p.1 in
+      let behind = lb.spelled p.0.1 q.0.0 q.0.1 q.1 in
+      let made : (A × B) × List ℕ = ((p.0.0, q.0.0), q.0.1) in
+      subst (Spells (pair a b) bytes) (some_is made (v, rest) q.2)
       (front.0 ∙ ap (λ (bs : List ℕ). a.spell p.0.0 ++ bs) behind.0 ∙ sym (append_assoc (a.spell p.0.0) (b.spell q.0.0) q.0.1), (front.1, behind.1));
 }
 
@@ -45,10 +45,10 @@ pub mapped_law : {A T : Type 0} (into : A → T) (out : T → A) (a : Form A) �
 mapped_law {A} {T} into out a there here la = record {
   back = λ v rest fits. rw (la.back (out v) rest fits) (ap (λ (w : T). Some (w, rest)) (there v));
   spelled = λ bytes v rest e.
-    let p = step_some (a.read bytes) (λ x. Some (into x.0, x.1)) (v, rest) e in
-    let front = la.spelled bytes p.0.0 p.0.1 p.1 in
-    let made : T × List ℕ = (into p.0.0, p.0.1) in
-    subst (Spells (mapped into out a) bytes) (some_is made (v, rest) p.2)
+      let p = step_some (a.read bytes) (λ x. Some (into x.0, x.1)) (v, rest) e in
+      let front = la.spelled bytes p.0.0 p.0.1 p.1 in
+      let made : T × List ℕ = (into p.0.0, p.0.1) in
+      subst (Spells (mapped into out a) bytes) (some_is made (v, rest) p.2)
       (front.0 ∙ ap (λ (x : A). a.spell x ++ p.0.1) (sym (here p.0.0)), subst a.Fits (sym (here p.0.0)) front.1);
 }
 
@@ -56,27 +56,27 @@ pub checked_law : {A : Type 0} (test : A → Bool) (a : Form A) → IsForm a →
 checked_law {A} test a la = record {
   back = λ v rest fits. rw (la.back v rest fits.0, fits.1) refl;
   spelled = λ bytes v rest e.
-    let p = step_some (a.read bytes) (λ x. cond (test x.0) (Some x) None) (v, rest) e in
-    let q = guard_some (test p.0.0) p.0 (v, rest) p.2 in
-    let front = la.spelled bytes p.0.0 p.0.1 p.1 in
-    subst (Spells (checked test a) bytes) q.1 (front.0, (front.1, q.0));
+      let p = step_some (a.read bytes) (λ x. cond (test x.0) (Some x) None) (v, rest) e in
+      let q = guard_some (test p.0.0) p.0 (v, rest) p.2 in
+      let front = la.spelled bytes p.0.0 p.0.1 p.1 in
+      subst (Spells (checked test a) bytes) q.1 (front.0, (front.1, q.0));
 }
 
 -- each body has the size that the number says
 pub sized_law : {A : Type 0} (number : Form ℕ) (body : ℕ → Form A) (size : A → ℕ) → IsForm number → ((n : ℕ) → IsForm (body n)) → ((n : ℕ) (v : A) → (body n).Fits v → size v ≡ n) → IsForm (sized number body size)
 sized_law {A} number body size ln lb is = record {
   back = λ v rest fits.
-    let one : number.read ((number.spell (size v) ++ (body (size v)).spell v) ++ rest) ≡ Some (size v, (body (size v)).spell v ++ rest) =
+      let one : number.read ((number.spell (size v) ++ (body (size v)).spell v) ++ rest) ≡ Some (size v, (body (size v)).spell v ++ rest) =
       ap number.read (append_assoc (number.spell (size v)) ((body (size v)).spell v) rest) ∙ ln.back (size v) ((body (size v)).spell v ++ rest) fits.0 in
-    rw (one, (lb (size v)).back v rest fits.1) refl;
+      rw (one, (lb (size v)).back v rest fits.1) refl;
   spelled = λ bytes v rest e.
-    let p = step_some (number.read bytes) (λ n. (body n.0).read n.1) (v, rest) e in
-    let front = ln.spelled bytes p.0.0 p.0.1 p.1 in
-    let behind = (lb p.0.0).spelled p.0.1 v rest p.2 in
-    let n : size v ≡ p.0.0 = is p.0.0 v behind.1 in
-    let whole : bytes ≡ (number.spell p.0.0 ++ (body p.0.0).spell v) ++ rest = front.0 ∙ ap (λ (bs : List ℕ). number.spell p.0.0 ++ bs) behind.0 ∙ sym (append_assoc (number.spell p.0.0) ((body p.0.0).spell v) rest) in
-    let P : ℕ → Type 0 = λ k. (bytes ≡ (number.spell k ++ (body k).spell v) ++ rest) × (number.Fits k × (body k).Fits v) in
-    subst P (sym n) (whole, (front.1, behind.1));
+      let p = step_some (number.read bytes) (λ n. (body n.0).read n.1) (v, rest) e in
+      let front = ln.spelled bytes p.0.0 p.0.1 p.1 in
+      let behind = (lb p.0.0).spelled p.0.1 v rest p.2 in
+      let n : size v ≡ p.0.0 = is p.0.0 v behind.1 in
+      let whole : bytes ≡ (number.spell p.0.0 ++ (body p.0.0).spell v) ++ rest = front.0 ∙ ap (λ (bs : List ℕ). number.spell p.0.0 ++ bs) behind.0 ∙ sym (append_assoc (number.spell p.0.0) ((body p.0.0).spell v) rest) in
+      let P : ℕ → Type 0 = λ k. (bytes ≡ (number.spell k ++ (body k).spell v) ++ rest) × (number.Fits k × (body k).Fits v) in
+      subst P (sym n) (whole, (front.1, behind.1));
 }
 
 -- ---- several in a row
@@ -91,9 +91,10 @@ repeated_spelled {A} a la (suc n) bytes x e =
     let front = la.spelled bytes p.0.0 p.0.1 p.1 in
     let behind = repeated_spelled a la n p.0.1 q.0 q.1 in
     let made : List A × List ℕ = (p.0.0 ∷ q.0.0, q.0.1) in
-    subst (Spells (repeated a (suc n)) bytes) (some_is made x q.2)
-      (front.0 ∙ ap (λ (bs : List ℕ). a.spell p.0.0 ++ bs) behind.0 ∙ sym (append_assoc (a.spell p.0.0) (flat_map a.spell q.0.0) q.0.1),
-       (ap suc behind.1.0, (front.1, behind.1.1)))
+    subst (Spells (repeated a (suc n)) bytes) (some_is made x q.2) (
+      front.0 ∙ ap (λ (bs : List ℕ). a.spell p.0.0 ++ bs) behind.0 ∙ sym (append_assoc (a.spell p.0.0) (flat_map a.spell q.0.0) q.0.1),
+      (ap suc behind.1.0, (front.1, behind.1.1)),
+    )
 
 repeated_back : {A : Type 0} (a : Form A) → IsForm a → (vs : List A) (rest : List ℕ) → AllByRecursion a.Fits vs → read_repeated a (length vs) (flat_map a.spell vs ++ rest) ≡ Some (vs, rest)
 repeated_back a la [] rest fits = refl
@@ -131,16 +132,16 @@ zeros_are (suc n) = zeros_are n
 pub zeros_law : (n : ℕ) → IsForm (zeros_of n)
 zeros_law n = record {
   back = λ v rest fits.
-    let front : take n (replicate n 0 ++ rest) ≡ replicate n 0 = take_at (replicate n 0) rest n (length-replicate {A = ℕ} n 0) in
-    let behind : drop n (replicate n 0 ++ rest) ≡ rest = drop_at (replicate n 0) rest n (length-replicate {A = ℕ} n 0) in
-    let long : nat_le n (length (replicate n 0 ++ rest)) ≡ true = le-leb n _ (omega (arith, length-append (replicate n 0) rest, length-replicate {A = ℕ} n 0)) in
-    rw (long, front, behind, zeros_are n) refl;
+      let front : take n (replicate n 0 ++ rest) ≡ replicate n 0 = take_at (replicate n 0) rest n (length-replicate {A = ℕ} n 0) in
+      let behind : drop n (replicate n 0 ++ rest) ≡ rest = drop_at (replicate n 0) rest n (length-replicate {A = ℕ} n 0) in
+      let long : nat_le n (length (replicate n 0 ++ rest)) ≡ true = le-leb n _ (omega (arith, length-append (replicate n 0) rest, length-replicate {A = ℕ} n 0)) in
+      rw (long, front, behind, zeros_are n) refl;
   spelled = λ bytes v rest e.
-    let q = guard_some (nat_le n (length bytes) && list_all (λ b. b == 0) (take n bytes)) (tt, drop n bytes) (v, rest) e in
-    let tests = and_parts (nat_le n (length bytes)) (list_all (λ b. b == 0) (take n bytes)) q.0 in
-    let long : length (take n bytes) ≡ n = omega (arith, length-take n bytes, leb-true n (length bytes) tests.0) in
-    let zeros : take n bytes ≡ replicate n 0 = are_zeros (take n bytes) tests.1 ∙ ap (λ (k : ℕ). replicate k 0) long in
-    subst (Spells (zeros_of n) bytes) q.1 (sym (take-append-drop n bytes) ∙ ap (λ (bs : List ℕ). bs ++ drop n bytes) zeros, tt);
+      let q = guard_some (nat_le n (length bytes) && list_all (λ b. b == 0) (take n bytes)) (tt, drop n bytes) (v, rest) e in
+      let tests = and_parts (nat_le n (length bytes)) (list_all (λ b. b == 0) (take n bytes)) q.0 in
+      let long : length (take n bytes) ≡ n = omega (arith, length-take n bytes, leb-true n (length bytes) tests.0) in
+      let zeros : take n bytes ≡ replicate n 0 = are_zeros (take n bytes) tests.1 ∙ ap (λ (k : ℕ). replicate k 0) long in
+      subst (Spells (zeros_of n) bytes) q.1 (sym (take-append-drop n bytes) ∙ ap (λ (bs : List ℕ). bs ++ drop n bytes) zeros, tt);
 }
 
 pub zeros_behind_law : {A : Type 0} (n : ℕ) (a : Form A) → IsForm a → IsForm (zeros_behind n a)
@@ -151,12 +152,12 @@ zeros_behind_law n a la = mapped_law _ _ (pair a (zeros_of n)) (λ v. refl) (λ 
 pub bytes_law : (n : ℕ) → IsForm (bytes_of n)
 bytes_law n = record {
   back = λ v rest fits.
-    let long : nat_le n (length (v ++ rest)) ≡ true = le-leb n (length (v ++ rest)) (omega (arith, length-append v rest, fits)) in
-    rw (long, take_at v rest n fits, drop_at v rest n fits) refl;
+      let long : nat_le n (length (v ++ rest)) ≡ true = le-leb n (length (v ++ rest)) (omega (arith, length-append v rest, fits)) in
+      rw (long, take_at v rest n fits, drop_at v rest n fits) refl;
   spelled = λ bytes v rest e.
-    let q = guard_some (nat_le n (length bytes)) (take n bytes, drop n bytes) (v, rest) e in
-    let long : n ≤ length bytes = leb-true n (length bytes) q.0 in
-    subst (Spells (bytes_of n) bytes) q.1 (sym (take-append-drop n bytes), omega (arith, length-take n bytes));
+      let q = guard_some (nat_le n (length bytes)) (take n bytes, drop n bytes) (v, rest) e in
+      let long : n ≤ length bytes = leb-true n (length bytes) q.0 in
+      subst (Spells (bytes_of n) bytes) q.1 (sym (take-append-drop n bytes), omega (arith, length-take n bytes));
 }
 
 pub bytes_size : (n : ℕ) (v : List ℕ) → (bytes_of n).Fits v → length v ≡ n

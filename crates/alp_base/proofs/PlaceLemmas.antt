@@ -1,5 +1,5 @@
 -- Fields that are put one behind the other are one field.
-use Rattle.std.proofs.Common.{◌≡◌, ℕ, zero, suc, ◌+◌, ◌-◌, ◌*◌, ◌<◌, ◌≤◌, List, [], ◌∷◌, ◌++◌, length, get_or, take, drop, replicate, Option, Some, None, true, refl, sym, ap, subst, ◌∙◌, append_assoc, arith, length-append}
+use Rattle.std.proofs.Common.{◌≡◌, ℕ, ◌+◌, ◌-◌, ◌*◌, ◌<◌, ◌≤◌, List, [], ◌∷◌, ◌++◌, length, get_or, take, drop, replicate, Some, None, true, refl, sym, ap, subst, ◌∙◌, append_assoc, arith, length-append}
 use Rattle.std.specs.List.{flat_map, AllByRecursion}
 use Rattle.std.proofs.lemmas.List.{append-nil, length-take-le, take_at, drop_at, drop-drop, take-append-drop, take_more, take_all, length_push}
 use Rattle.std.proofs.lemmas.Bool.{le-leb}
@@ -22,8 +22,8 @@ overwritten-overwritten old at j first second room is =
     let before : take j (overwritten old at first) ≡ front = ap (take j) mid ∙ take_at front behind j len in
     let after : drop j (overwritten old at first) ≡ behind = ap (drop j) mid ∙ drop_at front behind j len in
     let rest : drop (j + length second) (overwritten old at first) ≡ drop (at + length (first ++ second)) old =
-      sym (drop-drop (length second) j (overwritten old at first)) ∙ ap (drop (length second)) after ∙ drop-drop (length second) (at + length first) old
-      ∙ ap (λ (k : ℕ). drop k old) (omega (arith, length-append first second)) in
+    sym (drop-drop (length second) j (overwritten old at first)) ∙ ap (drop (length second)) after ∙ drop-drop (length second) (at + length first) old
+    ∙ ap (λ (k : ℕ). drop k old) (omega (arith, length-append first second)) in
     ap (λ (bs : List ℕ). bs ++ (second ++ drop (j + length second) (overwritten old at first))) before
     ∙ ap (λ (bs : List ℕ). front ++ (second ++ bs)) rest
     ∙ append_assoc (take at old) first (second ++ drop (at + length (first ++ second)) old)
@@ -44,7 +44,7 @@ named_set v at old mid new room named size rest =
     let short : length v ≤ NAME_BYTES = names.name_length v named in
     record {
       set = rest ∙ ap (λ (bs : List ℕ). overwritten bs (at + 1) (padded v)) size.set
-        ∙ overwritten-overwritten old at (at + 1) (u8.spell (length v)) (padded v) room (omega (arith, u8_length (length v)));
+          ∙ overwritten-overwritten old at (at + 1) (u8.spell (length v)) (padded v) room (omega (arith, u8_length (length v)));
       fits = (text_fits v short, named);
     }
 
@@ -76,8 +76,8 @@ set_more a k vs i v at j old mid new long lt is room place so_far one =
     let len : length (flat_map a.spell (take i vs)) ≡ i * k = repeated_length a k long (take i vs) so_far.fits.1 ∙ ap (λ (n : ℕ). n * k) so_far.fits.0 in
     rw more (record {
       set = one.set ∙ ap (λ (bs : List ℕ). overwritten bs j (a.spell v)) so_far.set
-        ∙ overwritten-overwritten old at j (flat_map a.spell (take i vs)) (a.spell v) room (place ∙ ap (λ (n : ℕ). at + n) (sym len))
-        ∙ ap (overwritten old at) (sym (spell_push a (take i vs) v));
+          ∙ overwritten-overwritten old at j (flat_map a.spell (take i vs)) (a.spell v) room (place ∙ ap (λ (n : ℕ). at + n) (sym len))
+          ∙ ap (overwritten old at) (sym (spell_push a (take i vs) v));
       fits = (rw (length_push, so_far.fits.0) refl, all_push a.Fits (take i vs) v so_far.fits.1 one.fits);
     })
 
@@ -99,10 +99,10 @@ list_field_set vs at old first second new room few count every same more zeros =
     let unused : List ℕ = replicate ((NAMES_PER_LIST - n) * name_field_bytes) 0 in
     let len : length (flat_map named_field.spell vs) ≡ n * name_field_bytes = names_length vs every.fits.1 in
     let behind : new ≡ overwritten first (at + 1) (flat_map named_field.spell vs ++ unused) =
-      zeros ∙ ap (λ (bs : List ℕ). overwritten bs (at + 1 + n * name_field_bytes) unused) every.set
-      ∙ overwritten-overwritten first (at + 1) (at + 1 + n * name_field_bytes) (flat_map named_field.spell vs) unused (omega arith) (ap (λ (k : ℕ). at + 1 + k) (sym len)) in
+    zeros ∙ ap (λ (bs : List ℕ). overwritten bs (at + 1 + n * name_field_bytes) unused) every.set
+    ∙ overwritten-overwritten first (at + 1) (at + 1 + n * name_field_bytes) (flat_map named_field.spell vs) unused (omega arith) (ap (λ (k : ℕ). at + 1 + k) (sym len)) in
     record {
       set = behind ∙ ap (λ (bs : List ℕ). overwritten bs (at + 1) (flat_map named_field.spell vs ++ unused)) count.set
-        ∙ overwritten-overwritten old at (at + 1) (u8.spell n) (flat_map named_field.spell vs ++ unused) room (omega (arith, u8_length n));
+          ∙ overwritten-overwritten old at (at + 1) (u8.spell n) (flat_map named_field.spell vs ++ unused) room (omega (arith, u8_length n));
       fits = ((count.fits, le-leb n NAMES_PER_LIST few), (every.fits, tt));
     }

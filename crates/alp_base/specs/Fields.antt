@@ -25,7 +25,6 @@ use Rattle.alp_base.specs.Forms.{Form, ◌>>=◌, pair, mapped, checked, sized, 
 abbrev pub id_parts : Form (ℕ × (ℕ × ℕ))
 id_parts = pair u8 (pair u32 u32)
 
-
 unfoldable pub file_id : Form FileId
 file_id = mapped (λ x. record { server = x.0; epoch = x.1.0; counter = x.1.1 }) (λ i. (i.server, (i.epoch, i.counter))) id_parts
 

@@ -1,5 +1,5 @@
 -- Forms: how values are spelled as bytes, and how they are read from the front of bytes.
-use Rattle.std.specs.Prelude.{◌≡◌, ℕ, zero, suc, ◌+◌, ◌*◌, ◌-◌, ◌<◌, ◌^◌, Bool, true, ◌&&◌, ◌==◌, nat_lt, nat_le, List, [], ◌∷◌, ◌++◌, length, take, drop, replicate, Option, Some, None, if◌then◌else◌}
+use Rattle.std.specs.Prelude.{◌≡◌, ℕ, zero, suc, ◌+◌, ◌*◌, ◌<◌, ◌^◌, Bool, true, ◌&&◌, ◌==◌, nat_lt, nat_le, List, [], ◌∷◌, ◌++◌, length, take, drop, replicate, Option, Some, None, if◌then◌else◌}
 use Rattle.std.specs.List.{flat_map, list_all, AllByRecursion}
 use Rattle.std.specs.Int.{Width, w16, w32, w64, byte_len, to_be_bytes, from_be_bytes}
 
@@ -145,7 +145,7 @@ number_of w = record {
   spell = to_be_bytes w;
   Fits = λ n. n < 2 ^ (8 * byte_len w);
   read = λ bytes. let front = take (byte_len w) bytes in
-    if length front == byte_len w && list_all (λ b. nat_lt b 256) front then Some (from_be_bytes w front, drop (byte_len w) bytes) else None;
+      if length front == byte_len w && list_all (λ b. nat_lt b 256) front then Some (from_be_bytes w front, drop (byte_len w) bytes) else None;
 }
 
 -- ---- numbers: their bytes, the highest first

@@ -21,8 +21,11 @@ pub use keys::{put_key, put_resource};
 pub use laws::{fields_are_forms, keys_have_one_spelling, longer_fields_are_forms};
 pub use lists::{put_list, put_pages};
 pub use names::{put_bytes, put_name, put_page};
-pub use numbers::{put_u16, put_u32, put_u64, put_u8};
-pub use places::{set_bytes, set_file_id, set_list_field, set_name_field, set_u16, set_u32, set_u64, set_u8, set_zeros};
+pub use numbers::{put_u8, put_u16, put_u32, put_u64};
+pub use places::{
+    set_bytes, set_file_id, set_list_field, set_name_field, set_u8, set_u16, set_u32, set_u64,
+    set_zeros,
+};
 pub use reader::FieldReader;
 
 #[cfg(test)]

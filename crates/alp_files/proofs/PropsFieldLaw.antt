@@ -1,6 +1,6 @@
 -- the laws of properties as a field
-use Rattle.std.proofs.Common.{◌≡◌, refl}
-use Rattle.alp_base.specs.Forms.{IsForm, pair, u16, u32, u64}
+use Rattle.std.proofs.Common.{refl}
+use Rattle.alp_base.specs.Forms.{IsForm, u16, u32, u64}
 use Rattle.alp_base.specs.Fields.{name, list}
 use Rattle.alp_base.proofs.FormLaws.{pair_law, mapped_law}
 use Rattle.alp_base.proofs.FieldLaws.{u16_law, u32_law, u64_law, name_law, list_law}

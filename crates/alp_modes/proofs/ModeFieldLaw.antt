@@ -1,5 +1,5 @@
 -- the laws of a mode as a field
-use Rattle.std.proofs.Common.{◌≡◌, ℕ, List, [], ◌∷◌, ◌++◌, Option, Some, refl, arith}
+use Rattle.std.proofs.Common.{◌≡◌, ℕ, List, [], ◌∷◌, ◌++◌, Some, refl, arith}
 use Rattle.alp_base.specs.Forms.{IsForm, just, read_choice}
 use Rattle.alp_base.proofs.FieldLaws.{tagged_law, tag_back, just_reads, ReadsTagged}
 use Rattle.alp_modes.specs.declared.Mode.{Mode}

@@ -69,5 +69,9 @@ pub fn put_flag(out: &mut Vec<u8>, is_set: bool) -> Result<(), OutOfMemory>
     ensures ok { OnOk result (IsWritten flag is_set out.old.items out.new.items) }
     ensures err { OnErr result (out.new.items ≡ out.old.items) }
 {
-    if is_set { put_u8(out, 1) } else { put_u8(out, 0) }
+    if is_set {
+        put_u8(out, 1)
+    } else {
+        put_u8(out, 0)
+    }
 }

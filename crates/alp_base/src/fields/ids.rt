@@ -3,9 +3,9 @@ ghost use Rattle.std.specs.Prelude.{◌≡◌, ◌<◌, ◌≤◌, ◌^◌, OnOk
 ghost use Rattle.alp_base.specs.Forms.{IsRead, IsWritten, Extends};
 ghost use Rattle.alp_base.specs.Fields.{id_parts, file_id, trans_id, join_no, stamp, run};
 
-use crate::{FileId, JoinNo, OutOfMemory, Run, Stamp, TransId};
 use crate::fields::FieldReader;
-use crate::fields::numbers::{put_u32, put_u64, put_u8};
+use crate::fields::numbers::{put_u8, put_u32, put_u64};
+use crate::{FileId, JoinNo, OutOfMemory, Run, Stamp, TransId};
 
 /// The greatest time of a stamp.
 pub const GREATEST_TIME: u64 = 1 << 62;

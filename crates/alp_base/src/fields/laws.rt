@@ -17,8 +17,7 @@ pub fn fields_are_forms()
     ensures choice { IsForm choice }
     ensures access { IsForm access }
     ensures flag { IsForm flag }
-{
-}
+{}
 
 /// The same of names, lists, pages, keys and resources, and of so many bytes.
 pub fn longer_fields_are_forms()
@@ -32,11 +31,9 @@ pub fn longer_fields_are_forms()
     ensures key { IsForm key }
     ensures resource { IsForm resource }
     ensures names { (n : ℕ) → IsForm (repeated name n) }
-{
-}
+{}
 
 /// A key has one spelling, which no other key has and which begins no other key's.
 pub fn keys_have_one_spelling()
     ensures { SpellsOnce key }
-{
-}
+{}

@@ -3,8 +3,8 @@ ghost use Rattle.std.specs.Prelude.{◌≡◌, ◌<◌, ◌≤◌, ◌^◌, OnOk
 ghost use Rattle.alp_base.specs.Forms.{IsRead, IsWritten, Extends, repeated};
 ghost use Rattle.alp_base.specs.Fields.{name, page, list, list_count, pages, some_count};
 
-use crate::fields::names::{put_name, put_page};
 use crate::fields::FieldReader;
+use crate::fields::names::{put_name, put_page};
 use crate::fields::numbers::put_u8;
 use crate::{AccessList, NAMES_PER_LIST, Name, OutOfMemory, PageList, PageRef};
 use std::alloc::Global;

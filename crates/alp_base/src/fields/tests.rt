@@ -12,7 +12,10 @@ const FILE: FileId = FileId {
 fn ids_and_runs(rt: HostRuntime) -> Result<(), Fail> {
     let mut out = Vec::new(rt.alloc());
     put_file_id(&mut out, FILE).ok().ok_or("memory")?;
-    assert_eq!(rt; out.as_slice(), b"\x01\x00\x00\x00\x01\x00\x00\x00\x03".as_slice());
+    assert_eq!(rt;
+        out.as_slice(),
+        b"\x01\x00\x00\x00\x01\x00\x00\x00\x03".as_slice()
+    );
     let mut reader = FieldReader::new(&out);
     assert_eq!(rt; reader.file_id(), Some(FILE));
     assert!(rt; reader.is_empty());

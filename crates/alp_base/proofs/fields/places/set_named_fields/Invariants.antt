@@ -1,4 +1,4 @@
-use Rattle.std.proofs.Common.{◌≡◌, take, length}
+use Rattle.std.proofs.Common.{take}
 use Rattle.alp_base.specs.Forms.{IsSet, repeated}
 use Rattle.alp_base.specs.Fields.{named_field}
 use Rattle.alp_base.proofs.fields.places.set_named_fields.Given as goal
