@@ -36,7 +36,8 @@ impl<'a> FieldReader<'a> {
     pub fn resource(&mut self) -> Option<Resource>
         ensures { IsRead resource self.old self.new result }
     {
-        match self.u8()? {
+        let tag = self.u8()?;
+        match tag {
             0 => {
                 let file = self.file_id()?;
                 Some(Resource::Whole(file))
