@@ -14,7 +14,7 @@ use Rattle.alp_base.specs.declared.key.Key.{Key}
 use Rattle.alp_base.specs.declared.key.Key.TheVariants.{Leader, PageOf, OwnerOf}
 use Rattle.alp_base.specs.declared.key.Resource.{Resource}
 use Rattle.alp_base.specs.declared.key.Resource.TheVariants.{Whole, Leaf}
-use Rattle.alp_base.specs.Forms.{Form, IsForm, number_of, u8, u16, u32, u64, read_byte, pair, checked, sized, repeated, bytes_of, just, variant, Reader, Readers, read_tagged, read_choice, tagged}
+use Rattle.alp_base.specs.Forms.{Form, IsForm, number_of, u8, u16, u32, u64, read_byte, pair, checked, sized, repeated, bytes_of, just, variant, Reader, Readers, read_tagged, read_choice, tagged, marked}
 use Rattle.alp_base.specs.Fields.{id_parts, file_id, trans_id, join_no, is_time, stamp, is_some_count, some_count, run, name, is_list_count, list_count, list, page, pages, spell_choice, choice_readers, choice, spell_access, access_readers, access, spell_flag, flag_readers, flag, spell_key, FitsKey, key_readers, key, spell_resource, FitsResource, resource_readers, resource}
 use Rattle.alp_base.specs.Names.{is_name}
 use Rattle.alp_base.specs.Pages.{page_bytes}
@@ -174,6 +174,11 @@ tagged_law spell Fits choices back reads = record {
       let whole = tagged_reads spell Fits choices reads p.0.0 p.0.1 v rest p.2 in
       (front.0 ∙ ap (λ (bs : List ℕ). bs ++ p.0.1) (u8_spell p.0.0) ∙ whole.0, whole.1);
 }
+
+pub marked_law : {T : Type 0} (mark : ℕ) (a : Form T) → mark < 256 → IsForm a → IsForm (marked mark a)
+marked_law {T} mark a lt la = tagged_law (λ (v : T). mark ∷ a.spell v) a.Fits ((mark, a.read) ∷ [])
+    (λ v rest fits. tag_back ((mark, a.read) ∷ []) mark (a.spell v ++ rest) lt ∙ rw (eq-eqb mark mark refl, la.back v rest fits) refl)
+    ((λ bytes v rest e. (ap (λ (bs : List ℕ). mark ∷ bs) (la.spelled bytes v rest e).0, (la.spelled bytes v rest e).1)), tt)
 
 -- ---- ids, stamps and runs
 

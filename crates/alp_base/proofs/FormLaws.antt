@@ -1,6 +1,6 @@
 -- The laws of forms that are made of others: each from those of its parts.
 use Rattle.std.proofs.Common.{◌≡◌, ℕ, zero, suc, ◌≤◌, Bool, true, false, cond, ◌&&◌, List, [], ◌∷◌, ◌++◌, length, take, drop, replicate, Option, Some, None, refl, sym, ap, subst, ◌∙◌, append_assoc, arith, length-append, length-take}
-use Rattle.std.specs.Prelude.{nat_le, ◌==◌}
+use Rattle.std.specs.Prelude.{IfSome, nat_le, ◌==◌}
 use Rattle.std.specs.List.{flat_map, list_all, AllByRecursion}
 use Rattle.std.proofs.lemmas.List.{length-replicate, append-nil, take_at, drop_at, take-append-drop, nil_from_length}
 use Rattle.std.proofs.lemmas.Bool.{eqb-true, leb-true, le-leb}
@@ -194,3 +194,8 @@ pub whole_spelled : {T : Type 0} (form : Form T) → IsForm form → (bytes : Li
 whole_spelled form laws bytes v e =
     let p = laws.spelled bytes v [] (ended_some (form.read bytes) v e) in
     (p.0 ∙ append-nil (form.spell v), p.1)
+
+-- the same of a function's answer, for a clause on it
+pub whole_found : {T : Type 0} (form : Form T) → IsForm form → (bytes : List ℕ) (answer : Option T) → answer ≡ whole form bytes → IfSome answer (λ v. (bytes ≡ form.spell v) × form.Fits v)
+whole_found form laws bytes None e = tt
+whole_found form laws bytes (Some v) e = whole_spelled form laws bytes v (sym e)

@@ -204,3 +204,7 @@ tagged spell Fits readers = record { spell = spell; Fits = Fits; read = read_cho
 -- and none begins a longer one.
 abbrev pub SpellsOnce : {T : Type 0} → Form T → Type 0
 SpellsOnce {T} form = (v w : T) (rest others : List ℕ) → form.Fits v → form.Fits w → form.spell v ++ rest ≡ form.spell w ++ others → (v ≡ w) × (rest ≡ others)
+
+-- a byte that is always the same, and then the value
+abbrev pub marked : {T : Type 0} → ℕ → Form T → Form T
+marked mark a = tagged (λ v. mark ∷ a.spell v) a.Fits ((mark, a.read) ∷ [])

@@ -9,6 +9,6 @@ mod reply;
 
 pub use call::{Call, PropChange};
 pub use cell::{Cell, OwnerRecord, Props};
-pub use props_field::{put_props, read_props};
+pub use props_field::{props_are_a_form, put_props, read_props};
 pub use refusal::{Cause, ListName, Refusal, What, Why};
 pub use reply::{Ended, Reply};

@@ -1,6 +1,6 @@
 //! The properties of a file as a field.
 ghost use Rattle.std.specs.Prelude.{◌≡◌, OnOk, OnErr, IfOk, option_map};
-ghost use Rattle.alp_base.specs.Forms.{IsRead, IsWritten, Extends};
+ghost use Rattle.alp_base.specs.Forms.{IsForm, IsRead, IsWritten, Extends};
 ghost use Rattle.alp_files.specs.PropsField.{numbers, numbers_of, props};
 
 use crate::Props;
@@ -100,3 +100,8 @@ pub fn put_props(out: &mut Vec<u8>, of: &Props) -> Result<(), OutOfMemory>
     }
     done
 }
+
+/// What is spelled is read back whatever follows it, and what is read was so spelled.
+pub fn props_are_a_form()
+    ensures { IsForm props }
+{}

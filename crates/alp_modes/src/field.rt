@@ -1,6 +1,6 @@
 //! A mode as a field: a byte from 1 to 6.
 ghost use Rattle.std.specs.Prelude.{◌≡◌, OnOk, OnErr};
-ghost use Rattle.alp_base.specs.Forms.{IsRead, IsWritten};
+ghost use Rattle.alp_base.specs.Forms.{IsForm, IsRead, IsWritten};
 ghost use Rattle.alp_modes.specs.ModeField.{mode};
 
 use crate::Mode;
@@ -37,3 +37,8 @@ pub fn put_mode(out: &mut Vec<u8>, held: Mode) -> Result<(), OutOfMemory>
         Mode::Write => put_u8(out, 6),
     }
 }
+
+/// What is spelled is read back whatever follows it, and what is read was so spelled.
+pub fn mode_is_a_form()
+    ensures { IsForm mode }
+{}

@@ -6,7 +6,7 @@
 
 mod field;
 
-pub use field::{put_mode, read_mode};
+pub use field::{mode_is_a_form, put_mode, read_mode};
 
 /// What a lock allows its holder, from the least to the most.
 #[derive(Clone, Copy, Debug, PartialEq, Eq, PartialOrd, Ord)]
