@@ -7,3 +7,4 @@ pub mod KeyLaws
 pub mod Causes
 pub mod Forms
 pub mod Fields
+pub mod Streams

@@ -1,1 +1,6 @@
 pub mod PropsFieldLaw
+pub mod CellMapLemmas
+pub mod EditLemmas
+pub mod PartLemmas
+pub mod HistoryLemmas
+pub mod BornLemmas

@@ -1,1 +1,9 @@
 pub mod PropsField
+pub mod Cells
+pub mod Edits
+pub mod Act
+pub mod History
+pub mod Files
+pub mod Parts
+pub mod Born
+pub mod Passing

@@ -1,0 +1,28 @@
+//! What comes to a server.
+use crate::Message;
+use alp_base::TransId;
+use alp_files::Call;
+
+/// One thing that a server answers in one step.
+#[derive(Clone, Drop, PartialEq, Eq)]
+pub enum Event {
+    /// A client's call, with the epoch and the number that it gave.
+    Call {
+        client: u8,
+        epoch: u32,
+        number: u32,
+        call: Call,
+    },
+    Arrive {
+        from: u8,
+        message: Message,
+    },
+    /// The transaction took too long.
+    Timeout {
+        trans: TransId,
+    },
+    /// Time to say again what was not answered.
+    Tick,
+    Force,
+    Restart,
+}

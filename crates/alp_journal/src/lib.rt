@@ -1,0 +1,18 @@
+//! What servers do, entry by entry: events, messages, acts, the journal of a server and the log of a run.
+#![tactic(auto)]
+
+mod act;
+mod entry;
+mod event;
+mod journal;
+mod lists;
+mod log;
+mod message;
+
+pub use act::Act;
+pub use entry::Entry;
+pub use event::Event;
+pub use journal::Journal;
+pub use lists::{Acts, Parts, Stamps};
+pub use log::{Exchange, LineLog, Opening, RunLog};
+pub use message::{Envelope, Message};
