@@ -1,5 +1,5 @@
 -- What pages hold. Kept folded, so that goals that speak of pages stay short.
-use Rattle.std.specs.Prelude.{◌≡◌, ℕ, ◌-◌, List, ◌++◌, length, replicate, refl}
+use Rattle.std.specs.Prelude.{ℕ, ◌-◌, List, ◌++◌, length, replicate}
 
 -- the bytes of a page
 abbrev pub page_bytes : ℕ

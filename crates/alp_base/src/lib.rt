@@ -5,6 +5,7 @@
 mod bytes;
 mod choices;
 mod faults;
+pub mod fields;
 mod id_text;
 mod ids;
 mod key;

@@ -1,4 +1,5 @@
 pub mod TreeLemmas
+pub mod PropsFieldLaw
 pub mod CellMapLemmas
 pub mod EditLemmas
 pub mod PartLemmas

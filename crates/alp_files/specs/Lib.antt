@@ -1,3 +1,4 @@
+pub mod PropsField
 pub mod Cells
 pub mod Edits
 pub mod Act

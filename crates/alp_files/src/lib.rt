@@ -6,6 +6,7 @@ mod cell;
 mod cell_map;
 mod open;
 mod part;
+mod props_field;
 mod refusal;
 mod reply;
 
@@ -14,5 +15,6 @@ pub use cell::{Cell, OwnerRecord, Props};
 pub use cell_map::CellMap;
 pub use open::Open;
 pub use part::Part;
+pub use props_field::{props_are_a_form, put_props, read_props};
 pub use refusal::{Cause, ListName, Refusal, What, Why};
 pub use reply::{Ended, Reply};

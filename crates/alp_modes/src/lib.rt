@@ -4,6 +4,10 @@
 //! and will be raised to `Write` later: it agrees with readers, but not with another `Update`.
 #![tactic(auto)]
 
+mod field;
+
+pub use field::{mode_is_a_form, put_mode, read_mode};
+
 /// What a lock allows its holder, from the least to the most.
 #[derive(Clone, Copy, Debug, PartialEq, Eq, PartialOrd, Ord)]
 pub enum Mode {
