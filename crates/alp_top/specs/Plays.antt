@@ -1,0 +1,64 @@
+-- The lines of a script, played: what each sends, what the journal records of it, and what comes at the end.
+use Rattle.std.specs.Prelude.{◌≡◌, ℕ, ◌+◌, false, List, [], ◌∷◌, ◌++◌, length, map as list_map, flat_map, Option, None, Some}
+use Rattle.alp_base.specs.declared.ids.TransId.{TransId}
+use Rattle.alp_journal.specs.declared.entry.Entry.{Entry}
+use Rattle.alp_journal.specs.declared.event.Event.{Event}
+use Rattle.alp_journal.specs.declared.event.Event.TheVariants as event
+use Rattle.alp_journal.specs.declared.log.Exchange.{Exchange}
+use Rattle.alp_journal.specs.declared.log.LineLog.{LineLog}
+use Rattle.alp_journal.specs.declared.log.RunLog.{RunLog}
+use Rattle.alp_script.specs.declared.numbered.NumberedLine.{NumberedLine}
+use Rattle.alp_script.specs.Named.{client_named}
+use Rattle.alp_top.specs.declared.client.Client.{Client}
+use Rattle.alp_top.specs.Clients.{new_client, at_line, declares, Exchanges}
+
+-- what one line adds to the log: a client's line has an item, a declaration has none
+abbrev pub PlaysLine : Client → NumberedLine → Option ℕ → List LineLog → Client → Type 0
+PlaysLine c l None logs d = (logs ≡ []) × (d ≡ declares c l.line)
+PlaysLine c l (Some client) logs d =
+    (item : LineLog) × (logs ≡ item ∷ []) × (item.line ≡ l.number) × (item.client ≡ client) × Exchanges (at_line c l.line) l.line false item.exchanges.items d
+
+-- the log's lines are those of the script, in order, each by what the client was handed before
+abbrev pub Plays : Client → List NumberedLine → List LineLog → Client → Type 0
+Plays c [] logs d = (logs ≡ []) × (d ≡ c)
+Plays c (l ∷ ls) logs d =
+    (own : List LineLog) × (others : List LineLog) × (mid : Client) × (logs ≡ own ++ others) × PlaysLine c l (client_named l.line) own mid × Plays mid ls others d
+
+-- all exchanges of a log, each with its client, in order
+abbrev pub exchanges_of : List LineLog → List (ℕ × Exchange)
+exchanges_of logs = flat_map (λ g. list_map (λ x. (g.client, x)) g.exchanges.items) logs
+
+-- the entry at this place is that of the exchange, and its reply is what the client was handed
+pub record Records (at : ℕ) (x : ℕ × Exchange) (e : Entry) : Type 0 where
+  pub place : x.1.place ≡ Some at
+  pub event : e.event ≡ event.Call x.0 x.1.epoch x.1.number x.1.call
+  pub reply : e.reply ≡ x.1.reply
+
+-- the entries from this place on are just those of the exchanges
+abbrev pub AreRecorded : ℕ → List (ℕ × Exchange) → List Entry → Type 0
+AreRecorded at [] [] = Unit {0}
+AreRecorded at [] (e ∷ es) = ⊥
+AreRecorded at (x ∷ xs) [] = ⊥
+AreRecorded at (x ∷ xs) (e ∷ es) = Records at x e × AreRecorded (at + 1) xs es
+
+-- a transaction that is live at the end takes too long
+abbrev pub ends_of : Option TransId → List Event
+ends_of None = []
+ends_of (Some t) = event.Timeout t ∷ []
+
+-- the ranks of so many entries: one server's entries follow each other
+abbrev pub ranks_from : ℕ → List Entry → List ℕ
+ranks_from n [] = []
+ranks_from n (e ∷ es) = n ∷ ranks_from (n + 1) es
+
+-- The calls are the script's, the replies are those given, and no other event stands in the journal but what comes at
+-- the end.
+pub record IsFaithful (lines : List NumberedLine) (log : RunLog) : Type 0 where
+  pub client : Client
+  pub calls : List Entry
+  pub ends : List Entry
+  pub plays : Plays new_client lines log.lines.items client
+  pub journal : log.journal ≡ calls ++ ends
+  pub recorded : AreRecorded 0 (exchanges_of log.lines.items) calls
+  pub ended : list_map (λ e. e.event) ends ≡ ends_of client.trans
+  pub ranks : log.ranks.items ≡ ranks_from 1 log.journal
