@@ -1,0 +1,200 @@
+//! The monitor, its passes and its turns.
+ghost use Rattle.std.specs.Prelude.{◌≡◌, ◌<◌};
+
+use crate::board::{Board, PLACE, Place, WAITING, WORD};
+use crate::plays::{Claim, CountWaiting, OnePass, Settle};
+use crate::story::Story;
+use alp_base::OutOfMemory;
+use atomic_table::{Refused, Table};
+use std::alloc::{AllocFailed, Global};
+use std::snapshot::Snapshot;
+use std::sync::Wait;
+
+/// A state that threads take in turns, each by a pass of its own.
+pub struct Monitor<S: Story> {
+    table: Board<S>,
+    ghost sized: { (table.shared.table_id.words ≡ 2) × (table.shared.table_id.slots ≡ 1) },
+    ghost some: { 0 < table.shared.key.1 },
+}
+
+/// The right to take turns at one monitor. It has no bytes.
+#[derive(Drop)]
+pub struct Pass<S: Story> {
+    seat: Place<S>,
+}
+
+/// A pass that is inside, with the state, which is moved out of the monitor until it leaves.
+pub struct Turn<S: Story> {
+    pub state: S,
+    pub pass: Pass<S>,
+}
+
+/// The first and the last call.
+impl<S: Story> Monitor<S> {
+    ghost use Rattle.std.specs.Prelude.{ℕ, ◌≤◌, [], length, IfOk, IfErr, slice_get, Some};
+    ghost use Rattle.std.specs.Vec.{vec_len, vec_capacity};
+    ghost use Rattle.alp_monitor.specs.declared.monitor.Pass.{Pass};
+    ghost use Rattle.alp_monitor.specs.Passes.{pass_count, first_base, AreFresh, IsCounting, IsPassOf, IsOutside, HasNumber, IsMadeBy};
+
+    /// A monitor of a state that has no entries yet, and its passes. Where memory is refused the
+    /// state comes back.
+    pub fn new(
+        alloc: Global,
+        state: S,
+        passes: u32,
+    ) -> Result<(Monitor<S>, Vec<Pass<S>>), (S, OutOfMemory)>
+        requires some { 0 < passes }
+        requires none_yet { S.entries state ≡ [] }
+        ensures count { IfOk result (λ r. (pass_count r.0 ≡ passes) × (length r.1.items ≡ passes)) }
+        ensures base { IfOk result (λ r. first_base S.base r.0 ≡ S.base state) }
+        ensures passes { IfOk result (λ r. AreFresh r.0 (S.base state) r.1.items) }
+        ensures err { IfErr result (λ e. e.0 ≡ state) }
+    {
+        let about = (Snapshot::of(&state), passes);
+        let Ok(mut made) = Vec::with_capacity(alloc, passes as usize) else {
+            return Err((state, OutOfMemory));
+        };
+        let mut slots = Vec::new(alloc);
+        if let Err(AllocFailed { value }) = slots.push(Some(state)) {
+            slots.destroy_empty();
+            return Err((value.unwrap(), OutOfMemory));
+        }
+        match Table::new(alloc, &[0, 0], slots, &about) {
+            Ok((table, mut founder)) => {
+                let monitor = Monitor { table };
+                monitor.deal(&mut founder, &about, &mut made);
+                Ok((monitor, made))
+            }
+            Err(Refused { mut slots }) => {
+                let state = slots.take_last();
+                slots.destroy_empty();
+                Err((state.unwrap(), OutOfMemory))
+            }
+        }
+    }
+
+    // Makes the passes.
+    fn deal(
+        &self,
+        founder: &mut Place<S>,
+        about: &(Snapshot<S>, u32),
+        made: &mut Vec<Pass<S>>,
+    )
+        requires own { founder.old.table_id ≡ self.now.table.shared.table_id }
+        requires founder { IsCounting (S.base about.now.0.value) 0 founder.old }
+        requires key { self.now.table.shared.key ≡ about.now }
+        requires room { (made.old.items ≡ []) × (vec_len made.old ≡ 0) × (about.now.1 ≤ vec_capacity made.old) }
+        ensures count { length made.new.items ≡ about.now.1 }
+        ensures passes { AreFresh self.now (S.base about.now.0.value) made.new.items }
+    {
+        for _ in 0..about.1 {
+            let seat = self.table.shared.split_seat::<OnePass>(founder);
+            made.push_reserved(Pass { seat });
+        }
+    }
+
+    /// Takes all passes back, and gives the state.
+    pub fn close(self, mut passes: Vec<Pass<S>>) -> S
+        requires own { (i : ℕ) (p : Pass S S.Base S.Entry) → slice_get passes.items i ≡ Some p → IsPassOf self p × IsOutside p }
+        requires all { (k : ℕ) → k < pass_count self → HasNumber passes.items k }
+        ensures base { S.base result ≡ first_base S.base self }
+        ensures history { IsMadeBy passes.items (S.entries result) }
+    {
+        let Monitor { table } = self;
+        let Pass { seat: mut keeper } = passes.take_last();
+        while let Some(pass) = passes.pop() {
+            let Pass { seat } = pass;
+            table.shared.join_seat::<OnePass>(&mut keeper, seat);
+        }
+        passes.destroy_empty();
+        let mut closed = table.close_with(keeper);
+        let place = closed.take(PLACE);
+        closed.free();
+        let Some(state) = place else { unreachable!() };
+        state
+    }
+}
+
+/// The turns.
+impl<S: Story> Monitor<S> {
+    ghost use Rattle.std.specs.Prelude.{ℕ, ◌+◌, ◌%◌, ◌^◌, ◌≤◌, [], ◌∷◌, ◌++◌, length, IfSome, IfNone, Some};
+    ghost use mathlib.Core.List.{IsPrefix};
+    ghost use Rattle.alp_monitor.specs.History.{told, turns_of, AddsAtMostOne};
+    ghost use Rattle.alp_monitor.specs.Passes.{IsPassOf, IsOutside, IsInside, IsSamePass, IsUntouched, Enters, base_of_pass, number, front, turns};
+
+    /// Waits until the state is home, and hands it out.
+    pub fn enter<R: Wait>(&self, rt: &R, mut pass: Pass<S>) -> Turn<S>
+        requires own { IsPassOf self.now pass }
+        requires outside { IsOutside pass }
+        ensures pass { IsSamePass pass result.pass × IsInside result.pass }
+        ensures base { base_of_pass pass ≡ Some (S.base result.state) }
+        ensures history { S.entries result.state ≡ told (front result.pass) }
+        ensures front { IsPrefix (front pass) (front result.pass) }
+        ensures turns { turns result.pass ≡ turns pass }
+    {
+        for _ in rt.forever() {
+            let word = self.table.shared.peek(WORD);
+            if word % 2 != 0 {
+                self.wait(rt, &mut pass, word);
+            } else if let Some(state) = self.claim(&mut pass, word) {
+                return Turn { state, pass };
+            }
+        }
+        unreachable!()
+    }
+
+    /// Brings the state home, with one entry more at most.
+    pub fn leave(&self, turn: Turn<S>) -> Pass<S>
+        requires own { IsPassOf self.now turn.pass }
+        requires inside { IsInside turn.pass }
+        requires base { base_of_pass turn.pass ≡ Some (S.base turn.state) }
+        requires history { AddsAtMostOne (told (front turn.pass)) (S.entries turn.state) }
+        ensures pass { IsSamePass turn.pass result × IsOutside result }
+        ensures history { told (front result) ≡ S.entries turn.state }
+        ensures none { S.entries turn.state ≡ told (front turn.pass) → front result ≡ front turn.pass }
+        ensures one { (e : S.Entry) → S.entries turn.state ≡ told (front turn.pass) ++ e ∷ [] → (front result ≡ front turn.pass ++ (number turn.pass, e) ∷ []) × (turns result ≡ turns turn.pass ++ (length (front turn.pass), e) ∷ []) }
+    {
+        let Turn { state, mut pass } = turn;
+        let word = 2 * state.count();
+        let place = self.table.shared.exchange(&mut pass.seat, PLACE, Some(state));
+        let None = place else { unreachable!() };
+        self.table.shared.store::<Settle>(&mut pass.seat, WORD, word);
+        self.wake();
+        pass
+    }
+
+    // Goes inside, where the word is still this one.
+    fn claim(&self, pass: &mut Pass<S>, word: u64) -> Option<S>
+        requires own { IsPassOf self.now pass.old }
+        requires outside { IsOutside pass.old }
+        requires even { word % 2 ≡ 0 }
+        ensures none { IfNone result (IsUntouched pass.old pass.new) }
+        ensures some { IfSome result (λ state. Enters S.base S.entries pass.old pass.new state) }
+    {
+        let shared = &self.table.shared;
+        if shared.compare_exchange::<Claim>(&mut pass.seat, WORD, word, word + 1) != word {
+            return None;
+        }
+        let place = shared.exchange(&mut pass.seat, PLACE, None);
+        let Some(state) = place else { unreachable!() };
+        Some(state)
+    }
+
+    // Wakes one of those that wait, and asks the system for it only where there is one.
+    fn wake(&self) {
+        if self.table.shared.peek(WAITING) > 0 {
+            self.table.shared.wake_one(WORD);
+        }
+    }
+
+    // Sleeps while the word is this one, counted among those that wait, so that who leaves wakes one.
+    fn wait<R: Wait>(&self, rt: &R, pass: &mut Pass<S>, word: u64)
+        requires own { IsPassOf self.now pass.old }
+        ensures { IsUntouched pass.old pass.new }
+    {
+        let shared = &self.table.shared;
+        shared.fetch_add::<CountWaiting>(&mut pass.seat, WAITING, 1);
+        shared.park(rt, WORD, (word % (1 << 32)) as u32);
+        shared.fetch_sub::<CountWaiting>(&mut pass.seat, WAITING, 1);
+    }
+}
