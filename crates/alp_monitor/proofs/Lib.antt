@@ -1,2 +1,3 @@
 mod Histories
 mod Rules
+mod Seats

@@ -7,11 +7,11 @@ use lib.ListN.{get_elem?, length-map}
 use prog.Atomic.{either}
 use mathlib.Core.Logic.{dite}
 use native.Mathlib.Decide.{ℕ_discrete}
-use Rattle.atomic_table.specs.Table.{State, Me, Step, step, Act, keeps, takes, gives, Valid, homes_after, carried_after, Allows, opening}
+use Rattle.atomic_table.specs.Table.{State, Me, step, Act, keeps, takes, gives, Valid, homes_after, carried_after, Allows, opening}
 use Rattle.atomic_table.proofs.Lists.{at_set, at_snoc, set_again, exchanged}
 use Rattle.alp_monitor.specs.History.{told, turns_of, entry_of, part, AddsAtMostOne}
 use Rattle.alp_monitor.specs.Rule.{IsPartOf, ArePartsOf, Knows, IsHome, IsInTurns, word_of, founding}
-use Rattle.alp_monitor.specs.Steps.{Stays, Claims, Settles, GoesIn, grown}
+use Rattle.alp_monitor.specs.Steps.{Claims, Settles, GoesIn, grown}
 use Rattle.alp_monitor.specs.declared.board.Part.{Part}
 use Rattle.alp_monitor.specs.declared.board.View.{View}
 use Rattle.alp_monitor.specs.declared.board.View.TheVariants.{Spent, Founder, Outside, Inside}
@@ -87,9 +87,9 @@ module _ {S B E : Type 0} (base_of : S → B) (entries_of : S → List E) (base 
   Goes id i me f tells vs hs ws = (w : V) × (a : Act (Option S)) × Valid hs me.1 a × Rule record { words = set ws i (f (get_or ws i 0)); homes = homes_after hs me.1 a; views = set vs id w } × tells (get_or ws i 0) (w, carried_after me.1 a)
 
   -- the count of those that wait may change in any way
-  pub waits : (slots id : ℕ) (me : Me (Option S) V) (f : ℕ → ℕ) (st : Step (Option S)) → Allows Rule slots id me 1 f (Stays st me)
-  waits slots id me f st s r deep at small =
-      subst (Goes id 1 me f (Stays st me) s.views s.homes) (sym r.words) (
+  pub waits : (slots id : ℕ) (me : Me (Option S) V) (f : ℕ → ℕ) → Allows Rule slots id me 1 f (λ found now. now ≡ me)
+  waits slots id me f s r deep at small =
+      subst (Goes id 1 me f (λ found now. now ≡ me) s.views s.homes) (sym r.words) (
         me.0,
         keeps,
         tt,
