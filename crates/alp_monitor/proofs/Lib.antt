@@ -1,3 +1,5 @@
 mod Histories
 mod Rules
+mod Ends
 mod Seats
+mod Passes

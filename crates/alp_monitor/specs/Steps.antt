@@ -17,8 +17,9 @@ module _ {B E : Type 0} where
   newcomer (Founder b n) = Outside b (part n [] ∷ [])
   newcomer v = Spent
 
+  -- the parts that are taken in come first
   abbrev pub both_of : View B E → View B E → View B E
-  both_of (Outside b ps) (Outside c qs) = Outside b (ps ++ qs)
+  both_of (Outside b ps) (Outside c qs) = Outside b (qs ++ ps)
   both_of v w = v
 
 module _ {S V : Type 0} where
