@@ -10,7 +10,7 @@ use Rattle.atomic_table.proofs.Lists.{at_last, at_longer, at_map}
 use Rattle.alp_monitor.specs.History.{told, turns_of, part}
 use Rattle.alp_monitor.specs.Rule.{IsInTurns}
 use Rattle.alp_monitor.specs.Steps.{with_one_more, newcomer, both_of}
-use Rattle.alp_monitor.specs.Passes.{first_part, number, IsPassOf, IsOutside, IsFresh, IsCounting, AreFresh, HasNumber, IsMadeBy}
+use Rattle.alp_monitor.specs.Passes.{first_part, base_in, number, first_base, IsPassOf, IsOutside, IsFresh, IsCounting, AreFresh, HasNumber, IsMadeBy}
 use Rattle.alp_monitor.specs.declared.board.Part.{Part}
 use Rattle.alp_monitor.specs.declared.board.View.{View}
 use Rattle.alp_monitor.specs.declared.board.View.TheVariants.{Founder, Outside}
@@ -35,33 +35,37 @@ module _ {A : Type 0} where
   from_map f (x ∷ xs) zero b e = (x, refl, some-injective (f x) b e)
   from_map f (x ∷ xs) (suc i) b e = from_map f xs i b e
 
-module _ {S B E : Type 0} where
+module _ {S B E : Type 0} (base_of : S → B) where
   -- after n passes were made
-  pub record Dealt (m : Monitor S B E) (b : B) (founder : Seat (Option S) (View B E)) (n : ℕ) (made : List (Pass S B E)) : Type 0 where
-    pub table : founder.table_id ≡ m.table.shared.table_id
-    pub counts : IsCounting b n founder
+  pub record Dealt (m : Monitor S B E) (founder : Seat (Option S) (View B E)) (n : ℕ) (made : List (Pass S B E)) : Type 0 where
+    pub counts : IsCounting base_of m n founder
     pub len : length made ≡ n
-    pub fresh : AreFresh m b made
+    pub fresh : AreFresh base_of m made
 
-  pub dealt_none : (m : Monitor S B E) (b : B) (founder : Seat (Option S) (View B E)) (made : List (Pass S B E)) → founder.table_id ≡ m.table.shared.table_id → IsCounting b 0 founder → made ≡ [] → Dealt m b founder 0 made
-  dealt_none m b founder made own counts none = record {
-    table = own;
-    counts = counts;
-    len = ap length none;
-    fresh = λ k p e. absurd (some-ne-none p (sym (ap (λ l. get_elem? l k) (sym none) ∙ elem_from_get made k p e)));
+  pub dealt_none : (m : Monitor S B E) (founder : Seat (Option S) (View B E)) (made : List (Pass S B E)) → IsCounting base_of m 0 founder → made ≡ [] → Dealt m founder 0 made
+  dealt_none m founder made counts none = record { counts = counts; len = ap length none; fresh = λ k p e. absurd (some-ne-none p (sym (ap (λ l. get_elem? l k) (sym none) ∙ elem_from_get made k p e))) }
+
+  fresh_pass : (m : Monitor S B E) (k : ℕ) (p : Pass S B E) → IsPassOf m p → p.seat.me ≡ (Outside (first_base base_of m) (part k [] ∷ []), []) → IsFresh base_of m k p
+  fresh_pass m k p own is = record {
+    own = own;
+    outside = (first_base base_of m, part k [], is);
+    base = ap (λ (z : Me (Option S) (View B E)). base_in z.0) is;
+    number = ap (λ (z : Me (Option S) (View B E)). (first_part z.0).number) is;
+    turns = ap (λ (z : Me (Option S) (View B E)). turns_of (first_part z.0).number (first_part z.0).front) is;
+    front = ap (λ (z : Me (Option S) (View B E)). (first_part z.0).front) is;
   }
 
-  pub dealt_more : (m : Monitor S B E) (b : B) (founder founder' seat : Seat (Option S) (View B E)) (n : ℕ) (made made' : List (Pass S B E)) (pass : Pass S B E) → Dealt m b founder n made
-      → founder'.table_id ≡ founder.table_id → founder'.me ≡ (with_one_more founder.me.0, founder.me.1) → seat.table_id ≡ founder.table_id → seat.me ≡ (newcomer founder.me.0, []) → pass.seat ≡ seat → made' ≡ made ++ pass ∷ [] → Dealt m b founder' (n + 1) made'
-  dealt_more m b founder founder' seat n made made' pass before own' counts' own is same longer = record {
-    table = own' ∙ before.table;
-    counts = counts' ∙ ap (λ (x : Me (Option S) (View B E)). (with_one_more x.0, x.1)) before.counts;
-    len = ap length longer ∙ (length-append made (pass ∷ []) ∙ ap (λ k. k + 1) before.len);
-    fresh = λ k p e. ⊎_elim (λ was. before.fresh k p (get_from_elem made k p was)) (λ (t : (k ≡ length made) × (pass ≡ p)). subst (λ (x : ℕ × Pass S B E). IsPassOf m x.1 × IsFresh b x.0 x.1) (λ i. ((sym before.len ∙ sym t.0) i, t.1 i))
-        (ap (λ (z : Seat (Option S) (View B E)). z.table_id) same ∙ (own ∙ before.table), ap (λ (z : Seat (Option S) (View B E)). z.me) same ∙ (is ∙ ap (λ (x : Me (Option S) (View B E)). (newcomer x.0, [])) before.counts)))
-        (at_end made pass p k (ap (λ l. get_elem? l k) (sym longer) ∙ elem_from_get made' k p e));
-  }
+  pub dealt_more : (m : Monitor S B E) (founder founder' : Seat (Option S) (View B E)) (n : ℕ) (made made' : List (Pass S B E)) (pass : Pass S B E) → Dealt m founder n made → founder'.table_id ≡ founder.table_id → founder'.me ≡ (with_one_more founder.me.0, founder.me.1)
+      → pass.seat.table_id ≡ founder.table_id → pass.seat.me ≡ (newcomer founder.me.0, []) → made' ≡ made ++ pass ∷ [] → Dealt m founder' (n + 1) made'
+  dealt_more m founder founder' n made made' pass before own' counts' own is longer =
+      let new : IsFresh base_of m n pass = fresh_pass m n pass (own ∙ before.counts.0) (is ∙ ap (λ (x : Me (Option S) (View B E)). (newcomer x.0, [])) before.counts.1) in record {
+        counts = (own' ∙ before.counts.0, counts' ∙ ap (λ (x : Me (Option S) (View B E)). (with_one_more x.0, x.1)) before.counts.1);
+        len = ap length longer ∙ (length-append made (pass ∷ []) ∙ ap (λ k. k + 1) before.len);
+        fresh = λ k p e. ⊎_elim (λ was. before.fresh k p (get_from_elem made k p was)) (λ (t : (k ≡ length made) × (pass ≡ p)). subst (λ (x : ℕ × Pass S B E). IsFresh base_of m x.0 x.1) (λ i. ((sym before.len ∙ sym t.0) i, t.1 i)) new)
+            (at_end made pass p k (ap (λ l. get_elem? l k) (sym longer) ∙ elem_from_get made' k p e));
+      }
 
+module _ {S B E : Type 0} where
   abbrev pub own_part : Pass S B E → Part E
   own_part p = first_part p.seat.me.0
 

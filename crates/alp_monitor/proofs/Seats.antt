@@ -1,9 +1,9 @@
 -- What a step tells of a pass, in the words of the clauses.
-use Rattle.std.proofs.Common.{◌≡◌, ◌≢◌, ℕ, ◌+◌, ◌*◌, ◌^◌, ◌<◌, ◌≤◌, List, [], ◌∷◌, ◌++◌, length, Option, Some, None, refl, sym, ap, ◌∙◌, subst, inl, inr, arith}
+use Rattle.std.proofs.Common.{◌≡◌, ◌≢◌, ℕ, ◌+◌, ◌*◌, ◌^◌, ◌<◌, ◌≤◌, List, [], ◌∷◌, ◌++◌, length, map, drop, Option, Some, None, refl, sym, ap, ◌∙◌, subst, inl, inr, arith}
 use mathlib.Core.List.{IsPrefix}
 use Rattle.atomic_table.specs.Table.{Me, rest}
 use Rattle.alp_monitor.specs.History.{told, turns_of, part, AddsAtMostOne}
-use Rattle.alp_monitor.specs.Steps.{ClaimsFrom, SettlesFrom, GoesIn, grown}
+use Rattle.alp_monitor.specs.Steps.{ClaimsFrom, SettlesFrom, GoesIn, made_by, grown}
 use Rattle.alp_monitor.specs.Passes.{first_part, base_in, base_of_pass, number, front, turns, IsOutside, IsInside, IsSamePass, Enters}
 use Rattle.alp_monitor.specs.declared.board.Part.{Part}
 use Rattle.alp_monitor.specs.declared.board.View.{View}
@@ -64,6 +64,7 @@ module _ {S B E : Type 0} (base_of : S → B) (entries_of : S → List E) where
     pub same : IsSamePass before now
     pub outside : IsOutside now
     pub entries : told (front now) ≡ entries_of state
+    pub begins : IsPrefix (front before) (front now)
     pub none : entries_of state ≡ told (front before) → front now ≡ front before
     pub one : (e : E) → entries_of state ≡ told (front before) ++ e ∷ [] → (front now ≡ front before ++ (number before, e) ∷ []) × (turns now ≡ turns before ++ (length (front before), e) ∷ [])
 
@@ -91,6 +92,7 @@ module _ {S B E : Type 0} (base_of : S → B) (entries_of : S → List E) where
         same = record { table = own; number = number_is ∙ sym number_was; base = base_is };
         outside = (b, part p.number longer, now_is);
         entries = ap told front_is ∙ told-grown p.number p.front (entries_of state) adds;
+        begins = subst (λ (l : List (ℕ × E) × List (ℕ × E)). IsPrefix l.0 l.1) (λ i. (sym front_was i, sym front_is i)) (map (made_by p.number) (drop (length p.front) (entries_of state)), refl);
         none = λ e. front_is ∙ (grown-none p.number p.front (entries_of state) (e ∙ ap told front_was) ∙ sym front_was);
         one = λ x e.
             let one_more : longer ≡ p.front ++ (p.number, x) ∷ [] = grown-one p.number p.front (entries_of state) x (e ∙ ap (λ l. told l ++ x ∷ []) front_was) in (

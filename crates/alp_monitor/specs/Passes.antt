@@ -70,18 +70,6 @@ module _ {S B E : Type 0} where
     pub id : now.seat.id ≡ before.seat.id
     pub me : now.seat.me ≡ before.seat.me
 
-  -- a pass that did nothing yet
-  abbrev pub IsFresh : B → ℕ → Pass S B E → Type 0
-  IsFresh b k p = p.seat.me ≡ (Outside b (part k [] ∷ []), [])
-
-  -- a seat that makes the passes of this base, and made n of them
-  abbrev pub IsCounting : B → ℕ → Seat (Option S) (View B E) → Type 0
-  IsCounting b n s = s.me ≡ (Founder b n, [])
-
-  -- they are new passes of this monitor, numbered by their places
-  abbrev pub AreFresh : Monitor S B E → B → List (Pass S B E) → Type 0
-  AreFresh m b ps = (k : ℕ) (p : Pass S B E) → slice_get ps k ≡ Some p → IsPassOf m p × IsFresh b k p
-
   -- some pass of the list has the number
   abbrev pub HasNumber : List (Pass S B E) → ℕ → Type 0
   HasNumber ps k = (i : ℕ) × (p : Pass S B E) × (slice_get ps i ≡ Some p) × (number p ≡ k)
@@ -94,6 +82,24 @@ module _ {S B E : Type 0} where
     pub turns_are : (i : ℕ) (p : Pass S B E) → slice_get ps i ≡ Some p → turns_of (number p) history ≡ turns p
     pub makers : (k : ℕ) (x : ℕ × E) → slice_get history k ≡ Some x → HasNumber ps x.0
     pub apart : (i j : ℕ) (p q : Pass S B E) → slice_get ps i ≡ Some p → slice_get ps j ≡ Some q → number p ≡ number q → i ≡ j
+
+module _ {S B E : Type 0} (base_of : S → B) where
+  -- a new pass with this number, which made no turns and saw no history
+  pub record IsFresh (m : Monitor S B E) (k : ℕ) (p : Pass S B E) : Type 0 where
+    pub own : IsPassOf m p
+    pub outside : IsOutside p
+    pub base : base_of_pass p ≡ Some (first_base base_of m)
+    pub number : number p ≡ k
+    pub turns : turns p ≡ []
+    pub front : front p ≡ []
+
+  -- they are new passes of this monitor, numbered by their places
+  abbrev pub AreFresh : Monitor S B E → List (Pass S B E) → Type 0
+  AreFresh m ps = (k : ℕ) (p : Pass S B E) → slice_get ps k ≡ Some p → IsFresh m k p
+
+  -- a seat that makes the passes of a monitor, and made n of them
+  abbrev pub IsCounting : Monitor S B E → ℕ → Seat (Option S) (View B E) → Type 0
+  IsCounting m n s = (s.table_id ≡ m.table.shared.table_id) × (s.me ≡ (Founder (first_base base_of m) n, []))
 
 module _ {S B E : Type 0} (base_of : S → B) (entries_of : S → List E) where
   -- the pass goes inside with the state

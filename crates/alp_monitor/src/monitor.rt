@@ -47,7 +47,7 @@ impl<S: Story> Monitor<S> {
         requires none_yet { S.entries state ≡ [] }
         ensures count { IfOk result (λ r. (pass_count r.0 ≡ passes) × (length r.1.items ≡ passes)) }
         ensures base { IfOk result (λ r. first_base S.base r.0 ≡ S.base state) }
-        ensures passes { IfOk result (λ r. AreFresh r.0 (S.base state) r.1.items) }
+        ensures passes { IfOk result (λ r. AreFresh S.base r.0 r.1.items) }
         ensures err { IfErr result (λ e. e.0 ≡ state) }
     {
         let about = (Snapshot::of(&state), passes);
@@ -62,7 +62,7 @@ impl<S: Story> Monitor<S> {
         match Table::new(alloc, &[0, 0], slots, &about) {
             Ok((table, mut founder)) => {
                 let monitor = Monitor { table };
-                monitor.deal(&mut founder, &about, &mut made);
+                monitor.deal(&mut founder, passes, &mut made);
                 Ok((monitor, made))
             }
             Err(Refused { mut slots }) => {
@@ -74,20 +74,14 @@ impl<S: Story> Monitor<S> {
     }
 
     // Makes the passes.
-    fn deal(
-        &self,
-        founder: &mut Place<S>,
-        about: &(Snapshot<S>, u32),
-        made: &mut Vec<Pass<S>>,
-    )
-        requires own { founder.old.table_id ≡ self.now.table.shared.table_id }
-        requires founder { IsCounting (S.base about.now.0.value) 0 founder.old }
-        requires key { self.now.table.shared.key ≡ about.now }
-        requires room { (made.old.items ≡ []) × (vec_len made.old ≡ 0) × (about.now.1 ≤ vec_capacity made.old) }
-        ensures count { length made.new.items ≡ about.now.1 }
-        ensures passes { AreFresh self.now (S.base about.now.0.value) made.new.items }
+    fn deal(&self, founder: &mut Place<S>, passes: u32, made: &mut Vec<Pass<S>>)
+        requires count { passes ≡ pass_count self.now }
+        requires founder { IsCounting S.base self.now 0 founder.old }
+        requires room { (made.old.items ≡ []) × (vec_len made.old ≡ 0) × (passes ≤ vec_capacity made.old) }
+        ensures count { length made.new.items ≡ passes }
+        ensures passes { AreFresh S.base self.now made.new.items }
     {
-        for _ in 0..about.1 {
+        for _ in 0..passes {
             let seat = self.table.shared.split_seat::<OnePass>(founder);
             made.push_reserved(Pass { seat });
         }
@@ -151,6 +145,7 @@ impl<S: Story> Monitor<S> {
         requires history { AddsAtMostOne (told (front turn.pass)) (S.entries turn.state) }
         ensures pass { IsSamePass turn.pass result × IsOutside result }
         ensures history { told (front result) ≡ S.entries turn.state }
+        ensures front { IsPrefix (front turn.pass) (front result) }
         ensures none { S.entries turn.state ≡ told (front turn.pass) → front result ≡ front turn.pass }
         ensures one { (e : S.Entry) → S.entries turn.state ≡ told (front turn.pass) ++ e ∷ [] → (front result ≡ front turn.pass ++ (number turn.pass, e) ∷ []) × (turns result ≡ turns turn.pass ++ (length (front turn.pass), e) ∷ []) }
     {

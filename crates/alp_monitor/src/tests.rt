@@ -1,1 +1,3 @@
-
+//! Threads take turns on lists of numbers, and each turn stands where it was made.
+mod four;
+mod numbers;

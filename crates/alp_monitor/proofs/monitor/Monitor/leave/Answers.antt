@@ -24,6 +24,9 @@ returns-clause-pass g c = ((left g c).same, (left g c).outside)
 pub returns-clause-history : goal.returns-clause-history
 returns-clause-history g c = (left g c).entries
 
+pub returns-clause-front : goal.returns-clause-front
+returns-clause-front g c = (left g c).begins
+
 pub returns-clause-none : goal.returns-clause-none
 returns-clause-none g c = (left g c).none
 
