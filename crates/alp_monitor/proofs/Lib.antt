@@ -3,3 +3,4 @@ mod Rules
 mod Ends
 mod Seats
 mod Passes
+mod Fours

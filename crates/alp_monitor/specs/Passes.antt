@@ -58,6 +58,12 @@ module _ {S B E : Type 0} where
   abbrev pub IsInside : Pass S B E → Type 0
   IsInside p = (b : B) × (own : Part E) × (p.seat.me ≡ (Inside b own, (0, None) ∷ [])) × (length own.front ≤ 2 ^ 62)
 
+  -- it is the pass of this monitor with the number k, and may enter
+  pub record IsReady (m : Monitor S B E) (k : ℕ) (p : Pass S B E) : Type 0 where
+    pub own : IsPassOf m p
+    pub outside : IsOutside p
+    pub number_is : number p ≡ k
+
   -- one pass before and after a call
   pub record IsSamePass (before now : Pass S B E) : Type 0 where
     pub table : now.seat.table_id ≡ before.seat.table_id

@@ -1,9 +1,10 @@
-//! Four threads make a thousand turns each.
+//! Four threads make a thousand turns each at one monitor.
 ghost use Rattle.std.specs.Prelude.{◌≡◌, ◌<◌};
 ghost use Rattle.std.specs.Thread.{IsSync};
-ghost use Rattle.alp_monitor.specs.Passes.{IsPassOf, IsOutside, IsSamePass};
+ghost use Rattle.alp_monitor.specs.Passes.{IsReady, number};
 
 use super::numbers::Numbers;
+use super::turns::{Done, add, close, of_four};
 use crate::{Monitor, Pass};
 use std::alloc::{AllocError, Global};
 use std::sync::Wait;
@@ -11,42 +12,24 @@ use std::test::Fail;
 use std::thread;
 use std::thread::Threads;
 
-// One turn, which adds the number. Returns the place that it got.
-pub(super) fn add<R: Wait>(
-    rt: &R,
-    monitor: &Monitor<Numbers>,
-    pass: Pass<Numbers>,
-    number: u64,
-) -> (Pass<Numbers>, usize)
-    requires own { IsPassOf monitor.now pass }
-    requires outside { IsOutside pass }
-    ensures { IsSamePass pass result.0 × IsOutside result.0 }
-{
-    let mut turn = monitor.enter(rt, pass);
-    let place = turn.state.items.len();
-    let _ = turn.state.items.push(number);
-    (monitor.leave(turn), place)
-}
-
-// A thousand turns, which add the numbers from `first` on. Their places go into `places`, which has room for them.
+// A thousand turns, which add the numbers from `first` on.
 fn work<R: Wait>(
     rt: &R,
     monitor: &Monitor<Numbers>,
     mut pass: Pass<Numbers>,
     first: u64,
     mut places: Vec<usize>,
-) -> (Pass<Numbers>, Vec<usize>)
-    requires own { IsPassOf monitor.now pass }
-    requires outside { IsOutside pass }
+) -> Done
+    requires ready { IsReady monitor.now (number pass) pass }
     requires small { first < 10000 }
-    ensures { IsSamePass pass result.0 × IsOutside result.0 }
+    ensures { IsReady monitor.now (number pass) result.pass }
 {
     for number in first..first + 1000 {
         let (back, place) = add(rt, monitor, pass, number);
         pass = back;
         let _ = places.push(place);
     }
-    (pass, places)
+    Done { pass, places }
 }
 
 // Two threads.
@@ -56,24 +39,53 @@ fn two<R: Threads + Wait + Sync>(
     passes: (Pass<Numbers>, Pass<Numbers>),
     first: u64,
     places: (Vec<usize>, Vec<usize>),
-) -> ((Pass<Numbers>, Vec<usize>), (Pass<Numbers>, Vec<usize>))
-    requires own { IsPassOf monitor.now passes.0 × IsPassOf monitor.now passes.1 }
-    requires outside { IsOutside passes.0 × IsOutside passes.1 }
+) -> (Done, Done)
+    requires ready { IsReady monitor.now (number passes.0) passes.0 × IsReady monitor.now (number passes.1) passes.1 }
     requires small { first < 9000 }
-    ensures a { IsSamePass passes.0 result.0.0 × IsOutside result.0.0 }
-    ensures b { IsSamePass passes.1 result.1.0 × IsOutside result.1.0 }
+    ensures first { IsReady monitor.now (number passes.0) result.0.pass }
+    ensures second { IsReady monitor.now (number passes.1) result.1.pass }
 {
     let (a, b) = passes;
     let (in_a, in_b) = places;
     thread::join(
         rt,
-        || -> (Pass<Numbers>, Vec<usize>)
-            requires { IsPassOf monitor.now a × IsOutside a }
-            ensures { IsSamePass a result.0 × IsOutside result.0 }
+        || -> Done
+            requires { IsReady monitor.now (number a) a × (first < 9000) }
+            ensures { IsReady monitor.entry.now (number a) result.pass }
         { work(rt, monitor, a, first, in_a) },
-        || -> (Pass<Numbers>, Vec<usize>)
-            requires { IsPassOf monitor.now b × IsOutside b }
-            ensures { IsSamePass b result.0 × IsOutside result.0 }
+        || -> Done
+            requires { IsReady monitor.now (number b) b × (first < 9000) }
+            ensures { IsReady monitor.entry.now (number b) result.pass }
         { work(rt, monitor, b, first + 1000, in_b) },
     )
+}
+
+fn four<R: Threads + Wait + Sync>(rt: &R, alloc: Global) -> Result<bool, AllocError> {
+    let places_ab = (Vec::with_capacity(alloc, 1000)?, Vec::with_capacity(alloc, 1000)?);
+    let places_cd = (Vec::with_capacity(alloc, 1000)?, Vec::with_capacity(alloc, 1000)?);
+    let (monitor, (ab, cd), room) = of_four(alloc, 7, 4000)?;
+    let ((a, b), (c, d)) = thread::join(
+        rt,
+        || -> (Done, Done)
+            requires { IsReady monitor (number ab.0) ab.0 × IsReady monitor (number ab.1) ab.1 × IsSync R.row }
+            ensures { IsReady monitor (number ab.0) result.0.pass × IsReady monitor (number ab.1) result.1.pass }
+        { two(rt, &monitor, ab, 0, places_ab) },
+        || -> (Done, Done)
+            requires { IsReady monitor (number cd.0) cd.0 × IsReady monitor (number cd.1) cd.1 × IsSync R.row }
+            ensures { IsReady monitor (number cd.0) result.0.pass × IsReady monitor (number cd.1) result.1.pass }
+        { two(rt, &monitor, cd, 2000, places_cd) },
+    );
+    let numbers = close(monitor, room, ((a.pass, b.pass), (c.pass, d.pass)));
+    Ok(numbers.items.len() == 4000
+        && numbers.have(0, &a.places)
+        && numbers.have(1000, &b.places)
+        && numbers.have(2000, &c.places)
+        && numbers.have(3000, &d.places))
+}
+
+#[test]
+fn four_threads(rt: HostRuntime) -> Result<(), Fail> {
+    let alloc = rt.alloc();
+    assert!(rt; four(&rt, alloc)?);
+    Ok(())
 }
