@@ -11,6 +11,7 @@ use std::snapshot::Snapshot;
 use std::sync::Wait;
 
 /// A state that threads take in turns, each by a pass of its own.
+#[derive(Drop)]
 pub struct Monitor<S: Story> {
     table: Board<S>,
     ghost sized: { (table.shared.table_id.words ≡ 2) × (table.shared.table_id.slots ≡ 1) },

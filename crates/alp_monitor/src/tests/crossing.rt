@@ -1,0 +1,26 @@
+//! What may cross threads and be let go, at any state.
+use crate::{Monitor, Pass, Story, Turn};
+
+fn crosses<T: Send>() {}
+
+fn is_shared<T: Sync>() {}
+
+fn is_let_go<T: Drop>() {}
+
+// A state that may cross threads.
+fn sent<S: Story + Send>() {
+    crosses::<Monitor<S>>();
+    is_shared::<Monitor<S>>();
+    crosses::<Pass<S>>();
+    crosses::<Turn<S>>();
+}
+
+// Any state at all.
+fn let_go<S: Story>() {
+    is_let_go::<Pass<S>>();
+}
+
+// A state that may be let go.
+fn all_let_go<S: Story + Drop>() {
+    is_let_go::<Monitor<S>>();
+}
