@@ -1,4 +1,5 @@
 //! What may cross threads and be let go, at any state.
+use super::numbers::Numbers;
 use crate::{Monitor, Pass, Story, Turn};
 
 fn crosses<T: Send>() {}
@@ -23,4 +24,11 @@ fn let_go<S: Story>() {
 // A state that may be let go.
 fn all_let_go<S: Story + Drop>() {
     is_let_go::<Monitor<S>>();
+}
+
+#[test]
+fn states_cross_threads(_rt: HostRuntime) {
+    sent::<Numbers>();
+    let_go::<Numbers>();
+    all_let_go::<Numbers>();
 }

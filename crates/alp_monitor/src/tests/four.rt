@@ -17,13 +17,14 @@ fn work<R: Wait>(
     rt: &R,
     monitor: &Monitor<Numbers>,
     mut pass: Pass<Numbers>,
+    alloc: Global,
     first: u64,
-    mut places: Vec<usize>,
 ) -> Done
     requires ready { IsReady monitor.now (number pass) pass }
     requires small { first < 10000 }
     ensures { IsReady monitor.now (number pass) result.pass }
 {
+    let mut places = Vec::new(alloc);
     for number in first..first + 1000 {
         let (back, place) = add(rt, monitor, pass, number);
         pass = back;
@@ -37,8 +38,8 @@ fn two<R: Threads + Wait + Sync>(
     rt: &R,
     monitor: &Monitor<Numbers>,
     passes: (Pass<Numbers>, Pass<Numbers>),
+    alloc: Global,
     first: u64,
-    places: (Vec<usize>, Vec<usize>),
 ) -> (Done, Done)
     requires ready { IsReady monitor.now (number passes.0) passes.0 × IsReady monitor.now (number passes.1) passes.1 }
     requires small { first < 9000 }
@@ -46,41 +47,38 @@ fn two<R: Threads + Wait + Sync>(
     ensures second { IsReady monitor.now (number passes.1) result.1.pass }
 {
     let (a, b) = passes;
-    let (in_a, in_b) = places;
     thread::join(
         rt,
         || -> Done
             requires { IsReady monitor.now (number a) a × (first < 9000) }
             ensures { IsReady monitor.entry.now (number a) result.pass }
-        { work(rt, monitor, a, first, in_a) },
+        { work(rt, monitor, a, alloc, first) },
         || -> Done
             requires { IsReady monitor.now (number b) b × (first < 9000) }
             ensures { IsReady monitor.entry.now (number b) result.pass }
-        { work(rt, monitor, b, first + 1000, in_b) },
+        { work(rt, monitor, b, alloc, first + 1000) },
     )
 }
 
 fn four<R: Threads + Wait + Sync>(rt: &R, alloc: Global) -> Result<bool, AllocError> {
-    let places_ab = (Vec::with_capacity(alloc, 1000)?, Vec::with_capacity(alloc, 1000)?);
-    let places_cd = (Vec::with_capacity(alloc, 1000)?, Vec::with_capacity(alloc, 1000)?);
     let (monitor, (ab, cd), room) = of_four(alloc, 7, 4000)?;
     let ((a, b), (c, d)) = thread::join(
         rt,
         || -> (Done, Done)
             requires { IsReady monitor (number ab.0) ab.0 × IsReady monitor (number ab.1) ab.1 × IsSync R.row }
             ensures { IsReady monitor (number ab.0) result.0.pass × IsReady monitor (number ab.1) result.1.pass }
-        { two(rt, &monitor, ab, 0, places_ab) },
+        { two(rt, &monitor, ab, alloc, 0) },
         || -> (Done, Done)
             requires { IsReady monitor (number cd.0) cd.0 × IsReady monitor (number cd.1) cd.1 × IsSync R.row }
             ensures { IsReady monitor (number cd.0) result.0.pass × IsReady monitor (number cd.1) result.1.pass }
-        { two(rt, &monitor, cd, 2000, places_cd) },
+        { two(rt, &monitor, cd, alloc, 2000) },
     );
     let numbers = close(monitor, room, ((a.pass, b.pass), (c.pass, d.pass)));
     Ok(numbers.items.len() == 4000
-        && numbers.have(0, &a.places)
-        && numbers.have(1000, &b.places)
-        && numbers.have(2000, &c.places)
-        && numbers.have(3000, &d.places))
+        && numbers.have(0, 1000, &a.places)
+        && numbers.have(1000, 1000, &b.places)
+        && numbers.have(2000, 1000, &c.places)
+        && numbers.have(3000, 1000, &d.places))
 }
 
 #[test]

@@ -24,8 +24,8 @@ impl Story for Numbers {
 }
 
 impl Numbers {
-    // Whether the numbers from `first` on stand at these places, which rise.
-    pub(super) fn have(&self, first: u64, places: &[usize]) -> bool {
+    // Whether `count` numbers from `first` on stand at these places, which rise.
+    pub(super) fn have(&self, first: u64, count: usize, places: &[usize]) -> bool {
         let mut after = 0;
         for (place, number) in places.iter().zip(first..u64::MAX) {
             if *place < after || self.items.get(*place) != Some(&number) {
@@ -33,6 +33,6 @@ impl Numbers {
             }
             after = *place + 1;
         }
-        true
+        places.len() == count
     }
 }
