@@ -30,7 +30,11 @@ fn work<R: Wait>(
         pass = back;
         let _ = places.push(place);
     }
-    Done { pass, places }
+    Done {
+        pass,
+        first,
+        places,
+    }
 }
 
 // Two threads.
@@ -62,7 +66,7 @@ fn two<R: Threads + Wait + Sync>(
 
 fn four<R: Threads + Wait + Sync>(rt: &R, alloc: Global) -> Result<bool, AllocError> {
     let (monitor, (ab, cd), room) = of_four(alloc, 7, 4000)?;
-    let ((a, b), (c, d)) = thread::join(
+    let (ab, cd) = thread::join(
         rt,
         || -> (Done, Done)
             requires { IsReady monitor (number ab.0) ab.0 × IsReady monitor (number ab.1) ab.1 × IsSync R.row }
@@ -73,12 +77,7 @@ fn four<R: Threads + Wait + Sync>(rt: &R, alloc: Global) -> Result<bool, AllocEr
             ensures { IsReady monitor (number cd.0) result.0.pass × IsReady monitor (number cd.1) result.1.pass }
         { two(rt, &monitor, cd, alloc, 2000) },
     );
-    let numbers = close(monitor, room, ((a.pass, b.pass), (c.pass, d.pass)));
-    Ok(numbers.items.len() == 4000
-        && numbers.have(0, 1000, &a.places)
-        && numbers.have(1000, 1000, &b.places)
-        && numbers.have(2000, 1000, &c.places)
-        && numbers.have(3000, 1000, &d.places))
+    Ok(close(monitor, room, 7, 1000, (ab, cd)))
 }
 
 #[test]

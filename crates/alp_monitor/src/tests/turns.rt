@@ -1,5 +1,5 @@
 //! Turns that add a number, and what the tests do with the passes of four threads.
-ghost use Rattle.std.specs.Prelude.{◌≡◌, ◌≤◌, [], IfOk};
+ghost use Rattle.std.specs.Prelude.{◌≡◌, ◌<◌, ◌≤◌, [], IfOk};
 ghost use Rattle.std.specs.Vec.{vec_len, vec_capacity};
 ghost use Rattle.alp_monitor.specs.Passes.{IsPassOf, IsOutside, IsSamePass, IsReady, pass_count};
 
@@ -8,10 +8,11 @@ use crate::{Monitor, Pass};
 use std::alloc::{AllocError, Global};
 use std::sync::Wait;
 
-// A pass that came back, and where its numbers stand.
+// A pass that came back, the first of the numbers that it added, and where they stand.
 #[derive(Drop)]
 pub(super) struct Done {
     pub(super) pass: Pass<Numbers>,
+    pub(super) first: u64,
     pub(super) places: Vec<usize>,
 }
 
@@ -61,23 +62,33 @@ pub(super) fn of_four(
     Ok((monitor, ((a, b), (c, d)), passes))
 }
 
-// Hands the four passes back, and gives the list.
+// Hands the four passes back. Answers whether the list has this name, and the numbers of `each` turns
+// of each pass, where they were made, and no others.
 pub(super) fn close(
     monitor: Monitor<Numbers>,
     mut room: Vec<Pass<Numbers>>,
-    passes: Passes,
-) -> Numbers
+    name: u64,
+    each: usize,
+    done: ((Done, Done), (Done, Done)),
+) -> bool
+    requires small { each < 10000 }
     requires count { pass_count monitor ≡ 4 }
-    requires first { IsReady monitor 0 passes.0.0 }
-    requires second { IsReady monitor 1 passes.0.1 }
-    requires third { IsReady monitor 2 passes.1.0 }
-    requires fourth { IsReady monitor 3 passes.1.1 }
+    requires first { IsReady monitor 0 done.0.0.pass }
+    requires second { IsReady monitor 1 done.0.1.pass }
+    requires third { IsReady monitor 2 done.1.0.pass }
+    requires fourth { IsReady monitor 3 done.1.1.pass }
     requires room { (room.items ≡ []) × (vec_len room ≡ 0) × (4 ≤ vec_capacity room) }
 {
-    let ((a, b), (c, d)) = passes;
-    room.push_reserved(a);
-    room.push_reserved(b);
-    room.push_reserved(c);
-    room.push_reserved(d);
-    monitor.close(room)
+    let ((a, b), (c, d)) = done;
+    room.push_reserved(a.pass);
+    room.push_reserved(b.pass);
+    room.push_reserved(c.pass);
+    room.push_reserved(d.pass);
+    let numbers = monitor.close(room);
+    numbers.name == name
+        && numbers.items.len() == 4 * each
+        && numbers.have(a.first, each, &a.places)
+        && numbers.have(b.first, each, &b.places)
+        && numbers.have(c.first, each, &c.places)
+        && numbers.have(d.first, each, &d.places)
 }
