@@ -103,9 +103,9 @@ impl<S: Story> Monitor<S> {
         }
         passes.destroy_empty();
         let mut closed = table.close_with(keeper);
-        let place = closed.take(PLACE);
+        let home = closed.take(PLACE);
         closed.free();
-        let Some(state) = place else { unreachable!() };
+        let Some(state) = home else { unreachable!() };
         state
     }
 }

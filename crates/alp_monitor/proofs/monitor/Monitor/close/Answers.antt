@@ -23,14 +23,14 @@ loop-pass-preserved g c = gathered_more c.args.self c.args.passes.items _ _ c.in
 
 pub unreachable-requires : goal.unreachable-requires
 unreachable-requires g c =
-    let t = closes g.S.Story.base g.S.Story.entries _ _ c.args.self c.loop-pass.keeper c.args.passes.items c.loop-pass.passes.items _ _ _ c.loop-pass.invariant (first_of (search rules, grind (arith, common_steps))) c.requires.all c.close_with-closed.ensures.values.2 c.take-place.ensures.value in
-    c.in_default-place.not-Some t.0 t.1
+    let t = closes g.S.Story.base g.S.Story.entries _ _ c.args.self c.loop-pass.keeper c.args.passes.items c.loop-pass.passes.items _ _ _ c.loop-pass.invariant (first_of (search rules, grind (arith, common_steps))) c.requires.all c.close_with-closed.ensures.values.2 c.take-home.ensures.value in
+    c.in_default-home.not-Some t.0 t.1
 
-found : (g : _) (c : goal.In-Some-place g) → (g.S.Story.base c.in-Some-place.state ≡ g.S.Story.base c.args.self.table.shared.key.0.value) × IsMadeBy c.args.passes.items (g.S.Story.entries c.in-Some-place.state)
+found : (g : _) (c : goal.In-Some-home g) → (g.S.Story.base c.in-Some-home.state ≡ g.S.Story.base c.args.self.table.shared.key.0.value) × IsMadeBy c.args.passes.items (g.S.Story.entries c.in-Some-home.state)
 found g c =
     let passes : ℕ = c.args.self.table.shared.key.1 in
-    let t = closes g.S.Story.base g.S.Story.entries _ passes c.args.self c.loop-pass.keeper c.args.passes.items c.loop-pass.passes.items _ _ _ c.loop-pass.invariant (first_of (search rules, grind (arith, common_steps))) c.requires.all c.close_with-closed.ensures.values.2 c.take-place.ensures.value in
-    same_state g.S.Story.base g.S.Story.entries _ passes _ c.args.passes.items c.in-Some-place.state t c.in-Some-place.is
+    let t = closes g.S.Story.base g.S.Story.entries _ passes c.args.self c.loop-pass.keeper c.args.passes.items c.loop-pass.passes.items _ _ _ c.loop-pass.invariant (first_of (search rules, grind (arith, common_steps))) c.requires.all c.close_with-closed.ensures.values.2 c.take-home.ensures.value in
+    same_state g.S.Story.base g.S.Story.entries _ passes _ c.args.passes.items c.in-Some-home.state t c.in-Some-home.is
 
 pub returns-clause-base : goal.returns-clause-base
 returns-clause-base g c = (found g c).0
