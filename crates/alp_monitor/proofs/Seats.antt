@@ -78,11 +78,11 @@ module _ {S B E : Type 0} (base_of : S → B) (entries_of : S → List E) where
   pub brought : (before m : M) (b : B) (p : Part E) (state : S) → before ≡ (Inside b p, (0, None) ∷ []) → m ≡ (before.0, (0, Some state) ∷ rest before.1) → m ≡ (Inside b p, (0, Some state) ∷ [])
   brought before m b p state is put = put ∙ ap (λ (n : M). (n.0, (0, Some state) ∷ rest n.1)) is
 
-  pub leaves : (before now : Pass S B E) (m : M) (b : B) (p : Part E) (state : S) → before.seat.me ≡ (Inside b p, (0, None) ∷ []) → m ≡ (Inside b p, (0, Some state) ∷ []) → SettlesFrom entries_of m.0 m.1 now.seat.me
-      → AddsAtMostOne (told p.front) (entries_of state) → now.seat.table_id ≡ before.seat.table_id → Leaves before now state
-  leaves before now m b p state was put tells adds own =
+  pub leaves : (before now : Pass S B E) (m home : M) (b : B) (p : Part E) (state : S) → before.seat.me ≡ (Inside b p, (0, None) ∷ []) → m ≡ (Inside b p, (0, Some state) ∷ []) → SettlesFrom entries_of m.0 m.1 home
+      → AddsAtMostOne (told p.front) (entries_of state) → now.seat.me ≡ home → now.seat.table_id ≡ before.seat.table_id → Leaves before now state
+  leaves before now m home b p state was put tells adds same own =
       let longer : List (ℕ × E) = grown p.number p.front (entries_of state) in
-      let now_is : now.seat.me ≡ (Outside b (part p.number longer ∷ []), []) = subst (λ (n : M). SettlesFrom entries_of n.0 n.1 now.seat.me) put tells in
+      let now_is : now.seat.me ≡ (Outside b (part p.number longer ∷ []), []) = same ∙ subst (λ (n : M). SettlesFrom entries_of n.0 n.1 home) put tells in
       let front_was : front before ≡ p.front = ap (λ (n : M). (first_part n.0).front) was in
       let front_is : front now ≡ longer = ap (λ (n : M). (first_part n.0).front) now_is in
       let number_was : number before ≡ p.number = ap (λ (n : M). (first_part n.0).number) was in

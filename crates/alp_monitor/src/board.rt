@@ -1,5 +1,6 @@
 //! The table below a monitor. Its first word is twice the number of the entries, and one more while
-//! the state is out; its second counts the passes that wait. Its one slot is the state's place.
+//! the state is out. Its second is twice the number of the passes that wait, and one more while one
+//! of them was woken and did not come back yet. Its one slot is the state's place.
 use crate::story::Story;
 use atomic_table::{Seat, Table, TableRule};
 use std::alloc::Global;

@@ -7,8 +7,12 @@ use crate::story::Story;
 use alp_base::OutOfMemory;
 use atomic_table::{Refused, Table};
 use std::alloc::{AllocFailed, Global};
+use std::hint::spin_loop;
 use std::snapshot::Snapshot;
 use std::sync::Wait;
+
+// How often a pass looks at the word again before it sleeps.
+const LOOKS: u32 = 8;
 
 /// A state that threads take in turns, each by a pass of its own.
 #[derive(Drop)]
@@ -155,7 +159,7 @@ impl<S: Story> Monitor<S> {
         let place = self.table.shared.exchange(&mut pass.seat, PLACE, Some(state));
         let None = place else { unreachable!() };
         self.table.shared.store::<Settle>(&mut pass.seat, WORD, word);
-        self.wake();
+        self.wake(&mut pass);
         pass
     }
 
@@ -176,21 +180,50 @@ impl<S: Story> Monitor<S> {
         Some(state)
     }
 
-    // Wakes one of those that wait, and asks the system for it only where there is one.
-    fn wake(&self) {
-        if self.table.shared.peek(WAITING) > 0 {
-            self.table.shared.wake_one(WORD);
-        }
-    }
-
-    // Sleeps while the word is this one, counted among those that wait, so that who leaves wakes one.
+    // Sleeps until a pass that leaves wakes it, unless the word changes soon.
     fn wait<R: Wait>(&self, rt: &R, pass: &mut Pass<S>, word: u64)
         requires own { IsPassOf self.now pass.old }
         ensures { IsUntouched pass.old pass.new }
     {
+        if self.changes_soon(word) {
+            return;
+        }
         let shared = &self.table.shared;
-        shared.fetch_add::<CountWaiting>(&mut pass.seat, WAITING, 1);
-        shared.park(rt, WORD, (word % (1 << 32)) as u32);
-        shared.fetch_sub::<CountWaiting>(&mut pass.seat, WAITING, 1);
+        let before = shared.fetch_add::<CountWaiting>(&mut pass.seat, WAITING, 2);
+        if shared.peek(WORD) % 2 != 0 {
+            shared.park(rt, WAITING, (before.wrapping_add(2) % (1 << 32)) as u32);
+        }
+        shared.fetch_sub::<CountWaiting>(&mut pass.seat, WAITING, 2);
+        shared.fetch_and::<CountWaiting>(&mut pass.seat, WAITING, !1);
+    }
+
+    // Looks at the word a few times, less and less often.
+    fn changes_soon(&self, word: u64) -> bool {
+        for look in 0..LOOKS {
+            for _ in 0..1u32 << look {
+                spin_loop();
+            }
+            if self.table.shared.peek(WORD) != word {
+                return true;
+            }
+        }
+        false
+    }
+
+    // Wakes one of those that sleep, where there is one and none that was woken is on its way.
+    fn wake(&self, pass: &mut Pass<S>)
+        requires own { IsPassOf self.now pass.old }
+        ensures { IsUntouched pass.old pass.new }
+    {
+        let shared = &self.table.shared;
+        let waiting = shared.peek(WAITING);
+        if waiting < 2 || waiting % 2 != 0 {
+            return;
+        }
+        let found =
+            shared.compare_exchange::<CountWaiting>(&mut pass.seat, WAITING, waiting, waiting + 1);
+        if found == waiting {
+            shared.wake_one(WAITING);
+        }
     }
 }

@@ -12,11 +12,11 @@ store-requires g c =
           (adds_at g.S.Story.base g.S.Story.entries c.args.turn.pass i.0 i.1 _ i.2 c.requires.history) (ap (λ n. 2 * n) c.count-word.ensures),
     )
 
-left : (g : _) (c : goal.After-wake g) → Leaves g.S.Story.base g.S.Story.entries c.args.turn.pass (record { seat = c.store.new.seat }) c.args.turn.state
+left : (g : _) (c : goal.After-wake g) → Leaves g.S.Story.base g.S.Story.entries c.args.turn.pass c.wake.new.pass c.args.turn.state
 left g c =
     let i = c.requires.inside in
-    leaves g.S.Story.base g.S.Story.entries c.args.turn.pass _ _ i.0 i.1 _ i.2 (brought g.S.Story.base g.S.Story.entries _ _ i.0 i.1 _ i.2 c.exchange-place.ensures.3) c.store.ensures.2 (adds_at g.S.Story.base g.S.Story.entries c.args.turn.pass i.0 i.1 _ i.2 c.requires.history)
-        (c.store.ensures.0 ∙ c.exchange-place.ensures.0)
+    leaves g.S.Story.base g.S.Story.entries c.args.turn.pass c.wake.new.pass _ _ i.0 i.1 _ i.2 (brought g.S.Story.base g.S.Story.entries _ _ i.0 i.1 _ i.2 c.exchange-place.ensures.3) c.store.ensures.2 (adds_at g.S.Story.base g.S.Story.entries c.args.turn.pass i.0 i.1 _ i.2 c.requires.history) c.wake.ensures.me
+        (c.wake.ensures.table ∙ (c.store.ensures.0 ∙ c.exchange-place.ensures.0))
 
 pub returns-clause-pass : goal.returns-clause-pass
 returns-clause-pass g c = ((left g c).same, (left g c).outside)
