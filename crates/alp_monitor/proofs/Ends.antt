@@ -1,13 +1,13 @@
 -- How a monitor begins and ends: passes are made, and taken in, and the rule stays.
-use Rattle.std.proofs.Common.{◌≡◌, ◌≢◌, ◌⊎◌, ℕ, zero, suc, ◌+◌, ◌-◌, ◌^◌, ◌<◌, ◌≤◌, eqb, List, [], ◌∷◌, ◌++◌, length, map, set, Option, Some, None, Bool, true, false, true≢false, refl, sym, ap, ◌∙◌, subst, ⊎_elim, inl, inr, arith, length-append, length-set, eq-eqb, ne_eqb}
+use Rattle.std.proofs.Common.{◌≡◌, ◌≢◌, ◌⊎◌, ℕ, zero, suc, ◌+◌, ◌<◌, ◌≤◌, eqb, List, [], ◌∷◌, ◌++◌, length, set, Option, Some, Bool, true, false, true≢false, refl, sym, ap, ◌∙◌, subst, ⊎_elim, inl, inr, arith, length-set, eq-eqb, ne_eqb}
 use Rattle.std.specs.Prelude.{if◌then◌else◌}
-use mathlib.Core.Option.{some, none, some-ne-none, some-injective}
+use mathlib.Core.Option.{some, some-ne-none, some-injective}
 use mathlib.Core.List.{IsPrefix}
 use lib.ListN.{get_elem?}
 use Rattle.atomic_table.specs.Table.{State, opening, Splits, Joins, Final, Seen}
-use Rattle.atomic_table.proofs.Lists.{at_longer, at_snoc, set_else}
+use Rattle.atomic_table.proofs.Lists.{at_longer, set_else}
 use Rattle.alp_monitor.specs.History.{told, turns_of, part}
-use Rattle.alp_monitor.specs.Rule.{IsPartOf, ArePartsOf, Knows, IsHome, IsInTurns, word_of, founding}
+use Rattle.alp_monitor.specs.Rule.{IsPartOf, ArePartsOf, Knows, IsHome, IsInTurns, founding}
 use Rattle.alp_monitor.specs.Steps.{with_one_more, newcomer, both_of}
 use Rattle.alp_monitor.specs.declared.board.Part.{Part}
 use Rattle.alp_monitor.specs.declared.board.View.{View}
@@ -132,13 +132,15 @@ module _ {S B E : Type 0} (base_of : S → B) (entries_of : S → List E) (base 
         each_seat = λ j u e. ⊎_elim
             (λ was. each_after K s.views id (Founder b (n + 1)) (known.0, ap (λ (z : ℕ). z + 1) n_is, known.2)
             (λ i w ne q. still r.history base r.made made' r.owner owner' r.busy r.holder i w (omega arith) (λ z. absurd (ne (z ∙ sym known.2))) (λ k small o. given-old r.owner r.made new k (λ z. omega arith) ∙ o) (r.each_seat i w q)) j u was)
-            (λ (t : (j ≡ length vs') × (fresh ≡ u)). subst (λ (z : ℕ × View B E). K z.0 z.1) (λ i. ((sym size ∙ sym t.0) i, t.1 i))
-            (known.0, ArePartsOf-one r.history made' owner' new (part n []) record {
-              begins = (r.history, refl);
-              complete = ap (λ k. turns_of k r.history) n_is ∙ turns_from-unnamed r.history 0 r.made r.named;
-              numbered = omega (arith, n_is);
-              owned = ap owner' n_is ∙ given-new r.owner r.made new;
-            }))
+            (λ (t : (j ≡ length vs') × (fresh ≡ u)). subst (λ (z : ℕ × View B E). K z.0 z.1) (λ i. ((sym size ∙ sym t.0) i, t.1 i)) (
+              known.0,
+              ArePartsOf-one r.history made' owner' new (part n []) record {
+                begins = (r.history, refl);
+                complete = ap (λ k. turns_of k r.history) n_is ∙ turns_from-unnamed r.history 0 r.made r.named;
+                numbered = omega (arith, n_is);
+                owned = ap owner' n_is ∙ given-new r.owner r.made new;
+              },
+            ))
             (at_end vs' fresh u j e);
       })
 

@@ -43,6 +43,7 @@ module _ {S B E : Type 0} (m : Monitor S B E) where
     where
       both : (q r : Pass S B E) (k : ℕ) → IsReady m k q → q ≡ r → IsPassOf m r × IsOutside r
       both q r k ready same = subst (λ (x : Pass S B E). IsPassOf m x × IsOutside x) same (ready.own, ready.outside)
+
       of : (i : ℕ) (p : Pass S B E) → get_elem? (a ∷ b ∷ c ∷ d ∷ []) i ≡ some p → IsPassOf m p × IsOutside p
       of zero p e = both a p 0 ra (some-injective a p e)
       of (suc zero) p e = both b p 1 rb (some-injective b p e)

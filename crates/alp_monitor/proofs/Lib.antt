@@ -1,6 +1,6 @@
-mod Histories
+pub mod Histories
 mod Rules
 mod Ends
 mod Seats
-mod Passes
+pub mod Passes
 mod Fours

@@ -1,5 +1,5 @@
 -- Lists of passes: as they are dealt, and as they come back.
-use Rattle.std.proofs.Common.{◌≡◌, ◌⊎◌, ℕ, zero, suc, ◌+◌, ◌<◌, List, [], ◌∷◌, ◌++◌, length, map, Option, Some, None, refl, sym, ap, ◌∙◌, subst, ⊎_elim, arith, length-append}
+use Rattle.std.proofs.Common.{◌≡◌, ℕ, zero, suc, ◌+◌, ◌<◌, List, [], ◌∷◌, ◌++◌, length, map, Option, Some, None, refl, sym, ap, ◌∙◌, subst, ⊎_elim, arith, length-append}
 use Rattle.std.specs.Prelude.{slice_get}
 use mathlib.Core.Option.{some, some-ne-none, some-injective}
 use mathlib.Core.List.{append_assoc}
@@ -7,13 +7,13 @@ use lib.ListN.{get_elem?}
 use Rattle.atomic_table.specs.Table.{Me, Final, Seen}
 use Rattle.atomic_table.specs.declared.shared.Seat.{Seat}
 use Rattle.atomic_table.proofs.Lists.{at_last, at_longer, at_map}
-use Rattle.alp_monitor.specs.History.{told, turns_of, part}
+use Rattle.alp_monitor.specs.History.{turns_of, part}
 use Rattle.alp_monitor.specs.Rule.{IsInTurns}
 use Rattle.alp_monitor.specs.Steps.{with_one_more, newcomer, both_of}
-use Rattle.alp_monitor.specs.Passes.{first_part, base_in, number, first_base, IsPassOf, IsOutside, IsFresh, IsCounting, AreFresh, HasNumber, IsMadeBy}
+use Rattle.alp_monitor.specs.Passes.{first_part, base_in, first_base, IsPassOf, IsOutside, AreOutside, IsFresh, IsCounting, AreFresh, HasNumber, IsMadeBy}
 use Rattle.alp_monitor.specs.declared.board.Part.{Part}
 use Rattle.alp_monitor.specs.declared.board.View.{View}
-use Rattle.alp_monitor.specs.declared.board.View.TheVariants.{Founder, Outside}
+use Rattle.alp_monitor.specs.declared.board.View.TheVariants.{Outside}
 use Rattle.alp_monitor.specs.declared.monitor.Monitor.{Monitor}
 use Rattle.alp_monitor.specs.declared.monitor.Pass.{Pass}
 use Rattle.alp_monitor.proofs.Ends.{Ends, HasAll, at_end, ends}
@@ -81,14 +81,10 @@ module _ {S B E : Type 0} where
     pub split : all ≡ left ++ taken
     pub keeper_is : IsKeeper keeper.me base taken
 
-  -- what `close` requires of each pass
-  abbrev pub AllOutside : Monitor S B E → List (Pass S B E) → Type 0
-  AllOutside m ps = (i : ℕ) (p : Pass S B E) → slice_get ps i ≡ Some p → IsPassOf m p × IsOutside p
-
   at_seam : (all left taken : List (Pass S B E)) (p : Pass S B E) → all ≡ left ++ p ∷ taken → slice_get all (length left) ≡ Some p
   at_seam all left taken p e = get_from_elem all (length left) p (ap (λ l. get_elem? l (length left)) (e ∙ sym (append_assoc left (p ∷ []) taken)) ∙ at_longer (left ++ p ∷ []) taken (length left) p (at_last left p (length left) refl))
 
-  pub gathered_one : (m : Monitor S B E) (all left : List (Pass S B E)) (p : Pass S B E) (keeper : Seat (Option S) (View B E)) → AllOutside m all → all ≡ left ++ p ∷ [] → keeper ≡ p.seat → Gathered m keeper all left
+  pub gathered_one : (m : Monitor S B E) (all left : List (Pass S B E)) (p : Pass S B E) (keeper : Seat (Option S) (View B E)) → AreOutside m all → all ≡ left ++ p ∷ [] → keeper ≡ p.seat → Gathered m keeper all left
   gathered_one m all left p keeper own e is =
       let at = own (length left) p (at_seam all left [] p e) in let out = at.1 in record {
         taken = p ∷ [];
@@ -99,10 +95,10 @@ module _ {S B E : Type 0} where
       }
 
   -- the next pass that is taken in
-  pub next_of : (m : Monitor S B E) (all left left' : List (Pass S B E)) (p : Pass S B E) (keeper : Seat (Option S) (View B E)) → AllOutside m all → Gathered m keeper all left → left ≡ left' ++ p ∷ [] → IsPassOf m p × IsOutside p
+  pub next_of : (m : Monitor S B E) (all left left' : List (Pass S B E)) (p : Pass S B E) (keeper : Seat (Option S) (View B E)) → AreOutside m all → Gathered m keeper all left → left ≡ left' ++ p ∷ [] → IsPassOf m p × IsOutside p
   next_of m all left left' p keeper own g e = own (length left') p (at_seam all left' g.taken p (g.split ∙ (ap (λ l. l ++ g.taken) e ∙ append_assoc left' (p ∷ []) g.taken)))
 
-  pub gathered_more : (m : Monitor S B E) (all left left' : List (Pass S B E)) (p : Pass S B E) (keeper keeper' : Seat (Option S) (View B E)) → AllOutside m all → Gathered m keeper all left → left ≡ left' ++ p ∷ []
+  pub gathered_more : (m : Monitor S B E) (all left left' : List (Pass S B E)) (p : Pass S B E) (keeper keeper' : Seat (Option S) (View B E)) → AreOutside m all → Gathered m keeper all left → left ≡ left' ++ p ∷ []
       → keeper'.table_id ≡ keeper.table_id → keeper'.me ≡ (both_of keeper.me.0 p.seat.me.0, keeper.me.1) → Gathered m keeper' all left'
   gathered_more m all left left' p keeper keeper' own g e own' is =
       let out = (next_of m all left left' p keeper own g e).1 in record {

@@ -1,5 +1,5 @@
 -- Each step of a turn keeps the rule.
-use Rattle.std.proofs.Common.{◌≡◌, ◌≢◌, ◌⊎◌, ℕ, zero, suc, ◌+◌, ◌*◌, ◌%◌, ◌^◌, ◌<◌, ◌≤◌, eqb, List, [], ◌∷◌, ◌++◌, length, get_or, set, Option, Some, None, Bool, true, false, true≢false, refl, sym, ap, ◌∙◌, subst, ⊎_elim, inl, inr, arith, length-append, eq-eqb, ne_eqb}
+use Rattle.std.proofs.Common.{◌≡◌, ◌≢◌, ℕ, zero, suc, ◌+◌, ◌*◌, ◌%◌, ◌^◌, ◌<◌, ◌≤◌, eqb, List, [], ◌∷◌, ◌++◌, length, get_or, set, Option, Some, Bool, true, false, true≢false, refl, sym, ap, ◌∙◌, subst, ⊎_elim, inl, inr, arith, length-append, eq-eqb, ne_eqb}
 use mathlib.Core.Option.{some, none, some-ne-none, some-injective}
 use mathlib.Core.Option as maybe
 use mathlib.Core.List.{append-nil}
@@ -7,11 +7,11 @@ use lib.ListN.{get_elem?, length-map}
 use prog.Atomic.{either}
 use mathlib.Core.Logic.{dite}
 use native.Mathlib.Decide.{ℕ_discrete}
-use Rattle.atomic_table.specs.Table.{State, Me, step, Act, keeps, takes, gives, Valid, homes_after, carried_after, Allows, opening}
-use Rattle.atomic_table.proofs.Lists.{at_set, at_snoc, set_again, exchanged}
-use Rattle.alp_monitor.specs.History.{told, turns_of, entry_of, part, AddsAtMostOne}
-use Rattle.alp_monitor.specs.Rule.{IsPartOf, ArePartsOf, Knows, IsHome, IsInTurns, word_of, founding}
-use Rattle.alp_monitor.specs.Steps.{Claims, Settles, GoesIn, grown}
+use Rattle.atomic_table.specs.Table.{State, Me, step, Act, keeps, takes, gives, Valid, homes_after, carried_after, Allows}
+use Rattle.atomic_table.proofs.Lists.{at_set, at_snoc, set_again}
+use Rattle.alp_monitor.specs.History.{told, entry_of, part, AddsAtMostOne}
+use Rattle.alp_monitor.specs.Rule.{IsPartOf, ArePartsOf, Knows, IsHome, IsInTurns, word_of}
+use Rattle.alp_monitor.specs.Steps.{Claims, Settles, grown}
 use Rattle.alp_monitor.specs.declared.board.Part.{Part}
 use Rattle.alp_monitor.specs.declared.board.View.{View}
 use Rattle.alp_monitor.specs.declared.board.View.TheVariants.{Spent, Founder, Outside, Inside}
@@ -48,6 +48,7 @@ module _ {E : Type 0} where
       each : (i : ℕ) (q : Part E) → get_elem? (p ∷ []) i ≡ some q → IsPartOf h made owner j q
       each zero q e = subst (IsPartOf h made owner j) (some-injective p q e) ok
       each (suc i) q e = absurd (some-ne-none q (sym e))
+
       apart : (i k : ℕ) (q r : Part E) → get_elem? (p ∷ []) i ≡ some q → get_elem? (p ∷ []) k ≡ some r → q.number ≡ r.number → i ≡ k
       apart zero zero q r e f same = refl
       apart zero (suc k) q r e f same = absurd (some-ne-none r (sym f))

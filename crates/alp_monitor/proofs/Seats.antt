@@ -1,10 +1,10 @@
 -- What a step tells of a pass, in the words of the clauses.
-use Rattle.std.proofs.Common.{◌≡◌, ◌≢◌, ℕ, ◌+◌, ◌*◌, ◌^◌, ◌<◌, ◌≤◌, List, [], ◌∷◌, ◌++◌, length, map, drop, Option, Some, None, refl, sym, ap, ◌∙◌, subst, inl, inr, arith}
+use Rattle.std.proofs.Common.{◌≡◌, ◌≢◌, ℕ, List, [], ◌∷◌, ◌++◌, length, map, drop, Option, Some, None, refl, sym, ap, ◌∙◌, subst}
 use mathlib.Core.List.{IsPrefix}
 use Rattle.atomic_table.specs.Table.{Me, rest}
 use Rattle.alp_monitor.specs.History.{told, turns_of, part, AddsAtMostOne}
 use Rattle.alp_monitor.specs.Steps.{ClaimsFrom, SettlesFrom, GoesIn, made_by, grown}
-use Rattle.alp_monitor.specs.Passes.{first_part, base_in, base_of_pass, number, front, turns, IsOutside, IsInside, IsSamePass, Enters}
+use Rattle.alp_monitor.specs.Passes.{first_part, base_in, base_of_pass, number, front, turns, IsOutside, IsSamePass, Enters}
 use Rattle.alp_monitor.specs.declared.board.Part.{Part}
 use Rattle.alp_monitor.specs.declared.board.View.{View}
 use Rattle.alp_monitor.specs.declared.board.View.TheVariants.{Outside, Inside}
@@ -66,7 +66,8 @@ module _ {S B E : Type 0} (base_of : S → B) (entries_of : S → List E) where
     pub entries : told (front now) ≡ entries_of state
     pub begins : IsPrefix (front before) (front now)
     pub none : entries_of state ≡ told (front before) → front now ≡ front before
-    pub one : (e : E) → entries_of state ≡ told (front before) ++ e ∷ [] → (front now ≡ front before ++ (number before, e) ∷ []) × (turns now ≡ turns before ++ (length (front before), e) ∷ [])
+    pub entry : (e : E) → entries_of state ≡ told (front before) ++ e ∷ [] → front now ≡ front before ++ (number before, e) ∷ []
+    pub turn : (e : E) → entries_of state ≡ told (front before) ++ e ∷ [] → turns now ≡ turns before ++ (length (front before), e) ∷ []
 
   -- what the clauses of `leave` say, at the part of the pass
   pub base_at : (pass : Pass S B E) (b : B) (p : Part E) (state : S) → pass.seat.me ≡ (Inside b p, (0, None) ∷ []) → base_of_pass pass ≡ Some (base_of state) → base_of state ≡ b
@@ -88,15 +89,13 @@ module _ {S B E : Type 0} (base_of : S → B) (entries_of : S → List E) where
       let number_was : number before ≡ p.number = ap (λ (n : M). (first_part n.0).number) was in
       let number_is : number now ≡ p.number = ap (λ (n : M). (first_part n.0).number) now_is in
       let base_is : base_of_pass now ≡ base_of_pass before = ap (λ (n : M). base_in n.0) now_is ∙ sym (ap (λ (n : M). base_in n.0) was) in
+      let one_more : (x : E) → entries_of state ≡ told (front before) ++ x ∷ [] → longer ≡ p.front ++ (p.number, x) ∷ [] = λ x e. grown-one p.number p.front (entries_of state) x (e ∙ ap (λ l. told l ++ x ∷ []) front_was) in
       record {
         same = record { table = own; number = number_is ∙ sym number_was; base = base_is };
         outside = (b, part p.number longer, now_is);
         entries = ap told front_is ∙ told-grown p.number p.front (entries_of state) adds;
         begins = subst (λ (l : List (ℕ × E) × List (ℕ × E)). IsPrefix l.0 l.1) (λ i. (sym front_was i, sym front_is i)) (map (made_by p.number) (drop (length p.front) (entries_of state)), refl);
         none = λ e. front_is ∙ (grown-none p.number p.front (entries_of state) (e ∙ ap told front_was) ∙ sym front_was);
-        one = λ x e.
-            let one_more : longer ≡ p.front ++ (p.number, x) ∷ [] = grown-one p.number p.front (entries_of state) x (e ∙ ap (λ l. told l ++ x ∷ []) front_was) in (
-              front_is ∙ (one_more ∙ (λ i. sym front_was i ++ (sym number_was i, x) ∷ [])),
-              (λ i. turns_of (number_is i) (front_is i)) ∙ (ap (turns_of p.number) one_more ∙ (turns_of-own p.number p.front x ∙ (λ i. turns_of (sym number_was i) (sym front_was i) ++ (length (sym front_was i), x) ∷ []))),
-            );
+        entry = λ x e. front_is ∙ (one_more x e ∙ (λ i. sym front_was i ++ (sym number_was i, x) ∷ []));
+        turn = λ x e. (λ i. turns_of (number_is i) (front_is i)) ∙ (ap (turns_of p.number) (one_more x e) ∙ (turns_of-own p.number p.front x ∙ (λ i. turns_of (sym number_was i) (sym front_was i) ++ (length (sym front_was i), x) ∷ [])));
       }

@@ -76,9 +76,17 @@ module _ {S B E : Type 0} where
     pub id : now.seat.id ≡ before.seat.id
     pub me : now.seat.me ≡ before.seat.me
 
+  -- they are passes of this monitor, and none is inside
+  abbrev pub AreOutside : Monitor S B E → List (Pass S B E) → Type 0
+  AreOutside m ps = (i : ℕ) (p : Pass S B E) → slice_get ps i ≡ Some p → IsPassOf m p × IsOutside p
+
   -- some pass of the list has the number
   abbrev pub HasNumber : List (Pass S B E) → ℕ → Type 0
   HasNumber ps k = (i : ℕ) × (p : Pass S B E) × (slice_get ps i ≡ Some p) × (number p ≡ k)
+
+  -- each number of a pass of this monitor is there
+  abbrev pub AreAll : Monitor S B E → List (Pass S B E) → Type 0
+  AreAll m ps = (k : ℕ) → k < pass_count m → HasNumber ps k
 
   -- One history has these entries. It begins with the front of each pass and has its turns at their places; each of its entries is a turn of one of the passes, which have numbers of their own
   pub record IsMadeBy (ps : List (Pass S B E)) (entries : List E) : Type 0 where

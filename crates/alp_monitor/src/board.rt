@@ -8,7 +8,9 @@ use std::collections::LinkedList;
 use std::snapshot::Snapshot;
 
 pub(crate) const WORD: usize = 0;
+
 pub(crate) const WAITING: usize = 1;
+
 pub(crate) const PLACE: usize = 0;
 
 /// What one pass knows: its number, and the history that it saw last, each entry beside the number

@@ -36,10 +36,9 @@ pub struct Turn<S: Story> {
 
 /// The first and the last call.
 impl<S: Story> Monitor<S> {
-    ghost use Rattle.std.specs.Prelude.{ℕ, ◌≤◌, [], length, IfOk, IfErr, slice_get, Some};
+    ghost use Rattle.std.specs.Prelude.{◌≤◌, [], length, IfOk, IfErr};
     ghost use Rattle.std.specs.Vec.{vec_len, vec_capacity};
-    ghost use Rattle.alp_monitor.specs.declared.monitor.Pass.{Pass};
-    ghost use Rattle.alp_monitor.specs.Passes.{pass_count, first_base, AreFresh, IsCounting, IsPassOf, IsOutside, HasNumber, IsMadeBy};
+    ghost use Rattle.alp_monitor.specs.Passes.{pass_count, first_base, AreFresh, IsCounting, AreOutside, AreAll, IsMadeBy};
 
     /// A monitor of a state that has no entries yet, and its passes. Where memory is refused the
     /// state comes back.
@@ -94,8 +93,8 @@ impl<S: Story> Monitor<S> {
 
     /// Takes all passes back, and gives the state.
     pub fn close(self, mut passes: Vec<Pass<S>>) -> S
-        requires own { (i : ℕ) (p : Pass S S.Base S.Entry) → slice_get passes.items i ≡ Some p → IsPassOf self p × IsOutside p }
-        requires all { (k : ℕ) → k < pass_count self → HasNumber passes.items k }
+        requires own { AreOutside self passes.items }
+        requires all { AreAll self passes.items }
         ensures base { S.base result ≡ first_base S.base self }
         ensures history { IsMadeBy passes.items (S.entries result) }
     {
@@ -116,9 +115,9 @@ impl<S: Story> Monitor<S> {
 
 /// The turns.
 impl<S: Story> Monitor<S> {
-    ghost use Rattle.std.specs.Prelude.{ℕ, ◌+◌, ◌%◌, ◌^◌, ◌≤◌, [], ◌∷◌, ◌++◌, length, IfSome, IfNone, Some};
+    ghost use Rattle.std.specs.Prelude.{◌%◌, [], ◌∷◌, ◌++◌, length, IfSome, IfNone, Some};
     ghost use mathlib.Core.List.{IsPrefix};
-    ghost use Rattle.alp_monitor.specs.History.{told, turns_of, AddsAtMostOne};
+    ghost use Rattle.alp_monitor.specs.History.{told, AddsAtMostOne};
     ghost use Rattle.alp_monitor.specs.Passes.{IsPassOf, IsOutside, IsInside, IsSamePass, IsUntouched, Enters, base_of_pass, number, front, turns};
 
     /// Waits until the state is home, and hands it out.
@@ -151,14 +150,20 @@ impl<S: Story> Monitor<S> {
         ensures pass { IsSamePass turn.pass result × IsOutside result }
         ensures history { told (front result) ≡ S.entries turn.state }
         ensures front { IsPrefix (front turn.pass) (front result) }
+
+        // Without an entry the pass knows what it knew. An entry is one turn more of this pass.
         ensures none { S.entries turn.state ≡ told (front turn.pass) → front result ≡ front turn.pass }
-        ensures one { (e : S.Entry) → S.entries turn.state ≡ told (front turn.pass) ++ e ∷ [] → (front result ≡ front turn.pass ++ (number turn.pass, e) ∷ []) × (turns result ≡ turns turn.pass ++ (length (front turn.pass), e) ∷ []) }
+        ensures entry { (e : S.Entry) → S.entries turn.state ≡ told (front turn.pass) ++ e ∷ []
+            → front result ≡ front turn.pass ++ (number turn.pass, e) ∷ [] }
+        ensures turn { (e : S.Entry) → S.entries turn.state ≡ told (front turn.pass) ++ e ∷ []
+            → turns result ≡ turns turn.pass ++ (length (front turn.pass), e) ∷ [] }
     {
+        let shared = &self.table.shared;
         let Turn { state, mut pass } = turn;
         let word = 2 * state.count();
-        let place = self.table.shared.exchange(&mut pass.seat, PLACE, Some(state));
+        let place = shared.exchange(&mut pass.seat, PLACE, Some(state));
         let None = place else { unreachable!() };
-        self.table.shared.store::<Settle>(&mut pass.seat, WORD, word);
+        shared.store::<Settle>(&mut pass.seat, WORD, word);
         self.wake(&mut pass);
         pass
     }
@@ -180,7 +185,10 @@ impl<S: Story> Monitor<S> {
         Some(state)
     }
 
-    // Sleeps until a pass that leaves wakes it, unless the word changes soon.
+    // Sleeps until a pass that leaves wakes it, unless the word changes soon. It is counted before it
+    // looks at the word once more, and who leaves writes the word before it looks at the count, so one
+    // of the two sees the other. It sleeps on the count, which a wake changes, so that none comes too
+    // early. Once back it looks at the word again, and lets the next that leaves wake another.
     fn wait<R: Wait>(&self, rt: &R, pass: &mut Pass<S>, word: u64)
         requires own { IsPassOf self.now pass.old }
         ensures { IsUntouched pass.old pass.new }
@@ -210,7 +218,8 @@ impl<S: Story> Monitor<S> {
         false
     }
 
-    // Wakes one of those that sleep, where there is one and none that was woken is on its way.
+    // Wakes one of those that sleep. Where none does, or one that was woken is still on its way, it
+    // asks nothing of the system.
     fn wake(&self, pass: &mut Pass<S>)
         requires own { IsPassOf self.now pass.old }
         ensures { IsUntouched pass.old pass.new }
@@ -220,8 +229,12 @@ impl<S: Story> Monitor<S> {
         if waiting < 2 || waiting % 2 != 0 {
             return;
         }
-        let found =
-            shared.compare_exchange::<CountWaiting>(&mut pass.seat, WAITING, waiting, waiting + 1);
+        let found = shared.compare_exchange::<CountWaiting>(
+            &mut pass.seat,
+            WAITING,
+            waiting,
+            waiting + 1,
+        );
         if found == waiting {
             shared.wake_one(WAITING);
         }

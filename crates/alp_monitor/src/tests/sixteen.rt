@@ -112,17 +112,25 @@ fn pair<R: Threads + Wait + Sync>(rt: &R, alloc: Global, name: u64) -> Result<bo
             ensures { IsReady left (number two.0.0) result.0.left.pass × IsReady left (number two.0.1) result.1.left.pass × IsReady right (number two.1.0) result.0.right.pass × IsReady right (number two.1.1) result.1.right.pass }
         { link(rt, &left, &right, two, alloc, 2000) },
     );
-    let at_left = close(left, left_room, name, 100, ((a.left, b.left), (c.left, d.left)));
-    let at_right = close(right, right_room, name + 1, 100, ((a.right, b.right), (c.right, d.right)));
+    let at_left = close(
+        left,
+        left_room,
+        name,
+        100,
+        ((a.left, b.left), (c.left, d.left)),
+    );
+    let at_right = close(
+        right,
+        right_room,
+        name + 1,
+        100,
+        ((a.right, b.right), (c.right, d.right)),
+    );
     Ok(at_left && at_right)
 }
 
 // Eight threads at four monitors.
-fn two_pairs<R: Threads + Wait + Sync>(
-    rt: &R,
-    alloc: Global,
-    name: u64,
-) -> Result<bool, AllocError>
+fn two_pairs<R: Threads + Wait + Sync>(rt: &R, alloc: Global, name: u64) -> Result<bool, AllocError>
     requires { name < 100 }
 {
     let (one, two) = thread::join(

@@ -16,7 +16,10 @@ pub(super) struct Done {
     pub(super) places: Vec<usize>,
 }
 
-pub(super) type Passes = ((Pass<Numbers>, Pass<Numbers>), (Pass<Numbers>, Pass<Numbers>));
+pub(super) type Passes = (
+    (Pass<Numbers>, Pass<Numbers>),
+    (Pass<Numbers>, Pass<Numbers>),
+);
 
 // One turn, which adds the number. Returns the place that it got.
 pub(super) fn add<R: Wait>(

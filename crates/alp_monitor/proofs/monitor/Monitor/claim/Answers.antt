@@ -1,6 +1,6 @@
-use Rattle.std.proofs.Common.{rules, ◌∙◌}
+use Rattle.std.proofs.Common.{rules}
 use Rattle.alp_monitor.proofs.Rules.{claims}
-use Rattle.alp_monitor.proofs.Seats.{won, lost, holds, taken, enters}
+use Rattle.alp_monitor.proofs.Seats.{won, holds, taken}
 use Rattle.alp_monitor.proofs.monitor.Monitor.claim.Goals as goal
 
 pub compare_exchange-requires : goal.compare_exchange-requires

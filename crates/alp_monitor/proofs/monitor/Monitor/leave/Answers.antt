@@ -16,7 +16,7 @@ left : (g : _) (c : goal.After-wake g) → Leaves g.S.Story.base g.S.Story.entri
 left g c =
     let i = c.requires.inside in
     leaves g.S.Story.base g.S.Story.entries c.args.turn.pass c.wake.new.pass _ _ i.0 i.1 _ i.2 (brought g.S.Story.base g.S.Story.entries _ _ i.0 i.1 _ i.2 c.exchange-place.ensures.3) c.store.ensures.2 (adds_at g.S.Story.base g.S.Story.entries c.args.turn.pass i.0 i.1 _ i.2 c.requires.history) c.wake.ensures.me
-        (c.wake.ensures.table ∙ (c.store.ensures.0 ∙ c.exchange-place.ensures.0))
+    (c.wake.ensures.table ∙ (c.store.ensures.0 ∙ c.exchange-place.ensures.0))
 
 pub returns-clause-pass : goal.returns-clause-pass
 returns-clause-pass g c = ((left g c).same, (left g c).outside)
@@ -30,5 +30,8 @@ returns-clause-front g c = (left g c).begins
 pub returns-clause-none : goal.returns-clause-none
 returns-clause-none g c = (left g c).none
 
-pub returns-clause-one : goal.returns-clause-one
-returns-clause-one g c = (left g c).one
+pub returns-clause-entry : goal.returns-clause-entry
+returns-clause-entry g c = (left g c).entry
+
+pub returns-clause-turn : goal.returns-clause-turn
+returns-clause-turn g c = (left g c).turn

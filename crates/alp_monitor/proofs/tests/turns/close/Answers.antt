@@ -1,6 +1,5 @@
-use Rattle.std.proofs.Common.{◌≡◌, ◌<◌, [], ◌∷◌, sym, ap, ◌∙◌, arith, Some}
+use Rattle.std.proofs.Common.{◌<◌, sym, ap, ◌∙◌, arith}
 use Rattle.std.specs.Prelude.{slice_get}
-use Rattle.alp_monitor.specs.Passes.{HasNumber}
 use Rattle.alp_monitor.proofs.Fours.{own_four, all_four, pushed_four}
 use Rattle.alp_monitor.proofs.tests.turns.close.Goals as goal
 
