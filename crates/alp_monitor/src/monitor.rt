@@ -187,8 +187,8 @@ impl<S: Story> Monitor<S> {
 
     // Sleeps until a pass that leaves wakes it, unless the word changes soon. It is counted before it
     // looks at the word once more, and who leaves writes the word before it looks at the count, so one
-    // of the two sees the other. It sleeps on the count, which a wake changes, so that none comes too
-    // early. Once back it looks at the word again, and lets the next that leaves wake another.
+    // of the two sees the other. It sleeps on the count, and only where none is being woken: a wake
+    // changes the count, so none comes before it sleeps. Once back it is awake and looks at the word.
     fn wait<R: Wait>(&self, rt: &R, pass: &mut Pass<S>, word: u64)
         requires own { IsPassOf self.now pass.old }
         ensures { IsUntouched pass.old pass.new }
@@ -197,9 +197,10 @@ impl<S: Story> Monitor<S> {
             return;
         }
         let shared = &self.table.shared;
-        let before = shared.fetch_add::<CountWaiting>(&mut pass.seat, WAITING, 2);
+        shared.fetch_add::<CountWaiting>(&mut pass.seat, WAITING, 2);
+        let seen = shared.fetch_and::<CountWaiting>(&mut pass.seat, WAITING, !1);
         if shared.peek(WORD) % 2 != 0 {
-            shared.park(rt, WAITING, (before.wrapping_add(2) % (1 << 32)) as u32);
+            shared.park(rt, WAITING, (seen / 2 * 2 % (1 << 32)) as u32);
         }
         shared.fetch_sub::<CountWaiting>(&mut pass.seat, WAITING, 2);
         shared.fetch_and::<CountWaiting>(&mut pass.seat, WAITING, !1);
