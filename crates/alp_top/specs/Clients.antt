@@ -1,7 +1,6 @@
 -- What a client sends for a line of the script, by the replies that it was handed before.
-use Rattle.std.specs.Prelude.{◌≡◌, ℕ, ◌+◌, Bool, true, false, List, [], ◌∷◌, ◌++◌, codes, replicate, Option, None, Some, unwrap_or, if◌then◌else◌}
+use Rattle.std.specs.Prelude.{◌≡◌, ℕ, ◌+◌, Bool, true, false, List, [], ◌∷◌, ◌++◌, codes, replicate, length, ◌≤◌, Option, None, Some, unwrap_or, if◌then◌else◌}
 use Rattle.std.specs.Option.{option_map}
-use Rattle.std.specs.Ordering.{is_lt}
 use Rattle.std.specs.FinMap as map
 use Rattle.alp_base.specs.declared.ids.FileId.{FileId}
 use Rattle.alp_base.specs.declared.ids.TransId.{TransId}
@@ -16,12 +15,12 @@ use Rattle.alp_files.specs.declared.reply.Reply.TheVariants as reply
 use Rattle.alp_files.specs.declared.refusal.Refusal.{Refusal}
 use Rattle.alp_files.specs.declared.refusal.Refusal.TheVariants as refusal
 use Rattle.alp_journal.specs.declared.log.Exchange.{Exchange}
-use Rattle.alp_journal.specs.State.{stamp_cmp}
 use Rattle.alp_script.specs.declared.line.Line.{Line}
 use Rattle.alp_script.specs.declared.line.Line.TheVariants as line
 use Rattle.alp_script.specs.declared.line.FileWord.{FileWord}
 use Rattle.alp_script.specs.declared.line.FileWord.TheVariants as file_word
 use Rattle.alp_top.specs.Maps.{WordMap, OpenMap}
+use Rattle.alp_top.specs.Props.{new_props, later}
 use Rattle.alp_top.specs.declared.client.Client.{Client}
 use Rattle.alp_top.specs.declared.client.Greeted.{Greeted}
 
@@ -48,19 +47,6 @@ file_of words (file_word.Id id) = id
 -- the open number last given for the file, or 0
 abbrev pub open_of : Client → FileWord → ℕ
 open_of c file = unwrap_or (map.get c.opens (file_of c.words file)) 0
-
-abbrev pub new_props : List ℕ → List ℕ → ℕ → List (List ℕ) → List (List ℕ) → Props
-new_props word owner size read modify = record {
-  owner = owner;
-  name = word;
-  type_no = 0;
-  create_time = 0;
-  byte_length = 0;
-  size = size;
-  high_water = 0;
-  read = read;
-  modify = modify;
-}
 
 -- the call that a line of a client is for, if there is a transaction where it needs one
 abbrev pub call_in : Client → TransId → Line → Option Call
@@ -99,15 +85,16 @@ asks c l false = option_map (frame_in c c.session) (call_of c l)
 
 -- ---- what the client makes of a reply
 
--- the greater of two stamps
-abbrev pub later : Stamp → Stamp → Stamp
-later told s = if is_lt (stamp_cmp told s) then s else told
+-- a commit that is answered so has no transaction behind it
+abbrev pub left : Client → Line → Client
+left c (line.Commit client) = record c { trans = None }
+left c l = c
 
--- of a refusal: a commit that is refused so has no transaction behind it, and a stale session is no session
+-- a stale session is no session
 abbrev pub told_refusal : Client → Line → Refusal → Client
 told_refusal c l (refusal.StaleSession epoch) = record c { session = None }
-told_refusal c (line.Commit client) refusal.UnknownTrans = record c { trans = None }
-told_refusal c (line.Commit client) (refusal.Aborted cause) = record c { trans = None }
+told_refusal c l refusal.UnknownTrans = left c l
+told_refusal c l (refusal.Aborted cause) = left c l
 told_refusal c l _ = c
 
 abbrev pub told_created : Client → Line → FileId → ℕ → Client
@@ -158,3 +145,8 @@ frame_sent x = record { epoch = x.epoch; number = x.number; call = x.call }
 abbrev pub Exchanges : Client → Line → Bool → List Exchange → Client → Type 0
 Exchanges c l over [] d = (asks c l over ≡ None) × (d ≡ c)
 Exchanges c l over (x ∷ xs) d = (asks c l over ≡ Some (frame_sent x)) × (x.server ≡ 1) × Exchanges (hears c l x.reply).0 l (hears c l x.reply).1 xs d
+
+-- the text of a line fits a page
+abbrev pub FitsPage : Line → Type 0
+FitsPage (line.WritePages client file run text choice) = length text ≤ 512
+FitsPage _ = Unit {0}
