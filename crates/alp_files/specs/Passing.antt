@@ -1,5 +1,5 @@
 -- Replies that rest on more than one thread would see. They change nothing of files and opens.
-use Rattle.std.specs.Prelude.{Bool, true, false}
+use Rattle.std.specs.Prelude.{◌≡◌, Bool, true, false}
 use Rattle.alp_files.specs.declared.reply.Reply.{Reply}
 use Rattle.alp_files.specs.declared.reply.Reply.TheVariants as reply
 use Rattle.alp_files.specs.declared.refusal.Refusal.{Refusal}
@@ -22,3 +22,18 @@ is_passing_refusal _ = false
 abbrev pub is_passing : Reply → Bool
 is_passing (reply.Refused r) = is_passing_refusal r
 is_passing _ = false
+
+-- a reply that one thread gets to a file call
+abbrev pub IsFileReply : Reply → Type 0
+IsFileReply (reply.Created f n) = Unit {0}
+IsFileReply (reply.Opened n) = Unit {0}
+IsFileReply reply.Plain = Unit {0}
+IsFileReply (reply.Pages pages) = Unit {0}
+IsFileReply (reply.Props p) = Unit {0}
+IsFileReply (reply.Owner o) = Unit {0}
+IsFileReply (reply.Refused r) = is_passing_refusal r ≡ false
+IsFileReply (reply.Welcome epoch) = ⊥
+IsFileReply (reply.Begun t) = ⊥
+IsFileReply reply.Joined = ⊥
+IsFileReply (reply.Committed s) = ⊥
+IsFileReply (reply.Ended e) = ⊥

@@ -8,7 +8,7 @@ ghost use Rattle.alp_files.specs.declared.cell.Cell.TheVariants as cell;
 ghost use Rattle.alp_files.specs.Cells.{Cells, has_name as has_name_said, has_file, props_in, owner_in, page_in};
 ghost use Rattle.alp_files.specs.Edits.{Put, over};
 ghost use Rattle.alp_files.specs.Act.{admits as admitting, is_admin as admin, is_over as over_quota, open_at, no_opens, on_open, on_change, page_puts, mark_put, create_file as create_file_said, read_pages as read_pages_said, write_pages as write_pages_said, make_owner as make_owner_said};
-ghost use Rattle.alp_files.specs.Passing.{is_passing};
+ghost use Rattle.alp_files.specs.Passing.{is_passing, IsFileReply};
 ghost use Rattle.alp_files.specs.Parts.{seen, own_of, ChangesBy, Gives, Answers, AnswersCall, GivesOnly, GivesNone, IsBuilt, pages_at};
 
 use crate::{Call, Cell, CellMap, ListName, Open, OwnerRecord, Props, Refusal, Reply};
@@ -186,6 +186,7 @@ impl Part {
         ensures right { IfOk result (λ r. Answers held.now self.old self.new id r (λ made own. create_file_said id.server made own who start.now)) }
         ensures id { IfOk result (λ r. GivesOnly id r) }
         ensures own { IfOk result (λ r. is_passing r ≡ false) }
+        ensures kind { IfOk result (λ r. IsFileReply r) }
         ensures last { OnOk result (self.new.last ≤ self.old.last + 1) }
     {
         let mut owner = match owner_at(held, &self.intents, start.owner) {
@@ -238,6 +239,7 @@ impl Part {
         ensures right { IfOk result (λ r. Gives held.now self.old self.new r (λ own. on_open own (open_at own.opens open_no) (read_pages_said own run))) }
         ensures id { IfOk result (λ r. GivesNone r) }
         ensures own { IfOk result (λ r. is_passing r ≡ false) }
+        ensures kind { IfOk result (λ r. IsFileReply r) }
         ensures last { OnOk result (self.new.last ≤ self.old.last + 1) }
     {
         let Some(open) = open_of(self.opens.as_slice(), open_no) else {
@@ -264,6 +266,7 @@ impl Part {
         ensures right { IfOk result (λ r. Gives held.now self.old self.new r (λ own. on_change own (open_at own.opens open_no) (write_pages_said own run pages.now))) }
         ensures id { IfOk result (λ r. GivesNone r) }
         ensures own { IfOk result (λ r. is_passing r ≡ false) }
+        ensures kind { IfOk result (λ r. IsFileReply r) }
         ensures last { OnOk result (self.new.last ≤ self.old.last + 1) }
     {
         let Some(open) = open_of(self.opens.as_slice(), open_no) else {
@@ -300,6 +303,7 @@ impl Part {
         ensures right { IfOk result (λ r. Gives held.now self.old self.new r (λ own. make_owner_said own who owner quota create.now)) }
         ensures id { IfOk result (λ r. GivesNone r) }
         ensures own { IfOk result (λ r. is_passing r ≡ false) }
+        ensures kind { IfOk result (λ r. IsFileReply r) }
         ensures last { OnOk result (self.new.last ≤ self.old.last + 1) }
     {
         if owner_at(held, &self.intents, owner).is_some() {
@@ -335,6 +339,7 @@ impl Part {
         ensures right { IfOk result (λ r. AnswersCall held.now self.old self.new who id call.now r) }
         ensures id { IfOk result (λ r. GivesOnly id r) }
         ensures own { IfOk result (λ r. is_passing r ≡ false) }
+        ensures kind { IfOk result (λ r. IsFileReply r) }
         ensures last { OnOk result (self.new.last ≤ self.old.last + 1) }
     {
         match call {

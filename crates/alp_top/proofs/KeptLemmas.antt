@@ -35,7 +35,7 @@ use Rattle.alp_journal.specs.State as state
 use Rattle.alp_top.specs.declared.node.Node.{Node}
 use Rattle.alp_top.specs.declared.node.Live.{Live}
 use Rattle.alp_top.specs.declared.node.Session.{Session}
-use Rattle.alp_top.specs.Nodes.{state_of, sessions_of, lives_of, kept_state, standing_after, AreEarlier, IsLife, OnLife, OpensWithin, AreCounted, IsKeptAs, IsKept, IsNext, IsRunning}
+use Rattle.alp_top.specs.Nodes.{state_of, sessions_of, lives_of, kept_state, standing_after, AreEarlier, IsLife, OnLife, OpensWithin, CallsWithin, AreCounted, IsKeptAs, IsKept, IsNext, IsRunning}
 use Rattle.alp_top.proofs.StateLemmas.{state_after-push, same_trans-itself, cond_twice, cond_itself, called-next, called-begin, does_call-performs, put-last, AreEarlier-push, IsQuiet}
 
 pub entry_of : Event → Option Reply → List Act → Entry
@@ -73,6 +73,7 @@ hello_kept n life ds client name h first =
         files = omega (arith, h.counted.files, more);
         committed = omega (arith, h.counted.committed, more);
         opens = OpensWithin-more (length n.journal) (length (n.journal ++ e ∷ [])) n.live more h.counted.opens;
+        calls = omega (arith, length-append n.journal (e ∷ []));
       };
     }
 
@@ -127,6 +128,7 @@ module _ (n : Node) (life : Life) (ds : List (Stamp × Decided)) (s : Session) (
       let k : State = kept_state n life ds in
       let w : state.Session = record { who = s.who; last = s.last } in
       let clock : max n.clock seen_stamp.ts ≡ n.clock = omega arith in
+      let called_within : s.last ≤ length n.journal = subst (λ (x : Option Session). CallsWithin (length n.journal) x) is h.counted.calls in
       let sees : seen n.files p ≡ map.get n.files = ap (λ (puts : Cells). over puts (map.get n.files)) none ∙ over-none (map.get n.files) in
       let lives : (λ (u : TransId). cond {A = Option Life} (same_trans u t) (Some new_life) (lives_of n.live life u)) ≡ lives_of (after_begin.live) new_life =
       λ i u. (ap (λ (x : Option Live). cond {A = Option Life} (same_trans u t) (Some new_life) (lives_of x life u)) idle) i in
@@ -159,6 +161,7 @@ module _ (n : Node) (life : Life) (ds : List (Stamp × Decided)) (s : Session) (
           files = omega (arith, h.counted.files, more);
           committed = omega (arith, h.counted.committed, more);
           opens = let none_yet : p.last ≡ 0 = ap (λ (o : Own). o.last) opens in omega arith;
+          calls = omega (arith, called_within, turn, one);
         };
       }
 
@@ -326,6 +329,7 @@ module _ (n : Node) (life : Life) (ds : List (Stamp × Decided)) (s : Session) (
       let sessions = sessions_after n.session s client number is own turn in
       let lives = lives_after n.live l (record l { part = p }) t life (Some longer) runs this in
       let was : IsLife n.opening n.files n.file_count life (standing_after n ds) l = on_some n.opening n.files n.file_count life (standing_after n ds) n.live l runs h.live in
+      let called_within : s.last ≤ length n.journal = subst (λ (x : Option Session). CallsWithin (length n.journal) x) is h.counted.calls in
       let within : l.part.last ≤ length n.journal = subst (λ (x : Option Live). OpensWithin (length n.journal) x) runs h.counted.opens in
       record {
         state =
@@ -346,6 +350,7 @@ module _ (n : Node) (life : Life) (ds : List (Stamp × Decided)) (s : Session) (
           files = omega (arith, h.counted.files, count_by_one n.file_count r, one);
           committed = omega (arith, h.counted.committed, one);
           opens = omega (arith, within, last, one);
+          calls = omega (arith, called_within, turn, one);
         };
       }
 
@@ -384,6 +389,7 @@ module _ (n : Node) (life : Life) (ds : List (Stamp × Decided)) (s : Session) (
       let w : state.Session = record { who = s.who; last = s.last } in
       let there : k.lives t ≡ Some life = life_there n life ds l t runs this in
       let was : IsLife n.opening n.files n.file_count life (standing_after n ds) l = on_some n.opening n.files n.file_count life (standing_after n ds) n.live l runs h.live in
+      let called_within : s.last ≤ length n.journal = subst (λ (x : Option Session). CallsWithin (length n.journal) x) is h.counted.calls in
       let cells : edits_map life.edits n.files ≡ held = same_cells (edits_map life.edits n.files) held (sym was.view ∙ sym absorbed) in
       let sessions = sessions_after n.session s client number is own turn in
       let lives = lives_after n.live l l t life None runs this ∙ no_lives l in
@@ -413,6 +419,7 @@ module _ (n : Node) (life : Life) (ds : List (Stamp × Decided)) (s : Session) (
           files = omega (arith, h.counted.files, one);
           committed = omega (arith, h.counted.committed, one);
           opens = tt;
+          calls = omega (arith, called_within, turn, one);
         };
       }
 
@@ -443,5 +450,5 @@ new_kept o files js life is none clock empty = record {
   committed = refl;
   unborn = λ n high. ap (λ (x : Cells). map.get x (Leader (record { server = o.server; epoch = o.epoch; counter = n }))) none ∙ get_cell [] (Leader (record { server = o.server; epoch = o.epoch; counter = n }));
   live = tt;
-  counted = record { clock = omega (arith, clock); trans = omega arith; files = omega arith; committed = omega arith; opens = tt };
+  counted = record { clock = omega (arith, clock); trans = omega arith; files = omega arith; committed = omega arith; opens = tt; calls = tt };
 }

@@ -1,3 +1,4 @@
 pub mod StateLemmas
 pub mod KeptLemmas
 pub mod MapLemmas
+pub mod StepLemmas

@@ -97,9 +97,17 @@ told_refusal c l refusal.UnknownTrans = left c l
 told_refusal c l (refusal.Aborted cause) = left c l
 told_refusal c l _ = c
 
+-- a created file's id is bound to the word of its line, and its open number is kept
+abbrev pub created_words : WordMap → Line → FileId → WordMap
+created_words words (line.Create client server word owner size read modify choice) f = map.insert words word f
+created_words words l f = words
+
+abbrev pub created_opens : OpenMap → Line → FileId → ℕ → OpenMap
+created_opens opens (line.Create client server word owner size read modify choice) f n = map.insert opens f n
+created_opens opens l f n = opens
+
 abbrev pub told_created : Client → Line → FileId → ℕ → Client
-told_created c (line.Create client server word owner size read modify choice) f n = record c { words = map.insert c.words word f; opens = map.insert c.opens f n }
-told_created c l f n = c
+told_created c l f n = record c { words = created_words c.words l f; opens = created_opens c.opens l f n }
 
 abbrev pub told_reply : Client → Line → Reply → Client
 told_reply c l (reply.Begun t) = record c { trans = Some t }

@@ -78,6 +78,10 @@ abbrev pub OpensWithin : ℕ → Option Live → Type 0
 OpensWithin most None = Unit {0}
 OpensWithin most (Some l) = l.part.last ≤ most
 
+abbrev pub CallsWithin : ℕ → Option Session → Type 0
+CallsWithin most None = Unit {0}
+CallsWithin most (Some s) = s.last ≤ most
+
 -- the counts go no further than the journal
 pub record AreCounted (n : Node) : Type 0 where
   pub clock : n.clock ≤ length n.journal
@@ -85,6 +89,7 @@ pub record AreCounted (n : Node) : Type 0 where
   pub files : n.file_count ≤ length n.journal
   pub committed : n.committed ≤ length n.journal
   pub opens : OpensWithin (length n.journal) n.live
+  pub calls : CallsWithin (length n.journal) n.session
 
 -- the server is what its journal says, with this live part and these decided transactions
 pub record IsKeptAs (n : Node) (life : Life) (decided : List (Stamp × Decided)) : Type 0 where

@@ -3,6 +3,7 @@
 
 mod client;
 mod node;
+mod play;
 
 pub use client::Client;
 pub use node::Node;

@@ -45,6 +45,7 @@ pub struct Node {
 
 impl Node {
     ghost use Rattle.alp_files.specs.Parts.{IsBuilt};
+    ghost use Rattle.alp_files.specs.Passing.{IsFileReply};
     ghost use Rattle.alp_journal.specs.State.{file_trans};
     ghost use Rattle.alp_top.specs.Nodes.{IsKept, HasRoom, Stepped, IsNext, IsRunning, CountsCall};
 
@@ -177,6 +178,7 @@ impl Node {
         requires built { IsBuilt call }
         ensures kept { OnOk result (IsKept self.new) }
         ensures stepped { IfOk result (λ r. Stepped self.old self.new (event.Call client self.old.opening.epoch number call) (Some r)) }
+        ensures kind { IfOk result (λ r. IsFileReply r) }
         ensures live { OnOk result (IsRunning self.new.live trans) }
         ensures session { OnOk result (CountsCall self.old.session self.new.session number) }
         ensures same { OnOk result ((self.new.clock ≡ self.old.clock) × (self.new.opening ≡ self.old.opening)) }

@@ -1,0 +1,197 @@
+-- a client and its server stay in step
+use Rattle.std.specs.Prelude.{true, false, Bool, Option, None, Some}
+use Rattle.std.proofs.Common.{◌≡◌, ℕ, ◌+◌, ◌≤◌, List, [], ◌∷◌, ◌++◌, length, refl, sym, ◌∙◌, ap, subst, arith}
+use Rattle.std.proofs.lemmas.List.{length-replicate}
+use Rattle.alp_base.specs.declared.ids.TransId.{TransId}
+use Rattle.alp_base.specs.declared.ids.Stamp.{Stamp}
+use Rattle.alp_files.specs.declared.call.Call.{Call}
+use Rattle.alp_files.specs.declared.call.Call.TheVariants as call
+use Rattle.alp_files.specs.declared.reply.Reply.{Reply}
+use Rattle.alp_files.specs.declared.reply.Reply.TheVariants as reply
+use Rattle.alp_files.specs.declared.refusal.Refusal.{Refusal}
+use Rattle.alp_files.specs.declared.refusal.Refusal.TheVariants as refusal
+use Rattle.alp_files.specs.Passing.{IsFileReply, is_passing_refusal}
+use Rattle.alp_script.specs.declared.line.Line.{Line}
+use Rattle.alp_script.specs.declared.line.Line.TheVariants as line
+use Rattle.alp_script.specs.Forms.{IsForm, servers, client, begin, owner, create, write, read, commit}
+use Rattle.alp_top.specs.declared.client.Client.{Client}
+use Rattle.alp_top.specs.declared.client.Greeted.{Greeted}
+use Rattle.alp_top.specs.declared.node.Node.{Node}
+use Rattle.alp_top.specs.declared.node.Live.{Live}
+use Rattle.alp_top.specs.declared.node.Session.{Session}
+use Rattle.alp_top.specs.Nodes.{IsRunning, CountsCall}
+use Rattle.std.specs.Prelude.{cond}
+use Rattle.std.specs.Ordering.{is_lt}
+use Rattle.alp_journal.specs.State.{stamp_cmp}
+use Rattle.alp_journal.specs.declared.log.Opening.{Opening}
+use Rattle.alp_top.specs.Props.{later}
+use Rattle.alp_top.specs.Clients.{call_of, call_in, call_with, told_reply, told_refusal}
+use Rattle.alp_top.specs.Steps.{InStep, SameSession, SameTrans, IsExpected, StartsIdle, IsOwn, Goes, Became}
+
+-- the call of a line that needs a transaction
+trans_there : (c : Client) (l : Line) (o : Option TransId) (asked : Call) → call_with c o l ≡ Some asked → (t : TransId) × (o ≡ Some t) × (call_in c t l ≡ Some asked)
+trans_there c l None asked e = cc
+trans_there c l (Some t) asked e = (t, refl, e)
+
+none_there : {A : Type 0} (a : A) → None ≡ Some a → ⊥
+none_there a e = cc
+
+some_same : {A : Type 0} (a b : A) → Some a ≡ Some b → a ≡ b
+some_same a b e = cc
+
+running : (o : Option TransId) (live : Option Live) (t : TransId) → SameTrans o live → o ≡ Some t → IsRunning live t
+running None live t h e = cc
+running (Some u) None t h e = absurd h
+running (Some u) (Some l) t h e = h ∙ some_same u t e
+
+idle_there : (o : Option TransId) (live : Option Live) → SameTrans o live → o ≡ None → live ≡ None
+idle_there None None h e = refl
+idle_there None (Some l) h e = absurd h
+idle_there (Some u) live h e = cc
+
+-- where the call is one of these, the server expects it
+expects_file : (c : Client) (n : Node) (l : Line) (asked : Call) → InStep c n → call_with c c.trans l ≡ Some asked
+    → ((t : TransId) (x : Call) → call_in c t l ≡ Some x → IsRunning n.live t → IsExpected n x) → IsExpected n asked
+expects_file c n l asked s e make =
+    let (t, is, own) = trans_there c l c.trans asked e in
+    make t asked own (running c.trans n.live t s.live is)
+
+-- the server expects the call of a line
+pub expected_own : (c : Client) (n : Node) (l : Line) (asked : Call) → IsOwn c l asked → InStep c n → IsExpected n asked
+expected_own c n l asked h s = go l h.form h.asks h.idle
+  where
+    go : (l : Line) → IsForm l → call_of c l ≡ Some asked → StartsIdle c l → IsExpected n asked
+    go l (servers count) e i = expects_file c n l asked s e (λ t x own runs. absurd (none_there x own))
+    go l (client k name) e i = expects_file c n l asked s e (λ t x own runs. absurd (none_there x own))
+    go l (begin k server) e i = subst (λ (x : Call). IsExpected n x) (some_same (call.Begin c.told) asked e) (idle_there c.trans n.live s.live i, s.told)
+    go l (owner k server name quota) e i = expects_file c n l asked s e (λ t x own runs. subst (λ (y : Call). IsExpected n y) (some_same _ x own) runs)
+    go l (create k server word name size small) e i = expects_file c n l asked s e (λ t x own runs. subst (λ (y : Call). IsExpected n y) (some_same _ x own) runs)
+    go l (write k file run text some short) e i = expects_file c n l asked s e (λ t x own runs. subst (λ (y : Call). IsExpected n y) (some_same _ x own) (runs, length-replicate run.count _))
+    go l (read k file run some) e i = expects_file c n l asked s e (λ t x own runs. subst (λ (y : Call). IsExpected n y) (some_same _ x own) runs)
+    go l (commit k) e i = expects_file c n l asked s e (λ t x own runs. subst (λ (y : Call). IsExpected n y) (some_same _ x own) (refl, runs))
+
+-- ---- what the client knows after a reply
+
+-- a refusal that one thread gets says nothing of sessions and transactions
+refusal_told : (c : Client) (l : Line) (r : Refusal) → is_passing_refusal r ≡ false → told_refusal c l r ≡ c
+refusal_told c l refusal.BadFrame h = refl
+refusal_told c l (refusal.StaleSession epoch) h = cc
+refusal_told c l refusal.UnknownTrans h = cc
+refusal_told c l refusal.Finishing h = refl
+refusal_told c l refusal.UnknownOpen h = refl
+refusal_told c l refusal.UnknownFile h = refl
+refusal_told c l refusal.UnknownOwner h = refl
+refusal_told c l refusal.OwnerExists h = refl
+refusal_told c l refusal.ReadOnlyOpen h = refl
+refusal_told c l (refusal.AccessDenied list) h = refl
+refusal_told c l (refusal.NoSuchPage size) h = refl
+refusal_told c l (refusal.QuotaExceeded charge asked quota) h = refl
+refusal_told c l (refusal.VolumeFull left asked) h = refl
+refusal_told c l (refusal.LogFull room asked) h = refl
+refusal_told c l (refusal.TooMany what limit) h = refl
+refusal_told c l (refusal.LockConflict holder) h = refl
+refusal_told c l (refusal.Aborted cause) h = cc
+refusal_told c l refusal.NotYet h = refl
+refusal_told c l refusal.ReadFault h = refl
+refusal_told c l refusal.Down h = refl
+refusal_told c l refusal.OutOfMemory h = refl
+refusal_told c l refusal.JournalFull h = refl
+
+-- what a client knows of sessions, transactions and stamps stays through a file call
+record SameKnown (c d : Client) : Type 0 where
+  session : d.session ≡ c.session
+  trans : d.trans ≡ c.trans
+  told : d.told ≡ c.told
+
+same_known : (c : Client) → SameKnown c c
+same_known c = record { session = refl; trans = refl; told = refl }
+
+file_told : (c : Client) (l : Line) (r : Reply) → IsFileReply r → SameKnown c (told_reply c l r)
+file_told c l (reply.Created f n) h = record { session = refl; trans = refl; told = refl }
+file_told c l (reply.Opened n) h = same_known c
+file_told c l reply.Plain h = same_known c
+file_told c l (reply.Pages pages) h = same_known c
+file_told c l (reply.Props p) h = same_known c
+file_told c l (reply.Owner o) h = same_known c
+file_told c l (reply.Refused r) h = subst (λ (d : Client). SameKnown c d) (sym (refusal_told c l r h)) (same_known c)
+file_told c l (reply.Welcome epoch) h = absurd h
+file_told c l (reply.Begun t) h = absurd h
+file_told c l reply.Joined h = absurd h
+file_told c l (reply.Committed s) h = absurd h
+file_told c l (reply.Ended e) h = absurd h
+
+-- the session after one call more
+session_counts : (epoch last : ℕ) (old : Option Greeted) (g : Greeted) (was now : Option Session) → SameSession epoch old was → old ≡ Some g → CountsCall was now last
+    → SameSession epoch (Some (record { epoch = g.epoch; last = last })) now
+session_counts epoch last None g was now h e k = cc
+session_counts epoch last (Some f) g None now h e k = absurd h
+session_counts epoch last (Some f) g (Some s) now h e k =
+    let same : f.epoch ≡ g.epoch = ap (λ (x : Greeted). x.epoch) (some_same f g e) in
+    subst (λ (x : Option Session). SameSession epoch (Some (record { epoch = g.epoch; last = last })) x) (sym k) (sym same ∙ h.0, h.1, refl)
+
+runs_same : (t : TransId) (live : Option Live) → IsRunning live t → SameTrans (Some t) live
+runs_same t None h = absurd h
+runs_same t (Some l) h = h
+
+no_live : (live : Option Live) → live ≡ None → SameTrans None live
+no_live None e = tt
+no_live (Some l) e = cc
+
+later_within : (told s : Stamp) (clock : ℕ) → told.ts ≤ clock → s.ts ≤ clock → (later told s).ts ≤ clock
+later_within told s clock h k = elim (is_lt (stamp_cmp told s)) as (λ b. (cond b s told).ts ≤ clock) [ true ↦ k | false ↦ h ]
+
+module _ (c : Client) (n m : Node) (asked : Call) (r : Reply) (g : Greeted) (number : ℕ) (s : InStep c n) (greeted : c.session ≡ Some g)
+  (counts : CountsCall n.session m.session number) (opening : m.opening ≡ n.opening) where
+  session_now : SameSession m.opening.epoch (Some (record { epoch = g.epoch; last = number })) m.session
+  session_now = session_counts m.opening.epoch number c.session g n.session m.session
+      (subst (λ (e : ℕ). SameSession e c.session n.session) (ap (λ (o : Opening). o.epoch) (sym opening)) s.session) greeted counts
+
+  stays : (d : Client) → SameKnown (record c { session = Some (record { epoch = g.epoch; last = number }) }) d → (t : TransId) → c.trans ≡ Some t → IsRunning m.live t → m.clock ≡ n.clock → InStep d m
+  stays d same t is runs clock = record {
+      session = subst (λ (x : Option Greeted). SameSession m.opening.epoch x m.session) (sym same.session) session_now;
+      live = subst (λ (x : Option TransId). SameTrans x m.live) (sym (same.trans ∙ is)) (runs_same t m.live runs);
+      told = let k : d.told.ts ≡ c.told.ts = ap (λ (x : Stamp). x.ts) same.told in omega (arith, k, clock, s.told);
+    }
+
+  -- a file call of a line that needs a transaction
+  file_step : (l : Line) → call_with c c.trans l ≡ Some asked → ((t : TransId) (x : Call) → call_in c t l ≡ Some x → Became n m x r → Goes n m t r) → Became n m asked r
+      → InStep (told_reply (record c { session = Some (record { epoch = g.epoch; last = number }) }) l r) m
+  file_step l e goes became =
+      let (t, is, own) = trans_there c l c.trans asked e in
+      let went = goes t asked own became in
+      stays (told_reply (record c { session = Some (record { epoch = g.epoch; last = number }) }) l r) (file_told (record c { session = Some (record { epoch = g.epoch; last = number }) }) l r went.0) t is went.1 went.2
+
+  pub step_kept : (l : Line) → IsOwn c l asked → Became n m asked r → InStep (told_reply (record c { session = Some (record { epoch = g.epoch; last = number }) }) l r) m
+  step_kept l h became = go l h.form h.asks
+    where
+      d : Client
+      d = record c { session = Some (record { epoch = g.epoch; last = number }) }
+
+      nothing : (l : Line) → call_with c c.trans l ≡ Some asked → ((t : TransId) → call_in c t l ≡ None) → InStep (told_reply (record c { session = Some (record { epoch = g.epoch; last = number }) }) l r) m
+      nothing l e none = let (t, is, own) = trans_there c l c.trans asked e in absurd (none_there asked (sym (none t) ∙ own))
+
+      begins : (l : Line) → call.Begin c.told ≡ asked → InStep (told_reply (record c { session = Some (record { epoch = g.epoch; last = number }) }) l r) m
+      begins l e =
+          let (t, is, runs, clock) = subst (λ (x : Call). Became n m x r) (sym e) became in
+          subst (λ (x : Reply). InStep (told_reply (record c { session = Some (record { epoch = g.epoch; last = number }) }) l x) m) (sym is)
+            (record { session = session_now; live = runs_same t m.live runs; told = omega (arith, clock, s.told) })
+
+      ends : (l : Line) (t : TransId) → call.Finish t true ≡ asked → InStep (told_reply (record c { session = Some (record { epoch = g.epoch; last = number }) }) l r) m
+      ends l t e =
+          let (is, none, clock) = subst (λ (x : Call). Became n m x r) (sym e) became in
+          let stamp : Stamp = record { ts = n.clock + 1; trans = t } in
+          subst (λ (x : Reply). InStep (told_reply (record c { session = Some (record { epoch = g.epoch; last = number }) }) l x) m) (sym is)
+            (record { session = session_now; live = no_live m.live none; told = later_within c.told stamp m.clock (omega (arith, clock, s.told)) (omega (arith, clock)) })
+
+      goes : (x y : Call) (t : TransId) → Some x ≡ Some y → Became n m y r → Became n m x r
+      goes x y t e b = subst (λ (z : Call). Became n m z r) (sym (some_same x y e)) b
+
+      go : (l : Line) → IsForm l → call_of c l ≡ Some asked → InStep (told_reply (record c { session = Some (record { epoch = g.epoch; last = number }) }) l r) m
+      go l (servers count) e = nothing l e (λ t. refl)
+      go l (client k name) e = nothing l e (λ t. refl)
+      go l (begin k server) e = begins l (some_same (call.Begin c.told) asked e)
+      go l (owner k server name quota) e = file_step l e (λ t x own b. goes _ x t own b) became
+      go l (create k server word name size small) e = file_step l e (λ t x own b. goes _ x t own b) became
+      go l (write k file run text some short) e = file_step l e (λ t x own b. goes _ x t own b) became
+      go l (read k file run some) e = file_step l e (λ t x own b. goes _ x t own b) became
+      go l (commit k) e = let (t, is, own) = trans_there c l c.trans asked e in ends l t (some_same (call.Finish t true) asked own)
