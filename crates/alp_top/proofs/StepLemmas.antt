@@ -19,14 +19,15 @@ use Rattle.alp_top.specs.declared.client.Greeted.{Greeted}
 use Rattle.alp_top.specs.declared.node.Node.{Node}
 use Rattle.alp_top.specs.declared.node.Live.{Live}
 use Rattle.alp_top.specs.declared.node.Session.{Session}
-use Rattle.alp_top.specs.Nodes.{IsRunning, CountsCall}
+use Rattle.alp_journal.specs.declared.event.Event.TheVariants as event
+use Rattle.alp_top.specs.Nodes.{IsKept, IsRunning, CountsCall, Stepped}
 use Rattle.std.specs.Prelude.{cond}
 use Rattle.std.specs.Ordering.{is_lt}
 use Rattle.alp_journal.specs.State.{stamp_cmp}
 use Rattle.alp_journal.specs.declared.log.Opening.{Opening}
 use Rattle.alp_top.specs.Props.{later}
-use Rattle.alp_top.specs.Clients.{call_of, call_in, call_with, told_reply, told_refusal}
-use Rattle.alp_top.specs.Steps.{InStep, SameSession, SameTrans, IsExpected, StartsIdle, IsOwn, Goes, Became}
+use Rattle.alp_top.specs.Clients.{Frame, frame_in, hears_in, call_of, call_in, call_with, told_reply, told_refusal}
+use Rattle.alp_top.specs.Steps.{InStep, SameSession, SameTrans, IsExpected, StartsIdle, IsOwn, Goes, Became, Exchanged}
 
 -- the call of a line that needs a transaction
 trans_there : (c : Client) (l : Line) (o : Option TransId) (asked : Call) → call_with c o l ≡ Some asked → (t : TransId) × (o ≡ Some t) × (call_in c t l ≡ Some asked)
@@ -195,3 +196,35 @@ module _ (c : Client) (n m : Node) (asked : Call) (r : Reply) (g : Greeted) (num
       go l (write k file run text some short) e = file_step l e (λ t x own b. goes _ x t own b) became
       go l (read k file run some) e = file_step l e (λ t x own b. goes _ x t own b) became
       go l (commit k) e = let (t, is, own) = trans_there c l c.trans asked e in ends l t (some_same (call.Finish t true) asked own)
+
+epoch_same : (epoch : ℕ) (old : Option Greeted) (g : Greeted) (was : Option Session) → SameSession epoch old was → old ≡ Some g → g.epoch ≡ epoch
+epoch_same epoch None g was h e = cc
+epoch_same epoch (Some f) g None h e = absurd h
+epoch_same epoch (Some f) g (Some s) h e = ap (λ (x : Greeted). x.epoch) (sym (some_same f g e)) ∙ h.0
+
+-- a call that was sent, answered and heard is an exchange
+module _ (c : Client) (n m : Node) (asked : Call) (r : Reply) (g : Greeted) (number : ℕ) (s : InStep c n) (greeted : c.session ≡ Some g)
+  (counts : CountsCall n.session m.session number) (opening : m.opening ≡ n.opening) where
+  pub exchanged : (l : Line) (d : Client) (sent : Call) (place : ℕ) → IsKept m → Stepped n m (event.Call 1 n.opening.epoch number asked) (Some r) → IsOwn c l asked → Became n m asked r
+      → d ≡ told_reply (record c { session = Some (record { epoch = g.epoch; last = number }) }) l r → sent ≡ asked → place ≡ length n.journal → number ≡ g.last + 1
+      → Exchanged c d n m l (frame_in c c.session asked) true (record { server = 1; epoch = g.epoch; number = number; call = sent; reply = Some r; place = Some place })
+  exchanged l d sent place kept stepped own became told same at turn =
+      let (acts, pushed) = stepped in
+      record {
+        kept = kept;
+        step = subst (λ (x : Client). InStep x m) (sym told) (step_kept c n m asked r g number s greeted counts opening l own became);
+        opening = opening;
+        sent = (λ i. record { epoch = g.epoch; number = turn i; call = same i }) ∙ ap (λ (o : Option Greeted). frame_in c o asked) (sym greeted);
+        server = refl;
+        heard =
+          ap (λ (o : Option Greeted). hears_in c o l (Some r)) greeted
+          ∙ ap (λ (k : ℕ). (told_reply (record c { session = Some (record { epoch = g.epoch; last = k }) }) l r, true)) (sym turn)
+          ∙ ap (λ (x : Client). (x, true)) (sym told);
+        entry = record { event = event.Call 1 n.opening.epoch number asked; reply = Some r; acts = acts };
+        journal = pushed;
+        recorded = record {
+          place = ap Some at;
+          event = ap (λ (e : ℕ). event.Call 1 e number asked) (sym (epoch_same n.opening.epoch c.session g n.session s.session greeted)) ∙ ap (event.Call 1 g.epoch number) (sym same);
+          reply = refl;
+        };
+      }
