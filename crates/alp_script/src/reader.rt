@@ -120,6 +120,7 @@ fn last_line(
 }
 
 impl Reader {
+    /// A reader that was given nothing yet.
     pub fn new(alloc: Global) -> Reader
         ensures start { result ≡ at_start }
         ensures whole { (bytes : List ℕ) → resume result bytes ≡ script bytes }
