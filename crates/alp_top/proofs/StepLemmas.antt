@@ -142,17 +142,17 @@ later_within : (told s : Stamp) (clock : ℕ) → told.ts ≤ clock → s.ts ≤
 later_within told s clock h k = elim (is_lt (stamp_cmp told s)) as (λ b. (cond b s told).ts ≤ clock) [ true ↦ k | false ↦ h ]
 
 module _ (c : Client) (n m : Node) (asked : Call) (r : Reply) (g : Greeted) (number : ℕ) (s : InStep c n) (greeted : c.session ≡ Some g)
-  (counts : CountsCall n.session m.session number) (opening : m.opening ≡ n.opening) where
+    (counts : CountsCall n.session m.session number) (opening : m.opening ≡ n.opening) where
   session_now : SameSession m.opening.epoch (Some (record { epoch = g.epoch; last = number })) m.session
   session_now = session_counts m.opening.epoch number c.session g n.session m.session
       (subst (λ (e : ℕ). SameSession e c.session n.session) (ap (λ (o : Opening). o.epoch) (sym opening)) s.session) greeted counts
 
   stays : (d : Client) → SameKnown (record c { session = Some (record { epoch = g.epoch; last = number }) }) d → (t : TransId) → c.trans ≡ Some t → IsRunning m.live t → m.clock ≡ n.clock → InStep d m
   stays d same t is runs clock = record {
-      session = subst (λ (x : Option Greeted). SameSession m.opening.epoch x m.session) (sym same.session) session_now;
-      live = subst (λ (x : Option TransId). SameTrans x m.live) (sym (same.trans ∙ is)) (runs_same t m.live runs);
-      told = let k : d.told.ts ≡ c.told.ts = ap (λ (x : Stamp). x.ts) same.told in omega (arith, k, clock, s.told);
-    }
+    session = subst (λ (x : Option Greeted). SameSession m.opening.epoch x m.session) (sym same.session) session_now;
+    live = subst (λ (x : Option TransId). SameTrans x m.live) (sym (same.trans ∙ is)) (runs_same t m.live runs);
+    told = let k : d.told.ts ≡ c.told.ts = ap (λ (x : Stamp). x.ts) same.told in omega (arith, k, clock, s.told);
+  }
 
   -- a file call of a line that needs a transaction
   file_step : (l : Line) → call_with c c.trans l ≡ Some asked → ((t : TransId) (x : Call) → call_in c t l ≡ Some x → Became n m x r → Goes n m t r) → Became n m asked r
@@ -175,14 +175,14 @@ module _ (c : Client) (n m : Node) (asked : Call) (r : Reply) (g : Greeted) (num
       begins l e =
           let (t, is, runs, clock) = subst (λ (x : Call). Became n m x r) (sym e) became in
           subst (λ (x : Reply). InStep (told_reply (record c { session = Some (record { epoch = g.epoch; last = number }) }) l x) m) (sym is)
-            (record { session = session_now; live = runs_same t m.live runs; told = omega (arith, clock, s.told) })
+          (record { session = session_now; live = runs_same t m.live runs; told = omega (arith, clock, s.told) })
 
       ends : (l : Line) (t : TransId) → call.Finish t true ≡ asked → InStep (told_reply (record c { session = Some (record { epoch = g.epoch; last = number }) }) l r) m
       ends l t e =
           let (is, none, clock) = subst (λ (x : Call). Became n m x r) (sym e) became in
           let stamp : Stamp = record { ts = n.clock + 1; trans = t } in
           subst (λ (x : Reply). InStep (told_reply (record c { session = Some (record { epoch = g.epoch; last = number }) }) l x) m) (sym is)
-            (record { session = session_now; live = no_live m.live none; told = later_within c.told stamp m.clock (omega (arith, clock, s.told)) (omega (arith, clock)) })
+          (record { session = session_now; live = no_live m.live none; told = later_within c.told stamp m.clock (omega (arith, clock, s.told)) (omega (arith, clock)) })
 
       goes : (x y : Call) (t : TransId) → Some x ≡ Some y → Became n m y r → Became n m x r
       goes x y t e b = subst (λ (z : Call). Became n m z r) (sym (some_same x y e)) b
@@ -204,7 +204,7 @@ epoch_same epoch (Some f) g (Some s) h e = ap (λ (x : Greeted). x.epoch) (sym (
 
 -- a call that was sent, answered and heard is an exchange
 module _ (c : Client) (n m : Node) (asked : Call) (r : Reply) (g : Greeted) (number : ℕ) (s : InStep c n) (greeted : c.session ≡ Some g)
-  (counts : CountsCall n.session m.session number) (opening : m.opening ≡ n.opening) where
+    (counts : CountsCall n.session m.session number) (opening : m.opening ≡ n.opening) where
   pub exchanged : (l : Line) (d : Client) (sent : Call) (place : ℕ) → IsKept m → Stepped n m (event.Call 1 n.opening.epoch number asked) (Some r) → IsOwn c l asked → Became n m asked r
       → d ≡ told_reply (record c { session = Some (record { epoch = g.epoch; last = number }) }) l r → sent ≡ asked → place ≡ length n.journal → number ≡ g.last + 1
       → Exchanged c d n m l (frame_in c c.session asked) true (record { server = 1; epoch = g.epoch; number = number; call = sent; reply = Some r; place = Some place })
@@ -217,9 +217,9 @@ module _ (c : Client) (n m : Node) (asked : Call) (r : Reply) (g : Greeted) (num
         sent = (λ i. record { epoch = g.epoch; number = turn i; call = same i }) ∙ ap (λ (o : Option Greeted). frame_in c o asked) (sym greeted);
         server = refl;
         heard =
-          ap (λ (o : Option Greeted). hears_in c o l (Some r)) greeted
-          ∙ ap (λ (k : ℕ). (told_reply (record c { session = Some (record { epoch = g.epoch; last = k }) }) l r, true)) (sym turn)
-          ∙ ap (λ (x : Client). (x, true)) (sym told);
+            ap (λ (o : Option Greeted). hears_in c o l (Some r)) greeted
+            ∙ ap (λ (k : ℕ). (told_reply (record c { session = Some (record { epoch = g.epoch; last = k }) }) l r, true)) (sym turn)
+            ∙ ap (λ (x : Client). (x, true)) (sym told);
         entry = record { event = event.Call 1 n.opening.epoch number asked; reply = Some r; acts = acts };
         journal = pushed;
         recorded = record {

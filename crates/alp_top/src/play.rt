@@ -109,6 +109,13 @@ fn greet(
     })
 }
 
+fn copied(call: &Call) -> Result<Call, OutOfMemory>
+    ensures { IfOk result (λ copy. copy ≡ call.now) }
+{
+    let copy = call.clone()?;
+    Ok(copy)
+}
+
 // The client sends the call of a line, and the line is over.
 fn send(
     alloc: Global,
@@ -127,7 +134,7 @@ fn send(
     let greeted = client.session.unwrap();
     let place = node.journal.entries().len() as u32;
     let number = greeted.last + 1;
-    let sent = call.clone()?;
+    let sent = copied(&call)?;
     let reply = ask(alloc, node, number, call)?;
     client.session = Some(Greeted {
         epoch: greeted.epoch,

@@ -9,8 +9,8 @@ ask-requires-clause-expected c = expected_own c.args.client.now c.args.node.now 
 
 pub returns : goal.returns
 returns c =
-    let same : c.in_ok-sent.sent ≡ c.args.call = search rules in
+    let same : c.in_ok-sent.sent ≡ c.args.call = c.in_ok-sent.ensures in
     let here = c.in_ok-reply.ensures in
     exchanged c.args.client.now c.args.node.now c.ask.new.node c.args.call c.in_ok-reply.reply c.unwrap-greeted.result (c.unwrap-greeted.result.last + 1) c.requires.step c.unwrap-greeted.ensures
-      here.session here.opening c.args.line.now c.told.new.self c.in_ok-sent.sent (length c.entries.result.now) here.kept here.stepped c.requires.own here.became
-      c.in_ok-told.ensures same (ap (λ (js : List Entry). length js) c.entries.ensures) refl
+    here.session here.opening c.args.line.now c.told.new.self c.in_ok-sent.sent (length c.entries.result.now) here.kept here.stepped c.requires.own here.became
+    c.in_ok-told.ensures same (ap (λ (js : List Entry). length js) c.entries.ensures) refl
