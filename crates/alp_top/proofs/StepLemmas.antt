@@ -1,6 +1,6 @@
 -- a client and its server stay in step
 use Rattle.std.specs.Prelude.{true, false, Bool, Option, None, Some}
-use Rattle.std.proofs.Common.{◌≡◌, ℕ, ◌+◌, ◌≤◌, List, [], ◌∷◌, ◌++◌, length, refl, sym, ◌∙◌, ap, subst, arith}
+use Rattle.std.proofs.Common.{◌≡◌, ℕ, ◌+◌, ◌≤◌, List, [], ◌∷◌, ◌++◌, length, refl, sym, ◌∙◌, ap, subst, arith, append_assoc, append-nil, length-append}
 use Rattle.std.proofs.lemmas.List.{length-replicate}
 use Rattle.alp_base.specs.declared.ids.TransId.{TransId}
 use Rattle.alp_base.specs.declared.ids.Stamp.{Stamp}
@@ -26,8 +26,16 @@ use Rattle.std.specs.Ordering.{is_lt}
 use Rattle.alp_journal.specs.State.{stamp_cmp}
 use Rattle.alp_journal.specs.declared.log.Opening.{Opening}
 use Rattle.alp_top.specs.Props.{later}
-use Rattle.alp_top.specs.Clients.{Frame, frame_in, hears_in, call_of, call_in, call_with, told_reply, told_refusal}
-use Rattle.alp_top.specs.Steps.{InStep, SameSession, SameTrans, IsExpected, StartsIdle, IsOwn, Goes, Became, Exchanged}
+use Rattle.alp_top.specs.Clients.{Frame, frame_in, hears, hears_in, Exchanges, at_line, declares, call_of, call_in, call_with, told_reply, told_refusal}
+use Rattle.alp_top.specs.Steps.{InStep, SameSession, SameTrans, IsExpected, StartsIdle, IsOwn, Goes, Became, Exchanged, Did, Adds}
+use Rattle.std.specs.Option.{option_map}
+use Rattle.alp_journal.specs.declared.entry.Entry.{Entry}
+use Rattle.alp_journal.specs.declared.log.Exchange.{Exchange}
+use Rattle.alp_top.specs.Plays.{Records, AreRecorded, PlaysLine}
+use Rattle.std.specs.Prelude.{map as list_map}
+use Rattle.alp_journal.specs.declared.log.LineLog.{LineLog}
+use Rattle.alp_script.specs.declared.numbered.NumberedLine.{NumberedLine}
+use Rattle.alp_script.specs.Named.{client_named}
 
 -- the call of a line that needs a transaction
 trans_there : (c : Client) (l : Line) (o : Option TransId) (asked : Call) → call_with c o l ≡ Some asked → (t : TransId) × (o ≡ Some t) × (call_in c t l ≡ Some asked)
@@ -228,3 +236,126 @@ module _ (c : Client) (n m : Node) (asked : Call) (r : Reply) (g : Greeted) (num
           reply = refl;
         };
       }
+
+-- ---- whole lines
+
+same_with : (c d : Client) (l : Line) (o : Option TransId) → ((t : TransId) → call_in d t l ≡ call_in c t l) → call_with d o l ≡ call_with c o l
+same_with c d l None h = refl
+same_with c d l (Some t) h = h t
+
+-- what a client asks does not rest on its session
+pub call_ungreeted : (c : Client) (session : Option Greeted) (l : Line) → IsForm l → call_of (record c { session = session }) l ≡ call_of c l
+call_ungreeted c session l (servers count) = same_with c (record c { session = session }) l c.trans (λ t. refl)
+call_ungreeted c session l (client k name) = same_with c (record c { session = session }) l c.trans (λ t. refl)
+call_ungreeted c session l (begin k server) = refl
+call_ungreeted c session l (owner k server name quota) = same_with c (record c { session = session }) l c.trans (λ t. refl)
+call_ungreeted c session l (create k server word name size small) = same_with c (record c { session = session }) l c.trans (λ t. refl)
+call_ungreeted c session l (write k file run text some short) = same_with c (record c { session = session }) l c.trans (λ t. refl)
+call_ungreeted c session l (read k file run some) = same_with c (record c { session = session }) l c.trans (λ t. refl)
+call_ungreeted c session l (commit k) = same_with c (record c { session = session }) l c.trans (λ t. refl)
+
+idle_ungreeted : (c : Client) (session : Option Greeted) (l : Line) → IsForm l → StartsIdle c l → StartsIdle (record c { session = session }) l
+idle_ungreeted c session l (servers count) h = tt
+idle_ungreeted c session l (client k name) h = tt
+idle_ungreeted c session l (begin k server) h = h
+idle_ungreeted c session l (owner k server name quota) h = tt
+idle_ungreeted c session l (create k server word name size small) h = tt
+idle_ungreeted c session l (write k file run text some short) h = tt
+idle_ungreeted c session l (read k file run some) h = tt
+idle_ungreeted c session l (commit k) h = tt
+
+-- the call is the line's own after the greeting too
+pub own_greeted : (c d : Client) (l : Line) (asked : Call) → d ≡ record c { session = d.session } → IsOwn c l asked → IsOwn d l asked
+own_greeted c d l asked same h =
+    subst (λ (x : Client). IsOwn x l asked) (sym same)
+    (record { form = h.form; asks = call_ungreeted c d.session l h.form ∙ h.asks; idle = idle_ungreeted c d.session l h.form h.idle })
+
+-- a line's last call
+ends_line : (p : Client × Bool) (d : Client) (l : Line) → p ≡ (d, true) → Exchanges p.0 l p.1 [] d
+ends_line p d l e = subst (λ (q : Client × Bool). Exchanges q.0 l q.1 [] d) (sym e) (refl, refl)
+
+-- a greeting and a call
+pub greeted_exchanges : (c d e : Client) (a b z : Node) (l : Line) (asked : Call) (h x : Exchange) → c.session ≡ None → IsOwn c l asked → IsOwn d l asked
+    → Exchanged c d a b l (record { epoch = 0; number = 1; call = call.Hello c.name }) false h
+    → Exchanged d e b z l (frame_in d d.session asked) true x
+    → Did c e a z l (h ∷ x ∷ [])
+greeted_exchanges c d e a b z l asked h x none own own2 first last = record {
+  kept = last.kept;
+  step = last.step;
+  opening = last.opening ∙ first.opening;
+  exchanges = (
+    ap (option_map (frame_in c c.session)) own.asks ∙ ap (λ (o : Option Greeted). Some (frame_in c o asked)) none ∙ ap Some (sym first.sent),
+    first.server,
+    subst (λ (q : Client × Bool). Exchanges q.0 l q.1 (x ∷ []) e) (sym first.heard)
+        (ap (option_map (frame_in d d.session)) own2.asks ∙ ap Some (sym last.sent), last.server, ends_line (hears d l x.reply) e l last.heard),
+  );
+  entries = first.entry ∷ last.entry ∷ [];
+  journal = last.journal ∙ ap (λ (js : List Entry). js ++ last.entry ∷ []) first.journal ∙ append_assoc a.journal (first.entry ∷ []) (last.entry ∷ []);
+  recorded = (
+    first.recorded,
+    (
+      subst (λ (k : ℕ). Records k (1, x) last.entry) (ap (λ (js : List Entry). length js) first.journal ∙ omega (arith, length-append a.journal (first.entry ∷ []))) last.recorded,
+      tt,
+    ),
+  );
+  few = omega arith;
+}
+
+-- a line begins
+pub at_step : (c : Client) (n : Node) (l : Line) → IsForm l → StartsIdle c l → InStep c n → InStep (at_line c l) n
+at_step c n l (servers count) i s = s
+at_step c n l (client k name) i s = s
+at_step c n l (begin k server) i s = record { session = s.session; live = subst (λ (o : Option TransId). SameTrans o n.live) i s.live; told = s.told }
+at_step c n l (owner k server name quota) i s = s
+at_step c n l (create k server word name size small) i s = record { session = s.session; live = s.live; told = s.told }
+at_step c n l (write k file run text some short) i s = s
+at_step c n l (read k file run some) i s = s
+at_step c n l (commit k) i s = s
+
+pub at_idle : (c : Client) (l : Line) → IsForm l → StartsIdle (at_line c l) l
+at_idle c l (servers count) = tt
+at_idle c l (client k name) = tt
+at_idle c l (begin k server) = refl
+at_idle c l (owner k server name quota) = tt
+at_idle c l (create k server word name size small) = tt
+at_idle c l (write k file run text some short) = tt
+at_idle c l (read k file run some) = tt
+at_idle c l (commit k) = tt
+
+-- a declaration
+pub declared_step : (c : Client) (n : Node) (l : Line) → IsForm l → InStep c n → InStep (declares c l) n
+declared_step c n l (servers count) s = s
+declared_step c n l (client k name) s = record { session = s.session; live = s.live; told = s.told }
+declared_step c n l (begin k server) s = s
+declared_step c n l (owner k server name quota) s = s
+declared_step c n l (create k server word name size small) s = s
+declared_step c n l (write k file run text some short) s = s
+declared_step c n l (read k file run some) s = s
+declared_step c n l (commit k) s = s
+
+pub adds_nothing : (c : Client) (n : Node) (l : NumberedLine) → IsKept n → InStep c n → IsForm l.line → client_named l.line ≡ None → Adds c (declares c l.line) n n l []
+adds_nothing c n l kept s form none = record {
+  kept = kept;
+  step = declared_step c n l.line form s;
+  opening = refl;
+  plays = subst (λ (o : Option ℕ). PlaysLine c l o [] (declares c l.line)) (sym none) (refl, refl);
+  entries = [];
+  journal = sym (append-nil n.journal);
+  recorded = tt;
+  few = omega arith;
+}
+
+pub adds_item : (c d : Client) (n m : Node) (l : NumberedLine) (k : ℕ) (item : LineLog) → client_named l.line ≡ Some k → k ≡ 1 → item.line ≡ l.number → item.client ≡ k
+    → Did (at_line c l.line) d n m l.line item.exchanges.items → Adds c d n m l (item ∷ [])
+adds_item c d n m l k item named one number whose did = record {
+  kept = did.kept;
+  step = did.step;
+  opening = did.opening;
+  plays = subst (λ (o : Option ℕ). PlaysLine c l o (item ∷ []) d) (sym named) (item, refl, number, whose, did.exchanges);
+  entries = did.entries;
+  journal = did.journal;
+  recorded = subst (λ (xs : List (ℕ × Exchange)). AreRecorded (length n.journal) xs did.entries)
+      (sym (append-nil (list_map (λ (x : Exchange). (item.client, x)) item.exchanges.items) ∙ ap (λ (j : ℕ). list_map (λ (x : Exchange). (j, x)) item.exchanges.items) (whose ∙ one)))
+      did.recorded;
+  few = did.few;
+}

@@ -1,5 +1,5 @@
 -- A client and its server in step: what one knows of the other, and what a call does to both.
-use Rattle.std.specs.Prelude.{◌≡◌, ℕ, ◌+◌, ◌≤◌, ◌<◌, true, false, Bool, List, [], ◌∷◌, ◌++◌, length, Option, None, Some}
+use Rattle.std.specs.Prelude.{◌≡◌, ℕ, ◌+◌, ◌≤◌, ◌<◌, true, false, Bool, List, [], ◌∷◌, ◌++◌, length, map as list_map, Option, None, Some}
 use Rattle.alp_base.specs.declared.ids.TransId.{TransId}
 use Rattle.alp_files.specs.declared.call.Call.{Call}
 use Rattle.alp_files.specs.declared.call.Call.TheVariants as call
@@ -19,8 +19,11 @@ use Rattle.alp_top.specs.declared.node.Node.{Node}
 use Rattle.alp_top.specs.declared.node.Live.{Live}
 use Rattle.alp_top.specs.declared.node.Session.{Session}
 use Rattle.alp_top.specs.Nodes.{IsKept, IsRunning}
-use Rattle.alp_top.specs.Clients.{Frame, frame_sent, hears, call_of}
-use Rattle.alp_top.specs.Plays.{Records}
+use Rattle.alp_top.specs.Clients.{Frame, frame_sent, hears, call_of, Exchanges}
+use Rattle.alp_top.specs.Plays.{Records, AreRecorded, PlaysLine, exchanges_of}
+use Rattle.alp_journal.specs.declared.log.LineLog.{LineLog}
+use Rattle.alp_script.specs.declared.numbered.NumberedLine.{NumberedLine}
+use Rattle.alp_script.specs.Named.{client_named}
 
 -- both know the session, or none does
 abbrev pub SameSession : ℕ → Option Greeted → Option Session → Type 0
@@ -87,3 +90,29 @@ pub record Exchanged (old new : Client) (before after : Node) (l : Line) (frame 
   pub entry : Entry
   pub journal : after.journal ≡ before.journal ++ entry ∷ []
   pub recorded : Records (length before.journal) (1, x) entry
+
+-- a line's exchanges, each with an entry of its own behind those before
+pub record Did (old new : Client) (before after : Node) (l : Line) (xs : List Exchange) : Type 0 where
+  pub kept : IsKept after
+  pub step : InStep new after
+  pub opening : after.opening ≡ before.opening
+  pub exchanges : Exchanges old l false xs new
+  pub entries : List Entry
+  pub journal : after.journal ≡ before.journal ++ entries
+  pub recorded : AreRecorded (length before.journal) (list_map (λ x. (1, x)) xs) entries
+  pub few : length entries ≤ 2
+
+-- the line is client 1's, if it is a client's
+abbrev pub IsOurs : Line → Type 0
+IsOurs l = (k : ℕ) → client_named l ≡ Some k → k ≡ 1
+
+-- what a line adds to the log and to the journal
+pub record Adds (old new : Client) (before after : Node) (l : NumberedLine) (logs : List LineLog) : Type 0 where
+  pub kept : IsKept after
+  pub step : InStep new after
+  pub opening : after.opening ≡ before.opening
+  pub plays : PlaysLine old l (client_named l.line) logs new
+  pub entries : List Entry
+  pub journal : after.journal ≡ before.journal ++ entries
+  pub recorded : AreRecorded (length before.journal) (exchanges_of logs) entries
+  pub few : length entries ≤ 2

@@ -5,7 +5,9 @@ ghost use Rattle.alp_files.specs.declared.call.Call.TheVariants as call;
 ghost use Rattle.alp_files.specs.Parts.{IsBuilt};
 ghost use Rattle.alp_journal.specs.State.{file_trans};
 ghost use Rattle.alp_top.specs.Nodes.{IsKept, HasRoom, Stepped, IsNext, IsRunning, CountsCall};
-ghost use Rattle.alp_top.specs.Steps.{InStep, IsExpected, Became, IsOwn, Exchanged};
+ghost use Rattle.alp_top.specs.Steps.{InStep, IsExpected, Became, IsOwn, StartsIdle, Exchanged, Did, IsOurs, Adds};
+ghost use Rattle.std.specs.Option.{option_to_list};
+ghost use Rattle.alp_script.specs.Forms.{IsForm};
 ghost use Rattle.alp_top.specs.Clients.{frame_in};
 
 use crate::client::Greeted;
@@ -91,7 +93,9 @@ fn greet(
     requires room { HasRoom node.old }
     requires step { InStep client.old node.old }
     requires first { client.old.session ≡ None }
-    ensures { IfOk result (λ x. Exchanged client.old client.new node.old node.new line.now (record { epoch = 0; number = 1; call = call.Hello client.old.name }) false x) }
+    ensures said { IfOk result (λ x. Exchanged client.old client.new node.old node.new line.now (record { epoch = 0; number = 1; call = call.Hello client.old.name }) false x) }
+    ensures same { OnOk result (client.new ≡ record client.old { session = client.new.session }) }
+    ensures greeted { OnOk result (IsSome client.new.session) }
 {
     let place = node.journal.entries().len() as u32;
     let name = client.name;
@@ -149,4 +153,99 @@ fn send(
         reply: Some(reply),
         place: Some(place),
     })
+}
+
+// The calls of a line, where the client has a session.
+fn exchange_greeted(
+    alloc: Global,
+    client: &mut Client,
+    node: &mut Node,
+    line: &Line,
+    call: Call,
+) -> Result<Vec<Exchange>, OutOfMemory>
+    requires kept { IsKept node.old }
+    requires room { HasRoom node.old }
+    requires step { InStep client.old node.old }
+    requires greeted { IsSome client.old.session }
+    requires own { IsOwn client.old line.now call }
+    ensures { IfOk result (λ v. Did client.old client.new node.old node.new line.now v.items) }
+{
+    let mut exchanges = Vec::new(alloc);
+    let last = send(alloc, client, node, line, call)?;
+    exchanges.push(last)?;
+    Ok(exchanges)
+}
+
+// The calls of a line, where the client has to say hello first.
+fn exchange_new(
+    alloc: Global,
+    client: &mut Client,
+    node: &mut Node,
+    line: &Line,
+    call: Call,
+) -> Result<Vec<Exchange>, OutOfMemory>
+    requires kept { IsKept node.old }
+    requires room { length node.old.journal + 1 < 65536 }
+    requires step { InStep client.old node.old }
+    requires first { client.old.session ≡ None }
+    requires own { IsOwn client.old line.now call }
+    ensures { IfOk result (λ v. Did client.old client.new node.old node.new line.now v.items) }
+{
+    let mut exchanges = Vec::new(alloc);
+    let hello = greet(alloc, client, node, line)?;
+    exchanges.push(hello)?;
+    let last = send(alloc, client, node, line, call)?;
+    exchanges.push(last)?;
+    Ok(exchanges)
+}
+
+// The exchanges of a line of the client.
+fn exchange(
+    alloc: Global,
+    client: &mut Client,
+    node: &mut Node,
+    line: &Line,
+) -> Result<Vec<Exchange>, OutOfMemory>
+    requires kept { IsKept node.old }
+    requires room { length node.old.journal + 1 < 65536 }
+    requires step { InStep client.old node.old }
+    requires form { IsForm line.now }
+    requires idle { StartsIdle client.old line.now }
+    ensures { IfOk result (λ v. Did client.old client.new node.old node.new line.now v.items) }
+{
+    let Some(call) = client.call_of(alloc, line)? else {
+        return Ok(Vec::new(alloc));
+    };
+    if client.session.is_none() {
+        return exchange_new(alloc, client, node, line, call);
+    }
+    exchange_greeted(alloc, client, node, line, call)
+}
+
+// What a line adds to the log: nothing, where it is a declaration.
+fn play_line(
+    alloc: Global,
+    client: &mut Client,
+    node: &mut Node,
+    line: &NumberedLine,
+) -> Result<Option<LineLog>, OutOfMemory>
+    requires kept { IsKept node.old }
+    requires room { length node.old.journal + 1 < 65536 }
+    requires step { InStep client.old node.old }
+    requires form { IsForm line.now.line }
+    requires ours { IsOurs line.now.line }
+    requires idle { StartsIdle client.old line.now.line }
+    ensures { IfOk result (λ o. Adds client.old client.new node.old node.new line.now (option_to_list o)) }
+{
+    let Some(number) = line.line.client() else {
+        client.declares(&line.line);
+        return Ok(None);
+    };
+    client.at_line(&line.line)?;
+    let exchanges = exchange(alloc, client, node, &line.line)?;
+    Ok(Some(LineLog {
+        line: line.number,
+        client: number,
+        exchanges,
+    }))
 }
