@@ -1,5 +1,5 @@
 -- a client and its server stay in step
-use Rattle.std.specs.Prelude.{true, false, Bool, Option, None, Some}
+use Rattle.std.specs.Prelude.{true, false, Bool, Option, None, Some, IsSome}
 use Rattle.std.proofs.Common.{◌≡◌, ℕ, ◌+◌, ◌≤◌, List, [], ◌∷◌, ◌++◌, length, refl, sym, ◌∙◌, ap, subst, arith, append_assoc, append-nil, length-append}
 use Rattle.std.proofs.lemmas.List.{length-replicate}
 use Rattle.alp_base.specs.declared.ids.TransId.{TransId}
@@ -27,7 +27,7 @@ use Rattle.alp_journal.specs.State.{stamp_cmp}
 use Rattle.alp_journal.specs.declared.log.Opening.{Opening}
 use Rattle.alp_top.specs.Props.{later}
 use Rattle.alp_top.specs.Clients.{Frame, frame_in, hears, hears_in, Exchanges, at_line, declares, call_of, call_in, call_with, told_reply, told_refusal}
-use Rattle.alp_top.specs.Steps.{InStep, SameSession, SameTrans, IsExpected, StartsIdle, IsOwn, Goes, Became, Exchanged, Did, Adds}
+use Rattle.alp_top.specs.Steps.{InStep, SameSession, SameTrans, IsExpected, StartsIdle, IsOwn, Goes, Became, Exchanged, Did, Adds, TransAfter, TransBy}
 use Rattle.std.specs.Option.{option_map}
 use Rattle.alp_journal.specs.declared.entry.Entry.{Entry}
 use Rattle.alp_journal.specs.declared.log.Exchange.{Exchange}
@@ -205,6 +205,41 @@ module _ (c : Client) (n m : Node) (asked : Call) (r : Reply) (g : Greeted) (num
       go l (read k file run some) e = file_step l e (λ t x own b. goes _ x t own b) became
       go l (commit k) e = let (t, is, own) = trans_there c l c.trans asked e in ends l t (some_same (call.Finish t true) asked own)
 
+-- the client's transaction after the call of a line
+trans_after : (c : Client) (n m : Node) (l : Line) (asked : Call) (r : Reply) (session : Option Greeted) → IsOwn c l asked → Became n m asked r
+    → TransAfter l c.trans (told_reply (record c { session = session }) l r).trans
+trans_after c n m l asked r session h became = go l h.form h.asks
+  where
+    goes : (x y : Call) → Some x ≡ Some y → Became n m y r → Became n m x r
+    goes x y e b = subst (λ (z : Call). Became n m z r) (sym (some_same x y e)) b
+
+    file : (l : Line) → call_with c c.trans l ≡ Some asked → ((t : TransId) (x : Call) → call_in c t l ≡ Some x → Became n m x r → Goes n m t r)
+        → (told_reply (record c { session = session }) l r).trans ≡ c.trans
+    file l e gives = let (t, is, own) = trans_there c l c.trans asked e in (file_told (record c { session = session }) l r (gives t asked own became).0).trans
+
+    nothing : {A : Type 0} (l : Line) → call_with c c.trans l ≡ Some asked → ((t : TransId) → call_in c t l ≡ None) → A
+    nothing l e none = let (t, is, own) = trans_there c l c.trans asked e in absurd (none_there asked (sym (none t) ∙ own))
+
+    begun : (l : Line) → call.Begin c.told ≡ asked → IsSome (told_reply (record c { session = session }) l r).trans
+    begun l e =
+        let (t, is, runs, clock) = subst (λ (x : Call). Became n m x r) (sym e) became in
+        subst (λ (x : Reply). IsSome (told_reply (record c { session = session }) l x).trans) (sym is) refl
+
+    ended : (l : Line) (t : TransId) → call.Finish t true ≡ asked → (told_reply (record c { session = session }) l r).trans ≡ None
+    ended l t e =
+        let (is, none, clock) = subst (λ (x : Call). Became n m x r) (sym e) became in
+        subst (λ (x : Reply). (told_reply (record c { session = session }) l x).trans ≡ None) (sym is) refl
+
+    go : (l : Line) → IsForm l → call_of c l ≡ Some asked → TransAfter l c.trans (told_reply (record c { session = session }) l r).trans
+    go l (servers count) e = nothing l e (λ t. refl)
+    go l (client k name) e = nothing l e (λ t. refl)
+    go l (begin k server) e = begun l (some_same (call.Begin c.told) asked e)
+    go l (owner k server name quota) e = file l e (λ t x own b. goes _ x own b)
+    go l (create k server word name size small) e = file l e (λ t x own b. goes _ x own b)
+    go l (write k file2 run text some short) e = file l e (λ t x own b. goes _ x own b)
+    go l (read k file2 run some) e = file l e (λ t x own b. goes _ x own b)
+    go l (commit k) e = let (t, is, own) = trans_there c l c.trans asked e in ended l t (some_same (call.Finish t true) asked own)
+
 epoch_same : (epoch : ℕ) (old : Option Greeted) (g : Greeted) (was : Option Session) → SameSession epoch old was → old ≡ Some g → g.epoch ≡ epoch
 epoch_same epoch None g was h e = cc
 epoch_same epoch (Some f) g None h e = absurd h
@@ -228,6 +263,7 @@ module _ (c : Client) (n m : Node) (asked : Call) (r : Reply) (g : Greeted) (num
             ap (λ (o : Option Greeted). hears_in c o l (Some r)) greeted
             ∙ ap (λ (k : ℕ). (told_reply (record c { session = Some (record { epoch = g.epoch; last = k }) }) l r, true)) (sym turn)
             ∙ ap (λ (x : Client). (x, true)) (sym told);
+        trans = subst (λ (x : Client). TransAfter l c.trans x.trans) (sym told) (trans_after c n m l asked r (Some (record { epoch = g.epoch; last = number })) own became);
         entry = record { event = event.Call 1 n.opening.epoch number asked; reply = Some r; acts = acts };
         journal = pushed;
         recorded = record {
@@ -289,6 +325,7 @@ greeted_exchanges c d e a b z l asked h x none own own2 first last = record {
     subst (λ (q : Client × Bool). Exchanges q.0 l q.1 (x ∷ []) e) (sym first.heard)
         (ap (option_map (frame_in d d.session)) own2.asks ∙ ap Some (sym last.sent), last.server, ends_line (hears d l x.reply) e l last.heard),
   );
+  trans = subst (λ (o : Option TransId). TransAfter l o e.trans) first.trans last.trans;
   entries = first.entry ∷ last.entry ∷ [];
   journal = last.journal ∙ ap (λ (js : List Entry). js ++ last.entry ∷ []) first.journal ∙ append_assoc a.journal (first.entry ∷ []) (last.entry ∷ []);
   recorded = (
@@ -298,6 +335,34 @@ greeted_exchanges c d e a b z l asked h x none own own2 first last = record {
       tt,
     ),
   );
+  few = omega arith;
+}
+
+-- a line that asks nothing leaves all as it was
+silent_trans : (c : Client) (l : Line) → IsForm l → call_of c l ≡ None → TransAfter l c.trans c.trans
+silent_trans c l (servers count) e = refl
+silent_trans c l (client k name) e = refl
+silent_trans c l (begin k server) e = cc
+silent_trans c l (owner k server name quota) e = refl
+silent_trans c l (create k server word name size small) e = refl
+silent_trans c l (write k file run text some short) e = refl
+silent_trans c l (read k file run some) e = refl
+silent_trans c l (commit k) e = alone c.trans e
+  where
+    alone : (o : Option TransId) → call_with c o (line.Commit k) ≡ None → o ≡ None
+    alone None e = refl
+    alone (Some t) e = cc
+
+pub silent_line : (c : Client) (n : Node) (l : Line) → IsKept n → InStep c n → IsForm l → call_of c l ≡ None → Did c c n n l []
+silent_line c n l kept s form none = record {
+  kept = kept;
+  step = s;
+  opening = refl;
+  exchanges = (ap (option_map (frame_in c c.session)) none, refl);
+  trans = silent_trans c l form none;
+  entries = [];
+  journal = sym (append-nil n.journal);
+  recorded = tt;
   few = omega arith;
 }
 
@@ -333,25 +398,48 @@ declared_step c n l (write k file run text some short) s = s
 declared_step c n l (read k file run some) s = s
 declared_step c n l (commit k) s = s
 
+declared_trans : (c : Client) (l : Line) → IsForm l → client_named l ≡ None → TransAfter l c.trans (declares c l).trans
+unfolding client_named
+declared_trans c l (servers count) e = refl
+declared_trans c l (client k name) e = refl
+declared_trans c l (begin k server) e = cc
+declared_trans c l (owner k server name quota) e = refl
+declared_trans c l (create k server word name size small) e = refl
+declared_trans c l (write k file run text some short) e = refl
+declared_trans c l (read k file run some) e = refl
+declared_trans c l (commit k) e = cc
+
+at_trans : (c : Client) (l : Line) (new : Option TransId) → IsForm l → TransAfter l (at_line c l).trans new → TransAfter l c.trans new
+at_trans c l new (servers count) h = h
+at_trans c l new (client k name) h = h
+at_trans c l new (begin k server) h = h
+at_trans c l new (owner k server name quota) h = h
+at_trans c l new (create k server word name size small) h = h
+at_trans c l new (write k file run text some short) h = h
+at_trans c l new (read k file run some) h = h
+at_trans c l new (commit k) h = h
+
 pub adds_nothing : (c : Client) (n : Node) (l : NumberedLine) → IsKept n → InStep c n → IsForm l.line → client_named l.line ≡ None → Adds c (declares c l.line) n n l []
 adds_nothing c n l kept s form none = record {
   kept = kept;
   step = declared_step c n l.line form s;
   opening = refl;
   plays = subst (λ (o : Option ℕ). PlaysLine c l o [] (declares c l.line)) (sym none) (refl, refl);
+  trans = declared_trans c l.line form none;
   entries = [];
   journal = sym (append-nil n.journal);
   recorded = tt;
   few = omega arith;
 }
 
-pub adds_item : (c d : Client) (n m : Node) (l : NumberedLine) (k : ℕ) (item : LineLog) → client_named l.line ≡ Some k → k ≡ 1 → item.line ≡ l.number → item.client ≡ k
+pub adds_item : (c d : Client) (n m : Node) (l : NumberedLine) (k : ℕ) (item : LineLog) → IsForm l.line → client_named l.line ≡ Some k → k ≡ 1 → item.line ≡ l.number → item.client ≡ k
     → Did (at_line c l.line) d n m l.line item.exchanges.items → Adds c d n m l (item ∷ [])
-adds_item c d n m l k item named one number whose did = record {
+adds_item c d n m l k item form named one number whose did = record {
   kept = did.kept;
   step = did.step;
   opening = did.opening;
   plays = subst (λ (o : Option ℕ). PlaysLine c l o (item ∷ []) d) (sym named) (item, refl, number, whose, did.exchanges);
+  trans = at_trans c l.line d.trans form did.trans;
   entries = did.entries;
   journal = did.journal;
   recorded = subst (λ (xs : List (ℕ × Exchange)). AreRecorded (length n.journal) xs did.entries)

@@ -1,5 +1,5 @@
 -- A client and its server in step: what one knows of the other, and what a call does to both.
-use Rattle.std.specs.Prelude.{◌≡◌, ℕ, ◌+◌, ◌≤◌, ◌<◌, true, false, Bool, List, [], ◌∷◌, ◌++◌, length, map as list_map, Option, None, Some}
+use Rattle.std.specs.Prelude.{◌≡◌, ℕ, ◌+◌, ◌≤◌, ◌<◌, true, false, Bool, List, [], ◌∷◌, ◌++◌, length, map as list_map, Option, None, Some, IsSome}
 use Rattle.alp_base.specs.declared.ids.TransId.{TransId}
 use Rattle.alp_files.specs.declared.call.Call.{Call}
 use Rattle.alp_files.specs.declared.call.Call.TheVariants as call
@@ -79,6 +79,17 @@ pub record IsOwn (c : Client) (l : Line) (asked : Call) : Type 0 where
   pub asks : call_of c l ≡ Some asked
   pub idle : StartsIdle c l
 
+-- what a line makes of the client's transaction
+abbrev pub TransAfter : Line → Option TransId → Option TransId → Type 0
+TransAfter (line.Begin client server) old new = IsSome new
+TransAfter (line.Commit client) old new = new ≡ None
+TransAfter l old new = new ≡ old
+
+-- only the call that ends a line does
+abbrev pub TransBy : Bool → Line → Option TransId → Option TransId → Type 0
+TransBy true l old new = TransAfter l old new
+TransBy false l old new = new ≡ old
+
 -- one exchange: the frame went out, its entry stands last in the journal, and the client knows what it was handed
 pub record Exchanged (old new : Client) (before after : Node) (l : Line) (frame : Frame) (over : Bool) (x : Exchange) : Type 0 where
   pub kept : IsKept after
@@ -87,6 +98,7 @@ pub record Exchanged (old new : Client) (before after : Node) (l : Line) (frame 
   pub sent : frame_sent x ≡ frame
   pub server : x.server ≡ 1
   pub heard : hears old l x.reply ≡ (new, over)
+  pub trans : TransBy over l old.trans new.trans
   pub entry : Entry
   pub journal : after.journal ≡ before.journal ++ entry ∷ []
   pub recorded : Records (length before.journal) (1, x) entry
@@ -97,6 +109,7 @@ pub record Did (old new : Client) (before after : Node) (l : Line) (xs : List Ex
   pub step : InStep new after
   pub opening : after.opening ≡ before.opening
   pub exchanges : Exchanges old l false xs new
+  pub trans : TransAfter l old.trans new.trans
   pub entries : List Entry
   pub journal : after.journal ≡ before.journal ++ entries
   pub recorded : AreRecorded (length before.journal) (list_map (λ x. (1, x)) xs) entries
@@ -112,6 +125,7 @@ pub record Adds (old new : Client) (before after : Node) (l : NumberedLine) (log
   pub step : InStep new after
   pub opening : after.opening ≡ before.opening
   pub plays : PlaysLine old l (client_named l.line) logs new
+  pub trans : TransAfter l.line old.trans new.trans
   pub entries : List Entry
   pub journal : after.journal ≡ before.journal ++ entries
   pub recorded : AreRecorded (length before.journal) (exchanges_of logs) entries

@@ -9,6 +9,11 @@ ghost use Rattle.alp_top.specs.Steps.{InStep, IsExpected, Became, IsOwn, StartsI
 ghost use Rattle.std.specs.Option.{option_to_list};
 ghost use Rattle.alp_script.specs.Forms.{IsForm};
 ghost use Rattle.alp_top.specs.Clients.{frame_in};
+ghost use Rattle.std.specs.List.{AllByRecursion};
+ghost use Rattle.alp_script.specs.Known.{nothing_known};
+ghost use Rattle.alp_script.specs.Order.{names_ours};
+ghost use Rattle.alp_script.specs.Accepted.{LeadsFrom};
+ghost use Rattle.alp_top.specs.Runs.{HasPlayed, IsNewOpening};
 
 use crate::client::Greeted;
 use crate::{Client, Node};
@@ -248,4 +253,36 @@ fn play_line(
         client: number,
         exchanges,
     }))
+}
+
+/// A run that has played some lines.
+#[derive(Drop)]
+pub struct Run {
+    pub client: Client,
+    pub node: Node,
+    pub lines: Vec<LineLog>,
+}
+
+/// Plays all lines on a new server.
+pub fn play(alloc: Global, lines: &[NumberedLine]) -> Result<Run, OutOfMemory>
+    requires few { length lines.now ≤ 1000 }
+    requires leads { LeadsFrom nothing_known lines.now }
+    requires forms { AllByRecursion (λ l. IsForm l.line) lines.now }
+    requires ours { AllByRecursion (λ l. names_ours l.line ≡ true) lines.now }
+    ensures played { IfOk result (λ run. HasPlayed run.node.opening lines.now run.client run.node run.lines.items) }
+    ensures opening { IfOk result (λ run. IsNewOpening run.node.opening) }
+{
+    let mut client = Client::new(alloc);
+    let mut node = Node::new(alloc, SERVER);
+    let mut logs = Vec::new(alloc);
+    for line in lines {
+        if let Some(log) = play_line(alloc, &mut client, &mut node, line)? {
+            logs.push(log)?;
+        }
+    }
+    Ok(Run {
+        client,
+        node,
+        lines: logs,
+    })
 }

@@ -1,0 +1,10 @@
+use Rattle.std.proofs.Common.{take, drop}
+use Rattle.alp_top.specs.Runs.{HasPlayed, MayFollow, IsNewOpening}
+use Rattle.alp_top.proofs.play.play.Given as goal
+
+abbrev pub invariant-loop-line : goal.invariant-loop-line
+invariant-loop-line l = record {
+  played : HasPlayed l.initial.node.opening (take l.line-index l.line-items) l.client l.node l.logs.items;
+  follows : MayFollow l.client (drop l.line-index l.line-items);
+  opening : IsNewOpening l.initial.node.opening;
+}

@@ -1,0 +1,36 @@
+-- A run that has played some lines of a script, and a log that it left.
+use Rattle.std.specs.Prelude.{◌≡◌, ℕ, ◌+◌, ◌*◌, ◌≤◌, List, [], ◌∷◌, ◌++◌, length, is_some, Bool}
+use Rattle.std.specs.FinMap as map
+use Rattle.alp_journal.specs.declared.log.LineLog.{LineLog}
+use Rattle.alp_journal.specs.declared.log.Opening.{Opening}
+use Rattle.alp_script.specs.declared.numbered.NumberedLine.{NumberedLine}
+use Rattle.alp_script.specs.Known.{Known}
+use Rattle.alp_script.specs.Accepted.{LeadsFrom}
+use Rattle.alp_top.specs.declared.client.Client.{Client}
+use Rattle.alp_top.specs.declared.node.Node.{Node}
+use Rattle.alp_top.specs.Nodes.{IsKept}
+use Rattle.alp_top.specs.Clients.{new_client}
+use Rattle.alp_top.specs.Plays.{Plays, AreRecorded, exchanges_of}
+use Rattle.alp_top.specs.Steps.{InStep}
+
+-- the lines so far, played on a server that was opened so
+pub record HasPlayed (o : Opening) (lines : List NumberedLine) (c : Client) (n : Node) (logs : List LineLog) : Type 0 where
+  pub kept : IsKept n
+  pub step : InStep c n
+  pub opening : n.opening ≡ o
+  pub plays : Plays new_client lines logs c
+  pub recorded : AreRecorded 0 (exchanges_of logs) n.journal
+  pub few : length n.journal ≤ 2 * length lines
+
+-- the lines that are left may follow, and a transaction runs where the language says so
+pub record MayFollow (c : Client) (lines : List NumberedLine) : Type 0 where
+  pub known : Known
+  pub leads : LeadsFrom known lines
+  pub working : known.working ≡ is_some c.trans
+
+-- a new server 1 in its first epoch, which holds nothing
+pub record IsNewOpening (o : Opening) : Type 0 where
+  pub server : o.server ≡ 1
+  pub epoch : o.epoch ≡ 1
+  pub clock : o.clock ≡ 0
+  pub cells : o.cells.value ≡ map.empty
