@@ -1,6 +1,10 @@
 -- a run that goes on by one line
 use Rattle.std.specs.Prelude.{cond, true, false, not, ◌&&◌, Bool, Option, None, Some, is_some, IsSome, map as list_map, flat_map}
-use Rattle.std.proofs.Common.{◌≡◌, ℕ, ◌+◌, ◌*◌, ◌≤◌, List, [], ◌∷◌, ◌++◌, length, refl, sym, ◌∙◌, ap, subst, arith, append_assoc, append-nil, length-append}
+use Rattle.std.proofs.Common.{◌≡◌, ℕ, ◌+◌, ◌*◌, ◌≤◌, List, [], ◌∷◌, ◌++◌, length, refl, sym, ◌∙◌, ap, subst, arith, append_assoc, append-nil, length-append, take, drop, get_or, ◌<◌, zero, suc}
+use Rattle.std.specs.List.{AllByRecursion}
+use Rattle.std.proofs.lemmas.Bool.{eqb-true}
+use Rattle.std.proofs.lemmas.List.{take_more}
+use Rattle.std.proofs.Math.Seq.{drop-cons}
 use Rattle.alp_base.specs.declared.ids.TransId.{TransId}
 use Rattle.alp_journal.specs.declared.entry.Entry.{Entry}
 use Rattle.alp_journal.specs.declared.log.Exchange.{Exchange}
@@ -10,16 +14,16 @@ use Rattle.alp_script.specs.declared.line.Line.{Line}
 use Rattle.alp_script.specs.declared.line.Line.TheVariants as line
 use Rattle.alp_script.specs.declared.numbered.NumberedLine.{NumberedLine}
 use Rattle.alp_script.specs.Forms.{IsForm, servers, client, begin, owner, create, write, read, commit}
-use Rattle.alp_script.specs.Named.{client_named}
+use Rattle.alp_script.specs.Named.{client_named, server_named}
 use Rattle.alp_script.specs.Known.{Known}
 use Rattle.alp_script.specs.Words.{when}
-use Rattle.alp_script.specs.Order.{next, after, is_declared, is_owner, after_servers, after_client, after_begin, after_owner, after_create, after_run, after_commit}
+use Rattle.alp_script.specs.Order.{next, after, is_declared, is_one, names_ours, is_owner, after_servers, after_client, after_begin, after_owner, after_create, after_run, after_commit}
 use Rattle.alp_script.specs.Accepted.{LeadsFrom}
 use Rattle.alp_top.specs.declared.client.Client.{Client}
 use Rattle.alp_top.specs.declared.node.Node.{Node}
 use Rattle.alp_top.specs.Clients.{new_client}
 use Rattle.alp_top.specs.Plays.{PlaysLine, Plays, AreRecorded, exchanges_of}
-use Rattle.alp_top.specs.Steps.{StartsIdle, TransAfter, Adds}
+use Rattle.alp_top.specs.Steps.{StartsIdle, TransAfter, Adds, IsOurs}
 use Rattle.alp_top.specs.Runs.{HasPlayed, MayFollow}
 
 Plays-push : (c mid d : Client) (ls : List NumberedLine) (l : NumberedLine) (logs own : List LineLog) → Plays c ls logs mid → PlaysLine mid l (client_named l.line) own d → Plays c (ls ++ l ∷ []) (logs ++ own) d
@@ -101,7 +105,7 @@ none_runs None b e f = refl
 none_runs (Some t) b e f = cc
 
 some_runs : (o : Option TransId) (b : Bool) → IsSome o → b ≡ true → b ≡ is_some o
-some_runs None b h e = absurd h
+some_runs None b h e = cc
 some_runs (Some t) b h e = e
 
 idle_here : (c : Client) (k d : Known) (l : Line) → IsForm l → k.working ≡ is_some c.trans → WorksAfter l k.working d.working → StartsIdle c l
@@ -135,3 +139,29 @@ pub follows_on : (c e : Client) (l : NumberedLine) (ls : List NumberedLine) → 
 follows_on c e l ls form h t =
     let (d, step, rest) = h.leads in
     record { known = d; leads = rest; working = works_on c e h.known d l.line form h.working (works h.known d l.line form step) t }
+
+-- ---- the line at a place
+
+pub ours_named : (l : Line) → names_ours l ≡ true → IsOurs l
+unfolding names_ours
+ours_named l h k e =
+    let one : is_one (client_named l) ≡ true = both_true (is_one (client_named l)) (is_one (server_named l)) h in
+    eqb-true k 1 (ap is_one (sym e) ∙ one)
+  where
+    both_true : (a b : Bool) → (a && b) ≡ true → a ≡ true
+    both_true true b e = refl
+    both_true false b e = e
+
+pub rest_at : (ls : List NumberedLine) (i : ℕ) (l : NumberedLine) → i < length ls → l ≡ get_or ls i l → drop i ls ≡ l ∷ drop (i + 1) ls
+rest_at ls i l h is =
+    let next_place : suc i ≡ i + 1 = omega arith in
+    drop-cons ls i l h ∙ ap (λ (x : NumberedLine). x ∷ drop (suc i) ls) (sym is) ∙ ap (λ (k : ℕ). l ∷ drop k ls) next_place
+
+pub front_at : (ls : List NumberedLine) (i : ℕ) (l : NumberedLine) → i < length ls → l ≡ get_or ls i l → take (i + 1) ls ≡ take i ls ++ l ∷ []
+front_at ls i l h is = take_more ls i l h ∙ ap (λ (x : NumberedLine). take i ls ++ x ∷ []) (sym is)
+
+-- what holds of all lines holds of the one at a place
+pub at_place : (P : NumberedLine → Type 0) (ls : List NumberedLine) (i : ℕ) (l : NumberedLine) → AllByRecursion P ls → i < length ls → l ≡ get_or ls i l → P l
+at_place P [] i l all h is = absurd (omega arith)
+at_place P (x ∷ ls) zero l all h is = subst P (sym is) all.0
+at_place P (x ∷ ls) (suc i) l all h is = at_place P ls i l all.1 (omega arith) is

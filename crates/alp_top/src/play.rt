@@ -255,6 +255,15 @@ fn play_line(
     }))
 }
 
+fn add(logs: &mut Vec<LineLog>, log: Option<LineLog>) -> Result<(), OutOfMemory>
+    ensures { OnOk result (logs.new.items ≡ logs.old.items ++ option_to_list log) }
+{
+    if let Some(log) = log {
+        logs.push(log)?;
+    }
+    Ok(())
+}
+
 /// A run that has played some lines.
 #[derive(Drop)]
 pub struct Run {
@@ -276,9 +285,8 @@ pub fn play(alloc: Global, lines: &[NumberedLine]) -> Result<Run, OutOfMemory>
     let mut node = Node::new(alloc, SERVER);
     let mut logs = Vec::new(alloc);
     for line in lines {
-        if let Some(log) = play_line(alloc, &mut client, &mut node, line)? {
-            logs.push(log)?;
-        }
+        let log = play_line(alloc, &mut client, &mut node, line)?;
+        add(&mut logs, log)?;
     }
     Ok(Run {
         client,

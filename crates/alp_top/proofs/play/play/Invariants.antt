@@ -4,7 +4,7 @@ use Rattle.alp_top.proofs.play.play.Given as goal
 
 abbrev pub invariant-loop-line : goal.invariant-loop-line
 invariant-loop-line l = record {
-  played : HasPlayed l.initial.node.opening (take l.line-index l.line-items) l.client l.node l.logs.items;
-  follows : MayFollow l.client (drop l.line-index l.line-items);
+  played : HasPlayed l.initial.node.opening (take l.line-index l.lines) l.client l.node l.logs.items;
+  follows : MayFollow l.client (drop l.line-index l.lines);
   opening : IsNewOpening l.initial.node.opening;
 }
