@@ -4,6 +4,10 @@ use Rattle.std.specs.Fmt.{decimal}
 use Rattle.alp_files.specs.declared.cell.Props.{Props}
 use Rattle.alp_report.specs.Replies.{names_text}
 
+-- who owns a file, and what it is called
+abbrev pub titles_text : Props → List ℕ
+titles_text p = codes "owner " ++ p.owner ++ codes " name " ++ p.name
+
 -- the numbers of a file
 abbrev pub numbers_text : Props → List ℕ
 numbers_text p =
@@ -14,8 +18,11 @@ numbers_text p =
 abbrev pub access_text : Props → List ℕ
 access_text p = codes " read " ++ names_text p.read ++ codes " modify " ++ names_text p.modify
 
--- what a server holds whose files have these sizes
+-- the files of a server that have these sizes
+abbrev pub files_text : List ℕ → List ℕ
+files_text sizes = codes " files " ++ decimal (length sizes) ++ codes " pages " ++ decimal (sum sizes) ++ 10 ∷ []
+
+-- a server, and the files that it holds
 abbrev pub held_text : ℕ → ℕ → ℕ → List ℕ → List ℕ
 held_text server epoch clock sizes =
-    codes "server " ++ decimal server ++ codes " epoch " ++ decimal epoch ++ codes " clock " ++ decimal clock
-    ++ codes " files " ++ decimal (length sizes) ++ codes " pages " ++ decimal (sum sizes) ++ 10 ∷ []
+    codes "server " ++ decimal server ++ codes " epoch " ++ decimal epoch ++ codes " clock " ++ decimal clock ++ files_text sizes

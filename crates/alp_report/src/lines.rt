@@ -17,6 +17,7 @@ fn put_handed(out: &mut Vec<u8>, handed: &Option<Reply>) -> io::Result<()>
 }
 
 /// Appends what the last exchange was handed.
+#[tactic(auto, using(crate::proofs::TextLemmas::last_text))]
 fn put_last(out: &mut Vec<u8>, exchanges: &[Exchange]) -> io::Result<()>
     ensures { OnOk result (out.new.items ≡ out.old.items ++ exchanges_text exchanges.now) }
 {

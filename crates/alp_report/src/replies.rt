@@ -1,7 +1,7 @@
 //! Replies as text.
 ghost use Rattle.std.specs.Prelude.{◌≡◌, ◌∷◌, ◌++◌, OnOk, flat_map};
 ghost use Rattle.alp_report.specs.Replies.{stamp_text, names_text, props_text, owner_text, ended_text, reply_text};
-ghost use Rattle.alp_report.specs.Parts.{numbers_text, access_text};
+ghost use Rattle.alp_report.specs.Parts.{titles_text, numbers_text, access_text};
 
 use crate::pages::put_pages;
 use crate::refusals::put_refusal;
@@ -54,13 +54,20 @@ fn put_access(out: &mut Vec<u8>, of: &Props) -> io::Result<()>
     put_names(out, &of.modify)
 }
 
+fn put_titles(out: &mut Vec<u8>, of: &Props) -> io::Result<()>
+    ensures { OnOk result (out.new.items ≡ out.old.items ++ titles_text of.now) }
+{
+    write!(out, "owner ")?;
+    out.extend_from_slice(of.owner.as_bytes())?;
+    write!(out, " name ")?;
+    out.extend_from_slice(of.name.as_bytes())?;
+    Ok(())
+}
+
 fn put_props(out: &mut Vec<u8>, props: &Props) -> io::Result<()>
     ensures { OnOk result (out.new.items ≡ out.old.items ++ props_text props.now) }
 {
-    write!(out, "owner ")?;
-    out.extend_from_slice(props.owner.as_bytes())?;
-    write!(out, " name ")?;
-    out.extend_from_slice(props.name.as_bytes())?;
+    put_titles(out, props)?;
     put_numbers(out, props)?;
     put_access(out, props)
 }

@@ -1,7 +1,7 @@
 //! The whole report: the lines of the clients, and what the server holds in the end.
 ghost use Rattle.std.specs.Prelude.{◌≡◌, ◌++◌, OnOk, IfOk, sum, length};
 ghost use Rattle.alp_report.specs.Reports.{lines_text, summary_text, owner_line, owners_text, count_text};
-ghost use Rattle.alp_report.specs.Parts.{held_text};
+ghost use Rattle.alp_report.specs.Parts.{files_text, held_text};
 
 use crate::lines::put_lines;
 use alp_base::OutOfMemory;
@@ -32,12 +32,19 @@ fn total(sizes: &[u32]) -> u128
     total
 }
 
+fn put_files(out: &mut Vec<u8>, sizes: &[u32]) -> io::Result<()>
+    ensures { OnOk result (out.new.items ≡ out.old.items ++ files_text sizes.now) }
+{
+    let (files, pages) = (sizes.len(), total(sizes));
+    write!(out, " files {files} pages {pages}\n")
+}
+
 fn put_server(out: &mut Vec<u8>, summary: &Summary, sizes: &[u32]) -> io::Result<()>
     ensures { OnOk result (out.new.items ≡ out.old.items ++ held_text summary.now.server summary.now.epoch summary.now.clock sizes.now) }
 {
     let (server, epoch, clock) = (summary.server, summary.epoch, summary.clock);
-    let (files, pages) = (sizes.len(), total(sizes));
-    write!(out, "server {server} epoch {epoch} clock {clock} files {files} pages {pages}\n")
+    write!(out, "server {server} epoch {epoch} clock {clock}")?;
+    put_files(out, sizes)
 }
 
 fn put_owner_line(out: &mut Vec<u8>, server: u8, owner: &OwnerRecord) -> io::Result<()>
