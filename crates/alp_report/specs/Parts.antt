@@ -2,7 +2,9 @@
 use Rattle.std.specs.Prelude.{ℕ, List, [], ◌∷◌, ◌++◌, codes, length, sum}
 use Rattle.std.specs.Fmt.{decimal}
 use Rattle.alp_files.specs.declared.cell.Props.{Props}
+use Rattle.alp_files.specs.declared.cell.OwnerRecord.{OwnerRecord}
 use Rattle.alp_report.specs.Replies.{names_text}
+use Rattle.alp_report.specs.Reports.{owners_text, count_text}
 
 -- who owns a file, and what it is called
 abbrev pub titles_text : Props → List ℕ
@@ -26,3 +28,8 @@ files_text sizes = codes " files " ++ decimal (length sizes) ++ codes " pages " 
 abbrev pub held_text : ℕ → ℕ → ℕ → List ℕ → List ℕ
 held_text server epoch clock sizes =
     codes "server " ++ decimal server ++ codes " epoch " ++ decimal epoch ++ codes " clock " ++ decimal clock ++ files_text sizes
+
+-- the summary of a server whose files have these sizes and that has these owners
+abbrev pub end_text : ℕ → ℕ → ℕ → List ℕ → List OwnerRecord → ℕ → ℕ → List ℕ
+end_text server epoch clock sizes owners committed aborted =
+    held_text server epoch clock sizes ++ owners_text server owners ++ count_text committed aborted

@@ -1,7 +1,7 @@
 //! The whole report: the lines of the clients, and what the server holds in the end.
 ghost use Rattle.std.specs.Prelude.{◌≡◌, ◌++◌, OnOk, IfOk, sum, length};
 ghost use Rattle.alp_report.specs.Reports.{lines_text, summary_text, owner_line, owners_text, count_text};
-ghost use Rattle.alp_report.specs.Parts.{files_text, held_text};
+ghost use Rattle.alp_report.specs.Parts.{files_text, held_text, end_text};
 
 use crate::lines::put_lines;
 use alp_base::OutOfMemory;
@@ -72,16 +72,18 @@ fn put_count(out: &mut Vec<u8>, committed: u32, aborted: u32) -> io::Result<()>
 }
 
 fn put_summary(out: &mut Vec<u8>, summary: &Summary, sizes: &[u32], owners: &[OwnerRecord]) -> io::Result<()>
-    ensures {
-        OnOk result (out.new.items ≡ out.old.items
-            ++ held_text summary.now.server summary.now.epoch summary.now.clock sizes.now
-            ++ owners_text summary.now.server owners.now
-            ++ count_text summary.now.committed summary.now.aborted)
-    }
+    ensures { OnOk result (out.new.items ≡ out.old.items ++ end_text summary.now.server summary.now.epoch summary.now.clock sizes.now owners.now summary.now.committed summary.now.aborted) }
 {
     put_server(out, summary, sizes)?;
     put_owners(out, summary.server, owners)?;
     put_count(out, summary.committed, summary.aborted)
+}
+
+fn put_report(out: &mut Vec<u8>, lines: &[LineLog], summary: &Summary, sizes: &[u32], owners: &[OwnerRecord]) -> io::Result<()>
+    ensures { OnOk result (out.new.items ≡ out.old.items ++ (lines_text lines.now ++ end_text summary.now.server summary.now.epoch summary.now.clock sizes.now owners.now summary.now.committed summary.now.aborted)) }
+{
+    put_lines(out, lines)?;
+    put_summary(out, summary, sizes, owners)
 }
 
 /// The report of a run: a line for each line of the clients, and the summary.
@@ -94,11 +96,8 @@ pub fn report(alloc: Global, lines: &[LineLog], summary: &Summary) -> Result<Vec
     let sizes = summary.files.sizes(alloc)?;
     let owners = summary.files.owners(alloc)?;
     let mut out = Vec::new(alloc);
-    let Ok(()) = put_lines(&mut out, lines) else {
-        return Err(OutOfMemory);
-    };
-    let Ok(()) = put_summary(&mut out, summary, &sizes, &owners) else {
-        return Err(OutOfMemory);
-    };
-    Ok(out)
+    match put_report(&mut out, lines, summary, &sizes, &owners) {
+        Ok(()) => Ok(out),
+        Err(_) => Err(OutOfMemory),
+    }
 }
