@@ -1,3 +1,3 @@
 pub mod Replies
 pub mod Reports
-pub mod Parts
+pub mod Sections

@@ -6,5 +6,7 @@ mod pages;
 mod refusals;
 mod replies;
 mod summary;
+#[cfg(test)]
+mod tests;
 
 pub use summary::{Summary, report};

@@ -73,9 +73,11 @@ pub(crate) fn put_refusal(out: &mut Vec<u8>, refusal: Refusal) -> io::Result<()>
         Refusal::ReadOnlyOpen => write!(out, "9"),
         Refusal::AccessDenied { list } => write!(out, "10 {}", list_name(list)),
         Refusal::NoSuchPage { size } => write!(out, "11 size {size}"),
-        Refusal::QuotaExceeded { charge, asked, quota } => {
-            write!(out, "12 charge {charge} asked {asked} quota {quota}")
-        }
+        Refusal::QuotaExceeded {
+            charge,
+            asked,
+            quota,
+        } => { write!(out, "12 charge {charge} asked {asked} quota {quota}") }
         Refusal::VolumeFull { left, asked } => write!(out, "13 left {left} asked {asked}"),
         Refusal::LogFull { room, asked } => write!(out, "14 room {room} asked {asked}"),
         Refusal::TooMany { what, limit } => write!(out, "15 {} {limit}", what_name(what)),

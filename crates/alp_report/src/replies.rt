@@ -1,7 +1,7 @@
 //! Replies as text.
 ghost use Rattle.std.specs.Prelude.{◌≡◌, ◌∷◌, ◌++◌, OnOk, flat_map};
 ghost use Rattle.alp_report.specs.Replies.{stamp_text, names_text, props_text, owner_text, ended_text, reply_text};
-ghost use Rattle.alp_report.specs.Parts.{titles_text, numbers_text, access_text};
+ghost use Rattle.alp_report.specs.Sections.{titles_text, numbers_text, access_text};
 
 use crate::pages::put_pages;
 use crate::refusals::put_refusal;
@@ -41,8 +41,17 @@ fn put_names(out: &mut Vec<u8>, list: &AccessList) -> io::Result<()>
 fn put_numbers(out: &mut Vec<u8>, of: &Props) -> io::Result<()>
     ensures { OnOk result (out.new.items ≡ out.old.items ++ numbers_text of.now) }
 {
-    let (type_no, time, bytes, size, high) = (of.type_no, of.create_time, of.byte_length, of.size, of.high_water);
-    write!(out, " type {type_no} time {time} bytes {bytes} size {size} high {high}")
+    let (type_no, time, bytes, size, high) = (
+        of.type_no,
+        of.create_time,
+        of.byte_length,
+        of.size,
+        of.high_water,
+    );
+    write!(
+        out,
+        " type {type_no} time {time} bytes {bytes} size {size} high {high}"
+    )
 }
 
 fn put_access(out: &mut Vec<u8>, of: &Props) -> io::Result<()>

@@ -1,7 +1,7 @@
 //! The whole report: the lines of the clients, and what the server holds in the end.
 ghost use Rattle.std.specs.Prelude.{◌≡◌, ◌++◌, OnOk, IfOk, sum, length};
 ghost use Rattle.alp_report.specs.Reports.{lines_text, summary_text, owner_line, owners_text, count_text};
-ghost use Rattle.alp_report.specs.Parts.{files_text, held_text, end_text};
+ghost use Rattle.alp_report.specs.Sections.{files_text, held_text, end_text};
 
 use crate::lines::put_lines;
 use alp_base::OutOfMemory;
@@ -71,16 +71,29 @@ fn put_count(out: &mut Vec<u8>, committed: u32, aborted: u32) -> io::Result<()>
     write!(out, "committed {committed} aborted {aborted}\n")
 }
 
-fn put_summary(out: &mut Vec<u8>, summary: &Summary, sizes: &[u32], owners: &[OwnerRecord]) -> io::Result<()>
-    ensures { OnOk result (out.new.items ≡ out.old.items ++ end_text summary.now.server summary.now.epoch summary.now.clock sizes.now owners.now summary.now.committed summary.now.aborted) }
+fn put_summary(
+    out: &mut Vec<u8>,
+    summary: &Summary,
+    sizes: &[u32],
+    owners: &[OwnerRecord],
+) -> io::Result<()>
+    ensures { OnOk result (out.new.items ≡ out.old.items
+        ++ end_text summary.now.server summary.now.epoch summary.now.clock sizes.now owners.now summary.now.committed summary.now.aborted) }
 {
     put_server(out, summary, sizes)?;
     put_owners(out, summary.server, owners)?;
     put_count(out, summary.committed, summary.aborted)
 }
 
-fn put_report(out: &mut Vec<u8>, lines: &[LineLog], summary: &Summary, sizes: &[u32], owners: &[OwnerRecord]) -> io::Result<()>
-    ensures { OnOk result (out.new.items ≡ out.old.items ++ (lines_text lines.now ++ end_text summary.now.server summary.now.epoch summary.now.clock sizes.now owners.now summary.now.committed summary.now.aborted)) }
+fn put_report(
+    out: &mut Vec<u8>,
+    lines: &[LineLog],
+    summary: &Summary,
+    sizes: &[u32],
+    owners: &[OwnerRecord],
+) -> io::Result<()>
+    ensures { OnOk result (out.new.items ≡ out.old.items ++ (lines_text lines.now
+        ++ end_text summary.now.server summary.now.epoch summary.now.clock sizes.now owners.now summary.now.committed summary.now.aborted)) }
 {
     put_lines(out, lines)?;
     put_summary(out, summary, sizes, owners)
@@ -88,10 +101,8 @@ fn put_report(out: &mut Vec<u8>, lines: &[LineLog], summary: &Summary, sizes: &[
 
 /// The report of a run: a line for each line of the clients, and the summary.
 pub fn report(alloc: Global, lines: &[LineLog], summary: &Summary) -> Result<Vec<u8>, OutOfMemory>
-    ensures {
-        IfOk result (λ v. v.items ≡ lines_text lines.now
-            ++ summary_text summary.now.server summary.now.epoch summary.now.clock summary.now.files.now summary.now.committed summary.now.aborted)
-    }
+    ensures { IfOk result (λ v. v.items ≡ lines_text lines.now
+        ++ summary_text summary.now.server summary.now.epoch summary.now.clock summary.now.files.now summary.now.committed summary.now.aborted) }
 {
     let sizes = summary.files.sizes(alloc)?;
     let owners = summary.files.owners(alloc)?;

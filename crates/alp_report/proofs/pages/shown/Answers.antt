@@ -11,6 +11,6 @@ loop-len-preserved c =
 pub returns : goal.returns
 returns c =
     elim c.loop-len-test.branch [
-      then-loop-len-test+else-bytes-len-eq0 w ↦ sym (cut_last c.args.bytes.now c.loop-len.len w.loop-len-test.true c.loop-len.invariant.0 w.if-bytes-len-eq0.false) ∙ c.loop-len.invariant.1
-    | else-loop-len-test w ↦ let none : c.loop-len.len ≡ 0 = omega arith in shown_none c.args.bytes.now c.loop-len.len none ∙ c.loop-len.invariant.1
+      | then-loop-len-test+else-bytes-len-eq0 w ↦ sym (cut_last c.args.bytes.now c.loop-len.len w.loop-len-test.true c.loop-len.invariant.0 w.if-bytes-len-eq0.false) ∙ c.loop-len.invariant.1
+      | else-loop-len-test w ↦ let none : c.loop-len.len ≡ 0 = omega arith in shown_none c.args.bytes.now c.loop-len.len none ∙ c.loop-len.invariant.1
     ]

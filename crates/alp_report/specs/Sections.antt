@@ -1,4 +1,4 @@
--- Parts of the texts, as they are written.
+-- Sections of the texts, each written by one function.
 use Rattle.std.specs.Prelude.{ℕ, List, [], ◌∷◌, ◌++◌, codes, length, sum}
 use Rattle.std.specs.Fmt.{decimal}
 use Rattle.alp_files.specs.declared.cell.Props.{Props}
