@@ -1,7 +1,7 @@
 -- Joined names, and the last of a list.
-use Rattle.std.specs.Prelude.{flat_map, Option, Some, None, slice_get}
+use Rattle.std.specs.Prelude.{flat_map, Some, slice_get}
 use Rattle.std.specs.List.{join_with_byte}
-use Rattle.std.proofs.Common.{◌≡◌, ℕ, suc, zero, ◌+◌, ◌-◌, List, [], ◌∷◌, ◌++◌, length, refl, ap, sym, ◌∙◌, append-nil, arith}
+use Rattle.std.proofs.Common.{◌≡◌, ℕ, suc, zero, ◌+◌, ◌-◌, List, [], ◌∷◌, ◌++◌, length, ap, sym, append-nil, arith}
 use Rattle.alp_journal.specs.declared.log.Exchange.{Exchange}
 use Rattle.alp_report.specs.Reports.{handed_text, exchanges_text}
 

@@ -1,4 +1,4 @@
-use Rattle.std.proofs.Common.{◌≡◌, ℕ, ◌∷◌, ◌++◌, drop}
+use Rattle.std.proofs.Common.{◌≡◌, ◌++◌, drop}
 use Rattle.alp_report.specs.Reports.{lines_text}
 use Rattle.alp_report.proofs.lines.put_lines.Given as goal
 

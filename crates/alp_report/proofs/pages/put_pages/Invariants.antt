@@ -1,4 +1,4 @@
-use Rattle.std.proofs.Common.{◌≡◌, ℕ, ◌∷◌, ◌++◌, drop}
+use Rattle.std.proofs.Common.{◌≡◌, ◌++◌, drop}
 use Rattle.alp_report.specs.Replies.{pages_text}
 use Rattle.alp_report.proofs.pages.put_pages.Given as goal
 

@@ -1,4 +1,4 @@
-use Rattle.std.proofs.Common.{◌≡◌, ℕ, ◌≤◌, ◌-◌, length, sym, ◌∙◌, arith}
+use Rattle.std.proofs.Common.{◌≡◌, ◌≤◌, ◌-◌, length, sym, ◌∙◌, arith}
 use Rattle.alp_report.proofs.PageLemmas.{cut_zero, cut_last, shown_none}
 use Rattle.alp_report.proofs.pages.shown.Goals as goal
 use Rattle.alp_report.proofs.pages.shown.Goals.{then-loop-len-test+else-bytes-len-eq0, else-loop-len-test}

@@ -1,4 +1,4 @@
-use Rattle.std.proofs.Common.{◌≡◌, ℕ, ◌∷◌, ◌++◌, drop}
+use Rattle.std.proofs.Common.{◌≡◌, ◌++◌, drop}
 use Rattle.alp_report.specs.Reports.{owners_text}
 use Rattle.alp_report.proofs.summary.put_owners.Given as goal
 
