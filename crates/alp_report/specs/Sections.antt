@@ -4,7 +4,8 @@ use Rattle.std.specs.Fmt.{decimal}
 use Rattle.alp_files.specs.declared.cell.Props.{Props}
 use Rattle.alp_files.specs.declared.cell.OwnerRecord.{OwnerRecord}
 use Rattle.alp_report.specs.Replies.{names_text}
-use Rattle.alp_report.specs.Reports.{owners_text, count_text}
+use Rattle.alp_report.specs.Reports.{owners_text, count_text, summary_text}
+use Rattle.alp_report.specs.declared.summary.Summary.{Summary}
 
 -- who owns a file, and what it is called
 abbrev pub titles_text : Props → List ℕ
@@ -25,11 +26,14 @@ abbrev pub files_text : List ℕ → List ℕ
 files_text sizes = codes " files " ++ decimal (length sizes) ++ codes " pages " ++ decimal (sum sizes) ++ 10 ∷ []
 
 -- a server, and the files that it holds
-abbrev pub held_text : ℕ → ℕ → ℕ → List ℕ → List ℕ
-held_text server epoch clock sizes =
-    codes "server " ++ decimal server ++ codes " epoch " ++ decimal epoch ++ codes " clock " ++ decimal clock ++ files_text sizes
+abbrev pub held_text : Summary → List ℕ → List ℕ
+held_text s sizes =
+    codes "server " ++ decimal s.server ++ codes " epoch " ++ decimal s.epoch ++ codes " clock " ++ decimal s.clock ++ files_text sizes
 
--- the summary of a server whose files have these sizes and that has these owners
-abbrev pub end_text : ℕ → ℕ → ℕ → List ℕ → List OwnerRecord → ℕ → ℕ → List ℕ
-end_text server epoch clock sizes owners committed aborted =
-    held_text server epoch clock sizes ++ owners_text server owners ++ count_text committed aborted
+-- the summary, for files of these sizes and for these owners
+abbrev pub printed_with : Summary → List ℕ → List OwnerRecord → List ℕ
+printed_with s sizes owners = held_text s sizes ++ owners_text s.server owners ++ count_text s.committed s.aborted
+
+-- the summary of what a server holds
+abbrev pub printed : Summary → List ℕ
+printed s = summary_text s.server s.epoch s.clock s.files.now s.committed s.aborted

@@ -1,7 +1,7 @@
 //! The whole report: the lines of the clients, and what the server holds in the end.
 ghost use Rattle.std.specs.Prelude.{◌≡◌, ◌++◌, OnOk, IfOk, sum, length};
-ghost use Rattle.alp_report.specs.Reports.{lines_text, summary_text, owner_line, owners_text, count_text};
-ghost use Rattle.alp_report.specs.Sections.{files_text, held_text, end_text};
+ghost use Rattle.alp_report.specs.Reports.{lines_text, owner_line, owners_text, count_text};
+ghost use Rattle.alp_report.specs.Sections.{files_text, held_text, printed_with, printed};
 
 use crate::lines::put_lines;
 use alp_base::OutOfMemory;
@@ -40,7 +40,7 @@ fn put_files(out: &mut Vec<u8>, sizes: &[u32]) -> io::Result<()>
 }
 
 fn put_server(out: &mut Vec<u8>, summary: &Summary, sizes: &[u32]) -> io::Result<()>
-    ensures { OnOk result (out.new.items ≡ out.old.items ++ held_text summary.now.server summary.now.epoch summary.now.clock sizes.now) }
+    ensures { OnOk result (out.new.items ≡ out.old.items ++ held_text summary.now sizes.now) }
 {
     let (server, epoch, clock) = (summary.server, summary.epoch, summary.clock);
     write!(out, "server {server} epoch {epoch} clock {clock}")?;
@@ -77,8 +77,7 @@ fn put_summary(
     sizes: &[u32],
     owners: &[OwnerRecord],
 ) -> io::Result<()>
-    ensures { OnOk result (out.new.items ≡ out.old.items
-        ++ end_text summary.now.server summary.now.epoch summary.now.clock sizes.now owners.now summary.now.committed summary.now.aborted) }
+    ensures { OnOk result (out.new.items ≡ out.old.items ++ printed_with summary.now sizes.now owners.now) }
 {
     put_server(out, summary, sizes)?;
     put_owners(out, summary.server, owners)?;
@@ -92,8 +91,7 @@ fn put_report(
     sizes: &[u32],
     owners: &[OwnerRecord],
 ) -> io::Result<()>
-    ensures { OnOk result (out.new.items ≡ out.old.items ++ (lines_text lines.now
-        ++ end_text summary.now.server summary.now.epoch summary.now.clock sizes.now owners.now summary.now.committed summary.now.aborted)) }
+    ensures { OnOk result (out.new.items ≡ out.old.items ++ (lines_text lines.now ++ printed_with summary.now sizes.now owners.now)) }
 {
     put_lines(out, lines)?;
     put_summary(out, summary, sizes, owners)
@@ -101,8 +99,7 @@ fn put_report(
 
 /// The report of a run: a line for each line of the clients, and the summary.
 pub fn report(alloc: Global, lines: &[LineLog], summary: &Summary) -> Result<Vec<u8>, OutOfMemory>
-    ensures { IfOk result (λ v. v.items ≡ lines_text lines.now
-        ++ summary_text summary.now.server summary.now.epoch summary.now.clock summary.now.files.now summary.now.committed summary.now.aborted) }
+    ensures { IfOk result (λ v. v.items ≡ lines_text lines.now ++ printed summary.now) }
 {
     let sizes = summary.files.sizes(alloc)?;
     let owners = summary.files.owners(alloc)?;
