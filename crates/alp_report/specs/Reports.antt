@@ -1,5 +1,5 @@
 -- The text of a report: a line for each line of a client, and the summary.
-use Rattle.std.specs.Prelude.{ℕ, ◌+◌, ◌-◌, List, [], ◌∷◌, ◌++◌, codes, length, flat_map, sum, Option, None, Some}
+use Rattle.std.specs.Prelude.{ℕ, ◌-◌, List, [], ◌∷◌, ◌++◌, codes, length, flat_map, sum, Option, None, Some}
 use Rattle.std.specs.Fmt.{decimal}
 use Rattle.alp_files.specs.declared.cell.OwnerRecord.{OwnerRecord}
 use Rattle.alp_files.specs.declared.reply.Reply.{Reply}

@@ -1,0 +1,368 @@
+use crate::replies::put_reply;
+use crate::*;
+use alp_base::{AccessList, FileId, Key, Name, Page, PageList, PageRef, Stamp, TransId};
+use alp_files::{
+    Call, Cause, Cell, CellMap, Ended, ListName, OwnerRecord, Props, Refusal, Reply, What, Why,
+};
+use alp_journal::{Exchange, LineLog};
+use std::alloc::Global;
+use std::test::Fail;
+
+const TRANS: TransId = TransId {
+    server: 1,
+    epoch: 2,
+    counter: 34,
+};
+
+const STAMP: Stamp = Stamp {
+    ts: 567,
+    trans: TRANS,
+};
+
+const FILE: FileId = FileId {
+    server: 1,
+    epoch: 2,
+    counter: 3,
+};
+
+fn name(text: &[u8]) -> Result<Name, Fail> {
+    Ok(Name::parse(text).ok_or("a name")?)
+}
+
+// Of no names, of one or of two.
+fn list(alloc: Global, count: u8) -> Result<AccessList, Fail> {
+    let mut names = Vec::new(alloc);
+    if count > 0 {
+        names.push(name(b"ann")?)?;
+    }
+    if count > 1 {
+        names.push(name(b"World")?)?;
+    }
+    Ok(AccessList::new(names))
+}
+
+fn props(alloc: Global) -> Result<Props, Fail> {
+    Ok(Props {
+        owner: name(b"ann")?,
+        name: name(b"a.txt")?,
+        type_no: 7,
+        create_time: 18446744073709551615,
+        byte_length: 1000,
+        size: 4,
+        high_water: 2,
+        read: list(alloc, 2)?,
+        modify: list(alloc, 0)?,
+    })
+}
+
+fn owner(alloc: Global) -> Result<OwnerRecord, Fail> {
+    Ok(OwnerRecord {
+        name: name(b"ann")?,
+        quota: 10,
+        charge: 4,
+        create: list(alloc, 1)?,
+    })
+}
+
+fn prints(alloc: Global, reply: &Reply, want: &str) -> Result<bool, Fail> {
+    let mut out = Vec::new(alloc);
+    put_reply(&mut out, reply)?;
+    Ok(out.as_slice() == want.as_bytes())
+}
+
+#[test]
+fn replies(rt: HostRuntime) -> Result<(), Fail> {
+    let alloc = rt.alloc();
+    assert!(rt; prints(alloc, &Reply::Welcome { epoch: 9 }, "ok")?);
+    assert!(rt; prints(alloc, &Reply::Joined, "ok")?);
+    assert!(rt; prints(alloc, &Reply::Plain, "ok")?);
+    assert!(rt; prints(alloc, &Reply::Begun { trans: TRANS }, "ok trans 1.2.34")?);
+    assert!(rt;
+        prints(
+            alloc,
+            &Reply::Created {
+                file: FILE,
+                open_no: 1
+            },
+            "ok file 1.2.3 open 1"
+        )?
+    );
+    assert!(rt; prints(alloc, &Reply::Opened { open_no: 12 }, "ok open 12")?);
+    assert!(rt;
+        prints(
+            alloc,
+            &Reply::Committed { stamp: STAMP },
+            "ok stamp 567 1.2.34"
+        )?
+    );
+    Ok(())
+}
+
+#[test]
+fn outcomes(rt: HostRuntime) -> Result<(), Fail> {
+    let alloc = rt.alloc();
+    for (ended, want) in [
+        (Ended::Running, "ok running"),
+        (Ended::Committed { stamp: STAMP }, "ok committed 567 1.2.34"),
+        (Ended::Aborted, "ok aborted"),
+        (Ended::Unknown, "ok unknown"),
+    ] {
+        assert!(rt; prints(alloc, &Reply::Ended(ended), want)?, "{want}");
+    }
+    Ok(())
+}
+
+#[test]
+fn properties_and_owners(rt: HostRuntime) -> Result<(), Fail> {
+    let alloc = rt.alloc();
+    let file = Reply::Props(props(alloc)?);
+    let want =
+        "ok props owner ann name a.txt type 7 time 18446744073709551615 bytes 1000 size 4 high 2 read ann,World modify -";
+    assert!(rt; prints(alloc, &file, want)?);
+    let of_files = Reply::Owner(owner(alloc)?);
+    assert!(rt;
+        prints(
+            alloc,
+            &of_files,
+            "ok owner ann charge 4 quota 10 create ann"
+        )?
+    );
+    Ok(())
+}
+
+#[test]
+fn pages(rt: HostRuntime) -> Result<(), Fail> {
+    let alloc = rt.alloc();
+    let mut pages = Vec::new(alloc);
+    pages.push(PageRef::new(alloc, Page::zero())?)?;
+    for text in ["-", "--", "hello", "50% of\0a~!\x1f\x7f"] {
+        pages.push(PageRef::new(alloc, Page::beginning(text.as_bytes()))?)?;
+    }
+    pages.push(PageRef::new(alloc, Page::new([255; 512]))?)?;
+    let mut want = vec![in alloc]?;
+    want.extend_from_slice(b"ok - %2d -- hello 50%25%20of%00a~!%1f%7f ")?;
+    for _ in 0..512 {
+        want.extend_from_slice(b"%ff")?;
+    }
+    let mut out = Vec::new(alloc);
+    put_reply(&mut out, &Reply::Pages(PageList::new(pages)))?;
+    assert!(rt; out == want);
+    Ok(())
+}
+
+#[test]
+fn refusals_with_numbers_alone(rt: HostRuntime) -> Result<(), Fail> {
+    let alloc = rt.alloc();
+    for (refusal, want) in [
+        (Refusal::BadFrame, "refused 1"),
+        (Refusal::UnknownTrans, "refused 3"),
+        (Refusal::Finishing, "refused 4"),
+        (Refusal::UnknownOpen, "refused 5"),
+        (Refusal::UnknownFile, "refused 6"),
+        (Refusal::UnknownOwner, "refused 7"),
+        (Refusal::OwnerExists, "refused 8"),
+        (Refusal::ReadOnlyOpen, "refused 9"),
+        (Refusal::NotYet, "refused 18"),
+        (Refusal::ReadFault, "refused 19"),
+        (Refusal::Down, "refused 20"),
+        (Refusal::OutOfMemory, "refused 21"),
+        (Refusal::JournalFull, "refused 22"),
+    ] {
+        assert!(rt; prints(alloc, &Reply::Refused(refusal), want)?, "{want}");
+    }
+    Ok(())
+}
+
+#[test]
+fn refusals_with_fields(rt: HostRuntime) -> Result<(), Fail> {
+    let alloc = rt.alloc();
+    for (refusal, want) in [
+        (Refusal::StaleSession { epoch: 3 }, "refused 2 epoch 3"),
+        (
+            Refusal::AccessDenied {
+                list: ListName::Read,
+            },
+            "refused 10 read",
+        ),
+        (
+            Refusal::AccessDenied {
+                list: ListName::Modify,
+            },
+            "refused 10 modify",
+        ),
+        (
+            Refusal::AccessDenied {
+                list: ListName::Create,
+            },
+            "refused 10 create",
+        ),
+        (
+            Refusal::AccessDenied {
+                list: ListName::Admin,
+            },
+            "refused 10 admin",
+        ),
+        (Refusal::NoSuchPage { size: 4 }, "refused 11 size 4"),
+        (
+            Refusal::QuotaExceeded {
+                charge: 4,
+                asked: 7,
+                quota: 10,
+            },
+            "refused 12 charge 4 asked 7 quota 10",
+        ),
+        (
+            Refusal::VolumeFull { left: 5, asked: 6 },
+            "refused 13 left 5 asked 6",
+        ),
+        (
+            Refusal::LogFull { room: 8, asked: 9 },
+            "refused 14 room 8 asked 9",
+        ),
+        (
+            Refusal::TooMany {
+                what: What::Transactions,
+                limit: 255,
+            },
+            "refused 15 Transactions 255",
+        ),
+        (
+            Refusal::LockConflict { holder: TRANS },
+            "refused 16 holder 1.2.34",
+        ),
+    ] {
+        assert!(rt; prints(alloc, &Reply::Refused(refusal), want)?, "{want}");
+    }
+    Ok(())
+}
+
+#[test]
+fn causes_of_aborts(rt: HostRuntime) -> Result<(), Fail> {
+    let alloc = rt.alloc();
+    for (cause, want) in [
+        (Cause::Asked, "refused 17 Asked"),
+        (Cause::TimedOut, "refused 17 TimedOut"),
+        (
+            Cause::Voted {
+                server: 2,
+                why: Why::UnknownJoin,
+            },
+            "refused 17 Voted 2 UnknownJoin",
+        ),
+        (
+            Cause::Voted {
+                server: 2,
+                why: Why::Waiting,
+            },
+            "refused 17 Voted 2 Waiting",
+        ),
+        (
+            Cause::Voted {
+                server: 2,
+                why: Why::LogFull { room: 3, asked: 4 },
+            },
+            "refused 17 Voted 2 LogFull 3 4",
+        ),
+        (
+            Cause::Voted {
+                server: 2,
+                why: Why::ReadFault,
+            },
+            "refused 17 Voted 2 ReadFault",
+        ),
+        (
+            Cause::Voted {
+                server: 2,
+                why: Why::ClockEnd,
+            },
+            "refused 17 Voted 2 ClockEnd",
+        ),
+        (Cause::Lost { epoch: 5 }, "refused 17 Lost 5"),
+    ] {
+        assert!(rt;
+            prints(alloc, &Reply::Refused(Refusal::Aborted { cause }), want)?,
+            "{want}"
+        );
+    }
+    Ok(())
+}
+
+#[test]
+fn what_there_is_too_much_of(rt: HostRuntime) -> Result<(), Fail> {
+    let alloc = rt.alloc();
+    for (what, want) in [
+        (What::Run, "refused 15 Run 1"),
+        (What::Pages, "refused 15 Pages 1"),
+        (What::Opens, "refused 15 Opens 1"),
+        (What::Cells, "refused 15 Cells 1"),
+        (What::Locks, "refused 15 Locks 1"),
+        (What::Files, "refused 15 Files 1"),
+        (What::Owners, "refused 15 Owners 1"),
+    ] {
+        assert!(rt;
+            prints(
+                alloc,
+                &Reply::Refused(Refusal::TooMany { what, limit: 1 }),
+                want
+            )?,
+            "{want}"
+        );
+    }
+    Ok(())
+}
+
+// A call that was handed the reply.
+fn exchange(reply: Option<Reply>) -> Exchange {
+    Exchange {
+        server: 1,
+        epoch: 2,
+        number: 1,
+        call: Call::Begin { seen: STAMP },
+        reply,
+        place: None,
+    }
+}
+
+fn line(alloc: Global, number: u32, replies: Vec<Option<Reply>>) -> Result<LineLog, Fail> {
+    let mut exchanges = Vec::new(alloc);
+    for reply in replies {
+        exchanges.push(exchange(reply))?;
+    }
+    Ok(LineLog {
+        line: number,
+        client: 1,
+        exchanges,
+    })
+}
+
+#[test]
+fn a_run(rt: HostRuntime) -> Result<(), Fail> {
+    let alloc = rt.alloc();
+    let mut files = CellMap::new(alloc);
+    files.put(Key::Leader(FILE), Cell::Leader(props(alloc)?))?;
+    files.put(Key::OwnerOf(name(b"ann")?), Cell::Owner(owner(alloc)?))?;
+    let mut lines = Vec::new(alloc);
+    lines.push(line(
+        alloc,
+        3,
+        vec![in alloc;
+            Some(Reply::Welcome { epoch: 2 }),
+            Some(Reply::Begun { trans: TRANS }),
+        ]?,
+    )?)?;
+    lines.push(line(alloc, 4, vec![in alloc; None]?)?)?;
+    lines.push(line(alloc, 10, Vec::new(alloc))?)?;
+    let summary = Summary {
+        server: 1,
+        epoch: 2,
+        clock: 567,
+        files: &files,
+        committed: 8,
+        aborted: 9,
+    };
+    let text = report(alloc, &lines, &summary)?;
+    let want =
+        "3 ok trans 1.2.34\n4 silent\n10 none\nserver 1 epoch 2 clock 567 files 1 pages 4\nowner 1 ann charge 4 quota 10\ncommitted 8 aborted 9\n";
+    assert!(rt; text.as_slice() == want.as_bytes());
+    Ok(())
+}
