@@ -3,3 +3,5 @@ pub mod KeptLemmas
 pub mod MapLemmas
 pub mod StepLemmas
 pub mod RunLemmas
+pub mod StreamLemmas
+pub mod EndLemmas

@@ -1,5 +1,5 @@
 -- A run that has played some lines of a script, and a log that it left.
-use Rattle.std.specs.Prelude.{◌≡◌, ℕ, ◌+◌, ◌*◌, ◌≤◌, List, [], ◌∷◌, ◌++◌, length, is_some, Bool}
+use Rattle.std.specs.Prelude.{◌≡◌, ℕ, ◌+◌, ◌-◌, ◌*◌, ◌≤◌, List, [], ◌∷◌, ◌++◌, length, is_some, Bool, map as list_map}
 use Rattle.std.specs.FinMap as map
 use Rattle.alp_journal.specs.declared.log.LineLog.{LineLog}
 use Rattle.alp_journal.specs.declared.log.Opening.{Opening}
@@ -10,7 +10,9 @@ use Rattle.alp_top.specs.declared.client.Client.{Client}
 use Rattle.alp_top.specs.declared.node.Node.{Node}
 use Rattle.alp_top.specs.Nodes.{IsKept}
 use Rattle.alp_top.specs.Clients.{new_client}
-use Rattle.alp_top.specs.Plays.{Plays, AreRecorded, exchanges_of}
+use Rattle.alp_journal.specs.declared.entry.Entry.{Entry}
+use Rattle.alp_report.specs.Reports.{lines_text, summary_text}
+use Rattle.alp_top.specs.Plays.{Plays, AreRecorded, exchanges_of, ends_of}
 use Rattle.alp_top.specs.Steps.{InStep}
 
 -- the lines so far, played on a server that was opened so
@@ -34,3 +36,17 @@ pub record IsNewOpening (o : Opening) : Type 0 where
   pub epoch : o.epoch ≡ 1
   pub clock : o.clock ≡ 0
   pub cells : o.cells.value ≡ map.empty
+
+-- the lines played, and a transaction that still ran at the end is over
+pub record HasSettled (lines : List NumberedLine) (c : Client) (n : Node) (logs : List LineLog) : Type 0 where
+  pub kept : IsKept n
+  pub calls : List Entry
+  pub ends : List Entry
+  pub plays : Plays new_client lines logs c
+  pub journal : n.journal ≡ calls ++ ends
+  pub recorded : AreRecorded 0 (exchanges_of logs) calls
+  pub ended : list_map (λ e. e.event) ends ≡ ends_of c.trans
+
+-- the report by what the server keeps
+abbrev pub told_of : Node → List LineLog → List ℕ
+told_of n logs = lines_text logs ++ summary_text n.opening.server n.opening.epoch n.clock n.files n.committed (n.trans_count - n.committed)

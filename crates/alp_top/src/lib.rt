@@ -2,8 +2,14 @@
 #![tactic(auto)]
 
 mod client;
+mod finish;
 mod node;
 mod play;
+mod run;
+mod status;
+mod write_all;
 
 pub use client::Client;
 pub use node::Node;
+pub use run::run_alpine;
+pub use status::{Status, status_text};

@@ -1,0 +1,24 @@
+-- What holds of a run: the promise that the top call makes.
+use Rattle.std.specs.Prelude.{◌≡◌, ℕ, List, Option}
+use Rattle.alp_journal.specs.declared.log.RunLog.{RunLog}
+use Rattle.alp_journal.specs.Serial.{IsOneThread}
+use Rattle.alp_script.specs.declared.numbered.NumberedLine.{NumberedLine}
+use Rattle.alp_script.specs.Reading.{GaveScript}
+use Rattle.alp_top.specs.Plays.{IsFaithful}
+use Rattle.alp_top.specs.Runs.{IsNewOpening}
+
+-- a run of these lines that left this log
+pub record IsRun (lines : List NumberedLine) (log : RunLog) : Type 0 where
+  -- the server was a new one
+  pub opening : IsNewOpening log.opening
+  -- the calls are the script's and nothing else happened; what a client was handed is what the journal says
+  pub faithful : IsFaithful lines log
+  -- the decided transactions, in the order of their stamps, are one thread's history: it gives every reply as given and
+  -- ends in what the server holds
+  pub serial : IsOneThread log
+
+-- the headline: the source gave a script, and the log is of a run of it
+pub record IsPlayed (old new : Option (List ℕ)) (log : RunLog) : Type 0 where
+  pub lines : List NumberedLine
+  pub script : GaveScript old new lines
+  pub run : IsRun lines log
