@@ -1,6 +1,6 @@
 -- a run that is over is one thread's history
 use Rattle.std.specs.Prelude.{map as list_map}
-use Rattle.std.proofs.Common.{◌≡◌, ℕ, List, sym, ◌∙◌, ap, subst}
+use Rattle.std.proofs.Common.{◌≡◌, List, sym, ◌∙◌, ap, subst}
 use Rattle.alp_base.specs.declared.ids.Stamp.{Stamp}
 use Rattle.alp_files.specs.History.{Decided, IsSerial, serial_end, starting}
 use Rattle.alp_journal.specs.declared.entry.Entry.{Entry}
@@ -12,7 +12,7 @@ use Rattle.alp_script.specs.declared.numbered.NumberedLine.{NumberedLine}
 use Rattle.alp_top.specs.declared.client.Client.{Client}
 use Rattle.alp_top.specs.declared.node.Node.{Node}
 use Rattle.alp_top.specs.Nodes.{IsKept, kept_state}
-use Rattle.alp_top.specs.Plays.{AreRecorded, exchanges_of, ranks_from}
+use Rattle.alp_top.specs.Plays.{ranks_from}
 use Rattle.alp_top.specs.Runs.{HasSettled, IsNewOpening}
 use Rattle.alp_top.specs.Headline.{IsRun}
 
@@ -21,7 +21,7 @@ one_thread : (n : Node) (log : RunLog) → IsKept n → log.opening ≡ n.openin
 one_thread n log (life, ds, k) e f =
     let ended : List Decided = list_map (λ (x : Stamp × Decided). x.1) ds in
     let is : final log ≡ kept_state n life ds =
-        ap (λ (o : Opening). state_after next (opened o) log.journal) e ∙ ap (λ (js : List Entry). state_after next (opened n.opening) js) f ∙ k.state in
+    ap (λ (o : Opening). state_after next (opened o) log.journal) e ∙ ap (λ (js : List Entry). state_after next (opened n.opening) js) f ∙ k.state in
     record {
       replies =
           subst (λ (s : State). IsSerial log.opening.server (starting (start_of log)) (in_order s)) (sym is)

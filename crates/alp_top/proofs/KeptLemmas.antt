@@ -1,8 +1,8 @@
 -- a server stays what its journal says
-use Rattle.std.specs.Prelude.{cond, Bool, true, false, not, ◌&&◌, ◌==◌, max, Option, None, Some, map as list_map}
+use Rattle.std.specs.Prelude.{cond, Bool, true, false, ◌==◌, max, Option, None, Some, map as list_map}
 use Rattle.std.specs.FinMap as map
 use Rattle.std.specs.FinMap.Entries.{put}
-use Rattle.std.proofs.Common.{◌≡◌, ℕ, ◌+◌, ◌<◌, ◌≤◌, List, [], ◌∷◌, ◌++◌, length, refl, sym, ◌∙◌, ap, subst, eq-eqb, arith, length-append}
+use Rattle.std.proofs.Common.{◌≡◌, ℕ, ◌+◌, ◌≤◌, List, [], ◌∷◌, ◌++◌, length, refl, sym, ◌∙◌, ap, subst, eq-eqb, arith, length-append}
 use Rattle.alp_base.specs.declared.ids.TransId.{TransId}
 use Rattle.alp_base.specs.declared.ids.Stamp.{Stamp}
 use Rattle.alp_files.specs.declared.call.Call.{Call}
@@ -23,7 +23,7 @@ use Rattle.alp_files.specs.Cells.{has_file}
 use Rattle.alp_files.specs.Born.{IsUnborn, AreBelow, count_after}
 use Rattle.alp_files.proofs.HistoryLemmas.{AreRight-push, steps-push, IsSerial-push, serial_end-push, edits_map-append, get-edits_map, same_cells, fresh_id, AreBelow-more}
 use Rattle.alp_files.proofs.BornLemmas.{unborn_kept, unborn_more}
-use Rattle.alp_files.specs.History.{Done, Standing, Decided, AreRight, answer_to, step, steps, begun, IsSerial, serial_end, starting}
+use Rattle.alp_files.specs.History.{Done, Standing, Decided, answer_to, step, steps, begun, IsSerial, serial_end, starting}
 use Rattle.alp_journal.specs.declared.log.Opening.{Opening}
 use Rattle.alp_journal.specs.declared.act.Act.{Act}
 use Rattle.alp_journal.specs.declared.act.Act.TheVariants as act
@@ -35,7 +35,7 @@ use Rattle.alp_journal.specs.State as state
 use Rattle.alp_top.specs.declared.node.Node.{Node}
 use Rattle.alp_top.specs.declared.node.Live.{Live}
 use Rattle.alp_top.specs.declared.node.Session.{Session}
-use Rattle.alp_top.specs.Nodes.{state_of, sessions_of, lives_of, kept_state, standing_after, AreEarlier, IsLife, OnLife, OpensWithin, CallsWithin, AreCounted, IsKeptAs, IsKept, IsNext, IsRunning}
+use Rattle.alp_top.specs.Nodes.{sessions_of, lives_of, kept_state, standing_after, IsLife, OnLife, OpensWithin, CallsWithin, IsKeptAs}
 use Rattle.alp_top.proofs.StateLemmas.{state_after-push, same_trans-itself, cond_twice, cond_itself, called-next, called-begin, does_call-performs, put-last, AreEarlier-push, IsQuiet}
 
 pub entry_of : Event → Option Reply → List Act → Entry

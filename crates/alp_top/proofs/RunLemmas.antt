@@ -1,6 +1,6 @@
 -- a run that goes on by one line
-use Rattle.std.specs.Prelude.{cond, true, false, not, ◌&&◌, Bool, Option, None, Some, is_some, IsSome, map as list_map, flat_map}
-use Rattle.std.proofs.Common.{◌≡◌, ℕ, ◌+◌, ◌*◌, ◌≤◌, List, [], ◌∷◌, ◌++◌, length, refl, sym, ◌∙◌, ap, subst, arith, append_assoc, append-nil, length-append, take, drop, get_or, ◌<◌, zero, suc}
+use Rattle.std.specs.Prelude.{cond, true, false, not, ◌&&◌, Bool, Option, None, Some, is_some, IsSome, map as list_map}
+use Rattle.std.proofs.Common.{◌≡◌, ℕ, ◌+◌, List, [], ◌∷◌, ◌++◌, length, refl, sym, ◌∙◌, ap, subst, arith, append_assoc, append-nil, length-append, take, drop, get_or, ◌<◌, zero, suc}
 use Rattle.std.specs.List.{AllByRecursion}
 use Rattle.std.proofs.lemmas.Bool.{eqb-true}
 use Rattle.std.proofs.lemmas.List.{take_more}
@@ -17,8 +17,7 @@ use Rattle.alp_script.specs.Forms.{IsForm, servers, client, begin, owner, create
 use Rattle.alp_script.specs.Named.{client_named, server_named}
 use Rattle.alp_script.specs.Known.{Known}
 use Rattle.alp_script.specs.Words.{when}
-use Rattle.alp_script.specs.Order.{next, after, is_declared, is_one, names_ours, is_owner, after_servers, after_client, after_begin, after_owner, after_create, after_run, after_commit}
-use Rattle.alp_script.specs.Accepted.{LeadsFrom}
+use Rattle.alp_script.specs.Order.{next, after, is_declared, is_one, names_ours, after_servers, after_client, after_begin, after_owner, after_create, after_run, after_commit}
 use Rattle.alp_top.specs.declared.client.Client.{Client}
 use Rattle.alp_top.specs.declared.node.Node.{Node}
 use Rattle.alp_top.specs.Clients.{new_client}

@@ -26,8 +26,8 @@ use Rattle.std.specs.Ordering.{is_lt}
 use Rattle.alp_journal.specs.State.{stamp_cmp}
 use Rattle.alp_journal.specs.declared.log.Opening.{Opening}
 use Rattle.alp_top.specs.Props.{later}
-use Rattle.alp_top.specs.Clients.{Frame, frame_in, hears, hears_in, Exchanges, at_line, declares, call_of, call_in, call_with, told_reply, told_refusal}
-use Rattle.alp_top.specs.Steps.{InStep, SameSession, SameTrans, IsExpected, StartsIdle, IsOwn, Goes, Became, Exchanged, Did, Adds, TransAfter, TransBy}
+use Rattle.alp_top.specs.Clients.{frame_in, hears, hears_in, Exchanges, at_line, declares, call_of, call_in, call_with, told_reply, told_refusal}
+use Rattle.alp_top.specs.Steps.{InStep, SameSession, SameTrans, IsExpected, StartsIdle, IsOwn, Goes, Became, Exchanged, Did, Adds, TransAfter}
 use Rattle.std.specs.Option.{option_map}
 use Rattle.alp_journal.specs.declared.entry.Entry.{Entry}
 use Rattle.alp_journal.specs.declared.log.Exchange.{Exchange}

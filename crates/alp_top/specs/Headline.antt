@@ -1,5 +1,5 @@
 -- What holds of a run: the promise that the top call makes.
-use Rattle.std.specs.Prelude.{◌≡◌, ℕ, List, Option}
+use Rattle.std.specs.Prelude.{ℕ, List, Option}
 use Rattle.alp_journal.specs.declared.log.RunLog.{RunLog}
 use Rattle.alp_journal.specs.Serial.{IsOneThread}
 use Rattle.alp_script.specs.declared.numbered.NumberedLine.{NumberedLine}

@@ -1,19 +1,15 @@
 -- What a server keeps is what its journal says, and what its journal says is one thread's history.
-use Rattle.std.specs.Prelude.{◌≡◌, ℕ, ◌+◌, ◌-◌, ◌<◌, ◌≤◌, ◌^◌, Bool, ◌==◌, List, [], ◌∷◌, ◌++◌, length, map as list_map, Option, None, Some, if◌then◌else◌}
+use Rattle.std.specs.Prelude.{◌≡◌, ℕ, ◌+◌, ◌<◌, ◌≤◌, ◌==◌, List, [], ◌∷◌, ◌++◌, length, map as list_map, Option, None, Some, if◌then◌else◌}
 use Rattle.std.specs.FinMap as map
 use Rattle.alp_base.specs.declared.ids.TransId.{TransId}
-use Rattle.alp_base.specs.declared.ids.FileId.{FileId}
 use Rattle.alp_base.specs.declared.ids.Stamp.{Stamp}
-use Rattle.alp_files.specs.declared.call.Call.{Call}
 use Rattle.alp_files.specs.declared.reply.Reply.{Reply}
-use Rattle.alp_files.specs.Cells.{Cells, View}
+use Rattle.alp_files.specs.Cells.{Cells}
 use Rattle.alp_files.specs.Edits.{edits_map}
-use Rattle.alp_files.specs.Act.{Own, no_opens}
 use Rattle.alp_files.specs.Parts.{seen, own_of}
 use Rattle.alp_files.specs.Born.{IsUnborn, AreBelow}
-use Rattle.alp_files.specs.History.{Done, Standing, Decided, AreRight, steps, begun, IsSerial, serial_end, starting}
+use Rattle.alp_files.specs.History.{Standing, Decided, AreRight, steps, begun, IsSerial, serial_end, starting}
 use Rattle.alp_journal.specs.declared.log.Opening.{Opening}
-use Rattle.alp_journal.specs.declared.entry.Entry.{Entry}
 use Rattle.alp_journal.specs.declared.event.Event.{Event}
 use Rattle.alp_journal.specs.declared.act.Act.{Act}
 use Rattle.alp_journal.specs.State.{State, Life, next, state_after, opened, same_trans}

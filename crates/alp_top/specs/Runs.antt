@@ -1,5 +1,5 @@
 -- A run that has played some lines of a script, and a log that it left.
-use Rattle.std.specs.Prelude.{◌≡◌, ℕ, ◌+◌, ◌-◌, ◌*◌, ◌≤◌, List, [], ◌∷◌, ◌++◌, length, is_some, Bool, map as list_map}
+use Rattle.std.specs.Prelude.{◌≡◌, ℕ, ◌-◌, ◌*◌, ◌≤◌, List, ◌++◌, length, is_some, map as list_map}
 use Rattle.std.specs.FinMap as map
 use Rattle.alp_journal.specs.declared.log.LineLog.{LineLog}
 use Rattle.alp_journal.specs.declared.log.Opening.{Opening}

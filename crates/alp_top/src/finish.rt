@@ -78,7 +78,9 @@ pub fn finish(alloc: Global, run: Run) -> Result<Ended, OutOfMemory>
         lines,
     } = run;
     let Node {
-        opening, journal, ..
+        opening,
+        journal,
+        ..
     } = node;
     Ok(Ended {
         log: RunLog {

@@ -13,3 +13,6 @@ pub use client::Client;
 pub use node::Node;
 pub use run::run_alpine;
 pub use status::{Status, status_text};
+
+#[cfg(test)]
+mod tests;

@@ -1,5 +1,4 @@
-use Rattle.std.specs.Prelude.{Some, Option}
-use Rattle.std.proofs.Common.{◌≡◌, ℕ, ◌+◌, List, [], ◌∷◌, ◌++◌, length, refl, ap, sym, ◌∙◌, rules}
+use Rattle.std.proofs.Common.{◌≡◌, ◌+◌, List, length, refl, ap}
 use Rattle.alp_journal.specs.declared.entry.Entry.{Entry}
 use Rattle.alp_top.proofs.StepLemmas.{expected_own, exchanged}
 use Rattle.alp_top.proofs.play.send.Goals as goal

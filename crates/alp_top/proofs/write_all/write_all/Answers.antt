@@ -1,4 +1,4 @@
-use Rattle.std.proofs.Common.{◌≡◌, ◌+◌, ◌≤◌, ℕ, List, length, take, drop, arith, length-drop}
+use Rattle.std.proofs.Common.{arith, length-drop}
 use Rattle.alp_top.proofs.StreamLemmas.{appended_slice}
 use Rattle.alp_top.proofs.write_all.write_all.Goals as goal
 

@@ -1,5 +1,5 @@
 use Rattle.std.specs.FinMap as map
-use Rattle.std.proofs.Common.{◌≡◌, ap, sym, ◌∙◌}
+use Rattle.std.proofs.Common.{ap, ◌∙◌}
 use Rattle.alp_top.specs.Maps.{WordMap}
 use Rattle.alp_files.proofs.TreeLemmas.{put_at}
 use Rattle.alp_top.proofs.MapLemmas.{nat_list_cmp_total, exact_bytes}

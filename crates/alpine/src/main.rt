@@ -1,0 +1,37 @@
+//! The program `alpine`: the script on standard input, the report on standard output.
+#![tactic(auto)]
+
+use alp_base::{ReadSource, WriteSink};
+use alp_top::{Status, run_alpine, status_text};
+use std::process::ExitCode;
+use std::{env, io};
+
+// The words after the program's name.
+fn words(rt: &HostRuntime) -> io::Result<Vec<String>> {
+    let mut words = Vec::new(rt.alloc());
+    for word in env::args(rt)?.skip(1) {
+        words.push(word)?;
+    }
+    Ok(words)
+}
+
+fn run(rt: &HostRuntime) -> Status {
+    let words = match words(rt) {
+        Ok(words) => words,
+        Err(e) if e.kind() == io::ErrorKind::OutOfMemory => return Status::OutOfMemory,
+        Err(_) => return Status::BadWords,
+    };
+    let mut script = ReadSource::new(rt.stdin());
+    let mut out = WriteSink::new(rt.stdout());
+    run_alpine(rt.alloc(), &words, &mut script, &mut out)
+}
+
+fn main(rt: HostRuntime) -> ExitCode {
+    let status = run(&rt);
+    if let Ok(text) = status_text(rt.alloc(), &status) {
+        if !text.is_empty() {
+            let _ = eprintln!(rt; "{text}");
+        }
+    }
+    ExitCode::from(status.code())
+}
