@@ -44,6 +44,15 @@ impl<D: Disk> Fuse<D> {
     {
         self.inner
     }
+
+    fn stop(&mut self) -> Result<(), Halt>
+        ensures spent { allowance_of self.new ≡ Spent }
+        ensures inner { inner_of self.new ≡ inner_of self.old }
+        ensures stopped { result ≡ Err Stopped }
+    {
+        self.allowance = Allowance::Spent;
+        Err(Halt::Stopped)
+    }
 }
 
 impl<D: Disk> Disk for Fuse<D> {
@@ -124,8 +133,7 @@ impl<D: Disk> Disk for Fuse<D> {
             Allowance::Spent => Err(Halt::Stopped),
             Allowance::Left(0) => {
                 let _ = self.inner.write(at, offset, bytes);
-                self.allowance = Allowance::Spent;
-                Err(Halt::Stopped)
+                self.stop()
             }
             Allowance::Left(calls) => {
                 self.allowance = Allowance::Left(calls - 1);
@@ -153,10 +161,7 @@ impl<D: Disk> Disk for Fuse<D> {
         match self.allowance {
             Allowance::Free => self.inner.sync(),
             Allowance::Spent => Err(Halt::Stopped),
-            Allowance::Left(0) => {
-                self.allowance = Allowance::Spent;
-                Err(Halt::Stopped)
-            }
+            Allowance::Left(0) => self.stop(),
             Allowance::Left(calls) => {
                 self.allowance = Allowance::Left(calls - 1);
                 self.inner.sync()

@@ -31,11 +31,12 @@ pub struct MemDisk {
 }
 
 impl MemDisk {
-    ghost use Rattle.alp_disk.specs.MemDisk.{stable_of, pending_of, calls_of, fails_of, faults_of};
+    ghost use Rattle.alp_disk.specs.MemDisk.{stable_of, pending_of, page_count, calls_of, fails_of, faults_of};
 
     /// A disk that reads as zeros.
     pub fn new(alloc: Global, pages: u32, fails: Vec<u64>) -> Result<MemDisk, OutOfMemory>
         ensures zeros { IfOk result (λ disk. stable_of disk ≡ replicate pages zero_page) }
+        ensures size { IfOk result (λ disk. page_count disk ≡ pages) }
         ensures synced { IfOk result (λ disk. pending_of disk ≡ []) }
         ensures calls { IfOk result (λ disk. calls_of disk ≡ 0) }
         ensures fails { IfOk result (λ disk. fails_of disk ≡ fails.items) }
