@@ -1,5 +1,5 @@
 -- How a run of calls goes on.
-use Rattle.std.proofs.Common.{◌≡◌, ◌⊎◌, ◌≤◌, inl, inr, ⊎_elim, ℕ, refl, arith}
+use Rattle.std.proofs.Common.{inl, inr, ⊎_elim, arith}
 use Rattle.alp_disk.specs.Disk.{Image, Adds, LeavesOnly, Spends}
 use Rattle.alp_disk.specs.declared.allowance.Allowance.{Allowance}
 use Rattle.alp_disk.specs.declared.allowance.Allowance.TheVariants.{Free, Left, Spent}

@@ -1,5 +1,5 @@
 -- A disk that tells nothing.
-use Rattle.std.specs.Prelude.{◌≡◌, false, IsTrue}
+use Rattle.std.specs.Prelude.{false, IsTrue}
 use Rattle.std.proofs.Common.{sym, refl}
 use Rattle.std.proofs.lemmas.Bool.{eqb-false}
 

@@ -1,5 +1,5 @@
 -- What a fuse shows, and how a changing call burns its allowance.
-use Rattle.std.specs.Prelude.{ℕ, ◌-◌, ◌==◌, if◌then◌else◌}
+use Rattle.std.specs.Prelude.{◌-◌, ◌==◌, if◌then◌else◌}
 use Rattle.alp_disk.specs.declared.allowance.Allowance.{Allowance}
 use Rattle.alp_disk.specs.declared.allowance.Allowance.TheVariants.{Free, Left, Spent}
 use Rattle.alp_disk.specs.declared.disk.Disk.{Ghosts}

@@ -1,5 +1,5 @@
 -- What is read is one of the outcomes of a crash. These laws stand here because the disk's own laws cite them.
-use Rattle.std.proofs.Common.{◌≡◌, ℕ, ◌+◌, ◌≤◌, List, [], ◌∷◌, length, inl, inr, refl, sym, subst, arith, length-take}
+use Rattle.std.proofs.Common.{◌≡◌, ℕ, List, [], ◌∷◌, length, inl, inr, refl, sym, subst, arith, length-take}
 use Rattle.std.proofs.lemmas.Bool.{cases_lt}
 use Rattle.alp_disk.specs.Disk.{Image, IsImage, with_bytes, Torn}
 use Rattle.alp_disk.specs.Images.{is_image-with_bytes, torn-with_bytes, with_bytes-past, torn_same}

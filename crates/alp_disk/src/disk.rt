@@ -100,6 +100,9 @@ pub trait Disk: Drop {
     /// So is each outcome of a crash.
     ghost are_images: { (disk : Self) (c : Image) → may_leave disk c → IsImage (size disk) c };
 
+    /// And each that there might have been.
+    ghost were_images: { (start : Self) (disk : Self) (c : Image) → left_since start disk c → IsImage (size disk) c };
+
     /// A disk as it reads is one of its outcomes.
     ghost as_read: { (disk : Self) → IsTrue (tells disk) → may_leave disk (seen disk) };
 

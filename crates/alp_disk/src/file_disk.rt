@@ -81,6 +81,8 @@ impl Disk for FileDisk {
 
     ghost are_images = { λ _ _ left. absurd left };
 
+    ghost were_images = { λ _ _ _ left. absurd left };
+
     ghost as_read = { λ _ told. untold told };
 
     ghost counts_now = { λ _ _ _ left. left };

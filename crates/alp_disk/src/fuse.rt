@@ -80,6 +80,8 @@ impl<D: Disk> Disk for Fuse<D> {
 
     ghost are_images = { λ f. D.Disk.are_images f.inner };
 
+    ghost were_images = { λ start f. D.Disk.were_images start.inner f.inner };
+
     ghost as_read = { λ f. D.Disk.as_read f.inner };
 
     ghost counts_now = { λ start f. D.Disk.counts_now start.inner f.inner };

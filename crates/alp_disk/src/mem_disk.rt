@@ -104,6 +104,8 @@ impl Disk for MemDisk {
 
     ghost are_images = { λ _ _ left. left.0 };
 
+    ghost were_images = { λ _ _ _ left. left.0 };
+
     ghost as_read = { λ m _. read_is_left (page_count m) (stable_of m) (pending_of m) m.whole };
 
     ghost counts_now = { λ _ _ _ left. left };

@@ -1,9 +1,6 @@
-use Rattle.std.proofs.Common.{◌≡◌, ℕ, ◌+◌, ◌%◌, List, [], ◌∷◌, ◌++◌, take, slice_set, suc, sym, ◌∙◌, ap, arith, add-one, length}
-use Rattle.std.proofs.lemmas.List.{take_more_set}
-use Rattle.rand_core.specs.Stream.{Stream, next_u32}
+use Rattle.std.proofs.Common.{arith}
 use Rattle.rand_core.specs.Steps.{stream_of, steps_u32}
 use Rattle.rand_pcg.specs.Pcg.{pcg32}
-use Rattle.alp_disk.specs.Pending.{low_bytes}
 use Rattle.alp_disk.proofs.Replays.{draw_more}
 use Rattle.alp_disk.proofs.outcomes.draw.Goals as goal
 

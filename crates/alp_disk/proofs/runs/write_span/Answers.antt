@@ -1,4 +1,4 @@
-use Rattle.std.proofs.Common.{◌+◌, ◌*◌, IsTrue, ℕ, List, sym, ◌∙◌, subst, arith}
+use Rattle.std.proofs.Common.{◌*◌, IsTrue, sym, ◌∙◌, subst, arith}
 use Rattle.alp_disk.proofs.Moments.{adds_more, spends_then}
 use Rattle.alp_disk.proofs.RunLemmas.{follows_torn, holds_next, chunk_of, length-chunk}
 use Rattle.alp_disk.proofs.runs.write_span.Goals as goal

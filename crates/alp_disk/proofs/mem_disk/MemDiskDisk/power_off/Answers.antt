@@ -1,7 +1,6 @@
-use Rattle.std.proofs.Common.{List, length, sym, subst, arith}
+use Rattle.std.proofs.Common.{length, sym, subst, arith}
 use Rattle.alp_disk.specs.Disk.{Image, IsImage}
-use Rattle.alp_disk.specs.Pending.{MayLeave, replay}
-use Rattle.alp_disk.specs.declared.pending_write.PendingWrite.{PendingWrite}
+use Rattle.alp_disk.specs.Pending.{MayLeave}
 use Rattle.alp_disk.proofs.Replays.{nothing_pending}
 use Rattle.alp_disk.proofs.mem_disk.MemDiskDisk.power_off.Goals as goal
 

@@ -1,6 +1,5 @@
 use Rattle.std.proofs.Common.{◌∙◌, ap, length, arith}
 use Rattle.alp_disk.proofs.Replays.{settled_to, whole_after_replay, length-replay, same_size}
-use Rattle.alp_disk.specs.Pending.{MayLeave}
 use Rattle.alp_disk.proofs.mem_disk.MemDiskDisk.sync.Goals as goal
 
 pub invariant_of-self-2-clause-whole : goal.invariant_of-self-2-clause-whole

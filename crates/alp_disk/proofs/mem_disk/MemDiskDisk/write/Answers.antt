@@ -1,5 +1,5 @@
-use Rattle.std.proofs.Common.{◌∙◌, ap, arith, nat_lt, length}
-use Rattle.alp_disk.proofs.Replays.{Noted, noted}
+use Rattle.std.proofs.Common.{arith, nat_lt, length}
+use Rattle.alp_disk.proofs.Replays.{noted}
 use Rattle.alp_disk.proofs.mem_disk.MemDiskDisk.write.Goals as goal
 
 pub invariant_of-self-2-clause-whole : goal.invariant_of-self-2-clause-whole
