@@ -1,11 +1,11 @@
 -- The bytes of an anchor page, and which anchor counts after a crash.
-use Rattle.std.proofs.Common.{◌≡◌, ◌≢◌, ◌⊎◌, inl, inr, ⊎_elim, ℕ, ◌+◌, ◌-◌, ◌*◌, ◌%◌, ◌^◌, ◌<◌, ◌≤◌, List, [], ◌∷◌, ◌++◌, length, get_or, take, drop, slice_index, replicate, refl, sym, ◌∙◌, ap, subst, arith}
+use Rattle.std.proofs.Common.{◌≡◌, ◌≢◌, inl, inr, ⊎_elim, ℕ, ◌-◌, List, [], ◌∷◌, get_or, take, drop, slice_index, refl, sym, ◌∙◌, ap, subst, arith}
 use Rattle.std.specs.Int.{w16, w32, to_be_bytes, from_be_bytes}
 use Rattle.std.proofs.lemmas.Nat.{from_be_bytes-to_be_bytes_4}
 use Rattle.alp_base.specs.Pages.{page_of}
-use Rattle.alp_disk.specs.Disk.{Image, page, Torn, Only}
+use Rattle.alp_disk.specs.Disk.{Image, page}
 use Rattle.alp_anchor.specs.Gate.{SameBut, Closing, Opening, Opened}
-use Rattle.alp_anchor.specs.Anchor.{header, open_anchor, after, IsSound, IsOpen, IsOwn, Counts, next_anchor, Switching, Switched}
+use Rattle.alp_anchor.specs.Anchor.{open_anchor, after, IsSound, IsOpen, Counts, next_anchor, Switching, Switched}
 use Rattle.alp_anchor.specs.declared.anchor.Anchor.{Anchor}
 use Rattle.alp_anchor.proofs.Gates.{opened}
 

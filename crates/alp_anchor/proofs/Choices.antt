@@ -1,14 +1,14 @@
 -- The fields of an anchor page, and which page's anchor counts.
-use Rattle.std.proofs.Common.{◌≡◌, ◌≢◌, ◌⊎◌, inl, inr, ℕ, ◌+◌, ◌-◌, ◌^◌, ◌<◌, ◌≤◌, List, [], ◌∷◌, ◌++◌, length, slice_index, take, refl, sym, ◌∙◌, ap, subst, arith, Option, Some, None, Result, Ok, Err}
+use Rattle.std.proofs.Common.{◌≡◌, inl, inr, ℕ, ◌-◌, List, [], ◌∷◌, slice_index, take, refl, sym, ◌∙◌, ap, subst, arith, Option, Some, None, Result, Ok, Err}
 use Rattle.std.specs.Prelude.{MatchOption, IfOk, IfErr}
-use Rattle.std.specs.Int.{w16, w32, to_be_bytes, from_be_bytes}
+use Rattle.std.specs.Int.{w16, w32, from_be_bytes}
 use Rattle.std.proofs.lemmas.Nat.{from_be_bytes-to_be_bytes_4, from_be_bytes-to_be_bytes_2}
 use Rattle.alp_disk.specs.Disk.{Image, page}
 use Rattle.alp_anchor.specs.Anchor.{open_anchor, after, IsSound, IsOpen, IsOwn, Counts}
-use Rattle.alp_anchor.specs.Read.{Newer, Chosen, NoneChosen, NoneOwn, WhyNot}
+use Rattle.alp_anchor.specs.Read.{Newer, Chosen, NoneChosen, WhyNot}
 use Rattle.alp_anchor.specs.declared.anchor.Anchor.{Anchor}
 use Rattle.alp_anchor.specs.declared.fault.AnchorFault.{AnchorFault}
-use Rattle.alp_anchor.specs.declared.fault.AnchorFault.TheVariants.{Halted, NotAVolume, Damaged}
+use Rattle.alp_anchor.specs.declared.fault.AnchorFault.TheVariants.{Halted}
 use Rattle.alp_anchor.proofs.Anchors.{same_generation}
 
 abbrev at : List ℕ → ℕ → ℕ

@@ -1,12 +1,12 @@
 -- What a crash leaves while a gate is closed or opened.
-use Rattle.std.proofs.Common.{◌≡◌, ◌≢◌, inl, inr, ℕ, ◌+◌, ◌-◌, ◌<◌, ◌≤◌, List, [], ◌∷◌, ◌++◌, length, get_or, take, drop, slice_index, refl, sym, ◌∙◌, ap, subst, arith, length-append, length-drop, length-take}
+use Rattle.std.proofs.Common.{◌≡◌, ◌≢◌, inl, inr, ℕ, ◌+◌, ◌<◌, List, [], ◌∷◌, ◌++◌, length, get_or, take, drop, slice_index, refl, sym, ◌∙◌, ap, subst, arith, length-drop, length-take}
 use Rattle.std.proofs.lemmas.List.{get_or-take, drop_all, drop_at, append-nil}
 use Rattle.std.proofs.lemmas.Bool.{cases_eq}
 use Rattle.std.specs.Prelude.{OnOk, Result, Ok, Err}
 use Rattle.alp_base.specs.Forms.{overwritten}
 use Rattle.alp_disk.specs.Disk.{Image, page, IsImage, with_bytes, Torn, Only, After, NoMore}
 use Rattle.alp_disk.specs.Images.{page-with_bytes, page-with_bytes_other, is_image-with_bytes}
-use Rattle.alp_anchor.specs.Gate.{IsClosed, SameBut, Shutting, Closing, Closed, Opening, Opened}
+use Rattle.alp_anchor.specs.Gate.{IsClosed, Shutting, Closing, Closed, Opening, Opened}
 
 overwritten_gate : (p : List ℕ) (gate : ℕ) → overwritten p 0 (gate ∷ []) ≡ gate ∷ drop 1 p
 overwritten_gate p gate = refl

@@ -23,7 +23,11 @@ fn front(page: &Page) -> [u8; 24]
 }
 
 /// Of two open anchors the one counts whose generation is the other's successor.
-fn choose(first: Option<Anchor>, second: Option<Anchor>, found: [u8; 24]) -> Result<Anchor, AnchorFault>
+fn choose(
+    first: Option<Anchor>,
+    second: Option<Anchor>,
+    found: [u8; 24],
+) -> Result<Anchor, AnchorFault>
     ensures ok { IfOk result (Chosen first second) }
     ensures err { IfErr result (NoneChosen first second found) }
 {

@@ -37,7 +37,7 @@ abbrev pub faults_of : MemDisk → ℕ
 faults_of m = m.faults
 
 -- One more call was counted, and it failed just where its number is among those that are to fail.
-pub record Counts {T : Type 0} (old new : MemDisk) (result : Result T Halt) : Type 0 where
+pub record CountsCall {T : Type 0} (old new : MemDisk) (result : Result T Halt) : Type 0 where
   pub failing : IsErr result ↔ IsTrue (is_failing (calls_of old) (fails_of old))
   pub calls : calls_of new ≡ counted (calls_of old)
   pub fails : fails_of new ≡ fails_of old

@@ -25,8 +25,8 @@ pub struct FileDisk {
 impl FileDisk {
     /// The first so many pages of a file that is open for reading and writing.
     pub fn new(file: File, pages: u32) -> FileDisk
-        ensures pages { result.pages ≡ pages }
-        ensures faults { result.faults ≡ 0 }
+        ensures size { ⟦<FileDisk as Disk>⟧.size result ≡ pages }
+        ensures faults { ⟦<FileDisk as Disk>⟧.faults result ≡ 0 }
     {
         FileDisk {
             file,

@@ -80,7 +80,7 @@ fn fails_now(calls: &mut u64, faults: &mut u64, fails: &[u64]) -> bool
 
 impl Disk for MemDisk {
     ghost use Rattle.alp_disk.specs.PendingLaws.{is_image-replay, read_is_left};
-    ghost use Rattle.alp_disk.specs.MemDisk.{stable_of, pending_of, page_count, seen_of, LeftBy, calls_of, fails_of, faults_of, Counts, Waits};
+    ghost use Rattle.alp_disk.specs.MemDisk.{stable_of, pending_of, page_count, seen_of, LeftBy, calls_of, fails_of, faults_of, CountsCall, Waits};
 
     ghost tells = { λ _. true };
 
@@ -125,7 +125,7 @@ impl Disk for MemDisk {
         ensures time { Adds (λ _ m. LeftBy m) self.old self.new (LeftBy self.new) }
         ensures cause { HasHaltCause (faults_of self.old) (faults_of self.new) Free result }
 
-        ensures counts { Counts self.old self.new result }
+        ensures counts { CountsCall self.old self.new result }
     {
         if fails_now(&mut self.calls, &mut self.faults, &self.fails) {
             return Err(Halt::Failed);
@@ -143,7 +143,7 @@ impl Disk for MemDisk {
         ensures time { Adds (λ _ m. LeftBy m) self.old self.new (LeftBy self.new) }
         ensures cause { HasHaltCause (faults_of self.old) (faults_of self.new) Free result }
 
-        ensures counts { Counts self.old self.new result }
+        ensures counts { CountsCall self.old self.new result }
         // Where there is no room for one more, the earlier ones are stable first.
         ensures waits { OnOk result (Waits at offset bytes.now (pending_of self.old) (pending_of self.new)) }
     {
@@ -163,7 +163,7 @@ impl Disk for MemDisk {
         ensures time { Adds (λ _ m. LeftBy m) self.old self.new (LeftBy self.new) }
         ensures cause { HasHaltCause (faults_of self.old) (faults_of self.new) Free result }
 
-        ensures counts { Counts self.old self.new result }
+        ensures counts { CountsCall self.old self.new result }
         ensures stable { OnOk result (pending_of self.new ≡ []) }
     {
         if fails_now(&mut self.calls, &mut self.faults, &self.fails) {

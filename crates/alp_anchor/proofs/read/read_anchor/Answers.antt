@@ -1,6 +1,6 @@
 use Rattle.std.proofs.Common.{IsTrue, List, ℕ, take, sym, ◌∙◌, ap, subst}
 use Rattle.alp_disk.specs.Disk.{Image, page}
-use Rattle.alp_anchor.proofs.Choices.{chosen_counts, chosen_own, none_counts, ok_map, err_map, found_as}
+use Rattle.alp_anchor.proofs.Choices.{chosen_counts, none_counts, ok_map, err_map, found_as}
 use Rattle.alp_anchor.proofs.read.read_anchor.Goals as goal
 
 pub returns-clause-counts : goal.returns-clause-counts

@@ -1,4 +1,4 @@
-use Rattle.std.proofs.Common.{◌≡◌, List, ℕ, sym, ◌∙◌, subst}
+use Rattle.std.proofs.Common.{List, ℕ, sym, ◌∙◌, subst}
 use Rattle.alp_anchor.specs.Anchor.{IsOpen}
 use Rattle.alp_anchor.proofs.Choices.{generation_is, area_pages_are, home_is, bytes_are}
 use Rattle.alp_anchor.proofs.spelling.fields.Goals as goal
