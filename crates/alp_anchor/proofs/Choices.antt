@@ -1,0 +1,96 @@
+-- The fields of an anchor page, and which page's anchor counts.
+use Rattle.std.proofs.Common.{◌≡◌, inl, inr, ℕ, ◌-◌, List, [], ◌∷◌, slice_index, take, refl, sym, ◌∙◌, ap, subst, arith, Option, Some, None, Result, Ok, Err}
+use Rattle.std.specs.Prelude.{MatchOption, IfOk, IfErr}
+use Rattle.std.specs.Int.{w16, w32, from_be_bytes}
+use Rattle.std.proofs.lemmas.Nat.{from_be_bytes-to_be_bytes_4, from_be_bytes-to_be_bytes_2}
+use Rattle.alp_disk.specs.Disk.{Image, page}
+use Rattle.alp_anchor.specs.Anchor.{open_anchor, after, IsSound, IsOpen, IsOwn, Counts}
+use Rattle.alp_anchor.specs.Read.{Newer, Chosen, NoneChosen, WhyNot}
+use Rattle.alp_anchor.specs.declared.anchor.Anchor.{Anchor}
+use Rattle.alp_anchor.specs.declared.fault.AnchorFault.{AnchorFault}
+use Rattle.alp_anchor.specs.declared.fault.AnchorFault.TheVariants.{Halted}
+use Rattle.alp_anchor.proofs.Anchors.{same_generation}
+
+abbrev at : List ℕ → ℕ → ℕ
+at p i = slice_index p i
+
+module _ (p : List ℕ) (b : Anchor) (n : ℕ) (is : IsOpen n p b) where
+  pub generation_is : from_be_bytes w32 (at p 8 ∷ at p 9 ∷ at p 10 ∷ at p 11 ∷ []) ≡ b.generation
+  unfolding open_anchor
+  generation_is = ap (λ (l : List ℕ). from_be_bytes w32 (at l 8 ∷ at l 9 ∷ at l 10 ∷ at l 11 ∷ [])) is.bytes ∙ from_be_bytes-to_be_bytes_4 b.generation is.sound.generation
+
+  pub area_pages_are : from_be_bytes w16 (at p 16 ∷ at p 17 ∷ []) ≡ b.sizes.area
+  unfolding open_anchor
+  area_pages_are = ap (λ (l : List ℕ). from_be_bytes w16 (at l 16 ∷ at l 17 ∷ [])) is.bytes ∙ from_be_bytes-to_be_bytes_2 b.sizes.area (omega (arith, is.sound.sizes.most_area))
+
+  pub home_is : from_be_bytes w32 (at p 18 ∷ at p 19 ∷ at p 20 ∷ at p 21 ∷ []) ≡ b.sizes.home
+  unfolding open_anchor
+  home_is = ap (λ (l : List ℕ). from_be_bytes w32 (at l 18 ∷ at l 19 ∷ at l 20 ∷ at l 21 ∷ [])) is.bytes ∙ from_be_bytes-to_be_bytes_4 b.sizes.home (omega (arith, is.sound.sizes.most_home))
+
+  pub bytes_are : (at p 12 ≡ b.area) × (at p 13 ≡ b.server) × (at p 14 ≡ b.servers)
+  unfolding open_anchor
+  bytes_are = (ap (λ (l : List ℕ). at l 12) is.bytes, ap (λ (l : List ℕ). at l 13) is.bytes, ap (λ (l : List ℕ). at l 14) is.bytes)
+
+-- The page number is not written.
+pub same_bytes : (a : Anchor) (k : ℕ) → open_anchor (record a { page = k }) ≡ open_anchor a
+unfolding open_anchor
+same_bytes a k = refl
+
+-- a page names one server
+pub same_names : (n : ℕ) (p : List ℕ) (a b : Anchor) → IsOpen n p a → IsOpen n p b → (a.server ≡ b.server) × (a.servers ≡ b.servers)
+same_names n p a b is_a is_b =
+    let of_a = bytes_are p a n is_a in
+    let of_b = bytes_are p b n is_b in
+    (sym of_a.1 ∙ of_b.1, sym of_a.2 ∙ of_b.2)
+
+-- ---- which of two anchors counts
+
+module _ (server servers n : ℕ) where
+  -- what was found in a page
+  abbrev pub FoundIn : ℕ → List ℕ → Option Anchor → Type 0
+  FoundIn k p found = MatchOption found ((b : Anchor) → IsOwn server servers n p b → ⊥) (λ a. IsOwn server servers n p a × (a.page ≡ k))
+
+  renamed : (p q : List ℕ) (a b : Anchor) → IsOwn server servers n p a → IsOwn a.server a.servers n q b → IsOwn server servers n q b
+  renamed p q a b own is = record { is_open = is.is_open; server_is = is.server_is ∙ own.server_is; servers_is = is.servers_is ∙ own.servers_is }
+
+  newer_counts : (k : ℕ) (image : Image) (a : Anchor) (other : Option Anchor) → IsOwn server servers n (page image k) a → a.page ≡ k → FoundIn (1 - k) (page image (1 - k)) other → Newer a other → Counts n image a
+  newer_counts k image a None own at_k found newer = record {
+    is_open = subst (λ j. IsOpen n (page image j) a) (sym at_k) own.is_open;
+    newest = λ b is_b. absurd (found b (renamed _ _ a b own (subst (λ j. IsOwn a.server a.servers n (page image (1 - j)) b) at_k is_b)));
+  }
+  newer_counts k image a (Some c) own at_k found newer = record {
+    is_open = subst (λ j. IsOpen n (page image j) a) (sym at_k) own.is_open;
+    newest = λ b is_b. newer ∙ ap after (same_generation n _ c b found.0.is_open (subst (λ j. IsOpen n (page image (1 - j)) b) at_k is_b.is_open));
+  }
+
+  pub chosen_counts : (image : Image) (first second : Option Anchor) (a : Anchor) → FoundIn 0 (page image 0) first → FoundIn 1 (page image 1) second → Chosen first second a → Counts n image a
+  chosen_counts image first second a found_0 found_1 (inl (is, newer)) = let f = subst (FoundIn 0 (page image 0)) is found_0 in newer_counts 0 image a second f.0 f.1 found_1 newer
+  chosen_counts image first second a found_0 found_1 (inr (is, newer)) = let f = subst (FoundIn 1 (page image 1)) is found_1 in newer_counts 1 image a first f.0 f.1 found_0 newer
+
+  pub chosen_own : (p q : List ℕ) (first second : Option Anchor) (a : Anchor) → FoundIn 0 p first → FoundIn 1 q second → Chosen first second a → IsSound n a × ((a.server ≡ server) × (a.servers ≡ servers))
+  chosen_own p q first second a one two (inl (is, newer)) = let own = (subst (FoundIn 0 p) is one).0 in (own.is_open.sound, (own.server_is, own.servers_is))
+  chosen_own p q first second a one two (inr (is, newer)) = let own = (subst (FoundIn 1 q) is two).0 in (own.is_open.sound, (own.server_is, own.servers_is))
+
+  pub none_counts : (image : Image) (first second : Option Anchor) (found : List ℕ) (e : AnchorFault) → found ≡ take 24 (page image 0) → FoundIn 0 (page image 0) first → FoundIn 1 (page image 1) second → NoneChosen first second found e → WhyNot server servers n image e
+  none_counts image None None found e front found_0 found_1 is = subst (WhyNot server servers n image) (sym is) (front, found_0, found_1)
+  none_counts image (Some a) (Some b) found e front found_0 found_1 none =
+      subst (WhyNot server servers n image) (sym none.0) (refl, record { first = a; second = b; first_is = found_0.0; second_is = found_1.0; not_before = none.1; not_after = none.2 })
+  none_counts image None (Some b) found e front found_0 found_1 none = absurd none
+  none_counts image (Some a) None found e front found_0 found_1 none = absurd none
+
+pub found_as : (server servers k n m : ℕ) (p q : List ℕ) (found : Option Anchor) → m ≡ n → p ≡ q → FoundIn server servers m k p found → FoundIn server servers n k q found
+found_as server servers k n m p q found size same is = subst (λ j. FoundIn server servers j k q found) size (subst (λ (r : List ℕ). FoundIn server servers m k r found) same is)
+
+pub not_halted : (first second : Option Anchor) (found : List ℕ) (e : AnchorFault) → NoneChosen first second found e → (h : _) → e ≡ Halted h → ⊥
+not_halted None None found e is h same = grind arith
+not_halted (Some a) (Some b) found e none h same = grind arith
+not_halted None (Some b) found e none h same = none
+not_halted (Some a) None found e none h same = none
+
+pub ok_map : {T E : Type 0} (r : Result T E) (P Q : T → Type 0) → ((a : T) → P a → Q a) → IfOk r P → IfOk r Q
+ok_map (Ok a) P Q f h = f a h
+ok_map (Err e) P Q f h = tt
+
+pub err_map : {T E : Type 0} (r : Result T E) (P Q : E → Type 0) → ((e : E) → P e → Q e) → IfErr r P → IfErr r Q
+err_map (Ok a) P Q f h = tt
+err_map (Err e) P Q f h = f e h

@@ -1,0 +1,35 @@
+-- A gate is the first byte of a page: 165 is open, and any other is closed.
+use Rattle.std.specs.Prelude.{◌≡◌, ◌≢◌, ◌⊎◌, ℕ, List, slice_index}
+use Rattle.alp_disk.specs.Disk.{Image, page, Torn, Only}
+
+abbrev pub IsClosed : List ℕ → Type 0
+IsClosed p = slice_index p 0 ≢ 165
+
+-- the same pages but for one
+abbrev pub SameBut : ℕ → Image → Image → Type 0
+SameBut at old new = (q : ℕ) → q ≢ at → page new q ≡ page old q
+
+-- a crash while the gate of a page is closed: what was read, or that with another gate in place of an open one
+abbrev pub Shutting : ℕ → Image → Image → Type 0
+Shutting at seen c = (c ≡ seen) ⊎ ((slice_index (page seen at) 0 ≡ 165) × Torn at 0 1 seen c)
+
+-- a crash while the disk is synced and a gate is closed: an earlier outcome, or what was read with another gate in place of an open one
+abbrev pub Closing : ℕ → (Image → Type 0) → Image → Image → Type 0
+Closing at may_leave seen c = may_leave c ⊎ ((slice_index (page seen at) 0 ≡ 165) × Torn at 0 1 seen c)
+
+-- the page stands closed, all of it on the disk
+pub record Closed (at : ℕ) (old new : Image) (may_leave : Image → Type 0) : Type 0 where
+  pub gate : IsClosed (page new at)
+  pub others : SameBut at old new
+  pub durable : Only new may_leave
+
+-- a crash while a closed page is written and opened: it is closed, or it is the new page
+pub record Opening (at : ℕ) (full : List ℕ) (old c : Image) : Type 0 where
+  pub others : SameBut at old c
+  pub whole : IsClosed (page c at) ⊎ (page c at ≡ full)
+
+-- the new page stands there, all of it on the disk
+pub record Opened (at : ℕ) (full : List ℕ) (old new : Image) (may_leave : Image → Type 0) : Type 0 where
+  pub whole : page new at ≡ full
+  pub others : SameBut at old new
+  pub durable : Only new may_leave

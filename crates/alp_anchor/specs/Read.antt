@@ -1,0 +1,41 @@
+-- Which anchor is read, and why none is.
+use Rattle.std.specs.Prelude.{◌≡◌, ◌≢◌, ◌⊎◌, ℕ, List, take, Option, Some, None}
+use Rattle.alp_disk.specs.Disk.{Image, page}
+use Rattle.alp_anchor.specs.Anchor.{IsOwn, after}
+use Rattle.alp_anchor.specs.declared.anchor.Anchor.{Anchor}
+use Rattle.alp_anchor.specs.declared.fault.AnchorFault.{AnchorFault}
+use Rattle.alp_anchor.specs.declared.fault.AnchorFault.TheVariants.{Halted, NotAVolume, Damaged}
+
+-- no open anchor of the page names this server
+abbrev pub NoneOwn : ℕ → ℕ → ℕ → List ℕ → Type 0
+NoneOwn server servers n p = (a : Anchor) → IsOwn server servers n p a → ⊥
+
+-- two open anchors that name this server, neither the other's successor
+pub record Disagree (server servers n : ℕ) (image : Image) : Type 0 where
+  pub first : Anchor
+  pub second : Anchor
+  pub first_is : IsOwn server servers n (page image 0) first
+  pub second_is : IsOwn server servers n (page image 1) second
+  pub not_before : first.generation ≢ after second.generation
+  pub not_after : second.generation ≢ after first.generation
+
+-- why no anchor counts
+abbrev pub WhyNot : ℕ → ℕ → ℕ → Image → AnchorFault → Type 0
+WhyNot server servers n image (Halted halt) = Unit {0}
+WhyNot server servers n image (NotAVolume found) = (found ≡ take 24 (page image 0)) × NoneOwn server servers n (page image 0) × NoneOwn server servers n (page image 1)
+WhyNot server servers n image (Damaged place) = (place ≡ 1) × Disagree server servers n image
+
+abbrev pub Newer : Anchor → Option Anchor → Type 0
+Newer a None = Unit {0}
+Newer a (Some b) = a.generation ≡ after b.generation
+
+-- one of the two counts
+abbrev pub Chosen : Option Anchor → Option Anchor → Anchor → Type 0
+Chosen first second a = ((first ≡ Some a) × Newer a second) ⊎ ((second ≡ Some a) × Newer a first)
+
+-- none of the two counts
+abbrev pub NoneChosen : Option Anchor → Option Anchor → List ℕ → AnchorFault → Type 0
+NoneChosen (Some a) (Some b) found e = (e ≡ Damaged 1) × (a.generation ≢ after b.generation) × (b.generation ≢ after a.generation)
+NoneChosen None None found e = e ≡ NotAVolume found
+NoneChosen (Some a) None found e = ⊥
+NoneChosen None (Some b) found e = ⊥

@@ -1,0 +1,53 @@
+-- What a disk in memory shows.
+use Rattle.std.specs.Prelude.{◌≡◌, ◌↔◌, ℕ, List, [], ◌∷◌, ◌++◌, length, if◌then◌else◌, nat_lt, Result, IsErr, IsTrue}
+use Rattle.alp_base.specs.Streams.{counted, is_failing}
+use Rattle.alp_base.specs.declared.faults.Halt.{Halt}
+use Rattle.alp_disk.specs.Disk.{Image}
+use Rattle.alp_disk.specs.Pending.{replay, MayLeave, written_bytes}
+use Rattle.alp_disk.specs.declared.pending_write.PendingWrite.{PendingWrite}
+use Rattle.alp_disk.specs.declared.mem_disk.MemDisk.{MemDisk}
+
+-- the pages as of the last sync, or of the last time when there was no room for one more write
+abbrev pub stable_of : MemDisk → Image
+stable_of m = m.stable.items
+
+-- the writes since then
+abbrev pub pending_of : MemDisk → List PendingWrite
+pending_of m = m.pending.items
+
+abbrev pub page_count : MemDisk → ℕ
+page_count m = length m.stable.items
+
+-- the pages as they read
+abbrev pub seen_of : MemDisk → Image
+seen_of m = replay m.stable.items m.pending.items
+
+abbrev pub LeftBy : MemDisk → Image → Type 0
+LeftBy m = MayLeave (length m.stable.items) m.stable.items m.pending.items
+
+-- the reads, writes and syncs that were made
+abbrev pub calls_of : MemDisk → ℕ
+calls_of m = m.calls
+
+-- the numbers of the calls that are to fail
+abbrev pub fails_of : MemDisk → List ℕ
+fails_of m = m.fails.items
+
+abbrev pub faults_of : MemDisk → ℕ
+faults_of m = m.faults
+
+-- One more call was counted, and it failed just where its number is among those that are to fail.
+pub record CountsCall {T : Type 0} (old new : MemDisk) (result : Result T Halt) : Type 0 where
+  pub failing : IsErr result ↔ IsTrue (is_failing (calls_of old) (fails_of old))
+  pub calls : calls_of new ≡ counted (calls_of old)
+  pub fails : fails_of new ≡ fails_of old
+
+-- so many writes wait for a sync at most
+abbrev pub room_of_writes : ℕ
+room_of_writes = 8192
+
+-- One more write waits for a sync; where there was no room for it, it alone.
+pub record Waits (at offset : ℕ) (bytes : List ℕ) (old new : List PendingWrite) : Type 0 where
+  pub write : PendingWrite
+  pub place : (write.at ≡ at) × (write.offset ≡ offset) × (written_bytes write ≡ bytes)
+  pub pending : new ≡ (if nat_lt (length old) room_of_writes then old else []) ++ write ∷ []
