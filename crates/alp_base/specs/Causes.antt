@@ -1,5 +1,5 @@
 -- A fault comes only where the count of faults rose.
-use Rattle.std.specs.Prelude.{◌≡◌, ℕ, ◌+◌, ◌-◌, ◌^◌, ◌≤◌, min, OnErr, Result}
+use Rattle.std.specs.Prelude.{ℕ, ◌+◌, ◌-◌, ◌^◌, ◌≤◌, min, OnErr, Result}
 
 -- the count rose; one that stands at the end of its range stays there, and counts as risen
 abbrev pub Rose : ℕ → ℕ → Type 0

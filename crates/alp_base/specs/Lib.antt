@@ -5,6 +5,4 @@ pub mod IdText
 pub mod Keys
 pub mod KeyLaws
 pub mod Causes
-pub mod Forms
-pub mod Fields
 pub mod Streams

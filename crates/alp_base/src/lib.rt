@@ -1,11 +1,9 @@
-//! What every crate speaks of: ids, names, pages, keys, streams that count their faults, and the
-//! forms in which their fields are written as bytes.
+//! What every crate speaks of: ids, names, pages, keys, and streams that count their faults.
 #![tactic(auto)]
 
 mod bytes;
 mod choices;
 mod faults;
-pub mod fields;
 mod id_text;
 mod ids;
 mod key;

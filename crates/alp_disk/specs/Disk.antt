@@ -1,7 +1,7 @@
 -- What the calls of a disk do, and what a crash may leave.
 use Rattle.std.specs.Prelude.{◌≡◌, ◌≢◌, ◌⊎◌, ◌<◌, ◌≤◌, ℕ, ◌+◌, List, [], length, take, drop, slice_index_or, slice_set, Result, IsErrOf, Option, Some, None}
 use Rattle.alp_base.specs.Causes.{Rose}
-use Rattle.alp_base.specs.Forms.{overwritten}
+use Rattle.alp_fields.specs.Forms.{overwritten}
 use Rattle.alp_base.specs.declared.faults.Halt.{Halt}
 use Rattle.alp_base.specs.declared.faults.Halt.TheVariants.{Failed, Stopped}
 use Rattle.alp_disk.specs.declared.allowance.Allowance.{Allowance}

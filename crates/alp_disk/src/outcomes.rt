@@ -2,14 +2,14 @@
 ghost use Rattle.std.specs.Prelude.{◌≡◌, ◌<◌, ◌≤◌, ◌+◌, ◌++◌, ◌∷◌, ℕ, [], length, replicate, vec_len, vec_capacity, IfOk, false, if◌then◌else◌, nat_lt};
 ghost use Rattle.rand_core.specs.Steps.{stream_of, steps_u32};
 ghost use Rattle.rand_pcg.specs.Pcg.{pcg32};
-ghost use Rattle.alp_base.specs.Forms.{overwritten};
+ghost use Rattle.alp_fields.specs.Forms.{overwritten};
 ghost use Rattle.alp_base.specs.Pages.{zero_page};
 ghost use Rattle.alp_disk.specs.Disk.{Image, page as page_of, IsImage, with_bytes};
 ghost use Rattle.alp_disk.specs.Pending.{written_bytes, replay, alternated, low_bytes, filled, words_of, MayLeave};
 
 use crate::pending_write::PendingWrite;
 use alp_base::Page;
-use alp_base::fields::set_bytes;
+use alp_fields::set_bytes;
 use rand_core::{Rng, SeedableRng};
 use rand_pcg::Pcg32;
 use std::alloc::{AllocError, Global};

@@ -1,9 +1,9 @@
 -- the laws of properties as a field
 use Rattle.std.proofs.Common.{refl}
-use Rattle.alp_base.specs.Forms.{IsForm, u16, u32, u64}
-use Rattle.alp_base.specs.Fields.{name, list}
-use Rattle.alp_base.proofs.FormLaws.{pair_law, mapped_law}
-use Rattle.alp_base.proofs.FieldLaws.{u16_law, u32_law, u64_law, name_law, list_law}
+use Rattle.alp_fields.specs.Forms.{IsForm, u16, u32, u64}
+use Rattle.alp_fields.specs.Fields.{name, list}
+use Rattle.alp_fields.proofs.FormLaws.{pair_law, mapped_law}
+use Rattle.alp_fields.proofs.FieldLaws.{u16_law, u32_law, u64_law, name_law, list_law}
 use Rattle.alp_files.specs.PropsField.{numbers, props_of, parts_of, props}
 
 numbers_law : IsForm numbers

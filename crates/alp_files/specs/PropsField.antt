@@ -1,7 +1,7 @@
 -- the properties of a file as a field: one after the other, as they are declared
 use Rattle.std.specs.Prelude.{ℕ, List}
-use Rattle.alp_base.specs.Forms.{Form, pair, mapped, u16, u32, u64}
-use Rattle.alp_base.specs.Fields.{name, list}
+use Rattle.alp_fields.specs.Forms.{Form, pair, mapped, u16, u32, u64}
+use Rattle.alp_fields.specs.Fields.{name, list}
 use Rattle.alp_files.specs.declared.cell.Props.{Props}
 
 -- type, create time, length in bytes, size and high-water mark

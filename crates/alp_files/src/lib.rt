@@ -1,6 +1,7 @@
 //! Files as one map of cells: calls of clients, their replies, and what one thread's calls mean.
 #![tactic(auto)]
 
+mod admission;
 mod call;
 mod cell;
 mod cell_map;
@@ -10,6 +11,7 @@ mod props_field;
 mod refusal;
 mod reply;
 
+pub use admission::admits;
 pub use call::{Call, PropChange};
 pub use cell::{Cell, OwnerRecord, Props};
 pub use cell_map::CellMap;

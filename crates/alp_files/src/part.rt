@@ -5,13 +5,13 @@ ghost use Rattle.std.specs.FinMap as map;
 ghost use Rattle.alp_base.specs.declared.ids.FileId.{FileId as File};
 ghost use Rattle.alp_base.specs.declared.key.Key.TheVariants as key;
 ghost use Rattle.alp_files.specs.declared.cell.Cell.TheVariants as cell;
-ghost use Rattle.alp_files.specs.Cells.{Cells, has_name as has_name_said, has_file, props_in, owner_in, page_in};
+ghost use Rattle.alp_files.specs.Cells.{Cells, has_file, props_in, owner_in, page_in};
 ghost use Rattle.alp_files.specs.Edits.{Put, over};
-ghost use Rattle.alp_files.specs.Act.{admits as admitting, is_admin as admin, is_over as over_quota, open_at, no_opens, on_open, on_change, page_puts, mark_put, create_file as create_file_said, read_pages as read_pages_said, write_pages as write_pages_said, make_owner as make_owner_said};
+ghost use Rattle.alp_files.specs.Act.{is_admin as admin, is_over as over_quota, open_at, no_opens, on_open, on_change, page_puts, mark_put, create_file as create_file_said, read_pages as read_pages_said, write_pages as write_pages_said, make_owner as make_owner_said};
 ghost use Rattle.alp_files.specs.Passing.{is_passing, IsFileReply};
 ghost use Rattle.alp_files.specs.Parts.{seen, own_of, ChangesBy, Gives, Answers, AnswersCall, GivesOnly, GivesNone, IsBuilt, pages_at};
 
-use crate::{Call, Cell, CellMap, ListName, Open, OwnerRecord, Props, Refusal, Reply};
+use crate::{Call, Cell, CellMap, ListName, Open, OwnerRecord, Props, Refusal, Reply, admits};
 use alp_base::{Access, AccessList, FileId, Key, Name, OutOfMemory, Page, PageList, PageRef, Run};
 use std::alloc::Global;
 
@@ -66,21 +66,6 @@ fn page_at(
         Some(Cell::Page(page)) => page.share(),
         _ => PageRef::new(alloc, Page::zero()),
     }
-}
-
-fn has_name(names: &[Name], bytes: &[u8]) -> bool
-    ensures { result ≡ has_name_said bytes.now names.now }
-{
-    names.iter().any(|name| name.as_bytes() == bytes)
-}
-
-fn is_admitted(list: &AccessList, who: Name, owner: Name) -> bool
-    ensures { result ≡ admitting list.now who owner }
-{
-    let names = list.names();
-    has_name(names, b"World")
-        || has_name(names, who.as_bytes())
-        || (who == owner && has_name(names, b"Owner"))
 }
 
 fn is_admin(who: Name) -> bool
@@ -193,7 +178,7 @@ impl Part {
             Some(record) => record.clone()?,
             None => return Ok(Reply::Refused(Refusal::UnknownOwner)),
         };
-        if !is_admitted(&owner.create, who, start.owner) {
+        if !admits(&owner.create, &who, &start.owner) {
             return Ok(Reply::Refused(Refusal::AccessDenied {
                 list: ListName::Create,
             }));

@@ -1,11 +1,11 @@
 //! The properties of a file as a field.
 ghost use Rattle.std.specs.Prelude.{◌≡◌, OnOk, OnErr, IfOk, option_map};
-ghost use Rattle.alp_base.specs.Forms.{IsForm, IsRead, IsWritten, Extends};
+ghost use Rattle.alp_fields.specs.Forms.{IsForm, IsRead, IsWritten, Extends};
 ghost use Rattle.alp_files.specs.PropsField.{numbers, numbers_of, props};
 
 use crate::Props;
 use alp_base::OutOfMemory;
-use alp_base::fields::{FieldReader, put_list, put_name, put_u16, put_u32, put_u64};
+use alp_fields::{FieldReader, put_list, put_name, put_u16, put_u32, put_u64};
 use std::alloc::Global;
 
 #[tactic(auto, unfolding(crate::specs::PropsField::numbers))]

@@ -1,7 +1,7 @@
 -- the laws of a mode as a field
 use Rattle.std.proofs.Common.{◌≡◌, ℕ, List, [], ◌∷◌, ◌++◌, Some, refl, arith}
-use Rattle.alp_base.specs.Forms.{IsForm, just, read_choice}
-use Rattle.alp_base.proofs.FieldLaws.{tagged_law, tag_back, just_reads, ReadsTagged}
+use Rattle.alp_fields.specs.Forms.{IsForm, just, read_choice}
+use Rattle.alp_fields.proofs.FieldLaws.{tagged_law, tag_back, just_reads, ReadsTagged}
 use Rattle.alp_modes.specs.declared.Mode.{Mode}
 use Rattle.alp_modes.specs.declared.Mode.TheVariants.{IntendRead, IntendWrite, Read, Update, ReadIntendWrite, Write}
 use Rattle.alp_modes.specs.ModeField.{spell_mode, mode_readers, mode}

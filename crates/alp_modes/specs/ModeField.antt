@@ -1,6 +1,6 @@
 -- a mode as a field: a byte from 1 to 6, from the least mode to the most
 use Rattle.std.specs.Prelude.{ℕ, List, [], ◌∷◌}
-use Rattle.alp_base.specs.Forms.{Form, Readers, just, tagged}
+use Rattle.alp_fields.specs.Forms.{Form, Readers, just, tagged}
 use Rattle.alp_modes.specs.declared.Mode.{Mode}
 use Rattle.alp_modes.specs.declared.Mode.TheVariants.{IntendRead, IntendWrite, Read, Update, ReadIntendWrite, Write}
 

@@ -1,11 +1,11 @@
 //! A mode as a field: a byte from 1 to 6.
 ghost use Rattle.std.specs.Prelude.{◌≡◌, OnOk, OnErr};
-ghost use Rattle.alp_base.specs.Forms.{IsForm, IsRead, IsWritten};
+ghost use Rattle.alp_fields.specs.Forms.{IsForm, IsRead, IsWritten};
 ghost use Rattle.alp_modes.specs.ModeField.{mode};
 
 use crate::Mode;
 use alp_base::OutOfMemory;
-use alp_base::fields::{FieldReader, put_u8};
+use alp_fields::{FieldReader, put_u8};
 
 /// The mode at the front of the bytes that are left, if one is spelled there.
 #[tactic(auto, unfolding(crate::specs::ModeField::mode))]
@@ -23,7 +23,7 @@ pub fn read_mode(reader: &mut FieldReader) -> Option<Mode>
     }
 }
 
-#[tactic(auto, unfolding(crate::specs::ModeField::mode, alp_base::specs::Forms::u8))]
+#[tactic(auto, unfolding(crate::specs::ModeField::mode, alp_fields::specs::Forms::u8))]
 pub fn put_mode(out: &mut Vec<u8>, held: Mode) -> Result<(), OutOfMemory>
     ensures ok { OnOk result (IsWritten mode held out.old.items out.new.items) }
     ensures err { OnErr result (out.new.items ≡ out.old.items) }

@@ -20,7 +20,7 @@ use Rattle.alp_script.specs.declared.line.Line.{Line}
 use Rattle.alp_script.specs.declared.line.Line.TheVariants as line
 use Rattle.alp_script.specs.declared.words.TheConstants.{TEXT_BYTES}
 
-tested : {A : Type 0} (b : Bool) (x y : A) → when b x ≡ Some y → (b ≡ true) × (x ≡ y)
+pub tested : {A : Type 0} (b : Bool) (x y : A) → when b x ≡ Some y → (b ≡ true) × (x ≡ y)
 tested true x y h = (refl, same_Some x y h)
 tested false x y h = cc
 

@@ -2,7 +2,7 @@
 use Rattle.std.specs.Prelude.{cond, true, false, not, ◌&&◌, Bool, Option, None, Some, is_some, IsSome, map as list_map}
 use Rattle.std.proofs.Common.{◌≡◌, ℕ, ◌+◌, List, [], ◌∷◌, ◌++◌, length, refl, sym, ◌∙◌, ap, subst, arith, append_assoc, append-nil, length-append, take, drop, get_or, ◌<◌, zero, suc}
 use Rattle.std.specs.List.{AllByRecursion}
-use Rattle.std.proofs.lemmas.Bool.{eqb-true}
+use Rattle.std.proofs.lemmas.Bool.{eqb-true, and_parts}
 use Rattle.std.proofs.lemmas.List.{take_more}
 use Rattle.std.proofs.Math.Seq.{drop-cons}
 use Rattle.alp_base.specs.declared.ids.TransId.{TransId}
@@ -16,7 +16,7 @@ use Rattle.alp_script.specs.declared.numbered.NumberedLine.{NumberedLine}
 use Rattle.alp_script.specs.Forms.{IsForm, servers, client, begin, owner, create, write, read, commit}
 use Rattle.alp_script.specs.Named.{client_named, server_named}
 use Rattle.alp_script.specs.Known.{Known}
-use Rattle.alp_script.specs.Words.{when}
+use Rattle.alp_script.proofs.FormLemmas.{tested}
 use Rattle.alp_script.specs.Order.{next, after, is_declared, is_one, names_ours, after_servers, after_client, after_begin, after_owner, after_create, after_run, after_commit}
 use Rattle.alp_top.specs.declared.client.Client.{Client}
 use Rattle.alp_top.specs.declared.node.Node.{Node}
@@ -64,10 +64,6 @@ played_more o ls l c d n m logs own h a = record {
 
 -- ---- what the language says of the transaction
 
-when_some : {A : Type 0} (b : Bool) (x y : A) → when b x ≡ Some y → (b ≡ true) × (x ≡ y)
-when_some true x y e = (refl, cc)
-when_some false x y e = cc
-
 if_some : {A : Type 0} (b : Bool) (x : Option A) (y : A) → cond b x None ≡ Some y → x ≡ Some y
 if_some true x y e = e
 if_some false x y e = cc
@@ -90,14 +86,14 @@ works k d l form e = go l form (if_some (is_declared k l) (after k l) d e)
     same x e h = ap (λ (y : Known). y.working) (sym e) ∙ h
 
     go : (l : Line) → IsForm l → after k l ≡ Some d → WorksAfter l k.working d.working
-    go l (servers count) e = same _ ((when_some _ _ d e).1) refl
-    go l (client n name) e = same _ ((when_some _ _ d e).1) refl
-    go l (begin n server) e = (not_true k.working ((when_some _ _ d e).0), ap (λ (y : Known). y.working) (sym ((when_some _ _ d e).1)))
-    go l (owner n server name quota) e = same _ ((when_some _ _ d e).1) refl
-    go l (create n server word name size small) e = same _ ((when_some _ _ d e).1) refl
-    go l (write n file run text some short) e = same _ ((when_some _ _ d e).1) refl
-    go l (read n file run some) e = same _ ((when_some _ _ d e).1) refl
-    go l (commit n) e = ap (λ (y : Known). y.working) (sym ((when_some _ _ d e).1))
+    go l (servers count) e = same _ ((tested _ _ d e).1) refl
+    go l (client n name) e = same _ ((tested _ _ d e).1) refl
+    go l (begin n server) e = (not_true k.working ((tested _ _ d e).0), ap (λ (y : Known). y.working) (sym ((tested _ _ d e).1)))
+    go l (owner n server name quota) e = same _ ((tested _ _ d e).1) refl
+    go l (create n server word name size small) e = same _ ((tested _ _ d e).1) refl
+    go l (write n file run text some short) e = same _ ((tested _ _ d e).1) refl
+    go l (read n file run some) e = same _ ((tested _ _ d e).1) refl
+    go l (commit n) e = ap (λ (y : Known). y.working) (sym ((tested _ _ d e).1))
 
 none_runs : (o : Option TransId) (b : Bool) → b ≡ is_some o → b ≡ false → o ≡ None
 none_runs None b e f = refl
@@ -144,12 +140,8 @@ follows_on c e l ls form h t =
 pub ours_named : (l : Line) → names_ours l ≡ true → IsOurs l
 unfolding names_ours
 ours_named l h k e =
-    let one : is_one (client_named l) ≡ true = both_true (is_one (client_named l)) (is_one (server_named l)) h in
+    let one : is_one (client_named l) ≡ true = (and_parts (is_one (client_named l)) (is_one (server_named l)) h).0 in
     eqb-true k 1 (ap is_one (sym e) ∙ one)
-  where
-    both_true : (a b : Bool) → (a && b) ≡ true → a ≡ true
-    both_true true b e = refl
-    both_true false b e = e
 
 pub rest_at : (ls : List NumberedLine) (i : ℕ) (l : NumberedLine) → i < length ls → l ≡ get_or ls i l → drop i ls ≡ l ∷ drop (i + 1) ls
 rest_at ls i l h is =

@@ -23,7 +23,7 @@ returns-clause-right c =
     changes-append (leader c.in_ok-props.props ∷ []) (owner c.in_ok-owner-in-Some.owner ∷ []) c.args.self.now.intents c.put.new.intents c.put-2.new.intents c.in_ok-put.ensures c.in_ok-put-2.ensures in
     file_created c.args.held.now c.args.self.now (record { intents = c.put-2.new.intents; last = c.args.self.now.last + 1; opens = c.push.new.self }) c.args.who c.args.id c.args.start.now c.in-Some.record.now
     (sym c.in-Some.ensures)
-    (ap (λ (o : OwnerRecord). admits o.create c.args.who c.args.start.now.owner) (sym same) ∙ sym c.is_admitted.ensures ∙ c.if-not-is_admitted.false)
+    (ap (λ (o : OwnerRecord). admits o.create c.args.who c.args.start.now.owner) (sym same) ∙ sym c.admits.ensures ∙ c.if-not-admits.false)
     (ap (λ (o : OwnerRecord). is_over o c.args.start.now.size) (sym same) ∙ sym c.is_over.ensures ∙ c.if-is_over.false)
     c.requires.new
     (subst (λ (p : Props). ChangesBy (leader p ∷ owner c.in-Some.record.now ∷ []) c.args.self.now.intents c.put-2.new.intents) start

@@ -1,7 +1,0 @@
-use Rattle.std.proofs.Common.{take}
-use Rattle.alp_base.specs.Forms.{IsWritten, repeated}
-use Rattle.alp_base.specs.Fields.{page}
-use Rattle.alp_base.proofs.fields.lists.append_page_refs.Given as goal
-
-abbrev pub invariant-loop-next : goal.invariant-loop-next
-invariant-loop-next l = IsWritten (repeated page l.next-index) (take l.next-index l.pages) l.initial.out.items l.out.items

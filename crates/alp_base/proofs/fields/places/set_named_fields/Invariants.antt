@@ -1,7 +1,0 @@
-use Rattle.std.proofs.Common.{take}
-use Rattle.alp_base.specs.Forms.{IsSet, repeated}
-use Rattle.alp_base.specs.Fields.{named_field}
-use Rattle.alp_base.proofs.fields.places.set_named_fields.Given as goal
-
-abbrev pub invariant-loop-i : goal.invariant-loop-i
-invariant-loop-i l = IsSet (repeated named_field l.i) (take l.i l.names) l.at l.initial.out l.out

@@ -1,6 +1,0 @@
-use Rattle.alp_base.specs.Fields.{name}
-use Rattle.alp_base.proofs.RepeatLemmas.{RepeatsSoFar}
-use Rattle.alp_base.proofs.fields.reader.FieldReader.names.Given as goal
-
-abbrev pub invariant-loop : goal.invariant-loop
-invariant-loop l = RepeatsSoFar name l.count l.counter l.names.items l.self l.initial.self

@@ -1,6 +1,0 @@
-use Rattle.alp_base.specs.Fields.{page}
-use Rattle.alp_base.proofs.RepeatLemmas.{RepeatsSoFar}
-use Rattle.alp_base.proofs.fields.reader.FieldReader.page_refs.Given as goal
-
-abbrev pub invariant-loop : goal.invariant-loop
-invariant-loop l = RepeatsSoFar page l.count l.counter l.pages.items l.self l.initial.self

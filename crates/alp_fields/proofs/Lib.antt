@@ -1,0 +1,5 @@
+pub mod RepeatLemmas
+pub mod FormLaws
+pub mod FieldLaws
+pub mod FixedLaws
+pub mod PlaceLemmas

@@ -1,0 +1,8 @@
+use Rattle.alp_fields.specs.Fields.{name}
+use Rattle.alp_fields.proofs.RepeatLemmas.{goes_on}
+use Rattle.alp_fields.proofs.reader.FieldReader.names.Goals as goal
+
+pub loop-preserved : goal.loop-preserved
+loop-preserved c =
+    rw c.in_ok-push.ensures.items
+    (goes_on name c.args.count c.loop.counter c.loop.names.items c.loop.self c.args.self.now c.name.new.self c.in-Some.next c.loop-test.true c.in-Some.ensures c.loop.invariant)

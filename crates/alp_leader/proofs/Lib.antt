@@ -1,0 +1,2 @@
+pub mod LeaderLaw
+pub mod PlaceLaws
