@@ -1,2 +1,4 @@
 pub mod State
 pub mod Serial
+pub mod Told
+pub mod Laws

@@ -1,8 +1,8 @@
 -- a server stays what its journal says
-use Rattle.std.specs.Prelude.{cond, Bool, true, false, ◌==◌, max, Option, None, Some, map as list_map}
+use Rattle.std.specs.Prelude.{cond, Bool, true, false, ◌==◌, max, Option, None, Some, IsSome, map as list_map}
 use Rattle.std.specs.FinMap as map
 use Rattle.std.specs.FinMap.Entries.{put}
-use Rattle.std.proofs.Common.{◌≡◌, ℕ, ◌+◌, ◌≤◌, List, [], ◌∷◌, ◌++◌, length, refl, sym, ◌∙◌, ap, subst, eq-eqb, arith, length-append}
+use Rattle.std.proofs.Common.{inl, inr, ◌≡◌, ℕ, ◌+◌, ◌≤◌, List, [], ◌∷◌, ◌++◌, length, refl, sym, ◌∙◌, ap, subst, eq-eqb, arith, length-append}
 use Rattle.alp_base.specs.declared.ids.TransId.{TransId}
 use Rattle.alp_base.specs.declared.ids.Stamp.{Stamp}
 use Rattle.alp_files.specs.declared.call.Call.{Call}
@@ -10,7 +10,7 @@ use Rattle.alp_files.specs.declared.call.Call.TheVariants as call
 use Rattle.alp_files.specs.declared.reply.Reply.{Reply}
 use Rattle.alp_files.specs.declared.reply.Reply.TheVariants as reply
 use Rattle.alp_files.specs.declared.part.Part.{Part}
-use Rattle.alp_files.specs.Passing.{is_passing}
+use Rattle.alp_files.specs.Passing.{is_passing, IsFileReply}
 use Rattle.alp_files.specs.Cells.{Cells, View}
 use Rattle.alp_files.specs.Edits.{edits_map, after, over}
 use Rattle.alp_files.proofs.CellMapLemmas.{over-none, get_cell}
@@ -30,16 +30,22 @@ use Rattle.alp_journal.specs.declared.act.Act.TheVariants as act
 use Rattle.alp_journal.specs.declared.event.Event.{Event}
 use Rattle.alp_journal.specs.declared.event.Event.TheVariants as event
 use Rattle.alp_journal.specs.declared.entry.Entry.{Entry}
-use Rattle.alp_journal.specs.State.{State, Life, next, state_after, opened, same_trans, stamp_cmp, file_trans, with_session, with_life, begins, greets, called, does_call, decides, after_act, performed}
+use Rattle.alp_journal.specs.State.{State, Life, next, state_after, opened, same_trans, stamp_cmp, file_trans, with_session, with_life, begins, greets, called, does_call, decides, after_act, after_event, performed, Along, in_order}
 use Rattle.alp_journal.specs.State as state
+use Rattle.alp_journal.specs.Told.{IsAmong}
+use Rattle.alp_journal.specs.Laws.{Decides, IsLawfulEntry, IsLawful}
 use Rattle.alp_top.specs.declared.node.Node.{Node}
 use Rattle.alp_top.specs.declared.node.Live.{Live}
 use Rattle.alp_top.specs.declared.node.Session.{Session}
 use Rattle.alp_top.specs.Nodes.{sessions_of, lives_of, kept_state, standing_after, IsLife, OnLife, OpensWithin, CallsWithin, IsKeptAs}
-use Rattle.alp_top.proofs.StateLemmas.{state_after-push, same_trans-itself, cond_twice, cond_itself, called-next, called-begin, does_call-performs, put-last, AreEarlier-push, IsQuiet}
+use Rattle.alp_journal.proofs.StateLemmas.{state_after-push, Along-push, same_trans-itself, cond_twice, cond_itself, called-next, called-begin, does_call-performs, put-last, AreEarlier-push, IsQuiet}
 
 pub entry_of : Event → Option Reply → List Act → Entry
 entry_of e r acts = record { event = e; reply = r; acts = acts }
+
+-- one entry more that keeps to the laws
+lawful_more : (n : Node) (life : Life) (ds : List (Stamp × Decided)) (e : Entry) → IsKeptAs n life ds → IsLawfulEntry (kept_state n life ds) e → IsLawful n.opening (n.journal ++ e ∷ [])
+lawful_more n life ds e h law = Along-push next IsLawfulEntry (opened n.opening) n.journal e h.lawful (subst (λ (s : State). IsLawfulEntry s e) (sym h.state) law)
 
 longer : (js : List Entry) (e : Entry) → length js ≤ length (js ++ e ∷ [])
 longer js e = omega (arith, length-append js (e ∷ []))
@@ -60,6 +66,7 @@ hello_kept n life ds client name h first =
     let by : Option Session → State = λ (w : Option Session). greets (kept_state (record n { session = w }) life ds) client 0 1 name (sessions_of w client) in
     record {
       state = state_after-push next (opened n.opening) n.journal e ∙ ap (λ (s : State). next s e) h.state ∙ ap by first;
+      lawful = lawful_more n life ds e h (record { ids = tt; decision = tt; told = tt });
       serial = h.serial;
       files = h.files;
       made = h.made;
@@ -138,6 +145,7 @@ module _ (n : Node) (life : Life) (ds : List (Stamp × Decided)) (s : Session) (
             state_after-push next (opened n.opening) n.journal e ∙ ap (λ (x : State). next x e) h.state
             ∙ ap (λ (x : State). state_after after_act x (act.Drawn t ∷ [])) (called-begin k client n.opening.epoch number w seen_stamp (reply.Begun t) (session_there n life ds s client is own) refl turn)
             ∙ (λ i. record { server = n.opening.server; epoch = n.opening.epoch; clock = clock i; cells = n.files; sessions = sessions i; lives = lives i; drawn = n.trans_count + 1; decided = ds });
+        lawful = lawful_more n life ds e h (record { ids = (refl, refl); decision = (tt, tt); told = tt });
         serial = h.serial;
         files = h.files;
         made = h.made;
@@ -215,6 +223,21 @@ count_by_one count (reply.Owner o) = omega arith
 count_by_one count (reply.Committed s) = omega arith
 count_by_one count (reply.Ended e) = omega arith
 count_by_one count (reply.Refused f) = omega arith
+
+-- a file call's reply draws nothing and tells nothing
+file_lawful : (s : State) (e : Event) (r : Reply) → IsFileReply r → IsLawfulEntry s (record { event = e; reply = Some r; acts = [] })
+file_lawful s e (reply.Created f n) h = record { ids = tt; decision = tt; told = tt }
+file_lawful s e (reply.Opened n) h = record { ids = tt; decision = tt; told = tt }
+file_lawful s e reply.Plain h = record { ids = tt; decision = tt; told = tt }
+file_lawful s e (reply.Pages ps) h = record { ids = tt; decision = tt; told = tt }
+file_lawful s e (reply.Props p) h = record { ids = tt; decision = tt; told = tt }
+file_lawful s e (reply.Owner o) h = record { ids = tt; decision = tt; told = tt }
+file_lawful s e (reply.Refused f) h = record { ids = tt; decision = tt; told = tt }
+file_lawful s e (reply.Welcome n) h = absurd h
+file_lawful s e (reply.Begun t) h = absurd h
+file_lawful s e reply.Joined h = absurd h
+file_lawful s e (reply.Committed k) h = absurd h
+file_lawful s e (reply.Ended k) h = absurd h
 
 -- the ids given so far stay below the count
 made_below : (id : FileId) (count : ℕ) (r : Reply) (made : List FileId) → id.counter ≡ count + 1 → GivesOnly id r → AreBelow count made
@@ -315,11 +338,11 @@ module _ (n : Node) (life : Life) (ds : List (Stamp × Decided)) (s : Session) (
   }
 
   pub call_kept : (t : TransId) → IsKeptAs n life ds → n.session ≡ Some s → s.client ≡ client → number ≡ s.last + 1 → n.live ≡ Some l → l.trans ≡ t → file_trans c ≡ Some t
-      → IsBuilt c → is_passing r ≡ false → p.last ≤ l.part.last + 1
+      → IsBuilt c → is_passing r ≡ false → IsFileReply r → p.last ≤ l.part.last + 1
       → GivesOnly (record { server = n.opening.server; epoch = n.opening.epoch; counter = n.file_count + 1 }) r
       → AnswersCall n.files l.part p l.who (record { server = n.opening.server; epoch = n.opening.epoch; counter = n.file_count + 1 }) c r
       → IsKeptAs after_call (longer_life n.opening n.files n.file_count life (standing_after n ds) l p c r) ds
-  call_kept t h is own turn runs this of built plain last only right =
+  call_kept t h is own turn runs this of built plain kind last only right =
       let e : Entry = record { event = event.Call client n.opening.epoch number c; reply = Some r; acts = [] } in
       let one : length (n.journal ++ e ∷ []) ≡ length n.journal + 1 = omega (arith, length-append n.journal (e ∷ [])) in
       let k : State = kept_state n life ds in
@@ -337,6 +360,7 @@ module _ (n : Node) (life : Life) (ds : List (Stamp × Decided)) (s : Session) (
             ∙ called-next k client n.opening.epoch number w c r (Some t) (session_there n life ds s client is own) refl turn (quiet_built c built) of
             ∙ does_call-performs (with_session k client (Some (record w { last = w.last + 1 }))) c r t life plain there
             ∙ (λ i. record { server = n.opening.server; epoch = n.opening.epoch; clock = n.clock; cells = n.files; sessions = sessions i; lives = lives i; drawn = n.trans_count; decided = ds });
+        lawful = lawful_more n life ds e h (file_lawful k e.event r kind);
         serial = h.serial;
         files = h.files;
         made = AreBelow-more n.file_count (count_after n.file_count r) (standing_after n ds).made (count_grows n.file_count r) h.made;
@@ -359,6 +383,10 @@ module _ (n : Node) (life : Life) (ds : List (Stamp × Decided)) (s : Session) (
 decided_push : (ds : List (Stamp × Decided)) (x : Stamp × Decided) → list_map (λ (y : Stamp × Decided). y.1) (ds ++ x ∷ []) ≡ list_map (λ (y : Stamp × Decided). y.1) ds ++ x.1 ∷ []
 decided_push [] x = refl
 decided_push (d ∷ ds) x = ap (λ (es : List Decided). d.1 ∷ es) (decided_push ds x)
+
+decided_last : (ds : List (Stamp × Decided)) (x : Stamp × Decided) → IsAmong x.1.stamp (list_map (λ (y : Stamp × Decided). y.1) (ds ++ x ∷ []))
+decided_last [] x = inl refl
+decided_last (d ∷ ds) x = inr (decided_last ds x)
 
 no_lives : (l : Live) → ◌≡◌ {A = TransId → Option Life} (λ (u : TransId). cond {A = Option Life} (same_trans u l.trans) None None) (λ (u : TransId). None)
 no_lives l = λ i u. cond_itself {A = Option Life} (same_trans u l.trans) None i
@@ -399,13 +427,19 @@ module _ (n : Node) (life : Life) (ds : List (Stamp × Decided)) (s : Session) (
       let list : List Decided = list_map (λ (y : Stamp × Decided). y.1) ds in
       let pushed : standing_after n (ds ++ decided_now ∷ []) ≡ steps n.opening.server (begun (standing_after n ds)) life.who life.calls =
       ap (serial_end n.opening.server thread) (decided_push ds decided_now) ∙ serial_end-push n.opening.server thread list decided_now.1 in
-      record {
-        state =
-            state_after-push next (opened n.opening) n.journal e ∙ ap (λ (x : State). next x e) h.state
-            ∙ ap (λ (x : State). state_after after_act x (act.Decided stamp [] ∷ act.Released t ∷ []))
-            (called-next k client n.opening.epoch number w (call.Finish t true) (reply.Committed stamp) None (session_there n life ds s client is own) refl turn tt refl)
+      let asked : after_event k e.event e.reply ≡ with_session k client (Some (record w { last = w.last + 1 })) =
+      called-next k client n.opening.epoch number w (call.Finish t true) (reply.Committed stamp) None (session_there n life ds s client is own) refl turn tt refl in
+      let after : next k e ≡ kept_state after_commit life (ds ++ decided_now ∷ []) =
+      ap (λ (x : State). state_after after_act x (act.Decided stamp [] ∷ act.Released t ∷ [])) asked
             ∙ ap (λ (x : Option Life). with_life (decides (with_session k client (Some (record w { last = w.last + 1 }))) stamp x) t None) there
-            ∙ (λ i. record { server = n.opening.server; epoch = n.opening.epoch; clock = clock i; cells = cells i; sessions = sessions i; lives = lives i; drawn = n.trans_count; decided = places i });
+            ∙ (λ i. record { server = n.opening.server; epoch = n.opening.epoch; clock = clock i; cells = cells i; sessions = sessions i; lives = lives i; drawn = n.trans_count; decided = places i }) in
+      record {
+        state = state_after-push next (opened n.opening) n.journal e ∙ ap (λ (x : State). next x e) h.state ∙ after;
+        lawful = lawful_more n life ds e h (record {
+          ids = tt;
+          decision = subst (λ (x : State). Along after_act Decides x e.acts) (sym asked) ((omega arith, subst (λ (o : Option Life). IsSome o) (sym there) refl), tt, tt);
+          told = (subst (λ (x : State). IsAmong stamp (in_order x)) (sym after) (decided_last ds decided_now), tt);
+        });
         serial = subst (λ (x : List Decided). IsSerial n.opening.server thread x) (sym (decided_push ds decided_now)) (IsSerial-push n.opening.server thread list decided_now.1 h.serial was.right);
         files = ap (λ (x : Standing). x.files) pushed ∙ was.files ∙ cells;
         made = subst (λ (x : Standing). AreBelow n.file_count x.made) (sym pushed) was.made;
@@ -443,6 +477,7 @@ new_kept o files js life is none clock empty = record {
   state =
       ap (state_after next (opened o)) empty
       ∙ (λ i. record { server = o.server; epoch = o.epoch; clock = o.clock; cells = is i; sessions = λ c. None; lives = λ t. None; drawn = 0; decided = [] });
+  lawful = subst (λ (es : List Entry). IsLawful o es) (sym empty) tt;
   serial = tt;
   files = is;
   made = tt;

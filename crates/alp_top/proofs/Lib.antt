@@ -1,4 +1,3 @@
-pub mod StateLemmas
 pub mod KeptLemmas
 pub mod MapLemmas
 pub mod StepLemmas

@@ -21,7 +21,8 @@ use Rattle.alp_script.specs.Order.{next, after, is_declared, is_one, names_ours,
 use Rattle.alp_top.specs.declared.client.Client.{Client}
 use Rattle.alp_top.specs.declared.node.Node.{Node}
 use Rattle.alp_top.specs.Clients.{new_client}
-use Rattle.alp_top.specs.Plays.{PlaysLine, Plays, AreRecorded, exchanges_of}
+use Rattle.alp_journal.specs.Told.{exchanges_of}
+use Rattle.alp_top.specs.Plays.{PlaysLine, Plays, AreRecorded}
 use Rattle.alp_top.specs.Steps.{StartsIdle, TransAfter, Adds, IsOurs}
 use Rattle.alp_top.specs.Runs.{HasPlayed, MayFollow}
 

@@ -1,7 +1,8 @@
 -- What holds of a run: the promise that the top call makes.
-use Rattle.std.specs.Prelude.{ℕ, List, Option}
+use Rattle.std.specs.Prelude.{ℕ, List, [], Option}
 use Rattle.alp_journal.specs.declared.log.RunLog.{RunLog}
-use Rattle.alp_journal.specs.Serial.{IsOneThread}
+use Rattle.alp_journal.specs.Serial.{IsOneThread, decided}
+use Rattle.alp_journal.specs.Told.{AreKept, told, exchanges_of}
 use Rattle.alp_script.specs.declared.numbered.NumberedLine.{NumberedLine}
 use Rattle.alp_script.specs.Reading.{GaveScript}
 use Rattle.alp_top.specs.Plays.{IsFaithful}
@@ -16,6 +17,9 @@ pub record IsRun (lines : List NumberedLine) (log : RunLog) : Type 0 where
   -- the decided transactions, in the order of their stamps, are one thread's history: it gives every reply as given and
   -- ends in what the server holds
   pub serial : IsOneThread log
+  -- each stamp that a client was told is of a decided transaction, and a decided transaction has a stamp above all that
+  -- its client was told before it began
+  pub kept : (client : ℕ) → AreKept (decided log) [] (told client (exchanges_of log.lines.items))
 
 -- the headline: the source gave a script, and the log is of a run of it
 pub record IsPlayed (old new : Option (List ℕ)) (log : RunLog) : Type 0 where

@@ -14,6 +14,7 @@ use Rattle.alp_journal.specs.declared.event.Event.{Event}
 use Rattle.alp_journal.specs.declared.act.Act.{Act}
 use Rattle.alp_journal.specs.State.{State, Life, next, state_after, opened, same_trans}
 use Rattle.alp_journal.specs.State as state
+use Rattle.alp_journal.specs.Laws.{IsLawful, AreEarlier}
 use Rattle.alp_top.specs.declared.node.Node.{Node}
 use Rattle.alp_top.specs.declared.node.Live.{Live}
 use Rattle.alp_top.specs.declared.node.Session.{Session}
@@ -48,11 +49,6 @@ kept_state n life decided = record {
 -- where the thread stands that did the decided transactions
 abbrev pub standing_after : Node → List (Stamp × Decided) → Standing
 standing_after n decided = serial_end n.opening.server (starting n.opening.cells.value) (list_map (λ (x : Stamp × Decided). x.1) decided)
-
--- the times of these stamps go no further
-abbrev pub AreEarlier : ℕ → List (Stamp × Decided) → Type 0
-AreEarlier clock [] = Unit {0}
-AreEarlier clock (d ∷ ds) = (d.0.ts ≤ clock) × AreEarlier clock ds
 
 -- the live part sees what its calls left, and each of its replies was the right one
 pub record IsLife (o : Opening) (held : Cells) (count : ℕ) (life : Life) (at : Standing) (l : Live) : Type 0 where
@@ -90,6 +86,7 @@ pub record AreCounted (n : Node) : Type 0 where
 -- the server is what its journal says, with this live part and these decided transactions
 pub record IsKeptAs (n : Node) (life : Life) (decided : List (Stamp × Decided)) : Type 0 where
   pub state : state_of n ≡ kept_state n life decided
+  pub lawful : IsLawful n.opening n.journal
   pub serial : IsSerial n.opening.server (starting n.opening.cells.value) (list_map (λ (x : Stamp × Decided). x.1) decided)
   pub files : (standing_after n decided).files ≡ n.files
   pub made : AreBelow n.file_count (standing_after n decided).made

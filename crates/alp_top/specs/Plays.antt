@@ -7,6 +7,8 @@ use Rattle.alp_journal.specs.declared.event.Event.TheVariants as event
 use Rattle.alp_journal.specs.declared.log.Exchange.{Exchange}
 use Rattle.alp_journal.specs.declared.log.LineLog.{LineLog}
 use Rattle.alp_journal.specs.declared.log.RunLog.{RunLog}
+use Rattle.alp_journal.specs.Told.{exchanges_of}
+use Rattle.alp_journal.specs.Laws.{IsLawful}
 use Rattle.alp_script.specs.declared.numbered.NumberedLine.{NumberedLine}
 use Rattle.alp_script.specs.Named.{client_named}
 use Rattle.alp_top.specs.declared.client.Client.{Client}
@@ -23,10 +25,6 @@ abbrev pub Plays : Client → List NumberedLine → List LineLog → Client → 
 Plays c [] logs d = (logs ≡ []) × (d ≡ c)
 Plays c (l ∷ ls) logs d =
     (own : List LineLog) × (others : List LineLog) × (mid : Client) × (logs ≡ own ++ others) × PlaysLine c l (client_named l.line) own mid × Plays mid ls others d
-
--- all exchanges of a log, each with its client, in order
-abbrev pub exchanges_of : List LineLog → List (ℕ × Exchange)
-exchanges_of logs = flat_map (λ g. list_map (λ x. (g.client, x)) g.exchanges.items) logs
 
 -- the entry at this place is that of the exchange, and its reply is what the client was handed
 pub record Records (at : ℕ) (x : ℕ × Exchange) (e : Entry) : Type 0 where
@@ -60,5 +58,6 @@ pub record IsFaithful (lines : List NumberedLine) (log : RunLog) : Type 0 where
   pub plays : Plays new_client lines log.lines.items client
   pub journal : log.journal ≡ calls ++ ends
   pub recorded : AreRecorded 0 (exchanges_of log.lines.items) calls
+  pub lawful : IsLawful log.opening log.journal
   pub ended : list_map (λ e. e.event) ends ≡ ends_of client.trans
   pub ranks : log.ranks.items ≡ ranks_from 1 log.journal

@@ -12,7 +12,8 @@ use Rattle.alp_top.specs.Nodes.{IsKept}
 use Rattle.alp_top.specs.Clients.{new_client}
 use Rattle.alp_journal.specs.declared.entry.Entry.{Entry}
 use Rattle.alp_report.specs.Reports.{lines_text, summary_text}
-use Rattle.alp_top.specs.Plays.{Plays, AreRecorded, exchanges_of, ends_of}
+use Rattle.alp_journal.specs.Told.{exchanges_of}
+use Rattle.alp_top.specs.Plays.{Plays, AreRecorded, ends_of}
 use Rattle.alp_top.specs.Steps.{InStep}
 
 -- the lines so far, played on a server that was opened so

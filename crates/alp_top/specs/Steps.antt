@@ -18,7 +18,8 @@ use Rattle.alp_top.specs.declared.node.Live.{Live}
 use Rattle.alp_top.specs.declared.node.Session.{Session}
 use Rattle.alp_top.specs.Nodes.{IsKept, IsRunning}
 use Rattle.alp_top.specs.Clients.{Frame, frame_sent, hears, call_of, Exchanges}
-use Rattle.alp_top.specs.Plays.{Records, AreRecorded, PlaysLine, exchanges_of}
+use Rattle.alp_journal.specs.Told.{exchanges_of}
+use Rattle.alp_top.specs.Plays.{Records, AreRecorded, PlaysLine}
 use Rattle.alp_journal.specs.declared.log.LineLog.{LineLog}
 use Rattle.alp_script.specs.declared.numbered.NumberedLine.{NumberedLine}
 use Rattle.alp_script.specs.Named.{client_named}

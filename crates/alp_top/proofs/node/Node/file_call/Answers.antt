@@ -28,7 +28,7 @@ returns-clause-kept c =
       subst (λ (count : ℕ). IsKeptAs (record (after_call c.args.self.now life ds s c.args.client c.args.number l c.perform.new.self c.args.call r) { file_count = count; journal = c.push.new.self }) longer ds) (sym c.count_after-count.ensures)
           (subst (λ (js : List Entry). IsKeptAs (record (after_call c.args.self.now life ds s c.args.client c.args.number l c.perform.new.self c.args.call r) { journal = js }) longer ds) (sym journal)
           (call_kept c.args.self.now life ds s c.args.client c.args.number l c.perform.new.self c.args.call r c.args.trans h c.unwrap-session.ensures turn.0 turn.1 runs this c.requires.own c.requires.built
-          c.in_ok-reply.ensures.own c.in_ok-reply.ensures.last c.in_ok-reply.ensures.id c.in_ok-reply.ensures.right)),
+          c.in_ok-reply.ensures.own c.in_ok-reply.ensures.kind c.in_ok-reply.ensures.last c.in_ok-reply.ensures.id c.in_ok-reply.ensures.right)),
     )
 
 pub returns-clause-stepped : goal.returns-clause-stepped

@@ -14,12 +14,16 @@ use Rattle.alp_files.specs.declared.call.Call.TheVariants as call
 use Rattle.alp_files.specs.declared.reply.Reply.{Reply}
 use Rattle.alp_files.specs.Passing.{is_passing}
 use Rattle.alp_files.specs.History.{Decided}
-use Rattle.alp_top.specs.Nodes.{AreEarlier}
-use Rattle.alp_journal.specs.State.{State, Session, Life, state_after, same_trans, stamp_cmp, file_trans, is_new, with_session, performed, does_call, does, begins, calls_on, called}
+use Rattle.alp_journal.specs.Laws.{AreEarlier}
+use Rattle.alp_journal.specs.State.{State, Session, Life, Along, state_after, same_trans, stamp_cmp, file_trans, is_new, with_session, performed, does_call, does, begins, calls_on, called}
 
 pub state_after-push : {S E : Type 0} (step : S → E → S) (s : S) (es : List E) (e : E) → state_after step s (es ++ e ∷ []) ≡ step (state_after step s es) e
 state_after-push step s [] e = refl
 state_after-push step s (x ∷ es) e = state_after-push step (step s x) es e
+
+pub Along-push : {S E : Type 0} (step : S → E → S) (law : S → E → Type 0) (s : S) (es : List E) (e : E) → Along step law s es → law (state_after step s es) e → Along step law s (es ++ e ∷ [])
+Along-push step law s [] e h k = (k, tt)
+Along-push step law s (x ∷ es) e h k = (h.0, Along-push step law (step s x) es e h.1 k)
 
 pub same_trans-itself : (t : TransId) → same_trans t t ≡ true
 same_trans-itself t =
@@ -40,7 +44,7 @@ IsQuiet (call.Hello name) = ⊥
 IsQuiet (call.Begin seen) = ⊥
 IsQuiet _ = Unit {0}
 
-does_by : (s : State) (client : ℕ) (w : Session) (c : Call) (r : Reply) → IsQuiet c → does s client w c r ≡ does_call s c r (file_trans c)
+pub does_by : (s : State) (client : ℕ) (w : Session) (c : Call) (r : Reply) → IsQuiet c → does s client w c r ≡ does_call s c r (file_trans c)
 does_by s client w (call.Hello name) r q = absurd q
 does_by s client w (call.Begin seen) r q = absurd q
 does_by s client w (call.Join t) r q = refl
@@ -61,7 +65,7 @@ does_by s client w (call.Finish t commit) r q = refl
 does_by s client w (call.Outcome t) r q = refl
 does_by s client w (call.Collect n) r q = refl
 
-called_plain : (s : State) (client epoch number : ℕ) (c : Call) (r : Reply) → IsQuiet c
+pub called_plain : (s : State) (client epoch number : ℕ) (c : Call) (r : Reply) → IsQuiet c
     → called s client epoch number c r ≡ cond (is_new s (s.sessions client) epoch number) (calls_on s client (s.sessions client) c r) s
 called_plain s client epoch number (call.Hello name) r q = absurd q
 called_plain s client epoch number (call.Begin seen) r q = absurd q
@@ -118,7 +122,7 @@ trans_cmp : TransId → TransId → Ordering
 trans_cmp = (trans_ord.ghosts).cmp
 
 -- a later time makes a greater stamp
-stamp_cmp-later : (k x : Stamp) → x.ts < k.ts → stamp_cmp k x ≡ Greater
+pub stamp_cmp-later : (k x : Stamp) → x.ts < k.ts → stamp_cmp k x ≡ Greater
 unfolding trans_cmp
 stamp_cmp-later k x h =
     let above : Greater ≡ nat_cmp k.ts x.ts = nat_cmp_is k.ts x.ts Greater h in
