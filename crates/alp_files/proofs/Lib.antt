@@ -5,3 +5,4 @@ pub mod EditLemmas
 pub mod PartLemmas
 pub mod HistoryLemmas
 pub mod BornLemmas
+pub mod SumLemmas
