@@ -6,3 +6,5 @@ pub mod PartLemmas
 pub mod HistoryLemmas
 pub mod BornLemmas
 pub mod SumLemmas
+pub mod SameLemmas
+pub mod ChargeLemmas
