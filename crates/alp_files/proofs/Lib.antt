@@ -8,3 +8,5 @@ pub mod BornLemmas
 pub mod SumLemmas
 pub mod SameLemmas
 pub mod ChargeLemmas
+pub mod FilesLemmas
+pub mod SoundEdits
