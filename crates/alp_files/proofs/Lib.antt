@@ -10,3 +10,4 @@ pub mod SameLemmas
 pub mod ChargeLemmas
 pub mod FilesLemmas
 pub mod SoundEdits
+pub mod SoundLemmas

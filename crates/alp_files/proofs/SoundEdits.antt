@@ -107,6 +107,10 @@ module _ (m : Cells) (s : AreSound m) where
     λ owner o is. holds-edit m (Cut f n) (charge_of m) (λ x c. refl) s.1 owner o is ∙ sym (charge-cut m s.0.kinds f n owner),
   )
 
+  -- no page is left at or past the cut
+  pub pages-below-cut : (f : FileId) (n : ℕ) → ArePagesBelow (map.get (edit_map (Cut f n) m)) f n
+  pages-below-cut f n = subst (λ (v : View). ArePagesBelow v f n) (sym (get-edits_map (Cut f n ∷ []) m)) (cut-below (map.get m) f n)
+
   -- another size, the owner charged for it
   pub sound-resize : (f : FileId) (p q : Props) (o : OwnerRecord) (c : ℕ) → map.get m (Leader f) ≡ Some (cell.Leader p) → q.owner ≡ p.owner → map.get m (OwnerOf p.owner) ≡ Some (cell.Owner o)
       → ArePagesBelow (map.get m) f q.size → c + p.size ≡ o.charge + q.size → AreSound (edits_map (Put (Leader f) (cell.Leader q) ∷ charge_put p.owner o c ∷ []) m)
