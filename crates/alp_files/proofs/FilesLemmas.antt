@@ -88,8 +88,8 @@ files-put_page m f i bytes p here less s = record {
   owned = λ g q h. s.owned g q h;
   paged = λ g n c h. elim (put_or_there (eq_by_cmp key_cmp (PageOf g n) (PageOf f i)) (cell.Page bytes) c (m (PageOf g n)) h) [
     | inl a ↦
-      let same : (g ≡ f) × (n ≡ i) = same_page_key g f n i a.0 in
-      (p, ap (λ (x : FileId). m (Leader x)) same.0 ∙ here, subst (λ (x : ℕ). x < p.size) (sym same.1) less)
+        let same : (g ≡ f) × (n ≡ i) = same_page_key g f n i a.0 in
+        (p, ap (λ (x : FileId). m (Leader x)) same.0 ∙ here, subst (λ (x : ℕ). x < p.size) (sym same.1) less)
     | inr a ↦ s.paged g n c a.1
   ];
 }
@@ -99,9 +99,9 @@ files-drop m f s = record {
   kinds = λ k c h. s.kinds k c (not_gone (is_in_file f k) c (m k) h).1;
   owned = λ g p h. s.owned g p (not_gone (same_file f g) (cell.Leader p) (m (Leader g)) h).1;
   paged = λ g n c h.
-    let stays : (same_file f g ≡ false) × (m (PageOf g n) ≡ Some c) = not_gone (same_file f g) c (m (PageOf g n)) h in
-    let there = s.paged g n c stays.1 in
-    (there.0, ap (λ (b : Bool). cond b None (m (Leader g))) stays.0 ∙ there.1, there.2);
+      let stays : (same_file f g ≡ false) × (m (PageOf g n) ≡ Some c) = not_gone (same_file f g) c (m (PageOf g n)) h in
+      let there = s.paged g n c stays.1 in
+      (there.0, ap (λ (b : Bool). cond b None (m (Leader g))) stays.0 ∙ there.1, there.2);
 }
 
 pub files-cut : (m : View) (f : FileId) (n : ℕ) → AreFiles m → AreFiles (after (Cut f n ∷ []) m)

@@ -31,10 +31,57 @@ use Rattle.alp_files.specs.declared.open.Open.{Open}
 use Rattle.alp_files.specs.Cells.{Cells, View, same_name, has_file, props_in, owner_in, page_in}
 use Rattle.alp_files.specs.Edits.{Edit, Drop, Cut, Put, edit_map, edits_map}
 use Rattle.alp_files.specs.Act.{
-  Own, Answer, Look, Ask, Say, run, unless, refused, told, no_answer, is_admin, is_over, over, owner_of, open_at, on_props, on_open, on_change, if_change,
-  is_new, created_file, create_file, create_tests, charge_put, delete_file, ask_pages, page_past, page_puts, mark_put, read_pages, write_pages, lock_pages, is_changing,
-  set_size, cut_file, grow_file, write_props, move_file, move_tests, put_props, read_owner, make_owner, set_quota, open_file, access_tests, props_of, opened, close_file,
-  program, answer, id_in,
+  Own,
+  Answer,
+  Look,
+  Ask,
+  Say,
+  run,
+  unless,
+  refused,
+  told,
+  no_answer,
+  is_admin,
+  is_over,
+  over,
+  owner_of,
+  open_at,
+  on_props,
+  on_open,
+  on_change,
+  if_change,
+  is_new,
+  created_file,
+  create_file,
+  create_tests,
+  charge_put,
+  delete_file,
+  ask_pages,
+  page_past,
+  page_puts,
+  mark_put,
+  read_pages,
+  write_pages,
+  lock_pages,
+  is_changing,
+  set_size,
+  cut_file,
+  grow_file,
+  write_props,
+  move_file,
+  move_tests,
+  put_props,
+  read_owner,
+  make_owner,
+  set_quota,
+  open_file,
+  access_tests,
+  props_of,
+  opened,
+  close_file,
+  program,
+  answer,
+  id_in,
 }
 use Rattle.alp_files.specs.Files.{AreFiles, AreCharged, charge_of}
 use Rattle.alp_files.specs.History.{Done, Standing, Decided, answer_to, step, steps, begun, serial_end}
@@ -44,7 +91,18 @@ use Rattle.alp_files.proofs.SameLemmas.{same_name-false}
 use Rattle.alp_files.proofs.BornLemmas.{props_leader}
 use Rattle.alp_files.proofs.FilesLemmas.{HasOwner, ArePagesBelow, cut-below, has-name, below-size}
 use Rattle.alp_files.proofs.SoundEdits.{
-  sound-create, sound-delete, charged-enough, sound-cut, sound-resize, sound-props, sound-move, sound-owner, uncharged, leader-pages, sound-pages, pages-below-cut,
+  sound-create,
+  sound-delete,
+  charged-enough,
+  sound-cut,
+  sound-resize,
+  sound-props,
+  sound-move,
+  sound-owner,
+  uncharged,
+  leader-pages,
+  sound-pages,
+  pages-below-cut,
 }
 
 -- none of these tests refuses
@@ -134,11 +192,11 @@ module _ (m : Cells) (s : AreSound m) where
   keeps_write own r pages full o p here =
       keeps_unless own (page_past r p) (told own reply.Plain (page_puts o.file r.first pages ++ mark_put o.file p (r.first + r.count)))
       (λ no. (
-        let past : r.first + r.count ≤ p.size = ltb-false p.size (r.first + r.count) no.0 in
-        let mid : Cells = edits_map (page_puts o.file r.first pages) m in
-        let sound : AreSound mid = sound-pages o.file p pages r.first m s here (omega (arith, past, full)) in
-        subst AreSound (sym (edits_map-append (page_puts o.file r.first pages) (mark_put o.file p (r.first + r.count)) m))
-        (mark (nat_lt p.high_water (r.first + r.count)) mid sound (leader-pages o.file r.first pages m ∙ here))))
+      let past : r.first + r.count ≤ p.size = ltb-false p.size (r.first + r.count) no.0 in
+      let mid : Cells = edits_map (page_puts o.file r.first pages) m in
+      let sound : AreSound mid = sound-pages o.file p pages r.first m s here (omega (arith, past, full)) in
+      subst AreSound (sym (edits_map-append (page_puts o.file r.first pages) (mark_put o.file p (r.first + r.count)) m))
+      (mark (nat_lt p.high_water (r.first + r.count)) mid sound (leader-pages o.file r.first pages m ∙ here))))
     where
       mark : (b : Bool) (mid : Cells) → AreSound mid → map.get mid (Leader o.file) ≡ Some (cell.Leader p)
           → AreSound (edits_map (cond b (Put (Leader o.file) (cell.Leader (record p { high_water = r.first + r.count })) ∷ []) []) mid)
@@ -161,8 +219,8 @@ module _ (m : Cells) (s : AreSound m) where
       keeps_unless own ((is_over r (size - p.size), over r (size - p.size)) ∷ [])
       (told own reply.Plain (Put (Leader o.file) (cell.Leader (record p { size = size })) ∷ charge_put p.owner r (r.charge + (size - p.size)) ∷ []))
       (λ no. sound-resize m s o.file p (record p { size = size }) r (r.charge + (size - p.size)) here refl (its-owner o.file p here)
-        (λ n c is. (let low : n < p.size = below-size (map.get m) s.0 o.file p here n c is in omega (arith, low, more)))
-        (omega (arith, more)))
+      (λ n c is. (let low : n < p.size = below-size (map.get m) s.0 o.file p here n c is in omega (arith, low, more)))
+      (omega (arith, more)))
 
   keeps_size : (own : Own) (size : ℕ) (o : Open) (p : Props) → map.get m (Leader o.file) ≡ Some (cell.Leader p) → Keeps m (run (map.get m) (set_size own size o p)).edits
   keeps_size own size o p here = go (size == p.size) (nat_lt size p.size) refl
@@ -176,8 +234,8 @@ module _ (m : Cells) (s : AreSound m) where
   keeps_move own who name o p here = go (same_name p.owner name) refl
     where
       go : (b : Bool) → same_name p.owner name ≡ b → Keeps m (run (map.get m) (cond b (Say (told own reply.Plain [])) (Ask (OwnerOf name) (λ nc. Ask (OwnerOf p.owner) (λ oc. Say (unless own (move_tests who name p.size nc) (told own reply.Plain (
-        Put (Leader o.file) (cell.Leader (record p { owner = name })) ∷ charge_put p.owner (owner_of oc) ((owner_of oc).charge - p.size)
-        ∷ charge_put name (owner_of nc) ((owner_of nc).charge + p.size) ∷ [])))))))).edits
+          Put (Leader o.file) (cell.Leader (record p { owner = name })) ∷ charge_put p.owner (owner_of oc) ((owner_of oc).charge - p.size)
+          ∷ charge_put name (owner_of nc) ((owner_of nc).charge + p.size) ∷ [])))))))).edits
       go true e = s
       go false e = keeps_unless own (move_tests who name p.size (map.get m (OwnerOf name))) _
           (λ no. sound-move m s o.file p name (owner_of (map.get m (OwnerOf p.owner))) (owner_of (map.get m (OwnerOf name))) here (same_name-false p.owner name e) (its-owner o.file p here) (some-owner (map.get m (OwnerOf name)) no.0))
@@ -203,8 +261,8 @@ module _ (m : Cells) (s : AreSound m) where
       ((not (is_some (owner_in (map.get m (OwnerOf name)))), refusal.UnknownOwner) ∷ (not (is_admin who), refusal.AccessDenied lists.Admin) ∷ [])
       (told own reply.Plain (Put (OwnerOf name) (cell.Owner (record r { quota = quota })) ∷ []))
       (λ no. (
-        let there = some-owner (map.get m (OwnerOf name)) no.0 in
-        sound-owner m s name (record r { quota = quota }) (has-name (map.get m) s.0 name r there) (s.1 name r there)))
+      let there = some-owner (map.get m (OwnerOf name)) no.0 in
+      sound-owner m s name (record r { quota = quota }) (has-name (map.get m) s.0 name r there) (s.1 name r there)))
 
   keeps_lock : (own : Own) (r : Run) (o : Open) (p : Props) → Keeps m (run (map.get m) (lock_pages own r o p)).edits
   keeps_lock own r o p = keeps_unless own (page_past r p) (told own reply.Plain []) (λ no. s)
