@@ -1,8 +1,8 @@
 -- what owners are charged after each edit, where each cell is of its key's kind
-use Rattle.std.specs.Prelude.{cond, Bool, true, false, not, ◌&&◌, nat_le, Option, None, Some}
+use Rattle.std.specs.Prelude.{cond, Bool, true, false, ◌&&◌, nat_le, Option, None, Some}
 use Rattle.std.specs.FinMap as map
 use Rattle.std.specs.Ordering.{eq_by_cmp}
-use Rattle.std.proofs.Common.{◌≡◌, ℕ, ◌+◌, List, [], ◌∷◌, refl, sym, ◌∙◌, ap, subst, arith}
+use Rattle.std.proofs.Common.{◌≡◌, ℕ, ◌+◌, List, refl, sym, ◌∙◌, ap, arith}
 use Rattle.alp_base.specs.declared.ids.FileId.{FileId}
 use Rattle.alp_base.specs.declared.key.Key.{Key}
 use Rattle.alp_base.specs.declared.key.Key.TheVariants.{Leader, PageOf, OwnerOf}
@@ -13,9 +13,9 @@ use Rattle.alp_files.specs.declared.cell.Cell.TheVariants as cell
 use Rattle.alp_files.specs.declared.cell.Props.{Props}
 use Rattle.alp_files.specs.declared.cell.OwnerRecord.{OwnerRecord}
 use Rattle.alp_files.specs.Cells.{Cells, View, same_file, same_name}
-use Rattle.alp_files.specs.Edits.{Edit, Drop, Cut, Put, is_in_file, is_past, edit_map}
+use Rattle.alp_files.specs.Edits.{Drop, Cut, Put, is_in_file, is_past, edit_map}
 use Rattle.alp_files.specs.Files.{IsOfKind, cost, charge_of}
-use Rattle.alp_files.proofs.SumLemmas.{weight_at, sum_of, sum-insert, sum-retain_keys, sum_of-nothing, sum_of-single}
+use Rattle.alp_files.proofs.SumLemmas.{weight_at, sum-insert, sum-retain_keys, sum_of-nothing, sum_of-single}
 use Rattle.alp_files.proofs.SameLemmas.{same_name-itself, other_name, same_file-true, same_file-itself, same_key-itself}
 
 -- each cell is of its key's kind

@@ -1,5 +1,5 @@
 -- what each edit keeps of well-formed files
-use Rattle.std.specs.Prelude.{cond, Bool, true, false, not, ◌&&◌, nat_le, Option, None, Some, ◌⊎◌}
+use Rattle.std.specs.Prelude.{cond, Bool, true, false, ◌&&◌, nat_le, Option, None, Some, ◌⊎◌}
 use Rattle.std.specs.Option.{unwrap_or}
 use Rattle.std.specs.Ordering.{eq_by_cmp}
 use Rattle.std.proofs.Common.{◌≡◌, ℕ, ◌<◌, List, [], ◌∷◌, refl, sym, ◌∙◌, ap, subst, inl, inr}
@@ -13,9 +13,9 @@ use Rattle.alp_files.specs.declared.cell.Cell.TheVariants as cell
 use Rattle.alp_files.specs.declared.cell.Props.{Props}
 use Rattle.alp_files.specs.declared.cell.OwnerRecord.{OwnerRecord}
 use Rattle.alp_files.specs.Cells.{View, same_file}
-use Rattle.alp_files.specs.Edits.{Edit, Drop, Cut, Put, is_in_file, is_past, after}
+use Rattle.alp_files.specs.Edits.{Drop, Cut, Put, is_in_file, is_past, after}
 use Rattle.alp_files.specs.Files.{IsOfKind, AreFiles}
-use Rattle.alp_files.proofs.SameLemmas.{same_key-true, same_key-itself, same_leader_key, same_page_key, same_file-itself}
+use Rattle.alp_files.proofs.SameLemmas.{same_key-true, same_leader_key, same_page_key, same_file-itself}
 
 -- the owner of that name is there
 abbrev pub HasOwner : View → List ℕ → Type 0

@@ -1,8 +1,8 @@
 -- the changes of each call keep files well formed and charged
-use Rattle.std.specs.Prelude.{cond, Bool, true, false, Option, None, Some, is_some, nat_lt, length}
+use Rattle.std.specs.Prelude.{cond, Bool, true, false, Option, None, Some, is_some, length}
 use Rattle.std.specs.FinMap as map
 use Rattle.std.specs.Ordering.{eq_by_cmp}
-use Rattle.std.proofs.Common.{◌≡◌, ℕ, suc, ◌+◌, ◌-◌, ◌<◌, ◌≤◌, List, [], ◌∷◌, ◌++◌, refl, sym, ◌∙◌, ap, subst, arith}
+use Rattle.std.proofs.Common.{◌≡◌, ℕ, ◌+◌, ◌-◌, ◌<◌, ◌≤◌, List, [], ◌∷◌, refl, sym, ◌∙◌, ap, subst, arith}
 use Rattle.alp_base.specs.declared.ids.FileId.{FileId}
 use Rattle.alp_base.specs.declared.key.Key.{Key}
 use Rattle.alp_base.specs.declared.key.Key.TheVariants.{Leader, PageOf, OwnerOf}
@@ -15,13 +15,13 @@ use Rattle.alp_files.specs.declared.cell.OwnerRecord.{OwnerRecord}
 use Rattle.alp_files.specs.Cells.{Cells, View, owner_in, same_name}
 use Rattle.alp_files.specs.Edits.{Edit, Drop, Cut, Put, edit_at, after, edit_map, edits_map}
 use Rattle.alp_files.specs.Act.{charge_put, page_puts}
-use Rattle.alp_files.specs.Files.{IsOfKind, AreFiles, cost, charge_of, AreCharged}
+use Rattle.alp_files.specs.Files.{AreFiles, cost, charge_of}
 use Rattle.alp_files.specs.Sound.{AreSound}
 use Rattle.alp_files.proofs.HistoryLemmas.{get-edit_map, get-edits_map}
 use Rattle.alp_files.proofs.SumLemmas.{sum_of-nothing}
-use Rattle.alp_files.proofs.SameLemmas.{same_owner_key, same_key-itself, same_name-true}
-use Rattle.alp_files.proofs.ChargeLemmas.{AreKinds, cost_in, cost-own, cost-other, charge-put, charge-owner, charge-page, charge-drop, charge-cut}
-use Rattle.alp_files.proofs.FilesLemmas.{HasOwner, ArePagesBelow, files-put_owner, files-put_leader, files-put_page, files-drop, files-cut, cut-below, has-name, below-size, no-pages, same-some}
+use Rattle.alp_files.proofs.SameLemmas.{same_owner_key, same_key-itself}
+use Rattle.alp_files.proofs.ChargeLemmas.{cost_in, cost-own, cost-other, charge-put, charge-owner, charge-page, charge-drop, charge-cut}
+use Rattle.alp_files.proofs.FilesLemmas.{ArePagesBelow, files-put_owner, files-put_leader, files-put_page, files-drop, files-cut, cut-below, has-name, below-size, no-pages, same-some}
 
 -- each owner's record holds what is said
 abbrev Holds : Cells → (List ℕ → ℕ) → Type 0

@@ -1,19 +1,17 @@
 -- every call, and so every history, keeps files well formed and charged
-use Rattle.std.specs.Prelude.{cond, Bool, true, false, not, ◌&&◌, ◌==◌, nat_lt, min, Option, None, Some, is_some}
+use Rattle.std.specs.Prelude.{cond, Bool, true, false, not, ◌==◌, nat_lt, min, Option, None, Some, is_some}
 use Rattle.std.specs.List.{AllByRecursion}
 use Rattle.std.specs.FinMap as map
-use Rattle.std.specs.FinMap.{FinMap, get-empty}
+use Rattle.std.specs.FinMap.{get-empty}
 use Rattle.std.proofs.Common.{◌≡◌, ℕ, zero, suc, ◌+◌, ◌-◌, ◌<◌, ◌≤◌, List, [], ◌∷◌, ◌++◌, length, refl, sym, ◌∙◌, ap, subst, arith}
 use Rattle.std.proofs.lemmas.Bool.{ltb-true, ltb-false}
 use Rattle.alp_base.specs.declared.ids.FileId.{FileId}
 use Rattle.alp_base.specs.declared.ids.Run.{Run}
 use Rattle.alp_base.specs.declared.key.Key.{Key}
 use Rattle.alp_base.specs.declared.key.Key.TheVariants.{Leader, PageOf, OwnerOf}
-use Rattle.alp_base.specs.declared.choices.Access.{Access}
 use Rattle.alp_base.specs.declared.choices.Access.TheVariants.{ReadOnly, Change}
 use Rattle.alp_base.specs.Keys.{key_cmp}
 use Rattle.alp_base.proofs.NameLemmas.{and_left, and_right}
-use Rattle.alp_modes.specs.declared.Mode.{Mode}
 use Rattle.alp_files.specs.declared.cell.Cell.{Cell}
 use Rattle.alp_files.specs.declared.cell.Cell.TheVariants as cell
 use Rattle.alp_files.specs.declared.cell.Props.{Props}
@@ -28,68 +26,15 @@ use Rattle.alp_files.specs.declared.refusal.Refusal.{Refusal}
 use Rattle.alp_files.specs.declared.refusal.Refusal.TheVariants as refusal
 use Rattle.alp_files.specs.declared.refusal.ListName.TheVariants as lists
 use Rattle.alp_files.specs.declared.open.Open.{Open}
-use Rattle.alp_files.specs.Cells.{Cells, View, same_name, has_file, props_in, owner_in, page_in}
-use Rattle.alp_files.specs.Edits.{Edit, Drop, Cut, Put, edit_map, edits_map}
-use Rattle.alp_files.specs.Act.{
-  Own,
-  Answer,
-  Look,
-  Ask,
-  Say,
-  run,
-  unless,
-  refused,
-  told,
-  no_answer,
-  is_admin,
-  is_over,
-  over,
-  owner_of,
-  open_at,
-  on_props,
-  on_open,
-  on_change,
-  if_change,
-  is_new,
-  created_file,
-  create_file,
-  create_tests,
-  charge_put,
-  delete_file,
-  ask_pages,
-  page_past,
-  page_puts,
-  mark_put,
-  read_pages,
-  write_pages,
-  lock_pages,
-  is_changing,
-  set_size,
-  cut_file,
-  grow_file,
-  write_props,
-  move_file,
-  move_tests,
-  put_props,
-  read_owner,
-  make_owner,
-  set_quota,
-  open_file,
-  access_tests,
-  props_of,
-  opened,
-  close_file,
-  program,
-  answer,
-  id_in,
-}
-use Rattle.alp_files.specs.Files.{AreFiles, AreCharged, charge_of}
-use Rattle.alp_files.specs.History.{Done, Standing, Decided, answer_to, step, steps, begun, serial_end}
+use Rattle.alp_files.specs.Cells.{Cells, same_name, props_in, owner_in, page_in}
+use Rattle.alp_files.specs.Edits.{Edit, Cut, Put, edit_map, edits_map}
+use Rattle.alp_files.specs.Act.{Own, Answer, Look, Ask, Say, run, unless, refused, told, no_answer, is_admin, is_over, over, owner_of, open_at, on_props, on_open, on_change, if_change, is_new, created_file, create_file, create_tests, charge_put, delete_file, ask_pages, page_past, page_puts, mark_put, read_pages, write_pages, lock_pages, is_changing, set_size, cut_file, grow_file, write_props, move_file, move_tests, make_owner, set_quota, access_tests, props_of, opened, close_file, answer, id_in}
+use Rattle.alp_files.specs.History.{Done, Standing, Decided, step, steps, begun, serial_end}
 use Rattle.alp_files.specs.Sound.{AreSound, HasItsPages, HaveTheirPages, IsSoundAfterEach}
 use Rattle.alp_files.proofs.HistoryLemmas.{edits_map-append, get-edit_map}
 use Rattle.alp_files.proofs.SameLemmas.{same_name-false}
 use Rattle.alp_files.proofs.BornLemmas.{props_leader}
-use Rattle.alp_files.proofs.FilesLemmas.{HasOwner, ArePagesBelow, cut-below, has-name, below-size}
+use Rattle.alp_files.proofs.FilesLemmas.{has-name, below-size}
 use Rattle.alp_files.proofs.SoundEdits.{
   sound-create,
   sound-delete,
