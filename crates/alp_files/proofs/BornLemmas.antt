@@ -59,7 +59,7 @@ unborn_owner server epoch count name c m h = h
 pub unborn_more : (server epoch m n : ℕ) (v : View) → m ≤ n → IsUnborn server epoch v m → IsUnborn server epoch v n
 unborn_more server epoch m n v le h k high = h k (omega arith)
 
-props_leader : (c : Option Cell) (p : Props) → props_in c ≡ Some p → c ≡ Some (cell.Leader p)
+pub props_leader : (c : Option Cell) (p : Props) → props_in c ≡ Some p → c ≡ Some (cell.Leader p)
 props_leader (Some (cell.Leader q)) p e = let same : q ≡ p = cc in ap (λ (x : Props). Some (cell.Leader x)) same
 props_leader (Some (cell.Page bytes)) p e = cc
 props_leader (Some (cell.Owner o)) p e = cc

@@ -49,7 +49,7 @@ not_cond : (b : Bool) (o : Option Cell) → cond (not b) o None ≡ cond b None 
 not_cond true o = refl
 not_cond false o = refl
 
-get-edit_map : (e : Edit) (m : Cells) (q : Key) → map.get (edit_map e m) q ≡ edit_at e q (map.get m q)
+pub get-edit_map : (e : Edit) (m : Cells) (q : Key) → map.get (edit_map e m) q ≡ edit_at e q (map.get m q)
 get-edit_map (Drop f) m q =
     get-retain_keys m (λ k. not (is_in_file f k)) q (λ x e. ap (λ (k : Key). not (is_in_file f k)) (sym (exact_keys q x e))) ∙ not_cond (is_in_file f q) (map.get m q)
 get-edit_map (Cut f n) m q =

@@ -5,3 +5,9 @@ pub mod EditLemmas
 pub mod PartLemmas
 pub mod HistoryLemmas
 pub mod BornLemmas
+pub mod SumLemmas
+pub mod SameLemmas
+pub mod ChargeLemmas
+pub mod FilesLemmas
+pub mod SoundEdits
+pub mod SoundLemmas

@@ -4,6 +4,7 @@ pub mod Edits
 pub mod Act
 pub mod History
 pub mod Files
+pub mod Sound
 pub mod Parts
 pub mod Born
 pub mod Passing
