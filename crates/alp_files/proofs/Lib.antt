@@ -2,8 +2,9 @@ pub mod TreeLemmas
 pub mod PropsFieldLaw
 pub mod CellMapLemmas
 pub mod EditLemmas
-pub mod PartLemmas
 pub mod HistoryLemmas
+pub mod UndoLemmas
+pub mod PartLemmas
 pub mod BornLemmas
 pub mod SumLemmas
 pub mod SameLemmas

@@ -23,7 +23,6 @@ use Rattle.alp_files.specs.Cells.{Cells, View, has_file, props_in, owner_in, pag
 use Rattle.alp_files.specs.Edits.{Edit, Put, after}
 use Rattle.alp_files.specs.Act.{Own, Answer, Look, Ask, run, unless, refused, told, no_answer, admits, is_admin, is_over, over, open_at, on_open, on_change, on_props, if_change, is_new, created_file, create_file, read_pages, write_pages, make_owner, ask_pages, page_puts, mark_put, charge_put, opened, page_past}
 use Rattle.alp_files.specs.Parts.{seen, own_of, Performs, ChangesBy, Gives, Answers, pages_at}
-use Rattle.alp_files.proofs.EditLemmas.{changes-append}
 
 pub unless-false : (own : Own) (t : Bool) (r : Refusal) (ts : List (Bool × Refusal)) (a : Answer) → t ≡ false → unless own ((t, r) ∷ ts) a ≡ unless own ts a
 unless-false own t r ts a e = ap (λ (b : Bool). cond b (refused own r) (unless own ts a)) e
@@ -128,14 +127,14 @@ pages_read held old new n r o p ps is there within pages own h =
 
 pub pages_written : (held : Cells) (old new : Part) (n : ℕ) (r : Run) (pages : List (List ℕ)) (o : Open) (p : Props)
     → open_at old.opens.items n ≡ Some o → o.access ≡ Change → props_in (seen held old (Leader o.file)) ≡ Some p → nat_lt p.size (r.first + r.count) ≡ false
-    → (mid : Cells) → ChangesBy (page_puts o.file r.first pages) old.intents mid → ChangesBy (mark_put o.file p (r.first + r.count)) mid new.intents → own_of new ≡ own_of old
+    → ChangesBy (page_puts o.file r.first pages ++ mark_put o.file p (r.first + r.count)) old.intents new.intents → own_of new ≡ own_of old
     → Gives held old new reply.Plain (λ own. on_change own (open_at own.opens n) (write_pages own r pages))
-pages_written held old new n r pages o p is change there within mid puts mark own =
+pages_written held old new n r pages o p is change there within puts own =
     let es : List Edit = page_puts o.file r.first pages ++ mark_put o.file p (r.first + r.count) in
     performs_as held old new _ (told (own_of old) reply.Plain es) reply.Plain
     (on_change-there (seen held old) (own_of old) _ o p (write_pages (own_of old) r pages) is change there
     ∙ unless-false (own_of old) _ (refusal.NoSuchPage p.size) [] (told (own_of old) reply.Plain es) within)
-    (told_changes held old new reply.Plain es own (changes-append (page_puts o.file r.first pages) (mark_put o.file p (r.first + r.count)) old.intents mid new.intents puts mark))
+    (told_changes held old new reply.Plain es own puts)
 
 -- a reference to a value is there where the value is
 pub is_some-copied : {T : Type 0} (o : Option (Bor T)) → is_some (option_copied o) ≡ is_some o

@@ -1,6 +1,7 @@
 pub mod PropsField
 pub mod Cells
 pub mod Edits
+pub mod Undo
 pub mod Act
 pub mod History
 pub mod Files

@@ -26,6 +26,10 @@ pub record Performs (held : Cells) (old new : Part) (a : Answer) (r : Reply) : T
   pub own : own_of new ≡ a.own
   pub view : seen held new ≡ after a.edits (seen held old)
 
+-- want of memory left the part's intents and opens as they were
+abbrev pub IsAsBefore : Part → Part → Type 0
+IsAsBefore old new = (new.intents ≡ old.intents) × (own_of new ≡ own_of old)
+
 -- the intents changed what is seen by these edits, whatever is held
 abbrev pub ChangesBy : List Edit → Cells → Cells → Type 0
 ChangesBy es old new = (m : View) → over new m ≡ after es (over old m)

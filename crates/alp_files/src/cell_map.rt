@@ -1,10 +1,12 @@
 //! A map of cells by their keys.
-ghost use Rattle.std.specs.Prelude.{◌≡◌, ℕ, List, IfOk, OnOk, OnErr, Some};
+ghost use Rattle.std.specs.Prelude.{◌≡◌, ℕ, ◌<◌, List, [], ◌∷◌, ◌++◌, length, IfOk, OnOk, OnErr, Some, None};
 ghost use Rattle.std.specs.List.{filter_map};
 ghost use Rattle.std.specs.BTreeMap.{values, IsOrdered};
 ghost use Rattle.alp_base.specs.Keys.{key_cmp};
-ghost use Rattle.alp_files.specs.Cells.{View, size_in, sizes_of, owner_in, owners_of};
-ghost use Rattle.alp_files.specs.Edits.{over};
+ghost use Rattle.alp_files.specs.declared.cell.Cell.{Cell as ACell};
+ghost use Rattle.alp_files.specs.Undo.{puts_of, LedBy};
+ghost use Rattle.alp_files.specs.Cells.{Cells, View, size_in, sizes_of, owner_in, owners_of};
+ghost use Rattle.alp_files.specs.Edits.{over, edits_map};
 ghost use Rattle.std.specs.FinMap as map;
 ghost use Rattle.std.specs.Option.{option_copied as copied};
 
@@ -58,14 +60,81 @@ impl CellMap {
         Ok(())
     }
 
-    /// Takes all cells of `puts`, each in place of what stood at its key.
-    pub fn absorb(&mut self, puts: &mut CellMap) -> Result<(), OutOfMemory>
-        ensures { OnOk result (map.get self.new ≡ over puts.old (map.get self.old)) }
+    // Puts a cell and gives what stood at the key.
+    fn replace(&mut self, key: Key, cell: Cell) -> Result<Option<Cell>, OutOfMemory>
+        ensures ok { OnOk result (self.new ≡ map.insert self.old key cell) }
+        ensures old { IfOk result (λ old. old ≡ map.get self.old key) }
+        ensures err { OnErr result (self.new ≡ self.old) }
+        ensures absent { OnErr result (map.get self.old key ≡ None) }
     {
-        while let Some((key, cell)) = puts.cells.pop_last() {
-            self.put(key, cell)?;
+        let old = self.cells.insert(key, cell)?;
+        Ok(old)
+    }
+
+    // Puts a cell and notes what stood at its key.
+    fn put_noted(
+        &mut self,
+        before: &mut Vec<(Key, Option<Cell>)>,
+        key: &Key,
+        cell: Cell,
+    ) -> Result<(), OutOfMemory>
+        requires { length before.old.items < before.old.cap }
+        ensures ok { OnOk result (self.new ≡ map.insert self.old key.now cell) }
+        ensures noted { OnOk result (before.new.items ≡ before.old.items ++ (key.now, map.get self.old key.now) ∷ []) }
+        ensures err { OnErr result ((self.new ≡ self.old) × (before.new ≡ before.old)) }
+        ensures room { before.new.cap ≡ before.old.cap }
+    {
+        let old = self.replace(*key, cell)?;
+        before.push_reserved((*key, old));
+        Ok(())
+    }
+
+    // What stood at the key stands there again.
+    fn restore(&mut self, key: Key, old: Option<Cell>)
+        ensures { (m : Cells) → (cell : ACell) → old ≡ map.get m key → self.old ≡ map.insert m key cell → self.new ≡ m }
+    {
+        match old {
+            Some(cell) => {
+                let _ = self.replace(key, cell);
+            }
+            None => {
+                self.cells.remove(&key);
+            }
+        }
+    }
+
+    // Takes puts back, the last one first.
+    fn take_back(&mut self, mut before: Vec<(Key, Option<Cell>)>)
+        ensures { (m : Cells) → LedBy m before.items self.old → self.new ≡ m }
+    {
+        while let Some((key, old)) = before.pop() {
+            self.restore(key, old);
+        }
+    }
+
+    /// Puts all the cells, one after the other, or none where there is no memory for all.
+    pub fn put_all(&mut self, alloc: Global, puts: Vec<(Key, Cell)>) -> Result<(), OutOfMemory>
+        ensures ok { OnOk result (self.new ≡ edits_map (puts_of puts.items) self.old) }
+        ensures err { OnErr result (self.new ≡ self.old) }
+    {
+        let mut before = Vec::with_capacity(alloc, puts.len())?;
+        for (key, cell) in puts {
+            if self.put_noted(&mut before, &key, cell).is_err() {
+                self.take_back(before);
+                return Err(OutOfMemory);
+            }
         }
         Ok(())
+    }
+
+    /// Takes copies of all cells of `puts`, each in place of what stood at its key, or of none where there is no memory
+    /// for all. Pages are shared.
+    pub fn absorb(&mut self, alloc: Global, puts: &CellMap) -> Result<(), OutOfMemory>
+        ensures ok { OnOk result (map.get self.new ≡ over puts.now (map.get self.old)) }
+        ensures err { OnErr result (self.new ≡ self.old) }
+    {
+        let copies = copies_in(alloc, &puts.cells)?;
+        self.put_all(alloc, copies)
     }
 
     /// The sizes of the files, in pages.
@@ -83,6 +152,17 @@ impl CellMap {
         let owners = owners_in(alloc, &self.cells)?;
         Ok(owners)
     }
+}
+
+fn copies_in(alloc: Global, cells: &BTreeMap<Key, Cell>) -> Result<Vec<(Key, Cell)>, OutOfMemory>
+    ensures copies { IfOk result (λ v. v.items ≡ cells.now.entries) }
+    ensures rising { IsOrdered key_cmp cells.now }
+{
+    let mut copies = Vec::new(alloc);
+    for (key, cell) in cells.iter() {
+        copies.push((*key, cell.clone()?))?;
+    }
+    Ok(copies)
 }
 
 fn size_of(cell: &Cell) -> Option<u32>

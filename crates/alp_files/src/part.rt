@@ -1,15 +1,16 @@
 //! A transaction's part at one server: its intents and its opens, and how it performs file calls.
-ghost use Rattle.std.specs.Prelude.{◌≡◌, ◌+◌, ◌^◌, ◌<◌, ◌≤◌, ◌∷◌, [], length, List, IfOk, OnOk, IfSome, Some, None, false, nat_eq, is_some};
+ghost use Rattle.std.specs.Prelude.{◌≡◌, ◌+◌, ◌^◌, ◌<◌, ◌≤◌, ◌∷◌, [], length, List, ◌++◌, IfOk, OnOk, OnErr, IfSome, Some, None, false, nat_eq, is_some};
 ghost use Rattle.std.specs.Option.{option_copied as copied};
 ghost use Rattle.std.specs.FinMap as map;
 ghost use Rattle.alp_base.specs.declared.ids.FileId.{FileId as File};
 ghost use Rattle.alp_base.specs.declared.key.Key.TheVariants as key;
 ghost use Rattle.alp_files.specs.declared.cell.Cell.TheVariants as cell;
 ghost use Rattle.alp_files.specs.Cells.{Cells, has_file, props_in, owner_in, page_in};
-ghost use Rattle.alp_files.specs.Edits.{Put, over};
+ghost use Rattle.alp_files.specs.Edits.{over};
 ghost use Rattle.alp_files.specs.Act.{is_admin as admin, is_over as over_quota, open_at, no_opens, on_open, on_change, page_puts, mark_put, create_file as create_file_said, read_pages as read_pages_said, write_pages as write_pages_said, make_owner as make_owner_said};
 ghost use Rattle.alp_files.specs.Passing.{is_passing, IsFileReply};
-ghost use Rattle.alp_files.specs.Parts.{seen, own_of, ChangesBy, Gives, Answers, AnswersCall, GivesOnly, GivesNone, IsBuilt, pages_at};
+ghost use Rattle.alp_files.specs.Undo.{puts_of};
+ghost use Rattle.alp_files.specs.Parts.{IsAsBefore, seen, own_of, Gives, Answers, AnswersCall, GivesOnly, GivesNone, IsBuilt, pages_at};
 
 use crate::{Call, Cell, CellMap, ListName, Open, OwnerRecord, Props, Refusal, Reply, admits};
 use alp_base::{Access, AccessList, FileId, Key, Name, OutOfMemory, Page, PageList, PageRef, Run};
@@ -86,44 +87,38 @@ fn is_over(owner: &OwnerRecord, asked: u32) -> bool
     0 < asked && (owner.quota as u64) < owner.charge as u64 + asked as u64
 }
 
-fn put(intents: &mut CellMap, key: Key, cell: Cell) -> Result<(), OutOfMemory>
-    ensures { OnOk result (ChangesBy (Put key cell ∷ []) intents.old intents.new) }
-{
-    intents.put(key, cell)?;
-    Ok(())
-}
-
-fn put_pages(
-    intents: &mut CellMap,
+// The pages of a run as puts.
+fn page_cells(
+    alloc: Global,
     file: FileId,
     first: u32,
     pages: &[PageRef],
-) -> Result<(), OutOfMemory>
+) -> Result<Vec<(Key, Cell)>, OutOfMemory>
     requires { first + length pages.now < 2 ^ 32 }
-    ensures { OnOk result (ChangesBy (page_puts file first pages.now) intents.old intents.new) }
+    ensures { IfOk result (λ v. puts_of v.items ≡ page_puts file first pages.now) }
 {
+    let mut puts = Vec::new(alloc);
     for (i, page) in pages.iter().enumerate() {
-        put(
-            intents,
+        puts.push((
             Key::PageOf(file, first + i as u32),
             Cell::Page(page.share()?),
-        )?;
+        ))?;
     }
-    Ok(())
+    Ok(puts)
 }
 
-// Puts the leader where the high-water mark rises.
+// The leader is put too where the high-water mark rises.
 fn raise_mark(
-    intents: &mut CellMap,
+    puts: &mut Vec<(Key, Cell)>,
     file: FileId,
     mut props: Props,
     last: u32,
 ) -> Result<(), OutOfMemory>
-    ensures { OnOk result (ChangesBy (mark_put file props last) intents.old intents.new) }
+    ensures { OnOk result (puts_of puts.new.items ≡ puts_of puts.old.items ++ mark_put file props last) }
 {
     if props.high_water < last {
         props.high_water = last;
-        put(intents, Key::Leader(file), Cell::Leader(props))?;
+        puts.push((Key::Leader(file), Cell::Leader(props)))?;
         return Ok(());
     }
     Ok(())
@@ -161,6 +156,7 @@ impl Part {
 
     fn create_file(
         &mut self,
+        alloc: Global,
         held: &CellMap,
         who: Name,
         id: FileId,
@@ -173,6 +169,7 @@ impl Part {
         ensures own { IfOk result (λ r. is_passing r ≡ false) }
         ensures kind { IfOk result (λ r. IsFileReply r) }
         ensures last { OnOk result (self.new.last ≤ self.old.last + 1) }
+        ensures err { OnErr result (IsAsBefore self.old self.new) }
     {
         let mut owner = match owner_at(held, &self.intents, start.owner) {
             Some(record) => record.clone()?,
@@ -195,18 +192,18 @@ impl Part {
         props.byte_length = 0;
         props.high_water = 0;
         owner.charge = charge + asked;
-        put(&mut self.intents, Key::Leader(id), Cell::Leader(props))?;
-        put(
-            &mut self.intents,
-            Key::OwnerOf(start.owner),
-            Cell::Owner(owner),
-        )?;
+        let puts = vec![in alloc;
+            (Key::Leader(id), Cell::Leader(props)),
+            (Key::OwnerOf(start.owner), Cell::Owner(owner)),
+        ]?;
+        self.opens.reserve(1)?;
+        self.intents.put_all(alloc, puts)?;
         let number = self.last + 1;
-        self.opens.push(Open {
+        self.opens.push_reserved(Open {
             number,
             file: id,
             access: Access::Change,
-        })?;
+        });
         self.last = number;
         Ok(Reply::Created {
             file: id,
@@ -226,6 +223,7 @@ impl Part {
         ensures own { IfOk result (λ r. is_passing r ≡ false) }
         ensures kind { IfOk result (λ r. IsFileReply r) }
         ensures last { OnOk result (self.new.last ≤ self.old.last + 1) }
+        ensures err { OnErr result (IsAsBefore self.old self.new) }
     {
         let Some(open) = open_of(self.opens.as_slice(), open_no) else {
             return Ok(Reply::Refused(Refusal::UnknownOpen));
@@ -242,6 +240,7 @@ impl Part {
 
     fn write_pages(
         &mut self,
+        alloc: Global,
         held: &CellMap,
         open_no: u32,
         run: Run,
@@ -253,6 +252,7 @@ impl Part {
         ensures own { IfOk result (λ r. is_passing r ≡ false) }
         ensures kind { IfOk result (λ r. IsFileReply r) }
         ensures last { OnOk result (self.new.last ≤ self.old.last + 1) }
+        ensures err { OnErr result (IsAsBefore self.old self.new) }
     {
         let Some(open) = open_of(self.opens.as_slice(), open_no) else {
             return Ok(Reply::Refused(Refusal::UnknownOpen));
@@ -267,13 +267,9 @@ impl Part {
         if (props.size as u64) < run.first as u64 + run.count as u64 {
             return Ok(Reply::Refused(Refusal::NoSuchPage { size: props.size }));
         }
-        put_pages(&mut self.intents, open.file, run.first, pages.pages())?;
-        raise_mark(
-            &mut self.intents,
-            open.file,
-            props,
-            run.first + run.count as u32,
-        )?;
+        let mut puts = page_cells(alloc, open.file, run.first, pages.pages())?;
+        raise_mark(&mut puts, open.file, props, run.first + run.count as u32)?;
+        self.intents.put_all(alloc, puts)?;
         Ok(Reply::Plain)
     }
 
@@ -290,6 +286,7 @@ impl Part {
         ensures own { IfOk result (λ r. is_passing r ≡ false) }
         ensures kind { IfOk result (λ r. IsFileReply r) }
         ensures last { OnOk result (self.new.last ≤ self.old.last + 1) }
+        ensures err { OnErr result (IsAsBefore self.old self.new) }
     {
         if owner_at(held, &self.intents, owner).is_some() {
             return Ok(Reply::Refused(Refusal::OwnerExists));
@@ -305,7 +302,7 @@ impl Part {
             charge: 0,
             create: create.clone()?,
         };
-        put(&mut self.intents, Key::OwnerOf(owner), Cell::Owner(record))?;
+        self.intents.put(Key::OwnerOf(owner), Cell::Owner(record))?;
         Ok(Reply::Plain)
     }
 
@@ -326,13 +323,14 @@ impl Part {
         ensures own { IfOk result (λ r. is_passing r ≡ false) }
         ensures kind { IfOk result (λ r. IsFileReply r) }
         ensures last { OnOk result (self.new.last ≤ self.old.last + 1) }
+        ensures err { OnErr result (IsAsBefore self.old self.new) }
     {
         match call {
             Call::CreateFile {
                 trans: _,
                 start,
                 choice: _,
-            } => self.create_file(held, who, id, start),
+            } => self.create_file(alloc, held, who, id, start),
             Call::ReadPages {
                 trans: _,
                 open_no,
@@ -346,7 +344,7 @@ impl Part {
                 run,
                 pages,
                 choice: _,
-            } => self.write_pages(held, *open_no, *run, pages),
+            } => self.write_pages(alloc, held, *open_no, *run, pages),
             Call::MakeOwner {
                 trans: _,
                 owner,
