@@ -16,7 +16,10 @@ use Rattle.alp_journal.proofs.Promises.{promises_kept}
 use Rattle.alp_journal.specs.declared.log.Opening.{Opening}
 use Rattle.alp_journal.specs.declared.log.RunLog.{RunLog}
 use Rattle.alp_journal.specs.State.{State, next, state_after, opened, in_order}
-use Rattle.alp_journal.specs.Serial.{IsOneThread, final, start_of}
+use Rattle.alp_files.specs.Cells.{Cells}
+use Rattle.alp_files.specs.Sound.{AreSound, IsSoundAfterEach, HaveTheirPages}
+use Rattle.alp_files.proofs.SoundLemmas.{empty_sound, history_sound, end_sound}
+use Rattle.alp_journal.specs.Serial.{IsOneThread, final, start_of, finish_of, decided}
 use Rattle.alp_script.specs.declared.numbered.NumberedLine.{NumberedLine}
 use Rattle.alp_top.specs.declared.client.Client.{Client}
 use Rattle.alp_top.specs.declared.node.Node.{Node}
@@ -44,6 +47,21 @@ one_thread n log (life, ds, k) e f =
           ∙ k.files
           ∙ sym (ap (λ (s : State). s.cells) is);
     }
+
+-- from a new server's files on, charges equal sizes
+charged_kept : (n : Node) (log : RunLog) → IsKept n → IsNewOpening n.opening → log.opening ≡ n.opening → log.journal ≡ n.journal
+    → IsSoundAfterEach log.opening.server (starting (start_of log)) (decided log) × AreSound (finish_of log)
+charged_kept n log (life, ds, k) new e f =
+    let ended : List Decided = list_map (λ (x : Stamp × Decided). x.1) ds in
+    let is : final log ≡ kept_state n life ds =
+    ap (λ (o : Opening). state_after next (opened o) log.journal) e ∙ ap (λ (js : List Entry). state_after next (opened n.opening) js) f ∙ k.state in
+    let same : decided log ≡ ended = ap in_order is in
+    let pages : HaveTheirPages (decided log) = subst (λ (x : List Decided). HaveTheirPages x) (sym same) k.pages in
+    let first : AreSound (start_of log) = subst (λ (x : Cells). AreSound x) (sym (ap (λ (o : Opening). o.cells.value) e ∙ new.cells)) empty_sound in
+    let thread : IsOneThread log = one_thread n log (life, ds, k) e f in (
+      history_sound log.opening.server (starting (start_of log)) (decided log) pages first,
+      subst (λ (x : Cells). AreSound x) thread.files (end_sound log.opening.server (starting (start_of log)) (decided log) pages first),
+    )
 
 -- what a client was told is what the entries of its calls tell
 recorded_told : (client at : ℕ) (xs : List (ℕ × Exchange)) (es : List Entry) → AreRecorded at xs es → told_along client es ≡ told client xs
@@ -99,6 +117,7 @@ run_over lines c n log h new e f ranks = record {
     ranks = ranks ∙ ap (λ (js : List Entry). ranks_from 1 js) (sym f);
   };
   serial = one_thread n log h.kept e f;
+  charged = charged_kept n log h.kept new e f;
   kept = λ client.
       subst (λ (o : Opening). AreKept (in_order (state_after next (opened o) log.journal)) [] (told client (exchanges_of log.lines.items))) (sym e)
       (subst (λ (js : List Entry). AreKept (in_order (state_after next (opened n.opening) js)) [] (told client (exchanges_of log.lines.items))) (sym f)

@@ -23,6 +23,8 @@ use Rattle.alp_files.specs.Cells.{has_file}
 use Rattle.alp_files.specs.Born.{IsUnborn, AreBelow, count_after}
 use Rattle.alp_files.proofs.HistoryLemmas.{AreRight-push, steps-push, IsSerial-push, serial_end-push, edits_map-append, get-edits_map, same_cells, fresh_id, AreBelow-more}
 use Rattle.alp_files.proofs.BornLemmas.{unborn_kept, unborn_more}
+use Rattle.std.specs.List.{AllByRecursion}
+use Rattle.alp_files.specs.Sound.{HasItsPages, HaveTheirPages}
 use Rattle.alp_files.specs.History.{Done, Standing, Decided, answer_to, step, steps, begun, IsSerial, serial_end, starting}
 use Rattle.alp_journal.specs.declared.log.Opening.{Opening}
 use Rattle.alp_journal.specs.declared.act.Act.{Act}
@@ -37,7 +39,7 @@ use Rattle.alp_journal.specs.Laws.{Decides, IsLawfulEntry, IsLawful}
 use Rattle.alp_top.specs.declared.node.Node.{Node}
 use Rattle.alp_top.specs.declared.node.Live.{Live}
 use Rattle.alp_top.specs.declared.node.Session.{Session}
-use Rattle.alp_top.specs.Nodes.{sessions_of, lives_of, kept_state, standing_after, IsLife, OnLife, OpensWithin, CallsWithin, IsKeptAs}
+use Rattle.alp_top.specs.Nodes.{sessions_of, lives_of, kept_state, standing_after, IsLife, OnLife, OpensWithin, CallsWithin, IsKeptAs, IsRunning}
 use Rattle.alp_journal.proofs.StateLemmas.{state_after-push, Along-push, same_trans-itself, cond_twice, cond_itself, called-next, called-begin, does_call-performs, put-last, AreEarlier-push, IsQuiet}
 
 pub entry_of : Event → Option Reply → List Act → Entry
@@ -54,6 +56,10 @@ OpensWithin-more : (m n : ℕ) (l : Option Live) → m ≤ n → OpensWithin m l
 OpensWithin-more m n None le h = tt
 OpensWithin-more m n (Some l) le h = omega (arith, h)
 
+CallsWithin-more : (m n : ℕ) (s : Option Session) → m ≤ n → CallsWithin m s → CallsWithin n s
+CallsWithin-more m n None le h = tt
+CallsWithin-more m n (Some s) le h = omega (arith, h)
+
 -- the journal goes on by an entry that changes nothing of what it tells but the session
 pub hello_kept : (n : Node) (life : Life) (ds : List (Stamp × Decided)) (client : ℕ) (name : List ℕ) → IsKeptAs n life ds → n.session ≡ None
     → IsKeptAs (record n {
@@ -68,6 +74,7 @@ hello_kept n life ds client name h first =
       state = state_after-push next (opened n.opening) n.journal e ∙ ap (λ (s : State). next s e) h.state ∙ ap by first;
       lawful = lawful_more n life ds e h (record { ids = tt; decision = tt; told = tt });
       serial = h.serial;
+      pages = h.pages;
       files = h.files;
       made = h.made;
       earlier = h.earlier;
@@ -147,6 +154,7 @@ module _ (n : Node) (life : Life) (ds : List (Stamp × Decided)) (s : Session) (
             ∙ (λ i. record { server = n.opening.server; epoch = n.opening.epoch; clock = clock i; cells = n.files; sessions = sessions i; lives = lives i; drawn = n.trans_count + 1; decided = ds });
         lawful = lawful_more n life ds e h (record { ids = (refl, refl); decision = (tt, tt); told = tt });
         serial = h.serial;
+        pages = h.pages;
         files = h.files;
         made = h.made;
         earlier = h.earlier;
@@ -158,6 +166,7 @@ module _ (n : Node) (life : Life) (ds : List (Stamp × Decided)) (s : Session) (
           view = sees;
           own = opens;
           right = tt;
+          pages = tt;
           files = h.files;
           opens = refl;
           made = h.made;
@@ -195,6 +204,31 @@ quiet_built (call.SetQuota t name quota choice) b = absurd b
 quiet_built (call.Finish t commit) b = absurd b
 quiet_built (call.Outcome t) b = absurd b
 quiet_built (call.Collect n) b = absurd b
+
+All-push : {A : Type 0} (P : A → Type 0) (xs : List A) (x : A) → AllByRecursion P xs → P x → AllByRecursion P (xs ++ x ∷ [])
+All-push P [] x h p = (p, tt)
+All-push P (y ∷ xs) x h p = (h.0, All-push P xs x h.1 p)
+
+pages_built : (c : Call) → IsBuilt c → HasItsPages c
+pages_built (call.CreateFile t start choice) b = tt
+pages_built (call.ReadPages t n run mode choice) b = tt
+pages_built (call.WritePages t n run pages choice) b = b
+pages_built (call.MakeOwner t name quota create choice) b = tt
+pages_built (call.Hello name) b = absurd b
+pages_built (call.Begin seen) b = absurd b
+pages_built (call.Join t) b = absurd b
+pages_built (call.OpenFile t f a mode choice) b = absurd b
+pages_built (call.CloseFile t n) b = absurd b
+pages_built (call.DeleteFile t n choice) b = absurd b
+pages_built (call.LockPages t n run mode choice) b = absurd b
+pages_built (call.SetSize t n size choice) b = absurd b
+pages_built (call.ReadProps t n) b = absurd b
+pages_built (call.WriteProps t n change choice) b = absurd b
+pages_built (call.ReadOwner t name choice) b = absurd b
+pages_built (call.SetQuota t name quota choice) b = absurd b
+pages_built (call.Finish t commit) b = absurd b
+pages_built (call.Outcome t) b = absurd b
+pages_built (call.Collect n) b = absurd b
 
 count_grows : (count : ℕ) (r : Reply) → count ≤ count_after count r
 count_grows count (reply.Created f n) = omega arith
@@ -301,6 +335,7 @@ module _ (o : Opening) (held : Cells) (count : ℕ) (life : Life) (at : Standing
         view = shown;
         own = done.own;
         right = AreRight-push o.server base life.who life.calls d h.right done_b.reply;
+        pages = All-push (λ (x : Done). HasItsPages x.call) life.calls d h.pages (pages_built c built);
         files =
             ap (λ (x : Standing). x.files) pushed
             ∙ same_cells (edits_map b.edits t.files) (edits_map (life.edits ++ a.edits) held)
@@ -362,6 +397,7 @@ module _ (n : Node) (life : Life) (ds : List (Stamp × Decided)) (s : Session) (
             ∙ (λ i. record { server = n.opening.server; epoch = n.opening.epoch; clock = n.clock; cells = n.files; sessions = sessions i; lives = lives i; drawn = n.trans_count; decided = ds });
         lawful = lawful_more n life ds e h (file_lawful k e.event r kind);
         serial = h.serial;
+        pages = h.pages;
         files = h.files;
         made = AreBelow-more n.file_count (count_after n.file_count r) (standing_after n ds).made (count_grows n.file_count r) h.made;
         earlier = h.earlier;
@@ -437,10 +473,12 @@ module _ (n : Node) (life : Life) (ds : List (Stamp × Decided)) (s : Session) (
         state = state_after-push next (opened n.opening) n.journal e ∙ ap (λ (x : State). next x e) h.state ∙ after;
         lawful = lawful_more n life ds e h (record {
           ids = tt;
-          decision = subst (λ (x : State). Along after_act Decides x e.acts) (sym asked) ((omega arith, subst (λ (o : Option Life). IsSome o) (sym there) refl), tt, tt);
+          decision = subst (λ (x : State). Along after_act Decides x e.acts) (sym asked) ((omega arith, subst (λ (o : Option Life). IsSome o) (sym there) refl), (tt, tt));
           told = (subst (λ (x : State). IsAmong stamp (in_order x)) (sym after) (decided_last ds decided_now), tt);
         });
         serial = subst (λ (x : List Decided). IsSerial n.opening.server thread x) (sym (decided_push ds decided_now)) (IsSerial-push n.opening.server thread list decided_now.1 h.serial was.right);
+        pages = subst (λ (x : List Decided). HaveTheirPages x) (sym (decided_push ds decided_now))
+            (All-push (λ (x : Decided). AllByRecursion (λ (y : Done). HasItsPages y.call) x.calls) list decided_now.1 h.pages was.pages);
         files = ap (λ (x : Standing). x.files) pushed ∙ was.files ∙ cells;
         made = subst (λ (x : Standing). AreBelow n.file_count x.made) (sym pushed) was.made;
         earlier = AreEarlier-push ds stamp decided_now.1 n.clock h.earlier (omega arith);
@@ -454,6 +492,48 @@ module _ (n : Node) (life : Life) (ds : List (Stamp × Decided)) (s : Session) (
           committed = omega (arith, h.counted.committed, one);
           opens = tt;
           calls = omega (arith, called_within, turn, one);
+        };
+      }
+
+-- ---- a timeout
+
+running_there : (o : Option Live) (t : TransId) → IsRunning o t → (l : Live) × (o ≡ Some l) × (l.trans ≡ t)
+running_there None t h = absurd h
+running_there (Some l) t h = (l, refl, h)
+
+module _ (n : Node) (life : Life) (ds : List (Stamp × Decided)) (t : TransId) where
+  abbrev pub after_time_out : Node
+  after_time_out = record n {
+    live = None;
+    journal = n.journal ++ (record { event = event.Timeout t; reply = None; acts = act.Released t ∷ [] }) ∷ [];
+  }
+
+  pub time_out_kept : IsKeptAs n life ds → IsRunning n.live t → IsKeptAs after_time_out life ds
+  time_out_kept h running =
+      let (l, runs, this) = running_there n.live t running in
+      let e : Entry = record { event = event.Timeout t; reply = None; acts = act.Released t ∷ [] } in
+      let more : length n.journal ≤ length (n.journal ++ e ∷ []) = longer n.journal e in
+      let lives = lives_after n.live l l t life None runs this ∙ no_lives l in
+      record {
+        state =
+            state_after-push next (opened n.opening) n.journal e ∙ ap (λ (x : State). next x e) h.state
+            ∙ (λ i. record { server = n.opening.server; epoch = n.opening.epoch; clock = n.clock; cells = n.files; sessions = sessions_of n.session; lives = lives i; drawn = n.trans_count; decided = ds });
+        lawful = lawful_more n life ds e h (record { ids = tt; decision = (tt, tt); told = tt });
+        serial = h.serial;
+        pages = h.pages;
+        files = h.files;
+        made = h.made;
+        earlier = h.earlier;
+        committed = h.committed;
+        unborn = h.unborn;
+        live = tt;
+        counted = record {
+          clock = omega (arith, h.counted.clock, more);
+          trans = omega (arith, h.counted.trans, more);
+          files = omega (arith, h.counted.files, more);
+          committed = omega (arith, h.counted.committed, more);
+          opens = tt;
+          calls = CallsWithin-more (length n.journal) (length (n.journal ++ e ∷ [])) n.session more h.counted.calls;
         };
       }
 
@@ -479,6 +559,7 @@ new_kept o files js life is none clock empty = record {
       ∙ (λ i. record { server = o.server; epoch = o.epoch; clock = o.clock; cells = is i; sessions = λ c. None; lives = λ t. None; drawn = 0; decided = [] });
   lawful = subst (λ (es : List Entry). IsLawful o es) (sym empty) tt;
   serial = tt;
+  pages = tt;
   files = is;
   made = tt;
   earlier = tt;

@@ -1,7 +1,9 @@
 -- What holds of a run: the promise that the top call makes.
 use Rattle.std.specs.Prelude.{ℕ, List, [], Option}
 use Rattle.alp_journal.specs.declared.log.RunLog.{RunLog}
-use Rattle.alp_journal.specs.Serial.{IsOneThread, decided}
+use Rattle.alp_files.specs.History.{starting}
+use Rattle.alp_files.specs.Sound.{AreSound, IsSoundAfterEach}
+use Rattle.alp_journal.specs.Serial.{IsOneThread, decided, start_of, finish_of}
 use Rattle.alp_journal.specs.Told.{AreKept, told, exchanges_of}
 use Rattle.alp_script.specs.declared.numbered.NumberedLine.{NumberedLine}
 use Rattle.alp_script.specs.Reading.{GaveScript}
@@ -20,6 +22,8 @@ pub record IsRun (lines : List NumberedLine) (log : RunLog) : Type 0 where
   -- each stamp that a client was told is of a decided transaction, and a decided transaction has a stamp above all that
   -- its client was told before it began
   pub kept : (client : ℕ) → AreKept (decided log) [] (told client (exchanges_of log.lines.items))
+  -- the files are well formed and each owner is charged the sizes of its files, after each transaction and at the end
+  pub charged : IsSoundAfterEach log.opening.server (starting (start_of log)) (decided log) × AreSound (finish_of log)
 
 -- the headline: the source gave a script, and the log is of a run of it
 pub record IsPlayed (old new : Option (List ℕ)) (log : RunLog) : Type 0 where

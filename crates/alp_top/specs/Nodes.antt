@@ -8,6 +8,8 @@ use Rattle.alp_files.specs.Cells.{Cells}
 use Rattle.alp_files.specs.Edits.{edits_map}
 use Rattle.alp_files.specs.Parts.{seen, own_of}
 use Rattle.alp_files.specs.Born.{IsUnborn, AreBelow}
+use Rattle.std.specs.List.{AllByRecursion}
+use Rattle.alp_files.specs.Sound.{HasItsPages, HaveTheirPages}
 use Rattle.alp_files.specs.History.{Standing, Decided, AreRight, steps, begun, IsSerial, serial_end, starting}
 use Rattle.alp_journal.specs.declared.log.Opening.{Opening}
 use Rattle.alp_journal.specs.declared.event.Event.{Event}
@@ -57,6 +59,7 @@ pub record IsLife (o : Opening) (held : Cells) (count : ℕ) (life : Life) (at :
   pub view : seen held l.part ≡ map.get (edits_map life.edits held)
   pub own : own_of l.part ≡ life.own
   pub right : AreRight o.server (begun at) life.who life.calls
+  pub pages : AllByRecursion (λ d. HasItsPages d.call) life.calls
   pub files : (steps o.server (begun at) life.who life.calls).files ≡ edits_map life.edits held
   pub opens : (steps o.server (begun at) life.who life.calls).own ≡ life.own
   pub made : AreBelow count (steps o.server (begun at) life.who life.calls).made
@@ -88,6 +91,7 @@ pub record IsKeptAs (n : Node) (life : Life) (decided : List (Stamp × Decided))
   pub state : state_of n ≡ kept_state n life decided
   pub lawful : IsLawful n.opening n.journal
   pub serial : IsSerial n.opening.server (starting n.opening.cells.value) (list_map (λ (x : Stamp × Decided). x.1) decided)
+  pub pages : HaveTheirPages (list_map (λ (x : Stamp × Decided). x.1) decided)
   pub files : (standing_after n decided).files ≡ n.files
   pub made : AreBelow n.file_count (standing_after n decided).made
   pub earlier : AreEarlier n.clock decided

@@ -236,7 +236,7 @@ impl Node {
         ensures same { OnOk result ((self.new.clock ≡ self.old.clock + 1) × (self.new.opening ≡ self.old.opening)) }
     {
         let session = self.session.unwrap();
-        let Some(mut live) = self.live.take() else {
+        let Some(live) = self.live.take() else {
             unreachable!()
         };
         let stamp = Stamp {
@@ -257,7 +257,7 @@ impl Node {
                 commit: true,
             },
         };
-        self.files.absorb(&mut live.part.intents)?;
+        self.files.absorb(alloc, &live.part.intents)?;
         self.journal.push(Entry {
             event,
             reply: Some(Reply::Committed { stamp }),

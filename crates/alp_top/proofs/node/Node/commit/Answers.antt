@@ -33,5 +33,5 @@ returns-clause-kept c =
       ds2,
       subst (λ (x : Option Live). IsKeptAs (record (after_commit c.args.self.now life ds s c.args.client c.args.number l c.args.trans c.absorb.new.self) { live = x; journal = c.push.new.self }) life ds2) (sym c.in-Some.ensures.after)
           (subst (λ (js : List Entry). IsKeptAs (record (after_commit c.args.self.now life ds s c.args.client c.args.number l c.args.trans c.absorb.new.self) { journal = js }) life ds2) (sym journal)
-          (commit_kept c.args.self.now life ds s c.args.client c.args.number l c.args.trans c.absorb.new.self h c.unwrap-session.ensures turn.0 turn.1 runs this c.in_ok-absorb.ensures)),
+          (commit_kept c.args.self.now life ds s c.args.client c.args.number l c.args.trans c.absorb.new.self h c.unwrap-session.ensures turn.0 turn.1 runs this c.in_ok-absorb.ensures.ok)),
     )
