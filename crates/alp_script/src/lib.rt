@@ -15,7 +15,6 @@ pub use grammar::{CLIENTS_MOST, RUN_MOST, SERVERS_MOST};
 pub use line::{FileWord, Line};
 pub use numbered::{NumberedLine, SCRIPT_LINES_MOST};
 pub use read::{accepted_lines, read_script};
-pub use reader::Reader;
 pub use words::{LINE_BYTES, TEXT_BYTES};
 
 #[cfg(test)]

@@ -4,7 +4,8 @@ ghost use Rattle.alp_script.specs.Accepted.{IsAccepted};
 ghost use Rattle.alp_script.specs.Reading.{ReadsScript};
 ghost use Rattle.alp_script.specs.Script.{script};
 
-use crate::{NumberedLine, Reader, ScriptFault};
+use crate::reader::Reader;
+use crate::{NumberedLine, ScriptFault};
 use alp_base::Source;
 use std::alloc::Global;
 

@@ -156,8 +156,7 @@ fn copies(alloc: Global, page: &PageRef, count: u8) -> Result<PageList, OutOfMem
     ensures { IfOk result (λ l. l ≡ replicate count page.now) }
 {
     let mut pages = Vec::new(alloc);
-    for i in 0..count {
-        let _ = i;
+    for _copy in 0..count {
         pages.push(page.share()?)?;
     }
     Ok(PageList::new(pages))

@@ -7,7 +7,7 @@ ghost use Rattle.alp_top.specs.Headline.{IsRun};
 ghost use Rattle.alp_script.specs.declared.numbered.NumberedLine.{NumberedLine};
 ghost use Rattle.std.specs.Prelude.{List};
 
-use crate::Node;
+use crate::node::Node;
 use crate::play::Run;
 use alp_base::OutOfMemory;
 use alp_journal::{Entry, LineLog, RunLog};

@@ -9,8 +9,6 @@ mod run;
 mod status;
 mod write_all;
 
-pub use client::Client;
-pub use node::Node;
 pub use run::run_alpine;
 pub use status::{Status, status_text};
 

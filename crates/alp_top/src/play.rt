@@ -15,8 +15,8 @@ ghost use Rattle.alp_script.specs.Order.{names_ours};
 ghost use Rattle.alp_script.specs.Accepted.{LeadsFrom};
 ghost use Rattle.alp_top.specs.Runs.{HasPlayed, IsNewOpening};
 
-use crate::client::Greeted;
-use crate::{Client, Node};
+use crate::client::{Client, Greeted};
+use crate::node::Node;
 use alp_base::{OutOfMemory, TransId};
 use alp_files::{Call, Reply};
 use alp_journal::{Exchange, LineLog};

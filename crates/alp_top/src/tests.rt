@@ -52,13 +52,34 @@ fn words(alloc: Global, texts: &[&str]) -> Result<Vec<String>, Fail> {
     Ok(words)
 }
 
-// The call of the source and the call of the sink that fail, counted from 1; 0 for none.
+const REFUSALS: &[u8] =
+    b"servers 1\nclient 1 Admin\n1 begin 1\n1 mkowner 1 ann 10 World\n1 create 1 A ann 4 World World\n1 write A 0 1 hello\n1 read A 0 2\n1 read A 3 2\n1 create 1 B ann 7 World World\n1 read B 0 1\n1 commit\n";
+
+const REFUSED: &[u8] =
+    b"3 ok trans 1.1.1\n4 ok\n5 ok file 1.1.1 open 1\n6 ok\n7 ok hello -\n8 refused 11 size 4\n9 refused 12 charge 4 asked 7 quota 10\n10 refused 5\n11 ok stamp 1 1.1.1\nserver 1 epoch 1 clock 1 files 1 pages 4\nowner 1 ann charge 4 quota 10\ncommitted 1 aborted 0\n";
+
+// Each so many-th read of the source and write of the sink fails; 0 for none. The sink has room for so many bytes.
+#[derive(Drop)]
 struct Failing {
-    read: u64,
-    write: u64,
+    reads: u64,
+    writes: u64,
+    room: u32,
 }
 
-const SOUND: Failing = Failing { read: 0, write: 0 };
+const SOUND: Failing = Failing {
+    reads: 0,
+    writes: 0,
+    room: 4096,
+};
+
+// The calls that fail where each so many-th does.
+fn calls(alloc: Global, each: u64) -> Result<Vec<u64>, Fail> {
+    let mut calls = Vec::new(alloc);
+    for i in 1..17u64 {
+        calls.push(i.saturating_mul(each))?;
+    }
+    Ok(calls)
+}
 
 // How the run of a script ends, what the program says of it, and what was written.
 #[derive(Drop)]
@@ -71,8 +92,8 @@ struct Told {
 fn run(alloc: Global, asked: &[&str], text: &[u8], failing: &Failing) -> Result<Told, Fail> {
     let words = words(alloc, asked)?;
     let bytes = Vec::from_slice(alloc, text)?;
-    let mut script = MemSource::new(bytes, vec![in alloc; failing.read]?);
-    let mut out = MemSink::new(alloc, 4096, vec![in alloc; failing.write]?)?;
+    let mut script = MemSource::new(bytes, calls(alloc, failing.reads)?);
+    let mut out = MemSink::new(alloc, failing.room, calls(alloc, failing.writes)?)?;
     let status = run_alpine(alloc, &words, &mut script, &mut out);
     Ok(Told {
         code: status.code(),
@@ -115,20 +136,60 @@ fn refuses_other_words_and_scripts(rt: HostRuntime) -> Result<(), Fail> {
 }
 
 #[test]
-fn tells_faults_of_its_streams(rt: HostRuntime) -> Result<(), Fail> {
+fn plays_refusals(rt: HostRuntime) -> Result<(), Fail> {
+    let told = run(rt.alloc(), &["play"], REFUSALS, &SOUND)?;
+    assert_eq!(rt; told.code, 0);
+    assert_eq!(rt; told.written.as_slice(), REFUSED);
+    Ok(())
+}
+
+#[test]
+fn tells_each_failing_read(rt: HostRuntime) -> Result<(), Fail> {
     let alloc = rt.alloc();
-    let told = run(alloc, &["play"], SCRIPT, &Failing { read: 1, write: 0 })?;
-    assert_eq!(rt; told.code, 3);
-    assert_eq!(rt; told.said.as_str(), "alpine: read fault");
-    assert_eq!(rt; told.written.len(), 0);
-    let told = run(
-        alloc,
-        &["play"],
-        b"servers 1",
-        &Failing { read: 0, write: 1 },
-    )?;
+    let mut text = Vec::from_slice(alloc, REFUSALS)?;
+    for _line in 0..200u8 {
+        text.extend_from_slice(b"# forty bytes of a line that is skipped\n")?;
+    }
+    for each in 1..6u64 {
+        let failing = Failing {
+            reads: each,
+            writes: 0,
+            room: 4096,
+        };
+        let told = run(alloc, &["play"], text.as_slice(), &failing)?;
+        let (code, said, written) = if each < 5 {
+            (3, "alpine: read fault", b"".as_slice())
+        } else {
+            (0, "", REFUSED)
+        };
+        assert_eq!(rt; told.code, code);
+        assert_eq!(rt; told.said.as_str(), said);
+        assert_eq!(rt; told.written.as_slice(), written);
+    }
+    Ok(())
+}
+
+#[test]
+fn leaves_a_front_of_the_report(rt: HostRuntime) -> Result<(), Fail> {
+    let alloc = rt.alloc();
+    let failing = Failing {
+        reads: 0,
+        writes: 1,
+        room: 4096,
+    };
+    let told = run(alloc, &["play"], b"servers 1", &failing)?;
     assert_eq!(rt; told.code, 4);
     assert_eq!(rt; told.said.as_str(), "alpine: write fault");
     assert_eq!(rt; told.written.len(), 0);
+    for room in 0..REFUSED.len() {
+        let failing = Failing {
+            reads: 0,
+            writes: 0,
+            room: room as u32,
+        };
+        let told = run(alloc, &["play"], REFUSALS, &failing)?;
+        assert_eq!(rt; told.code, 4);
+        assert_eq!(rt; told.written.as_slice(), &REFUSED[..room]);
+    }
     Ok(())
 }
