@@ -1,1 +1,2 @@
 pub mod ModeFieldLaw
+pub mod ModeLemmas

@@ -1,1 +1,2 @@
 pub mod ModeField
+pub mod Modes

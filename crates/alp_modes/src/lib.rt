@@ -5,8 +5,10 @@
 #![tactic(auto)]
 
 mod field;
+mod table;
 
 pub use field::{mode_is_a_form, put_mode, read_mode};
+pub use table::{agrees, covers, join, leaf_of, modes_are_lawful};
 
 /// What a lock allows its holder, from the least to the most.
 #[derive(Clone, Copy, Debug, PartialEq, Eq, PartialOrd, Ord)]
@@ -21,3 +23,6 @@ pub enum Mode {
     ReadIntendWrite,
     Write,
 }
+
+#[cfg(test)]
+mod tests;
