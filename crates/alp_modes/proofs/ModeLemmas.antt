@@ -6,19 +6,19 @@ use Rattle.alp_modes.specs.declared.Mode.TheVariants.{IntendRead, IntendWrite, R
 use Rattle.alp_modes.specs.Modes.{agree, covers_of, join_of, IsSymmetric, IsOrder, IsLeast, IsKeptBelow, IsJoint}
 
 -- a test that every mode passes, and those from some mode on
-abbrev last-two : (Mode → Bool) → Bool
+abbrev pub last-two : (Mode → Bool) → Bool
 last-two p = p ReadIntendWrite && p Write
 
-abbrev last-three : (Mode → Bool) → Bool
+abbrev pub last-three : (Mode → Bool) → Bool
 last-three p = p Update && last-two p
 
-abbrev last-four : (Mode → Bool) → Bool
+abbrev pub last-four : (Mode → Bool) → Bool
 last-four p = p Read && last-three p
 
-abbrev last-five : (Mode → Bool) → Bool
+abbrev pub last-five : (Mode → Bool) → Bool
 last-five p = p IntendWrite && last-four p
 
-abbrev every : (Mode → Bool) → Bool
+abbrev pub every : (Mode → Bool) → Bool
 every p = p IntendRead && last-five p
 
 left-true : (a b : Bool) → IsTrue (a && b) → IsTrue a
@@ -41,7 +41,7 @@ three p h = right-true (p Read) (last-three p) (four p h)
 two : (p : Mode → Bool) → IsTrue (every p) → IsTrue (last-two p)
 two p h = right-true (p Update) (last-two p) (three p h)
 
-at-each : (p : Mode → Bool) → IsTrue (every p) → (m : Mode) → IsTrue (p m)
+pub at-each : (p : Mode → Bool) → IsTrue (every p) → (m : Mode) → IsTrue (p m)
 at-each p h IntendRead = left-true (p IntendRead) (last-five p) h
 at-each p h IntendWrite = left-true (p IntendWrite) (last-four p) (five p h)
 at-each p h Read = left-true (p Read) (last-three p) (four p h)
@@ -49,11 +49,15 @@ at-each p h Update = left-true (p Update) (last-two p) (three p h)
 at-each p h ReadIntendWrite = left-true (p ReadIntendWrite) (p Write) (two p h)
 at-each p h Write = right-true (p ReadIntendWrite) (p Write) (two p h)
 
-at-both : (p : Mode → Mode → Bool) → IsTrue (every (λ a. every (p a))) → (a b : Mode) → IsTrue (p a b)
+pub at-both : (p : Mode → Mode → Bool) → IsTrue (every (λ a. every (p a))) → (a b : Mode) → IsTrue (p a b)
 at-both p h a b = at-each (p a) (at-each (λ x. every (p x)) h a) b
 
-at-all : (p : Mode → Mode → Mode → Bool) → IsTrue (every (λ a. every (λ b. every (p a b)))) → (a b c : Mode) → IsTrue (p a b c)
+pub at-all : (p : Mode → Mode → Mode → Bool) → IsTrue (every (λ a. every (λ b. every (p a b)))) → (a b c : Mode) → IsTrue (p a b c)
 at-all p h a b c = at-each (p a b) (at-both (λ x y. every (p x y)) h a b) c
+
+pub and-true : (a b : Bool) → IsTrue a → IsTrue b → IsTrue (a && b)
+and-true true b h k = k
+and-true false b h k = cc
 
 -- a test that is the other
 abbrev same : Bool → Bool → Bool
@@ -66,11 +70,11 @@ same-is false true h = cc
 same-is false false h = refl
 
 -- a test under a premise
-abbrev implied : Bool → Bool → Bool
+abbrev pub implied : Bool → Bool → Bool
 implied true b = b
 implied false b = true
 
-implied-is : (a b : Bool) → IsTrue (implied a b) → IsTrue a → IsTrue b
+pub implied-is : (a b : Bool) → IsTrue (implied a b) → IsTrue a → IsTrue b
 implied-is true b h p = h
 implied-is false b h p = cc
 
@@ -175,3 +179,10 @@ join_right a b g h =
 pub join_neither : (a b : Mode) → covers_of a b ≡ false → covers_of b a ≡ false → ReadIntendWrite ≡ join_of a b
 join_neither a b g h =
     sym (join_by_cases a b ∙ ap (λ t. cond t a (cond (covers_of b a) b ReadIntendWrite)) g ∙ ap (λ t. cond t b ReadIntendWrite) h)
+
+-- modes come to the same in whichever order they are joined
+pub join-assoc : (a b c : Mode) → join_of (join_of a b) c ≡ join_of a (join_of b c)
+unfolding join_of
+join-assoc a b c =
+    sym (placed (join_of (join_of a b) c)) ∙ ap at-place (eqb-true (place (join_of (join_of a b) c)) (place (join_of a (join_of b c)))
+    (at-all (λ x y z. place (join_of (join_of x y) z) == place (join_of x (join_of y z))) refl a b c)) ∙ placed (join_of a (join_of b c))

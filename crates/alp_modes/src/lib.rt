@@ -5,9 +5,11 @@
 #![tactic(auto)]
 
 mod field;
+mod leaves;
 mod table;
 
 pub use field::{mode_is_a_form, put_mode, read_mode};
+pub use leaves::agreeing_locks_agree_on_leaves;
 pub use table::{agrees, covers, join, leaf_of, modes_are_lawful};
 
 /// What a lock allows its holder, from the least to the most.
