@@ -11,3 +11,5 @@ pub mod ChargeLemmas
 pub mod FilesLemmas
 pub mod SoundEdits
 pub mod SoundLemmas
+pub mod HeldLemmas
+pub mod LookLemmas
