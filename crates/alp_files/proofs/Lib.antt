@@ -13,3 +13,4 @@ pub mod SoundEdits
 pub mod SoundLemmas
 pub mod HeldLemmas
 pub mod LookLemmas
+pub mod FrameLemmas
