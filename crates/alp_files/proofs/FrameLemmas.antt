@@ -100,7 +100,7 @@ program-made : (server : ℕ) (made others : List FileId) (who : List ℕ) (own 
 program-made server made others who own (call.CreateFile trans start choice) None h = refl
 program-made server made others who own (call.CreateFile trans start choice) (Some f) h =
     ap (λ (b : Bool). Ask (OwnerOf start.owner) (λ oc. Ask (Leader f) (λ lc. Say (unless own (create_tests who start oc)
-      (cond (f.server == server && not (elim lc as (λ x. Bool) [ None ↦ false | Some x ↦ true ]) && not b) (created_file own start (owner_of oc) f) (no_answer own))))))
+    (cond (f.server == server && not (elim lc as (λ x. Bool) [ None ↦ false | Some x ↦ true ]) && not b) (created_file own start (owner_of oc) f) (no_answer own))))))
     (h f refl)
 program-made server made others who own c id h = refl
 
@@ -165,9 +165,9 @@ module _ (held : Holding) (server : ℕ) (who : List ℕ) where
       let ids : List FileId = option_to_list (id_in d.reply) in
       let next : Standing = standing (edits_map a.edits m) (ids ++ made) a.own in
       let rest : DoesSame held server next (standing (edits_map b.edits n) (ids ++ others) b.own) who ds =
-        subst (λ (x : Answer). DoesSame held server next (standing (edits_map x.edits n) (ids ++ others) x.own) who ds) e
-        (part-frame ds (edits_map a.edits m) (edits_map a.edits n) (ids ++ made) (ids ++ others) a.own formed.1 (sized-map a.edits m sized fits.2) fits.1 c.1
-        (same-after (Reads held) a.edits m n same) (more-new (id_in d.reply) made others ds new.1)) in
+      subst (λ (x : Answer). DoesSame held server next (standing (edits_map x.edits n) (ids ++ others) x.own) who ds) e
+      (part-frame ds (edits_map a.edits m) (edits_map a.edits n) (ids ++ made) (ids ++ others) a.own formed.1 (sized-map a.edits m sized fits.2) fits.1 c.1
+      (same-after (Reads held) a.edits m n same) (more-new (id_in d.reply) made others ds new.1)) in
       record {
         right = λ h. (ap (λ (x : Answer). x.reply) (sym e) ∙ h.0, rest.right h.1);
         edits = λ i. (e i).edits ++ rest.edits i;
@@ -185,14 +185,15 @@ module _ (held : Holding) (server : ℕ) (who : List ℕ) where
       let rest = part-within ds (edits_map a.edits m) (option_to_list (id_in d.reply) ++ made) a.own formed.1 (sized-map a.edits m sized fits.2) fits.1 c.1 in
       (within-append (Writes held) a.edits (changes server (standing (edits_map a.edits m) (option_to_list (id_in d.reply) ++ made) a.own) who ds) fits.0 rest.0, rest.1)
 
-  -- the files that a part leaves are those that its changes make
-  pub files-changed : (ds : List Done) (s : Standing) → (steps server s who ds).files ≡ edits_map (changes server s who ds) s.files
-  files-changed [] s = refl
-  files-changed (d ∷ ds) s = files-changed ds (step server s who d) ∙ sym (edits_map-append (answer_to server s who d).edits (changes server (step server s who d) who ds) s.files)
+-- the files that a part leaves are those that its changes make
+pub files-changed : (server : ℕ) (who : List ℕ) (ds : List Done) (s : Standing) → (steps server s who ds).files ≡ edits_map (changes server s who ds) s.files
+files-changed server who [] s = refl
+files-changed server who (d ∷ ds) s =
+    files-changed server who ds (step server s who d) ∙ sym (edits_map-append (answer_to server s who d).edits (changes server (step server s who d) who ds) s.files)
 
-  pub made-after : (ds : List Done) (s : Standing) → (steps server s who ds).made ≡ ids_after s.made ds
-  made-after [] s = refl
-  made-after (d ∷ ds) s = made-after ds (step server s who d)
+pub made-after : (server : ℕ) (who : List ℕ) (ds : List Done) (s : Standing) → (steps server s who ds).made ≡ ids_after s.made ds
+made-after server who [] s = refl
+made-after server who (d ∷ ds) s = made-after server who ds (step server s who d)
 
 -- ---- the ids that parts give
 
@@ -269,35 +270,35 @@ parts-commute server s p q sized agree one two =
     let p_writes : (k : Key) → Writes p.held k → Reads q.held k → ⊥ = apart p.held q.held agree in
     let q_writes : (k : Key) → Writes q.held k → Reads p.held k → ⊥ = apart-back p.held q.held agree in
     let p_within = part-within p.held server p.who p.calls s.files s.made no_opens one.formed sized tt one.covered in
-    let s1_files : s1.files ≡ edits_map p_edits s.files = files-changed p.held server p.who p.calls (begun s) in
+    let s1_files : s1.files ≡ edits_map p_edits s.files = files-changed server p.who p.calls (begun s) in
     let p_ids : AreIdsWritten p.held p.calls = ids-written p.held server p.who p.calls (begun s) one.covered in
     let q_ids : AreIdsWritten q.held q.calls = ids-written q.held server q.who q.calls (begun s1) two.covered in
-    let s1_made : s1.made ≡ ids_after s.made p.calls = made-after p.held server p.who p.calls (begun s) in
-    let t1_made : t1.made ≡ ids_after s.made q.calls = made-after q.held server q.who q.calls (begun s) in
+    let s1_made : s1.made ≡ ids_after s.made p.calls = made-after server p.who p.calls (begun s) in
+    let t1_made : t1.made ≡ ids_after s.made q.calls = made-after server q.who q.calls (begun s) in
     let back : DoesSame q.held server (begun s1) (begun s) q.who q.calls =
-      part-frame q.held server q.who q.calls s1.files s.files s1.made s.made no_opens two.formed p_within.1 tt two.covered
-      (λ k r. ap (λ (x : Cells). map.get x k) s1_files ∙ sym (apart-same (Reads q.held) (Writes p.held) p_writes p_edits p_within.0 s.files k r))
-      (subst (λ (x : List FileId). AreNewAlike x s.made q.calls) (sym s1_made) (new-alike p.held q.held (λ k w x. p_writes k w (writes-is-reads q.held k x)) p.calls q.calls s.made p_ids q_ids)) in
+    part-frame q.held server q.who q.calls s1.files s.files s1.made s.made no_opens two.formed p_within.1 tt two.covered
+    (λ k r. ap (λ (x : Cells). map.get x k) s1_files ∙ sym (apart-same (Reads q.held) (Writes p.held) p_writes p_edits p_within.0 s.files k r))
+    (subst (λ (x : List FileId). AreNewAlike x s.made q.calls) (sym s1_made) (new-alike p.held q.held (λ k w x. p_writes k w (writes-is-reads q.held k x)) p.calls q.calls s.made p_ids q_ids)) in
     let q_within = part-within q.held server q.who q.calls s.files s.made no_opens two.formed sized tt (back.covered two.covered) in
-    let t1_files : t1.files ≡ edits_map q_edits s.files = files-changed q.held server q.who q.calls (begun s) in
+    let t1_files : t1.files ≡ edits_map q_edits s.files = files-changed server q.who q.calls (begun s) in
     let on : DoesSame p.held server (begun s) (begun t1) p.who p.calls =
-      part-frame p.held server p.who p.calls s.files t1.files s.made t1.made no_opens one.formed sized tt one.covered
-      (λ k r. apart-same (Reads p.held) (Writes q.held) q_writes q_edits q_within.0 s.files k r ∙ ap (λ (x : Cells). map.get x k) (sym t1_files))
-      (alike-turned t1.made s.made p.calls
-      (subst (λ (x : List FileId). AreNewAlike x s.made p.calls) (sym t1_made) (new-alike q.held p.held (λ k w x. q_writes k w (writes-is-reads p.held k x)) q.calls p.calls s.made q_ids p_ids))) in
+    part-frame p.held server p.who p.calls s.files t1.files s.made t1.made no_opens one.formed sized tt one.covered
+    (λ k r. apart-same (Reads p.held) (Writes q.held) q_writes q_edits q_within.0 s.files k r ∙ ap (λ (x : Cells). map.get x k) (sym t1_files))
+    (alike-turned t1.made s.made p.calls
+    (subst (λ (x : List FileId). AreNewAlike x s.made p.calls) (sym t1_made) (new-alike q.held p.held (λ k w x. q_writes k w (writes-is-reads p.held k x)) q.calls p.calls s.made q_ids p_ids))) in
     record {
       earlier = record { formed = two.formed; right = back.right two.right; covered = back.covered two.covered };
       later = record { formed = one.formed; right = on.right one.right; covered = on.covered one.covered };
       files =
-        files-changed p.held server p.who p.calls (begun t1)
-        ∙ ap (λ (es : List Edit). edits_map es t1.files) (sym on.edits)
-        ∙ ap (edits_map p_edits) t1_files
-        ∙ edits-commute (Writes q.held) (Writes p.held) (λ k w x. q_writes k w (writes-is-reads p.held k x)) q_edits p_edits q_within.0 p_within.0 s.files
-        ∙ ap (edits_map q_edits) (sym s1_files)
-        ∙ ap (λ (es : List Edit). edits_map es s1.files) (sym back.edits)
-        ∙ sym (files-changed q.held server q.who q.calls (begun s1));
+          files-changed server p.who p.calls (begun t1)
+          ∙ ap (λ (es : List Edit). edits_map es t1.files) (sym on.edits)
+          ∙ ap (edits_map p_edits) t1_files
+          ∙ edits-commute (Writes q.held) (Writes p.held) (λ k w x. q_writes k w (writes-is-reads p.held k x)) q_edits p_edits q_within.0 p_within.0 s.files
+          ∙ ap (edits_map q_edits) (sym s1_files)
+          ∙ ap (λ (es : List Edit). edits_map es s1.files) (sym back.edits)
+          ∙ sym (files-changed server q.who q.calls (begun s1));
       ids = λ f.
-        ap (has_file f) (made-after p.held server p.who p.calls (begun t1)) ∙ ap (λ (x : List FileId). has_file f (ids_after x p.calls)) t1_made
-        ∙ ids-commute p.calls q.calls s.made f
-        ∙ sym (ap (has_file f) (made-after q.held server q.who q.calls (begun s1)) ∙ ap (λ (x : List FileId). has_file f (ids_after x q.calls)) s1_made);
+          ap (has_file f) (made-after server p.who p.calls (begun t1)) ∙ ap (λ (x : List FileId). has_file f (ids_after x p.calls)) t1_made
+          ∙ ids-commute p.calls q.calls s.made f
+          ∙ sym (ap (has_file f) (made-after server q.who q.calls (begun s1)) ∙ ap (λ (x : List FileId). has_file f (ids_after x q.calls)) s1_made);
     }

@@ -58,7 +58,7 @@ lets : (held : Holding) (r : Resource) (m : Mode) → HoldsOn held r m → Lets 
 lets held (Whole f) m h = λ w k in_file.
     let whole : IsTrue (covers_held (held (Whole f)) Write) = through-held (held (Whole f)) m Write h w in
     let given : IsTrue (covers_held (given_to held k) Write) =
-      subst (λ x. IsTrue (covers_held (option_and_then leaf_of (option_and_then (λ g. held (Whole g)) x)) Write)) (sym in_file) (given-write (held (Whole f)) whole) in
+    subst (λ x. IsTrue (covers_held (option_and_then leaf_of (option_and_then (λ g. held (Whole g)) x)) Write)) (sym in_file) (given-write (held (Whole f)) whole) in
     let writes : Writes held k = joined-right (held (Leaf k)) (given_to held k) Write given in
     (writes-is-reads held k writes, writes)
 lets held (Leaf k) m h = (λ r. through-held (mode_on held k) m Read h r, λ w. through-held (mode_on held k) m Write h w)

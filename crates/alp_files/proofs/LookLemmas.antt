@@ -154,10 +154,12 @@ module _ (R W : Key → Type 0) (m : View) (own : Own) (os : OpensRead R own.ope
   create-fits server made who start (Some f) small c =
       let file : (k : Key) → file_of k ≡ Some f → R k × W k = c.0 writes-all in (
         c.1.0.0 writes-read,
-        ((file (Leader f) refl).0,
-        unless-fits (create_tests who start (m (OwnerOf start.owner)))
-        (cond (is_new server made f (m (Leader f))) (created_file own start (owner_of (m (OwnerOf start.owner))) f) (no_answer own))
-        (λ no. go (is_new server made f (m (Leader f))) (file (Leader f) refl))),
+        (
+          (file (Leader f) refl).0,
+          unless-fits (create_tests who start (m (OwnerOf start.owner)))
+              (cond (is_new server made f (m (Leader f))) (created_file own start (owner_of (m (OwnerOf start.owner))) f) (no_answer own))
+              (λ no. go (is_new server made f (m (Leader f))) (file (Leader f) refl)),
+        ),
       )
     where
       go : (b : Bool) → R (Leader f) × W (Leader f) → Fits R W m (Say (cond b (created_file own start (owner_of (m (OwnerOf start.owner))) f) (no_answer own)))
@@ -209,15 +211,14 @@ module _ (R W : Key → Type 0) (m : View) (own : Own) (os : OpensRead R own.ope
       let small : p.size < page_limit = its-size o.file p here in
       let mark = mark-fits o.file p (r.first + r.count) small (lets-left R W (mark_needs o.file p (r.first + r.count)) (page_needs o.file r.first r.count Write) c) in
       let row : LetsEach R W (page_needs o.file r.first (length pages) Write) =
-        subst (λ n. LetsEach R W (page_needs o.file r.first n Write)) (sym full) (lets-right R W (mark_needs o.file p (r.first + r.count)) (page_needs o.file r.first r.count Write) c) in
+      subst (λ n. LetsEach R W (page_needs o.file r.first n Write)) (sym full) (lets-right R W (mark_needs o.file p (r.first + r.count)) (page_needs o.file r.first r.count Write) c) in
       unless-fits (page_past r p) (told own reply.Plain (page_puts o.file r.first pages ++ mark_put o.file p (r.first + r.count)))
       (λ no. (
-        let past : r.first + r.count ≤ p.size = ltb-false p.size (r.first + r.count) no.0 in
-        (
-          within-append W (page_puts o.file r.first pages) (mark_put o.file p (r.first + r.count)) (puts-within o.file pages r.first (omega (arith, past, small, full)) row) mark.0,
-          os,
-          sized-append (page_puts o.file r.first pages) (mark_put o.file p (r.first + r.count)) (puts-sized o.file r.first pages) mark.1,
-        )))
+      let past : r.first + r.count ≤ p.size = ltb-false p.size (r.first + r.count) no.0 in (
+        within-append W (page_puts o.file r.first pages) (mark_put o.file p (r.first + r.count)) (puts-within o.file pages r.first (omega (arith, past, small, full)) row) mark.0,
+        os,
+        sized-append (page_puts o.file r.first pages) (mark_put o.file p (r.first + r.count)) (puts-sized o.file r.first pages) mark.1,
+      )))
 
   lock-fits : (r : Run) (o : Open) (p : Props) → Fits R W m (lock_pages own r o p)
   lock-fits r o p = unless-fits (page_past r p) (told own reply.Plain []) (λ no. (tt, os, tt))
@@ -242,8 +243,8 @@ module _ (R W : Key → Type 0) (m : View) (own : Own) (os : OpensRead R own.ope
       go false false c = (
         c.1.0.0 writes-read,
         unless-fits ((is_over (owner_of (m (OwnerOf p.owner))) (size - p.size), over (owner_of (m (OwnerOf p.owner))) (size - p.size)) ∷ [])
-        (told own reply.Plain (Put (Leader o.file) (cell.Leader (record p { size = size })) ∷ charge_put p.owner (owner_of (m (OwnerOf p.owner))) ((owner_of (m (OwnerOf p.owner))).charge + (size - p.size)) ∷ []))
-        (λ no. ((c.0.1 writes-all, (c.1.0.1 writes-all, tt)), os, (small, (tt, tt)))),
+            (told own reply.Plain (Put (Leader o.file) (cell.Leader (record p { size = size })) ∷ charge_put p.owner (owner_of (m (OwnerOf p.owner))) ((owner_of (m (OwnerOf p.owner))).charge + (size - p.size)) ∷ []))
+            (λ no. ((c.0.1 writes-all, (c.1.0.1 writes-all, tt)), os, (small, (tt, tt)))),
       )
 
   move-fits : (who name : List ℕ) (o : Open) (p : Props) → p.size < page_limit → LetsEach R W (change_needs (prop.Owner name) o p) → Fits R W m (move_file own who name o p)
@@ -255,8 +256,10 @@ module _ (R W : Key → Type 0) (m : View) (own : Own) (os : OpensRead R own.ope
       go true = (tt, os, tt)
       go false = (
         c.1.1.0.0 writes-read,
-        (c.1.0.0 writes-read,
-        unless-fits (move_tests who name p.size (m (OwnerOf name))) _ (λ no. ((c.0.1 writes-all, (c.1.0.1 writes-all, (c.1.1.0.1 writes-all, tt))), os, (small, (tt, (tt, tt)))))),
+        (
+          c.1.0.0 writes-read,
+          unless-fits (move_tests who name p.size (m (OwnerOf name))) _ (λ no. ((c.0.1 writes-all, (c.1.0.1 writes-all, (c.1.1.0.1 writes-all, tt))), os, (small, (tt, (tt, tt))))),
+        ),
       )
 
   props-fits : (who : List ℕ) (change : PropChange) (o : Open) (p : Props) → p.size < page_limit → LetsEach R W (change_needs change o p) → Fits R W m (write_props own who change o p)
@@ -287,8 +290,8 @@ module _ (R W : Key → Type 0) (m : View) (own : Own) (os : OpensRead R own.ope
       let d = lets-right R W (needs_made id) ((Whole file, mode) ∷ (Leaf (Leader file), Read) ∷ []) c in (
         d.1.0.0 reads-all,
         unless-fits ((not (is_some (props_in (m (Leader file)))), refusal.UnknownFile) ∷ access_tests access who (props_of (m (Leader file))))
-        (record { reply = Some (reply.Opened (own.last + 1)); edits = []; own = opened own file access })
-        (λ no. (tt, opened-read R own.opens (record { number = own.last + 1; file = file; access = access }) os (d.1.0.0 reads-all), tt)),
+            (record { reply = Some (reply.Opened (own.last + 1)); edits = []; own = opened own file access })
+            (λ no. (tt, opened-read R own.opens (record { number = own.last + 1; file = file; access = access }) os (d.1.0.0 reads-all), tt)),
       )
   program-fits server made who (call.CloseFile trans n) id formed c = close (open_at own.opens n)
     where
@@ -314,6 +317,7 @@ module _ (R W : Key → Type 0) (m : View) (own : Own) (os : OpensRead R own.ope
       none-there : (x : Option Props) → LetsEach R W (needs_there x (λ p. []))
       none-there None = tt
       none-there (Some p) = tt
+
       none : (oo : Option Open) → LetsEach R W (needs_on_open m oo (λ o p. []))
       none None = tt
       none (Some o) = none-there (props_in (m (Leader o.file)))
@@ -324,17 +328,19 @@ module _ (R W : Key → Type 0) (m : View) (own : Own) (os : OpensRead R own.ope
       let d = lets-right R W (needs_made id) ((Leaf (OwnerOf name), Read) ∷ []) c in
       (d.0.0 reads-all, unless-fits ((not (is_some (owner_in (m (OwnerOf name)))), refusal.UnknownOwner) ∷ []) (told own (reply.Owner (owner_of (m (OwnerOf name)))) []) (λ no. (tt, os, tt)))
   program-fits server made who (call.MakeOwner trans name quota create choice) id formed c =
-      let d = lets-right R W (needs_made id) ((Leaf (OwnerOf name), Write) ∷ []) c in
-      (d.0.0 writes-read,
-      unless-fits ((is_some (owner_in (m (OwnerOf name))), refusal.OwnerExists) ∷ (not (is_admin who), refusal.AccessDenied lists.Admin) ∷ [])
-      (told own reply.Plain (Put (OwnerOf name) (cell.Owner (record { name = name; quota = quota; charge = 0; create = create })) ∷ []))
-      (λ no. ((d.0.1 writes-all, tt), os, (tt, tt))))
+      let d = lets-right R W (needs_made id) ((Leaf (OwnerOf name), Write) ∷ []) c in (
+        d.0.0 writes-read,
+        unless-fits ((is_some (owner_in (m (OwnerOf name))), refusal.OwnerExists) ∷ (not (is_admin who), refusal.AccessDenied lists.Admin) ∷ [])
+            (told own reply.Plain (Put (OwnerOf name) (cell.Owner (record { name = name; quota = quota; charge = 0; create = create })) ∷ []))
+            (λ no. ((d.0.1 writes-all, tt), os, (tt, tt))),
+      )
   program-fits server made who (call.SetQuota trans name quota choice) id formed c =
-      let d = lets-right R W (needs_made id) ((Leaf (OwnerOf name), Write) ∷ []) c in
-      (d.0.0 writes-read,
-      unless-fits ((not (is_some (owner_in (m (OwnerOf name)))), refusal.UnknownOwner) ∷ (not (is_admin who), refusal.AccessDenied lists.Admin) ∷ [])
-      (told own reply.Plain (Put (OwnerOf name) (cell.Owner (record (owner_of (m (OwnerOf name))) { quota = quota })) ∷ []))
-      (λ no. ((d.0.1 writes-all, tt), os, (tt, tt))))
+      let d = lets-right R W (needs_made id) ((Leaf (OwnerOf name), Write) ∷ []) c in (
+        d.0.0 writes-read,
+        unless-fits ((not (is_some (owner_in (m (OwnerOf name)))), refusal.UnknownOwner) ∷ (not (is_admin who), refusal.AccessDenied lists.Admin) ∷ [])
+            (told own reply.Plain (Put (OwnerOf name) (cell.Owner (record (owner_of (m (OwnerOf name))) { quota = quota })) ∷ []))
+            (λ no. ((d.0.1 writes-all, tt), os, (tt, tt))),
+      )
   program-fits server made who (call.Finish trans commit) id formed c = (tt, os, tt)
   program-fits server made who (call.Outcome trans) id formed c = (tt, os, tt)
   program-fits server made who (call.Collect number) id formed c = (tt, os, tt)

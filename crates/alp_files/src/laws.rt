@@ -1,5 +1,5 @@
 //! The laws of what calls mean, as contracts.
-ghost use Rattle.std.specs.Prelude.{ℕ, List};
+ghost use Rattle.std.specs.Prelude.{◌≡◌, ℕ, List};
 ghost use Rattle.std.specs.FinMap as map;
 ghost use Rattle.alp_base.specs.declared.ids.FileId.{FileId};
 ghost use Rattle.alp_files.specs.declared.call.Call.{Call};
@@ -7,7 +7,10 @@ ghost use Rattle.alp_files.specs.declared.reply.Reply.{Reply};
 ghost use Rattle.alp_files.specs.Cells.{Cells};
 ghost use Rattle.alp_files.specs.Edits.{edits_map};
 ghost use Rattle.alp_files.specs.Act.{Own, answer};
-ghost use Rattle.alp_files.specs.History.{Standing, Decided, serial_end};
+ghost use Rattle.alp_files.specs.History.{Standing, Done, Decided, serial_end, steps};
+ghost use Rattle.alp_modes.specs.Holdings.{Holding, DoAgreeOnLeaves};
+ghost use Rattle.alp_files.specs.Locks.{Reads, Writes, AreCovered};
+ghost use Rattle.alp_files.specs.Apart.{IsWithin, DoShowSame, OpensRead, AreSized, AreNewAlike, AreFormed, changes, standing, DoesSame, Locked, after_part, IsRightUnder, DoCommute};
 ghost use Rattle.alp_files.specs.Sound.{AreSound, HasItsPages, HaveTheirPages, IsSoundAfterEach};
 
 /// No files are sound, and what any call changes keeps sound files so.
@@ -27,4 +30,28 @@ pub fn acts_keep_files_sound()
 pub fn histories_keep_files_sound()
     ensures after_each { (server : ℕ) (s : Standing) (ds : List Decided) → HaveTheirPages ds → AreSound s.files → IsSoundAfterEach server s ds }
     ensures at_end { (server : ℕ) (s : Standing) (ds : List Decided) → HaveTheirPages ds → AreSound s.files → AreSound (serial_end server s ds).files }
+{}
+
+/// Where what a transaction holds covers the locks of its calls, they look only at places that it
+/// may read, and change only places that it may write.
+///
+/// So on two maps that show the same where it may read, its calls get the same replies and make the
+/// same changes (`frame`), and all its changes are of places that it may write (`change`). Of the
+/// ids that it gives, the same must have been given before.
+pub fn calls_keep_to_their_locks()
+    ensures frame { (held : Holding) (server : ℕ) (who : List ℕ) (ds : List Done) (m n : Cells) (made others : List FileId) (own : Own)
+        → AreFormed ds → AreSized (map.get m) → OpensRead (Reads held) own.opens → AreCovered held server (standing m made own) who ds
+        → DoShowSame (Reads held) (map.get m) (map.get n) → AreNewAlike made others ds
+        → DoesSame held server (standing m made own) (standing n others own) who ds }
+    ensures change { (held : Holding) (server : ℕ) (who : List ℕ) (ds : List Done) (m : Cells) (made : List FileId) (own : Own)
+        → AreFormed ds → AreSized (map.get m) → OpensRead (Reads held) own.opens → AreCovered held server (standing m made own) who ds
+        → IsWithin (Writes held) (changes server (standing m made own) who ds) × AreSized (map.get (steps server (standing m made own) who ds).files) }
+    ensures files { (server : ℕ) (who : List ℕ) (ds : List Done) (s : Standing) → (steps server s who ds).files ≡ edits_map (changes server s who ds) s.files }
+{}
+
+/// Two transactions' parts whose locks agree on each place may go in either order: each reply stays
+/// right, and the files at the end are the same.
+pub fn agreeing_parts_commute()
+    ensures { (server : ℕ) (s : Standing) (p q : Locked) → AreSized (map.get s.files) → DoAgreeOnLeaves p.held q.held
+        → IsRightUnder server s p → IsRightUnder server (after_part server s p) q → DoCommute server s p q }
 {}
