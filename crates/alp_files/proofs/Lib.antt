@@ -14,3 +14,4 @@ pub mod SoundLemmas
 pub mod HeldLemmas
 pub mod LookLemmas
 pub mod FrameLemmas
+pub mod CoverLemmas

@@ -13,7 +13,7 @@ use Rattle.alp_base.specs.declared.choices.Access.TheVariants.{ReadOnly, Change}
 use Rattle.alp_modes.specs.declared.Mode.{Mode}
 use Rattle.alp_modes.specs.declared.Mode.TheVariants.{Read, Write}
 use Rattle.alp_modes.specs.Modes.{covers_of}
-use Rattle.alp_modes.specs.Holdings.{Holding, covers_held, mode_on}
+use Rattle.alp_modes.specs.Holdings.{Holding, join_held, covers_held, held_by, file_of, given_to, mode_on, intention_of}
 use Rattle.alp_files.specs.declared.cell.Props.{Props}
 use Rattle.alp_files.specs.declared.call.Call.{Call}
 use Rattle.alp_files.specs.declared.call.Call.TheVariants as call
@@ -99,7 +99,45 @@ needs_made (Some f) = (Whole f, Write) ∷ []
 abbrev pub needs_done : View → Own → Done → List Need
 needs_done m own d = needs_made (id_in d.reply) ++ needs_of m own d.call
 
--- ---- what is held
+-- ---- what is asked for them, and what is held then
+
+-- what is held with these modes too
+abbrev pub joined : Holding → List Need → Holding
+joined held ns r = join_held (held r) (held_by ns r)
+
+-- the whole files among the needs
+abbrev pub whole_of : Resource → Mode → List Need
+whole_of (Whole f) m = (Whole f, m) ∷ []
+whole_of (Leaf k) m = []
+
+abbrev pub wholes_of : List Need → List Need
+wholes_of [] = []
+wholes_of (n ∷ ns) = whole_of n.0 n.1 ++ wholes_of ns
+
+-- with a lock on a leaf goes the intention on its file
+abbrev pub intention_on : Option FileId → Mode → List Need
+intention_on None m = []
+intention_on (Some f) m = (Whole f, intention_of m) ∷ []
+
+-- a leaf is not asked where the file's lock gives it
+abbrev pub asked_on : Holding → Resource → Mode → List Need
+asked_on held (Whole f) m = (Whole f, m) ∷ []
+asked_on held (Leaf k) m = if covers_held (given_to held k) m then [] else (Leaf k, m) ∷ intention_on (file_of k) m
+
+abbrev pub asked_each : Holding → List Need → List Need
+asked_each held [] = []
+asked_each held (n ∷ ns) = asked_on held n.0 n.1 ++ asked_each held ns
+
+-- What is asked for needs. What a file gives is judged by the file's lock that is held and the one that is asked with
+-- them, without the intentions that the leaves bring.
+abbrev pub request_of : Holding → List Need → List Need
+request_of held ns = asked_each (joined held (wholes_of ns)) ns
+
+-- what is held when that is granted
+abbrev pub granted : Holding → List Need → Holding
+granted held ns = joined held (request_of held ns)
+
+-- ---- what that covers
 
 -- what is held covers the need; on a leaf the file's lock counts for what it gives
 abbrev pub HoldsOn : Holding → Resource → Mode → Type 0
@@ -115,6 +153,10 @@ Reads held k = IsTrue (covers_held (mode_on held k) Read)
 
 abbrev pub Writes : Holding → Key → Type 0
 Writes held k = IsTrue (covers_held (mode_on held k) Write)
+
+-- one holding covers all that another does
+abbrev pub IsMore : Holding → Holding → Type 0
+IsMore a b = (r : Resource) (m : Mode) → IsTrue (covers_held (a r) m) → IsTrue (covers_held (b r) m)
 
 -- what is held covers the locks of each of these calls, where it was performed
 abbrev pub AreCovered : Holding → ℕ → Standing → List ℕ → List Done → Type 0
