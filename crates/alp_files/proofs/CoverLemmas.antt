@@ -22,6 +22,7 @@ use Rattle.alp_files.specs.Edits.{Edit}
 use Rattle.alp_files.specs.History.{Done, Standing, answer_to, step, steps}
 use Rattle.alp_files.specs.Locks.{Need, joined, whole_of, wholes_of, intention_on, asked_on, asked_each, request_of, granted, needs_done, HoldsOn, HoldsEach, IsMore, Reads, Writes, AreCovered}
 use Rattle.alp_files.specs.Apart.{changes}
+use Rattle.alp_files.proofs.FilesLemmas.{same-some}
 
 -- ---- more covers as much
 
@@ -138,6 +139,82 @@ granted-holds held ns = asked-each-holds (joined held (wholes_of ns)) (granted h
 
 pub granted-more : (held : Holding) (ns : List Need) → IsMore held (granted held ns)
 granted-more held ns = joined-more held (request_of held ns)
+
+-- ---- the intentions
+
+-- whoever holds a leaf so has its intention on the file
+abbrev Intends : Option Mode → Option Mode → Type 0
+Intends l f = (m : Mode) → l ≡ Some m → IsTrue (covers_held f (intention_of m))
+
+joint-intention : (a b c : Mode) → IsTrue (covers_of c (intention_of a)) → IsTrue (covers_of c (intention_of b)) → IsTrue (covers_of c (intention_of (join_of a b)))
+unfolding covers_of join_of intention_of
+joint-intention a b c h k =
+    implied-is (covers_of c (intention_of b)) (covers_of c (intention_of (join_of a b)))
+    (implied-is (covers_of c (intention_of a)) (implied (covers_of c (intention_of b)) (covers_of c (intention_of (join_of a b))))
+    (at-all (λ x y z. implied (covers_of z (intention_of x)) (implied (covers_of z (intention_of y)) (covers_of z (intention_of (join_of x y))))) refl a b c) h)
+    k
+
+joint-held : (a b : Mode) (o : Option Mode) → IsTrue (covers_held o (intention_of a)) → IsTrue (covers_held o (intention_of b)) → IsTrue (covers_held o (intention_of (join_of a b)))
+joint-held a b None h k = cc
+joint-held a b (Some c) h k = joint-intention a b c h k
+
+intends-joined : (a b f g : Option Mode) → Intends a f → Intends b g → Intends (join_held a b) (join_held f g)
+intends-joined None b f g i j m e = right-above f g (intention_of m) (j m e)
+intends-joined (Some a) None f g i j m e = left-above f g (intention_of m) (i m e)
+intends-joined (Some a) (Some b) f g i j m e =
+    subst (λ (x : Mode). IsTrue (covers_held (join_held f g) (intention_of x))) (same-some (join_of a b) m e)
+    (joint-held a b (join_held f g) (left-above f g (intention_of a) (i a refl)) (right-above f g (intention_of b) (j b refl)))
+
+intended-joined : (a b : Holding) → IsIntended a → IsIntended b → IsIntended (λ r. join_held (a r) (b r))
+intended-joined a b i j k f m in_file is = intends-joined (a (Leaf k)) (b (Leaf k)) (a (Whole f)) (b (Whole f)) (λ x e. i k f x in_file e) (λ x e. j k f x in_file e) m is
+
+-- an intention is on a file
+no-leaf : (o : Option FileId) (m : Mode) (k : Key) → held_by (intention_on o m) (Leaf k) ≡ None
+no-leaf None m k = refl
+no-leaf (Some f) m k = refl
+
+leaf_in : Resource → Key → Key
+leaf_in (Whole f) other = other
+leaf_in (Leaf k) other = k
+
+same-leaf : (q k : Key) → eq_by_cmp resource_cmp (Leaf q) (Leaf k) ≡ true → q ≡ k
+unfolding leaf_in
+same-leaf q k e = ap (λ r. leaf_in r q) (tells_apart exact_resources (Leaf q) (Leaf k) e)
+
+leaf-with-intention : (k : Key) (m : Mode) → IsIntended (held_by ((Leaf k, m) ∷ intention_on (file_of k) m))
+leaf-with-intention k m q f x in_file is = go (eq_by_cmp resource_cmp (Leaf q) (Leaf k)) refl is
+  where
+    intended : file_of k ≡ Some f → m ≡ x → IsTrue (covers_held (held_by ((Leaf k, m) ∷ intention_on (file_of k) m) (Whole f)) (intention_of x))
+    intended there same =
+        by-right ((Leaf k, m) ∷ []) (intention_on (file_of k) m) (Whole f) (intention_of x)
+        (subst (λ (o : Option FileId). IsTrue (covers_held (held_by (intention_on o m) (Whole f)) (intention_of x))) (sym there)
+        (subst (λ (y : Mode). IsTrue (covers_held (held_by ((Whole f, intention_of m) ∷ []) (Whole f)) (intention_of y))) same (first-held (Whole f, intention_of m) [])))
+
+    go : (b : Bool) → eq_by_cmp resource_cmp (Leaf q) (Leaf k) ≡ b → cond b (join_held (Some m) (held_by (intention_on (file_of k) m) (Leaf q))) (held_by (intention_on (file_of k) m) (Leaf q)) ≡ Some x
+        → IsTrue (covers_held (held_by ((Leaf k, m) ∷ intention_on (file_of k) m) (Whole f)) (intention_of x))
+    go true e is =
+        intended (ap file_of (sym (same-leaf q k e)) ∙ in_file)
+        (same-some m x (ap (join_held (Some m)) (sym (no-leaf (file_of k) m q)) ∙ is))
+    go false e is = let wrong : None ≡ Some x = sym (no-leaf (file_of k) m q) ∙ is in cc
+
+asked-intended : (held : Holding) (r : Resource) (m : Mode) → IsIntended (held_by (asked_on held r m))
+asked-intended held (Whole f) m = λ k g x in_file is. (let wrong : None ≡ Some x = is in cc)
+asked-intended held (Leaf l) m = go (covers_held (given_to held l) m)
+  where
+    go : (b : Bool) → IsIntended (held_by (cond b [] ((Leaf l, m) ∷ intention_on (file_of l) m)))
+    go true = λ k f x in_file is. (let wrong : None ≡ Some x = is in cc)
+    go false = leaf-with-intention l m
+
+asked-each-intended : (held : Holding) (ns : List Need) → IsIntended (held_by (asked_each held ns))
+asked-each-intended held [] k f m in_file is = let wrong : None ≡ Some m = is in cc
+asked-each-intended held (n ∷ ns) k f m in_file is =
+    subst (λ (o : Option Mode). IsTrue (covers_held o (intention_of m))) (sym (held_by-append (asked_on held n.0 n.1) (asked_each held ns) (Whole f)))
+    (intended-joined (held_by (asked_on held n.0 n.1)) (held_by (asked_each held ns)) (asked-intended held n.0 n.1) (asked-each-intended held ns) k f m in_file
+    (sym (held_by-append (asked_on held n.0 n.1) (asked_each held ns) (Leaf k)) ∙ is))
+
+-- what is granted has its intentions beside it
+pub granted-intended : (held : Holding) (ns : List Need) → IsIntended held → IsIntended (granted held ns)
+granted-intended held ns h = intended-joined held (held_by (request_of held ns)) h (asked-each-intended (joined held (wholes_of ns)) ns)
 
 -- ---- one call more
 

@@ -95,7 +95,7 @@ sized-after (Put q x ∷ es) m s h = sized-after es (after (Put q x ∷ []) m) (
 -- ---- one call
 
 -- of the id that is given, the same were given before
-program-made : (server : ℕ) (made others : List FileId) (who : List ℕ) (own : Own) (c : Call) (id : Option FileId) → ((f : FileId) → id ≡ Some f → has_file f made ≡ has_file f others)
+pub program-made : (server : ℕ) (made others : List FileId) (who : List ℕ) (own : Own) (c : Call) (id : Option FileId) → ((f : FileId) → id ≡ Some f → has_file f made ≡ has_file f others)
     → program server made who own c id ≡ program server others who own c id
 program-made server made others who own (call.CreateFile trans start choice) None h = refl
 program-made server made others who own (call.CreateFile trans start choice) (Some f) h =
@@ -142,7 +142,7 @@ sized-map es m s h = subst AreSized (sym (get-edits_map es m)) (sized-after es (
 
 -- ---- a part's calls
 
-more-ids : (x : Option FileId) (made others : List FileId) (f : FileId) → has_file f made ≡ has_file f others → has_file f (option_to_list x ++ made) ≡ has_file f (option_to_list x ++ others)
+pub more-ids : (x : Option FileId) (made others : List FileId) (f : FileId) → has_file f made ≡ has_file f others → has_file f (option_to_list x ++ made) ≡ has_file f (option_to_list x ++ others)
 more-ids None made others f h = h
 more-ids (Some g) made others f h = ap (λ (b : Bool). same_file g f || b) h
 

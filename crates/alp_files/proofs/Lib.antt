@@ -15,3 +15,4 @@ pub mod HeldLemmas
 pub mod LookLemmas
 pub mod FrameLemmas
 pub mod CoverLemmas
+pub mod SwapLemmas

@@ -3,6 +3,7 @@ use Rattle.std.specs.Prelude.{◌≡◌, ℕ, ◌<◌, List, [], ◌∷◌, ◌+
 use Rattle.std.specs.List.{AllByRecursion}
 use Rattle.std.specs.Option.{option_to_list}
 use Rattle.alp_base.specs.declared.ids.FileId.{FileId}
+use Rattle.alp_base.specs.declared.ids.Stamp.{Stamp}
 use Rattle.alp_base.specs.declared.key.Key.{Key}
 use Rattle.alp_base.specs.declared.key.Key.TheVariants.{Leader}
 use Rattle.alp_modes.specs.Holdings.{Holding, file_of}
@@ -12,7 +13,7 @@ use Rattle.alp_files.specs.declared.open.Open.{Open}
 use Rattle.alp_files.specs.Cells.{Cells, View, has_file}
 use Rattle.alp_files.specs.Edits.{Edit, Drop, Cut, Put}
 use Rattle.alp_files.specs.Act.{Own, id_in}
-use Rattle.alp_files.specs.History.{Done, Standing, answer_to, step, AreRight, steps, begun}
+use Rattle.alp_files.specs.History.{Done, Standing, Decided, answer_to, step, AreRight, steps, begun, IsSerial, serial_end}
 use Rattle.alp_files.specs.Locks.{page_limit, IsFormed, AreCovered}
 
 -- the changes are of places where W holds; a file that goes or is cut may change anywhere
@@ -92,3 +93,15 @@ pub record DoCommute (server : ℕ) (s : Standing) (p q : Locked) : Type 0 where
   pub later : IsRightUnder server (after_part server s q) p
   pub files : (after_part server (after_part server s q) p).files ≡ (after_part server (after_part server s p) q).files
   pub ids : (f : FileId) → has_file f (after_part server (after_part server s q) p).made ≡ has_file f (after_part server (after_part server s p) q).made
+
+-- ---- histories
+
+-- the part in a history, with its stamp
+abbrev pub decided_as : Stamp → Locked → Decided
+decided_as stamp p = record { stamp = stamp; who = p.who; calls = p.calls }
+
+-- what is one thread's history from one standing on is it from the other on too, and it leaves the same files and ids
+pub record IsLikewise (server : ℕ) (s t : Standing) (ds : List Decided) : Type 0 where
+  pub serial : IsSerial server s ds → IsSerial server t ds
+  pub files : (serial_end server s ds).files ≡ (serial_end server t ds).files
+  pub ids : (f : FileId) → has_file f (serial_end server s ds).made ≡ has_file f (serial_end server t ds).made
