@@ -21,6 +21,7 @@ use Rattle.alp_files.specs.declared.reply.Reply.{Reply}
 use Rattle.alp_files.specs.declared.open.Open.{Open}
 use Rattle.alp_modes.specs.declared.Mode.{Mode}
 use Rattle.alp_modes.specs.declared.Mode.TheVariants.{Read, Write}
+use Rattle.alp_base.specs.declared.key.Resource.{Resource}
 use Rattle.alp_base.specs.declared.key.Resource.TheVariants.{Whole, Leaf}
 use Rattle.alp_files.specs.Cells.{Cells, View, same_file, has_file, props_in}
 use Rattle.alp_files.specs.Edits.{Edit, Drop, Cut, Put, is_in_file, is_past, edit_at, edits_at, after, edits_map}
@@ -31,7 +32,7 @@ use Rattle.alp_files.specs.Apart.{IsWithin, DoShowSame, OpensRead, IsSized, AreS
 use Rattle.alp_files.proofs.HistoryLemmas.{edits_map-append, get-edits_map, same_cells}
 use Rattle.alp_files.proofs.SameLemmas.{same_key-true, same_file-true}
 use Rattle.alp_files.proofs.FilesLemmas.{same-some}
-use Rattle.alp_files.proofs.HeldLemmas.{LetsEach, lets-each, apart, apart-back, writes-all, writes-is-reads}
+use Rattle.alp_files.proofs.HeldLemmas.{Lets, LetsEach, lets-each, apart, apart-back, writes-all, writes-is-reads}
 use Rattle.alp_files.proofs.LookLemmas.{IsReadAt, found, run-frame, run-fits, program-fits, PutsSized, within-append, lets-left}
 
 -- ---- changes stay where they may be
@@ -194,6 +195,26 @@ files-changed server who (d ∷ ds) s =
 pub made-after : (server : ℕ) (who : List ℕ) (ds : List Done) (s : Standing) → (steps server s who ds).made ≡ ids_after s.made ds
 made-after server who [] s = refl
 made-after server who (d ∷ ds) s = made-after server who ds (step server s who d)
+
+-- sizes stay, whatever is held
+all-read : (os : List Open) → OpensRead (λ k. Unit {0}) os
+all-read [] = tt
+all-read (o ∷ os) = (tt, all-read os)
+
+all-let : (ns : List Need) → LetsEach (λ k. Unit {0}) (λ k. Unit {0}) ns
+all-let [] = tt
+all-let (n ∷ ns) = (let-one n.0 n.1, all-let ns)
+  where
+    let-one : (r : Resource) (m : Mode) → Lets (λ k. Unit {0}) (λ k. Unit {0}) r m
+    let-one (Whole f) m = λ w k e. (tt, tt)
+    let-one (Leaf k) m = (λ r. tt, λ w. tt)
+
+pub steps-sized : (server : ℕ) (s : Standing) (who : List ℕ) (ds : List Done) → AreFormed ds → AreSized (map.get s.files) → AreSized (map.get (steps server s who ds).files)
+steps-sized server s who [] formed sized = sized
+steps-sized server s who (d ∷ ds) formed sized =
+    steps-sized server (step server s who d) who ds formed.1
+    (sized-map (answer_to server s who d).edits s.files sized
+    (answer-fits (λ k. Unit {0}) (λ k. Unit {0}) (map.get s.files) sized server s.made who s.own (all-read s.own.opens) d formed.0 (all-let (needs_done (map.get s.files) s.own d))).2)
 
 -- ---- the ids that parts give
 

@@ -32,8 +32,8 @@ calls-alike server who (d ∷ ds) m made others own alike =
     let ids : List FileId = option_to_list (id_in d.reply) in
     let next : Standing = standing (edits_map a.edits m) (ids ++ made) a.own in
     let rest : Likewise server next (standing (edits_map b.edits m) (ids ++ others) b.own) who ds =
-      subst (λ (x : Answer). Likewise server next (standing (edits_map x.edits m) (ids ++ others) x.own) who ds) e
-      (calls-alike server who ds (edits_map a.edits m) (ids ++ made) (ids ++ others) a.own (λ f. more-ids (id_in d.reply) made others f (alike f))) in
+    subst (λ (x : Answer). Likewise server next (standing (edits_map x.edits m) (ids ++ others) x.own) who ds) e
+    (calls-alike server who ds (edits_map a.edits m) (ids ++ made) (ids ++ others) a.own (λ f. more-ids (id_in d.reply) made others f (alike f))) in
     record { right = λ h. (ap (λ (x : Answer). x.reply) (sym e) ∙ h.0, rest.right h.1); files = rest.files; made = rest.made }
 
 part-alike : (server : ℕ) (who : List ℕ) (ds : List Done) (s t : Standing) → s.files ≡ t.files → AreAlike s.made t.made → Likewise server (begun s) (begun t) who ds
@@ -45,7 +45,7 @@ history-alike server [] s t same alike = record { serial = λ h. tt; files = sam
 history-alike server (d ∷ ds) s t same alike =
     let first = part-alike server d.who d.calls s t same alike in
     let rest : IsLikewise server (steps server (begun s) d.who d.calls) (steps server (begun t) d.who d.calls) ds =
-      history-alike server ds (steps server (begun s) d.who d.calls) (steps server (begun t) d.who d.calls) first.files first.made in
+    history-alike server ds (steps server (begun s) d.who d.calls) (steps server (begun t) d.who d.calls) first.files first.made in
     record { serial = λ h. (first.right h.0, rest.serial h.1); files = rest.files; ids = rest.ids }
 
 -- two parts of a history change places
@@ -59,5 +59,5 @@ history-swap server s p q a b ds sized agree p_formed q_formed p_covered q_cover
     let two : IsRightUnder server (after_part server s p) q = record { formed = q_formed; right = h.1.0; covered = q_covered } in
     let turned = parts-commute server s p q sized agree one two in
     let rest : IsLikewise server (after_part server (after_part server s p) q) (after_part server (after_part server s q) p) ds =
-      history-alike server ds (after_part server (after_part server s p) q) (after_part server (after_part server s q) p) (sym turned.files) (λ f. sym (turned.ids f)) in
+    history-alike server ds (after_part server (after_part server s p) q) (after_part server (after_part server s q) p) (sym turned.files) (λ f. sym (turned.ids f)) in
     ((turned.earlier.right, (turned.later.right, rest.serial h.1.1)), rest.files)

@@ -1,16 +1,17 @@
 //! The laws of what calls mean, as contracts.
-ghost use Rattle.std.specs.Prelude.{◌≡◌, ℕ, List};
+ghost use Rattle.std.specs.Prelude.{◌≡◌, ℕ, List, ◌∷◌};
 ghost use Rattle.std.specs.FinMap as map;
 ghost use Rattle.alp_base.specs.declared.ids.FileId.{FileId};
+ghost use Rattle.alp_base.specs.declared.ids.Stamp.{Stamp};
 ghost use Rattle.alp_files.specs.declared.call.Call.{Call};
 ghost use Rattle.alp_files.specs.declared.reply.Reply.{Reply};
 ghost use Rattle.alp_files.specs.Cells.{Cells};
 ghost use Rattle.alp_files.specs.Edits.{edits_map};
 ghost use Rattle.alp_files.specs.Act.{Own, answer};
-ghost use Rattle.alp_files.specs.History.{Standing, Done, Decided, serial_end, steps};
-ghost use Rattle.alp_modes.specs.Holdings.{Holding, DoAgreeOnLeaves};
-ghost use Rattle.alp_files.specs.Locks.{Reads, Writes, AreCovered};
-ghost use Rattle.alp_files.specs.Apart.{IsWithin, DoShowSame, OpensRead, AreSized, AreNewAlike, AreFormed, changes, standing, DoesSame, Locked, after_part, IsRightUnder, DoCommute};
+ghost use Rattle.alp_files.specs.History.{Standing, Done, Decided, begun, IsSerial, serial_end, steps};
+ghost use Rattle.alp_modes.specs.Holdings.{Holding, IsIntended, DoAgreeOnLeaves};
+ghost use Rattle.alp_files.specs.Locks.{Need, Reads, Writes, HoldsEach, IsMore, granted, AreCovered};
+ghost use Rattle.alp_files.specs.Apart.{IsWithin, DoShowSame, OpensRead, AreSized, AreNewAlike, AreFormed, changes, standing, DoesSame, Locked, after_part, IsRightUnder, DoCommute, decided_as};
 ghost use Rattle.alp_files.specs.Sound.{AreSound, HasItsPages, HaveTheirPages, IsSoundAfterEach};
 
 /// No files are sound, and what any call changes keeps sound files so.
@@ -50,8 +51,28 @@ pub fn calls_keep_to_their_locks()
 {}
 
 /// Two transactions' parts whose locks agree on each place may go in either order: each reply stays
-/// right, and the files at the end are the same.
+/// right, and the files at the end are the same (`parts`). So do two parts that follow one another
+/// in one thread's history (`history`).
 pub fn agreeing_parts_commute()
-    ensures { (server : ℕ) (s : Standing) (p q : Locked) → AreSized (map.get s.files) → DoAgreeOnLeaves p.held q.held
+    ensures parts { (server : ℕ) (s : Standing) (p q : Locked) → AreSized (map.get s.files) → DoAgreeOnLeaves p.held q.held
         → IsRightUnder server s p → IsRightUnder server (after_part server s p) q → DoCommute server s p q }
+    ensures history { (server : ℕ) (s : Standing) (p q : Locked) (a b : Stamp) (ds : List Decided)
+        → AreSized (map.get s.files) → DoAgreeOnLeaves p.held q.held → AreFormed p.calls → AreFormed q.calls
+        → AreCovered p.held server (begun s) p.who p.calls → AreCovered q.held server (begun (after_part server s p)) q.who q.calls
+        → IsSerial server s (decided_as a p ∷ decided_as b q ∷ ds)
+        → IsSerial server s (decided_as b q ∷ decided_as a p ∷ ds)
+        × ((serial_end server s (decided_as a p ∷ decided_as b q ∷ ds)).files ≡ (serial_end server s (decided_as b q ∷ decided_as a p ∷ ds)).files) }
+{}
+
+/// What is asked for a call's locks gives them once it is granted, and all that was held before,
+/// and leaves beside each lock on a leaf the intention on its file.
+pub fn grants_cover_needs()
+    ensures needs { (held : Holding) (ns : List Need) → HoldsEach (granted held ns) ns }
+    ensures more { (held : Holding) (ns : List Need) → IsMore held (granted held ns) }
+    ensures intended { (held : Holding) (ns : List Need) → IsIntended held → IsIntended (granted held ns) }
+{}
+
+/// Sizes stay numbers of pages, whatever locks are held.
+pub fn acts_keep_sizes()
+    ensures { (server : ℕ) (s : Standing) (who : List ℕ) (ds : List Done) → AreFormed ds → AreSized (map.get s.files) → AreSized (map.get (steps server s who ds).files) }
 {}
