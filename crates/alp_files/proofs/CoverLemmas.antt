@@ -1,6 +1,5 @@
 -- what is granted covers the locks of the call, keeps the intentions, and covers all that was covered before
 use Rattle.std.specs.Prelude.{cond, Bool, true, false, Option, None, Some, IsTrue}
-use Rattle.std.specs.List.{AllByRecursion}
 use Rattle.std.specs.Option.{option_and_then}
 use Rattle.std.specs.FinMap as map
 use Rattle.std.specs.Ordering.{eq_by_cmp}
@@ -12,7 +11,6 @@ use Rattle.alp_base.specs.declared.key.Key.{Key}
 use Rattle.alp_base.specs.declared.key.Resource.{Resource}
 use Rattle.alp_base.specs.declared.key.Resource.TheVariants.{Whole, Leaf}
 use Rattle.alp_modes.specs.declared.Mode.{Mode}
-use Rattle.alp_modes.specs.declared.Mode.TheVariants.{Read, Write}
 use Rattle.alp_modes.specs.Modes.{covers_of, join_of, leaf_of}
 use Rattle.alp_modes.specs.Holdings.{Holding, join_held, covers_held, held_by, file_of, given_to, mode_on, intention_of, IsIntended}
 use Rattle.alp_modes.specs.Orders.{resource_cmp, resources_total, exact_resources}
@@ -20,7 +18,7 @@ use Rattle.alp_modes.proofs.ModeLemmas.{covering-order, join-least, at-all, impl
 use Rattle.alp_modes.proofs.HoldingLemmas.{held_by-append}
 use Rattle.alp_files.specs.Edits.{Edit}
 use Rattle.alp_files.specs.History.{Done, Standing, answer_to, step, steps}
-use Rattle.alp_files.specs.Locks.{Need, joined, whole_of, wholes_of, intention_on, asked_on, asked_each, request_of, granted, needs_done, HoldsOn, HoldsEach, IsMore, Reads, Writes, AreCovered}
+use Rattle.alp_files.specs.Locks.{Need, joined, whole_of, wholes_of, intention_on, asked_on, asked_each, request_of, granted, needs_done, HoldsOn, HoldsEach, IsMore, AreCovered}
 use Rattle.alp_files.specs.Apart.{changes}
 use Rattle.alp_files.proofs.FilesLemmas.{same-some}
 

@@ -1,5 +1,5 @@
 -- a part does the same on maps that show the same where its locks let it read, and two parts commute whose locks agree
-use Rattle.std.specs.Prelude.{cond, Bool, true, false, not, ◌&&◌, ◌||◌, ◌==◌, nat_le, Option, None, Some, IsTrue, ◌⊎◌}
+use Rattle.std.specs.Prelude.{cond, Bool, true, false, not, ◌&&◌, ◌||◌, ◌==◌, nat_le, Option, None, Some, ◌⊎◌}
 use Rattle.std.specs.List.{AllByRecursion}
 use Rattle.std.specs.Option.{option_to_list}
 use Rattle.std.specs.FinMap as map
@@ -16,18 +16,15 @@ use Rattle.alp_files.specs.declared.cell.Cell.{Cell}
 use Rattle.alp_files.specs.declared.cell.Props.{Props}
 use Rattle.alp_files.specs.declared.call.Call.{Call}
 use Rattle.alp_files.specs.declared.call.Call.TheVariants as call
-use Rattle.alp_files.specs.declared.call.PropChange.{PropChange}
-use Rattle.alp_files.specs.declared.reply.Reply.{Reply}
 use Rattle.alp_files.specs.declared.open.Open.{Open}
 use Rattle.alp_modes.specs.declared.Mode.{Mode}
-use Rattle.alp_modes.specs.declared.Mode.TheVariants.{Read, Write}
 use Rattle.alp_base.specs.declared.key.Resource.{Resource}
 use Rattle.alp_base.specs.declared.key.Resource.TheVariants.{Whole, Leaf}
 use Rattle.alp_files.specs.Cells.{Cells, View, same_file, has_file, props_in}
-use Rattle.alp_files.specs.Edits.{Edit, Drop, Cut, Put, is_in_file, is_past, edit_at, edits_at, after, edits_map}
-use Rattle.alp_files.specs.Act.{Own, Answer, Look, Ask, Say, run, no_opens, answer, program, id_in, open_at, unless, create_tests, created_file, no_answer, owner_of, is_changing}
-use Rattle.alp_files.specs.History.{Done, Standing, answer_to, step, AreRight, steps, begun}
-use Rattle.alp_files.specs.Locks.{Need, needs_there, needs_on_open, needs_on_change, needs_if_change, needs_of, needs_made, needs_done, mark_needs, page_needs, size_needs, change_needs, HoldsEach, Reads, Writes, AreCovered, IsFormed}
+use Rattle.alp_files.specs.Edits.{Edit, Drop, Cut, Put, is_in_file, is_past, edits_at, after, edits_map}
+use Rattle.alp_files.specs.Act.{Own, Answer, Ask, Say, run, no_opens, answer, program, id_in, open_at, unless, create_tests, created_file, no_answer, owner_of, is_changing}
+use Rattle.alp_files.specs.History.{Done, Standing, answer_to, step, steps, begun}
+use Rattle.alp_files.specs.Locks.{Need, needs_there, needs_on_open, needs_if_change, needs_of, needs_made, needs_done, page_needs, HoldsEach, Reads, Writes, AreCovered, IsFormed}
 use Rattle.alp_files.specs.Apart.{IsWithin, DoShowSame, OpensRead, IsSized, AreSized, changes, ids_after, AreNewAlike, AreFormed, standing, DoesSame, Locked, after_part, IsRightUnder, DoCommute}
 use Rattle.alp_files.proofs.HistoryLemmas.{edits_map-append, get-edits_map, same_cells}
 use Rattle.alp_files.proofs.SameLemmas.{same_key-true, same_file-true}

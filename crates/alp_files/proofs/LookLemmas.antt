@@ -1,6 +1,5 @@
 -- a call looks only at places that its locks let it read, and changes only those that they let it write
 use Rattle.std.specs.Prelude.{cond, Bool, true, false, not, ◌==◌, nat_lt, Option, None, Some, is_some, IsTrue, filter, length}
-use Rattle.std.specs.List.{AllByRecursion}
 use Rattle.std.proofs.Common.{◌≡◌, ℕ, zero, suc, ◌+◌, ◌-◌, ◌<◌, ◌≤◌, List, [], ◌∷◌, ◌++◌, refl, sym, ◌∙◌, ap, subst, arith}
 use Rattle.std.proofs.lemmas.Bool.{lt-ltb, ltb-false}
 use Rattle.alp_base.specs.declared.ids.FileId.{FileId}
@@ -14,7 +13,6 @@ use Rattle.alp_modes.specs.declared.Mode.{Mode}
 use Rattle.alp_modes.specs.declared.Mode.TheVariants.{Read, Write}
 use Rattle.alp_modes.specs.Modes.{covers_of}
 use Rattle.alp_modes.specs.Holdings.{file_of}
-use Rattle.alp_files.specs.declared.cell.Cell.{Cell}
 use Rattle.alp_files.specs.declared.cell.Cell.TheVariants as cell
 use Rattle.alp_files.specs.declared.cell.Props.{Props}
 use Rattle.alp_files.specs.declared.call.Call.{Call}
@@ -28,12 +26,12 @@ use Rattle.alp_files.specs.declared.refusal.ListName.TheVariants as lists
 use Rattle.alp_files.specs.declared.open.Open.{Open}
 use Rattle.alp_files.specs.Cells.{View, same_name, same_file, props_in, owner_in, page_in}
 use Rattle.alp_files.specs.Edits.{Edit, Drop, Cut, Put}
-use Rattle.alp_files.specs.Act.{Own, Answer, Look, Ask, Say, run, unless, refused, told, no_answer, is_admin, is_over, over, owner_of, props_of, open_at, opened, without_open, without_file, on_props, on_open, on_change, if_change, is_new, created_file, create_file, create_tests, charge_put, access_tests, open_file, close_file, delete_file, ask_pages, page_past, page_puts, mark_put, read_pages, write_pages, lock_pages, is_changing, set_size, cut_file, grow_file, write_props, move_file, move_tests, put_props, read_owner, make_owner, set_quota, program}
+use Rattle.alp_files.specs.Act.{Own, Answer, Look, Ask, Say, run, unless, refused, told, no_answer, is_admin, is_over, over, owner_of, props_of, open_at, opened, on_props, on_open, on_change, if_change, is_new, created_file, create_file, create_tests, charge_put, access_tests, close_file, delete_file, ask_pages, page_past, page_puts, mark_put, read_pages, write_pages, lock_pages, is_changing, set_size, cut_file, grow_file, write_props, move_file, move_tests, program}
 use Rattle.alp_files.specs.Locks.{Need, page_limit, page_needs, needs_there, needs_on_open, needs_if_change, needs_on_change, mark_needs, size_needs, change_needs, needs_of, needs_made, IsFormed}
 use Rattle.alp_files.specs.Apart.{IsWithin, DoShowSame, OpensRead, IsSized, AreSized}
 use Rattle.alp_files.proofs.BornLemmas.{props_leader}
 use Rattle.alp_files.proofs.SoundLemmas.{AreFalse}
-use Rattle.alp_files.proofs.HeldLemmas.{Lets, LetsEach, writes-all, writes-read, reads-all}
+use Rattle.alp_files.proofs.HeldLemmas.{LetsEach, writes-all, writes-read, reads-all}
 
 -- the leaders that are put have sizes of 32 bits
 abbrev pub PutsSized : List Edit → Type 0

@@ -8,7 +8,7 @@ use Rattle.alp_modes.specs.Holdings.{DoAgreeOnLeaves}
 use Rattle.alp_files.specs.Cells.{Cells, has_file}
 use Rattle.alp_files.specs.Edits.{edits_map}
 use Rattle.alp_files.specs.Act.{Own, Answer, run, answer, no_opens, id_in}
-use Rattle.alp_files.specs.History.{Done, Standing, step, AreRight, steps, Decided, begun, IsSerial, serial_end}
+use Rattle.alp_files.specs.History.{Done, Standing, AreRight, steps, Decided, begun, IsSerial, serial_end}
 use Rattle.alp_files.specs.Locks.{AreCovered}
 use Rattle.alp_files.specs.Apart.{AreSized, AreFormed, standing, Locked, after_part, IsRightUnder, decided_as, IsLikewise}
 use Rattle.alp_files.proofs.FrameLemmas.{program-made, more-ids, parts-commute}
