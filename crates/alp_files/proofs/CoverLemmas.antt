@@ -11,14 +11,17 @@ use Rattle.alp_base.specs.declared.key.Key.{Key}
 use Rattle.alp_base.specs.declared.key.Resource.{Resource}
 use Rattle.alp_base.specs.declared.key.Resource.TheVariants.{Whole, Leaf}
 use Rattle.alp_modes.specs.declared.Mode.{Mode}
+use Rattle.alp_modes.specs.declared.Mode.TheVariants.{Write}
 use Rattle.alp_modes.specs.Modes.{covers_of, join_of, leaf_of}
 use Rattle.alp_modes.specs.Holdings.{Holding, join_held, covers_held, held_by, file_of, given_to, mode_on, intention_of, IsIntended}
 use Rattle.alp_modes.specs.Orders.{resource_cmp, resources_total, exact_resources}
 use Rattle.alp_modes.proofs.ModeLemmas.{covering-order, join-least, at-all, implied, implied-is}
 use Rattle.alp_modes.proofs.HoldingLemmas.{held_by-append}
+use Rattle.alp_files.specs.Cells.{View}
 use Rattle.alp_files.specs.Edits.{Edit}
+use Rattle.alp_files.specs.Act.{Own, id_in}
 use Rattle.alp_files.specs.History.{Done, Standing, answer_to, step, steps}
-use Rattle.alp_files.specs.Locks.{Need, joined, whole_of, wholes_of, intention_on, asked_on, asked_each, request_of, granted, needs_done, HoldsOn, HoldsEach, IsMore, AreCovered}
+use Rattle.alp_files.specs.Locks.{Need, joined, whole_of, wholes_of, intention_on, asked_on, asked_each, request_of, granted, with_made, needs_made, needs_of, needs_done, HoldsOn, HoldsEach, IsMore, AreCovered}
 use Rattle.alp_files.specs.Apart.{changes}
 use Rattle.alp_files.proofs.FilesLemmas.{same-some}
 
@@ -213,6 +216,25 @@ asked-each-intended held (n ∷ ns) k f m in_file is =
 -- what is granted has its intentions beside it
 pub granted-intended : (held : Holding) (ns : List Need) → IsIntended held → IsIntended (granted held ns)
 granted-intended held ns h = intended-joined held (held_by (request_of held ns)) h (asked-each-intended (joined held (wholes_of ns)) ns)
+
+-- ---- a new file
+
+made-intended : (id : Option FileId) → IsIntended (held_by (needs_made id))
+made-intended None k f m in_file is = let wrong : None ≡ Some m = is in cc
+made-intended (Some g) k f m in_file is = let wrong : None ≡ Some m = is in cc
+
+pub with_made-intended : (held : Holding) (id : Option FileId) → IsIntended held → IsIntended (with_made held id)
+with_made-intended held id h = intended-joined held (held_by (needs_made id)) h (made-intended id)
+
+with_made-holds : (held : Holding) (id : Option FileId) (ns : List Need) → HoldsEach (with_made held id) ns → HoldsEach (with_made held id) (needs_made id ++ ns)
+with_made-holds held None ns h = h
+with_made-holds held (Some f) ns h = (right-above (held (Whole f)) (held_by ((Whole f, Write) ∷ []) (Whole f)) Write (first-held (Whole f, Write) []), h)
+
+-- where a call's locks are held, they are with those of the file that it makes
+pub done-holds : (held : Holding) (m : View) (own : Own) (d : Done) → HoldsEach held (needs_of m own d.call) → HoldsEach (with_made held (id_in d.reply)) (needs_done m own d)
+done-holds held m own d h =
+    with_made-holds held (id_in d.reply) (needs_of m own d.call)
+    (holds-each-more held (with_made held (id_in d.reply)) (joined-more held (needs_made (id_in d.reply))) (needs_of m own d.call) h)
 
 -- ---- one call more
 

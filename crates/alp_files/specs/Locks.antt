@@ -137,6 +137,10 @@ request_of held ns = asked_each (joined held (wholes_of ns)) ns
 abbrev pub granted : Holding → List Need → Holding
 granted held ns = joined held (request_of held ns)
 
+-- what is held once a call gave an id to a new file, or none
+abbrev pub with_made : Holding → Option FileId → Holding
+with_made held id = joined held (needs_made id)
+
 -- ---- what that covers
 
 -- what is held covers the need; on a leaf the file's lock counts for what it gives

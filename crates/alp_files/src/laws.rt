@@ -1,16 +1,16 @@
 //! The laws of what calls mean, as contracts.
-ghost use Rattle.std.specs.Prelude.{◌≡◌, ℕ, List, ◌∷◌};
+ghost use Rattle.std.specs.Prelude.{◌≡◌, ℕ, List, ◌∷◌, Option};
 ghost use Rattle.std.specs.FinMap as map;
 ghost use Rattle.alp_base.specs.declared.ids.FileId.{FileId};
 ghost use Rattle.alp_base.specs.declared.ids.Stamp.{Stamp};
 ghost use Rattle.alp_files.specs.declared.call.Call.{Call};
 ghost use Rattle.alp_files.specs.declared.reply.Reply.{Reply};
-ghost use Rattle.alp_files.specs.Cells.{Cells};
+ghost use Rattle.alp_files.specs.Cells.{Cells, View};
 ghost use Rattle.alp_files.specs.Edits.{edits_map};
-ghost use Rattle.alp_files.specs.Act.{Own, answer};
+ghost use Rattle.alp_files.specs.Act.{Own, answer, id_in};
 ghost use Rattle.alp_files.specs.History.{Standing, Done, Decided, begun, IsSerial, serial_end, steps};
 ghost use Rattle.alp_modes.specs.Holdings.{Holding, IsIntended, DoAgreeOnLeaves};
-ghost use Rattle.alp_files.specs.Locks.{Need, Reads, Writes, HoldsEach, IsMore, granted, AreCovered};
+ghost use Rattle.alp_files.specs.Locks.{Need, Reads, Writes, HoldsEach, IsMore, granted, with_made, needs_of, needs_done, AreCovered};
 ghost use Rattle.alp_files.specs.Apart.{IsWithin, DoShowSame, OpensRead, AreSized, AreNewAlike, AreFormed, changes, standing, DoesSame, Locked, after_part, IsRightUnder, DoCommute, decided_as};
 ghost use Rattle.alp_files.specs.Sound.{AreSound, HasItsPages, HaveTheirPages, IsSoundAfterEach};
 
@@ -65,11 +65,15 @@ pub fn agreeing_parts_commute()
 {}
 
 /// What is asked for a call's locks gives them once it is granted, and all that was held before,
-/// and leaves beside each lock on a leaf the intention on its file.
+/// and leaves beside each lock on a leaf the intention on its file. A call that makes a file then
+/// holds that too.
 pub fn grants_cover_needs()
     ensures needs { (held : Holding) (ns : List Need) → HoldsEach (granted held ns) ns }
     ensures more { (held : Holding) (ns : List Need) → IsMore held (granted held ns) }
     ensures intended { (held : Holding) (ns : List Need) → IsIntended held → IsIntended (granted held ns) }
+    ensures made { (held : Holding) (m : View) (own : Own) (d : Done) → HoldsEach held (needs_of m own d.call) → HoldsEach (with_made held (id_in d.reply)) (needs_done m own d) }
+    ensures made_more { (held : Holding) (id : Option FileId) → IsMore held (with_made held id) }
+    ensures made_intended { (held : Holding) (id : Option FileId) → IsIntended held → IsIntended (with_made held id) }
 {}
 
 /// Sizes stay numbers of pages, whatever locks are held.
