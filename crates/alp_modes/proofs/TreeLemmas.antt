@@ -5,7 +5,7 @@ use Rattle.std.specs.List.Sorted.{IsStrictlySortedBy}
 use Rattle.std.specs.declared.cmp.Ordering.TheVariants.{Less}
 use Rattle.std.specs.FinMap as map
 use Rattle.std.proofs.Math.Dec.{T}
-use Rattle.std.specs.FinMap.{get-from_entries, get-from_sorted, entries-from_sorted, get-insert, same_map, find}
+use Rattle.std.specs.FinMap.{get-from_entries, get-from_sorted, entries-from_sorted, get-insert, get-remove, same_map, find}
 use Rattle.std.specs.FinMap.Entries.{below_all}
 use Rattle.std.specs.Ordering.{eq_by_cmp, is_lt}
 use Rattle.std.specs.Cmp.{IsTotalOrder, eq_by_cmp_equiv}
@@ -52,3 +52,9 @@ module _ {K X : Type 0} {R : K → K → Ordering} (total : IsTotalOrder R) (exa
   unfolding IsStrictlySortedBy
   tree_sorted [] h = tt
   tree_sorted (e ∷ es) h = both _ _ (less_all e.0 es h.0) (tree_sorted es h.1)
+
+  -- one removal from the tree is one from the map
+  pub remove_at : (es fs : List (K × X)) (k : K) → ((q : K) → at fs q ≡ cond (is_at (R k) q) None (at es q)) → map.from_entries {R = R} fs ≡ map.remove (map.from_entries es) k
+  remove_at es fs k h = same_map total exact (map.from_entries fs) (map.remove (map.from_entries es) k) (λ q.
+      get_at fs q ∙ h q ∙ ap (λ (b : Bool). cond b None (at es q)) ((eq_by_cmp_equiv total).symm k q)
+      ∙ sym (get-remove total (map.from_entries es) k q ∙ ap (cond (is_at (R q) k) None) (get_at es q)))

@@ -1,0 +1,12 @@
+//! A lock table: what each transaction holds, and who waits for what.
+//!
+//! Whole files and leaves are locked in the six modes of alp_modes. A request is granted as a whole
+//! or not at all, so nobody waits with half of what it asked for. Two transactions that wait for
+//! one another stay waiting until one of them ends (Gray, Lorie, Putzolu and Traiger 1976).
+#![tactic(auto)]
+
+mod parts;
+mod request;
+
+pub use request::{Grant, Request};
+pub use parts::Parts;
