@@ -1,1 +1,3 @@
 pub mod ResultLemmas
+pub mod PartLemmas
+pub mod WalkLemmas

@@ -5,8 +5,11 @@
 //! one another stay waiting until one of them ends (Gray, Lorie, Putzolu and Traiger 1976).
 #![tactic(auto)]
 
+mod asking;
 mod parts;
 mod request;
+mod table;
+mod walk;
 
 pub use request::{Grant, Request};
-pub use parts::Parts;
+pub use table::LockTable;

@@ -92,7 +92,12 @@ fn disagrees(locks: &Locks, resource: &Resource, mode: Mode) -> bool
     }
 }
 
-fn holder_in(locks: &BTreeMap<TransId, Locks>, trans: &TransId, resource: &Resource, mode: Mode) -> Option<TransId>
+fn holder_in(
+    locks: &BTreeMap<TransId, Locks>,
+    trans: &TransId,
+    resource: &Resource,
+    mode: Mode,
+) -> Option<TransId>
     ensures least { result ≡ option_map (λ part. part.0) (find (disagreeing trans.now (resource.now, mode)) locks.now.entries) }
     ensures rising { IsOrdered trans_cmp locks.now }
 {

@@ -21,11 +21,11 @@ last-five p = p IntendWrite && last-four p
 abbrev pub every : (Mode → Bool) → Bool
 every p = p IntendRead && last-five p
 
-left-true : (a b : Bool) → IsTrue (a && b) → IsTrue a
+pub left-true : (a b : Bool) → IsTrue (a && b) → IsTrue a
 left-true true b h = refl
 left-true false b h = cc
 
-right-true : (a b : Bool) → IsTrue (a && b) → IsTrue b
+pub right-true : (a b : Bool) → IsTrue (a && b) → IsTrue b
 right-true true b h = h
 right-true false b h = cc
 

@@ -13,5 +13,5 @@ pub returns : goal.returns
 returns c =
     c.holder_in.ensures.least
     ∙ ap (λ (es : List (TransId × Held)). option_map (λ (part : TransId × Held). part.0) (find (disagrees c.args.trans.now (c.args.resource.now, c.args.mode)) es))
-        (sym (entries_back transactions_total exact_transactions c.self.inside.locks.entries (tree_sorted transactions_total exact_transactions c.self.inside.locks.entries c.holder_in.ensures.rising)))
+    (sym (entries_back transactions_total exact_transactions c.self.inside.locks.entries (tree_sorted transactions_total exact_transactions c.self.inside.locks.entries c.holder_in.ensures.rising)))
     ∙ ap (λ (m : Parts). holder_on m c.args.trans.now (c.args.resource.now, c.args.mode)) c.self.view_is
