@@ -1,3 +1,5 @@
 pub mod ResultLemmas
 pub mod PartLemmas
 pub mod WalkLemmas
+pub mod FreeLemmas
+pub mod SoundLemmas

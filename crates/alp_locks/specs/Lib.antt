@@ -1,3 +1,4 @@
 pub mod Tables
 pub mod Asks
 pub mod Releases
+pub mod Sound

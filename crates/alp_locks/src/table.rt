@@ -5,6 +5,7 @@ ghost use Rattle.alp_queue.specs.Order.{waits, placed};
 ghost use Rattle.alp_locks.specs.Tables.{held_of, holding};
 ghost use Rattle.alp_locks.specs.Asks.{risen, grant_of, asked, with_granted, with_waiter, refusal, refused};
 ghost use Rattle.alp_locks.specs.Releases.{released};
+ghost use Rattle.alp_locks.specs.Sound.{IsSound};
 
 use crate::asking::{blocker, waiter_for};
 use crate::parts::Parts;
@@ -41,7 +42,8 @@ impl Model for LockTable {
 
 impl LockTable {
     pub fn new(alloc: Global) -> LockTable
-        ensures { result ≡ record { held = map.empty; waiting = []; woken = [] } }
+        ensures empty { result ≡ record { held = map.empty; waiting = []; woken = [] } }
+        ensures sound { IsSound result }
     {
         LockTable {
             alloc,
@@ -85,6 +87,9 @@ impl LockTable {
         requires { waits self.old.waiting request.trans ≡ false }
         ensures answer { IfOk result (λ g. g ≡ grant_of self.old request) }
         ensures after { OnOk result (self.new ≡ asked self.old request) }
+
+        // Locks that agreed still do, whatever the answer. After want of memory the table is as before.
+        ensures sound { IsSound self.old → IsSound self.new }
         ensures err { OnErr result (self.new ≡ self.old) }
     {
         let Request {
@@ -144,7 +149,8 @@ impl LockTable {
     /// Takes away the locks and the waiting request of that transaction, then tries each waiter in
     /// turn and grants those that are free at that moment. Takes no memory.
     pub fn release_all(&mut self, trans: TransId)
-        ensures { self.new ≡ released self.old trans }
+        ensures after { self.new ≡ released self.old trans }
+        ensures sound { IsSound self.old → IsSound self.new }
     {
         self.parts.remove(&trans);
         self.queue.withdraw(&trans);
@@ -155,6 +161,7 @@ impl LockTable {
     pub fn take_woken(&mut self) -> Option<TransId>
         ensures taken { result ≡ slice_get self.old.woken 0 }
         ensures left { self.new ≡ record self.old { woken = drop 1 self.old.woken } }
+        ensures sound { IsSound self.old → IsSound self.new }
     {
         if self.woken.is_empty() {
             return None;
