@@ -13,3 +13,6 @@ mod walk;
 
 pub use request::{Grant, Request};
 pub use table::LockTable;
+
+#[cfg(test)]
+mod tests;
