@@ -85,7 +85,7 @@ clear-each parts t (n ∷ ns) h = let both = or-none (holder_on parts t n) (bloc
 some-same : {X : Type 0} (x y : X) → Some x ≡ Some y → x ≡ y
 some-same x y e = ap (λ (o : Option _). unwrap_or o x) e
 
-at-risen : (P : Resource × Mode → Type 0) (p : Resource × Mode → Bool) (es : List (Resource × Mode)) → AllByRecursion P (filter p es)
+pub at-risen : (P : Resource × Mode → Type 0) (p : Resource × Mode → Bool) (es : List (Resource × Mode)) → AllByRecursion P (filter p es)
     → (r : Resource) (m : Mode) → found resource_cmp r es ≡ Some m → p (r, m) ≡ true → P (r, m)
 at-risen P p [] h r m is passes = absurd (some-none m (sym is))
 at-risen P p (e ∷ es) h r m is passes = go (eq_by_cmp resource_cmp r e.0) refl is (p e) refl h
@@ -104,7 +104,7 @@ at-risen P p (e ∷ es) h r m is passes = go (eq_by_cmp resource_cmp r e.0) refl
     go false a b true c k later = later k.1 b passes
     go false a b false c k later = later k b passes
 
-option-same : (o : Option Mode) (m : Mode) → not (option_eq (mode_eq.ghosts).eq o (Some m)) ≡ false → o ≡ Some m
+pub option-same : (o : Option Mode) (m : Mode) → not (option_eq (mode_eq.ghosts).eq o (Some m)) ≡ false → o ≡ Some m
 option-same None m h = cc
 option-same (Some a) m h = ap Some (exact-modes a m (unturned ((mode_eq.ghosts).eq a m) h))
   where

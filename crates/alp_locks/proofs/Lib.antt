@@ -3,3 +3,4 @@ pub mod PartLemmas
 pub mod WalkLemmas
 pub mod FreeLemmas
 pub mod SoundLemmas
+pub mod LawLemmas

@@ -207,7 +207,7 @@ granted-sound t u ns s idle free = go (risen (held_of t.held u) ns)
     }
 
 -- a part that is named again holds what it held
-again : (parts : Parts) (u v : TransId) → held_of (map.insert parts u (held_of parts u)) v ≡ held_of parts v
+pub again : (parts : Parts) (u v : TransId) → held_of (map.insert parts u (held_of parts u)) v ≡ held_of parts v
 again parts u v = go (eq_by_cmp trans_cmp v u) refl
   where
     go : (b : Bool) → eq_by_cmp trans_cmp v u ≡ b → held_of (map.insert parts u (held_of parts u)) v ≡ held_of parts v

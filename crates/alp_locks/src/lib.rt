@@ -6,11 +6,13 @@
 #![tactic(auto)]
 
 mod asking;
+mod laws;
 mod parts;
 mod request;
 mod table;
 mod walk;
 
+pub use laws::grants_are_of_all_or_none;
 pub use request::{Grant, Request};
 pub use table::LockTable;
 

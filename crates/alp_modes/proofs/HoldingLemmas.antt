@@ -68,7 +68,7 @@ leaves-of-locks l m f g i j h k =
     (agree-turned (option_and_then leaf_of g) l ∙ leaf-with-given l f g i k)
     (agree-turned (option_and_then leaf_of g) (option_and_then leaf_of f) ∙ given-with-given f g k))
 
-none-right : (a : Option Mode) → join_held a None ≡ a
+pub none-right : (a : Option Mode) → join_held a None ≡ a
 none-right None = refl
 none-right (Some a) = refl
 

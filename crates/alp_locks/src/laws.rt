@@ -1,0 +1,9 @@
+//! What holds of asks and grants, over all tables.
+ghost use Rattle.alp_locks.specs.Laws.{IsAllOrNone, IsAllOfWaiter};
+
+/// A grant is of all that was asked, and any other answer of none: each transaction holds on each
+/// resource what it held, joined with all that it asked where it was granted.
+pub fn grants_are_of_all_or_none()
+    ensures asked { IsAllOrNone }
+    ensures woken { IsAllOfWaiter }
+{}
