@@ -21,7 +21,7 @@ use Rattle.alp_queue.specs.Rises.{Held, is_raised}
 use Rattle.alp_locks.specs.Tables.{Parts, held_of, holding, IsAgreeing}
 use Rattle.alp_locks.specs.Asks.{disagrees, holder_on, blocker}
 
-some-none : {X : Type 0} (x : X) → Some x ≡ None → ⊥
+pub some-none : {X : Type 0} (x : X) → Some x ≡ None → ⊥
 some-none x e = let wrong : true ≡ false = ap is_some e in cc
 
 pub tied : (o : Ordering) → is_eq o ≡ true → o ≡ Equal
@@ -45,7 +45,7 @@ none-mapped : {X Y : Type 0} (f : X → Y) (o : Option X) → option_map f o ≡
 none-mapped f None h = refl
 none-mapped f (Some x) h = absurd (some-none (f x) h)
 
-nothing-agrees : (r : Resource) (m : Mode) → agree_held (map.get (map.empty {X = Mode} {R = resource_cmp}) r) (Some m) ≡ true
+pub nothing-agrees : (r : Resource) (m : Mode) → agree_held (map.get (map.empty {X = Mode} {R = resource_cmp}) r) (Some m) ≡ true
 nothing-agrees r m = ap (λ o. agree_held o (Some m)) (get-empty resource_cmp r)
 
 agrees-in : (t : TransId) (n : Resource × Mode) (es : List (TransId × Held)) → option_map (λ (e : TransId × Held). e) (find (disagrees t n) es) ≡ None
@@ -72,7 +72,7 @@ agrees-on parts t n h u apart =
 
 -- ---- nobody on any of the resources
 
-or-none : {X : Type 0} (a b : Option X) → option_or a b ≡ None → (a ≡ None) × (b ≡ None)
+pub or-none : {X : Type 0} (a b : Option X) → option_or a b ≡ None → (a ≡ None) × (b ≡ None)
 or-none None b h = (refl, h)
 or-none (Some x) b h = absurd (some-none x h)
 
@@ -82,7 +82,7 @@ clear-each parts t (n ∷ ns) h = let both = or-none (holder_on parts t n) (bloc
 
 -- ---- what stands at a resource is among those that rise, or was there before
 
-some-same : {X : Type 0} (x y : X) → Some x ≡ Some y → x ≡ y
+pub some-same : {X : Type 0} (x y : X) → Some x ≡ Some y → x ≡ y
 some-same x y e = ap (λ (o : Option _). unwrap_or o x) e
 
 pub at-risen : (P : Resource × Mode → Type 0) (p : Resource × Mode → Bool) (es : List (Resource × Mode)) → AllByRecursion P (filter p es)

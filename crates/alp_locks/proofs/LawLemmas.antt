@@ -53,6 +53,7 @@ no-rise h ns none r = go (map.get (joined h ns) r) refl
     split m at true e =
         absurd (at-risen (λ n. ⊥) (is_raised h) (map.entries (joined h ns)) (subst (AllByRecursion (λ n. ⊥)) (sym none) tt) r m (sym (get-entries (joined h ns) r) ∙ at) e)
     split m at false e = sym (option-same (map.get h r) m e)
+
     go : (o : Option Mode) → map.get (joined h ns) r ≡ o → o ≡ map.get h r
     go None at = sym (join-none (map.get h r) (held_by ns r) (sym (joined-holds ns h r) ∙ at))
     go (Some m) at = split m at (is_raised h (r, m)) refl
@@ -66,6 +67,7 @@ spread parts after t u ns r own other = go (eq_by_cmp trans_cmp u t) refl
   where
     same : eq_by_cmp trans_cmp u t ≡ true → held_of parts t ≡ held_of parts u
     same e = ap (λ (o : Option Held). unwrap_or o map.empty) (get_tied transactions_total parts u t (tied (trans_cmp u t) e))
+
     go : (b : Bool) → eq_by_cmp trans_cmp u t ≡ b → holding after u r ≡ cond b (join_held (holding parts u r) (held_by ns r)) (holding parts u r)
     go true e = own e ∙ joined-holds ns (held_of parts t) r ∙ ap (λ (h : Held). join_held (map.get h r) (held_by ns r)) (same e)
     go false e = other e
@@ -74,8 +76,8 @@ insert-spread : (parts : Parts) (t u : TransId) (ns : List (Resource × Mode)) (
     → holding (map.insert parts t (joined (held_of parts t) ns)) u r ≡ cond (eq_by_cmp trans_cmp u t) (join_held (holding parts u r) (held_by ns r)) (holding parts u r)
 insert-spread parts t u ns r =
     spread parts (map.insert parts t (joined (held_of parts t) ns)) t u ns r
-        (λ e. ap (λ (h : Held). map.get h r) (held-same parts t (joined (held_of parts t) ns) u e))
-        (λ e. ap (λ (h : Held). map.get h r) (held-other parts t (joined (held_of parts t) ns) u e))
+    (λ e. ap (λ (h : Held). map.get h r) (held-same parts t (joined (held_of parts t) ns) u e))
+    (λ e. ap (λ (h : Held). map.get h r) (held-other parts t (joined (held_of parts t) ns) u e))
 
 if-both : (b : Bool) (x y : Option Mode) → cond b x y ≡ cond (b && true) x y
 if-both true x y = refl
@@ -93,10 +95,11 @@ all-or-none t q u r = go (in_way_of t.held q.trans q.needs) q.choice
         ≡ cond (eq_by_cmp trans_cmp u q.trans) (join_held (holding t.held u r) (held_by q.needs r)) (holding t.held u r)
     granted [] none =
         spread t.held t.held q.trans u q.needs r
-            (λ e. ap (λ (o : Option Held). map.get (unwrap_or o map.empty) r) (sym (get_tied transactions_total t.held u q.trans (tied (trans_cmp u q.trans) e)))
-                ∙ sym (no-rise (held_of t.held q.trans) q.needs none r))
-            (λ e. refl)
+        (λ e. ap (λ (o : Option Held). map.get (unwrap_or o map.empty) r) (sym (get_tied transactions_total t.held u q.trans (tied (trans_cmp u q.trans) e)))
+        ∙ sym (no-rise (held_of t.held q.trans) q.needs none r))
+        (λ e. refl)
     granted (n ∷ rest) some = insert-spread t.held q.trans u q.needs r
+
     go : (o : Option TransId) (choice : Choice)
         → holding (answered t (waiter_of (held_of t.held q.trans) q.trans q.needs) o choice).held u r
         ≡ cond (eq_by_cmp trans_cmp u q.trans && gives_all (answer o choice)) (join_held (holding t.held u r) (held_by q.needs r)) (holding t.held u r)

@@ -4,3 +4,4 @@ pub mod WalkLemmas
 pub mod FreeLemmas
 pub mod SoundLemmas
 pub mod LawLemmas
+pub mod HolderLemmas

@@ -12,7 +12,7 @@ mod request;
 mod table;
 mod walk;
 
-pub use laws::grants_are_of_all_or_none;
+pub use laws::{grants_are_of_all_or_none, holders_are_first_and_least};
 pub use request::{Grant, Request};
 pub use table::LockTable;
 
