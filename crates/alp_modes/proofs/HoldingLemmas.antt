@@ -28,7 +28,7 @@ intends-agreement m a b h k =
     (at-all (λ x y z. implied (covers_of y (intention_of x)) (implied (agree y z) (agree_held (Some x) (leaf_of z)))) refl m a b) h)
     k
 
-agree-turned : (a b : Option Mode) → agree_held a b ≡ agree_held b a
+pub agree-turned : (a b : Option Mode) → agree_held a b ≡ agree_held b a
 agree-turned None None = refl
 agree-turned None (Some b) = refl
 agree-turned (Some a) None = refl
@@ -68,7 +68,7 @@ leaves-of-locks l m f g i j h k =
     (agree-turned (option_and_then leaf_of g) l ∙ leaf-with-given l f g i k)
     (agree-turned (option_and_then leaf_of g) (option_and_then leaf_of f) ∙ given-with-given f g k))
 
-none-right : (a : Option Mode) → join_held a None ≡ a
+pub none-right : (a : Option Mode) → join_held a None ≡ a
 none-right None = refl
 none-right (Some a) = refl
 

@@ -3,6 +3,7 @@ use Rattle.std.proofs.Common.{◌≡◌, ℕ, Bool, true, false, ◌&&◌, not, 
 use Rattle.std.specs.Bool.{IsTrue}
 use Rattle.alp_modes.specs.declared.Mode.{Mode}
 use Rattle.alp_modes.specs.declared.Mode.TheVariants.{IntendRead, IntendWrite, Read, Update, ReadIntendWrite, Write}
+use Rattle.alp_modes.specs.contracts.ModePartialEq.TheImpl as mode_eq
 use Rattle.alp_modes.specs.Modes.{agree, covers_of, join_of, IsSymmetric, IsOrder, IsLeast, IsKeptBelow, IsJoint}
 
 -- a test that every mode passes, and those from some mode on
@@ -21,11 +22,11 @@ last-five p = p IntendWrite && last-four p
 abbrev pub every : (Mode → Bool) → Bool
 every p = p IntendRead && last-five p
 
-left-true : (a b : Bool) → IsTrue (a && b) → IsTrue a
+pub left-true : (a b : Bool) → IsTrue (a && b) → IsTrue a
 left-true true b h = refl
 left-true false b h = cc
 
-right-true : (a b : Bool) → IsTrue (a && b) → IsTrue b
+pub right-true : (a b : Bool) → IsTrue (a && b) → IsTrue b
 right-true true b h = h
 right-true false b h = cc
 
@@ -186,3 +187,9 @@ unfolding join_of
 join-assoc a b c =
     sym (placed (join_of (join_of a b) c)) ∙ ap at-place (eqb-true (place (join_of (join_of a b) c)) (place (join_of a (join_of b c)))
     (at-all (λ x y z. place (join_of (join_of x y) z) == place (join_of x (join_of y z))) refl a b c)) ∙ placed (join_of a (join_of b c))
+
+-- modes that compare alike are one
+pub exact-modes : (a b : Mode) → (mode_eq.ghosts).eq a b ≡ true → a ≡ b
+exact-modes a b h =
+    sym (placed a) ∙ ap at-place (eqb-true (place a) (place b)
+        (implied-is ((mode_eq.ghosts).eq a b) (place a == place b) (at-both (λ x y. implied ((mode_eq.ghosts).eq x y) (place x == place y)) refl a b) h)) ∙ placed b
