@@ -10,7 +10,8 @@ use Rattle.alp_modes.specs.declared.Mode.{Mode}
 use Rattle.alp_modes.specs.declared.Mode.TheVariants.{Read, Write}
 use Rattle.alp_modes.specs.Modes.{agree, covers_of, leaf_of}
 use Rattle.alp_modes.specs.Holdings.{Holding, join_held, agree_held, covers_held, file_of, given_to, mode_on, DoAgreeOnLeaves}
-use Rattle.alp_modes.proofs.ModeLemmas.{agreement-symmetric, covering-order, join-least, at-each, at-both, implied, implied-is}
+use Rattle.alp_modes.proofs.ModeLemmas.{covering-order, join-least, at-each, at-both, implied, implied-is}
+use Rattle.alp_modes.proofs.HoldingLemmas.{agree-turned}
 use Rattle.alp_files.specs.Locks.{Need, HoldsOn, HoldsEach, Reads, Writes}
 
 -- what a need lets: to write a file is to read and write each leaf of it
@@ -81,12 +82,6 @@ apart-held : (a b : Option Mode) → IsTrue (covers_held a Write) → IsTrue (co
 apart-held None b w r h = cc
 apart-held (Some a) None w r h = cc
 apart-held (Some a) (Some b) w r h = let wrong : false ≡ true = read-or-write a b w r h in cc
-
-agree-turned : (a b : Option Mode) → agree_held a b ≡ agree_held b a
-agree-turned None None = refl
-agree-turned None (Some b) = refl
-agree-turned (Some a) None = refl
-agree-turned (Some a) (Some b) = agreement-symmetric a b
 
 -- what one may write, the other may not read
 pub apart : (a b : Holding) → DoAgreeOnLeaves a b → (k : Key) → Writes a k → Reads b k → ⊥
