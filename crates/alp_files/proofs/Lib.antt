@@ -12,3 +12,8 @@ pub mod ChargeLemmas
 pub mod FilesLemmas
 pub mod SoundEdits
 pub mod SoundLemmas
+pub mod HeldLemmas
+pub mod LookLemmas
+pub mod FrameLemmas
+pub mod CoverLemmas
+pub mod SwapLemmas

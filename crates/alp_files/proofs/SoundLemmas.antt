@@ -51,7 +51,7 @@ use Rattle.alp_files.proofs.SoundEdits.{
 }
 
 -- none of these tests refuses
-abbrev AreFalse : List (Bool × Refusal) → Type 0
+abbrev pub AreFalse : List (Bool × Refusal) → Type 0
 AreFalse [] = Unit {0}
 AreFalse (t ∷ ts) = (t.0 ≡ false) × AreFalse ts
 

@@ -6,6 +6,8 @@ pub mod Act
 pub mod History
 pub mod Files
 pub mod Sound
+pub mod Locks
+pub mod Apart
 pub mod Parts
 pub mod Born
 pub mod Passing

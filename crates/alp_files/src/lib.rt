@@ -16,7 +16,10 @@ pub use admission::admits;
 pub use call::{Call, PropChange};
 pub use cell::{Cell, OwnerRecord, Props};
 pub use cell_map::CellMap;
-pub use laws::{acts_keep_files_sound, histories_keep_files_sound};
+pub use laws::{
+    acts_keep_files_sound, acts_keep_sizes, agreeing_parts_commute, calls_keep_to_their_locks,
+    grants_cover_needs, histories_keep_files_sound,
+};
 pub use open::Open;
 pub use part::Part;
 pub use props_field::{props_are_a_form, put_props, read_props};

@@ -1,1 +1,4 @@
 pub mod ModeFieldLaw
+pub mod ModeLemmas
+pub mod HoldingLemmas
+pub mod TreeLemmas

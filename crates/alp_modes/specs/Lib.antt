@@ -1,1 +1,4 @@
 pub mod ModeField
+pub mod Modes
+pub mod Orders
+pub mod Holdings

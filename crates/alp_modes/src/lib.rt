@@ -5,8 +5,12 @@
 #![tactic(auto)]
 
 mod field;
+mod leaves;
+mod table;
 
 pub use field::{mode_is_a_form, put_mode, read_mode};
+pub use leaves::agreeing_locks_agree_on_leaves;
+pub use table::{agrees, covers, join, leaf_of, modes_are_lawful};
 
 /// What a lock allows its holder, from the least to the most.
 #[derive(Clone, Copy, Debug, PartialEq, Eq, PartialOrd, Ord)]
@@ -21,3 +25,6 @@ pub enum Mode {
     ReadIntendWrite,
     Write,
 }
+
+#[cfg(test)]
+mod tests;

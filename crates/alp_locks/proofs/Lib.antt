@@ -1,0 +1,7 @@
+pub mod ResultLemmas
+pub mod PartLemmas
+pub mod WalkLemmas
+pub mod FreeLemmas
+pub mod SoundLemmas
+pub mod LawLemmas
+pub mod HolderLemmas

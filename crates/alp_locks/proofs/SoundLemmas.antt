@@ -1,0 +1,271 @@
+-- the calls keep a table sound
+use Rattle.std.proofs.Common.{◌≡◌, Bool, true, false, ◌&&◌, ◌||◌, not, cond, List, [], ◌∷◌, ◌++◌, Option, Some, None, is_none, is_some, filter, refl, sym, ap, subst, ◌∙◌}
+use Rattle.std.specs.List.{AllByRecursion, list_any}
+use Rattle.std.specs.Option.{unwrap_or}
+use Rattle.std.specs.Ordering.{eq_by_cmp}
+use Rattle.std.specs.Cmp.{eq_by_cmp_equiv}
+use Rattle.std.specs.FinMap as map
+use Rattle.std.specs.FinMap.{get-empty, get-remove, get_tied}
+use Rattle.std.proofs.lemmas.List.{append-nil, append_assoc}
+use Rattle.alp_base.specs.declared.ids.TransId.{TransId}
+use Rattle.alp_base.specs.declared.key.Resource.{Resource}
+use Rattle.alp_base.specs.declared.choices.Choice.{Choice}
+use Rattle.alp_base.specs.declared.choices.Choice.TheVariants.{Fail, Wait}
+use Rattle.alp_modes.specs.declared.Mode.{Mode}
+use Rattle.alp_modes.specs.Orders.{trans_cmp, resource_cmp, transactions_total}
+use Rattle.alp_modes.specs.Holdings.{agree_held, DoAgree}
+use Rattle.alp_modes.proofs.HoldingLemmas.{agree-turned}
+use Rattle.alp_queue.specs.Rises.{Held, is_raised}
+use Rattle.alp_queue.specs.Order.{placed, waits, without, is_of}
+use Rattle.alp_queue.specs.declared.waiter.Waiter.{Waiter}
+use Rattle.alp_locks.specs.declared.request.Request.{Request}
+use Rattle.alp_locks.specs.Tables.{Parts, Table, held_of, holding, IsAgreeing}
+use Rattle.alp_locks.specs.Asks.{blocker, risen, joined, waiter_of, in_way_of, with_granted, with_waiter, refused, answered, asked}
+use Rattle.alp_locks.specs.Releases.{is_free, with_woken, with_kept, walked, released}
+use Rattle.alp_locks.specs.Sound.{IsPrepared, AreApart, IsSound}
+use Rattle.alp_locks.proofs.FreeLemmas.{granted-agrees, insert-agreeing, held-other, held-same, tied}
+
+-- ---- facts of each of a list
+
+each-more : {X : Type 0} (P Q : X → Type 0) → ((x : X) → P x → Q x) → (xs : List X) → AllByRecursion P xs → AllByRecursion Q xs
+each-more P Q more [] h = tt
+each-more P Q more (x ∷ xs) h = (more x h.0, each-more P Q more xs h.1)
+
+each-both : {X : Type 0} (P Q S : X → Type 0) → ((x : X) → P x → Q x → S x) → (xs : List X) → AllByRecursion P xs → AllByRecursion Q xs → AllByRecursion S xs
+each-both P Q S more [] h k = tt
+each-both P Q S more (x ∷ xs) h k = (more x h.0 k.0, each-both P Q S more xs h.1 k.1)
+
+-- of a list with one in the middle: that one, and the others
+each-middle : {X : Type 0} (P : X → Type 0) (xs : List X) (y : X) (zs : List X) → AllByRecursion P (xs ++ y ∷ zs) → P y × AllByRecursion P (xs ++ zs)
+each-middle P [] y zs h = h
+each-middle P (x ∷ xs) y zs h = let rest = each-middle P xs y zs h.1 in (rest.0, (h.0, rest.1))
+
+each-placed : (P : Waiter → Type 0) (ws : List Waiter) (w : Waiter) → AllByRecursion P ws → P w → AllByRecursion P (placed ws w)
+each-placed P [] w h k = (k, tt)
+each-placed P (x ∷ xs) w h k = go (w.converts && not x.converts) (each-placed P xs w h.1 k)
+  where
+    go : (b : Bool) → AllByRecursion P (placed xs w) → AllByRecursion P (cond b (w ∷ x ∷ xs) (x ∷ placed xs w))
+    go true t = (k, h)
+    go false t = (h.0, t)
+
+each-filter : {X : Type 0} (P : X → Type 0) (p : X → Bool) (xs : List X) → AllByRecursion P xs → AllByRecursion P (filter p xs)
+each-filter P p [] h = tt
+each-filter P p (x ∷ xs) h = go (p x) (each-filter P p xs h.1)
+  where
+    go : (b : Bool) → AllByRecursion P (filter p xs) → AllByRecursion P (cond b (x ∷ filter p xs) (filter p xs))
+    go true t = (h.0, t)
+    go false t = t
+
+passing : {X : Type 0} (p : X → Bool) (xs : List X) → AllByRecursion (λ x. p x ≡ true) (filter p xs)
+passing p [] = tt
+passing p (x ∷ xs) = go (p x) refl (passing p xs)
+  where
+    go : (b : Bool) → p x ≡ b → AllByRecursion (λ y. p y ≡ true) (filter p xs) → AllByRecursion (λ y. p y ≡ true) (cond b (x ∷ filter p xs) (filter p xs))
+    go true e t = (e, t)
+    go false e t = t
+
+-- ---- waiters of several transactions
+
+abbrev IsOther : TransId → Waiter → Type 0
+IsOther t w = is_of t w ≡ false
+
+turned : (t u : TransId) (b : Bool) → eq_by_cmp trans_cmp t u ≡ b → eq_by_cmp trans_cmp u t ≡ b
+turned t u b e = (eq_by_cmp_equiv transactions_total).symm u t ∙ e
+
+left-false : (a b : Bool) → (a || b) ≡ false → a ≡ false
+left-false true b e = cc
+left-false false b e = refl
+
+right-false : (a b : Bool) → (a || b) ≡ false → b ≡ false
+right-false true b e = cc
+right-false false b e = e
+
+others-wait : (t : TransId) (ws : List Waiter) → waits ws t ≡ false → AllByRecursion (IsOther t) ws
+others-wait t [] h = tt
+others-wait t (w ∷ ws) h = (left-false (is_of t w) (waits ws t) h, others-wait t ws (right-false (is_of t w) (waits ws t) h))
+
+apart-middle : (ks : List Waiter) (w : Waiter) (ws : List Waiter) → AreApart (ks ++ w ∷ ws) → AllByRecursion (IsOther w.trans) (ks ++ ws) × AreApart (ks ++ ws)
+apart-middle [] w ws h = h
+apart-middle (k ∷ ks) w ws h =
+    let here = each-middle (IsOther k.trans) ks w ws h.0 in
+    let rest = apart-middle ks w ws h.1 in
+    ((turned k.trans w.trans false here.0, rest.0), (here.1, rest.1))
+
+apart-placed : (ws : List Waiter) (w : Waiter) → AreApart ws → AllByRecursion (IsOther w.trans) ws → AreApart (placed ws w)
+apart-placed [] w h k = (tt, tt)
+apart-placed (x ∷ xs) w h k = go (w.converts && not x.converts) (apart-placed xs w h.1 k.1)
+  where
+    go : (b : Bool) → AreApart (placed xs w) → AreApart (cond b (w ∷ x ∷ xs) (x ∷ placed xs w))
+    go true t = (k, h)
+    go false t = (each-placed (IsOther x.trans) xs w h.0 (turned w.trans x.trans false k.0), t)
+
+apart-filter : (p : Waiter → Bool) (ws : List Waiter) → AreApart ws → AreApart (filter p ws)
+apart-filter p [] h = tt
+apart-filter p (w ∷ ws) h = go (p w) (apart-filter p ws h.1)
+  where
+    go : (b : Bool) → AreApart (filter p ws) → AreApart (cond b (w ∷ filter p ws) (filter p ws))
+    go true t = (each-filter (IsOther w.trans) p ws h.0, t)
+    go false t = t
+
+-- ---- who waits stays prepared where another's part changes
+
+prepared-as : (parts after : Parts) (w : Waiter) → held_of after w.trans ≡ held_of parts w.trans → IsPrepared parts w → IsPrepared after w
+prepared-as parts after w same h = h ∙ ap (λ (x : Held). waiter_of x w.trans w.needs) (sym same)
+
+prepared-insert : (parts : Parts) (t : TransId) (after : Held) (ws : List Waiter) → AllByRecursion (IsPrepared parts) ws → AllByRecursion (IsOther t) ws → AllByRecursion (IsPrepared (map.insert parts t after)) ws
+prepared-insert parts t after ws h k =
+    each-both (IsPrepared parts) (IsOther t) (IsPrepared (map.insert parts t after))
+    (λ w a b. prepared-as parts (map.insert parts t after) w (held-other parts t after w.trans (turned t w.trans false b)) a) ws h k
+
+-- ---- the walk
+
+none-is : {X : Type 0} (o : Option X) → is_none o ≡ true → o ≡ None
+none-is None e = refl
+none-is (Some x) e = cc
+
+free-agreeing : (parts : Parts) (w : Waiter) → IsAgreeing parts → IsPrepared parts w → is_free parts w ≡ true → IsAgreeing (map.insert parts w.trans w.after)
+free-agreeing parts w agreeing prepared free =
+    insert-agreeing parts w.trans w.after agreeing (granted-agrees parts w.trans w.after agreeing
+    (ap (blocker parts w.trans) (sym rises) ∙ none-is (blocker parts w.trans w.rises) free))
+  where
+    rises : w.rises ≡ filter (is_raised (held_of parts w.trans)) (map.entries w.after)
+    rises = ap (λ (x : Waiter). x.rises) prepared ∙ ap (λ (x : Held). filter (is_raised (held_of parts w.trans)) (map.entries x)) (sym (ap (λ (x : Waiter). x.after) prepared))
+
+walked-sound : (ws : List Waiter) (t : Table) → IsAgreeing t.held → AllByRecursion (IsPrepared t.held) (t.waiting ++ ws) → AreApart (t.waiting ++ ws) → IsSound (walked t ws)
+walked-sound [] t agreeing prepared apart =
+    record { agreeing = agreeing; prepared = subst (AllByRecursion (IsPrepared t.held)) (append-nil t.waiting) prepared; apart = subst AreApart (append-nil t.waiting) apart }
+walked-sound (w ∷ ws) t agreeing prepared apart =
+    go (is_free t.held w) refl (walked-sound ws (with_woken t w)) (walked-sound ws (with_kept t w))
+  where
+    mine : IsPrepared t.held w × AllByRecursion (IsPrepared t.held) (t.waiting ++ ws)
+    mine = each-middle (IsPrepared t.held) t.waiting w ws prepared
+
+    others : AllByRecursion (IsOther w.trans) (t.waiting ++ ws) × AreApart (t.waiting ++ ws)
+    others = apart-middle t.waiting w ws apart
+
+    kept : t.waiting ++ w ∷ ws ≡ (t.waiting ++ w ∷ []) ++ ws
+    kept = sym (append_assoc t.waiting (w ∷ []) ws)
+
+    go : (b : Bool) → is_free t.held w ≡ b
+        → (IsAgreeing (map.insert t.held w.trans w.after) → AllByRecursion (IsPrepared (map.insert t.held w.trans w.after)) (t.waiting ++ ws) → AreApart (t.waiting ++ ws) → IsSound (walked (with_woken t w) ws))
+        → (IsAgreeing t.held → AllByRecursion (IsPrepared t.held) ((t.waiting ++ w ∷ []) ++ ws) → AreApart ((t.waiting ++ w ∷ []) ++ ws) → IsSound (walked (with_kept t w) ws))
+        → IsSound (walked (cond b (with_woken t w) (with_kept t w)) ws)
+    go true e woken kept_on = woken (free-agreeing t.held w agreeing mine.0 e) (prepared-insert t.held w.trans w.after (t.waiting ++ ws) mine.1 others.0) others.1
+    go false e woken kept_on = kept_on agreeing (subst (AllByRecursion (IsPrepared t.held)) kept prepared) (subst AreApart kept apart)
+
+-- ---- a release
+
+held-removed : (parts : Parts) (t u : TransId) → eq_by_cmp trans_cmp u t ≡ false → held_of (map.remove parts t) u ≡ held_of parts u
+held-removed parts t u apart = ap (λ (o : Option Held). unwrap_or o map.empty) (get-remove transactions_total parts t u ∙ ap (λ (b : Bool). cond b None (map.get parts u)) apart)
+
+held-gone : (parts : Parts) (t u : TransId) → eq_by_cmp trans_cmp u t ≡ true → held_of (map.remove parts t) u ≡ map.empty
+held-gone parts t u is = ap (λ (o : Option Held). unwrap_or o map.empty) (get-remove transactions_total parts t u ∙ ap (λ (b : Bool). cond b None (map.get parts u)) is)
+
+none-agrees : (o : Option Mode) (r : Resource) → agree_held (map.get (map.empty {X = Mode} {R = resource_cmp}) r) o ≡ true
+none-agrees o r = ap (λ x. agree_held x o) (get-empty resource_cmp r)
+
+remove-agreeing : (parts : Parts) (t : TransId) → IsAgreeing parts → IsAgreeing (map.remove parts t)
+remove-agreeing parts t agreeing x y apart r = go (eq_by_cmp trans_cmp x t) refl (eq_by_cmp trans_cmp y t) refl
+  where
+    go : (b : Bool) → eq_by_cmp trans_cmp x t ≡ b → (c : Bool) → eq_by_cmp trans_cmp y t ≡ c
+        → agree_held (holding (map.remove parts t) x r) (holding (map.remove parts t) y r) ≡ true
+    go true a c e =
+        ap (λ h. agree_held (map.get h r) (holding (map.remove parts t) y r)) (held-gone parts t x a) ∙ none-agrees (holding (map.remove parts t) y r) r
+    go false a true e =
+        ap (λ h. agree_held (holding (map.remove parts t) x r) (map.get h r)) (held-gone parts t y e)
+        ∙ agree-turned (holding (map.remove parts t) x r) (map.get map.empty r) ∙ none-agrees (holding (map.remove parts t) x r) r
+    go false a false e =
+        ap (λ h. agree_held (map.get h r) (holding (map.remove parts t) y r)) (held-removed parts t x a)
+        ∙ ap (λ h. agree_held (holding parts x r) (map.get h r)) (held-removed parts t y e)
+        ∙ agreeing x y apart r
+
+not-true : (b : Bool) → not b ≡ true → b ≡ false
+not-true true e = cc
+not-true false e = refl
+
+pub released-sound : (t : Table) (u : TransId) → IsSound t → IsSound (released t u)
+released-sound t u s =
+    walked-sound (without t.waiting u) (record { held = map.remove t.held u; waiting = []; woken = t.woken })
+    (remove-agreeing t.held u s.agreeing)
+    (each-both (IsPrepared t.held) (λ w. not (is_of u w) ≡ true) (IsPrepared (map.remove t.held u))
+    (λ w a b. prepared-as t.held (map.remove t.held u) w (held-removed t.held u w.trans (turned u w.trans false (not-true (is_of u w) b))) a)
+    (without t.waiting u) (each-filter (IsPrepared t.held) (λ w. not (is_of u w)) t.waiting s.prepared) (passing (λ w. not (is_of u w)) t.waiting))
+    (apart-filter (λ w. not (is_of u w)) t.waiting s.apart)
+
+-- ---- an ask
+
+granted-sound : (t : Table) (u : TransId) (ns : List (Resource × Mode)) → IsSound t → waits t.waiting u ≡ false → in_way_of t.held u ns ≡ None
+    → IsSound (with_granted t u (risen (held_of t.held u) ns) (joined (held_of t.held u) ns))
+granted-sound t u ns s idle free = go (risen (held_of t.held u) ns)
+  where
+    go : (rises : List (Resource × Mode)) → IsSound (with_granted t u rises (joined (held_of t.held u) ns))
+    go [] = s
+    go (n ∷ rest) = record {
+      agreeing = insert-agreeing t.held u (joined (held_of t.held u) ns) s.agreeing (granted-agrees t.held u (joined (held_of t.held u) ns) s.agreeing free);
+      prepared = prepared-insert t.held u (joined (held_of t.held u) ns) t.waiting s.prepared (others-wait u t.waiting idle);
+      apart = s.apart;
+    }
+
+-- a part that is named again holds what it held
+pub again : (parts : Parts) (u v : TransId) → held_of (map.insert parts u (held_of parts u)) v ≡ held_of parts v
+again parts u v = go (eq_by_cmp trans_cmp v u) refl
+  where
+    go : (b : Bool) → eq_by_cmp trans_cmp v u ≡ b → held_of (map.insert parts u (held_of parts u)) v ≡ held_of parts v
+    go true a = held-same parts u (held_of parts u) v a ∙ ap (λ (o : Option Held). unwrap_or o map.empty) (get_tied transactions_total parts v u (tied (trans_cmp v u) a))
+    go false a = held-other parts u (held_of parts u) v a
+
+queued-sound : (t : Table) (u : TransId) (ns : List (Resource × Mode)) → IsSound t → waits t.waiting u ≡ false → IsSound (with_waiter t (waiter_of (held_of t.held u) u ns))
+queued-sound t u ns s idle = record {
+  agreeing = λ x y apart r.
+      ap (λ (h : Held). agree_held (map.get h r) (holding (map.insert t.held u (held_of t.held u)) y r)) (again t.held u x)
+      ∙ ap (λ (h : Held). agree_held (holding t.held x r) (map.get h r)) (again t.held u y)
+      ∙ s.agreeing x y apart r;
+  prepared = each-placed (IsPrepared (map.insert t.held u (held_of t.held u))) t.waiting (waiter_of (held_of t.held u) u ns)
+      (each-more (IsPrepared t.held) (IsPrepared (map.insert t.held u (held_of t.held u)))
+      (λ w a. prepared-as t.held (map.insert t.held u (held_of t.held u)) w (again t.held u w.trans) a) t.waiting s.prepared)
+      (ap (λ (h : Held). waiter_of h u ns) (sym (again t.held u u)));
+  apart = apart-placed t.waiting (waiter_of (held_of t.held u) u ns) s.apart (others-wait u t.waiting idle);
+}
+
+refused-sound : (t : Table) (u : TransId) (ns : List (Resource × Mode)) (choice : Choice) → IsSound t → waits t.waiting u ≡ false → IsSound (refused t (waiter_of (held_of t.held u) u ns) choice)
+refused-sound t u ns Fail s idle = s
+refused-sound t u ns Wait s idle = queued-sound t u ns s idle
+
+pub asked-sound : (t : Table) (q : Request) → waits t.waiting q.trans ≡ false → IsSound t → IsSound (asked t q)
+asked-sound t q idle s = go (in_way_of t.held q.trans q.needs) refl
+  where
+    go : (o : Option TransId) → in_way_of t.held q.trans q.needs ≡ o → IsSound (answered t (waiter_of (held_of t.held q.trans) q.trans q.needs) o q.choice)
+    go None free = granted-sound t q.trans q.needs s idle free
+    go (Some u) inway = refused-sound t q.trans q.needs q.choice s idle
+
+pub new-sound : IsSound (record { held = map.empty; waiting = []; woken = [] })
+new-sound = record {
+  agreeing = λ x y apart r.
+      ap (λ (o : Option Held). agree_held (map.get (unwrap_or o map.empty) r) (holding map.empty y r)) (get-empty trans_cmp x) ∙ none-agrees (holding map.empty y r) r;
+  prepared = tt;
+  apart = tt;
+}
+
+-- ---- the same, said of what a body has in hand
+
+pub grant-sound : (t : Table) (u : TransId) (ns : List (Resource × Mode)) → waits t.waiting u ≡ false
+    → (parts : Parts) → parts ≡ t.held → (w : Waiter) → w ≡ waiter_of (held_of parts u) u ns → blocker parts u w.rises ≡ None
+    → IsSound t → IsSound (with_granted t w.trans w.rises w.after)
+grant-sound t u ns idle parts here w is free s =
+    let P : Parts → Type 0 = λ p. w ≡ waiter_of (held_of p u) u ns → blocker p u w.rises ≡ None → IsSound (with_granted t w.trans w.rises w.after) in
+    let Q : Waiter → Type 0 = λ x. blocker t.held u x.rises ≡ None → IsSound (with_granted t x.trans x.rises x.after) in
+    subst P (sym here) (λ e. subst Q (sym e) (granted-sound t u ns s idle)) is free
+
+pub refuse-sound : (t : Table) (u : TransId) (ns : List (Resource × Mode)) (choice : Choice) → waits t.waiting u ≡ false
+    → (parts : Parts) → parts ≡ t.held → (w : Waiter) → w ≡ waiter_of (held_of parts u) u ns → IsSound t → IsSound (refused t w choice)
+refuse-sound t u ns choice idle parts here w is s =
+    let P : Parts → Type 0 = λ p. w ≡ waiter_of (held_of p u) u ns → IsSound (refused t w choice) in
+    let Q : Waiter → Type 0 = λ x. IsSound (refused t x choice) in
+    subst P (sym here) (λ e. subst Q (sym e) (refused-sound t u ns choice s idle)) is
+
+pub release-sound : (t : Table) (u : TransId) (parts : Parts) (ws : List Waiter) (after : Table) → parts ≡ map.remove t.held u → ws ≡ without t.waiting u
+    → after ≡ walked (record { held = parts; waiting = []; woken = t.woken }) ws → IsSound t → IsSound after
+release-sound t u parts ws after gone left is s =
+    let P : Parts → Type 0 = λ p. IsSound (walked (record { held = p; waiting = []; woken = t.woken }) ws) in
+    let Q : List Waiter → Type 0 = λ x. IsSound (walked (record { held = map.remove t.held u; waiting = []; woken = t.woken }) x) in
+    subst IsSound (sym is) (subst P (sym gone) (subst Q (sym left) (released-sound t u s)))

@@ -1,0 +1,58 @@
+-- what grants mean for what is held
+use Rattle.std.specs.Prelude.{◌≡◌, Bool, true, false, ◌&&◌, cond, List, ◌∷◌, ◌++◌, Some, None}
+use Rattle.std.specs.List.{AllByRecursion}
+use Rattle.std.specs.declared.cmp.Ordering.TheVariants.{Less}
+use Rattle.std.specs.Ordering.{eq_by_cmp}
+use Rattle.alp_base.specs.declared.ids.TransId.{TransId}
+use Rattle.alp_base.specs.declared.key.Resource.{Resource}
+use Rattle.alp_modes.specs.declared.Mode.{Mode}
+use Rattle.alp_modes.specs.Orders.{trans_cmp}
+use Rattle.alp_modes.specs.Holdings.{join_held, agree_held, held_by}
+use Rattle.alp_queue.specs.declared.waiter.Waiter.{Waiter}
+use Rattle.alp_locks.specs.declared.request.Request.{Request}
+use Rattle.alp_locks.specs.declared.request.Grant.{Grant}
+use Rattle.alp_locks.specs.declared.request.Grant.TheVariants.{Granted, Conflict, Queued}
+use Rattle.alp_locks.specs.Tables.{Parts, Table, holding}
+use Rattle.alp_locks.specs.Asks.{blocker, grant_of, asked}
+use Rattle.alp_locks.specs.Releases.{with_woken}
+use Rattle.alp_locks.specs.Sound.{IsPrepared}
+
+abbrev pub gives_all : Grant → Bool
+gives_all Granted = true
+gives_all (Conflict u) = false
+gives_all Queued = false
+
+-- on each resource, the asker holds what it held joined with all that it asked, where that is granted, and else what it
+-- held; and the others what they held
+abbrev pub IsAllOrNone : Type 0
+IsAllOrNone = (t : Table) (q : Request) (u : TransId) (r : Resource)
+    → holding (asked t q).held u r ≡ cond (eq_by_cmp trans_cmp u q.trans && gives_all (grant_of t q)) (join_held (holding t.held u r) (held_by q.needs r)) (holding t.held u r)
+
+-- the same where a waiter is granted
+abbrev pub IsAllOfWaiter : Type 0
+IsAllOfWaiter = (t : Table) (w : Waiter) (u : TransId) (r : Resource) → IsPrepared t.held w
+    → holding (with_woken t w).held u r ≡ cond (eq_by_cmp trans_cmp u w.trans) (join_held (holding t.held u r) (held_by w.needs r)) (holding t.held u r)
+
+-- another transaction, whose mode on a resource does not agree with that one
+abbrev pub IsInWay : Parts → TransId → Resource × Mode → TransId → Type 0
+IsInWay parts t n u = (eq_by_cmp trans_cmp t u ≡ false) × (agree_held (holding parts u n.0) (Some n.1) ≡ false)
+
+abbrev pub IsClear : Parts → TransId → Resource × Mode → Type 0
+IsClear parts t n = (v : TransId) → IsInWay parts t n v → ⊥
+
+-- the holder is in the way on one resource, none is on an earlier one, and none that is on it is less
+pub record IsFirstInWay (parts : Parts) (t : TransId) (ns : List (Resource × Mode)) (u : TransId) : Type 0 where
+  pub before : List (Resource × Mode)
+  pub need : Resource × Mode
+  pub after : List (Resource × Mode)
+  pub whole : ns ≡ before ++ need ∷ after
+  pub clear : AllByRecursion (IsClear parts t) before
+  pub inway : IsInWay parts t need u
+  pub least : (v : TransId) → IsInWay parts t need v → trans_cmp v u ≡ Less → ⊥
+
+-- who is named is the first and least in the way, and where nobody is named nobody is in the way
+abbrev pub NamesFirst : Type 0
+NamesFirst = (parts : Parts) (t : TransId) (ns : List (Resource × Mode)) (u : TransId) → blocker parts t ns ≡ Some u → IsFirstInWay parts t ns u
+
+abbrev pub NamesAny : Type 0
+NamesAny = (parts : Parts) (t : TransId) (ns : List (Resource × Mode)) → blocker parts t ns ≡ None → AllByRecursion (IsClear parts t) ns

@@ -1,0 +1,5 @@
+pub mod Tables
+pub mod Asks
+pub mod Releases
+pub mod Sound
+pub mod Laws

@@ -1,0 +1,15 @@
+//! What holds of asks and grants, over all tables.
+ghost use Rattle.alp_locks.specs.Laws.{IsAllOrNone, IsAllOfWaiter, NamesFirst, NamesAny};
+
+/// A grant is of all that was asked, and any other answer of none: each transaction holds on each
+/// resource what it held, joined with all that it asked where it was granted.
+pub fn grants_are_of_all_or_none()
+    ensures asked { IsAllOrNone }
+    ensures woken { IsAllOfWaiter }
+{}
+
+/// Who is named stands in the way on the first resource where anybody does, and is the least there.
+pub fn holders_are_first_and_least()
+    ensures first { NamesFirst }
+    ensures any { NamesAny }
+{}

@@ -1,0 +1,196 @@
+//! The table.
+ghost use Rattle.std.specs.Prelude.{◌≡◌, ◌+◌, ◌≤◌, List, [], length, true, false, not, drop, slice_get, IfOk, OnOk, OnErr};
+ghost use Rattle.std.specs.FinMap as map;
+ghost use Rattle.alp_queue.specs.Order.{waits, placed};
+ghost use Rattle.alp_locks.specs.Tables.{held_of, holding};
+ghost use Rattle.alp_locks.specs.Asks.{risen, grant_of, asked, with_granted, with_waiter, refusal, refused};
+ghost use Rattle.alp_locks.specs.Releases.{released};
+ghost use Rattle.alp_locks.specs.Sound.{IsSound};
+
+use crate::asking::{blocker, waiter_for};
+use crate::parts::Parts;
+use crate::walk::walk;
+use crate::{Grant, Request};
+use alp_base::{Choice, OutOfMemory, Resource, TransId};
+use alp_modes::Mode;
+use alp_queue::{Locks, Needs, Queue, Waiter};
+use std::alloc::Global;
+use std::marker::Model;
+
+/// Locks of transactions, and the requests that wait; seen as what each transaction holds, the
+/// waiting list in the order in which it is tried, and who was woken and not taken.
+#[derive(Drop)]
+pub struct LockTable {
+    alloc: Global,
+    parts: Parts,
+    queue: Queue,
+    woken: Vec<TransId>,
+}
+
+impl Model for LockTable {
+    ghost use Rattle.std.specs.Prelude.{◌≡◌, ◌+◌, ◌≤◌, length, true, vec_capacity};
+    ghost use Rattle.alp_locks.specs.Tables.{Table, table_code, are_known};
+
+    ghost Value = { Table };
+
+    ghost coded = { table_code };
+
+    ghost view = { λ t. record { held = t.parts; waiting = t.queue; woken = t.woken.items } };
+
+    ghost invariant = { λ t. (are_known t.parts t.queue ≡ true) × (length t.queue + length t.woken.items ≤ vec_capacity t.woken) };
+}
+
+impl LockTable {
+    pub fn new(alloc: Global) -> LockTable
+        ensures empty { result ≡ record { held = map.empty; waiting = []; woken = [] } }
+        ensures sound { IsSound result }
+    {
+        LockTable {
+            alloc,
+            parts: Parts::new(alloc),
+            queue: Queue::new(alloc),
+            woken: Vec::new(alloc),
+        }
+    }
+
+    /// The mode in which the transaction holds that resource, if it does.
+    pub fn mode_of(&self, trans: TransId, at: &Resource) -> Option<Mode>
+        ensures { result ≡ holding self.now.held trans at.now }
+    {
+        match self.parts.get(&trans) {
+            Some(locks) => locks.get(at),
+            None => None,
+        }
+    }
+
+    /// Whether no request of the transaction waits.
+    pub fn is_granted(&self, trans: TransId) -> bool
+        ensures { result ≡ not (waits self.now.waiting trans) }
+    {
+        !self.queue.has(&trans)
+    }
+
+    /// The needs on which the transaction's mode would rise: each resource once, files before leaves
+    /// and in the order of keys, with the mode that a grant would leave.
+    pub fn rising(&self, trans: TransId, needs: Needs) -> Result<Needs, OutOfMemory>
+        ensures { IfOk result (λ n. n ≡ risen (held_of self.now.held trans) needs) }
+    {
+        let waiter = waiter_for(self.alloc, &self.parts, trans, needs)?;
+        Ok(waiter.rises)
+    }
+
+    /// Asks for all the needs of a transaction that does not wait.
+    ///
+    /// Modes that are asked on one resource are joined, and what would not rise is dropped. Only
+    /// what others hold stands in the way, and not what they wait for.
+    pub fn ask(&mut self, request: Request) -> Result<Grant, OutOfMemory>
+        requires { waits self.old.waiting request.trans ≡ false }
+        ensures answer { IfOk result (λ g. g ≡ grant_of self.old request) }
+        ensures after { OnOk result (self.new ≡ asked self.old request) }
+
+        // Locks that agreed still do, whatever the answer. After want of memory the table is as before.
+        ensures sound { IsSound self.old → IsSound self.new }
+        ensures err { OnErr result (self.new ≡ self.old) }
+    {
+        let Request {
+            trans,
+            needs,
+            choice,
+        } = request;
+        let waiter = waiter_for(self.alloc, &self.parts, trans, needs)?;
+        match blocker(&self.parts, &trans, waiter.rises.as_slice()) {
+            None => self.grant(waiter),
+            Some(holder) => self.refuse(waiter, holder, choice),
+        }
+    }
+
+    // The transaction has what it asked for.
+    fn grant(&mut self, waiter: Waiter) -> Result<Grant, OutOfMemory>
+        ensures answer { IfOk result (λ g. g ≡ Grant.Granted) }
+        ensures after { OnOk result (self.new ≡ with_granted self.old waiter.trans waiter.rises waiter.after) }
+        ensures err { OnErr result (self.new ≡ self.old) }
+    {
+        if !waiter.rises.as_slice().is_empty() {
+            self.parts.put(waiter.trans, waiter.after)?;
+        }
+        Ok(Grant::Granted)
+    }
+
+    // Another is in the way.
+    fn refuse(
+        &mut self,
+        waiter: Waiter,
+        holder: TransId,
+        choice: Choice,
+    ) -> Result<Grant, OutOfMemory>
+        ensures answer { IfOk result (λ g. g ≡ refusal choice holder) }
+        ensures after { OnOk result (self.new ≡ refused self.old waiter choice) }
+        ensures err { OnErr result (self.new ≡ self.old) }
+    {
+        match choice {
+            Choice::Fail => Ok(Grant::Conflict { holder }),
+            Choice::Wait => {
+                self.let_in(waiter)?;
+                Ok(Grant::Queued)
+            }
+        }
+    }
+
+    // The request waits, and all that its grant will need is there.
+    fn let_in(&mut self, waiter: Waiter) -> Result<(), OutOfMemory>
+        ensures after { OnOk result (self.new ≡ with_waiter self.old waiter) }
+        ensures err { OnErr result (self.new ≡ self.old) }
+    {
+        let room = self.queue.waiters().len() + 1;
+        self.woken.reserve(room)?;
+        line_up(self.alloc, &mut self.parts, &mut self.queue, waiter)
+    }
+
+    /// Takes away the locks and the waiting request of that transaction, then tries each waiter in
+    /// turn and grants those that are free at that moment. Takes no memory.
+    pub fn release_all(&mut self, trans: TransId)
+        ensures after { self.new ≡ released self.old trans }
+        ensures sound { IsSound self.old → IsSound self.new }
+    {
+        self.parts.remove(&trans);
+        self.queue.withdraw(&trans);
+        walk(&mut self.parts, &mut self.queue, &mut self.woken);
+    }
+
+    /// The transaction that was granted first from the waiting list and not taken yet. Takes no memory.
+    pub fn take_woken(&mut self) -> Option<TransId>
+        ensures taken { result ≡ slice_get self.old.woken 0 }
+        ensures left { self.new ≡ record self.old { woken = drop 1 self.old.woken } }
+        ensures sound { IsSound self.old → IsSound self.new }
+    {
+        if self.woken.is_empty() {
+            return None;
+        }
+        Some(self.woken.remove(0))
+    }
+}
+
+// Makes a place for what the waiter will hold, and lets it into the queue.
+fn line_up(
+    alloc: Global,
+    parts: &mut Parts,
+    queue: &mut Queue,
+    waiter: Waiter,
+) -> Result<(), OutOfMemory>
+    ensures held { OnOk result (parts.new ≡ map.insert parts.old waiter.trans (held_of parts.old waiter.trans)) }
+    ensures waiting { OnOk result (queue.new ≡ placed queue.old waiter) }
+    ensures err { OnErr result ((parts.new ≡ parts.old) × (queue.new ≡ queue.old)) }
+{
+    let trans = waiter.trans;
+    if parts.get(&trans).is_some() {
+        return queue.enter(waiter);
+    }
+    parts.put(trans, Locks::new(alloc))?;
+    match queue.enter(waiter) {
+        Ok(()) => Ok(()),
+        Err(refused) => {
+            parts.remove(&trans);
+            Err(refused)
+        }
+    }
+}

@@ -1,0 +1,118 @@
+use super::*;
+use alp_base::{Choice, FileId, Key, OutOfMemory, Resource, TransId};
+use alp_modes::Mode;
+use alp_queue::Needs;
+use std::alloc::Global;
+use std::test::*;
+
+const FILE: FileId = FileId {
+    server: 1,
+    epoch: 1,
+    counter: 1,
+};
+
+const OTHER: FileId = FileId {
+    server: 1,
+    epoch: 1,
+    counter: 2,
+};
+
+fn trans(counter: u32) -> TransId {
+    TransId {
+        server: 1,
+        epoch: 1,
+        counter,
+    }
+}
+
+// The answer to a list of needs, or none where the transaction waits.
+fn ask(
+    alloc: Global,
+    table: &mut LockTable,
+    by: u32,
+    list: &[(Resource, Mode)],
+    choice: Choice,
+) -> Result<Option<Grant>, OutOfMemory> {
+    let trans = trans(by);
+    if !table.is_granted(trans) {
+        return Ok(None);
+    }
+    let _keys: Option<Key> = None;
+    let mut needs = Vec::new(alloc);
+    for need in list {
+        needs.push(*need)?;
+    }
+    let grant = table.ask(Request {
+        trans,
+        needs: Needs::new(needs),
+        choice,
+    })?;
+    Ok(Some(grant))
+}
+
+// Pages from 0 on, each in that mode.
+fn pages(alloc: Global, count: u32, mode: Mode) -> Result<Vec<(Resource, Mode)>, OutOfMemory> {
+    let _keys: Option<Key> = None;
+    let mut list = Vec::new(alloc);
+    for number in 0..count {
+        list.push((Resource::Leaf(Key::PageOf(FILE, number)), mode))?;
+    }
+    Ok(list)
+}
+
+#[test]
+fn conversions_come_before_arrivals(rt: HostRuntime) -> Result<(), Fail> {
+    let alloc = rt.alloc();
+    let mut table = LockTable::new(alloc);
+    let read = [(Resource::Whole(FILE), Mode::Read)];
+    let write = [(Resource::Whole(FILE), Mode::Write)];
+    assert!(rt; ask(alloc, &mut table, 1, &read, Choice::Fail) == Ok(Some(Grant::Granted)));
+    assert!(rt; ask(alloc, &mut table, 2, &read, Choice::Fail) == Ok(Some(Grant::Granted)));
+    assert!(rt; ask(alloc, &mut table, 3, &write, Choice::Wait) == Ok(Some(Grant::Queued)));
+    assert!(rt; ask(alloc, &mut table, 2, &write, Choice::Wait) == Ok(Some(Grant::Queued)));
+    table.release_all(trans(1));
+    assert!(rt; table.take_woken() == Some(trans(2)));
+    assert!(rt; table.take_woken() == None);
+    assert!(rt; table.is_granted(trans(2)) && !table.is_granted(trans(3)));
+    assert!(rt; table.mode_of(trans(2), &Resource::Whole(FILE)) == Some(Mode::Write));
+    table.release_all(trans(2));
+    assert!(rt; table.take_woken() == Some(trans(3)));
+    Ok(())
+}
+
+#[test]
+fn two_that_wait_for_each_other_stay_waiting(rt: HostRuntime) -> Result<(), Fail> {
+    let alloc = rt.alloc();
+    let mut table = LockTable::new(alloc);
+    let first = [(Resource::Whole(FILE), Mode::Write)];
+    let second = [(Resource::Whole(OTHER), Mode::Write)];
+    assert!(rt; ask(alloc, &mut table, 1, &first, Choice::Wait) == Ok(Some(Grant::Granted)));
+    assert!(rt; ask(alloc, &mut table, 2, &second, Choice::Wait) == Ok(Some(Grant::Granted)));
+    assert!(rt; ask(alloc, &mut table, 1, &second, Choice::Wait) == Ok(Some(Grant::Queued)));
+    assert!(rt; ask(alloc, &mut table, 2, &first, Choice::Wait) == Ok(Some(Grant::Queued)));
+    table.release_all(trans(3));
+    assert!(rt; table.take_woken() == None);
+    assert!(rt; !table.is_granted(trans(1)) && !table.is_granted(trans(2)));
+    table.release_all(trans(1));
+    assert!(rt; table.take_woken() == Some(trans(2)));
+    Ok(())
+}
+
+#[test]
+fn a_thousand_resources_in_one_request(rt: HostRuntime) -> Result<(), Fail> {
+    let alloc = rt.alloc();
+    let mut table = LockTable::new(alloc);
+    let read = pages(alloc, 1024, Mode::Read).ok().ok_or("memory")?;
+    let write = pages(alloc, 1024, Mode::Write).ok().ok_or("memory")?;
+    let conflict = Grant::Conflict { holder: trans(1) };
+    let last = Resource::Leaf(Key::PageOf(FILE, 1023));
+    assert!(rt; ask(alloc, &mut table, 2, &read, Choice::Fail) == Ok(Some(Grant::Granted)));
+    assert!(rt; ask(alloc, &mut table, 1, &read, Choice::Fail) == Ok(Some(Grant::Granted)));
+    assert!(rt; ask(alloc, &mut table, 3, &write, Choice::Fail) == Ok(Some(conflict)));
+    assert!(rt; table.mode_of(trans(3), &last) == None);
+    table.release_all(trans(1));
+    table.release_all(trans(2));
+    assert!(rt; ask(alloc, &mut table, 3, &write, Choice::Fail) == Ok(Some(Grant::Granted)));
+    assert!(rt; table.mode_of(trans(3), &last) == Some(Mode::Write));
+    Ok(())
+}
