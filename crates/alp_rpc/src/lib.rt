@@ -1,0 +1,8 @@
+//! Frames: every request and reply as bytes.
+#![tactic(auto)]
+
+mod frame;
+mod laws;
+
+pub use frame::{CLIENTS, REPLY_MARK, REQUEST_MARK, ReplyFrame, Request};
+pub use laws::frames_are_forms;
