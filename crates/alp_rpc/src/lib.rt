@@ -2,9 +2,13 @@
 #![tactic(auto)]
 
 mod frame;
+mod head;
 mod laws;
 mod read_call;
 mod read_change;
+mod read_reason;
+mod read_refusal;
+mod read_reply;
 
 pub use frame::{CLIENTS, REPLY_MARK, REQUEST_MARK, ReplyFrame, Request};
 pub use laws::frames_are_forms;
