@@ -1,5 +1,5 @@
 //! What stands in front of a call or a reply: client, epoch and number.
-ghost use Rattle.std.specs.Prelude.{◌≡◌, OnOk};
+ghost use Rattle.std.specs.Prelude.{OnOk, option_map};
 ghost use Rattle.alp_fields.specs.Forms.{IsRead, IsWritten};
 ghost use Rattle.alp_rpc.specs.Frames.{head, IsHead};
 
@@ -9,8 +9,8 @@ use alp_fields::{FieldReader, put_u8, put_u32};
 
 /// Client, epoch and number.
 #[tactic(auto, unfolding(crate::specs::Frames::head))]
-pub(super) fn read_head(reader: &mut FieldReader) -> Option<(u8, (u32, u32))>
-    ensures { IsRead head reader.old reader.new result }
+pub(super) fn read_head(reader: &mut FieldReader) -> Option<(u8, u32, u32)>
+    ensures { IsRead head reader.old reader.new (option_map (λ x. (x.0, (x.1, x.2))) result) }
 {
     let client = reader.u8()?;
     if client == 0 || client > CLIENTS {
@@ -21,7 +21,7 @@ pub(super) fn read_head(reader: &mut FieldReader) -> Option<(u8, (u32, u32))>
     if number == 0 {
         return None;
     }
-    Some((client, (epoch, number)))
+    Some((client, epoch, number))
 }
 
 #[tactic(auto, unfolding(crate::specs::Frames::head))]

@@ -9,6 +9,8 @@ mod read_change;
 mod read_reason;
 mod read_refusal;
 mod read_reply;
+mod write_call;
+mod write_change;
 
 pub use frame::{CLIENTS, REPLY_MARK, REQUEST_MARK, ReplyFrame, Request};
 pub use laws::frames_are_forms;
