@@ -6,3 +6,4 @@ pub mod RefusalLaw
 pub mod EndedLaw
 pub mod ReplyLaw
 pub mod FrameLaws
+pub mod SendableLaws

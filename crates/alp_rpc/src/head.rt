@@ -25,7 +25,12 @@ pub(super) fn read_head(reader: &mut FieldReader) -> Option<(u8, u32, u32)>
 }
 
 #[tactic(auto, unfolding(crate::specs::Frames::head))]
-pub(super) fn put_head(out: &mut Vec<u8>, client: u8, epoch: u32, number: u32) -> Result<(), OutOfMemory>
+pub(super) fn put_head(
+    out: &mut Vec<u8>,
+    client: u8,
+    epoch: u32,
+    number: u32,
+) -> Result<(), OutOfMemory>
     requires { IsHead client number }
     ensures { OnOk result (IsWritten head (client, (epoch, number)) out.old.items out.new.items) }
 {

@@ -134,7 +134,10 @@ fn take_refused(reader: &mut FieldReader) -> Option<Reply>
 
 /// The reply at the front of the bytes that are left, if one is spelled there.
 #[tactic(auto, unfolding(crate::specs::Replies::reply))]
-pub(super) fn read_reply(alloc: Global, reader: &mut FieldReader) -> Result<Option<Reply>, OutOfMemory>
+pub(super) fn read_reply(
+    alloc: Global,
+    reader: &mut FieldReader,
+) -> Result<Option<Reply>, OutOfMemory>
     ensures { IfOk result (IsRead reply reader.old reader.new) }
 {
     let Some(tag) = reader.u8() else {

@@ -5,10 +5,12 @@ ghost use Rattle.alp_files.specs.declared.call.Call.TheVariants.{Hello, Begin, J
 ghost use Rattle.alp_rpc.specs.Calls.{is_run_mode, run_mode, filled_run, open_form, call, IsSendable};
 
 use crate::write_change::put_change;
-use alp_base::{Access, AccessList, Choice, FileId, Name, OutOfMemory, PageList, Run, Stamp, TransId};
+use alp_base::{
+    Access, AccessList, Choice, FileId, Name, OutOfMemory, PageList, Run, Stamp, TransId,
+};
 use alp_fields::{
-    put_access, put_choice, put_file_id, put_flag, put_list, put_name, put_pages, put_run, put_stamp, put_trans_id,
-    put_u8, put_u32,
+    put_access, put_choice, put_file_id, put_flag, put_list, put_name, put_pages, put_run,
+    put_stamp, put_trans_id, put_u8, put_u32,
 };
 use alp_files::{Call, PropChange, Props, put_props};
 use alp_modes::{Mode, put_mode};
@@ -64,7 +66,12 @@ fn put_join(out: &mut Vec<u8>, trans: TransId) -> Result<(), OutOfMemory>
 }
 
 #[tactic(auto, unfolding(crate::specs::Calls::call, alp_fields::specs::Forms::u8))]
-fn put_create_file(out: &mut Vec<u8>, trans: TransId, start: &Props, choice: Choice) -> Result<(), OutOfMemory>
+fn put_create_file(
+    out: &mut Vec<u8>,
+    trans: TransId,
+    start: &Props,
+    choice: Choice,
+) -> Result<(), OutOfMemory>
     ensures { OnOk result (IsWritten call (CreateFile trans start.now choice) out.old.items out.new.items) }
 {
     put_u8(out, 4)?;
@@ -101,7 +108,12 @@ fn put_close_file(out: &mut Vec<u8>, trans: TransId, open_no: u32) -> Result<(),
 }
 
 #[tactic(auto, unfolding(crate::specs::Calls::call, alp_fields::specs::Forms::u8))]
-fn put_delete_file(out: &mut Vec<u8>, trans: TransId, open_no: u32, choice: Choice) -> Result<(), OutOfMemory>
+fn put_delete_file(
+    out: &mut Vec<u8>,
+    trans: TransId,
+    open_no: u32,
+    choice: Choice,
+) -> Result<(), OutOfMemory>
     ensures { OnOk result (IsWritten call (DeleteFile trans open_no choice) out.old.items out.new.items) }
 {
     put_u8(out, 7)?;
@@ -169,7 +181,13 @@ fn put_lock_pages(
 }
 
 #[tactic(auto, unfolding(crate::specs::Calls::call, alp_fields::specs::Forms::u8))]
-fn put_set_size(out: &mut Vec<u8>, trans: TransId, open_no: u32, size: u32, choice: Choice) -> Result<(), OutOfMemory>
+fn put_set_size(
+    out: &mut Vec<u8>,
+    trans: TransId,
+    open_no: u32,
+    size: u32,
+    choice: Choice,
+) -> Result<(), OutOfMemory>
     ensures { OnOk result (IsWritten call (SetSize trans open_no size choice) out.old.items out.new.items) }
 {
     put_u8(out, 11)?;
@@ -203,7 +221,12 @@ fn put_write_props(
 }
 
 #[tactic(auto, unfolding(crate::specs::Calls::call, alp_fields::specs::Forms::u8))]
-fn put_read_owner(out: &mut Vec<u8>, trans: TransId, owner: &Name, choice: Choice) -> Result<(), OutOfMemory>
+fn put_read_owner(
+    out: &mut Vec<u8>,
+    trans: TransId,
+    owner: &Name,
+    choice: Choice,
+) -> Result<(), OutOfMemory>
     ensures { OnOk result (IsWritten call (ReadOwner trans owner.now choice) out.old.items out.new.items) }
 {
     put_u8(out, 14)?;
@@ -232,7 +255,13 @@ fn put_make_owner(
 }
 
 #[tactic(auto, unfolding(crate::specs::Calls::call, alp_fields::specs::Forms::u8))]
-fn put_set_quota(out: &mut Vec<u8>, trans: TransId, owner: &Name, quota: u32, choice: Choice) -> Result<(), OutOfMemory>
+fn put_set_quota(
+    out: &mut Vec<u8>,
+    trans: TransId,
+    owner: &Name,
+    quota: u32,
+    choice: Choice,
+) -> Result<(), OutOfMemory>
     ensures { OnOk result (IsWritten call (SetQuota trans owner.now quota choice) out.old.items out.new.items) }
 {
     put_u8(out, 16)?;
