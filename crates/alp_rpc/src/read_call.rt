@@ -2,7 +2,7 @@
 ghost use Rattle.std.specs.Prelude.{◌≡◌, IfOk};
 ghost use Rattle.alp_fields.specs.Forms.{IsRead};
 ghost use Rattle.alp_rpc.specs.Variants.{AreFieldsRead};
-ghost use Rattle.alp_rpc.specs.Calls.{is_run_mode as covers_pages, run_mode, filled_run, open_form, call, hello, begin, join, create_file, open_file, close_file, delete_file, read_pages, write_pages, lock_pages, set_size, read_props, write_props, read_owner, make_owner, set_quota, finish, outcome, collect};
+ghost use Rattle.alp_rpc.specs.Calls.{is_run_mode as covers_pages, run_mode, filled_run, open_form, call, create_file, open_file, delete_file, read_pages, write_pages, lock_pages, set_size, write_props, read_owner, make_owner, set_quota, finish};
 
 use crate::read_change::read_change;
 use alp_base::{OutOfMemory, PageList, Run, TransId};
@@ -55,27 +55,6 @@ fn take_open(reader: &mut FieldReader) -> Option<(TransId, u32)>
     Some((trans, open_no))
 }
 
-fn take_hello(reader: &mut FieldReader) -> Option<Call>
-    ensures { AreFieldsRead hello reader.old reader.new result }
-{
-    let name = reader.name()?;
-    Some(Call::Hello { name })
-}
-
-fn take_begin(reader: &mut FieldReader) -> Option<Call>
-    ensures { AreFieldsRead begin reader.old reader.new result }
-{
-    let seen = reader.stamp()?;
-    Some(Call::Begin { seen })
-}
-
-fn take_join(reader: &mut FieldReader) -> Option<Call>
-    ensures { AreFieldsRead join reader.old reader.new result }
-{
-    let trans = reader.trans_id()?;
-    Some(Call::Join { trans })
-}
-
 fn take_create_file(alloc: Global, reader: &mut FieldReader) -> Result<Option<Call>, OutOfMemory>
     ensures { IfOk result (AreFieldsRead create_file reader.old reader.new) }
 {
@@ -110,13 +89,6 @@ fn take_open_file(reader: &mut FieldReader) -> Option<Call>
         mode,
         choice,
     })
-}
-
-fn take_close_file(reader: &mut FieldReader) -> Option<Call>
-    ensures { AreFieldsRead close_file reader.old reader.new result }
-{
-    let (trans, open_no) = take_open(reader)?;
-    Some(Call::CloseFile { trans, open_no })
 }
 
 fn take_delete_file(reader: &mut FieldReader) -> Option<Call>
@@ -196,13 +168,6 @@ fn take_set_size(reader: &mut FieldReader) -> Option<Call>
         size,
         choice,
     })
-}
-
-fn take_read_props(reader: &mut FieldReader) -> Option<Call>
-    ensures { AreFieldsRead read_props reader.old reader.new result }
-{
-    let (trans, open_no) = take_open(reader)?;
-    Some(Call::ReadProps { trans, open_no })
 }
 
 fn take_write_props(alloc: Global, reader: &mut FieldReader) -> Result<Option<Call>, OutOfMemory>
@@ -288,20 +253,6 @@ fn take_finish(reader: &mut FieldReader) -> Option<Call>
     Some(Call::Finish { trans, commit })
 }
 
-fn take_outcome(reader: &mut FieldReader) -> Option<Call>
-    ensures { AreFieldsRead outcome reader.old reader.new result }
-{
-    let trans = reader.trans_id()?;
-    Some(Call::Outcome { trans })
-}
-
-fn take_collect(reader: &mut FieldReader) -> Option<Call>
-    ensures { AreFieldsRead collect reader.old reader.new result }
-{
-    let number = reader.u32()?;
-    Some(Call::Collect { number })
-}
-
 /// The call at the front of the bytes that are left, if one is spelled there.
 #[tactic(auto, unfolding(crate::specs::Calls::call))]
 pub(super) fn read_call(
@@ -314,25 +265,25 @@ pub(super) fn read_call(
         return Ok(None);
     };
     match tag {
-        1 => Ok(take_hello(reader)),
-        2 => Ok(take_begin(reader)),
-        3 => Ok(take_join(reader)),
+        1 => Ok(reader.name().map(|name| Call::Hello { name })),
+        2 => Ok(reader.stamp().map(|seen| Call::Begin { seen })),
+        3 => Ok(reader.trans_id().map(|trans| Call::Join { trans })),
         4 => take_create_file(alloc, reader),
         5 => Ok(take_open_file(reader)),
-        6 => Ok(take_close_file(reader)),
+        6 => Ok(take_open(reader).map(|(trans, open_no)| Call::CloseFile { trans, open_no })),
         7 => Ok(take_delete_file(reader)),
         8 => Ok(take_read_pages(reader)),
         9 => take_write_pages(alloc, reader),
         10 => Ok(take_lock_pages(reader)),
         11 => Ok(take_set_size(reader)),
-        12 => Ok(take_read_props(reader)),
+        12 => Ok(take_open(reader).map(|(trans, open_no)| Call::ReadProps { trans, open_no })),
         13 => take_write_props(alloc, reader),
         14 => Ok(take_read_owner(reader)),
         15 => take_make_owner(alloc, reader),
         16 => Ok(take_set_quota(reader)),
         17 => Ok(take_finish(reader)),
-        18 => Ok(take_outcome(reader)),
-        19 => Ok(take_collect(reader)),
+        18 => Ok(reader.trans_id().map(|trans| Call::Outcome { trans })),
+        19 => Ok(reader.u32().map(|number| Call::Collect { number })),
         _ => Ok(None),
     }
 }

@@ -1,7 +1,7 @@
 //! What refusals tell, read from frames: lists, limits, votes and causes.
 ghost use Rattle.alp_fields.specs.Forms.{IsRead};
 ghost use Rattle.alp_rpc.specs.Variants.{AreFieldsRead};
-ghost use Rattle.alp_rpc.specs.Reasons.{list_name, what, room_form, why, voted, lost, cause};
+ghost use Rattle.alp_rpc.specs.Reasons.{list_name, what, room_form, why, voted, cause};
 
 use alp_fields::FieldReader;
 use alp_files::{Cause, ListName, What, Why};
@@ -66,13 +66,6 @@ fn take_voted(reader: &mut FieldReader) -> Option<Cause>
     Some(Cause::Voted { server, why })
 }
 
-fn take_lost(reader: &mut FieldReader) -> Option<Cause>
-    ensures { AreFieldsRead lost reader.old reader.new result }
-{
-    let epoch = reader.u32()?;
-    Some(Cause::Lost { epoch })
-}
-
 #[tactic(auto, unfolding(crate::specs::Reasons::cause))]
 pub(super) fn read_cause(reader: &mut FieldReader) -> Option<Cause>
     ensures { IsRead cause reader.old reader.new result }
@@ -81,7 +74,7 @@ pub(super) fn read_cause(reader: &mut FieldReader) -> Option<Cause>
         1 => Some(Cause::Asked),
         2 => Some(Cause::TimedOut),
         3 => take_voted(reader),
-        4 => take_lost(reader),
+        4 => reader.u32().map(|epoch| Cause::Lost { epoch }),
         _ => None,
     }
 }

@@ -2,8 +2,8 @@
 ghost use Rattle.std.specs.Prelude.{IfOk};
 ghost use Rattle.alp_fields.specs.Forms.{IsRead};
 ghost use Rattle.alp_rpc.specs.Variants.{AreFieldsRead};
-ghost use Rattle.alp_rpc.specs.Endings.{committed_at, ended};
-ghost use Rattle.alp_rpc.specs.Replies.{owner_field, welcome, begun, created, opened, some_pages, some_props, an_owner, committed, has_ended, refused, reply};
+ghost use Rattle.alp_rpc.specs.Endings.{ended};
+ghost use Rattle.alp_rpc.specs.Replies.{owner_field, created, reply};
 
 use crate::read_refusal::read_refusal;
 use alp_base::OutOfMemory;
@@ -11,51 +11,12 @@ use alp_fields::FieldReader;
 use alp_files::{Ended, OwnerRecord, Reply, read_props};
 use std::alloc::Global;
 
-fn take_welcome(reader: &mut FieldReader) -> Option<Reply>
-    ensures { AreFieldsRead welcome reader.old reader.new result }
-{
-    let epoch = reader.u32()?;
-    Some(Reply::Welcome { epoch })
-}
-
-fn take_begun(reader: &mut FieldReader) -> Option<Reply>
-    ensures { AreFieldsRead begun reader.old reader.new result }
-{
-    let trans = reader.trans_id()?;
-    Some(Reply::Begun { trans })
-}
-
 fn take_created(reader: &mut FieldReader) -> Option<Reply>
     ensures { AreFieldsRead created reader.old reader.new result }
 {
     let file = reader.file_id()?;
     let open_no = reader.u32()?;
     Some(Reply::Created { file, open_no })
-}
-
-fn take_opened(reader: &mut FieldReader) -> Option<Reply>
-    ensures { AreFieldsRead opened reader.old reader.new result }
-{
-    let open_no = reader.u32()?;
-    Some(Reply::Opened { open_no })
-}
-
-fn take_pages(alloc: Global, reader: &mut FieldReader) -> Result<Option<Reply>, OutOfMemory>
-    ensures { IfOk result (AreFieldsRead some_pages reader.old reader.new) }
-{
-    let Some(pages) = reader.pages(alloc)? else {
-        return Ok(None);
-    };
-    Ok(Some(Reply::Pages(pages)))
-}
-
-fn take_props(alloc: Global, reader: &mut FieldReader) -> Result<Option<Reply>, OutOfMemory>
-    ensures { IfOk result (AreFieldsRead some_props reader.old reader.new) }
-{
-    let Some(props) = read_props(alloc, reader)? else {
-        return Ok(None);
-    };
-    Ok(Some(Reply::Props(props)))
 }
 
 #[tactic(auto, unfolding(crate::specs::Replies::owner_field))]
@@ -82,54 +43,17 @@ fn read_owner(alloc: Global, reader: &mut FieldReader) -> Result<Option<OwnerRec
     }))
 }
 
-fn take_owner(alloc: Global, reader: &mut FieldReader) -> Result<Option<Reply>, OutOfMemory>
-    ensures { IfOk result (AreFieldsRead an_owner reader.old reader.new) }
-{
-    let Some(owner) = read_owner(alloc, reader)? else {
-        return Ok(None);
-    };
-    Ok(Some(Reply::Owner(owner)))
-}
-
-fn take_committed(reader: &mut FieldReader) -> Option<Reply>
-    ensures { AreFieldsRead committed reader.old reader.new result }
-{
-    let stamp = reader.stamp()?;
-    Some(Reply::Committed { stamp })
-}
-
-fn take_committed_at(reader: &mut FieldReader) -> Option<Ended>
-    ensures { AreFieldsRead committed_at reader.old reader.new result }
-{
-    let stamp = reader.stamp()?;
-    Some(Ended::Committed { stamp })
-}
-
 #[tactic(auto, unfolding(crate::specs::Endings::ended))]
 fn read_ended(reader: &mut FieldReader) -> Option<Ended>
     ensures { IsRead ended reader.old reader.new result }
 {
     match reader.u8()? {
         0 => Some(Ended::Running),
-        1 => take_committed_at(reader),
+        1 => reader.stamp().map(|stamp| Ended::Committed { stamp }),
         2 => Some(Ended::Aborted),
         3 => Some(Ended::Unknown),
         _ => None,
     }
-}
-
-fn take_ended(reader: &mut FieldReader) -> Option<Reply>
-    ensures { AreFieldsRead has_ended reader.old reader.new result }
-{
-    let ended = read_ended(reader)?;
-    Some(Reply::Ended(ended))
-}
-
-fn take_refused(reader: &mut FieldReader) -> Option<Reply>
-    ensures { AreFieldsRead refused reader.old reader.new result }
-{
-    let refusal = read_refusal(reader)?;
-    Some(Reply::Refused(refusal))
 }
 
 /// The reply at the front of the bytes that are left, if one is spelled there.
@@ -144,18 +68,18 @@ pub(super) fn read_reply(
         return Ok(None);
     };
     match tag {
-        1 => Ok(take_welcome(reader)),
-        2 => Ok(take_begun(reader)),
+        1 => Ok(reader.u32().map(|epoch| Reply::Welcome { epoch })),
+        2 => Ok(reader.trans_id().map(|trans| Reply::Begun { trans })),
         3 => Ok(Some(Reply::Joined)),
         4 => Ok(take_created(reader)),
-        5 => Ok(take_opened(reader)),
+        5 => Ok(reader.u32().map(|open_no| Reply::Opened { open_no })),
         6 => Ok(Some(Reply::Plain)),
-        7 => take_pages(alloc, reader),
-        8 => take_props(alloc, reader),
-        9 => take_owner(alloc, reader),
-        10 => Ok(take_committed(reader)),
-        11 => Ok(take_ended(reader)),
-        12 => Ok(take_refused(reader)),
+        7 => Ok(reader.pages(alloc)?.map(Reply::Pages)),
+        8 => Ok(read_props(alloc, reader)?.map(Reply::Props)),
+        9 => Ok(read_owner(alloc, reader)?.map(Reply::Owner)),
+        10 => Ok(reader.stamp().map(|stamp| Reply::Committed { stamp })),
+        11 => Ok(read_ended(reader).map(Reply::Ended)),
+        12 => Ok(read_refusal(reader).map(Reply::Refused)),
         _ => Ok(None),
     }
 }
