@@ -1,4 +1,6 @@
 //! Calls written to frames: a function for each.
+#![tactic(auto, unfolding(crate::specs::Calls::call, alp_fields::specs::Forms::u8))]
+
 ghost use Rattle.std.specs.Prelude.{◌≡◌, ◌≤◌, ◌^◌, true, length, OnOk};
 ghost use Rattle.alp_fields.specs.Forms.{IsWritten};
 ghost use Rattle.alp_files.specs.declared.call.Call.TheVariants.{Hello, Begin, Join, CreateFile, OpenFile, CloseFile, DeleteFile, ReadPages, WritePages, LockPages, SetSize, ReadProps, WriteProps, ReadOwner, MakeOwner, SetQuota, Finish, Outcome, Collect};
@@ -40,7 +42,6 @@ fn put_filled_run(out: &mut Vec<u8>, run: Run, pages: &PageList) -> Result<(), O
     put_pages(out, pages)
 }
 
-#[tactic(auto, unfolding(crate::specs::Calls::call, alp_fields::specs::Forms::u8))]
 fn put_hello(out: &mut Vec<u8>, name: &Name) -> Result<(), OutOfMemory>
     ensures { OnOk result (IsWritten call (Hello name.now) out.old.items out.new.items) }
 {
@@ -48,7 +49,6 @@ fn put_hello(out: &mut Vec<u8>, name: &Name) -> Result<(), OutOfMemory>
     put_name(out, name)
 }
 
-#[tactic(auto, unfolding(crate::specs::Calls::call, alp_fields::specs::Forms::u8))]
 fn put_begin(out: &mut Vec<u8>, seen: Stamp) -> Result<(), OutOfMemory>
     requires { seen.ts ≤ 2 ^ 62 }
     ensures { OnOk result (IsWritten call (Begin seen) out.old.items out.new.items) }
@@ -57,7 +57,6 @@ fn put_begin(out: &mut Vec<u8>, seen: Stamp) -> Result<(), OutOfMemory>
     put_stamp(out, seen)
 }
 
-#[tactic(auto, unfolding(crate::specs::Calls::call, alp_fields::specs::Forms::u8))]
 fn put_join(out: &mut Vec<u8>, trans: TransId) -> Result<(), OutOfMemory>
     ensures { OnOk result (IsWritten call (Join trans) out.old.items out.new.items) }
 {
@@ -65,7 +64,6 @@ fn put_join(out: &mut Vec<u8>, trans: TransId) -> Result<(), OutOfMemory>
     put_trans_id(out, trans)
 }
 
-#[tactic(auto, unfolding(crate::specs::Calls::call, alp_fields::specs::Forms::u8))]
 fn put_create_file(
     out: &mut Vec<u8>,
     trans: TransId,
@@ -80,7 +78,6 @@ fn put_create_file(
     put_choice(out, choice)
 }
 
-#[tactic(auto, unfolding(crate::specs::Calls::call, alp_fields::specs::Forms::u8))]
 fn put_open_file(
     out: &mut Vec<u8>,
     trans: TransId,
@@ -99,7 +96,6 @@ fn put_open_file(
     put_choice(out, choice)
 }
 
-#[tactic(auto, unfolding(crate::specs::Calls::call, alp_fields::specs::Forms::u8))]
 fn put_close_file(out: &mut Vec<u8>, trans: TransId, open_no: u32) -> Result<(), OutOfMemory>
     ensures { OnOk result (IsWritten call (CloseFile trans open_no) out.old.items out.new.items) }
 {
@@ -107,7 +103,6 @@ fn put_close_file(out: &mut Vec<u8>, trans: TransId, open_no: u32) -> Result<(),
     put_open(out, trans, open_no)
 }
 
-#[tactic(auto, unfolding(crate::specs::Calls::call, alp_fields::specs::Forms::u8))]
 fn put_delete_file(
     out: &mut Vec<u8>,
     trans: TransId,
@@ -121,7 +116,6 @@ fn put_delete_file(
     put_choice(out, choice)
 }
 
-#[tactic(auto, unfolding(crate::specs::Calls::call, alp_fields::specs::Forms::u8))]
 fn put_read_pages(
     out: &mut Vec<u8>,
     trans: TransId,
@@ -141,7 +135,6 @@ fn put_read_pages(
     put_choice(out, choice)
 }
 
-#[tactic(auto, unfolding(crate::specs::Calls::call, alp_fields::specs::Forms::u8))]
 fn put_write_pages(
     out: &mut Vec<u8>,
     trans: TransId,
@@ -160,7 +153,6 @@ fn put_write_pages(
     put_choice(out, choice)
 }
 
-#[tactic(auto, unfolding(crate::specs::Calls::call, alp_fields::specs::Forms::u8))]
 fn put_lock_pages(
     out: &mut Vec<u8>,
     trans: TransId,
@@ -180,7 +172,6 @@ fn put_lock_pages(
     put_choice(out, choice)
 }
 
-#[tactic(auto, unfolding(crate::specs::Calls::call, alp_fields::specs::Forms::u8))]
 fn put_set_size(
     out: &mut Vec<u8>,
     trans: TransId,
@@ -196,7 +187,6 @@ fn put_set_size(
     put_choice(out, choice)
 }
 
-#[tactic(auto, unfolding(crate::specs::Calls::call, alp_fields::specs::Forms::u8))]
 fn put_read_props(out: &mut Vec<u8>, trans: TransId, open_no: u32) -> Result<(), OutOfMemory>
     ensures { OnOk result (IsWritten call (ReadProps trans open_no) out.old.items out.new.items) }
 {
@@ -204,7 +194,6 @@ fn put_read_props(out: &mut Vec<u8>, trans: TransId, open_no: u32) -> Result<(),
     put_open(out, trans, open_no)
 }
 
-#[tactic(auto, unfolding(crate::specs::Calls::call, alp_fields::specs::Forms::u8))]
 fn put_write_props(
     out: &mut Vec<u8>,
     trans: TransId,
@@ -220,7 +209,6 @@ fn put_write_props(
     put_choice(out, choice)
 }
 
-#[tactic(auto, unfolding(crate::specs::Calls::call, alp_fields::specs::Forms::u8))]
 fn put_read_owner(
     out: &mut Vec<u8>,
     trans: TransId,
@@ -235,7 +223,6 @@ fn put_read_owner(
     put_choice(out, choice)
 }
 
-#[tactic(auto, unfolding(crate::specs::Calls::call, alp_fields::specs::Forms::u8))]
 fn put_make_owner(
     out: &mut Vec<u8>,
     trans: TransId,
@@ -254,7 +241,6 @@ fn put_make_owner(
     put_choice(out, choice)
 }
 
-#[tactic(auto, unfolding(crate::specs::Calls::call, alp_fields::specs::Forms::u8))]
 fn put_set_quota(
     out: &mut Vec<u8>,
     trans: TransId,
@@ -271,7 +257,6 @@ fn put_set_quota(
     put_choice(out, choice)
 }
 
-#[tactic(auto, unfolding(crate::specs::Calls::call, alp_fields::specs::Forms::u8))]
 fn put_finish(out: &mut Vec<u8>, trans: TransId, commit: bool) -> Result<(), OutOfMemory>
     ensures { OnOk result (IsWritten call (Finish trans commit) out.old.items out.new.items) }
 {
@@ -280,7 +265,6 @@ fn put_finish(out: &mut Vec<u8>, trans: TransId, commit: bool) -> Result<(), Out
     put_flag(out, commit)
 }
 
-#[tactic(auto, unfolding(crate::specs::Calls::call, alp_fields::specs::Forms::u8))]
 fn put_outcome(out: &mut Vec<u8>, trans: TransId) -> Result<(), OutOfMemory>
     ensures { OnOk result (IsWritten call (Outcome trans) out.old.items out.new.items) }
 {
@@ -288,7 +272,6 @@ fn put_outcome(out: &mut Vec<u8>, trans: TransId) -> Result<(), OutOfMemory>
     put_trans_id(out, trans)
 }
 
-#[tactic(auto, unfolding(crate::specs::Calls::call, alp_fields::specs::Forms::u8))]
 fn put_collect(out: &mut Vec<u8>, number: u32) -> Result<(), OutOfMemory>
     ensures { OnOk result (IsWritten call (Collect number) out.old.items out.new.items) }
 {

@@ -1,4 +1,6 @@
 //! Refusals written to frames.
+#![tactic(auto, unfolding(crate::specs::Refusals::refusal, alp_fields::specs::Forms::u8))]
+
 ghost use Rattle.std.specs.Prelude.{OnOk};
 ghost use Rattle.alp_fields.specs.Forms.{IsWritten};
 ghost use Rattle.alp_files.specs.declared.refusal.Refusal.TheVariants.{StaleSession, AccessDenied, NoSuchPage, QuotaExceeded, VolumeFull, LogFull, TooMany, LockConflict, Aborted};
@@ -9,7 +11,6 @@ use alp_base::{OutOfMemory, TransId};
 use alp_fields::{put_trans_id, put_u8, put_u32};
 use alp_files::{Cause, ListName, Refusal, What};
 
-#[tactic(auto, unfolding(crate::specs::Refusals::refusal, alp_fields::specs::Forms::u8))]
 fn put_stale_session(out: &mut Vec<u8>, epoch: u32) -> Result<(), OutOfMemory>
     ensures { OnOk result (IsWritten refusal (StaleSession epoch) out.old.items out.new.items) }
 {
@@ -17,7 +18,6 @@ fn put_stale_session(out: &mut Vec<u8>, epoch: u32) -> Result<(), OutOfMemory>
     put_u32(out, epoch)
 }
 
-#[tactic(auto, unfolding(crate::specs::Refusals::refusal, alp_fields::specs::Forms::u8))]
 fn put_access_denied(out: &mut Vec<u8>, list: ListName) -> Result<(), OutOfMemory>
     ensures { OnOk result (IsWritten refusal (AccessDenied list) out.old.items out.new.items) }
 {
@@ -25,7 +25,6 @@ fn put_access_denied(out: &mut Vec<u8>, list: ListName) -> Result<(), OutOfMemor
     put_list_name(out, list)
 }
 
-#[tactic(auto, unfolding(crate::specs::Refusals::refusal, alp_fields::specs::Forms::u8))]
 fn put_no_such_page(out: &mut Vec<u8>, size: u32) -> Result<(), OutOfMemory>
     ensures { OnOk result (IsWritten refusal (NoSuchPage size) out.old.items out.new.items) }
 {
@@ -33,7 +32,6 @@ fn put_no_such_page(out: &mut Vec<u8>, size: u32) -> Result<(), OutOfMemory>
     put_u32(out, size)
 }
 
-#[tactic(auto, unfolding(crate::specs::Refusals::refusal, alp_fields::specs::Forms::u8))]
 fn put_quota_exceeded(
     out: &mut Vec<u8>,
     charge: u32,
@@ -48,7 +46,6 @@ fn put_quota_exceeded(
     put_u32(out, quota)
 }
 
-#[tactic(auto, unfolding(crate::specs::Refusals::refusal, alp_fields::specs::Forms::u8))]
 fn put_volume_full(out: &mut Vec<u8>, left: u32, asked: u32) -> Result<(), OutOfMemory>
     ensures { OnOk result (IsWritten refusal (VolumeFull left asked) out.old.items out.new.items) }
 {
@@ -57,7 +54,6 @@ fn put_volume_full(out: &mut Vec<u8>, left: u32, asked: u32) -> Result<(), OutOf
     put_u32(out, asked)
 }
 
-#[tactic(auto, unfolding(crate::specs::Refusals::refusal, alp_fields::specs::Forms::u8))]
 fn put_log_full(out: &mut Vec<u8>, room: u32, asked: u32) -> Result<(), OutOfMemory>
     ensures { OnOk result (IsWritten refusal (LogFull room asked) out.old.items out.new.items) }
 {
@@ -66,7 +62,6 @@ fn put_log_full(out: &mut Vec<u8>, room: u32, asked: u32) -> Result<(), OutOfMem
     put_u32(out, asked)
 }
 
-#[tactic(auto, unfolding(crate::specs::Refusals::refusal, alp_fields::specs::Forms::u8))]
 fn put_too_many(out: &mut Vec<u8>, what: What, limit: u32) -> Result<(), OutOfMemory>
     ensures { OnOk result (IsWritten refusal (TooMany what limit) out.old.items out.new.items) }
 {
@@ -75,7 +70,6 @@ fn put_too_many(out: &mut Vec<u8>, what: What, limit: u32) -> Result<(), OutOfMe
     put_u32(out, limit)
 }
 
-#[tactic(auto, unfolding(crate::specs::Refusals::refusal, alp_fields::specs::Forms::u8))]
 fn put_lock_conflict(out: &mut Vec<u8>, holder: TransId) -> Result<(), OutOfMemory>
     ensures { OnOk result (IsWritten refusal (LockConflict holder) out.old.items out.new.items) }
 {
@@ -83,7 +77,6 @@ fn put_lock_conflict(out: &mut Vec<u8>, holder: TransId) -> Result<(), OutOfMemo
     put_trans_id(out, holder)
 }
 
-#[tactic(auto, unfolding(crate::specs::Refusals::refusal, alp_fields::specs::Forms::u8))]
 fn put_aborted(out: &mut Vec<u8>, cause: Cause) -> Result<(), OutOfMemory>
     ensures { OnOk result (IsWritten refusal (Aborted cause) out.old.items out.new.items) }
 {
@@ -92,7 +85,6 @@ fn put_aborted(out: &mut Vec<u8>, cause: Cause) -> Result<(), OutOfMemory>
 }
 
 /// Writes the refusal behind what stands there.
-#[tactic(auto, unfolding(crate::specs::Refusals::refusal, alp_fields::specs::Forms::u8))]
 pub(super) fn put_refusal(out: &mut Vec<u8>, given: Refusal) -> Result<(), OutOfMemory>
     ensures { OnOk result (IsWritten refusal given out.old.items out.new.items) }
 {

@@ -1,7 +1,9 @@
 //! Replies written to frames: a function for each.
+#![tactic(auto, unfolding(crate::specs::Replies::reply, alp_fields::specs::Forms::u8))]
+
 ghost use Rattle.std.specs.Prelude.{◌<◌, ◌≤◌, ◌^◌, length, OnOk};
 ghost use Rattle.alp_fields.specs.Forms.{IsWritten};
-ghost use Rattle.alp_files.specs.declared.reply.Reply.TheVariants.{Welcome, Begun, Joined, Created, Opened, Plain, Pages, Props, Owner, Committed, Ended, Refused};
+ghost use Rattle.alp_files.specs.declared.reply.Reply.TheVariants.{Welcome, Begun, Created, Opened, Pages, Props, Owner, Committed, Ended, Refused};
 ghost use Rattle.alp_rpc.specs.Endings.{ended};
 ghost use Rattle.alp_rpc.specs.Replies.{owner_field, reply, IsSendable, IsSendableEnding};
 
@@ -12,7 +14,6 @@ use alp_fields::{
 };
 use alp_files::{Ended as Ending, OwnerRecord, Props as FileProps, Refusal, Reply, put_props};
 
-#[tactic(auto, unfolding(crate::specs::Replies::reply, alp_fields::specs::Forms::u8))]
 fn put_welcome(out: &mut Vec<u8>, epoch: u32) -> Result<(), OutOfMemory>
     ensures { OnOk result (IsWritten reply (Welcome epoch) out.old.items out.new.items) }
 {
@@ -20,7 +21,6 @@ fn put_welcome(out: &mut Vec<u8>, epoch: u32) -> Result<(), OutOfMemory>
     put_u32(out, epoch)
 }
 
-#[tactic(auto, unfolding(crate::specs::Replies::reply, alp_fields::specs::Forms::u8))]
 fn put_begun(out: &mut Vec<u8>, trans: TransId) -> Result<(), OutOfMemory>
     ensures { OnOk result (IsWritten reply (Begun trans) out.old.items out.new.items) }
 {
@@ -28,14 +28,6 @@ fn put_begun(out: &mut Vec<u8>, trans: TransId) -> Result<(), OutOfMemory>
     put_trans_id(out, trans)
 }
 
-#[tactic(auto, unfolding(crate::specs::Replies::reply, alp_fields::specs::Forms::u8))]
-fn put_joined(out: &mut Vec<u8>) -> Result<(), OutOfMemory>
-    ensures { OnOk result (IsWritten reply Joined out.old.items out.new.items) }
-{
-    put_u8(out, 3)
-}
-
-#[tactic(auto, unfolding(crate::specs::Replies::reply, alp_fields::specs::Forms::u8))]
 fn put_created(out: &mut Vec<u8>, file: FileId, open_no: u32) -> Result<(), OutOfMemory>
     ensures { OnOk result (IsWritten reply (Created file open_no) out.old.items out.new.items) }
 {
@@ -44,7 +36,6 @@ fn put_created(out: &mut Vec<u8>, file: FileId, open_no: u32) -> Result<(), OutO
     put_u32(out, open_no)
 }
 
-#[tactic(auto, unfolding(crate::specs::Replies::reply, alp_fields::specs::Forms::u8))]
 fn put_opened(out: &mut Vec<u8>, open_no: u32) -> Result<(), OutOfMemory>
     ensures { OnOk result (IsWritten reply (Opened open_no) out.old.items out.new.items) }
 {
@@ -52,14 +43,6 @@ fn put_opened(out: &mut Vec<u8>, open_no: u32) -> Result<(), OutOfMemory>
     put_u32(out, open_no)
 }
 
-#[tactic(auto, unfolding(crate::specs::Replies::reply, alp_fields::specs::Forms::u8))]
-fn put_plain(out: &mut Vec<u8>) -> Result<(), OutOfMemory>
-    ensures { OnOk result (IsWritten reply Plain out.old.items out.new.items) }
-{
-    put_u8(out, 6)
-}
-
-#[tactic(auto, unfolding(crate::specs::Replies::reply, alp_fields::specs::Forms::u8))]
 fn put_some_pages(out: &mut Vec<u8>, pages: &PageList) -> Result<(), OutOfMemory>
     requires some { 1 ≤ length pages.now }
     requires few { length pages.now < 2 ^ 8 }
@@ -69,7 +52,6 @@ fn put_some_pages(out: &mut Vec<u8>, pages: &PageList) -> Result<(), OutOfMemory
     put_pages(out, pages)
 }
 
-#[tactic(auto, unfolding(crate::specs::Replies::reply, alp_fields::specs::Forms::u8))]
 fn put_some_props(out: &mut Vec<u8>, props: &FileProps) -> Result<(), OutOfMemory>
     ensures { OnOk result (IsWritten reply (Props props.now) out.old.items out.new.items) }
 {
@@ -87,7 +69,6 @@ fn put_owner_field(out: &mut Vec<u8>, owner: &OwnerRecord) -> Result<(), OutOfMe
     put_list(out, &owner.create)
 }
 
-#[tactic(auto, unfolding(crate::specs::Replies::reply, alp_fields::specs::Forms::u8))]
 fn put_owner(out: &mut Vec<u8>, owner: &OwnerRecord) -> Result<(), OutOfMemory>
     ensures { OnOk result (IsWritten reply (Owner owner.now) out.old.items out.new.items) }
 {
@@ -95,7 +76,6 @@ fn put_owner(out: &mut Vec<u8>, owner: &OwnerRecord) -> Result<(), OutOfMemory>
     put_owner_field(out, owner)
 }
 
-#[tactic(auto, unfolding(crate::specs::Replies::reply, alp_fields::specs::Forms::u8))]
 fn put_committed(out: &mut Vec<u8>, stamp: Stamp) -> Result<(), OutOfMemory>
     requires { stamp.ts ≤ 2 ^ 62 }
     ensures { OnOk result (IsWritten reply (Committed stamp) out.old.items out.new.items) }
@@ -120,7 +100,6 @@ fn put_ending(out: &mut Vec<u8>, how: Ending) -> Result<(), OutOfMemory>
     }
 }
 
-#[tactic(auto, unfolding(crate::specs::Replies::reply, alp_fields::specs::Forms::u8))]
 fn put_ended(out: &mut Vec<u8>, how: Ending) -> Result<(), OutOfMemory>
     requires { IsSendableEnding how }
     ensures { OnOk result (IsWritten reply (Ended how) out.old.items out.new.items) }
@@ -129,7 +108,6 @@ fn put_ended(out: &mut Vec<u8>, how: Ending) -> Result<(), OutOfMemory>
     put_ending(out, how)
 }
 
-#[tactic(auto, unfolding(crate::specs::Replies::reply, alp_fields::specs::Forms::u8))]
 fn put_refused(out: &mut Vec<u8>, refusal: Refusal) -> Result<(), OutOfMemory>
     ensures { OnOk result (IsWritten reply (Refused refusal) out.old.items out.new.items) }
 {
@@ -145,10 +123,10 @@ pub(super) fn put_reply(out: &mut Vec<u8>, given: &Reply) -> Result<(), OutOfMem
     match given {
         Reply::Welcome { epoch } => put_welcome(out, *epoch),
         Reply::Begun { trans } => put_begun(out, *trans),
-        Reply::Joined => put_joined(out),
+        Reply::Joined => put_u8(out, 3),
         Reply::Created { file, open_no } => put_created(out, *file, *open_no),
         Reply::Opened { open_no } => put_opened(out, *open_no),
-        Reply::Plain => put_plain(out),
+        Reply::Plain => put_u8(out, 6),
         Reply::Pages(pages) => put_some_pages(out, pages),
         Reply::Props(props) => put_some_props(out, props),
         Reply::Owner(owner) => put_owner(out, owner),
