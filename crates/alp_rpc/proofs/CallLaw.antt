@@ -7,7 +7,7 @@ use Rattle.alp_files.proofs.PropsFieldLaw.{props_law}
 use Rattle.alp_modes.specs.ModeField.{mode}
 use Rattle.alp_modes.proofs.ModeFieldLaw.{mode_law}
 use Rattle.alp_fields.specs.Forms.{Form, IsForm, read_choice, pair, u32}
-use Rattle.alp_fields.specs.Fields.{file_id, trans_id, stamp, run, choice, access, flag, name, list, pages}
+use Rattle.alp_fields.specs.Fields.{file_id, trans_id, run, choice, access, flag, name, list, pages}
 use Rattle.alp_fields.proofs.FormLaws.{pair_law, checked_law}
 use Rattle.alp_fields.proofs.FieldLaws.{u32_law, file_id_law, trans_id_law, stamp_law, run_law, choice_law, access_law, flag_law, name_law, list_law, pages_law}
 use Rattle.alp_rpc.specs.Variants.{Variant, by_tag}

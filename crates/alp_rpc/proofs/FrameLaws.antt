@@ -1,6 +1,6 @@
 -- The laws of frames.
 use Rattle.std.proofs.Common.{refl, arith}
-use Rattle.alp_fields.specs.Forms.{IsForm, pair, mapped, checked, u8, u32}
+use Rattle.alp_fields.specs.Forms.{IsForm, pair, checked, u8, u32}
 use Rattle.alp_fields.proofs.FormLaws.{pair_law, mapped_law, checked_law}
 use Rattle.alp_fields.proofs.FieldLaws.{u8_law, u32_law, marked_law}
 use Rattle.alp_rpc.specs.declared.frame.TheConstants.{REQUEST_MARK, REPLY_MARK}

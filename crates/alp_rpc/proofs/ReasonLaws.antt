@@ -8,7 +8,7 @@ use Rattle.alp_files.specs.declared.refusal.Why.{Why}
 use Rattle.alp_files.specs.declared.refusal.Why.TheVariants.{UnknownJoin, Waiting, LogFull, ReadFault, ClockEnd}
 use Rattle.alp_files.specs.declared.refusal.Cause.{Cause}
 use Rattle.alp_files.specs.declared.refusal.Cause.TheVariants.{Asked, TimedOut, Voted, Lost}
-use Rattle.alp_fields.specs.Forms.{IsForm, read_choice, pair, u8, u32}
+use Rattle.alp_fields.specs.Forms.{IsForm, read_choice, u8, u32}
 use Rattle.alp_fields.proofs.FormLaws.{pair_law}
 use Rattle.alp_fields.proofs.FieldLaws.{u8_law, u32_law}
 use Rattle.alp_rpc.specs.Variants.{Variant, bare, by_tag}

@@ -1,5 +1,5 @@
 -- What is spelled may be sent.
-use Rattle.std.proofs.Common.{◌≡◌, ℕ, ◌^◌, Option, Some, None, length}
+use Rattle.std.proofs.Common.{◌^◌, Option, Some, None, length}
 use Rattle.std.specs.Prelude.{IfOk, IfSome, Result, Ok, Err, nat_le}
 use Rattle.std.proofs.lemmas.Bool.{eqb-true, leb-true}
 use Rattle.alp_files.specs.declared.call.Call.{Call}

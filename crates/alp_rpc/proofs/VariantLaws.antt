@@ -1,5 +1,5 @@
 -- The laws of enums on the wire, from those of their variants' fields.
-use Rattle.std.proofs.Common.{◌≡◌, ℕ, ◌<◌, List, ◌∷◌, ◌++◌, Option, Some, refl, ap, subst, ◌∙◌}
+use Rattle.std.proofs.Common.{◌≡◌, ℕ, ◌<◌, List, ◌∷◌, ◌++◌, Option, Some, refl, subst, ◌∙◌}
 use Rattle.std.specs.List.{AllByRecursion}
 use Rattle.alp_fields.specs.Forms.{IsForm, Readers, read_tagged, read_choice}
 use Rattle.alp_fields.proofs.FormLaws.{Spells, some_is}

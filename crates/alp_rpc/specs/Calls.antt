@@ -1,9 +1,7 @@
 -- Calls on the wire: the tag of each, and its fields in order.
 use Rattle.std.specs.Prelude.{◌≡◌, ℕ, ◌≤◌, ◌^◌, Bool, true, false, ◌==◌, List, [], ◌∷◌, length}
 use Rattle.alp_base.specs.declared.ids.TransId.{TransId}
-use Rattle.alp_base.specs.declared.ids.FileId.{FileId}
 use Rattle.alp_base.specs.declared.ids.Run.{Run}
-use Rattle.alp_base.specs.declared.choices.Choice.{Choice}
 use Rattle.alp_modes.specs.declared.Mode.{Mode}
 use Rattle.alp_modes.specs.declared.Mode.TheVariants.{IntendRead, IntendWrite, Read, Update, ReadIntendWrite, Write}
 use Rattle.alp_modes.specs.ModeField.{mode}

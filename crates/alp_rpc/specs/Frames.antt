@@ -1,5 +1,5 @@
 -- Frames: a byte that says what it is, who speaks, the epoch, a number, and the call or the reply.
-use Rattle.std.specs.Prelude.{◌≡◌, ℕ, ◌≤◌, Bool, true, ◌&&◌, nat_le}
+use Rattle.std.specs.Prelude.{ℕ, ◌≤◌, Bool, ◌&&◌, nat_le}
 use Rattle.alp_fields.specs.Forms.{Form, pair, mapped, checked, marked, u8, u32}
 use Rattle.alp_files.specs.declared.call.Call.{Call}
 use Rattle.alp_files.specs.declared.reply.Reply.{Reply}

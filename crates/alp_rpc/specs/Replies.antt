@@ -1,5 +1,5 @@
 -- Replies on the wire: the tag of each, and its fields in order.
-use Rattle.std.specs.Prelude.{◌≡◌, ℕ, ◌<◌, ◌≤◌, ◌^◌, List, [], ◌∷◌, length}
+use Rattle.std.specs.Prelude.{ℕ, ◌<◌, ◌≤◌, ◌^◌, List, [], ◌∷◌, length}
 use Rattle.alp_files.specs.declared.cell.OwnerRecord.{OwnerRecord}
 use Rattle.alp_files.specs.declared.reply.Ended.{Ended as Ending}
 use Rattle.alp_files.specs.declared.reply.Ended.TheVariants.{Committed as CommittedAt}

@@ -21,11 +21,11 @@ fn is_run_mode(mode: Mode) -> bool
 fn take_run_mode(reader: &mut FieldReader) -> Option<Mode>
     ensures { IsRead run_mode reader.old reader.new result }
 {
-    let mode = read_mode(reader)?;
-    if !is_run_mode(mode) {
+    let asked = read_mode(reader)?;
+    if !is_run_mode(asked) {
         return None;
     }
-    Some(mode)
+    Some(asked)
 }
 
 #[tactic(auto, unfolding(crate::specs::Calls::filled_run))]
