@@ -13,13 +13,12 @@ use Rattle.alp_fields.specs.Fields.{stamp, run, some_count, pages}
 use Rattle.alp_fields.proofs.FormLaws.{and_parts}
 use Rattle.alp_rpc.specs.declared.frame.Request.{Request}
 use Rattle.alp_rpc.specs.declared.frame.ReplyFrame.{ReplyFrame}
-use Rattle.alp_rpc.specs.declared.frame.TheConstants.{CLIENTS}
 use Rattle.alp_rpc.specs.Calls.{run_mode, filled_run, call}
 use Rattle.alp_rpc.specs.Calls as calls
 use Rattle.alp_rpc.specs.Endings.{ended}
 use Rattle.alp_rpc.specs.Replies.{reply, IsSendableEnding}
 use Rattle.alp_rpc.specs.Replies as replies
-use Rattle.alp_rpc.specs.Frames.{Head, head, request, reply_frame, IsHead, IsSendable, IsSendableReply}
+use Rattle.alp_rpc.specs.Frames.{clients, Head, head, request, reply_frame, IsHead, IsSendable, IsSendableReply}
 
 call_is : (c : Call) → call.Fits c → calls.IsSendable c
 unfolding call run_mode filled_run stamp run some_count
@@ -44,8 +43,8 @@ reply_is other fits = tt
 head_is : (h : Head) → head.Fits h → IsHead h.0 h.1.1
 unfolding head
 head_is h fits =
-    let tests = and_parts (nat_le 1 h.0) (nat_le h.0 CLIENTS) fits.0.1 in
-    record { from_one = leb-true 1 h.0 tests.0; to_last = leb-true h.0 CLIENTS tests.1; counted = leb-true 1 h.1.1 fits.1.1.1 }
+    let tests = and_parts (nat_le 1 h.0) (nat_le h.0 clients) fits.0.1 in
+    record { from_one = leb-true 1 h.0 tests.0; to_last = leb-true h.0 clients tests.1; counted = leb-true 1 h.1.1 fits.1.1.1 }
 
 pub request_is : (r : Request) → request.Fits r → IsSendable r
 unfolding request

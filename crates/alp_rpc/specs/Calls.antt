@@ -15,7 +15,7 @@ use Rattle.alp_rpc.specs.Changes.{prop_change}
 
 -- ---- pages
 
--- pages are read, written and locked in a mode that is no intention
+-- pages are read and locked in a mode that is no intention
 abbrev pub is_run_mode : Mode → Bool
 is_run_mode IntendRead = false
 is_run_mode IntendWrite = false
@@ -38,7 +38,7 @@ filled_run = checked are_as_many (pair run pages)
 abbrev pub open_form : Form (TransId × ℕ)
 open_form = pair trans_id u32
 
--- ---- the calls
+-- ---- the calls: each with its tag and its fields, in order
 
 abbrev pub hello : Variant Call
 hello = row 1 name Hello
@@ -99,6 +99,7 @@ collect = row 19 u32 Collect
 
 -- ---- all of them
 
+-- the tag of a call and the spelling of its fields
 abbrev pub sent_call : Call → Sent
 sent_call (Hello who) = sent hello who
 sent_call (Begin seen) = sent begin seen
@@ -120,6 +121,7 @@ sent_call (Finish trans commit) = sent finish (trans, commit)
 sent_call (Outcome trans) = sent outcome trans
 sent_call (Collect number) = sent collect number
 
+-- who reads behind which tag
 abbrev pub call_readers : Readers Call
 call_readers =
     by_tag hello
@@ -143,6 +145,7 @@ call_readers =
     ∷ by_tag collect
     ∷ []
 
+-- a call: its tag, and its fields
 unfoldable pub call : Form Call
 call = enum_of sent_call call_readers
 

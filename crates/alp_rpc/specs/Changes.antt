@@ -6,6 +6,8 @@ use Rattle.alp_fields.specs.Forms.{Form, Readers, u16, u64}
 use Rattle.alp_fields.specs.Fields.{name, list}
 use Rattle.alp_rpc.specs.Variants.{Variant, row, Sent, sent, by_tag, enum_of}
 
+-- ---- each with its tag and its new value
+
 abbrev pub to_owner : Variant PropChange
 to_owner = row 1 name Owner
 
@@ -24,6 +26,8 @@ to_readers = row 5 list Read
 abbrev pub to_changers : Variant PropChange
 to_changers = row 6 list Modify
 
+-- ---- all of them
+
 abbrev pub sent_change : PropChange → Sent
 sent_change (Owner who) = sent to_owner who
 sent_change (Name given) = sent to_name given
@@ -35,5 +39,6 @@ sent_change (Modify names) = sent to_changers names
 abbrev pub change_readers : Readers PropChange
 change_readers = by_tag to_owner ∷ by_tag to_name ∷ by_tag to_type ∷ by_tag to_length ∷ by_tag to_readers ∷ by_tag to_changers ∷ []
 
+-- a change: its tag, and the new value
 unfoldable pub prop_change : Form PropChange
 prop_change = enum_of sent_change change_readers

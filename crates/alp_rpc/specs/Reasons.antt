@@ -54,6 +54,7 @@ what = enum_of sent_what what_readers
 
 -- ---- why a part voted so
 
+-- the room that there was, and what was asked
 abbrev pub room_form : Variant Why
 room_form = row 3 (pair u32 u32) (λ x. LogFull x.0 x.1)
 
@@ -72,9 +73,11 @@ why = enum_of sent_why why_readers
 
 -- ---- why a transaction was aborted
 
+-- the server that voted so, and why
 abbrev pub voted : Variant Cause
 voted = row 3 (pair u8 why) (λ x. Voted x.0 x.1)
 
+-- the epoch in which the part was lost
 abbrev pub lost : Variant Cause
 lost = row 4 u32 Lost
 

@@ -7,7 +7,7 @@ use Rattle.alp_fields.specs.Fields.{trans_id}
 use Rattle.alp_rpc.specs.Variants.{Variant, row, bare, Sent, sent, by_tag, enum_of}
 use Rattle.alp_rpc.specs.Reasons.{list_name, what, cause}
 
--- ---- those with fields
+-- ---- those with fields: each with its number and its fields, in order
 
 abbrev pub stale_session : Variant Refusal
 stale_session = row 2 u32 StaleSession
@@ -88,5 +88,6 @@ refusal_readers =
     ∷ by_tag (bare 22 JournalFull)
     ∷ []
 
+-- a refusal: its number, and its fields
 unfoldable pub refusal : Form Refusal
 refusal = enum_of sent_refusal refusal_readers

@@ -14,6 +14,7 @@ use Rattle.alp_rpc.specs.Refusals.{refusal}
 
 -- ---- owners
 
+-- the fields of an owner's record, and the record of the fields
 abbrev pub OwnerParts : Type 0
 OwnerParts = List ℕ × (ℕ × (ℕ × List (List ℕ)))
 
@@ -27,7 +28,7 @@ owner_parts o = (o.name, (o.quota, (o.charge, o.create)))
 unfoldable pub owner_field : Form OwnerRecord
 owner_field = mapped owner_of owner_parts (pair name (pair u32 (pair u32 list)))
 
--- ---- the replies
+-- ---- the replies: each with its tag and its fields, in order
 
 abbrev pub welcome : Variant Reply
 welcome = row 1 u32 Welcome
@@ -91,6 +92,7 @@ reply_readers =
     ∷ by_tag refused
     ∷ []
 
+-- a reply: its tag, and its fields
 unfoldable pub reply : Form Reply
 reply = enum_of sent_reply reply_readers
 
