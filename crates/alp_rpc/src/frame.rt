@@ -1,0 +1,33 @@
+//! Frames of requests and replies.
+use alp_files::{Call, Reply};
+
+/// The first byte of a request.
+pub const REQUEST_MARK: u8 = 0x51;
+
+/// The first byte of a reply.
+pub const REPLY_MARK: u8 = 0x50;
+
+/// The greatest number of a client.
+pub const CLIENTS: u8 = 16;
+
+/// A call, with what the server needs to tell it from others.
+#[derive(Clone, Drop, PartialEq, Eq)]
+pub struct Request {
+    /// From 1 to 16.
+    pub client: u8,
+    /// That of the session.
+    pub epoch: u32,
+    /// From 1 on, one more for each call of the client.
+    pub number: u32,
+    pub call: Call,
+}
+
+/// The reply to the request of that client and number.
+#[derive(Clone, Drop, PartialEq, Eq)]
+pub struct ReplyFrame {
+    pub client: u8,
+    /// That of the server.
+    pub epoch: u32,
+    pub number: u32,
+    pub reply: Reply,
+}
