@@ -1,20 +1,13 @@
 -- a tree of cells is a finite map
-use Rattle.std.proofs.Math.Dec.{T}
-use Rattle.std.specs.Prelude.{Option, None, Some, cond, Bool, true, false, ◌&&◌, map as list_map}
+use Rattle.std.specs.Prelude.{Option, None, Some, cond, Bool, true, false, map as list_map}
 use Rattle.std.specs.Option.{option_or}
-use Rattle.std.specs.List.{AllByRecursion}
 use Rattle.std.specs.List.Sorted.{IsStrictlySortedBy}
-use Rattle.std.specs.declared.cmp.Ordering.{Ordering}
-use Rattle.std.specs.declared.cmp.Ordering.TheVariants.{Less}
 use Rattle.std.specs.FinMap as map
-use Rattle.std.specs.FinMap.{FinMap, get-from_entries, get-from_sorted, entries-from_sorted, get-insert, same_map, find}
-use Rattle.std.specs.Ordering.{eq_by_cmp, is_lt}
-use Rattle.std.specs.FinMap.Entries.{below_all}
-use Rattle.std.specs.Cmp.{eq_by_cmp_equiv}
+use Rattle.std.specs.FinMap.{FinMap, get-insert}
 use Rattle.std.specs.Map.{lookup}
 use Rattle.std.specs.BTreeMap.{is_at}
-use Rattle.std.proofs.Common.{◌≡◌, List, [], ◌∷◌, ◌++◌, ◌<◌, length, refl, sym, ◌∙◌, ap, subst, arith}
-use Rattle.alp_files.proofs.TreeLemmas.{get_at, put_at}
+use Rattle.std.proofs.Common.{◌≡◌, List, [], ◌∷◌, ◌++◌, ◌<◌, length, refl, sym, ◌∙◌, ap, arith}
+use Rattle.alp_files.proofs.TreeLemmas.{get_at, put_at, entries_back as entries_again, tree_sorted}
 use Rattle.alp_base.specs.declared.key.Key.{Key}
 use Rattle.alp_base.specs.Keys.{key_cmp}
 use Rattle.alp_base.specs.KeyLaws.{keys_total, exact_keys}
@@ -30,31 +23,14 @@ get_cell es q = get_at keys_total exact_keys es q
 pub one_put : {X : Type 0} (es fs : List (Key × X)) (k : Key) (x : X) → ((q : Key) → cell_at fs q ≡ cond (is_at (key_cmp k) q) (Some x) (cell_at es q)) → map.from_entries {R = key_cmp} fs ≡ map.insert (map.from_entries es) k x
 one_put es fs k x h = put_at keys_total exact_keys es fs k x h
 
--- the entries of the map of sorted entries are those
-pub entries_back : {X : Type 0} (es : List (Key × X)) → T (map.is_sorted key_cmp es) → map.entries (map.from_entries {R = key_cmp} es) ≡ es
-entries_back es h =
-    ap map.entries (same_map keys_total exact_keys (map.from_entries es) (map.from_sorted es) (λ q. get-from_entries keys_total es q ∙ sym (get-from_sorted key_cmp es q h)))
-    ∙ entries-from_sorted key_cmp es h
-
--- ---- a tree's entries rise
-
-both : (a b : Bool) → T a → T b → T (a && b)
-both true b p q = q
-both false b p q = p
-
-less_all : {X : Type 0} (k : Key) (es : List (Key × X)) → AllByRecursion (λ y. key_cmp k y ≡ Less) (list_map (λ (e : Key × X). e.0) es) → T (below_all key_cmp k es)
-less_all k [] h = tt
-less_all k (e ∷ es) h = both _ _ (subst (λ (o : Ordering). T (is_lt o)) (sym h.0) tt) (less_all k es h.1)
-
-pub tree_sorted : {X : Type 0} (es : List (Key × X)) → IsStrictlySortedBy key_cmp (list_map (λ (e : Key × X). e.0) es) → T (map.is_sorted key_cmp es)
-unfolding IsStrictlySortedBy
-tree_sorted [] h = tt
-tree_sorted (e ∷ es) h = both _ _ (less_all e.0 es h.0) (tree_sorted es h.1)
+-- the entries of the map of a tree's entries are those
+pub entries_back : {X : Type 0} (es : List (Key × X)) → IsStrictlySortedBy key_cmp (list_map (λ (e : Key × X). e.0) es) → map.entries (map.from_entries {R = key_cmp} es) ≡ es
+entries_back es h = entries_again keys_total exact_keys es (tree_sorted keys_total exact_keys es h)
 
 -- the values of the map of a tree's entries
 pub values_back : {X : Type 0} (es : List (Key × X)) → IsStrictlySortedBy key_cmp (list_map (λ (e : Key × X). e.0) es)
     → map.values (map.from_entries {R = key_cmp} es) ≡ list_map (λ (e : Key × X). e.1) es
-values_back {X = X} es h = ap (list_map (λ (e : Key × X). e.1)) (entries_back es (tree_sorted es h))
+values_back {X = X} es h = ap (list_map (λ (e : Key × X). e.1)) (entries_back es h)
 
 -- ---- puts laid over what is seen, the last one first
 

@@ -1,10 +1,7 @@
 -- where nobody stands in the way, what is left agrees with what the others hold
 use Rattle.std.proofs.Common.{◌≡◌, Bool, true, false, ◌&&◌, not, cond, List, [], ◌∷◌, Option, Some, None, is_some, filter, option_map, refl, sym, ap, subst, ◌∙◌}
-use Rattle.std.specs.Bool.{IsTrue}
 use Rattle.std.specs.List.{find, AllByRecursion}
 use Rattle.std.specs.Option.{unwrap_or, option_or, option_eq}
-use Rattle.std.specs.declared.cmp.Ordering.{Ordering}
-use Rattle.std.specs.declared.cmp.Ordering.TheVariants.{Less, Equal, Greater}
 use Rattle.std.specs.Ordering.{eq_by_cmp, is_eq}
 use Rattle.std.specs.Cmp.{alike_right, eq_by_cmp_equiv}
 use Rattle.std.specs.FinMap as map
@@ -13,21 +10,17 @@ use Rattle.alp_base.specs.declared.ids.TransId.{TransId}
 use Rattle.alp_base.specs.declared.key.Resource.{Resource}
 use Rattle.alp_modes.specs.declared.Mode.{Mode}
 use Rattle.alp_modes.specs.contracts.ModePartialEq.TheImpl as mode_eq
-use Rattle.alp_modes.specs.Orders.{trans_cmp, resource_cmp, transactions_total, exact_transactions, resources_total, exact_resources}
+use Rattle.alp_modes.specs.Orders.{trans_cmp, resource_cmp, transactions_total, exact_resources}
 use Rattle.alp_modes.specs.Holdings.{agree_held, DoAgree}
 use Rattle.alp_modes.proofs.ModeLemmas.{exact-modes}
 use Rattle.alp_modes.proofs.HoldingLemmas.{agree-turned}
 use Rattle.alp_queue.specs.Rises.{Held, is_raised}
 use Rattle.alp_locks.specs.Tables.{Parts, held_of, holding, IsAgreeing}
 use Rattle.alp_locks.specs.Asks.{disagrees, holder_on, blocker}
+use Rattle.alp_locks.proofs.PartLemmas.{tied}
 
 pub some-none : {X : Type 0} (x : X) → Some x ≡ None → ⊥
 some-none x e = let wrong : true ≡ false = ap is_some e in cc
-
-pub tied : (o : Ordering) → is_eq o ≡ true → o ≡ Equal
-tied Less e = cc
-tied Equal e = refl
-tied Greater e = cc
 
 -- ---- nobody on one resource
 
@@ -144,7 +137,7 @@ pub held-same : (parts : Parts) (t : TransId) (h : Held) (u : TransId) → eq_by
 held-same parts t h u is =
     ap (λ (o : Option Held). unwrap_or o map.empty) (get-insert transactions_total parts t h u) ∙ ap (λ b. unwrap_or (cond b (Some h) (map.get parts u)) map.empty) is
 
-turned : (t u : TransId) (b : Bool) → eq_by_cmp trans_cmp t u ≡ b → eq_by_cmp trans_cmp u t ≡ b
+pub turned : (t u : TransId) (b : Bool) → eq_by_cmp trans_cmp t u ≡ b → eq_by_cmp trans_cmp u t ≡ b
 turned t u b e = (eq_by_cmp_equiv transactions_total).symm u t ∙ e
 
 -- with a part granted the table stays agreeing

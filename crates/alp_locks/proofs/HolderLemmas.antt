@@ -1,7 +1,7 @@
 -- who is named is the first in the way, and the least there
 use Rattle.std.proofs.Math.Dec.{T}
-use Rattle.std.proofs.Common.{◌≡◌, Bool, true, false, ◌&&◌, not, cond, List, [], ◌∷◌, ◌++◌, Option, Some, None, is_some, option_map, refl, sym, ap, subst, ◌∙◌}
-use Rattle.std.specs.List.{find, AllByRecursion}
+use Rattle.std.proofs.Common.{◌≡◌, Bool, true, false, ◌&&◌, not, cond, List, [], ◌∷◌, Option, Some, None, option_map, refl, sym, ap, subst, ◌∙◌}
+use Rattle.std.specs.List.{find}
 use Rattle.std.specs.Option.{unwrap_or, option_or}
 use Rattle.std.specs.declared.cmp.Ordering.{Ordering}
 use Rattle.std.specs.declared.cmp.Ordering.TheVariants.{Less, Equal, Greater}
@@ -16,10 +16,11 @@ use Rattle.alp_modes.specs.declared.Mode.{Mode}
 use Rattle.alp_modes.specs.Orders.{trans_cmp, transactions_total, exact_transactions}
 use Rattle.alp_modes.specs.Holdings.{agree_held}
 use Rattle.alp_queue.specs.Rises.{Held}
-use Rattle.alp_locks.specs.Tables.{Parts, holding}
+use Rattle.alp_locks.specs.Tables.{Parts}
 use Rattle.alp_locks.specs.Asks.{disagrees, holder_on, blocker}
 use Rattle.alp_locks.specs.Laws.{IsInWay, IsClear, IsFirstInWay, NamesFirst, NamesAny}
-use Rattle.alp_locks.proofs.FreeLemmas.{some-none, or-none, some-same, nothing-agrees, tied, agrees-on, clear-each}
+use Rattle.alp_locks.proofs.PartLemmas.{tied}
+use Rattle.alp_locks.proofs.FreeLemmas.{some-none, or-none, some-same, nothing-agrees, agrees-on}
 
 first-true : (a b : Bool) → T (a && b) → T a
 first-true true b h = tt

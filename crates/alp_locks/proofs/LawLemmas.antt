@@ -1,5 +1,5 @@
 -- a grant is of all that was asked
-use Rattle.std.proofs.Common.{◌≡◌, Bool, true, false, ◌&&◌, not, cond, List, [], ◌∷◌, Option, Some, None, is_some, refl, sym, ap, subst, ◌∙◌}
+use Rattle.std.proofs.Common.{◌≡◌, Bool, true, false, ◌&&◌, cond, List, [], ◌∷◌, Option, Some, None, is_some, refl, sym, ap, subst, ◌∙◌}
 use Rattle.std.specs.List.{AllByRecursion}
 use Rattle.std.specs.Option.{unwrap_or}
 use Rattle.std.specs.Ordering.{eq_by_cmp}
@@ -15,10 +15,11 @@ use Rattle.alp_modes.specs.Holdings.{join_held, held_by}
 use Rattle.alp_modes.proofs.HoldingLemmas.{join_held-assoc, none-right}
 use Rattle.alp_queue.specs.Rises.{Held, is_raised}
 use Rattle.alp_queue.specs.declared.waiter.Waiter.{Waiter}
-use Rattle.alp_locks.specs.Tables.{Parts, Table, held_of, holding}
+use Rattle.alp_locks.specs.Tables.{Parts, held_of, holding}
 use Rattle.alp_locks.specs.Asks.{raised, joined, risen, waiter_of, in_way_of, answer, answered, with_granted}
 use Rattle.alp_locks.specs.Laws.{gives_all, IsAllOrNone, IsAllOfWaiter}
-use Rattle.alp_locks.proofs.FreeLemmas.{tied, at-risen, option-same, held-same, held-other}
+use Rattle.alp_locks.proofs.PartLemmas.{tied}
+use Rattle.alp_locks.proofs.FreeLemmas.{at-risen, option-same, held-same, held-other}
 use Rattle.alp_locks.proofs.SoundLemmas.{again}
 
 raised-joined : (o : Option Mode) (m : Mode) → Some (raised o m) ≡ join_held o (Some m)

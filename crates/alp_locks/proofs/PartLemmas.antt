@@ -1,5 +1,5 @@
 -- what the table knows of those who wait, and what a part holds
-use Rattle.std.proofs.Common.{◌≡◌, ℕ, zero, suc, ◌+◌, ◌<◌, ◌≤◌, Bool, true, false, ◌&&◌, not, cond, List, [], ◌∷◌, ◌++◌, Option, Some, None, is_some, option_copied, length, take, drop, remove, filter, slice_get, refl, sym, ap, ◌∙◌, arith}
+use Rattle.std.proofs.Common.{◌≡◌, ℕ, zero, suc, ◌<◌, ◌≤◌, Bool, true, false, ◌&&◌, not, cond, List, [], ◌∷◌, Option, Some, None, is_some, option_copied, length, remove, slice_get, refl, sym, ap, ◌∙◌, arith}
 use Rattle.std.specs.Borrow.{Bor}
 use Rattle.std.specs.List.{list_all}
 use Rattle.std.specs.Option.{unwrap_or}
@@ -92,7 +92,7 @@ known-removed parts t (w ∷ ws) k = go (is_of t w) refl (known-removed parts t 
 
 -- ---- what a part holds
 
-tied : (o : Ordering) → is_eq o ≡ true → o ≡ Equal
+pub tied : (o : Ordering) → is_eq o ≡ true → o ≡ Equal
 tied Less e = cc
 tied Equal e = refl
 tied Greater e = cc

@@ -1,9 +1,8 @@
 -- the calls keep a table sound
-use Rattle.std.proofs.Common.{◌≡◌, Bool, true, false, ◌&&◌, ◌||◌, not, cond, List, [], ◌∷◌, ◌++◌, Option, Some, None, is_none, is_some, filter, refl, sym, ap, subst, ◌∙◌}
-use Rattle.std.specs.List.{AllByRecursion, list_any}
+use Rattle.std.proofs.Common.{◌≡◌, Bool, true, false, ◌&&◌, ◌||◌, not, cond, List, [], ◌∷◌, ◌++◌, Option, Some, None, is_none, filter, refl, sym, ap, subst, ◌∙◌}
+use Rattle.std.specs.List.{AllByRecursion}
 use Rattle.std.specs.Option.{unwrap_or}
 use Rattle.std.specs.Ordering.{eq_by_cmp}
-use Rattle.std.specs.Cmp.{eq_by_cmp_equiv}
 use Rattle.std.specs.FinMap as map
 use Rattle.std.specs.FinMap.{get-empty, get-remove, get_tied}
 use Rattle.std.proofs.lemmas.List.{append-nil, append_assoc}
@@ -13,7 +12,7 @@ use Rattle.alp_base.specs.declared.choices.Choice.{Choice}
 use Rattle.alp_base.specs.declared.choices.Choice.TheVariants.{Fail, Wait}
 use Rattle.alp_modes.specs.declared.Mode.{Mode}
 use Rattle.alp_modes.specs.Orders.{trans_cmp, resource_cmp, transactions_total}
-use Rattle.alp_modes.specs.Holdings.{agree_held, DoAgree}
+use Rattle.alp_modes.specs.Holdings.{agree_held}
 use Rattle.alp_modes.proofs.HoldingLemmas.{agree-turned}
 use Rattle.alp_queue.specs.Rises.{Held, is_raised}
 use Rattle.alp_queue.specs.Order.{placed, waits, without, is_of}
@@ -23,7 +22,8 @@ use Rattle.alp_locks.specs.Tables.{Parts, Table, held_of, holding, IsAgreeing}
 use Rattle.alp_locks.specs.Asks.{blocker, risen, joined, waiter_of, in_way_of, with_granted, with_waiter, refused, answered, asked}
 use Rattle.alp_locks.specs.Releases.{is_free, with_woken, with_kept, walked, released}
 use Rattle.alp_locks.specs.Sound.{IsPrepared, AreApart, IsSound}
-use Rattle.alp_locks.proofs.FreeLemmas.{granted-agrees, insert-agreeing, held-other, held-same, tied}
+use Rattle.alp_locks.proofs.FreeLemmas.{granted-agrees, insert-agreeing, held-other, held-same, turned}
+use Rattle.alp_locks.proofs.PartLemmas.{tied}
 
 -- ---- facts of each of a list
 
@@ -68,9 +68,6 @@ passing p (x ∷ xs) = go (p x) refl (passing p xs)
 
 abbrev IsOther : TransId → Waiter → Type 0
 IsOther t w = is_of t w ≡ false
-
-turned : (t u : TransId) (b : Bool) → eq_by_cmp trans_cmp t u ≡ b → eq_by_cmp trans_cmp u t ≡ b
-turned t u b e = (eq_by_cmp_equiv transactions_total).symm u t ∙ e
 
 left-false : (a b : Bool) → (a || b) ≡ false → a ≡ false
 left-false true b e = cc

@@ -21,7 +21,8 @@ fn raise(held: Option<Mode>, asked: Mode) -> Mode
     }
 }
 
-fn copy_of(alloc: Global, parts: &Parts, trans: &TransId) -> Result<Locks, OutOfMemory>
+/// What the transaction holds, a second time.
+pub fn copy_of(alloc: Global, parts: &Parts, trans: &TransId) -> Result<Locks, OutOfMemory>
     ensures { IfOk result (λ l. l ≡ held_of parts.now trans.now) }
 {
     match parts.get(trans) {
@@ -30,8 +31,8 @@ fn copy_of(alloc: Global, parts: &Parts, trans: &TransId) -> Result<Locks, OutOf
     }
 }
 
-// What is held once all is granted.
-fn with_needs(held: Locks, needs: &[(Resource, Mode)]) -> Result<Locks, OutOfMemory>
+/// What is held once all is granted.
+pub fn with_needs(held: Locks, needs: &[(Resource, Mode)]) -> Result<Locks, OutOfMemory>
     ensures { IfOk result (λ l. l ≡ joined held needs.now) }
 {
     let mut left = held;
@@ -42,8 +43,8 @@ fn with_needs(held: Locks, needs: &[(Resource, Mode)]) -> Result<Locks, OutOfMem
     Ok(left)
 }
 
-// The resources whose modes would not be those that the transaction has.
-fn rises_of(
+/// The resources whose modes would not be those that the transaction has.
+pub fn rises_of(
     alloc: Global,
     parts: &Parts,
     trans: &TransId,

@@ -7,7 +7,7 @@ ghost use Rattle.alp_locks.specs.Asks.{risen, grant_of, asked, with_granted, wit
 ghost use Rattle.alp_locks.specs.Releases.{released};
 ghost use Rattle.alp_locks.specs.Sound.{IsSound};
 
-use crate::asking::{blocker, waiter_for};
+use crate::asking::{blocker, copy_of, rises_of, waiter_for, with_needs};
 use crate::parts::Parts;
 use crate::walk::walk;
 use crate::{Grant, Request};
@@ -72,11 +72,12 @@ impl LockTable {
 
     /// The needs on which the transaction's mode would rise: each resource once, files before leaves
     /// and in the order of keys, with the mode that a grant would leave.
-    pub fn rising(&self, trans: TransId, needs: Needs) -> Result<Needs, OutOfMemory>
-        ensures { IfOk result (λ n. n ≡ risen (held_of self.now.held trans) needs) }
+    pub fn rising(&self, trans: TransId, needs: &Needs) -> Result<Needs, OutOfMemory>
+        ensures { IfOk result (λ n. n ≡ risen (held_of self.now.held trans) needs.now) }
     {
-        let waiter = waiter_for(self.alloc, &self.parts, trans, needs)?;
-        Ok(waiter.rises)
+        let held = copy_of(self.alloc, &self.parts, &trans)?;
+        let after = with_needs(held, needs.as_slice())?;
+        rises_of(self.alloc, &self.parts, &trans, &after)
     }
 
     /// Asks for all the needs of a transaction that does not wait.

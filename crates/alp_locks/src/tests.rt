@@ -60,6 +60,17 @@ fn pages(alloc: Global, count: u32, mode: Mode) -> Result<Vec<(Resource, Mode)>,
     Ok(list)
 }
 
+// On how many of the needs the transaction's mode would rise.
+fn rising_count(
+    table: &LockTable,
+    by: u32,
+    needs: Vec<(Resource, Mode)>,
+) -> Result<usize, OutOfMemory> {
+    let needs = Needs::new(needs);
+    let rises = table.rising(trans(by), &needs)?;
+    Ok(rises.as_slice().len())
+}
+
 #[test]
 fn conversions_come_before_arrivals(rt: HostRuntime) -> Result<(), Fail> {
     let alloc = rt.alloc();
@@ -110,9 +121,12 @@ fn a_thousand_resources_in_one_request(rt: HostRuntime) -> Result<(), Fail> {
     assert!(rt; ask(alloc, &mut table, 1, &read, Choice::Fail) == Ok(Some(Grant::Granted)));
     assert!(rt; ask(alloc, &mut table, 3, &write, Choice::Fail) == Ok(Some(conflict)));
     assert!(rt; table.mode_of(trans(3), &last) == None);
+    assert!(rt; rising_count(&table, 1, write).ok() == Some(1024));
     table.release_all(trans(1));
     table.release_all(trans(2));
+    let write = pages(alloc, 1024, Mode::Write).ok().ok_or("memory")?;
     assert!(rt; ask(alloc, &mut table, 3, &write, Choice::Fail) == Ok(Some(Grant::Granted)));
     assert!(rt; table.mode_of(trans(3), &last) == Some(Mode::Write));
+    assert!(rt; rising_count(&table, 3, write).ok() == Some(0));
     Ok(())
 }

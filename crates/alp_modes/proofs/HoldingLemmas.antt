@@ -1,18 +1,16 @@
 -- agreement of locks is agreement on leaves
-use Rattle.std.proofs.Common.{◌≡◌, ℕ, Bool, true, false, ◌&&◌, not, cond, List, [], ◌∷◌, ◌++◌, Option, None, Some, refl, sym, ap, subst, ◌∙◌}
+use Rattle.std.proofs.Common.{◌≡◌, Bool, true, false, cond, List, [], ◌∷◌, ◌++◌, Option, None, Some, refl, sym, ap, ◌∙◌}
 use Rattle.std.specs.Bool.{IsTrue}
 use Rattle.std.specs.Option.{option_and_then}
 use Rattle.std.specs.Ordering.{eq_by_cmp}
-use Rattle.alp_base.specs.declared.ids.FileId.{FileId}
-use Rattle.alp_base.specs.declared.key.Key.{Key}
 use Rattle.alp_base.specs.declared.key.Key.TheVariants.{Leader, PageOf, OwnerOf}
 use Rattle.alp_base.specs.declared.key.Resource.{Resource}
 use Rattle.alp_base.specs.declared.key.Resource.TheVariants.{Whole, Leaf}
 use Rattle.alp_modes.specs.declared.Mode.{Mode}
 use Rattle.alp_modes.specs.Orders.{resource_cmp}
-use Rattle.alp_modes.specs.Modes.{agree, covers_of, join_of, leaf_of}
-use Rattle.alp_modes.specs.Holdings.{Holding, join_held, agree_held, covers_held, held_by, file_of, given_to, mode_on, intention_of, IsIntended, DoAgree, DoAgreeOnLeaves, IsAgreementOfLeaves}
-use Rattle.alp_modes.proofs.ModeLemmas.{agreement-symmetric, agreement-joint, kept-below, implied, implied-is, at-both, at-all, and-true, join-assoc}
+use Rattle.alp_modes.specs.Modes.{agree, covers_of, leaf_of}
+use Rattle.alp_modes.specs.Holdings.{join_held, agree_held, covers_held, held_by, intention_of, IsAgreementOfLeaves}
+use Rattle.alp_modes.proofs.ModeLemmas.{agreement-symmetric, agreement-joint, implied, implied-is, at-both, at-all, and-true, join-assoc}
 
 -- what two files' locks that agree give agrees
 gives-agreement : (a b : Mode) → IsTrue (agree a b) → IsTrue (agree_held (leaf_of a) (leaf_of b))

@@ -1,5 +1,5 @@
 -- the order in which waiters are tried
-use Rattle.std.specs.Prelude.{ℕ, Bool, ◌&&◌, not, cond, List, [], ◌∷◌}
+use Rattle.std.specs.Prelude.{◌≡◌, ℕ, Bool, ◌&&◌, not, cond, List, [], ◌∷◌, ◌++◌}
 use Rattle.std.specs.List.{list_any, filter, position_or_len}
 use Rattle.std.specs.Ordering.{eq_by_cmp}
 use Rattle.alp_base.specs.declared.ids.TransId.{TransId}
@@ -25,3 +25,12 @@ waits ws t = list_any (is_of t) ws
 -- the waiters that are not that transaction's
 abbrev pub without : List Waiter → TransId → List Waiter
 without ws t = filter (λ w. not (is_of t w)) ws
+
+-- the waiters, with more who came in that order
+abbrev pub in_line : List Waiter → List Waiter → List Waiter
+in_line ws [] = ws
+in_line ws (x ∷ xs) = in_line (placed ws x) xs
+
+-- who came are tried conversions first, and those of each kind as they came
+abbrev pub IsByArrival : Type 0
+IsByArrival = (arrived : List Waiter) → in_line [] arrived ≡ filter (λ w. w.converts) arrived ++ filter (λ w. not w.converts) arrived

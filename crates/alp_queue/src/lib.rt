@@ -12,5 +12,5 @@ mod waiter;
 
 pub use locks::Locks;
 pub use needs::Needs;
-pub use queue::Queue;
+pub use queue::{Queue, conversions_come_first};
 pub use waiter::Waiter;

@@ -1,7 +1,7 @@
 //! Waiters in the order in which they are tried.
 ghost use Rattle.std.specs.Prelude.{◌≡◌, ◌<◌, [], length, position, not, ◌&&◌, OnOk, OnErr, slice_get, Some};
 ghost use Rattle.std.specs.List.{remove as removed};
-ghost use Rattle.alp_queue.specs.Order.{placed, place_in, waits, without};
+ghost use Rattle.alp_queue.specs.Order.{placed, place_in, waits, without, IsByArrival};
 
 use crate::Waiter;
 use alp_base::{OutOfMemory, TransId};
@@ -94,3 +94,9 @@ fn place_of(waiters: &[Waiter], converts: bool) -> usize
 {
     first_behind(waiters, converts).unwrap_or(waiters.len())
 }
+
+/// Waiters that come one after another are tried conversions first, and those of each kind in the
+/// order in which they came.
+pub fn conversions_come_first()
+    ensures { IsByArrival }
+{}

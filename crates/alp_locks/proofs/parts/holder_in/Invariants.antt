@@ -1,4 +1,4 @@
-use Rattle.std.proofs.Common.{◌≡◌, option_map}
+use Rattle.std.proofs.Common.{◌≡◌}
 use Rattle.std.specs.List.{find}
 use Rattle.alp_locks.specs.Asks.{disagrees}
 use Rattle.alp_locks.proofs.parts.holder_in.Given as goal

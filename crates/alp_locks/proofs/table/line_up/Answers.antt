@@ -1,7 +1,6 @@
-use Rattle.std.proofs.Common.{◌≡◌, is_some, true, false, ap, sym, ◌∙◌}
+use Rattle.std.proofs.Common.{is_some, ap, sym, ◌∙◌}
 use Rattle.std.specs.FinMap as map
-use Rattle.alp_queue.specs.Order.{placed}
-use Rattle.alp_locks.specs.Tables.{Parts, held_of}
+use Rattle.alp_locks.specs.Tables.{Parts}
 use Rattle.alp_locks.proofs.ResultLemmas.{on-ok}
 use Rattle.alp_locks.proofs.PartLemmas.{insert-held, remove-insert, some-copied}
 use Rattle.alp_locks.proofs.table.line_up.Goals as goal

@@ -1,4 +1,4 @@
-use Rattle.std.proofs.Common.{◌≡◌, ap, sym, ◌∙◌, length, not, ◌&&◌}
+use Rattle.std.proofs.Common.{ap, ◌∙◌, length, not, ◌&&◌}
 use Rattle.std.specs.Option.{unwrap_or}
 use Rattle.alp_queue.specs.declared.waiter.Waiter.{Waiter}
 use Rattle.alp_queue.proofs.OrderLemmas.{at-or-end}

@@ -1,6 +1,5 @@
-use Rattle.std.proofs.Common.{◌≡◌, ap, sym, ◌∙◌, option_map, List}
+use Rattle.std.proofs.Common.{ap, sym, ◌∙◌, option_map, List}
 use Rattle.std.specs.List.{find}
-use Rattle.std.specs.FinMap as map
 use Rattle.alp_base.specs.declared.ids.TransId.{TransId}
 use Rattle.alp_modes.specs.Orders.{transactions_total, exact_transactions}
 use Rattle.alp_modes.proofs.TreeLemmas.{entries_back, tree_sorted}

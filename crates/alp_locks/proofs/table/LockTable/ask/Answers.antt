@@ -1,6 +1,4 @@
-use Rattle.std.proofs.Common.{◌≡◌, List, None, OnOk, ap, sym, subst, ◌∙◌}
-use Rattle.alp_base.specs.declared.key.Resource.{Resource}
-use Rattle.alp_modes.specs.declared.Mode.{Mode}
+use Rattle.std.proofs.Common.{ap, sym, subst, ◌∙◌}
 use Rattle.alp_locks.specs.Tables.{Table}
 use Rattle.alp_locks.specs.Asks.{blocker}
 use Rattle.alp_locks.specs.Sound.{IsSound}

@@ -1,4 +1,4 @@
-use Rattle.std.proofs.Common.{◌≡◌, true, ap, ◌∙◌}
+use Rattle.std.proofs.Common.{ap, ◌∙◌}
 use Rattle.alp_locks.specs.Tables.{Parts, are_known}
 use Rattle.alp_locks.proofs.PartLemmas.{known-insert}
 use Rattle.alp_locks.proofs.table.LockTable.grant.Goals as goal

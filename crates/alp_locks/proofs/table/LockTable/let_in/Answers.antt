@@ -1,7 +1,6 @@
-use Rattle.std.proofs.Common.{◌≡◌, ◌≤◌, ◌+◌, ℕ, suc, true, is_some, length, List, vec_len, vec_capacity, ap, sym, ◌∙◌, subst, arith}
+use Rattle.std.proofs.Common.{◌≡◌, ◌≤◌, ◌+◌, suc, is_some, length, vec_len, vec_capacity, ap, ◌∙◌, arith}
 use Rattle.std.specs.FinMap as map
 use Rattle.alp_queue.specs.declared.waiter.Waiter.{Waiter}
-use Rattle.alp_queue.specs.Order.{placed}
 use Rattle.alp_locks.specs.Tables.{Parts, held_of, are_known}
 use Rattle.alp_locks.proofs.ResultLemmas.{either, both}
 use Rattle.alp_locks.proofs.PartLemmas.{known-insert, insert-knows, all-placed, length-placed}

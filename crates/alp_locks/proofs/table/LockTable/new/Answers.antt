@@ -1,5 +1,4 @@
-use Rattle.std.proofs.Common.{◌≡◌, sym, subst}
-use Rattle.alp_locks.specs.Tables.{Table}
+use Rattle.std.proofs.Common.{sym, subst}
 use Rattle.alp_locks.specs.Sound.{IsSound}
 use Rattle.alp_locks.proofs.SoundLemmas.{new-sound}
 use Rattle.alp_locks.proofs.table.LockTable.new.Goals as goal

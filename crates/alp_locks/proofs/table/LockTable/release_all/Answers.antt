@@ -1,6 +1,5 @@
-use Rattle.std.proofs.Common.{◌≡◌, ◌≤◌, ◌+◌, length, List, vec_capacity, ap, sym, subst, ◌∙◌, arith}
+use Rattle.std.proofs.Common.{◌≡◌, ◌≤◌, ◌+◌, length, vec_capacity, ap, sym, subst, ◌∙◌, arith}
 use Rattle.std.specs.FinMap as map
-use Rattle.alp_queue.specs.declared.waiter.Waiter.{Waiter}
 use Rattle.alp_queue.specs.Order.{without}
 use Rattle.alp_locks.specs.Tables.{Parts, Table, are_known}
 use Rattle.alp_locks.specs.Sound.{IsSound}

@@ -1,4 +1,4 @@
-use Rattle.std.proofs.Common.{◌≡◌, ◌≤◌, ap, sym, subst, ◌∙◌, List, insert, length}
+use Rattle.std.proofs.Common.{◌≤◌, ap, sym, subst, ◌∙◌, List, insert, length}
 use Rattle.alp_queue.specs.declared.waiter.Waiter.{Waiter}
 use Rattle.alp_queue.specs.Order.{placed, place_in}
 use Rattle.alp_queue.proofs.OrderLemmas.{placed-insert, place-within}

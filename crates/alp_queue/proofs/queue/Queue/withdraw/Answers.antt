@@ -1,4 +1,4 @@
-use Rattle.std.proofs.Common.{◌≡◌, ap, ◌∙◌, List, rules}
+use Rattle.std.proofs.Common.{ap, ◌∙◌, List, rules}
 use Rattle.std.proofs.lemmas.Fn.{filter_same}
 use Rattle.alp_queue.specs.declared.waiter.Waiter.{Waiter}
 use Rattle.alp_queue.specs.Order.{without}
