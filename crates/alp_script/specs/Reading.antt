@@ -1,5 +1,5 @@
 -- a script that is read from a source
-use Rattle.std.specs.Prelude.{◌≡◌, ℕ, List, ◌++◌, ◌⊎◌, Option, Result, Ok, Err, Vec}
+use Rattle.std.specs.Prelude.{◌≡◌, ℕ, List, ◌++◌, ◌⊎◌, Option, Some, Result, Ok, Err, Vec}
 use Rattle.std.specs.Global.{Global}
 use Rattle.std.specs.Io.KnownBytes.{Consumes, IsAtEnd}
 use Rattle.alp_base.specs.Causes.{Rose}
@@ -29,6 +29,13 @@ pub record GaveBadLine (old new : Option (List ℕ)) (n : ℕ) : Type 0 where
   pub consumed : Consumes old new bytes
   pub outside : script bytes ≡ Err n
   pub final : ((rest : List ℕ) → script (bytes ++ rest) ≡ Err n) ⊎ IsAtEnd new
+
+-- what the source has left is a script
+pub record SaysScript (has : Option (List ℕ)) : Type 0 where
+  pub bytes : List ℕ
+  pub lines : List NumberedLine
+  pub left : has ≡ Some bytes
+  pub said : script bytes ≡ Ok lines
 
 -- what was read of a source that had old and has new, with its counts of faults before and now
 abbrev pub ReadsScript : Option (List ℕ) → Option (List ℕ) → ℕ → ℕ → Result (Vec NumberedLine Global) ScriptFault → Type 0

@@ -57,6 +57,12 @@ abbrev pub OnWriteFault : Status → (RunLog → Type 0) → Type 0
 OnWriteFault (status.WriteFault log) P = P log.value
 OnWriteFault _ P = Unit {0}
 
+-- the report is written, or there was no memory
+abbrev pub IsPlayedOrMemory : Status → Type 0
+IsPlayedOrMemory (status.Done log) = Unit {0}
+IsPlayedOrMemory status.OutOfMemory = Unit {0}
+IsPlayedOrMemory _ = ⊥
+
 -- where no report was begun
 abbrev pub OnUnwritten : Status → Type 0 → Type 0
 OnUnwritten (status.Done log) P = Unit {0}

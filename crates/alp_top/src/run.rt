@@ -1,11 +1,11 @@
 //! A whole run, from the words of the program to the bytes of the report.
-ghost use Rattle.std.specs.Prelude.{◌≡◌, ℕ, not, take, map, string_bytes, IfOk, OnErr};
+ghost use Rattle.std.specs.Prelude.{◌≡◌, ℕ, true, not, take, map, string_bytes, IfOk, OnErr};
 ghost use Rattle.std.specs.Io.KnownBytes.{Appends};
 ghost use Rattle.alp_base.specs.Causes.{Rose};
 ghost use Rattle.alp_report.specs.Reports.{report_of};
-ghost use Rattle.alp_script.specs.Reading.{GaveBadLine};
+ghost use Rattle.alp_script.specs.Reading.{GaveBadLine, SaysScript};
 ghost use Rattle.alp_script.specs.Accepted.{IsAccepted};
-ghost use Rattle.alp_top.specs.Statuses.{are_play, is_bad_words, OnPlayed, OnDone, OnBadWords, OnBadScript, OnReadFault, OnWriteFault, OnUnwritten};
+ghost use Rattle.alp_top.specs.Statuses.{are_play, is_bad_words, OnPlayed, OnDone, OnBadWords, OnBadScript, OnReadFault, OnWriteFault, OnUnwritten, IsPlayedOrMemory};
 ghost use Rattle.alp_top.specs.Headline.{IsPlayed, IsRun};
 
 use crate::Status;
@@ -68,6 +68,8 @@ pub fn run_alpine<S: Source, K: Sink>(
     ensures read_fault { OnReadFault result (Rose (S.faults script.old) (S.faults script.new)) }
     ensures write_fault { OnWriteFault result (λ log. Rose (K.faults out.old) (K.faults out.new)) }
     ensures front { OnWriteFault result (λ log. (count : ℕ) × Appends (K.written out.old) (K.written out.new) (take count (report_of log))) }
+    // A script of the language is played to its end, where the streams do not fail.
+    ensures complete { are_play (map string_bytes words.now) ≡ true → SaysScript (S.left script.old) → (Rose (S.faults script.old) (S.faults script.new) → ⊥) → (Rose (K.faults out.old) (K.faults out.new) → ⊥) → IsPlayedOrMemory result }
     // Nothing is written but the report.
     ensures unwritten { OnUnwritten result (out.new ≡ out.old) }
 {

@@ -147,7 +147,7 @@ fn plays_refusals(rt: HostRuntime) -> Result<(), Fail> {
 fn tells_each_failing_read(rt: HostRuntime) -> Result<(), Fail> {
     let alloc = rt.alloc();
     let mut text = Vec::from_slice(alloc, REFUSALS)?;
-    for _line in 0..200u8 {
+    for _line in 0..250u8 {
         text.extend_from_slice(b"# forty bytes of a line that is skipped\n")?;
     }
     for each in 1..6u64 {
@@ -170,26 +170,31 @@ fn tells_each_failing_read(rt: HostRuntime) -> Result<(), Fail> {
 }
 
 #[test]
-fn leaves_a_front_of_the_report(rt: HostRuntime) -> Result<(), Fail> {
+fn tells_each_failing_write(rt: HostRuntime) -> Result<(), Fail> {
     let alloc = rt.alloc();
-    let failing = Failing {
-        reads: 0,
-        writes: 1,
-        room: 4096,
-    };
-    let told = run(alloc, &["play"], b"servers 1", &failing)?;
-    assert_eq!(rt; told.code, 4);
-    assert_eq!(rt; told.said.as_str(), "alpine: write fault");
-    assert_eq!(rt; told.written.len(), 0);
-    for room in 0..REFUSED.len() {
+    for each in 1..4u64 {
         let failing = Failing {
             reads: 0,
-            writes: 0,
-            room: room as u32,
+            writes: each,
+            room: 4096,
         };
-        let told = run(alloc, &["play"], REFUSALS, &failing)?;
-        assert_eq!(rt; told.code, 4);
-        assert_eq!(rt; told.written.as_slice(), &REFUSED[..room]);
+        let told = run(alloc, &["play"], b"servers 1", &failing)?;
+        let (code, said, written) = if each == 1 {
+            (4, "alpine: write fault", b"".as_slice())
+        } else {
+            (0, "", IDLE)
+        };
+        assert_eq!(rt; told.code, code);
+        assert_eq!(rt; told.said.as_str(), said);
+        assert_eq!(rt; told.written.as_slice(), written);
     }
+    let narrow = Failing {
+        reads: 0,
+        writes: 0,
+        room: 100,
+    };
+    let told = run(alloc, &["play"], REFUSALS, &narrow)?;
+    assert_eq!(rt; told.code, 4);
+    assert_eq!(rt; told.written.len(), 0);
     Ok(())
 }

@@ -1,5 +1,5 @@
 use Rattle.std.proofs.Common.{◌≡◌, replicate}
 use Rattle.alp_top.proofs.client.copies.Given as goal
 
-abbrev pub invariant-loop-i : goal.invariant-loop-i
-invariant-loop-i l = l.pages.items ≡ replicate l.i l.page
+abbrev pub invariant-loop-copy : goal.invariant-loop-copy
+invariant-loop-copy l = l.pages.items ≡ replicate l._copy l.page
