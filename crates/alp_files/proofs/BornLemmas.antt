@@ -1,5 +1,5 @@
 -- a call gives no id but the next one
-use Rattle.std.specs.Prelude.{cond, Bool, true, false, not, ◌&&◌, ◌||◌, ◌==◌, nat_lt, Option, None, Some, is_some}
+use Rattle.std.specs.Prelude.{cond, Bool, true, false, not, nat_lt, Option, None, Some, is_some}
 use Rattle.std.specs.Ordering.{eq_by_cmp}
 use Rattle.std.proofs.lemmas.Map.Views.{tells_apart}
 use Rattle.std.proofs.Common.{◌≡◌, ℕ, zero, suc, ◌+◌, ◌<◌, ◌≤◌, List, [], ◌∷◌, ◌++◌, refl, sym, ◌∙◌, ap, subst, arith}
@@ -7,7 +7,6 @@ use Rattle.alp_base.specs.declared.ids.FileId.{FileId}
 use Rattle.alp_base.specs.declared.ids.Run.{Run}
 use Rattle.alp_base.specs.declared.key.Key.{Key}
 use Rattle.alp_base.specs.declared.key.Key.TheVariants.{Leader, PageOf, OwnerOf}
-use Rattle.alp_base.specs.declared.choices.Access.{Access}
 use Rattle.alp_base.specs.declared.choices.Access.TheVariants.{ReadOnly, Change}
 use Rattle.alp_base.specs.Keys.{key_cmp}
 use Rattle.alp_base.specs.KeyLaws.{exact_keys}

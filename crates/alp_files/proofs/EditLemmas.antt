@@ -1,5 +1,5 @@
 -- lemmas on edits of what is seen
-use Rattle.std.specs.Prelude.{Option, None, Some, cond, Bool, true, false}
+use Rattle.std.specs.Prelude.{Option, Some, cond, Bool, true, false}
 use Rattle.std.specs.Option.{option_or}
 use Rattle.std.specs.FinMap as map
 use Rattle.std.specs.FinMap.{get-insert}

@@ -1,24 +1,18 @@
 -- a history that goes on by one call, and by one transaction
-use Rattle.std.specs.Prelude.{cond, Bool, true, false, not, ◌&&◌, ◌||◌, ◌==◌, Option, None, Some, is_some}
-use Rattle.std.specs.Option.{option_to_list}
-use Rattle.std.specs.List.{list_any}
+use Rattle.std.specs.Prelude.{cond, Bool, true, false, not, ◌&&◌, ◌||◌, ◌==◌, Option, None}
 use Rattle.std.specs.FinMap as map
 use Rattle.std.specs.FinMap.{get-insert, get-retain_keys, same_map}
-use Rattle.std.specs.Ordering.{eq_by_cmp}
-use Rattle.std.proofs.Common.{◌≡◌, ℕ, ◌+◌, ◌<◌, ◌≤◌, List, [], ◌∷◌, ◌++◌, refl, sym, ◌∙◌, ap, subst, eq-eqb, arith}
+use Rattle.std.proofs.Common.{◌≡◌, ℕ, ◌+◌, ◌≤◌, List, [], ◌∷◌, ◌++◌, refl, sym, ◌∙◌, ap, arith}
 use Rattle.std.proofs.Math.Bool.{and-false}
 use Rattle.std.proofs.lemmas.Bool.{ne_eqb}
 use Rattle.alp_base.specs.declared.ids.FileId.{FileId}
 use Rattle.alp_base.specs.declared.key.Key.{Key}
-use Rattle.alp_base.specs.declared.key.Key.TheVariants.{Leader, PageOf, OwnerOf}
-use Rattle.alp_base.specs.Keys.{key_cmp}
 use Rattle.alp_base.specs.KeyLaws.{keys_total, exact_keys}
 use Rattle.alp_files.specs.declared.cell.Cell.{Cell}
-use Rattle.alp_files.specs.Cells.{Cells, View, same_file, has_file}
+use Rattle.alp_files.specs.Cells.{Cells, View, has_file}
 use Rattle.alp_files.specs.Edits.{Edit, Drop, Cut, Put, is_in_file, is_past, edit_at, edits_at, after, edit_map, edits_map}
 use Rattle.alp_files.specs.Born.{AreBelow}
-use Rattle.alp_files.specs.Act.{Own, Answer, answer, no_opens}
-use Rattle.alp_files.specs.History.{Done, Standing, Decided, answer_to, IsRight, step, AreRight, steps, begun, IsSerial, serial_end}
+use Rattle.alp_files.specs.History.{Done, Standing, Decided, IsRight, step, AreRight, steps, begun, IsSerial, serial_end}
 
 -- one call more
 pub AreRight-push : (server : ℕ) (s : Standing) (who : List ℕ) (ds : List Done) (d : Done) → AreRight server s who ds → IsRight server (steps server s who ds) who d → AreRight server s who (ds ++ d ∷ [])

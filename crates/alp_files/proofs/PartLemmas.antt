@@ -1,5 +1,5 @@
 -- what a part owes where it performs a call
-use Rattle.std.specs.Prelude.{cond, Bool, true, false, not, ◌&&◌, ◌==◌, Option, None, Some, is_some, unwrap_or, nat_lt}
+use Rattle.std.specs.Prelude.{cond, Bool, true, false, not, ◌&&◌, Option, None, Some, is_some, unwrap_or, nat_lt}
 use Rattle.std.specs.Option.{option_copied}
 use Rattle.std.specs.Borrow.{Bor}
 use Rattle.std.specs.FinMap as map
@@ -7,7 +7,7 @@ use Rattle.std.proofs.Common.{◌≡◌, ℕ, zero, suc, ◌+◌, List, [], ◌�
 use Rattle.alp_base.specs.declared.ids.FileId.{FileId}
 use Rattle.alp_base.specs.declared.ids.Run.{Run}
 use Rattle.alp_base.specs.declared.key.Key.TheVariants.{Leader, PageOf, OwnerOf}
-use Rattle.alp_base.specs.declared.choices.Access.TheVariants.{ReadOnly, Change}
+use Rattle.alp_base.specs.declared.choices.Access.TheVariants.{Change}
 use Rattle.alp_base.specs.declared.choices.Access.{Access}
 use Rattle.alp_files.specs.declared.cell.Cell.TheVariants as cell
 use Rattle.alp_files.specs.declared.cell.Props.{Props}
@@ -20,8 +20,8 @@ use Rattle.alp_files.specs.declared.refusal.ListName.TheVariants as lists
 use Rattle.alp_files.specs.declared.open.Open.{Open}
 use Rattle.alp_files.specs.declared.part.Part.{Part}
 use Rattle.alp_files.specs.Cells.{Cells, View, has_file, props_in, owner_in, page_in, no_owner}
-use Rattle.alp_files.specs.Edits.{Edit, Put, after}
-use Rattle.alp_files.specs.Act.{Own, Answer, Look, Ask, run, unless, refused, told, no_answer, admits, is_admin, is_over, over, open_at, on_open, on_change, on_props, if_change, is_new, created_file, create_file, read_pages, write_pages, make_owner, ask_pages, page_puts, mark_put, charge_put, opened, page_past}
+use Rattle.alp_files.specs.Edits.{Edit, Put}
+use Rattle.alp_files.specs.Act.{Own, Answer, Look, Ask, run, unless, refused, told, no_answer, admits, is_admin, is_over, over, open_at, on_open, on_change, on_props, if_change, is_new, created_file, create_file, read_pages, write_pages, make_owner, ask_pages, page_puts, mark_put, charge_put, opened}
 use Rattle.alp_files.specs.Parts.{seen, own_of, Performs, ChangesBy, Gives, Answers, pages_at}
 
 pub unless-false : (own : Own) (t : Bool) (r : Refusal) (ts : List (Bool × Refusal)) (a : Answer) → t ≡ false → unless own ((t, r) ∷ ts) a ≡ unless own ts a

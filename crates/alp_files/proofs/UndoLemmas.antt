@@ -12,13 +12,13 @@ use Rattle.std.specs.BTreeMap.{is_at}
 use Rattle.std.specs.Ordering.{eq_by_cmp, is_eq}
 use Rattle.std.specs.Cmp.{eq_by_cmp_equiv}
 use Rattle.alp_files.proofs.HistoryLemmas.{get-edits_map}
-use Rattle.std.proofs.Common.{◌≡◌, List, [], ◌∷◌, ◌++◌, refl, sym, ◌∙◌, ap, subst}
+use Rattle.std.proofs.Common.{◌≡◌, List, [], ◌∷◌, ◌++◌, refl, sym, ◌∙◌, ap}
 use Rattle.alp_base.specs.declared.key.Key.{Key}
 use Rattle.alp_base.specs.Keys.{key_cmp}
 use Rattle.alp_base.specs.KeyLaws.{keys_total, exact_keys}
 use Rattle.alp_files.specs.declared.cell.Cell.{Cell}
-use Rattle.alp_files.specs.Cells.{Cells, View}
-use Rattle.alp_files.specs.Edits.{Edit, Put, after, over, edits_map, edits_at, edit_at}
+use Rattle.alp_files.specs.Cells.{Cells}
+use Rattle.alp_files.specs.Edits.{Edit, Put, over, edits_map, edits_at}
 use Rattle.alp_files.specs.Undo.{puts_of, LedBy}
 use Rattle.alp_files.specs.Parts.{ChangesBy}
 use Rattle.alp_files.proofs.CellMapLemmas.{cell_at, get_cell}

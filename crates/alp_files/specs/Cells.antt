@@ -1,12 +1,11 @@
 -- The files of one server: cells at keys.
-use Rattle.std.specs.Prelude.{◌≡◌, ℕ, Bool, true, false, nat_eq, ◌==◌, ◌&&◌, ◌||◌, List, [], ◌∷◌, Option, None, Some, replicate}
+use Rattle.std.specs.Prelude.{ℕ, Bool, nat_eq, ◌==◌, ◌&&◌, List, [], Option, None, Some}
 use Rattle.std.specs.List.{list_any, filter_map}
 use Rattle.std.specs.FinMap as map
 use Rattle.std.specs.FinMap.{FinMap}
 use Rattle.std.specs.Cmp.Lexicographic.{pointwise}
 use Rattle.alp_base.specs.declared.ids.FileId.{FileId}
 use Rattle.alp_base.specs.declared.key.Key.{Key}
-use Rattle.alp_base.specs.declared.key.Key.TheVariants.{Leader, PageOf, OwnerOf}
 use Rattle.alp_base.specs.Keys.{key_cmp}
 use Rattle.alp_base.specs.Pages.{zero_page}
 use Rattle.alp_files.specs.declared.cell.Cell.{Cell}

@@ -1,5 +1,5 @@
 -- One thread's history of file calls: transactions, one after the other, each with its calls.
-use Rattle.std.specs.Prelude.{◌≡◌, ℕ, List, [], ◌∷◌, ◌++◌, Option, None, Some}
+use Rattle.std.specs.Prelude.{◌≡◌, ℕ, List, [], ◌∷◌, ◌++◌, Some}
 use Rattle.std.specs.Option.{option_to_list}
 use Rattle.std.specs.FinMap as map
 use Rattle.alp_base.specs.declared.ids.FileId.{FileId}

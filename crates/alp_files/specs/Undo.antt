@@ -1,5 +1,5 @@
 -- Puts that are done together, and what takes them back.
-use Rattle.std.specs.Prelude.{◌≡◌, List, [], ◌∷◌, map as list_map, Option, None, Some}
+use Rattle.std.specs.Prelude.{◌≡◌, List, [], ◌∷◌, map as list_map, Option}
 use Rattle.std.specs.FinMap as map
 use Rattle.alp_base.specs.declared.key.Key.{Key}
 use Rattle.alp_files.specs.declared.cell.Cell.{Cell}

@@ -1,5 +1,5 @@
 -- a lawful journal keeps what its clients were told
-use Rattle.std.specs.Prelude.{cond, Bool, true, false, not, ◌&&◌, ◌==◌, max, Option, None, Some, IsSome, ◌⊎◌, flat_map, map as list_map}
+use Rattle.std.specs.Prelude.{cond, Bool, true, false, ◌&&◌, ◌==◌, max, Option, None, Some, IsSome, map as list_map}
 use Rattle.std.specs.List.{AllByRecursion}
 use Rattle.std.specs.FinMap.Entries.{put}
 use Rattle.std.specs.declared.cmp.Ordering.{Ordering}
@@ -25,10 +25,10 @@ use Rattle.alp_journal.specs.declared.event.Event.{Event}
 use Rattle.alp_journal.specs.declared.event.Event.TheVariants as event
 use Rattle.alp_journal.specs.declared.entry.Entry.{Entry}
 use Rattle.alp_journal.specs.declared.log.Opening.{Opening}
-use Rattle.alp_journal.specs.State.{State, Session, Life, Along, next, state_after, after_act, after_event, opened, in_order, same_trans, stamp_cmp, file_trans, is_new, with_session, with_life, performed, does_call, begins, does, calls_on, called, greets, decides}
-use Rattle.alp_journal.specs.Told.{Told, Began, Heard, told_in, told_by, told_end, told_at, told_along, IsAmong, IsAbove, AreKept}
+use Rattle.alp_journal.specs.State.{State, Session, Life, Along, next, state_after, after_act, after_event, opened, in_order, same_trans, stamp_cmp, file_trans, is_new, with_session, with_life, performed, does_call, begins, calls_on, called, greets, decides}
+use Rattle.alp_journal.specs.Told.{Told, Began, Heard, told_by, told_end, told_at, told_along, IsAmong, IsAbove, AreKept}
 use Rattle.alp_journal.specs.Laws.{next_trans, DrawsNext, Decides, AreDecided, IsLawfulEntry, IsLawful, AreEarlier}
-use Rattle.alp_journal.proofs.StateLemmas.{IsQuiet, does_by, called_plain, stamp_cmp-later, put-last, AreEarlier-push}
+use Rattle.alp_journal.proofs.StateLemmas.{IsQuiet, does_by, called_plain, put-last, AreEarlier-push}
 
 -- ---- what stays true of a state
 
@@ -356,12 +356,13 @@ all_above : (clock count : ℕ) (t : TransId) (before : List Stamp) (xs ys : Lis
     → AllByRecursion (λ d. IsAbove before t d) (list_map (λ (x : Stamp × Decided). x.1) (xs ++ ys))
 all_above clock count t before [] [] counted above is w = tt
 all_above clock count t before [] (y ∷ ys) counted above is w = ((λ same. all_before clock y.1 before w above.0), all_above clock count t before [] ys counted above.1 is w)
-all_above clock count t before (x ∷ xs) ys counted above is w =
-    ((λ same. (let one : x.1.stamp.trans.counter ≡ x.0.trans.counter = ap (λ (k : Stamp). k.trans.counter) counted.0 in
+all_above clock count t before (x ∷ xs) ys counted above is w = (
+  (λ same. (let one : x.1.stamp.trans.counter ≡ x.0.trans.counter = ap (λ (k : Stamp). k.trans.counter) counted.0 in
       let other : x.1.stamp.trans.counter ≡ t.counter = ap (λ (u : TransId). u.counter) same in
       let low : x.0.trans.counter ≤ count = counted.1 in
       absurd (let no : ⊥ = omega arith in no))),
-    all_above clock count t before xs ys counted.2 above is w)
+  all_above clock count t before xs ys counted.2 above is w,
+)
 
 -- what an entry tells, and then the rest
 module _ (s t : State) (last : State) (before : List Stamp) (rest : List Told) (h : AreDrawn s.drawn s) (k : AreDrawn t.drawn t)

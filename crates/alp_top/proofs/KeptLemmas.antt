@@ -467,8 +467,8 @@ module _ (n : Node) (life : Life) (ds : List (Stamp × Decided)) (s : Session) (
       called-next k client n.opening.epoch number w (call.Finish t true) (reply.Committed stamp) None (session_there n life ds s client is own) refl turn tt refl in
       let after : next k e ≡ kept_state after_commit life (ds ++ decided_now ∷ []) =
       ap (λ (x : State). state_after after_act x (act.Decided stamp [] ∷ act.Released t ∷ [])) asked
-            ∙ ap (λ (x : Option Life). with_life (decides (with_session k client (Some (record w { last = w.last + 1 }))) stamp x) t None) there
-            ∙ (λ i. record { server = n.opening.server; epoch = n.opening.epoch; clock = clock i; cells = cells i; sessions = sessions i; lives = lives i; drawn = n.trans_count; decided = places i }) in
+      ∙ ap (λ (x : Option Life). with_life (decides (with_session k client (Some (record w { last = w.last + 1 }))) stamp x) t None) there
+      ∙ (λ i. record { server = n.opening.server; epoch = n.opening.epoch; clock = clock i; cells = cells i; sessions = sessions i; lives = lives i; drawn = n.trans_count; decided = places i }) in
       record {
         state = state_after-push next (opened n.opening) n.journal e ∙ ap (λ (x : State). next x e) h.state ∙ after;
         lawful = lawful_more n life ds e h (record {

@@ -1,5 +1,5 @@
 -- a run that goes on by one line
-use Rattle.std.specs.Prelude.{cond, true, false, not, ◌&&◌, Bool, Option, None, Some, is_some, IsSome, map as list_map}
+use Rattle.std.specs.Prelude.{cond, true, false, not, Bool, Option, None, Some, is_some, IsSome, map as list_map}
 use Rattle.std.proofs.Common.{◌≡◌, ℕ, ◌+◌, List, [], ◌∷◌, ◌++◌, length, refl, sym, ◌∙◌, ap, subst, arith, append_assoc, append-nil, length-append, take, drop, get_or, ◌<◌, zero, suc}
 use Rattle.std.specs.List.{AllByRecursion}
 use Rattle.std.proofs.lemmas.Bool.{eqb-true, and_parts}

@@ -1,4 +1,4 @@
-use Rattle.std.proofs.Common.{◌≡◌, ℕ, ◌+◌, List, [], ◌∷◌, ◌++◌, length, drop, ap, ◌∙◌, sym, append_assoc, append-nil, arith}
+use Rattle.std.proofs.Common.{◌≡◌, ℕ, ◌+◌, List, ◌∷◌, ◌++◌, drop, ap, ◌∙◌, sym, append_assoc, append-nil, arith}
 use Rattle.std.proofs.Math.ListN.{drop_of_length-le}
 use Rattle.alp_base.specs.declared.key.Key.{Key}
 use Rattle.alp_base.specs.declared.key.Key.TheVariants.{PageOf}

@@ -1,5 +1,5 @@
-use Rattle.std.specs.Prelude.{cond, Bool, true, nat_lt}
-use Rattle.std.proofs.Common.{◌≡◌, List, [], ◌∷◌, ◌++◌, ap, ◌∙◌, sym}
+use Rattle.std.specs.Prelude.{cond, Bool}
+use Rattle.std.proofs.Common.{List, [], ◌∷◌, ◌++◌, ap, ◌∙◌, sym}
 use Rattle.std.proofs.lemmas.Bool.{lt-ltb}
 use Rattle.alp_base.specs.declared.key.Key.{Key}
 use Rattle.alp_base.specs.declared.key.Key.TheVariants.{Leader}

@@ -1,4 +1,4 @@
-use Rattle.std.proofs.Common.{◌≡◌, List, ap, sym, ◌∙◌}
+use Rattle.std.proofs.Common.{List, ap, ◌∙◌}
 use Rattle.std.specs.FinMap as map
 use Rattle.alp_base.specs.declared.key.Key.{Key}
 use Rattle.alp_files.specs.declared.cell.Cell.{Cell}

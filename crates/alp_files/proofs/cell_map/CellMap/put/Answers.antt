@@ -1,4 +1,4 @@
-use Rattle.std.proofs.Common.{◌≡◌, ap, sym, ◌∙◌}
+use Rattle.std.proofs.Common.{ap, ◌∙◌}
 use Rattle.std.specs.FinMap as map
 use Rattle.alp_files.proofs.CellMapLemmas.{one_put}
 use Rattle.alp_files.proofs.cell_map.CellMap.put.Goals as goal

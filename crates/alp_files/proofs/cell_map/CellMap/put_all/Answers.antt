@@ -1,5 +1,5 @@
-use Rattle.std.specs.Prelude.{Option, true, false}
-use Rattle.std.proofs.Common.{◌≡◌, ◌+◌, ◌≤◌, List, [], ◌∷◌, ◌++◌, length, refl, sym, ◌∙◌, ap, subst, arith, length-append}
+use Rattle.std.specs.Prelude.{Option}
+use Rattle.std.proofs.Common.{◌≡◌, List, [], ◌∷◌, ◌++◌, length, refl, sym, ◌∙◌, ap, subst, arith, length-append}
 use Rattle.std.specs.FinMap as map
 use Rattle.std.proofs.lemmas.List.{nil_from_length}
 use Rattle.alp_base.specs.declared.key.Key.{Key}

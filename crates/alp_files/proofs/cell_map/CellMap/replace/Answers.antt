@@ -1,4 +1,4 @@
-use Rattle.std.proofs.Common.{◌≡◌, ap, sym, ◌∙◌}
+use Rattle.std.proofs.Common.{ap, sym, ◌∙◌}
 use Rattle.std.specs.FinMap as map
 use Rattle.alp_files.proofs.CellMapLemmas.{one_put, get_cell}
 use Rattle.alp_files.proofs.UndoLemmas.{on_err}

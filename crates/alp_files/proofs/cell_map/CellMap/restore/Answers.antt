@@ -1,5 +1,4 @@
-use Rattle.std.proofs.Common.{◌≡◌, ap, sym, ◌∙◌}
-use Rattle.std.specs.FinMap as map
+use Rattle.std.proofs.Common.{sym, ◌∙◌}
 use Rattle.alp_files.proofs.UndoLemmas.{put_over, one_removed}
 use Rattle.alp_files.proofs.cell_map.CellMap.restore.Goals.{in-Some+in-Leader-1, in-Some+in-Page-1, in-Some+in-Owner-1, in-None-1}
 use Rattle.alp_files.proofs.cell_map.CellMap.restore.Goals as goal
@@ -12,7 +11,7 @@ pub returns-in-None : goal.returns-in-None
 returns-in-None c m cell stood put =
     let gone = one_removed m c.self.inside.cells.entries c.remove.new.self.entries c.args.key cell (sym stood ∙ c.in-None.is) (c.self.view_is ∙ put) c.remove.ensures.updates.0 in
     elim c.match-remove.branch [
-      in-Some+in-Leader-1 w ↦ w.self-is ∙ gone
+      | in-Some+in-Leader-1 w ↦ w.self-is ∙ gone
       | in-Some+in-Page-1 w ↦ w.self-is ∙ gone
       | in-Some+in-Owner-1 w ↦ w.self-is ∙ gone
       | in-None-1 w ↦ w.self-is ∙ gone

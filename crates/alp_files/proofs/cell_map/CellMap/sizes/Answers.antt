@@ -1,5 +1,5 @@
 use Rattle.std.specs.List.{filter_map}
-use Rattle.std.proofs.Common.{◌≡◌, ap, sym, ◌∙◌}
+use Rattle.std.proofs.Common.{ap, sym, ◌∙◌}
 use Rattle.alp_files.specs.Cells.{size_in, sizes_of}
 use Rattle.alp_files.proofs.CellMapLemmas.{values_back}
 use Rattle.alp_files.proofs.cell_map.CellMap.sizes.Goals as goal

@@ -1,4 +1,4 @@
-use Rattle.std.proofs.Common.{◌≡◌, List, [], ◌∷◌, ◌++◌, sym, subst}
+use Rattle.std.proofs.Common.{List, sym, subst}
 use Rattle.std.specs.Prelude.{Option}
 use Rattle.alp_base.specs.declared.key.Key.{Key}
 use Rattle.alp_files.specs.declared.cell.Cell.{Cell}

@@ -1,4 +1,4 @@
-use Rattle.std.proofs.Common.{◌≡◌, length}
+use Rattle.std.proofs.Common.{length}
 use Rattle.alp_files.specs.Cells.{Cells}
 use Rattle.alp_files.specs.Undo.{LedBy}
 use Rattle.alp_files.proofs.cell_map.CellMap.take_back.Given as goal

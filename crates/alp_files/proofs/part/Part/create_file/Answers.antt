@@ -1,6 +1,5 @@
-use Rattle.std.specs.Prelude.{Some, false, true}
-use Rattle.std.proofs.Common.{◌≡◌, ℕ, ◌+◌, List, [], ◌∷◌, ◌++◌, ap, ◌∙◌, sym, subst, refl, rules}
-use Rattle.alp_base.specs.declared.key.Key.TheVariants.{Leader, OwnerOf}
+use Rattle.std.proofs.Common.{◌≡◌, ◌+◌, List, [], ◌∷◌, ◌++◌, ap, ◌∙◌, sym, subst, rules}
+use Rattle.alp_base.specs.declared.key.Key.TheVariants.{Leader}
 use Rattle.alp_files.specs.declared.cell.Cell.TheVariants as cell
 use Rattle.alp_files.specs.declared.cell.Props.{Props}
 use Rattle.alp_files.specs.declared.cell.OwnerRecord.{OwnerRecord}

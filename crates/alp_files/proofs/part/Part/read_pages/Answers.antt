@@ -1,5 +1,4 @@
-use Rattle.std.specs.Prelude.{Some, false, nat_lt}
-use Rattle.std.proofs.Common.{◌≡◌, ℕ, ◌+◌, List, [], ap, ◌∙◌, sym, refl, rules}
+use Rattle.std.proofs.Common.{List, ap, ◌∙◌, sym, refl}
 use Rattle.std.proofs.lemmas.Bool.{le-ltb}
 use Rattle.alp_files.specs.declared.open.Open.{Open}
 use Rattle.alp_files.specs.Act.{open_at}

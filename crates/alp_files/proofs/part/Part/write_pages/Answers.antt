@@ -1,7 +1,6 @@
-use Rattle.std.specs.Prelude.{Some, false, nat_lt}
-use Rattle.std.proofs.Common.{◌≡◌, ℕ, ◌+◌, List, [], ◌++◌, ap, ◌∙◌, sym, subst, refl, rules}
+use Rattle.std.specs.Prelude.{nat_lt}
+use Rattle.std.proofs.Common.{◌≡◌, ◌+◌, List, ◌++◌, ap, ◌∙◌, sym, subst, refl, rules}
 use Rattle.std.proofs.lemmas.Bool.{le-ltb}
-use Rattle.alp_base.specs.declared.choices.Access.TheVariants.{Change}
 use Rattle.alp_files.specs.declared.cell.Props.{Props}
 use Rattle.alp_files.specs.Act.{open_at, mark_put, page_puts}
 use Rattle.alp_files.specs.Cells.{Cells}
