@@ -91,10 +91,13 @@ fn encode_rate<C: Clock>(clock: &C, alloc: Global, request: &Request) -> Result<
 
 fn decode_rate<C: Clock>(clock: &C, alloc: Global, bytes: &[u8]) -> Result<u128, Trouble> {
     let start = Instant::now(clock)?;
+    let mut found = 0u64;
     for _ in 0..ROUNDS {
-        decode_request(alloc, bytes)?;
+        if decode_request(alloc, bytes)?.is_some() {
+            found = found.saturating_add(1);
+        }
     }
-    rate_since(clock, start, u64::from(ROUNDS))
+    rate_since(clock, start, found)
 }
 
 fn copy_rate<C: Clock>(clock: &C, alloc: Global, bytes: &[u8]) -> Result<u128, Trouble> {

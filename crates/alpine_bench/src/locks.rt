@@ -1,7 +1,7 @@
 //! Asks and releases at a lock table on which one transaction holds many resources.
 use crate::rates::{Trouble, rate_since};
 use alp_base::{Choice, FileId, Key, OutOfMemory, Resource, TransId};
-use alp_locks::{LockTable, Request};
+use alp_locks::{Grant, LockTable, Request};
 use alp_modes::Mode;
 use alp_queue::Needs;
 use std::alloc::Global;
@@ -52,29 +52,29 @@ impl fmt::Display for Rates {
     }
 }
 
-// Asks for the pages from that one on, to write them.
+// Asks for the pages from the one up to the other, to write them. Answers whether they were granted.
 fn ask(
     alloc: Global,
     table: &mut LockTable,
     trans: TransId,
     pages: (u32, u32),
-) -> Result<(), OutOfMemory> {
+) -> Result<bool, OutOfMemory> {
     if !table.is_granted(trans) {
-        return Ok(());
+        return Ok(false);
     }
     let mut needs = Vec::new(alloc);
     for page in pages.0..pages.1 {
         needs.push((Resource::Leaf(Key::PageOf(FILE, page)), Mode::Write))?;
     }
-    table.ask(Request {
+    let grant = table.ask(Request {
         trans,
         needs: Needs::new(needs),
         choice: Choice::Fail,
     })?;
-    Ok(())
+    Ok(grant == Grant::Granted)
 }
 
-// Asks for these pages and releases them, so often.
+// Asks for these pages and releases them, so often. Only what was granted counts.
 fn rate<C: Clock>(
     clock: &C,
     alloc: Global,
@@ -83,11 +83,14 @@ fn rate<C: Clock>(
     rounds: u32,
 ) -> Result<u128, Trouble> {
     let start = Instant::now(clock)?;
+    let mut granted = 0u64;
     for _ in 0..rounds {
-        ask(alloc, table, ASKER, pages)?;
+        if ask(alloc, table, ASKER, pages)? {
+            granted = granted.saturating_add(1);
+        }
         table.release_all(ASKER);
     }
-    rate_since(clock, start, u64::from(rounds))
+    rate_since(clock, start, granted)
 }
 
 /// The rates where another transaction holds so many resources, and where none does.
