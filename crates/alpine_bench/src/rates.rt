@@ -1,0 +1,88 @@
+//! Rates, in whole numbers a second, and what can keep a measurement from ending.
+ghost use Rattle.std.specs.Prelude.{◌≡◌, ◌*◌, ◌/◌, ◌<◌, IfSome};
+
+use crate::words::USAGE;
+use alp_base::OutOfMemory;
+use std::alloc::{AllocError, AllocFailed};
+use std::time::{Clock, Instant};
+use std::{fmt, io};
+
+/// Why nothing was measured.
+#[derive(Drop)]
+pub(crate) enum Trouble {
+    /// The words are no command.
+    Words,
+    OutOfMemory,
+    /// The clock failed, or what was printed could not be written.
+    Host,
+    /// The clock showed one time at the start and at the end.
+    NoTime,
+}
+
+impl From<OutOfMemory> for Trouble {
+    fn from(_: OutOfMemory) -> Trouble {
+        Trouble::OutOfMemory
+    }
+}
+
+impl From<AllocError> for Trouble {
+    fn from(_: AllocError) -> Trouble {
+        Trouble::OutOfMemory
+    }
+}
+
+impl<T: Drop> From<AllocFailed<T>> for Trouble {
+    fn from(_: AllocFailed<T>) -> Trouble {
+        Trouble::OutOfMemory
+    }
+}
+
+impl From<io::Error> for Trouble {
+    fn from(_: io::Error) -> Trouble {
+        Trouble::Host
+    }
+}
+
+impl fmt::Display for Trouble {
+    fn fmt<W: fmt::Write>(&self, f: &mut fmt::Formatter<W>) -> fmt::Result {
+        match self {
+            Trouble::Words => write!(f, "{USAGE}"),
+            Trouble::OutOfMemory => writeln!(
+                f,
+                "out of memory: end other programs, and measure again"
+            ),
+            Trouble::Host => writeln!(
+                f,
+                "the clock or the output failed: check both, and measure again"
+            ),
+            Trouble::NoTime => writeln!(f, "the clock stood still: check it, and measure again"),
+        }
+    }
+}
+
+/// How many a second, rounded down, where so many took that time.
+pub(crate) fn per_second(count: u64, nanoseconds: u128) -> Option<u128>
+    ensures { IfSome result (λ rate. (0 < nanoseconds) × (rate ≡ count * 1000000000 / nanoseconds)) }
+{
+    if nanoseconds == 0 {
+        return None;
+    }
+    Some(u128::from(count) * 1_000_000_000 / nanoseconds)
+}
+
+/// How many a second since that moment.
+pub(crate) fn rate_since<C: Clock>(clock: &C, start: Instant, count: u64) -> Result<u128, Trouble> {
+    let nanoseconds = start.elapsed(clock)?.as_nanos();
+    per_second(count, nanoseconds).ok_or(Trouble::NoTime)
+}
+
+/// The first as hundredths of the second, rounded down.
+pub(crate) fn hundredths(first: u128, second: u128) -> Option<u128>
+    ensures { IfSome result (λ part. (0 < second) × (part ≡ first * 100 / second)) }
+{
+    let all = first.checked_mul(100)?;
+    if second == 0 {
+        return None;
+    }
+    Some(all / second)
+}
