@@ -1,3 +1,4 @@
+use crate::reader::Reader;
 use crate::*;
 use alp_base::MemSource;
 use std::alloc::Global;
