@@ -1,6 +1,6 @@
 #!/usr/bin/env bash
-# Plays scripts of 100, 300 and 1,000 lines with the built program and prints the microseconds a line of each: the best
-# of five runs, less the time of a script of one line, which is the start of the program.
+# Plays scripts of 100, 300 and 1,000 lines with the built program and prints the nanoseconds a line of each: the best of
+# fifteen rounds, less the time of a script of one line, which is the start of the program.
 cd "$(dirname "$0")/.." || exit 1
 program=crates/alpine/out/alpine
 [ -x "$program" ] || { echo "build the program first: ./play examples/first.alp" >&2; exit 1; }
@@ -24,22 +24,22 @@ script() {
     done
 }
 
-# Nanoseconds of the best of five times 20 plays.
-best() {
-    local least=0
-    for _ in 1 2 3 4 5; do
-        local start=$(date +%s%N)
-        for _ in {1..20}; do "$program" play < "$1" > /dev/null || exit 1; done
-        local took=$(($(date +%s%N) - start))
-        if ((least == 0 || took < least)); then least=$took; fi
-    done
-    echo $((least / 20))
+# Nanoseconds of 20 plays of a script.
+plays() {
+    local start=$(date +%s%N)
+    for _ in {1..20}; do "$program" play < "$folder/$1.alp" > /dev/null || exit 1; done
+    echo $(($(date +%s%N) - start))
 }
 
-script 1 > "$folder/1.alp"
-start=$(best "$folder/1.alp")
+sizes="1 100 300 1000"
+declare -A least
+for lines in $sizes; do script "$lines" > "$folder/$lines.alp"; done
+for _ in {1..15}; do
+    for lines in $sizes; do
+        took=$(plays "$lines")
+        if [ -z "${least[$lines]}" ] || ((took < ${least[$lines]})); then least[$lines]=$took; fi
+    done
+done
 for lines in 100 300 1000; do
-    script "$lines" > "$folder/$lines.alp"
-    took=$(best "$folder/$lines.alp")
-    echo "$lines lines: $(((took - start) / lines)) ns a line"
+    echo "$lines lines: $(((${least[$lines]} - ${least[1]}) / 20 / lines)) ns a line"
 done
