@@ -7,7 +7,7 @@ use Rattle.alp_disk.specs.Disk.{Image, page}
 use Rattle.alp_anchor.specs.Gate.{SameBut, Closing, Opening, Opened}
 use Rattle.alp_anchor.specs.Anchor.{open_anchor, after, IsSound, IsOpen, Counts, next_anchor, Switching, Switched}
 use Rattle.alp_anchor.specs.declared.anchor.Anchor.{Anchor}
-use Rattle.alp_anchor.proofs.Gates.{opened}
+use Rattle.alp_disk.proofs.GateLemmas.{opened}
 
 pub anchor_bytes : (anchor : Anchor) (g a h : List ℕ) → g ≡ to_be_bytes w32 anchor.generation → a ≡ to_be_bytes w16 anchor.sizes.area → h ≡ to_be_bytes w32 anchor.sizes.home
     → page_of (165 ∷ 65 ∷ 76 ∷ 80 ∷ 73 ∷ 78 ∷ 69 ∷ 49 ∷ get_or g 0 0 ∷ get_or g 1 0 ∷ get_or g 2 0 ∷ get_or g 3 0 ∷ anchor.area ∷ anchor.server ∷ anchor.servers ∷ 0 ∷ get_or a 0 0 ∷ get_or a 1 0 ∷ get_or h 0 0 ∷ get_or h 1 0 ∷ get_or h 2 0 ∷ get_or h 3 0 ∷ []) ≡ open_anchor anchor

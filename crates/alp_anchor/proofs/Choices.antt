@@ -1,8 +1,9 @@
 -- The fields of an anchor page, and which page's anchor counts.
-use Rattle.std.proofs.Common.{◌≡◌, inl, inr, ℕ, ◌-◌, List, [], ◌∷◌, slice_index, take, refl, sym, ◌∙◌, ap, subst, arith, Option, Some, None, Result, Ok, Err}
+use Rattle.std.proofs.Common.{◌≡◌, inl, inr, ℕ, ◌-◌, ◌<◌, ◌^◌, List, [], ◌∷◌, slice_index, take, refl, sym, ◌∙◌, ap, subst, arith, Option, Some, None, Result, Ok, Err}
 use Rattle.std.specs.Prelude.{MatchOption, IfOk, IfErr}
 use Rattle.std.specs.Int.{w16, w32, from_be_bytes}
 use Rattle.std.proofs.lemmas.Nat.{from_be_bytes-to_be_bytes_4, from_be_bytes-to_be_bytes_2}
+use Rattle.std.proofs.lemmas.Bool.{cases_eq}
 use Rattle.alp_disk.specs.Disk.{Image, page}
 use Rattle.alp_anchor.specs.Anchor.{open_anchor, after, IsSound, IsOpen, IsOwn, Counts}
 use Rattle.alp_anchor.specs.Read.{Newer, Chosen, NoneChosen, WhyNot}
@@ -94,3 +95,31 @@ ok_map (Err e) P Q f h = tt
 pub err_map : {T E : Type 0} (r : Result T E) (P Q : E → Type 0) → ((e : E) → P e → Q e) → IfErr r P → IfErr r Q
 err_map (Ok a) P Q f h = tt
 err_map (Err e) P Q f h = f e h
+
+-- ---- one anchor counts
+
+same_page : (n : ℕ) (p : List ℕ) (a b : Anchor) → IsOpen n p a → IsOpen n p b → a.page ≡ b.page → a ≡ b
+same_page n p a b is_a is_b page_is =
+    let generation = sym (generation_is p a n is_a) ∙ generation_is p b n is_b in
+    let area = sym (area_pages_are p a n is_a) ∙ area_pages_are p b n is_b in
+    let home = sym (home_is p a n is_a) ∙ home_is p b n is_b in
+    let of_a = bytes_are p a n is_a in
+    let of_b = bytes_are p b n is_b in
+    let used = sym of_a.0 ∙ of_b.0 in
+    let names = same_names n p a b is_a is_b in
+    λ i. record { page = page_is i; generation = generation i; area = used i; server = names.0 i; servers = names.1 i; sizes = record { home = home i; area = area i } }
+
+-- two generations are not each the other's successor
+no_cycle : (g h : ℕ) → g < 2 ^ 32 → h < 2 ^ 32 → g ≡ after h → h ≡ after g → ⊥
+no_cycle g h small_g small_h one two = omega (arith, small_g, small_h, one, two)
+
+pub counts_once : (n : ℕ) (image : Image) (a b : Anchor) → Counts n image a → Counts n image b → a.server ≡ b.server → a.servers ≡ b.servers → a ≡ b
+counts_once n image a b is_a is_b server servers = elim (cases_eq a.page b.page) [
+  | inl same ↦ same_page n (page image a.page) a b is_a.is_open (subst (λ k. IsOpen n (page image k) b) (sym same) is_b.is_open) same
+  | inr other ↦
+      let b_there : b.page ≡ 1 - a.page = omega (arith, other, is_a.is_open.sound.page, is_b.is_open.sound.page) in
+      let a_there : a.page ≡ 1 - b.page = omega (arith, other, is_a.is_open.sound.page, is_b.is_open.sound.page) in
+      let a_newer = is_a.newest b (record { is_open = subst (λ k. IsOpen n (page image k) b) b_there is_b.is_open; server_is = sym server; servers_is = sym servers }) in
+      let b_newer = is_b.newest a (record { is_open = subst (λ k. IsOpen n (page image k) a) a_there is_a.is_open; server_is = server; servers_is = servers }) in
+      absurd (no_cycle a.generation b.generation is_a.is_open.sound.generation is_b.is_open.sound.generation a_newer b_newer)
+]

@@ -3,20 +3,12 @@ use Rattle.std.proofs.Common.{◌≡◌, ◌≢◌, inl, inr, ℕ, ◌+◌, ◌<
 use Rattle.std.proofs.lemmas.List.{get_or-take, drop_all, drop_at, append-nil}
 use Rattle.std.proofs.lemmas.Bool.{cases_eq}
 use Rattle.std.specs.Prelude.{OnOk, Result, Ok, Err}
-use Rattle.alp_fields.specs.Forms.{overwritten}
+use Rattle.alp_base.specs.Pages.{overwritten}
 use Rattle.alp_disk.specs.Disk.{Image, page, IsImage, with_bytes, Torn, Only, After, NoMore}
 use Rattle.alp_disk.specs.Images.{page-with_bytes, page-with_bytes_other, is_image-with_bytes}
-use Rattle.alp_anchor.specs.Gate.{IsClosed, Shutting, Closing, Closed, Opening, Opened}
-
-overwritten_gate : (p : List ℕ) (gate : ℕ) → overwritten p 0 (gate ∷ []) ≡ gate ∷ drop 1 p
-overwritten_gate p gate = refl
-
-overwritten_rest : (p rest : List ℕ) → length p ≡ 1 + length rest → overwritten p 1 rest ≡ take 1 p ++ rest
-overwritten_rest p rest same = ap (λ (l : List ℕ). take 1 p ++ (rest ++ l)) (drop_all (1 + length rest) p (omega (arith, same))) ∙ ap (λ (l : List ℕ). take 1 p ++ l) (append-nil rest)
-
-pub opened : (p : List ℕ) → slice_index p 0 ≡ 165 → p ≡ 165 ∷ drop 1 p
-opened [] gate = absurd (omega (arith, gate))
-opened (g ∷ rest) gate = ap (λ (k : ℕ). k ∷ rest) gate
+use Rattle.alp_disk.specs.Gates.{IsClosed}
+use Rattle.alp_disk.proofs.GateLemmas.{overwritten_gate, overwritten_rest, opened, still_closed}
+use Rattle.alp_anchor.specs.Gate.{Shutting, Closing, Closed, Opening, Opened}
 
 pub is_closed : (n : ℕ) (old new : Image) (at : ℕ) (may_leave : Image → Type 0) → IsImage n old → at < n → Only new may_leave → new ≡ with_bytes old at 0 (0 ∷ []) → Closed at old new may_leave
 is_closed n old new at may_leave is within only written = record {
@@ -69,7 +61,7 @@ module _ (n : ℕ) (old : Image) (at : ℕ) (full : List ℕ) (is : IsImage n ol
   torn_stage : (c : Image) → Torn at 1 511 old c → Opening at full old c
   torn_stage c torn = record {
     others = torn.others;
-    whole = inl (λ one. closed (sym (get_or-take 1 (page old at) 0 0 (omega arith)) ∙ sym (ap (λ (l : List ℕ). get_or l 0 0) torn.before) ∙ get_or-take 1 (page c at) 0 0 (omega arith) ∙ one));
+    whole = inl (still_closed at 511 old c torn closed);
   }
 
   torn_gate : (c : Image) → Torn at 0 1 staged c → Opening at full old c

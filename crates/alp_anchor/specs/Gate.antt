@@ -1,9 +1,7 @@
--- A gate is the first byte of a page: 165 is open, and any other is closed.
+-- What closing and opening the gate of a page leaves, at each moment and at the end.
 use Rattle.std.specs.Prelude.{◌≡◌, ◌≢◌, ◌⊎◌, ℕ, List, slice_index}
 use Rattle.alp_disk.specs.Disk.{Image, page, Torn, Only}
-
-abbrev pub IsClosed : List ℕ → Type 0
-IsClosed p = slice_index p 0 ≢ 165
+use Rattle.alp_disk.specs.Gates.{IsClosed}
 
 -- the same pages but for one
 abbrev pub SameBut : ℕ → Image → Image → Type 0

@@ -7,12 +7,15 @@
 mod anchor;
 mod fault;
 mod gate;
+mod laws;
 mod read;
 mod spelling;
 mod switch;
 
 pub use anchor::Anchor;
 pub use fault::AnchorFault;
+pub use gate::open_gate;
+pub use laws::one_anchor_counts;
 pub use read::read_anchor;
 pub use spelling::anchor_page;
 pub use switch::switch_anchor;

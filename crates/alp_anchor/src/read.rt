@@ -3,7 +3,7 @@ ghost use Rattle.std.specs.Prelude.{◌≡◌, ◌<◌, ◌≤◌, ℕ, take, Is
 ghost use Rattle.alp_base.specs.Causes.{Rose};
 ghost use Rattle.alp_base.specs.declared.faults.Halt.TheVariants.{Failed, Stopped};
 ghost use Rattle.alp_disk.specs.Disk.{NoMore, Adds};
-ghost use Rattle.alp_disk.specs.declared.allowance.Allowance.TheVariants.{Spent};
+ghost use Rattle.alp_base.specs.declared.allowance.Allowance.TheVariants.{Spent};
 ghost use Rattle.alp_anchor.specs.Anchor.{IsSound, Counts};
 ghost use Rattle.alp_anchor.specs.Read.{WhyNot, Chosen, NoneChosen};
 ghost use Rattle.alp_anchor.specs.declared.fault.AnchorFault.TheVariants.{Halted};

@@ -5,4 +5,6 @@ pub mod IdText
 pub mod Keys
 pub mod KeyLaws
 pub mod Causes
+pub mod Allowances
 pub mod Streams
+pub mod Notes

@@ -1,6 +1,7 @@
 //! What every crate speaks of: ids, names, pages, keys, and streams that count their faults.
 #![tactic(auto)]
 
+mod allowance;
 mod bytes;
 mod choices;
 mod faults;
@@ -15,6 +16,7 @@ mod page;
 mod stream;
 mod wrapped;
 
+pub use allowance::Allowance;
 pub use bytes::{Bytes, NoteChange};
 pub use choices::{Access, Choice};
 pub use faults::{Failed, Halt, Sizes, VaultFault};

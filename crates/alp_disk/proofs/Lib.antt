@@ -1,3 +1,4 @@
 pub mod Moments
 pub mod Replays
 pub mod RunLemmas
+pub mod GateLemmas

@@ -3,7 +3,7 @@ use Rattle.std.proofs.lemmas.List.{take_more_set}
 use Rattle.std.specs.Prelude.{if◌then◌else◌, slice_set}
 use Rattle.std.proofs.Common.{◌≡◌, ◌≢◌, ℕ, suc, zero, ◌+◌, ◌<◌, ◌%◌, Bool, true, false, List, [], ◌∷◌, ◌++◌, length, take, refl, sym, ◌∙◌, ap, subst, add-one}
 use Rattle.rand_core.specs.Stream.{Stream, next_u32}
-use Rattle.alp_fields.specs.Forms.{overwritten}
+use Rattle.alp_base.specs.Pages.{overwritten}
 use Rattle.alp_disk.specs.Disk.{Image, page, IsImage, with_bytes, Torn, Follows, NoMore}
 use Rattle.alp_disk.specs.Images.{torn_same, length-with_bytes, page-with_bytes, page-with_bytes_other}
 use Rattle.alp_disk.specs.Pending.{replay, alternated, low_bytes, filled, Reaches, MayLeave, written_bytes}

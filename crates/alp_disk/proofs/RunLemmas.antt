@@ -2,7 +2,7 @@
 use Rattle.std.proofs.Common.{◌≡◌, ◌≢◌, inl, inr, ℕ, ◌+◌, ◌-◌, ◌*◌, ◌<◌, List, ◌++◌, length, take, drop, refl, sym, ◌∙◌, ap, arith, length-drop, length-take}
 use Rattle.std.proofs.lemmas.List.{drop_all, append-nil}
 use Rattle.std.proofs.lemmas.Bool.{cases_eq}
-use Rattle.alp_fields.specs.Forms.{overwritten}
+use Rattle.alp_base.specs.Pages.{overwritten}
 use Rattle.alp_disk.specs.Disk.{Image, page, IsImage, with_bytes, Torn, Follows}
 use Rattle.alp_disk.specs.Images.{page-with_bytes, page-with_bytes_other}
 use Rattle.alp_disk.specs.Runs.{SameOutside, Holds}

@@ -1,11 +1,6 @@
 -- What the calls of a disk do, and what a crash may leave.
-use Rattle.std.specs.Prelude.{◌≡◌, ◌≢◌, ◌⊎◌, ◌<◌, ◌≤◌, ℕ, ◌+◌, List, [], length, take, drop, slice_index_or, slice_set, Result, IsErrOf, Option, Some, None}
-use Rattle.alp_base.specs.Causes.{Rose}
-use Rattle.alp_fields.specs.Forms.{overwritten}
-use Rattle.alp_base.specs.declared.faults.Halt.{Halt}
-use Rattle.alp_base.specs.declared.faults.Halt.TheVariants.{Failed, Stopped}
-use Rattle.alp_disk.specs.declared.allowance.Allowance.{Allowance}
-use Rattle.alp_disk.specs.declared.allowance.Allowance.TheVariants.{Free, Left, Spent}
+use Rattle.std.specs.Prelude.{◌≡◌, ◌≢◌, ◌⊎◌, ◌<◌, ℕ, ◌+◌, List, [], length, take, drop, slice_index_or, slice_set}
+use Rattle.alp_base.specs.Pages.{overwritten}
 
 -- the pages of a disk, in order
 abbrev pub Image : Type 0
@@ -58,31 +53,3 @@ pub record Adds {D : Type 0} (left_since : D → D → Image → Type 0) (old ne
 pub record LeavesOnly {D : Type 0} (left_since : D → D → Image → Type 0) (old new : D) (P : Image → Type 0) : Type 0 where
   pub within : (c : Image) → left_since old new c → P c
   pub adds : Adds left_since old new P
-
--- at most so many further calls pass
-abbrev pub IsWithin : ℕ → Allowance → Type 0
-IsWithin n Free = ⊥
-IsWithin n (Left m) = m ≤ n
-IsWithin n Spent = Unit {0}
-
--- A changing call spends an allowance only where it is a number, and adds nothing to it.
-abbrev pub Spends : Allowance → Allowance → Type 0
-Spends Free now = now ≡ Free
-Spends (Left n) now = IsWithin n now
-Spends Spent now = now ≡ Spent
-
--- why a call halts: it failed where the count of faults rose, and was stopped where the allowance is spent then
-pub record HasHaltCause {T : Type 0} (before now : ℕ) (allowance : Allowance) (result : Result T Halt) : Type 0 where
-  pub later : before ≤ now
-  pub failed : IsErrOf result Failed → Rose before now
-  pub stopped : IsErrOf result Stopped → allowance ≡ Spent
-
--- the allowance that a caller gave
-abbrev pub allowance_given : Option ℕ → Allowance
-allowance_given None = Free
-allowance_given (Some n) = Left n
-
--- The allowance is what was given, or the disk ignores numbers.
-abbrev pub Sets : Option ℕ → Allowance → Allowance → Type 0
-Sets None old now = now ≡ Free
-Sets (Some n) old now = (now ≡ Left n) ⊎ (now ≡ old)

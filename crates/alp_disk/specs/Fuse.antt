@@ -1,7 +1,7 @@
 -- What a fuse shows, and how a changing call burns its allowance.
 use Rattle.std.specs.Prelude.{◌-◌, ◌==◌, if◌then◌else◌}
-use Rattle.alp_disk.specs.declared.allowance.Allowance.{Allowance}
-use Rattle.alp_disk.specs.declared.allowance.Allowance.TheVariants.{Free, Left, Spent}
+use Rattle.alp_base.specs.declared.allowance.Allowance.{Allowance}
+use Rattle.alp_base.specs.declared.allowance.Allowance.TheVariants.{Free, Left, Spent}
 use Rattle.alp_disk.specs.declared.disk.Disk.{Ghosts}
 use Rattle.alp_disk.specs.declared.fuse.Fuse.{Fuse}
 

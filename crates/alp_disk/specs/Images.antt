@@ -2,7 +2,7 @@
 use Rattle.std.proofs.Common.{◌≡◌, ◌≢◌, inl, inr, ℕ, ◌+◌, ◌<◌, ◌≤◌, List, ◌++◌, length, take, drop, refl, sym, ◌∙◌, append_assoc, ap, arith, length-append, length-drop, length-take}
 use Rattle.std.proofs.lemmas.List.{get_or-set_same, get_or-set_other, length-set, set_past, take_at, drop_at}
 use Rattle.std.proofs.lemmas.Bool.{cases_eq}
-use Rattle.alp_fields.specs.Forms.{overwritten}
+use Rattle.alp_base.specs.Pages.{overwritten}
 use Rattle.alp_disk.specs.Disk.{Image, page, IsImage, with_bytes, Torn}
 
 pub length-with_bytes : (image : Image) (at offset : ℕ) (bytes : List ℕ) → length (with_bytes image at offset bytes) ≡ length image

@@ -6,3 +6,4 @@ pub mod MemDisk
 pub mod Fuse
 pub mod FileDisk
 pub mod Runs
+pub mod Gates

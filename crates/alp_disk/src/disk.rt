@@ -1,8 +1,9 @@
 //! A disk as all that stands on it sees it.
 ghost use Rattle.std.specs.Prelude.{◌≡◌, ◌⊎◌, ◌≤◌, ◌<◌, ◌+◌, ◌^◌, ℕ, Bool, List, length, IsTrue, OnOk};
-ghost use Rattle.alp_disk.specs.Disk.{Image, page as page_of, IsImage, with_bytes, Torn, Follows, Only, NoMore, SameOutcomes, Adds, Spends, HasHaltCause, Sets};
-ghost use Rattle.alp_disk.specs.declared.allowance.Allowance.{Allowance as Limit};
-ghost use Rattle.alp_disk.specs.declared.allowance.Allowance.TheVariants.{Free};
+ghost use Rattle.alp_disk.specs.Disk.{Image, page as page_of, IsImage, with_bytes, Torn, Follows, Only, NoMore, SameOutcomes, Adds};
+ghost use Rattle.alp_base.specs.Allowances.{Spends, HasHaltCause, Sets};
+ghost use Rattle.alp_base.specs.declared.allowance.Allowance.{Allowance as Limit};
+ghost use Rattle.alp_base.specs.declared.allowance.Allowance.TheVariants.{Free};
 
 use alp_base::{Halt, Page};
 

@@ -3,7 +3,7 @@ ghost use Rattle.std.specs.Prelude.{◌≡◌, ◌↔◌, ◌≤◌, ◌<◌, �
 ghost use Rattle.alp_base.specs.Streams.{counted};
 ghost use Rattle.alp_base.specs.declared.faults.Halt.TheVariants.{Failed};
 ghost use Rattle.alp_disk.specs.FileDisk.{untold};
-ghost use Rattle.alp_disk.specs.declared.allowance.Allowance.TheVariants.{Free};
+ghost use Rattle.alp_base.specs.declared.allowance.Allowance.TheVariants.{Free};
 
 use crate::Disk;
 use alp_base::{Halt, Page};

@@ -2,11 +2,12 @@
 ghost use Rattle.std.specs.Prelude.{◌≡◌, ◌≢◌, ◌⊎◌, ◌↔◌, ◌+◌, ◌≤◌, ◌<◌, length, IsTrue, OnOk, Err};
 ghost use Rattle.alp_base.specs.Causes.{Rose};
 ghost use Rattle.alp_base.specs.declared.faults.Halt.TheVariants.{Stopped};
-ghost use Rattle.alp_disk.specs.Disk.{page as page_of, with_bytes, Torn, Follows, Only, NoMore, SameOutcomes, Adds, Spends, HasHaltCause, Sets, allowance_given};
-ghost use Rattle.alp_disk.specs.declared.allowance.Allowance.TheVariants.{Free, Left, Spent};
+ghost use Rattle.alp_disk.specs.Disk.{page as page_of, with_bytes, Torn, Follows, Only, NoMore, SameOutcomes, Adds};
+ghost use Rattle.alp_base.specs.Allowances.{Spends, HasHaltCause, Sets, allowance_given};
+ghost use Rattle.alp_base.specs.declared.allowance.Allowance.TheVariants.{Free, Left, Spent};
 
-use crate::{Allowance, Disk};
-use alp_base::{Halt, Page};
+use crate::Disk;
+use alp_base::{Allowance, Halt, Page};
 
 /// Passes so many writes and syncs, and then answers `Stopped` to every call. Stops are no faults.
 ///

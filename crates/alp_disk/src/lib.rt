@@ -4,7 +4,6 @@
 //! outside it stay. After a sync a crash leaves what a read gives.
 #![tactic(auto)]
 
-mod allowance;
 mod disk;
 mod file_disk;
 mod fuse;
@@ -13,7 +12,6 @@ mod outcomes;
 mod pending_write;
 mod runs;
 
-pub use allowance::Allowance;
 pub use disk::Disk;
 pub use file_disk::FileDisk;
 pub use fuse::Fuse;

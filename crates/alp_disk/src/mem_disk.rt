@@ -2,9 +2,10 @@
 ghost use Rattle.std.specs.Prelude.{◌≡◌, ◌<◌, ◌≤◌, ◌+◌, ◌^◌, ◌↔◌, ℕ, Bool, true, false, [], length, replicate, vec_capacity, IsTrue, IsErr, OnOk, IfOk};
 ghost use Rattle.alp_base.specs.Pages.{zero_page};
 ghost use Rattle.alp_base.specs.Streams.{counted, is_failing};
-ghost use Rattle.alp_disk.specs.Disk.{page as page_of, IsImage, with_bytes, Torn, Follows, NoMore, Only, Adds, Spends, HasHaltCause};
+ghost use Rattle.alp_disk.specs.Disk.{page as page_of, IsImage, with_bytes, Torn, Follows, NoMore, Only, Adds};
+ghost use Rattle.alp_base.specs.Allowances.{Spends, HasHaltCause};
 ghost use Rattle.alp_disk.specs.Pending.{replay, alternated, filled, words_of};
-ghost use Rattle.alp_disk.specs.declared.allowance.Allowance.TheVariants.{Free};
+ghost use Rattle.alp_base.specs.declared.allowance.Allowance.TheVariants.{Free};
 
 use crate::Disk;
 use crate::outcomes::{ROOM, crash, newest, note, settle, zero_pages};

@@ -2,14 +2,13 @@
 ghost use Rattle.std.specs.Prelude.{◌≡◌, ◌<◌, ◌≤◌, ◌+◌, ◌++◌, ◌∷◌, ℕ, [], length, replicate, vec_len, vec_capacity, IfOk, false, if◌then◌else◌, nat_lt};
 ghost use Rattle.rand_core.specs.Steps.{stream_of, steps_u32};
 ghost use Rattle.rand_pcg.specs.Pcg.{pcg32};
-ghost use Rattle.alp_fields.specs.Forms.{overwritten};
+ghost use Rattle.alp_base.specs.Pages.{overwritten};
 ghost use Rattle.alp_base.specs.Pages.{zero_page};
 ghost use Rattle.alp_disk.specs.Disk.{Image, page as page_of, IsImage, with_bytes};
 ghost use Rattle.alp_disk.specs.Pending.{written_bytes, replay, alternated, low_bytes, filled, words_of, MayLeave};
 
 use crate::pending_write::PendingWrite;
 use alp_base::Page;
-use alp_fields::set_bytes;
 use rand_core::{Rng, SeedableRng};
 use rand_pcg::Pcg32;
 use std::alloc::{AllocError, Global};
@@ -28,17 +27,6 @@ pub fn zero_pages(alloc: Global, count: u32) -> Result<Vec<Page>, AllocError>
     Ok(pages)
 }
 
-/// The page with these bytes in it.
-fn overwrite(page: &Page, offset: u16, bytes: &[u8]) -> Page
-    requires { offset + length bytes.now ≤ 512 }
-    ensures { result ≡ overwritten page.now offset bytes.now }
-{
-    let mut array = [0; 512];
-    array.copy_from_slice(page.bytes());
-    set_bytes(&mut array, offset as usize, bytes);
-    Page::new(array)
-}
-
 /// Puts bytes into a page, where there is such a page.
 #[tactic(auto, unfolding(crate::specs::Disk::with_bytes))]
 fn put(pages: &mut Vec<Page>, at: u32, offset: u16, bytes: &[u8])
@@ -46,7 +34,7 @@ fn put(pages: &mut Vec<Page>, at: u32, offset: u16, bytes: &[u8])
     ensures { pages.new.items ≡ with_bytes pages.old.items at offset bytes.now }
 {
     if let Some(page) = pages.get_mut(at as usize) {
-        *page = overwrite(page, offset, bytes);
+        *page = page.overwritten(offset as usize, bytes);
     }
 }
 
@@ -56,7 +44,7 @@ fn overlay(page: &Page, at: u32, write: &PendingWrite) -> Page
     ensures { (image : Image) → at < length image → page.now ≡ page_of image at → result ≡ page_of (with_bytes image write.now.at write.now.offset (written_bytes write.now)) at }
 {
     if write.at == at {
-        return overwrite(page, write.offset, write.bytes());
+        return page.overwritten(write.offset as usize, write.bytes());
     }
     *page
 }

@@ -1,6 +1,7 @@
 //! Writes that all disks share.
 ghost use Rattle.std.specs.Prelude.{◌≡◌, ◌<◌, ◌≤◌, ◌+◌, ◌*◌, ℕ, length, IsTrue, OnOk};
-ghost use Rattle.alp_disk.specs.Disk.{Image, with_bytes, Torn, Only, Follows, After, Adds, Spends, HasHaltCause};
+ghost use Rattle.alp_disk.specs.Disk.{Image, with_bytes, Torn, Only, Follows, After, Adds};
+ghost use Rattle.alp_base.specs.Allowances.{Spends, HasHaltCause};
 ghost use Rattle.alp_disk.specs.Runs.{SameOutside, Holds};
 
 use crate::Disk;

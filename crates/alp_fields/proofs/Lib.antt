@@ -3,3 +3,4 @@ pub mod FormLaws
 pub mod FieldLaws
 pub mod FixedLaws
 pub mod PlaceLemmas
+pub mod ClockLemmas

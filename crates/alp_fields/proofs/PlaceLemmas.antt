@@ -7,7 +7,8 @@ use Rattle.alp_base.specs.declared.lists.TheConstants.{NAMES_PER_LIST}
 use Rattle.alp_base.specs.declared.name.TheConstants.{NAME_BYTES}
 use Rattle.alp_base.specs.Names.{is_name}
 use Rattle.alp_base.specs.Padded.{padded}
-use Rattle.alp_fields.specs.Forms.{Form, HasLength, IsSet, overwritten, pair, mapped, repeated, zeros_of, zeros_behind, u8}
+use Rattle.alp_fields.specs.Forms.{Form, HasLength, IsSet, pair, mapped, repeated, zeros_of, zeros_behind, u8}
+use Rattle.alp_base.specs.Pages.{overwritten}
 use Rattle.alp_fields.specs.Fields.{name_length, text_field, named_field, name_field, name_field_bytes, list_count, list_field}
 use Rattle.alp_base.proofs.NameLemmas as names
 use Rattle.alp_fields.proofs.FieldLaws.{u8_spell}

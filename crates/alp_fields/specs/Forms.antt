@@ -1,5 +1,6 @@
 -- Forms: how values are spelled as bytes, and how they are read from the front of bytes.
-use Rattle.std.specs.Prelude.{◌≡◌, ℕ, zero, suc, ◌+◌, ◌*◌, ◌<◌, ◌^◌, Bool, true, ◌&&◌, ◌==◌, nat_lt, nat_le, List, [], ◌∷◌, ◌++◌, length, take, drop, replicate, Option, Some, None, if◌then◌else◌}
+use Rattle.std.specs.Prelude.{◌≡◌, ℕ, zero, suc, ◌*◌, ◌<◌, ◌^◌, Bool, true, ◌&&◌, ◌==◌, nat_lt, nat_le, List, [], ◌∷◌, ◌++◌, length, take, drop, replicate, Option, Some, None, if◌then◌else◌}
+use Rattle.alp_base.specs.Pages.{overwritten}
 use Rattle.std.specs.List.{flat_map, list_all, AllByRecursion}
 use Rattle.std.specs.Int.{Width, w16, w32, w64, byte_len, to_be_bytes, from_be_bytes}
 
@@ -39,10 +40,6 @@ ended (Some x) = if length x.1 == 0 then Some x.0 else None
 -- new is old with something or nothing behind it
 abbrev pub Extends : List ℕ → List ℕ → Type 0
 Extends old new = take (length old) new ≡ old
-
--- the list with these in place of as many from place at on
-abbrev pub overwritten : List ℕ → ℕ → List ℕ → List ℕ
-overwritten old at bytes = take at old ++ (bytes ++ drop (at + length bytes) old)
 
 -- A writer put the spelling of the value, which is one that is read back, at that place.
 pub record IsSet {T : Type 0} (form : Form T) (v : T) (at : ℕ) (old new : List ℕ) : Type 0 where

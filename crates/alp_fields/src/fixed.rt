@@ -1,5 +1,5 @@
 //! Names and lists of names in fields that are as long whatever they hold: reading them.
-ghost use Rattle.std.specs.Prelude.{◌≡◌, ◌==◌, IfOk, IfSome, length, option_map};
+ghost use Rattle.std.specs.Prelude.{◌≡◌, ◌==◌, IfOk, IfSome, OnErr, length, option_map};
 ghost use Rattle.std.specs.List.{list_all};
 ghost use Rattle.alp_fields.specs.Forms.{IsRead, repeated, zeros_of};
 ghost use Rattle.alp_fields.specs.Fields.{text_field, named_field, name_field, list_field};
@@ -81,9 +81,8 @@ impl<'a> FieldReader<'a> {
         Ok(Some(names))
     }
 
-    /// An access list, with zeros in place of the names that it could have besides.
     #[tactic(auto, unfolding(crate::specs::Fields::list_field))]
-    pub fn list_field(&mut self, alloc: Global) -> Result<Option<AccessList>, OutOfMemory>
+    fn list_field_ahead(&mut self, alloc: Global) -> Result<Option<AccessList>, OutOfMemory>
         ensures { IfOk result (IsRead list_field self.old self.new) }
     {
         let Some(count) = self.list_count() else {
@@ -97,5 +96,16 @@ impl<'a> FieldReader<'a> {
             return Ok(None);
         };
         Ok(Some(AccessList::new(names)))
+    }
+
+    /// An access list, with zeros in place of the names that it could have besides.
+    pub fn list_field(&mut self, alloc: Global) -> Result<Option<AccessList>, OutOfMemory>
+        ensures ok { IfOk result (IsRead list_field self.old self.new) }
+        ensures err { OnErr result (self.new ≡ self.old) }
+    {
+        let mut ahead = self.copy();
+        let found = ahead.list_field_ahead(alloc)?;
+        *self = ahead;
+        Ok(found)
     }
 }

@@ -36,9 +36,8 @@ impl<'a> FieldReader<'a> {
         Ok(Some(names))
     }
 
-    /// An access list, of at most as many names as one may have.
     #[tactic(auto, unfolding(crate::specs::Fields::list))]
-    pub fn list(&mut self, alloc: Global) -> Result<Option<AccessList>, OutOfMemory>
+    fn list_ahead(&mut self, alloc: Global) -> Result<Option<AccessList>, OutOfMemory>
         ensures { IfOk result (IsRead list self.old self.new) }
     {
         let Some(count) = self.list_count() else {
@@ -48,6 +47,17 @@ impl<'a> FieldReader<'a> {
             return Ok(None);
         };
         Ok(Some(AccessList::new(names)))
+    }
+
+    /// An access list, of at most as many names as one may have.
+    pub fn list(&mut self, alloc: Global) -> Result<Option<AccessList>, OutOfMemory>
+        ensures ok { IfOk result (IsRead list self.old self.new) }
+        ensures err { OnErr result (self.new ≡ self.old) }
+    {
+        let mut ahead = self.copy();
+        let found = ahead.list_ahead(alloc)?;
+        *self = ahead;
+        Ok(found)
     }
 
     fn page_refs(&mut self, alloc: Global, count: u8) -> Result<Option<Vec<PageRef>>, OutOfMemory>
@@ -64,9 +74,8 @@ impl<'a> FieldReader<'a> {
         Ok(Some(pages))
     }
 
-    /// Pages, at least one.
     #[tactic(auto, unfolding(crate::specs::Fields::pages, crate::specs::Fields::some_count))]
-    pub fn pages(&mut self, alloc: Global) -> Result<Option<PageList>, OutOfMemory>
+    fn pages_ahead(&mut self, alloc: Global) -> Result<Option<PageList>, OutOfMemory>
         ensures { IfOk result (IsRead pages self.old self.new) }
     {
         let Some(count) = self.u8() else {
@@ -79,6 +88,17 @@ impl<'a> FieldReader<'a> {
             return Ok(None);
         };
         Ok(Some(PageList::new(found)))
+    }
+
+    /// Pages, at least one.
+    pub fn pages(&mut self, alloc: Global) -> Result<Option<PageList>, OutOfMemory>
+        ensures ok { IfOk result (IsRead pages self.old self.new) }
+        ensures err { OnErr result (self.new ≡ self.old) }
+    {
+        let mut ahead = self.copy();
+        let found = ahead.pages_ahead(alloc)?;
+        *self = ahead;
+        Ok(found)
     }
 }
 

@@ -1,6 +1,7 @@
 //! Fields put at places of bytes that are there already, with no memory taken.
 ghost use Rattle.std.specs.Prelude.{◌≡◌, ◌≤◌, ◌+◌, ◌*◌, length, replicate};
-ghost use Rattle.alp_fields.specs.Forms.{IsSet, overwritten, repeated, u8 as byte, u16 as short, u32 as word, u64 as long};
+ghost use Rattle.alp_fields.specs.Forms.{IsSet, repeated, u8 as byte, u16 as short, u32 as word, u64 as long};
+ghost use Rattle.alp_base.specs.Pages.{overwritten};
 ghost use Rattle.alp_fields.specs.Fields.{id_parts, file_id, name_field, named_field, list_field, name_field_bytes};
 
 use crate::NAME_FIELD_BYTES;

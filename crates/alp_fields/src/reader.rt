@@ -6,7 +6,8 @@ use std::marker::Model;
 /// What is left of some bytes, seen as the list of them.
 ///
 /// Each method reads one field from the front. It answers a value exactly where the bytes begin
-/// with its spelling, and then stands behind it. After a `None` what is left is not said.
+/// with its spelling, and then stands behind it. After a `None` what is left is not said, and after
+/// want of memory it is what it was.
 #[derive(Drop)]
 pub struct FieldReader<'a> {
     pub(super) rest: &'a [u8],
@@ -32,6 +33,13 @@ impl<'a> FieldReader<'a> {
         ensures { IsTrue result ↔ (self.now ≡ []) }
     {
         self.rest.is_empty()
+    }
+
+    /// A second reader of what is left.
+    pub fn copy(&self) -> FieldReader<'a>
+        ensures { result ≡ self.now }
+    {
+        FieldReader { rest: self.rest }
     }
 
     /// What is left.

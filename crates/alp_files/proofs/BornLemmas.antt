@@ -23,9 +23,9 @@ use Rattle.alp_files.specs.declared.refusal.Refusal.TheVariants as refusal
 use Rattle.alp_files.specs.declared.refusal.ListName.TheVariants as lists
 use Rattle.alp_files.specs.Cells.{View, props_in, owner_in, page_in}
 use Rattle.alp_files.specs.Edits.{Edit, Put, after}
-use Rattle.alp_files.specs.Act.{Own, Answer, Look, Ask, Say, run, unless, refused, told, no_answer, is_admin, on_props, on_open, on_change, if_change, ask_pages, page_past, page_puts, mark_put, read_pages, write_pages, make_owner, create_file, create_tests, created_file, is_new, owner_of, answer, id_in, open_at}
+use Rattle.alp_files.specs.Act.{Own, Answer, Look, Ask, Say, run, unless, refused, told, no_answer, is_admin, on_props, on_open, on_change, if_change, ask_pages, page_past, page_puts, mark_put, read_pages, write_pages, make_owner, create_file, create_tests, created_file, is_new, owner_of, props_of, access_tests, opened, answer, id_in, open_at}
 use Rattle.alp_files.specs.Born.{IsUnborn, count_after}
-use Rattle.alp_files.specs.Parts.{IsBuilt}
+use Rattle.alp_files.specs.Built.{IsBuilt}
 use Rattle.alp_files.proofs.EditLemmas.{after-append}
 
 -- a leader that is seen has an id that was given
@@ -206,13 +206,14 @@ unborn_kept server epoch count made m who own c r built h id = go c r built id
     go : (c : Call) (r : Reply) → IsBuilt c → ((f : FileId) (n : ℕ) → r ≡ reply.Created f n → f ≡ record { server = server; epoch = epoch; counter = count + 1 })
         → IsUnborn server epoch (after (answer server made m who own c r).edits m) (count_after count r)
     go (call.CreateFile t start choice) r built id = created start r id
+    go (call.OpenFile t f a mode choice) r built id = more ((answer server made m who own (call.OpenFile t f a mode choice) r).edits) r (keeps_unless server epoch count m h own
+        ((not (is_some (props_in (m (Leader f)))), refusal.UnknownFile) ∷ access_tests a who (props_of (m (Leader f)))) (record { reply = Some (reply.Opened (own.last + 1)); edits = []; own = opened own f a }) h)
     go (call.ReadPages t n run mode choice) r built id = more ((answer server made m who own (call.ReadPages t n run mode choice) r).edits) r (keeps_open server epoch count m h own (open_at own.opens n) (read_pages own run) (λ o p there. keeps_pages server epoch count m h own run o p))
     go (call.WritePages t n run pages choice) r built id = more ((answer server made m who own (call.WritePages t n run pages choice) r).edits) r (keeps_change server epoch count m h own (open_at own.opens n) (write_pages own run pages) (λ o p there. keeps_write server epoch count m h own run pages o p there))
     go (call.MakeOwner t name quota create choice) r built id = more ((answer server made m who own (call.MakeOwner t name quota create choice) r).edits) r (keeps_owner server epoch count m h own who name quota create)
     go (call.Hello name) r built id = absurd built
     go (call.Begin seen) r built id = absurd built
     go (call.Join t) r built id = absurd built
-    go (call.OpenFile t f a mode choice) r built id = absurd built
     go (call.CloseFile t n) r built id = absurd built
     go (call.DeleteFile t n choice) r built id = absurd built
     go (call.LockPages t n run mode choice) r built id = absurd built

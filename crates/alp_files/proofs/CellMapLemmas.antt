@@ -7,7 +7,7 @@ use Rattle.std.specs.FinMap.{FinMap, get-insert}
 use Rattle.std.specs.Map.{lookup}
 use Rattle.std.specs.BTreeMap.{is_at}
 use Rattle.std.proofs.Common.{◌≡◌, List, [], ◌∷◌, ◌++◌, ◌<◌, length, refl, sym, ◌∙◌, ap, arith}
-use Rattle.alp_files.proofs.TreeLemmas.{get_at, put_at, entries_back as entries_again, tree_sorted}
+use Rattle.alp_files.proofs.TreeLemmas.{get_at, put_at, remove_at, entries_back as entries_again, tree_sorted}
 use Rattle.alp_base.specs.declared.key.Key.{Key}
 use Rattle.alp_base.specs.Keys.{key_cmp}
 use Rattle.alp_base.specs.KeyLaws.{keys_total, exact_keys}
@@ -65,3 +65,11 @@ over-none m = λ i q. (ap (λ o. option_or o (m q)) (get_cell [] q)) i
 pub no_entries : {X : Type 0} (es : List (Key × X)) → (0 < length es → false ≡ true) → es ≡ []
 no_entries [] h = refl
 no_entries (e ∷ es) h = let some : 0 < length (e ∷ es) = omega arith in let wrong : false ≡ true = h some in cc
+
+-- one removal from the tree is one from the map
+pub one_removal : {X : Type 0} (es fs : List (Key × X)) (k : Key) → ((q : Key) → cell_at fs q ≡ cond (is_at (key_cmp k) q) None (cell_at es q)) → map.from_entries {R = key_cmp} fs ≡ map.remove (map.from_entries es) k
+one_removal es fs k h = remove_at keys_total exact_keys es fs k h
+
+-- what is seen in the map is what the entries have
+pub seen_at : {X : Type 0} (es : List (Key × X)) → map.get (map.from_entries {R = key_cmp} es) ≡ cell_at es
+seen_at es = λ i q. get_cell es q i

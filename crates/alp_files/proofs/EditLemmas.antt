@@ -13,10 +13,9 @@ use Rattle.alp_base.specs.Keys.{key_cmp}
 use Rattle.alp_base.specs.KeyLaws.{keys_total}
 use Rattle.alp_files.specs.declared.cell.Cell.{Cell}
 use Rattle.alp_files.specs.declared.cell.Cell.TheVariants as cell
-use Rattle.alp_files.specs.Cells.{Cells, View, page_in}
-use Rattle.alp_files.specs.Edits.{Edit, Put, edits_at, edit_at, after, over}
+use Rattle.alp_files.specs.Cells.{Cells, View, page_in, pages_at}
+use Rattle.alp_files.specs.Edits.{Edit, Put, edits_at, edit_at, after, over, ChangesBy}
 use Rattle.alp_files.specs.Act.{page_puts}
-use Rattle.alp_files.specs.Parts.{ChangesBy, pages_at}
 
 -- a put laid over what is seen shows where it stands
 pub or_cond : {X : Type 0} (b : Bool) (x : X) (o p : Option X) → option_or (cond b (Some x) o) p ≡ cond b (Some x) (option_or o p)
@@ -28,7 +27,7 @@ pub over_insert : (puts : Cells) (k : Key) (c : Cell) → ChangesBy (Put k c ∷
 over_insert puts k c m = λ i q.
     (ap (λ (o : Option Cell). option_or o (m q)) (get-insert keys_total puts k c q) ∙ or_cond (eq_by_cmp key_cmp q k) c (map.get puts q) (m q)) i
 
-edits_at-append : (es fs : List Edit) (q : Key) (o : Option Cell) → edits_at (es ++ fs) q o ≡ edits_at fs q (edits_at es q o)
+pub edits_at-append : (es fs : List Edit) (q : Key) (o : Option Cell) → edits_at (es ++ fs) q o ≡ edits_at fs q (edits_at es q o)
 edits_at-append [] fs q o = refl
 edits_at-append (e ∷ es) fs q o = edits_at-append es fs q (edit_at e q o)
 

@@ -29,7 +29,7 @@ use Rattle.alp_files.specs.Apart.{IsWithin, DoShowSame, OpensRead, IsSized, AreS
 use Rattle.alp_files.proofs.HistoryLemmas.{edits_map-append, get-edits_map, same_cells}
 use Rattle.alp_files.proofs.SameLemmas.{same_key-true, same_file-true}
 use Rattle.alp_files.proofs.FilesLemmas.{same-some}
-use Rattle.alp_files.proofs.HeldLemmas.{Lets, LetsEach, lets-each, apart, apart-back, writes-all, writes-is-reads}
+use Rattle.alp_files.proofs.HeldLemmas.{Lets, LetsEach, lets-each, apart, leaves-turned, writes-all, writes-is-reads}
 use Rattle.alp_files.proofs.LookLemmas.{IsReadAt, found, run-frame, run-fits, program-fits, PutsSized, within-append, lets-left}
 
 -- ---- changes stay where they may be
@@ -277,7 +277,33 @@ ids-commute ds es made f =
     ∙ sym (or_assoc (gave f ds) (gave f es) (has_file f made)) ∙ ap (λ (b : Bool). b || has_file f made) (or_comm (gave f ds) (gave f es)) ∙ or_assoc (gave f es) (gave f ds) (has_file f made)
     ∙ sym (has-after es (ids_after made ds) f ∙ ap (λ (b : Bool). gave f es || b) (has-after ds made f))
 
+-- an id that neither list of calls gave, nor anybody before
+or-parts : (a b : Bool) → (a || b) ≡ false → (a ≡ false) × (b ≡ false)
+or-parts true b e = cc
+or-parts false b e = (refl, e)
+
+pub none-given : (ds es : List Done) (made : List FileId) (f : FileId) → has_file f (ids_after made ds) ≡ false → has_file f (ids_after made es) ≡ false
+    → has_file f (ids_after (ids_after made ds) es) ≡ false
+none-given ds es made f h g =
+    has-after es (ids_after made ds) f ∙ ap (λ (b : Bool). gave f es || b) h
+    ∙ or-false (gave f es) ∙ (or-parts (gave f es) (has_file f made) (sym (has-after es made f) ∙ g)).0
+
 -- ---- two parts
+
+-- a part does the same behind another whose locks agree with its own
+pub parts-beside : (server : ℕ) (s : Standing) (p q : Locked) → AreSized (map.get s.files) → DoAgreeOnLeaves p.held q.held → IsRightUnder server s p → IsRightUnder server s q
+    → DoesSame q.held server (begun s) (begun (after_part server s p)) q.who q.calls
+parts-beside server s p q sized agree one two =
+    let t : Standing = after_part server s p in
+    let writes : (k : Key) → Writes p.held k → Reads q.held k → ⊥ = apart p.held q.held agree in
+    let within = part-within p.held server p.who p.calls s.files s.made no_opens one.formed sized tt one.covered in
+    let p_ids : AreIdsWritten p.held p.calls = ids-written p.held server p.who p.calls (begun s) one.covered in
+    let q_ids : AreIdsWritten q.held q.calls = ids-written q.held server q.who q.calls (begun s) two.covered in
+    part-frame q.held server q.who q.calls s.files t.files s.made t.made no_opens two.formed sized tt two.covered
+    (λ k r. apart-same (Reads q.held) (Writes p.held) writes (changes server (begun s) p.who p.calls) within.0 s.files k r ∙ ap (λ (x : Cells). map.get x k) (sym (files-changed server p.who p.calls (begun s))))
+    (alike-turned t.made s.made q.calls
+    (subst (λ (x : List FileId). AreNewAlike x s.made q.calls) (sym (made-after server p.who p.calls (begun s)))
+    (new-alike p.held q.held (λ k w x. writes k w (writes-is-reads q.held k x)) p.calls q.calls s.made p_ids q_ids)))
 
 pub parts-commute : (server : ℕ) (s : Standing) (p q : Locked) → AreSized (map.get s.files) → DoAgreeOnLeaves p.held q.held → IsRightUnder server s p → IsRightUnder server (after_part server s p) q → DoCommute server s p q
 parts-commute server s p q sized agree one two =
@@ -286,7 +312,6 @@ parts-commute server s p q sized agree one two =
     let p_edits : List Edit = changes server (begun s) p.who p.calls in
     let q_edits : List Edit = changes server (begun s) q.who q.calls in
     let p_writes : (k : Key) → Writes p.held k → Reads q.held k → ⊥ = apart p.held q.held agree in
-    let q_writes : (k : Key) → Writes q.held k → Reads p.held k → ⊥ = apart-back p.held q.held agree in
     let p_within = part-within p.held server p.who p.calls s.files s.made no_opens one.formed sized tt one.covered in
     let s1_files : s1.files ≡ edits_map p_edits s.files = files-changed server p.who p.calls (begun s) in
     let p_ids : AreIdsWritten p.held p.calls = ids-written p.held server p.who p.calls (begun s) one.covered in
@@ -299,19 +324,16 @@ parts-commute server s p q sized agree one two =
     (subst (λ (x : List FileId). AreNewAlike x s.made q.calls) (sym s1_made) (new-alike p.held q.held (λ k w x. p_writes k w (writes-is-reads q.held k x)) p.calls q.calls s.made p_ids q_ids)) in
     let q_within = part-within q.held server q.who q.calls s.files s.made no_opens two.formed sized tt (back.covered two.covered) in
     let t1_files : t1.files ≡ edits_map q_edits s.files = files-changed server q.who q.calls (begun s) in
-    let on : DoesSame p.held server (begun s) (begun t1) p.who p.calls =
-    part-frame p.held server p.who p.calls s.files t1.files s.made t1.made no_opens one.formed sized tt one.covered
-    (λ k r. apart-same (Reads p.held) (Writes q.held) q_writes q_edits q_within.0 s.files k r ∙ ap (λ (x : Cells). map.get x k) (sym t1_files))
-    (alike-turned t1.made s.made p.calls
-    (subst (λ (x : List FileId). AreNewAlike x s.made p.calls) (sym t1_made) (new-alike q.held p.held (λ k w x. q_writes k w (writes-is-reads p.held k x)) q.calls p.calls s.made q_ids p_ids))) in
+    let q_first : IsRightUnder server s q = record { formed = two.formed; right = back.right two.right; covered = back.covered two.covered } in
+    let on : DoesSame p.held server (begun s) (begun t1) p.who p.calls = parts-beside server s q p sized (leaves-turned p.held q.held agree) q_first one in
     record {
-      earlier = record { formed = two.formed; right = back.right two.right; covered = back.covered two.covered };
+      earlier = q_first;
       later = record { formed = one.formed; right = on.right one.right; covered = on.covered one.covered };
       files =
           files-changed server p.who p.calls (begun t1)
           ∙ ap (λ (es : List Edit). edits_map es t1.files) (sym on.edits)
           ∙ ap (edits_map p_edits) t1_files
-          ∙ edits-commute (Writes q.held) (Writes p.held) (λ k w x. q_writes k w (writes-is-reads p.held k x)) q_edits p_edits q_within.0 p_within.0 s.files
+          ∙ edits-commute (Writes q.held) (Writes p.held) (λ k w x. p_writes k x (writes-is-reads q.held k w)) q_edits p_edits q_within.0 p_within.0 s.files
           ∙ ap (edits_map q_edits) (sym s1_files)
           ∙ ap (λ (es : List Edit). edits_map es s1.files) (sym back.edits)
           ∙ sym (files-changed server q.who q.calls (begun s1));

@@ -87,6 +87,6 @@ apart-held (Some a) (Some b) w r h = let wrong : false ≡ true = read-or-write 
 pub apart : (a b : Holding) → DoAgreeOnLeaves a b → (k : Key) → Writes a k → Reads b k → ⊥
 apart a b h k w r = apart-held (mode_on a k) (mode_on b k) w r (h k)
 
--- and what one may read, the other may not write
-pub apart-back : (a b : Holding) → DoAgreeOnLeaves a b → (k : Key) → Writes b k → Reads a k → ⊥
-apart-back a b h k w r = apart b a (λ q. agree-turned (mode_on b q) (mode_on a q) ∙ h q) k w r
+-- the agreement of leaves, seen from the other
+pub leaves-turned : (a b : Holding) → DoAgreeOnLeaves a b → DoAgreeOnLeaves b a
+leaves-turned a b h k = agree-turned (mode_on b k) (mode_on a k) ∙ h k

@@ -4,10 +4,10 @@ pub mod CellMapLemmas
 pub mod EditLemmas
 pub mod HistoryLemmas
 pub mod UndoLemmas
-pub mod PartLemmas
 pub mod BornLemmas
 pub mod SumLemmas
 pub mod SameLemmas
+pub mod KeyRanges
 pub mod ChargeLemmas
 pub mod FilesLemmas
 pub mod SoundEdits
@@ -17,3 +17,4 @@ pub mod LookLemmas
 pub mod FrameLemmas
 pub mod CoverLemmas
 pub mod SwapLemmas
+pub mod ModeFieldLaw

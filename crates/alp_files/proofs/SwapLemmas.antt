@@ -4,7 +4,7 @@ use Rattle.std.specs.FinMap as map
 use Rattle.std.proofs.Common.{◌≡◌, ℕ, List, [], ◌∷◌, ◌++◌, refl, sym, ◌∙◌, ap, subst}
 use Rattle.alp_base.specs.declared.ids.FileId.{FileId}
 use Rattle.alp_base.specs.declared.ids.Stamp.{Stamp}
-use Rattle.alp_modes.specs.Holdings.{DoAgreeOnLeaves}
+use Rattle.alp_modes.specs.Holdings.{Holding, DoAgreeOnLeaves}
 use Rattle.alp_files.specs.Cells.{Cells, has_file}
 use Rattle.alp_files.specs.Edits.{edits_map}
 use Rattle.alp_files.specs.Act.{Own, Answer, run, answer, no_opens, id_in}
@@ -14,17 +14,18 @@ use Rattle.alp_files.specs.Apart.{AreSized, AreFormed, standing, Locked, after_p
 use Rattle.alp_files.proofs.FrameLemmas.{program-made, more-ids, parts-commute}
 
 -- the same ids were given
-abbrev AreAlike : List FileId → List FileId → Type 0
+abbrev pub AreAlike : List FileId → List FileId → Type 0
 AreAlike made others = (f : FileId) → has_file f made ≡ has_file f others
 
 -- the same calls, after the same ids in another order
-record Likewise (server : ℕ) (s t : Standing) (who : List ℕ) (ds : List Done) : Type 0 where
-  right : AreRight server s who ds → AreRight server t who ds
-  files : (steps server s who ds).files ≡ (steps server t who ds).files
-  made : AreAlike (steps server s who ds).made (steps server t who ds).made
+pub record Likewise (server : ℕ) (s t : Standing) (who : List ℕ) (ds : List Done) : Type 0 where
+  pub right : AreRight server s who ds → AreRight server t who ds
+  pub covered : (held : Holding) → AreCovered held server s who ds → AreCovered held server t who ds
+  pub files : (steps server s who ds).files ≡ (steps server t who ds).files
+  pub made : AreAlike (steps server s who ds).made (steps server t who ds).made
 
 calls-alike : (server : ℕ) (who : List ℕ) (ds : List Done) (m : Cells) (made others : List FileId) (own : Own) → AreAlike made others → Likewise server (standing m made own) (standing m others own) who ds
-calls-alike server who [] m made others own alike = record { right = λ h. tt; files = refl; made = alike }
+calls-alike server who [] m made others own alike = record { right = λ h. tt; covered = λ held h. tt; files = refl; made = alike }
 calls-alike server who (d ∷ ds) m made others own alike =
     let a : Answer = answer server made (map.get m) who own d.call d.reply in
     let b : Answer = answer server others (map.get m) who own d.call d.reply in
@@ -34,9 +35,14 @@ calls-alike server who (d ∷ ds) m made others own alike =
     let rest : Likewise server next (standing (edits_map b.edits m) (ids ++ others) b.own) who ds =
     subst (λ (x : Answer). Likewise server next (standing (edits_map x.edits m) (ids ++ others) x.own) who ds) e
     (calls-alike server who ds (edits_map a.edits m) (ids ++ made) (ids ++ others) a.own (λ f. more-ids (id_in d.reply) made others f (alike f))) in
-    record { right = λ h. (ap (λ (x : Answer). x.reply) (sym e) ∙ h.0, rest.right h.1); files = rest.files; made = rest.made }
+    record {
+      right = λ h. (ap (λ (x : Answer). x.reply) (sym e) ∙ h.0, rest.right h.1);
+      covered = λ held h. (h.0, rest.covered held h.1);
+      files = rest.files;
+      made = rest.made;
+    }
 
-part-alike : (server : ℕ) (who : List ℕ) (ds : List Done) (s t : Standing) → s.files ≡ t.files → AreAlike s.made t.made → Likewise server (begun s) (begun t) who ds
+pub part-alike : (server : ℕ) (who : List ℕ) (ds : List Done) (s t : Standing) → s.files ≡ t.files → AreAlike s.made t.made → Likewise server (begun s) (begun t) who ds
 part-alike server who ds s t same alike =
     subst (λ (m : Cells). Likewise server (begun s) (standing m t.made no_opens) who ds) same (calls-alike server who ds s.files s.made t.made no_opens alike)
 

@@ -18,9 +18,8 @@ use Rattle.alp_base.specs.Keys.{key_cmp}
 use Rattle.alp_base.specs.KeyLaws.{keys_total, exact_keys}
 use Rattle.alp_files.specs.declared.cell.Cell.{Cell}
 use Rattle.alp_files.specs.Cells.{Cells}
-use Rattle.alp_files.specs.Edits.{Edit, Put, over, edits_map, edits_at}
+use Rattle.alp_files.specs.Edits.{Edit, Put, over, edits_map, edits_at, ChangesBy}
 use Rattle.alp_files.specs.Undo.{puts_of, LedBy}
-use Rattle.alp_files.specs.Parts.{ChangesBy}
 use Rattle.alp_files.proofs.CellMapLemmas.{cell_at, get_cell}
 use Rattle.alp_files.proofs.EditLemmas.{over_insert, changes-append}
 

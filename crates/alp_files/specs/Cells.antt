@@ -1,11 +1,12 @@
 -- The files of one server: cells at keys.
-use Rattle.std.specs.Prelude.{ℕ, Bool, nat_eq, ◌==◌, ◌&&◌, List, [], Option, None, Some}
+use Rattle.std.specs.Prelude.{ℕ, zero, suc, ◌+◌, Bool, nat_eq, ◌==◌, ◌&&◌, List, [], ◌∷◌, Option, None, Some}
 use Rattle.std.specs.List.{list_any, filter_map}
 use Rattle.std.specs.FinMap as map
 use Rattle.std.specs.FinMap.{FinMap}
 use Rattle.std.specs.Cmp.Lexicographic.{pointwise}
 use Rattle.alp_base.specs.declared.ids.FileId.{FileId}
 use Rattle.alp_base.specs.declared.key.Key.{Key}
+use Rattle.alp_base.specs.declared.key.Key.TheVariants.{PageOf}
 use Rattle.alp_base.specs.Keys.{key_cmp}
 use Rattle.alp_base.specs.Pages.{zero_page}
 use Rattle.alp_files.specs.declared.cell.Cell.{Cell}
@@ -73,3 +74,8 @@ sizes_of m = filter_map size_in (map.values m)
 -- the owners' records, by name
 abbrev pub owners_of : Cells → List OwnerRecord
 owners_of m = filter_map (λ c. owner_in (Some c)) (map.values m)
+
+-- the pages in a row that are seen
+abbrev pub pages_at : View → FileId → ℕ → ℕ → List (List ℕ)
+pages_at m f first zero = []
+pages_at m f first (suc n) = page_in (m (PageOf f first)) ∷ pages_at m f (first + 1) n

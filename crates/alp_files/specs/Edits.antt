@@ -1,5 +1,5 @@
 -- Changes of a map of cells, and what they make of one cell.
-use Rattle.std.specs.Prelude.{ℕ, Bool, false, not, ◌&&◌, nat_le, List, [], ◌∷◌, Option, None, Some, if◌then◌else◌}
+use Rattle.std.specs.Prelude.{◌≡◌, ℕ, Bool, false, not, ◌&&◌, nat_le, List, [], ◌∷◌, Option, None, Some, if◌then◌else◌}
 use Rattle.std.specs.Option.{option_or}
 use Rattle.std.specs.FinMap as map
 use Rattle.std.specs.Ordering.{eq_by_cmp}
@@ -55,3 +55,7 @@ edit_map (Put k c) m = map.insert m k c
 abbrev pub edits_map : List Edit → Cells → Cells
 edits_map [] m = m
 edits_map (e ∷ es) m = edits_map es (edit_map e m)
+
+-- puts that changed from old to new changed what is seen through them by these edits, whatever is below them
+abbrev pub ChangesBy : List Edit → Cells → Cells → Type 0
+ChangesBy es old new = (m : View) → over new m ≡ after es (over old m)

@@ -6,8 +6,11 @@ pub mod Act
 pub mod History
 pub mod Files
 pub mod Sound
+pub mod Counts
+pub mod SoundLaws
 pub mod Locks
 pub mod Apart
-pub mod Parts
+pub mod Built
 pub mod Born
 pub mod Passing
+pub mod ModeField

@@ -1,17 +1,22 @@
 //! A map of cells by their keys.
-ghost use Rattle.std.specs.Prelude.{◌≡◌, ℕ, ◌<◌, List, [], ◌∷◌, ◌++◌, length, IfOk, OnOk, OnErr, Some, None};
-ghost use Rattle.std.specs.List.{filter_map};
-ghost use Rattle.std.specs.BTreeMap.{values, IsOrdered};
+ghost use Rattle.std.specs.Prelude.{◌≡◌, ℕ, ◌<◌, ◌≤◌, List, [], ◌∷◌, ◌++◌, length, true, false, IfOk, OnOk, OnErr, Some, None, IsSome, IfSome, IfNone, map as list_map};
+ghost use Rattle.std.specs.List.{filter_map, IsDistinct};
+ghost use Rattle.std.specs.Ordering.{eq_by_cmp};
+ghost use Rattle.std.specs.BTreeMap.{values, get, IsOrdered};
+ghost use Rattle.std.specs.BTreeMap.Range.{IsLeBy};
+ghost use Rattle.alp_base.specs.declared.key.Key.{Key as AKey};
+ghost use Rattle.alp_base.specs.declared.key.Key.TheVariants.{PageOf};
 ghost use Rattle.alp_base.specs.Keys.{key_cmp};
 ghost use Rattle.alp_files.specs.declared.cell.Cell.{Cell as ACell};
 ghost use Rattle.alp_files.specs.Undo.{puts_of, LedBy};
 ghost use Rattle.alp_files.specs.Cells.{Cells, View, size_in, sizes_of, owner_in, owners_of};
 ghost use Rattle.alp_files.specs.Edits.{over, edits_map};
+ghost use Rattle.alp_files.specs.Counts.{APageStands, page_up_to};
 ghost use Rattle.std.specs.FinMap as map;
 ghost use Rattle.std.specs.Option.{option_copied as copied};
 
 use crate::{Cell, OwnerRecord};
-use alp_base::{Key, OutOfMemory};
+use alp_base::{FileId, Key, OutOfMemory};
 use std::alloc::Global;
 use std::collections::BTreeMap;
 use std::marker::Model;
@@ -60,8 +65,8 @@ impl CellMap {
         Ok(())
     }
 
-    // Puts a cell and gives what stood at the key.
-    fn replace(&mut self, key: Key, cell: Cell) -> Result<Option<Cell>, OutOfMemory>
+    /// Puts a cell and gives what stood at the key.
+    pub fn replace(&mut self, key: Key, cell: Cell) -> Result<Option<Cell>, OutOfMemory>
         ensures ok { OnOk result (self.new ≡ map.insert self.old key cell) }
         ensures old { IfOk result (λ old. old ≡ map.get self.old key) }
         ensures err { OnErr result (self.new ≡ self.old) }
@@ -69,6 +74,22 @@ impl CellMap {
     {
         let old = self.cells.insert(key, cell)?;
         Ok(old)
+    }
+
+    /// Nothing stands at the key from now on.
+    pub fn remove(&mut self, key: &Key)
+        ensures { self.new ≡ map.remove self.old key.now }
+    {
+        self.cells.remove(key);
+    }
+
+    /// Whether a page of the file stands at a number from `first` to `last`.
+    pub fn has_page_in(&self, file: FileId, first: u32, last: u32) -> bool
+        ensures page { result ≡ true → APageStands self.now file first last }
+        ensures none { result ≡ false → (n : ℕ) → first ≤ n → n ≤ last → map.get self.now (PageOf file n) ≡ None }
+    {
+        let found = first_from(&self.cells, Key::PageOf(file, first));
+        is_page_up_to(found, file, last)
     }
 
     // Puts a cell and notes what stood at its key.
@@ -127,14 +148,13 @@ impl CellMap {
         Ok(())
     }
 
-    /// Takes copies of all cells of `puts`, each in place of what stood at its key, or of none where there is no memory
-    /// for all. Pages are shared.
-    pub fn absorb(&mut self, alloc: Global, puts: &CellMap) -> Result<(), OutOfMemory>
-        ensures ok { OnOk result (map.get self.new ≡ over puts.now (map.get self.old)) }
-        ensures err { OnErr result (self.new ≡ self.old) }
+    /// The cells and their keys, in key order. Pages are shared.
+    pub fn copies(&self, alloc: Global) -> Result<Vec<(Key, Cell)>, OutOfMemory>
+        ensures over { IfOk result (λ v. (m : Cells) → map.get (edits_map (puts_of v.items) m) ≡ over self.now (map.get m)) }
+        ensures once { IfOk result (λ v. IsDistinct (eq_by_cmp key_cmp) (list_map (λ e. e.0) v.items)) }
     {
-        let copies = copies_in(alloc, &puts.cells)?;
-        self.put_all(alloc, copies)
+        let copies = copies_in(alloc, &self.cells)?;
+        Ok(copies)
     }
 
     /// The sizes of the files, in pages.
@@ -151,6 +171,28 @@ impl CellMap {
     {
         let owners = owners_in(alloc, &self.cells)?;
         Ok(owners)
+    }
+}
+
+// Whether that is a page of the file with at most this number.
+fn is_page_up_to(found: Option<Key>, file: FileId, last: u32) -> bool
+    ensures { result ≡ page_up_to found file last }
+{
+    match found {
+        Some(Key::PageOf(other, number)) => file == other && number <= last,
+        _ => false,
+    }
+}
+
+// The least key from this one on.
+fn first_from(cells: &BTreeMap<Key, Cell>, key: Key) -> Option<Key>
+    ensures found { IfSome result (λ k. IsLeBy key_cmp key k × IsSome (get key_cmp cells.now k)) }
+    ensures least { IfSome result (λ k. (q : AKey) → IsLeBy key_cmp key q → IsSome (get key_cmp cells.now q) → IsLeBy key_cmp k q) }
+    ensures none { IfNone result ((q : AKey) → IsLeBy key_cmp key q → get key_cmp cells.now q ≡ None) }
+{
+    match cells.range(key..).next() {
+        Some((found, _)) => Some(*found),
+        None => None,
     }
 }
 

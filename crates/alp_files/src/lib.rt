@@ -6,8 +6,8 @@ mod call;
 mod cell;
 mod cell_map;
 mod laws;
+mod mode_field;
 mod open;
-mod part;
 mod props_field;
 mod refusal;
 mod reply;
@@ -20,8 +20,8 @@ pub use laws::{
     acts_keep_files_sound, acts_keep_sizes, agreeing_parts_commute, calls_keep_to_their_locks,
     grants_cover_needs, histories_keep_files_sound,
 };
+pub use mode_field::{mode_is_a_form, put_mode, read_mode};
 pub use open::Open;
-pub use part::Part;
 pub use props_field::{props_are_a_form, put_props, read_props};
 pub use refusal::{Cause, ListName, Refusal, What, Why};
 pub use reply::{Ended, Reply};

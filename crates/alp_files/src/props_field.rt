@@ -20,9 +20,8 @@ fn read_numbers(reader: &mut FieldReader) -> Option<(u16, u64, u64, u32, u32)>
     Some((type_no, create_time, byte_length, size, high_water))
 }
 
-/// The properties at the front of the bytes that are left, if some are spelled there.
 #[tactic(auto, unfolding(crate::specs::PropsField::props))]
-pub fn read_props(alloc: Global, reader: &mut FieldReader) -> Result<Option<Props>, OutOfMemory>
+fn read_ahead(alloc: Global, reader: &mut FieldReader) -> Result<Option<Props>, OutOfMemory>
     ensures { IfOk result (IsRead props reader.old reader.new) }
 {
     let Some(owner) = reader.name() else {
@@ -51,6 +50,17 @@ pub fn read_props(alloc: Global, reader: &mut FieldReader) -> Result<Option<Prop
         read,
         modify,
     }))
+}
+
+/// The properties at the front of the bytes that are left, if some are spelled there.
+pub fn read_props(alloc: Global, reader: &mut FieldReader) -> Result<Option<Props>, OutOfMemory>
+    ensures ok { IfOk result (IsRead props reader.old reader.new) }
+    ensures err { OnErr result (reader.new ≡ reader.old) }
+{
+    let mut ahead = reader.copy();
+    let found = read_ahead(alloc, &mut ahead)?;
+    *reader = ahead;
+    Ok(found)
 }
 
 #[tactic(auto, unfolding(crate::specs::PropsField::numbers))]

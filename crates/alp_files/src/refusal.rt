@@ -28,6 +28,7 @@ pub enum What {
 pub enum Why {
     UnknownJoin,
     Waiting,
+    /// Pages of a log area: what is left without this part, and what it would add.
     LogFull { room: u32, asked: u32 },
     ReadFault,
     ClockEnd,
@@ -59,8 +60,11 @@ pub enum Refusal {
     NoSuchPage { size: u32 },
     /// The charge with what is asked passes the quota.
     QuotaExceeded { charge: u32, asked: u32, quota: u32 },
+    /// Home pages of the volume: what is left, and what the call would take besides.
     VolumeFull { left: u32, asked: u32 },
+    /// Pages of a log area: what one has, and what the transaction would need with this call.
     LogFull { room: u32, asked: u32 },
+    /// The call would pass a limit of the server.
     TooMany { what: What, limit: u32 },
     /// The least transaction whose lock is in the way.
     LockConflict { holder: TransId },

@@ -1,2 +1,6 @@
 pub mod StateLemmas
 pub mod Promises
+pub mod HistoryOrder
+pub mod LifeLemmas
+pub mod OneThread
+pub mod Worked

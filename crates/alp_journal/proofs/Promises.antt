@@ -9,26 +9,27 @@ use Rattle.std.specs.Cmp.{nat_cmp_is}
 use Rattle.alp_base.specs.contracts.ids.TransIdOrd.TheImpl as trans_ord
 use Rattle.std.proofs.Common.{inl, inr, ◌≡◌, ℕ, ◌+◌, ◌<◌, ◌≤◌, List, [], ◌∷◌, ◌++◌, refl, sym, ◌∙◌, ap, subst, arith, append_assoc, append-nil}
 use Rattle.std.proofs.lemmas.Bool.{eqb-true, and_parts}
+use Rattle.std.specs.Option.{option_to_list}
+use Rattle.alp_base.specs.declared.ids.FileId.{FileId}
 use Rattle.alp_base.specs.declared.ids.TransId.{TransId}
 use Rattle.alp_base.specs.declared.ids.Stamp.{Stamp}
 use Rattle.alp_files.specs.declared.call.Call.{Call}
-use Rattle.alp_files.specs.declared.call.Call.TheVariants as call
 use Rattle.alp_files.specs.declared.reply.Reply.{Reply}
 use Rattle.alp_files.specs.declared.reply.Reply.TheVariants as reply
 use Rattle.alp_files.specs.declared.reply.Ended.{Ended}
 use Rattle.alp_files.specs.declared.reply.Ended.TheVariants as ended
-use Rattle.alp_files.specs.Passing.{is_passing}
+use Rattle.alp_files.specs.Edits.{edits_map}
+use Rattle.alp_files.specs.Act.{no_opens, id_in}
 use Rattle.alp_files.specs.History.{Done, Decided}
 use Rattle.alp_journal.specs.declared.act.Act.{Act}
 use Rattle.alp_journal.specs.declared.act.Act.TheVariants as act
 use Rattle.alp_journal.specs.declared.event.Event.{Event}
 use Rattle.alp_journal.specs.declared.event.Event.TheVariants as event
 use Rattle.alp_journal.specs.declared.entry.Entry.{Entry}
-use Rattle.alp_journal.specs.declared.log.Opening.{Opening}
-use Rattle.alp_journal.specs.State.{State, Session, Life, Along, next, state_after, after_act, after_event, opened, in_order, same_trans, stamp_cmp, file_trans, is_new, with_session, with_life, performed, does_call, begins, calls_on, called, greets, decides}
+use Rattle.alp_journal.specs.State.{State, Start, Session, Waiting, Life, Along, Kind, Greets, Begins, Collects, Plain, kind_of, next, acted, brought, state_after, after_act, after_event, opened, in_order, same_trans, stamp_cmp, is_new, answered, done_of, with_session, with_waiting, with_life, with_done, after_done, answer_in, performed, new_life, begun_in, begins, waiting_after, calls_on, called, greets, decides, grants, grants_call, asks_for, held_for}
 use Rattle.alp_journal.specs.Told.{Told, Began, Heard, told_by, told_end, told_at, told_along, IsAmong, IsAbove, AreKept}
 use Rattle.alp_journal.specs.Laws.{next_trans, DrawsNext, Decides, AreDecided, IsLawfulEntry, IsLawful, AreEarlier}
-use Rattle.alp_journal.proofs.StateLemmas.{IsQuiet, does_by, called_plain, put-last, AreEarlier-push}
+use Rattle.alp_journal.proofs.StateLemmas.{put-last, AreEarlier-push}
 
 -- ---- what stays true of a state
 
@@ -123,100 +124,85 @@ keeps_life n s x t life h own = record {
   grows = record { more = h.grows.more; decided = h.grows.decided; above = h.grows.above; clock = h.grows.clock; drawn = h.grows.drawn };
 }
 
-keeps_session : (n : ℕ) (s x : State) (client : ℕ) (w : Option Session) → Keeps n s x → Keeps n s (with_session x client w)
-keeps_session n s x client w h = record {
+-- what a client is told rests on no session, no waiting call, no file's id
+keeps_room : (n : ℕ) (s x : State) (sessions : ℕ → Option Session) (waiting : ℕ → Option Waiting) (made : List FileId) (pending : List Act) → Keeps n s x
+    → Keeps n s (record x { sessions = sessions; waiting = waiting; made = made; pending = pending })
+keeps_room n s x sessions waiting made pending h = record {
   drawn = record { earlier = h.drawn.earlier; counted = h.drawn.counted; lives = h.drawn.lives };
   grows = record { more = h.grows.more; decided = h.grows.decided; above = h.grows.above; clock = h.grows.clock; drawn = h.grows.drawn };
 }
 
 keeps_performed : (n : ℕ) (s x : State) (t : TransId) (d : Done) (o : Option Life) → x.lives t ≡ o → Keeps n s x → Keeps n s (performed x t d o)
 keeps_performed n s x t d None is h = h
-keeps_performed n s x t d (Some l) is h = keeps_life n s x t (Some _) h (λ m e. h.drawn.lives t l is)
+keeps_performed n s x t d (Some l) is h =
+    let made : List FileId = option_to_list (id_in d.reply) ++ x.made in
+    keeps_life n s (record x { made = made }) t (Some (after_done l d (answer_in x l d))) (keeps_room n s x x.sessions x.waiting made x.pending h) (λ m e. h.drawn.lives t l is)
 
-keeps_call : (n : ℕ) (s x : State) (c : Call) (r : Reply) (o : Option TransId) → Keeps n s x → Keeps n s (does_call x c r o)
-keeps_call n s x c r None h = h
-keeps_call n s x c r (Some t) h =
-    either (λ y. Keeps n s y) (is_passing r) x (performed x t (record { call = c; reply = r }) (x.lives t)) h (keeps_performed n s x t (record { call = c; reply = r }) (x.lives t) refl h)
+keeps_done : (n : ℕ) (s x : State) (o : Option (TransId × Done)) → Keeps n s x → Keeps n s (with_done x o)
+keeps_done n s x None h = h
+keeps_done n s x (Some d) h = keeps_performed n s x d.0 d.1 (x.lives d.0) refl h
 
 -- a transaction that begins is within the count
-abbrev BegunWithin : ℕ → Option Reply → Type 0
-BegunWithin n (Some (reply.Begun t)) = t.counter ≤ n
-BegunWithin n r = Unit {0}
+abbrev BegunWithin : ℕ → Option TransId → Type 0
+BegunWithin n (Some t) = t.counter ≤ n
+BegunWithin n None = Unit {0}
 
-keeps_begins : (n : ℕ) (s x : State) (client : ℕ) (w : Session) (seen : Stamp) (r : Reply) → BegunWithin n (Some r) → Keeps n s x → Keeps n s (begins x client w seen r)
-keeps_begins n s x client w seen (reply.Begun t) within h =
+keeps_begins : (n : ℕ) (s x : State) (client : ℕ) (w : Session) (k : Kind) (o : Option TransId) → BegunWithin n o → Keeps n s x → Keeps n s (begins x client w k o)
+keeps_begins n s x client w (Begins seen) (Some t) within h =
     let later : State = record x { clock = max x.clock seen.ts } in
     let le : x.clock ≤ max x.clock seen.ts = omega arith in
-    keeps_life n s later t (Some _) (record {
+    keeps_life n s later t (Some (new_life client w.who)) (record {
       drawn = record { earlier = AreEarlier-more x.clock (max x.clock seen.ts) x.decided le h.drawn.earlier; counted = h.drawn.counted; lives = h.drawn.lives };
       grows = record { more = h.grows.more; decided = h.grows.decided; above = h.grows.above; clock = omega (arith, h.grows.clock, le); drawn = h.grows.drawn };
     }) (λ l e. within)
-keeps_begins n s x client w seen (reply.Welcome e) within h = h
-keeps_begins n s x client w seen reply.Joined within h = h
-keeps_begins n s x client w seen (reply.Created f k) within h = h
-keeps_begins n s x client w seen (reply.Opened k) within h = h
-keeps_begins n s x client w seen reply.Plain within h = h
-keeps_begins n s x client w seen (reply.Pages ps) within h = h
-keeps_begins n s x client w seen (reply.Props p) within h = h
-keeps_begins n s x client w seen (reply.Owner o) within h = h
-keeps_begins n s x client w seen (reply.Committed k) within h = h
-keeps_begins n s x client w seen (reply.Ended e) within h = h
-keeps_begins n s x client w seen (reply.Refused f) within h = h
+keeps_begins n s x client w (Begins seen) None within h = h
+keeps_begins n s x client w (Greets name) o within h = h
+keeps_begins n s x client w (Collects m) o within h = h
+keeps_begins n s x client w Plain o within h = h
 
-module _ (n : ℕ) (s : State) (h : Keeps n s s) (client epoch number : ℕ) (r : Reply) (within : BegunWithin n (Some r)) where
-  abbrev counts : Session → State
-  counts w = with_session s client (Some (record w { last = w.last + 1 }))
+module _ (n : ℕ) (s x : State) (h : Keeps n s x) (client epoch number : ℕ) (c : Call) (r : Reply) (within : BegunWithin n (begun_in r)) where
+  does_on : (o : Option Session) → Keeps n s (calls_on x client o number c r)
+  does_on None = h
+  does_on (Some w) =
+      let sessions : ℕ → Option Session = (with_session x client (Some (record w { last = number }))).sessions in
+      let first : State = record x { sessions = sessions } in
+      let begun : State = begins first client w (kind_of c) (begun_in r) in
+      keeps_done n s (with_waiting begun client (waiting_after number c (kind_of c) r (x.waiting client))) (done_of x r (answered (x.waiting client) c (kind_of c)))
+      (keeps_room n s begun begun.sessions ((with_waiting begun client (waiting_after number c (kind_of c) r (x.waiting client))).waiting) begun.made begun.pending
+      (keeps_begins n s first client w (kind_of c) (begun_in r) within (keeps_room n s x sessions x.waiting x.made x.pending h)))
 
-  quiet_on : (c : Call) → IsQuiet c → (o : Option Session) → Keeps n s (calls_on s client o c r)
-  quiet_on c q None = h
-  quiet_on c q (Some w) =
-      subst (λ (x : State). Keeps n s x) (sym (does_by (counts w) client w c r q))
-      (keeps_call n s (counts w) c r (file_trans c) (keeps_session n s s client (Some (record w { last = w.last + 1 })) h))
+  new_on : Keeps n s (cond (is_new x (x.sessions client) epoch number) (calls_on x client (x.sessions client) number c r) x)
+  new_on = either (λ y. Keeps n s y) (is_new x (x.sessions client) epoch number) (calls_on x client (x.sessions client) number c r) x (does_on (x.sessions client)) h
 
-  quiet : (c : Call) → IsQuiet c → Keeps n s (called s client epoch number c r)
-  quiet c q =
-      subst (λ (x : State). Keeps n s x) (sym (called_plain s client epoch number c r q))
-      (either (λ y. Keeps n s y) (is_new s (s.sessions client) epoch number) (calls_on s client (s.sessions client) c r) s (quiet_on c q (s.sessions client)) h)
-
-  begins_on : (seen : Stamp) (o : Option Session) → Keeps n s (calls_on s client o (call.Begin seen) r)
-  begins_on seen None = h
-  begins_on seen (Some w) = keeps_begins n s (counts w) client w seen r within (keeps_session n s s client (Some (record w { last = w.last + 1 })) h)
-
-  greets_on : (name : List ℕ) (o : Option Session) → Keeps n s (greets s client epoch number name o)
+  greets_on : (name : List ℕ) (o : Option Session) → Keeps n s (greets x client epoch number name o)
   greets_on name (Some w) = h
-  greets_on name None = either (λ y. Keeps n s y) (epoch == 0 && number == 1) (with_session s client (Some (record { who = name; last = 1 }))) s (keeps_session n s s client (Some (record { who = name; last = 1 })) h) h
+  greets_on name None =
+      let with_one : State = with_session x client (Some (record { who = name; last = 1 })) in
+      either (λ y. Keeps n s y) (epoch == 0 && number == 1) with_one x (keeps_room n s x with_one.sessions x.waiting x.made x.pending h) h
 
-  keeps_called : (c : Call) → Keeps n s (called s client epoch number c r)
-  keeps_called (call.Hello name) = greets_on name (s.sessions client)
-  keeps_called (call.Begin seen) = either (λ y. Keeps n s y) (is_new s (s.sessions client) epoch number) (calls_on s client (s.sessions client) (call.Begin seen) r) s (begins_on seen (s.sessions client)) h
-  keeps_called (call.Join t) = quiet (call.Join t) tt
-  keeps_called (call.CreateFile t start choice) = quiet (call.CreateFile t start choice) tt
-  keeps_called (call.OpenFile t f a mode choice) = quiet (call.OpenFile t f a mode choice) tt
-  keeps_called (call.CloseFile t k) = quiet (call.CloseFile t k) tt
-  keeps_called (call.DeleteFile t k choice) = quiet (call.DeleteFile t k choice) tt
-  keeps_called (call.ReadPages t k run mode choice) = quiet (call.ReadPages t k run mode choice) tt
-  keeps_called (call.WritePages t k run pages choice) = quiet (call.WritePages t k run pages choice) tt
-  keeps_called (call.LockPages t k run mode choice) = quiet (call.LockPages t k run mode choice) tt
-  keeps_called (call.SetSize t k size choice) = quiet (call.SetSize t k size choice) tt
-  keeps_called (call.ReadProps t k) = quiet (call.ReadProps t k) tt
-  keeps_called (call.WriteProps t k change choice) = quiet (call.WriteProps t k change choice) tt
-  keeps_called (call.ReadOwner t name choice) = quiet (call.ReadOwner t name choice) tt
-  keeps_called (call.MakeOwner t name quota create choice) = quiet (call.MakeOwner t name quota create choice) tt
-  keeps_called (call.SetQuota t name quota choice) = quiet (call.SetQuota t name quota choice) tt
-  keeps_called (call.Finish t commit) = quiet (call.Finish t commit) tt
-  keeps_called (call.Outcome t) = quiet (call.Outcome t) tt
-  keeps_called (call.Collect k) = quiet (call.Collect k) tt
+  keeps_called : (k : Kind) → Keeps n s (called x client epoch number c k r)
+  keeps_called (Greets name) = greets_on name (x.sessions client)
+  keeps_called (Begins seen) = new_on
+  keeps_called (Collects m) = new_on
+  keeps_called Plain = new_on
 
-keeps_event : (n : ℕ) (s : State) (e : Event) (r : Option Reply) → BegunWithin n r → AreDrawn n s → Keeps n s (after_event s e r)
-keeps_event n s (event.Call client epoch number c) (Some r) within h = keeps_called n s (record { drawn = h; grows = grows_not s }) client epoch number r within c
-keeps_event n s (event.Call client epoch number c) None within h = record { drawn = h; grows = grows_not s }
-keeps_event n s (event.Arrive from message) r within h = record { drawn = h; grows = grows_not s }
-keeps_event n s (event.Timeout t) r within h = record { drawn = h; grows = grows_not s }
-keeps_event n s event.Tick r within h = record { drawn = h; grows = grows_not s }
-keeps_event n s event.Force r within h = record { drawn = h; grows = grows_not s }
-keeps_event n s event.Restart r within h = record { drawn = h; grows = grows_not s }
+abbrev ReplyWithin : ℕ → Option Reply → Type 0
+ReplyWithin n None = Unit {0}
+ReplyWithin n (Some r) = BegunWithin n (begun_in r)
+
+keeps_event : (n : ℕ) (s x : State) (e : Event) (r : Option Reply) → ReplyWithin n r → Keeps n s x → Keeps n s (after_event x e r)
+keeps_event n s x (event.Call client epoch number c) (Some r) within h = keeps_called n s x h client epoch number c r within (kind_of c)
+keeps_event n s x (event.Call client epoch number c) None within h = h
+keeps_event n s x (event.Arrive from message) r within h = h
+keeps_event n s x (event.Timeout t) r within h = h
+keeps_event n s x event.Tick r within h = h
+keeps_event n s x event.Force r within h = h
+keeps_event n s x event.Restart r within h = h
 
 -- ---- acts
+
+keeps_same : (n : ℕ) (x : State) → AreDrawn n x → Keeps n x x
+keeps_same n x h = record { drawn = h; grows = grows_not x }
 
 keeps_decided : (n : ℕ) (x : State) (stamp : Stamp) (o : Option Life) → x.lives stamp.trans ≡ o → x.clock < stamp.ts → IsSome o → AreDrawn n x → Keeps n x (decides x stamp o)
 keeps_decided n x stamp None is late some h = cc
@@ -224,7 +210,8 @@ keeps_decided n x stamp (Some l) is late some h =
     let d : Decided = record { stamp = stamp; who = l.who; calls = l.calls } in
     let clock : max x.clock stamp.ts ≡ stamp.ts = omega arith in
     let places : put stamp_cmp stamp d x.decided ≡ x.decided ++ (stamp, d) ∷ [] = put-last x.decided stamp d x.clock h.earlier late in
-    record {
+    let y : State = record x { cells = edits_map l.edits x.cells; clock = max x.clock stamp.ts; decided = put stamp_cmp stamp d x.decided } in
+    keeps_life n x y stamp.trans (Some (record l { calls = []; edits = []; own = no_opens; vote = None })) (record {
       drawn = record {
         earlier = subst (λ (k : ℕ). AreEarlier k (put stamp_cmp stamp d x.decided)) (sym clock)
             (subst (λ (ds : List (Stamp × Decided)). AreEarlier stamp.ts ds) (sym places) (AreEarlier-push x.decided stamp d x.clock h.earlier (omega (arith, late))));
@@ -232,82 +219,75 @@ keeps_decided n x stamp (Some l) is late some h =
         lives = h.lives;
       };
       grows = record { more = (stamp, d) ∷ []; decided = places; above = (late, tt); clock = omega arith; drawn = omega arith };
-    }
+    }) (λ m e. h.lives stamp.trans l is)
 
-keeps_same : (n : ℕ) (x : State) → AreDrawn n x → Keeps n x x
-keeps_same n x h = record { drawn = h; grows = grows_not x }
+keeps_grants : (n : ℕ) (e : Event) (x : State) (t : TransId) (o : Option Life) → x.lives t ≡ o → AreDrawn n x → Keeps n x (grants e x t o)
+keeps_grants n e x t None is h = keeps_same n x h
+keeps_grants n e x t (Some l) is h =
+    let y : State = grants_call x t l (asks_for e x t l) in
+    keeps_room n x y y.sessions (grants e x t (Some l)).waiting y.made y.pending (go (asks_for e x t l))
+  where
+    go : (c : Option Call) → Keeps n x (grants_call x t l c)
+    go None = keeps_same n x h
+    go (Some c) = keeps_life n x x t (Some (record l { held = held_for x l c })) (keeps_same n x h) (λ m e. h.lives t l is)
 
-keeps_act : (n : ℕ) (x : State) (a : Act) → Decides x a → AreDrawn n x → Keeps n x (after_act x a)
-keeps_act n x (act.Decided stamp parts) law h = keeps_decided n x stamp (x.lives stamp.trans) refl law.0 law.1 h
-keeps_act n x (act.Drawn t) law h = record {
+keeps_act : (n : ℕ) (e : Event) (x : State) (a : Act) → Decides x a → AreDrawn n x → Keeps n x (after_act e x a)
+keeps_act n e x (act.Decided stamp parts) law h = keeps_decided n x stamp (x.lives stamp.trans) refl law.0 law.1 h
+keeps_act n e x (act.Drawn t) law h = record {
   drawn = record { earlier = h.earlier; counted = h.counted; lives = h.lives };
   grows = record { more = []; decided = sym (append-nil x.decided); above = tt; clock = omega arith; drawn = omega arith };
 }
-keeps_act n x (act.Released t) law h = keeps_life n x x t None (keeps_same n x h) (λ l e. cc)
-keeps_act n x (act.Sent to message) law h = keeps_same n x h
-keeps_act n x (act.Granted t) law h = keeps_same n x h
-keeps_act n x (act.Registered t join) law h = keeps_same n x h
-keeps_act n x (act.Readied t join ts) law h = keeps_same n x h
-keeps_act n x (act.Applied join stamp) law h = keeps_same n x h
-keeps_act n x (act.Forgot t) law h = keeps_same n x h
-keeps_act n x (act.Regained epoch clock ready stamps) law h = keeps_same n x h
-keeps_act n x act.Stopped law h = keeps_same n x h
-keeps_act n x act.Failed law h = keeps_same n x h
+keeps_act n e x (act.Released t) law h = keeps_life n x x t None (keeps_same n x h) (λ l e. cc)
+keeps_act n e x (act.Granted t) law h = keeps_grants n e x t (x.lives t) refl h
+keeps_act n e x (act.Sent to message) law h = keeps_same n x h
+keeps_act n e x (act.Registered t join) law h = keeps_same n x h
+keeps_act n e x (act.Readied t join ts) law h = keeps_same n x h
+keeps_act n e x (act.Applied join stamp) law h = keeps_same n x h
+keeps_act n e x (act.Forgot t) law h = keeps_same n x h
+keeps_act n e x (act.Regained epoch clock ready stamps) law h = keeps_same n x h
+keeps_act n e x act.Stopped law h = keeps_same n x h
+keeps_act n e x act.Failed law h = keeps_same n x h
 
-keeps_acts : (n : ℕ) (x : State) (acts : List Act) → Along after_act Decides x acts → AreDrawn n x → Keeps n x (state_after after_act x acts)
-keeps_acts n x [] law h = keeps_same n x h
-keeps_acts n x (a ∷ acts) law h =
-    let one : Keeps n x (after_act x a) = keeps_act n x a law.0 h in
-    let rest : Keeps n (after_act x a) (state_after after_act (after_act x a) acts) = keeps_acts n (after_act x a) acts law.1 one.drawn in
-    record { drawn = rest.drawn; grows = grows_on x (after_act x a) (state_after after_act (after_act x a) acts) one.grows rest.grows }
+keeps_acts : (n : ℕ) (e : Event) (x : State) (acts : List Act) → Along (after_act e) Decides x acts → AreDrawn n x → Keeps n x (state_after (after_act e) x acts)
+keeps_acts n e x [] law h = keeps_same n x h
+keeps_acts n e x (a ∷ acts) law h =
+    let one : Keeps n x (after_act e x a) = keeps_act n e x a law.0 h in
+    let rest : Keeps n (after_act e x a) (state_after (after_act e) (after_act e x a) acts) = keeps_acts n e (after_act e x a) acts law.1 one.drawn in
+    record { drawn = rest.drawn; grows = grows_on x (after_act e x a) (state_after (after_act e) (after_act e x a) acts) one.grows rest.grows }
 
 -- ---- an entry
 
-module _ (s : State) (e : Event) (acts : List Act) (h : AreDrawn s.drawn s) where
-  abbrev leaves : Option Reply → State
-  leaves r = state_after after_act (after_event s e r) acts
-
-  abbrev Stays : Option Reply → Type 0
-  Stays r = Keeps (leaves r).drawn s (leaves r)
-
-  counted_by : (n : ℕ) (r : Option Reply) → s.drawn ≤ n → BegunWithin n r → Along after_act Decides (after_event s e r) acts → Keeps n s (leaves r)
-  counted_by n r le within law =
-      let first : Keeps n s (after_event s e r) = keeps_event n s e r within (AreDrawn-more s.drawn n s le h) in
-      let rest : Keeps n (after_event s e r) (leaves r) = keeps_acts n (after_event s e r) acts law first.drawn in
-      record { drawn = rest.drawn; grows = grows_on s (after_event s e r) (leaves r) first.grows rest.grows }
-
-  plain : (r : Option Reply) → BegunWithin s.drawn r → Along after_act Decides (after_event s e r) acts → Stays r
-  plain r within law =
-      let k : Keeps s.drawn s (leaves r) = counted_by s.drawn r (omega arith) within law in
-      record { drawn = AreDrawn-more s.drawn (leaves r).drawn (leaves r) k.grows.drawn k.drawn; grows = k.grows }
-
-  fresh : (t : TransId) → t ≡ next_trans s → acts ≡ act.Drawn t ∷ [] → Along after_act Decides (after_event s e (Some (reply.Begun t))) acts → Stays (Some (reply.Begun t))
-  fresh t is drawn law =
-      let r : Option Reply = Some (reply.Begun t) in
-      let counter : t.counter ≡ s.drawn + 1 = ap (λ (u : TransId). u.counter) is in
-      let k : Keeps (s.drawn + 1) s (leaves r) = counted_by (s.drawn + 1) r (omega arith) (omega (arith, counter)) law in
-      let first : Keeps (s.drawn + 1) s (after_event s e r) = keeps_event (s.drawn + 1) s e r (omega (arith, counter)) (AreDrawn-more s.drawn (s.drawn + 1) s (omega arith) h) in
-      let enough : s.drawn + 1 ≤ (leaves r).drawn =
-      subst (λ (xs : List Act). s.drawn + 1 ≤ (state_after after_act (after_event s e r) xs).drawn) (sym drawn) (omega (arith, first.grows.drawn)) in
-      record { drawn = AreDrawn-more (s.drawn + 1) (leaves r).drawn (leaves r) enough k.drawn; grows = k.grows }
-
-  stays : (r : Option Reply) → DrawsNext s r acts → Along after_act Decides (after_event s e r) acts → Stays r
-  stays (Some (reply.Begun t)) ids law = fresh t ids.0 ids.1 law
-  stays None ids law = plain None tt law
-  stays (Some (reply.Welcome k)) ids law = plain (Some (reply.Welcome k)) tt law
-  stays (Some reply.Joined) ids law = plain (Some reply.Joined) tt law
-  stays (Some (reply.Created f k)) ids law = plain (Some (reply.Created f k)) tt law
-  stays (Some (reply.Opened k)) ids law = plain (Some (reply.Opened k)) tt law
-  stays (Some reply.Plain) ids law = plain (Some reply.Plain) tt law
-  stays (Some (reply.Pages ps)) ids law = plain (Some (reply.Pages ps)) tt law
-  stays (Some (reply.Props p)) ids law = plain (Some (reply.Props p)) tt law
-  stays (Some (reply.Owner o)) ids law = plain (Some (reply.Owner o)) tt law
-  stays (Some (reply.Committed k)) ids law = plain (Some (reply.Committed k)) tt law
-  stays (Some (reply.Ended k)) ids law = plain (Some (reply.Ended k)) tt law
-  stays (Some (reply.Refused f)) ids law = plain (Some (reply.Refused f)) tt law
+-- a transaction that a lawful entry begins is within the count
+draws : (s : State) (e : Entry) (r : Option Reply) → DrawsNext s r e.acts → s.drawn ≤ (acted s e).drawn → ReplyWithin (acted s e).drawn r
+draws s e (Some (reply.Begun t)) ids le =
+    let counter : t.counter ≡ s.drawn + 1 = ap (λ (u : TransId). u.counter) ids.0 in
+    let count : (acted s e).drawn ≡ s.drawn + 1 = ap (λ (acts : List Act). (state_after (after_act e.event) s (brought acts)).drawn) ids.1 in
+    omega (arith, counter, count)
+draws s e None ids le = tt
+draws s e (Some (reply.Welcome k)) ids le = tt
+draws s e (Some reply.Joined) ids le = tt
+draws s e (Some (reply.Created f k)) ids le = tt
+draws s e (Some (reply.Opened k)) ids le = tt
+draws s e (Some reply.Plain) ids le = tt
+draws s e (Some (reply.Pages ps)) ids le = tt
+draws s e (Some (reply.Props p)) ids le = tt
+draws s e (Some (reply.Owner o)) ids le = tt
+draws s e (Some (reply.Committed k)) ids le = tt
+draws s e (Some (reply.Ended k)) ids le = tt
+draws s e (Some (reply.Refused f)) ids le = tt
 
 keeps_entry : (s : State) (e : Entry) → IsLawfulEntry s e → AreDrawn s.drawn s → Keeps (next s e).drawn s (next s e)
-keeps_entry s e law h = stays s e.event e.acts h e.reply law.ids law.decision
+keeps_entry s e law h =
+    let x : State = state_after (after_act e.event) s (brought e.acts) in
+    let y : State = acted s e in
+    let came : Keeps s.drawn s x = keeps_acts s.drawn e.event s (brought e.acts) law.decision h in
+    let first : Keeps x.drawn s y =
+    keeps_room x.drawn s x x.sessions x.waiting x.made y.pending (record { drawn = AreDrawn-more s.drawn x.drawn x came.grows.drawn came.drawn; grows = came.grows }) in
+    let then_on : Keeps x.drawn y (next s e) = keeps_event x.drawn y y e.event e.reply (draws s e e.reply law.ids came.grows.drawn) (keeps_same x.drawn y first.drawn) in
+    record {
+      drawn = AreDrawn-more x.drawn (next s e).drawn (next s e) then_on.grows.drawn then_on.drawn;
+      grows = grows_on s y (next s e) first.grows then_on.grows;
+    }
 
 keeps_all : (s : State) (es : List Entry) → Along next IsLawfulEntry s es → AreDrawn s.drawn s → Grows s (state_after next s es)
 keeps_all s [] law h = grows_not s
@@ -425,5 +405,5 @@ kept_from client s (e ∷ es) before h law w =
     (λ b x. kept_from client (next s e) es b one.drawn law.1 x) client e.event e.reply e.acts law.0.ids law.0.told
 
 -- each client's promises are kept in what a lawful journal decides
-pub promises_kept : (o : Opening) (journal : List Entry) (client : ℕ) → IsLawful o journal → AreKept (in_order (state_after next (opened o) journal)) [] (told_along client journal)
+pub promises_kept : (o : Start) (journal : List Entry) (client : ℕ) → IsLawful o journal → AreKept (in_order (state_after next (opened o) journal)) [] (told_along client journal)
 promises_kept o journal client law = kept_from client (opened o) journal [] (record { earlier = tt; counted = tt; lives = λ t l e. cc }) law tt

@@ -1,21 +1,26 @@
 -- what one entry more makes of the state of a journal
-use Rattle.std.specs.Prelude.{cond, Bool, true, false, ◌&&◌, ◌==◌, Option, Some}
+use Rattle.std.specs.Prelude.{cond, Bool, true, false, ◌&&◌, ◌||◌, ◌==◌, Option, Some}
 use Rattle.std.specs.FinMap.Entries.{put, by_order}
 use Rattle.std.specs.declared.cmp.Ordering.{Ordering}
 use Rattle.std.specs.declared.cmp.Ordering.TheVariants.{Greater}
 use Rattle.std.specs.Ordering.{nat_cmp, ordering_then}
 use Rattle.std.specs.Cmp.{nat_cmp_is}
 use Rattle.alp_base.specs.contracts.ids.TransIdOrd.TheImpl as trans_ord
-use Rattle.std.proofs.Common.{◌≡◌, ℕ, ◌+◌, ◌<◌, ◌≤◌, List, [], ◌∷◌, ◌++◌, refl, sym, ◌∙◌, ap, eq-eqb, arith}
+use Rattle.std.proofs.Common.{◌≡◌, ℕ, ◌+◌, ◌<◌, ◌≤◌, List, [], ◌∷◌, ◌++◌, None, refl, sym, ◌∙◌, ap, eq-eqb, arith}
+use Rattle.std.proofs.lemmas.Bool.{eqb-true, and_parts}
 use Rattle.alp_base.specs.declared.ids.TransId.{TransId}
 use Rattle.alp_base.specs.declared.ids.Stamp.{Stamp}
 use Rattle.alp_files.specs.declared.call.Call.{Call}
 use Rattle.alp_files.specs.declared.call.Call.TheVariants as call
 use Rattle.alp_files.specs.declared.reply.Reply.{Reply}
-use Rattle.alp_files.specs.Passing.{is_passing}
-use Rattle.alp_files.specs.History.{Decided}
+use Rattle.alp_files.specs.declared.reply.Reply.TheVariants as reply
+use Rattle.alp_files.specs.declared.refusal.Refusal.{Refusal}
+use Rattle.alp_files.specs.declared.refusal.Refusal.TheVariants as refusal
+use Rattle.alp_files.specs.Passing.{is_passing, is_passing_refusal, IsFileReply}
+use Rattle.alp_journal.specs.declared.event.Event.TheVariants as event
+use Rattle.alp_files.specs.History.{Done, Decided}
 use Rattle.alp_journal.specs.Laws.{AreEarlier}
-use Rattle.alp_journal.specs.State.{State, Session, Life, Along, state_after, same_trans, stamp_cmp, file_trans, is_new, with_session, performed, does_call, does, begins, calls_on, called}
+use Rattle.alp_journal.specs.State.{State, Session, Along, Kind, Plain, Begins, kind_of, state_after, same_trans, stamp_cmp, file_trans, is_new, is_not_yet, is_of_no_file, performs, answered, done_by, done_of, with_session, with_waiting, with_done, begun_in, begins, waits, waiting_after, calls_on, called}
 
 pub state_after-push : {S E : Type 0} (step : S → E → S) (s : S) (es : List E) (e : E) → state_after step s (es ++ e ∷ []) ≡ step (state_after step s es) e
 state_after-push step s [] e = refl
@@ -30,6 +35,15 @@ same_trans-itself t =
     ap (λ (b : Bool). b && t.epoch == t.epoch && t.counter == t.counter) (eq-eqb t.server t.server refl)
     ∙ ap (λ (b : Bool). b && t.counter == t.counter) (eq-eqb t.epoch t.epoch refl) ∙ eq-eqb t.counter t.counter refl
 
+pub same_trans-true : (u t : TransId) → same_trans u t ≡ true → u ≡ t
+same_trans-true u t e =
+    let both = and_parts (u.server == t.server && u.epoch == t.epoch) (u.counter == t.counter) e in
+    let first = and_parts (u.server == t.server) (u.epoch == t.epoch) both.0 in
+    let server : u.server ≡ t.server = eqb-true u.server t.server first.0 in
+    let epoch : u.epoch ≡ t.epoch = eqb-true u.epoch t.epoch first.1 in
+    let counter : u.counter ≡ t.counter = eqb-true u.counter t.counter both.1 in
+    λ i. record { server = server i; epoch = epoch i; counter = counter i }
+
 pub cond_twice : {A : Type 0} (b : Bool) (x y z : A) → cond b x (cond b y z) ≡ cond b x z
 cond_twice true x y z = refl
 cond_twice false x y z = refl
@@ -38,83 +52,92 @@ pub cond_itself : {A : Type 0} (b : Bool) (x : A) → cond b x x ≡ x
 cond_itself true x = refl
 cond_itself false x = refl
 
--- the calls that are no file calls and change nothing but the session's number
-abbrev pub IsQuiet : Call → Type 0
-IsQuiet (call.Hello name) = ⊥
-IsQuiet (call.Begin seen) = ⊥
-IsQuiet _ = Unit {0}
+-- a call that is no greeting
+called_at : (s : State) (client epoch number : ℕ) (c : Call) (k : Kind) (r : Reply) → kind_of c ≡ k → called s client epoch number c (kind_of c) r ≡ called s client epoch number c k r
+called_at s client epoch number c k r is = ap (λ (x : Kind). called s client epoch number c x r) is
 
-pub does_by : (s : State) (client : ℕ) (w : Session) (c : Call) (r : Reply) → IsQuiet c → does s client w c r ≡ does_call s c r (file_trans c)
-does_by s client w (call.Hello name) r q = absurd q
-does_by s client w (call.Begin seen) r q = absurd q
-does_by s client w (call.Join t) r q = refl
-does_by s client w (call.CreateFile t start choice) r q = refl
-does_by s client w (call.OpenFile t f a mode choice) r q = refl
-does_by s client w (call.CloseFile t n) r q = refl
-does_by s client w (call.DeleteFile t n choice) r q = refl
-does_by s client w (call.ReadPages t n run mode choice) r q = refl
-does_by s client w (call.WritePages t n run pages choice) r q = refl
-does_by s client w (call.LockPages t n run mode choice) r q = refl
-does_by s client w (call.SetSize t n size choice) r q = refl
-does_by s client w (call.ReadProps t n) r q = refl
-does_by s client w (call.WriteProps t n change choice) r q = refl
-does_by s client w (call.ReadOwner t name choice) r q = refl
-does_by s client w (call.MakeOwner t name quota create choice) r q = refl
-does_by s client w (call.SetQuota t name quota choice) r q = refl
-does_by s client w (call.Finish t commit) r q = refl
-does_by s client w (call.Outcome t) r q = refl
-does_by s client w (call.Collect n) r q = refl
-
-pub called_plain : (s : State) (client epoch number : ℕ) (c : Call) (r : Reply) → IsQuiet c
-    → called s client epoch number c r ≡ cond (is_new s (s.sessions client) epoch number) (calls_on s client (s.sessions client) c r) s
-called_plain s client epoch number (call.Hello name) r q = absurd q
-called_plain s client epoch number (call.Begin seen) r q = absurd q
-called_plain s client epoch number (call.Join t) r q = refl
-called_plain s client epoch number (call.CreateFile t start choice) r q = refl
-called_plain s client epoch number (call.OpenFile t f a mode choice) r q = refl
-called_plain s client epoch number (call.CloseFile t n) r q = refl
-called_plain s client epoch number (call.DeleteFile t n choice) r q = refl
-called_plain s client epoch number (call.ReadPages t n run mode choice) r q = refl
-called_plain s client epoch number (call.WritePages t n run pages choice) r q = refl
-called_plain s client epoch number (call.LockPages t n run mode choice) r q = refl
-called_plain s client epoch number (call.SetSize t n size choice) r q = refl
-called_plain s client epoch number (call.ReadProps t n) r q = refl
-called_plain s client epoch number (call.WriteProps t n change choice) r q = refl
-called_plain s client epoch number (call.ReadOwner t name choice) r q = refl
-called_plain s client epoch number (call.MakeOwner t name quota create choice) r q = refl
-called_plain s client epoch number (call.SetQuota t name quota choice) r q = refl
-called_plain s client epoch number (call.Finish t commit) r q = refl
-called_plain s client epoch number (call.Outcome t) r q = refl
-called_plain s client epoch number (call.Collect n) r q = refl
+abbrev counted : State → ℕ → ℕ → Session → State
+counted s client number w = with_session s client (Some (record w { last = number }))
 
 -- the call that a session expects
 new_call : (s : State) (w : Session) (epoch number : ℕ) → epoch ≡ s.epoch → number ≡ w.last + 1 → is_new s (Some w) epoch number ≡ true
 new_call s w epoch number e n =
     ap (λ (b : Bool). b && number == w.last + 1) (eq-eqb epoch s.epoch e) ∙ eq-eqb number (w.last + 1) n
 
+-- a call of its session that stands by itself, answered by other than not yet
 pub called-next : (s : State) (client epoch number : ℕ) (w : Session) (c : Call) (r : Reply) (o : Option TransId)
-    → s.sessions client ≡ Some w → epoch ≡ s.epoch → number ≡ w.last + 1 → IsQuiet c → file_trans c ≡ o
-    → called s client epoch number c r ≡ does_call (with_session s client (Some (record w { last = w.last + 1 }))) c r o
-called-next s client epoch number w c r o is e n q trans =
-    called_plain s client epoch number c r q
-    ∙ ap (λ (x : Option Session). cond (is_new s x epoch number) (calls_on s client x c r) s) is
-    ∙ ap (λ (b : Bool). cond b (does (with_session s client (Some (record w { last = w.last + 1 }))) client w c r) s) (new_call s w epoch number e n)
-    ∙ does_by (with_session s client (Some (record w { last = w.last + 1 }))) client w c r q
-    ∙ ap (does_call (with_session s client (Some (record w { last = w.last + 1 }))) c r) trans
+    → s.sessions client ≡ Some w → epoch ≡ s.epoch → number ≡ w.last + 1 → kind_of c ≡ Plain → is_not_yet r ≡ false → file_trans c ≡ o
+    → called s client epoch number c (kind_of c) r
+    ≡ with_done (with_waiting (with_session s client (Some (record w { last = number }))) client (s.waiting client)) (done_by s c r o)
+called-next s client epoch number w c r o is e n plain own trans =
+    called_at s client epoch number c Plain r plain
+    ∙ ap (λ (x : Option Session). cond (is_new s x epoch number) (calls_on s client x number c r) s) is
+    ∙ ap (λ (b : Bool). cond b (calls_on s client (Some w) number c r) s) (new_call s w epoch number e n)
+    ∙ ap (λ (k : Kind). with_done (with_waiting (begins (counted s client number w) client w k (begun_in r)) client (waiting_after number c k r (s.waiting client))) (done_of s r (answered (s.waiting client) c k))) plain
+    ∙ ap (λ (b : Bool). with_done (with_waiting (counted s client number w) client (cond b (waits number c (s.waiting client)) (s.waiting client))) (done_by s c r (file_trans c))) own
+    ∙ ap (λ (x : Option TransId). with_done (with_waiting (counted s client number w) client (s.waiting client)) (done_by s c r x)) trans
+
+-- the file call of its session that it performs
+pub performs-next : (s : State) (client epoch number : ℕ) (w : Session) (c : Call) (r : Reply) (t : TransId)
+    → s.sessions client ≡ Some w → epoch ≡ s.epoch → number ≡ w.last + 1 → kind_of c ≡ Plain → file_trans c ≡ Some t
+    → performs s (event.Call client epoch number c) (Some r) ≡ done_by s c r (Some t)
+performs-next s client epoch number w c r t is e n plain trans =
+    ap (λ (x : Option Session). cond {A = Option (TransId × Done)} (is_new s x epoch number) (done_of s r (answered (s.waiting client) c (kind_of c))) None) is
+    ∙ ap (λ (b : Bool). cond {A = Option (TransId × Done)} b (done_of s r (answered (s.waiting client) c (kind_of c))) None) (new_call s w epoch number e n)
+    ∙ ap (λ (k : Kind). done_of s r (answered (s.waiting client) c k)) plain
+    ∙ ap (done_by s c r) trans
+
+-- a file call with a reply of its own
+pub done_by-plain : (s : State) (c : Call) (r : Reply) (t : TransId) → is_passing r ≡ false → is_of_no_file s c r ≡ false → done_by s c r (Some t) ≡ Some (t, record { call = c; reply = r })
+done_by-plain s c r t own here =
+    ap (λ (b : Bool). cond {A = Option (TransId × Done)} (b || is_of_no_file s c r) None (Some (t, record { call = c; reply = r }))) own
+    ∙ ap (λ (b : Bool). cond {A = Option (TransId × Done)} b None (Some (t, record { call = c; reply = r }))) here
+
+not_yet_refusal : (f : Refusal) → is_passing_refusal f ≡ false → is_not_yet (reply.Refused f) ≡ false
+not_yet_refusal refusal.NotYet h = cc
+not_yet_refusal refusal.BadFrame h = refl
+not_yet_refusal (refusal.StaleSession epoch) h = refl
+not_yet_refusal refusal.UnknownTrans h = refl
+not_yet_refusal refusal.Finishing h = refl
+not_yet_refusal refusal.UnknownOpen h = refl
+not_yet_refusal refusal.UnknownFile h = refl
+not_yet_refusal refusal.UnknownOwner h = refl
+not_yet_refusal refusal.OwnerExists h = refl
+not_yet_refusal refusal.ReadOnlyOpen h = refl
+not_yet_refusal (refusal.AccessDenied list) h = refl
+not_yet_refusal (refusal.NoSuchPage size) h = refl
+not_yet_refusal (refusal.QuotaExceeded charge asked quota) h = refl
+not_yet_refusal (refusal.VolumeFull left asked) h = refl
+not_yet_refusal (refusal.LogFull room asked) h = refl
+not_yet_refusal (refusal.TooMany what limit) h = refl
+not_yet_refusal (refusal.LockConflict holder) h = refl
+not_yet_refusal (refusal.Aborted cause) h = refl
+not_yet_refusal refusal.ReadFault h = refl
+not_yet_refusal refusal.Down h = refl
+not_yet_refusal refusal.OutOfMemory h = refl
+not_yet_refusal refusal.JournalFull h = refl
+
+-- a reply that a thread gets is not that a call waits
+pub file_reply-now : (r : Reply) → IsFileReply r → is_not_yet r ≡ false
+file_reply-now (reply.Refused f) h = not_yet_refusal f h
+file_reply-now (reply.Created f n) h = refl
+file_reply-now (reply.Opened n) h = refl
+file_reply-now reply.Plain h = refl
+file_reply-now (reply.Pages ps) h = refl
+file_reply-now (reply.Props p) h = refl
+file_reply-now (reply.Owner o) h = refl
+file_reply-now (reply.Welcome n) h = absurd h
+file_reply-now (reply.Begun t) h = absurd h
+file_reply-now reply.Joined h = absurd h
+file_reply-now (reply.Committed k) h = absurd h
+file_reply-now (reply.Ended k) h = absurd h
 
 pub called-begin : (s : State) (client epoch number : ℕ) (w : Session) (seen : Stamp) (r : Reply)
     → s.sessions client ≡ Some w → epoch ≡ s.epoch → number ≡ w.last + 1
-    → called s client epoch number (call.Begin seen) r ≡ begins (with_session s client (Some (record w { last = w.last + 1 }))) client w seen r
+    → called s client epoch number (call.Begin seen) (Begins seen) r ≡ with_waiting (begins (counted s client number w) client w (Begins seen) (begun_in r)) client None
 called-begin s client epoch number w seen r is e n =
-    ap (λ (x : Option Session). cond (is_new s x epoch number) (calls_on s client x (call.Begin seen) r) s) is
-    ∙ ap (λ (b : Bool). cond b (calls_on s client (Some w) (call.Begin seen) r) s) (new_call s w epoch number e n)
-
--- a file call with a reply of its own
-pub does_call-performs : (s : State) (c : Call) (r : Reply) (t : TransId) (l : Life) → is_passing r ≡ false → s.lives t ≡ Some l
-    → does_call s c r (Some t) ≡ performed s t (record { call = c; reply = r }) (Some l)
-does_call-performs s c r t l own is =
-    ap (λ (b : Bool). cond b s (performed s t (record { call = c; reply = r }) (s.lives t))) own
-    ∙ ap (performed s t (record { call = c; reply = r })) is
+    ap (λ (x : Option Session). cond (is_new s x epoch number) (calls_on s client x number (call.Begin seen) r) s) is
+    ∙ ap (λ (b : Bool). cond b (calls_on s client (Some w) number (call.Begin seen) r) s) (new_call s w epoch number e n)
 
 -- ---- stamps
 

@@ -1,5 +1,6 @@
 //! The journal of a server.
-ghost use Rattle.std.specs.Prelude.{◌≡◌, [], ◌∷◌, ◌++◌, OnOk, OnErr, length};
+ghost use Rattle.std.specs.Prelude.{◌≡◌, List, [], ◌∷◌, ◌++◌, OnOk, OnErr};
+ghost use Rattle.alp_journal.specs.declared.entry.Entry.{Entry as AnEntry};
 
 use crate::Entry;
 use alp_base::OutOfMemory;
@@ -37,6 +38,13 @@ impl Journal {
     {
         self.entries.push(entry)?;
         Ok(())
+    }
+
+    /// The last entry goes.
+    pub fn take_back(&mut self)
+        ensures { (before : List AnEntry) (last : AnEntry) → self.old ≡ before ++ last ∷ [] → self.new ≡ before }
+    {
+        let _ = self.entries.pop();
     }
 
     pub fn entries(&self) -> &[Entry]

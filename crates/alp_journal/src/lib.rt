@@ -9,12 +9,14 @@ mod laws;
 mod lists;
 mod log;
 mod message;
+mod opening;
 
 pub use act::Act;
 pub use entry::Entry;
 pub use event::Event;
 pub use journal::Journal;
-pub use laws::promises_are_kept;
+pub use laws::{decided_transactions_are_one_thread, promises_are_kept};
 pub use lists::{Acts, Parts, Stamps};
-pub use log::{Exchange, LineLog, Opening, RunLog};
+pub use log::{Exchange, LineLog, RunLog};
 pub use message::{Envelope, Message};
+pub use opening::Opening;

@@ -1,16 +1,6 @@
 //! The log of a run: what the server did, and what each line of the script sent and was handed.
-use crate::Journal;
-use alp_files::{Call, CellMap, Reply};
-use std::snapshot::Snapshot;
-
-/// What a server held when it was started.
-#[derive(Drop)]
-pub struct Opening {
-    pub server: u8,
-    pub epoch: u32,
-    pub clock: u64,
-    pub cells: Snapshot<CellMap>,
-}
+use crate::{Journal, Opening};
+use alp_files::{Call, Reply};
 
 /// A call that a client sent, what it was handed (nothing is silence), and where the call's entry stands in the
 /// server's journal, if it made one.
@@ -34,8 +24,9 @@ pub struct LineLog {
 
 /// All that a run did. A rank orders the entries of all servers: an entry that depends on another has the greater.
 #[derive(Drop)]
-pub struct RunLog {
-    pub opening: Opening,
+pub struct RunLog<O: Opening> {
+    pub server: u8,
+    pub opening: O,
     pub journal: Journal,
     pub ranks: Vec<u64>,
     pub lines: Vec<LineLog>,

@@ -3,7 +3,8 @@ use Rattle.std.proofs.Common.{◌≡◌, ℕ, ◌+◌, ◌-◌, ◌≤◌, List,
 use Rattle.std.proofs.lemmas.Bool.{le-leb}
 use Rattle.alp_base.specs.Pages.{page_bytes}
 use Rattle.alp_base.specs.declared.lists.TheConstants.{PAGES_PER_FILE}
-use Rattle.alp_fields.specs.Forms.{IsSet, overwritten, pair, repeated, u8, u16, u32, u64}
+use Rattle.alp_fields.specs.Forms.{IsSet, pair, repeated, u8, u16, u32, u64}
+use Rattle.alp_base.specs.Pages.{overwritten}
 use Rattle.alp_fields.specs.Fields.{file_id, named_field, name_field_bytes, list_field, list_field_bytes}
 use Rattle.alp_fields.proofs.FixedLaws.{u8_length, u16_length, u32_length, u64_length, file_id_length, named_field_length, list_field_length}
 use Rattle.alp_fields.proofs.PlaceLemmas.{set_pair, set_mapped, set_zeros_behind}

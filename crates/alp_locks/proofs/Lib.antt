@@ -5,3 +5,4 @@ pub mod FreeLemmas
 pub mod SoundLemmas
 pub mod LawLemmas
 pub mod HolderLemmas
+pub mod ReleaseLemmas

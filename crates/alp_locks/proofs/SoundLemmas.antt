@@ -27,16 +27,16 @@ use Rattle.alp_locks.proofs.PartLemmas.{tied}
 
 -- ---- facts of each of a list
 
-each-more : {X : Type 0} (P Q : X → Type 0) → ((x : X) → P x → Q x) → (xs : List X) → AllByRecursion P xs → AllByRecursion Q xs
+pub each-more : {X : Type 0} (P Q : X → Type 0) → ((x : X) → P x → Q x) → (xs : List X) → AllByRecursion P xs → AllByRecursion Q xs
 each-more P Q more [] h = tt
 each-more P Q more (x ∷ xs) h = (more x h.0, each-more P Q more xs h.1)
 
-each-both : {X : Type 0} (P Q S : X → Type 0) → ((x : X) → P x → Q x → S x) → (xs : List X) → AllByRecursion P xs → AllByRecursion Q xs → AllByRecursion S xs
+pub each-both : {X : Type 0} (P Q S : X → Type 0) → ((x : X) → P x → Q x → S x) → (xs : List X) → AllByRecursion P xs → AllByRecursion Q xs → AllByRecursion S xs
 each-both P Q S more [] h k = tt
 each-both P Q S more (x ∷ xs) h k = (more x h.0 k.0, each-both P Q S more xs h.1 k.1)
 
 -- of a list with one in the middle: that one, and the others
-each-middle : {X : Type 0} (P : X → Type 0) (xs : List X) (y : X) (zs : List X) → AllByRecursion P (xs ++ y ∷ zs) → P y × AllByRecursion P (xs ++ zs)
+pub each-middle : {X : Type 0} (P : X → Type 0) (xs : List X) (y : X) (zs : List X) → AllByRecursion P (xs ++ y ∷ zs) → P y × AllByRecursion P (xs ++ zs)
 each-middle P [] y zs h = h
 each-middle P (x ∷ xs) y zs h = let rest = each-middle P xs y zs h.1 in (rest.0, (h.0, rest.1))
 
@@ -48,7 +48,7 @@ each-placed P (x ∷ xs) w h k = go (w.converts && not x.converts) (each-placed 
     go true t = (k, h)
     go false t = (h.0, t)
 
-each-filter : {X : Type 0} (P : X → Type 0) (p : X → Bool) (xs : List X) → AllByRecursion P xs → AllByRecursion P (filter p xs)
+pub each-filter : {X : Type 0} (P : X → Type 0) (p : X → Bool) (xs : List X) → AllByRecursion P xs → AllByRecursion P (filter p xs)
 each-filter P p [] h = tt
 each-filter P p (x ∷ xs) h = go (p x) (each-filter P p xs h.1)
   where
@@ -56,7 +56,7 @@ each-filter P p (x ∷ xs) h = go (p x) (each-filter P p xs h.1)
     go true t = (h.0, t)
     go false t = t
 
-passing : {X : Type 0} (p : X → Bool) (xs : List X) → AllByRecursion (λ x. p x ≡ true) (filter p xs)
+pub passing : {X : Type 0} (p : X → Bool) (xs : List X) → AllByRecursion (λ x. p x ≡ true) (filter p xs)
 passing p [] = tt
 passing p (x ∷ xs) = go (p x) refl (passing p xs)
   where
@@ -66,7 +66,7 @@ passing p (x ∷ xs) = go (p x) refl (passing p xs)
 
 -- ---- waiters of several transactions
 
-abbrev IsOther : TransId → Waiter → Type 0
+abbrev pub IsOther : TransId → Waiter → Type 0
 IsOther t w = is_of t w ≡ false
 
 left-false : (a b : Bool) → (a || b) ≡ false → a ≡ false
@@ -81,7 +81,7 @@ others-wait : (t : TransId) (ws : List Waiter) → waits ws t ≡ false → AllB
 others-wait t [] h = tt
 others-wait t (w ∷ ws) h = (left-false (is_of t w) (waits ws t) h, others-wait t ws (right-false (is_of t w) (waits ws t) h))
 
-apart-middle : (ks : List Waiter) (w : Waiter) (ws : List Waiter) → AreApart (ks ++ w ∷ ws) → AllByRecursion (IsOther w.trans) (ks ++ ws) × AreApart (ks ++ ws)
+pub apart-middle : (ks : List Waiter) (w : Waiter) (ws : List Waiter) → AreApart (ks ++ w ∷ ws) → AllByRecursion (IsOther w.trans) (ks ++ ws) × AreApart (ks ++ ws)
 apart-middle [] w ws h = h
 apart-middle (k ∷ ks) w ws h =
     let here = each-middle (IsOther k.trans) ks w ws h.0 in
@@ -96,7 +96,7 @@ apart-placed (x ∷ xs) w h k = go (w.converts && not x.converts) (apart-placed 
     go true t = (k, h)
     go false t = (each-placed (IsOther x.trans) xs w h.0 (turned w.trans x.trans false k.0), t)
 
-apart-filter : (p : Waiter → Bool) (ws : List Waiter) → AreApart ws → AreApart (filter p ws)
+pub apart-filter : (p : Waiter → Bool) (ws : List Waiter) → AreApart ws → AreApart (filter p ws)
 apart-filter p [] h = tt
 apart-filter p (w ∷ ws) h = go (p w) (apart-filter p ws h.1)
   where
@@ -106,10 +106,10 @@ apart-filter p (w ∷ ws) h = go (p w) (apart-filter p ws h.1)
 
 -- ---- who waits stays prepared where another's part changes
 
-prepared-as : (parts after : Parts) (w : Waiter) → held_of after w.trans ≡ held_of parts w.trans → IsPrepared parts w → IsPrepared after w
+pub prepared-as : (parts after : Parts) (w : Waiter) → held_of after w.trans ≡ held_of parts w.trans → IsPrepared parts w → IsPrepared after w
 prepared-as parts after w same h = h ∙ ap (λ (x : Held). waiter_of x w.trans w.needs) (sym same)
 
-prepared-insert : (parts : Parts) (t : TransId) (after : Held) (ws : List Waiter) → AllByRecursion (IsPrepared parts) ws → AllByRecursion (IsOther t) ws → AllByRecursion (IsPrepared (map.insert parts t after)) ws
+pub prepared-insert : (parts : Parts) (t : TransId) (after : Held) (ws : List Waiter) → AllByRecursion (IsPrepared parts) ws → AllByRecursion (IsOther t) ws → AllByRecursion (IsPrepared (map.insert parts t after)) ws
 prepared-insert parts t after ws h k =
     each-both (IsPrepared parts) (IsOther t) (IsPrepared (map.insert parts t after))
     (λ w a b. prepared-as parts (map.insert parts t after) w (held-other parts t after w.trans (turned t w.trans false b)) a) ws h k
@@ -152,10 +152,10 @@ walked-sound (w ∷ ws) t agreeing prepared apart =
 
 -- ---- a release
 
-held-removed : (parts : Parts) (t u : TransId) → eq_by_cmp trans_cmp u t ≡ false → held_of (map.remove parts t) u ≡ held_of parts u
+pub held-removed : (parts : Parts) (t u : TransId) → eq_by_cmp trans_cmp u t ≡ false → held_of (map.remove parts t) u ≡ held_of parts u
 held-removed parts t u apart = ap (λ (o : Option Held). unwrap_or o map.empty) (get-remove transactions_total parts t u ∙ ap (λ (b : Bool). cond b None (map.get parts u)) apart)
 
-held-gone : (parts : Parts) (t u : TransId) → eq_by_cmp trans_cmp u t ≡ true → held_of (map.remove parts t) u ≡ map.empty
+pub held-gone : (parts : Parts) (t u : TransId) → eq_by_cmp trans_cmp u t ≡ true → held_of (map.remove parts t) u ≡ map.empty
 held-gone parts t u is = ap (λ (o : Option Held). unwrap_or o map.empty) (get-remove transactions_total parts t u ∙ ap (λ (b : Bool). cond b None (map.get parts u)) is)
 
 none-agrees : (o : Option Mode) (r : Resource) → agree_held (map.get (map.empty {X = Mode} {R = resource_cmp}) r) o ≡ true
@@ -176,7 +176,7 @@ remove-agreeing parts t agreeing x y apart r = go (eq_by_cmp trans_cmp x t) refl
         ∙ ap (λ h. agree_held (holding parts x r) (map.get h r)) (held-removed parts t y e)
         ∙ agreeing x y apart r
 
-not-true : (b : Bool) → not b ≡ true → b ≡ false
+pub not-true : (b : Bool) → not b ≡ true → b ≡ false
 not-true true e = cc
 not-true false e = refl
 

@@ -1,5 +1,5 @@
--- what grants mean for what is held
-use Rattle.std.specs.Prelude.{◌≡◌, Bool, true, false, ◌&&◌, cond, List, ◌∷◌, ◌++◌, Some, None}
+-- what grants and releases mean for what is held and who waits
+use Rattle.std.specs.Prelude.{◌≡◌, Bool, true, false, ◌&&◌, cond, ◌⊎◌, List, [], ◌∷◌, ◌++◌, map as list_map, Some, None}
 use Rattle.std.specs.List.{AllByRecursion}
 use Rattle.std.specs.declared.cmp.Ordering.TheVariants.{Less}
 use Rattle.std.specs.Ordering.{eq_by_cmp}
@@ -14,8 +14,9 @@ use Rattle.alp_locks.specs.declared.request.Grant.{Grant}
 use Rattle.alp_locks.specs.declared.request.Grant.TheVariants.{Granted, Conflict, Queued}
 use Rattle.alp_locks.specs.Tables.{Parts, Table, holding}
 use Rattle.alp_locks.specs.Asks.{blocker, grant_of, asked}
-use Rattle.alp_locks.specs.Releases.{with_woken}
-use Rattle.alp_locks.specs.Sound.{IsPrepared}
+use Rattle.alp_queue.specs.Order.{without}
+use Rattle.alp_locks.specs.Releases.{is_free, with_woken, released}
+use Rattle.alp_locks.specs.Sound.{IsPrepared, IsSound}
 
 abbrev pub gives_all : Grant → Bool
 gives_all Granted = true
@@ -56,3 +57,26 @@ NamesFirst = (parts : Parts) (t : TransId) (ns : List (Resource × Mode)) (u : T
 
 abbrev pub NamesAny : Type 0
 NamesAny = (parts : Parts) (t : TransId) (ns : List (Resource × Mode)) → blocker parts t ns ≡ None → AllByRecursion (IsClear parts t) ns
+
+-- ---- releases
+
+-- waiters in two lists, each in its order
+abbrev pub AreParted : List Waiter → List Waiter → List Waiter → Type 0
+AreParted [] some others = (some ≡ []) × (others ≡ [])
+AreParted (w ∷ ws) some others = ((more : List Waiter) × (some ≡ w ∷ more) × AreParted ws more others) ⊎ ((more : List Waiter) × (others ≡ w ∷ more) × AreParted ws some more)
+
+-- The released transaction's request is gone. Of the other waiters some are granted and woken, in their order, and the
+-- others go on waiting in theirs. Whoever is not granted holds what it held, and the released transaction nothing.
+pub record IsRelease (t : Table) (u : TransId) (after : Table) : Type 0 where
+  pub granted : List Waiter
+  pub parted : AreParted (without t.waiting u) granted after.waiting
+  pub woken : after.woken ≡ t.woken ++ list_map (λ w. w.trans) granted
+  pub others : (v : TransId) (r : Resource) → AllByRecursion (λ w. eq_by_cmp trans_cmp v w.trans ≡ false) granted
+      → holding after.held v r ≡ cond (eq_by_cmp trans_cmp v u) None (holding t.held v r)
+
+abbrev pub ReleasesInOrder : Type 0
+ReleasesInOrder = (t : Table) (u : TransId) → IsRelease t u (released t u)
+
+-- nobody is left waiting who is free
+abbrev pub LeavesNoneFree : Type 0
+LeavesNoneFree = (t : Table) (u : TransId) → IsSound t → AllByRecursion (λ w. is_free (released t u).held w ≡ false) (released t u).waiting

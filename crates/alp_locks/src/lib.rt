@@ -12,7 +12,9 @@ mod request;
 mod table;
 mod walk;
 
-pub use laws::{grants_are_of_all_or_none, holders_are_first_and_least};
+pub use laws::{
+    grants_are_of_all_or_none, holders_are_first_and_least, releases_grant_what_is_free,
+};
 pub use request::{Grant, Request};
 pub use table::LockTable;
 

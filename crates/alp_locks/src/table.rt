@@ -41,6 +41,7 @@ impl Model for LockTable {
 }
 
 impl LockTable {
+    /// A table in which no lock is held and nobody waits. It takes no memory before the first request.
     pub fn new(alloc: Global) -> LockTable
         ensures empty { result ≡ record { held = map.empty; waiting = []; woken = [] } }
         ensures sound { IsSound result }
@@ -83,7 +84,9 @@ impl LockTable {
     /// Asks for all the needs of a transaction that does not wait.
     ///
     /// Modes that are asked on one resource are joined, and what would not rise is dropped. Only
-    /// what others hold stands in the way, and not what they wait for.
+    /// what others hold stands in the way, and not what they wait for. Each resource is judged by
+    /// itself: whoever asks for a leaf of a file asks for the intention on the file too, and then
+    /// modes agree on each leaf (`agreeing_locks_agree_on_leaves` of alp_modes).
     pub fn ask(&mut self, request: Request) -> Result<Grant, OutOfMemory>
         requires { waits self.old.waiting request.trans ≡ false }
         ensures answer { IfOk result (λ g. g ≡ grant_of self.old request) }

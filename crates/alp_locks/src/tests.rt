@@ -130,3 +130,13 @@ fn a_thousand_resources_in_one_request(rt: HostRuntime) -> Result<(), Fail> {
     assert!(rt; rising_count(&table, 3, write).ok() == Some(0));
     Ok(())
 }
+
+fn crosses<T: Send + Sync>() {}
+
+#[test]
+fn tables_cross_threads(_rt: HostRuntime) {
+    crosses::<LockTable>();
+    crosses::<Request>();
+    crosses::<Grant>();
+    crosses::<Needs>();
+}

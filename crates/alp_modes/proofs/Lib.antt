@@ -1,4 +1,3 @@
-pub mod ModeFieldLaw
 pub mod ModeLemmas
 pub mod HoldingLemmas
 pub mod TreeLemmas

@@ -1,4 +1,3 @@
-pub mod ModeField
 pub mod Modes
 pub mod Orders
 pub mod Holdings

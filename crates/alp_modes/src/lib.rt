@@ -4,16 +4,14 @@
 //! and will be raised to `Write` later: it agrees with readers, but not with another `Update`.
 #![tactic(auto)]
 
-mod field;
 mod leaves;
 mod table;
 
-pub use field::{mode_is_a_form, put_mode, read_mode};
 pub use leaves::agreeing_locks_agree_on_leaves;
 pub use table::{agrees, covers, join, leaf_of, modes_are_lawful};
 
 /// What a lock allows its holder, from the least to the most.
-#[derive(Clone, Copy, Debug, PartialEq, Eq, PartialOrd, Ord)]
+#[derive(Clone, Copy, Debug, PartialEq, Eq)]
 pub enum Mode {
     /// The holder will ask for some leaves of the file in `Read`.
     IntendRead,

@@ -3,7 +3,8 @@ use Rattle.std.proofs.Common.{◌≡◌, ℕ, ◌+◌, ◌-◌, List, [], ◌∷
 use Rattle.std.specs.Prelude.{IfOk, Result, Ok, Err}
 use Rattle.std.proofs.lemmas.List.{length-replicate}
 use Rattle.alp_base.specs.Names.{is_name}
-use Rattle.alp_fields.specs.Forms.{IsForm, HasLength, IsSet, overwritten, pair, u8, u32, whole}
+use Rattle.alp_fields.specs.Forms.{IsForm, HasLength, IsSet, pair, u8, u32, whole}
+use Rattle.alp_base.specs.Pages.{overwritten}
 use Rattle.alp_fields.specs.Fields.{name_length, text_field, named_field, name_field_bytes, list_field}
 use Rattle.alp_fields.proofs.FormLaws.{pair_law, mapped_law, zeros_behind_law, whole_spelled}
 use Rattle.alp_fields.proofs.FieldLaws.{u32_law}

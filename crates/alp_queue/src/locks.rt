@@ -34,6 +34,7 @@ impl Model for Locks {
 }
 
 impl Locks {
+    /// No locks at all.
     pub fn new(alloc: Global) -> Locks
         ensures { result ≡ map.empty }
     {

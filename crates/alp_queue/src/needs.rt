@@ -23,12 +23,14 @@ impl Model for Needs {
 }
 
 impl Needs {
+    /// These needs, in the order given. A resource may stand there more than once; then the modes are joined.
     pub fn new(list: Vec<(Resource, Mode)>) -> Needs
         ensures { result ≡ list.items }
     {
         Needs { list }
     }
 
+    /// The needs in the order given.
     pub fn as_slice(&self) -> &[(Resource, Mode)]
         ensures { result.now ≡ self.now }
     {

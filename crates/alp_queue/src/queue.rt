@@ -28,6 +28,7 @@ impl Model for Queue {
 }
 
 impl Queue {
+    /// Nobody waits.
     pub fn new(alloc: Global) -> Queue
         ensures { result ≡ [] }
     {
@@ -36,6 +37,7 @@ impl Queue {
         }
     }
 
+    /// Those who wait, in the order in which they are walked: conversions first, then by arrival.
     pub fn waiters(&self) -> &[Waiter]
         ensures { result.now ≡ self.now }
     {

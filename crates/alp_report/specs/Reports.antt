@@ -7,6 +7,7 @@ use Rattle.alp_files.specs.Cells.{Cells, sizes_of, owners_of}
 use Rattle.alp_journal.specs.declared.log.Exchange.{Exchange}
 use Rattle.alp_journal.specs.declared.log.LineLog.{LineLog}
 use Rattle.alp_journal.specs.declared.log.RunLog.{RunLog}
+use Rattle.alp_journal.specs.declared.opening.Opening.{Ghosts}
 use Rattle.alp_journal.specs.State.{State}
 use Rattle.alp_journal.specs.Serial.{final}
 use Rattle.alp_report.specs.Replies.{reply_text}
@@ -51,5 +52,5 @@ abbrev pub state_text : State → List ℕ
 state_text s = summary_text s.server s.epoch s.clock s.cells (length s.decided) (s.drawn - length s.decided)
 
 -- the report of a run
-abbrev pub report_of : RunLog → List ℕ
-report_of log = lines_text log.lines.items ++ state_text (final log)
+abbrev pub report_of : {O : Type 0} → Ghosts O → RunLog O → List ℕ
+report_of opening log = lines_text log.lines.items ++ state_text (final opening log)

@@ -8,9 +8,9 @@ use Rattle.alp_files.specs.declared.reply.Reply.TheVariants.{Welcome, Begun, Joi
 use Rattle.alp_files.specs.PropsField.{props}
 use Rattle.alp_fields.specs.Forms.{Form, Readers, pair, mapped, u32}
 use Rattle.alp_fields.specs.Fields.{file_id, trans_id, stamp, name, list, pages}
-use Rattle.alp_rpc.specs.Variants.{Variant, row, bare, Sent, sent, by_tag, enum_of}
+use Rattle.alp_refusal.specs.Variants.{Variant, row, bare, Sent, sent, by_tag, enum_of}
 use Rattle.alp_rpc.specs.Endings.{ended}
-use Rattle.alp_rpc.specs.Refusals.{refusal}
+use Rattle.alp_refusal.specs.Refusals.{refusal}
 
 -- ---- owners
 

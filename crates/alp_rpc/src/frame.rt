@@ -19,15 +19,19 @@ pub struct Request {
     pub epoch: u32,
     /// From 1 on, one more for each call of the client.
     pub number: u32,
+    /// What is asked.
     pub call: Call,
 }
 
 /// The reply to the request of that client and number.
 #[derive(Clone, Drop, PartialEq, Eq)]
 pub struct ReplyFrame {
+    /// From 1 to 16.
     pub client: u8,
     /// That of the server.
     pub epoch: u32,
+    /// That of the request.
     pub number: u32,
+    /// What the server answers.
     pub reply: Reply,
 }

@@ -9,15 +9,11 @@ mod head;
 mod laws;
 mod read_call;
 mod read_change;
-mod read_reason;
-mod read_refusal;
 mod read_reply;
 mod reply;
 mod request;
 mod write_call;
 mod write_change;
-mod write_reason;
-mod write_refusal;
 mod write_reply;
 
 pub use frame::{CLIENTS, REPLY_MARK, REQUEST_MARK, ReplyFrame, Request};

@@ -4,3 +4,4 @@ pub mod StepLemmas
 pub mod RunLemmas
 pub mod StreamLemmas
 pub mod EndLemmas
+pub mod StartLemmas

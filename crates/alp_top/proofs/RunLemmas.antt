@@ -9,7 +9,6 @@ use Rattle.alp_base.specs.declared.ids.TransId.{TransId}
 use Rattle.alp_journal.specs.declared.entry.Entry.{Entry}
 use Rattle.alp_journal.specs.declared.log.Exchange.{Exchange}
 use Rattle.alp_journal.specs.declared.log.LineLog.{LineLog}
-use Rattle.alp_journal.specs.declared.log.Opening.{Opening}
 use Rattle.alp_script.specs.declared.line.Line.{Line}
 use Rattle.alp_script.specs.declared.line.Line.TheVariants as line
 use Rattle.alp_script.specs.declared.numbered.NumberedLine.{NumberedLine}
@@ -24,7 +23,8 @@ use Rattle.alp_top.specs.Clients.{new_client}
 use Rattle.alp_journal.specs.Told.{exchanges_of}
 use Rattle.alp_top.specs.Plays.{PlaysLine, Plays, AreRecorded}
 use Rattle.alp_top.specs.Steps.{StartsIdle, TransAfter, Adds, IsOurs}
-use Rattle.alp_top.specs.Runs.{HasPlayed, MayFollow}
+use Rattle.alp_top.specs.Nodes.{Seat, start_at}
+use Rattle.alp_top.specs.Runs.{HasPlayed, IsNewOpening, MayFollow}
 
 Plays-push : (c mid d : Client) (ls : List NumberedLine) (l : NumberedLine) (logs own : List LineLog) → Plays c ls logs mid → PlaysLine mid l (client_named l.line) own d → Plays c (ls ++ l ∷ []) (logs ++ own) d
 Plays-push c mid d [] l logs own h k =
@@ -48,12 +48,12 @@ AreRecorded-append at (x ∷ xs) ys (e ∷ es) fs h k =
     (h.0, AreRecorded-append (at + 1) xs ys es fs h.1 (subst (λ (n : ℕ). AreRecorded n ys fs) (let e2 : at + length (e ∷ es) ≡ at + 1 + length es = omega arith in e2) k))
 
 -- one line more
-pub played_more : (o : Opening) (ls : List NumberedLine) (l : NumberedLine) (c d : Client) (n m : Node) (logs own : List LineLog)
-    → HasPlayed o ls c n logs → Adds c d n m l own → HasPlayed o (ls ++ l ∷ []) d m (logs ++ own)
-played_more o ls l c d n m logs own h a = record {
+pub played_more : (ls : List NumberedLine) (l : NumberedLine) (c d : Client) (n m : Node) (logs own : List LineLog)
+    → HasPlayed ls c n logs → Adds c d n m l own → HasPlayed (ls ++ l ∷ []) d m (logs ++ own)
+played_more ls l c d n m logs own h a = record {
   kept = a.kept;
   step = a.step;
-  opening = a.opening ∙ h.opening;
+  opening = subst (λ (x : Seat). IsNewOpening (start_at x)) (sym a.seat) h.opening;
   plays = Plays-push new_client c d ls l logs own h.plays a.plays;
   recorded =
       subst (λ (js : List Entry). AreRecorded 0 (exchanges_of (logs ++ own)) js) (sym a.journal)

@@ -1,6 +1,6 @@
 -- a client and its server stay in step
 use Rattle.std.specs.Prelude.{true, false, Bool, Option, None, Some, IsSome}
-use Rattle.std.proofs.Common.{◌≡◌, ℕ, ◌+◌, ◌≤◌, List, [], ◌∷◌, ◌++◌, length, refl, sym, ◌∙◌, ap, subst, arith, append_assoc, append-nil, length-append}
+use Rattle.std.proofs.Common.{◌<◌, ◌^◌, ◌≡◌, ℕ, ◌+◌, ◌≤◌, List, [], ◌∷◌, ◌++◌, length, refl, sym, ◌∙◌, ap, subst, arith, append_assoc, append-nil, length-append}
 use Rattle.std.proofs.lemmas.List.{length-replicate}
 use Rattle.alp_base.specs.declared.ids.TransId.{TransId}
 use Rattle.alp_base.specs.declared.ids.Stamp.{Stamp}
@@ -20,15 +20,18 @@ use Rattle.alp_top.specs.declared.node.Node.{Node}
 use Rattle.alp_top.specs.declared.node.Live.{Live}
 use Rattle.alp_top.specs.declared.node.Session.{Session}
 use Rattle.alp_journal.specs.declared.event.Event.TheVariants as event
-use Rattle.alp_top.specs.Nodes.{IsKept, IsRunning, CountsCall, Stepped}
+use Rattle.alp_top.specs.Nodes.{Seat, seat_of, start_at, start_in, IsKept, HasRoom, IsRunning, CountsCall, Stepped}
 use Rattle.std.specs.Prelude.{cond}
 use Rattle.std.specs.Ordering.{is_lt}
 use Rattle.alp_journal.specs.State.{stamp_cmp}
-use Rattle.alp_journal.specs.declared.log.Opening.{Opening}
+use Rattle.alp_fields.specs.ClockNote.{clock_kept}
 use Rattle.alp_top.specs.Props.{later}
 use Rattle.alp_top.specs.Clients.{frame_in, hears, hears_in, Exchanges, at_line, declares, call_of, call_in, call_with, told_reply, told_refusal}
 use Rattle.alp_top.specs.Steps.{InStep, SameSession, SameTrans, IsExpected, StartsIdle, IsOwn, Goes, Became, Exchanged, Did, Adds, TransAfter}
 use Rattle.std.specs.Option.{option_map}
+use Rattle.alp_base.specs.declared.lists.TheConstants.{PAGES_PER_FILE}
+use Rattle.alp_files.specs.Locks.{page_limit}
+use Rattle.alp_files.proofs.HeldLemmas.{reads-all}
 use Rattle.alp_journal.specs.declared.entry.Entry.{Entry}
 use Rattle.alp_journal.specs.declared.log.Exchange.{Exchange}
 use Rattle.alp_top.specs.Plays.{Records, AreRecorded, PlaysLine}
@@ -65,6 +68,11 @@ expects_file c n l asked s e make =
     let (t, is, own) = trans_there c l c.trans asked e in
     make t asked own (running c.trans n.live t s.live is)
 
+-- sizes in scripts are numbers of pages
+small_size : (size : ℕ) → size ≤ PAGES_PER_FILE → size < page_limit
+unfolding page_limit
+small_size size h = omega (arith, h)
+
 -- the server expects the call of a line
 pub expected_own : (c : Client) (n : Node) (l : Line) (asked : Call) → IsOwn c l asked → InStep c n → IsExpected n asked
 expected_own c n l asked h s = go l h.form h.asks h.idle
@@ -73,10 +81,12 @@ expected_own c n l asked h s = go l h.form h.asks h.idle
     go l (servers count) e i = expects_file c n l asked s e (λ t x own runs. absurd (none_there x own))
     go l (client k name) e i = expects_file c n l asked s e (λ t x own runs. absurd (none_there x own))
     go l (begin k server) e i = subst (λ (x : Call). IsExpected n x) (some_same (call.Begin c.told) asked e) (idle_there c.trans n.live s.live i, s.told)
-    go l (owner k server name quota) e i = expects_file c n l asked s e (λ t x own runs. subst (λ (y : Call). IsExpected n y) (some_same _ x own) runs)
-    go l (create k server word name size small) e i = expects_file c n l asked s e (λ t x own runs. subst (λ (y : Call). IsExpected n y) (some_same _ x own) runs)
-    go l (write k file run text some short) e i = expects_file c n l asked s e (λ t x own runs. subst (λ (y : Call). IsExpected n y) (some_same _ x own) (runs, length-replicate run.count _))
-    go l (read k file run some) e i = expects_file c n l asked s e (λ t x own runs. subst (λ (y : Call). IsExpected n y) (some_same _ x own) runs)
+    go l (owner k server name quota) e i = expects_file c n l asked s e (λ t x own runs. subst (λ (y : Call). IsExpected n y) (some_same _ x own) (runs, (tt, tt, tt)))
+    go l (create k server word name size small) e i =
+        expects_file c n l asked s e (λ t x own runs. subst (λ (y : Call). IsExpected n y) (some_same _ x own) (runs, (tt, small_size size small, tt)))
+    go l (write k file run text some short) e i =
+        expects_file c n l asked s e (λ t x own runs. subst (λ (y : Call). IsExpected n y) (some_same _ x own) (runs, (length-replicate run.count _, tt, tt)))
+    go l (read k file run some) e i = expects_file c n l asked s e (λ t x own runs. subst (λ (y : Call). IsExpected n y) (some_same _ x own) (runs, (tt, tt, reads-all)))
     go l (commit k) e i = expects_file c n l asked s e (λ t x own runs. subst (λ (y : Call). IsExpected n y) (some_same _ x own) (refl, runs))
 
 -- ---- what the client knows after a reply
@@ -150,16 +160,20 @@ later_within : (told s : Stamp) (clock : ℕ) → told.ts ≤ clock → s.ts ≤
 later_within told s clock h k = elim (is_lt (stamp_cmp told s)) as (λ b. (cond b s told).ts ≤ clock) [ true ↦ k | false ↦ h ]
 
 module _ (c : Client) (n m : Node) (asked : Call) (r : Reply) (g : Greeted) (number : ℕ) (s : InStep c n) (greeted : c.session ≡ Some g)
-    (counts : CountsCall n.session m.session number) (opening : m.opening ≡ n.opening) where
-  session_now : SameSession m.opening.epoch (Some (record { epoch = g.epoch; last = number })) m.session
-  session_now = session_counts m.opening.epoch number c.session g n.session m.session
-      (subst (λ (e : ℕ). SameSession e c.session n.session) (ap (λ (o : Opening). o.epoch) (sym opening)) s.session) greeted counts
+    (counts : CountsCall n.session m.session number) (seat : seat_of m ≡ seat_of n) where
+  session_now : SameSession m.epoch (Some (record { epoch = g.epoch; last = number })) m.session
+  session_now = session_counts m.epoch number c.session g n.session m.session
+      (subst (λ (e : ℕ). SameSession e c.session n.session) (ap (λ (x : Seat). x.epoch) (sym seat)) s.session) greeted counts
+
+  began_now : (clock_kept (start_in m).notes).clock ≡ 0
+  began_now = ap (λ (x : Seat). (clock_kept (start_at x).notes).clock) seat ∙ s.began
 
   stays : (d : Client) → SameKnown (record c { session = Some (record { epoch = g.epoch; last = number }) }) d → (t : TransId) → c.trans ≡ Some t → IsRunning m.live t → m.clock ≡ n.clock → InStep d m
   stays d same t is runs clock = record {
-    session = subst (λ (x : Option Greeted). SameSession m.opening.epoch x m.session) (sym same.session) session_now;
+    session = subst (λ (x : Option Greeted). SameSession m.epoch x m.session) (sym same.session) session_now;
     live = subst (λ (x : Option TransId). SameTrans x m.live) (sym (same.trans ∙ is)) (runs_same t m.live runs);
     told = let k : d.told.ts ≡ c.told.ts = ap (λ (x : Stamp). x.ts) same.told in omega (arith, k, clock, s.told);
+    began = began_now;
   }
 
   -- a file call of a line that needs a transaction
@@ -183,14 +197,14 @@ module _ (c : Client) (n m : Node) (asked : Call) (r : Reply) (g : Greeted) (num
       begins l e =
           let (t, is, runs, clock) = subst (λ (x : Call). Became n m x r) (sym e) became in
           subst (λ (x : Reply). InStep (told_reply (record c { session = Some (record { epoch = g.epoch; last = number }) }) l x) m) (sym is)
-          (record { session = session_now; live = runs_same t m.live runs; told = omega (arith, clock, s.told) })
+          (record { session = session_now; live = runs_same t m.live runs; told = omega (arith, clock, s.told); began = began_now })
 
       ends : (l : Line) (t : TransId) → call.Finish t true ≡ asked → InStep (told_reply (record c { session = Some (record { epoch = g.epoch; last = number }) }) l r) m
       ends l t e =
           let (is, none, clock) = subst (λ (x : Call). Became n m x r) (sym e) became in
           let stamp : Stamp = record { ts = n.clock + 1; trans = t } in
           subst (λ (x : Reply). InStep (told_reply (record c { session = Some (record { epoch = g.epoch; last = number }) }) l x) m) (sym is)
-          (record { session = session_now; live = no_live m.live none; told = later_within c.told stamp m.clock (omega (arith, clock, s.told)) (omega (arith, clock)) })
+          (record { session = session_now; live = no_live m.live none; told = later_within c.told stamp m.clock (omega (arith, clock, s.told)) (omega (arith, clock)); began = began_now })
 
       goes : (x y : Call) (t : TransId) → Some x ≡ Some y → Became n m y r → Became n m x r
       goes x y t e b = subst (λ (z : Call). Became n m z r) (sym (some_same x y e)) b
@@ -245,18 +259,22 @@ epoch_same epoch None g was h e = cc
 epoch_same epoch (Some f) g None h e = absurd h
 epoch_same epoch (Some f) g (Some s) h e = ap (λ (x : Greeted). x.epoch) (sym (some_same f g e)) ∙ h.0
 
+-- the clock is far from its end where it began at 0
+pub early_clock : (c : Client) (n : Node) → IsKept n → InStep c n → HasRoom n → n.clock < 2 ^ 62
+early_clock c n (life, made, ds, k) s room = omega (arith, k.counted.clock, s.began, room)
+
 -- a call that was sent, answered and heard is an exchange
 module _ (c : Client) (n m : Node) (asked : Call) (r : Reply) (g : Greeted) (number : ℕ) (s : InStep c n) (greeted : c.session ≡ Some g)
-    (counts : CountsCall n.session m.session number) (opening : m.opening ≡ n.opening) where
-  pub exchanged : (l : Line) (d : Client) (sent : Call) (place : ℕ) → IsKept m → Stepped n m (event.Call 1 n.opening.epoch number asked) (Some r) → IsOwn c l asked → Became n m asked r
+    (counts : CountsCall n.session m.session number) (seat : seat_of m ≡ seat_of n) where
+  pub exchanged : (l : Line) (d : Client) (sent : Call) (place : ℕ) → IsKept m → Stepped n m (event.Call 1 n.epoch number asked) (Some r) → IsOwn c l asked → Became n m asked r
       → d ≡ told_reply (record c { session = Some (record { epoch = g.epoch; last = number }) }) l r → sent ≡ asked → place ≡ length n.journal → number ≡ g.last + 1
       → Exchanged c d n m l (frame_in c c.session asked) true (record { server = 1; epoch = g.epoch; number = number; call = sent; reply = Some r; place = Some place })
   exchanged l d sent place kept stepped own became told same at turn =
       let (acts, pushed) = stepped in
       record {
         kept = kept;
-        step = subst (λ (x : Client). InStep x m) (sym told) (step_kept c n m asked r g number s greeted counts opening l own became);
-        opening = opening;
+        step = subst (λ (x : Client). InStep x m) (sym told) (step_kept c n m asked r g number s greeted counts seat l own became);
+        seat = seat;
         sent = (λ i. record { epoch = g.epoch; number = turn i; call = same i }) ∙ ap (λ (o : Option Greeted). frame_in c o asked) (sym greeted);
         server = refl;
         heard =
@@ -264,11 +282,11 @@ module _ (c : Client) (n m : Node) (asked : Call) (r : Reply) (g : Greeted) (num
             ∙ ap (λ (k : ℕ). (told_reply (record c { session = Some (record { epoch = g.epoch; last = k }) }) l r, true)) (sym turn)
             ∙ ap (λ (x : Client). (x, true)) (sym told);
         trans = subst (λ (x : Client). TransAfter l c.trans x.trans) (sym told) (trans_after c n m l asked r (Some (record { epoch = g.epoch; last = number })) own became);
-        entry = record { event = event.Call 1 n.opening.epoch number asked; reply = Some r; acts = acts };
+        entry = record { event = event.Call 1 n.epoch number asked; reply = Some r; acts = acts };
         journal = pushed;
         recorded = record {
           place = ap Some at;
-          event = ap (λ (e : ℕ). event.Call 1 e number asked) (sym (epoch_same n.opening.epoch c.session g n.session s.session greeted)) ∙ ap (event.Call 1 g.epoch number) (sym same);
+          event = ap (λ (e : ℕ). event.Call 1 e number asked) (sym (epoch_same n.epoch c.session g n.session s.session greeted)) ∙ ap (event.Call 1 g.epoch number) (sym same);
           reply = refl;
         };
       }
@@ -318,7 +336,7 @@ pub greeted_exchanges : (c d e : Client) (a b z : Node) (l : Line) (asked : Call
 greeted_exchanges c d e a b z l asked h x none own own2 first last = record {
   kept = last.kept;
   step = last.step;
-  opening = last.opening ∙ first.opening;
+  seat = last.seat ∙ first.seat;
   exchanges = (
     ap (option_map (frame_in c c.session)) own.asks ∙ ap (λ (o : Option Greeted). Some (frame_in c o asked)) none ∙ ap Some (sym first.sent),
     first.server,
@@ -357,7 +375,7 @@ pub silent_line : (c : Client) (n : Node) (l : Line) → IsKept n → InStep c n
 silent_line c n l kept s form none = record {
   kept = kept;
   step = s;
-  opening = refl;
+  seat = refl;
   exchanges = (ap (option_map (frame_in c c.session)) none, refl);
   trans = silent_trans c l form none;
   entries = [];
@@ -370,9 +388,9 @@ silent_line c n l kept s form none = record {
 pub at_step : (c : Client) (n : Node) (l : Line) → IsForm l → StartsIdle c l → InStep c n → InStep (at_line c l) n
 at_step c n l (servers count) i s = s
 at_step c n l (client k name) i s = s
-at_step c n l (begin k server) i s = record { session = s.session; live = subst (λ (o : Option TransId). SameTrans o n.live) i s.live; told = s.told }
+at_step c n l (begin k server) i s = record { session = s.session; live = subst (λ (o : Option TransId). SameTrans o n.live) i s.live; told = s.told; began = s.began }
 at_step c n l (owner k server name quota) i s = s
-at_step c n l (create k server word name size small) i s = record { session = s.session; live = s.live; told = s.told }
+at_step c n l (create k server word name size small) i s = record { session = s.session; live = s.live; told = s.told; began = s.began }
 at_step c n l (write k file run text some short) i s = s
 at_step c n l (read k file run some) i s = s
 at_step c n l (commit k) i s = s
@@ -390,7 +408,7 @@ at_idle c l (commit k) = tt
 -- a declaration
 pub declared_step : (c : Client) (n : Node) (l : Line) → IsForm l → InStep c n → InStep (declares c l) n
 declared_step c n l (servers count) s = s
-declared_step c n l (client k name) s = record { session = s.session; live = s.live; told = s.told }
+declared_step c n l (client k name) s = record { session = s.session; live = s.live; told = s.told; began = s.began }
 declared_step c n l (begin k server) s = s
 declared_step c n l (owner k server name quota) s = s
 declared_step c n l (create k server word name size small) s = s
@@ -423,7 +441,7 @@ pub adds_nothing : (c : Client) (n : Node) (l : NumberedLine) → IsKept n → I
 adds_nothing c n l kept s form none = record {
   kept = kept;
   step = declared_step c n l.line form s;
-  opening = refl;
+  seat = refl;
   plays = subst (λ (o : Option ℕ). PlaysLine c l o [] (declares c l.line)) (sym none) (refl, refl);
   trans = declared_trans c l.line form none;
   entries = [];
@@ -437,7 +455,7 @@ pub adds_item : (c d : Client) (n m : Node) (l : NumberedLine) (k : ℕ) (item :
 adds_item c d n m l k item form named one number whose did = record {
   kept = did.kept;
   step = did.step;
-  opening = did.opening;
+  seat = did.seat;
   plays = subst (λ (o : Option ℕ). PlaysLine c l o (item ∷ []) d) (sym named) (item, refl, number, whose, did.exchanges);
   trans = at_trans c l.line d.trans form did.trans;
   entries = did.entries;

@@ -1,9 +1,9 @@
 -- What holds of a run: the promise that the top call makes.
 use Rattle.std.specs.Prelude.{ℕ, List, [], Option}
-use Rattle.alp_journal.specs.declared.log.RunLog.{RunLog}
+use Rattle.alp_top.specs.Logs.{Log, openings}
 use Rattle.alp_files.specs.History.{starting}
 use Rattle.alp_files.specs.Sound.{AreSound, IsSoundAfterEach}
-use Rattle.alp_journal.specs.Serial.{IsOneThread, decided, start_of, finish_of}
+use Rattle.alp_journal.specs.Serial.{IsOneThread, start, decided, start_of, finish_of}
 use Rattle.alp_journal.specs.Told.{AreKept, told, exchanges_of}
 use Rattle.alp_script.specs.declared.numbered.NumberedLine.{NumberedLine}
 use Rattle.alp_script.specs.Reading.{GaveScript}
@@ -11,22 +11,22 @@ use Rattle.alp_top.specs.Plays.{IsFaithful}
 use Rattle.alp_top.specs.Runs.{IsNewOpening}
 
 -- a run of these lines that left this log
-pub record IsRun (lines : List NumberedLine) (log : RunLog) : Type 0 where
+pub record IsRun (lines : List NumberedLine) (log : Log) : Type 0 where
   -- the server was a new one
-  pub opening : IsNewOpening log.opening
+  pub opening : IsNewOpening (start openings log)
   -- the calls are the script's and nothing else happened; what a client was handed is what the journal says
   pub faithful : IsFaithful lines log
   -- the decided transactions, in the order of their stamps, are one thread's history: it gives every reply as given and
   -- ends in what the server holds
-  pub serial : IsOneThread log
+  pub serial : IsOneThread openings log
   -- each stamp that a client was told is of a decided transaction, and a decided transaction has a stamp above all that
   -- its client was told before it began
-  pub kept : (client : ℕ) → AreKept (decided log) [] (told client (exchanges_of log.lines.items))
+  pub kept : (client : ℕ) → AreKept (decided openings log) [] (told client (exchanges_of log.lines.items))
   -- the files are well formed and each owner is charged the sizes of its files, after each transaction and at the end
-  pub charged : IsSoundAfterEach log.opening.server (starting (start_of log)) (decided log) × AreSound (finish_of log)
+  pub charged : IsSoundAfterEach log.server (starting (start_of openings log)) (decided openings log) × AreSound (finish_of openings log)
 
 -- the headline: the source gave a script, and the log is of a run of it
-pub record IsPlayed (old new : Option (List ℕ)) (log : RunLog) : Type 0 where
+pub record IsPlayed (old new : Option (List ℕ)) (log : Log) : Type 0 where
   pub lines : List NumberedLine
   pub script : GaveScript old new lines
   pub run : IsRun lines log

@@ -6,9 +6,10 @@ use Rattle.alp_journal.specs.declared.event.Event.{Event}
 use Rattle.alp_journal.specs.declared.event.Event.TheVariants as event
 use Rattle.alp_journal.specs.declared.log.Exchange.{Exchange}
 use Rattle.alp_journal.specs.declared.log.LineLog.{LineLog}
-use Rattle.alp_journal.specs.declared.log.RunLog.{RunLog}
 use Rattle.alp_journal.specs.Told.{exchanges_of}
 use Rattle.alp_journal.specs.Laws.{IsLawful}
+use Rattle.alp_journal.specs.Serial.{start}
+use Rattle.alp_top.specs.Logs.{Log, openings}
 use Rattle.alp_script.specs.declared.numbered.NumberedLine.{NumberedLine}
 use Rattle.alp_script.specs.Named.{client_named}
 use Rattle.alp_top.specs.declared.client.Client.{Client}
@@ -51,13 +52,13 @@ ranks_from n (e ∷ es) = n ∷ ranks_from (n + 1) es
 
 -- The calls are the script's, the replies are those given, and no other event stands in the journal but what comes at
 -- the end.
-pub record IsFaithful (lines : List NumberedLine) (log : RunLog) : Type 0 where
+pub record IsFaithful (lines : List NumberedLine) (log : Log) : Type 0 where
   pub client : Client
   pub calls : List Entry
   pub ends : List Entry
   pub plays : Plays new_client lines log.lines.items client
   pub journal : log.journal ≡ calls ++ ends
   pub recorded : AreRecorded 0 (exchanges_of log.lines.items) calls
-  pub lawful : IsLawful log.opening log.journal
+  pub lawful : IsLawful (start openings log) log.journal
   pub ended : list_map (λ e. e.event) ends ≡ ends_of client.trans
   pub ranks : log.ranks.items ≡ ranks_from 1 log.journal

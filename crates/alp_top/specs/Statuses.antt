@@ -2,7 +2,7 @@
 use Rattle.std.specs.Prelude.{ℕ, Bool, true, false, nat_eq, List, [], ◌∷◌, ◌++◌, codes}
 use Rattle.std.specs.Fmt.{decimal}
 use Rattle.std.specs.Cmp.Lexicographic.{pointwise}
-use Rattle.alp_journal.specs.declared.log.RunLog.{RunLog}
+use Rattle.alp_top.specs.Logs.{Log}
 use Rattle.alp_top.specs.declared.status.Status.{Status}
 use Rattle.alp_top.specs.declared.status.Status.TheVariants as status
 
@@ -32,12 +32,12 @@ is_bad_words status.BadWords = true
 is_bad_words _ = false
 
 -- where the script was played, of the log
-abbrev pub OnPlayed : Status → (RunLog → Type 0) → Type 0
+abbrev pub OnPlayed : Status → (Log → Type 0) → Type 0
 OnPlayed (status.Done log) P = P log.value
 OnPlayed (status.WriteFault log) P = P log.value
 OnPlayed _ P = Unit {0}
 
-abbrev pub OnDone : Status → (RunLog → Type 0) → Type 0
+abbrev pub OnDone : Status → (Log → Type 0) → Type 0
 OnDone (status.Done log) P = P log.value
 OnDone _ P = Unit {0}
 
@@ -53,7 +53,7 @@ abbrev pub OnReadFault : Status → Type 0 → Type 0
 OnReadFault status.ReadFault P = P
 OnReadFault _ P = Unit {0}
 
-abbrev pub OnWriteFault : Status → (RunLog → Type 0) → Type 0
+abbrev pub OnWriteFault : Status → (Log → Type 0) → Type 0
 OnWriteFault (status.WriteFault log) P = P log.value
 OnWriteFault _ P = Unit {0}
 

@@ -6,6 +6,7 @@ use Rattle.alp_files.specs.declared.call.Call.TheVariants as call
 use Rattle.alp_files.specs.declared.reply.Reply.{Reply}
 use Rattle.alp_files.specs.declared.reply.Reply.TheVariants as reply
 use Rattle.alp_files.specs.Passing.{IsFileReply}
+use Rattle.alp_files.specs.Locks.{IsFormed}
 use Rattle.alp_journal.specs.declared.entry.Entry.{Entry}
 use Rattle.alp_journal.specs.declared.log.Exchange.{Exchange}
 use Rattle.alp_script.specs.declared.line.Line.{Line}
@@ -16,7 +17,8 @@ use Rattle.alp_top.specs.declared.client.Greeted.{Greeted}
 use Rattle.alp_top.specs.declared.node.Node.{Node}
 use Rattle.alp_top.specs.declared.node.Live.{Live}
 use Rattle.alp_top.specs.declared.node.Session.{Session}
-use Rattle.alp_top.specs.Nodes.{IsKept, IsRunning}
+use Rattle.alp_fields.specs.ClockNote.{clock_kept}
+use Rattle.alp_top.specs.Nodes.{IsKept, IsRunning, seat_of, start_in}
 use Rattle.alp_top.specs.Clients.{Frame, frame_sent, hears, call_of, Exchanges}
 use Rattle.alp_journal.specs.Told.{exchanges_of}
 use Rattle.alp_top.specs.Plays.{Records, AreRecorded, PlaysLine}
@@ -39,9 +41,10 @@ SameTrans (Some t) None = ⊥
 SameTrans (Some t) (Some l) = l.trans ≡ t
 
 pub record InStep (c : Client) (n : Node) : Type 0 where
-  pub session : SameSession n.opening.epoch c.session n.session
+  pub session : SameSession n.epoch c.session n.session
   pub live : SameTrans c.trans n.live
   pub told : c.told.ts ≤ n.clock
+  pub began : (clock_kept (start_in n).notes).clock ≡ 0
 
 -- a transaction begins where none runs
 abbrev pub StartsIdle : Client → Line → Type 0
@@ -52,10 +55,10 @@ StartsIdle c _ = Unit {0}
 abbrev pub IsExpected : Node → Call → Type 0
 IsExpected n (call.Begin seen) = (n.live ≡ None) × (seen.ts ≤ n.clock)
 IsExpected n (call.Finish t commit) = (commit ≡ true) × IsRunning n.live t
-IsExpected n (call.CreateFile t start choice) = IsRunning n.live t
-IsExpected n (call.ReadPages t open_no r mode choice) = IsRunning n.live t
-IsExpected n (call.WritePages t open_no r pages choice) = IsRunning n.live t × (length pages ≡ r.count)
-IsExpected n (call.MakeOwner t owner quota create choice) = IsRunning n.live t
+IsExpected n (call.CreateFile t start choice) = IsRunning n.live t × IsFormed (call.CreateFile t start choice)
+IsExpected n (call.ReadPages t open_no r mode choice) = IsRunning n.live t × IsFormed (call.ReadPages t open_no r mode choice)
+IsExpected n (call.WritePages t open_no r pages choice) = IsRunning n.live t × IsFormed (call.WritePages t open_no r pages choice)
+IsExpected n (call.MakeOwner t owner quota create choice) = IsRunning n.live t × IsFormed (call.MakeOwner t owner quota create choice)
 IsExpected n _ = ⊥
 
 -- a file call leaves the transaction running
@@ -93,7 +96,7 @@ TransBy false l old new = new ≡ old
 pub record Exchanged (old new : Client) (before after : Node) (l : Line) (frame : Frame) (over : Bool) (x : Exchange) : Type 0 where
   pub kept : IsKept after
   pub step : InStep new after
-  pub opening : after.opening ≡ before.opening
+  pub seat : seat_of after ≡ seat_of before
   pub sent : frame_sent x ≡ frame
   pub server : x.server ≡ 1
   pub heard : hears old l x.reply ≡ (new, over)
@@ -106,7 +109,7 @@ pub record Exchanged (old new : Client) (before after : Node) (l : Line) (frame 
 pub record Did (old new : Client) (before after : Node) (l : Line) (xs : List Exchange) : Type 0 where
   pub kept : IsKept after
   pub step : InStep new after
-  pub opening : after.opening ≡ before.opening
+  pub seat : seat_of after ≡ seat_of before
   pub exchanges : Exchanges old l false xs new
   pub trans : TransAfter l old.trans new.trans
   pub entries : List Entry
@@ -122,7 +125,7 @@ IsOurs l = (k : ℕ) → client_named l ≡ Some k → k ≡ 1
 pub record Adds (old new : Client) (before after : Node) (l : NumberedLine) (logs : List LineLog) : Type 0 where
   pub kept : IsKept after
   pub step : InStep new after
-  pub opening : after.opening ≡ before.opening
+  pub seat : seat_of after ≡ seat_of before
   pub plays : PlaysLine old l (client_named l.line) logs new
   pub trans : TransAfter l.line old.trans new.trans
   pub entries : List Entry

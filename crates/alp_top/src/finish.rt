@@ -2,22 +2,26 @@
 ghost use Rattle.std.specs.Prelude.{◌≡◌, ◌+◌, ◌-◌, ◌≤◌, ◌*◌, length, IfOk, OnOk};
 ghost use Rattle.alp_report.specs.Reports.{report_of};
 ghost use Rattle.alp_top.specs.Plays.{ranks_from};
-ghost use Rattle.alp_top.specs.Runs.{HasPlayed, HasSettled, IsNewOpening};
+ghost use Rattle.alp_top.specs.Runs.{HasPlayed, HasSettled, told_of};
+ghost use Rattle.alp_top.specs.Nodes.{IsKept, seat_of};
+ghost use Rattle.alp_top.specs.Logs.{openings};
 ghost use Rattle.alp_top.specs.Headline.{IsRun};
 ghost use Rattle.alp_script.specs.declared.numbered.NumberedLine.{NumberedLine};
 ghost use Rattle.std.specs.Prelude.{List};
 
 use crate::node::Node;
+use crate::opened::Opened;
 use crate::play::Run;
 use alp_base::OutOfMemory;
 use alp_journal::{Entry, LineLog, RunLog};
 use alp_report::{Summary, report};
+use alp_vault::MemVault;
 use std::alloc::Global;
 
 /// A run that is over, and the text of its report.
 #[derive(Drop)]
 pub struct Ended {
-    pub log: RunLog,
+    pub log: RunLog<Opened<MemVault>>,
     pub text: Vec<u8>,
 }
 
@@ -36,9 +40,9 @@ fn ranks(alloc: Global, entries: &[Entry]) -> Result<Vec<u64>, OutOfMemory>
 
 // A transaction that still runs takes too long.
 fn settle(alloc: Global, run: &mut Run) -> Result<(), OutOfMemory>
-    requires played { (lines : List NumberedLine) × HasPlayed run.old.node.opening lines run.old.client run.old.node run.old.lines.items }
-    ensures settled { (lines : List NumberedLine) → HasPlayed run.old.node.opening lines run.old.client run.old.node run.old.lines.items → OnOk result (HasSettled lines run.new.client run.new.node run.new.lines.items) }
-    ensures opening { OnOk result (run.new.node.opening ≡ run.old.node.opening) }
+    requires played { (lines : List NumberedLine) × HasPlayed lines run.old.client run.old.node run.old.lines.items }
+    ensures settled { (lines : List NumberedLine) → HasPlayed lines run.old.client run.old.node run.old.lines.items → OnOk result (HasSettled lines run.new.client run.new.node run.new.lines.items) }
+    ensures seat { OnOk result (seat_of run.new.node ≡ seat_of run.old.node) }
 {
     if let Some(trans) = run.client.trans {
         run.node.time_out(alloc, trans)?;
@@ -48,13 +52,14 @@ fn settle(alloc: Global, run: &mut Run) -> Result<(), OutOfMemory>
 
 // The report of what a server did for these lines.
 fn told(alloc: Global, node: &Node, lines: &[LineLog]) -> Result<Vec<u8>, OutOfMemory>
-    ensures { IfOk result (λ v. v.items ≡ Rattle.alp_top.specs.Runs.told_of node.now lines.now) }
+    requires { IsKept node.now }
+    ensures { IfOk result (λ v. v.items ≡ told_of node.now lines.now) }
 {
     let summary = Summary {
-        server: node.opening.server,
-        epoch: node.opening.epoch,
+        server: node.server,
+        epoch: node.epoch,
         clock: node.clock,
-        files: &node.files,
+        files: node.vault.cells(),
         committed: node.committed,
         aborted: node.trans_count.saturating_sub(node.committed),
     };
@@ -63,10 +68,9 @@ fn told(alloc: Global, node: &Node, lines: &[LineLog]) -> Result<Vec<u8>, OutOfM
 
 /// Ends a run that has played all lines.
 pub fn finish(alloc: Global, run: Run) -> Result<Ended, OutOfMemory>
-    requires played { (lines : List NumberedLine) × HasPlayed run.node.opening lines run.client run.node run.lines.items }
-    requires opening { IsNewOpening run.node.opening }
-    ensures run { (lines : List NumberedLine) → HasPlayed run.node.opening lines run.client run.node run.lines.items → IfOk result (λ e. IsRun lines e.log) }
-    ensures text { IfOk result (λ e. e.text.items ≡ report_of e.log) }
+    requires played { (lines : List NumberedLine) × HasPlayed lines run.client run.node run.lines.items }
+    ensures run { (lines : List NumberedLine) → HasPlayed lines run.client run.node run.lines.items → IfOk result (λ e. IsRun lines e.log) }
+    ensures text { IfOk result (λ e. e.text.items ≡ report_of openings e.log) }
 {
     let mut run = run;
     settle(alloc, &mut run)?;
@@ -78,12 +82,14 @@ pub fn finish(alloc: Global, run: Run) -> Result<Ended, OutOfMemory>
         lines,
     } = run;
     let Node {
+        server,
         opening,
         journal,
         ..
     } = node;
     Ok(Ended {
         log: RunLog {
+            server,
             opening,
             journal,
             ranks,

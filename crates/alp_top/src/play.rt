@@ -1,10 +1,11 @@
 //! Plays the lines of a script: the client's calls, and what the server answers.
-ghost use Rattle.std.specs.Prelude.{◌≡◌, ◌+◌, ◌<◌, ◌≤◌, [], ◌∷◌, ◌++◌, OnOk, IfOk, IfSome, length, Some, None, true, false, IsSome};
+ghost use Rattle.std.specs.Prelude.{◌≡◌, ◌+◌, ◌<◌, ◌≤◌, ◌^◌, [], ◌∷◌, ◌++◌, OnOk, IfOk, IfSome, length, Some, None, true, false, IsSome};
 ghost use Rattle.alp_journal.specs.declared.event.Event.TheVariants as event;
 ghost use Rattle.alp_files.specs.declared.call.Call.TheVariants as call;
-ghost use Rattle.alp_files.specs.Parts.{IsBuilt};
 ghost use Rattle.alp_journal.specs.State.{file_trans};
-ghost use Rattle.alp_top.specs.Nodes.{IsKept, HasRoom, Stepped, IsNext, IsRunning, CountsCall};
+ghost use Rattle.alp_base.specs.declared.faults.VaultFault.TheVariants as vault_fault;
+ghost use Rattle.alp_top.specs.declared.start.StartFault.TheVariants as start_fault;
+ghost use Rattle.alp_top.specs.Nodes.{IsKept, HasRoom, Stepped, IsNext, IsRunning, CountsCall, seat_of, start_in, IsServed};
 ghost use Rattle.alp_top.specs.Steps.{InStep, IsExpected, Became, IsOwn, StartsIdle, Exchanged, Did, IsOurs, Adds};
 ghost use Rattle.std.specs.Option.{option_to_list};
 ghost use Rattle.alp_script.specs.Forms.{IsForm};
@@ -17,10 +18,12 @@ ghost use Rattle.alp_top.specs.Runs.{HasPlayed, IsNewOpening};
 
 use crate::client::{Client, Greeted};
 use crate::node::Node;
-use alp_base::{OutOfMemory, TransId};
+use crate::start::StartFault;
+use alp_base::{OutOfMemory, Sizes, TransId};
 use alp_files::{Call, Reply};
 use alp_journal::{Exchange, LineLog};
 use alp_script::{Line, NumberedLine};
+use alp_vault::MemVault;
 use std::alloc::Global;
 
 /// The client and the server of a run at this stage.
@@ -28,17 +31,24 @@ const CLIENT: u8 = 1;
 
 const SERVER: u8 = 1;
 
+/// The sizes of its volume.
+const VOLUME: Sizes = Sizes {
+    home: 16384,
+    area: 2048,
+};
+
 // The server answers a call of the session.
 fn ask(alloc: Global, node: &mut Node, number: u32, call: Call) -> Result<Reply, OutOfMemory>
     requires kept { IsKept node.old }
     requires room { HasRoom node.old }
     requires turn { IsNext node.old.session 1 number }
     requires expected { IsExpected node.old call }
+    requires clock { node.old.clock < 2 ^ 62 }
     ensures kept { OnOk result (IsKept node.new) }
-    ensures stepped { IfOk result (λ r. Stepped node.old node.new (event.Call 1 node.old.opening.epoch number call) (Some r)) }
+    ensures stepped { IfOk result (λ r. Stepped node.old node.new (event.Call 1 node.old.epoch number call) (Some r)) }
     ensures became { IfOk result (λ r. Became node.old node.new call r) }
     ensures session { OnOk result (CountsCall node.old.session node.new.session number) }
-    ensures opening { OnOk result (node.new.opening ≡ node.old.opening) }
+    ensures seat { OnOk result (seat_of node.new ≡ seat_of node.old) }
 {
     if let Call::Begin { seen } = &call {
         return node.begin(alloc, CLIENT, number, *seen);
@@ -52,9 +62,9 @@ fn ask(alloc: Global, node: &mut Node, number: u32, call: Call) -> Result<Reply,
     node.file_call(alloc, CLIENT, number, trans, call)
 }
 
-// The transaction of a file call that is built.
+// The transaction of a file call that the server answers.
 fn trans_of(call: &Call) -> Option<TransId>
-    ensures { IsBuilt call.now → result ≡ file_trans call.now }
+    ensures { IsServed call.now → result ≡ file_trans call.now }
 {
     match call {
         Call::CreateFile {
@@ -105,7 +115,7 @@ fn greet(
     let place = node.journal.entries().len() as u32;
     let name = client.name;
     let reply = node.hello(alloc, CLIENT, name)?;
-    let epoch = node.opening.epoch;
+    let epoch = node.epoch;
     client.session = Some(Greeted { epoch, last: 1 });
     let call = Call::Hello { name };
     Ok(Exchange {
@@ -272,17 +282,37 @@ pub struct Run {
     pub lines: Vec<LineLog>,
 }
 
+// The one fault of a start on a vault in memory that holds no note.
+fn only_memory(fault: StartFault) -> OutOfMemory
+    requires { fault ≡ start_fault.Vault vault_fault.OutOfMemory }
+{
+    let _ = fault;
+    OutOfMemory
+}
+
+// A server on a vault that holds nothing, with the sizes that a new volume gets.
+fn new_node(alloc: Global) -> Result<Node, OutOfMemory>
+    ensures kept { IfOk result (λ n. IsKept n) }
+    ensures opening { IfOk result (λ n. IsNewOpening (start_in n)) }
+    ensures idle { IfOk result (λ n. (n.journal ≡ []) × (n.session ≡ None) × (n.live ≡ None) × (n.clock ≡ 0)) }
+{
+    let vault = MemVault::new(alloc, VOLUME);
+    match Node::start(alloc, SERVER, vault) {
+        Ok(node) => Ok(node),
+        Err((_, fault)) => Err(only_memory(fault)),
+    }
+}
+
 /// Plays all lines on a new server.
 pub fn play(alloc: Global, lines: &[NumberedLine]) -> Result<Run, OutOfMemory>
     requires few { length lines.now ≤ 1000 }
     requires leads { LeadsFrom nothing_known lines.now }
     requires forms { AllByRecursion (λ l. IsForm l.line) lines.now }
     requires ours { AllByRecursion (λ l. names_ours l.line ≡ true) lines.now }
-    ensures played { IfOk result (λ run. HasPlayed run.node.opening lines.now run.client run.node run.lines.items) }
-    ensures opening { IfOk result (λ run. IsNewOpening run.node.opening) }
+    ensures played { IfOk result (λ run. HasPlayed lines.now run.client run.node run.lines.items) }
 {
     let mut client = Client::new(alloc);
-    let mut node = Node::new(alloc, SERVER);
+    let mut node = new_node(alloc)?;
     let mut logs = Vec::new(alloc);
     for line in lines {
         let log = play_line(alloc, &mut client, &mut node, line)?;

@@ -3,8 +3,10 @@ ghost use Rattle.std.specs.Prelude.{◌≡◌, IfOk, string_bytes};
 ghost use Rattle.alp_top.specs.declared.status.Status.TheVariants as variant;
 ghost use Rattle.alp_top.specs.Statuses.{code_of, status_said};
 
+use crate::opened::Opened;
 use alp_base::OutOfMemory;
 use alp_journal::RunLog;
+use alp_vault::MemVault;
 use std::alloc::Global;
 use std::fmt::Write;
 use std::snapshot::Snapshot;
@@ -13,15 +15,21 @@ use std::snapshot::Snapshot;
 #[derive(Drop)]
 pub enum Status {
     /// The script was played and the whole report is written.
-    Done { log: Snapshot<RunLog> },
+    Done {
+        log: Snapshot<RunLog<Opened<MemVault>>>,
+    },
     /// The words are not `play`.
     BadWords,
     /// The first line of the script that is outside the language, counted from 1.
-    BadScript { line: u32 },
+    BadScript {
+        line: u32,
+    },
     /// The script could not be read.
     ReadFault,
     /// The script was played, and the report could be written in part only.
-    WriteFault { log: Snapshot<RunLog> },
+    WriteFault {
+        log: Snapshot<RunLog<Opened<MemVault>>>,
+    },
     OutOfMemory,
 }
 

@@ -1,5 +1,6 @@
 use Rattle.std.proofs.Common.{◌*◌, IsTrue, sym, ◌∙◌, subst, arith}
-use Rattle.alp_disk.proofs.Moments.{adds_more, spends_then}
+use Rattle.alp_disk.proofs.Moments.{adds_more}
+use Rattle.alp_base.proofs.AllowanceLemmas.{spends_then}
 use Rattle.alp_disk.proofs.RunLemmas.{follows_torn, holds_next, chunk_of, length-chunk}
 use Rattle.alp_disk.proofs.runs.write_span.Goals as goal
 

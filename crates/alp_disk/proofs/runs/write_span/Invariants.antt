@@ -1,5 +1,6 @@
 use Rattle.std.proofs.Common.{◌≡◌, ◌≤◌, IsTrue}
-use Rattle.alp_disk.specs.Disk.{Follows, After, Adds, Spends}
+use Rattle.alp_disk.specs.Disk.{Follows, After, Adds}
+use Rattle.alp_base.specs.Allowances.{Spends}
 use Rattle.alp_disk.specs.Runs.{SameOutside, Holds}
 use Rattle.alp_disk.proofs.runs.write_span.Given as goal
 

@@ -30,14 +30,13 @@ loop-line-preserved c =
     let here = c.in_ok-log.ensures in
     record {
       played =
-          subst (λ (logs : List LineLog). HasPlayed c.new-node.result.opening (take (i + 1) c.args.lines.now) c.play_line.new.client c.play_line.new.node logs) (sym c.in_ok-add.ensures)
-          (subst (λ (ls : List NumberedLine). HasPlayed c.new-node.result.opening ls c.play_line.new.client c.play_line.new.node (c.loop-line.logs.items ++ option_to_list c.in_ok-log.log))
+          subst (λ (logs : List LineLog). HasPlayed (take (i + 1) c.args.lines.now) c.play_line.new.client c.play_line.new.node logs) (sym c.in_ok-add.ensures)
+          (subst (λ (ls : List NumberedLine). HasPlayed ls c.play_line.new.client c.play_line.new.node (c.loop-line.logs.items ++ option_to_list c.in_ok-log.log))
           (sym (front_at c.args.lines.now i c.line-item.result c.loop-line-test.true c.line-item.is))
-          (played_more c.new-node.result.opening (take i c.args.lines.now) c.line-item.result c.loop-line.client c.play_line.new.client c.loop-line.node c.play_line.new.node c.loop-line.logs.items (option_to_list c.in_ok-log.log)
+          (played_more (take i c.args.lines.now) c.line-item.result c.loop-line.client c.play_line.new.client c.loop-line.node c.play_line.new.node c.loop-line.logs.items (option_to_list c.in_ok-log.log)
           c.loop-line.invariant.played here));
       follows =
           follows_on c.loop-line.client c.play_line.new.client c.line-item.result (drop (i + 1) c.args.lines.now) form
           (subst (λ (ls : List NumberedLine). MayFollow c.loop-line.client ls) (rest_at c.args.lines.now i c.line-item.result c.loop-line-test.true c.line-item.is) c.loop-line.invariant.follows)
           here.trans;
-      opening = c.loop-line.invariant.opening;
     }

@@ -1,0 +1,16 @@
+use Rattle.std.proofs.Common.{Some, subst}
+use Rattle.alp_fields.specs.Forms.{IsRead}
+use Rattle.alp_fields.proofs.RepeatLemmas.{goes_on, ends}
+use Rattle.alp_batch.specs.Batch.{image}
+use Rattle.alp_batch.proofs.images.read_each.Goals as goal
+
+pub returns-in_default : goal.returns-in_default
+returns-in_default c =
+    ends image c.args.count c.loop.counter c.loop.items.items c.loop.reader c.args.reader.now c.loop-test.true
+    (subst (IsRead image c.loop.reader c.read_image.new.reader) c.in_default.is c.in_ok-next.ensures) c.loop.invariant
+
+pub loop-preserved : goal.loop-preserved
+loop-preserved c =
+    rw c.in_ok-push.ensures.items
+    (goes_on image c.args.count c.loop.counter c.loop.items.items c.loop.reader c.args.reader.now c.read_image.new.reader c.in-Some.next c.loop-test.true
+    (subst (IsRead image c.loop.reader c.read_image.new.reader) c.in-Some.is c.in_ok-next.ensures) c.loop.invariant)

@@ -1,0 +1,7 @@
+use Rattle.std.proofs.Common.{take}
+use Rattle.alp_fields.specs.Forms.{IsWritten, repeated}
+use Rattle.alp_batch.specs.Batch.{note}
+use Rattle.alp_batch.proofs.notes.put_each.Given as goal
+
+abbrev pub invariant-loop-next : goal.invariant-loop-next
+invariant-loop-next l = IsWritten (repeated note l.next-index) (take l.next-index l.changes) l.initial.out.items l.out.items

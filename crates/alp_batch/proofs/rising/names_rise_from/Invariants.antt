@@ -1,0 +1,7 @@
+use Rattle.std.proofs.Common.{◌≡◌, drop}
+use Rattle.alp_batch.specs.Rising.{rises_from}
+use Rattle.alp_batch.specs.Batch.{name_below}
+use Rattle.alp_batch.proofs.rising.names_rise_from.Given as goal
+
+abbrev pub invariant-loop-next : goal.invariant-loop-next
+invariant-loop-next l = rises_from name_below l.first l.rest ≡ rises_from name_below l.last (drop l.next-index l.rest)

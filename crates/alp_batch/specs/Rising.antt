@@ -1,0 +1,17 @@
+-- Lists in which each item lies below the next one.
+use Rattle.std.specs.Prelude.{ℕ, Bool, true, ◌&&◌, nat_lt, List, [], ◌∷◌}
+use Rattle.std.specs.Ordering.{nat_cmp, is_lt}
+use Rattle.std.specs.Cmp.Lexicographic.{slice_cmp}
+
+-- the first lies above x, and each of the others above the one before it
+abbrev pub rises_from : {A : Type 0} → (A → A → Bool) → A → List A → Bool
+rises_from below x [] = true
+rises_from below x (y ∷ ys) = below x y && rises_from below y ys
+
+abbrev pub is_rising : {A : Type 0} → (A → A → Bool) → List A → Bool
+is_rising below [] = true
+is_rising below (x ∷ xs) = rises_from below x xs
+
+-- the order of texts: by the first byte that differs, and a text that begins another stands before it
+abbrev pub text_below : List ℕ → List ℕ → Bool
+text_below a b = is_lt (slice_cmp nat_cmp a b)

@@ -1,7 +1,0 @@
-use Rattle.std.proofs.Common.{◌≡◌, ◌+◌, ◌++◌, drop}
-use Rattle.alp_files.specs.Act.{page_puts}
-use Rattle.alp_files.specs.Undo.{puts_of}
-use Rattle.alp_files.proofs.part.page_cells.Given as goal
-
-abbrev pub invariant-loop-i : goal.invariant-loop-i
-invariant-loop-i l = puts_of l.puts.items ++ page_puts l.file (l.first + l.i) (drop l.i l.pages) ≡ page_puts l.fn.file l.fn.first l.pages

@@ -1,0 +1,5 @@
+pub mod Headers
+pub mod Bodies
+pub mod Stages
+pub mod Adds
+pub mod Readings

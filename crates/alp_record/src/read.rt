@@ -1,0 +1,64 @@
+//! Reading a record.
+ghost use Rattle.std.specs.Prelude.{◌≡◌, ◌≤◌, ◌<◌, ℕ, IsTrue, ◌^◌, length, IfOk, IfSome, MatchOption, IsErrOf};
+ghost use Rattle.alp_base.specs.Causes.{Rose};
+ghost use Rattle.alp_base.specs.declared.faults.Halt.TheVariants.{Failed, Stopped};
+ghost use Rattle.alp_base.specs.declared.allowance.Allowance.TheVariants.{Spent};
+ghost use Rattle.alp_disk.specs.Disk.{NoMore, Adds};
+ghost use Rattle.alp_record.specs.Record.{RecordAt, IsEnd, IsDamaged, next_of};
+ghost use Rattle.alp_record.specs.declared.fault.RecordFault.TheVariants.{Halted, Damaged};
+
+use crate::body::{read_pages, unpadded};
+use crate::header::body_size;
+use crate::{Area, RecordFault, record_pages};
+use alp_base::{Bytes, Page};
+use alp_disk::Disk;
+use std::alloc::Global;
+
+const OPEN: u8 = 0xA5;
+
+/// The body of the record at a page of the area, or nothing where the records end.
+///
+/// An open gate with another letter or generation, with a body past the area, or with other bytes
+/// than zeros behind the body, is damage.
+pub fn read_record<D: Disk>(
+    alloc: Global,
+    disk: &mut D,
+    area: &Area,
+    at: u32,
+) -> Result<Option<Bytes>, RecordFault>
+    requires { area.now.end ≤ D.size disk.old }
+    ensures read { IsTrue (D.tells disk.old) → IfOk result (λ found. MatchOption found (IsEnd (D.seen disk.old) area.now.end at) (λ body. RecordAt (D.seen disk.old) area.now.generation area.now.end at body)) }
+    ensures fits { IfOk result (λ found. IfSome found (λ body. next_of at body ≤ area.now.end)) }
+    ensures small { IfOk result (λ found. IfSome found (λ body. length body < 2 ^ 32)) }
+    ensures damaged { IsTrue (D.tells disk.old) → (place : ℕ) → IsErrOf result (Damaged place) → (place ≡ at) × IsDamaged (D.seen disk.old) area.now.generation area.now.end at }
+    ensures tells { D.tells disk.new ≡ D.tells disk.old }
+    ensures size { D.size disk.new ≡ D.size disk.old }
+    ensures seen { D.seen disk.new ≡ D.seen disk.old }
+    ensures crash { NoMore (D.may_leave disk.old) (D.may_leave disk.new) }
+    ensures time { Adds D.left_since disk.old disk.new (D.may_leave disk.old) }
+    ensures allowance { D.allowance disk.new ≡ D.allowance disk.old }
+    ensures later { D.faults disk.old ≤ D.faults disk.new }
+    ensures failed { IsErrOf result (Halted Failed) → Rose (D.faults disk.old) (D.faults disk.new) }
+    ensures stopped { IsErrOf result (Halted Stopped) → D.allowance disk.new ≡ Spent }
+{
+    if at >= area.end {
+        return Ok(None);
+    }
+    let mut page = Page::zero();
+    disk.read(at, &mut page)?;
+    if page.bytes()[0] != OPEN {
+        return Ok(None);
+    }
+    let Some(size) = body_size(&page, area.generation) else {
+        return Err(RecordFault::Damaged { place: at });
+    };
+    let pages = record_pages(size);
+    if area.end - at < pages {
+        return Err(RecordFault::Damaged { place: at });
+    }
+    let bytes = read_pages(alloc, disk, at + 1, pages - 1)?;
+    let Some(body) = unpadded(bytes, size) else {
+        return Err(RecordFault::Damaged { place: at });
+    };
+    Ok(Some(Bytes::new(body)))
+}

@@ -1,0 +1,16 @@
+use Rattle.std.proofs.Common.{◌∙◌, List, ℕ, Bool, ap, arith, sym, subst, if◌then◌else◌}
+use Rattle.std.specs.List.{insert}
+use Rattle.alp_base.specs.Notes.{text_cmp}
+use Rattle.alp_vault.specs.Notes.{IsAt, IsPlace}
+use Rattle.alp_vault.proofs.OwnerLemmas.{with-at, with-place}
+use Rattle.alp_vault.proofs.owners.add_name.Goals as goal
+
+pub returns-in-Ok-clause-added : goal.returns-in-Ok-clause-added
+returns-in-Ok-clause-added c =
+    sym (with-at c.args.name c.args.names.now.items c.in-Ok.field-0 (subst (λ (ns : List (List ℕ)). IsAt text_cmp c.args.name ns c.in-Ok.field-0) c.as_slice.ensures.value c.in-Ok.ensures.found))
+
+pub returns-in-Err-clause-added : goal.returns-in-Err-clause-added
+returns-in-Err-clause-added c =
+    c.insert.ensures.items
+    ∙ ap (λ (b : Bool). if b then insert c.args.names.now.items c.in-Err.at c.args.name else c.args.names.now.items) (c.insert.ensures.succeeds (omega (arith, c.requires, c.args.names.now.ok)))
+    ∙ sym (with-place c.args.name c.args.names.now.items c.in-Err.at (subst (λ (ns : List (List ℕ)). IsPlace text_cmp c.args.name ns c.in-Err.at) c.as_slice.ensures.value c.in-Err.ensures.absent))

@@ -1,0 +1,30 @@
+-- Notes in two rows: names in rising order, and beside each its value.
+use Rattle.std.specs.Prelude.{◌≡◌, ℕ, ◌<◌, ◌≤◌, true, List, zip, length, get_or}
+use Rattle.std.specs.declared.cmp.Ordering.{Ordering}
+use Rattle.std.specs.declared.cmp.Ordering.TheVariants.{Less, Equal, Greater}
+use Rattle.std.specs.FinMap as map
+use Rattle.alp_base.specs.Notes.{Notes, text_cmp}
+
+-- the notes that the rows show
+abbrev pub notes_in : List (List ℕ) → List (List ℕ) → Notes
+notes_in names values = map.from_entries (zip names values)
+
+pub record AreRows (names values : List (List ℕ)) : Type 0 where
+  pub paired : length names ≡ length values
+  pub rising : map.is_sorted text_cmp (zip names values) ≡ true
+
+-- all items before this place are below the item
+abbrev pub AreBelow : {X : Type 0} → (X → X → Ordering) → X → List X → ℕ → Type 0
+AreBelow cmp x xs i = (k : ℕ) → k < i → cmp x (get_or xs k x) ≡ Greater
+
+-- where the item stands
+pub record IsAt {X : Type 0} (cmp : X → X → Ordering) (x : X) (xs : List X) (i : ℕ) : Type 0 where
+  pub within : i < length xs
+  pub below : AreBelow cmp x xs i
+  pub here : cmp x (get_or xs i x) ≡ Equal
+
+-- where it would stand
+pub record IsPlace {X : Type 0} (cmp : X → X → Ordering) (x : X) (xs : List X) (i : ℕ) : Type 0 where
+  pub within : i ≤ length xs
+  pub below : AreBelow cmp x xs i
+  pub above : i < length xs → cmp x (get_or xs i x) ≡ Less

@@ -1,0 +1,84 @@
+-- What a commit leaves, at each moment and at the end.
+use Rattle.std.proofs.Common.{◌≡◌, inl, inr, ◌≤◌, ◌-◌, ℕ, List, [], ◌∷◌, ◌++◌, length, refl, sym, ap, subst, ◌∙◌, arith}
+use Rattle.std.specs.List.{AllByRecursion}
+use Rattle.alp_disk.specs.Disk.{Image, page, Only, NoMore}
+use Rattle.alp_disk.specs.Gates.{IsClosed}
+use Rattle.alp_disk.specs.Runs.{SameOutside}
+use Rattle.alp_anchor.specs.Anchor.{IsSound}
+use Rattle.alp_anchor.specs.declared.anchor.Anchor.{Anchor}
+use Rattle.alp_batch.specs.declared.batch.Batch.{Batch}
+use Rattle.alp_record.specs.Record.{behind}
+use Rattle.alp_record.specs.Adding.{Added, NotYet, Adding}
+use Rattle.alp_record.proofs.Adds.{one_more, stand_kept}
+use Rattle.alp_notes.specs.Entries.{Entries, noted}
+use Rattle.alp_wal.specs.State.{State, applied, IsBelow}
+use Rattle.alp_wal.specs.Reading.{Applies, Leads, area_first, area_end, home_pages, bare, ReadsBy}
+use Rattle.alp_wal.specs.Wal.{Index, shown, indexed, anchor_of, index_of, notes_of, end_of, state_of, IsKnown, BeforeOrAfter}
+use Rattle.alp_wal.specs.declared.wal.Wal.{Wal}
+use Rattle.alp_wal.proofs.States.{shown_indexed, leads_push, bare_kept, counts_kept}
+
+module _ (n : ℕ) (a : Anchor) (old : Image) (at : ℕ) (sound : IsSound n a) (begun : area_first a ≤ at) (inside : at ≤ area_end a) where
+  pub state_after : (new : Image) (index : Index) (notes : Entries) (b : Batch) → SameOutside at (area_end a - at) old new → AllByRecursion (IsBelow (length index)) b.images
+      → ◌≡◌ {A = State} (record { pages = shown (home_pages new a) (indexed index b.images); notes = noted notes b.notes }) (applied (record { pages = shown (home_pages old a) index; notes = notes }) b)
+  state_after new index notes b others below =
+      let home : home_pages new a ≡ home_pages old a = ap (λ (s : State). s.pages) (bare_kept n a old new at sound others inside) in
+      let pages = ap (λ (l : Image). shown l (indexed index b.images)) home ∙ shown_indexed (home_pages old a) index b.images below in
+      λ i. record { pages = pages i; notes = noted notes b.notes }
+
+  module _ (state : State) (bodies : List (List ℕ)) (ends : behind (area_first a) bodies ≡ at) (by : ReadsBy n old a bodies state) where
+    pub reads_before : (c : Image) → NotYet (area_end a) at old c → ReadsBy n c a bodies state
+    reads_before c not_yet = record {
+      counts = counts_kept n a old c (λ q low. not_yet.others.before q (omega (arith, low, begun))) by.counts;
+      records = record {
+        stand = stand_kept a.generation (area_end a) at (area_first a) bodies old c by.records.stand (omega (arith, ends)) not_yet.others.before;
+        ends = inr (subst (λ k. IsClosed (page c k)) (sym ends) not_yet.gate);
+      };
+      leads = subst (λ (s : State). Leads a.sizes.home s bodies state) (sym (bare_kept n a old c at sound not_yet.others inside)) by.leads;
+    }
+
+    module _ (body : List ℕ) (b : Batch) (applies : Applies a.sizes.home state body b) where
+      pub reads_after : (c : Image) → Added a.generation (area_end a) at body old c → ReadsBy n c a (bodies ++ body ∷ []) (applied state b)
+      reads_after c added = record {
+        counts = counts_kept n a old c (λ q low. added.others.before q (omega (arith, low, begun))) by.counts;
+        records = one_more a.generation (area_end a) at body old c added (area_first a) bodies by.records ends;
+        leads = subst (λ (s : State). Leads a.sizes.home s (bodies ++ body ∷ []) (applied state b)) (sym (bare_kept n a old c at sound added.others inside)) (leads_push a.sizes.home (bare old a) state bodies body b by.leads applies);
+      }
+
+      pub crash_leaves : (c : Image) → Adding a.generation (area_end a) at body old c → BeforeOrAfter a.server a.servers n state b c
+      crash_leaves c (inl not_yet) = inl (record { anchor = a; bodies = bodies; server_is = refl; servers_is = refl; by = reads_before c not_yet })
+      crash_leaves c (inr added) = inr (record { anchor = a; bodies = bodies ++ body ∷ []; server_is = refl; servers_is = refl; by = reads_after c added })
+
+-- a crash before anything was written
+pub crash_before : (n : ℕ) (a : Anchor) (image : Image) (bodies : List (List ℕ)) (state : State) (b : Batch) (left : Image → Type 0) → ReadsBy n image a bodies state → Only image left → (c : Image) → left c → BeforeOrAfter a.server a.servers n state b c
+crash_before n a image bodies state b left by only c was =
+    subst (λ (x : Image). BeforeOrAfter a.server a.servers n state b x) (sym (only c was)) (inl (record { anchor = a; bodies = bodies; server_is = refl; servers_is = refl; by = by }))
+
+-- ---- the same of a log whose notes have more room
+
+module _ {D : Type 0} (seen : D → Image) {p old : D} {a b : Anchor} {i j : ℕ} (disk : p ≡ old) (anchor : a ≡ b) (end : i ≡ j) (body : List ℕ) (c : Image) where
+  abbrev parts : ◌≡◌ {A = D × (Anchor × ℕ)} (p, (a, i)) (old, (b, j))
+  parts = λ k. (disk k, (anchor k, end k))
+
+  pub adding_of : Adding a.generation (area_end a) i body (seen p) c → Adding b.generation (area_end b) j body (seen old) c
+  adding_of adding = subst (λ (t : D × (Anchor × ℕ)). Adding t.1.0.generation (area_end t.1.0) t.1.1 body (seen t.0) c) parts adding
+
+  pub added_of : Added a.generation (area_end a) i body (seen p) c → Added b.generation (area_end b) j body (seen old) c
+  added_of added = subst (λ (t : D × (Anchor × ℕ)). Added t.1.0.generation (area_end t.1.0) t.1.1 body (seen t.0) c) parts added
+
+-- the reading of a log that is seen in another way
+pub reads_by_of : {n m : ℕ} {x y : Image} {a b : Anchor} {s t : State} (bodies : List (List ℕ)) → n ≡ m → x ≡ y → a ≡ b → s ≡ t → ReadsBy n x a bodies s → ReadsBy m y b bodies t
+reads_by_of {n} {m} {x} {y} {a} {b} {s} {t} bodies size image anchor state by =
+    let parts : ◌≡◌ {A = ℕ × (Image × (Anchor × State))} (n, (x, (a, s))) (m, (y, (b, t))) = λ k. (size k, (image k, (anchor k, state k))) in
+    subst (λ (r : ℕ × (Image × (Anchor × State))). ReadsBy r.0 r.1.0 r.1.1.0 bodies r.1.1.1) parts by
+
+-- a log whose disk reads the same, and leaves no more
+pub known_kept : {D : Type 0} {n m : ℕ} {x y : Image} {f g : Image → Type 0} {v w : Wal D} → n ≡ m → x ≡ y → NoMore f g → anchor_of v ≡ anchor_of w → index_of v ≡ index_of w → notes_of v ≡ notes_of w → end_of v ≡ end_of w
+    → IsKnown n x f v → IsKnown m y g w
+known_kept {D} {n} {m} {x} {y} {f} {g} {v} {w} size image no_more anchor index notes end known =
+    let shows : ◌≡◌ {A = State} (state_of v x) (state_of w y) = λ i. record { pages = shown (home_pages (image i) (anchor i)) (index i); notes = notes i } in
+    record {
+      bodies = known.bodies;
+      ends = ap (λ (a : Anchor). behind (area_first a) known.bodies) (sym anchor) ∙ known.ends ∙ end;
+      by = reads_by_of known.bodies size image anchor shows known.by;
+      durable = λ c left. known.durable c (no_more c left) ∙ image;
+    }

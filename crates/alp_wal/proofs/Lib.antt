@@ -1,0 +1,5 @@
+pub mod Readings
+pub mod States
+pub mod Commits
+pub mod Mounts
+pub mod Formats

@@ -1,0 +1,23 @@
+use Rattle.std.proofs.Common.{◌≡◌, ◌≤◌, ◌+◌, IsTrue, length}
+use Rattle.alp_disk.specs.Disk.{NoMore, Adds}
+use Rattle.alp_notes.specs.Notes.{IsWhole}
+use Rattle.alp_wal.specs.Reading.{area_end}
+use Rattle.alp_wal.specs.Mount.{found_state, LeadsTo}
+use Rattle.alp_wal.proofs.mounting.replay.Given as goal
+
+abbrev pub invariant-loop : goal.invariant-loop
+invariant-loop g l = record {
+  leads : IsTrue (g.D.Disk.tells l.fn.disk) → LeadsTo (g.D.Disk.seen l.fn.disk) l.fn.found.anchor l.found.end (found_state l.found (g.D.Disk.seen l.fn.disk));
+  grown : l.fn.found.end + l.counter ≤ l.found.end;
+  inside : l.found.end ≤ area_end l.fn.found.anchor;
+  anchor : l.found.anchor ≡ l.fn.found.anchor;
+  index : length l.found.index.items ≡ l.fn.found.anchor.sizes.home;
+  whole : IsWhole l.found.notes;
+  tells : g.D.Disk.tells l.disk ≡ g.D.Disk.tells l.fn.disk;
+  size : g.D.Disk.size l.disk ≡ g.D.Disk.size l.fn.disk;
+  seen : g.D.Disk.seen l.disk ≡ g.D.Disk.seen l.fn.disk;
+  crash : NoMore (g.D.Disk.may_leave l.fn.disk) (g.D.Disk.may_leave l.disk);
+  time : Adds g.D.Disk.left_since l.fn.disk l.disk (g.D.Disk.may_leave l.fn.disk);
+  allowance : g.D.Disk.allowance l.disk ≡ g.D.Disk.allowance l.fn.disk;
+  later : g.D.Disk.faults l.fn.disk ≤ g.D.Disk.faults l.disk;
+}

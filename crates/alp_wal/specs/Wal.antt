@@ -1,0 +1,81 @@
+-- What the struct of a log holds, and what is known of it.
+use Rattle.std.specs.Prelude.{◌≡◌, ◌⊎◌, ◌≤◌, ℕ, ◌-◌, Bool, List, [], ◌∷◌, Option, Some, None, slice_set, length}
+use Rattle.alp_disk.specs.Disk.{Image, Only}
+use Rattle.alp_anchor.specs.declared.anchor.Anchor.{Anchor}
+use Rattle.alp_anchor.specs.Anchor.{IsSound}
+use Rattle.alp_batch.specs.declared.batch.PageImage.{PageImage}
+use Rattle.alp_batch.specs.declared.batch.Batch.{Batch}
+use Rattle.alp_record.specs.Record.{behind}
+use Rattle.alp_notes.specs.Entries.{Entries}
+use Rattle.alp_notes.specs.declared.notes.Notes.{Notes}
+use Rattle.alp_notes.specs.Notes.{entries_of, IsWhole}
+use Rattle.alp_wal.specs.State.{State, applied}
+use Rattle.alp_wal.specs.Reading.{area_first, area_end, home_pages, ReadsBy, Reads}
+use Rattle.alp_wal.specs.declared.wal.Wal.{Wal}
+
+-- ---- the index: the image of each home page in the records of the area, where it has one
+
+abbrev pub Index : Type 0
+Index = List (Option (List ℕ))
+
+-- each page, or its image
+abbrev pub shown : Image → Index → Image
+shown [] index = []
+shown (p ∷ ps) [] = p ∷ shown ps []
+shown (p ∷ ps) (None ∷ index) = p ∷ shown ps index
+shown (p ∷ ps) (Some image ∷ index) = image ∷ shown ps index
+
+abbrev pub indexed : Index → List PageImage → Index
+indexed index [] = index
+indexed index (i ∷ is) = indexed (slice_set index i.at (Some i.page)) is
+
+-- ---- the struct
+
+abbrev pub disk_of : {D : Type 0} → Wal D → D
+disk_of w = w.disk
+
+abbrev pub anchor_of : {D : Type 0} → Wal D → Anchor
+anchor_of w = w.anchor
+
+abbrev pub end_of : {D : Type 0} → Wal D → ℕ
+end_of w = w.end
+
+abbrev pub notes_of : {D : Type 0} → Wal D → Entries
+notes_of w = entries_of w.notes
+
+abbrev pub index_of : {D : Type 0} → Wal D → Index
+index_of w = w.index.items
+
+abbrev pub is_dead : {D : Type 0} → Wal D → Bool
+is_dead w = w.dead
+
+-- the notes, with the room that they have
+abbrev pub held_notes : {D : Type 0} → Wal D → Notes
+held_notes w = w.notes
+
+-- the pages of the area behind the last record
+abbrev pub room_of : {D : Type 0} → Wal D → ℕ
+room_of w = area_end (anchor_of w) - w.end
+
+-- what the log holds over a disk that reads so
+abbrev pub state_of : {D : Type 0} → Wal D → Image → State
+state_of w image = record { pages = shown (home_pages image w.anchor) w.index.items; notes = entries_of w.notes }
+
+-- before a batch, or after it
+abbrev pub BeforeOrAfter : ℕ → ℕ → ℕ → State → Batch → Image → Type 0
+BeforeOrAfter server servers n state b c = Reads server servers n c state ⊎ Reads server servers n c (applied state b)
+
+-- holds on every disk of n pages
+pub record IsLog {D : Type 0} (n : ℕ) (w : Wal D) : Type 0 where
+  pub anchor : IsSound n (anchor_of w)
+  pub index : length (index_of w) ≡ (anchor_of w).sizes.home
+  pub notes : IsWhole w.notes
+  pub begun : area_first (anchor_of w) ≤ end_of w
+  pub inside : end_of w ≤ area_end (anchor_of w)
+
+-- holds where the disk tells what it holds: a read gives a disk with the log's state, and so does a crash
+pub record IsKnown {D : Type 0} (n : ℕ) (image : Image) (may_leave : Image → Type 0) (w : Wal D) : Type 0 where
+  pub bodies : List (List ℕ)
+  pub ends : behind (area_first (anchor_of w)) bodies ≡ end_of w
+  pub by : ReadsBy n image (anchor_of w) bodies (state_of w image)
+  pub durable : Only image may_leave

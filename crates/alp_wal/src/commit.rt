@@ -1,0 +1,85 @@
+//! Commits.
+ghost use Rattle.std.specs.Prelude.{◌≡◌, ◌≤◌, ◌+◌, ◌↔◌, length, IsTrue, OnOk, OnErr, IsErrOf, true, false};
+ghost use Rattle.std.specs.List.{AllByRecursion};
+ghost use Rattle.alp_base.specs.Causes.{Rose};
+ghost use Rattle.alp_base.specs.Allowances.{Spends};
+ghost use Rattle.alp_base.specs.declared.allowance.Allowance.TheVariants.{Spent};
+ghost use Rattle.alp_disk.specs.Disk.{LeavesOnly};
+ghost use Rattle.alp_batch.specs.Batch.{IsBatch, batch_length};
+ghost use Rattle.alp_record.specs.Record.{body_pages};
+ghost use Rattle.alp_notes.specs.Entries.{noted};
+ghost use Rattle.alp_notes.specs.Notes.{IsWhole, HasRoom};
+ghost use Rattle.alp_wal.specs.State.{Suits, IsBelow, applied};
+ghost use Rattle.alp_wal.specs.Wal.{disk_of, anchor_of, end_of, index_of, held_notes, notes_of, is_dead, room_of, state_of, indexed, IsLog, IsKnown, BeforeOrAfter};
+ghost use Rattle.alp_wal.specs.declared.fault.WalFault.TheVariants.{Failed, Stopped, Dead, OutOfMemory};
+
+use crate::prepare::{Prepared, lay_over};
+use crate::{Wal, WalFault};
+use alp_base::{NoteChange, PageRef};
+use alp_batch::{Batch, PageImage};
+use alp_disk::Disk;
+
+impl<D: Disk> Wal<D> {
+    /// What the log holds in memory after a batch.
+    fn settle(&mut self, images: Vec<PageImage>, notes: Vec<NoteChange>)
+        requires inside { AllByRecursion (IsBelow (length (index_of self.old))) images.items }
+        requires whole { IsWhole (held_notes self.old) }
+        requires room { HasRoom (length notes.items) (held_notes self.old) }
+        ensures index { index_of self.new ≡ indexed (index_of self.old) images.items }
+        ensures notes { notes_of self.new ≡ noted (notes_of self.old) notes.items }
+        ensures whole { IsWhole (held_notes self.new) }
+        ensures disk { disk_of self.new ≡ disk_of self.old }
+        ensures anchor { anchor_of self.new ≡ anchor_of self.old }
+        ensures end { end_of self.new ≡ end_of self.old }
+        ensures dead { is_dead self.new ≡ is_dead self.old }
+    {
+        lay_over(self.index.as_mut_slice(), images);
+        self.notes.apply(notes);
+    }
+
+    /// Commits a batch: after `Ok` every crash leaves it, and before that all of it or none.
+    ///
+    /// The record of the batch has to fit the rest of the area. A call makes two syncs, and reads
+    /// nothing.
+    pub fn commit(&mut self, batch: &Batch) -> Result<(), WalFault>
+        requires log { IsLog (D.size (disk_of self.old)) self.old }
+        requires known { IsTrue (D.tells (disk_of self.old)) → is_dead self.old ≡ false → IsKnown (D.size (disk_of self.old)) (D.seen (disk_of self.old)) (D.may_leave (disk_of self.old)) self.old }
+        requires batch { IsBatch batch.now }
+        requires suits { Suits (anchor_of self.old).sizes.home (notes_of self.old) batch.now }
+        requires fits { 1 + body_pages (batch_length batch.now) ≤ room_of self.old }
+        ensures log { IsLog (D.size (disk_of self.new)) self.new }
+        ensures known { IsTrue (D.tells (disk_of self.new)) → is_dead self.new ≡ false → IsKnown (D.size (disk_of self.new)) (D.seen (disk_of self.new)) (D.may_leave (disk_of self.new)) self.new }
+        ensures committed { IsTrue (D.tells (disk_of self.old)) → OnOk result (state_of self.new (D.seen (disk_of self.new)) ≡ applied (state_of self.old (D.seen (disk_of self.old))) batch.now) }
+        ensures before_or_after { IsTrue (D.tells (disk_of self.old)) → is_dead self.old ≡ false → LeavesOnly D.left_since (disk_of self.old) (disk_of self.new) (BeforeOrAfter (anchor_of self.old).server (anchor_of self.old).servers (D.size (disk_of self.old)) (state_of self.old (D.seen (disk_of self.old))) batch.now) }
+        ensures tells { D.tells (disk_of self.new) ≡ D.tells (disk_of self.old) }
+        ensures size { D.size (disk_of self.new) ≡ D.size (disk_of self.old) }
+        ensures anchor { anchor_of self.new ≡ anchor_of self.old }
+        ensures allowance { Spends (D.allowance (disk_of self.old)) (D.allowance (disk_of self.new)) }
+        ensures later { D.faults (disk_of self.old) ≤ D.faults (disk_of self.new) }
+        ensures failed { IsErrOf result Failed → Rose (D.faults (disk_of self.old)) (D.faults (disk_of self.new)) }
+        ensures stopped { IsErrOf result Stopped → D.allowance (disk_of self.new) ≡ Spent }
+        ensures dead { IsErrOf result Dead ↔ (is_dead self.old ≡ true) }
+        ensures halted { IsErrOf result Failed → is_dead self.new ≡ true }
+        ensures cut_off { IsErrOf result Stopped → is_dead self.new ≡ true }
+        ensures alive { OnOk result (is_dead self.new ≡ false) }
+        // Want of memory leaves all as it was.
+        ensures memory_disk { IsErrOf result OutOfMemory → disk_of self.new ≡ disk_of self.old }
+        ensures memory_index { IsErrOf result OutOfMemory → index_of self.new ≡ index_of self.old }
+        ensures memory_notes { IsErrOf result OutOfMemory → notes_of self.new ≡ notes_of self.old }
+        ensures memory_end { IsErrOf result OutOfMemory → end_of self.new ≡ end_of self.old }
+        ensures memory_dead { IsErrOf result OutOfMemory → is_dead self.new ≡ is_dead self.old }
+    {
+        if self.dead {
+            return Err(WalFault::Dead);
+        }
+        let prepared = self.prepare(batch)?;
+        let Prepared {
+            body,
+            images,
+            notes,
+        } = prepared;
+        self.append(body.as_slice())?;
+        self.settle(images, notes);
+        Ok(())
+    }
+}

@@ -1,0 +1,23 @@
+//! The log of a disk: batches of home pages and notes, committed whole or not at all.
+#![tactic(auto)]
+
+mod append;
+mod begin;
+mod commit;
+mod fault;
+mod formatting;
+mod found;
+mod laws;
+mod mounting;
+mod prepare;
+mod read;
+mod wal;
+
+pub use fault::WalFault;
+pub use formatting::format;
+pub use laws::a_disk_has_one_reading;
+pub use mounting::mount;
+pub use wal::Wal;
+
+#[cfg(test)]
+mod tests;
