@@ -2,7 +2,7 @@
 ghost use Rattle.std.specs.Prelude.{◌≡◌, ◌*◌, ◌/◌, ◌<◌, IfSome};
 
 use crate::words::USAGE;
-use alp_base::{Halt, OutOfMemory};
+use alp_base::OutOfMemory;
 use std::alloc::{AllocError, AllocFailed};
 use std::time::{Clock, Instant};
 use std::{fmt, io};
@@ -13,10 +13,8 @@ pub(crate) enum Trouble {
     /// The words are no command.
     Words,
     OutOfMemory,
-    /// The clock or a file failed, or what was printed could not be written.
+    /// The clock failed, or what was printed could not be written.
     Host,
-    /// The area of the log has no room for the next record.
-    Full,
     /// The clock showed one time at the start and at the end.
     NoTime,
 }
@@ -45,12 +43,6 @@ impl From<io::Error> for Trouble {
     }
 }
 
-impl From<Halt> for Trouble {
-    fn from(_: Halt) -> Trouble {
-        Trouble::Host
-    }
-}
-
 impl fmt::Display for Trouble {
     fn fmt<W: fmt::Write>(&self, f: &mut fmt::Formatter<W>) -> fmt::Result {
         match self {
@@ -61,9 +53,8 @@ impl fmt::Display for Trouble {
             ),
             Trouble::Host => writeln!(
                 f,
-                "the clock, the output or a file failed: check them, and measure again"
+                "the clock or the output failed: check both, and measure again"
             ),
-            Trouble::Full => writeln!(f, "the log is full: measure fewer commits"),
             Trouble::NoTime => writeln!(f, "the clock stood still: check it, and measure again"),
         }
     }
