@@ -22,7 +22,7 @@ use Rattle.alp_files.proofs.CellMapLemmas.{get_cell}
 use Rattle.alp_files.proofs.SoundLemmas.{empty_sound}
 use Rattle.alp_journal.proofs.OneThread.{one_thread, charged}
 use Rattle.alp_script.specs.declared.numbered.NumberedLine.{NumberedLine}
-use Rattle.alp_top.specs.declared.client.Client.{Client}
+use Rattle.alp_client.specs.declared.client.Client.{Client}
 use Rattle.alp_top.specs.declared.node.Node.{Node}
 use Rattle.alp_top.specs.Nodes.{IsKept, start_in}
 use Rattle.alp_top.specs.Plays.{AreRecorded, ends_of, ranks_from}

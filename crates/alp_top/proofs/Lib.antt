@@ -1,5 +1,4 @@
 pub mod KeptLemmas
-pub mod MapLemmas
 pub mod StepLemmas
 pub mod RunLemmas
 pub mod StreamLemmas

@@ -17,9 +17,9 @@ use Rattle.alp_script.specs.Named.{client_named, server_named}
 use Rattle.alp_script.specs.Known.{Known}
 use Rattle.alp_script.proofs.FormLemmas.{tested}
 use Rattle.alp_script.specs.Order.{next, after, is_declared, is_one, names_ours, after_servers, after_client, after_begin, after_owner, after_create, after_run, after_commit}
-use Rattle.alp_top.specs.declared.client.Client.{Client}
+use Rattle.alp_client.specs.declared.client.Client.{Client}
 use Rattle.alp_top.specs.declared.node.Node.{Node}
-use Rattle.alp_top.specs.Clients.{new_client}
+use Rattle.alp_client.specs.Clients.{new_client}
 use Rattle.alp_journal.specs.Told.{exchanges_of}
 use Rattle.alp_top.specs.Plays.{PlaysLine, Plays, AreRecorded}
 use Rattle.alp_top.specs.Steps.{StartsIdle, TransAfter, Adds, IsOurs}

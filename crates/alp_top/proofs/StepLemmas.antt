@@ -14,8 +14,8 @@ use Rattle.alp_files.specs.Passing.{IsFileReply, is_passing_refusal}
 use Rattle.alp_script.specs.declared.line.Line.{Line}
 use Rattle.alp_script.specs.declared.line.Line.TheVariants as line
 use Rattle.alp_script.specs.Forms.{IsForm, servers, client, begin, owner, create, write, read, commit}
-use Rattle.alp_top.specs.declared.client.Client.{Client}
-use Rattle.alp_top.specs.declared.client.Greeted.{Greeted}
+use Rattle.alp_client.specs.declared.client.Client.{Client}
+use Rattle.alp_client.specs.declared.client.Greeted.{Greeted}
 use Rattle.alp_top.specs.declared.node.Node.{Node}
 use Rattle.alp_top.specs.declared.node.Live.{Live}
 use Rattle.alp_top.specs.declared.node.Session.{Session}
@@ -25,8 +25,8 @@ use Rattle.std.specs.Prelude.{cond}
 use Rattle.std.specs.Ordering.{is_lt}
 use Rattle.alp_journal.specs.State.{stamp_cmp}
 use Rattle.alp_fields.specs.ClockNote.{clock_kept}
-use Rattle.alp_top.specs.Props.{later}
-use Rattle.alp_top.specs.Clients.{frame_in, hears, hears_in, Exchanges, at_line, declares, call_of, call_in, call_with, told_reply, told_refusal}
+use Rattle.alp_client.specs.Props.{later}
+use Rattle.alp_client.specs.Clients.{frame_in, hears, hears_in, Exchanges, at_line, declares, call_of, call_in, call_with, told_reply, told_refusal}
 use Rattle.alp_top.specs.Steps.{InStep, SameSession, SameTrans, IsExpected, StartsIdle, IsOwn, Goes, Became, Exchanged, Did, Adds, TransAfter}
 use Rattle.std.specs.Option.{option_map}
 use Rattle.alp_base.specs.declared.lists.TheConstants.{PAGES_PER_FILE}

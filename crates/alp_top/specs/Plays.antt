@@ -12,8 +12,8 @@ use Rattle.alp_journal.specs.Serial.{start}
 use Rattle.alp_top.specs.Logs.{Log, openings}
 use Rattle.alp_script.specs.declared.numbered.NumberedLine.{NumberedLine}
 use Rattle.alp_script.specs.Named.{client_named}
-use Rattle.alp_top.specs.declared.client.Client.{Client}
-use Rattle.alp_top.specs.Clients.{new_client, at_line, declares, Exchanges}
+use Rattle.alp_client.specs.declared.client.Client.{Client}
+use Rattle.alp_client.specs.Clients.{new_client, at_line, declares, Exchanges}
 
 -- what one line adds to the log: a client's line has an item, a declaration has none
 abbrev pub PlaysLine : Client → NumberedLine → Option ℕ → List LineLog → Client → Type 0

@@ -7,10 +7,10 @@ use Rattle.alp_fields.specs.ClockNote.{clock_name, clock_form}
 use Rattle.alp_script.specs.declared.numbered.NumberedLine.{NumberedLine}
 use Rattle.alp_script.specs.Known.{Known}
 use Rattle.alp_script.specs.Accepted.{LeadsFrom}
-use Rattle.alp_top.specs.declared.client.Client.{Client}
+use Rattle.alp_client.specs.declared.client.Client.{Client}
 use Rattle.alp_top.specs.declared.node.Node.{Node}
 use Rattle.alp_top.specs.Nodes.{IsKept, start_in, files_of}
-use Rattle.alp_top.specs.Clients.{new_client}
+use Rattle.alp_client.specs.Clients.{new_client}
 use Rattle.alp_journal.specs.declared.entry.Entry.{Entry}
 use Rattle.alp_report.specs.Reports.{lines_text, summary_text}
 use Rattle.alp_journal.specs.Told.{exchanges_of}

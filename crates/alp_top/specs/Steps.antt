@@ -12,14 +12,14 @@ use Rattle.alp_journal.specs.declared.log.Exchange.{Exchange}
 use Rattle.alp_script.specs.declared.line.Line.{Line}
 use Rattle.alp_script.specs.declared.line.Line.TheVariants as line
 use Rattle.alp_script.specs.Forms.{IsForm}
-use Rattle.alp_top.specs.declared.client.Client.{Client}
-use Rattle.alp_top.specs.declared.client.Greeted.{Greeted}
+use Rattle.alp_client.specs.declared.client.Client.{Client}
+use Rattle.alp_client.specs.declared.client.Greeted.{Greeted}
 use Rattle.alp_top.specs.declared.node.Node.{Node}
 use Rattle.alp_top.specs.declared.node.Live.{Live}
 use Rattle.alp_top.specs.declared.node.Session.{Session}
 use Rattle.alp_fields.specs.ClockNote.{clock_kept}
 use Rattle.alp_top.specs.Nodes.{IsKept, IsRunning, seat_of, start_in}
-use Rattle.alp_top.specs.Clients.{Frame, frame_sent, hears, call_of, Exchanges}
+use Rattle.alp_client.specs.Clients.{Frame, frame_sent, hears, call_of, Exchanges}
 use Rattle.alp_journal.specs.Told.{exchanges_of}
 use Rattle.alp_top.specs.Plays.{Records, AreRecorded, PlaysLine}
 use Rattle.alp_journal.specs.declared.log.LineLog.{LineLog}

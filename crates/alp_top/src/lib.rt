@@ -1,7 +1,6 @@
 //! Plays a script on a server, from the bytes of the script to the bytes of the report.
 #![tactic(auto)]
 
-mod client;
 mod finish;
 mod node;
 mod opened;

@@ -9,17 +9,17 @@ ghost use Rattle.alp_top.specs.Nodes.{IsKept, HasRoom, Stepped, IsNext, IsRunnin
 ghost use Rattle.alp_top.specs.Steps.{InStep, IsExpected, Became, IsOwn, StartsIdle, Exchanged, Did, IsOurs, Adds};
 ghost use Rattle.std.specs.Option.{option_to_list};
 ghost use Rattle.alp_script.specs.Forms.{IsForm};
-ghost use Rattle.alp_top.specs.Clients.{frame_in};
+ghost use Rattle.alp_client.specs.Clients.{frame_in};
 ghost use Rattle.std.specs.List.{AllByRecursion};
 ghost use Rattle.alp_script.specs.Known.{nothing_known};
 ghost use Rattle.alp_script.specs.Order.{names_ours};
 ghost use Rattle.alp_script.specs.Accepted.{LeadsFrom};
 ghost use Rattle.alp_top.specs.Runs.{HasPlayed, IsNewOpening};
 
-use crate::client::{Client, Greeted};
 use crate::node::Node;
 use crate::start::StartFault;
 use alp_base::{OutOfMemory, Sizes, TransId};
+use alp_client::{Client, Greeted};
 use alp_files::{Call, Reply};
 use alp_journal::{Exchange, LineLog};
 use alp_script::{Line, NumberedLine};

@@ -1,7 +1,7 @@
 use Rattle.std.specs.Prelude.{Some, None}
 use Rattle.std.proofs.Common.{◌≡◌, [], refl, sym, ◌∙◌, subst}
 use Rattle.alp_script.specs.Named.{client_named}
-use Rattle.alp_top.specs.declared.client.Client.{Client}
+use Rattle.alp_client.specs.declared.client.Client.{Client}
 use Rattle.alp_top.specs.Steps.{Did, Adds}
 use Rattle.alp_top.proofs.StepLemmas.{adds_item, adds_nothing}
 use Rattle.alp_top.proofs.play.play_line.Goals as goal

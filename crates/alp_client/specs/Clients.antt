@@ -17,10 +17,10 @@ use Rattle.alp_script.specs.declared.line.Line.{Line}
 use Rattle.alp_script.specs.declared.line.Line.TheVariants as line
 use Rattle.alp_script.specs.declared.line.FileWord.{FileWord}
 use Rattle.alp_script.specs.declared.line.FileWord.TheVariants as file_word
-use Rattle.alp_top.specs.Maps.{WordMap, OpenMap}
-use Rattle.alp_top.specs.Props.{new_props, later}
-use Rattle.alp_top.specs.declared.client.Client.{Client}
-use Rattle.alp_top.specs.declared.client.Greeted.{Greeted}
+use Rattle.alp_client.specs.Maps.{WordMap, OpenMap}
+use Rattle.alp_client.specs.Props.{new_props, later}
+use Rattle.alp_client.specs.declared.client.Client.{Client}
+use Rattle.alp_client.specs.declared.client.Greeted.{Greeted}
 
 -- nobody told it of a transaction
 abbrev pub no_trans : TransId

@@ -1,107 +1,14 @@
 //! A client of the script: what it was told, and what it sends for a line.
-ghost use Rattle.std.specs.Prelude.{◌≡◌, OnOk, IfOk, replicate};
+ghost use Rattle.std.specs.Prelude.{◌≡◌, OnOk, OnErr, IfOk, replicate};
 ghost use Rattle.std.specs.FinMap as map;
-ghost use Rattle.std.specs.Option.{option_copied as copied, unwrap_or};
-ghost use Rattle.alp_top.specs.Props.{new_props as props_said, later as later_said};
+ghost use Rattle.alp_client.specs.Props.{new_props as props_said, later as later_said};
 
+use crate::{Opens, Words};
 use alp_base::{AccessList, FileId, Name, OutOfMemory, Page, PageList, PageRef, Stamp, TransId};
 use alp_files::{Call, Props, Refusal, Reply};
 use alp_script::{FileWord, Line};
 use std::alloc::Global;
 use std::cmp::Ordering;
-use std::collections::BTreeMap;
-use std::marker::Model;
-
-/// The ids that words of the script stand for.
-#[derive(Drop)]
-pub struct Words {
-    ids: BTreeMap<Name, FileId>,
-}
-
-impl Model for Words {
-    ghost use Rattle.std.specs.FinMap as map;
-    ghost use Rattle.alp_top.specs.Maps.{WordMap};
-    ghost use Rattle.alp_base.specs.contracts.name.Name as name_type;
-    ghost use Rattle.alp_base.specs.contracts.ids.FileId as id_type;
-
-    ghost Value = { WordMap };
-
-    ghost coded = { map.code name_type.the_row.coded id_type.the_row.coded };
-
-    ghost view = { λ w. map.from_entries w.ids.entries };
-}
-
-impl Words {
-    pub fn new(alloc: Global) -> Words
-        ensures { result ≡ map.empty }
-    {
-        Words {
-            ids: BTreeMap::new(alloc),
-        }
-    }
-
-    pub fn get(&self, word: &Name) -> Option<&FileId>
-        ensures { copied result ≡ map.get self.now word.now }
-    {
-        self.ids.get(word)
-    }
-
-    /// The word stands for the id from now on.
-    pub fn bind(&mut self, word: Name, id: FileId) -> Result<(), OutOfMemory>
-        ensures { OnOk result (self.new ≡ map.insert self.old word id) }
-    {
-        self.ids.insert(word, id)?;
-        Ok(())
-    }
-}
-
-/// The open numbers that were last given for files, in the transaction that runs.
-#[derive(Drop)]
-pub struct Opens {
-    numbers: BTreeMap<FileId, u32>,
-}
-
-impl Model for Opens {
-    ghost use Rattle.std.specs.FinMap as map;
-    ghost use Rattle.std.specs.Coded.{coded_ℕ};
-    ghost use Rattle.alp_top.specs.Maps.{OpenMap};
-    ghost use Rattle.alp_base.specs.contracts.ids.FileId as id_type;
-
-    ghost Value = { OpenMap };
-
-    ghost coded = { map.code id_type.the_row.coded coded_ℕ };
-
-    ghost view = { λ o. map.from_entries o.numbers.entries };
-}
-
-impl Opens {
-    pub fn new(alloc: Global) -> Opens
-        ensures { result ≡ map.empty }
-    {
-        Opens {
-            numbers: BTreeMap::new(alloc),
-        }
-    }
-
-    pub fn get(&self, id: &FileId) -> Option<&u32>
-        ensures { copied result ≡ map.get self.now id.now }
-    {
-        self.numbers.get(id)
-    }
-
-    pub fn give(&mut self, id: FileId, number: u32) -> Result<(), OutOfMemory>
-        ensures { OnOk result (self.new ≡ map.insert self.old id number) }
-    {
-        self.numbers.insert(id, number)?;
-        Ok(())
-    }
-
-    pub fn clear(&mut self)
-        ensures { self.new ≡ map.empty }
-    {
-        self.numbers.clear();
-    }
-}
 
 /// A session as its client knows it: the server's epoch, and the number of the last call.
 #[derive(Clone, Copy)]
@@ -163,7 +70,7 @@ fn copies(alloc: Global, page: &PageRef, count: u8) -> Result<PageList, OutOfMem
 }
 
 impl Client {
-    ghost use Rattle.alp_top.specs.Clients.{new_client, file_of as file_said, open_of as open_said, call_in as call_in_said, call_of as call_said, at_line as at_said, told_reply, told_created, told_refusal, left as left_said, declares as declared, FitsPage};
+    ghost use Rattle.alp_client.specs.Clients.{new_client, file_of as file_said, open_of as open_said, call_in as call_in_said, call_of as call_said, at_line as at_said, told_reply, told_created, told_refusal, left as left_said, declares as declared, FitsPage};
 
     pub fn new(alloc: Global) -> Client
         ensures { result ≡ new_client }
@@ -304,7 +211,8 @@ impl Client {
 
     /// The line of the client begins: a `create` binds its word, and a `begin` leaves the transaction before.
     pub fn at_line(&mut self, line: &Line) -> Result<(), OutOfMemory>
-        ensures { OnOk result (self.new ≡ at_said self.old line.now) }
+        ensures ok { OnOk result (self.new ≡ at_said self.old line.now) }
+        ensures err { OnErr result (self.new ≡ self.old) }
     {
         match line {
             Line::Begin {
@@ -342,7 +250,8 @@ impl Client {
     }
 
     fn created(&mut self, line: &Line, file: FileId, open_no: u32) -> Result<(), OutOfMemory>
-        ensures { OnOk result (self.new ≡ told_created self.old line.now file open_no) }
+        ensures ok { OnOk result (self.new ≡ told_created self.old line.now file open_no) }
+        ensures err { OnErr result (self.new ≡ self.old) }
     {
         if let Line::Create {
             client: _,
@@ -355,9 +264,20 @@ impl Client {
             choice: _,
         } = line
         {
-            self.words.bind(*word, file)?;
-            self.opens.give(file, open_no)?;
-            return Ok(());
+            return self.bind_open(*word, file, open_no);
+        }
+        Ok(())
+    }
+
+    // The word stands for the file, which has that open number.
+    fn bind_open(&mut self, word: Name, file: FileId, open_no: u32) -> Result<(), OutOfMemory>
+        ensures ok { OnOk result (self.new ≡ record self.old { words = map.insert self.old.words word file; opens = map.insert self.old.opens file open_no }) }
+        ensures err { OnErr result (self.new ≡ self.old) }
+    {
+        let stood = self.words.bind(word, file)?;
+        if self.opens.give(file, open_no).is_err() {
+            self.words.restore(word, stood);
+            return Err(OutOfMemory);
         }
         Ok(())
     }
@@ -384,7 +304,8 @@ impl Client {
 
     /// What the client makes of the reply to the call of a line.
     pub fn told(&mut self, line: &Line, reply: &Reply) -> Result<(), OutOfMemory>
-        ensures { OnOk result (self.new ≡ told_reply self.old line.now reply.now) }
+        ensures ok { OnOk result (self.new ≡ told_reply self.old line.now reply.now) }
+        ensures err { OnErr result (self.new ≡ self.old) }
     {
         match reply {
             Reply::Begun { trans } => {

@@ -1,9 +1,9 @@
 use Rattle.std.specs.FinMap as map
 use Rattle.std.proofs.Common.{ap, sym, ◌∙◌}
-use Rattle.alp_top.specs.Maps.{WordMap}
+use Rattle.alp_client.specs.Maps.{WordMap}
 use Rattle.alp_files.proofs.TreeLemmas.{get_at}
-use Rattle.alp_top.proofs.MapLemmas.{nat_list_cmp_total, exact_bytes}
-use Rattle.alp_top.proofs.client.Words.get.Goals as goal
+use Rattle.alp_client.proofs.MapLemmas.{nat_list_cmp_total, exact_bytes}
+use Rattle.alp_client.proofs.memory.Words.get.Goals as goal
 
 pub returns : goal.returns
 returns c = c.get.ensures.value ∙ sym (get_at nat_list_cmp_total exact_bytes c.self.inside.ids.entries c.args.word.now) ∙ ap (λ (m : WordMap). map.get m c.args.word.now) c.self.view_is
