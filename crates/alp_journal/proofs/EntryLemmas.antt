@@ -179,7 +179,7 @@ module _ (s : State) (client number : ℕ) (w : Session) where
       let none_brought : brought acts ≡ [] = ap (λ (b : Bool). cond {A = List Act} b [] acts) stop in
       let x : State = record s { pending = acts } in
       let there : acted s e ≡ x =
-      ap (λ (as : List Act). with_pending (state_after (after_act e.event) s as) acts) none_brought ∙ ap (λ (b : Bool). record s { pending = cond {A = List Act} b acts s.pending }) stop in
+      ap (λ (xs : List Act). with_pending (state_after (after_act e.event) s xs) acts) none_brought ∙ ap (λ (b : Bool). record s { pending = cond {A = List Act} b acts s.pending }) stop in
       let y : State = with_waiting m client (s.waiting client) in
       let leaves : next s e ≡ m =
       ap (λ (z : State). after_event z e.event e.reply) there ∙ called-next x client s.epoch number w c r (file_trans c) is refl turn plain now refl ∙ ap (with_done y) none
@@ -302,7 +302,7 @@ module _ (s : State) (client number : ℕ) (w : Session) where
 
     -- under the locks that the part holds
     pub done_leads : IsQuiet s → s.sessions client ≡ Some w → number ≡ w.last + 1 → s.lives t ≡ Some l → l.client ≡ client → l.vote ≡ None → kind_of c ≡ Plain → file_trans c ≡ Some t
-        → IsFormed c → IsFileReply r → is_passing r ≡ false → is_of_no_file s c r ≡ false → ended_at s client s.epoch number c r ≡ []
+        → IsFormed c → IsFileReply r → is_passing r ≡ false → is_of_no_file s c r ≡ false → ((x : State) → ended_at x client s.epoch number c r ≡ [])
         → (answer_in s l done).reply ≡ Some r → ((f : FileId) → id_in r ≡ Some f → has_file f s.made ≡ false) → HoldsEach l.held (needs_of (view_in s l) l.own c)
         → ((u : TransId) (k : Life) → same_trans u t ≡ false → s.lives u ≡ Some k → DoAgree (with_made l.held (id_in r)) k.held)
         → Leads s (call_entry c r []) with_call
@@ -318,7 +318,7 @@ module _ (s : State) (client number : ℕ) (w : Session) where
         subst (PerformsRight s e.event) (sym (performs-next s client s.epoch number w c r t is refl turn plain of ∙ does)) (l, there, law) in
         let still : DoLivesAgree with_call.lives =
         agree_set s.lives t (Some done_life) q.agree (λ k born u m away is_there. subst (λ (x : Life). DoAgree x.held m.held) (same-some done_life k born) (agree u m away is_there)) in
-        lawful_so s e with_call leaves (record { agree = still; idle = q.idle }) (draws_none s [] r kind) tt right_so tt (sym (ap (λ (ts : List TransId). ts ++ []) ends)) (tells_none (in_order with_call) r kind)
+        lawful_so s e with_call leaves (record { agree = still; idle = q.idle }) (draws_none s [] r kind) tt right_so tt (sym (ap (λ (ts : List TransId). ts ++ []) (ends s))) (tells_none (in_order with_call) r kind)
 
 -- ---- a call asks for its locks, and has them
 
@@ -351,7 +351,7 @@ module _ (s : State) (client number : ℕ) (w : Session) (t : TransId) (l : Life
       ∙ (λ i. record with_granted { waiting = waits_not s l.client q i })
 
   pub grant_leads : IsQuiet s → s.sessions client ≡ Some w → number ≡ w.last + 1 → s.lives t ≡ Some l → l.client ≡ client → l.vote ≡ None → kind_of c ≡ Plain → file_trans c ≡ Some t
-      → IsFormed c → IsFileReply r → is_passing r ≡ false → is_of_no_file s c r ≡ false → ended_at s client s.epoch number c r ≡ []
+      → IsFormed c → IsFileReply r → is_passing r ≡ false → is_of_no_file s c r ≡ false → ((x : State) → ended_at x client s.epoch number c r ≡ [])
       → (answer_in s l (record { call = c; reply = r })).reply ≡ Some r → ((f : FileId) → id_in r ≡ Some f → has_file f s.made ≡ false)
       → ((u : TransId) (k : Life) → same_trans u t ≡ false → s.lives u ≡ Some k → DoAgree (held_for s l c) k.held)
       → ((u : TransId) (k : Life) → same_trans u t ≡ false → s.lives u ≡ Some k → DoAgree (with_made (held_for s l c) (id_in r)) k.held)
@@ -379,7 +379,7 @@ module _ (s : State) (client number : ℕ) (w : Session) (t : TransId) (l : Life
       lawful_so s granted_entry after_grant leaves (record { agree = end; idle = q.idle }) (draws_none s client number w t l c r s (act.Granted t ∷ []) r kind) (tt, tt)
       (subst (λ (y : State). PerformsRight y e (performs y e (Some r))) (sym there_now) then_done.lawful.view)
       ((asked, subst (λ (y : State). DoLivesAgree y.lives) (sym (grants_now q there own of)) still), tt)
-      (sym (ap (λ (ts : List TransId). ts ++ []) ends)) (tells_none s client number w t l c r (in_order after_grant) r kind)
+      (sym (ap (λ (ts : List TransId). ts ++ []) (ends s))) (tells_none s client number w t l c r (in_order after_grant) r kind)
 
 -- ---- time runs out
 
