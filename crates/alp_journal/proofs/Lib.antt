@@ -4,3 +4,4 @@ pub mod HistoryOrder
 pub mod LifeLemmas
 pub mod OneThread
 pub mod Worked
+pub mod EntryLemmas

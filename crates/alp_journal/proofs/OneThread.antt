@@ -21,7 +21,7 @@ use Rattle.alp_files.specs.Apart.{AreSized, AreFormed, ids_after, after_part, Is
 use Rattle.alp_files.proofs.FilesLemmas.{same-some}
 use Rattle.alp_files.proofs.FrameLemmas.{files-changed, made-after, steps-sized}
 use Rattle.alp_files.proofs.SwapLemmas.{AreAlike, part-alike}
-use Rattle.alp_files.proofs.SoundLemmas.{history_sound, end_sound}
+use Rattle.alp_files.proofs.SoundLemmas.{history_sound, end_sound, steps_sound}
 use Rattle.alp_journal.specs.declared.act.Act.{Act}
 use Rattle.alp_journal.specs.declared.act.Act.TheVariants as act
 use Rattle.alp_journal.specs.declared.event.Event.{Event}
@@ -370,3 +370,12 @@ module _ (o : Start) (journal : List Entry) (sound : IsSoundOpening o) (law : Is
         history_sound o.server (starting o.cells) (in_order (state_of o journal)) pages sound.files,
         subst AreSound one_thread.files (end_sound o.server (starting o.cells) (in_order (state_of o journal)) pages sound.files),
       )
+
+  -- what a live part sees is sound too
+  pub live_sound : (t : TransId) (l : Life) → (state_of o journal).lives t ≡ Some l → AreSound (edits_map l.edits (state_of o journal).cells)
+  live_sound t l is =
+      let s : State = state_of o journal in
+      let mine : IsGoodLife s.server s.cells (stands.held.ids) s.made (stands.held.parts) l = stands.held.live t l is in
+      let base : Standing = now_at s.cells (stands.held.ids) in
+      let files : (after_part s.server base (part_of l)).files ≡ edits_map l.edits s.cells = files-changed s.server l.who l.calls base ∙ ap (λ (es : List Edit). edits_map es s.cells) mine.edits in
+      subst AreSound files (steps_sound s.server base l.who l.calls (pages-of l.calls mine.right.formed) charged.1)
