@@ -7,12 +7,11 @@ ghost use Rattle.alp_wal.specs.State.{IsBelow};
 ghost use Rattle.alp_wal.specs.Wal.{disk_of, IsLog};
 
 use crate::rates::{Trouble, hundredths, rate_since};
-use alp_anchor::{Anchor, anchor_page};
-use alp_base::{OutOfMemory, Page, PageRef, Sizes};
+use alp_base::{OutOfMemory, Page, PageRef, Sizes, VaultFault};
 use alp_batch::{Batch, Images, NoteChanges, PageImage, encode};
 use alp_disk::{Disk, FileDisk};
 use alp_record::record_pages;
-use alp_wal::{Wal, WalFault, mount};
+use alp_wal::{Wal, WalFault, format};
 use std::alloc::Global;
 use std::fmt;
 use std::fs::{self, File, Files, OpenOptions};
@@ -76,27 +75,18 @@ fn new_file<R: Files<File = File>>(rt: &R, path: &str) -> Result<File, Trouble> 
     Ok(options.open(rt, path)?)
 }
 
-// A new volume in the file, without a record and with home pages of zeros.
+// A new volume in the file.
 fn new_log(alloc: Global, file: File, home: u32) -> Result<Wal<FileDisk>, Trouble>
-    requires { home ≤ 65536 }
+    requires least { 512 ≤ home }
+    requires most { home ≤ 65536 }
     ensures { IfOk result (λ log. IsLog (⟦<FileDisk as Disk>⟧.size (disk_of log)) log) }
 {
     let pages = 2 + 2 * AREA + home;
     file.set_len(512 * u64::from(pages))?;
-    let mut disk = FileDisk::new(file, pages);
-    let anchor = Anchor {
-        page: 0,
-        generation: 1,
-        area: 0,
-        server: 1,
-        servers: 1,
-        sizes: Sizes { home, area: AREA },
-    };
-    let page = anchor_page(&anchor);
-    disk.write(0, 0, page.bytes())?;
-    disk.sync()?;
-    match mount(alloc, disk, 1, 1) {
+    let disk = FileDisk::new(file, pages);
+    match format(alloc, disk, 1, 1, Sizes { home, area: AREA }) {
         Ok(log) => Ok(log),
+        Err((_, VaultFault::OutOfMemory)) => Err(Trouble::OutOfMemory),
         Err(_) => Err(Trouble::Host),
     }
 }
@@ -197,7 +187,8 @@ fn commit_rates<C: Clock>(
     plan: &Plan<'_>,
     pages: u32,
 ) -> Result<(u128, u128, u128), Trouble>
-    requires home { plan.now.home ≤ 65536 }
+    requires least { 512 ≤ plan.now.home }
+    requires most { plan.now.home ≤ 65536 }
     requires few { pages ≤ 16 }
 {
     let batch = some_batch(alloc, pages)?;
@@ -233,7 +224,8 @@ fn rates_on<R: Files<File = File> + Clock>(
     volume: &str,
     appended: &str,
 ) -> Result<Rates, Trouble>
-    requires home { plan.now.home ≤ 65536 }
+    requires least { 512 ≤ plan.now.home }
+    requires most { plan.now.home ≤ 65536 }
     requires few { pages ≤ 16 }
 {
     let file = new_file(rt, volume)?;
@@ -258,7 +250,7 @@ pub(crate) fn measure<R: Files<File = File> + Clock>(
     plan: &Plan<'_>,
     pages: u32,
 ) -> Result<Rates, Trouble> {
-    if 65536 < plan.home || 16 < pages {
+    if plan.home < 512 || 65536 < plan.home || 16 < pages {
         return Err(Trouble::Words);
     }
     let folder = plan.folder;

@@ -2,7 +2,7 @@
 ghost use Rattle.std.specs.Prelude.{◌≡◌, ◌*◌, ◌/◌, ◌<◌, IfSome};
 
 use crate::words::USAGE;
-use alp_base::{Halt, OutOfMemory};
+use alp_base::OutOfMemory;
 use std::alloc::{AllocError, AllocFailed};
 use std::time::{Clock, Instant};
 use std::{fmt, io};
@@ -41,12 +41,6 @@ impl<T: Drop> From<AllocFailed<T>> for Trouble {
 
 impl From<io::Error> for Trouble {
     fn from(_: io::Error) -> Trouble {
-        Trouble::Host
-    }
-}
-
-impl From<Halt> for Trouble {
-    fn from(_: Halt) -> Trouble {
         Trouble::Host
     }
 }
