@@ -1,4 +1,4 @@
-use Rattle.std.proofs.Common.{◌≡◌, ◌+◌, true, List, length, sym, subst, arith}
+use Rattle.std.proofs.Common.{◌≡◌, ◌+◌, true, List, sym, subst, arith}
 use Rattle.std.specs.List.{AllByRecursion}
 use Rattle.alp_batch.specs.Batch.{page_below}
 use Rattle.alp_batch.specs.Rising.{is_rising}
