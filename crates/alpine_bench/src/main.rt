@@ -1,6 +1,7 @@
-//! The program `alpine_bench`: how fast the monitor, the lock table and the frames are on this machine.
+//! The program `alpine_bench`: how fast the monitor, the lock table, the frames and the log are on this machine.
 #![tactic(auto)]
 
+mod commits;
 mod frames;
 mod locks;
 mod monitor;
@@ -9,6 +10,7 @@ mod words;
 
 use rates::Trouble;
 use std::alloc::Global;
+use std::fs::{File, Files};
 use std::process::ExitCode;
 use std::rt::Runtime;
 use std::sync::Wait;
@@ -17,20 +19,24 @@ use std::{env, io};
 use words::{Command, USAGE, read_words};
 
 // The words after the program's name.
-fn said<R: Runtime>(rt: &R, alloc: Global) -> Result<Option<Command>, Trouble> {
+fn said<R: Runtime>(rt: &R, alloc: Global) -> Result<Vec<String<R::A>>, Trouble> {
     let Ok(all) = env::args(rt) else {
-        return Ok(None);
+        return Err(Trouble::Words);
     };
     let mut words = Vec::new(alloc);
     for word in all.skip(1) {
         words.push(word)?;
     }
-    let shown: Vec<&str> = words.iter().map(|word| word.as_str()).collect(alloc)?;
-    Ok(read_words(shown.as_slice()))
+    Ok(words)
 }
 
-fn run<R: Runtime + Threads + Wait + Sync>(rt: &R, alloc: Global) -> Result<(), Trouble> {
-    match said(rt, alloc)? {
+fn run<R: Runtime + Files<File = File> + Threads + Wait + Sync>(
+    rt: &R,
+    alloc: Global,
+) -> Result<(), Trouble> {
+    let words = said(rt, alloc)?;
+    let shown: Vec<&str> = words.iter().map(|word| word.as_str()).collect(alloc)?;
+    match read_words(shown.as_slice()) {
         None => Err(Trouble::Words),
         Some(Command::Usage) => Ok(print!(rt; "{USAGE}")?),
         Some(Command::Monitor { threads }) => {
@@ -47,6 +53,13 @@ fn run<R: Runtime + Threads + Wait + Sync>(rt: &R, alloc: Global) -> Result<(), 
         Some(Command::Frames) => {
             let rates = frames::measure(rt, alloc)?;
             Ok(print!(rt; "{rates}")?)
+        }
+        Some(Command::Log { plan }) => {
+            for pages in commits::SIZES {
+                let rates = commits::measure(rt, alloc, &plan, pages)?;
+                print!(rt; "{rates}")?;
+            }
+            Ok(())
         }
     }
 }

@@ -13,8 +13,10 @@ pub(crate) enum Trouble {
     /// The words are no command.
     Words,
     OutOfMemory,
-    /// The clock failed, or what was printed could not be written.
+    /// The clock or a file failed, or what was printed could not be written.
     Host,
+    /// The area of the log has no room for the next record.
+    Full,
     /// The clock showed one time at the start and at the end.
     NoTime,
 }
@@ -53,8 +55,9 @@ impl fmt::Display for Trouble {
             ),
             Trouble::Host => writeln!(
                 f,
-                "the clock or the output failed: check both, and measure again"
+                "the clock, the output or a file failed: check them, and measure again"
             ),
+            Trouble::Full => writeln!(f, "the log is full: measure fewer commits"),
             Trouble::NoTime => writeln!(f, "the clock stood still: check it, and measure again"),
         }
     }

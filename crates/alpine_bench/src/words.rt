@@ -1,4 +1,5 @@
 //! What the words of a call ask for.
+use crate::commits::Plan;
 
 pub(crate) const USAGE: &str = "\
 usage: alpine_bench COMMAND
@@ -6,21 +7,29 @@ usage: alpine_bench COMMAND
   monitor THREADS  turns a second of 1 to 16 threads at one monitor, and at a Mutex
   locks            asks and releases a second beside 16, 256 and 1024 held resources
   frames           encodes and decodes a second of a request to write 16 pages
+  log FOLDER COUNT PAGES
+                   commits a second of batches of 1 page and of 16, COUNT of each (4 to 227), on a
+                   new volume of PAGES home pages (512 to 65536) in a file in FOLDER, beside appends
+                   of as many bytes to another file, each with a sync
 ";
 
 // How many threads may be asked for.
 const MOST_THREADS: u32 = 16;
 
+// How many commits may be asked for: so many records of 16 pages fit an area.
+const MOST_COMMITS: u32 = 227;
+
 #[derive(Drop)]
-pub(crate) enum Command {
+pub(crate) enum Command<'a> {
     Usage,
     Monitor { threads: u32 },
     Locks,
     Frames,
+    Log { plan: Plan<'a> },
 }
 
 /// The command that the words after the program's name are, if they are one.
-pub(crate) fn read_words(words: &[&str]) -> Option<Command> {
+pub(crate) fn read_words<'a>(words: &[&'a str]) -> Option<Command<'a>> {
     match words {
         [] => Some(Command::Usage),
         ["monitor", count] => {
@@ -32,6 +41,20 @@ pub(crate) fn read_words(words: &[&str]) -> Option<Command> {
         }
         ["locks"] => Some(Command::Locks),
         ["frames"] => Some(Command::Frames),
+        ["log", folder, count, pages] => {
+            let commits = count.parse().ok()?;
+            let home = pages.parse().ok()?;
+            if commits < 4 || MOST_COMMITS < commits || home < 512 || 65536 < home {
+                return None;
+            }
+            Some(Command::Log {
+                plan: Plan {
+                    folder,
+                    commits,
+                    home,
+                },
+            })
+        }
         _ => None,
     }
 }

@@ -12,7 +12,7 @@ returns c =
     adds_item c.args.client.now c.exchange.new.client c.args.node.now c.exchange.new.node c.args.line.now c.in-Some.number
     (record { line = c.args.line.now.number; client = c.in-Some.number; exchanges = c.in_ok-exchanges.exchanges })
     c.requires.form named (c.requires.ours c.in-Some.number named) refl refl
-    (subst (λ (x : Client). Did x c.exchange.new.client c.args.node.now c.exchange.new.node c.args.line.now.line c.in_ok-exchanges.exchanges.items) c.in_ok-at_line.ensures c.in_ok-exchanges.ensures)
+    (subst (λ (x : Client). Did x c.exchange.new.client c.args.node.now c.exchange.new.node c.args.line.now.line c.in_ok-exchanges.exchanges.items) c.in_ok-at_line.ensures.ok c.in_ok-exchanges.ensures)
 
 pub returns-in_default : goal.returns-in_default
 returns-in_default c =

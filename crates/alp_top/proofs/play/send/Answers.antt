@@ -15,4 +15,4 @@ returns c =
     let here = c.in_ok-reply.ensures in
     exchanged c.args.client.now c.args.node.now c.ask.new.node c.args.call c.in_ok-reply.reply c.unwrap-greeted.result (c.unwrap-greeted.result.last + 1) c.requires.step c.unwrap-greeted.ensures
     here.session here.seat c.args.line.now c.told.new.self c.in_ok-sent.sent (length c.entries.result.now) here.kept here.stepped c.requires.own here.became
-    c.in_ok-told.ensures same (ap (λ (js : List Entry). length js) c.entries.ensures) refl
+    c.in_ok-told.ensures.ok same (ap (λ (js : List Entry). length js) c.entries.ensures) refl
