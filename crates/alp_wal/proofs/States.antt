@@ -82,7 +82,7 @@ leads_push home first last (x ∷ bodies) body b leads one = (leads.0, leads.1, 
 
 -- ---- pages before the records and behind them
 
-above_area : (a : Anchor) → a.area ≤ 1 → area_end a ≤ home_first a
+pub above_area : (a : Anchor) → a.area ≤ 1 → area_end a ≤ home_first a
 above_area a low = elim (cases_eq a.area 0) [
   | inl none ↦ omega (arith, ap (λ (k : ℕ). k * a.sizes.area) none)
   | inr some ↦ let one : a.area ≡ 1 = omega (arith, low, some) in omega (arith, ap (λ (k : ℕ). k * a.sizes.area) one)

@@ -1,5 +1,8 @@
 pub mod State
+pub mod Live
 pub mod Reading
 pub mod Wal
+pub mod Prepared
+pub mod Checkpoint
 pub mod Mount
 pub mod Format

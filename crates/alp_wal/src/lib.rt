@@ -3,14 +3,19 @@
 
 mod append;
 mod begin;
+mod checkpoint;
 mod commit;
 mod fault;
 mod formatting;
 mod found;
+mod home;
 mod laws;
+mod live;
 mod mounting;
+mod moving;
 mod prepare;
 mod read;
+mod turn;
 mod wal;
 
 pub use fault::WalFault;
