@@ -12,11 +12,13 @@ use Rattle.alp_batch.specs.declared.batch.Batch.{Batch}
 use Rattle.alp_batch.specs.Batch.{batch}
 use Rattle.alp_record.specs.Record.{behind}
 use Rattle.alp_notes.specs.Entries.{Entries, noted}
-use Rattle.alp_wal.specs.State.{State, applied, overlaid, IsBelow, Suits, most_notes}
-use Rattle.alp_wal.specs.Live.{puts, notes_batch}
+use Rattle.alp_wal.specs.State.{State, applied, overlaid, IsBelow, Suits}
+use Rattle.alp_live.specs.Live.{most_notes, puts, notes_batch}
 use Rattle.alp_wal.specs.Reading.{Applies, Leads, area_first, area_end, home_first, pages_from, home_pages, bare, ReadsBy, Reads}
-use Rattle.alp_wal.specs.Wal.{Index, shown, indexed, no_index, Logs}
-use Rattle.alp_wal.specs.Checkpoint.{SameUnlogged, BroughtHome, turned, SameInUse, Turned, Turning, MovingOver, MovedOver}
+use Rattle.alp_live.specs.Home.{Index}
+use Rattle.alp_wal.specs.Wal.{shown, indexed, no_index, Logs}
+use Rattle.alp_live.specs.Home.{SameUnlogged, BroughtHome}
+use Rattle.alp_wal.specs.Checkpoint.{turned, SameInUse, Turned, Turning, MovingOver, MovedOver}
 use Rattle.alp_wal.proofs.Readings.{batch_once}
 use Rattle.alp_wal.proofs.States.{shown_indexed, length-indexed, shown_bare, same_from, length-pages_from, page_from, above_area, counts_kept}
 use Rattle.alp_wal.proofs.Homes.{shown_unlogged, shown_home}

@@ -15,9 +15,10 @@ use Rattle.alp_notes.specs.Entries.{Entries, noted}
 use Rattle.alp_notes.specs.declared.notes.Notes.{Notes}
 use Rattle.alp_notes.specs.Notes.{entries_of}
 use Rattle.alp_wal.specs.State.{State, applied, IsBelow}
-use Rattle.alp_wal.specs.Live.{notes_pages, AreLive}
+use Rattle.alp_live.specs.Live.{notes_pages, AreLive}
 use Rattle.alp_wal.specs.Reading.{Applies, Leads, area_first, area_end, home_pages, bare, ReadsBy}
-use Rattle.alp_wal.specs.Wal.{Index, shown, indexed, no_index, Logs, anchor_of, index_of, notes_of, held_notes, end_of, state_of, IsLog, IsSameVolume, IsKnown, BeforeOrAfter}
+use Rattle.alp_live.specs.Home.{Index}
+use Rattle.alp_wal.specs.Wal.{shown, indexed, no_index, Logs, anchor_of, index_of, notes_of, held_notes, end_of, state_of, IsLog, IsSameVolume, IsKnown, BeforeOrAfter}
 use Rattle.alp_wal.specs.declared.wal.Wal.{Wal}
 use Rattle.alp_wal.proofs.States.{shown_indexed, leads_push, bare_kept, counts_kept}
 
@@ -78,15 +79,14 @@ known_kept {D} {n} {m} {x} {y} {f} {g} {v} {w} size image no_more anchor index n
 
 -- ---- one call behind the other
 
-module _ {D : Type 0} (left_since : D → D → Image → Type 0) (old mid new : D) where
-  pub leaves_weaker : (P Q : Image → Type 0) → LeavesOnly left_since old new P → ((c : Image) → P c → Q c) → LeavesOnly left_since old new Q
-  leaves_weaker P Q leaves here = record { within = λ c left. here c (leaves.within c left); adds = adds_weaker left_since old new P Q leaves.adds here }
+pub leaves_weaker : {D : Type 0} (left_since : D → D → Image → Type 0) (old new : D) (P Q : Image → Type 0) → LeavesOnly left_since old new P → ((c : Image) → P c → Q c) → LeavesOnly left_since old new Q
+leaves_weaker left_since old new P Q leaves here = record { within = λ c left. here c (leaves.within c left); adds = adds_weaker left_since old new P Q leaves.adds here }
 
-  pub leaves_then : (P Q R : Image → Type 0) → LeavesOnly left_since old mid P → LeavesOnly left_since mid new Q → ((c : Image) → P c → R c) → ((c : Image) → Q c → R c) → LeavesOnly left_since old new R
-  leaves_then P Q R one two before after = record {
-    within = λ c left. ⊎_elim (λ was. before c (one.within c was)) (λ now. after c now) (two.adds.each old c left);
-    adds = adds_more left_since old mid new R Q (adds_weaker left_since old mid P R one.adds before) two.adds after;
-  }
+pub leaves_then : {D : Type 0} (left_since : D → D → Image → Type 0) (old mid new : D) (P Q R : Image → Type 0) → LeavesOnly left_since old mid P → LeavesOnly left_since mid new Q → ((c : Image) → P c → R c) → ((c : Image) → Q c → R c) → LeavesOnly left_since old new R
+leaves_then left_since old mid new P Q R one two before after = record {
+  within = λ c left. ⊎_elim (λ was. before c (one.within c was)) (λ now. after c now) (two.adds.each old c left);
+  adds = adds_more left_since old mid new R Q (adds_weaker left_since old mid P R one.adds before) two.adds after;
+}
 
 -- the same of a log that is seen in another way
 pub before_or_after_as : {a b : Anchor} {n m : ℕ} {s t : State} {p q : Batch} (c : Image) → IsSameVolume b a → n ≡ m → s ≡ t → p ≡ q → BeforeOrAfter a.server a.servers n s p c → BeforeOrAfter b.server b.servers m t q c

@@ -1,6 +1,5 @@
 pub mod Readings
 pub mod States
-pub mod Lives
 pub mod Homes
 pub mod Turns
 pub mod Checkpoints

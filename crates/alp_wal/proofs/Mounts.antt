@@ -15,14 +15,15 @@ use Rattle.alp_record.proofs.Adds.{stand_push, behind_push}
 use Rattle.alp_notes.specs.Entries.{Entries, noted}
 use Rattle.alp_notes.specs.Notes.{entries_of}
 use Rattle.alp_wal.specs.State.{State, IsBelow, Suits}
-use Rattle.alp_wal.specs.Live.{AreWithin}
+use Rattle.alp_live.specs.Live.{AreWithin}
 use Rattle.alp_wal.specs.Reading.{Leads, area_first, area_end, home_pages, bare, ReadsBy}
-use Rattle.alp_wal.specs.Wal.{Index, shown, indexed, no_index, Logs}
+use Rattle.alp_live.specs.Home.{Index}
+use Rattle.alp_wal.specs.Wal.{shown, indexed, no_index, Logs}
 use Rattle.alp_wal.specs.Mount.{found_state, LeadsTo, Finds, IsBad, WhyNotMounted, AppliesNot, Taken, TakenOrNot}
 use Rattle.alp_wal.specs.declared.found.Found.{Found}
 use Rattle.alp_wal.proofs.Readings.{batch_once}
 use Rattle.alp_wal.proofs.Checkpoints.{logs_push}
-use Rattle.alp_wal.proofs.Lives.{within_next}
+use Rattle.alp_live.proofs.Lives.{within_next}
 use Rattle.alp_wal.proofs.States.{shown_bare, shown_indexed, length-indexed, leads_push}
 
 module _ {E : Type 0} (f g : Found) (body : List ℕ) (b : Batch) where

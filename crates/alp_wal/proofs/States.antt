@@ -12,7 +12,8 @@ use Rattle.alp_batch.specs.declared.batch.Batch.{Batch}
 use Rattle.alp_disk.specs.Runs.{SameOutside}
 use Rattle.alp_wal.specs.State.{State, overlaid, applied, IsBelow}
 use Rattle.alp_wal.specs.Reading.{Applies, Leads, pages_from, home_first, area_end, bare}
-use Rattle.alp_wal.specs.Wal.{Index, shown, indexed}
+use Rattle.alp_live.specs.Home.{Index}
+use Rattle.alp_wal.specs.Wal.{shown, indexed}
 
 -- ---- the index shows what the batches leave
 

@@ -1,5 +1,4 @@
 pub mod State
-pub mod Live
 pub mod Reading
 pub mod Wal
 pub mod Prepared

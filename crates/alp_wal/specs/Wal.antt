@@ -1,5 +1,5 @@
 -- What the struct of a log holds, and what is known of it.
-use Rattle.std.specs.Prelude.{◌≡◌, ◌⊎◌, ◌≤◌, ℕ, ◌-◌, Bool, List, [], ◌∷◌, Option, Some, None, slice_set, replicate, length}
+use Rattle.std.specs.Prelude.{◌≡◌, ◌⊎◌, ◌≤◌, ℕ, ◌-◌, Bool, List, [], ◌∷◌, Some, None, slice_set, replicate, length}
 use Rattle.alp_disk.specs.Disk.{Image, Only}
 use Rattle.alp_anchor.specs.declared.anchor.Anchor.{Anchor}
 use Rattle.alp_anchor.specs.Anchor.{IsSound}
@@ -11,14 +11,12 @@ use Rattle.alp_notes.specs.Entries.{Entries}
 use Rattle.alp_notes.specs.declared.notes.Notes.{Notes}
 use Rattle.alp_notes.specs.Notes.{entries_of}
 use Rattle.alp_wal.specs.State.{State, applied}
-use Rattle.alp_wal.specs.Live.{notes_pages, AreLive}
+use Rattle.alp_live.specs.Live.{notes_pages, AreLive}
+use Rattle.alp_live.specs.Home.{Index}
 use Rattle.alp_wal.specs.Reading.{area_first, area_end, home_pages, ReadsBy, Reads}
 use Rattle.alp_wal.specs.declared.wal.Wal.{Wal}
 
 -- ---- the index: the image of each home page in the records of the area, where it has one
-
-abbrev pub Index : Type 0
-Index = List (Option (List ℕ))
 
 -- each page, or its image
 abbrev pub shown : Image → Index → Image

@@ -7,7 +7,7 @@ ghost use Rattle.alp_base.specs.declared.allowance.Allowance.TheVariants.{Spent}
 ghost use Rattle.alp_disk.specs.Disk.{Image as Pages, Only, NoMore, Adds};
 ghost use Rattle.alp_anchor.specs.Anchor.{IsSound, Counts};
 ghost use Rattle.alp_notes.specs.Notes.{entries_of};
-ghost use Rattle.alp_wal.specs.Live.{AreLive};
+ghost use Rattle.alp_live.specs.Live.{AreLive};
 ghost use Rattle.alp_wal.specs.Reading.{area_first, area_end};
 ghost use Rattle.alp_wal.specs.Mount.{Finds, WhyNone, halt_fault};
 

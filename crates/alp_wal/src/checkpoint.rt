@@ -5,14 +5,14 @@ ghost use Rattle.alp_base.specs.Allowances.{Spends};
 ghost use Rattle.alp_base.specs.declared.allowance.Allowance.TheVariants.{Spent};
 ghost use Rattle.alp_disk.specs.Disk.{LeavesOnly};
 ghost use Rattle.alp_wal.specs.Reading.{Reads};
-ghost use Rattle.alp_wal.specs.Live.{notes_pages};
+ghost use Rattle.alp_live.specs.Live.{notes_pages};
 ghost use Rattle.alp_wal.specs.Wal.{disk_of, anchor_of, end_of, index_of, held_notes, notes_of, is_dead, room_of, state_of, no_index, IsSameVolume, IsLog, IsKnown};
 ghost use Rattle.alp_wal.specs.Checkpoint.{turned};
 ghost use Rattle.alp_wal.specs.declared.fault.WalFault.TheVariants.{Failed, Stopped, Full, Dead, OutOfMemory};
 
-use crate::live::live_body;
 use crate::{Wal, WalFault};
 use alp_disk::Disk;
+use alp_live::live_body;
 
 impl<D: Disk> Wal<D> {
     /// Brings the images of the area home, and goes on in the other area behind a record of the live

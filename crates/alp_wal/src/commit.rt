@@ -9,17 +9,17 @@ ghost use Rattle.alp_batch.specs.Batch.{IsBatch};
 ghost use Rattle.alp_notes.specs.Entries.{noted};
 ghost use Rattle.alp_notes.specs.Notes.{IsWhole, HasRoom};
 ghost use Rattle.alp_wal.specs.State.{Suits, IsBelow, applied};
-ghost use Rattle.alp_wal.specs.Live.{batch_pages, BothFit};
+ghost use Rattle.alp_live.specs.Live.{batch_pages, BothFit};
 ghost use Rattle.alp_wal.specs.Wal.{disk_of, anchor_of, end_of, index_of, held_notes, notes_of, is_dead, room_of, state_of, indexed, IsSameVolume, IsLog, IsKnown, BeforeOrAfter};
 ghost use Rattle.alp_wal.specs.Prepared.{batch_of, IsReady};
 ghost use Rattle.alp_wal.specs.declared.fault.WalFault.TheVariants.{Failed, Stopped, Full, Dead, OutOfMemory};
 
-use crate::live::both_fit;
 use crate::prepare::{Prepared, lay_over, prepare};
 use crate::{Wal, WalFault};
 use alp_base::{NoteChange, PageRef};
 use alp_batch::{Batch, PageImage};
 use alp_disk::Disk;
+use alp_live::both_fit;
 use alp_record::record_pages;
 
 impl<D: Disk> Wal<D> {

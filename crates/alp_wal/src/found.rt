@@ -6,7 +6,7 @@ ghost use Rattle.alp_batch.specs.Batch.{IsBatch};
 ghost use Rattle.alp_notes.specs.Notes.{entries_of};
 ghost use Rattle.alp_notes.specs.Entries.{noted};
 ghost use Rattle.alp_wal.specs.State.{IsBelow, Suits};
-ghost use Rattle.alp_wal.specs.Live.{AreLive};
+ghost use Rattle.alp_live.specs.Live.{AreLive};
 ghost use Rattle.alp_wal.specs.Wal.{indexed, no_index, Logs};
 ghost use Rattle.alp_wal.specs.Mount.{found_state, TakenOrNot};
 
@@ -28,7 +28,7 @@ pub(super) struct Found {
     pub(super) notes: Notes,
 }
 
-fn all_below(images: &[PageImage], home: u32) -> bool
+pub(super) fn all_below(images: &[PageImage], home: u32) -> bool
     ensures { IsTrue result ↔ AllByRecursion (IsBelow home) images.now }
 {
     images.iter().all(|i| i.at < home)

@@ -8,14 +8,12 @@ mod commit;
 mod fault;
 mod formatting;
 mod found;
-mod home;
 mod laws;
-mod live;
 mod mounting;
 mod moving;
 mod prepare;
 mod read;
-mod turn;
+mod turning;
 mod wal;
 
 pub use fault::WalFault;

@@ -9,7 +9,7 @@ ghost use Rattle.alp_disk.specs.Disk.{Only, NoMore, Adds};
 ghost use Rattle.alp_anchor.specs.Anchor.{IsSound, Counts};
 ghost use Rattle.alp_record.specs.Record.{IsEnd};
 ghost use Rattle.alp_notes.specs.Notes.{entries_of};
-ghost use Rattle.alp_wal.specs.Live.{AreLive, AreWithin};
+ghost use Rattle.alp_live.specs.Live.{AreLive, AreWithin};
 ghost use Rattle.alp_wal.specs.Reading.{area_first, area_end, Reads};
 ghost use Rattle.alp_wal.specs.Wal.{disk_of, anchor_of, state_of, is_dead, IsLog, IsKnown};
 ghost use Rattle.alp_wal.specs.Mount.{Finds, IsBad, WhyNotMounted};

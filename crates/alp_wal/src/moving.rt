@@ -12,13 +12,12 @@ ghost use Rattle.alp_wal.specs.Checkpoint.{turned, MovingOver, MovedOver};
 ghost use Rattle.alp_wal.specs.declared.fault.WalFault.TheVariants.{Failed, Stopped, Full, Dead, OutOfMemory};
 
 use crate::begin::area_of;
-use crate::home::bring_home;
-use crate::prepare::clear_index;
-use crate::turn::turn;
+use crate::turning::turn;
 use crate::{Wal, WalFault};
 use alp_anchor::Anchor;
 use alp_base::{Halt, PageRef};
 use alp_disk::Disk;
+use alp_live::{bring_home, clear_index};
 use alp_record::record_pages;
 
 /// Brings the images home, and turns to the idle area with this record as its only one.

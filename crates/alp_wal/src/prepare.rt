@@ -4,7 +4,7 @@ ghost use Rattle.std.specs.List.{AllByRecursion};
 ghost use Rattle.alp_batch.specs.Batch.{IsBatch};
 ghost use Rattle.alp_notes.specs.Notes.{entries_of, IsWhole, HasRoom};
 ghost use Rattle.alp_wal.specs.State.{IsBelow};
-ghost use Rattle.alp_wal.specs.Wal.{indexed, no_index};
+ghost use Rattle.alp_wal.specs.Wal.{indexed};
 ghost use Rattle.alp_wal.specs.Prepared.{batch_of, IsReady};
 
 use alp_base::{Bytes, NoteChange, OutOfMemory, PageRef};
@@ -61,14 +61,5 @@ pub(super) fn lay_over(index: &mut [Option<PageRef>], images: Vec<PageImage>)
     for next in images {
         let PageImage { at, page } = next;
         index[at as usize] = Some(page);
-    }
-}
-
-/// Drops all images.
-pub(super) fn clear_index(index: &mut [Option<PageRef>])
-    ensures { index.new ≡ no_index (length index.old) }
-{
-    for k in 0..index.len() {
-        index[k] = None;
     }
 }

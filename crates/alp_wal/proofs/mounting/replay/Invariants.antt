@@ -1,7 +1,7 @@
 use Rattle.std.proofs.Common.{◌≡◌, ◌≤◌, ◌+◌, IsTrue, length}
 use Rattle.alp_disk.specs.Disk.{NoMore, Adds}
 use Rattle.alp_notes.specs.Notes.{entries_of}
-use Rattle.alp_wal.specs.Live.{AreLive, AreWithin}
+use Rattle.alp_live.specs.Live.{AreLive, AreWithin}
 use Rattle.alp_wal.specs.Reading.{area_first, area_end}
 use Rattle.alp_wal.specs.Mount.{Finds}
 use Rattle.alp_wal.proofs.mounting.replay.Given as goal

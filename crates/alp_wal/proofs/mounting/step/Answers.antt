@@ -1,7 +1,7 @@
 use Rattle.std.proofs.Common.{◌≡◌, ◌+◌, ℕ, List, [], ◌∷◌, length, sym, ◌∙◌, ap, subst, arith}
 use Rattle.alp_record.specs.Record.{next_of, body_pages}
 use Rattle.alp_notes.specs.Notes.{entries_of}
-use Rattle.alp_wal.specs.Live.{AreWithin}
+use Rattle.alp_live.specs.Live.{AreWithin}
 use Rattle.alp_wal.specs.Reading.{area_first}
 use Rattle.alp_wal.specs.Wal.{Logs}
 use Rattle.alp_wal.specs.Mount.{found_state, IsBad, AppliesNot, Taken}

@@ -9,11 +9,12 @@ use Rattle.alp_record.specs.Record.{body_pages, next_of, behind}
 use Rattle.alp_notes.specs.declared.notes.Notes.{Notes}
 use Rattle.alp_notes.specs.Notes.{entries_of}
 use Rattle.alp_wal.specs.State.{State}
-use Rattle.alp_wal.specs.Live.{AreLive, notes_pages}
+use Rattle.alp_live.specs.Live.{AreLive, notes_pages}
 use Rattle.alp_wal.specs.Reading.{area_first, area_end, home_pages, Reads}
-use Rattle.alp_wal.specs.Wal.{Index, shown, no_index, Logs, disk_of, anchor_of, end_of, index_of, notes_of, held_notes, state_of}
+use Rattle.alp_live.specs.Home.{Index}
+use Rattle.alp_wal.specs.Wal.{shown, no_index, Logs, disk_of, anchor_of, end_of, index_of, notes_of, held_notes, state_of}
 use Rattle.alp_wal.specs.Checkpoint.{turned}
-use Rattle.alp_wal.proofs.Lives.{notes_again}
+use Rattle.alp_live.proofs.Lives.{notes_again}
 use Rattle.alp_wal.proofs.Turns.{turned_sound}
 use Rattle.alp_wal.proofs.Checkpoints.{reads_at, moving_reads, moved_by, moved_logs, moved_state}
 use Rattle.alp_wal.proofs.Commits.{reads_by_of, log_kept, not_both, same_volume}
@@ -139,7 +140,7 @@ returns-clause-known g c told_now alive_now =
     let a = anchor_of old in
     let body = c.as_slice.result.now in
     let spelled = c.as_slice.ensures ∙ c.in_ok-body.ensures.spelled in
-    let inside = omega (arith, known.ends, log.inside) in
+    let inside : behind (area_first a) known.bodies ≤ area_end a = omega (arith, known.ends, log.inside) in
     let again = notes_again (held_notes old) log.notes.whole in
     let index : index_of new ≡ no_index a.sizes.home = ok.index ∙ ap (λ k. no_index k) log.index in
     let by = moved_by n a image (index_of old) (notes_of old) known.bodies log.anchor inside known.logged known.by body spelled c.in_ok-body.ensures.fits log.notes.few again seen (ok.moved told) in

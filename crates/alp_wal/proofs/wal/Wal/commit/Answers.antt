@@ -7,8 +7,8 @@ use Rattle.alp_batch.specs.Batch.{IsShort}
 use Rattle.alp_record.proofs.Bodies.{on_ok}
 use Rattle.alp_notes.specs.Entries.{Entries}
 use Rattle.alp_notes.specs.Notes.{entries_of}
-use Rattle.alp_wal.specs.State.{State, Suits, applied, most_notes}
-use Rattle.alp_wal.specs.Live.{puts, notes_pages, batch_pages, BothFit}
+use Rattle.alp_wal.specs.State.{State, Suits, applied}
+use Rattle.alp_live.specs.Live.{most_notes, puts, notes_pages, batch_pages, BothFit}
 use Rattle.alp_wal.specs.Reading.{home_pages}
 use Rattle.alp_wal.specs.Wal.{shown, disk_of, anchor_of, end_of, index_of, notes_of, is_dead, room_of, state_of, BeforeOrAfter}
 use Rattle.alp_wal.specs.Prepared.{batch_of}

@@ -11,13 +11,14 @@ use Rattle.alp_record.specs.Record.{body_pages, next_of, behind}
 use Rattle.alp_record.proofs.Adds.{behind_push}
 use Rattle.alp_notes.specs.Entries.{Entries, noted}
 use Rattle.alp_notes.specs.Notes.{entries_of}
-use Rattle.alp_wal.specs.State.{State, IsBelow, most_notes}
-use Rattle.alp_wal.specs.Live.{puts, notes_pages}
+use Rattle.alp_wal.specs.State.{State, IsBelow}
+use Rattle.alp_live.specs.Live.{puts, notes_pages}
 use Rattle.alp_wal.specs.Reading.{Applies, area_first, area_end, home_pages}
-use Rattle.alp_wal.specs.Wal.{Index, shown, indexed, no_index, Logs, disk_of, anchor_of, end_of, index_of, notes_of, state_of, BeforeOrAfter}
+use Rattle.alp_live.specs.Home.{Index}
+use Rattle.alp_wal.specs.Wal.{shown, indexed, no_index, Logs, disk_of, anchor_of, end_of, index_of, notes_of, state_of, BeforeOrAfter}
 use Rattle.alp_wal.specs.Prepared.{batch_of}
 use Rattle.alp_wal.proofs.States.{length-indexed}
-use Rattle.alp_wal.proofs.Lives.{fits_next, short_noted}
+use Rattle.alp_live.proofs.Lives.{fits_next, short_noted}
 use Rattle.alp_wal.proofs.Checkpoints.{logs_push}
 use Rattle.alp_wal.proofs.Commits.{state_after, reads_after, crash_before, crash_leaves, reads_by_of}
 use Rattle.alp_wal.proofs.wal.Wal.put.Goals as goal

@@ -4,10 +4,11 @@ use Rattle.alp_batch.specs.Batch.{batch_length}
 use Rattle.alp_batch.proofs.BatchLaws.{batch_is}
 use Rattle.alp_record.specs.Record.{body_pages}
 use Rattle.alp_record.proofs.Bodies.{on_ok}
+use Rattle.alp_notes.specs.Entries.{Entries}
 use Rattle.alp_notes.specs.declared.notes.Notes.{Notes}
 use Rattle.alp_notes.specs.Notes.{entries_of, HasRoom}
 use Rattle.alp_wal.specs.State.{State, Suits, applied}
-use Rattle.alp_wal.specs.Live.{BothFit}
+use Rattle.alp_live.specs.Live.{BothFit}
 use Rattle.alp_wal.specs.Reading.{Reads}
 use Rattle.alp_wal.specs.Wal.{IsSameVolume, disk_of, anchor_of, notes_of, state_of, BeforeOrAfter}
 use Rattle.alp_wal.specs.Prepared.{batch_of}
@@ -20,7 +21,7 @@ returns-in_err-make_room-clause-before_or_after g c told = leaves_weaker g.D.Dis
 pub put-requires-clause-suits : goal.put-requires-clause-suits
 put-requires-clause-suits g c =
     let notes = ap entries_of c.make_room.ensures.notes in
-    subst (λ (t : Sizes × _). Suits t.0.home t.1 (batch_of c.args.prepared)) (λ i. (sym c.make_room.ensures.volume.sizes i, sym notes i)) c.requires.suits
+    subst (λ (t : Sizes × Entries). Suits t.0.home t.1 (batch_of c.args.prepared)) (λ i. (sym c.make_room.ensures.volume.sizes i, sym notes i)) c.requires.suits
 
 pub put-requires-clause-room : goal.put-requires-clause-room
 put-requires-clause-room g c = subst (λ (m : Notes). HasRoom (length c.args.prepared.notes.items) m) (sym c.make_room.ensures.notes) c.requires.room
@@ -28,7 +29,7 @@ put-requires-clause-room g c = subst (λ (m : Notes). HasRoom (length c.args.pre
 pub put-requires-clause-both : goal.put-requires-clause-both
 put-requires-clause-both g c =
     let notes = ap entries_of c.make_room.ensures.notes in
-    subst (λ (t : Sizes × _). BothFit t.0.area t.1 (batch_of c.args.prepared)) (λ i. (sym c.make_room.ensures.volume.sizes i, sym notes i)) c.requires.both
+    subst (λ (t : Sizes × Entries). BothFit t.0.area t.1 (batch_of c.args.prepared)) (λ i. (sym c.make_room.ensures.volume.sizes i, sym notes i)) c.requires.both
 
 pub returns-clause-before_or_after : goal.returns-clause-before_or_after
 returns-clause-before_or_after g c told =
