@@ -9,7 +9,7 @@ use Rattle.std.specs.Cmp.Lexicographic.{nat_list_cmp_total}
 use Rattle.std.specs.FinMap.Entries.{by_order, put}
 use Rattle.std.specs.declared.cmp.Ordering.{Ordering}
 use Rattle.std.specs.declared.cmp.Ordering.TheVariants.{Less, Equal, Greater}
-use Rattle.std.proofs.lemmas.List.{append-nil}
+use Rattle.std.proofs.lemmas.List.{append-nil, take_more, get_or_default}
 use Rattle.std.proofs.lemmas.Map.Keys.{Less-from_sorted}
 use Rattle.alp_base.specs.Notes.{text_cmp}
 use Rattle.alp_base.specs.declared.bytes.NoteChange.{NoteChange}
@@ -98,7 +98,7 @@ short_noted (c ∷ cs) es short all = short_noted cs (changed c.name c.value es)
 
 -- ---- the batch of the notes
 
-length-puts : (es : Entries) → length (puts es) ≡ length es
+pub length-puts : (es : Entries) → length (puts es) ≡ length es
 length-puts [] = refl
 length-puts (e ∷ es) = ap suc (length-puts es)
 
@@ -206,3 +206,21 @@ notes_small (suc i) (n ∷ ns) all = omega (arith, note_small n all.0, notes_sma
 pub notes_length-push : (ns : List NoteChange) (n : NoteChange) → notes_length (ns ++ n ∷ []) ≡ notes_length ns + note_length n
 notes_length-push [] n = omega arith
 notes_length-push (m ∷ ns) n = omega (arith, notes_length-push ns n)
+
+-- ---- one change more
+
+pub sum_next : (ns : List NoteChange) (i bytes size : ℕ) (x d : NoteChange) → i < length ns → x ≡ get_or ns i d → bytes ≡ notes_length (take i ns) → size ≡ note_length x → bytes + size ≡ notes_length (take (i + 1) ns)
+sum_next ns i bytes size x d low is so_far size_is =
+    let more : notes_length (take (i + 1) ns) ≡ notes_length (take i ns) + note_length (get_or ns i d) = ap (λ (l : List NoteChange). notes_length l) (take_more ns i d low) ∙ notes_length-push (take i ns) (get_or ns i d) in
+    let same : note_length x ≡ note_length (get_or ns i d) = ap (λ (n : NoteChange). note_length n) is in
+    omega (arith, more, same, so_far, size_is)
+
+pub live_low : (n : Notes) (names : List (List ℕ)) (i : ℕ) → IsWhole n → names ≡ n.names.items → i < length names → i < length (puts (entries_of n))
+live_low n names i whole same low = omega (arith, low, ap (λ (l : List (List ℕ)). length l) same, length-live n whole)
+
+-- the change of the note with the name at i
+pub live_at : (n : Notes) (names : List (List ℕ)) (i : ℕ) (name : List ℕ) → IsWhole n → names ≡ n.names.items → i < length names → name ≡ get_or names i name → put_of name (entries_of n) ≡ get_or (puts (entries_of n)) i (put_of name (entries_of n))
+live_at n names i name whole same low is =
+    let within : i < length n.names.items = omega (arith, low, ap (λ (l : List (List ℕ)). length l) same) in
+    let here : name ≡ get_or n.names.items i [] = is ∙ ap (λ (l : List (List ℕ)). get_or l i name) same ∙ get_or_default n.names.items i name [] within in
+    ap (λ (x : List ℕ). put_of x (entries_of n)) here ∙ sym (put_at n i (put_of name (entries_of n)) whole within)

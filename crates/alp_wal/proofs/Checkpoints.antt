@@ -43,12 +43,11 @@ leads_other home p q first last notes end (body ∷ bodies) long logs leads =
     let applies : Applies home (record { pages = shown p first; notes = notes }) body b = subst (λ (c : Batch). Applies home (record { pages = shown p first; notes = notes }) body c) same leads.1 in
     let below : AllByRecursion (IsBelow (length first)) b.images = subst (λ (k : ℕ). AllByRecursion (IsBelow k) b.images) (sym long) applies.suits.inside in
     let rest : Leads home (applied (record { pages = shown p first; notes = notes }) b) bodies (record { pages = shown p last; notes = end }) =
-        subst (λ (c : Batch). Leads home (applied (record { pages = shown p first; notes = notes }) c) bodies (record { pages = shown p last; notes = end })) same leads.2 in
+    subst (λ (c : Batch). Leads home (applied (record { pages = shown p first; notes = notes }) c) bodies (record { pages = shown p last; notes = end })) same leads.2 in
     let before : Leads home (record { pages = shown p (indexed first b.images); notes = noted notes b.notes }) bodies (record { pages = shown p last; notes = end }) =
-        subst (λ (l : Image). Leads home (record { pages = l; notes = noted notes b.notes }) bodies (record { pages = shown p last; notes = end })) (sym (shown_indexed p first b.images below)) rest in
+    subst (λ (l : Image). Leads home (record { pages = l; notes = noted notes b.notes }) bodies (record { pages = shown p last; notes = end })) (sym (shown_indexed p first b.images below)) rest in
     let after_it : Leads home (record { pages = shown q (indexed first b.images); notes = noted notes b.notes }) bodies (record { pages = shown q last; notes = end }) =
-        leads_other home p q (indexed first b.images) last (noted notes b.notes) end bodies (length-indexed first b.images ∙ long) logs.3 before in
-    (
+    leads_other home p q (indexed first b.images) last (noted notes b.notes) end bodies (length-indexed first b.images ∙ long) logs.3 before in (
       b,
       record { spelled = applies.spelled; fits = applies.fits; suits = applies.suits },
       subst (λ (l : Image). Leads home (record { pages = l; notes = noted notes b.notes }) bodies (record { pages = shown q last; notes = end })) (shown_indexed q first b.images below) after_it,
@@ -90,11 +89,11 @@ module _ (n : ℕ) (a : Anchor) (old : Image) (index : Index) (notes : Entries) 
     reads_home : (c : Image) → SameUnlogged (home_first a) index old c → ReadsBy n c a bodies (record { pages = shown (home_pages old a) index; notes = notes })
     reads_home c same =
         let from_index : Leads home (record { pages = shown (home_pages old a) (no_index home); notes = [] }) bodies (record { pages = shown (home_pages old a) index; notes = notes }) =
-            subst (λ (s : State). Leads home s bodies (record { pages = shown (home_pages old a) index; notes = notes })) (sym (bare_shown old a)) by.leads in
+        subst (λ (s : State). Leads home s bodies (record { pages = shown (home_pages old a) index; notes = notes })) (sym (bare_shown old a)) by.leads in
         let moved : Leads home (record { pages = shown (home_pages c a) (no_index home); notes = [] }) bodies (record { pages = shown (home_pages c a) index; notes = notes }) =
-            leads_other home (home_pages old a) (home_pages c a) (no_index home) index [] notes bodies (length-replicate home None) logged from_index in
+        leads_other home (home_pages old a) (home_pages c a) (no_index home) index [] notes bodies (length-replicate home None) logged from_index in
         let from_bare : Leads home (bare c a) bodies (record { pages = shown (home_pages c a) index; notes = notes }) =
-            subst (λ (s : State). Leads home s bodies (record { pages = shown (home_pages c a) index; notes = notes })) (bare_shown c a) moved in
+        subst (λ (s : State). Leads home s bodies (record { pages = shown (home_pages c a) index; notes = notes })) (bare_shown c a) moved in
         record {
           counts = counts_kept n a old c (λ q low. same.before q (omega (arith, low))) by.counts;
           records = records_same a.generation (area_end a) (area_first a) bodies old c by.records inside (λ q above low. same.before q (omega (arith, low, above_area a sound.area)));

@@ -9,6 +9,11 @@ use Rattle.alp_anchor.specs.Anchor.{IsSound, Counts}
 use Rattle.alp_anchor.specs.declared.anchor.Anchor.{Anchor}
 use Rattle.alp_batch.specs.declared.batch.PageImage.{PageImage}
 use Rattle.alp_batch.specs.declared.batch.Batch.{Batch}
+use Rattle.alp_batch.specs.Batch.{IsShort}
+use Rattle.alp_notes.specs.Entries.{Entries}
+use Rattle.alp_notes.specs.declared.notes.Notes.{Notes}
+use Rattle.alp_notes.specs.Notes.{entries_of, IsWhole}
+use Rattle.alp_live.specs.Live.{puts, notes_pages, AreLive}
 use Rattle.alp_disk.specs.Runs.{SameOutside}
 use Rattle.alp_wal.specs.State.{State, overlaid, applied, IsBelow}
 use Rattle.alp_wal.specs.Reading.{Applies, Leads, pages_from, home_first, area_end, bare}
@@ -74,6 +79,18 @@ pub page_from : (image : Image) (first n i : ℕ) → i < n → page (pages_from
 page_from image first zero i low = absurd (omega (arith, low))
 page_from image first (suc n) zero low = ap (λ (k : ℕ). page image k) (omega arith)
 page_from image first (suc n) (suc i) low = page_from image (first + 1) n i (omega (arith, low)) ∙ ap (λ (k : ℕ). page image k) (omega arith)
+
+-- ---- no notes
+
+pub none_live : (n : Notes) → entries_of n ≡ [] → IsWhole n → AreLive n
+none_live n none whole = record {
+  whole = whole;
+  few = omega (arith, ap (λ (e : Entries). length e) none);
+  short = subst (λ (e : Entries). AllByRecursion IsShort (puts e)) (sym none) tt;
+}
+
+pub none_fit : (area : ℕ) (es : Entries) → es ≡ [] → 64 ≤ area → notes_pages es ≤ area
+none_fit area es none enough = omega (arith, ap (λ (e : Entries). notes_pages e) none, enough)
 
 -- ---- one batch more
 

@@ -43,7 +43,8 @@ impl<D: Disk> Wal<D> {
         ensures halted { IsErrOf result Failed → is_dead self.new ≡ true }
         ensures cut_off { IsErrOf result Stopped → is_dead self.new ≡ true }
         ensures alive { OnOk result (is_dead self.new ≡ false) }
-        // Want of memory leaves all as it was.
+        // Each refusal but that of a device leaves all as it was.
+        ensures dead_stays { IsErrOf result Dead → self.new ≡ self.old }
         ensures memory { IsErrOf result OutOfMemory → self.new ≡ self.old }
     {
         if self.dead {

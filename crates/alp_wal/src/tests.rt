@@ -263,6 +263,7 @@ fn a_crash_leaves_the_batch_or_none(rt: HostRuntime) -> Result<(), Fail> {
     Ok(())
 }
 
+#[derive(Drop)]
 struct Random {
     state: u64,
 }
@@ -293,6 +294,7 @@ impl Random {
 }
 
 /// What a run is to hold now, and what it has seen.
+#[derive(Drop)]
 struct Run {
     plain: Plain,
     random: Random,
