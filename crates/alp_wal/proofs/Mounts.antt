@@ -96,9 +96,10 @@ pub some_of : (o : Option (List ℕ)) (body : List ℕ) (P : Type 0) (Q : List �
 some_of o body P Q is known = subst (λ (x : Option (List ℕ)). MatchOption x P Q) is known
 
 -- before any record
-pub finds_none : (image : Image) (a : Anchor) (f : Found) → f.end ≡ area_first a → f.index.items ≡ no_index a.sizes.home → entries_of f.notes ≡ [] → Finds image a f
-finds_none image a f end index_is notes_are =
-    let pages = sym (ap (λ (x : Index). shown (home_pages image a) x) index_is ∙ shown_bare (home_pages image a) a.sizes.home) in
+pub finds_none : (image : Image) (a : Anchor) (f : Found) → f.anchor ≡ a → f.end ≡ area_first a → f.index.items ≡ no_index a.sizes.home → entries_of f.notes ≡ [] → Finds image a f
+finds_none image a f anchor end index_is notes_are =
+    let shows : shown (home_pages image f.anchor) f.index.items ≡ home_pages image a = ap (λ (x : Index). shown (home_pages image f.anchor) x) index_is ∙ shown_bare (home_pages image f.anchor) a.sizes.home ∙ ap (λ (b : Anchor). home_pages image b) anchor in
+    let pages = sym shows in
     let none = sym notes_are in
     record {
       leads = record { bodies = []; stand = tt; here = sym end; leads = λ i. record { pages = pages i; notes = none i } };

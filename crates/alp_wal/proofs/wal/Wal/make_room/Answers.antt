@@ -7,8 +7,8 @@ use Rattle.alp_wal.proofs.Checkpoints.{reads_at}
 use Rattle.alp_wal.proofs.Commits.{not_both, same_volume}
 use Rattle.alp_wal.proofs.wal.Wal.make_room.Goals as goal
 
-pub returns-then-pages-clause-any_moment : goal.returns-then-pages-clause-any_moment
-returns-then-pages-clause-any_moment g c told =
+pub returns-then-pages-room-clause-any_moment : goal.returns-then-pages-room-clause-any_moment
+returns-then-pages-room-clause-any_moment g c told =
     let l = g.D.Disk.left_since in
     let old = c.args.self.now in
     let known = c.requires.known told in

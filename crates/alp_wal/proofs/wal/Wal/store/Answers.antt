@@ -35,9 +35,34 @@ pub returns-clause-before_or_after : goal.returns-clause-before_or_after
 returns-clause-before_or_after g c told =
     let told2 = subst IsTrue (sym c.make_room.ensures.tells) told in
     leaves_then g.D.Disk.left_since _ _ _ _ _ _ (c.make_room.ensures.any_moment told) (c.put.ensures.before_or_after told2) (λ x before. inl before)
-    (λ x is. before_or_after_as x c.make_room.ensures.volume c.make_room.ensures.size (c.in_ok-make_room.ensures.same told) refl is)
+    (λ x is. before_or_after_as {p = batch_of c.args.prepared} {q = batch_of c.args.prepared} x c.make_room.ensures.volume c.make_room.ensures.size (c.in_ok-make_room.ensures.same told) refl is)
 
 pub returns-clause-committed : goal.returns-clause-committed
 returns-clause-committed g c told =
     let told2 = subst IsTrue (sym c.make_room.ensures.tells) told in
     on_ok c.put.result _ _ (λ committed. committed ∙ ap (λ (s : State). applied s (batch_of c.args.prepared)) (c.in_ok-make_room.ensures.same told)) (c.put.ensures.committed told2)
+
+pub overflow_cast-as_slice : goal.overflow_cast-as_slice
+overflow_cast-as_slice g c =
+    let long = ap length (c.as_slice.ensures ∙ c.requires.ready.spelled) ∙ batch_is (batch_of c.args.prepared) c.requires.ready.fits in
+    omega (arith, long, c.requires.both, c.requires.log.anchor.sizes.most_area)
+
+pub make_room-requires-clause-both : goal.make_room-requires-clause-both
+make_room-requires-clause-both g c =
+    let long = ap length (c.as_slice.ensures ∙ c.requires.ready.spelled) ∙ batch_is (batch_of c.args.prepared) c.requires.ready.fits in
+    omega (arith, ap body_pages long, c.record_pages.ensures, c.requires.both)
+
+pub returns-in_err-make_room-clause-fitting : goal.returns-in_err-make_room-clause-fitting
+returns-in_err-make_room-clause-fitting g c fits =
+    let long = ap length (c.as_slice.ensures ∙ c.requires.ready.spelled) ∙ batch_is (batch_of c.args.prepared) c.requires.ready.fits in
+    ap (λ w. anchor_of w) (c.make_room.ensures.fitting (omega (arith, ap body_pages long, c.record_pages.ensures, fits)))
+
+pub put-requires-clause-fits : goal.put-requires-clause-fits
+put-requires-clause-fits g c =
+    let long = ap length (c.as_slice.ensures ∙ c.requires.ready.spelled) ∙ batch_is (batch_of c.args.prepared) c.requires.ready.fits in
+    omega (arith, ap body_pages long, c.record_pages.ensures, c.in_ok-make_room.ensures.room)
+
+pub returns-clause-fitting : goal.returns-clause-fitting
+returns-clause-fitting g c fits =
+    let long = ap length (c.as_slice.ensures ∙ c.requires.ready.spelled) ∙ batch_is (batch_of c.args.prepared) c.requires.ready.fits in
+    c.put.ensures.anchor ∙ ap (λ w. anchor_of w) (c.make_room.ensures.fitting (omega (arith, ap body_pages long, c.record_pages.ensures, fits)))
