@@ -1,5 +1,5 @@
 -- What a checkpoint leaves: the same reading, at each moment and at the end.
-use Rattle.std.proofs.Common.{◌≡◌, inl, inr, ◌≤◌, ◌<◌, ◌+◌, ℕ, List, [], ◌∷◌, ◌++◌, length, Some, None, refl, sym, ap, subst, ◌∙◌, arith}
+use Rattle.std.proofs.Common.{◌≡◌, inl, inr, ◌≤◌, ◌<◌, ℕ, List, [], ◌∷◌, ◌++◌, length, None, refl, sym, ap, subst, ◌∙◌, arith}
 use Rattle.std.specs.Prelude.{slice_index_or}
 use Rattle.std.specs.List.{AllByRecursion}
 use Rattle.std.proofs.lemmas.Bool.{cases_lt}
@@ -7,14 +7,13 @@ use Rattle.std.proofs.lemmas.List.{get_or_past, length-replicate}
 use Rattle.alp_disk.specs.Disk.{Image, page}
 use Rattle.alp_anchor.specs.Anchor.{IsSound, Counts}
 use Rattle.alp_anchor.specs.declared.anchor.Anchor.{Anchor}
-use Rattle.alp_batch.specs.declared.batch.PageImage.{PageImage}
 use Rattle.alp_batch.specs.declared.batch.Batch.{Batch}
 use Rattle.alp_batch.specs.Batch.{batch}
 use Rattle.alp_record.specs.Record.{behind}
 use Rattle.alp_notes.specs.Entries.{Entries, noted}
-use Rattle.alp_wal.specs.State.{State, applied, overlaid, IsBelow, Suits}
+use Rattle.alp_wal.specs.State.{State, applied, IsBelow, Suits}
 use Rattle.alp_live.specs.Live.{most_notes, puts, notes_batch}
-use Rattle.alp_wal.specs.Reading.{Applies, Leads, area_first, area_end, home_first, pages_from, home_pages, bare, ReadsBy, Reads}
+use Rattle.alp_wal.specs.Reading.{Applies, Leads, area_first, area_end, home_first, home_pages, bare, ReadsBy, Reads}
 use Rattle.alp_live.specs.Home.{Index}
 use Rattle.alp_wal.specs.Wal.{shown, indexed, no_index, Logs}
 use Rattle.alp_live.specs.Home.{SameUnlogged, BroughtHome}

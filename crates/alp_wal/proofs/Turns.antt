@@ -1,11 +1,10 @@
 -- The log turns to its other area.
-use Rattle.std.proofs.Common.{◌≡◌, ◌≢◌, inl, inr, ⊎_elim, ◌⊎◌, ℕ, ◌+◌, ◌-◌, ◌*◌, ◌<◌, ◌≤◌, List, [], ◌∷◌, length, slice_index, refl, sym, ap, subst, ◌∙◌, arith}
+use Rattle.std.proofs.Common.{◌≡◌, inl, inr, ◌⊎◌, ℕ, ◌+◌, ◌-◌, ◌*◌, ◌<◌, ◌≤◌, List, [], ◌∷◌, slice_index, sym, ap, subst, ◌∙◌, arith}
 use Rattle.std.specs.Prelude.{Result, Ok, Err, IfOk, OnOk}
 use Rattle.std.proofs.lemmas.Bool.{cases_eq}
 use Rattle.alp_disk.specs.Disk.{Image, page, Torn, Only, After}
-use Rattle.alp_disk.specs.Gates.{IsClosed}
 use Rattle.alp_disk.specs.Runs.{SameOutside}
-use Rattle.alp_anchor.specs.Anchor.{IsSound, Counts, next_anchor, after, Switching, Switched}
+use Rattle.alp_anchor.specs.Anchor.{IsSound, Counts, after, Switching, Switched}
 use Rattle.alp_anchor.specs.declared.anchor.Anchor.{Anchor}
 use Rattle.alp_anchor.specs.Gate.{SameBut}
 use Rattle.alp_record.specs.declared.area.Area.{Area}

@@ -1,4 +1,4 @@
-use Rattle.std.proofs.Common.{◌≡◌, ◌∙◌, refl, sym, length}
+use Rattle.std.proofs.Common.{refl}
 use Rattle.alp_wal.proofs.States.{none_live}
 use Rattle.alp_wal.proofs.Mounts.{finds_none}
 use Rattle.alp_wal.proofs.begin.bare.Goals as goal

@@ -1,4 +1,4 @@
-use Rattle.std.proofs.Common.{◌≡◌, inl, inr, length, IsTrue, sym, ◌∙◌, subst, arith}
+use Rattle.std.proofs.Common.{inl, inr, IsTrue, sym, subst, arith}
 use Rattle.alp_disk.proofs.Moments.{adds_weaker, adds_more}
 use Rattle.alp_anchor.specs.Anchor.{IsSound, Counts}
 use Rattle.alp_record.proofs.Bodies.{on_ok}

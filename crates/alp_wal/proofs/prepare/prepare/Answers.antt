@@ -1,8 +1,6 @@
-use Rattle.std.proofs.Common.{◌≡◌, length, sym, ◌∙◌, ap, subst}
-use Rattle.alp_batch.specs.declared.batch.Batch.{Batch}
+use Rattle.std.proofs.Common.{length, sym, ◌∙◌, ap, subst}
 use Rattle.alp_batch.specs.Batch.{batch}
 use Rattle.alp_notes.specs.Notes.{HasRoom}
-use Rattle.alp_wal.specs.Prepared.{batch_of}
 use Rattle.alp_wal.proofs.prepare.prepare.Goals as goal
 
 pub returns-clause-batch : goal.returns-clause-batch

@@ -1,4 +1,4 @@
-use Rattle.std.proofs.Common.{◌≡◌, ◌-◌, [], ◌∷◌, IsTrue, sym, ◌∙◌, subst, arith}
+use Rattle.std.proofs.Common.{◌-◌, [], ◌∷◌, IsTrue, sym, subst, arith}
 use Rattle.alp_disk.proofs.Moments.{adds_weaker, adds_more}
 use Rattle.alp_disk.specs.Runs.{SameOutside}
 use Rattle.alp_anchor.specs.Anchor.{IsSound, Counts, after, Switching, Switched}

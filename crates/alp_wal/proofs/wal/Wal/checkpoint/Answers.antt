@@ -2,7 +2,6 @@ use Rattle.std.proofs.Common.{◌≡◌, ◌≤◌, ℕ, List, [], ◌∷◌, le
 use Rattle.std.specs.Prelude.{Option}
 use Rattle.std.proofs.lemmas.List.{length-replicate}
 use Rattle.alp_disk.proofs.Moments.{adds_weaker, leaves_only, nothing_added}
-use Rattle.alp_disk.specs.Disk.{Adds}
 use Rattle.alp_anchor.specs.Anchor.{IsSound}
 use Rattle.alp_anchor.specs.declared.anchor.Anchor.{Anchor}
 use Rattle.alp_record.specs.Record.{body_pages, next_of, behind}
@@ -12,7 +11,7 @@ use Rattle.alp_wal.specs.State.{State}
 use Rattle.alp_live.specs.Live.{AreLive, notes_pages}
 use Rattle.alp_wal.specs.Reading.{area_first, area_end, home_pages, Reads}
 use Rattle.alp_live.specs.Home.{Index}
-use Rattle.alp_wal.specs.Wal.{shown, no_index, Logs, disk_of, anchor_of, end_of, index_of, notes_of, held_notes, state_of}
+use Rattle.alp_wal.specs.Wal.{shown, no_index, Logs, disk_of, anchor_of, index_of, notes_of, held_notes, state_of}
 use Rattle.alp_wal.specs.Checkpoint.{turned}
 use Rattle.alp_live.proofs.Lives.{notes_again}
 use Rattle.alp_wal.proofs.Turns.{turned_sound}

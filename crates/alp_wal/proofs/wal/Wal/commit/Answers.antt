@@ -1,4 +1,4 @@
-use Rattle.std.proofs.Common.{◌≡◌, ◌≤◌, ℕ, IsTrue, refl, sym, ◌∙◌, ap, subst, arith, length}
+use Rattle.std.proofs.Common.{◌≡◌, ◌≤◌, refl, sym, ◌∙◌, ap, subst, length}
 use Rattle.std.specs.List.{AllByRecursion}
 use Rattle.alp_disk.specs.Disk.{LeavesOnly}
 use Rattle.alp_disk.proofs.Moments.{leaves_only, nothing_added}
@@ -11,7 +11,6 @@ use Rattle.alp_wal.specs.State.{State, Suits, applied}
 use Rattle.alp_live.specs.Live.{most_notes, puts, notes_pages, batch_pages, BothFit}
 use Rattle.alp_wal.specs.Reading.{home_pages}
 use Rattle.alp_wal.specs.Wal.{shown, disk_of, anchor_of, end_of, index_of, notes_of, is_dead, room_of, state_of, BeforeOrAfter}
-use Rattle.alp_wal.specs.Prepared.{batch_of}
 use Rattle.alp_wal.proofs.Commits.{crash_before, known_kept, not_both}
 use Rattle.alp_wal.proofs.wal.Wal.commit.Goals as goal
 

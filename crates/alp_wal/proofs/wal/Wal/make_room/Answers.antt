@@ -1,10 +1,9 @@
-use Rattle.std.proofs.Common.{◌≡◌, IsTrue, refl, sym, ◌∙◌, ap, subst, arith}
+use Rattle.std.proofs.Common.{arith}
 use Rattle.alp_disk.proofs.Moments.{leaves_only, nothing_added}
 use Rattle.alp_record.proofs.Bodies.{on_ok}
 use Rattle.alp_wal.specs.Reading.{Reads}
 use Rattle.alp_wal.specs.Wal.{disk_of, anchor_of, state_of}
 use Rattle.alp_wal.proofs.Checkpoints.{reads_at}
-use Rattle.alp_wal.proofs.Commits.{not_both, same_volume}
 use Rattle.alp_wal.proofs.wal.Wal.make_room.Goals as goal
 
 pub returns-then-pages-room-clause-any_moment : goal.returns-then-pages-room-clause-any_moment

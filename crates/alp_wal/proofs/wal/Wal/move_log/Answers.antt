@@ -1,7 +1,7 @@
-use Rattle.std.proofs.Common.{◌≡◌, ◌∙◌, length, sym, ap, subst, arith}
+use Rattle.std.proofs.Common.{subst}
 use Rattle.alp_disk.specs.Disk.{Adds}
 use Rattle.alp_live.specs.Home.{Index}
-use Rattle.alp_wal.specs.Wal.{disk_of, anchor_of, index_of}
+use Rattle.alp_wal.specs.Wal.{disk_of, anchor_of}
 use Rattle.alp_wal.specs.Checkpoint.{MovingOver, MovedOver}
 use Rattle.alp_wal.proofs.wal.Wal.move_log.Goals as goal
 

@@ -1,6 +1,5 @@
-use Rattle.std.proofs.Common.{◌≡◌, ◌++◌, ℕ, List, [], ◌∷◌, length, IsTrue, refl, sym, ◌∙◌, ap, subst, arith}
+use Rattle.std.proofs.Common.{◌≡◌, ◌++◌, ℕ, [], ◌∷◌, length, IsTrue, refl, sym, ◌∙◌, ap, subst, arith}
 use Rattle.std.specs.List.{AllByRecursion}
-use Rattle.alp_base.specs.declared.bytes.NoteChange.{NoteChange}
 use Rattle.alp_disk.specs.Disk.{Adds, Only}
 use Rattle.alp_disk.proofs.Moments.{adds_weaker, leaves_only}
 use Rattle.alp_anchor.specs.Anchor.{IsSound}

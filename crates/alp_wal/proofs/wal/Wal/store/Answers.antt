@@ -1,6 +1,5 @@
-use Rattle.std.proofs.Common.{◌≡◌, inl, ℕ, IsTrue, refl, sym, ◌∙◌, ap, subst, arith, length}
+use Rattle.std.proofs.Common.{inl, IsTrue, refl, sym, ◌∙◌, ap, subst, arith, length}
 use Rattle.alp_base.specs.declared.faults.Sizes.{Sizes}
-use Rattle.alp_batch.specs.Batch.{batch_length}
 use Rattle.alp_batch.proofs.BatchLaws.{batch_is}
 use Rattle.alp_record.specs.Record.{body_pages}
 use Rattle.alp_record.proofs.Bodies.{on_ok}
@@ -9,8 +8,7 @@ use Rattle.alp_notes.specs.declared.notes.Notes.{Notes}
 use Rattle.alp_notes.specs.Notes.{entries_of, HasRoom}
 use Rattle.alp_wal.specs.State.{State, Suits, applied}
 use Rattle.alp_live.specs.Live.{BothFit}
-use Rattle.alp_wal.specs.Reading.{Reads}
-use Rattle.alp_wal.specs.Wal.{IsSameVolume, disk_of, anchor_of, notes_of, state_of, BeforeOrAfter}
+use Rattle.alp_wal.specs.Wal.{anchor_of}
 use Rattle.alp_wal.specs.Prepared.{batch_of}
 use Rattle.alp_wal.proofs.Commits.{leaves_weaker, leaves_then, before_or_after_as}
 use Rattle.alp_wal.proofs.wal.Wal.store.Goals as goal
