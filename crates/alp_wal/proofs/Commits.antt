@@ -1,9 +1,10 @@
 -- What a commit leaves, at each moment and at the end.
-use Rattle.std.proofs.Common.{◌≡◌, inl, inr, ◌≤◌, ◌-◌, ℕ, List, [], ◌∷◌, ◌++◌, length, refl, sym, ap, subst, ◌∙◌, arith}
+use Rattle.std.proofs.Common.{◌≡◌, inl, inr, ⊎_elim, ◌≤◌, ◌-◌, ℕ, Bool, true, false, List, [], ◌∷◌, ◌++◌, length, refl, sym, ap, subst, ◌∙◌, arith}
 use Rattle.std.specs.List.{AllByRecursion}
-use Rattle.alp_disk.specs.Disk.{Image, page, Only, NoMore}
+use Rattle.alp_disk.specs.Disk.{Image, page, Only, NoMore, LeavesOnly}
 use Rattle.alp_disk.specs.Gates.{IsClosed}
 use Rattle.alp_disk.specs.Runs.{SameOutside}
+use Rattle.alp_disk.proofs.Moments.{adds_weaker, adds_more}
 use Rattle.alp_anchor.specs.Anchor.{IsSound}
 use Rattle.alp_anchor.specs.declared.anchor.Anchor.{Anchor}
 use Rattle.alp_batch.specs.declared.batch.Batch.{Batch}
@@ -11,9 +12,13 @@ use Rattle.alp_record.specs.Record.{behind}
 use Rattle.alp_record.specs.Adding.{Added, NotYet, Adding}
 use Rattle.alp_record.proofs.Adds.{one_more, stand_kept}
 use Rattle.alp_notes.specs.Entries.{Entries, noted}
+use Rattle.alp_notes.specs.declared.notes.Notes.{Notes}
+use Rattle.alp_notes.specs.Notes.{entries_of}
 use Rattle.alp_wal.specs.State.{State, applied, IsBelow}
+use Rattle.alp_live.specs.Live.{notes_pages, AreLive}
 use Rattle.alp_wal.specs.Reading.{Applies, Leads, area_first, area_end, home_pages, bare, ReadsBy}
-use Rattle.alp_wal.specs.Wal.{Index, shown, indexed, anchor_of, index_of, notes_of, end_of, state_of, IsKnown, BeforeOrAfter}
+use Rattle.alp_live.specs.Home.{Index}
+use Rattle.alp_wal.specs.Wal.{shown, indexed, no_index, Logs, anchor_of, index_of, notes_of, held_notes, end_of, state_of, IsLog, IsSameVolume, IsKnown, BeforeOrAfter}
 use Rattle.alp_wal.specs.declared.wal.Wal.{Wal}
 use Rattle.alp_wal.proofs.States.{shown_indexed, leads_push, bare_kept, counts_kept}
 
@@ -53,18 +58,6 @@ pub crash_before : (n : ℕ) (a : Anchor) (image : Image) (bodies : List (List �
 crash_before n a image bodies state b left by only c was =
     subst (λ (x : Image). BeforeOrAfter a.server a.servers n state b x) (sym (only c was)) (inl (record { anchor = a; bodies = bodies; server_is = refl; servers_is = refl; by = by }))
 
--- ---- the same of a log whose notes have more room
-
-module _ {D : Type 0} (seen : D → Image) {p old : D} {a b : Anchor} {i j : ℕ} (disk : p ≡ old) (anchor : a ≡ b) (end : i ≡ j) (body : List ℕ) (c : Image) where
-  abbrev parts : ◌≡◌ {A = D × (Anchor × ℕ)} (p, (a, i)) (old, (b, j))
-  parts = λ k. (disk k, (anchor k, end k))
-
-  pub adding_of : Adding a.generation (area_end a) i body (seen p) c → Adding b.generation (area_end b) j body (seen old) c
-  adding_of adding = subst (λ (t : D × (Anchor × ℕ)). Adding t.1.0.generation (area_end t.1.0) t.1.1 body (seen t.0) c) parts adding
-
-  pub added_of : Added a.generation (area_end a) i body (seen p) c → Added b.generation (area_end b) j body (seen old) c
-  added_of added = subst (λ (t : D × (Anchor × ℕ)). Added t.1.0.generation (area_end t.1.0) t.1.1 body (seen t.0) c) parts added
-
 -- the reading of a log that is seen in another way
 pub reads_by_of : {n m : ℕ} {x y : Image} {a b : Anchor} {s t : State} (bodies : List (List ℕ)) → n ≡ m → x ≡ y → a ≡ b → s ≡ t → ReadsBy n x a bodies s → ReadsBy m y b bodies t
 reads_by_of {n} {m} {x} {y} {a} {b} {s} {t} bodies size image anchor state by =
@@ -80,5 +73,39 @@ known_kept {D} {n} {m} {x} {y} {f} {g} {v} {w} size image no_more anchor index n
       bodies = known.bodies;
       ends = ap (λ (a : Anchor). behind (area_first a) known.bodies) (sym anchor) ∙ known.ends ∙ end;
       by = reads_by_of known.bodies size image anchor shows known.by;
+      logged = subst (λ (t : Anchor × Index). Logs (no_index t.0.sizes.home) known.bodies t.1) (λ k. (anchor k, index k)) known.logged;
       durable = λ c left. known.durable c (no_more c left) ∙ image;
     }
+
+-- ---- one call behind the other
+
+pub leaves_weaker : {D : Type 0} (left_since : D → D → Image → Type 0) (old new : D) (P Q : Image → Type 0) → LeavesOnly left_since old new P → ((c : Image) → P c → Q c) → LeavesOnly left_since old new Q
+leaves_weaker left_since old new P Q leaves here = record { within = λ c left. here c (leaves.within c left); adds = adds_weaker left_since old new P Q leaves.adds here }
+
+pub leaves_then : {D : Type 0} (left_since : D → D → Image → Type 0) (old mid new : D) (P Q R : Image → Type 0) → LeavesOnly left_since old mid P → LeavesOnly left_since mid new Q → ((c : Image) → P c → R c) → ((c : Image) → Q c → R c) → LeavesOnly left_since old new R
+leaves_then left_since old mid new P Q R one two before after = record {
+  within = λ c left. ⊎_elim (λ was. before c (one.within c was)) (λ now. after c now) (two.adds.each old c left);
+  adds = adds_more left_since old mid new R Q (adds_weaker left_since old mid P R one.adds before) two.adds after;
+}
+
+-- the same of a log that is seen in another way
+pub before_or_after_as : {a b : Anchor} {n m : ℕ} {s t : State} {p q : Batch} (c : Image) → IsSameVolume b a → n ≡ m → s ≡ t → p ≡ q → BeforeOrAfter a.server a.servers n s p c → BeforeOrAfter b.server b.servers m t q c
+before_or_after_as {a} {b} {n} {m} {s} {t} {p} {q} c same size state batch is =
+    let parts : ◌≡◌ {A = ℕ × (ℕ × (ℕ × (State × Batch)))} (a.server, (a.servers, (n, (s, p)))) (b.server, (b.servers, (m, (t, q)))) = λ i. (same.server i, (same.servers i, (size i, (state i, batch i)))) in
+    subst (λ (r : ℕ × (ℕ × (ℕ × (State × Batch)))). BeforeOrAfter r.0 r.1.0 r.1.1.0 r.1.1.1.0 r.1.1.1.1 c) parts is
+
+pub log_kept : {D : Type 0} {n m : ℕ} {v w : Wal D} → n ≡ m → anchor_of v ≡ anchor_of w → index_of v ≡ index_of w → held_notes v ≡ held_notes w → end_of v ≡ end_of w → IsLog n v → IsLog m w
+log_kept {D} {n} {m} {v} {w} size anchor index notes end log = record {
+  anchor = subst (λ (t : ℕ × Anchor). IsSound t.0 t.1) (λ i. (size i, anchor i)) log.anchor;
+  index = sym (ap length index) ∙ log.index ∙ ap (λ (a : Anchor). a.sizes.home) anchor;
+  notes = subst AreLive notes log.notes;
+  fits = subst (λ (t : Notes × Anchor). notes_pages (entries_of t.0) ≤ t.1.sizes.area) (λ i. (notes i, anchor i)) log.fits;
+  begun = subst (λ (t : Anchor × ℕ). area_first t.0 ≤ t.1) (λ i. (anchor i, end i)) log.begun;
+  inside = subst (λ (t : Anchor × ℕ). t.1 ≤ area_end t.0) (λ i. (anchor i, end i)) log.inside;
+}
+
+pub not_both : {b : Bool} → b ≡ true → b ≡ false → ⊥
+not_both is isnt = let no : true ≡ false = sym is ∙ isnt in cc
+
+pub same_volume : (a b : Anchor) → b ≡ a → IsSameVolume a b
+same_volume a b same = record { server = ap (λ (x : Anchor). x.server) same; servers = ap (λ (x : Anchor). x.servers) same; sizes = ap (λ (x : Anchor). x.sizes) same }

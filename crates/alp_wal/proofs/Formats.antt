@@ -14,7 +14,8 @@ use Rattle.alp_anchor.proofs.Anchors.{gate_of_open}
 use Rattle.alp_notes.specs.Entries.{Entries}
 use Rattle.alp_wal.specs.State.{State}
 use Rattle.alp_wal.specs.Reading.{pages_from, home_pages, home_first, area_first, ReadsBy}
-use Rattle.alp_wal.specs.Wal.{Index, shown}
+use Rattle.alp_live.specs.Home.{Index}
+use Rattle.alp_wal.specs.Wal.{shown}
 use Rattle.alp_wal.specs.Format.{blank_state, SameAreas, IsCleared, Formatting}
 use Rattle.alp_wal.proofs.States.{shown_bare}
 

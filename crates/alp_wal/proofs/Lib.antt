@@ -1,5 +1,8 @@
 pub mod Readings
 pub mod States
+pub mod Homes
+pub mod Turns
+pub mod Checkpoints
 pub mod Commits
 pub mod Mounts
 pub mod Formats

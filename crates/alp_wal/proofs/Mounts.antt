@@ -1,6 +1,6 @@
 -- What a mount finds, record by record.
-use Rattle.std.proofs.Common.{◌≡◌, inr, ℕ, Bool, true, false, List, [], ◌∷◌, ◌++◌, length, refl, sym, ap, subst, ◌∙◌, IsTrue}
-use Rattle.std.specs.Prelude.{IfOk, MatchOption, Option, Some, None, replicate, Result, Ok, Err}
+use Rattle.std.proofs.Common.{◌≡◌, inr, ◌≤◌, ◌+◌, ℕ, Bool, true, false, List, [], ◌∷◌, ◌++◌, length, refl, sym, ap, subst, ◌∙◌, IsTrue}
+use Rattle.std.specs.Prelude.{IfOk, MatchOption, Option, Some, Result, Ok, Err}
 use Rattle.std.specs.List.{AllByRecursion}
 use Rattle.alp_disk.specs.Disk.{Image}
 use Rattle.alp_anchor.specs.declared.anchor.Anchor.{Anchor}
@@ -8,17 +8,22 @@ use Rattle.alp_anchor.specs.Anchor.{Counts}
 use Rattle.alp_base.specs.declared.faults.VaultFault.{VaultFault}
 use Rattle.alp_base.specs.declared.faults.VaultFault.TheVariants.{Failed, Stopped, OutOfMemory, NotAVolume, Damaged}
 use Rattle.alp_batch.specs.declared.batch.Batch.{Batch}
-use Rattle.alp_batch.specs.Batch.{batch}
-use Rattle.alp_record.specs.Record.{RecordAt, next_of, IsEnd}
+use Rattle.alp_batch.specs.Batch.{batch, batch_length}
+use Rattle.alp_batch.proofs.BatchLaws.{batch_is}
+use Rattle.alp_record.specs.Record.{RecordAt, next_of, body_pages, IsEnd}
 use Rattle.alp_record.proofs.Adds.{stand_push, behind_push}
 use Rattle.alp_notes.specs.Entries.{Entries, noted}
 use Rattle.alp_notes.specs.Notes.{entries_of}
 use Rattle.alp_wal.specs.State.{State, IsBelow, Suits}
+use Rattle.alp_live.specs.Live.{AreWithin}
 use Rattle.alp_wal.specs.Reading.{Leads, area_first, area_end, home_pages, bare, ReadsBy}
-use Rattle.alp_wal.specs.Wal.{Index, shown, indexed}
-use Rattle.alp_wal.specs.Mount.{found_state, LeadsTo, IsBad, WhyNotMounted, AppliesNot, Taken, TakenOrNot}
+use Rattle.alp_live.specs.Home.{Index}
+use Rattle.alp_wal.specs.Wal.{shown, indexed, no_index, Logs}
+use Rattle.alp_wal.specs.Mount.{found_state, LeadsTo, Finds, IsBad, WhyNotMounted, AppliesNot, Taken, TakenOrNot}
 use Rattle.alp_wal.specs.declared.found.Found.{Found}
 use Rattle.alp_wal.proofs.Readings.{batch_once}
+use Rattle.alp_wal.proofs.Checkpoints.{logs_push}
+use Rattle.alp_live.proofs.Lives.{within_next}
 use Rattle.alp_wal.proofs.States.{shown_bare, shown_indexed, length-indexed, leads_push}
 
 module _ {E : Type 0} (f g : Found) (body : List ℕ) (b : Batch) where
@@ -44,14 +49,32 @@ module _ {E : Type 0} (f g : Found) (body : List ℕ) (b : Batch) where
   same_length (Ok true) images = λ told. ap length (images told) ∙ length-indexed f.index.items b.images
   same_length (Ok false) images = λ told. ap length (images told) ∙ length-indexed f.index.items b.images
 
+  -- and its images are those of one record more
+  pub logs_result : (r : Result Bool E) → (body ≡ batch.spell b) × batch.Fits b → IfOk r (λ yes. IsTrue yes → g.index.items ≡ indexed f.index.items b.images) → IfOk r (λ yes. IsTrue yes → Logs f.index.items (body ∷ []) g.index.items)
+  logs_result (Err e) spelled images = tt
+  logs_result (Ok true) spelled images = λ told. (b, spelled.0, spelled.1, sym (images told))
+  logs_result (Ok false) spelled images = λ told. (b, spelled.0, spelled.1, sym (images told))
+
 -- one record more
-pub leads_on : (image : Image) (a : Anchor) (place : ℕ) (old new : State) (body : List ℕ) → LeadsTo image a place old → RecordAt image a.generation (area_end a) place body → Taken a.sizes.home old body new → LeadsTo image a (next_of place body) new
-leads_on image a place old new body before here taken = record {
-  bodies = before.bodies ++ body ∷ [];
-  stand = stand_push image a.generation (area_end a) (area_first a) before.bodies body before.stand (subst (λ k. RecordAt image a.generation (area_end a) k body) (sym before.here) here);
-  here = behind_push (area_first a) before.bodies body ∙ ap (λ k. next_of k body) before.here;
-  leads = subst (λ (s : State). Leads a.sizes.home (bare image a) (before.bodies ++ body ∷ []) s) (sym taken.state) (leads_push a.sizes.home (bare image a) old before.bodies body taken.batch before.leads taken.applies);
+pub finds_on : (image : Image) (a : Anchor) (f g : Found) (body : List ℕ) → (before : Finds image a f) → RecordAt image a.generation (area_end a) f.end body → Taken a.sizes.home (found_state f image) body (found_state g image)
+    → Logs f.index.items (body ∷ []) g.index.items → next_of f.end body ≡ g.end → Finds image a g
+finds_on image a f g body before here taken logged end = record {
+  leads = record {
+    bodies = before.leads.bodies ++ body ∷ [];
+    stand = stand_push image a.generation (area_end a) (area_first a) before.leads.bodies body before.leads.stand (subst (λ k. RecordAt image a.generation (area_end a) k body) (sym before.leads.here) here);
+    here = behind_push (area_first a) before.leads.bodies body ∙ ap (λ k. next_of k body) before.leads.here ∙ end;
+    leads = subst (λ (s : State). Leads a.sizes.home (bare image a) (before.leads.bodies ++ body ∷ []) s) (sym taken.state) (leads_push a.sizes.home (bare image a) (found_state f image) before.leads.bodies body taken.batch before.leads.leads taken.applies);
+  };
+  logged = logs_push (no_index a.sizes.home) f.index.items g.index.items before.leads.bodies body before.logged logged;
 }
+
+-- and its notes take no more room than it
+pub within_on : (home first : ℕ) (f g : Found) (body : List ℕ) → Taken home (found_state f []) body (found_state g []) → AreWithin first f.end (entries_of f.notes) → first ≤ f.end → AreWithin first (f.end + (1 + body_pages (length body))) (entries_of g.notes)
+within_on home first f g body taken within begun =
+    let long : length body ≡ batch_length taken.batch = ap length taken.applies.spelled ∙ batch_is taken.batch taken.applies.fits in
+    let notes : entries_of g.notes ≡ noted (entries_of f.notes) taken.batch.notes = ap (λ (s : State). s.notes) taken.state in
+    subst (λ (e : Entries). AreWithin first (f.end + (1 + body_pages (length body))) e) (sym notes)
+    (subst (λ k. AreWithin first (f.end + (1 + body_pages k)) (noted (entries_of f.notes) taken.batch.notes)) (sym long) (within_next first f.end (entries_of f.notes) taken.batch within begun))
 
 -- the record of an area, said of the anchor's
 pub record_of : (image : Image) (a : Anchor) (generation end place : ℕ) (body : List ℕ) → generation ≡ a.generation → end ≡ area_end a → RecordAt image generation end place body → RecordAt image a.generation (area_end a) place body
@@ -73,11 +96,15 @@ pub some_of : (o : Option (List ℕ)) (body : List ℕ) (P : Type 0) (Q : List �
 some_of o body P Q is known = subst (λ (x : Option (List ℕ)). MatchOption x P Q) is known
 
 -- before any record
-pub leads_none : (image : Image) (a : Anchor) (index : Index) (notes : Entries) → index ≡ replicate a.sizes.home None → notes ≡ [] → LeadsTo image a (area_first a) (record { pages = shown (home_pages image a) index; notes = notes })
-leads_none image a index notes index_is notes_are =
-    let pages = sym (ap (λ (x : Index). shown (home_pages image a) x) index_is ∙ shown_bare (home_pages image a) a.sizes.home) in
+pub finds_none : (image : Image) (a : Anchor) (f : Found) → f.anchor ≡ a → f.end ≡ area_first a → f.index.items ≡ no_index a.sizes.home → entries_of f.notes ≡ [] → Finds image a f
+finds_none image a f anchor end index_is notes_are =
+    let shows : shown (home_pages image f.anchor) f.index.items ≡ home_pages image a = ap (λ (x : Index). shown (home_pages image f.anchor) x) index_is ∙ shown_bare (home_pages image f.anchor) a.sizes.home ∙ ap (λ (b : Anchor). home_pages image b) anchor in
+    let pages = sym shows in
     let none = sym notes_are in
-    record { bodies = []; stand = tt; here = refl; leads = λ i. record { pages = pages i; notes = none i } }
+    record {
+      leads = record { bodies = []; stand = tt; here = sym end; leads = λ i. record { pages = pages i; notes = none i } };
+      logged = sym index_is;
+    }
 
 -- why a disk with an anchor that counts is not mounted
 pub why_bad : (server servers n : ℕ) (image : Image) (a : Anchor) (e : VaultFault) → Counts n image a → (a.server ≡ server) × (a.servers ≡ servers) → ((place : ℕ) → e ≡ Damaged place → IsBad image a place) → ((bytes : List ℕ) → e ≡ NotAVolume bytes → ⊥)

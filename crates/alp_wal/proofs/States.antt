@@ -9,10 +9,16 @@ use Rattle.alp_anchor.specs.Anchor.{IsSound, Counts}
 use Rattle.alp_anchor.specs.declared.anchor.Anchor.{Anchor}
 use Rattle.alp_batch.specs.declared.batch.PageImage.{PageImage}
 use Rattle.alp_batch.specs.declared.batch.Batch.{Batch}
+use Rattle.alp_batch.specs.Batch.{IsShort}
+use Rattle.alp_notes.specs.Entries.{Entries}
+use Rattle.alp_notes.specs.declared.notes.Notes.{Notes}
+use Rattle.alp_notes.specs.Notes.{entries_of, IsWhole}
+use Rattle.alp_live.specs.Live.{puts, notes_pages, AreLive}
 use Rattle.alp_disk.specs.Runs.{SameOutside}
 use Rattle.alp_wal.specs.State.{State, overlaid, applied, IsBelow}
 use Rattle.alp_wal.specs.Reading.{Applies, Leads, pages_from, home_first, area_end, bare}
-use Rattle.alp_wal.specs.Wal.{Index, shown, indexed}
+use Rattle.alp_live.specs.Home.{Index}
+use Rattle.alp_wal.specs.Wal.{shown, indexed}
 
 -- ---- the index shows what the batches leave
 
@@ -74,6 +80,18 @@ page_from image first zero i low = absurd (omega (arith, low))
 page_from image first (suc n) zero low = ap (λ (k : ℕ). page image k) (omega arith)
 page_from image first (suc n) (suc i) low = page_from image (first + 1) n i (omega (arith, low)) ∙ ap (λ (k : ℕ). page image k) (omega arith)
 
+-- ---- no notes
+
+pub none_live : (n : Notes) → entries_of n ≡ [] → IsWhole n → AreLive n
+none_live n none whole = record {
+  whole = whole;
+  few = omega (arith, ap (λ (e : Entries). length e) none);
+  short = subst (λ (e : Entries). AllByRecursion IsShort (puts e)) (sym none) tt;
+}
+
+pub none_fit : (area : ℕ) (es : Entries) → es ≡ [] → 64 ≤ area → notes_pages es ≤ area
+none_fit area es none enough = omega (arith, ap (λ (e : Entries). notes_pages e) none, enough)
+
 -- ---- one batch more
 
 pub leads_push : (home : ℕ) (first last : State) (bodies : List (List ℕ)) (body : List ℕ) (b : Batch) → Leads home first bodies last → Applies home last body b → Leads home first (bodies ++ body ∷ []) (applied last b)
@@ -82,7 +100,7 @@ leads_push home first last (x ∷ bodies) body b leads one = (leads.0, leads.1, 
 
 -- ---- pages before the records and behind them
 
-above_area : (a : Anchor) → a.area ≤ 1 → area_end a ≤ home_first a
+pub above_area : (a : Anchor) → a.area ≤ 1 → area_end a ≤ home_first a
 above_area a low = elim (cases_eq a.area 0) [
   | inl none ↦ omega (arith, ap (λ (k : ℕ). k * a.sizes.area) none)
   | inr some ↦ let one : a.area ≡ 1 = omega (arith, low, some) in omega (arith, ap (λ (k : ℕ). k * a.sizes.area) one)

@@ -13,7 +13,7 @@ use Rattle.alp_record.specs.Record.{RecordAt, Stand, behind, IsDamaged}
 use Rattle.alp_notes.specs.Notes.{entries_of}
 use Rattle.alp_wal.specs.State.{State, applied}
 use Rattle.alp_wal.specs.Reading.{Applies, Leads, area_first, area_end, home_pages, bare}
-use Rattle.alp_wal.specs.Wal.{shown}
+use Rattle.alp_wal.specs.Wal.{shown, no_index, Logs}
 use Rattle.alp_wal.specs.declared.found.Found.{Found}
 
 -- what was found so far, over a disk that reads so
@@ -26,6 +26,11 @@ pub record LeadsTo (image : Image) (a : Anchor) (place : ℕ) (state : State) : 
   pub stand : Stand image a.generation (area_end a) (area_first a) bodies
   pub here : behind (area_first a) bodies ≡ place
   pub leads : Leads a.sizes.home (bare image a) bodies state
+
+-- records lead to what was found, and its index has the images of these and no others
+pub record Finds (image : Image) (a : Anchor) (f : Found) : Type 0 where
+  pub leads : LeadsTo image a f.end (found_state f image)
+  pub logged : Logs (no_index a.sizes.home) leads.bodies f.index.items
 
 -- no batch that suits the state is spelled so
 abbrev pub AppliesNot : ℕ → State → List ℕ → Type 0

@@ -5,6 +5,7 @@ use Rattle.alp_disk.specs.Disk.{Image}
 use Rattle.alp_batch.specs.declared.batch.PageImage.{PageImage}
 use Rattle.alp_batch.specs.declared.batch.Batch.{Batch}
 use Rattle.alp_notes.specs.Entries.{Entries, noted}
+use Rattle.alp_live.specs.Live.{most_notes}
 
 -- home pages in order, and the values of notes by rising name
 pub record State : Type 0 where
@@ -18,10 +19,6 @@ overlaid pages (i ∷ is) = overlaid (slice_set pages i.at i.page) is
 
 abbrev pub applied : State → Batch → State
 applied state batch = record { pages = overlaid state.pages batch.images; notes = noted state.notes batch.notes }
-
--- the most notes that are live at once
-abbrev pub most_notes : ℕ
-most_notes = 65535
 
 abbrev pub IsBelow : ℕ → PageImage → Type 0
 IsBelow home i = i.at < home

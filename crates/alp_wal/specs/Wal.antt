@@ -1,22 +1,22 @@
 -- What the struct of a log holds, and what is known of it.
-use Rattle.std.specs.Prelude.{◌≡◌, ◌⊎◌, ◌≤◌, ℕ, ◌-◌, Bool, List, [], ◌∷◌, Option, Some, None, slice_set, length}
+use Rattle.std.specs.Prelude.{◌≡◌, ◌⊎◌, ◌≤◌, ℕ, ◌-◌, Bool, List, [], ◌∷◌, Some, None, slice_set, replicate, length}
 use Rattle.alp_disk.specs.Disk.{Image, Only}
 use Rattle.alp_anchor.specs.declared.anchor.Anchor.{Anchor}
 use Rattle.alp_anchor.specs.Anchor.{IsSound}
 use Rattle.alp_batch.specs.declared.batch.PageImage.{PageImage}
 use Rattle.alp_batch.specs.declared.batch.Batch.{Batch}
+use Rattle.alp_batch.specs.Batch.{batch}
 use Rattle.alp_record.specs.Record.{behind}
 use Rattle.alp_notes.specs.Entries.{Entries}
 use Rattle.alp_notes.specs.declared.notes.Notes.{Notes}
-use Rattle.alp_notes.specs.Notes.{entries_of, IsWhole}
+use Rattle.alp_notes.specs.Notes.{entries_of}
 use Rattle.alp_wal.specs.State.{State, applied}
+use Rattle.alp_live.specs.Live.{notes_pages, AreLive}
+use Rattle.alp_live.specs.Home.{Index}
 use Rattle.alp_wal.specs.Reading.{area_first, area_end, home_pages, ReadsBy, Reads}
 use Rattle.alp_wal.specs.declared.wal.Wal.{Wal}
 
 -- ---- the index: the image of each home page in the records of the area, where it has one
-
-abbrev pub Index : Type 0
-Index = List (Option (List ℕ))
 
 -- each page, or its image
 abbrev pub shown : Image → Index → Image
@@ -28,6 +28,15 @@ shown (p ∷ ps) (Some image ∷ index) = image ∷ shown ps index
 abbrev pub indexed : Index → List PageImage → Index
 indexed index [] = index
 indexed index (i ∷ is) = indexed (slice_set index i.at (Some i.page)) is
+
+-- without images
+abbrev pub no_index : ℕ → Index
+no_index home = replicate home None
+
+-- the images of the batches that these bodies spell, laid over the first index in order, make the last
+abbrev pub Logs : Index → List (List ℕ) → Index → Type 0
+Logs first [] last = first ≡ last
+Logs first (body ∷ bodies) last = (b : Batch) × (body ≡ batch.spell b) × batch.Fits b × Logs (indexed first b.images) bodies last
 
 -- ---- the struct
 
@@ -65,17 +74,26 @@ state_of w image = record { pages = shown (home_pages image w.anchor) w.index.it
 abbrev pub BeforeOrAfter : ℕ → ℕ → ℕ → State → Batch → Image → Type 0
 BeforeOrAfter server servers n state b c = Reads server servers n c state ⊎ Reads server servers n c (applied state b)
 
--- holds on every disk of n pages
+-- of the same server, with the same sizes
+pub record IsSameVolume (a b : Anchor) : Type 0 where
+  pub server : b.server ≡ a.server
+  pub servers : b.servers ≡ a.servers
+  pub sizes : b.sizes ≡ a.sizes
+
+-- Holds on every disk of n pages.
 pub record IsLog {D : Type 0} (n : ℕ) (w : Wal D) : Type 0 where
   pub anchor : IsSound n (anchor_of w)
   pub index : length (index_of w) ≡ (anchor_of w).sizes.home
-  pub notes : IsWhole w.notes
+  pub notes : AreLive w.notes
+  pub fits : notes_pages (notes_of w) ≤ (anchor_of w).sizes.area
   pub begun : area_first (anchor_of w) ≤ end_of w
   pub inside : end_of w ≤ area_end (anchor_of w)
 
--- holds where the disk tells what it holds: a read gives a disk with the log's state, and so does a crash
+-- Holds where the disk tells what it holds: a read gives a disk with the log's state, and so does a crash.
+-- The index has the images of the present area, and no others.
 pub record IsKnown {D : Type 0} (n : ℕ) (image : Image) (may_leave : Image → Type 0) (w : Wal D) : Type 0 where
   pub bodies : List (List ℕ)
   pub ends : behind (area_first (anchor_of w)) bodies ≡ end_of w
   pub by : ReadsBy n image (anchor_of w) bodies (state_of w image)
+  pub logged : Logs (no_index (anchor_of w).sizes.home) bodies (index_of w)
   pub durable : Only image may_leave

@@ -8,8 +8,9 @@ ghost use Rattle.alp_record.specs.Record.{body_pages, next_of};
 ghost use Rattle.alp_record.specs.Adding.{Added, Adding};
 ghost use Rattle.alp_wal.specs.Reading.{area_first, area_end};
 ghost use Rattle.alp_wal.specs.Wal.{disk_of, anchor_of, end_of, index_of, held_notes, is_dead, room_of, IsLog, IsKnown};
-ghost use Rattle.alp_wal.specs.declared.fault.WalFault.TheVariants.{Failed, Stopped, Dead, OutOfMemory};
+ghost use Rattle.alp_wal.specs.declared.fault.WalFault.TheVariants.{Failed, Stopped, Full, Dead, OutOfMemory};
 
+use crate::begin::area_of;
 use crate::{Wal, WalFault};
 use alp_base::Halt;
 use alp_disk::Disk;
@@ -23,13 +24,7 @@ impl<D: Disk> Wal<D> {
         ensures end { result.end ≡ area_end (anchor_of self.now) }
         ensures generation { result.generation ≡ (anchor_of self.now).generation }
     {
-        let pages = self.anchor.sizes.area;
-        let first = if self.anchor.area == 0 { 2 } else { 2 + pages };
-        Area {
-            first,
-            end: first + pages,
-            generation: self.anchor.generation,
-        }
+        area_of(&self.anchor)
     }
 
     /// Adds a record with this body behind the last one. Where it halts, the log is dead.
@@ -47,6 +42,7 @@ impl<D: Disk> Wal<D> {
         ensures failed { IsErrOf result Failed → Rose (D.faults (disk_of self.old)) (D.faults (disk_of self.new)) }
         ensures stopped { IsErrOf result Stopped → D.allowance (disk_of self.new) ≡ Spent }
         ensures never_dead { IsErrOf result Dead → ⊥ }
+        ensures never_full { IsErrOf result Full → ⊥ }
         ensures takes_no_memory { IsErrOf result OutOfMemory → ⊥ }
         ensures halted { OnErr result (is_dead self.new ≡ true) }
         ensures alive { OnOk result (is_dead self.new ≡ is_dead self.old) }

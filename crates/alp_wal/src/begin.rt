@@ -1,14 +1,15 @@
 //! How a mount begins.
-ghost use Rattle.std.specs.Prelude.{◌≡◌, ◌≤◌, ◌+◌, length, IsTrue, OnOk, IfOk, IfErr, IsErrOf, [], ℕ};
+ghost use Rattle.std.specs.Prelude.{◌≡◌, ◌≤◌, ◌+◌, length, IsTrue, OnOk, IfOk, IfErr, IsErrOf, []};
 ghost use Rattle.alp_base.specs.Causes.{Rose};
 ghost use Rattle.alp_base.specs.Allowances.{Spends};
 ghost use Rattle.alp_base.specs.declared.faults.VaultFault.TheVariants.{Failed, Stopped};
 ghost use Rattle.alp_base.specs.declared.allowance.Allowance.TheVariants.{Spent};
 ghost use Rattle.alp_disk.specs.Disk.{Image as Pages, Only, NoMore, Adds};
 ghost use Rattle.alp_anchor.specs.Anchor.{IsSound, Counts};
-ghost use Rattle.alp_notes.specs.Notes.{IsWhole};
+ghost use Rattle.alp_notes.specs.Notes.{entries_of};
+ghost use Rattle.alp_live.specs.Live.{AreLive};
 ghost use Rattle.alp_wal.specs.Reading.{area_first, area_end};
-ghost use Rattle.alp_wal.specs.Mount.{found_state, LeadsTo, WhyNone, halt_fault};
+ghost use Rattle.alp_wal.specs.Mount.{Finds, WhyNone, halt_fault};
 
 use crate::found::{Found, no_images};
 use alp_anchor::{Anchor, AnchorFault, read_anchor};
@@ -41,8 +42,9 @@ pub(super) fn bare(alloc: Global, anchor: Anchor, first: u32) -> Result<Found, O
     ensures anchor { IfOk result (λ f. f.anchor ≡ anchor) }
     ensures end { IfOk result (λ f. f.end ≡ area_first anchor) }
     ensures index { IfOk result (λ f. length f.index.items ≡ anchor.sizes.home) }
-    ensures whole { IfOk result (λ f. IsWhole f.notes) }
-    ensures leads { IfOk result (λ f. (image : Pages) → LeadsTo image anchor (area_first anchor) (found_state f image)) }
+    ensures live { IfOk result (λ f. AreLive f.notes) }
+    ensures none { IfOk result (λ f. entries_of f.notes ≡ []) }
+    ensures finds { IfOk result (λ f. (image : Pages) → Finds image anchor f) }
 {
     let index = no_images(alloc, anchor.sizes.home)?;
     Ok(Found {

@@ -5,19 +5,22 @@ ghost use Rattle.alp_base.specs.Causes.{Rose};
 ghost use Rattle.alp_base.specs.Allowances.{Spends};
 ghost use Rattle.alp_base.specs.declared.allowance.Allowance.TheVariants.{Spent};
 ghost use Rattle.alp_disk.specs.Disk.{LeavesOnly};
-ghost use Rattle.alp_batch.specs.Batch.{IsBatch, batch_length};
-ghost use Rattle.alp_record.specs.Record.{body_pages};
+ghost use Rattle.alp_batch.specs.Batch.{IsBatch};
 ghost use Rattle.alp_notes.specs.Entries.{noted};
 ghost use Rattle.alp_notes.specs.Notes.{IsWhole, HasRoom};
 ghost use Rattle.alp_wal.specs.State.{Suits, IsBelow, applied};
-ghost use Rattle.alp_wal.specs.Wal.{disk_of, anchor_of, end_of, index_of, held_notes, notes_of, is_dead, room_of, state_of, indexed, IsLog, IsKnown, BeforeOrAfter};
-ghost use Rattle.alp_wal.specs.declared.fault.WalFault.TheVariants.{Failed, Stopped, Dead, OutOfMemory};
+ghost use Rattle.alp_live.specs.Live.{batch_pages, BothFit};
+ghost use Rattle.alp_wal.specs.Wal.{disk_of, anchor_of, end_of, index_of, held_notes, notes_of, is_dead, room_of, state_of, indexed, IsSameVolume, IsLog, IsKnown, BeforeOrAfter};
+ghost use Rattle.alp_wal.specs.Prepared.{batch_of, IsReady};
+ghost use Rattle.alp_wal.specs.declared.fault.WalFault.TheVariants.{Failed, Stopped, Full, Dead, OutOfMemory};
 
-use crate::prepare::{Prepared, lay_over};
+use crate::prepare::{Prepared, lay_over, prepare};
 use crate::{Wal, WalFault};
 use alp_base::{NoteChange, PageRef};
 use alp_batch::{Batch, PageImage};
 use alp_disk::Disk;
+use alp_live::both_fit;
+use alp_record::record_pages;
 
 impl<D: Disk> Wal<D> {
     /// What the log holds in memory after a batch.
@@ -37,42 +40,34 @@ impl<D: Disk> Wal<D> {
         self.notes.apply(notes);
     }
 
-    /// Commits a batch: after `Ok` every crash leaves it, and before that all of it or none.
-    ///
-    /// The record of the batch has to fit the rest of the area. A call makes two syncs, and reads
-    /// nothing.
-    pub fn commit(&mut self, batch: &Batch) -> Result<(), WalFault>
+    /// Commits a batch of which a record fits the rest of the area.
+    fn put(&mut self, prepared: Prepared) -> Result<(), WalFault>
         requires log { IsLog (D.size (disk_of self.old)) self.old }
-        requires known { IsTrue (D.tells (disk_of self.old)) → is_dead self.old ≡ false → IsKnown (D.size (disk_of self.old)) (D.seen (disk_of self.old)) (D.may_leave (disk_of self.old)) self.old }
-        requires batch { IsBatch batch.now }
-        requires suits { Suits (anchor_of self.old).sizes.home (notes_of self.old) batch.now }
-        requires fits { 1 + body_pages (batch_length batch.now) ≤ room_of self.old }
+        requires alive { is_dead self.old ≡ false }
+        requires known { IsTrue (D.tells (disk_of self.old)) → IsKnown (D.size (disk_of self.old)) (D.seen (disk_of self.old)) (D.may_leave (disk_of self.old)) self.old }
+        requires ready { IsReady prepared }
+        requires suits { Suits (anchor_of self.old).sizes.home (notes_of self.old) (batch_of prepared) }
+        requires room { HasRoom (length prepared.notes.items) (held_notes self.old) }
+        requires both { BothFit (anchor_of self.old).sizes.area (notes_of self.old) (batch_of prepared) }
+        requires fits { batch_pages (batch_of prepared) ≤ room_of self.old }
         ensures log { IsLog (D.size (disk_of self.new)) self.new }
         ensures known { IsTrue (D.tells (disk_of self.new)) → is_dead self.new ≡ false → IsKnown (D.size (disk_of self.new)) (D.seen (disk_of self.new)) (D.may_leave (disk_of self.new)) self.new }
-        ensures committed { IsTrue (D.tells (disk_of self.old)) → OnOk result (state_of self.new (D.seen (disk_of self.new)) ≡ applied (state_of self.old (D.seen (disk_of self.old))) batch.now) }
-        ensures before_or_after { IsTrue (D.tells (disk_of self.old)) → is_dead self.old ≡ false → LeavesOnly D.left_since (disk_of self.old) (disk_of self.new) (BeforeOrAfter (anchor_of self.old).server (anchor_of self.old).servers (D.size (disk_of self.old)) (state_of self.old (D.seen (disk_of self.old))) batch.now) }
+        ensures committed { IsTrue (D.tells (disk_of self.old)) → OnOk result (state_of self.new (D.seen (disk_of self.new)) ≡ applied (state_of self.old (D.seen (disk_of self.old))) (batch_of prepared)) }
+        ensures before_or_after { IsTrue (D.tells (disk_of self.old)) → LeavesOnly D.left_since (disk_of self.old) (disk_of self.new) (BeforeOrAfter (anchor_of self.old).server (anchor_of self.old).servers (D.size (disk_of self.old)) (state_of self.old (D.seen (disk_of self.old))) (batch_of prepared)) }
+        ensures anchor { anchor_of self.new ≡ anchor_of self.old }
+        ensures takes_no_memory { IsErrOf result OutOfMemory → ⊥ }
         ensures tells { D.tells (disk_of self.new) ≡ D.tells (disk_of self.old) }
         ensures size { D.size (disk_of self.new) ≡ D.size (disk_of self.old) }
-        ensures anchor { anchor_of self.new ≡ anchor_of self.old }
         ensures allowance { Spends (D.allowance (disk_of self.old)) (D.allowance (disk_of self.new)) }
         ensures later { D.faults (disk_of self.old) ≤ D.faults (disk_of self.new) }
         ensures failed { IsErrOf result Failed → Rose (D.faults (disk_of self.old)) (D.faults (disk_of self.new)) }
         ensures stopped { IsErrOf result Stopped → D.allowance (disk_of self.new) ≡ Spent }
-        ensures dead { IsErrOf result Dead ↔ (is_dead self.old ≡ true) }
+        ensures never_dead { IsErrOf result Dead → ⊥ }
+        ensures never_full { IsErrOf result Full → ⊥ }
         ensures halted { IsErrOf result Failed → is_dead self.new ≡ true }
         ensures cut_off { IsErrOf result Stopped → is_dead self.new ≡ true }
         ensures alive { OnOk result (is_dead self.new ≡ false) }
-        // Want of memory leaves all as it was.
-        ensures memory_disk { IsErrOf result OutOfMemory → disk_of self.new ≡ disk_of self.old }
-        ensures memory_index { IsErrOf result OutOfMemory → index_of self.new ≡ index_of self.old }
-        ensures memory_notes { IsErrOf result OutOfMemory → notes_of self.new ≡ notes_of self.old }
-        ensures memory_end { IsErrOf result OutOfMemory → end_of self.new ≡ end_of self.old }
-        ensures memory_dead { IsErrOf result OutOfMemory → is_dead self.new ≡ is_dead self.old }
     {
-        if self.dead {
-            return Err(WalFault::Dead);
-        }
-        let prepared = self.prepare(batch)?;
         let Prepared {
             body,
             images,
@@ -81,5 +76,84 @@ impl<D: Disk> Wal<D> {
         self.append(body.as_slice())?;
         self.settle(images, notes);
         Ok(())
+    }
+
+    /// Commits a batch, and makes a checkpoint before where its record does not fit the rest of the area.
+    fn store(&mut self, prepared: Prepared) -> Result<(), WalFault>
+        requires log { IsLog (D.size (disk_of self.old)) self.old }
+        requires alive { is_dead self.old ≡ false }
+        requires known { IsTrue (D.tells (disk_of self.old)) → IsKnown (D.size (disk_of self.old)) (D.seen (disk_of self.old)) (D.may_leave (disk_of self.old)) self.old }
+        requires ready { IsReady prepared }
+        requires suits { Suits (anchor_of self.old).sizes.home (notes_of self.old) (batch_of prepared) }
+        requires room { HasRoom (length prepared.notes.items) (held_notes self.old) }
+        requires both { BothFit (anchor_of self.old).sizes.area (notes_of self.old) (batch_of prepared) }
+        ensures log { IsLog (D.size (disk_of self.new)) self.new }
+        ensures known { IsTrue (D.tells (disk_of self.new)) → is_dead self.new ≡ false → IsKnown (D.size (disk_of self.new)) (D.seen (disk_of self.new)) (D.may_leave (disk_of self.new)) self.new }
+        ensures committed { IsTrue (D.tells (disk_of self.old)) → OnOk result (state_of self.new (D.seen (disk_of self.new)) ≡ applied (state_of self.old (D.seen (disk_of self.old))) (batch_of prepared)) }
+        ensures before_or_after { IsTrue (D.tells (disk_of self.old)) → LeavesOnly D.left_since (disk_of self.old) (disk_of self.new) (BeforeOrAfter (anchor_of self.old).server (anchor_of self.old).servers (D.size (disk_of self.old)) (state_of self.old (D.seen (disk_of self.old))) (batch_of prepared)) }
+        ensures volume { IsSameVolume (anchor_of self.old) (anchor_of self.new) }
+        ensures fitting { batch_pages (batch_of prepared) ≤ room_of self.old → anchor_of self.new ≡ anchor_of self.old }
+        ensures memory { IsErrOf result OutOfMemory → self.new ≡ self.old }
+        ensures tells { D.tells (disk_of self.new) ≡ D.tells (disk_of self.old) }
+        ensures size { D.size (disk_of self.new) ≡ D.size (disk_of self.old) }
+        ensures allowance { Spends (D.allowance (disk_of self.old)) (D.allowance (disk_of self.new)) }
+        ensures later { D.faults (disk_of self.old) ≤ D.faults (disk_of self.new) }
+        ensures failed { IsErrOf result Failed → Rose (D.faults (disk_of self.old)) (D.faults (disk_of self.new)) }
+        ensures stopped { IsErrOf result Stopped → D.allowance (disk_of self.new) ≡ Spent }
+        ensures never_dead { IsErrOf result Dead → ⊥ }
+        ensures never_full { IsErrOf result Full → ⊥ }
+        ensures halted { IsErrOf result Failed → is_dead self.new ≡ true }
+        ensures cut_off { IsErrOf result Stopped → is_dead self.new ≡ true }
+        ensures alive { OnOk result (is_dead self.new ≡ false) }
+    {
+        self.make_room(record_pages(prepared.body.as_slice().len() as u32))?;
+        self.put(prepared)
+    }
+
+    /// Commits a batch: after `Ok` every crash leaves it, and before that all of it or none.
+    ///
+    /// Where its record does not fit the rest of the area, a checkpoint is made first. A call without
+    /// one makes two syncs, and reads nothing.
+    pub fn commit(&mut self, batch: &Batch) -> Result<(), WalFault>
+        requires log { IsLog (D.size (disk_of self.old)) self.old }
+        requires known { IsTrue (D.tells (disk_of self.old)) → is_dead self.old ≡ false → IsKnown (D.size (disk_of self.old)) (D.seen (disk_of self.old)) (D.may_leave (disk_of self.old)) self.old }
+        requires batch { IsBatch batch.now }
+        requires suits { Suits (anchor_of self.old).sizes.home (notes_of self.old) batch.now }
+        ensures log { IsLog (D.size (disk_of self.new)) self.new }
+        ensures known { IsTrue (D.tells (disk_of self.new)) → is_dead self.new ≡ false → IsKnown (D.size (disk_of self.new)) (D.seen (disk_of self.new)) (D.may_leave (disk_of self.new)) self.new }
+        ensures committed { IsTrue (D.tells (disk_of self.old)) → OnOk result (state_of self.new (D.seen (disk_of self.new)) ≡ applied (state_of self.old (D.seen (disk_of self.old))) batch.now) }
+        ensures before_or_after { IsTrue (D.tells (disk_of self.old)) → is_dead self.old ≡ false → LeavesOnly D.left_since (disk_of self.old) (disk_of self.new) (BeforeOrAfter (anchor_of self.old).server (anchor_of self.old).servers (D.size (disk_of self.old)) (state_of self.old (D.seen (disk_of self.old))) batch.now) }
+        ensures volume { IsSameVolume (anchor_of self.old) (anchor_of self.new) }
+        // No checkpoint is made where the record fits the rest of the area.
+        ensures fitting { batch_pages batch.now ≤ room_of self.old → anchor_of self.new ≡ anchor_of self.old }
+        ensures tells { D.tells (disk_of self.new) ≡ D.tells (disk_of self.old) }
+        ensures size { D.size (disk_of self.new) ≡ D.size (disk_of self.old) }
+        ensures allowance { Spends (D.allowance (disk_of self.old)) (D.allowance (disk_of self.new)) }
+        ensures later { D.faults (disk_of self.old) ≤ D.faults (disk_of self.new) }
+        ensures failed { IsErrOf result Failed → Rose (D.faults (disk_of self.old)) (D.faults (disk_of self.new)) }
+        ensures stopped { IsErrOf result Stopped → D.allowance (disk_of self.new) ≡ Spent }
+        ensures dead { IsErrOf result Dead ↔ (is_dead self.old ≡ true) }
+        ensures full { is_dead self.old ≡ false → (IsErrOf result Full ↔ (BothFit (anchor_of self.old).sizes.area (notes_of self.old) batch.now → ⊥)) }
+        ensures halted { IsErrOf result Failed → is_dead self.new ≡ true }
+        ensures cut_off { IsErrOf result Stopped → is_dead self.new ≡ true }
+        ensures alive { OnOk result (is_dead self.new ≡ false) }
+        // Each refusal but that of a device leaves all as it was.
+        ensures dead_stays { IsErrOf result Dead → self.new ≡ self.old }
+        ensures full_stays { IsErrOf result Full → self.new ≡ self.old }
+        ensures memory_disk { IsErrOf result OutOfMemory → disk_of self.new ≡ disk_of self.old }
+        ensures memory_anchor { IsErrOf result OutOfMemory → anchor_of self.new ≡ anchor_of self.old }
+        ensures memory_index { IsErrOf result OutOfMemory → index_of self.new ≡ index_of self.old }
+        ensures memory_notes { IsErrOf result OutOfMemory → notes_of self.new ≡ notes_of self.old }
+        ensures memory_end { IsErrOf result OutOfMemory → end_of self.new ≡ end_of self.old }
+        ensures memory_dead { IsErrOf result OutOfMemory → is_dead self.new ≡ is_dead self.old }
+    {
+        if self.dead {
+            return Err(WalFault::Dead);
+        }
+        if !both_fit(&self.notes, batch, self.anchor.sizes.area) {
+            return Err(WalFault::Full);
+        }
+        let prepared = prepare(self.alloc, &mut self.notes, batch)?;
+        self.store(prepared)
     }
 }

@@ -5,7 +5,7 @@ ghost use Rattle.alp_wal.specs.declared.fault.WalFault.TheVariants.{Failed, Stop
 use alp_base::{Halt, OutOfMemory};
 use thiserror::Error;
 
-/// Why a log did not commit.
+/// Why a log did not commit, or made no checkpoint.
 #[derive(Clone, Copy, Debug, PartialEq, Eq, Error)]
 pub enum WalFault {
     #[error("the device failed")]
@@ -15,7 +15,10 @@ pub enum WalFault {
     /// The log is as before.
     #[error("out of memory")]
     OutOfMemory,
-    /// An earlier commit of this log failed or was stopped.
+    /// A record of the live notes and one of the batch are longer than an area. The log is as before.
+    #[error("the log is too small")]
+    Full,
+    /// An earlier commit or checkpoint of this log failed or was stopped.
     #[error("the log has stopped")]
     Dead,
 }

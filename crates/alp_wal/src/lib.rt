@@ -3,14 +3,17 @@
 
 mod append;
 mod begin;
+mod checkpoint;
 mod commit;
 mod fault;
 mod formatting;
 mod found;
 mod laws;
 mod mounting;
+mod moving;
 mod prepare;
 mod read;
+mod turning;
 mod wal;
 
 pub use fault::WalFault;

@@ -8,10 +8,11 @@ ghost use Rattle.alp_base.specs.Allowances.{Spends};
 ghost use Rattle.alp_disk.specs.Disk.{Only, NoMore, Adds};
 ghost use Rattle.alp_anchor.specs.Anchor.{IsSound, Counts};
 ghost use Rattle.alp_record.specs.Record.{IsEnd};
-ghost use Rattle.alp_notes.specs.Notes.{IsWhole};
+ghost use Rattle.alp_notes.specs.Notes.{entries_of};
+ghost use Rattle.alp_live.specs.Live.{AreLive, AreWithin};
 ghost use Rattle.alp_wal.specs.Reading.{area_first, area_end, Reads};
 ghost use Rattle.alp_wal.specs.Wal.{disk_of, anchor_of, state_of, is_dead, IsLog, IsKnown};
-ghost use Rattle.alp_wal.specs.Mount.{found_state, LeadsTo, IsBad, WhyNotMounted};
+ghost use Rattle.alp_wal.specs.Mount.{Finds, IsBad, WhyNotMounted};
 
 use crate::Wal;
 use crate::begin::{area_of, bare, begin};
@@ -31,19 +32,22 @@ fn step<D: Disk>(
     requires area { area_end found.old.anchor ≤ D.size disk.old }
     requires end { area.now.end ≡ area_end found.old.anchor }
     requires generation { area.now.generation ≡ found.old.anchor.generation }
+    requires begun { area_first found.old.anchor ≤ found.old.end }
     requires inside { found.old.end ≤ area_end found.old.anchor }
     requires index { length found.old.index.items ≡ found.old.anchor.sizes.home }
-    requires whole { IsWhole found.old.notes }
-    ensures more { IsTrue (D.tells disk.old) → LeadsTo (D.seen disk.old) found.old.anchor found.old.end (found_state found.old (D.seen disk.old)) → IfOk result (λ more. IsTrue more → LeadsTo (D.seen disk.old) found.old.anchor found.new.end (found_state found.new (D.seen disk.old))) }
+    requires live { AreLive found.old.notes }
+    requires within { AreWithin (area_first found.old.anchor) found.old.end (entries_of found.old.notes) }
+    ensures more { IsTrue (D.tells disk.old) → Finds (D.seen disk.old) found.old.anchor found.old → IfOk result (λ more. IsTrue more → Finds (D.seen disk.old) found.old.anchor found.new) }
     ensures last { IsTrue (D.tells disk.old) → IfOk result (λ more. more ≡ false → IsEnd (D.seen disk.old) (area_end found.old.anchor) found.old.end) }
     ensures stays { IfOk result (λ more. more ≡ false → found.new ≡ found.old) }
-    ensures bad { IsTrue (D.tells disk.old) → LeadsTo (D.seen disk.old) found.old.anchor found.old.end (found_state found.old (D.seen disk.old)) → (place : ℕ) → IsErrOf result (Damaged place) → IsBad (D.seen disk.old) found.old.anchor place }
+    ensures bad { IsTrue (D.tells disk.old) → Finds (D.seen disk.old) found.old.anchor found.old → (place : ℕ) → IsErrOf result (Damaged place) → IsBad (D.seen disk.old) found.old.anchor place }
     ensures is_volume { (bytes : List ℕ) → IsErrOf result (NotAVolume bytes) → ⊥ }
     ensures grows { IfOk result (λ more. IsTrue more → found.old.end + 1 ≤ found.new.end) }
     ensures inside { OnOk result (found.new.end ≤ area_end found.old.anchor) }
     ensures anchor { found.new.anchor ≡ found.old.anchor }
     ensures index { OnOk result (length found.new.index.items ≡ length found.old.index.items) }
-    ensures whole { OnOk result (IsWhole found.new.notes) }
+    ensures live { OnOk result (AreLive found.new.notes) }
+    ensures within { OnOk result (AreWithin (area_first found.old.anchor) found.new.end (entries_of found.new.notes)) }
     ensures tells { D.tells disk.new ≡ D.tells disk.old }
     ensures size { D.size disk.new ≡ D.size disk.old }
     ensures seen { D.seen disk.new ≡ D.seen disk.old }
@@ -83,12 +87,13 @@ fn replay<D: Disk>(
     requires area { area_end found.old.anchor ≤ D.size disk.old }
     requires end { area.now.end ≡ area_end found.old.anchor }
     requires generation { area.now.generation ≡ found.old.anchor.generation }
-    requires begun { 1 ≤ found.old.end }
+    requires begun { area_first found.old.anchor ≤ found.old.end }
     requires inside { found.old.end ≤ area_end found.old.anchor }
     requires index { length found.old.index.items ≡ found.old.anchor.sizes.home }
-    requires whole { IsWhole found.old.notes }
-    requires before { IsTrue (D.tells disk.old) → LeadsTo (D.seen disk.old) found.old.anchor found.old.end (found_state found.old (D.seen disk.old)) }
-    ensures leads { IsTrue (D.tells disk.old) → OnOk result (LeadsTo (D.seen disk.old) found.old.anchor found.new.end (found_state found.new (D.seen disk.old))) }
+    requires live { AreLive found.old.notes }
+    requires within { AreWithin (area_first found.old.anchor) found.old.end (entries_of found.old.notes) }
+    requires before { IsTrue (D.tells disk.old) → Finds (D.seen disk.old) found.old.anchor found.old }
+    ensures finds { IsTrue (D.tells disk.old) → OnOk result (Finds (D.seen disk.old) found.old.anchor found.new) }
     ensures ends { IsTrue (D.tells disk.old) → OnOk result (IsEnd (D.seen disk.old) (area_end found.old.anchor) found.new.end) }
     ensures bad { IsTrue (D.tells disk.old) → (place : ℕ) → IsErrOf result (Damaged place) → IsBad (D.seen disk.old) found.old.anchor place }
     ensures is_volume { (bytes : List ℕ) → IsErrOf result (NotAVolume bytes) → ⊥ }
@@ -96,7 +101,8 @@ fn replay<D: Disk>(
     ensures inside { OnOk result (found.new.end ≤ area_end found.old.anchor) }
     ensures anchor { found.new.anchor ≡ found.old.anchor }
     ensures index { OnOk result (length found.new.index.items ≡ found.old.anchor.sizes.home) }
-    ensures whole { OnOk result (IsWhole found.new.notes) }
+    ensures live { OnOk result (AreLive found.new.notes) }
+    ensures within { OnOk result (AreWithin (area_first found.old.anchor) found.new.end (entries_of found.new.notes)) }
     ensures tells { D.tells disk.new ≡ D.tells disk.old }
     ensures size { D.size disk.new ≡ D.size disk.old }
     ensures seen { D.seen disk.new ≡ D.seen disk.old }
@@ -126,12 +132,13 @@ fn recover<D: Disk>(
     ensures counts { IsTrue (D.tells disk.old) → IfOk result (λ f. Counts (D.size disk.old) (D.seen disk.old) f.anchor) }
     ensures named { IfOk result (λ f. (f.anchor.server ≡ server) × (f.anchor.servers ≡ servers)) }
     ensures sound { IfOk result (λ f. IsSound (D.size disk.old) f.anchor) }
-    ensures leads { IsTrue (D.tells disk.old) → IfOk result (λ f. LeadsTo (D.seen disk.old) f.anchor f.end (found_state f (D.seen disk.old))) }
+    ensures finds { IsTrue (D.tells disk.old) → IfOk result (λ f. Finds (D.seen disk.old) f.anchor f) }
     ensures ends { IsTrue (D.tells disk.old) → IfOk result (λ f. IsEnd (D.seen disk.old) (area_end f.anchor) f.end) }
     ensures begun { IfOk result (λ f. area_first f.anchor ≤ f.end) }
     ensures inside { IfOk result (λ f. f.end ≤ area_end f.anchor) }
     ensures index { IfOk result (λ f. length f.index.items ≡ f.anchor.sizes.home) }
-    ensures whole { IfOk result (λ f. IsWhole f.notes) }
+    ensures live { IfOk result (λ f. AreLive f.notes) }
+    ensures within { IfOk result (λ f. AreWithin (area_first f.anchor) f.end (entries_of f.notes)) }
     ensures durable { IsTrue (D.tells disk.old) → OnOk result (Only (D.seen disk.old) (D.may_leave disk.new)) }
     ensures why_not { IsTrue (D.tells disk.old) → IfErr result (WhyNotMounted server servers (D.size disk.old) (D.seen disk.old)) }
     ensures tells { D.tells disk.new ≡ D.tells disk.old }

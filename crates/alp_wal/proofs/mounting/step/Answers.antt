@@ -1,7 +1,11 @@
-use Rattle.std.proofs.Common.{◌≡◌, ◌+◌, ℕ, List, length, sym, ◌∙◌, ap, subst, arith}
+use Rattle.std.proofs.Common.{◌≡◌, ◌+◌, ℕ, List, [], ◌∷◌, length, sym, ◌∙◌, ap, subst, arith}
 use Rattle.alp_record.specs.Record.{next_of, body_pages}
-use Rattle.alp_wal.specs.Mount.{found_state, LeadsTo, IsBad, AppliesNot, Taken}
-use Rattle.alp_wal.proofs.Mounts.{record_of, bad_body, untaken, was_taken, leads_on, some_of}
+use Rattle.alp_notes.specs.Notes.{entries_of}
+use Rattle.alp_live.specs.Live.{AreWithin}
+use Rattle.alp_wal.specs.Reading.{area_first}
+use Rattle.alp_wal.specs.Wal.{Logs}
+use Rattle.alp_wal.specs.Mount.{found_state, IsBad, AppliesNot, Taken}
+use Rattle.alp_wal.proofs.Mounts.{record_of, bad_body, untaken, was_taken, finds_on, within_on, some_of}
 use Rattle.alp_wal.proofs.mounting.step.Goals as goal
 
 pub returns-then-not-taken-clause-bad : goal.returns-then-not-taken-clause-bad
@@ -12,7 +16,7 @@ returns-then-not-taken-clause-bad g c told before place is =
     let stands = record_of image a c.args.area.now.generation c.args.area.now.end c.args.found.now.end c.in-Ok-Some.body c.requires.generation c.requires.end (some_of c.in-Ok-Some.field-0 c.in-Ok-Some.body _ _ c.in-Ok-Some.field-0-is (c.in-Ok-Some.ensures.read told)) in
     let not_so = untaken a.sizes.home (found_state c.args.found.now image) (found_state c.take.new.self image) c.as_slice.result.now c.in-Ok.taken c.if-not-taken.true (c.in-Ok.ensures.taken image) in
     subst (λ k. IsBad image a k) (sym here)
-    (bad_body image a c.args.found.now.end (found_state c.args.found.now image) c.in-Ok-Some.body before stands (subst (λ (l : List ℕ). AppliesNot a.sizes.home (found_state c.args.found.now image) l) c.as_slice.ensures not_so))
+    (bad_body image a c.args.found.now.end (found_state c.args.found.now image) c.in-Ok-Some.body before.leads stands (subst (λ (l : List ℕ). AppliesNot a.sizes.home (found_state c.args.found.now image) l) c.as_slice.ensures not_so))
 
 pub returns-clause-more : goal.returns-clause-more
 returns-clause-more g c told before yes_more =
@@ -23,5 +27,14 @@ returns-clause-more g c told before yes_more =
     let taken_body = subst (λ (l : List ℕ). Taken a.sizes.home (found_state c.args.found.now image) l (found_state c.take.new.self image)) c.as_slice.ensures taken in
     let pages : c.record_pages.result ≡ 1 + body_pages (length c.in-Ok-Some.body) = c.record_pages.ensures ∙ ap (λ (l : List ℕ). 1 + body_pages (length l)) c.as_slice-2.ensures in
     let end : next_of c.args.found.now.end c.in-Ok-Some.body ≡ c.take.new.self.end + c.record_pages.result = omega (arith, c.take.ensures.end, pages) in
-    subst (λ k. LeadsTo image a k (found_state c.take.new.self image)) end
-    (leads_on image a c.args.found.now.end (found_state c.args.found.now image) (found_state c.take.new.self image) c.in-Ok-Some.body before stands taken_body)
+    let logged = subst (λ (l : List ℕ). Logs c.args.found.now.index.items (l ∷ []) c.take.new.self.index.items) c.as_slice.ensures (c.in-Ok.ensures.logged c.if-not-taken.false) in
+    finds_on image a c.args.found.now _ c.in-Ok-Some.body before stands taken_body logged end
+
+pub returns-clause-within : goal.returns-clause-within
+returns-clause-within g c =
+    let a = c.args.found.now.anchor in
+    let f = c.args.found.now in
+    let taken = was_taken a.sizes.home (found_state f []) (found_state c.take.new.self []) c.as_slice.result.now c.in-Ok.taken c.if-not-taken.false (c.in-Ok.ensures.taken []) in
+    let pages : c.record_pages.result ≡ 1 + body_pages (length c.as_slice.result.now) = c.record_pages.ensures ∙ ap (λ (l : List ℕ). 1 + body_pages (length l)) (c.as_slice-2.ensures ∙ sym c.as_slice.ensures) in
+    let end : f.end + (1 + body_pages (length c.as_slice.result.now)) ≡ c.take.new.self.end + c.record_pages.result = omega (arith, c.take.ensures.end, pages) in
+    subst (λ k. AreWithin (area_first a) k (entries_of c.take.new.self.notes)) end (within_on a.sizes.home (area_first a) f c.take.new.self c.as_slice.result.now taken c.requires.within c.requires.begun)

@@ -1,22 +1,28 @@
-use Rattle.std.proofs.Common.{◌≡◌, ◌++◌, ℕ, List, [], ◌∷◌, length, IsTrue, sym, ◌∙◌, ap, subst, arith}
+use Rattle.std.proofs.Common.{◌≡◌, ◌≤◌, refl, sym, ◌∙◌, ap, subst, length}
 use Rattle.std.specs.List.{AllByRecursion}
-use Rattle.alp_base.specs.declared.bytes.NoteChange.{NoteChange}
-use Rattle.alp_disk.specs.Disk.{Adds, Only}
-use Rattle.alp_disk.proofs.Moments.{nothing_added, adds_weaker, leaves_only}
-use Rattle.alp_anchor.specs.Anchor.{IsSound}
-use Rattle.alp_anchor.specs.declared.anchor.Anchor.{Anchor}
-use Rattle.alp_batch.specs.declared.batch.PageImage.{PageImage}
-use Rattle.alp_batch.specs.Batch.{batch_length}
-use Rattle.alp_record.specs.Record.{body_pages, next_of, behind}
-use Rattle.alp_record.proofs.Adds.{behind_push}
-use Rattle.alp_notes.specs.Entries.{Entries, noted}
+use Rattle.alp_disk.specs.Disk.{LeavesOnly}
+use Rattle.alp_disk.proofs.Moments.{leaves_only, nothing_added}
+use Rattle.alp_batch.specs.declared.batch.Batch.{Batch}
+use Rattle.alp_batch.specs.Batch.{IsShort}
+use Rattle.alp_record.proofs.Bodies.{on_ok}
+use Rattle.alp_notes.specs.Entries.{Entries}
 use Rattle.alp_notes.specs.Notes.{entries_of}
-use Rattle.alp_wal.specs.State.{State, IsBelow}
-use Rattle.alp_wal.specs.Reading.{Applies, area_first, area_end, home_pages}
-use Rattle.alp_wal.specs.Wal.{Index, shown, indexed, disk_of, anchor_of, end_of, index_of, notes_of, state_of, BeforeOrAfter}
-use Rattle.alp_wal.proofs.States.{length-indexed}
-use Rattle.alp_wal.proofs.Commits.{state_after, reads_after, crash_before, crash_leaves, adding_of, added_of, reads_by_of}
+use Rattle.alp_wal.specs.State.{State, Suits, applied}
+use Rattle.alp_live.specs.Live.{most_notes, puts, notes_pages, batch_pages, BothFit}
+use Rattle.alp_wal.specs.Reading.{home_pages}
+use Rattle.alp_wal.specs.Wal.{shown, disk_of, anchor_of, end_of, index_of, notes_of, is_dead, room_of, state_of, BeforeOrAfter}
+use Rattle.alp_wal.proofs.Commits.{crash_before, known_kept, not_both}
 use Rattle.alp_wal.proofs.wal.Wal.commit.Goals as goal
+
+pub returns-then-not-both_fit-clause-before_or_after : goal.returns-then-not-both_fit-clause-before_or_after
+returns-then-not-both_fit-clause-before_or_after g c told alive =
+    let l = g.D.Disk.left_since in
+    let old = c.args.self.now in
+    let known = c.requires.known told alive in
+    let n = g.D.Disk.size (disk_of old) in
+    let image = g.D.Disk.seen (disk_of old) in
+    let P = BeforeOrAfter (anchor_of old).server (anchor_of old).servers n (state_of old image) c.args.batch.now in
+    leaves_only l _ _ P (λ x was. crash_before n (anchor_of old) image known.bodies (state_of old image) c.args.batch.now (g.D.Disk.may_leave (disk_of old)) known.by known.durable x (g.met.D.Disk.only_now (disk_of old) x was)) (nothing_added l (disk_of old) P)
 
 pub returns-in_err-prepared-clause-before_or_after : goal.returns-in_err-prepared-clause-before_or_after
 returns-in_err-prepared-clause-before_or_after g c told alive =
@@ -26,114 +32,102 @@ returns-in_err-prepared-clause-before_or_after g c told alive =
     let n = g.D.Disk.size (disk_of old) in
     let image = g.D.Disk.seen (disk_of old) in
     let P = BeforeOrAfter (anchor_of old).server (anchor_of old).servers n (state_of old image) c.args.batch.now in
-    leaves_only l _ _ P (λ x was. crash_before n (anchor_of old) image known.bodies (state_of old image) c.args.batch.now (g.D.Disk.may_leave (disk_of old)) known.by known.durable x (g.met.D.Disk.only_now (disk_of old) x was))
-    (subst (λ d. Adds l (disk_of old) d P) (sym c.prepare.ensures.disk) (nothing_added l (disk_of old) P))
+    leaves_only l _ _ P (λ x was. crash_before n (anchor_of old) image known.bodies (state_of old image) c.args.batch.now (g.D.Disk.may_leave (disk_of old)) known.by known.durable x (g.met.D.Disk.only_now (disk_of old) x was)) (nothing_added l (disk_of old) P)
 
-pub returns-in_err-append-clause-before_or_after : goal.returns-in_err-append-clause-before_or_after
-returns-in_err-append-clause-before_or_after g c told alive =
-    let l = g.D.Disk.left_since in
-    let old = c.args.self.now in
-    let before = c.prepare.ensures in
+pub returns-in_err-prepared-clause-log : goal.returns-in_err-prepared-clause-log
+returns-in_err-prepared-clause-log g c =
     let log = c.requires.log in
-    let known = c.requires.known told alive in
-    let n = g.D.Disk.size (disk_of old) in
-    let image = g.D.Disk.seen (disk_of old) in
-    let body = c.as_slice.result.now in
-    let applies : Applies (anchor_of old).sizes.home (state_of old image) body c.args.batch.now = record { spelled = c.as_slice.ensures ∙ c.in_ok-prepared.ensures.body; fits = c.in_ok-prepared.ensures.fits; suits = c.requires.suits } in
-    let P = BeforeOrAfter (anchor_of old).server (anchor_of old).servers n (state_of old image) c.args.batch.now in
-    leaves_only l _ _ P (λ x was. crash_before n (anchor_of old) image known.bodies (state_of old image) c.args.batch.now (g.D.Disk.may_leave (disk_of old)) known.by known.durable x (g.met.D.Disk.only_now (disk_of old) x was))
-    (subst (λ d. Adds l d (disk_of c.append.new.self) P) before.disk
-    (adds_weaker l _ _ _ P (c.append.ensures.any_moment (subst (λ d. IsTrue (g.D.Disk.tells d)) (sym before.disk) told))
-    (λ x adding. crash_leaves n (anchor_of old) image (end_of old) log.anchor log.begun log.inside (state_of old image) known.bodies known.ends known.by body c.args.batch.now applies x
-    (adding_of g.D.Disk.seen before.disk before.anchor before.end body x adding))))
+    let same = sym c.prepare.ensures.same in
+    record {
+      anchor = log.anchor;
+      index = log.index;
+      notes = record {
+        whole = c.prepare.ensures.whole log.notes.whole;
+        few = subst (λ (e : Entries). length e ≤ most_notes) same log.notes.few;
+        short = subst (λ (e : Entries). AllByRecursion IsShort (puts e)) same log.notes.short;
+      };
+      fits = subst (λ (e : Entries). notes_pages e ≤ (anchor_of c.args.self.now).sizes.area) same log.fits;
+      begun = log.begun;
+      inside = log.inside;
+    }
+
+pub returns-in_err-prepared-clause-known : goal.returns-in_err-prepared-clause-known
+returns-in_err-prepared-clause-known g c told alive = known_kept refl refl (λ x left. left) refl refl (sym c.prepare.ensures.same) refl (c.requires.known told alive)
+
+pub store-requires-clause-log : goal.store-requires-clause-log
+store-requires-clause-log g c =
+    let log = c.requires.log in
+    let same = sym c.prepare.ensures.same in
+    record {
+      anchor = log.anchor;
+      index = log.index;
+      notes = record {
+        whole = c.prepare.ensures.whole log.notes.whole;
+        few = subst (λ (e : Entries). length e ≤ most_notes) same log.notes.few;
+        short = subst (λ (e : Entries). AllByRecursion IsShort (puts e)) same log.notes.short;
+      };
+      fits = subst (λ (e : Entries). notes_pages e ≤ (anchor_of c.args.self.now).sizes.area) same log.fits;
+      begun = log.begun;
+      inside = log.inside;
+    }
+
+pub store-requires-clause-known : goal.store-requires-clause-known
+store-requires-clause-known g c told = known_kept refl refl (λ x left. left) refl refl (sym c.prepare.ensures.same) refl (c.requires.known told c.if-self.false)
+
+pub store-requires-clause-suits : goal.store-requires-clause-suits
+store-requires-clause-suits g c =
+    subst (λ (t : Entries × Batch). Suits (anchor_of c.args.self.now).sizes.home t.0 t.1) (λ i. (sym c.prepare.ensures.same i, sym c.in_ok-prepared.ensures.batch i)) c.requires.suits
+
+pub store-requires-clause-both : goal.store-requires-clause-both
+store-requires-clause-both g c =
+    subst (λ (t : Entries × Batch). BothFit (anchor_of c.args.self.now).sizes.area t.0 t.1) (λ i. (sym c.prepare.ensures.same i, sym c.in_ok-prepared.ensures.batch i)) (c.both_fit.ensures.0 c.if-not-both_fit.false)
 
 pub returns-clause-before_or_after : goal.returns-clause-before_or_after
 returns-clause-before_or_after g c told alive =
-    let l = g.D.Disk.left_since in
     let old = c.args.self.now in
-    let before = c.prepare.ensures in
-    let log = c.requires.log in
-    let known = c.requires.known told alive in
-    let n = g.D.Disk.size (disk_of old) in
     let image = g.D.Disk.seen (disk_of old) in
-    let body = c.as_slice.result.now in
-    let applies : Applies (anchor_of old).sizes.home (state_of old image) body c.args.batch.now = record { spelled = c.as_slice.ensures ∙ c.in_ok-prepared.ensures.body; fits = c.in_ok-prepared.ensures.fits; suits = c.requires.suits } in
-    let P = BeforeOrAfter (anchor_of old).server (anchor_of old).servers n (state_of old image) c.args.batch.now in
-    leaves_only l _ _ P (λ x was. crash_before n (anchor_of old) image known.bodies (state_of old image) c.args.batch.now (g.D.Disk.may_leave (disk_of old)) known.by known.durable x (g.met.D.Disk.only_now (disk_of old) x was))
-    (subst (λ d. Adds l (disk_of old) d P) (sym c.settle.ensures.disk)
-    (subst (λ d. Adds l d (disk_of c.append.new.self) P) before.disk
-    (adds_weaker l _ _ _ P (c.append.ensures.any_moment (subst (λ d. IsTrue (g.D.Disk.tells d)) (sym before.disk) told))
-    (λ x adding. crash_leaves n (anchor_of old) image (end_of old) log.anchor log.begun log.inside (state_of old image) known.bodies known.ends known.by body c.args.batch.now applies x
-    (adding_of g.D.Disk.seen before.disk before.anchor before.end body x adding)))))
+    let same = c.prepare.ensures.same in
+    let shows : ◌≡◌ {A = State} (record { pages = shown (home_pages image (anchor_of old)) (index_of old); notes = entries_of c.prepare.new.notes }) (state_of old image) = λ i. record { pages = shown (home_pages image (anchor_of old)) (index_of old); notes = same i } in
+    subst (λ (t : State × Batch). LeavesOnly g.D.Disk.left_since (disk_of old) (disk_of c.store.new.self) (BeforeOrAfter (anchor_of old).server (anchor_of old).servers (g.D.Disk.size (disk_of old)) t.0 t.1))
+    (λ i. (shows i, c.in_ok-prepared.ensures.batch i)) (c.store.ensures.before_or_after told)
 
 pub returns-clause-committed : goal.returns-clause-committed
 returns-clause-committed g c told =
     let old = c.args.self.now in
-    let before = c.prepare.ensures in
-    let settled = c.settle.ensures in
-    let log = c.requires.log in
-    let n = g.D.Disk.size (disk_of old) in
     let image = g.D.Disk.seen (disk_of old) in
-    let new = g.D.Disk.seen (disk_of c.append.new.self) in
-    let b = c.args.batch.now in
-    let told2 = subst (λ d. IsTrue (g.D.Disk.tells d)) (sym before.disk) told in
-    let added = added_of g.D.Disk.seen before.disk before.anchor before.end c.as_slice.result.now new (c.in_ok-append.ensures.added told2) in
-    let below : AllByRecursion (IsBelow (length (index_of old))) b.images = subst (λ (k : ℕ). AllByRecursion (IsBelow k) b.images) (sym log.index) c.requires.suits.inside in
-    let seen : g.D.Disk.seen (disk_of c.settle.new.self) ≡ new = ap g.D.Disk.seen settled.disk in
-    let anchor : anchor_of c.settle.new.self ≡ anchor_of old = settled.anchor ∙ c.append.ensures.anchor ∙ before.anchor in
-    let index : index_of c.settle.new.self ≡ indexed (index_of old) b.images = settled.index ∙ ap (λ (x : Index). indexed x c.in_ok-prepared.prepared.images.items) (c.append.ensures.index ∙ before.index) ∙ ap (λ (is : List PageImage). indexed (index_of old) is) c.in_ok-prepared.ensures.images in
-    let notes : notes_of c.settle.new.self ≡ noted (notes_of old) b.notes = settled.notes ∙ ap (λ (x : Entries). noted x c.in_ok-prepared.prepared.notes.items) (ap entries_of c.append.ensures.notes ∙ before.notes) ∙ ap (λ (ns : List NoteChange). noted (notes_of old) ns) c.in_ok-prepared.ensures.changes in
-    let shows : ◌≡◌ {A = State} (state_of c.settle.new.self (g.D.Disk.seen (disk_of c.settle.new.self))) (record { pages = shown (home_pages new (anchor_of old)) (indexed (index_of old) b.images); notes = noted (notes_of old) b.notes }) =
-    λ i. record { pages = shown (home_pages (seen i) (anchor i)) (index i); notes = notes i } in
-    shows ∙ state_after n (anchor_of old) image (end_of old) log.anchor log.begun log.inside new (index_of old) (notes_of old) b added.others below
+    let same = c.prepare.ensures.same in
+    let shows : ◌≡◌ {A = State} (record { pages = shown (home_pages image (anchor_of old)) (index_of old); notes = entries_of c.prepare.new.notes }) (state_of old image) = λ i. record { pages = shown (home_pages image (anchor_of old)) (index_of old); notes = same i } in
+    on_ok c.store.result _ _ (λ committed. committed ∙ (λ i. applied (shows i) (c.in_ok-prepared.ensures.batch i))) (c.store.ensures.committed told)
 
-pub returns-clause-known : goal.returns-clause-known
-returns-clause-known g c told_now alive_now =
-    let old = c.args.self.now in
-    let q = c.append.new.self in
-    let s = c.settle.new.self in
-    let before = c.prepare.ensures in
-    let settled = c.settle.ensures in
-    let log = c.requires.log in
-    let told_q = subst (λ d. IsTrue (g.D.Disk.tells d)) settled.disk told_now in
-    let told2 = subst IsTrue c.append.ensures.tells told_q in
-    let told = subst (λ d. IsTrue (g.D.Disk.tells d)) before.disk told2 in
-    let known = c.requires.known told c.if-self.false in
-    let n = g.D.Disk.size (disk_of old) in
-    let image = g.D.Disk.seen (disk_of old) in
-    let new = g.D.Disk.seen (disk_of q) in
-    let body = c.as_slice.result.now in
-    let applies : Applies (anchor_of old).sizes.home (state_of old image) body c.args.batch.now = record { spelled = c.as_slice.ensures ∙ c.in_ok-prepared.ensures.body; fits = c.in_ok-prepared.ensures.fits; suits = c.requires.suits } in
-    let added = added_of g.D.Disk.seen before.disk before.anchor before.end body new (c.in_ok-append.ensures.added told2) in
-    let by = reads_after n (anchor_of old) image (end_of old) log.anchor log.begun log.inside (state_of old image) known.bodies known.ends known.by body c.args.batch.now applies new added in
-    let anchor : anchor_of s ≡ anchor_of old = settled.anchor ∙ c.append.ensures.anchor ∙ before.anchor in
-    let size : n ≡ g.D.Disk.size (disk_of s) = sym (ap g.D.Disk.size settled.disk ∙ c.append.ensures.size ∙ ap g.D.Disk.size before.disk) in
-    let end : end_of s ≡ next_of (end_of old) body = settled.end ∙ c.in_ok-append.ensures.end ∙ ap (λ k. next_of k body) before.end in
-    record {
-      bodies = known.bodies ++ body ∷ [];
-      ends = ap (λ (a : Anchor). behind (area_first a) (known.bodies ++ body ∷ [])) anchor ∙ behind_push (area_first (anchor_of old)) known.bodies body ∙ ap (λ k. next_of k body) known.ends ∙ sym end;
-      by = reads_by_of (known.bodies ++ body ∷ []) size (sym (ap g.D.Disk.seen settled.disk)) (sym anchor) (sym (returns-clause-committed g c told)) by;
-      durable = subst (λ d. Only (g.D.Disk.seen d) (g.D.Disk.may_leave d)) (sym settled.disk) (c.in_ok-append.ensures.durable told2);
-    }
+pub returns-clause-fitting : goal.returns-clause-fitting
+returns-clause-fitting g c fits = c.store.ensures.fitting (subst (λ (b : Batch). batch_pages b ≤ room_of c.args.self.now) (sym c.in_ok-prepared.ensures.batch) fits)
 
-pub returns-clause-log : goal.returns-clause-log
-returns-clause-log g c =
-    let old = c.args.self.now in
-    let s = c.settle.new.self in
-    let before = c.prepare.ensures in
-    let settled = c.settle.ensures in
-    let log = c.requires.log in
-    let anchor : anchor_of s ≡ anchor_of old = settled.anchor ∙ c.append.ensures.anchor ∙ before.anchor in
-    let size : g.D.Disk.size (disk_of s) ≡ g.D.Disk.size (disk_of old) = ap g.D.Disk.size settled.disk ∙ c.append.ensures.size ∙ ap g.D.Disk.size before.disk in
-    let end : end_of s ≡ next_of (end_of old) c.as_slice.result.now = settled.end ∙ c.in_ok-append.ensures.end ∙ ap (λ k. next_of k c.as_slice.result.now) before.end in
-    let long : length c.as_slice.result.now ≡ batch_length c.args.batch.now = ap length c.as_slice.ensures ∙ c.in_ok-prepared.ensures.long in
-    let pages = ap body_pages long in
-    let first = ap area_first anchor in
-    let last = ap area_end anchor in
-    record {
-      anchor = subst (λ n. IsSound n (anchor_of s)) (sym size) (subst (IsSound (g.D.Disk.size (disk_of old))) (sym anchor) log.anchor);
-      index = ap length settled.index ∙ length-indexed (index_of c.append.new.self) c.in_ok-prepared.prepared.images.items ∙ ap length (c.append.ensures.index ∙ before.index) ∙ log.index ∙ ap (λ (a : Anchor). a.sizes.home) (sym anchor);
-      notes = settled.whole;
-      begun = omega (arith, end, first, log.begun);
-      inside = omega (arith, end, last, pages, c.requires.fits, log.inside);
-    }
+pub returns-clause-full : goal.returns-clause-full
+returns-clause-full g c alive = (λ full. absurd (c.store.ensures.never_full full), λ no. absurd (no (c.both_fit.ensures.0 c.if-not-both_fit.false)))
+
+pub returns-clause-dead : goal.returns-clause-dead
+returns-clause-dead g c = (λ dead. absurd (c.store.ensures.never_dead dead), λ dead. absurd (not_both dead c.if-self.false))
+
+pub returns-clause-dead_stays : goal.returns-clause-dead_stays
+returns-clause-dead_stays g c dead = absurd (c.store.ensures.never_dead dead)
+
+pub returns-clause-full_stays : goal.returns-clause-full_stays
+returns-clause-full_stays g c full = absurd (c.store.ensures.never_full full)
+
+pub returns-clause-memory_disk : goal.returns-clause-memory_disk
+returns-clause-memory_disk g c want = ap (λ w. disk_of w) (c.store.ensures.memory want)
+
+pub returns-clause-memory_anchor : goal.returns-clause-memory_anchor
+returns-clause-memory_anchor g c want = ap (λ w. anchor_of w) (c.store.ensures.memory want)
+
+pub returns-clause-memory_index : goal.returns-clause-memory_index
+returns-clause-memory_index g c want = ap (λ w. index_of w) (c.store.ensures.memory want)
+
+pub returns-clause-memory_notes : goal.returns-clause-memory_notes
+returns-clause-memory_notes g c want = ap (λ w. notes_of w) (c.store.ensures.memory want) ∙ c.prepare.ensures.same
+
+pub returns-clause-memory_end : goal.returns-clause-memory_end
+returns-clause-memory_end g c want = ap (λ w. end_of w) (c.store.ensures.memory want)
+
+pub returns-clause-memory_dead : goal.returns-clause-memory_dead
+returns-clause-memory_dead g c want = ap (λ w. is_dead w) (c.store.ensures.memory want)
