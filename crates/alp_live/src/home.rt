@@ -42,11 +42,7 @@ fn write_home<D: Disk>(disk: &mut D, first: u32, index: &[Option<PageRef>]) -> R
 }
 
 /// Writes the images of an index to the pages from there on, and syncs them.
-pub fn bring_home<D: Disk>(
-    disk: &mut D,
-    first: u32,
-    index: &[Option<PageRef>],
-) -> Result<(), Halt>
+pub fn bring_home<D: Disk>(disk: &mut D, first: u32, index: &[Option<PageRef>]) -> Result<(), Halt>
     requires { first + length index.now ≤ D.size disk.old }
     ensures home { IsTrue (D.tells disk.old) → OnOk result (BroughtHome first (length index.now) index.now (D.seen disk.old) (D.seen disk.new)) }
     ensures durable { IsTrue (D.tells disk.old) → OnOk result (Only (D.seen disk.new) (D.may_leave disk.new)) }

@@ -215,12 +215,18 @@ fn a_batch_fills_an_area(rt: HostRuntime) -> Result<(), Fail> {
     Ok(())
 }
 
+/// Whether the bytes of a page are not all the same.
+fn has_two_bytes(page: &Page) -> bool {
+    let bytes = page.bytes();
+    bytes.iter().any(|b| *b != bytes[0])
+}
+
 fn is_torn<D: Disk>(disk: &mut D) -> Result<bool, Fail> {
     let mut page = Page::zero();
     if disk.pages() != PAGES || disk.read(HOME_PAGE_7, &mut page).is_err() {
         return Err("a read".into());
     }
-    Ok(page.bytes()[1..] != page.bytes()[..511])
+    Ok(has_two_bytes(&page))
 }
 
 /// Whether the log holds what was before the stopped commit, or after it, and a home page is torn.

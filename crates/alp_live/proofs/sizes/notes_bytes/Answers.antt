@@ -23,9 +23,17 @@ overflow_add-bytes c =
     let x = c.next-item.result in
     let names = c.names-next-items.result.now in
     let short = subst (λ (y : NoteChange). IsShort y) (sym (live_at n names i x c.requires.whole c.names-next-items.ensures c.loop-next-test.true c.next-item.is))
-        (short_at (puts (entries_of n)) i (put_of x (entries_of n)) c.requires.short (live_low n names i c.requires.whole c.names-next-items.ensures c.loop-next-test.true)) in
-    omega (arith, c.loop-next.invariant, notes_small i (puts (entries_of n)) c.requires.short, note_small (put_of x (entries_of n)) short, c.note_bytes-bytes.ensures,
-      live_low n c.names-next-items.result.now i c.requires.whole c.names-next-items.ensures c.loop-next-test.true, length-puts (entries_of n), c.requires.few)
+    (short_at (puts (entries_of n)) i (put_of x (entries_of n)) c.requires.short (live_low n names i c.requires.whole c.names-next-items.ensures c.loop-next-test.true)) in
+    omega (
+      arith,
+      c.loop-next.invariant,
+      notes_small i (puts (entries_of n)) c.requires.short,
+      note_small (put_of x (entries_of n)) short,
+      c.note_bytes-bytes.ensures,
+      live_low n c.names-next-items.result.now i c.requires.whole c.names-next-items.ensures c.loop-next-test.true,
+      length-puts (entries_of n),
+      c.requires.few,
+    )
 
 pub loop-next-preserved : goal.loop-next-preserved
 loop-next-preserved c =
