@@ -1,4 +1,4 @@
-use Rattle.std.proofs.Common.{◌≡◌, true, false, not, is_some, ap, sym, ◌∙◌}
+use Rattle.std.proofs.Common.{◌≡◌, false, not, is_some, ap, sym, ◌∙◌}
 use Rattle.std.specs.FinMap as map
 use Rattle.alp_locks.proofs.PartLemmas.{insert-held, held-none, some-copied}
 use Rattle.alp_locks.proofs.parts.Parts.enter.Goals as goal

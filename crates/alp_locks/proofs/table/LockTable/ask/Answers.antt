@@ -1,5 +1,4 @@
 use Rattle.std.proofs.Common.{◌≡◌, false, ap, sym, subst, ◌∙◌}
-use Rattle.alp_base.specs.declared.ids.TransId.{TransId}
 use Rattle.alp_queue.specs.declared.waiter.Waiter.{Waiter}
 use Rattle.alp_queue.specs.Order.{waits}
 use Rattle.alp_locks.specs.Asks.{refused}
