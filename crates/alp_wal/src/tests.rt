@@ -17,10 +17,9 @@ const SIZES: Sizes = Sizes {
     area: 64,
 };
 
-/// The pages that the sizes make up.
+/// The pages that the sizes make up, and the disk's page of home page 7.
 const PAGES: u32 = 642;
 
-/// The disk's page of home page 7.
 const HOME_PAGE_7: u32 = 137;
 
 /// Home pages from `first` on get this byte, and the note `C` gets so many bytes, if any.
@@ -75,23 +74,20 @@ struct Plain {
     note: u16,
 }
 
-impl Plain {
-    fn new() -> Plain {
-        Plain {
-            pages: [0; 16],
-            note: 0,
-        }
-    }
+const NOTHING: Plain = Plain {
+    pages: [0; 16],
+    note: 0,
+};
 
+impl Plain {
     fn with(&self, change: &Change) -> Plain {
         let mut pages = self.pages;
         for k in 0..change.count {
             pages[(change.first.wrapping_add(k) % 16) as usize] = change.byte;
         }
-        let note = if change.note == 0 {
-            self.note
-        } else {
-            change.note
+        let note = match change.note {
+            0 => self.note,
+            note => note,
         };
         Plain { pages, note }
     }
@@ -215,18 +211,14 @@ fn a_batch_fills_an_area(rt: HostRuntime) -> Result<(), Fail> {
     Ok(())
 }
 
-/// Whether the bytes of a page are not all the same.
-fn has_two_bytes(page: &Page) -> bool {
-    let bytes = page.bytes();
-    bytes.iter().any(|b| *b != bytes[0])
-}
-
+/// Whether the bytes of home page 7 are not all the same.
 fn is_torn<D: Disk>(disk: &mut D) -> Result<bool, Fail> {
     let mut page = Page::zero();
     if disk.pages() != PAGES || disk.read(HOME_PAGE_7, &mut page).is_err() {
         return Err("a read".into());
     }
-    Ok(has_two_bytes(&page))
+    let bytes = page.bytes();
+    Ok(bytes.iter().any(|b| *b != bytes[0]))
 }
 
 /// Whether the log holds what was before the stopped commit, or after it, and a home page is torn.
@@ -248,7 +240,7 @@ fn look_after_stop<D: Disk>(
     let mut disk = wal.close().power_off(pick);
     let torn = is_torn(&mut disk)?;
     let mut wal = mounted(alloc, disk)?;
-    let was = Plain::new().with(&first).with(&second);
+    let was = NOTHING.with(&first).with(&second);
     let before = holds(alloc, &mut wal, &was)?;
     let after = holds(alloc, &mut wal, &was.with(&third))?;
     Ok((before, after, torn))
@@ -361,7 +353,7 @@ impl Run {
 fn many_commits_hold_what_a_plain_map_holds(rt: HostRuntime) -> Result<(), Fail> {
     let alloc = rt.alloc();
     let mut run = Run {
-        plain: Plain::new(),
+        plain: NOTHING,
         random: Random { state: 1 },
         checkpoints: 0,
         stops: 0,
@@ -378,7 +370,7 @@ fn is_kept<D: Disk>(alloc: Global, disk: D) -> Result<bool, Fail> {
     let mut wal = fresh(alloc, disk)?;
     put(&mut wal, &change.batch(alloc)?)?;
     let mut wal = mounted(alloc, wal.close())?;
-    holds(alloc, &mut wal, &Plain::new().with(&change))
+    holds(alloc, &mut wal, &NOTHING.with(&change))
 }
 
 #[test]
