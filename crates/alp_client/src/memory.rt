@@ -118,4 +118,3 @@ impl Opens {
         self.numbers.clear();
     }
 }
-
