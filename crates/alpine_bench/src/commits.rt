@@ -10,7 +10,6 @@ use crate::rates::{Trouble, hundredths, rate_since};
 use alp_base::{OutOfMemory, Page, PageRef, Sizes, VaultFault};
 use alp_batch::{Batch, Images, NoteChanges, PageImage, encode};
 use alp_disk::{Disk, FileDisk};
-use alp_record::record_pages;
 use alp_wal::{Wal, WalFault, format};
 use std::alloc::Global;
 use std::fmt;
@@ -21,8 +20,11 @@ use std::time::{Clock, Instant};
 /// How many pages a batch has.
 pub(crate) const SIZES: [u32; 2] = [1, 16];
 
-// The pages of an area of the log, as many as it may have: no checkpoint is needed.
-const AREA: u32 = 4096;
+/// The pages of an area that needs no checkpoint for so many commits.
+pub(crate) const WIDE: u32 = 4096;
+
+/// The pages of areas that need checkpoints.
+pub(crate) const AREAS: [u32; 3] = [64, 512, 2048];
 
 // The most notes that a log may hold.
 const MOST_NOTES: usize = 65535;
@@ -40,6 +42,7 @@ pub(crate) struct Plan<'a> {
 /// Commits and appends a second.
 #[derive(Drop)]
 pub(crate) struct Rates {
+    area: u32,
     pages: u32,
     commits: u128,
     first: u128,
@@ -52,8 +55,8 @@ impl fmt::Display for Rates {
     fn fmt<W: fmt::Write>(&self, f: &mut fmt::Formatter<W>) -> fmt::Result {
         writeln!(
             f,
-            "log, pages a batch: {}: {} commits a second",
-            self.pages, self.commits
+            "log, an area of {} pages, {} pages a batch: {} commits a second",
+            self.area, self.pages, self.commits
         )?;
         writeln!(
             f,
@@ -76,15 +79,15 @@ fn new_file<R: Files<File = File>>(rt: &R, path: &str) -> Result<File, Trouble> 
 }
 
 // A new volume in the file.
-fn new_log(alloc: Global, file: File, home: u32) -> Result<Wal<FileDisk>, Trouble>
-    requires least { 512 ≤ home }
-    requires most { home ≤ 65536 }
+fn new_log(alloc: Global, file: File, sizes: Sizes) -> Result<Wal<FileDisk>, Trouble>
+    requires home { (512 ≤ sizes.home) × (sizes.home ≤ 65536) }
+    requires area { (64 ≤ sizes.area) × (sizes.area ≤ 4096) }
     ensures { IfOk result (λ log. IsLog (⟦<FileDisk as Disk>⟧.size (disk_of log)) log) }
 {
-    let pages = 2 + 2 * AREA + home;
+    let pages = 2 + 2 * sizes.area + sizes.home;
     file.set_len(512 * u64::from(pages))?;
     let disk = FileDisk::new(file, pages);
-    match format(alloc, disk, 1, 1, Sizes { home, area: AREA }) {
+    match format(alloc, disk, 1, 1, sizes) {
         Ok(log) => Ok(log),
         Err((_, VaultFault::OutOfMemory)) => Err(Trouble::OutOfMemory),
         Err(_) => Err(Trouble::Host),
@@ -129,13 +132,13 @@ fn commit(log: &mut Wal<FileDisk>, batch: &Batch, pages: u32) -> Result<(), Trou
     requires notes { batch.now.notes ≡ [] }
     ensures { IsLog (⟦<FileDisk as Disk>⟧.size (disk_of log.new)) log.new }
 {
-    let needed = record_pages(4 + 516 * pages);
-    if log.note_names().len() > MOST_NOTES || log.room() < needed {
+    if log.note_names().len() > MOST_NOTES {
         return Err(Trouble::Full);
     }
     match log.commit(batch) {
         Ok(()) => Ok(()),
         Err(WalFault::OutOfMemory) => Err(Trouble::OutOfMemory),
+        Err(WalFault::Full) => Err(Trouble::Full),
         Err(_) => Err(Trouble::Host),
     }
 }
@@ -184,21 +187,22 @@ fn commit_rates<C: Clock>(
     clock: &C,
     alloc: Global,
     file: File,
-    plan: &Plan<'_>,
+    commits: u32,
+    sizes: Sizes,
     pages: u32,
 ) -> Result<(u128, u128, u128), Trouble>
-    requires least { 512 ≤ plan.now.home }
-    requires most { plan.now.home ≤ 65536 }
+    requires home { (512 ≤ sizes.home) × (sizes.home ≤ 65536) }
+    requires area { (64 ≤ sizes.area) × (sizes.area ≤ 4096) }
     requires few { pages ≤ 16 }
 {
     let batch = some_batch(alloc, pages)?;
-    let mut log = new_log(alloc, file, plan.home)?;
-    let quarter = plan.commits / 4;
+    let mut log = new_log(alloc, file, sizes)?;
+    let quarter = commits / 4;
     let start = Instant::now(clock)?;
     let first = commit_often(clock, &mut log, &batch, pages, quarter)?;
-    commit_often(clock, &mut log, &batch, pages, plan.commits - 2 * quarter)?;
+    commit_often(clock, &mut log, &batch, pages, commits - 2 * quarter)?;
     let last = commit_often(clock, &mut log, &batch, pages, quarter)?;
-    let all = rate_since(clock, start, u64::from(plan.commits))?;
+    let all = rate_since(clock, start, u64::from(commits))?;
     Ok((all, first, last))
 }
 
@@ -219,23 +223,25 @@ fn append_rate<C: Clock>(
 fn rates_on<R: Files<File = File> + Clock>(
     rt: &R,
     alloc: Global,
-    plan: &Plan<'_>,
+    commits: u32,
+    sizes: Sizes,
     pages: u32,
     volume: &str,
     appended: &str,
 ) -> Result<Rates, Trouble>
-    requires least { 512 ≤ plan.now.home }
-    requires most { plan.now.home ≤ 65536 }
+    requires home { (512 ≤ sizes.home) × (sizes.home ≤ 65536) }
+    requires area { (64 ≤ sizes.area) × (sizes.area ≤ 4096) }
     requires few { pages ≤ 16 }
 {
     let file = new_file(rt, volume)?;
-    let (commits, first, last) = commit_rates(rt, alloc, file, plan, pages)?;
+    let (rate, first, last) = commit_rates(rt, alloc, file, commits, sizes, pages)?;
     let file = new_file(rt, appended)?;
-    let appends = append_rate(rt, alloc, file, plan.commits, pages)?;
-    let hundredths = hundredths(commits, appends).ok_or(Trouble::NoTime)?;
+    let appends = append_rate(rt, alloc, file, commits, pages)?;
+    let hundredths = hundredths(rate, appends).ok_or(Trouble::NoTime)?;
     Ok(Rates {
+        area: sizes.area,
         pages,
-        commits,
+        commits: rate,
         first,
         last,
         appends,
@@ -243,20 +249,31 @@ fn rates_on<R: Files<File = File> + Clock>(
     })
 }
 
-/// The rates for batches of so many pages, on two files that are removed at the end.
+/// The rates for batches of so many pages in an area of so many, on two files that are removed at the end.
 pub(crate) fn measure<R: Files<File = File> + Clock>(
     rt: &R,
     alloc: Global,
     plan: &Plan<'_>,
     pages: u32,
+    area: u32,
 ) -> Result<Rates, Trouble> {
-    if plan.home < 512 || 65536 < plan.home || 16 < pages {
+    let home = plan.home;
+    if home < 512 || 65536 < home || area < 64 || 4096 < area || 16 < pages {
         return Err(Trouble::Words);
     }
+    let sizes = Sizes { home, area };
     let folder = plan.folder;
     let volume = format!(in alloc; "{folder}/alpine_bench-volume")?;
     let appended = format!(in alloc; "{folder}/alpine_bench-appended")?;
-    let rates = rates_on(rt, alloc, plan, pages, volume.as_str(), appended.as_str());
+    let rates = rates_on(
+        rt,
+        alloc,
+        plan.commits,
+        sizes,
+        pages,
+        volume.as_str(),
+        appended.as_str(),
+    );
     let removed = fs::remove_file(rt, volume.as_str());
     let also = fs::remove_file(rt, appended.as_str());
     let rates = rates?;

@@ -56,7 +56,11 @@ fn run<R: Runtime + Files<File = File> + Threads + Wait + Sync>(
         }
         Some(Command::Log { plan }) => {
             for pages in commits::SIZES {
-                let rates = commits::measure(rt, alloc, &plan, pages)?;
+                let rates = commits::measure(rt, alloc, &plan, pages, commits::WIDE)?;
+                print!(rt; "{rates}")?;
+            }
+            for area in commits::AREAS {
+                let rates = commits::measure(rt, alloc, &plan, 16, area)?;
                 print!(rt; "{rates}")?;
             }
             Ok(())

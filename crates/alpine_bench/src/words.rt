@@ -10,7 +10,8 @@ usage: alpine_bench COMMAND
   log FOLDER COUNT PAGES
                    commits a second of batches of 1 page and of 16, COUNT of each (4 to 227), on a
                    new volume of PAGES home pages (512 to 65536) in a file in FOLDER, beside appends
-                   of as many bytes to another file, each with a sync
+                   of as many bytes to another file, each with a sync; first in an area that needs no
+                   checkpoint, then in areas of 64, 512 and 2048 pages, with their checkpoints
 ";
 
 // How many threads may be asked for.
