@@ -1,10 +1,10 @@
 -- Images are brought home.
-use Rattle.std.proofs.Common.{◌≡◌, ◌≢◌, inl, inr, ℕ, zero, suc, ◌+◌, ◌<◌, ◌≤◌, List, [], ◌∷◌, ◌++◌, length, Option, Some, None, refl, sym, ap, subst, ◌∙◌, arith}
+use Rattle.std.proofs.Common.{◌≡◌, ◌≢◌, inl, inr, ℕ, ◌+◌, ◌<◌, List, ◌++◌, length, Option, Some, None, refl, sym, ap, subst, ◌∙◌, arith}
 use Rattle.std.specs.Prelude.{slice_index_or}
 use Rattle.std.proofs.lemmas.Bool.{cases_eq}
 use Rattle.std.proofs.lemmas.List.{append-nil, drop_all}
 use Rattle.alp_base.specs.Pages.{overwritten}
-use Rattle.alp_disk.specs.Disk.{Image, page, IsImage, with_bytes, Torn, Follows, After, Only, NoMore}
+use Rattle.alp_disk.specs.Disk.{Image, page, IsImage, with_bytes, Torn, Follows}
 use Rattle.alp_disk.specs.Images.{page-with_bytes, page-with_bytes_other}
 use Rattle.alp_live.specs.Home.{Index, SameUnlogged, BroughtHome, MayDiffer, IsBrought}
 

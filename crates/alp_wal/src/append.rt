@@ -17,16 +17,6 @@ use alp_disk::Disk;
 use alp_record::{Area, add_record, record_pages};
 
 impl<D: Disk> Wal<D> {
-    /// The area in use.
-    pub(super) fn area(&self) -> Area
-        requires { IsLog (D.size (disk_of self.now)) self.now }
-        ensures first { result.first ≡ area_first (anchor_of self.now) }
-        ensures end { result.end ≡ area_end (anchor_of self.now) }
-        ensures generation { result.generation ≡ (anchor_of self.now).generation }
-    {
-        area_of(&self.anchor)
-    }
-
     /// Adds a record with this body behind the last one. Where it halts, the log is dead.
     pub(super) fn append(&mut self, body: &[u8]) -> Result<(), WalFault>
         requires log { IsLog (D.size (disk_of self.old)) self.old }
@@ -52,7 +42,7 @@ impl<D: Disk> Wal<D> {
         ensures index { index_of self.new ≡ index_of self.old }
         ensures notes { held_notes self.new ≡ held_notes self.old }
     {
-        let area = self.area();
+        let area = area_of(&self.anchor);
         match add_record(&mut self.disk, &area, self.end, body) {
             Ok(()) => {
                 self.end += record_pages(body.len() as u32);

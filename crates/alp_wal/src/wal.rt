@@ -6,6 +6,7 @@ ghost use Rattle.alp_notes.specs.Entries.{value_of};
 ghost use Rattle.alp_notes.specs.Notes.{names_of};
 ghost use Rattle.alp_wal.specs.Wal.{disk_of, anchor_of, end_of, index_of, notes_of, held_notes, is_dead, room_of, IsLog, IsKnown};
 
+use crate::begin::area_of;
 use alp_anchor::Anchor;
 use alp_base::{Bytes, PageRef, Sizes};
 use alp_disk::Disk;
@@ -23,7 +24,7 @@ pub struct Wal<D: Disk> {
     /// For each home page its image in the last record that has one.
     pub(super) index: Vec<Option<PageRef>>,
     pub(super) notes: Notes,
-    /// Whether a commit failed or was stopped.
+    /// Whether a commit or a checkpoint failed or was stopped.
     pub(super) dead: bool,
 }
 
@@ -48,7 +49,7 @@ impl<D: Disk> Wal<D> {
         requires { IsLog (D.size (disk_of self.now)) self.now }
         ensures { result ≡ room_of self.now }
     {
-        self.area().end - self.end
+        area_of(&self.anchor).end - self.end
     }
 
     pub fn sizes(&self) -> Sizes

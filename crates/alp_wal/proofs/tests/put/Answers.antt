@@ -1,4 +1,4 @@
-use Rattle.std.proofs.Common.{◌≡◌, ◌≤◌, ◌+◌, ℕ, List, [], ◌∷◌, length, Some, None, sym, ◌∙◌, ap, subst, arith}
+use Rattle.std.proofs.Common.{◌≤◌, ◌+◌, ℕ, List, [], ◌∷◌, length, Some, None, ap, subst, arith}
 use Rattle.std.specs.Prelude.{Option}
 use Rattle.std.specs.List.{AllByRecursion}
 use Rattle.std.specs.FinMap.Entries.{by_order, put}
@@ -11,7 +11,7 @@ use Rattle.alp_batch.specs.declared.batch.PageImage.{PageImage}
 use Rattle.alp_notes.specs.Entries.{Entries, without, changed, noted}
 use Rattle.alp_notes.proofs.Places.{length-paired}
 use Rattle.alp_wal.specs.State.{IsBelow}
-use Rattle.alp_wal.specs.Wal.{anchor_of, notes_of}
+use Rattle.alp_wal.specs.Wal.{notes_of}
 use Rattle.alp_wal.proofs.tests.put.Goals as goal
 
 length_put : (name value : List ℕ) (es : Entries) → length (put text_cmp name value es) ≤ length es + 1
