@@ -54,7 +54,8 @@ impl Journal {
 
     /// This entry stands at the last place from now on. Takes no memory.
     pub fn fill_place(&mut self, entry: Entry)
-        ensures { (before : List AnEntry) (last : AnEntry) → self.old ≡ before ++ last ∷ [] → self.new ≡ before ++ entry ∷ [] }
+        ensures filled { (before : List AnEntry) (last : AnEntry) → self.old ≡ before ++ last ∷ [] → self.new ≡ before ++ entry ∷ [] }
+        ensures none { self.old ≡ [] → self.new ≡ [] }
     {
         if self.entries.pop().is_some() {
             self.entries.push_reserved(entry);
@@ -63,7 +64,8 @@ impl Journal {
 
     /// The last entry goes.
     pub fn take_back(&mut self)
-        ensures { (before : List AnEntry) (last : AnEntry) → self.old ≡ before ++ last ∷ [] → self.new ≡ before }
+        ensures taken { (before : List AnEntry) (last : AnEntry) → self.old ≡ before ++ last ∷ [] → self.new ≡ before }
+        ensures none { self.old ≡ [] → self.new ≡ [] }
     {
         let _ = self.entries.pop();
     }
