@@ -27,13 +27,13 @@ pub unless-false : (own : Own) (t : Bool) (r : Refusal) (ts : List (Bool × Refu
 unless-false own t r ts a e = ap (λ (b : Bool). cond b (refused own r) (unless own ts a)) e
 
 -- an answer that is another one is given alike
-performs_as : (held : Cells) (old new : Part) (a b : Answer) (r : Reply) → a ≡ b → Performs held old new b r → Performs held old new a r
-performs_as held old new a b r e h = subst (λ (x : Answer). Performs held old new x r) (sym e) h
+performs_as : (old new : Part) (a b : Answer) (r : Reply) → a ≡ b → Performs old new b r → Performs old new a r
+performs_as old new a b r e h = subst (λ (x : Answer). Performs old new x r) (sym e) h
 
 -- changes of the intents are changes of what the part sees
-told_changes : (held : Cells) (old new : Part) (r : Reply) (es : List Edit) → own_of new ≡ own_of old → ChangesBy es old.intents new.intents
-    → Performs held old new (told (own_of old) r es) r
-told_changes held old new r es own h = record { reply = refl; own = own; view = h (map.get held) }
+told_changes : (old new : Part) (r : Reply) (es : List Edit) → own_of new ≡ own_of old → ChangesBy es old.intents new.intents
+    → Performs old new (told (own_of old) r es) r
+told_changes old new r es own h = record { reply = refl; own = own; view = h }
 
 pub not-true : (b : Bool) → b ≡ true → not b ≡ false
 not-true b e = ap not e
@@ -47,9 +47,9 @@ pub owner_made : (held : Cells) (old new : Part) (who name : List ℕ) (quota : 
     → Gives held old new reply.Plain (λ own. make_owner own who name quota create)
 owner_made held old new who name quota create none admin h own =
     let a : Answer = told (own_of old) reply.Plain (Put (OwnerOf name) (cell.Owner (record { name = name; quota = quota; charge = 0; create = create })) ∷ []) in
-    performs_as held old new _ a reply.Plain
+    performs_as old new _ a reply.Plain
     (unless-false (own_of old) (is_some (owner_in (seen held old (OwnerOf name)))) refusal.OwnerExists ((not (is_admin who), refusal.AccessDenied lists.Admin) ∷ []) a none ∙ unless-false (own_of old) (not (is_admin who)) (refusal.AccessDenied lists.Admin) [] a (not-true (is_admin who) admin))
-    (told_changes held old new reply.Plain _ own h)
+    (told_changes old new reply.Plain _ own h)
 
 -- ---- CreateFile
 
@@ -82,11 +82,11 @@ pub file_created : (held : Cells) (old new : Part) (who : List ℕ) (f : FileId)
     → Answers held old new f (reply.Created f (old.last + 1)) (λ made own. create_file f.server made own who start)
 unfolding create_by
 file_created held old new who f start o owner admitted within none h own made fresh =
-    performs_as held old new _ (created_file (own_of old) start o f) (reply.Created f (old.last + 1))
+    performs_as old new _ (created_file (own_of old) start o f) (reply.Created f (old.last + 1))
     (ap (λ (b : Bool). create_by (own_of old) who start f b (owner_in (seen held old (OwnerOf start.owner)))) (is_new-true made f (seen held old (Leader f)) none fresh)
     ∙ ap (create_by (own_of old) who start f true) owner
     ∙ create_by-some (own_of old) who start f o admitted within)
-    (record { reply = refl; own = own; view = h (map.get held) })
+    (record { reply = refl; own = own; view = h })
 
 -- ---- ReadPages
 
@@ -115,12 +115,12 @@ pub pages_read : (held : Cells) (old new : Part) (n : ℕ) (r : Run) (o : Open) 
     → ps ≡ pages_at (seen held old) o.file r.first r.count → own_of new ≡ own_of old → ChangesBy [] old.intents new.intents
     → Gives held old new (reply.Pages ps) (λ own. on_open own (open_at own.opens n) (read_pages own r))
 pages_read held old new n r o p ps is there within pages own h =
-    performs_as held old new _ (told (own_of old) (reply.Pages ps) []) (reply.Pages ps)
+    performs_as old new _ (told (own_of old) (reply.Pages ps) []) (reply.Pages ps)
     (on_open-there (seen held old) (own_of old) _ o p (read_pages (own_of old) r) is there
     ∙ cond_run (seen held old) _ _ _ within
     ∙ run-ask_pages (seen held old) o.file r.first r.count _
     ∙ ap (λ (x : List (List ℕ)). told (own_of old) (reply.Pages x) []) (sym pages))
-    (told_changes held old new (reply.Pages ps) [] own h)
+    (told_changes old new (reply.Pages ps) [] own h)
 
 -- ---- WritePages
 
@@ -130,10 +130,10 @@ pub pages_written : (held : Cells) (old new : Part) (n : ℕ) (r : Run) (pages :
     → Gives held old new reply.Plain (λ own. on_change own (open_at own.opens n) (write_pages own r pages))
 pages_written held old new n r pages o p is change there within puts own =
     let es : List Edit = page_puts o.file r.first pages ++ mark_put o.file p (r.first + r.count) in
-    performs_as held old new _ (told (own_of old) reply.Plain es) reply.Plain
+    performs_as old new _ (told (own_of old) reply.Plain es) reply.Plain
     (on_change-there (seen held old) (own_of old) _ o p (write_pages (own_of old) r pages) is change there
     ∙ unless-false (own_of old) _ (refusal.NoSuchPage p.size) [] (told (own_of old) reply.Plain es) within)
-    (told_changes held old new reply.Plain es own puts)
+    (told_changes old new reply.Plain es own puts)
 
 -- ---- OpenFile
 
@@ -164,10 +164,10 @@ pub open_denied : (held : Cells) (old : Part) (who : List ℕ) (f : FileId) (a :
     → Gives held old old (reply.Refused (refusal.AccessDenied l)) (λ own. open_file own who f a)
 unfolding open_by denied_answer
 open_denied held old who f a p l there denied =
-    performs_as held old old _ (refused (own_of old) (refusal.AccessDenied l)) (reply.Refused (refusal.AccessDenied l))
+    performs_as old old _ (refused (own_of old) (refusal.AccessDenied l)) (reply.Refused (refusal.AccessDenied l))
     (ap (open_by (own_of old) who f a) there ∙ open_by-some (own_of old) who f a p
     ∙ ap (λ (d : Option ListName). denied_answer (own_of old) d (record { reply = Some (reply.Opened (old.last + 1)); edits = []; own = opened (own_of old) f a })) denied)
-    (record { reply = refl; own = refl; view = refl })
+    (record { reply = refl; own = refl; view = λ m. refl })
 
 pub file_opened : (held : Cells) (old new : Part) (who : List ℕ) (f : FileId) (a : Access) (p : Props)
     → props_in (seen held old (Leader f)) ≡ Some p → denied_by a who p ≡ None
@@ -175,7 +175,7 @@ pub file_opened : (held : Cells) (old new : Part) (who : List ℕ) (f : FileId) 
     → Gives held old new (reply.Opened (old.last + 1)) (λ own. open_file own who f a)
 unfolding open_by denied_answer
 file_opened held old new who f a p there admitted same own =
-    performs_as held old new _ (record { reply = Some (reply.Opened (old.last + 1)); edits = []; own = opened (own_of old) f a }) (reply.Opened (old.last + 1))
+    performs_as old new _ (record { reply = Some (reply.Opened (old.last + 1)); edits = []; own = opened (own_of old) f a }) (reply.Opened (old.last + 1))
     (ap (open_by (own_of old) who f a) there ∙ open_by-some (own_of old) who f a p
     ∙ ap (λ (d : Option ListName). denied_answer (own_of old) d (record { reply = Some (reply.Opened (old.last + 1)); edits = []; own = opened (own_of old) f a })) admitted)
-    (record { reply = refl; own = own; view = ap (λ (m : Cells). over m (map.get held)) same })
+    (record { reply = refl; own = own; view = λ m. ap (λ (x : Cells). over x m) same })

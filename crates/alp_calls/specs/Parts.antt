@@ -12,7 +12,7 @@ use Rattle.alp_files.specs.declared.reply.Reply.{Reply}
 use Rattle.alp_files.specs.declared.reply.Reply.TheVariants as reply
 use Rattle.alp_calls.specs.declared.part.Part.{Part}
 use Rattle.alp_files.specs.Cells.{Cells, View, has_file}
-use Rattle.alp_files.specs.Edits.{after, over}
+use Rattle.alp_files.specs.Edits.{over, ChangesBy}
 use Rattle.alp_files.specs.Act.{Own, Answer, Look, run, id_in, program, admits}
 
 -- what a part sees of the files that are held
@@ -22,19 +22,20 @@ seen held p = over p.intents (map.get held)
 abbrev pub own_of : Part → Own
 own_of p = record { last = p.last; opens = p.opens.items }
 
--- the part gave the reply, and stands as the answer says
-pub record Performs (held : Cells) (old new : Part) (a : Answer) (r : Reply) : Type 0 where
+-- the part gave the reply, and stands as the answer says: what is seen through its intents is changed by the edits,
+-- whatever lies below them
+pub record Performs (old new : Part) (a : Answer) (r : Reply) : Type 0 where
   pub reply : a.reply ≡ Some r
   pub own : own_of new ≡ a.own
-  pub view : seen held new ≡ after a.edits (seen held old)
+  pub view : ChangesBy a.edits old.intents new.intents
 
--- want of memory left the part's intents and opens as they were
+-- the part's intents and opens are as they were
 abbrev pub IsAsBefore : Part → Part → Type 0
 IsAsBefore old new = (new.intents ≡ old.intents) × (own_of new ≡ own_of old)
 
 -- the part gave the reply of what is looked at so, and stands as that says
 abbrev pub Gives : Cells → Part → Part → Reply → (Own → Look) → Type 0
-Gives held old new r look = Performs held old new (run (seen held old) (look (own_of old))) r
+Gives held old new r look = Performs old new (run (seen held old) (look (own_of old))) r
 
 -- the same where the reply may give the id to a new file, which no earlier file had
 abbrev pub Answers : Cells → Part → Part → FileId → Reply → (List FileId → Own → Option FileId → Look) → Type 0
@@ -51,6 +52,10 @@ GivesOnly id r = (f : FileId) (n : ℕ) → r ≡ reply.Created f n → f ≡ id
 -- no new file got an id
 abbrev pub GivesNone : Reply → Type 0
 GivesNone r = (f : FileId) (n : ℕ) → r ≡ reply.Created f n → ⊥
+
+-- a reply of pages left the part as it was
+abbrev pub ReadsOnly : Part → Part → Reply → Type 0
+ReadsOnly old new r = (pages : List (List ℕ)) → r ≡ reply.Pages pages → IsAsBefore old new
 
 -- the list that does not admit who opens a file so, if one does not
 abbrev pub denied_by : Access → List ℕ → Props → Option ListName

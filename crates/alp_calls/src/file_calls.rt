@@ -4,7 +4,7 @@ ghost use Rattle.alp_files.specs.Passing.{is_passing, IsFileReply};
 ghost use Rattle.alp_calls.specs.Looks.{Looks, fault_in};
 ghost use Rattle.alp_base.specs.declared.key.Key.TheVariants as key;
 ghost use Rattle.alp_files.specs.Act.{is_over as over_quota, open_file as open_file_said, create_file as create_file_said};
-ghost use Rattle.alp_calls.specs.Parts.{IsAsBefore, seen, denied_by, Gives, Answers, GivesOnly, GivesNone};
+ghost use Rattle.alp_calls.specs.Parts.{IsAsBefore, ReadsOnly, seen, denied_by, Gives, Answers, GivesOnly, GivesNone};
 
 use crate::look::{owner_at, props_at};
 use crate::{CallFault, Part};
@@ -56,6 +56,7 @@ impl Part {
         ensures id { IfOk result (λ r. GivesOnly id r) }
         ensures own { IfOk result (λ r. is_passing r ≡ false) }
         ensures kind { IfOk result (λ r. IsFileReply r) }
+        ensures reads { IfOk result (λ r. ReadsOnly self.old self.new r) }
         ensures last { OnOk result (self.new.last ≤ self.old.last + 1) }
         ensures err { OnErr result (IsAsBefore self.old self.new) }
         ensures looked { Looks V.tells V.serves V.volume V.held V.may_leave V.left_since V.faults V.allowance vault.old vault.new (fault_in result) }
@@ -112,6 +113,7 @@ impl Part {
         ensures id { IfOk result (λ r. GivesNone r) }
         ensures own { IfOk result (λ r. is_passing r ≡ false) }
         ensures kind { IfOk result (λ r. IsFileReply r) }
+        ensures reads { IfOk result (λ r. ReadsOnly self.old self.new r) }
         ensures last { OnOk result (self.new.last ≤ self.old.last + 1) }
         ensures err { OnErr result (IsAsBefore self.old self.new) }
         ensures looked { Looks V.tells V.serves V.volume V.held V.may_leave V.left_since V.faults V.allowance vault.old vault.new (fault_in result) }

@@ -3,7 +3,7 @@ ghost use Rattle.std.specs.Prelude.{◌≡◌, ◌+◌, ◌^◌, ◌<◌, ◌≤
 ghost use Rattle.alp_files.specs.Passing.{is_passing, IsFileReply};
 ghost use Rattle.alp_calls.specs.Looks.{Looks, fault_in};
 ghost use Rattle.alp_files.specs.Act.{is_admin as admin, make_owner as make_owner_said};
-ghost use Rattle.alp_calls.specs.Parts.{IsAsBefore, Gives, GivesNone};
+ghost use Rattle.alp_calls.specs.Parts.{IsAsBefore, ReadsOnly, Gives, GivesNone};
 
 use crate::look::owner_at;
 use crate::{CallFault, Part};
@@ -31,6 +31,7 @@ impl Part {
         ensures id { IfOk result (λ r. GivesNone r) }
         ensures own { IfOk result (λ r. is_passing r ≡ false) }
         ensures kind { IfOk result (λ r. IsFileReply r) }
+        ensures reads { IfOk result (λ r. ReadsOnly self.old self.new r) }
         ensures last { OnOk result (self.new.last ≤ self.old.last + 1) }
         ensures err { OnErr result (IsAsBefore self.old self.new) }
         ensures looked { Looks V.tells V.serves V.volume V.held V.may_leave V.left_since V.faults V.allowance vault.old vault.new (fault_in result) }

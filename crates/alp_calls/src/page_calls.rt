@@ -4,7 +4,7 @@ ghost use Rattle.alp_files.specs.Passing.{is_passing, IsFileReply};
 ghost use Rattle.alp_calls.specs.Looks.{Looks, fault_in};
 ghost use Rattle.alp_files.specs.Act.{open_at, on_open, on_change, page_puts, mark_put, read_pages as read_pages_said, write_pages as write_pages_said};
 ghost use Rattle.alp_files.specs.Undo.{puts_of};
-ghost use Rattle.alp_calls.specs.Parts.{IsAsBefore, Gives, GivesNone};
+ghost use Rattle.alp_calls.specs.Parts.{IsAsBefore, ReadsOnly, Gives, GivesNone};
 
 use crate::look::{pages_of, props_at};
 use crate::{CallFault, Part};
@@ -63,6 +63,7 @@ impl Part {
         ensures id { IfOk result (λ r. GivesNone r) }
         ensures own { IfOk result (λ r. is_passing r ≡ false) }
         ensures kind { IfOk result (λ r. IsFileReply r) }
+        ensures reads { IfOk result (λ r. ReadsOnly self.old self.new r) }
         ensures last { OnOk result (self.new.last ≤ self.old.last + 1) }
         ensures err { OnErr result (IsAsBefore self.old self.new) }
         ensures looked { Looks V.tells V.serves V.volume V.held V.may_leave V.left_since V.faults V.allowance vault.old vault.new (fault_in result) }
@@ -95,6 +96,7 @@ impl Part {
         ensures id { IfOk result (λ r. GivesNone r) }
         ensures own { IfOk result (λ r. is_passing r ≡ false) }
         ensures kind { IfOk result (λ r. IsFileReply r) }
+        ensures reads { IfOk result (λ r. ReadsOnly self.old self.new r) }
         ensures last { OnOk result (self.new.last ≤ self.old.last + 1) }
         ensures err { OnErr result (IsAsBefore self.old self.new) }
         ensures looked { Looks V.tells V.serves V.volume V.held V.may_leave V.left_since V.faults V.allowance vault.old vault.new (fault_in result) }

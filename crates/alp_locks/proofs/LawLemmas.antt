@@ -15,9 +15,9 @@ use Rattle.alp_modes.specs.Holdings.{join_held, held_by}
 use Rattle.alp_modes.proofs.HoldingLemmas.{join_held-assoc, none-right}
 use Rattle.alp_queue.specs.Rises.{Held, is_raised}
 use Rattle.alp_queue.specs.declared.waiter.Waiter.{Waiter}
-use Rattle.alp_locks.specs.Tables.{Parts, held_of, holding}
+use Rattle.alp_locks.specs.Tables.{Parts, Table, held_of, holding}
 use Rattle.alp_locks.specs.Asks.{raised, joined, risen, waiter_of, in_way_of, answer, answered, with_granted}
-use Rattle.alp_locks.specs.Laws.{gives_all, IsAllOrNone, IsAllOfWaiter}
+use Rattle.alp_locks.specs.Laws.{gives_all, IsAllOrNone, IsAllOfWaiter, IsAllOfPlan, EnteringKeepsHeld}
 use Rattle.alp_locks.proofs.PartLemmas.{tied}
 use Rattle.alp_locks.proofs.FreeLemmas.{at-risen, option-same, held-same, held-other}
 use Rattle.alp_locks.proofs.SoundLemmas.{again}
@@ -88,24 +88,24 @@ if-neither : (b : Bool) (x y : Option Mode) → y ≡ cond (b && false) x y
 if-neither true x y = refl
 if-neither false x y = refl
 
+-- a grant of what was made ready of the needs, which changes nothing where nothing rises
+granted-spread : (t : Table) (v u : TransId) (ns : List (Resource × Mode)) (r : Resource) (rises : List (Resource × Mode)) → risen (held_of t.held v) ns ≡ rises
+    → holding (with_granted t v rises (joined (held_of t.held v) ns)).held u r ≡ cond (eq_by_cmp trans_cmp u v) (join_held (holding t.held u r) (held_by ns r)) (holding t.held u r)
+granted-spread t v u ns r [] none =
+    spread t.held t.held v u ns r
+    (λ e. ap (λ (o : Option Held). map.get (unwrap_or o map.empty) r) (sym (get_tied transactions_total t.held u v (tied (trans_cmp u v) e)))
+    ∙ sym (no-rise (held_of t.held v) ns none r))
+    (λ e. refl)
+granted-spread t v u ns r (n ∷ rest) some = insert-spread t.held v u ns r
+
 pub all-or-none : IsAllOrNone
 all-or-none t q u r = go (in_way_of t.held q.trans q.needs) q.choice
   where
-    granted : (rises : List (Resource × Mode)) → risen (held_of t.held q.trans) q.needs ≡ rises
-        → holding (with_granted t q.trans rises (joined (held_of t.held q.trans) q.needs)).held u r
-        ≡ cond (eq_by_cmp trans_cmp u q.trans) (join_held (holding t.held u r) (held_by q.needs r)) (holding t.held u r)
-    granted [] none =
-        spread t.held t.held q.trans u q.needs r
-        (λ e. ap (λ (o : Option Held). map.get (unwrap_or o map.empty) r) (sym (get_tied transactions_total t.held u q.trans (tied (trans_cmp u q.trans) e)))
-        ∙ sym (no-rise (held_of t.held q.trans) q.needs none r))
-        (λ e. refl)
-    granted (n ∷ rest) some = insert-spread t.held q.trans u q.needs r
-
     go : (o : Option TransId) (choice : Choice)
         → holding (answered t (waiter_of (held_of t.held q.trans) q.trans q.needs) o choice).held u r
         ≡ cond (eq_by_cmp trans_cmp u q.trans && gives_all (answer o choice)) (join_held (holding t.held u r) (held_by q.needs r)) (holding t.held u r)
     go None choice =
-        granted (risen (held_of t.held q.trans) q.needs) refl
+        granted-spread t q.trans u q.needs r (risen (held_of t.held q.trans) q.needs) refl
         ∙ if-both (eq_by_cmp trans_cmp u q.trans) (join_held (holding t.held u r) (held_by q.needs r)) (holding t.held u r)
     go (Some v) Fail = if-neither (eq_by_cmp trans_cmp u q.trans) (join_held (holding t.held u r) (held_by q.needs r)) (holding t.held u r)
     go (Some v) Wait =
@@ -115,3 +115,11 @@ all-or-none t q u r = go (in_way_of t.held q.trans q.needs) q.choice
 pub all-of-waiter : IsAllOfWaiter
 all-of-waiter t w u r prepared =
     ap (λ (h : Held). holding (map.insert t.held w.trans h) u r) (ap (λ (x : Waiter). x.after) prepared) ∙ insert-spread t.held w.trans u w.needs r
+
+pub all-of-plan : IsAllOfPlan
+all-of-plan t w u r prepared =
+    ap (λ (x : Waiter). holding (with_granted t w.trans x.rises x.after).held u r) prepared
+    ∙ granted-spread t w.trans u w.needs r (risen (held_of t.held w.trans) w.needs) refl
+
+pub entering-keeps-held : EnteringKeepsHeld
+entering-keeps-held t u v = again t.held u v

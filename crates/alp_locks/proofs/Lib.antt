@@ -6,3 +6,4 @@ pub mod SoundLemmas
 pub mod LawLemmas
 pub mod HolderLemmas
 pub mod ReleaseLemmas
+pub mod PlanLemmas

@@ -76,7 +76,7 @@ some-left : {X : Type 0} (b : Bool) (o : Option X) → b ≡ false → is_some o
 some-left true o e k = cc
 some-left false o e k = k
 
-remove-keeps : (parts : Parts) (t q : TransId) → eq_by_cmp trans_cmp t q ≡ false → is_some (map.get parts q) ≡ true → is_some (map.get (map.remove parts t) q) ≡ true
+pub remove-keeps : (parts : Parts) (t q : TransId) → eq_by_cmp trans_cmp t q ≡ false → is_some (map.get parts q) ≡ true → is_some (map.get (map.remove parts t) q) ≡ true
 remove-keeps parts t q apart k =
     ap is_some (get-remove transactions_total parts t q) ∙ some-left (eq_by_cmp trans_cmp q t) (map.get parts q) ((eq_by_cmp_equiv transactions_total).symm q t ∙ apart) k
 
@@ -116,6 +116,19 @@ insert-held parts t k =
     go : (q : TransId) (b : Bool) → eq_by_cmp trans_cmp q t ≡ b → cond b (Some (held_of parts t)) (map.get parts q) ≡ map.get parts q
     go q true e = some-again (map.get parts t) map.empty k ∙ get_tied transactions_total parts q t (tied (trans_cmp q t) e)
     go q false e = refl
+
+cond-twice : {X : Type 0} (b : Bool) (x y o : X) → cond b x (cond b y o) ≡ cond b x o
+cond-twice true x y o = refl
+cond-twice false x y o = refl
+
+-- a part that is put twice is as it was put last
+pub insert-twice : (parts : Parts) (t : TransId) (h k : Held) → map.insert (map.insert parts t h) t k ≡ map.insert parts t k
+insert-twice parts t h k =
+    same_map transactions_total exact_transactions (map.insert (map.insert parts t h) t k) (map.insert parts t k)
+    (λ q. get-insert transactions_total (map.insert parts t h) t k q
+    ∙ ap (cond (eq_by_cmp trans_cmp q t) (Some k)) (get-insert transactions_total parts t h q)
+    ∙ cond-twice (eq_by_cmp trans_cmp q t) (Some k) (Some h) (map.get parts q)
+    ∙ sym (get-insert transactions_total parts t k q))
 
 -- a part that was new goes without a trace
 pub remove-insert : (parts : Parts) (t : TransId) (h : Held) → is_some (map.get parts t) ≡ false → map.remove (map.insert parts t h) t ≡ parts

@@ -20,7 +20,7 @@ use Rattle.alp_locks.specs.Tables.{Parts, Table, holding}
 use Rattle.alp_locks.specs.Asks.{blocker}
 use Rattle.alp_locks.specs.Releases.{is_free, with_woken, with_kept, walked, released}
 use Rattle.alp_locks.specs.Sound.{IsPrepared, AreApart}
-use Rattle.alp_locks.specs.Laws.{AreParted, ReleasesInOrder, LeavesNoneFree, IsClear}
+use Rattle.alp_locks.specs.Laws.{AreParted, ReleasesInOrder, LeavesNoneFree, ReleasesAlone, IsClear}
 use Rattle.alp_locks.proofs.FreeLemmas.{held-other, turned}
 use Rattle.alp_locks.proofs.LawLemmas.{all-of-waiter}
 use Rattle.alp_locks.proofs.HolderLemmas.{names-first, names-any}
@@ -59,6 +59,14 @@ walk-on (w ∷ ws) t = go (is_free t.held w) (walk-on ws (with_woken t w)) (walk
       others = k.others;
     }
 
+-- a part that goes leaves nothing, and the others as they were
+pub removed-holds : (parts : Parts) (u v : TransId) (r : Resource) → holding (map.remove parts u) v r ≡ cond (eq_by_cmp trans_cmp v u) None (holding parts v r)
+removed-holds parts u v r = go (eq_by_cmp trans_cmp v u) refl
+  where
+    go : (b : Bool) → eq_by_cmp trans_cmp v u ≡ b → holding (map.remove parts u) v r ≡ cond {A = Option Mode} b None (holding parts v r)
+    go true is = ap (λ (x : Held). map.get x r) (held-gone parts u v is) ∙ get-empty resource_cmp r
+    go false is = ap (λ (x : Held). map.get x r) (held-removed parts u v is)
+
 pub releases-in-order : ReleasesInOrder
 releases-in-order t u =
     let w : IsWalk (record { held = map.remove t.held u; waiting = []; woken = t.woken }) (without t.waiting u) (released t u) =
@@ -67,12 +75,14 @@ releases-in-order t u =
       granted = w.granted;
       parted = subst (λ (left : List Waiter). AreParted (without t.waiting u) w.granted left) (sym w.waiting) w.parted;
       woken = w.woken;
-      others = λ v r all. w.others v r all ∙ gone v r (eq_by_cmp trans_cmp v u) refl;
+      others = λ v r all. w.others v r all ∙ removed-holds t.held u v r;
     }
-  where
-    gone : (v : TransId) (r : Resource) (b : Bool) → eq_by_cmp trans_cmp v u ≡ b → holding (map.remove t.held u) v r ≡ cond {A = Option Mode} b None (holding t.held v r)
-    gone v r true is = ap (λ (x : Held). map.get x r) (held-gone t.held u v is) ∙ get-empty resource_cmp r
-    gone v r false is = ap (λ (x : Held). map.get x r) (held-removed t.held u v is)
+
+-- where nobody waits nobody is walked past
+pub releases-alone : ReleasesAlone
+releases-alone t u none =
+    ap (λ (ws : List Waiter). walked (record { held = map.remove t.held u; waiting = []; woken = t.woken }) (without ws u)) none
+    ∙ ap (λ (ws : List Waiter). (record { held = map.remove t.held u; waiting = ws; woken = t.woken }) : Table) (sym none)
 
 -- ---- who is in the way stays there
 

@@ -19,7 +19,7 @@ use Rattle.alp_queue.specs.Order.{placed, waits, without, is_of}
 use Rattle.alp_queue.specs.declared.waiter.Waiter.{Waiter}
 use Rattle.alp_locks.specs.declared.request.Request.{Request}
 use Rattle.alp_locks.specs.Tables.{Parts, Table, held_of, holding, IsAgreeing}
-use Rattle.alp_locks.specs.Asks.{blocker, risen, joined, waiter_of, in_way_of, with_granted, with_waiter, refused, answered, asked}
+use Rattle.alp_locks.specs.Asks.{blocker, risen, joined, waiter_of, in_way_of, with_granted, entered, with_waiter, refused, answered, asked}
 use Rattle.alp_locks.specs.Releases.{is_free, with_woken, with_kept, walked, released}
 use Rattle.alp_locks.specs.Sound.{IsPrepared, AreApart, IsSound}
 use Rattle.alp_locks.proofs.FreeLemmas.{granted-agrees, insert-agreeing, held-other, held-same, turned}
@@ -211,18 +211,24 @@ again parts u v = go (eq_by_cmp trans_cmp v u) refl
     go true a = held-same parts u (held_of parts u) v a ∙ ap (λ (o : Option Held). unwrap_or o map.empty) (get_tied transactions_total parts v u (tied (trans_cmp v u) a))
     go false a = held-other parts u (held_of parts u) v a
 
-queued-sound : (t : Table) (u : TransId) (ns : List (Resource × Mode)) → IsSound t → waits t.waiting u ≡ false → IsSound (with_waiter t (waiter_of (held_of t.held u) u ns))
-queued-sound t u ns s idle = record {
+pub entered-sound : (t : Table) (u : TransId) → IsSound t → IsSound (entered t u)
+entered-sound t u s = record {
   agreeing = λ x y apart r.
-      ap (λ (h : Held). agree_held (map.get h r) (holding (map.insert t.held u (held_of t.held u)) y r)) (again t.held u x)
+      ap (λ (h : Held). agree_held (map.get h r) (holding (entered t u).held y r)) (again t.held u x)
       ∙ ap (λ (h : Held). agree_held (holding t.held x r) (map.get h r)) (again t.held u y)
       ∙ s.agreeing x y apart r;
-  prepared = each-placed (IsPrepared (map.insert t.held u (held_of t.held u))) t.waiting (waiter_of (held_of t.held u) u ns)
-      (each-more (IsPrepared t.held) (IsPrepared (map.insert t.held u (held_of t.held u)))
-      (λ w a. prepared-as t.held (map.insert t.held u (held_of t.held u)) w (again t.held u w.trans) a) t.waiting s.prepared)
-      (ap (λ (h : Held). waiter_of h u ns) (sym (again t.held u u)));
-  apart = apart-placed t.waiting (waiter_of (held_of t.held u) u ns) s.apart (others-wait u t.waiting idle);
+  prepared = each-more (IsPrepared t.held) (IsPrepared (entered t u).held) (λ w a. prepared-as t.held (entered t u).held w (again t.held u w.trans) a) t.waiting s.prepared;
+  apart = s.apart;
 }
+
+queued-sound : (t : Table) (u : TransId) (ns : List (Resource × Mode)) → IsSound t → waits t.waiting u ≡ false → IsSound (with_waiter t (waiter_of (held_of t.held u) u ns))
+queued-sound t u ns s idle =
+    let here : IsSound (entered t u) = entered-sound t u s in
+    record {
+      agreeing = here.agreeing;
+      prepared = each-placed (IsPrepared (entered t u).held) t.waiting (waiter_of (held_of t.held u) u ns) here.prepared (ap (λ (h : Held). waiter_of h u ns) (sym (again t.held u u)));
+      apart = apart-placed t.waiting (waiter_of (held_of t.held u) u ns) s.apart (others-wait u t.waiting idle);
+    }
 
 refused-sound : (t : Table) (u : TransId) (ns : List (Resource × Mode)) (choice : Choice) → IsSound t → waits t.waiting u ≡ false → IsSound (refused t (waiter_of (held_of t.held u) u ns) choice)
 refused-sound t u ns Fail s idle = s
@@ -245,20 +251,26 @@ new-sound = record {
 
 -- ---- the same, said of what a body has in hand
 
-pub grant-sound : (t : Table) (u : TransId) (ns : List (Resource × Mode)) → waits t.waiting u ≡ false
-    → (parts : Parts) → parts ≡ t.held → (w : Waiter) → w ≡ waiter_of (held_of parts u) u ns → blocker parts u w.rises ≡ None
-    → IsSound t → IsSound (with_granted t w.trans w.rises w.after)
-grant-sound t u ns idle parts here w is free s =
-    let P : Parts → Type 0 = λ p. w ≡ waiter_of (held_of p u) u ns → blocker p u w.rises ≡ None → IsSound (with_granted t w.trans w.rises w.after) in
-    let Q : Waiter → Type 0 = λ x. blocker t.held u x.rises ≡ None → IsSound (with_granted t x.trans x.rises x.after) in
-    subst P (sym here) (λ e. subst Q (sym e) (granted-sound t u ns s idle)) is free
+-- what is made ready by what the transaction holds is prepared
+pub made-prepared : (parts : Parts) (u : TransId) (ns : List (Resource × Mode)) (w : Waiter) → w ≡ waiter_of (held_of parts u) u ns → IsPrepared parts w
+made-prepared parts u ns w is = subst (IsPrepared parts) (sym is) refl
 
-pub refuse-sound : (t : Table) (u : TransId) (ns : List (Resource × Mode)) (choice : Choice) → waits t.waiting u ≡ false
-    → (parts : Parts) → parts ≡ t.held → (w : Waiter) → w ≡ waiter_of (held_of parts u) u ns → IsSound t → IsSound (refused t w choice)
-refuse-sound t u ns choice idle parts here w is s =
-    let P : Parts → Type 0 = λ p. w ≡ waiter_of (held_of p u) u ns → IsSound (refused t w choice) in
-    let Q : Waiter → Type 0 = λ x. IsSound (refused t x choice) in
-    subst P (sym here) (λ e. subst Q (sym e) (refused-sound t u ns choice s idle)) is
+-- and it stays so where a transaction enters
+pub entered-prepared : (t : Table) (u : TransId) (w : Waiter) → IsPrepared t.held w → IsPrepared (entered t u).held w
+entered-prepared t u w h = prepared-as t.held (entered t u).held w (again t.held u w.trans) h
+
+-- who stands in its way stands in the way of the needs
+pub prepared-way : (parts : Parts) (w : Waiter) → IsPrepared parts w → blocker parts w.trans w.rises ≡ in_way_of parts w.trans w.needs
+prepared-way parts w h = ap (λ (x : Waiter). blocker parts w.trans x.rises) h
+
+pub grant-sound : (t : Table) (w : Waiter) → IsPrepared t.held w → IsSound t → blocker t.held w.trans w.rises ≡ None → waits t.waiting w.trans ≡ false
+    → IsSound (with_granted t w.trans w.rises w.after)
+grant-sound t w prepared s free idle =
+    let P : Waiter → Type 0 = λ x. blocker t.held w.trans x.rises ≡ None → IsSound (with_granted t w.trans x.rises x.after) in
+    subst P (sym prepared) (granted-sound t w.trans w.needs s idle) free
+
+pub refuse-sound : (t : Table) (w : Waiter) (choice : Choice) → IsPrepared t.held w → IsSound t → waits t.waiting w.trans ≡ false → IsSound (refused t w choice)
+refuse-sound t w choice prepared s idle = subst (λ (x : Waiter). IsSound (refused t x choice)) (sym prepared) (refused-sound t w.trans w.needs choice s idle)
 
 pub release-sound : (t : Table) (u : TransId) (parts : Parts) (ws : List Waiter) (after : Table) → parts ≡ map.remove t.held u → ws ≡ without t.waiting u
     → after ≡ walked (record { held = parts; waiting = []; woken = t.woken }) ws → IsSound t → IsSound after

@@ -79,8 +79,12 @@ abbrev pub with_granted : Table → TransId → List (Resource × Mode) → Held
 with_granted t u [] after = t
 with_granted t u (n ∷ ns) after = record t { held = map.insert t.held u after }
 
+-- the table knows the transaction, which holds what it held
+abbrev pub entered : Table → TransId → Table
+entered t u = record t { held = map.insert t.held u (held_of t.held u) }
+
 abbrev pub with_waiter : Table → Waiter → Table
-with_waiter t w = record t { held = map.insert t.held w.trans (held_of t.held w.trans); waiting = placed t.waiting w }
+with_waiter t w = record (entered t w.trans) { waiting = placed t.waiting w }
 
 abbrev pub refused : Table → Waiter → Choice → Table
 refused t w Fail = t

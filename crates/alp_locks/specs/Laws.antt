@@ -1,6 +1,7 @@
 -- what grants and releases mean for what is held and who waits
 use Rattle.std.specs.Prelude.{◌≡◌, Bool, true, false, ◌&&◌, cond, ◌⊎◌, List, [], ◌∷◌, ◌++◌, map as list_map, Some, None}
 use Rattle.std.specs.List.{AllByRecursion}
+use Rattle.std.specs.FinMap as map
 use Rattle.std.specs.declared.cmp.Ordering.TheVariants.{Less}
 use Rattle.std.specs.Ordering.{eq_by_cmp}
 use Rattle.alp_base.specs.declared.ids.TransId.{TransId}
@@ -12,8 +13,8 @@ use Rattle.alp_queue.specs.declared.waiter.Waiter.{Waiter}
 use Rattle.alp_locks.specs.declared.request.Request.{Request}
 use Rattle.alp_locks.specs.declared.request.Grant.{Grant}
 use Rattle.alp_locks.specs.declared.request.Grant.TheVariants.{Granted, Conflict, Queued}
-use Rattle.alp_locks.specs.Tables.{Parts, Table, holding}
-use Rattle.alp_locks.specs.Asks.{blocker, grant_of, asked}
+use Rattle.alp_locks.specs.Tables.{Parts, Table, held_of, holding}
+use Rattle.alp_locks.specs.Asks.{blocker, grant_of, entered, with_granted, asked}
 use Rattle.alp_queue.specs.Order.{without}
 use Rattle.alp_locks.specs.Releases.{is_free, with_woken, released}
 use Rattle.alp_locks.specs.Sound.{IsPrepared, IsSound}
@@ -33,6 +34,15 @@ IsAllOrNone = (t : Table) (q : Request) (u : TransId) (r : Resource)
 abbrev pub IsAllOfWaiter : Type 0
 IsAllOfWaiter = (t : Table) (w : Waiter) (u : TransId) (r : Resource) → IsPrepared t.held w
     → holding (with_woken t w).held u r ≡ cond (eq_by_cmp trans_cmp u w.trans) (join_held (holding t.held u r) (held_by w.needs r)) (holding t.held u r)
+
+-- the same where a plan is taken
+abbrev pub IsAllOfPlan : Type 0
+IsAllOfPlan = (t : Table) (w : Waiter) (u : TransId) (r : Resource) → IsPrepared t.held w
+    → holding (with_granted t w.trans w.rises w.after).held u r ≡ cond (eq_by_cmp trans_cmp u w.trans) (join_held (holding t.held u r) (held_by w.needs r)) (holding t.held u r)
+
+-- where a transaction enters, each holds what it held
+abbrev pub EnteringKeepsHeld : Type 0
+EnteringKeepsHeld = (t : Table) (u v : TransId) → held_of (entered t u).held v ≡ held_of t.held v
 
 -- another transaction, whose mode on a resource does not agree with that one
 abbrev pub IsInWay : Parts → TransId → Resource × Mode → TransId → Type 0
@@ -80,3 +90,7 @@ ReleasesInOrder = (t : Table) (u : TransId) → IsRelease t u (released t u)
 -- nobody is left waiting who is free
 abbrev pub LeavesNoneFree : Type 0
 LeavesNoneFree = (t : Table) (u : TransId) → IsSound t → AllByRecursion (λ w. is_free (released t u).held w ≡ false) (released t u).waiting
+
+-- where nobody waits the transaction's locks go, and nothing else
+abbrev pub ReleasesAlone : Type 0
+ReleasesAlone = (t : Table) (u : TransId) → t.waiting ≡ [] → released t u ≡ record t { held = map.remove t.held u }

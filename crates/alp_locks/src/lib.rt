@@ -8,6 +8,7 @@
 mod asking;
 mod laws;
 mod parts;
+mod plan;
 mod request;
 mod table;
 mod walk;
@@ -15,6 +16,7 @@ mod walk;
 pub use laws::{
     grants_are_of_all_or_none, holders_are_first_and_least, releases_grant_what_is_free,
 };
+pub use plan::Plan;
 pub use request::{Grant, Request};
 pub use table::LockTable;
 

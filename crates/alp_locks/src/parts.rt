@@ -1,11 +1,12 @@
 //! What each transaction holds.
-ghost use Rattle.std.specs.Prelude.{◌≡◌, OnOk, OnErr, is_some, true, false, not, ◌&&◌};
+ghost use Rattle.std.specs.Prelude.{◌≡◌, IfOk, OnOk, OnErr, is_some, true, false, not, ◌&&◌};
 ghost use Rattle.std.specs.Option.{option_copied, option_map};
 ghost use Rattle.std.specs.List.{find};
 ghost use Rattle.std.specs.FinMap as map;
 ghost use Rattle.std.specs.BTreeMap.{IsOrdered};
 ghost use Rattle.alp_modes.specs.Orders.{trans_cmp};
 ghost use Rattle.alp_modes.specs.Holdings.{agree_held};
+ghost use Rattle.alp_locks.specs.Tables.{held_of};
 ghost use Rattle.alp_locks.specs.Asks.{disagrees as disagreeing, holder_on as holder_said};
 
 use alp_base::{OutOfMemory, Resource, TransId};
@@ -56,7 +57,21 @@ impl Parts {
         Ok(())
     }
 
-    /// The same for a transaction that is here already, which takes no memory.
+    /// The transaction is here from now on, and holds what it held. The answer says whether it was
+    /// not here before.
+    pub fn enter(&mut self, alloc: Global, trans: TransId) -> Result<bool, OutOfMemory>
+        ensures ok { OnOk result (self.new ≡ map.insert self.old trans (held_of self.old trans)) }
+        ensures fresh { IfOk result (λ fresh. fresh ≡ not (is_some (map.get self.old trans))) }
+        ensures err { OnErr result (self.new ≡ self.old) }
+    {
+        if self.get(&trans).is_some() {
+            return Ok(false);
+        }
+        self.put(trans, Locks::new(alloc))?;
+        Ok(true)
+    }
+
+    /// The same as `put` for a transaction that is here already, which takes no memory.
     pub fn replace(&mut self, trans: TransId, locks: Locks)
         requires { is_some (map.get self.old trans) ≡ true }
         ensures { self.new ≡ map.insert self.old trans locks }

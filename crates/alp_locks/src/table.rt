@@ -1,19 +1,19 @@
 //! The table.
-ghost use Rattle.std.specs.Prelude.{◌≡◌, ◌+◌, ◌≤◌, List, [], length, true, false, not, drop, slice_get, IfOk, OnOk, OnErr};
+ghost use Rattle.std.specs.Prelude.{◌≡◌, ◌+◌, ◌≤◌, List, [], length, true, false, not, is_some, None, drop, slice_get, IfOk, OnOk, OnErr};
 ghost use Rattle.std.specs.FinMap as map;
 ghost use Rattle.alp_queue.specs.Order.{waits, placed};
 ghost use Rattle.alp_locks.specs.Tables.{held_of, holding};
-ghost use Rattle.alp_locks.specs.Asks.{risen, grant_of, asked, with_granted, with_waiter, refusal, refused};
+ghost use Rattle.alp_locks.specs.Asks.{risen, blocker as blocking, waiter_of, entered, grant_of, asked, with_granted, with_waiter, refusal, refused};
 ghost use Rattle.alp_locks.specs.Releases.{released};
-ghost use Rattle.alp_locks.specs.Sound.{IsSound};
+ghost use Rattle.alp_locks.specs.Sound.{IsPrepared, IsSound};
 
 use crate::asking::{blocker, copy_of, rises_of, waiter_for, with_needs};
 use crate::parts::Parts;
 use crate::walk::walk;
-use crate::{Grant, Request};
+use crate::{Grant, Plan, Request};
 use alp_base::{Choice, OutOfMemory, Resource, TransId};
 use alp_modes::Mode;
-use alp_queue::{Locks, Needs, Queue, Waiter};
+use alp_queue::{Needs, Queue, Waiter};
 use std::alloc::Global;
 use std::marker::Model;
 
@@ -81,12 +81,60 @@ impl LockTable {
         rises_of(self.alloc, &self.parts, &trans, &after)
     }
 
-    /// Asks for all the needs of a transaction that does not wait.
+    /// The table knows the transaction from now on, as the first grant to it by `take` wants. What
+    /// each transaction holds stays as it is (`grants_are_of_all_or_none`).
+    pub fn enter(&mut self, trans: TransId) -> Result<(), OutOfMemory>
+        ensures after { OnOk result (self.new ≡ entered self.old trans) }
+        ensures sound { IsSound self.old → IsSound self.new }
+        ensures err { OnErr result (self.new ≡ self.old) }
+    {
+        self.parts.enter(self.alloc, trans)?;
+        Ok(())
+    }
+
+    /// Makes the needs of a transaction ready to be granted: all of a grant that takes memory.
     ///
-    /// Modes that are asked on one resource are joined, and what would not rise is dropped. Only
-    /// what others hold stands in the way, and not what they wait for. Each resource is judged by
-    /// itself: whoever asks for a leaf of a file asks for the intention on the file too, and then
-    /// modes agree on each leaf (`agreeing_locks_agree_on_leaves` of alp_modes).
+    /// Modes that are asked on one resource are joined, and what would not rise is dropped. The
+    /// plan stays good as long as what the transaction holds does not change.
+    pub fn plan(&self, trans: TransId, needs: Needs) -> Result<Plan, OutOfMemory>
+        ensures { IfOk result (λ p. p ≡ waiter_of (held_of self.now.held trans) trans needs) }
+    {
+        let waiter = waiter_for(self.alloc, &self.parts, trans, needs)?;
+        Ok(Plan { waiter })
+    }
+
+    /// Who stands in the way of a plan: the least holder on the first resource where there is one.
+    /// Takes no memory.
+    ///
+    /// Only what others hold stands in the way, and not what they wait for.
+    pub fn in_way_of(&self, plan: &Plan) -> Option<TransId>
+        ensures { result ≡ blocking self.now.held plan.now.trans plan.now.rises }
+    {
+        let waiter = &plan.waiter;
+        blocker(&self.parts, &waiter.trans, waiter.rises.as_slice())
+    }
+
+    /// Grants a plan to a transaction that the table knows. Takes no memory.
+    pub fn take(&mut self, plan: Plan)
+        requires known { is_some (map.get self.old.held plan.trans) ≡ true }
+        requires prepared { IsPrepared self.old.held plan }
+        ensures after { self.new ≡ with_granted self.old plan.trans plan.rises plan.after }
+
+        // Where nobody stands in the way, locks that agreed still do.
+        ensures sound { IsSound self.old → blocking self.old.held plan.trans plan.rises ≡ None → waits self.old.waiting plan.trans ≡ false → IsSound self.new }
+    {
+        let Plan { waiter } = plan;
+        if !waiter.rises.as_slice().is_empty() {
+            self.parts.replace(waiter.trans, waiter.after);
+        }
+    }
+
+    /// Asks for all the needs of a transaction that does not wait: a plan of them is taken where
+    /// nobody stands in its way.
+    ///
+    /// Each resource is judged by itself: whoever asks for a leaf of a file asks for the intention
+    /// on the file too, and then modes agree on each leaf (`agreeing_locks_agree_on_leaves` of
+    /// alp_modes).
     pub fn ask(&mut self, request: Request) -> Result<Grant, OutOfMemory>
         requires { waits self.old.waiting request.trans ≡ false }
         ensures answer { IfOk result (λ g. g ≡ grant_of self.old request) }
@@ -101,21 +149,23 @@ impl LockTable {
             needs,
             choice,
         } = request;
-        let waiter = waiter_for(self.alloc, &self.parts, trans, needs)?;
-        match blocker(&self.parts, &trans, waiter.rises.as_slice()) {
-            None => self.grant(waiter),
-            Some(holder) => self.refuse(waiter, holder, choice),
+        let plan = self.plan(trans, needs)?;
+        match self.in_way_of(&plan) {
+            None => self.grant(plan),
+            Some(holder) => self.refuse(plan.waiter, holder, choice),
         }
     }
 
     // The transaction has what it asked for.
-    fn grant(&mut self, waiter: Waiter) -> Result<Grant, OutOfMemory>
+    fn grant(&mut self, plan: Plan) -> Result<Grant, OutOfMemory>
+        requires { IsPrepared self.old.held plan }
         ensures answer { IfOk result (λ g. g ≡ Grant.Granted) }
-        ensures after { OnOk result (self.new ≡ with_granted self.old waiter.trans waiter.rises waiter.after) }
+        ensures after { OnOk result (self.new ≡ with_granted self.old plan.trans plan.rises plan.after) }
         ensures err { OnErr result (self.new ≡ self.old) }
     {
-        if !waiter.rises.as_slice().is_empty() {
-            self.parts.put(waiter.trans, waiter.after)?;
+        if !plan.waiter.rises.as_slice().is_empty() {
+            self.enter(plan.waiter.trans)?;
+            self.take(plan);
         }
         Ok(Grant::Granted)
     }
@@ -186,10 +236,9 @@ fn line_up(
     ensures err { OnErr result ((parts.new ≡ parts.old) × (queue.new ≡ queue.old)) }
 {
     let trans = waiter.trans;
-    if parts.get(&trans).is_some() {
+    if !parts.enter(alloc, trans)? {
         return queue.enter(waiter);
     }
-    parts.put(trans, Locks::new(alloc))?;
     match queue.enter(waiter) {
         Ok(()) => Ok(()),
         Err(refused) => {

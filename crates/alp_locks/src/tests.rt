@@ -131,11 +131,54 @@ fn a_thousand_resources_in_one_request(rt: HostRuntime) -> Result<(), Fail> {
     Ok(())
 }
 
+// Plans the needs for a transaction that has entered, and takes the plan where nobody stands in
+// its way.
+fn plan_and_take(
+    alloc: Global,
+    table: &mut LockTable,
+    by: u32,
+    list: &[(Resource, Mode)],
+) -> Result<Option<TransId>, OutOfMemory> {
+    let trans = trans(by);
+    let _keys: Option<Key> = None;
+    let mut needs = Vec::new(alloc);
+    for need in list {
+        needs.push(*need)?;
+    }
+    table.enter(trans)?;
+    let plan = table.plan(trans, Needs::new(needs))?;
+    let holder = table.in_way_of(&plan);
+    if holder.is_none() {
+        table.take(plan);
+    }
+    Ok(holder)
+}
+
+#[test]
+fn a_plan_is_taken_where_nobody_is_in_its_way(rt: HostRuntime) -> Result<(), Fail> {
+    let alloc = rt.alloc();
+    let mut table = LockTable::new(alloc);
+    let file = Resource::Whole(FILE);
+    let read = [(file, Mode::Read)];
+    let write = [(file, Mode::Write)];
+    assert!(rt; plan_and_take(alloc, &mut table, 1, &read) == Ok(None));
+    assert!(rt; plan_and_take(alloc, &mut table, 2, &read) == Ok(None));
+    assert!(rt; plan_and_take(alloc, &mut table, 2, &write) == Ok(Some(trans(1))));
+    assert!(rt; table.mode_of(trans(2), &file) == Some(Mode::Read));
+    table.release_all(trans(1));
+    assert!(rt; plan_and_take(alloc, &mut table, 2, &write) == Ok(None));
+    assert!(rt; table.mode_of(trans(2), &file) == Some(Mode::Write));
+    assert!(rt; plan_and_take(alloc, &mut table, 1, &read) == Ok(Some(trans(2))));
+    assert!(rt; table.mode_of(trans(1), &file) == None);
+    Ok(())
+}
+
 fn crosses<T: Send + Sync>() {}
 
 #[test]
 fn tables_cross_threads(_rt: HostRuntime) {
     crosses::<LockTable>();
+    crosses::<Plan>();
     crosses::<Request>();
     crosses::<Grant>();
     crosses::<Needs>();

@@ -426,31 +426,31 @@ module _ (server epoch : ℕ) (session : Option Session) (held : Cells) (count :
   abbrev pub with_part : Live
   with_part = record l { part = p }
 
-  call_done : IsLife server epoch session held count life l → AnswersCall held l.part p l.who (record { server = server; epoch = epoch; counter = count + 1 }) c r → Performs held l.part p a r
+  call_done : IsLife server epoch session held count life l → AnswersCall held l.part p l.who (record { server = server; epoch = epoch; counter = count + 1 }) c r → Performs l.part p a r
   call_done h right =
       let v : View = seen held l.part in
-      let first : Performs held l.part p (answer server [] v l.who (own_of l.part) c r) r = right [] refl in
+      let first : Performs l.part p (answer server [] v l.who (own_of l.part) c r) r = right [] refl in
       let same : answer server [] v l.who (own_of l.part) c r ≡ a =
       ap (λ (x : View). answer server [] x l.who (own_of l.part) c r) h.view
       ∙ ap (λ (x : List ℕ). answer server [] (map.get (edits_map life.edits held)) x (own_of l.part) c r) (sym h.who)
       ∙ ap (λ (x : Own). answer server [] (map.get (edits_map life.edits held)) life.who x c r) h.own in
-      subst (λ (x : Answer). Performs held l.part p x r) same first
+      subst (λ (x : Answer). Performs l.part p x r) same first
 
   life_kept : IsLife server epoch session held count life l → IsServed c → GivesOnly (record { server = server; epoch = epoch; counter = count + 1 }) r
       → AnswersCall held l.part p l.who (record { server = server; epoch = epoch; counter = count + 1 }) c r
       → IsLife server epoch session held (count_after count r) longer_life with_part
   life_kept h built only right =
       let v : View = seen held l.part in
-      let first : Performs held l.part p (answer server [] v l.who (own_of l.part) c r) r = right [] refl in
-      let done : Performs held l.part p a r = call_done h right in
+      let first : Performs l.part p (answer server [] v l.who (own_of l.part) c r) r = right [] refl in
+      let done : Performs l.part p a r = call_done h right in
       record {
         client = h.client;
         who = h.who;
         active = h.active;
-        view = done.view ∙ ap (after a.edits) h.view ∙ sym (get-edits_map a.edits (edits_map life.edits held)) ∙ ap (λ (x : Cells). map.get x) (sym (edits_map-append life.edits a.edits held));
+        view = done.view (map.get held) ∙ ap (after a.edits) h.view ∙ sym (get-edits_map a.edits (edits_map life.edits held)) ∙ ap (λ (x : Cells). map.get x) (sym (edits_map-append life.edits a.edits held));
         own = done.own;
         unborn =
-            subst (λ (x : View). IsUnborn server epoch x (count_after count r)) (sym first.view)
+            subst (λ (x : View). IsUnborn server epoch x (count_after count r)) (sym (first.view (map.get held)))
             (unborn_kept server epoch count [] v l.who (own_of l.part) c r (served_built c built) h.unborn only);
         sound =
             subst AreSound (sym (edits_map-append life.edits a.edits held))
@@ -570,7 +570,7 @@ module _ (n : Node) (life : Life) (made : List FileId) (ds : List (Stamp × Deci
 
   -- the call is performed as the laws say
   call_right : client ≡ life.client → n.session ≡ Some s → s.client ≡ client → number ≡ s.last + 1 → n.live ≡ Some l → l.trans ≡ t → file_trans c ≡ Some t
-      → IsServed c → IsFormed c → is_passing r ≡ false → life.vote ≡ None → Performs (files_of n) l.part p (a n.server n.epoch n.session (files_of n) n.file_count life l p c r) r
+      → IsServed c → IsFormed c → is_passing r ≡ false → life.vote ≡ None → Performs l.part p (a n.server n.epoch n.session (files_of n) n.file_count life l p c r) r
       → ((f : FileId) → id_in r ≡ Some f → has_file f made ≡ false)
       → PerformsRight (acted (kept_state n life made ds) call_entry) call_entry.event (performs (acted (kept_state n life made ds) call_entry) call_entry.event (Some r))
   call_right owner is own turn runs this of built formed plain active done fresh =
