@@ -30,20 +30,10 @@ use Rattle.alp_journal.specs.declared.event.Event.{Event}
 use Rattle.alp_journal.specs.declared.event.Event.TheVariants as event
 use Rattle.alp_journal.specs.declared.entry.Entry.{Entry}
 use Rattle.alp_journal.specs.State.{State, Session, Waiting, Life, Along, Kind, Plain, Begins, kind_of, next, acted, brought, is_stop, state_after, after_act, after_event, in_order, same_trans, stamp_cmp, is_new, is_of, is_not_yet, is_of_no_file, answered, done_by, done_of, performs, file_trans, with_session, with_waiting, with_life, with_done, with_pending, after_done, answer_in, view_in, performed, new_life, no_locks, greets, begins, begun_in, decides, grants, grants_call, asks_for, waiting_call, call_now, held_for, is_granted_now}
+use Rattle.alp_journal.specs.Steps.{IsQuiet, Leads}
 use Rattle.alp_journal.specs.Told.{IsAmong, told_by}
 use Rattle.alp_journal.specs.Laws.{next_trans, DrawsNext, Decides, DoLivesAgree, MayBeGranted, KeepsLocks, released_by, ended_by, ends_if, ended_at, times_out, ended_in, ReleasesEnded, WaitsInTurn, IsPerformed, PerformsRight, AreDecided, IsLawfulEntry, AreEarlier}
 use Rattle.alp_journal.proofs.StateLemmas.{same_trans-itself, same_trans-true, cond_twice, cond_itself, called-next, called-begin, performs-next, done_by-plain, file_reply-now, put-last}
-
--- the locks of live parts agree, and nobody waits
-pub record IsQuiet (s : State) : Type 0 where
-  pub agree : DoLivesAgree s.lives
-  pub idle : (client : ℕ) → s.waiting client ≡ None
-
--- an entry is lawful and leads to that state, in which again nobody waits
-pub record Leads (s : State) (e : Entry) (m : State) : Type 0 where
-  pub leaves : next s e ≡ m
-  pub lawful : IsLawfulEntry s e
-  pub quiet : IsQuiet m
 
 -- ---- what holds of all kinds of entries
 

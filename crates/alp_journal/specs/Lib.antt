@@ -2,3 +2,4 @@ pub mod State
 pub mod Serial
 pub mod Told
 pub mod Laws
+pub mod Steps

@@ -2,7 +2,7 @@
 ghost use Rattle.std.specs.Prelude.{◌≡◌, List, [], ◌∷◌, ◌++◌, OnOk, OnErr};
 ghost use Rattle.alp_journal.specs.declared.entry.Entry.{Entry as AnEntry};
 
-use crate::Entry;
+use crate::{Acts, Entry, Event};
 use alp_base::OutOfMemory;
 use std::alloc::Global;
 use std::marker::Model;
@@ -38,6 +38,27 @@ impl Journal {
     {
         self.entries.push(entry)?;
         Ok(())
+    }
+
+    /// Makes a place for the next entry, which `fill_place` fills. What stands there till then says nothing.
+    pub fn make_place(&mut self, alloc: Global) -> Result<(), OutOfMemory>
+        ensures ok { OnOk result ((blank : AnEntry) × (self.new ≡ self.old ++ blank ∷ [])) }
+        ensures err { OnErr result (self.new ≡ self.old) }
+    {
+        self.push(Entry {
+            event: Event::Tick,
+            reply: None,
+            acts: Acts::new(Vec::new(alloc)),
+        })
+    }
+
+    /// This entry stands at the last place from now on. Takes no memory.
+    pub fn fill_place(&mut self, entry: Entry)
+        ensures { (before : List AnEntry) (last : AnEntry) → self.old ≡ before ++ last ∷ [] → self.new ≡ before ++ entry ∷ [] }
+    {
+        if self.entries.pop().is_some() {
+            self.entries.push_reserved(entry);
+        }
     }
 
     /// The last entry goes.
