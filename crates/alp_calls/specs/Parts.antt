@@ -1,5 +1,5 @@
 -- A part as the server keeps it: what it sees, and what a call that it performs does to it.
-use Rattle.std.specs.Prelude.{◌≡◌, ℕ, List, Option, None, Some, false, ◌||◌, if◌then◌else◌}
+use Rattle.std.specs.Prelude.{◌≡◌, ℕ, Bool, List, Option, None, Some, true, false, ◌||◌, if◌then◌else◌}
 use Rattle.std.specs.FinMap as map
 use Rattle.alp_base.specs.declared.ids.FileId.{FileId}
 use Rattle.alp_base.specs.declared.choices.Access.{Access}
@@ -53,9 +53,16 @@ GivesOnly id r = (f : FileId) (n : ℕ) → r ≡ reply.Created f n → f ≡ id
 abbrev pub GivesNone : Reply → Type 0
 GivesNone r = (f : FileId) (n : ℕ) → r ≡ reply.Created f n → ⊥
 
--- a reply of pages left the part as it was
+-- a reply that tells contents of files or owners
+abbrev pub has_contents : Reply → Bool
+has_contents (reply.Pages pages) = true
+has_contents (reply.Props p) = true
+has_contents (reply.Owner o) = true
+has_contents _ = false
+
+-- such a reply left the part as it was
 abbrev pub ReadsOnly : Part → Part → Reply → Type 0
-ReadsOnly old new r = (pages : List (List ℕ)) → r ≡ reply.Pages pages → IsAsBefore old new
+ReadsOnly old new r = has_contents r ≡ true → IsAsBefore old new
 
 -- the list that does not admit who opens a file so, if one does not
 abbrev pub denied_by : Access → List ℕ → Props → Option ListName
