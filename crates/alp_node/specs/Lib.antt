@@ -1,1 +1,5 @@
 pub mod Sessions
+pub mod Kept
+pub mod Asks
+pub mod Calls
+pub mod Steps

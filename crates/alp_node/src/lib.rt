@@ -2,9 +2,13 @@
 #![tactic(auto)]
 
 mod answer;
+mod begin;
 mod kept;
 mod lives;
+mod opened;
 mod sessions;
+mod stored;
 
+pub use kept::Kept;
 pub use lives::{Live, Lives};
 pub use sessions::{Session, Sessions};

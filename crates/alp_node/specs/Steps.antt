@@ -1,0 +1,29 @@
+-- One step of a server.
+use Rattle.std.specs.Prelude.{◌≡◌, ℕ, ◌+◌, Some, Option}
+use Rattle.alp_journal.specs.declared.event.Event.{Event}
+use Rattle.alp_journal.specs.declared.entry.Entry.{Entry}
+use Rattle.alp_journal.specs.State.{State, Start}
+use Rattle.alp_journal.specs.Steps.{Leads}
+use Rattle.alp_vault.specs.Contents.{Contents}
+use Rattle.alp_node.specs.declared.answer.Answer.{Answer}
+use Rattle.alp_node.specs.declared.kept.Kept.{Kept}
+use Rattle.alp_node.specs.declared.sessions.Session.{Session}
+use Rattle.alp_node.specs.declared.sessions.Sessions.{Sessions}
+use Rattle.alp_node.specs.Sessions.{session_at}
+use Rattle.alp_node.specs.Kept.{IsAs}
+
+-- the entry of an event with its answer
+abbrev pub entry_of : Event → Answer → Entry
+entry_of e a = record { event = e; reply = a.kept; acts = a.acts }
+
+-- The entry of the answered event is lawful, the server keeps what its state says then, and what is handed out is what
+-- the entry keeps.
+pub record Stepped {V : Type 0} (o : Start) (s : State) (held : Contents) (new : Kept V) (e : Event) (a : Answer) : Type 0 where
+  pub next : State
+  pub leads : Leads s (entry_of e a) next
+  pub kept : IsAs o next held new
+  pub handed : a.handed ≡ a.kept
+
+-- it is the number of the session's next call
+abbrev pub IsTurn : Sessions → ℕ → ℕ → Type 0
+IsTurn sessions client number = (w : Session) × (session_at sessions client ≡ Some w) × (number ≡ w.last + 1)
