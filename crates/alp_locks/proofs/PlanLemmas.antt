@@ -1,5 +1,6 @@
 -- what a caller knows who enters a transaction, takes its plans and releases it
-use Rattle.std.proofs.Common.{◌≡◌, true, false, cond, List, [], ◌∷◌, None, is_some, refl, ap, ◌∙◌}
+use Rattle.std.proofs.Common.{◌≡◌, true, false, cond, List, [], ◌∷◌, None, is_some, refl, sym, ap, ◌∙◌}
+use Rattle.std.specs.Prelude.{nat_eq, length}
 use Rattle.std.specs.Ordering.{eq_by_cmp}
 use Rattle.std.specs.FinMap as map
 use Rattle.alp_base.specs.declared.ids.TransId.{TransId}
@@ -17,6 +18,12 @@ use Rattle.alp_locks.proofs.ReleaseLemmas.{releases-alone, removed-holds}
 pub entered-known : (t : Table) (u : TransId) → is_some (map.get t.held u) ≡ true → entered t u ≡ t
 entered-known t u k = λ i. record t { held = insert-held t.held u k i }
 
+-- where something rises it is all of what stands ready
+pub granted-some : (t : Table) (u : TransId) (rises : List (Resource × Mode)) (after : Held) → nat_eq (length rises) 0 ≡ false
+    → with_granted t u rises after ≡ record t { held = map.insert t.held u after }
+granted-some t u [] after e = let wrong : true ≡ false = e in cc
+granted-some t u (n ∷ ns) after e = refl
+
 -- a grant leaves who waits and who was woken
 pub granted-waiting : (t : Table) (u : TransId) (rises : List (Resource × Mode)) (after : Held) → (with_granted t u rises after).waiting ≡ t.waiting
 granted-waiting t u [] after = refl
@@ -33,9 +40,10 @@ granted-knows t u [] after q k = k
 granted-knows t u (n ∷ ns) after q k = insert-keeps t.held u after q k
 
 -- to enter and then to be granted is to be granted, where something rises
-pub entered-granted : (t : Table) (u : TransId) (n : Resource × Mode) (ns : List (Resource × Mode)) (after : Held)
-    → with_granted (entered t u) u (n ∷ ns) after ≡ with_granted t u (n ∷ ns) after
-entered-granted t u n ns after = λ i. record t { held = insert-twice t.held u (held_of t.held u) after i }
+pub entered-granted : (t : Table) (u : TransId) (rises : List (Resource × Mode)) (after : Held) → nat_eq (length rises) 0 ≡ false
+    → with_granted (entered t u) u rises after ≡ with_granted t u rises after
+entered-granted t u rises after e =
+    granted-some (entered t u) u rises after e ∙ (λ i. record t { held = insert-twice t.held u (held_of t.held u) after i }) ∙ sym (granted-some t u rises after e)
 
 -- ---- a release where nobody waits
 

@@ -81,8 +81,8 @@ releases-in-order t u =
 -- where nobody waits nobody is walked past
 pub releases-alone : ReleasesAlone
 releases-alone t u none =
-    ap (λ (ws : List Waiter). walked (record { held = map.remove t.held u; waiting = []; woken = t.woken }) (without ws u)) none
-    ∙ ap (λ (ws : List Waiter). (record { held = map.remove t.held u; waiting = ws; woken = t.woken }) : Table) (sym none)
+    let gone : List Waiter → Table = λ ws. record { held = map.remove t.held u; waiting = ws; woken = t.woken } in
+    ap (λ (ws : List Waiter). walked (gone []) (without ws u)) none ∙ ap gone (sym none)
 
 -- ---- who is in the way stays there
 

@@ -124,9 +124,10 @@ impl LockTable {
         ensures sound { IsSound self.old → blocking self.old.held plan.trans plan.rises ≡ None → waits self.old.waiting plan.trans ≡ false → IsSound self.new }
     {
         let Plan { waiter } = plan;
-        if !waiter.rises.as_slice().is_empty() {
-            self.parts.replace(waiter.trans, waiter.after);
+        if waiter.rises.as_slice().is_empty() {
+            return;
         }
+        self.parts.replace(waiter.trans, waiter.after);
     }
 
     /// Asks for all the needs of a transaction that does not wait: a plan of them is taken where
@@ -163,10 +164,11 @@ impl LockTable {
         ensures after { OnOk result (self.new ≡ with_granted self.old plan.trans plan.rises plan.after) }
         ensures err { OnErr result (self.new ≡ self.old) }
     {
-        if !plan.waiter.rises.as_slice().is_empty() {
-            self.enter(plan.waiter.trans)?;
-            self.take(plan);
+        if plan.waiter.rises.as_slice().is_empty() {
+            return Ok(Grant::Granted);
         }
+        self.enter(plan.waiter.trans)?;
+        self.take(plan);
         Ok(Grant::Granted)
     }
 
