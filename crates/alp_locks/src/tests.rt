@@ -25,6 +25,15 @@ fn trans(counter: u32) -> TransId {
     }
 }
 
+fn needs_of(alloc: Global, list: &[(Resource, Mode)]) -> Result<Needs, OutOfMemory> {
+    let _keys: Option<Key> = None;
+    let mut needs = Vec::new(alloc);
+    for need in list {
+        needs.push(*need)?;
+    }
+    Ok(Needs::new(needs))
+}
+
 // The answer to a list of needs, or none where the transaction waits.
 fn ask(
     alloc: Global,
@@ -37,14 +46,10 @@ fn ask(
     if !table.is_granted(trans) {
         return Ok(None);
     }
-    let _keys: Option<Key> = None;
-    let mut needs = Vec::new(alloc);
-    for need in list {
-        needs.push(*need)?;
-    }
+    let needs = needs_of(alloc, list)?;
     let grant = table.ask(Request {
         trans,
-        needs: Needs::new(needs),
+        needs,
         choice,
     })?;
     Ok(Some(grant))
@@ -140,13 +145,9 @@ fn plan_and_take(
     list: &[(Resource, Mode)],
 ) -> Result<Option<TransId>, OutOfMemory> {
     let trans = trans(by);
-    let _keys: Option<Key> = None;
-    let mut needs = Vec::new(alloc);
-    for need in list {
-        needs.push(*need)?;
-    }
+    let needs = needs_of(alloc, list)?;
     table.enter(trans)?;
-    let plan = table.plan(trans, Needs::new(needs))?;
+    let plan = table.plan(trans, needs)?;
     let holder = table.in_way_of(&plan);
     if holder.is_none() {
         table.take(plan);
