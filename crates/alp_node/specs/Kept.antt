@@ -89,8 +89,10 @@ pub record IsAs {V : Type 0} (o : Start) (s : State) (held : Contents) (k : Kept
   pub clock : s.clock ≡ k.clock
   pub cells : k.is_down ≡ false → held.cells ≡ s.cells
   pub notes : k.is_down ≡ false → held.notes ≡ notes_at o s
+  pub places : length k.sessions.places ≡ 17
   pub sessions : (client : ℕ) → s.sessions client ≡ option_map told_session (session_at k.sessions client)
   pub lives : (t : TransId) → IsAlike k.locks.held t (map.get k.lives t) (s.lives t)
+  pub begun : (t : TransId) (l : Life) → s.lives t ≡ Some l → t.counter ≤ k.drawn
   pub drawn : s.drawn ≡ k.drawn
   pub made : s.made ≡ ids_to s.server s.epoch k.given
   pub born : IsUnborn s.server s.epoch (map.get s.cells) k.given
@@ -106,6 +108,7 @@ pub record IsReady {V : Type 0} (steps : ℕ) (serves : Bool) (k : Kept V) : Typ
   pub alone : k.locks.waiting ≡ []
   pub known : (t : TransId) (l : Live) → map.get k.lives t ≡ Some l → is_some (map.get k.locks.held t) ≡ true
   pub opens : (t : TransId) (l : Live) → map.get k.lives t ≡ Some l → l.part.last ≤ steps
+  pub places : length k.sessions.places ≡ 17
   pub calls : (client : ℕ) (w : Session) → session_at k.sessions client ≡ Some w → w.last ≤ steps
   pub drawn : k.drawn ≤ steps
   pub given : k.given ≤ steps

@@ -66,10 +66,10 @@ impl Lives {
         ensures after { self.new ≡ map.insert self.old trans live }
         ensures before { map.get self.old trans ≡ Some result }
     {
-        match self.lives.insert(trans, live) {
-            Ok(Some(old)) => old,
-            _ => unreachable!(),
-        }
+        let Ok(Some(old)) = self.lives.insert(trans, live) else {
+            unreachable!()
+        };
+        old
     }
 
     pub fn remove(&mut self, trans: &TransId)
