@@ -7,7 +7,7 @@ use Rattle.std.proofs.Common.{◌≡◌, ℕ, ◌+◌, ◌<◌, ◌≤◌, List,
 use Rattle.alp_base.specs.declared.ids.TransId.{TransId}
 use Rattle.alp_base.specs.declared.ids.Stamp.{Stamp}
 use Rattle.alp_base.specs.declared.key.Resource.{Resource}
-use Rattle.alp_modes.specs.Orders.{trans_cmp}
+use Rattle.alp_modes.specs.declared.Mode.{Mode}
 use Rattle.alp_files.specs.declared.call.Call.{Call}
 use Rattle.alp_files.specs.declared.call.Call.TheVariants as call
 use Rattle.alp_files.specs.declared.reply.Reply.{Reply}
@@ -16,7 +16,9 @@ use Rattle.alp_files.specs.declared.refusal.Refusal.{Refusal}
 use Rattle.alp_files.specs.declared.refusal.Refusal.TheVariants as refusal
 use Rattle.alp_files.specs.declared.refusal.Cause.{Cause}
 use Rattle.alp_files.specs.Act.{no_opens}
-use Rattle.alp_files.specs.Edits.{ChangesBy}
+use Rattle.alp_files.specs.Cells.{Cells}
+use Rattle.alp_files.specs.Edits.{over}
+use Rattle.alp_files.specs.History.{Decided}
 use Rattle.alp_calls.specs.Parts.{own_of}
 use Rattle.alp_calls.specs.declared.part.Part.{Part}
 use Rattle.alp_locks.specs.Tables.{Parts, Table, held_of, holding}
@@ -32,7 +34,7 @@ use Rattle.alp_journal.specs.declared.entry.Entry.{Entry}
 use Rattle.alp_journal.specs.State.{State, Start, Life, same_trans, no_locks, new_life, with_life}
 use Rattle.alp_journal.specs.State as state
 use Rattle.alp_journal.specs.Steps.{Leads}
-use Rattle.alp_journal.specs.Laws.{next_trans, AreEarlier}
+use Rattle.alp_journal.specs.Laws.{next_trans, ended_at, AreEarlier}
 use Rattle.alp_journal.proofs.StateLemmas.{same_trans-itself, same_trans-true}
 use Rattle.alp_journal.proofs.EntryLemmas.{greeting_leads, begin_leads, with_begun, counts_on, passing_leads, abort_leads, without_life}
 use Rattle.alp_node.specs.Sessions.{session_at, with_session}
@@ -88,6 +90,11 @@ alike_set locks new t o x lives kept all same this u = go (same_trans u t) refl
     go : (b : Bool) → same_trans u t ≡ b → IsAlike new u (cond {A = Option Live} b o (lives u)) (cond {A = Option Life} b x (kept u))
     go true e = subst (λ (v : TransId). IsAlike new v o x) (sym (same_trans-true u t e)) this
     go false e = alike_under locks new u (lives u) (kept u) (λ r. same u r e) (all u)
+
+-- times that go no further go no further than a later one
+earlier_more : (m n : ℕ) (ds : List (Stamp × Decided)) → m ≤ n → AreEarlier m ds → AreEarlier n ds
+earlier_more m n [] le h = tt
+earlier_more m n (d ∷ ds) le h = ((let low : d.0.ts ≤ m = h.0 in omega arith), earlier_more m n ds le h.1)
 
 -- ---- what holds of sessions
 
@@ -151,3 +158,150 @@ module _ {V : Type 0} (o : Start) (s : State) (held : Contents) (k : Kept V) (cl
         };
         handed = ap (λ (x : Answer). x.handed) is ∙ sym (ap (λ (x : Answer). x.kept) is);
       }
+
+  -- ---- a new call of a session
+
+  -- the server where the session counts on
+  abbrev pub counted : Session → ℕ → Kept V
+  counted w number = record k { sessions = with_session k.sessions client (record w { last = number }) }
+
+  -- a state in which only the session counts on is that of a server in which it does
+  counts_as : (w : Session) (number : ℕ) → IsAs o s held k → client ≤ 16 → IsAs o (counts_on s client number (told_session w)) held (counted w number)
+  counts_as w number h le = record {
+    server = h.server; epoch = h.epoch; clock = h.clock; cells = h.cells; notes = h.notes;
+    places = places_set k.sessions client (record w { last = number }) h.places;
+    sessions = sessions_as o s held k client (record w { last = number }) h le;
+    lives = h.lives; begun = h.begun; drawn = h.drawn; made = h.made; born = h.born; earlier = h.earlier; committed = h.committed;
+    quiet = record { agree = h.quiet.agree; idle = h.quiet.idle };
+  }
+
+  -- the same entry with the epoch as the server has it
+  with_epoch : (number : ℕ) (c : Call) (r : Reply) (acts : List Act) (m : State) → IsAs o s held k
+      → Leads s (record { event = event.Call client s.epoch number c; reply = Some r; acts = acts }) m → Leads s (record { event = event.Call client k.epoch number c; reply = Some r; acts = acts }) m
+  with_epoch number c r acts m h = subst (λ (n : ℕ). Leads s (record { event = event.Call client n number c; reply = Some r; acts = acts }) m) h.epoch
+
+  -- and as the answer has it
+  answered : (number : ℕ) (c : Call) (r : Reply) (acts : List Act) (m : State) (new : Kept V) (a : Answer) (then : Contents) → a ≡ record { kept = Some r; handed = Some r; acts = acts } → IsAs o s held k
+      → Leads s (record { event = event.Call client s.epoch number c; reply = Some r; acts = acts }) m → IsAs o m then new → Stepped o s then new (event.Call client k.epoch number c) a
+  answered number c r acts m new a then is h leads kept = record {
+    next = m;
+    leads = subst (λ (x : Answer). Leads s (record { event = event.Call client k.epoch number c; reply = x.kept; acts = x.acts }) m) (sym is) (with_epoch number c r acts m h leads);
+    kept = kept;
+    handed = ap (λ (x : Answer). x.handed) is ∙ sym (ap (λ (x : Answer). x.kept) is);
+  }
+
+  -- ---- a transaction begins
+
+  module _ (w : Session) (number : ℕ) (seen : Stamp) (p : Part) where
+    abbrev pub begun_trans : TransId
+    begun_trans = record { server = k.server; epoch = k.epoch; counter = k.drawn + 1 }
+
+    abbrev pub begun_live : Live
+    begun_live = record { client = client; who = w.who; part = p }
+
+    abbrev pub with_begun_kept : Table → Kept V
+    with_begun_kept locks = record (counted w number) { clock = max k.clock seen.ts; drawn = k.drawn + 1; lives = map.insert k.lives begun_trans begun_live; locks = locks }
+
+    trans_same : IsAs o s held k → next_trans s ≡ begun_trans
+    trans_same h = λ i. record { server = h.server i; epoch = h.epoch i; counter = h.drawn i + 1 }
+
+    -- the id is new
+    none_there : IsAs o s held k → s.lives begun_trans ≡ None
+    none_there h = go (s.lives begun_trans) refl
+      where
+        go : (x : Option Life) → s.lives begun_trans ≡ x → x ≡ None
+        go None is = refl
+        go (Some l) is = (let low : k.drawn + 1 ≤ k.drawn = h.begun begun_trans l is in absurd (omega arith))
+
+    begun_alike : (locks : Parts) → ((u : TransId) (r : Resource) → holding locks u r ≡ holding k.locks.held u r) → own_of p ≡ no_opens → p.intents ≡ map.empty → IsAs o s held k
+        → (u : TransId) → IsAlike locks u (map.get (map.insert k.lives begun_trans begun_live) u) (cond {A = Option Life} (same_trans u begun_trans) (Some (new_life client w.who)) (s.lives u))
+    begun_alike locks same opens none h u =
+        subst (λ (x : Option Live). IsAlike locks u x (cond {A = Option Life} (same_trans u begun_trans) (Some (new_life client w.who)) (s.lives u))) (sym (get_put k.lives begun_trans begun_live u))
+        (alike_set k.locks.held locks begun_trans (Some begun_live) (Some (new_life client w.who)) (map.get k.lives) s.lives h.lives (λ v r away. same v r)
+        (record {
+          client = refl; who = refl; active = refl;
+          intents = λ v. ap (λ (puts : Cells). over puts v) none;
+          own = opens;
+          held = λ r. sym (same begun_trans r ∙ none_held k.locks.held begun_trans (map.get k.lives begun_trans) (s.lives begun_trans) (none_there h) (h.lives begun_trans) r);
+          opens = tt;
+        }) u)
+
+    pub begin_stepped : (a : Answer) (locks : Table) → IsAs o s held k → client ≤ 16 → session_at k.sessions client ≡ Some w → number ≡ w.last + 1
+        → ((u : TransId) (r : Resource) → holding locks.held u r ≡ holding k.locks.held u r) → own_of p ≡ no_opens → p.intents ≡ map.empty
+        → a ≡ record { kept = Some (reply.Begun begun_trans); handed = Some (reply.Begun begun_trans); acts = act.Drawn begun_trans ∷ [] }
+        → Stepped o s held (with_begun_kept locks) (event.Call client k.epoch number (call.Begin seen)) a
+    begin_stepped a locks h le there turn same opens none is =
+        let m : TransId → State = λ t. with_life (record (counts_on s client number (told_session w)) { clock = max s.clock seen.ts; drawn = s.drawn + 1 }) t (Some (new_life client w.who)) in
+        let leads : Leads s (record { event = event.Call client s.epoch number (call.Begin seen); reply = Some (reply.Begun begun_trans); acts = act.Drawn begun_trans ∷ [] }) (m begun_trans) =
+        subst (λ (t : TransId). Leads s (record { event = event.Call client s.epoch number (call.Begin seen); reply = Some (reply.Begun t); acts = act.Drawn t ∷ [] }) (m t)) (trans_same h)
+        (begin_leads s client number (told_session w) seen h.quiet (told_turn o s held k client w h there) turn) in
+        let new_kept : IsAs o (m begun_trans) held (with_begun_kept locks) = record {
+          server = h.server; epoch = h.epoch; clock = ap (λ (n : ℕ). max n seen.ts) h.clock; cells = h.cells; notes = h.notes;
+          places = places_set k.sessions client (record w { last = number }) h.places;
+          sessions = sessions_as o s held k client (record w { last = number }) h le;
+          lives = begun_alike locks.held same opens none h;
+          begun = begun_below (s.lives) (h.begun);
+          drawn = ap (λ (n : ℕ). n + 1) h.drawn;
+          made = h.made; born = h.born;
+          earlier = earlier_more s.clock (max s.clock seen.ts) s.decided (omega arith) h.earlier;
+          committed = h.committed;
+          quiet = leads.quiet;
+        } in
+        answered number (call.Begin seen) (reply.Begun begun_trans) (act.Drawn begun_trans ∷ []) (m begun_trans) (with_begun_kept locks) a held is h leads new_kept
+      where
+        begun_below : (lives : TransId → Option Life) → ((t : TransId) (l : Life) → lives t ≡ Some l → t.counter ≤ k.drawn) → (t : TransId) (l : Life)
+            → cond {A = Option Life} (same_trans t begun_trans) (Some (new_life client w.who)) (lives t) ≡ Some l → t.counter ≤ k.drawn + 1
+        begun_below lives all t l = go (same_trans t begun_trans) refl
+          where
+            go : (b : Bool) → same_trans t begun_trans ≡ b → cond {A = Option Life} b (Some (new_life client w.who)) (lives t) ≡ Some l → t.counter ≤ k.drawn + 1
+            go true e is = (let same : t ≡ begun_trans = same_trans-true t begun_trans e in let counter : t.counter ≡ k.drawn + 1 = ap (λ (x : TransId). x.counter) same in omega arith)
+            go false e is = (let low : t.counter ≤ k.drawn = all t l is in omega arith)
+
+  -- ---- a call that is refused and not performed
+
+  pub passing_stepped : (w : Session) (number : ℕ) (c : Call) (f : Refusal) (a : Answer) → IsAs o s held k → client ≤ 16 → session_at k.sessions client ≡ Some w → number ≡ w.last + 1
+      → state.kind_of c ≡ state.Plain → state.is_not_yet (reply.Refused f) ≡ false → state.done_by s c (reply.Refused f) (state.file_trans c) ≡ None → ended_at s client s.epoch number c (reply.Refused f) ≡ []
+      → a ≡ record { kept = Some (reply.Refused f); handed = Some (reply.Refused f); acts = [] } → Stepped o s held (counted w number) (event.Call client k.epoch number c) a
+  passing_stepped w number c f a h le there turn plain now none ends is =
+      answered number c (reply.Refused f) [] (counts_on s client number (told_session w)) (counted w number) a held is h
+      (passing_leads s client number (told_session w) c f h.quiet (told_turn o s held k client w h there) turn plain now none ends)
+      (counts_as w number h le)
+
+  -- ---- a part ends
+
+  -- its locks go with it
+  abbrev pub without_trans : Kept V → TransId → Kept V
+  without_trans x t = record x { lives = map.remove x.lives t; locks = released x.locks t }
+
+  gone_alike : (t : TransId) → k.locks.waiting ≡ [] → IsAs o s held k
+      → (u : TransId) → IsAlike (released k.locks t).held u (map.get (map.remove k.lives t) u) (cond {A = Option Life} (same_trans u t) None (s.lives u))
+  gone_alike t alone h u =
+      subst (λ (x : Option Live). IsAlike (released k.locks t).held u x (cond {A = Option Life} (same_trans u t) None (s.lives u))) (sym (get_gone k.lives t u))
+      (alike_set k.locks.held (released k.locks t).held t None None (map.get k.lives) s.lives h.lives
+      (λ v r away. release-holds k.locks t v r alone ∙ ap (λ (b : Bool). cond {A = Option Mode} b None (holding k.locks.held v r)) (tied_same v t ∙ away))
+      (λ r. release-holds k.locks t t r alone ∙ ap (λ (b : Bool). cond {A = Option Mode} b None (holding k.locks.held t r)) (tied_same t t ∙ same_trans-itself t)) u)
+
+  gone_begun : (t : TransId) → IsAs o s held k → (u : TransId) (l : Life) → cond {A = Option Life} (same_trans u t) None (s.lives u) ≡ Some l → u.counter ≤ k.drawn
+  gone_begun t h u l = go (same_trans u t)
+    where
+      go : (b : Bool) → cond {A = Option Life} b None (s.lives u) ≡ Some l → u.counter ≤ k.drawn
+      go true is = let wrong : None ≡ Some l = is in cc
+      go false is = h.begun u l is
+
+  pub abort_stepped : (w : Session) (number : ℕ) (t : TransId) (l : Live) (commit : Bool) (cause : Cause) (a : Answer) → IsAs o s held k → client ≤ 16 → k.locks.waiting ≡ []
+      → session_at k.sessions client ≡ Some w → number ≡ w.last + 1 → map.get k.lives t ≡ Some l → l.client ≡ client
+      → a ≡ record { kept = Some (reply.Refused (refusal.Aborted cause)); handed = Some (reply.Refused (refusal.Aborted cause)); acts = act.Released t ∷ [] }
+      → Stepped o s held (without_trans (counted w number) t) (event.Call client k.epoch number (call.Finish t commit)) a
+  abort_stepped w number t l commit cause a h le alone there turn live own is =
+      let x : IsLive k.locks.held t l (s.lives t) = live_there k.locks.held t (map.get k.lives t) (s.lives t) l live (h.lives t) in
+      let leads = abort_leads s client number (told_session w) t x.life commit cause h.quiet (told_turn o s held k client w h there) turn x.is (x.alike.client ∙ own) in
+      answered number (call.Finish t commit) (reply.Refused (refusal.Aborted cause)) (act.Released t ∷ []) (without_life s client number (told_session w) t x.life) (without_trans (counted w number) t) a held is h leads
+      (record {
+        server = h.server; epoch = h.epoch; clock = h.clock; cells = h.cells; notes = h.notes;
+        places = places_set k.sessions client (record w { last = number }) h.places;
+        sessions = sessions_as o s held k client (record w { last = number }) h le;
+        lives = gone_alike t alone h;
+        begun = gone_begun t h;
+        drawn = h.drawn; made = h.made; born = h.born; earlier = h.earlier; committed = h.committed;
+        quiet = leads.quiet;
+      })

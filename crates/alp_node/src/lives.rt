@@ -66,10 +66,11 @@ impl Lives {
         ensures after { self.new ≡ map.insert self.old trans live }
         ensures before { map.get self.old trans ≡ Some result }
     {
-        let Ok(Some(old)) = self.lives.insert(trans, live) else {
-            unreachable!()
-        };
-        old
+        match self.lives.insert(trans, live) {
+            Ok(Some(old)) => old,
+            Ok(None) => unreachable!(),
+            Err(_) => unreachable!(),
+        }
     }
 
     pub fn remove(&mut self, trans: &TransId)
