@@ -57,15 +57,11 @@ alike_under locks new t (Some l) (Some life) same h =
 alike_under locks new t None (Some life) same h = absurd h
 alike_under locks new t (Some l) None same h = absurd h
 
--- who is not kept is not live
-none_kept : (locks : Parts) (t : TransId) (l : Option Live) → IsAlike locks t l None → l ≡ None
-none_kept locks t None h = refl
-none_kept locks t (Some l) h = absurd h
-
-none_held : (locks : Parts) (t : TransId) (l : Option Live) (life : Option Life) → life ≡ None → IsAlike locks t l life → (r : Resource) → holding locks t r ≡ None
+-- who is not kept holds nothing
+none_held : (locks : Parts) (t : TransId) (l : Option Live) (life : Option Life) → l ≡ None → IsAlike locks t l life → (r : Resource) → holding locks t r ≡ None
 none_held locks t None None is h = h
-none_held locks t (Some l) None is h = absurd h
-none_held locks t l (Some life) is h = let wrong : Some life ≡ None = is in cc
+none_held locks t None (Some life) is h = absurd h
+none_held locks t (Some l) life is h = let wrong : Some l ≡ None = is in cc
 
 -- the life of a transaction that is kept
 pub record IsLive (locks : Parts) (t : TransId) (l : Live) (x : Option Life) : Type 0 where
@@ -127,6 +123,7 @@ module _ {V : Type 0} (n : ℕ) (serves : Bool) (k : Kept V) where
     sound = h.sound;
     alone = h.alone;
     known = h.known;
+    begun = h.begun;
     opens = λ t l is. (let low : l.part.last ≤ n = h.opens t l is in omega arith);
     places = places_set k.sessions client (record { who = name; last = 1 }) h.places;
     calls = calls_set k.sessions client (record { who = name; last = 1 }) n h.places le h.calls (omega arith);
@@ -153,7 +150,7 @@ module _ {V : Type 0} (o : Start) (s : State) (held : Contents) (k : Kept V) (cl
           server = h.server; epoch = h.epoch; clock = h.clock; cells = h.cells; notes = h.notes;
           places = places_set k.sessions client w h.places;
           sessions = sessions_as o s held k client w h le;
-          lives = h.lives; begun = h.begun; drawn = h.drawn; made = h.made; born = h.born; earlier = h.earlier; committed = h.committed;
+          lives = h.lives; drawn = h.drawn; made = h.made; born = h.born; earlier = h.earlier; committed = h.committed;
           quiet = leads.quiet;
         };
         handed = ap (λ (x : Answer). x.handed) is ∙ sym (ap (λ (x : Answer). x.kept) is);
@@ -171,7 +168,7 @@ module _ {V : Type 0} (o : Start) (s : State) (held : Contents) (k : Kept V) (cl
     server = h.server; epoch = h.epoch; clock = h.clock; cells = h.cells; notes = h.notes;
     places = places_set k.sessions client (record w { last = number }) h.places;
     sessions = sessions_as o s held k client (record w { last = number }) h le;
-    lives = h.lives; begun = h.begun; drawn = h.drawn; made = h.made; born = h.born; earlier = h.earlier; committed = h.committed;
+    lives = h.lives; drawn = h.drawn; made = h.made; born = h.born; earlier = h.earlier; committed = h.committed;
     quiet = record { agree = h.quiet.agree; idle = h.quiet.idle };
   }
 
@@ -205,32 +202,24 @@ module _ {V : Type 0} (o : Start) (s : State) (held : Contents) (k : Kept V) (cl
     trans_same : IsAs o s held k → next_trans s ≡ begun_trans
     trans_same h = λ i. record { server = h.server i; epoch = h.epoch i; counter = h.drawn i + 1 }
 
-    -- the id is new
-    none_there : IsAs o s held k → s.lives begun_trans ≡ None
-    none_there h = go (s.lives begun_trans) refl
-      where
-        go : (x : Option Life) → s.lives begun_trans ≡ x → x ≡ None
-        go None is = refl
-        go (Some l) is = (let low : k.drawn + 1 ≤ k.drawn = h.begun begun_trans l is in absurd (omega arith))
-
-    begun_alike : (locks : Parts) → ((u : TransId) (r : Resource) → holding locks u r ≡ holding k.locks.held u r) → own_of p ≡ no_opens → p.intents ≡ map.empty → IsAs o s held k
+    begun_alike : (locks : Parts) → map.get k.lives begun_trans ≡ None → ((u : TransId) (r : Resource) → holding locks u r ≡ holding k.locks.held u r) → own_of p ≡ no_opens → p.intents ≡ map.empty → IsAs o s held k
         → (u : TransId) → IsAlike locks u (map.get (map.insert k.lives begun_trans begun_live) u) (cond {A = Option Life} (same_trans u begun_trans) (Some (new_life client w.who)) (s.lives u))
-    begun_alike locks same opens none h u =
+    begun_alike locks new same opens none h u =
         subst (λ (x : Option Live). IsAlike locks u x (cond {A = Option Life} (same_trans u begun_trans) (Some (new_life client w.who)) (s.lives u))) (sym (get_put k.lives begun_trans begun_live u))
         (alike_set k.locks.held locks begun_trans (Some begun_live) (Some (new_life client w.who)) (map.get k.lives) s.lives h.lives (λ v r away. same v r)
         (record {
           client = refl; who = refl; active = refl;
           intents = λ v. ap (λ (puts : Cells). over puts v) none;
           own = opens;
-          held = λ r. sym (same begun_trans r ∙ none_held k.locks.held begun_trans (map.get k.lives begun_trans) (s.lives begun_trans) (none_there h) (h.lives begun_trans) r);
+          held = λ r. sym (same begun_trans r ∙ none_held k.locks.held begun_trans (map.get k.lives begun_trans) (s.lives begun_trans) new (h.lives begun_trans) r);
           opens = tt;
         }) u)
 
-    pub begin_stepped : (a : Answer) (locks : Table) → IsAs o s held k → client ≤ 16 → session_at k.sessions client ≡ Some w → number ≡ w.last + 1
+    pub begin_stepped : (a : Answer) (locks : Table) → IsAs o s held k → client ≤ 16 → session_at k.sessions client ≡ Some w → number ≡ w.last + 1 → map.get k.lives begun_trans ≡ None
         → ((u : TransId) (r : Resource) → holding locks.held u r ≡ holding k.locks.held u r) → own_of p ≡ no_opens → p.intents ≡ map.empty
         → a ≡ record { kept = Some (reply.Begun begun_trans); handed = Some (reply.Begun begun_trans); acts = act.Drawn begun_trans ∷ [] }
         → Stepped o s held (with_begun_kept locks) (event.Call client k.epoch number (call.Begin seen)) a
-    begin_stepped a locks h le there turn same opens none is =
+    begin_stepped a locks h le there turn new same opens none is =
         let m : TransId → State = λ t. with_life (record (counts_on s client number (told_session w)) { clock = max s.clock seen.ts; drawn = s.drawn + 1 }) t (Some (new_life client w.who)) in
         let leads : Leads s (record { event = event.Call client s.epoch number (call.Begin seen); reply = Some (reply.Begun begun_trans); acts = act.Drawn begun_trans ∷ [] }) (m begun_trans) =
         subst (λ (t : TransId). Leads s (record { event = event.Call client s.epoch number (call.Begin seen); reply = Some (reply.Begun t); acts = act.Drawn t ∷ [] }) (m t)) (trans_same h)
@@ -239,8 +228,7 @@ module _ {V : Type 0} (o : Start) (s : State) (held : Contents) (k : Kept V) (cl
           server = h.server; epoch = h.epoch; clock = ap (λ (n : ℕ). max n seen.ts) h.clock; cells = h.cells; notes = h.notes;
           places = places_set k.sessions client (record w { last = number }) h.places;
           sessions = sessions_as o s held k client (record w { last = number }) h le;
-          lives = begun_alike locks.held same opens none h;
-          begun = begun_below (s.lives) (h.begun);
+          lives = begun_alike locks.held new same opens none h;
           drawn = ap (λ (n : ℕ). n + 1) h.drawn;
           made = h.made; born = h.born;
           earlier = earlier_more s.clock (max s.clock seen.ts) s.decided (omega arith) h.earlier;
@@ -248,15 +236,6 @@ module _ {V : Type 0} (o : Start) (s : State) (held : Contents) (k : Kept V) (cl
           quiet = leads.quiet;
         } in
         answered number (call.Begin seen) (reply.Begun begun_trans) (act.Drawn begun_trans ∷ []) (m begun_trans) (with_begun_kept locks) a held is h leads new_kept
-      where
-        begun_below : (lives : TransId → Option Life) → ((t : TransId) (l : Life) → lives t ≡ Some l → t.counter ≤ k.drawn) → (t : TransId) (l : Life)
-            → cond {A = Option Life} (same_trans t begun_trans) (Some (new_life client w.who)) (lives t) ≡ Some l → t.counter ≤ k.drawn + 1
-        begun_below lives all t l = go (same_trans t begun_trans) refl
-          where
-            go : (b : Bool) → same_trans t begun_trans ≡ b → cond {A = Option Life} b (Some (new_life client w.who)) (lives t) ≡ Some l → t.counter ≤ k.drawn + 1
-            go true e is = (let same : t ≡ begun_trans = same_trans-true t begun_trans e in let counter : t.counter ≡ k.drawn + 1 = ap (λ (x : TransId). x.counter) same in omega arith)
-            go false e is = (let low : t.counter ≤ k.drawn = all t l is in omega arith)
-
   -- ---- a call that is refused and not performed
 
   pub passing_stepped : (w : Session) (number : ℕ) (c : Call) (f : Refusal) (a : Answer) → IsAs o s held k → client ≤ 16 → session_at k.sessions client ≡ Some w → number ≡ w.last + 1
@@ -281,13 +260,6 @@ module _ {V : Type 0} (o : Start) (s : State) (held : Contents) (k : Kept V) (cl
       (λ v r away. release-holds k.locks t v r alone ∙ ap (λ (b : Bool). cond {A = Option Mode} b None (holding k.locks.held v r)) (tied_same v t ∙ away))
       (λ r. release-holds k.locks t t r alone ∙ ap (λ (b : Bool). cond {A = Option Mode} b None (holding k.locks.held t r)) (tied_same t t ∙ same_trans-itself t)) u)
 
-  gone_begun : (t : TransId) → IsAs o s held k → (u : TransId) (l : Life) → cond {A = Option Life} (same_trans u t) None (s.lives u) ≡ Some l → u.counter ≤ k.drawn
-  gone_begun t h u l = go (same_trans u t)
-    where
-      go : (b : Bool) → cond {A = Option Life} b None (s.lives u) ≡ Some l → u.counter ≤ k.drawn
-      go true is = let wrong : None ≡ Some l = is in cc
-      go false is = h.begun u l is
-
   pub abort_stepped : (w : Session) (number : ℕ) (t : TransId) (l : Live) (commit : Bool) (cause : Cause) (a : Answer) → IsAs o s held k → client ≤ 16 → k.locks.waiting ≡ []
       → session_at k.sessions client ≡ Some w → number ≡ w.last + 1 → map.get k.lives t ≡ Some l → l.client ≡ client
       → a ≡ record { kept = Some (reply.Refused (refusal.Aborted cause)); handed = Some (reply.Refused (refusal.Aborted cause)); acts = act.Released t ∷ [] }
@@ -301,7 +273,6 @@ module _ {V : Type 0} (o : Start) (s : State) (held : Contents) (k : Kept V) (cl
         places = places_set k.sessions client (record w { last = number }) h.places;
         sessions = sessions_as o s held k client (record w { last = number }) h le;
         lives = gone_alike t alone h;
-        begun = gone_begun t h;
         drawn = h.drawn; made = h.made; born = h.born; earlier = h.earlier; committed = h.committed;
         quiet = leads.quiet;
       })

@@ -92,7 +92,6 @@ pub record IsAs {V : Type 0} (o : Start) (s : State) (held : Contents) (k : Kept
   pub places : length k.sessions.places ≡ 17
   pub sessions : (client : ℕ) → s.sessions client ≡ option_map told_session (session_at k.sessions client)
   pub lives : (t : TransId) → IsAlike k.locks.held t (map.get k.lives t) (s.lives t)
-  pub begun : (t : TransId) (l : Life) → s.lives t ≡ Some l → t.counter ≤ k.drawn
   pub drawn : s.drawn ≡ k.drawn
   pub made : s.made ≡ ids_to s.server s.epoch k.given
   pub born : IsUnborn s.server s.epoch (map.get s.cells) k.given
@@ -100,13 +99,14 @@ pub record IsAs {V : Type 0} (o : Start) (s : State) (held : Contents) (k : Kept
   pub committed : length s.decided ≡ k.committed
   pub quiet : IsQuiet s
 
--- Whatever its vault tells: the table's locks agree, nobody waits, it knows each live transaction, and no count went
+-- Whatever its vault tells: its vault serves while it is up, the table's locks agree, nobody waits, it knows each live transaction, and no count went
 -- further than so many steps.
 pub record IsReady {V : Type 0} (steps : ℕ) (serves : Bool) (k : Kept V) : Type 0 where
   pub serving : k.is_down ≡ false → IsTrue serves
   pub sound : IsSound k.locks
   pub alone : k.locks.waiting ≡ []
   pub known : (t : TransId) (l : Live) → map.get k.lives t ≡ Some l → is_some (map.get k.locks.held t) ≡ true
+  pub begun : (t : TransId) (l : Live) → map.get k.lives t ≡ Some l → t.counter ≤ k.drawn
   pub opens : (t : TransId) (l : Live) → map.get k.lives t ≡ Some l → l.part.last ≤ steps
   pub places : length k.sessions.places ≡ 17
   pub calls : (client : ℕ) (w : Session) → session_at k.sessions client ≡ Some w → w.last ≤ steps

@@ -1,5 +1,5 @@
 -- One step of a server.
-use Rattle.std.specs.Prelude.{◌≡◌, ℕ, ◌+◌, Some, Option}
+use Rattle.std.specs.Prelude.{◌≡◌, ◌+◌, ◌≤◌, Some}
 use Rattle.alp_journal.specs.declared.event.Event.{Event}
 use Rattle.alp_journal.specs.declared.entry.Entry.{Entry}
 use Rattle.alp_journal.specs.State.{State, Start}
@@ -7,9 +7,9 @@ use Rattle.alp_journal.specs.Steps.{Leads}
 use Rattle.alp_vault.specs.Contents.{Contents}
 use Rattle.alp_node.specs.declared.answer.Answer.{Answer}
 use Rattle.alp_node.specs.declared.kept.Kept.{Kept}
-use Rattle.alp_node.specs.declared.sessions.Session.{Session}
+use Rattle.alp_node.specs.declared.sessions.Turn.{Turn}
 use Rattle.alp_node.specs.declared.sessions.Sessions.{Sessions}
-use Rattle.alp_node.specs.Sessions.{session_at}
+use Rattle.alp_node.specs.Sessions.{session_at, with_session}
 use Rattle.alp_node.specs.Kept.{IsAs}
 
 -- the entry of an event with its answer
@@ -24,6 +24,12 @@ pub record Stepped {V : Type 0} (o : Start) (s : State) (held : Contents) (new :
   pub kept : IsAs o next held new
   pub handed : a.handed ≡ a.kept
 
--- it is the number of the session's next call
-abbrev pub IsTurn : Sessions → ℕ → ℕ → Type 0
-IsTurn sessions client number = (w : Session) × (session_at sessions client ≡ Some w) × (number ≡ w.last + 1)
+-- it is the session's next call
+pub record IsTurn (sessions : Sessions) (t : Turn) : Type 0 where
+  pub client : t.client ≤ 16
+  pub session : session_at sessions t.client ≡ Some t.session
+  pub number : t.number ≡ t.session.last + 1
+
+-- the sessions where this one has come to that call
+abbrev pub counted_in : Sessions → Turn → Sessions
+counted_in sessions t = with_session sessions t.client (record t.session { last = t.number })

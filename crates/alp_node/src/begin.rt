@@ -3,15 +3,15 @@ ghost use Rattle.std.specs.Prelude.{◌≡◌, ◌+◌, ◌<◌, ◌≤◌, ◌^
 ghost use Rattle.alp_files.specs.declared.call.Call.TheVariants as call;
 ghost use Rattle.alp_journal.specs.declared.event.Event.TheVariants as event;
 ghost use Rattle.alp_journal.specs.State.{State as StateOf, Start};
-ghost use Rattle.alp_node.specs.Sessions.{session_at, with_session};
-ghost use Rattle.alp_node.specs.declared.sessions.Session.{Session as ASession};
+ghost use Rattle.std.specs.FinMap as map;
+ghost use Rattle.alp_node.specs.Sessions.{session_at};
 ghost use Rattle.alp_node.specs.Kept.{IsAs, IsReady};
 ghost use Rattle.alp_node.specs.Steps.{Stepped, IsTurn};
 
 use crate::answer::Answer;
 use crate::kept::Kept;
 use crate::lives::Live;
-use crate::sessions::Session;
+use crate::sessions::{Session, Turn};
 use alp_base::{Name, OutOfMemory, Stamp, TransId};
 use alp_calls::Part;
 use alp_files::Reply;
@@ -37,36 +37,19 @@ impl<V: Vault> Kept<V> {
         Ok(answer)
     }
 
-    /// The client's session has come to its call of that number.
-    pub fn count(&mut self, client: u8, number: u32)
-        requires client { client ≤ 16 }
-        requires there { IsSome (session_at self.old.sessions client) }
-        ensures { (w : ASession) → session_at self.old.sessions client ≡ Some w → self.new ≡ record self.old { sessions = with_session self.old.sessions client (record w { last = number }) } }
-    {
-        let session = self.sessions.get(client).unwrap();
-        self.sessions.set(
-            client,
-            Session {
-                who: session.who,
-                last: number,
-            },
-        );
-    }
-
     /// A transaction begins. Its id is the next one, and the clock is at least what the client saw.
-    pub fn begin(&mut self, client: u8, number: u32, seen: Stamp) -> Result<Answer, OutOfMemory>
-        requires client { client ≤ 16 }
-        requires turn { IsTurn self.old.sessions client number }
+    pub fn begin(&mut self, turn: &Turn, seen: Stamp) -> Result<Answer, OutOfMemory>
+        requires turn { IsTurn self.old.sessions turn.now }
+        requires new { map.get self.old.lives (record { server = self.old.server; epoch = self.old.epoch; counter = self.old.drawn + 1 }) ≡ None }
         requires room { self.old.drawn + 1 < 2 ^ 32 }
         requires up { self.old.is_down ≡ false }
         requires alone { self.old.locks.waiting ≡ [] }
-        ensures stepped { (o : Start) (s : StateOf) → IsAs o s (V.held self.old.vault) self.old → IfOk result (λ a. Stepped o s (V.held self.new.vault) self.new (event.Call client self.old.epoch number (call.Begin seen)) a) }
+        ensures stepped { (o : Start) (s : StateOf) → IsAs o s (V.held self.old.vault) self.old → IfOk result (λ a. Stepped o s (V.held self.new.vault) self.new (event.Call turn.now.client self.old.epoch turn.now.number (call.Begin seen)) a) }
         ensures ready { (steps : ℕ) → IsReady steps (V.serves self.old.vault) self.old → OnOk result (IsReady (steps + 1) (V.serves self.new.vault) self.new) }
         ensures vault { self.new.vault ≡ self.old.vault }
         ensures still { (o : Start) (s : StateOf) → IsAs o s (V.held self.old.vault) self.old → OnErr result (IsAs o s (V.held self.new.vault) self.new) }
         ensures ready_still { (steps : ℕ) → IsReady steps (V.serves self.old.vault) self.old → OnErr result (IsReady steps (V.serves self.new.vault) self.new) }
     {
-        let session = self.sessions.get(client).unwrap();
         let trans = TransId {
             server: self.server,
             epoch: self.epoch,
@@ -76,8 +59,8 @@ impl<V: Vault> Kept<V> {
         let answer = Answer::new(Reply::Begun { trans }, acts)?;
         self.locks.enter(trans)?;
         let live = Live {
-            client,
-            who: session.who,
+            client: turn.client,
+            who: turn.session.who,
             part: Part::new(self.alloc),
         };
         if self.lives.add(trans, live).is_err() {
@@ -86,7 +69,7 @@ impl<V: Vault> Kept<V> {
         }
         self.drawn += 1;
         self.clock = self.clock.max(seen.ts);
-        self.count(client, number);
+        self.sessions.count(turn);
         Ok(answer)
     }
 }

@@ -11,4 +11,4 @@ mod stored;
 
 pub use kept::Kept;
 pub use lives::{Live, Lives};
-pub use sessions::{Session, Sessions};
+pub use sessions::{Session, Sessions, Turn};

@@ -1,6 +1,7 @@
 //! The sessions of clients.
 ghost use Rattle.std.specs.Prelude.{◌≡◌, ◌≤◌, Some};
 ghost use Rattle.alp_node.specs.Sessions.{no_sessions, session_at, with_session};
+ghost use Rattle.alp_node.specs.Steps.{counted_in};
 
 use alp_base::Name;
 
@@ -9,6 +10,14 @@ use alp_base::Name;
 pub struct Session {
     pub who: Name,
     pub last: u32,
+}
+
+/// A call of a session: whose it is, and its number.
+#[derive(Clone, Copy)]
+pub struct Turn {
+    pub client: u8,
+    pub number: u32,
+    pub session: Session,
 }
 
 /// The greatest number of a client.
@@ -41,5 +50,19 @@ impl Sessions {
         ensures { self.new ≡ with_session self.old client session }
     {
         self.places[client as usize] = Some(session);
+    }
+
+    /// The session has come to this call.
+    pub fn count(&mut self, turn: &Turn)
+        requires { turn.now.client ≤ 16 }
+        ensures { self.new ≡ counted_in self.old turn.now }
+    {
+        self.set(
+            turn.client,
+            Session {
+                who: turn.session.who,
+                last: turn.number,
+            },
+        );
     }
 }
