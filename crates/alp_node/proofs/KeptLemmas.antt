@@ -36,10 +36,10 @@ use Rattle.alp_journal.specs.State as state
 use Rattle.alp_journal.specs.Steps.{Leads}
 use Rattle.alp_journal.specs.Laws.{next_trans, ended_at, AreEarlier}
 use Rattle.alp_journal.proofs.StateLemmas.{same_trans-itself, same_trans-true}
-use Rattle.alp_journal.proofs.EntryLemmas.{greeting_leads, begin_leads, with_begun, counts_on, passing_leads, abort_leads, without_life}
+use Rattle.alp_journal.proofs.EntryLemmas.{greeting_leads, begin_leads, with_begun, counts_on, passing_leads, abort_leads, without_life, timeout_leads, idle_timeout_leads}
 use Rattle.alp_node.specs.Sessions.{session_at, with_session}
-use Rattle.alp_node.specs.Kept.{IsLife, IsAlike, IsAs, IsReady, told_session}
-use Rattle.alp_node.specs.Steps.{Stepped}
+use Rattle.alp_node.specs.Kept.{IsLife, IsAlike, IsAs, told_session}
+use Rattle.alp_node.specs.Steps.{Stepped, IsOf, without_trans}
 use Rattle.alp_node.specs.declared.answer.Answer.{Answer}
 use Rattle.alp_node.specs.declared.kept.Kept.{Kept}
 use Rattle.alp_node.specs.declared.lives.Live.{Live}
@@ -58,10 +58,15 @@ alike_under locks new t None (Some life) same h = absurd h
 alike_under locks new t (Some l) None same h = absurd h
 
 -- who is not kept holds nothing
-none_held : (locks : Parts) (t : TransId) (l : Option Live) (life : Option Life) → l ≡ None → IsAlike locks t l life → (r : Resource) → holding locks t r ≡ None
+pub none_held : (locks : Parts) (t : TransId) (l : Option Live) (life : Option Life) → l ≡ None → IsAlike locks t l life → (r : Resource) → holding locks t r ≡ None
 none_held locks t None None is h = h
 none_held locks t None (Some life) is h = absurd h
 none_held locks t (Some l) life is h = let wrong : Some l ≡ None = is in cc
+
+none_live : (locks : Parts) (t : TransId) (l : Option Live) (life : Option Life) → l ≡ None → IsAlike locks t l life → life ≡ None
+none_live locks t None None is h = refl
+none_live locks t None (Some life) is h = absurd h
+none_live locks t (Some l) life is h = let wrong : Some l ≡ None = is in cc
 
 -- the life of a transaction that is kept
 pub record IsLive (locks : Parts) (t : TransId) (l : Live) (x : Option Life) : Type 0 where
@@ -92,6 +97,20 @@ earlier_more : (m n : ℕ) (ds : List (Stamp × Decided)) → m ≤ n → AreEar
 earlier_more m n [] le h = tt
 earlier_more m n (d ∷ ds) le h = ((let low : d.0.ts ≤ m = h.0 in omega arith), earlier_more m n ds le h.1)
 
+-- a live transaction of the client
+pub of_client : (client : ℕ) (x : Option Live) → IsOf client x → (l : Live) × (x ≡ Some l) × (l.client ≡ client)
+of_client client None h = absurd h
+of_client client (Some l) h = (l, refl, h)
+
+-- there is one, or there is none
+pub none_there : (x : Option Live) → is_some x ≡ false → x ≡ None
+none_there None h = refl
+none_there (Some l) h = cc
+
+pub some_there : (x : Option Live) → is_some x ≡ true → (l : Live) × (x ≡ Some l)
+some_there None h = cc
+some_there (Some l) h = (l, refl)
+
 -- ---- what holds of sessions
 
 -- the session's name and its next number, as the journal has them
@@ -104,33 +123,14 @@ sessions_as : {V : Type 0} (o : Start) (s : State) (held : Contents) (k : Kept V
 sessions_as o s held k client w h le c =
     ap (cond {A = Option state.Session} (c == client) (Some (told_session w))) (h.sessions c) ∙ sym (session_set k.sessions client w c h.places le)
 
-same_session : (a b : Session) → Some a ≡ Some b → a ≡ b
-same_session a b e = cc
-
--- no session counts further than so many steps
-calls_set : (sessions : Sessions) (client : ℕ) (w : Session) (n : ℕ) → length sessions.places ≡ 17 → client ≤ 16 → ((c : ℕ) (x : Session) → session_at sessions c ≡ Some x → x.last ≤ n) → w.last ≤ n + 1
-    → (c : ℕ) (x : Session) → session_at (with_session sessions client w) c ≡ Some x → x.last ≤ n + 1
-calls_set sessions client w n full le all low c x is = go (c == client) (sym (session_kept sessions client w c full le) ∙ is)
-  where
-    go : (b : Bool) → cond {A = Option Session} b (Some w) (session_at sessions c) ≡ Some x → x.last ≤ n + 1
-    go true e = subst (λ (y : Session). y.last ≤ n + 1) (same_session w x e) low
-    go false e = (let before : x.last ≤ n = all c x e in omega arith)
-
-module _ {V : Type 0} (n : ℕ) (serves : Bool) (k : Kept V) where
-  pub hello_ready : (client : ℕ) (name : List ℕ) → client ≤ 16 → IsReady n serves k → IsReady (n + 1) serves (record k { sessions = with_session k.sessions client (record { who = name; last = 1 }) })
-  hello_ready client name le h = record {
-    serving = h.serving;
-    sound = h.sound;
-    alone = h.alone;
-    known = h.known;
-    begun = h.begun;
-    opens = λ t l is. (let low : l.part.last ≤ n = h.opens t l is in omega arith);
-    places = places_set k.sessions client (record { who = name; last = 1 }) h.places;
-    calls = calls_set k.sessions client (record { who = name; last = 1 }) n h.places le h.calls (omega arith);
-    drawn = omega (arith, h.drawn);
-    given = omega (arith, h.given);
-    committed = omega (arith, h.committed);
-  }
+-- the same under locks that come to the same
+pub as_under : {V : Type 0} (o : Start) (s : State) (held : Contents) (k : Kept V) (locks : Table) → ((u : TransId) (r : Resource) → holding locks.held u r ≡ holding k.locks.held u r) → IsAs o s held k
+    → IsAs o s held (record k { locks = locks })
+as_under o s held k locks same h = record {
+  server = h.server; epoch = h.epoch; clock = h.clock; cells = h.cells; notes = h.notes; places = h.places; sessions = h.sessions;
+  lives = λ t. alike_under k.locks.held locks.held t (map.get k.lives t) (s.lives t) (same t) (h.lives t);
+  drawn = h.drawn; made = h.made; born = h.born; earlier = h.earlier; committed = h.committed; quiet = h.quiet;
+}
 
 module _ {V : Type 0} (o : Start) (s : State) (held : Contents) (k : Kept V) (client : ℕ) where
   -- ---- a greeting
@@ -248,10 +248,6 @@ module _ {V : Type 0} (o : Start) (s : State) (held : Contents) (k : Kept V) (cl
 
   -- ---- a part ends
 
-  -- its locks go with it
-  abbrev pub without_trans : Kept V → TransId → Kept V
-  without_trans x t = record x { lives = map.remove x.lives t; locks = released x.locks t }
-
   gone_alike : (t : TransId) → k.locks.waiting ≡ [] → IsAs o s held k
       → (u : TransId) → IsAlike (released k.locks t).held u (map.get (map.remove k.lives t) u) (cond {A = Option Life} (same_trans u t) None (s.lives u))
   gone_alike t alone h u =
@@ -276,3 +272,30 @@ module _ {V : Type 0} (o : Start) (s : State) (held : Contents) (k : Kept V) (cl
         drawn = h.drawn; made = h.made; born = h.born; earlier = h.earlier; committed = h.committed;
         quiet = leads.quiet;
       })
+
+  -- ---- time runs out
+
+  pub timeout_stepped : (t : TransId) (l : Live) (a : Answer) → IsAs o s held k → k.locks.waiting ≡ [] → map.get k.lives t ≡ Some l → a ≡ record { kept = None; handed = None; acts = act.Released t ∷ [] }
+      → Stepped o s held (without_trans k t) (event.Timeout t) a
+  timeout_stepped t l a h alone live is =
+      let x : IsLive k.locks.held t l (s.lives t) = live_there k.locks.held t (map.get k.lives t) (s.lives t) l live (h.lives t) in
+      let leads : Leads s (record { event = event.Timeout t; reply = None; acts = act.Released t ∷ [] }) (with_life s t None) = timeout_leads s t x.life h.quiet x.is x.alike.active in
+      record {
+        next = with_life s t None;
+        leads = subst (λ (y : Answer). Leads s (record { event = event.Timeout t; reply = y.kept; acts = y.acts }) (with_life s t None)) (sym is) leads;
+        kept = record {
+          server = h.server; epoch = h.epoch; clock = h.clock; cells = h.cells; notes = h.notes; places = h.places; sessions = h.sessions;
+          lives = gone_alike t alone h;
+          drawn = h.drawn; made = h.made; born = h.born; earlier = h.earlier; committed = h.committed;
+          quiet = leads.quiet;
+        };
+        handed = ap (λ (y : Answer). y.handed) is ∙ sym (ap (λ (y : Answer). y.kept) is);
+      }
+
+  pub idle_stepped : (t : TransId) (a : Answer) → IsAs o s held k → map.get k.lives t ≡ None → a ≡ record { kept = None; handed = None; acts = [] } → Stepped o s held k (event.Timeout t) a
+  idle_stepped t a h none is = record {
+    next = s;
+    leads = subst (λ (y : Answer). Leads s (record { event = event.Timeout t; reply = y.kept; acts = y.acts }) s) (sym is) (idle_timeout_leads s t h.quiet (none_live k.locks.held t (map.get k.lives t) (s.lives t) none (h.lives t)));
+    kept = h;
+    handed = ap (λ (y : Answer). y.handed) is ∙ sym (ap (λ (y : Answer). y.kept) is);
+  }

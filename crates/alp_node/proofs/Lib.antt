@@ -1,2 +1,3 @@
 pub mod MapLemmas
 pub mod KeptLemmas
+pub mod ReadyLemmas

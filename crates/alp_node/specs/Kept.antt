@@ -11,6 +11,7 @@ use Rattle.alp_base.specs.declared.key.Resource.{Resource}
 use Rattle.alp_base.specs.declared.key.Resource.TheVariants.{Whole}
 use Rattle.alp_base.specs.declared.choices.Access.{Access}
 use Rattle.alp_base.specs.declared.choices.Access.TheVariants.{ReadOnly, Change}
+use Rattle.alp_modes.specs.Orders.{trans_cmp}
 use Rattle.alp_modes.specs.declared.Mode.{Mode}
 use Rattle.alp_modes.specs.declared.Mode.TheVariants.{Read, Write}
 use Rattle.alp_modes.specs.Holdings.{Holding, covers_held}
@@ -33,6 +34,9 @@ use Rattle.alp_node.specs.declared.lives.Live.{Live}
 use Rattle.alp_node.specs.declared.kept.Kept.{Kept}
 
 -- ---- live transactions
+
+abbrev pub LiveMap : Type 0
+LiveMap = map.FinMap trans_cmp Live
 
 -- the lock that an open has on its file gives all its leaves
 abbrev pub mode_for : Access → Mode

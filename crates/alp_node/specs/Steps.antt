@@ -1,5 +1,8 @@
 -- One step of a server.
-use Rattle.std.specs.Prelude.{◌≡◌, ◌+◌, ◌≤◌, Some}
+use Rattle.std.specs.Prelude.{◌≡◌, ℕ, ◌+◌, ◌≤◌, Option, None, Some}
+use Rattle.std.specs.FinMap as map
+use Rattle.alp_base.specs.declared.ids.TransId.{TransId}
+use Rattle.alp_locks.specs.Releases.{released}
 use Rattle.alp_journal.specs.declared.event.Event.{Event}
 use Rattle.alp_journal.specs.declared.entry.Entry.{Entry}
 use Rattle.alp_journal.specs.State.{State, Start}
@@ -7,6 +10,7 @@ use Rattle.alp_journal.specs.Steps.{Leads}
 use Rattle.alp_vault.specs.Contents.{Contents}
 use Rattle.alp_node.specs.declared.answer.Answer.{Answer}
 use Rattle.alp_node.specs.declared.kept.Kept.{Kept}
+use Rattle.alp_node.specs.declared.lives.Live.{Live}
 use Rattle.alp_node.specs.declared.sessions.Turn.{Turn}
 use Rattle.alp_node.specs.declared.sessions.Sessions.{Sessions}
 use Rattle.alp_node.specs.Sessions.{session_at, with_session}
@@ -33,3 +37,12 @@ pub record IsTurn (sessions : Sessions) (t : Turn) : Type 0 where
 -- the sessions where this one has come to that call
 abbrev pub counted_in : Sessions → Turn → Sessions
 counted_in sessions t = with_session sessions t.client (record t.session { last = t.number })
+
+-- the live transaction is this client's
+abbrev pub IsOf : ℕ → Option Live → Type 0
+IsOf client None = ⊥
+IsOf client (Some l) = l.client ≡ client
+
+-- the server where the transaction is live no more, and its locks are gone
+abbrev pub without_trans : {V : Type 0} → Kept V → TransId → Kept V
+without_trans k t = record k { lives = map.remove k.lives t; locks = released k.locks t }

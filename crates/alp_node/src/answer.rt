@@ -1,5 +1,5 @@
 //! What an event comes to.
-ghost use Rattle.std.specs.Prelude.{◌≡◌, Some, IfOk, OnErr, true};
+ghost use Rattle.std.specs.Prelude.{◌≡◌, None, Some, IfOk, OnErr, true};
 ghost use Rattle.alp_files.specs.declared.reply.Reply.TheVariants as reply;
 ghost use Rattle.alp_calls.specs.Parts.{has_contents};
 
@@ -27,6 +27,16 @@ impl Answer {
             handed: Some(handed),
             acts,
         })
+    }
+
+    pub fn silence(acts: Acts) -> Answer
+        ensures { result ≡ record { kept = None; handed = None; acts = acts } }
+    {
+        Answer {
+            kept: None,
+            handed: None,
+            acts,
+        }
     }
 
     pub fn refused(refusal: Refusal, acts: Acts) -> Answer

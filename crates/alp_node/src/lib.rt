@@ -3,6 +3,7 @@
 
 mod answer;
 mod begin;
+mod finish;
 mod kept;
 mod lives;
 mod opened;

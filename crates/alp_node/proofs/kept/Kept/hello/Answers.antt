@@ -1,4 +1,5 @@
-use Rattle.alp_node.proofs.KeptLemmas.{hello_stepped, hello_ready}
+use Rattle.alp_node.proofs.KeptLemmas.{hello_stepped}
+use Rattle.alp_node.proofs.ReadyLemmas.{hello_ready}
 use Rattle.std.proofs.Common.{◌≡◌, ◌+◌, [], sym, ap, ◌∙◌, subst, List}
 use Rattle.std.specs.Prelude.{Some}
 use Rattle.alp_files.specs.declared.reply.Reply.TheVariants as reply
