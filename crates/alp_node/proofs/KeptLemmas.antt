@@ -3,7 +3,7 @@ use Rattle.std.specs.Prelude.{cond, Bool, true, false, ◌==◌, max, Option, No
 use Rattle.std.specs.Option.{option_map}
 use Rattle.std.specs.List.{AllByRecursion}
 use Rattle.std.specs.FinMap as map
-use Rattle.std.proofs.Common.{◌≡◌, ℕ, ◌+◌, ◌<◌, ◌≤◌, List, [], ◌∷◌, length, refl, sym, ◌∙◌, ap, subst, arith}
+use Rattle.std.proofs.Common.{◌≡◌, ℕ, ◌+◌, ◌<◌, ◌≤◌, List, [], ◌∷◌, ◌++◌, length, length-append, refl, sym, ◌∙◌, ap, subst, arith}
 use Rattle.alp_base.specs.declared.ids.TransId.{TransId}
 use Rattle.alp_base.specs.declared.ids.Stamp.{Stamp}
 use Rattle.alp_base.specs.declared.key.Resource.{Resource}
@@ -16,8 +16,19 @@ use Rattle.alp_files.specs.declared.refusal.Refusal.{Refusal}
 use Rattle.alp_files.specs.declared.refusal.Refusal.TheVariants as refusal
 use Rattle.alp_files.specs.declared.refusal.Cause.{Cause}
 use Rattle.alp_files.specs.Act.{no_opens}
-use Rattle.alp_files.specs.Cells.{Cells}
-use Rattle.alp_files.specs.Edits.{over}
+use Rattle.std.specs.List.{list_any}
+use Rattle.std.specs.FinMap.{get-insert, same_map}
+use Rattle.std.specs.Ordering.{eq_by_cmp}
+use Rattle.std.specs.Cmp.Lexicographic.{nat_list_cmp_total}
+use Rattle.std.proofs.lemmas.Map.Lookups.{exact_bytes}
+use Rattle.alp_base.specs.Notes.{Notes, text_cmp}
+use Rattle.alp_base.specs.declared.key.Key.TheVariants.{Leader}
+use Rattle.alp_fields.specs.ClockNote.{clock_name, clock_form, clock_kept}
+use Rattle.alp_files.specs.Cells.{Cells, View}
+use Rattle.alp_files.specs.Edits.{Edit, edits_at, edits_map, after, over}
+use Rattle.alp_files.proofs.CellMapLemmas.{over-none}
+use Rattle.alp_files.proofs.FilesLemmas.{same-some}
+use Rattle.alp_files.proofs.HistoryLemmas.{get-edits_map, same_cells}
 use Rattle.alp_files.specs.History.{Decided}
 use Rattle.alp_calls.specs.Parts.{own_of}
 use Rattle.alp_calls.specs.declared.part.Part.{Part}
@@ -31,14 +42,14 @@ use Rattle.alp_journal.specs.declared.act.Act.{Act}
 use Rattle.alp_journal.specs.declared.act.Act.TheVariants as act
 use Rattle.alp_journal.specs.declared.event.Event.TheVariants as event
 use Rattle.alp_journal.specs.declared.entry.Entry.{Entry}
-use Rattle.alp_journal.specs.State.{State, Start, Life, same_trans, no_locks, new_life, with_life}
+use Rattle.alp_journal.specs.State.{State, Start, Life, same_trans, no_locks, new_life, with_life, is_stop}
 use Rattle.alp_journal.specs.State as state
 use Rattle.alp_journal.specs.Steps.{Leads}
 use Rattle.alp_journal.specs.Laws.{next_trans, ended_at, AreEarlier}
-use Rattle.alp_journal.proofs.StateLemmas.{same_trans-itself, same_trans-true}
-use Rattle.alp_journal.proofs.EntryLemmas.{greeting_leads, begin_leads, with_begun, counts_on, passing_leads, abort_leads, without_life, timeout_leads, idle_timeout_leads}
+use Rattle.alp_journal.proofs.StateLemmas.{same_trans-itself, same_trans-true, AreEarlier-push}
+use Rattle.alp_journal.proofs.EntryLemmas.{commit_leads, with_committed, committed, halt_leads, greeting_leads, begin_leads, with_begun, counts_on, passing_leads, abort_leads, without_life, timeout_leads, idle_timeout_leads}
 use Rattle.alp_node.specs.Sessions.{session_at, with_session}
-use Rattle.alp_node.specs.Kept.{IsLife, IsAlike, IsAs, told_session}
+use Rattle.alp_node.specs.Kept.{IsLife, IsAlike, IsAs, told_session, PutNoneBeyond, last_time, notes_at}
 use Rattle.alp_node.specs.Steps.{Stepped, IsOf, without_trans}
 use Rattle.alp_node.specs.declared.answer.Answer.{Answer}
 use Rattle.alp_node.specs.declared.kept.Kept.{Kept}
@@ -92,6 +103,15 @@ alike_set locks new t o x lives kept all same this u = go (same_trans u t) refl
     go true e = subst (λ (v : TransId). IsAlike new v o x) (sym (same_trans-true u t e)) this
     go false e = alike_under locks new u (lives u) (kept u) (λ r. same u r e) (all u)
 
+-- of each life but one all is as it was, and that one is so
+each_set : (P : Life → Type 0) (t : TransId) (x : Option Life) (lives : TransId → Option Life) → ((u : TransId) (l : Life) → lives u ≡ Some l → P l) → ((l : Life) → x ≡ Some l → P l)
+    → (u : TransId) (l : Life) → cond {A = Option Life} (same_trans u t) x (lives u) ≡ Some l → P l
+each_set P t x lives all this u l = go (same_trans u t)
+  where
+    go : (b : Bool) → cond {A = Option Life} b x (lives u) ≡ Some l → P l
+    go true is = this l is
+    go false is = all u l is
+
 -- times that go no further go no further than a later one
 earlier_more : (m n : ℕ) (ds : List (Stamp × Decided)) → m ≤ n → AreEarlier m ds → AreEarlier n ds
 earlier_more m n [] le h = tt
@@ -111,6 +131,28 @@ pub some_there : (x : Option Live) → is_some x ≡ true → (l : Live) × (x �
 some_there None h = cc
 some_there (Some l) h = (l, refl)
 
+-- ---- what holds of notes and cells
+
+last_pushed : (start : ℕ) (ds : List (Stamp × Decided)) (x : Stamp × Decided) → last_time start (ds ++ x ∷ []) ≡ x.0.ts
+last_pushed start [] x = refl
+last_pushed start (d ∷ ds) x = last_pushed d.0.ts ds x
+
+cond_twice : {A : Type 0} (b : Bool) (x y z : A) → cond b x (cond b y z) ≡ cond b x z
+cond_twice true x y z = refl
+cond_twice false x y z = refl
+
+-- a note does not hang on what it was before
+noted_twice : (ns : Notes) (name a b : List ℕ) → map.insert (map.insert ns name a) name b ≡ map.insert ns name b
+noted_twice ns name a b = same_map nat_list_cmp_total exact_bytes _ _ (λ q.
+    get-insert nat_list_cmp_total (map.insert ns name a) name b q
+    ∙ ap (cond (eq_by_cmp text_cmp q name) (Some b)) (get-insert nat_list_cmp_total ns name a q)
+    ∙ cond_twice (eq_by_cmp text_cmp q name) (Some b) (Some a) (map.get ns q)
+    ∙ sym (get-insert nat_list_cmp_total ns name b q))
+
+-- no puts over what is seen
+over_empty : (v : View) → over map.empty v ≡ v
+over_empty v = over-none v
+
 -- ---- what holds of sessions
 
 -- the session's name and its next number, as the journal has them
@@ -129,7 +171,7 @@ pub as_under : {V : Type 0} (o : Start) (s : State) (held : Contents) (k : Kept 
 as_under o s held k locks same h = record {
   server = h.server; epoch = h.epoch; clock = h.clock; cells = h.cells; notes = h.notes; places = h.places; sessions = h.sessions;
   lives = λ t. alike_under k.locks.held locks.held t (map.get k.lives t) (s.lives t) (same t) (h.lives t);
-  drawn = h.drawn; made = h.made; born = h.born; earlier = h.earlier; committed = h.committed; quiet = h.quiet;
+  drawn = h.drawn; made = h.made; born = h.born; earlier = h.earlier; committed = h.committed; unborn = h.unborn; quiet = h.quiet;
 }
 
 module _ {V : Type 0} (o : Start) (s : State) (held : Contents) (k : Kept V) (client : ℕ) where
@@ -150,7 +192,7 @@ module _ {V : Type 0} (o : Start) (s : State) (held : Contents) (k : Kept V) (cl
           server = h.server; epoch = h.epoch; clock = h.clock; cells = h.cells; notes = h.notes;
           places = places_set k.sessions client w h.places;
           sessions = sessions_as o s held k client w h le;
-          lives = h.lives; drawn = h.drawn; made = h.made; born = h.born; earlier = h.earlier; committed = h.committed;
+          lives = h.lives; unborn = h.unborn; drawn = h.drawn; made = h.made; born = h.born; earlier = h.earlier; committed = h.committed;
           quiet = leads.quiet;
         };
         handed = ap (λ (x : Answer). x.handed) is ∙ sym (ap (λ (x : Answer). x.kept) is);
@@ -168,7 +210,7 @@ module _ {V : Type 0} (o : Start) (s : State) (held : Contents) (k : Kept V) (cl
     server = h.server; epoch = h.epoch; clock = h.clock; cells = h.cells; notes = h.notes;
     places = places_set k.sessions client (record w { last = number }) h.places;
     sessions = sessions_as o s held k client (record w { last = number }) h le;
-    lives = h.lives; drawn = h.drawn; made = h.made; born = h.born; earlier = h.earlier; committed = h.committed;
+    lives = h.lives; unborn = h.unborn; drawn = h.drawn; made = h.made; born = h.born; earlier = h.earlier; committed = h.committed;
     quiet = record { agree = h.quiet.agree; idle = h.quiet.idle };
   }
 
@@ -229,6 +271,7 @@ module _ {V : Type 0} (o : Start) (s : State) (held : Contents) (k : Kept V) (cl
           places = places_set k.sessions client (record w { last = number }) h.places;
           sessions = sessions_as o s held k client (record w { last = number }) h le;
           lives = begun_alike locks.held new same opens none h;
+          unborn = each_set (λ l. PutNoneBeyond s.server s.epoch k.given l.edits) begun_trans (Some (new_life client w.who)) s.lives h.unborn (λ l is n le. ap (λ (x : Life). edits_at x.edits (Leader (record { server = s.server; epoch = s.epoch; counter = n })) None) (sym (same-some (new_life client w.who) l is)));
           drawn = ap (λ (n : ℕ). n + 1) h.drawn;
           made = h.made; born = h.born;
           earlier = earlier_more s.clock (max s.clock seen.ts) s.decided (omega arith) h.earlier;
@@ -256,6 +299,9 @@ module _ {V : Type 0} (o : Start) (s : State) (held : Contents) (k : Kept V) (cl
       (λ v r away. release-holds k.locks t v r alone ∙ ap (λ (b : Bool). cond {A = Option Mode} b None (holding k.locks.held v r)) (tied_same v t ∙ away))
       (λ r. release-holds k.locks t t r alone ∙ ap (λ (b : Bool). cond {A = Option Mode} b None (holding k.locks.held t r)) (tied_same t t ∙ same_trans-itself t)) u)
 
+  gone_unborn : (t : TransId) → IsAs o s held k → (u : TransId) (l : Life) → cond {A = Option Life} (same_trans u t) None (s.lives u) ≡ Some l → PutNoneBeyond s.server s.epoch k.given l.edits
+  gone_unborn t h = each_set (λ l. PutNoneBeyond s.server s.epoch k.given l.edits) t None s.lives h.unborn (λ l is. let wrong : None ≡ Some l = is in cc)
+
   pub abort_stepped : (w : Session) (number : ℕ) (t : TransId) (l : Live) (commit : Bool) (cause : Cause) (a : Answer) → IsAs o s held k → client ≤ 16 → k.locks.waiting ≡ []
       → session_at k.sessions client ≡ Some w → number ≡ w.last + 1 → map.get k.lives t ≡ Some l → l.client ≡ client
       → a ≡ record { kept = Some (reply.Refused (refusal.Aborted cause)); handed = Some (reply.Refused (refusal.Aborted cause)); acts = act.Released t ∷ [] }
@@ -269,6 +315,7 @@ module _ {V : Type 0} (o : Start) (s : State) (held : Contents) (k : Kept V) (cl
         places = places_set k.sessions client (record w { last = number }) h.places;
         sessions = sessions_as o s held k client (record w { last = number }) h le;
         lives = gone_alike t alone h;
+        unborn = gone_unborn t h;
         drawn = h.drawn; made = h.made; born = h.born; earlier = h.earlier; committed = h.committed;
         quiet = leads.quiet;
       })
@@ -286,6 +333,7 @@ module _ {V : Type 0} (o : Start) (s : State) (held : Contents) (k : Kept V) (cl
         kept = record {
           server = h.server; epoch = h.epoch; clock = h.clock; cells = h.cells; notes = h.notes; places = h.places; sessions = h.sessions;
           lives = gone_alike t alone h;
+        unborn = gone_unborn t h;
           drawn = h.drawn; made = h.made; born = h.born; earlier = h.earlier; committed = h.committed;
           quiet = leads.quiet;
         };
@@ -299,3 +347,69 @@ module _ {V : Type 0} (o : Start) (s : State) (held : Contents) (k : Kept V) (cl
     kept = h;
     handed = ap (λ (y : Answer). y.handed) is ∙ sym (ap (λ (y : Answer). y.kept) is);
   }
+
+  -- ---- a commit
+
+  module _ (w : Session) (number : ℕ) (t : TransId) (l : Live) (v : V) where
+    abbrev pub commit_stamp : Stamp
+    commit_stamp = record { ts = k.clock + 1; trans = t }
+
+    abbrev pub committed_kept : Kept V
+    committed_kept = record (without_trans (counted w number) t) { clock = k.clock + 1; committed = k.committed + 1; vault = v }
+
+    pub commit_stepped : (a : Answer) (then : Contents) → IsAs o s held k → k.is_down ≡ false → client ≤ 16 → k.locks.waiting ≡ [] → session_at k.sessions client ≡ Some w → number ≡ w.last + 1
+        → map.get k.lives t ≡ Some l → map.get then.cells ≡ over l.part.intents (map.get held.cells)
+        → then.notes ≡ map.insert held.notes clock_name (clock_form.spell (record { epoch = k.epoch; clock = k.clock + 1 }))
+        → a ≡ record { kept = Some (reply.Committed commit_stamp); handed = Some (reply.Committed commit_stamp); acts = act.Decided commit_stamp [] ∷ act.Released t ∷ [] }
+        → Stepped o s then committed_kept (event.Call client k.epoch number (call.Finish t true)) a
+    commit_stepped a then h up le alone there turn live cells notes is =
+        let x : IsLive k.locks.held t l (s.lives t) = live_there k.locks.held t (map.get k.lives t) (s.lives t) l live (h.lives t) in
+        let es : List Edit = x.life.edits in
+        let ts : ℕ = k.clock + 1 in
+        let m : State = with_committed s client number (told_session w) t x.life ts in
+        let leads = commit_leads s client number (told_session w) t x.life ts h.quiet (told_turn o s held k client w h there) turn x.is (omega (arith, h.clock)) h.earlier in
+        let clock : max s.clock ts ≡ ts = omega (arith, h.clock) in
+        let same : then.cells ≡ edits_map es s.cells =
+        same_cells then.cells (edits_map es s.cells)
+        (cells ∙ (λ i q. x.alike.intents (map.get held.cells) i q) ∙ ap (after es) (over_empty (map.get held.cells)) ∙ ap (λ (c : Cells). after es (map.get c)) (h.cells up) ∙ sym (get-edits_map es s.cells)) in
+        let noted : then.notes ≡ notes_at o m =
+        notes
+        ∙ ap (λ (ns : Notes). map.insert ns clock_name (clock_form.spell (record { epoch = k.epoch; clock = ts }))) (h.notes up)
+        ∙ noted_twice o.notes clock_name (clock_form.spell (record { epoch = s.epoch; clock = last_time (clock_kept o.notes).clock s.decided })) (clock_form.spell (record { epoch = k.epoch; clock = ts }))
+        ∙ (λ i. map.insert o.notes clock_name (clock_form.spell (record { epoch = sym h.epoch i; clock = sym (last_pushed (clock_kept o.notes).clock s.decided (commit_stamp, committed s client number (told_session w) t x.life ts)) i }))) in
+        answered number (call.Finish t true) (reply.Committed commit_stamp) (act.Decided commit_stamp [] ∷ act.Released t ∷ []) m committed_kept a then is h leads
+        (record {
+          server = h.server; epoch = h.epoch; clock = clock;
+          cells = λ _. same;
+          notes = λ _. noted;
+          places = places_set k.sessions client (record w { last = number }) h.places;
+          sessions = sessions_as o s held k client (record w { last = number }) h le;
+          lives = gone_alike t alone h;
+          unborn = gone_unborn t h;
+          drawn = h.drawn; made = h.made;
+          born = λ n high. ap (λ (view : View). view (Leader (record { server = s.server; epoch = s.epoch; counter = n }))) (get-edits_map es s.cells)
+              ∙ ap (edits_at es (Leader (record { server = s.server; epoch = s.epoch; counter = n }))) (h.born n high) ∙ h.unborn t x.life x.is n high;
+          earlier = subst (λ (n : ℕ). AreEarlier n m.decided) (sym clock) (AreEarlier-push s.decided commit_stamp (committed s client number (told_session w) t x.life ts) s.clock h.earlier (omega (arith, h.clock)));
+          committed = omega (arith, length-append s.decided ((commit_stamp, committed s client number (told_session w) t x.life ts) ∷ []), h.committed);
+          quiet = leads.quiet;
+        })
+
+  -- ---- the vault failed or was stopped
+
+  pub halt_stepped : (w : Session) (number : ℕ) (c : Call) (f : Refusal) (acts : List Act) (v : V) (a : Answer) (then : Contents) → list_any is_stop acts ≡ true → IsAs o s held k → client ≤ 16
+      → session_at k.sessions client ≡ Some w → number ≡ w.last + 1 → state.kind_of c ≡ state.Plain → state.is_not_yet (reply.Refused f) ≡ false
+      → state.done_by s c (reply.Refused f) (state.file_trans c) ≡ None → a ≡ record { kept = Some (reply.Refused f); handed = Some (reply.Refused f); acts = acts }
+      → Stepped o s then (record (counted w number) { is_down = true; vault = v }) (event.Call client k.epoch number c) a
+  halt_stepped w number c f acts v a then stop h le there turn plain now none is =
+      let leads = halt_leads s client number (told_session w) c f acts stop h.quiet (told_turn o s held k client w h there) turn plain now none in
+      let never : true ≡ false → ⊥ = λ e. cc in
+      answered number c (reply.Refused f) acts (record (counts_on s client number (told_session w)) { pending = acts }) (record (counted w number) { is_down = true; vault = v }) a then is h leads
+      (record {
+        server = h.server; epoch = h.epoch; clock = h.clock;
+        cells = λ e. absurd (never e);
+        notes = λ e. absurd (never e);
+        places = places_set k.sessions client (record w { last = number }) h.places;
+        sessions = sessions_as o s held k client (record w { last = number }) h le;
+        lives = h.lives; unborn = h.unborn; drawn = h.drawn; made = h.made; born = h.born; earlier = h.earlier; committed = h.committed;
+        quiet = leads.quiet;
+      })

@@ -1,5 +1,5 @@
 -- What a server keeps is what its journal says.
-use Rattle.std.specs.Prelude.{◌≡◌, ℕ, zero, suc, ◌+◌, ◌≤◌, Bool, true, false, IsTrue, List, [], ◌∷◌, length, Option, None, Some, is_some}
+use Rattle.std.specs.Prelude.{◌≡◌, ℕ, zero, suc, ◌+◌, ◌<◌, ◌≤◌, Bool, true, false, IsTrue, List, [], ◌∷◌, length, Option, None, Some, is_some}
 use Rattle.std.specs.Option.{option_map}
 use Rattle.std.specs.List.{AllByRecursion}
 use Rattle.std.specs.FinMap as map
@@ -7,6 +7,7 @@ use Rattle.alp_base.specs.Notes.{Notes}
 use Rattle.alp_base.specs.declared.ids.FileId.{FileId}
 use Rattle.alp_base.specs.declared.ids.TransId.{TransId}
 use Rattle.alp_base.specs.declared.ids.Stamp.{Stamp}
+use Rattle.alp_base.specs.declared.key.Key.TheVariants.{Leader}
 use Rattle.alp_base.specs.declared.key.Resource.{Resource}
 use Rattle.alp_base.specs.declared.key.Resource.TheVariants.{Whole}
 use Rattle.alp_base.specs.declared.choices.Access.{Access}
@@ -18,7 +19,7 @@ use Rattle.alp_modes.specs.Holdings.{Holding, covers_held}
 use Rattle.alp_fields.specs.ClockNote.{clock_name, clock_form, clock_kept}
 use Rattle.alp_files.specs.declared.open.Open.{Open}
 use Rattle.alp_files.specs.Born.{IsUnborn}
-use Rattle.alp_files.specs.Edits.{ChangesBy}
+use Rattle.alp_files.specs.Edits.{Edit, edits_at, ChangesBy}
 use Rattle.alp_files.specs.History.{Decided}
 use Rattle.alp_locks.specs.Tables.{Parts, holding}
 use Rattle.alp_locks.specs.Sound.{IsSound}
@@ -64,6 +65,10 @@ IsAlike locks t (Some l) (Some life) = IsLife locks t l life
 IsAlike locks t None (Some life) = ⊥
 IsAlike locks t (Some l) None = ⊥
 
+-- these edits put no leader with an id of this server and epoch beyond the count
+abbrev pub PutNoneBeyond : ℕ → ℕ → ℕ → List Edit → Type 0
+PutNoneBeyond server epoch count es = (n : ℕ) → count < n → edits_at es (Leader (record { server = server; epoch = epoch; counter = n })) None ≡ None
+
 -- ---- what is stored
 
 -- the time of the last decision, or of the start
@@ -96,6 +101,7 @@ pub record IsAs {V : Type 0} (o : Start) (s : State) (held : Contents) (k : Kept
   pub places : length k.sessions.places ≡ 17
   pub sessions : (client : ℕ) → s.sessions client ≡ option_map told_session (session_at k.sessions client)
   pub lives : (t : TransId) → IsAlike k.locks.held t (map.get k.lives t) (s.lives t)
+  pub unborn : (t : TransId) (l : Life) → s.lives t ≡ Some l → PutNoneBeyond s.server s.epoch k.given l.edits
   pub drawn : s.drawn ≡ k.drawn
   pub made : s.made ≡ ids_to s.server s.epoch k.given
   pub born : IsUnborn s.server s.epoch (map.get s.cells) k.given

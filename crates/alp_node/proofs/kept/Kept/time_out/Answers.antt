@@ -17,7 +17,7 @@ returns-then-not-has-clause-stepped g c o s h =
     let k = c.args.self.now in
     let is : c.silence.result ≡ record { kept = None; handed = None; acts = [] } =
     c.silence.ensures ∙ ap (λ (acts : List Act). record { kept = None; handed = None; acts = acts }) (c.new-then-not-has.ensures ∙ c.new.ensures.items) in
-    idle_stepped o s (g.V.Vault.held k.vault) k 0 c.args.trans c.silence.result h (none_there (map.get k.lives c.args.trans) (sym c.has.ensures ∙ ?)) is
+    idle_stepped o s (g.V.Vault.held k.vault) k 0 c.args.trans c.silence.result h (none_there (map.get k.lives c.args.trans) (sym c.has.ensures ∙ c.if-not-has.true)) is
 
 pub returns-then-not-has-clause-ready : goal.returns-then-not-has-clause-ready
 returns-then-not-has-clause-ready g c n h = stepped_ready n (g.V.Vault.serves c.args.self.now.vault) c.args.self.now h
@@ -26,7 +26,7 @@ pub returns-clause-stepped : goal.returns-clause-stepped
 returns-clause-stepped g c o s h =
     let k = c.args.self.now in
     let held = g.V.Vault.held in
-    let there = some_there (map.get k.lives c.args.trans) (sym c.has.ensures ∙ ?) in
+    let there = some_there (map.get k.lives c.args.trans) (sym c.has.ensures ∙ c.if-not-has.false) in
     let is : c.silence.result ≡ record { kept = None; handed = None; acts = act.Released c.args.trans ∷ [] } =
     c.silence.ensures ∙ ap (λ (acts : List Act). record { kept = None; handed = None; acts = acts }) (c.new-acts.ensures ∙ c.in_ok-vec.ensures.items) in
     subst (λ (x : Kept _). Stepped o s (held x.vault) x (event.Timeout c.args.trans) c.silence.result) (sym c.forget.ensures)
