@@ -1,5 +1,5 @@
 -- a server keeps what its journal says, entry by entry
-use Rattle.std.specs.Prelude.{cond, Bool, true, false, ◌==◌, max, Option, None, Some, is_some}
+use Rattle.std.specs.Prelude.{Result, Ok, Err, IfOk, OnOk, OnErr, IsTrue, cond, Bool, true, false, ◌==◌, max, Option, None, Some, is_some}
 use Rattle.std.specs.Option.{option_map}
 use Rattle.std.specs.List.{AllByRecursion}
 use Rattle.std.specs.FinMap as map
@@ -30,6 +30,12 @@ use Rattle.alp_files.proofs.CellMapLemmas.{over-none}
 use Rattle.alp_files.proofs.FilesLemmas.{same-some}
 use Rattle.alp_files.proofs.HistoryLemmas.{get-edits_map, same_cells}
 use Rattle.alp_files.specs.History.{Decided}
+use Rattle.alp_base.specs.Causes.{Rose}
+use Rattle.alp_base.specs.declared.allowance.Allowance.{Allowance}
+use Rattle.alp_base.specs.declared.allowance.Allowance.TheVariants.{Spent}
+use Rattle.alp_base.specs.declared.memory.OutOfMemory.{OutOfMemory}
+use Rattle.alp_calls.specs.declared.fault.CallFault.{CallFault}
+use Rattle.alp_calls.specs.declared.fault.CallFault.TheVariants as call_fault
 use Rattle.alp_calls.specs.Parts.{own_of}
 use Rattle.alp_calls.specs.declared.part.Part.{Part}
 use Rattle.alp_locks.specs.Tables.{Parts, Table, held_of, holding}
@@ -49,13 +55,16 @@ use Rattle.alp_journal.specs.Laws.{next_trans, ended_at, AreEarlier}
 use Rattle.alp_journal.proofs.StateLemmas.{same_trans-itself, same_trans-true, AreEarlier-push}
 use Rattle.alp_journal.proofs.EntryLemmas.{commit_leads, with_committed, committed, halt_leads, greeting_leads, begin_leads, with_begun, counts_on, passing_leads, abort_leads, without_life, timeout_leads, idle_timeout_leads}
 use Rattle.alp_node.specs.Sessions.{session_at, with_session}
-use Rattle.alp_node.specs.Kept.{IsLife, IsAlike, IsAs, told_session, PutNoneBeyond, last_time, notes_at}
-use Rattle.alp_node.specs.Steps.{Stepped, IsOf, without_trans}
+use Rattle.alp_node.specs.Kept.{IsLife, IsAlike, IsAs, IsReady, told_session, PutNoneBeyond, last_time, notes_at}
+use Rattle.alp_node.specs.Calls.{HaveCauses}
+use Rattle.alp_node.specs.Steps.{Stepped, IsOf, IsTurn, IsHalted, counted_in, without_trans}
 use Rattle.alp_node.specs.declared.answer.Answer.{Answer}
 use Rattle.alp_node.specs.declared.kept.Kept.{Kept}
 use Rattle.alp_node.specs.declared.lives.Live.{Live}
 use Rattle.alp_node.specs.declared.sessions.Session.{Session}
 use Rattle.alp_node.specs.declared.sessions.Sessions.{Sessions}
+use Rattle.alp_node.specs.declared.sessions.Turn.{Turn}
+use Rattle.alp_node.proofs.ReadyLemmas.{counted_ready, gone_ready}
 use Rattle.alp_node.proofs.MapLemmas.{session_set, session_kept, places_set, get_put, get_gone, tied_same}
 
 -- ---- what holds of lives
@@ -413,3 +422,63 @@ module _ {V : Type 0} (o : Start) (s : State) (held : Contents) (k : Kept V) (cl
         lives = h.lives; unborn = h.unborn; drawn = h.drawn; made = h.made; born = h.born; earlier = h.earlier; committed = h.committed;
         quiet = leads.quiet;
       })
+
+  -- the same of an answer that says so
+  pub halted_stepped : (w : Session) (number : ℕ) (c : Call) (v : V) (then : Contents) (fault : CallFault) (r : Result Answer OutOfMemory) (new : Kept V) → IsAs o s held k → client ≤ 16
+      → session_at k.sessions client ≡ Some w → number ≡ w.last + 1 → state.kind_of c ≡ state.Plain
+      → state.done_by s c (reply.Refused refusal.ReadFault) (state.file_trans c) ≡ None → state.done_by s c (reply.Refused refusal.Down) (state.file_trans c) ≡ None
+      → IfOk r (IsHalted fault) → OnOk r (new ≡ record (counted w number) { is_down = true; vault = v }) → IfOk r (Stepped o s then new (event.Call client k.epoch number c))
+  halted_stepped w number c v then fault (Err e) new h le there turn plain none_fault none_down is down = tt
+  halted_stepped w number c v then fault (Ok a) new h le there turn plain none_fault none_down is down =
+      subst (λ (x : Kept V). Stepped o s then x (event.Call client k.epoch number c) a) (sym down) (go fault is)
+    where
+      go : (f : CallFault) → IsHalted f a → Stepped o s then (record (counted w number) { is_down = true; vault = v }) (event.Call client k.epoch number c) a
+      go call_fault.Failed is = halt_stepped w number c refusal.ReadFault (act.Failed ∷ []) v a then refl h le there turn plain refl none_fault is
+      go call_fault.Stopped is = halt_stepped w number c refusal.Down (act.Stopped ∷ []) v a then refl h le there turn plain refl none_down is
+      go call_fault.OutOfMemory is = absurd is
+
+-- a halt has its cause
+pub halted_cause : {V : Type 0} (faults : V → ℕ) (allowance : V → Allowance) (before : ℕ) (fault : CallFault) (r : Result Answer OutOfMemory) (new so : Kept V)
+    → (fault ≡ call_fault.Failed → Rose before (faults so.vault)) → (fault ≡ call_fault.Stopped → allowance so.vault ≡ Spent)
+    → IfOk r (IsHalted fault) → OnOk r (new ≡ so) → IfOk r (λ a. HaveCauses before (faults new.vault) (allowance new.vault) a.acts)
+halted_cause faults allowance before fault (Err e) new so failed stopped is down = tt
+halted_cause {V} faults allowance before fault (Ok a) new so failed stopped is down =
+    subst (λ (x : Kept V). HaveCauses before (faults x.vault) (allowance x.vault) a.acts) (sym down) (go fault failed stopped is)
+  where
+    go : (f : CallFault) → (f ≡ call_fault.Failed → Rose before (faults so.vault)) → (f ≡ call_fault.Stopped → allowance so.vault ≡ Spent) → IsHalted f a → HaveCauses before (faults so.vault) (allowance so.vault) a.acts
+    go call_fault.Failed failed stopped is = subst (λ (x : Answer). HaveCauses before (faults so.vault) (allowance so.vault) x.acts) (sym is) (failed refl, tt)
+    go call_fault.Stopped failed stopped is = subst (λ (x : Answer). HaveCauses before (faults so.vault) (allowance so.vault) x.acts) (sym is) (stopped refl, tt)
+    go call_fault.OutOfMemory failed stopped is = absurd is
+
+-- after want of memory it is ready as before, where the vault serves on
+pub ready_in : {V : Type 0} (n : ℕ) (before serves : Bool) (k : Kept V) (v : V) → IsTrue serves → IsReady n before k → IsReady n serves (record k { vault = v })
+ready_in n before serves k v on h =
+    record { serving = λ _. on; sound = h.sound; alone = h.alone; known = h.known; begun = h.begun; opens = h.opens; places = h.places; calls = h.calls; drawn = h.drawn; given = h.given; committed = h.committed }
+
+pub halted_still : {V : Type 0} (serves : V → Bool) (n : ℕ) (k : Kept V) (v : V) (fault : CallFault) (r : Result Answer OutOfMemory) (new : Kept V) → (fault ≡ call_fault.OutOfMemory → IsTrue (serves v)) → IsReady n (serves k.vault) k
+    → OnErr r (fault ≡ call_fault.OutOfMemory) → OnErr r (new ≡ record k { vault = v }) → OnErr r (IsReady n (serves new.vault) new)
+halted_still serves n k v fault (Ok a) new on h memory same = tt
+halted_still {V} serves n k v fault (Err e) new on h memory same = subst (λ (x : Kept V). IsReady n (serves x.vault) x) (sym same) (ready_in n (serves k.vault) (serves v) k v (on memory) h)
+
+-- whoever is down need not serve
+pub halted_ready : {V : Type 0} (n : ℕ) (before serves : Bool) (k : Kept V) (v : V) (turn : Turn) (r : Result Answer OutOfMemory) (new : Kept V) → IsTurn k.sessions turn → IsReady n before k
+    → OnOk r (new ≡ record k { sessions = counted_in k.sessions turn; is_down = true; vault = v }) → OnOk r (IsReady (n + 1) serves new)
+halted_ready n before serves k v turn (Err e) new is h down = tt
+halted_ready {V} n before serves k v turn (Ok a) new is h down =
+    let c = counted_ready n before k turn is h in
+    let never : true ≡ false → ⊥ = λ e. cc in
+    subst (IsReady (n + 1) serves) (sym down) (record {
+      serving = λ e. absurd (never e);
+      sound = c.sound; alone = c.alone; known = c.known; begun = c.begun; opens = c.opens; places = c.places; calls = c.calls; drawn = c.drawn; given = c.given; committed = c.committed;
+    })
+
+-- a commit leaves it ready
+pub commit_ready : {V : Type 0} (n : ℕ) (before serves : Bool) (k : Kept V) (v : V) (turn : Turn) (t : TransId) → IsTrue serves → IsTurn k.sessions turn → IsReady n before k
+    → IsReady (n + 1) serves (record (without_trans k t) { sessions = counted_in k.sessions turn; clock = k.clock + 1; committed = k.committed + 1; vault = v })
+commit_ready n before serves k v turn t on is h =
+    let c = counted_ready n before (without_trans k t) turn is (gone_ready n before k t h) in
+    record {
+      serving = λ _. on;
+      sound = c.sound; alone = c.alone; known = c.known; begun = c.begun; opens = c.opens; places = c.places; calls = c.calls; drawn = c.drawn; given = c.given;
+      committed = omega (arith, h.committed);
+    }

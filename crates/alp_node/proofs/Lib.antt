@@ -1,3 +1,4 @@
 pub mod MapLemmas
 pub mod KeptLemmas
 pub mod ReadyLemmas
+pub mod CallLemmas

@@ -2,7 +2,7 @@
 use Rattle.std.specs.Prelude.{cond, Bool, true, false, ◌==◌, Option, None, Some, slice_get, slice_set, is_some}
 use Rattle.std.specs.Option.{option_map, option_and_then}
 use Rattle.std.specs.FinMap as map
-use Rattle.std.specs.FinMap.{get-insert, get-remove}
+use Rattle.std.specs.FinMap.{get-insert, get-remove, same_map}
 use Rattle.std.specs.Ordering.{eq_by_cmp}
 use Rattle.std.specs.Cmp.{eq_by_cmp_equiv}
 use Rattle.std.proofs.Common.{◌≡◌, ℕ, zero, suc, ◌<◌, ◌≤◌, List, [], ◌∷◌, length, refl, sym, ◌∙◌, ap, subst, arith, eq-eqb}
@@ -93,3 +93,15 @@ get_put m t x u = get-insert transactions_total m t x u ∙ ap (λ (b : Bool). c
 
 pub get_gone : {X : Type 0} (m : map.FinMap trans_cmp X) (t u : TransId) → map.get (map.remove m t) u ≡ cond {A = Option X} (same_trans u t) None (map.get m u)
 get_gone m t u = get-remove transactions_total m t u ∙ ap (λ (b : Bool). cond {A = Option _} b None (map.get m u)) (tied_same u t)
+
+cond_twice : {A : Type 0} (b : Bool) (x y z : A) → cond b x (cond b y z) ≡ cond b x z
+cond_twice true x y z = refl
+cond_twice false x y z = refl
+
+-- what was put before does not count
+pub put_twice : {X : Type 0} (m : map.FinMap trans_cmp X) (t : TransId) (x y : X) → map.insert (map.insert m t x) t y ≡ map.insert m t y
+put_twice m t x y = same_map transactions_total exact_transactions _ _ (λ u.
+    get_put (map.insert m t x) t y u ∙ ap (cond {A = Option _} (same_trans u t) (Some y)) (get_put m t x u) ∙ cond_twice {A = Option _} (same_trans u t) (Some y) (Some x) (map.get m u) ∙ sym (get_put m t y u))
+
+pub put_there : {X : Type 0} (m : map.FinMap trans_cmp X) (t : TransId) (x : X) → map.get (map.insert m t x) t ≡ Some x
+put_there m t x = get_put m t x t ∙ ap (λ (b : Bool). cond {A = Option _} b (Some x) (map.get m t)) (same_trans-itself t)

@@ -15,9 +15,10 @@ asks_of (call.OpenFile t file access mode choice) = (Whole file, mode) ∷ []
 asks_of (call.MakeOwner t owner quota create choice) = (Leaf (OwnerOf owner), Write) ∷ []
 asks_of _ = []
 
--- and a new file with this id is locked as it is made
-abbrev pub asks_with : FileId → Call → List Need
-asks_with id c = (Whole id, Write) ∷ asks_of c
+-- and the lock on a file with this id, where it is made
+abbrev pub asks_made : FileId → Call → List Need
+asks_made id (call.CreateFile t start choice) = (Leaf (OwnerOf start.owner), Write) ∷ (Whole id, Write) ∷ []
+asks_made id c = asks_of c
 
 -- an id that a file was given here, in an older epoch or up to this count
 abbrev pub is_given : ℕ → ℕ → ℕ → FileId → Bool

@@ -1,8 +1,12 @@
 -- One step of a server.
-use Rattle.std.specs.Prelude.{◌≡◌, ℕ, ◌+◌, ◌≤◌, Option, None, Some}
+use Rattle.std.specs.Prelude.{◌≡◌, ℕ, ◌+◌, ◌≤◌, [], ◌∷◌, Option, None, Some}
 use Rattle.std.specs.FinMap as map
 use Rattle.alp_base.specs.declared.ids.TransId.{TransId}
 use Rattle.alp_locks.specs.Releases.{released}
+use Rattle.alp_files.specs.declared.refusal.Refusal.{Refusal}
+use Rattle.alp_files.specs.declared.reply.Reply.TheVariants as reply
+use Rattle.alp_calls.specs.declared.fault.CallFault.{CallFault}
+use Rattle.alp_journal.specs.declared.act.Act.{Act}
 use Rattle.alp_journal.specs.declared.event.Event.{Event}
 use Rattle.alp_journal.specs.declared.entry.Entry.{Entry}
 use Rattle.alp_journal.specs.State.{State, Start}
@@ -13,6 +17,7 @@ use Rattle.alp_node.specs.declared.kept.Kept.{Kept}
 use Rattle.alp_node.specs.declared.lives.Live.{Live}
 use Rattle.alp_node.specs.declared.sessions.Turn.{Turn}
 use Rattle.alp_node.specs.declared.sessions.Sessions.{Sessions}
+use Rattle.alp_node.specs.Halts.{halt_of}
 use Rattle.alp_node.specs.Sessions.{session_at, with_session}
 use Rattle.alp_node.specs.Kept.{IsAs}
 
@@ -46,3 +51,11 @@ IsOf client (Some l) = l.client ≡ client
 -- the server where the transaction is live no more, and its locks are gone
 abbrev pub without_trans : {V : Type 0} → Kept V → TransId → Kept V
 without_trans k t = record k { lives = map.remove k.lives t; locks = released k.locks t }
+
+-- the answer that says so
+abbrev pub IsHaltedSo : Option (Refusal × Act) → Answer → Type 0
+IsHaltedSo None a = ⊥
+IsHaltedSo (Some x) a = a ≡ record { kept = Some (reply.Refused x.0); handed = Some (reply.Refused x.0); acts = x.1 ∷ [] }
+
+abbrev pub IsHalted : CallFault → Answer → Type 0
+IsHalted fault a = IsHaltedSo (halt_of fault) a

@@ -1,7 +1,7 @@
 //! Transactions end.
-ghost use Rattle.std.specs.Prelude.{◌≡◌, ◌≢◌, ◌+◌, ◌<◌, ◌≤◌, ◌^◌, [], ◌∷◌, IsTrue, IfOk, OnOk, OnErr, Some, None, ℕ, true, false};
+ghost use Rattle.std.specs.Prelude.{◌≡◌, ◌≢◌, ◌+◌, ◌<◌, ◌≤◌, ◌^◌, [], ◌∷◌, IsTrue, IfOk, OnOk, OnErr, Some, None, ℕ, true, false, vec_capacity};
 ghost use Rattle.std.specs.FinMap as map;
-ghost use Rattle.alp_base.specs.declared.faults.VaultFault.TheVariants as vault_fault;
+ghost use Rattle.alp_calls.specs.declared.fault.CallFault.TheVariants as call_fault;
 ghost use Rattle.alp_files.specs.Sound.{AreSound};
 ghost use Rattle.alp_files.specs.Cells.{Cells};
 ghost use Rattle.alp_files.specs.Edits.{over};
@@ -12,13 +12,14 @@ ghost use Rattle.alp_node.specs.declared.lives.Live.{Live as ALive};
 ghost use Rattle.alp_node.specs.Kept.{IsAs, IsReady};
 ghost use Rattle.alp_node.specs.Calls.{HaveCauses};
 ghost use Rattle.alp_files.specs.declared.reply.Reply.TheVariants as reply;
-ghost use Rattle.alp_node.specs.Steps.{Stepped, IsTurn, IsOf, counted_in, without_trans};
+ghost use Rattle.alp_node.specs.Steps.{Stepped, IsTurn, IsOf, IsHalted, counted_in, without_trans};
 
 use crate::answer::Answer;
 use crate::kept::Kept;
 use crate::sessions::Turn;
 use crate::stored::store;
-use alp_base::{OutOfMemory, Stamp, TransId, VaultFault};
+use alp_base::{OutOfMemory, Stamp, TransId};
+use alp_calls::CallFault;
 use alp_fields::ClockNote;
 use alp_files::{Cause, Refusal, Reply};
 use alp_journal::{Act, Acts, Parts};
@@ -95,8 +96,7 @@ impl<V: Vault> Kept<V> {
             parts: Parts::new(Vec::new(self.alloc)),
         };
         let acts = Acts::new(vec![in self.alloc; decided, Act::Released { trans }]?);
-        let failed = Acts::new(vec![in self.alloc; Act::Failed]?);
-        let stopped = Acts::new(vec![in self.alloc; Act::Stopped]?);
+        let halted = Vec::with_capacity(self.alloc, 1)?;
         let answer = Answer::new(Reply::Committed { stamp }, acts)?;
         let Some(live) = self.lives.get(&trans) else {
             unreachable!()
@@ -105,11 +105,8 @@ impl<V: Vault> Kept<V> {
             epoch: self.epoch,
             clock: stamp.ts,
         };
-        match store(self.alloc, &mut self.vault, &live.part.intents, note) {
-            Ok(()) => {}
-            Err(VaultFault::OutOfMemory) => return Err(OutOfMemory),
-            Err(VaultFault::Stopped) => return Ok(self.halt(turn, Refusal::Down, stopped)),
-            Err(_) => return Ok(self.halt(turn, Refusal::ReadFault, failed)),
+        if let Err(fault) = store(self.alloc, &mut self.vault, &live.part.intents, note) {
+            return self.halt(turn, fault, halted);
         }
         self.forget(trans);
         self.clock = stamp.ts;
@@ -118,15 +115,30 @@ impl<V: Vault> Kept<V> {
         Ok(answer)
     }
 
-    /// The vault failed or was stopped in a call.
-    pub fn halt(&mut self, turn: &Turn, refusal: Refusal, acts: Acts) -> Answer
-        requires { turn.now.client ≤ 16 }
-        ensures kept { self.new ≡ record self.old { sessions = counted_in self.old.sessions turn.now; is_down = true } }
-        ensures answer { result ≡ record { kept = Some (reply.Refused refusal); handed = Some (reply.Refused refusal); acts = acts } }
+    /// The vault gave no answer in a call: it failed or was stopped, and the server is down, or there was no memory.
+    pub fn halt(
+        &mut self,
+        turn: &Turn,
+        fault: CallFault,
+        mut acts: Vec<Act>,
+    ) -> Result<Answer, OutOfMemory>
+        requires client { turn.now.client ≤ 16 }
+        requires none { acts.items ≡ [] }
+        requires room { 0 < vec_capacity acts }
+        ensures halted { IfOk result (λ a. IsHalted fault a) }
+        ensures down { OnOk result (self.new ≡ record self.old { sessions = counted_in self.old.sessions turn.now; is_down = true }) }
+        ensures memory { OnErr result (fault ≡ call_fault.OutOfMemory) }
+        ensures err { OnErr result (self.new ≡ self.old) }
     {
+        let (refusal, act) = match fault {
+            CallFault::Failed => (Refusal::ReadFault, Act::Failed),
+            CallFault::Stopped => (Refusal::Down, Act::Stopped),
+            CallFault::OutOfMemory => return Err(OutOfMemory),
+        };
+        acts.push_reserved(act);
         self.sessions.count(turn);
         self.is_down = true;
-        Answer::refused(refusal, acts)
+        Ok(Answer::refused(refusal, Acts::new(acts)))
     }
 
     /// A call is refused and not performed.

@@ -2,7 +2,9 @@
 #![tactic(auto)]
 
 mod answer;
+mod asks;
 mod begin;
+mod calls;
 mod finish;
 mod kept;
 mod lives;

@@ -27,10 +27,10 @@ returns-clause-stepped g c o s h =
     let k = c.args.self.now in
     let held = g.V.Vault.held in
     let there = some_there (map.get k.lives c.args.trans) (sym c.has.ensures ∙ c.if-not-has.false) in
-    let is : c.silence.result ≡ record { kept = None; handed = None; acts = act.Released c.args.trans ∷ [] } =
-    c.silence.ensures ∙ ap (λ (acts : List Act). record { kept = None; handed = None; acts = acts }) (c.new-acts.ensures ∙ c.in_ok-vec.ensures.items) in
-    subst (λ (x : Kept _). Stepped o s (held x.vault) x (event.Timeout c.args.trans) c.silence.result) (sym c.forget.ensures)
-    (timeout_stepped o s (held k.vault) k 0 c.args.trans there.0 c.silence.result h c.requires.alone there.1 is)
+    let is : c.silence-2.result ≡ record { kept = None; handed = None; acts = act.Released c.args.trans ∷ [] } =
+    c.silence-2.ensures ∙ ap (λ (acts : List Act). record { kept = None; handed = None; acts = acts }) (c.new-acts.ensures ∙ c.in_ok-vec.ensures.items) in
+    subst (λ (x : Kept _). Stepped o s (held x.vault) x (event.Timeout c.args.trans) c.silence-2.result) (sym c.forget.ensures)
+    (timeout_stepped o s (held k.vault) k 0 c.args.trans there.0 c.silence-2.result h c.requires.alone there.1 is)
 
 pub returns-clause-ready : goal.returns-clause-ready
 returns-clause-ready g c n h =
