@@ -94,7 +94,7 @@ pub record IsLive (locks : Parts) (t : TransId) (l : Live) (x : Option Life) : T
   pub is : x ≡ Some life
   pub alike : IsLife locks t l life
 
-live_there : (locks : Parts) (t : TransId) (o : Option Live) (x : Option Life) (l : Live) → o ≡ Some l → IsAlike locks t o x → IsLive locks t l x
+pub live_there : (locks : Parts) (t : TransId) (o : Option Live) (x : Option Life) (l : Live) → o ≡ Some l → IsAlike locks t o x → IsLive locks t l x
 live_there locks t None x l is h = let wrong : None ≡ Some l = is in cc
 live_there locks t (Some m) None l is h = absurd h
 live_there locks t (Some m) (Some life) l is h = record { life = life; is = refl; alike = subst (λ (y : Live). IsLife locks t y life) (same_live m l is) h }
@@ -103,7 +103,7 @@ live_there locks t (Some m) (Some life) l is h = record { life = life; is = refl
     same_live a b e = cc
 
 -- of each transaction but one all is as it was, and that one is so
-alike_set : (locks new : Parts) (t : TransId) (o : Option Live) (x : Option Life) (lives : TransId → Option Live) (kept : TransId → Option Life) → ((u : TransId) → IsAlike locks u (lives u) (kept u))
+pub alike_set : (locks new : Parts) (t : TransId) (o : Option Live) (x : Option Life) (lives : TransId → Option Live) (kept : TransId → Option Life) → ((u : TransId) → IsAlike locks u (lives u) (kept u))
     → ((u : TransId) (r : Resource) → same_trans u t ≡ false → holding new u r ≡ holding locks u r) → IsAlike new t o x
     → (u : TransId) → IsAlike new u (cond {A = Option Live} (same_trans u t) o (lives u)) (cond {A = Option Life} (same_trans u t) x (kept u))
 alike_set locks new t o x lives kept all same this u = go (same_trans u t) refl
@@ -113,7 +113,7 @@ alike_set locks new t o x lives kept all same this u = go (same_trans u t) refl
     go false e = alike_under locks new u (lives u) (kept u) (λ r. same u r e) (all u)
 
 -- of each life but one all is as it was, and that one is so
-each_set : (P : Life → Type 0) (t : TransId) (x : Option Life) (lives : TransId → Option Life) → ((u : TransId) (l : Life) → lives u ≡ Some l → P l) → ((l : Life) → x ≡ Some l → P l)
+pub each_set : (P : Life → Type 0) (t : TransId) (x : Option Life) (lives : TransId → Option Life) → ((u : TransId) (l : Life) → lives u ≡ Some l → P l) → ((l : Life) → x ≡ Some l → P l)
     → (u : TransId) (l : Life) → cond {A = Option Life} (same_trans u t) x (lives u) ≡ Some l → P l
 each_set P t x lives all this u l = go (same_trans u t)
   where
@@ -159,7 +159,7 @@ noted_twice ns name a b = same_map nat_list_cmp_total exact_bytes _ _ (λ q.
     ∙ sym (get-insert nat_list_cmp_total ns name b q))
 
 -- no puts over what is seen
-over_empty : (v : View) → over map.empty v ≡ v
+pub over_empty : (v : View) → over map.empty v ≡ v
 over_empty v = over-none v
 
 -- ---- what holds of sessions
@@ -169,7 +169,7 @@ told_turn : {V : Type 0} (o : Start) (s : State) (held : Contents) (k : Kept V) 
 told_turn o s held k client w h is = h.sessions client ∙ ap (option_map told_session) is
 
 -- the sessions where one is another now
-sessions_as : {V : Type 0} (o : Start) (s : State) (held : Contents) (k : Kept V) (client : ℕ) (w : Session) → IsAs o s held k → client ≤ 16 → (c : ℕ)
+pub sessions_as : {V : Type 0} (o : Start) (s : State) (held : Contents) (k : Kept V) (client : ℕ) (w : Session) → IsAs o s held k → client ≤ 16 → (c : ℕ)
     → cond {A = Option state.Session} (c == client) (Some (told_session w)) (s.sessions c) ≡ option_map told_session (session_at (with_session k.sessions client w) c)
 sessions_as o s held k client w h le c =
     ap (cond {A = Option state.Session} (c == client) (Some (told_session w))) (h.sessions c) ∙ sym (session_set k.sessions client w c h.places le)
