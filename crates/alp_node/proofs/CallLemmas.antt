@@ -16,9 +16,9 @@ use Rattle.alp_files.specs.Act.{Own, Answer, answer, id_in}
 use Rattle.alp_files.specs.Born.{count_after, IsUnborn}
 use Rattle.alp_files.specs.Built.{IsBuilt}
 use Rattle.alp_files.proofs.BornLemmas.{unborn_kept, unborn_more}
-use Rattle.alp_files.proofs.EditLemmas.{changes-append}
+use Rattle.alp_files.proofs.EditLemmas.{changes-append, edits_at-append}
 use Rattle.alp_files.proofs.FilesLemmas.{same-some}
-use Rattle.alp_files.specs.Edits.{Edit, edit_at, edits_at, after, ChangesBy}
+use Rattle.alp_files.specs.Edits.{Edit, edits_at, after, ChangesBy}
 use Rattle.alp_files.specs.Locks.{IsMore, with_made}
 use Rattle.alp_files.proofs.HistoryLemmas.{get-edits_map}
 use Rattle.alp_locks.specs.Tables.{Table, holding}
@@ -168,10 +168,6 @@ made_now server epoch count (reply.Committed x) only = refl
 made_now server epoch count (reply.Ended e) only = refl
 made_now server epoch count (reply.Refused f) only = refl
 
-edits_after : (es fs : List Edit) (q : Key) (x : Option Cell) → edits_at (es ++ fs) q x ≡ edits_at fs q (edits_at es q x)
-edits_after [] fs q x = refl
-edits_after (e ∷ es) fs q x = edits_after es fs q (edit_at e q x)
-
 module _ {V : Type 0} (o : Start) (s : State) (held : Contents) (k : Kept V) (turn : Turn) (t : TransId) (l : Live) (p : Part) (c : Call) (r : Reply) (locks : Table) (v : V) (life : Life) (under : Holding) where
   -- the part as it was, under these locks
   abbrev pub life_under : Life
@@ -199,7 +195,7 @@ module _ {V : Type 0} (o : Start) (s : State) (held : Contents) (k : Kept V) (tu
       let low : k.given < n = omega (arith, count_grows k.given r, high) in
       let seen_none : view_in s life q ≡ None = view_unborn h is n low in
       let only_so : GivesOnly (record { server = s.server; epoch = s.epoch; counter = k.given + 1 }) r = subst (λ (f : FileId). GivesOnly f r) (next_same h) only in
-      edits_after life.edits gave.edits q None ∙ ap (edits_at gave.edits q) (h.unborn t life is n low) ∙ ap (edits_at gave.edits q) (sym seen_none)
+      edits_at-append life.edits gave.edits q None ∙ ap (edits_at gave.edits q) (h.unborn t life is n low) ∙ ap (edits_at gave.edits q) (sym seen_none)
       ∙ unborn_kept s.server s.epoch k.given [] (view_in s life) life.who life.own c r built (view_unborn h is) only_so n high
 
   pub done_as : (then : Contents) → IsAs o s held k → then ≡ held → IsTurn k.sessions turn → map.get k.lives t ≡ Some l → s.lives t ≡ Some life → IsLife k.locks.held t l life → IsBuilt c → GivesOnly (next_file k) r

@@ -165,7 +165,7 @@ over_empty v = over-none v
 -- ---- what holds of sessions
 
 -- the session's name and its next number, as the journal has them
-told_turn : {V : Type 0} (o : Start) (s : State) (held : Contents) (k : Kept V) (client : ℕ) (w : Session) → IsAs o s held k → session_at k.sessions client ≡ Some w → s.sessions client ≡ Some (told_session w)
+pub told_turn : {V : Type 0} (o : Start) (s : State) (held : Contents) (k : Kept V) (client : ℕ) (w : Session) → IsAs o s held k → session_at k.sessions client ≡ Some w → s.sessions client ≡ Some (told_session w)
 told_turn o s held k client w h is = h.sessions client ∙ ap (option_map told_session) is
 
 -- the sessions where one is another now
@@ -229,7 +229,7 @@ module _ {V : Type 0} (o : Start) (s : State) (held : Contents) (k : Kept V) (cl
   with_epoch number c r acts m h = subst (λ (n : ℕ). Leads s (record { event = event.Call client n number c; reply = Some r; acts = acts }) m) h.epoch
 
   -- and as the answer has it
-  answered : (number : ℕ) (c : Call) (r : Reply) (acts : List Act) (m : State) (new : Kept V) (a : Answer) (then : Contents) → a ≡ record { kept = Some r; handed = Some r; acts = acts } → IsAs o s held k
+  pub answered : (number : ℕ) (c : Call) (r : Reply) (acts : List Act) (m : State) (new : Kept V) (a : Answer) (then : Contents) → a ≡ record { kept = Some r; handed = Some r; acts = acts } → IsAs o s held k
       → Leads s (record { event = event.Call client s.epoch number c; reply = Some r; acts = acts }) m → IsAs o m then new → Stepped o s then new (event.Call client k.epoch number c) a
   answered number c r acts m new a then is h leads kept = record {
     next = m;

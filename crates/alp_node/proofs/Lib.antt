@@ -2,3 +2,5 @@ pub mod MapLemmas
 pub mod KeptLemmas
 pub mod ReadyLemmas
 pub mod CallLemmas
+pub mod PageLemmas
+pub mod PerformLemmas

@@ -68,7 +68,7 @@ away t u m l none there = go (same_trans u t) refl
     go true e = let wrong : None ≡ Some l = sym none ∙ ap (map.get m) (same_trans-true u t e) ∙ there in cc
     go false e = refl
 
-turned : (u t : TransId) → same_trans u t ≡ false → same_trans t u ≡ false
+pub turned : (u t : TransId) → same_trans u t ≡ false → same_trans t u ≡ false
 turned u t e = go (same_trans t u) refl
   where
     go : (b : Bool) → same_trans t u ≡ b → b ≡ false
