@@ -455,10 +455,10 @@ pub ready_in : {V : Type 0} (n : ℕ) (before serves : Bool) (k : Kept V) (v : V
 ready_in n before serves k v on h =
     record { serving = λ _. on; sound = h.sound; alone = h.alone; known = h.known; begun = h.begun; opens = h.opens; places = h.places; calls = h.calls; drawn = h.drawn; given = h.given; committed = h.committed }
 
-pub halted_still : {V : Type 0} (serves : V → Bool) (n : ℕ) (k : Kept V) (v : V) (fault : CallFault) (r : Result Answer OutOfMemory) (new : Kept V) → (fault ≡ call_fault.OutOfMemory → IsTrue (serves v)) → IsReady n (serves k.vault) k
+pub halted_still : {V : Type 0} (serves : V → Bool) (before : Bool) (n : ℕ) (k : Kept V) (v : V) (fault : CallFault) (r : Result Answer OutOfMemory) (new : Kept V) → (fault ≡ call_fault.OutOfMemory → IsTrue (serves v)) → IsReady n before k
     → OnErr r (fault ≡ call_fault.OutOfMemory) → OnErr r (new ≡ record k { vault = v }) → OnErr r (IsReady n (serves new.vault) new)
-halted_still serves n k v fault (Ok a) new on h memory same = tt
-halted_still {V} serves n k v fault (Err e) new on h memory same = subst (λ (x : Kept V). IsReady n (serves x.vault) x) (sym same) (ready_in n (serves k.vault) (serves v) k v (on memory) h)
+halted_still serves before n k v fault (Ok a) new on h memory same = tt
+halted_still {V} serves before n k v fault (Err e) new on h memory same = subst (λ (x : Kept V). IsReady n (serves x.vault) x) (sym same) (ready_in n before (serves v) k v (on memory) h)
 
 -- whoever is down need not serve
 pub halted_ready : {V : Type 0} (n : ℕ) (before serves : Bool) (k : Kept V) (v : V) (turn : Turn) (r : Result Answer OutOfMemory) (new : Kept V) → IsTurn k.sessions turn → IsReady n before k

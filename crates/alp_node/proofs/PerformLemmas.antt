@@ -19,6 +19,14 @@ use Rattle.alp_files.specs.Born.{count_after}
 use Rattle.alp_files.specs.Cells.{Cells, has_file}
 use Rattle.alp_files.specs.Locks.{IsFormed, IsMore, with_made}
 use Rattle.alp_calls.specs.declared.part.Part.{Part}
+use Rattle.alp_base.specs.Causes.{Rose}
+use Rattle.alp_base.specs.declared.allowance.Allowance.{Allowance}
+use Rattle.alp_base.specs.declared.allowance.Allowance.TheVariants.{Spent}
+use Rattle.alp_base.specs.declared.faults.Sizes.{Sizes}
+use Rattle.alp_base.specs.declared.memory.OutOfMemory.{OutOfMemory}
+use Rattle.alp_calls.specs.Looks.{IsLeft, Looks}
+use Rattle.alp_calls.specs.declared.fault.CallFault.{CallFault}
+use Rattle.alp_calls.specs.declared.fault.CallFault.TheVariants as call_fault
 use Rattle.alp_calls.specs.Parts.{Performs}
 use Rattle.alp_vault.specs.Contents.{Contents}
 use Rattle.alp_journal.specs.declared.act.Act.{Act}
@@ -33,6 +41,7 @@ use Rattle.alp_node.specs.Steps.{Stepped, IsTurn, counted_in}
 use Rattle.alp_node.specs.declared.answer.Answer.{Answer}
 use Rattle.alp_node.specs.declared.kept.Kept.{Kept}
 use Rattle.alp_node.specs.declared.lives.Live.{Live}
+use Rattle.alp_node.specs.declared.sessions.Sessions.{Sessions}
 use Rattle.alp_node.specs.declared.sessions.Turn.{Turn}
 use Rattle.alp_node.proofs.KeptLemmas.{IsLive, live_there, answered, told_turn}
 use Rattle.alp_node.proofs.ReadyLemmas.{turned}
@@ -41,13 +50,13 @@ use Rattle.alp_node.proofs.MapLemmas.{get_put}
 use Rattle.alp_node.proofs.PageLemmas.{LeavesOpens, page_held, page_leaves}
 
 -- a call on pages stands by itself, ends nothing, and opens no file
-record IsPlainCall (s : State) (c : Call) (r : Reply) : Type 0 where
-  kind : kind_of c ≡ Plain
-  ends : (x : State) (client epoch number : ℕ) → ended_at x client epoch number c r ≡ []
-  here : is_of_no_file s c r ≡ false
-  built : IsBuilt c
+pub record IsPlainCall (s : State) (c : Call) (r : Reply) : Type 0 where
+  pub kind : kind_of c ≡ Plain
+  pub ends : (x : State) (client epoch number : ℕ) → ended_at x client epoch number c r ≡ []
+  pub here : is_of_no_file s c r ≡ false
+  pub built : IsBuilt c
 
-page_plain : (s : State) (c : Call) (r : Reply) → IsPageCall c → IsPlainCall s c r
+pub page_plain : (s : State) (c : Call) (r : Reply) → IsPageCall c → IsPlainCall s c r
 page_plain s (call.ReadPages t n run mode choice) r is = record { kind = refl; ends = λ x client epoch number. refl; here = refl; built = tt }
 page_plain s (call.WritePages t n run pages choice) r is = record { kind = refl; ends = λ x client epoch number. refl; here = refl; built = is }
 page_plain s (call.Hello name) r is = absurd is
@@ -161,3 +170,43 @@ module _ {V : Type 0} (n : ℕ) (before serves : Bool) (k : Kept V) (t : TransId
 -- what is told is told
 pub gave_told : (b : Bool) (cells : Cells) (id : FileId) (l : Live) (p : Part) (c : Call) (r : Reply) → IsTrue b → Gave b cells id l p c r → Gave true cells id l p c r
 gave_told b cells id l p c r told given = subst (λ (x : Bool). Gave x cells id l p c r) told given
+
+-- ---- a call that got no answer
+
+pub turn_kept : (a b : Sessions) (turn : Turn) → a ≡ b → IsTurn b turn → IsTurn a turn
+turn_kept a b turn same is = subst (λ (x : Sessions). IsTurn x turn) (sym same) is
+
+-- a vault that a look left serves where nobody stopped it
+pub looked_serves : {V : Type 0} (tells serves : V → Bool) (volume : V → Sizes) (held : V → Contents) (may_leave : V → Contents → Type 0) (left_since : V → V → Contents → Type 0) (faults : V → ℕ) (allowance : V → Allowance)
+    (old new : V) (fault : CallFault) → Looks tells serves volume held may_leave left_since faults allowance old new (Some fault) → fault ≡ call_fault.OutOfMemory → IsTrue (serves new)
+looked_serves tells serves volume held may_leave left_since faults allowance old new call_fault.OutOfMemory h e = h.1
+looked_serves tells serves volume held may_leave left_since faults allowance old new call_fault.Failed h e = cc
+looked_serves tells serves volume held may_leave left_since faults allowance old new call_fault.Stopped h e = cc
+
+pub looked_left : {V : Type 0} (tells serves : V → Bool) (volume : V → Sizes) (held : V → Contents) (may_leave : V → Contents → Type 0) (left_since : V → V → Contents → Type 0) (faults : V → ℕ) (allowance : V → Allowance)
+    (old new : V) (fault : CallFault) → Looks tells serves volume held may_leave left_since faults allowance old new (Some fault) → IsLeft tells serves volume held may_leave left_since faults allowance old new
+looked_left tells serves volume held may_leave left_since faults allowance old new call_fault.OutOfMemory h = h.0
+looked_left tells serves volume held may_leave left_since faults allowance old new call_fault.Failed h = h.0
+looked_left tells serves volume held may_leave left_since faults allowance old new call_fault.Stopped h = h.0
+
+pub looked_failed : {V : Type 0} (tells serves : V → Bool) (volume : V → Sizes) (held : V → Contents) (may_leave : V → Contents → Type 0) (left_since : V → V → Contents → Type 0) (faults : V → ℕ) (allowance : V → Allowance)
+    (old new : V) (fault : CallFault) → Looks tells serves volume held may_leave left_since faults allowance old new (Some fault) → fault ≡ call_fault.Failed → Rose (faults old) (faults new)
+looked_failed tells serves volume held may_leave left_since faults allowance old new call_fault.Failed h e = h.2
+looked_failed tells serves volume held may_leave left_since faults allowance old new call_fault.OutOfMemory h e = cc
+looked_failed tells serves volume held may_leave left_since faults allowance old new call_fault.Stopped h e = cc
+
+pub looked_stopped : {V : Type 0} (tells serves : V → Bool) (volume : V → Sizes) (held : V → Contents) (may_leave : V → Contents → Type 0) (left_since : V → V → Contents → Type 0) (faults : V → ℕ) (allowance : V → Allowance)
+    (old new : V) (fault : CallFault) → Looks tells serves volume held may_leave left_since faults allowance old new (Some fault) → fault ≡ call_fault.Stopped → allowance new ≡ Spent
+looked_stopped tells serves volume held may_leave left_since faults allowance old new call_fault.Stopped h e = h.1
+looked_stopped tells serves volume held may_leave left_since faults allowance old new call_fault.OutOfMemory h e = cc
+looked_stopped tells serves volume held may_leave left_since faults allowance old new call_fault.Failed h e = cc
+
+-- a halt leaves the vault alone
+pub halted_vault : {V : Type 0} (N new : Kept V) (turn : Turn) (r : Result Answer OutOfMemory) → OnOk r (new ≡ record N { sessions = counted_in N.sessions turn; is_down = true }) → OnErr r (new ≡ N) → new.vault ≡ N.vault
+halted_vault {V} N new turn (Ok a) down still = ap (λ (x : Kept V). x.vault) down
+halted_vault {V} N new turn (Err e) down still = ap (λ (x : Kept V). x.vault) still
+
+-- after want of memory it is what it was
+pub err_same : {V : Type 0} (P : Kept V → Type 0) (N new : Kept V) (r : Result Answer OutOfMemory) → OnErr r (new ≡ N) → P N → OnErr r (P new)
+err_same P N new (Ok a) same p = tt
+err_same P N new (Err e) same p = subst P (sym same) p

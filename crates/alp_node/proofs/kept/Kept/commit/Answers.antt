@@ -40,7 +40,7 @@ returns-in-Err-clause-cause g c =
 
 pub returns-in-Err-clause-ready_still : goal.returns-in-Err-clause-ready_still
 returns-in-Err-clause-ready_still g c n h =
-    halted_still g.V.Vault.serves n c.args.self.now c.store.new.vault c.in-Err.fault c.halt.result c.halt.new.self
+    halted_still g.V.Vault.serves (g.V.Vault.serves c.args.self.now.vault) n c.args.self.now c.store.new.vault c.in-Err.fault c.halt.result c.halt.new.self
     (λ e. subst (λ (f : CallFault). ServesOn {T = Unit {0}} (g.V.Vault.serves c.store.new.vault) (Err f)) e c.in-Err.ensures.serves) h c.halt.ensures.memory c.halt.ensures.err
 
 pub returns-clause-stepped : goal.returns-clause-stepped
