@@ -4,3 +4,4 @@ pub mod ReadyLemmas
 pub mod CallLemmas
 pub mod PageLemmas
 pub mod PerformLemmas
+pub mod LockLemmas

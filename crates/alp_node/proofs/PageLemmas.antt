@@ -31,7 +31,7 @@ use Rattle.alp_node.specs.Kept.{IsLocked, mode_for}
 
 -- ---- what the file's lock gives
 
-gives_read : (x : Mode) → covers_of x Read ≡ true → covers_held (leaf_of x) Read ≡ true
+pub gives_read : (x : Mode) → covers_of x Read ≡ true → covers_held (leaf_of x) Read ≡ true
 unfolding covers_of leaf_of
 gives_read IntendRead h = cc
 gives_read IntendWrite h = cc
@@ -49,7 +49,7 @@ gives_write Update h = cc
 gives_write ReadIntendWrite h = cc
 gives_write Write h = refl
 
-write_reads : (x : Mode) → covers_of x Write ≡ true → covers_of x Read ≡ true
+pub write_reads : (x : Mode) → covers_of x Write ≡ true → covers_of x Read ≡ true
 unfolding covers_of
 write_reads IntendRead h = cc
 write_reads IntendWrite h = cc
@@ -58,7 +58,7 @@ write_reads Update h = cc
 write_reads ReadIntendWrite h = cc
 write_reads Write h = refl
 
-of_some : (x : Option Mode) (m : Mode) (P : Option Mode → Type 0) → ((y : Mode) → covers_of y m ≡ true → P (Some y)) → covers_held x m ≡ true → P x
+pub of_some : (x : Option Mode) (m : Mode) (P : Option Mode → Type 0) → ((y : Mode) → covers_of y m ≡ true → P (Some y)) → covers_held x m ≡ true → P x
 of_some None m P f h = cc
 of_some (Some y) m P f h = f y h
 

@@ -41,6 +41,13 @@ IsPageCall (call.ReadPages t n r mode choice) = mode ≡ Read
 IsPageCall (call.WritePages t n r pages choice) = length pages ≡ r.count
 IsPageCall _ = ⊥
 
+-- those that ask for locks, of which an open locks its file in its access's mode
+abbrev pub IsLockCall : Call → Type 0
+IsLockCall (call.CreateFile t start choice) = Unit {0}
+IsLockCall (call.OpenFile t file access mode choice) = mode ≡ mode_for access
+IsLockCall (call.MakeOwner t name quota create choice) = Unit {0}
+IsLockCall _ = ⊥
+
 -- the vault failed or was stopped where the acts say so
 abbrev pub HaveCauses : ℕ → ℕ → Allowance → List Act → Type 0
 HaveCauses before now allowance [] = Unit {0}
