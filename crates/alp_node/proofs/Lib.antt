@@ -5,3 +5,4 @@ pub mod CallLemmas
 pub mod PageLemmas
 pub mod PerformLemmas
 pub mod LockLemmas
+pub mod AskLemmas

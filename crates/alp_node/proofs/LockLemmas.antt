@@ -45,14 +45,14 @@ use Rattle.alp_node.proofs.PageLemmas.{gives_read, of_some, write_reads}
 
 -- ---- what is asked
 
-itself : (q : Resource) → eq_by_cmp resource_cmp q q ≡ true
+pub itself : (q : Resource) → eq_by_cmp resource_cmp q q ≡ true
 itself q = (eq_by_cmp_equiv resources_total).refl q
 
 read_covers : covers_of Read Read ≡ true
 unfolding covers_of
 read_covers = refl
 
-write_covers : covers_of Write Write ≡ true
+pub write_covers : covers_of Write Write ≡ true
 unfolding covers_of
 write_covers = refl
 
