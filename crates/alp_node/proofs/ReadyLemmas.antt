@@ -1,0 +1,174 @@
+-- a server stays ready, step by step
+use Rattle.std.specs.Prelude.{cond, Bool, true, false, ◌==◌, max, Option, None, Some, is_some, IsTrue}
+use Rattle.std.specs.FinMap as map
+use Rattle.std.specs.Ordering.{eq_by_cmp}
+use Rattle.std.proofs.Common.{◌≡◌, ℕ, ◌+◌, ◌<◌, ◌≤◌, List, [], ◌∷◌, length, refl, sym, ◌∙◌, ap, subst, arith}
+use Rattle.alp_base.specs.declared.ids.TransId.{TransId}
+use Rattle.alp_base.specs.declared.key.Resource.{Resource}
+use Rattle.alp_modes.specs.Orders.{trans_cmp}
+use Rattle.alp_modes.specs.declared.Mode.{Mode}
+use Rattle.alp_files.specs.Act.{Own, no_opens}
+use Rattle.alp_calls.specs.Parts.{own_of}
+use Rattle.alp_calls.specs.declared.part.Part.{Part}
+use Rattle.alp_locks.specs.Tables.{Table, held_of, holding}
+use Rattle.alp_locks.specs.Asks.{entered}
+use Rattle.alp_locks.specs.Releases.{released}
+use Rattle.alp_locks.specs.Sound.{IsSound}
+use Rattle.alp_locks.proofs.PartLemmas.{insert-keeps, insert-knows}
+use Rattle.alp_locks.proofs.LawLemmas.{entering-keeps-held}
+use Rattle.alp_locks.proofs.PlanLemmas.{release-holds, release-waiting, release-knows}
+use Rattle.alp_locks.proofs.SoundLemmas.{released-sound, entered-sound}
+use Rattle.alp_journal.specs.State.{same_trans}
+use Rattle.alp_journal.proofs.StateLemmas.{same_trans-itself, same_trans-true}
+use Rattle.alp_node.specs.Sessions.{session_at, with_session}
+use Rattle.alp_node.specs.Kept.{IsReady}
+use Rattle.alp_node.specs.Steps.{IsTurn, counted_in, without_trans}
+use Rattle.alp_node.specs.declared.kept.Kept.{Kept}
+use Rattle.alp_node.specs.declared.lives.Live.{Live}
+use Rattle.alp_node.specs.declared.sessions.Session.{Session}
+use Rattle.alp_node.specs.declared.sessions.Sessions.{Sessions}
+use Rattle.alp_node.specs.declared.sessions.Turn.{Turn}
+use Rattle.alp_node.proofs.MapLemmas.{session_kept, places_set, get_put, get_gone, tied_same}
+
+-- ---- sessions
+
+same_session : (a b : Session) → Some a ≡ Some b → a ≡ b
+same_session a b e = cc
+
+same_live : (a b : Live) → Some a ≡ Some b → a ≡ b
+same_live a b e = cc
+
+-- no session counts further than so many steps
+calls_set : (sessions : Sessions) (client : ℕ) (w : Session) (n : ℕ) → length sessions.places ≡ 17 → client ≤ 16 → ((c : ℕ) (x : Session) → session_at sessions c ≡ Some x → x.last ≤ n) → w.last ≤ n + 1
+    → (c : ℕ) (x : Session) → session_at (with_session sessions client w) c ≡ Some x → x.last ≤ n + 1
+calls_set sessions client w n full le all low c x is = go (c == client) (sym (session_kept sessions client w c full le) ∙ is)
+  where
+    go : (b : Bool) → cond {A = Option Session} b (Some w) (session_at sessions c) ≡ Some x → x.last ≤ n + 1
+    go true e = subst (λ (y : Session). y.last ≤ n + 1) (same_session w x e) low
+    go false e = (let before : x.last ≤ n = all c x e in omega arith)
+
+turn_within : (sessions : Sessions) (t : Turn) (n : ℕ) → IsTurn sessions t → ((c : ℕ) (x : Session) → session_at sessions c ≡ Some x → x.last ≤ n) → t.number ≤ n + 1
+turn_within sessions t n turn all = (let low : t.session.last ≤ n = all t.client t.session turn.session in omega (arith, turn.number))
+
+-- ---- locks
+
+-- who enters and is released again leaves the others as they were
+pub undone_holds : (t : Table) (u v : TransId) (r : Resource) → t.waiting ≡ [] → ((q : Resource) → holding t.held u q ≡ None) → holding (released (entered t u) u).held v r ≡ holding t.held v r
+undone_holds t u v r alone none =
+    release-holds (entered t u) u v r alone ∙ ap (λ (b : Bool). cond {A = Option Mode} b None (holding (entered t u).held v r)) (tied_same v u) ∙ go (same_trans v u) refl
+  where
+    go : (b : Bool) → same_trans v u ≡ b → cond {A = Option Mode} b None (holding (entered t u).held v r) ≡ holding t.held v r
+    go true e = sym (ap (λ (x : TransId). holding t.held x r) (same_trans-true v u e) ∙ none r)
+    go false e = ap (λ h. map.get h r) (entering-keeps-held t u v)
+
+away : (t u : TransId) (m : map.FinMap trans_cmp Live) (l : Live) → map.get m u ≡ None → map.get m t ≡ Some l → same_trans u t ≡ false
+away t u m l none there = go (same_trans u t) refl
+  where
+    go : (b : Bool) → same_trans u t ≡ b → b ≡ false
+    go true e = let wrong : None ≡ Some l = sym none ∙ ap (map.get m) (same_trans-true u t e) ∙ there in cc
+    go false e = refl
+
+pub turned : (u t : TransId) → same_trans u t ≡ false → same_trans t u ≡ false
+turned u t e = go (same_trans t u) refl
+  where
+    go : (b : Bool) → same_trans t u ≡ b → b ≡ false
+    go true f = let wrong : true ≡ false = sym (ap (same_trans u) (same_trans-true t u f) ∙ same_trans-itself u) ∙ e in cc
+    go false f = refl
+
+module _ {V : Type 0} (n : ℕ) (serves : Bool) (k : Kept V) where
+  -- a session begins
+  pub hello_ready : (client : ℕ) (name : List ℕ) → client ≤ 16 → IsReady n serves k → IsReady (n + 1) serves (record k { sessions = with_session k.sessions client (record { who = name; last = 1 }) })
+  hello_ready client name le h = record {
+    serving = h.serving; sound = h.sound; alone = h.alone; known = h.known; begun = h.begun;
+    opens = λ t l is. (let low : l.part.last ≤ n = h.opens t l is in omega arith);
+    places = places_set k.sessions client (record { who = name; last = 1 }) h.places;
+    calls = calls_set k.sessions client (record { who = name; last = 1 }) n h.places le h.calls (omega arith);
+    drawn = omega (arith, h.drawn);
+    given = omega (arith, h.given);
+    committed = omega (arith, h.committed);
+  }
+
+  -- the session counts on
+  pub counted_ready : (turn : Turn) → IsTurn k.sessions turn → IsReady n serves k → IsReady (n + 1) serves (record k { sessions = counted_in k.sessions turn })
+  counted_ready turn is h = record {
+    serving = h.serving; sound = h.sound; alone = h.alone; known = h.known; begun = h.begun;
+    opens = λ t l there. (let low : l.part.last ≤ n = h.opens t l there in omega arith);
+    places = places_set k.sessions turn.client (record turn.session { last = turn.number }) h.places;
+    calls = calls_set k.sessions turn.client (record turn.session { last = turn.number }) n h.places is.client h.calls (turn_within k.sessions turn n is h.calls);
+    drawn = omega (arith, h.drawn);
+    given = omega (arith, h.given);
+    committed = omega (arith, h.committed);
+  }
+
+  -- one step more
+  pub stepped_ready : IsReady n serves k → IsReady (n + 1) serves k
+  stepped_ready h = record {
+    serving = h.serving; sound = h.sound; alone = h.alone; known = h.known; begun = h.begun;
+    opens = λ t l is. (let low : l.part.last ≤ n = h.opens t l is in omega arith);
+    places = h.places;
+    calls = λ c w is. (let low : w.last ≤ n = h.calls c w is in omega arith);
+    drawn = omega (arith, h.drawn);
+    given = omega (arith, h.given);
+    committed = omega (arith, h.committed);
+  }
+
+  -- a transaction ends
+  pub gone_ready : (t : TransId) → IsReady n serves k → IsReady n serves (without_trans k t)
+  gone_ready t h = record {
+    serving = h.serving;
+    sound = released-sound k.locks t h.sound;
+    alone = release-waiting k.locks t h.alone;
+    known = λ u l is. go u (same_trans u t) refl l (sym (get_gone k.lives t u) ∙ is);
+    begun = λ u l is. kept u (same_trans u t) l (λ x. x.part.last ≤ x.part.last) (λ there. h.begun u l there) (sym (get_gone k.lives t u) ∙ is);
+    opens = λ u l is. kept u (same_trans u t) l (λ x. x.part.last ≤ n) (λ there. h.opens u l there) (sym (get_gone k.lives t u) ∙ is);
+    places = h.places; calls = h.calls; drawn = h.drawn; given = h.given; committed = h.committed;
+  }
+    where
+      go : (u : TransId) (b : Bool) → same_trans u t ≡ b → (l : Live) → cond {A = Option Live} b None (map.get k.lives u) ≡ Some l → is_some (map.get (released k.locks t).held u) ≡ true
+      go u true e l is = let wrong : None ≡ Some l = is in cc
+      go u false e l is = release-knows k.locks t u h.alone (tied_same t u ∙ turned u t e) (h.known u l is)
+      kept : (u : TransId) (b : Bool) (l : Live) (P : Live → Type 0) {Q : Type 0} → (map.get k.lives u ≡ Some l → Q) → cond {A = Option Live} b None (map.get k.lives u) ≡ Some l → Q
+      kept u true l P f is = let wrong : None ≡ Some l = is in cc
+      kept u false l P f is = f is
+
+  -- a transaction begins
+  module _ (turn : Turn) (t : TransId) (l : Live) (clock : ℕ) where
+    abbrev pub begun_kept : Kept V
+    begun_kept = record k { sessions = counted_in k.sessions turn; clock = clock; drawn = k.drawn + 1; lives = map.insert k.lives t l; locks = entered k.locks t }
+
+    pub begin_ready : IsTurn k.sessions turn → t.counter ≡ k.drawn + 1 → own_of l.part ≡ no_opens → IsReady n serves k → IsReady (n + 1) serves begun_kept
+    begin_ready is next none h = record {
+      serving = h.serving;
+      sound = entered-sound k.locks t h.sound;
+      alone = h.alone;
+      known = λ u x there. known_so u (same_trans u t) refl x (sym (get_put k.lives t l u) ∙ there);
+      begun = λ u x there. begun_so u (same_trans u t) refl x (sym (get_put k.lives t l u) ∙ there);
+      opens = λ u x there. opens_so u (same_trans u t) x (sym (get_put k.lives t l u) ∙ there);
+      places = places_set k.sessions turn.client (record turn.session { last = turn.number }) h.places;
+      calls = calls_set k.sessions turn.client (record turn.session { last = turn.number }) n h.places is.client h.calls (turn_within k.sessions turn n is h.calls);
+      drawn = omega (arith, h.drawn);
+      given = omega (arith, h.given);
+      committed = omega (arith, h.committed);
+    }
+      where
+        known_so : (u : TransId) (b : Bool) → same_trans u t ≡ b → (x : Live) → cond {A = Option Live} b (Some l) (map.get k.lives u) ≡ Some x → is_some (map.get (entered k.locks t).held u) ≡ true
+        known_so u true e x there = ap (λ (v : TransId). is_some (map.get (entered k.locks t).held v)) (same_trans-true u t e) ∙ insert-knows k.locks.held t (held_of k.locks.held t)
+        known_so u false e x there = insert-keeps k.locks.held t (held_of k.locks.held t) u (h.known u x there)
+        begun_so : (u : TransId) (b : Bool) → same_trans u t ≡ b → (x : Live) → cond {A = Option Live} b (Some l) (map.get k.lives u) ≡ Some x → u.counter ≤ k.drawn + 1
+        begun_so u true e x there = (let counter : u.counter ≡ t.counter = ap (λ (v : TransId). v.counter) (same_trans-true u t e) in omega (arith, next))
+        begun_so u false e x there = (let low : u.counter ≤ k.drawn = h.begun u x there in omega arith)
+        opens_so : (u : TransId) (b : Bool) (x : Live) → cond {A = Option Live} b (Some l) (map.get k.lives u) ≡ Some x → x.part.last ≤ n + 1
+        opens_so u true x there =
+            let zero_opens : x.part.last ≡ 0 = ap (λ (y : Live). y.part.last) (sym (same_live l x there)) ∙ ap (λ (w : Own). w.last) none in
+            omega (arith, zero_opens)
+        opens_so u false x there = (let low : x.part.last ≤ n = h.opens u x there in omega arith)
+
+  -- who entered and was released again changes nothing
+  pub undone_ready : (t : TransId) → map.get k.lives t ≡ None → IsReady n serves k → IsReady n serves (record k { locks = released (entered k.locks t) t })
+  undone_ready t none h = record {
+    serving = h.serving;
+    sound = released-sound (entered k.locks t) t (entered-sound k.locks t h.sound);
+    alone = release-waiting (entered k.locks t) t h.alone;
+    known = λ u l is. release-knows (entered k.locks t) t u h.alone (tied_same t u ∙ away u t k.lives l none is) (insert-keeps k.locks.held t (held_of k.locks.held t) u (h.known u l is));
+    begun = h.begun; opens = h.opens; places = h.places; calls = h.calls; drawn = h.drawn; given = h.given; committed = h.committed;
+  }

@@ -1,0 +1,74 @@
+use Rattle.std.specs.Prelude.{Some, None, Option, Ok, Err, Result, true}
+use Rattle.std.specs.FinMap as map
+use Rattle.std.proofs.Common.{◌≡◌, ℕ, ◌+◌, List, [], ◌∷◌, sym, ap, ◌∙◌, subst, refl}
+use Rattle.alp_files.specs.declared.call.Call.TheVariants as call
+use Rattle.alp_files.specs.declared.reply.Reply.TheVariants as reply
+use Rattle.alp_base.specs.declared.ids.JoinNo.{JoinNo}
+use Rattle.alp_base.specs.declared.ids.Stamp.{Stamp}
+use Rattle.alp_node.specs.Halts.{ServesOn}
+use Rattle.alp_calls.specs.declared.fault.CallFault.{CallFault}
+use Rattle.alp_journal.specs.declared.act.Act.{Act}
+use Rattle.alp_journal.specs.declared.act.Act.TheVariants as act
+use Rattle.alp_journal.specs.declared.event.Event.TheVariants as event
+use Rattle.alp_node.specs.Kept.{IsReady}
+use Rattle.alp_node.specs.Steps.{Stepped, counted_in, without_trans}
+use Rattle.alp_node.specs.declared.answer.Answer.{Answer}
+use Rattle.alp_node.specs.declared.kept.Kept.{Kept}
+use Rattle.alp_node.specs.declared.sessions.Sessions.{Sessions}
+use Rattle.alp_node.proofs.KeptLemmas.{commit_stepped, commit_ready, halted_stepped, halted_cause, halted_ready, halted_still}
+use Rattle.alp_node.proofs.kept.Kept.commit.Goals as goal
+
+pub store-requires-clause-sound : goal.store-requires-clause-sound
+store-requires-clause-sound g c told m is = c.requires.sound told c.in-Some.live.now (sym c.in-Some.ensures) m is
+
+pub returns-in-Err-clause-stepped : goal.returns-in-Err-clause-stepped
+returns-in-Err-clause-stepped g c told o s h =
+    let k = c.args.self.now in
+    let turn = c.args.turn.now in
+    halted_stepped o s (g.V.Vault.held k.vault) k turn.client turn.session turn.number (call.Finish c.args.trans true) c.store.new.vault (g.V.Vault.held c.halt.new.self.vault) c.in-Err.fault c.halt.result c.halt.new.self
+    h c.requires.turn.client c.requires.turn.session c.requires.turn.number refl refl refl c.halt.ensures.halted c.halt.ensures.down
+
+pub returns-in-Err-clause-ready : goal.returns-in-Err-clause-ready
+returns-in-Err-clause-ready g c n h =
+    halted_ready n (g.V.Vault.serves c.args.self.now.vault) (g.V.Vault.serves c.halt.new.self.vault) c.args.self.now c.store.new.vault c.args.turn.now c.halt.result c.halt.new.self c.requires.turn h c.halt.ensures.down
+
+pub returns-in-Err-clause-cause : goal.returns-in-Err-clause-cause
+returns-in-Err-clause-cause g c =
+    let k = c.args.self.now in
+    halted_cause g.V.Vault.faults g.V.Vault.allowance (g.V.Vault.faults k.vault) c.in-Err.fault c.halt.result c.halt.new.self (record k { sessions = counted_in k.sessions c.args.turn.now; is_down = true; vault = c.store.new.vault })
+    (λ e. c.in-Err.ensures.failed (ap (λ (f : CallFault). Err f) e)) (λ e. c.in-Err.ensures.stopped (ap (λ (f : CallFault). Err f) e)) c.halt.ensures.halted c.halt.ensures.down
+
+pub returns-in-Err-clause-ready_still : goal.returns-in-Err-clause-ready_still
+returns-in-Err-clause-ready_still g c n h =
+    halted_still g.V.Vault.serves (g.V.Vault.serves c.args.self.now.vault) n c.args.self.now c.store.new.vault c.in-Err.fault c.halt.result c.halt.new.self
+    (λ e. subst (λ (f : CallFault). ServesOn {T = Unit {0}} (g.V.Vault.serves c.store.new.vault) (Err f)) e c.in-Err.ensures.serves) h c.halt.ensures.memory c.halt.ensures.err
+
+pub returns-clause-stepped : goal.returns-clause-stepped
+returns-clause-stepped g c told o s h =
+    let k = c.args.self.now in
+    let turn = c.args.turn.now in
+    let held = g.V.Vault.held in
+    let t = c.args.trans in
+    let v = c.store.new.vault in
+    let stamp : Stamp = record { ts = k.clock + 1; trans = t } in
+    let e = event.Call turn.client k.epoch turn.number (call.Finish t true) in
+    let is : c.in_ok-answer.answer ≡ record { kept = Some (reply.Committed stamp); handed = Some (reply.Committed stamp); acts = act.Decided stamp [] ∷ act.Released t ∷ [] } =
+    c.in_ok-answer.ensures.ok
+    ∙ ap (λ (acts : List Act). record { kept = Some (reply.Committed stamp); handed = Some (reply.Committed stamp); acts = acts })
+    (c.new-acts.ensures ∙ c.in_ok-vec.ensures.items ∙ ap (λ (parts : List JoinNo). act.Decided stamp parts ∷ act.Released t ∷ []) (c.new-2.ensures ∙ c.new.ensures.items)) in
+    let stepped = commit_stepped o s (held k.vault) k turn.client turn.session turn.number t c.in-Some.live.now v c.in_ok-answer.answer (held v) h c.requires.up c.requires.turn.client c.requires.alone
+    c.requires.turn.session c.requires.turn.number (sym c.in-Some.ensures) (c.in_default-store.ensures.cells told) c.in_default-store.ensures.notes is in
+    subst (λ (x : Kept _). Stepped o s (held x.vault) (record x { clock = k.clock + 1; committed = x.committed + 1; sessions = c.count.new.self }) e c.in_ok-answer.answer) (sym c.forget.ensures)
+    (subst (λ (x : Sessions). Stepped o s (held v) (record (without_trans k t) { clock = k.clock + 1; committed = k.committed + 1; sessions = x; vault = v }) e c.in_ok-answer.answer)
+    (sym (c.count.ensures ∙ ap (λ (x : Kept _). counted_in x.sessions turn) c.forget.ensures)) stepped)
+
+pub returns-clause-ready : goal.returns-clause-ready
+returns-clause-ready g c n h =
+    let k = c.args.self.now in
+    let turn = c.args.turn.now in
+    let serves = g.V.Vault.serves in
+    let t = c.args.trans in
+    let v = c.store.new.vault in
+    subst (λ (x : Kept _). IsReady (n + 1) (serves x.vault) (record x { clock = k.clock + 1; committed = x.committed + 1; sessions = c.count.new.self })) (sym c.forget.ensures)
+    (subst (λ (x : Sessions). IsReady (n + 1) (serves v) (record (without_trans k t) { clock = k.clock + 1; committed = k.committed + 1; sessions = x; vault = v })) (sym (c.count.ensures ∙ ap (λ (x : Kept _). counted_in x.sessions turn) c.forget.ensures))
+    (commit_ready n (serves k.vault) (serves v) k v turn t c.in_default-store.ensures.serves c.requires.turn h))

@@ -1,0 +1,79 @@
+-- The calls that a server answers so far, and what its answers rest on.
+use Rattle.std.specs.Prelude.{◌≡◌, ℕ, ◌+◌, ◌<◌, ◌≤◌, ◌^◌, List, [], ◌∷◌, length, Bool, false, IsTrue, Result, Ok, Err}
+use Rattle.std.specs.FinMap as map
+use Rattle.alp_base.specs.Causes.{Rose}
+use Rattle.alp_base.specs.declared.allowance.Allowance.{Allowance}
+use Rattle.alp_base.specs.declared.allowance.Allowance.TheVariants.{Spent}
+use Rattle.alp_base.specs.declared.choices.Choice.{Choice}
+use Rattle.alp_base.specs.declared.choices.Choice.TheVariants.{Fail}
+use Rattle.alp_base.specs.declared.choices.Access.{Access}
+use Rattle.alp_modes.specs.declared.Mode.{Mode}
+use Rattle.alp_modes.specs.declared.Mode.TheVariants.{Read}
+use Rattle.alp_files.specs.declared.call.Call.{Call}
+use Rattle.alp_files.specs.declared.call.Call.TheVariants as call
+use Rattle.alp_journal.specs.declared.act.Act.{Act}
+use Rattle.alp_journal.specs.declared.act.Act.TheVariants as act
+use Rattle.alp_base.specs.declared.ids.FileId.{FileId}
+use Rattle.alp_base.specs.declared.ids.TransId.{TransId}
+use Rattle.alp_files.specs.declared.reply.Reply.{Reply}
+use Rattle.alp_files.specs.Cells.{Cells}
+use Rattle.alp_files.specs.Passing.{is_passing, IsFileReply}
+use Rattle.alp_calls.specs.declared.fault.CallFault.{CallFault}
+use Rattle.alp_calls.specs.declared.part.Part.{Part}
+use Rattle.alp_calls.specs.Parts.{AnswersCall, GivesOnly, ReadsOnly, IsAsBefore}
+use Rattle.alp_node.specs.declared.kept.Kept.{Kept}
+use Rattle.alp_node.specs.declared.lives.Live.{Live}
+use Rattle.alp_node.specs.Kept.{mode_for}
+
+-- file calls that are performed so far: opens lock their files in their access's mode, reads are in Read, a write has as
+-- many pages as its run, and nobody waits for locks
+abbrev pub IsServedCall : Call → Type 0
+IsServedCall (call.CreateFile t start choice) = choice ≡ Fail
+IsServedCall (call.OpenFile t file access mode choice) = (mode ≡ mode_for access) × (choice ≡ Fail)
+IsServedCall (call.ReadPages t n r mode choice) = (mode ≡ Read) × (choice ≡ Fail)
+IsServedCall (call.WritePages t n r pages choice) = (length pages ≡ r.count) × (choice ≡ Fail)
+IsServedCall (call.MakeOwner t name quota create choice) = choice ≡ Fail
+IsServedCall _ = ⊥
+
+-- those on an open, whose file's lock gives the pages
+abbrev pub IsPageCall : Call → Type 0
+IsPageCall (call.ReadPages t n r mode choice) = mode ≡ Read
+IsPageCall (call.WritePages t n r pages choice) = length pages ≡ r.count
+IsPageCall _ = ⊥
+
+-- those that ask for locks, of which an open locks its file in its access's mode
+abbrev pub IsLockCall : Call → Type 0
+IsLockCall (call.CreateFile t start choice) = Unit {0}
+IsLockCall (call.OpenFile t file access mode choice) = mode ≡ mode_for access
+IsLockCall (call.MakeOwner t name quota create choice) = Unit {0}
+IsLockCall _ = ⊥
+
+-- the vault failed or was stopped where the acts say so
+abbrev pub HaveCauses : ℕ → ℕ → Allowance → List Act → Type 0
+HaveCauses before now allowance [] = Unit {0}
+HaveCauses before now allowance (act.Failed ∷ more) = Rose before now × HaveCauses before now allowance more
+HaveCauses before now allowance (act.Stopped ∷ more) = (allowance ≡ Spent) × HaveCauses before now allowance more
+HaveCauses before now allowance (_ ∷ more) = HaveCauses before now allowance more
+
+-- the id that the next file gets
+abbrev pub next_file : {V : Type 0} → Kept V → FileId
+next_file k = record { server = k.server; epoch = k.epoch; counter = k.given + 1 }
+
+-- what a live part gave for a call, and how it stands
+pub record Gave (tells : Bool) (cells : Cells) (id : FileId) (l : Live) (p : Part) (c : Call) (r : Reply) : Type 0 where
+  pub right : IsTrue tells → AnswersCall cells l.part p l.who id c r
+  pub given : GivesOnly id r
+  pub own : is_passing r ≡ false
+  pub kind : IsFileReply r
+  pub reads : ReadsOnly l.part p r
+  pub last : p.last ≤ l.part.last + 1
+
+abbrev pub Outcome : Bool → Cells → FileId → Live → Part → Call → Result Reply CallFault → Type 0
+Outcome tells cells id l p c (Ok r) = Gave tells cells id l p c r
+Outcome tells cells id l p c (Err e) = IsAsBefore l.part p
+
+-- the part performed the call, and nothing else changed
+pub record Performed {V : Type 0} (tells : Bool) (cells : Cells) (old new : Kept V) (t : TransId) (l : Live) (c : Call) (r : Result Reply CallFault) : Type 0 where
+  pub part : Part
+  pub kept : new ≡ record old { lives = map.insert old.lives t (record l { part = part }); vault = new.vault }
+  pub outcome : Outcome tells cells (next_file old) l part c r

@@ -1,0 +1,14 @@
+-- The sessions of clients, each at its client's number.
+use Rattle.std.specs.Prelude.{ℕ, Option, None, Some, replicate, slice_get, slice_set}
+use Rattle.std.specs.Option.{option_and_then}
+use Rattle.alp_node.specs.declared.sessions.Session.{Session}
+use Rattle.alp_node.specs.declared.sessions.Sessions.{Sessions}
+
+abbrev pub no_sessions : Sessions
+no_sessions = record { places = replicate 17 None }
+
+abbrev pub session_at : Sessions → ℕ → Option Session
+session_at s client = option_and_then (λ x. x) (slice_get s.places client)
+
+abbrev pub with_session : Sessions → ℕ → Session → Sessions
+with_session s client session = record { places = slice_set s.places client (Some session) }

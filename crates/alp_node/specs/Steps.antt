@@ -1,0 +1,61 @@
+-- One step of a server.
+use Rattle.std.specs.Prelude.{◌≡◌, ℕ, ◌+◌, ◌≤◌, [], ◌∷◌, Option, None, Some}
+use Rattle.std.specs.FinMap as map
+use Rattle.alp_base.specs.declared.ids.TransId.{TransId}
+use Rattle.alp_locks.specs.Releases.{released}
+use Rattle.alp_files.specs.declared.refusal.Refusal.{Refusal}
+use Rattle.alp_files.specs.declared.reply.Reply.TheVariants as reply
+use Rattle.alp_calls.specs.declared.fault.CallFault.{CallFault}
+use Rattle.alp_journal.specs.declared.act.Act.{Act}
+use Rattle.alp_journal.specs.declared.event.Event.{Event}
+use Rattle.alp_journal.specs.declared.entry.Entry.{Entry}
+use Rattle.alp_journal.specs.State.{State, Start}
+use Rattle.alp_journal.specs.Steps.{Leads}
+use Rattle.alp_vault.specs.Contents.{Contents}
+use Rattle.alp_node.specs.declared.answer.Answer.{Answer}
+use Rattle.alp_node.specs.declared.kept.Kept.{Kept}
+use Rattle.alp_node.specs.declared.lives.Live.{Live}
+use Rattle.alp_node.specs.declared.sessions.Turn.{Turn}
+use Rattle.alp_node.specs.declared.sessions.Sessions.{Sessions}
+use Rattle.alp_node.specs.Halts.{halt_of}
+use Rattle.alp_node.specs.Sessions.{session_at, with_session}
+use Rattle.alp_node.specs.Kept.{IsAs}
+
+-- the entry of an event with its answer
+abbrev pub entry_of : Event → Answer → Entry
+entry_of e a = record { event = e; reply = a.kept; acts = a.acts }
+
+-- The entry of the answered event is lawful, the server keeps what its state says then, and what is handed out is what
+-- the entry keeps.
+pub record Stepped {V : Type 0} (o : Start) (s : State) (held : Contents) (new : Kept V) (e : Event) (a : Answer) : Type 0 where
+  pub next : State
+  pub leads : Leads s (entry_of e a) next
+  pub kept : IsAs o next held new
+  pub handed : a.handed ≡ a.kept
+
+-- it is the session's next call
+pub record IsTurn (sessions : Sessions) (t : Turn) : Type 0 where
+  pub client : t.client ≤ 16
+  pub session : session_at sessions t.client ≡ Some t.session
+  pub number : t.number ≡ t.session.last + 1
+
+-- the sessions where this one has come to that call
+abbrev pub counted_in : Sessions → Turn → Sessions
+counted_in sessions t = with_session sessions t.client (record t.session { last = t.number })
+
+-- the live transaction is this client's
+abbrev pub IsOf : ℕ → Option Live → Type 0
+IsOf client None = ⊥
+IsOf client (Some l) = l.client ≡ client
+
+-- the server where the transaction is live no more, and its locks are gone
+abbrev pub without_trans : {V : Type 0} → Kept V → TransId → Kept V
+without_trans k t = record k { lives = map.remove k.lives t; locks = released k.locks t }
+
+-- the answer that says so
+abbrev pub IsHaltedSo : Option (Refusal × Act) → Answer → Type 0
+IsHaltedSo None a = ⊥
+IsHaltedSo (Some x) a = a ≡ record { kept = Some (reply.Refused x.0); handed = Some (reply.Refused x.0); acts = x.1 ∷ [] }
+
+abbrev pub IsHalted : CallFault → Answer → Type 0
+IsHalted fault a = IsHaltedSo (halt_of fault) a

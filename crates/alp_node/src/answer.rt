@@ -1,0 +1,74 @@
+//! What an event comes to.
+ghost use Rattle.std.specs.Prelude.{◌≡◌, None, Some, IfOk, OnErr, true};
+ghost use Rattle.alp_files.specs.declared.reply.Reply.TheVariants as reply;
+ghost use Rattle.alp_calls.specs.Parts.{has_contents};
+
+use alp_base::OutOfMemory;
+use alp_files::{Refusal, Reply};
+use alp_journal::Acts;
+
+/// A reply, once for the journal and once for the caller, and what came about. No reply is silence.
+#[derive(Drop)]
+pub struct Answer {
+    pub kept: Option<Reply>,
+    pub handed: Option<Reply>,
+    pub acts: Acts,
+}
+
+impl Answer {
+    /// An answer with a reply. Only where contents of files are told there may be no memory for it.
+    pub fn new(reply: Reply, acts: Acts) -> Result<Answer, OutOfMemory>
+        ensures ok { IfOk result (λ a. a ≡ record { kept = Some reply; handed = Some reply; acts = acts }) }
+        ensures err { OnErr result (has_contents reply ≡ true) }
+    {
+        let handed = copy_of(&reply)?;
+        Ok(Answer {
+            kept: Some(reply),
+            handed: Some(handed),
+            acts,
+        })
+    }
+
+    pub fn silence(acts: Acts) -> Answer
+        ensures { result ≡ record { kept = None; handed = None; acts = acts } }
+    {
+        Answer {
+            kept: None,
+            handed: None,
+            acts,
+        }
+    }
+
+    pub fn refused(refusal: Refusal, acts: Acts) -> Answer
+        ensures { result ≡ record { kept = Some (reply.Refused refusal); handed = Some (reply.Refused refusal); acts = acts } }
+    {
+        Answer {
+            kept: Some(Reply::Refused(refusal)),
+            handed: Some(Reply::Refused(refusal)),
+            acts,
+        }
+    }
+}
+
+fn copy_of(reply: &Reply) -> Result<Reply, OutOfMemory>
+    ensures ok { IfOk result (λ copy. copy ≡ reply.now) }
+    ensures err { OnErr result (has_contents reply.now ≡ true) }
+{
+    match reply {
+        Reply::Pages(pages) => Ok(Reply::Pages(pages.clone()?)),
+        Reply::Props(props) => Ok(Reply::Props(props.clone()?)),
+        Reply::Owner(owner) => Ok(Reply::Owner(owner.clone()?)),
+        Reply::Welcome { epoch } => Ok(Reply::Welcome { epoch: *epoch }),
+        Reply::Begun { trans } => Ok(Reply::Begun { trans: *trans }),
+        Reply::Joined => Ok(Reply::Joined),
+        Reply::Created { file, open_no } => Ok(Reply::Created {
+            file: *file,
+            open_no: *open_no,
+        }),
+        Reply::Opened { open_no } => Ok(Reply::Opened { open_no: *open_no }),
+        Reply::Plain => Ok(Reply::Plain),
+        Reply::Committed { stamp } => Ok(Reply::Committed { stamp: *stamp }),
+        Reply::Ended(ended) => Ok(Reply::Ended(*ended)),
+        Reply::Refused(refusal) => Ok(Reply::Refused(*refusal)),
+    }
+}

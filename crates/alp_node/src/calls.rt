@@ -1,0 +1,96 @@
+//! File calls: under their locks, on what their part sees.
+ghost use Rattle.std.specs.Prelude.{◌≡◌, ◌≢◌, ◌+◌, ◌<◌, ◌≤◌, ◌^◌, [], ◌∷◌, IsTrue, IfOk, OnOk, OnErr, Some, None, ℕ, true, false};
+ghost use Rattle.std.specs.FinMap as map;
+ghost use Rattle.alp_base.specs.declared.key.Key.TheVariants.{Leader};
+ghost use Rattle.alp_calls.specs.Looks.{Looks, fault_in};
+ghost use Rattle.alp_calls.specs.Parts.{seen};
+ghost use Rattle.alp_files.specs.Built.{IsBuilt};
+ghost use Rattle.alp_node.specs.declared.lives.Live.{Live as ALive};
+ghost use Rattle.alp_files.specs.Locks.{IsFormed};
+ghost use Rattle.alp_journal.specs.declared.event.Event.TheVariants as event;
+ghost use Rattle.alp_journal.specs.State.{State as StateOf, Start, file_trans};
+ghost use Rattle.alp_node.specs.Kept.{IsAs, IsReady};
+ghost use Rattle.alp_node.specs.Steps.{Stepped, IsTurn, IsOf};
+ghost use Rattle.alp_node.specs.Calls.{next_file as next_file_of, Performed, IsPageCall, HaveCauses};
+
+use crate::answer::Answer;
+use crate::kept::Kept;
+use crate::lives::Live;
+use crate::sessions::Turn;
+use alp_base::{FileId, OutOfMemory, TransId};
+use alp_calls::{CallFault, Part};
+use alp_files::{Call, Reply};
+use alp_journal::Acts;
+use alp_vault::Vault;
+
+impl<V: Vault> Kept<V> {
+    /// A call on an open, whose file is locked already.
+    pub fn page_call(&mut self, turn: &Turn, trans: TransId, call: &Call) -> Result<Answer, OutOfMemory>
+        requires turn { IsTurn self.old.sessions turn.now }
+        requires own { IsOf turn.now.client (map.get self.old.lives trans) }
+        requires up { self.old.is_down ≡ false }
+        requires serving { IsTrue (V.serves self.old.vault) }
+        requires room { self.old.given + 1 < 2 ^ 32 }
+        requires opens { (l : ALive) → map.get self.old.lives trans ≡ Some l → l.part.last + 1 < 2 ^ 32 }
+        requires page { IsPageCall call.now }
+        requires named { file_trans call.now ≡ Some trans }
+        requires formed { IsFormed call.now }
+        requires known { IsTrue (V.tells self.old.vault) → (o : Start) × (s : StateOf) × IsAs o s (V.held self.old.vault) self.old }
+        ensures stepped { IsTrue (V.tells self.old.vault) → (o : Start) (s : StateOf) → IsAs o s (V.held self.old.vault) self.old → IfOk result (λ a. Stepped o s (V.held self.new.vault) self.new (event.Call turn.now.client self.old.epoch turn.now.number call.now) a) }
+        ensures ready { (steps : ℕ) → IsReady steps (V.serves self.old.vault) self.old → OnOk result (IsReady (steps + 1) (V.serves self.new.vault) self.new) }
+        ensures cause { IfOk result (λ a. HaveCauses (V.faults self.old.vault) (V.faults self.new.vault) (V.allowance self.new.vault) a.acts) }
+        ensures tells { V.tells self.new.vault ≡ V.tells self.old.vault }
+        ensures still { (o : Start) (s : StateOf) → IsAs o s (V.held self.old.vault) self.old → OnErr result (IsAs o s (V.held self.new.vault) self.new) }
+        ensures ready_still { (steps : ℕ) → IsReady steps (V.serves self.old.vault) self.old → OnErr result (IsReady steps (V.serves self.new.vault) self.new) }
+    {
+        let halted = Vec::with_capacity(self.alloc, 1)?;
+        match self.perform(trans, call) {
+            Ok(reply) => {
+                let answer = Answer::new(reply, Acts::new(Vec::new(self.alloc)))?;
+                self.sessions.count(turn);
+                Ok(answer)
+            }
+            Err(fault) => self.halt(turn, fault, halted),
+        }
+    }
+
+    // The id that the next file gets.
+    fn next_file(&self) -> FileId
+        requires { self.now.given + 1 < 2 ^ 32 }
+        ensures { result ≡ next_file_of self.now }
+    {
+        FileId {
+            server: self.server,
+            epoch: self.epoch,
+            counter: self.given + 1,
+        }
+    }
+
+    // The live transaction performs the call on what it sees.
+    fn perform(&mut self, trans: TransId, call: &Call) -> Result<Reply, CallFault>
+        requires live { map.get self.old.lives trans ≢ None }
+        requires serving { IsTrue (V.serves self.old.vault) }
+        requires room { self.old.given + 1 < 2 ^ 32 }
+        requires opens { (l : ALive) → map.get self.old.lives trans ≡ Some l → l.part.last + 1 < 2 ^ 32 }
+        requires new { IsTrue (V.tells self.old.vault) → (l : ALive) → map.get self.old.lives trans ≡ Some l → seen (V.held self.old.vault).cells l.part (Leader (next_file_of self.old)) ≡ None }
+        requires built { IsBuilt call.now }
+        ensures performed { (l : ALive) → map.get self.old.lives trans ≡ Some l → Performed (V.tells self.old.vault) (V.held self.old.vault).cells self.old self.new trans l call.now result }
+        ensures looked { Looks V.tells V.serves V.volume V.held V.may_leave V.left_since V.faults V.allowance self.old.vault self.new.vault (fault_in result) }
+    {
+        let id = self.next_file();
+        let Some(found) = self.lives.get(&trans) else {
+            unreachable!()
+        };
+        let blank = Live {
+            client: found.client,
+            who: found.who,
+            part: Part::new(self.alloc),
+        };
+        let mut live = self.lives.swap(trans, blank);
+        let result = live
+            .part
+            .perform(self.alloc, &mut self.vault, live.who, id, call);
+        let _ = self.lives.swap(trans, live);
+        result
+    }
+}

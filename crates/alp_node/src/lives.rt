@@ -1,0 +1,88 @@
+//! Transactions that are live at a server.
+ghost use Rattle.std.specs.Prelude.{◌≡◌, ◌≢◌, IfOk, OnOk, OnErr, None, Some, is_some};
+ghost use Rattle.std.specs.FinMap as map;
+ghost use Rattle.std.specs.Option.{option_copied as copied};
+
+use alp_base::{Name, OutOfMemory, TransId};
+use alp_calls::Part;
+use std::alloc::Global;
+use std::collections::BTreeMap;
+use std::marker::Model;
+
+/// A live transaction: its client, the principal that it acts for, and what it did here.
+#[derive(Drop)]
+pub struct Live {
+    pub client: u8,
+    pub who: Name,
+    pub part: Part,
+}
+
+/// Live transactions by their ids.
+#[derive(Drop)]
+pub struct Lives {
+    lives: BTreeMap<TransId, Live>,
+}
+
+impl Model for Lives {
+    ghost use Rattle.std.specs.FinMap as map;
+    ghost use Rattle.alp_modes.specs.Orders.{trans_cmp};
+    ghost use Rattle.alp_node.specs.declared.lives.Live.{Live};
+    ghost use Rattle.alp_base.specs.contracts.ids.TransId as id_type;
+    ghost use Rattle.alp_node.specs.contracts.lives.Live as live_type;
+
+    ghost Value = { map.FinMap trans_cmp Live };
+
+    ghost coded = { map.code id_type.the_row.coded live_type.the_row.coded };
+
+    ghost view = { λ l. map.from_entries l.lives.entries };
+}
+
+impl Lives {
+    pub fn new(alloc: Global) -> Lives
+        ensures { result ≡ map.empty }
+    {
+        Lives {
+            lives: BTreeMap::new(alloc),
+        }
+    }
+
+    pub fn get(&self, trans: &TransId) -> Option<&Live>
+        ensures { copied result ≡ map.get self.now trans.now }
+    {
+        self.lives.get(trans)
+    }
+
+    /// Whether the transaction is live.
+    pub fn has(&self, trans: &TransId) -> bool
+        ensures { result ≡ is_some (map.get self.now trans.now) }
+    {
+        self.get(trans).is_some()
+    }
+
+    pub fn add(&mut self, trans: TransId, live: Live) -> Result<(), OutOfMemory>
+        ensures ok { OnOk result (self.new ≡ map.insert self.old trans live) }
+        ensures err { OnErr result (self.new ≡ self.old) }
+    {
+        self.lives.insert(trans, live)?;
+        Ok(())
+    }
+
+    /// This stands for a transaction that is live, and what stood for it is given. Takes no memory.
+    pub fn swap(&mut self, trans: TransId, live: Live) -> Live
+        requires { map.get self.old trans ≢ None }
+        ensures after { self.new ≡ map.insert self.old trans live }
+        ensures before { map.get self.old trans ≡ Some result }
+    {
+        match self.lives.insert(trans, live) {
+            Ok(Some(old)) => old,
+            Ok(None) => unreachable!(),
+            Err(_) => unreachable!(),
+        }
+    }
+
+    pub fn remove(&mut self, trans: &TransId)
+        ensures { self.new ≡ map.remove self.old trans.now }
+    {
+        self.lives.remove(trans);
+    }
+}
