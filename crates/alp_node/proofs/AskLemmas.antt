@@ -50,27 +50,24 @@ same_reply : (a b : Reply) → Some a ≡ Some b → a ≡ b
 same_reply a b e = cc
 
 -- no file is made
-pub MakesNone : Answer → Type 0
+abbrev pub MakesNone : Answer → Type 0
 MakesNone a = (r : Reply) → a.reply ≡ Some r → id_in r ≡ None
 
 refused_none : (w : Own) (f : Refusal) → MakesNone (refused w f)
-unfolding MakesNone
 refused_none w f r e = ap id_in (sym (same_reply (reply.Refused f) r e))
 
 pub open_none : (m : View) (w : Own) (who : List ℕ) (f : FileId) (a : Access) → MakesNone (run m (open_file w who f a))
-unfolding MakesNone
 open_none m w who f a =
     by_tests MakesNone w ((not (is_some (props_in (m (Leader f)))), refusal.UnknownFile) ∷ access_tests a who (props_of (m (Leader f)))) (record { reply = Some (reply.Opened (w.last + 1)); edits = []; own = opened w f a })
     (refused_none w) (λ r e. ap id_in (sym (same_reply (reply.Opened (w.last + 1)) r e)))
 
 pub owner_none : (m : View) (w : Own) (who name : List ℕ) (quota : ℕ) (create : List (List ℕ)) → MakesNone (run m (make_owner w who name quota create))
-unfolding MakesNone
 owner_none m w who name quota create =
     by_tests MakesNone w ((is_some (owner_in (m (OwnerOf name))), refusal.OwnerExists) ∷ (not (is_admin who), refusal.AccessDenied lists.Admin) ∷ []) _
     (refused_none w) (λ r e. ap id_in (sym (same_reply reply.Plain r e)))
 
 -- each open is locked
-pub OpensLocked : Holding → Answer → Type 0
+abbrev pub OpensLocked : Holding → Answer → Type 0
 OpensLocked held a = AllByRecursion (IsLocked held) a.own.opens
 
 one_more : (held : Holding) (os : List Open) (x : Open) → AllByRecursion (IsLocked held) os → IsLocked held x → AllByRecursion (IsLocked held) (os ++ x ∷ [])
@@ -78,13 +75,11 @@ one_more held [] x h j = (j, tt)
 one_more held (y ∷ os) x h j = (h.0, one_more held os x h.1 j)
 
 pub open_locked : (held : Holding) (m : View) (w : Own) (who : List ℕ) (f : FileId) (a : Access) → AllByRecursion (IsLocked held) w.opens → covers_held (held (Whole f)) (mode_for a) ≡ true → OpensLocked held (run m (open_file w who f a))
-unfolding OpensLocked
 open_locked held m w who f a h j =
     by_tests (OpensLocked held) w ((not (is_some (props_in (m (Leader f)))), refusal.UnknownFile) ∷ access_tests a who (props_of (m (Leader f)))) (record { reply = Some (reply.Opened (w.last + 1)); edits = []; own = opened w f a })
     (λ x. h) (one_more held w.opens (record { number = w.last + 1; file = f; access = a }) h j)
 
 pub owner_locked : (held : Holding) (m : View) (w : Own) (who name : List ℕ) (quota : ℕ) (create : List (List ℕ)) → AllByRecursion (IsLocked held) w.opens → OpensLocked held (run m (make_owner w who name quota create))
-unfolding OpensLocked
 owner_locked held m w who name quota create h =
     by_tests (OpensLocked held) w ((is_some (owner_in (m (OwnerOf name))), refusal.OwnerExists) ∷ (not (is_admin who), refusal.AccessDenied lists.Admin) ∷ []) _ (λ x. h) h
 
@@ -92,13 +87,12 @@ owner_locked held m w who name quota create h =
 made_locked : (under : Holding) (f : FileId) → covers_held (with_made under (Some f) (Whole f)) Write ≡ true
 made_locked under f = right-above (under (Whole f)) (held_by ((Whole f, Write) ∷ []) (Whole f)) Write (ap (λ (b : Bool). covers_held (cond b (Some Write) None) Write) (itself (Whole f)) ∙ write_covers)
 
-more_locked : (a b : Holding) → IsMore a b → (os : List Open) → AllByRecursion (IsLocked a) os → AllByRecursion (IsLocked b) os
+pub more_locked : (a b : Holding) → IsMore a b → (os : List Open) → AllByRecursion (IsLocked a) os → AllByRecursion (IsLocked b) os
 more_locked a b more [] h = tt
 more_locked a b more (x ∷ os) h = (more (Whole x.file) (mode_for x.access) h.0, more_locked a b more os h.1)
 
 pub create_locked : (server : ℕ) (made : List FileId) (under : Holding) (m : View) (w : Own) (who : List ℕ) (start : Props) (id : Option FileId) → AllByRecursion (IsLocked under) w.opens
     → OpensLocked (with_made under id) (run m (create_file server made w who start id))
-unfolding OpensLocked
 create_locked server made under m w who start None h =
     let still : AllByRecursion (IsLocked (with_made under None)) w.opens = more_locked under (with_made under None) (joined-more under []) w.opens h in
     by_tests (OpensLocked (with_made under None)) w (create_tests who start (m (OwnerOf start.owner))) (no_answer w) (λ x. still) still

@@ -5,4 +5,5 @@ pub mod CallLemmas
 pub mod PageLemmas
 pub mod PerformLemmas
 pub mod LockLemmas
+pub mod GrantLemmas
 pub mod AskLemmas

@@ -48,7 +48,7 @@ use Rattle.alp_node.proofs.PageLemmas.{gives_read, of_some, write_reads}
 pub itself : (q : Resource) → eq_by_cmp resource_cmp q q ≡ true
 itself q = (eq_by_cmp_equiv resources_total).refl q
 
-read_covers : covers_of Read Read ≡ true
+pub read_covers : covers_of Read Read ≡ true
 unfolding covers_of
 read_covers = refl
 

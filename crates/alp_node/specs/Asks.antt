@@ -1,12 +1,19 @@
 -- What a call asks of the lock table. The pages and the leader of a file are given by the file's lock, which the open has.
-use Rattle.std.specs.Prelude.{List, [], ◌∷◌, Bool, false, not, nat_lt, nat_le, ◌≤◌, ◌&&◌, ◌||◌, ◌==◌, ℕ}
+use Rattle.std.specs.Prelude.{◌≡◌, List, [], ◌∷◌, Bool, true, false, not, nat_lt, nat_le, ◌≤◌, ◌&&◌, ◌||◌, ◌==◌, ℕ}
 use Rattle.alp_base.specs.declared.ids.FileId.{FileId}
+use Rattle.alp_base.specs.declared.ids.TransId.{TransId}
 use Rattle.alp_base.specs.declared.key.Key.TheVariants.{OwnerOf}
 use Rattle.alp_base.specs.declared.key.Resource.TheVariants.{Whole, Leaf}
 use Rattle.alp_modes.specs.declared.Mode.TheVariants.{Write}
 use Rattle.alp_files.specs.Locks.{Need}
 use Rattle.alp_files.specs.declared.call.Call.{Call}
 use Rattle.alp_files.specs.declared.call.Call.TheVariants as call
+use Rattle.alp_files.specs.declared.reply.Reply.{Reply}
+use Rattle.alp_files.specs.declared.reply.Reply.TheVariants as reply
+use Rattle.alp_queue.specs.declared.waiter.Waiter.{Waiter}
+use Rattle.alp_locks.specs.Tables.{Table, held_of}
+use Rattle.alp_locks.specs.Asks.{waiter_of, with_granted}
+use Rattle.alp_node.specs.declared.kept.Kept.{Kept}
 
 -- whoever performs the call keeps these, whatever the reply
 abbrev pub asks_of : Call → List Need
@@ -23,3 +30,26 @@ asks_made id c = asks_of c
 -- an id that a file was given here, in an older epoch or up to this count
 abbrev pub is_given : ℕ → ℕ → ℕ → FileId → Bool
 is_given server epoch count f = f.server == server && nat_lt 0 f.epoch && nat_lt 0 f.counter && (nat_lt f.epoch epoch || (f.epoch == epoch && nat_le f.counter count))
+
+-- a call that opens a file names one that was given
+abbrev pub IsOfGiven : ℕ → ℕ → ℕ → Call → Type 0
+IsOfGiven server epoch count (call.OpenFile t file access mode choice) = is_given server epoch count file ≡ true
+IsOfGiven server epoch count _ = Unit {0}
+
+-- what is kept after a reply
+abbrev pub asks_given : FileId → Call → Reply → List Need
+asks_given id c (reply.Created f n) = asks_made id c
+asks_given id c _ = asks_of c
+
+-- of two plans the second where a file was made
+abbrev pub plan_for : Reply → Waiter → Waiter → Waiter
+plan_for (reply.Created f n) asked made = made
+plan_for _ asked made = asked
+
+-- a plan of needs, as the table makes it now
+abbrev pub plan_of : Table → TransId → List Need → Waiter
+plan_of locks t ns = waiter_of (held_of locks.held t) t ns
+
+-- the table where that plan is taken
+abbrev pub with_plan : Table → Waiter → Table
+with_plan locks w = with_granted locks w.trans w.rises w.after
