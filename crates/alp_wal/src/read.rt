@@ -35,9 +35,7 @@ impl<D: Disk> Wal<D> {
         ensures crash { NoMore (D.may_leave (disk_of self.old)) (D.may_leave (disk_of self.new)) }
         ensures time { Adds D.left_since (disk_of self.old) (disk_of self.new) (D.may_leave (disk_of self.old)) }
         ensures allowance { D.allowance (disk_of self.new) ≡ D.allowance (disk_of self.old) }
-        ensures logged { (image : List ℕ) → slice_index_or (index_of self.old) at None ≡ Some image → IsOk result }
-        ensures logged_page { (image : List ℕ) → slice_index_or (index_of self.old) at None ≡ Some image → page.new ≡ image }
-        ensures logged_stays { (image : List ℕ) → slice_index_or (index_of self.old) at None ≡ Some image → self.new ≡ self.old }
+        ensures logged { (image : List ℕ) → slice_index_or (index_of self.old) at None ≡ Some image → IsOk result × (page.new ≡ image) × (self.new ≡ self.old) }
         ensures cause { HasHaltCause (D.faults (disk_of self.old)) (D.faults (disk_of self.new)) (D.allowance (disk_of self.new)) result }
     {
         if let Some(image) = &self.index[at as usize] {
