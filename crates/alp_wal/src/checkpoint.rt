@@ -31,9 +31,7 @@ impl<D: Disk> Wal<D> {
         ensures anchor { OnOk result (anchor_of self.new ≡ turned (anchor_of self.old)) }
         ensures index { OnOk result (index_of self.new ≡ no_index (anchor_of self.old).sizes.home) }
         ensures notes { held_notes self.new ≡ held_notes self.old }
-        ensures stays_anchor { OnErr result (anchor_of self.new ≡ anchor_of self.old) }
-        ensures stays_index { OnErr result (index_of self.new ≡ index_of self.old) }
-        ensures stays_end { OnErr result (end_of self.new ≡ end_of self.old) }
+        ensures stays { OnErr result ((anchor_of self.new ≡ anchor_of self.old) × (index_of self.new ≡ index_of self.old) × (end_of self.new ≡ end_of self.old)) }
         ensures volume { IsSameVolume (anchor_of self.old) (anchor_of self.new) }
         ensures tells { D.tells (disk_of self.new) ≡ D.tells (disk_of self.old) }
         ensures size { D.size (disk_of self.new) ≡ D.size (disk_of self.old) }
