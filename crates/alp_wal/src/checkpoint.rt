@@ -1,5 +1,5 @@
 //! Checkpoints.
-ghost use Rattle.std.specs.Prelude.{◌≡◌, ◌≤◌, ◌+◌, ◌↔◌, IsTrue, OnOk, IsErrOf, true, false};
+ghost use Rattle.std.specs.Prelude.{◌≡◌, ◌≤◌, ◌+◌, ◌↔◌, IsTrue, OnOk, OnErr, IsErrOf, true, false};
 ghost use Rattle.alp_base.specs.Causes.{Rose};
 ghost use Rattle.alp_base.specs.Allowances.{Spends};
 ghost use Rattle.alp_base.specs.declared.allowance.Allowance.TheVariants.{Spent};
@@ -31,6 +31,7 @@ impl<D: Disk> Wal<D> {
         ensures anchor { OnOk result (anchor_of self.new ≡ turned (anchor_of self.old)) }
         ensures index { OnOk result (index_of self.new ≡ no_index (anchor_of self.old).sizes.home) }
         ensures notes { held_notes self.new ≡ held_notes self.old }
+        ensures stays { OnErr result ((anchor_of self.new ≡ anchor_of self.old) × (index_of self.new ≡ index_of self.old) × (end_of self.new ≡ end_of self.old)) }
         ensures volume { IsSameVolume (anchor_of self.old) (anchor_of self.new) }
         ensures tells { D.tells (disk_of self.new) ≡ D.tells (disk_of self.old) }
         ensures size { D.size (disk_of self.new) ≡ D.size (disk_of self.old) }
@@ -69,6 +70,7 @@ impl<D: Disk> Wal<D> {
         ensures room { OnOk result (pages ≤ room_of self.new) }
         ensures notes { held_notes self.new ≡ held_notes self.old }
         ensures volume { IsSameVolume (anchor_of self.old) (anchor_of self.new) }
+        ensures stays_index { OnErr result (index_of self.new ≡ index_of self.old) }
         ensures fitting { pages ≤ room_of self.old → self.new ≡ self.old }
         ensures tells { D.tells (disk_of self.new) ≡ D.tells (disk_of self.old) }
         ensures size { D.size (disk_of self.new) ≡ D.size (disk_of self.old) }

@@ -56,6 +56,10 @@ impl<D: Disk> Wal<D> {
         ensures before_or_after { IsTrue (D.tells (disk_of self.old)) → LeavesOnly D.left_since (disk_of self.old) (disk_of self.new) (BeforeOrAfter (anchor_of self.old).server (anchor_of self.old).servers (D.size (disk_of self.old)) (state_of self.old (D.seen (disk_of self.old))) (batch_of prepared)) }
         ensures anchor { anchor_of self.new ≡ anchor_of self.old }
         ensures takes_no_memory { IsErrOf result OutOfMemory → ⊥ }
+        ensures index { OnOk result (index_of self.new ≡ indexed (index_of self.old) (batch_of prepared).images) }
+        ensures notes { OnOk result (notes_of self.new ≡ noted (notes_of self.old) (batch_of prepared).notes) }
+        ensures stays_index { OnErr result (index_of self.new ≡ index_of self.old) }
+        ensures stays_notes { OnErr result (notes_of self.new ≡ notes_of self.old) }
         ensures tells { D.tells (disk_of self.new) ≡ D.tells (disk_of self.old) }
         ensures size { D.size (disk_of self.new) ≡ D.size (disk_of self.old) }
         ensures allowance { Spends (D.allowance (disk_of self.old)) (D.allowance (disk_of self.new)) }
@@ -94,6 +98,10 @@ impl<D: Disk> Wal<D> {
         ensures volume { IsSameVolume (anchor_of self.old) (anchor_of self.new) }
         ensures fitting { batch_pages (batch_of prepared) ≤ room_of self.old → anchor_of self.new ≡ anchor_of self.old }
         ensures memory { IsErrOf result OutOfMemory → self.new ≡ self.old }
+        ensures notes { OnOk result (notes_of self.new ≡ noted (notes_of self.old) (batch_of prepared).notes) }
+        ensures index { batch_pages (batch_of prepared) ≤ room_of self.old → OnOk result (index_of self.new ≡ indexed (index_of self.old) (batch_of prepared).images) }
+        ensures stays_notes { OnErr result (notes_of self.new ≡ notes_of self.old) }
+        ensures stays_index { batch_pages (batch_of prepared) ≤ room_of self.old → OnErr result (index_of self.new ≡ index_of self.old) }
         ensures tells { D.tells (disk_of self.new) ≡ D.tells (disk_of self.old) }
         ensures size { D.size (disk_of self.new) ≡ D.size (disk_of self.old) }
         ensures allowance { Spends (D.allowance (disk_of self.old)) (D.allowance (disk_of self.new)) }
@@ -126,6 +134,10 @@ impl<D: Disk> Wal<D> {
         ensures volume { IsSameVolume (anchor_of self.old) (anchor_of self.new) }
         // No checkpoint is made where the record fits the rest of the area.
         ensures fitting { batch_pages batch.now ≤ room_of self.old → anchor_of self.new ≡ anchor_of self.old }
+        ensures notes { OnOk result (notes_of self.new ≡ noted (notes_of self.old) batch.now.notes) }
+        ensures index { batch_pages batch.now ≤ room_of self.old → OnOk result (index_of self.new ≡ indexed (index_of self.old) batch.now.images) }
+        ensures stays_notes { OnErr result (notes_of self.new ≡ notes_of self.old) }
+        ensures stays_index { batch_pages batch.now ≤ room_of self.old → OnErr result (index_of self.new ≡ index_of self.old) }
         ensures tells { D.tells (disk_of self.new) ≡ D.tells (disk_of self.old) }
         ensures size { D.size (disk_of self.new) ≡ D.size (disk_of self.old) }
         ensures allowance { Spends (D.allowance (disk_of self.old)) (D.allowance (disk_of self.new)) }

@@ -1,5 +1,5 @@
 //! Reading home pages.
-ghost use Rattle.std.specs.Prelude.{◌≡◌, ◌<◌, IsTrue, OnOk};
+ghost use Rattle.std.specs.Prelude.{◌≡◌, ◌<◌, IsTrue, OnOk, IsOk, ℕ, List, None, Some, slice_index_or};
 ghost use Rattle.alp_base.specs.Allowances.{HasHaltCause};
 ghost use Rattle.alp_disk.specs.Disk.{page as page_of, NoMore, Adds};
 ghost use Rattle.alp_wal.specs.Wal.{disk_of, anchor_of, index_of, notes_of, end_of, is_dead, state_of, IsLog, IsKnown};
@@ -34,6 +34,8 @@ impl<D: Disk> Wal<D> {
         ensures seen { D.seen (disk_of self.new) ≡ D.seen (disk_of self.old) }
         ensures crash { NoMore (D.may_leave (disk_of self.old)) (D.may_leave (disk_of self.new)) }
         ensures time { Adds D.left_since (disk_of self.old) (disk_of self.new) (D.may_leave (disk_of self.old)) }
+        ensures allowance { D.allowance (disk_of self.new) ≡ D.allowance (disk_of self.old) }
+        ensures logged { (image : List ℕ) → slice_index_or (index_of self.old) at None ≡ Some image → IsOk result × (page.new ≡ image) × (self.new ≡ self.old) }
         ensures cause { HasHaltCause (D.faults (disk_of self.old)) (D.faults (disk_of self.new)) (D.allowance (disk_of self.new)) result }
     {
         if let Some(image) = &self.index[at as usize] {

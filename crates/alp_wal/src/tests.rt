@@ -7,6 +7,8 @@ use crate::{Wal, WalFault, format, mount};
 use alp_base::{Bytes, Page, Sizes};
 use alp_batch::{Batch, decode};
 use alp_disk::{Disk, FileDisk, Fuse, MemDisk};
+use rand_core::{Rng, SeedableRng};
+use rand_pcg::Pcg32;
 use std::alloc::Global;
 use std::fs::File;
 use std::test::Fail;
@@ -261,41 +263,35 @@ fn a_crash_leaves_the_batch_or_none(rt: HostRuntime) -> Result<(), Fail> {
     Ok(())
 }
 
-#[derive(Drop)]
-struct Random {
-    state: u64,
+fn below(random: &mut Pcg32, end: u8) -> u8
+    requires { 0 < end }
+{
+    (random.next_u32() % end as u32) as u8
 }
 
-impl Random {
-    fn next(&mut self, below: u8) -> u8
-        requires { 0 < below }
-    {
-        self.state = self
-            .state
-            .wrapping_mul(6364136223846793005)
-            .wrapping_add(1442695040888963407);
-        ((self.state >> 33) % below as u64) as u8
-    }
+fn any_change(random: &mut Pcg32) -> Change {
+    let note = below(random, 200) as u16 * 10;
+    Change::new(
+        below(random, 13),
+        below(random, 4),
+        below(random, 255),
+        note,
+    )
+}
 
-    fn change(&mut self) -> Change {
-        let note = self.next(200) as u16 * 10;
-        Change::new(self.next(13), self.next(4), self.next(255), note)
+/// Mostly none.
+fn any_stop(random: &mut Pcg32) -> Option<u32> {
+    if below(random, 4) > 0 {
+        return None;
     }
-
-    /// Mostly none.
-    fn calls(&mut self) -> Option<u32> {
-        if self.next(4) > 0 {
-            return None;
-        }
-        Some(self.next(40) as u32)
-    }
+    Some(below(random, 40) as u32)
 }
 
 /// What a run is to hold now, and what it has seen.
 #[derive(Drop)]
 struct Run {
     plain: Plain,
-    random: Random,
+    random: Pcg32,
     checkpoints: u32,
     stops: u32,
 }
@@ -307,7 +303,7 @@ impl Run {
         ensures known { IfOk result (λ w. IsTrue (D.tells (disk_of w)) → is_dead w ≡ false → IsKnown (D.size (disk_of w)) (D.seen (disk_of w)) (D.may_leave (disk_of w)) w) }
     {
         self.stops = self.stops.wrapping_add(1);
-        let pick = self.random.next(6) as u64;
+        let pick = below(&mut self.random, 6) as u64;
         let mut wal = mounted(alloc, disk.power_off(pick))?;
         if holds(alloc, &mut wal, &next)? {
             self.plain = next;
@@ -321,11 +317,11 @@ impl Run {
         ensures log { IfOk result (λ w. IsLog (D.size (disk_of w)) w) }
         ensures known { IfOk result (λ w. IsTrue (D.tells (disk_of w)) → is_dead w ≡ false → IsKnown (D.size (disk_of w)) (D.seen (disk_of w)) (D.may_leave (disk_of w)) w) }
     {
-        let change = self.random.change();
+        let change = any_change(&mut self.random);
         let next = self.plain.with(&change);
         let batch = change.batch(alloc)?;
         let room = wal.room();
-        wal.stop_after(self.random.calls());
+        wal.stop_after(any_stop(&mut self.random));
         match put(&mut wal, &batch)? {
             None => {
                 self.plain = next;
@@ -354,7 +350,7 @@ fn many_commits_hold_what_a_plain_map_holds(rt: HostRuntime) -> Result<(), Fail>
     let alloc = rt.alloc();
     let mut run = Run {
         plain: NOTHING,
-        random: Random { state: 1 },
+        random: Pcg32::seed_from_u64(1),
         checkpoints: 0,
         stops: 0,
     };

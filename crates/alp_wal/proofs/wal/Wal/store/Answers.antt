@@ -8,7 +8,9 @@ use Rattle.alp_notes.specs.declared.notes.Notes.{Notes}
 use Rattle.alp_notes.specs.Notes.{entries_of, HasRoom}
 use Rattle.alp_wal.specs.State.{State, Suits, applied}
 use Rattle.alp_live.specs.Live.{BothFit}
-use Rattle.alp_wal.specs.Wal.{anchor_of}
+use Rattle.alp_wal.specs.Wal.{anchor_of, end_of, index_of, indexed}
+use Rattle.alp_wal.specs.Reading.{area_end}
+use Rattle.std.specs.Prelude.{OnOk, OnErr, ◌≡◌, ◌+◌}
 use Rattle.alp_wal.specs.Prepared.{batch_of}
 use Rattle.alp_wal.proofs.Commits.{leaves_weaker, leaves_then, before_or_after_as}
 use Rattle.alp_wal.proofs.wal.Wal.store.Goals as goal
@@ -64,3 +66,15 @@ pub returns-clause-fitting : goal.returns-clause-fitting
 returns-clause-fitting g c fits =
     let long = ap length (c.as_slice.ensures ∙ c.requires.ready.spelled) ∙ batch_is (batch_of c.args.prepared) c.requires.ready.fits in
     c.put.ensures.anchor ∙ ap (λ w. anchor_of w) (c.make_room.ensures.fitting (omega (arith, ap body_pages long, c.record_pages.ensures, fits)))
+
+pub returns-clause-index : goal.returns-clause-index
+returns-clause-index g c fits =
+    let long = ap length (c.as_slice.ensures ∙ c.requires.ready.spelled) ∙ batch_is (batch_of c.args.prepared) c.requires.ready.fits in
+    let same = c.make_room.ensures.fitting (omega (arith, ap body_pages long, c.record_pages.ensures, fits)) in
+    subst (λ w. OnOk c.put.result (index_of c.put.new.self ≡ indexed (index_of w) (batch_of c.args.prepared).images)) same c.put.ensures.index
+
+pub returns-clause-stays_index : goal.returns-clause-stays_index
+returns-clause-stays_index g c fits =
+    let long = ap length (c.as_slice.ensures ∙ c.requires.ready.spelled) ∙ batch_is (batch_of c.args.prepared) c.requires.ready.fits in
+    let same = c.make_room.ensures.fitting (omega (arith, ap body_pages long, c.record_pages.ensures, fits)) in
+    subst (λ w. OnErr c.put.result (index_of c.put.new.self ≡ index_of w)) same c.put.ensures.stays_index
