@@ -1,8 +1,8 @@
 -- the entry of a call that asked for locks and has them
-use Rattle.std.specs.Prelude.{cond, Bool, true, false, not, ◌&&◌, IsTrue, Option, None, Some}
+use Rattle.std.specs.Prelude.{cond, Bool, true, false, not, ◌&&◌, ◌||◌, IsTrue, Option, None, Some}
 use Rattle.std.specs.List.{AllByRecursion}
 use Rattle.std.specs.FinMap as map
-use Rattle.std.proofs.Common.{◌≡◌, ℕ, zero, suc, ◌+◌, ◌≤◌, List, [], ◌∷◌, ◌++◌, refl, sym, ◌∙◌, ap, subst, arith}
+use Rattle.std.proofs.Common.{◌≡◌, ℕ, zero, suc, ◌+◌, ◌<◌, ◌≤◌, List, [], ◌∷◌, ◌++◌, refl, sym, ◌∙◌, ap, subst, arith}
 use Rattle.alp_base.specs.declared.ids.FileId.{FileId}
 use Rattle.alp_base.specs.declared.ids.TransId.{TransId}
 use Rattle.alp_base.specs.declared.key.Resource.{Resource}
@@ -21,12 +21,13 @@ use Rattle.alp_files.specs.Act.{Own, Answer, answer, id_in}
 use Rattle.alp_files.specs.Cells.{View}
 use Rattle.alp_files.specs.Locks.{IsMore, granted, needs_of, request_of, joined}
 use Rattle.alp_files.proofs.CoverLemmas.{right-above, joined-more}
+use Rattle.alp_files.proofs.SameLemmas.{same_file-true}
 use Rattle.alp_files.specs.Built.{IsBuilt}
 use Rattle.alp_files.specs.Cells.{has_file}
 use Rattle.alp_files.specs.Locks.{Need, IsFormed, with_made, needs_made}
 use Rattle.alp_queue.specs.declared.waiter.Waiter.{Waiter}
 use Rattle.alp_queue.specs.Order.{waits}
-use Rattle.alp_locks.specs.Tables.{Table, holding}
+use Rattle.alp_locks.specs.Tables.{Parts, Table, holding}
 use Rattle.alp_locks.specs.Asks.{blocker}
 use Rattle.alp_locks.specs.Sound.{IsSound}
 use Rattle.alp_calls.specs.declared.part.Part.{Part}
@@ -38,7 +39,16 @@ use Rattle.alp_journal.specs.State.{State, Start, Life, Plain, kind_of, file_tra
 use Rattle.alp_journal.specs.Laws.{ended_at}
 use Rattle.alp_node.specs.Asks.{asks_of, asks_made, asks_given, plan_for, plan_of, with_plan}
 use Rattle.alp_node.specs.Calls.{IsLockCall, Gave, next_file}
-use Rattle.alp_node.specs.Kept.{IsAs, IsLife, IsLocked, mode_for}
+use Rattle.alp_node.specs.Kept.{IsAs, IsAlike, IsLife, IsLocked, mode_for, ids_to, told_session}
+use Rattle.alp_node.specs.Steps.{Stepped, IsTurn}
+use Rattle.alp_node.specs.declared.answer.Answer.{Answer as Handed}
+use Rattle.alp_node.specs.declared.sessions.Turn.{Turn}
+use Rattle.alp_node.proofs.KeptLemmas.{IsLive, live_there, answered, told_turn}
+use Rattle.alp_node.proofs.CallLemmas.{done_kept, performs, gave, after_call, done_as}
+use Rattle.alp_journal.specs.declared.act.Act.{Act}
+use Rattle.alp_journal.proofs.EntryLemmas.{grant_leads, after_grant}
+use Rattle.std.proofs.lemmas.Bool.{eqb-true}
+use Rattle.alp_files.specs.Cells.{same_file}
 use Rattle.alp_node.specs.declared.kept.Kept.{Kept}
 use Rattle.alp_node.specs.declared.lives.Live.{Live}
 use Rattle.alp_node.proofs.AskLemmas.{OpensLocked, open_none, owner_none, more_locked, open_locked, owner_locked, create_locked}
@@ -211,3 +221,91 @@ kept_locked server made held m w who (call.SetQuota t name quota choice) r is h 
 kept_locked server made held m w who (call.Finish t commit) r is h = absurd is
 kept_locked server made held m w who (call.Outcome t) r is h = absurd is
 kept_locked server made held m w who (call.Collect n) r is h = absurd is
+
+-- ---- ids
+
+-- no id beyond the count was given
+pub none_beyond : (server epoch n m : ℕ) → n < m → has_file (record { server = server; epoch = epoch; counter = m }) (ids_to server epoch n) ≡ false
+none_beyond server epoch zero m low = refl
+none_beyond server epoch (suc n) m low =
+    go (none_beyond server epoch n m (omega (arith, low))) (same_file (record { server = server; epoch = epoch; counter = suc n }) (record { server = server; epoch = epoch; counter = m })) refl
+  where
+    go : has_file (record { server = server; epoch = epoch; counter = m }) (ids_to server epoch n) ≡ false → (b : Bool)
+        → same_file (record { server = server; epoch = epoch; counter = suc n }) (record { server = server; epoch = epoch; counter = m }) ≡ b
+        → (b || has_file (record { server = server; epoch = epoch; counter = m }) (ids_to server epoch n)) ≡ false
+    go below false e = below
+    go below true e = let one : suc n ≡ m = ap (λ (f : FileId). f.counter) (same_file-true (record { server = server; epoch = epoch; counter = suc n }) (record { server = server; epoch = epoch; counter = m }) e) in absurd (omega (arith, low, one))
+
+same_id : (g f : FileId) → Some g ≡ Some f → f ≡ g
+same_id g f e = cc
+
+-- only the next id is given
+id_given : (id f : FileId) (x : Reply) → id_in x ≡ Some f → GivesOnly id x → f ≡ id
+id_given id f (reply.Created g n) e only = same_id g f e ∙ only g n refl
+id_given id f (reply.Welcome y) e only = let wrong : None ≡ Some f = e in cc
+id_given id f (reply.Begun y) e only = let wrong : None ≡ Some f = e in cc
+id_given id f reply.Joined e only = let wrong : None ≡ Some f = e in cc
+id_given id f (reply.Opened y) e only = let wrong : None ≡ Some f = e in cc
+id_given id f reply.Plain e only = let wrong : None ≡ Some f = e in cc
+id_given id f (reply.Pages y) e only = let wrong : None ≡ Some f = e in cc
+id_given id f (reply.Props y) e only = let wrong : None ≡ Some f = e in cc
+id_given id f (reply.Owner y) e only = let wrong : None ≡ Some f = e in cc
+id_given id f (reply.Committed y) e only = let wrong : None ≡ Some f = e in cc
+id_given id f (reply.Ended y) e only = let wrong : None ≡ Some f = e in cc
+id_given id f (reply.Refused y) e only = let wrong : None ≡ Some f = e in cc
+
+-- what others hold
+held_elsewhere : (locks : Parts) (u : TransId) (y : Option Live) (m : Life) → IsAlike locks u y (Some m) → (q : Resource) → m.held q ≡ holding locks u q
+held_elsewhere locks u None m wrong q = absurd wrong
+held_elsewhere locks u (Some z) m life q = life.held q
+
+-- ---- the entry
+
+same_agree : (a b x y : Holding) → ((q : Resource) → a q ≡ x q) → ((q : Resource) → b q ≡ y q) → DoAgree x y → DoAgree a b
+same_agree a b x y first second agree = subst (λ (z : Holding). DoAgree z b) (λ i q. sym (first q) i) (subst (DoAgree x) (λ i q. sym (second q) i) agree)
+
+module _ {V : Type 0} (o : Start) (s : State) (held : Contents) (k : Kept V) (turn : Turn) (t : TransId) (l : Live) (p : Part) (c : Call) (r : Reply) (v : V) where
+  abbrev pub plan : Waiter
+  plan = plan_of k.locks t (asks_given (next_file k) c r)
+
+  abbrev pub locks_then : Table
+  locks_then = with_plan k.locks plan
+
+  pub lock_stepped : (a : Handed) (then : Contents) → IsAs o s held k → k.is_down ≡ false → then ≡ held → IsTurn k.sessions turn → map.get k.lives t ≡ Some l → l.client ≡ turn.client → IsLockCall c
+      → is_of_no_file s c r ≡ false → file_trans c ≡ Some t → IsFormed c → Gave true held.cells (next_file k) l p c r → a ≡ record { kept = Some r; handed = Some r; acts = act.Granted t ∷ [] }
+      → IsSound k.locks → k.locks.waiting ≡ [] → blocker k.locks.held t (plan_of k.locks t (asks_of c)).rises ≡ None → blocker k.locks.held t plan.rises ≡ None
+      → Stepped o s then (done_kept o s held k turn t l p c r locks_then v) (event.Call turn.client k.epoch turn.number c) a
+  lock_stepped a then h up same is there own kind here of formed given so sound alone free free_then =
+      let x : IsLive k.locks.held t l (s.lives t) = live_there k.locks.held t (map.get k.lives t) (s.lives t) l there (h.lives t) in
+      let life : Life = x.life in
+      let under : Holding = held_for s life c in
+      let asked : Waiter = plan_of k.locks t (asks_of c) in
+      let single : IsAlone s c = lock_alone s c kind in
+      let done : Performs l.part p (gave o s held k turn t l p c r locks_then v life under) r = performs o s held k turn t l p c r locks_then v life h up x.alike (given.right refl) in
+      let idle : waits k.locks.waiting t ≡ false = ap (λ (ws : List Waiter). waits ws t) alone in
+      let keeps : asks_given (next_file k) c r ≡ asks_of c ++ needs_made (id_in r) = kept_beside s.server [] (view_in s life) life.own life.who (next_file k) c r kind done.reply given.given in
+      let own_now : (q : Resource) → life.held q ≡ holding k.locks.held t q = x.alike.held in
+      let under_is : (q : Resource) → under q ≡ join_held (holding k.locks.held t q) (held_by (asks_of c) q) =
+      λ q. ap (λ (ns : List Need). join_held (life.held q) (held_by ns q)) (asks_right life.held (view_in s life) life.own c kind) ∙ ap (λ (y : Option Mode). join_held y (held_by (asks_of c) q)) (own_now q) in
+      let first_held : (q : Resource) → under q ≡ holding (with_plan k.locks asked).held t q = λ q. under_is q ∙ sym (taken_own k.locks asked refl q) in
+      let then_held : (q : Resource) → with_made under (id_in r) q ≡ holding locks_then.held t q =
+      λ q. ap (λ (y : Option Mode). join_held y (held_by (needs_made (id_in r)) q)) (under_is q)
+      ∙ join_held-assoc (holding k.locks.held t q) (held_by (asks_of c) q) (held_by (needs_made (id_in r)) q)
+      ∙ ap (join_held (holding k.locks.held t q)) (sym (held_by-append (asks_of c) (needs_made (id_in r)) q) ∙ ap (λ (ns : List Need). held_by ns q) (sym keeps))
+      ∙ sym (taken_own k.locks plan refl q) in
+      let other_held : (u : TransId) (m : Life) → s.lives u ≡ Some m → (q : Resource) → m.held q ≡ holding k.locks.held u q = λ u m at q. held_elsewhere k.locks.held u (map.get k.lives u) m (subst (λ (y : Option Life). IsAlike k.locks.held u (map.get k.lives u) y) at (h.lives u)) q in
+      let first : (u : TransId) (m : Life) → same_trans u t ≡ false → s.lives u ≡ Some m → DoAgree under m.held =
+      λ u m away at. same_agree under m.held (holding (with_plan k.locks asked).held t) (holding (with_plan k.locks asked).held u) first_held
+      (λ q. other_held u m at q ∙ sym (taken_other k.locks asked refl u q away)) (taken_agrees k.locks asked refl sound free idle u away) in
+      let agree : (u : TransId) (m : Life) → same_trans u t ≡ false → s.lives u ≡ Some m → DoAgree (with_made under (id_in r)) m.held =
+      λ u m away at. same_agree (with_made under (id_in r)) m.held (holding locks_then.held t) (holding locks_then.held u) then_held
+      (λ q. other_held u m at q ∙ sym (taken_other k.locks plan refl u q away)) (taken_agrees k.locks plan refl sound free_then idle u away) in
+      let fresh : (f : FileId) → id_in r ≡ Some f → has_file f s.made ≡ false = λ f e.
+      subst (λ (y : FileId). has_file y s.made ≡ false) (sym (id_given (next_file k) f r e given.given))
+      (ap (has_file (next_file k)) h.made ∙ (λ i. has_file (record { server = sym h.server i; epoch = sym h.epoch i; counter = k.given + 1 }) (ids_to s.server s.epoch k.given))
+      ∙ none_beyond s.server s.epoch k.given (k.given + 1) (omega arith)) in
+      let leads = grant_leads s turn.client turn.number (told_session turn.session) t life c r h.quiet (told_turn o s held k turn.client turn.session h is.session) is.number x.is (x.alike.client ∙ own) x.alike.active
+      single.kind of formed given.kind given.own here (λ y. single.ends y turn.client s.epoch turn.number r) done.reply fresh first agree in
+      answered o s held k turn.client turn.number c r (act.Granted t ∷ []) (after_grant s turn.client turn.number (told_session turn.session) t life c r) (done_kept o s held k turn t l p c r locks_then v) a then so h leads
+      (done_as o s held k turn t l p c r locks_then v life under then h same is there x.is x.alike single.built given.given done then_held (λ u q away. taken_other k.locks plan refl u q away)
+      (kept_locked s.server [] life.held (view_in s life) life.own life.who c r kind x.alike.opens) leads.quiet)
