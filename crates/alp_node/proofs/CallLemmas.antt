@@ -91,9 +91,21 @@ module _ {V : Type 0} (o : Start) (s : State) (held : Contents) (k : Kept V) whe
       → IsAs o s then (record k { lives = map.insert k.lives t (record l { part = p }); vault = v })
   part_still t l p v then h same there before =
       subst (λ (c : Contents). IsAs o s c (record k { lives = map.insert k.lives t (record l { part = p }); vault = v })) (sym same) (record {
-        server = h.server; epoch = h.epoch; clock = h.clock; cells = h.cells; notes = h.notes; places = h.places; sessions = h.sessions;
+        server = h.server;
+        epoch = h.epoch;
+        clock = h.clock;
+        cells = h.cells;
+        notes = h.notes;
+        places = h.places;
+        sessions = h.sessions;
         lives = λ u. subst (λ (x : Option Live). IsAlike k.locks.held u x (s.lives u)) (sym (get_put k.lives t (record l { part = p }) u)) (go u (same_trans u t) refl);
-        unborn = h.unborn; drawn = h.drawn; made = h.made; born = h.born; earlier = h.earlier; committed = h.committed; quiet = h.quiet;
+        unborn = h.unborn;
+        drawn = h.drawn;
+        made = h.made;
+        born = h.born;
+        earlier = h.earlier;
+        committed = h.committed;
+        quiet = h.quiet;
       })
     where
       go : (u : TransId) (b : Bool) → same_trans u t ≡ b → IsAlike k.locks.held u (cond {A = Option Live} b (Some (record l { part = p })) (map.get k.lives u)) (s.lives u)
@@ -102,10 +114,13 @@ module _ {V : Type 0} (o : Start) (s : State) (held : Contents) (k : Kept V) whe
           let one : t ≡ u = sym (same_trans-true u t e) in
           let x : IsLive k.locks.held u l (s.lives u) = live_there k.locks.held u (map.get k.lives u) (s.lives u) l (sym (ap (map.get k.lives) one) ∙ there) (h.lives u) in
           subst (λ (y : Option Life). IsAlike k.locks.held u (Some (record l { part = p })) y) (sym x.is) (record {
-            client = x.alike.client; who = x.alike.who; active = x.alike.active;
+            client = x.alike.client;
+            who = x.alike.who;
+            active = x.alike.active;
             intents = subst (ChangesBy x.life.edits map.empty) (sym before.0) x.alike.intents;
             own = before.1 ∙ x.alike.own;
-            held = x.alike.held; opens = x.alike.opens;
+            held = x.alike.held;
+            opens = x.alike.opens;
           })
 
 -- ---- a call that a part performed
@@ -205,12 +220,18 @@ module _ {V : Type 0} (o : Start) (s : State) (held : Contents) (k : Kept V) (tu
   done_as then h same is there live mine built only done holds others opens quiet =
       let new : Life = done_life s turn.client turn.number (told_session turn.session) t life_under c r in
       subst (λ (x : Contents). IsAs o after_call x (done_kept o s held k turn t l p c r locks v)) (sym same) (record {
-        server = h.server; epoch = h.epoch; clock = h.clock; cells = h.cells; notes = h.notes;
+        server = h.server;
+        epoch = h.epoch;
+        clock = h.clock;
+        cells = h.cells;
+        notes = h.notes;
         places = places_set k.sessions turn.client (record turn.session { last = turn.number }) h.places;
         sessions = sessions_as o s held k turn.client (record turn.session { last = turn.number }) h is.client;
         lives = λ u. subst (λ (x : Option Live). IsAlike locks.held u x (cond {A = Option Life} (same_trans u t) (Some new) (s.lives u))) (sym (get_put k.lives t (record l { part = p }) u))
             (alike_set k.locks.held locks.held t (Some (record l { part = p })) (Some new) (map.get k.lives) s.lives h.lives others (record {
-              client = mine.client; who = mine.who; active = mine.active;
+              client = mine.client;
+              who = mine.who;
+              active = mine.active;
               intents = changes-append life.edits gave.edits map.empty l.part.intents p.intents mine.intents done.view;
               own = done.own;
               held = holds;
@@ -222,5 +243,7 @@ module _ {V : Type 0} (o : Start) (s : State) (held : Contents) (k : Kept V) (tu
         drawn = h.drawn;
         made = ap (λ (fs : List FileId). option_to_list (id_in r) ++ fs) h.made ∙ made_now s.server s.epoch k.given r (subst (λ (f : FileId). GivesOnly f r) (next_same h) only);
         born = unborn_more s.server s.epoch k.given (count_after k.given r) (map.get s.cells) (count_grows k.given r) h.born;
-        earlier = h.earlier; committed = h.committed; quiet = quiet;
+        earlier = h.earlier;
+        committed = h.committed;
+        quiet = quiet;
       })

@@ -22,6 +22,7 @@ use Rattle.alp_files.specs.Cells.{View}
 use Rattle.alp_files.specs.Locks.{IsMore, granted, needs_of, request_of, joined}
 use Rattle.alp_files.proofs.CoverLemmas.{right-above, joined-more}
 use Rattle.alp_files.proofs.SameLemmas.{same_file-true}
+use Rattle.alp_files.specs.Born.{count_after}
 use Rattle.alp_files.specs.Built.{IsBuilt}
 use Rattle.alp_files.specs.Cells.{has_file}
 use Rattle.alp_files.specs.Locks.{Need, IsFormed, with_made, needs_made}
@@ -37,7 +38,7 @@ use Rattle.alp_journal.specs.declared.act.Act.TheVariants as act
 use Rattle.alp_journal.specs.declared.event.Event.TheVariants as event
 use Rattle.alp_journal.specs.State.{State, Start, Life, Plain, kind_of, file_trans, is_of_no_file, same_trans, view_in, held_for}
 use Rattle.alp_journal.specs.Laws.{ended_at}
-use Rattle.alp_node.specs.Asks.{asks_of, asks_made, asks_given, plan_for, plan_of, with_plan}
+use Rattle.alp_node.specs.Asks.{asks_of, asks_made, asks_given, is_made, plan_for, count_made, plan_of, with_plan}
 use Rattle.alp_node.specs.Calls.{IsLockCall, Gave, next_file}
 use Rattle.alp_node.specs.Kept.{IsAs, IsAlike, IsLife, IsLocked, mode_for, ids_to, told_session}
 use Rattle.alp_node.specs.Steps.{Stepped, IsTurn}
@@ -56,23 +57,8 @@ use Rattle.alp_node.proofs.LockLemmas.{itself, read_covers, write_covers, asks_r
 
 -- ---- what is asked, and for which reply
 
--- no file was made, so the first plan is taken
-pub plan_none : (r : Reply) (asked made : Waiter) → id_in r ≡ None → plan_for r asked made ≡ asked
-plan_none (reply.Created f n) asked made none = let wrong : Some f ≡ None = none in cc
-plan_none (reply.Welcome e) asked made none = refl
-plan_none (reply.Begun u) asked made none = refl
-plan_none reply.Joined asked made none = refl
-plan_none (reply.Opened n) asked made none = refl
-plan_none reply.Plain asked made none = refl
-plan_none (reply.Pages ps) asked made none = refl
-plan_none (reply.Props x) asked made none = refl
-plan_none (reply.Owner x) asked made none = refl
-plan_none (reply.Committed x) asked made none = refl
-plan_none (reply.Ended e) asked made none = refl
-plan_none (reply.Refused f) asked made none = refl
-
 -- the plan that is taken is one of what is kept
-pub plan_given : (locks : Table) (t : TransId) (id : FileId) (c : Call) (r : Reply) → plan_for r (plan_of locks t (asks_of c)) (plan_of locks t (asks_made id c)) ≡ plan_of locks t (asks_given id c r)
+pub plan_given : (locks : Table) (t : TransId) (id : FileId) (c : Call) (r : Reply) → plan_for (is_made r) (plan_of locks t (asks_of c)) (plan_of locks t (asks_made id c)) ≡ plan_of locks t (asks_given id c r)
 plan_given locks t id c (reply.Created f n) = refl
 plan_given locks t id c (reply.Welcome e) = refl
 plan_given locks t id c (reply.Begun u) = refl
@@ -85,6 +71,21 @@ plan_given locks t id c (reply.Owner x) = refl
 plan_given locks t id c (reply.Committed x) = refl
 plan_given locks t id c (reply.Ended e) = refl
 plan_given locks t id c (reply.Refused f) = refl
+
+-- so is the count
+pub count_given : (count : ℕ) (r : Reply) → count_made count (is_made r) ≡ count_after count r
+count_given count (reply.Created f n) = refl
+count_given count (reply.Welcome y) = refl
+count_given count (reply.Begun y) = refl
+count_given count reply.Joined = refl
+count_given count (reply.Opened y) = refl
+count_given count reply.Plain = refl
+count_given count (reply.Pages y) = refl
+count_given count (reply.Props y) = refl
+count_given count (reply.Owner y) = refl
+count_given count (reply.Committed y) = refl
+count_given count (reply.Ended y) = refl
+count_given count (reply.Refused y) = refl
 
 -- where no file is made, what is kept is what was asked
 asks_none : (id : FileId) (c : Call) (r : Reply) → id_in r ≡ None → asks_given id c r ≡ asks_of c

@@ -178,9 +178,21 @@ sessions_as o s held k client w h le c =
 pub as_under : {V : Type 0} (o : Start) (s : State) (held : Contents) (k : Kept V) (locks : Table) → ((u : TransId) (r : Resource) → holding locks.held u r ≡ holding k.locks.held u r) → IsAs o s held k
     → IsAs o s held (record k { locks = locks })
 as_under o s held k locks same h = record {
-  server = h.server; epoch = h.epoch; clock = h.clock; cells = h.cells; notes = h.notes; places = h.places; sessions = h.sessions;
+  server = h.server;
+  epoch = h.epoch;
+  clock = h.clock;
+  cells = h.cells;
+  notes = h.notes;
+  places = h.places;
+  sessions = h.sessions;
   lives = λ t. alike_under k.locks.held locks.held t (map.get k.lives t) (s.lives t) (same t) (h.lives t);
-  drawn = h.drawn; made = h.made; born = h.born; earlier = h.earlier; committed = h.committed; unborn = h.unborn; quiet = h.quiet;
+  drawn = h.drawn;
+  made = h.made;
+  born = h.born;
+  earlier = h.earlier;
+  committed = h.committed;
+  unborn = h.unborn;
+  quiet = h.quiet;
 }
 
 module _ {V : Type 0} (o : Start) (s : State) (held : Contents) (k : Kept V) (client : ℕ) where
@@ -198,10 +210,20 @@ module _ {V : Type 0} (o : Start) (s : State) (held : Contents) (k : Kept V) (cl
         next = m;
         leads = subst (λ (x : Answer). Leads s (record { event = event.Call client 0 1 (call.Hello name); reply = x.kept; acts = x.acts }) m) (sym is) leads;
         kept = record {
-          server = h.server; epoch = h.epoch; clock = h.clock; cells = h.cells; notes = h.notes;
+          server = h.server;
+          epoch = h.epoch;
+          clock = h.clock;
+          cells = h.cells;
+          notes = h.notes;
           places = places_set k.sessions client w h.places;
           sessions = sessions_as o s held k client w h le;
-          lives = h.lives; unborn = h.unborn; drawn = h.drawn; made = h.made; born = h.born; earlier = h.earlier; committed = h.committed;
+          lives = h.lives;
+          unborn = h.unborn;
+          drawn = h.drawn;
+          made = h.made;
+          born = h.born;
+          earlier = h.earlier;
+          committed = h.committed;
           quiet = leads.quiet;
         };
         handed = ap (λ (x : Answer). x.handed) is ∙ sym (ap (λ (x : Answer). x.kept) is);
@@ -216,10 +238,20 @@ module _ {V : Type 0} (o : Start) (s : State) (held : Contents) (k : Kept V) (cl
   -- a state in which only the session counts on is that of a server in which it does
   counts_as : (w : Session) (number : ℕ) → IsAs o s held k → client ≤ 16 → IsAs o (counts_on s client number (told_session w)) held (counted w number)
   counts_as w number h le = record {
-    server = h.server; epoch = h.epoch; clock = h.clock; cells = h.cells; notes = h.notes;
+    server = h.server;
+    epoch = h.epoch;
+    clock = h.clock;
+    cells = h.cells;
+    notes = h.notes;
     places = places_set k.sessions client (record w { last = number }) h.places;
     sessions = sessions_as o s held k client (record w { last = number }) h le;
-    lives = h.lives; unborn = h.unborn; drawn = h.drawn; made = h.made; born = h.born; earlier = h.earlier; committed = h.committed;
+    lives = h.lives;
+    unborn = h.unborn;
+    drawn = h.drawn;
+    made = h.made;
+    born = h.born;
+    earlier = h.earlier;
+    committed = h.committed;
     quiet = record { agree = h.quiet.agree; idle = h.quiet.idle };
   }
 
@@ -259,7 +291,9 @@ module _ {V : Type 0} (o : Start) (s : State) (held : Contents) (k : Kept V) (cl
         subst (λ (x : Option Live). IsAlike locks u x (cond {A = Option Life} (same_trans u begun_trans) (Some (new_life client w.who)) (s.lives u))) (sym (get_put k.lives begun_trans begun_live u))
         (alike_set k.locks.held locks begun_trans (Some begun_live) (Some (new_life client w.who)) (map.get k.lives) s.lives h.lives (λ v r away. same v r)
         (record {
-          client = refl; who = refl; active = refl;
+          client = refl;
+          who = refl;
+          active = refl;
           intents = λ v. ap (λ (puts : Cells). over puts v) none;
           own = opens;
           held = λ r. sym (same begun_trans r ∙ none_held k.locks.held begun_trans (map.get k.lives begun_trans) (s.lives begun_trans) new (h.lives begun_trans) r);
@@ -276,18 +310,24 @@ module _ {V : Type 0} (o : Start) (s : State) (held : Contents) (k : Kept V) (cl
         subst (λ (t : TransId). Leads s (record { event = event.Call client s.epoch number (call.Begin seen); reply = Some (reply.Begun t); acts = act.Drawn t ∷ [] }) (m t)) (trans_same h)
         (begin_leads s client number (told_session w) seen h.quiet (told_turn o s held k client w h there) turn) in
         let new_kept : IsAs o (m begun_trans) held (with_begun_kept locks) = record {
-          server = h.server; epoch = h.epoch; clock = ap (λ (n : ℕ). max n seen.ts) h.clock; cells = h.cells; notes = h.notes;
+          server = h.server;
+          epoch = h.epoch;
+          clock = ap (λ (n : ℕ). max n seen.ts) h.clock;
+          cells = h.cells;
+          notes = h.notes;
           places = places_set k.sessions client (record w { last = number }) h.places;
           sessions = sessions_as o s held k client (record w { last = number }) h le;
           lives = begun_alike locks.held new same opens none h;
           unborn = each_set (λ l. PutNoneBeyond s.server s.epoch k.given l.edits) begun_trans (Some (new_life client w.who)) s.lives h.unborn (λ l is n le. ap (λ (x : Life). edits_at x.edits (Leader (record { server = s.server; epoch = s.epoch; counter = n })) None) (sym (same-some (new_life client w.who) l is)));
           drawn = ap (λ (n : ℕ). n + 1) h.drawn;
-          made = h.made; born = h.born;
+          made = h.made;
+          born = h.born;
           earlier = earlier_more s.clock (max s.clock seen.ts) s.decided (omega arith) h.earlier;
           committed = h.committed;
           quiet = leads.quiet;
         } in
         answered number (call.Begin seen) (reply.Begun begun_trans) (act.Drawn begun_trans ∷ []) (m begun_trans) (with_begun_kept locks) a held is h leads new_kept
+
   -- ---- a call that is refused and not performed
 
   pub passing_stepped : (w : Session) (number : ℕ) (c : Call) (f : Refusal) (a : Answer) → IsAs o s held k → client ≤ 16 → session_at k.sessions client ≡ Some w → number ≡ w.last + 1
@@ -320,12 +360,20 @@ module _ {V : Type 0} (o : Start) (s : State) (held : Contents) (k : Kept V) (cl
       let leads = abort_leads s client number (told_session w) t x.life commit cause h.quiet (told_turn o s held k client w h there) turn x.is (x.alike.client ∙ own) in
       answered number (call.Finish t commit) (reply.Refused (refusal.Aborted cause)) (act.Released t ∷ []) (without_life s client number (told_session w) t x.life) (without_trans (counted w number) t) a held is h leads
       (record {
-        server = h.server; epoch = h.epoch; clock = h.clock; cells = h.cells; notes = h.notes;
+        server = h.server;
+        epoch = h.epoch;
+        clock = h.clock;
+        cells = h.cells;
+        notes = h.notes;
         places = places_set k.sessions client (record w { last = number }) h.places;
         sessions = sessions_as o s held k client (record w { last = number }) h le;
         lives = gone_alike t alone h;
         unborn = gone_unborn t h;
-        drawn = h.drawn; made = h.made; born = h.born; earlier = h.earlier; committed = h.committed;
+        drawn = h.drawn;
+        made = h.made;
+        born = h.born;
+        earlier = h.earlier;
+        committed = h.committed;
         quiet = leads.quiet;
       })
 
@@ -340,10 +388,20 @@ module _ {V : Type 0} (o : Start) (s : State) (held : Contents) (k : Kept V) (cl
         next = with_life s t None;
         leads = subst (λ (y : Answer). Leads s (record { event = event.Timeout t; reply = y.kept; acts = y.acts }) (with_life s t None)) (sym is) leads;
         kept = record {
-          server = h.server; epoch = h.epoch; clock = h.clock; cells = h.cells; notes = h.notes; places = h.places; sessions = h.sessions;
+          server = h.server;
+          epoch = h.epoch;
+          clock = h.clock;
+          cells = h.cells;
+          notes = h.notes;
+          places = h.places;
+          sessions = h.sessions;
           lives = gone_alike t alone h;
-        unborn = gone_unborn t h;
-          drawn = h.drawn; made = h.made; born = h.born; earlier = h.earlier; committed = h.committed;
+          unborn = gone_unborn t h;
+          drawn = h.drawn;
+          made = h.made;
+          born = h.born;
+          earlier = h.earlier;
+          committed = h.committed;
           quiet = leads.quiet;
         };
         handed = ap (λ (y : Answer). y.handed) is ∙ sym (ap (λ (y : Answer). y.kept) is);
@@ -388,14 +446,17 @@ module _ {V : Type 0} (o : Start) (s : State) (held : Contents) (k : Kept V) (cl
         ∙ (λ i. map.insert o.notes clock_name (clock_form.spell (record { epoch = sym h.epoch i; clock = sym (last_pushed (clock_kept o.notes).clock s.decided (commit_stamp, committed s client number (told_session w) t x.life ts)) i }))) in
         answered number (call.Finish t true) (reply.Committed commit_stamp) (act.Decided commit_stamp [] ∷ act.Released t ∷ []) m committed_kept a then is h leads
         (record {
-          server = h.server; epoch = h.epoch; clock = clock;
+          server = h.server;
+          epoch = h.epoch;
+          clock = clock;
           cells = λ _. same;
           notes = λ _. noted;
           places = places_set k.sessions client (record w { last = number }) h.places;
           sessions = sessions_as o s held k client (record w { last = number }) h le;
           lives = gone_alike t alone h;
           unborn = gone_unborn t h;
-          drawn = h.drawn; made = h.made;
+          drawn = h.drawn;
+          made = h.made;
           born = λ n high. ap (λ (view : View). view (Leader (record { server = s.server; epoch = s.epoch; counter = n }))) (get-edits_map es s.cells)
               ∙ ap (edits_at es (Leader (record { server = s.server; epoch = s.epoch; counter = n }))) (h.born n high) ∙ h.unborn t x.life x.is n high;
           earlier = subst (λ (n : ℕ). AreEarlier n m.decided) (sym clock) (AreEarlier-push s.decided commit_stamp (committed s client number (told_session w) t x.life ts) s.clock h.earlier (omega (arith, h.clock)));
@@ -414,12 +475,20 @@ module _ {V : Type 0} (o : Start) (s : State) (held : Contents) (k : Kept V) (cl
       let never : true ≡ false → ⊥ = λ e. cc in
       answered number c (reply.Refused f) acts (record (counts_on s client number (told_session w)) { pending = acts }) (record (counted w number) { is_down = true; vault = v }) a then is h leads
       (record {
-        server = h.server; epoch = h.epoch; clock = h.clock;
+        server = h.server;
+        epoch = h.epoch;
+        clock = h.clock;
         cells = λ e. absurd (never e);
         notes = λ e. absurd (never e);
         places = places_set k.sessions client (record w { last = number }) h.places;
         sessions = sessions_as o s held k client (record w { last = number }) h le;
-        lives = h.lives; unborn = h.unborn; drawn = h.drawn; made = h.made; born = h.born; earlier = h.earlier; committed = h.committed;
+        lives = h.lives;
+        unborn = h.unborn;
+        drawn = h.drawn;
+        made = h.made;
+        born = h.born;
+        earlier = h.earlier;
+        committed = h.committed;
         quiet = leads.quiet;
       })
 
@@ -469,7 +538,16 @@ halted_ready {V} n before serves k v turn (Ok a) new is h down =
     let never : true ≡ false → ⊥ = λ e. cc in
     subst (IsReady (n + 1) serves) (sym down) (record {
       serving = λ e. absurd (never e);
-      sound = c.sound; alone = c.alone; known = c.known; begun = c.begun; opens = c.opens; places = c.places; calls = c.calls; drawn = c.drawn; given = c.given; committed = c.committed;
+      sound = c.sound;
+      alone = c.alone;
+      known = c.known;
+      begun = c.begun;
+      opens = c.opens;
+      places = c.places;
+      calls = c.calls;
+      drawn = c.drawn;
+      given = c.given;
+      committed = c.committed;
     })
 
 -- a commit leaves it ready
@@ -479,6 +557,14 @@ commit_ready n before serves k v turn t on is h =
     let c = counted_ready n before (without_trans k t) turn is (gone_ready n before k t h) in
     record {
       serving = λ _. on;
-      sound = c.sound; alone = c.alone; known = c.known; begun = c.begun; opens = c.opens; places = c.places; calls = c.calls; drawn = c.drawn; given = c.given;
+      sound = c.sound;
+      alone = c.alone;
+      known = c.known;
+      begun = c.begun;
+      opens = c.opens;
+      places = c.places;
+      calls = c.calls;
+      drawn = c.drawn;
+      given = c.given;
       committed = omega (arith, h.committed);
     }

@@ -62,8 +62,10 @@ leader_given held f a = go a
   where
     asked : (m : Mode) → covers_of m m ≡ true → covers_held (joined held ((Whole f, m) ∷ []) (Whole f)) m ≡ true
     asked m own = right-above (held (Whole f)) (held_by ((Whole f, m) ∷ []) (Whole f)) m (ap (λ (b : Bool). covers_held (cond b (Some m) None) m) (itself (Whole f)) ∙ own)
+
     reads : (x : Option Mode) → covers_held x Read ≡ true → covers_held (option_and_then leaf_of x) Read ≡ true
     reads x h = of_some x Read (λ y. covers_held (option_and_then leaf_of y) Read ≡ true) gives_read h
+
     go : (b : Access) → covers_held (given_to (joined held ((Whole f, mode_for b) ∷ [])) (Leader f)) Read ≡ true
     go ReadOnly = reads (joined held ((Whole f, Read) ∷ []) (Whole f)) (asked Read read_covers)
     go Change = reads (joined held ((Whole f, Write) ∷ []) (Whole f)) (of_some (joined held ((Whole f, Write) ∷ []) (Whole f)) Write (λ y. covers_held y Read ≡ true) write_reads (asked Write write_covers))

@@ -96,6 +96,7 @@ found_locked held (x ∷ os) n h op = go (x.number == n) (found_locked held os n
   where
     same_open : (a b : Open) → Some a ≡ Some b → a ≡ b
     same_open a b e = cc
+
     go : (b : Bool) → (open_at os n ≡ Some op → IsLocked held op) → cond {A = Option Open} b (Some x) (open_at os n) ≡ Some op → IsLocked held op
     go true later e = subst (IsLocked held) (same_open x op e) h.0
     go false later e = later e
@@ -112,6 +113,7 @@ page_held held m own (call.ReadPages t n r mode choice) is h =
     there : (op : Open) (x : Option Props) → IsLocked held op → HoldsEach held (needs_there x (λ p. page_needs op.file r.first r.count mode))
     there op None k = tt
     there op (Some p) k = subst (λ (y : Mode). HoldsEach held (page_needs op.file r.first r.count y)) (sym is) (pages_held held op.file Read (λ q e. on_leaf_read held op.file q e (locked_reads held op k)) r.count r.first)
+
     go : (x : Option Open) → ((op : Open) → x ≡ Some op → IsLocked held op) → HoldsEach held (needs_on_open m x (λ op p. page_needs op.file r.first r.count mode))
     go None locked = tt
     go (Some op) locked = there op (props_in (m (Leader op.file))) (locked op refl)
@@ -124,15 +126,18 @@ page_held held m own (call.WritePages t n r pages choice) is h =
         mark : (b : Bool) → HoldsEach held (cond {A = List Need} b ((Leaf (Leader op.file), Write) ∷ []) [])
         mark true = (each (Leader op.file) refl, tt)
         mark false = tt
+
     writes : (op : Open) (a : Access) (p : Props) → covers_held (held (Whole op.file)) (mode_for a) ≡ true
         → HoldsEach held (needs_if_change a (mark_needs op.file p (r.first + r.count) ++ page_needs op.file r.first r.count Write))
     writes op ReadOnly p k = tt
     writes op Change p k =
         each-append held (mark_needs op.file p (r.first + r.count)) (page_needs op.file r.first r.count Write) (marks op p (λ q e. on_leaf_write held op.file q e k))
         (pages_held held op.file Write (λ q e. on_leaf_write held op.file q e k) r.count r.first)
+
     there : (op : Open) (x : Option Props) → IsLocked held op → HoldsEach held (needs_there x (λ p. needs_if_change op.access (mark_needs op.file p (r.first + r.count) ++ page_needs op.file r.first r.count Write)))
     there op None k = tt
     there op (Some p) k = writes op op.access p k
+
     go : (x : Option Open) → ((op : Open) → x ≡ Some op → IsLocked held op) → HoldsEach held (needs_on_change m x (λ op p. mark_needs op.file p (r.first + r.count) ++ page_needs op.file r.first r.count Write))
     go None locked = tt
     go (Some op) locked = there op (props_in (m (Leader op.file))) (locked op refl)
@@ -177,9 +182,11 @@ page_leaves server made m who w (call.ReadPages t n r mode choice) given is = go
     reads : (op : Open) (p : Props) (b : Bool) → LeavesOpens w (run m (cond {A = Look} b (Look.Say (refused w (refusal.NoSuchPage p.size))) (ask_pages op.file r.first r.count (λ ps. Look.Say (told w (reply.Pages ps) [])))))
     reads op p true = leaves_refused w (refusal.NoSuchPage p.size)
     reads op p false = leaves_pages m w op.file r.count r.first (λ ps. Look.Say (told w (reply.Pages ps) [])) (λ ps. record { own = refl; none = λ x e. ap id_in (sym (same_reply (reply.Pages ps) x e)) })
+
     there : (op : Open) (x : Option Props) → LeavesOpens w (run m (on_props w x (read_pages w r op)))
     there op None = leaves_refused w refusal.UnknownOpen
     there op (Some p) = reads op p (nat_lt p.size (r.first + r.count))
+
     go : (x : Option Open) → LeavesOpens w (run m (on_open w x (read_pages w r)))
     go None = leaves_refused w refusal.UnknownOpen
     go (Some op) = there op (props_in (m (Leader op.file)))
@@ -189,12 +196,15 @@ page_leaves server made m who w (call.WritePages t n r pages choice) given is = 
         → LeavesOpens w (cond {A = Answer} b (refused w (refusal.NoSuchPage p.size)) (told w reply.Plain (page_puts op.file r.first pages ++ mark_put op.file p (r.first + r.count))))
     writes op p true = leaves_refused w (refusal.NoSuchPage p.size)
     writes op p false = record { own = refl; none = λ x e. ap id_in (sym (same_reply reply.Plain x e)) }
+
     there : (op : Open) (x : Option Props) → LeavesOpens w (run m (on_props w x (write_pages w r pages op)))
     there op None = leaves_refused w refusal.UnknownOpen
     there op (Some p) = writes op p (nat_lt p.size (r.first + r.count))
+
     changes : (op : Open) (a : Access) → LeavesOpens w (run m (if_change w a (Look.Ask (Leader op.file) (λ lc. on_props w (props_in lc) (write_pages w r pages op)))))
     changes op ReadOnly = leaves_refused w refusal.ReadOnlyOpen
     changes op Change = there op (props_in (m (Leader op.file)))
+
     go : (x : Option Open) → LeavesOpens w (run m (on_change w x (write_pages w r pages)))
     go None = leaves_refused w refusal.UnknownOpen
     go (Some op) = changes op op.access

@@ -144,7 +144,8 @@ module _ {V : Type 0} (n : ℕ) (before serves : Bool) (k : Kept V) (t : TransId
   pub part_ready : (m : ℕ) → IsTrue serves → map.get k.lives t ≡ Some l → p.last ≤ m → n ≤ m → IsReady n before k → IsReady m serves part_kept
   part_ready m on there low le h = record {
     serving = λ _. on;
-    sound = h.sound; alone = h.alone;
+    sound = h.sound;
+    alone = h.alone;
     known = λ u x is. known_so u (same_trans u t) refl x (sym (get_put k.lives t (record l { part = p }) u) ∙ is);
     begun = λ u x is. begun_so u (same_trans u t) refl x (sym (get_put k.lives t (record l { part = p }) u) ∙ is);
     opens = λ u x is. opens_so u (same_trans u t) x (sym (get_put k.lives t (record l { part = p }) u) ∙ is);
@@ -157,12 +158,15 @@ module _ {V : Type 0} (n : ℕ) (before serves : Bool) (k : Kept V) (t : TransId
     where
       at_t : (u : TransId) → same_trans u t ≡ true → map.get k.lives u ≡ Some l
       at_t u e = ap (map.get k.lives) (same_trans-true u t e) ∙ there
+
       known_so : (u : TransId) (b : Bool) → same_trans u t ≡ b → (x : Live) → cond {A = Option Live} b (Some (record l { part = p })) (map.get k.lives u) ≡ Some x → is_some (map.get k.locks.held u) ≡ true
       known_so u true e x is = h.known u l (at_t u e)
       known_so u false e x is = h.known u x is
+
       begun_so : (u : TransId) (b : Bool) → same_trans u t ≡ b → (x : Live) → cond {A = Option Live} b (Some (record l { part = p })) (map.get k.lives u) ≡ Some x → u.counter ≤ k.drawn
       begun_so u true e x is = h.begun u l (at_t u e)
       begun_so u false e x is = h.begun u x is
+
       opens_so : (u : TransId) (b : Bool) (x : Live) → cond {A = Option Live} b (Some (record l { part = p })) (map.get k.lives u) ≡ Some x → x.part.last ≤ m
       opens_so u true x is = subst (λ (y : Live). y.part.last ≤ m) (same_live (record l { part = p }) x is) low
       opens_so u false x is = (let before_now : x.part.last ≤ n = h.opens u x is in omega arith)

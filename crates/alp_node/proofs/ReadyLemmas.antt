@@ -79,7 +79,11 @@ module _ {V : Type 0} (n : ℕ) (serves : Bool) (k : Kept V) where
   -- a session begins
   pub hello_ready : (client : ℕ) (name : List ℕ) → client ≤ 16 → IsReady n serves k → IsReady (n + 1) serves (record k { sessions = with_session k.sessions client (record { who = name; last = 1 }) })
   hello_ready client name le h = record {
-    serving = h.serving; sound = h.sound; alone = h.alone; known = h.known; begun = h.begun;
+    serving = h.serving;
+    sound = h.sound;
+    alone = h.alone;
+    known = h.known;
+    begun = h.begun;
     opens = λ t l is. (let low : l.part.last ≤ n = h.opens t l is in omega arith);
     places = places_set k.sessions client (record { who = name; last = 1 }) h.places;
     calls = calls_set k.sessions client (record { who = name; last = 1 }) n h.places le h.calls (omega arith);
@@ -91,7 +95,11 @@ module _ {V : Type 0} (n : ℕ) (serves : Bool) (k : Kept V) where
   -- the session counts on
   pub counted_ready : (turn : Turn) → IsTurn k.sessions turn → IsReady n serves k → IsReady (n + 1) serves (record k { sessions = counted_in k.sessions turn })
   counted_ready turn is h = record {
-    serving = h.serving; sound = h.sound; alone = h.alone; known = h.known; begun = h.begun;
+    serving = h.serving;
+    sound = h.sound;
+    alone = h.alone;
+    known = h.known;
+    begun = h.begun;
     opens = λ t l there. (let low : l.part.last ≤ n = h.opens t l there in omega arith);
     places = places_set k.sessions turn.client (record turn.session { last = turn.number }) h.places;
     calls = calls_set k.sessions turn.client (record turn.session { last = turn.number }) n h.places is.client h.calls (turn_within k.sessions turn n is h.calls);
@@ -103,7 +111,11 @@ module _ {V : Type 0} (n : ℕ) (serves : Bool) (k : Kept V) where
   -- one step more
   pub stepped_ready : IsReady n serves k → IsReady (n + 1) serves k
   stepped_ready h = record {
-    serving = h.serving; sound = h.sound; alone = h.alone; known = h.known; begun = h.begun;
+    serving = h.serving;
+    sound = h.sound;
+    alone = h.alone;
+    known = h.known;
+    begun = h.begun;
     opens = λ t l is. (let low : l.part.last ≤ n = h.opens t l is in omega arith);
     places = h.places;
     calls = λ c w is. (let low : w.last ≤ n = h.calls c w is in omega arith);
@@ -121,12 +133,17 @@ module _ {V : Type 0} (n : ℕ) (serves : Bool) (k : Kept V) where
     known = λ u l is. go u (same_trans u t) refl l (sym (get_gone k.lives t u) ∙ is);
     begun = λ u l is. kept u (same_trans u t) l (λ x. x.part.last ≤ x.part.last) (λ there. h.begun u l there) (sym (get_gone k.lives t u) ∙ is);
     opens = λ u l is. kept u (same_trans u t) l (λ x. x.part.last ≤ n) (λ there. h.opens u l there) (sym (get_gone k.lives t u) ∙ is);
-    places = h.places; calls = h.calls; drawn = h.drawn; given = h.given; committed = h.committed;
+    places = h.places;
+    calls = h.calls;
+    drawn = h.drawn;
+    given = h.given;
+    committed = h.committed;
   }
     where
       go : (u : TransId) (b : Bool) → same_trans u t ≡ b → (l : Live) → cond {A = Option Live} b None (map.get k.lives u) ≡ Some l → is_some (map.get (released k.locks t).held u) ≡ true
       go u true e l is = let wrong : None ≡ Some l = is in cc
       go u false e l is = release-knows k.locks t u h.alone (tied_same t u ∙ turned u t e) (h.known u l is)
+
       kept : (u : TransId) (b : Bool) (l : Live) (P : Live → Type 0) {Q : Type 0} → (map.get k.lives u ≡ Some l → Q) → cond {A = Option Live} b None (map.get k.lives u) ≡ Some l → Q
       kept u true l P f is = let wrong : None ≡ Some l = is in cc
       kept u false l P f is = f is
@@ -154,9 +171,11 @@ module _ {V : Type 0} (n : ℕ) (serves : Bool) (k : Kept V) where
         known_so : (u : TransId) (b : Bool) → same_trans u t ≡ b → (x : Live) → cond {A = Option Live} b (Some l) (map.get k.lives u) ≡ Some x → is_some (map.get (entered k.locks t).held u) ≡ true
         known_so u true e x there = ap (λ (v : TransId). is_some (map.get (entered k.locks t).held v)) (same_trans-true u t e) ∙ insert-knows k.locks.held t (held_of k.locks.held t)
         known_so u false e x there = insert-keeps k.locks.held t (held_of k.locks.held t) u (h.known u x there)
+
         begun_so : (u : TransId) (b : Bool) → same_trans u t ≡ b → (x : Live) → cond {A = Option Live} b (Some l) (map.get k.lives u) ≡ Some x → u.counter ≤ k.drawn + 1
         begun_so u true e x there = (let counter : u.counter ≡ t.counter = ap (λ (v : TransId). v.counter) (same_trans-true u t e) in omega (arith, next))
         begun_so u false e x there = (let low : u.counter ≤ k.drawn = h.begun u x there in omega arith)
+
         opens_so : (u : TransId) (b : Bool) (x : Live) → cond {A = Option Live} b (Some l) (map.get k.lives u) ≡ Some x → x.part.last ≤ n + 1
         opens_so u true x there =
             let zero_opens : x.part.last ≡ 0 = ap (λ (y : Live). y.part.last) (sym (same_live l x there)) ∙ ap (λ (w : Own). w.last) none in
@@ -170,5 +189,11 @@ module _ {V : Type 0} (n : ℕ) (serves : Bool) (k : Kept V) where
     sound = released-sound (entered k.locks t) t (entered-sound k.locks t h.sound);
     alone = release-waiting (entered k.locks t) t h.alone;
     known = λ u l is. release-knows (entered k.locks t) t u h.alone (tied_same t u ∙ away u t k.lives l none is) (insert-keeps k.locks.held t (held_of k.locks.held t) u (h.known u l is));
-    begun = h.begun; opens = h.opens; places = h.places; calls = h.calls; drawn = h.drawn; given = h.given; committed = h.committed;
+    begun = h.begun;
+    opens = h.opens;
+    places = h.places;
+    calls = h.calls;
+    drawn = h.drawn;
+    given = h.given;
+    committed = h.committed;
   }

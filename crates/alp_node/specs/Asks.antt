@@ -1,5 +1,5 @@
 -- What a call asks of the lock table. The pages and the leader of a file are given by the file's lock, which the open has.
-use Rattle.std.specs.Prelude.{◌≡◌, List, [], ◌∷◌, Bool, true, false, not, nat_lt, nat_le, ◌≤◌, ◌&&◌, ◌||◌, ◌==◌, ℕ}
+use Rattle.std.specs.Prelude.{◌≡◌, List, [], ◌∷◌, Bool, true, false, not, nat_lt, nat_le, ◌≤◌, ◌&&◌, ◌||◌, ◌==◌, ◌+◌, if◌then◌else◌, ℕ}
 use Rattle.alp_base.specs.declared.ids.FileId.{FileId}
 use Rattle.alp_base.specs.declared.ids.TransId.{TransId}
 use Rattle.alp_base.specs.declared.key.Key.TheVariants.{OwnerOf}
@@ -41,10 +41,17 @@ abbrev pub asks_given : FileId → Call → Reply → List Need
 asks_given id c (reply.Created f n) = asks_made id c
 asks_given id c _ = asks_of c
 
--- of two plans the second where a file was made
-abbrev pub plan_for : Reply → Waiter → Waiter → Waiter
-plan_for (reply.Created f n) asked made = made
-plan_for _ asked made = asked
+-- a file was made
+abbrev pub is_made : Reply → Bool
+is_made (reply.Created f n) = true
+is_made _ = false
+
+-- of two plans the second where a file was made, and the count with it
+abbrev pub plan_for : Bool → Waiter → Waiter → Waiter
+plan_for has_made asked made = if has_made then made else asked
+
+abbrev pub count_made : ℕ → Bool → ℕ
+count_made count has_made = if has_made then count + 1 else count
 
 -- a plan of needs, as the table makes it now
 abbrev pub plan_of : Table → TransId → List Need → Waiter

@@ -25,7 +25,12 @@ use alp_vault::Vault;
 
 impl<V: Vault> Kept<V> {
     /// A call on an open, whose file is locked already.
-    pub fn page_call(&mut self, turn: &Turn, trans: TransId, call: &Call) -> Result<Answer, OutOfMemory>
+    pub fn page_call(
+        &mut self,
+        turn: &Turn,
+        trans: TransId,
+        call: &Call,
+    ) -> Result<Answer, OutOfMemory>
         requires turn { IsTurn self.old.sessions turn.now }
         requires own { IsOf turn.now.client (map.get self.old.lives trans) }
         requires up { self.old.is_down ≡ false }
@@ -55,7 +60,7 @@ impl<V: Vault> Kept<V> {
     }
 
     // The id that the next file gets.
-    fn next_file(&self) -> FileId
+    pub(super) fn next_file(&self) -> FileId
         requires { self.now.given + 1 < 2 ^ 32 }
         ensures { result ≡ next_file_of self.now }
     {
@@ -67,7 +72,7 @@ impl<V: Vault> Kept<V> {
     }
 
     // The live transaction performs the call on what it sees.
-    fn perform(&mut self, trans: TransId, call: &Call) -> Result<Reply, CallFault>
+    pub(super) fn perform(&mut self, trans: TransId, call: &Call) -> Result<Reply, CallFault>
         requires live { map.get self.old.lives trans ≢ None }
         requires serving { IsTrue (V.serves self.old.vault) }
         requires room { self.old.given + 1 < 2 ^ 32 }

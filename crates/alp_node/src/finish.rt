@@ -35,7 +35,12 @@ impl<V: Vault> Kept<V> {
     }
 
     /// A live transaction of the client ends without effect, as its client asked.
-    pub fn abort(&mut self, turn: &Turn, trans: TransId, commit: bool) -> Result<Answer, OutOfMemory>
+    pub fn abort(
+        &mut self,
+        turn: &Turn,
+        trans: TransId,
+        commit: bool,
+    ) -> Result<Answer, OutOfMemory>
         requires turn { IsTurn self.old.sessions turn.now }
         requires own { IsOf turn.now.client (map.get self.old.lives trans) }
         requires alone { self.old.locks.waiting ≡ [] }

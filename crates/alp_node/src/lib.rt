@@ -8,6 +8,7 @@ mod calls;
 mod finish;
 mod kept;
 mod lives;
+mod locking;
 mod opened;
 mod sessions;
 mod stored;

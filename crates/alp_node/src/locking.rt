@@ -1,0 +1,98 @@
+//! File calls that ask for locks.
+ghost use Rattle.std.specs.Prelude.{◌≡◌, ◌≢◌, ◌+◌, ◌<◌, ◌≤◌, ◌^◌, [], ◌∷◌, IsTrue, IfOk, OnOk, OnErr, Some, None, ℕ, is_some, true, false};
+ghost use Rattle.std.specs.FinMap as map;
+ghost use Rattle.alp_files.specs.Locks.{IsFormed};
+ghost use Rattle.alp_locks.specs.Sound.{IsSound, IsPrepared};
+ghost use Rattle.alp_node.specs.declared.lives.Live.{Live as ALive};
+ghost use Rattle.alp_journal.specs.declared.event.Event.TheVariants as event;
+ghost use Rattle.alp_journal.specs.State.{State as StateOf, Start, file_trans};
+ghost use Rattle.alp_node.specs.Asks.{IsOfGiven, is_made as is_made_of, plan_for, count_made, with_plan};
+ghost use Rattle.alp_node.specs.Kept.{IsAs, IsReady};
+ghost use Rattle.alp_node.specs.Steps.{Stepped, IsTurn, IsOf};
+ghost use Rattle.alp_node.specs.Calls.{IsLockCall, HaveCauses};
+
+use crate::answer::Answer;
+use crate::asks::{asks, asks_made};
+use crate::kept::Kept;
+use crate::sessions::Turn;
+use alp_base::{OutOfMemory, TransId};
+use alp_files::{Call, Refusal, Reply};
+use alp_journal::{Act, Acts};
+use alp_locks::Plan;
+use alp_vault::Vault;
+
+impl<V: Vault> Kept<V> {
+    /// A call that asks for locks: refused where another is in their way, and performed under them otherwise.
+    pub fn lock_call(
+        &mut self,
+        turn: &Turn,
+        trans: TransId,
+        call: &Call,
+    ) -> Result<Answer, OutOfMemory>
+        requires turn { IsTurn self.old.sessions turn.now }
+        requires own { IsOf turn.now.client (map.get self.old.lives trans) }
+        requires up { self.old.is_down ≡ false }
+        requires serving { IsTrue (V.serves self.old.vault) }
+        requires room { self.old.given + 1 < 2 ^ 32 }
+        requires opens { (l : ALive) → map.get self.old.lives trans ≡ Some l → l.part.last + 1 < 2 ^ 32 }
+        requires kind { IsLockCall call.now }
+        requires given { IsOfGiven self.old.server self.old.epoch self.old.given call.now }
+        requires named { file_trans call.now ≡ Some trans }
+        requires formed { IsFormed call.now }
+        requires sound { IsSound self.old.locks }
+        requires alone { self.old.locks.waiting ≡ [] }
+        requires entered { is_some (map.get self.old.locks.held trans) ≡ true }
+        requires known { IsTrue (V.tells self.old.vault) → (o : Start) × (s : StateOf) × IsAs o s (V.held self.old.vault) self.old }
+        ensures stepped { IsTrue (V.tells self.old.vault) → (o : Start) (s : StateOf) → IsAs o s (V.held self.old.vault) self.old → IfOk result (λ a. Stepped o s (V.held self.new.vault) self.new (event.Call turn.now.client self.old.epoch turn.now.number call.now) a) }
+        ensures ready { (steps : ℕ) → IsReady steps (V.serves self.old.vault) self.old → OnOk result (IsReady (steps + 1) (V.serves self.new.vault) self.new) }
+        ensures cause { IfOk result (λ a. HaveCauses (V.faults self.old.vault) (V.faults self.new.vault) (V.allowance self.new.vault) a.acts) }
+        ensures tells { V.tells self.new.vault ≡ V.tells self.old.vault }
+        ensures still { (o : Start) (s : StateOf) → IsAs o s (V.held self.old.vault) self.old → OnErr result (IsAs o s (V.held self.new.vault) self.new) }
+        ensures ready_still { (steps : ℕ) → IsReady steps (V.serves self.old.vault) self.old → OnErr result (IsReady steps (V.serves self.new.vault) self.new) }
+    {
+        let id = self.next_file();
+        let asked = self.locks.plan(trans, asks(self.alloc, call)?)?;
+        let made = self.locks.plan(trans, asks_made(self.alloc, id, call)?)?;
+        if let Some(holder) = self.locks.in_way_of(&asked) {
+            return Ok(self.refuse(turn, Refusal::LockConflict { holder }));
+        }
+        if let Some(holder) = self.locks.in_way_of(&made) {
+            return Ok(self.refuse(turn, Refusal::LockConflict { holder }));
+        }
+        let acts = Acts::new(vec![in self.alloc; Act::Granted { trans }]?);
+        let halted = Vec::with_capacity(self.alloc, 1)?;
+        let reply = match self.perform(trans, call) {
+            Ok(reply) => reply,
+            Err(fault) => return self.halt(turn, fault, halted),
+        };
+        let has_made = is_made(&reply);
+        let answer = Answer::new(reply, acts)?;
+        self.keep_locks(has_made, asked, made);
+        self.sessions.count(turn);
+        Ok(answer)
+    }
+
+    // The part keeps the locks that its call asked for, and that of a file that it made.
+    fn keep_locks(&mut self, has_made: bool, asked: Plan, made: Plan)
+        requires room { self.old.given + 1 < 2 ^ 32 }
+        requires entered_asked { is_some (map.get self.old.locks.held asked.trans) ≡ true }
+        requires entered_made { is_some (map.get self.old.locks.held made.trans) ≡ true }
+        requires prepared_asked { IsPrepared self.old.locks.held asked }
+        requires prepared_made { IsPrepared self.old.locks.held made }
+        ensures kept { self.new ≡ record self.old { given = count_made self.old.given has_made; locks = with_plan self.old.locks (plan_for has_made asked made) } }
+    {
+        if has_made {
+            self.given += 1;
+            self.locks.take(made);
+        } else {
+            self.locks.take(asked);
+        }
+    }
+}
+
+// Whether the reply tells of a new file.
+fn is_made(reply: &Reply) -> bool
+    ensures { result ≡ is_made_of reply.now }
+{
+    matches!(reply, Reply::Created { .. })
+}
