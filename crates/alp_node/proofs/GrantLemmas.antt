@@ -87,6 +87,22 @@ count_given count (reply.Committed y) = refl
 count_given count (reply.Ended y) = refl
 count_given count (reply.Refused y) = refl
 
+-- where nobody stands in the way of either, nobody does
+pub free_given : (locks : Table) (t : TransId) (id : FileId) (c : Call) (r : Reply) → blocker locks.held t (plan_of locks t (asks_of c)).rises ≡ None → blocker locks.held t (plan_of locks t (asks_made id c)).rises ≡ None
+    → blocker locks.held t (plan_of locks t (asks_given id c r)).rises ≡ None
+free_given locks t id c (reply.Created f n) asked made = made
+free_given locks t id c (reply.Welcome y) asked made = asked
+free_given locks t id c (reply.Begun y) asked made = asked
+free_given locks t id c reply.Joined asked made = asked
+free_given locks t id c (reply.Opened y) asked made = asked
+free_given locks t id c reply.Plain asked made = asked
+free_given locks t id c (reply.Pages y) asked made = asked
+free_given locks t id c (reply.Props y) asked made = asked
+free_given locks t id c (reply.Owner y) asked made = asked
+free_given locks t id c (reply.Committed y) asked made = asked
+free_given locks t id c (reply.Ended y) asked made = asked
+free_given locks t id c (reply.Refused y) asked made = asked
+
 -- where no file is made, what is kept is what was asked
 asks_none : (id : FileId) (c : Call) (r : Reply) → id_in r ≡ None → asks_given id c r ≡ asks_of c
 asks_none id c (reply.Created f n) none = let wrong : Some f ≡ None = none in cc

@@ -1,0 +1,184 @@
+use Rattle.std.specs.Prelude.{is_some, Some, None, Option, Ok, Err, Result, IsTrue, IfOk, OnErr, true}
+use Rattle.std.specs.FinMap as map
+use Rattle.std.proofs.Common.{◌≡◌, ℕ, ◌+◌, ◌<◌, ◌≤◌, List, [], ◌∷◌, le_refl, arith, sym, ap, ◌∙◌, subst, refl}
+use Rattle.alp_files.proofs.UndoLemmas.{on_err}
+use Rattle.alp_files.specs.Act.{Own}
+use Rattle.alp_files.specs.declared.reply.Reply.TheVariants as reply
+use Rattle.alp_files.specs.declared.refusal.Refusal.TheVariants as refusal
+use Rattle.alp_journal.specs.State.{done_by}
+use Rattle.alp_journal.specs.declared.act.Act.{Act}
+use Rattle.alp_journal.specs.declared.event.Event.TheVariants as event
+use Rattle.alp_node.specs.Kept.{IsAs, IsReady}
+use Rattle.alp_node.specs.Steps.{Stepped, counted_in}
+use Rattle.alp_node.specs.declared.kept.Kept.{Kept}
+use Rattle.alp_node.specs.declared.sessions.Sessions.{Sessions}
+use Rattle.alp_queue.specs.declared.waiter.Waiter.{Waiter}
+use Rattle.alp_locks.specs.Tables.{Table}
+use Rattle.alp_locks.specs.Sound.{IsPrepared}
+use Rattle.alp_node.proofs.KeptLemmas.{of_client, passing_stepped, halted_stepped, halted_ready, halted_cause, halted_still}
+use Rattle.alp_node.proofs.CallLemmas.{unseen, part_still}
+use Rattle.alp_node.proofs.PerformLemmas.{gave_told, part_ready, turn_kept, looked_left, looked_failed, looked_stopped, looked_serves, halted_vault, err_same}
+use Rattle.alp_node.proofs.GrantLemmas.{lock_alone, lock_stepped}
+use Rattle.alp_node.proofs.ReadyLemmas.{counted_ready}
+use Rattle.alp_node.proofs.kept.Kept.lock_call.Goals as goal
+
+pub perform-requires-clause-new : goal.perform-requires-clause-new
+perform-requires-clause-new g c told l there =
+    let (o, s, h) = c.requires.known told in
+    unseen o s (g.V.Vault.held c.args.self.now.vault) c.args.self.now c.args.trans l h c.requires.up there
+
+pub returns-in_err-answer-clause-still : goal.returns-in_err-answer-clause-still
+returns-in_err-answer-clause-still g c o s h =
+    let k = c.args.self.now in
+    let (l, there, own) = of_client c.args.turn.now.client (map.get k.lives c.args.trans) c.requires.own in
+    let did = c.in-Ok.ensures.performed l there in
+    on_err c.from_residual-in_err-answer.result _
+    (subst (λ (x : Kept _). IsAs o s (g.V.Vault.held c.perform.new.self.vault) x) (sym did.kept)
+    (part_still o s (g.V.Vault.held k.vault) k c.args.trans l did.part c.perform.new.self.vault (g.V.Vault.held c.perform.new.self.vault) h c.in-Ok.ensures.looked.0.contents there (did.outcome.reads c.in_err-answer.ensures.err)))
+
+pub returns-in_err-answer-clause-ready_still : goal.returns-in_err-answer-clause-ready_still
+returns-in_err-answer-clause-ready_still g c n h =
+    let k = c.args.self.now in
+    let N = c.perform.new.self in
+    let (l, there, own) = of_client c.args.turn.now.client (map.get k.lives c.args.trans) c.requires.own in
+    let did = c.in-Ok.ensures.performed l there in
+    let before = did.outcome.reads c.in_err-answer.ensures.err in
+    let last = ap (λ (w : Own). w.last) before.1 in
+    let low : did.part.last ≤ n = (let was : l.part.last ≤ n = h.opens c.args.trans l there in omega (arith, last)) in
+    on_err c.from_residual-in_err-answer.result _
+    (subst (λ (x : Kept _). IsReady n (g.V.Vault.serves N.vault) x) (sym did.kept)
+    (part_ready n (g.V.Vault.serves k.vault) (g.V.Vault.serves N.vault) k c.args.trans l did.part N.vault n c.in-Ok.ensures.looked.1 there low (le_refl n) h))
+
+pub returns-in-Err-clause-stepped : goal.returns-in-Err-clause-stepped
+returns-in-Err-clause-stepped g c told o s h =
+    let k = c.args.self.now in
+    let turn = c.args.turn.now in
+    let held = g.V.Vault.held in
+    let N = c.perform.new.self in
+    let (l, there, own) = of_client turn.client (map.get k.lives c.args.trans) c.requires.own in
+    let did = c.in-Err.ensures.performed l there in
+    let left = looked_left g.V.Vault.tells g.V.Vault.serves g.V.Vault.volume held g.V.Vault.may_leave g.V.Vault.left_since g.V.Vault.faults g.V.Vault.allowance k.vault N.vault c.in-Err.fault c.in-Err.ensures.looked in
+    let still = subst (λ (x : Kept _). IsAs o s (held N.vault) x) (sym did.kept) (part_still o s (held k.vault) k c.args.trans l did.part N.vault (held N.vault) h left.contents there did.outcome) in
+    let turn_now = turn_kept N.sessions k.sessions turn (ap (λ (x : Kept _). x.sessions) did.kept) c.requires.turn in
+    let kinds = lock_alone s c.args.call.now c.requires.kind in
+    subst (λ (n : ℕ). IfOk c.halt.result (Stepped o s (held c.halt.new.self.vault) c.halt.new.self (event.Call turn.client n turn.number c.args.call.now))) (ap (λ (x : Kept _). x.epoch) did.kept)
+    (halted_stepped o s (held N.vault) N turn.client turn.session turn.number c.args.call.now N.vault (held c.halt.new.self.vault) c.in-Err.fault c.halt.result c.halt.new.self
+    still turn_now.client turn_now.session turn_now.number kinds.kind
+    (ap (done_by s c.args.call.now (reply.Refused refusal.ReadFault)) c.requires.named) (ap (done_by s c.args.call.now (reply.Refused refusal.Down)) c.requires.named) c.halt.ensures.halted c.halt.ensures.down)
+
+pub returns-in-Err-clause-ready : goal.returns-in-Err-clause-ready
+returns-in-Err-clause-ready g c n h =
+    let k = c.args.self.now in
+    let turn = c.args.turn.now in
+    let N = c.perform.new.self in
+    let (l, there, own) = of_client turn.client (map.get k.lives c.args.trans) c.requires.own in
+    let did = c.in-Err.ensures.performed l there in
+    let last = ap (λ (w : Own). w.last) did.outcome.1 in
+    let low : did.part.last ≤ n = (let before : l.part.last ≤ n = h.opens c.args.trans l there in omega (arith, last)) in
+    let ready = subst (IsReady n true) (sym did.kept) (part_ready n (g.V.Vault.serves k.vault) true k c.args.trans l did.part N.vault n refl there low (le_refl n) h) in
+    halted_ready n true (g.V.Vault.serves c.halt.new.self.vault) N N.vault turn c.halt.result c.halt.new.self (turn_kept N.sessions k.sessions turn (ap (λ (x : Kept _). x.sessions) did.kept) c.requires.turn) ready c.halt.ensures.down
+
+pub returns-in-Err-clause-cause : goal.returns-in-Err-clause-cause
+returns-in-Err-clause-cause g c =
+    let k = c.args.self.now in
+    let N = c.perform.new.self in
+    halted_cause g.V.Vault.faults g.V.Vault.allowance (g.V.Vault.faults k.vault) c.in-Err.fault c.halt.result c.halt.new.self (record N { sessions = counted_in N.sessions c.args.turn.now; is_down = true })
+    (looked_failed g.V.Vault.tells g.V.Vault.serves g.V.Vault.volume g.V.Vault.held g.V.Vault.may_leave g.V.Vault.left_since g.V.Vault.faults g.V.Vault.allowance k.vault N.vault c.in-Err.fault c.in-Err.ensures.looked)
+    (looked_stopped g.V.Vault.tells g.V.Vault.serves g.V.Vault.volume g.V.Vault.held g.V.Vault.may_leave g.V.Vault.left_since g.V.Vault.faults g.V.Vault.allowance k.vault N.vault c.in-Err.fault c.in-Err.ensures.looked)
+    c.halt.ensures.halted c.halt.ensures.down
+
+pub returns-in-Err-clause-tells : goal.returns-in-Err-clause-tells
+returns-in-Err-clause-tells g c =
+    let k = c.args.self.now in
+    let N = c.perform.new.self in
+    let left = looked_left g.V.Vault.tells g.V.Vault.serves g.V.Vault.volume g.V.Vault.held g.V.Vault.may_leave g.V.Vault.left_since g.V.Vault.faults g.V.Vault.allowance k.vault N.vault c.in-Err.fault c.in-Err.ensures.looked in
+    ap g.V.Vault.tells (halted_vault N c.halt.new.self c.args.turn.now c.halt.result c.halt.ensures.down c.halt.ensures.err) ∙ left.telling
+
+pub returns-in-Err-clause-still : goal.returns-in-Err-clause-still
+returns-in-Err-clause-still g c o s h =
+    let k = c.args.self.now in
+    let held = g.V.Vault.held in
+    let N = c.perform.new.self in
+    let (l, there, own) = of_client c.args.turn.now.client (map.get k.lives c.args.trans) c.requires.own in
+    let did = c.in-Err.ensures.performed l there in
+    let left = looked_left g.V.Vault.tells g.V.Vault.serves g.V.Vault.volume held g.V.Vault.may_leave g.V.Vault.left_since g.V.Vault.faults g.V.Vault.allowance k.vault N.vault c.in-Err.fault c.in-Err.ensures.looked in
+    err_same (λ (x : Kept _). IsAs o s (held x.vault) x) N c.halt.new.self c.halt.result c.halt.ensures.err
+    (subst (λ (x : Kept _). IsAs o s (held N.vault) x) (sym did.kept) (part_still o s (held k.vault) k c.args.trans l did.part N.vault (held N.vault) h left.contents there did.outcome))
+
+pub returns-in-Err-clause-ready_still : goal.returns-in-Err-clause-ready_still
+returns-in-Err-clause-ready_still g c n h =
+    let k = c.args.self.now in
+    let N = c.perform.new.self in
+    let (l, there, own) = of_client c.args.turn.now.client (map.get k.lives c.args.trans) c.requires.own in
+    let did = c.in-Err.ensures.performed l there in
+    let last = ap (λ (w : Own). w.last) did.outcome.1 in
+    let low : did.part.last ≤ n = (let was : l.part.last ≤ n = h.opens c.args.trans l there in omega (arith, last)) in
+    let ready = subst (IsReady n true) (sym did.kept) (part_ready n (g.V.Vault.serves k.vault) true k c.args.trans l did.part N.vault n refl there low (le_refl n) h) in
+    halted_still g.V.Vault.serves true n N N.vault c.in-Err.fault c.halt.result c.halt.new.self
+    (looked_serves g.V.Vault.tells g.V.Vault.serves g.V.Vault.volume g.V.Vault.held g.V.Vault.may_leave g.V.Vault.left_since g.V.Vault.faults g.V.Vault.allowance k.vault N.vault c.in-Err.fault c.in-Err.ensures.looked)
+    ready c.halt.ensures.memory c.halt.ensures.err
+
+pub returns-in-Some-clause-stepped : goal.returns-in-Some-clause-stepped
+returns-in-Some-clause-stepped g c told o s h =
+    let k = c.args.self.now in
+    let turn = c.args.turn.now in
+    let held = g.V.Vault.held in
+    let f = refusal.LockConflict c.in-Some.holder in
+    let single = lock_alone s c.args.call.now c.requires.kind in
+    subst (λ (x : Kept _). Stepped o s (held x.vault) x (event.Call turn.client k.epoch turn.number c.args.call.now) c.refuse.result) (sym c.refuse.ensures.kept)
+    (passing_stepped o s (held k.vault) k turn.client turn.session turn.number c.args.call.now f c.refuse.result h c.requires.turn.client c.requires.turn.session c.requires.turn.number single.kind refl
+    (ap (done_by s c.args.call.now (reply.Refused f)) c.requires.named) (single.ends s turn.client s.epoch turn.number (reply.Refused f)) c.refuse.ensures.answer)
+
+pub returns-in-Some-clause-ready : goal.returns-in-Some-clause-ready
+returns-in-Some-clause-ready g c n h =
+    let k = c.args.self.now in
+    subst (λ (x : Kept _). IsReady (n + 1) (g.V.Vault.serves x.vault) x) (sym c.refuse.ensures.kept) (counted_ready n (g.V.Vault.serves k.vault) k c.args.turn.now c.requires.turn h)
+
+pub returns-in-Some-in_way_of-clause-stepped : goal.returns-in-Some-in_way_of-clause-stepped
+returns-in-Some-in_way_of-clause-stepped g c told o s h =
+    let k = c.args.self.now in
+    let turn = c.args.turn.now in
+    let held = g.V.Vault.held in
+    let f = refusal.LockConflict c.in-Some-in_way_of.holder in
+    let single = lock_alone s c.args.call.now c.requires.kind in
+    let refuse = c.refuse-in-Some-in_way_of in
+    subst (λ (x : Kept _). Stepped o s (held x.vault) x (event.Call turn.client k.epoch turn.number c.args.call.now) refuse.result) (sym refuse.ensures.kept)
+    (passing_stepped o s (held k.vault) k turn.client turn.session turn.number c.args.call.now f refuse.result h c.requires.turn.client c.requires.turn.session c.requires.turn.number single.kind refl
+    (ap (done_by s c.args.call.now (reply.Refused f)) c.requires.named) (single.ends s turn.client s.epoch turn.number (reply.Refused f)) refuse.ensures.answer)
+
+pub returns-in-Some-in_way_of-clause-ready : goal.returns-in-Some-in_way_of-clause-ready
+returns-in-Some-in_way_of-clause-ready g c n h =
+    let k = c.args.self.now in
+    subst (λ (x : Kept _). IsReady (n + 1) (g.V.Vault.serves x.vault) x) (sym c.refuse-in-Some-in_way_of.ensures.kept) (counted_ready n (g.V.Vault.serves k.vault) k c.args.turn.now c.requires.turn h)
+
+pub keep_locks-requires-clause-room : goal.keep_locks-requires-clause-room
+keep_locks-requires-clause-room g c =
+    let (l, there, own) = of_client c.args.turn.now.client (map.get c.args.self.now.lives c.args.trans) c.requires.own in
+    let did = c.in-Ok.ensures.performed l there in
+    subst (λ (n : ℕ). n + 1 < 4294967296) (sym (ap (λ (x : Kept _). x.given) did.kept)) c.requires.room
+
+pub keep_locks-requires-clause-entered_asked : goal.keep_locks-requires-clause-entered_asked
+keep_locks-requires-clause-entered_asked g c =
+    let (l, there, own) = of_client c.args.turn.now.client (map.get c.args.self.now.lives c.args.trans) c.requires.own in
+    let did = c.in-Ok.ensures.performed l there in
+    subst (λ (x : Table). is_some (map.get x.held c.in_ok-asked.asked.trans) ≡ true) (sym (ap (λ (x : Kept _). x.locks) did.kept))
+    (ap (λ (w : Waiter). is_some (map.get c.args.self.now.locks.held w.trans)) c.in_ok-asked.ensures ∙ c.requires.entered)
+
+pub keep_locks-requires-clause-entered_made : goal.keep_locks-requires-clause-entered_made
+keep_locks-requires-clause-entered_made g c =
+    let (l, there, own) = of_client c.args.turn.now.client (map.get c.args.self.now.lives c.args.trans) c.requires.own in
+    let did = c.in-Ok.ensures.performed l there in
+    subst (λ (x : Table). is_some (map.get x.held c.in_ok-made.made.trans) ≡ true) (sym (ap (λ (x : Kept _). x.locks) did.kept))
+    (ap (λ (w : Waiter). is_some (map.get c.args.self.now.locks.held w.trans)) c.in_ok-made.ensures ∙ c.requires.entered)
+
+pub keep_locks-requires-clause-prepared_asked : goal.keep_locks-requires-clause-prepared_asked
+keep_locks-requires-clause-prepared_asked g c =
+    let (l, there, own) = of_client c.args.turn.now.client (map.get c.args.self.now.lives c.args.trans) c.requires.own in
+    let did = c.in-Ok.ensures.performed l there in
+    subst (λ (x : Table). IsPrepared x.held c.in_ok-asked.asked) (sym (ap (λ (x : Kept _). x.locks) did.kept)) (subst (IsPrepared c.args.self.now.locks.held) (sym c.in_ok-asked.ensures) refl)
+
+pub keep_locks-requires-clause-prepared_made : goal.keep_locks-requires-clause-prepared_made
+keep_locks-requires-clause-prepared_made g c =
+    let (l, there, own) = of_client c.args.turn.now.client (map.get c.args.self.now.lives c.args.trans) c.requires.own in
+    let did = c.in-Ok.ensures.performed l there in
+    subst (λ (x : Table). IsPrepared x.held c.in_ok-made.made) (sym (ap (λ (x : Kept _). x.locks) did.kept)) (subst (IsPrepared c.args.self.now.locks.held) (sym c.in_ok-made.ensures) refl)
