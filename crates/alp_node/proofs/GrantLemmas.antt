@@ -1,8 +1,8 @@
 -- the entry of a call that asked for locks and has them
-use Rattle.std.specs.Prelude.{cond, Bool, true, false, not, ◌&&◌, ◌||◌, IsTrue, Option, None, Some}
+use Rattle.std.specs.Prelude.{cond, Bool, true, false, not, ◌&&◌, ◌||◌, ◌==◌, nat_lt, nat_le, ◌⊎◌, IsTrue, Option, None, Some}
 use Rattle.std.specs.List.{AllByRecursion}
 use Rattle.std.specs.FinMap as map
-use Rattle.std.proofs.Common.{◌≡◌, ℕ, zero, suc, ◌+◌, ◌<◌, ◌≤◌, List, [], ◌∷◌, ◌++◌, refl, sym, ◌∙◌, ap, subst, arith}
+use Rattle.std.proofs.Common.{inl, inr, ◌≡◌, ℕ, zero, suc, ◌+◌, ◌<◌, ◌≤◌, List, [], ◌∷◌, ◌++◌, refl, sym, ◌∙◌, ap, subst, arith}
 use Rattle.alp_base.specs.declared.ids.FileId.{FileId}
 use Rattle.alp_base.specs.declared.ids.TransId.{TransId}
 use Rattle.alp_base.specs.declared.key.Resource.{Resource}
@@ -21,7 +21,7 @@ use Rattle.alp_files.specs.Act.{Own, Answer, answer, id_in}
 use Rattle.alp_files.specs.Cells.{View}
 use Rattle.alp_files.specs.Locks.{IsMore, granted, needs_of, request_of, joined}
 use Rattle.alp_files.proofs.CoverLemmas.{right-above, joined-more}
-use Rattle.alp_files.proofs.SameLemmas.{same_file-true}
+use Rattle.alp_files.proofs.SameLemmas.{same_file-true, same_file-itself}
 use Rattle.alp_files.specs.Born.{count_after}
 use Rattle.alp_files.specs.Built.{IsBuilt}
 use Rattle.alp_files.specs.Cells.{has_file}
@@ -38,7 +38,7 @@ use Rattle.alp_journal.specs.declared.act.Act.TheVariants as act
 use Rattle.alp_journal.specs.declared.event.Event.TheVariants as event
 use Rattle.alp_journal.specs.State.{State, Start, Life, Plain, kind_of, file_trans, is_of_no_file, same_trans, view_in, held_for}
 use Rattle.alp_journal.specs.Laws.{ended_at}
-use Rattle.alp_node.specs.Asks.{asks_of, asks_made, asks_given, is_made, plan_for, count_made, plan_of, with_plan}
+use Rattle.alp_node.specs.Asks.{IsOfGiven, is_given, asks_of, asks_made, asks_given, is_made, plan_for, count_made, plan_of, with_plan}
 use Rattle.alp_node.specs.Calls.{IsLockCall, Gave, next_file}
 use Rattle.alp_node.specs.Kept.{IsAs, IsAlike, IsLife, IsLocked, mode_for, ids_to, told_session}
 use Rattle.alp_node.specs.Steps.{Stepped, IsTurn}
@@ -48,7 +48,12 @@ use Rattle.alp_node.proofs.KeptLemmas.{IsLive, live_there, answered, told_turn}
 use Rattle.alp_node.proofs.CallLemmas.{done_kept, performs, gave, after_call, done_as}
 use Rattle.alp_journal.specs.declared.act.Act.{Act}
 use Rattle.alp_journal.proofs.EntryLemmas.{grant_leads, after_grant}
-use Rattle.std.proofs.lemmas.Bool.{eqb-true}
+use Rattle.std.proofs.lemmas.Bool.{eqb-true, leb-true}
+use Rattle.std.proofs.lemmas.Bool.Decides.{leb_tells}
+use Rattle.std.proofs.Math.Dec.{leb}
+use Rattle.alp_base.proofs.NameLemmas.{and_left, and_right}
+use Rattle.alp_files.specs.declared.refusal.Refusal.TheVariants as refusal
+use Rattle.alp_journal.specs.State as journal
 use Rattle.alp_files.specs.Cells.{same_file}
 use Rattle.alp_node.specs.declared.kept.Kept.{Kept}
 use Rattle.alp_node.specs.declared.lives.Live.{Live}
@@ -252,6 +257,100 @@ none_beyond server epoch (suc n) m low =
         → (b || has_file (record { server = server; epoch = epoch; counter = m }) (ids_to server epoch n)) ≡ false
     go below false e = below
     go below true e = let one : suc n ≡ m = ap (λ (f : FileId). f.counter) (same_file-true (record { server = server; epoch = epoch; counter = suc n }) (record { server = server; epoch = epoch; counter = m }) e) in absurd (omega (arith, low, one))
+
+or_right : (a b : Bool) → b ≡ true → (a || b) ≡ true
+or_right true b h = refl
+or_right false b h = h
+
+-- an id of this server and epoch up to the count was given
+pub one_of_ids : (server epoch n m : ℕ) → 0 < m → m ≤ n → has_file (record { server = server; epoch = epoch; counter = m }) (ids_to server epoch n) ≡ true
+one_of_ids server epoch zero m some low = absurd (omega (arith, some, low))
+one_of_ids server epoch (suc n) m some low = go (leb_tells m n) (one_of_ids server epoch n m some)
+  where
+    go : ((leb m n ≡ true) × (m ≤ n)) ⊎ ((leb m n ≡ false) × (n < m)) → (m ≤ n → has_file (record { server = server; epoch = epoch; counter = m }) (ids_to server epoch n) ≡ true)
+        → has_file (record { server = server; epoch = epoch; counter = m }) (ids_to server epoch (suc n)) ≡ true
+    go (inl below) before = or_right (same_file (record { server = server; epoch = epoch; counter = suc n }) (record { server = server; epoch = epoch; counter = m })) _ (before below.1)
+    go (inr beyond) before =
+        let is : m ≡ suc n = omega (arith, low, beyond.1) in
+        ap (λ (x : ℕ). same_file (record { server = server; epoch = epoch; counter = suc n }) (record { server = server; epoch = epoch; counter = x }) || has_file (record { server = server; epoch = epoch; counter = m }) (ids_to server epoch n)) is
+        ∙ ap (λ (b : Bool). b || has_file (record { server = server; epoch = epoch; counter = m }) (ids_to server epoch n)) (same_file-itself (record { server = server; epoch = epoch; counter = suc n }))
+
+or_so : (a x y : Bool) → (x ≡ true → y ≡ true) → (a || x) ≡ true → (a || y) ≡ true
+or_so true x y so h = refl
+or_so false x y so h = so h
+
+-- an id that the counts tell as given is one that the journal tells
+given_known : (server epoch count : ℕ) (f : FileId) → is_given server epoch count f ≡ true
+    → (f.server == server && nat_lt 0 f.epoch && nat_lt 0 f.counter && (nat_lt f.epoch epoch || has_file f (ids_to server epoch count))) ≡ true
+given_known server epoch count f e =
+    let first : (f.server == server && nat_lt 0 f.epoch && nat_lt 0 f.counter) ≡ true = and_left _ _ e in
+    let second : (nat_lt f.epoch epoch || (f.epoch == epoch && nat_le f.counter count)) ≡ true = and_right _ _ e in
+    let two : (f.server == server && nat_lt 0 f.epoch) ≡ true = and_left _ _ first in
+    let at : f.server ≡ server = eqb-true f.server server (and_left _ _ two) in
+    let some : 0 < f.counter = leb-true 1 f.counter (and_right _ _ first) in
+    ap (λ (b : Bool). b && (nat_lt f.epoch epoch || has_file f (ids_to server epoch count))) first
+    ∙ or_so (nat_lt f.epoch epoch) (f.epoch == epoch && nat_le f.counter count) (has_file f (ids_to server epoch count))
+    (λ h. (λ i. has_file (record { server = at i; epoch = eqb-true f.epoch epoch (and_left _ _ h) i; counter = f.counter }) (ids_to server epoch count))
+        ∙ one_of_ids server epoch count f.counter some (leb-true f.counter count (and_right _ _ h))) second
+
+-- so an open of a file that was given is performed
+known_file : {V : Type 0} (o : Start) (s : State) (held : Contents) (k : Kept V) (f : FileId) → IsAs o s held k → is_given k.server k.epoch k.given f ≡ true → journal.is_given s f ≡ true
+known_file o s held k f h given =
+    ap (λ (fs : List FileId). f.server == s.server && nat_lt 0 f.epoch && nat_lt 0 f.counter && (nat_lt f.epoch s.epoch || has_file f fs)) h.made
+    ∙ given_known s.server s.epoch k.given f ((λ i. is_given (h.server i) (h.epoch i) k.given f) ∙ given)
+
+pub of_given : {V : Type 0} (o : Start) (s : State) (held : Contents) (k : Kept V) (c : Call) (r : Reply) → IsAs o s held k → IsOfGiven k.server k.epoch k.given c → is_of_no_file s c r ≡ false
+of_given o s held k (call.OpenFile t g a mode choice) (reply.Refused refusal.UnknownFile) h given = ap not (known_file o s held k g h given)
+of_given o s held k (call.OpenFile t g a mode choice) (reply.Created f n) h given = refl
+of_given o s held k (call.OpenFile t g a mode choice) (reply.Welcome y) h given = refl
+of_given o s held k (call.OpenFile t g a mode choice) (reply.Begun y) h given = refl
+of_given o s held k (call.OpenFile t g a mode choice) reply.Joined h given = refl
+of_given o s held k (call.OpenFile t g a mode choice) (reply.Opened y) h given = refl
+of_given o s held k (call.OpenFile t g a mode choice) reply.Plain h given = refl
+of_given o s held k (call.OpenFile t g a mode choice) (reply.Pages y) h given = refl
+of_given o s held k (call.OpenFile t g a mode choice) (reply.Props y) h given = refl
+of_given o s held k (call.OpenFile t g a mode choice) (reply.Owner y) h given = refl
+of_given o s held k (call.OpenFile t g a mode choice) (reply.Committed y) h given = refl
+of_given o s held k (call.OpenFile t g a mode choice) (reply.Ended y) h given = refl
+of_given o s held k (call.OpenFile t g a mode choice) (reply.Refused refusal.BadFrame) h given = refl
+of_given o s held k (call.OpenFile t g a mode choice) (reply.Refused (refusal.StaleSession y)) h given = refl
+of_given o s held k (call.OpenFile t g a mode choice) (reply.Refused refusal.UnknownTrans) h given = refl
+of_given o s held k (call.OpenFile t g a mode choice) (reply.Refused refusal.Finishing) h given = refl
+of_given o s held k (call.OpenFile t g a mode choice) (reply.Refused refusal.UnknownOpen) h given = refl
+of_given o s held k (call.OpenFile t g a mode choice) (reply.Refused refusal.UnknownOwner) h given = refl
+of_given o s held k (call.OpenFile t g a mode choice) (reply.Refused refusal.OwnerExists) h given = refl
+of_given o s held k (call.OpenFile t g a mode choice) (reply.Refused refusal.ReadOnlyOpen) h given = refl
+of_given o s held k (call.OpenFile t g a mode choice) (reply.Refused (refusal.AccessDenied y)) h given = refl
+of_given o s held k (call.OpenFile t g a mode choice) (reply.Refused (refusal.NoSuchPage y)) h given = refl
+of_given o s held k (call.OpenFile t g a mode choice) (reply.Refused (refusal.QuotaExceeded x y z)) h given = refl
+of_given o s held k (call.OpenFile t g a mode choice) (reply.Refused (refusal.VolumeFull x y)) h given = refl
+of_given o s held k (call.OpenFile t g a mode choice) (reply.Refused (refusal.LogFull x y)) h given = refl
+of_given o s held k (call.OpenFile t g a mode choice) (reply.Refused (refusal.TooMany x y)) h given = refl
+of_given o s held k (call.OpenFile t g a mode choice) (reply.Refused (refusal.LockConflict y)) h given = refl
+of_given o s held k (call.OpenFile t g a mode choice) (reply.Refused (refusal.Aborted y)) h given = refl
+of_given o s held k (call.OpenFile t g a mode choice) (reply.Refused refusal.NotYet) h given = refl
+of_given o s held k (call.OpenFile t g a mode choice) (reply.Refused refusal.ReadFault) h given = refl
+of_given o s held k (call.OpenFile t g a mode choice) (reply.Refused refusal.Down) h given = refl
+of_given o s held k (call.OpenFile t g a mode choice) (reply.Refused refusal.OutOfMemory) h given = refl
+of_given o s held k (call.OpenFile t g a mode choice) (reply.Refused refusal.JournalFull) h given = refl
+of_given o s held k (call.Hello name) r h given = refl
+of_given o s held k (call.Begin seen) r h given = refl
+of_given o s held k (call.Join t) r h given = refl
+of_given o s held k (call.CreateFile t start choice) r h given = refl
+of_given o s held k (call.CloseFile t n) r h given = refl
+of_given o s held k (call.DeleteFile t n choice) r h given = refl
+of_given o s held k (call.ReadPages t n run mode choice) r h given = refl
+of_given o s held k (call.WritePages t n run pages choice) r h given = refl
+of_given o s held k (call.LockPages t n run mode choice) r h given = refl
+of_given o s held k (call.SetSize t n size choice) r h given = refl
+of_given o s held k (call.ReadProps t n) r h given = refl
+of_given o s held k (call.WriteProps t n change choice) r h given = refl
+of_given o s held k (call.ReadOwner t name choice) r h given = refl
+of_given o s held k (call.MakeOwner t name quota create choice) r h given = refl
+of_given o s held k (call.SetQuota t name quota choice) r h given = refl
+of_given o s held k (call.Finish t commit) r h given = refl
+of_given o s held k (call.Outcome t) r h given = refl
+of_given o s held k (call.Collect n) r h given = refl
 
 same_id : (g f : FileId) → Some g ≡ Some f → f ≡ g
 same_id g f e = cc

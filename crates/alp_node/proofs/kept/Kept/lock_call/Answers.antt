@@ -18,7 +18,13 @@ use Rattle.alp_locks.specs.Sound.{IsPrepared}
 use Rattle.alp_node.proofs.KeptLemmas.{of_client, passing_stepped, halted_stepped, halted_ready, halted_cause, halted_still}
 use Rattle.alp_node.proofs.CallLemmas.{unseen, part_still}
 use Rattle.alp_node.proofs.PerformLemmas.{gave_told, part_ready, turn_kept, looked_left, looked_failed, looked_stopped, looked_serves, halted_vault, err_same}
-use Rattle.alp_node.proofs.GrantLemmas.{lock_alone, lock_stepped}
+use Rattle.std.specs.Prelude.{Bool}
+use Rattle.alp_base.specs.declared.ids.FileId.{FileId}
+use Rattle.alp_files.specs.Born.{count_after}
+use Rattle.alp_locks.specs.Asks.{blocker}
+use Rattle.alp_node.specs.Asks.{asks_of, asks_made, asks_given, is_made, plan_for, count_made, plan_of, with_plan}
+use Rattle.alp_node.specs.Calls.{next_file}
+use Rattle.alp_node.proofs.GrantLemmas.{lock_alone, lock_stepped, of_given, free_given, plan_given, count_given}
 use Rattle.alp_node.proofs.ReadyLemmas.{counted_ready}
 use Rattle.alp_node.proofs.kept.Kept.lock_call.Goals as goal
 
@@ -182,3 +188,37 @@ keep_locks-requires-clause-prepared_made g c =
     let (l, there, own) = of_client c.args.turn.now.client (map.get c.args.self.now.lives c.args.trans) c.requires.own in
     let did = c.in-Ok.ensures.performed l there in
     subst (λ (x : Table). IsPrepared x.held c.in_ok-made.made) (sym (ap (λ (x : Kept _). x.locks) did.kept)) (subst (IsPrepared c.args.self.now.locks.held) (sym c.in_ok-made.ensures) refl)
+
+pub returns-clause-stepped : goal.returns-clause-stepped
+returns-clause-stepped g c told o s h =
+    let k = c.args.self.now in
+    let turn = c.args.turn.now in
+    let held = g.V.Vault.held in
+    let call = c.args.call.now in
+    let t = c.args.trans in
+    let r = c.in-Ok.reply in
+    let N = c.perform.new.self in
+    let (l, there, own) = of_client turn.client (map.get k.lives t) c.requires.own in
+    let did = c.in-Ok.ensures.performed l there in
+    let given = gave_told (g.V.Vault.tells k.vault) (held k.vault).cells _ l did.part call r told did.outcome in
+    let e = event.Call turn.client k.epoch turn.number call in
+    let a = c.in_ok-answer.answer in
+    let so = c.in_ok-answer.ensures.ok ∙ ap (λ (acts : List Act). record { kept = Some r; handed = Some r; acts = acts }) (c.new-acts.ensures ∙ c.in_ok-vec.ensures.items) in
+    let asked_is : c.in_ok-asked.asked ≡ plan_of k.locks t (asks_of call) = c.in_ok-asked.ensures ∙ ap (plan_of k.locks t) c.in_ok-asks.ensures in
+    let made_is : c.in_ok-made.made ≡ plan_of k.locks t (asks_made (next_file k) call) =
+    c.in_ok-made.ensures ∙ ap (plan_of k.locks t) (c.in_ok-asks_made.ensures ∙ ap (λ (id : FileId). asks_made id call) c.next_file-id.ensures) in
+    let free_asked = ap (λ (w : Waiter). blocker k.locks.held w.trans w.rises) (sym asked_is) ∙ sym c.in_way_of.ensures ∙ c.in_default.is in
+    let free_made = ap (λ (w : Waiter). blocker k.locks.held w.trans w.rises) (sym made_is) ∙ sym c.in_way_of-2.ensures ∙ c.in_default-in_way_of.is in
+    let taken = ap (λ (b : Bool). plan_for b c.in_ok-asked.asked c.in_ok-made.made) c.is_made-has_made.ensures
+    ∙ ap (λ (w : Waiter). plan_for (is_made r) w c.in_ok-made.made) asked_is ∙ ap (plan_for (is_made r) (plan_of k.locks t (asks_of call))) made_is ∙ plan_given k.locks t (next_file k) call r in
+    let count = ap (count_made k.given) c.is_made-has_made.ensures ∙ count_given k.given r in
+    let kept_is : c.keep_locks.new.self ≡ record k { given = count_after k.given r; lives = map.insert k.lives t (record l { part = did.part }); locks = with_plan k.locks (plan_of k.locks t (asks_given (next_file k) call r)); vault = N.vault } =
+    c.keep_locks.ensures.kept
+    ∙ ap (λ (x : Kept _). record x { given = count_made x.given c.is_made-has_made.result; locks = with_plan x.locks (plan_for c.is_made-has_made.result c.in_ok-asked.asked c.in_ok-made.made) }) did.kept
+    ∙ ap (λ (n : ℕ). record k { given = n; lives = map.insert k.lives t (record l { part = did.part }); locks = with_plan k.locks (plan_for c.is_made-has_made.result c.in_ok-asked.asked c.in_ok-made.made); vault = N.vault }) count
+    ∙ ap (λ (w : Waiter). record k { given = count_after k.given r; lives = map.insert k.lives t (record l { part = did.part }); locks = with_plan k.locks w; vault = N.vault }) taken in
+    subst (λ (x : Sessions). Stepped o s (held c.keep_locks.new.self.vault) (record c.keep_locks.new.self { sessions = x }) e a) (sym c.count.ensures)
+    (subst (λ (x : Kept _). Stepped o s (held x.vault) (record x { sessions = counted_in x.sessions turn }) e a) (sym kept_is)
+    (lock_stepped o s (held k.vault) k turn t l did.part call r N.vault a (held N.vault) h c.requires.up c.in-Ok.ensures.looked.0.contents c.requires.turn there own c.requires.kind
+    (of_given o s (held k.vault) k call r h c.requires.given) c.requires.named c.requires.formed given so c.requires.sound c.requires.alone free_asked
+    (free_given k.locks t (next_file k) call r free_asked free_made)))
