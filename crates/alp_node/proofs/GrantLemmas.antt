@@ -1,5 +1,5 @@
 -- the entry of a call that asked for locks and has them
-use Rattle.std.specs.Prelude.{cond, Bool, true, false, not, ◌&&◌, ◌||◌, ◌==◌, nat_lt, nat_le, ◌⊎◌, IsTrue, Option, None, Some}
+use Rattle.std.specs.Prelude.{cond, Bool, true, false, not, ◌&&◌, ◌||◌, ◌==◌, nat_lt, nat_le, ◌⊎◌, IsTrue, Option, None, Some, is_some}
 use Rattle.std.specs.List.{AllByRecursion}
 use Rattle.std.specs.FinMap as map
 use Rattle.std.proofs.Common.{inl, inr, ◌≡◌, ℕ, zero, suc, ◌+◌, ◌<◌, ◌≤◌, List, [], ◌∷◌, ◌++◌, refl, sym, ◌∙◌, ap, subst, arith}
@@ -29,8 +29,11 @@ use Rattle.alp_files.specs.Locks.{Need, IsFormed, with_made, needs_made}
 use Rattle.alp_queue.specs.declared.waiter.Waiter.{Waiter}
 use Rattle.alp_queue.specs.Order.{waits}
 use Rattle.alp_locks.specs.Tables.{Parts, Table, holding}
-use Rattle.alp_locks.specs.Asks.{blocker}
-use Rattle.alp_locks.specs.Sound.{IsSound}
+use Rattle.alp_locks.specs.Asks.{blocker, with_granted}
+use Rattle.alp_locks.proofs.PartLemmas.{insert-keeps}
+use Rattle.alp_locks.proofs.SoundLemmas.{grant-sound}
+use Rattle.alp_queue.specs.Rises.{Held}
+use Rattle.alp_locks.specs.Sound.{IsSound, IsPrepared}
 use Rattle.alp_calls.specs.declared.part.Part.{Part}
 use Rattle.alp_calls.specs.Parts.{GivesOnly, Performs}
 use Rattle.alp_vault.specs.Contents.{Contents}
@@ -40,7 +43,7 @@ use Rattle.alp_journal.specs.State.{State, Start, Life, Plain, kind_of, file_tra
 use Rattle.alp_journal.specs.Laws.{ended_at}
 use Rattle.alp_node.specs.Asks.{IsOfGiven, is_given, asks_of, asks_made, asks_given, is_made, plan_for, count_made, plan_of, with_plan}
 use Rattle.alp_node.specs.Calls.{IsLockCall, Gave, next_file}
-use Rattle.alp_node.specs.Kept.{IsAs, IsAlike, IsLife, IsLocked, mode_for, ids_to, told_session}
+use Rattle.alp_node.specs.Kept.{IsAs, IsReady, IsAlike, IsLife, IsLocked, mode_for, ids_to, told_session}
 use Rattle.alp_node.specs.Steps.{Stepped, IsTurn}
 use Rattle.alp_node.specs.declared.answer.Answer.{Answer as Handed}
 use Rattle.alp_node.specs.declared.sessions.Turn.{Turn}
@@ -425,3 +428,26 @@ module _ {V : Type 0} (o : Start) (s : State) (held : Contents) (k : Kept V) (tu
       answered o s held k turn.client turn.number c r (act.Granted t ∷ []) (after_grant s turn.client turn.number (told_session turn.session) t life c r) (done_kept o s held k turn t l p c r locks_then v) a then so h leads
       (done_as o s held k turn t l p c r locks_then v life under then h same is there x.is x.alike single.built given.given done then_held (λ u q away. taken_other k.locks plan refl u q away)
       (kept_locked s.server [] life.held (view_in s life) life.own life.who c r kind x.alike.opens) leads.quiet)
+
+-- ---- a server stays ready
+
+granted_waiting : (locks : Table) (t : TransId) (rises : List Need) (after : Held) → (with_granted locks t rises after).waiting ≡ locks.waiting
+granted_waiting locks t [] after = refl
+granted_waiting locks t (n ∷ ns) after = refl
+
+granted_knows : (locks : Table) (t : TransId) (rises : List Need) (after : Held) (u : TransId) → is_some (map.get locks.held u) ≡ true → is_some (map.get (with_granted locks t rises after).held u) ≡ true
+granted_knows locks t [] after u known = known
+granted_knows locks t (n ∷ ns) after u known = insert-keeps locks.held t after u known
+
+-- with a plan taken that nobody stood in the way of, and a count that grew by one at most
+pub granted_ready : {V : Type 0} (m : ℕ) (serves : Bool) (k : Kept V) (w : Waiter) (count : ℕ) → count ≤ m → IsPrepared k.locks.held w → blocker k.locks.held w.trans w.rises ≡ None → IsReady m serves k
+    → IsReady m serves (record k { given = count; locks = with_plan k.locks w })
+granted_ready m serves k w count low prepared free h = record {
+  serving = h.serving;
+  sound = grant-sound k.locks w prepared h.sound free (ap (λ (ws : List Waiter). waits ws w.trans) h.alone);
+  alone = granted_waiting k.locks w.trans w.rises w.after ∙ h.alone;
+  known = λ u l is. granted_knows k.locks w.trans w.rises w.after u (h.known u l is);
+  begun = h.begun; opens = h.opens; places = h.places; calls = h.calls; drawn = h.drawn;
+  given = low;
+  committed = h.committed;
+}

@@ -122,7 +122,7 @@ module _ {V : Type 0} (o : Start) (s : State) (held : Contents) (k : Kept V) (tu
 
 -- ---- a server stays ready
 
-count_same : (count : ℕ) (r : Reply) → count_after count r ≤ count + 1
+pub count_same : (count : ℕ) (r : Reply) → count_after count r ≤ count + 1
 count_same count (reply.Created f n) = omega arith
 count_same count (reply.Welcome e) = omega arith
 count_same count (reply.Begun u) = omega arith

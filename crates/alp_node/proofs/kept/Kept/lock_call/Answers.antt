@@ -17,14 +17,14 @@ use Rattle.alp_locks.specs.Tables.{Table}
 use Rattle.alp_locks.specs.Sound.{IsPrepared}
 use Rattle.alp_node.proofs.KeptLemmas.{of_client, passing_stepped, halted_stepped, halted_ready, halted_cause, halted_still}
 use Rattle.alp_node.proofs.CallLemmas.{unseen, part_still}
-use Rattle.alp_node.proofs.PerformLemmas.{gave_told, part_ready, turn_kept, looked_left, looked_failed, looked_stopped, looked_serves, halted_vault, err_same}
+use Rattle.alp_node.proofs.PerformLemmas.{count_same, gave_told, part_ready, turn_kept, looked_left, looked_failed, looked_stopped, looked_serves, halted_vault, err_same}
 use Rattle.std.specs.Prelude.{Bool}
 use Rattle.alp_base.specs.declared.ids.FileId.{FileId}
 use Rattle.alp_files.specs.Born.{count_after}
 use Rattle.alp_locks.specs.Asks.{blocker}
 use Rattle.alp_node.specs.Asks.{asks_of, asks_made, asks_given, is_made, plan_for, count_made, plan_of, with_plan}
 use Rattle.alp_node.specs.Calls.{next_file}
-use Rattle.alp_node.proofs.GrantLemmas.{lock_alone, lock_stepped, of_given, free_given, plan_given, count_given}
+use Rattle.alp_node.proofs.GrantLemmas.{lock_alone, lock_stepped, of_given, free_given, plan_given, count_given, granted_ready}
 use Rattle.alp_node.proofs.ReadyLemmas.{counted_ready}
 use Rattle.alp_node.proofs.kept.Kept.lock_call.Goals as goal
 
@@ -222,3 +222,36 @@ returns-clause-stepped g c told o s h =
     (lock_stepped o s (held k.vault) k turn t l did.part call r N.vault a (held N.vault) h c.requires.up c.in-Ok.ensures.looked.0.contents c.requires.turn there own c.requires.kind
     (of_given o s (held k.vault) k call r h c.requires.given) c.requires.named c.requires.formed given so c.requires.sound c.requires.alone free_asked
     (free_given k.locks t (next_file k) call r free_asked free_made)))
+
+pub returns-clause-ready : goal.returns-clause-ready
+returns-clause-ready g c n h =
+    let k = c.args.self.now in
+    let turn = c.args.turn.now in
+    let call = c.args.call.now in
+    let t = c.args.trans in
+    let r = c.in-Ok.reply in
+    let N = c.perform.new.self in
+    let serves = g.V.Vault.serves N.vault in
+    let (l, there, own) = of_client turn.client (map.get k.lives t) c.requires.own in
+    let did = c.in-Ok.ensures.performed l there in
+    let asked_is : c.in_ok-asked.asked ≡ plan_of k.locks t (asks_of call) = c.in_ok-asked.ensures ∙ ap (plan_of k.locks t) c.in_ok-asks.ensures in
+    let made_is : c.in_ok-made.made ≡ plan_of k.locks t (asks_made (next_file k) call) =
+    c.in_ok-made.ensures ∙ ap (plan_of k.locks t) (c.in_ok-asks_made.ensures ∙ ap (λ (id : FileId). asks_made id call) c.next_file-id.ensures) in
+    let free_asked = ap (λ (w : Waiter). blocker k.locks.held w.trans w.rises) (sym asked_is) ∙ sym c.in_way_of.ensures ∙ c.in_default.is in
+    let free_made = ap (λ (w : Waiter). blocker k.locks.held w.trans w.rises) (sym made_is) ∙ sym c.in_way_of-2.ensures ∙ c.in_default-in_way_of.is in
+    let taken = ap (λ (b : Bool). plan_for b c.in_ok-asked.asked c.in_ok-made.made) c.is_made-has_made.ensures
+    ∙ ap (λ (w : Waiter). plan_for (is_made r) w c.in_ok-made.made) asked_is ∙ ap (plan_for (is_made r) (plan_of k.locks t (asks_of call))) made_is ∙ plan_given k.locks t (next_file k) call r in
+    let count = ap (count_made k.given) c.is_made-has_made.ensures ∙ count_given k.given r in
+    let kept_is : c.keep_locks.new.self ≡ record k { given = count_after k.given r; lives = map.insert k.lives t (record l { part = did.part }); locks = with_plan k.locks (plan_of k.locks t (asks_given (next_file k) call r)); vault = N.vault } =
+    c.keep_locks.ensures.kept
+    ∙ ap (λ (x : Kept _). record x { given = count_made x.given c.is_made-has_made.result; locks = with_plan x.locks (plan_for c.is_made-has_made.result c.in_ok-asked.asked c.in_ok-made.made) }) did.kept
+    ∙ ap (λ (n : ℕ). record k { given = n; lives = map.insert k.lives t (record l { part = did.part }); locks = with_plan k.locks (plan_for c.is_made-has_made.result c.in_ok-asked.asked c.in_ok-made.made); vault = N.vault }) count
+    ∙ ap (λ (w : Waiter). record k { given = count_after k.given r; lives = map.insert k.lives t (record l { part = did.part }); locks = with_plan k.locks w; vault = N.vault }) taken in
+    let low : did.part.last ≤ n + 1 = (let was : l.part.last ≤ n = h.opens t l there in omega (arith, did.outcome.last)) in
+    let fewer : count_after k.given r ≤ n + 1 = (let was : k.given ≤ n = h.given in let one : count_after k.given r ≤ k.given + 1 = count_same k.given r in omega (arith, was, one)) in
+    let counted = counted_ready n (g.V.Vault.serves k.vault) k turn c.requires.turn h in
+    let parted = part_ready (n + 1) (g.V.Vault.serves k.vault) serves (record k { sessions = counted_in k.sessions turn }) t l did.part N.vault (n + 1) c.in-Ok.ensures.looked.1 there low (le_refl (n + 1)) counted in
+    subst (λ (x : Sessions). IsReady (n + 1) (g.V.Vault.serves c.keep_locks.new.self.vault) (record c.keep_locks.new.self { sessions = x })) (sym c.count.ensures)
+    (subst (λ (x : Kept _). IsReady (n + 1) (g.V.Vault.serves x.vault) (record x { sessions = counted_in x.sessions turn })) (sym kept_is)
+    (granted_ready (n + 1) serves (record k { sessions = counted_in k.sessions turn; lives = map.insert k.lives t (record l { part = did.part }); vault = N.vault }) (plan_of k.locks t (asks_given (next_file k) call r)) (count_after k.given r)
+    fewer refl (free_given k.locks t (next_file k) call r free_asked free_made) parted))
