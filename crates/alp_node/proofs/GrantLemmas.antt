@@ -2,7 +2,7 @@
 use Rattle.std.specs.Prelude.{cond, Bool, true, false, not, ◌&&◌, ◌||◌, ◌==◌, nat_lt, nat_le, ◌⊎◌, IsTrue, Option, None, Some, is_some}
 use Rattle.std.specs.List.{AllByRecursion}
 use Rattle.std.specs.FinMap as map
-use Rattle.std.proofs.Common.{inl, inr, ◌≡◌, ℕ, zero, suc, ◌+◌, ◌<◌, ◌≤◌, List, [], ◌∷◌, ◌++◌, refl, sym, ◌∙◌, ap, subst, arith}
+use Rattle.std.proofs.Common.{inl, inr, ◌≡◌, ℕ, zero, suc, ◌+◌, ◌<◌, ◌≤◌, List, [], ◌∷◌, ◌++◌, refl, sym, ◌∙◌, ap, subst, arith, eq-eqb}
 use Rattle.alp_base.specs.declared.ids.FileId.{FileId}
 use Rattle.alp_base.specs.declared.ids.TransId.{TransId}
 use Rattle.alp_base.specs.declared.key.Resource.{Resource}
@@ -51,7 +51,7 @@ use Rattle.alp_node.proofs.KeptLemmas.{IsLive, live_there, answered, told_turn}
 use Rattle.alp_node.proofs.CallLemmas.{done_kept, performs, gave, after_call, done_as}
 use Rattle.alp_journal.specs.declared.act.Act.{Act}
 use Rattle.alp_journal.proofs.EntryLemmas.{grant_leads, after_grant}
-use Rattle.std.proofs.lemmas.Bool.{eqb-true, leb-true}
+use Rattle.std.proofs.lemmas.Bool.{eqb-true, leb-true, le-leb}
 use Rattle.std.proofs.lemmas.Bool.Decides.{leb_tells}
 use Rattle.std.proofs.Math.Dec.{leb}
 use Rattle.alp_base.proofs.NameLemmas.{and_left, and_right}
@@ -295,6 +295,41 @@ given_known server epoch count f e =
     ∙ or_so (nat_lt f.epoch epoch) (f.epoch == epoch && nat_le f.counter count) (has_file f (ids_to server epoch count))
     (λ h. (λ i. has_file (record { server = at i; epoch = eqb-true f.epoch epoch (and_left _ _ h) i; counter = f.counter }) (ids_to server epoch count))
         ∙ one_of_ids server epoch count f.counter some (leb-true f.counter count (and_right _ _ h))) second
+
+-- and the other way round
+among_ids : (server epoch n : ℕ) (f : FileId) → has_file f (ids_to server epoch n) ≡ true → (f.epoch == epoch && nat_le f.counter n) ≡ true
+among_ids server epoch zero f e = let wrong : false ≡ true = e in cc
+among_ids server epoch (suc n) f e = go (among_ids server epoch n f) (same_file (record { server = server; epoch = epoch; counter = suc n }) f) refl e
+  where
+    go : (has_file f (ids_to server epoch n) ≡ true → (f.epoch == epoch && nat_le f.counter n) ≡ true) → (b : Bool) → same_file (record { server = server; epoch = epoch; counter = suc n }) f ≡ b
+        → (b || has_file f (ids_to server epoch n)) ≡ true → (f.epoch == epoch && nat_le f.counter (suc n)) ≡ true
+    go before true is e =
+        let one : record { server = server; epoch = epoch; counter = suc n } ≡ f = same_file-true (record { server = server; epoch = epoch; counter = suc n }) f is in
+        let counter : suc n ≡ f.counter = ap (λ (g : FileId). g.counter) one in
+        ap (λ (b : Bool). b && nat_le f.counter (suc n)) (eq-eqb f.epoch epoch (sym (ap (λ (g : FileId). g.epoch) one))) ∙ le-leb f.counter (suc n) (omega (arith, counter))
+    go before false is e =
+        let h : (f.epoch == epoch && nat_le f.counter n) ≡ true = before e in
+        let low : f.counter ≤ n = leb-true f.counter n (and_right _ _ h) in
+        ap (λ (b : Bool). b && nat_le f.counter (suc n)) (and_left _ _ h) ∙ le-leb f.counter (suc n) (omega (arith, low))
+
+known_given : (server epoch count : ℕ) (f : FileId) → (f.server == server && nat_lt 0 f.epoch && nat_lt 0 f.counter && (nat_lt f.epoch epoch || has_file f (ids_to server epoch count))) ≡ true
+    → is_given server epoch count f ≡ true
+known_given server epoch count f e =
+    ap (λ (b : Bool). b && (nat_lt f.epoch epoch || (f.epoch == epoch && nat_le f.counter count))) (and_left _ _ e)
+    ∙ or_so (nat_lt f.epoch epoch) (has_file f (ids_to server epoch count)) (f.epoch == epoch && nat_le f.counter count) (among_ids server epoch count f) (and_right _ _ e)
+
+-- the open of an id that was never given is not performed
+pub unknown_file : {V : Type 0} (o : Start) (s : State) (held : Contents) (k : Kept V) (f : FileId) → IsAs o s held k → is_given k.server k.epoch k.given f ≡ false → journal.is_given s f ≡ false
+unknown_file o s held k f h none = go (journal.is_given s f) refl
+  where
+    go : (b : Bool) → journal.is_given s f ≡ b → journal.is_given s f ≡ false
+    go false e = e
+    go true e =
+        let told : is_given s.server s.epoch k.given f ≡ true =
+        known_given s.server s.epoch k.given f
+        (ap (λ (fs : List FileId). f.server == s.server && nat_lt 0 f.epoch && nat_lt 0 f.counter && (nat_lt f.epoch s.epoch || has_file f fs)) (sym h.made) ∙ e) in
+        let here : is_given k.server k.epoch k.given f ≡ true = (λ i. is_given (sym h.server i) (sym h.epoch i) k.given f) ∙ told in
+        let wrong : true ≡ false = sym here ∙ none in cc
 
 -- so an open of a file that was given is performed
 known_file : {V : Type 0} (o : Start) (s : State) (held : Contents) (k : Kept V) (f : FileId) → IsAs o s held k → is_given k.server k.epoch k.given f ≡ true → journal.is_given s f ≡ true
