@@ -294,7 +294,7 @@ given_known server epoch count f e =
     ap (λ (b : Bool). b && (nat_lt f.epoch epoch || has_file f (ids_to server epoch count))) first
     ∙ or_so (nat_lt f.epoch epoch) (f.epoch == epoch && nat_le f.counter count) (has_file f (ids_to server epoch count))
     (λ h. (λ i. has_file (record { server = at i; epoch = eqb-true f.epoch epoch (and_left _ _ h) i; counter = f.counter }) (ids_to server epoch count))
-        ∙ one_of_ids server epoch count f.counter some (leb-true f.counter count (and_right _ _ h))) second
+    ∙ one_of_ids server epoch count f.counter some (leb-true f.counter count (and_right _ _ h))) second
 
 -- and the other way round
 among_ids : (server epoch n : ℕ) (f : FileId) → has_file f (ids_to server epoch n) ≡ true → (f.epoch == epoch && nat_le f.counter n) ≡ true
@@ -482,7 +482,11 @@ granted_ready m serves k w count low prepared free h = record {
   sound = grant-sound k.locks w prepared h.sound free (ap (λ (ws : List Waiter). waits ws w.trans) h.alone);
   alone = granted_waiting k.locks w.trans w.rises w.after ∙ h.alone;
   known = λ u l is. granted_knows k.locks w.trans w.rises w.after u (h.known u l is);
-  begun = h.begun; opens = h.opens; places = h.places; calls = h.calls; drawn = h.drawn;
+  begun = h.begun;
+  opens = h.opens;
+  places = h.places;
+  calls = h.calls;
+  drawn = h.drawn;
   given = low;
   committed = h.committed;
 }

@@ -10,6 +10,7 @@ mod kept;
 mod lives;
 mod locking;
 mod opened;
+mod served;
 mod sessions;
 mod stored;
 
