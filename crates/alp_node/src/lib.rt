@@ -9,7 +9,6 @@ mod finish;
 mod kept;
 mod lives;
 mod locking;
-mod opened;
 mod served;
 mod sessions;
 mod stored;
