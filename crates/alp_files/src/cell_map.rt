@@ -152,6 +152,7 @@ impl CellMap {
     pub fn copies(&self, alloc: Global) -> Result<Vec<(Key, Cell)>, OutOfMemory>
         ensures over { IfOk result (λ v. (m : Cells) → map.get (edits_map (puts_of v.items) m) ≡ over self.now (map.get m)) }
         ensures once { IfOk result (λ v. IsDistinct (eq_by_cmp key_cmp) (list_map (λ e. e.0) v.items)) }
+        ensures entries { IfOk result (λ v. v.items ≡ map.entries self.now) }
     {
         let copies = copies_in(alloc, &self.cells)?;
         Ok(copies)

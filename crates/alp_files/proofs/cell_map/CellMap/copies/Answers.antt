@@ -10,6 +10,7 @@ use Rattle.alp_files.specs.declared.cell.Cell.{Cell}
 use Rattle.alp_files.specs.Cells.{Cells}
 use Rattle.alp_files.specs.Edits.{edits_map, over}
 use Rattle.alp_files.specs.Undo.{puts_of}
+use Rattle.alp_files.proofs.CellMapLemmas.{entries_back}
 use Rattle.alp_files.proofs.UndoLemmas.{tree_over}
 use Rattle.alp_files.proofs.cell_map.CellMap.copies.Goals as goal
 
@@ -23,3 +24,9 @@ pub returns-clause-once : goal.returns-clause-once
 returns-clause-once c =
     subst (λ (xs : List (Key × Cell)). IsDistinct (eq_by_cmp key_cmp) (list_map (λ (e : Key × Cell). e.0) xs)) (sym c.in_ok-copies.ensures.copies)
     (IsDistinct-from_sorted key_cmp (list_map (λ (e : Key × Cell). e.0) c.self.inside.cells.entries) c.in_ok-copies.ensures.rising)
+
+pub returns-clause-entries : goal.returns-clause-entries
+returns-clause-entries c =
+    c.in_ok-copies.ensures.copies
+    ∙ sym (entries_back c.self.inside.cells.entries c.in_ok-copies.ensures.rising)
+    ∙ ap map.entries c.self.view_is
