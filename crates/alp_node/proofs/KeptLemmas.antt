@@ -151,7 +151,7 @@ cond_twice true x y z = refl
 cond_twice false x y z = refl
 
 -- a note does not hang on what it was before
-noted_twice : (ns : Notes) (name a b : List ℕ) → map.insert (map.insert ns name a) name b ≡ map.insert ns name b
+pub noted_twice : (ns : Notes) (name a b : List ℕ) → map.insert (map.insert ns name a) name b ≡ map.insert ns name b
 noted_twice ns name a b = same_map nat_list_cmp_total exact_bytes _ _ (λ q.
     get-insert nat_list_cmp_total (map.insert ns name a) name b q
     ∙ ap (cond (eq_by_cmp text_cmp q name) (Some b)) (get-insert nat_list_cmp_total ns name a q)

@@ -1,5 +1,7 @@
 pub mod MapLemmas
 pub mod KeptLemmas
+pub mod NodeLemmas
+pub mod StartLemmas
 pub mod ReadyLemmas
 pub mod CallLemmas
 pub mod PageLemmas

@@ -1,5 +1,5 @@
 -- One step of a server.
-use Rattle.std.specs.Prelude.{◌≡◌, ℕ, ◌+◌, ◌≤◌, [], ◌∷◌, Option, None, Some}
+use Rattle.std.specs.Prelude.{◌≡◌, ℕ, ◌+◌, ◌≤◌, ◌==◌, Bool, false, [], ◌∷◌, Option, None, Some}
 use Rattle.std.specs.FinMap as map
 use Rattle.alp_base.specs.declared.ids.TransId.{TransId}
 use Rattle.alp_locks.specs.Releases.{released}
@@ -8,6 +8,8 @@ use Rattle.alp_files.specs.declared.reply.Reply.TheVariants as reply
 use Rattle.alp_calls.specs.declared.fault.CallFault.{CallFault}
 use Rattle.alp_journal.specs.declared.act.Act.{Act}
 use Rattle.alp_journal.specs.declared.event.Event.{Event}
+use Rattle.alp_journal.specs.declared.event.Event.TheVariants as event
+use Rattle.alp_files.specs.declared.call.Call.TheVariants as call
 use Rattle.alp_journal.specs.declared.entry.Entry.{Entry}
 use Rattle.alp_journal.specs.State.{State, Start}
 use Rattle.alp_journal.specs.Steps.{Leads}
@@ -48,6 +50,11 @@ abbrev pub IsOf : ℕ → Option Live → Type 0
 IsOf client None = ⊥
 IsOf client (Some l) = l.client ≡ client
 
+-- whether it is
+abbrev pub is_own : ℕ → Option Live → Bool
+is_own client None = false
+is_own client (Some l) = l.client == client
+
 -- the server where the transaction is live no more, and its locks are gone
 abbrev pub without_trans : {V : Type 0} → Kept V → TransId → Kept V
 without_trans k t = record k { lives = map.remove k.lives t; locks = released k.locks t }
@@ -59,3 +66,8 @@ IsHaltedSo (Some x) a = a ≡ record { kept = Some (reply.Refused x.0); handed =
 
 abbrev pub IsHalted : CallFault → Answer → Type 0
 IsHalted fault a = IsHaltedSo (halt_of fault) a
+
+-- the time that a transaction's client saw before it began
+abbrev pub seen_in : Event → ℕ
+seen_in (event.Call client epoch number (call.Begin seen)) = seen.ts
+seen_in e = 0

@@ -35,16 +35,11 @@ impl<V: Vault> Kept<V> {
     }
 
     /// A live transaction of the client ends without effect, as its client asked.
-    pub fn abort(
-        &mut self,
-        turn: &Turn,
-        trans: TransId,
-        commit: bool,
-    ) -> Result<Answer, OutOfMemory>
+    pub fn abort(&mut self, turn: &Turn, trans: TransId) -> Result<Answer, OutOfMemory>
         requires turn { IsTurn self.old.sessions turn.now }
         requires own { IsOf turn.now.client (map.get self.old.lives trans) }
         requires alone { self.old.locks.waiting ≡ [] }
-        ensures stepped { (o : Start) (s : StateOf) → IsAs o s (V.held self.old.vault) self.old → IfOk result (λ a. Stepped o s (V.held self.new.vault) self.new (event.Call turn.now.client self.old.epoch turn.now.number (call.Finish trans commit)) a) }
+        ensures stepped { (o : Start) (s : StateOf) → IsAs o s (V.held self.old.vault) self.old → IfOk result (λ a. Stepped o s (V.held self.new.vault) self.new (event.Call turn.now.client self.old.epoch turn.now.number (call.Finish trans false)) a) }
         ensures ready { (steps : ℕ) → IsReady steps (V.serves self.old.vault) self.old → OnOk result (IsReady (steps + 1) (V.serves self.new.vault) self.new) }
         ensures vault { self.new.vault ≡ self.old.vault }
         ensures err { OnErr result (self.new ≡ self.old) }
