@@ -8,8 +8,6 @@ use Rattle.alp_files.specs.declared.reply.Reply.TheVariants as reply
 use Rattle.alp_calls.specs.declared.fault.CallFault.{CallFault}
 use Rattle.alp_journal.specs.declared.act.Act.{Act}
 use Rattle.alp_journal.specs.declared.event.Event.{Event}
-use Rattle.alp_journal.specs.declared.event.Event.TheVariants as event
-use Rattle.alp_files.specs.declared.call.Call.TheVariants as call
 use Rattle.alp_journal.specs.declared.entry.Entry.{Entry}
 use Rattle.alp_journal.specs.State.{State, Start}
 use Rattle.alp_journal.specs.Steps.{Leads}
@@ -66,8 +64,3 @@ IsHaltedSo (Some x) a = a ≡ record { kept = Some (reply.Refused x.0); handed =
 
 abbrev pub IsHalted : CallFault → Answer → Type 0
 IsHalted fault a = IsHaltedSo (halt_of fault) a
-
--- the time that a transaction's client saw before it began
-abbrev pub seen_in : Event → ℕ
-seen_in (event.Call client epoch number (call.Begin seen)) = seen.ts
-seen_in e = 0
