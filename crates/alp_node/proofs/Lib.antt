@@ -1,4 +1,5 @@
 pub mod MapLemmas
+pub mod CauseLemmas
 pub mod KeptLemmas
 pub mod NodeLemmas
 pub mod StartLemmas
@@ -7,5 +8,6 @@ pub mod CallLemmas
 pub mod PageLemmas
 pub mod PerformLemmas
 pub mod LockLemmas
+pub mod ConflictLemmas
 pub mod GrantLemmas
 pub mod AskLemmas
