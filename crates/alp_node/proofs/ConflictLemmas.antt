@@ -91,9 +91,10 @@ below_less q r (e ∷ es) p h =
 -- each is found at its key
 all_found : (es : List Need) → Sorted es → AllByRecursion (λ n. found resource_cmp n.0 es ≡ Some n.1) es
 all_found [] h = tt
-all_found (e ∷ es) h =
-    (ap (λ (o : Ordering). cond (is_eq o) (Some e.1) (found resource_cmp e.0 es)) (tied_itself resources_total e.0),
-    behind es (all_found es (right_of (below_all resource_cmp e.0 es) (map.is_sorted resource_cmp es) h)))
+all_found (e ∷ es) h = (
+  ap (λ (o : Ordering). cond (is_eq o) (Some e.1) (found resource_cmp e.0 es)) (tied_itself resources_total e.0),
+  behind es (all_found es (right_of (below_all resource_cmp e.0 es) (map.is_sorted resource_cmp es) h)),
+)
   where
     other : (n : Need) → found resource_cmp n.0 es ≡ Some n.1 → (b : Bool) → eq_by_cmp resource_cmp n.0 e.0 ≡ b → cond b (Some e.1) (found resource_cmp n.0 es) ≡ Some n.1
     other n at false same = at

@@ -4,7 +4,6 @@ use Rattle.std.specs.Option.{option_copied as copied}
 use Rattle.std.specs.FinMap as map
 use Rattle.std.specs.FinMap.{get-empty}
 use Rattle.std.proofs.Common.{◌≡◌, ℕ, ◌+◌, ◌<◌, ◌≤◌, ◌^◌, List, [], ◌∷◌, ◌++◌, length, length-append, refl, sym, ◌∙◌, ap, subst, arith}
-
 use Rattle.alp_base.specs.declared.key.Key.TheVariants.{Leader}
 use Rattle.alp_fields.specs.ClockNote.{clock_name, clock_form, clock_kept}
 use Rattle.alp_modes.specs.Orders.{trans_cmp}

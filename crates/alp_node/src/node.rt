@@ -39,7 +39,7 @@ impl<V: Vault> Node<V> {
         ensures still_down { self.old.kept.is_down ≡ true → IsOk result × (self.new ≡ self.old) }
         ensures err { OnErr result (self.new.journal ≡ self.old.journal) }
         ensures same { (self.new.opening ≡ self.old.opening) × (self.new.kept.server ≡ self.old.kept.server) × (self.new.kept.epoch ≡ self.old.kept.epoch) }
-        ensures clock { self.new.kept.clock ≤ max self.old.kept.clock (seen_in event) + 1 }
+        ensures clock { IsTrue (V.tells self.old.kept.vault) → self.new.kept.clock ≤ max self.old.kept.clock (seen_in event) + 1 }
         ensures tells { V.tells self.new.kept.vault ≡ V.tells self.old.kept.vault }
     {
         if self.kept.is_down {
