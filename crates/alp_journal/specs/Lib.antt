@@ -3,3 +3,4 @@ pub mod Serial
 pub mod Told
 pub mod Laws
 pub mod Steps
+pub mod Causes

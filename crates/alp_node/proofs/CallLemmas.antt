@@ -148,7 +148,7 @@ module _ {V : Type 0} (o : Start) (s : State) (held : Contents) (k : Kept V) (tu
 
 -- ---- what the counts come to
 
-count_grows : (count : ℕ) (r : Reply) → count ≤ count_after count r
+pub count_grows : (count : ℕ) (r : Reply) → count ≤ count_after count r
 count_grows count (reply.Created f n) = omega arith
 count_grows count (reply.Welcome e) = omega arith
 count_grows count (reply.Begun u) = omega arith

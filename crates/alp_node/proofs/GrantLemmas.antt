@@ -2,12 +2,12 @@
 use Rattle.std.specs.Prelude.{cond, Bool, true, false, not, ◌&&◌, ◌||◌, ◌==◌, nat_lt, nat_le, ◌⊎◌, IsTrue, Option, None, Some, is_some}
 use Rattle.std.specs.List.{AllByRecursion}
 use Rattle.std.specs.FinMap as map
-use Rattle.std.proofs.Common.{inl, inr, ◌≡◌, ℕ, zero, suc, ◌+◌, ◌<◌, ◌≤◌, List, [], ◌∷◌, ◌++◌, refl, sym, ◌∙◌, ap, subst, arith, eq-eqb}
+use Rattle.std.proofs.Common.{inl, inr, ◌≡◌, ℕ, zero, suc, ◌+◌, ◌<◌, ◌≤◌, List, [], ◌∷◌, ◌++◌, length, refl, sym, ◌∙◌, ap, subst, arith, eq-eqb}
 use Rattle.alp_base.specs.declared.ids.FileId.{FileId}
 use Rattle.alp_base.specs.declared.ids.TransId.{TransId}
 use Rattle.alp_base.specs.declared.key.Resource.{Resource}
 use Rattle.alp_modes.specs.Holdings.{Holding, join_held, held_by, DoAgree}
-use Rattle.alp_modes.proofs.HoldingLemmas.{join_held-assoc, held_by-append}
+use Rattle.alp_modes.proofs.HoldingLemmas.{join_held-assoc, held_by-append, agree-turned}
 use Rattle.alp_files.specs.declared.call.Call.{Call}
 use Rattle.alp_files.specs.declared.call.Call.TheVariants as call
 use Rattle.alp_files.specs.declared.reply.Reply.{Reply}
@@ -16,7 +16,10 @@ use Rattle.alp_base.specs.declared.choices.Access.{Access}
 use Rattle.alp_base.specs.declared.choices.Access.TheVariants.{ReadOnly, Change}
 use Rattle.alp_base.specs.declared.key.Resource.TheVariants.{Whole}
 use Rattle.alp_modes.specs.declared.Mode.{Mode}
+use Rattle.alp_modes.specs.declared.Mode.TheVariants.{Write}
+use Rattle.alp_modes.specs.Orders.{trans_cmp, resource_cmp, exact_resources}
 use Rattle.alp_modes.specs.Holdings.{covers_held}
+use Rattle.std.specs.Ordering.{eq_by_cmp}
 use Rattle.alp_files.specs.Act.{Own, Answer, answer, id_in}
 use Rattle.alp_files.specs.Cells.{View}
 use Rattle.alp_files.specs.Locks.{IsMore, granted, needs_of, request_of, joined}
@@ -30,7 +33,8 @@ use Rattle.alp_queue.specs.declared.waiter.Waiter.{Waiter}
 use Rattle.alp_queue.specs.Order.{waits}
 use Rattle.alp_locks.specs.Tables.{Parts, Table, holding}
 use Rattle.alp_locks.specs.Asks.{blocker, with_granted}
-use Rattle.alp_locks.proofs.PartLemmas.{insert-keeps}
+use Rattle.alp_locks.proofs.PartLemmas.{insert-keeps, tied}
+use Rattle.alp_locks.proofs.LawLemmas.{all-of-plan}
 use Rattle.alp_locks.proofs.SoundLemmas.{grant-sound}
 use Rattle.alp_queue.specs.Rises.{Held}
 use Rattle.alp_locks.specs.Sound.{IsSound, IsPrepared}
@@ -39,22 +43,28 @@ use Rattle.alp_calls.specs.Parts.{GivesOnly, Performs}
 use Rattle.alp_vault.specs.Contents.{Contents}
 use Rattle.alp_journal.specs.declared.act.Act.TheVariants as act
 use Rattle.alp_journal.specs.declared.event.Event.TheVariants as event
-use Rattle.alp_journal.specs.State.{State, Start, Life, Plain, kind_of, file_trans, is_of_no_file, same_trans, view_in, held_for}
+use Rattle.alp_journal.specs.State.{State, Start, Life, Plain, kind_of, file_trans, is_of_no_file, same_trans, view_in, held_for, done_by}
 use Rattle.alp_journal.specs.Laws.{ended_at}
+use Rattle.alp_journal.specs.Causes as causes
+use Rattle.alp_journal.specs.Causes.{is_of_unknown, IsFree, IsFileAnswer}
 use Rattle.alp_node.specs.Asks.{IsOfGiven, is_given, asks_of, asks_made, asks_given, is_made, plan_for, count_made, plan_of, with_plan}
 use Rattle.alp_node.specs.Calls.{IsLockCall, Gave, next_file}
 use Rattle.alp_node.specs.Kept.{IsAs, IsReady, IsAlike, IsLife, IsLocked, mode_for, ids_to, told_session}
-use Rattle.alp_node.specs.Steps.{Stepped, IsTurn}
+use Rattle.alp_node.specs.Steps.{Stepped, IsTurn, counted_in, seen_in}
 use Rattle.alp_node.specs.declared.answer.Answer.{Answer as Handed}
 use Rattle.alp_node.specs.declared.sessions.Turn.{Turn}
-use Rattle.alp_node.proofs.KeptLemmas.{IsLive, live_there, answered, told_turn}
+use Rattle.alp_node.proofs.CauseLemmas.{file_cause}
+use Rattle.alp_node.proofs.ConflictLemmas.{held_elsewhere, least_holder, made_free}
+use Rattle.alp_node.proofs.KeptLemmas.{IsLive, live_there, answered, told_turn, stands_timely, passing_stepped}
+use Rattle.alp_node.proofs.ReadyLemmas.{numbered}
 use Rattle.alp_node.proofs.CallLemmas.{done_kept, performs, gave, after_call, done_as}
 use Rattle.alp_journal.specs.declared.act.Act.{Act}
 use Rattle.alp_journal.proofs.EntryLemmas.{grant_leads, after_grant}
-use Rattle.std.proofs.lemmas.Bool.{eqb-true, leb-true, le-leb}
+use Rattle.std.proofs.lemmas.Bool.{eqb-true, ltb-true, leb-true, le-leb}
 use Rattle.std.proofs.lemmas.Bool.Decides.{leb_tells}
 use Rattle.std.proofs.Math.Dec.{leb}
 use Rattle.alp_base.proofs.NameLemmas.{and_left, and_right}
+use Rattle.alp_files.specs.declared.refusal.Refusal.{Refusal}
 use Rattle.alp_files.specs.declared.refusal.Refusal.TheVariants as refusal
 use Rattle.alp_journal.specs.State as journal
 use Rattle.alp_files.specs.Cells.{same_file}
@@ -96,20 +106,26 @@ count_given count (reply.Ended y) = refl
 count_given count (reply.Refused y) = refl
 
 -- where nobody stands in the way of either, nobody does
-pub free_given : (locks : Table) (t : TransId) (id : FileId) (c : Call) (r : Reply) → blocker locks.held t (plan_of locks t (asks_of c)).rises ≡ None → blocker locks.held t (plan_of locks t (asks_made id c)).rises ≡ None
+free_either : (locks : Table) (t : TransId) (id : FileId) (c : Call) (r : Reply) → blocker locks.held t (plan_of locks t (asks_of c)).rises ≡ None → blocker locks.held t (plan_of locks t (asks_made id c)).rises ≡ None
     → blocker locks.held t (plan_of locks t (asks_given id c r)).rises ≡ None
-free_given locks t id c (reply.Created f n) asked made = made
-free_given locks t id c (reply.Welcome y) asked made = asked
-free_given locks t id c (reply.Begun y) asked made = asked
-free_given locks t id c reply.Joined asked made = asked
-free_given locks t id c (reply.Opened y) asked made = asked
-free_given locks t id c reply.Plain asked made = asked
-free_given locks t id c (reply.Pages y) asked made = asked
-free_given locks t id c (reply.Props y) asked made = asked
-free_given locks t id c (reply.Owner y) asked made = asked
-free_given locks t id c (reply.Committed y) asked made = asked
-free_given locks t id c (reply.Ended y) asked made = asked
-free_given locks t id c (reply.Refused y) asked made = asked
+free_either locks t id c (reply.Created f n) asked made = made
+free_either locks t id c (reply.Welcome y) asked made = asked
+free_either locks t id c (reply.Begun y) asked made = asked
+free_either locks t id c reply.Joined asked made = asked
+free_either locks t id c (reply.Opened y) asked made = asked
+free_either locks t id c reply.Plain asked made = asked
+free_either locks t id c (reply.Pages y) asked made = asked
+free_either locks t id c (reply.Props y) asked made = asked
+free_either locks t id c (reply.Owner y) asked made = asked
+free_either locks t id c (reply.Committed y) asked made = asked
+free_either locks t id c (reply.Ended y) asked made = asked
+free_either locks t id c (reply.Refused y) asked made = asked
+
+-- so nobody does where the file that may be made is nobody's
+pub free_given : {V : Type 0} (m : ℕ) (serves : Bool) (k : Kept V) (t : TransId) (c : Call) (r : Reply) → IsReady m serves k → blocker k.locks.held t (plan_of k.locks t (asks_of c)).rises ≡ None
+    → blocker k.locks.held t (plan_of k.locks t (asks_given (next_file k) c r)).rises ≡ None
+free_given m serves k t c r h free =
+    free_either k.locks t (next_file k) c r free (made_free k.locks.held t (next_file k) c h.sound.agreeing (λ u. h.unheld u (k.given + 1) (omega arith)) free)
 
 -- where no file is made, what is kept is what was asked
 asks_none : (id : FileId) (c : Call) (r : Reply) → id_in r ≡ None → asks_given id c r ≡ asks_of c
@@ -337,7 +353,7 @@ known_file o s held k f h given =
     ap (λ (fs : List FileId). f.server == s.server && nat_lt 0 f.epoch && nat_lt 0 f.counter && (nat_lt f.epoch s.epoch || has_file f fs)) h.made
     ∙ given_known s.server s.epoch k.given f ((λ i. is_given (h.server i) (h.epoch i) k.given f) ∙ given)
 
-pub of_given : {V : Type 0} (o : Start) (s : State) (held : Contents) (k : Kept V) (c : Call) (r : Reply) → IsAs o s held k → IsOfGiven k.server k.epoch k.given c → is_of_no_file s c r ≡ false
+of_given : {V : Type 0} (o : Start) (s : State) (held : Contents) (k : Kept V) (c : Call) (r : Reply) → IsAs o s held k → IsOfGiven k.server k.epoch k.given c → is_of_no_file s c r ≡ false
 of_given o s held k (call.OpenFile t g a mode choice) (reply.Refused refusal.UnknownFile) h given = ap not (known_file o s held k g h given)
 of_given o s held k (call.OpenFile t g a mode choice) (reply.Created f n) h given = refl
 of_given o s held k (call.OpenFile t g a mode choice) (reply.Welcome y) h given = refl
@@ -390,6 +406,19 @@ of_given o s held k (call.Finish t commit) r h given = refl
 of_given o s held k (call.Outcome t) r h given = refl
 of_given o s held k (call.Collect n) r h given = refl
 
+-- a call that opens a file is of one that was given
+pub of_known : {V : Type 0} (o : Start) (s : State) (held : Contents) (k : Kept V) (c : Call) → IsAs o s held k → IsOfGiven k.server k.epoch k.given c → is_of_unknown s c ≡ false
+of_known o s held k (call.OpenFile t g a mode choice) h given = ap not (known_file o s held k g h given)
+of_known o s held k c h given = refl
+
+-- the ids of files that were made are counted
+counted_ids : (server epoch n : ℕ) → length (ids_to server epoch n) ≡ n
+counted_ids server epoch zero = refl
+counted_ids server epoch (suc n) = ap suc (counted_ids server epoch n)
+
+pub next_told : {V : Type 0} (o : Start) (s : State) (held : Contents) (k : Kept V) → IsAs o s held k → next_file k ≡ causes.next_file s
+next_told o s held k h = λ i. record { server = sym h.server i; epoch = sym h.epoch i; counter = sym (ap (λ (fs : List FileId). length fs + 1) h.made ∙ ap (λ (n : ℕ). n + 1) (counted_ids s.server s.epoch k.given)) i }
+
 same_id : (g f : FileId) → Some g ≡ Some f → f ≡ g
 same_id g f e = cc
 
@@ -408,11 +437,6 @@ id_given id f (reply.Committed y) e only = let wrong : None ≡ Some f = e in cc
 id_given id f (reply.Ended y) e only = let wrong : None ≡ Some f = e in cc
 id_given id f (reply.Refused y) e only = let wrong : None ≡ Some f = e in cc
 
--- what others hold
-held_elsewhere : (locks : Parts) (u : TransId) (y : Option Live) (m : Life) → IsAlike locks u y (Some m) → (q : Resource) → m.held q ≡ holding locks u q
-held_elsewhere locks u None m wrong q = absurd wrong
-held_elsewhere locks u (Some z) m life q = life.held q
-
 -- ---- the entry
 
 same_agree : (a b x y : Holding) → ((q : Resource) → a q ≡ x q) → ((q : Resource) → b q ≡ y q) → DoAgree x y → DoAgree a b
@@ -426,10 +450,10 @@ module _ {V : Type 0} (o : Start) (s : State) (held : Contents) (k : Kept V) (tu
   locks_then = with_plan k.locks plan
 
   pub lock_stepped : (a : Handed) (then : Contents) → IsAs o s held k → k.is_down ≡ false → then ≡ held → IsTurn k.sessions turn → map.get k.lives t ≡ Some l → l.client ≡ turn.client → IsLockCall c
-      → is_of_no_file s c r ≡ false → file_trans c ≡ Some t → IsFormed c → Gave true held.cells (next_file k) l p c r → a ≡ record { kept = Some r; handed = Some r; acts = act.Granted t ∷ [] }
+      → IsOfGiven k.server k.epoch k.given c → file_trans c ≡ Some t → IsFormed c → Gave true held.cells (next_file k) l p c r → a ≡ record { kept = Some r; handed = Some r; acts = act.Granted t ∷ [] }
       → IsSound k.locks → k.locks.waiting ≡ [] → blocker k.locks.held t (plan_of k.locks t (asks_of c)).rises ≡ None → blocker k.locks.held t plan.rises ≡ None
       → Stepped o s then (done_kept o s held k turn t l p c r locks_then v) (event.Call turn.client k.epoch turn.number c) a
-  lock_stepped a then h up same is there own kind here of formed given so sound alone free free_then =
+  lock_stepped a then h up same is there own kind of_file of formed given so sound alone free free_then =
       let x : IsLive k.locks.held t l (s.lives t) = live_there k.locks.held t (map.get k.lives t) (s.lives t) l there (h.lives t) in
       let life : Life = x.life in
       let under : Holding = held_for s life c in
@@ -459,10 +483,27 @@ module _ {V : Type 0} (o : Start) (s : State) (held : Contents) (k : Kept V) (tu
       (ap (has_file (next_file k)) h.made ∙ (λ i. has_file (record { server = sym h.server i; epoch = sym h.epoch i; counter = k.given + 1 }) (ids_to s.server s.epoch k.given))
       ∙ none_beyond s.server s.epoch k.given (k.given + 1) (omega arith)) in
       let leads = grant_leads s turn.client turn.number (told_session turn.session) t life c r h.quiet (told_turn o s held k turn.client turn.session h is.session) is.number x.is (x.alike.client ∙ own) x.alike.active
-      single.kind of formed given.kind given.own here (λ y. single.ends y turn.client s.epoch turn.number r) done.reply fresh first agree in
+      single.kind of formed given.kind given.own (of_given o s held k c r h of_file) (λ y. single.ends y turn.client s.epoch turn.number r) done.reply fresh first agree in
+      let known : is_of_unknown s c ≡ false = of_known o s held k c h of_file in
+      let way : IsFree s t life c = λ u m at away q. agree-turned (m.held q) (under q) ∙ first u m away at q in
+      let why : IsFileAnswer s t life c r = IsFileAnswer.performed r known way given.own done.reply (λ f e. id_given (next_file k) f r e given.given ∙ next_told o s held k h) in
       answered o s held k turn.client turn.number c r (act.Granted t ∷ []) (after_grant s turn.client turn.number (told_session turn.session) t life c r) (done_kept o s held k turn t l p c r locks_then v) a then so h leads
       (done_as o s held k turn t l p c r locks_then v life under then h same is there x.is x.alike single.built given.given done then_held (λ u q away. taken_other k.locks plan refl u q away)
       (kept_locked s.server [] life.held (view_in s life) life.own life.who c r kind x.alike.opens) leads.quiet)
+      (file_cause s turn.client c t life r of x.is (x.alike.client ∙ own) why) (stands_timely s.clock (seen_in (event.Call turn.client k.epoch turn.number c)) k.clock h.clock)
+
+-- a call is refused where another is in its way
+pub conflict_stepped : {V : Type 0} (o : Start) (s : State) (held : Contents) (k : Kept V) (turn : Turn) (t : TransId) (l : Live) (c : Call) (holder : TransId) (a : Handed) → IsAs o s held k → IsTurn k.sessions turn → map.get k.lives t ≡ Some l
+    → l.client ≡ turn.client → IsLockCall c → IsOfGiven k.server k.epoch k.given c → file_trans c ≡ Some t → IsSound k.locks → blocker k.locks.held t (plan_of k.locks t (asks_of c)).rises ≡ Some holder
+    → a ≡ record { kept = Some (reply.Refused (refusal.LockConflict holder)); handed = Some (reply.Refused (refusal.LockConflict holder)); acts = [] }
+    → Stepped o s held (record k { sessions = counted_in k.sessions turn }) (event.Call turn.client k.epoch turn.number c) a
+conflict_stepped o s held k turn t l c holder a h is there own kind of_file of sound named so =
+    let x : IsLive k.locks.held t l (s.lives t) = live_there k.locks.held t (map.get k.lives t) (s.lives t) l there (h.lives t) in
+    let f : Refusal = refusal.LockConflict holder in
+    let single : IsAlone s c = lock_alone s c kind in
+    let why : IsFileAnswer s t x.life c (reply.Refused f) = IsFileAnswer.conflict holder (of_known o s held k c h of_file) (least_holder o s held k t l x.life c h x.alike kind sound.agreeing holder named) in
+    passing_stepped o s held k turn.client turn.session turn.number c f a h is.client is.session is.number single.kind refl (ap (done_by s c (reply.Refused f)) of) (single.ends s turn.client s.epoch turn.number (reply.Refused f))
+    (file_cause s turn.client c t x.life (reply.Refused f) of x.is (x.alike.client ∙ own) why) so
 
 -- ---- a server stays ready
 
@@ -474,10 +515,58 @@ granted_knows : (locks : Table) (t : TransId) (rises : List Need) (after : Held)
 granted_knows locks t [] after u known = known
 granted_knows locks t (n ∷ ns) after u known = insert-keeps locks.held t after u known
 
+-- ids beyond the count are not asked for
+not_above : (a b : ℕ) → a < b → nat_le b a ≡ true → ⊥
+not_above a b high e = (let low : b ≤ a = leb-true b a e in omega (arith, high))
+
+none_of_given : (server epoch count n : ℕ) → count < n → is_given server epoch count (record { server = server; epoch = epoch; counter = n }) ≡ true → ⊥
+none_of_given server epoch count n high e = go (nat_lt epoch epoch) refl (and_right _ _ e)
+  where
+    go : (b : Bool) → nat_lt epoch epoch ≡ b → (b || (epoch == epoch && nat_le n count)) ≡ true → ⊥
+    go true before h = (let low : epoch < epoch = ltb-true epoch epoch before in omega (arith, low))
+    go false before h = not_above count n high (and_right _ _ h)
+
+whole_file : (f g : FileId) → eq_by_cmp resource_cmp (Whole f) (Whole g) ≡ true → f ≡ g
+whole_file f g e = same_whole (exact_resources (Whole f) (Whole g) (tied (resource_cmp (Whole f) (Whole g)) e))
+  where
+    same_whole : Whole f ≡ Whole g → f ≡ g
+    same_whole h = cc
+
+asked_below : (server epoch count n : ℕ) (c : Call) → IsOfGiven server epoch count c → count < n → held_by (asks_of c) (Whole (record { server = server; epoch = epoch; counter = n })) ≡ None
+asked_below server epoch count n (call.OpenFile t f a mode choice) given high = go (eq_by_cmp resource_cmp (Whole (record { server = server; epoch = epoch; counter = n })) (Whole f)) refl
+  where
+    go : (b : Bool) → eq_by_cmp resource_cmp (Whole (record { server = server; epoch = epoch; counter = n })) (Whole f) ≡ b → cond {A = Option Mode} b (Some mode) None ≡ None
+    go true e = absurd (none_of_given server epoch count n high (ap (is_given server epoch count) (whole_file (record { server = server; epoch = epoch; counter = n }) f e) ∙ given))
+    go false e = refl
+asked_below server epoch count n c given high = refl
+
+made_below : (server epoch count n : ℕ) (c : Call) → IsOfGiven server epoch count c → count + 1 < n
+    → held_by (asks_made (record { server = server; epoch = epoch; counter = count + 1 }) c) (Whole (record { server = server; epoch = epoch; counter = n })) ≡ None
+made_below server epoch count n (call.CreateFile t start choice) given high =
+    go (eq_by_cmp resource_cmp (Whole (record { server = server; epoch = epoch; counter = n })) (Whole (record { server = server; epoch = epoch; counter = count + 1 }))) refl
+  where
+    go : (b : Bool) → eq_by_cmp resource_cmp (Whole (record { server = server; epoch = epoch; counter = n })) (Whole (record { server = server; epoch = epoch; counter = count + 1 })) ≡ b → cond {A = Option Mode} b (Some Write) None ≡ None
+    go true e =
+        let same : n ≡ count + 1 = ap (λ (f : FileId). f.counter) (whole_file (record { server = server; epoch = epoch; counter = n }) (record { server = server; epoch = epoch; counter = count + 1 }) e) in
+        absurd (omega (arith, high, same))
+    go false e = refl
+made_below server epoch count n c given high = asked_below server epoch count n c given (omega (arith, high))
+
+-- no file beyond the count is among what is kept
+pub given_below : (server epoch count n : ℕ) (c : Call) (r : Reply) → IsOfGiven server epoch count c → count_after count r < n
+    → held_by (asks_given (record { server = server; epoch = epoch; counter = count + 1 }) c r) (Whole (record { server = server; epoch = epoch; counter = n })) ≡ None
+given_below server epoch count n c (reply.Created f m) given high = made_below server epoch count n c given high
+given_below server epoch count n c r given high = asked_below server epoch count n c given high
+
+-- a plan of other resources leaves a file to nobody that nobody holds
+joined_none : (b : Bool) (x y : Option Mode) → x ≡ None → y ≡ None → cond {A = Option Mode} b (join_held x y) x ≡ None
+joined_none true x y e f = (λ i. join_held (e i) (f i))
+joined_none false x y e f = e
+
 -- with a plan taken that nobody stood in the way of, and a count that grew by one at most
-pub granted_ready : {V : Type 0} (m : ℕ) (serves : Bool) (k : Kept V) (w : Waiter) (count : ℕ) → count ≤ m → IsPrepared k.locks.held w → blocker k.locks.held w.trans w.rises ≡ None → IsReady m serves k
-    → IsReady m serves (record k { given = count; locks = with_plan k.locks w })
-granted_ready m serves k w count low prepared free h = record {
+pub granted_ready : {V : Type 0} (m : ℕ) (serves : Bool) (k : Kept V) (w : Waiter) (count : ℕ) → k.given ≤ count → count ≤ m → IsPrepared k.locks.held w → blocker k.locks.held w.trans w.rises ≡ None
+    → ((n : ℕ) → count < n → held_by w.needs (numbered k n) ≡ None) → IsReady m serves k → IsReady m serves (record k { given = count; locks = with_plan k.locks w })
+granted_ready m serves k w count more low prepared free others h = record {
   serving = h.serving;
   sound = grant-sound k.locks w prepared h.sound free (ap (λ (ws : List Waiter). waits ws w.trans) h.alone);
   alone = granted_waiting k.locks w.trans w.rises w.after ∙ h.alone;
@@ -489,4 +578,6 @@ granted_ready m serves k w count low prepared free h = record {
   drawn = h.drawn;
   given = low;
   committed = h.committed;
+  unheld = λ u n high. all-of-plan k.locks w u (numbered k n) prepared
+      ∙ joined_none (eq_by_cmp trans_cmp u w.trans) (holding k.locks.held u (numbered k n)) (held_by w.needs (numbered k n)) (h.unheld u n (omega (arith, more, high))) (others n high);
 }

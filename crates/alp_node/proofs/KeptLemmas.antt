@@ -14,7 +14,7 @@ use Rattle.alp_files.specs.declared.reply.Reply.{Reply}
 use Rattle.alp_files.specs.declared.reply.Reply.TheVariants as reply
 use Rattle.alp_files.specs.declared.refusal.Refusal.{Refusal}
 use Rattle.alp_files.specs.declared.refusal.Refusal.TheVariants as refusal
-use Rattle.alp_files.specs.declared.refusal.Cause.{Cause}
+use Rattle.alp_files.specs.declared.refusal.Cause.TheVariants as cause
 use Rattle.alp_files.specs.Act.{no_opens}
 use Rattle.std.specs.List.{list_any}
 use Rattle.std.specs.FinMap.{get-insert, same_map}
@@ -52,12 +52,13 @@ use Rattle.alp_journal.specs.State.{State, Start, Life, same_trans, no_locks, ne
 use Rattle.alp_journal.specs.State as state
 use Rattle.alp_journal.specs.Steps.{Leads}
 use Rattle.alp_journal.specs.Laws.{next_trans, ended_at, AreEarlier}
+use Rattle.alp_journal.specs.Causes.{AnswersOwn, AnswersFinish, AnswersCall, HasCause}
 use Rattle.alp_journal.proofs.StateLemmas.{same_trans-itself, same_trans-true, AreEarlier-push}
 use Rattle.alp_journal.proofs.EntryLemmas.{commit_leads, with_committed, committed, halt_leads, greeting_leads, begin_leads, with_begun, counts_on, passing_leads, abort_leads, without_life, timeout_leads, idle_timeout_leads}
 use Rattle.alp_node.specs.Sessions.{session_at, with_session}
 use Rattle.alp_node.specs.Kept.{IsLife, IsAlike, IsAs, IsReady, told_session, PutNoneBeyond, last_time, notes_at}
 use Rattle.alp_node.specs.Calls.{HaveCauses}
-use Rattle.alp_node.specs.Steps.{Stepped, IsOf, IsTurn, IsHalted, counted_in, without_trans}
+use Rattle.alp_node.specs.Steps.{Stepped, IsOf, IsTimely, IsTurn, IsHalted, seen_in, counted_in, without_trans}
 use Rattle.alp_node.specs.declared.answer.Answer.{Answer}
 use Rattle.alp_node.specs.declared.kept.Kept.{Kept}
 use Rattle.alp_node.specs.declared.lives.Live.{Live}
@@ -65,6 +66,7 @@ use Rattle.alp_node.specs.declared.sessions.Session.{Session}
 use Rattle.alp_node.specs.declared.sessions.Sessions.{Sessions}
 use Rattle.alp_node.specs.declared.sessions.Turn.{Turn}
 use Rattle.alp_node.proofs.ReadyLemmas.{counted_ready, gone_ready}
+use Rattle.alp_node.proofs.CauseLemmas.{own_is}
 use Rattle.alp_node.proofs.MapLemmas.{session_set, session_kept, places_set, get_put, get_gone, tied_same}
 
 -- ---- what holds of lives
@@ -131,6 +133,10 @@ pub of_client : (client : ℕ) (x : Option Live) → IsOf client x → (l : Live
 of_client client None h = absurd h
 of_client client (Some l) h = (l, refl, h)
 
+-- a clock that stands is no later than it may be
+pub stands_timely : (before seen now : ℕ) → before ≡ now → now ≤ max before seen + 1
+stands_timely before seen now same = omega arith
+
 -- there is one, or there is none
 pub none_there : (x : Option Live) → is_some x ≡ false → x ≡ None
 none_there None h = refl
@@ -151,7 +157,7 @@ cond_twice true x y z = refl
 cond_twice false x y z = refl
 
 -- a note does not hang on what it was before
-noted_twice : (ns : Notes) (name a b : List ℕ) → map.insert (map.insert ns name a) name b ≡ map.insert ns name b
+pub noted_twice : (ns : Notes) (name a b : List ℕ) → map.insert (map.insert ns name a) name b ≡ map.insert ns name b
 noted_twice ns name a b = same_map nat_list_cmp_total exact_bytes _ _ (λ q.
     get-insert nat_list_cmp_total (map.insert ns name a) name b q
     ∙ ap (cond (eq_by_cmp text_cmp q name) (Some b)) (get-insert nat_list_cmp_total ns name a q)
@@ -227,6 +233,8 @@ module _ {V : Type 0} (o : Start) (s : State) (held : Contents) (k : Kept V) (cl
           quiet = leads.quiet;
         };
         handed = ap (λ (x : Answer). x.handed) is ∙ sym (ap (λ (x : Answer). x.kept) is);
+        cause = subst (λ (x : Answer). HasCause s (record { event = event.Call client 0 1 (call.Hello name); reply = x.kept; acts = x.acts })) (sym is) (ap (λ (n : ℕ). reply.Welcome n) (sym h.epoch));
+        clock = stands_timely s.clock 0 k.clock h.clock;
       }
 
   -- ---- a new call of a session
@@ -262,12 +270,15 @@ module _ {V : Type 0} (o : Start) (s : State) (held : Contents) (k : Kept V) (cl
 
   -- and as the answer has it
   pub answered : (number : ℕ) (c : Call) (r : Reply) (acts : List Act) (m : State) (new : Kept V) (a : Answer) (then : Contents) → a ≡ record { kept = Some r; handed = Some r; acts = acts } → IsAs o s held k
-      → Leads s (record { event = event.Call client s.epoch number c; reply = Some r; acts = acts }) m → IsAs o m then new → Stepped o s then new (event.Call client k.epoch number c) a
-  answered number c r acts m new a then is h leads kept = record {
+      → Leads s (record { event = event.Call client s.epoch number c; reply = Some r; acts = acts }) m → IsAs o m then new → HasCause s (record { event = event.Call client k.epoch number c; reply = Some r; acts = acts })
+      → IsTimely s.clock (event.Call client k.epoch number c) new.clock → Stepped o s then new (event.Call client k.epoch number c) a
+  answered number c r acts m new a then is h leads kept why timely = record {
     next = m;
     leads = subst (λ (x : Answer). Leads s (record { event = event.Call client k.epoch number c; reply = x.kept; acts = x.acts }) m) (sym is) (with_epoch number c r acts m h leads);
     kept = kept;
     handed = ap (λ (x : Answer). x.handed) is ∙ sym (ap (λ (x : Answer). x.kept) is);
+    cause = subst (λ (x : Answer). HasCause s (record { event = event.Call client k.epoch number c; reply = x.kept; acts = x.acts })) (sym is) why;
+    clock = timely;
   }
 
   -- ---- a transaction begins
@@ -327,16 +338,17 @@ module _ {V : Type 0} (o : Start) (s : State) (held : Contents) (k : Kept V) (cl
           quiet = leads.quiet;
         } in
         answered number (call.Begin seen) (reply.Begun begun_trans) (act.Drawn begun_trans ∷ []) (m begun_trans) (with_begun_kept locks) a held is h leads new_kept
+        (ap (λ (t : TransId). reply.Begun t) (sym (trans_same h))) (omega (arith, h.clock))
 
   -- ---- a call that is refused and not performed
 
   pub passing_stepped : (w : Session) (number : ℕ) (c : Call) (f : Refusal) (a : Answer) → IsAs o s held k → client ≤ 16 → session_at k.sessions client ≡ Some w → number ≡ w.last + 1
       → state.kind_of c ≡ state.Plain → state.is_not_yet (reply.Refused f) ≡ false → state.done_by s c (reply.Refused f) (state.file_trans c) ≡ None → ended_at s client s.epoch number c (reply.Refused f) ≡ []
-      → a ≡ record { kept = Some (reply.Refused f); handed = Some (reply.Refused f); acts = [] } → Stepped o s held (counted w number) (event.Call client k.epoch number c) a
-  passing_stepped w number c f a h le there turn plain now none ends is =
+      → AnswersCall s client c (reply.Refused f) → a ≡ record { kept = Some (reply.Refused f); handed = Some (reply.Refused f); acts = [] } → Stepped o s held (counted w number) (event.Call client k.epoch number c) a
+  passing_stepped w number c f a h le there turn plain now none ends why is =
       answered number c (reply.Refused f) [] (counts_on s client number (told_session w)) (counted w number) a held is h
       (passing_leads s client number (told_session w) c f h.quiet (told_turn o s held k client w h there) turn plain now none ends)
-      (counts_as w number h le)
+      (counts_as w number h le) why (stands_timely s.clock (seen_in (event.Call client k.epoch number c)) k.clock h.clock)
 
   -- ---- a part ends
 
@@ -351,14 +363,18 @@ module _ {V : Type 0} (o : Start) (s : State) (held : Contents) (k : Kept V) (cl
   gone_unborn : (t : TransId) → IsAs o s held k → (u : TransId) (l : Life) → cond {A = Option Life} (same_trans u t) None (s.lives u) ≡ Some l → PutNoneBeyond s.server s.epoch k.given l.edits
   gone_unborn t h = each_set (λ l. PutNoneBeyond s.server s.epoch k.given l.edits) t None s.lives h.unborn (λ l is. let wrong : None ≡ Some l = is in cc)
 
-  pub abort_stepped : (w : Session) (number : ℕ) (t : TransId) (l : Live) (commit : Bool) (cause : Cause) (a : Answer) → IsAs o s held k → client ≤ 16 → k.locks.waiting ≡ []
+  -- the answer to the end of a live transaction of the client
+  finish_cause : (t : TransId) (life : Life) (commit : Bool) (r : Reply) → s.lives t ≡ Some life → life.client ≡ client → AnswersFinish s t commit r → AnswersCall s client (call.Finish t commit) r
+  finish_cause t life commit r is own why = subst (λ (y : Option Life). AnswersOwn y r (λ _. AnswersFinish s t commit r)) (sym (own_is client (s.lives t) life is own)) why
+
+  pub abort_stepped : (w : Session) (number : ℕ) (t : TransId) (l : Live) (a : Answer) → IsAs o s held k → client ≤ 16 → k.locks.waiting ≡ []
       → session_at k.sessions client ≡ Some w → number ≡ w.last + 1 → map.get k.lives t ≡ Some l → l.client ≡ client
-      → a ≡ record { kept = Some (reply.Refused (refusal.Aborted cause)); handed = Some (reply.Refused (refusal.Aborted cause)); acts = act.Released t ∷ [] }
-      → Stepped o s held (without_trans (counted w number) t) (event.Call client k.epoch number (call.Finish t commit)) a
-  abort_stepped w number t l commit cause a h le alone there turn live own is =
+      → a ≡ record { kept = Some (reply.Refused (refusal.Aborted cause.Asked)); handed = Some (reply.Refused (refusal.Aborted cause.Asked)); acts = act.Released t ∷ [] }
+      → Stepped o s held (without_trans (counted w number) t) (event.Call client k.epoch number (call.Finish t false)) a
+  abort_stepped w number t l a h le alone there turn live own is =
       let x : IsLive k.locks.held t l (s.lives t) = live_there k.locks.held t (map.get k.lives t) (s.lives t) l live (h.lives t) in
-      let leads = abort_leads s client number (told_session w) t x.life commit cause h.quiet (told_turn o s held k client w h there) turn x.is (x.alike.client ∙ own) in
-      answered number (call.Finish t commit) (reply.Refused (refusal.Aborted cause)) (act.Released t ∷ []) (without_life s client number (told_session w) t x.life) (without_trans (counted w number) t) a held is h leads
+      let leads = abort_leads s client number (told_session w) t x.life false cause.Asked h.quiet (told_turn o s held k client w h there) turn x.is (x.alike.client ∙ own) in
+      answered number (call.Finish t false) (reply.Refused (refusal.Aborted cause.Asked)) (act.Released t ∷ []) (without_life s client number (told_session w) t x.life) (without_trans (counted w number) t) a held is h leads
       (record {
         server = h.server;
         epoch = h.epoch;
@@ -376,6 +392,7 @@ module _ {V : Type 0} (o : Start) (s : State) (held : Contents) (k : Kept V) (cl
         committed = h.committed;
         quiet = leads.quiet;
       })
+      (finish_cause t x.life false (reply.Refused (refusal.Aborted cause.Asked)) x.is (x.alike.client ∙ own) refl) (stands_timely s.clock 0 k.clock h.clock)
 
   -- ---- time runs out
 
@@ -405,6 +422,8 @@ module _ {V : Type 0} (o : Start) (s : State) (held : Contents) (k : Kept V) (cl
           quiet = leads.quiet;
         };
         handed = ap (λ (y : Answer). y.handed) is ∙ sym (ap (λ (y : Answer). y.kept) is);
+        cause = subst (λ (y : Answer). HasCause s (record { event = event.Timeout t; reply = y.kept; acts = y.acts })) (sym is) refl;
+        clock = stands_timely s.clock 0 k.clock h.clock;
       }
 
   pub idle_stepped : (t : TransId) (a : Answer) → IsAs o s held k → map.get k.lives t ≡ None → a ≡ record { kept = None; handed = None; acts = [] } → Stepped o s held k (event.Timeout t) a
@@ -413,6 +432,8 @@ module _ {V : Type 0} (o : Start) (s : State) (held : Contents) (k : Kept V) (cl
     leads = subst (λ (y : Answer). Leads s (record { event = event.Timeout t; reply = y.kept; acts = y.acts }) s) (sym is) (idle_timeout_leads s t h.quiet (none_live k.locks.held t (map.get k.lives t) (s.lives t) none (h.lives t)));
     kept = h;
     handed = ap (λ (y : Answer). y.handed) is ∙ sym (ap (λ (y : Answer). y.kept) is);
+    cause = subst (λ (y : Answer). HasCause s (record { event = event.Timeout t; reply = y.kept; acts = y.acts })) (sym is) refl;
+    clock = stands_timely s.clock 0 k.clock h.clock;
   }
 
   -- ---- a commit
@@ -425,11 +446,11 @@ module _ {V : Type 0} (o : Start) (s : State) (held : Contents) (k : Kept V) (cl
     committed_kept = record (without_trans (counted w number) t) { clock = k.clock + 1; committed = k.committed + 1; vault = v }
 
     pub commit_stepped : (a : Answer) (then : Contents) → IsAs o s held k → k.is_down ≡ false → client ≤ 16 → k.locks.waiting ≡ [] → session_at k.sessions client ≡ Some w → number ≡ w.last + 1
-        → map.get k.lives t ≡ Some l → map.get then.cells ≡ over l.part.intents (map.get held.cells)
+        → map.get k.lives t ≡ Some l → l.client ≡ client → map.get then.cells ≡ over l.part.intents (map.get held.cells)
         → then.notes ≡ map.insert held.notes clock_name (clock_form.spell (record { epoch = k.epoch; clock = k.clock + 1 }))
         → a ≡ record { kept = Some (reply.Committed commit_stamp); handed = Some (reply.Committed commit_stamp); acts = act.Decided commit_stamp [] ∷ act.Released t ∷ [] }
         → Stepped o s then committed_kept (event.Call client k.epoch number (call.Finish t true)) a
-    commit_stepped a then h up le alone there turn live cells notes is =
+    commit_stepped a then h up le alone there turn live own cells notes is =
         let x : IsLive k.locks.held t l (s.lives t) = live_there k.locks.held t (map.get k.lives t) (s.lives t) l live (h.lives t) in
         let es : List Edit = x.life.edits in
         let ts : ℕ = k.clock + 1 in
@@ -463,14 +484,15 @@ module _ {V : Type 0} (o : Start) (s : State) (held : Contents) (k : Kept V) (cl
           committed = omega (arith, length-append s.decided ((commit_stamp, committed s client number (told_session w) t x.life ts) ∷ []), h.committed);
           quiet = leads.quiet;
         })
+        (finish_cause t x.life true (reply.Committed commit_stamp) x.is (x.alike.client ∙ own) (ap (λ (n : ℕ). reply.Committed (record { ts = n + 1; trans = t })) (sym h.clock))) (omega (arith, h.clock))
 
   -- ---- the vault failed or was stopped
 
   pub halt_stepped : (w : Session) (number : ℕ) (c : Call) (f : Refusal) (acts : List Act) (v : V) (a : Answer) (then : Contents) → list_any is_stop acts ≡ true → IsAs o s held k → client ≤ 16
       → session_at k.sessions client ≡ Some w → number ≡ w.last + 1 → state.kind_of c ≡ state.Plain → state.is_not_yet (reply.Refused f) ≡ false
-      → state.done_by s c (reply.Refused f) (state.file_trans c) ≡ None → a ≡ record { kept = Some (reply.Refused f); handed = Some (reply.Refused f); acts = acts }
+      → state.done_by s c (reply.Refused f) (state.file_trans c) ≡ None → HasCause s (record { event = event.Call client k.epoch number c; reply = Some (reply.Refused f); acts = acts }) → a ≡ record { kept = Some (reply.Refused f); handed = Some (reply.Refused f); acts = acts }
       → Stepped o s then (record (counted w number) { is_down = true; vault = v }) (event.Call client k.epoch number c) a
-  halt_stepped w number c f acts v a then stop h le there turn plain now none is =
+  halt_stepped w number c f acts v a then stop h le there turn plain now none why is =
       let leads = halt_leads s client number (told_session w) c f acts stop h.quiet (told_turn o s held k client w h there) turn plain now none in
       let never : true ≡ false → ⊥ = λ e. cc in
       answered number c (reply.Refused f) acts (record (counts_on s client number (told_session w)) { pending = acts }) (record (counted w number) { is_down = true; vault = v }) a then is h leads
@@ -491,6 +513,7 @@ module _ {V : Type 0} (o : Start) (s : State) (held : Contents) (k : Kept V) (cl
         committed = h.committed;
         quiet = leads.quiet;
       })
+      why (stands_timely s.clock (seen_in (event.Call client k.epoch number c)) k.clock h.clock)
 
   -- the same of an answer that says so
   pub halted_stepped : (w : Session) (number : ℕ) (c : Call) (v : V) (then : Contents) (fault : CallFault) (r : Result Answer OutOfMemory) (new : Kept V) → IsAs o s held k → client ≤ 16
@@ -502,8 +525,8 @@ module _ {V : Type 0} (o : Start) (s : State) (held : Contents) (k : Kept V) (cl
       subst (λ (x : Kept V). Stepped o s then x (event.Call client k.epoch number c) a) (sym down) (go fault is)
     where
       go : (f : CallFault) → IsHalted f a → Stepped o s then (record (counted w number) { is_down = true; vault = v }) (event.Call client k.epoch number c) a
-      go call_fault.Failed is = halt_stepped w number c refusal.ReadFault (act.Failed ∷ []) v a then refl h le there turn plain refl none_fault is
-      go call_fault.Stopped is = halt_stepped w number c refusal.Down (act.Stopped ∷ []) v a then refl h le there turn plain refl none_down is
+      go call_fault.Failed is = halt_stepped w number c refusal.ReadFault (act.Failed ∷ []) v a then refl h le there turn plain refl none_fault refl is
+      go call_fault.Stopped is = halt_stepped w number c refusal.Down (act.Stopped ∷ []) v a then refl h le there turn plain refl none_down refl is
       go call_fault.OutOfMemory is = absurd is
 
 -- a halt has its cause
@@ -522,7 +545,7 @@ halted_cause {V} faults allowance before fault (Ok a) new so failed stopped is d
 -- after want of memory it is ready as before, where the vault serves on
 pub ready_in : {V : Type 0} (n : ℕ) (before serves : Bool) (k : Kept V) (v : V) → IsTrue serves → IsReady n before k → IsReady n serves (record k { vault = v })
 ready_in n before serves k v on h =
-    record { serving = λ _. on; sound = h.sound; alone = h.alone; known = h.known; begun = h.begun; opens = h.opens; places = h.places; calls = h.calls; drawn = h.drawn; given = h.given; committed = h.committed }
+    record { serving = λ _. on; sound = h.sound; alone = h.alone; known = h.known; begun = h.begun; opens = h.opens; places = h.places; calls = h.calls; drawn = h.drawn; given = h.given; committed = h.committed; unheld = h.unheld }
 
 pub halted_still : {V : Type 0} (serves : V → Bool) (before : Bool) (n : ℕ) (k : Kept V) (v : V) (fault : CallFault) (r : Result Answer OutOfMemory) (new : Kept V) → (fault ≡ call_fault.OutOfMemory → IsTrue (serves v)) → IsReady n before k
     → OnErr r (fault ≡ call_fault.OutOfMemory) → OnErr r (new ≡ record k { vault = v }) → OnErr r (IsReady n (serves new.vault) new)
@@ -548,6 +571,7 @@ halted_ready {V} n before serves k v turn (Ok a) new is h down =
       drawn = c.drawn;
       given = c.given;
       committed = c.committed;
+      unheld = c.unheld;
     })
 
 -- a commit leaves it ready
@@ -567,4 +591,5 @@ commit_ready n before serves k v turn t on is h =
       drawn = c.drawn;
       given = c.given;
       committed = omega (arith, h.committed);
+      unheld = c.unheld;
     }

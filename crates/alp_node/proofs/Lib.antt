@@ -1,9 +1,13 @@
 pub mod MapLemmas
+pub mod CauseLemmas
 pub mod KeptLemmas
+pub mod NodeLemmas
+pub mod StartLemmas
 pub mod ReadyLemmas
 pub mod CallLemmas
 pub mod PageLemmas
 pub mod PerformLemmas
 pub mod LockLemmas
+pub mod ConflictLemmas
 pub mod GrantLemmas
 pub mod AskLemmas

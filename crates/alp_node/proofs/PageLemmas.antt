@@ -1,4 +1,4 @@
--- calls on the pages of an open: their file's lock is enough, and they leave the opens alone
+-- calls on the pages of an open: their file's lock gives what they need, and they leave the opens alone
 use Rattle.std.specs.Prelude.{cond, Bool, true, false, ◌==◌, nat_lt, IsTrue, Option, None, Some, zero, suc, find}
 use Rattle.std.specs.List.{AllByRecursion}
 use Rattle.std.specs.Option.{option_and_then}
@@ -7,6 +7,7 @@ use Rattle.alp_base.specs.declared.ids.FileId.{FileId}
 use Rattle.alp_base.specs.declared.ids.Run.{Run}
 use Rattle.alp_base.specs.declared.key.Key.{Key}
 use Rattle.alp_base.specs.declared.key.Key.TheVariants.{Leader, PageOf}
+use Rattle.alp_base.specs.declared.key.Resource.{Resource}
 use Rattle.alp_base.specs.declared.key.Resource.TheVariants.{Whole, Leaf}
 use Rattle.alp_base.specs.declared.choices.Access.{Access}
 use Rattle.alp_base.specs.declared.choices.Access.TheVariants.{ReadOnly, Change}
@@ -14,6 +15,7 @@ use Rattle.alp_modes.specs.declared.Mode.{Mode}
 use Rattle.alp_modes.specs.declared.Mode.TheVariants.{IntendRead, IntendWrite, Read, Update, ReadIntendWrite, Write}
 use Rattle.alp_modes.specs.Modes.{covers_of, leaf_of}
 use Rattle.alp_modes.specs.Holdings.{Holding, covers_held, file_of, given_to}
+use Rattle.alp_modes.proofs.HoldingLemmas.{none-right}
 use Rattle.alp_files.specs.declared.cell.Props.{Props}
 use Rattle.alp_files.specs.declared.open.Open.{Open}
 use Rattle.alp_files.specs.declared.call.Call.{Call}
@@ -24,7 +26,7 @@ use Rattle.alp_files.specs.declared.refusal.Refusal.{Refusal}
 use Rattle.alp_files.specs.declared.refusal.Refusal.TheVariants as refusal
 use Rattle.alp_files.specs.Cells.{View, props_in}
 use Rattle.alp_files.specs.Act.{Own, Answer, Look, run, answer, id_in, open_at, on_open, on_props, on_change, if_change, read_pages, write_pages, ask_pages, page_past, unless, refused, told, page_puts, mark_put}
-use Rattle.alp_files.specs.Locks.{Need, HoldsOn, HoldsEach, needs_of, needs_on_open, needs_there, needs_on_change, needs_if_change, page_needs, page_limit, mark_needs}
+use Rattle.alp_files.specs.Locks.{Need, HoldsOn, HoldsEach, needs_of, needs_on_open, needs_there, needs_on_change, needs_if_change, page_needs, page_limit, mark_needs, whole_of, wholes_of, asked_on, asked_each, intention_on, joined, request_of, granted}
 use Rattle.alp_files.proofs.CoverLemmas.{right-above}
 use Rattle.alp_node.specs.Calls.{IsPageCall}
 use Rattle.alp_node.specs.Kept.{IsLocked, mode_for}
@@ -70,22 +72,28 @@ locked_reads held op h = go op.access h
     go ReadOnly h = h
     go Change h = of_some (held (Whole op.file)) Write (λ x. covers_held x Read ≡ true) write_reads h
 
+-- a need on a leaf that the lock on its file gives
+abbrev IsGiven : Holding → Resource → Mode → Type 0
+IsGiven held (Whole f) m = ⊥
+IsGiven held (Leaf q) m = covers_held (given_to held q) m ≡ true
+
+abbrev AreGiven : Holding → List Need → Type 0
+AreGiven held ns = AllByRecursion (λ n. IsGiven held n.0 n.1) ns
+
 -- the lock on a file on each of its leaves
-on_leaf_read : (held : Holding) (f : FileId) (q : Key) → file_of q ≡ Some f → covers_held (held (Whole f)) Read ≡ true → HoldsOn held (Leaf q) Read
+on_leaf_read : (held : Holding) (f : FileId) (q : Key) → file_of q ≡ Some f → covers_held (held (Whole f)) Read ≡ true → IsGiven held (Leaf q) Read
 on_leaf_read held f q in_file h =
-    right-above (held (Leaf q)) (given_to held q) Read
-    (ap (λ (x : Option FileId). covers_held (option_and_then leaf_of (option_and_then (λ g. held (Whole g)) x)) Read) in_file ∙ of_some (held (Whole f)) Read (λ x. covers_held (option_and_then leaf_of x) Read ≡ true) gives_read h)
+    ap (λ (x : Option FileId). covers_held (option_and_then leaf_of (option_and_then (λ g. held (Whole g)) x)) Read) in_file ∙ of_some (held (Whole f)) Read (λ x. covers_held (option_and_then leaf_of x) Read ≡ true) gives_read h
 
-on_leaf_write : (held : Holding) (f : FileId) (q : Key) → file_of q ≡ Some f → covers_held (held (Whole f)) Write ≡ true → HoldsOn held (Leaf q) Write
+on_leaf_write : (held : Holding) (f : FileId) (q : Key) → file_of q ≡ Some f → covers_held (held (Whole f)) Write ≡ true → IsGiven held (Leaf q) Write
 on_leaf_write held f q in_file h =
-    right-above (held (Leaf q)) (given_to held q) Write
-    (ap (λ (x : Option FileId). covers_held (option_and_then leaf_of (option_and_then (λ g. held (Whole g)) x)) Write) in_file ∙ of_some (held (Whole f)) Write (λ x. covers_held (option_and_then leaf_of x) Write ≡ true) gives_write h)
+    ap (λ (x : Option FileId). covers_held (option_and_then leaf_of (option_and_then (λ g. held (Whole g)) x)) Write) in_file ∙ of_some (held (Whole f)) Write (λ x. covers_held (option_and_then leaf_of x) Write ≡ true) gives_write h
 
-pages_held : (held : Holding) (f : FileId) (m : Mode) → ((q : Key) → file_of q ≡ Some f → HoldsOn held (Leaf q) m) → (n first : ℕ) → HoldsEach held (page_needs f first n m)
-pages_held held f m each zero first = tt
-pages_held held f m each (suc n) first = go (nat_lt first page_limit) (pages_held held f m each n (first + 1))
+pages_given : (held : Holding) (f : FileId) (m : Mode) → ((q : Key) → file_of q ≡ Some f → IsGiven held (Leaf q) m) → (n first : ℕ) → AreGiven held (page_needs f first n m)
+pages_given held f m each zero first = tt
+pages_given held f m each (suc n) first = go (nat_lt first page_limit) (pages_given held f m each n (first + 1))
   where
-    go : (b : Bool) → HoldsEach held (page_needs f (first + 1) n m) → HoldsEach held (cond {A = List Need} b ((Leaf (PageOf f first), m) ∷ page_needs f (first + 1) n m) [])
+    go : (b : Bool) → AreGiven held (page_needs f (first + 1) n m) → AreGiven held (cond {A = List Need} b ((Leaf (PageOf f first), m) ∷ page_needs f (first + 1) n m) [])
     go true more = (each (PageOf f first) refl, more)
     go false more = tt
 
@@ -101,63 +109,103 @@ found_locked held (x ∷ os) n h op = go (x.number == n) (found_locked held os n
     go true later e = subst (IsLocked held) (same_open x op e) h.0
     go false later e = later e
 
-each-append : (held : Holding) (ns ms : List Need) → HoldsEach held ns → HoldsEach held ms → HoldsEach held (ns ++ ms)
+each-append : (held : Holding) (ns ms : List Need) → AreGiven held ns → AreGiven held ms → AreGiven held (ns ++ ms)
 each-append held [] ms h j = j
 each-append held (n ∷ ns) ms h j = (h.0, each-append held ns ms h.1 j)
 
--- the locks of a call on pages are held where its opens are locked
-pub page_held : (held : Holding) (m : View) (own : Own) (c : Call) → IsPageCall c → AllByRecursion (IsLocked held) own.opens → HoldsEach held (needs_of m own c)
-page_held held m own (call.ReadPages t n r mode choice) is h =
+-- the locks of a call on pages are given where its opens are locked
+page_given : (held : Holding) (m : View) (own : Own) (c : Call) → IsPageCall c → AllByRecursion (IsLocked held) own.opens → AreGiven held (needs_of m own c)
+page_given held m own (call.ReadPages t n r mode choice) is h =
     go (open_at own.opens n) (found_locked held own.opens n h)
   where
-    there : (op : Open) (x : Option Props) → IsLocked held op → HoldsEach held (needs_there x (λ p. page_needs op.file r.first r.count mode))
+    there : (op : Open) (x : Option Props) → IsLocked held op → AreGiven held (needs_there x (λ p. page_needs op.file r.first r.count mode))
     there op None k = tt
-    there op (Some p) k = subst (λ (y : Mode). HoldsEach held (page_needs op.file r.first r.count y)) (sym is) (pages_held held op.file Read (λ q e. on_leaf_read held op.file q e (locked_reads held op k)) r.count r.first)
+    there op (Some p) k = subst (λ (y : Mode). AreGiven held (page_needs op.file r.first r.count y)) (sym is) (pages_given held op.file Read (λ q e. on_leaf_read held op.file q e (locked_reads held op k)) r.count r.first)
 
-    go : (x : Option Open) → ((op : Open) → x ≡ Some op → IsLocked held op) → HoldsEach held (needs_on_open m x (λ op p. page_needs op.file r.first r.count mode))
+    go : (x : Option Open) → ((op : Open) → x ≡ Some op → IsLocked held op) → AreGiven held (needs_on_open m x (λ op p. page_needs op.file r.first r.count mode))
     go None locked = tt
     go (Some op) locked = there op (props_in (m (Leader op.file))) (locked op refl)
-page_held held m own (call.WritePages t n r pages choice) is h =
+page_given held m own (call.WritePages t n r pages choice) is h =
     go (open_at own.opens n) (found_locked held own.opens n h)
   where
-    marks : (op : Open) (p : Props) → ((q : Key) → file_of q ≡ Some op.file → HoldsOn held (Leaf q) Write) → HoldsEach held (mark_needs op.file p (r.first + r.count))
+    marks : (op : Open) (p : Props) → ((q : Key) → file_of q ≡ Some op.file → IsGiven held (Leaf q) Write) → AreGiven held (mark_needs op.file p (r.first + r.count))
     marks op p each = mark (nat_lt p.high_water (r.first + r.count))
       where
-        mark : (b : Bool) → HoldsEach held (cond {A = List Need} b ((Leaf (Leader op.file), Write) ∷ []) [])
+        mark : (b : Bool) → AreGiven held (cond {A = List Need} b ((Leaf (Leader op.file), Write) ∷ []) [])
         mark true = (each (Leader op.file) refl, tt)
         mark false = tt
 
     writes : (op : Open) (a : Access) (p : Props) → covers_held (held (Whole op.file)) (mode_for a) ≡ true
-        → HoldsEach held (needs_if_change a (mark_needs op.file p (r.first + r.count) ++ page_needs op.file r.first r.count Write))
+        → AreGiven held (needs_if_change a (mark_needs op.file p (r.first + r.count) ++ page_needs op.file r.first r.count Write))
     writes op ReadOnly p k = tt
     writes op Change p k =
         each-append held (mark_needs op.file p (r.first + r.count)) (page_needs op.file r.first r.count Write) (marks op p (λ q e. on_leaf_write held op.file q e k))
-        (pages_held held op.file Write (λ q e. on_leaf_write held op.file q e k) r.count r.first)
+        (pages_given held op.file Write (λ q e. on_leaf_write held op.file q e k) r.count r.first)
 
-    there : (op : Open) (x : Option Props) → IsLocked held op → HoldsEach held (needs_there x (λ p. needs_if_change op.access (mark_needs op.file p (r.first + r.count) ++ page_needs op.file r.first r.count Write)))
+    there : (op : Open) (x : Option Props) → IsLocked held op → AreGiven held (needs_there x (λ p. needs_if_change op.access (mark_needs op.file p (r.first + r.count) ++ page_needs op.file r.first r.count Write)))
     there op None k = tt
     there op (Some p) k = writes op op.access p k
 
-    go : (x : Option Open) → ((op : Open) → x ≡ Some op → IsLocked held op) → HoldsEach held (needs_on_change m x (λ op p. mark_needs op.file p (r.first + r.count) ++ page_needs op.file r.first r.count Write))
+    go : (x : Option Open) → ((op : Open) → x ≡ Some op → IsLocked held op) → AreGiven held (needs_on_change m x (λ op p. mark_needs op.file p (r.first + r.count) ++ page_needs op.file r.first r.count Write))
     go None locked = tt
     go (Some op) locked = there op (props_in (m (Leader op.file))) (locked op refl)
-page_held held m own (call.Hello name) is h = absurd is
-page_held held m own (call.Begin seen) is h = absurd is
-page_held held m own (call.Join t) is h = absurd is
-page_held held m own (call.CreateFile t start choice) is h = absurd is
-page_held held m own (call.OpenFile t f a mode choice) is h = absurd is
-page_held held m own (call.CloseFile t n) is h = absurd is
-page_held held m own (call.DeleteFile t n choice) is h = absurd is
-page_held held m own (call.LockPages t n r mode choice) is h = absurd is
-page_held held m own (call.SetSize t n size choice) is h = absurd is
-page_held held m own (call.ReadProps t n) is h = absurd is
-page_held held m own (call.WriteProps t n change choice) is h = absurd is
-page_held held m own (call.ReadOwner t name choice) is h = absurd is
-page_held held m own (call.MakeOwner t name quota create choice) is h = absurd is
-page_held held m own (call.SetQuota t name quota choice) is h = absurd is
-page_held held m own (call.Finish t commit) is h = absurd is
-page_held held m own (call.Outcome t) is h = absurd is
-page_held held m own (call.Collect n) is h = absurd is
+page_given held m own (call.Hello name) is h = absurd is
+page_given held m own (call.Begin seen) is h = absurd is
+page_given held m own (call.Join t) is h = absurd is
+page_given held m own (call.CreateFile t start choice) is h = absurd is
+page_given held m own (call.OpenFile t f a mode choice) is h = absurd is
+page_given held m own (call.CloseFile t n) is h = absurd is
+page_given held m own (call.DeleteFile t n choice) is h = absurd is
+page_given held m own (call.LockPages t n r mode choice) is h = absurd is
+page_given held m own (call.SetSize t n size choice) is h = absurd is
+page_given held m own (call.ReadProps t n) is h = absurd is
+page_given held m own (call.WriteProps t n change choice) is h = absurd is
+page_given held m own (call.ReadOwner t name choice) is h = absurd is
+page_given held m own (call.MakeOwner t name quota create choice) is h = absurd is
+page_given held m own (call.SetQuota t name quota choice) is h = absurd is
+page_given held m own (call.Finish t commit) is h = absurd is
+page_given held m own (call.Outcome t) is h = absurd is
+page_given held m own (call.Collect n) is h = absurd is
+
+-- so they are held
+given_holds : (held : Holding) (r : Resource) (m : Mode) → IsGiven held r m → HoldsOn held r m
+given_holds held (Whole f) m h = absurd h
+given_holds held (Leaf q) m h = right-above (held (Leaf q)) (given_to held q) m h
+
+given_each : (held : Holding) (ns : List Need) → AreGiven held ns → HoldsEach held ns
+given_each held [] h = tt
+given_each held (n ∷ ns) h = (given_holds held n.0 n.1 h.0, given_each held ns h.1)
+
+pub page_held : (held : Holding) (m : View) (own : Own) (c : Call) → IsPageCall c → AllByRecursion (IsLocked held) own.opens → HoldsEach held (needs_of m own c)
+page_held held m own c is h = given_each held (needs_of m own c) (page_given held m own c is h)
+
+-- and nothing is asked for them
+none_whole : (held : Holding) (r : Resource) (m : Mode) → IsGiven held r m → whole_of r m ≡ []
+none_whole held (Whole f) m h = absurd h
+none_whole held (Leaf q) m h = refl
+
+none_wholes : (held : Holding) (ns : List Need) → AreGiven held ns → wholes_of ns ≡ []
+none_wholes held [] h = refl
+none_wholes held (n ∷ ns) h = ap (λ (x : List Need). x ++ wholes_of ns) (none_whole held n.0 n.1 h.0) ∙ none_wholes held ns h.1
+
+none_asked_on : (held : Holding) (r : Resource) (m : Mode) → IsGiven held r m → asked_on held r m ≡ []
+none_asked_on held (Whole f) m h = absurd h
+none_asked_on held (Leaf q) m h = ap (λ (b : Bool). cond {A = List Need} b [] ((Leaf q, m) ∷ intention_on (file_of q) m)) h
+
+none_asked : (held : Holding) (ns : List Need) → AreGiven held ns → asked_each held ns ≡ []
+none_asked held [] h = refl
+none_asked held (n ∷ ns) h = ap (λ (x : List Need). x ++ asked_each held ns) (none_asked_on held n.0 n.1 h.0) ∙ none_asked held ns h.1
+
+nothing_joined : (held : Holding) → joined held [] ≡ held
+nothing_joined held = λ i r. none-right (held r) i
+
+-- what is held then is what was held
+pub page_granted : (held : Holding) (m : View) (own : Own) (c : Call) → IsPageCall c → AllByRecursion (IsLocked held) own.opens → granted held (needs_of m own c) ≡ held
+page_granted held m own c is h =
+    let ns : List Need = needs_of m own c in
+    let given : AreGiven held ns = page_given held m own c is h in
+    let none : request_of held ns ≡ [] = ap (λ (x : List Need). asked_each (joined held x) ns) (none_wholes held ns given) ∙ ap (λ (x : Holding). asked_each x ns) (nothing_joined held) ∙ none_asked held ns given in
+    ap (joined held) none ∙ nothing_joined held
 
 -- ---- what such a call answers
 

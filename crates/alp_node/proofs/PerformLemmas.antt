@@ -33,32 +33,35 @@ use Rattle.alp_journal.specs.declared.act.Act.{Act}
 use Rattle.alp_journal.specs.declared.event.Event.TheVariants as event
 use Rattle.alp_journal.specs.State.{State, Start, Life, Plain, kind_of, file_trans, is_of_no_file, same_trans, view_in, done_by}
 use Rattle.alp_journal.specs.Laws.{ended_at}
+use Rattle.alp_journal.specs.Causes.{is_of_unknown, IsFree, IsFileAnswer}
 use Rattle.alp_journal.proofs.StateLemmas.{same_trans-true}
 use Rattle.alp_journal.proofs.EntryLemmas.{done_leads}
 use Rattle.alp_node.specs.Calls.{Gave, IsPageCall, next_file}
 use Rattle.alp_node.specs.Kept.{IsAs, IsReady, IsLife, IsLocked, told_session}
-use Rattle.alp_node.specs.Steps.{Stepped, IsTurn, counted_in}
+use Rattle.alp_node.specs.Steps.{Stepped, IsTurn, counted_in, seen_in}
 use Rattle.alp_node.specs.declared.answer.Answer.{Answer}
 use Rattle.alp_node.specs.declared.kept.Kept.{Kept}
 use Rattle.alp_node.specs.declared.lives.Live.{Live}
 use Rattle.alp_node.specs.declared.sessions.Sessions.{Sessions}
 use Rattle.alp_node.specs.declared.sessions.Turn.{Turn}
-use Rattle.alp_node.proofs.KeptLemmas.{IsLive, live_there, answered, told_turn}
+use Rattle.alp_node.proofs.CauseLemmas.{file_cause}
+use Rattle.alp_node.proofs.KeptLemmas.{IsLive, live_there, answered, told_turn, stands_timely}
 use Rattle.alp_node.proofs.ReadyLemmas.{turned}
 use Rattle.alp_node.proofs.CallLemmas.{done_kept, performs, gave, after_call, done_as, same_live}
 use Rattle.alp_node.proofs.MapLemmas.{get_put}
-use Rattle.alp_node.proofs.PageLemmas.{LeavesOpens, page_held, page_leaves}
+use Rattle.alp_node.proofs.PageLemmas.{LeavesOpens, page_held, page_granted, page_leaves}
 
 -- a call on pages stands by itself, ends nothing, and opens no file
 pub record IsPlainCall (s : State) (c : Call) (r : Reply) : Type 0 where
   pub kind : kind_of c ≡ Plain
   pub ends : (x : State) (client epoch number : ℕ) → ended_at x client epoch number c r ≡ []
   pub here : is_of_no_file s c r ≡ false
+  pub known : is_of_unknown s c ≡ false
   pub built : IsBuilt c
 
 pub page_plain : (s : State) (c : Call) (r : Reply) → IsPageCall c → IsPlainCall s c r
-page_plain s (call.ReadPages t n run mode choice) r is = record { kind = refl; ends = λ x client epoch number. refl; here = refl; built = tt }
-page_plain s (call.WritePages t n run pages choice) r is = record { kind = refl; ends = λ x client epoch number. refl; here = refl; built = is }
+page_plain s (call.ReadPages t n run mode choice) r is = record { kind = refl; ends = λ x client epoch number. refl; here = refl; known = refl; built = tt }
+page_plain s (call.WritePages t n run pages choice) r is = record { kind = refl; ends = λ x client epoch number. refl; here = refl; known = refl; built = is }
 page_plain s (call.Hello name) r is = absurd is
 page_plain s (call.Begin seen) r is = absurd is
 page_plain s (call.Join t) r is = absurd is
@@ -116,9 +119,12 @@ module _ {V : Type 0} (o : Start) (s : State) (held : Contents) (k : Kept V) (tu
       let opens : AllByRecursion (IsLocked (with_made life.held (id_in r))) (gave o s held k turn t l p c r k.locks v life life.held).own.opens =
       subst (λ (x : Holding). AllByRecursion (IsLocked x) (gave o s held k turn t l p c r k.locks v life life.held).own.opens) (sym under)
       (subst (λ (w : Own). AllByRecursion (IsLocked life.held) w.opens) (sym leaves.own) x.alike.opens) in
+      let free : IsFree s t life c = λ u m at away. subst (DoAgree m.held) (sym (page_granted life.held (view_in s life) life.own c page x.alike.opens)) (h.quiet.agree u t m life at x.is away) in
+      let why : IsFileAnswer s t life c r = IsFileAnswer.performed r plain.known free given.own done.reply (λ f e. let wrong : None ≡ Some f = sym none ∙ e in cc) in
       subst (λ (n : ℕ). Stepped o s then (record (done_kept o s held k turn t l p c r k.locks v) { given = n }) (event.Call turn.client k.epoch turn.number c) a) (count_none k.given r none)
       (answered o s held k turn.client turn.number c r [] (after_call o s held k turn t l p c r k.locks v life life.held) (done_kept o s held k turn t l p c r k.locks v) a then so h leads
-      (done_as o s held k turn t l p c r k.locks v life life.held then h same is there x.is x.alike plain.built given.given done (λ q. ap (λ (x : Holding). x q) under ∙ x.alike.held q) (λ u q away. refl) opens leads.quiet))
+      (done_as o s held k turn t l p c r k.locks v life life.held then h same is there x.is x.alike plain.built given.given done (λ q. ap (λ (x : Holding). x q) under ∙ x.alike.held q) (λ u q away. refl) opens leads.quiet)
+      (file_cause s turn.client c t life r of x.is (x.alike.client ∙ own) why) (stands_timely s.clock (seen_in (event.Call turn.client k.epoch turn.number c)) k.clock h.clock))
 
 -- ---- a server stays ready
 
@@ -154,6 +160,7 @@ module _ {V : Type 0} (n : ℕ) (before serves : Bool) (k : Kept V) (t : TransId
     drawn = omega (arith, h.drawn, le);
     given = omega (arith, h.given, le);
     committed = omega (arith, h.committed, le);
+    unheld = h.unheld;
   }
     where
       at_t : (u : TransId) → same_trans u t ≡ true → map.get k.lives u ≡ Some l

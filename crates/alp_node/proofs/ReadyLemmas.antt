@@ -5,6 +5,7 @@ use Rattle.std.specs.Ordering.{eq_by_cmp}
 use Rattle.std.proofs.Common.{◌≡◌, ℕ, ◌+◌, ◌<◌, ◌≤◌, List, [], ◌∷◌, length, refl, sym, ◌∙◌, ap, subst, arith}
 use Rattle.alp_base.specs.declared.ids.TransId.{TransId}
 use Rattle.alp_base.specs.declared.key.Resource.{Resource}
+use Rattle.alp_base.specs.declared.key.Resource.TheVariants.{Whole}
 use Rattle.alp_modes.specs.Orders.{trans_cmp}
 use Rattle.alp_modes.specs.declared.Mode.{Mode}
 use Rattle.alp_files.specs.Act.{Own, no_opens}
@@ -75,6 +76,22 @@ turned u t e = go (same_trans t u) refl
     go true f = let wrong : true ≡ false = sym (ap (same_trans u) (same_trans-true t u f) ∙ same_trans-itself u) ∙ e in cc
     go false f = refl
 
+-- a file of the server and its epoch, by its counter
+abbrev pub numbered : {V : Type 0} → Kept V → ℕ → Resource
+numbered k m = Whole (record { server = k.server; epoch = k.epoch; counter = m })
+
+-- neither of two holds anything
+none_either : (b : Bool) (x : Option Mode) → x ≡ None → cond {A = Option Mode} b None x ≡ None
+none_either true x e = refl
+none_either false x e = e
+
+-- nobody holds after a release what nobody held before
+released_unheld : (t : Table) (u v : TransId) (r : Resource) → t.waiting ≡ [] → holding t.held v r ≡ None → holding (released t u).held v r ≡ None
+released_unheld t u v r alone none = release-holds t u v r alone ∙ none_either (eq_by_cmp trans_cmp v u) (holding t.held v r) none
+
+entered_unheld : (t : Table) (u v : TransId) (r : Resource) → holding t.held v r ≡ None → holding (entered t u).held v r ≡ None
+entered_unheld t u v r none = ap (λ h. map.get h r) (entering-keeps-held t u v) ∙ none
+
 module _ {V : Type 0} (n : ℕ) (serves : Bool) (k : Kept V) where
   -- a session begins
   pub hello_ready : (client : ℕ) (name : List ℕ) → client ≤ 16 → IsReady n serves k → IsReady (n + 1) serves (record k { sessions = with_session k.sessions client (record { who = name; last = 1 }) })
@@ -90,6 +107,7 @@ module _ {V : Type 0} (n : ℕ) (serves : Bool) (k : Kept V) where
     drawn = omega (arith, h.drawn);
     given = omega (arith, h.given);
     committed = omega (arith, h.committed);
+    unheld = h.unheld;
   }
 
   -- the session counts on
@@ -106,6 +124,7 @@ module _ {V : Type 0} (n : ℕ) (serves : Bool) (k : Kept V) where
     drawn = omega (arith, h.drawn);
     given = omega (arith, h.given);
     committed = omega (arith, h.committed);
+    unheld = h.unheld;
   }
 
   -- one step more
@@ -122,6 +141,7 @@ module _ {V : Type 0} (n : ℕ) (serves : Bool) (k : Kept V) where
     drawn = omega (arith, h.drawn);
     given = omega (arith, h.given);
     committed = omega (arith, h.committed);
+    unheld = h.unheld;
   }
 
   -- a transaction ends
@@ -138,6 +158,7 @@ module _ {V : Type 0} (n : ℕ) (serves : Bool) (k : Kept V) where
     drawn = h.drawn;
     given = h.given;
     committed = h.committed;
+    unheld = λ u m high. released_unheld k.locks t u (numbered k m) h.alone (h.unheld u m high);
   }
     where
       go : (u : TransId) (b : Bool) → same_trans u t ≡ b → (l : Live) → cond {A = Option Live} b None (map.get k.lives u) ≡ Some l → is_some (map.get (released k.locks t).held u) ≡ true
@@ -147,6 +168,14 @@ module _ {V : Type 0} (n : ℕ) (serves : Bool) (k : Kept V) where
       kept : (u : TransId) (b : Bool) (l : Live) (P : Live → Type 0) {Q : Type 0} → (map.get k.lives u ≡ Some l → Q) → cond {A = Option Live} b None (map.get k.lives u) ≡ Some l → Q
       kept u true l P f is = let wrong : None ≡ Some l = is in cc
       kept u false l P f is = f is
+
+  -- the id of the next transaction is new
+  pub next_new : IsReady n serves k → map.get k.lives (record { server = k.server; epoch = k.epoch; counter = k.drawn + 1 }) ≡ None
+  next_new h = go (map.get k.lives (record { server = k.server; epoch = k.epoch; counter = k.drawn + 1 })) refl
+    where
+      go : (x : Option Live) → map.get k.lives (record { server = k.server; epoch = k.epoch; counter = k.drawn + 1 }) ≡ x → x ≡ None
+      go None e = refl
+      go (Some l) e = (let low : k.drawn + 1 ≤ k.drawn = h.begun (record { server = k.server; epoch = k.epoch; counter = k.drawn + 1 }) l e in absurd (omega (arith, low)))
 
   -- a transaction begins
   module _ (turn : Turn) (t : TransId) (l : Live) (clock : ℕ) where
@@ -166,6 +195,7 @@ module _ {V : Type 0} (n : ℕ) (serves : Bool) (k : Kept V) where
       drawn = omega (arith, h.drawn);
       given = omega (arith, h.given);
       committed = omega (arith, h.committed);
+      unheld = λ u m high. entered_unheld k.locks t u (numbered k m) (h.unheld u m high);
     }
       where
         known_so : (u : TransId) (b : Bool) → same_trans u t ≡ b → (x : Live) → cond {A = Option Live} b (Some l) (map.get k.lives u) ≡ Some x → is_some (map.get (entered k.locks t).held u) ≡ true
@@ -196,4 +226,5 @@ module _ {V : Type 0} (n : ℕ) (serves : Bool) (k : Kept V) where
     drawn = h.drawn;
     given = h.given;
     committed = h.committed;
+    unheld = λ u m high. released_unheld (entered k.locks t) t u (numbered k m) h.alone (entered_unheld k.locks t u (numbered k m) (h.unheld u m high));
   }

@@ -109,8 +109,8 @@ pub record IsAs {V : Type 0} (o : Start) (s : State) (held : Contents) (k : Kept
   pub committed : length s.decided ≡ k.committed
   pub quiet : IsQuiet s
 
--- Whatever its vault tells: its vault serves while it is up, the table's locks agree, nobody waits, it knows each live transaction, and no count went
--- further than so many steps.
+-- Whatever its vault tells: its vault serves while it is up, the table's locks agree, nobody waits, it knows each live
+-- transaction, nobody holds a lock on a file that was not made yet, and no count went further than so many steps.
 pub record IsReady {V : Type 0} (steps : ℕ) (serves : Bool) (k : Kept V) : Type 0 where
   pub serving : k.is_down ≡ false → IsTrue serves
   pub sound : IsSound k.locks
@@ -123,3 +123,4 @@ pub record IsReady {V : Type 0} (steps : ℕ) (serves : Bool) (k : Kept V) : Typ
   pub drawn : k.drawn ≤ steps
   pub given : k.given ≤ steps
   pub committed : k.committed ≤ steps
+  pub unheld : (t : TransId) (n : ℕ) → k.given < n → holding k.locks.held t (Whole (record { server = k.server; epoch = k.epoch; counter = n })) ≡ None

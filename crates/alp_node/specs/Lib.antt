@@ -4,3 +4,6 @@ pub mod Asks
 pub mod Halts
 pub mod Calls
 pub mod Steps
+pub mod Served
+pub mod Starts
+pub mod Nodes

@@ -1,16 +1,19 @@
 -- One step of a server.
-use Rattle.std.specs.Prelude.{◌≡◌, ℕ, ◌+◌, ◌≤◌, [], ◌∷◌, Option, None, Some}
+use Rattle.std.specs.Prelude.{◌≡◌, ℕ, ◌+◌, ◌≤◌, ◌==◌, max, Bool, false, [], ◌∷◌, Option, None, Some}
 use Rattle.std.specs.FinMap as map
 use Rattle.alp_base.specs.declared.ids.TransId.{TransId}
 use Rattle.alp_locks.specs.Releases.{released}
+use Rattle.alp_files.specs.declared.call.Call.TheVariants as call
 use Rattle.alp_files.specs.declared.refusal.Refusal.{Refusal}
 use Rattle.alp_files.specs.declared.reply.Reply.TheVariants as reply
 use Rattle.alp_calls.specs.declared.fault.CallFault.{CallFault}
 use Rattle.alp_journal.specs.declared.act.Act.{Act}
 use Rattle.alp_journal.specs.declared.event.Event.{Event}
+use Rattle.alp_journal.specs.declared.event.Event.TheVariants as event
 use Rattle.alp_journal.specs.declared.entry.Entry.{Entry}
 use Rattle.alp_journal.specs.State.{State, Start}
 use Rattle.alp_journal.specs.Steps.{Leads}
+use Rattle.alp_journal.specs.Causes.{HasCause}
 use Rattle.alp_vault.specs.Contents.{Contents}
 use Rattle.alp_node.specs.declared.answer.Answer.{Answer}
 use Rattle.alp_node.specs.declared.kept.Kept.{Kept}
@@ -25,13 +28,24 @@ use Rattle.alp_node.specs.Kept.{IsAs}
 abbrev pub entry_of : Event → Answer → Entry
 entry_of e a = record { event = e; reply = a.kept; acts = a.acts }
 
--- The entry of the answered event is lawful, the server keeps what its state says then, and what is handed out is what
--- the entry keeps.
+-- the time that a client saw, where it begins a transaction
+abbrev pub seen_in : Event → ℕ
+seen_in (event.Call client epoch number (call.Begin seen)) = seen.ts
+seen_in _ = 0
+
+-- in an event the clock comes to one more than the greater of what it was and what the client saw, at most
+abbrev pub IsTimely : ℕ → Event → ℕ → Type 0
+IsTimely before e now = now ≤ max before (seen_in e) + 1
+
+-- The entry of the answered event is lawful, the server keeps what its state says then, what is handed out is what the
+-- entry keeps, the answer has its cause, and the clock goes no further than it has to.
 pub record Stepped {V : Type 0} (o : Start) (s : State) (held : Contents) (new : Kept V) (e : Event) (a : Answer) : Type 0 where
   pub next : State
   pub leads : Leads s (entry_of e a) next
   pub kept : IsAs o next held new
   pub handed : a.handed ≡ a.kept
+  pub cause : HasCause s (entry_of e a)
+  pub clock : IsTimely s.clock e new.clock
 
 -- it is the session's next call
 pub record IsTurn (sessions : Sessions) (t : Turn) : Type 0 where
@@ -47,6 +61,11 @@ counted_in sessions t = with_session sessions t.client (record t.session { last 
 abbrev pub IsOf : ℕ → Option Live → Type 0
 IsOf client None = ⊥
 IsOf client (Some l) = l.client ≡ client
+
+-- whether it is
+abbrev pub is_own : ℕ → Option Live → Bool
+is_own client None = false
+is_own client (Some l) = l.client == client
 
 -- the server where the transaction is live no more, and its locks are gone
 abbrev pub without_trans : {V : Type 0} → Kept V → TransId → Kept V

@@ -40,10 +40,8 @@ impl<V: Vault> Kept<V> {
     /// A transaction begins. Its id is the next one, and the clock is at least what the client saw.
     pub fn begin(&mut self, turn: &Turn, seen: Stamp) -> Result<Answer, OutOfMemory>
         requires turn { IsTurn self.old.sessions turn.now }
-        requires new { map.get self.old.lives (record { server = self.old.server; epoch = self.old.epoch; counter = self.old.drawn + 1 }) ≡ None }
-        requires room { self.old.drawn + 1 < 2 ^ 32 }
         requires up { self.old.is_down ≡ false }
-        requires alone { self.old.locks.waiting ≡ [] }
+        requires ready { (steps : ℕ) × (steps + 1 < 2 ^ 32) × IsReady steps (V.serves self.old.vault) self.old }
         ensures stepped { (o : Start) (s : StateOf) → IsAs o s (V.held self.old.vault) self.old → IfOk result (λ a. Stepped o s (V.held self.new.vault) self.new (event.Call turn.now.client self.old.epoch turn.now.number (call.Begin seen)) a) }
         ensures ready { (steps : ℕ) → IsReady steps (V.serves self.old.vault) self.old → OnOk result (IsReady (steps + 1) (V.serves self.new.vault) self.new) }
         ensures vault { self.new.vault ≡ self.old.vault }

@@ -34,9 +34,7 @@ impl<V: Vault> Kept<V> {
         requires turn { IsTurn self.old.sessions turn.now }
         requires own { IsOf turn.now.client (map.get self.old.lives trans) }
         requires up { self.old.is_down ≡ false }
-        requires serving { IsTrue (V.serves self.old.vault) }
-        requires room { self.old.given + 1 < 2 ^ 32 }
-        requires opens { (l : ALive) → map.get self.old.lives trans ≡ Some l → l.part.last + 1 < 2 ^ 32 }
+        requires ready { (steps : ℕ) × (steps + 1 < 2 ^ 32) × IsReady steps (V.serves self.old.vault) self.old }
         requires page { IsPageCall call.now }
         requires named { file_trans call.now ≡ Some trans }
         requires formed { IsFormed call.now }

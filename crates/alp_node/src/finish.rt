@@ -35,16 +35,11 @@ impl<V: Vault> Kept<V> {
     }
 
     /// A live transaction of the client ends without effect, as its client asked.
-    pub fn abort(
-        &mut self,
-        turn: &Turn,
-        trans: TransId,
-        commit: bool,
-    ) -> Result<Answer, OutOfMemory>
+    pub fn abort(&mut self, turn: &Turn, trans: TransId) -> Result<Answer, OutOfMemory>
         requires turn { IsTurn self.old.sessions turn.now }
         requires own { IsOf turn.now.client (map.get self.old.lives trans) }
         requires alone { self.old.locks.waiting ≡ [] }
-        ensures stepped { (o : Start) (s : StateOf) → IsAs o s (V.held self.old.vault) self.old → IfOk result (λ a. Stepped o s (V.held self.new.vault) self.new (event.Call turn.now.client self.old.epoch turn.now.number (call.Finish trans commit)) a) }
+        ensures stepped { (o : Start) (s : StateOf) → IsAs o s (V.held self.old.vault) self.old → IfOk result (λ a. Stepped o s (V.held self.new.vault) self.new (event.Call turn.now.client self.old.epoch turn.now.number (call.Finish trans false)) a) }
         ensures ready { (steps : ℕ) → IsReady steps (V.serves self.old.vault) self.old → OnOk result (IsReady (steps + 1) (V.serves self.new.vault) self.new) }
         ensures vault { self.new.vault ≡ self.old.vault }
         ensures err { OnErr result (self.new ≡ self.old) }
@@ -79,11 +74,9 @@ impl<V: Vault> Kept<V> {
     pub fn commit(&mut self, turn: &Turn, trans: TransId) -> Result<Answer, OutOfMemory>
         requires turn { IsTurn self.old.sessions turn.now }
         requires own { IsOf turn.now.client (map.get self.old.lives trans) }
-        requires alone { self.old.locks.waiting ≡ [] }
         requires up { self.old.is_down ≡ false }
-        requires serving { IsTrue (V.serves self.old.vault) }
+        requires ready { (steps : ℕ) × (steps + 1 < 2 ^ 32) × IsReady steps (V.serves self.old.vault) self.old }
         requires clock { self.old.clock < 2 ^ 62 }
-        requires room { self.old.committed + 1 < 2 ^ 32 }
         requires sound { IsTrue (V.tells self.old.vault) → (l : ALive) → map.get self.old.lives trans ≡ Some l → (m : Cells) → map.get m ≡ over l.part.intents (map.get (V.held self.old.vault).cells) → AreSound m }
         ensures stepped { IsTrue (V.tells self.old.vault) → (o : Start) (s : StateOf) → IsAs o s (V.held self.old.vault) self.old → IfOk result (λ a. Stepped o s (V.held self.new.vault) self.new (event.Call turn.now.client self.old.epoch turn.now.number (call.Finish trans true)) a) }
         ensures ready { (steps : ℕ) → IsReady steps (V.serves self.old.vault) self.old → OnOk result (IsReady (steps + 1) (V.serves self.new.vault) self.new) }

@@ -2,6 +2,7 @@
 #![tactic(auto)]
 
 mod answer;
+mod answering;
 mod asks;
 mod begin;
 mod calls;
@@ -9,10 +10,16 @@ mod finish;
 mod kept;
 mod lives;
 mod locking;
+mod node;
+mod opened;
 mod served;
 mod sessions;
+mod start;
 mod stored;
 
 pub use kept::Kept;
 pub use lives::{Live, Lives};
+pub use node::Node;
+pub use opened::Opened;
 pub use sessions::{Session, Sessions, Turn};
+pub use start::StartFault;

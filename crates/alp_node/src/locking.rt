@@ -32,16 +32,11 @@ impl<V: Vault> Kept<V> {
         requires turn { IsTurn self.old.sessions turn.now }
         requires own { IsOf turn.now.client (map.get self.old.lives trans) }
         requires up { self.old.is_down ≡ false }
-        requires serving { IsTrue (V.serves self.old.vault) }
-        requires room { self.old.given + 1 < 2 ^ 32 }
-        requires opens { (l : ALive) → map.get self.old.lives trans ≡ Some l → l.part.last + 1 < 2 ^ 32 }
+        requires ready { (steps : ℕ) × (steps + 1 < 2 ^ 32) × IsReady steps (V.serves self.old.vault) self.old }
         requires kind { IsLockCall call.now }
         requires given { IsOfGiven self.old.server self.old.epoch self.old.given call.now }
         requires named { file_trans call.now ≡ Some trans }
         requires formed { IsFormed call.now }
-        requires sound { IsSound self.old.locks }
-        requires alone { self.old.locks.waiting ≡ [] }
-        requires entered { is_some (map.get self.old.locks.held trans) ≡ true }
         requires known { IsTrue (V.tells self.old.vault) → (o : Start) × (s : StateOf) × IsAs o s (V.held self.old.vault) self.old }
         ensures stepped { IsTrue (V.tells self.old.vault) → (o : Start) (s : StateOf) → IsAs o s (V.held self.old.vault) self.old → IfOk result (λ a. Stepped o s (V.held self.new.vault) self.new (event.Call turn.now.client self.old.epoch turn.now.number call.now) a) }
         ensures ready { (steps : ℕ) → IsReady steps (V.serves self.old.vault) self.old → OnOk result (IsReady (steps + 1) (V.serves self.new.vault) self.new) }
@@ -54,9 +49,6 @@ impl<V: Vault> Kept<V> {
         let asked = self.locks.plan(trans, asks(self.alloc, call)?)?;
         let made = self.locks.plan(trans, asks_made(self.alloc, id, call)?)?;
         if let Some(holder) = self.locks.in_way_of(&asked) {
-            return Ok(self.refuse(turn, Refusal::LockConflict { holder }));
-        }
-        if let Some(holder) = self.locks.in_way_of(&made) {
             return Ok(self.refuse(turn, Refusal::LockConflict { holder }));
         }
         let acts = Acts::new(vec![in self.alloc; Act::Granted { trans }]?);

@@ -1,11 +1,20 @@
-//! Which calls are performed.
-ghost use Rattle.std.specs.Prelude.{◌≡◌, IsTrue};
+//! Which file calls are performed, and the answer to each.
+ghost use Rattle.std.specs.Prelude.{◌≡◌, ◌≢◌, ◌+◌, ◌<◌, ◌^◌, IsTrue, IfOk, OnOk, OnErr, ℕ, Some, false};
 ghost use Rattle.std.specs.FinMap as map;
+ghost use Rattle.alp_files.specs.Locks.{IsFormed};
+ghost use Rattle.alp_journal.specs.declared.event.Event.TheVariants as event;
+ghost use Rattle.alp_journal.specs.State.{State as StateOf, Start, file_trans};
 ghost use Rattle.alp_node.specs.Asks.{is_given as is_given_of};
-ghost use Rattle.alp_node.specs.Steps.{IsOf};
+ghost use Rattle.alp_node.specs.Calls.{IsServedCall, HaveCauses};
+ghost use Rattle.alp_node.specs.Kept.{IsAs, IsReady};
+ghost use Rattle.alp_node.specs.Served.{is_of_given as is_of_given_said, is_on_open as is_on_open_said};
+ghost use Rattle.alp_node.specs.Steps.{Stepped, IsTurn, IsOf, is_own as is_own_said};
 
+use crate::answer::Answer;
 use crate::kept::Kept;
-use alp_base::{FileId, TransId};
+use crate::sessions::Turn;
+use alp_base::{FileId, OutOfMemory, TransId};
+use alp_files::{Call, Refusal};
 use alp_vault::Vault;
 
 impl<V: Vault> Kept<V> {
@@ -18,13 +27,63 @@ impl<V: Vault> Kept<V> {
         is_here && (file.epoch < self.epoch || is_now)
     }
 
+    // Whether a call that opens a file names one that was given.
+    fn is_of_given(&self, call: &Call) -> bool
+        ensures { result ≡ is_of_given_said self.now.server self.now.epoch self.now.given call.now }
+    {
+        match call {
+            Call::OpenFile { file, .. } => self.is_given(file),
+            _ => true,
+        }
+    }
+
     /// Whether the transaction is a live one of that client.
     pub fn is_own(&self, client: u8, trans: &TransId) -> bool
-        ensures { IsTrue result → IsOf client (map.get self.now.lives trans.now) }
+        ensures { result ≡ is_own_said client (map.get self.now.lives trans.now) }
     {
         match self.lives.get(trans) {
             Some(live) => live.client == client,
             None => false,
         }
     }
+
+    /// A file call: of a live transaction of the client, and on a file that was given.
+    pub fn file_call(
+        &mut self,
+        turn: &Turn,
+        trans: TransId,
+        call: &Call,
+    ) -> Result<Answer, OutOfMemory>
+        requires turn { IsTurn self.old.sessions turn.now }
+        requires up { self.old.is_down ≡ false }
+        requires served { IsServedCall call.now }
+        requires named { file_trans call.now ≡ Some trans }
+        requires formed { IsFormed call.now }
+        requires ready { (steps : ℕ) × (steps + 1 < 2 ^ 32) × IsReady steps (V.serves self.old.vault) self.old }
+        requires known { IsTrue (V.tells self.old.vault) → (o : Start) × (s : StateOf) × IsAs o s (V.held self.old.vault) self.old }
+        ensures stepped { IsTrue (V.tells self.old.vault) → (o : Start) (s : StateOf) → IsAs o s (V.held self.old.vault) self.old → IfOk result (λ a. Stepped o s (V.held self.new.vault) self.new (event.Call turn.now.client self.old.epoch turn.now.number call.now) a) }
+        ensures ready { (steps : ℕ) → IsReady steps (V.serves self.old.vault) self.old → OnOk result (IsReady (steps + 1) (V.serves self.new.vault) self.new) }
+        ensures cause { IfOk result (λ a. HaveCauses (V.faults self.old.vault) (V.faults self.new.vault) (V.allowance self.new.vault) a.acts) }
+        ensures tells { V.tells self.new.vault ≡ V.tells self.old.vault }
+        ensures still { (o : Start) (s : StateOf) → IsAs o s (V.held self.old.vault) self.old → OnErr result (IsAs o s (V.held self.new.vault) self.new) }
+        ensures ready_still { (steps : ℕ) → IsReady steps (V.serves self.old.vault) self.old → OnErr result (IsReady steps (V.serves self.new.vault) self.new) }
+    {
+        if !self.is_own(turn.client, &trans) {
+            return Ok(self.refuse(turn, Refusal::UnknownTrans));
+        }
+        if !self.is_of_given(call) {
+            return Ok(self.refuse(turn, Refusal::UnknownFile));
+        }
+        if is_on_open(call) {
+            return self.page_call(turn, trans, call);
+        }
+        self.lock_call(turn, trans, call)
+    }
+}
+
+// Whether the call is on an open, whose file is locked already.
+fn is_on_open(call: &Call) -> bool
+    ensures { result ≡ is_on_open_said call.now }
+{
+    matches!(call, Call::ReadPages { .. } | Call::WritePages { .. })
 }

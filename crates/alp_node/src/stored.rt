@@ -5,7 +5,7 @@ ghost use Rattle.alp_base.specs.Causes.{Rose};
 ghost use Rattle.alp_base.specs.declared.allowance.Allowance.TheVariants.{Spent};
 ghost use Rattle.alp_calls.specs.declared.fault.CallFault.TheVariants as fault;
 ghost use Rattle.alp_node.specs.Halts.{ServesOn};
-ghost use Rattle.alp_fields.specs.ClockNote.{clock_name, clock_form};
+ghost use Rattle.alp_fields.specs.ClockNote.{clock_name, clock_form, clock_kept};
 ghost use Rattle.alp_files.specs.Cells.{Cells};
 ghost use Rattle.alp_files.specs.Edits.{edits_map, over};
 ghost use Rattle.alp_files.specs.Sound.{AreSound};
@@ -45,6 +45,7 @@ pub fn store<V: Vault>(
     ensures serves { ServesOn (V.serves vault.new) result }
     ensures cells { IsTrue (V.tells vault.old) → OnOk result (map.get (V.held vault.new).cells ≡ over intents.now (map.get (V.held vault.old).cells)) }
     ensures notes { OnOk result ((V.held vault.new).notes ≡ map.insert (V.held vault.old).notes clock_name (clock_form.spell clock)) }
+    ensures clock { OnOk result (clock_kept (V.held vault.new).notes ≡ clock) }
     ensures same { IsErrOf result fault.OutOfMemory → V.held vault.new ≡ V.held vault.old }
     ensures sizes { V.volume vault.new ≡ V.volume vault.old }
     ensures failed { IsErrOf result fault.Failed → Rose (V.faults vault.old) (V.faults vault.new) }

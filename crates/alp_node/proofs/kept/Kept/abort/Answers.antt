@@ -1,4 +1,4 @@
-use Rattle.std.specs.Prelude.{Some, None, Option}
+use Rattle.std.specs.Prelude.{Some, None, Option, false}
 use Rattle.std.specs.FinMap as map
 use Rattle.std.proofs.Common.{◌≡◌, ℕ, ◌+◌, List, [], ◌∷◌, sym, ap, ◌∙◌, subst, refl}
 use Rattle.alp_files.specs.declared.call.Call.TheVariants as call
@@ -22,11 +22,11 @@ returns-clause-stepped g c o s h =
     let k = c.args.self.now in
     let turn = c.args.turn.now in
     let held = g.V.Vault.held in
-    let e = event.Call turn.client k.epoch turn.number (call.Finish c.args.trans c.args.commit) in
+    let e = event.Call turn.client k.epoch turn.number (call.Finish c.args.trans false) in
     let mine = of_client turn.client (map.get k.lives c.args.trans) c.requires.own in
     let is : c.refused.result ≡ record { kept = Some (reply.Refused (refusal.Aborted cause.Asked)); handed = Some (reply.Refused (refusal.Aborted cause.Asked)); acts = act.Released c.args.trans ∷ [] } =
     c.refused.ensures ∙ ap (λ (acts : List Act). record { kept = Some (reply.Refused (refusal.Aborted cause.Asked)); handed = Some (reply.Refused (refusal.Aborted cause.Asked)); acts = acts }) (c.new-acts.ensures ∙ c.in_ok-vec.ensures.items) in
-    let stepped = abort_stepped o s (held k.vault) k turn.client turn.session turn.number c.args.trans mine.0 c.args.commit cause.Asked c.refused.result h c.requires.turn.client c.requires.alone c.requires.turn.session c.requires.turn.number mine.1 mine.2 is in
+    let stepped = abort_stepped o s (held k.vault) k turn.client turn.session turn.number c.args.trans mine.0 c.refused.result h c.requires.turn.client c.requires.alone c.requires.turn.session c.requires.turn.number mine.1 mine.2 is in
     subst (λ (x : Kept _). Stepped o s (held x.vault) (record x { sessions = c.count.new.self }) e c.refused.result) (sym c.forget.ensures)
     (subst (λ (x : Sessions). Stepped o s (held k.vault) (record (without_trans k c.args.trans) { sessions = x }) e c.refused.result) (sym (c.count.ensures ∙ ap (λ (x : Kept _). counted_in x.sessions turn) c.forget.ensures)) stepped)
 

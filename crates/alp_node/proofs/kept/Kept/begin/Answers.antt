@@ -19,7 +19,7 @@ use Rattle.alp_node.specs.declared.answer.Answer.{Answer}
 use Rattle.alp_node.specs.declared.lives.Live.{Live}
 use Rattle.alp_node.specs.declared.sessions.Sessions.{Sessions}
 use Rattle.alp_node.proofs.KeptLemmas.{as_under, none_held, begin_stepped}
-use Rattle.alp_node.proofs.ReadyLemmas.{undone_holds, undone_ready, begin_ready}
+use Rattle.alp_node.proofs.ReadyLemmas.{next_new, undone_holds, undone_ready, begin_ready}
 use Rattle.alp_node.proofs.kept.Kept.begin.Goals as goal
 
 pub returns-then-is_err-clause-still : goal.returns-then-is_err-clause-still
@@ -29,9 +29,9 @@ returns-then-is_err-clause-still g c o s h =
     let t : TransId = record { server = k.server; epoch = k.epoch; counter = k.drawn + 1 } in
     let lives : c.add.new.self ≡ k.lives = when_err c.add.result _ c.add.ensures.err (sym c.if-is_err.ensures.value) in
     let locks : c.release_all.new.self ≡ released (entered k.locks t) t = c.release_all.ensures.after ∙ ap (λ (x : Table). released x t) c.in_ok-enter.ensures.after in
-    let none : (r : Resource) → holding k.locks.held t r ≡ None = none_held k.locks.held t (map.get k.lives t) (s.lives t) c.requires.new (h.lives t) in
+    let none : (r : Resource) → holding k.locks.held t r ≡ None = none_held k.locks.held t (map.get k.lives t) (s.lives t) (next_new c.requires.ready.0 (g.V.Vault.serves k.vault) k c.requires.ready.2) (h.lives t) in
     subst (λ (x : LiveMap). IsAs o s held (record k { lives = x; locks = c.release_all.new.self })) (sym lives)
-    (as_under o s held k c.release_all.new.self (λ u r. ap (λ (x : Table). holding x.held u r) locks ∙ undone_holds k.locks t u r c.requires.alone none) h)
+    (as_under o s held k c.release_all.new.self (λ u r. ap (λ (x : Table). holding x.held u r) locks ∙ undone_holds k.locks t u r c.requires.ready.2.alone none) h)
 
 pub returns-then-is_err-clause-ready_still : goal.returns-then-is_err-clause-ready_still
 returns-then-is_err-clause-ready_still g c n h =
@@ -40,7 +40,7 @@ returns-then-is_err-clause-ready_still g c n h =
     let lives : c.add.new.self ≡ k.lives = when_err c.add.result _ c.add.ensures.err (sym c.if-is_err.ensures.value) in
     let locks : c.release_all.new.self ≡ released (entered k.locks t) t = c.release_all.ensures.after ∙ ap (λ (x : Table). released x t) c.in_ok-enter.ensures.after in
     subst (λ (x : LiveMap). IsReady n (g.V.Vault.serves k.vault) (record k { lives = x; locks = c.release_all.new.self })) (sym lives)
-    (subst (λ (x : Table). IsReady n (g.V.Vault.serves k.vault) (record k { locks = x })) (sym locks) (undone_ready n (g.V.Vault.serves k.vault) k t c.requires.new h))
+    (subst (λ (x : Table). IsReady n (g.V.Vault.serves k.vault) (record k { locks = x })) (sym locks) (undone_ready n (g.V.Vault.serves k.vault) k t (next_new c.requires.ready.0 (g.V.Vault.serves k.vault) k c.requires.ready.2) h))
 
 pub returns-clause-stepped : goal.returns-clause-stepped
 returns-clause-stepped g c o s h =
@@ -54,7 +54,7 @@ returns-clause-stepped g c o s h =
     c.in_ok-answer.ensures.ok ∙ ap (λ (acts : List Act). record { kept = Some (reply.Begun t); handed = Some (reply.Begun t); acts = acts }) (c.new-acts.ensures ∙ c.in_ok-vec.ensures.items) in
     let same : (u : TransId) (r : Resource) → holding c.enter.new.self.held u r ≡ holding k.locks.held u r =
     λ u r. ap (λ (x : Table). holding x.held u r) c.in_ok-enter.ensures.after ∙ ap (λ x. map.get x r) (entering-keeps-held k.locks t u) in
-    let stepped = begin_stepped o s held k turn.client turn.session turn.number c.args.seen c.new-2.result c.in_ok-answer.answer c.enter.new.self h c.requires.turn.client c.requires.turn.session c.requires.turn.number c.requires.new same
+    let stepped = begin_stepped o s held k turn.client turn.session turn.number c.args.seen c.new-2.result c.in_ok-answer.answer c.enter.new.self h c.requires.turn.client c.requires.turn.session c.requires.turn.number (next_new c.requires.ready.0 (g.V.Vault.serves k.vault) k c.requires.ready.2) same
     c.new-2.ensures.own c.new-2.ensures.intents is in
     subst (λ (n : ℕ). Stepped o s held (record k { clock = n; drawn = k.drawn + 1; sessions = c.count.new.self; lives = c.add.new.self; locks = c.enter.new.self }) (event.Call turn.client k.epoch turn.number (call.Begin c.args.seen)) c.in_ok-answer.answer) (sym c.max-self.ensures)
     (subst (λ (x : Sessions). Stepped o s held (record k { clock = max k.clock c.args.seen.ts; drawn = k.drawn + 1; sessions = x; lives = c.add.new.self; locks = c.enter.new.self }) (event.Call turn.client k.epoch turn.number (call.Begin c.args.seen)) c.in_ok-answer.answer)

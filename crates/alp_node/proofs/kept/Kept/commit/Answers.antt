@@ -11,7 +11,7 @@ use Rattle.alp_journal.specs.declared.act.Act.{Act}
 use Rattle.alp_journal.specs.declared.act.Act.TheVariants as act
 use Rattle.alp_journal.specs.declared.event.Event.TheVariants as event
 use Rattle.alp_node.specs.Kept.{IsReady}
-use Rattle.alp_node.specs.Steps.{Stepped, counted_in, without_trans}
+use Rattle.alp_node.specs.Steps.{Stepped, IsOf, counted_in, without_trans}
 use Rattle.alp_node.specs.declared.answer.Answer.{Answer}
 use Rattle.alp_node.specs.declared.kept.Kept.{Kept}
 use Rattle.alp_node.specs.declared.sessions.Sessions.{Sessions}
@@ -56,8 +56,8 @@ returns-clause-stepped g c told o s h =
     c.in_ok-answer.ensures.ok
     ∙ ap (λ (acts : List Act). record { kept = Some (reply.Committed stamp); handed = Some (reply.Committed stamp); acts = acts })
     (c.new-acts.ensures ∙ c.in_ok-vec.ensures.items ∙ ap (λ (parts : List JoinNo). act.Decided stamp parts ∷ act.Released t ∷ []) (c.new-2.ensures ∙ c.new.ensures.items)) in
-    let stepped = commit_stepped o s (held k.vault) k turn.client turn.session turn.number t c.in-Some.live.now v c.in_ok-answer.answer (held v) h c.requires.up c.requires.turn.client c.requires.alone
-    c.requires.turn.session c.requires.turn.number (sym c.in-Some.ensures) (c.in_default-store.ensures.cells told) c.in_default-store.ensures.notes is in
+    let stepped = commit_stepped o s (held k.vault) k turn.client turn.session turn.number t c.in-Some.live.now v c.in_ok-answer.answer (held v) h c.requires.up c.requires.turn.client c.requires.ready.2.alone
+    c.requires.turn.session c.requires.turn.number (sym c.in-Some.ensures) (subst (IsOf turn.client) (sym c.in-Some.ensures) c.requires.own) (c.in_default-store.ensures.cells told) c.in_default-store.ensures.notes is in
     subst (λ (x : Kept _). Stepped o s (held x.vault) (record x { clock = k.clock + 1; committed = x.committed + 1; sessions = c.count.new.self }) e c.in_ok-answer.answer) (sym c.forget.ensures)
     (subst (λ (x : Sessions). Stepped o s (held v) (record (without_trans k t) { clock = k.clock + 1; committed = k.committed + 1; sessions = x; vault = v }) e c.in_ok-answer.answer)
     (sym (c.count.ensures ∙ ap (λ (x : Kept _). counted_in x.sessions turn) c.forget.ensures)) stepped)

@@ -15,8 +15,8 @@ use Rattle.alp_node.specs.declared.sessions.Sessions.{Sessions}
 use Rattle.alp_queue.specs.declared.waiter.Waiter.{Waiter}
 use Rattle.alp_locks.specs.Tables.{Table}
 use Rattle.alp_locks.specs.Sound.{IsPrepared}
-use Rattle.alp_node.proofs.KeptLemmas.{of_client, passing_stepped, halted_stepped, halted_ready, halted_cause, halted_still}
-use Rattle.alp_node.proofs.CallLemmas.{unseen, part_still}
+use Rattle.alp_node.proofs.KeptLemmas.{of_client, halted_stepped, halted_ready, halted_cause, halted_still}
+use Rattle.alp_node.proofs.CallLemmas.{unseen, part_still, count_grows}
 use Rattle.alp_node.proofs.PerformLemmas.{count_same, gave_told, part_ready, turn_kept, looked_left, looked_failed, looked_stopped, looked_serves, halted_vault, err_same}
 use Rattle.std.specs.Prelude.{Bool}
 use Rattle.alp_base.specs.declared.ids.FileId.{FileId}
@@ -24,7 +24,7 @@ use Rattle.alp_files.specs.Born.{count_after}
 use Rattle.alp_locks.specs.Asks.{blocker}
 use Rattle.alp_node.specs.Asks.{asks_of, asks_made, asks_given, is_made, plan_for, count_made, plan_of, with_plan}
 use Rattle.alp_node.specs.Calls.{next_file}
-use Rattle.alp_node.proofs.GrantLemmas.{lock_alone, lock_stepped, of_given, free_given, plan_given, count_given, granted_ready}
+use Rattle.alp_node.proofs.GrantLemmas.{lock_alone, lock_stepped, conflict_stepped, free_given, given_below, plan_given, count_given, granted_ready}
 use Rattle.alp_node.proofs.ReadyLemmas.{counted_ready}
 use Rattle.alp_node.proofs.kept.Kept.lock_call.Goals as goal
 
@@ -129,53 +129,38 @@ returns-in-Some-clause-stepped g c told o s h =
     let k = c.args.self.now in
     let turn = c.args.turn.now in
     let held = g.V.Vault.held in
-    let f = refusal.LockConflict c.in-Some.holder in
-    let single = lock_alone s c.args.call.now c.requires.kind in
+    let t = c.args.trans in
+    let (l, there, own) = of_client turn.client (map.get k.lives t) c.requires.own in
+    let asked_is : c.in_ok-asked.asked ≡ plan_of k.locks t (asks_of c.args.call.now) = c.in_ok-asked.ensures ∙ ap (plan_of k.locks t) c.in_ok-asks.ensures in
+    let named = ap (λ (w : Waiter). blocker k.locks.held w.trans w.rises) (sym asked_is) ∙ sym c.in_way_of.ensures ∙ c.in-Some.is in
     subst (λ (x : Kept _). Stepped o s (held x.vault) x (event.Call turn.client k.epoch turn.number c.args.call.now) c.refuse.result) (sym c.refuse.ensures.kept)
-    (passing_stepped o s (held k.vault) k turn.client turn.session turn.number c.args.call.now f c.refuse.result h c.requires.turn.client c.requires.turn.session c.requires.turn.number single.kind refl
-    (ap (done_by s c.args.call.now (reply.Refused f)) c.requires.named) (single.ends s turn.client s.epoch turn.number (reply.Refused f)) c.refuse.ensures.answer)
+    (conflict_stepped o s (held k.vault) k turn t l c.args.call.now c.in-Some.holder c.refuse.result h c.requires.turn there own c.requires.kind c.requires.given c.requires.named c.requires.ready.2.sound named c.refuse.ensures.answer)
 
 pub returns-in-Some-clause-ready : goal.returns-in-Some-clause-ready
 returns-in-Some-clause-ready g c n h =
     let k = c.args.self.now in
     subst (λ (x : Kept _). IsReady (n + 1) (g.V.Vault.serves x.vault) x) (sym c.refuse.ensures.kept) (counted_ready n (g.V.Vault.serves k.vault) k c.args.turn.now c.requires.turn h)
 
-pub returns-in-Some-in_way_of-clause-stepped : goal.returns-in-Some-in_way_of-clause-stepped
-returns-in-Some-in_way_of-clause-stepped g c told o s h =
-    let k = c.args.self.now in
-    let turn = c.args.turn.now in
-    let held = g.V.Vault.held in
-    let f = refusal.LockConflict c.in-Some-in_way_of.holder in
-    let single = lock_alone s c.args.call.now c.requires.kind in
-    let refuse = c.refuse-in-Some-in_way_of in
-    subst (λ (x : Kept _). Stepped o s (held x.vault) x (event.Call turn.client k.epoch turn.number c.args.call.now) refuse.result) (sym refuse.ensures.kept)
-    (passing_stepped o s (held k.vault) k turn.client turn.session turn.number c.args.call.now f refuse.result h c.requires.turn.client c.requires.turn.session c.requires.turn.number single.kind refl
-    (ap (done_by s c.args.call.now (reply.Refused f)) c.requires.named) (single.ends s turn.client s.epoch turn.number (reply.Refused f)) refuse.ensures.answer)
-
-pub returns-in-Some-in_way_of-clause-ready : goal.returns-in-Some-in_way_of-clause-ready
-returns-in-Some-in_way_of-clause-ready g c n h =
-    let k = c.args.self.now in
-    subst (λ (x : Kept _). IsReady (n + 1) (g.V.Vault.serves x.vault) x) (sym c.refuse-in-Some-in_way_of.ensures.kept) (counted_ready n (g.V.Vault.serves k.vault) k c.args.turn.now c.requires.turn h)
-
 pub keep_locks-requires-clause-room : goal.keep_locks-requires-clause-room
 keep_locks-requires-clause-room g c =
     let (l, there, own) = of_client c.args.turn.now.client (map.get c.args.self.now.lives c.args.trans) c.requires.own in
     let did = c.in-Ok.ensures.performed l there in
-    subst (λ (n : ℕ). n + 1 < 4294967296) (sym (ap (λ (x : Kept _). x.given) did.kept)) c.requires.room
+    let low : c.args.self.now.given ≤ c.requires.ready.0 = c.requires.ready.2.given in
+    subst (λ (n : ℕ). n + 1 < 4294967296) (sym (ap (λ (x : Kept _). x.given) did.kept)) (omega (arith, low, c.requires.ready.1))
 
 pub keep_locks-requires-clause-entered_asked : goal.keep_locks-requires-clause-entered_asked
 keep_locks-requires-clause-entered_asked g c =
     let (l, there, own) = of_client c.args.turn.now.client (map.get c.args.self.now.lives c.args.trans) c.requires.own in
     let did = c.in-Ok.ensures.performed l there in
     subst (λ (x : Table). is_some (map.get x.held c.in_ok-asked.asked.trans) ≡ true) (sym (ap (λ (x : Kept _). x.locks) did.kept))
-    (ap (λ (w : Waiter). is_some (map.get c.args.self.now.locks.held w.trans)) c.in_ok-asked.ensures ∙ c.requires.entered)
+    (ap (λ (w : Waiter). is_some (map.get c.args.self.now.locks.held w.trans)) c.in_ok-asked.ensures ∙ c.requires.ready.2.known c.args.trans l there)
 
 pub keep_locks-requires-clause-entered_made : goal.keep_locks-requires-clause-entered_made
 keep_locks-requires-clause-entered_made g c =
     let (l, there, own) = of_client c.args.turn.now.client (map.get c.args.self.now.lives c.args.trans) c.requires.own in
     let did = c.in-Ok.ensures.performed l there in
     subst (λ (x : Table). is_some (map.get x.held c.in_ok-made.made.trans) ≡ true) (sym (ap (λ (x : Kept _). x.locks) did.kept))
-    (ap (λ (w : Waiter). is_some (map.get c.args.self.now.locks.held w.trans)) c.in_ok-made.ensures ∙ c.requires.entered)
+    (ap (λ (w : Waiter). is_some (map.get c.args.self.now.locks.held w.trans)) c.in_ok-made.ensures ∙ c.requires.ready.2.known c.args.trans l there)
 
 pub keep_locks-requires-clause-prepared_asked : goal.keep_locks-requires-clause-prepared_asked
 keep_locks-requires-clause-prepared_asked g c =
@@ -208,7 +193,6 @@ returns-clause-stepped g c told o s h =
     let made_is : c.in_ok-made.made ≡ plan_of k.locks t (asks_made (next_file k) call) =
     c.in_ok-made.ensures ∙ ap (plan_of k.locks t) (c.in_ok-asks_made.ensures ∙ ap (λ (id : FileId). asks_made id call) c.next_file-id.ensures) in
     let free_asked = ap (λ (w : Waiter). blocker k.locks.held w.trans w.rises) (sym asked_is) ∙ sym c.in_way_of.ensures ∙ c.in_default.is in
-    let free_made = ap (λ (w : Waiter). blocker k.locks.held w.trans w.rises) (sym made_is) ∙ sym c.in_way_of-2.ensures ∙ c.in_default-in_way_of.is in
     let taken = ap (λ (b : Bool). plan_for b c.in_ok-asked.asked c.in_ok-made.made) c.is_made-has_made.ensures
     ∙ ap (λ (w : Waiter). plan_for (is_made r) w c.in_ok-made.made) asked_is ∙ ap (plan_for (is_made r) (plan_of k.locks t (asks_of call))) made_is ∙ plan_given k.locks t (next_file k) call r in
     let count = ap (count_made k.given) c.is_made-has_made.ensures ∙ count_given k.given r in
@@ -220,8 +204,8 @@ returns-clause-stepped g c told o s h =
     subst (λ (x : Sessions). Stepped o s (held c.keep_locks.new.self.vault) (record c.keep_locks.new.self { sessions = x }) e a) (sym c.count.ensures)
     (subst (λ (x : Kept _). Stepped o s (held x.vault) (record x { sessions = counted_in x.sessions turn }) e a) (sym kept_is)
     (lock_stepped o s (held k.vault) k turn t l did.part call r N.vault a (held N.vault) h c.requires.up c.in-Ok.ensures.looked.0.contents c.requires.turn there own c.requires.kind
-    (of_given o s (held k.vault) k call r h c.requires.given) c.requires.named c.requires.formed given so c.requires.sound c.requires.alone free_asked
-    (free_given k.locks t (next_file k) call r free_asked free_made)))
+    c.requires.given c.requires.named c.requires.formed given so c.requires.ready.2.sound c.requires.ready.2.alone free_asked
+    (free_given c.requires.ready.0 (g.V.Vault.serves k.vault) k t call r c.requires.ready.2 free_asked)))
 
 pub returns-clause-ready : goal.returns-clause-ready
 returns-clause-ready g c n h =
@@ -238,7 +222,6 @@ returns-clause-ready g c n h =
     let made_is : c.in_ok-made.made ≡ plan_of k.locks t (asks_made (next_file k) call) =
     c.in_ok-made.ensures ∙ ap (plan_of k.locks t) (c.in_ok-asks_made.ensures ∙ ap (λ (id : FileId). asks_made id call) c.next_file-id.ensures) in
     let free_asked = ap (λ (w : Waiter). blocker k.locks.held w.trans w.rises) (sym asked_is) ∙ sym c.in_way_of.ensures ∙ c.in_default.is in
-    let free_made = ap (λ (w : Waiter). blocker k.locks.held w.trans w.rises) (sym made_is) ∙ sym c.in_way_of-2.ensures ∙ c.in_default-in_way_of.is in
     let taken = ap (λ (b : Bool). plan_for b c.in_ok-asked.asked c.in_ok-made.made) c.is_made-has_made.ensures
     ∙ ap (λ (w : Waiter). plan_for (is_made r) w c.in_ok-made.made) asked_is ∙ ap (plan_for (is_made r) (plan_of k.locks t (asks_of call))) made_is ∙ plan_given k.locks t (next_file k) call r in
     let count = ap (count_made k.given) c.is_made-has_made.ensures ∙ count_given k.given r in
@@ -254,4 +237,4 @@ returns-clause-ready g c n h =
     subst (λ (x : Sessions). IsReady (n + 1) (g.V.Vault.serves c.keep_locks.new.self.vault) (record c.keep_locks.new.self { sessions = x })) (sym c.count.ensures)
     (subst (λ (x : Kept _). IsReady (n + 1) (g.V.Vault.serves x.vault) (record x { sessions = counted_in x.sessions turn })) (sym kept_is)
     (granted_ready (n + 1) serves (record k { sessions = counted_in k.sessions turn; lives = map.insert k.lives t (record l { part = did.part }); vault = N.vault }) (plan_of k.locks t (asks_given (next_file k) call r)) (count_after k.given r)
-    fewer refl (free_given k.locks t (next_file k) call r free_asked free_made) parted))
+    (count_grows k.given r) fewer refl (free_given n (g.V.Vault.serves k.vault) k t call r h free_asked) (λ m high. given_below k.server k.epoch k.given m call r c.requires.given high) parted))

@@ -1,0 +1,49 @@
+-- A server and its journal.
+use Rattle.std.specs.Prelude.{◌≡◌, ℕ, ◌<◌, Bool, IsTrue, List, [], ◌∷◌, ◌++◌, length, Option}
+use Rattle.std.specs.FinMap as map
+use Rattle.alp_base.specs.declared.allowance.Allowance.{Allowance}
+use Rattle.alp_files.specs.declared.reply.Reply.{Reply}
+use Rattle.alp_vault.specs.Contents.{Contents}
+use Rattle.alp_journal.specs.declared.act.Act.{Act}
+use Rattle.alp_journal.specs.declared.event.Event.{Event}
+use Rattle.alp_journal.specs.declared.entry.Entry.{Entry}
+use Rattle.alp_journal.specs.State.{State, Start, Along, next, state_after, opened}
+use Rattle.alp_journal.specs.Laws.{IsLawful, IsSoundOpening}
+use Rattle.alp_journal.specs.Causes.{HasCause}
+use Rattle.alp_node.specs.declared.node.Node.{Node}
+use Rattle.alp_node.specs.Kept.{IsAs, IsReady}
+use Rattle.alp_node.specs.Calls.{HaveCauses}
+
+-- what it was started on, by what its vault held then
+abbrev pub start_at : ℕ → Contents → Start
+start_at server held = record { server = server; cells = held.cells; notes = held.notes }
+
+abbrev pub start_in : {V : Type 0} → (V → Contents) → Node V → Start
+start_in held n = start_at n.kept.server (held n.opening.vault.value)
+
+-- what the journal says
+abbrev pub state_of : Start → List Entry → State
+state_of o journal = state_after next (opened o) journal
+
+-- The journal is lawful, each of its entries has its cause, and the server keeps what its state says, with this in its
+-- vault. The files were sound when it was started.
+pub record IsRight {V : Type 0} (o : Start) (held : Contents) (n : Node V) : Type 0 where
+  pub opening : IsSoundOpening o
+  pub lawful : IsLawful o n.journal
+  pub caused : Along next HasCause (opened o) n.journal
+  pub kept : IsAs o (state_of o n.journal) held n.kept
+
+-- what holds of each server that the calls make, by what its vault shows
+pub record IsKept {V : Type 0} (tells serves : V → Bool) (held : V → Contents) (n : Node V) : Type 0 where
+  pub ready : IsReady (length n.journal) (serves n.kept.vault) n.kept
+  pub right : IsTrue (tells n.kept.vault) → IsRight (start_in held n) (held n.kept.vault) n
+
+-- one entry more: this event, this reply, and what came about, where a fault of the vault has its cause
+pub record Answered (before after : List Entry) (e : Event) (r : Option Reply) (faults_before faults_now : ℕ) (allowance : Allowance) : Type 0 where
+  pub acts : List Act
+  pub entry : after ≡ before ++ (record { event = e; reply = r; acts = acts }) ∷ []
+  pub causes : HaveCauses faults_before faults_now allowance acts
+
+-- a journal with room for one entry
+abbrev pub HasRoom : {V : Type 0} → Node V → Type 0
+HasRoom n = length n.journal < 65536

@@ -1,0 +1,38 @@
+-- How a server starts: in the epoch after that of its note.
+use Rattle.std.specs.Prelude.{◌≡◌, ℕ, ◌≤◌, ◌+◌, ◌==◌, List, Option, None, Some, Result, Ok, Err, if◌then◌else◌}
+use Rattle.std.specs.FinMap as map
+use Rattle.alp_base.specs.declared.allowance.Allowance.{Allowance}
+use Rattle.alp_base.specs.declared.ids.FileId.{FileId}
+use Rattle.alp_base.specs.declared.key.Key.TheVariants.{Leader}
+use Rattle.alp_fields.specs.Forms.{whole}
+use Rattle.alp_fields.specs.ClockNote.{clock_name, clock_form, clock_kept}
+use Rattle.alp_fields.specs.declared.clock_note.ClockNote.{ClockNote}
+use Rattle.alp_files.specs.declared.cell.Cell.{Cell}
+use Rattle.alp_files.specs.Apart.{AreSized}
+use Rattle.alp_vault.specs.Contents.{Contents}
+use Rattle.alp_vault.specs.Vault.{HasFaultCause}
+use Rattle.alp_node.specs.declared.start.StartFault.{StartFault}
+use Rattle.alp_node.specs.declared.start.StartFault.TheVariants as fault
+
+-- ids of files were given by this server, in epochs up to that of the note, and sizes are numbers of pages
+pub record AreOfServer (server : ℕ) (held : Contents) : Type 0 where
+  pub ids : (f : FileId) (c : Cell) → map.get held.cells (Leader f) ≡ Some c → (f.server ≡ server) × (f.epoch ≤ (clock_kept held.notes).epoch)
+  pub sizes : AreSized (map.get held.cells)
+
+abbrev pub after_clock : Option ClockNote → Result ClockNote StartFault
+after_clock None = Err fault.BadNote
+after_clock (Some c) = if c.epoch == 4294967295 then Err fault.EpochEnd else Ok (record c { epoch = c.epoch + 1 })
+
+-- a server starts in the epoch after that of its note, or in epoch 1 with clock 0 where there is none
+abbrev pub after_note : Option (List ℕ) → Result ClockNote StartFault
+after_note None = Ok (record { epoch = 1; clock = 0 })
+after_note (Some value) = after_clock (whole clock_form value)
+
+abbrev pub raised : Contents → Result ClockNote StartFault
+raised held = after_note (map.get held.notes clock_name)
+
+-- why a server does not start: a fault of the vault, or what its note says
+abbrev pub HasStartCause : Contents → ℕ → ℕ → Allowance → StartFault → Type 0
+HasStartCause held before now allowance (fault.Vault f) = HasFaultCause before now allowance f
+HasStartCause held before now allowance fault.BadNote = raised held ≡ Err fault.BadNote
+HasStartCause held before now allowance fault.EpochEnd = raised held ≡ Err fault.EpochEnd

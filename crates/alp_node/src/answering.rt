@@ -1,0 +1,141 @@
+//! The answer to an event, whatever it is.
+ghost use Rattle.std.specs.Prelude.{◌≡◌, ◌+◌, ◌<◌, ◌^◌, IsTrue, IfOk, OnOk, OnErr, ℕ, Some, false};
+ghost use Rattle.std.specs.FinMap as map;
+ghost use Rattle.alp_files.specs.declared.call.Call.TheVariants as call;
+ghost use Rattle.alp_journal.specs.declared.event.Event.TheVariants as event;
+ghost use Rattle.alp_journal.specs.State.{State as StateOf, Start, file_trans};
+ghost use Rattle.alp_node.specs.Calls.{IsServedCall, HaveCauses};
+ghost use Rattle.alp_node.specs.Kept.{IsAs, IsReady};
+ghost use Rattle.alp_node.specs.Served.{IsServed, IsAskable, IsInTurn, IsTurnCall, AreLivesSound};
+ghost use Rattle.alp_node.specs.Steps.{Stepped, IsTurn};
+
+use crate::answer::Answer;
+use crate::kept::Kept;
+use crate::sessions::Turn;
+use alp_base::{OutOfMemory, TransId};
+use alp_files::{Call, Refusal};
+use alp_journal::Event;
+use alp_vault::Vault;
+
+impl<V: Vault> Kept<V> {
+    // A transaction ends as its client asks.
+    fn finish(&mut self, turn: &Turn, trans: TransId, commit: bool) -> Result<Answer, OutOfMemory>
+        requires turn { IsTurn self.old.sessions turn.now }
+        requires up { self.old.is_down ≡ false }
+        requires clock { self.old.clock < 2 ^ 62 }
+        requires ready { (steps : ℕ) × (steps + 1 < 2 ^ 32) × IsReady steps (V.serves self.old.vault) self.old }
+        requires sound { IsTrue (V.tells self.old.vault) → AreLivesSound (V.held self.old.vault) self.old }
+        ensures stepped { IsTrue (V.tells self.old.vault) → (o : Start) (s : StateOf) → IsAs o s (V.held self.old.vault) self.old → IfOk result (λ a. Stepped o s (V.held self.new.vault) self.new (event.Call turn.now.client self.old.epoch turn.now.number (call.Finish trans commit)) a) }
+        ensures ready { (steps : ℕ) → IsReady steps (V.serves self.old.vault) self.old → OnOk result (IsReady (steps + 1) (V.serves self.new.vault) self.new) }
+        ensures cause { IfOk result (λ a. HaveCauses (V.faults self.old.vault) (V.faults self.new.vault) (V.allowance self.new.vault) a.acts) }
+        ensures tells { V.tells self.new.vault ≡ V.tells self.old.vault }
+        ensures still { (o : Start) (s : StateOf) → IsAs o s (V.held self.old.vault) self.old → OnErr result (IsAs o s (V.held self.new.vault) self.new) }
+        ensures ready_still { (steps : ℕ) → IsReady steps (V.serves self.old.vault) self.old → OnErr result (IsReady steps (V.serves self.new.vault) self.new) }
+    {
+        if !self.is_own(turn.client, &trans) {
+            return Ok(self.refuse(turn, Refusal::UnknownTrans));
+        }
+        if commit {
+            return self.commit(turn, trans);
+        }
+        self.abort(turn, trans)
+    }
+
+    // A call in its turn, other than a greeting.
+    fn call_in_turn(&mut self, turn: &Turn, call: &Call) -> Result<Answer, OutOfMemory>
+        requires turn { IsTurn self.old.sessions turn.now }
+        requires asked { IsTurnCall call.now }
+        requires up { self.old.is_down ≡ false }
+        requires clock { self.old.clock < 2 ^ 62 }
+        requires ready { (steps : ℕ) × (steps + 1 < 2 ^ 32) × IsReady steps (V.serves self.old.vault) self.old }
+        requires known { IsTrue (V.tells self.old.vault) → (o : Start) × (s : StateOf) × IsAs o s (V.held self.old.vault) self.old }
+        requires sound { IsTrue (V.tells self.old.vault) → AreLivesSound (V.held self.old.vault) self.old }
+        ensures stepped { IsTrue (V.tells self.old.vault) → (o : Start) (s : StateOf) → IsAs o s (V.held self.old.vault) self.old → IfOk result (λ a. Stepped o s (V.held self.new.vault) self.new (event.Call turn.now.client self.old.epoch turn.now.number call.now) a) }
+        ensures ready { (steps : ℕ) → IsReady steps (V.serves self.old.vault) self.old → OnOk result (IsReady (steps + 1) (V.serves self.new.vault) self.new) }
+        ensures cause { IfOk result (λ a. HaveCauses (V.faults self.old.vault) (V.faults self.new.vault) (V.allowance self.new.vault) a.acts) }
+        ensures tells { V.tells self.new.vault ≡ V.tells self.old.vault }
+        ensures still { (o : Start) (s : StateOf) → IsAs o s (V.held self.old.vault) self.old → OnErr result (IsAs o s (V.held self.new.vault) self.new) }
+        ensures ready_still { (steps : ℕ) → IsReady steps (V.serves self.old.vault) self.old → OnErr result (IsReady steps (V.serves self.new.vault) self.new) }
+    {
+        if let Call::Begin { seen } = call {
+            return self.begin(turn, *seen);
+        }
+        if let Call::Finish { trans, commit } = call {
+            return self.finish(turn, *trans, *commit);
+        }
+        let Some(trans) = trans_of(call) else {
+            unreachable!()
+        };
+        self.file_call(turn, trans, call)
+    }
+
+    // A call of a client, which greets first.
+    fn call(&mut self, client: u8, number: u32, call: &Call) -> Result<Answer, OutOfMemory>
+        requires served { (epoch : ℕ) × IsServed self.old (event.Call client epoch number call.now) }
+        requires up { self.old.is_down ≡ false }
+        requires clock { self.old.clock < 2 ^ 62 }
+        requires ready { (steps : ℕ) × (steps + 1 < 2 ^ 32) × IsReady steps (V.serves self.old.vault) self.old }
+        requires known { IsTrue (V.tells self.old.vault) → (o : Start) × (s : StateOf) × IsAs o s (V.held self.old.vault) self.old }
+        requires sound { IsTrue (V.tells self.old.vault) → AreLivesSound (V.held self.old.vault) self.old }
+        ensures stepped { IsTrue (V.tells self.old.vault) → (o : Start) (s : StateOf) → IsAs o s (V.held self.old.vault) self.old → (epoch : ℕ) → IsServed self.old (event.Call client epoch number call.now) → IfOk result (λ a. Stepped o s (V.held self.new.vault) self.new (event.Call client epoch number call.now) a) }
+        ensures ready { (steps : ℕ) → IsReady steps (V.serves self.old.vault) self.old → OnOk result (IsReady (steps + 1) (V.serves self.new.vault) self.new) }
+        ensures cause { IfOk result (λ a. HaveCauses (V.faults self.old.vault) (V.faults self.new.vault) (V.allowance self.new.vault) a.acts) }
+        ensures tells { V.tells self.new.vault ≡ V.tells self.old.vault }
+        ensures still { (o : Start) (s : StateOf) → IsAs o s (V.held self.old.vault) self.old → OnErr result (IsAs o s (V.held self.new.vault) self.new) }
+        ensures ready_still { (steps : ℕ) → IsReady steps (V.serves self.old.vault) self.old → OnErr result (IsReady steps (V.serves self.new.vault) self.new) }
+    {
+        if let Call::Hello { name } = call {
+            return self.hello(client, *name);
+        }
+        let Some(session) = self.sessions.get(client) else {
+            unreachable!()
+        };
+        let turn = Turn {
+            client,
+            number,
+            session,
+        };
+        self.call_in_turn(&turn, call)
+    }
+
+    /// The answer to an event that is served.
+    pub fn answer(&mut self, event: &Event) -> Result<Answer, OutOfMemory>
+        requires served { IsServed self.old event.now }
+        requires up { self.old.is_down ≡ false }
+        requires clock { self.old.clock < 2 ^ 62 }
+        requires ready { (steps : ℕ) × (steps + 1 < 2 ^ 32) × IsReady steps (V.serves self.old.vault) self.old }
+        requires known { IsTrue (V.tells self.old.vault) → (o : Start) × (s : StateOf) × IsAs o s (V.held self.old.vault) self.old }
+        requires sound { IsTrue (V.tells self.old.vault) → AreLivesSound (V.held self.old.vault) self.old }
+        ensures stepped { IsTrue (V.tells self.old.vault) → (o : Start) (s : StateOf) → IsAs o s (V.held self.old.vault) self.old → IfOk result (λ a. Stepped o s (V.held self.new.vault) self.new event.now a) }
+        ensures ready { (steps : ℕ) → IsReady steps (V.serves self.old.vault) self.old → OnOk result (IsReady (steps + 1) (V.serves self.new.vault) self.new) }
+        ensures cause { IfOk result (λ a. HaveCauses (V.faults self.old.vault) (V.faults self.new.vault) (V.allowance self.new.vault) a.acts) }
+        ensures tells { V.tells self.new.vault ≡ V.tells self.old.vault }
+        ensures still { (o : Start) (s : StateOf) → IsAs o s (V.held self.old.vault) self.old → OnErr result (IsAs o s (V.held self.new.vault) self.new) }
+        ensures ready_still { (steps : ℕ) → IsReady steps (V.serves self.old.vault) self.old → OnErr result (IsReady steps (V.serves self.new.vault) self.new) }
+    {
+        match event {
+            Event::Call {
+                client,
+                epoch: _,
+                number,
+                call,
+            } => self.call(*client, *number, call),
+            Event::Timeout { trans } => self.time_out(*trans),
+            _ => unreachable!(),
+        }
+    }
+}
+
+// The transaction of a file call that is served.
+fn trans_of(call: &Call) -> Option<TransId>
+    ensures { IsServedCall call.now → result ≡ file_trans call.now }
+{
+    match call {
+        Call::CreateFile { trans, .. } => Some(*trans),
+        Call::OpenFile { trans, .. } => Some(*trans),
+        Call::ReadPages { trans, .. } => Some(*trans),
+        Call::WritePages { trans, .. } => Some(*trans),
+        Call::MakeOwner { trans, .. } => Some(*trans),
+        _ => None,
+    }
+}

@@ -1,0 +1,99 @@
+//! A server with its journal.
+ghost use Rattle.std.specs.Prelude.{◌≡◌, ◌+◌, ◌<◌, ◌≤◌, ◌^◌, max, IsTrue, IsOk, List, [], ◌∷◌, ◌++◌, IfOk, OnOk, OnErr, Some, true, false};
+ghost use Rattle.alp_files.specs.declared.refusal.Refusal.TheVariants as refusal;
+ghost use Rattle.alp_files.specs.declared.reply.Reply.TheVariants as reply;
+ghost use Rattle.alp_journal.specs.declared.entry.Entry.{Entry as AnEntry};
+ghost use Rattle.alp_node.specs.Nodes.{IsKept, Answered, HasRoom};
+ghost use Rattle.alp_node.specs.Served.{IsServed};
+ghost use Rattle.alp_node.specs.Steps.{seen_in};
+
+use crate::answer::Answer;
+use crate::kept::Kept;
+use crate::opened::Opened;
+use alp_base::OutOfMemory;
+use alp_files::{Refusal, Reply};
+use alp_journal::{Entry, Event, Journal};
+use alp_vault::Vault;
+
+/// A server: what it was started on, what it keeps, and what it did.
+#[derive(Drop)]
+pub struct Node<V: Vault> {
+    pub opening: Opened<V>,
+    pub kept: Kept<V>,
+    pub journal: Journal,
+}
+
+impl<V: Vault> Node<V> {
+    /// Answers an event in one step, with one entry more of the journal. No reply is silence.
+    ///
+    /// A step in which the vault fails or is stopped takes the server down. Then it answers that it is down, and no
+    /// entry is made any more. Want of memory leaves the server as its journal says, with no new entry.
+    pub fn step(&mut self, event: Event) -> Result<Option<Reply>, OutOfMemory>
+        requires kept { IsKept V.tells V.serves V.held self.old }
+        requires served { IsServed self.old.kept event }
+        requires clock { self.old.kept.clock < 2 ^ 62 }
+        requires room { HasRoom self.old }
+        ensures kept { IsKept V.tells V.serves V.held self.new }
+        ensures answered { self.old.kept.is_down ≡ false → IfOk result (λ r. Answered self.old.journal self.new.journal event r (V.faults self.old.kept.vault) (V.faults self.new.kept.vault) (V.allowance self.new.kept.vault)) }
+        ensures down { self.old.kept.is_down ≡ true → IfOk result (λ r. r ≡ Some (reply.Refused refusal.Down)) }
+        ensures still_down { self.old.kept.is_down ≡ true → IsOk result × (self.new ≡ self.old) }
+        ensures err { OnErr result (self.new.journal ≡ self.old.journal) }
+        ensures same { (self.new.opening ≡ self.old.opening) × (self.new.kept.server ≡ self.old.kept.server) × (self.new.kept.epoch ≡ self.old.kept.epoch) }
+        ensures clock { IsTrue (V.tells self.old.kept.vault) → self.new.kept.clock ≤ max self.old.kept.clock (seen_in event) + 1 }
+        ensures tells { V.tells self.new.kept.vault ≡ V.tells self.old.kept.vault }
+    {
+        if self.kept.is_down {
+            return Ok(Some(Reply::Refused(Refusal::Down)));
+        }
+        self.journal.make_place(self.kept.alloc)?;
+        match self.kept.answer(&event) {
+            Ok(answer) => Ok(self.enter(event, answer)),
+            Err(OutOfMemory) => {
+                self.journal.take_back();
+                Err(OutOfMemory)
+            }
+        }
+    }
+
+    // The event with its answer fills the place of its entry, and the caller gets the reply.
+    fn enter(&mut self, event: Event, answer: Answer) -> Option<Reply>
+        ensures filled { (before : List AnEntry) (last : AnEntry) → self.old.journal ≡ before ++ last ∷ [] → self.new.journal ≡ before ++ (record { event = event; reply = answer.kept; acts = answer.acts }) ∷ [] }
+        ensures kept { (self.new.kept ≡ self.old.kept) × (self.new.opening ≡ self.old.opening) }
+        ensures handed { result ≡ answer.handed }
+    {
+        let Answer { kept, handed, acts } = answer;
+        self.journal.fill_place(Entry {
+            event,
+            reply: kept,
+            acts,
+        });
+        handed
+    }
+
+    /// What the server did since it was started.
+    pub fn journal(&self) -> &Journal
+        ensures { result.now ≡ self.now.journal }
+    {
+        &self.journal
+    }
+
+    /// Whether the vault failed in a step, or was stopped.
+    pub fn is_down(&self) -> bool
+        ensures { result ≡ self.now.kept.is_down }
+    {
+        self.kept.is_down
+    }
+
+    /// What it was started on, its vault, and its journal.
+    pub fn into_parts(self) -> (Opened<V>, V, Journal)
+        ensures { result ≡ (self.opening, self.kept.vault, self.journal) }
+    {
+        let Node {
+            opening,
+            kept,
+            journal,
+        } = self;
+        let Kept { vault, .. } = kept;
+        (opening, vault, journal)
+    }
+}

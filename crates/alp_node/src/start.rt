@@ -1,0 +1,143 @@
+//! How a server starts on its vault.
+ghost use Rattle.std.specs.Prelude.{◌≡◌, ◌≤◌, ◌^◌, [], None, Ok, IfOk, IfErr, IsTrue, false};
+ghost use Rattle.std.specs.FinMap as map;
+ghost use Rattle.alp_base.specs.declared.allowance.Allowance.TheVariants.{Spent};
+ghost use Rattle.alp_base.specs.declared.faults.VaultFault.TheVariants as vault_fault;
+ghost use Rattle.alp_calls.specs.declared.fault.CallFault.TheVariants as call_fault;
+ghost use Rattle.alp_fields.specs.Forms.{whole};
+ghost use Rattle.alp_fields.specs.ClockNote.{clock_name, clock_form};
+ghost use Rattle.alp_vault.specs.Vault.{HasFaultCause};
+ghost use Rattle.alp_node.specs.Nodes.{IsKept};
+ghost use Rattle.alp_node.specs.Sessions.{no_sessions};
+ghost use Rattle.alp_node.specs.Starts.{AreOfServer, after_clock, raised, HasStartCause};
+
+use crate::kept::Kept;
+use crate::lives::Lives;
+use crate::node::Node;
+use crate::opened::Opened;
+use crate::sessions::Sessions;
+use crate::stored::store;
+use alp_base::{Bytes, OutOfMemory, VaultFault};
+use alp_calls::CallFault;
+use alp_fields::{ClockNote, read_clock};
+use alp_files::CellMap;
+use alp_journal::Journal;
+use alp_locks::LockTable;
+use alp_vault::Vault;
+use std::alloc::Global;
+use std::snapshot::Snapshot;
+use thiserror::Error;
+
+/// Why a server did not start.
+#[derive(Clone, Copy, Debug, PartialEq, Eq, Error)]
+pub enum StartFault {
+    /// The vault gave no answer.
+    #[error("the vault gave no answer")]
+    Vault(VaultFault),
+    /// The note of the epoch and the clock is not in its format.
+    #[error("a note is not in its format")]
+    BadNote,
+    /// The note has the last epoch there is.
+    #[error("no epoch is left")]
+    EpochEnd,
+}
+
+// The epoch after that of the note, and its clock.
+fn next_epoch(value: &[u8]) -> Result<ClockNote, StartFault>
+    ensures { result ≡ after_clock (whole clock_form value.now) }
+{
+    let Some(kept) = read_clock(value) else {
+        return Err(StartFault::BadNote);
+    };
+    if kept.epoch == u32::MAX {
+        return Err(StartFault::EpochEnd);
+    }
+    Ok(ClockNote {
+        epoch: kept.epoch + 1,
+        clock: kept.clock,
+    })
+}
+
+fn note_name(alloc: Global) -> Result<Bytes, OutOfMemory>
+    ensures { IfOk result (λ name. name ≡ clock_name) }
+{
+    let name = vec![in alloc; b'C']?;
+    Ok(Bytes::new(name))
+}
+
+// The epoch and the clock that the server starts with.
+fn next_clock<V: Vault>(alloc: Global, vault: &V) -> Result<ClockNote, StartFault>
+    requires { IsTrue (V.serves vault.now) }
+    ensures clock { IfOk result (λ c. raised (V.held vault.now) ≡ Ok c) }
+    ensures cause { IfErr result (HasStartCause (V.held vault.now) (V.faults vault.now) (V.faults vault.now) (V.allowance vault.now)) }
+{
+    let Ok(name) = note_name(alloc) else {
+        return Err(StartFault::Vault(VaultFault::OutOfMemory));
+    };
+    match vault.note(&name) {
+        Some(value) => next_epoch(value.as_slice()),
+        None => Ok(ClockNote { epoch: 1, clock: 0 }),
+    }
+}
+
+// The fault of the vault in a commit.
+fn vault_fault(fault: CallFault) -> VaultFault
+    ensures failed { result ≡ vault_fault.Failed → fault ≡ call_fault.Failed }
+    ensures stopped { result ≡ vault_fault.Stopped → fault ≡ call_fault.Stopped }
+    ensures memory { result ≡ vault_fault.OutOfMemory → fault ≡ call_fault.OutOfMemory }
+{
+    match fault {
+        CallFault::Failed => VaultFault::Failed,
+        CallFault::Stopped => VaultFault::Stopped,
+        CallFault::OutOfMemory => VaultFault::OutOfMemory,
+    }
+}
+
+impl<V: Vault> Node<V> {
+    /// A server with what its vault holds. Its epoch is one more than that of the note, or 1 with clock 0 where there
+    /// is none, and stands in the note from then on.
+    pub fn start(alloc: Global, server: u8, vault: V) -> Result<Node<V>, (V, StartFault)>
+        requires serving { IsTrue (V.serves vault) }
+        requires given { IsTrue (V.tells vault) → AreOfServer server (V.held vault) }
+        ensures kept { IfOk result (IsKept V.tells V.serves V.held) }
+        ensures raised { IfOk result (λ n. raised (V.held vault) ≡ Ok (record { epoch = n.kept.epoch; clock = n.kept.clock })) }
+        ensures cells { IsTrue (V.tells vault) → IfOk result (λ n. (V.held n.kept.vault).cells ≡ (V.held vault).cells) }
+        ensures notes { IfOk result (λ n. (V.held n.kept.vault).notes ≡ map.insert (V.held vault).notes clock_name (clock_form.spell (record { epoch = n.kept.epoch; clock = n.kept.clock }))) }
+        ensures opening { IfOk result (λ n. n.opening.vault.value ≡ n.kept.vault) }
+        ensures server { IfOk result (λ n. n.kept.server ≡ server) }
+        ensures idle { IfOk result (λ n. (n.journal ≡ []) × (n.kept.sessions ≡ no_sessions) × (n.kept.lives ≡ map.empty) × (n.kept.is_down ≡ false)) }
+        ensures tells { IfOk result (λ n. V.tells n.kept.vault ≡ V.tells vault) }
+        ensures cause { IfErr result (λ e. HasStartCause (V.held vault) (V.faults vault) (V.faults e.0) (V.allowance e.0) e.1) }
+        ensures same { IfErr result (λ e. e.1 ≡ StartFault.Vault vault_fault.OutOfMemory → V.held e.0 ≡ V.held vault) }
+    {
+        let mut vault = vault;
+        let clock = match next_clock(alloc, &vault) {
+            Ok(clock) => clock,
+            Err(fault) => return Err((vault, fault)),
+        };
+        if let Err(fault) = store(alloc, &mut vault, &CellMap::new(alloc), clock) {
+            return Err((vault, StartFault::Vault(vault_fault(fault))));
+        }
+        let kept = Kept {
+            alloc,
+            server,
+            epoch: clock.epoch,
+            clock: clock.clock,
+            drawn: 0,
+            given: 0,
+            committed: 0,
+            sessions: Sessions::new(),
+            lives: Lives::new(alloc),
+            locks: LockTable::new(alloc),
+            vault,
+            is_down: false,
+        };
+        Ok(Node {
+            opening: Opened {
+                vault: Snapshot::of(&kept.vault),
+            },
+            kept,
+            journal: Journal::new(alloc),
+        })
+    }
+}
