@@ -10,7 +10,7 @@ use Rattle.alp_fields.specs.declared.clock_note.ClockNote.{ClockNote}
 use Rattle.alp_files.specs.declared.cell.Cell.{Cell}
 use Rattle.alp_files.specs.Apart.{AreSized}
 use Rattle.alp_vault.specs.Contents.{Contents}
-use Rattle.alp_vault.specs.Vault.{HasFaultCause}
+use Rattle.alp_vault.specs.Vault.{HasFaultCause, IsOfVolume}
 use Rattle.alp_node.specs.declared.start.StartFault.{StartFault}
 use Rattle.alp_node.specs.declared.start.StartFault.TheVariants as fault
 
@@ -33,6 +33,6 @@ raised held = after_note (map.get held.notes clock_name)
 
 -- why a server does not start: a fault of the vault, or what its note says
 abbrev pub HasStartCause : Contents → ℕ → ℕ → Allowance → StartFault → Type 0
-HasStartCause held before now allowance (fault.Vault f) = HasFaultCause before now allowance f
+HasStartCause held before now allowance (fault.Vault f) = HasFaultCause before now allowance f × IsOfVolume f
 HasStartCause held before now allowance fault.BadNote = raised held ≡ Err fault.BadNote
 HasStartCause held before now allowance fault.EpochEnd = raised held ≡ Err fault.EpochEnd

@@ -1,6 +1,7 @@
 //! How a server starts on its vault.
-ghost use Rattle.std.specs.Prelude.{◌≡◌, ◌≤◌, ◌^◌, [], None, Ok, IfOk, IfErr, IsTrue, false};
+ghost use Rattle.std.specs.Prelude.{◌≡◌, ◌≤◌, ◌^◌, [], None, Ok, IfOk, IfErr, MatchResult, IsTrue, false};
 ghost use Rattle.std.specs.FinMap as map;
+ghost use Rattle.alp_base.specs.Allowances.{Spends};
 ghost use Rattle.alp_base.specs.declared.allowance.Allowance.TheVariants.{Spent};
 ghost use Rattle.alp_base.specs.declared.faults.VaultFault.TheVariants as vault_fault;
 ghost use Rattle.alp_calls.specs.declared.fault.CallFault.TheVariants as call_fault;
@@ -107,6 +108,7 @@ impl<V: Vault> Node<V> {
         ensures server { IfOk result (λ n. n.kept.server ≡ server) }
         ensures idle { IfOk result (λ n. (n.journal ≡ []) × (n.kept.sessions ≡ no_sessions) × (n.kept.lives ≡ map.empty) × (n.kept.is_down ≡ false)) }
         ensures tells { IfOk result (λ n. V.tells n.kept.vault ≡ V.tells vault) }
+        ensures allowance { MatchResult result (λ n. Spends (V.allowance vault) (V.allowance n.kept.vault)) (λ e. Spends (V.allowance vault) (V.allowance e.0)) }
         ensures cause { IfErr result (λ e. HasStartCause (V.held vault) (V.faults vault) (V.faults e.0) (V.allowance e.0) e.1) }
         ensures same { IfErr result (λ e. e.1 ≡ StartFault.Vault vault_fault.OutOfMemory → V.held e.0 ≡ V.held vault) }
     {
