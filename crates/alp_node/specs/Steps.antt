@@ -37,12 +37,12 @@ abbrev pub seen_in : Event → ℕ
 seen_in (event.Call client epoch number (call.Begin seen)) = seen.ts
 seen_in _ = 0
 
--- in an event the clock comes to one more than the greater of what it was and what the client saw, at most
+-- by an event the clock comes at most to one more than the greater of what it was and what the client saw
 abbrev pub IsTimely : ℕ → Event → ℕ → Type 0
 IsTimely before e now = now ≤ max before (seen_in e) + 1
 
 -- The entry of the answered event is lawful, the server keeps what its state says then, what is handed out is what the
--- entry keeps, the answer has its cause, and the clock goes no further than it has to.
+-- entry keeps, the answer has its cause, and the clock is no later than it may be.
 pub record Stepped {V : Type 0} (o : Start) (s : State) (held : Contents) (new : Kept V) (e : Event) (a : Answer) : Type 0 where
   pub next : State
   pub leads : Leads s (entry_of e a) next

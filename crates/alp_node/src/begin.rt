@@ -1,9 +1,8 @@
 //! Sessions and transactions begin.
-ghost use Rattle.std.specs.Prelude.{◌≡◌, ◌+◌, ◌<◌, ◌≤◌, ◌^◌, [], ◌∷◌, IsTrue, IsSome, IfOk, OnOk, OnErr, Some, None, ℕ, false};
+ghost use Rattle.std.specs.Prelude.{◌≡◌, ◌+◌, ◌<◌, ◌≤◌, ◌^◌, IfOk, OnOk, OnErr, None, ℕ, false};
 ghost use Rattle.alp_files.specs.declared.call.Call.TheVariants as call;
 ghost use Rattle.alp_journal.specs.declared.event.Event.TheVariants as event;
 ghost use Rattle.alp_journal.specs.State.{State as StateOf, Start};
-ghost use Rattle.std.specs.FinMap as map;
 ghost use Rattle.alp_node.specs.Sessions.{session_at};
 ghost use Rattle.alp_node.specs.Kept.{IsAs, IsReady};
 ghost use Rattle.alp_node.specs.Calls.{HaveCauses};

@@ -1,5 +1,5 @@
 //! File calls: under their locks, on what their part sees.
-ghost use Rattle.std.specs.Prelude.{◌≡◌, ◌≢◌, ◌+◌, ◌<◌, ◌≤◌, ◌^◌, [], ◌∷◌, IsTrue, IfOk, OnOk, OnErr, Some, None, ℕ, true, false};
+ghost use Rattle.std.specs.Prelude.{◌≡◌, ◌≢◌, ◌+◌, ◌<◌, ◌^◌, IsTrue, IfOk, OnOk, OnErr, Some, None, ℕ, false};
 ghost use Rattle.std.specs.FinMap as map;
 ghost use Rattle.alp_base.specs.declared.key.Key.TheVariants.{Leader};
 ghost use Rattle.alp_calls.specs.Looks.{Looks, fault_in};

@@ -1,5 +1,5 @@
 //! Transactions end.
-ghost use Rattle.std.specs.Prelude.{◌≡◌, ◌≢◌, ◌+◌, ◌<◌, ◌≤◌, ◌^◌, [], ◌∷◌, IsTrue, IfOk, OnOk, OnErr, Some, None, ℕ, true, false, vec_capacity};
+ghost use Rattle.std.specs.Prelude.{◌≡◌, ◌+◌, ◌<◌, ◌≤◌, ◌^◌, [], IsTrue, IfOk, OnOk, OnErr, Some, ℕ, true, false, vec_capacity};
 ghost use Rattle.std.specs.FinMap as map;
 ghost use Rattle.alp_calls.specs.declared.fault.CallFault.TheVariants as call_fault;
 ghost use Rattle.alp_files.specs.Sound.{AreSound};

@@ -1,9 +1,8 @@
 //! File calls that ask for locks.
-ghost use Rattle.std.specs.Prelude.{◌≡◌, ◌≢◌, ◌+◌, ◌<◌, ◌≤◌, ◌^◌, [], ◌∷◌, IsTrue, IfOk, OnOk, OnErr, Some, None, ℕ, is_some, true, false};
+ghost use Rattle.std.specs.Prelude.{◌≡◌, ◌+◌, ◌<◌, ◌^◌, IsTrue, IfOk, OnOk, OnErr, Some, ℕ, is_some, true, false};
 ghost use Rattle.std.specs.FinMap as map;
 ghost use Rattle.alp_files.specs.Locks.{IsFormed};
-ghost use Rattle.alp_locks.specs.Sound.{IsSound, IsPrepared};
-ghost use Rattle.alp_node.specs.declared.lives.Live.{Live as ALive};
+ghost use Rattle.alp_locks.specs.Sound.{IsPrepared};
 ghost use Rattle.alp_journal.specs.declared.event.Event.TheVariants as event;
 ghost use Rattle.alp_journal.specs.State.{State as StateOf, Start, file_trans};
 ghost use Rattle.alp_node.specs.Asks.{IsOfGiven, is_made as is_made_of, plan_for, count_made, with_plan};
