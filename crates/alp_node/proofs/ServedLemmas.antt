@@ -15,7 +15,7 @@ use Rattle.alp_journal.specs.declared.event.Event.TheVariants as event
 use Rattle.alp_journal.specs.State.{State, Start, Life, file_trans}
 use Rattle.alp_journal.specs.State as state
 use Rattle.alp_journal.specs.Laws.{ended_at}
-use Rattle.alp_journal.specs.Causes.{own_in, AnswersOwn, AnswersFile, AnswersCall, IsFileAnswer, is_of_unknown}
+use Rattle.alp_journal.specs.Causes.{own_in, AnswersOwn, AnswersFile, AnswersFinish, IsFileAnswer, is_of_unknown}
 use Rattle.alp_journal.specs.Causes.IsFileAnswer.{unknown}
 use Rattle.alp_locks.specs.Tables.{Parts}
 use Rattle.alp_node.specs.Asks.{is_given}
@@ -127,3 +127,16 @@ module _ {V : Type 0} (o : Start) (s : State) (told : V → Contents) (k new : K
       (subst (λ (y : Option TransId). AnswersFile s turn.client c y r) (sym named)
           (subst (λ (y : Option Life). AnswersOwn y r (λ l. IsFileAnswer s t l c r)) (sym (own_is turn.client (s.lives t) x.life x.is (x.alike.client ∙ own.2))) (unknown why.0)))
       is said
+
+-- a transaction that is not a live one of the client does not end
+module _ {V : Type 0} (o : Start) (s : State) (told : V → Contents) (k new : Kept V) (turn : Turn) (t : TransId) (commit : Bool) (a : Answer) where
+  pub no_finish_stepped : IsAs o s (told k.vault) k → IsTurn k.sessions turn → is_own turn.client (map.get k.lives t) ≡ false → new ≡ record k { sessions = counted_in k.sessions turn }
+      → a ≡ record { kept = Some (reply.Refused refusal.UnknownTrans); handed = Some (reply.Refused refusal.UnknownTrans); acts = [] }
+      → Stepped o s (told new.vault) new (event.Call turn.client k.epoch turn.number (call.Finish t commit)) a
+  no_finish_stepped h turned away is said =
+      let c : Call = call.Finish t commit in
+      let r : Reply = reply.Refused refusal.UnknownTrans in
+      let none : own_in turn.client (s.lives t) ≡ None = not_own turn.client k.locks.held t (map.get k.lives t) (s.lives t) away (h.lives t) in
+      subst (λ (n : Kept V). Stepped o s (told n.vault) n (event.Call turn.client k.epoch turn.number c) a) (sym is)
+      (passing_stepped o s (told k.vault) k turn.client turn.session turn.number c refusal.UnknownTrans a h turned.client turned.session turned.number refl refl refl refl
+          (subst (λ (x : Option Life). AnswersOwn x r (λ _. AnswersFinish s t commit r)) (sym none) refl) said)
