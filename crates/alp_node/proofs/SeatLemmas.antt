@@ -37,6 +37,10 @@ module _ {V : Type 0} (faults : V → ℕ) (allowance : V → Allowance) (old ne
     falls = λ up fell. (let wrong : true ≡ false = sym fell ∙ down ∙ up in cc);
   }
 
+-- nothing is spent where the allowance is as it was
+pub spends_same : (a b : Allowance) → b ≡ a → Spends a b
+spends_same a b is = subst (Spends a) (sym is) (spends_nothing a)
+
 -- why a vault gave no answer
 halt_cause : (before now : ℕ) (allowed : Allowance) (fault : CallFault) (a : Answer) → (fault ≡ call_fault.Failed → Rose before now) → (fault ≡ call_fault.Stopped → allowed ≡ Spent) → IsHalted fault a
     → Rose before now ⊎ (allowed ≡ Spent)
@@ -57,3 +61,13 @@ halted_seated faults allowance old v sessions fault (Ok a) new spends failed sto
     })
 halted_seated faults allowance old v sessions fault (Err e) new spends failed stopped halted down err =
     subst (IsSeated faults allowance old) (sym err) (seated_under faults allowance old (record old { vault = v }) refl refl spends refl)
+
+-- what is seated as another server with that vault
+pub seated_from : {V : Type 0} (faults : V → ℕ) (allowance : V → Allowance) (old mid new : Kept V) → mid.server ≡ old.server → mid.epoch ≡ old.epoch → mid.is_down ≡ old.is_down
+    → IsSeated faults allowance (record mid { vault = old.vault }) new → IsSeated faults allowance old new
+seated_from faults allowance old mid new server epoch down h = record {
+  server = h.server ∙ server;
+  epoch = h.epoch ∙ epoch;
+  spends = h.spends;
+  falls = λ up fell. h.falls (down ∙ up) fell;
+}

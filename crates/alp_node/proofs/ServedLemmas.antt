@@ -21,11 +21,13 @@ use Rattle.alp_locks.specs.Tables.{Parts}
 use Rattle.alp_node.specs.Asks.{is_given}
 use Rattle.alp_node.specs.Calls.{IsServedCall}
 use Rattle.alp_node.specs.Kept.{IsAs, IsAlike, IsLife}
-use Rattle.alp_node.specs.Served.{is_of_given}
+use Rattle.alp_node.specs.Served.{IsInTurn, IsNextOf, is_of_given}
+use Rattle.alp_node.specs.Sessions.{session_at}
 use Rattle.alp_node.specs.Steps.{Stepped, IsTurn, IsOf, is_own, counted_in}
 use Rattle.alp_node.specs.declared.answer.Answer.{Answer}
 use Rattle.alp_node.specs.declared.kept.Kept.{Kept}
 use Rattle.alp_node.specs.declared.lives.Live.{Live}
+use Rattle.alp_node.specs.declared.sessions.Session.{Session}
 use Rattle.alp_node.specs.declared.sessions.Turn.{Turn}
 use Rattle.alp_node.proofs.CauseLemmas.{call_cause, own_is}
 use Rattle.alp_node.proofs.GrantLemmas.{unknown_file}
@@ -140,3 +142,31 @@ module _ {V : Type 0} (o : Start) (s : State) (told : V → Contents) (k new : K
       subst (λ (n : Kept V). Stepped o s (told n.vault) n (event.Call turn.client k.epoch turn.number c) a) (sym is)
       (passing_stepped o s (told k.vault) k turn.client turn.session turn.number c refusal.UnknownTrans a h turned.client turned.session turned.number refl refl refl refl
           (subst (λ (x : Option Life). AnswersOwn x r (λ _. AnswersFinish s t commit r)) (sym none) refl) said)
+
+-- a call in its turn has the epoch of its session
+pub in_turn_epoch : {V : Type 0} (k : Kept V) (client epoch number : ℕ) (c : Call) (w : Session) → session_at k.sessions client ≡ Some w → IsInTurn k client epoch number c → epoch ≡ k.epoch
+in_turn_epoch k client epoch number c w there h = go c h
+  where
+    next : IsNextOf (session_at k.sessions client) k.epoch epoch number → epoch ≡ k.epoch
+    next turn = (subst (λ (x : Option Session). IsNextOf x k.epoch epoch number) there turn).0
+
+    go : (c : Call) → IsInTurn k client epoch number c → epoch ≡ k.epoch
+    go (call.Hello name) h = (let wrong : None ≡ Some w = sym h.0 ∙ there in cc)
+    go (call.Begin seen) h = next h
+    go (call.Join t) h = next h
+    go (call.CreateFile t start choice) h = next h
+    go (call.OpenFile t f a mode choice) h = next h
+    go (call.CloseFile t n) h = next h
+    go (call.DeleteFile t n choice) h = next h
+    go (call.ReadPages t n run mode choice) h = next h
+    go (call.WritePages t n run pages choice) h = next h
+    go (call.LockPages t n run mode choice) h = next h
+    go (call.SetSize t n size choice) h = next h
+    go (call.ReadProps t n) h = next h
+    go (call.WriteProps t n change choice) h = next h
+    go (call.ReadOwner t name choice) h = next h
+    go (call.MakeOwner t name quota create choice) h = next h
+    go (call.SetQuota t name quota choice) h = next h
+    go (call.Finish t commit) h = next h
+    go (call.Outcome t) h = next h
+    go (call.Collect n) h = next h

@@ -1,4 +1,4 @@
-use Rattle.std.proofs.Common.{◌≡◌, ◌∷◌, [], ◌++◌, ℕ, IsTrue, refl, sym, ap, subst, ◌∙◌}
+use Rattle.std.proofs.Common.{◌≡◌, ◌∷◌, [], ◌++◌, ℕ, IsTrue, arith, refl, sym, ap, subst, ◌∙◌}
 use Rattle.alp_journal.specs.State.{Start}
 use Rattle.alp_node.specs.declared.kept.Kept.{Kept}
 use Rattle.alp_node.specs.declared.node.Node.{Node}
@@ -53,3 +53,10 @@ returns-in-Err-clause-kept g c =
     let n : Node g.row.V.Denot = record { opening = c.args.self.now.opening; kept = c.answer.new.self; journal = c.take_back.new.self } in
     still_kept g.V.Vault.tells g.V.Vault.serves g.V.Vault.held c.args.self.now n c.requires.kept refl c.answer.ensures.seat.server c.answer.ensures.tells
     c.in-Err.ensures.ready_still c.in-Err.ensures.still (c.take_back.ensures.taken c.args.self.now.journal (c.in_ok-make_place.ensures.ok.0) (c.in_ok-make_place.ensures.ok.1))
+
+pub returns-in-Err-clause-clock : goal.returns-in-Err-clause-clock
+returns-in-Err-clause-clock g c tells =
+    let o : Start = start_in g.V.Vault.held c.args.self.now in
+    let r = (c.requires.kept.right tells).kept in
+    let now : c.args.self.now.kept.clock ≡ c.answer.new.self.clock = sym r.clock ∙ (c.in-Err.ensures.still o (state_of o c.args.self.now.journal) r).clock in
+    omega (arith, now)
