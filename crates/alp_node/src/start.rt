@@ -7,7 +7,7 @@ ghost use Rattle.alp_base.specs.declared.faults.VaultFault.TheVariants as vault_
 ghost use Rattle.alp_calls.specs.declared.fault.CallFault.TheVariants as call_fault;
 ghost use Rattle.alp_fields.specs.Forms.{whole};
 ghost use Rattle.alp_fields.specs.ClockNote.{clock_name, clock_form};
-ghost use Rattle.alp_vault.specs.Vault.{HasFaultCause};
+ghost use Rattle.alp_vault.specs.Vault.{HasFaultCause, IsOfVolume};
 ghost use Rattle.alp_node.specs.Nodes.{IsKept};
 ghost use Rattle.alp_node.specs.Sessions.{no_sessions};
 ghost use Rattle.alp_node.specs.Starts.{AreOfServer, after_clock, raised, HasStartCause};
@@ -86,6 +86,7 @@ fn vault_fault(fault: CallFault) -> VaultFault
     ensures failed { result ≡ vault_fault.Failed → fault ≡ call_fault.Failed }
     ensures stopped { result ≡ vault_fault.Stopped → fault ≡ call_fault.Stopped }
     ensures memory { result ≡ vault_fault.OutOfMemory → fault ≡ call_fault.OutOfMemory }
+    ensures volume { IsOfVolume result }
 {
     match fault {
         CallFault::Failed => VaultFault::Failed,

@@ -1,4 +1,6 @@
+use Rattle.std.specs.Prelude.{Err}
 use Rattle.std.specs.FinMap as map
+use Rattle.alp_calls.specs.declared.fault.CallFault.{CallFault}
 use Rattle.std.proofs.Common.{◌≡◌, IsTrue, false, Ok, ℕ, [], length, refl, sym, ap, subst, ◌∙◌}
 use Rattle.alp_base.specs.declared.ids.FileId.{FileId}
 use Rattle.alp_base.specs.declared.key.Key.TheVariants.{Leader}
@@ -70,3 +72,9 @@ returns-clause-kept g c =
 
 pub returns-clause-cells : goal.returns-clause-cells
 returns-clause-cells g c tells = over_nothing c.new.result (g.V.Vault.held c.store-2.new.vault).cells (g.V.Vault.held c.args.vault).cells c.new.ensures (c.in_default.ensures.cells tells)
+
+pub returns-in-Err-store-clause-cause : goal.returns-in-Err-store-clause-cause
+returns-in-Err-store-clause-cause g c = (record {
+      failed = λ e. c.in-Err-store.ensures.failed (ap (λ (f : CallFault). Err f) (c.vault_fault.ensures.failed e));
+      stopped = λ e. c.in-Err-store.ensures.stopped (ap (λ (f : CallFault). Err f) (c.vault_fault.ensures.stopped e));
+    }, c.vault_fault.ensures.volume)
