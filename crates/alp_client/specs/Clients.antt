@@ -1,7 +1,7 @@
--- What a client sends for a line of the script, by the replies that it was handed before.
-use Rattle.std.specs.Prelude.{◌≡◌, ℕ, ◌+◌, Bool, true, false, List, [], ◌∷◌, codes, replicate, length, ◌≤◌, Option, None, Some, unwrap_or}
-use Rattle.std.specs.Option.{option_map}
+-- What one client sends for a line of the script, by what words stand for and by the replies that it was handed before.
+use Rattle.std.specs.Prelude.{◌≡◌, ℕ, ◌+◌, ◌<◌, ◌^◌, Bool, true, false, codes, replicate, length, ◌≤◌, Option, None, Some, unwrap_or}
 use Rattle.std.specs.FinMap as map
+use Rattle.std.specs.Option.{option_map}
 use Rattle.alp_base.specs.declared.ids.FileId.{FileId}
 use Rattle.alp_base.specs.declared.ids.TransId.{TransId}
 use Rattle.alp_base.specs.declared.ids.Stamp.{Stamp}
@@ -17,9 +17,10 @@ use Rattle.alp_script.specs.declared.line.Line.{Line}
 use Rattle.alp_script.specs.declared.line.Line.TheVariants as line
 use Rattle.alp_script.specs.declared.line.FileWord.{FileWord}
 use Rattle.alp_script.specs.declared.line.FileWord.TheVariants as file_word
-use Rattle.alp_client.specs.Maps.{WordMap, OpenMap}
+use Rattle.alp_client.specs.Maps.{WordMap}
 use Rattle.alp_client.specs.Props.{new_props, later}
 use Rattle.alp_client.specs.declared.client.Client.{Client}
+use Rattle.alp_client.specs.declared.client.Frame.{Frame}
 use Rattle.alp_client.specs.declared.client.Greeted.{Greeted}
 
 -- nobody told it of a transaction
@@ -34,7 +35,7 @@ abbrev pub no_file : FileId
 no_file = record { server = 1; epoch = 0; counter = 0 }
 
 abbrev pub new_client : Client
-new_client = record { name = codes "Admin"; session = None; trans = None; told = no_stamp; words = map.empty; opens = map.empty }
+new_client = record { name = codes "Admin"; session = None; trans = None; told = no_stamp; opens = map.empty }
 
 -- ---- the call of a line
 
@@ -42,50 +43,58 @@ abbrev pub file_of : WordMap → FileWord → FileId
 file_of words (file_word.Word name) = unwrap_or (map.get words name) no_file
 file_of words (file_word.Id id) = id
 
--- the open number last given for the file, or 0
-abbrev pub open_of : Client → FileWord → ℕ
-open_of c file = unwrap_or (map.get c.opens (file_of c.words file)) 0
+-- the open number last given to the client for the file, or 0
+abbrev pub open_of : Client → FileId → ℕ
+open_of c file = unwrap_or (map.get c.opens file) 0
 
--- the call that a line of a client is for, if there is a transaction where it needs one
-abbrev pub call_in : Client → TransId → Line → Option Call
-call_in c t (line.MakeOwner client server owner quota create choice) = Some (call.MakeOwner t owner quota create choice)
-call_in c t (line.Create client server word owner size read modify choice) = Some (call.CreateFile t (new_props word owner size read modify) choice)
-call_in c t (line.WritePages client file run text choice) = Some (call.WritePages t (open_of c file) run (replicate run.count (page_of text)) choice)
-call_in c t (line.ReadPages client file run mode choice) = Some (call.ReadPages t (open_of c file) run mode choice)
-call_in c t (line.Commit client) = Some (call.Finish t true)
-call_in c t _ = None
+-- a line that makes an owner or a file
+abbrev pub making_call : TransId → Line → Option Call
+making_call t (line.MakeOwner client server owner quota create choice) = Some (call.MakeOwner t owner quota create choice)
+making_call t (line.Create client server word owner size read modify choice) = Some (call.CreateFile t (new_props word owner size read modify) choice)
+making_call t _ = None
 
-abbrev pub call_with : Client → Option TransId → Line → Option Call
-call_with c None l = None
-call_with c (Some t) l = call_in c t l
+-- or one that reads or writes pages
+abbrev pub page_call : WordMap → Client → TransId → Line → Option Call
+page_call words c t (line.WritePages client file run text choice) = Some (call.WritePages t (open_of c (file_of words file)) run (replicate run.count (page_of text)) choice)
+page_call words c t (line.ReadPages client file run mode choice) = Some (call.ReadPages t (open_of c (file_of words file)) run mode choice)
+page_call words c t l = making_call t l
 
-abbrev pub call_of : Client → Line → Option Call
-call_of c (line.Begin client server) = Some (call.Begin c.told)
-call_of c l = call_with c c.trans l
+-- the call of a line in the client's transaction
+abbrev pub call_in : WordMap → Client → TransId → Line → Option Call
+call_in words c t (line.OpenFile client file access mode choice) = Some (call.OpenFile t (file_of words file) access mode choice)
+call_in words c t (line.Commit client) = Some (call.Finish t true)
+call_in words c t (line.Abort client) = Some (call.Finish t false)
+call_in words c t l = page_call words c t l
+
+abbrev pub call_with : WordMap → Client → Option TransId → Line → Option Call
+call_with words c None l = None
+call_with words c (Some t) l = call_in words c t l
+
+-- the call that a line of the client is for, if there is a transaction where it needs one
+abbrev pub call_by : WordMap → Client → Line → Option Call
+call_by words c (line.Begin client server) = Some (call.Begin c.told)
+call_by words c l = call_with words c c.trans l
 
 -- ---- the frames of a line
-
--- a call with the epoch and the number that it is given
-pub record Frame : Type 0 where
-  pub epoch : ℕ
-  pub number : ℕ
-  pub call : Call
 
 -- a client says `Hello` before its first call
 abbrev pub frame_in : Client → Option Greeted → Call → Frame
 frame_in c None asked = record { epoch = 0; number = 1; call = call.Hello c.name }
 frame_in c (Some g) asked = record { epoch = g.epoch; number = g.last + 1; call = asked }
 
--- what the client asks next for a line, or nothing where the line is over
-abbrev pub asks : Client → Line → Bool → Option Frame
-asks c l true = None
-asks c l false = option_map (frame_in c c.session) (call_of c l)
+-- what the client asks next for a line that is not over
+abbrev pub frame_of : WordMap → Client → Line → Option Frame
+frame_of words c l = option_map (frame_in c c.session) (call_by words c l)
+
+abbrev pub frame_sent : Exchange → Frame
+frame_sent x = record { epoch = x.epoch; number = x.number; call = x.call }
 
 -- ---- what the client makes of a reply
 
--- a commit that is answered so has no transaction behind it
+-- a commit or an abort that is answered so has no transaction behind it
 abbrev pub left : Client → Line → Client
 left c (line.Commit client) = record c { trans = None }
+left c (line.Abort client) = record c { trans = None }
 left c l = c
 
 -- a stale session is no session
@@ -95,28 +104,27 @@ told_refusal c l refusal.UnknownTrans = left c l
 told_refusal c l (refusal.Aborted cause) = left c l
 told_refusal c l _ = c
 
--- a created file's id is bound to the word of its line, and its open number is kept
-abbrev pub created_words : WordMap → Line → FileId → WordMap
-created_words words (line.Create client server word owner size read modify choice) f = map.insert words word f
-created_words words l f = words
+-- the open number of a created file is kept
+abbrev pub created : Client → Line → FileId → ℕ → Client
+created c (line.Create client server word owner size read modify choice) f n = record c { opens = map.insert c.opens f n }
+created c l f n = c
 
-abbrev pub created_opens : OpenMap → Line → FileId → ℕ → OpenMap
-created_opens opens (line.Create client server word owner size read modify choice) f n = map.insert opens f n
-created_opens opens l f n = opens
+-- and so is that of a file opened, which is the one that the word of the line stands for
+abbrev pub opened : WordMap → Client → Line → ℕ → Client
+opened words c (line.OpenFile client file access mode choice) n = record c { opens = map.insert c.opens (file_of words file) n }
+opened words c l n = c
 
-abbrev pub told_created : Client → Line → FileId → ℕ → Client
-told_created c l f n = record c { words = created_words c.words l f; opens = created_opens c.opens l f n }
+abbrev pub told_reply : WordMap → Client → Line → Reply → Client
+told_reply words c l (reply.Begun t) = record c { trans = Some t }
+told_reply words c l (reply.Created f n) = created c l f n
+told_reply words c l (reply.Opened n) = opened words c l n
+told_reply words c l (reply.Committed s) = record (left c l) { told = later c.told s }
+told_reply words c l (reply.Refused r) = told_refusal c l r
+told_reply words c l _ = c
 
-abbrev pub told_reply : Client → Line → Reply → Client
-told_reply c l (reply.Begun t) = record c { trans = Some t }
-told_reply c l (reply.Created f n) = told_created c l f n
-told_reply c l (reply.Committed s) = record c { trans = None; told = later c.told s }
-told_reply c l (reply.Refused r) = told_refusal c l r
-told_reply c l _ = c
-
-abbrev pub told : Client → Line → Option Reply → Client
-told c l None = c
-told c l (Some r) = told_reply c l r
+abbrev pub told : WordMap → Client → Line → Option Reply → Client
+told words c l None = c
+told words c l (Some r) = told_reply words c l r
 
 -- a greeting begins a session, and anything else ends the line
 abbrev pub greeted : Client → Option Reply → Client × Bool
@@ -124,35 +132,43 @@ greeted c (Some (reply.Welcome epoch)) = (record c { session = Some (record { ep
 greeted c _ = (c, true)
 
 -- what the client knows after a reply, and whether the line is over
-abbrev pub hears_in : Client → Option Greeted → Line → Option Reply → Client × Bool
-hears_in c None l r = greeted c r
-hears_in c (Some g) l r = (told (record c { session = Some (record g { last = g.last + 1 }) }) l r, true)
+abbrev pub heard : WordMap → Client → Option Greeted → Line → Option Reply → Client × Bool
+heard words c None l r = greeted c r
+heard words c (Some g) l r = (told words (record c { session = Some (record g { last = g.last + 1 }) }) l r, true)
 
-abbrev pub hears : Client → Line → Option Reply → Client × Bool
-hears c l r = hears_in c c.session l r
+-- a `begin` leaves the transaction before
+abbrev pub begins : Client → Line → Client
+begins c (line.Begin client server) = record c { trans = None; opens = map.empty }
+begins c l = c
 
--- ---- lines
+-- ---- what words stand for
 
--- a `create` binds its word at the line, and a `begin` leaves the transaction before
-abbrev pub at_line : Client → Line → Client
-at_line c (line.Begin client server) = record c { trans = None; opens = map.empty }
-at_line c (line.Create client server word owner size read modify choice) = record c { words = map.insert c.words word no_file }
-at_line c l = c
+-- a created file's id is bound to the word of its line
+abbrev pub bound : WordMap → Line → FileId → WordMap
+bound words (line.Create client server word owner size read modify choice) f = map.insert words word f
+bound words l f = words
 
--- what a declaration says of the client
-abbrev pub declares : Client → Line → Client
-declares c (line.Client client name) = record c { name = name }
-declares c l = c
+abbrev pub words_told : WordMap → Line → Option Reply → WordMap
+words_told words l (Some (reply.Created f n)) = bound words l f
+words_told words l _ = words
 
-abbrev pub frame_sent : Exchange → Frame
-frame_sent x = record { epoch = x.epoch; number = x.number; call = x.call }
+-- no word is bound before a session began
+abbrev pub words_heard : WordMap → Option Greeted → Line → Option Reply → WordMap
+words_heard words None l r = words
+words_heard words (Some g) l r = words_told words l r
 
--- these exchanges are those of a line, and the client knows this behind them
-abbrev pub Exchanges : Client → Line → Bool → List Exchange → Client → Type 0
-Exchanges c l over [] d = (asks c l over ≡ None) × (d ≡ c)
-Exchanges c l over (x ∷ xs) d = (asks c l over ≡ Some (frame_sent x)) × (x.server ≡ 1) × Exchanges (hears c l x.reply).0 l (hears c l x.reply).1 xs d
+-- a `create` binds its word at the line, to no file
+abbrev pub words_at : WordMap → Line → WordMap
+words_at words l = bound words l no_file
+
+-- ---- what a client's lines have to be
 
 -- the text of a line fits a page
 abbrev pub FitsPage : Line → Type 0
 FitsPage (line.WritePages client file run text choice) = length text ≤ 512
 FitsPage _ = Unit {0}
+
+-- the number of the next call has its four bytes
+abbrev pub HasNext : Option Greeted → Type 0
+HasNext None = Unit {0}
+HasNext (Some g) = g.last + 1 < 2 ^ 32

@@ -1,3 +1,5 @@
 pub mod Maps
 pub mod Props
 pub mod Clients
+pub mod Crowd
+pub mod Crowds

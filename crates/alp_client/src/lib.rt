@@ -1,8 +1,10 @@
-//! A client of a script: what it sends for a line, and what it makes of the replies.
+//! The clients of a script: what each sends for a line, and what it makes of the replies.
 #![tactic(auto)]
 
 mod client;
+mod clients;
 mod memory;
 
-pub use client::{Client, Greeted};
+pub use client::{Client, Frame, Greeted};
+pub use clients::Clients;
 pub use memory::{Opens, Words};

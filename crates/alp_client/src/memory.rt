@@ -1,14 +1,23 @@
-//! What a client remembers of files: the ids that words stand for, and the opens of ids.
+//! What is remembered of files: the ids that words stand for, and a client's opens of ids.
 ghost use Rattle.std.specs.Prelude.{◌≡◌, IfOk, OnOk, OnErr, None};
 ghost use Rattle.std.specs.FinMap as map;
 ghost use Rattle.std.specs.Option.{option_copied as copied};
 ghost use Rattle.alp_base.specs.declared.ids.FileId.{FileId as AnId};
+ghost use Rattle.alp_client.specs.Clients.{no_file, file_of as file_said, bound as bound_said, words_at};
 ghost use Rattle.alp_client.specs.Maps.{WordMap as AWordMap};
 
 use alp_base::{FileId, Name, OutOfMemory};
+use alp_script::{FileWord, Line};
 use std::alloc::Global;
 use std::collections::BTreeMap;
 use std::marker::Model;
+
+/// What a word stands for before its file is created.
+const NO_FILE: FileId = FileId {
+    server: 1,
+    epoch: 0,
+    counter: 0,
+};
 
 /// The ids that words of the script stand for.
 #[derive(Drop)]
@@ -42,6 +51,27 @@ impl Words {
         ensures { copied result ≡ map.get self.now word.now }
     {
         self.ids.get(word)
+    }
+
+    /// The id that a line's file word stands for.
+    pub fn file_of(&self, file: &FileWord) -> FileId
+        ensures { result ≡ file_said self.now file.now }
+    {
+        match file {
+            FileWord::Word(word) => self.get(word).copied().unwrap_or(NO_FILE),
+            FileWord::Id(id) => *id,
+        }
+    }
+
+    /// A `create` binds its word at the line, to no file.
+    pub fn at_line(&mut self, line: &Line) -> Result<(), OutOfMemory>
+        ensures ok { OnOk result (self.new ≡ words_at self.old line.now) }
+        ensures err { OnErr result (self.new ≡ self.old) }
+    {
+        if let Line::Create { word, .. } = line {
+            self.bind(*word, NO_FILE)?;
+        }
+        Ok(())
     }
 
     /// The word stands for the id from now on. Gives what it stood for.

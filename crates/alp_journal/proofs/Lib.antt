@@ -5,3 +5,4 @@ pub mod LifeLemmas
 pub mod OneThread
 pub mod Worked
 pub mod EntryLemmas
+pub mod SessionLemmas

@@ -407,3 +407,24 @@ kept_from client s (e ∷ es) before h law w =
 -- each client's promises are kept in what a lawful journal decides
 pub promises_kept : (o : Start) (journal : List Entry) (client : ℕ) → IsLawful o journal → AreKept (in_order (state_after next (opened o) journal)) [] (told_along client journal)
 promises_kept o journal client law = kept_from client (opened o) journal [] (record { earlier = tt; counted = tt; lives = λ t l e. cc }) law tt
+
+-- ---- the clock
+
+drawn_all : (s : State) (es : List Entry) → Along next IsLawfulEntry s es → AreDrawn s.drawn s → AreDrawn (state_after next s es).drawn (state_after next s es)
+drawn_all s [] law h = h
+drawn_all s (e ∷ es) law h = drawn_all (next s e) es law.1 (keeps_entry s e law.0 h).drawn
+
+drawn_here : (o : Start) (journal : List Entry) → IsLawful o journal → AreDrawn (state_after next (opened o) journal).drawn (state_after next (opened o) journal)
+drawn_here o journal law = drawn_all (opened o) journal law (record { earlier = tt; counted = tt; lives = λ t l e. cc })
+
+-- the clock does not fall
+pub clock_rises : (o : Start) (journal : List Entry) (e : Entry) → IsLawful o journal → IsLawfulEntry (state_after next (opened o) journal) e
+    → (state_after next (opened o) journal).clock ≤ (next (state_after next (opened o) journal) e).clock
+clock_rises o journal e law entry = (keeps_entry (state_after next (opened o) journal) e entry (drawn_here o journal law)).grows.clock
+
+-- no decided stamp is beyond the clock
+pub decided_within : (o : Start) (journal : List Entry) (s : Stamp) → IsLawful o journal → IsAmong s (in_order (state_after next (opened o) journal)) → s.ts ≤ (state_after next (opened o) journal).clock
+decided_within o journal s law among =
+    let x : State = state_after next (opened o) journal in
+    let h = drawn_here o journal law in
+    among_earlier x.clock x.drawn s x.decided h.earlier h.counted among

@@ -31,7 +31,7 @@ after_note (Some value) = after_clock (whole clock_form value)
 abbrev pub raised : Contents → Result ClockNote StartFault
 raised held = after_note (map.get held.notes clock_name)
 
--- why a server does not start: a fault of the vault, or what its note says
+-- why a server does not start: a fault of the vault, which is a volume in its format, or what its note says
 abbrev pub HasStartCause : Contents → ℕ → ℕ → Allowance → StartFault → Type 0
 HasStartCause held before now allowance (fault.Vault f) = HasFaultCause before now allowance f × IsOfVolume f
 HasStartCause held before now allowance fault.BadNote = raised held ≡ Err fault.BadNote

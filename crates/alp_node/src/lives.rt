@@ -2,6 +2,9 @@
 ghost use Rattle.std.specs.Prelude.{◌≡◌, ◌≢◌, IfOk, OnOk, OnErr, None, Some, is_some};
 ghost use Rattle.std.specs.FinMap as map;
 ghost use Rattle.std.specs.Option.{option_copied as copied};
+ghost use Rattle.std.specs.BTreeMap.{keys, IsOrdered};
+ghost use Rattle.std.specs.List.Sorted.{IsStrictlySortedBy};
+ghost use Rattle.alp_modes.specs.Orders.{trans_cmp};
 
 use alp_base::{Name, OutOfMemory, TransId};
 use alp_calls::Part;
@@ -80,9 +83,29 @@ impl Lives {
         }
     }
 
+    /// Their ids, in rising order.
+    pub fn ids(&self, alloc: Global) -> Result<Vec<TransId>, OutOfMemory>
+        ensures ids { IfOk result (λ v. v.items ≡ map.keys self.now) }
+        ensures rising { IfOk result (λ v. IsStrictlySortedBy trans_cmp v.items) }
+    {
+        let ids = ids_in(alloc, &self.lives)?;
+        Ok(ids)
+    }
+
     pub fn remove(&mut self, trans: &TransId)
         ensures { self.new ≡ map.remove self.old trans.now }
     {
         self.lives.remove(trans);
     }
+}
+
+fn ids_in(alloc: Global, lives: &BTreeMap<TransId, Live>) -> Result<Vec<TransId>, OutOfMemory>
+    ensures ids { IfOk result (λ v. v.items ≡ keys lives.now) }
+    ensures rising { IsOrdered trans_cmp lives.now }
+{
+    let mut ids = Vec::new(alloc);
+    for trans in lives.keys() {
+        ids.push(*trans)?;
+    }
+    Ok(ids)
 }

@@ -4,16 +4,17 @@ use Rattle.std.specs.List.{AllByRecursion}
 use Rattle.std.specs.Option.{option_map}
 use Rattle.std.specs.Str.Lines.{lines}
 use Rattle.std.proofs.Common.{◌≡◌, ℕ, ◌+◌, ◌<◌, ◌≤◌, List, [], ◌∷◌, ◌++◌, length, true, false, refl, sym, ◌∙◌, ap, subst, arith}
-use Rattle.std.proofs.lemmas.Bool.{leb-true, and_parts}
+use Rattle.std.proofs.lemmas.Bool.{leb-true}
 use Rattle.std.proofs.lemmas.Option.{same_Some}
 use Rattle.alp_script.specs.Words.{◌>>=◌, is_line, words_of}
 use Rattle.alp_script.specs.Grammar.{is_skipped, line_said, line_of, text_said}
 use Rattle.alp_script.specs.Known.{Known, nothing_known}
-use Rattle.alp_script.specs.Order.{after, is_declared, names_ours, next}
+use Rattle.alp_script.specs.Order.{names_ours, next}
 use Rattle.alp_script.specs.Script.{step, read_at, numbered, with_front, line_then, script_from, script}
 use Rattle.alp_script.specs.Forms.{IsForm}
-use Rattle.alp_script.specs.Accepted.{LeadsFrom, RisesFrom, IsAccepted}
+use Rattle.alp_script.specs.Accepted.{LeadsFrom, RisesFrom, DeclaredFrom, IsAccepted}
 use Rattle.alp_script.proofs.FormLemmas.{line_of-form}
+use Rattle.alp_script.proofs.OrderLemmas.{next-ours, next-after, next-declared, clients_after}
 use Rattle.alp_script.specs.declared.line.Line.{Line}
 use Rattle.alp_script.specs.declared.numbered.NumberedLine.{NumberedLine}
 use Rattle.alp_script.specs.declared.numbered.TheConstants.{SCRIPT_LINES_MOST}
@@ -111,18 +112,15 @@ few_from : (n : ℕ) (ls : List NumberedLine) → RisesFrom n ls → n ≤ SCRIP
 few_from n [] rises within = omega arith
 few_from n (l ∷ ls) rises within = omega (arith, few_from (l.number + 1) ls rises.2 (omega (arith, rises.1)), rises.0)
 
-guarded : (b : Bool) (said : Option Known) (t : Known) → cond b said None ≡ Some t → b ≡ true
-guarded true said t h = refl
-guarded false said t h = cc
-
--- a line that may stand names the client and the server of the run
-pub next-ours : (k : Known) (l : Line) (t : Known) → next k l ≡ Some t → names_ours l ≡ true
-unfolding next is_declared
-next-ours k l t h = (and_parts (names_ours l) _ (guarded _ (after k l) t h)).0
-
 ours_from : (k : Known) (ls : List NumberedLine) → LeadsFrom k ls → AllByRecursion (λ l. names_ours l.line ≡ true) ls
 ours_from k [] leads = tt
 ours_from k (l ∷ ls) leads = (next-ours k l.line leads.0 leads.1, ours_from leads.0 ls leads.2)
+
+declared_from : (k : Known) (ls : List NumberedLine) → LeadsFrom k ls → AllByRecursion (λ l. IsForm l.line) ls → DeclaredFrom k.clients ls
+declared_from k [] leads forms = tt
+declared_from k (l ∷ ls) leads forms =
+    let (t, step, rest) = leads in
+    (next-declared k l.line t step, subst (λ (clients : List ℕ). DeclaredFrom clients ls) (sym (clients_after k t l.line forms.0 (next-after k l.line t step))) (declared_from t ls rest forms.1))
 
 some_first : (k : Known) (n : ℕ) (said : Option (Option Line × Known)) (texts : List (List ℕ)) (ls : List NumberedLine)
     → k.servers ≡ false
@@ -153,6 +151,7 @@ accepted bytes ls h =
       rises = read.rises;
       some = some_from nothing_known 1 (lines bytes) ls refl h;
       few = omega (arith, few_from 1 ls read.rises (omega arith));
+      declared = declared_from nothing_known ls read.leads read.forms;
       ours = ours_from nothing_known ls read.leads;
       forms = read.forms;
     }

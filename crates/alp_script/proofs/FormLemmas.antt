@@ -6,12 +6,15 @@ use Rattle.std.proofs.lemmas.Bool.{leb-true, and_parts}
 use Rattle.std.proofs.lemmas.Option.{same_Some}
 use Rattle.std.proofs.lemmas.Slice.Eq.{bytes_eq-Decides}
 use Rattle.alp_base.specs.Names.{is_between}
+use Rattle.alp_base.specs.declared.choices.Access.{Access}
+use Rattle.alp_base.specs.declared.choices.Access.TheVariants as access
 use Rattle.alp_base.specs.declared.choices.Choice.TheVariants as choice
 use Rattle.alp_base.specs.declared.ids.Run.{Run}
 use Rattle.alp_base.specs.declared.lists.TheConstants.{PAGES_PER_FILE}
+use Rattle.alp_modes.specs.declared.Mode.{Mode}
 use Rattle.alp_modes.specs.declared.Mode.TheVariants as mode
 use Rattle.alp_script.specs.Words.{◌>>=◌, when, is_numeral, value_from, says, number_of, within, word32_of, name_of, text_of, file_word_of, new_word_of}
-use Rattle.alp_script.specs.Grammar.{server_of, client_of, run_of, list_of, lists_of, servers_line, client_line, begin_line, owner_line, file_line, create_line, write_line, read_line, commit_line, line_by_verb, line_of_client, line_by, line_of}
+use Rattle.alp_script.specs.Grammar.{server_of, client_of, run_of, list_of, lists_of, servers_line, client_line, begin_line, owner_line, file_line, create_line, opening_of, open_line, write_line, read_line, commit_line, abort_line, line_by_verb, line_of_client, line_by, line_of}
 use Rattle.alp_script.specs.Forms.{world, IsRun, IsText, IsForm}
 use Rattle.alp_script.specs.Forms as form
 use Rattle.alp_script.specs.declared.grammar.TheConstants.{RUN_MOST}
@@ -175,6 +178,36 @@ unfolding create_line
 create_form client [] l h = cc
 create_form client (a ∷ args) l h = create_by client (server_of a) args l h
 
+-- an opening is to read or to change, and all that is known of one is known of both
+opened : (b c : Bool) (opening : Access × Mode) (P : Access × Mode → Type 0) → P (access.ReadOnly, mode.Read) → P (access.Change, mode.Write)
+    → cond b (Some (access.ReadOnly, mode.Read)) (cond c (Some (access.Change, mode.Write)) None) ≡ Some opening → P opening
+opened true c opening P read change h = subst P (same_Some (access.ReadOnly, mode.Read) opening h) read
+opened false true opening P read change h = subst P (same_Some (access.Change, mode.Write) opening h) change
+opened false false opening P read change h = cc
+
+opening_of-is : (purpose lock : List ℕ) (opening : Access × Mode) (P : Access × Mode → Type 0) → P (access.ReadOnly, mode.Read) → P (access.Change, mode.Write)
+    → opening_of purpose lock ≡ Some opening → P opening
+unfolding opening_of
+opening_of-is purpose lock opening P read change h =
+    opened (says purpose (codes "read") && says lock (codes "r")) (says purpose (codes "change") && says lock (codes "w")) opening P read change h
+
+open_by : (client : ℕ) (file : Option FileWord) (opening : Option (Access × Mode)) (l : Line)
+    → ((f : FileWord) (o : Access × Mode) → opening ≡ Some o → IsForm (line.OpenFile client f o.0 o.1 choice.Fail))
+    → (file >>= λ f. opening >>= λ o. Some (line.OpenFile client f o.0 o.1 choice.Fail)) ≡ Some l → IsForm l
+open_by client None opening l p h = cc
+open_by client (Some f) None l p h = cc
+open_by client (Some f) (Some o) l p h = is_form (line.OpenFile client f o.0 o.1 choice.Fail) l (p f o refl) h
+
+open_form : (client : ℕ) (args : List (List ℕ)) (l : Line) → open_line client args ≡ Some l → IsForm l
+unfolding open_line
+open_form client [] l h = cc
+open_form client (a ∷ []) l h = cc
+open_form client (a ∷ b ∷ []) l h = cc
+open_form client (a ∷ b ∷ c ∷ []) l h =
+    open_by client (file_word_of a) (opening_of b c) l
+    (λ f o e. opening_of-is b c o (λ (o : Access × Mode). IsForm (line.OpenFile client f o.0 o.1 choice.Fail)) (form.open_read client f) (form.open_change client f) e) h
+open_form client (a ∷ b ∷ c ∷ d ∷ more) l h = cc
+
 write_by : (client : ℕ) (file : Option FileWord) (run : Option Run) (text : Option (List ℕ)) (l : Line)
     → ((r : Run) → run ≡ Some r → IsRun r) → ((t : List ℕ) → text ≡ Some t → IsText t)
     → (file >>= λ f. run >>= λ r. text >>= λ t. Some (line.WritePages client f r t choice.Fail)) ≡ Some l → IsForm l
@@ -211,15 +244,22 @@ unfolding commit_line
 commit_form client [] l h = is_form (line.Commit client) l (form.commit client) h
 commit_form client (a ∷ more) l h = cc
 
+abort_form : (client : ℕ) (args : List (List ℕ)) (l : Line) → abort_line client args ≡ Some l → IsForm l
+unfolding abort_line
+abort_form client [] l h = is_form (line.Abort client) l (form.abort client) h
+abort_form client (a ∷ more) l h = cc
+
 verb_form : (client : ℕ) (verb : List ℕ) (args : List (List ℕ)) (l : Line) → line_by_verb client verb args ≡ Some l → IsForm l
 unfolding line_by_verb
 verb_form client verb args l h =
     either _ _ _ l (begin_form client args l)
     (either _ _ _ l (owner_form client args l)
     (either _ _ _ l (create_form client args l)
+    (either _ _ _ l (open_form client args l)
     (either _ _ _ l (write_form client args l)
     (either _ _ _ l (read_form client args l)
-    (either (says verb (codes "commit")) (commit_line client args) None l (commit_form client args l) (λ e. cc)))))) h
+    (either _ _ _ l (commit_form client args l)
+    (either (says verb (codes "abort")) (abort_line client args) None l (abort_form client args l) (λ e. cc)))))))) h
 
 client_then : (client : Option ℕ) (verb : List ℕ) (args : List (List ℕ)) (l : Line) → (client >>= λ c. line_by_verb c verb args) ≡ Some l → IsForm l
 client_then None verb args l h = cc

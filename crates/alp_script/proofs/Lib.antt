@@ -2,5 +2,6 @@ pub mod WordsLemmas
 pub mod ScriptLemmas
 pub mod ReadingLemmas
 pub mod FormLemmas
+pub mod OrderLemmas
 pub mod AcceptedLemmas
 mod ScriptFacts

@@ -1,12 +1,13 @@
 -- scripts that are computed: what the definitions say of the first path and of some bad lines
 use Rattle.std.specs.Prelude.{codes, Ok, Err}
 use Rattle.std.proofs.Common.{◌≡◌, ℕ, List, [], ◌∷◌, ◌++◌, refl}
+use Rattle.alp_base.specs.declared.choices.Access.TheVariants as access
 use Rattle.alp_base.specs.declared.choices.Choice.TheVariants as choice
 use Rattle.alp_modes.specs.declared.Mode.TheVariants as mode
 use Rattle.alp_script.specs.Words.{words_of, number_of, within, name_of, text_of, id_of, file_word_of, new_word_of}
-use Rattle.alp_script.specs.Grammar.{text_said, run_of, list_of, lists_of, servers_line, client_line, begin_line, owner_line, file_line, create_line, write_line, read_line, commit_line, line_by_verb, line_of_client, line_by, line_said}
+use Rattle.alp_script.specs.Grammar.{text_said, run_of, list_of, lists_of, servers_line, client_line, begin_line, owner_line, file_line, create_line, opening_of, open_line, write_line, read_line, commit_line, abort_line, line_by_verb, line_of_client, line_by, line_said}
 use Rattle.alp_script.specs.Named.{client_named, server_named}
-use Rattle.alp_script.specs.Order.{after_servers, after_client, after_begin, after_owner, after_create, after_run, after_commit, after, names_ours, is_declared, next}
+use Rattle.alp_script.specs.Order.{after_servers, after_client, after_file, after, names_ours, is_declared, next}
 use Rattle.alp_script.specs.Script.{read_at, script}
 use Rattle.alp_script.specs.declared.line.FileWord.TheVariants as file_word
 use Rattle.alp_script.specs.declared.line.Line.{Line}
@@ -58,5 +59,30 @@ whole_path : script (codes "servers 1" ++ line_end ++ codes "client 1 Admin" ++ 
     ∷ numbered 8 (line.Commit 1)
     ∷ []
     )
-unfolding script read_at text_said line_said words_of line_by servers_line client_line line_of_client line_by_verb begin_line owner_line create_line file_line write_line read_line commit_line lists_of list_of run_of within number_of name_of text_of id_of file_word_of new_word_of next is_declared names_ours client_named server_named after after_servers after_client after_begin after_owner after_create after_run after_commit
+unfolding script read_at text_said line_said words_of line_by servers_line client_line line_of_client line_by_verb begin_line owner_line create_line file_line write_line read_line commit_line lists_of list_of run_of within number_of name_of text_of id_of file_word_of new_word_of next is_declared names_ours client_named server_named after after_servers after_client after_file
 whole_path = refl
+
+-- lines of two clients, of which one opens the file that the other made
+two_clients : script (codes "servers 1" ++ line_end ++ codes "client 16 Admin" ++ line_end ++ codes "client 1 Admin" ++ line_end
+    ++ codes "1 create 1 A ann 4 World World" ++ line_end ++ codes "16 open A read r" ++ line_end
+    ++ codes "1 open 1.0.7 change w" ++ line_end ++ codes "16 abort" ++ line_end)
+    ≡ Ok (
+    numbered 1 (line.Servers 1)
+    ∷ numbered 2 (line.Client 16 (codes "Admin"))
+    ∷ numbered 3 (line.Client 1 (codes "Admin"))
+    ∷ numbered 4 (line.Create 1 1 (codes "A") (codes "ann") 4 world world choice.Fail)
+    ∷ numbered 5 (line.OpenFile 16 (file_word.Word (codes "A")) access.ReadOnly mode.Read choice.Fail)
+    ∷ numbered 6 (line.OpenFile 1 (file_word.Id (record { server = 1; epoch = 0; counter = 7 })) access.Change mode.Write choice.Fail)
+    ∷ numbered 7 (line.Abort 16)
+    ∷ []
+    )
+unfolding script read_at text_said line_said words_of line_by servers_line client_line line_of_client line_by_verb create_line file_line opening_of open_line abort_line lists_of list_of within number_of name_of id_of file_word_of new_word_of next is_declared names_ours client_named server_named after after_servers after_client after_file
+two_clients = refl
+
+late_declaration : script (codes "servers 1" ++ line_end ++ codes "client 1 Admin" ++ line_end ++ codes "1 begin 1" ++ line_end ++ codes "client 2 Admin" ++ line_end) ≡ Err 4
+unfolding script read_at text_said line_said words_of line_by servers_line client_line line_of_client line_by_verb begin_line within number_of name_of next is_declared names_ours client_named server_named after after_servers after_client
+late_declaration = refl
+
+undeclared_client : script (codes "servers 1" ++ line_end ++ codes "client 1 Admin" ++ line_end ++ codes "2 begin 1") ≡ Err 3
+unfolding script read_at text_said line_said words_of line_by servers_line client_line line_of_client line_by_verb begin_line within number_of name_of next is_declared names_ours client_named server_named after after_servers after_client
+undeclared_client = refl

@@ -1,5 +1,6 @@
 -- the lines that the language has so far, and what is known of their parts
 use Rattle.std.specs.Prelude.{ℕ, ◌<◌, ◌≤◌, List, [], ◌∷◌, length, codes}
+use Rattle.alp_base.specs.declared.choices.Access.TheVariants as access
 use Rattle.alp_base.specs.declared.choices.Choice.TheVariants as choice
 use Rattle.alp_base.specs.declared.ids.Run.{Run}
 use Rattle.alp_base.specs.declared.lists.TheConstants.{PAGES_PER_FILE}
@@ -28,6 +29,9 @@ pub data IsForm : Line → Type 0 where
   begin : (number server : ℕ) → IsForm (line.Begin number server)
   owner : (number server : ℕ) (name : List ℕ) (quota : ℕ) → IsForm (line.MakeOwner number server name quota world choice.Fail)
   create : (number server : ℕ) (word name : List ℕ) (size : ℕ) → size ≤ PAGES_PER_FILE → IsForm (line.Create number server word name size world world choice.Fail)
+  open_read : (number : ℕ) (file : FileWord) → IsForm (line.OpenFile number file access.ReadOnly mode.Read choice.Fail)
+  open_change : (number : ℕ) (file : FileWord) → IsForm (line.OpenFile number file access.Change mode.Write choice.Fail)
   write : (number : ℕ) (file : FileWord) (run : Run) (text : List ℕ) → IsRun run → IsText text → IsForm (line.WritePages number file run text choice.Fail)
   read : (number : ℕ) (file : FileWord) (run : Run) → IsRun run → IsForm (line.ReadPages number file run mode.Read choice.Fail)
   commit : (number : ℕ) → IsForm (line.Commit number)
+  abort : (number : ℕ) → IsForm (line.Abort number)

@@ -1,9 +1,12 @@
 -- what the words of a line say
-use Rattle.std.specs.Prelude.{Bool, true, ◌==◌, ℕ, List, [], ◌∷◌, codes, Option, None, Some, if◌then◌else◌}
+use Rattle.std.specs.Prelude.{Bool, true, ◌&&◌, ◌==◌, ℕ, List, [], ◌∷◌, codes, Option, None, Some, if◌then◌else◌}
 use Rattle.std.specs.Option.{option_map}
+use Rattle.alp_base.specs.declared.choices.Access.{Access}
+use Rattle.alp_base.specs.declared.choices.Access.TheVariants as access
 use Rattle.alp_base.specs.declared.choices.Choice.TheVariants as choice
 use Rattle.alp_base.specs.declared.ids.Run.{Run}
 use Rattle.alp_base.specs.declared.lists.TheConstants.{PAGES_PER_FILE}
+use Rattle.alp_modes.specs.declared.Mode.{Mode}
 use Rattle.alp_modes.specs.declared.Mode.TheVariants as mode
 use Rattle.alp_script.specs.Words.{◌>>=◌, when, says, name_of, within, word32_of, text_of, file_word_of, new_word_of, is_line, words_of}
 use Rattle.alp_script.specs.declared.grammar.TheConstants.{SERVERS_MOST, CLIENTS_MOST, RUN_MOST}
@@ -81,6 +84,20 @@ create_line client (server ∷ args) = do
   file_line client s args
 create_line client [] = None
 
+-- what a file is opened for, and the lock on all of it: `read r` or `change w`
+unfoldable pub opening_of : List ℕ → List ℕ → Option (Access × Mode)
+opening_of purpose lock =
+    if says purpose (codes "read") && says lock (codes "r") then Some (access.ReadOnly, mode.Read)
+    else if says purpose (codes "change") && says lock (codes "w") then Some (access.Change, mode.Write)
+    else None
+
+unfoldable pub open_line : ℕ → List (List ℕ) → Option Line
+open_line client (file ∷ purpose ∷ lock ∷ []) = do
+  f ← file_word_of file
+  opening ← opening_of purpose lock
+  Some (line.OpenFile client f opening.0 opening.1 choice.Fail)
+open_line client _ = None
+
 unfoldable pub write_line : ℕ → List (List ℕ) → Option Line
 write_line client (file ∷ first ∷ count ∷ text ∷ []) = do
   f ← file_word_of file
@@ -100,15 +117,21 @@ unfoldable pub commit_line : ℕ → List (List ℕ) → Option Line
 commit_line client [] = Some (line.Commit client)
 commit_line client (w ∷ ws) = None
 
+unfoldable pub abort_line : ℕ → List (List ℕ) → Option Line
+abort_line client [] = Some (line.Abort client)
+abort_line client (w ∷ ws) = None
+
 -- what a client is to do, by its verb
 unfoldable pub line_by_verb : ℕ → List ℕ → List (List ℕ) → Option Line
 line_by_verb client verb args =
     if says verb (codes "begin") then begin_line client args
     else if says verb (codes "mkowner") then owner_line client args
     else if says verb (codes "create") then create_line client args
+    else if says verb (codes "open") then open_line client args
     else if says verb (codes "write") then write_line client args
     else if says verb (codes "read") then read_line client args
     else if says verb (codes "commit") then commit_line client args
+    else if says verb (codes "abort") then abort_line client args
     else None
 
 -- a line that begins with a client's number

@@ -1,9 +1,10 @@
 -- which line may come next, by what the lines so far tell
-use Rattle.std.specs.Prelude.{ℕ, Bool, true, false, ◌&&◌, ◌||◌, not, ◌==◌, is_none, List, [], ◌∷◌, ◌++◌, codes, Option, None, Some, if◌then◌else◌}
+use Rattle.std.specs.Prelude.{ℕ, Bool, true, ◌&&◌, not, ◌==◌, nat_le, List, [], ◌∷◌, ◌++◌, codes, Option, None, Some, if◌then◌else◌}
 use Rattle.std.specs.List.{list_any}
 use Rattle.alp_script.specs.Words.{when, says}
 use Rattle.alp_script.specs.Named.{client_named, server_named}
 use Rattle.alp_script.specs.Known.{Known}
+use Rattle.alp_script.specs.declared.grammar.TheConstants.{CLIENTS_MOST}
 use Rattle.alp_script.specs.declared.line.FileWord.{FileWord}
 use Rattle.alp_script.specs.declared.line.FileWord.TheVariants as file_word
 use Rattle.alp_script.specs.declared.line.Line.{Line}
@@ -13,59 +14,62 @@ abbrev pub is_one : Option ℕ → Bool
 is_one None = true
 is_one (Some n) = n == 1
 
--- whom the line names is of the run: for now client 1 and server 1
-unfoldable pub names_ours : Line → Bool
-names_ours l = is_one (client_named l) && is_one (server_named l)
+abbrev pub is_client : Option ℕ → Bool
+is_client None = true
+is_client (Some n) = nat_le 1 n && nat_le n CLIENTS_MOST
 
--- and is declared
+-- whom the line names is of the run: a client from 1 to the most, and server 1
+unfoldable pub names_ours : Line → Bool
+names_ours l = is_client (client_named l) && is_one (server_named l)
+
+-- the number is one of these
+abbrev pub is_among : List ℕ → ℕ → Bool
+is_among numbers n = list_any (λ m. m == n) numbers
+
+abbrev pub is_known : List ℕ → Option ℕ → Bool
+is_known clients None = true
+is_known clients (Some client) = is_among clients client
+
+-- and the client is declared
 unfoldable pub is_declared : Known → Line → Bool
-is_declared k l = names_ours l && (is_none (client_named l) || k.client)
+is_declared k l = names_ours l && is_known k.clients (client_named l)
 
 -- a word that a create line bound, or an id of server 1
 abbrev pub is_bound : List (List ℕ) → FileWord → Bool
 is_bound words (file_word.Word name) = list_any (λ w. says w name) words
 is_bound words (file_word.Id id) = id.server == 1
 
-abbrev pub is_owner : Option (List ℕ) → List ℕ → Bool
-is_owner None name = false
-is_owner (Some own) name = says own name
-
 -- the servers are declared first and once, and there is one
 unfoldable pub after_servers : Known → ℕ → Option Known
 after_servers k count = when (not k.servers && count == 1) (record k { servers = true })
 
--- the one client, of the principal Admin, is declared before its lines and once
+-- a client, of the principal Admin, is declared once and before the first line of a client
 unfoldable pub after_client : Known → ℕ → List ℕ → Option Known
-after_client k client name = when (k.servers && not k.client && (client == 1 && says name (codes "Admin"))) (record k { client = true })
+after_client k client name = when (k.servers && not k.begun && not (is_among k.clients client) && says name (codes "Admin")) (record k { clients = k.clients ++ client ∷ [] })
 
--- the first line of the client is a begin; another has a commit between it and the one before
-unfoldable pub after_begin : Known → Option Known
-after_begin k = when (not k.working) (record k { begun = true; second = not k.begun; working = true })
+-- a line of a client stands anywhere behind its declaration
+abbrev pub after_call : Known → Known
+after_call k = record k { begun = true }
 
--- the owner is made in the client's second line or not at all
-unfoldable pub after_owner : Known → List ℕ → Option Known
-after_owner k owner = when k.second (record k { second = false; owner = Some owner })
+-- a create line binds its word, maybe again
+abbrev pub after_create : Known → List ℕ → Known
+after_create k word = record k { begun = true; words = k.words ++ word ∷ [] }
 
--- a file is that owner's, and binds its word
-unfoldable pub after_create : Known → List ℕ → List ℕ → Option Known
-after_create k word owner = when (is_owner k.owner owner) (record k { second = false; words = k.words ++ word ∷ [] })
-
--- a read or a write names a bound word or an id
-unfoldable pub after_run : Known → FileWord → Option Known
-after_run k file = when (k.begun && is_bound k.words file) (record k { second = false })
-
-unfoldable pub after_commit : Known → Option Known
-after_commit k = when k.begun (record k { second = false; working = false })
+-- a line on a file names a bound word or an id
+unfoldable pub after_file : Known → FileWord → Option Known
+after_file k file = when (is_bound k.words file) (after_call k)
 
 unfoldable pub after : Known → Line → Option Known
 after k (line.Servers count) = after_servers k count
 after k (line.Client client name) = after_client k client name
-after k (line.Begin client server) = after_begin k
-after k (line.MakeOwner client server owner quota create choice) = after_owner k owner
-after k (line.Create client server word owner size read modify choice) = after_create k word owner
-after k (line.WritePages client file run text choice) = after_run k file
-after k (line.ReadPages client file run mode choice) = after_run k file
-after k (line.Commit client) = after_commit k
+after k (line.Begin client server) = Some (after_call k)
+after k (line.MakeOwner client server owner quota create choice) = Some (after_call k)
+after k (line.Create client server word owner size read modify choice) = Some (after_create k word)
+after k (line.OpenFile client file access mode choice) = after_file k file
+after k (line.WritePages client file run text choice) = after_file k file
+after k (line.ReadPages client file run mode choice) = after_file k file
+after k (line.Commit client) = Some (after_call k)
+after k (line.Abort client) = Some (after_call k)
 after k _ = None
 
 -- what is known after a line, where the line may stand

@@ -1,11 +1,11 @@
 //! What the lines of a script so far tell, and which line may come next.
-ghost use Rattle.std.specs.Prelude.{◌≡◌, ℕ, ◌&&◌, ◌||◌, ◌==◌, List, codes, is_none};
+ghost use Rattle.std.specs.Prelude.{◌≡◌, Some};
 ghost use Rattle.alp_script.specs.Telling.{TellsBy};
-ghost use Rattle.alp_script.specs.Words.{says as says_so};
 ghost use Rattle.alp_script.specs.Known.{nothing_known};
-ghost use Rattle.alp_script.specs.Order.{is_one as is_one_said, names_ours as names_ours_said, is_declared as is_declared_said, is_bound as is_bound_said, is_owner as is_owner_said, after_servers, after_client, after_begin, after_owner, after_create, after_run, after_commit, after, next as next_said};
+ghost use Rattle.alp_script.specs.Order.{is_one as is_one_said, is_client as is_client_said, names_ours as names_ours_said, is_known as is_known_said, is_declared as is_declared_said, is_bound as is_bound_said, after_servers, after_client, after_call, after_create, after_file, after, next as next_said};
 
 use crate::fault::LineFault;
+use crate::grammar::CLIENTS_MOST;
 use crate::words::says;
 use crate::{FileWord, Line};
 use alp_base::Name;
@@ -16,11 +16,8 @@ use std::marker::Model;
 #[derive(Drop)]
 pub(crate) struct Context {
     servers: bool,
-    client: bool,
+    clients: Vec<u8>,
     begun: bool,
-    second: bool,
-    working: bool,
-    owner: Option<Name>,
     words: Vec<Name>,
 }
 
@@ -29,21 +26,19 @@ impl Model for Context {
 
     ghost Value = { Known };
 
-    ghost view = { λ c. record { servers = c.servers; client = c.client; begun = c.begun; second = c.second; working = c.working; owner = c.owner; words = c.words.items } };
+    ghost view = { λ c. record { servers = c.servers; clients = c.clients.items; begun = c.begun; words = c.words.items } };
 }
 
 impl Clone for Context {
     ghost is_clone = { λ a b. b ≡ a };
 
     fn clone(&self) -> Result<Context, AllocError> {
+        let clients = self.clients.clone()?;
         let words = self.words.clone()?;
         Ok(Context {
             servers: self.servers,
-            client: self.client,
+            clients,
             begun: self.begun,
-            second: self.second,
-            working: self.working,
-            owner: self.owner,
             words,
         })
     }
@@ -58,17 +53,29 @@ fn is_one(number: Option<u8>) -> bool
     }
 }
 
+fn is_client(number: Option<u8>) -> bool
+    ensures { result ≡ is_client_said number }
+{
+    match number {
+        Some(number) => 1 <= number && number as u32 <= CLIENTS_MOST,
+        None => true,
+    }
+}
+
 #[tactic(auto, unfolding(crate::specs::Order::names_ours))]
 fn names_ours(line: &Line) -> bool
     ensures { result ≡ names_ours_said line.now }
 {
-    is_one(line.client()) && is_one(line.server())
+    is_client(line.client()) && is_one(line.server())
 }
 
-fn is_admin(client: u8, name: &Name) -> bool
-    ensures { result ≡ (client == 1 && says_so name.now (codes "Admin")) }
+fn is_known(clients: &[u8], client: Option<u8>) -> bool
+    ensures { result ≡ is_known_said clients.now client }
 {
-    client == 1 && says(name.as_bytes(), b"Admin")
+    match client {
+        Some(client) => clients.contains(&client),
+        None => true,
+    }
 }
 
 fn is_bound(words: &[Name], file: &FileWord) -> bool
@@ -80,26 +87,14 @@ fn is_bound(words: &[Name], file: &FileWord) -> bool
     }
 }
 
-fn is_owner(owner: &Option<Name>, name: &Name) -> bool
-    ensures { result ≡ is_owner_said owner.now name.now }
-{
-    match owner {
-        Some(own) => own == name,
-        None => false,
-    }
-}
-
 impl Context {
     pub(crate) fn new(alloc: Global) -> Context
         ensures { result ≡ nothing_known }
     {
         Context {
             servers: false,
-            client: false,
+            clients: Vec::new(alloc),
             begun: false,
-            second: false,
-            working: false,
-            owner: None,
             words: Vec::new(alloc),
         }
     }
@@ -114,7 +109,7 @@ impl Context {
     fn is_declared(&self, line: &Line) -> bool
         ensures { result ≡ is_declared_said self.now line.now }
     {
-        names_ours(line) && (line.client().is_none() || self.client)
+        names_ours(line) && is_known(self.clients.as_slice(), line.client())
     }
 
     #[tactic(auto, unfolding(crate::specs::Order::after_servers))]
@@ -132,72 +127,38 @@ impl Context {
     fn take_client(&mut self, client: u8, name: &Name) -> Result<(), LineFault>
         ensures { TellsBy (λ _. self.new) result (after_client self.old client name.now) }
     {
-        let admin = is_admin(client, name);
-        if !self.servers || self.client || !admin {
+        let again = self.clients.contains(&client);
+        let admin = says(name.as_bytes(), b"Admin");
+        if !self.servers || self.begun || again || !admin {
             return Err(LineFault::Outside);
         }
-        self.client = true;
+        self.clients.push(client)?;
         Ok(())
     }
 
-    #[tactic(auto, unfolding(crate::specs::Order::after_begin))]
-    fn take_begin(&mut self) -> Result<(), LineFault>
-        ensures { TellsBy (λ _. self.new) result (after_begin self.old) }
+    fn take_call(&mut self) -> Result<(), LineFault>
+        ensures { TellsBy (λ _. self.new) result (Some (after_call self.old)) }
     {
-        if self.working {
-            return Err(LineFault::Outside);
-        }
-        self.second = !self.begun;
         self.begun = true;
-        self.working = true;
         Ok(())
     }
 
-    #[tactic(auto, unfolding(crate::specs::Order::after_owner))]
-    fn take_owner(&mut self, owner: &Name) -> Result<(), LineFault>
-        ensures { TellsBy (λ _. self.new) result (after_owner self.old owner.now) }
+    fn take_create(&mut self, word: &Name) -> Result<(), LineFault>
+        ensures { TellsBy (λ _. self.new) result (Some (after_create self.old word.now)) }
     {
-        if !self.second {
-            return Err(LineFault::Outside);
-        }
-        self.second = false;
-        self.owner = Some(*owner);
-        Ok(())
-    }
-
-    #[tactic(auto, unfolding(crate::specs::Order::after_create))]
-    fn take_create(&mut self, word: &Name, owner: &Name) -> Result<(), LineFault>
-        ensures { TellsBy (λ _. self.new) result (after_create self.old word.now owner.now) }
-    {
-        if !is_owner(&self.owner, owner) {
-            return Err(LineFault::Outside);
-        }
         self.words.push(*word)?;
-        self.second = false;
+        self.begun = true;
         Ok(())
     }
 
-    #[tactic(auto, unfolding(crate::specs::Order::after_run))]
-    fn take_run(&mut self, file: &FileWord) -> Result<(), LineFault>
-        ensures { TellsBy (λ _. self.new) result (after_run self.old file.now) }
+    #[tactic(auto, unfolding(crate::specs::Order::after_file))]
+    fn take_file(&mut self, file: &FileWord) -> Result<(), LineFault>
+        ensures { TellsBy (λ _. self.new) result (after_file self.old file.now) }
     {
-        let bound = is_bound(self.words.as_slice(), file);
-        if !self.begun || !bound {
+        if !is_bound(self.words.as_slice(), file) {
             return Err(LineFault::Outside);
         }
-        self.second = false;
-        Ok(())
-    }
-
-    #[tactic(auto, unfolding(crate::specs::Order::after_commit))]
-    fn take_commit(&mut self) -> Result<(), LineFault>
-        ensures { TellsBy (λ _. self.new) result (after_commit self.old) }
-    {
-        if !self.begun {
-            return Err(LineFault::Outside);
-        }
-        self.second = false;
-        self.working = false;
+        self.begun = true;
         Ok(())
     }
 
@@ -208,12 +169,12 @@ impl Context {
         match line {
             Line::Servers { count } => self.take_servers(*count),
             Line::Client { client, name } => self.take_client(*client, name),
-            Line::Begin { .. } => self.take_begin(),
-            Line::MakeOwner { owner, .. } => self.take_owner(owner),
-            Line::Create { word, owner, .. } => self.take_create(word, owner),
-            Line::WritePages { file, .. } => self.take_run(file),
-            Line::ReadPages { file, .. } => self.take_run(file),
-            Line::Commit { .. } => self.take_commit(),
+            Line::Begin { .. } | Line::MakeOwner { .. } => self.take_call(),
+            Line::Create { word, .. } => self.take_create(word),
+            Line::OpenFile { file, .. } => self.take_file(file),
+            Line::WritePages { file, .. } => self.take_file(file),
+            Line::ReadPages { file, .. } => self.take_file(file),
+            Line::Commit { .. } | Line::Abort { .. } => self.take_call(),
             _ => Err(LineFault::Outside),
         }
     }

@@ -2,12 +2,12 @@
 ghost use Rattle.std.specs.Prelude.{◌≡◌, ℕ, List, codes};
 ghost use Rattle.alp_script.specs.Telling.{Tells};
 ghost use Rattle.alp_script.specs.Words.{shown};
-ghost use Rattle.alp_script.specs.Grammar.{server_of, client_of, run_of, list_of, lists_of, servers_line as servers_said, client_line as client_said, begin_line as begin_said, owner_line as owner_said, file_line as file_said, create_line as create_said, write_line as write_said, read_line as read_said, commit_line as commit_said, line_by_verb as said_by_verb, line_of_client as said_of_client, line_by as said_by, line_of as said_of, is_skipped as is_skipped_said, line_said, text_said};
+ghost use Rattle.alp_script.specs.Grammar.{server_of, client_of, run_of, list_of, lists_of, servers_line as servers_said, client_line as client_said, begin_line as begin_said, owner_line as owner_said, file_line as file_said, create_line as create_said, opening_of, open_line as open_said, write_line as write_said, read_line as read_said, commit_line as commit_said, abort_line as abort_said, line_by_verb as said_by_verb, line_of_client as said_of_client, line_by as said_by, line_of as said_of, is_skipped as is_skipped_said, line_said, text_said};
 
 use crate::Line;
 use crate::fault::LineFault;
 use crate::words::{file_word, is_line, name, new_word, says, text, within, word32, words};
-use alp_base::{AccessList, Choice, PAGES_PER_FILE, Run};
+use alp_base::{Access, AccessList, Choice, PAGES_PER_FILE, Run};
 use alp_modes::Mode;
 use std::alloc::Global;
 
@@ -175,6 +175,40 @@ fn create_line(alloc: Global, client: u8, args: &[&[u8]]) -> Result<Line, LineFa
     }
 }
 
+// What a file is opened for, and the lock on all of it.
+#[tactic(auto, unfolding(crate::specs::Grammar::opening_of))]
+fn opening(purpose: &[u8], lock: &[u8]) -> Result<(Access, Mode), LineFault>
+    ensures { Tells result (opening_of purpose.now lock.now) }
+{
+    if says(purpose, b"read") && says(lock, b"r") {
+        Ok((Access::ReadOnly, Mode::Read))
+    } else if says(purpose, b"change") && says(lock, b"w") {
+        Ok((Access::Change, Mode::Write))
+    } else {
+        Err(LineFault::Outside)
+    }
+}
+
+#[tactic(auto, unfolding(crate::specs::Grammar::open_line))]
+fn open_line(alloc: Global, client: u8, args: &[&[u8]]) -> Result<Line, LineFault>
+    ensures { Tells result (open_said client (shown args.now)) }
+{
+    match args {
+        [file, purpose, lock] => {
+            let file = file_word(alloc, file)?;
+            let (access, mode) = opening(purpose, lock)?;
+            Ok(Line::OpenFile {
+                client,
+                file,
+                access,
+                mode,
+                choice: Choice::Fail,
+            })
+        }
+        _ => Err(LineFault::Outside),
+    }
+}
+
 #[tactic(auto, unfolding(crate::specs::Grammar::write_line))]
 fn write_line(alloc: Global, client: u8, args: &[&[u8]]) -> Result<Line, LineFault>
     ensures { Tells result (write_said client (shown args.now)) }
@@ -227,6 +261,17 @@ fn commit_line(client: u8, args: &[&[u8]]) -> Result<Line, LineFault>
     }
 }
 
+#[tactic(auto, unfolding(crate::specs::Grammar::abort_line))]
+fn abort_line(client: u8, args: &[&[u8]]) -> Result<Line, LineFault>
+    ensures { Tells result (abort_said client (shown args.now)) }
+{
+    if args.is_empty() {
+        Ok(Line::Abort { client })
+    } else {
+        Err(LineFault::Outside)
+    }
+}
+
 #[tactic(auto, unfolding(crate::specs::Grammar::line_by_verb))]
 fn line_by_verb(alloc: Global, client: u8, verb: &[u8], args: &[&[u8]]) -> Result<Line, LineFault>
     ensures { Tells result (said_by_verb client verb.now (shown args.now)) }
@@ -237,12 +282,16 @@ fn line_by_verb(alloc: Global, client: u8, verb: &[u8], args: &[&[u8]]) -> Resul
         owner_line(alloc, client, args)
     } else if says(verb, b"create") {
         create_line(alloc, client, args)
+    } else if says(verb, b"open") {
+        open_line(alloc, client, args)
     } else if says(verb, b"write") {
         write_line(alloc, client, args)
     } else if says(verb, b"read") {
         read_line(alloc, client, args)
     } else if says(verb, b"commit") {
         commit_line(client, args)
+    } else if says(verb, b"abort") {
+        abort_line(client, args)
     } else {
         Err(LineFault::Outside)
     }

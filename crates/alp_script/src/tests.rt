@@ -1,6 +1,7 @@
 use crate::reader::Reader;
 use crate::*;
-use alp_base::MemSource;
+use alp_base::{Access, Choice, MemSource};
+use alp_modes::Mode;
 use std::alloc::Global;
 use std::test::Fail;
 
@@ -57,38 +58,26 @@ fn says_what_the_lines_say(rt: HostRuntime) -> Result<(), Fail> {
     Ok(())
 }
 
+// The number of the first line that is outside follows the text of a script.
 #[test]
 fn finds_the_first_bad_line(rt: HostRuntime) -> Result<(), Fail> {
     let alloc = rt.alloc();
-    let cases: [(&[u8], u32); 20] = [
+    let cases: [(&[u8], u32); 16] = [
         (b"", 1),
         (b"\n# none\n", 3),
         (b" \n", 1),
         (b"# \xc3\xa9\n", 1),
         (b"servers 9\n", 1),
+        (b"servers 2\n", 1),
         (b"servers 01\n", 1),
         (b"client 1 Admin\n", 1),
         (b"servers 1\nservers 1\n", 2),
-        (b"servers 1\n\nclient 1 ann\n", 3),
-        (b"servers 1\nclient 2 Admin\n", 2),
         (b"servers  1\r\nclient 1 Admin \n", 2),
         (b"servers\t1\n", 1),
         (b"servers 1\nclient 1 Admin\r", 2),
-        (b"servers 1\n1 begin 1\n", 2),
-        (b"servers 1\nclient 1 Admin\n1 commit\n", 3),
-        (b"servers 1\nclient 1 Admin\n1 begin 1\n1 begin 1\n", 4),
-        (
-            b"servers 1\nclient 1 Admin\n1 begin 1\n1 read 1.1.1 0 1\n1 mkowner 1 ann 4 World\n",
-            5,
-        ),
-        (
-            b"servers 1\nclient 1 Admin\n1 begin 1\n1 create 1 A ann 4 World World\n",
-            4,
-        ),
-        (
-            b"servers 1\nclient 1 Admin\n1 begin 1\n1 write 2.1.1 0 1 x\n",
-            4,
-        ),
+        (b"servers 1\nclient 1 Admin\n1 begin 2\n", 3),
+        (b"servers 1\nclient 1 Admin\n1 commit 1\n", 3),
+        (b"servers 1\nclient 1 Admin\n1 abort 1\n", 3),
         (
             b"servers 1\nclient 1 Admin\n1 begin 1\n1 mkowner 1 ann 4 World\n1 create 1 A ann 4097 World World\n",
             5,
@@ -101,11 +90,118 @@ fn finds_the_first_bad_line(rt: HostRuntime) -> Result<(), Fail> {
 }
 
 #[test]
+fn refuses_wrong_clients(rt: HostRuntime) -> Result<(), Fail> {
+    let alloc = rt.alloc();
+    let cases: [(&[u8], u32); 9] = [
+        (b"servers 1\n\nclient 1 ann\n", 3),
+        (b"servers 1\nclient 0 Admin\n", 2),
+        (b"servers 1\nclient 17 Admin\n", 2),
+        (
+            b"servers 1\nclient 1 Admin\nclient 2 Admin\nclient 1 Admin\n",
+            4,
+        ),
+        (b"servers 1\nclient 1 Admin\n1 begin 1\nclient 2 Admin\n", 4),
+        (b"servers 1\n1 begin 1\n", 2),
+        (b"servers 1\nclient 1 Admin\n2 begin 1\n", 3),
+        (b"servers 1\nclient 1 Admin\n0 begin 1\n", 3),
+        (b"servers 1\nclient 1 Admin\n17 begin 1\n", 3),
+    ];
+    for (text, line) in cases {
+        assert_eq!(rt; count(alloc, text), Err(ScriptFault::Bad { line }));
+    }
+    Ok(())
+}
+
+#[test]
+fn refuses_wrong_file_lines(rt: HostRuntime) -> Result<(), Fail> {
+    let alloc = rt.alloc();
+    let cases: [&[u8]; 11] = [
+        b"1 open A read r",
+        b"1 open B read r",
+        b"1 open 2.1.1 read r",
+        b"1 write A 0 1 x",
+        b"1 read A 0 1",
+        b"1 open F read w",
+        b"1 open F change r",
+        b"1 open F change iw",
+        b"1 open F read",
+        b"1 open F read r wait",
+        b"1 read F 0 17",
+    ];
+    for line in cases {
+        let mut text = Vec::from_slice(
+            alloc,
+            b"servers 1\nclient 1 Admin\n1 create 1 F ann 1 World World\n",
+        )?;
+        text.extend_from_slice(line)?;
+        assert_eq!(rt;
+            count(alloc, text.as_slice()),
+            Err(ScriptFault::Bad { line: 4 })
+        );
+    }
+    Ok(())
+}
+
+#[test]
 fn reads_many_transactions(rt: HostRuntime) -> Result<(), Fail> {
     let alloc = rt.alloc();
     let text =
-        b"# two transactions\n\nservers 1\nclient 1 Admin\n1 begin 1\n1 mkowner 1 ann 4 World\n1 create 1 A ann 4096 World World\n1 create 1 A ann 1 World World\n1 commit\n1 read A 4294967295 16\n1 begin 1\n1 write 1.7.9 0 1 x\n1 commit\n1 commit\n";
-    assert_eq!(rt; count(alloc, text), Ok(12));
+        b"# two transactions\n\nservers 1\nclient 1 Admin\n1 begin 1\n1 mkowner 1 ann 4 World\n1 create 1 A ann 4096 World World\n1 create 1 A bob 1 World World\n1 commit\n1 read A 4294967295 16\n1 begin 1\n1 begin 1\n1 write 1.7.9 0 1 x\n1 commit\n1 commit\n";
+    assert_eq!(rt; count(alloc, text), Ok(13));
+    Ok(())
+}
+
+#[test]
+fn reads_lines_of_two_clients(rt: HostRuntime) -> Result<(), Fail> {
+    let alloc = rt.alloc();
+    let text =
+        b"servers 1\nclient 2 Admin\nclient 1 Admin\n2 create 1 F ann 1 World World\n1 open F read r\n2 open 1.0.7 change w\n1 abort\n";
+    let bytes = Vec::from_slice(alloc, text)?;
+    let mut source = MemSource::new(bytes, Vec::new(alloc));
+    let lines = read_script(alloc, &mut source)?;
+    assert_eq!(rt; lines.len(), 7);
+    assert!(rt; matches!(lines[1].line, Line::Client { client: 2, .. }));
+    assert!(rt;
+        matches!(
+            lines[4].line,
+            Line::OpenFile {
+                client: 1,
+                file: FileWord::Word(_),
+                access: Access::ReadOnly,
+                mode: Mode::Read,
+                choice: Choice::Fail
+            }
+        )
+    );
+    assert!(rt;
+        matches!(
+            lines[5].line,
+            Line::OpenFile {
+                client: 2,
+                file: FileWord::Id(_),
+                access: Access::Change,
+                mode: Mode::Write,
+                choice: Choice::Fail
+            }
+        )
+    );
+    assert!(rt; matches!(lines[6].line, Line::Abort { client: 1 }));
+    Ok(())
+}
+
+#[test]
+fn reads_lines_of_16_clients(rt: HostRuntime) -> Result<(), Fail> {
+    let alloc = rt.alloc();
+    let mut text = Vec::from_slice(alloc, b"servers 1\n")?;
+    for client in 0..16u32 {
+        let line = format!(in alloc; "client {} Admin\n", 16 - client)?;
+        text.extend_from_slice(line.as_bytes())?;
+    }
+    for client in 0..16u32 {
+        let line = format!(in alloc; "{} begin 1\n", client + 1)?;
+        text.extend_from_slice(line.as_bytes())?;
+    }
+    assert_eq!(rt; count(alloc, text.as_slice()), Ok(33));
     Ok(())
 }
 

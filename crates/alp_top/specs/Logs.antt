@@ -3,7 +3,7 @@ use Rattle.alp_journal.specs.declared.log.RunLog.{RunLog}
 use Rattle.alp_journal.specs.declared.opening.Opening.{Ghosts}
 use Rattle.alp_vault.specs.MemVault.{held_by}
 use Rattle.alp_vault.specs.declared.mem_vault.MemVault.{MemVault}
-use Rattle.alp_top.specs.declared.opened.Opened.{Opened}
+use Rattle.alp_node.specs.declared.opened.Opened.{Opened}
 
 abbrev pub Log : Type 0
 Log = RunLog (Opened MemVault)

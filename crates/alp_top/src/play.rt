@@ -1,34 +1,28 @@
-//! Plays the lines of a script: the client's calls, and what the server answers.
-ghost use Rattle.std.specs.Prelude.{◌≡◌, ◌+◌, ◌<◌, ◌≤◌, ◌^◌, [], ◌∷◌, ◌++◌, OnOk, IfOk, IfSome, length, Some, None, true, false, IsSome};
-ghost use Rattle.alp_journal.specs.declared.event.Event.TheVariants as event;
-ghost use Rattle.alp_files.specs.declared.call.Call.TheVariants as call;
-ghost use Rattle.alp_journal.specs.State.{file_trans};
-ghost use Rattle.alp_base.specs.declared.faults.VaultFault.TheVariants as vault_fault;
-ghost use Rattle.alp_top.specs.declared.start.StartFault.TheVariants as start_fault;
-ghost use Rattle.alp_top.specs.Nodes.{IsKept, HasRoom, Stepped, IsNext, IsRunning, CountsCall, seat_of, start_in, IsServed};
-ghost use Rattle.alp_top.specs.Steps.{InStep, IsExpected, Became, IsOwn, StartsIdle, Exchanged, Did, IsOurs, Adds};
-ghost use Rattle.std.specs.Option.{option_to_list};
-ghost use Rattle.alp_script.specs.Forms.{IsForm};
-ghost use Rattle.alp_client.specs.Clients.{frame_in};
+//! Plays the lines of a script: the clients' calls, and what the server answers.
+ghost use Rattle.std.specs.Prelude.{◌≡◌, ◌+◌, ◌<◌, ◌≤◌, List, [], ◌∷◌, ◌++◌, OnOk, IfOk, IsSome, length, Some, true, false};
 ghost use Rattle.std.specs.List.{AllByRecursion};
-ghost use Rattle.alp_script.specs.Known.{nothing_known};
+ghost use Rattle.std.specs.Option.{option_to_list};
+ghost use Rattle.alp_base.specs.declared.faults.VaultFault.TheVariants as vault_fault;
+ghost use Rattle.alp_client.specs.Crowds.{client_at, asks};
+ghost use Rattle.alp_journal.specs.declared.log.Exchange.{Exchange as AnExchange};
+ghost use Rattle.alp_node.specs.Nodes.{HasRoom};
+ghost use Rattle.alp_node.specs.declared.start.StartFault.TheVariants as start_fault;
+ghost use Rattle.alp_script.specs.Forms.{IsForm};
 ghost use Rattle.alp_script.specs.Order.{names_ours};
-ghost use Rattle.alp_script.specs.Accepted.{LeadsFrom};
 ghost use Rattle.alp_top.specs.Runs.{HasPlayed, IsNewOpening};
+ghost use Rattle.alp_top.specs.Servers.{IsOn, start_in};
+ghost use Rattle.alp_top.specs.Steps.{InStep, Exchanged, Did, Adds};
 
-use crate::node::Node;
-use crate::start::StartFault;
-use alp_base::{OutOfMemory, Sizes, TransId};
-use alp_client::{Client, Greeted};
-use alp_files::{Call, Reply};
-use alp_journal::{Exchange, LineLog};
+use alp_base::{OutOfMemory, Sizes};
+use alp_client::{Clients, Frame};
+use alp_files::Call;
+use alp_journal::{Event, Exchange, LineLog};
+use alp_node::{Node, StartFault};
 use alp_script::{Line, NumberedLine};
 use alp_vault::MemVault;
 use std::alloc::Global;
 
-/// The client and the server of a run at this stage.
-const CLIENT: u8 = 1;
-
+/// The server of a run at this stage.
 const SERVER: u8 = 1;
 
 /// The sizes of its volume.
@@ -37,97 +31,6 @@ const VOLUME: Sizes = Sizes {
     area: 2048,
 };
 
-// The server answers a call of the session.
-fn ask(alloc: Global, node: &mut Node, number: u32, call: Call) -> Result<Reply, OutOfMemory>
-    requires kept { IsKept node.old }
-    requires room { HasRoom node.old }
-    requires turn { IsNext node.old.session 1 number }
-    requires expected { IsExpected node.old call }
-    requires clock { node.old.clock < 2 ^ 62 }
-    ensures kept { OnOk result (IsKept node.new) }
-    ensures stepped { IfOk result (λ r. Stepped node.old node.new (event.Call 1 node.old.epoch number call) (Some r)) }
-    ensures became { IfOk result (λ r. Became node.old node.new call r) }
-    ensures session { OnOk result (CountsCall node.old.session node.new.session number) }
-    ensures seat { OnOk result (seat_of node.new ≡ seat_of node.old) }
-{
-    if let Call::Begin { seen } = &call {
-        return node.begin(alloc, CLIENT, number, *seen);
-    }
-    if let Call::Finish { trans, commit: _ } = &call {
-        return node.commit(alloc, CLIENT, number, *trans);
-    }
-    let Some(trans) = trans_of(&call) else {
-        unreachable!()
-    };
-    node.file_call(alloc, CLIENT, number, trans, call)
-}
-
-// The transaction of a file call that the server answers.
-fn trans_of(call: &Call) -> Option<TransId>
-    ensures { IsServed call.now → result ≡ file_trans call.now }
-{
-    match call {
-        Call::CreateFile {
-            trans,
-            start: _,
-            choice: _,
-        } => Some(*trans),
-        Call::ReadPages {
-            trans,
-            open_no: _,
-            run: _,
-            mode: _,
-            choice: _,
-        } => Some(*trans),
-        Call::WritePages {
-            trans,
-            open_no: _,
-            run: _,
-            pages: _,
-            choice: _,
-        } => Some(*trans),
-        Call::MakeOwner {
-            trans,
-            owner: _,
-            quota: _,
-            create: _,
-            choice: _,
-        } => Some(*trans),
-        _ => None,
-    }
-}
-
-// The client says hello, and the line goes on.
-fn greet(
-    alloc: Global,
-    client: &mut Client,
-    node: &mut Node,
-    line: &Line,
-) -> Result<Exchange, OutOfMemory>
-    requires kept { IsKept node.old }
-    requires room { HasRoom node.old }
-    requires step { InStep client.old node.old }
-    requires first { client.old.session ≡ None }
-    ensures said { IfOk result (λ x. Exchanged client.old client.new node.old node.new line.now (record { epoch = 0; number = 1; call = call.Hello client.old.name }) false x) }
-    ensures same { OnOk result (client.new ≡ record client.old { session = client.new.session }) }
-    ensures greeted { OnOk result (IsSome client.new.session) }
-{
-    let place = node.journal.entries().len() as u32;
-    let name = client.name;
-    let reply = node.hello(alloc, CLIENT, name)?;
-    let epoch = node.epoch;
-    client.session = Some(Greeted { epoch, last: 1 });
-    let call = Call::Hello { name };
-    Ok(Exchange {
-        server: SERVER,
-        epoch: 0,
-        number: 1,
-        call,
-        reply: Some(reply),
-        place: Some(place),
-    })
-}
-
 fn copied(call: &Call) -> Result<Call, OutOfMemory>
     ensures { IfOk result (λ copy. copy ≡ call.now) }
 {
@@ -135,132 +38,129 @@ fn copied(call: &Call) -> Result<Call, OutOfMemory>
     Ok(copy)
 }
 
-// The client sends the call of a line, and the line is over.
+// What a client sent, what it heard, and whether its line is over.
+#[derive(Drop)]
+struct Sent {
+    exchange: Exchange,
+    is_over: bool,
+}
+
+// A client sends what it asks for its line, and hears the reply.
 fn send(
-    alloc: Global,
-    client: &mut Client,
-    node: &mut Node,
+    clients: &mut Clients,
+    node: &mut Node<MemVault>,
+    client: u8,
     line: &Line,
-    call: Call,
-) -> Result<Exchange, OutOfMemory>
-    requires kept { IsKept node.old }
+    frame: Frame,
+) -> Result<Sent, OutOfMemory>
+    requires client { client ≤ 16 }
+    requires step { InStep clients.old node.old }
     requires room { HasRoom node.old }
-    requires step { InStep client.old node.old }
-    requires greeted { IsSome client.old.session }
-    requires own { IsOwn client.old line.now call }
-    ensures { IfOk result (λ x. Exchanged client.old client.new node.old node.new line.now (frame_in client.old client.old.session call) true x) }
+    requires form { IsForm line.now }
+    requires asked { asks clients.old client line.now false ≡ Some frame }
+    ensures { IfOk result (λ s. Exchanged clients.old clients.new node.old node.new client line.now frame s.is_over s.exchange) }
 {
-    let greeted = client.session.unwrap();
-    let place = node.journal.entries().len() as u32;
-    let number = greeted.last + 1;
-    let sent = copied(&call)?;
-    let reply = ask(alloc, node, number, call)?;
-    client.session = Some(Greeted {
-        epoch: greeted.epoch,
-        last: number,
-    });
-    client.told(line, &reply)?;
-    Ok(Exchange {
-        server: SERVER,
-        epoch: greeted.epoch,
+    let Frame {
+        epoch,
         number,
-        call: sent,
-        reply: Some(reply),
-        place: Some(place),
+        call,
+    } = frame;
+    let place = node.journal().entries().len() as u32;
+    let sent = copied(&call)?;
+    let reply = node.step(Event::Call {
+        client,
+        epoch,
+        number,
+        call,
+    })?;
+    let is_over = clients.hears(client, line, &reply)?;
+    Ok(Sent {
+        exchange: Exchange {
+            server: SERVER,
+            epoch,
+            number,
+            call: sent,
+            reply,
+            place: Some(place),
+        },
+        is_over,
     })
 }
 
-// The calls of a line, where the client has a session.
-fn exchange_greeted(
+// The exchanges of a line whose first one was the greeting.
+fn after_greeting(
     alloc: Global,
-    client: &mut Client,
-    node: &mut Node,
+    clients: &mut Clients,
+    node: &mut Node<MemVault>,
+    client: u8,
     line: &Line,
-    call: Call,
+    greeting: Exchange,
 ) -> Result<Vec<Exchange>, OutOfMemory>
-    requires kept { IsKept node.old }
+    requires client { client ≤ 16 }
+    requires step { InStep clients.old node.old }
     requires room { HasRoom node.old }
-    requires step { InStep client.old node.old }
-    requires greeted { IsSome client.old.session }
-    requires own { IsOwn client.old line.now call }
-    ensures { IfOk result (λ v. Did client.old client.new node.old node.new line.now v.items) }
+    requires form { IsForm line.now }
+    requires greeted { IsSome (client_at clients.old client).session }
+    ensures { IfOk result (λ v. (xs : List AnExchange) × (v.items ≡ greeting ∷ xs) × Did clients.old clients.new node.old node.new client line.now 1 xs) }
 {
     let mut exchanges = Vec::new(alloc);
-    let last = send(alloc, client, node, line, call)?;
-    exchanges.push(last)?;
+    exchanges.push(greeting)?;
+    let Some(frame) = clients.asks(alloc, client, line)? else {
+        return Ok(exchanges);
+    };
+    let last = send(clients, node, client, line, frame)?;
+    exchanges.push(last.exchange)?;
     Ok(exchanges)
 }
 
-// The calls of a line, where the client has to say hello first.
-fn exchange_new(
-    alloc: Global,
-    client: &mut Client,
-    node: &mut Node,
-    line: &Line,
-    call: Call,
-) -> Result<Vec<Exchange>, OutOfMemory>
-    requires kept { IsKept node.old }
-    requires room { length node.old.journal + 1 < 65536 }
-    requires step { InStep client.old node.old }
-    requires first { client.old.session ≡ None }
-    requires own { IsOwn client.old line.now call }
-    ensures { IfOk result (λ v. Did client.old client.new node.old node.new line.now v.items) }
-{
-    let mut exchanges = Vec::new(alloc);
-    let hello = greet(alloc, client, node, line)?;
-    exchanges.push(hello)?;
-    let last = send(alloc, client, node, line, call)?;
-    exchanges.push(last)?;
-    Ok(exchanges)
-}
-
-// The exchanges of a line of the client.
+// The exchanges of a line of a client.
 fn exchange(
     alloc: Global,
-    client: &mut Client,
-    node: &mut Node,
+    clients: &mut Clients,
+    node: &mut Node<MemVault>,
+    client: u8,
     line: &Line,
 ) -> Result<Vec<Exchange>, OutOfMemory>
-    requires kept { IsKept node.old }
+    requires client { client ≤ 16 }
+    requires step { InStep clients.old node.old }
     requires room { length node.old.journal + 1 < 65536 }
-    requires step { InStep client.old node.old }
     requires form { IsForm line.now }
-    requires idle { StartsIdle client.old line.now }
-    ensures { IfOk result (λ v. Did client.old client.new node.old node.new line.now v.items) }
+    ensures { IfOk result (λ v. Did clients.old clients.new node.old node.new client line.now 2 v.items) }
 {
-    let Some(call) = client.call_of(alloc, line)? else {
+    let Some(frame) = clients.asks(alloc, client, line)? else {
         return Ok(Vec::new(alloc));
     };
-    if client.session.is_none() {
-        return exchange_new(alloc, client, node, line, call);
+    let first = send(clients, node, client, line, frame)?;
+    if !first.is_over {
+        return after_greeting(alloc, clients, node, client, line, first.exchange);
     }
-    exchange_greeted(alloc, client, node, line, call)
+    let mut exchanges = Vec::new(alloc);
+    exchanges.push(first.exchange)?;
+    Ok(exchanges)
 }
 
 // What a line adds to the log: nothing, where it is a declaration.
 fn play_line(
     alloc: Global,
-    client: &mut Client,
-    node: &mut Node,
+    clients: &mut Clients,
+    node: &mut Node<MemVault>,
     line: &NumberedLine,
 ) -> Result<Option<LineLog>, OutOfMemory>
-    requires kept { IsKept node.old }
+    requires step { InStep clients.old node.old }
     requires room { length node.old.journal + 1 < 65536 }
-    requires step { InStep client.old node.old }
     requires form { IsForm line.now.line }
-    requires ours { IsOurs line.now.line }
-    requires idle { StartsIdle client.old line.now.line }
-    ensures { IfOk result (λ o. Adds client.old client.new node.old node.new line.now (option_to_list o)) }
+    requires ours { names_ours line.now.line ≡ true }
+    ensures { IfOk result (λ o. Adds clients.old clients.new node.old node.new line.now (option_to_list o)) }
 {
-    let Some(number) = line.line.client() else {
-        client.declares(&line.line);
+    let Some(client) = line.line.client() else {
+        clients.declares(&line.line);
         return Ok(None);
     };
-    client.at_line(&line.line)?;
-    let exchanges = exchange(alloc, client, node, &line.line)?;
+    clients.at_line(client, &line.line)?;
+    let exchanges = exchange(alloc, clients, node, client, &line.line)?;
     Ok(Some(LineLog {
         line: line.number,
-        client: number,
+        client,
         exchanges,
     }))
 }
@@ -277,8 +177,8 @@ fn add(logs: &mut Vec<LineLog>, log: Option<LineLog>) -> Result<(), OutOfMemory>
 /// A run that has played some lines.
 #[derive(Drop)]
 pub struct Run {
-    pub client: Client,
-    pub node: Node,
+    pub clients: Clients,
+    pub node: Node<MemVault>,
     pub lines: Vec<LineLog>,
 }
 
@@ -291,10 +191,10 @@ fn only_memory(fault: StartFault) -> OutOfMemory
 }
 
 // A server on a vault that holds nothing, with the sizes that a new volume gets.
-fn new_node(alloc: Global) -> Result<Node, OutOfMemory>
-    ensures kept { IfOk result (λ n. IsKept n) }
+fn new_node(alloc: Global) -> Result<Node<MemVault>, OutOfMemory>
+    ensures on { IfOk result IsOn }
     ensures opening { IfOk result (λ n. IsNewOpening (start_in n)) }
-    ensures idle { IfOk result (λ n. (n.journal ≡ []) × (n.session ≡ None) × (n.live ≡ None) × (n.clock ≡ 0)) }
+    ensures idle { IfOk result (λ n. n.journal ≡ []) }
 {
     let vault = MemVault::new(alloc, VOLUME);
     match Node::start(alloc, SERVER, vault) {
@@ -306,20 +206,20 @@ fn new_node(alloc: Global) -> Result<Node, OutOfMemory>
 /// Plays all lines on a new server.
 pub fn play(alloc: Global, lines: &[NumberedLine]) -> Result<Run, OutOfMemory>
     requires few { length lines.now ≤ 1000 }
-    requires leads { LeadsFrom nothing_known lines.now }
     requires forms { AllByRecursion (λ l. IsForm l.line) lines.now }
     requires ours { AllByRecursion (λ l. names_ours l.line ≡ true) lines.now }
-    ensures played { IfOk result (λ run. HasPlayed lines.now run.client run.node run.lines.items) }
+    ensures short { IfOk result (λ run. length run.node.journal ≤ 2000) }
+    ensures played { IfOk result (λ run. HasPlayed lines.now run.clients run.node run.lines.items) }
 {
-    let mut client = Client::new(alloc);
+    let mut clients = Clients::new(alloc)?;
     let mut node = new_node(alloc)?;
     let mut logs = Vec::new(alloc);
     for line in lines {
-        let log = play_line(alloc, &mut client, &mut node, line)?;
+        let log = play_line(alloc, &mut clients, &mut node, line)?;
         add(&mut logs, log)?;
     }
     Ok(Run {
-        client,
+        clients,
         node,
         lines: logs,
     })

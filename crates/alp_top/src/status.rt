@@ -3,9 +3,9 @@ ghost use Rattle.std.specs.Prelude.{◌≡◌, IfOk, string_bytes};
 ghost use Rattle.alp_top.specs.declared.status.Status.TheVariants as variant;
 ghost use Rattle.alp_top.specs.Statuses.{code_of, status_said};
 
-use crate::opened::Opened;
 use alp_base::OutOfMemory;
 use alp_journal::RunLog;
+use alp_node::Opened;
 use alp_vault::MemVault;
 use std::alloc::Global;
 use std::fmt::Write;
