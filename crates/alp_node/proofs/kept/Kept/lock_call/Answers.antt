@@ -269,7 +269,7 @@ returns-in-Err-clause-seat g c =
     let left = looked_left g.V.Vault.tells g.V.Vault.serves g.V.Vault.volume g.V.Vault.held g.V.Vault.may_leave g.V.Vault.left_since g.V.Vault.faults g.V.Vault.allowance k.vault N.vault c.in-Err.fault c.in-Err.ensures.looked in
     seated_from g.V.Vault.faults g.V.Vault.allowance k N c.halt.new.self (ap (λ (x : Kept _). x.server) same) (ap (λ (x : Kept _). x.epoch) same) (ap (λ (x : Kept _). x.is_down) same)
     (halted_seated g.V.Vault.faults g.V.Vault.allowance (record N { vault = k.vault }) N.vault (counted_in N.sessions c.args.turn.now) c.in-Err.fault c.halt.result c.halt.new.self
-        (spends_same (g.V.Vault.allowance k.vault) (g.V.Vault.allowance N.vault) left.allowed)
-        (looked_failed g.V.Vault.tells g.V.Vault.serves g.V.Vault.volume g.V.Vault.held g.V.Vault.may_leave g.V.Vault.left_since g.V.Vault.faults g.V.Vault.allowance k.vault N.vault c.in-Err.fault c.in-Err.ensures.looked)
-        (looked_stopped g.V.Vault.tells g.V.Vault.serves g.V.Vault.volume g.V.Vault.held g.V.Vault.may_leave g.V.Vault.left_since g.V.Vault.faults g.V.Vault.allowance k.vault N.vault c.in-Err.fault c.in-Err.ensures.looked)
-        c.halt.ensures.halted c.halt.ensures.down c.halt.ensures.err)
+    (spends_same (g.V.Vault.allowance k.vault) (g.V.Vault.allowance N.vault) left.allowed)
+    (looked_failed g.V.Vault.tells g.V.Vault.serves g.V.Vault.volume g.V.Vault.held g.V.Vault.may_leave g.V.Vault.left_since g.V.Vault.faults g.V.Vault.allowance k.vault N.vault c.in-Err.fault c.in-Err.ensures.looked)
+    (looked_stopped g.V.Vault.tells g.V.Vault.serves g.V.Vault.volume g.V.Vault.held g.V.Vault.may_leave g.V.Vault.left_since g.V.Vault.faults g.V.Vault.allowance k.vault N.vault c.in-Err.fault c.in-Err.ensures.looked)
+    c.halt.ensures.halted c.halt.ensures.down c.halt.ensures.err)

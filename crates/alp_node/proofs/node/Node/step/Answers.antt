@@ -22,7 +22,7 @@ returns-in-Ok-clause-kept g c =
     let same : n ≡ c.enter.new.self = (λ i. record n { opening = sym c.enter.ensures.kept.1 i; kept = sym c.enter.ensures.kept.0 i }) in
     subst (IsKept g.V.Vault.tells g.V.Vault.serves g.V.Vault.held) same
     (step_kept g.V.Vault.tells g.V.Vault.serves g.V.Vault.held c.args.self.now n c.args.event c.in-Ok.answer c.requires.kept refl c.answer.ensures.seat.server c.answer.ensures.tells
-        c.in-Ok.ensures.ready c.in-Ok.ensures.stepped (c.enter.ensures.filled c.args.self.now.journal (c.in_ok-make_place.ensures.ok.0) (c.in_ok-make_place.ensures.ok.1)))
+    c.in-Ok.ensures.ready c.in-Ok.ensures.stepped (c.enter.ensures.filled c.args.self.now.journal (c.in_ok-make_place.ensures.ok.0) (c.in_ok-make_place.ensures.ok.1)))
 
 pub returns-in-Ok-clause-answered : goal.returns-in-Ok-clause-answered
 returns-in-Ok-clause-answered g c tells up =
