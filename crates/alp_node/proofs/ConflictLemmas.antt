@@ -106,6 +106,12 @@ all_found (e ∷ es) h = (
     behind [] t = tt
     behind (n ∷ ns) t = (other n t.0 (eq_by_cmp resource_cmp n.0 e.0) refl, behind ns t.1)
 
+first_same : (x y : Need) (xs ys : List Need) → x ∷ xs ≡ y ∷ ys → x ≡ y
+first_same x y xs ys e = cc
+
+rest_same : (x y : Need) (xs ys : List Need) → x ∷ xs ≡ y ∷ ys → xs ≡ ys
+rest_same x y xs ys e = cc
+
 -- what passes at a lesser key than one that passes stands before it
 stands_before : (P : Need → Type 0) (p : Need → Bool) (es : List Need) → Sorted es → (before : List Need) (n : Need) (after : List Need) → filter p es ≡ before ++ n ∷ after → AllByRecursion P before
     → (r : Resource) (m : Mode) → resource_cmp r n.0 ≡ Less → found resource_cmp r es ≡ Some m → p (r, m) ≡ true → P (r, m)
@@ -123,17 +129,15 @@ stands_before P p (e ∷ es) sorted before n after whole all r m less_is at pass
     go false not_yet true is bs w k f later = let wrong : true ≡ false = sym passes ∙ sym (ap p (same is f)) ∙ not_yet in cc
     go false not_yet false is bs w k f later = later bs w k f
     go true passed c is [] w k f later =
-        let first : e ≡ n = cc in
+        let first : e ≡ n = first_same e n (filter p es) after w in
         let low : resource_cmp r e.0 ≡ Less = ap (λ (x : Need). resource_cmp r x.0) first ∙ less_is in
         let gone : found resource_cmp r (e ∷ es) ≡ None =
         ap (λ (o : Ordering). cond (is_eq o) (Some e.1) (found resource_cmp r es)) low ∙ below_none r es (below_less r e.0 es low (left_of (below_all resource_cmp e.0 es) (map.is_sorted resource_cmp es) sorted)) in
         absurd (some-none m (sym at ∙ gone))
     go true passed true is (x ∷ xs) w k f later =
-        let first : e ≡ x = cc in
-        subst P (sym first ∙ same is f) k.0
+        subst P (sym (first_same e x (filter p es) (xs ++ n ∷ after) w) ∙ same is f) k.0
     go true passed false is (x ∷ xs) w k f later =
-        let rest : filter p es ≡ xs ++ n ∷ after = cc in
-        later xs rest k.1 f
+        later xs (rest_same e x (filter p es) (xs ++ n ∷ after) w) k.1 f
 
 -- ---- the first and least in the way of what is asked
 

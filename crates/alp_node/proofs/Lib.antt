@@ -11,3 +11,5 @@ pub mod LockLemmas
 pub mod ConflictLemmas
 pub mod GrantLemmas
 pub mod AskLemmas
+pub mod ServedLemmas
+pub mod SeatLemmas

@@ -24,7 +24,7 @@ use Rattle.alp_node.specs.declared.kept.Kept.{Kept}
 use Rattle.alp_node.specs.declared.lives.Live.{Live}
 use Rattle.alp_node.specs.declared.node.Node.{Node}
 use Rattle.alp_node.specs.Kept.{IsAs, IsReady}
-use Rattle.alp_node.specs.Nodes.{IsRight, start_at, state_of}
+use Rattle.alp_node.specs.Nodes.{IsKept, IsRight, start_at, start_in, state_of}
 use Rattle.alp_node.specs.Served.{AreLivesSound}
 use Rattle.alp_node.specs.Steps.{Stepped, entry_of}
 use Rattle.alp_node.proofs.KeptLemmas.{IsLive, live_there, over_empty}
@@ -66,3 +66,36 @@ lives_sound o held n h up t l live m is =
 
 pub counted_pushed : (es fs : List Entry) (e : Entry) → fs ≡ es ++ e ∷ [] → length fs ≡ length es + 1
 counted_pushed es fs e is = ap length is ∙ length-append es (e ∷ [])
+
+module _ {V : Type 0} (tells serves : V → Bool) (held : V → Contents) (old new : Node V) where
+  -- the start is the same
+  start_same : new.opening ≡ old.opening → new.kept.server ≡ old.kept.server → start_in held old ≡ start_in held new
+  start_same opening server = (λ i. start_at (sym server i) (held (sym opening i).vault.value))
+
+  pub step_kept : (e : Event) (a : Answer) → IsKept tells serves held old → new.opening ≡ old.opening → new.kept.server ≡ old.kept.server → tells new.kept.vault ≡ tells old.kept.vault
+      → ((n : ℕ) → IsReady n (serves old.kept.vault) old.kept → IsReady (n + 1) (serves new.kept.vault) new.kept)
+      → (IsTrue (tells old.kept.vault) → (o : Start) (s : State) → IsAs o s (held old.kept.vault) old.kept → Stepped o s (held new.kept.vault) new.kept e a)
+      → new.journal ≡ old.journal ++ (entry_of e a) ∷ [] → IsKept tells serves held new
+  step_kept e a h opening server telling ready stepped is = record {
+    ready = subst (λ (n : ℕ). IsReady n (serves new.kept.vault) new.kept) (sym (counted_pushed old.journal new.journal (entry_of e a) is)) (ready (length old.journal) h.ready);
+    right = λ told. (
+        let before : IsTrue (tells old.kept.vault) = subst IsTrue telling told in
+        let r : IsRight (start_in held old) (held old.kept.vault) old = h.right before in
+        subst (λ (o : Start). IsRight o (held new.kept.vault) new) (start_same opening server)
+        (step_right (start_in held old) (held old.kept.vault) (held new.kept.vault) old new e a r (stepped before (start_in held old) (state_of (start_in held old) old.journal) r.kept) is)
+        );
+  }
+
+  pub still_kept : IsKept tells serves held old → new.opening ≡ old.opening → new.kept.server ≡ old.kept.server → tells new.kept.vault ≡ tells old.kept.vault
+      → ((n : ℕ) → IsReady n (serves old.kept.vault) old.kept → IsReady n (serves new.kept.vault) new.kept)
+      → ((o : Start) (s : State) → IsAs o s (held old.kept.vault) old.kept → IsAs o s (held new.kept.vault) new.kept)
+      → new.journal ≡ old.journal → IsKept tells serves held new
+  still_kept h opening server telling ready still is = record {
+    ready = subst (λ (n : ℕ). IsReady n (serves new.kept.vault) new.kept) (sym (ap length is)) (ready (length old.journal) h.ready);
+    right = λ told. (
+        let before : IsTrue (tells old.kept.vault) = subst IsTrue telling told in
+        let r : IsRight (start_in held old) (held old.kept.vault) old = h.right before in
+        subst (λ (o : Start). IsRight o (held new.kept.vault) new) (start_same opening server)
+        (still_right (start_in held old) (held old.kept.vault) (held new.kept.vault) old new r (still (start_in held old) (state_of (start_in held old) old.journal) r.kept) is)
+        );
+  }

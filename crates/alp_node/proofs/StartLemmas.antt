@@ -1,14 +1,16 @@
 -- the epoch and the clock that a server starts with, and what it keeps then
-use Rattle.std.specs.Prelude.{cond, Bool, true, false, IsTrue, ◌==◌, Option, None, Some, unwrap_or, Result, Ok, Err, length, replicate}
+use Rattle.std.specs.Prelude.{slice_get, zero, suc, cond, Bool, true, false, IsTrue, ◌==◌, Option, None, Some, unwrap_or, Result, Ok, Err, length, replicate}
+use Rattle.std.specs.Option.{option_and_then, option_map}
 use Rattle.std.specs.FinMap as map
 use Rattle.std.specs.FinMap.{get-insert, get-empty}
 use Rattle.std.specs.Cmp.Lexicographic.{nat_list_cmp_total}
-use Rattle.std.proofs.Common.{◌≡◌, ℕ, ◌+◌, ◌<◌, ◌≤◌, ◌^◌, List, [], ◌∷◌, refl, sym, ◌∙◌, ap, subst, arith}
+use Rattle.std.proofs.Common.{◌≡◌, ℕ, ◌+◌, ◌<◌, ◌≤◌, ◌^◌, List, [], ◌∷◌, refl, sym, ◌∙◌, ap, subst, arith, le_refl}
 use Rattle.alp_base.specs.Notes.{Notes, text_cmp}
 use Rattle.alp_base.specs.declared.ids.FileId.{FileId}
 use Rattle.alp_base.specs.declared.ids.TransId.{TransId}
 use Rattle.alp_base.specs.declared.key.Key.TheVariants.{Leader}
 use Rattle.alp_base.specs.declared.key.Resource.{Resource}
+use Rattle.alp_base.specs.declared.key.Resource.TheVariants.{Whole}
 use Rattle.alp_fields.specs.Forms.{whole}
 use Rattle.alp_fields.specs.ClockNote.{clock_name, clock_form, clock_in, clock_kept}
 use Rattle.alp_fields.specs.declared.clock_note.ClockNote.{ClockNote}
@@ -17,22 +19,29 @@ use Rattle.alp_files.specs.Born.{IsUnborn}
 use Rattle.alp_files.specs.declared.cell.Cell.{Cell}
 use Rattle.alp_files.specs.Cells.{Cells}
 use Rattle.alp_files.specs.Edits.{over}
+use Rattle.alp_files.specs.Apart.{AreSized}
 use Rattle.alp_files.specs.Sound.{AreSound}
 use Rattle.alp_files.proofs.CellMapLemmas.{over-none}
 use Rattle.alp_files.proofs.HistoryLemmas.{same_cells}
 use Rattle.alp_locks.specs.Sound.{IsSound}
+use Rattle.alp_locks.specs.Tables.{holding}
+use Rattle.alp_queue.specs.Rises.{Held}
 use Rattle.alp_modes.specs.Orders.{trans_cmp, resource_cmp}
 use Rattle.alp_vault.specs.Contents.{Contents}
-use Rattle.alp_journal.specs.State.{Start, Life, opened}
+use Rattle.alp_journal.specs.State.{Start, Along, next, opened}
+use Rattle.alp_journal.specs.Laws.{IsLawful}
+use Rattle.alp_journal.specs.Causes.{HasCause}
+use Rattle.alp_journal.specs.declared.entry.Entry.{Entry}
 use Rattle.alp_node.specs.declared.kept.Kept.{Kept}
 use Rattle.alp_node.specs.declared.lives.Live.{Live}
 use Rattle.alp_node.specs.declared.node.Node.{Node}
+use Rattle.alp_node.specs.declared.sessions.Session.{Session}
 use Rattle.alp_node.specs.declared.start.StartFault.{StartFault}
 use Rattle.alp_node.specs.declared.start.StartFault.TheVariants as start_fault
-use Rattle.alp_node.specs.Kept.{IsAs, IsReady, notes_at}
-use Rattle.alp_node.specs.Nodes.{IsRight, start_at}
+use Rattle.alp_node.specs.Kept.{IsAs, IsReady, IsAlike, LiveMap, told_session}
+use Rattle.alp_node.specs.Nodes.{IsRight, start_at, state_of}
 use Rattle.alp_node.specs.Sessions.{no_sessions, session_at}
-use Rattle.alp_node.specs.Starts.{AreOfServer, after_clock, after_note, raised}
+use Rattle.alp_node.specs.Starts.{after_clock, after_note, raised}
 use Rattle.alp_node.proofs.KeptLemmas.{noted_twice}
 
 ok_same : {A E : Type 0} (x y : A) → ◌≡◌ {A = Result A E} (Ok x) (Ok y) → x ≡ y
@@ -77,3 +86,104 @@ put_kept notes c = ap clock_in (get-insert nat_list_cmp_total notes clock_name (
 -- no intents change nothing
 pub over_nothing : (puts m held : Cells) → puts ≡ map.empty → map.get m ≡ over puts (map.get held) → m ≡ held
 over_nothing puts m held none is = same_cells m held (is ∙ ap (λ (x : Cells). over x (map.get held)) none ∙ over-none (map.get held))
+
+-- ---- what a server keeps when it starts
+
+nobody_there : (n client : ℕ) → option_and_then (λ (x : Option Session). x) (slice_get (replicate n None) client) ≡ None
+nobody_there zero client = refl
+nobody_there (suc n) zero = refl
+nobody_there (suc n) (suc client) = nobody_there n client
+
+pub no_session : (client : ℕ) → session_at no_sessions client ≡ None
+no_session client = nobody_there 17 client
+
+abbrev no_lives : LiveMap
+no_lives = map.empty
+
+none_live : (t : TransId) → map.get no_lives t ≡ None
+none_live t = get-empty trans_cmp t
+
+none_locked : (t : TransId) (r : Resource) → holding map.empty t r ≡ None
+none_locked t r = ap (λ (x : Option Held). map.get (unwrap_or x map.empty) r) (get-empty trans_cmp t) ∙ get-empty resource_cmp r
+
+-- no file of the epoch stands yet
+none_born : (server epoch last : ℕ) (held : Cells) → ((f : FileId) (c : Cell) → map.get held (Leader f) ≡ Some c → (f.server ≡ server) × (f.epoch ≤ last)) → last < epoch
+    → IsUnborn server epoch (map.get held) 0
+none_born server epoch last held old later n high = go (map.get held (Leader f)) refl
+  where
+    f : FileId
+    f = record { server = server; epoch = epoch; counter = n }
+
+    go : (x : Option Cell) → map.get held (Leader f) ≡ x → x ≡ None
+    go None e = refl
+    go (Some c) e = let young : epoch ≤ last = (old f c e).1 in absurd (omega (arith, young, later))
+
+-- a server that did nothing yet
+abbrev pub new_kept : {V : Type 0} (old : Kept V) (server : ℕ) (c : ClockNote) → Kept V
+new_kept old server c = record old {
+  server = server;
+  epoch = c.epoch;
+  clock = c.clock;
+  drawn = 0;
+  given = 0;
+  committed = 0;
+  sessions = no_sessions;
+  lives = map.empty;
+  locks = record { held = map.empty; waiting = []; woken = [] };
+  is_down = false;
+}
+
+alike_none : (t : TransId) → IsAlike map.empty t (map.get no_lives t) None
+alike_none t = subst (λ (x : Option Live). IsAlike map.empty t x None) (sym (none_live t)) (none_locked t)
+
+pub new_as : {V : Type 0} (old : Kept V) (server last : ℕ) (c : ClockNote) (held : Contents) (before : Notes) → AreSound held.cells
+    → ((f : FileId) (x : Cell) → map.get held.cells (Leader f) ≡ Some x → (f.server ≡ server) × (f.epoch ≤ last)) → last < c.epoch
+    → held.notes ≡ map.insert before clock_name (clock_form.spell c) → clock_kept held.notes ≡ c
+    → IsAs (start_at server held) (opened (start_at server held)) held (new_kept old server c)
+new_as old server last c held before sound ids later notes kept =
+    let o : Start = start_at server held in
+    let epoch : (clock_kept held.notes).epoch ≡ c.epoch = ap (λ (x : ClockNote). x.epoch) kept in
+    record {
+      server = refl;
+      epoch = epoch;
+      clock = ap (λ (x : ClockNote). x.clock) kept;
+      cells = λ _. refl;
+      notes = λ _. notes ∙ sym (ap (λ (ns : Notes). map.insert ns clock_name (clock_form.spell (clock_kept held.notes))) notes
+          ∙ noted_twice before clock_name (clock_form.spell c) (clock_form.spell (clock_kept held.notes))
+          ∙ ap (λ (x : ClockNote). map.insert before clock_name (clock_form.spell x)) kept);
+      places = refl;
+      sessions = λ client. sym (ap (option_map told_session) (no_session client));
+      lives = alike_none;
+      unborn = λ t l is. (let wrong : None ≡ Some l = is in cc);
+      drawn = refl;
+      made = refl;
+      born = subst (λ (n : ℕ). IsUnborn server n (map.get held.cells) 0) (sym epoch) (none_born server c.epoch last held.cells ids later);
+      earlier = tt;
+      committed = refl;
+      quiet = record { agree = λ t u k l a b away. (let wrong : None ≡ Some k = a in cc); idle = λ client. refl };
+    }
+
+pub new_ready : {V : Type 0} (old : Kept V) (server : ℕ) (c : ClockNote) (serves : Bool) → IsTrue serves → IsSound (new_kept old server c).locks
+    → IsReady 0 serves (new_kept old server c)
+new_ready old server c serves up sound = record {
+  serving = λ _. up;
+  sound = sound;
+  alone = refl;
+  known = λ t l is. (let wrong : None ≡ Some l = sym (none_live t) ∙ is in cc);
+  begun = λ t l is. (let wrong : None ≡ Some l = sym (none_live t) ∙ is in cc);
+  opens = λ t l is. (let wrong : None ≡ Some l = sym (none_live t) ∙ is in cc);
+  places = refl;
+  calls = λ client w is. (let wrong : None ≡ Some w = sym (no_session client) ∙ is in cc);
+  drawn = le_refl 0;
+  given = le_refl 0;
+  committed = le_refl 0;
+  unheld = λ t n high. none_locked t (Whole (record { server = server; epoch = c.epoch; counter = n }));
+}
+
+pub new_right : {V : Type 0} (n : Node V) (o : Start) (held : Contents) → n.journal ≡ [] → AreSound o.cells → AreSized (map.get o.cells) → IsAs o (opened o) held n.kept → IsRight o held n
+new_right n o held empty sound sized h = record {
+  opening = record { files = sound; sizes = sized };
+  lawful = subst (IsLawful o) (sym empty) tt;
+  caused = subst (λ (es : List Entry). Along next HasCause (opened o) es) (sym empty) tt;
+  kept = subst (λ (es : List Entry). IsAs o (state_of o es) held n.kept) (sym empty) h;
+}

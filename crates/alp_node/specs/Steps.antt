@@ -1,6 +1,10 @@
 -- One step of a server.
-use Rattle.std.specs.Prelude.{◌≡◌, ℕ, ◌+◌, ◌≤◌, ◌==◌, max, Bool, false, [], ◌∷◌, Option, None, Some}
+use Rattle.std.specs.Prelude.{◌≡◌, ℕ, ◌+◌, ◌≤◌, ◌==◌, ◌⊎◌, max, Bool, true, false, [], ◌∷◌, Option, None, Some}
 use Rattle.std.specs.FinMap as map
+use Rattle.alp_base.specs.Allowances.{Spends}
+use Rattle.alp_base.specs.Causes.{Rose}
+use Rattle.alp_base.specs.declared.allowance.Allowance.{Allowance}
+use Rattle.alp_base.specs.declared.allowance.Allowance.TheVariants.{Spent}
 use Rattle.alp_base.specs.declared.ids.TransId.{TransId}
 use Rattle.alp_locks.specs.Releases.{released}
 use Rattle.alp_files.specs.declared.call.Call.TheVariants as call
@@ -33,12 +37,12 @@ abbrev pub seen_in : Event → ℕ
 seen_in (event.Call client epoch number (call.Begin seen)) = seen.ts
 seen_in _ = 0
 
--- in an event the clock comes to one more than the greater of what it was and what the client saw, at most
+-- by an event the clock comes at most to one more than the greater of what it was and what the client saw
 abbrev pub IsTimely : ℕ → Event → ℕ → Type 0
 IsTimely before e now = now ≤ max before (seen_in e) + 1
 
 -- The entry of the answered event is lawful, the server keeps what its state says then, what is handed out is what the
--- entry keeps, the answer has its cause, and the clock goes no further than it has to.
+-- entry keeps, the answer has its cause, and the clock is no later than it may be.
 pub record Stepped {V : Type 0} (o : Start) (s : State) (held : Contents) (new : Kept V) (e : Event) (a : Answer) : Type 0 where
   pub next : State
   pub leads : Leads s (entry_of e a) next
@@ -46,6 +50,14 @@ pub record Stepped {V : Type 0} (o : Start) (s : State) (held : Contents) (new :
   pub handed : a.handed ≡ a.kept
   pub cause : HasCause s (entry_of e a)
   pub clock : IsTimely s.clock e new.clock
+
+-- Which server it is stays as it was, nobody adds to the allowance of its vault, and it goes down only where the vault
+-- failed or was stopped.
+pub record IsSeated {V : Type 0} (faults : V → ℕ) (allowance : V → Allowance) (old new : Kept V) : Type 0 where
+  pub server : new.server ≡ old.server
+  pub epoch : new.epoch ≡ old.epoch
+  pub spends : Spends (allowance old.vault) (allowance new.vault)
+  pub falls : old.is_down ≡ false → new.is_down ≡ true → Rose (faults old.vault) (faults new.vault) ⊎ (allowance new.vault ≡ Spent)
 
 -- it is the session's next call
 pub record IsTurn (sessions : Sessions) (t : Turn) : Type 0 where

@@ -7,7 +7,7 @@ ghost use Rattle.alp_journal.specs.State.{State as StateOf, Start, file_trans};
 ghost use Rattle.alp_node.specs.Calls.{IsServedCall, HaveCauses};
 ghost use Rattle.alp_node.specs.Kept.{IsAs, IsReady};
 ghost use Rattle.alp_node.specs.Served.{IsServed, IsAskable, IsInTurn, IsTurnCall, AreLivesSound};
-ghost use Rattle.alp_node.specs.Steps.{Stepped, IsTurn};
+ghost use Rattle.alp_node.specs.Steps.{IsSeated, Stepped, IsTurn};
 
 use crate::answer::Answer;
 use crate::kept::Kept;
@@ -27,6 +27,7 @@ impl<V: Vault> Kept<V> {
         requires sound { IsTrue (V.tells self.old.vault) → AreLivesSound (V.held self.old.vault) self.old }
         ensures stepped { IsTrue (V.tells self.old.vault) → (o : Start) (s : StateOf) → IsAs o s (V.held self.old.vault) self.old → IfOk result (λ a. Stepped o s (V.held self.new.vault) self.new (event.Call turn.now.client self.old.epoch turn.now.number (call.Finish trans commit)) a) }
         ensures ready { (steps : ℕ) → IsReady steps (V.serves self.old.vault) self.old → OnOk result (IsReady (steps + 1) (V.serves self.new.vault) self.new) }
+        ensures seat { IsSeated V.faults V.allowance self.old self.new }
         ensures cause { IfOk result (λ a. HaveCauses (V.faults self.old.vault) (V.faults self.new.vault) (V.allowance self.new.vault) a.acts) }
         ensures tells { V.tells self.new.vault ≡ V.tells self.old.vault }
         ensures still { (o : Start) (s : StateOf) → IsAs o s (V.held self.old.vault) self.old → OnErr result (IsAs o s (V.held self.new.vault) self.new) }
@@ -52,6 +53,7 @@ impl<V: Vault> Kept<V> {
         requires sound { IsTrue (V.tells self.old.vault) → AreLivesSound (V.held self.old.vault) self.old }
         ensures stepped { IsTrue (V.tells self.old.vault) → (o : Start) (s : StateOf) → IsAs o s (V.held self.old.vault) self.old → IfOk result (λ a. Stepped o s (V.held self.new.vault) self.new (event.Call turn.now.client self.old.epoch turn.now.number call.now) a) }
         ensures ready { (steps : ℕ) → IsReady steps (V.serves self.old.vault) self.old → OnOk result (IsReady (steps + 1) (V.serves self.new.vault) self.new) }
+        ensures seat { IsSeated V.faults V.allowance self.old self.new }
         ensures cause { IfOk result (λ a. HaveCauses (V.faults self.old.vault) (V.faults self.new.vault) (V.allowance self.new.vault) a.acts) }
         ensures tells { V.tells self.new.vault ≡ V.tells self.old.vault }
         ensures still { (o : Start) (s : StateOf) → IsAs o s (V.held self.old.vault) self.old → OnErr result (IsAs o s (V.held self.new.vault) self.new) }
@@ -79,6 +81,7 @@ impl<V: Vault> Kept<V> {
         requires sound { IsTrue (V.tells self.old.vault) → AreLivesSound (V.held self.old.vault) self.old }
         ensures stepped { IsTrue (V.tells self.old.vault) → (o : Start) (s : StateOf) → IsAs o s (V.held self.old.vault) self.old → (epoch : ℕ) → IsServed self.old (event.Call client epoch number call.now) → IfOk result (λ a. Stepped o s (V.held self.new.vault) self.new (event.Call client epoch number call.now) a) }
         ensures ready { (steps : ℕ) → IsReady steps (V.serves self.old.vault) self.old → OnOk result (IsReady (steps + 1) (V.serves self.new.vault) self.new) }
+        ensures seat { IsSeated V.faults V.allowance self.old self.new }
         ensures cause { IfOk result (λ a. HaveCauses (V.faults self.old.vault) (V.faults self.new.vault) (V.allowance self.new.vault) a.acts) }
         ensures tells { V.tells self.new.vault ≡ V.tells self.old.vault }
         ensures still { (o : Start) (s : StateOf) → IsAs o s (V.held self.old.vault) self.old → OnErr result (IsAs o s (V.held self.new.vault) self.new) }
@@ -108,6 +111,7 @@ impl<V: Vault> Kept<V> {
         requires sound { IsTrue (V.tells self.old.vault) → AreLivesSound (V.held self.old.vault) self.old }
         ensures stepped { IsTrue (V.tells self.old.vault) → (o : Start) (s : StateOf) → IsAs o s (V.held self.old.vault) self.old → IfOk result (λ a. Stepped o s (V.held self.new.vault) self.new event.now a) }
         ensures ready { (steps : ℕ) → IsReady steps (V.serves self.old.vault) self.old → OnOk result (IsReady (steps + 1) (V.serves self.new.vault) self.new) }
+        ensures seat { IsSeated V.faults V.allowance self.old self.new }
         ensures cause { IfOk result (λ a. HaveCauses (V.faults self.old.vault) (V.faults self.new.vault) (V.allowance self.new.vault) a.acts) }
         ensures tells { V.tells self.new.vault ≡ V.tells self.old.vault }
         ensures still { (o : Start) (s : StateOf) → IsAs o s (V.held self.old.vault) self.old → OnErr result (IsAs o s (V.held self.new.vault) self.new) }

@@ -1,5 +1,5 @@
 //! Transactions end.
-ghost use Rattle.std.specs.Prelude.{◌≡◌, ◌≢◌, ◌+◌, ◌<◌, ◌≤◌, ◌^◌, [], ◌∷◌, IsTrue, IfOk, OnOk, OnErr, Some, None, ℕ, true, false, vec_capacity};
+ghost use Rattle.std.specs.Prelude.{◌≡◌, ◌+◌, ◌<◌, ◌≤◌, ◌^◌, [], IsTrue, IfOk, OnOk, OnErr, Some, ℕ, true, false, vec_capacity};
 ghost use Rattle.std.specs.FinMap as map;
 ghost use Rattle.alp_calls.specs.declared.fault.CallFault.TheVariants as call_fault;
 ghost use Rattle.alp_files.specs.Sound.{AreSound};
@@ -12,7 +12,7 @@ ghost use Rattle.alp_node.specs.declared.lives.Live.{Live as ALive};
 ghost use Rattle.alp_node.specs.Kept.{IsAs, IsReady};
 ghost use Rattle.alp_node.specs.Calls.{HaveCauses};
 ghost use Rattle.alp_files.specs.declared.reply.Reply.TheVariants as reply;
-ghost use Rattle.alp_node.specs.Steps.{Stepped, IsTurn, IsOf, IsHalted, counted_in, without_trans};
+ghost use Rattle.alp_node.specs.Steps.{IsSeated, Stepped, IsTurn, IsOf, IsHalted, counted_in, without_trans};
 
 use crate::answer::Answer;
 use crate::kept::Kept;
@@ -41,7 +41,9 @@ impl<V: Vault> Kept<V> {
         requires alone { self.old.locks.waiting ≡ [] }
         ensures stepped { (o : Start) (s : StateOf) → IsAs o s (V.held self.old.vault) self.old → IfOk result (λ a. Stepped o s (V.held self.new.vault) self.new (event.Call turn.now.client self.old.epoch turn.now.number (call.Finish trans false)) a) }
         ensures ready { (steps : ℕ) → IsReady steps (V.serves self.old.vault) self.old → OnOk result (IsReady (steps + 1) (V.serves self.new.vault) self.new) }
+        ensures seat { IsSeated V.faults V.allowance self.old self.new }
         ensures vault { self.new.vault ≡ self.old.vault }
+        ensures cause { IfOk result (λ a. HaveCauses (V.faults self.old.vault) (V.faults self.new.vault) (V.allowance self.new.vault) a.acts) }
         ensures err { OnErr result (self.new ≡ self.old) }
     {
         let acts = Acts::new(vec![in self.alloc; Act::Released { trans }]?);
@@ -58,7 +60,9 @@ impl<V: Vault> Kept<V> {
         requires alone { self.old.locks.waiting ≡ [] }
         ensures stepped { (o : Start) (s : StateOf) → IsAs o s (V.held self.old.vault) self.old → IfOk result (λ a. Stepped o s (V.held self.new.vault) self.new (event.Timeout trans) a) }
         ensures ready { (steps : ℕ) → IsReady steps (V.serves self.old.vault) self.old → OnOk result (IsReady (steps + 1) (V.serves self.new.vault) self.new) }
+        ensures seat { IsSeated V.faults V.allowance self.old self.new }
         ensures vault { self.new.vault ≡ self.old.vault }
+        ensures cause { IfOk result (λ a. HaveCauses (V.faults self.old.vault) (V.faults self.new.vault) (V.allowance self.new.vault) a.acts) }
         ensures err { OnErr result (self.new ≡ self.old) }
     {
         if !self.lives.has(&trans) {
@@ -80,6 +84,7 @@ impl<V: Vault> Kept<V> {
         requires sound { IsTrue (V.tells self.old.vault) → (l : ALive) → map.get self.old.lives trans ≡ Some l → (m : Cells) → map.get m ≡ over l.part.intents (map.get (V.held self.old.vault).cells) → AreSound m }
         ensures stepped { IsTrue (V.tells self.old.vault) → (o : Start) (s : StateOf) → IsAs o s (V.held self.old.vault) self.old → IfOk result (λ a. Stepped o s (V.held self.new.vault) self.new (event.Call turn.now.client self.old.epoch turn.now.number (call.Finish trans true)) a) }
         ensures ready { (steps : ℕ) → IsReady steps (V.serves self.old.vault) self.old → OnOk result (IsReady (steps + 1) (V.serves self.new.vault) self.new) }
+        ensures seat { IsSeated V.faults V.allowance self.old self.new }
         ensures cause { IfOk result (λ a. HaveCauses (V.faults self.old.vault) (V.faults self.new.vault) (V.allowance self.new.vault) a.acts) }
         ensures tells { V.tells self.new.vault ≡ V.tells self.old.vault }
         ensures still { (o : Start) (s : StateOf) → IsAs o s (V.held self.old.vault) self.old → OnErr result (IsAs o s (V.held self.new.vault) self.new) }

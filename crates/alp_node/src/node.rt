@@ -1,14 +1,11 @@
 //! A server with its journal.
-ghost use Rattle.std.specs.Prelude.{◌≡◌, ◌⊎◌, ◌+◌, ◌<◌, ◌≤◌, ◌^◌, max, IsTrue, IsOk, List, [], ◌∷◌, ◌++◌, IfOk, OnOk, OnErr, Some, true, false};
-ghost use Rattle.alp_base.specs.Allowances.{Spends};
-ghost use Rattle.alp_base.specs.Causes.{Rose};
-ghost use Rattle.alp_base.specs.declared.allowance.Allowance.TheVariants.{Spent};
+ghost use Rattle.std.specs.Prelude.{◌≡◌, ◌+◌, ◌<◌, ◌≤◌, ◌^◌, max, IsTrue, IsOk, List, [], ◌∷◌, ◌++◌, IfOk, OnOk, OnErr, Some, true, false};
 ghost use Rattle.alp_files.specs.declared.refusal.Refusal.TheVariants as refusal;
 ghost use Rattle.alp_files.specs.declared.reply.Reply.TheVariants as reply;
 ghost use Rattle.alp_journal.specs.declared.entry.Entry.{Entry as AnEntry};
 ghost use Rattle.alp_node.specs.Nodes.{IsKept, Answered, HasRoom};
 ghost use Rattle.alp_node.specs.Served.{IsServed};
-ghost use Rattle.alp_node.specs.Steps.{seen_in};
+ghost use Rattle.alp_node.specs.Steps.{IsSeated, seen_in};
 
 use crate::answer::Answer;
 use crate::kept::Kept;
@@ -37,16 +34,14 @@ impl<V: Vault> Node<V> {
         requires clock { self.old.kept.clock < 2 ^ 62 }
         requires room { HasRoom self.old }
         ensures kept { IsKept V.tells V.serves V.held self.new }
-        ensures answered { self.old.kept.is_down ≡ false → IfOk result (λ r. Answered self.old.journal self.new.journal event r (V.faults self.old.kept.vault) (V.faults self.new.kept.vault) (V.allowance self.new.kept.vault)) }
+        ensures answered { IsTrue (V.tells self.old.kept.vault) → self.old.kept.is_down ≡ false → IfOk result (λ r. Answered self.old.journal self.new.journal event r (V.faults self.old.kept.vault) (V.faults self.new.kept.vault) (V.allowance self.new.kept.vault)) }
         ensures down { self.old.kept.is_down ≡ true → IfOk result (λ r. r ≡ Some (reply.Refused refusal.Down)) }
         ensures still_down { self.old.kept.is_down ≡ true → IsOk result × (self.new ≡ self.old) }
         ensures err { OnErr result (self.new.journal ≡ self.old.journal) }
-        ensures same { (self.new.opening ≡ self.old.opening) × (self.new.kept.server ≡ self.old.kept.server) × (self.new.kept.epoch ≡ self.old.kept.epoch) }
+        ensures opening { self.new.opening ≡ self.old.opening }
+        ensures seat { IsSeated V.faults V.allowance self.old.kept self.new.kept }
         ensures clock { IsTrue (V.tells self.old.kept.vault) → self.new.kept.clock ≤ max self.old.kept.clock (seen_in event) + 1 }
         ensures tells { V.tells self.new.kept.vault ≡ V.tells self.old.kept.vault }
-        // NEEDED: it goes down only where its vault failed or was stopped, and spends no allowance but the vault's own.
-        ensures allowance { Spends (V.allowance self.old.kept.vault) (V.allowance self.new.kept.vault) }
-        ensures falls { self.old.kept.is_down ≡ false → self.new.kept.is_down ≡ true → Rose (V.faults self.old.kept.vault) (V.faults self.new.kept.vault) ⊎ (V.allowance self.new.kept.vault ≡ Spent) }
     {
         if self.kept.is_down {
             return Ok(Some(Reply::Refused(Refusal::Down)));

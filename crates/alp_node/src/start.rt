@@ -7,7 +7,7 @@ ghost use Rattle.alp_base.specs.declared.faults.VaultFault.TheVariants as vault_
 ghost use Rattle.alp_calls.specs.declared.fault.CallFault.TheVariants as call_fault;
 ghost use Rattle.alp_fields.specs.Forms.{whole};
 ghost use Rattle.alp_fields.specs.ClockNote.{clock_name, clock_form};
-ghost use Rattle.alp_vault.specs.Vault.{HasFaultCause};
+ghost use Rattle.alp_vault.specs.Vault.{HasFaultCause, IsOfVolume};
 ghost use Rattle.alp_node.specs.Nodes.{IsKept};
 ghost use Rattle.alp_node.specs.Sessions.{no_sessions};
 ghost use Rattle.alp_node.specs.Starts.{AreOfServer, after_clock, raised, HasStartCause};
@@ -86,6 +86,7 @@ fn vault_fault(fault: CallFault) -> VaultFault
     ensures failed { result ≡ vault_fault.Failed → fault ≡ call_fault.Failed }
     ensures stopped { result ≡ vault_fault.Stopped → fault ≡ call_fault.Stopped }
     ensures memory { result ≡ vault_fault.OutOfMemory → fault ≡ call_fault.OutOfMemory }
+    ensures volume { IsOfVolume result }
 {
     match fault {
         CallFault::Failed => VaultFault::Failed,
@@ -108,9 +109,8 @@ impl<V: Vault> Node<V> {
         ensures server { IfOk result (λ n. n.kept.server ≡ server) }
         ensures idle { IfOk result (λ n. (n.journal ≡ []) × (n.kept.sessions ≡ no_sessions) × (n.kept.lives ≡ map.empty) × (n.kept.is_down ≡ false)) }
         ensures tells { IfOk result (λ n. V.tells n.kept.vault ≡ V.tells vault) }
-        ensures cause { IfErr result (λ e. HasStartCause (V.held vault) (V.faults vault) (V.faults e.0) (V.allowance e.0) e.1) }
-        // NEEDED: the allowance is the vault's own.
         ensures allowance { MatchResult result (λ n. Spends (V.allowance vault) (V.allowance n.kept.vault)) (λ e. Spends (V.allowance vault) (V.allowance e.0)) }
+        ensures cause { IfErr result (λ e. HasStartCause (V.held vault) (V.faults vault) (V.faults e.0) (V.allowance e.0) e.1) }
         ensures same { IfErr result (λ e. e.1 ≡ StartFault.Vault vault_fault.OutOfMemory → V.held e.0 ≡ V.held vault) }
     {
         let mut vault = vault;

@@ -1,6 +1,7 @@
 //! Commits of a server's vault: what a transaction intends, with the note of the epoch and the clock.
 ghost use Rattle.std.specs.Prelude.{◌≡◌, ◌≤◌, ◌^◌, IsTrue, OnOk, IfOk, IsErrOf};
 ghost use Rattle.std.specs.FinMap as map;
+ghost use Rattle.alp_base.specs.Allowances.{Spends};
 ghost use Rattle.alp_base.specs.Causes.{Rose};
 ghost use Rattle.alp_base.specs.declared.allowance.Allowance.TheVariants.{Spent};
 ghost use Rattle.alp_calls.specs.declared.fault.CallFault.TheVariants as fault;
@@ -47,6 +48,7 @@ pub fn store<V: Vault>(
     ensures notes { OnOk result ((V.held vault.new).notes ≡ map.insert (V.held vault.old).notes clock_name (clock_form.spell clock)) }
     ensures clock { OnOk result (clock_kept (V.held vault.new).notes ≡ clock) }
     ensures same { IsErrOf result fault.OutOfMemory → V.held vault.new ≡ V.held vault.old }
+    ensures allowance { Spends (V.allowance vault.old) (V.allowance vault.new) }
     ensures sizes { V.volume vault.new ≡ V.volume vault.old }
     ensures failed { IsErrOf result fault.Failed → Rose (V.faults vault.old) (V.faults vault.new) }
     ensures stopped { IsErrOf result fault.Stopped → V.allowance vault.new ≡ Spent }

@@ -16,6 +16,7 @@ use Rattle.alp_node.specs.declared.answer.Answer.{Answer}
 use Rattle.alp_node.specs.declared.kept.Kept.{Kept}
 use Rattle.alp_node.specs.declared.sessions.Sessions.{Sessions}
 use Rattle.alp_node.proofs.KeptLemmas.{commit_stepped, commit_ready, halted_stepped, halted_cause, halted_ready, halted_still}
+use Rattle.alp_node.proofs.SeatLemmas.{halted_seated}
 use Rattle.alp_node.proofs.kept.Kept.commit.Goals as goal
 
 pub store-requires-clause-sound : goal.store-requires-clause-sound
@@ -72,3 +73,9 @@ returns-clause-ready g c n h =
     subst (λ (x : Kept _). IsReady (n + 1) (serves x.vault) (record x { clock = k.clock + 1; committed = x.committed + 1; sessions = c.count.new.self })) (sym c.forget.ensures)
     (subst (λ (x : Sessions). IsReady (n + 1) (serves v) (record (without_trans k t) { clock = k.clock + 1; committed = k.committed + 1; sessions = x; vault = v })) (sym (c.count.ensures ∙ ap (λ (x : Kept _). counted_in x.sessions turn) c.forget.ensures))
     (commit_ready n (serves k.vault) (serves v) k v turn t c.in_default-store.ensures.serves c.requires.turn h))
+
+pub returns-in-Err-clause-seat : goal.returns-in-Err-clause-seat
+returns-in-Err-clause-seat g c =
+    let k = c.args.self.now in
+    halted_seated g.V.Vault.faults g.V.Vault.allowance k c.store.new.vault (counted_in k.sessions c.args.turn.now) c.in-Err.fault c.halt.result c.halt.new.self c.in-Err.ensures.allowance
+    (λ e. c.in-Err.ensures.failed (ap (λ (f : CallFault). Err f) e)) (λ e. c.in-Err.ensures.stopped (ap (λ (f : CallFault). Err f) e)) c.halt.ensures.halted c.halt.ensures.down c.halt.ensures.err

@@ -26,6 +26,7 @@ use Rattle.alp_node.specs.Asks.{asks_of, asks_made, asks_given, is_made, plan_fo
 use Rattle.alp_node.specs.Calls.{next_file}
 use Rattle.alp_node.proofs.GrantLemmas.{lock_alone, lock_stepped, conflict_stepped, free_given, given_below, plan_given, count_given, granted_ready}
 use Rattle.alp_node.proofs.ReadyLemmas.{counted_ready}
+use Rattle.alp_node.proofs.SeatLemmas.{seated_under, seated_from, spends_same, halted_seated}
 use Rattle.alp_node.proofs.kept.Kept.lock_call.Goals as goal
 
 pub perform-requires-clause-new : goal.perform-requires-clause-new
@@ -238,3 +239,37 @@ returns-clause-ready g c n h =
     (subst (λ (x : Kept _). IsReady (n + 1) (g.V.Vault.serves x.vault) (record x { sessions = counted_in x.sessions turn })) (sym kept_is)
     (granted_ready (n + 1) serves (record k { sessions = counted_in k.sessions turn; lives = map.insert k.lives t (record l { part = did.part }); vault = N.vault }) (plan_of k.locks t (asks_given (next_file k) call r)) (count_after k.given r)
     (count_grows k.given r) fewer refl (free_given n (g.V.Vault.serves k.vault) k t call r h free_asked) (λ m high. given_below k.server k.epoch k.given m call r c.requires.given high) parted))
+
+pub returns-in_err-answer-clause-seat : goal.returns-in_err-answer-clause-seat
+returns-in_err-answer-clause-seat g c =
+    let k = c.args.self.now in
+    let (l, there, own) = of_client c.args.turn.now.client (map.get k.lives c.args.trans) c.requires.own in
+    let same = (c.in-Ok.ensures.performed l there).kept in
+    seated_under g.V.Vault.faults g.V.Vault.allowance k c.perform.new.self (ap (λ (x : Kept _). x.server) same) (ap (λ (x : Kept _). x.epoch) same)
+    (spends_same (g.V.Vault.allowance k.vault) (g.V.Vault.allowance c.perform.new.self.vault) c.in-Ok.ensures.looked.0.allowed) (ap (λ (x : Kept _). x.is_down) same)
+
+pub returns-clause-seat : goal.returns-clause-seat
+returns-clause-seat g c =
+    let k = c.args.self.now in
+    let N = c.keep_locks.new.self in
+    let (l, there, own) = of_client c.args.turn.now.client (map.get k.lives c.args.trans) c.requires.own in
+    let same = (c.in-Ok.ensures.performed l there).kept in
+    let put = c.keep_locks.ensures.kept in
+    seated_under g.V.Vault.faults g.V.Vault.allowance k (record N { sessions = c.count.new.self }) (ap (λ (x : Kept _). x.server) put ∙ ap (λ (x : Kept _). x.server) same)
+    (ap (λ (x : Kept _). x.epoch) put ∙ ap (λ (x : Kept _). x.epoch) same)
+    (spends_same (g.V.Vault.allowance k.vault) (g.V.Vault.allowance N.vault) (ap (λ (x : Kept _). g.V.Vault.allowance x.vault) put ∙ c.in-Ok.ensures.looked.0.allowed))
+    (ap (λ (x : Kept _). x.is_down) put ∙ ap (λ (x : Kept _). x.is_down) same)
+
+pub returns-in-Err-clause-seat : goal.returns-in-Err-clause-seat
+returns-in-Err-clause-seat g c =
+    let k = c.args.self.now in
+    let N = c.perform.new.self in
+    let (l, there, own) = of_client c.args.turn.now.client (map.get k.lives c.args.trans) c.requires.own in
+    let same = (c.in-Err.ensures.performed l there).kept in
+    let left = looked_left g.V.Vault.tells g.V.Vault.serves g.V.Vault.volume g.V.Vault.held g.V.Vault.may_leave g.V.Vault.left_since g.V.Vault.faults g.V.Vault.allowance k.vault N.vault c.in-Err.fault c.in-Err.ensures.looked in
+    seated_from g.V.Vault.faults g.V.Vault.allowance k N c.halt.new.self (ap (λ (x : Kept _). x.server) same) (ap (λ (x : Kept _). x.epoch) same) (ap (λ (x : Kept _). x.is_down) same)
+    (halted_seated g.V.Vault.faults g.V.Vault.allowance (record N { vault = k.vault }) N.vault (counted_in N.sessions c.args.turn.now) c.in-Err.fault c.halt.result c.halt.new.self
+    (spends_same (g.V.Vault.allowance k.vault) (g.V.Vault.allowance N.vault) left.allowed)
+    (looked_failed g.V.Vault.tells g.V.Vault.serves g.V.Vault.volume g.V.Vault.held g.V.Vault.may_leave g.V.Vault.left_since g.V.Vault.faults g.V.Vault.allowance k.vault N.vault c.in-Err.fault c.in-Err.ensures.looked)
+    (looked_stopped g.V.Vault.tells g.V.Vault.serves g.V.Vault.volume g.V.Vault.held g.V.Vault.may_leave g.V.Vault.left_since g.V.Vault.faults g.V.Vault.allowance k.vault N.vault c.in-Err.fault c.in-Err.ensures.looked)
+    c.halt.ensures.halted c.halt.ensures.down c.halt.ensures.err)

@@ -16,6 +16,7 @@ use Rattle.alp_node.proofs.KeptLemmas.{of_client, halted_stepped, halted_ready, 
 use Rattle.alp_node.proofs.CallLemmas.{unseen, part_still}
 use Rattle.alp_node.proofs.PerformLemmas.{page_stepped, page_plain, gave_told, part_ready, turn_kept, looked_left, looked_failed, looked_stopped, looked_serves, halted_vault, err_same}
 use Rattle.alp_node.proofs.ReadyLemmas.{counted_ready}
+use Rattle.alp_node.proofs.SeatLemmas.{seated_under, seated_from, spends_same, halted_seated}
 use Rattle.alp_node.proofs.kept.Kept.page_call.Goals as goal
 
 pub perform-requires-clause-new : goal.perform-requires-clause-new
@@ -143,3 +144,33 @@ returns-in-Err-clause-ready_still g c n h =
     halted_still g.V.Vault.serves true n N N.vault c.in-Err.fault c.halt.result c.halt.new.self
     (looked_serves g.V.Vault.tells g.V.Vault.serves g.V.Vault.volume g.V.Vault.held g.V.Vault.may_leave g.V.Vault.left_since g.V.Vault.faults g.V.Vault.allowance k.vault N.vault c.in-Err.fault c.in-Err.ensures.looked)
     ready c.halt.ensures.memory c.halt.ensures.err
+
+pub returns-in_err-answer-in-Ok-clause-seat : goal.returns-in_err-answer-in-Ok-clause-seat
+returns-in_err-answer-in-Ok-clause-seat g c =
+    let k = c.args.self.now in
+    let (l, there, own) = of_client c.args.turn.now.client (map.get k.lives c.args.trans) c.requires.own in
+    let same = (c.in-Ok.ensures.performed l there).kept in
+    seated_under g.V.Vault.faults g.V.Vault.allowance k c.perform.new.self (ap (λ (x : Kept _). x.server) same) (ap (λ (x : Kept _). x.epoch) same)
+    (spends_same (g.V.Vault.allowance k.vault) (g.V.Vault.allowance c.perform.new.self.vault) c.in-Ok.ensures.looked.0.allowed) (ap (λ (x : Kept _). x.is_down) same)
+
+pub returns-in_ok-answer-in-Ok-clause-seat : goal.returns-in_ok-answer-in-Ok-clause-seat
+returns-in_ok-answer-in-Ok-clause-seat g c =
+    let k = c.args.self.now in
+    let (l, there, own) = of_client c.args.turn.now.client (map.get k.lives c.args.trans) c.requires.own in
+    let same = (c.in-Ok.ensures.performed l there).kept in
+    seated_under g.V.Vault.faults g.V.Vault.allowance k (record c.perform.new.self { sessions = c.count.new.self }) (ap (λ (x : Kept _). x.server) same) (ap (λ (x : Kept _). x.epoch) same)
+    (spends_same (g.V.Vault.allowance k.vault) (g.V.Vault.allowance c.perform.new.self.vault) c.in-Ok.ensures.looked.0.allowed) (ap (λ (x : Kept _). x.is_down) same)
+
+pub returns-in-Err-clause-seat : goal.returns-in-Err-clause-seat
+returns-in-Err-clause-seat g c =
+    let k = c.args.self.now in
+    let N = c.perform.new.self in
+    let (l, there, own) = of_client c.args.turn.now.client (map.get k.lives c.args.trans) c.requires.own in
+    let same = (c.in-Err.ensures.performed l there).kept in
+    let left = looked_left g.V.Vault.tells g.V.Vault.serves g.V.Vault.volume g.V.Vault.held g.V.Vault.may_leave g.V.Vault.left_since g.V.Vault.faults g.V.Vault.allowance k.vault N.vault c.in-Err.fault c.in-Err.ensures.looked in
+    seated_from g.V.Vault.faults g.V.Vault.allowance k N c.halt.new.self (ap (λ (x : Kept _). x.server) same) (ap (λ (x : Kept _). x.epoch) same) (ap (λ (x : Kept _). x.is_down) same)
+    (halted_seated g.V.Vault.faults g.V.Vault.allowance (record N { vault = k.vault }) N.vault (counted_in N.sessions c.args.turn.now) c.in-Err.fault c.halt.result c.halt.new.self
+    (spends_same (g.V.Vault.allowance k.vault) (g.V.Vault.allowance N.vault) left.allowed)
+    (looked_failed g.V.Vault.tells g.V.Vault.serves g.V.Vault.volume g.V.Vault.held g.V.Vault.may_leave g.V.Vault.left_since g.V.Vault.faults g.V.Vault.allowance k.vault N.vault c.in-Err.fault c.in-Err.ensures.looked)
+    (looked_stopped g.V.Vault.tells g.V.Vault.serves g.V.Vault.volume g.V.Vault.held g.V.Vault.may_leave g.V.Vault.left_since g.V.Vault.faults g.V.Vault.allowance k.vault N.vault c.in-Err.fault c.in-Err.ensures.looked)
+    c.halt.ensures.halted c.halt.ensures.down c.halt.ensures.err)

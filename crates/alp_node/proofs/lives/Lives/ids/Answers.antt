@@ -12,7 +12,7 @@ pub returns-clause-ids : goal.returns-clause-ids
 returns-clause-ids c =
     c.in_ok-ids.ensures.ids
     ∙ ap (λ (es : List (TransId × Live)). list_map (λ (e : TransId × Live). e.0) es)
-        (sym (entries_back transactions_total exact_transactions c.self.inside.lives.entries (tree_sorted transactions_total exact_transactions c.self.inside.lives.entries c.in_ok-ids.ensures.rising)))
+    (sym (entries_back transactions_total exact_transactions c.self.inside.lives.entries (tree_sorted transactions_total exact_transactions c.self.inside.lives.entries c.in_ok-ids.ensures.rising)))
     ∙ ap map.keys c.self.view_is
 
 pub returns-clause-rising : goal.returns-clause-rising

@@ -1,0 +1,28 @@
+use Rattle.std.specs.FinMap as map
+use Rattle.std.proofs.Common.{◌≡◌, ℕ, ◌+◌, sym, ◌∙◌, ap, subst}
+use Rattle.alp_node.specs.Kept.{IsReady}
+use Rattle.alp_node.specs.Steps.{counted_in}
+use Rattle.alp_node.specs.declared.kept.Kept.{Kept}
+use Rattle.alp_node.proofs.ReadyLemmas.{counted_ready}
+use Rattle.alp_node.proofs.ServedLemmas.{stranger_stepped, no_file_stepped}
+use Rattle.alp_node.proofs.kept.Kept.file_call.Goals as goal
+
+pub returns-then-not-is_own-clause-stepped : goal.returns-then-not-is_own-clause-stepped
+returns-then-not-is_own-clause-stepped g c tells o s h =
+    stranger_stepped o s g.V.Vault.held c.args.self.now c.refuse.new.self c.args.turn.now c.args.trans c.args.call.now c.refuse.result h c.requires.turn c.requires.served c.requires.named
+    (sym c.is_own.ensures ∙ c.if-not-is_own.true) c.refuse.ensures.kept c.refuse.ensures.answer
+
+pub returns-then-not-is_own-clause-ready : goal.returns-then-not-is_own-clause-ready
+returns-then-not-is_own-clause-ready g c steps h =
+    subst (λ (n : Kept g.row.V.Denot). IsReady (steps + 1) (g.V.Vault.serves n.vault) n) (sym c.refuse.ensures.kept)
+    (counted_ready steps (g.V.Vault.serves c.args.self.now.vault) c.args.self.now c.args.turn.now c.requires.turn h)
+
+pub returns-then-not-is_of_given-clause-stepped : goal.returns-then-not-is_of_given-clause-stepped
+returns-then-not-is_of_given-clause-stepped g c tells o s h =
+    no_file_stepped o s g.V.Vault.held c.args.self.now c.refuse-then-not-is_of_given.new.self c.args.turn.now c.args.trans c.args.call.now c.refuse-then-not-is_of_given.result h c.requires.turn c.requires.served c.requires.named
+    (sym c.is_own.ensures ∙ c.if-not-is_own.false) (sym c.is_of_given.ensures ∙ c.if-not-is_of_given.true) c.refuse-then-not-is_of_given.ensures.kept c.refuse-then-not-is_of_given.ensures.answer
+
+pub returns-then-not-is_of_given-clause-ready : goal.returns-then-not-is_of_given-clause-ready
+returns-then-not-is_of_given-clause-ready g c steps h =
+    subst (λ (n : Kept g.row.V.Denot). IsReady (steps + 1) (g.V.Vault.serves n.vault) n) (sym c.refuse-then-not-is_of_given.ensures.kept)
+    (counted_ready steps (g.V.Vault.serves c.args.self.now.vault) c.args.self.now c.args.turn.now c.requires.turn h)

@@ -1,0 +1,20 @@
+use Rattle.std.specs.FinMap as map
+use Rattle.std.proofs.Common.{◌≡◌, ℕ, ◌+◌, sym, ◌∙◌, subst}
+use Rattle.alp_node.specs.Kept.{IsReady}
+use Rattle.alp_node.specs.declared.kept.Kept.{Kept}
+use Rattle.alp_node.proofs.ReadyLemmas.{counted_ready}
+use Rattle.alp_node.proofs.ServedLemmas.{no_finish_stepped}
+use Rattle.alp_node.proofs.kept.Kept.finish.Goals as goal
+
+pub returns-then-not-is_own-clause-stepped : goal.returns-then-not-is_own-clause-stepped
+returns-then-not-is_own-clause-stepped g c tells o s h =
+    no_finish_stepped o s g.V.Vault.held c.args.self.now c.refuse.new.self c.args.turn.now c.args.trans c.args.commit c.refuse.result h c.requires.turn
+    (sym c.is_own.ensures ∙ c.if-not-is_own.true) c.refuse.ensures.kept c.refuse.ensures.answer
+
+pub returns-then-not-is_own-clause-ready : goal.returns-then-not-is_own-clause-ready
+returns-then-not-is_own-clause-ready g c steps h =
+    subst (λ (n : Kept g.row.V.Denot). IsReady (steps + 1) (g.V.Vault.serves n.vault) n) (sym c.refuse.ensures.kept)
+    (counted_ready steps (g.V.Vault.serves c.args.self.now.vault) c.args.self.now c.args.turn.now c.requires.turn h)
+
+pub commit-requires-clause-sound : goal.commit-requires-clause-sound
+commit-requires-clause-sound g c tells = c.requires.sound tells c.args.trans
