@@ -1,3 +1,5 @@
 pub mod AskLemmas
 pub mod StepLemmas
+pub mod RunLemmas
+pub mod EndLemmas
 pub mod StreamLemmas
