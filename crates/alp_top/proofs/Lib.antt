@@ -1,5 +1,6 @@
 pub mod AskLemmas
 pub mod StepLemmas
+pub mod NewLemmas
 pub mod RunLemmas
 pub mod EndLemmas
 pub mod StreamLemmas

@@ -1,0 +1,45 @@
+use Rattle.std.proofs.Common.{◌≡◌, ◌≤◌, ℕ, List, [], length, refl, sym, ap, ◌∙◌, subst, arith}
+use Rattle.std.specs.FinMap as map
+use Rattle.alp_fields.specs.ClockNote.{clock_name, clock_form}
+use Rattle.alp_fields.specs.declared.clock_note.ClockNote.{ClockNote}
+use Rattle.alp_vault.specs.Contents.{Contents}
+use Rattle.alp_vault.specs.MemVault.{held_by}
+use Rattle.alp_vault.specs.declared.mem_vault.MemVault.{MemVault}
+use Rattle.alp_top.proofs.NewLemmas.{new_given, new_clock, new_fault}
+use Rattle.alp_top.proofs.StepLemmas.{stays_free}
+use Rattle.alp_top.proofs.play.new_node.Goals as goal
+
+pub start-requires-clause-given : goal.start-requires-clause-given
+start-requires-clause-given c tells = new_given 1 (held_by c.new-vault.result) c.new-vault.ensures.empty
+
+pub returns-in-Ok-clause-on : goal.returns-in-Ok-clause-on
+returns-in-Ok-clause-on c =
+    let h = c.in-Ok.ensures in
+    let n = c.in-Ok.node in
+    let clock : n.kept.clock ≡ 0 = ap (λ (k : ClockNote). k.clock) (new_clock (held_by c.new-vault.result) (record { epoch = n.kept.epoch; clock = n.kept.clock }) c.new-vault.ensures.empty h.raised) in
+    record {
+      kept = h.kept;
+      up = h.idle.3;
+      free = stays_free c.new-vault.result.allowance n.kept.vault.allowance h.allowance c.new-vault.ensures.allowance;
+      early = omega (arith, clock);
+    }
+
+pub returns-in-Ok-clause-opening : goal.returns-in-Ok-clause-opening
+returns-in-Ok-clause-opening c =
+    let h = c.in-Ok.ensures in
+    let n = c.in-Ok.node in
+    let clock : record { epoch = n.kept.epoch; clock = n.kept.clock } ≡ record { epoch = 1; clock = 0 } =
+        new_clock (held_by c.new-vault.result) (record { epoch = n.kept.epoch; clock = n.kept.clock }) c.new-vault.ensures.empty h.raised in
+    record {
+      server = h.server;
+      cells = ap (λ (v : MemVault). (held_by v).cells) h.opening ∙ h.cells refl ∙ ap (λ (x : Contents). x.cells) c.new-vault.ensures.empty;
+      notes =
+          ap (λ (v : MemVault). (held_by v).notes) h.opening ∙ h.notes
+          ∙ ap (λ (x : Contents). map.insert x.notes clock_name (clock_form.spell (record { epoch = n.kept.epoch; clock = n.kept.clock }))) c.new-vault.ensures.empty
+          ∙ ap (λ (k : ClockNote). map.insert map.empty clock_name (clock_form.spell k)) clock;
+    }
+
+pub only_memory-requires : goal.only_memory-requires
+only_memory-requires c =
+    new_fault (held_by c.new-vault.result) c.in-Err.field-0-0.allowance c.in-Err.fault c.new-vault.ensures.empty
+    (stays_free c.new-vault.result.allowance c.in-Err.field-0-0.allowance c.in-Err.ensures.allowance c.new-vault.ensures.allowance) c.in-Err.ensures.cause
