@@ -58,6 +58,21 @@ const REFUSALS: &[u8] =
 const REFUSED: &[u8] =
     b"3 ok trans 1.1.1\n4 ok\n5 ok file 1.1.1 open 1\n6 ok\n7 ok hello -\n8 refused 11 size 4\n9 refused 12 charge 4 asked 7 quota 10\n10 refused 5\n11 ok stamp 1 1.1.1\nserver 1 epoch 1 clock 1 files 1 pages 4\nowner 1 ann charge 4 quota 10\ncommitted 1 aborted 0\n";
 
+// Two clients: one waits for nobody, opens what the other wrote once that is committed, and reads it while the other
+// asks for it in vain.
+const SHARED: &[u8] =
+    b"servers 1\nclient 1 Admin\nclient 2 Admin\n1 begin 1\n1 mkowner 1 ann 10 World\n1 create 1 A ann 4 World World\n1 write A 0 1 hello\n2 begin 1\n2 open A read r\n1 commit\n2 open A read r\n1 begin 1\n1 open A change w\n1 abort\n2 read A 0 1\n2 write A 0 1 x\n2 commit\n";
+
+const SHARED_TOLD: &[u8] =
+    b"4 ok trans 1.1.1\n5 ok\n6 ok file 1.1.1 open 1\n7 ok\n8 ok trans 1.1.2\n9 refused 16 holder 1.1.1\n10 ok stamp 1 1.1.1\n11 ok open 1\n12 ok trans 1.1.3\n13 refused 16 holder 1.1.2\n14 refused 17 Asked\n15 ok hello\n16 refused 9\n17 ok stamp 2 1.1.2\nserver 1 epoch 1 clock 2 files 1 pages 4\nowner 1 ann charge 4 quota 10\ncommitted 2 aborted 1\n";
+
+// A line without a transaction behind it, one that its client left by a begin, and two that are live at the end.
+const LEFT: &[u8] =
+    b"servers 1\nclient 16 Admin\nclient 3 Admin\n16 commit\n16 begin 1\n3 begin 1\n3 begin 1\n16 abort\n16 abort\n3 open 1.1.1 change w\n";
+
+const LEFT_TOLD: &[u8] =
+    b"4 none\n5 ok trans 1.1.1\n6 ok trans 1.1.2\n7 ok trans 1.1.3\n8 refused 17 Asked\n9 none\n10 refused 6\nserver 1 epoch 1 clock 0 files 0 pages 0\ncommitted 0 aborted 3\n";
+
 // Each so many-th read of the source and write of the sink fails; 0 for none. The sink has room for so many bytes.
 #[derive(Drop)]
 struct Failing {
@@ -140,6 +155,18 @@ fn plays_refusals(rt: HostRuntime) -> Result<(), Fail> {
     let told = run(rt.alloc(), &["play"], REFUSALS, &SOUND)?;
     assert_eq!(rt; told.code, 0);
     assert_eq!(rt; told.written.as_slice(), REFUSED);
+    Ok(())
+}
+
+#[test]
+fn plays_clients_that_interleave(rt: HostRuntime) -> Result<(), Fail> {
+    let alloc = rt.alloc();
+    let told = run(alloc, &["play"], SHARED, &SOUND)?;
+    assert_eq!(rt; told.code, 0);
+    assert_eq!(rt; told.written.as_slice(), SHARED_TOLD);
+    let left = run(alloc, &["play"], LEFT, &SOUND)?;
+    assert_eq!(rt; left.code, 0);
+    assert_eq!(rt; left.written.as_slice(), LEFT_TOLD);
     Ok(())
 }
 
