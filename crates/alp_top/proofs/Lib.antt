@@ -1,6 +1,5 @@
-pub mod KeptLemmas
+pub mod AskLemmas
 pub mod StepLemmas
 pub mod RunLemmas
-pub mod StreamLemmas
 pub mod EndLemmas
-pub mod StartLemmas
+pub mod StreamLemmas
