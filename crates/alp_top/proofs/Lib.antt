@@ -3,3 +3,4 @@ pub mod StepLemmas
 pub mod RunLemmas
 pub mod EndLemmas
 pub mod StreamLemmas
+pub mod LiveLemmas
