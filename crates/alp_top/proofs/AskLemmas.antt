@@ -92,27 +92,27 @@ line_seen words c l asked k epoch number form e = go l form e
     go l (abort k) e = in_trans words c l c.trans asked P e (λ t x own. is_asked _ x P own none)
 
 -- a call in its turn is served
-pub turn_served : {V : Type 0} (k : Kept V) (client epoch number : ℕ) (asked : Call) → client ≤ 16 → IsTurnCall asked → IsNextOf (session_at k.sessions client) k.epoch epoch number
-    → IsServed k (event.Call client epoch number asked)
-turn_served k client epoch number (call.Hello name) small h turn = absurd h
-turn_served k client epoch number (call.Begin seen) small h turn = (small, h, turn)
-turn_served k client epoch number (call.Join t) small h turn = (small, h, turn)
-turn_served k client epoch number (call.CreateFile t start choice) small h turn = (small, h, turn)
-turn_served k client epoch number (call.OpenFile t file access mode choice) small h turn = (small, h, turn)
-turn_served k client epoch number (call.CloseFile t n) small h turn = (small, h, turn)
-turn_served k client epoch number (call.DeleteFile t n choice) small h turn = (small, h, turn)
-turn_served k client epoch number (call.ReadPages t n r mode choice) small h turn = (small, h, turn)
-turn_served k client epoch number (call.WritePages t n r pages choice) small h turn = (small, h, turn)
-turn_served k client epoch number (call.LockPages t n r mode choice) small h turn = (small, h, turn)
-turn_served k client epoch number (call.SetSize t n size choice) small h turn = (small, h, turn)
-turn_served k client epoch number (call.ReadProps t n) small h turn = (small, h, turn)
-turn_served k client epoch number (call.WriteProps t n change choice) small h turn = (small, h, turn)
-turn_served k client epoch number (call.ReadOwner t name choice) small h turn = (small, h, turn)
-turn_served k client epoch number (call.MakeOwner t name quota create choice) small h turn = (small, h, turn)
-turn_served k client epoch number (call.SetQuota t name quota choice) small h turn = (small, h, turn)
-turn_served k client epoch number (call.Finish t commit) small h turn = (small, h, turn)
-turn_served k client epoch number (call.Outcome t) small h turn = (small, h, turn)
-turn_served k client epoch number (call.Collect n) small h turn = (small, h, turn)
+pub turn_served : {V : Type 0} (k : Kept V) (who epoch number : ℕ) (asked : Call) → who ≤ 16 → IsTurnCall asked → IsNextOf (session_at k.sessions who) k.epoch epoch number
+    → IsServed k (event.Call who epoch number asked)
+turn_served k who epoch number (call.Hello name) small h turn = absurd h
+turn_served k who epoch number (call.Begin seen) small h turn = (small, h, turn)
+turn_served k who epoch number (call.Join t) small h turn = (small, h, turn)
+turn_served k who epoch number (call.CreateFile t start choice) small h turn = (small, h, turn)
+turn_served k who epoch number (call.OpenFile t file access mode choice) small h turn = (small, h, turn)
+turn_served k who epoch number (call.CloseFile t n) small h turn = (small, h, turn)
+turn_served k who epoch number (call.DeleteFile t n choice) small h turn = (small, h, turn)
+turn_served k who epoch number (call.ReadPages t n r mode choice) small h turn = (small, h, turn)
+turn_served k who epoch number (call.WritePages t n r pages choice) small h turn = (small, h, turn)
+turn_served k who epoch number (call.LockPages t n r mode choice) small h turn = (small, h, turn)
+turn_served k who epoch number (call.SetSize t n size choice) small h turn = (small, h, turn)
+turn_served k who epoch number (call.ReadProps t n) small h turn = (small, h, turn)
+turn_served k who epoch number (call.WriteProps t n change choice) small h turn = (small, h, turn)
+turn_served k who epoch number (call.ReadOwner t name choice) small h turn = (small, h, turn)
+turn_served k who epoch number (call.MakeOwner t name quota list choice) small h turn = (small, h, turn)
+turn_served k who epoch number (call.SetQuota t name quota choice) small h turn = (small, h, turn)
+turn_served k who epoch number (call.Finish t keep) small h turn = (small, h, turn)
+turn_served k who epoch number (call.Outcome t) small h turn = (small, h, turn)
+turn_served k who epoch number (call.Collect n) small h turn = (small, h, turn)
 
 -- it is no greeting
 pub turn_plain : (asked : Call) → IsTurnCall asked → IsPlain (kind_of asked)
@@ -130,9 +130,9 @@ turn_plain (call.SetSize t n size choice) h = tt
 turn_plain (call.ReadProps t n) h = tt
 turn_plain (call.WriteProps t n change choice) h = tt
 turn_plain (call.ReadOwner t name choice) h = tt
-turn_plain (call.MakeOwner t name quota create choice) h = tt
+turn_plain (call.MakeOwner t name quota list choice) h = tt
 turn_plain (call.SetQuota t name quota choice) h = tt
-turn_plain (call.Finish t commit) h = tt
+turn_plain (call.Finish t keep) h = tt
 turn_plain (call.Outcome t) h = tt
 turn_plain (call.Collect n) h = tt
 
@@ -225,7 +225,7 @@ call_in_session s k (call.SetSize t n size choice) r h = files_in_session s k (c
 call_in_session s k (call.ReadProps t n) r h = files_in_session s k (call.ReadProps t n) (Some t) r h
 call_in_session s k (call.WriteProps t n change choice) r h = files_in_session s k (call.WriteProps t n change choice) (Some t) r h
 call_in_session s k (call.ReadOwner t name choice) r h = files_in_session s k (call.ReadOwner t name choice) (Some t) r h
-call_in_session s k (call.MakeOwner t name quota create choice) r h = files_in_session s k (call.MakeOwner t name quota create choice) (Some t) r h
+call_in_session s k (call.MakeOwner t name quota list choice) r h = files_in_session s k (call.MakeOwner t name quota list choice) (Some t) r h
 call_in_session s k (call.SetQuota t name quota choice) r h = files_in_session s k (call.SetQuota t name quota choice) (Some t) r h
 call_in_session s k (call.Outcome t) r h = files_in_session s k (call.Outcome t) None r h
 call_in_session s k (call.Collect n) r h = files_in_session s k (call.Collect n) None r h

@@ -188,9 +188,9 @@ some_answer s k epoch number x (Some y) h = (y, refl, h)
 -- ---- what the client makes of it
 
 -- a session and a clock stay where nothing is said of them
-record SameKnown (c d : Client) : Type 0 where
-  session : d.session ≡ c.session
-  told : d.told ≡ c.told
+pub record SameKnown (c d : Client) : Type 0 where
+  pub session : d.session ≡ c.session
+  pub told : d.told ≡ c.told
 
 same_known : (c : Client) → SameKnown c c
 same_known c = record { session = refl; told = refl }
@@ -395,10 +395,10 @@ went_on c n m k l frame r step form e went =
     step.on went.kept went.journal (omega (arith, seen, (step.each k).told, clock)) went.clock went.spends went.falls
 
 module _ (c : Crowd) (n m : Server) (k : ℕ) (l : Line) (frame : Frame) (r : Option Reply) (step : InStep c n) (small : k ≤ 16) (form : IsForm l) (asked : asks c k l false ≡ Some frame) (went : Went n m k frame r) where
-  d : Client
+  abbrev d : Client
   d = client_at c k
 
-  entry : Entry
+  abbrev entry : Entry
   entry = record { event = event.Call k frame.epoch frame.number frame.call; reply = r; acts = went.acts }
 
   on : IsOn m
