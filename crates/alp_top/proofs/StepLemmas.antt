@@ -106,10 +106,10 @@ early_clock n on room = omega (arith, on.early, room)
 
 -- ---- a server goes on
 
-no_rise : Rose 0 0 → ⊥
+pub no_rise : Rose 0 0 → ⊥
 no_rise h = omega (arith, h)
 
-stays_free : (a b : Allowance) → Spends a b → a ≡ Free → b ≡ Free
+pub stays_free : (a b : Allowance) → Spends a b → a ≡ Free → b ≡ Free
 stays_free Free b h e = h
 stays_free (Left k) b h e = cc
 stays_free Spent b h e = cc
