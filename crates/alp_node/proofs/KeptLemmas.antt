@@ -545,7 +545,7 @@ halted_cause {V} faults allowance before fault (Ok a) new so failed stopped is d
 -- after want of memory it is ready as before, where the vault serves on
 pub ready_in : {V : Type 0} (n : ℕ) (before serves : Bool) (k : Kept V) (v : V) → IsTrue serves → IsReady n before k → IsReady n serves (record k { vault = v })
 ready_in n before serves k v on h =
-    record { serving = λ _. on; sound = h.sound; alone = h.alone; known = h.known; begun = h.begun; opens = h.opens; places = h.places; calls = h.calls; drawn = h.drawn; given = h.given; committed = h.committed; unheld = h.unheld }
+    record { serving = λ _. on; sound = h.sound; alone = h.alone; known = h.known; begun = h.begun; opens = h.opens; places = h.places; calls = h.calls; drawn = h.drawn; given = h.given; committed = h.committed; few = h.few; unheld = h.unheld }
 
 pub halted_still : {V : Type 0} (serves : V → Bool) (before : Bool) (n : ℕ) (k : Kept V) (v : V) (fault : CallFault) (r : Result Answer OutOfMemory) (new : Kept V) → (fault ≡ call_fault.OutOfMemory → IsTrue (serves v)) → IsReady n before k
     → OnErr r (fault ≡ call_fault.OutOfMemory) → OnErr r (new ≡ record k { vault = v }) → OnErr r (IsReady n (serves new.vault) new)
@@ -571,6 +571,7 @@ halted_ready {V} n before serves k v turn (Ok a) new is h down =
       drawn = c.drawn;
       given = c.given;
       committed = c.committed;
+      few = c.few;
       unheld = c.unheld;
     })
 
@@ -591,5 +592,6 @@ commit_ready n before serves k v turn t on is h =
       drawn = c.drawn;
       given = c.given;
       committed = omega (arith, h.committed);
+      few = c.few;
       unheld = c.unheld;
     }

@@ -13,3 +13,4 @@ pub mod GrantLemmas
 pub mod AskLemmas
 pub mod ServedLemmas
 pub mod SeatLemmas
+pub mod LiveLemmas

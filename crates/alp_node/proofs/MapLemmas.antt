@@ -2,10 +2,10 @@
 use Rattle.std.specs.Prelude.{cond, Bool, true, false, ◌==◌, Option, None, Some, slice_get, slice_set, is_some}
 use Rattle.std.specs.Option.{option_map, option_and_then}
 use Rattle.std.specs.FinMap as map
-use Rattle.std.specs.FinMap.{get-insert, get-remove, same_map}
+use Rattle.std.specs.FinMap.{get-insert, get-remove, len-insert, len-remove, same_map}
 use Rattle.std.specs.Ordering.{eq_by_cmp}
 use Rattle.std.specs.Cmp.{eq_by_cmp_equiv}
-use Rattle.std.proofs.Common.{◌≡◌, ℕ, zero, suc, ◌<◌, ◌≤◌, List, [], ◌∷◌, length, refl, sym, ◌∙◌, ap, subst, arith, eq-eqb}
+use Rattle.std.proofs.Common.{◌≡◌, ℕ, zero, suc, ◌+◌, ◌-◌, ◌<◌, ◌≤◌, List, [], ◌∷◌, length, refl, sym, ◌∙◌, ap, subst, arith, eq-eqb}
 use Rattle.std.proofs.lemmas.Bool.{eqb-true}
 use Rattle.alp_base.specs.declared.ids.TransId.{TransId}
 use Rattle.alp_modes.specs.Orders.{trans_cmp, transactions_total, exact_transactions}
@@ -105,3 +105,22 @@ put_twice m t x y = same_map transactions_total exact_transactions _ _ (λ u.
 
 pub put_there : {X : Type 0} (m : map.FinMap trans_cmp X) (t : TransId) (x : X) → map.get (map.insert m t x) t ≡ Some x
 put_there m t x = get_put m t x t ∙ ap (λ (b : Bool). cond {A = Option _} b (Some x) (map.get m t)) (same_trans-itself t)
+
+-- ---- how many
+
+pub put_length : {X : Type 0} (m : map.FinMap trans_cmp X) (t : TransId) (x : X) → is_some (map.get m t) ≡ true → map.len (map.insert m t x) ≡ map.len m
+put_length m t x there = len-insert transactions_total m t x ∙ ap (λ (b : Bool). cond b (map.len m) (map.len m + 1)) there
+
+most_of : (b : Bool) (n : ℕ) → cond b n (n + 1) ≤ n + 1
+most_of true n = omega arith
+most_of false n = omega arith
+
+pub put_most : {X : Type 0} (m : map.FinMap trans_cmp X) (t : TransId) (x : X) → map.len (map.insert m t x) ≤ map.len m + 1
+put_most m t x = subst (λ (n : ℕ). n ≤ map.len m + 1) (sym (len-insert transactions_total m t x)) (most_of (is_some (map.get m t)) (map.len m))
+
+fewer_of : (b : Bool) (n : ℕ) → cond b (n - 1) n ≤ n
+fewer_of true n = omega arith
+fewer_of false n = omega arith
+
+pub gone_length : {X : Type 0} (m : map.FinMap trans_cmp X) (t : TransId) → map.len (map.remove m t) ≤ map.len m
+gone_length m t = subst (λ (n : ℕ). n ≤ map.len m) (sym (len-remove transactions_total m t)) (fewer_of (is_some (map.get m t)) (map.len m))

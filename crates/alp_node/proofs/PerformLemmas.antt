@@ -48,7 +48,7 @@ use Rattle.alp_node.proofs.CauseLemmas.{file_cause}
 use Rattle.alp_node.proofs.KeptLemmas.{IsLive, live_there, answered, told_turn, stands_timely}
 use Rattle.alp_node.proofs.ReadyLemmas.{turned}
 use Rattle.alp_node.proofs.CallLemmas.{done_kept, performs, gave, after_call, done_as, same_live}
-use Rattle.alp_node.proofs.MapLemmas.{get_put}
+use Rattle.alp_node.proofs.MapLemmas.{put_length, get_put}
 use Rattle.alp_node.proofs.PageLemmas.{LeavesOpens, page_held, page_granted, page_leaves}
 
 -- a call on pages stands by itself, ends nothing, and opens no file
@@ -160,6 +160,7 @@ module _ {V : Type 0} (n : ℕ) (before serves : Bool) (k : Kept V) (t : TransId
     drawn = omega (arith, h.drawn, le);
     given = omega (arith, h.given, le);
     committed = omega (arith, h.committed, le);
+    few = (let same : map.len (map.insert k.lives t (record l { part = p })) ≡ map.len k.lives = put_length k.lives t (record l { part = p }) (ap is_some there) in omega (arith, same, h.few, le));
     unheld = h.unheld;
   }
     where

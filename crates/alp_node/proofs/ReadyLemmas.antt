@@ -29,7 +29,7 @@ use Rattle.alp_node.specs.declared.lives.Live.{Live}
 use Rattle.alp_node.specs.declared.sessions.Session.{Session}
 use Rattle.alp_node.specs.declared.sessions.Sessions.{Sessions}
 use Rattle.alp_node.specs.declared.sessions.Turn.{Turn}
-use Rattle.alp_node.proofs.MapLemmas.{session_kept, places_set, get_put, get_gone, tied_same}
+use Rattle.alp_node.proofs.MapLemmas.{put_most, gone_length, session_kept, places_set, get_put, get_gone, tied_same}
 
 -- ---- sessions
 
@@ -107,6 +107,7 @@ module _ {V : Type 0} (n : ℕ) (serves : Bool) (k : Kept V) where
     drawn = omega (arith, h.drawn);
     given = omega (arith, h.given);
     committed = omega (arith, h.committed);
+    few = omega (arith, h.few);
     unheld = h.unheld;
   }
 
@@ -124,6 +125,7 @@ module _ {V : Type 0} (n : ℕ) (serves : Bool) (k : Kept V) where
     drawn = omega (arith, h.drawn);
     given = omega (arith, h.given);
     committed = omega (arith, h.committed);
+    few = omega (arith, h.few);
     unheld = h.unheld;
   }
 
@@ -141,6 +143,7 @@ module _ {V : Type 0} (n : ℕ) (serves : Bool) (k : Kept V) where
     drawn = omega (arith, h.drawn);
     given = omega (arith, h.given);
     committed = omega (arith, h.committed);
+    few = omega (arith, h.few);
     unheld = h.unheld;
   }
 
@@ -158,6 +161,7 @@ module _ {V : Type 0} (n : ℕ) (serves : Bool) (k : Kept V) where
     drawn = h.drawn;
     given = h.given;
     committed = h.committed;
+    few = (let fewer : map.len (map.remove k.lives t) ≤ map.len k.lives = gone_length k.lives t in omega (arith, fewer, h.few));
     unheld = λ u m high. released_unheld k.locks t u (numbered k m) h.alone (h.unheld u m high);
   }
     where
@@ -195,6 +199,7 @@ module _ {V : Type 0} (n : ℕ) (serves : Bool) (k : Kept V) where
       drawn = omega (arith, h.drawn);
       given = omega (arith, h.given);
       committed = omega (arith, h.committed);
+      few = (let more : map.len (map.insert k.lives t l) ≤ map.len k.lives + 1 = put_most k.lives t l in omega (arith, more, h.few));
       unheld = λ u m high. entered_unheld k.locks t u (numbered k m) (h.unheld u m high);
     }
       where
@@ -226,5 +231,6 @@ module _ {V : Type 0} (n : ℕ) (serves : Bool) (k : Kept V) where
     drawn = h.drawn;
     given = h.given;
     committed = h.committed;
+    few = h.few;
     unheld = λ u m high. released_unheld (entered k.locks t) t u (numbered k m) h.alone (entered_unheld k.locks t u (numbered k m) (h.unheld u m high));
   }

@@ -2,7 +2,7 @@
 use Rattle.std.specs.Prelude.{slice_get, zero, suc, cond, Bool, true, false, IsTrue, ◌==◌, Option, None, Some, unwrap_or, Result, Ok, Err, length, replicate}
 use Rattle.std.specs.Option.{option_and_then, option_map}
 use Rattle.std.specs.FinMap as map
-use Rattle.std.specs.FinMap.{get-insert, get-empty}
+use Rattle.std.specs.FinMap.{get-insert, get-empty, len-empty}
 use Rattle.std.specs.Cmp.Lexicographic.{nat_list_cmp_total}
 use Rattle.std.proofs.Common.{◌≡◌, ℕ, ◌+◌, ◌<◌, ◌≤◌, ◌^◌, List, [], ◌∷◌, refl, sym, ◌∙◌, ap, subst, arith, le_refl}
 use Rattle.alp_base.specs.Notes.{Notes, text_cmp}
@@ -163,6 +163,9 @@ new_as old server last c held before sound ids later notes kept =
       quiet = record { agree = λ t u k l a b away. (let wrong : None ≡ Some k = a in cc); idle = λ client. refl };
     }
 
+le_of : {n : ℕ} → n ≡ 0 → n ≤ 0
+le_of is = omega (arith, is)
+
 pub new_ready : {V : Type 0} (old : Kept V) (server : ℕ) (c : ClockNote) (serves : Bool) → IsTrue serves → IsSound (new_kept old server c).locks
     → IsReady 0 serves (new_kept old server c)
 new_ready old server c serves up sound = record {
@@ -177,6 +180,7 @@ new_ready old server c serves up sound = record {
   drawn = le_refl 0;
   given = le_refl 0;
   committed = le_refl 0;
+  few = le_of (len-empty trans_cmp Live);
   unheld = λ t n high. none_locked t (Whole (record { server = server; epoch = c.epoch; counter = n }));
 }
 

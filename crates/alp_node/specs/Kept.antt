@@ -123,4 +123,5 @@ pub record IsReady {V : Type 0} (steps : ℕ) (serves : Bool) (k : Kept V) : Typ
   pub drawn : k.drawn ≤ steps
   pub given : k.given ≤ steps
   pub committed : k.committed ≤ steps
+  pub few : map.len k.lives ≤ steps
   pub unheld : (t : TransId) (n : ℕ) → k.given < n → holding k.locks.held t (Whole (record { server = k.server; epoch = k.epoch; counter = n })) ≡ None

@@ -9,7 +9,7 @@ use Rattle.std.proofs.lemmas.Option.{same_Some}
 use Rattle.alp_script.specs.Words.{◌>>=◌, is_line, words_of}
 use Rattle.alp_script.specs.Grammar.{is_skipped, line_said, line_of, text_said}
 use Rattle.alp_script.specs.Known.{Known, nothing_known}
-use Rattle.alp_script.specs.Order.{names_ours, next}
+use Rattle.alp_script.specs.Order.{names_ours}
 use Rattle.alp_script.specs.Script.{step, read_at, numbered, with_front, line_then, script_from, script}
 use Rattle.alp_script.specs.Forms.{IsForm}
 use Rattle.alp_script.specs.Accepted.{LeadsFrom, RisesFrom, DeclaredFrom, IsAccepted}

@@ -1,5 +1,5 @@
 -- what is known of a line that may come next
-use Rattle.std.specs.Prelude.{nat_le, ◌&&◌, ◌==◌, Bool, Option, None, Some, IfSome, cond}
+use Rattle.std.specs.Prelude.{nat_le, ◌==◌, Bool, Option, None, Some, IfSome, cond}
 use Rattle.std.specs.List.{Contains}
 use Rattle.std.proofs.Common.{◌≡◌, ℕ, ◌≤◌, List, [], ◌∷◌, ◌++◌, true, false, refl, sym, ◌∙◌, ap, subst, append-nil}
 use Rattle.std.proofs.lemmas.Bool.{leb-true, and_parts, eqb-true}

@@ -4,3 +4,4 @@ pub mod NewLemmas
 pub mod RunLemmas
 pub mod EndLemmas
 pub mod StreamLemmas
+pub mod LiveLemmas
