@@ -21,12 +21,12 @@ ids_live n (Err e) h ids rising = tt
 ids_live n (Ok v) h ids rising = record {
   rise = rising;
   live = λ t. (
-    let there = key_there n.kept.lives t in
-    let same = kept_live (start_in n) (state_of n) (held_by n.kept.vault) n.kept t (h.right refl).kept in (
-      (λ c. same.0 (there.0 (subst (λ (xs : List TransId). Contains xs t) ids c))),
-      (λ some. subst (λ (xs : List TransId). Contains xs t) (sym ids) (there.1 (same.1 some))),
-    )
-  );
+      let there = key_there n.kept.lives t in
+      let same = kept_live (start_in n) (state_of n) (held_by n.kept.vault) n.kept t (h.right refl).kept in (
+        (λ c. same.0 (there.0 (subst (λ (xs : List TransId). Contains xs t) ids c))),
+        (λ some. subst (λ (xs : List TransId). Contains xs t) (sym ids) (there.1 (same.1 some))),
+      )
+      );
 }
 
 pub ids_few : (n : Server) (r : Result (Vec TransId Global) OutOfMemory) → IsKept n → IfOk r (λ v. v.items ≡ map.keys n.kept.lives) → IfOk r (λ v. length v.items ≤ length n.journal)

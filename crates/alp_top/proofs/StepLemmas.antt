@@ -364,7 +364,7 @@ all_in_step c s t words k d places small each rises h j = go (eqb_tells j k)
 committed_within : (s t : State) (e : Entry) (y : Reply) (stamp : Stamp) → t ≡ next s e → e.reply ≡ Some y → IsLawfulEntry s e → ((z : Stamp) → IsAmong z (in_order t) → z.ts ≤ t.clock) → y ≡ reply.Committed stamp → stamp.ts ≤ t.clock
 committed_within s t e y stamp is handed law within said =
     let told : AreDecided (in_order (next s e)) (told_by (Some (reply.Committed stamp))) =
-        subst (λ (r : Option Reply). AreDecided (in_order (next s e)) (told_by r)) (handed ∙ ap Some said) law.told in
+    subst (λ (r : Option Reply). AreDecided (in_order (next s e)) (told_by r)) (handed ∙ ap Some said) law.told in
     within stamp (subst (λ (x : State). IsAmong stamp (in_order x)) (sym is) told.0)
 
 -- what holds where the server answered a frame of the client
@@ -389,7 +389,7 @@ went_on c n m k l frame r step form e went =
     let d : Client = client_at c k in
     let (x, is, same) = frame_there d d.session (call_by c.words d l) frame e in
     let seen : seen_in (event.Call k frame.epoch frame.number frame.call) ≤ d.told.ts =
-        subst (λ (f : Frame). seen_in (event.Call k f.epoch f.number f.call) ≤ d.told.ts) (sym same) (frame_seen d d.session c.words l x k form is) in
+    subst (λ (f : Frame). seen_in (event.Call k f.epoch f.number f.call) ≤ d.told.ts) (sym same) (frame_seen d d.session c.words l x k form is) in
     let clock : (state_of n).clock ≡ n.kept.clock = ((step.on.kept.right refl).kept).clock in
     on_more n m (seen_in (event.Call k frame.epoch frame.number frame.call)) (record { event = event.Call k frame.epoch frame.number frame.call; reply = r; acts = went.acts })
     step.on went.kept went.journal (omega (arith, seen, (step.each k).told, clock)) went.clock went.spends went.falls

@@ -1,6 +1,7 @@
 use crate::*;
 use alp_base::{MemSink, MemSource};
 use std::alloc::Global;
+use std::io::Write;
 use std::test::Fail;
 
 const SCRIPT: &[u8] =
@@ -72,6 +73,59 @@ const LEFT: &[u8] =
 
 const LEFT_TOLD: &[u8] =
     b"4 none\n5 ok trans 1.1.1\n6 ok trans 1.1.2\n7 ok trans 1.1.3\n8 refused 17 Asked\n9 none\n10 refused 6\nserver 1 epoch 1 clock 0 files 0 pages 0\ncommitted 0 aborted 3\n";
+
+// Client 1 made a file of its owner, and both clients began.
+const BOTH_BEGUN: &[u8] =
+    b"servers 1\nclient 1 Admin\nclient 2 Admin\n1 begin 1\n1 mkowner 1 ann 10 World\n1 create 1 A ann 4 World World\n1 write A 0 1 hello\n1 commit\n1 begin 1\n2 begin 1\n";
+
+// What a client does then to the file or to its owner: for each of the two the lines, without their client.
+const DEEDS: [&[&[u8]]; 8] = [
+    &[b"open A read r"],
+    &[b"open A change w"],
+    &[b"open A read r", b"read A 0 1"],
+    &[b"open A change w", b"write A 0 1 x"],
+    &[b"create 1 B ann 1 World World"],
+    &[b"mkowner 1 ann 5 World"],
+    &[b"commit"],
+    &[b"abort"],
+];
+
+const OPEN: &[u8] = b"ok open 1";
+
+const HELD: &[u8] = b"refused 16 holder 1.1.2";
+
+const NOT_OPEN: &[u8] = b"refused 5";
+
+const TEXT: &[u8] = b"ok hello";
+
+const MADE: &[u8] = b"ok file 1.1.2 open 1";
+
+const EXISTS: &[u8] = b"refused 8";
+
+const STAMP: &[u8] = b"ok stamp 2 1.1.3";
+
+const ENDED: &[u8] = b"refused 17 Asked";
+
+// What client 2 is answered to each of these behind each of them by client 1.
+const ANSWERS: [[&[u8]; 8]; 8] = [
+    [OPEN, HELD, TEXT, NOT_OPEN, MADE, EXISTS, STAMP, ENDED],
+    [HELD, HELD, NOT_OPEN, NOT_OPEN, MADE, EXISTS, STAMP, ENDED],
+    [OPEN, HELD, TEXT, NOT_OPEN, MADE, EXISTS, STAMP, ENDED],
+    [HELD, HELD, NOT_OPEN, NOT_OPEN, MADE, EXISTS, STAMP, ENDED],
+    [OPEN, OPEN, TEXT, b"ok", HELD, HELD, STAMP, ENDED],
+    [OPEN, OPEN, TEXT, b"ok", HELD, HELD, STAMP, ENDED],
+    [
+        OPEN,
+        OPEN,
+        TEXT,
+        b"ok",
+        MADE,
+        EXISTS,
+        b"ok stamp 3 1.1.3",
+        ENDED,
+    ],
+    [OPEN, OPEN, TEXT, b"ok", MADE, EXISTS, STAMP, ENDED],
+];
 
 // Each so many-th read of the source and write of the sink fails; 0 for none. The sink has room for so many bytes.
 #[derive(Drop)]
@@ -167,6 +221,113 @@ fn plays_clients_that_interleave(rt: HostRuntime) -> Result<(), Fail> {
     let left = run(alloc, &["play"], LEFT, &SOUND)?;
     assert_eq!(rt; left.code, 0);
     assert_eq!(rt; left.written.as_slice(), LEFT_TOLD);
+    Ok(())
+}
+
+// The report's last line of a client, without its number.
+fn last_answer(report: &[u8]) -> &[u8] {
+    let lines = report.split(|b| *b == b'\n');
+    let mut last: &[u8] = b"";
+    for line in lines {
+        match line {
+            [first, ..] if first.is_ascii_digit() => last = line,
+            _ => {}
+        }
+    }
+    match last.iter().position(|b| *b == b' ') {
+        Some(i) => &last[i + 1..],
+        None => last,
+    }
+}
+
+fn put_deed(script: &mut Vec<u8>, client: u8, lines: &[&[u8]]) -> Result<(), Fail> {
+    for line in lines {
+        write!(script, "{client} ")?;
+        script.extend_from_slice(*line)?;
+        script.extend_from_slice(b"\n")?;
+    }
+    Ok(())
+}
+
+#[test]
+fn answers_each_pair_of_calls(rt: HostRuntime) -> Result<(), Fail> {
+    let alloc = rt.alloc();
+    for (first, answers) in DEEDS.iter().zip(ANSWERS.iter()) {
+        for (second, answer) in DEEDS.iter().zip(answers.iter()) {
+            let mut script = Vec::from_slice(alloc, BOTH_BEGUN)?;
+            put_deed(&mut script, 1, *first)?;
+            put_deed(&mut script, 2, *second)?;
+            let told = run(alloc, &["play"], script.as_slice(), &SOUND)?;
+            assert_eq!(rt; told.code, 0);
+            assert_eq!(rt; last_answer(told.written.as_slice()), *answer);
+        }
+    }
+    Ok(())
+}
+
+#[test]
+fn plays_sixteen_clients(rt: HostRuntime) -> Result<(), Fail> {
+    let alloc = rt.alloc();
+    let mut script = Vec::from_slice(alloc, b"servers 1\n")?;
+    for k in 1..17u32 {
+        write!(script, "client {k} Admin\n")?;
+    }
+    let mut report = Vec::new(alloc);
+    for k in 1..17u32 {
+        let line = k + 17;
+        write!(script, "{k} begin 1\n")?;
+        write!(report, "{line} ok trans 1.1.{k}\n")?;
+    }
+    for k in 1..17u32 {
+        let line = k + 33;
+        write!(script, "{k} mkowner 1 ann 5 World\n")?;
+        write!(report, "{line} ")?;
+        report.extend_from_slice(if k == 1 {
+            b"ok\n"
+        } else {
+            b"refused 16 holder 1.1.1\n"
+        })?;
+    }
+    for k in 1..17u32 {
+        let line = k + 49;
+        write!(script, "{k} commit\n")?;
+        write!(report, "{line} ok stamp {k} 1.1.{k}\n")?;
+    }
+    report.extend_from_slice(
+        b"server 1 epoch 1 clock 16 files 0 pages 0\nowner 1 ann charge 0 quota 5\ncommitted 16 aborted 0\n",
+    )?;
+    let told = run(alloc, &["play"], script.as_slice(), &SOUND)?;
+    assert_eq!(rt; told.code, 0);
+    assert_eq!(rt; told.written.as_slice(), report.as_slice());
+    Ok(())
+}
+
+#[test]
+fn plays_a_thousand_lines(rt: HostRuntime) -> Result<(), Fail> {
+    let alloc = rt.alloc();
+    let mut script = Vec::from_slice(alloc, b"servers 1\nclient 1 Admin\n")?;
+    let mut report = Vec::new(alloc);
+    for k in 1..500u32 {
+        let begin = 2 * k + 1;
+        let commit = 2 * k + 2;
+        script.extend_from_slice(b"1 begin 1\n1 commit\n")?;
+        write!(report, "{begin} ok trans 1.1.{k}\n")?;
+        write!(report, "{commit} ok stamp {k} 1.1.{k}\n")?;
+    }
+    report.extend_from_slice(
+        b"server 1 epoch 1 clock 499 files 0 pages 0\ncommitted 499 aborted 0\n",
+    )?;
+    let wide = Failing {
+        reads: 0,
+        writes: 0,
+        room: 65536,
+    };
+    let told = run(alloc, &["play"], script.as_slice(), &wide)?;
+    assert_eq!(rt; told.code, 0);
+    assert_eq!(rt; told.written.as_slice(), report.as_slice());
+    script.extend_from_slice(b"# too many\n")?;
+    let more = run(alloc, &["play"], script.as_slice(), &wide)?;
+    assert_eq!(rt; more.said.as_str(), "alpine: bad script line 1001");
     Ok(())
 }
 

@@ -29,7 +29,7 @@ returns-in-Ok-clause-opening c =
     let h = c.in-Ok.ensures in
     let n = c.in-Ok.node in
     let clock : record { epoch = n.kept.epoch; clock = n.kept.clock } ≡ record { epoch = 1; clock = 0 } =
-        new_clock (held_by c.new-vault.result) (record { epoch = n.kept.epoch; clock = n.kept.clock }) c.new-vault.ensures.empty h.raised in
+    new_clock (held_by c.new-vault.result) (record { epoch = n.kept.epoch; clock = n.kept.clock }) c.new-vault.ensures.empty h.raised in
     record {
       server = h.server;
       cells = ap (λ (v : MemVault). (held_by v).cells) h.opening ∙ h.cells refl ∙ ap (λ (x : Contents). x.cells) c.new-vault.ensures.empty;
