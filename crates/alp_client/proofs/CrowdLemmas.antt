@@ -1,5 +1,5 @@
 -- what is known of one client is known apart from the others
-use Rattle.std.proofs.Common.{◌≡◌, ◌≢◌, ℕ, ◌<◌, length, refl}
+use Rattle.std.proofs.Common.{◌≡◌, ◌≢◌, ℕ, ◌<◌, length}
 use Rattle.std.proofs.lemmas.List.{get_or-set_same, get_or-set_other, length-set}
 use Rattle.alp_client.specs.Maps.{WordMap}
 use Rattle.alp_client.specs.Clients.{new_client}

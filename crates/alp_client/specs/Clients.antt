@@ -1,5 +1,5 @@
 -- What one client sends for a line of the script, by what words stand for and by the replies that it was handed before.
-use Rattle.std.specs.Prelude.{◌≡◌, ℕ, ◌+◌, ◌<◌, ◌^◌, Bool, true, false, codes, replicate, length, ◌≤◌, Option, None, Some, unwrap_or}
+use Rattle.std.specs.Prelude.{ℕ, ◌+◌, ◌<◌, ◌^◌, Bool, true, false, codes, replicate, length, ◌≤◌, Option, None, Some, unwrap_or}
 use Rattle.std.specs.FinMap as map
 use Rattle.std.specs.Option.{option_map}
 use Rattle.alp_base.specs.declared.ids.FileId.{FileId}

@@ -1,13 +1,12 @@
 -- what one entry makes of a state in which nobody waits, and that it is lawful
-use Rattle.std.specs.Prelude.{cond, Bool, true, false, ◌&&◌, ◌==◌, max, Option, None, Some, IsSome, IsTrue, flat_map, is_some}
+use Rattle.std.specs.Prelude.{cond, Bool, true, false, ◌&&◌, ◌==◌, max, Option, None, Some, IsSome, flat_map, is_some}
 use Rattle.std.specs.List.{list_any}
 use Rattle.std.specs.Option.{option_to_list, option_or}
-use Rattle.std.specs.FinMap.Entries.{put}
-use Rattle.std.proofs.Common.{inl, inr, ◌≡◌, ℕ, ◌+◌, ◌<◌, ◌≤◌, List, [], ◌∷◌, ◌++◌, refl, sym, ◌∙◌, ap, subst, eq-eqb, arith}
+use Rattle.std.proofs.Common.{inl, inr, ◌≡◌, ℕ, ◌+◌, ◌<◌, List, [], ◌∷◌, ◌++◌, refl, sym, ◌∙◌, ap, subst, eq-eqb}
 use Rattle.alp_base.specs.declared.ids.FileId.{FileId}
 use Rattle.alp_base.specs.declared.ids.TransId.{TransId}
 use Rattle.alp_base.specs.declared.ids.Stamp.{Stamp}
-use Rattle.alp_modes.specs.Holdings.{Holding, agree_held, DoAgree}
+use Rattle.alp_modes.specs.Holdings.{DoAgree}
 use Rattle.alp_modes.proofs.HoldingLemmas.{agree-turned}
 use Rattle.alp_files.specs.declared.call.Call.{Call}
 use Rattle.alp_files.specs.declared.call.Call.TheVariants as call
@@ -29,10 +28,10 @@ use Rattle.alp_journal.specs.declared.act.Act.TheVariants as act
 use Rattle.alp_journal.specs.declared.event.Event.{Event}
 use Rattle.alp_journal.specs.declared.event.Event.TheVariants as event
 use Rattle.alp_journal.specs.declared.entry.Entry.{Entry}
-use Rattle.alp_journal.specs.State.{State, Session, Waiting, Life, Along, Kind, Plain, Begins, kind_of, next, acted, brought, is_stop, state_after, after_act, after_event, in_order, same_trans, stamp_cmp, is_new, is_of, is_not_yet, is_of_no_file, answered, done_by, done_of, performs, file_trans, with_session, with_waiting, with_life, with_done, with_pending, after_done, answer_in, view_in, performed, new_life, no_locks, greets, begins, begun_in, decides, grants, grants_call, asks_for, waiting_call, call_now, held_for, is_granted_now}
+use Rattle.alp_journal.specs.State.{State, Session, Waiting, Life, Along, Kind, Plain, kind_of, next, acted, brought, is_stop, state_after, after_act, after_event, in_order, same_trans, is_new, is_of, is_not_yet, is_of_no_file, answered, done_by, done_of, performs, file_trans, with_session, with_waiting, with_life, with_done, with_pending, after_done, answer_in, view_in, performed, new_life, greets, decides, grants, grants_call, asks_for, waiting_call, call_now, held_for, is_granted_now}
 use Rattle.alp_journal.specs.Steps.{IsQuiet, Leads}
 use Rattle.alp_journal.specs.Told.{IsAmong, told_by}
-use Rattle.alp_journal.specs.Laws.{next_trans, DrawsNext, Decides, DoLivesAgree, MayBeGranted, KeepsLocks, released_by, ended_by, ends_if, ended_at, times_out, ended_in, ReleasesEnded, WaitsInTurn, IsPerformed, PerformsRight, AreDecided, IsLawfulEntry, AreEarlier}
+use Rattle.alp_journal.specs.Laws.{next_trans, DrawsNext, Decides, DoLivesAgree, MayBeGranted, KeepsLocks, released_by, ended_by, ends_if, ended_at, times_out, ended_in, ReleasesEnded, WaitsInTurn, IsPerformed, PerformsRight, AreDecided, AreEarlier}
 use Rattle.alp_journal.proofs.StateLemmas.{same_trans-itself, same_trans-true, cond_twice, cond_itself, called-next, called-begin, performs-next, done_by-plain, file_reply-now, put-last}
 
 -- ---- what holds of all kinds of entries

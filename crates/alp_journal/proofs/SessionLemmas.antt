@@ -156,9 +156,9 @@ turn_leaves s client epoch number w c r acts is e n plain =
     let h = leaves_acted s entry in
     let there : x.sessions client ≡ Some w = ap (λ (f : ℕ → Option Session). f client) h.sessions ∙ is in
     let comes : called x client epoch number c (kind_of c) r ≡ calls_on x client (Some w) number c r =
-        plain_called x client epoch number c (kind_of c) r plain
-        ∙ ap (λ (v : Option Session). cond (is_new x v epoch number) (calls_on x client v number c r) x) there
-        ∙ ap (λ (b : Bool). cond b (calls_on x client (Some w) number c r) x) (in_turn x w epoch number (e ∙ sym h.epoch) n) in
+    plain_called x client epoch number c (kind_of c) r plain
+    ∙ ap (λ (v : Option Session). cond (is_new x v epoch number) (calls_on x client v number c r) x) there
+    ∙ ap (λ (b : Bool). cond b (calls_on x client (Some w) number c r) x) (in_turn x w epoch number (e ∙ sym h.epoch) n) in
     subst (λ (y : State). Leaves s (counted s client (record w { last = number })) (begun_in r) y) (sym comes) (leaves_call s x client number w c r h)
 
 -- a greeting where the client has no session begins one
@@ -172,7 +172,7 @@ greeting_leaves s client name r acts is =
     let there : x.sessions client ≡ None = ap (λ (f : ℕ → Option Session). f client) h.sessions ∙ is in
     let comes : greets x client 0 1 name (x.sessions client) ≡ with_session x client (Some v) = ap (greets x client 0 1 name) there in
     let same : (with_session x client (Some v)).sessions ≡ counted s client v =
-        ap (λ (f : ℕ → Option Session). λ (k : ℕ). cond {A = Option Session} (k == client) (Some v) (f k)) h.sessions in
+    ap (λ (f : ℕ → Option Session). λ (k : ℕ). cond {A = Option Session} (k == client) (Some v) (f k)) h.sessions in
     subst (λ (y : State). Leaves s (counted s client v) None y) (sym comes) (record { server = h.server; epoch = h.epoch; sessions = same; lives = h.lives })
 
 -- ---- any entry

@@ -1,37 +1,28 @@
 -- the entry of a call that asked for locks and has them
-use Rattle.std.specs.Prelude.{cond, Bool, true, false, not, ◌||◌, IsTrue, Option, None, Some, is_some}
+use Rattle.std.specs.Prelude.{cond, Bool, true, false, not, Option, None, Some, is_some}
 use Rattle.std.specs.List.{AllByRecursion}
-use Rattle.std.specs.Ordering.{eq_by_cmp}
-use Rattle.std.specs.FinMap as map
-use Rattle.std.proofs.Common.{◌≡◌, ℕ, ◌+◌, List, [], ◌∷◌, ◌++◌, refl, sym, ◌∙◌, ap, subst}
+use Rattle.std.proofs.Common.{◌≡◌, ℕ, ◌+◌, List, [], ◌∷◌, ◌++◌, sym, ◌∙◌, ap}
 use Rattle.alp_base.specs.declared.ids.FileId.{FileId}
-use Rattle.alp_base.specs.declared.ids.TransId.{TransId}
 use Rattle.alp_base.specs.declared.key.Key.TheVariants.{Leader, OwnerOf}
 use Rattle.alp_base.specs.declared.key.Resource.{Resource}
-use Rattle.alp_base.specs.declared.key.Resource.TheVariants.{Whole, Leaf}
+use Rattle.alp_base.specs.declared.key.Resource.TheVariants.{Whole}
 use Rattle.alp_base.specs.declared.choices.Access.{Access}
-use Rattle.alp_base.specs.declared.choices.Access.TheVariants.{ReadOnly, Change}
+use Rattle.alp_base.specs.declared.choices.Access.TheVariants.{Change}
 use Rattle.alp_modes.specs.declared.Mode.{Mode}
 use Rattle.alp_modes.specs.declared.Mode.TheVariants.{Write}
-use Rattle.alp_modes.specs.Orders.{resource_cmp}
-use Rattle.alp_modes.specs.Holdings.{Holding, join_held, covers_held, agree_held, held_by, DoAgree}
+use Rattle.alp_modes.specs.Holdings.{Holding, join_held, covers_held, held_by}
 use Rattle.alp_modes.proofs.HoldingLemmas.{none-right, join_held-assoc, held_by-append}
-use Rattle.alp_files.specs.declared.call.Call.{Call}
-use Rattle.alp_files.specs.declared.call.Call.TheVariants as call
 use Rattle.alp_files.specs.declared.reply.Reply.{Reply}
 use Rattle.alp_files.specs.declared.reply.Reply.TheVariants as reply
 use Rattle.alp_files.specs.declared.refusal.Refusal.{Refusal}
 use Rattle.alp_files.specs.declared.refusal.Refusal.TheVariants as refusal
 use Rattle.alp_files.specs.declared.refusal.ListName.TheVariants as lists
-use Rattle.alp_files.specs.declared.cell.Cell.{Cell}
 use Rattle.alp_files.specs.declared.cell.Props.{Props}
 use Rattle.alp_files.specs.declared.open.Open.{Open}
-use Rattle.alp_files.specs.Act.{Own, Answer, run, answer, id_in, unless, refused, told, no_answer, opened, create_tests, created_file, create_file, is_new, owner_of, access_tests, open_file, props_of, make_owner, is_admin}
+use Rattle.alp_files.specs.Act.{Own, Answer, run, id_in, unless, refused, no_answer, opened, create_tests, created_file, create_file, is_new, owner_of, access_tests, open_file, props_of, make_owner, is_admin}
 use Rattle.alp_files.specs.Cells.{View, owner_in, props_in}
-use Rattle.alp_files.specs.Locks.{IsMore, with_made, joined}
+use Rattle.alp_files.specs.Locks.{IsMore, with_made}
 use Rattle.alp_files.proofs.CoverLemmas.{right-above, joined-more}
-use Rattle.alp_calls.specs.Parts.{GivesOnly}
-use Rattle.alp_node.specs.Calls.{IsLockCall}
 use Rattle.alp_node.specs.Kept.{IsLocked, mode_for}
 use Rattle.alp_node.proofs.LockLemmas.{itself, write_covers}
 

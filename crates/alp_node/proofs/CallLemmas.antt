@@ -18,7 +18,7 @@ use Rattle.alp_files.specs.Built.{IsBuilt}
 use Rattle.alp_files.proofs.BornLemmas.{unborn_kept, unborn_more}
 use Rattle.alp_files.proofs.EditLemmas.{changes-append, edits_at-append}
 use Rattle.alp_files.proofs.FilesLemmas.{same-some}
-use Rattle.alp_files.specs.Edits.{Edit, edits_at, after, ChangesBy}
+use Rattle.alp_files.specs.Edits.{edits_at, after, ChangesBy}
 use Rattle.alp_files.specs.Locks.{IsMore, with_made}
 use Rattle.alp_files.proofs.HistoryLemmas.{get-edits_map}
 use Rattle.alp_locks.specs.Tables.{Table, holding}
@@ -30,7 +30,6 @@ use Rattle.alp_journal.proofs.EntryLemmas.{with_call, done_life}
 use Rattle.alp_files.specs.declared.call.Call.{Call}
 use Rattle.alp_files.specs.declared.reply.Reply.{Reply}
 use Rattle.alp_files.specs.declared.reply.Reply.TheVariants as reply
-use Rattle.alp_files.specs.declared.cell.Cell.{Cell}
 use Rattle.alp_files.specs.Cells.{Cells, View}
 use Rattle.alp_files.specs.Passing.{is_passing, IsFileReply}
 use Rattle.alp_calls.specs.declared.fault.CallFault.{CallFault}

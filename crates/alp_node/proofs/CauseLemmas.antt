@@ -1,7 +1,6 @@
 -- why calls are answered as they are
-use Rattle.std.specs.Prelude.{cond, Bool, true, false, not, Option, None, Some}
-use Rattle.std.proofs.Common.{◌≡◌, ℕ, ◌+◌, List, refl, sym, ◌∙◌, ap, subst, eq-eqb}
-use Rattle.alp_base.specs.declared.ids.FileId.{FileId}
+use Rattle.std.specs.Prelude.{cond, Bool, Option, None, Some}
+use Rattle.std.proofs.Common.{◌≡◌, ℕ, sym, ◌∙◌, ap, subst, eq-eqb}
 use Rattle.alp_base.specs.declared.ids.TransId.{TransId}
 use Rattle.alp_files.specs.declared.call.Call.{Call}
 use Rattle.alp_files.specs.declared.call.Call.TheVariants as call

@@ -1,6 +1,6 @@
 -- who stands in the way of a call that asks for locks, as the journal tells it
 use Rattle.std.proofs.Math.Dec.{T}
-use Rattle.std.specs.Prelude.{cond, Bool, true, false, ◌&&◌, IsTrue, Option, None, Some, filter}
+use Rattle.std.specs.Prelude.{cond, Bool, true, false, ◌&&◌, Option, None, Some, filter}
 use Rattle.std.specs.List.{AllByRecursion}
 use Rattle.std.specs.declared.cmp.Ordering.{Ordering}
 use Rattle.std.specs.declared.cmp.Ordering.TheVariants.{Less, Equal, Greater}
@@ -10,7 +10,7 @@ use Rattle.std.specs.Cmp.{tied_itself}
 use Rattle.std.specs.FinMap as map
 use Rattle.std.specs.FinMap.{get-entries, entries_sorted, find as found}
 use Rattle.std.specs.FinMap.Entries.{below_all}
-use Rattle.std.proofs.Common.{◌≡◌, ℕ, ◌+◌, List, [], ◌∷◌, ◌++◌, refl, sym, ◌∙◌, ap, subst}
+use Rattle.std.proofs.Common.{◌≡◌, List, [], ◌∷◌, ◌++◌, refl, sym, ◌∙◌, ap, subst}
 use Rattle.alp_base.specs.declared.ids.FileId.{FileId}
 use Rattle.alp_base.specs.declared.ids.TransId.{TransId}
 use Rattle.alp_base.specs.declared.key.Resource.{Resource}
@@ -18,7 +18,7 @@ use Rattle.alp_base.specs.declared.key.Resource.TheVariants.{Whole}
 use Rattle.alp_modes.specs.declared.Mode.{Mode}
 use Rattle.alp_modes.specs.declared.Mode.TheVariants.{Write}
 use Rattle.alp_modes.specs.Orders.{trans_cmp, resource_cmp, transactions_total, resources_total, exact_resources}
-use Rattle.alp_modes.specs.Holdings.{Holding, join_held, agree_held, held_by, DoAgree}
+use Rattle.alp_modes.specs.Holdings.{join_held, agree_held, held_by, DoAgree}
 use Rattle.alp_modes.proofs.HoldingLemmas.{agree-turned, join_held-assoc, held_by-append, none-right}
 use Rattle.alp_files.specs.declared.call.Call.{Call}
 use Rattle.alp_files.specs.declared.call.Call.TheVariants as call
@@ -31,7 +31,7 @@ use Rattle.alp_locks.proofs.PartLemmas.{tied}
 use Rattle.alp_locks.proofs.FreeLemmas.{granted-agrees, option-same, some-none, some-same}
 use Rattle.alp_locks.proofs.HolderLemmas.{names-first}
 use Rattle.alp_locks.proofs.LawLemmas.{joined-holds}
-use Rattle.alp_locks.proofs.SoundLemmas.{each-middle, each-filter, passing}
+use Rattle.alp_locks.proofs.SoundLemmas.{each-middle, each-filter}
 use Rattle.alp_vault.specs.Contents.{Contents}
 use Rattle.alp_journal.specs.State.{State, Start, Life, view_in, held_for}
 use Rattle.alp_journal.specs.Causes.{IsInWay, IsLeastHolder}

@@ -1,5 +1,5 @@
 -- the entry of a call that asked for locks and has them
-use Rattle.std.specs.Prelude.{cond, Bool, true, false, not, ◌&&◌, ◌||◌, ◌==◌, nat_lt, nat_le, ◌⊎◌, IsTrue, Option, None, Some, is_some}
+use Rattle.std.specs.Prelude.{cond, Bool, true, false, not, ◌&&◌, ◌||◌, ◌==◌, nat_lt, nat_le, ◌⊎◌, Option, None, Some, is_some}
 use Rattle.std.specs.List.{AllByRecursion}
 use Rattle.std.specs.FinMap as map
 use Rattle.std.proofs.Common.{inl, inr, ◌≡◌, ℕ, zero, suc, ◌+◌, ◌<◌, ◌≤◌, List, [], ◌∷◌, ◌++◌, length, refl, sym, ◌∙◌, ap, subst, arith, eq-eqb}
@@ -20,7 +20,7 @@ use Rattle.alp_modes.specs.declared.Mode.TheVariants.{Write}
 use Rattle.alp_modes.specs.Orders.{trans_cmp, resource_cmp, exact_resources}
 use Rattle.alp_modes.specs.Holdings.{covers_held}
 use Rattle.std.specs.Ordering.{eq_by_cmp}
-use Rattle.alp_files.specs.Act.{Own, Answer, answer, id_in}
+use Rattle.alp_files.specs.Act.{Own, answer, id_in}
 use Rattle.alp_files.specs.Cells.{View}
 use Rattle.alp_files.specs.Locks.{IsMore, granted, needs_of, request_of, joined}
 use Rattle.alp_files.proofs.CoverLemmas.{right-above, joined-more}
@@ -31,7 +31,7 @@ use Rattle.alp_files.specs.Cells.{has_file}
 use Rattle.alp_files.specs.Locks.{Need, IsFormed, with_made, needs_made}
 use Rattle.alp_queue.specs.declared.waiter.Waiter.{Waiter}
 use Rattle.alp_queue.specs.Order.{waits}
-use Rattle.alp_locks.specs.Tables.{Parts, Table, holding}
+use Rattle.alp_locks.specs.Tables.{Table, holding}
 use Rattle.alp_locks.specs.Asks.{blocker, with_granted}
 use Rattle.alp_locks.proofs.PartLemmas.{insert-keeps, tied}
 use Rattle.alp_locks.proofs.LawLemmas.{all-of-plan}
@@ -49,7 +49,7 @@ use Rattle.alp_journal.specs.Causes as causes
 use Rattle.alp_journal.specs.Causes.{is_of_unknown, IsFree, IsFileAnswer}
 use Rattle.alp_node.specs.Asks.{IsOfGiven, is_given, asks_of, asks_made, asks_given, is_made, plan_for, count_made, plan_of, with_plan}
 use Rattle.alp_node.specs.Calls.{IsLockCall, Gave, next_file}
-use Rattle.alp_node.specs.Kept.{IsAs, IsReady, IsAlike, IsLife, IsLocked, mode_for, ids_to, told_session}
+use Rattle.alp_node.specs.Kept.{IsAs, IsReady, IsAlike, IsLocked, mode_for, ids_to, told_session}
 use Rattle.alp_node.specs.Steps.{Stepped, IsTurn, counted_in, seen_in}
 use Rattle.alp_node.specs.declared.answer.Answer.{Answer as Handed}
 use Rattle.alp_node.specs.declared.sessions.Turn.{Turn}
@@ -57,8 +57,7 @@ use Rattle.alp_node.proofs.CauseLemmas.{file_cause}
 use Rattle.alp_node.proofs.ConflictLemmas.{held_elsewhere, least_holder, made_free}
 use Rattle.alp_node.proofs.KeptLemmas.{IsLive, live_there, answered, told_turn, stands_timely, passing_stepped}
 use Rattle.alp_node.proofs.ReadyLemmas.{numbered}
-use Rattle.alp_node.proofs.CallLemmas.{done_kept, performs, gave, after_call, done_as}
-use Rattle.alp_journal.specs.declared.act.Act.{Act}
+use Rattle.alp_node.proofs.CallLemmas.{done_kept, performs, gave, done_as}
 use Rattle.alp_journal.proofs.EntryLemmas.{grant_leads, after_grant}
 use Rattle.std.proofs.lemmas.Bool.{eqb-true, ltb-true, leb-true, le-leb}
 use Rattle.std.proofs.lemmas.Bool.Decides.{leb_tells}

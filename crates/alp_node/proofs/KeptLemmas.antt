@@ -1,9 +1,8 @@
 -- a server keeps what its journal says, entry by entry
 use Rattle.std.specs.Prelude.{Result, Ok, Err, IfOk, OnOk, OnErr, IsTrue, cond, Bool, true, false, ◌==◌, max, Option, None, Some, is_some}
 use Rattle.std.specs.Option.{option_map}
-use Rattle.std.specs.List.{AllByRecursion}
 use Rattle.std.specs.FinMap as map
-use Rattle.std.proofs.Common.{◌≡◌, ℕ, ◌+◌, ◌<◌, ◌≤◌, List, [], ◌∷◌, ◌++◌, length, length-append, refl, sym, ◌∙◌, ap, subst, arith}
+use Rattle.std.proofs.Common.{◌≡◌, ℕ, ◌+◌, ◌≤◌, List, [], ◌∷◌, ◌++◌, length-append, refl, sym, ◌∙◌, ap, subst, arith}
 use Rattle.alp_base.specs.declared.ids.TransId.{TransId}
 use Rattle.alp_base.specs.declared.ids.Stamp.{Stamp}
 use Rattle.alp_base.specs.declared.key.Resource.{Resource}
@@ -38,10 +37,8 @@ use Rattle.alp_calls.specs.declared.fault.CallFault.{CallFault}
 use Rattle.alp_calls.specs.declared.fault.CallFault.TheVariants as call_fault
 use Rattle.alp_calls.specs.Parts.{own_of}
 use Rattle.alp_calls.specs.declared.part.Part.{Part}
-use Rattle.alp_locks.specs.Tables.{Parts, Table, held_of, holding}
-use Rattle.alp_locks.specs.Asks.{entered}
+use Rattle.alp_locks.specs.Tables.{Parts, Table, holding}
 use Rattle.alp_locks.specs.Releases.{released}
-use Rattle.alp_locks.proofs.LawLemmas.{entering-keeps-held}
 use Rattle.alp_locks.proofs.PlanLemmas.{release-holds}
 use Rattle.alp_vault.specs.Contents.{Contents}
 use Rattle.alp_journal.specs.declared.act.Act.{Act}
@@ -54,7 +51,7 @@ use Rattle.alp_journal.specs.Steps.{Leads}
 use Rattle.alp_journal.specs.Laws.{next_trans, ended_at, AreEarlier}
 use Rattle.alp_journal.specs.Causes.{AnswersOwn, AnswersFinish, AnswersCall, HasCause}
 use Rattle.alp_journal.proofs.StateLemmas.{same_trans-itself, same_trans-true, AreEarlier-push}
-use Rattle.alp_journal.proofs.EntryLemmas.{commit_leads, with_committed, committed, halt_leads, greeting_leads, begin_leads, with_begun, counts_on, passing_leads, abort_leads, without_life, timeout_leads, idle_timeout_leads}
+use Rattle.alp_journal.proofs.EntryLemmas.{commit_leads, with_committed, committed, halt_leads, greeting_leads, begin_leads, counts_on, passing_leads, abort_leads, without_life, timeout_leads, idle_timeout_leads}
 use Rattle.alp_node.specs.Sessions.{session_at, with_session}
 use Rattle.alp_node.specs.Kept.{IsLife, IsAlike, IsAs, IsReady, told_session, PutNoneBeyond, last_time, notes_at}
 use Rattle.alp_node.specs.Calls.{HaveCauses}
@@ -63,11 +60,10 @@ use Rattle.alp_node.specs.declared.answer.Answer.{Answer}
 use Rattle.alp_node.specs.declared.kept.Kept.{Kept}
 use Rattle.alp_node.specs.declared.lives.Live.{Live}
 use Rattle.alp_node.specs.declared.sessions.Session.{Session}
-use Rattle.alp_node.specs.declared.sessions.Sessions.{Sessions}
 use Rattle.alp_node.specs.declared.sessions.Turn.{Turn}
 use Rattle.alp_node.proofs.ReadyLemmas.{counted_ready, gone_ready}
 use Rattle.alp_node.proofs.CauseLemmas.{own_is}
-use Rattle.alp_node.proofs.MapLemmas.{session_set, session_kept, places_set, get_put, get_gone, tied_same}
+use Rattle.alp_node.proofs.MapLemmas.{session_set, places_set, get_put, get_gone, tied_same}
 
 -- ---- what holds of lives
 

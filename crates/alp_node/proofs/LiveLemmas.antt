@@ -1,12 +1,11 @@
 -- the transactions that are live, by their ids
-use Rattle.std.specs.Prelude.{Option, None, Some, IsSome, true, false, ◌↔◌}
+use Rattle.std.specs.Prelude.{Option, None, Some, IsSome, ◌↔◌}
 use Rattle.std.specs.List.{Contains}
-use Rattle.std.specs.Ordering.{eq_by_cmp}
 use Rattle.std.specs.Cmp.{eq_by_cmp_equiv}
 use Rattle.std.specs.FinMap as map
 use Rattle.std.specs.FinMap.{contains_key-keys}
 use Rattle.std.proofs.lemmas.Map.Views.{Contains-from_any, list_any-from_Contains}
-use Rattle.std.proofs.Common.{◌≡◌, ℕ, List, refl, sym, ◌∙◌, ap}
+use Rattle.std.proofs.Common.{refl, sym, ◌∙◌}
 use Rattle.alp_base.specs.declared.ids.TransId.{TransId}
 use Rattle.alp_modes.specs.Orders.{trans_cmp, transactions_total, exact_transactions}
 use Rattle.alp_locks.specs.Tables.{Parts}

@@ -1,14 +1,12 @@
 -- calls that ask for locks: what the table grants is what the journal grants
-use Rattle.std.specs.Prelude.{cond, Bool, true, false, IsTrue, Option, None, Some}
-use Rattle.std.specs.List.{AllByRecursion}
+use Rattle.std.specs.Prelude.{cond, Bool, true, false, Option, None, Some}
 use Rattle.std.specs.Option.{option_and_then}
 use Rattle.std.specs.Ordering.{eq_by_cmp}
 use Rattle.std.specs.Cmp.{eq_by_cmp_equiv}
-use Rattle.std.specs.FinMap as map
-use Rattle.std.proofs.Common.{◌≡◌, ℕ, ◌+◌, List, [], ◌∷◌, ◌++◌, refl, sym, ◌∙◌, ap, subst}
+use Rattle.std.proofs.Common.{◌≡◌, List, [], ◌∷◌, ◌++◌, refl, sym, ◌∙◌, ap, subst}
 use Rattle.alp_base.specs.declared.ids.FileId.{FileId}
 use Rattle.alp_base.specs.declared.ids.TransId.{TransId}
-use Rattle.alp_base.specs.declared.key.Key.TheVariants.{Leader, OwnerOf}
+use Rattle.alp_base.specs.declared.key.Key.TheVariants.{Leader}
 use Rattle.alp_base.specs.declared.key.Resource.{Resource}
 use Rattle.alp_base.specs.declared.key.Resource.TheVariants.{Whole, Leaf}
 use Rattle.alp_base.specs.declared.choices.Access.{Access}
@@ -16,16 +14,13 @@ use Rattle.alp_base.specs.declared.choices.Access.TheVariants.{ReadOnly, Change}
 use Rattle.alp_modes.specs.declared.Mode.{Mode}
 use Rattle.alp_modes.specs.declared.Mode.TheVariants.{Read, Write}
 use Rattle.alp_modes.specs.Modes.{covers_of, leaf_of}
-use Rattle.alp_modes.specs.Orders.{trans_cmp, resource_cmp, resources_total}
+use Rattle.alp_modes.specs.Orders.{resource_cmp, resources_total}
 use Rattle.alp_modes.specs.Holdings.{Holding, join_held, covers_held, held_by, given_to, DoAgree}
-use Rattle.alp_modes.proofs.HoldingLemmas.{join_held-assoc, held_by-append}
 use Rattle.alp_files.specs.declared.call.Call.{Call}
 use Rattle.alp_files.specs.declared.call.Call.TheVariants as call
-use Rattle.alp_files.specs.declared.reply.Reply.{Reply}
-use Rattle.alp_files.specs.declared.reply.Reply.TheVariants as reply
-use Rattle.alp_files.specs.Act.{Own, id_in}
+use Rattle.alp_files.specs.Act.{Own}
 use Rattle.alp_files.specs.Cells.{View}
-use Rattle.alp_files.specs.Locks.{Need, needs_of, request_of, asked_on, asked_each, joined, granted, with_made, intention_on}
+use Rattle.alp_files.specs.Locks.{Need, needs_of, request_of, asked_each, joined, intention_on}
 use Rattle.alp_files.proofs.CoverLemmas.{right-above}
 use Rattle.alp_queue.specs.declared.waiter.Waiter.{Waiter}
 use Rattle.alp_locks.specs.Tables.{Table, holding}
@@ -36,7 +31,7 @@ use Rattle.alp_locks.proofs.SoundLemmas.{grant-sound}
 use Rattle.alp_queue.specs.Order.{waits}
 use Rattle.alp_journal.specs.State.{same_trans}
 use Rattle.alp_journal.proofs.StateLemmas.{same_trans-itself}
-use Rattle.alp_node.specs.Asks.{asks_of, asks_made}
+use Rattle.alp_node.specs.Asks.{asks_of}
 use Rattle.alp_node.specs.Calls.{IsLockCall}
 use Rattle.alp_node.specs.Kept.{mode_for}
 use Rattle.alp_node.proofs.MapLemmas.{tied_same}

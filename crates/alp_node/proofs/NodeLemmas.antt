@@ -1,27 +1,20 @@
 -- a server keeps to its journal
-use Rattle.std.specs.Prelude.{Bool, true, false, IsTrue, Option, None, Some}
-use Rattle.std.specs.Option.{option_copied as copied}
+use Rattle.std.specs.Prelude.{Bool, false, IsTrue}
 use Rattle.std.specs.FinMap as map
-use Rattle.std.specs.FinMap.{get-empty}
-use Rattle.std.proofs.Common.{◌≡◌, ℕ, ◌+◌, ◌<◌, ◌≤◌, ◌^◌, List, [], ◌∷◌, ◌++◌, length, length-append, refl, sym, ◌∙◌, ap, subst, arith}
-use Rattle.alp_base.specs.declared.key.Key.TheVariants.{Leader}
-use Rattle.alp_fields.specs.ClockNote.{clock_name, clock_form, clock_kept}
-use Rattle.alp_modes.specs.Orders.{trans_cmp}
-use Rattle.alp_files.specs.Cells.{Cells, View}
-use Rattle.alp_files.specs.Edits.{after, over, edits_map}
+use Rattle.std.proofs.Common.{◌≡◌, ℕ, ◌+◌, List, [], ◌∷◌, ◌++◌, length, length-append, sym, ◌∙◌, ap, subst}
+use Rattle.alp_files.specs.Cells.{Cells}
+use Rattle.alp_files.specs.Edits.{after, edits_map}
 use Rattle.alp_files.specs.Sound.{AreSound}
 use Rattle.alp_files.proofs.HistoryLemmas.{get-edits_map, same_cells}
 use Rattle.alp_journal.specs.declared.entry.Entry.{Entry}
-use Rattle.alp_journal.specs.State.{State, Start, Along, next, state_after, opened}
-use Rattle.alp_journal.specs.Laws.{IsLawful, IsSoundOpening, IsLawfulEntry}
+use Rattle.alp_journal.specs.State.{State, Start, Along, next, opened}
+use Rattle.alp_journal.specs.Laws.{IsLawful, IsLawfulEntry}
 use Rattle.alp_journal.specs.Causes.{HasCause}
 use Rattle.alp_journal.specs.declared.event.Event.{Event}
 use Rattle.alp_journal.proofs.StateLemmas.{Along-push, state_after-push}
 use Rattle.alp_journal.proofs.OneThread.{live_sound}
 use Rattle.alp_vault.specs.Contents.{Contents}
 use Rattle.alp_node.specs.declared.answer.Answer.{Answer}
-use Rattle.alp_node.specs.declared.kept.Kept.{Kept}
-use Rattle.alp_node.specs.declared.lives.Live.{Live}
 use Rattle.alp_node.specs.declared.node.Node.{Node}
 use Rattle.alp_node.specs.Kept.{IsAs, IsReady}
 use Rattle.alp_node.specs.Nodes.{IsKept, IsRight, start_at, start_in, state_of}

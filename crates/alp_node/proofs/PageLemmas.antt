@@ -1,10 +1,9 @@
 -- calls on the pages of an open: their file's lock gives what they need, and they leave the opens alone
-use Rattle.std.specs.Prelude.{cond, Bool, true, false, ◌==◌, nat_lt, IsTrue, Option, None, Some, zero, suc, find}
+use Rattle.std.specs.Prelude.{cond, Bool, true, false, ◌==◌, nat_lt, Option, None, Some, zero, suc}
 use Rattle.std.specs.List.{AllByRecursion}
 use Rattle.std.specs.Option.{option_and_then}
 use Rattle.std.proofs.Common.{◌≡◌, ℕ, ◌+◌, List, [], ◌∷◌, ◌++◌, refl, sym, ◌∙◌, ap, subst}
 use Rattle.alp_base.specs.declared.ids.FileId.{FileId}
-use Rattle.alp_base.specs.declared.ids.Run.{Run}
 use Rattle.alp_base.specs.declared.key.Key.{Key}
 use Rattle.alp_base.specs.declared.key.Key.TheVariants.{Leader, PageOf}
 use Rattle.alp_base.specs.declared.key.Resource.{Resource}
@@ -25,7 +24,7 @@ use Rattle.alp_files.specs.declared.reply.Reply.TheVariants as reply
 use Rattle.alp_files.specs.declared.refusal.Refusal.{Refusal}
 use Rattle.alp_files.specs.declared.refusal.Refusal.TheVariants as refusal
 use Rattle.alp_files.specs.Cells.{View, props_in}
-use Rattle.alp_files.specs.Act.{Own, Answer, Look, run, answer, id_in, open_at, on_open, on_props, on_change, if_change, read_pages, write_pages, ask_pages, page_past, unless, refused, told, page_puts, mark_put}
+use Rattle.alp_files.specs.Act.{Own, Answer, Look, run, answer, id_in, open_at, on_open, on_props, on_change, if_change, read_pages, write_pages, ask_pages, refused, told, page_puts, mark_put}
 use Rattle.alp_files.specs.Locks.{Need, HoldsOn, HoldsEach, needs_of, needs_on_open, needs_there, needs_on_change, needs_if_change, page_needs, page_limit, mark_needs, whole_of, wholes_of, asked_on, asked_each, intention_on, joined, request_of, granted}
 use Rattle.alp_files.proofs.CoverLemmas.{right-above}
 use Rattle.alp_node.specs.Calls.{IsPageCall}

@@ -1,23 +1,21 @@
 -- the entry of a call that a part performed
-use Rattle.std.specs.Prelude.{cond, Bool, true, false, IsTrue, is_some, Option, None, Some, Result, Ok, Err, IfOk, OnOk, OnErr}
+use Rattle.std.specs.Prelude.{cond, Bool, true, false, IsTrue, is_some, Option, None, Some, Result, Ok, Err, OnOk, OnErr}
 use Rattle.std.specs.List.{AllByRecursion}
 use Rattle.std.specs.FinMap as map
-use Rattle.std.proofs.Common.{◌≡◌, ℕ, ◌+◌, ◌≤◌, List, [], ◌∷◌, ◌++◌, refl, sym, ◌∙◌, ap, subst, arith}
+use Rattle.std.proofs.Common.{◌≡◌, ℕ, ◌+◌, ◌≤◌, [], refl, sym, ◌∙◌, ap, subst, arith}
 use Rattle.alp_base.specs.declared.ids.FileId.{FileId}
 use Rattle.alp_base.specs.declared.ids.TransId.{TransId}
-use Rattle.alp_base.specs.declared.key.Resource.{Resource}
-use Rattle.alp_modes.specs.Holdings.{Holding, join_held, agree_held, DoAgree}
+use Rattle.alp_modes.specs.Holdings.{Holding, DoAgree}
 use Rattle.alp_modes.proofs.HoldingLemmas.{none-right}
 use Rattle.alp_files.specs.declared.call.Call.{Call}
 use Rattle.alp_files.specs.declared.call.Call.TheVariants as call
 use Rattle.alp_files.specs.declared.reply.Reply.{Reply}
 use Rattle.alp_files.specs.declared.reply.Reply.TheVariants as reply
-use Rattle.alp_files.specs.declared.refusal.Refusal.TheVariants as refusal
 use Rattle.alp_files.specs.Act.{Own, id_in}
 use Rattle.alp_files.specs.Built.{IsBuilt}
 use Rattle.alp_files.specs.Born.{count_after}
 use Rattle.alp_files.specs.Cells.{Cells, has_file}
-use Rattle.alp_files.specs.Locks.{IsFormed, IsMore, with_made}
+use Rattle.alp_files.specs.Locks.{IsFormed, with_made}
 use Rattle.alp_calls.specs.declared.part.Part.{Part}
 use Rattle.alp_base.specs.Causes.{Rose}
 use Rattle.alp_base.specs.declared.allowance.Allowance.{Allowance}
@@ -29,15 +27,14 @@ use Rattle.alp_calls.specs.declared.fault.CallFault.{CallFault}
 use Rattle.alp_calls.specs.declared.fault.CallFault.TheVariants as call_fault
 use Rattle.alp_calls.specs.Parts.{Performs}
 use Rattle.alp_vault.specs.Contents.{Contents}
-use Rattle.alp_journal.specs.declared.act.Act.{Act}
 use Rattle.alp_journal.specs.declared.event.Event.TheVariants as event
-use Rattle.alp_journal.specs.State.{State, Start, Life, Plain, kind_of, file_trans, is_of_no_file, same_trans, view_in, done_by}
+use Rattle.alp_journal.specs.State.{State, Start, Life, Plain, kind_of, file_trans, is_of_no_file, same_trans, view_in}
 use Rattle.alp_journal.specs.Laws.{ended_at}
 use Rattle.alp_journal.specs.Causes.{is_of_unknown, IsFree, IsFileAnswer}
 use Rattle.alp_journal.proofs.StateLemmas.{same_trans-true}
 use Rattle.alp_journal.proofs.EntryLemmas.{done_leads}
 use Rattle.alp_node.specs.Calls.{Gave, IsPageCall, next_file}
-use Rattle.alp_node.specs.Kept.{IsAs, IsReady, IsLife, IsLocked, told_session}
+use Rattle.alp_node.specs.Kept.{IsAs, IsReady, IsLocked, told_session}
 use Rattle.alp_node.specs.Steps.{Stepped, IsTurn, counted_in, seen_in}
 use Rattle.alp_node.specs.declared.answer.Answer.{Answer}
 use Rattle.alp_node.specs.declared.kept.Kept.{Kept}

@@ -1,8 +1,8 @@
 -- a server stays ready, step by step
-use Rattle.std.specs.Prelude.{cond, Bool, true, false, ◌==◌, max, Option, None, Some, is_some, IsTrue}
+use Rattle.std.specs.Prelude.{cond, Bool, true, false, ◌==◌, Option, None, Some, is_some}
 use Rattle.std.specs.FinMap as map
 use Rattle.std.specs.Ordering.{eq_by_cmp}
-use Rattle.std.proofs.Common.{◌≡◌, ℕ, ◌+◌, ◌<◌, ◌≤◌, List, [], ◌∷◌, length, refl, sym, ◌∙◌, ap, subst, arith}
+use Rattle.std.proofs.Common.{◌≡◌, ℕ, ◌+◌, ◌≤◌, List, [], length, refl, sym, ◌∙◌, ap, subst, arith}
 use Rattle.alp_base.specs.declared.ids.TransId.{TransId}
 use Rattle.alp_base.specs.declared.key.Resource.{Resource}
 use Rattle.alp_base.specs.declared.key.Resource.TheVariants.{Whole}
@@ -10,11 +10,9 @@ use Rattle.alp_modes.specs.Orders.{trans_cmp}
 use Rattle.alp_modes.specs.declared.Mode.{Mode}
 use Rattle.alp_files.specs.Act.{Own, no_opens}
 use Rattle.alp_calls.specs.Parts.{own_of}
-use Rattle.alp_calls.specs.declared.part.Part.{Part}
 use Rattle.alp_locks.specs.Tables.{Table, held_of, holding}
 use Rattle.alp_locks.specs.Asks.{entered}
 use Rattle.alp_locks.specs.Releases.{released}
-use Rattle.alp_locks.specs.Sound.{IsSound}
 use Rattle.alp_locks.proofs.PartLemmas.{insert-keeps, insert-knows}
 use Rattle.alp_locks.proofs.LawLemmas.{entering-keeps-held}
 use Rattle.alp_locks.proofs.PlanLemmas.{release-holds, release-waiting, release-knows}

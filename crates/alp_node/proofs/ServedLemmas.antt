@@ -1,7 +1,7 @@
 -- file calls that are refused before they are looked at
-use Rattle.std.specs.Prelude.{cond, Bool, true, false, not, ◌||◌, ◌==◌, IsTrue, Option, None, Some}
+use Rattle.std.specs.Prelude.{cond, Bool, true, false, not, ◌==◌, Option, None, Some}
 use Rattle.std.specs.FinMap as map
-use Rattle.std.proofs.Common.{◌≡◌, ℕ, ◌+◌, ◌≤◌, List, [], ◌∷◌, refl, sym, ◌∙◌, ap, subst, eqb-true}
+use Rattle.std.proofs.Common.{◌≡◌, ℕ, [], refl, sym, ◌∙◌, ap, subst, eqb-true}
 use Rattle.alp_base.specs.declared.ids.TransId.{TransId}
 use Rattle.alp_files.specs.declared.call.Call.{Call}
 use Rattle.alp_files.specs.declared.call.Call.TheVariants as call
@@ -18,9 +18,8 @@ use Rattle.alp_journal.specs.Laws.{ended_at}
 use Rattle.alp_journal.specs.Causes.{own_in, AnswersOwn, AnswersFile, AnswersFinish, IsFileAnswer, is_of_unknown}
 use Rattle.alp_journal.specs.Causes.IsFileAnswer.{unknown}
 use Rattle.alp_locks.specs.Tables.{Parts}
-use Rattle.alp_node.specs.Asks.{is_given}
 use Rattle.alp_node.specs.Calls.{IsServedCall}
-use Rattle.alp_node.specs.Kept.{IsAs, IsAlike, IsLife}
+use Rattle.alp_node.specs.Kept.{IsAs, IsAlike}
 use Rattle.alp_node.specs.Served.{IsInTurn, IsNextOf, is_of_given}
 use Rattle.alp_node.specs.Sessions.{session_at}
 use Rattle.alp_node.specs.Steps.{Stepped, IsTurn, IsOf, is_own, counted_in}

@@ -1,5 +1,5 @@
 -- What a call asks of the lock table. The pages and the leader of a file are given by the file's lock, which the open has.
-use Rattle.std.specs.Prelude.{◌≡◌, List, [], ◌∷◌, Bool, true, false, not, nat_lt, nat_le, ◌≤◌, ◌&&◌, ◌||◌, ◌==◌, ◌+◌, if◌then◌else◌, ℕ}
+use Rattle.std.specs.Prelude.{◌≡◌, List, [], ◌∷◌, Bool, true, false, nat_lt, nat_le, ◌&&◌, ◌||◌, ◌==◌, ◌+◌, if◌then◌else◌, ℕ}
 use Rattle.alp_base.specs.declared.ids.FileId.{FileId}
 use Rattle.alp_base.specs.declared.ids.TransId.{TransId}
 use Rattle.alp_base.specs.declared.key.Key.TheVariants.{OwnerOf}
@@ -13,7 +13,6 @@ use Rattle.alp_files.specs.declared.reply.Reply.TheVariants as reply
 use Rattle.alp_queue.specs.declared.waiter.Waiter.{Waiter}
 use Rattle.alp_locks.specs.Tables.{Table, held_of}
 use Rattle.alp_locks.specs.Asks.{waiter_of, with_granted}
-use Rattle.alp_node.specs.declared.kept.Kept.{Kept}
 
 -- whoever performs the call keeps these, whatever the reply
 abbrev pub asks_of : Call → List Need

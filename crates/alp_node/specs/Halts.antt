@@ -1,5 +1,5 @@
 -- What a fault of the vault in a call comes to.
-use Rattle.std.specs.Prelude.{◌≡◌, Bool, IsTrue, Option, None, Some, Result, Ok, Err}
+use Rattle.std.specs.Prelude.{Bool, IsTrue, Option, None, Some, Result, Ok, Err}
 use Rattle.alp_files.specs.declared.refusal.Refusal.{Refusal}
 use Rattle.alp_files.specs.declared.refusal.Refusal.TheVariants as refusal
 use Rattle.alp_journal.specs.declared.act.Act.{Act}

@@ -1,7 +1,7 @@
 -- what a client asks is served, and what it is answered
-use Rattle.std.specs.Prelude.{true, false, Bool, Option, None, Some}
+use Rattle.std.specs.Prelude.{true, false, Option, None, Some}
 use Rattle.std.specs.Option.{option_map}
-use Rattle.std.proofs.Common.{◌<◌, ◌^◌, ◌≡◌, ℕ, ◌+◌, ◌≤◌, length, refl, sym, ◌∙◌, ap, subst, arith}
+use Rattle.std.proofs.Common.{◌<◌, ◌≡◌, ℕ, ◌+◌, ◌≤◌, refl, sym, ◌∙◌, ap, subst, arith}
 use Rattle.std.proofs.lemmas.List.{length-replicate}
 use Rattle.alp_base.specs.declared.ids.TransId.{TransId}
 use Rattle.alp_base.specs.declared.lists.TheConstants.{PAGES_PER_FILE}
@@ -14,15 +14,12 @@ use Rattle.alp_files.specs.Locks.{page_limit}
 use Rattle.alp_files.specs.Passing.{is_passing}
 use Rattle.alp_files.proofs.HeldLemmas.{reads-all}
 use Rattle.alp_script.specs.declared.line.Line.{Line}
-use Rattle.alp_script.specs.declared.line.Line.TheVariants as line
 use Rattle.alp_script.specs.Forms.{IsForm, servers, client, begin, owner, create, open_read, open_change, write, read, commit, abort}
 use Rattle.alp_client.specs.Maps.{WordMap}
 use Rattle.alp_client.specs.declared.client.Client.{Client}
-use Rattle.alp_client.specs.declared.client.Frame.{Frame}
-use Rattle.alp_client.specs.declared.client.Greeted.{Greeted}
-use Rattle.alp_client.specs.Clients.{call_in, call_with, call_by, frame_in, frame_of, HasNext}
+use Rattle.alp_client.specs.Clients.{call_in, call_with, call_by}
 use Rattle.alp_journal.specs.declared.event.Event.TheVariants as event
-use Rattle.alp_journal.specs.State.{State, Session, Life, kind_of, file_trans}
+use Rattle.alp_journal.specs.State.{State, Session, Life, kind_of}
 use Rattle.alp_files.specs.declared.refusal.Cause.TheVariants as cause
 use Rattle.alp_journal.specs.Laws.{next_trans}
 use Rattle.alp_journal.specs.Causes.{IsFileAnswer, unknown, conflict, performed, own_in, AnswersOwn, AnswersFinish, AnswersFile, AnswersCall}
@@ -33,7 +30,6 @@ use Rattle.alp_node.specs.Kept.{told_session}
 use Rattle.alp_node.specs.Sessions.{session_at}
 use Rattle.alp_node.specs.Served.{IsTurnCall, IsNextOf, IsServed}
 use Rattle.alp_node.specs.Steps.{seen_in}
-use Rattle.alp_top.specs.Steps.{SameSession}
 
 -- ---- the call of a line
 

@@ -1,5 +1,5 @@
 -- a run that is over is one thread's history
-use Rattle.std.specs.Prelude.{Option, None, Some, IsSome, true, map as list_map}
+use Rattle.std.specs.Prelude.{Option, map as list_map}
 use Rattle.std.proofs.Common.{◌≡◌, ℕ, ◌+◌, List, [], ◌∷◌, ◌++◌, refl, sym, ◌∙◌, ap, subst, append_assoc, append-nil}
 use Rattle.alp_files.specs.declared.reply.Reply.{Reply}
 use Rattle.alp_base.specs.declared.ids.TransId.{TransId}

@@ -1,5 +1,5 @@
 -- a server that starts on a vault that holds nothing
-use Rattle.std.specs.Prelude.{Option, None, Some, Result, Ok, Err}
+use Rattle.std.specs.Prelude.{None, Some, Result, Ok, Err}
 use Rattle.std.specs.FinMap as map
 use Rattle.std.specs.FinMap.{get-empty}
 use Rattle.std.proofs.Common.{◌≡◌, ℕ, [], refl, sym, ◌∙◌, ap, subst}
@@ -10,8 +10,6 @@ use Rattle.alp_base.specs.declared.faults.VaultFault.TheVariants as vault_fault
 use Rattle.alp_base.specs.declared.key.Key.TheVariants.{Leader}
 use Rattle.alp_fields.specs.ClockNote.{clock_name}
 use Rattle.alp_fields.specs.declared.clock_note.ClockNote.{ClockNote}
-use Rattle.alp_files.specs.Apart.{AreSized}
-use Rattle.alp_files.specs.Cells.{Cells}
 use Rattle.alp_files.proofs.CellMapLemmas.{get_cell}
 use Rattle.alp_vault.specs.Contents.{Contents}
 use Rattle.alp_node.specs.Starts.{AreOfServer, HasStartCause, after_note, raised}

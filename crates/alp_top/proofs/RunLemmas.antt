@@ -1,6 +1,6 @@
 -- a run that goes on by one line
-use Rattle.std.specs.Prelude.{Option, map as list_map}
-use Rattle.std.proofs.Common.{◌≡◌, ℕ, ◌+◌, List, [], ◌∷◌, ◌++◌, length, refl, sym, ◌∙◌, ap, subst, arith, append_assoc, append-nil, length-append, take, drop, get_or, ◌<◌, zero, suc}
+use Rattle.std.specs.Prelude.{map as list_map}
+use Rattle.std.proofs.Common.{◌≡◌, ℕ, ◌+◌, List, [], ◌∷◌, ◌++◌, length, refl, sym, ◌∙◌, ap, subst, arith, append_assoc, append-nil, length-append, take, get_or, ◌<◌, zero, suc}
 use Rattle.std.specs.List.{AllByRecursion}
 use Rattle.std.proofs.lemmas.List.{take_more}
 use Rattle.alp_journal.specs.State.{Start}

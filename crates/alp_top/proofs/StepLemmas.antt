@@ -1,8 +1,8 @@
 -- the clients stay in step with their server through a call
-use Rattle.std.specs.Prelude.{◌==◌, true, false, Bool, cond, min, max, Option, None, Some, IsSome, map as list_map}
+use Rattle.std.specs.Prelude.{◌==◌, true, false, Bool, cond, max, Option, None, Some, IsSome, map as list_map}
 use Rattle.std.specs.Option.{option_map}
 use Rattle.std.specs.Ordering.{is_lt}
-use Rattle.std.proofs.Common.{inl, inr, ◌⊎◌, ◌<◌, ◌^◌, ◌≡◌, ◌≢◌, ℕ, ◌+◌, ◌-◌, ◌≤◌, List, [], ◌∷◌, ◌++◌, length, refl, sym, ◌∙◌, ap, subst, arith, eq-eqb, append_assoc, append-nil, length-append}
+use Rattle.std.proofs.Common.{inl, inr, ◌⊎◌, ◌<◌, ◌^◌, ◌≡◌, ◌≢◌, ℕ, ◌+◌, ◌≤◌, List, [], ◌∷◌, ◌++◌, length, refl, sym, ◌∙◌, ap, subst, arith, eq-eqb, append_assoc, append-nil, length-append}
 use Rattle.std.proofs.lemmas.Bool.Decides.{eqb_tells, leb_tells}
 use Rattle.std.proofs.lemmas.List.{set_past}
 use Rattle.std.proofs.Math.Dec.{leb}
@@ -10,7 +10,6 @@ use Rattle.alp_base.specs.Causes.{Rose}
 use Rattle.alp_base.specs.Allowances.{Spends}
 use Rattle.alp_base.specs.declared.allowance.Allowance.{Allowance}
 use Rattle.alp_base.specs.declared.allowance.Allowance.TheVariants.{Free, Left, Spent}
-use Rattle.alp_base.specs.declared.ids.TransId.{TransId}
 use Rattle.alp_base.specs.declared.ids.FileId.{FileId}
 use Rattle.alp_base.specs.declared.ids.Stamp.{Stamp}
 use Rattle.alp_files.specs.declared.call.Call.{Call}
@@ -19,7 +18,6 @@ use Rattle.alp_files.specs.declared.reply.Reply.{Reply}
 use Rattle.alp_files.specs.declared.reply.Reply.TheVariants as reply
 use Rattle.alp_files.specs.declared.refusal.Refusal.TheVariants as refusal
 use Rattle.alp_script.specs.declared.line.Line.{Line}
-use Rattle.alp_script.specs.declared.line.Line.TheVariants as line
 use Rattle.alp_script.specs.Forms.{IsForm, servers, client, begin, owner, create, open_read, open_change, write, read, commit, abort}
 use Rattle.alp_script.specs.declared.numbered.NumberedLine.{NumberedLine}
 use Rattle.alp_script.specs.Named.{client_named}
@@ -30,13 +28,13 @@ use Rattle.alp_journal.specs.declared.event.Event.{Event}
 use Rattle.alp_journal.specs.declared.log.Exchange.{Exchange}
 use Rattle.alp_journal.specs.declared.log.LineLog.{LineLog}
 use Rattle.alp_journal.specs.declared.event.Event.TheVariants as event
-use Rattle.alp_journal.specs.State.{State, Start, Session, Along, next, state_after, opened, begun_in, in_order, stamp_cmp, kind_of}
-use Rattle.alp_journal.specs.Laws.{IsLawful, IsLawfulEntry, AreDecided}
+use Rattle.alp_journal.specs.State.{State, Start, Session, Along, next, state_after, opened, in_order, stamp_cmp}
+use Rattle.alp_journal.specs.Laws.{IsLawfulEntry, AreDecided}
 use Rattle.alp_journal.specs.Told.{told_by, IsAmong}
 use Rattle.alp_journal.specs.Causes.{HasCause, AnswersBy, AnswersCall, IsAnswer}
 use Rattle.alp_journal.proofs.StateLemmas.{state_after-push}
 use Rattle.alp_journal.proofs.Promises.{clock_rises, decided_within}
-use Rattle.alp_journal.proofs.SessionLemmas.{Leaves, counted, turn_leaves, greeting_leaves}
+use Rattle.alp_journal.proofs.SessionLemmas.{counted, turn_leaves, greeting_leaves}
 use Rattle.alp_client.specs.Maps.{WordMap}
 use Rattle.alp_client.specs.Props.{later}
 use Rattle.alp_client.specs.declared.client.Client.{Client}
@@ -53,7 +51,7 @@ use Rattle.alp_node.specs.Served.{IsServed, IsTurnCall}
 use Rattle.alp_node.specs.Steps.{seen_in}
 use Rattle.alp_node.specs.Sessions.{session_at}
 use Rattle.alp_top.specs.Servers.{Server, IsKept, IsOn, start_in, state_of}
-use Rattle.alp_top.specs.Plays.{Records, AreRecorded, PlaysLine}
+use Rattle.alp_top.specs.Plays.{AreRecorded, PlaysLine}
 use Rattle.alp_top.specs.Steps.{SameSession, IsInStep, InStep, Exchanged, Did, Adds}
 use Rattle.alp_top.proofs.AskLemmas.{line_call, line_seen, turn_served, turn_plain, no_session, next_session, IsInSession, call_in_session}
 

@@ -1,5 +1,5 @@
 -- The server of a run: one whose vault is in memory, and which nobody stops.
-use Rattle.std.specs.Prelude.{◌≡◌, ℕ, ◌≤◌, true, false, length}
+use Rattle.std.specs.Prelude.{◌≡◌, ◌≤◌, true, false, length}
 use Rattle.alp_base.specs.declared.allowance.Allowance.TheVariants.{Free}
 use Rattle.alp_journal.specs.State.{State, Start}
 use Rattle.alp_journal.specs.Serial as serial

@@ -1,6 +1,6 @@
 -- The clients and their server in step: what each knows of the other, and what a line does to them.
-use Rattle.std.specs.Prelude.{◌≡◌, ℕ, ◌+◌, ◌≤◌, ◌<◌, Bool, false, List, ◌∷◌, [], ◌++◌, length, map as list_map, Option, None, Some}
-use Rattle.alp_journal.specs.State.{State, Start, Session}
+use Rattle.std.specs.Prelude.{◌≡◌, ℕ, ◌≤◌, Bool, false, List, ◌∷◌, [], ◌++◌, length, map as list_map, Option, None, Some}
+use Rattle.alp_journal.specs.State.{State, Session}
 use Rattle.alp_journal.specs.declared.entry.Entry.{Entry}
 use Rattle.alp_journal.specs.declared.log.Exchange.{Exchange}
 use Rattle.alp_journal.specs.declared.log.LineLog.{LineLog}

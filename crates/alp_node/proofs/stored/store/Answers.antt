@@ -1,8 +1,7 @@
-use Rattle.std.specs.FinMap as map
 use Rattle.std.proofs.Common.{◌≡◌, List, [], ◌∷◌, sym, ap, ◌∙◌}
 use Rattle.alp_base.specs.declared.bytes.NoteChange.{NoteChange}
 use Rattle.alp_base.specs.Notes.{Notes, noted, notes_after}
-use Rattle.alp_fields.specs.ClockNote.{clock_form, clock_in, clock_kept}
+use Rattle.alp_fields.specs.ClockNote.{clock_in, clock_kept}
 use Rattle.alp_node.proofs.StartLemmas.{put_kept}
 use Rattle.alp_node.proofs.stored.store.Goals as goal
 

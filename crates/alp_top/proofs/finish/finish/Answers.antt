@@ -1,9 +1,6 @@
-use Rattle.std.proofs.Common.{◌≡◌, List, refl, sym, ◌∙◌, ap, subst}
-use Rattle.alp_journal.specs.State.{Start}
+use Rattle.std.proofs.Common.{◌≡◌, sym, ◌∙◌, ap, subst}
 use Rattle.alp_journal.specs.Serial.{start}
-use Rattle.alp_journal.specs.declared.entry.Entry.{Entry}
 use Rattle.alp_vault.specs.MemVault.{held_by}
-use Rattle.alp_node.specs.declared.opened.Opened.{Opened}
 use Rattle.alp_top.specs.Logs.{Log, openings}
 use Rattle.alp_top.specs.Plays.{ranks_from}
 use Rattle.alp_top.specs.Runs.{IsNewOpening}

@@ -1,5 +1,5 @@
 use Rattle.std.specs.Prelude.{true, Bool}
-use Rattle.std.proofs.Common.{◌≡◌, ◌≤◌, List, [], ◌∷◌, ◌++◌, refl, sym, ◌∙◌, ap, subst, arith}
+use Rattle.std.proofs.Common.{◌≡◌, List, [], ◌∷◌, ◌++◌, sym, ◌∙◌, ap, subst, arith}
 use Rattle.alp_journal.specs.declared.log.Exchange.{Exchange}
 use Rattle.alp_top.specs.Steps.{Exchanged}
 use Rattle.alp_top.proofs.StepLemmas.{over_greeted, one_line}

@@ -1,5 +1,5 @@
 use Rattle.std.specs.Prelude.{Some, None}
-use Rattle.std.proofs.Common.{◌≡◌, ◌≤◌, ℕ, [], refl, sym, ◌∙◌, subst}
+use Rattle.std.proofs.Common.{◌≡◌, [], refl, sym, ◌∙◌, subst}
 use Rattle.alp_script.specs.Named.{client_named}
 use Rattle.alp_script.proofs.OrderLemmas.{ours-client}
 use Rattle.alp_client.specs.Crowd.{Crowd}

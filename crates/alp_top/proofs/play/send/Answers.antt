@@ -1,5 +1,4 @@
-use Rattle.std.proofs.Common.{ℕ, refl, sym, ◌∙◌, ap, List, length}
-use Rattle.alp_journal.specs.State.{Start}
+use Rattle.std.proofs.Common.{ℕ, refl, ◌∙◌, ap, List, length}
 use Rattle.alp_journal.specs.declared.entry.Entry.{Entry}
 use Rattle.alp_vault.specs.MemVault.{held_by}
 use Rattle.alp_vault.specs.declared.mem_vault.MemVault.{MemVault}

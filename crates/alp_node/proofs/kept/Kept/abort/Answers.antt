@@ -1,6 +1,6 @@
-use Rattle.std.specs.Prelude.{Some, None, Option, false}
+use Rattle.std.specs.Prelude.{Some, false}
 use Rattle.std.specs.FinMap as map
-use Rattle.std.proofs.Common.{◌≡◌, ℕ, ◌+◌, List, [], ◌∷◌, sym, ap, ◌∙◌, subst, refl}
+use Rattle.std.proofs.Common.{◌≡◌, ◌+◌, List, [], ◌∷◌, sym, ap, ◌∙◌, subst}
 use Rattle.alp_files.specs.declared.call.Call.TheVariants as call
 use Rattle.alp_files.specs.declared.reply.Reply.TheVariants as reply
 use Rattle.alp_files.specs.declared.refusal.Refusal.TheVariants as refusal
@@ -9,8 +9,7 @@ use Rattle.alp_journal.specs.declared.act.Act.{Act}
 use Rattle.alp_journal.specs.declared.act.Act.TheVariants as act
 use Rattle.alp_journal.specs.declared.event.Event.TheVariants as event
 use Rattle.alp_node.specs.Kept.{IsReady}
-use Rattle.alp_node.specs.Steps.{Stepped, IsOf, counted_in, without_trans}
-use Rattle.alp_node.specs.declared.answer.Answer.{Answer}
+use Rattle.alp_node.specs.Steps.{Stepped, counted_in, without_trans}
 use Rattle.alp_node.specs.declared.kept.Kept.{Kept}
 use Rattle.alp_node.specs.declared.sessions.Sessions.{Sessions}
 use Rattle.alp_node.proofs.KeptLemmas.{abort_stepped, of_client}

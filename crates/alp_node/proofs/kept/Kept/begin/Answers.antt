@@ -15,7 +15,6 @@ use Rattle.alp_journal.specs.declared.act.Act.TheVariants as act
 use Rattle.alp_journal.specs.declared.event.Event.TheVariants as event
 use Rattle.alp_node.specs.Kept.{IsAs, IsReady, LiveMap}
 use Rattle.alp_node.specs.Steps.{Stepped, counted_in}
-use Rattle.alp_node.specs.declared.answer.Answer.{Answer}
 use Rattle.alp_node.specs.declared.lives.Live.{Live}
 use Rattle.alp_node.specs.declared.sessions.Sessions.{Sessions}
 use Rattle.alp_node.proofs.KeptLemmas.{as_under, none_held, begin_stepped}

@@ -1,6 +1,5 @@
-use Rattle.std.specs.Prelude.{Some, None, Option, Ok, Err, Result, true}
-use Rattle.std.specs.FinMap as map
-use Rattle.std.proofs.Common.{◌≡◌, ℕ, ◌+◌, List, [], ◌∷◌, sym, ap, ◌∙◌, subst, refl}
+use Rattle.std.specs.Prelude.{Some, Err, true}
+use Rattle.std.proofs.Common.{◌≡◌, ◌+◌, List, [], ◌∷◌, sym, ap, ◌∙◌, subst, refl}
 use Rattle.alp_files.specs.declared.call.Call.TheVariants as call
 use Rattle.alp_files.specs.declared.reply.Reply.TheVariants as reply
 use Rattle.alp_base.specs.declared.ids.JoinNo.{JoinNo}
@@ -12,7 +11,6 @@ use Rattle.alp_journal.specs.declared.act.Act.TheVariants as act
 use Rattle.alp_journal.specs.declared.event.Event.TheVariants as event
 use Rattle.alp_node.specs.Kept.{IsReady}
 use Rattle.alp_node.specs.Steps.{Stepped, IsOf, counted_in, without_trans}
-use Rattle.alp_node.specs.declared.answer.Answer.{Answer}
 use Rattle.alp_node.specs.declared.kept.Kept.{Kept}
 use Rattle.alp_node.specs.declared.sessions.Sessions.{Sessions}
 use Rattle.alp_node.proofs.KeptLemmas.{commit_stepped, commit_ready, halted_stepped, halted_cause, halted_ready, halted_still}

@@ -1,7 +1,5 @@
-use Rattle.std.specs.FinMap as map
-use Rattle.std.proofs.Common.{◌≡◌, ℕ, ◌+◌, sym, ◌∙◌, ap, subst}
+use Rattle.std.proofs.Common.{◌+◌, sym, ◌∙◌, subst}
 use Rattle.alp_node.specs.Kept.{IsReady}
-use Rattle.alp_node.specs.Steps.{counted_in}
 use Rattle.alp_node.specs.declared.kept.Kept.{Kept}
 use Rattle.alp_node.proofs.ReadyLemmas.{counted_ready}
 use Rattle.alp_node.proofs.ServedLemmas.{stranger_stepped, no_file_stepped}

@@ -6,7 +6,6 @@ use Rattle.alp_files.specs.declared.reply.Reply.TheVariants as reply
 use Rattle.alp_journal.specs.declared.act.Act.{Act}
 use Rattle.alp_node.specs.Kept.{IsReady}
 use Rattle.alp_node.specs.Steps.{Stepped}
-use Rattle.alp_node.specs.declared.answer.Answer.{Answer}
 use Rattle.alp_node.specs.declared.sessions.Sessions.{Sessions}
 use Rattle.alp_journal.specs.declared.event.Event.TheVariants as event
 use Rattle.alp_files.specs.declared.call.Call.TheVariants as call

@@ -1,6 +1,6 @@
-use Rattle.std.specs.Prelude.{Some, None, Option, Ok, Err, Result, IsTrue, IfOk, OnErr, true}
+use Rattle.std.specs.Prelude.{Some, IfOk, true}
 use Rattle.std.specs.FinMap as map
-use Rattle.std.proofs.Common.{◌≡◌, ℕ, ◌+◌, ◌≤◌, List, [], ◌∷◌, le_refl, arith, sym, ap, ◌∙◌, subst, refl}
+use Rattle.std.proofs.Common.{ℕ, ◌+◌, ◌≤◌, List, le_refl, arith, sym, ap, ◌∙◌, subst, refl}
 use Rattle.alp_files.proofs.UndoLemmas.{on_err}
 use Rattle.alp_files.specs.Act.{Own}
 use Rattle.alp_files.specs.declared.reply.Reply.TheVariants as reply

@@ -1,7 +1,6 @@
 use Rattle.std.specs.Prelude.{None, Some}
 use Rattle.std.specs.FinMap as map
-use Rattle.std.proofs.Common.{◌≡◌, sym, ap, ◌∙◌, subst}
-use Rattle.alp_base.specs.declared.ids.FileId.{FileId}
+use Rattle.std.proofs.Common.{◌≡◌, sym, ap, ◌∙◌}
 use Rattle.alp_node.specs.Kept.{LiveMap}
 use Rattle.alp_node.specs.declared.lives.Live.{Live}
 use Rattle.alp_node.proofs.MapLemmas.{put_there}

@@ -1,4 +1,4 @@
-use Rattle.std.proofs.Common.{◌≡◌, ap, sym, ◌∙◌}
+use Rattle.std.proofs.Common.{ap, sym, ◌∙◌}
 use Rattle.std.specs.FinMap as map
 use Rattle.alp_modes.specs.Orders.{transactions_total, exact_transactions}
 use Rattle.alp_modes.proofs.TreeLemmas.{get_at, put_at}

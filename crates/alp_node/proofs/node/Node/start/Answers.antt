@@ -1,24 +1,19 @@
 use Rattle.std.specs.Prelude.{Err}
 use Rattle.std.specs.FinMap as map
 use Rattle.alp_calls.specs.declared.fault.CallFault.{CallFault}
-use Rattle.std.proofs.Common.{◌≡◌, IsTrue, false, Ok, ℕ, [], length, refl, sym, ap, subst, ◌∙◌}
-use Rattle.alp_base.specs.declared.ids.FileId.{FileId}
+use Rattle.std.proofs.Common.{◌≡◌, IsTrue, false, ℕ, length, sym, ap, subst, ◌∙◌}
 use Rattle.alp_base.specs.declared.key.Key.TheVariants.{Leader}
 use Rattle.alp_fields.specs.ClockNote.{clock_kept}
-use Rattle.alp_fields.specs.declared.clock_note.ClockNote.{ClockNote}
 use Rattle.alp_files.specs.Apart.{AreSized}
 use Rattle.alp_files.specs.Cells.{Cells}
-use Rattle.alp_files.specs.declared.cell.Cell.{Cell}
 use Rattle.alp_files.specs.Sound.{AreSound}
 use Rattle.alp_journal.specs.State.{Start, opened}
 use Rattle.alp_locks.specs.Sound.{IsSound}
-use Rattle.alp_locks.specs.Tables.{Table}
 use Rattle.alp_vault.specs.Contents.{Contents}
 use Rattle.alp_node.specs.declared.kept.Kept.{Kept}
 use Rattle.alp_node.specs.declared.node.Node.{Node}
 use Rattle.alp_node.specs.Kept.{IsAs, IsReady}
 use Rattle.alp_node.specs.Nodes.{IsRight, start_at}
-use Rattle.alp_node.specs.Starts.{raised}
 use Rattle.alp_node.proofs.StartLemmas.{raised_later, raised_within, over_nothing, new_kept, new_as, new_ready, new_right}
 use Rattle.alp_node.proofs.node.Node.start.Goals as goal
 

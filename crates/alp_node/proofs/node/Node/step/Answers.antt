@@ -1,10 +1,10 @@
-use Rattle.std.proofs.Common.{◌≡◌, ◌∷◌, [], ◌++◌, ℕ, IsTrue, arith, refl, sym, ap, subst, ◌∙◌}
+use Rattle.std.proofs.Common.{◌≡◌, ◌∷◌, [], ◌++◌, ℕ, arith, refl, sym, subst, ◌∙◌}
 use Rattle.alp_journal.specs.State.{Start}
 use Rattle.alp_node.specs.declared.kept.Kept.{Kept}
 use Rattle.alp_node.specs.declared.node.Node.{Node}
 use Rattle.alp_node.specs.Calls.{HaveCauses}
-use Rattle.alp_node.specs.Nodes.{IsKept, Answered, start_in, state_of}
-use Rattle.alp_node.specs.Steps.{IsSeated, IsTimely, entry_of}
+use Rattle.alp_node.specs.Nodes.{IsKept, start_in, state_of}
+use Rattle.alp_node.specs.Steps.{IsSeated, IsTimely}
 use Rattle.alp_node.proofs.NodeLemmas.{lives_sound, step_kept, still_kept}
 use Rattle.alp_node.proofs.node.Node.step.Goals as goal
 
