@@ -6,3 +6,4 @@ pub mod OneThread
 pub mod Worked
 pub mod EntryLemmas
 pub mod SessionLemmas
+pub mod RefusedLemmas

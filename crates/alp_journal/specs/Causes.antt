@@ -1,9 +1,11 @@
 -- Why an event is answered as it is, in the state before it. Each answer that a server gives so far comes just where its
--- cause stands, with what its caller needs to know.
-use Rattle.std.specs.Prelude.{◌≡◌, ℕ, ◌+◌, ◌==◌, Bool, true, false, not, List, [], ◌∷◌, length, Option, None, Some, if◌then◌else◌}
+-- cause stands, with what its caller needs to know; and what comes about with it is said too.
+use Rattle.std.specs.Prelude.{◌≡◌, ℕ, ◌+◌, ◌==◌, Bool, true, false, not, List, [], ◌∷◌, length, Option, None, Some, if◌then◌else◌, map as list_map}
+use Rattle.std.specs.List.{list_any}
 use Rattle.std.specs.Ordering.{is_lt}
 use Rattle.std.specs.BTreeMap.Range.{IsLeBy}
 use Rattle.alp_base.specs.declared.ids.FileId.{FileId}
+use Rattle.alp_base.specs.declared.ids.Stamp.{Stamp}
 use Rattle.alp_base.specs.declared.ids.TransId.{TransId}
 use Rattle.alp_base.specs.declared.key.Resource.{Resource}
 use Rattle.alp_modes.specs.Orders.{trans_cmp, resource_cmp}
@@ -21,8 +23,8 @@ use Rattle.alp_journal.specs.declared.act.Act.TheVariants as act
 use Rattle.alp_journal.specs.declared.event.Event.{Event}
 use Rattle.alp_journal.specs.declared.event.Event.TheVariants as event
 use Rattle.alp_journal.specs.declared.entry.Entry.{Entry}
-use Rattle.alp_journal.specs.State.{State, Life, same_trans, is_given, answer_in, file_trans, held_for}
-use Rattle.alp_journal.specs.Laws.{next_trans}
+use Rattle.alp_journal.specs.State.{State, Life, same_trans, is_given, answer_in, file_trans, held_for, is_stop}
+use Rattle.alp_journal.specs.Laws.{next_trans, times_out}
 
 -- ---- locks
 
@@ -55,12 +57,24 @@ is_of_unknown s c = false
 abbrev pub next_file : State → FileId
 next_file s = record { server = s.server; epoch = s.epoch; counter = length s.made + 1 }
 
--- A file call of a live part is refused where it opens a file that never was, or where a lock is in its way. Else it is
--- answered as one thread is that sees what the part sees, with the next id for a new file.
-pub data IsFileAnswer (s : State) (t : TransId) (l : Life) (c : Call) : Reply → Type 0 where
-  unknown : is_of_unknown s c ≡ true → IsFileAnswer s t l c (reply.Refused refusal.UnknownFile)
-  conflict : (holder : TransId) → is_of_unknown s c ≡ false → IsLeastHolder s t l c holder → IsFileAnswer s t l c (reply.Refused (refusal.LockConflict holder))
-  performed : (r : Reply) → is_of_unknown s c ≡ false → IsFree s t l c → is_passing r ≡ false → (answer_in s l (record { call = c; reply = r })).reply ≡ Some r → ((f : FileId) → id_in r ≡ Some f → f ≡ next_file s) → IsFileAnswer s t l c r
+-- a call that asks for locks; one on an open has them by its open
+abbrev pub asks_locks : Call → Bool
+asks_locks (call.CreateFile t start choice) = true
+asks_locks (call.OpenFile t f access mode choice) = true
+asks_locks (call.MakeOwner t name quota create choice) = true
+asks_locks c = false
+
+-- what comes about as it is performed
+abbrev pub grants_of : TransId → Call → List Act
+grants_of t c = if asks_locks c then act.Granted t ∷ [] else []
+
+-- A file call of a live part is refused where it opens a file that never was, or where a lock is in its way, and nothing
+-- comes about. Else it is answered as one thread is that sees what the part sees, with the next id for a new file, and
+-- has the locks that it asks for.
+pub data IsFileAnswer (s : State) (t : TransId) (l : Life) (c : Call) : Reply → List Act → Type 0 where
+  unknown : is_of_unknown s c ≡ true → IsFileAnswer s t l c (reply.Refused refusal.UnknownFile) []
+  conflict : (holder : TransId) → is_of_unknown s c ≡ false → IsLeastHolder s t l c holder → IsFileAnswer s t l c (reply.Refused (refusal.LockConflict holder)) []
+  performed : (r : Reply) → is_of_unknown s c ≡ false → IsFree s t l c → is_passing r ≡ false → (answer_in s l (record { call = c; reply = r })).reply ≡ Some r → ((f : FileId) → id_in r ≡ Some f → f ≡ next_file s) → IsFileAnswer s t l c r (grants_of t c)
 
 -- ---- calls
 
@@ -70,39 +84,60 @@ own_in client None = None
 own_in client (Some l) = if l.client == client then Some l else None
 
 -- nobody knows of a transaction that is not a live one of the client
-abbrev pub AnswersOwn : Option Life → Reply → (Life → Type 0) → Type 0
-AnswersOwn None r P = r ≡ reply.Refused refusal.UnknownTrans
-AnswersOwn (Some l) r P = P l
+abbrev pub AnswersOwn : Option Life → Reply → List Act → (Life → Type 0) → Type 0
+AnswersOwn None r acts P = (r ≡ reply.Refused refusal.UnknownTrans) × (acts ≡ [])
+AnswersOwn (Some l) r acts P = P l
 
--- a transaction is committed at the time after the clock, or ended as its client asked
-abbrev pub AnswersFinish : State → TransId → Bool → Reply → Type 0
-AnswersFinish s t true r = r ≡ reply.Committed (record { ts = s.clock + 1; trans = t })
-AnswersFinish s t false r = r ≡ reply.Refused (refusal.Aborted cause.Asked)
+-- the stamp of a commit: the time after the clock
+abbrev pub next_stamp : State → TransId → Stamp
+next_stamp s t = record { ts = s.clock + 1; trans = t }
 
-abbrev pub AnswersFile : State → ℕ → Call → Option TransId → Reply → Type 0
-AnswersFile s client c None r = ⊥
-AnswersFile s client c (Some t) r = AnswersOwn (own_in client (s.lives t)) r (λ l. IsFileAnswer s t l c r)
+-- a transaction is decided, or ended as its client asked; then its locks are released
+abbrev pub AnswersFinish : State → TransId → Bool → Reply → List Act → Type 0
+AnswersFinish s t true r acts = (r ≡ reply.Committed (next_stamp s t)) × (acts ≡ act.Decided (next_stamp s t) [] ∷ act.Released t ∷ [])
+AnswersFinish s t false r acts = (r ≡ reply.Refused (refusal.Aborted cause.Asked)) × (acts ≡ act.Released t ∷ [])
 
--- the answer to a call in its turn
-abbrev pub AnswersCall : State → ℕ → Call → Reply → Type 0
-AnswersCall s client (call.Hello name) r = r ≡ reply.Welcome s.epoch
-AnswersCall s client (call.Begin seen) r = r ≡ reply.Begun (next_trans s)
-AnswersCall s client (call.Finish t commit) r = AnswersOwn (own_in client (s.lives t)) r (λ _. AnswersFinish s t commit r)
-AnswersCall s client c r = AnswersFile s client c (file_trans c) r
+-- a greeting, and the begin and the end of a transaction
+abbrev pub AnswersTurn : State → ℕ → Call → Reply → List Act → Type 0
+AnswersTurn s client (call.Hello name) r acts = (r ≡ reply.Welcome s.epoch) × (acts ≡ [])
+AnswersTurn s client (call.Begin seen) r acts = (r ≡ reply.Begun (next_trans s)) × (acts ≡ act.Drawn (next_trans s) ∷ [])
+AnswersTurn s client (call.Finish t commit) r acts = AnswersOwn (own_in client (s.lives t)) r acts (λ _. AnswersFinish s t commit r acts)
+AnswersTurn s client c r acts = ⊥
+
+abbrev pub AnswersFor : State → ℕ → Call → Option TransId → Reply → List Act → Type 0
+AnswersFor s client c None r acts = AnswersTurn s client c r acts
+AnswersFor s client c (Some t) r acts = AnswersOwn (own_in client (s.lives t)) r acts (λ l. IsFileAnswer s t l c r acts)
+
+-- the answer to a call in its turn, and what comes about by it
+abbrev pub AnswersCall : State → ℕ → Call → Reply → List Act → Type 0
+AnswersCall s client c r acts = AnswersFor s client c (file_trans c) r acts
 
 -- ---- entries
 
--- only a timeout is met with silence
-abbrev pub IsAnswer : State → Event → Option Reply → Type 0
-IsAnswer s (event.Call client epoch number c) (Some r) = AnswersCall s client c r
-IsAnswer s (event.Timeout t) r = r ≡ None
-IsAnswer s e r = ⊥
+-- Only a timeout is met with silence. It ends its transaction where that is live.
+abbrev pub IsAnswer : State → Event → Option Reply → List Act → Type 0
+IsAnswer s (event.Call client epoch number c) (Some r) acts = AnswersCall s client c r acts
+IsAnswer s (event.Timeout t) r acts = (r ≡ None) × (acts ≡ list_map act.Released (times_out t (s.lives t)))
+IsAnswer s e r acts = ⊥
 
--- a device that failed or was stopped says so
-abbrev pub AnswersBy : State → Event → Option Reply → List Act → Type 0
-AnswersBy s e r (act.Failed ∷ []) = r ≡ Some (reply.Refused refusal.ReadFault)
-AnswersBy s e r (act.Stopped ∷ []) = r ≡ Some (reply.Refused refusal.Down)
-AnswersBy s e r acts = IsAnswer s e r
+-- an entry of a server whose device does its work
+abbrev pub IsAnswered : State → Entry → Type 0
+IsAnswered s e = IsAnswer s e.event e.reply e.acts
 
+-- the device failed or was stopped: nothing else comes about, and the caller is told so
+pub data IsHalt : Option Reply → List Act → Type 0 where
+  failed : IsHalt (Some (reply.Refused refusal.ReadFault)) (act.Failed ∷ [])
+  stopped : IsHalt (Some (reply.Refused refusal.Down)) (act.Stopped ∷ [])
+
+-- by clients' calls alone
+abbrev pub Halts : Event → Option Reply → List Act → Type 0
+Halts (event.Call client epoch number c) r acts = IsHalt r acts
+Halts e r acts = ⊥
+
+abbrev pub AnswersBy : State → Event → Option Reply → List Act → Bool → Type 0
+AnswersBy s e r acts false = IsAnswer s e r acts
+AnswersBy s e r acts true = Halts e r acts
+
+-- an entry has its cause in the state before it, or in the device
 abbrev pub HasCause : State → Entry → Type 0
-HasCause s e = AnswersBy s e.event e.reply e.acts
+HasCause s e = AnswersBy s e.event e.reply e.acts (list_any is_stop e.acts)

@@ -4,3 +4,4 @@ pub mod Told
 pub mod Laws
 pub mod Steps
 pub mod Causes
+pub mod Refused

@@ -1,6 +1,16 @@
 //! What follows from the laws of a journal alone.
-ghost use Rattle.std.specs.Prelude.{ℕ, List, []};
-ghost use Rattle.alp_journal.specs.State.{Start, next, state_after, opened, in_order};
+ghost use Rattle.std.specs.Prelude.{◌≡◌, ℕ, Bool, List, [], None, Some, true, false};
+ghost use Rattle.alp_base.specs.declared.ids.TransId.{TransId};
+ghost use Rattle.alp_files.specs.declared.call.Call.TheVariants as call;
+ghost use Rattle.alp_files.specs.declared.refusal.Cause.{Cause};
+ghost use Rattle.alp_files.specs.declared.refusal.Refusal.{Refusal};
+ghost use Rattle.alp_files.specs.declared.refusal.Refusal.TheVariants as refusal;
+ghost use Rattle.alp_files.specs.declared.reply.Reply.TheVariants as reply;
+ghost use Rattle.alp_files.specs.Passing.{is_passing_refusal};
+ghost use Rattle.alp_journal.specs.declared.event.Event.TheVariants as event;
+ghost use Rattle.alp_journal.specs.Causes.{HasCause};
+ghost use Rattle.alp_journal.specs.Refused.{IsAsBefore, is_aborted};
+ghost use Rattle.alp_journal.specs.State.{State, Start, next, with_life, state_after, opened, in_order};
 ghost use Rattle.alp_journal.specs.Told.{AreKept, told_along};
 ghost use Rattle.alp_journal.specs.Laws.{IsLawful, IsSoundOpening};
 ghost use Rattle.alp_journal.specs.Serial.{IsOneThreadFrom, IsChargedFrom};
@@ -22,4 +32,12 @@ pub fn promises_are_kept()
 pub fn decided_transactions_are_one_thread()
     ensures serial { (o : Start) (journal : List Entry) → IsSoundOpening o → IsLawful o journal → IsOneThreadFrom o journal }
     ensures charged { (o : Start) (journal : List Entry) → IsSoundOpening o → IsLawful o journal → IsChargedFrom o journal }
+{}
+
+/// A call that is refused in passing leaves files, intents, opens and locks as they were: one of a transaction that is
+/// not live, one in the way of another's locks, and one in which the device failed or was stopped. A transaction that
+/// ends without effect goes with what it intended and held, and leaves all else.
+pub fn passing_refusals_change_nothing()
+    ensures refused { (s : State) (e : Entry) (f : Refusal) → HasCause s e → e.reply ≡ Some (reply.Refused f) → is_passing_refusal f ≡ true → is_aborted f ≡ false → IsAsBefore s (next s e) }
+    ensures aborted { (s : State) (e : Entry) (client epoch number : ℕ) (t : TransId) (commit : Bool) (why : Cause) → HasCause s e → e.event ≡ event.Call client epoch number (call.Finish t commit) → e.reply ≡ Some (reply.Refused (refusal.Aborted why)) → IsAsBefore (with_life s t None) (next s e) }
 {}

@@ -15,7 +15,9 @@ pub use act::Act;
 pub use entry::Entry;
 pub use event::Event;
 pub use journal::Journal;
-pub use laws::{decided_transactions_are_one_thread, promises_are_kept};
+pub use laws::{
+    decided_transactions_are_one_thread, passing_refusals_change_nothing, promises_are_kept,
+};
 pub use lists::{Acts, Parts, Stamps};
 pub use log::{Exchange, LineLog, RunLog};
 pub use message::{Envelope, Message};

@@ -1,41 +1,74 @@
--- why calls are answered as they are
-use Rattle.std.specs.Prelude.{cond, Bool, Option, None, Some}
-use Rattle.std.proofs.Common.{◌≡◌, ℕ, sym, ◌∙◌, ap, subst, eq-eqb}
+-- why calls are answered as they are, and what comes about by them
+use Rattle.std.specs.Prelude.{cond, Bool, Option, None, Some, is_some, map as list_map}
+use Rattle.std.proofs.Common.{◌≡◌, ℕ, List, [], ◌∷◌, refl, sym, ◌∙◌, ap, subst, eq-eqb}
 use Rattle.alp_base.specs.declared.ids.TransId.{TransId}
 use Rattle.alp_files.specs.declared.call.Call.{Call}
 use Rattle.alp_files.specs.declared.call.Call.TheVariants as call
 use Rattle.alp_files.specs.declared.reply.Reply.{Reply}
+use Rattle.alp_journal.specs.declared.act.Act.{Act}
+use Rattle.alp_journal.specs.declared.act.Act.TheVariants as act
 use Rattle.alp_journal.specs.State.{State, Life, file_trans}
-use Rattle.alp_journal.specs.Causes.{own_in, AnswersOwn, AnswersFile, AnswersCall, IsFileAnswer}
+use Rattle.alp_journal.specs.Laws.{times_out}
+use Rattle.alp_journal.specs.Causes.{own_in, AnswersOwn, AnswersFor, AnswersCall, IsFileAnswer, grants_of}
+use Rattle.alp_node.specs.Calls.{IsPageCall, IsLockCall}
 
 -- a live part of the client is its own
 pub own_is : (client : ℕ) (x : Option Life) (life : Life) → x ≡ Some life → life.client ≡ client → own_in client x ≡ Some life
 own_is client x life is own = ap (own_in client) is ∙ ap (λ (b : Bool). cond {A = Option Life} b (Some life) None) (eq-eqb life.client client own)
 
--- a file call has the cause of a file call
-pub call_cause : (s : State) (client : ℕ) (c : Call) (r : Reply) → AnswersFile s client c (file_trans c) r → AnswersCall s client c r
-call_cause s client (call.Hello name) r why = absurd why
-call_cause s client (call.Begin seen) r why = absurd why
-call_cause s client (call.Finish t commit) r why = absurd why
-call_cause s client (call.Join t) r why = why
-call_cause s client (call.CreateFile t start choice) r why = why
-call_cause s client (call.OpenFile t f a mode choice) r why = why
-call_cause s client (call.CloseFile t n) r why = why
-call_cause s client (call.DeleteFile t n choice) r why = why
-call_cause s client (call.ReadPages t n run mode choice) r why = why
-call_cause s client (call.WritePages t n run pages choice) r why = why
-call_cause s client (call.LockPages t n run mode choice) r why = why
-call_cause s client (call.SetSize t n size choice) r why = why
-call_cause s client (call.ReadProps t n) r why = why
-call_cause s client (call.WriteProps t n change choice) r why = why
-call_cause s client (call.ReadOwner t name choice) r why = why
-call_cause s client (call.MakeOwner t name quota create choice) r why = why
-call_cause s client (call.SetQuota t name quota choice) r why = why
-call_cause s client (call.Outcome t) r why = why
-call_cause s client (call.Collect n) r why = why
+-- a file call of a live part of the client has the cause of a file call
+pub file_cause : (s : State) (client : ℕ) (c : Call) (t : TransId) (life : Life) (r : Reply) (acts : List Act) → file_trans c ≡ Some t → s.lives t ≡ Some life → life.client ≡ client → IsFileAnswer s t life c r acts → AnswersCall s client c r acts
+file_cause s client c t life r acts of is own why =
+    subst (λ (o : Option TransId). AnswersFor s client c o r acts) (sym of)
+    (subst (λ (y : Option Life). AnswersOwn y r acts (λ l. IsFileAnswer s t l c r acts)) (sym (own_is client (s.lives t) life is own)) why)
 
--- one of a live part of the client
-pub file_cause : (s : State) (client : ℕ) (c : Call) (t : TransId) (life : Life) (r : Reply) → file_trans c ≡ Some t → s.lives t ≡ Some life → life.client ≡ client → IsFileAnswer s t life c r → AnswersCall s client c r
-file_cause s client c t life r of is own why =
-    call_cause s client c r (subst (λ (o : Option TransId). AnswersFile s client c o r) (sym of)
-    (subst (λ (y : Option Life). AnswersOwn y r (λ l. IsFileAnswer s t l c r)) (sym (own_is client (s.lives t) life is own)) why))
+-- ---- what comes about
+
+-- a call on an open asks for no locks
+pub page_grants : (t : TransId) (c : Call) → IsPageCall c → grants_of t c ≡ []
+page_grants t (call.Hello name) h = absurd h
+page_grants t (call.Begin seen) h = absurd h
+page_grants t (call.Join u) h = absurd h
+page_grants t (call.CreateFile u start choice) h = absurd h
+page_grants t (call.OpenFile u f a mode choice) h = absurd h
+page_grants t (call.CloseFile u n) h = absurd h
+page_grants t (call.DeleteFile u n choice) h = absurd h
+page_grants t (call.ReadPages u n run mode choice) h = refl
+page_grants t (call.WritePages u n run pages choice) h = refl
+page_grants t (call.LockPages u n run mode choice) h = absurd h
+page_grants t (call.SetSize u n size choice) h = absurd h
+page_grants t (call.ReadProps u n) h = absurd h
+page_grants t (call.WriteProps u n change choice) h = absurd h
+page_grants t (call.ReadOwner u name choice) h = absurd h
+page_grants t (call.MakeOwner u name quota create choice) h = absurd h
+page_grants t (call.SetQuota u name quota choice) h = absurd h
+page_grants t (call.Finish u commit) h = absurd h
+page_grants t (call.Outcome u) h = absurd h
+page_grants t (call.Collect n) h = absurd h
+
+-- one that asks for them has them granted
+pub lock_grants : (t : TransId) (c : Call) → IsLockCall c → grants_of t c ≡ act.Granted t ∷ []
+lock_grants t (call.Hello name) h = absurd h
+lock_grants t (call.Begin seen) h = absurd h
+lock_grants t (call.Join u) h = absurd h
+lock_grants t (call.CreateFile u start choice) h = refl
+lock_grants t (call.OpenFile u f a mode choice) h = refl
+lock_grants t (call.CloseFile u n) h = absurd h
+lock_grants t (call.DeleteFile u n choice) h = absurd h
+lock_grants t (call.ReadPages u n run mode choice) h = absurd h
+lock_grants t (call.WritePages u n run pages choice) h = absurd h
+lock_grants t (call.LockPages u n run mode choice) h = absurd h
+lock_grants t (call.SetSize u n size choice) h = absurd h
+lock_grants t (call.ReadProps u n) h = absurd h
+lock_grants t (call.WriteProps u n change choice) h = absurd h
+lock_grants t (call.ReadOwner u name choice) h = absurd h
+lock_grants t (call.MakeOwner u name quota create choice) h = refl
+lock_grants t (call.SetQuota u name quota choice) h = absurd h
+lock_grants t (call.Finish u commit) h = absurd h
+lock_grants t (call.Outcome u) h = absurd h
+lock_grants t (call.Collect n) h = absurd h
+
+-- a live part that did not vote is released as it takes too long
+pub ends_active : (t : TransId) (x : Option Life) (life : Life) → x ≡ Some life → life.vote ≡ None → list_map act.Released (times_out t x) ≡ act.Released t ∷ []
+ends_active t x life is active =
+    ap (λ (y : Option Life). list_map act.Released (times_out t y)) is ∙ ap (λ (v : Option ℕ). list_map act.Released (cond {A = List TransId} (is_some v) [] (t ∷ []))) active

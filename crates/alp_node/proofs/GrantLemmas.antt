@@ -47,13 +47,13 @@ use Rattle.alp_journal.specs.State.{State, Start, Life, Plain, kind_of, file_tra
 use Rattle.alp_journal.specs.Laws.{ended_at}
 use Rattle.alp_journal.specs.Causes as causes
 use Rattle.alp_journal.specs.Causes.{is_of_unknown, IsFree, IsFileAnswer}
-use Rattle.alp_node.specs.Asks.{IsOfGiven, is_given, asks_of, asks_made, asks_given, is_made, plan_for, count_made, plan_of, with_plan}
+use Rattle.alp_node.specs.Asks.{is_of_given, is_given, asks_of, asks_made, asks_given, is_made, plan_for, count_made, plan_of, with_plan}
 use Rattle.alp_node.specs.Calls.{IsLockCall, Gave, next_file}
 use Rattle.alp_node.specs.Kept.{IsAs, IsReady, IsAlike, IsLocked, mode_for, ids_to, told_session}
 use Rattle.alp_node.specs.Steps.{Stepped, IsTurn, counted_in, seen_in}
 use Rattle.alp_node.specs.declared.answer.Answer.{Answer as Handed}
 use Rattle.alp_node.specs.declared.sessions.Turn.{Turn}
-use Rattle.alp_node.proofs.CauseLemmas.{file_cause}
+use Rattle.alp_node.proofs.CauseLemmas.{file_cause, lock_grants}
 use Rattle.alp_node.proofs.ConflictLemmas.{held_elsewhere, least_holder, made_free}
 use Rattle.alp_node.proofs.KeptLemmas.{IsLive, live_there, answered, told_turn, stands_timely, passing_stepped}
 use Rattle.alp_node.proofs.ReadyLemmas.{numbered}
@@ -352,7 +352,7 @@ known_file o s held k f h given =
     ap (λ (fs : List FileId). f.server == s.server && nat_lt 0 f.epoch && nat_lt 0 f.counter && (nat_lt f.epoch s.epoch || has_file f fs)) h.made
     ∙ given_known s.server s.epoch k.given f ((λ i. is_given (h.server i) (h.epoch i) k.given f) ∙ given)
 
-of_given : {V : Type 0} (o : Start) (s : State) (held : Contents) (k : Kept V) (c : Call) (r : Reply) → IsAs o s held k → IsOfGiven k.server k.epoch k.given c → is_of_no_file s c r ≡ false
+of_given : {V : Type 0} (o : Start) (s : State) (held : Contents) (k : Kept V) (c : Call) (r : Reply) → IsAs o s held k → is_of_given k.server k.epoch k.given c ≡ true → is_of_no_file s c r ≡ false
 of_given o s held k (call.OpenFile t g a mode choice) (reply.Refused refusal.UnknownFile) h given = ap not (known_file o s held k g h given)
 of_given o s held k (call.OpenFile t g a mode choice) (reply.Created f n) h given = refl
 of_given o s held k (call.OpenFile t g a mode choice) (reply.Welcome y) h given = refl
@@ -406,7 +406,7 @@ of_given o s held k (call.Outcome t) r h given = refl
 of_given o s held k (call.Collect n) r h given = refl
 
 -- a call that opens a file is of one that was given
-pub of_known : {V : Type 0} (o : Start) (s : State) (held : Contents) (k : Kept V) (c : Call) → IsAs o s held k → IsOfGiven k.server k.epoch k.given c → is_of_unknown s c ≡ false
+pub of_known : {V : Type 0} (o : Start) (s : State) (held : Contents) (k : Kept V) (c : Call) → IsAs o s held k → is_of_given k.server k.epoch k.given c ≡ true → is_of_unknown s c ≡ false
 of_known o s held k (call.OpenFile t g a mode choice) h given = ap not (known_file o s held k g h given)
 of_known o s held k c h given = refl
 
@@ -449,7 +449,7 @@ module _ {V : Type 0} (o : Start) (s : State) (held : Contents) (k : Kept V) (tu
   locks_then = with_plan k.locks plan
 
   pub lock_stepped : (a : Handed) (then : Contents) → IsAs o s held k → k.is_down ≡ false → then ≡ held → IsTurn k.sessions turn → map.get k.lives t ≡ Some l → l.client ≡ turn.client → IsLockCall c
-      → IsOfGiven k.server k.epoch k.given c → file_trans c ≡ Some t → IsFormed c → Gave true held.cells (next_file k) l p c r → a ≡ record { kept = Some r; handed = Some r; acts = act.Granted t ∷ [] }
+      → is_of_given k.server k.epoch k.given c ≡ true → file_trans c ≡ Some t → IsFormed c → Gave true held.cells (next_file k) l p c r → a ≡ record { kept = Some r; handed = Some r; acts = act.Granted t ∷ [] }
       → IsSound k.locks → k.locks.waiting ≡ [] → blocker k.locks.held t (plan_of k.locks t (asks_of c)).rises ≡ None → blocker k.locks.held t plan.rises ≡ None
       → Stepped o s then (done_kept o s held k turn t l p c r locks_then v) (event.Call turn.client k.epoch turn.number c) a
   lock_stepped a then h up same is there own kind of_file of formed given so sound alone free free_then =
@@ -485,24 +485,25 @@ module _ {V : Type 0} (o : Start) (s : State) (held : Contents) (k : Kept V) (tu
       single.kind of formed given.kind given.own (of_given o s held k c r h of_file) (λ y. single.ends y turn.client s.epoch turn.number r) done.reply fresh first agree in
       let known : is_of_unknown s c ≡ false = of_known o s held k c h of_file in
       let way : IsFree s t life c = λ u m at away q. agree-turned (m.held q) (under q) ∙ first u m away at q in
-      let why : IsFileAnswer s t life c r = IsFileAnswer.performed r known way given.own done.reply (λ f e. id_given (next_file k) f r e given.given ∙ next_told o s held k h) in
+      let why : IsFileAnswer s t life c r (act.Granted t ∷ []) =
+      subst (IsFileAnswer s t life c r) (lock_grants t c kind) (IsFileAnswer.performed r known way given.own done.reply (λ f e. id_given (next_file k) f r e given.given ∙ next_told o s held k h)) in
       answered o s held k turn.client turn.number c r (act.Granted t ∷ []) (after_grant s turn.client turn.number (told_session turn.session) t life c r) (done_kept o s held k turn t l p c r locks_then v) a then so h leads
       (done_as o s held k turn t l p c r locks_then v life under then h same is there x.is x.alike single.built given.given done then_held (λ u q away. taken_other k.locks plan refl u q away)
       (kept_locked s.server [] life.held (view_in s life) life.own life.who c r kind x.alike.opens) leads.quiet)
-      (file_cause s turn.client c t life r of x.is (x.alike.client ∙ own) why) (stands_timely s.clock (seen_in (event.Call turn.client k.epoch turn.number c)) k.clock h.clock)
+      (file_cause s turn.client c t life r (act.Granted t ∷ []) of x.is (x.alike.client ∙ own) why) (stands_timely s.clock (seen_in (event.Call turn.client k.epoch turn.number c)) k.clock h.clock)
 
 -- a call is refused where another is in its way
 pub conflict_stepped : {V : Type 0} (o : Start) (s : State) (held : Contents) (k : Kept V) (turn : Turn) (t : TransId) (l : Live) (c : Call) (holder : TransId) (a : Handed) → IsAs o s held k → IsTurn k.sessions turn → map.get k.lives t ≡ Some l
-    → l.client ≡ turn.client → IsLockCall c → IsOfGiven k.server k.epoch k.given c → file_trans c ≡ Some t → IsSound k.locks → blocker k.locks.held t (plan_of k.locks t (asks_of c)).rises ≡ Some holder
+    → l.client ≡ turn.client → IsLockCall c → is_of_given k.server k.epoch k.given c ≡ true → file_trans c ≡ Some t → IsSound k.locks → blocker k.locks.held t (plan_of k.locks t (asks_of c)).rises ≡ Some holder
     → a ≡ record { kept = Some (reply.Refused (refusal.LockConflict holder)); handed = Some (reply.Refused (refusal.LockConflict holder)); acts = [] }
     → Stepped o s held (record k { sessions = counted_in k.sessions turn }) (event.Call turn.client k.epoch turn.number c) a
 conflict_stepped o s held k turn t l c holder a h is there own kind of_file of sound named so =
     let x : IsLive k.locks.held t l (s.lives t) = live_there k.locks.held t (map.get k.lives t) (s.lives t) l there (h.lives t) in
     let f : Refusal = refusal.LockConflict holder in
     let single : IsAlone s c = lock_alone s c kind in
-    let why : IsFileAnswer s t x.life c (reply.Refused f) = IsFileAnswer.conflict holder (of_known o s held k c h of_file) (least_holder o s held k t l x.life c h x.alike kind sound.agreeing holder named) in
+    let why : IsFileAnswer s t x.life c (reply.Refused f) [] = IsFileAnswer.conflict holder (of_known o s held k c h of_file) (least_holder o s held k t l x.life c h x.alike kind sound.agreeing holder named) in
     passing_stepped o s held k turn.client turn.session turn.number c f a h is.client is.session is.number single.kind refl (ap (done_by s c (reply.Refused f)) of) (single.ends s turn.client s.epoch turn.number (reply.Refused f))
-    (file_cause s turn.client c t x.life (reply.Refused f) of x.is (x.alike.client ∙ own) why) so
+    (file_cause s turn.client c t x.life (reply.Refused f) [] of x.is (x.alike.client ∙ own) why) so
 
 -- ---- a server stays ready
 
@@ -531,7 +532,7 @@ whole_file f g e = same_whole (exact_resources (Whole f) (Whole g) (tied (resour
     same_whole : Whole f ≡ Whole g → f ≡ g
     same_whole h = cc
 
-asked_below : (server epoch count n : ℕ) (c : Call) → IsOfGiven server epoch count c → count < n → held_by (asks_of c) (Whole (record { server = server; epoch = epoch; counter = n })) ≡ None
+asked_below : (server epoch count n : ℕ) (c : Call) → is_of_given server epoch count c ≡ true → count < n → held_by (asks_of c) (Whole (record { server = server; epoch = epoch; counter = n })) ≡ None
 asked_below server epoch count n (call.OpenFile t f a mode choice) given high = go (eq_by_cmp resource_cmp (Whole (record { server = server; epoch = epoch; counter = n })) (Whole f)) refl
   where
     go : (b : Bool) → eq_by_cmp resource_cmp (Whole (record { server = server; epoch = epoch; counter = n })) (Whole f) ≡ b → cond {A = Option Mode} b (Some mode) None ≡ None
@@ -539,7 +540,7 @@ asked_below server epoch count n (call.OpenFile t f a mode choice) given high = 
     go false e = refl
 asked_below server epoch count n c given high = refl
 
-made_below : (server epoch count n : ℕ) (c : Call) → IsOfGiven server epoch count c → count + 1 < n
+made_below : (server epoch count n : ℕ) (c : Call) → is_of_given server epoch count c ≡ true → count + 1 < n
     → held_by (asks_made (record { server = server; epoch = epoch; counter = count + 1 }) c) (Whole (record { server = server; epoch = epoch; counter = n })) ≡ None
 made_below server epoch count n (call.CreateFile t start choice) given high =
     go (eq_by_cmp resource_cmp (Whole (record { server = server; epoch = epoch; counter = n })) (Whole (record { server = server; epoch = epoch; counter = count + 1 }))) refl
@@ -552,7 +553,7 @@ made_below server epoch count n (call.CreateFile t start choice) given high =
 made_below server epoch count n c given high = asked_below server epoch count n c given (omega (arith, high))
 
 -- no file beyond the count is among what is kept
-pub given_below : (server epoch count n : ℕ) (c : Call) (r : Reply) → IsOfGiven server epoch count c → count_after count r < n
+pub given_below : (server epoch count n : ℕ) (c : Call) (r : Reply) → is_of_given server epoch count c ≡ true → count_after count r < n
     → held_by (asks_given (record { server = server; epoch = epoch; counter = count + 1 }) c r) (Whole (record { server = server; epoch = epoch; counter = n })) ≡ None
 given_below server epoch count n c (reply.Created f m) given high = made_below server epoch count n c given high
 given_below server epoch count n c r given high = asked_below server epoch count n c given high

@@ -1,5 +1,5 @@
 -- a server keeps what its journal says, entry by entry
-use Rattle.std.specs.Prelude.{Result, Ok, Err, IfOk, OnOk, OnErr, IsTrue, cond, Bool, true, false, ◌==◌, max, Option, None, Some, is_some}
+use Rattle.std.specs.Prelude.{Result, Ok, Err, IfOk, OnOk, OnErr, IsTrue, cond, Bool, true, false, ◌==◌, max, Option, None, Some, is_some, map as list_map}
 use Rattle.std.specs.Option.{option_map}
 use Rattle.std.specs.FinMap as map
 use Rattle.std.proofs.Common.{◌≡◌, ℕ, ◌+◌, ◌≤◌, List, [], ◌∷◌, ◌++◌, length-append, refl, sym, ◌∙◌, ap, subst, arith}
@@ -48,8 +48,8 @@ use Rattle.alp_journal.specs.declared.entry.Entry.{Entry}
 use Rattle.alp_journal.specs.State.{State, Start, Life, same_trans, no_locks, new_life, with_life, is_stop}
 use Rattle.alp_journal.specs.State as state
 use Rattle.alp_journal.specs.Steps.{Leads}
-use Rattle.alp_journal.specs.Laws.{next_trans, ended_at, AreEarlier}
-use Rattle.alp_journal.specs.Causes.{AnswersOwn, AnswersFinish, AnswersCall, HasCause}
+use Rattle.alp_journal.specs.Laws.{next_trans, ended_at, times_out, AreEarlier}
+use Rattle.alp_journal.specs.Causes.{AnswersOwn, AnswersFinish, AnswersCall, IsHalt, HasCause}
 use Rattle.alp_journal.proofs.StateLemmas.{same_trans-itself, same_trans-true, AreEarlier-push}
 use Rattle.alp_journal.proofs.EntryLemmas.{commit_leads, with_committed, committed, halt_leads, greeting_leads, begin_leads, counts_on, passing_leads, abort_leads, without_life, timeout_leads, idle_timeout_leads}
 use Rattle.alp_node.specs.Sessions.{session_at, with_session}
@@ -62,7 +62,7 @@ use Rattle.alp_node.specs.declared.lives.Live.{Live}
 use Rattle.alp_node.specs.declared.sessions.Session.{Session}
 use Rattle.alp_node.specs.declared.sessions.Turn.{Turn}
 use Rattle.alp_node.proofs.ReadyLemmas.{counted_ready, gone_ready}
-use Rattle.alp_node.proofs.CauseLemmas.{own_is}
+use Rattle.alp_node.proofs.CauseLemmas.{own_is, ends_active}
 use Rattle.alp_node.proofs.MapLemmas.{session_set, places_set, get_put, get_gone, tied_same}
 
 -- ---- what holds of lives
@@ -229,7 +229,7 @@ module _ {V : Type 0} (o : Start) (s : State) (held : Contents) (k : Kept V) (cl
           quiet = leads.quiet;
         };
         handed = ap (λ (x : Answer). x.handed) is ∙ sym (ap (λ (x : Answer). x.kept) is);
-        cause = subst (λ (x : Answer). HasCause s (record { event = event.Call client 0 1 (call.Hello name); reply = x.kept; acts = x.acts })) (sym is) (ap (λ (n : ℕ). reply.Welcome n) (sym h.epoch));
+        cause = subst (λ (x : Answer). HasCause s (record { event = event.Call client 0 1 (call.Hello name); reply = x.kept; acts = x.acts })) (sym is) (ap (λ (n : ℕ). reply.Welcome n) (sym h.epoch), refl);
         clock = stands_timely s.clock 0 k.clock h.clock;
       }
 
@@ -334,13 +334,13 @@ module _ {V : Type 0} (o : Start) (s : State) (held : Contents) (k : Kept V) (cl
           quiet = leads.quiet;
         } in
         answered number (call.Begin seen) (reply.Begun begun_trans) (act.Drawn begun_trans ∷ []) (m begun_trans) (with_begun_kept locks) a held is h leads new_kept
-        (ap (λ (t : TransId). reply.Begun t) (sym (trans_same h))) (omega (arith, h.clock))
+        (ap (λ (t : TransId). reply.Begun t) (sym (trans_same h)), ap (λ (t : TransId). act.Drawn t ∷ []) (sym (trans_same h))) (omega (arith, h.clock))
 
   -- ---- a call that is refused and not performed
 
   pub passing_stepped : (w : Session) (number : ℕ) (c : Call) (f : Refusal) (a : Answer) → IsAs o s held k → client ≤ 16 → session_at k.sessions client ≡ Some w → number ≡ w.last + 1
       → state.kind_of c ≡ state.Plain → state.is_not_yet (reply.Refused f) ≡ false → state.done_by s c (reply.Refused f) (state.file_trans c) ≡ None → ended_at s client s.epoch number c (reply.Refused f) ≡ []
-      → AnswersCall s client c (reply.Refused f) → a ≡ record { kept = Some (reply.Refused f); handed = Some (reply.Refused f); acts = [] } → Stepped o s held (counted w number) (event.Call client k.epoch number c) a
+      → AnswersCall s client c (reply.Refused f) [] → a ≡ record { kept = Some (reply.Refused f); handed = Some (reply.Refused f); acts = [] } → Stepped o s held (counted w number) (event.Call client k.epoch number c) a
   passing_stepped w number c f a h le there turn plain now none ends why is =
       answered number c (reply.Refused f) [] (counts_on s client number (told_session w)) (counted w number) a held is h
       (passing_leads s client number (told_session w) c f h.quiet (told_turn o s held k client w h there) turn plain now none ends)
@@ -360,8 +360,8 @@ module _ {V : Type 0} (o : Start) (s : State) (held : Contents) (k : Kept V) (cl
   gone_unborn t h = each_set (λ l. PutNoneBeyond s.server s.epoch k.given l.edits) t None s.lives h.unborn (λ l is. let wrong : None ≡ Some l = is in cc)
 
   -- the answer to the end of a live transaction of the client
-  finish_cause : (t : TransId) (life : Life) (commit : Bool) (r : Reply) → s.lives t ≡ Some life → life.client ≡ client → AnswersFinish s t commit r → AnswersCall s client (call.Finish t commit) r
-  finish_cause t life commit r is own why = subst (λ (y : Option Life). AnswersOwn y r (λ _. AnswersFinish s t commit r)) (sym (own_is client (s.lives t) life is own)) why
+  finish_cause : (t : TransId) (life : Life) (commit : Bool) (r : Reply) (acts : List Act) → s.lives t ≡ Some life → life.client ≡ client → AnswersFinish s t commit r acts → AnswersCall s client (call.Finish t commit) r acts
+  finish_cause t life commit r acts is own why = subst (λ (y : Option Life). AnswersOwn y r acts (λ _. AnswersFinish s t commit r acts)) (sym (own_is client (s.lives t) life is own)) why
 
   pub abort_stepped : (w : Session) (number : ℕ) (t : TransId) (l : Live) (a : Answer) → IsAs o s held k → client ≤ 16 → k.locks.waiting ≡ []
       → session_at k.sessions client ≡ Some w → number ≡ w.last + 1 → map.get k.lives t ≡ Some l → l.client ≡ client
@@ -388,7 +388,7 @@ module _ {V : Type 0} (o : Start) (s : State) (held : Contents) (k : Kept V) (cl
         committed = h.committed;
         quiet = leads.quiet;
       })
-      (finish_cause t x.life false (reply.Refused (refusal.Aborted cause.Asked)) x.is (x.alike.client ∙ own) refl) (stands_timely s.clock 0 k.clock h.clock)
+      (finish_cause t x.life false (reply.Refused (refusal.Aborted cause.Asked)) (act.Released t ∷ []) x.is (x.alike.client ∙ own) (refl, refl)) (stands_timely s.clock 0 k.clock h.clock)
 
   -- ---- time runs out
 
@@ -418,7 +418,7 @@ module _ {V : Type 0} (o : Start) (s : State) (held : Contents) (k : Kept V) (cl
           quiet = leads.quiet;
         };
         handed = ap (λ (y : Answer). y.handed) is ∙ sym (ap (λ (y : Answer). y.kept) is);
-        cause = subst (λ (y : Answer). HasCause s (record { event = event.Timeout t; reply = y.kept; acts = y.acts })) (sym is) refl;
+        cause = subst (λ (y : Answer). HasCause s (record { event = event.Timeout t; reply = y.kept; acts = y.acts })) (sym is) (refl, sym (ends_active t (s.lives t) x.life x.is x.alike.active));
         clock = stands_timely s.clock 0 k.clock h.clock;
       }
 
@@ -428,7 +428,8 @@ module _ {V : Type 0} (o : Start) (s : State) (held : Contents) (k : Kept V) (cl
     leads = subst (λ (y : Answer). Leads s (record { event = event.Timeout t; reply = y.kept; acts = y.acts }) s) (sym is) (idle_timeout_leads s t h.quiet (none_live k.locks.held t (map.get k.lives t) (s.lives t) none (h.lives t)));
     kept = h;
     handed = ap (λ (y : Answer). y.handed) is ∙ sym (ap (λ (y : Answer). y.kept) is);
-    cause = subst (λ (y : Answer). HasCause s (record { event = event.Timeout t; reply = y.kept; acts = y.acts })) (sym is) refl;
+    cause = subst (λ (y : Answer). HasCause s (record { event = event.Timeout t; reply = y.kept; acts = y.acts })) (sym is)
+        (refl, sym (ap (λ (y : Option Life). list_map act.Released (times_out t y)) (none_live k.locks.held t (map.get k.lives t) (s.lives t) none (h.lives t))));
     clock = stands_timely s.clock 0 k.clock h.clock;
   }
 
@@ -480,7 +481,8 @@ module _ {V : Type 0} (o : Start) (s : State) (held : Contents) (k : Kept V) (cl
           committed = omega (arith, length-append s.decided ((commit_stamp, committed s client number (told_session w) t x.life ts) ∷ []), h.committed);
           quiet = leads.quiet;
         })
-        (finish_cause t x.life true (reply.Committed commit_stamp) x.is (x.alike.client ∙ own) (ap (λ (n : ℕ). reply.Committed (record { ts = n + 1; trans = t })) (sym h.clock))) (omega (arith, h.clock))
+        (finish_cause t x.life true (reply.Committed commit_stamp) (act.Decided commit_stamp [] ∷ act.Released t ∷ []) x.is (x.alike.client ∙ own)
+        (ap (λ (n : ℕ). reply.Committed (record { ts = n + 1; trans = t })) (sym h.clock), ap (λ (n : ℕ). act.Decided (record { ts = n + 1; trans = t }) [] ∷ act.Released t ∷ []) (sym h.clock))) (omega (arith, h.clock))
 
   -- ---- the vault failed or was stopped
 
@@ -521,8 +523,8 @@ module _ {V : Type 0} (o : Start) (s : State) (held : Contents) (k : Kept V) (cl
       subst (λ (x : Kept V). Stepped o s then x (event.Call client k.epoch number c) a) (sym down) (go fault is)
     where
       go : (f : CallFault) → IsHalted f a → Stepped o s then (record (counted w number) { is_down = true; vault = v }) (event.Call client k.epoch number c) a
-      go call_fault.Failed is = halt_stepped w number c refusal.ReadFault (act.Failed ∷ []) v a then refl h le there turn plain refl none_fault refl is
-      go call_fault.Stopped is = halt_stepped w number c refusal.Down (act.Stopped ∷ []) v a then refl h le there turn plain refl none_down refl is
+      go call_fault.Failed is = halt_stepped w number c refusal.ReadFault (act.Failed ∷ []) v a then refl h le there turn plain refl none_fault IsHalt.failed is
+      go call_fault.Stopped is = halt_stepped w number c refusal.Down (act.Stopped ∷ []) v a then refl h le there turn plain refl none_down IsHalt.stopped is
       go call_fault.OutOfMemory is = absurd is
 
 -- a halt has its cause

@@ -1,5 +1,5 @@
 -- what stays of a server in a step
-use Rattle.std.proofs.Common.{◌≡◌, ◌⊎◌, true, false, ℕ, inl, inr, refl, sym, ◌∙◌, subst, le_refl}
+use Rattle.std.proofs.Common.{◌≡◌, ◌⊎◌, true, false, ℕ, inl, inr, refl, sym, ◌∙◌, ap, subst, le_refl}
 use Rattle.std.specs.Prelude.{IfOk, OnOk, OnErr, Result, Ok, Err}
 use Rattle.alp_base.specs.Allowances.{Spends}
 use Rattle.alp_base.specs.Causes.{Rose}
@@ -71,3 +71,13 @@ seated_from faults allowance old mid new server epoch down h = record {
   spends = h.spends;
   falls = λ up fell. h.falls (down ∙ up) fell;
 }
+
+-- a halt hands out what its entry keeps
+pub halted_handed : (fault : CallFault) (r : Result Answer OutOfMemory) → IfOk r (IsHalted fault) → IfOk r (λ a. a.handed ≡ a.kept)
+halted_handed fault (Err e) h = tt
+halted_handed fault (Ok a) h = go fault h
+  where
+    go : (f : CallFault) → IsHalted f a → a.handed ≡ a.kept
+    go call_fault.Failed is = ap (λ (x : Answer). x.handed) is ∙ sym (ap (λ (x : Answer). x.kept) is)
+    go call_fault.Stopped is = ap (λ (x : Answer). x.handed) is ∙ sym (ap (λ (x : Answer). x.kept) is)
+    go call_fault.OutOfMemory is = absurd is

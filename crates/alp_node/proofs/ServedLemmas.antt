@@ -15,12 +15,13 @@ use Rattle.alp_journal.specs.declared.event.Event.TheVariants as event
 use Rattle.alp_journal.specs.State.{State, Start, Life, file_trans}
 use Rattle.alp_journal.specs.State as state
 use Rattle.alp_journal.specs.Laws.{ended_at}
-use Rattle.alp_journal.specs.Causes.{own_in, AnswersOwn, AnswersFile, AnswersFinish, IsFileAnswer, is_of_unknown}
+use Rattle.alp_journal.specs.Causes.{own_in, AnswersOwn, AnswersFor, AnswersCall, AnswersFinish, IsFileAnswer, is_of_unknown}
 use Rattle.alp_journal.specs.Causes.IsFileAnswer.{unknown}
 use Rattle.alp_locks.specs.Tables.{Parts}
 use Rattle.alp_node.specs.Calls.{IsServedCall}
 use Rattle.alp_node.specs.Kept.{IsAs, IsAlike}
-use Rattle.alp_node.specs.Served.{IsInTurn, IsNextOf, is_of_given}
+use Rattle.alp_node.specs.Asks.{is_of_given}
+use Rattle.alp_node.specs.Served.{IsInTurn, IsNextOf}
 use Rattle.alp_node.specs.Sessions.{session_at}
 use Rattle.alp_node.specs.Steps.{Stepped, IsTurn, IsOf, is_own, counted_in}
 use Rattle.alp_node.specs.declared.answer.Answer.{Answer}
@@ -28,7 +29,7 @@ use Rattle.alp_node.specs.declared.kept.Kept.{Kept}
 use Rattle.alp_node.specs.declared.lives.Live.{Live}
 use Rattle.alp_node.specs.declared.sessions.Session.{Session}
 use Rattle.alp_node.specs.declared.sessions.Turn.{Turn}
-use Rattle.alp_node.proofs.CauseLemmas.{call_cause, own_is}
+use Rattle.alp_node.proofs.CauseLemmas.{file_cause}
 use Rattle.alp_node.proofs.GrantLemmas.{unknown_file}
 use Rattle.alp_node.proofs.KeptLemmas.{passing_stepped, IsLive, live_there, of_client}
 
@@ -73,13 +74,12 @@ is_own_of client (Some l) e = eqb-true l.client client e
 
 module _ {V : Type 0} (o : Start) (s : State) (told : V → Contents) (k new : Kept V) (turn : Turn) (t : TransId) (c : Call) (a : Answer) where
   refused_stepped : (f : Refusal) → IsAs o s (told k.vault) k → IsTurn k.sessions turn → IsServedCall c → state.is_not_yet (reply.Refused f) ≡ false → state.done_by s c (reply.Refused f) (file_trans c) ≡ None
-      → AnswersFile s turn.client c (file_trans c) (reply.Refused f) → new ≡ record k { sessions = counted_in k.sessions turn }
+      → AnswersCall s turn.client c (reply.Refused f) [] → new ≡ record k { sessions = counted_in k.sessions turn }
       → a ≡ record { kept = Some (reply.Refused f); handed = Some (reply.Refused f); acts = [] } → Stepped o s (told new.vault) new (event.Call turn.client k.epoch turn.number c) a
   refused_stepped f h turned served now none why is said =
       let plain : IsPlain s turn.client turn.number c = served_plain s turn.client turn.number c served in
       subst (λ (n : Kept V). Stepped o s (told n.vault) n (event.Call turn.client k.epoch turn.number c) a) (sym is)
-      (passing_stepped o s (told k.vault) k turn.client turn.session turn.number c f a h turned.client turned.session turned.number plain.kind now none (plain.ends (reply.Refused f))
-      (call_cause s turn.client c (reply.Refused f) why) said)
+      (passing_stepped o s (told k.vault) k turn.client turn.session turn.number c f a h turned.client turned.session turned.number plain.kind now none (plain.ends (reply.Refused f)) why said)
 
   pub stranger_stepped : IsAs o s (told k.vault) k → IsTurn k.sessions turn → IsServedCall c → file_trans c ≡ Some t → is_own turn.client (map.get k.lives t) ≡ false
       → new ≡ record k { sessions = counted_in k.sessions turn } → a ≡ record { kept = Some (reply.Refused refusal.UnknownTrans); handed = Some (reply.Refused refusal.UnknownTrans); acts = [] }
@@ -87,8 +87,8 @@ module _ {V : Type 0} (o : Start) (s : State) (told : V → Contents) (k new : K
   stranger_stepped h turned served named away is said =
       let r : Reply = reply.Refused refusal.UnknownTrans in
       refused_stepped refusal.UnknownTrans h turned served refl (ap (state.done_by s c r) named)
-      (subst (λ (x : Option TransId). AnswersFile s turn.client c x r) (sym named)
-      (subst (λ (x : Option Life). AnswersOwn x r (λ l. IsFileAnswer s t l c r)) (sym (not_own turn.client k.locks.held t (map.get k.lives t) (s.lives t) away (h.lives t))) refl))
+      (subst (λ (x : Option TransId). AnswersFor s turn.client c x r []) (sym named)
+      (subst (λ (x : Option Life). AnswersOwn x r [] (λ l. IsFileAnswer s t l c r [])) (sym (not_own turn.client k.locks.held t (map.get k.lives t) (s.lives t) away (h.lives t))) (refl, refl)))
       is said
 
   -- only an open names a file
@@ -125,8 +125,7 @@ module _ {V : Type 0} (o : Start) (s : State) (told : V → Contents) (k new : K
       let own : (l : Live) × (map.get k.lives t ≡ Some l) × (l.client ≡ turn.client) = of_client turn.client (map.get k.lives t) (is_own_of turn.client (map.get k.lives t) mine) in
       let x : IsLive k.locks.held t own.0 (s.lives t) = live_there k.locks.held t (map.get k.lives t) (s.lives t) own.0 own.1 (h.lives t) in
       refused_stepped refusal.UnknownFile h turned served refl why.1
-      (subst (λ (y : Option TransId). AnswersFile s turn.client c y r) (sym named)
-      (subst (λ (y : Option Life). AnswersOwn y r (λ l. IsFileAnswer s t l c r)) (sym (own_is turn.client (s.lives t) x.life x.is (x.alike.client ∙ own.2))) (unknown why.0)))
+      (file_cause s turn.client c t x.life r [] named x.is (x.alike.client ∙ own.2) (unknown why.0))
       is said
 
 -- a transaction that is not a live one of the client does not end
@@ -140,7 +139,7 @@ module _ {V : Type 0} (o : Start) (s : State) (told : V → Contents) (k new : K
       let none : own_in turn.client (s.lives t) ≡ None = not_own turn.client k.locks.held t (map.get k.lives t) (s.lives t) away (h.lives t) in
       subst (λ (n : Kept V). Stepped o s (told n.vault) n (event.Call turn.client k.epoch turn.number c) a) (sym is)
       (passing_stepped o s (told k.vault) k turn.client turn.session turn.number c refusal.UnknownTrans a h turned.client turned.session turned.number refl refl refl refl
-      (subst (λ (x : Option Life). AnswersOwn x r (λ _. AnswersFinish s t commit r)) (sym none) refl) said)
+      (subst (λ (x : Option Life). AnswersOwn x r [] (λ _. AnswersFinish s t commit r [])) (sym none) (refl, refl)) said)
 
 -- a call in its turn has the epoch of its session
 pub in_turn_epoch : {V : Type 0} (k : Kept V) (client epoch number : ℕ) (c : Call) (w : Session) → session_at k.sessions client ≡ Some w → IsInTurn k client epoch number c → epoch ≡ k.epoch

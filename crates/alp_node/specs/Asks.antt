@@ -31,9 +31,9 @@ abbrev pub is_given : ℕ → ℕ → ℕ → FileId → Bool
 is_given server epoch count f = f.server == server && nat_lt 0 f.epoch && nat_lt 0 f.counter && (nat_lt f.epoch epoch || (f.epoch == epoch && nat_le f.counter count))
 
 -- a call that opens a file names one that was given
-abbrev pub IsOfGiven : ℕ → ℕ → ℕ → Call → Type 0
-IsOfGiven server epoch count (call.OpenFile t file access mode choice) = is_given server epoch count file ≡ true
-IsOfGiven server epoch count _ = Unit {0}
+abbrev pub is_of_given : ℕ → ℕ → ℕ → Call → Bool
+is_of_given server epoch count (call.OpenFile t file access mode choice) = is_given server epoch count file
+is_of_given server epoch count c = true
 
 -- what is kept after a reply
 abbrev pub asks_given : FileId → Call → Reply → List Need

@@ -16,7 +16,6 @@ use Rattle.alp_node.specs.Sessions.{session_at}
 use Rattle.alp_node.specs.declared.sessions.Session.{Session}
 use Rattle.alp_node.specs.declared.kept.Kept.{Kept}
 use Rattle.alp_node.specs.Calls.{IsServedCall}
-use Rattle.alp_node.specs.Asks.{is_given}
 
 -- a greeting, the begin or the end of a transaction, or a file call of the grammar that is served
 abbrev pub IsAskable : Call → Type 0
@@ -44,11 +43,6 @@ abbrev pub IsServed : {V : Type 0} → Kept V → Event → Type 0
 IsServed k (event.Call client epoch number c) = (client ≤ 16) × IsAskable c × IsInTurn k client epoch number c
 IsServed k (event.Timeout t) = Unit {0}
 IsServed k e = ⊥
-
--- a call that opens a file names one that was given
-abbrev pub is_of_given : ℕ → ℕ → ℕ → Call → Bool
-is_of_given server epoch count (call.OpenFile t file access mode choice) = is_given server epoch count file
-is_of_given server epoch count c = true
 
 -- a call on an open, whose file is locked already
 abbrev pub is_on_open : Call → Bool

@@ -31,6 +31,12 @@ after_note (Some value) = after_clock (whole clock_form value)
 abbrev pub raised : Contents → Result ClockNote StartFault
 raised held = after_note (map.get held.notes clock_name)
 
+-- it is the note by which the server does not start
+abbrev pub IsNoteFault : StartFault → Type 0
+IsNoteFault fault.BadNote = Unit {0}
+IsNoteFault fault.EpochEnd = Unit {0}
+IsNoteFault (fault.Vault f) = ⊥
+
 -- why a server does not start: a fault of the vault, which is a volume in its format, or what its note says
 abbrev pub HasStartCause : Contents → ℕ → ℕ → Allowance → StartFault → Type 0
 HasStartCause held before now allowance (fault.Vault f) = HasFaultCause before now allowance f × IsOfVolume f

@@ -29,6 +29,7 @@ impl<V: Vault> Kept<V> {
         ensures seat { IsSeated V.faults V.allowance self.old self.new }
         ensures vault { self.new.vault ≡ self.old.vault }
         ensures cause { IfOk result (λ a. HaveCauses (V.faults self.old.vault) (V.faults self.new.vault) (V.allowance self.new.vault) a.acts) }
+        ensures handed { IfOk result (λ a. a.handed ≡ a.kept) }
         ensures err { OnErr result (self.new ≡ self.old) }
     {
         let answer = Answer::new(
@@ -49,8 +50,10 @@ impl<V: Vault> Kept<V> {
         ensures seat { IsSeated V.faults V.allowance self.old self.new }
         ensures vault { self.new.vault ≡ self.old.vault }
         ensures cause { IfOk result (λ a. HaveCauses (V.faults self.old.vault) (V.faults self.new.vault) (V.allowance self.new.vault) a.acts) }
+        ensures handed { IfOk result (λ a. a.handed ≡ a.kept) }
         ensures still { (o : Start) (s : StateOf) → IsAs o s (V.held self.old.vault) self.old → OnErr result (IsAs o s (V.held self.new.vault) self.new) }
         ensures ready_still { (steps : ℕ) → IsReady steps (V.serves self.old.vault) self.old → OnErr result (IsReady steps (V.serves self.new.vault) self.new) }
+        ensures up { OnErr result (self.new.is_down ≡ self.old.is_down) }
     {
         let trans = TransId {
             server: self.server,

@@ -43,9 +43,11 @@ impl<V: Vault> Kept<V> {
         ensures ready { (steps : ℕ) → IsReady steps (V.serves self.old.vault) self.old → OnOk result (IsReady (steps + 1) (V.serves self.new.vault) self.new) }
         ensures seat { IsSeated V.faults V.allowance self.old self.new }
         ensures cause { IfOk result (λ a. HaveCauses (V.faults self.old.vault) (V.faults self.new.vault) (V.allowance self.new.vault) a.acts) }
+        ensures handed { IfOk result (λ a. a.handed ≡ a.kept) }
         ensures tells { V.tells self.new.vault ≡ V.tells self.old.vault }
         ensures still { (o : Start) (s : StateOf) → IsAs o s (V.held self.old.vault) self.old → OnErr result (IsAs o s (V.held self.new.vault) self.new) }
         ensures ready_still { (steps : ℕ) → IsReady steps (V.serves self.old.vault) self.old → OnErr result (IsReady steps (V.serves self.new.vault) self.new) }
+        ensures up { OnErr result (self.new.is_down ≡ self.old.is_down) }
     {
         let halted = Vec::with_capacity(self.alloc, 1)?;
         match self.perform(trans, call) {

@@ -5,7 +5,7 @@ ghost use Rattle.alp_files.specs.Locks.{IsFormed};
 ghost use Rattle.alp_locks.specs.Sound.{IsPrepared};
 ghost use Rattle.alp_journal.specs.declared.event.Event.TheVariants as event;
 ghost use Rattle.alp_journal.specs.State.{State as StateOf, Start, file_trans};
-ghost use Rattle.alp_node.specs.Asks.{IsOfGiven, is_made as is_made_of, plan_for, count_made, with_plan};
+ghost use Rattle.alp_node.specs.Asks.{is_of_given, is_made as is_made_of, plan_for, count_made, with_plan};
 ghost use Rattle.alp_node.specs.Kept.{IsAs, IsReady};
 ghost use Rattle.alp_node.specs.Steps.{IsSeated, Stepped, IsTurn, IsOf};
 ghost use Rattle.alp_node.specs.Calls.{IsLockCall, HaveCauses};
@@ -33,7 +33,7 @@ impl<V: Vault> Kept<V> {
         requires up { self.old.is_down ≡ false }
         requires ready { (steps : ℕ) × (steps + 1 < 2 ^ 32) × IsReady steps (V.serves self.old.vault) self.old }
         requires kind { IsLockCall call.now }
-        requires given { IsOfGiven self.old.server self.old.epoch self.old.given call.now }
+        requires given { is_of_given self.old.server self.old.epoch self.old.given call.now ≡ true }
         requires named { file_trans call.now ≡ Some trans }
         requires formed { IsFormed call.now }
         requires known { IsTrue (V.tells self.old.vault) → (o : Start) × (s : StateOf) × IsAs o s (V.held self.old.vault) self.old }
@@ -41,9 +41,11 @@ impl<V: Vault> Kept<V> {
         ensures ready { (steps : ℕ) → IsReady steps (V.serves self.old.vault) self.old → OnOk result (IsReady (steps + 1) (V.serves self.new.vault) self.new) }
         ensures seat { IsSeated V.faults V.allowance self.old self.new }
         ensures cause { IfOk result (λ a. HaveCauses (V.faults self.old.vault) (V.faults self.new.vault) (V.allowance self.new.vault) a.acts) }
+        ensures handed { IfOk result (λ a. a.handed ≡ a.kept) }
         ensures tells { V.tells self.new.vault ≡ V.tells self.old.vault }
         ensures still { (o : Start) (s : StateOf) → IsAs o s (V.held self.old.vault) self.old → OnErr result (IsAs o s (V.held self.new.vault) self.new) }
         ensures ready_still { (steps : ℕ) → IsReady steps (V.serves self.old.vault) self.old → OnErr result (IsReady steps (V.serves self.new.vault) self.new) }
+        ensures up { OnErr result (self.new.is_down ≡ self.old.is_down) }
     {
         let id = self.next_file();
         let asked = self.locks.plan(trans, asks(self.alloc, call)?)?;

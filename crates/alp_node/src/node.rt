@@ -34,10 +34,10 @@ impl<V: Vault> Node<V> {
         requires clock { self.old.kept.clock < 2 ^ 62 }
         requires room { HasRoom self.old }
         ensures kept { IsKept V.tells V.serves V.held self.new }
-        ensures answered { IsTrue (V.tells self.old.kept.vault) → self.old.kept.is_down ≡ false → IfOk result (λ r. Answered self.old.journal self.new.journal event r (V.faults self.old.kept.vault) (V.faults self.new.kept.vault) (V.allowance self.new.kept.vault)) }
+        ensures answered { self.old.kept.is_down ≡ false → IfOk result (λ r. Answered self.old.journal self.new.journal event r (V.faults self.old.kept.vault) (V.faults self.new.kept.vault) (V.allowance self.new.kept.vault)) }
         ensures down { self.old.kept.is_down ≡ true → IfOk result (λ r. r ≡ Some (reply.Refused refusal.Down)) }
         ensures still_down { self.old.kept.is_down ≡ true → IsOk result × (self.new ≡ self.old) }
-        ensures err { OnErr result (self.new.journal ≡ self.old.journal) }
+        ensures err { OnErr result ((self.new.journal ≡ self.old.journal) × (self.new.kept.is_down ≡ self.old.kept.is_down)) }
         ensures opening { self.new.opening ≡ self.old.opening }
         ensures seat { IsSeated V.faults V.allowance self.old.kept self.new.kept }
         ensures clock { IsTrue (V.tells self.old.kept.vault) → self.new.kept.clock ≤ max self.old.kept.clock (seen_in event) + 1 }

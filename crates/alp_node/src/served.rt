@@ -4,10 +4,10 @@ ghost use Rattle.std.specs.FinMap as map;
 ghost use Rattle.alp_files.specs.Locks.{IsFormed};
 ghost use Rattle.alp_journal.specs.declared.event.Event.TheVariants as event;
 ghost use Rattle.alp_journal.specs.State.{State as StateOf, Start, file_trans};
-ghost use Rattle.alp_node.specs.Asks.{is_given as is_given_of};
+ghost use Rattle.alp_node.specs.Asks.{is_given as is_given_of, is_of_given as is_of_given_said};
 ghost use Rattle.alp_node.specs.Calls.{IsServedCall, HaveCauses};
 ghost use Rattle.alp_node.specs.Kept.{IsAs, IsReady};
-ghost use Rattle.alp_node.specs.Served.{is_of_given as is_of_given_said, is_on_open as is_on_open_said};
+ghost use Rattle.alp_node.specs.Served.{is_on_open as is_on_open_said};
 ghost use Rattle.alp_node.specs.Steps.{IsSeated, Stepped, IsTurn, IsOf, is_own as is_own_said};
 
 use crate::answer::Answer;
@@ -65,9 +65,11 @@ impl<V: Vault> Kept<V> {
         ensures ready { (steps : ℕ) → IsReady steps (V.serves self.old.vault) self.old → OnOk result (IsReady (steps + 1) (V.serves self.new.vault) self.new) }
         ensures seat { IsSeated V.faults V.allowance self.old self.new }
         ensures cause { IfOk result (λ a. HaveCauses (V.faults self.old.vault) (V.faults self.new.vault) (V.allowance self.new.vault) a.acts) }
+        ensures handed { IfOk result (λ a. a.handed ≡ a.kept) }
         ensures tells { V.tells self.new.vault ≡ V.tells self.old.vault }
         ensures still { (o : Start) (s : StateOf) → IsAs o s (V.held self.old.vault) self.old → OnErr result (IsAs o s (V.held self.new.vault) self.new) }
         ensures ready_still { (steps : ℕ) → IsReady steps (V.serves self.old.vault) self.old → OnErr result (IsReady steps (V.serves self.new.vault) self.new) }
+        ensures up { OnErr result (self.new.is_down ≡ self.old.is_down) }
     {
         if !self.is_own(turn.client, &trans) {
             return Ok(self.refuse(turn, Refusal::UnknownTrans));

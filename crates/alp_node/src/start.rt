@@ -10,7 +10,7 @@ ghost use Rattle.alp_fields.specs.ClockNote.{clock_name, clock_form};
 ghost use Rattle.alp_vault.specs.Vault.{HasFaultCause, IsOfVolume};
 ghost use Rattle.alp_node.specs.Nodes.{IsKept};
 ghost use Rattle.alp_node.specs.Sessions.{no_sessions};
-ghost use Rattle.alp_node.specs.Starts.{AreOfServer, after_clock, raised, HasStartCause};
+ghost use Rattle.alp_node.specs.Starts.{AreOfServer, after_clock, raised, HasStartCause, IsNoteFault};
 
 use crate::kept::Kept;
 use crate::lives::Lives;
@@ -111,6 +111,7 @@ impl<V: Vault> Node<V> {
         ensures tells { IfOk result (λ n. V.tells n.kept.vault ≡ V.tells vault) }
         ensures allowance { MatchResult result (λ n. Spends (V.allowance vault) (V.allowance n.kept.vault)) (λ e. Spends (V.allowance vault) (V.allowance e.0)) }
         ensures cause { IfErr result (λ e. HasStartCause (V.held vault) (V.faults vault) (V.faults e.0) (V.allowance e.0) e.1) }
+        ensures untouched { IfErr result (λ e. IsNoteFault e.1 → e.0 ≡ vault) }
         ensures same { IfErr result (λ e. e.1 ≡ StartFault.Vault vault_fault.OutOfMemory → V.held e.0 ≡ V.held vault) }
     {
         let mut vault = vault;

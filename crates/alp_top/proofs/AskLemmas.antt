@@ -1,7 +1,7 @@
 -- what a client asks is served, and what it is answered
 use Rattle.std.specs.Prelude.{true, false, Option, None, Some}
 use Rattle.std.specs.Option.{option_map}
-use Rattle.std.proofs.Common.{◌<◌, ◌≡◌, ℕ, ◌+◌, ◌≤◌, refl, sym, ◌∙◌, ap, subst, arith}
+use Rattle.std.proofs.Common.{◌<◌, ◌≡◌, ℕ, ◌+◌, ◌≤◌, List, refl, sym, ◌∙◌, ap, subst, arith}
 use Rattle.std.proofs.lemmas.List.{length-replicate}
 use Rattle.alp_base.specs.declared.ids.TransId.{TransId}
 use Rattle.alp_base.specs.declared.lists.TheConstants.{PAGES_PER_FILE}
@@ -18,11 +18,12 @@ use Rattle.alp_script.specs.Forms.{IsForm, servers, client, begin, owner, create
 use Rattle.alp_client.specs.Maps.{WordMap}
 use Rattle.alp_client.specs.declared.client.Client.{Client}
 use Rattle.alp_client.specs.Clients.{call_in, call_with, call_by}
+use Rattle.alp_journal.specs.declared.act.Act.{Act}
 use Rattle.alp_journal.specs.declared.event.Event.TheVariants as event
-use Rattle.alp_journal.specs.State.{State, Session, Life, kind_of}
+use Rattle.alp_journal.specs.State.{State, Session, Life, kind_of, file_trans}
 use Rattle.alp_files.specs.declared.refusal.Cause.TheVariants as cause
 use Rattle.alp_journal.specs.Laws.{next_trans}
-use Rattle.alp_journal.specs.Causes.{IsFileAnswer, unknown, conflict, performed, own_in, AnswersOwn, AnswersFinish, AnswersFile, AnswersCall}
+use Rattle.alp_journal.specs.Causes.{IsFileAnswer, unknown, conflict, performed, own_in, next_stamp, AnswersOwn, AnswersFinish, AnswersTurn, AnswersFor, AnswersCall}
 use Rattle.alp_journal.proofs.SessionLemmas.{IsPlain}
 use Rattle.alp_node.specs.declared.kept.Kept.{Kept}
 use Rattle.alp_node.specs.declared.sessions.Session as node_session
@@ -190,38 +191,44 @@ own_passing (reply.Owner o) h = tt
 own_passing (reply.Committed s) h = tt
 own_passing (reply.Ended e) h = tt
 
-file_in_session : (s : State) (t : TransId) (l : Life) (c : Call) (r : Reply) → IsFileAnswer s t l c r → IsInSession r
-file_in_session s t l c _ (unknown e) = tt
-file_in_session s t l c _ (conflict holder e least) = tt
-file_in_session s t l c _ (performed r e free own right fresh) = own_passing r own
+file_in_session : (s : State) (t : TransId) (l : Life) (c : Call) (r : Reply) (acts : List Act) → IsFileAnswer s t l c r acts → IsInSession r
+file_in_session s t l c _ _ (unknown e) = tt
+file_in_session s t l c _ _ (conflict holder e least) = tt
+file_in_session s t l c _ _ (performed r e free own right fresh) = own_passing r own
 
-own_in_session : (o : Option Life) (r : Reply) (P : Life → Type 0) → ((l : Life) → P l → IsInSession r) → AnswersOwn o r P → IsInSession r
-own_in_session None r P make h = is_in r (reply.Refused refusal.UnknownTrans) h tt
-own_in_session (Some l) r P make h = make l h
+own_in_session : (o : Option Life) (r : Reply) (acts : List Act) (P : Life → Type 0) → ((l : Life) → P l → IsInSession r) → AnswersOwn o r acts P → IsInSession r
+own_in_session None r acts P make h = is_in r (reply.Refused refusal.UnknownTrans) h.0 tt
+own_in_session (Some l) r acts P make h = make l h
 
-files_in_session : (s : State) (k : ℕ) (c : Call) (o : Option TransId) (r : Reply) → AnswersFile s k c o r → IsInSession r
-files_in_session s k c None r h = absurd h
-files_in_session s k c (Some t) r h = own_in_session (own_in k (s.lives t)) r (λ l. IsFileAnswer s t l c r) (λ l x. file_in_session s t l c r x) h
+finish_in_session : (s : State) (t : TransId) (commit : Bool) (r : Reply) (acts : List Act) → AnswersFinish s t commit r acts → IsInSession r
+finish_in_session s t true r acts h = is_in r (reply.Committed (next_stamp s t)) h.0 tt
+finish_in_session s t false r acts h = is_in r (reply.Refused (refusal.Aborted cause.Asked)) h.0 tt
+
+turn_in_session : (s : State) (k : ℕ) (c : Call) (r : Reply) (acts : List Act) → AnswersTurn s k c r acts → IsInSession r
+turn_in_session s k (call.Hello name) r acts h = is_in r (reply.Welcome s.epoch) h.0 tt
+turn_in_session s k (call.Begin seen) r acts h = is_in r (reply.Begun (next_trans s)) h.0 tt
+turn_in_session s k (call.Join u) r acts h = absurd h
+turn_in_session s k (call.CreateFile u start choice) r acts h = absurd h
+turn_in_session s k (call.OpenFile u f a mode choice) r acts h = absurd h
+turn_in_session s k (call.CloseFile u n) r acts h = absurd h
+turn_in_session s k (call.DeleteFile u n choice) r acts h = absurd h
+turn_in_session s k (call.ReadPages u n run mode choice) r acts h = absurd h
+turn_in_session s k (call.WritePages u n run pages choice) r acts h = absurd h
+turn_in_session s k (call.LockPages u n run mode choice) r acts h = absurd h
+turn_in_session s k (call.SetSize u n size choice) r acts h = absurd h
+turn_in_session s k (call.ReadProps u n) r acts h = absurd h
+turn_in_session s k (call.WriteProps u n change choice) r acts h = absurd h
+turn_in_session s k (call.ReadOwner u name choice) r acts h = absurd h
+turn_in_session s k (call.MakeOwner u name quota create choice) r acts h = absurd h
+turn_in_session s k (call.SetQuota u name quota choice) r acts h = absurd h
+turn_in_session s k (call.Finish t commit) r acts h = own_in_session (own_in k (s.lives t)) r acts (λ l. AnswersFinish s t commit r acts) (λ l x. finish_in_session s t commit r acts x) h
+turn_in_session s k (call.Outcome u) r acts h = absurd h
+turn_in_session s k (call.Collect n) r acts h = absurd h
 
 -- a call in its turn is not answered so
-pub call_in_session : (s : State) (k : ℕ) (c : Call) (r : Reply) → AnswersCall s k c r → IsInSession r
-call_in_session s k (call.Hello name) r h = is_in r (reply.Welcome s.epoch) h tt
-call_in_session s k (call.Begin seen) r h = is_in r (reply.Begun (next_trans s)) h tt
-call_in_session s k (call.Finish t true) r h = own_in_session (own_in k (s.lives t)) r (λ l. AnswersFinish s t true r) (λ l x. is_in r (reply.Committed (record { ts = s.clock + 1; trans = t })) x tt) h
-call_in_session s k (call.Finish t false) r h = own_in_session (own_in k (s.lives t)) r (λ l. AnswersFinish s t false r) (λ l x. is_in r (reply.Refused (refusal.Aborted cause.Asked)) x tt) h
-call_in_session s k (call.Join t) r h = files_in_session s k (call.Join t) None r h
-call_in_session s k (call.CreateFile t start choice) r h = files_in_session s k (call.CreateFile t start choice) (Some t) r h
-call_in_session s k (call.OpenFile t file access mode choice) r h = files_in_session s k (call.OpenFile t file access mode choice) (Some t) r h
-call_in_session s k (call.CloseFile t n) r h = files_in_session s k (call.CloseFile t n) (Some t) r h
-call_in_session s k (call.DeleteFile t n choice) r h = files_in_session s k (call.DeleteFile t n choice) (Some t) r h
-call_in_session s k (call.ReadPages t n r2 mode choice) r h = files_in_session s k (call.ReadPages t n r2 mode choice) (Some t) r h
-call_in_session s k (call.WritePages t n r2 pages choice) r h = files_in_session s k (call.WritePages t n r2 pages choice) (Some t) r h
-call_in_session s k (call.LockPages t n r2 mode choice) r h = files_in_session s k (call.LockPages t n r2 mode choice) (Some t) r h
-call_in_session s k (call.SetSize t n size choice) r h = files_in_session s k (call.SetSize t n size choice) (Some t) r h
-call_in_session s k (call.ReadProps t n) r h = files_in_session s k (call.ReadProps t n) (Some t) r h
-call_in_session s k (call.WriteProps t n change choice) r h = files_in_session s k (call.WriteProps t n change choice) (Some t) r h
-call_in_session s k (call.ReadOwner t name choice) r h = files_in_session s k (call.ReadOwner t name choice) (Some t) r h
-call_in_session s k (call.MakeOwner t name quota list choice) r h = files_in_session s k (call.MakeOwner t name quota list choice) (Some t) r h
-call_in_session s k (call.SetQuota t name quota choice) r h = files_in_session s k (call.SetQuota t name quota choice) (Some t) r h
-call_in_session s k (call.Outcome t) r h = files_in_session s k (call.Outcome t) None r h
-call_in_session s k (call.Collect n) r h = files_in_session s k (call.Collect n) None r h
+pub call_in_session : (s : State) (k : ℕ) (c : Call) (r : Reply) (acts : List Act) → AnswersCall s k c r acts → IsInSession r
+call_in_session s k c r acts = go (file_trans c)
+  where
+    go : (o : Option TransId) → AnswersFor s k c o r acts → IsInSession r
+    go None h = turn_in_session s k c r acts h
+    go (Some t) h = own_in_session (own_in k (s.lives t)) r acts (λ l. IsFileAnswer s t l c r acts) (λ l x. file_in_session s t l c r acts x) h

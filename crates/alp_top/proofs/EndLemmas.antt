@@ -9,7 +9,7 @@ use Rattle.alp_journal.specs.declared.event.Event.TheVariants as event
 use Rattle.alp_journal.specs.declared.log.Exchange.{Exchange}
 use Rattle.alp_journal.specs.declared.log.LineLog.{LineLog}
 use Rattle.alp_journal.specs.Told.{Told, told, told_at, told_along, exchanges_of, AreKept}
-use Rattle.alp_journal.specs.Causes.{HasCause}
+use Rattle.alp_journal.specs.Causes.{IsAnswered}
 use Rattle.alp_journal.specs.Laws.{IsLawful, IsSoundOpening}
 use Rattle.alp_journal.specs.State.{Start, Along, next, state_after, opened, in_order}
 use Rattle.alp_journal.specs.Serial.{start, decided}
@@ -84,8 +84,8 @@ run_over lines c n log h new e f ranks =
         ranks = ranks ∙ ap (λ (js : List Entry). ranks_from 1 js) (sym f);
       };
       caused =
-          subst (λ (o : Start). Along next HasCause (opened o) log.journal) (sym e)
-          (subst (λ (js : List Entry). Along next HasCause (opened (start_in n)) js) (sym f) right.caused);
+          subst (λ (o : Start). Along next IsAnswered (opened o) log.journal) (sym e)
+          (subst (λ (js : List Entry). Along next IsAnswered (opened (start_in n)) js) (sym f) h.ended.on.answered);
       serial = one_thread (start openings log) log.journal sound lawful;
       charged = charged (start openings log) log.journal sound lawful;
       kept = λ client.

@@ -1,6 +1,7 @@
 -- the clients stay in step with their server through a call
 use Rattle.std.specs.Prelude.{◌==◌, true, false, Bool, cond, max, Option, None, Some, IsSome, map as list_map}
 use Rattle.std.specs.Option.{option_map}
+use Rattle.std.specs.List.{list_any}
 use Rattle.std.specs.Ordering.{is_lt}
 use Rattle.std.proofs.Common.{inl, inr, ◌⊎◌, ◌<◌, ◌^◌, ◌≡◌, ◌≢◌, ℕ, ◌+◌, ◌≤◌, List, [], ◌∷◌, ◌++◌, length, refl, sym, ◌∙◌, ap, subst, arith, eq-eqb, append_assoc, append-nil, length-append}
 use Rattle.std.proofs.lemmas.Bool.Decides.{eqb_tells, leb_tells}
@@ -28,11 +29,11 @@ use Rattle.alp_journal.specs.declared.event.Event.{Event}
 use Rattle.alp_journal.specs.declared.log.Exchange.{Exchange}
 use Rattle.alp_journal.specs.declared.log.LineLog.{LineLog}
 use Rattle.alp_journal.specs.declared.event.Event.TheVariants as event
-use Rattle.alp_journal.specs.State.{State, Start, Session, Along, next, state_after, opened, in_order, stamp_cmp}
+use Rattle.alp_journal.specs.State.{State, Start, Session, Along, next, state_after, opened, in_order, stamp_cmp, is_stop}
 use Rattle.alp_journal.specs.Laws.{IsLawfulEntry, AreDecided}
 use Rattle.alp_journal.specs.Told.{told_by, IsAmong}
-use Rattle.alp_journal.specs.Causes.{HasCause, AnswersBy, AnswersCall, IsAnswer}
-use Rattle.alp_journal.proofs.StateLemmas.{state_after-push}
+use Rattle.alp_journal.specs.Causes.{HasCause, AnswersBy, AnswersCall, IsAnswer, IsAnswered}
+use Rattle.alp_journal.proofs.StateLemmas.{state_after-push, Along-push}
 use Rattle.alp_journal.proofs.Promises.{clock_rises, decided_within}
 use Rattle.alp_journal.proofs.SessionLemmas.{counted, turn_leaves, greeting_leaves}
 use Rattle.alp_client.specs.Maps.{WordMap}
@@ -102,7 +103,7 @@ has_next c n k step room = go (client_at c k).session ((state_of n).sessions k) 
 pub early_clock : (n : Server) → IsOn n → length n.journal < 65536 → n.kept.clock < 2 ^ 62
 early_clock n on room = omega (arith, on.early, room)
 
--- ---- a server goes on
+-- ---- a server that nobody stops
 
 pub no_rise : Rose 0 0 → ⊥
 no_rise h = omega (arith, h)
@@ -111,27 +112,6 @@ pub stays_free : (a b : Allowance) → Spends a b → a ≡ Free → b ≡ Free
 stays_free Free b h e = h
 stays_free (Left k) b h e = cc
 stays_free Spent b h e = cc
-
--- one entry more, and a clock that one step may raise
-pub on_more : (n m : Server) (seen : ℕ) (e : Entry) → IsOn n → IsKept m → m.journal ≡ n.journal ++ e ∷ [] → seen ≤ n.kept.clock → m.kept.clock ≤ max n.kept.clock seen + 1
-    → Spends n.kept.vault.allowance m.kept.vault.allowance → (n.kept.is_down ≡ false → m.kept.is_down ≡ true → Rose 0 0 ⊎ (m.kept.vault.allowance ≡ Spent)) → IsOn m
-on_more n m seen e on kept journal low clock spends falls = record {
-  kept = kept;
-  up = up m.kept.is_down refl;
-  free = free;
-  early = omega (arith, on.early, low, clock, ap (λ (js : List Entry). length js) journal, length-append n.journal (e ∷ []));
-}
-  where
-    free : m.kept.vault.allowance ≡ Free
-    free = stays_free n.kept.vault.allowance m.kept.vault.allowance spends on.free
-
-    halted : Rose 0 0 ⊎ (m.kept.vault.allowance ≡ Spent) → ⊥
-    halted (inl h) = no_rise h
-    halted (inr h) = let wrong : Free ≡ Spent = sym free ∙ h in cc
-
-    up : (b : Bool) → m.kept.is_down ≡ b → m.kept.is_down ≡ false
-    up true is = absurd (halted (falls on.up is))
-    up false is = is
 
 -- ---- an entry more
 
@@ -153,35 +133,60 @@ law_more law n m e same journal h =
 
 -- ---- what it was answered
 
--- where nothing fails and nobody stops it, the server answers
-plain_answer : (s : State) (e : Event) (r : Option Reply) (acts : List Act) → HaveCauses 0 0 Free acts → AnswersBy s e r acts → IsAnswer s e r
-plain_answer s e r [] causes h = h
-plain_answer s e r (act.Drawn t ∷ []) causes h = h
-plain_answer s e r (act.Drawn t ∷ b ∷ more) causes h = h
-plain_answer s e r (act.Decided stamp parts ∷ []) causes h = h
-plain_answer s e r (act.Decided stamp parts ∷ b ∷ more) causes h = h
-plain_answer s e r (act.Granted t ∷ []) causes h = h
-plain_answer s e r (act.Granted t ∷ b ∷ more) causes h = h
-plain_answer s e r (act.Released t ∷ []) causes h = h
-plain_answer s e r (act.Released t ∷ b ∷ more) causes h = h
-plain_answer s e r (act.Sent to message ∷ []) causes h = h
-plain_answer s e r (act.Sent to message ∷ b ∷ more) causes h = h
-plain_answer s e r (act.Registered t join ∷ []) causes h = h
-plain_answer s e r (act.Registered t join ∷ b ∷ more) causes h = h
-plain_answer s e r (act.Readied t join ts ∷ []) causes h = h
-plain_answer s e r (act.Readied t join ts ∷ b ∷ more) causes h = h
-plain_answer s e r (act.Applied join stamp ∷ []) causes h = h
-plain_answer s e r (act.Applied join stamp ∷ b ∷ more) causes h = h
-plain_answer s e r (act.Forgot t ∷ []) causes h = h
-plain_answer s e r (act.Forgot t ∷ b ∷ more) causes h = h
-plain_answer s e r (act.Regained epoch clock ready stamps ∷ []) causes h = h
-plain_answer s e r (act.Regained epoch clock ready stamps ∷ b ∷ more) causes h = h
-plain_answer s e r (act.Failed ∷ more) causes h = absurd (no_rise causes.0)
-plain_answer s e r (act.Stopped ∷ more) causes h = let wrong : Free ≡ Spent = causes.0 in cc
+-- where nothing fails and nobody stops it, no act says so
+no_stop : (acts : List Act) → HaveCauses 0 0 Free acts → list_any is_stop acts ≡ false
+no_stop [] causes = refl
+no_stop (act.Drawn t ∷ more) causes = no_stop more causes
+no_stop (act.Decided stamp parts ∷ more) causes = no_stop more causes
+no_stop (act.Granted t ∷ more) causes = no_stop more causes
+no_stop (act.Released t ∷ more) causes = no_stop more causes
+no_stop (act.Sent to message ∷ more) causes = no_stop more causes
+no_stop (act.Registered t join ∷ more) causes = no_stop more causes
+no_stop (act.Readied t join ts ∷ more) causes = no_stop more causes
+no_stop (act.Applied join stamp ∷ more) causes = no_stop more causes
+no_stop (act.Forgot t ∷ more) causes = no_stop more causes
+no_stop (act.Regained epoch clock ready stamps ∷ more) causes = no_stop more causes
+no_stop (act.Failed ∷ more) causes = absurd (no_rise causes.0)
+no_stop (act.Stopped ∷ more) causes = let wrong : Free ≡ Spent = causes.0 in cc
 
-some_answer : (s : State) (k epoch number : ℕ) (x : Call) (r : Option Reply) → IsAnswer s (event.Call k epoch number x) r → (y : Reply) × (r ≡ Some y) × AnswersCall s k x y
-some_answer s k epoch number x None h = absurd h
-some_answer s k epoch number x (Some y) h = (y, refl, h)
+-- and the server answers
+plain_answer : (s : State) (e : Entry) → HaveCauses 0 0 Free e.acts → HasCause s e → IsAnswered s e
+plain_answer s e causes h = subst (λ (b : Bool). AnswersBy s e.event e.reply e.acts b) (no_stop e.acts causes) h
+
+-- ---- a server goes on
+
+-- one entry more, and a clock that one step may raise
+pub on_more : (n m : Server) (seen : ℕ) (e : Entry) → IsOn n → IsKept m → start_in m ≡ start_in n → m.journal ≡ n.journal ++ e ∷ [] → seen ≤ n.kept.clock → m.kept.clock ≤ max n.kept.clock seen + 1
+    → Spends n.kept.vault.allowance m.kept.vault.allowance → (n.kept.is_down ≡ false → m.kept.is_down ≡ true → Rose 0 0 ⊎ (m.kept.vault.allowance ≡ Spent)) → HaveCauses 0 0 m.kept.vault.allowance e.acts → IsOn m
+on_more n m seen e on kept same journal low clock spends falls causes = record {
+  kept = kept;
+  up = up m.kept.is_down refl;
+  free = free;
+  early = omega (arith, on.early, low, clock, ap (λ (js : List Entry). length js) journal, length-append n.journal (e ∷ []));
+  answered =
+      subst (λ (o : Start). Along next IsAnswered (opened o) m.journal) (sym same)
+      (subst (λ (js : List Entry). Along next IsAnswered (opened (start_in n)) js) (sym journal) (Along-push next IsAnswered (opened (start_in n)) n.journal e on.answered here));
+}
+  where
+    free : m.kept.vault.allowance ≡ Free
+    free = stays_free n.kept.vault.allowance m.kept.vault.allowance spends on.free
+
+    here : IsAnswered (state_of n) e
+    here = plain_answer (state_of n) e (subst (λ (a : Allowance). HaveCauses 0 0 a e.acts) free causes) (law_more HasCause n m e same journal (kept.right refl).caused)
+
+    halted : Rose 0 0 ⊎ (m.kept.vault.allowance ≡ Spent) → ⊥
+    halted (inl h) = no_rise h
+    halted (inr h) = let wrong : Free ≡ Spent = sym free ∙ h in cc
+
+    up : (b : Bool) → m.kept.is_down ≡ b → m.kept.is_down ≡ false
+    up true is = absurd (halted (falls on.up is))
+    up false is = is
+
+-- ---- what a client is answered
+
+some_answer : (s : State) (k epoch number : ℕ) (x : Call) (r : Option Reply) (acts : List Act) → IsAnswer s (event.Call k epoch number x) r acts → (y : Reply) × (r ≡ Some y) × AnswersCall s k x y acts
+some_answer s k epoch number x None acts h = absurd h
+some_answer s k epoch number x (Some y) acts h = (y, refl, h)
 
 -- ---- what the client makes of it
 
@@ -301,12 +306,12 @@ module _ (s : State) (k clock : ℕ) (l : Line) (words : WordMap) (d : Client) (
       subst (λ (r : Reply). Counts s t k clock (greeted d (Some r)).0) (sym welcome)
       (record { session = record { who = d.name; last = 1 }; sessions = leaves.sessions; epoch = leaves.epoch; same = (refl, refl); told = low })
 
-  turn_counts : (g : Greeted) (w : Session) → s.sessions k ≡ Some w → g.epoch ≡ s.epoch → w.last ≡ g.last → IsForm l → IsTurnCall x → AnswersCall s k x y → d.told.ts ≤ clock
+  turn_counts : (g : Greeted) (w : Session) → s.sessions k ≡ Some w → g.epoch ≡ s.epoch → w.last ≡ g.last → IsForm l → IsTurnCall x → AnswersCall s k x y acts → d.told.ts ≤ clock
       → ((stamp : Stamp) → y ≡ reply.Committed stamp → stamp.ts ≤ clock)
       → Counts s (next s (record { event = event.Call k g.epoch (g.last + 1) x; reply = Some y; acts = acts })) k clock (told_reply words (record d { session = Some (record g { last = g.last + 1 }) }) l y)
   turn_counts g w is epoch last form turn answer low within =
       let d2 : Client = record d { session = Some (record g { last = g.last + 1 }) } in
-      let knows = told_knows words d2 l clock y form (call_in_session s k x y answer) low within in
+      let knows = told_knows words d2 l clock y form (call_in_session s k x y acts answer) low within in
       let leaves = turn_leaves s k g.epoch (g.last + 1) w x y acts is epoch (ap (λ (m : ℕ). m + 1) (sym last)) (turn_plain x turn) in
       record {
         session = record w { last = g.last + 1 };
@@ -316,10 +321,10 @@ module _ (s : State) (k clock : ℕ) (l : Line) (words : WordMap) (d : Client) (
         told = knows.told;
       }
 
-  heard_counts : (o : Option Greeted) (w : Option Session) → SameSession s.epoch o w → s.sessions k ≡ w → IsForm l → IsTurnCall x → AnswersCall s k (frame_in d o x).call y → d.told.ts ≤ clock
+  heard_counts : (o : Option Greeted) (w : Option Session) → SameSession s.epoch o w → s.sessions k ≡ w → IsForm l → IsTurnCall x → AnswersCall s k (frame_in d o x).call y acts → d.told.ts ≤ clock
       → ((stamp : Stamp) → y ≡ reply.Committed stamp → stamp.ts ≤ clock)
       → Counts s (next s (record { event = event.Call k (frame_in d o x).epoch (frame_in d o x).number (frame_in d o x).call; reply = Some y; acts = acts })) k clock (heard words d o l (Some y)).0
-  heard_counts None None h is form turn answer low within = greeting_counts is answer low
+  heard_counts None None h is form turn answer low within = greeting_counts is answer.0 low
   heard_counts None (Some w) h is form turn answer low within = absurd h
   heard_counts (Some g) None h is form turn answer low within = absurd h
   heard_counts (Some g) (Some w) h is form turn answer low within = turn_counts g w is h.0 h.1 form turn answer low within
@@ -390,7 +395,7 @@ went_on c n m k l frame r step form e went =
     subst (λ (f : Frame). seen_in (event.Call k f.epoch f.number f.call) ≤ d.told.ts) (sym same) (frame_seen d d.session c.words l x k form is) in
     let clock : (state_of n).clock ≡ n.kept.clock = ((step.on.kept.right refl).kept).clock in
     on_more n m (seen_in (event.Call k frame.epoch frame.number frame.call)) (record { event = event.Call k frame.epoch frame.number frame.call; reply = r; acts = went.acts })
-    step.on went.kept went.journal (omega (arith, seen, (step.each k).told, clock)) went.clock went.spends went.falls
+    step.on went.kept went.start went.journal (omega (arith, seen, (step.each k).told, clock)) went.clock went.spends went.falls went.causes
 
 module _ (c : Crowd) (n m : Server) (k : ℕ) (l : Line) (frame : Frame) (r : Option Reply) (step : InStep c n) (small : k ≤ 16) (form : IsForm l) (asked : asks c k l false ≡ Some frame) (went : Went n m k frame r) where
   abbrev d : Client
@@ -408,27 +413,26 @@ module _ (c : Crowd) (n m : Server) (k : ℕ) (l : Line) (frame : Frame) (r : Op
   law : IsLawfulEntry (state_of n) entry
   law = law_more IsLawfulEntry n m entry went.start went.journal (went.kept.right refl).lawful
 
-  plain : IsAnswer (state_of n) entry.event r
-  plain = plain_answer (state_of n) entry.event r went.acts (subst (λ (a : Allowance). HaveCauses 0 0 a went.acts) on.free went.causes)
-      (law_more HasCause n m entry went.start went.journal (went.kept.right refl).caused)
+  plain : IsAnswered (state_of n) entry
+  plain = law_more IsAnswered n m entry went.start went.journal on.answered
 
   rises : (state_of n).clock ≤ (state_of m).clock
   rises = subst (λ (t : State). (state_of n).clock ≤ t.clock) (sym more) (clock_rises (start_in n) n.journal entry (step.on.kept.right refl).lawful law)
 
   -- what the client makes of the reply
-  counts : (x : Call) (y : Reply) → call_by c.words d l ≡ Some x → frame ≡ frame_in d d.session x → r ≡ Some y → AnswersCall (state_of n) k frame.call y
+  counts : (x : Call) (y : Reply) → call_by c.words d l ≡ Some x → frame ≡ frame_in d d.session x → r ≡ Some y → AnswersCall (state_of n) k frame.call y went.acts
       → Counts (state_of n) (state_of m) k (state_of m).clock (heard c.words d d.session l r).0
   counts x y is same handed answer =
       subst (λ (o : Option Reply). Counts (state_of n) (state_of m) k (state_of m).clock (heard c.words d d.session l o).0) (sym handed)
       (subst (λ (t : State). Counts (state_of n) t k (state_of m).clock (heard c.words d d.session l (Some y)).0) (sym (more ∙ ap (λ (e : Entry). next (state_of n) e) (ap (λ (o : Option Reply). record entry { reply = o }) handed ∙ ap (λ (f : Frame). record { event = event.Call k f.epoch f.number f.call; reply = Some y; acts = went.acts }) same)))
       (heard_counts (state_of n) k (state_of m).clock l c.words d x y went.acts d.session ((state_of n).sessions k) (step.each k).session refl form (line_call c.words d l x form is)
-      (subst (λ (f : Frame). AnswersCall (state_of n) k f.call y) same answer) (omega (arith, (step.each k).told, rises))
+      (subst (λ (f : Frame). AnswersCall (state_of n) k f.call y went.acts) same answer) (omega (arith, (step.each k).told, rises))
       (λ stamp said. committed_within (state_of n) (state_of m) entry y stamp more handed law (λ z among. decided_within (start_in m) m.journal z (went.kept.right refl).lawful among) said)))
 
   heard_step : InStep (hears c k l r).0 m
   heard_step =
       let (x, is, same) = frame_there d d.session (call_by c.words d l) frame asked in
-      let (y, handed, answer) = some_answer (state_of n) k frame.epoch frame.number frame.call r plain in
+      let (y, handed, answer) = some_answer (state_of n) k frame.epoch frame.number frame.call r went.acts plain in
       let words : WordMap = words_heard c.words d.session l r in
       record {
         on = on;

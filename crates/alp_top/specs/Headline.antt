@@ -3,7 +3,7 @@ use Rattle.std.specs.Prelude.{ℕ, List, [], Option}
 use Rattle.alp_top.specs.Logs.{Log, openings}
 use Rattle.alp_files.specs.History.{starting}
 use Rattle.alp_files.specs.Sound.{AreSound, IsSoundAfterEach}
-use Rattle.alp_journal.specs.Causes.{HasCause}
+use Rattle.alp_journal.specs.Causes.{IsAnswered}
 use Rattle.alp_journal.specs.State.{Along, next, opened}
 use Rattle.alp_journal.specs.Serial.{IsOneThread, start, decided, start_of, finish_of}
 use Rattle.alp_journal.specs.Told.{AreKept, told, exchanges_of}
@@ -18,8 +18,8 @@ pub record IsRun (lines : List NumberedLine) (log : Log) : Type 0 where
   pub opening : IsNewOpening (start openings log)
   -- the calls are the script's and nothing else happened; what a client was handed is what the journal says
   pub faithful : IsFaithful lines log
-  -- each reply has its cause, and comes just where that stands
-  pub caused : Along next HasCause (opened (start openings log)) log.journal
+  -- each reply has its cause, and comes just where that stands, with what comes about by it; no device failed
+  pub caused : Along next IsAnswered (opened (start openings log)) log.journal
   -- the decided transactions, in the order of their stamps, are one thread's history: it gives every reply as given and
   -- ends in what the server holds
   pub serial : IsOneThread openings log

@@ -1,7 +1,8 @@
 -- The server of a run: one whose vault is in memory, and which nobody stops.
 use Rattle.std.specs.Prelude.{◌≡◌, ◌≤◌, true, false, length}
 use Rattle.alp_base.specs.declared.allowance.Allowance.TheVariants.{Free}
-use Rattle.alp_journal.specs.State.{State, Start}
+use Rattle.alp_journal.specs.Causes.{IsAnswered}
+use Rattle.alp_journal.specs.State.{State, Start, Along, next, opened}
 use Rattle.alp_journal.specs.Serial as serial
 use Rattle.alp_vault.specs.MemVault.{held_by}
 use Rattle.alp_vault.specs.Stages.{is_serving}
@@ -23,9 +24,11 @@ state_of n = serial.state_of (start_in n) n.journal
 abbrev pub IsKept : Server → Type 0
 IsKept n = node.IsKept (λ v. true) (λ v. is_serving v.stage) held_by n
 
--- it is what its journal says, it is up and not to be stopped, and its clock went no further than its journal
+-- It is what its journal says, it is up and not to be stopped, its clock went no further than its journal, and its device
+-- did its work in each entry.
 pub record IsOn (n : Server) : Type 0 where
   pub kept : IsKept n
   pub up : n.kept.is_down ≡ false
   pub free : n.kept.vault.allowance ≡ Free
   pub early : n.kept.clock ≤ length n.journal
+  pub answered : Along next IsAnswered (opened (start_in n)) n.journal

@@ -1,10 +1,14 @@
-use Rattle.std.proofs.Common.{◌≡◌, refl, ap, ◌∙◌, arith}
+use Rattle.std.proofs.Common.{◌≡◌, List, refl, sym, ap, subst, ◌∙◌, arith}
 use Rattle.std.specs.FinMap as map
 use Rattle.alp_fields.specs.ClockNote.{clock_name, clock_form}
 use Rattle.alp_fields.specs.declared.clock_note.ClockNote.{ClockNote}
+use Rattle.alp_journal.specs.Causes.{IsAnswered}
+use Rattle.alp_journal.specs.declared.entry.Entry.{Entry}
+use Rattle.alp_journal.specs.State.{Along, next, opened}
 use Rattle.alp_vault.specs.Contents.{Contents}
 use Rattle.alp_vault.specs.MemVault.{held_by}
 use Rattle.alp_vault.specs.declared.mem_vault.MemVault.{MemVault}
+use Rattle.alp_top.specs.Servers.{start_in}
 use Rattle.alp_top.proofs.NewLemmas.{new_given, new_clock, new_fault}
 use Rattle.alp_top.proofs.StepLemmas.{stays_free}
 use Rattle.alp_top.proofs.play.new_node.Goals as goal
@@ -22,6 +26,7 @@ returns-in-Ok-clause-on c =
       up = h.idle.3;
       free = stays_free c.new-vault.result.allowance n.kept.vault.allowance h.allowance c.new-vault.ensures.allowance;
       early = omega (arith, clock);
+      answered = subst (λ (js : List Entry). Along next IsAnswered (opened (start_in n)) js) (sym h.idle.0) tt;
     }
 
 pub returns-in-Ok-clause-opening : goal.returns-in-Ok-clause-opening

@@ -19,7 +19,7 @@ hears-requires-clause-next c = has_next c.args.clients.now c.args.node.now c.arg
 pub returns : goal.returns
 returns c =
     let h = c.in_ok-reply.ensures in
-    let answered = h.answered refl c.requires.step.on.up in
+    let answered = h.answered c.requires.step.on.up in
     let went : Went c.args.node.now c.step.new.self c.args.client c.args.frame c.in_ok-reply.reply = record {
       kept = h.kept;
       start = ap (λ (server : ℕ). start_at server (held_by c.step.new.self.opening.vault.value)) h.seat.server ∙ ap (λ (o : Opened MemVault). start_at c.args.node.now.kept.server (held_by o.vault.value)) h.opening;

@@ -16,7 +16,9 @@ returns g c =
       ready = did.ready;
       seat = did.seat;
       cause = did.cause;
+      handed = did.handed;
       tells = did.tells;
       still = did.still;
       ready_still = did.ready_still;
+      up = did.up;
     }

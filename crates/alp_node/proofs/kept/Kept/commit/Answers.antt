@@ -14,7 +14,7 @@ use Rattle.alp_node.specs.Steps.{Stepped, IsOf, counted_in, without_trans}
 use Rattle.alp_node.specs.declared.kept.Kept.{Kept}
 use Rattle.alp_node.specs.declared.sessions.Sessions.{Sessions}
 use Rattle.alp_node.proofs.KeptLemmas.{commit_stepped, commit_ready, halted_stepped, halted_cause, halted_ready, halted_still}
-use Rattle.alp_node.proofs.SeatLemmas.{halted_seated}
+use Rattle.alp_node.proofs.SeatLemmas.{halted_seated, halted_handed}
 use Rattle.alp_node.proofs.kept.Kept.commit.Goals as goal
 
 pub store-requires-clause-sound : goal.store-requires-clause-sound
@@ -77,3 +77,6 @@ returns-in-Err-clause-seat g c =
     let k = c.args.self.now in
     halted_seated g.V.Vault.faults g.V.Vault.allowance k c.store.new.vault (counted_in k.sessions c.args.turn.now) c.in-Err.fault c.halt.result c.halt.new.self c.in-Err.ensures.allowance
     (λ e. c.in-Err.ensures.failed (ap (λ (f : CallFault). Err f) e)) (λ e. c.in-Err.ensures.stopped (ap (λ (f : CallFault). Err f) e)) c.halt.ensures.halted c.halt.ensures.down c.halt.ensures.err
+
+pub returns-in-Err-clause-handed : goal.returns-in-Err-clause-handed
+returns-in-Err-clause-handed g c = halted_handed c.in-Err.fault c.halt.result c.halt.ensures.halted

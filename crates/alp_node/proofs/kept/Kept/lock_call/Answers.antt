@@ -26,7 +26,7 @@ use Rattle.alp_node.specs.Asks.{asks_of, asks_made, asks_given, is_made, plan_fo
 use Rattle.alp_node.specs.Calls.{next_file}
 use Rattle.alp_node.proofs.GrantLemmas.{lock_alone, lock_stepped, conflict_stepped, free_given, given_below, plan_given, count_given, granted_ready}
 use Rattle.alp_node.proofs.ReadyLemmas.{counted_ready}
-use Rattle.alp_node.proofs.SeatLemmas.{seated_under, seated_from, spends_same, halted_seated}
+use Rattle.alp_node.proofs.SeatLemmas.{seated_under, seated_from, spends_same, halted_seated, halted_handed}
 use Rattle.alp_node.proofs.kept.Kept.lock_call.Goals as goal
 
 pub perform-requires-clause-new : goal.perform-requires-clause-new
@@ -273,3 +273,17 @@ returns-in-Err-clause-seat g c =
     (looked_failed g.V.Vault.tells g.V.Vault.serves g.V.Vault.volume g.V.Vault.held g.V.Vault.may_leave g.V.Vault.left_since g.V.Vault.faults g.V.Vault.allowance k.vault N.vault c.in-Err.fault c.in-Err.ensures.looked)
     (looked_stopped g.V.Vault.tells g.V.Vault.serves g.V.Vault.volume g.V.Vault.held g.V.Vault.may_leave g.V.Vault.left_since g.V.Vault.faults g.V.Vault.allowance k.vault N.vault c.in-Err.fault c.in-Err.ensures.looked)
     c.halt.ensures.halted c.halt.ensures.down c.halt.ensures.err)
+
+pub returns-in-Err-clause-handed : goal.returns-in-Err-clause-handed
+returns-in-Err-clause-handed g c = halted_handed c.in-Err.fault c.halt.result c.halt.ensures.halted
+
+pub returns-in-Err-clause-up : goal.returns-in-Err-clause-up
+returns-in-Err-clause-up g c =
+    let k = c.args.self.now in
+    let (l, there, own) = of_client c.args.turn.now.client (map.get k.lives c.args.trans) c.requires.own in
+    err_same (λ (x : Kept _). x.is_down ≡ k.is_down) c.perform.new.self c.halt.new.self c.halt.result c.halt.ensures.err (ap (λ (x : Kept _). x.is_down) (c.in-Err.ensures.performed l there).kept)
+
+pub returns-in_err-answer-clause-up : goal.returns-in_err-answer-clause-up
+returns-in_err-answer-clause-up g c =
+    let (l, there, own) = of_client c.args.turn.now.client (map.get c.args.self.now.lives c.args.trans) c.requires.own in
+    on_err c.from_residual-in_err-answer.result _ (ap (λ (x : Kept _). x.is_down) (c.in-Ok.ensures.performed l there).kept)

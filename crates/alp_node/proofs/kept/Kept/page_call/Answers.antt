@@ -1,6 +1,6 @@
 use Rattle.std.specs.Prelude.{Some, IfOk, true}
 use Rattle.std.specs.FinMap as map
-use Rattle.std.proofs.Common.{ℕ, ◌+◌, ◌≤◌, List, le_refl, arith, sym, ap, ◌∙◌, subst, refl}
+use Rattle.std.proofs.Common.{◌≡◌, ℕ, ◌+◌, ◌≤◌, List, le_refl, arith, sym, ap, ◌∙◌, subst, refl}
 use Rattle.alp_files.proofs.UndoLemmas.{on_err}
 use Rattle.alp_files.specs.Act.{Own}
 use Rattle.alp_files.specs.declared.reply.Reply.TheVariants as reply
@@ -16,7 +16,7 @@ use Rattle.alp_node.proofs.KeptLemmas.{of_client, halted_stepped, halted_ready, 
 use Rattle.alp_node.proofs.CallLemmas.{unseen, part_still}
 use Rattle.alp_node.proofs.PerformLemmas.{page_stepped, page_plain, gave_told, part_ready, turn_kept, looked_left, looked_failed, looked_stopped, looked_serves, halted_vault, err_same}
 use Rattle.alp_node.proofs.ReadyLemmas.{counted_ready}
-use Rattle.alp_node.proofs.SeatLemmas.{seated_under, seated_from, spends_same, halted_seated}
+use Rattle.alp_node.proofs.SeatLemmas.{seated_under, seated_from, spends_same, halted_seated, halted_handed}
 use Rattle.alp_node.proofs.kept.Kept.page_call.Goals as goal
 
 pub perform-requires-clause-new : goal.perform-requires-clause-new
@@ -174,3 +174,17 @@ returns-in-Err-clause-seat g c =
     (looked_failed g.V.Vault.tells g.V.Vault.serves g.V.Vault.volume g.V.Vault.held g.V.Vault.may_leave g.V.Vault.left_since g.V.Vault.faults g.V.Vault.allowance k.vault N.vault c.in-Err.fault c.in-Err.ensures.looked)
     (looked_stopped g.V.Vault.tells g.V.Vault.serves g.V.Vault.volume g.V.Vault.held g.V.Vault.may_leave g.V.Vault.left_since g.V.Vault.faults g.V.Vault.allowance k.vault N.vault c.in-Err.fault c.in-Err.ensures.looked)
     c.halt.ensures.halted c.halt.ensures.down c.halt.ensures.err)
+
+pub returns-in-Err-clause-handed : goal.returns-in-Err-clause-handed
+returns-in-Err-clause-handed g c = halted_handed c.in-Err.fault c.halt.result c.halt.ensures.halted
+
+pub returns-in-Err-clause-up : goal.returns-in-Err-clause-up
+returns-in-Err-clause-up g c =
+    let k = c.args.self.now in
+    let (l, there, own) = of_client c.args.turn.now.client (map.get k.lives c.args.trans) c.requires.own in
+    err_same (λ (x : Kept _). x.is_down ≡ k.is_down) c.perform.new.self c.halt.new.self c.halt.result c.halt.ensures.err (ap (λ (x : Kept _). x.is_down) (c.in-Err.ensures.performed l there).kept)
+
+pub returns-in_err-answer-in-Ok-clause-up : goal.returns-in_err-answer-in-Ok-clause-up
+returns-in_err-answer-in-Ok-clause-up g c =
+    let (l, there, own) = of_client c.args.turn.now.client (map.get c.args.self.now.lives c.args.trans) c.requires.own in
+    on_err c.from_residual-in_err-answer-in-Ok.result _ (ap (λ (x : Kept _). x.is_down) (c.in-Ok.ensures.performed l there).kept)

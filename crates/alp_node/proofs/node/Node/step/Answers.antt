@@ -25,10 +25,8 @@ returns-in-Ok-clause-kept g c =
     c.in-Ok.ensures.ready c.in-Ok.ensures.stepped (c.enter.ensures.filled c.args.self.now.journal (c.in_ok-make_place.ensures.ok.0) (c.in_ok-make_place.ensures.ok.1)))
 
 pub returns-in-Ok-clause-answered : goal.returns-in-Ok-clause-answered
-returns-in-Ok-clause-answered g c tells up =
-    let o : Start = start_in g.V.Vault.held c.args.self.now in
-    let s = c.in-Ok.ensures.stepped tells o (state_of o c.args.self.now.journal) (c.requires.kept.right tells).kept in
-    let reply : c.in-Ok.answer.kept ≡ c.enter.result = sym (c.enter.ensures.handed ∙ s.handed) in
+returns-in-Ok-clause-answered g c up =
+    let reply : c.in-Ok.answer.kept ≡ c.enter.result = sym (c.enter.ensures.handed ∙ c.in-Ok.ensures.handed) in
     let kept : c.answer.new.self ≡ c.enter.new.self.kept = sym c.enter.ensures.kept.0 in
     record {
       acts = c.in-Ok.answer.acts;
