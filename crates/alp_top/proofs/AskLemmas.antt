@@ -1,5 +1,5 @@
 -- what a client asks is served, and what it is answered
-use Rattle.std.specs.Prelude.{true, false, Option, None, Some}
+use Rattle.std.specs.Prelude.{Bool, true, false, Option, None, Some}
 use Rattle.std.specs.Option.{option_map}
 use Rattle.std.proofs.Common.{◌<◌, ◌≡◌, ℕ, ◌+◌, ◌≤◌, List, refl, sym, ◌∙◌, ap, subst, arith}
 use Rattle.std.proofs.lemmas.List.{length-replicate}
@@ -200,7 +200,7 @@ own_in_session : (o : Option Life) (r : Reply) (acts : List Act) (P : Life → T
 own_in_session None r acts P make h = is_in r (reply.Refused refusal.UnknownTrans) h.0 tt
 own_in_session (Some l) r acts P make h = make l h
 
-finish_in_session : (s : State) (t : TransId) (commit : Bool) (r : Reply) (acts : List Act) → AnswersFinish s t commit r acts → IsInSession r
+finish_in_session : (s : State) (t : TransId) (does : Bool) (r : Reply) (acts : List Act) → AnswersFinish s t does r acts → IsInSession r
 finish_in_session s t true r acts h = is_in r (reply.Committed (next_stamp s t)) h.0 tt
 finish_in_session s t false r acts h = is_in r (reply.Refused (refusal.Aborted cause.Asked)) h.0 tt
 
@@ -219,9 +219,9 @@ turn_in_session s k (call.SetSize u n size choice) r acts h = absurd h
 turn_in_session s k (call.ReadProps u n) r acts h = absurd h
 turn_in_session s k (call.WriteProps u n change choice) r acts h = absurd h
 turn_in_session s k (call.ReadOwner u name choice) r acts h = absurd h
-turn_in_session s k (call.MakeOwner u name quota create choice) r acts h = absurd h
+turn_in_session s k (call.MakeOwner u name quota list choice) r acts h = absurd h
 turn_in_session s k (call.SetQuota u name quota choice) r acts h = absurd h
-turn_in_session s k (call.Finish t commit) r acts h = own_in_session (own_in k (s.lives t)) r acts (λ l. AnswersFinish s t commit r acts) (λ l x. finish_in_session s t commit r acts x) h
+turn_in_session s k (call.Finish t does) r acts h = own_in_session (own_in k (s.lives t)) r acts (λ l. AnswersFinish s t does r acts) (λ l x. finish_in_session s t does r acts x) h
 turn_in_session s k (call.Outcome u) r acts h = absurd h
 turn_in_session s k (call.Collect n) r acts h = absurd h
 

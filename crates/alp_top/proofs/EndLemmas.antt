@@ -1,7 +1,11 @@
 -- a run that is over is one thread's history
-use Rattle.std.specs.Prelude.{Option, map as list_map}
-use Rattle.std.proofs.Common.{◌≡◌, ℕ, ◌+◌, List, [], ◌∷◌, ◌++◌, refl, sym, ◌∙◌, ap, subst, append_assoc, append-nil}
+use Rattle.std.specs.Prelude.{max, true, false, Option, map as list_map}
+use Rattle.std.proofs.lemmas.List.{map-append}
+use Rattle.std.proofs.Common.{◌≡◌, ◌≤◌, ◌⊎◌, arith, ℕ, ◌+◌, List, [], ◌∷◌, ◌++◌, refl, sym, ◌∙◌, ap, subst, append_assoc, append-nil}
 use Rattle.alp_files.specs.declared.reply.Reply.{Reply}
+use Rattle.alp_base.specs.Allowances.{Spends}
+use Rattle.alp_base.specs.Causes.{Rose}
+use Rattle.alp_base.specs.declared.allowance.Allowance.TheVariants.{Spent}
 use Rattle.alp_base.specs.declared.ids.TransId.{TransId}
 use Rattle.alp_journal.specs.declared.entry.Entry.{Entry}
 use Rattle.alp_journal.specs.declared.event.Event.{Event}
@@ -19,10 +23,12 @@ use Rattle.alp_journal.proofs.OneThread.{one_thread, charged}
 use Rattle.alp_script.specs.declared.numbered.NumberedLine.{NumberedLine}
 use Rattle.alp_client.specs.Crowd.{Crowd}
 use Rattle.alp_top.specs.Logs.{Log, openings}
-use Rattle.alp_top.specs.Servers.{Server, start_in}
+use Rattle.alp_node.specs.Nodes.{Answered}
+use Rattle.alp_top.specs.Servers.{Server, IsKept, start_in}
 use Rattle.alp_top.specs.Plays.{AreRecorded, AreLive, ranks_from}
-use Rattle.alp_top.specs.Runs.{HasSettled, IsNewOpening}
+use Rattle.alp_top.specs.Runs.{HasSettled, HasTimedOut, IsNewOpening}
 use Rattle.alp_top.specs.Headline.{IsRun}
+use Rattle.alp_top.proofs.StepLemmas.{on_more}
 
 -- what a client was told is what the entries of its calls tell
 recorded_told : (client at : ℕ) (xs : List (ℕ × Exchange)) (es : List Entry) → AreRecorded at xs es → told_along client es ≡ told client xs
@@ -58,6 +64,21 @@ promises lines c n logs h client =
     ∙ ap (λ (ts : List Told). told_along client h.calls ++ ts) (ends_quiet client h.ended.ends h.live h.ended.ended)
     ∙ append-nil (told_along client h.calls) ∙ recorded_told client 0 (exchanges_of logs) h.calls h.recorded in
     subst (λ (ts : List Told). AreKept (in_order (state_after next (opened (start_in n)) n.journal)) [] ts) same (promises_kept (start_in n) n.journal client (h.ended.on.kept.right refl).lawful)
+
+-- one transaction more took too long
+pub one_more_out : (calls : List Entry) (live : List TransId) (n m : Server) (t : TransId) (r : Option Reply) → HasTimedOut calls live n → IsKept m → start_in m ≡ start_in n
+    → Answered n.journal m.journal (event.Timeout t) r 0 0 m.kept.vault.allowance → m.kept.clock ≤ max n.kept.clock 0 + 1 → Spends n.kept.vault.allowance m.kept.vault.allowance
+    → (n.kept.is_down ≡ false → m.kept.is_down ≡ true → Rose 0 0 ⊎ (m.kept.vault.allowance ≡ Spent)) → HasTimedOut calls (live ++ t ∷ []) m
+one_more_out calls live n m t r h kept same a clock spends falls =
+    let e : Entry = record { event = event.Timeout t; reply = r; acts = a.acts } in
+    record {
+      on = on_more n m 0 e h.on kept same a.entry (omega arith) clock spends falls a.causes;
+      ends = h.ends ++ e ∷ [];
+      journal = a.entry ∙ ap (λ (js : List Entry). js ++ e ∷ []) h.journal ∙ append_assoc calls h.ends (e ∷ []);
+      ended =
+          map-append (λ (x : Entry). x.event) h.ends (e ∷ []) ∙ ap (λ (vs : List Event). vs ++ event.Timeout t ∷ []) h.ended
+          ∙ sym (map-append event.Timeout live (t ∷ []));
+    }
 
 -- the log of a run that is over
 pub run_over : (lines : List NumberedLine) (c : Crowd) (n : Server) (log : Log) → HasSettled lines c n log.lines.items → IsNewOpening (start_in n) → start openings log ≡ start_in n → log.journal ≡ n.journal
