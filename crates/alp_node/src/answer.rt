@@ -16,7 +16,7 @@ pub struct Answer {
 }
 
 impl Answer {
-    /// An answer with a reply. Only where contents of files are told there may be no memory for it.
+    /// An answer with a reply. It wants memory only to copy a reply that tells contents of files.
     pub fn new(reply: Reply, acts: Acts) -> Result<Answer, OutOfMemory>
         ensures ok { IfOk result (λ a. a ≡ record { kept = Some reply; handed = Some reply; acts = acts }) }
         ensures err { OnErr result (has_contents reply ≡ true) }

@@ -20,6 +20,6 @@ pub struct Kept<V: Vault> {
     pub lives: Lives,
     pub locks: LockTable,
     pub vault: V,
-    /// Whether the vault failed in a commit, or was stopped.
+    /// Whether the vault gave no answer in a step: it failed there, or was stopped.
     pub is_down: bool,
 }

@@ -44,7 +44,7 @@ impl Sessions {
         self.places.get(client as usize).copied().flatten()
     }
 
-    /// The session of a client of 1 to 16 is this one from now on.
+    /// The session of this client is this one from now on.
     pub fn set(&mut self, client: u8, session: Session)
         requires { client ≤ 16 }
         ensures { self.new ≡ with_session self.old client session }
