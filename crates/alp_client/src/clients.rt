@@ -6,12 +6,9 @@ ghost use Rattle.alp_client.specs.Crowds.{new_crowd, client_at, asks as asks_sai
 use crate::{Client, Frame, Words};
 use alp_base::OutOfMemory;
 use alp_files::Reply;
-use alp_script::Line;
+use alp_script::{CLIENTS_MOST, Line};
 use std::alloc::Global;
 use std::marker::Model;
-
-/// The greatest number of a client.
-const MOST_CLIENT: u8 = 16;
 
 /// The clients of a script, each at its number, and the words of the script.
 #[derive(Drop)]
@@ -37,7 +34,7 @@ fn new_places(alloc: Global) -> Result<Vec<Client>, OutOfMemory>
     ensures { IfOk result (λ v. v.items ≡ replicate 17 new_client) }
 {
     let mut places = Vec::new(alloc);
-    for _place in 0..MOST_CLIENT + 1 {
+    for _place in 0..CLIENTS_MOST + 1 {
         places.push(Client::new(alloc))?;
     }
     Ok(places)
@@ -52,14 +49,6 @@ impl Clients {
             words: Words::new(alloc),
             places: new_places(alloc)?,
         })
-    }
-
-    /// What the client of that number knows.
-    pub fn client(&self, number: u8) -> &Client
-        requires { number ≤ 16 }
-        ensures { result.now ≡ client_at self.now number }
-    {
-        &self.places[number as usize]
     }
 
     /// What the client asks next for a line that is not over, or nothing.

@@ -1,6 +1,6 @@
 -- Why an event is answered as it is, in the state before it. Each answer that a server gives so far comes just where its
 -- cause stands, with what its caller needs to know; and what comes about with it is said too.
-use Rattle.std.specs.Prelude.{◌≡◌, ℕ, ◌+◌, ◌==◌, Bool, true, false, not, List, [], ◌∷◌, length, Option, None, Some, if◌then◌else◌, map as list_map}
+use Rattle.std.specs.Prelude.{◌≡◌, ℕ, ◌+◌, ◌==◌, Bool, true, false, List, [], ◌∷◌, ◌++◌, length, Option, None, Some, if◌then◌else◌, map as list_map}
 use Rattle.std.specs.List.{list_any}
 use Rattle.std.specs.Ordering.{is_lt}
 use Rattle.std.specs.BTreeMap.Range.{IsLeBy}
@@ -23,7 +23,7 @@ use Rattle.alp_journal.specs.declared.act.Act.TheVariants as act
 use Rattle.alp_journal.specs.declared.event.Event.{Event}
 use Rattle.alp_journal.specs.declared.event.Event.TheVariants as event
 use Rattle.alp_journal.specs.declared.entry.Entry.{Entry}
-use Rattle.alp_journal.specs.State.{State, Life, same_trans, is_given, answer_in, file_trans, held_for, is_stop}
+use Rattle.alp_journal.specs.State.{State, Life, Kind, Greets, kind_of, same_trans, is_new, is_of_no_file, answer_in, file_trans, held_for, is_stop}
 use Rattle.alp_journal.specs.Laws.{next_trans, times_out}
 
 -- ---- locks
@@ -50,8 +50,7 @@ IsFree s t l c = (u : TransId) (k : Life) → s.lives u ≡ Some k → same_tran
 
 -- a call that opens a file whose id was never given
 abbrev pub is_of_unknown : State → Call → Bool
-is_of_unknown s (call.OpenFile t f access mode choice) = not (is_given s f)
-is_of_unknown s c = false
+is_of_unknown s c = is_of_no_file s c (reply.Refused refusal.UnknownFile)
 
 -- the id that the next file gets
 abbrev pub next_file : State → FileId
@@ -108,11 +107,20 @@ abbrev pub AnswersFor : State → ℕ → Call → Option TransId → Reply → 
 AnswersFor s client c None r acts = AnswersTurn s client c r acts
 AnswersFor s client c (Some t) r acts = AnswersOwn (own_in client (s.lives t)) r acts (λ l. IsFileAnswer s t l c r acts)
 
--- the answer to a call in its turn, and what comes about by it
+-- the answer to a call, and what comes about by it
 abbrev pub AnswersCall : State → ℕ → Call → Reply → List Act → Type 0
 AnswersCall s client c r acts = AnswersFor s client c (file_trans c) r acts
 
 -- ---- entries
+
+-- a client greets first and once, and then its calls have the numbers in turn
+abbrev pub IsTurnOf : State → ℕ → ℕ → ℕ → Kind → Type 0
+IsTurnOf s client epoch number (Greets name) = (s.sessions client ≡ None) × (epoch ≡ 0) × (number ≡ 1)
+IsTurnOf s client epoch number k = is_new s (s.sessions client) epoch number ≡ true
+
+abbrev pub IsInTurn : State → Event → Type 0
+IsInTurn s (event.Call client epoch number c) = IsTurnOf s client epoch number (kind_of c)
+IsInTurn s e = Unit {0}
 
 -- Only a timeout is met with silence. It ends its transaction where that is live.
 abbrev pub IsAnswer : State → Event → Option Reply → List Act → Type 0
@@ -122,22 +130,34 @@ IsAnswer s e r acts = ⊥
 
 -- an entry of a server whose device does its work
 abbrev pub IsAnswered : State → Entry → Type 0
-IsAnswered s e = IsAnswer s e.event e.reply e.acts
+IsAnswered s e = IsInTurn s e.event × IsAnswer s e.event e.reply e.acts
 
--- the device failed or was stopped: nothing else comes about, and the caller is told so
-pub data IsHalt : Option Reply → List Act → Type 0 where
-  failed : IsHalt (Some (reply.Refused refusal.ReadFault)) (act.Failed ∷ [])
-  stopped : IsHalt (Some (reply.Refused refusal.Down)) (act.Stopped ∷ [])
+-- what the one write of a call to the device holds: the decision, where it commits
+abbrev pub written : State → Call → List Act
+written s (call.Finish t true) = act.Decided (next_stamp s t) [] ∷ []
+written s c = []
+
+-- The device failed or was stopped: the caller is told so, and that is the last act. Those before it name what the write
+-- held, and are none that came about.
+pub data IsHalt (s : State) (c : Call) : Option Reply → List Act → Type 0 where
+  failed : IsHalt s c (Some (reply.Refused refusal.ReadFault)) (written s c ++ act.Failed ∷ [])
+  stopped : IsHalt s c (Some (reply.Refused refusal.Down)) (written s c ++ act.Stopped ∷ [])
 
 -- by clients' calls alone
-abbrev pub Halts : Event → Option Reply → List Act → Type 0
-Halts (event.Call client epoch number c) r acts = IsHalt r acts
-Halts e r acts = ⊥
+abbrev pub Halts : State → Event → Option Reply → List Act → Type 0
+Halts s (event.Call client epoch number c) r acts = IsHalt s c r acts
+Halts s e r acts = ⊥
 
 abbrev pub AnswersBy : State → Event → Option Reply → List Act → Bool → Type 0
 AnswersBy s e r acts false = IsAnswer s e r acts
-AnswersBy s e r acts true = Halts e r acts
+AnswersBy s e r acts true = Halts s e r acts
 
--- an entry has its cause in the state before it, or in the device
+-- an entry of a server whose device may fail or be stopped
 abbrev pub HasCause : State → Entry → Type 0
-HasCause s e = AnswersBy s e.event e.reply e.acts (list_any is_stop e.acts)
+HasCause s e = IsInTurn s e.event × AnswersBy s e.event e.reply e.acts (list_any is_stop e.acts)
+
+-- the act of the device that a reply tells of
+abbrev pub halts_told : Option Reply → List Act
+halts_told (Some (reply.Refused refusal.ReadFault)) = act.Failed ∷ []
+halts_told (Some (reply.Refused refusal.Down)) = act.Stopped ∷ []
+halts_told r = []

@@ -1,6 +1,10 @@
 //! What follows from the laws of a journal alone.
 ghost use Rattle.std.specs.Prelude.{◌≡◌, ℕ, Bool, List, [], None, Some, true, false};
+ghost use Rattle.alp_base.specs.declared.choices.Access.{Access};
+ghost use Rattle.alp_base.specs.declared.choices.Choice.{Choice};
+ghost use Rattle.alp_base.specs.declared.ids.FileId.{FileId};
 ghost use Rattle.alp_base.specs.declared.ids.TransId.{TransId};
+ghost use Rattle.alp_modes.specs.declared.Mode.{Mode};
 ghost use Rattle.alp_files.specs.declared.call.Call.TheVariants as call;
 ghost use Rattle.alp_files.specs.declared.refusal.Cause.{Cause};
 ghost use Rattle.alp_files.specs.declared.refusal.Refusal.{Refusal};
@@ -10,7 +14,7 @@ ghost use Rattle.alp_files.specs.Passing.{is_passing_refusal};
 ghost use Rattle.alp_journal.specs.declared.event.Event.TheVariants as event;
 ghost use Rattle.alp_journal.specs.Causes.{HasCause};
 ghost use Rattle.alp_journal.specs.Refused.{IsAsBefore, is_aborted};
-ghost use Rattle.alp_journal.specs.State.{State, Start, next, with_life, state_after, opened, in_order};
+ghost use Rattle.alp_journal.specs.State.{State, Start, is_given, next, with_life, state_after, opened, in_order};
 ghost use Rattle.alp_journal.specs.Told.{AreKept, told_along};
 ghost use Rattle.alp_journal.specs.Laws.{IsLawful, IsSoundOpening};
 ghost use Rattle.alp_journal.specs.Serial.{IsOneThreadFrom, IsChargedFrom};
@@ -35,9 +39,10 @@ pub fn decided_transactions_are_one_thread()
 {}
 
 /// A call that is refused in passing leaves files, intents, opens and locks as they were: one of a transaction that is
-/// not live, one in the way of another's locks, and one in which the device failed or was stopped. A transaction that
-/// ends without effect goes with what it intended and held, and leaves all else.
+/// not live, one in the way of another's locks, one in which the device failed or was stopped, and the open of a file
+/// that never was. A transaction that ends without effect goes with what it intended and held, and leaves all else.
 pub fn passing_refusals_change_nothing()
     ensures refused { (s : State) (e : Entry) (f : Refusal) → HasCause s e → e.reply ≡ Some (reply.Refused f) → is_passing_refusal f ≡ true → is_aborted f ≡ false → IsAsBefore s (next s e) }
+    ensures unknown { (s : State) (e : Entry) (client epoch number : ℕ) (t : TransId) (file : FileId) (access : Access) (mode : Mode) (choice : Choice) → HasCause s e → e.event ≡ event.Call client epoch number (call.OpenFile t file access mode choice) → e.reply ≡ Some (reply.Refused refusal.UnknownFile) → is_given s file ≡ false → IsAsBefore s (next s e) }
     ensures aborted { (s : State) (e : Entry) (client epoch number : ℕ) (t : TransId) (commit : Bool) (why : Cause) → HasCause s e → e.event ≡ event.Call client epoch number (call.Finish t commit) → e.reply ≡ Some (reply.Refused (refusal.Aborted why)) → IsAsBefore (with_life s t None) (next s e) }
 {}

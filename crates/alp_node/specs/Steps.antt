@@ -1,10 +1,9 @@
 -- One step of a server.
-use Rattle.std.specs.Prelude.{◌≡◌, ℕ, ◌+◌, ◌≤◌, ◌==◌, ◌⊎◌, max, Bool, true, false, [], ◌∷◌, Option, None, Some}
+use Rattle.std.specs.Prelude.{◌≡◌, ℕ, ◌+◌, ◌≤◌, ◌==◌, max, Bool, true, false, List, [], ◌∷◌, ◌++◌, Option, None, Some, is_some}
+use Rattle.std.specs.List.{filter, list_any}
 use Rattle.std.specs.FinMap as map
 use Rattle.alp_base.specs.Allowances.{Spends}
-use Rattle.alp_base.specs.Causes.{Rose}
 use Rattle.alp_base.specs.declared.allowance.Allowance.{Allowance}
-use Rattle.alp_base.specs.declared.allowance.Allowance.TheVariants.{Spent}
 use Rattle.alp_base.specs.declared.ids.TransId.{TransId}
 use Rattle.alp_locks.specs.Releases.{released}
 use Rattle.alp_files.specs.declared.call.Call.TheVariants as call
@@ -15,9 +14,9 @@ use Rattle.alp_journal.specs.declared.act.Act.{Act}
 use Rattle.alp_journal.specs.declared.event.Event.{Event}
 use Rattle.alp_journal.specs.declared.event.Event.TheVariants as event
 use Rattle.alp_journal.specs.declared.entry.Entry.{Entry}
-use Rattle.alp_journal.specs.State.{State, Start}
+use Rattle.alp_journal.specs.State.{State, Start, is_stop}
 use Rattle.alp_journal.specs.Steps.{Leads}
-use Rattle.alp_journal.specs.Causes.{HasCause}
+use Rattle.alp_journal.specs.Causes.{HasCause, halts_told}
 use Rattle.alp_vault.specs.Contents.{Contents}
 use Rattle.alp_node.specs.declared.answer.Answer.{Answer}
 use Rattle.alp_node.specs.declared.kept.Kept.{Kept}
@@ -51,13 +50,25 @@ pub record Stepped {V : Type 0} (o : Start) (s : State) (held : Contents) (new :
   pub cause : HasCause s (entry_of e a)
   pub clock : IsTimely s.clock e new.clock
 
--- Which server it is stays as it was, nobody adds to the allowance of its vault, and it goes down only where the vault
--- failed or was stopped.
-pub record IsSeated {V : Type 0} (faults : V → ℕ) (allowance : V → Allowance) (old new : Kept V) : Type 0 where
+-- which server it is stays as it was, and nobody adds to the allowance of its vault
+pub record IsSeated {V : Type 0} (allowance : V → Allowance) (old new : Kept V) : Type 0 where
   pub server : new.server ≡ old.server
   pub epoch : new.epoch ≡ old.epoch
   pub spends : Spends (allowance old.vault) (allowance new.vault)
-  pub falls : old.is_down ≡ false → new.is_down ≡ true → Rose (faults old.vault) (faults new.vault) ⊎ (allowance new.vault ≡ Spent)
+
+abbrev pub is_call : Event → Bool
+is_call (event.Call client epoch number c) = true
+is_call _ = false
+
+-- Of any vault: what is handed out is what the entry keeps, and each call has a reply and nothing else has one. The reply
+-- tells of a vault that failed or was stopped just where that came about, which has its cause, and just then the server is
+-- down.
+pub record IsGiven (asked : Bool) (before now : ℕ) (allowance : Allowance) (is_down : Bool) (a : Answer) : Type 0 where
+  pub handed : a.handed ≡ a.kept
+  pub replies : is_some a.kept ≡ asked
+  pub halts : filter is_stop a.acts ≡ halts_told a.kept
+  pub down : is_down ≡ list_any is_stop a.acts
+  pub causes : HaveCauses before now allowance a.acts
 
 -- it is the session's next call
 pub record IsTurn (sessions : Sessions) (t : Turn) : Type 0 where
@@ -83,10 +94,10 @@ is_own client (Some l) = l.client == client
 abbrev pub without_trans : {V : Type 0} → Kept V → TransId → Kept V
 without_trans k t = record k { lives = map.remove k.lives t; locks = released k.locks t }
 
--- the answer that says so
-abbrev pub IsHaltedSo : Option (Refusal × Act) → Answer → Type 0
-IsHaltedSo None a = ⊥
-IsHaltedSo (Some x) a = a ≡ record { kept = Some (reply.Refused x.0); handed = Some (reply.Refused x.0); acts = x.1 ∷ [] }
+-- the answer that says so, behind the acts that name what was written
+abbrev pub IsHaltedSo : List Act → Option (Refusal × Act) → Answer → Type 0
+IsHaltedSo written None a = ⊥
+IsHaltedSo written (Some x) a = a ≡ record { kept = Some (reply.Refused x.0); handed = Some (reply.Refused x.0); acts = written ++ x.1 ∷ [] }
 
-abbrev pub IsHalted : CallFault → Answer → Type 0
-IsHalted fault a = IsHaltedSo (halt_of fault) a
+abbrev pub IsHalted : List Act → CallFault → Answer → Type 0
+IsHalted written fault a = IsHaltedSo written (halt_of fault) a
