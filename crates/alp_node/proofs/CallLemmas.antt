@@ -105,6 +105,7 @@ module _ {V : Type 0} (o : Start) (s : State) (held : Contents) (k : Kept V) whe
         earlier = h.earlier;
         committed = h.committed;
         quiet = h.quiet;
+        down = h.down;
       })
     where
       go : (u : TransId) (b : Bool) → same_trans u t ≡ b → IsAlike k.locks.held u (cond {A = Option Live} b (Some (record l { part = p })) (map.get k.lives u)) (s.lives u)
@@ -245,4 +246,5 @@ module _ {V : Type 0} (o : Start) (s : State) (held : Contents) (k : Kept V) (tu
         earlier = h.earlier;
         committed = h.committed;
         quiet = quiet;
+        down = h.down;
       })

@@ -55,7 +55,7 @@ use Rattle.alp_node.specs.declared.answer.Answer.{Answer as Handed}
 use Rattle.alp_node.specs.declared.sessions.Turn.{Turn}
 use Rattle.alp_node.proofs.CauseLemmas.{file_cause, lock_grants}
 use Rattle.alp_node.proofs.ConflictLemmas.{held_elsewhere, least_holder, made_free}
-use Rattle.alp_node.proofs.KeptLemmas.{IsLive, live_there, answered, told_turn, stands_timely, passing_stepped}
+use Rattle.alp_node.proofs.KeptLemmas.{IsLive, live_there, in_turn, answered, told_turn, stands_timely, passing_stepped}
 use Rattle.alp_node.proofs.ReadyLemmas.{numbered}
 use Rattle.alp_node.proofs.CallLemmas.{done_kept, performs, gave, done_as}
 use Rattle.alp_journal.proofs.EntryLemmas.{grant_leads, after_grant}
@@ -490,7 +490,7 @@ module _ {V : Type 0} (o : Start) (s : State) (held : Contents) (k : Kept V) (tu
       answered o s held k turn.client turn.number c r (act.Granted t ∷ []) (after_grant s turn.client turn.number (told_session turn.session) t life c r) (done_kept o s held k turn t l p c r locks_then v) a then so h leads
       (done_as o s held k turn t l p c r locks_then v life under then h same is there x.is x.alike single.built given.given done then_held (λ u q away. taken_other k.locks plan refl u q away)
       (kept_locked s.server [] life.held (view_in s life) life.own life.who c r kind x.alike.opens) leads.quiet)
-      (file_cause s turn.client c t life r (act.Granted t ∷ []) of x.is (x.alike.client ∙ own) why) (stands_timely s.clock (seen_in (event.Call turn.client k.epoch turn.number c)) k.clock h.clock)
+      (in_turn o s held k turn.client turn.session turn.number c h is.session is.number single.kind) (file_cause s turn.client c t life r (act.Granted t ∷ []) of x.is (x.alike.client ∙ own) why) (stands_timely s.clock (seen_in (event.Call turn.client k.epoch turn.number c)) k.clock h.clock)
 
 -- a call is refused where another is in its way
 pub conflict_stepped : {V : Type 0} (o : Start) (s : State) (held : Contents) (k : Kept V) (turn : Turn) (t : TransId) (l : Live) (c : Call) (holder : TransId) (a : Handed) → IsAs o s held k → IsTurn k.sessions turn → map.get k.lives t ≡ Some l

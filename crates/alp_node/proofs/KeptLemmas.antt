@@ -1,8 +1,8 @@
 -- a server keeps what its journal says, entry by entry
-use Rattle.std.specs.Prelude.{Result, Ok, Err, IfOk, OnOk, OnErr, IsTrue, cond, Bool, true, false, ◌==◌, max, Option, None, Some, is_some, map as list_map}
+use Rattle.std.specs.Prelude.{Result, Ok, Err, IfOk, OnOk, OnErr, IsTrue, cond, Bool, true, false, ◌==◌, ◌&&◌, max, Option, None, Some, is_some, map as list_map}
 use Rattle.std.specs.Option.{option_map}
 use Rattle.std.specs.FinMap as map
-use Rattle.std.proofs.Common.{◌≡◌, ℕ, ◌+◌, ◌≤◌, List, [], ◌∷◌, ◌++◌, length-append, refl, sym, ◌∙◌, ap, subst, arith}
+use Rattle.std.proofs.Common.{◌≡◌, ℕ, ◌+◌, ◌≤◌, List, [], ◌∷◌, ◌++◌, length-append, refl, sym, ◌∙◌, ap, subst, arith, eq-eqb}
 use Rattle.alp_base.specs.declared.ids.TransId.{TransId}
 use Rattle.alp_base.specs.declared.ids.Stamp.{Stamp}
 use Rattle.alp_base.specs.declared.key.Resource.{Resource}
@@ -29,9 +29,6 @@ use Rattle.alp_files.proofs.CellMapLemmas.{over-none}
 use Rattle.alp_files.proofs.FilesLemmas.{same-some}
 use Rattle.alp_files.proofs.HistoryLemmas.{get-edits_map, same_cells}
 use Rattle.alp_files.specs.History.{Decided}
-use Rattle.alp_base.specs.Causes.{Rose}
-use Rattle.alp_base.specs.declared.allowance.Allowance.{Allowance}
-use Rattle.alp_base.specs.declared.allowance.Allowance.TheVariants.{Spent}
 use Rattle.alp_base.specs.declared.memory.OutOfMemory.{OutOfMemory}
 use Rattle.alp_calls.specs.declared.fault.CallFault.{CallFault}
 use Rattle.alp_calls.specs.declared.fault.CallFault.TheVariants as call_fault
@@ -49,12 +46,11 @@ use Rattle.alp_journal.specs.State.{State, Start, Life, same_trans, no_locks, ne
 use Rattle.alp_journal.specs.State as state
 use Rattle.alp_journal.specs.Steps.{Leads}
 use Rattle.alp_journal.specs.Laws.{next_trans, ended_at, times_out, AreEarlier}
-use Rattle.alp_journal.specs.Causes.{AnswersOwn, AnswersFinish, AnswersCall, IsHalt, HasCause}
+use Rattle.alp_journal.specs.Causes.{AnswersOwn, AnswersFinish, AnswersCall, AnswersBy, IsInTurn, IsTurnOf, IsHalt, Halts, written, HasCause}
 use Rattle.alp_journal.proofs.StateLemmas.{same_trans-itself, same_trans-true, AreEarlier-push}
 use Rattle.alp_journal.proofs.EntryLemmas.{commit_leads, with_committed, committed, halt_leads, greeting_leads, begin_leads, counts_on, passing_leads, abort_leads, without_life, timeout_leads, idle_timeout_leads}
 use Rattle.alp_node.specs.Sessions.{session_at, with_session}
 use Rattle.alp_node.specs.Kept.{IsLife, IsAlike, IsAs, IsReady, told_session, PutNoneBeyond, last_time, notes_at}
-use Rattle.alp_node.specs.Calls.{HaveCauses}
 use Rattle.alp_node.specs.Steps.{Stepped, IsOf, IsTimely, IsTurn, IsHalted, seen_in, counted_in, without_trans}
 use Rattle.alp_node.specs.declared.answer.Answer.{Answer}
 use Rattle.alp_node.specs.declared.kept.Kept.{Kept}
@@ -63,6 +59,7 @@ use Rattle.alp_node.specs.declared.sessions.Session.{Session}
 use Rattle.alp_node.specs.declared.sessions.Turn.{Turn}
 use Rattle.alp_node.proofs.ReadyLemmas.{counted_ready, gone_ready}
 use Rattle.alp_node.proofs.CauseLemmas.{own_is, ends_active}
+use Rattle.alp_node.proofs.GivenLemmas.{IsWrite}
 use Rattle.alp_node.proofs.MapLemmas.{session_set, places_set, get_put, get_gone, tied_same}
 
 -- ---- what holds of lives
@@ -195,6 +192,7 @@ as_under o s held k locks same h = record {
   committed = h.committed;
   unborn = h.unborn;
   quiet = h.quiet;
+  down = h.down;
 }
 
 module _ {V : Type 0} (o : Start) (s : State) (held : Contents) (k : Kept V) (client : ℕ) where
@@ -227,9 +225,10 @@ module _ {V : Type 0} (o : Start) (s : State) (held : Contents) (k : Kept V) (cl
           earlier = h.earlier;
           committed = h.committed;
           quiet = leads.quiet;
+          down = h.down;
         };
-        handed = ap (λ (x : Answer). x.handed) is ∙ sym (ap (λ (x : Answer). x.kept) is);
-        cause = subst (λ (x : Answer). HasCause s (record { event = event.Call client 0 1 (call.Hello name); reply = x.kept; acts = x.acts })) (sym is) (ap (λ (n : ℕ). reply.Welcome n) (sym h.epoch), refl);
+        cause = subst (λ (x : Answer). HasCause s (record { event = event.Call client 0 1 (call.Hello name); reply = x.kept; acts = x.acts })) (sym is)
+            ((h.sessions client ∙ ap (option_map told_session) first, refl, refl), (ap (λ (n : ℕ). reply.Welcome n) (sym h.epoch), refl));
         clock = stands_timely s.clock 0 k.clock h.clock;
       }
 
@@ -257,6 +256,7 @@ module _ {V : Type 0} (o : Start) (s : State) (held : Contents) (k : Kept V) (cl
     earlier = h.earlier;
     committed = h.committed;
     quiet = record { agree = h.quiet.agree; idle = h.quiet.idle };
+    down = h.down;
   }
 
   -- the same entry with the epoch as the server has it
@@ -264,16 +264,26 @@ module _ {V : Type 0} (o : Start) (s : State) (held : Contents) (k : Kept V) (cl
       → Leads s (record { event = event.Call client s.epoch number c; reply = Some r; acts = acts }) m → Leads s (record { event = event.Call client k.epoch number c; reply = Some r; acts = acts }) m
   with_epoch number c r acts m h = subst (λ (n : ℕ). Leads s (record { event = event.Call client n number c; reply = Some r; acts = acts }) m) h.epoch
 
+  -- it is the next call of the session
+  is_next : (w : Session) (number : ℕ) → IsAs o s held k → session_at k.sessions client ≡ Some w → number ≡ w.last + 1 → state.is_new s (s.sessions client) k.epoch number ≡ true
+  is_next w number h there turn =
+      ap (λ (x : Option state.Session). state.is_new s x k.epoch number) (told_turn o s held k client w h there)
+      ∙ (λ i. eq-eqb k.epoch s.epoch (sym h.epoch) i && eq-eqb number (w.last + 1) turn i)
+
+  -- a call by itself is in its turn
+  pub in_turn : (w : Session) (number : ℕ) (c : Call) → IsAs o s held k → session_at k.sessions client ≡ Some w → number ≡ w.last + 1 → state.kind_of c ≡ state.Plain → IsInTurn s (event.Call client k.epoch number c)
+  in_turn w number c h there turn plain = subst (λ (x : state.Kind). IsTurnOf s client k.epoch number x) (sym plain) (is_next w number h there turn)
+
   -- and as the answer has it
   pub answered : (number : ℕ) (c : Call) (r : Reply) (acts : List Act) (m : State) (new : Kept V) (a : Answer) (then : Contents) → a ≡ record { kept = Some r; handed = Some r; acts = acts } → IsAs o s held k
-      → Leads s (record { event = event.Call client s.epoch number c; reply = Some r; acts = acts }) m → IsAs o m then new → HasCause s (record { event = event.Call client k.epoch number c; reply = Some r; acts = acts })
+      → Leads s (record { event = event.Call client s.epoch number c; reply = Some r; acts = acts }) m → IsAs o m then new
+      → IsInTurn s (event.Call client k.epoch number c) → AnswersBy s (event.Call client k.epoch number c) (Some r) acts (list_any is_stop acts)
       → IsTimely s.clock (event.Call client k.epoch number c) new.clock → Stepped o s then new (event.Call client k.epoch number c) a
-  answered number c r acts m new a then is h leads kept why timely = record {
+  answered number c r acts m new a then is h leads kept turn why timely = record {
     next = m;
     leads = subst (λ (x : Answer). Leads s (record { event = event.Call client k.epoch number c; reply = x.kept; acts = x.acts }) m) (sym is) (with_epoch number c r acts m h leads);
     kept = kept;
-    handed = ap (λ (x : Answer). x.handed) is ∙ sym (ap (λ (x : Answer). x.kept) is);
-    cause = subst (λ (x : Answer). HasCause s (record { event = event.Call client k.epoch number c; reply = x.kept; acts = x.acts })) (sym is) why;
+    cause = subst (λ (x : Answer). HasCause s (record { event = event.Call client k.epoch number c; reply = x.kept; acts = x.acts })) (sym is) (turn, why);
     clock = timely;
   }
 
@@ -332,8 +342,9 @@ module _ {V : Type 0} (o : Start) (s : State) (held : Contents) (k : Kept V) (cl
           earlier = earlier_more s.clock (max s.clock seen.ts) s.decided (omega arith) h.earlier;
           committed = h.committed;
           quiet = leads.quiet;
+          down = h.down;
         } in
-        answered number (call.Begin seen) (reply.Begun begun_trans) (act.Drawn begun_trans ∷ []) (m begun_trans) (with_begun_kept locks) a held is h leads new_kept
+        answered number (call.Begin seen) (reply.Begun begun_trans) (act.Drawn begun_trans ∷ []) (m begun_trans) (with_begun_kept locks) a held is h leads new_kept (is_next w number h there turn)
         (ap (λ (t : TransId). reply.Begun t) (sym (trans_same h)), ap (λ (t : TransId). act.Drawn t ∷ []) (sym (trans_same h))) (omega (arith, h.clock))
 
   -- ---- a call that is refused and not performed
@@ -344,7 +355,7 @@ module _ {V : Type 0} (o : Start) (s : State) (held : Contents) (k : Kept V) (cl
   passing_stepped w number c f a h le there turn plain now none ends why is =
       answered number c (reply.Refused f) [] (counts_on s client number (told_session w)) (counted w number) a held is h
       (passing_leads s client number (told_session w) c f h.quiet (told_turn o s held k client w h there) turn plain now none ends)
-      (counts_as w number h le) why (stands_timely s.clock (seen_in (event.Call client k.epoch number c)) k.clock h.clock)
+      (counts_as w number h le) (in_turn w number c h there turn plain) why (stands_timely s.clock (seen_in (event.Call client k.epoch number c)) k.clock h.clock)
 
   -- ---- a part ends
 
@@ -387,8 +398,9 @@ module _ {V : Type 0} (o : Start) (s : State) (held : Contents) (k : Kept V) (cl
         earlier = h.earlier;
         committed = h.committed;
         quiet = leads.quiet;
+        down = h.down;
       })
-      (finish_cause t x.life false (reply.Refused (refusal.Aborted cause.Asked)) (act.Released t ∷ []) x.is (x.alike.client ∙ own) (refl, refl)) (stands_timely s.clock 0 k.clock h.clock)
+      (in_turn w number (call.Finish t false) h there turn refl) (finish_cause t x.life false (reply.Refused (refusal.Aborted cause.Asked)) (act.Released t ∷ []) x.is (x.alike.client ∙ own) (refl, refl)) (stands_timely s.clock 0 k.clock h.clock)
 
   -- ---- time runs out
 
@@ -416,9 +428,9 @@ module _ {V : Type 0} (o : Start) (s : State) (held : Contents) (k : Kept V) (cl
           earlier = h.earlier;
           committed = h.committed;
           quiet = leads.quiet;
+          down = h.down;
         };
-        handed = ap (λ (y : Answer). y.handed) is ∙ sym (ap (λ (y : Answer). y.kept) is);
-        cause = subst (λ (y : Answer). HasCause s (record { event = event.Timeout t; reply = y.kept; acts = y.acts })) (sym is) (refl, sym (ends_active t (s.lives t) x.life x.is x.alike.active));
+        cause = subst (λ (y : Answer). HasCause s (record { event = event.Timeout t; reply = y.kept; acts = y.acts })) (sym is) (tt, (refl, sym (ends_active t (s.lives t) x.life x.is x.alike.active)));
         clock = stands_timely s.clock 0 k.clock h.clock;
       }
 
@@ -427,9 +439,8 @@ module _ {V : Type 0} (o : Start) (s : State) (held : Contents) (k : Kept V) (cl
     next = s;
     leads = subst (λ (y : Answer). Leads s (record { event = event.Timeout t; reply = y.kept; acts = y.acts }) s) (sym is) (idle_timeout_leads s t h.quiet (none_live k.locks.held t (map.get k.lives t) (s.lives t) none (h.lives t)));
     kept = h;
-    handed = ap (λ (y : Answer). y.handed) is ∙ sym (ap (λ (y : Answer). y.kept) is);
     cause = subst (λ (y : Answer). HasCause s (record { event = event.Timeout t; reply = y.kept; acts = y.acts })) (sym is)
-        (refl, sym (ap (λ (y : Option Life). list_map act.Released (times_out t y)) (none_live k.locks.held t (map.get k.lives t) (s.lives t) none (h.lives t))));
+        (tt, (refl, sym (ap (λ (y : Option Life). list_map act.Released (times_out t y)) (none_live k.locks.held t (map.get k.lives t) (s.lives t) none (h.lives t)))));
     clock = stands_timely s.clock 0 k.clock h.clock;
   }
 
@@ -480,15 +491,16 @@ module _ {V : Type 0} (o : Start) (s : State) (held : Contents) (k : Kept V) (cl
           earlier = subst (λ (n : ℕ). AreEarlier n m.decided) (sym clock) (AreEarlier-push s.decided commit_stamp (committed s client number (told_session w) t x.life ts) s.clock h.earlier (omega (arith, h.clock)));
           committed = omega (arith, length-append s.decided ((commit_stamp, committed s client number (told_session w) t x.life ts) ∷ []), h.committed);
           quiet = leads.quiet;
+          down = h.down;
         })
-        (finish_cause t x.life true (reply.Committed commit_stamp) (act.Decided commit_stamp [] ∷ act.Released t ∷ []) x.is (x.alike.client ∙ own)
+        (in_turn w number (call.Finish t true) h there turn refl) (finish_cause t x.life true (reply.Committed commit_stamp) (act.Decided commit_stamp [] ∷ act.Released t ∷ []) x.is (x.alike.client ∙ own)
         (ap (λ (n : ℕ). reply.Committed (record { ts = n + 1; trans = t })) (sym h.clock), ap (λ (n : ℕ). act.Decided (record { ts = n + 1; trans = t }) [] ∷ act.Released t ∷ []) (sym h.clock))) (omega (arith, h.clock))
 
   -- ---- the vault failed or was stopped
 
   pub halt_stepped : (w : Session) (number : ℕ) (c : Call) (f : Refusal) (acts : List Act) (v : V) (a : Answer) (then : Contents) → list_any is_stop acts ≡ true → IsAs o s held k → client ≤ 16
       → session_at k.sessions client ≡ Some w → number ≡ w.last + 1 → state.kind_of c ≡ state.Plain → state.is_not_yet (reply.Refused f) ≡ false
-      → state.done_by s c (reply.Refused f) (state.file_trans c) ≡ None → HasCause s (record { event = event.Call client k.epoch number c; reply = Some (reply.Refused f); acts = acts }) → a ≡ record { kept = Some (reply.Refused f); handed = Some (reply.Refused f); acts = acts }
+      → state.done_by s c (reply.Refused f) (state.file_trans c) ≡ None → Halts s (event.Call client k.epoch number c) (Some (reply.Refused f)) acts → a ≡ record { kept = Some (reply.Refused f); handed = Some (reply.Refused f); acts = acts }
       → Stepped o s then (record (counted w number) { is_down = true; vault = v }) (event.Call client k.epoch number c) a
   halt_stepped w number c f acts v a then stop h le there turn plain now none why is =
       let leads = halt_leads s client number (told_session w) c f acts stop h.quiet (told_turn o s held k client w h there) turn plain now none in
@@ -510,35 +522,26 @@ module _ {V : Type 0} (o : Start) (s : State) (held : Contents) (k : Kept V) (cl
         earlier = h.earlier;
         committed = h.committed;
         quiet = leads.quiet;
+        down = sym stop;
       })
-      why (stands_timely s.clock (seen_in (event.Call client k.epoch number c)) k.clock h.clock)
+      (in_turn w number c h there turn plain) (subst (λ (b : Bool). AnswersBy s (event.Call client k.epoch number c) (Some (reply.Refused f)) acts b) (sym stop) why)
+      (stands_timely s.clock (seen_in (event.Call client k.epoch number c)) k.clock h.clock)
 
   -- the same of an answer that says so
-  pub halted_stepped : (w : Session) (number : ℕ) (c : Call) (v : V) (then : Contents) (fault : CallFault) (r : Result Answer OutOfMemory) (new : Kept V) → IsAs o s held k → client ≤ 16
+  pub halted_stepped : (w : Session) (number : ℕ) (c : Call) (v : V) (then : Contents) (acts : List Act) (fault : CallFault) (r : Result Answer OutOfMemory) (new : Kept V) → IsWrite acts → acts ≡ written s c → IsAs o s held k → client ≤ 16
       → session_at k.sessions client ≡ Some w → number ≡ w.last + 1 → state.kind_of c ≡ state.Plain
       → state.done_by s c (reply.Refused refusal.ReadFault) (state.file_trans c) ≡ None → state.done_by s c (reply.Refused refusal.Down) (state.file_trans c) ≡ None
-      → IfOk r (IsHalted fault) → OnOk r (new ≡ record (counted w number) { is_down = true; vault = v }) → IfOk r (Stepped o s then new (event.Call client k.epoch number c))
-  halted_stepped w number c v then fault (Err e) new h le there turn plain none_fault none_down is down = tt
-  halted_stepped w number c v then fault (Ok a) new h le there turn plain none_fault none_down is down =
+      → IfOk r (IsHalted acts fault) → OnOk r (new ≡ record (counted w number) { is_down = true; vault = v }) → IfOk r (Stepped o s then new (event.Call client k.epoch number c))
+  halted_stepped w number c v then acts fault (Err e) new write same h le there turn plain none_fault none_down is down = tt
+  halted_stepped w number c v then acts fault (Ok a) new write same h le there turn plain none_fault none_down is down =
       subst (λ (x : Kept V). Stepped o s then x (event.Call client k.epoch number c) a) (sym down) (go fault is)
     where
-      go : (f : CallFault) → IsHalted f a → Stepped o s then (record (counted w number) { is_down = true; vault = v }) (event.Call client k.epoch number c) a
-      go call_fault.Failed is = halt_stepped w number c refusal.ReadFault (act.Failed ∷ []) v a then refl h le there turn plain refl none_fault IsHalt.failed is
-      go call_fault.Stopped is = halt_stepped w number c refusal.Down (act.Stopped ∷ []) v a then refl h le there turn plain refl none_down IsHalt.stopped is
+      go : (f : CallFault) → IsHalted acts f a → Stepped o s then (record (counted w number) { is_down = true; vault = v }) (event.Call client k.epoch number c) a
+      go call_fault.Failed is = halt_stepped w number c refusal.ReadFault (acts ++ act.Failed ∷ []) v a then write.failed.ends h le there turn plain refl none_fault
+          (subst (λ (ws : List Act). IsHalt s c (Some (reply.Refused refusal.ReadFault)) (ws ++ act.Failed ∷ [])) (sym same) IsHalt.failed) is
+      go call_fault.Stopped is = halt_stepped w number c refusal.Down (acts ++ act.Stopped ∷ []) v a then write.stopped.ends h le there turn plain refl none_down
+          (subst (λ (ws : List Act). IsHalt s c (Some (reply.Refused refusal.Down)) (ws ++ act.Stopped ∷ [])) (sym same) IsHalt.stopped) is
       go call_fault.OutOfMemory is = absurd is
-
--- a halt has its cause
-pub halted_cause : {V : Type 0} (faults : V → ℕ) (allowance : V → Allowance) (before : ℕ) (fault : CallFault) (r : Result Answer OutOfMemory) (new so : Kept V)
-    → (fault ≡ call_fault.Failed → Rose before (faults so.vault)) → (fault ≡ call_fault.Stopped → allowance so.vault ≡ Spent)
-    → IfOk r (IsHalted fault) → OnOk r (new ≡ so) → IfOk r (λ a. HaveCauses before (faults new.vault) (allowance new.vault) a.acts)
-halted_cause faults allowance before fault (Err e) new so failed stopped is down = tt
-halted_cause {V} faults allowance before fault (Ok a) new so failed stopped is down =
-    subst (λ (x : Kept V). HaveCauses before (faults x.vault) (allowance x.vault) a.acts) (sym down) (go fault failed stopped is)
-  where
-    go : (f : CallFault) → (f ≡ call_fault.Failed → Rose before (faults so.vault)) → (f ≡ call_fault.Stopped → allowance so.vault ≡ Spent) → IsHalted f a → HaveCauses before (faults so.vault) (allowance so.vault) a.acts
-    go call_fault.Failed failed stopped is = subst (λ (x : Answer). HaveCauses before (faults so.vault) (allowance so.vault) x.acts) (sym is) (failed refl, tt)
-    go call_fault.Stopped failed stopped is = subst (λ (x : Answer). HaveCauses before (faults so.vault) (allowance so.vault) x.acts) (sym is) (stopped refl, tt)
-    go call_fault.OutOfMemory failed stopped is = absurd is
 
 -- after want of memory it is ready as before, where the vault serves on
 pub ready_in : {V : Type 0} (n : ℕ) (before serves : Bool) (k : Kept V) (v : V) → IsTrue serves → IsReady n before k → IsReady n serves (record k { vault = v })

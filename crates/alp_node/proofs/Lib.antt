@@ -14,3 +14,4 @@ pub mod AskLemmas
 pub mod ServedLemmas
 pub mod SeatLemmas
 pub mod LiveLemmas
+pub mod GivenLemmas

@@ -42,7 +42,7 @@ use Rattle.alp_node.specs.declared.lives.Live.{Live}
 use Rattle.alp_node.specs.declared.sessions.Sessions.{Sessions}
 use Rattle.alp_node.specs.declared.sessions.Turn.{Turn}
 use Rattle.alp_node.proofs.CauseLemmas.{file_cause, page_grants}
-use Rattle.alp_node.proofs.KeptLemmas.{IsLive, live_there, answered, told_turn, stands_timely}
+use Rattle.alp_node.proofs.KeptLemmas.{IsLive, live_there, in_turn, answered, told_turn, stands_timely}
 use Rattle.alp_node.proofs.ReadyLemmas.{turned}
 use Rattle.alp_node.proofs.CallLemmas.{done_kept, performs, gave, after_call, done_as, same_live}
 use Rattle.alp_node.proofs.MapLemmas.{put_length, get_put}
@@ -121,7 +121,7 @@ module _ {V : Type 0} (o : Start) (s : State) (held : Contents) (k : Kept V) (tu
       subst (λ (n : ℕ). Stepped o s then (record (done_kept o s held k turn t l p c r k.locks v) { given = n }) (event.Call turn.client k.epoch turn.number c) a) (count_none k.given r none)
       (answered o s held k turn.client turn.number c r [] (after_call o s held k turn t l p c r k.locks v life life.held) (done_kept o s held k turn t l p c r k.locks v) a then so h leads
       (done_as o s held k turn t l p c r k.locks v life life.held then h same is there x.is x.alike plain.built given.given done (λ q. ap (λ (x : Holding). x q) under ∙ x.alike.held q) (λ u q away. refl) opens leads.quiet)
-      (file_cause s turn.client c t life r [] of x.is (x.alike.client ∙ own) why) (stands_timely s.clock (seen_in (event.Call turn.client k.epoch turn.number c)) k.clock h.clock))
+      (in_turn o s held k turn.client turn.session turn.number c h is.session is.number plain.kind) (file_cause s turn.client c t life r [] of x.is (x.alike.client ∙ own) why) (stands_timely s.clock (seen_in (event.Call turn.client k.epoch turn.number c)) k.clock h.clock))
 
 -- ---- a server stays ready
 

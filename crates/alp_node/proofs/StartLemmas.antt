@@ -161,6 +161,7 @@ new_as old server last c held before sound ids later notes kept =
       earlier = tt;
       committed = refl;
       quiet = record { agree = λ t u k l a b away. (let wrong : None ≡ Some k = a in cc); idle = λ client. refl };
+      down = refl;
     }
 
 le_of : {n : ℕ} → n ≡ 0 → n ≤ 0

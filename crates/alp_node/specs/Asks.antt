@@ -1,5 +1,5 @@
 -- What a call asks of the lock table. The pages and the leader of a file are given by the file's lock, which the open has.
-use Rattle.std.specs.Prelude.{◌≡◌, List, [], ◌∷◌, Bool, true, false, nat_lt, nat_le, ◌&&◌, ◌||◌, ◌==◌, ◌+◌, if◌then◌else◌, ℕ}
+use Rattle.std.specs.Prelude.{List, [], ◌∷◌, Bool, true, false, nat_lt, nat_le, ◌&&◌, ◌||◌, ◌==◌, ◌+◌, if◌then◌else◌, ℕ}
 use Rattle.alp_base.specs.declared.ids.FileId.{FileId}
 use Rattle.alp_base.specs.declared.ids.TransId.{TransId}
 use Rattle.alp_base.specs.declared.key.Key.TheVariants.{OwnerOf}

@@ -1,15 +1,10 @@
 -- The calls that a server answers so far, and what its answers rest on.
-use Rattle.std.specs.Prelude.{◌≡◌, ℕ, ◌+◌, ◌≤◌, List, [], ◌∷◌, length, Bool, false, IsTrue, Result, Ok, Err}
+use Rattle.std.specs.Prelude.{◌≡◌, ◌+◌, ◌≤◌, length, Bool, false, IsTrue, Result, Ok, Err}
 use Rattle.std.specs.FinMap as map
-use Rattle.alp_base.specs.Causes.{Rose}
-use Rattle.alp_base.specs.declared.allowance.Allowance.{Allowance}
-use Rattle.alp_base.specs.declared.allowance.Allowance.TheVariants.{Spent}
 use Rattle.alp_base.specs.declared.choices.Choice.TheVariants.{Fail}
 use Rattle.alp_modes.specs.declared.Mode.TheVariants.{Read}
 use Rattle.alp_files.specs.declared.call.Call.{Call}
 use Rattle.alp_files.specs.declared.call.Call.TheVariants as call
-use Rattle.alp_journal.specs.declared.act.Act.{Act}
-use Rattle.alp_journal.specs.declared.act.Act.TheVariants as act
 use Rattle.alp_base.specs.declared.ids.FileId.{FileId}
 use Rattle.alp_base.specs.declared.ids.TransId.{TransId}
 use Rattle.alp_files.specs.declared.reply.Reply.{Reply}
@@ -44,13 +39,6 @@ IsLockCall (call.CreateFile t start choice) = Unit {0}
 IsLockCall (call.OpenFile t file access mode choice) = mode ≡ mode_for access
 IsLockCall (call.MakeOwner t name quota create choice) = Unit {0}
 IsLockCall _ = ⊥
-
--- the vault failed or was stopped where the acts say so
-abbrev pub HaveCauses : ℕ → ℕ → Allowance → List Act → Type 0
-HaveCauses before now allowance [] = Unit {0}
-HaveCauses before now allowance (act.Failed ∷ more) = Rose before now × HaveCauses before now allowance more
-HaveCauses before now allowance (act.Stopped ∷ more) = (allowance ≡ Spent) × HaveCauses before now allowance more
-HaveCauses before now allowance (_ ∷ more) = HaveCauses before now allowance more
 
 -- the id that the next file gets
 abbrev pub next_file : {V : Type 0} → Kept V → FileId

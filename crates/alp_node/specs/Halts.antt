@@ -1,5 +1,8 @@
 -- What a fault of the vault in a call comes to.
-use Rattle.std.specs.Prelude.{Bool, IsTrue, Option, None, Some, Result, Ok, Err}
+use Rattle.std.specs.Prelude.{◌≡◌, ℕ, Bool, IsTrue, List, [], ◌∷◌, Option, None, Some, Result, Ok, Err}
+use Rattle.alp_base.specs.Causes.{Rose}
+use Rattle.alp_base.specs.declared.allowance.Allowance.{Allowance}
+use Rattle.alp_base.specs.declared.allowance.Allowance.TheVariants.{Spent}
 use Rattle.alp_files.specs.declared.refusal.Refusal.{Refusal}
 use Rattle.alp_files.specs.declared.refusal.Refusal.TheVariants as refusal
 use Rattle.alp_journal.specs.declared.act.Act.{Act}
@@ -19,3 +22,10 @@ abbrev pub halt_of : CallFault → Option (Refusal × Act)
 halt_of fault.Failed = Some (refusal.ReadFault, act.Failed)
 halt_of fault.Stopped = Some (refusal.Down, act.Stopped)
 halt_of fault.OutOfMemory = None
+
+-- the vault failed or was stopped where the acts say so
+abbrev pub HaveCauses : ℕ → ℕ → Allowance → List Act → Type 0
+HaveCauses before now allowance [] = Unit {0}
+HaveCauses before now allowance (act.Failed ∷ more) = Rose before now × HaveCauses before now allowance more
+HaveCauses before now allowance (act.Stopped ∷ more) = (allowance ≡ Spent) × HaveCauses before now allowance more
+HaveCauses before now allowance (_ ∷ more) = HaveCauses before now allowance more

@@ -1,7 +1,7 @@
 -- What a server keeps is what its journal says.
 use Rattle.std.specs.Prelude.{◌≡◌, ℕ, zero, suc, ◌<◌, ◌≤◌, Bool, true, false, IsTrue, List, [], ◌∷◌, length, Option, None, Some, is_some}
 use Rattle.std.specs.Option.{option_map}
-use Rattle.std.specs.List.{AllByRecursion}
+use Rattle.std.specs.List.{AllByRecursion, list_any}
 use Rattle.std.specs.FinMap as map
 use Rattle.alp_base.specs.Notes.{Notes}
 use Rattle.alp_base.specs.declared.ids.FileId.{FileId}
@@ -25,7 +25,7 @@ use Rattle.alp_locks.specs.Tables.{Parts, holding}
 use Rattle.alp_locks.specs.Sound.{IsSound}
 use Rattle.alp_vault.specs.Contents.{Contents}
 use Rattle.alp_calls.specs.Parts.{own_of}
-use Rattle.alp_journal.specs.State.{State, Start, Life}
+use Rattle.alp_journal.specs.State.{State, Start, Life, is_stop}
 use Rattle.alp_journal.specs.State as state
 use Rattle.alp_journal.specs.Steps.{IsQuiet}
 use Rattle.alp_journal.specs.Laws.{AreEarlier}
@@ -91,7 +91,8 @@ ids_to server epoch (suc n) = (record { server = server; epoch = epoch; counter 
 abbrev pub told_session : Session → state.Session
 told_session w = record { who = w.who; last = w.last }
 
--- the server keeps what this state says, with this in its vault, which counts while it is not down
+-- The server keeps what this state says, with this in its vault, which counts while it is not down; and it is down just
+-- where the vault failed or was stopped.
 pub record IsAs {V : Type 0} (o : Start) (s : State) (held : Contents) (k : Kept V) : Type 0 where
   pub server : s.server ≡ k.server
   pub epoch : s.epoch ≡ k.epoch
@@ -108,6 +109,7 @@ pub record IsAs {V : Type 0} (o : Start) (s : State) (held : Contents) (k : Kept
   pub earlier : AreEarlier s.clock s.decided
   pub committed : length s.decided ≡ k.committed
   pub quiet : IsQuiet s
+  pub down : k.is_down ≡ list_any is_stop s.pending
 
 -- Whatever its vault tells: its vault serves while it is up, the table's locks agree, nobody waits, it knows each live
 -- transaction, nobody holds a lock on a file that was not made yet, and no count went further than so many steps.

@@ -1,17 +1,19 @@
 -- A server and its journal.
-use Rattle.std.specs.Prelude.{◌≡◌, ℕ, ◌<◌, Bool, IsTrue, List, [], ◌∷◌, ◌++◌, length, Option}
+use Rattle.std.specs.Prelude.{◌≡◌, ℕ, ◌<◌, Bool, IsTrue, List, [], ◌∷◌, ◌++◌, length, Option, is_some}
+use Rattle.std.specs.List.{filter, list_any}
 use Rattle.alp_base.specs.declared.allowance.Allowance.{Allowance}
 use Rattle.alp_files.specs.declared.reply.Reply.{Reply}
 use Rattle.alp_vault.specs.Contents.{Contents}
 use Rattle.alp_journal.specs.declared.act.Act.{Act}
 use Rattle.alp_journal.specs.declared.event.Event.{Event}
 use Rattle.alp_journal.specs.declared.entry.Entry.{Entry}
-use Rattle.alp_journal.specs.State.{State, Start, Along, next, state_after, opened}
+use Rattle.alp_journal.specs.State.{State, Start, Along, next, state_after, opened, is_stop}
 use Rattle.alp_journal.specs.Laws.{IsLawful, IsSoundOpening}
-use Rattle.alp_journal.specs.Causes.{HasCause}
+use Rattle.alp_journal.specs.Causes.{HasCause, halts_told}
 use Rattle.alp_node.specs.declared.node.Node.{Node}
 use Rattle.alp_node.specs.Kept.{IsAs, IsReady}
-use Rattle.alp_node.specs.Calls.{HaveCauses}
+use Rattle.alp_node.specs.Halts.{HaveCauses}
+use Rattle.alp_node.specs.Steps.{is_call}
 
 -- what it was started on, by what its vault held then
 abbrev pub start_at : ℕ → Contents → Start
@@ -37,10 +39,15 @@ pub record IsKept {V : Type 0} (tells serves : V → Bool) (held : V → Content
   pub ready : IsReady (length n.journal) (serves n.kept.vault) n.kept
   pub right : IsTrue (tells n.kept.vault) → IsRight (start_in held n) (held n.kept.vault) n
 
--- one entry more: this event, this reply, and what came about, where a fault of the vault has its cause
-pub record Answered (before after : List Entry) (e : Event) (r : Option Reply) (faults_before faults_now : ℕ) (allowance : Allowance) : Type 0 where
+-- One entry more: this event, this reply, and what came about. Each call has a reply, and nothing else has one. The reply
+-- tells of a vault that failed or was stopped just where that came about, which has its cause, and just then the server is
+-- down.
+pub record Answered (before after : List Entry) (e : Event) (r : Option Reply) (faults_before faults_now : ℕ) (allowance : Allowance) (is_down : Bool) : Type 0 where
   pub acts : List Act
   pub entry : after ≡ before ++ (record { event = e; reply = r; acts = acts }) ∷ []
+  pub replies : is_some r ≡ is_call e
+  pub halts : filter is_stop acts ≡ halts_told r
+  pub down : is_down ≡ list_any is_stop acts
   pub causes : HaveCauses faults_before faults_now allowance acts
 
 -- a journal with room for one entry

@@ -23,7 +23,7 @@ use Rattle.alp_node.specs.declared.kept.Kept.{Kept}
 use Rattle.alp_node.specs.declared.lives.Live.{Live}
 use Rattle.alp_node.specs.declared.sessions.Turn.{Turn}
 use Rattle.alp_node.specs.declared.sessions.Sessions.{Sessions}
-use Rattle.alp_node.specs.Halts.{halt_of}
+use Rattle.alp_node.specs.Halts.{halt_of, HaveCauses}
 use Rattle.alp_node.specs.Sessions.{session_at, with_session}
 use Rattle.alp_node.specs.Kept.{IsAs}
 
@@ -40,13 +40,12 @@ seen_in _ = 0
 abbrev pub IsTimely : ℕ → Event → ℕ → Type 0
 IsTimely before e now = now ≤ max before (seen_in e) + 1
 
--- The entry of the answered event is lawful, the server keeps what its state says then, what is handed out is what the
--- entry keeps, the answer has its cause, and the clock is no later than it may be.
+-- The entry of the answered event is lawful, the server keeps what its state says then, the answer has its cause, and the
+-- clock is no later than it may be.
 pub record Stepped {V : Type 0} (o : Start) (s : State) (held : Contents) (new : Kept V) (e : Event) (a : Answer) : Type 0 where
   pub next : State
   pub leads : Leads s (entry_of e a) next
   pub kept : IsAs o next held new
-  pub handed : a.handed ≡ a.kept
   pub cause : HasCause s (entry_of e a)
   pub clock : IsTimely s.clock e new.clock
 

@@ -1,12 +1,11 @@
 //! Sessions and transactions begin.
-ghost use Rattle.std.specs.Prelude.{◌≡◌, ◌+◌, ◌<◌, ◌≤◌, ◌^◌, IfOk, OnOk, OnErr, None, ℕ, false};
+ghost use Rattle.std.specs.Prelude.{◌≡◌, ◌+◌, ◌<◌, ◌≤◌, ◌^◌, IfOk, OnOk, OnErr, None, ℕ, false, true};
 ghost use Rattle.alp_files.specs.declared.call.Call.TheVariants as call;
 ghost use Rattle.alp_journal.specs.declared.event.Event.TheVariants as event;
 ghost use Rattle.alp_journal.specs.State.{State as StateOf, Start};
 ghost use Rattle.alp_node.specs.Sessions.{session_at};
 ghost use Rattle.alp_node.specs.Kept.{IsAs, IsReady};
-ghost use Rattle.alp_node.specs.Calls.{HaveCauses};
-ghost use Rattle.alp_node.specs.Steps.{IsSeated, Stepped, IsTurn};
+ghost use Rattle.alp_node.specs.Steps.{IsSeated, IsGiven, Stepped, IsTurn};
 
 use crate::answer::Answer;
 use crate::kept::Kept;
@@ -26,10 +25,9 @@ impl<V: Vault> Kept<V> {
         requires up { self.old.is_down ≡ false }
         ensures stepped { (o : Start) (s : StateOf) → IsAs o s (V.held self.old.vault) self.old → IfOk result (λ a. Stepped o s (V.held self.new.vault) self.new (event.Call client 0 1 (call.Hello name)) a) }
         ensures ready { (steps : ℕ) → IsReady steps (V.serves self.old.vault) self.old → OnOk result (IsReady (steps + 1) (V.serves self.new.vault) self.new) }
-        ensures seat { IsSeated V.faults V.allowance self.old self.new }
+        ensures seat { IsSeated V.allowance self.old self.new }
         ensures vault { self.new.vault ≡ self.old.vault }
-        ensures cause { IfOk result (λ a. HaveCauses (V.faults self.old.vault) (V.faults self.new.vault) (V.allowance self.new.vault) a.acts) }
-        ensures handed { IfOk result (λ a. a.handed ≡ a.kept) }
+        ensures given { IfOk result (IsGiven true (V.faults self.old.vault) (V.faults self.new.vault) (V.allowance self.new.vault) self.new.is_down) }
         ensures err { OnErr result (self.new ≡ self.old) }
     {
         let answer = Answer::new(
@@ -47,10 +45,9 @@ impl<V: Vault> Kept<V> {
         requires ready { (steps : ℕ) × (steps + 1 < 2 ^ 32) × IsReady steps (V.serves self.old.vault) self.old }
         ensures stepped { (o : Start) (s : StateOf) → IsAs o s (V.held self.old.vault) self.old → IfOk result (λ a. Stepped o s (V.held self.new.vault) self.new (event.Call turn.now.client self.old.epoch turn.now.number (call.Begin seen)) a) }
         ensures ready { (steps : ℕ) → IsReady steps (V.serves self.old.vault) self.old → OnOk result (IsReady (steps + 1) (V.serves self.new.vault) self.new) }
-        ensures seat { IsSeated V.faults V.allowance self.old self.new }
+        ensures seat { IsSeated V.allowance self.old self.new }
         ensures vault { self.new.vault ≡ self.old.vault }
-        ensures cause { IfOk result (λ a. HaveCauses (V.faults self.old.vault) (V.faults self.new.vault) (V.allowance self.new.vault) a.acts) }
-        ensures handed { IfOk result (λ a. a.handed ≡ a.kept) }
+        ensures given { IfOk result (IsGiven true (V.faults self.old.vault) (V.faults self.new.vault) (V.allowance self.new.vault) self.new.is_down) }
         ensures still { (o : Start) (s : StateOf) → IsAs o s (V.held self.old.vault) self.old → OnErr result (IsAs o s (V.held self.new.vault) self.new) }
         ensures ready_still { (steps : ℕ) → IsReady steps (V.serves self.old.vault) self.old → OnErr result (IsReady steps (V.serves self.new.vault) self.new) }
         ensures up { OnErr result (self.new.is_down ≡ self.old.is_down) }

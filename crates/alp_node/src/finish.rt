@@ -1,18 +1,18 @@
 //! Transactions end.
-ghost use Rattle.std.specs.Prelude.{◌≡◌, ◌+◌, ◌<◌, ◌≤◌, ◌^◌, [], IsTrue, IfOk, OnOk, OnErr, Some, ℕ, true, false, vec_capacity};
+ghost use Rattle.std.specs.Prelude.{◌≡◌, ◌+◌, ◌<◌, ◌≤◌, ◌^◌, [], IsTrue, IfOk, OnOk, OnErr, Some, ℕ, true, false, length, vec_capacity};
 ghost use Rattle.std.specs.FinMap as map;
 ghost use Rattle.alp_calls.specs.declared.fault.CallFault.TheVariants as call_fault;
 ghost use Rattle.alp_files.specs.Sound.{AreSound};
 ghost use Rattle.alp_files.specs.Cells.{Cells};
 ghost use Rattle.alp_files.specs.Edits.{over};
 ghost use Rattle.alp_files.specs.declared.call.Call.TheVariants as call;
+ghost use Rattle.alp_journal.specs.declared.act.Act.TheVariants as act;
 ghost use Rattle.alp_journal.specs.declared.event.Event.TheVariants as event;
 ghost use Rattle.alp_journal.specs.State.{State as StateOf, Start};
 ghost use Rattle.alp_node.specs.declared.lives.Live.{Live as ALive};
 ghost use Rattle.alp_node.specs.Kept.{IsAs, IsReady};
-ghost use Rattle.alp_node.specs.Calls.{HaveCauses};
 ghost use Rattle.alp_files.specs.declared.reply.Reply.TheVariants as reply;
-ghost use Rattle.alp_node.specs.Steps.{IsSeated, Stepped, IsTurn, IsOf, IsHalted, counted_in, without_trans};
+ghost use Rattle.alp_node.specs.Steps.{IsSeated, IsGiven, Stepped, IsTurn, IsOf, IsHalted, counted_in, without_trans};
 
 use crate::answer::Answer;
 use crate::kept::Kept;
@@ -24,6 +24,17 @@ use alp_fields::ClockNote;
 use alp_files::{Cause, Refusal, Reply};
 use alp_journal::{Act, Acts, Parts};
 use alp_vault::Vault;
+use std::alloc::Global;
+
+// The decision that a transaction is committed, which no other server has a part in.
+fn decision(alloc: Global, stamp: Stamp) -> Act
+    ensures { result ≡ act.Decided stamp [] }
+{
+    Act::Decided {
+        stamp,
+        parts: Parts::new(Vec::new(alloc)),
+    }
+}
 
 impl<V: Vault> Kept<V> {
     // The transaction is live no more, and its locks go.
@@ -38,13 +49,13 @@ impl<V: Vault> Kept<V> {
     pub fn abort(&mut self, turn: &Turn, trans: TransId) -> Result<Answer, OutOfMemory>
         requires turn { IsTurn self.old.sessions turn.now }
         requires own { IsOf turn.now.client (map.get self.old.lives trans) }
+        requires up { self.old.is_down ≡ false }
         requires alone { self.old.locks.waiting ≡ [] }
         ensures stepped { (o : Start) (s : StateOf) → IsAs o s (V.held self.old.vault) self.old → IfOk result (λ a. Stepped o s (V.held self.new.vault) self.new (event.Call turn.now.client self.old.epoch turn.now.number (call.Finish trans false)) a) }
         ensures ready { (steps : ℕ) → IsReady steps (V.serves self.old.vault) self.old → OnOk result (IsReady (steps + 1) (V.serves self.new.vault) self.new) }
-        ensures seat { IsSeated V.faults V.allowance self.old self.new }
+        ensures seat { IsSeated V.allowance self.old self.new }
         ensures vault { self.new.vault ≡ self.old.vault }
-        ensures cause { IfOk result (λ a. HaveCauses (V.faults self.old.vault) (V.faults self.new.vault) (V.allowance self.new.vault) a.acts) }
-        ensures handed { IfOk result (λ a. a.handed ≡ a.kept) }
+        ensures given { IfOk result (IsGiven true (V.faults self.old.vault) (V.faults self.new.vault) (V.allowance self.new.vault) self.new.is_down) }
         ensures err { OnErr result (self.new ≡ self.old) }
     {
         let acts = Acts::new(vec![in self.alloc; Act::Released { trans }]?);
@@ -58,13 +69,13 @@ impl<V: Vault> Kept<V> {
 
     /// A transaction took too long: where it is live it ends without effect.
     pub fn time_out(&mut self, trans: TransId) -> Result<Answer, OutOfMemory>
+        requires up { self.old.is_down ≡ false }
         requires alone { self.old.locks.waiting ≡ [] }
         ensures stepped { (o : Start) (s : StateOf) → IsAs o s (V.held self.old.vault) self.old → IfOk result (λ a. Stepped o s (V.held self.new.vault) self.new (event.Timeout trans) a) }
         ensures ready { (steps : ℕ) → IsReady steps (V.serves self.old.vault) self.old → OnOk result (IsReady (steps + 1) (V.serves self.new.vault) self.new) }
-        ensures seat { IsSeated V.faults V.allowance self.old self.new }
+        ensures seat { IsSeated V.allowance self.old self.new }
         ensures vault { self.new.vault ≡ self.old.vault }
-        ensures cause { IfOk result (λ a. HaveCauses (V.faults self.old.vault) (V.faults self.new.vault) (V.allowance self.new.vault) a.acts) }
-        ensures handed { IfOk result (λ a. a.handed ≡ a.kept) }
+        ensures given { IfOk result (IsGiven false (V.faults self.old.vault) (V.faults self.new.vault) (V.allowance self.new.vault) self.new.is_down) }
         ensures err { OnErr result (self.new ≡ self.old) }
     {
         if !self.lives.has(&trans) {
@@ -86,9 +97,8 @@ impl<V: Vault> Kept<V> {
         requires sound { IsTrue (V.tells self.old.vault) → (l : ALive) → map.get self.old.lives trans ≡ Some l → (m : Cells) → map.get m ≡ over l.part.intents (map.get (V.held self.old.vault).cells) → AreSound m }
         ensures stepped { IsTrue (V.tells self.old.vault) → (o : Start) (s : StateOf) → IsAs o s (V.held self.old.vault) self.old → IfOk result (λ a. Stepped o s (V.held self.new.vault) self.new (event.Call turn.now.client self.old.epoch turn.now.number (call.Finish trans true)) a) }
         ensures ready { (steps : ℕ) → IsReady steps (V.serves self.old.vault) self.old → OnOk result (IsReady (steps + 1) (V.serves self.new.vault) self.new) }
-        ensures seat { IsSeated V.faults V.allowance self.old self.new }
-        ensures cause { IfOk result (λ a. HaveCauses (V.faults self.old.vault) (V.faults self.new.vault) (V.allowance self.new.vault) a.acts) }
-        ensures handed { IfOk result (λ a. a.handed ≡ a.kept) }
+        ensures seat { IsSeated V.allowance self.old self.new }
+        ensures given { IfOk result (IsGiven true (V.faults self.old.vault) (V.faults self.new.vault) (V.allowance self.new.vault) self.new.is_down) }
         ensures tells { V.tells self.new.vault ≡ V.tells self.old.vault }
         ensures still { (o : Start) (s : StateOf) → IsAs o s (V.held self.old.vault) self.old → OnErr result (IsAs o s (V.held self.new.vault) self.new) }
         ensures ready_still { (steps : ℕ) → IsReady steps (V.serves self.old.vault) self.old → OnErr result (IsReady steps (V.serves self.new.vault) self.new) }
@@ -98,12 +108,10 @@ impl<V: Vault> Kept<V> {
             ts: self.clock + 1,
             trans,
         };
-        let decided = Act::Decided {
-            stamp,
-            parts: Parts::new(Vec::new(self.alloc)),
-        };
+        let decided = decision(self.alloc, stamp);
         let acts = Acts::new(vec![in self.alloc; decided, Act::Released { trans }]?);
-        let halted = Vec::with_capacity(self.alloc, 1)?;
+        let mut halted = Vec::with_capacity(self.alloc, 2)?;
+        halted.push_reserved(decision(self.alloc, stamp));
         let answer = Answer::new(Reply::Committed { stamp }, acts)?;
         let Some(live) = self.lives.get(&trans) else {
             unreachable!()
@@ -122,7 +130,8 @@ impl<V: Vault> Kept<V> {
         Ok(answer)
     }
 
-    /// The vault gave no answer in a call: it failed or was stopped, and the server is down, or there was no memory.
+    /// The vault gave no answer in a call: it failed or was stopped, and the server is down, or there was no memory. The
+    /// acts name what the call would have written.
     pub fn halt(
         &mut self,
         turn: &Turn,
@@ -130,9 +139,8 @@ impl<V: Vault> Kept<V> {
         mut acts: Vec<Act>,
     ) -> Result<Answer, OutOfMemory>
         requires client { turn.now.client ≤ 16 }
-        requires none { acts.items ≡ [] }
-        requires room { 0 < vec_capacity acts }
-        ensures halted { IfOk result (λ a. IsHalted fault a) }
+        requires room { length acts.items < vec_capacity acts }
+        ensures halted { IfOk result (IsHalted acts.items fault) }
         ensures down { OnOk result (self.new ≡ record self.old { sessions = counted_in self.old.sessions turn.now; is_down = true }) }
         ensures memory { OnErr result (fault ≡ call_fault.OutOfMemory) }
         ensures err { OnErr result (self.new ≡ self.old) }

@@ -7,8 +7,8 @@ ghost use Rattle.alp_journal.specs.declared.event.Event.TheVariants as event;
 ghost use Rattle.alp_journal.specs.State.{State as StateOf, Start, file_trans};
 ghost use Rattle.alp_node.specs.Asks.{is_of_given, is_made as is_made_of, plan_for, count_made, with_plan};
 ghost use Rattle.alp_node.specs.Kept.{IsAs, IsReady};
-ghost use Rattle.alp_node.specs.Steps.{IsSeated, Stepped, IsTurn, IsOf};
-ghost use Rattle.alp_node.specs.Calls.{IsLockCall, HaveCauses};
+ghost use Rattle.alp_node.specs.Steps.{IsSeated, IsGiven, Stepped, IsTurn, IsOf};
+ghost use Rattle.alp_node.specs.Calls.{IsLockCall};
 
 use crate::answer::Answer;
 use crate::asks::{asks, asks_made};
@@ -39,9 +39,8 @@ impl<V: Vault> Kept<V> {
         requires known { IsTrue (V.tells self.old.vault) → (o : Start) × (s : StateOf) × IsAs o s (V.held self.old.vault) self.old }
         ensures stepped { IsTrue (V.tells self.old.vault) → (o : Start) (s : StateOf) → IsAs o s (V.held self.old.vault) self.old → IfOk result (λ a. Stepped o s (V.held self.new.vault) self.new (event.Call turn.now.client self.old.epoch turn.now.number call.now) a) }
         ensures ready { (steps : ℕ) → IsReady steps (V.serves self.old.vault) self.old → OnOk result (IsReady (steps + 1) (V.serves self.new.vault) self.new) }
-        ensures seat { IsSeated V.faults V.allowance self.old self.new }
-        ensures cause { IfOk result (λ a. HaveCauses (V.faults self.old.vault) (V.faults self.new.vault) (V.allowance self.new.vault) a.acts) }
-        ensures handed { IfOk result (λ a. a.handed ≡ a.kept) }
+        ensures seat { IsSeated V.allowance self.old self.new }
+        ensures given { IfOk result (IsGiven true (V.faults self.old.vault) (V.faults self.new.vault) (V.allowance self.new.vault) self.new.is_down) }
         ensures tells { V.tells self.new.vault ≡ V.tells self.old.vault }
         ensures still { (o : Start) (s : StateOf) → IsAs o s (V.held self.old.vault) self.old → OnErr result (IsAs o s (V.held self.new.vault) self.new) }
         ensures ready_still { (steps : ℕ) → IsReady steps (V.serves self.old.vault) self.old → OnErr result (IsReady steps (V.serves self.new.vault) self.new) }

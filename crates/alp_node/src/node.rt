@@ -3,6 +3,8 @@ ghost use Rattle.std.specs.Prelude.{◌≡◌, ◌+◌, ◌<◌, ◌≤◌, ◌^
 ghost use Rattle.alp_files.specs.declared.refusal.Refusal.TheVariants as refusal;
 ghost use Rattle.alp_files.specs.declared.reply.Reply.TheVariants as reply;
 ghost use Rattle.alp_journal.specs.declared.entry.Entry.{Entry as AnEntry};
+ghost use Rattle.alp_journal.specs.State.{State as StateOf, Start};
+ghost use Rattle.alp_node.specs.Kept.{IsAs};
 ghost use Rattle.alp_node.specs.Nodes.{IsKept, Answered, HasRoom};
 ghost use Rattle.alp_node.specs.Served.{IsServed};
 ghost use Rattle.alp_node.specs.Steps.{IsSeated, seen_in};
@@ -34,12 +36,13 @@ impl<V: Vault> Node<V> {
         requires clock { self.old.kept.clock < 2 ^ 62 }
         requires room { HasRoom self.old }
         ensures kept { IsKept V.tells V.serves V.held self.new }
-        ensures answered { self.old.kept.is_down ≡ false → IfOk result (λ r. Answered self.old.journal self.new.journal event r (V.faults self.old.kept.vault) (V.faults self.new.kept.vault) (V.allowance self.new.kept.vault)) }
+        ensures answered { self.old.kept.is_down ≡ false → IfOk result (λ r. Answered self.old.journal self.new.journal event r (V.faults self.old.kept.vault) (V.faults self.new.kept.vault) (V.allowance self.new.kept.vault) self.new.kept.is_down) }
         ensures down { self.old.kept.is_down ≡ true → IfOk result (λ r. r ≡ Some (reply.Refused refusal.Down)) }
         ensures still_down { self.old.kept.is_down ≡ true → IsOk result × (self.new ≡ self.old) }
         ensures err { OnErr result ((self.new.journal ≡ self.old.journal) × (self.new.kept.is_down ≡ self.old.kept.is_down)) }
+        ensures still { (o : Start) (s : StateOf) → IsAs o s (V.held self.old.kept.vault) self.old.kept → OnErr result (IsAs o s (V.held self.new.kept.vault) self.new.kept) }
         ensures opening { self.new.opening ≡ self.old.opening }
-        ensures seat { IsSeated V.faults V.allowance self.old.kept self.new.kept }
+        ensures seat { IsSeated V.allowance self.old.kept self.new.kept }
         ensures clock { IsTrue (V.tells self.old.kept.vault) → self.new.kept.clock ≤ max self.old.kept.clock (seen_in event) + 1 }
         ensures tells { V.tells self.new.kept.vault ≡ V.tells self.old.kept.vault }
     {

@@ -108,11 +108,12 @@ impl<V: Vault> Node<V> {
         ensures opening { IfOk result (λ n. n.opening.vault.value ≡ n.kept.vault) }
         ensures server { IfOk result (λ n. n.kept.server ≡ server) }
         ensures idle { IfOk result (λ n. (n.journal ≡ []) × (n.kept.sessions ≡ no_sessions) × (n.kept.lives ≡ map.empty) × (n.kept.is_down ≡ false)) }
-        ensures tells { IfOk result (λ n. V.tells n.kept.vault ≡ V.tells vault) }
+        ensures tells { MatchResult result (λ n. V.tells n.kept.vault ≡ V.tells vault) (λ e. V.tells e.0 ≡ V.tells vault) }
+        ensures sizes { MatchResult result (λ n. V.volume n.kept.vault ≡ V.volume vault) (λ e. V.volume e.0 ≡ V.volume vault) }
         ensures allowance { MatchResult result (λ n. Spends (V.allowance vault) (V.allowance n.kept.vault)) (λ e. Spends (V.allowance vault) (V.allowance e.0)) }
         ensures cause { IfErr result (λ e. HasStartCause (V.held vault) (V.faults vault) (V.faults e.0) (V.allowance e.0) e.1) }
         ensures untouched { IfErr result (λ e. IsNoteFault e.1 → e.0 ≡ vault) }
-        ensures same { IfErr result (λ e. e.1 ≡ StartFault.Vault vault_fault.OutOfMemory → V.held e.0 ≡ V.held vault) }
+        ensures same { IfErr result (λ e. e.1 ≡ StartFault.Vault vault_fault.OutOfMemory → (V.held e.0 ≡ V.held vault) × IsTrue (V.serves e.0)) }
     {
         let mut vault = vault;
         let clock = match next_clock(alloc, &vault) {

@@ -1,11 +1,9 @@
 -- a run that is over is one thread's history
-use Rattle.std.specs.Prelude.{max, true, false, Option, map as list_map}
+use Rattle.std.specs.Prelude.{max, Option, map as list_map}
 use Rattle.std.proofs.lemmas.List.{map-append}
-use Rattle.std.proofs.Common.{◌≡◌, ◌≤◌, ◌⊎◌, arith, ℕ, ◌+◌, List, [], ◌∷◌, ◌++◌, refl, sym, ◌∙◌, ap, subst, append_assoc, append-nil}
+use Rattle.std.proofs.Common.{◌≡◌, ◌≤◌, arith, ℕ, ◌+◌, List, [], ◌∷◌, ◌++◌, refl, sym, ◌∙◌, ap, subst, append_assoc, append-nil}
 use Rattle.alp_files.specs.declared.reply.Reply.{Reply}
 use Rattle.alp_base.specs.Allowances.{Spends}
-use Rattle.alp_base.specs.Causes.{Rose}
-use Rattle.alp_base.specs.declared.allowance.Allowance.TheVariants.{Spent}
 use Rattle.alp_base.specs.declared.ids.TransId.{TransId}
 use Rattle.alp_journal.specs.declared.entry.Entry.{Entry}
 use Rattle.alp_journal.specs.declared.event.Event.{Event}
@@ -67,12 +65,11 @@ promises lines c n logs h client =
 
 -- one transaction more took too long
 pub one_more_out : (calls : List Entry) (live : List TransId) (n m : Server) (t : TransId) (r : Option Reply) → HasTimedOut calls live n → IsKept m → start_in m ≡ start_in n
-    → Answered n.journal m.journal (event.Timeout t) r 0 0 m.kept.vault.allowance → m.kept.clock ≤ max n.kept.clock 0 + 1 → Spends n.kept.vault.allowance m.kept.vault.allowance
-    → (n.kept.is_down ≡ false → m.kept.is_down ≡ true → Rose 0 0 ⊎ (m.kept.vault.allowance ≡ Spent)) → HasTimedOut calls (live ++ t ∷ []) m
-one_more_out calls live n m t r h kept same a clock spends falls =
+    → Answered n.journal m.journal (event.Timeout t) r 0 0 m.kept.vault.allowance m.kept.is_down → m.kept.clock ≤ max n.kept.clock 0 + 1 → Spends n.kept.vault.allowance m.kept.vault.allowance → HasTimedOut calls (live ++ t ∷ []) m
+one_more_out calls live n m t r h kept same a clock spends =
     let e : Entry = record { event = event.Timeout t; reply = r; acts = a.acts } in
     record {
-      on = on_more n m 0 e h.on kept same a.entry (omega arith) clock spends falls a.causes;
+      on = on_more n m 0 e h.on kept same a.entry (omega arith) clock spends a.down a.causes;
       ends = h.ends ++ e ∷ [];
       journal = a.entry ∙ ap (λ (js : List Entry). js ++ e ∷ []) h.journal ∙ append_assoc calls h.ends (e ∷ []);
       ended =

@@ -25,7 +25,6 @@ use Rattle.alp_script.specs.Named.{client_named}
 use Rattle.alp_journal.specs.declared.act.Act.{Act}
 use Rattle.alp_journal.specs.declared.act.Act.TheVariants as act
 use Rattle.alp_journal.specs.declared.entry.Entry.{Entry}
-use Rattle.alp_journal.specs.declared.event.Event.{Event}
 use Rattle.alp_journal.specs.declared.log.Exchange.{Exchange}
 use Rattle.alp_journal.specs.declared.log.LineLog.{LineLog}
 use Rattle.alp_journal.specs.declared.event.Event.TheVariants as event
@@ -47,7 +46,7 @@ use Rattle.alp_client.specs.Crowds.{client_at, with_client, asks, hears, at_line
 use Rattle.alp_client.proofs.CrowdLemmas.{at_same, at_other, as_many}
 use Rattle.alp_node.specs.declared.sessions.Session as node_session
 use Rattle.alp_node.specs.Kept.{told_session}
-use Rattle.alp_node.specs.Calls.{HaveCauses}
+use Rattle.alp_node.specs.Halts.{HaveCauses}
 use Rattle.alp_node.specs.Served.{IsServed, IsTurnCall}
 use Rattle.alp_node.specs.Steps.{seen_in}
 use Rattle.alp_node.specs.Sessions.{session_at}
@@ -151,16 +150,16 @@ no_stop (act.Stopped ∷ more) causes = let wrong : Free ≡ Spent = causes.0 in
 
 -- and the server answers
 plain_answer : (s : State) (e : Entry) → HaveCauses 0 0 Free e.acts → HasCause s e → IsAnswered s e
-plain_answer s e causes h = subst (λ (b : Bool). AnswersBy s e.event e.reply e.acts b) (no_stop e.acts causes) h
+plain_answer s e causes h = (h.0, subst (λ (b : Bool). AnswersBy s e.event e.reply e.acts b) (no_stop e.acts causes) h.1)
 
 -- ---- a server goes on
 
 -- one entry more, and a clock that one step may raise
 pub on_more : (n m : Server) (seen : ℕ) (e : Entry) → IsOn n → IsKept m → start_in m ≡ start_in n → m.journal ≡ n.journal ++ e ∷ [] → seen ≤ n.kept.clock → m.kept.clock ≤ max n.kept.clock seen + 1
-    → Spends n.kept.vault.allowance m.kept.vault.allowance → (n.kept.is_down ≡ false → m.kept.is_down ≡ true → Rose 0 0 ⊎ (m.kept.vault.allowance ≡ Spent)) → HaveCauses 0 0 m.kept.vault.allowance e.acts → IsOn m
-on_more n m seen e on kept same journal low clock spends falls causes = record {
+    → Spends n.kept.vault.allowance m.kept.vault.allowance → m.kept.is_down ≡ list_any is_stop e.acts → HaveCauses 0 0 m.kept.vault.allowance e.acts → IsOn m
+on_more n m seen e on kept same journal low clock spends down causes = record {
   kept = kept;
-  up = up m.kept.is_down refl;
+  up = down ∙ no_stop e.acts free_causes;
   free = free;
   early = omega (arith, on.early, low, clock, ap (λ (js : List Entry). length js) journal, length-append n.journal (e ∷ []));
   answered =
@@ -171,16 +170,11 @@ on_more n m seen e on kept same journal low clock spends falls causes = record {
     free : m.kept.vault.allowance ≡ Free
     free = stays_free n.kept.vault.allowance m.kept.vault.allowance spends on.free
 
+    free_causes : HaveCauses 0 0 Free e.acts
+    free_causes = subst (λ (a : Allowance). HaveCauses 0 0 a e.acts) free causes
+
     here : IsAnswered (state_of n) e
-    here = plain_answer (state_of n) e (subst (λ (a : Allowance). HaveCauses 0 0 a e.acts) free causes) (law_more HasCause n m e same journal (kept.right refl).caused)
-
-    halted : Rose 0 0 ⊎ (m.kept.vault.allowance ≡ Spent) → ⊥
-    halted (inl h) = no_rise h
-    halted (inr h) = let wrong : Free ≡ Spent = sym free ∙ h in cc
-
-    up : (b : Bool) → m.kept.is_down ≡ b → m.kept.is_down ≡ false
-    up true is = absurd (halted (falls on.up is))
-    up false is = is
+    here = plain_answer (state_of n) e free_causes (law_more HasCause n m e same journal (kept.right refl).caused)
 
 -- ---- what a client is answered
 
@@ -378,8 +372,8 @@ pub record Went (n m : Server) (k : ℕ) (frame : Frame) (r : Option Reply) : Ty
   pub journal : m.journal ≡ n.journal ++ (record { event = event.Call k frame.epoch frame.number frame.call; reply = r; acts = acts }) ∷ []
   pub causes : HaveCauses 0 0 m.kept.vault.allowance acts
   pub clock : m.kept.clock ≤ max n.kept.clock (seen_in (event.Call k frame.epoch frame.number frame.call)) + 1
+  pub down : m.kept.is_down ≡ list_any is_stop acts
   pub spends : Spends n.kept.vault.allowance m.kept.vault.allowance
-  pub falls : n.kept.is_down ≡ false → m.kept.is_down ≡ true → Rose 0 0 ⊎ (m.kept.vault.allowance ≡ Spent)
 
 -- the frame's client saw no more than the clock
 frame_seen : (c : Client) (o : Option Greeted) (words : WordMap) (l : Line) (x : Call) (k : ℕ) → IsForm l → call_by words c l ≡ Some x
@@ -395,7 +389,7 @@ went_on c n m k l frame r step form e went =
     subst (λ (f : Frame). seen_in (event.Call k f.epoch f.number f.call) ≤ d.told.ts) (sym same) (frame_seen d d.session c.words l x k form is) in
     let clock : (state_of n).clock ≡ n.kept.clock = ((step.on.kept.right refl).kept).clock in
     on_more n m (seen_in (event.Call k frame.epoch frame.number frame.call)) (record { event = event.Call k frame.epoch frame.number frame.call; reply = r; acts = went.acts })
-    step.on went.kept went.start went.journal (omega (arith, seen, (step.each k).told, clock)) went.clock went.spends went.falls went.causes
+    step.on went.kept went.start went.journal (omega (arith, seen, (step.each k).told, clock)) went.clock went.spends went.down went.causes
 
 module _ (c : Crowd) (n m : Server) (k : ℕ) (l : Line) (frame : Frame) (r : Option Reply) (step : InStep c n) (small : k ≤ 16) (form : IsForm l) (asked : asks c k l false ≡ Some frame) (went : Went n m k frame r) where
   abbrev d : Client
@@ -432,7 +426,7 @@ module _ (c : Crowd) (n m : Server) (k : ℕ) (l : Line) (frame : Frame) (r : Op
   heard_step : InStep (hears c k l r).0 m
   heard_step =
       let (x, is, same) = frame_there d d.session (call_by c.words d l) frame asked in
-      let (y, handed, answer) = some_answer (state_of n) k frame.epoch frame.number frame.call r went.acts plain in
+      let (y, handed, answer) = some_answer (state_of n) k frame.epoch frame.number frame.call r went.acts plain.1 in
       let words : WordMap = words_heard c.words d.session l r in
       record {
         on = on;

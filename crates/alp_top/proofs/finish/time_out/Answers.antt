@@ -1,4 +1,4 @@
-use Rattle.std.proofs.Common.{◌≡◌, ◌+◌, ◌≤◌, length, take, ℕ, List, refl, sym, ap, ◌∙◌, subst, arith}
+use Rattle.std.proofs.Common.{◌≡◌, take, ℕ, List, refl, sym, ap, ◌∙◌, subst, arith}
 use Rattle.std.proofs.lemmas.List.{take_more}
 use Rattle.alp_base.specs.declared.ids.TransId.{TransId}
 use Rattle.alp_vault.specs.MemVault.{held_by}
@@ -23,7 +23,7 @@ loop-trans-preserved c =
     record {
       timed =
           subst (λ (ts : List TransId). HasTimedOut c.args.node.now.journal ts m) (sym (take_more c.args.live.now i _ c.loop-trans-test.true))
-          (one_more_out c.args.node.now.journal (take i c.args.live.now) n m _ c.in_ok-step.field-0 before.timed h.kept same a (h.clock refl) h.seat.spends h.seat.falls);
+          (one_more_out c.args.node.now.journal (take i c.args.live.now) n m _ c.in_ok-step.field-0 before.timed h.kept same a (h.clock refl) h.seat.spends);
       start = same ∙ before.start;
       short = omega (arith, before.short, counted_pushed n.journal m.journal _ a.entry);
     }

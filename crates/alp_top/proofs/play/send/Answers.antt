@@ -28,7 +28,7 @@ returns c =
       causes = answered.causes;
       clock = h.clock refl;
       spends = h.seat.spends;
-      falls = h.seat.falls;
+      down = answered.down;
     } in
     exchanged c.args.clients.now c.args.node.now c.step.new.self c.args.client c.args.line.now c.args.frame c.in_ok-reply.reply c.requires.step c.requires.client c.requires.form c.requires.asked went
     c.hears.new.self c.in_ok-is_over.is_over c.in_ok-sent.sent (length c.entries.result.now) c.in_ok-is_over.ensures.ok c.in_ok-sent.ensures (ap (λ (js : List Entry). length js) (c.entries.ensures ∙ c.journal.ensures))

@@ -1,6 +1,7 @@
+use Rattle.alp_node.proofs.GivenLemmas.{reply_given}
 use Rattle.std.specs.Prelude.{Some, false}
 use Rattle.std.specs.FinMap as map
-use Rattle.std.proofs.Common.{◌≡◌, ◌+◌, List, [], ◌∷◌, sym, ap, ◌∙◌, subst}
+use Rattle.std.proofs.Common.{◌≡◌, ◌+◌, List, [], ◌∷◌, sym, ap, ◌∙◌, subst, refl}
 use Rattle.alp_files.specs.declared.call.Call.TheVariants as call
 use Rattle.alp_files.specs.declared.reply.Reply.TheVariants as reply
 use Rattle.alp_files.specs.declared.refusal.Refusal.TheVariants as refusal
@@ -37,3 +38,11 @@ returns-clause-ready g c n h =
     subst (λ (x : Kept _). IsReady (n + 1) (serves x.vault) (record x { sessions = c.count.new.self })) (sym c.forget.ensures)
     (subst (λ (x : Sessions). IsReady (n + 1) (serves k.vault) (record (without_trans k c.args.trans) { sessions = x })) (sym (c.count.ensures ∙ ap (λ (x : Kept _). counted_in x.sessions turn) c.forget.ensures))
     (counted_ready n (serves k.vault) (without_trans k c.args.trans) turn c.requires.turn (gone_ready n (serves k.vault) k c.args.trans h)))
+
+pub returns-clause-given : goal.returns-clause-given
+returns-clause-given g c =
+    let k = c.args.self.now in
+    let is : c.refused.result ≡ record { kept = Some (reply.Refused (refusal.Aborted cause.Asked)); handed = Some (reply.Refused (refusal.Aborted cause.Asked)); acts = act.Released c.args.trans ∷ [] } =
+    c.refused.ensures ∙ ap (λ (acts : List Act). record { kept = Some (reply.Refused (refusal.Aborted cause.Asked)); handed = Some (reply.Refused (refusal.Aborted cause.Asked)); acts = acts }) (c.new-acts.ensures ∙ c.in_ok-vec.ensures.items) in
+    reply_given (g.V.Vault.faults k.vault) (g.V.Vault.faults c.forget.new.self.vault) (g.V.Vault.allowance c.forget.new.self.vault) c.forget.new.self.is_down
+    (reply.Refused (refusal.Aborted cause.Asked)) (act.Released c.args.trans ∷ []) c.refused.result is refl (ap (λ (x : Kept _). x.is_down) c.forget.ensures ∙ c.requires.up) tt

@@ -1,3 +1,4 @@
+use Rattle.alp_node.proofs.GivenLemmas.{reply_given}
 use Rattle.std.specs.Prelude.{Some, None, max}
 use Rattle.std.specs.FinMap as map
 use Rattle.std.proofs.Common.{◌≡◌, ℕ, ◌+◌, List, [], ◌∷◌, sym, ap, ◌∙◌, subst, refl}
@@ -74,3 +75,11 @@ returns-clause-ready g c n h =
     (subst (λ (x : LiveMap). IsReady (n + 1) serves (record k { clock = clock; drawn = k.drawn + 1; sessions = counted_in k.sessions turn; lives = x; locks = c.enter.new.self })) (sym lives)
     (subst (λ (x : Table). IsReady (n + 1) serves (record k { clock = clock; drawn = k.drawn + 1; sessions = counted_in k.sessions turn; lives = map.insert k.lives t l; locks = x })) (sym c.in_ok-enter.ensures.after)
     (begin_ready n serves k turn t l clock c.requires.turn refl c.new-2.ensures.own h)))
+
+pub returns-clause-given : goal.returns-clause-given
+returns-clause-given g c =
+    let k = c.args.self.now in
+    let t : TransId = record { server = k.server; epoch = k.epoch; counter = k.drawn + 1 } in
+    let is : c.in_ok-answer.answer ≡ record { kept = Some (reply.Begun t); handed = Some (reply.Begun t); acts = act.Drawn t ∷ [] } =
+    c.in_ok-answer.ensures.ok ∙ ap (λ (acts : List Act). record { kept = Some (reply.Begun t); handed = Some (reply.Begun t); acts = acts }) (c.new-acts.ensures ∙ c.in_ok-vec.ensures.items) in
+    reply_given (g.V.Vault.faults k.vault) (g.V.Vault.faults k.vault) (g.V.Vault.allowance k.vault) k.is_down (reply.Begun t) (act.Drawn t ∷ []) c.in_ok-answer.answer is refl c.requires.up tt

@@ -15,8 +15,7 @@ returns g c =
           (sym (in_turn_epoch k c.args.client epoch c.args.number c.args.call.now c.in-Some.session (sym c.get.ensures ∙ c.in-Some.is) served.2)) (did.stepped tells o s h);
       ready = did.ready;
       seat = did.seat;
-      cause = did.cause;
-      handed = did.handed;
+      given = did.given;
       tells = did.tells;
       still = did.still;
       ready_still = did.ready_still;

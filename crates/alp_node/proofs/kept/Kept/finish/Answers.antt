@@ -1,4 +1,9 @@
-use Rattle.std.proofs.Common.{◌+◌, sym, ◌∙◌, subst}
+use Rattle.alp_files.specs.declared.refusal.Refusal.TheVariants as refusal
+use Rattle.alp_files.specs.declared.reply.Reply.TheVariants as reply
+use Rattle.alp_node.specs.Steps.{IsGiven}
+use Rattle.alp_node.proofs.GivenLemmas.{reply_given}
+use Rattle.std.specs.Prelude.{true}
+use Rattle.std.proofs.Common.{◌+◌, sym, ◌∙◌, subst, refl, []}
 use Rattle.alp_node.specs.Kept.{IsReady}
 use Rattle.alp_node.specs.declared.kept.Kept.{Kept}
 use Rattle.alp_node.proofs.ReadyLemmas.{counted_ready}
@@ -17,3 +22,9 @@ returns-then-not-is_own-clause-ready g c steps h =
 
 pub commit-requires-clause-sound : goal.commit-requires-clause-sound
 commit-requires-clause-sound g c tells = c.requires.sound tells c.args.trans
+
+pub returns-then-not-is_own-clause-given : goal.returns-then-not-is_own-clause-given
+returns-then-not-is_own-clause-given g c =
+    let k = c.args.self.now in
+    subst (λ (n : Kept g.row.V.Denot). IsGiven true (g.V.Vault.faults k.vault) (g.V.Vault.faults n.vault) (g.V.Vault.allowance n.vault) n.is_down c.refuse.result) (sym c.refuse.ensures.kept)
+    (reply_given (g.V.Vault.faults k.vault) (g.V.Vault.faults k.vault) (g.V.Vault.allowance k.vault) k.is_down (reply.Refused refusal.UnknownTrans) [] c.refuse.result c.refuse.ensures.answer refl c.requires.up tt)

@@ -1,6 +1,6 @@
 use Rattle.std.specs.Prelude.{Some, IfOk, true}
 use Rattle.std.specs.FinMap as map
-use Rattle.std.proofs.Common.{◌≡◌, ℕ, ◌+◌, ◌≤◌, List, le_refl, arith, sym, ap, ◌∙◌, subst, refl}
+use Rattle.std.proofs.Common.{◌≡◌, ℕ, ◌+◌, ◌≤◌, List, le_refl, arith, sym, ap, ◌∙◌, subst, refl, []}
 use Rattle.alp_files.proofs.UndoLemmas.{on_err}
 use Rattle.alp_files.specs.Act.{Own}
 use Rattle.alp_files.specs.declared.reply.Reply.TheVariants as reply
@@ -9,14 +9,16 @@ use Rattle.alp_journal.specs.State.{done_by}
 use Rattle.alp_journal.specs.declared.act.Act.{Act}
 use Rattle.alp_journal.specs.declared.event.Event.TheVariants as event
 use Rattle.alp_node.specs.Kept.{IsAs, IsReady}
-use Rattle.alp_node.specs.Steps.{Stepped, counted_in}
+use Rattle.alp_node.specs.Steps.{Stepped, IsHalted, counted_in}
 use Rattle.alp_node.specs.declared.kept.Kept.{Kept}
 use Rattle.alp_node.specs.declared.sessions.Sessions.{Sessions}
-use Rattle.alp_node.proofs.KeptLemmas.{of_client, halted_stepped, halted_ready, halted_cause, halted_still}
+use Rattle.alp_node.proofs.KeptLemmas.{of_client, halted_stepped, halted_ready, halted_still}
 use Rattle.alp_node.proofs.CallLemmas.{unseen, part_still}
 use Rattle.alp_node.proofs.PerformLemmas.{page_stepped, page_plain, gave_told, part_ready, turn_kept, looked_left, looked_failed, looked_stopped, looked_serves, halted_vault, err_same}
 use Rattle.alp_node.proofs.ReadyLemmas.{counted_ready}
-use Rattle.alp_node.proofs.SeatLemmas.{seated_under, seated_from, spends_same, halted_seated, halted_handed}
+use Rattle.alp_node.proofs.SeatLemmas.{seated_from, spends_same, halted_seated}
+use Rattle.alp_node.proofs.GivenLemmas.{nothing_written, halted_given, reply_given, own_tells}
+use Rattle.alp_node.proofs.CauseLemmas.{file_writes}
 use Rattle.alp_node.proofs.kept.Kept.page_call.Goals as goal
 
 pub perform-requires-clause-new : goal.perform-requires-clause-new
@@ -89,9 +91,10 @@ returns-in-Err-clause-stepped g c told o s h =
     let turn_now = turn_kept N.sessions k.sessions turn (ap (λ (x : Kept _). x.sessions) did.kept) c.requires.turn in
     let kinds = page_plain s c.args.call.now (reply.Refused refusal.Down) c.requires.page in
     subst (λ (n : ℕ). IfOk c.halt.result (Stepped o s (held c.halt.new.self.vault) c.halt.new.self (event.Call turn.client n turn.number c.args.call.now))) (ap (λ (x : Kept _). x.epoch) did.kept)
-    (halted_stepped o s (held N.vault) N turn.client turn.session turn.number c.args.call.now N.vault (held c.halt.new.self.vault) c.in-Err.fault c.halt.result c.halt.new.self
+    (halted_stepped o s (held N.vault) N turn.client turn.session turn.number c.args.call.now N.vault (held c.halt.new.self.vault) [] c.in-Err.fault c.halt.result c.halt.new.self nothing_written (file_writes s c.args.call.now c.args.trans c.requires.named)
     still turn_now.client turn_now.session turn_now.number kinds.kind
-    (ap (done_by s c.args.call.now (reply.Refused refusal.ReadFault)) c.requires.named) (ap (done_by s c.args.call.now (reply.Refused refusal.Down)) c.requires.named) c.halt.ensures.halted c.halt.ensures.down)
+    (ap (done_by s c.args.call.now (reply.Refused refusal.ReadFault)) c.requires.named) (ap (done_by s c.args.call.now (reply.Refused refusal.Down)) c.requires.named)
+    (subst (λ (ws : List Act). IfOk c.halt.result (IsHalted ws c.in-Err.fault)) c.in_ok-halted.ensures.items c.halt.ensures.halted) c.halt.ensures.down)
 
 pub returns-in-Err-clause-ready : goal.returns-in-Err-clause-ready
 returns-in-Err-clause-ready g c n h =
@@ -105,14 +108,14 @@ returns-in-Err-clause-ready g c n h =
     let ready = subst (IsReady n true) (sym did.kept) (part_ready n (g.V.Vault.serves k.vault) true k c.args.trans l did.part N.vault n refl there low (le_refl n) h) in
     halted_ready n true (g.V.Vault.serves c.halt.new.self.vault) N N.vault turn c.halt.result c.halt.new.self (turn_kept N.sessions k.sessions turn (ap (λ (x : Kept _). x.sessions) did.kept) c.requires.turn) ready c.halt.ensures.down
 
-pub returns-in-Err-clause-cause : goal.returns-in-Err-clause-cause
-returns-in-Err-clause-cause g c =
+pub returns-in-Err-clause-given : goal.returns-in-Err-clause-given
+returns-in-Err-clause-given g c =
     let k = c.args.self.now in
     let N = c.perform.new.self in
-    halted_cause g.V.Vault.faults g.V.Vault.allowance (g.V.Vault.faults k.vault) c.in-Err.fault c.halt.result c.halt.new.self (record N { sessions = counted_in N.sessions c.args.turn.now; is_down = true })
+    halted_given g.V.Vault.faults g.V.Vault.allowance (g.V.Vault.faults k.vault) [] c.in-Err.fault c.halt.result c.halt.new.self (record N { sessions = counted_in N.sessions c.args.turn.now; is_down = true }) nothing_written
     (looked_failed g.V.Vault.tells g.V.Vault.serves g.V.Vault.volume g.V.Vault.held g.V.Vault.may_leave g.V.Vault.left_since g.V.Vault.faults g.V.Vault.allowance k.vault N.vault c.in-Err.fault c.in-Err.ensures.looked)
     (looked_stopped g.V.Vault.tells g.V.Vault.serves g.V.Vault.volume g.V.Vault.held g.V.Vault.may_leave g.V.Vault.left_since g.V.Vault.faults g.V.Vault.allowance k.vault N.vault c.in-Err.fault c.in-Err.ensures.looked)
-    c.halt.ensures.halted c.halt.ensures.down
+    refl (subst (λ (ws : List Act). IfOk c.halt.result (IsHalted ws c.in-Err.fault)) c.in_ok-halted.ensures.items c.halt.ensures.halted) c.halt.ensures.down
 
 pub returns-in-Err-clause-tells : goal.returns-in-Err-clause-tells
 returns-in-Err-clause-tells g c =
@@ -150,16 +153,22 @@ returns-in_err-answer-in-Ok-clause-seat g c =
     let k = c.args.self.now in
     let (l, there, own) = of_client c.args.turn.now.client (map.get k.lives c.args.trans) c.requires.own in
     let same = (c.in-Ok.ensures.performed l there).kept in
-    seated_under g.V.Vault.faults g.V.Vault.allowance k c.perform.new.self (ap (λ (x : Kept _). x.server) same) (ap (λ (x : Kept _). x.epoch) same)
-    (spends_same (g.V.Vault.allowance k.vault) (g.V.Vault.allowance c.perform.new.self.vault) c.in-Ok.ensures.looked.0.allowed) (ap (λ (x : Kept _). x.is_down) same)
+    record {
+      server = ap (λ (x : Kept _). x.server) same;
+      epoch = ap (λ (x : Kept _). x.epoch) same;
+      spends = spends_same (g.V.Vault.allowance k.vault) (g.V.Vault.allowance c.perform.new.self.vault) c.in-Ok.ensures.looked.0.allowed;
+    }
 
 pub returns-in_ok-answer-in-Ok-clause-seat : goal.returns-in_ok-answer-in-Ok-clause-seat
 returns-in_ok-answer-in-Ok-clause-seat g c =
     let k = c.args.self.now in
     let (l, there, own) = of_client c.args.turn.now.client (map.get k.lives c.args.trans) c.requires.own in
     let same = (c.in-Ok.ensures.performed l there).kept in
-    seated_under g.V.Vault.faults g.V.Vault.allowance k (record c.perform.new.self { sessions = c.count.new.self }) (ap (λ (x : Kept _). x.server) same) (ap (λ (x : Kept _). x.epoch) same)
-    (spends_same (g.V.Vault.allowance k.vault) (g.V.Vault.allowance c.perform.new.self.vault) c.in-Ok.ensures.looked.0.allowed) (ap (λ (x : Kept _). x.is_down) same)
+    record {
+      server = ap (λ (x : Kept _). x.server) same;
+      epoch = ap (λ (x : Kept _). x.epoch) same;
+      spends = spends_same (g.V.Vault.allowance k.vault) (g.V.Vault.allowance c.perform.new.self.vault) c.in-Ok.ensures.looked.0.allowed;
+    }
 
 pub returns-in-Err-clause-seat : goal.returns-in-Err-clause-seat
 returns-in-Err-clause-seat g c =
@@ -168,15 +177,9 @@ returns-in-Err-clause-seat g c =
     let (l, there, own) = of_client c.args.turn.now.client (map.get k.lives c.args.trans) c.requires.own in
     let same = (c.in-Err.ensures.performed l there).kept in
     let left = looked_left g.V.Vault.tells g.V.Vault.serves g.V.Vault.volume g.V.Vault.held g.V.Vault.may_leave g.V.Vault.left_since g.V.Vault.faults g.V.Vault.allowance k.vault N.vault c.in-Err.fault c.in-Err.ensures.looked in
-    seated_from g.V.Vault.faults g.V.Vault.allowance k N c.halt.new.self (ap (λ (x : Kept _). x.server) same) (ap (λ (x : Kept _). x.epoch) same) (ap (λ (x : Kept _). x.is_down) same)
-    (halted_seated g.V.Vault.faults g.V.Vault.allowance (record N { vault = k.vault }) N.vault (counted_in N.sessions c.args.turn.now) c.in-Err.fault c.halt.result c.halt.new.self
-    (spends_same (g.V.Vault.allowance k.vault) (g.V.Vault.allowance N.vault) left.allowed)
-    (looked_failed g.V.Vault.tells g.V.Vault.serves g.V.Vault.volume g.V.Vault.held g.V.Vault.may_leave g.V.Vault.left_since g.V.Vault.faults g.V.Vault.allowance k.vault N.vault c.in-Err.fault c.in-Err.ensures.looked)
-    (looked_stopped g.V.Vault.tells g.V.Vault.serves g.V.Vault.volume g.V.Vault.held g.V.Vault.may_leave g.V.Vault.left_since g.V.Vault.faults g.V.Vault.allowance k.vault N.vault c.in-Err.fault c.in-Err.ensures.looked)
-    c.halt.ensures.halted c.halt.ensures.down c.halt.ensures.err)
-
-pub returns-in-Err-clause-handed : goal.returns-in-Err-clause-handed
-returns-in-Err-clause-handed g c = halted_handed c.in-Err.fault c.halt.result c.halt.ensures.halted
+    seated_from g.V.Vault.allowance k N c.halt.new.self (ap (λ (x : Kept _). x.server) same) (ap (λ (x : Kept _). x.epoch) same)
+    (halted_seated g.V.Vault.allowance (record N { vault = k.vault }) c.halt.new.self N.vault (counted_in N.sessions c.args.turn.now) c.halt.result
+    (spends_same (g.V.Vault.allowance k.vault) (g.V.Vault.allowance N.vault) left.allowed) c.halt.ensures.down c.halt.ensures.err)
 
 pub returns-in-Err-clause-up : goal.returns-in-Err-clause-up
 returns-in-Err-clause-up g c =
@@ -188,3 +191,15 @@ pub returns-in_err-answer-in-Ok-clause-up : goal.returns-in_err-answer-in-Ok-cla
 returns-in_err-answer-in-Ok-clause-up g c =
     let (l, there, own) = of_client c.args.turn.now.client (map.get c.args.self.now.lives c.args.trans) c.requires.own in
     on_err c.from_residual-in_err-answer-in-Ok.result _ (ap (λ (x : Kept _). x.is_down) (c.in-Ok.ensures.performed l there).kept)
+
+pub returns-in_ok-answer-in-Ok-clause-given : goal.returns-in_ok-answer-in-Ok-clause-given
+returns-in_ok-answer-in-Ok-clause-given g c =
+    let k = c.args.self.now in
+    let N = c.perform.new.self in
+    let (l, there, own) = of_client c.args.turn.now.client (map.get k.lives c.args.trans) c.requires.own in
+    let did = c.in-Ok.ensures.performed l there in
+    let r = c.in-Ok.reply in
+    let is : c.in_ok-answer-in-Ok.answer ≡ record { kept = Some r; handed = Some r; acts = [] } =
+    c.in_ok-answer-in-Ok.ensures.ok ∙ ap (λ (acts : List Act). record { kept = Some r; handed = Some r; acts = acts }) (c.new-in-Ok.ensures ∙ c.new.ensures.items) in
+    reply_given (g.V.Vault.faults k.vault) (g.V.Vault.faults N.vault) (g.V.Vault.allowance N.vault) N.is_down r [] c.in_ok-answer-in-Ok.answer is (sym (own_tells r did.outcome.own))
+    (ap (λ (x : Kept _). x.is_down) did.kept ∙ c.requires.up) tt

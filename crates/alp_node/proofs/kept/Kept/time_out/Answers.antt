@@ -1,6 +1,7 @@
+use Rattle.alp_node.proofs.GivenLemmas.{silence_given}
 use Rattle.std.specs.Prelude.{None}
 use Rattle.std.specs.FinMap as map
-use Rattle.std.proofs.Common.{◌≡◌, ◌+◌, List, [], ◌∷◌, sym, ap, ◌∙◌, subst}
+use Rattle.std.proofs.Common.{◌≡◌, ◌+◌, List, [], ◌∷◌, sym, ap, ◌∙◌, subst, refl}
 use Rattle.alp_journal.specs.declared.act.Act.{Act}
 use Rattle.alp_journal.specs.declared.act.Act.TheVariants as act
 use Rattle.alp_journal.specs.declared.event.Event.TheVariants as event
@@ -36,3 +37,18 @@ returns-clause-ready g c n h =
     let k = c.args.self.now in
     subst (λ (x : Kept _). IsReady (n + 1) (g.V.Vault.serves x.vault) x) (sym c.forget.ensures)
     (stepped_ready n (g.V.Vault.serves k.vault) (without_trans k c.args.trans) (gone_ready n (g.V.Vault.serves k.vault) k c.args.trans h))
+
+pub returns-then-not-has-clause-given : goal.returns-then-not-has-clause-given
+returns-then-not-has-clause-given g c =
+    let k = c.args.self.now in
+    let is : c.silence.result ≡ record { kept = None; handed = None; acts = [] } =
+    c.silence.ensures ∙ ap (λ (acts : List Act). record { kept = None; handed = None; acts = acts }) (c.new-then-not-has.ensures ∙ c.new.ensures.items) in
+    silence_given (g.V.Vault.faults k.vault) (g.V.Vault.faults k.vault) (g.V.Vault.allowance k.vault) k.is_down [] c.silence.result is refl c.requires.up tt
+
+pub returns-clause-given : goal.returns-clause-given
+returns-clause-given g c =
+    let k = c.args.self.now in
+    let is : c.silence-2.result ≡ record { kept = None; handed = None; acts = act.Released c.args.trans ∷ [] } =
+    c.silence-2.ensures ∙ ap (λ (acts : List Act). record { kept = None; handed = None; acts = acts }) (c.new-acts.ensures ∙ c.in_ok-vec.ensures.items) in
+    silence_given (g.V.Vault.faults k.vault) (g.V.Vault.faults c.forget.new.self.vault) (g.V.Vault.allowance c.forget.new.self.vault) c.forget.new.self.is_down
+    (act.Released c.args.trans ∷ []) c.silence-2.result is refl (ap (λ (x : Kept _). x.is_down) c.forget.ensures ∙ c.requires.up) tt

@@ -1,9 +1,10 @@
-use Rattle.std.proofs.Common.{◌≡◌, ◌∷◌, [], ◌++◌, ℕ, arith, refl, sym, subst, ◌∙◌}
+use Rattle.std.proofs.Common.{◌≡◌, ℕ, arith, refl, sym, subst, ◌∙◌}
+use Rattle.std.specs.Prelude.{Option}
+use Rattle.alp_files.specs.declared.reply.Reply.{Reply}
 use Rattle.alp_journal.specs.State.{Start}
 use Rattle.alp_node.specs.declared.kept.Kept.{Kept}
 use Rattle.alp_node.specs.declared.node.Node.{Node}
-use Rattle.alp_node.specs.Calls.{HaveCauses}
-use Rattle.alp_node.specs.Nodes.{IsKept, start_in, state_of}
+use Rattle.alp_node.specs.Nodes.{IsKept, Answered, start_in, state_of}
 use Rattle.alp_node.specs.Steps.{IsSeated, IsTimely}
 use Rattle.alp_node.proofs.NodeLemmas.{lives_sound, step_kept, still_kept}
 use Rattle.alp_node.proofs.node.Node.step.Goals as goal
@@ -26,17 +27,23 @@ returns-in-Ok-clause-kept g c =
 
 pub returns-in-Ok-clause-answered : goal.returns-in-Ok-clause-answered
 returns-in-Ok-clause-answered g c up =
-    let reply : c.in-Ok.answer.kept ≡ c.enter.result = sym (c.enter.ensures.handed ∙ c.in-Ok.ensures.handed) in
+    let given = c.in-Ok.ensures.given in
+    let reply : c.in-Ok.answer.kept ≡ c.enter.result = sym (c.enter.ensures.handed ∙ given.handed) in
     let kept : c.answer.new.self ≡ c.enter.new.self.kept = sym c.enter.ensures.kept.0 in
-    record {
+    let old = c.args.self.now in
+    subst (λ (r : Option Reply). Answered old.journal c.enter.new.self.journal c.args.event r (g.V.Vault.faults old.kept.vault) (g.V.Vault.faults c.enter.new.self.kept.vault) (g.V.Vault.allowance c.enter.new.self.kept.vault) c.enter.new.self.kept.is_down) reply
+    (subst (λ (k : Kept g.row.V.Denot). Answered old.journal c.enter.new.self.journal c.args.event c.in-Ok.answer.kept (g.V.Vault.faults old.kept.vault) (g.V.Vault.faults k.vault) (g.V.Vault.allowance k.vault) k.is_down) kept
+    (record {
       acts = c.in-Ok.answer.acts;
-      entry = c.enter.ensures.filled c.args.self.now.journal (c.in_ok-make_place.ensures.ok.0) (c.in_ok-make_place.ensures.ok.1)
-          ∙ (λ i. c.args.self.now.journal ++ (record { event = c.args.event; reply = reply i; acts = c.in-Ok.answer.acts }) ∷ []);
-      causes = subst (λ (k : Kept g.row.V.Denot). HaveCauses (g.V.Vault.faults c.args.self.now.kept.vault) (g.V.Vault.faults k.vault) (g.V.Vault.allowance k.vault) c.in-Ok.answer.acts) kept c.in-Ok.ensures.cause;
-    }
+      entry = c.enter.ensures.filled old.journal (c.in_ok-make_place.ensures.ok.0) (c.in_ok-make_place.ensures.ok.1);
+      replies = given.replies;
+      halts = given.halts;
+      down = given.down;
+      causes = given.causes;
+    }))
 
 pub returns-in-Ok-clause-seat : goal.returns-in-Ok-clause-seat
-returns-in-Ok-clause-seat g c = subst (IsSeated g.V.Vault.faults g.V.Vault.allowance c.args.self.now.kept) (sym c.enter.ensures.kept.0) c.answer.ensures.seat
+returns-in-Ok-clause-seat g c = subst (IsSeated g.V.Vault.allowance c.args.self.now.kept) (sym c.enter.ensures.kept.0) c.answer.ensures.seat
 
 pub returns-in-Ok-clause-clock : goal.returns-in-Ok-clause-clock
 returns-in-Ok-clause-clock g c tells =
