@@ -9,7 +9,7 @@ use Rattle.alp_base.specs.declared.ids.Stamp.{Stamp}
 use Rattle.alp_base.specs.declared.ids.TransId.{TransId}
 use Rattle.alp_base.specs.declared.key.Resource.{Resource}
 use Rattle.alp_modes.specs.Orders.{trans_cmp, resource_cmp}
-use Rattle.alp_modes.specs.Holdings.{agree_held, DoAgree}
+use Rattle.alp_modes.specs.Holdings.{agree_held}
 use Rattle.alp_files.specs.declared.call.Call.{Call}
 use Rattle.alp_files.specs.declared.call.Call.TheVariants as call
 use Rattle.alp_files.specs.declared.reply.Reply.{Reply}
@@ -24,7 +24,7 @@ use Rattle.alp_journal.specs.declared.event.Event.{Event}
 use Rattle.alp_journal.specs.declared.event.Event.TheVariants as event
 use Rattle.alp_journal.specs.declared.entry.Entry.{Entry}
 use Rattle.alp_journal.specs.State.{State, Life, Kind, Greets, kind_of, same_trans, is_new, is_of_no_file, answer_in, file_trans, held_for, is_stop}
-use Rattle.alp_journal.specs.Laws.{next_trans, times_out}
+use Rattle.alp_journal.specs.Laws.{IsFree, next_trans, times_out}
 
 -- ---- locks
 
@@ -41,10 +41,6 @@ pub record IsLeastHolder (s : State) (t : TransId) (l : Life) (c : Call) (holder
   pub stands : IsInWay s t l c on holder
   pub least : (u : TransId) → IsInWay s t l c on u → IsLeBy trans_cmp holder u
   pub first : (r : Resource) (u : TransId) → is_lt (resource_cmp r on) ≡ true → IsInWay s t l c r u → ⊥
-
--- nobody is in the way
-abbrev pub IsFree : State → TransId → Life → Call → Type 0
-IsFree s t l c = (u : TransId) (k : Life) → s.lives u ≡ Some k → same_trans u t ≡ false → DoAgree k.held (held_for s l c)
 
 -- ---- file calls
 

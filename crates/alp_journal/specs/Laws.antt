@@ -94,11 +94,14 @@ abbrev pub ReleasesEnded : State → Entry → Type 0
 ReleasesEnded s e =
     flat_map released_by (brought e.acts) ≡ (if list_any is_stop e.acts then [] else ended_in s e.event e.reply) ++ flat_map ended_by (brought e.acts)
 
--- nobody is left waiting for locks that agree with all that the others hold
+-- what the part would hold for the call agrees with all that the others hold
+abbrev pub IsFree : State → TransId → Life → Call → Type 0
+IsFree s t l c = (u : TransId) (k : Life) → s.lives u ≡ Some k → same_trans u t ≡ false → DoAgree k.held (held_for s l c)
+
+-- nobody is left waiting whose way is free
 abbrev pub WaitsInTurn : State → Type 0
 WaitsInTurn s =
-    (client : ℕ) (w : Waiting) (t : TransId) (l : Life) → s.waiting client ≡ Some w → w.is_granted ≡ false → file_trans w.call ≡ Some t → s.lives t ≡ Some l
-    → ((u : TransId) (k : Life) → s.lives u ≡ Some k → same_trans u t ≡ false → DoAgree k.held (held_for s l w.call)) → ⊥
+    (client : ℕ) (w : Waiting) (t : TransId) (l : Life) → s.waiting client ≡ Some w → w.is_granted ≡ false → file_trans w.call ≡ Some t → s.lives t ≡ Some l → IsFree s t l w.call → ⊥
 
 -- ---- performed calls
 

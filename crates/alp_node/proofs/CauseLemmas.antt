@@ -7,7 +7,7 @@ use Rattle.alp_files.specs.declared.call.Call.TheVariants as call
 use Rattle.alp_files.specs.declared.reply.Reply.{Reply}
 use Rattle.alp_journal.specs.declared.act.Act.{Act}
 use Rattle.alp_journal.specs.declared.act.Act.TheVariants as act
-use Rattle.alp_journal.specs.State.{State, Life, file_trans}
+use Rattle.alp_journal.specs.State.{State, Life, Plain, kind_of, file_trans}
 use Rattle.alp_journal.specs.Laws.{times_out}
 use Rattle.alp_journal.specs.Causes.{own_in, AnswersOwn, AnswersFor, AnswersCall, IsFileAnswer, grants_of, written}
 use Rattle.alp_node.specs.Calls.{IsPageCall, IsLockCall}
@@ -73,24 +73,24 @@ pub ends_active : (t : TransId) (x : Option Life) (life : Life) → x ≡ Some l
 ends_active t x life is active =
     ap (λ (y : Option Life). list_map act.Released (times_out t y)) is ∙ ap (λ (v : Option ℕ). list_map act.Released (cond {A = List TransId} (is_some v) [] (t ∷ []))) active
 
--- a file call writes nothing to the device
-pub file_writes : (s : State) (c : Call) (t : TransId) → file_trans c ≡ Some t → [] ≡ written s c
-file_writes s (call.Hello name) t of = refl
-file_writes s (call.Begin seen) t of = refl
-file_writes s (call.Join u) t of = refl
-file_writes s (call.CreateFile u start choice) t of = refl
-file_writes s (call.OpenFile u f a mode choice) t of = refl
-file_writes s (call.CloseFile u n) t of = refl
-file_writes s (call.DeleteFile u n choice) t of = refl
-file_writes s (call.ReadPages u n run mode choice) t of = refl
-file_writes s (call.WritePages u n run pages choice) t of = refl
-file_writes s (call.LockPages u n run mode choice) t of = refl
-file_writes s (call.SetSize u n size choice) t of = refl
-file_writes s (call.ReadProps u n) t of = refl
-file_writes s (call.WriteProps u n change choice) t of = refl
-file_writes s (call.ReadOwner u name choice) t of = refl
-file_writes s (call.MakeOwner u name quota create choice) t of = refl
-file_writes s (call.SetQuota u name quota choice) t of = refl
-file_writes s (call.Finish u commit) t of = cc
-file_writes s (call.Outcome u) t of = refl
-file_writes s (call.Collect n) t of = refl
+-- a file call is one by itself, and writes nothing to the device
+pub file_plain : (s : State) (c : Call) (t : TransId) → file_trans c ≡ Some t → (kind_of c ≡ Plain) × ([] ≡ written s c)
+file_plain s (call.Hello name) t of = cc
+file_plain s (call.Begin seen) t of = cc
+file_plain s (call.Join u) t of = cc
+file_plain s (call.CreateFile u start choice) t of = (refl, refl)
+file_plain s (call.OpenFile u f a mode choice) t of = (refl, refl)
+file_plain s (call.CloseFile u n) t of = (refl, refl)
+file_plain s (call.DeleteFile u n choice) t of = (refl, refl)
+file_plain s (call.ReadPages u n run mode choice) t of = (refl, refl)
+file_plain s (call.WritePages u n run pages choice) t of = (refl, refl)
+file_plain s (call.LockPages u n run mode choice) t of = (refl, refl)
+file_plain s (call.SetSize u n size choice) t of = (refl, refl)
+file_plain s (call.ReadProps u n) t of = (refl, refl)
+file_plain s (call.WriteProps u n change choice) t of = (refl, refl)
+file_plain s (call.ReadOwner u name choice) t of = (refl, refl)
+file_plain s (call.MakeOwner u name quota create choice) t of = (refl, refl)
+file_plain s (call.SetQuota u name quota choice) t of = (refl, refl)
+file_plain s (call.Finish u commit) t of = cc
+file_plain s (call.Outcome u) t of = cc
+file_plain s (call.Collect n) t of = cc

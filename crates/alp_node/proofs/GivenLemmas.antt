@@ -1,7 +1,8 @@
 -- what holds of an answer whatever the vault tells
-use Rattle.std.specs.Prelude.{Bool, true, false, None, Some, Result, Ok, Err, IfOk, OnOk}
+use Rattle.std.specs.Prelude.{Bool, true, false, None, Some, Result, Ok, Err, IsErr, IfOk, OnOk, OnErr}
 use Rattle.std.specs.List.{filter, list_any}
-use Rattle.std.proofs.Common.{◌≡◌, ℕ, List, [], ◌∷◌, ◌++◌, refl, sym, ◌∙◌, subst}
+use Rattle.std.proofs.lemmas.Result.{IfOk-from_err}
+use Rattle.std.proofs.Common.{◌≡◌, ℕ, ◌+◌, List, [], ◌∷◌, ◌++◌, refl, sym, ◌∙◌, subst}
 use Rattle.alp_base.specs.Causes.{Rose}
 use Rattle.alp_base.specs.declared.allowance.Allowance.{Allowance}
 use Rattle.alp_base.specs.declared.allowance.Allowance.TheVariants.{Spent}
@@ -15,10 +16,14 @@ use Rattle.alp_files.specs.declared.refusal.Refusal.TheVariants as refusal
 use Rattle.alp_files.specs.Passing.{is_passing}
 use Rattle.alp_journal.specs.declared.act.Act.{Act}
 use Rattle.alp_journal.specs.declared.act.Act.TheVariants as act
+use Rattle.alp_journal.specs.declared.event.Event.{Event}
 use Rattle.alp_journal.specs.State.{is_stop}
 use Rattle.alp_journal.specs.Causes.{halts_told}
+use Rattle.alp_vault.specs.Contents.{Contents}
 use Rattle.alp_node.specs.Halts.{HaveCauses}
-use Rattle.alp_node.specs.Steps.{IsGiven, IsHalted}
+use Rattle.alp_files.proofs.UndoLemmas.{on_err}
+use Rattle.alp_node.specs.Kept.{IsReady}
+use Rattle.alp_node.specs.Steps.{Stepped, IsGiven, IsHalted, IsSeated, IsStill, IsStep, is_call}
 use Rattle.alp_node.specs.declared.answer.Answer.{Answer}
 use Rattle.alp_node.specs.declared.kept.Kept.{Kept}
 
@@ -106,3 +111,22 @@ halted_given {V} faults allowance before acts fault (Ok a) new so write failed s
         reply_given before (faults so.vault) (allowance so.vault) so.is_down (reply.Refused refusal.Down) (acts ++ act.Stopped ∷ []) a is write.stopped.halts (down ∙ sym write.stopped.ends)
         (write.stopped.causes before (faults so.vault) (allowance so.vault) (stopped refl, tt))
     go call_fault.OutOfMemory failed stopped is = absurd is
+
+-- ---- steps without an answer
+
+module _ {V : Type 0} (tells serves : V → Bool) (held : V → Contents) (faults : V → ℕ) (allowance : V → Allowance) (old new : Kept V) where
+  pub wanting : (e : Event) (r : Result Answer OutOfMemory) → IsErr r → IsStill serves held old new → IsSeated allowance old new → tells new.vault ≡ tells old.vault → IsStep tells serves held faults allowance old new e r
+  wanting e r err still seat telling = record {
+    stepped = λ told o s h. IfOk-from_err r (Stepped o s (held new.vault) new e) err;
+    given = IfOk-from_err r (IsGiven (is_call e) (faults old.vault) (faults new.vault) (allowance new.vault) new.is_down) err;
+    ready = λ n h. IfOk-from_err r (λ _. IsReady (n + 1) (serves new.vault) new) err;
+    still = on_err r (IsStill serves held old new) still;
+    seat = seat;
+    telling = telling;
+  }
+
+-- where a vault gave no answer for want of memory
+pub halted_still : {V : Type 0} (serves : V → Bool) (held : V → Contents) (old mid new : Kept V) (fault : CallFault) (r : Result Answer OutOfMemory) → (fault ≡ call_fault.OutOfMemory → IsStill serves held old mid)
+    → OnErr r (fault ≡ call_fault.OutOfMemory) → OnErr r (new ≡ mid) → OnErr r (IsStill serves held old new)
+halted_still serves held old mid new fault (Ok a) still memory same = tt
+halted_still serves held old mid new fault (Err e) still memory same = subst (IsStill serves held old) (sym same) (still memory)

@@ -44,9 +44,9 @@ use Rattle.alp_vault.specs.Contents.{Contents}
 use Rattle.alp_journal.specs.declared.act.Act.TheVariants as act
 use Rattle.alp_journal.specs.declared.event.Event.TheVariants as event
 use Rattle.alp_journal.specs.State.{State, Start, Life, Plain, kind_of, file_trans, is_of_no_file, same_trans, view_in, held_for, done_by}
-use Rattle.alp_journal.specs.Laws.{ended_at}
+use Rattle.alp_journal.specs.Laws.{ended_at, IsFree}
 use Rattle.alp_journal.specs.Causes as causes
-use Rattle.alp_journal.specs.Causes.{is_of_unknown, IsFree, IsFileAnswer}
+use Rattle.alp_journal.specs.Causes.{is_of_unknown, IsFileAnswer}
 use Rattle.alp_node.specs.Asks.{is_of_given, is_given, asks_of, asks_made, asks_given, is_made, plan_for, count_made, plan_of, with_plan}
 use Rattle.alp_node.specs.Calls.{IsLockCall, Gave, next_file}
 use Rattle.alp_node.specs.Kept.{IsAs, IsReady, IsAlike, IsLocked, mode_for, ids_to, told_session}

@@ -1,5 +1,5 @@
 -- a server keeps what its journal says, entry by entry
-use Rattle.std.specs.Prelude.{Result, Ok, Err, IfOk, OnOk, OnErr, IsTrue, cond, Bool, true, false, ◌==◌, ◌&&◌, max, Option, None, Some, is_some, map as list_map}
+use Rattle.std.specs.Prelude.{Result, Ok, Err, IfOk, OnOk, IsTrue, cond, Bool, true, false, ◌==◌, ◌&&◌, max, Option, None, Some, is_some, map as list_map}
 use Rattle.std.specs.Option.{option_map}
 use Rattle.std.specs.FinMap as map
 use Rattle.std.proofs.Common.{◌≡◌, ℕ, ◌+◌, ◌≤◌, List, [], ◌∷◌, ◌++◌, length-append, refl, sym, ◌∙◌, ap, subst, arith, eq-eqb}
@@ -194,6 +194,27 @@ as_under o s held k locks same h = record {
   quiet = h.quiet;
   down = h.down;
 }
+
+-- and with another vault that holds the same
+pub as_with : {V : Type 0} (o : Start) (s : State) (held then : Contents) (k : Kept V) (v : V) → then ≡ held → IsAs o s held k → IsAs o s then (record k { vault = v })
+as_with o s held then k v same h = subst (λ (x : Contents). IsAs o s x (record k { vault = v })) (sym same) (record {
+  server = h.server;
+  epoch = h.epoch;
+  clock = h.clock;
+  cells = h.cells;
+  notes = h.notes;
+  places = h.places;
+  sessions = h.sessions;
+  lives = h.lives;
+  drawn = h.drawn;
+  made = h.made;
+  born = h.born;
+  earlier = h.earlier;
+  committed = h.committed;
+  unborn = h.unborn;
+  quiet = h.quiet;
+  down = h.down;
+})
 
 module _ {V : Type 0} (o : Start) (s : State) (held : Contents) (k : Kept V) (client : ℕ) where
   -- ---- a greeting
@@ -543,15 +564,10 @@ module _ {V : Type 0} (o : Start) (s : State) (held : Contents) (k : Kept V) (cl
           (subst (λ (ws : List Act). IsHalt s c (Some (reply.Refused refusal.Down)) (ws ++ act.Stopped ∷ [])) (sym same) IsHalt.stopped) is
       go call_fault.OutOfMemory is = absurd is
 
--- after want of memory it is ready as before, where the vault serves on
+-- with another vault it is ready as before, where that serves
 pub ready_in : {V : Type 0} (n : ℕ) (before serves : Bool) (k : Kept V) (v : V) → IsTrue serves → IsReady n before k → IsReady n serves (record k { vault = v })
 ready_in n before serves k v on h =
     record { serving = λ _. on; sound = h.sound; alone = h.alone; known = h.known; begun = h.begun; opens = h.opens; places = h.places; calls = h.calls; drawn = h.drawn; given = h.given; committed = h.committed; few = h.few; unheld = h.unheld }
-
-pub halted_still : {V : Type 0} (serves : V → Bool) (before : Bool) (n : ℕ) (k : Kept V) (v : V) (fault : CallFault) (r : Result Answer OutOfMemory) (new : Kept V) → (fault ≡ call_fault.OutOfMemory → IsTrue (serves v)) → IsReady n before k
-    → OnErr r (fault ≡ call_fault.OutOfMemory) → OnErr r (new ≡ record k { vault = v }) → OnErr r (IsReady n (serves new.vault) new)
-halted_still serves before n k v fault (Ok a) new on h memory same = tt
-halted_still {V} serves before n k v fault (Err e) new on h memory same = subst (λ (x : Kept V). IsReady n (serves x.vault) x) (sym same) (ready_in n before (serves v) k v (on memory) h)
 
 -- whoever is down need not serve
 pub halted_ready : {V : Type 0} (n : ℕ) (before serves : Bool) (k : Kept V) (v : V) (turn : Turn) (r : Result Answer OutOfMemory) (new : Kept V) → IsTurn k.sessions turn → IsReady n before k

@@ -15,3 +15,4 @@ pub mod ServedLemmas
 pub mod SeatLemmas
 pub mod LiveLemmas
 pub mod GivenLemmas
+pub mod HaltLemmas

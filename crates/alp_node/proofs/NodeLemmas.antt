@@ -17,7 +17,8 @@ use Rattle.alp_vault.specs.Contents.{Contents}
 use Rattle.alp_node.specs.declared.answer.Answer.{Answer}
 use Rattle.alp_node.specs.declared.node.Node.{Node}
 use Rattle.alp_node.specs.Kept.{IsAs, IsReady}
-use Rattle.alp_node.specs.Nodes.{IsKept, IsRight, start_at, start_in, state_of}
+use Rattle.alp_node.specs.Nodes.{IsKept, IsRight, start_at, start_in}
+use Rattle.alp_journal.specs.Serial.{state_of}
 use Rattle.alp_node.specs.Served.{AreLivesSound}
 use Rattle.alp_node.specs.Steps.{Stepped, entry_of}
 use Rattle.alp_node.proofs.KeptLemmas.{IsLive, live_there, over_empty}

@@ -29,8 +29,8 @@ use Rattle.alp_calls.specs.Parts.{Performs}
 use Rattle.alp_vault.specs.Contents.{Contents}
 use Rattle.alp_journal.specs.declared.event.Event.TheVariants as event
 use Rattle.alp_journal.specs.State.{State, Start, Life, Plain, kind_of, file_trans, is_of_no_file, same_trans, view_in}
-use Rattle.alp_journal.specs.Laws.{ended_at}
-use Rattle.alp_journal.specs.Causes.{is_of_unknown, IsFree, IsFileAnswer}
+use Rattle.alp_journal.specs.Laws.{ended_at, IsFree}
+use Rattle.alp_journal.specs.Causes.{is_of_unknown, IsFileAnswer}
 use Rattle.alp_journal.proofs.StateLemmas.{same_trans-true}
 use Rattle.alp_journal.proofs.EntryLemmas.{done_leads}
 use Rattle.alp_node.specs.Calls.{Gave, IsPageCall, next_file}
@@ -214,8 +214,3 @@ looked_stopped tells serves volume held may_leave left_since faults allowance ol
 pub halted_vault : {V : Type 0} (N new : Kept V) (turn : Turn) (r : Result Answer OutOfMemory) → OnOk r (new ≡ record N { sessions = counted_in N.sessions turn; is_down = true }) → OnErr r (new ≡ N) → new.vault ≡ N.vault
 halted_vault {V} N new turn (Ok a) down still = ap (λ (x : Kept V). x.vault) down
 halted_vault {V} N new turn (Err e) down still = ap (λ (x : Kept V). x.vault) still
-
--- after want of memory it is what it was
-pub err_same : {V : Type 0} (P : Kept V → Type 0) (N new : Kept V) (r : Result Answer OutOfMemory) → OnErr r (new ≡ N) → P N → OnErr r (P new)
-err_same P N new (Ok a) same p = tt
-err_same P N new (Err e) same p = subst P (sym same) p

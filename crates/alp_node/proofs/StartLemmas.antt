@@ -39,7 +39,8 @@ use Rattle.alp_node.specs.declared.sessions.Session.{Session}
 use Rattle.alp_node.specs.declared.start.StartFault.{StartFault}
 use Rattle.alp_node.specs.declared.start.StartFault.TheVariants as start_fault
 use Rattle.alp_node.specs.Kept.{IsAs, IsReady, IsAlike, LiveMap, told_session}
-use Rattle.alp_node.specs.Nodes.{IsRight, start_at, state_of}
+use Rattle.alp_node.specs.Nodes.{IsRight, start_at}
+use Rattle.alp_journal.specs.Serial.{state_of}
 use Rattle.alp_node.specs.Sessions.{no_sessions, session_at}
 use Rattle.alp_node.specs.Starts.{after_clock, after_note, raised}
 use Rattle.alp_node.proofs.KeptLemmas.{noted_twice}

@@ -1,5 +1,5 @@
 -- What a server keeps is what its journal says.
-use Rattle.std.specs.Prelude.{◌≡◌, ℕ, zero, suc, ◌<◌, ◌≤◌, Bool, true, false, IsTrue, List, [], ◌∷◌, length, Option, None, Some, is_some}
+use Rattle.std.specs.Prelude.{◌≡◌, ℕ, zero, suc, ◌+◌, ◌^◌, ◌<◌, ◌≤◌, Bool, true, false, IsTrue, List, [], ◌∷◌, length, Option, None, Some, is_some}
 use Rattle.std.specs.Option.{option_map}
 use Rattle.std.specs.List.{AllByRecursion, list_any}
 use Rattle.std.specs.FinMap as map
@@ -127,3 +127,11 @@ pub record IsReady {V : Type 0} (steps : ℕ) (serves : Bool) (k : Kept V) : Typ
   pub committed : k.committed ≤ steps
   pub few : map.len k.lives ≤ steps
   pub unheld : (t : TransId) (n : ℕ) → k.given < n → holding k.locks.held t (Whole (record { server = k.server; epoch = k.epoch; counter = n })) ≡ None
+
+-- it is ready, and its counts have room for one step more
+abbrev pub IsReadyForMore : {V : Type 0} → Bool → Kept V → Type 0
+IsReadyForMore serves k = (steps : ℕ) × (steps + 1 < 2 ^ 32) × IsReady steps serves k
+
+-- it keeps what some journal says
+abbrev pub IsOfJournal : {V : Type 0} → Contents → Kept V → Type 0
+IsOfJournal held k = (o : Start) × (s : State) × IsAs o s held k

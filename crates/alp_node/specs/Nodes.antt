@@ -7,7 +7,8 @@ use Rattle.alp_vault.specs.Contents.{Contents}
 use Rattle.alp_journal.specs.declared.act.Act.{Act}
 use Rattle.alp_journal.specs.declared.event.Event.{Event}
 use Rattle.alp_journal.specs.declared.entry.Entry.{Entry}
-use Rattle.alp_journal.specs.State.{State, Start, Along, next, state_after, opened, is_stop}
+use Rattle.alp_journal.specs.Serial.{state_of}
+use Rattle.alp_journal.specs.State.{Start, Along, next, opened, is_stop}
 use Rattle.alp_journal.specs.Laws.{IsLawful, IsSoundOpening}
 use Rattle.alp_journal.specs.Causes.{HasCause, halts_told}
 use Rattle.alp_node.specs.declared.node.Node.{Node}
@@ -21,10 +22,6 @@ start_at server held = record { server = server; cells = held.cells; notes = hel
 
 abbrev pub start_in : {V : Type 0} → (V → Contents) → Node V → Start
 start_in held n = start_at n.kept.server (held n.opening.vault.value)
-
--- what the journal says
-abbrev pub state_of : Start → List Entry → State
-state_of o journal = state_after next (opened o) journal
 
 -- The journal is lawful, each of its entries has its cause, and the server keeps what its state says, with this in its
 -- vault. The files were sound when it was started.

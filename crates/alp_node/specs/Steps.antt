@@ -1,10 +1,11 @@
 -- One step of a server.
-use Rattle.std.specs.Prelude.{◌≡◌, ℕ, ◌+◌, ◌≤◌, ◌==◌, max, Bool, true, false, List, [], ◌∷◌, ◌++◌, Option, None, Some, is_some}
+use Rattle.std.specs.Prelude.{◌≡◌, ℕ, ◌+◌, ◌≤◌, ◌==◌, max, Bool, true, false, List, [], ◌∷◌, ◌++◌, Option, None, Some, is_some, IsTrue, Result, IfOk, OnOk, OnErr}
 use Rattle.std.specs.List.{filter, list_any}
 use Rattle.std.specs.FinMap as map
 use Rattle.alp_base.specs.Allowances.{Spends}
 use Rattle.alp_base.specs.declared.allowance.Allowance.{Allowance}
 use Rattle.alp_base.specs.declared.ids.TransId.{TransId}
+use Rattle.alp_base.specs.declared.memory.OutOfMemory.{OutOfMemory}
 use Rattle.alp_locks.specs.Releases.{released}
 use Rattle.alp_files.specs.declared.call.Call.TheVariants as call
 use Rattle.alp_files.specs.declared.refusal.Refusal.{Refusal}
@@ -25,7 +26,7 @@ use Rattle.alp_node.specs.declared.sessions.Turn.{Turn}
 use Rattle.alp_node.specs.declared.sessions.Sessions.{Sessions}
 use Rattle.alp_node.specs.Halts.{halt_of, HaveCauses}
 use Rattle.alp_node.specs.Sessions.{session_at, with_session}
-use Rattle.alp_node.specs.Kept.{IsAs}
+use Rattle.alp_node.specs.Kept.{IsAs, IsReady}
 
 -- the entry of an event with its answer
 abbrev pub entry_of : Event → Answer → Entry
@@ -68,6 +69,23 @@ pub record IsGiven (asked : Bool) (before now : ℕ) (allowance : Allowance) (is
   pub halts : filter is_stop a.acts ≡ halts_told a.kept
   pub down : is_down ≡ list_any is_stop a.acts
   pub causes : HaveCauses before now allowance a.acts
+
+-- where memory was wanting, the server keeps what it kept
+pub record IsStill {V : Type 0} (serves : V → Bool) (held : V → Contents) (old new : Kept V) : Type 0 where
+  pub kept : (o : Start) (s : State) → IsAs o s (held old.vault) old → IsAs o s (held new.vault) new
+  pub ready : (steps : ℕ) → IsReady steps (serves old.vault) old → IsReady steps (serves new.vault) new
+  pub up : new.is_down ≡ old.is_down
+
+-- What a step comes to: with an answer to the event the server is a step further, and without one it is as before.
+pub record IsStep {V : Type 0} (tells serves : V → Bool) (held : V → Contents) (faults : V → ℕ) (allowance : V → Allowance) (old new : Kept V) (e : Event) (r : Result Answer OutOfMemory) : Type 0 where
+  -- where the vault tells what it holds, by what the journal says
+  pub stepped : IsTrue (tells old.vault) → (o : Start) (s : State) → IsAs o s (held old.vault) old → IfOk r (Stepped o s (held new.vault) new e)
+  -- and of any vault
+  pub given : IfOk r (IsGiven (is_call e) (faults old.vault) (faults new.vault) (allowance new.vault) new.is_down)
+  pub ready : (steps : ℕ) → IsReady steps (serves old.vault) old → OnOk r (IsReady (steps + 1) (serves new.vault) new)
+  pub still : OnErr r (IsStill serves held old new)
+  pub seat : IsSeated allowance old new
+  pub telling : tells new.vault ≡ tells old.vault
 
 -- it is the session's next call
 pub record IsTurn (sessions : Sessions) (t : Turn) : Type 0 where

@@ -1,11 +1,10 @@
 //! Sessions and transactions begin.
-ghost use Rattle.std.specs.Prelude.{◌≡◌, ◌+◌, ◌<◌, ◌≤◌, ◌^◌, IfOk, OnOk, OnErr, None, ℕ, false, true};
+ghost use Rattle.std.specs.Prelude.{◌≡◌, ◌+◌, ◌<◌, ◌≤◌, None, false};
 ghost use Rattle.alp_files.specs.declared.call.Call.TheVariants as call;
 ghost use Rattle.alp_journal.specs.declared.event.Event.TheVariants as event;
-ghost use Rattle.alp_journal.specs.State.{State as StateOf, Start};
 ghost use Rattle.alp_node.specs.Sessions.{session_at};
-ghost use Rattle.alp_node.specs.Kept.{IsAs, IsReady};
-ghost use Rattle.alp_node.specs.Steps.{IsSeated, IsGiven, Stepped, IsTurn};
+ghost use Rattle.alp_node.specs.Kept.{IsReadyForMore};
+ghost use Rattle.alp_node.specs.Steps.{IsStep, IsTurn};
 
 use crate::answer::Answer;
 use crate::kept::Kept;
@@ -23,12 +22,7 @@ impl<V: Vault> Kept<V> {
         requires client { client ≤ 16 }
         requires first { session_at self.old.sessions client ≡ None }
         requires up { self.old.is_down ≡ false }
-        ensures stepped { (o : Start) (s : StateOf) → IsAs o s (V.held self.old.vault) self.old → IfOk result (λ a. Stepped o s (V.held self.new.vault) self.new (event.Call client 0 1 (call.Hello name)) a) }
-        ensures ready { (steps : ℕ) → IsReady steps (V.serves self.old.vault) self.old → OnOk result (IsReady (steps + 1) (V.serves self.new.vault) self.new) }
-        ensures seat { IsSeated V.allowance self.old self.new }
-        ensures vault { self.new.vault ≡ self.old.vault }
-        ensures given { IfOk result (IsGiven true (V.faults self.old.vault) (V.faults self.new.vault) (V.allowance self.new.vault) self.new.is_down) }
-        ensures err { OnErr result (self.new ≡ self.old) }
+        ensures { IsStep V.tells V.serves V.held V.faults V.allowance self.old self.new (event.Call client 0 1 (call.Hello name)) result }
     {
         let answer = Answer::new(
             Reply::Welcome { epoch: self.epoch },
@@ -42,15 +36,8 @@ impl<V: Vault> Kept<V> {
     pub fn begin(&mut self, turn: &Turn, seen: Stamp) -> Result<Answer, OutOfMemory>
         requires turn { IsTurn self.old.sessions turn.now }
         requires up { self.old.is_down ≡ false }
-        requires ready { (steps : ℕ) × (steps + 1 < 2 ^ 32) × IsReady steps (V.serves self.old.vault) self.old }
-        ensures stepped { (o : Start) (s : StateOf) → IsAs o s (V.held self.old.vault) self.old → IfOk result (λ a. Stepped o s (V.held self.new.vault) self.new (event.Call turn.now.client self.old.epoch turn.now.number (call.Begin seen)) a) }
-        ensures ready { (steps : ℕ) → IsReady steps (V.serves self.old.vault) self.old → OnOk result (IsReady (steps + 1) (V.serves self.new.vault) self.new) }
-        ensures seat { IsSeated V.allowance self.old self.new }
-        ensures vault { self.new.vault ≡ self.old.vault }
-        ensures given { IfOk result (IsGiven true (V.faults self.old.vault) (V.faults self.new.vault) (V.allowance self.new.vault) self.new.is_down) }
-        ensures still { (o : Start) (s : StateOf) → IsAs o s (V.held self.old.vault) self.old → OnErr result (IsAs o s (V.held self.new.vault) self.new) }
-        ensures ready_still { (steps : ℕ) → IsReady steps (V.serves self.old.vault) self.old → OnErr result (IsReady steps (V.serves self.new.vault) self.new) }
-        ensures up { OnErr result (self.new.is_down ≡ self.old.is_down) }
+        requires ready { IsReadyForMore (V.serves self.old.vault) self.old }
+        ensures { IsStep V.tells V.serves V.held V.faults V.allowance self.old self.new (event.Call turn.now.client self.old.epoch turn.now.number (call.Begin seen)) result }
     {
         let trans = TransId {
             server: self.server,

@@ -1,5 +1,5 @@
 //! File calls: under their locks, on what their part sees.
-ghost use Rattle.std.specs.Prelude.{◌≡◌, ◌≢◌, ◌+◌, ◌<◌, ◌^◌, IsTrue, IfOk, OnOk, OnErr, Some, None, ℕ, false, true};
+ghost use Rattle.std.specs.Prelude.{◌≡◌, ◌≢◌, ◌+◌, ◌<◌, ◌^◌, IsTrue, Some, None, false};
 ghost use Rattle.std.specs.FinMap as map;
 ghost use Rattle.alp_base.specs.declared.key.Key.TheVariants.{Leader};
 ghost use Rattle.alp_calls.specs.Looks.{Looks, fault_in};
@@ -8,9 +8,9 @@ ghost use Rattle.alp_files.specs.Built.{IsBuilt};
 ghost use Rattle.alp_node.specs.declared.lives.Live.{Live as ALive};
 ghost use Rattle.alp_files.specs.Locks.{IsFormed};
 ghost use Rattle.alp_journal.specs.declared.event.Event.TheVariants as event;
-ghost use Rattle.alp_journal.specs.State.{State as StateOf, Start, file_trans};
-ghost use Rattle.alp_node.specs.Kept.{IsAs, IsReady};
-ghost use Rattle.alp_node.specs.Steps.{IsSeated, IsGiven, Stepped, IsTurn, IsOf};
+ghost use Rattle.alp_journal.specs.State.{file_trans};
+ghost use Rattle.alp_node.specs.Kept.{IsReadyForMore, IsOfJournal};
+ghost use Rattle.alp_node.specs.Steps.{IsStep, IsTurn, IsOf};
 ghost use Rattle.alp_node.specs.Calls.{next_file as next_file_of, Performed, IsPageCall};
 
 use crate::answer::Answer;
@@ -34,19 +34,12 @@ impl<V: Vault> Kept<V> {
         requires turn { IsTurn self.old.sessions turn.now }
         requires own { IsOf turn.now.client (map.get self.old.lives trans) }
         requires up { self.old.is_down ≡ false }
-        requires ready { (steps : ℕ) × (steps + 1 < 2 ^ 32) × IsReady steps (V.serves self.old.vault) self.old }
+        requires ready { IsReadyForMore (V.serves self.old.vault) self.old }
         requires page { IsPageCall call.now }
         requires named { file_trans call.now ≡ Some trans }
         requires formed { IsFormed call.now }
-        requires known { IsTrue (V.tells self.old.vault) → (o : Start) × (s : StateOf) × IsAs o s (V.held self.old.vault) self.old }
-        ensures stepped { IsTrue (V.tells self.old.vault) → (o : Start) (s : StateOf) → IsAs o s (V.held self.old.vault) self.old → IfOk result (λ a. Stepped o s (V.held self.new.vault) self.new (event.Call turn.now.client self.old.epoch turn.now.number call.now) a) }
-        ensures ready { (steps : ℕ) → IsReady steps (V.serves self.old.vault) self.old → OnOk result (IsReady (steps + 1) (V.serves self.new.vault) self.new) }
-        ensures seat { IsSeated V.allowance self.old self.new }
-        ensures given { IfOk result (IsGiven true (V.faults self.old.vault) (V.faults self.new.vault) (V.allowance self.new.vault) self.new.is_down) }
-        ensures tells { V.tells self.new.vault ≡ V.tells self.old.vault }
-        ensures still { (o : Start) (s : StateOf) → IsAs o s (V.held self.old.vault) self.old → OnErr result (IsAs o s (V.held self.new.vault) self.new) }
-        ensures ready_still { (steps : ℕ) → IsReady steps (V.serves self.old.vault) self.old → OnErr result (IsReady steps (V.serves self.new.vault) self.new) }
-        ensures up { OnErr result (self.new.is_down ≡ self.old.is_down) }
+        requires known { IsTrue (V.tells self.old.vault) → IsOfJournal (V.held self.old.vault) self.old }
+        ensures { IsStep V.tells V.serves V.held V.faults V.allowance self.old self.new (event.Call turn.now.client self.old.epoch turn.now.number call.now) result }
     {
         let halted = Vec::with_capacity(self.alloc, 1)?;
         match self.perform(trans, call) {

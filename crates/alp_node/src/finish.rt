@@ -1,5 +1,5 @@
 //! Transactions end.
-ghost use Rattle.std.specs.Prelude.{◌≡◌, ◌+◌, ◌<◌, ◌≤◌, ◌^◌, [], IsTrue, IfOk, OnOk, OnErr, Some, ℕ, true, false, length, vec_capacity};
+ghost use Rattle.std.specs.Prelude.{◌≡◌, ◌+◌, ◌<◌, ◌≤◌, ◌^◌, [], IsTrue, IfOk, OnOk, OnErr, Some, true, false, length, vec_capacity};
 ghost use Rattle.std.specs.FinMap as map;
 ghost use Rattle.alp_calls.specs.declared.fault.CallFault.TheVariants as call_fault;
 ghost use Rattle.alp_files.specs.Sound.{AreSound};
@@ -8,11 +8,10 @@ ghost use Rattle.alp_files.specs.Edits.{over};
 ghost use Rattle.alp_files.specs.declared.call.Call.TheVariants as call;
 ghost use Rattle.alp_journal.specs.declared.act.Act.TheVariants as act;
 ghost use Rattle.alp_journal.specs.declared.event.Event.TheVariants as event;
-ghost use Rattle.alp_journal.specs.State.{State as StateOf, Start};
 ghost use Rattle.alp_node.specs.declared.lives.Live.{Live as ALive};
-ghost use Rattle.alp_node.specs.Kept.{IsAs, IsReady};
+ghost use Rattle.alp_node.specs.Kept.{IsReadyForMore};
 ghost use Rattle.alp_files.specs.declared.reply.Reply.TheVariants as reply;
-ghost use Rattle.alp_node.specs.Steps.{IsSeated, IsGiven, Stepped, IsTurn, IsOf, IsHalted, counted_in, without_trans};
+ghost use Rattle.alp_node.specs.Steps.{IsStep, IsTurn, IsOf, IsHalted, counted_in, without_trans};
 
 use crate::answer::Answer;
 use crate::kept::Kept;
@@ -51,12 +50,7 @@ impl<V: Vault> Kept<V> {
         requires own { IsOf turn.now.client (map.get self.old.lives trans) }
         requires up { self.old.is_down ≡ false }
         requires alone { self.old.locks.waiting ≡ [] }
-        ensures stepped { (o : Start) (s : StateOf) → IsAs o s (V.held self.old.vault) self.old → IfOk result (λ a. Stepped o s (V.held self.new.vault) self.new (event.Call turn.now.client self.old.epoch turn.now.number (call.Finish trans false)) a) }
-        ensures ready { (steps : ℕ) → IsReady steps (V.serves self.old.vault) self.old → OnOk result (IsReady (steps + 1) (V.serves self.new.vault) self.new) }
-        ensures seat { IsSeated V.allowance self.old self.new }
-        ensures vault { self.new.vault ≡ self.old.vault }
-        ensures given { IfOk result (IsGiven true (V.faults self.old.vault) (V.faults self.new.vault) (V.allowance self.new.vault) self.new.is_down) }
-        ensures err { OnErr result (self.new ≡ self.old) }
+        ensures { IsStep V.tells V.serves V.held V.faults V.allowance self.old self.new (event.Call turn.now.client self.old.epoch turn.now.number (call.Finish trans false)) result }
     {
         let acts = Acts::new(vec![in self.alloc; Act::Released { trans }]?);
         let refusal = Refusal::Aborted {
@@ -71,12 +65,7 @@ impl<V: Vault> Kept<V> {
     pub fn time_out(&mut self, trans: TransId) -> Result<Answer, OutOfMemory>
         requires up { self.old.is_down ≡ false }
         requires alone { self.old.locks.waiting ≡ [] }
-        ensures stepped { (o : Start) (s : StateOf) → IsAs o s (V.held self.old.vault) self.old → IfOk result (λ a. Stepped o s (V.held self.new.vault) self.new (event.Timeout trans) a) }
-        ensures ready { (steps : ℕ) → IsReady steps (V.serves self.old.vault) self.old → OnOk result (IsReady (steps + 1) (V.serves self.new.vault) self.new) }
-        ensures seat { IsSeated V.allowance self.old self.new }
-        ensures vault { self.new.vault ≡ self.old.vault }
-        ensures given { IfOk result (IsGiven false (V.faults self.old.vault) (V.faults self.new.vault) (V.allowance self.new.vault) self.new.is_down) }
-        ensures err { OnErr result (self.new ≡ self.old) }
+        ensures { IsStep V.tells V.serves V.held V.faults V.allowance self.old self.new (event.Timeout trans) result }
     {
         if !self.lives.has(&trans) {
             return Ok(Answer::silence(Acts::new(Vec::new(self.alloc))));
@@ -92,17 +81,10 @@ impl<V: Vault> Kept<V> {
         requires turn { IsTurn self.old.sessions turn.now }
         requires own { IsOf turn.now.client (map.get self.old.lives trans) }
         requires up { self.old.is_down ≡ false }
-        requires ready { (steps : ℕ) × (steps + 1 < 2 ^ 32) × IsReady steps (V.serves self.old.vault) self.old }
+        requires ready { IsReadyForMore (V.serves self.old.vault) self.old }
         requires clock { self.old.clock < 2 ^ 62 }
         requires sound { IsTrue (V.tells self.old.vault) → (l : ALive) → map.get self.old.lives trans ≡ Some l → (m : Cells) → map.get m ≡ over l.part.intents (map.get (V.held self.old.vault).cells) → AreSound m }
-        ensures stepped { IsTrue (V.tells self.old.vault) → (o : Start) (s : StateOf) → IsAs o s (V.held self.old.vault) self.old → IfOk result (λ a. Stepped o s (V.held self.new.vault) self.new (event.Call turn.now.client self.old.epoch turn.now.number (call.Finish trans true)) a) }
-        ensures ready { (steps : ℕ) → IsReady steps (V.serves self.old.vault) self.old → OnOk result (IsReady (steps + 1) (V.serves self.new.vault) self.new) }
-        ensures seat { IsSeated V.allowance self.old self.new }
-        ensures given { IfOk result (IsGiven true (V.faults self.old.vault) (V.faults self.new.vault) (V.allowance self.new.vault) self.new.is_down) }
-        ensures tells { V.tells self.new.vault ≡ V.tells self.old.vault }
-        ensures still { (o : Start) (s : StateOf) → IsAs o s (V.held self.old.vault) self.old → OnErr result (IsAs o s (V.held self.new.vault) self.new) }
-        ensures ready_still { (steps : ℕ) → IsReady steps (V.serves self.old.vault) self.old → OnErr result (IsReady steps (V.serves self.new.vault) self.new) }
-        ensures up { OnErr result (self.new.is_down ≡ self.old.is_down) }
+        ensures { IsStep V.tells V.serves V.held V.faults V.allowance self.old self.new (event.Call turn.now.client self.old.epoch turn.now.number (call.Finish trans true)) result }
     {
         let stamp = Stamp {
             ts: self.clock + 1,

@@ -1,13 +1,13 @@
 //! File calls that ask for locks.
-ghost use Rattle.std.specs.Prelude.{◌≡◌, ◌+◌, ◌<◌, ◌^◌, IsTrue, IfOk, OnOk, OnErr, Some, ℕ, is_some, true, false};
+ghost use Rattle.std.specs.Prelude.{◌≡◌, ◌+◌, ◌<◌, ◌^◌, IsTrue, Some, is_some, true, false};
 ghost use Rattle.std.specs.FinMap as map;
 ghost use Rattle.alp_files.specs.Locks.{IsFormed};
 ghost use Rattle.alp_locks.specs.Sound.{IsPrepared};
 ghost use Rattle.alp_journal.specs.declared.event.Event.TheVariants as event;
-ghost use Rattle.alp_journal.specs.State.{State as StateOf, Start, file_trans};
+ghost use Rattle.alp_journal.specs.State.{file_trans};
 ghost use Rattle.alp_node.specs.Asks.{is_of_given, is_made as is_made_of, plan_for, count_made, with_plan};
-ghost use Rattle.alp_node.specs.Kept.{IsAs, IsReady};
-ghost use Rattle.alp_node.specs.Steps.{IsSeated, IsGiven, Stepped, IsTurn, IsOf};
+ghost use Rattle.alp_node.specs.Kept.{IsReadyForMore, IsOfJournal};
+ghost use Rattle.alp_node.specs.Steps.{IsStep, IsTurn, IsOf};
 ghost use Rattle.alp_node.specs.Calls.{IsLockCall};
 
 use crate::answer::Answer;
@@ -31,20 +31,13 @@ impl<V: Vault> Kept<V> {
         requires turn { IsTurn self.old.sessions turn.now }
         requires own { IsOf turn.now.client (map.get self.old.lives trans) }
         requires up { self.old.is_down ≡ false }
-        requires ready { (steps : ℕ) × (steps + 1 < 2 ^ 32) × IsReady steps (V.serves self.old.vault) self.old }
+        requires ready { IsReadyForMore (V.serves self.old.vault) self.old }
         requires kind { IsLockCall call.now }
         requires given { is_of_given self.old.server self.old.epoch self.old.given call.now ≡ true }
         requires named { file_trans call.now ≡ Some trans }
         requires formed { IsFormed call.now }
-        requires known { IsTrue (V.tells self.old.vault) → (o : Start) × (s : StateOf) × IsAs o s (V.held self.old.vault) self.old }
-        ensures stepped { IsTrue (V.tells self.old.vault) → (o : Start) (s : StateOf) → IsAs o s (V.held self.old.vault) self.old → IfOk result (λ a. Stepped o s (V.held self.new.vault) self.new (event.Call turn.now.client self.old.epoch turn.now.number call.now) a) }
-        ensures ready { (steps : ℕ) → IsReady steps (V.serves self.old.vault) self.old → OnOk result (IsReady (steps + 1) (V.serves self.new.vault) self.new) }
-        ensures seat { IsSeated V.allowance self.old self.new }
-        ensures given { IfOk result (IsGiven true (V.faults self.old.vault) (V.faults self.new.vault) (V.allowance self.new.vault) self.new.is_down) }
-        ensures tells { V.tells self.new.vault ≡ V.tells self.old.vault }
-        ensures still { (o : Start) (s : StateOf) → IsAs o s (V.held self.old.vault) self.old → OnErr result (IsAs o s (V.held self.new.vault) self.new) }
-        ensures ready_still { (steps : ℕ) → IsReady steps (V.serves self.old.vault) self.old → OnErr result (IsReady steps (V.serves self.new.vault) self.new) }
-        ensures up { OnErr result (self.new.is_down ≡ self.old.is_down) }
+        requires known { IsTrue (V.tells self.old.vault) → IsOfJournal (V.held self.old.vault) self.old }
+        ensures { IsStep V.tells V.serves V.held V.faults V.allowance self.old self.new (event.Call turn.now.client self.old.epoch turn.now.number call.now) result }
     {
         let id = self.next_file();
         let asked = self.locks.plan(trans, asks(self.alloc, call)?)?;

@@ -1,14 +1,14 @@
 //! Which file calls are performed, and the answer to each.
-ghost use Rattle.std.specs.Prelude.{◌≡◌, ◌≢◌, ◌+◌, ◌<◌, ◌^◌, IsTrue, IfOk, OnOk, OnErr, ℕ, Some, false, true};
+ghost use Rattle.std.specs.Prelude.{◌≡◌, ◌<◌, IsTrue, Some, false, true};
 ghost use Rattle.std.specs.FinMap as map;
 ghost use Rattle.alp_files.specs.Locks.{IsFormed};
 ghost use Rattle.alp_journal.specs.declared.event.Event.TheVariants as event;
-ghost use Rattle.alp_journal.specs.State.{State as StateOf, Start, file_trans};
+ghost use Rattle.alp_journal.specs.State.{file_trans};
 ghost use Rattle.alp_node.specs.Asks.{is_given as is_given_of, is_of_given as is_of_given_said};
 ghost use Rattle.alp_node.specs.Calls.{IsServedCall};
-ghost use Rattle.alp_node.specs.Kept.{IsAs, IsReady};
+ghost use Rattle.alp_node.specs.Kept.{IsReadyForMore, IsOfJournal};
 ghost use Rattle.alp_node.specs.Served.{is_on_open as is_on_open_said};
-ghost use Rattle.alp_node.specs.Steps.{IsSeated, IsGiven, Stepped, IsTurn, IsOf, is_own as is_own_said};
+ghost use Rattle.alp_node.specs.Steps.{IsStep, IsTurn, is_own as is_own_said};
 
 use crate::answer::Answer;
 use crate::kept::Kept;
@@ -59,16 +59,9 @@ impl<V: Vault> Kept<V> {
         requires served { IsServedCall call.now }
         requires named { file_trans call.now ≡ Some trans }
         requires formed { IsFormed call.now }
-        requires ready { (steps : ℕ) × (steps + 1 < 2 ^ 32) × IsReady steps (V.serves self.old.vault) self.old }
-        requires known { IsTrue (V.tells self.old.vault) → (o : Start) × (s : StateOf) × IsAs o s (V.held self.old.vault) self.old }
-        ensures stepped { IsTrue (V.tells self.old.vault) → (o : Start) (s : StateOf) → IsAs o s (V.held self.old.vault) self.old → IfOk result (λ a. Stepped o s (V.held self.new.vault) self.new (event.Call turn.now.client self.old.epoch turn.now.number call.now) a) }
-        ensures ready { (steps : ℕ) → IsReady steps (V.serves self.old.vault) self.old → OnOk result (IsReady (steps + 1) (V.serves self.new.vault) self.new) }
-        ensures seat { IsSeated V.allowance self.old self.new }
-        ensures given { IfOk result (IsGiven true (V.faults self.old.vault) (V.faults self.new.vault) (V.allowance self.new.vault) self.new.is_down) }
-        ensures tells { V.tells self.new.vault ≡ V.tells self.old.vault }
-        ensures still { (o : Start) (s : StateOf) → IsAs o s (V.held self.old.vault) self.old → OnErr result (IsAs o s (V.held self.new.vault) self.new) }
-        ensures ready_still { (steps : ℕ) → IsReady steps (V.serves self.old.vault) self.old → OnErr result (IsReady steps (V.serves self.new.vault) self.new) }
-        ensures up { OnErr result (self.new.is_down ≡ self.old.is_down) }
+        requires ready { IsReadyForMore (V.serves self.old.vault) self.old }
+        requires known { IsTrue (V.tells self.old.vault) → IsOfJournal (V.held self.old.vault) self.old }
+        ensures { IsStep V.tells V.serves V.held V.faults V.allowance self.old self.new (event.Call turn.now.client self.old.epoch turn.now.number call.now) result }
     {
         if !self.is_own(turn.client, &trans) {
             return Ok(self.refuse(turn, Refusal::UnknownTrans));

@@ -1,13 +1,12 @@
 //! How a server starts on its vault.
-ghost use Rattle.std.specs.Prelude.{◌≡◌, ◌≤◌, ◌^◌, [], None, Ok, IfOk, IfErr, MatchResult, IsTrue, false};
+ghost use Rattle.std.specs.Prelude.{◌≡◌, [], None, Ok, IfOk, IfErr, MatchResult, IsTrue, false};
 ghost use Rattle.std.specs.FinMap as map;
 ghost use Rattle.alp_base.specs.Allowances.{Spends};
-ghost use Rattle.alp_base.specs.declared.allowance.Allowance.TheVariants.{Spent};
 ghost use Rattle.alp_base.specs.declared.faults.VaultFault.TheVariants as vault_fault;
 ghost use Rattle.alp_calls.specs.declared.fault.CallFault.TheVariants as call_fault;
 ghost use Rattle.alp_fields.specs.Forms.{whole};
 ghost use Rattle.alp_fields.specs.ClockNote.{clock_name, clock_form};
-ghost use Rattle.alp_vault.specs.Vault.{HasFaultCause, IsOfVolume};
+ghost use Rattle.alp_vault.specs.Vault.{IsOfVolume};
 ghost use Rattle.alp_node.specs.Nodes.{IsKept};
 ghost use Rattle.alp_node.specs.Sessions.{no_sessions};
 ghost use Rattle.alp_node.specs.Starts.{AreOfServer, after_clock, raised, HasStartCause, IsNoteFault};

@@ -10,39 +10,42 @@ use Rattle.alp_journal.specs.declared.act.Act.{Act}
 use Rattle.alp_journal.specs.declared.act.Act.TheVariants as act
 use Rattle.alp_journal.specs.declared.event.Event.TheVariants as event
 use Rattle.alp_node.specs.Kept.{IsReady}
-use Rattle.alp_node.specs.Steps.{Stepped, counted_in, without_trans}
+use Rattle.alp_node.specs.Steps.{Stepped, IsSeated, counted_in, without_trans}
 use Rattle.alp_node.specs.declared.kept.Kept.{Kept}
 use Rattle.alp_node.specs.declared.sessions.Sessions.{Sessions}
 use Rattle.alp_node.proofs.KeptLemmas.{abort_stepped, of_client}
 use Rattle.alp_node.proofs.ReadyLemmas.{gone_ready, counted_ready}
+use Rattle.alp_node.proofs.SeatLemmas.{seated_alone}
 use Rattle.alp_node.proofs.kept.Kept.abort.Goals as goal
 
-pub returns-clause-stepped : goal.returns-clause-stepped
-returns-clause-stepped g c o s h =
+pub returns : goal.returns
+returns g c =
     let k = c.args.self.now in
     let turn = c.args.turn.now in
+    let t = c.args.trans in
     let held = g.V.Vault.held in
-    let e = event.Call turn.client k.epoch turn.number (call.Finish c.args.trans false) in
-    let mine = of_client turn.client (map.get k.lives c.args.trans) c.requires.own in
-    let is : c.refused.result ≡ record { kept = Some (reply.Refused (refusal.Aborted cause.Asked)); handed = Some (reply.Refused (refusal.Aborted cause.Asked)); acts = act.Released c.args.trans ∷ [] } =
-    c.refused.ensures ∙ ap (λ (acts : List Act). record { kept = Some (reply.Refused (refusal.Aborted cause.Asked)); handed = Some (reply.Refused (refusal.Aborted cause.Asked)); acts = acts }) (c.new-acts.ensures ∙ c.in_ok-vec.ensures.items) in
-    let stepped = abort_stepped o s (held k.vault) k turn.client turn.session turn.number c.args.trans mine.0 c.refused.result h c.requires.turn.client c.requires.alone c.requires.turn.session c.requires.turn.number mine.1 mine.2 is in
-    subst (λ (x : Kept _). Stepped o s (held x.vault) (record x { sessions = c.count.new.self }) e c.refused.result) (sym c.forget.ensures)
-    (subst (λ (x : Sessions). Stepped o s (held k.vault) (record (without_trans k c.args.trans) { sessions = x }) e c.refused.result) (sym (c.count.ensures ∙ ap (λ (x : Kept _). counted_in x.sessions turn) c.forget.ensures)) stepped)
-
-pub returns-clause-ready : goal.returns-clause-ready
-returns-clause-ready g c n h =
-    let k = c.args.self.now in
-    let turn = c.args.turn.now in
     let serves = g.V.Vault.serves in
-    subst (λ (x : Kept _). IsReady (n + 1) (serves x.vault) (record x { sessions = c.count.new.self })) (sym c.forget.ensures)
-    (subst (λ (x : Sessions). IsReady (n + 1) (serves k.vault) (record (without_trans k c.args.trans) { sessions = x })) (sym (c.count.ensures ∙ ap (λ (x : Kept _). counted_in x.sessions turn) c.forget.ensures))
-    (counted_ready n (serves k.vault) (without_trans k c.args.trans) turn c.requires.turn (gone_ready n (serves k.vault) k c.args.trans h)))
-
-pub returns-clause-given : goal.returns-clause-given
-returns-clause-given g c =
-    let k = c.args.self.now in
-    let is : c.refused.result ≡ record { kept = Some (reply.Refused (refusal.Aborted cause.Asked)); handed = Some (reply.Refused (refusal.Aborted cause.Asked)); acts = act.Released c.args.trans ∷ [] } =
-    c.refused.ensures ∙ ap (λ (acts : List Act). record { kept = Some (reply.Refused (refusal.Aborted cause.Asked)); handed = Some (reply.Refused (refusal.Aborted cause.Asked)); acts = acts }) (c.new-acts.ensures ∙ c.in_ok-vec.ensures.items) in
-    reply_given (g.V.Vault.faults k.vault) (g.V.Vault.faults c.forget.new.self.vault) (g.V.Vault.allowance c.forget.new.self.vault) c.forget.new.self.is_down
-    (reply.Refused (refusal.Aborted cause.Asked)) (act.Released c.args.trans ∷ []) c.refused.result is refl (ap (λ (x : Kept _). x.is_down) c.forget.ensures ∙ c.requires.up) tt
+    let e = event.Call turn.client k.epoch turn.number (call.Finish t false) in
+    let mine = of_client turn.client (map.get k.lives t) c.requires.own in
+    let counts : c.count.new.self ≡ counted_in k.sessions turn = c.count.ensures ∙ ap (λ (x : Kept _). counted_in x.sessions turn) c.forget.ensures in
+    let is : c.refused.result ≡ record { kept = Some (reply.Refused (refusal.Aborted cause.Asked)); handed = Some (reply.Refused (refusal.Aborted cause.Asked)); acts = act.Released t ∷ [] } =
+    c.refused.ensures
+    ∙ ap (λ (acts : List Act). record { kept = Some (reply.Refused (refusal.Aborted cause.Asked)); handed = Some (reply.Refused (refusal.Aborted cause.Asked)); acts = acts }) (c.new-acts.ensures ∙ c.in_ok-vec.ensures.items) in
+    record {
+      stepped = λ told o s h.
+          subst (λ (x : Kept _). Stepped o s (held x.vault) (record x { sessions = c.count.new.self }) e c.refused.result) (sym c.forget.ensures)
+          (subst (λ (x : Sessions). Stepped o s (held k.vault) (record (without_trans k t) { sessions = x }) e c.refused.result) (sym counts)
+          (abort_stepped o s (held k.vault) k turn.client turn.session turn.number t mine.0 c.refused.result h c.requires.turn.client c.requires.alone c.requires.turn.session c.requires.turn.number mine.1 mine.2 is));
+      given =
+          reply_given (g.V.Vault.faults k.vault) (g.V.Vault.faults c.forget.new.self.vault) (g.V.Vault.allowance c.forget.new.self.vault) c.forget.new.self.is_down
+          (reply.Refused (refusal.Aborted cause.Asked)) (act.Released t ∷ []) c.refused.result is refl (ap (λ (x : Kept _). x.is_down) c.forget.ensures ∙ c.requires.up) tt;
+      ready = λ n h.
+          subst (λ (x : Kept _). IsReady (n + 1) (serves x.vault) (record x { sessions = c.count.new.self })) (sym c.forget.ensures)
+          (subst (λ (x : Sessions). IsReady (n + 1) (serves k.vault) (record (without_trans k t) { sessions = x })) (sym counts)
+          (counted_ready n (serves k.vault) (without_trans k t) turn c.requires.turn (gone_ready n (serves k.vault) k t h)));
+      still = tt;
+      seat =
+          subst (λ (x : Kept _). IsSeated g.V.Vault.allowance k (record x { sessions = c.count.new.self })) (sym c.forget.ensures)
+          (seated_alone g.V.Vault.allowance k (record (without_trans k t) { sessions = c.count.new.self }) refl refl refl);
+      telling = ap (λ (x : Kept _). g.V.Vault.tells x.vault) c.forget.ensures;
+    }

@@ -20,66 +20,67 @@ use Rattle.alp_node.specs.declared.lives.Live.{Live}
 use Rattle.alp_node.specs.declared.sessions.Sessions.{Sessions}
 use Rattle.alp_node.proofs.KeptLemmas.{as_under, none_held, begin_stepped}
 use Rattle.alp_node.proofs.ReadyLemmas.{next_new, undone_holds, undone_ready, begin_ready}
+use Rattle.alp_node.proofs.SeatLemmas.{seated_alone}
 use Rattle.alp_node.proofs.kept.Kept.begin.Goals as goal
 
-pub returns-then-is_err-clause-still : goal.returns-then-is_err-clause-still
-returns-then-is_err-clause-still g c o s h =
+pub returns-then-is_err : goal.returns-then-is_err
+returns-then-is_err g c =
     let k = c.args.self.now in
     let held = g.V.Vault.held k.vault in
+    let serves = g.V.Vault.serves k.vault in
     let t : TransId = record { server = k.server; epoch = k.epoch; counter = k.drawn + 1 } in
+    let new_one = next_new c.requires.ready.0 serves k c.requires.ready.2 in
     let lives : c.add.new.self ≡ k.lives = when_err c.add.result _ c.add.ensures.err (sym c.if-is_err.ensures.value) in
     let locks : c.release_all.new.self ≡ released (entered k.locks t) t = c.release_all.ensures.after ∙ ap (λ (x : Table). released x t) c.in_ok-enter.ensures.after in
-    let none : (r : Resource) → holding k.locks.held t r ≡ None = none_held k.locks.held t (map.get k.lives t) (s.lives t) (next_new c.requires.ready.0 (g.V.Vault.serves k.vault) k c.requires.ready.2) (h.lives t) in
-    subst (λ (x : LiveMap). IsAs o s held (record k { lives = x; locks = c.release_all.new.self })) (sym lives)
-    (as_under o s held k c.release_all.new.self (λ u r. ap (λ (x : Table). holding x.held u r) locks ∙ undone_holds k.locks t u r c.requires.ready.2.alone none) h)
+    record {
+      stepped = λ told o s h. tt;
+      given = tt;
+      ready = λ n h. tt;
+      still = record {
+        kept = λ o s h. (
+            let none : (r : Resource) → holding k.locks.held t r ≡ None = none_held k.locks.held t (map.get k.lives t) (s.lives t) new_one (h.lives t) in
+            subst (λ (x : LiveMap). IsAs o s held (record k { lives = x; locks = c.release_all.new.self })) (sym lives)
+            (as_under o s held k c.release_all.new.self (λ u r. ap (λ (x : Table). holding x.held u r) locks ∙ undone_holds k.locks t u r c.requires.ready.2.alone none) h)
+            );
+        ready = λ n h.
+            subst (λ (x : LiveMap). IsReady n serves (record k { lives = x; locks = c.release_all.new.self })) (sym lives)
+            (subst (λ (x : Table). IsReady n serves (record k { locks = x })) (sym locks) (undone_ready n serves k t new_one h));
+        up = refl;
+      };
+      seat = seated_alone g.V.Vault.allowance k (record k { lives = c.add.new.self; locks = c.release_all.new.self }) refl refl refl;
+      telling = refl;
+    }
 
-pub returns-then-is_err-clause-ready_still : goal.returns-then-is_err-clause-ready_still
-returns-then-is_err-clause-ready_still g c n h =
-    let k = c.args.self.now in
-    let t : TransId = record { server = k.server; epoch = k.epoch; counter = k.drawn + 1 } in
-    let lives : c.add.new.self ≡ k.lives = when_err c.add.result _ c.add.ensures.err (sym c.if-is_err.ensures.value) in
-    let locks : c.release_all.new.self ≡ released (entered k.locks t) t = c.release_all.ensures.after ∙ ap (λ (x : Table). released x t) c.in_ok-enter.ensures.after in
-    subst (λ (x : LiveMap). IsReady n (g.V.Vault.serves k.vault) (record k { lives = x; locks = c.release_all.new.self })) (sym lives)
-    (subst (λ (x : Table). IsReady n (g.V.Vault.serves k.vault) (record k { locks = x })) (sym locks) (undone_ready n (g.V.Vault.serves k.vault) k t (next_new c.requires.ready.0 (g.V.Vault.serves k.vault) k c.requires.ready.2) h))
-
-pub returns-clause-stepped : goal.returns-clause-stepped
-returns-clause-stepped g c o s h =
+pub returns : goal.returns
+returns g c =
     let k = c.args.self.now in
     let held = g.V.Vault.held k.vault in
-    let turn = c.args.turn.now in
-    let t : TransId = record { server = k.server; epoch = k.epoch; counter = k.drawn + 1 } in
-    let l : Live = record { client = turn.client; who = turn.session.who; part = c.new-2.result } in
-    let lives : c.add.new.self ≡ map.insert k.lives t l = when_ok c.add.result _ c.add.ensures.ok (sym c.if-is_err.ensures.value) in
-    let is : c.in_ok-answer.answer ≡ record { kept = Some (reply.Begun t); handed = Some (reply.Begun t); acts = act.Drawn t ∷ [] } =
-    c.in_ok-answer.ensures.ok ∙ ap (λ (acts : List Act). record { kept = Some (reply.Begun t); handed = Some (reply.Begun t); acts = acts }) (c.new-acts.ensures ∙ c.in_ok-vec.ensures.items) in
-    let same : (u : TransId) (r : Resource) → holding c.enter.new.self.held u r ≡ holding k.locks.held u r =
-    λ u r. ap (λ (x : Table). holding x.held u r) c.in_ok-enter.ensures.after ∙ ap (λ x. map.get x r) (entering-keeps-held k.locks t u) in
-    let stepped = begin_stepped o s held k turn.client turn.session turn.number c.args.seen c.new-2.result c.in_ok-answer.answer c.enter.new.self h c.requires.turn.client c.requires.turn.session c.requires.turn.number (next_new c.requires.ready.0 (g.V.Vault.serves k.vault) k c.requires.ready.2) same
-    c.new-2.ensures.own c.new-2.ensures.intents is in
-    subst (λ (n : ℕ). Stepped o s held (record k { clock = n; drawn = k.drawn + 1; sessions = c.count.new.self; lives = c.add.new.self; locks = c.enter.new.self }) (event.Call turn.client k.epoch turn.number (call.Begin c.args.seen)) c.in_ok-answer.answer) (sym c.max-self.ensures)
-    (subst (λ (x : Sessions). Stepped o s held (record k { clock = max k.clock c.args.seen.ts; drawn = k.drawn + 1; sessions = x; lives = c.add.new.self; locks = c.enter.new.self }) (event.Call turn.client k.epoch turn.number (call.Begin c.args.seen)) c.in_ok-answer.answer)
-    (sym c.count.ensures)
-    (subst (λ (x : LiveMap). Stepped o s held (record k { clock = max k.clock c.args.seen.ts; drawn = k.drawn + 1; sessions = counted_in k.sessions turn; lives = x; locks = c.enter.new.self }) (event.Call turn.client k.epoch turn.number (call.Begin c.args.seen)) c.in_ok-answer.answer)
-    (sym lives) stepped))
-
-pub returns-clause-ready : goal.returns-clause-ready
-returns-clause-ready g c n h =
-    let k = c.args.self.now in
     let serves = g.V.Vault.serves k.vault in
     let turn = c.args.turn.now in
     let t : TransId = record { server = k.server; epoch = k.epoch; counter = k.drawn + 1 } in
     let l : Live = record { client = turn.client; who = turn.session.who; part = c.new-2.result } in
+    let e = event.Call turn.client k.epoch turn.number (call.Begin c.args.seen) in
+    let a = c.in_ok-answer.answer in
+    let locks = c.enter.new.self in
     let lives : c.add.new.self ≡ map.insert k.lives t l = when_ok c.add.result _ c.add.ensures.ok (sym c.if-is_err.ensures.value) in
-    let clock = c.max-self.result in
-    subst (λ (x : Sessions). IsReady (n + 1) serves (record k { clock = clock; drawn = k.drawn + 1; sessions = x; lives = c.add.new.self; locks = c.enter.new.self })) (sym c.count.ensures)
-    (subst (λ (x : LiveMap). IsReady (n + 1) serves (record k { clock = clock; drawn = k.drawn + 1; sessions = counted_in k.sessions turn; lives = x; locks = c.enter.new.self })) (sym lives)
-    (subst (λ (x : Table). IsReady (n + 1) serves (record k { clock = clock; drawn = k.drawn + 1; sessions = counted_in k.sessions turn; lives = map.insert k.lives t l; locks = x })) (sym c.in_ok-enter.ensures.after)
-    (begin_ready n serves k turn t l clock c.requires.turn refl c.new-2.ensures.own h)))
-
-pub returns-clause-given : goal.returns-clause-given
-returns-clause-given g c =
-    let k = c.args.self.now in
-    let t : TransId = record { server = k.server; epoch = k.epoch; counter = k.drawn + 1 } in
-    let is : c.in_ok-answer.answer ≡ record { kept = Some (reply.Begun t); handed = Some (reply.Begun t); acts = act.Drawn t ∷ [] } =
+    let is : a ≡ record { kept = Some (reply.Begun t); handed = Some (reply.Begun t); acts = act.Drawn t ∷ [] } =
     c.in_ok-answer.ensures.ok ∙ ap (λ (acts : List Act). record { kept = Some (reply.Begun t); handed = Some (reply.Begun t); acts = acts }) (c.new-acts.ensures ∙ c.in_ok-vec.ensures.items) in
-    reply_given (g.V.Vault.faults k.vault) (g.V.Vault.faults k.vault) (g.V.Vault.allowance k.vault) k.is_down (reply.Begun t) (act.Drawn t ∷ []) c.in_ok-answer.answer is refl c.requires.up tt
+    let same : (u : TransId) (r : Resource) → holding locks.held u r ≡ holding k.locks.held u r =
+    λ u r. ap (λ (x : Table). holding x.held u r) c.in_ok-enter.ensures.after ∙ ap (λ x. map.get x r) (entering-keeps-held k.locks t u) in
+    record {
+      stepped = λ told o s h.
+          subst (λ (n : ℕ). Stepped o s held (record k { clock = n; drawn = k.drawn + 1; sessions = c.count.new.self; lives = c.add.new.self; locks = locks }) e a) (sym c.max-self.ensures)
+          (subst (λ (x : Sessions). Stepped o s held (record k { clock = max k.clock c.args.seen.ts; drawn = k.drawn + 1; sessions = x; lives = c.add.new.self; locks = locks }) e a) (sym c.count.ensures)
+          (subst (λ (x : LiveMap). Stepped o s held (record k { clock = max k.clock c.args.seen.ts; drawn = k.drawn + 1; sessions = counted_in k.sessions turn; lives = x; locks = locks }) e a) (sym lives)
+          (begin_stepped o s held k turn.client turn.session turn.number c.args.seen c.new-2.result a locks h c.requires.turn.client c.requires.turn.session c.requires.turn.number
+          (next_new c.requires.ready.0 serves k c.requires.ready.2) same c.new-2.ensures.own c.new-2.ensures.intents is)));
+      given = reply_given (g.V.Vault.faults k.vault) (g.V.Vault.faults k.vault) (g.V.Vault.allowance k.vault) k.is_down (reply.Begun t) (act.Drawn t ∷ []) a is refl c.requires.up tt;
+      ready = λ n h.
+          subst (λ (x : Sessions). IsReady (n + 1) serves (record k { clock = c.max-self.result; drawn = k.drawn + 1; sessions = x; lives = c.add.new.self; locks = locks })) (sym c.count.ensures)
+          (subst (λ (x : LiveMap). IsReady (n + 1) serves (record k { clock = c.max-self.result; drawn = k.drawn + 1; sessions = counted_in k.sessions turn; lives = x; locks = locks })) (sym lives)
+          (subst (λ (x : Table). IsReady (n + 1) serves (record k { clock = c.max-self.result; drawn = k.drawn + 1; sessions = counted_in k.sessions turn; lives = map.insert k.lives t l; locks = x })) (sym c.in_ok-enter.ensures.after)
+          (begin_ready n serves k turn t l c.max-self.result c.requires.turn refl c.new-2.ensures.own h)));
+      still = tt;
+      seat = seated_alone g.V.Vault.allowance k (record k { clock = c.max-self.result; drawn = k.drawn + 1; sessions = c.count.new.self; lives = c.add.new.self; locks = locks }) refl refl refl;
+      telling = refl;
+    }

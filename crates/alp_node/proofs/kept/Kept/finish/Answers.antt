@@ -1,30 +1,33 @@
+use Rattle.std.specs.Prelude.{true}
+use Rattle.std.proofs.Common.{◌+◌, [], refl, sym, ap, ◌∙◌, subst}
 use Rattle.alp_files.specs.declared.refusal.Refusal.TheVariants as refusal
 use Rattle.alp_files.specs.declared.reply.Reply.TheVariants as reply
-use Rattle.alp_node.specs.Steps.{IsGiven}
-use Rattle.alp_node.proofs.GivenLemmas.{reply_given}
-use Rattle.std.specs.Prelude.{true}
-use Rattle.std.proofs.Common.{◌+◌, sym, ◌∙◌, subst, refl, []}
 use Rattle.alp_node.specs.Kept.{IsReady}
+use Rattle.alp_node.specs.Steps.{IsGiven, IsSeated, counted_in}
 use Rattle.alp_node.specs.declared.kept.Kept.{Kept}
+use Rattle.alp_node.proofs.GivenLemmas.{reply_given}
 use Rattle.alp_node.proofs.ReadyLemmas.{counted_ready}
+use Rattle.alp_node.proofs.SeatLemmas.{seated_alone}
 use Rattle.alp_node.proofs.ServedLemmas.{no_finish_stepped}
 use Rattle.alp_node.proofs.kept.Kept.finish.Goals as goal
 
-pub returns-then-not-is_own-clause-stepped : goal.returns-then-not-is_own-clause-stepped
-returns-then-not-is_own-clause-stepped g c tells o s h =
-    no_finish_stepped o s g.V.Vault.held c.args.self.now c.refuse.new.self c.args.turn.now c.args.trans c.args.commit c.refuse.result h c.requires.turn
-    (sym c.is_own.ensures ∙ c.if-not-is_own.true) c.refuse.ensures.kept c.refuse.ensures.answer
-
-pub returns-then-not-is_own-clause-ready : goal.returns-then-not-is_own-clause-ready
-returns-then-not-is_own-clause-ready g c steps h =
-    subst (λ (n : Kept g.row.V.Denot). IsReady (steps + 1) (g.V.Vault.serves n.vault) n) (sym c.refuse.ensures.kept)
-    (counted_ready steps (g.V.Vault.serves c.args.self.now.vault) c.args.self.now c.args.turn.now c.requires.turn h)
+pub returns-then-not-is_own : goal.returns-then-not-is_own
+returns-then-not-is_own g c =
+    let k = c.args.self.now in
+    let n = c.refuse.new.self in
+    let a = c.refuse.result in
+    record {
+      stepped = λ told o s h.
+          no_finish_stepped o s g.V.Vault.held k n c.args.turn.now c.args.trans c.args.commit a h c.requires.turn (sym c.is_own.ensures ∙ c.if-not-is_own.true) c.refuse.ensures.kept c.refuse.ensures.answer;
+      given =
+          subst (λ (x : Kept g.row.V.Denot). IsGiven true (g.V.Vault.faults k.vault) (g.V.Vault.faults x.vault) (g.V.Vault.allowance x.vault) x.is_down a) (sym c.refuse.ensures.kept)
+          (reply_given (g.V.Vault.faults k.vault) (g.V.Vault.faults k.vault) (g.V.Vault.allowance k.vault) k.is_down (reply.Refused refusal.UnknownTrans) [] a c.refuse.ensures.answer refl c.requires.up tt);
+      ready = λ steps h.
+          subst (λ (x : Kept g.row.V.Denot). IsReady (steps + 1) (g.V.Vault.serves x.vault) x) (sym c.refuse.ensures.kept) (counted_ready steps (g.V.Vault.serves k.vault) k c.args.turn.now c.requires.turn h);
+      still = tt;
+      seat = subst (IsSeated g.V.Vault.allowance k) (sym c.refuse.ensures.kept) (seated_alone g.V.Vault.allowance k (record k { sessions = counted_in k.sessions c.args.turn.now }) refl refl refl);
+      telling = ap (λ (x : Kept g.row.V.Denot). g.V.Vault.tells x.vault) c.refuse.ensures.kept;
+    }
 
 pub commit-requires-clause-sound : goal.commit-requires-clause-sound
 commit-requires-clause-sound g c tells = c.requires.sound tells c.args.trans
-
-pub returns-then-not-is_own-clause-given : goal.returns-then-not-is_own-clause-given
-returns-then-not-is_own-clause-given g c =
-    let k = c.args.self.now in
-    subst (λ (n : Kept g.row.V.Denot). IsGiven true (g.V.Vault.faults k.vault) (g.V.Vault.faults n.vault) (g.V.Vault.allowance n.vault) n.is_down c.refuse.result) (sym c.refuse.ensures.kept)
-    (reply_given (g.V.Vault.faults k.vault) (g.V.Vault.faults k.vault) (g.V.Vault.allowance k.vault) k.is_down (reply.Refused refusal.UnknownTrans) [] c.refuse.result c.refuse.ensures.answer refl c.requires.up tt)

@@ -4,7 +4,8 @@ use Rattle.alp_files.specs.declared.reply.Reply.{Reply}
 use Rattle.alp_journal.specs.State.{Start}
 use Rattle.alp_node.specs.declared.kept.Kept.{Kept}
 use Rattle.alp_node.specs.declared.node.Node.{Node}
-use Rattle.alp_node.specs.Nodes.{IsKept, Answered, start_in, state_of}
+use Rattle.alp_node.specs.Nodes.{IsKept, Answered, start_in}
+use Rattle.alp_journal.specs.Serial.{state_of}
 use Rattle.alp_node.specs.Steps.{IsSeated, IsTimely}
 use Rattle.alp_node.proofs.NodeLemmas.{lives_sound, step_kept, still_kept}
 use Rattle.alp_node.proofs.node.Node.step.Goals as goal
@@ -22,7 +23,7 @@ returns-in-Ok-clause-kept g c =
     let n : Node g.row.V.Denot = record { opening = c.args.self.now.opening; kept = c.answer.new.self; journal = c.enter.new.self.journal } in
     let same : n ≡ c.enter.new.self = (λ i. record n { opening = sym c.enter.ensures.kept.1 i; kept = sym c.enter.ensures.kept.0 i }) in
     subst (IsKept g.V.Vault.tells g.V.Vault.serves g.V.Vault.held) same
-    (step_kept g.V.Vault.tells g.V.Vault.serves g.V.Vault.held c.args.self.now n c.args.event c.in-Ok.answer c.requires.kept refl c.answer.ensures.seat.server c.answer.ensures.tells
+    (step_kept g.V.Vault.tells g.V.Vault.serves g.V.Vault.held c.args.self.now n c.args.event c.in-Ok.answer c.requires.kept refl c.answer.ensures.seat.server c.answer.ensures.telling
     c.in-Ok.ensures.ready c.in-Ok.ensures.stepped (c.enter.ensures.filled c.args.self.now.journal (c.in_ok-make_place.ensures.ok.0) (c.in_ok-make_place.ensures.ok.1)))
 
 pub returns-in-Ok-clause-answered : goal.returns-in-Ok-clause-answered
@@ -56,12 +57,12 @@ returns-in-Ok-clause-clock g c tells =
 pub returns-in-Err-clause-kept : goal.returns-in-Err-clause-kept
 returns-in-Err-clause-kept g c =
     let n : Node g.row.V.Denot = record { opening = c.args.self.now.opening; kept = c.answer.new.self; journal = c.take_back.new.self } in
-    still_kept g.V.Vault.tells g.V.Vault.serves g.V.Vault.held c.args.self.now n c.requires.kept refl c.answer.ensures.seat.server c.answer.ensures.tells
-    c.in-Err.ensures.ready_still c.in-Err.ensures.still (c.take_back.ensures.taken c.args.self.now.journal (c.in_ok-make_place.ensures.ok.0) (c.in_ok-make_place.ensures.ok.1))
+    still_kept g.V.Vault.tells g.V.Vault.serves g.V.Vault.held c.args.self.now n c.requires.kept refl c.answer.ensures.seat.server c.answer.ensures.telling
+    c.in-Err.ensures.still.ready c.in-Err.ensures.still.kept (c.take_back.ensures.taken c.args.self.now.journal (c.in_ok-make_place.ensures.ok.0) (c.in_ok-make_place.ensures.ok.1))
 
 pub returns-in-Err-clause-clock : goal.returns-in-Err-clause-clock
 returns-in-Err-clause-clock g c tells =
     let o : Start = start_in g.V.Vault.held c.args.self.now in
     let r = (c.requires.kept.right tells).kept in
-    let now : c.args.self.now.kept.clock ≡ c.answer.new.self.clock = sym r.clock ∙ (c.in-Err.ensures.still o (state_of o c.args.self.now.journal) r).clock in
+    let now : c.args.self.now.kept.clock ≡ c.answer.new.self.clock = sym r.clock ∙ (c.in-Err.ensures.still.kept o (state_of o c.args.self.now.journal) r).clock in
     omega (arith, now)
