@@ -1,5 +1,5 @@
 //! Checkpoints.
-ghost use Rattle.std.specs.Prelude.{◌≡◌, ◌≤◌, ◌+◌, ◌↔◌, IsTrue, OnOk, OnErr, IsErrOf, true, false};
+ghost use Rattle.std.specs.Prelude.{◌≡◌, ◌<◌, ◌≤◌, ◌+◌, ◌↔◌, IsTrue, OnOk, OnErr, IsErrOf, true, false};
 ghost use Rattle.alp_base.specs.Causes.{Rose};
 ghost use Rattle.alp_base.specs.Allowances.{Spends};
 ghost use Rattle.alp_base.specs.declared.allowance.Allowance.TheVariants.{Spent};
@@ -71,7 +71,11 @@ impl<D: Disk> Wal<D> {
         ensures notes { held_notes self.new ≡ held_notes self.old }
         ensures volume { IsSameVolume (anchor_of self.old) (anchor_of self.new) }
         ensures stays_index { OnErr result (index_of self.new ≡ index_of self.old) }
+        ensures stays_end { OnErr result (end_of self.new ≡ end_of self.old) }
         ensures fitting { pages ≤ room_of self.old → self.new ≡ self.old }
+        ensures turned { room_of self.old < pages → OnOk result (anchor_of self.new ≡ turned (anchor_of self.old)) }
+        ensures turned_room { room_of self.old < pages → OnOk result (room_of self.new + notes_pages (notes_of self.old) ≡ (anchor_of self.old).sizes.area) }
+        ensures turned_index { room_of self.old < pages → OnOk result (index_of self.new ≡ no_index (anchor_of self.old).sizes.home) }
         ensures tells { D.tells (disk_of self.new) ≡ D.tells (disk_of self.old) }
         ensures size { D.size (disk_of self.new) ≡ D.size (disk_of self.old) }
         ensures allowance { Spends (D.allowance (disk_of self.old)) (D.allowance (disk_of self.new)) }
