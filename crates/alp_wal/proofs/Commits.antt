@@ -1,5 +1,6 @@
 -- What a commit leaves, at each moment and at the end.
 use Rattle.std.proofs.Common.{◌≡◌, inl, inr, ⊎_elim, ◌≤◌, ◌-◌, ℕ, Bool, true, false, List, [], ◌∷◌, ◌++◌, length, refl, sym, ap, subst, ◌∙◌, arith}
+use Rattle.std.specs.Prelude.{Result, Ok, Err, OnErr}
 use Rattle.std.specs.List.{AllByRecursion}
 use Rattle.alp_disk.specs.Disk.{Image, page, Only, NoMore, LeavesOnly}
 use Rattle.alp_disk.specs.Gates.{IsClosed}
@@ -103,6 +104,10 @@ log_kept {D} {n} {m} {v} {w} size anchor index notes end log = record {
   begun = subst (λ (t : Anchor × ℕ). area_first t.0 ≤ t.1) (λ i. (anchor i, end i)) log.begun;
   inside = subst (λ (t : Anchor × ℕ). t.1 ≤ area_end t.0) (λ i. (anchor i, end i)) log.inside;
 }
+
+pub on_err_both : {T E : Type 0} (r : Result T E) (P Q R : Type 0) → (P → Q → R) → OnErr r P → OnErr r Q → OnErr r R
+on_err_both (Ok x) P Q R both p q = tt
+on_err_both (Err e) P Q R both p q = both p q
 
 pub not_both : {b : Bool} → b ≡ true → b ≡ false → ⊥
 not_both is isnt = let no : true ≡ false = sym is ∙ isnt in cc

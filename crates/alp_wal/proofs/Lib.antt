@@ -5,4 +5,3 @@ pub mod Turns
 pub mod Checkpoints
 pub mod Commits
 pub mod Mounts
-pub mod Formats

@@ -1,5 +1,5 @@
 -- What a checkpoint leaves, at each moment and at the end.
-use Rattle.std.specs.Prelude.{◌≡◌, ◌⊎◌, ◌≤◌, ◌<◌, ℕ, ◌-◌, List, [], ◌∷◌}
+use Rattle.std.specs.Prelude.{◌≡◌, ◌⊎◌, ◌≤◌, ◌<◌, ℕ, ◌+◌, ◌-◌, List, [], ◌∷◌}
 use Rattle.alp_disk.specs.Disk.{Image, page}
 use Rattle.alp_anchor.specs.declared.anchor.Anchor.{Anchor}
 use Rattle.alp_anchor.specs.Anchor.{Counts, next_anchor, after}
@@ -7,6 +7,9 @@ use Rattle.alp_record.specs.Record.{Records}
 use Rattle.alp_live.specs.Home.{SameUnlogged, BroughtHome}
 use Rattle.alp_wal.specs.Reading.{area_first, area_end, home_first}
 use Rattle.alp_live.specs.Home.{Index}
+use Rattle.alp_live.specs.Live.{notes_pages}
+use Rattle.alp_wal.specs.Wal.{anchor_of, index_of, end_of, room_of, notes_of, no_index}
+use Rattle.alp_wal.specs.declared.wal.Wal.{Wal}
 
 -- ---- the log turns to the other area
 
@@ -37,3 +40,13 @@ MovingOver n a index body old c = SameUnlogged (home_first a) index old c ⊎ ((
 
 abbrev pub MovedOver : ℕ → Anchor → Index → List ℕ → Image → Image → Type 0
 MovedOver n a index body old new = (h : Image) × BroughtHome (home_first a) a.sizes.home index old h × Turned n a body h new
+
+-- ---- the log itself
+
+-- where it was: its anchor, its index and its end
+abbrev pub IsUnmoved : {D : Type 0} → Wal D → Wal D → Type 0
+IsUnmoved old new = (anchor_of new ≡ anchor_of old) × (index_of new ≡ index_of old) × (end_of new ≡ end_of old)
+
+-- in the other area, behind a record of the notes of before, and without images
+abbrev pub HasTurned : {D : Type 0} → Wal D → Wal D → Type 0
+HasTurned old new = (anchor_of new ≡ turned (anchor_of old)) × (index_of new ≡ no_index (anchor_of old).sizes.home) × (room_of new + notes_pages (notes_of old) ≡ (anchor_of old).sizes.area)

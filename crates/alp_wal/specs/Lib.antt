@@ -4,4 +4,3 @@ pub mod Wal
 pub mod Prepared
 pub mod Checkpoint
 pub mod Mount
-pub mod Format

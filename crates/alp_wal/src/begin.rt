@@ -1,14 +1,15 @@
 //! How a mount begins.
-ghost use Rattle.std.specs.Prelude.{◌≡◌, ◌≤◌, ◌+◌, length, IsTrue, OnOk, IfOk, IfErr, IsErrOf, []};
+ghost use Rattle.std.specs.Prelude.{◌≡◌, ◌≤◌, ◌+◌, length, IsTrue, OnOk, IfOk, IfErr, IsErrOf, ℕ, []};
 ghost use Rattle.alp_base.specs.Causes.{Rose};
 ghost use Rattle.alp_base.specs.Allowances.{Spends};
-ghost use Rattle.alp_base.specs.declared.faults.VaultFault.TheVariants.{Failed, Stopped};
+ghost use Rattle.alp_base.specs.declared.faults.VaultFault.TheVariants.{Failed, Stopped, Damaged};
 ghost use Rattle.alp_base.specs.declared.allowance.Allowance.TheVariants.{Spent};
 ghost use Rattle.alp_disk.specs.Disk.{Image as Pages, Only, NoMore, Adds};
 ghost use Rattle.alp_anchor.specs.Anchor.{IsSound, Counts};
 ghost use Rattle.alp_notes.specs.Notes.{entries_of};
 ghost use Rattle.alp_live.specs.Live.{AreLive};
 ghost use Rattle.alp_wal.specs.Reading.{area_first, area_end};
+ghost use Rattle.alp_wal.specs.Wal.{no_index};
 ghost use Rattle.alp_wal.specs.Mount.{Finds, WhyNone, halt_fault};
 
 use crate::found::{Found, no_images};
@@ -37,10 +38,11 @@ pub(super) fn area_of(anchor: &Anchor) -> Area
 }
 
 /// What is found before any record.
-pub(super) fn bare(alloc: Global, anchor: Anchor, first: u32) -> Result<Found, OutOfMemory>
+pub fn bare(alloc: Global, anchor: Anchor, first: u32) -> Result<Found, OutOfMemory>
     requires { first ≡ area_first anchor }
     ensures anchor { IfOk result (λ f. f.anchor ≡ anchor) }
     ensures end { IfOk result (λ f. f.end ≡ area_first anchor) }
+    ensures empty { IfOk result (λ f. f.index.items ≡ no_index anchor.sizes.home) }
     ensures index { IfOk result (λ f. length f.index.items ≡ anchor.sizes.home) }
     ensures live { IfOk result (λ f. AreLive f.notes) }
     ensures none { IfOk result (λ f. entries_of f.notes ≡ []) }
@@ -72,6 +74,7 @@ pub(super) fn begin<D: Disk>(disk: &mut D, server: u8, servers: u8) -> Result<An
     ensures sound { IfOk result (IsSound (D.size disk.old)) }
     ensures why_none { IsTrue (D.tells disk.old) → IfErr result (WhyNone server servers (D.size disk.old) (D.seen disk.old)) }
     ensures durable { IsTrue (D.tells disk.old) → OnOk result (Only (D.seen disk.old) (D.may_leave disk.new)) }
+    ensures damaged { IsTrue (D.tells disk.old) → (place : ℕ) → IsErrOf result (Damaged place) → Only (D.seen disk.old) (D.may_leave disk.new) }
     ensures tells { D.tells disk.new ≡ D.tells disk.old }
     ensures size { D.size disk.new ≡ D.size disk.old }
     ensures seen { D.seen disk.new ≡ D.seen disk.old }

@@ -1,5 +1,5 @@
 //! Checkpoints.
-ghost use Rattle.std.specs.Prelude.{◌≡◌, ◌≤◌, ◌+◌, ◌↔◌, IsTrue, OnOk, OnErr, IsErrOf, true, false};
+ghost use Rattle.std.specs.Prelude.{◌≡◌, ◌<◌, ◌≤◌, ◌+◌, ◌↔◌, IsTrue, OnOk, OnErr, IsErrOf, true, false};
 ghost use Rattle.alp_base.specs.Causes.{Rose};
 ghost use Rattle.alp_base.specs.Allowances.{Spends};
 ghost use Rattle.alp_base.specs.declared.allowance.Allowance.TheVariants.{Spent};
@@ -7,7 +7,7 @@ ghost use Rattle.alp_disk.specs.Disk.{LeavesOnly};
 ghost use Rattle.alp_wal.specs.Reading.{Reads};
 ghost use Rattle.alp_live.specs.Live.{notes_pages};
 ghost use Rattle.alp_wal.specs.Wal.{disk_of, anchor_of, end_of, index_of, held_notes, notes_of, is_dead, room_of, state_of, no_index, IsSameVolume, IsLog, IsKnown};
-ghost use Rattle.alp_wal.specs.Checkpoint.{turned};
+ghost use Rattle.alp_wal.specs.Checkpoint.{turned, IsUnmoved};
 ghost use Rattle.alp_wal.specs.declared.fault.WalFault.TheVariants.{Failed, Stopped, Full, Dead, OutOfMemory};
 
 use crate::{Wal, WalFault};
@@ -31,7 +31,7 @@ impl<D: Disk> Wal<D> {
         ensures anchor { OnOk result (anchor_of self.new ≡ turned (anchor_of self.old)) }
         ensures index { OnOk result (index_of self.new ≡ no_index (anchor_of self.old).sizes.home) }
         ensures notes { held_notes self.new ≡ held_notes self.old }
-        ensures stays { OnErr result ((anchor_of self.new ≡ anchor_of self.old) × (index_of self.new ≡ index_of self.old) × (end_of self.new ≡ end_of self.old)) }
+        ensures stays { OnErr result (IsUnmoved self.old self.new) }
         ensures volume { IsSameVolume (anchor_of self.old) (anchor_of self.new) }
         ensures tells { D.tells (disk_of self.new) ≡ D.tells (disk_of self.old) }
         ensures size { D.size (disk_of self.new) ≡ D.size (disk_of self.old) }
@@ -70,8 +70,11 @@ impl<D: Disk> Wal<D> {
         ensures room { OnOk result (pages ≤ room_of self.new) }
         ensures notes { held_notes self.new ≡ held_notes self.old }
         ensures volume { IsSameVolume (anchor_of self.old) (anchor_of self.new) }
-        ensures stays_index { OnErr result (index_of self.new ≡ index_of self.old) }
+        ensures stays { OnErr result (IsUnmoved self.old self.new) }
         ensures fitting { pages ≤ room_of self.old → self.new ≡ self.old }
+        ensures turned { room_of self.old < pages → OnOk result (anchor_of self.new ≡ turned (anchor_of self.old)) }
+        ensures turned_room { room_of self.old < pages → OnOk result (room_of self.new + notes_pages (notes_of self.old) ≡ (anchor_of self.old).sizes.area) }
+        ensures turned_index { room_of self.old < pages → OnOk result (index_of self.new ≡ no_index (anchor_of self.old).sizes.home) }
         ensures tells { D.tells (disk_of self.new) ≡ D.tells (disk_of self.old) }
         ensures size { D.size (disk_of self.new) ≡ D.size (disk_of self.old) }
         ensures allowance { Spends (D.allowance (disk_of self.old)) (D.allowance (disk_of self.new)) }

@@ -1,5 +1,5 @@
 //! Commits.
-ghost use Rattle.std.specs.Prelude.{◌≡◌, ◌≤◌, ◌+◌, ◌↔◌, length, IsTrue, OnOk, OnErr, IsErrOf, true, false};
+ghost use Rattle.std.specs.Prelude.{◌≡◌, ◌⊎◌, ◌<◌, ◌≤◌, ◌+◌, ◌↔◌, length, IsTrue, OnOk, OnErr, IsErrOf, true, false};
 ghost use Rattle.std.specs.List.{AllByRecursion};
 ghost use Rattle.alp_base.specs.Causes.{Rose};
 ghost use Rattle.alp_base.specs.Allowances.{Spends};
@@ -9,8 +9,9 @@ ghost use Rattle.alp_batch.specs.Batch.{IsBatch};
 ghost use Rattle.alp_notes.specs.Entries.{noted};
 ghost use Rattle.alp_notes.specs.Notes.{IsWhole, HasRoom};
 ghost use Rattle.alp_wal.specs.State.{Suits, IsBelow, applied};
-ghost use Rattle.alp_live.specs.Live.{batch_pages, BothFit};
-ghost use Rattle.alp_wal.specs.Wal.{disk_of, anchor_of, end_of, index_of, held_notes, notes_of, is_dead, room_of, state_of, indexed, IsSameVolume, IsLog, IsKnown, BeforeOrAfter};
+ghost use Rattle.alp_live.specs.Live.{batch_pages, notes_pages, BothFit};
+ghost use Rattle.alp_wal.specs.Wal.{disk_of, anchor_of, end_of, index_of, held_notes, notes_of, is_dead, room_of, state_of, indexed, no_index, IsSameVolume, IsLog, IsKnown, BeforeOrAfter};
+ghost use Rattle.alp_wal.specs.Checkpoint.{turned, IsUnmoved, HasTurned};
 ghost use Rattle.alp_wal.specs.Prepared.{batch_of, IsReady};
 ghost use Rattle.alp_wal.specs.declared.fault.WalFault.TheVariants.{Failed, Stopped, Full, Dead, OutOfMemory};
 
@@ -56,10 +57,12 @@ impl<D: Disk> Wal<D> {
         ensures before_or_after { IsTrue (D.tells (disk_of self.old)) → LeavesOnly D.left_since (disk_of self.old) (disk_of self.new) (BeforeOrAfter (anchor_of self.old).server (anchor_of self.old).servers (D.size (disk_of self.old)) (state_of self.old (D.seen (disk_of self.old))) (batch_of prepared)) }
         ensures anchor { anchor_of self.new ≡ anchor_of self.old }
         ensures takes_no_memory { IsErrOf result OutOfMemory → ⊥ }
+        ensures room { OnOk result (room_of self.new + batch_pages (batch_of prepared) ≡ room_of self.old) }
         ensures index { OnOk result (index_of self.new ≡ indexed (index_of self.old) (batch_of prepared).images) }
         ensures notes { OnOk result (notes_of self.new ≡ noted (notes_of self.old) (batch_of prepared).notes) }
         ensures stays_index { OnErr result (index_of self.new ≡ index_of self.old) }
         ensures stays_notes { OnErr result (notes_of self.new ≡ notes_of self.old) }
+        ensures stays_end { OnErr result (end_of self.new ≡ end_of self.old) }
         ensures tells { D.tells (disk_of self.new) ≡ D.tells (disk_of self.old) }
         ensures size { D.size (disk_of self.new) ≡ D.size (disk_of self.old) }
         ensures allowance { Spends (D.allowance (disk_of self.old)) (D.allowance (disk_of self.new)) }
@@ -97,11 +100,17 @@ impl<D: Disk> Wal<D> {
         ensures before_or_after { IsTrue (D.tells (disk_of self.old)) → LeavesOnly D.left_since (disk_of self.old) (disk_of self.new) (BeforeOrAfter (anchor_of self.old).server (anchor_of self.old).servers (D.size (disk_of self.old)) (state_of self.old (D.seen (disk_of self.old))) (batch_of prepared)) }
         ensures volume { IsSameVolume (anchor_of self.old) (anchor_of self.new) }
         ensures fitting { batch_pages (batch_of prepared) ≤ room_of self.old → anchor_of self.new ≡ anchor_of self.old }
+        ensures room { batch_pages (batch_of prepared) ≤ room_of self.old → OnOk result (room_of self.new + batch_pages (batch_of prepared) ≡ room_of self.old) }
+        ensures turned { room_of self.old < batch_pages (batch_of prepared) → OnOk result (anchor_of self.new ≡ turned (anchor_of self.old)) }
+        ensures turned_room { room_of self.old < batch_pages (batch_of prepared) → OnOk result (room_of self.new + batch_pages (batch_of prepared) + notes_pages (notes_of self.old) ≡ (anchor_of self.old).sizes.area) }
+        ensures turned_index { room_of self.old < batch_pages (batch_of prepared) → OnOk result (index_of self.new ≡ indexed (no_index (anchor_of self.old).sizes.home) (batch_of prepared).images) }
         ensures memory { IsErrOf result OutOfMemory → self.new ≡ self.old }
         ensures notes { OnOk result (notes_of self.new ≡ noted (notes_of self.old) (batch_of prepared).notes) }
         ensures index { batch_pages (batch_of prepared) ≤ room_of self.old → OnOk result (index_of self.new ≡ indexed (index_of self.old) (batch_of prepared).images) }
         ensures stays_notes { OnErr result (notes_of self.new ≡ notes_of self.old) }
         ensures stays_index { batch_pages (batch_of prepared) ≤ room_of self.old → OnErr result (index_of self.new ≡ index_of self.old) }
+        ensures stays_end { batch_pages (batch_of prepared) ≤ room_of self.old → OnErr result (end_of self.new ≡ end_of self.old) }
+        ensures turned_stays { room_of self.old < batch_pages (batch_of prepared) → OnErr result (IsUnmoved self.old self.new ⊎ HasTurned self.old self.new) }
         ensures tells { D.tells (disk_of self.new) ≡ D.tells (disk_of self.old) }
         ensures size { D.size (disk_of self.new) ≡ D.size (disk_of self.old) }
         ensures allowance { Spends (D.allowance (disk_of self.old)) (D.allowance (disk_of self.new)) }
@@ -134,10 +143,17 @@ impl<D: Disk> Wal<D> {
         ensures volume { IsSameVolume (anchor_of self.old) (anchor_of self.new) }
         // No checkpoint is made where the record fits the rest of the area.
         ensures fitting { batch_pages batch.now ≤ room_of self.old → anchor_of self.new ≡ anchor_of self.old }
+        ensures room { batch_pages batch.now ≤ room_of self.old → OnOk result (room_of self.new + batch_pages batch.now ≡ room_of self.old) }
+        // One is made where it does not: the log goes on in the other area, behind a record of the live notes.
+        ensures turned { room_of self.old < batch_pages batch.now → OnOk result (anchor_of self.new ≡ turned (anchor_of self.old)) }
+        ensures turned_room { room_of self.old < batch_pages batch.now → OnOk result (room_of self.new + batch_pages batch.now + notes_pages (notes_of self.old) ≡ (anchor_of self.old).sizes.area) }
+        ensures turned_index { room_of self.old < batch_pages batch.now → OnOk result (index_of self.new ≡ indexed (no_index (anchor_of self.old).sizes.home) batch.now.images) }
         ensures notes { OnOk result (notes_of self.new ≡ noted (notes_of self.old) batch.now.notes) }
         ensures index { batch_pages batch.now ≤ room_of self.old → OnOk result (index_of self.new ≡ indexed (index_of self.old) batch.now.images) }
         ensures stays_notes { OnErr result (notes_of self.new ≡ notes_of self.old) }
         ensures stays_index { batch_pages batch.now ≤ room_of self.old → OnErr result (index_of self.new ≡ index_of self.old) }
+        ensures stays_end { batch_pages batch.now ≤ room_of self.old → OnErr result (end_of self.new ≡ end_of self.old) }
+        ensures turned_stays { room_of self.old < batch_pages batch.now → OnErr result (IsUnmoved self.old self.new ⊎ HasTurned self.old self.new) }
         ensures tells { D.tells (disk_of self.new) ≡ D.tells (disk_of self.old) }
         ensures size { D.size (disk_of self.new) ≡ D.size (disk_of self.old) }
         ensures allowance { Spends (D.allowance (disk_of self.old)) (D.allowance (disk_of self.new)) }

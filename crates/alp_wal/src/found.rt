@@ -20,15 +20,17 @@ use std::alloc::Global;
 /// The most notes that are live at once.
 const MOST_NOTES: usize = 65535;
 
+/// The log of a disk, in memory, as far as its records were read.
 #[derive(Drop)]
-pub(super) struct Found {
+pub struct Found {
     pub(super) anchor: Anchor,
     pub(super) end: u32,
     pub(super) index: Vec<Option<PageRef>>,
     pub(super) notes: Notes,
 }
 
-pub(super) fn all_below(images: &[PageImage], home: u32) -> bool
+/// Whether all images are of home pages.
+pub fn all_below(images: &[PageImage], home: u32) -> bool
     ensures { IsTrue result ↔ AllByRecursion (IsBelow home) images.now }
 {
     images.iter().all(|i| i.at < home)

@@ -6,7 +6,6 @@ mod begin;
 mod checkpoint;
 mod commit;
 mod fault;
-mod formatting;
 mod found;
 mod laws;
 mod mounting;
@@ -16,11 +15,9 @@ mod read;
 mod turning;
 mod wal;
 
+pub use begin::bare;
 pub use fault::WalFault;
-pub use formatting::format;
+pub use found::{Found, all_below};
 pub use laws::a_disk_has_one_reading;
 pub use mounting::mount;
 pub use wal::Wal;
-
-#[cfg(test)]
-mod tests;

@@ -140,6 +140,7 @@ fn recover<D: Disk>(
     ensures live { IfOk result (λ f. AreLive f.notes) }
     ensures within { IfOk result (λ f. AreWithin (area_first f.anchor) f.end (entries_of f.notes)) }
     ensures durable { IsTrue (D.tells disk.old) → OnOk result (Only (D.seen disk.old) (D.may_leave disk.new)) }
+    ensures damaged { IsTrue (D.tells disk.old) → (place : ℕ) → IsErrOf result (Damaged place) → Only (D.seen disk.old) (D.may_leave disk.new) }
     ensures why_not { IsTrue (D.tells disk.old) → IfErr result (WhyNotMounted server servers (D.size disk.old) (D.seen disk.old)) }
     ensures tells { D.tells disk.new ≡ D.tells disk.old }
     ensures size { D.size disk.new ≡ D.size disk.old }
@@ -183,6 +184,8 @@ pub fn mount<D: Disk>(
     ensures same { IfOk result (λ w. D.seen (disk_of w) ≡ D.seen disk) }
     ensures time { IfOk result (λ w. Adds D.left_since disk (disk_of w) (D.may_leave disk)) }
     ensures why_not { IsTrue (D.tells disk) → IfErr result (λ e. WhyNotMounted server servers (D.size disk) (D.seen disk) e.1) }
+    // It began with a sync: what is refused as damaged is so after a crash too.
+    ensures damaged { IsTrue (D.tells disk) → IfErr result (λ e. (place : ℕ) → e.1 ≡ Damaged place → Only (D.seen e.0) (D.may_leave e.0)) }
     ensures same_refused { IfErr result (λ e. D.seen e.0 ≡ D.seen disk) }
     ensures time_refused { IfErr result (λ e. Adds D.left_since disk e.0 (D.may_leave disk)) }
     ensures tells_refused { IfErr result (λ e. D.tells e.0 ≡ D.tells disk) }
@@ -195,22 +198,6 @@ pub fn mount<D: Disk>(
     let mut disk = disk;
     match recover(alloc, &mut disk, server, servers) {
         Err(fault) => Err((disk, fault)),
-        Ok(found) => {
-            let Found {
-                anchor,
-                end,
-                index,
-                notes,
-            } = found;
-            Ok(Wal {
-                alloc,
-                disk,
-                anchor,
-                end,
-                index,
-                notes,
-                dead: false,
-            })
-        }
+        Ok(found) => Ok(Wal::over(alloc, disk, found)),
     }
 }

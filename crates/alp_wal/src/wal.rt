@@ -1,5 +1,5 @@
 //! The log itself.
-ghost use Rattle.std.specs.Prelude.{◌≡◌, option_map};
+ghost use Rattle.std.specs.Prelude.{◌≡◌, option_map, false};
 ghost use Rattle.alp_base.specs.Allowances.{Sets};
 ghost use Rattle.alp_disk.specs.Disk.{SameOutcomes, Adds};
 ghost use Rattle.alp_notes.specs.Entries.{value_of};
@@ -7,6 +7,7 @@ ghost use Rattle.alp_notes.specs.Notes.{names_of};
 ghost use Rattle.alp_wal.specs.Wal.{disk_of, anchor_of, end_of, index_of, notes_of, held_notes, is_dead, room_of, IsLog, IsKnown};
 
 use crate::begin::area_of;
+use crate::found::Found;
 use alp_anchor::Anchor;
 use alp_base::{Bytes, PageRef, Sizes};
 use alp_disk::Disk;
@@ -29,6 +30,32 @@ pub struct Wal<D: Disk> {
 }
 
 impl<D: Disk> Wal<D> {
+    /// The log of a disk on which this was found.
+    pub fn over(alloc: Global, disk: D, found: Found) -> Wal<D>
+        ensures disk { disk_of result ≡ disk }
+        ensures anchor { anchor_of result ≡ found.anchor }
+        ensures end { end_of result ≡ found.end }
+        ensures index { index_of result ≡ found.index.items }
+        ensures notes { held_notes result ≡ found.notes }
+        ensures alive { is_dead result ≡ false }
+    {
+        let Found {
+            anchor,
+            end,
+            index,
+            notes,
+        } = found;
+        Wal {
+            alloc,
+            disk,
+            anchor,
+            end,
+            index,
+            notes,
+            dead: false,
+        }
+    }
+
     /// The value of a note.
     pub fn note(&self, name: &Bytes) -> Option<&Bytes>
         requires { IsLog (D.size (disk_of self.now)) self.now }

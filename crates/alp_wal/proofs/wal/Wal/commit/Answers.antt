@@ -1,4 +1,5 @@
-use Rattle.std.proofs.Common.{◌≡◌, ◌≤◌, refl, sym, ◌∙◌, ap, subst, length}
+use Rattle.std.proofs.Common.{◌≡◌, ◌<◌, ◌≤◌, ◌+◌, refl, sym, ◌∙◌, ap, subst, length}
+use Rattle.std.specs.Prelude.{◌⊎◌, OnOk, OnErr}
 use Rattle.std.specs.List.{AllByRecursion}
 use Rattle.alp_disk.specs.Disk.{LeavesOnly}
 use Rattle.alp_disk.proofs.Moments.{leaves_only, nothing_added}
@@ -10,7 +11,8 @@ use Rattle.alp_notes.specs.Notes.{entries_of}
 use Rattle.alp_wal.specs.State.{State, Suits, applied}
 use Rattle.alp_live.specs.Live.{most_notes, puts, notes_pages, batch_pages, BothFit}
 use Rattle.alp_wal.specs.Reading.{home_pages}
-use Rattle.alp_wal.specs.Wal.{shown, disk_of, anchor_of, end_of, index_of, notes_of, is_dead, room_of, state_of, BeforeOrAfter}
+use Rattle.alp_wal.specs.Wal.{shown, indexed, no_index, disk_of, anchor_of, end_of, index_of, notes_of, is_dead, room_of, state_of, BeforeOrAfter}
+use Rattle.alp_wal.specs.Checkpoint.{turned, IsUnmoved}
 use Rattle.alp_wal.proofs.Commits.{crash_before, known_kept, not_both}
 use Rattle.alp_wal.proofs.wal.Wal.commit.Goals as goal
 
@@ -131,3 +133,29 @@ returns-clause-memory_end g c want = ap (λ w. end_of w) (c.store.ensures.memory
 
 pub returns-clause-memory_dead : goal.returns-clause-memory_dead
 returns-clause-memory_dead g c want = ap (λ w. is_dead w) (c.store.ensures.memory want)
+
+pub returns-clause-room : goal.returns-clause-room
+returns-clause-room g c fits =
+    subst (λ (b : Batch). OnOk c.store.result (room_of c.store.new.self + batch_pages b ≡ room_of c.args.self.now)) c.in_ok-prepared.ensures.batch
+    (c.store.ensures.room (subst (λ (b : Batch). batch_pages b ≤ room_of c.args.self.now) (sym c.in_ok-prepared.ensures.batch) fits))
+
+pub returns-clause-stays_end : goal.returns-clause-stays_end
+returns-clause-stays_end g c fits = c.store.ensures.stays_end (subst (λ (b : Batch). batch_pages b ≤ room_of c.args.self.now) (sym c.in_ok-prepared.ensures.batch) fits)
+
+pub returns-clause-turned : goal.returns-clause-turned
+returns-clause-turned g c over = c.store.ensures.turned (subst (λ (b : Batch). room_of c.args.self.now < batch_pages b) (sym c.in_ok-prepared.ensures.batch) over)
+
+pub returns-clause-turned_room : goal.returns-clause-turned_room
+returns-clause-turned_room g c over =
+    subst (λ (t : Batch × Entries). OnOk c.store.result (room_of c.store.new.self + batch_pages t.0 + notes_pages t.1 ≡ (anchor_of c.args.self.now).sizes.area)) (λ i. (c.in_ok-prepared.ensures.batch i, c.prepare.ensures.same i))
+    (c.store.ensures.turned_room (subst (λ (b : Batch). room_of c.args.self.now < batch_pages b) (sym c.in_ok-prepared.ensures.batch) over))
+
+pub returns-clause-turned_index : goal.returns-clause-turned_index
+returns-clause-turned_index g c over =
+    subst (λ (b : Batch). OnOk c.store.result (index_of c.store.new.self ≡ indexed (no_index (anchor_of c.args.self.now).sizes.home) b.images)) c.in_ok-prepared.ensures.batch
+    (c.store.ensures.turned_index (subst (λ (b : Batch). room_of c.args.self.now < batch_pages b) (sym c.in_ok-prepared.ensures.batch) over))
+
+pub returns-clause-turned_stays : goal.returns-clause-turned_stays
+returns-clause-turned_stays g c over =
+    subst (λ (e : Entries). OnErr c.store.result (IsUnmoved c.args.self.now c.store.new.self ⊎ ((anchor_of c.store.new.self ≡ turned (anchor_of c.args.self.now)) × (index_of c.store.new.self ≡ no_index (anchor_of c.args.self.now).sizes.home) × (room_of c.store.new.self + notes_pages e ≡ (anchor_of c.args.self.now).sizes.area)))) c.prepare.ensures.same
+    (c.store.ensures.turned_stays (subst (λ (b : Batch). room_of c.args.self.now < batch_pages b) (sym c.in_ok-prepared.ensures.batch) over))

@@ -22,3 +22,12 @@ returns-clause-any_moment g c told = c.checkpoint.ensures.any_moment told c.requ
 
 pub returns-clause-room : goal.returns-clause-room
 returns-clause-room g c = on_ok c.checkpoint.result _ _ (λ room. omega (arith, room, c.requires.both)) c.checkpoint.ensures.room
+
+pub returns-clause-turned : goal.returns-clause-turned
+returns-clause-turned g c over = c.checkpoint.ensures.anchor
+
+pub returns-clause-turned_room : goal.returns-clause-turned_room
+returns-clause-turned_room g c over = c.checkpoint.ensures.room
+
+pub returns-clause-turned_index : goal.returns-clause-turned_index
+returns-clause-turned_index g c over = c.checkpoint.ensures.index

@@ -140,3 +140,10 @@ returns-clause-log g c =
       begun = omega (arith, end, first, log.begun);
       inside = omega (arith, end, last, pages, c.requires.fits, log.inside);
     }
+
+pub returns-clause-room : goal.returns-clause-room
+returns-clause-room g c =
+    let old = c.args.self.now in
+    let long : length c.as_slice.result.now ≡ batch_length (batch_of c.args.prepared) = ap length (c.as_slice.ensures ∙ c.requires.ready.spelled) ∙ batch_is (batch_of c.args.prepared) c.requires.ready.fits in
+    let anchor : anchor_of c.settle.new.self ≡ anchor_of old = c.settle.ensures.anchor ∙ c.append.ensures.anchor in
+    omega (arith, ap body_pages long, ap area_end anchor, c.settle.ensures.end, c.in_ok-append.ensures.end, c.requires.fits, c.requires.log.inside)

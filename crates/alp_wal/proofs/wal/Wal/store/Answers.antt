@@ -1,4 +1,4 @@
-use Rattle.std.proofs.Common.{inl, IsTrue, refl, sym, ◌∙◌, ap, subst, arith, length}
+use Rattle.std.proofs.Common.{inl, inr, IsTrue, refl, sym, ◌∙◌, ap, subst, arith, length}
 use Rattle.alp_base.specs.declared.faults.Sizes.{Sizes}
 use Rattle.alp_batch.proofs.BatchLaws.{batch_is}
 use Rattle.alp_record.specs.Record.{body_pages}
@@ -7,12 +7,13 @@ use Rattle.alp_notes.specs.Entries.{Entries}
 use Rattle.alp_notes.specs.declared.notes.Notes.{Notes}
 use Rattle.alp_notes.specs.Notes.{entries_of, HasRoom}
 use Rattle.alp_wal.specs.State.{State, Suits, applied}
-use Rattle.alp_live.specs.Live.{BothFit}
-use Rattle.alp_wal.specs.Wal.{anchor_of, end_of, index_of, indexed}
+use Rattle.alp_live.specs.Live.{BothFit, batch_pages}
+use Rattle.alp_live.specs.Home.{Index}
 use Rattle.alp_wal.specs.Reading.{area_end}
-use Rattle.std.specs.Prelude.{OnOk, OnErr, ◌≡◌, ◌+◌}
+use Rattle.alp_wal.specs.Wal.{anchor_of, end_of, index_of, room_of, indexed}
+use Rattle.std.specs.Prelude.{OnOk, OnErr, ◌≡◌, ◌+◌, ◌<◌}
 use Rattle.alp_wal.specs.Prepared.{batch_of}
-use Rattle.alp_wal.proofs.Commits.{leaves_weaker, leaves_then, before_or_after_as}
+use Rattle.alp_wal.proofs.Commits.{leaves_weaker, leaves_then, before_or_after_as, on_err_both}
 use Rattle.alp_wal.proofs.wal.Wal.store.Goals as goal
 
 pub returns-in_err-make_room-clause-before_or_after : goal.returns-in_err-make_room-clause-before_or_after
@@ -78,3 +79,42 @@ returns-clause-stays_index g c fits =
     let long = ap length (c.as_slice.ensures ∙ c.requires.ready.spelled) ∙ batch_is (batch_of c.args.prepared) c.requires.ready.fits in
     let same = c.make_room.ensures.fitting (omega (arith, ap body_pages long, c.record_pages.ensures, fits)) in
     subst (λ w. OnErr c.put.result (index_of c.put.new.self ≡ index_of w)) same c.put.ensures.stays_index
+
+pub returns-clause-stays_end : goal.returns-clause-stays_end
+returns-clause-stays_end g c fits =
+    let long = ap length (c.as_slice.ensures ∙ c.requires.ready.spelled) ∙ batch_is (batch_of c.args.prepared) c.requires.ready.fits in
+    let same = c.make_room.ensures.fitting (omega (arith, ap body_pages long, c.record_pages.ensures, fits)) in
+    subst (λ w. OnErr c.put.result (end_of c.put.new.self ≡ end_of w)) same c.put.ensures.stays_end
+
+pub returns-clause-room : goal.returns-clause-room
+returns-clause-room g c fits =
+    let long = ap length (c.as_slice.ensures ∙ c.requires.ready.spelled) ∙ batch_is (batch_of c.args.prepared) c.requires.ready.fits in
+    let same = c.make_room.ensures.fitting (omega (arith, ap body_pages long, c.record_pages.ensures, fits)) in
+    subst (λ w. OnOk c.put.result (room_of c.put.new.self + batch_pages (batch_of c.args.prepared) ≡ room_of w)) same c.put.ensures.room
+
+pub returns-clause-turned : goal.returns-clause-turned
+returns-clause-turned g c over =
+    let long = ap length (c.as_slice.ensures ∙ c.requires.ready.spelled) ∙ batch_is (batch_of c.args.prepared) c.requires.ready.fits in
+    let more : room_of c.args.self.now < c.record_pages.result = omega (arith, ap body_pages long, c.record_pages.ensures, over) in
+    on_ok c.put.result _ _ (λ alive. c.put.ensures.anchor ∙ c.in_ok-make_room.ensures.turned more) c.put.ensures.alive
+
+pub returns-clause-turned_room : goal.returns-clause-turned_room
+returns-clause-turned_room g c over =
+    let long = ap length (c.as_slice.ensures ∙ c.requires.ready.spelled) ∙ batch_is (batch_of c.args.prepared) c.requires.ready.fits in
+    let more : room_of c.args.self.now < c.record_pages.result = omega (arith, ap body_pages long, c.record_pages.ensures, over) in
+    on_ok c.put.result _ _ (λ room. omega (arith, room, c.in_ok-make_room.ensures.turned_room more)) c.put.ensures.room
+
+pub returns-clause-turned_index : goal.returns-clause-turned_index
+returns-clause-turned_index g c over =
+    let long = ap length (c.as_slice.ensures ∙ c.requires.ready.spelled) ∙ batch_is (batch_of c.args.prepared) c.requires.ready.fits in
+    let more : room_of c.args.self.now < c.record_pages.result = omega (arith, ap body_pages long, c.record_pages.ensures, over) in
+    on_ok c.put.result _ _ (λ index. index ∙ ap (λ (x : Index). indexed x (batch_of c.args.prepared).images) (c.in_ok-make_room.ensures.turned_index more)) c.put.ensures.index
+
+pub returns-clause-turned_stays : goal.returns-clause-turned_stays
+returns-clause-turned_stays g c over =
+    let long = ap length (c.as_slice.ensures ∙ c.requires.ready.spelled) ∙ batch_is (batch_of c.args.prepared) c.requires.ready.fits in
+    let more : room_of c.args.self.now < c.record_pages.result = omega (arith, ap body_pages long, c.record_pages.ensures, over) in
+    let turns = c.in_ok-make_room.ensures in
+    on_err_both c.put.result _ _ _
+    (λ index end. inr (c.put.ensures.anchor ∙ turns.turned more, index ∙ turns.turned_index more, omega (arith, ap area_end c.put.ensures.anchor, end, turns.turned_room more)))
+    c.put.ensures.stays_index c.put.ensures.stays_end

@@ -3,9 +3,9 @@ use Rattle.alp_disk.proofs.Moments.{adds_weaker, adds_more, leaves_only}
 use Rattle.alp_anchor.specs.Gate.{Opening}
 use Rattle.alp_anchor.proofs.Anchors.{open_anchor_gate}
 use Rattle.alp_record.proofs.Bodies.{on_ok}
-use Rattle.alp_wal.specs.Format.{Formatting}
-use Rattle.alp_wal.proofs.Formats.{new_volume, opening_leaves}
-use Rattle.alp_wal.proofs.formatting.establish.Goals as goal
+use Rattle.alp_volume.specs.Format.{Formatting}
+use Rattle.alp_volume.proofs.Formats.{new_volume, opening_leaves}
+use Rattle.alp_volume.proofs.formatting.establish.Goals as goal
 
 pub open_gate-requires-clause-gate : goal.open_gate-requires-clause-gate
 open_gate-requires-clause-gate g c = ap (λ p. slice_index p 0) c.anchor_page-page.ensures ∙ open_anchor_gate _

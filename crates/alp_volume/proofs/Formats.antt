@@ -1,6 +1,6 @@
 -- What formatting leaves, at each moment and at the end.
 use Rattle.std.proofs.Common.{◌≡◌, inl, inr, ⊎_elim, ◌<◌, ◌≤◌, ◌+◌, ◌-◌, ◌*◌, ℕ, zero, suc, List, [], ◌∷◌, take, drop, slice_index, refl, sym, ap, ◌∙◌, arith}
-use Rattle.std.specs.Prelude.{replicate, None}
+use Rattle.std.specs.Prelude.{replicate}
 use Rattle.std.proofs.lemmas.List.{take-replicate, drop-replicate}
 use Rattle.alp_base.specs.Pages.{zero_page}
 use Rattle.alp_base.specs.declared.faults.Sizes.{Sizes}
@@ -11,12 +11,11 @@ use Rattle.alp_anchor.specs.Anchor.{AreSizesOf, IsSound, open_anchor}
 use Rattle.alp_anchor.specs.declared.anchor.Anchor.{Anchor}
 use Rattle.alp_anchor.specs.Gate.{SameBut, Opening}
 use Rattle.alp_anchor.proofs.Anchors.{gate_of_open}
-use Rattle.alp_notes.specs.Entries.{Entries}
 use Rattle.alp_wal.specs.State.{State}
 use Rattle.alp_wal.specs.Reading.{pages_from, home_pages, home_first, area_first, ReadsBy}
-use Rattle.alp_live.specs.Home.{Index}
-use Rattle.alp_wal.specs.Wal.{shown}
-use Rattle.alp_wal.specs.Format.{blank_state, SameAreas, IsCleared, Formatting}
+use Rattle.alp_wal.specs.Wal.{shown, no_index, anchor_of, index_of, notes_of, state_of}
+use Rattle.alp_wal.specs.declared.wal.Wal.{Wal}
+use Rattle.alp_volume.specs.Format.{blank_state, SameAreas, IsCleared, Formatting}
 use Rattle.alp_wal.proofs.States.{shown_bare}
 
 -- a page of a run of zeros
@@ -76,9 +75,10 @@ module _ (n : ℕ) (a : Anchor) (sound : IsSound n a) (page_is : a.page ≡ 0) (
       (λ whole. inr (record { anchor = a; bodies = []; server_is = refl; servers_is = refl; by = new_volume c opening.others whole }))
       opening.whole
 
--- what a log without records and notes holds
-pub shows_blank : (n : ℕ) (image : Image) (a : Anchor) (index : Index) (notes : Entries) → index ≡ replicate a.sizes.home None → notes ≡ [] → ReadsBy n image a [] (blank_state a.sizes.home)
-    → ◌≡◌ {A = State} (record { pages = shown (home_pages image a) index; notes = notes }) (blank_state a.sizes.home)
-shows_blank n image a index notes index_is notes_are by =
-    let pages = ap (λ (x : Index). shown (home_pages image a) x) index_is ∙ shown_bare (home_pages image a) a.sizes.home in
-    ◌∙◌ {A = State} (λ i. record { pages = pages i; notes = notes_are i }) by.leads
+-- what a log without images and notes holds
+pub shows_blank : {D : Type 0} (n : ℕ) (w : Wal D) (image seen : Image) (a : Anchor) → seen ≡ image → anchor_of w ≡ a → index_of w ≡ no_index a.sizes.home → notes_of w ≡ [] → ReadsBy n image a [] (blank_state a.sizes.home)
+    → state_of w seen ≡ blank_state a.sizes.home
+shows_blank n w image seen a same anchor index notes by =
+    let shows : shown (home_pages seen (anchor_of w)) (index_of w) ≡ shown (home_pages image a) (no_index a.sizes.home) = λ i. shown (home_pages (same i) (anchor i)) (index i) in
+    let pages = shows ∙ shown_bare (home_pages image a) a.sizes.home in
+    ◌∙◌ {A = State} (λ i. record { pages = pages i; notes = notes i }) by.leads

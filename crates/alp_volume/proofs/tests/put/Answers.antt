@@ -12,7 +12,7 @@ use Rattle.alp_notes.specs.Entries.{Entries, without, changed, noted}
 use Rattle.alp_notes.proofs.Places.{length-paired}
 use Rattle.alp_wal.specs.State.{IsBelow}
 use Rattle.alp_wal.specs.Wal.{notes_of}
-use Rattle.alp_wal.proofs.tests.put.Goals as goal
+use Rattle.alp_volume.proofs.tests.put.Goals as goal
 
 length_put : (name value : List ℕ) (es : Entries) → length (put text_cmp name value es) ≤ length es + 1
 length_put name value [] = omega arith

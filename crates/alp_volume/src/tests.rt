@@ -2,11 +2,11 @@ ghost use Rattle.std.specs.Prelude.{◌≡◌, ◌<◌, IsTrue, IfOk, false};
 ghost use Rattle.alp_batch.specs.Batch.{IsBatch};
 ghost use Rattle.alp_wal.specs.Wal.{disk_of, is_dead, IsLog, IsKnown};
 
-use crate::found::all_below;
-use crate::{Wal, WalFault, format, mount};
+use crate::format;
 use alp_base::{Bytes, Page, Sizes};
 use alp_batch::{Batch, decode};
 use alp_disk::{Disk, FileDisk, Fuse, MemDisk};
+use alp_wal::{Wal, WalFault, all_below, mount};
 use rand_core::{Rng, SeedableRng};
 use rand_pcg::Pcg32;
 use std::alloc::Global;
@@ -372,7 +372,7 @@ fn is_kept<D: Disk>(alloc: Global, disk: D) -> Result<bool, Fail> {
 #[test]
 fn a_file_holds_a_log(rt: HostRuntime) -> Result<(), Fail> {
     let alloc = rt.alloc();
-    let name = format!(in alloc; "alp_wal-test-{}", process::id(rt.process()))?;
+    let name = format!(in alloc; "alp_volume-test-{}", process::id(rt.process()))?;
     let path = env::temp_dir(&rt)?.join(alloc, name.as_str())?;
     let file = File::create_new(&rt, path.as_path())?;
     let sized = file.set_len(512 * PAGES as u64);

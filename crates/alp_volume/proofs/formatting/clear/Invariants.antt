@@ -2,7 +2,7 @@ use Rattle.std.proofs.Common.{◌≡◌, ◌≤◌, ◌*◌, IsTrue, replicate}
 use Rattle.alp_disk.specs.Disk.{Follows, After, Adds}
 use Rattle.alp_base.specs.Allowances.{Spends}
 use Rattle.alp_disk.specs.Runs.{SameOutside, Holds}
-use Rattle.alp_wal.proofs.formatting.clear.Given as goal
+use Rattle.alp_volume.proofs.formatting.clear.Given as goal
 
 abbrev pub invariant-loop-k : goal.invariant-loop-k
 invariant-loop-k g l = record {

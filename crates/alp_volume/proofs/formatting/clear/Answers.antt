@@ -2,8 +2,8 @@ use Rattle.std.proofs.Common.{◌*◌, IsTrue, sym, ◌∙◌, subst, arith, rep
 use Rattle.alp_disk.proofs.Moments.{adds_more}
 use Rattle.alp_base.proofs.AllowanceLemmas.{spends_then}
 use Rattle.alp_disk.proofs.RunLemmas.{follows_torn, holds_next}
-use Rattle.alp_wal.proofs.Formats.{zeros_at}
-use Rattle.alp_wal.proofs.formatting.clear.Goals as goal
+use Rattle.alp_volume.proofs.Formats.{zeros_at}
+use Rattle.alp_volume.proofs.formatting.clear.Goals as goal
 
 pub returns-in_err-write-clause-crash : goal.returns-in_err-write-clause-crash
 returns-in_err-write-clause-crash g c = follows_torn _ _ _ _ _ _ _ c.loop-k-test.true c.loop-k.invariant.crash c.write.ensures.crash

@@ -9,15 +9,12 @@ ghost use Rattle.alp_disk.specs.Runs.{SameOutside, Holds};
 ghost use Rattle.alp_anchor.specs.Anchor.{AreSizesOf, IsSound};
 ghost use Rattle.alp_wal.specs.Reading.{ReadsBy};
 ghost use Rattle.alp_wal.specs.Wal.{disk_of, anchor_of, state_of, room_of, is_dead, IsLog, IsKnown};
-ghost use Rattle.alp_wal.specs.Format.{blank_state, first_anchor, SameAreas, IsCleared, Formatting};
+ghost use Rattle.alp_volume.specs.Format.{blank_state, first_anchor, SameAreas, IsCleared, Formatting};
 
-use crate::Wal;
-use crate::begin::halted;
-use crate::found::no_images;
 use alp_anchor::{Anchor, anchor_page, open_gate};
 use alp_base::{Halt, Page, Sizes, VaultFault};
 use alp_disk::Disk;
-use alp_notes::Notes;
+use alp_wal::{Wal, bare};
 use std::alloc::Global;
 
 /// Writes zeros into so many pages, and syncs nothing.
@@ -129,21 +126,14 @@ pub fn format<D: Disk>(
         servers,
         sizes,
     };
-    let index = match no_images(alloc, sizes.home) {
-        Ok(index) => index,
+    let found = match bare(alloc, anchor, 2) {
+        Ok(found) => found,
         Err(_) => return Err((disk, VaultFault::OutOfMemory)),
     };
     let mut disk = disk;
     match establish(&mut disk, &anchor) {
-        Err(halt) => Err((disk, halted(halt))),
-        Ok(()) => Ok(Wal {
-            alloc,
-            disk,
-            anchor,
-            end: 2,
-            index,
-            notes: Notes::new(alloc),
-            dead: false,
-        }),
+        Err(Halt::Failed) => Err((disk, VaultFault::Failed)),
+        Err(Halt::Stopped) => Err((disk, VaultFault::Stopped)),
+        Ok(()) => Ok(Wal::over(alloc, disk, found)),
     }
 }

@@ -1,8 +1,8 @@
 use Rattle.std.proofs.Common.{IsTrue, sym, subst, arith}
 use Rattle.alp_disk.proofs.Moments.{adds_weaker, adds_more}
 use Rattle.alp_record.proofs.Bodies.{on_ok}
-use Rattle.alp_wal.proofs.Formats.{front_after, both_after, is_cleared}
-use Rattle.alp_wal.proofs.formatting.clear_all.Goals as goal
+use Rattle.alp_volume.proofs.Formats.{front_after, both_after, is_cleared}
+use Rattle.alp_volume.proofs.formatting.clear_all.Goals as goal
 
 pub returns-in_err-clear-clause-crash : goal.returns-in_err-clear-clause-crash
 returns-in_err-clear-clause-crash g c = λ x left. front_after c.args.sizes _ _ x (c.clear.ensures.crash x left) (omega arith)

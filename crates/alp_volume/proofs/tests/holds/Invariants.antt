@@ -1,6 +1,6 @@
 use Rattle.std.proofs.Common.{◌≡◌, IsTrue, false}
 use Rattle.alp_wal.specs.Wal.{disk_of, is_dead, IsLog, IsKnown}
-use Rattle.alp_wal.proofs.tests.holds.Given as goal
+use Rattle.alp_volume.proofs.tests.holds.Given as goal
 
 abbrev pub invariant-loop-at : goal.invariant-loop-at
 invariant-loop-at g l = record {

@@ -1,6 +1,6 @@
 use Rattle.std.proofs.Common.{◌≡◌, IsTrue, false}
 use Rattle.alp_wal.specs.Wal.{disk_of, is_dead, IsLog, IsKnown}
-use Rattle.alp_wal.proofs.tests.Run.many.Given as goal
+use Rattle.alp_volume.proofs.tests.Run.many.Given as goal
 
 abbrev pub invariant-loop : goal.invariant-loop
 invariant-loop g l = record {
