@@ -68,7 +68,7 @@ abbrev pub ended_by : Act → List TransId
 ended_by (act.Decided stamp parts) = stamp.trans ∷ []
 ended_by a = []
 
--- a refused Finish ends the part, where it is the client's own and live
+-- a Finish that is refused as aborted ends the part, where it is the client's own and live
 abbrev pub ends_if : TransId → ℕ → Option Life → List TransId
 ends_if t client None = []
 ends_if t client (Some l) = if l.client == client then t ∷ [] else []
@@ -113,7 +113,7 @@ client_of e = None
 -- A file call is performed by its own client's part, before it votes. It is one of the grammar. Its reply is what a
 -- thread is answered that sees the committed cells with the part's own earlier changes; the id of a new file was never
 -- given before; and the part holds the locks of the call, as it sees the files. A call that is refused as one on an
--- unknown open, or on an open that is not for change, has no locks.
+-- unknown open, or on an open that is not for change, needs no locks.
 pub record IsPerformed (s : State) (e : Event) (l : Life) (d : Done) : Type 0 where
   pub client : client_of e ≡ Some l.client
   pub active : l.vote ≡ None

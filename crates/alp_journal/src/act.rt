@@ -2,7 +2,7 @@
 use crate::{Message, Parts, Stamps};
 use alp_base::{JoinNo, Stamp, TransId};
 
-/// One thing that a server did, in the order in which it came about.
+/// One thing that came about in a step.
 #[derive(Clone, Drop)]
 pub enum Act {
     Sent {

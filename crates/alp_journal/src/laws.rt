@@ -1,4 +1,4 @@
-//! What follows from the laws of a journal alone.
+//! What follows from the laws of a journal.
 ghost use Rattle.std.specs.Prelude.{◌≡◌, ℕ, Bool, List, [], None, Some, true, false};
 ghost use Rattle.alp_base.specs.declared.choices.Access.{Access};
 ghost use Rattle.alp_base.specs.declared.choices.Choice.{Choice};
@@ -30,7 +30,7 @@ pub fn promises_are_kept()
 /// history in the order of their stamps, from the files that the server opened on to those that it
 /// holds; and charges equal sizes after each of them.
 ///
-/// It follows from the laws alone: each part saw the committed files under its own changes, and the
+/// It follows from the laws, on a sound opening: each part saw the committed files under its own changes, and the
 /// locks of parts that lived at a time agreed, so what one committed changed nothing that another
 /// had looked at (strict two-phase locking: Bernstein, Hadzilacos and Goodman 1987).
 pub fn decided_transactions_are_one_thread()
@@ -39,8 +39,8 @@ pub fn decided_transactions_are_one_thread()
 {}
 
 /// A call that is refused in passing leaves files, intents, opens and locks as they were: one of a transaction that is
-/// not live, one in the way of another's locks, one in which the device failed or was stopped, and the open of a file
-/// that never was. A transaction that ends without effect goes with what it intended and held, and leaves all else.
+/// not live, one that another's lock is in the way of, one in which the device failed or was stopped, and the open of a file
+/// that never was. A transaction that ends as its client asked goes with what it intended and held, and leaves all else.
 pub fn passing_refusals_change_nothing()
     ensures refused { (s : State) (e : Entry) (f : Refusal) → HasCause s e → e.reply ≡ Some (reply.Refused f) → is_passing_refusal f ≡ true → is_aborted f ≡ false → IsAsBefore s (next s e) }
     ensures unknown { (s : State) (e : Entry) (client epoch number : ℕ) (t : TransId) (file : FileId) (access : Access) (mode : Mode) (choice : Choice) → HasCause s e → e.event ≡ event.Call client epoch number (call.OpenFile t file access mode choice) → e.reply ≡ Some (reply.Refused refusal.UnknownFile) → is_given s file ≡ false → IsAsBefore s (next s e) }

@@ -14,7 +14,7 @@ pub struct Exchange {
     pub place: Option<u32>,
 }
 
-/// What a client did at one line of the script. What a client's lines sent, in order, is the list of its own.
+/// What a client did at one line of the script.
 #[derive(Drop)]
 pub struct LineLog {
     pub line: u32,
@@ -22,7 +22,7 @@ pub struct LineLog {
     pub exchanges: Vec<Exchange>,
 }
 
-/// All that a run did. A rank orders the entries of all servers: an entry that depends on another has the greater.
+/// All that a run did. A rank orders the entries of all servers: an entry that depends on another has the greater rank.
 #[derive(Drop)]
 pub struct RunLog<O: Opening> {
     pub server: u8,

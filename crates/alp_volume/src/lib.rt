@@ -1,4 +1,4 @@
-//! A new volume is made of a disk: anchors, an area of the log without records, home pages of zeros.
+//! A new volume is made of a disk: an anchor, an area of the log without records, home pages of zeros.
 #![tactic(auto)]
 
 mod formatting;

@@ -18,8 +18,8 @@ impl<D: Disk> Wal<D> {
     /// Brings the images of the area home, and goes on in the other area behind a record of the live
     /// notes. Pages and notes stay.
     ///
-    /// A call makes seven syncs, one more where the gate of the other anchor stands open, and reads
-    /// one page.
+    /// As it stands, a call makes seven syncs, one more where the gate of the other anchor stands open,
+    /// and reads one page; no clause says so.
     pub fn checkpoint(&mut self) -> Result<(), WalFault>
         requires log { IsLog (D.size (disk_of self.old)) self.old }
         requires known { IsTrue (D.tells (disk_of self.old)) → is_dead self.old ≡ false → IsKnown (D.size (disk_of self.old)) (D.seen (disk_of self.old)) (D.may_leave (disk_of self.old)) self.old }

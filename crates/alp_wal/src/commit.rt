@@ -129,8 +129,8 @@ impl<D: Disk> Wal<D> {
 
     /// Commits a batch: after `Ok` every crash leaves it, and before that all of it or none.
     ///
-    /// Where its record does not fit the rest of the area, a checkpoint is made first. A call without
-    /// one makes two syncs, and reads nothing.
+    /// Where its record does not fit the rest of the area, a checkpoint is made first. As it stands, a
+    /// call without one makes two syncs and reads nothing; no clause says so.
     pub fn commit(&mut self, batch: &Batch) -> Result<(), WalFault>
         requires log { IsLog (D.size (disk_of self.old)) self.old }
         requires known { IsTrue (D.tells (disk_of self.old)) → is_dead self.old ≡ false → IsKnown (D.size (disk_of self.old)) (D.seen (disk_of self.old)) (D.may_leave (disk_of self.old)) self.old }
@@ -165,7 +165,7 @@ impl<D: Disk> Wal<D> {
         ensures halted { IsErrOf result Failed → is_dead self.new ≡ true }
         ensures cut_off { IsErrOf result Stopped → is_dead self.new ≡ true }
         ensures alive { OnOk result (is_dead self.new ≡ false) }
-        // Each refusal but that of a device leaves all as it was.
+        // Each refusal but that of a device leaves all as it was, but for the room that is held for notes after want of memory.
         ensures dead_stays { IsErrOf result Dead → self.new ≡ self.old }
         ensures full_stays { IsErrOf result Full → self.new ≡ self.old }
         ensures memory_disk { IsErrOf result OutOfMemory → disk_of self.new ≡ disk_of self.old }
