@@ -39,8 +39,9 @@ pub fn decided_transactions_are_one_thread()
 {}
 
 /// A call that is refused in passing leaves files, intents, opens and locks as they were: one of a transaction that is
-/// not live, one that another's lock is in the way of, one in which the device failed or was stopped, and the open of a file
-/// that never was. A transaction that ends as its client asked goes with what it intended and held, and leaves all else.
+/// not live, one that another's lock is in the way of, one in which the device failed or was stopped, and the open of a
+/// file that never was. A transaction that ends as its client asked goes with what it intended and held, and leaves all
+/// else.
 pub fn passing_refusals_change_nothing()
     ensures refused { (s : State) (e : Entry) (f : Refusal) → HasCause s e → e.reply ≡ Some (reply.Refused f) → is_passing_refusal f ≡ true → is_aborted f ≡ false → IsAsBefore s (next s e) }
     ensures unknown { (s : State) (e : Entry) (client epoch number : ℕ) (t : TransId) (file : FileId) (access : Access) (mode : Mode) (choice : Choice) → HasCause s e → e.event ≡ event.Call client epoch number (call.OpenFile t file access mode choice) → e.reply ≡ Some (reply.Refused refusal.UnknownFile) → is_given s file ≡ false → IsAsBefore s (next s e) }

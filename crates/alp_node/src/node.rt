@@ -28,8 +28,8 @@ pub struct Node<V: Vault> {
 impl<V: Vault> Node<V> {
     /// Answers an event in one step, with one entry more of the journal. No reply is silence.
     ///
-    /// A step in which the vault fails or is stopped takes the server down. From then on it
-    /// answers that it is down, and makes no entry. Want of memory leaves the server as its journal says, with no new entry.
+    /// A step in which the vault fails or is stopped takes the server down. From then on it answers that it is down, and
+    /// makes no entry. Want of memory leaves the server as its journal says, with no new entry.
     pub fn step(&mut self, event: Event) -> Result<Option<Reply>, OutOfMemory>
         requires kept { IsKept V.tells V.serves V.held self.old }
         requires served { IsServed self.old.kept event }
