@@ -1,12 +1,12 @@
 -- The laws of batches: one spelling each, its length, and where the bytes of an image stand.
-use Rattle.std.proofs.Common.{◌≡◌, ◌<◌, ◌≤◌, ℕ, zero, suc, ◌+◌, ◌*◌, Bool, true, List, [], ◌∷◌, ◌++◌, length, take, drop, get_or, Option, Some, None, refl, sym, ap, ◌∙◌, append_assoc, arith, length-append}
+use Rattle.std.proofs.Common.{◌≡◌, ◌<◌, ℕ, zero, suc, ◌+◌, ◌*◌, List, [], ◌∷◌, ◌++◌, length, take, drop, Option, Some, None, refl, sym, ap, ◌∙◌, append_assoc, arith, length-append}
 use Rattle.std.specs.Prelude.{◌^◌, slice_get, IfOk, IfSome, Result, Ok, Err}
 use Rattle.std.specs.List.{flat_map, AllByRecursion}
 use Rattle.std.proofs.lemmas.List.{take_at, drop_at, drop-drop}
 use Rattle.alp_base.specs.declared.bytes.NoteChange.{NoteChange}
 use Rattle.alp_fields.specs.Forms.{IsForm, HasLength, pair, sized, repeated, bytes_of, read_choice, u8, u16, u32}
 use Rattle.alp_fields.specs.Fields.{page}
-use Rattle.alp_fields.proofs.FormLaws.{pair_law, mapped_law, checked_law, sized_law, repeated_law, repeated_size, bytes_law, bytes_size, spelling_is_one}
+use Rattle.alp_fields.proofs.FormLaws.{pair_law, mapped_law, checked_law, sized_law, repeated_law, repeated_size, bytes_law, bytes_size}
 use Rattle.alp_fields.proofs.FieldLaws.{u8_law, u16_law, u32_law, page_law, variant_reads, variant_back, tag_back, tagged_law}
 use Rattle.alp_fields.proofs.FixedLaws.{u8_length, u16_length, u32_length, repeated_length}
 use Rattle.alp_batch.specs.Rising.{is_rising}

@@ -1,1 +1,3 @@
 pub mod BatchLaws
+pub mod Lengths
+pub mod Values

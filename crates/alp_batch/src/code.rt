@@ -1,12 +1,13 @@
 //! Batches as bytes, and bytes as batches.
-ghost use Rattle.std.specs.Prelude.{◌≡◌, IfOk, IfSome, OnOk, Some, length};
+ghost use Rattle.std.specs.Prelude.{◌≡◌, IfOk, IfSome, OnOk, Some, length, []};
 ghost use Rattle.alp_fields.specs.Forms.{IsRead, IsWritten, whole};
 ghost use Rattle.alp_batch.specs.declared.batch.Batch.{Batch as Together};
 ghost use Rattle.alp_batch.specs.Batch.{batch as batch_form, IsBatch, batch_length};
+ghost use Rattle.alp_batch.specs.Values.{values_batch};
 
-use crate::Batch;
 use crate::images::{put_images, read_images};
-use crate::notes::{put_notes, read_notes};
+use crate::notes::{put_notes, put_values, read_notes};
+use crate::{Batch, Images, encoded_length, values_length};
 use alp_base::{Bytes, OutOfMemory};
 use alp_fields::FieldReader;
 use std::alloc::Global;
@@ -30,8 +31,39 @@ pub fn encode(alloc: Global, batch: &Batch) -> Result<Bytes, OutOfMemory>
     ensures fits { OnOk result (batch_form.Fits batch.now) }
     ensures long { IfOk result (λ bytes. length bytes ≡ batch_length batch.now) }
 {
-    let mut out = Vec::new(alloc);
+    let mut out = Vec::with_capacity(alloc, encoded_length(batch) as usize)?;
     put_batch(&mut out, batch)?;
+    Ok(Bytes::new(out))
+}
+
+#[tactic(auto, unfolding(crate::specs::Batch::batch))]
+fn put_values_batch(
+    out: &mut Vec<u8>,
+    none: &Images,
+    names: &[Bytes],
+    values: &[Bytes],
+) -> Result<(), OutOfMemory>
+    requires none { none.now ≡ [] }
+    requires paired { length names.now ≡ length values.now }
+    requires batch { IsBatch (values_batch names.now values.now) }
+    ensures { OnOk result (IsWritten batch_form (values_batch names.now values.now) out.old.items out.new.items) }
+{
+    put_images(out, none)?;
+    put_values(out, names, values)
+}
+
+/// The spelling of the batch that gives each of the names the value beside it and has no images. Nothing is copied
+/// but into the spelling.
+pub fn encode_values(alloc: Global, names: &[Bytes], values: &[Bytes]) -> Result<Bytes, OutOfMemory>
+    requires paired { length names.now ≡ length values.now }
+    requires batch { IsBatch (values_batch names.now values.now) }
+    ensures spelled { IfOk result (λ bytes. bytes ≡ batch_form.spell (values_batch names.now values.now)) }
+    ensures fits { OnOk result (batch_form.Fits (values_batch names.now values.now)) }
+    ensures long { IfOk result (λ bytes. length bytes ≡ batch_length (values_batch names.now values.now)) }
+{
+    let none = Images::new(Vec::new(alloc));
+    let mut out = Vec::with_capacity(alloc, values_length(names, values) as usize)?;
+    put_values_batch(&mut out, &none, names, values)?;
     Ok(Bytes::new(out))
 }
 

@@ -8,12 +8,14 @@ mod batch;
 mod code;
 mod images;
 mod laws;
+mod length;
 mod notes;
 mod rising;
 
 pub use batch::{Batch, Images, NoteChanges, PageImage};
-pub use code::{decode, encode};
+pub use code::{decode, encode, encode_values};
 pub use laws::batches_are_forms;
+pub use length::{encoded_length, values_length};
 
 #[cfg(test)]
 mod tests;

@@ -1,9 +1,10 @@
 //! Changes of notes as bytes, and bytes as changes of notes.
-ghost use Rattle.std.specs.Prelude.{◌≡◌, ◌<◌, ◌^◌, IfOk, OnOk, length, true, option_map};
+ghost use Rattle.std.specs.Prelude.{◌≡◌, ◌<◌, ◌^◌, IfOk, OnOk, length, true, option_map, zip};
 ghost use Rattle.std.specs.List.{AllByRecursion};
 ghost use Rattle.alp_fields.specs.Forms.{IsRead, IsWritten, repeated};
 ghost use Rattle.alp_batch.specs.Rising.{is_rising};
-ghost use Rattle.alp_batch.specs.Batch.{note, note_name, note_value, notes as notes_form, name_below, IsShort};
+ghost use Rattle.alp_batch.specs.Batch.{note, note_name, note_value, notes as notes_form, name_below, puts_note, IsShort};
+ghost use Rattle.alp_batch.specs.Values.{puts};
 
 use crate::NoteChanges;
 use crate::rising::names_rise;
@@ -29,6 +30,16 @@ fn put_note_value(out: &mut Vec<u8>, value: &Bytes) -> Result<(), OutOfMemory>
     let bytes = value.as_slice();
     put_u32(out, bytes.len() as u32)?;
     put_bytes(out, bytes)
+}
+
+#[tactic(auto, unfolding(crate::specs::Batch::note, alp_fields::specs::Forms::u8))]
+fn put_value(out: &mut Vec<u8>, name: &Bytes, value: &Bytes) -> Result<(), OutOfMemory>
+    requires { IsShort (puts_note (name.now, value.now)) }
+    ensures { OnOk result (IsWritten note (puts_note (name.now, value.now)) out.old.items out.new.items) }
+{
+    put_u8(out, 1)?;
+    put_note_name(out, name)?;
+    put_note_value(out, value)
 }
 
 #[tactic(auto, unfolding(crate::specs::Batch::note, alp_fields::specs::Forms::u8))]
@@ -70,6 +81,34 @@ pub(super) fn put_notes(out: &mut Vec<u8>, notes: &NoteChanges) -> Result<(), Ou
     let changes = notes.as_slice();
     put_u16(out, changes.len() as u16)?;
     put_each(out, changes)
+}
+
+fn put_each_value(out: &mut Vec<u8>, names: &[Bytes], values: &[Bytes]) -> Result<(), OutOfMemory>
+    requires paired { length names.now ≡ length values.now }
+    requires short { AllByRecursion IsShort (puts (zip names.now values.now)) }
+    ensures { OnOk result (IsWritten (repeated note (length names.now)) (puts (zip names.now values.now)) out.old.items out.new.items) }
+{
+    for i in 0..names.len() {
+        put_value(out, &names[i], &values[i])?;
+    }
+    Ok(())
+}
+
+/// Writes changes that give each of the names the value beside it.
+#[tactic(auto, unfolding(crate::specs::Batch::notes))]
+pub(super) fn put_values(
+    out: &mut Vec<u8>,
+    names: &[Bytes],
+    values: &[Bytes],
+) -> Result<(), OutOfMemory>
+    requires paired { length names.now ≡ length values.now }
+    requires few { length (puts (zip names.now values.now)) < 2 ^ 16 }
+    requires rise { is_rising name_below (puts (zip names.now values.now)) ≡ true }
+    requires short { AllByRecursion IsShort (puts (zip names.now values.now)) }
+    ensures { OnOk result (IsWritten notes_form (puts (zip names.now values.now)) out.old.items out.new.items) }
+{
+    put_u16(out, names.len() as u16)?;
+    put_each_value(out, names, values)
 }
 
 #[tactic(auto, unfolding(crate::specs::Batch::note_name))]

@@ -95,3 +95,15 @@ fn what_is_outside_is_no_batch(rt: HostRuntime) -> Result<(), Fail> {
     assert!(rt; changed(alloc, 1, 3)?.is_none());
     Ok(())
 }
+
+/// What threads may share and hand over.
+fn crosses<T: Send + Sync>(_value: &T) {}
+
+#[test]
+fn batches_cross_threads(rt: HostRuntime) {
+    let alloc = rt.alloc();
+    crosses(&Batch {
+        images: Images::new(Vec::new(alloc)),
+        notes: NoteChanges::new(Vec::new(alloc)),
+    });
+}

@@ -1,2 +1,2 @@
-pub mod Order
-pub mod Places
+pub mod RowLemmas
+pub mod Searches

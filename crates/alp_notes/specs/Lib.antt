@@ -1,2 +1,3 @@
-pub mod Entries
-pub mod Notes
+pub mod Held
+pub mod Rows
+pub mod Inside

@@ -1,11 +1,11 @@
-//! The live notes of a volume: values by rising name.
+//! Notes in memory: values by rising name, changed with no memory where room was made before.
 #![tactic(auto)]
 
-mod change;
 mod notes;
 mod place;
+mod rows;
 
-pub use notes::Notes;
+pub use notes::{Notes, copies_of};
 
 #[cfg(test)]
 mod tests;

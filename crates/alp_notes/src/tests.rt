@@ -1,5 +1,3 @@
-ghost use Rattle.alp_notes.specs.Notes.{IsWhole};
-
 use crate::Notes;
 use alp_base::{Bytes, NoteChange, OutOfMemory};
 use std::alloc::Global;
@@ -37,9 +35,7 @@ fn some_changes(alloc: Global) -> Result<Vec<NoteChange>, OutOfMemory> {
     Ok(changes)
 }
 
-fn has(notes: &Notes, name: &Bytes, wanted: &str) -> bool
-    requires { IsWhole notes.now }
-{
+fn has(notes: &Notes, name: &Bytes, wanted: &str) -> bool {
     match notes.value(name) {
         Some(value) => value.as_slice() == wanted.as_bytes(),
         None => false,
@@ -67,4 +63,12 @@ fn changes_are_made_in_turn(rt: HostRuntime) -> Result<(), Fail> {
         assert!(rt; notes.value(&text(alloc, name)?).is_none(), "{name}");
     }
     Ok(())
+}
+
+/// What threads may share and hand over.
+fn crosses<T: Send + Sync>(_value: &T) {}
+
+#[test]
+fn notes_cross_threads(rt: HostRuntime) {
+    crosses(&Notes::new(rt.alloc()));
 }

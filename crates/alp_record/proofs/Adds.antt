@@ -1,7 +1,8 @@
 -- What adding a record leaves.
 use Rattle.std.proofs.Common.{◌≡◌, ◌≢◌, ◌⊎◌, inl, inr, ⊎_elim, ℕ, ◌+◌, ◌-◌, ◌<◌, ◌≤◌, ◌^◌, List, [], ◌∷◌, ◌++◌, length, drop, slice_index, refl, sym, ◌∙◌, ap, subst, arith}
 use Rattle.std.proofs.lemmas.Bool.{cases_eq}
-use Rattle.alp_disk.specs.Disk.{Image, page, IsImage, with_bytes, Torn, Follows, After, Only}
+use Rattle.alp_disk.specs.Disk.{Image, page, IsImage, with_bytes, Torn}
+use Rattle.alp_base.specs.Crashes.{Follows, After, Only}
 use Rattle.alp_disk.specs.Gates.{IsClosed}
 use Rattle.alp_disk.specs.Images.{page-with_bytes, page-with_bytes_other}
 use Rattle.alp_disk.specs.Runs.{SameOutside}

@@ -34,7 +34,7 @@ body_once image generation end at a b is_a is_b =
     let same : padded a ≡ padded b = hold_once image (at + 1) n (padded a) (padded b) is_a.pages (subst (λ m. Hold image (at + 1) (body_pages m) (padded b)) (sym long) is_b.pages) (length_padded a) (length_padded b ∙ ap (λ m. 512 * body_pages m) (sym long)) in
     sym (front_of_padded a) ∙ ap (λ (l : List ℕ). take (length a) l) same ∙ ap (λ m. take m (padded b)) long ∙ front_of_padded b
 
-no_end : (image : Image) (generation end at : ℕ) (body : List ℕ) → RecordAt image generation end at body → IsEnd image end at → ⊥
+pub no_end : (image : Image) (generation end at : ℕ) (body : List ℕ) → RecordAt image generation end at body → IsEnd image end at → ⊥
 no_end image generation end at body is (inl past) = omega (arith, past, is.fits)
 no_end image generation end at body is (inr closed) = closed (ap (λ (p : List ℕ). slice_index p 0) is.head ∙ header_gate generation (length body))
 

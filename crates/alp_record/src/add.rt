@@ -1,9 +1,11 @@
 //! Adding a record.
 ghost use Rattle.std.specs.Prelude.{◌≡◌, ◌<◌, ◌≤◌, ◌+◌, ◌-◌, ◌^◌, length, IsTrue, OnOk};
-ghost use Rattle.alp_disk.specs.Disk.{page as page_of, Follows, After, Only, Adds};
+ghost use Rattle.alp_disk.specs.Disk.{page as page_of};
+ghost use Rattle.alp_base.specs.Crashes.{Follows, After, Only, Adds};
 ghost use Rattle.alp_disk.specs.Gates.{IsClosed};
 ghost use Rattle.alp_base.specs.Allowances.{Spends, HasHaltCause};
 ghost use Rattle.alp_disk.specs.Runs.{SameOutside};
+ghost use Rattle.alp_record.specs.Calls.{Changed};
 ghost use Rattle.alp_record.specs.Record.{body_pages, header, next_of, IsEnd};
 ghost use Rattle.alp_record.specs.Adding.{Behind, Staged, Laid, NotYet, Added, Adding, OneMore, OneMoreOrNot};
 
@@ -99,9 +101,7 @@ pub fn add_record<D: Disk>(disk: &mut D, area: &Area, at: u32, body: &[u8]) -> R
     ensures durable { IsTrue (D.tells disk.old) → OnOk result (Only (D.seen disk.new) (D.may_leave disk.new)) }
     ensures any_moment { IsTrue (D.tells disk.old) → Adds D.left_since disk.old disk.new (Adding area.now.generation area.now.end at body.now (D.seen disk.old)) }
     ensures before_or_after { IsTrue (D.tells disk.old) → Adds D.left_since disk.old disk.new (OneMoreOrNot area.now.generation area.now.end at body.now (D.seen disk.old)) }
-    ensures tells { D.tells disk.new ≡ D.tells disk.old }
-    ensures size { D.size disk.new ≡ D.size disk.old }
-    ensures allowance { Spends (D.allowance disk.old) (D.allowance disk.new) }
+    ensures stays { Changed D.Disk disk.old disk.new }
     ensures cause { HasHaltCause (D.faults disk.old) (D.faults disk.new) (D.allowance disk.new) result }
 {
     lay(disk, area, at, body)?;

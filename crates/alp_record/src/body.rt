@@ -3,7 +3,7 @@ ghost use Rattle.std.specs.Prelude.{◌≡◌, ◌<◌, ◌≤◌, ◌+◌, ◌*
 ghost use Rattle.alp_base.specs.Causes.{Rose};
 ghost use Rattle.alp_base.specs.declared.faults.Halt.TheVariants.{Failed, Stopped};
 ghost use Rattle.alp_base.specs.declared.allowance.Allowance.TheVariants.{Spent};
-ghost use Rattle.alp_disk.specs.Disk.{Follows, After, NoMore, Adds};
+ghost use Rattle.alp_base.specs.Crashes.{Follows, After, NoMore, Adds};
 ghost use Rattle.alp_base.specs.Allowances.{Spends, HasHaltCause};
 ghost use Rattle.alp_disk.specs.Runs.{SameOutside, Holds};
 ghost use Rattle.alp_record.specs.Record.{body_pages, padded, Hold};

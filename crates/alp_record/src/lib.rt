@@ -13,7 +13,7 @@ mod laws;
 mod read;
 
 pub use add::add_record;
-pub use area::{Area, record_pages};
+pub use area::{Area, pages_wanted, record_pages};
 pub use fault::RecordFault;
 pub use header::header_page;
 pub use laws::records_are_read_one_way;

@@ -3,7 +3,7 @@ ghost use Rattle.std.specs.Prelude.{◌≡◌, ◌≤◌, ◌<◌, ℕ, IsTrue, 
 ghost use Rattle.alp_base.specs.Causes.{Rose};
 ghost use Rattle.alp_base.specs.declared.faults.Halt.TheVariants.{Failed, Stopped};
 ghost use Rattle.alp_base.specs.declared.allowance.Allowance.TheVariants.{Spent};
-ghost use Rattle.alp_disk.specs.Disk.{NoMore, Adds};
+ghost use Rattle.alp_record.specs.Calls.{OnlyRead};
 ghost use Rattle.alp_record.specs.Record.{RecordAt, IsEnd, IsDamaged, next_of};
 ghost use Rattle.alp_record.specs.declared.fault.RecordFault.TheVariants.{Halted, Damaged};
 
@@ -31,12 +31,7 @@ pub fn read_record<D: Disk>(
     ensures fits { IfOk result (λ found. IfSome found (λ body. next_of at body ≤ area.now.end)) }
     ensures small { IfOk result (λ found. IfSome found (λ body. length body < 2 ^ 32)) }
     ensures damaged { IsTrue (D.tells disk.old) → (place : ℕ) → IsErrOf result (Damaged place) → (place ≡ at) × IsDamaged (D.seen disk.old) area.now.generation area.now.end at }
-    ensures tells { D.tells disk.new ≡ D.tells disk.old }
-    ensures size { D.size disk.new ≡ D.size disk.old }
-    ensures seen { D.seen disk.new ≡ D.seen disk.old }
-    ensures crash { NoMore (D.may_leave disk.old) (D.may_leave disk.new) }
-    ensures time { Adds D.left_since disk.old disk.new (D.may_leave disk.old) }
-    ensures allowance { D.allowance disk.new ≡ D.allowance disk.old }
+    ensures stays { OnlyRead D.Disk disk.old disk.new }
     ensures later { D.faults disk.old ≤ D.faults disk.new }
     ensures failed { IsErrOf result (Halted Failed) → Rose (D.faults disk.old) (D.faults disk.new) }
     ensures stopped { IsErrOf result (Halted Stopped) → D.allowance disk.new ≡ Spent }

@@ -2,18 +2,18 @@
 use Rattle.std.proofs.Common.{◌≡◌, ℕ, List, ◌∷◌, ◌++◌, Some, refl, arith}
 use Rattle.alp_files.specs.declared.call.Call.{Call}
 use Rattle.alp_files.specs.declared.call.Call.TheVariants.{Hello, Begin, Join, CreateFile, OpenFile, CloseFile, DeleteFile, ReadPages, WritePages, LockPages, SetSize, ReadProps, WriteProps, ReadOwner, MakeOwner, SetQuota, Finish, Outcome, Collect}
-use Rattle.alp_files.specs.PropsField.{props}
-use Rattle.alp_files.proofs.PropsFieldLaw.{props_law}
-use Rattle.alp_files.specs.ModeField.{mode}
-use Rattle.alp_files.proofs.ModeFieldLaw.{mode_law}
+use Rattle.alp_forms.specs.PropsField.{props}
+use Rattle.alp_forms.proofs.PropsFieldLaw.{props_law}
+use Rattle.alp_forms.specs.ModeField.{mode}
+use Rattle.alp_forms.proofs.ModeFieldLaw.{mode_law}
 use Rattle.alp_fields.specs.Forms.{Form, IsForm, read_choice, pair, u32}
 use Rattle.alp_fields.specs.Fields.{file_id, trans_id, run, choice, access, flag, name, list, pages}
 use Rattle.alp_fields.proofs.FormLaws.{pair_law, checked_law}
 use Rattle.alp_fields.proofs.FieldLaws.{u32_law, file_id_law, trans_id_law, stamp_law, run_law, choice_law, access_law, flag_law, name_law, list_law, pages_law}
-use Rattle.alp_refusal.specs.Variants.{Variant, by_tag}
+use Rattle.alp_forms.specs.Variants.{Variant, by_tag}
 use Rattle.alp_rpc.specs.Changes.{prop_change}
 use Rattle.alp_rpc.specs.Calls.{is_run_mode, run_mode, are_as_many, filled_run, open_form, hello, begin, join, create_file, open_file, close_file, delete_file, read_pages, write_pages, lock_pages, set_size, read_props, write_props, read_owner, make_owner, set_quota, finish, outcome, collect, sent_call, call_readers, call}
-use Rattle.alp_refusal.proofs.VariantLaws.{ReadsAsSent, reads_variant, variant_is_back, enum_law}
+use Rattle.alp_forms.proofs.VariantLaws.{ReadsAsSent, reads_variant, variant_is_back, enum_law}
 use Rattle.alp_rpc.proofs.ChangeLaw.{prop_change_law}
 
 -- ---- the fields of calls

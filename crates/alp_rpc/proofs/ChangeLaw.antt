@@ -4,9 +4,9 @@ use Rattle.alp_files.specs.declared.call.PropChange.{PropChange}
 use Rattle.alp_files.specs.declared.call.PropChange.TheVariants.{Owner, Name, TypeNo, ByteLength, Read, Modify}
 use Rattle.alp_fields.specs.Forms.{IsForm, read_choice}
 use Rattle.alp_fields.proofs.FieldLaws.{u16_law, u64_law, name_law, list_law}
-use Rattle.alp_refusal.specs.Variants.{Variant, by_tag}
+use Rattle.alp_forms.specs.Variants.{Variant, by_tag}
 use Rattle.alp_rpc.specs.Changes.{to_owner, to_name, to_type, to_length, to_readers, to_changers, sent_change, change_readers, prop_change}
-use Rattle.alp_refusal.proofs.VariantLaws.{ReadsAsSent, reads_variant, variant_is_back, enum_law}
+use Rattle.alp_forms.proofs.VariantLaws.{ReadsAsSent, reads_variant, variant_is_back, enum_law}
 
 back : (v : PropChange) (rest : List ℕ) → (sent_change v).Fits → read_choice change_readers ((sent_change v).bytes ++ rest) ≡ Some (v, rest)
 back (Owner who) rest fits = variant_is_back change_readers to_owner name_law (omega arith) (λ bytes. refl) who rest fits

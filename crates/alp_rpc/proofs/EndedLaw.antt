@@ -4,9 +4,9 @@ use Rattle.alp_files.specs.declared.reply.Ended.{Ended}
 use Rattle.alp_files.specs.declared.reply.Ended.TheVariants.{Running, Committed, Aborted, Unknown}
 use Rattle.alp_fields.specs.Forms.{IsForm, read_choice}
 use Rattle.alp_fields.proofs.FieldLaws.{stamp_law}
-use Rattle.alp_refusal.specs.Variants.{Variant, bare, by_tag}
+use Rattle.alp_forms.specs.Variants.{Variant, bare, by_tag}
 use Rattle.alp_rpc.specs.Endings.{committed_at, sent_ended, ended_readers, ended}
-use Rattle.alp_refusal.proofs.VariantLaws.{ReadsAsSent, nothing_law, reads_variant, variant_is_back, enum_law}
+use Rattle.alp_forms.proofs.VariantLaws.{ReadsAsSent, nothing_law, reads_variant, variant_is_back, enum_law}
 
 back : (v : Ended) (rest : List ℕ) → (sent_ended v).Fits → read_choice ended_readers ((sent_ended v).bytes ++ rest) ≡ Some (v, rest)
 back Running rest fits = variant_is_back ended_readers (bare 0 Running) nothing_law (omega arith) (λ bytes. refl) tt rest fits

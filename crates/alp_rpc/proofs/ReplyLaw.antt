@@ -2,16 +2,16 @@
 use Rattle.std.proofs.Common.{◌≡◌, ℕ, List, ◌∷◌, ◌++◌, Some, refl, arith}
 use Rattle.alp_files.specs.declared.reply.Reply.{Reply}
 use Rattle.alp_files.specs.declared.reply.Reply.TheVariants.{Welcome, Begun, Joined, Created, Opened, Plain, Pages, Props, Owner, Committed, Ended, Refused}
-use Rattle.alp_files.proofs.PropsFieldLaw.{props_law}
+use Rattle.alp_forms.proofs.PropsFieldLaw.{props_law}
 use Rattle.alp_fields.specs.Forms.{IsForm, read_choice, u32}
 use Rattle.alp_fields.specs.Fields.{file_id, name, list}
 use Rattle.alp_fields.proofs.FormLaws.{pair_law, mapped_law}
 use Rattle.alp_fields.proofs.FieldLaws.{u32_law, file_id_law, trans_id_law, stamp_law, name_law, list_law, pages_law}
-use Rattle.alp_refusal.specs.Variants.{Variant, bare, by_tag}
+use Rattle.alp_forms.specs.Variants.{Variant, bare, by_tag}
 use Rattle.alp_rpc.specs.Replies.{owner_of, owner_parts, owner_field, welcome, begun, created, opened, some_pages, some_props, an_owner, committed, has_ended, refused, sent_reply, reply_readers, reply}
-use Rattle.alp_refusal.proofs.VariantLaws.{ReadsAsSent, nothing_law, reads_variant, variant_is_back, enum_law}
+use Rattle.alp_forms.proofs.VariantLaws.{ReadsAsSent, nothing_law, reads_variant, variant_is_back, enum_law}
 use Rattle.alp_rpc.proofs.EndedLaw.{ended_law}
-use Rattle.alp_refusal.proofs.RefusalLaw.{refusal_law}
+use Rattle.alp_forms.proofs.RefusalLaw.{refusal_law}
 
 owner_field_law : IsForm owner_field
 unfolding owner_field

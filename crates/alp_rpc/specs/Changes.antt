@@ -4,7 +4,7 @@ use Rattle.alp_files.specs.declared.call.PropChange.{PropChange}
 use Rattle.alp_files.specs.declared.call.PropChange.TheVariants.{Owner, Name, TypeNo, ByteLength, Read, Modify}
 use Rattle.alp_fields.specs.Forms.{Form, Readers, u16, u64}
 use Rattle.alp_fields.specs.Fields.{name, list}
-use Rattle.alp_refusal.specs.Variants.{Variant, row, Sent, sent, by_tag, enum_of}
+use Rattle.alp_forms.specs.Variants.{Variant, row, Sent, sent, by_tag, enum_of}
 
 -- ---- each with its tag and its new value
 

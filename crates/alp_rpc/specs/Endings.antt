@@ -4,7 +4,7 @@ use Rattle.alp_files.specs.declared.reply.Ended.{Ended}
 use Rattle.alp_files.specs.declared.reply.Ended.TheVariants.{Running, Committed, Aborted, Unknown}
 use Rattle.alp_fields.specs.Forms.{Form, Readers}
 use Rattle.alp_fields.specs.Fields.{stamp}
-use Rattle.alp_refusal.specs.Variants.{Variant, row, bare, Sent, sent, by_tag, enum_of}
+use Rattle.alp_forms.specs.Variants.{Variant, row, bare, Sent, sent, by_tag, enum_of}
 
 -- committed, at that stamp
 abbrev pub committed_at : Variant Ended

@@ -1,5 +1,5 @@
 -- Frames: a byte that says what it is, who speaks, the epoch, a number, and the call or the reply.
-use Rattle.std.specs.Prelude.{ℕ, ◌≤◌, Bool, ◌&&◌, nat_le}
+use Rattle.std.specs.Prelude.{◌≡◌, ℕ, ◌≤◌, Bool, ◌&&◌, nat_le, List, ◌++◌}
 use Rattle.alp_fields.specs.Forms.{Form, pair, mapped, checked, marked, u8, u32}
 use Rattle.alp_files.specs.declared.call.Call.{Call}
 use Rattle.alp_files.specs.declared.reply.Reply.{Reply}
@@ -53,6 +53,10 @@ reply_parts r = ((r.client, (r.epoch, r.number)), r.reply)
 
 unfoldable pub reply_frame : Form ReplyFrame
 reply_frame = marked reply_mark (mapped reply_of reply_parts (pair head reply))
+
+-- No request begins a reply, and no reply a request: their spellings differ, whatever stands behind either.
+abbrev pub AreToldApart : Type 0
+AreToldApart = (q : Request) (r : ReplyFrame) (rest others : List ℕ) → request.spell q ++ rest ≡ reply_frame.spell r ++ others → ⊥
 
 -- What the types of a frame leave open and its spelling needs: the ranges of client and number, and what its call
 -- or its reply needs.

@@ -7,9 +7,6 @@ pub const REQUEST_MARK: u8 = 0x51;
 /// The first byte of a reply.
 pub const REPLY_MARK: u8 = 0x50;
 
-/// The greatest number of a client.
-pub const CLIENTS: u8 = 16;
-
 /// A call, with what the server needs to tell it from others.
 #[derive(Clone, Drop, PartialEq, Eq)]
 pub struct Request {

@@ -3,8 +3,7 @@ ghost use Rattle.std.specs.Prelude.{OnOk, option_map};
 ghost use Rattle.alp_fields.specs.Forms.{IsRead, IsWritten};
 ghost use Rattle.alp_rpc.specs.Frames.{head, IsHead};
 
-use crate::CLIENTS;
-use alp_base::OutOfMemory;
+use alp_base::{CLIENTS, OutOfMemory};
 use alp_fields::{FieldReader, put_u8, put_u32};
 
 /// Client, epoch and number.

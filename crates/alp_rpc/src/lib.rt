@@ -16,7 +16,7 @@ mod write_call;
 mod write_change;
 mod write_reply;
 
-pub use frame::{CLIENTS, REPLY_MARK, REQUEST_MARK, ReplyFrame, Request};
+pub use frame::{REPLY_MARK, REQUEST_MARK, ReplyFrame, Request};
 pub use laws::frames_are_forms;
 pub use reply::{decode_reply, encode_reply};
 pub use request::{decode_request, encode_request};

@@ -1,13 +1,14 @@
 //! Calls read from frames: a function for the fields of each.
 ghost use Rattle.std.specs.Prelude.{◌≡◌, IfOk};
 ghost use Rattle.alp_fields.specs.Forms.{IsRead};
-ghost use Rattle.alp_refusal.specs.Variants.{AreFieldsRead};
+ghost use Rattle.alp_forms.specs.Variants.{AreFieldsRead};
 ghost use Rattle.alp_rpc.specs.Calls.{is_run_mode as covers_pages, run_mode, filled_run, open_form, call, create_file, open_file, delete_file, read_pages, write_pages, lock_pages, set_size, write_props, read_owner, make_owner, set_quota, finish};
 
 use crate::read_change::read_change;
 use alp_base::{OutOfMemory, PageList, Run, TransId};
 use alp_fields::FieldReader;
-use alp_files::{Call, read_mode, read_props as read_props_field};
+use alp_files::Call;
+use alp_forms::{read_mode, read_props as read_props_field};
 use alp_modes::Mode;
 use std::alloc::Global;
 

@@ -1,14 +1,14 @@
 //! Replies read from frames: a function for the fields of each.
 ghost use Rattle.std.specs.Prelude.{IfOk};
 ghost use Rattle.alp_fields.specs.Forms.{IsRead};
-ghost use Rattle.alp_refusal.specs.Variants.{AreFieldsRead};
+ghost use Rattle.alp_forms.specs.Variants.{AreFieldsRead};
 ghost use Rattle.alp_rpc.specs.Endings.{ended};
 ghost use Rattle.alp_rpc.specs.Replies.{owner_field, created, reply};
 
 use alp_base::OutOfMemory;
 use alp_fields::FieldReader;
-use alp_files::{Ended, OwnerRecord, Reply, read_props};
-use alp_refusal::read_refusal;
+use alp_files::{Ended, OwnerRecord, Reply};
+use alp_forms::{read_props, read_refusal};
 use std::alloc::Global;
 
 fn take_created(reader: &mut FieldReader) -> Option<Reply>

@@ -11,8 +11,8 @@ use alp_base::{FileId, OutOfMemory, PageList, Stamp, TransId};
 use alp_fields::{
     put_file_id, put_list, put_name, put_pages, put_stamp, put_trans_id, put_u8, put_u32,
 };
-use alp_files::{Ended as Ending, OwnerRecord, Props as FileProps, Refusal, Reply, put_props};
-use alp_refusal::put_refusal;
+use alp_files::{Ended as Ending, OwnerRecord, Props as FileProps, Refusal, Reply};
+use alp_forms::{put_props, put_refusal};
 
 fn put_welcome(out: &mut Vec<u8>, epoch: u32) -> Result<(), OutOfMemory>
     ensures { OnOk result (IsWritten reply (Welcome epoch) out.old.items out.new.items) }

@@ -1,8 +1,9 @@
 -- What a commit leaves, at each moment and at the end.
-use Rattle.std.proofs.Common.{◌≡◌, inl, inr, ⊎_elim, ◌≤◌, ◌-◌, ℕ, Bool, true, false, List, [], ◌∷◌, ◌++◌, length, refl, sym, ap, subst, ◌∙◌, arith}
+use Rattle.std.proofs.Common.{◌≡◌, inl, inr, ◌⊎◌, ⊎_elim, ◌≤◌, ◌-◌, ℕ, Bool, true, false, List, [], ◌∷◌, ◌++◌, length, refl, sym, ap, subst, ◌∙◌, arith}
 use Rattle.std.specs.Prelude.{Result, Ok, Err, OnErr}
 use Rattle.std.specs.List.{AllByRecursion}
-use Rattle.alp_disk.specs.Disk.{Image, page, Only, NoMore, LeavesOnly}
+use Rattle.alp_disk.specs.Disk.{Image, page}
+use Rattle.alp_base.specs.Crashes.{Only, NoMore, Adds, LeavesOnly}
 use Rattle.alp_disk.specs.Gates.{IsClosed}
 use Rattle.alp_disk.specs.Runs.{SameOutside}
 use Rattle.alp_disk.proofs.Moments.{adds_weaker, adds_more}
@@ -12,24 +13,23 @@ use Rattle.alp_batch.specs.declared.batch.Batch.{Batch}
 use Rattle.alp_record.specs.Record.{behind}
 use Rattle.alp_record.specs.Adding.{Added, NotYet, Adding}
 use Rattle.alp_record.proofs.Adds.{one_more, stand_kept}
-use Rattle.alp_notes.specs.Entries.{Entries, noted}
-use Rattle.alp_notes.specs.declared.notes.Notes.{Notes}
-use Rattle.alp_notes.specs.Notes.{entries_of}
+use Rattle.alp_base.specs.Notes.{Notes, notes_after}
+use Rattle.alp_notes.specs.Held.{Held}
 use Rattle.alp_wal.specs.State.{State, applied, IsBelow}
-use Rattle.alp_live.specs.Live.{notes_pages, AreLive}
+use Rattle.alp_wal.specs.Live.{notes_pages, AreLive}
 use Rattle.alp_wal.specs.Reading.{Applies, Leads, area_first, area_end, home_pages, bare, ReadsBy}
-use Rattle.alp_live.specs.Home.{Index}
+use Rattle.alp_wal.specs.Home.{Index}
 use Rattle.alp_wal.specs.Wal.{shown, indexed, no_index, Logs, anchor_of, index_of, notes_of, held_notes, end_of, state_of, IsLog, IsSameVolume, IsKnown, BeforeOrAfter}
 use Rattle.alp_wal.specs.declared.wal.Wal.{Wal}
 use Rattle.alp_wal.proofs.States.{shown_indexed, leads_push, bare_kept, counts_kept}
 
 module _ (n : ℕ) (a : Anchor) (old : Image) (at : ℕ) (sound : IsSound n a) (begun : area_first a ≤ at) (inside : at ≤ area_end a) where
-  pub state_after : (new : Image) (index : Index) (notes : Entries) (b : Batch) → SameOutside at (area_end a - at) old new → AllByRecursion (IsBelow (length index)) b.images
-      → ◌≡◌ {A = State} (record { pages = shown (home_pages new a) (indexed index b.images); notes = noted notes b.notes }) (applied (record { pages = shown (home_pages old a) index; notes = notes }) b)
+  pub state_after : (new : Image) (index : Index) (notes : Notes) (b : Batch) → SameOutside at (area_end a - at) old new → AllByRecursion (IsBelow (length index)) b.images
+      → ◌≡◌ {A = State} (record { pages = shown (home_pages new a) (indexed index b.images); notes = notes_after b.notes notes }) (applied (record { pages = shown (home_pages old a) index; notes = notes }) b)
   state_after new index notes b others below =
       let home : home_pages new a ≡ home_pages old a = ap (λ (s : State). s.pages) (bare_kept n a old new at sound others inside) in
       let pages = ap (λ (l : Image). shown l (indexed index b.images)) home ∙ shown_indexed (home_pages old a) index b.images below in
-      λ i. record { pages = pages i; notes = noted notes b.notes }
+      λ i. record { pages = pages i; notes = notes_after b.notes notes }
 
   module _ (state : State) (bodies : List (List ℕ)) (ends : behind (area_first a) bodies ≡ at) (by : ReadsBy n old a bodies state) where
     pub reads_before : (c : Image) → NotYet (area_end a) at old c → ReadsBy n c a bodies state
@@ -99,8 +99,8 @@ pub log_kept : {D : Type 0} {n m : ℕ} {v w : Wal D} → n ≡ m → anchor_of 
 log_kept {D} {n} {m} {v} {w} size anchor index notes end log = record {
   anchor = subst (λ (t : ℕ × Anchor). IsSound t.0 t.1) (λ i. (size i, anchor i)) log.anchor;
   index = sym (ap length index) ∙ log.index ∙ ap (λ (a : Anchor). a.sizes.home) anchor;
-  notes = subst AreLive notes log.notes;
-  fits = subst (λ (t : Notes × Anchor). notes_pages (entries_of t.0) ≤ t.1.sizes.area) (λ i. (notes i, anchor i)) log.fits;
+  notes = subst (λ (h : Held). AreLive h.notes) notes log.notes;
+  fits = subst (λ (t : Held × Anchor). notes_pages t.0.notes ≤ t.1.sizes.area) (λ i. (notes i, anchor i)) log.fits;
   begun = subst (λ (t : Anchor × ℕ). area_first t.0 ≤ t.1) (λ i. (anchor i, end i)) log.begun;
   inside = subst (λ (t : Anchor × ℕ). t.1 ≤ area_end t.0) (λ i. (anchor i, end i)) log.inside;
 }
@@ -114,3 +114,18 @@ not_both is isnt = let no : true ≡ false = sym is ∙ isnt in cc
 
 pub same_volume : (a b : Anchor) → b ≡ a → IsSameVolume a b
 same_volume a b same = record { server = ap (λ (x : Anchor). x.server) same; servers = ap (λ (x : Anchor). x.servers) same; sizes = ap (λ (x : Anchor). x.sizes) same }
+
+pub on_err : {T E : Type 0} (r : Result T E) (P Q : Type 0) → (P → Q) → OnErr r P → OnErr r Q
+on_err (Ok x) P Q f p = tt
+on_err (Err e) P Q f p = f p
+
+-- ---- what a disk shows behind a halt
+
+-- it is what a crash at some moment might have left
+pub shown_at_last : {D : Type 0} (left_since : D → D → Image → Type 0) (old new : D) (image seen : Image) (P : Image → Type 0) → Adds left_since old new P → ((c : Image) → left_since old old c → c ≡ image) → left_since old new seen → (seen ≡ image) ⊎ P seen
+shown_at_last left_since old new image seen P adds start now = ⊎_elim (λ was. inl (start seen was)) (λ is. inr is) (adds.each old seen now)
+
+pub adding_others : (generation end at : ℕ) (body : List ℕ) (old c : Image) → (c ≡ old) ⊎ Adding generation end at body old c → SameOutside at (end - at) old c
+adding_others generation end at body old c (inl same) = record { before = λ q low. ap (λ (x : Image). page x q) same; behind = λ q high. ap (λ (x : Image). page x q) same }
+adding_others generation end at body old c (inr (inl not_yet)) = not_yet.others
+adding_others generation end at body old c (inr (inr added)) = added.others

@@ -2,8 +2,8 @@
 use Rattle.std.proofs.Common.{◌≡◌, ℕ, suc, ◌<◌, List, [], ◌∷◌, length, Some, None, refl, ap, ◌∙◌, arith}
 use Rattle.std.specs.Prelude.{slice_index_or}
 use Rattle.alp_disk.specs.Disk.{Image, page}
-use Rattle.alp_live.specs.Home.{Index}
-use Rattle.alp_live.proofs.Homes.{no_some}
+use Rattle.alp_wal.specs.Home.{Index}
+use Rattle.alp_wal.proofs.Bringing.{no_some}
 use Rattle.alp_wal.specs.Wal.{shown}
 
 pub shown_unlogged : (old new : Image) (index : Index) → length new ≡ length old → ((k : ℕ) → slice_index_or index k None ≡ None → page new k ≡ page old k) → shown new index ≡ shown old index

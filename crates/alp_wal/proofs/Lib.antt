@@ -1,7 +1,12 @@
 pub mod Readings
+pub mod Lives
+pub mod Bringing
+pub mod Listing
 pub mod States
 pub mod Homes
 pub mod Turns
 pub mod Checkpoints
 pub mod Commits
 pub mod Mounts
+pub mod Refusals
+pub mod Outcomes

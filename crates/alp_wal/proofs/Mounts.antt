@@ -2,6 +2,7 @@
 use Rattle.std.proofs.Common.{◌≡◌, inr, ◌≤◌, ◌+◌, ℕ, Bool, true, false, List, [], ◌∷◌, ◌++◌, length, refl, sym, ap, subst, ◌∙◌, IsTrue}
 use Rattle.std.specs.Prelude.{IfOk, MatchOption, Option, Some, Result, Ok, Err}
 use Rattle.std.specs.List.{AllByRecursion}
+use Rattle.std.specs.FinMap as map
 use Rattle.alp_disk.specs.Disk.{Image}
 use Rattle.alp_anchor.specs.declared.anchor.Anchor.{Anchor}
 use Rattle.alp_anchor.specs.Anchor.{Counts}
@@ -12,52 +13,51 @@ use Rattle.alp_batch.specs.Batch.{batch, batch_length}
 use Rattle.alp_batch.proofs.BatchLaws.{batch_is}
 use Rattle.alp_record.specs.Record.{RecordAt, next_of, body_pages, IsEnd}
 use Rattle.alp_record.proofs.Adds.{stand_push, behind_push}
-use Rattle.alp_notes.specs.Entries.{Entries, noted}
-use Rattle.alp_notes.specs.Notes.{entries_of}
+use Rattle.alp_base.specs.Notes.{Notes, notes_after}
 use Rattle.alp_wal.specs.State.{State, IsBelow, Suits}
-use Rattle.alp_live.specs.Live.{AreWithin}
+use Rattle.alp_wal.specs.Live.{AreWithin}
 use Rattle.alp_wal.specs.Reading.{Leads, area_first, area_end, home_pages, bare, ReadsBy}
-use Rattle.alp_live.specs.Home.{Index}
+use Rattle.alp_wal.specs.Home.{Index}
 use Rattle.alp_wal.specs.Wal.{shown, indexed, no_index, Logs}
 use Rattle.alp_wal.specs.Mount.{found_state, LeadsTo, Finds, IsBad, WhyNotMounted, AppliesNot, Taken, TakenOrNot}
 use Rattle.alp_wal.specs.declared.found.Found.{Found}
 use Rattle.alp_wal.proofs.Readings.{batch_once}
 use Rattle.alp_wal.proofs.Checkpoints.{logs_push}
-use Rattle.alp_live.proofs.Lives.{within_next}
+use Rattle.alp_wal.proofs.Lives.{within_next}
 use Rattle.alp_wal.proofs.States.{shown_bare, shown_indexed, length-indexed, leads_push}
 
 module _ {E : Type 0} (f g : Found) (body : List ℕ) (b : Batch) where
-  pub take_result : (r : Result Bool E) → length f.index.items ≡ f.anchor.sizes.home → (body ≡ batch.spell b) × batch.Fits b → g.anchor ≡ f.anchor
-      → IfOk r (λ yes. IsTrue yes → Suits f.anchor.sizes.home (entries_of f.notes) b)
-      → IfOk r (λ yes. IsTrue yes → g.index.items ≡ indexed f.index.items b.images)
-      → IfOk r (λ yes. IsTrue yes → entries_of g.notes ≡ noted (entries_of f.notes) b.notes)
-      → IfOk r (λ yes. yes ≡ false → Suits f.anchor.sizes.home (entries_of f.notes) b → ⊥)
+  pub take_result : (r : Result Bool E) → length f.index ≡ f.anchor.sizes.home → (body ≡ batch.spell b) × batch.Fits b → g.anchor ≡ f.anchor
+      → IfOk r (λ yes. IsTrue yes → Suits f.anchor.sizes.home f.notes.notes b)
+      → IfOk r (λ yes. IsTrue yes → g.index ≡ indexed f.index b.images)
+      → IfOk r (λ yes. IsTrue yes → g.notes.notes ≡ notes_after b.notes f.notes.notes)
+      → IfOk r (λ yes. yes ≡ false → Suits f.anchor.sizes.home f.notes.notes b → ⊥)
       → IfOk r (λ yes. (image : Image) → TakenOrNot f.anchor.sizes.home (found_state f image) body (found_state g image) yes)
   take_result (Err e) long spelled anchor suits images notes suits_not = tt
   take_result (Ok true) long spelled anchor suits images notes suits_not = λ image.
-      let below : AllByRecursion (IsBelow (length f.index.items)) b.images = subst (λ (k : ℕ). AllByRecursion (IsBelow k) b.images) (sym long) (suits refl).inside in
-      let pages = ap (λ (a : Anchor). shown (home_pages image a) g.index.items) anchor ∙ ap (λ (x : _). shown (home_pages image f.anchor) x) (images refl) ∙ shown_indexed (home_pages image f.anchor) f.index.items b.images below in
+      let below : AllByRecursion (IsBelow (length f.index)) b.images = subst (λ (k : ℕ). AllByRecursion (IsBelow k) b.images) (sym long) (suits refl).inside in
+      let pages = ap (λ (a : Anchor). shown (home_pages image a) g.index) anchor ∙ ap (λ (x : _). shown (home_pages image f.anchor) x) (images refl) ∙ shown_indexed (home_pages image f.anchor) f.index b.images below in
       record {
         batch = b;
         applies = record { spelled = spelled.0; fits = spelled.1; suits = suits refl };
         state = λ i. record { pages = pages i; notes = notes refl i };
       }
-  take_result (Ok false) long spelled anchor suits images notes suits_not = λ image other applies. suits_not refl (subst (λ (x : Batch). Suits f.anchor.sizes.home (entries_of f.notes) x) (batch_once other b applies.fits spelled.1 (sym applies.spelled ∙ spelled.0)) applies.suits)
+  take_result (Ok false) long spelled anchor suits images notes suits_not = λ image other applies. suits_not refl (subst (λ (x : Batch). Suits f.anchor.sizes.home f.notes.notes x) (batch_once other b applies.fits spelled.1 (sym applies.spelled ∙ spelled.0)) applies.suits)
 
-  pub same_length : (r : Result Bool E) → IfOk r (λ yes. IsTrue yes → g.index.items ≡ indexed f.index.items b.images) → IfOk r (λ yes. IsTrue yes → length g.index.items ≡ length f.index.items)
+  pub same_length : (r : Result Bool E) → IfOk r (λ yes. IsTrue yes → g.index ≡ indexed f.index b.images) → IfOk r (λ yes. IsTrue yes → length g.index ≡ length f.index)
   same_length (Err e) images = tt
-  same_length (Ok true) images = λ told. ap length (images told) ∙ length-indexed f.index.items b.images
-  same_length (Ok false) images = λ told. ap length (images told) ∙ length-indexed f.index.items b.images
+  same_length (Ok true) images = λ told. ap length (images told) ∙ length-indexed f.index b.images
+  same_length (Ok false) images = λ told. ap length (images told) ∙ length-indexed f.index b.images
 
   -- and its images are those of one record more
-  pub logs_result : (r : Result Bool E) → (body ≡ batch.spell b) × batch.Fits b → IfOk r (λ yes. IsTrue yes → g.index.items ≡ indexed f.index.items b.images) → IfOk r (λ yes. IsTrue yes → Logs f.index.items (body ∷ []) g.index.items)
+  pub logs_result : (r : Result Bool E) → (body ≡ batch.spell b) × batch.Fits b → IfOk r (λ yes. IsTrue yes → g.index ≡ indexed f.index b.images) → IfOk r (λ yes. IsTrue yes → Logs f.index (body ∷ []) g.index)
   logs_result (Err e) spelled images = tt
   logs_result (Ok true) spelled images = λ told. (b, spelled.0, spelled.1, sym (images told))
   logs_result (Ok false) spelled images = λ told. (b, spelled.0, spelled.1, sym (images told))
 
 -- one record more
 pub finds_on : (image : Image) (a : Anchor) (f g : Found) (body : List ℕ) → (before : Finds image a f) → RecordAt image a.generation (area_end a) f.end body → Taken a.sizes.home (found_state f image) body (found_state g image)
-    → Logs f.index.items (body ∷ []) g.index.items → next_of f.end body ≡ g.end → Finds image a g
+    → Logs f.index (body ∷ []) g.index → next_of f.end body ≡ g.end → Finds image a g
 finds_on image a f g body before here taken logged end = record {
   leads = record {
     bodies = before.leads.bodies ++ body ∷ [];
@@ -65,16 +65,16 @@ finds_on image a f g body before here taken logged end = record {
     here = behind_push (area_first a) before.leads.bodies body ∙ ap (λ k. next_of k body) before.leads.here ∙ end;
     leads = subst (λ (s : State). Leads a.sizes.home (bare image a) (before.leads.bodies ++ body ∷ []) s) (sym taken.state) (leads_push a.sizes.home (bare image a) (found_state f image) before.leads.bodies body taken.batch before.leads.leads taken.applies);
   };
-  logged = logs_push (no_index a.sizes.home) f.index.items g.index.items before.leads.bodies body before.logged logged;
+  logged = logs_push (no_index a.sizes.home) f.index g.index before.leads.bodies body before.logged logged;
 }
 
 -- and its notes take no more room than it
-pub within_on : (home first : ℕ) (f g : Found) (body : List ℕ) → Taken home (found_state f []) body (found_state g []) → AreWithin first f.end (entries_of f.notes) → first ≤ f.end → AreWithin first (f.end + (1 + body_pages (length body))) (entries_of g.notes)
+pub within_on : (home first : ℕ) (f g : Found) (body : List ℕ) → Taken home (found_state f []) body (found_state g []) → AreWithin first f.end f.notes.notes → first ≤ f.end → AreWithin first (f.end + (1 + body_pages (length body))) g.notes.notes
 within_on home first f g body taken within begun =
     let long : length body ≡ batch_length taken.batch = ap length taken.applies.spelled ∙ batch_is taken.batch taken.applies.fits in
-    let notes : entries_of g.notes ≡ noted (entries_of f.notes) taken.batch.notes = ap (λ (s : State). s.notes) taken.state in
-    subst (λ (e : Entries). AreWithin first (f.end + (1 + body_pages (length body))) e) (sym notes)
-    (subst (λ k. AreWithin first (f.end + (1 + body_pages k)) (noted (entries_of f.notes) taken.batch.notes)) (sym long) (within_next first f.end (entries_of f.notes) taken.batch within begun))
+    let notes : g.notes.notes ≡ notes_after taken.batch.notes f.notes.notes = ap (λ (s : State). s.notes) taken.state in
+    subst (λ (e : Notes). AreWithin first (f.end + (1 + body_pages (length body))) e) (sym notes)
+    (subst (λ k. AreWithin first (f.end + (1 + body_pages k)) (notes_after taken.batch.notes f.notes.notes)) (sym long) (within_next first f.end f.notes.notes taken.batch within begun))
 
 -- the record of an area, said of the anchor's
 pub record_of : (image : Image) (a : Anchor) (generation end place : ℕ) (body : List ℕ) → generation ≡ a.generation → end ≡ area_end a → RecordAt image generation end place body → RecordAt image a.generation (area_end a) place body
@@ -96,9 +96,9 @@ pub some_of : (o : Option (List ℕ)) (body : List ℕ) (P : Type 0) (Q : List �
 some_of o body P Q is known = subst (λ (x : Option (List ℕ)). MatchOption x P Q) is known
 
 -- before any record
-pub finds_none : (image : Image) (a : Anchor) (f : Found) → f.anchor ≡ a → f.end ≡ area_first a → f.index.items ≡ no_index a.sizes.home → entries_of f.notes ≡ [] → Finds image a f
+pub finds_none : (image : Image) (a : Anchor) (f : Found) → f.anchor ≡ a → f.end ≡ area_first a → f.index ≡ no_index a.sizes.home → f.notes.notes ≡ map.empty → Finds image a f
 finds_none image a f anchor end index_is notes_are =
-    let shows : shown (home_pages image f.anchor) f.index.items ≡ home_pages image a = ap (λ (x : Index). shown (home_pages image f.anchor) x) index_is ∙ shown_bare (home_pages image f.anchor) a.sizes.home ∙ ap (λ (b : Anchor). home_pages image b) anchor in
+    let shows : shown (home_pages image f.anchor) f.index ≡ home_pages image a = ap (λ (x : Index). shown (home_pages image f.anchor) x) index_is ∙ shown_bare (home_pages image f.anchor) a.sizes.home ∙ ap (λ (b : Anchor). home_pages image b) anchor in
     let pages = sym shows in
     let none = sym notes_are in
     record {

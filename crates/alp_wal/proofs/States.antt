@@ -2,6 +2,7 @@
 use Rattle.std.proofs.Common.{◌≡◌, inl, inr, ◌<◌, ◌≤◌, ◌+◌, ◌-◌, ◌*◌, ℕ, zero, suc, List, [], ◌∷◌, ◌++◌, length, Some, None, refl, sym, ap, subst, ◌∙◌, arith}
 use Rattle.std.specs.Prelude.{slice_set, slice_index_or, replicate}
 use Rattle.std.specs.List.{AllByRecursion}
+use Rattle.std.specs.FinMap as map
 use Rattle.std.proofs.lemmas.List.{length-set}
 use Rattle.std.proofs.lemmas.Bool.{cases_eq}
 use Rattle.alp_disk.specs.Disk.{Image, page}
@@ -9,15 +10,10 @@ use Rattle.alp_anchor.specs.Anchor.{IsSound, Counts}
 use Rattle.alp_anchor.specs.declared.anchor.Anchor.{Anchor}
 use Rattle.alp_batch.specs.declared.batch.PageImage.{PageImage}
 use Rattle.alp_batch.specs.declared.batch.Batch.{Batch}
-use Rattle.alp_batch.specs.Batch.{IsShort}
-use Rattle.alp_notes.specs.Entries.{Entries}
-use Rattle.alp_notes.specs.declared.notes.Notes.{Notes}
-use Rattle.alp_notes.specs.Notes.{entries_of, IsWhole}
-use Rattle.alp_live.specs.Live.{puts, notes_pages, AreLive}
 use Rattle.alp_disk.specs.Runs.{SameOutside}
 use Rattle.alp_wal.specs.State.{State, overlaid, applied, IsBelow}
 use Rattle.alp_wal.specs.Reading.{Applies, Leads, pages_from, home_first, area_end, bare}
-use Rattle.alp_live.specs.Home.{Index}
+use Rattle.alp_wal.specs.Home.{Index}
 use Rattle.alp_wal.specs.Wal.{shown, indexed}
 
 -- ---- the index shows what the batches leave
@@ -80,18 +76,6 @@ page_from image first zero i low = absurd (omega (arith, low))
 page_from image first (suc n) zero low = ap (λ (k : ℕ). page image k) (omega arith)
 page_from image first (suc n) (suc i) low = page_from image (first + 1) n i (omega (arith, low)) ∙ ap (λ (k : ℕ). page image k) (omega arith)
 
--- ---- no notes
-
-pub none_live : (n : Notes) → entries_of n ≡ [] → IsWhole n → AreLive n
-none_live n none whole = record {
-  whole = whole;
-  few = omega (arith, ap (λ (e : Entries). length e) none);
-  short = subst (λ (e : Entries). AllByRecursion IsShort (puts e)) (sym none) tt;
-}
-
-pub none_fit : (area : ℕ) (es : Entries) → es ≡ [] → 64 ≤ area → notes_pages es ≤ area
-none_fit area es none enough = omega (arith, ap (λ (e : Entries). notes_pages e) none, enough)
-
 -- ---- one batch more
 
 pub leads_push : (home : ℕ) (first last : State) (bodies : List (List ℕ)) (body : List ℕ) (b : Batch) → Leads home first bodies last → Applies home last body b → Leads home first (bodies ++ body ∷ []) (applied last b)
@@ -108,7 +92,7 @@ above_area a low = elim (cases_eq a.area 0) [
 
 pub bare_kept : (n : ℕ) (a : Anchor) (old c : Image) (at : ℕ) → IsSound n a → SameOutside at (area_end a - at) old c → at ≤ area_end a → bare c a ≡ bare old a
 bare_kept n a old c at sound same inside =
-    ap (λ (l : Image). record { pages = l; notes = [] }) (same_from old c (home_first a) a.sizes.home (λ q above. same.behind q (omega (arith, above, above_area a sound.area, inside))))
+    ap (λ (l : Image). record { pages = l; notes = map.empty }) (same_from old c (home_first a) a.sizes.home (λ q above. same.behind q (omega (arith, above, above_area a sound.area, inside))))
 
 pub counts_kept : (n : ℕ) (a : Anchor) (old c : Image) → ((q : ℕ) → q < 2 → page c q ≡ page old q) → Counts n old a → Counts n c a
 counts_kept n a old c same counts = record {

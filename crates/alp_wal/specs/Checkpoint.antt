@@ -4,10 +4,10 @@ use Rattle.alp_disk.specs.Disk.{Image, page}
 use Rattle.alp_anchor.specs.declared.anchor.Anchor.{Anchor}
 use Rattle.alp_anchor.specs.Anchor.{Counts, next_anchor, after}
 use Rattle.alp_record.specs.Record.{Records}
-use Rattle.alp_live.specs.Home.{SameUnlogged, BroughtHome}
+use Rattle.alp_wal.specs.Home.{SameUnlogged, BroughtHome}
 use Rattle.alp_wal.specs.Reading.{area_first, area_end, home_first}
-use Rattle.alp_live.specs.Home.{Index}
-use Rattle.alp_live.specs.Live.{notes_pages}
+use Rattle.alp_wal.specs.Home.{Index}
+use Rattle.alp_wal.specs.Live.{notes_pages}
 use Rattle.alp_wal.specs.Wal.{anchor_of, index_of, end_of, room_of, notes_of, no_index}
 use Rattle.alp_wal.specs.declared.wal.Wal.{Wal}
 

@@ -1,6 +1,10 @@
+pub mod Live
+pub mod Home
+pub mod Logged
 pub mod State
 pub mod Reading
 pub mod Wal
 pub mod Prepared
 pub mod Checkpoint
 pub mod Mount
+pub mod Calls

@@ -10,7 +10,6 @@ use Rattle.alp_anchor.specs.Anchor.{Counts}
 use Rattle.alp_anchor.specs.Read.{NoneOwn, Disagree}
 use Rattle.alp_batch.specs.declared.batch.Batch.{Batch}
 use Rattle.alp_record.specs.Record.{RecordAt, Stand, behind, IsDamaged}
-use Rattle.alp_notes.specs.Notes.{entries_of}
 use Rattle.alp_wal.specs.State.{State, applied}
 use Rattle.alp_wal.specs.Reading.{Applies, Leads, area_first, area_end, home_pages, bare}
 use Rattle.alp_wal.specs.Wal.{shown, no_index, Logs}
@@ -18,7 +17,7 @@ use Rattle.alp_wal.specs.declared.found.Found.{Found}
 
 -- what was found so far, over a disk that reads so
 abbrev pub found_state : Found → Image → State
-found_state f image = record { pages = shown (home_pages image f.anchor) f.index.items; notes = entries_of f.notes }
+found_state f image = record { pages = shown (home_pages image f.anchor) f.index; notes = f.notes.notes }
 
 -- records with these bodies stand from the beginning of the area up to this page, and lead to the state
 pub record LeadsTo (image : Image) (a : Anchor) (place : ℕ) (state : State) : Type 0 where
@@ -30,7 +29,7 @@ pub record LeadsTo (image : Image) (a : Anchor) (place : ℕ) (state : State) : 
 -- records lead to what was found, and its index has the images of these and no others
 pub record Finds (image : Image) (a : Anchor) (f : Found) : Type 0 where
   pub leads : LeadsTo image a f.end (found_state f image)
-  pub logged : Logs (no_index a.sizes.home) leads.bodies f.index.items
+  pub logged : Logs (no_index a.sizes.home) leads.bodies f.index
 
 -- no batch that suits the state is spelled so
 abbrev pub AppliesNot : ℕ → State → List ℕ → Type 0
@@ -67,3 +66,9 @@ abbrev pub WhyNotMounted : ℕ → ℕ → ℕ → Image → VaultFault → Type
 WhyNotMounted server servers n image (Damaged place) =
     ((place ≡ 1) × Disagree server servers n image) ⊎ ((a : Anchor) × Counts n image a × (a.server ≡ server) × (a.servers ≡ servers) × IsBad image a place)
 WhyNotMounted server servers n image fault = WhyNone server servers n image fault
+
+-- a refusal that what the disk holds gives: no volume, or damage
+abbrev pub IsOfDisk : VaultFault → Type 0
+IsOfDisk (NotAVolume found) = Unit {0}
+IsOfDisk (Damaged place) = Unit {0}
+IsOfDisk other = ⊥

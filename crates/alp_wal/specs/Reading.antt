@@ -1,5 +1,6 @@
 -- What a disk stands for: its home pages under the records of the area that the anchor names.
 use Rattle.std.specs.Prelude.{◌≡◌, ℕ, zero, suc, ◌+◌, ◌*◌, List, [], ◌∷◌}
+use Rattle.std.specs.FinMap as map
 use Rattle.alp_disk.specs.Disk.{Image, page}
 use Rattle.alp_anchor.specs.Anchor.{Counts}
 use Rattle.alp_anchor.specs.declared.anchor.Anchor.{Anchor}
@@ -39,7 +40,7 @@ home_pages image a = pages_from image (home_first a) a.sizes.home
 
 -- before any record: the home pages as they stand, and no notes
 abbrev pub bare : Image → Anchor → State
-bare image a = record { pages = home_pages image a; notes = [] }
+bare image a = record { pages = home_pages image a; notes = map.empty }
 
 -- the anchor counts, and the open records of its area and generation lead from the bare home pages to the state
 pub record ReadsBy (n : ℕ) (image : Image) (a : Anchor) (bodies : List (List ℕ)) (state : State) : Type 0 where

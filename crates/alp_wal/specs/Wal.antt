@@ -1,18 +1,18 @@
 -- What the struct of a log holds, and what is known of it.
 use Rattle.std.specs.Prelude.{◌≡◌, ◌⊎◌, ◌≤◌, ℕ, ◌-◌, Bool, List, [], ◌∷◌, Some, None, slice_set, replicate, length}
-use Rattle.alp_disk.specs.Disk.{Image, Only}
+use Rattle.alp_disk.specs.Disk.{Image}
+use Rattle.alp_base.specs.Crashes.{Only}
 use Rattle.alp_anchor.specs.declared.anchor.Anchor.{Anchor}
 use Rattle.alp_anchor.specs.Anchor.{IsSound}
 use Rattle.alp_batch.specs.declared.batch.PageImage.{PageImage}
 use Rattle.alp_batch.specs.declared.batch.Batch.{Batch}
 use Rattle.alp_batch.specs.Batch.{batch}
 use Rattle.alp_record.specs.Record.{behind}
-use Rattle.alp_notes.specs.Entries.{Entries}
-use Rattle.alp_notes.specs.declared.notes.Notes.{Notes}
-use Rattle.alp_notes.specs.Notes.{entries_of}
+use Rattle.alp_base.specs.Notes.{Notes}
+use Rattle.alp_notes.specs.Held.{Held}
 use Rattle.alp_wal.specs.State.{State, applied}
-use Rattle.alp_live.specs.Live.{notes_pages, AreLive}
-use Rattle.alp_live.specs.Home.{Index}
+use Rattle.alp_wal.specs.Live.{notes_pages, AreLive}
+use Rattle.alp_wal.specs.Home.{Index}
 use Rattle.alp_wal.specs.Reading.{area_first, area_end, home_pages, ReadsBy, Reads}
 use Rattle.alp_wal.specs.declared.wal.Wal.{Wal}
 
@@ -49,17 +49,17 @@ anchor_of w = w.anchor
 abbrev pub end_of : {D : Type 0} → Wal D → ℕ
 end_of w = w.end
 
-abbrev pub notes_of : {D : Type 0} → Wal D → Entries
-notes_of w = entries_of w.notes
+abbrev pub notes_of : {D : Type 0} → Wal D → Notes
+notes_of w = w.notes.notes
 
 abbrev pub index_of : {D : Type 0} → Wal D → Index
-index_of w = w.index.items
+index_of w = w.index
 
 abbrev pub is_dead : {D : Type 0} → Wal D → Bool
 is_dead w = w.dead
 
 -- the notes, with the room that they have
-abbrev pub held_notes : {D : Type 0} → Wal D → Notes
+abbrev pub held_notes : {D : Type 0} → Wal D → Held
 held_notes w = w.notes
 
 -- the pages of the area behind the last record
@@ -68,7 +68,7 @@ room_of w = area_end (anchor_of w) - w.end
 
 -- what the log holds over a disk that reads so
 abbrev pub state_of : {D : Type 0} → Wal D → Image → State
-state_of w image = record { pages = shown (home_pages image w.anchor) w.index.items; notes = entries_of w.notes }
+state_of w image = record { pages = shown (home_pages image w.anchor) w.index; notes = w.notes.notes }
 
 -- before a batch, or after it
 abbrev pub BeforeOrAfter : ℕ → ℕ → ℕ → State → Batch → Image → Type 0
@@ -84,7 +84,7 @@ pub record IsSameVolume (a b : Anchor) : Type 0 where
 pub record IsLog {D : Type 0} (n : ℕ) (w : Wal D) : Type 0 where
   pub anchor : IsSound n (anchor_of w)
   pub index : length (index_of w) ≡ (anchor_of w).sizes.home
-  pub notes : AreLive w.notes
+  pub notes : AreLive (notes_of w)
   pub fits : notes_pages (notes_of w) ≤ (anchor_of w).sizes.area
   pub begun : area_first (anchor_of w) ≤ end_of w
   pub inside : end_of w ≤ area_end (anchor_of w)

@@ -3,7 +3,7 @@ ghost use Rattle.std.specs.Prelude.{◌≡◌, ◌≤◌, ◌+◌, length, IsTru
 ghost use Rattle.alp_base.specs.Causes.{Rose};
 ghost use Rattle.alp_base.specs.Allowances.{Spends};
 ghost use Rattle.alp_base.specs.declared.allowance.Allowance.TheVariants.{Spent};
-ghost use Rattle.alp_disk.specs.Disk.{Only, Adds};
+ghost use Rattle.alp_base.specs.Crashes.{Only, Adds};
 ghost use Rattle.alp_record.specs.Record.{body_pages, next_of};
 ghost use Rattle.alp_record.specs.Adding.{Added, Adding};
 ghost use Rattle.alp_wal.specs.Reading.{area_first, area_end};

@@ -1,18 +1,20 @@
 //! How a mount begins.
-ghost use Rattle.std.specs.Prelude.{◌≡◌, ◌≤◌, ◌+◌, length, IsTrue, OnOk, IfOk, IfErr, IsErrOf, ℕ, []};
+ghost use Rattle.std.specs.Prelude.{◌≡◌, ◌≤◌, ◌+◌, length, IsTrue, OnOk, IfOk, IfErr, IsErrOf, ℕ};
+ghost use Rattle.std.specs.FinMap as map;
 ghost use Rattle.alp_base.specs.Causes.{Rose};
 ghost use Rattle.alp_base.specs.Allowances.{Spends};
 ghost use Rattle.alp_base.specs.declared.faults.VaultFault.TheVariants.{Failed, Stopped, Damaged};
 ghost use Rattle.alp_base.specs.declared.allowance.Allowance.TheVariants.{Spent};
-ghost use Rattle.alp_disk.specs.Disk.{Image as Pages, Only, NoMore, Adds};
+ghost use Rattle.alp_disk.specs.Disk.{Image as Pages};
+ghost use Rattle.alp_base.specs.Crashes.{Only, NoMore, Adds};
 ghost use Rattle.alp_anchor.specs.Anchor.{IsSound, Counts};
-ghost use Rattle.alp_notes.specs.Notes.{entries_of};
-ghost use Rattle.alp_live.specs.Live.{AreLive};
+ghost use Rattle.alp_wal.specs.Live.{AreLive};
 ghost use Rattle.alp_wal.specs.Reading.{area_first, area_end};
 ghost use Rattle.alp_wal.specs.Wal.{no_index};
-ghost use Rattle.alp_wal.specs.Mount.{Finds, WhyNone, halt_fault};
+ghost use Rattle.alp_wal.specs.Mount.{Finds, IsOfDisk, WhyNone, halt_fault};
 
-use crate::found::{Found, no_images};
+use crate::found::Found;
+use crate::index::ImageIndex;
 use alp_anchor::{Anchor, AnchorFault, read_anchor};
 use alp_base::{Halt, OutOfMemory, VaultFault};
 use alp_disk::Disk;
@@ -42,13 +44,13 @@ pub fn bare(alloc: Global, anchor: Anchor, first: u32) -> Result<Found, OutOfMem
     requires { first ≡ area_first anchor }
     ensures anchor { IfOk result (λ f. f.anchor ≡ anchor) }
     ensures end { IfOk result (λ f. f.end ≡ area_first anchor) }
-    ensures empty { IfOk result (λ f. f.index.items ≡ no_index anchor.sizes.home) }
-    ensures index { IfOk result (λ f. length f.index.items ≡ anchor.sizes.home) }
-    ensures live { IfOk result (λ f. AreLive f.notes) }
-    ensures none { IfOk result (λ f. entries_of f.notes ≡ []) }
+    ensures empty { IfOk result (λ f. f.index ≡ no_index anchor.sizes.home) }
+    ensures index { IfOk result (λ f. length f.index ≡ anchor.sizes.home) }
+    ensures live { IfOk result (λ f. AreLive f.notes.notes) }
+    ensures none { IfOk result (λ f. f.notes.notes ≡ map.empty) }
     ensures finds { IfOk result (λ f. (image : Pages) → Finds image anchor f) }
 {
-    let index = no_images(alloc, anchor.sizes.home)?;
+    let index = ImageIndex::new(alloc, anchor.sizes.home)?;
     Ok(Found {
         anchor,
         end: first,
@@ -74,7 +76,7 @@ pub(super) fn begin<D: Disk>(disk: &mut D, server: u8, servers: u8) -> Result<An
     ensures sound { IfOk result (IsSound (D.size disk.old)) }
     ensures why_none { IsTrue (D.tells disk.old) → IfErr result (WhyNone server servers (D.size disk.old) (D.seen disk.old)) }
     ensures durable { IsTrue (D.tells disk.old) → OnOk result (Only (D.seen disk.old) (D.may_leave disk.new)) }
-    ensures damaged { IsTrue (D.tells disk.old) → (place : ℕ) → IsErrOf result (Damaged place) → Only (D.seen disk.old) (D.may_leave disk.new) }
+    ensures settled { IsTrue (D.tells disk.old) → IfErr result (λ e. IsOfDisk e → Only (D.seen disk.old) (D.may_leave disk.new)) }
     ensures tells { D.tells disk.new ≡ D.tells disk.old }
     ensures size { D.size disk.new ≡ D.size disk.old }
     ensures seen { D.seen disk.new ≡ D.seen disk.old }

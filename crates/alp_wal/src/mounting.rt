@@ -5,14 +5,14 @@ ghost use Rattle.alp_base.specs.declared.faults.Halt.{Halt as Halting};
 ghost use Rattle.alp_base.specs.declared.faults.VaultFault.TheVariants.{Failed, Stopped, Damaged, NotAVolume};
 ghost use Rattle.alp_base.specs.declared.allowance.Allowance.TheVariants.{Spent};
 ghost use Rattle.alp_base.specs.Allowances.{Spends};
-ghost use Rattle.alp_disk.specs.Disk.{Only, NoMore, Adds};
+ghost use Rattle.alp_base.specs.Crashes.{Only, NoMore, Adds};
 ghost use Rattle.alp_anchor.specs.Anchor.{IsSound, Counts};
+ghost use Rattle.alp_record.specs.Calls.{Looked};
 ghost use Rattle.alp_record.specs.Record.{IsEnd};
-ghost use Rattle.alp_notes.specs.Notes.{entries_of};
-ghost use Rattle.alp_live.specs.Live.{AreLive, AreWithin};
+ghost use Rattle.alp_wal.specs.Live.{AreLive, AreWithin};
 ghost use Rattle.alp_wal.specs.Reading.{area_first, area_end, Reads};
 ghost use Rattle.alp_wal.specs.Wal.{disk_of, anchor_of, state_of, is_dead, IsLog, IsKnown};
-ghost use Rattle.alp_wal.specs.Mount.{Finds, IsBad, WhyNotMounted};
+ghost use Rattle.alp_wal.specs.Mount.{Finds, IsBad, IsOfDisk, WhyNotMounted};
 
 use crate::Wal;
 use crate::begin::{area_of, bare, begin};
@@ -34,9 +34,9 @@ fn step<D: Disk>(
     requires generation { area.now.generation ≡ found.old.anchor.generation }
     requires begun { area_first found.old.anchor ≤ found.old.end }
     requires inside { found.old.end ≤ area_end found.old.anchor }
-    requires index { length found.old.index.items ≡ found.old.anchor.sizes.home }
-    requires live { AreLive found.old.notes }
-    requires within { AreWithin (area_first found.old.anchor) found.old.end (entries_of found.old.notes) }
+    requires index { length found.old.index ≡ found.old.anchor.sizes.home }
+    requires live { AreLive found.old.notes.notes }
+    requires within { AreWithin (area_first found.old.anchor) found.old.end found.old.notes.notes }
     ensures more { IsTrue (D.tells disk.old) → Finds (D.seen disk.old) found.old.anchor found.old → IfOk result (λ more. IsTrue more → Finds (D.seen disk.old) found.old.anchor found.new) }
     ensures last { IsTrue (D.tells disk.old) → IfOk result (λ more. more ≡ false → IsEnd (D.seen disk.old) (area_end found.old.anchor) found.old.end) }
     ensures stays { IfOk result (λ more. more ≡ false → found.new ≡ found.old) }
@@ -45,9 +45,9 @@ fn step<D: Disk>(
     ensures grows { IfOk result (λ more. IsTrue more → found.old.end + 1 ≤ found.new.end) }
     ensures inside { OnOk result (found.new.end ≤ area_end found.old.anchor) }
     ensures anchor { found.new.anchor ≡ found.old.anchor }
-    ensures index { OnOk result (length found.new.index.items ≡ length found.old.index.items) }
-    ensures live { OnOk result (AreLive found.new.notes) }
-    ensures within { OnOk result (AreWithin (area_first found.old.anchor) found.new.end (entries_of found.new.notes)) }
+    ensures index { OnOk result (length found.new.index ≡ length found.old.index) }
+    ensures live { OnOk result (AreLive found.new.notes.notes) }
+    ensures within { OnOk result (AreWithin (area_first found.old.anchor) found.new.end found.new.notes.notes) }
     ensures tells { D.tells disk.new ≡ D.tells disk.old }
     ensures size { D.size disk.new ≡ D.size disk.old }
     ensures seen { D.seen disk.new ≡ D.seen disk.old }
@@ -89,9 +89,9 @@ fn replay<D: Disk>(
     requires generation { area.now.generation ≡ found.old.anchor.generation }
     requires begun { area_first found.old.anchor ≤ found.old.end }
     requires inside { found.old.end ≤ area_end found.old.anchor }
-    requires index { length found.old.index.items ≡ found.old.anchor.sizes.home }
-    requires live { AreLive found.old.notes }
-    requires within { AreWithin (area_first found.old.anchor) found.old.end (entries_of found.old.notes) }
+    requires index { length found.old.index ≡ found.old.anchor.sizes.home }
+    requires live { AreLive found.old.notes.notes }
+    requires within { AreWithin (area_first found.old.anchor) found.old.end found.old.notes.notes }
     requires before { IsTrue (D.tells disk.old) → Finds (D.seen disk.old) found.old.anchor found.old }
     ensures finds { IsTrue (D.tells disk.old) → OnOk result (Finds (D.seen disk.old) found.old.anchor found.new) }
     ensures ends { IsTrue (D.tells disk.old) → OnOk result (IsEnd (D.seen disk.old) (area_end found.old.anchor) found.new.end) }
@@ -100,9 +100,9 @@ fn replay<D: Disk>(
     ensures begun { OnOk result (found.old.end ≤ found.new.end) }
     ensures inside { OnOk result (found.new.end ≤ area_end found.old.anchor) }
     ensures anchor { found.new.anchor ≡ found.old.anchor }
-    ensures index { OnOk result (length found.new.index.items ≡ found.old.anchor.sizes.home) }
-    ensures live { OnOk result (AreLive found.new.notes) }
-    ensures within { OnOk result (AreWithin (area_first found.old.anchor) found.new.end (entries_of found.new.notes)) }
+    ensures index { OnOk result (length found.new.index ≡ found.old.anchor.sizes.home) }
+    ensures live { OnOk result (AreLive found.new.notes.notes) }
+    ensures within { OnOk result (AreWithin (area_first found.old.anchor) found.new.end found.new.notes.notes) }
     ensures tells { D.tells disk.new ≡ D.tells disk.old }
     ensures size { D.size disk.new ≡ D.size disk.old }
     ensures seen { D.seen disk.new ≡ D.seen disk.old }
@@ -136,18 +136,13 @@ fn recover<D: Disk>(
     ensures ends { IsTrue (D.tells disk.old) → IfOk result (λ f. IsEnd (D.seen disk.old) (area_end f.anchor) f.end) }
     ensures begun { IfOk result (λ f. area_first f.anchor ≤ f.end) }
     ensures inside { IfOk result (λ f. f.end ≤ area_end f.anchor) }
-    ensures index { IfOk result (λ f. length f.index.items ≡ f.anchor.sizes.home) }
-    ensures live { IfOk result (λ f. AreLive f.notes) }
-    ensures within { IfOk result (λ f. AreWithin (area_first f.anchor) f.end (entries_of f.notes)) }
+    ensures index { IfOk result (λ f. length f.index ≡ f.anchor.sizes.home) }
+    ensures live { IfOk result (λ f. AreLive f.notes.notes) }
+    ensures within { IfOk result (λ f. AreWithin (area_first f.anchor) f.end f.notes.notes) }
     ensures durable { IsTrue (D.tells disk.old) → OnOk result (Only (D.seen disk.old) (D.may_leave disk.new)) }
-    ensures damaged { IsTrue (D.tells disk.old) → (place : ℕ) → IsErrOf result (Damaged place) → Only (D.seen disk.old) (D.may_leave disk.new) }
+    ensures settled { IsTrue (D.tells disk.old) → IfErr result (λ e. IsOfDisk e → Only (D.seen disk.old) (D.may_leave disk.new)) }
     ensures why_not { IsTrue (D.tells disk.old) → IfErr result (WhyNotMounted server servers (D.size disk.old) (D.seen disk.old)) }
-    ensures tells { D.tells disk.new ≡ D.tells disk.old }
-    ensures size { D.size disk.new ≡ D.size disk.old }
-    ensures seen { D.seen disk.new ≡ D.seen disk.old }
-    ensures time { Adds D.left_since disk.old disk.new (D.may_leave disk.old) }
-    ensures allowance { Spends (D.allowance disk.old) (D.allowance disk.new) }
-    ensures later { D.faults disk.old ≤ D.faults disk.new }
+    ensures below { Looked D.Disk disk.old disk.new }
     ensures failed { IsErrOf result Failed → Rose (D.faults disk.old) (D.faults disk.new) }
     ensures stopped { IsErrOf result Stopped → D.allowance disk.new ≡ Spent }
 {
@@ -177,21 +172,11 @@ pub fn mount<D: Disk>(
     ensures reads { IsTrue (D.tells disk) → IfOk result (λ w. Reads server servers (D.size disk) (D.seen disk) (state_of w (D.seen (disk_of w)))) }
     ensures alive { IfOk result (λ w. is_dead w ≡ false) }
     ensures named { IfOk result (λ w. ((anchor_of w).server ≡ server) × ((anchor_of w).servers ≡ servers)) }
-    ensures tells { IfOk result (λ w. D.tells (disk_of w) ≡ D.tells disk) }
-    ensures size { IfOk result (λ w. D.size (disk_of w) ≡ D.size disk) }
-    ensures allowance { IfOk result (λ w. Spends (D.allowance disk) (D.allowance (disk_of w))) }
-    ensures later { IfOk result (λ w. D.faults disk ≤ D.faults (disk_of w)) }
-    ensures same { IfOk result (λ w. D.seen (disk_of w) ≡ D.seen disk) }
-    ensures time { IfOk result (λ w. Adds D.left_since disk (disk_of w) (D.may_leave disk)) }
+    ensures below { IfOk result (λ w. Looked D.Disk disk (disk_of w)) }
     ensures why_not { IsTrue (D.tells disk) → IfErr result (λ e. WhyNotMounted server servers (D.size disk) (D.seen disk) e.1) }
-    // It began with a sync: what is refused as damaged is so after a crash too.
-    ensures damaged { IsTrue (D.tells disk) → IfErr result (λ e. (place : ℕ) → e.1 ≡ Damaged place → Only (D.seen e.0) (D.may_leave e.0)) }
-    ensures same_refused { IfErr result (λ e. D.seen e.0 ≡ D.seen disk) }
-    ensures time_refused { IfErr result (λ e. Adds D.left_since disk e.0 (D.may_leave disk)) }
-    ensures tells_refused { IfErr result (λ e. D.tells e.0 ≡ D.tells disk) }
-    ensures size_refused { IfErr result (λ e. D.size e.0 ≡ D.size disk) }
-    ensures allowance_refused { IfErr result (λ e. Spends (D.allowance disk) (D.allowance e.0)) }
-    ensures later_refused { IfErr result (λ e. D.faults disk ≤ D.faults e.0) }
+    ensures below_refused { IfErr result (λ e. Looked D.Disk disk e.0) }
+    // It began with a sync: what is refused as no volume, or as damaged, is so after a crash too.
+    ensures durable { IsTrue (D.tells disk) → IfErr result (λ e. IsOfDisk e.1 → Only (D.seen e.0) (D.may_leave e.0)) }
     ensures failed { IfErr result (λ e. e.1 ≡ Failed → Rose (D.faults disk) (D.faults e.0)) }
     ensures stopped { IfErr result (λ e. e.1 ≡ Stopped → D.allowance e.0 ≡ Spent) }
 {

@@ -3,7 +3,7 @@ ghost use Rattle.std.specs.Prelude.{◌≡◌, ◌≤◌, ◌+◌, length, IsTru
 ghost use Rattle.alp_base.specs.Causes.{Rose};
 ghost use Rattle.alp_base.specs.Allowances.{Spends, HasHaltCause};
 ghost use Rattle.alp_base.specs.declared.allowance.Allowance.TheVariants.{Spent};
-ghost use Rattle.alp_disk.specs.Disk.{Only, Adds};
+ghost use Rattle.alp_base.specs.Crashes.{Only, Adds};
 ghost use Rattle.alp_anchor.specs.Anchor.{IsSound, Counts};
 ghost use Rattle.alp_record.specs.Record.{body_pages, next_of};
 ghost use Rattle.alp_wal.specs.Reading.{area_first};
@@ -12,19 +12,19 @@ ghost use Rattle.alp_wal.specs.Checkpoint.{turned, MovingOver, MovedOver};
 ghost use Rattle.alp_wal.specs.declared.fault.WalFault.TheVariants.{Failed, Stopped, Full, Dead, OutOfMemory};
 
 use crate::begin::area_of;
+use crate::index::ImageIndex;
 use crate::turning::turn;
 use crate::{Wal, WalFault};
 use alp_anchor::Anchor;
-use alp_base::{Halt, PageRef};
+use alp_base::Halt;
 use alp_disk::Disk;
-use alp_live::{bring_home, clear_index};
 use alp_record::record_pages;
 
 /// Brings the images home, and turns to the idle area with this record as its only one.
 fn move_over<D: Disk>(
     disk: &mut D,
     anchor: &Anchor,
-    index: &[Option<PageRef>],
+    index: &ImageIndex,
     body: &[u8],
 ) -> Result<Anchor, Halt>
     requires sound { IsSound (D.size disk.old) anchor.now }
@@ -41,7 +41,7 @@ fn move_over<D: Disk>(
     ensures allowance { Spends (D.allowance disk.old) (D.allowance disk.new) }
     ensures cause { HasHaltCause (D.faults disk.old) (D.faults disk.new) (D.allowance disk.new) result }
 {
-    bring_home(disk, 2 + 2 * anchor.sizes.area, index)?;
+    index.bring_home(disk, 2 + 2 * anchor.sizes.area)?;
     turn(disk, anchor, body)
 }
 
@@ -74,11 +74,11 @@ impl<D: Disk> Wal<D> {
         ensures stays_index { OnErr result (index_of self.new ≡ index_of self.old) }
         ensures notes { held_notes self.new ≡ held_notes self.old }
     {
-        match move_over(&mut self.disk, &self.anchor, self.index.as_slice(), body) {
+        match move_over(&mut self.disk, &self.anchor, &self.index, body) {
             Ok(anchor) => {
                 self.end = area_of(&anchor).first + record_pages(body.len() as u32);
                 self.anchor = anchor;
-                clear_index(self.index.as_mut_slice());
+                self.index.clear();
                 Ok(())
             }
             Err(Halt::Failed) => {

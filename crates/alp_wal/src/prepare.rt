@@ -1,13 +1,9 @@
 //! What a commit does in memory.
-ghost use Rattle.std.specs.Prelude.{◌≡◌, length, IfOk, OnOk};
-ghost use Rattle.std.specs.List.{AllByRecursion};
+ghost use Rattle.std.specs.Prelude.{◌≡◌, ◌≤◌, length, IfOk, OnOk};
 ghost use Rattle.alp_batch.specs.Batch.{IsBatch};
-ghost use Rattle.alp_notes.specs.Notes.{entries_of, IsWhole, HasRoom};
-ghost use Rattle.alp_wal.specs.State.{IsBelow};
-ghost use Rattle.alp_wal.specs.Wal.{indexed};
 ghost use Rattle.alp_wal.specs.Prepared.{batch_of, IsReady};
 
-use alp_base::{Bytes, NoteChange, OutOfMemory, PageRef};
+use alp_base::{Bytes, NoteChange, OutOfMemory};
 use alp_batch::{Batch, PageImage, encode};
 use alp_notes::Notes;
 use std::alloc::Global;
@@ -39,9 +35,8 @@ pub(super) fn prepare(
     requires { IsBatch batch.now }
     ensures batch { IfOk result (λ p. batch_of p ≡ batch.now) }
     ensures ready { IfOk result IsReady }
-    ensures room { IfOk result (λ p. HasRoom (length p.notes.items) notes.new) }
-    ensures whole { IsWhole notes.old → IsWhole notes.new }
-    ensures same { entries_of notes.new ≡ entries_of notes.old }
+    ensures room { IfOk result (λ p. length p.notes.items ≤ notes.new.room) }
+    ensures same { notes.new.notes ≡ notes.old.notes }
 {
     let body = encode(alloc, batch)?;
     let images = share(alloc, batch.images.as_slice())?;
@@ -51,15 +46,4 @@ pub(super) fn prepare(
         images,
         notes: changes,
     })
-}
-
-/// Each image in place of the one that stood there, with no memory taken.
-pub(super) fn lay_over(index: &mut [Option<PageRef>], images: Vec<PageImage>)
-    requires { AllByRecursion (IsBelow (length index.old)) images.items }
-    ensures { index.new ≡ indexed index.old images.items }
-{
-    for next in images {
-        let PageImage { at, page } = next;
-        index[at as usize] = Some(page);
-    }
 }

@@ -1,8 +1,11 @@
 //! Reading home pages.
 ghost use Rattle.std.specs.Prelude.{◌≡◌, ◌<◌, IsTrue, OnOk, IsOk, ℕ, List, None, Some, slice_index_or};
 ghost use Rattle.alp_base.specs.Allowances.{HasHaltCause};
-ghost use Rattle.alp_disk.specs.Disk.{page as page_of, NoMore, Adds};
-ghost use Rattle.alp_wal.specs.Wal.{disk_of, anchor_of, index_of, notes_of, end_of, is_dead, state_of, IsLog, IsKnown};
+ghost use Rattle.alp_disk.specs.Disk.{page as page_of};
+ghost use Rattle.alp_base.specs.Crashes.{NoMore, Adds};
+ghost use Rattle.alp_record.specs.Calls.{OnlyRead};
+ghost use Rattle.alp_wal.specs.Wal.{disk_of, anchor_of, index_of, state_of, IsLog, IsKnown};
+ghost use Rattle.alp_wal.specs.Calls.{IsSameLog};
 
 use crate::Wal;
 use alp_base::{Halt, Page, PageRef};
@@ -24,21 +27,12 @@ impl<D: Disk> Wal<D> {
         ensures page { IsTrue (D.tells (disk_of self.old)) → OnOk result (page.new ≡ page_of (state_of self.old (D.seen (disk_of self.old))).pages at) }
         ensures log { IsLog (D.size (disk_of self.new)) self.new }
         ensures known { IsKnown (D.size (disk_of self.old)) (D.seen (disk_of self.old)) (D.may_leave (disk_of self.old)) self.old → IsKnown (D.size (disk_of self.new)) (D.seen (disk_of self.new)) (D.may_leave (disk_of self.new)) self.new }
-        ensures anchor { anchor_of self.new ≡ anchor_of self.old }
-        ensures index { index_of self.new ≡ index_of self.old }
-        ensures notes { notes_of self.new ≡ notes_of self.old }
-        ensures end { end_of self.new ≡ end_of self.old }
-        ensures dead { is_dead self.new ≡ is_dead self.old }
-        ensures tells { D.tells (disk_of self.new) ≡ D.tells (disk_of self.old) }
-        ensures size { D.size (disk_of self.new) ≡ D.size (disk_of self.old) }
-        ensures seen { D.seen (disk_of self.new) ≡ D.seen (disk_of self.old) }
-        ensures crash { NoMore (D.may_leave (disk_of self.old)) (D.may_leave (disk_of self.new)) }
-        ensures time { Adds D.left_since (disk_of self.old) (disk_of self.new) (D.may_leave (disk_of self.old)) }
-        ensures allowance { D.allowance (disk_of self.new) ≡ D.allowance (disk_of self.old) }
+        ensures same { IsSameLog self.old self.new }
+        ensures below { OnlyRead D.Disk (disk_of self.old) (disk_of self.new) }
         ensures logged { (image : List ℕ) → slice_index_or (index_of self.old) at None ≡ Some image → IsOk result × (page.new ≡ image) × (self.new ≡ self.old) }
         ensures cause { HasHaltCause (D.faults (disk_of self.old)) (D.faults (disk_of self.new)) (D.allowance (disk_of self.new)) result }
     {
-        if let Some(image) = &self.index[at as usize] {
+        if let Some(image) = self.index.get(at) {
             *page = copied(image);
             return Ok(());
         }

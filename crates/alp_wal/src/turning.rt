@@ -1,7 +1,7 @@
 //! The turn of the log to its other area.
 ghost use Rattle.std.specs.Prelude.{◌≡◌, ◌<◌, ◌≤◌, ◌+◌, ◌-◌, ◌^◌, ◌∷◌, [], length, IsTrue, OnOk, IfOk};
 ghost use Rattle.alp_base.specs.Allowances.{Spends, HasHaltCause};
-ghost use Rattle.alp_disk.specs.Disk.{Only, Adds};
+ghost use Rattle.alp_base.specs.Crashes.{Only, Adds};
 ghost use Rattle.alp_disk.specs.Runs.{SameOutside};
 ghost use Rattle.alp_anchor.specs.Anchor.{IsSound, Counts, after};
 ghost use Rattle.alp_record.specs.Record.{body_pages, next_of, Records};

@@ -1,13 +1,13 @@
 //! The log itself.
-ghost use Rattle.std.specs.Prelude.{◌≡◌, option_map, false};
-ghost use Rattle.alp_base.specs.Allowances.{Sets};
-ghost use Rattle.alp_disk.specs.Disk.{SameOutcomes, Adds};
-ghost use Rattle.alp_notes.specs.Entries.{value_of};
-ghost use Rattle.alp_notes.specs.Notes.{names_of};
+ghost use Rattle.std.specs.Prelude.{◌≡◌, None, slice_index_or, false};
+ghost use Rattle.std.specs.FinMap as map;
+ghost use Rattle.std.specs.Option.{option_copied as copied};
 ghost use Rattle.alp_wal.specs.Wal.{disk_of, anchor_of, end_of, index_of, notes_of, held_notes, is_dead, room_of, IsLog, IsKnown};
+ghost use Rattle.alp_wal.specs.Calls.{IsSameLog, IsLimited};
 
 use crate::begin::area_of;
 use crate::found::Found;
+use crate::index::ImageIndex;
 use alp_anchor::Anchor;
 use alp_base::{Bytes, PageRef, Sizes};
 use alp_disk::Disk;
@@ -22,8 +22,7 @@ pub struct Wal<D: Disk> {
     pub(super) anchor: Anchor,
     /// The page behind the last record.
     pub(super) end: u32,
-    /// For each home page its image in the last record that has one.
-    pub(super) index: Vec<Option<PageRef>>,
+    pub(super) index: ImageIndex,
     pub(super) notes: Notes,
     /// Whether a commit or a checkpoint failed or was stopped.
     pub(super) dead: bool,
@@ -35,7 +34,7 @@ impl<D: Disk> Wal<D> {
         ensures disk { disk_of result ≡ disk }
         ensures anchor { anchor_of result ≡ found.anchor }
         ensures end { end_of result ≡ found.end }
-        ensures index { index_of result ≡ found.index.items }
+        ensures index { index_of result ≡ found.index }
         ensures notes { held_notes result ≡ found.notes }
         ensures alive { is_dead result ≡ false }
     {
@@ -56,17 +55,30 @@ impl<D: Disk> Wal<D> {
         }
     }
 
+    /// Whether an earlier commit or checkpoint failed or was stopped.
+    pub fn is_dead(&self) -> bool
+        ensures { result ≡ is_dead self.now }
+    {
+        self.dead
+    }
+
+    /// The image that the records of the area have of a home page, if one has: shared, and not copied.
+    pub fn logged(&self, at: u32) -> Option<&PageRef>
+        ensures { copied result ≡ slice_index_or (index_of self.now) at None }
+    {
+        self.index.get(at)
+    }
+
     /// The value of a note.
     pub fn note(&self, name: &Bytes) -> Option<&Bytes>
-        requires { IsLog (D.size (disk_of self.now)) self.now }
-        ensures { option_map (λ v. v.now) result ≡ value_of name.now (notes_of self.now) }
+        ensures { copied result ≡ map.get (notes_of self.now) name.now }
     {
         self.notes.value(name)
     }
 
     /// The names of the live notes, rising.
     pub fn note_names(&self) -> &[Bytes]
-        ensures { result.now ≡ names_of (held_notes self.now) }
+        ensures { result.now ≡ map.keys (notes_of self.now) }
     {
         self.notes.names()
     }
@@ -89,18 +101,8 @@ impl<D: Disk> Wal<D> {
     pub fn stop_after(&mut self, calls: Option<u32>)
         ensures log { IsLog (D.size (disk_of self.old)) self.old → IsLog (D.size (disk_of self.new)) self.new }
         ensures known { IsKnown (D.size (disk_of self.old)) (D.seen (disk_of self.old)) (D.may_leave (disk_of self.old)) self.old → IsKnown (D.size (disk_of self.new)) (D.seen (disk_of self.new)) (D.may_leave (disk_of self.new)) self.new }
-        ensures anchor { anchor_of self.new ≡ anchor_of self.old }
-        ensures index { index_of self.new ≡ index_of self.old }
-        ensures notes { held_notes self.new ≡ held_notes self.old }
-        ensures end { end_of self.new ≡ end_of self.old }
-        ensures dead { is_dead self.new ≡ is_dead self.old }
-        ensures tells { D.tells (disk_of self.new) ≡ D.tells (disk_of self.old) }
-        ensures size { D.size (disk_of self.new) ≡ D.size (disk_of self.old) }
-        ensures seen { D.seen (disk_of self.new) ≡ D.seen (disk_of self.old) }
-        ensures crash { SameOutcomes (D.may_leave (disk_of self.old)) (D.may_leave (disk_of self.new)) }
-        ensures time { Adds D.left_since (disk_of self.old) (disk_of self.new) (D.may_leave (disk_of self.new)) }
-        ensures faults { D.faults (disk_of self.new) ≡ D.faults (disk_of self.old) }
-        ensures allowance { Sets calls (D.allowance (disk_of self.old)) (D.allowance (disk_of self.new)) }
+        ensures same { IsSameLog self.old self.new }
+        ensures below { IsLimited D.Disk calls (disk_of self.old) (disk_of self.new) }
     {
         self.disk.stop_after(calls);
     }

@@ -6,4 +6,4 @@ use Rattle.alp_batch.proofs.code.encode.Goals as goal
 pub returns-clause-long : goal.returns-clause-long
 returns-clause-long c =
     let written = c.in_ok-put_batch.ensures in
-    ap length c.new.ensures ∙ ap length written.appended ∙ ap (λ (l : List ℕ). length (l ++ batch.spell c.args.batch.now)) c.new-out.ensures.items ∙ batch_is c.args.batch.now written.fits
+    ap length c.new.ensures ∙ ap length written.appended ∙ ap (λ (l : List ℕ). length (l ++ batch.spell c.args.batch.now)) c.in_ok-out.ensures.items ∙ batch_is c.args.batch.now written.fits

@@ -1,4 +1,4 @@
-use Rattle.std.proofs.Common.{Some, subst}
+use Rattle.std.proofs.Common.{subst}
 use Rattle.alp_fields.specs.Forms.{IsRead}
 use Rattle.alp_fields.proofs.RepeatLemmas.{goes_on, ends}
 use Rattle.alp_batch.specs.Batch.{note}

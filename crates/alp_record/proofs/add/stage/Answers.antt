@@ -1,6 +1,6 @@
 use Rattle.std.proofs.Common.{◌≡◌, ◌+◌, ℕ, List, length, drop, IsTrue, sym, ◌∙◌, ap, subst, arith, length-drop}
 use Rattle.alp_base.proofs.AllowanceLemmas.{spends_then}
-use Rattle.alp_disk.specs.Disk.{After}
+use Rattle.alp_base.specs.Crashes.{After}
 use Rattle.alp_disk.proofs.Moments.{adds_more, adds_weaker}
 use Rattle.alp_record.specs.Record.{body_pages, header}
 use Rattle.alp_record.specs.Adding.{Behind}

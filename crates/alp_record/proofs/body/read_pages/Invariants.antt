@@ -1,5 +1,5 @@
 use Rattle.std.proofs.Common.{◌≡◌, ◌≤◌, ◌*◌, IsTrue, length}
-use Rattle.alp_disk.specs.Disk.{NoMore, Adds}
+use Rattle.alp_base.specs.Crashes.{NoMore, Adds}
 use Rattle.alp_record.specs.Record.{Hold}
 use Rattle.alp_record.proofs.body.read_pages.Given as goal
 

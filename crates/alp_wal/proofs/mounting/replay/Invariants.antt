@@ -1,7 +1,6 @@
 use Rattle.std.proofs.Common.{◌≡◌, ◌≤◌, ◌+◌, IsTrue, length}
-use Rattle.alp_disk.specs.Disk.{NoMore, Adds}
-use Rattle.alp_notes.specs.Notes.{entries_of}
-use Rattle.alp_live.specs.Live.{AreLive, AreWithin}
+use Rattle.alp_base.specs.Crashes.{NoMore, Adds}
+use Rattle.alp_wal.specs.Live.{AreLive, AreWithin}
 use Rattle.alp_wal.specs.Reading.{area_first, area_end}
 use Rattle.alp_wal.specs.Mount.{Finds}
 use Rattle.alp_wal.proofs.mounting.replay.Given as goal
@@ -12,9 +11,9 @@ invariant-loop g l = record {
   grown : l.fn.found.end + l.counter ≤ l.found.end;
   inside : l.found.end ≤ area_end l.fn.found.anchor;
   anchor : l.found.anchor ≡ l.fn.found.anchor;
-  index : length l.found.index.items ≡ l.fn.found.anchor.sizes.home;
-  live : AreLive l.found.notes;
-  within : AreWithin (area_first l.fn.found.anchor) l.found.end (entries_of l.found.notes);
+  index : length l.found.index ≡ l.fn.found.anchor.sizes.home;
+  live : AreLive l.found.notes.notes;
+  within : AreWithin (area_first l.fn.found.anchor) l.found.end l.found.notes.notes;
   tells : g.D.Disk.tells l.disk ≡ g.D.Disk.tells l.fn.disk;
   size : g.D.Disk.size l.disk ≡ g.D.Disk.size l.fn.disk;
   seen : g.D.Disk.seen l.disk ≡ g.D.Disk.seen l.fn.disk;

@@ -3,7 +3,7 @@ use Rattle.alp_disk.proofs.Moments.{adds_weaker, adds_more}
 use Rattle.alp_anchor.specs.Anchor.{IsSound, Counts}
 use Rattle.alp_record.proofs.Bodies.{on_ok}
 use Rattle.alp_wal.specs.Reading.{home_first}
-use Rattle.alp_live.specs.Home.{SameUnlogged, BroughtHome}
+use Rattle.alp_wal.specs.Home.{SameUnlogged, BroughtHome}
 use Rattle.alp_wal.specs.Checkpoint.{Turned, Turning}
 use Rattle.alp_wal.proofs.States.{counts_kept}
 use Rattle.alp_wal.proofs.moving.move_over.Goals as goal

@@ -1,6 +1,5 @@
-use Rattle.std.proofs.Common.{length, sym, ◌∙◌, ap, subst}
+use Rattle.std.proofs.Common.{length, sym, ◌∙◌, ap, subst, arith}
 use Rattle.alp_batch.specs.Batch.{batch}
-use Rattle.alp_notes.specs.Notes.{HasRoom}
 use Rattle.alp_wal.proofs.prepare.prepare.Goals as goal
 
 pub returns-clause-batch : goal.returns-clause-batch
@@ -16,4 +15,4 @@ returns-clause-ready c = record {
 }
 
 pub returns-clause-room : goal.returns-clause-room
-returns-clause-room c = subst (λ k. HasRoom k c.make_room.new.self) (ap length (sym c.in_ok-changes.ensures.copied)) c.in_ok-changes.ensures.room
+returns-clause-room c = omega (arith, ap length c.in_ok-changes.ensures.copied, c.in_ok-changes.ensures.room)

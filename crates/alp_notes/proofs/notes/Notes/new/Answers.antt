@@ -1,11 +1,10 @@
-use Rattle.std.proofs.Common.{length, sym, ap, subst, ◌∙◌}
-use Rattle.std.specs.List.Sorted.{IsStrictlySortedBy}
-use Rattle.alp_base.specs.Notes.{text_cmp}
-use Rattle.alp_notes.proofs.Order.{rising-none}
+use Rattle.std.proofs.Common.{refl, ◌∙◌}
+use Rattle.alp_notes.specs.Rows.{notes_in}
+use Rattle.alp_notes.proofs.RowLemmas.{none_shown}
 use Rattle.alp_notes.proofs.notes.Notes.new.Goals as goal
 
-pub returns-clause-whole : goal.returns-clause-whole
-returns-clause-whole c = record {
-  lengths = ap length c.new.ensures.items ∙ sym (ap length c.new-2.ensures.items);
-  rising = subst (IsStrictlySortedBy text_cmp) (sym c.new.ensures.items) rising-none;
-}
+pub invariant_of-result : goal.invariant_of-result
+invariant_of-result c = rw (c.new.ensures.items, c.new-2.ensures.items) (record { paired = refl; rising = refl })
+
+pub returns : goal.returns
+returns c = (λ i. notes_in (c.new.ensures.items i) (c.new-2.ensures.items i)) ∙ none_shown

@@ -1,19 +1,16 @@
-use Rattle.std.proofs.Common.{◌≡◌, ◌<◌, ◌≤◌, ◌+◌, refl, sym, ◌∙◌, ap, subst, length}
-use Rattle.std.specs.Prelude.{◌⊎◌, OnOk, OnErr}
-use Rattle.std.specs.List.{AllByRecursion}
-use Rattle.alp_disk.specs.Disk.{LeavesOnly}
+use Rattle.std.proofs.Common.{◌≡◌, ◌≤◌, inl, refl, sym, ◌∙◌, ap, subst}
+use Rattle.alp_base.specs.Crashes.{LeavesOnly}
 use Rattle.alp_disk.proofs.Moments.{leaves_only, nothing_added}
 use Rattle.alp_batch.specs.declared.batch.Batch.{Batch}
-use Rattle.alp_batch.specs.Batch.{IsShort}
 use Rattle.alp_record.proofs.Bodies.{on_ok}
-use Rattle.alp_notes.specs.Entries.{Entries}
-use Rattle.alp_notes.specs.Notes.{entries_of}
+use Rattle.alp_base.specs.Notes.{Notes}
 use Rattle.alp_wal.specs.State.{State, Suits, applied}
-use Rattle.alp_live.specs.Live.{most_notes, puts, notes_pages, batch_pages, BothFit}
+use Rattle.alp_wal.specs.Live.{AreLive, notes_pages, BothFit}
 use Rattle.alp_wal.specs.Reading.{home_pages}
-use Rattle.alp_wal.specs.Wal.{shown, indexed, no_index, disk_of, anchor_of, end_of, index_of, notes_of, is_dead, room_of, state_of, BeforeOrAfter}
-use Rattle.alp_wal.specs.Checkpoint.{turned, IsUnmoved}
-use Rattle.alp_wal.proofs.Commits.{crash_before, known_kept, not_both}
+use Rattle.alp_wal.specs.Wal.{shown, disk_of, anchor_of, end_of, index_of, notes_of, is_dead, state_of, BeforeOrAfter}
+use Rattle.alp_wal.specs.Calls.{HasCommitted, HasNotCommitted}
+use Rattle.alp_wal.proofs.Outcomes.{becomes_from, becomes_stays, on_error, committed_as, stays_as}
+use Rattle.alp_wal.proofs.Commits.{crash_before, known_kept, not_both, on_err}
 use Rattle.alp_wal.proofs.wal.Wal.commit.Goals as goal
 
 pub returns-then-not-both_fit-clause-before_or_after : goal.returns-then-not-both_fit-clause-before_or_after
@@ -43,12 +40,8 @@ returns-in_err-prepared-clause-log g c =
     record {
       anchor = log.anchor;
       index = log.index;
-      notes = record {
-        whole = c.prepare.ensures.whole log.notes.whole;
-        few = subst (λ (e : Entries). length e ≤ most_notes) same log.notes.few;
-        short = subst (λ (e : Entries). AllByRecursion IsShort (puts e)) same log.notes.short;
-      };
-      fits = subst (λ (e : Entries). notes_pages e ≤ (anchor_of c.args.self.now).sizes.area) same log.fits;
+      notes = subst AreLive same log.notes;
+      fits = subst (λ (e : Notes). notes_pages e ≤ (anchor_of c.args.self.now).sizes.area) same log.fits;
       begun = log.begun;
       inside = log.inside;
     }
@@ -63,12 +56,8 @@ store-requires-clause-log g c =
     record {
       anchor = log.anchor;
       index = log.index;
-      notes = record {
-        whole = c.prepare.ensures.whole log.notes.whole;
-        few = subst (λ (e : Entries). length e ≤ most_notes) same log.notes.few;
-        short = subst (λ (e : Entries). AllByRecursion IsShort (puts e)) same log.notes.short;
-      };
-      fits = subst (λ (e : Entries). notes_pages e ≤ (anchor_of c.args.self.now).sizes.area) same log.fits;
+      notes = subst AreLive same log.notes;
+      fits = subst (λ (e : Notes). notes_pages e ≤ (anchor_of c.args.self.now).sizes.area) same log.fits;
       begun = log.begun;
       inside = log.inside;
     }
@@ -78,84 +67,75 @@ store-requires-clause-known g c told = known_kept refl refl (λ x left. left) re
 
 pub store-requires-clause-suits : goal.store-requires-clause-suits
 store-requires-clause-suits g c =
-    subst (λ (t : Entries × Batch). Suits (anchor_of c.args.self.now).sizes.home t.0 t.1) (λ i. (sym c.prepare.ensures.same i, sym c.in_ok-prepared.ensures.batch i)) c.requires.suits
+    subst (λ (t : Notes × Batch). Suits (anchor_of c.args.self.now).sizes.home t.0 t.1) (λ i. (sym c.prepare.ensures.same i, sym c.in_ok-prepared.ensures.batch i)) c.requires.suits
 
 pub store-requires-clause-both : goal.store-requires-clause-both
 store-requires-clause-both g c =
-    subst (λ (t : Entries × Batch). BothFit (anchor_of c.args.self.now).sizes.area t.0 t.1) (λ i. (sym c.prepare.ensures.same i, sym c.in_ok-prepared.ensures.batch i)) (c.both_fit.ensures.0 c.if-not-both_fit.false)
+    subst (λ (t : Notes × Batch). BothFit (anchor_of c.args.self.now).sizes.area t.0 t.1) (λ i. (sym c.prepare.ensures.same i, sym c.in_ok-prepared.ensures.batch i)) (c.both_fit.ensures.0 c.if-not-both_fit.false)
 
 pub returns-clause-before_or_after : goal.returns-clause-before_or_after
 returns-clause-before_or_after g c told alive =
     let old = c.args.self.now in
     let image = g.D.Disk.seen (disk_of old) in
     let same = c.prepare.ensures.same in
-    let shows : ◌≡◌ {A = State} (record { pages = shown (home_pages image (anchor_of old)) (index_of old); notes = entries_of c.prepare.new.notes }) (state_of old image) = λ i. record { pages = shown (home_pages image (anchor_of old)) (index_of old); notes = same i } in
+    let shows : ◌≡◌ {A = State} (record { pages = shown (home_pages image (anchor_of old)) (index_of old); notes = c.prepare.new.notes.notes }) (state_of old image) = λ i. record { pages = shown (home_pages image (anchor_of old)) (index_of old); notes = same i } in
     subst (λ (t : State × Batch). LeavesOnly g.D.Disk.left_since (disk_of old) (disk_of c.store.new.self) (BeforeOrAfter (anchor_of old).server (anchor_of old).servers (g.D.Disk.size (disk_of old)) t.0 t.1))
     (λ i. (shows i, c.in_ok-prepared.ensures.batch i)) (c.store.ensures.before_or_after told)
 
-pub returns-clause-committed : goal.returns-clause-committed
-returns-clause-committed g c told =
+pub returns-in_err-prepared-clause-becomes : goal.returns-in_err-prepared-clause-becomes
+returns-in_err-prepared-clause-becomes g c told =
     let old = c.args.self.now in
     let image = g.D.Disk.seen (disk_of old) in
     let same = c.prepare.ensures.same in
-    let shows : ◌≡◌ {A = State} (record { pages = shown (home_pages image (anchor_of old)) (index_of old); notes = entries_of c.prepare.new.notes }) (state_of old image) = λ i. record { pages = shown (home_pages image (anchor_of old)) (index_of old); notes = same i } in
-    on_ok c.store.result _ _ (λ committed. committed ∙ (λ i. applied (shows i) (c.in_ok-prepared.ensures.batch i))) (c.store.ensures.committed told)
+    let shows : ◌≡◌ {A = State} (record { pages = shown (home_pages image (anchor_of old)) (index_of old); notes = c.prepare.new.notes.notes }) (state_of old image) = λ i. record { pages = shown (home_pages image (anchor_of old)) (index_of old); notes = same i } in
+    becomes_stays c.from_residual.result _ _ _ c.from_residual.ensures.0 shows
 
-pub returns-clause-fitting : goal.returns-clause-fitting
-returns-clause-fitting g c fits = c.store.ensures.fitting (subst (λ (b : Batch). batch_pages b ≤ room_of c.args.self.now) (sym c.in_ok-prepared.ensures.batch) fits)
+pub returns-clause-becomes : goal.returns-clause-becomes
+returns-clause-becomes g c told =
+    let old = c.args.self.now in
+    let image = g.D.Disk.seen (disk_of old) in
+    let same = c.prepare.ensures.same in
+    let shows : ◌≡◌ {A = State} (record { pages = shown (home_pages image (anchor_of old)) (index_of old); notes = c.prepare.new.notes.notes }) (state_of old image) = λ i. record { pages = shown (home_pages image (anchor_of old)) (index_of old); notes = same i } in
+    becomes_from c.store.result _ _ _ _ _ shows (λ i. applied (shows i) (c.in_ok-prepared.ensures.batch i)) (c.store.ensures.becomes told)
 
-pub returns-clause-full : goal.returns-clause-full
-returns-clause-full g c alive = (λ full. absurd (c.store.ensures.never_full full), λ no. absurd (no (c.both_fit.ensures.0 c.if-not-both_fit.false)))
+pub returns-in_err-prepared-clause-stays : goal.returns-in_err-prepared-clause-stays
+returns-in_err-prepared-clause-stays g c = on_error c.from_residual.result _ (record {
+  volume = record { server = refl; servers = refl; sizes = refl };
+  notes = c.prepare.ensures.same;
+  fitting = λ fits. (refl, refl, refl);
+  over = λ over. inl (refl, refl, refl);
+})
 
-pub returns-clause-dead : goal.returns-clause-dead
-returns-clause-dead g c = (λ dead. absurd (c.store.ensures.never_dead dead), λ dead. absurd (not_both dead c.if-self.false))
+pub returns-clause-made : goal.returns-clause-made
+returns-clause-made g c = on_ok c.store.result _ _ (λ (made : HasCommitted _ _ _). committed_as _ _ _ _ _ refl refl refl c.prepare.ensures.same c.in_ok-prepared.ensures.batch made) c.store.ensures.made
 
-pub returns-clause-dead_stays : goal.returns-clause-dead_stays
-returns-clause-dead_stays g c dead = absurd (c.store.ensures.never_dead dead)
+pub returns-clause-stays : goal.returns-clause-stays
+returns-clause-stays g c = on_err c.store.result _ _ (λ (stays : HasNotCommitted _ _ _). stays_as _ _ _ _ _ refl refl refl c.prepare.ensures.same c.in_ok-prepared.ensures.batch stays) c.store.ensures.stays
 
-pub returns-clause-full_stays : goal.returns-clause-full_stays
-returns-clause-full_stays g c full = absurd (c.store.ensures.never_full full)
-
-pub returns-clause-memory_disk : goal.returns-clause-memory_disk
-returns-clause-memory_disk g c want = ap (λ w. disk_of w) (c.store.ensures.memory want)
-
-pub returns-clause-memory_anchor : goal.returns-clause-memory_anchor
-returns-clause-memory_anchor g c want = ap (λ w. anchor_of w) (c.store.ensures.memory want)
-
-pub returns-clause-memory_index : goal.returns-clause-memory_index
-returns-clause-memory_index g c want = ap (λ w. index_of w) (c.store.ensures.memory want)
-
-pub returns-clause-memory_notes : goal.returns-clause-memory_notes
-returns-clause-memory_notes g c want = ap (λ w. notes_of w) (c.store.ensures.memory want) ∙ c.prepare.ensures.same
-
-pub returns-clause-memory_end : goal.returns-clause-memory_end
-returns-clause-memory_end g c want = ap (λ w. end_of w) (c.store.ensures.memory want)
-
-pub returns-clause-memory_dead : goal.returns-clause-memory_dead
-returns-clause-memory_dead g c want = ap (λ w. is_dead w) (c.store.ensures.memory want)
-
-pub returns-clause-room : goal.returns-clause-room
-returns-clause-room g c fits =
-    subst (λ (b : Batch). OnOk c.store.result (room_of c.store.new.self + batch_pages b ≡ room_of c.args.self.now)) c.in_ok-prepared.ensures.batch
-    (c.store.ensures.room (subst (λ (b : Batch). batch_pages b ≤ room_of c.args.self.now) (sym c.in_ok-prepared.ensures.batch) fits))
-
-pub returns-clause-stays_end : goal.returns-clause-stays_end
-returns-clause-stays_end g c fits = c.store.ensures.stays_end (subst (λ (b : Batch). batch_pages b ≤ room_of c.args.self.now) (sym c.in_ok-prepared.ensures.batch) fits)
-
-pub returns-clause-turned : goal.returns-clause-turned
-returns-clause-turned g c over = c.store.ensures.turned (subst (λ (b : Batch). room_of c.args.self.now < batch_pages b) (sym c.in_ok-prepared.ensures.batch) over)
-
-pub returns-clause-turned_room : goal.returns-clause-turned_room
-returns-clause-turned_room g c over =
-    subst (λ (t : Batch × Entries). OnOk c.store.result (room_of c.store.new.self + batch_pages t.0 + notes_pages t.1 ≡ (anchor_of c.args.self.now).sizes.area)) (λ i. (c.in_ok-prepared.ensures.batch i, c.prepare.ensures.same i))
-    (c.store.ensures.turned_room (subst (λ (b : Batch). room_of c.args.self.now < batch_pages b) (sym c.in_ok-prepared.ensures.batch) over))
-
-pub returns-clause-turned_index : goal.returns-clause-turned_index
-returns-clause-turned_index g c over =
-    subst (λ (b : Batch). OnOk c.store.result (index_of c.store.new.self ≡ indexed (no_index (anchor_of c.args.self.now).sizes.home) b.images)) c.in_ok-prepared.ensures.batch
-    (c.store.ensures.turned_index (subst (λ (b : Batch). room_of c.args.self.now < batch_pages b) (sym c.in_ok-prepared.ensures.batch) over))
-
-pub returns-clause-turned_stays : goal.returns-clause-turned_stays
-returns-clause-turned_stays g c over =
-    subst (λ (e : Entries). OnErr c.store.result (IsUnmoved c.args.self.now c.store.new.self ⊎ ((anchor_of c.store.new.self ≡ turned (anchor_of c.args.self.now)) × (index_of c.store.new.self ≡ no_index (anchor_of c.args.self.now).sizes.home) × (room_of c.store.new.self + notes_pages e ≡ (anchor_of c.args.self.now).sizes.area)))) c.prepare.ensures.same
-    (c.store.ensures.turned_stays (subst (λ (b : Batch). room_of c.args.self.now < batch_pages b) (sym c.in_ok-prepared.ensures.batch) over))
+pub returns-clause-cause : goal.returns-clause-cause
+returns-clause-cause g c =
+    let log = c.store.ensures.cause.log in
+    record {
+      log = record {
+        later = log.later;
+        failed = log.failed;
+        stopped = log.stopped;
+        halted = log.halted;
+        cut_off = log.cut_off;
+        alive = log.alive;
+        dead = (λ dead. absurd (not_both (log.dead.0 dead) c.if-self.false), λ dead. absurd (not_both dead c.if-self.false));
+        dead_stays = λ dead. absurd (not_both (log.dead.0 dead) c.if-self.false);
+      };
+      full = λ alive. (λ full. absurd (c.store.ensures.cause.never_full full), λ no. absurd (no (c.both_fit.ensures.0 c.if-not-both_fit.false)));
+      full_stays = λ full. absurd (c.store.ensures.cause.never_full full);
+      memory = λ want.
+          let same = c.store.ensures.cause.memory want in
+          record {
+            disk = ap (λ w. disk_of w) same;
+            anchor = ap (λ w. anchor_of w) same;
+            index = ap (λ w. index_of w) same;
+            notes = ap (λ w. notes_of w) same ∙ c.prepare.ensures.same;
+            end = ap (λ w. end_of w) same;
+            dead = ap (λ w. is_dead w) same;
+          };
+    }

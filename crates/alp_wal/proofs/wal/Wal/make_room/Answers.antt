@@ -21,13 +21,7 @@ pub returns-clause-any_moment : goal.returns-clause-any_moment
 returns-clause-any_moment g c told = c.checkpoint.ensures.any_moment told c.requires.alive
 
 pub returns-clause-room : goal.returns-clause-room
-returns-clause-room g c = on_ok c.checkpoint.result _ _ (λ room. omega (arith, room, c.requires.both)) c.checkpoint.ensures.room
+returns-clause-room g c = on_ok c.checkpoint.result _ _ (λ turns. omega (arith, turns.2, c.requires.both)) c.checkpoint.ensures.turned
 
 pub returns-clause-turned : goal.returns-clause-turned
-returns-clause-turned g c over = c.checkpoint.ensures.anchor
-
-pub returns-clause-turned_room : goal.returns-clause-turned_room
-returns-clause-turned_room g c over = c.checkpoint.ensures.room
-
-pub returns-clause-turned_index : goal.returns-clause-turned_index
-returns-clause-turned_index g c over = c.checkpoint.ensures.index
+returns-clause-turned g c over = c.checkpoint.ensures.turned

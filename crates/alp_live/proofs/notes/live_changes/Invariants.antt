@@ -1,7 +1,0 @@
-use Rattle.std.proofs.Common.{◌≡◌, take}
-use Rattle.alp_notes.specs.Notes.{entries_of}
-use Rattle.alp_live.specs.Live.{puts}
-use Rattle.alp_live.proofs.notes.live_changes.Given as goal
-
-abbrev pub invariant-loop-next : goal.invariant-loop-next
-invariant-loop-next l = l.changes.items ≡ take l.next-index (puts (entries_of l.notes))

@@ -1,0 +1,8 @@
+use Rattle.std.specs.FinMap as map
+use Rattle.std.proofs.Common.{ap, ◌∙◌}
+use Rattle.alp_notes.specs.Held.{Held}
+use Rattle.alp_notes.proofs.RowLemmas.{values_shown}
+use Rattle.alp_notes.proofs.notes.Notes.values.Goals as goal
+
+pub returns : goal.returns
+returns c = c.as_slice.ensures.value ∙ values_shown c.self.inside.names.items c.self.inside.values.items c.self.invariant ∙ ap (λ (h : Held). map.values h.notes) c.self.view_is
