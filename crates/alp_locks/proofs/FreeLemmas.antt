@@ -10,14 +10,14 @@ use Rattle.alp_base.specs.declared.ids.TransId.{TransId}
 use Rattle.alp_base.specs.declared.key.Resource.{Resource}
 use Rattle.alp_modes.specs.declared.Mode.{Mode}
 use Rattle.alp_modes.specs.contracts.ModePartialEq.TheImpl as mode_eq
-use Rattle.alp_modes.specs.Orders.{trans_cmp, resource_cmp, transactions_total, exact_resources}
-use Rattle.alp_modes.specs.Holdings.{agree_held, DoAgree}
+use Rattle.alp_base.specs.Orders.{trans_cmp, resource_cmp, transactions_total, exact_resources}
+use Rattle.alp_files.specs.Holdings.{agree_held, DoAgree}
 use Rattle.alp_modes.proofs.ModeLemmas.{exact-modes}
-use Rattle.alp_modes.proofs.HoldingLemmas.{agree-turned}
+use Rattle.alp_files.proofs.HoldingLemmas.{agree-turned}
 use Rattle.alp_queue.specs.Rises.{Held, is_raised}
-use Rattle.alp_locks.specs.Tables.{Parts, held_of, holding, IsAgreeing}
+use Rattle.alp_locks.specs.Tables.{Holders, held_of, holding, IsAgreeing}
 use Rattle.alp_locks.specs.Asks.{disagrees, holder_on, blocker}
-use Rattle.alp_locks.proofs.PartLemmas.{tied}
+use Rattle.alp_locks.proofs.HeldLemmas.{tied}
 
 pub some-none : {X : Type 0} (x : X) → Some x ≡ None → ⊥
 some-none x e = let wrong : true ≡ false = ap is_some e in cc
@@ -45,9 +45,9 @@ agrees-in : (t : TransId) (n : Resource × Mode) (es : List (TransId × Held)) �
     → (u : TransId) → eq_by_cmp trans_cmp t u ≡ false → agree_held (map.get (unwrap_or (found trans_cmp u es) map.empty) n.0) (Some n.1) ≡ true
 agrees-in t n [] h u apart = nothing-agrees n.0 n.1
 agrees-in t n (e ∷ es) h u apart =
-    let parts = none-found (disagrees t n e) e (find (disagrees t n) es) h in
-    let rest : option_map (λ (x : TransId × Held). x) (find (disagrees t n) es) ≡ None = ap (option_map (λ (x : TransId × Held). x)) parts.1 in
-    go (eq_by_cmp trans_cmp u e.0) refl parts.0 (agrees-in t n es rest u apart)
+    let holders = none-found (disagrees t n e) e (find (disagrees t n) es) h in
+    let rest : option_map (λ (x : TransId × Held). x) (find (disagrees t n) es) ≡ None = ap (option_map (λ (x : TransId × Held). x)) holders.1 in
+    go (eq_by_cmp trans_cmp u e.0) refl holders.0 (agrees-in t n es rest u apart)
   where
     go : (b : Bool) → eq_by_cmp trans_cmp u e.0 ≡ b → disagrees t n e ≡ false
         → agree_held (map.get (unwrap_or (found trans_cmp u es) map.empty) n.0) (Some n.1) ≡ true
@@ -57,11 +57,11 @@ agrees-in t n (e ∷ es) h u apart =
         (sym (ap is_eq (alike_right transactions_total u e.0 t (tied (trans_cmp u e.0) is))) ∙ apart) clear
     go false is clear later = later
 
-pub agrees-on : (parts : Parts) (t : TransId) (n : Resource × Mode) → holder_on parts t n ≡ None
-    → (u : TransId) → eq_by_cmp trans_cmp t u ≡ false → agree_held (holding parts u n.0) (Some n.1) ≡ true
-agrees-on parts t n h u apart =
-    ap (λ (o : Option Held). agree_held (map.get (unwrap_or o map.empty) n.0) (Some n.1)) (get-entries parts u)
-    ∙ agrees-in t n (map.entries parts) (none-mapped (λ (e : TransId × Held). e.0) (find (disagrees t n) (map.entries parts)) h) u apart
+pub agrees-on : (holders : Holders) (t : TransId) (n : Resource × Mode) → holder_on holders t n ≡ None
+    → (u : TransId) → eq_by_cmp trans_cmp t u ≡ false → agree_held (holding holders u n.0) (Some n.1) ≡ true
+agrees-on holders t n h u apart =
+    ap (λ (o : Option Held). agree_held (map.get (unwrap_or o map.empty) n.0) (Some n.1)) (get-entries holders u)
+    ∙ agrees-in t n (map.entries holders) (none-mapped (λ (e : TransId × Held). e.0) (find (disagrees t n) (map.entries holders)) h) u apart
 
 -- ---- nobody on any of the resources
 
@@ -69,9 +69,9 @@ pub or-none : {X : Type 0} (a b : Option X) → option_or a b ≡ None → (a �
 or-none None b h = (refl, h)
 or-none (Some x) b h = absurd (some-none x h)
 
-pub clear-each : (parts : Parts) (t : TransId) (ns : List (Resource × Mode)) → blocker parts t ns ≡ None → AllByRecursion (λ n. holder_on parts t n ≡ None) ns
-clear-each parts t [] h = tt
-clear-each parts t (n ∷ ns) h = let both = or-none (holder_on parts t n) (blocker parts t ns) h in (both.0, clear-each parts t ns both.1)
+pub clear-each : (holders : Holders) (t : TransId) (ns : List (Resource × Mode)) → blocker holders t ns ≡ None → AllByRecursion (λ n. holder_on holders t n ≡ None) ns
+clear-each holders t [] h = tt
+clear-each holders t (n ∷ ns) h = let both = or-none (holder_on holders t n) (blocker holders t ns) h in (both.0, clear-each holders t ns both.1)
 
 -- ---- what stands at a resource is among those that rise, or was there before
 
@@ -106,23 +106,23 @@ option-same (Some a) m h = ap Some (exact-modes a m (unturned ((mode_eq.ghosts).
     unturned false e = cc
 
 -- a part that is granted agrees with each other one
-pub granted-agrees : (parts : Parts) (t : TransId) (after : Held) → IsAgreeing parts → blocker parts t (filter (is_raised (held_of parts t)) (map.entries after)) ≡ None
-    → (u : TransId) → eq_by_cmp trans_cmp t u ≡ false → DoAgree (map.get after) (holding parts u)
-granted-agrees parts t after agreeing free u apart r = go (map.get after r) refl
+pub granted-agrees : (holders : Holders) (t : TransId) (after : Held) → IsAgreeing holders → blocker holders t (filter (is_raised (held_of holders t)) (map.entries after)) ≡ None
+    → (u : TransId) → eq_by_cmp trans_cmp t u ≡ false → DoAgree (map.get after) (holding holders u)
+granted-agrees holders t after agreeing free u apart r = go (map.get after r) refl
   where
-    clear : AllByRecursion (λ n. holder_on parts t n ≡ None) (filter (is_raised (held_of parts t)) (map.entries after))
-    clear = clear-each parts t (filter (is_raised (held_of parts t)) (map.entries after)) free
+    clear : AllByRecursion (λ n. holder_on holders t n ≡ None) (filter (is_raised (held_of holders t)) (map.entries after))
+    clear = clear-each holders t (filter (is_raised (held_of holders t)) (map.entries after)) free
 
-    split : (m : Mode) → map.get after r ≡ Some m → (b : Bool) → is_raised (held_of parts t) (r, m) ≡ b → agree_held (Some m) (holding parts u r) ≡ true
+    split : (m : Mode) → map.get after r ≡ Some m → (b : Bool) → is_raised (held_of holders t) (r, m) ≡ b → agree_held (Some m) (holding holders u r) ≡ true
     split m is true h =
-        agree-turned (Some m) (holding parts u r)
-        ∙ agrees-on parts t (r, m) (at-risen (λ n. holder_on parts t n ≡ None) (is_raised (held_of parts t)) (map.entries after) clear r m (sym (get-entries after r) ∙ is) h) u apart
+        agree-turned (Some m) (holding holders u r)
+        ∙ agrees-on holders t (r, m) (at-risen (λ n. holder_on holders t n ≡ None) (is_raised (held_of holders t)) (map.entries after) clear r m (sym (get-entries after r) ∙ is) h) u apart
     split m is false h =
-        sym (ap (λ o. agree_held o (holding parts u r)) (option-same (map.get (held_of parts t) r) m h)) ∙ agreeing t u apart r
+        sym (ap (λ o. agree_held o (holding holders u r)) (option-same (map.get (held_of holders t) r) m h)) ∙ agreeing t u apart r
 
-    go : (o : Option Mode) → map.get after r ≡ o → agree_held o (holding parts u r) ≡ true
+    go : (o : Option Mode) → map.get after r ≡ o → agree_held o (holding holders u r) ≡ true
     go None is = refl
-    go (Some m) is = split m is (is_raised (held_of parts t) (r, m)) refl
+    go (Some m) is = split m is (is_raised (held_of holders t) (r, m)) refl
 
 -- ---- a part that changes leaves the others
 
@@ -130,34 +130,34 @@ if-tied : {X : Type 0} (b : Bool) (x : X) (o : Option X) (d : X) → b ≡ false
 if-tied true x o d e = cc
 if-tied false x o d e = refl
 
-pub held-other : (parts : Parts) (t : TransId) (h : Held) (u : TransId) → eq_by_cmp trans_cmp u t ≡ false → held_of (map.insert parts t h) u ≡ held_of parts u
-held-other parts t h u apart = ap (λ (o : Option Held). unwrap_or o map.empty) (get-insert transactions_total parts t h u) ∙ if-tied (eq_by_cmp trans_cmp u t) h (map.get parts u) map.empty apart
+pub held-other : (holders : Holders) (t : TransId) (h : Held) (u : TransId) → eq_by_cmp trans_cmp u t ≡ false → held_of (map.insert holders t h) u ≡ held_of holders u
+held-other holders t h u apart = ap (λ (o : Option Held). unwrap_or o map.empty) (get-insert transactions_total holders t h u) ∙ if-tied (eq_by_cmp trans_cmp u t) h (map.get holders u) map.empty apart
 
-pub held-same : (parts : Parts) (t : TransId) (h : Held) (u : TransId) → eq_by_cmp trans_cmp u t ≡ true → held_of (map.insert parts t h) u ≡ h
-held-same parts t h u is =
-    ap (λ (o : Option Held). unwrap_or o map.empty) (get-insert transactions_total parts t h u) ∙ ap (λ b. unwrap_or (cond b (Some h) (map.get parts u)) map.empty) is
+pub held-same : (holders : Holders) (t : TransId) (h : Held) (u : TransId) → eq_by_cmp trans_cmp u t ≡ true → held_of (map.insert holders t h) u ≡ h
+held-same holders t h u is =
+    ap (λ (o : Option Held). unwrap_or o map.empty) (get-insert transactions_total holders t h u) ∙ ap (λ b. unwrap_or (cond b (Some h) (map.get holders u)) map.empty) is
 
 pub turned : (t u : TransId) (b : Bool) → eq_by_cmp trans_cmp t u ≡ b → eq_by_cmp trans_cmp u t ≡ b
 turned t u b e = (eq_by_cmp_equiv transactions_total).symm u t ∙ e
 
 -- with a part granted the table stays agreeing
-pub insert-agreeing : (parts : Parts) (t : TransId) (after : Held) → IsAgreeing parts
-    → ((u : TransId) → eq_by_cmp trans_cmp t u ≡ false → DoAgree (map.get after) (holding parts u)) → IsAgreeing (map.insert parts t after)
-insert-agreeing parts t after agreeing new x y apart r = go (eq_by_cmp trans_cmp x t) refl (eq_by_cmp trans_cmp y t) refl
+pub insert-agreeing : (holders : Holders) (t : TransId) (after : Held) → IsAgreeing holders
+    → ((u : TransId) → eq_by_cmp trans_cmp t u ≡ false → DoAgree (map.get after) (holding holders u)) → IsAgreeing (map.insert holders t after)
+insert-agreeing holders t after agreeing new x y apart r = go (eq_by_cmp trans_cmp x t) refl (eq_by_cmp trans_cmp y t) refl
   where
     go : (b : Bool) → eq_by_cmp trans_cmp x t ≡ b → (c : Bool) → eq_by_cmp trans_cmp y t ≡ c
-        → agree_held (holding (map.insert parts t after) x r) (holding (map.insert parts t after) y r) ≡ true
+        → agree_held (holding (map.insert holders t after) x r) (holding (map.insert holders t after) y r) ≡ true
     go true a true c =
         let wrong : true ≡ false = sym c ∙ ap is_eq (alike_right transactions_total t x y (tied (trans_cmp t x) (turned x t true a))) ∙ turned x y false apart in cc
     go true a false c =
-        ap (λ h. agree_held (map.get h r) (holding (map.insert parts t after) y r)) (held-same parts t after x a)
-        ∙ ap (λ h. agree_held (map.get after r) (map.get h r)) (held-other parts t after y c)
+        ap (λ h. agree_held (map.get h r) (holding (map.insert holders t after) y r)) (held-same holders t after x a)
+        ∙ ap (λ h. agree_held (map.get after r) (map.get h r)) (held-other holders t after y c)
         ∙ new y (turned y t false c) r
     go false a true c =
-        ap (λ h. agree_held (map.get h r) (holding (map.insert parts t after) y r)) (held-other parts t after x a)
-        ∙ ap (λ h. agree_held (holding parts x r) (map.get h r)) (held-same parts t after y c)
-        ∙ agree-turned (holding parts x r) (map.get after r) ∙ new x (turned x t false a) r
+        ap (λ h. agree_held (map.get h r) (holding (map.insert holders t after) y r)) (held-other holders t after x a)
+        ∙ ap (λ h. agree_held (holding holders x r) (map.get h r)) (held-same holders t after y c)
+        ∙ agree-turned (holding holders x r) (map.get after r) ∙ new x (turned x t false a) r
     go false a false c =
-        ap (λ h. agree_held (map.get h r) (holding (map.insert parts t after) y r)) (held-other parts t after x a)
-        ∙ ap (λ h. agree_held (holding parts x r) (map.get h r)) (held-other parts t after y c)
+        ap (λ h. agree_held (map.get h r) (holding (map.insert holders t after) y r)) (held-other holders t after x a)
+        ∙ ap (λ h. agree_held (holding holders x r) (map.get h r)) (held-other holders t after y c)
         ∙ agreeing x y apart r

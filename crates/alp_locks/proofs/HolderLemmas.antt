@@ -13,13 +13,13 @@ use Rattle.std.specs.FinMap.Entries.{below_all}
 use Rattle.alp_base.specs.declared.ids.TransId.{TransId}
 use Rattle.alp_base.specs.declared.key.Resource.{Resource}
 use Rattle.alp_modes.specs.declared.Mode.{Mode}
-use Rattle.alp_modes.specs.Orders.{trans_cmp, transactions_total, exact_transactions}
-use Rattle.alp_modes.specs.Holdings.{agree_held}
+use Rattle.alp_base.specs.Orders.{trans_cmp, transactions_total, exact_transactions}
+use Rattle.alp_files.specs.Holdings.{agree_held}
 use Rattle.alp_queue.specs.Rises.{Held}
-use Rattle.alp_locks.specs.Tables.{Parts}
+use Rattle.alp_locks.specs.Tables.{Holders}
 use Rattle.alp_locks.specs.Asks.{disagrees, holder_on, blocker}
 use Rattle.alp_locks.specs.Laws.{IsInWay, IsClear, IsFirstInWay, NamesFirst, NamesAny}
-use Rattle.alp_locks.proofs.PartLemmas.{tied}
+use Rattle.alp_locks.proofs.HeldLemmas.{tied}
 use Rattle.alp_locks.proofs.FreeLemmas.{some-none, or-none, some-same, nothing-agrees, agrees-on}
 
 first-true : (a b : Bool) → T (a && b) → T a
@@ -106,10 +106,10 @@ least-found p (e ∷ es) sorted u h = go (p e) refl h (least-found p es (second-
 
 -- ---- from entries to what is held
 
-test-parts : (a b : Bool) → (not a && not b) ≡ true → (a ≡ false) × (b ≡ false)
-test-parts true b h = cc
-test-parts false true h = cc
-test-parts false false h = (refl, refl)
+test-holders : (a b : Bool) → (not a && not b) ≡ true → (a ≡ false) × (b ≡ false)
+test-holders true b h = cc
+test-holders false true h = cc
+test-holders false false h = (refl, refl)
 
 test-whole : (a b : Bool) → a ≡ false → b ≡ false → (not a && not b) ≡ true
 test-whole true b h k = cc
@@ -117,51 +117,51 @@ test-whole false true h k = cc
 test-whole false false h k = refl
 
 -- who is in the way holds locks
-has-locks : (parts : Parts) (t : TransId) (n : Resource × Mode) (v : TransId) → IsInWay parts t n v
-    → (k : Held) × (found trans_cmp v (map.entries parts) ≡ Some k) × (disagrees t n (v, k) ≡ true)
-has-locks parts t n v h = go (found trans_cmp v (map.entries parts)) refl
-    (sym (ap (λ (o : Option Held). agree_held (map.get (unwrap_or o map.empty) n.0) (Some n.1)) (get-entries parts v)) ∙ h.1)
+has-locks : (holders : Holders) (t : TransId) (n : Resource × Mode) (v : TransId) → IsInWay holders t n v
+    → (k : Held) × (found trans_cmp v (map.entries holders) ≡ Some k) × (disagrees t n (v, k) ≡ true)
+has-locks holders t n v h = go (found trans_cmp v (map.entries holders)) refl
+    (sym (ap (λ (o : Option Held). agree_held (map.get (unwrap_or o map.empty) n.0) (Some n.1)) (get-entries holders v)) ∙ h.1)
   where
-    go : (o : Option Held) → found trans_cmp v (map.entries parts) ≡ o → agree_held (map.get (unwrap_or o map.empty) n.0) (Some n.1) ≡ false
-        → (k : Held) × (found trans_cmp v (map.entries parts) ≡ Some k) × (disagrees t n (v, k) ≡ true)
+    go : (o : Option Held) → found trans_cmp v (map.entries holders) ≡ o → agree_held (map.get (unwrap_or o map.empty) n.0) (Some n.1) ≡ false
+        → (k : Held) × (found trans_cmp v (map.entries holders) ≡ Some k) × (disagrees t n (v, k) ≡ true)
     go None at wrong = let clash : true ≡ false = sym (nothing-agrees n.0 n.1) ∙ wrong in cc
     go (Some k) at away = (k, at, test-whole (eq_by_cmp trans_cmp t v) (agree_held (map.get k n.0) (Some n.1)) h.0 away)
 
-least-on : (parts : Parts) (t : TransId) (n : Resource × Mode) (u : TransId) → holder_on parts t n ≡ Some u
-    → IsInWay parts t n u × ((v : TransId) → IsInWay parts t n v → trans_cmp v u ≡ Less → ⊥)
-least-on parts t n u h =
-    let it = least-found (disagrees t n) (map.entries parts) (entries_sorted parts) u h in
-    let both = test-parts (eq_by_cmp trans_cmp t u) (agree_held (map.get it.locks n.0) (Some n.1)) it.passes in (
-      (both.0, ap (λ (o : Option Held). agree_held (map.get (unwrap_or o map.empty) n.0) (Some n.1)) (get-entries parts u ∙ it.here) ∙ both.1),
-      λ v way before. let its = has-locks parts t n v way in it.least v its.0 its.1 its.2 before,
+least-on : (holders : Holders) (t : TransId) (n : Resource × Mode) (u : TransId) → holder_on holders t n ≡ Some u
+    → IsInWay holders t n u × ((v : TransId) → IsInWay holders t n v → trans_cmp v u ≡ Less → ⊥)
+least-on holders t n u h =
+    let it = least-found (disagrees t n) (map.entries holders) (entries_sorted holders) u h in
+    let both = test-holders (eq_by_cmp trans_cmp t u) (agree_held (map.get it.locks n.0) (Some n.1)) it.passes in (
+      (both.0, ap (λ (o : Option Held). agree_held (map.get (unwrap_or o map.empty) n.0) (Some n.1)) (get-entries holders u ∙ it.here) ∙ both.1),
+      λ v way before. let its = has-locks holders t n v way in it.least v its.0 its.1 its.2 before,
     )
 
-clear-on : (parts : Parts) (t : TransId) (n : Resource × Mode) → holder_on parts t n ≡ None → IsClear parts t n
-clear-on parts t n h v way = let wrong : true ≡ false = sym (agrees-on parts t n h v way.0) ∙ way.1 in cc
+clear-on : (holders : Holders) (t : TransId) (n : Resource × Mode) → holder_on holders t n ≡ None → IsClear holders t n
+clear-on holders t n h v way = let wrong : true ≡ false = sym (agrees-on holders t n h v way.0) ∙ way.1 in cc
 
 pub names-any : NamesAny
-names-any parts t [] h = tt
-names-any parts t (n ∷ ns) h = let both = or-none (holder_on parts t n) (blocker parts t ns) h in (clear-on parts t n both.0, names-any parts t ns both.1)
+names-any holders t [] h = tt
+names-any holders t (n ∷ ns) h = let both = or-none (holder_on holders t n) (blocker holders t ns) h in (clear-on holders t n both.0, names-any holders t ns both.1)
 
 pub names-first : NamesFirst
-names-first parts t [] u h = absurd (some-none u (sym h))
-names-first parts t (n ∷ ns) u h = go (holder_on parts t n) refl h (names-first parts t ns u)
+names-first holders t [] u h = absurd (some-none u (sym h))
+names-first holders t (n ∷ ns) u h = go (holder_on holders t n) refl h (names-first holders t ns u)
   where
-    here : holder_on parts t n ≡ Some u → IsFirstInWay parts t (n ∷ ns) u
-    here at = let it = least-on parts t n u at in record { before = []; need = n; after = ns; whole = refl; clear = tt; inway = it.0; least = it.1 }
+    here : holder_on holders t n ≡ Some u → IsFirstInWay holders t (n ∷ ns) u
+    here at = let it = least-on holders t n u at in record { before = []; need = n; after = ns; whole = refl; clear = tt; inway = it.0; least = it.1 }
 
-    later : holder_on parts t n ≡ None → IsFirstInWay parts t ns u → IsFirstInWay parts t (n ∷ ns) u
+    later : holder_on holders t n ≡ None → IsFirstInWay holders t ns u → IsFirstInWay holders t (n ∷ ns) u
     later none rest = record {
       before = n ∷ rest.before;
       need = rest.need;
       after = rest.after;
       whole = ap (λ ms. n ∷ ms) rest.whole;
-      clear = (clear-on parts t n none, rest.clear);
+      clear = (clear-on holders t n none, rest.clear);
       inway = rest.inway;
       least = rest.least;
     }
 
-    go : (o : Option TransId) → holder_on parts t n ≡ o → option_or o (blocker parts t ns) ≡ Some u
-        → (blocker parts t ns ≡ Some u → IsFirstInWay parts t ns u) → IsFirstInWay parts t (n ∷ ns) u
+    go : (o : Option TransId) → holder_on holders t n ≡ o → option_or o (blocker holders t ns) ≡ Some u
+        → (blocker holders t ns ≡ Some u → IsFirstInWay holders t ns u) → IsFirstInWay holders t (n ∷ ns) u
     go None at h rest = later at (rest h)
     go (Some v) at h rest = here (at ∙ h)

@@ -10,19 +10,19 @@ use Rattle.alp_base.specs.declared.choices.Choice.{Choice}
 use Rattle.alp_base.specs.declared.choices.Choice.TheVariants.{Fail, Wait}
 use Rattle.alp_base.specs.declared.key.Resource.{Resource}
 use Rattle.alp_modes.specs.declared.Mode.{Mode}
-use Rattle.alp_modes.specs.Orders.{trans_cmp, resource_cmp, transactions_total, resources_total}
-use Rattle.alp_modes.specs.Holdings.{join_held, held_by}
-use Rattle.alp_modes.proofs.HoldingLemmas.{join_held-assoc, none-right}
+use Rattle.alp_base.specs.Orders.{trans_cmp, resource_cmp, transactions_total, resources_total}
+use Rattle.alp_files.specs.Holdings.{join_held, held_by}
+use Rattle.alp_files.proofs.HoldingLemmas.{join_held-assoc, none-right}
 use Rattle.alp_queue.specs.Rises.{Held, is_raised}
 use Rattle.alp_queue.specs.declared.waiter.Waiter.{Waiter}
-use Rattle.alp_locks.specs.Tables.{Parts, Table, held_of, holding}
+use Rattle.alp_locks.specs.Tables.{Holders, Table, held_of, holding}
 use Rattle.alp_locks.specs.Asks.{raised, joined, risen, waiter_of, in_way_of, answer, answered, with_granted}
 use Rattle.alp_locks.specs.Laws.{gives_all, IsAllOrNone, IsAllOfWaiter, IsAllOfPlan, EnteringKeepsHeld}
-use Rattle.alp_locks.proofs.PartLemmas.{tied}
+use Rattle.alp_locks.proofs.HeldLemmas.{tied}
 use Rattle.alp_locks.proofs.FreeLemmas.{at-risen, option-same, held-same, held-other}
 use Rattle.alp_locks.proofs.SoundLemmas.{again}
 
-raised-joined : (o : Option Mode) (m : Mode) → Some (raised o m) ≡ join_held o (Some m)
+pub raised-joined : (o : Option Mode) (m : Mode) → Some (raised o m) ≡ join_held o (Some m)
 raised-joined None m = refl
 raised-joined (Some a) m = refl
 
@@ -60,25 +60,25 @@ no-rise h ns none r = go (map.get (joined h ns) r) refl
     go (Some m) at = split m at (is_raised h (r, m)) refl
 
 -- a part that comes to hold all that was asked, beside others that stay
-spread : (parts after : Parts) (t u : TransId) (ns : List (Resource × Mode)) (r : Resource)
-    → (eq_by_cmp trans_cmp u t ≡ true → holding after u r ≡ map.get (joined (held_of parts t) ns) r)
-    → (eq_by_cmp trans_cmp u t ≡ false → holding after u r ≡ holding parts u r)
-    → holding after u r ≡ cond (eq_by_cmp trans_cmp u t) (join_held (holding parts u r) (held_by ns r)) (holding parts u r)
-spread parts after t u ns r own other = go (eq_by_cmp trans_cmp u t) refl
+spread : (holders after : Holders) (t u : TransId) (ns : List (Resource × Mode)) (r : Resource)
+    → (eq_by_cmp trans_cmp u t ≡ true → holding after u r ≡ map.get (joined (held_of holders t) ns) r)
+    → (eq_by_cmp trans_cmp u t ≡ false → holding after u r ≡ holding holders u r)
+    → holding after u r ≡ cond (eq_by_cmp trans_cmp u t) (join_held (holding holders u r) (held_by ns r)) (holding holders u r)
+spread holders after t u ns r own other = go (eq_by_cmp trans_cmp u t) refl
   where
-    same : eq_by_cmp trans_cmp u t ≡ true → held_of parts t ≡ held_of parts u
-    same e = ap (λ (o : Option Held). unwrap_or o map.empty) (get_tied transactions_total parts u t (tied (trans_cmp u t) e))
+    same : eq_by_cmp trans_cmp u t ≡ true → held_of holders t ≡ held_of holders u
+    same e = ap (λ (o : Option Held). unwrap_or o map.empty) (get_tied transactions_total holders u t (tied (trans_cmp u t) e))
 
-    go : (b : Bool) → eq_by_cmp trans_cmp u t ≡ b → holding after u r ≡ cond b (join_held (holding parts u r) (held_by ns r)) (holding parts u r)
-    go true e = own e ∙ joined-holds ns (held_of parts t) r ∙ ap (λ (h : Held). join_held (map.get h r) (held_by ns r)) (same e)
+    go : (b : Bool) → eq_by_cmp trans_cmp u t ≡ b → holding after u r ≡ cond b (join_held (holding holders u r) (held_by ns r)) (holding holders u r)
+    go true e = own e ∙ joined-holds ns (held_of holders t) r ∙ ap (λ (h : Held). join_held (map.get h r) (held_by ns r)) (same e)
     go false e = other e
 
-insert-spread : (parts : Parts) (t u : TransId) (ns : List (Resource × Mode)) (r : Resource)
-    → holding (map.insert parts t (joined (held_of parts t) ns)) u r ≡ cond (eq_by_cmp trans_cmp u t) (join_held (holding parts u r) (held_by ns r)) (holding parts u r)
-insert-spread parts t u ns r =
-    spread parts (map.insert parts t (joined (held_of parts t) ns)) t u ns r
-    (λ e. ap (λ (h : Held). map.get h r) (held-same parts t (joined (held_of parts t) ns) u e))
-    (λ e. ap (λ (h : Held). map.get h r) (held-other parts t (joined (held_of parts t) ns) u e))
+insert-spread : (holders : Holders) (t u : TransId) (ns : List (Resource × Mode)) (r : Resource)
+    → holding (map.insert holders t (joined (held_of holders t) ns)) u r ≡ cond (eq_by_cmp trans_cmp u t) (join_held (holding holders u r) (held_by ns r)) (holding holders u r)
+insert-spread holders t u ns r =
+    spread holders (map.insert holders t (joined (held_of holders t) ns)) t u ns r
+    (λ e. ap (λ (h : Held). map.get h r) (held-same holders t (joined (held_of holders t) ns) u e))
+    (λ e. ap (λ (h : Held). map.get h r) (held-other holders t (joined (held_of holders t) ns) u e))
 
 if-both : (b : Bool) (x y : Option Mode) → cond b x y ≡ cond (b && true) x y
 if-both true x y = refl

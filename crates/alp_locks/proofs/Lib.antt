@@ -1,9 +1,10 @@
 pub mod ResultLemmas
-pub mod PartLemmas
+pub mod HeldLemmas
 pub mod WalkLemmas
 pub mod FreeLemmas
 pub mod SoundLemmas
 pub mod LawLemmas
+pub mod RiseLemmas
 pub mod HolderLemmas
 pub mod ReleaseLemmas
 pub mod PlanLemmas

@@ -6,12 +6,12 @@ use Rattle.std.specs.FinMap as map
 use Rattle.alp_base.specs.declared.ids.TransId.{TransId}
 use Rattle.alp_base.specs.declared.key.Resource.{Resource}
 use Rattle.alp_modes.specs.declared.Mode.{Mode}
-use Rattle.alp_modes.specs.Orders.{trans_cmp}
+use Rattle.alp_base.specs.Orders.{trans_cmp}
 use Rattle.alp_queue.specs.Rises.{Held}
 use Rattle.alp_locks.specs.Tables.{Table, held_of, holding}
 use Rattle.alp_locks.specs.Asks.{entered, with_granted}
 use Rattle.alp_locks.specs.Releases.{released}
-use Rattle.alp_locks.proofs.PartLemmas.{insert-held, insert-keeps, insert-twice, remove-keeps}
+use Rattle.alp_locks.proofs.HeldLemmas.{insert-held, insert-keeps, insert-twice, remove-keeps}
 use Rattle.alp_locks.proofs.ReleaseLemmas.{releases-alone, removed-holds}
 
 -- a transaction that the table knows enters without a trace

@@ -10,13 +10,13 @@ use Rattle.alp_base.specs.declared.ids.TransId.{TransId}
 use Rattle.alp_base.specs.declared.key.Resource.{Resource}
 use Rattle.alp_modes.specs.declared.Mode.{Mode}
 use Rattle.alp_modes.specs.Modes.{agree, join_of}
-use Rattle.alp_modes.specs.Orders.{trans_cmp, resource_cmp}
-use Rattle.alp_modes.specs.Holdings.{agree_held, join_held, held_by}
+use Rattle.alp_base.specs.Orders.{trans_cmp, resource_cmp}
+use Rattle.alp_files.specs.Holdings.{agree_held, join_held, held_by}
 use Rattle.alp_modes.proofs.ModeLemmas.{agreement-symmetric, agreement-joint}
 use Rattle.alp_queue.specs.Rises.{Held}
 use Rattle.alp_queue.specs.Order.{without, is_of}
 use Rattle.alp_queue.specs.declared.waiter.Waiter.{Waiter}
-use Rattle.alp_locks.specs.Tables.{Parts, Table, holding}
+use Rattle.alp_locks.specs.Tables.{Holders, Table, holding}
 use Rattle.alp_locks.specs.Asks.{blocker}
 use Rattle.alp_locks.specs.Releases.{is_free, with_woken, with_kept, walked, released}
 use Rattle.alp_locks.specs.Sound.{IsPrepared, AreApart}
@@ -60,12 +60,12 @@ walk-on (w ∷ ws) t = go (is_free t.held w) (walk-on ws (with_woken t w)) (walk
     }
 
 -- a part that goes leaves nothing, and the others as they were
-pub removed-holds : (parts : Parts) (u v : TransId) (r : Resource) → holding (map.remove parts u) v r ≡ cond (eq_by_cmp trans_cmp v u) None (holding parts v r)
-removed-holds parts u v r = go (eq_by_cmp trans_cmp v u) refl
+pub removed-holds : (holders : Holders) (u v : TransId) (r : Resource) → holding (map.remove holders u) v r ≡ cond (eq_by_cmp trans_cmp v u) None (holding holders v r)
+removed-holds holders u v r = go (eq_by_cmp trans_cmp v u) refl
   where
-    go : (b : Bool) → eq_by_cmp trans_cmp v u ≡ b → holding (map.remove parts u) v r ≡ cond {A = Option Mode} b None (holding parts v r)
-    go true is = ap (λ (x : Held). map.get x r) (held-gone parts u v is) ∙ get-empty resource_cmp r
-    go false is = ap (λ (x : Held). map.get x r) (held-removed parts u v is)
+    go : (b : Bool) → eq_by_cmp trans_cmp v u ≡ b → holding (map.remove holders u) v r ≡ cond {A = Option Mode} b None (holding holders v r)
+    go true is = ap (λ (x : Held). map.get x r) (held-gone holders u v is) ∙ get-empty resource_cmp r
+    go false is = ap (λ (x : Held). map.get x r) (held-removed holders u v is)
 
 pub releases-in-order : ReleasesInOrder
 releases-in-order t u =
@@ -100,8 +100,8 @@ none-is : (o : Option TransId) → is_none o ≡ true → o ≡ None
 none-is None e = refl
 none-is (Some x) e = cc
 
-abbrev Blocked : Parts → Waiter → Type 0
-Blocked parts w = is_free parts w ≡ false
+abbrev Blocked : Holders → Waiter → Type 0
+Blocked holders w = is_free holders w ≡ false
 
 still-blocked : (t : Table) (w v : Waiter) → IsPrepared t.held w → Blocked t.held v → Blocked (map.insert t.held w.trans w.after) v
 still-blocked t w v prepared h = go (is_free (map.insert t.held w.trans w.after) v) refl

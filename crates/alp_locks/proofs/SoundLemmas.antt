@@ -11,19 +11,21 @@ use Rattle.alp_base.specs.declared.key.Resource.{Resource}
 use Rattle.alp_base.specs.declared.choices.Choice.{Choice}
 use Rattle.alp_base.specs.declared.choices.Choice.TheVariants.{Fail, Wait}
 use Rattle.alp_modes.specs.declared.Mode.{Mode}
-use Rattle.alp_modes.specs.Orders.{trans_cmp, resource_cmp, transactions_total}
-use Rattle.alp_modes.specs.Holdings.{agree_held}
-use Rattle.alp_modes.proofs.HoldingLemmas.{agree-turned}
+use Rattle.alp_base.specs.Orders.{trans_cmp, resource_cmp, transactions_total}
+use Rattle.alp_files.specs.Holdings.{agree_held}
+use Rattle.alp_files.proofs.HoldingLemmas.{agree-turned}
 use Rattle.alp_queue.specs.Rises.{Held, is_raised}
 use Rattle.alp_queue.specs.Order.{placed, waits, without, is_of}
+use Rattle.alp_queue.specs.Conversions.{AreConversionsFirst}
+use Rattle.alp_queue.proofs.FirstLemmas.{first-filter, first-placed, first-middle}
 use Rattle.alp_queue.specs.declared.waiter.Waiter.{Waiter}
 use Rattle.alp_locks.specs.declared.request.Request.{Request}
-use Rattle.alp_locks.specs.Tables.{Parts, Table, held_of, holding, IsAgreeing}
+use Rattle.alp_locks.specs.Tables.{Holders, Table, held_of, holding, IsAgreeing}
 use Rattle.alp_locks.specs.Asks.{blocker, risen, joined, waiter_of, in_way_of, with_granted, entered, with_waiter, refused, answered, asked}
 use Rattle.alp_locks.specs.Releases.{is_free, with_woken, with_kept, walked, released}
 use Rattle.alp_locks.specs.Sound.{IsPrepared, AreApart, IsSound}
 use Rattle.alp_locks.proofs.FreeLemmas.{granted-agrees, insert-agreeing, held-other, held-same, turned}
-use Rattle.alp_locks.proofs.PartLemmas.{tied}
+use Rattle.alp_locks.proofs.HeldLemmas.{tied}
 
 -- ---- facts of each of a list
 
@@ -106,13 +108,13 @@ apart-filter p (w ∷ ws) h = go (p w) (apart-filter p ws h.1)
 
 -- ---- who waits stays prepared where another's part changes
 
-pub prepared-as : (parts after : Parts) (w : Waiter) → held_of after w.trans ≡ held_of parts w.trans → IsPrepared parts w → IsPrepared after w
-prepared-as parts after w same h = h ∙ ap (λ (x : Held). waiter_of x w.trans w.needs) (sym same)
+pub prepared-as : (holders after : Holders) (w : Waiter) → held_of after w.trans ≡ held_of holders w.trans → IsPrepared holders w → IsPrepared after w
+prepared-as holders after w same h = h ∙ ap (λ (x : Held). waiter_of x w.trans w.needs) (sym same)
 
-pub prepared-insert : (parts : Parts) (t : TransId) (after : Held) (ws : List Waiter) → AllByRecursion (IsPrepared parts) ws → AllByRecursion (IsOther t) ws → AllByRecursion (IsPrepared (map.insert parts t after)) ws
-prepared-insert parts t after ws h k =
-    each-both (IsPrepared parts) (IsOther t) (IsPrepared (map.insert parts t after))
-    (λ w a b. prepared-as parts (map.insert parts t after) w (held-other parts t after w.trans (turned t w.trans false b)) a) ws h k
+pub prepared-insert : (holders : Holders) (t : TransId) (after : Held) (ws : List Waiter) → AllByRecursion (IsPrepared holders) ws → AllByRecursion (IsOther t) ws → AllByRecursion (IsPrepared (map.insert holders t after)) ws
+prepared-insert holders t after ws h k =
+    each-both (IsPrepared holders) (IsOther t) (IsPrepared (map.insert holders t after))
+    (λ w a b. prepared-as holders (map.insert holders t after) w (held-other holders t after w.trans (turned t w.trans false b)) a) ws h k
 
 -- ---- the walk
 
@@ -120,18 +122,22 @@ none-is : {X : Type 0} (o : Option X) → is_none o ≡ true → o ≡ None
 none-is None e = refl
 none-is (Some x) e = cc
 
-free-agreeing : (parts : Parts) (w : Waiter) → IsAgreeing parts → IsPrepared parts w → is_free parts w ≡ true → IsAgreeing (map.insert parts w.trans w.after)
-free-agreeing parts w agreeing prepared free =
-    insert-agreeing parts w.trans w.after agreeing (granted-agrees parts w.trans w.after agreeing
-    (ap (blocker parts w.trans) (sym rises) ∙ none-is (blocker parts w.trans w.rises) free))
+free-agreeing : (holders : Holders) (w : Waiter) → IsAgreeing holders → IsPrepared holders w → is_free holders w ≡ true → IsAgreeing (map.insert holders w.trans w.after)
+free-agreeing holders w agreeing prepared free =
+    insert-agreeing holders w.trans w.after agreeing (granted-agrees holders w.trans w.after agreeing
+    (ap (blocker holders w.trans) (sym rises) ∙ none-is (blocker holders w.trans w.rises) free))
   where
-    rises : w.rises ≡ filter (is_raised (held_of parts w.trans)) (map.entries w.after)
-    rises = ap (λ (x : Waiter). x.rises) prepared ∙ ap (λ (x : Held). filter (is_raised (held_of parts w.trans)) (map.entries x)) (sym (ap (λ (x : Waiter). x.after) prepared))
+    rises : w.rises ≡ filter (is_raised (held_of holders w.trans)) (map.entries w.after)
+    rises = ap (λ (x : Waiter). x.rises) prepared ∙ ap (λ (x : Held). filter (is_raised (held_of holders w.trans)) (map.entries x)) (sym (ap (λ (x : Waiter). x.after) prepared))
 
-walked-sound : (ws : List Waiter) (t : Table) → IsAgreeing t.held → AllByRecursion (IsPrepared t.held) (t.waiting ++ ws) → AreApart (t.waiting ++ ws) → IsSound (walked t ws)
-walked-sound [] t agreeing prepared apart =
-    record { agreeing = agreeing; prepared = subst (AllByRecursion (IsPrepared t.held)) (append-nil t.waiting) prepared; apart = subst AreApart (append-nil t.waiting) apart }
-walked-sound (w ∷ ws) t agreeing prepared apart =
+walked-sound : (ws : List Waiter) (t : Table) → IsAgreeing t.held → AllByRecursion (IsPrepared t.held) (t.waiting ++ ws) → AreApart (t.waiting ++ ws) → AreConversionsFirst (t.waiting ++ ws) → IsSound (walked t ws)
+walked-sound [] t agreeing prepared apart ordered = record {
+  agreeing = agreeing;
+  prepared = subst (AllByRecursion (IsPrepared t.held)) (append-nil t.waiting) prepared;
+  apart = subst AreApart (append-nil t.waiting) apart;
+  conversions = subst AreConversionsFirst (append-nil t.waiting) ordered;
+}
+walked-sound (w ∷ ws) t agreeing prepared apart ordered =
     go (is_free t.held w) refl (walked-sound ws (with_woken t w)) (walked-sound ws (with_kept t w))
   where
     mine : IsPrepared t.held w × AllByRecursion (IsPrepared t.held) (t.waiting ++ ws)
@@ -144,36 +150,36 @@ walked-sound (w ∷ ws) t agreeing prepared apart =
     kept = sym (append_assoc t.waiting (w ∷ []) ws)
 
     go : (b : Bool) → is_free t.held w ≡ b
-        → (IsAgreeing (map.insert t.held w.trans w.after) → AllByRecursion (IsPrepared (map.insert t.held w.trans w.after)) (t.waiting ++ ws) → AreApart (t.waiting ++ ws) → IsSound (walked (with_woken t w) ws))
-        → (IsAgreeing t.held → AllByRecursion (IsPrepared t.held) ((t.waiting ++ w ∷ []) ++ ws) → AreApart ((t.waiting ++ w ∷ []) ++ ws) → IsSound (walked (with_kept t w) ws))
+        → (IsAgreeing (map.insert t.held w.trans w.after) → AllByRecursion (IsPrepared (map.insert t.held w.trans w.after)) (t.waiting ++ ws) → AreApart (t.waiting ++ ws) → AreConversionsFirst (t.waiting ++ ws) → IsSound (walked (with_woken t w) ws))
+        → (IsAgreeing t.held → AllByRecursion (IsPrepared t.held) ((t.waiting ++ w ∷ []) ++ ws) → AreApart ((t.waiting ++ w ∷ []) ++ ws) → AreConversionsFirst ((t.waiting ++ w ∷ []) ++ ws) → IsSound (walked (with_kept t w) ws))
         → IsSound (walked (cond b (with_woken t w) (with_kept t w)) ws)
-    go true e woken kept_on = woken (free-agreeing t.held w agreeing mine.0 e) (prepared-insert t.held w.trans w.after (t.waiting ++ ws) mine.1 others.0) others.1
-    go false e woken kept_on = kept_on agreeing (subst (AllByRecursion (IsPrepared t.held)) kept prepared) (subst AreApart kept apart)
+    go true e woken kept_on = woken (free-agreeing t.held w agreeing mine.0 e) (prepared-insert t.held w.trans w.after (t.waiting ++ ws) mine.1 others.0) others.1 (first-middle t.waiting w ws ordered)
+    go false e woken kept_on = kept_on agreeing (subst (AllByRecursion (IsPrepared t.held)) kept prepared) (subst AreApart kept apart) (subst AreConversionsFirst kept ordered)
 
 -- ---- a release
 
-pub held-removed : (parts : Parts) (t u : TransId) → eq_by_cmp trans_cmp u t ≡ false → held_of (map.remove parts t) u ≡ held_of parts u
-held-removed parts t u apart = ap (λ (o : Option Held). unwrap_or o map.empty) (get-remove transactions_total parts t u ∙ ap (λ (b : Bool). cond b None (map.get parts u)) apart)
+pub held-removed : (holders : Holders) (t u : TransId) → eq_by_cmp trans_cmp u t ≡ false → held_of (map.remove holders t) u ≡ held_of holders u
+held-removed holders t u apart = ap (λ (o : Option Held). unwrap_or o map.empty) (get-remove transactions_total holders t u ∙ ap (λ (b : Bool). cond b None (map.get holders u)) apart)
 
-pub held-gone : (parts : Parts) (t u : TransId) → eq_by_cmp trans_cmp u t ≡ true → held_of (map.remove parts t) u ≡ map.empty
-held-gone parts t u is = ap (λ (o : Option Held). unwrap_or o map.empty) (get-remove transactions_total parts t u ∙ ap (λ (b : Bool). cond b None (map.get parts u)) is)
+pub held-gone : (holders : Holders) (t u : TransId) → eq_by_cmp trans_cmp u t ≡ true → held_of (map.remove holders t) u ≡ map.empty
+held-gone holders t u is = ap (λ (o : Option Held). unwrap_or o map.empty) (get-remove transactions_total holders t u ∙ ap (λ (b : Bool). cond b None (map.get holders u)) is)
 
 none-agrees : (o : Option Mode) (r : Resource) → agree_held (map.get (map.empty {X = Mode} {R = resource_cmp}) r) o ≡ true
 none-agrees o r = ap (λ x. agree_held x o) (get-empty resource_cmp r)
 
-remove-agreeing : (parts : Parts) (t : TransId) → IsAgreeing parts → IsAgreeing (map.remove parts t)
-remove-agreeing parts t agreeing x y apart r = go (eq_by_cmp trans_cmp x t) refl (eq_by_cmp trans_cmp y t) refl
+remove-agreeing : (holders : Holders) (t : TransId) → IsAgreeing holders → IsAgreeing (map.remove holders t)
+remove-agreeing holders t agreeing x y apart r = go (eq_by_cmp trans_cmp x t) refl (eq_by_cmp trans_cmp y t) refl
   where
     go : (b : Bool) → eq_by_cmp trans_cmp x t ≡ b → (c : Bool) → eq_by_cmp trans_cmp y t ≡ c
-        → agree_held (holding (map.remove parts t) x r) (holding (map.remove parts t) y r) ≡ true
+        → agree_held (holding (map.remove holders t) x r) (holding (map.remove holders t) y r) ≡ true
     go true a c e =
-        ap (λ h. agree_held (map.get h r) (holding (map.remove parts t) y r)) (held-gone parts t x a) ∙ none-agrees (holding (map.remove parts t) y r) r
+        ap (λ h. agree_held (map.get h r) (holding (map.remove holders t) y r)) (held-gone holders t x a) ∙ none-agrees (holding (map.remove holders t) y r) r
     go false a true e =
-        ap (λ h. agree_held (holding (map.remove parts t) x r) (map.get h r)) (held-gone parts t y e)
-        ∙ agree-turned (holding (map.remove parts t) x r) (map.get map.empty r) ∙ none-agrees (holding (map.remove parts t) x r) r
+        ap (λ h. agree_held (holding (map.remove holders t) x r) (map.get h r)) (held-gone holders t y e)
+        ∙ agree-turned (holding (map.remove holders t) x r) (map.get map.empty r) ∙ none-agrees (holding (map.remove holders t) x r) r
     go false a false e =
-        ap (λ h. agree_held (map.get h r) (holding (map.remove parts t) y r)) (held-removed parts t x a)
-        ∙ ap (λ h. agree_held (holding parts x r) (map.get h r)) (held-removed parts t y e)
+        ap (λ h. agree_held (map.get h r) (holding (map.remove holders t) y r)) (held-removed holders t x a)
+        ∙ ap (λ h. agree_held (holding holders x r) (map.get h r)) (held-removed holders t y e)
         ∙ agreeing x y apart r
 
 pub not-true : (b : Bool) → not b ≡ true → b ≡ false
@@ -187,7 +193,7 @@ released-sound t u s =
     (each-both (IsPrepared t.held) (λ w. not (is_of u w) ≡ true) (IsPrepared (map.remove t.held u))
     (λ w a b. prepared-as t.held (map.remove t.held u) w (held-removed t.held u w.trans (turned u w.trans false (not-true (is_of u w) b))) a)
     (without t.waiting u) (each-filter (IsPrepared t.held) (λ w. not (is_of u w)) t.waiting s.prepared) (passing (λ w. not (is_of u w)) t.waiting))
-    (apart-filter (λ w. not (is_of u w)) t.waiting s.apart)
+    (apart-filter (λ w. not (is_of u w)) t.waiting s.apart) (first-filter (λ w. not (is_of u w)) t.waiting s.conversions)
 
 -- ---- an ask
 
@@ -201,15 +207,16 @@ granted-sound t u ns s idle free = go (risen (held_of t.held u) ns)
       agreeing = insert-agreeing t.held u (joined (held_of t.held u) ns) s.agreeing (granted-agrees t.held u (joined (held_of t.held u) ns) s.agreeing free);
       prepared = prepared-insert t.held u (joined (held_of t.held u) ns) t.waiting s.prepared (others-wait u t.waiting idle);
       apart = s.apart;
+      conversions = s.conversions;
     }
 
 -- a part that is named again holds what it held
-pub again : (parts : Parts) (u v : TransId) → held_of (map.insert parts u (held_of parts u)) v ≡ held_of parts v
-again parts u v = go (eq_by_cmp trans_cmp v u) refl
+pub again : (holders : Holders) (u v : TransId) → held_of (map.insert holders u (held_of holders u)) v ≡ held_of holders v
+again holders u v = go (eq_by_cmp trans_cmp v u) refl
   where
-    go : (b : Bool) → eq_by_cmp trans_cmp v u ≡ b → held_of (map.insert parts u (held_of parts u)) v ≡ held_of parts v
-    go true a = held-same parts u (held_of parts u) v a ∙ ap (λ (o : Option Held). unwrap_or o map.empty) (get_tied transactions_total parts v u (tied (trans_cmp v u) a))
-    go false a = held-other parts u (held_of parts u) v a
+    go : (b : Bool) → eq_by_cmp trans_cmp v u ≡ b → held_of (map.insert holders u (held_of holders u)) v ≡ held_of holders v
+    go true a = held-same holders u (held_of holders u) v a ∙ ap (λ (o : Option Held). unwrap_or o map.empty) (get_tied transactions_total holders v u (tied (trans_cmp v u) a))
+    go false a = held-other holders u (held_of holders u) v a
 
 pub entered-sound : (t : Table) (u : TransId) → IsSound t → IsSound (entered t u)
 entered-sound t u s = record {
@@ -219,6 +226,7 @@ entered-sound t u s = record {
       ∙ s.agreeing x y apart r;
   prepared = each-more (IsPrepared t.held) (IsPrepared (entered t u).held) (λ w a. prepared-as t.held (entered t u).held w (again t.held u w.trans) a) t.waiting s.prepared;
   apart = s.apart;
+  conversions = s.conversions;
 }
 
 queued-sound : (t : Table) (u : TransId) (ns : List (Resource × Mode)) → IsSound t → waits t.waiting u ≡ false → IsSound (with_waiter t (waiter_of (held_of t.held u) u ns))
@@ -228,6 +236,7 @@ queued-sound t u ns s idle =
       agreeing = here.agreeing;
       prepared = each-placed (IsPrepared (entered t u).held) t.waiting (waiter_of (held_of t.held u) u ns) here.prepared (ap (λ (h : Held). waiter_of h u ns) (sym (again t.held u u)));
       apart = apart-placed t.waiting (waiter_of (held_of t.held u) u ns) s.apart (others-wait u t.waiting idle);
+      conversions = first-placed t.waiting (waiter_of (held_of t.held u) u ns) s.conversions;
     }
 
 refused-sound : (t : Table) (u : TransId) (ns : List (Resource × Mode)) (choice : Choice) → IsSound t → waits t.waiting u ≡ false → IsSound (refused t (waiter_of (held_of t.held u) u ns) choice)
@@ -247,21 +256,22 @@ new-sound = record {
       ap (λ (o : Option Held). agree_held (map.get (unwrap_or o map.empty) r) (holding map.empty y r)) (get-empty trans_cmp x) ∙ none-agrees (holding map.empty y r) r;
   prepared = tt;
   apart = tt;
+  conversions = tt;
 }
 
 -- ---- the same, said of what a body has in hand
 
 -- what is made ready by what the transaction holds is prepared
-pub made-prepared : (parts : Parts) (u : TransId) (ns : List (Resource × Mode)) (w : Waiter) → w ≡ waiter_of (held_of parts u) u ns → IsPrepared parts w
-made-prepared parts u ns w is = subst (IsPrepared parts) (sym is) refl
+pub made-prepared : (holders : Holders) (u : TransId) (ns : List (Resource × Mode)) (w : Waiter) → w ≡ waiter_of (held_of holders u) u ns → IsPrepared holders w
+made-prepared holders u ns w is = subst (IsPrepared holders) (sym is) refl
 
 -- and it stays so where a transaction enters
 pub entered-prepared : (t : Table) (u : TransId) (w : Waiter) → IsPrepared t.held w → IsPrepared (entered t u).held w
 entered-prepared t u w h = prepared-as t.held (entered t u).held w (again t.held u w.trans) h
 
 -- who stands in its way stands in the way of the needs
-pub prepared-way : (parts : Parts) (w : Waiter) → IsPrepared parts w → blocker parts w.trans w.rises ≡ in_way_of parts w.trans w.needs
-prepared-way parts w h = ap (λ (x : Waiter). blocker parts w.trans x.rises) h
+pub prepared-way : (holders : Holders) (w : Waiter) → IsPrepared holders w → blocker holders w.trans w.rises ≡ in_way_of holders w.trans w.needs
+prepared-way holders w h = ap (λ (x : Waiter). blocker holders w.trans x.rises) h
 
 pub grant-sound : (t : Table) (w : Waiter) → IsPrepared t.held w → IsSound t → blocker t.held w.trans w.rises ≡ None → waits t.waiting w.trans ≡ false
     → IsSound (with_granted t w.trans w.rises w.after)
@@ -272,9 +282,9 @@ grant-sound t w prepared s free idle =
 pub refuse-sound : (t : Table) (w : Waiter) (choice : Choice) → IsPrepared t.held w → IsSound t → waits t.waiting w.trans ≡ false → IsSound (refused t w choice)
 refuse-sound t w choice prepared s idle = subst (λ (x : Waiter). IsSound (refused t x choice)) (sym prepared) (refused-sound t w.trans w.needs choice s idle)
 
-pub release-sound : (t : Table) (u : TransId) (parts : Parts) (ws : List Waiter) (after : Table) → parts ≡ map.remove t.held u → ws ≡ without t.waiting u
-    → after ≡ walked (record { held = parts; waiting = []; woken = t.woken }) ws → IsSound t → IsSound after
-release-sound t u parts ws after gone left is s =
-    let P : Parts → Type 0 = λ p. IsSound (walked (record { held = p; waiting = []; woken = t.woken }) ws) in
+pub release-sound : (t : Table) (u : TransId) (holders : Holders) (ws : List Waiter) (after : Table) → holders ≡ map.remove t.held u → ws ≡ without t.waiting u
+    → after ≡ walked (record { held = holders; waiting = []; woken = t.woken }) ws → IsSound t → IsSound after
+release-sound t u holders ws after gone left is s =
+    let P : Holders → Type 0 = λ p. IsSound (walked (record { held = p; waiting = []; woken = t.woken }) ws) in
     let Q : List Waiter → Type 0 = λ x. IsSound (walked (record { held = map.remove t.held u; waiting = []; woken = t.woken }) x) in
     subst IsSound (sym is) (subst P (sym gone) (subst Q (sym left) (released-sound t u s)))

@@ -4,7 +4,7 @@ use Rattle.std.specs.FinMap as map
 use Rattle.std.proofs.lemmas.List.{drop_more, take_more}
 use Rattle.alp_base.specs.declared.ids.TransId.{TransId}
 use Rattle.alp_queue.specs.declared.waiter.Waiter.{Waiter}
-use Rattle.alp_locks.specs.Tables.{Parts, Table}
+use Rattle.alp_locks.specs.Tables.{Holders, Table}
 use Rattle.alp_locks.specs.Releases.{is_free, with_woken, with_kept, walked}
 
 pub take-removed : {X : Type 0} (xs : List X) (i : ℕ) → take i (remove xs i) ≡ take i xs
@@ -23,29 +23,29 @@ pub drop-removed : {X : Type 0} (xs : List X) (i : ℕ) → drop i (remove xs i)
 drop-removed xs i = let e : suc i ≡ i + 1 = omega arith in drop-removed-suc xs i ∙ ap (λ n. drop n xs) e
 
 -- where the walk stands
-abbrev pub from_here : Parts → List Waiter → List TransId → ℕ → Table
-from_here parts qs vs i = walked (record { held = parts; waiting = take i qs; woken = vs }) (drop i qs)
+abbrev pub from_here : Holders → List Waiter → List TransId → ℕ → Table
+from_here holders qs vs i = walked (record { held = holders; waiting = take i qs; woken = vs }) (drop i qs)
 
-at-here : (parts : Parts) (qs : List Waiter) (vs : List TransId) (i : ℕ) (w : Waiter) → i < length qs → get_or qs i w ≡ w
-    → from_here parts qs vs i ≡ walked (record { held = parts; waiting = take i qs; woken = vs }) (w ∷ drop (i + 1) qs)
-at-here parts qs vs i w within is =
-    ap (walked (record { held = parts; waiting = take i qs; woken = vs })) (drop_more qs i w within ∙ ap (λ x. x ∷ drop (i + 1) qs) is)
+at-here : (holders : Holders) (qs : List Waiter) (vs : List TransId) (i : ℕ) (w : Waiter) → i < length qs → get_or qs i w ≡ w
+    → from_here holders qs vs i ≡ walked (record { held = holders; waiting = take i qs; woken = vs }) (w ∷ drop (i + 1) qs)
+at-here holders qs vs i w within is =
+    ap (walked (record { held = holders; waiting = take i qs; woken = vs })) (drop_more qs i w within ∙ ap (λ x. x ∷ drop (i + 1) qs) is)
 
-pub walk-free : (parts : Parts) (qs : List Waiter) (vs : List TransId) (i : ℕ) (w : Waiter) → i < length qs → get_or qs i w ≡ w → is_free parts w ≡ true
-    → from_here parts qs vs i ≡ from_here (map.insert parts w.trans w.after) (remove qs i) (vs ++ w.trans ∷ []) i
-walk-free parts qs vs i w within is free =
-    let before : Table = record { held = parts; waiting = take i qs; woken = vs } in
-    let after : Table = record { held = map.insert parts w.trans w.after; waiting = take i qs; woken = vs ++ w.trans ∷ [] } in
-    at-here parts qs vs i w within is
+pub walk-free : (holders : Holders) (qs : List Waiter) (vs : List TransId) (i : ℕ) (w : Waiter) → i < length qs → get_or qs i w ≡ w → is_free holders w ≡ true
+    → from_here holders qs vs i ≡ from_here (map.insert holders w.trans w.after) (remove qs i) (vs ++ w.trans ∷ []) i
+walk-free holders qs vs i w within is free =
+    let before : Table = record { held = holders; waiting = take i qs; woken = vs } in
+    let after : Table = record { held = map.insert holders w.trans w.after; waiting = take i qs; woken = vs ++ w.trans ∷ [] } in
+    at-here holders qs vs i w within is
     ∙ ap (λ b. walked (cond b (with_woken before w) (with_kept before w)) (drop (i + 1) qs)) free
     ∙ ap (walked after) (sym (drop-removed qs i))
-    ∙ ap (λ (ws : List Waiter). walked (record { held = map.insert parts w.trans w.after; waiting = ws; woken = vs ++ w.trans ∷ [] }) (drop i (remove qs i))) (sym (take-removed qs i))
+    ∙ ap (λ (ws : List Waiter). walked (record { held = map.insert holders w.trans w.after; waiting = ws; woken = vs ++ w.trans ∷ [] }) (drop i (remove qs i))) (sym (take-removed qs i))
 
-pub walk-kept : (parts : Parts) (qs : List Waiter) (vs : List TransId) (i : ℕ) (w : Waiter) → i < length qs → get_or qs i w ≡ w → is_free parts w ≡ false
-    → from_here parts qs vs i ≡ from_here parts qs vs (i + 1)
-walk-kept parts qs vs i w within is free =
-    let before : Table = record { held = parts; waiting = take i qs; woken = vs } in
-    at-here parts qs vs i w within is
+pub walk-kept : (holders : Holders) (qs : List Waiter) (vs : List TransId) (i : ℕ) (w : Waiter) → i < length qs → get_or qs i w ≡ w → is_free holders w ≡ false
+    → from_here holders qs vs i ≡ from_here holders qs vs (i + 1)
+walk-kept holders qs vs i w within is free =
+    let before : Table = record { held = holders; waiting = take i qs; woken = vs } in
+    at-here holders qs vs i w within is
     ∙ ap (λ b. walked (cond b (with_woken before w) (with_kept before w)) (drop (i + 1) qs)) free
-    ∙ ap (λ (ws : List Waiter). walked (record { held = parts; waiting = ws; woken = vs }) (drop (i + 1) qs))
+    ∙ ap (λ (ws : List Waiter). walked (record { held = holders; waiting = ws; woken = vs }) (drop (i + 1) qs))
     (ap (λ x. take i qs ++ x ∷ []) (sym is) ∙ sym (take_more qs i w within))

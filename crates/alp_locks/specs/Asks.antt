@@ -1,5 +1,5 @@
 -- what an ask is answered, and what it leaves
-use Rattle.std.specs.Prelude.{Bool, not, ◌&&◌, List, [], ◌∷◌, Option, Some, None, is_some}
+use Rattle.std.specs.Prelude.{◌≡◌, Bool, not, ◌&&◌, List, [], ◌∷◌, Option, Some, None, is_some}
 use Rattle.std.specs.Option.{option_map, option_or}
 use Rattle.std.specs.List.{find, filter, list_any}
 use Rattle.std.specs.Ordering.{eq_by_cmp}
@@ -10,15 +10,15 @@ use Rattle.alp_base.specs.declared.choices.Choice.TheVariants.{Fail, Wait}
 use Rattle.alp_base.specs.declared.key.Resource.{Resource}
 use Rattle.alp_modes.specs.declared.Mode.{Mode}
 use Rattle.alp_modes.specs.Modes.{join_of}
-use Rattle.alp_modes.specs.Holdings.{agree_held}
-use Rattle.alp_modes.specs.Orders.{trans_cmp}
+use Rattle.alp_files.specs.Holdings.{agree_held, held_by}
+use Rattle.alp_base.specs.Orders.{trans_cmp}
 use Rattle.alp_queue.specs.declared.waiter.Waiter.{Waiter}
 use Rattle.alp_queue.specs.Order.{placed}
 use Rattle.alp_queue.specs.Rises.{Held, is_raised}
 use Rattle.alp_locks.specs.declared.request.Request.{Request}
 use Rattle.alp_locks.specs.declared.request.Grant.{Grant}
 use Rattle.alp_locks.specs.declared.request.Grant.TheVariants.{Granted, Conflict, Queued}
-use Rattle.alp_locks.specs.Tables.{Parts, Table, held_of}
+use Rattle.alp_locks.specs.Tables.{Holders, Table, held_of}
 
 -- the mode that is left where that one is asked
 abbrev pub raised : Option Mode → Mode → Mode
@@ -30,6 +30,10 @@ abbrev pub joined : Held → List (Resource × Mode) → Held
 joined held [] = held
 joined held (n ∷ ns) = joined (map.insert held n.0 (raised (map.get held n.0) n.1)) ns
 
+-- modes on the resources that are asked alone, each what is held there raised by what is asked
+abbrev pub IsAfter : Held → List (Resource × Mode) → Held → Type 0
+IsAfter held ns modes = (r : Resource) → map.get modes r ≡ option_map (raised (map.get held r)) (held_by ns r)
+
 -- the resources on which the mode would rise, in their order, each once, with the modes that would be left
 abbrev pub risen : Held → List (Resource × Mode) → List (Resource × Mode)
 risen held ns = filter (is_raised held) (map.entries (joined held ns))
@@ -39,13 +43,13 @@ abbrev pub disagrees : TransId → Resource × Mode → TransId × Held → Bool
 disagrees t n part = not (eq_by_cmp trans_cmp t part.0) && not (agree_held (map.get part.1 n.0) (Some n.1))
 
 -- the least of them
-abbrev pub holder_on : Parts → TransId → Resource × Mode → Option TransId
-holder_on parts t n = option_map (λ part. part.0) (find (disagrees t n) (map.entries parts))
+abbrev pub holder_on : Holders → TransId → Resource × Mode → Option TransId
+holder_on holders t n = option_map (λ part. part.0) (find (disagrees t n) (map.entries holders))
 
 -- the least on the first resource that has one
-abbrev pub blocker : Parts → TransId → List (Resource × Mode) → Option TransId
-blocker parts t [] = None
-blocker parts t (n ∷ ns) = option_or (holder_on parts t n) (blocker parts t ns)
+abbrev pub blocker : Holders → TransId → List (Resource × Mode) → Option TransId
+blocker holders t [] = None
+blocker holders t (n ∷ ns) = option_or (holder_on holders t n) (blocker holders t ns)
 
 -- a lock is held on a resource that is asked for
 abbrev pub is_conversion : Held → List (Resource × Mode) → Bool
@@ -66,8 +70,8 @@ answer None choice = Granted
 answer (Some u) choice = refusal choice u
 
 -- who stands in the way of a request
-abbrev pub in_way_of : Parts → TransId → List (Resource × Mode) → Option TransId
-in_way_of parts t ns = blocker parts t (risen (held_of parts t) ns)
+abbrev pub in_way_of : Holders → TransId → List (Resource × Mode) → Option TransId
+in_way_of holders t ns = blocker holders t (risen (held_of holders t) ns)
 
 abbrev pub grant_of : Table → Request → Grant
 grant_of t q = answer (in_way_of t.held q.trans q.needs) q.choice

@@ -7,13 +7,13 @@ use Rattle.std.specs.Ordering.{eq_by_cmp}
 use Rattle.alp_base.specs.declared.ids.TransId.{TransId}
 use Rattle.alp_base.specs.declared.key.Resource.{Resource}
 use Rattle.alp_modes.specs.declared.Mode.{Mode}
-use Rattle.alp_modes.specs.Orders.{trans_cmp}
-use Rattle.alp_modes.specs.Holdings.{join_held, agree_held, held_by}
+use Rattle.alp_base.specs.Orders.{trans_cmp}
+use Rattle.alp_files.specs.Holdings.{join_held, agree_held, held_by}
 use Rattle.alp_queue.specs.declared.waiter.Waiter.{Waiter}
 use Rattle.alp_locks.specs.declared.request.Request.{Request}
 use Rattle.alp_locks.specs.declared.request.Grant.{Grant}
 use Rattle.alp_locks.specs.declared.request.Grant.TheVariants.{Granted, Conflict, Queued}
-use Rattle.alp_locks.specs.Tables.{Parts, Table, held_of, holding}
+use Rattle.alp_locks.specs.Tables.{Holders, Table, held_of, holding}
 use Rattle.alp_locks.specs.Asks.{blocker, grant_of, entered, with_granted, asked}
 use Rattle.alp_queue.specs.Order.{without}
 use Rattle.alp_locks.specs.Releases.{is_free, with_woken, released}
@@ -45,28 +45,28 @@ abbrev pub EnteringKeepsHeld : Type 0
 EnteringKeepsHeld = (t : Table) (u v : TransId) → held_of (entered t u).held v ≡ held_of t.held v
 
 -- another transaction, whose mode on a resource does not agree with that one
-abbrev pub IsInWay : Parts → TransId → Resource × Mode → TransId → Type 0
-IsInWay parts t n u = (eq_by_cmp trans_cmp t u ≡ false) × (agree_held (holding parts u n.0) (Some n.1) ≡ false)
+abbrev pub IsInWay : Holders → TransId → Resource × Mode → TransId → Type 0
+IsInWay holders t n u = (eq_by_cmp trans_cmp t u ≡ false) × (agree_held (holding holders u n.0) (Some n.1) ≡ false)
 
-abbrev pub IsClear : Parts → TransId → Resource × Mode → Type 0
-IsClear parts t n = (v : TransId) → IsInWay parts t n v → ⊥
+abbrev pub IsClear : Holders → TransId → Resource × Mode → Type 0
+IsClear holders t n = (v : TransId) → IsInWay holders t n v → ⊥
 
 -- the holder is in the way on one resource, none is on an earlier one, and none that is on it is less
-pub record IsFirstInWay (parts : Parts) (t : TransId) (ns : List (Resource × Mode)) (u : TransId) : Type 0 where
+pub record IsFirstInWay (holders : Holders) (t : TransId) (ns : List (Resource × Mode)) (u : TransId) : Type 0 where
   pub before : List (Resource × Mode)
   pub need : Resource × Mode
   pub after : List (Resource × Mode)
   pub whole : ns ≡ before ++ need ∷ after
-  pub clear : AllByRecursion (IsClear parts t) before
-  pub inway : IsInWay parts t need u
-  pub least : (v : TransId) → IsInWay parts t need v → trans_cmp v u ≡ Less → ⊥
+  pub clear : AllByRecursion (IsClear holders t) before
+  pub inway : IsInWay holders t need u
+  pub least : (v : TransId) → IsInWay holders t need v → trans_cmp v u ≡ Less → ⊥
 
 -- who is named is the first and least in the way, and where nobody is named nobody is in the way
 abbrev pub NamesFirst : Type 0
-NamesFirst = (parts : Parts) (t : TransId) (ns : List (Resource × Mode)) (u : TransId) → blocker parts t ns ≡ Some u → IsFirstInWay parts t ns u
+NamesFirst = (holders : Holders) (t : TransId) (ns : List (Resource × Mode)) (u : TransId) → blocker holders t ns ≡ Some u → IsFirstInWay holders t ns u
 
 abbrev pub NamesAny : Type 0
-NamesAny = (parts : Parts) (t : TransId) (ns : List (Resource × Mode)) → blocker parts t ns ≡ None → AllByRecursion (IsClear parts t) ns
+NamesAny = (holders : Holders) (t : TransId) (ns : List (Resource × Mode)) → blocker holders t ns ≡ None → AllByRecursion (IsClear holders t) ns
 
 -- ---- releases
 

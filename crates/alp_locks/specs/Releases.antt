@@ -4,12 +4,12 @@ use Rattle.std.specs.FinMap as map
 use Rattle.alp_base.specs.declared.ids.TransId.{TransId}
 use Rattle.alp_queue.specs.declared.waiter.Waiter.{Waiter}
 use Rattle.alp_queue.specs.Order.{without}
-use Rattle.alp_locks.specs.Tables.{Parts, Table}
+use Rattle.alp_locks.specs.Tables.{Holders, Table}
 use Rattle.alp_locks.specs.Asks.{blocker}
 
 -- nobody stands in the way of a waiter
-abbrev pub is_free : Parts → Waiter → Bool
-is_free parts w = is_none (blocker parts w.trans w.rises)
+abbrev pub is_free : Holders → Waiter → Bool
+is_free holders w = is_none (blocker holders w.trans w.rises)
 
 -- the waiter has its locks and is woken
 abbrev pub with_woken : Table → Waiter → Table

@@ -6,8 +6,8 @@
 #![tactic(auto)]
 
 mod asking;
+mod holders;
 mod laws;
-mod parts;
 mod plan;
 mod request;
 mod table;

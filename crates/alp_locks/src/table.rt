@@ -7,8 +7,8 @@ ghost use Rattle.alp_locks.specs.Asks.{risen, blocker as blocking, waiter_of, en
 ghost use Rattle.alp_locks.specs.Releases.{released};
 ghost use Rattle.alp_locks.specs.Sound.{IsPrepared, IsSound};
 
-use crate::asking::{blocker, copy_of, rises_of, waiter_for, with_needs};
-use crate::parts::Parts;
+use crate::asking::{blocker, rises_of, waiter_for};
+use crate::holders::Holders;
 use crate::walk::walk;
 use crate::{Grant, Plan, Request};
 use alp_base::{Choice, OutOfMemory, Resource, TransId};
@@ -22,7 +22,7 @@ use std::marker::Model;
 #[derive(Drop)]
 pub struct LockTable {
     alloc: Global,
-    parts: Parts,
+    holders: Holders,
     queue: Queue,
     woken: Vec<TransId>,
 }
@@ -35,9 +35,9 @@ impl Model for LockTable {
 
     ghost coded = { table_code };
 
-    ghost view = { λ t. record { held = t.parts; waiting = t.queue; woken = t.woken.items } };
+    ghost view = { λ t. record { held = t.holders; waiting = t.queue; woken = t.woken.items } };
 
-    ghost invariant = { λ t. (are_known t.parts t.queue ≡ true) × (length t.queue + length t.woken.items ≤ vec_capacity t.woken) };
+    ghost invariant = { λ t. (are_known t.holders t.queue ≡ true) × (length t.queue + length t.woken.items ≤ vec_capacity t.woken) };
 }
 
 impl LockTable {
@@ -48,7 +48,7 @@ impl LockTable {
     {
         LockTable {
             alloc,
-            parts: Parts::new(alloc),
+            holders: Holders::new(alloc),
             queue: Queue::new(alloc),
             woken: Vec::new(alloc),
         }
@@ -58,7 +58,7 @@ impl LockTable {
     pub fn mode_of(&self, trans: TransId, at: &Resource) -> Option<Mode>
         ensures { result ≡ holding self.now.held trans at.now }
     {
-        match self.parts.get(&trans) {
+        match self.holders.get(&trans) {
             Some(locks) => locks.get(at),
             None => None,
         }
@@ -76,9 +76,7 @@ impl LockTable {
     pub fn rising(&self, trans: TransId, needs: &Needs) -> Result<Needs, OutOfMemory>
         ensures { IfOk result (λ n. n ≡ risen (held_of self.now.held trans) needs.now) }
     {
-        let held = copy_of(self.alloc, &self.parts, &trans)?;
-        let after = with_needs(held, needs.as_slice())?;
-        rises_of(self.alloc, &self.parts, &trans, &after)
+        rises_of(self.alloc, &self.holders, &trans, needs.as_slice())
     }
 
     /// The table knows the transaction from now on, as the first grant to it by `take` wants. What
@@ -88,18 +86,19 @@ impl LockTable {
         ensures sound { IsSound self.old → IsSound self.new }
         ensures err { OnErr result (self.new ≡ self.old) }
     {
-        self.parts.enter(self.alloc, trans)?;
+        self.holders.enter(self.alloc, trans)?;
         Ok(())
     }
 
-    /// Makes the needs of a transaction ready to be granted: all of a grant that takes memory.
+    /// Makes the needs of a transaction ready to be granted: all of a grant that takes memory. It costs
+    /// what is asked: what the transaction holds is looked up by resource, and neither copied nor walked.
     ///
     /// Modes that are asked on one resource are joined, and what would not rise is dropped. The
     /// plan stays good as long as what the transaction holds does not change.
     pub fn plan(&self, trans: TransId, needs: Needs) -> Result<Plan, OutOfMemory>
         ensures { IfOk result (λ p. p ≡ waiter_of (held_of self.now.held trans) trans needs) }
     {
-        let waiter = waiter_for(self.alloc, &self.parts, trans, needs)?;
+        let waiter = waiter_for(self.alloc, &self.holders, trans, needs)?;
         Ok(Plan { waiter })
     }
 
@@ -111,7 +110,7 @@ impl LockTable {
         ensures { result ≡ blocking self.now.held plan.now.trans plan.now.rises }
     {
         let waiter = &plan.waiter;
-        blocker(&self.parts, &waiter.trans, waiter.rises.as_slice())
+        blocker(&self.holders, &waiter.trans, waiter.rises.as_slice())
     }
 
     /// Grants a plan to a transaction that the table knows. Takes no memory.
@@ -127,7 +126,7 @@ impl LockTable {
         if waiter.rises.as_slice().is_empty() {
             return;
         }
-        self.parts.replace(waiter.trans, waiter.after);
+        self.holders.replace(waiter.trans, waiter.after);
     }
 
     /// Asks for all the needs of a transaction that does not wait: a plan of them is taken where
@@ -135,7 +134,7 @@ impl LockTable {
     ///
     /// Each resource is judged by itself: whoever asks for a leaf of a file asks for the intention
     /// on the file too, and then modes agree on each leaf (`agreeing_locks_agree_on_leaves` of
-    /// alp_modes).
+    /// alp_files).
     pub fn ask(&mut self, request: Request) -> Result<Grant, OutOfMemory>
         requires { waits self.old.waiting request.trans ≡ false }
         ensures answer { IfOk result (λ g. g ≡ grant_of self.old request) }
@@ -199,7 +198,7 @@ impl LockTable {
     {
         let room = self.queue.waiters().len() + 1;
         self.woken.reserve(room)?;
-        line_up(self.alloc, &mut self.parts, &mut self.queue, waiter)
+        line_up(self.alloc, &mut self.holders, &mut self.queue, waiter)
     }
 
     /// Takes away the locks and the waiting request of that transaction, then tries each waiter in
@@ -208,9 +207,9 @@ impl LockTable {
         ensures after { self.new ≡ released self.old trans }
         ensures sound { IsSound self.old → IsSound self.new }
     {
-        self.parts.remove(&trans);
+        self.holders.remove(&trans);
         self.queue.withdraw(&trans);
-        walk(&mut self.parts, &mut self.queue, &mut self.woken);
+        walk(&mut self.holders, &mut self.queue, &mut self.woken);
     }
 
     /// The transaction that was granted first from the waiting list and not taken yet. Takes no memory.
@@ -229,22 +228,22 @@ impl LockTable {
 // Makes a place for what the waiter will hold, and lets it into the queue.
 fn line_up(
     alloc: Global,
-    parts: &mut Parts,
+    holders: &mut Holders,
     queue: &mut Queue,
     waiter: Waiter,
 ) -> Result<(), OutOfMemory>
-    ensures held { OnOk result (parts.new ≡ map.insert parts.old waiter.trans (held_of parts.old waiter.trans)) }
+    ensures held { OnOk result (holders.new ≡ map.insert holders.old waiter.trans (held_of holders.old waiter.trans)) }
     ensures waiting { OnOk result (queue.new ≡ placed queue.old waiter) }
-    ensures err { OnErr result ((parts.new ≡ parts.old) × (queue.new ≡ queue.old)) }
+    ensures err { OnErr result ((holders.new ≡ holders.old) × (queue.new ≡ queue.old)) }
 {
     let trans = waiter.trans;
-    if !parts.enter(alloc, trans)? {
+    if !holders.enter(alloc, trans)? {
         return queue.enter(waiter);
     }
     match queue.enter(waiter) {
         Ok(()) => Ok(()),
         Err(refused) => {
-            parts.remove(&trans);
+            holders.remove(&trans);
             Err(refused)
         }
     }

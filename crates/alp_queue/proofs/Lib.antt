@@ -1,2 +1,4 @@
 pub mod OrderLemmas
 pub mod LineLemmas
+pub mod SortedLemmas
+pub mod FirstLemmas

@@ -1,2 +1,4 @@
 pub mod Order
 pub mod Rises
+pub mod Trees
+pub mod Conversions

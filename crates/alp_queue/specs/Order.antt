@@ -3,7 +3,7 @@ use Rattle.std.specs.Prelude.{◌≡◌, ℕ, Bool, ◌&&◌, not, cond, List, [
 use Rattle.std.specs.List.{list_any, filter, position_or_len}
 use Rattle.std.specs.Ordering.{eq_by_cmp}
 use Rattle.alp_base.specs.declared.ids.TransId.{TransId}
-use Rattle.alp_modes.specs.Orders.{trans_cmp}
+use Rattle.alp_base.specs.Orders.{trans_cmp}
 use Rattle.alp_queue.specs.declared.waiter.Waiter.{Waiter}
 
 -- a new waiter comes behind those of its kind: a conversion goes before the first that is none

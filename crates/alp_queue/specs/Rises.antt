@@ -5,7 +5,7 @@ use Rattle.std.specs.FinMap as map
 use Rattle.alp_base.specs.declared.key.Resource.{Resource}
 use Rattle.alp_modes.specs.declared.Mode.{Mode}
 use Rattle.alp_modes.specs.contracts.ModePartialEq.TheImpl as mode_eq
-use Rattle.alp_modes.specs.Orders.{resource_cmp}
+use Rattle.alp_base.specs.Orders.{resource_cmp}
 
 -- what a transaction holds: a mode on each resource that it has locked
 abbrev pub Held : Type 0

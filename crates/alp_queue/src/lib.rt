@@ -6,11 +6,14 @@
 #![tactic(auto)]
 
 mod locks;
+mod modes;
 mod needs;
 mod queue;
+mod tree;
 mod waiter;
 
 pub use locks::Locks;
+pub use modes::Modes;
 pub use needs::Needs;
-pub use queue::{Queue, conversions_come_first};
+pub use queue::{Queue, conversions_come_first, conversions_stay_first};
 pub use waiter::Waiter;

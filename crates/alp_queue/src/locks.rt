@@ -1,36 +1,38 @@
 //! What one transaction holds.
-ghost use Rattle.std.specs.Prelude.{◌≡◌, ℕ, IfOk, OnOk, OnErr, not};
-ghost use Rattle.std.specs.List.{filter};
+ghost use Rattle.std.specs.Prelude.{◌≡◌, IfOk};
+ghost use Rattle.std.specs.Option.{option_or};
 ghost use Rattle.std.specs.FinMap as map;
-ghost use Rattle.std.specs.BTreeMap.{IsOrdered};
-ghost use Rattle.alp_modes.specs.Orders.{resource_cmp};
-ghost use Rattle.alp_queue.specs.Rises.{is_raised};
 
-use crate::Needs;
-use alp_base::{Key, OutOfMemory, Resource};
+use crate::Modes;
+use crate::tree::{Tree, get, put_all, share};
+use alp_base::{OutOfMemory, Resource};
 use alp_modes::Mode;
 use std::alloc::Global;
-use std::collections::BTreeMap;
 use std::marker::Model;
 
-/// A mode on each resource that a transaction has locked, seen as a finite map.
+/// A mode on each resource that a transaction has locked, seen as a finite map. It is never changed, and a second one
+/// that is the same, or holds a few more, shares its parts: neither costs a copy of what is held.
 #[derive(Drop)]
 pub struct Locks {
-    modes: BTreeMap<Resource, Mode>,
+    alloc: Global,
+    tree: Tree,
 }
 
 impl Model for Locks {
     ghost use Rattle.std.specs.FinMap as map;
-    ghost use Rattle.alp_modes.specs.Orders.{resource_cmp};
+    ghost use Rattle.alp_base.specs.Orders.{resource_cmp};
     ghost use Rattle.alp_modes.specs.declared.Mode.{Mode as TheMode};
     ghost use Rattle.alp_base.specs.contracts.key.Resource as resource_type;
     ghost use Rattle.alp_modes.specs.contracts.Mode as mode_type;
+    ghost use Rattle.alp_queue.specs.Trees.{entries, AreRising};
 
     ghost Value = { map.FinMap resource_cmp TheMode };
 
     ghost coded = { map.code resource_type.the_row.coded mode_type.the_row.coded };
 
-    ghost view = { λ l. map.from_entries l.modes.entries };
+    ghost view = { λ l. map.from_sorted (entries l.tree) };
+
+    ghost invariant = { λ l. AreRising (entries l.tree) };
 }
 
 impl Locks {
@@ -39,7 +41,8 @@ impl Locks {
         ensures { result ≡ map.empty }
     {
         Locks {
-            modes: BTreeMap::new(alloc),
+            alloc,
+            tree: Tree::Empty,
         }
     }
 
@@ -47,51 +50,29 @@ impl Locks {
     pub fn get(&self, resource: &Resource) -> Option<Mode>
         ensures { result ≡ map.get self.now resource.now }
     {
-        self.modes.get(resource).copied()
+        get(&self.tree, resource)
     }
 
-    /// The mode stands on that resource from now on.
-    pub fn put(&mut self, resource: Resource, mode: Mode) -> Result<(), OutOfMemory>
-        ensures ok { OnOk result (self.new ≡ map.insert self.old resource mode) }
-        ensures err { OnErr result (self.new ≡ self.old) }
-    {
-        // The check of a move of a resource wants the type of keys in sight.
-        let _keys: Option<Key> = None;
-        self.modes.insert(resource, mode)?;
-        Ok(())
-    }
-
-    /// A second map that is the same.
-    pub fn try_clone(&self) -> Result<Locks, OutOfMemory>
+    /// The same locks once more, which copies none of them.
+    pub fn share(&self) -> Result<Locks, OutOfMemory>
         ensures { IfOk result (λ l. l ≡ self.now) }
     {
-        let modes = self.modes.clone()?;
-        Ok(Locks { modes })
+        let tree = share(&self.tree)?;
+        Ok(Locks {
+            alloc: self.alloc,
+            tree,
+        })
     }
 
-    /// The resources whose modes are not those of `before`, in their order, with the modes here.
-    pub fn rises_over(&self, alloc: Global, before: &Locks) -> Result<Needs, OutOfMemory>
-        ensures { IfOk result (λ n. n ≡ filter (is_raised before.now) (map.entries self.now)) }
+    /// These locks with those modes in place of what was there. It costs what is put, and not what is here.
+    pub fn with_all(&self, modes: &Modes) -> Result<Locks, OutOfMemory>
+        ensures { IfOk result (λ l. (r : _) → map.get l r ≡ option_or (map.get modes.now r) (map.get self.now r)) }
     {
-        let rises = raised_in(alloc, &self.modes, before)?;
-        Ok(Needs::new(rises))
+        let list = modes.entries(self.alloc)?;
+        let tree = put_all(self.alloc, &self.tree, list.as_slice())?;
+        Ok(Locks {
+            alloc: self.alloc,
+            tree,
+        })
     }
-}
-
-// The entries of the tree whose modes are not those of before.
-fn raised_in(
-    alloc: Global,
-    modes: &BTreeMap<Resource, Mode>,
-    before: &Locks,
-) -> Result<Vec<(Resource, Mode)>, OutOfMemory>
-    ensures raised { IfOk result (λ v. v.items ≡ filter (is_raised before.now) modes.now.entries) }
-    ensures rising { IsOrdered resource_cmp modes.now }
-{
-    let mut rises = Vec::new(alloc);
-    for (resource, mode) in modes.iter() {
-        if before.get(resource) != Some(*mode) {
-            rises.push((*resource, *mode))?;
-        }
-    }
-    Ok(rises)
 }

@@ -2,6 +2,7 @@
 ghost use Rattle.std.specs.Prelude.{◌≡◌, ◌<◌, [], length, position, not, ◌&&◌, OnOk, OnErr, slice_get, Some};
 ghost use Rattle.std.specs.List.{remove as removed};
 ghost use Rattle.alp_queue.specs.Order.{placed, place_in, waits, without, IsByArrival};
+ghost use Rattle.alp_queue.specs.Conversions.{StaysFirst};
 
 use crate::Waiter;
 use alp_base::{OutOfMemory, TransId};
@@ -101,4 +102,10 @@ fn place_of(waiters: &[Waiter], converts: bool) -> usize
 /// order in which they came.
 pub fn conversions_come_first()
     ensures { IsByArrival }
+{}
+
+/// Conversions stand first and the others behind them: where nobody waits, and after each call that lets a waiter in or
+/// out, whoever leaves and from whatever place.
+pub fn conversions_stay_first()
+    ensures { StaysFirst }
 {}

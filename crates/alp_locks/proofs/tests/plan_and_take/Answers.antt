@@ -3,7 +3,7 @@ use Rattle.std.specs.FinMap as map
 use Rattle.alp_queue.specs.declared.waiter.Waiter.{Waiter}
 use Rattle.alp_locks.specs.Tables.{Table, held_of}
 use Rattle.alp_locks.specs.Asks.{entered}
-use Rattle.alp_locks.proofs.PartLemmas.{insert-knows}
+use Rattle.alp_locks.proofs.HeldLemmas.{insert-knows}
 use Rattle.alp_locks.proofs.tests.plan_and_take.Goals as goal
 
 pub take-requires-clause-known : goal.take-requires-clause-known

@@ -7,7 +7,7 @@ use Rattle.alp_queue.specs.declared.waiter.Waiter.{Waiter}
 use Rattle.alp_locks.specs.Tables.{Table, held_of}
 use Rattle.alp_locks.specs.Asks.{entered, with_granted}
 use Rattle.alp_locks.specs.Sound.{IsPrepared}
-use Rattle.alp_locks.proofs.PartLemmas.{insert-knows}
+use Rattle.alp_locks.proofs.HeldLemmas.{insert-knows}
 use Rattle.alp_locks.proofs.SoundLemmas.{entered-prepared}
 use Rattle.alp_locks.proofs.PlanLemmas.{entered-granted}
 use Rattle.alp_locks.proofs.table.LockTable.grant.Goals as goal

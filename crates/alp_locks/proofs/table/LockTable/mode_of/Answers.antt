@@ -2,7 +2,7 @@ use Rattle.std.proofs.Common.{Option, ap, sym, ◌∙◌, option_copied}
 use Rattle.std.specs.Option.{unwrap_or}
 use Rattle.std.specs.FinMap as map
 use Rattle.std.specs.FinMap.{get-empty}
-use Rattle.alp_modes.specs.Orders.{resource_cmp}
+use Rattle.alp_base.specs.Orders.{resource_cmp}
 use Rattle.alp_queue.specs.Rises.{Held}
 use Rattle.alp_locks.specs.Tables.{Table, holding}
 use Rattle.alp_locks.proofs.table.LockTable.mode_of.Goals as goal

@@ -4,18 +4,18 @@ use Rattle.std.specs.FinMap as map
 use Rattle.alp_base.specs.declared.key.Resource.{Resource}
 use Rattle.alp_modes.specs.declared.Mode.{Mode}
 use Rattle.alp_queue.specs.declared.waiter.Waiter.{Waiter}
-use Rattle.alp_locks.specs.Tables.{Parts, Table, are_known}
+use Rattle.alp_locks.specs.Tables.{Holders, Table, are_known}
 use Rattle.alp_locks.specs.Asks.{with_granted}
 use Rattle.alp_locks.specs.Sound.{IsSound}
-use Rattle.alp_locks.proofs.PartLemmas.{known-insert}
+use Rattle.alp_locks.proofs.HeldLemmas.{known-insert}
 use Rattle.alp_locks.proofs.SoundLemmas.{grant-sound}
 use Rattle.alp_locks.proofs.PlanLemmas.{granted-some}
 use Rattle.alp_locks.proofs.table.LockTable.take.Goals as goal
 
 pub invariant_of-self : goal.invariant_of-self
 invariant_of-self c = (
-  ap (λ (p : Parts). are_known p c.self.inside.queue) c.replace.ensures
-      ∙ known-insert c.self.inside.parts c.plan.inside.waiter.trans c.plan.inside.waiter.after c.self.inside.queue c.self.invariant.0,
+  ap (λ (p : Holders). are_known p c.self.inside.queue) c.replace.ensures
+      ∙ known-insert c.self.inside.holders c.plan.inside.waiter.trans c.plan.inside.waiter.after c.self.inside.queue c.self.invariant.0,
   c.self.invariant.1,
 )
 
@@ -23,7 +23,7 @@ pub returns-clause-sound : goal.returns-clause-sound
 returns-clause-sound c s free idle =
     let t : Table = c.args.self.now in
     let plan : Waiter = c.args.plan in
-    let table : Parts → Table = λ p. record { held = p; waiting = c.self.inside.queue; woken = c.self.inside.woken.items } in
+    let table : Holders → Table = λ p. record { held = p; waiting = c.self.inside.queue; woken = c.self.inside.woken.items } in
     let some : nat_eq (length plan.rises) 0 ≡ false =
     ap (λ (w : Waiter). nat_eq (length w.rises) 0) (sym c.plan.view_is) ∙ ap (λ (rises : List (Resource × Mode)). nat_eq (length rises) 0) (sym c.as_slice.ensures) ∙ sym c.is_empty.ensures ∙ c.if-is_empty.false in
     let here : table c.replace.new.self ≡ with_granted t plan.trans plan.rises plan.after =

@@ -1,10 +1,11 @@
 use Rattle.std.proofs.Common.{ap, sym, ◌∙◌}
 use Rattle.std.specs.FinMap as map
-use Rattle.alp_modes.specs.Orders.{resources_total, exact_resources}
-use Rattle.alp_modes.proofs.TreeLemmas.{get_at}
+use Rattle.std.specs.FinMap.{get-from_sorted}
+use Rattle.alp_base.specs.Orders.{resource_cmp}
+use Rattle.alp_queue.specs.Trees.{entries}
 use Rattle.alp_queue.proofs.locks.Locks.get.Goals as goal
 
 pub returns : goal.returns
 returns c =
-    c.copied.ensures ∙ c.get.ensures.value ∙ sym (get_at resources_total exact_resources c.self.inside.modes.entries c.args.resource.now)
+    c.get.ensures c.self.invariant ∙ sym (get-from_sorted resource_cmp (entries c.self.inside.tree) c.args.resource.now c.self.invariant)
     ∙ ap (λ m. map.get m c.args.resource.now) c.self.view_is
