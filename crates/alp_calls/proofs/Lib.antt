@@ -1,2 +1,4 @@
 pub mod LookLemmas
 pub mod PartLemmas
+pub mod RoomLemmas
+pub mod NoteLemmas

@@ -19,7 +19,7 @@ use Rattle.alp_files.specs.declared.open.Open.{Open}
 use Rattle.alp_calls.specs.declared.part.Part.{Part}
 use Rattle.alp_files.specs.Cells.{Cells, View, has_file, props_in, owner_in, page_in, no_owner, no_props, pages_at}
 use Rattle.alp_files.specs.Edits.{Edit, Put, ChangesBy, over}
-use Rattle.alp_files.specs.Act.{Own, Answer, Look, Ask, run, unless, refused, told, no_answer, admits, is_admin, is_over, over as over_quota, open_at, on_open, on_change, on_props, if_change, is_new, created_file, create_file, open_file, access_tests, read_pages, write_pages, make_owner, ask_pages, page_puts, mark_put, charge_put, opened}
+use Rattle.alp_files.specs.Act.{Own, Answer, Look, Ask, run, unless, refused, replied, no_answer, admits, is_admin, is_over, quota_exceeded, open_at, on_open, on_change, on_props, if_change, is_new, created_file, create_file, open_file, access_tests, read_pages, write_pages, make_owner, ask_pages, page_puts, mark_put, charge_put, opened}
 use Rattle.alp_calls.specs.Parts.{seen, own_of, Performs, Gives, Answers, denied_by}
 
 pub unless-false : (own : Own) (t : Bool) (r : Refusal) (ts : List (Bool × Refusal)) (a : Answer) → t ≡ false → unless own ((t, r) ∷ ts) a ≡ unless own ts a
@@ -31,7 +31,7 @@ performs_as old new a b r e h = subst (λ (x : Answer). Performs old new x r) (s
 
 -- changes of the intents are changes of what the part sees
 told_changes : (old new : Part) (r : Reply) (es : List Edit) → own_of new ≡ own_of old → ChangesBy es old.intents new.intents
-    → Performs old new (told (own_of old) r es) r
+    → Performs old new (replied (own_of old) r es) r
 told_changes old new r es own h = record { reply = refl; own = own; view = h }
 
 pub not-true : (b : Bool) → b ≡ true → not b ≡ false
@@ -45,7 +45,7 @@ pub owner_made : (held : Cells) (old new : Part) (who name : List ℕ) (quota : 
     → own_of new ≡ own_of old
     → Gives held old new reply.Plain (λ own. make_owner own who name quota create)
 owner_made held old new who name quota create none admin h own =
-    let a : Answer = told (own_of old) reply.Plain (Put (OwnerOf name) (cell.Owner (record { name = name; quota = quota; charge = 0; create = create })) ∷ []) in
+    let a : Answer = replied (own_of old) reply.Plain (Put (OwnerOf name) (cell.Owner (record { name = name; quota = quota; charge = 0; create = create })) ∷ []) in
     performs_as old new _ a reply.Plain
     (unless-false (own_of old) (is_some (owner_in (seen held old (OwnerOf name)))) refusal.OwnerExists ((not (is_admin who), refusal.AccessDenied lists.Admin) ∷ []) a none ∙ unless-false (own_of old) (not (is_admin who)) (refusal.AccessDenied lists.Admin) [] a (not-true (is_admin who) admin))
     (told_changes old new reply.Plain _ own h)
@@ -57,15 +57,15 @@ create_by : Own → List ℕ → Props → FileId → Bool → Option OwnerRecor
 create_by own who start f fresh oi = unless own
     ((not (is_some oi), refusal.UnknownOwner)
     ∷ (not (admits (unwrap_or oi no_owner).create who start.owner), refusal.AccessDenied lists.Create)
-    ∷ (is_over (unwrap_or oi no_owner) start.size, over_quota (unwrap_or oi no_owner) start.size) ∷ [])
+    ∷ (is_over (unwrap_or oi no_owner) start.size, quota_exceeded (unwrap_or oi no_owner) start.size) ∷ [])
     (cond fresh (created_file own start (unwrap_or oi no_owner) f) (no_answer own))
 
 create_by-some : (own : Own) (who : List ℕ) (start : Props) (f : FileId) (o : OwnerRecord) → admits o.create who start.owner ≡ true → is_over o start.size ≡ false
     → create_by own who start f true (Some o) ≡ created_file own start o f
 unfolding create_by
 create_by-some own who start f o admitted within =
-    unless-false own _ (refusal.AccessDenied lists.Create) ((is_over o start.size, over_quota o start.size) ∷ []) (created_file own start o f) (not-true _ admitted)
-    ∙ unless-false own _ (over_quota o start.size) [] (created_file own start o f) within
+    unless-false own _ (refusal.AccessDenied lists.Create) ((is_over o start.size, quota_exceeded o start.size) ∷ []) (created_file own start o f) (not-true _ admitted)
+    ∙ unless-false own _ (quota_exceeded o start.size) [] (created_file own start o f) within
 
 is_new-true : (made : List FileId) (f : FileId) (lc : Option cell.the_data) → lc ≡ None → has_file f made ≡ false → is_new f.server made f lc ≡ true
 is_new-true made f lc none fresh =
@@ -114,11 +114,11 @@ pub pages_read : (held : Cells) (old new : Part) (n : ℕ) (r : Run) (o : Open) 
     → ps ≡ pages_at (seen held old) o.file r.first r.count → own_of new ≡ own_of old → ChangesBy [] old.intents new.intents
     → Gives held old new (reply.Pages ps) (λ own. on_open own (open_at own.opens n) (read_pages own r))
 pages_read held old new n r o p ps is there within pages own h =
-    performs_as old new _ (told (own_of old) (reply.Pages ps) []) (reply.Pages ps)
+    performs_as old new _ (replied (own_of old) (reply.Pages ps) []) (reply.Pages ps)
     (on_open-there (seen held old) (own_of old) _ o p (read_pages (own_of old) r) is there
     ∙ cond_run (seen held old) _ _ _ within
     ∙ run-ask_pages (seen held old) o.file r.first r.count _
-    ∙ ap (λ (x : List (List ℕ)). told (own_of old) (reply.Pages x) []) (sym pages))
+    ∙ ap (λ (x : List (List ℕ)). replied (own_of old) (reply.Pages x) []) (sym pages))
     (told_changes old new (reply.Pages ps) [] own h)
 
 -- ---- WritePages
@@ -129,9 +129,9 @@ pub pages_written : (held : Cells) (old new : Part) (n : ℕ) (r : Run) (pages :
     → Gives held old new reply.Plain (λ own. on_change own (open_at own.opens n) (write_pages own r pages))
 pages_written held old new n r pages o p is change there within puts own =
     let es : List Edit = page_puts o.file r.first pages ++ mark_put o.file p (r.first + r.count) in
-    performs_as old new _ (told (own_of old) reply.Plain es) reply.Plain
+    performs_as old new _ (replied (own_of old) reply.Plain es) reply.Plain
     (on_change-there (seen held old) (own_of old) _ o p (write_pages (own_of old) r pages) is change there
-    ∙ unless-false (own_of old) _ (refusal.NoSuchPage p.size) [] (told (own_of old) reply.Plain es) within)
+    ∙ unless-false (own_of old) _ (refusal.NoSuchPage p.size) [] (replied (own_of old) reply.Plain es) within)
     (told_changes old new reply.Plain es own puts)
 
 -- ---- OpenFile

@@ -1,2 +1,4 @@
 pub mod Looks
 pub mod Parts
+pub mod Rooms
+pub mod ServerNotes

@@ -59,7 +59,7 @@ impl Part {
         ensures reads { IfOk result (λ r. ReadsOnly self.old self.new r) }
         ensures last { OnOk result (self.new.last ≤ self.old.last + 1) }
         ensures err { OnErr result (IsAsBefore self.old self.new) }
-        ensures looked { Looks V.tells V.serves V.volume V.held V.may_leave V.left_since V.faults V.allowance vault.old vault.new (fault_in result) }
+        ensures looked { Looks V.Vault vault.old vault.new (fault_in result) }
     {
         let Some(mut owner) = owner_at(vault, &self.intents, start.owner)? else {
             return Ok(Reply::Refused(Refusal::UnknownOwner));
@@ -116,7 +116,7 @@ impl Part {
         ensures reads { IfOk result (λ r. ReadsOnly self.old self.new r) }
         ensures last { OnOk result (self.new.last ≤ self.old.last + 1) }
         ensures err { OnErr result (IsAsBefore self.old self.new) }
-        ensures looked { Looks V.tells V.serves V.volume V.held V.may_leave V.left_since V.faults V.allowance vault.old vault.new (fault_in result) }
+        ensures looked { Looks V.Vault vault.old vault.new (fault_in result) }
     {
         let Some(props) = props_at(vault, &self.intents, file)? else {
             return Ok(Reply::Refused(Refusal::UnknownFile));

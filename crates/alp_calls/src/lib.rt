@@ -8,6 +8,10 @@ mod owner_calls;
 mod page_calls;
 mod part;
 mod perform;
+mod room;
+mod server_notes;
 
 pub use fault::CallFault;
 pub use part::Part;
+pub use room::can_take;
+pub use server_notes::are_server_notes;

@@ -14,10 +14,10 @@ use alp_files::{Cell, CellMap, OwnerRecord, Props};
 use alp_vault::Vault;
 use std::alloc::Global;
 
-fn fetched<V: Vault>(vault: &mut V, key: &Key) -> Result<Option<Cell>, CallFault>
+pub(super) fn fetched<V: Vault>(vault: &mut V, key: &Key) -> Result<Option<Cell>, CallFault>
     requires { IsTrue (V.serves vault.old) }
     ensures cell { IsTrue (V.tells vault.old) → IfOk result (λ c. c ≡ map.get (V.held vault.old).cells key.now) }
-    ensures looked { Looks V.tells V.serves V.volume V.held V.may_leave V.left_since V.faults V.allowance vault.old vault.new (fault_in result) }
+    ensures looked { Looks V.Vault vault.old vault.new (fault_in result) }
 {
     match vault.fetch(key) {
         Ok(cell) => Ok(cell),
@@ -28,7 +28,7 @@ fn fetched<V: Vault>(vault: &mut V, key: &Key) -> Result<Option<Cell>, CallFault
 fn cell_at<V: Vault>(vault: &mut V, intents: &CellMap, key: &Key) -> Result<Option<Cell>, CallFault>
     requires { IsTrue (V.serves vault.old) }
     ensures cell { IsTrue (V.tells vault.old) → IfOk result (λ c. c ≡ over intents.now (map.get (V.held vault.old).cells) key.now) }
-    ensures looked { Looks V.tells V.serves V.volume V.held V.may_leave V.left_since V.faults V.allowance vault.old vault.new (fault_in result) }
+    ensures looked { Looks V.Vault vault.old vault.new (fault_in result) }
 {
     if let Some(cell) = intents.get(key) {
         let copy = cell.clone()?;
@@ -44,7 +44,7 @@ pub(super) fn owner_at<V: Vault>(
 ) -> Result<Option<OwnerRecord>, CallFault>
     requires { IsTrue (V.serves vault.old) }
     ensures owner { IsTrue (V.tells vault.old) → IfOk result (λ o. o ≡ owner_in (over intents.now (map.get (V.held vault.old).cells) (key.OwnerOf name))) }
-    ensures looked { Looks V.tells V.serves V.volume V.held V.may_leave V.left_since V.faults V.allowance vault.old vault.new (fault_in result) }
+    ensures looked { Looks V.Vault vault.old vault.new (fault_in result) }
 {
     match cell_at(vault, intents, &Key::OwnerOf(name))? {
         Some(Cell::Owner(record)) => Ok(Some(record)),
@@ -59,7 +59,7 @@ pub(super) fn props_at<V: Vault>(
 ) -> Result<Option<Props>, CallFault>
     requires { IsTrue (V.serves vault.old) }
     ensures props { IsTrue (V.tells vault.old) → IfOk result (λ p. p ≡ props_in (over intents.now (map.get (V.held vault.old).cells) (key.Leader file))) }
-    ensures looked { Looks V.tells V.serves V.volume V.held V.may_leave V.left_since V.faults V.allowance vault.old vault.new (fault_in result) }
+    ensures looked { Looks V.Vault vault.old vault.new (fault_in result) }
 {
     match cell_at(vault, intents, &Key::Leader(file))? {
         Some(Cell::Leader(props)) => Ok(Some(props)),
@@ -76,7 +76,7 @@ fn page_at<V: Vault>(
 ) -> Result<PageRef, CallFault>
     requires { IsTrue (V.serves vault.old) }
     ensures page { IsTrue (V.tells vault.old) → IfOk result (λ p. p ≡ page_in (over intents.now (map.get (V.held vault.old).cells) (key.PageOf file number))) }
-    ensures looked { Looks V.tells V.serves V.volume V.held V.may_leave V.left_since V.faults V.allowance vault.old vault.new (fault_in result) }
+    ensures looked { Looks V.Vault vault.old vault.new (fault_in result) }
 {
     match cell_at(vault, intents, &Key::PageOf(file, number))? {
         Some(Cell::Page(page)) => Ok(page),
@@ -98,7 +98,7 @@ fn push_page<V: Vault>(
 ) -> Result<(), CallFault>
     requires { IsTrue (V.serves vault.old) }
     ensures page { IsTrue (V.tells vault.old) → OnOk result (pages.new.items ≡ pages.old.items ++ page_in (over intents.now (map.get (V.held vault.old).cells) (key.PageOf file number)) ∷ []) }
-    ensures looked { Looks V.tells V.serves V.volume V.held V.may_leave V.left_since V.faults V.allowance vault.old vault.new (fault_in result) }
+    ensures looked { Looks V.Vault vault.old vault.new (fault_in result) }
 {
     let next = page_at(alloc, vault, intents, file, number)?;
     pages.push(next)?;
@@ -116,7 +116,7 @@ pub(super) fn pages_of<V: Vault>(
     requires serving { IsTrue (V.serves vault.old) }
     requires numbers { run.first + run.count < 2 ^ 32 }
     ensures pages { IsTrue (V.tells vault.old) → IfOk result (λ l. l ≡ pages_at (over intents.now (map.get (V.held vault.old).cells)) file run.first run.count) }
-    ensures looked { Looks V.tells V.serves V.volume V.held V.may_leave V.left_since V.faults V.allowance vault.old vault.new (fault_in result) }
+    ensures looked { Looks V.Vault vault.old vault.new (fault_in result) }
 {
     let mut pages = Vec::new(alloc);
     for i in 0..run.count {

@@ -10,8 +10,8 @@ use Rattle.alp_base.specs.declared.choices.Access.{Access}
 use Rattle.alp_base.specs.declared.choices.Access.TheVariants.{Change}
 use Rattle.alp_modes.specs.declared.Mode.{Mode}
 use Rattle.alp_modes.specs.declared.Mode.TheVariants.{Write}
-use Rattle.alp_modes.specs.Holdings.{Holding, join_held, covers_held, held_by}
-use Rattle.alp_modes.proofs.HoldingLemmas.{none-right, join_held-assoc, held_by-append}
+use Rattle.alp_files.specs.Holdings.{Holding, join_held, covers_held, held_by}
+use Rattle.alp_files.proofs.HoldingLemmas.{none-right, join_held-assoc, held_by-append}
 use Rattle.alp_files.specs.declared.reply.Reply.{Reply}
 use Rattle.alp_files.specs.declared.reply.Reply.TheVariants as reply
 use Rattle.alp_files.specs.declared.refusal.Refusal.{Refusal}
@@ -23,7 +23,7 @@ use Rattle.alp_files.specs.Act.{Own, Answer, run, id_in, unless, refused, no_ans
 use Rattle.alp_files.specs.Cells.{View, owner_in, props_in}
 use Rattle.alp_files.specs.Locks.{IsMore, with_made}
 use Rattle.alp_files.proofs.CoverLemmas.{right-above, joined-more}
-use Rattle.alp_node.specs.Kept.{IsLocked, mode_for}
+use Rattle.alp_node.specs.ServerState.{IsLocked, mode_for}
 use Rattle.alp_node.proofs.LockLemmas.{itself, write_covers}
 
 -- ---- what such a call opens

@@ -10,7 +10,7 @@ use Rattle.alp_base.specs.declared.key.Resource.{Resource}
 use Rattle.alp_base.specs.declared.key.Key.{Key}
 use Rattle.alp_base.specs.declared.key.Key.TheVariants.{Leader}
 use Rattle.alp_base.specs.declared.key.Resource.TheVariants.{Whole}
-use Rattle.alp_modes.specs.Holdings.{Holding}
+use Rattle.alp_files.specs.Holdings.{Holding}
 use Rattle.alp_files.specs.declared.open.Open.{Open}
 use Rattle.alp_files.specs.Act.{Own, Answer, answer, id_in}
 use Rattle.alp_files.specs.Born.{count_after, IsUnborn}
@@ -36,10 +36,10 @@ use Rattle.alp_calls.specs.declared.fault.CallFault.{CallFault}
 use Rattle.alp_calls.specs.declared.part.Part.{Part}
 use Rattle.alp_calls.specs.Parts.{seen, own_of, Performs, AnswersCall, GivesOnly, ReadsOnly, IsAsBefore}
 use Rattle.alp_node.specs.Calls.{Outcome, Performed, next_file}
-use Rattle.alp_node.specs.Kept.{LiveMap, IsLife, IsAlike, IsAs, IsLocked, mode_for, PutNoneBeyond, ids_to, told_session}
+use Rattle.alp_node.specs.ServerState.{LiveMap, IsLife, IsAlike, IsAs, IsLocked, mode_for, PutNoneBeyond, ids_to, told_session}
 use Rattle.alp_node.specs.Steps.{IsTurn, counted_in}
 use Rattle.alp_node.specs.declared.sessions.Turn.{Turn}
-use Rattle.alp_node.specs.declared.kept.Kept.{Kept}
+use Rattle.alp_node.specs.declared.server_state.ServerState.{ServerState}
 use Rattle.alp_node.specs.declared.lives.Live.{Live}
 use Rattle.alp_node.proofs.MapLemmas.{put_twice, get_put, places_set}
 use Rattle.alp_node.proofs.KeptLemmas.{IsLive, live_there, over_empty, alike_set, each_set, sessions_as}
@@ -53,7 +53,7 @@ outcome_of tells cells id l p c (Ok r) right given own kind reads last err = rec
 outcome_of tells cells id l p c (Err e) right given own kind reads last err = err
 
 -- the part was taken out, performed the call, and was put back
-pub performed_so : {V : Type 0} (tells : Bool) (cells : Cells) (old : Kept V) (v : V) (t : TransId) (l found blank : Live) (p : Part) (c : Call) (r : Result Reply CallFault) (taken lives : LiveMap) (id : FileId) → id ≡ next_file old
+pub performed_so : {V : Type 0} (tells : Bool) (cells : Cells) (old : ServerState V) (v : V) (t : TransId) (l found blank : Live) (p : Part) (c : Call) (r : Result Reply CallFault) (taken lives : LiveMap) (id : FileId) → id ≡ next_file old
     → map.get old.lives t ≡ Some l → map.get old.lives t ≡ Some found → taken ≡ map.insert old.lives t blank → lives ≡ map.insert taken t (record found { part = p })
     → (IsTrue tells → IfOk r (AnswersCall cells found.part p found.who id c)) → IfOk r (GivesOnly id) → IfOk r (λ x. is_passing x ≡ false) → IfOk r IsFileReply → IfOk r (ReadsOnly found.part p)
     → OnOk r (p.last ≤ found.part.last + 1) → OnErr r (IsAsBefore found.part p) → Performed tells cells old (record old { lives = lives; vault = v }) t l c r
@@ -68,7 +68,7 @@ performed_so tells cells old v t l found blank p c r taken lives id next there w
 
 -- ---- what a part sees, and its next file
 
-module _ {V : Type 0} (o : Start) (s : State) (held : Contents) (k : Kept V) where
+module _ {V : Type 0} (o : Start) (s : State) (held : Contents) (k : ServerState V) where
   -- through its intents a live part sees what the journal says that it sees
   pub sees : (t : TransId) (l : Live) (life : Life) → IsAs o s held k → k.is_down ≡ false → IsLife k.locks.held t l life → seen held.cells l.part ≡ view_in s life
   sees t l life h up is =
@@ -130,8 +130,8 @@ locked_more : (a b : Holding) → IsMore a b → (os : List Open) → AllByRecur
 locked_more a b more [] h = tt
 locked_more a b more (x ∷ os) h = (more (Whole x.file) (mode_for x.access) h.0, locked_more a b more os h.1)
 
-module _ {V : Type 0} (o : Start) (s : State) (held : Contents) (k : Kept V) (turn : Turn) (t : TransId) (l : Live) (p : Part) (c : Call) (r : Reply) (locks : Table) (v : V) where
-  abbrev pub done_kept : Kept V
+module _ {V : Type 0} (o : Start) (s : State) (held : Contents) (k : ServerState V) (turn : Turn) (t : TransId) (l : Live) (p : Part) (c : Call) (r : Reply) (locks : Table) (v : V) where
+  abbrev pub done_kept : ServerState V
   done_kept = record k { sessions = counted_in k.sessions turn; given = count_after k.given r; lives = map.insert k.lives t (record l { part = p }); locks = locks; vault = v }
 
   -- the part gave what the journal says that a thread is answered
@@ -183,7 +183,7 @@ made_now server epoch count (reply.Committed x) only = refl
 made_now server epoch count (reply.Ended e) only = refl
 made_now server epoch count (reply.Refused f) only = refl
 
-module _ {V : Type 0} (o : Start) (s : State) (held : Contents) (k : Kept V) (turn : Turn) (t : TransId) (l : Live) (p : Part) (c : Call) (r : Reply) (locks : Table) (v : V) (life : Life) (under : Holding) where
+module _ {V : Type 0} (o : Start) (s : State) (held : Contents) (k : ServerState V) (turn : Turn) (t : TransId) (l : Live) (p : Part) (c : Call) (r : Reply) (locks : Table) (v : V) (life : Life) (under : Holding) where
   -- the part as it was, under these locks
   abbrev pub life_under : Life
   life_under = record life { held = under }

@@ -17,17 +17,17 @@ use Rattle.alp_base.specs.declared.key.Resource.{Resource}
 use Rattle.alp_base.specs.declared.key.Resource.TheVariants.{Whole}
 use Rattle.alp_modes.specs.declared.Mode.{Mode}
 use Rattle.alp_modes.specs.declared.Mode.TheVariants.{Write}
-use Rattle.alp_modes.specs.Orders.{trans_cmp, resource_cmp, transactions_total, resources_total, exact_resources}
-use Rattle.alp_modes.specs.Holdings.{join_held, agree_held, held_by, DoAgree}
-use Rattle.alp_modes.proofs.HoldingLemmas.{agree-turned, join_held-assoc, held_by-append, none-right}
+use Rattle.alp_base.specs.Orders.{trans_cmp, resource_cmp, transactions_total, resources_total, exact_resources}
+use Rattle.alp_files.specs.Holdings.{join_held, agree_held, held_by, DoAgree}
+use Rattle.alp_files.proofs.HoldingLemmas.{agree-turned, join_held-assoc, held_by-append, none-right}
 use Rattle.alp_files.specs.declared.call.Call.{Call}
 use Rattle.alp_files.specs.declared.call.Call.TheVariants as call
 use Rattle.alp_files.specs.Locks.{Need}
 use Rattle.alp_queue.specs.Rises.{Held, is_raised}
-use Rattle.alp_locks.specs.Tables.{Parts, held_of, holding, IsAgreeing}
+use Rattle.alp_locks.specs.Tables.{Holders, held_of, holding, IsAgreeing}
 use Rattle.alp_locks.specs.Asks.{blocker, joined, risen}
 use Rattle.alp_locks.specs.Laws.{IsClear, IsFirstInWay}
-use Rattle.alp_locks.proofs.PartLemmas.{tied}
+use Rattle.alp_locks.proofs.HeldLemmas.{tied}
 use Rattle.alp_locks.proofs.FreeLemmas.{granted-agrees, option-same, some-none, some-same}
 use Rattle.alp_locks.proofs.HolderLemmas.{names-first}
 use Rattle.alp_locks.proofs.LawLemmas.{joined-holds}
@@ -37,8 +37,8 @@ use Rattle.alp_journal.specs.State.{State, Start, Life, view_in, held_for}
 use Rattle.alp_journal.specs.Causes.{IsInWay, IsLeastHolder}
 use Rattle.alp_node.specs.Asks.{asks_of, asks_made}
 use Rattle.alp_node.specs.Calls.{IsLockCall}
-use Rattle.alp_node.specs.Kept.{IsAs, IsAlike, IsLife}
-use Rattle.alp_node.specs.declared.kept.Kept.{Kept}
+use Rattle.alp_node.specs.ServerState.{IsAs, IsAlike, IsLife}
+use Rattle.alp_node.specs.declared.server_state.ServerState.{ServerState}
 use Rattle.alp_node.specs.declared.lives.Live.{Live}
 use Rattle.alp_node.proofs.LockLemmas.{asks_right}
 use Rattle.alp_node.proofs.MapLemmas.{tied_same}
@@ -150,7 +150,7 @@ no_greater a b not_less = ap is_gt (transactions_total.antisymm a b) ∙ go (tra
     go Equal no_less = refl
     go Greater no_less = refl
 
-module _ (parts : Parts) (t : TransId) (asks : List Need) where
+module _ (parts : Holders) (t : TransId) (asks : List Need) where
   -- what the asker would hold
   abbrev pub then_held : Held
   then_held = joined (held_of parts t) asks
@@ -220,7 +220,7 @@ module _ (parts : Parts) (t : TransId) (asks : List Need) where
 
 -- ---- the lock of a file that is being made
 
-module _ (parts : Parts) (t : TransId) (id : FileId) where
+module _ (parts : Holders) (t : TransId) (id : FileId) where
   -- where nobody holds the file, its lock agrees with all that is held
   with_file : (u : TransId) (asks : List Need) → holding parts u (Whole id) ≡ None → DoAgree (map.get (then_held parts t asks)) (holding parts u)
       → DoAgree (map.get (then_held parts t (asks ++ (Whole id, Write) ∷ []))) (holding parts u)
@@ -251,23 +251,23 @@ module _ (parts : Parts) (t : TransId) (id : FileId) where
 -- ---- as the journal tells it
 
 -- what others hold
-pub held_elsewhere : (locks : Parts) (u : TransId) (y : Option Live) (m : Life) → IsAlike locks u y (Some m) → (q : Resource) → m.held q ≡ holding locks u q
+pub held_elsewhere : (locks : Holders) (u : TransId) (y : Option Live) (m : Life) → IsAlike locks u y (Some m) → (q : Resource) → m.held q ≡ holding locks u q
 held_elsewhere locks u None m wrong q = absurd wrong
 held_elsewhere locks u (Some z) m life q = life.held q
 
 -- who holds a lock is live
-record HasLife (locks : Parts) (u : TransId) (x : Option Life) : Type 0 where
+record HasLife (locks : Holders) (u : TransId) (x : Option Life) : Type 0 where
   life : Life
   is : x ≡ Some life
   held : (q : Resource) → life.held q ≡ holding locks u q
 
-holder_lives : (locks : Parts) (u : TransId) (y : Option Live) (x : Option Life) → IsAlike locks u y x → (r : Resource) (b : Option Mode) → agree_held (holding locks u r) b ≡ false → HasLife locks u x
+holder_lives : (locks : Holders) (u : TransId) (y : Option Live) (x : Option Life) → IsAlike locks u y x → (r : Resource) (b : Option Mode) → agree_held (holding locks u r) b ≡ false → HasLife locks u x
 holder_lives locks u None None alike r b e = let wrong : true ≡ false = ap (λ (z : Option Mode). agree_held z b) (sym (alike r)) ∙ e in cc
 holder_lives locks u (Some l) (Some life) alike r b e = record { life = life; is = refl; held = alike.held }
 holder_lives locks u None (Some life) alike r b e = absurd alike
 holder_lives locks u (Some l) None alike r b e = absurd alike
 
-module _ {V : Type 0} (o : Start) (s : State) (held : Contents) (k : Kept V) (t : TransId) (l : Live) (life : Life) (c : Call) (h : IsAs o s held k) (mine : IsLife k.locks.held t l life) (kind : IsLockCall c) where
+module _ {V : Type 0} (o : Start) (s : State) (held : Contents) (k : ServerState V) (t : TransId) (l : Live) (life : Life) (c : Call) (h : IsAs o s held k) (mine : IsLife k.locks.held t l life) (kind : IsLockCall c) where
   -- what the part would hold is what the table's plan leaves
   pub would_hold : (q : Resource) → held_for s life c q ≡ map.get (then_held k.locks.held t (asks_of c)) q
   would_hold q =

@@ -20,12 +20,13 @@ use Rattle.alp_journal.specs.declared.event.Event.{Event}
 use Rattle.alp_journal.specs.State.{is_stop}
 use Rattle.alp_journal.specs.Causes.{halts_told}
 use Rattle.alp_vault.specs.Contents.{Contents}
+use Rattle.alp_vault.specs.declared.vault.Vault.{Ghosts}
 use Rattle.alp_node.specs.Halts.{HaveCauses}
 use Rattle.alp_files.proofs.UndoLemmas.{on_err}
-use Rattle.alp_node.specs.Kept.{IsReady}
+use Rattle.alp_node.specs.ServerState.{IsReady}
 use Rattle.alp_node.specs.Steps.{Stepped, IsGiven, IsHalted, IsSeated, IsStill, IsStep, is_call}
 use Rattle.alp_node.specs.declared.answer.Answer.{Answer}
-use Rattle.alp_node.specs.declared.kept.Kept.{Kept}
+use Rattle.alp_node.specs.declared.server_state.ServerState.{ServerState}
 
 -- ---- answers
 
@@ -95,12 +96,12 @@ pub decision_written : (stamp : Stamp) → IsWrite (act.Decided stamp [] ∷ [])
 decision_written stamp = record { failed = record { halts = refl; ends = refl; causes = λ m n a h. h }; stopped = record { halts = refl; ends = refl; causes = λ m n a h. h } }
 
 -- an answer that says so
-pub halted_given : {V : Type 0} (faults : V → ℕ) (allowance : V → Allowance) (before : ℕ) (acts : List Act) (fault : CallFault) (r : Result Answer OutOfMemory) (new so : Kept V) → IsWrite acts
+pub halted_given : {V : Type 0} (faults : V → ℕ) (allowance : V → Allowance) (before : ℕ) (acts : List Act) (fault : CallFault) (r : Result Answer OutOfMemory) (new so : ServerState V) → IsWrite acts
     → (fault ≡ call_fault.Failed → Rose before (faults so.vault)) → (fault ≡ call_fault.Stopped → allowance so.vault ≡ Spent) → so.is_down ≡ true
     → IfOk r (IsHalted acts fault) → OnOk r (new ≡ so) → IfOk r (IsGiven true before (faults new.vault) (allowance new.vault) new.is_down)
 halted_given faults allowance before acts fault (Err e) new so write failed stopped down is same = tt
 halted_given {V} faults allowance before acts fault (Ok a) new so write failed stopped down is same =
-    subst (λ (x : Kept V). IsGiven true before (faults x.vault) (allowance x.vault) x.is_down a) (sym same) (go fault failed stopped is)
+    subst (λ (x : ServerState V). IsGiven true before (faults x.vault) (allowance x.vault) x.is_down a) (sym same) (go fault failed stopped is)
   where
     go : (f : CallFault) → (f ≡ call_fault.Failed → Rose before (faults so.vault)) → (f ≡ call_fault.Stopped → allowance so.vault ≡ Spent) → IsHalted acts f a
         → IsGiven true before (faults so.vault) (allowance so.vault) so.is_down a
@@ -114,19 +115,19 @@ halted_given {V} faults allowance before acts fault (Ok a) new so write failed s
 
 -- ---- steps without an answer
 
-module _ {V : Type 0} (tells serves : V → Bool) (held : V → Contents) (faults : V → ℕ) (allowance : V → Allowance) (old new : Kept V) where
-  pub wanting : (e : Event) (r : Result Answer OutOfMemory) → IsErr r → IsStill serves held old new → IsSeated allowance old new → tells new.vault ≡ tells old.vault → IsStep tells serves held faults allowance old new e r
+module _ {V : Type 0} (G : Ghosts V) (old new : ServerState V) where
+  pub wanting : (e : Event) (r : Result Answer OutOfMemory) → IsErr r → IsStill G.serves G.held old new → IsSeated G.allowance old new → G.tells new.vault ≡ G.tells old.vault → IsStep G old new e r
   wanting e r err still seat telling = record {
-    stepped = λ told o s h. IfOk-from_err r (Stepped o s (held new.vault) new e) err;
-    given = IfOk-from_err r (IsGiven (is_call e) (faults old.vault) (faults new.vault) (allowance new.vault) new.is_down) err;
-    ready = λ n h. IfOk-from_err r (λ _. IsReady (n + 1) (serves new.vault) new) err;
-    still = on_err r (IsStill serves held old new) still;
+    stepped = λ told o s h. IfOk-from_err r (Stepped o s (G.held new.vault) new e) err;
+    given = IfOk-from_err r (IsGiven (is_call e) (G.faults old.vault) (G.faults new.vault) (G.allowance new.vault) new.is_down) err;
+    ready = λ n h. IfOk-from_err r (λ _. IsReady (n + 1) (G.serves new.vault) new) err;
+    still = on_err r (IsStill G.serves G.held old new) still;
     seat = seat;
     telling = telling;
   }
 
 -- where a vault gave no answer for want of memory
-pub halted_still : {V : Type 0} (serves : V → Bool) (held : V → Contents) (old mid new : Kept V) (fault : CallFault) (r : Result Answer OutOfMemory) → (fault ≡ call_fault.OutOfMemory → IsStill serves held old mid)
+pub halted_still : {V : Type 0} (serves : V → Bool) (held : V → Contents) (old mid new : ServerState V) (fault : CallFault) (r : Result Answer OutOfMemory) → (fault ≡ call_fault.OutOfMemory → IsStill serves held old mid)
     → OnErr r (fault ≡ call_fault.OutOfMemory) → OnErr r (new ≡ mid) → OnErr r (IsStill serves held old new)
 halted_still serves held old mid new fault (Ok a) still memory same = tt
 halted_still serves held old mid new fault (Err e) still memory same = subst (IsStill serves held old) (sym same) (still memory)

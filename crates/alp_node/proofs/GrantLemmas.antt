@@ -6,8 +6,8 @@ use Rattle.std.proofs.Common.{inl, inr, ◌≡◌, ℕ, zero, suc, ◌+◌, ◌<
 use Rattle.alp_base.specs.declared.ids.FileId.{FileId}
 use Rattle.alp_base.specs.declared.ids.TransId.{TransId}
 use Rattle.alp_base.specs.declared.key.Resource.{Resource}
-use Rattle.alp_modes.specs.Holdings.{Holding, join_held, held_by, DoAgree}
-use Rattle.alp_modes.proofs.HoldingLemmas.{join_held-assoc, held_by-append, agree-turned}
+use Rattle.alp_files.specs.Holdings.{Holding, join_held, held_by, DoAgree}
+use Rattle.alp_files.proofs.HoldingLemmas.{join_held-assoc, held_by-append, agree-turned}
 use Rattle.alp_files.specs.declared.call.Call.{Call}
 use Rattle.alp_files.specs.declared.call.Call.TheVariants as call
 use Rattle.alp_files.specs.declared.reply.Reply.{Reply}
@@ -17,8 +17,8 @@ use Rattle.alp_base.specs.declared.choices.Access.TheVariants.{ReadOnly, Change}
 use Rattle.alp_base.specs.declared.key.Resource.TheVariants.{Whole}
 use Rattle.alp_modes.specs.declared.Mode.{Mode}
 use Rattle.alp_modes.specs.declared.Mode.TheVariants.{Write}
-use Rattle.alp_modes.specs.Orders.{trans_cmp, resource_cmp, exact_resources}
-use Rattle.alp_modes.specs.Holdings.{covers_held}
+use Rattle.alp_base.specs.Orders.{trans_cmp, resource_cmp, exact_resources}
+use Rattle.alp_files.specs.Holdings.{covers_held}
 use Rattle.std.specs.Ordering.{eq_by_cmp}
 use Rattle.alp_files.specs.Act.{Own, answer, id_in}
 use Rattle.alp_files.specs.Cells.{View}
@@ -33,7 +33,7 @@ use Rattle.alp_queue.specs.declared.waiter.Waiter.{Waiter}
 use Rattle.alp_queue.specs.Order.{waits}
 use Rattle.alp_locks.specs.Tables.{Table, holding}
 use Rattle.alp_locks.specs.Asks.{blocker, with_granted}
-use Rattle.alp_locks.proofs.PartLemmas.{insert-keeps, tied}
+use Rattle.alp_locks.proofs.HeldLemmas.{insert-keeps, tied}
 use Rattle.alp_locks.proofs.LawLemmas.{all-of-plan}
 use Rattle.alp_locks.proofs.SoundLemmas.{grant-sound}
 use Rattle.alp_queue.specs.Rises.{Held}
@@ -49,7 +49,7 @@ use Rattle.alp_journal.specs.Causes as causes
 use Rattle.alp_journal.specs.Causes.{is_of_unknown, IsFileAnswer}
 use Rattle.alp_node.specs.Asks.{is_of_given, is_given, asks_of, asks_made, asks_given, is_made, plan_for, count_made, plan_of, with_plan}
 use Rattle.alp_node.specs.Calls.{IsLockCall, Gave, next_file}
-use Rattle.alp_node.specs.Kept.{IsAs, IsReady, IsAlike, IsLocked, mode_for, ids_to, told_session}
+use Rattle.alp_node.specs.ServerState.{IsAs, IsReady, IsAlike, IsLocked, mode_for, ids_to, told_session}
 use Rattle.alp_node.specs.Steps.{Stepped, IsTurn, counted_in, seen_in}
 use Rattle.alp_node.specs.declared.answer.Answer.{Answer as Handed}
 use Rattle.alp_node.specs.declared.sessions.Turn.{Turn}
@@ -67,7 +67,7 @@ use Rattle.alp_files.specs.declared.refusal.Refusal.{Refusal}
 use Rattle.alp_files.specs.declared.refusal.Refusal.TheVariants as refusal
 use Rattle.alp_journal.specs.State as journal
 use Rattle.alp_files.specs.Cells.{same_file}
-use Rattle.alp_node.specs.declared.kept.Kept.{Kept}
+use Rattle.alp_node.specs.declared.server_state.ServerState.{ServerState}
 use Rattle.alp_node.specs.declared.lives.Live.{Live}
 use Rattle.alp_node.proofs.AskLemmas.{OpensLocked, open_none, owner_none, more_locked, open_locked, owner_locked, create_locked}
 use Rattle.alp_node.proofs.LockLemmas.{itself, read_covers, write_covers, asks_right, taken_own, taken_other, taken_agrees}
@@ -121,7 +121,7 @@ free_either locks t id c (reply.Ended y) asked made = asked
 free_either locks t id c (reply.Refused y) asked made = asked
 
 -- so nobody does where the file that may be made is nobody's
-pub free_given : {V : Type 0} (m : ℕ) (serves : Bool) (k : Kept V) (t : TransId) (c : Call) (r : Reply) → IsReady m serves k → blocker k.locks.held t (plan_of k.locks t (asks_of c)).rises ≡ None
+pub free_given : {V : Type 0} (m : ℕ) (serves : Bool) (k : ServerState V) (t : TransId) (c : Call) (r : Reply) → IsReady m serves k → blocker k.locks.held t (plan_of k.locks t (asks_of c)).rises ≡ None
     → blocker k.locks.held t (plan_of k.locks t (asks_given (next_file k) c r)).rises ≡ None
 free_given m serves k t c r h free =
     free_either k.locks t (next_file k) c r free (made_free k.locks.held t (next_file k) c h.sound.agreeing (λ u. h.unheld u (k.given + 1) (omega arith)) free)
@@ -334,7 +334,7 @@ known_given server epoch count f e =
     ∙ or_so (nat_lt f.epoch epoch) (has_file f (ids_to server epoch count)) (f.epoch == epoch && nat_le f.counter count) (among_ids server epoch count f) (and_right _ _ e)
 
 -- the open of an id that was never given is not performed
-pub unknown_file : {V : Type 0} (o : Start) (s : State) (held : Contents) (k : Kept V) (f : FileId) → IsAs o s held k → is_given k.server k.epoch k.given f ≡ false → journal.is_given s f ≡ false
+pub unknown_file : {V : Type 0} (o : Start) (s : State) (held : Contents) (k : ServerState V) (f : FileId) → IsAs o s held k → is_given k.server k.epoch k.given f ≡ false → journal.is_given s f ≡ false
 unknown_file o s held k f h none = go (journal.is_given s f) refl
   where
     go : (b : Bool) → journal.is_given s f ≡ b → journal.is_given s f ≡ false
@@ -347,12 +347,12 @@ unknown_file o s held k f h none = go (journal.is_given s f) refl
         let wrong : true ≡ false = sym here ∙ none in cc
 
 -- so an open of a file that was given is performed
-known_file : {V : Type 0} (o : Start) (s : State) (held : Contents) (k : Kept V) (f : FileId) → IsAs o s held k → is_given k.server k.epoch k.given f ≡ true → journal.is_given s f ≡ true
+known_file : {V : Type 0} (o : Start) (s : State) (held : Contents) (k : ServerState V) (f : FileId) → IsAs o s held k → is_given k.server k.epoch k.given f ≡ true → journal.is_given s f ≡ true
 known_file o s held k f h given =
     ap (λ (fs : List FileId). f.server == s.server && nat_lt 0 f.epoch && nat_lt 0 f.counter && (nat_lt f.epoch s.epoch || has_file f fs)) h.made
     ∙ given_known s.server s.epoch k.given f ((λ i. is_given (h.server i) (h.epoch i) k.given f) ∙ given)
 
-of_given : {V : Type 0} (o : Start) (s : State) (held : Contents) (k : Kept V) (c : Call) (r : Reply) → IsAs o s held k → is_of_given k.server k.epoch k.given c ≡ true → is_of_no_file s c r ≡ false
+of_given : {V : Type 0} (o : Start) (s : State) (held : Contents) (k : ServerState V) (c : Call) (r : Reply) → IsAs o s held k → is_of_given k.server k.epoch k.given c ≡ true → is_of_no_file s c r ≡ false
 of_given o s held k (call.OpenFile t g a mode choice) (reply.Refused refusal.UnknownFile) h given = ap not (known_file o s held k g h given)
 of_given o s held k (call.OpenFile t g a mode choice) (reply.Created f n) h given = refl
 of_given o s held k (call.OpenFile t g a mode choice) (reply.Welcome y) h given = refl
@@ -406,7 +406,7 @@ of_given o s held k (call.Outcome t) r h given = refl
 of_given o s held k (call.Collect n) r h given = refl
 
 -- a call that opens a file is of one that was given
-pub of_known : {V : Type 0} (o : Start) (s : State) (held : Contents) (k : Kept V) (c : Call) → IsAs o s held k → is_of_given k.server k.epoch k.given c ≡ true → is_of_unknown s c ≡ false
+pub of_known : {V : Type 0} (o : Start) (s : State) (held : Contents) (k : ServerState V) (c : Call) → IsAs o s held k → is_of_given k.server k.epoch k.given c ≡ true → is_of_unknown s c ≡ false
 of_known o s held k (call.OpenFile t g a mode choice) h given = ap not (known_file o s held k g h given)
 of_known o s held k c h given = refl
 
@@ -415,7 +415,7 @@ counted_ids : (server epoch n : ℕ) → length (ids_to server epoch n) ≡ n
 counted_ids server epoch zero = refl
 counted_ids server epoch (suc n) = ap suc (counted_ids server epoch n)
 
-pub next_told : {V : Type 0} (o : Start) (s : State) (held : Contents) (k : Kept V) → IsAs o s held k → next_file k ≡ causes.next_file s
+pub next_told : {V : Type 0} (o : Start) (s : State) (held : Contents) (k : ServerState V) → IsAs o s held k → next_file k ≡ causes.next_file s
 next_told o s held k h = λ i. record { server = sym h.server i; epoch = sym h.epoch i; counter = sym (ap (λ (fs : List FileId). length fs + 1) h.made ∙ ap (λ (n : ℕ). n + 1) (counted_ids s.server s.epoch k.given)) i }
 
 same_id : (g f : FileId) → Some g ≡ Some f → f ≡ g
@@ -441,7 +441,7 @@ id_given id f (reply.Refused y) e only = let wrong : None ≡ Some f = e in cc
 same_agree : (a b x y : Holding) → ((q : Resource) → a q ≡ x q) → ((q : Resource) → b q ≡ y q) → DoAgree x y → DoAgree a b
 same_agree a b x y first second agree = subst (λ (z : Holding). DoAgree z b) (λ i q. sym (first q) i) (subst (DoAgree x) (λ i q. sym (second q) i) agree)
 
-module _ {V : Type 0} (o : Start) (s : State) (held : Contents) (k : Kept V) (turn : Turn) (t : TransId) (l : Live) (p : Part) (c : Call) (r : Reply) (v : V) where
+module _ {V : Type 0} (o : Start) (s : State) (held : Contents) (k : ServerState V) (turn : Turn) (t : TransId) (l : Live) (p : Part) (c : Call) (r : Reply) (v : V) where
   abbrev pub plan : Waiter
   plan = plan_of k.locks t (asks_given (next_file k) c r)
 
@@ -493,7 +493,7 @@ module _ {V : Type 0} (o : Start) (s : State) (held : Contents) (k : Kept V) (tu
       (in_turn o s held k turn.client turn.session turn.number c h is.session is.number single.kind) (file_cause s turn.client c t life r (act.Granted t ∷ []) of x.is (x.alike.client ∙ own) why) (stands_timely s.clock (seen_in (event.Call turn.client k.epoch turn.number c)) k.clock h.clock)
 
 -- a call is refused where another is in its way
-pub conflict_stepped : {V : Type 0} (o : Start) (s : State) (held : Contents) (k : Kept V) (turn : Turn) (t : TransId) (l : Live) (c : Call) (holder : TransId) (a : Handed) → IsAs o s held k → IsTurn k.sessions turn → map.get k.lives t ≡ Some l
+pub conflict_stepped : {V : Type 0} (o : Start) (s : State) (held : Contents) (k : ServerState V) (turn : Turn) (t : TransId) (l : Live) (c : Call) (holder : TransId) (a : Handed) → IsAs o s held k → IsTurn k.sessions turn → map.get k.lives t ≡ Some l
     → l.client ≡ turn.client → IsLockCall c → is_of_given k.server k.epoch k.given c ≡ true → file_trans c ≡ Some t → IsSound k.locks → blocker k.locks.held t (plan_of k.locks t (asks_of c)).rises ≡ Some holder
     → a ≡ record { kept = Some (reply.Refused (refusal.LockConflict holder)); handed = Some (reply.Refused (refusal.LockConflict holder)); acts = [] }
     → Stepped o s held (record k { sessions = counted_in k.sessions turn }) (event.Call turn.client k.epoch turn.number c) a
@@ -564,7 +564,7 @@ joined_none true x y e f = (λ i. join_held (e i) (f i))
 joined_none false x y e f = e
 
 -- with a plan taken that nobody stood in the way of, and a count that grew by one at most
-pub granted_ready : {V : Type 0} (m : ℕ) (serves : Bool) (k : Kept V) (w : Waiter) (count : ℕ) → k.given ≤ count → count ≤ m → IsPrepared k.locks.held w → blocker k.locks.held w.trans w.rises ≡ None
+pub granted_ready : {V : Type 0} (m : ℕ) (serves : Bool) (k : ServerState V) (w : Waiter) (count : ℕ) → k.given ≤ count → count ≤ m → IsPrepared k.locks.held w → blocker k.locks.held w.trans w.rises ≡ None
     → ((n : ℕ) → count < n → held_by w.needs (numbered k n) ≡ None) → IsReady m serves k → IsReady m serves (record k { given = count; locks = with_plan k.locks w })
 granted_ready m serves k w count more low prepared free others h = record {
   serving = h.serving;

@@ -34,7 +34,7 @@ use Rattle.alp_calls.specs.declared.fault.CallFault.{CallFault}
 use Rattle.alp_calls.specs.declared.fault.CallFault.TheVariants as call_fault
 use Rattle.alp_calls.specs.Parts.{own_of}
 use Rattle.alp_calls.specs.declared.part.Part.{Part}
-use Rattle.alp_locks.specs.Tables.{Parts, Table, holding}
+use Rattle.alp_locks.specs.Tables.{Holders, Table, holding}
 use Rattle.alp_locks.specs.Releases.{released}
 use Rattle.alp_locks.proofs.PlanLemmas.{release-holds}
 use Rattle.alp_vault.specs.Contents.{Contents}
@@ -50,10 +50,10 @@ use Rattle.alp_journal.specs.Causes.{AnswersOwn, AnswersFinish, AnswersCall, Ans
 use Rattle.alp_journal.proofs.StateLemmas.{same_trans-itself, same_trans-true, AreEarlier-push}
 use Rattle.alp_journal.proofs.EntryLemmas.{commit_leads, with_committed, committed, halt_leads, greeting_leads, begin_leads, counts_on, passing_leads, abort_leads, without_life, timeout_leads, idle_timeout_leads}
 use Rattle.alp_node.specs.Sessions.{session_at, with_session}
-use Rattle.alp_node.specs.Kept.{IsLife, IsAlike, IsAs, IsReady, told_session, PutNoneBeyond, last_time, notes_at}
+use Rattle.alp_node.specs.ServerState.{IsLife, IsAlike, IsAs, IsReady, told_session, PutNoneBeyond, last_time, notes_at}
 use Rattle.alp_node.specs.Steps.{Stepped, IsOf, IsTimely, IsTurn, IsHalted, seen_in, counted_in, without_trans}
 use Rattle.alp_node.specs.declared.answer.Answer.{Answer}
-use Rattle.alp_node.specs.declared.kept.Kept.{Kept}
+use Rattle.alp_node.specs.declared.server_state.ServerState.{ServerState}
 use Rattle.alp_node.specs.declared.lives.Live.{Live}
 use Rattle.alp_node.specs.declared.sessions.Session.{Session}
 use Rattle.alp_node.specs.declared.sessions.Turn.{Turn}
@@ -65,7 +65,7 @@ use Rattle.alp_node.proofs.MapLemmas.{session_set, places_set, get_put, get_gone
 -- ---- what holds of lives
 
 -- other locks that come to the same
-alike_under : (locks new : Parts) (t : TransId) (l : Option Live) (life : Option Life) → ((r : Resource) → holding new t r ≡ holding locks t r) → IsAlike locks t l life → IsAlike new t l life
+alike_under : (locks new : Holders) (t : TransId) (l : Option Live) (life : Option Life) → ((r : Resource) → holding new t r ≡ holding locks t r) → IsAlike locks t l life → IsAlike new t l life
 alike_under locks new t None None same h = λ r. same r ∙ h r
 alike_under locks new t (Some l) (Some life) same h =
     record { client = h.client; who = h.who; active = h.active; intents = h.intents; own = h.own; held = λ r. h.held r ∙ sym (same r); opens = h.opens }
@@ -73,23 +73,23 @@ alike_under locks new t None (Some life) same h = absurd h
 alike_under locks new t (Some l) None same h = absurd h
 
 -- who is not kept holds nothing
-pub none_held : (locks : Parts) (t : TransId) (l : Option Live) (life : Option Life) → l ≡ None → IsAlike locks t l life → (r : Resource) → holding locks t r ≡ None
+pub none_held : (locks : Holders) (t : TransId) (l : Option Live) (life : Option Life) → l ≡ None → IsAlike locks t l life → (r : Resource) → holding locks t r ≡ None
 none_held locks t None None is h = h
 none_held locks t None (Some life) is h = absurd h
 none_held locks t (Some l) life is h = let wrong : Some l ≡ None = is in cc
 
-none_live : (locks : Parts) (t : TransId) (l : Option Live) (life : Option Life) → l ≡ None → IsAlike locks t l life → life ≡ None
+none_live : (locks : Holders) (t : TransId) (l : Option Live) (life : Option Life) → l ≡ None → IsAlike locks t l life → life ≡ None
 none_live locks t None None is h = refl
 none_live locks t None (Some life) is h = absurd h
 none_live locks t (Some l) life is h = let wrong : Some l ≡ None = is in cc
 
 -- the life of a transaction that is kept
-pub record IsLive (locks : Parts) (t : TransId) (l : Live) (x : Option Life) : Type 0 where
+pub record IsLive (locks : Holders) (t : TransId) (l : Live) (x : Option Life) : Type 0 where
   pub life : Life
   pub is : x ≡ Some life
   pub alike : IsLife locks t l life
 
-pub live_there : (locks : Parts) (t : TransId) (o : Option Live) (x : Option Life) (l : Live) → o ≡ Some l → IsAlike locks t o x → IsLive locks t l x
+pub live_there : (locks : Holders) (t : TransId) (o : Option Live) (x : Option Life) (l : Live) → o ≡ Some l → IsAlike locks t o x → IsLive locks t l x
 live_there locks t None x l is h = let wrong : None ≡ Some l = is in cc
 live_there locks t (Some m) None l is h = absurd h
 live_there locks t (Some m) (Some life) l is h = record { life = life; is = refl; alike = subst (λ (y : Live). IsLife locks t y life) (same_live m l is) h }
@@ -98,7 +98,7 @@ live_there locks t (Some m) (Some life) l is h = record { life = life; is = refl
     same_live a b e = cc
 
 -- of each transaction but one all is as it was, and that one is so
-pub alike_set : (locks new : Parts) (t : TransId) (o : Option Live) (x : Option Life) (lives : TransId → Option Live) (kept : TransId → Option Life) → ((u : TransId) → IsAlike locks u (lives u) (kept u))
+pub alike_set : (locks new : Holders) (t : TransId) (o : Option Live) (x : Option Life) (lives : TransId → Option Live) (kept : TransId → Option Life) → ((u : TransId) → IsAlike locks u (lives u) (kept u))
     → ((u : TransId) (r : Resource) → same_trans u t ≡ false → holding new u r ≡ holding locks u r) → IsAlike new t o x
     → (u : TransId) → IsAlike new u (cond {A = Option Live} (same_trans u t) o (lives u)) (cond {A = Option Life} (same_trans u t) x (kept u))
 alike_set locks new t o x lives kept all same this u = go (same_trans u t) refl
@@ -164,17 +164,17 @@ over_empty v = over-none v
 -- ---- what holds of sessions
 
 -- the session's name and its next number, as the journal has them
-pub told_turn : {V : Type 0} (o : Start) (s : State) (held : Contents) (k : Kept V) (client : ℕ) (w : Session) → IsAs o s held k → session_at k.sessions client ≡ Some w → s.sessions client ≡ Some (told_session w)
+pub told_turn : {V : Type 0} (o : Start) (s : State) (held : Contents) (k : ServerState V) (client : ℕ) (w : Session) → IsAs o s held k → session_at k.sessions client ≡ Some w → s.sessions client ≡ Some (told_session w)
 told_turn o s held k client w h is = h.sessions client ∙ ap (option_map told_session) is
 
 -- the sessions where one is another now
-pub sessions_as : {V : Type 0} (o : Start) (s : State) (held : Contents) (k : Kept V) (client : ℕ) (w : Session) → IsAs o s held k → client ≤ 16 → (c : ℕ)
+pub sessions_as : {V : Type 0} (o : Start) (s : State) (held : Contents) (k : ServerState V) (client : ℕ) (w : Session) → IsAs o s held k → client ≤ 16 → (c : ℕ)
     → cond {A = Option state.Session} (c == client) (Some (told_session w)) (s.sessions c) ≡ option_map told_session (session_at (with_session k.sessions client w) c)
 sessions_as o s held k client w h le c =
     ap (cond {A = Option state.Session} (c == client) (Some (told_session w))) (h.sessions c) ∙ sym (session_set k.sessions client w c h.places le)
 
 -- the same under locks that come to the same
-pub as_under : {V : Type 0} (o : Start) (s : State) (held : Contents) (k : Kept V) (locks : Table) → ((u : TransId) (r : Resource) → holding locks.held u r ≡ holding k.locks.held u r) → IsAs o s held k
+pub as_under : {V : Type 0} (o : Start) (s : State) (held : Contents) (k : ServerState V) (locks : Table) → ((u : TransId) (r : Resource) → holding locks.held u r ≡ holding k.locks.held u r) → IsAs o s held k
     → IsAs o s held (record k { locks = locks })
 as_under o s held k locks same h = record {
   server = h.server;
@@ -196,7 +196,7 @@ as_under o s held k locks same h = record {
 }
 
 -- and with another vault that holds the same
-pub as_with : {V : Type 0} (o : Start) (s : State) (held then : Contents) (k : Kept V) (v : V) → then ≡ held → IsAs o s held k → IsAs o s then (record k { vault = v })
+pub as_with : {V : Type 0} (o : Start) (s : State) (held then : Contents) (k : ServerState V) (v : V) → then ≡ held → IsAs o s held k → IsAs o s then (record k { vault = v })
 as_with o s held then k v same h = subst (λ (x : Contents). IsAs o s x (record k { vault = v })) (sym same) (record {
   server = h.server;
   epoch = h.epoch;
@@ -216,7 +216,7 @@ as_with o s held then k v same h = subst (λ (x : Contents). IsAs o s x (record 
   down = h.down;
 })
 
-module _ {V : Type 0} (o : Start) (s : State) (held : Contents) (k : Kept V) (client : ℕ) where
+module _ {V : Type 0} (o : Start) (s : State) (held : Contents) (k : ServerState V) (client : ℕ) where
   -- ---- a greeting
 
   pub hello_stepped : (name : List ℕ) (a : Answer) → IsAs o s held k → client ≤ 16 → session_at k.sessions client ≡ None
@@ -256,7 +256,7 @@ module _ {V : Type 0} (o : Start) (s : State) (held : Contents) (k : Kept V) (cl
   -- ---- a new call of a session
 
   -- the server where the session counts on
-  abbrev pub counted : Session → ℕ → Kept V
+  abbrev pub counted : Session → ℕ → ServerState V
   counted w number = record k { sessions = with_session k.sessions client (record w { last = number }) }
 
   -- a state in which only the session counts on is that of a server in which it does
@@ -296,7 +296,7 @@ module _ {V : Type 0} (o : Start) (s : State) (held : Contents) (k : Kept V) (cl
   in_turn w number c h there turn plain = subst (λ (x : state.Kind). IsTurnOf s client k.epoch number x) (sym plain) (is_next w number h there turn)
 
   -- and as the answer has it
-  pub answered : (number : ℕ) (c : Call) (r : Reply) (acts : List Act) (m : State) (new : Kept V) (a : Answer) (then : Contents) → a ≡ record { kept = Some r; handed = Some r; acts = acts } → IsAs o s held k
+  pub answered : (number : ℕ) (c : Call) (r : Reply) (acts : List Act) (m : State) (new : ServerState V) (a : Answer) (then : Contents) → a ≡ record { kept = Some r; handed = Some r; acts = acts } → IsAs o s held k
       → Leads s (record { event = event.Call client s.epoch number c; reply = Some r; acts = acts }) m → IsAs o m then new
       → IsInTurn s (event.Call client k.epoch number c) → AnswersBy s (event.Call client k.epoch number c) (Some r) acts (list_any is_stop acts)
       → IsTimely s.clock (event.Call client k.epoch number c) new.clock → Stepped o s then new (event.Call client k.epoch number c) a
@@ -317,13 +317,13 @@ module _ {V : Type 0} (o : Start) (s : State) (held : Contents) (k : Kept V) (cl
     abbrev pub begun_live : Live
     begun_live = record { client = client; who = w.who; part = p }
 
-    abbrev pub with_begun_kept : Table → Kept V
+    abbrev pub with_begun_kept : Table → ServerState V
     with_begun_kept locks = record (counted w number) { clock = max k.clock seen.ts; drawn = k.drawn + 1; lives = map.insert k.lives begun_trans begun_live; locks = locks }
 
     trans_same : IsAs o s held k → next_trans s ≡ begun_trans
     trans_same h = λ i. record { server = h.server i; epoch = h.epoch i; counter = h.drawn i + 1 }
 
-    begun_alike : (locks : Parts) → map.get k.lives begun_trans ≡ None → ((u : TransId) (r : Resource) → holding locks u r ≡ holding k.locks.held u r) → own_of p ≡ no_opens → p.intents ≡ map.empty → IsAs o s held k
+    begun_alike : (locks : Holders) → map.get k.lives begun_trans ≡ None → ((u : TransId) (r : Resource) → holding locks u r ≡ holding k.locks.held u r) → own_of p ≡ no_opens → p.intents ≡ map.empty → IsAs o s held k
         → (u : TransId) → IsAlike locks u (map.get (map.insert k.lives begun_trans begun_live) u) (cond {A = Option Life} (same_trans u begun_trans) (Some (new_life client w.who)) (s.lives u))
     begun_alike locks new same opens none h u =
         subst (λ (x : Option Live). IsAlike locks u x (cond {A = Option Life} (same_trans u begun_trans) (Some (new_life client w.who)) (s.lives u))) (sym (get_put k.lives begun_trans begun_live u))
@@ -471,7 +471,7 @@ module _ {V : Type 0} (o : Start) (s : State) (held : Contents) (k : Kept V) (cl
     abbrev pub commit_stamp : Stamp
     commit_stamp = record { ts = k.clock + 1; trans = t }
 
-    abbrev pub committed_kept : Kept V
+    abbrev pub committed_kept : ServerState V
     committed_kept = record (without_trans (counted w number) t) { clock = k.clock + 1; committed = k.committed + 1; vault = v }
 
     pub commit_stepped : (a : Answer) (then : Contents) → IsAs o s held k → k.is_down ≡ false → client ≤ 16 → k.locks.waiting ≡ [] → session_at k.sessions client ≡ Some w → number ≡ w.last + 1
@@ -549,13 +549,13 @@ module _ {V : Type 0} (o : Start) (s : State) (held : Contents) (k : Kept V) (cl
       (stands_timely s.clock (seen_in (event.Call client k.epoch number c)) k.clock h.clock)
 
   -- the same of an answer that says so
-  pub halted_stepped : (w : Session) (number : ℕ) (c : Call) (v : V) (then : Contents) (acts : List Act) (fault : CallFault) (r : Result Answer OutOfMemory) (new : Kept V) → IsWrite acts → acts ≡ written s c → IsAs o s held k → client ≤ 16
+  pub halted_stepped : (w : Session) (number : ℕ) (c : Call) (v : V) (then : Contents) (acts : List Act) (fault : CallFault) (r : Result Answer OutOfMemory) (new : ServerState V) → IsWrite acts → acts ≡ written s c → IsAs o s held k → client ≤ 16
       → session_at k.sessions client ≡ Some w → number ≡ w.last + 1 → state.kind_of c ≡ state.Plain
       → state.done_by s c (reply.Refused refusal.ReadFault) (state.file_trans c) ≡ None → state.done_by s c (reply.Refused refusal.Down) (state.file_trans c) ≡ None
       → IfOk r (IsHalted acts fault) → OnOk r (new ≡ record (counted w number) { is_down = true; vault = v }) → IfOk r (Stepped o s then new (event.Call client k.epoch number c))
   halted_stepped w number c v then acts fault (Err e) new write same h le there turn plain none_fault none_down is down = tt
   halted_stepped w number c v then acts fault (Ok a) new write same h le there turn plain none_fault none_down is down =
-      subst (λ (x : Kept V). Stepped o s then x (event.Call client k.epoch number c) a) (sym down) (go fault is)
+      subst (λ (x : ServerState V). Stepped o s then x (event.Call client k.epoch number c) a) (sym down) (go fault is)
     where
       go : (f : CallFault) → IsHalted acts f a → Stepped o s then (record (counted w number) { is_down = true; vault = v }) (event.Call client k.epoch number c) a
       go call_fault.Failed is = halt_stepped w number c refusal.ReadFault (acts ++ act.Failed ∷ []) v a then write.failed.ends h le there turn plain refl none_fault
@@ -565,12 +565,12 @@ module _ {V : Type 0} (o : Start) (s : State) (held : Contents) (k : Kept V) (cl
       go call_fault.OutOfMemory is = absurd is
 
 -- with another vault it is ready as before, where that serves
-pub ready_in : {V : Type 0} (n : ℕ) (before serves : Bool) (k : Kept V) (v : V) → IsTrue serves → IsReady n before k → IsReady n serves (record k { vault = v })
+pub ready_in : {V : Type 0} (n : ℕ) (before serves : Bool) (k : ServerState V) (v : V) → IsTrue serves → IsReady n before k → IsReady n serves (record k { vault = v })
 ready_in n before serves k v on h =
     record { serving = λ _. on; sound = h.sound; alone = h.alone; known = h.known; begun = h.begun; opens = h.opens; places = h.places; calls = h.calls; drawn = h.drawn; given = h.given; committed = h.committed; few = h.few; unheld = h.unheld }
 
 -- whoever is down need not serve
-pub halted_ready : {V : Type 0} (n : ℕ) (before serves : Bool) (k : Kept V) (v : V) (turn : Turn) (r : Result Answer OutOfMemory) (new : Kept V) → IsTurn k.sessions turn → IsReady n before k
+pub halted_ready : {V : Type 0} (n : ℕ) (before serves : Bool) (k : ServerState V) (v : V) (turn : Turn) (r : Result Answer OutOfMemory) (new : ServerState V) → IsTurn k.sessions turn → IsReady n before k
     → OnOk r (new ≡ record k { sessions = counted_in k.sessions turn; is_down = true; vault = v }) → OnOk r (IsReady (n + 1) serves new)
 halted_ready n before serves k v turn (Err e) new is h down = tt
 halted_ready {V} n before serves k v turn (Ok a) new is h down =
@@ -593,7 +593,7 @@ halted_ready {V} n before serves k v turn (Ok a) new is h down =
     })
 
 -- a commit leaves it ready
-pub commit_ready : {V : Type 0} (n : ℕ) (before serves : Bool) (k : Kept V) (v : V) (turn : Turn) (t : TransId) → IsTrue serves → IsTurn k.sessions turn → IsReady n before k
+pub commit_ready : {V : Type 0} (n : ℕ) (before serves : Bool) (k : ServerState V) (v : V) (turn : Turn) (t : TransId) → IsTrue serves → IsTurn k.sessions turn → IsReady n before k
     → IsReady (n + 1) serves (record (without_trans k t) { sessions = counted_in k.sessions turn; clock = k.clock + 1; committed = k.committed + 1; vault = v })
 commit_ready n before serves k v turn t on is h =
     let c = counted_ready n before (without_trans k t) turn is (gone_ready n before k t h) in

@@ -3,6 +3,7 @@ pub mod CauseLemmas
 pub mod KeptLemmas
 pub mod NodeLemmas
 pub mod StartLemmas
+pub mod StoreLemmas
 pub mod ReadyLemmas
 pub mod CallLemmas
 pub mod PageLemmas

@@ -7,17 +7,17 @@ use Rattle.std.specs.FinMap.{contains_key-keys}
 use Rattle.std.proofs.lemmas.Map.Views.{Contains-from_any, list_any-from_Contains}
 use Rattle.std.proofs.Common.{refl, sym, ◌∙◌}
 use Rattle.alp_base.specs.declared.ids.TransId.{TransId}
-use Rattle.alp_modes.specs.Orders.{trans_cmp, transactions_total, exact_transactions}
-use Rattle.alp_locks.specs.Tables.{Parts}
-use Rattle.alp_locks.proofs.PartLemmas.{tied}
+use Rattle.alp_base.specs.Orders.{trans_cmp, transactions_total, exact_transactions}
+use Rattle.alp_locks.specs.Tables.{Holders}
+use Rattle.alp_locks.proofs.HeldLemmas.{tied}
 use Rattle.alp_vault.specs.Contents.{Contents}
 use Rattle.alp_journal.specs.State.{State, Start, Life}
-use Rattle.alp_node.specs.declared.kept.Kept.{Kept}
+use Rattle.alp_node.specs.declared.server_state.ServerState.{ServerState}
 use Rattle.alp_node.specs.declared.lives.Live.{Live}
-use Rattle.alp_node.specs.Kept.{IsAs, IsAlike, LiveMap}
+use Rattle.alp_node.specs.ServerState.{IsAs, IsAlike, LiveMap}
 
 -- what is kept of a transaction stands just where the journal says that it is live
-alike_some : (locks : Parts) (t : TransId) (x : Option Live) (y : Option Life) → IsAlike locks t x y → IsSome x ↔ IsSome y
+alike_some : (locks : Holders) (t : TransId) (x : Option Live) (y : Option Life) → IsAlike locks t x y → IsSome x ↔ IsSome y
 alike_some locks t None None h = ((λ e. e), (λ e. e))
 alike_some locks t None (Some y) h = absurd h
 alike_some locks t (Some x) None h = absurd h
@@ -30,5 +30,5 @@ key_there m t = (
 )
 
 -- a transaction is kept just where the journal says that it is live
-pub kept_live : {V : Type 0} (o : Start) (s : State) (held : Contents) (k : Kept V) (t : TransId) → IsAs o s held k → IsSome (map.get k.lives t) ↔ IsSome (s.lives t)
+pub kept_live : {V : Type 0} (o : Start) (s : State) (held : Contents) (k : ServerState V) (t : TransId) → IsAs o s held k → IsSome (map.get k.lives t) ↔ IsSome (s.lives t)
 kept_live o s held k t h = alike_some k.locks.held t (map.get k.lives t) (s.lives t) (h.lives t)

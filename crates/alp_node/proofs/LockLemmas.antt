@@ -14,8 +14,8 @@ use Rattle.alp_base.specs.declared.choices.Access.TheVariants.{ReadOnly, Change}
 use Rattle.alp_modes.specs.declared.Mode.{Mode}
 use Rattle.alp_modes.specs.declared.Mode.TheVariants.{Read, Write}
 use Rattle.alp_modes.specs.Modes.{covers_of, leaf_of}
-use Rattle.alp_modes.specs.Orders.{resource_cmp, resources_total}
-use Rattle.alp_modes.specs.Holdings.{Holding, join_held, covers_held, held_by, given_to, DoAgree}
+use Rattle.alp_base.specs.Orders.{resource_cmp, resources_total}
+use Rattle.alp_files.specs.Holdings.{Holding, join_held, covers_held, held_by, given_to, DoAgree}
 use Rattle.alp_files.specs.declared.call.Call.{Call}
 use Rattle.alp_files.specs.declared.call.Call.TheVariants as call
 use Rattle.alp_files.specs.Act.{Own}
@@ -33,7 +33,7 @@ use Rattle.alp_journal.specs.State.{same_trans}
 use Rattle.alp_journal.proofs.StateLemmas.{same_trans-itself}
 use Rattle.alp_node.specs.Asks.{asks_of}
 use Rattle.alp_node.specs.Calls.{IsLockCall}
-use Rattle.alp_node.specs.Kept.{mode_for}
+use Rattle.alp_node.specs.ServerState.{mode_for}
 use Rattle.alp_node.proofs.MapLemmas.{tied_same}
 use Rattle.alp_node.proofs.ReadyLemmas.{turned}
 use Rattle.alp_node.proofs.PageLemmas.{gives_read, of_some, write_reads}

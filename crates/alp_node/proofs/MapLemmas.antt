@@ -8,13 +8,13 @@ use Rattle.std.specs.Cmp.{eq_by_cmp_equiv}
 use Rattle.std.proofs.Common.{◌≡◌, ℕ, zero, suc, ◌+◌, ◌-◌, ◌<◌, ◌≤◌, List, [], ◌∷◌, length, refl, sym, ◌∙◌, ap, subst, arith, eq-eqb}
 use Rattle.std.proofs.lemmas.Bool.{eqb-true}
 use Rattle.alp_base.specs.declared.ids.TransId.{TransId}
-use Rattle.alp_modes.specs.Orders.{trans_cmp, transactions_total, exact_transactions}
-use Rattle.alp_locks.proofs.PartLemmas.{tied}
+use Rattle.alp_base.specs.Orders.{trans_cmp, transactions_total, exact_transactions}
+use Rattle.alp_locks.proofs.HeldLemmas.{tied}
 use Rattle.alp_journal.specs.State.{same_trans}
 use Rattle.alp_journal.specs.State as state
 use Rattle.alp_journal.proofs.StateLemmas.{same_trans-itself, same_trans-true}
 use Rattle.alp_node.specs.Sessions.{session_at, with_session}
-use Rattle.alp_node.specs.Kept.{told_session}
+use Rattle.alp_node.specs.ServerState.{told_session}
 use Rattle.alp_node.specs.declared.sessions.Session.{Session}
 use Rattle.alp_node.specs.declared.sessions.Sessions.{Sessions}
 

@@ -16,8 +16,8 @@ use Rattle.alp_journal.proofs.OneThread.{live_sound}
 use Rattle.alp_vault.specs.Contents.{Contents}
 use Rattle.alp_node.specs.declared.answer.Answer.{Answer}
 use Rattle.alp_node.specs.declared.node.Node.{Node}
-use Rattle.alp_node.specs.Kept.{IsAs, IsReady}
-use Rattle.alp_node.specs.Nodes.{IsKept, IsRight, start_at, start_in}
+use Rattle.alp_node.specs.ServerState.{IsAs, IsReady}
+use Rattle.alp_node.specs.Nodes.{IsConsistent, IsRight, start_at, start_in}
 use Rattle.alp_journal.specs.Serial.{state_of}
 use Rattle.alp_node.specs.Served.{AreLivesSound}
 use Rattle.alp_node.specs.Steps.{Stepped, entry_of}
@@ -66,10 +66,10 @@ module _ {V : Type 0} (tells serves : V → Bool) (held : V → Contents) (old n
   start_same : new.opening ≡ old.opening → new.kept.server ≡ old.kept.server → start_in held old ≡ start_in held new
   start_same opening server = (λ i. start_at (sym server i) (held (sym opening i).vault.value))
 
-  pub step_kept : (e : Event) (a : Answer) → IsKept tells serves held old → new.opening ≡ old.opening → new.kept.server ≡ old.kept.server → tells new.kept.vault ≡ tells old.kept.vault
+  pub step_kept : (e : Event) (a : Answer) → IsConsistent tells serves held old → new.opening ≡ old.opening → new.kept.server ≡ old.kept.server → tells new.kept.vault ≡ tells old.kept.vault
       → ((n : ℕ) → IsReady n (serves old.kept.vault) old.kept → IsReady (n + 1) (serves new.kept.vault) new.kept)
       → (IsTrue (tells old.kept.vault) → (o : Start) (s : State) → IsAs o s (held old.kept.vault) old.kept → Stepped o s (held new.kept.vault) new.kept e a)
-      → new.journal ≡ old.journal ++ (entry_of e a) ∷ [] → IsKept tells serves held new
+      → new.journal ≡ old.journal ++ (entry_of e a) ∷ [] → IsConsistent tells serves held new
   step_kept e a h opening server telling ready stepped is = record {
     ready = subst (λ (n : ℕ). IsReady n (serves new.kept.vault) new.kept) (sym (counted_pushed old.journal new.journal (entry_of e a) is)) (ready (length old.journal) h.ready);
     right = λ told. (
@@ -80,10 +80,10 @@ module _ {V : Type 0} (tells serves : V → Bool) (held : V → Contents) (old n
         );
   }
 
-  pub still_kept : IsKept tells serves held old → new.opening ≡ old.opening → new.kept.server ≡ old.kept.server → tells new.kept.vault ≡ tells old.kept.vault
+  pub still_kept : IsConsistent tells serves held old → new.opening ≡ old.opening → new.kept.server ≡ old.kept.server → tells new.kept.vault ≡ tells old.kept.vault
       → ((n : ℕ) → IsReady n (serves old.kept.vault) old.kept → IsReady n (serves new.kept.vault) new.kept)
       → ((o : Start) (s : State) → IsAs o s (held old.kept.vault) old.kept → IsAs o s (held new.kept.vault) new.kept)
-      → new.journal ≡ old.journal → IsKept tells serves held new
+      → new.journal ≡ old.journal → IsConsistent tells serves held new
   still_kept h opening server telling ready still is = record {
     ready = subst (λ (n : ℕ). IsReady n (serves new.kept.vault) new.kept) (sym (ap length is)) (ready (length old.journal) h.ready);
     right = λ told. (

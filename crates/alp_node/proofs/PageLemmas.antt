@@ -13,8 +13,8 @@ use Rattle.alp_base.specs.declared.choices.Access.TheVariants.{ReadOnly, Change}
 use Rattle.alp_modes.specs.declared.Mode.{Mode}
 use Rattle.alp_modes.specs.declared.Mode.TheVariants.{IntendRead, IntendWrite, Read, Update, ReadIntendWrite, Write}
 use Rattle.alp_modes.specs.Modes.{covers_of, leaf_of}
-use Rattle.alp_modes.specs.Holdings.{Holding, covers_held, file_of, given_to}
-use Rattle.alp_modes.proofs.HoldingLemmas.{none-right}
+use Rattle.alp_files.specs.Holdings.{Holding, covers_held, file_of, given_to}
+use Rattle.alp_files.proofs.HoldingLemmas.{none-right}
 use Rattle.alp_files.specs.declared.cell.Props.{Props}
 use Rattle.alp_files.specs.declared.open.Open.{Open}
 use Rattle.alp_files.specs.declared.call.Call.{Call}
@@ -24,11 +24,11 @@ use Rattle.alp_files.specs.declared.reply.Reply.TheVariants as reply
 use Rattle.alp_files.specs.declared.refusal.Refusal.{Refusal}
 use Rattle.alp_files.specs.declared.refusal.Refusal.TheVariants as refusal
 use Rattle.alp_files.specs.Cells.{View, props_in}
-use Rattle.alp_files.specs.Act.{Own, Answer, Look, run, answer, id_in, open_at, on_open, on_props, on_change, if_change, read_pages, write_pages, ask_pages, refused, told, page_puts, mark_put}
+use Rattle.alp_files.specs.Act.{Own, Answer, Look, run, answer, id_in, open_at, on_open, on_props, on_change, if_change, read_pages, write_pages, ask_pages, refused, replied, page_puts, mark_put}
 use Rattle.alp_files.specs.Locks.{Need, HoldsOn, HoldsEach, needs_of, needs_on_open, needs_there, needs_on_change, needs_if_change, page_needs, page_limit, mark_needs, whole_of, wholes_of, asked_on, asked_each, intention_on, joined, request_of, granted}
 use Rattle.alp_files.proofs.CoverLemmas.{right-above}
 use Rattle.alp_node.specs.Calls.{IsPageCall}
-use Rattle.alp_node.specs.Kept.{IsLocked, mode_for}
+use Rattle.alp_node.specs.ServerState.{IsLocked, mode_for}
 
 -- ---- what the file's lock gives
 
@@ -226,9 +226,9 @@ leaves_pages m w f (suc n) first next h = leaves_pages m w f n (first + 1) _ (λ
 pub page_leaves : (server : ℕ) (made : List FileId) (m : View) (who : List ℕ) (w : Own) (c : Call) (given : Reply) → IsPageCall c → LeavesOpens w (answer server made m who w c given)
 page_leaves server made m who w (call.ReadPages t n r mode choice) given is = go (open_at w.opens n)
   where
-    reads : (op : Open) (p : Props) (b : Bool) → LeavesOpens w (run m (cond {A = Look} b (Look.Say (refused w (refusal.NoSuchPage p.size))) (ask_pages op.file r.first r.count (λ ps. Look.Say (told w (reply.Pages ps) [])))))
+    reads : (op : Open) (p : Props) (b : Bool) → LeavesOpens w (run m (cond {A = Look} b (Look.Say (refused w (refusal.NoSuchPage p.size))) (ask_pages op.file r.first r.count (λ ps. Look.Say (replied w (reply.Pages ps) [])))))
     reads op p true = leaves_refused w (refusal.NoSuchPage p.size)
-    reads op p false = leaves_pages m w op.file r.count r.first (λ ps. Look.Say (told w (reply.Pages ps) [])) (λ ps. record { own = refl; none = λ x e. ap id_in (sym (same_reply (reply.Pages ps) x e)) })
+    reads op p false = leaves_pages m w op.file r.count r.first (λ ps. Look.Say (replied w (reply.Pages ps) [])) (λ ps. record { own = refl; none = λ x e. ap id_in (sym (same_reply (reply.Pages ps) x e)) })
 
     there : (op : Open) (x : Option Props) → LeavesOpens w (run m (on_props w x (read_pages w r op)))
     there op None = leaves_refused w refusal.UnknownOpen
@@ -240,7 +240,7 @@ page_leaves server made m who w (call.ReadPages t n r mode choice) given is = go
 page_leaves server made m who w (call.WritePages t n r pages choice) given is = go (open_at w.opens n)
   where
     writes : (op : Open) (p : Props) (b : Bool)
-        → LeavesOpens w (cond {A = Answer} b (refused w (refusal.NoSuchPage p.size)) (told w reply.Plain (page_puts op.file r.first pages ++ mark_put op.file p (r.first + r.count))))
+        → LeavesOpens w (cond {A = Answer} b (refused w (refusal.NoSuchPage p.size)) (replied w reply.Plain (page_puts op.file r.first pages ++ mark_put op.file p (r.first + r.count))))
     writes op p true = leaves_refused w (refusal.NoSuchPage p.size)
     writes op p false = record { own = refl; none = λ x e. ap id_in (sym (same_reply reply.Plain x e)) }
 

@@ -5,8 +5,8 @@ use Rattle.std.specs.FinMap as map
 use Rattle.std.proofs.Common.{◌≡◌, ℕ, ◌+◌, ◌≤◌, [], refl, sym, ◌∙◌, ap, subst, arith}
 use Rattle.alp_base.specs.declared.ids.FileId.{FileId}
 use Rattle.alp_base.specs.declared.ids.TransId.{TransId}
-use Rattle.alp_modes.specs.Holdings.{Holding, DoAgree}
-use Rattle.alp_modes.proofs.HoldingLemmas.{none-right}
+use Rattle.alp_files.specs.Holdings.{Holding, DoAgree}
+use Rattle.alp_files.proofs.HoldingLemmas.{none-right}
 use Rattle.alp_files.specs.declared.call.Call.{Call}
 use Rattle.alp_files.specs.declared.call.Call.TheVariants as call
 use Rattle.alp_files.specs.declared.reply.Reply.{Reply}
@@ -27,6 +27,7 @@ use Rattle.alp_calls.specs.declared.fault.CallFault.{CallFault}
 use Rattle.alp_calls.specs.declared.fault.CallFault.TheVariants as call_fault
 use Rattle.alp_calls.specs.Parts.{Performs}
 use Rattle.alp_vault.specs.Contents.{Contents}
+use Rattle.alp_vault.specs.declared.vault.Vault.{Ghosts}
 use Rattle.alp_journal.specs.declared.event.Event.TheVariants as event
 use Rattle.alp_journal.specs.State.{State, Start, Life, Plain, kind_of, file_trans, is_of_no_file, same_trans, view_in}
 use Rattle.alp_journal.specs.Laws.{ended_at, IsFree}
@@ -34,10 +35,10 @@ use Rattle.alp_journal.specs.Causes.{is_of_unknown, IsFileAnswer}
 use Rattle.alp_journal.proofs.StateLemmas.{same_trans-true}
 use Rattle.alp_journal.proofs.EntryLemmas.{done_leads}
 use Rattle.alp_node.specs.Calls.{Gave, IsPageCall, next_file}
-use Rattle.alp_node.specs.Kept.{IsAs, IsReady, IsLocked, told_session}
+use Rattle.alp_node.specs.ServerState.{IsAs, IsReady, IsLocked, told_session}
 use Rattle.alp_node.specs.Steps.{Stepped, IsTurn, counted_in, seen_in}
 use Rattle.alp_node.specs.declared.answer.Answer.{Answer}
-use Rattle.alp_node.specs.declared.kept.Kept.{Kept}
+use Rattle.alp_node.specs.declared.server_state.ServerState.{ServerState}
 use Rattle.alp_node.specs.declared.lives.Live.{Live}
 use Rattle.alp_node.specs.declared.sessions.Sessions.{Sessions}
 use Rattle.alp_node.specs.declared.sessions.Turn.{Turn}
@@ -96,7 +97,7 @@ count_none count (reply.Committed x) none = refl
 count_none count (reply.Ended e) none = refl
 count_none count (reply.Refused f) none = refl
 
-module _ {V : Type 0} (o : Start) (s : State) (held : Contents) (k : Kept V) (turn : Turn) (t : TransId) (l : Live) (p : Part) (c : Call) (r : Reply) (v : V) where
+module _ {V : Type 0} (o : Start) (s : State) (held : Contents) (k : ServerState V) (turn : Turn) (t : TransId) (l : Live) (p : Part) (c : Call) (r : Reply) (v : V) where
   pub page_stepped : (a : Answer) (then : Contents) → IsAs o s held k → k.is_down ≡ false → then ≡ held → IsTurn k.sessions turn → map.get k.lives t ≡ Some l → l.client ≡ turn.client → IsPageCall c
       → file_trans c ≡ Some t → IsFormed c → Gave true held.cells (next_file k) l p c r → a ≡ record { kept = Some r; handed = Some r; acts = [] }
       → Stepped o s then (record k { sessions = counted_in k.sessions turn; lives = map.insert k.lives t (record l { part = p }); vault = v }) (event.Call turn.client k.epoch turn.number c) a
@@ -139,8 +140,8 @@ count_same count (reply.Committed x) = omega arith
 count_same count (reply.Ended e) = omega arith
 count_same count (reply.Refused f) = omega arith
 
-module _ {V : Type 0} (n : ℕ) (before serves : Bool) (k : Kept V) (t : TransId) (l : Live) (p : Part) (v : V) where
-  abbrev pub part_kept : Kept V
+module _ {V : Type 0} (n : ℕ) (before serves : Bool) (k : ServerState V) (t : TransId) (l : Live) (p : Part) (v : V) where
+  abbrev pub part_kept : ServerState V
   part_kept = record k { lives = map.insert k.lives t (record l { part = p }); vault = v }
 
   -- a part that is another now
@@ -186,31 +187,27 @@ pub turn_kept : (a b : Sessions) (turn : Turn) → a ≡ b → IsTurn b turn →
 turn_kept a b turn same is = subst (λ (x : Sessions). IsTurn x turn) (sym same) is
 
 -- a vault that a look left serves where nobody stopped it
-pub looked_serves : {V : Type 0} (tells serves : V → Bool) (volume : V → Sizes) (held : V → Contents) (may_leave : V → Contents → Type 0) (left_since : V → V → Contents → Type 0) (faults : V → ℕ) (allowance : V → Allowance)
-    (old new : V) (fault : CallFault) → Looks tells serves volume held may_leave left_since faults allowance old new (Some fault) → fault ≡ call_fault.OutOfMemory → IsTrue (serves new)
-looked_serves tells serves volume held may_leave left_since faults allowance old new call_fault.OutOfMemory h e = h.1
-looked_serves tells serves volume held may_leave left_since faults allowance old new call_fault.Failed h e = cc
-looked_serves tells serves volume held may_leave left_since faults allowance old new call_fault.Stopped h e = cc
+pub looked_serves : {V : Type 0} (G : Ghosts V) (old new : V) (fault : CallFault) → Looks G old new (Some fault) → fault ≡ call_fault.OutOfMemory → IsTrue (G.serves new)
+looked_serves G old new call_fault.OutOfMemory h e = h.1
+looked_serves G old new call_fault.Failed h e = cc
+looked_serves G old new call_fault.Stopped h e = cc
 
-pub looked_left : {V : Type 0} (tells serves : V → Bool) (volume : V → Sizes) (held : V → Contents) (may_leave : V → Contents → Type 0) (left_since : V → V → Contents → Type 0) (faults : V → ℕ) (allowance : V → Allowance)
-    (old new : V) (fault : CallFault) → Looks tells serves volume held may_leave left_since faults allowance old new (Some fault) → IsLeft tells serves volume held may_leave left_since faults allowance old new
-looked_left tells serves volume held may_leave left_since faults allowance old new call_fault.OutOfMemory h = h.0
-looked_left tells serves volume held may_leave left_since faults allowance old new call_fault.Failed h = h.0
-looked_left tells serves volume held may_leave left_since faults allowance old new call_fault.Stopped h = h.0
+pub looked_left : {V : Type 0} (G : Ghosts V) (old new : V) (fault : CallFault) → Looks G old new (Some fault) → IsLeft G old new
+looked_left G old new call_fault.OutOfMemory h = h.0
+looked_left G old new call_fault.Failed h = h.0
+looked_left G old new call_fault.Stopped h = h.0
 
-pub looked_failed : {V : Type 0} (tells serves : V → Bool) (volume : V → Sizes) (held : V → Contents) (may_leave : V → Contents → Type 0) (left_since : V → V → Contents → Type 0) (faults : V → ℕ) (allowance : V → Allowance)
-    (old new : V) (fault : CallFault) → Looks tells serves volume held may_leave left_since faults allowance old new (Some fault) → fault ≡ call_fault.Failed → Rose (faults old) (faults new)
-looked_failed tells serves volume held may_leave left_since faults allowance old new call_fault.Failed h e = h.2
-looked_failed tells serves volume held may_leave left_since faults allowance old new call_fault.OutOfMemory h e = cc
-looked_failed tells serves volume held may_leave left_since faults allowance old new call_fault.Stopped h e = cc
+pub looked_failed : {V : Type 0} (G : Ghosts V) (old new : V) (fault : CallFault) → Looks G old new (Some fault) → fault ≡ call_fault.Failed → Rose (G.faults old) (G.faults new)
+looked_failed G old new call_fault.Failed h e = h.2
+looked_failed G old new call_fault.OutOfMemory h e = cc
+looked_failed G old new call_fault.Stopped h e = cc
 
-pub looked_stopped : {V : Type 0} (tells serves : V → Bool) (volume : V → Sizes) (held : V → Contents) (may_leave : V → Contents → Type 0) (left_since : V → V → Contents → Type 0) (faults : V → ℕ) (allowance : V → Allowance)
-    (old new : V) (fault : CallFault) → Looks tells serves volume held may_leave left_since faults allowance old new (Some fault) → fault ≡ call_fault.Stopped → allowance new ≡ Spent
-looked_stopped tells serves volume held may_leave left_since faults allowance old new call_fault.Stopped h e = h.1
-looked_stopped tells serves volume held may_leave left_since faults allowance old new call_fault.OutOfMemory h e = cc
-looked_stopped tells serves volume held may_leave left_since faults allowance old new call_fault.Failed h e = cc
+pub looked_stopped : {V : Type 0} (G : Ghosts V) (old new : V) (fault : CallFault) → Looks G old new (Some fault) → fault ≡ call_fault.Stopped → G.allowance new ≡ Spent
+looked_stopped G old new call_fault.Stopped h e = h.1
+looked_stopped G old new call_fault.OutOfMemory h e = cc
+looked_stopped G old new call_fault.Failed h e = cc
 
 -- a halt leaves the vault alone
-pub halted_vault : {V : Type 0} (N new : Kept V) (turn : Turn) (r : Result Answer OutOfMemory) → OnOk r (new ≡ record N { sessions = counted_in N.sessions turn; is_down = true }) → OnErr r (new ≡ N) → new.vault ≡ N.vault
-halted_vault {V} N new turn (Ok a) down still = ap (λ (x : Kept V). x.vault) down
-halted_vault {V} N new turn (Err e) down still = ap (λ (x : Kept V). x.vault) still
+pub halted_vault : {V : Type 0} (N new : ServerState V) (turn : Turn) (r : Result Answer OutOfMemory) → OnOk r (new ≡ record N { sessions = counted_in N.sessions turn; is_down = true }) → OnErr r (new ≡ N) → new.vault ≡ N.vault
+halted_vault {V} N new turn (Ok a) down still = ap (λ (x : ServerState V). x.vault) down
+halted_vault {V} N new turn (Err e) down still = ap (λ (x : ServerState V). x.vault) still

@@ -6,23 +6,23 @@ use Rattle.std.proofs.Common.{◌≡◌, ℕ, ◌+◌, ◌≤◌, List, [], leng
 use Rattle.alp_base.specs.declared.ids.TransId.{TransId}
 use Rattle.alp_base.specs.declared.key.Resource.{Resource}
 use Rattle.alp_base.specs.declared.key.Resource.TheVariants.{Whole}
-use Rattle.alp_modes.specs.Orders.{trans_cmp}
+use Rattle.alp_base.specs.Orders.{trans_cmp}
 use Rattle.alp_modes.specs.declared.Mode.{Mode}
 use Rattle.alp_files.specs.Act.{Own, no_opens}
 use Rattle.alp_calls.specs.Parts.{own_of}
 use Rattle.alp_locks.specs.Tables.{Table, held_of, holding}
 use Rattle.alp_locks.specs.Asks.{entered}
 use Rattle.alp_locks.specs.Releases.{released}
-use Rattle.alp_locks.proofs.PartLemmas.{insert-keeps, insert-knows}
+use Rattle.alp_locks.proofs.HeldLemmas.{insert-keeps, insert-knows}
 use Rattle.alp_locks.proofs.LawLemmas.{entering-keeps-held}
 use Rattle.alp_locks.proofs.PlanLemmas.{release-holds, release-waiting, release-knows}
 use Rattle.alp_locks.proofs.SoundLemmas.{released-sound, entered-sound}
 use Rattle.alp_journal.specs.State.{same_trans}
 use Rattle.alp_journal.proofs.StateLemmas.{same_trans-itself, same_trans-true}
 use Rattle.alp_node.specs.Sessions.{session_at, with_session}
-use Rattle.alp_node.specs.Kept.{IsReady}
+use Rattle.alp_node.specs.ServerState.{IsReady}
 use Rattle.alp_node.specs.Steps.{IsTurn, counted_in, without_trans}
-use Rattle.alp_node.specs.declared.kept.Kept.{Kept}
+use Rattle.alp_node.specs.declared.server_state.ServerState.{ServerState}
 use Rattle.alp_node.specs.declared.lives.Live.{Live}
 use Rattle.alp_node.specs.declared.sessions.Session.{Session}
 use Rattle.alp_node.specs.declared.sessions.Sessions.{Sessions}
@@ -75,7 +75,7 @@ turned u t e = go (same_trans t u) refl
     go false f = refl
 
 -- a file of the server and its epoch, by its counter
-abbrev pub numbered : {V : Type 0} → Kept V → ℕ → Resource
+abbrev pub numbered : {V : Type 0} → ServerState V → ℕ → Resource
 numbered k m = Whole (record { server = k.server; epoch = k.epoch; counter = m })
 
 -- neither of two holds anything
@@ -90,7 +90,7 @@ released_unheld t u v r alone none = release-holds t u v r alone ∙ none_either
 entered_unheld : (t : Table) (u v : TransId) (r : Resource) → holding t.held v r ≡ None → holding (entered t u).held v r ≡ None
 entered_unheld t u v r none = ap (λ h. map.get h r) (entering-keeps-held t u v) ∙ none
 
-module _ {V : Type 0} (n : ℕ) (serves : Bool) (k : Kept V) where
+module _ {V : Type 0} (n : ℕ) (serves : Bool) (k : ServerState V) where
   -- a session begins
   pub hello_ready : (client : ℕ) (name : List ℕ) → client ≤ 16 → IsReady n serves k → IsReady (n + 1) serves (record k { sessions = with_session k.sessions client (record { who = name; last = 1 }) })
   hello_ready client name le h = record {
@@ -181,7 +181,7 @@ module _ {V : Type 0} (n : ℕ) (serves : Bool) (k : Kept V) where
 
   -- a transaction begins
   module _ (turn : Turn) (t : TransId) (l : Live) (clock : ℕ) where
-    abbrev pub begun_kept : Kept V
+    abbrev pub begun_kept : ServerState V
     begun_kept = record k { sessions = counted_in k.sessions turn; clock = clock; drawn = k.drawn + 1; lives = map.insert k.lives t l; locks = entered k.locks t }
 
     pub begin_ready : IsTurn k.sessions turn → t.counter ≡ k.drawn + 1 → own_of l.part ≡ no_opens → IsReady n serves k → IsReady (n + 1) serves begun_kept

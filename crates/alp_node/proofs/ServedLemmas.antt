@@ -9,7 +9,7 @@ use Rattle.alp_files.specs.declared.reply.Reply.{Reply}
 use Rattle.alp_files.specs.declared.reply.Reply.TheVariants as reply
 use Rattle.alp_files.specs.declared.refusal.Refusal.{Refusal}
 use Rattle.alp_files.specs.declared.refusal.Refusal.TheVariants as refusal
-use Rattle.alp_files.specs.History.{Done}
+use Rattle.alp_files.specs.History.{PerformedCall}
 use Rattle.alp_vault.specs.Contents.{Contents}
 use Rattle.alp_journal.specs.declared.event.Event.TheVariants as event
 use Rattle.alp_journal.specs.State.{State, Start, Life, file_trans}
@@ -17,15 +17,15 @@ use Rattle.alp_journal.specs.State as state
 use Rattle.alp_journal.specs.Laws.{ended_at}
 use Rattle.alp_journal.specs.Causes.{own_in, AnswersOwn, AnswersFor, AnswersCall, AnswersFinish, IsFileAnswer, is_of_unknown}
 use Rattle.alp_journal.specs.Causes.IsFileAnswer.{unknown}
-use Rattle.alp_locks.specs.Tables.{Parts}
+use Rattle.alp_locks.specs.Tables.{Holders}
 use Rattle.alp_node.specs.Calls.{IsServedCall}
-use Rattle.alp_node.specs.Kept.{IsAs, IsAlike}
+use Rattle.alp_node.specs.ServerState.{IsAs, IsAlike}
 use Rattle.alp_node.specs.Asks.{is_of_given}
 use Rattle.alp_node.specs.Served.{IsInTurn, IsNextOf}
 use Rattle.alp_node.specs.Sessions.{session_at}
 use Rattle.alp_node.specs.Steps.{Stepped, IsTurn, IsOf, is_own, counted_in}
 use Rattle.alp_node.specs.declared.answer.Answer.{Answer}
-use Rattle.alp_node.specs.declared.kept.Kept.{Kept}
+use Rattle.alp_node.specs.declared.server_state.ServerState.{ServerState}
 use Rattle.alp_node.specs.declared.lives.Live.{Live}
 use Rattle.alp_node.specs.declared.sessions.Session.{Session}
 use Rattle.alp_node.specs.declared.sessions.Turn.{Turn}
@@ -60,7 +60,7 @@ served_plain s client number (call.Outcome t) h = absurd h
 served_plain s client number (call.Collect n) h = absurd h
 
 -- a live part that is not the client's here is not the client's by the journal
-pub not_own : (client : ℕ) (locks : Parts) (t : TransId) (x : Option Live) (y : Option Life) → is_own client x ≡ false → IsAlike locks t x y → own_in client y ≡ None
+pub not_own : (client : ℕ) (locks : Holders) (t : TransId) (x : Option Live) (y : Option Life) → is_own client x ≡ false → IsAlike locks t x y → own_in client y ≡ None
 not_own client locks t None None away h = refl
 not_own client locks t None (Some life) away h = absurd h
 not_own client locks t (Some l) None away h = absurd h
@@ -72,13 +72,13 @@ pub is_own_of : (client : ℕ) (x : Option Live) → is_own client x ≡ true �
 is_own_of client None e = cc
 is_own_of client (Some l) e = eqb-true l.client client e
 
-module _ {V : Type 0} (o : Start) (s : State) (told : V → Contents) (k new : Kept V) (turn : Turn) (t : TransId) (c : Call) (a : Answer) where
+module _ {V : Type 0} (o : Start) (s : State) (told : V → Contents) (k new : ServerState V) (turn : Turn) (t : TransId) (c : Call) (a : Answer) where
   refused_stepped : (f : Refusal) → IsAs o s (told k.vault) k → IsTurn k.sessions turn → IsServedCall c → state.is_not_yet (reply.Refused f) ≡ false → state.done_by s c (reply.Refused f) (file_trans c) ≡ None
       → AnswersCall s turn.client c (reply.Refused f) [] → new ≡ record k { sessions = counted_in k.sessions turn }
       → a ≡ record { kept = Some (reply.Refused f); handed = Some (reply.Refused f); acts = [] } → Stepped o s (told new.vault) new (event.Call turn.client k.epoch turn.number c) a
   refused_stepped f h turned served now none why is said =
       let plain : IsPlain s turn.client turn.number c = served_plain s turn.client turn.number c served in
-      subst (λ (n : Kept V). Stepped o s (told n.vault) n (event.Call turn.client k.epoch turn.number c) a) (sym is)
+      subst (λ (n : ServerState V). Stepped o s (told n.vault) n (event.Call turn.client k.epoch turn.number c) a) (sym is)
       (passing_stepped o s (told k.vault) k turn.client turn.session turn.number c f a h turned.client turned.session turned.number plain.kind now none (plain.ends (reply.Refused f)) why said)
 
   pub stranger_stepped : IsAs o s (told k.vault) k → IsTurn k.sessions turn → IsServedCall c → file_trans c ≡ Some t → is_own turn.client (map.get k.lives t) ≡ false
@@ -96,7 +96,7 @@ module _ {V : Type 0} (o : Start) (s : State) (told : V → Contents) (k new : K
       → (is_of_unknown s c ≡ true) × (state.done_by s c (reply.Refused refusal.UnknownFile) (file_trans c) ≡ None)
   no_file (call.OpenFile u f a mode choice) named away h =
       let none : state.is_given s f ≡ false = unknown_file o s (told k.vault) k f h away in
-      (ap not none, ap (λ (b : Bool). cond {A = Option (TransId × Done)} b None (Some (u, record { call = call.OpenFile u f a mode choice; reply = reply.Refused refusal.UnknownFile }))) (ap not none))
+      (ap not none, ap (λ (b : Bool). cond {A = Option (TransId × PerformedCall)} b None (Some (u, record { call = call.OpenFile u f a mode choice; reply = reply.Refused refusal.UnknownFile }))) (ap not none))
   no_file (call.Hello name) named away h = cc
   no_file (call.Begin seen) named away h = cc
   no_file (call.Join u) named away h = cc
@@ -129,7 +129,7 @@ module _ {V : Type 0} (o : Start) (s : State) (told : V → Contents) (k new : K
       is said
 
 -- a transaction that is not a live one of the client does not end
-module _ {V : Type 0} (o : Start) (s : State) (told : V → Contents) (k new : Kept V) (turn : Turn) (t : TransId) (commit : Bool) (a : Answer) where
+module _ {V : Type 0} (o : Start) (s : State) (told : V → Contents) (k new : ServerState V) (turn : Turn) (t : TransId) (commit : Bool) (a : Answer) where
   pub no_finish_stepped : IsAs o s (told k.vault) k → IsTurn k.sessions turn → is_own turn.client (map.get k.lives t) ≡ false → new ≡ record k { sessions = counted_in k.sessions turn }
       → a ≡ record { kept = Some (reply.Refused refusal.UnknownTrans); handed = Some (reply.Refused refusal.UnknownTrans); acts = [] }
       → Stepped o s (told new.vault) new (event.Call turn.client k.epoch turn.number (call.Finish t commit)) a
@@ -137,12 +137,12 @@ module _ {V : Type 0} (o : Start) (s : State) (told : V → Contents) (k new : K
       let c : Call = call.Finish t commit in
       let r : Reply = reply.Refused refusal.UnknownTrans in
       let none : own_in turn.client (s.lives t) ≡ None = not_own turn.client k.locks.held t (map.get k.lives t) (s.lives t) away (h.lives t) in
-      subst (λ (n : Kept V). Stepped o s (told n.vault) n (event.Call turn.client k.epoch turn.number c) a) (sym is)
+      subst (λ (n : ServerState V). Stepped o s (told n.vault) n (event.Call turn.client k.epoch turn.number c) a) (sym is)
       (passing_stepped o s (told k.vault) k turn.client turn.session turn.number c refusal.UnknownTrans a h turned.client turned.session turned.number refl refl refl refl
       (subst (λ (x : Option Life). AnswersOwn x r [] (λ _. AnswersFinish s t commit r [])) (sym none) (refl, refl)) said)
 
 -- a call in its turn has the epoch of its session
-pub in_turn_epoch : {V : Type 0} (k : Kept V) (client epoch number : ℕ) (c : Call) (w : Session) → session_at k.sessions client ≡ Some w → IsInTurn k client epoch number c → epoch ≡ k.epoch
+pub in_turn_epoch : {V : Type 0} (k : ServerState V) (client epoch number : ℕ) (c : Call) (w : Session) → session_at k.sessions client ≡ Some w → IsInTurn k client epoch number c → epoch ≡ k.epoch
 in_turn_epoch k client epoch number c w there h = go c h
   where
     next : IsNextOf (session_at k.sessions client) k.epoch epoch number → epoch ≡ k.epoch

@@ -1,5 +1,5 @@
 -- the epoch and the clock that a server starts with, and what it keeps then
-use Rattle.std.specs.Prelude.{slice_get, zero, suc, cond, Bool, true, false, IsTrue, ◌==◌, Option, None, Some, unwrap_or, Result, Ok, Err, replicate}
+use Rattle.std.specs.Prelude.{slice_get, zero, suc, cond, Bool, true, false, IsTrue, ◌==◌, Option, None, Some, is_some, unwrap_or, Result, Ok, Err, IfErr, replicate}
 use Rattle.std.specs.Option.{option_and_then, option_map}
 use Rattle.std.specs.FinMap as map
 use Rattle.std.specs.FinMap.{get-insert, get-empty, len-empty}
@@ -26,23 +26,25 @@ use Rattle.alp_files.proofs.HistoryLemmas.{same_cells}
 use Rattle.alp_locks.specs.Sound.{IsSound}
 use Rattle.alp_locks.specs.Tables.{holding}
 use Rattle.alp_queue.specs.Rises.{Held}
-use Rattle.alp_modes.specs.Orders.{trans_cmp, resource_cmp}
+use Rattle.alp_base.specs.Orders.{trans_cmp, resource_cmp}
+use Rattle.alp_base.specs.declared.allowance.Allowance.{Allowance}
 use Rattle.alp_vault.specs.Contents.{Contents}
+use Rattle.alp_vault.specs.Volumes.{AreServerNotes}
 use Rattle.alp_journal.specs.State.{Start, Along, next, opened}
 use Rattle.alp_journal.specs.Laws.{IsLawful}
 use Rattle.alp_journal.specs.Causes.{HasCause}
 use Rattle.alp_journal.specs.declared.entry.Entry.{Entry}
-use Rattle.alp_node.specs.declared.kept.Kept.{Kept}
+use Rattle.alp_node.specs.declared.server_state.ServerState.{ServerState}
 use Rattle.alp_node.specs.declared.lives.Live.{Live}
 use Rattle.alp_node.specs.declared.node.Node.{Node}
 use Rattle.alp_node.specs.declared.sessions.Session.{Session}
 use Rattle.alp_node.specs.declared.start.StartFault.{StartFault}
 use Rattle.alp_node.specs.declared.start.StartFault.TheVariants as start_fault
-use Rattle.alp_node.specs.Kept.{IsAs, IsReady, IsAlike, LiveMap, told_session}
+use Rattle.alp_node.specs.ServerState.{IsAs, IsReady, IsAlike, LiveMap, told_session}
 use Rattle.alp_node.specs.Nodes.{IsRight, start_at}
 use Rattle.alp_journal.specs.Serial.{state_of}
 use Rattle.alp_node.specs.Sessions.{no_sessions, session_at}
-use Rattle.alp_node.specs.Starts.{after_clock, after_note, raised}
+use Rattle.alp_node.specs.Starts.{HasStartCause, after_clock, after_note, raised}
 use Rattle.alp_node.proofs.KeptLemmas.{noted_twice}
 
 ok_same : {A E : Type 0} (x y : A) → ◌≡◌ {A = Result A E} (Ok x) (Ok y) → x ≡ y
@@ -79,6 +81,25 @@ raised_later held c e = (after_any (map.get held.notes clock_name) c e).later
 
 pub raised_within : (held : Contents) (c : ClockNote) → raised held ≡ Ok c → c.clock ≤ 2 ^ 62
 raised_within held c e = (after_any (map.get held.notes clock_name) c e).within
+
+-- why a server does not start on notes that are in their format
+pub start_cause : (server servers : ℕ) (held : Contents) (before : ℕ) (a : Allowance) (value : List ℕ) (r : Result ClockNote StartFault) → AreServerNotes server servers held.notes
+    → map.get held.notes clock_name ≡ Some value → r ≡ after_clock (whole clock_form value) → IfErr r (HasStartCause server servers held before before a)
+start_cause server servers held before a value r are there is =
+    subst (λ (x : Result ClockNote StartFault). IfErr x (HasStartCause server servers held before before a)) (sym is) (go (whole clock_form value) refl)
+  where
+    ends : (k : ClockNote) → whole clock_form value ≡ Some k → (b : Bool) → (k.epoch == 4294967295) ≡ b
+        → IfErr (cond {A = Result ClockNote StartFault} b (Err start_fault.EpochEnd) (Ok (record k { epoch = k.epoch + 1 }))) (HasStartCause server servers held before before a)
+    ends k e true last = (
+      are,
+      ap after_note there ∙ ap after_clock e
+          ∙ ap (λ (b : Bool). cond {A = Result ClockNote StartFault} b (Err start_fault.EpochEnd) (Ok (record k { epoch = k.epoch + 1 }))) last,
+    )
+    ends k e false last = tt
+
+    go : (o : Option ClockNote) → whole clock_form value ≡ o → IfErr (after_clock o) (HasStartCause server servers held before before a)
+    go None e = let wrong : false ≡ true = ap (λ (o : Option ClockNote). is_some o) (sym e) ∙ are clock_name value there in cc
+    go (Some k) e = ends k e (k.epoch == 4294967295) refl
 
 -- the note that was put is kept
 pub put_kept : (notes : Notes) (c : ClockNote) → clock_kept (map.insert notes clock_name (clock_form.spell c)) ≡ clock_in (Some (clock_form.spell c))
@@ -120,7 +141,7 @@ none_born server epoch last held old later n high = go (map.get held (Leader f))
     go (Some c) e = let young : epoch ≤ last = (old f c e).1 in absurd (omega (arith, young, later))
 
 -- a server that did nothing yet
-abbrev pub new_kept : {V : Type 0} (old : Kept V) (server : ℕ) (c : ClockNote) → Kept V
+abbrev pub new_kept : {V : Type 0} (old : ServerState V) (server : ℕ) (c : ClockNote) → ServerState V
 new_kept old server c = record old {
   server = server;
   epoch = c.epoch;
@@ -137,7 +158,7 @@ new_kept old server c = record old {
 alike_none : (t : TransId) → IsAlike map.empty t (map.get no_lives t) None
 alike_none t = subst (λ (x : Option Live). IsAlike map.empty t x None) (sym (none_live t)) (none_locked t)
 
-pub new_as : {V : Type 0} (old : Kept V) (server last : ℕ) (c : ClockNote) (held : Contents) (before : Notes) → AreSound held.cells
+pub new_as : {V : Type 0} (old : ServerState V) (server last : ℕ) (c : ClockNote) (held : Contents) (before : Notes) → AreSound held.cells
     → ((f : FileId) (x : Cell) → map.get held.cells (Leader f) ≡ Some x → (f.server ≡ server) × (f.epoch ≤ last)) → last < c.epoch
     → held.notes ≡ map.insert before clock_name (clock_form.spell c) → clock_kept held.notes ≡ c
     → IsAs (start_at server held) (opened (start_at server held)) held (new_kept old server c)
@@ -168,7 +189,7 @@ new_as old server last c held before sound ids later notes kept =
 le_of : {n : ℕ} → n ≡ 0 → n ≤ 0
 le_of is = omega (arith, is)
 
-pub new_ready : {V : Type 0} (old : Kept V) (server : ℕ) (c : ClockNote) (serves : Bool) → IsTrue serves → IsSound (new_kept old server c).locks
+pub new_ready : {V : Type 0} (old : ServerState V) (server : ℕ) (c : ClockNote) (serves : Bool) → IsTrue serves → IsSound (new_kept old server c).locks
     → IsReady 0 serves (new_kept old server c)
 new_ready old server c serves up sound = record {
   serving = λ _. up;

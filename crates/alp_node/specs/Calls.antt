@@ -13,9 +13,9 @@ use Rattle.alp_files.specs.Passing.{is_passing, IsFileReply}
 use Rattle.alp_calls.specs.declared.fault.CallFault.{CallFault}
 use Rattle.alp_calls.specs.declared.part.Part.{Part}
 use Rattle.alp_calls.specs.Parts.{AnswersCall, GivesOnly, ReadsOnly, IsAsBefore}
-use Rattle.alp_node.specs.declared.kept.Kept.{Kept}
+use Rattle.alp_node.specs.declared.server_state.ServerState.{ServerState}
 use Rattle.alp_node.specs.declared.lives.Live.{Live}
-use Rattle.alp_node.specs.Kept.{mode_for}
+use Rattle.alp_node.specs.ServerState.{mode_for}
 
 -- file calls that are performed so far: opens lock their files in their access's mode, reads are in Read, a write has as
 -- many pages as its run, and nobody waits for locks
@@ -41,7 +41,7 @@ IsLockCall (call.MakeOwner t name quota create choice) = Unit {0}
 IsLockCall _ = ⊥
 
 -- the id that the next file gets
-abbrev pub next_file : {V : Type 0} → Kept V → FileId
+abbrev pub next_file : {V : Type 0} → ServerState V → FileId
 next_file k = record { server = k.server; epoch = k.epoch; counter = k.given + 1 }
 
 -- what a live part gave for a call, and how it stands
@@ -58,7 +58,7 @@ Outcome tells cells id l p c (Ok r) = Gave tells cells id l p c r
 Outcome tells cells id l p c (Err e) = IsAsBefore l.part p
 
 -- the part performed the call, and nothing else changed
-pub record Performed {V : Type 0} (tells : Bool) (cells : Cells) (old new : Kept V) (t : TransId) (l : Live) (c : Call) (r : Result Reply CallFault) : Type 0 where
+pub record Performed {V : Type 0} (tells : Bool) (cells : Cells) (old new : ServerState V) (t : TransId) (l : Live) (c : Call) (r : Result Reply CallFault) : Type 0 where
   pub part : Part
   pub kept : new ≡ record old { lives = map.insert old.lives t (record l { part = part }); vault = new.vault }
   pub outcome : Outcome tells cells (next_file old) l part c r

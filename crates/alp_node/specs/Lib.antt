@@ -1,5 +1,5 @@
 pub mod Sessions
-pub mod Kept
+pub mod ServerState
 pub mod Asks
 pub mod Halts
 pub mod Calls

@@ -1,5 +1,6 @@
 -- A server and its journal.
-use Rattle.std.specs.Prelude.{◌≡◌, ℕ, ◌<◌, Bool, IsTrue, List, [], ◌∷◌, ◌++◌, length, Option, is_some}
+use Rattle.std.specs.Prelude.{◌≡◌, ℕ, ◌<◌, Bool, false, IsTrue, List, [], ◌∷◌, ◌++◌, length, Option, is_some}
+use Rattle.std.specs.FinMap as map
 use Rattle.std.specs.List.{filter, list_any}
 use Rattle.alp_base.specs.declared.allowance.Allowance.{Allowance}
 use Rattle.alp_files.specs.declared.reply.Reply.{Reply}
@@ -12,8 +13,9 @@ use Rattle.alp_journal.specs.State.{Start, Along, next, opened, is_stop}
 use Rattle.alp_journal.specs.Laws.{IsLawful, IsSoundOpening}
 use Rattle.alp_journal.specs.Causes.{HasCause, halts_told}
 use Rattle.alp_node.specs.declared.node.Node.{Node}
-use Rattle.alp_node.specs.Kept.{IsAs, IsReady}
+use Rattle.alp_node.specs.ServerState.{IsAs, IsReady}
 use Rattle.alp_node.specs.Halts.{HaveCauses}
+use Rattle.alp_node.specs.Sessions.{no_sessions}
 use Rattle.alp_node.specs.Steps.{is_call}
 
 -- what it was started on, by what its vault held then
@@ -32,9 +34,18 @@ pub record IsRight {V : Type 0} (o : Start) (held : Contents) (n : Node V) : Typ
   pub kept : IsAs o (state_of o n.journal) held n.kept
 
 -- what holds of each server that the calls make, by what its vault shows
-pub record IsKept {V : Type 0} (tells serves : V → Bool) (held : V → Contents) (n : Node V) : Type 0 where
+pub record IsConsistent {V : Type 0} (tells serves : V → Bool) (held : V → Contents) (n : Node V) : Type 0 where
   pub ready : IsReady (length n.journal) (serves n.kept.vault) n.kept
   pub right : IsTrue (tells n.kept.vault) → IsRight (start_in held n) (held n.kept.vault) n
+
+-- A server that did nothing yet: its opening is its vault as it is, nobody has a session or a transaction, and it is up.
+pub record IsNew {V : Type 0} (server : ℕ) (n : Node V) : Type 0 where
+  pub number : n.kept.server ≡ server
+  pub opening : n.opening.vault.value ≡ n.kept.vault
+  pub journal : n.journal ≡ []
+  pub sessions : n.kept.sessions ≡ no_sessions
+  pub lives : n.kept.lives ≡ map.empty
+  pub up : n.kept.is_down ≡ false
 
 -- One entry more: this event, this reply, and what came about. Each call has a reply, and nothing else has one. The reply
 -- tells of a vault that failed or was stopped just where that came about, which has its cause, and just then the server is

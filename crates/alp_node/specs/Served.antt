@@ -14,7 +14,7 @@ use Rattle.alp_journal.specs.declared.event.Event.{Event}
 use Rattle.alp_journal.specs.declared.event.Event.TheVariants as event
 use Rattle.alp_node.specs.Sessions.{session_at}
 use Rattle.alp_node.specs.declared.sessions.Session.{Session}
-use Rattle.alp_node.specs.declared.kept.Kept.{Kept}
+use Rattle.alp_node.specs.declared.server_state.ServerState.{ServerState}
 use Rattle.alp_node.specs.Calls.{IsServedCall}
 
 -- a greeting, the begin or the end of a transaction, or a file call of the grammar that is served
@@ -35,11 +35,11 @@ IsNextOf None server_epoch epoch number = ⊥
 IsNextOf (Some w) server_epoch epoch number = (epoch ≡ server_epoch) × (number ≡ w.last + 1)
 
 -- a client greets first and once, and then its calls have the numbers in turn
-abbrev pub IsInTurn : {V : Type 0} → Kept V → ℕ → ℕ → ℕ → Call → Type 0
+abbrev pub IsInTurn : {V : Type 0} → ServerState V → ℕ → ℕ → ℕ → Call → Type 0
 IsInTurn k client epoch number (call.Hello name) = (session_at k.sessions client ≡ None) × (epoch ≡ 0) × (number ≡ 1)
 IsInTurn k client epoch number c = IsNextOf (session_at k.sessions client) k.epoch epoch number
 
-abbrev pub IsServed : {V : Type 0} → Kept V → Event → Type 0
+abbrev pub IsServed : {V : Type 0} → ServerState V → Event → Type 0
 IsServed k (event.Call client epoch number c) = (client ≤ 16) × IsAskable c × IsInTurn k client epoch number c
 IsServed k (event.Timeout t) = Unit {0}
 IsServed k e = ⊥
@@ -51,5 +51,5 @@ is_on_open (call.WritePages t n r pages choice) = true
 is_on_open c = false
 
 -- what each live part intends leaves well-formed files
-abbrev pub AreLivesSound : {V : Type 0} → Contents → Kept V → Type 0
+abbrev pub AreLivesSound : {V : Type 0} → Contents → ServerState V → Type 0
 AreLivesSound held k = (t : TransId) (l : Live) → map.get k.lives t ≡ Some l → (m : Cells) → map.get m ≡ over l.part.intents (map.get held.cells) → AreSound m

@@ -1,5 +1,5 @@
 -- How a server starts: in the epoch after that of its note.
-use Rattle.std.specs.Prelude.{◌≡◌, ℕ, ◌≤◌, ◌+◌, ◌==◌, List, Option, None, Some, Result, Ok, Err, if◌then◌else◌}
+use Rattle.std.specs.Prelude.{◌≡◌, ℕ, ◌≤◌, ◌+◌, ◌==◌, Bool, IsTrue, List, Option, None, Some, Result, Ok, Err, if◌then◌else◌}
 use Rattle.std.specs.FinMap as map
 use Rattle.alp_base.specs.declared.allowance.Allowance.{Allowance}
 use Rattle.alp_base.specs.declared.ids.FileId.{FileId}
@@ -11,6 +11,7 @@ use Rattle.alp_files.specs.declared.cell.Cell.{Cell}
 use Rattle.alp_files.specs.Apart.{AreSized}
 use Rattle.alp_vault.specs.Contents.{Contents}
 use Rattle.alp_vault.specs.Vault.{HasFaultCause, IsOfVolume}
+use Rattle.alp_vault.specs.Volumes.{AreServerNotes}
 use Rattle.alp_node.specs.declared.start.StartFault.{StartFault}
 use Rattle.alp_node.specs.declared.start.StartFault.TheVariants as fault
 
@@ -31,14 +32,23 @@ after_note (Some value) = after_clock (whole clock_form value)
 abbrev pub raised : Contents → Result ClockNote StartFault
 raised held = after_note (map.get held.notes clock_name)
 
+-- A server started on what its vault held: notes in the format of the server, which is one of so many, and cells that stay. The
+-- epoch and the clock that it raised the note to stand in it.
+pub record HasRaised (tells : Bool) (server servers : ℕ) (before now : Contents) (clock : ClockNote) : Type 0 where
+  pub format : AreServerNotes server servers before.notes
+  pub next : raised before ≡ Ok clock
+  pub cells : IsTrue tells → now.cells ≡ before.cells
+  pub notes : now.notes ≡ map.insert before.notes clock_name (clock_form.spell clock)
+
 -- it is the note by which the server does not start
 abbrev pub IsNoteFault : StartFault → Type 0
 IsNoteFault fault.BadNote = Unit {0}
 IsNoteFault fault.EpochEnd = Unit {0}
 IsNoteFault (fault.Vault f) = ⊥
 
--- why a server does not start: a fault of the vault, which is a volume in its format, or what its note says
-abbrev pub HasStartCause : Contents → ℕ → ℕ → Allowance → StartFault → Type 0
-HasStartCause held before now allowance (fault.Vault f) = HasFaultCause before now allowance f × IsOfVolume f
-HasStartCause held before now allowance fault.BadNote = raised held ≡ Err fault.BadNote
-HasStartCause held before now allowance fault.EpochEnd = raised held ≡ Err fault.EpochEnd
+-- Why a server does not start: a fault of the vault, which is a volume in its format, or what its notes say. The notes are
+-- to be in the format of this server, one of so many.
+abbrev pub HasStartCause : ℕ → ℕ → Contents → ℕ → ℕ → Allowance → StartFault → Type 0
+HasStartCause server servers held before now allowance (fault.Vault f) = HasFaultCause before now allowance f × IsOfVolume f
+HasStartCause server servers held before now allowance fault.BadNote = AreServerNotes server servers held.notes → ⊥
+HasStartCause server servers held before now allowance fault.EpochEnd = AreServerNotes server servers held.notes × (raised held ≡ Err fault.EpochEnd)

@@ -19,14 +19,15 @@ use Rattle.alp_journal.specs.State.{State, Start, is_stop}
 use Rattle.alp_journal.specs.Steps.{Leads}
 use Rattle.alp_journal.specs.Causes.{HasCause, halts_told}
 use Rattle.alp_vault.specs.Contents.{Contents}
+use Rattle.alp_vault.specs.declared.vault.Vault.{Ghosts}
 use Rattle.alp_node.specs.declared.answer.Answer.{Answer}
-use Rattle.alp_node.specs.declared.kept.Kept.{Kept}
+use Rattle.alp_node.specs.declared.server_state.ServerState.{ServerState}
 use Rattle.alp_node.specs.declared.lives.Live.{Live}
 use Rattle.alp_node.specs.declared.sessions.Turn.{Turn}
 use Rattle.alp_node.specs.declared.sessions.Sessions.{Sessions}
 use Rattle.alp_node.specs.Halts.{halt_of, HaveCauses}
 use Rattle.alp_node.specs.Sessions.{session_at, with_session}
-use Rattle.alp_node.specs.Kept.{IsAs, IsReady}
+use Rattle.alp_node.specs.ServerState.{IsAs, IsReady}
 
 -- the entry of an event with its answer
 abbrev pub entry_of : Event → Answer → Entry
@@ -43,7 +44,7 @@ IsTimely before e now = now ≤ max before (seen_in e) + 1
 
 -- The entry of the answered event is lawful, the server keeps what its state says then, the answer has its cause, and the
 -- clock is no later than it may be.
-pub record Stepped {V : Type 0} (o : Start) (s : State) (held : Contents) (new : Kept V) (e : Event) (a : Answer) : Type 0 where
+pub record Stepped {V : Type 0} (o : Start) (s : State) (held : Contents) (new : ServerState V) (e : Event) (a : Answer) : Type 0 where
   pub next : State
   pub leads : Leads s (entry_of e a) next
   pub kept : IsAs o next held new
@@ -51,7 +52,7 @@ pub record Stepped {V : Type 0} (o : Start) (s : State) (held : Contents) (new :
   pub clock : IsTimely s.clock e new.clock
 
 -- which server it is stays as it was, and nobody adds to the allowance of its vault
-pub record IsSeated {V : Type 0} (allowance : V → Allowance) (old new : Kept V) : Type 0 where
+pub record IsSeated {V : Type 0} (allowance : V → Allowance) (old new : ServerState V) : Type 0 where
   pub server : new.server ≡ old.server
   pub epoch : new.epoch ≡ old.epoch
   pub spends : Spends (allowance old.vault) (allowance new.vault)
@@ -71,21 +72,21 @@ pub record IsGiven (asked : Bool) (before now : ℕ) (allowance : Allowance) (is
   pub causes : HaveCauses before now allowance a.acts
 
 -- where memory was wanting, the server keeps what it kept
-pub record IsStill {V : Type 0} (serves : V → Bool) (held : V → Contents) (old new : Kept V) : Type 0 where
+pub record IsStill {V : Type 0} (serves : V → Bool) (held : V → Contents) (old new : ServerState V) : Type 0 where
   pub kept : (o : Start) (s : State) → IsAs o s (held old.vault) old → IsAs o s (held new.vault) new
   pub ready : (steps : ℕ) → IsReady steps (serves old.vault) old → IsReady steps (serves new.vault) new
   pub up : new.is_down ≡ old.is_down
 
 -- What a step comes to: with an answer to the event the server is a step further, and without one it is as before.
-pub record IsStep {V : Type 0} (tells serves : V → Bool) (held : V → Contents) (faults : V → ℕ) (allowance : V → Allowance) (old new : Kept V) (e : Event) (r : Result Answer OutOfMemory) : Type 0 where
+pub record IsStep {V : Type 0} (G : Ghosts V) (old new : ServerState V) (e : Event) (r : Result Answer OutOfMemory) : Type 0 where
   -- where the vault tells what it holds, by what the journal says
-  pub stepped : IsTrue (tells old.vault) → (o : Start) (s : State) → IsAs o s (held old.vault) old → IfOk r (Stepped o s (held new.vault) new e)
+  pub stepped : IsTrue (G.tells old.vault) → (o : Start) (s : State) → IsAs o s (G.held old.vault) old → IfOk r (Stepped o s (G.held new.vault) new e)
   -- and of any vault
-  pub given : IfOk r (IsGiven (is_call e) (faults old.vault) (faults new.vault) (allowance new.vault) new.is_down)
-  pub ready : (steps : ℕ) → IsReady steps (serves old.vault) old → OnOk r (IsReady (steps + 1) (serves new.vault) new)
-  pub still : OnErr r (IsStill serves held old new)
-  pub seat : IsSeated allowance old new
-  pub telling : tells new.vault ≡ tells old.vault
+  pub given : IfOk r (IsGiven (is_call e) (G.faults old.vault) (G.faults new.vault) (G.allowance new.vault) new.is_down)
+  pub ready : (steps : ℕ) → IsReady steps (G.serves old.vault) old → OnOk r (IsReady (steps + 1) (G.serves new.vault) new)
+  pub still : OnErr r (IsStill G.serves G.held old new)
+  pub seat : IsSeated G.allowance old new
+  pub telling : G.tells new.vault ≡ G.tells old.vault
 
 -- it is the session's next call
 pub record IsTurn (sessions : Sessions) (t : Turn) : Type 0 where
@@ -108,7 +109,7 @@ is_own client None = false
 is_own client (Some l) = l.client == client
 
 -- the server where the transaction is live no more, and its locks are gone
-abbrev pub without_trans : {V : Type 0} → Kept V → TransId → Kept V
+abbrev pub without_trans : {V : Type 0} → ServerState V → TransId → ServerState V
 without_trans k t = record k { lives = map.remove k.lives t; locks = released k.locks t }
 
 -- the answer that says so, behind the acts that name what was written

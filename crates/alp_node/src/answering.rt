@@ -4,19 +4,19 @@ ghost use Rattle.alp_files.specs.declared.call.Call.TheVariants as call;
 ghost use Rattle.alp_journal.specs.declared.event.Event.TheVariants as event;
 ghost use Rattle.alp_journal.specs.State.{file_trans};
 ghost use Rattle.alp_node.specs.Calls.{IsServedCall};
-ghost use Rattle.alp_node.specs.Kept.{IsReadyForMore, IsOfJournal};
+ghost use Rattle.alp_node.specs.ServerState.{IsReadyForMore, IsOfJournal};
 ghost use Rattle.alp_node.specs.Served.{IsServed, IsTurnCall, AreLivesSound};
 ghost use Rattle.alp_node.specs.Steps.{IsStep, IsTurn};
 
 use crate::answer::Answer;
-use crate::kept::Kept;
+use crate::server_state::ServerState;
 use crate::sessions::Turn;
 use alp_base::{OutOfMemory, TransId};
 use alp_files::{Call, Refusal};
 use alp_journal::Event;
 use alp_vault::Vault;
 
-impl<V: Vault> Kept<V> {
+impl<V: Vault> ServerState<V> {
     // A transaction ends as its client asks.
     fn finish(&mut self, turn: &Turn, trans: TransId, commit: bool) -> Result<Answer, OutOfMemory>
         requires turn { IsTurn self.old.sessions turn.now }
@@ -24,7 +24,7 @@ impl<V: Vault> Kept<V> {
         requires clock { self.old.clock < 2 ^ 62 }
         requires ready { IsReadyForMore (V.serves self.old.vault) self.old }
         requires sound { IsTrue (V.tells self.old.vault) → AreLivesSound (V.held self.old.vault) self.old }
-        ensures { IsStep V.tells V.serves V.held V.faults V.allowance self.old self.new (event.Call turn.now.client self.old.epoch turn.now.number (call.Finish trans commit)) result }
+        ensures { IsStep V.Vault self.old self.new (event.Call turn.now.client self.old.epoch turn.now.number (call.Finish trans commit)) result }
     {
         if !self.is_own(turn.client, &trans) {
             return Ok(self.refuse(turn, Refusal::UnknownTrans));
@@ -44,7 +44,7 @@ impl<V: Vault> Kept<V> {
         requires ready { IsReadyForMore (V.serves self.old.vault) self.old }
         requires known { IsTrue (V.tells self.old.vault) → IsOfJournal (V.held self.old.vault) self.old }
         requires sound { IsTrue (V.tells self.old.vault) → AreLivesSound (V.held self.old.vault) self.old }
-        ensures { IsStep V.tells V.serves V.held V.faults V.allowance self.old self.new (event.Call turn.now.client self.old.epoch turn.now.number call.now) result }
+        ensures { IsStep V.Vault self.old self.new (event.Call turn.now.client self.old.epoch turn.now.number call.now) result }
     {
         if let Call::Begin { seen } = call {
             return self.begin(turn, *seen);
@@ -66,7 +66,7 @@ impl<V: Vault> Kept<V> {
         requires ready { IsReadyForMore (V.serves self.old.vault) self.old }
         requires known { IsTrue (V.tells self.old.vault) → IsOfJournal (V.held self.old.vault) self.old }
         requires sound { IsTrue (V.tells self.old.vault) → AreLivesSound (V.held self.old.vault) self.old }
-        ensures { (epoch : ℕ) → IsServed self.old (event.Call client epoch number call.now) → IsStep V.tells V.serves V.held V.faults V.allowance self.old self.new (event.Call client epoch number call.now) result }
+        ensures { (epoch : ℕ) → IsServed self.old (event.Call client epoch number call.now) → IsStep V.Vault self.old self.new (event.Call client epoch number call.now) result }
     {
         if let Call::Hello { name } = call {
             return self.hello(client, *name);
@@ -90,7 +90,7 @@ impl<V: Vault> Kept<V> {
         requires ready { IsReadyForMore (V.serves self.old.vault) self.old }
         requires known { IsTrue (V.tells self.old.vault) → IsOfJournal (V.held self.old.vault) self.old }
         requires sound { IsTrue (V.tells self.old.vault) → AreLivesSound (V.held self.old.vault) self.old }
-        ensures { IsStep V.tells V.serves V.held V.faults V.allowance self.old self.new event.now result }
+        ensures { IsStep V.Vault self.old self.new event.now result }
     {
         match event {
             Event::Call {

@@ -3,12 +3,12 @@ ghost use Rattle.std.specs.Prelude.{◌≡◌, ◌+◌, ◌<◌, ◌≤◌, None
 ghost use Rattle.alp_files.specs.declared.call.Call.TheVariants as call;
 ghost use Rattle.alp_journal.specs.declared.event.Event.TheVariants as event;
 ghost use Rattle.alp_node.specs.Sessions.{session_at};
-ghost use Rattle.alp_node.specs.Kept.{IsReadyForMore};
+ghost use Rattle.alp_node.specs.ServerState.{IsReadyForMore};
 ghost use Rattle.alp_node.specs.Steps.{IsStep, IsTurn};
 
 use crate::answer::Answer;
-use crate::kept::Kept;
 use crate::lives::Live;
+use crate::server_state::ServerState;
 use crate::sessions::{Session, Turn};
 use alp_base::{Name, OutOfMemory, Stamp, TransId};
 use alp_calls::Part;
@@ -16,13 +16,13 @@ use alp_files::Reply;
 use alp_journal::{Act, Acts};
 use alp_vault::Vault;
 
-impl<V: Vault> Kept<V> {
+impl<V: Vault> ServerState<V> {
     /// A client's session begins.
     pub fn hello(&mut self, client: u8, name: Name) -> Result<Answer, OutOfMemory>
         requires client { client ≤ 16 }
         requires first { session_at self.old.sessions client ≡ None }
         requires up { self.old.is_down ≡ false }
-        ensures { IsStep V.tells V.serves V.held V.faults V.allowance self.old self.new (event.Call client 0 1 (call.Hello name)) result }
+        ensures { IsStep V.Vault self.old self.new (event.Call client 0 1 (call.Hello name)) result }
     {
         let answer = Answer::new(
             Reply::Welcome { epoch: self.epoch },
@@ -37,7 +37,7 @@ impl<V: Vault> Kept<V> {
         requires turn { IsTurn self.old.sessions turn.now }
         requires up { self.old.is_down ≡ false }
         requires ready { IsReadyForMore (V.serves self.old.vault) self.old }
-        ensures { IsStep V.tells V.serves V.held V.faults V.allowance self.old self.new (event.Call turn.now.client self.old.epoch turn.now.number (call.Begin seen)) result }
+        ensures { IsStep V.Vault self.old self.new (event.Call turn.now.client self.old.epoch turn.now.number (call.Begin seen)) result }
     {
         let trans = TransId {
             server: self.server,

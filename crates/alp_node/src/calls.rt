@@ -9,13 +9,13 @@ ghost use Rattle.alp_node.specs.declared.lives.Live.{Live as ALive};
 ghost use Rattle.alp_files.specs.Locks.{IsFormed};
 ghost use Rattle.alp_journal.specs.declared.event.Event.TheVariants as event;
 ghost use Rattle.alp_journal.specs.State.{file_trans};
-ghost use Rattle.alp_node.specs.Kept.{IsReadyForMore, IsOfJournal};
+ghost use Rattle.alp_node.specs.ServerState.{IsReadyForMore, IsOfJournal};
 ghost use Rattle.alp_node.specs.Steps.{IsStep, IsTurn, IsOf};
 ghost use Rattle.alp_node.specs.Calls.{next_file as next_file_of, Performed, IsPageCall};
 
 use crate::answer::Answer;
-use crate::kept::Kept;
 use crate::lives::Live;
+use crate::server_state::ServerState;
 use crate::sessions::Turn;
 use alp_base::{FileId, OutOfMemory, TransId};
 use alp_calls::{CallFault, Part};
@@ -23,7 +23,7 @@ use alp_files::{Call, Reply};
 use alp_journal::Acts;
 use alp_vault::Vault;
 
-impl<V: Vault> Kept<V> {
+impl<V: Vault> ServerState<V> {
     /// A call on an open, whose file is locked already.
     pub fn page_call(
         &mut self,
@@ -39,7 +39,7 @@ impl<V: Vault> Kept<V> {
         requires named { file_trans call.now ≡ Some trans }
         requires formed { IsFormed call.now }
         requires known { IsTrue (V.tells self.old.vault) → IsOfJournal (V.held self.old.vault) self.old }
-        ensures { IsStep V.tells V.serves V.held V.faults V.allowance self.old self.new (event.Call turn.now.client self.old.epoch turn.now.number call.now) result }
+        ensures { IsStep V.Vault self.old self.new (event.Call turn.now.client self.old.epoch turn.now.number call.now) result }
     {
         let halted = Vec::with_capacity(self.alloc, 1)?;
         match self.perform(trans, call) {
@@ -73,7 +73,7 @@ impl<V: Vault> Kept<V> {
         requires new { IsTrue (V.tells self.old.vault) → (l : ALive) → map.get self.old.lives trans ≡ Some l → seen (V.held self.old.vault).cells l.part (Leader (next_file_of self.old)) ≡ None }
         requires built { IsBuilt call.now }
         ensures performed { (l : ALive) → map.get self.old.lives trans ≡ Some l → Performed (V.tells self.old.vault) (V.held self.old.vault).cells self.old self.new trans l call.now result }
-        ensures looked { Looks V.tells V.serves V.volume V.held V.may_leave V.left_since V.faults V.allowance self.old.vault self.new.vault (fault_in result) }
+        ensures looked { Looks V.Vault self.old.vault self.new.vault (fault_in result) }
     {
         let id = self.next_file();
         let Some(found) = self.lives.get(&trans) else {

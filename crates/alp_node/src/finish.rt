@@ -9,12 +9,12 @@ ghost use Rattle.alp_files.specs.declared.call.Call.TheVariants as call;
 ghost use Rattle.alp_journal.specs.declared.act.Act.TheVariants as act;
 ghost use Rattle.alp_journal.specs.declared.event.Event.TheVariants as event;
 ghost use Rattle.alp_node.specs.declared.lives.Live.{Live as ALive};
-ghost use Rattle.alp_node.specs.Kept.{IsReadyForMore};
+ghost use Rattle.alp_node.specs.ServerState.{IsReadyForMore};
 ghost use Rattle.alp_files.specs.declared.reply.Reply.TheVariants as reply;
 ghost use Rattle.alp_node.specs.Steps.{IsStep, IsTurn, IsOf, IsHalted, counted_in, without_trans};
 
 use crate::answer::Answer;
-use crate::kept::Kept;
+use crate::server_state::ServerState;
 use crate::sessions::Turn;
 use crate::stored::store;
 use alp_base::{OutOfMemory, Stamp, TransId};
@@ -35,7 +35,7 @@ fn decision(alloc: Global, stamp: Stamp) -> Act
     }
 }
 
-impl<V: Vault> Kept<V> {
+impl<V: Vault> ServerState<V> {
     // The transaction is live no more, and its locks go.
     fn forget(&mut self, trans: TransId)
         ensures { self.new ≡ without_trans self.old trans }
@@ -50,7 +50,7 @@ impl<V: Vault> Kept<V> {
         requires own { IsOf turn.now.client (map.get self.old.lives trans) }
         requires up { self.old.is_down ≡ false }
         requires alone { self.old.locks.waiting ≡ [] }
-        ensures { IsStep V.tells V.serves V.held V.faults V.allowance self.old self.new (event.Call turn.now.client self.old.epoch turn.now.number (call.Finish trans false)) result }
+        ensures { IsStep V.Vault self.old self.new (event.Call turn.now.client self.old.epoch turn.now.number (call.Finish trans false)) result }
     {
         let acts = Acts::new(vec![in self.alloc; Act::Released { trans }]?);
         let refusal = Refusal::Aborted {
@@ -65,7 +65,7 @@ impl<V: Vault> Kept<V> {
     pub fn time_out(&mut self, trans: TransId) -> Result<Answer, OutOfMemory>
         requires up { self.old.is_down ≡ false }
         requires alone { self.old.locks.waiting ≡ [] }
-        ensures { IsStep V.tells V.serves V.held V.faults V.allowance self.old self.new (event.Timeout trans) result }
+        ensures { IsStep V.Vault self.old self.new (event.Timeout trans) result }
     {
         if !self.lives.has(&trans) {
             return Ok(Answer::silence(Acts::new(Vec::new(self.alloc))));
@@ -84,7 +84,7 @@ impl<V: Vault> Kept<V> {
         requires ready { IsReadyForMore (V.serves self.old.vault) self.old }
         requires clock { self.old.clock < 2 ^ 62 }
         requires sound { IsTrue (V.tells self.old.vault) → (l : ALive) → map.get self.old.lives trans ≡ Some l → (m : Cells) → map.get m ≡ over l.part.intents (map.get (V.held self.old.vault).cells) → AreSound m }
-        ensures { IsStep V.tells V.serves V.held V.faults V.allowance self.old self.new (event.Call turn.now.client self.old.epoch turn.now.number (call.Finish trans true)) result }
+        ensures { IsStep V.Vault self.old self.new (event.Call turn.now.client self.old.epoch turn.now.number (call.Finish trans true)) result }
     {
         let stamp = Stamp {
             ts: self.clock + 1,

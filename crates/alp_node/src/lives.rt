@@ -4,7 +4,7 @@ ghost use Rattle.std.specs.FinMap as map;
 ghost use Rattle.std.specs.Option.{option_copied as copied};
 ghost use Rattle.std.specs.BTreeMap.{keys, IsOrdered};
 ghost use Rattle.std.specs.List.Sorted.{IsStrictlySortedBy};
-ghost use Rattle.alp_modes.specs.Orders.{trans_cmp};
+ghost use Rattle.alp_base.specs.Orders.{trans_cmp};
 
 use alp_base::{Name, OutOfMemory, TransId};
 use alp_calls::Part;
@@ -28,7 +28,7 @@ pub struct Lives {
 
 impl Model for Lives {
     ghost use Rattle.std.specs.FinMap as map;
-    ghost use Rattle.alp_modes.specs.Orders.{trans_cmp};
+    ghost use Rattle.alp_base.specs.Orders.{trans_cmp};
     ghost use Rattle.alp_node.specs.declared.lives.Live.{Live};
     ghost use Rattle.alp_base.specs.contracts.ids.TransId as id_type;
     ghost use Rattle.alp_node.specs.contracts.lives.Live as live_type;

@@ -6,13 +6,13 @@ ghost use Rattle.alp_locks.specs.Sound.{IsPrepared};
 ghost use Rattle.alp_journal.specs.declared.event.Event.TheVariants as event;
 ghost use Rattle.alp_journal.specs.State.{file_trans};
 ghost use Rattle.alp_node.specs.Asks.{is_of_given, is_made as is_made_of, plan_for, count_made, with_plan};
-ghost use Rattle.alp_node.specs.Kept.{IsReadyForMore, IsOfJournal};
+ghost use Rattle.alp_node.specs.ServerState.{IsReadyForMore, IsOfJournal};
 ghost use Rattle.alp_node.specs.Steps.{IsStep, IsTurn, IsOf};
 ghost use Rattle.alp_node.specs.Calls.{IsLockCall};
 
 use crate::answer::Answer;
 use crate::asks::{asks, asks_made};
-use crate::kept::Kept;
+use crate::server_state::ServerState;
 use crate::sessions::Turn;
 use alp_base::{OutOfMemory, TransId};
 use alp_files::{Call, Refusal, Reply};
@@ -20,7 +20,7 @@ use alp_journal::{Act, Acts};
 use alp_locks::Plan;
 use alp_vault::Vault;
 
-impl<V: Vault> Kept<V> {
+impl<V: Vault> ServerState<V> {
     /// A call that asks for locks: refused where another is in their way, and performed under them otherwise.
     pub fn lock_call(
         &mut self,
@@ -37,7 +37,7 @@ impl<V: Vault> Kept<V> {
         requires named { file_trans call.now ≡ Some trans }
         requires formed { IsFormed call.now }
         requires known { IsTrue (V.tells self.old.vault) → IsOfJournal (V.held self.old.vault) self.old }
-        ensures { IsStep V.tells V.serves V.held V.faults V.allowance self.old self.new (event.Call turn.now.client self.old.epoch turn.now.number call.now) result }
+        ensures { IsStep V.Vault self.old self.new (event.Call turn.now.client self.old.epoch turn.now.number call.now) result }
     {
         let id = self.next_file();
         let asked = self.locks.plan(trans, asks(self.alloc, call)?)?;

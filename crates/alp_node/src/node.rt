@@ -4,14 +4,14 @@ ghost use Rattle.alp_files.specs.declared.refusal.Refusal.TheVariants as refusal
 ghost use Rattle.alp_files.specs.declared.reply.Reply.TheVariants as reply;
 ghost use Rattle.alp_journal.specs.declared.entry.Entry.{Entry as AnEntry};
 ghost use Rattle.alp_journal.specs.State.{State as StateOf, Start};
-ghost use Rattle.alp_node.specs.Kept.{IsAs};
-ghost use Rattle.alp_node.specs.Nodes.{IsKept, Answered, HasRoom};
+ghost use Rattle.alp_node.specs.ServerState.{IsAs};
+ghost use Rattle.alp_node.specs.Nodes.{IsConsistent, Answered, HasRoom};
 ghost use Rattle.alp_node.specs.Served.{IsServed};
 ghost use Rattle.alp_node.specs.Steps.{IsSeated, seen_in};
 
 use crate::answer::Answer;
-use crate::kept::Kept;
 use crate::opened::Opened;
+use crate::server_state::ServerState;
 use alp_base::OutOfMemory;
 use alp_files::{Refusal, Reply};
 use alp_journal::{Entry, Event, Journal};
@@ -21,7 +21,7 @@ use alp_vault::Vault;
 #[derive(Drop)]
 pub struct Node<V: Vault> {
     pub opening: Opened<V>,
-    pub kept: Kept<V>,
+    pub kept: ServerState<V>,
     pub journal: Journal,
 }
 
@@ -31,11 +31,11 @@ impl<V: Vault> Node<V> {
     /// A step in which the vault fails or is stopped takes the server down. From then on it answers that it is down, and
     /// makes no entry. Want of memory leaves the server as its journal says, with no new entry.
     pub fn step(&mut self, event: Event) -> Result<Option<Reply>, OutOfMemory>
-        requires kept { IsKept V.tells V.serves V.held self.old }
+        requires kept { IsConsistent V.tells V.serves V.held self.old }
         requires served { IsServed self.old.kept event }
         requires clock { self.old.kept.clock < 2 ^ 62 }
         requires room { HasRoom self.old }
-        ensures kept { IsKept V.tells V.serves V.held self.new }
+        ensures kept { IsConsistent V.tells V.serves V.held self.new }
         ensures answered { self.old.kept.is_down ≡ false → IfOk result (λ r. Answered self.old.journal self.new.journal event r (V.faults self.old.kept.vault) (V.faults self.new.kept.vault) (V.allowance self.new.kept.vault) self.new.kept.is_down) }
         ensures down { self.old.kept.is_down ≡ true → IfOk result (λ r. r ≡ Some (reply.Refused refusal.Down)) }
         ensures still_down { self.old.kept.is_down ≡ true → IsOk result × (self.new ≡ self.old) }
@@ -97,7 +97,7 @@ impl<V: Vault> Node<V> {
             kept,
             journal,
         } = self;
-        let Kept { vault, .. } = kept;
+        let ServerState { vault, .. } = kept;
         (opening, vault, journal)
     }
 }

@@ -6,18 +6,18 @@ ghost use Rattle.alp_journal.specs.declared.event.Event.TheVariants as event;
 ghost use Rattle.alp_journal.specs.State.{file_trans};
 ghost use Rattle.alp_node.specs.Asks.{is_given as is_given_of, is_of_given as is_of_given_said};
 ghost use Rattle.alp_node.specs.Calls.{IsServedCall};
-ghost use Rattle.alp_node.specs.Kept.{IsReadyForMore, IsOfJournal};
+ghost use Rattle.alp_node.specs.ServerState.{IsReadyForMore, IsOfJournal};
 ghost use Rattle.alp_node.specs.Served.{is_on_open as is_on_open_said};
 ghost use Rattle.alp_node.specs.Steps.{IsStep, IsTurn, is_own as is_own_said};
 
 use crate::answer::Answer;
-use crate::kept::Kept;
+use crate::server_state::ServerState;
 use crate::sessions::Turn;
 use alp_base::{FileId, OutOfMemory, TransId};
 use alp_files::{Call, Refusal};
 use alp_vault::Vault;
 
-impl<V: Vault> Kept<V> {
+impl<V: Vault> ServerState<V> {
     /// Whether a file was given that id here, in an older epoch or this one.
     pub fn is_given(&self, file: &FileId) -> bool
         ensures { result ≡ is_given_of self.now.server self.now.epoch self.now.given file.now }
@@ -61,7 +61,7 @@ impl<V: Vault> Kept<V> {
         requires formed { IsFormed call.now }
         requires ready { IsReadyForMore (V.serves self.old.vault) self.old }
         requires known { IsTrue (V.tells self.old.vault) → IsOfJournal (V.held self.old.vault) self.old }
-        ensures { IsStep V.tells V.serves V.held V.faults V.allowance self.old self.new (event.Call turn.now.client self.old.epoch turn.now.number call.now) result }
+        ensures { IsStep V.Vault self.old self.new (event.Call turn.now.client self.old.epoch turn.now.number call.now) result }
     {
         if !self.is_own(turn.client, &trans) {
             return Ok(self.refuse(turn, Refusal::UnknownTrans));

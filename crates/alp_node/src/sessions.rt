@@ -3,7 +3,7 @@ ghost use Rattle.std.specs.Prelude.{◌≡◌, ◌≤◌, Some};
 ghost use Rattle.alp_node.specs.Sessions.{no_sessions, session_at, with_session};
 ghost use Rattle.alp_node.specs.Steps.{counted_in};
 
-use alp_base::Name;
+use alp_base::{CLIENTS, Name};
 
 /// A client's session: its principal, and the number of its last call.
 #[derive(Clone, Copy)]
@@ -21,7 +21,7 @@ pub struct Turn {
 }
 
 /// The greatest number of a client.
-const MOST_CLIENT: usize = 16;
+const MOST_CLIENT: usize = CLIENTS as usize;
 
 /// The session of each client that has one, at the client's number.
 #[derive(Drop)]

@@ -6,20 +6,20 @@ ghost use Rattle.alp_base.specs.declared.faults.VaultFault.TheVariants as vault_
 ghost use Rattle.alp_calls.specs.declared.fault.CallFault.TheVariants as call_fault;
 ghost use Rattle.alp_fields.specs.Forms.{whole};
 ghost use Rattle.alp_fields.specs.ClockNote.{clock_name, clock_form};
-ghost use Rattle.alp_vault.specs.Vault.{IsOfVolume};
-ghost use Rattle.alp_node.specs.Nodes.{IsKept};
-ghost use Rattle.alp_node.specs.Sessions.{no_sessions};
-ghost use Rattle.alp_node.specs.Starts.{AreOfServer, after_clock, raised, HasStartCause, IsNoteFault};
+ghost use Rattle.alp_vault.specs.Vault.{IsOfVolume, IsSameVault};
+ghost use Rattle.alp_vault.specs.Volumes.{AreServerNotes};
+ghost use Rattle.alp_node.specs.Nodes.{IsConsistent, IsNew};
+ghost use Rattle.alp_node.specs.Starts.{AreOfServer, HasRaised, after_clock, raised, HasStartCause, IsNoteFault};
 
-use crate::kept::Kept;
 use crate::lives::Lives;
 use crate::node::Node;
 use crate::opened::Opened;
+use crate::server_state::ServerState;
 use crate::sessions::Sessions;
 use crate::stored::store;
-use alp_base::{Bytes, OutOfMemory, VaultFault};
-use alp_calls::CallFault;
-use alp_fields::{ClockNote, read_clock};
+use alp_base::VaultFault;
+use alp_calls::{CallFault, are_server_notes};
+use alp_fields::{ClockNote, clock_note_name, read_clock};
 use alp_files::CellMap;
 use alp_journal::Journal;
 use alp_locks::LockTable;
@@ -34,7 +34,7 @@ pub enum StartFault {
     /// The vault gave no answer.
     #[error("the vault gave no answer")]
     Vault(VaultFault),
-    /// The note of the epoch and the clock is not in its format.
+    /// A note is not in its format.
     #[error("a note is not in its format")]
     BadNote,
     /// The note has the last epoch there is.
@@ -58,20 +58,17 @@ fn next_epoch(value: &[u8]) -> Result<ClockNote, StartFault>
     })
 }
 
-fn note_name(alloc: Global) -> Result<Bytes, OutOfMemory>
-    ensures { IfOk result (λ name. name ≡ clock_name) }
-{
-    let name = vec![in alloc; b'C']?;
-    Ok(Bytes::new(name))
-}
-
-// The epoch and the clock that the server starts with.
+// The epoch and the clock that the server starts with, where the notes are in their format.
 fn next_clock<V: Vault>(alloc: Global, vault: &V) -> Result<ClockNote, StartFault>
     requires { IsTrue (V.serves vault.now) }
     ensures clock { IfOk result (λ c. raised (V.held vault.now) ≡ Ok c) }
-    ensures cause { IfErr result (HasStartCause (V.held vault.now) (V.faults vault.now) (V.faults vault.now) (V.allowance vault.now)) }
+    ensures notes { IfOk result (λ _. AreServerNotes (V.server vault.now) (V.servers vault.now) (V.held vault.now).notes) }
+    ensures cause { IfErr result (HasStartCause (V.server vault.now) (V.servers vault.now) (V.held vault.now) (V.faults vault.now) (V.faults vault.now) (V.allowance vault.now)) }
 {
-    let Ok(name) = note_name(alloc) else {
+    if !are_server_notes(vault) {
+        return Err(StartFault::BadNote);
+    }
+    let Ok(name) = clock_note_name(alloc) else {
         return Err(StartFault::Vault(VaultFault::OutOfMemory));
     };
     match vault.note(&name) {
@@ -96,25 +93,22 @@ fn vault_fault(fault: CallFault) -> VaultFault
 
 impl<V: Vault> Node<V> {
     /// A server with what its vault holds. Its epoch is one more than that of the note, or 1 with clock 0 where there
-    /// is none, and stands in the note from then on.
+    /// is none, and stands in the note from then on. Want of memory leaves the vault with what it held, and serving.
     pub fn start(alloc: Global, server: u8, vault: V) -> Result<Node<V>, (V, StartFault)>
         requires serving { IsTrue (V.serves vault) }
+        requires server { V.server vault ≡ server }
         requires given { IsTrue (V.tells vault) → AreOfServer server (V.held vault) }
-        ensures kept { IfOk result (IsKept V.tells V.serves V.held) }
-        ensures raised { IfOk result (λ n. raised (V.held vault) ≡ Ok (record { epoch = n.kept.epoch; clock = n.kept.clock })) }
-        ensures cells { IsTrue (V.tells vault) → IfOk result (λ n. (V.held n.kept.vault).cells ≡ (V.held vault).cells) }
-        ensures notes { IfOk result (λ n. (V.held n.kept.vault).notes ≡ map.insert (V.held vault).notes clock_name (clock_form.spell (record { epoch = n.kept.epoch; clock = n.kept.clock }))) }
-        ensures opening { IfOk result (λ n. n.opening.vault.value ≡ n.kept.vault) }
-        ensures server { IfOk result (λ n. n.kept.server ≡ server) }
-        ensures idle { IfOk result (λ n. (n.journal ≡ []) × (n.kept.sessions ≡ no_sessions) × (n.kept.lives ≡ map.empty) × (n.kept.is_down ≡ false)) }
-        ensures tells { MatchResult result (λ n. V.tells n.kept.vault ≡ V.tells vault) (λ e. V.tells e.0 ≡ V.tells vault) }
-        ensures sizes { MatchResult result (λ n. V.volume n.kept.vault ≡ V.volume vault) (λ e. V.volume e.0 ≡ V.volume vault) }
+        ensures kept { IfOk result (IsConsistent V.tells V.serves V.held) }
+        ensures raised { IfOk result (λ n. HasRaised (V.tells vault) (V.server vault) (V.servers vault) (V.held vault) (V.held n.kept.vault) (record { epoch = n.kept.epoch; clock = n.kept.clock })) }
+        ensures new { IfOk result (IsNew server) }
+        ensures same { MatchResult result (λ n. IsSameVault V.tells V.volume V.server V.servers vault n.kept.vault) (λ e. IsSameVault V.tells V.volume V.server V.servers vault e.0) }
         ensures allowance { MatchResult result (λ n. Spends (V.allowance vault) (V.allowance n.kept.vault)) (λ e. Spends (V.allowance vault) (V.allowance e.0)) }
-        ensures cause { IfErr result (λ e. HasStartCause (V.held vault) (V.faults vault) (V.faults e.0) (V.allowance e.0) e.1) }
+        ensures cause { IfErr result (λ e. HasStartCause (V.server vault) (V.servers vault) (V.held vault) (V.faults vault) (V.faults e.0) (V.allowance e.0) e.1) }
         ensures untouched { IfErr result (λ e. IsNoteFault e.1 → e.0 ≡ vault) }
-        ensures same { IfErr result (λ e. e.1 ≡ StartFault.Vault vault_fault.OutOfMemory → (V.held e.0 ≡ V.held vault) × IsTrue (V.serves e.0)) }
+        ensures memory { IfErr result (λ e. e.1 ≡ StartFault.Vault vault_fault.OutOfMemory → (V.held e.0 ≡ V.held vault) × IsTrue (V.serves e.0)) }
     {
         let mut vault = vault;
+        vault.knows();
         let clock = match next_clock(alloc, &vault) {
             Ok(clock) => clock,
             Err(fault) => return Err((vault, fault)),
@@ -122,7 +116,7 @@ impl<V: Vault> Node<V> {
         if let Err(fault) = store(alloc, &mut vault, &CellMap::new(alloc), clock) {
             return Err((vault, StartFault::Vault(vault_fault(fault))));
         }
-        let kept = Kept {
+        let kept = ServerState {
             alloc,
             server,
             epoch: clock.epoch,

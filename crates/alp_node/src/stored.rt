@@ -1,5 +1,5 @@
 //! Commits of a server's vault: what a transaction intends, with the note of the epoch and the clock.
-ghost use Rattle.std.specs.Prelude.{◌≡◌, ◌≤◌, ◌^◌, IsTrue, OnOk, IfOk, IsErrOf};
+ghost use Rattle.std.specs.Prelude.{◌≡◌, ◌≤◌, ◌^◌, [], IsTrue, OnOk, IfOk, IsErrOf};
 ghost use Rattle.std.specs.FinMap as map;
 ghost use Rattle.alp_base.specs.Allowances.{Spends};
 ghost use Rattle.alp_base.specs.Causes.{Rose};
@@ -10,17 +10,21 @@ ghost use Rattle.alp_fields.specs.ClockNote.{clock_name, clock_form, clock_kept}
 ghost use Rattle.alp_files.specs.Cells.{Cells};
 ghost use Rattle.alp_files.specs.Edits.{edits_map, over};
 ghost use Rattle.alp_files.specs.Sound.{AreSound};
-ghost use Rattle.alp_vault.specs.Changes.{edits_of, ArePutOnce};
+ghost use Rattle.alp_files.specs.Changes.{edits_of, ArePutOnce};
+ghost use Rattle.alp_base.specs.Notes.{notes_after};
+ghost use Rattle.alp_vault.specs.Vault.{IsSameVault};
+ghost use Rattle.alp_vault.specs.Volumes.{IsCommit, IsVolumeOf};
 
-use alp_base::{OutOfMemory, VaultFault};
-use alp_calls::CallFault;
+use alp_base::{NoteChange, OutOfMemory, VaultFault};
+use alp_calls::{CallFault, can_take};
 use alp_fields::{ClockNote, clock_change};
-use alp_files::CellMap;
-use alp_vault::{Change, CutList, FileList, PutList, Vault};
+use alp_files::{CellMap, Change, CutList, FileList, PutList};
+use alp_vault::Vault;
 use std::alloc::Global;
 
 // All that a transaction intends is put.
 fn change_of(alloc: Global, intents: &CellMap) -> Result<Change, OutOfMemory>
+    ensures alone { IfOk result (λ c. (c.drops ≡ []) × (c.cuts ≡ [])) }
     ensures over { IfOk result (λ c. (m : Cells) → map.get (edits_map (edits_of c) m) ≡ over intents.now (map.get m)) }
     ensures once { IfOk result (λ c. ArePutOnce c.puts) }
 {
@@ -32,7 +36,34 @@ fn change_of(alloc: Global, intents: &CellMap) -> Result<Change, OutOfMemory>
     })
 }
 
-/// One commit: the intents become cells, and the note gets the epoch and the clock.
+// The commit of a change that the vault can take.
+fn commit_change<V: Vault>(
+    vault: &mut V,
+    change: &Change,
+    notes: &[NoteChange],
+) -> Result<(), CallFault>
+    requires serving { IsTrue (V.serves vault.old) }
+    requires asked { IsCommit (V.volume vault.old) (V.server vault.old) (V.servers vault.old) (V.held vault.old).notes change.now notes.now }
+    requires room { IsTrue (V.tells vault.old) → IsVolumeOf (V.volume vault.old) (edits_map (edits_of change.now) (V.held vault.old).cells) }
+    ensures kept { IsSameVault V.tells V.volume V.server V.servers vault.old vault.new }
+    ensures serves { ServesOn (V.serves vault.new) result }
+    ensures cells { IsTrue (V.tells vault.old) → OnOk result ((V.held vault.new).cells ≡ edits_map (edits_of change.now) (V.held vault.old).cells) }
+    ensures notes { OnOk result ((V.held vault.new).notes ≡ notes_after notes.now (V.held vault.old).notes) }
+    ensures same { IsErrOf result fault.OutOfMemory → V.held vault.new ≡ V.held vault.old }
+    ensures allowance { Spends (V.allowance vault.old) (V.allowance vault.new) }
+    ensures failed { IsErrOf result fault.Failed → Rose (V.faults vault.old) (V.faults vault.new) }
+    ensures stopped { IsErrOf result fault.Stopped → V.allowance vault.new ≡ Spent }
+{
+    match vault.commit(change, notes) {
+        Ok(()) => Ok(()),
+        Err(VaultFault::Stopped) => Err(CallFault::Stopped),
+        Err(VaultFault::OutOfMemory) => Err(CallFault::OutOfMemory),
+        Err(_) => Err(CallFault::Failed),
+    }
+}
+
+/// One commit: the intents become cells, and the note gets the epoch and the clock. A commit that the vault cannot take is
+/// answered as want of memory.
 pub fn store<V: Vault>(
     alloc: Global,
     vault: &mut V,
@@ -42,24 +73,26 @@ pub fn store<V: Vault>(
     requires serving { IsTrue (V.serves vault.old) }
     requires clock { clock.clock ≤ 2 ^ 62 }
     requires sound { IsTrue (V.tells vault.old) → (m : Cells) → map.get m ≡ over intents.now (map.get (V.held vault.old).cells) → AreSound m }
-    ensures tells { V.tells vault.new ≡ V.tells vault.old }
+    ensures kept { IsSameVault V.tells V.volume V.server V.servers vault.old vault.new }
     ensures serves { ServesOn (V.serves vault.new) result }
     ensures cells { IsTrue (V.tells vault.old) → OnOk result (map.get (V.held vault.new).cells ≡ over intents.now (map.get (V.held vault.old).cells)) }
     ensures notes { OnOk result ((V.held vault.new).notes ≡ map.insert (V.held vault.old).notes clock_name (clock_form.spell clock)) }
     ensures clock { OnOk result (clock_kept (V.held vault.new).notes ≡ clock) }
     ensures same { IsErrOf result fault.OutOfMemory → V.held vault.new ≡ V.held vault.old }
     ensures allowance { Spends (V.allowance vault.old) (V.allowance vault.new) }
-    ensures sizes { V.volume vault.new ≡ V.volume vault.old }
     ensures failed { IsErrOf result fault.Failed → Rose (V.faults vault.old) (V.faults vault.new) }
     ensures stopped { IsErrOf result fault.Stopped → V.allowance vault.new ≡ Spent }
 {
     let change = change_of(alloc, intents)?;
     let note = clock_change(alloc, clock)?;
     let notes = vec![in alloc; note]?;
-    match vault.commit(&change, notes.as_slice()) {
-        Ok(()) => Ok(()),
-        Err(VaultFault::Stopped) => Err(CallFault::Stopped),
-        Err(VaultFault::OutOfMemory) => Err(CallFault::OutOfMemory),
-        Err(_) => Err(CallFault::Failed),
+    let written = notes.as_slice();
+    let fits = match can_take(alloc, vault, &change, written) {
+        Ok(fits) => fits,
+        Err(fault) => return Err(fault),
+    };
+    if !fits {
+        return Err(CallFault::OutOfMemory);
     }
+    commit_change(vault, &change, written)
 }

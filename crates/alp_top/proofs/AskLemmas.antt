@@ -25,9 +25,9 @@ use Rattle.alp_files.specs.declared.refusal.Cause.TheVariants as cause
 use Rattle.alp_journal.specs.Laws.{next_trans}
 use Rattle.alp_journal.specs.Causes.{IsFileAnswer, unknown, conflict, performed, own_in, next_stamp, AnswersOwn, AnswersFinish, AnswersTurn, AnswersFor, AnswersCall}
 use Rattle.alp_journal.proofs.SessionLemmas.{IsPlain}
-use Rattle.alp_node.specs.declared.kept.Kept.{Kept}
+use Rattle.alp_node.specs.declared.server_state.ServerState.{ServerState}
 use Rattle.alp_node.specs.declared.sessions.Session as node_session
-use Rattle.alp_node.specs.Kept.{told_session}
+use Rattle.alp_node.specs.ServerState.{told_session}
 use Rattle.alp_node.specs.Sessions.{session_at}
 use Rattle.alp_node.specs.Served.{IsTurnCall, IsNextOf, IsServed}
 use Rattle.alp_node.specs.Steps.{seen_in}
@@ -89,7 +89,7 @@ line_seen words c l asked k epoch number form e = go l form e
     go l (abort k) e = in_trans words c l c.trans asked P e (λ t x own. is_asked _ x P own none)
 
 -- a call in its turn is served
-pub turn_served : {V : Type 0} (k : Kept V) (who epoch number : ℕ) (asked : Call) → who ≤ 16 → IsTurnCall asked → IsNextOf (session_at k.sessions who) k.epoch epoch number
+pub turn_served : {V : Type 0} (k : ServerState V) (who epoch number : ℕ) (asked : Call) → who ≤ 16 → IsTurnCall asked → IsNextOf (session_at k.sessions who) k.epoch epoch number
     → IsServed k (event.Call who epoch number asked)
 turn_served k who epoch number (call.Hello name) small h turn = absurd h
 turn_served k who epoch number (call.Begin seen) small h turn = (small, h, turn)

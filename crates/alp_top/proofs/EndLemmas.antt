@@ -22,7 +22,7 @@ use Rattle.alp_script.specs.declared.numbered.NumberedLine.{NumberedLine}
 use Rattle.alp_client.specs.Crowd.{Crowd}
 use Rattle.alp_top.specs.Logs.{Log, openings}
 use Rattle.alp_node.specs.Nodes.{Answered}
-use Rattle.alp_top.specs.Servers.{Server, IsKept, start_in}
+use Rattle.alp_top.specs.Servers.{Server, IsConsistent, start_in}
 use Rattle.alp_top.specs.Plays.{AreRecorded, AreLive, ranks_from}
 use Rattle.alp_top.specs.Runs.{HasSettled, HasTimedOut, IsNewOpening}
 use Rattle.alp_top.specs.Headline.{IsRun}
@@ -64,7 +64,7 @@ promises lines c n logs h client =
     subst (λ (ts : List Told). AreKept (in_order (state_after next (opened (start_in n)) n.journal)) [] ts) same (promises_kept (start_in n) n.journal client (h.ended.on.kept.right refl).lawful)
 
 -- one transaction more took too long
-pub one_more_out : (calls : List Entry) (live : List TransId) (n m : Server) (t : TransId) (r : Option Reply) → HasTimedOut calls live n → IsKept m → start_in m ≡ start_in n
+pub one_more_out : (calls : List Entry) (live : List TransId) (n m : Server) (t : TransId) (r : Option Reply) → HasTimedOut calls live n → IsConsistent m → start_in m ≡ start_in n
     → Answered n.journal m.journal (event.Timeout t) r 0 0 m.kept.vault.allowance m.kept.is_down → m.kept.clock ≤ max n.kept.clock 0 + 1 → Spends n.kept.vault.allowance m.kept.vault.allowance → HasTimedOut calls (live ++ t ∷ []) m
 one_more_out calls live n m t r h kept same a clock spends =
     let e : Entry = record { event = event.Timeout t; reply = r; acts = a.acts } in

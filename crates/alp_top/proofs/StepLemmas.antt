@@ -38,19 +38,19 @@ use Rattle.alp_journal.proofs.SessionLemmas.{counted, turn_leaves, greeting_leav
 use Rattle.alp_client.specs.Maps.{WordMap}
 use Rattle.alp_client.specs.Props.{later}
 use Rattle.alp_client.specs.declared.client.Client.{Client}
-use Rattle.alp_client.specs.declared.client.Frame.{Frame}
+use Rattle.alp_client.specs.declared.client.NumberedCall.{NumberedCall}
 use Rattle.alp_client.specs.declared.client.Greeted.{Greeted}
-use Rattle.alp_client.specs.Clients.{call_by, frame_in, greeted, heard, told_reply, left, created, opened as opened_said, words_heard, words_at, begins, HasNext}
+use Rattle.alp_client.specs.Clients.{call_by, frame_in, greeted, heard, learned_reply, left, created, opened as opened_said, words_heard, words_at, begins, HasNext}
 use Rattle.alp_client.specs.Crowd.{Crowd}
 use Rattle.alp_client.specs.Crowds.{client_at, with_client, asks, hears, at_line, declares, Exchanges}
 use Rattle.alp_client.proofs.CrowdLemmas.{at_same, at_other, as_many}
 use Rattle.alp_node.specs.declared.sessions.Session as node_session
-use Rattle.alp_node.specs.Kept.{told_session}
+use Rattle.alp_node.specs.ServerState.{told_session}
 use Rattle.alp_node.specs.Halts.{HaveCauses}
 use Rattle.alp_node.specs.Served.{IsServed, IsTurnCall}
 use Rattle.alp_node.specs.Steps.{seen_in}
 use Rattle.alp_node.specs.Sessions.{session_at}
-use Rattle.alp_top.specs.Servers.{Server, IsKept, IsOn, start_in, state_of}
+use Rattle.alp_top.specs.Servers.{Server, IsConsistent, IsOn, start_in, state_of}
 use Rattle.alp_top.specs.Plays.{AreRecorded, PlaysLine}
 use Rattle.alp_top.specs.Steps.{SameSession, IsInStep, InStep, Exchanged, Did, Adds}
 use Rattle.alp_top.proofs.AskLemmas.{line_call, line_seen, turn_served, turn_plain, no_session, next_session, IsInSession, call_in_session}
@@ -58,20 +58,20 @@ use Rattle.alp_top.proofs.AskLemmas.{line_call, line_seen, turn_served, turn_pla
 -- ---- what a client asks
 
 -- the frame of a call
-frame_there : (c : Client) (o : Option Greeted) (asked : Option Call) (frame : Frame) → option_map (frame_in c o) asked ≡ Some frame → (x : Call) × (asked ≡ Some x) × (frame ≡ frame_in c o x)
+frame_there : (c : Client) (o : Option Greeted) (asked : Option Call) (frame : NumberedCall) → option_map (frame_in c o) asked ≡ Some frame → (x : Call) × (asked ≡ Some x) × (frame ≡ frame_in c o x)
 frame_there c o None frame e = cc
 frame_there c o (Some x) frame e = (x, refl, (let same : frame_in c o x ≡ frame = cc in sym same))
 
 -- a server keeps its journal's sessions
-kept_sessions : (n : Server) (k : ℕ) → IsKept n → (state_of n).sessions k ≡ option_map told_session (session_at n.kept.sessions k)
+kept_sessions : (n : Server) (k : ℕ) → IsConsistent n → (state_of n).sessions k ≡ option_map told_session (session_at n.kept.sessions k)
 kept_sessions n k h = ((h.right refl).kept).sessions k
 
 -- what a client asks for its line is served
-pub served : (c : Crowd) (n : Server) (k : ℕ) (l : Line) (frame : Frame) → InStep c n → k ≤ 16 → IsForm l → asks c k l false ≡ Some frame → IsServed n.kept (event.Call k frame.epoch frame.number frame.call)
+pub served : (c : Crowd) (n : Server) (k : ℕ) (l : Line) (frame : NumberedCall) → InStep c n → k ≤ 16 → IsForm l → asks c k l false ≡ Some frame → IsServed n.kept (event.Call k frame.epoch frame.number frame.call)
 served c n k l frame step small form e =
     let d : Client = client_at c k in
     let (x, is, same) = frame_there d d.session (call_by c.words d l) frame e in
-    subst (λ (f : Frame). IsServed n.kept (event.Call k f.epoch f.number f.call)) (sym same)
+    subst (λ (f : NumberedCall). IsServed n.kept (event.Call k f.epoch f.number f.call)) (sym same)
     (go d x (line_call c.words d l x form is) d.session ((state_of n).sessions k) (step.each k).session (kept_sessions n k step.on.kept))
   where
     go : (d : Client) (x : Call) → IsTurnCall x → (o : Option Greeted) (w : Option Session) → SameSession (state_of n).epoch o w → w ≡ option_map told_session (session_at n.kept.sessions k)
@@ -155,7 +155,7 @@ plain_answer s e causes h = (h.0, subst (λ (b : Bool). AnswersBy s e.event e.re
 -- ---- a server goes on
 
 -- one entry more, and a clock that one step may raise
-pub on_more : (n m : Server) (seen : ℕ) (e : Entry) → IsOn n → IsKept m → start_in m ≡ start_in n → m.journal ≡ n.journal ++ e ∷ [] → seen ≤ n.kept.clock → m.kept.clock ≤ max n.kept.clock seen + 1
+pub on_more : (n m : Server) (seen : ℕ) (e : Entry) → IsOn n → IsConsistent m → start_in m ≡ start_in n → m.journal ≡ n.journal ++ e ∷ [] → seen ≤ n.kept.clock → m.kept.clock ≤ max n.kept.clock seen + 1
     → Spends n.kept.vault.allowance m.kept.vault.allowance → m.kept.is_down ≡ list_any is_stop e.acts → HaveCauses 0 0 m.kept.vault.allowance e.acts → IsOn m
 on_more n m seen e on kept same journal low clock spends down causes = record {
   kept = kept;
@@ -242,7 +242,7 @@ knows_same clock c d h low = record { session = h.session; told = (let same : d.
 later_within : (told s : Stamp) (clock : ℕ) → told.ts ≤ clock → s.ts ≤ clock → (later told s).ts ≤ clock
 later_within told s clock h k = elim (is_lt (stamp_cmp told s)) as (λ b. (cond b s told).ts ≤ clock) [ true ↦ k | false ↦ h ]
 
-told_knows : (words : WordMap) (c : Client) (l : Line) (clock : ℕ) (r : Reply) → IsForm l → IsInSession r → c.told.ts ≤ clock → ((s : Stamp) → r ≡ reply.Committed s → s.ts ≤ clock) → Knows clock c (told_reply words c l r)
+told_knows : (words : WordMap) (c : Client) (l : Line) (clock : ℕ) (r : Reply) → IsForm l → IsInSession r → c.told.ts ≤ clock → ((s : Stamp) → r ≡ reply.Committed s → s.ts ≤ clock) → Knows clock c (learned_reply words c l r)
 told_knows words c l clock (reply.Begun t) form h low within = record { session = refl; told = low }
 told_knows words c l clock (reply.Created f n) form h low within = knows_same clock c (created c l f n) (created_known c l f n form) low
 told_knows words c l clock (reply.Opened n) form h low within = knows_same clock c (opened_said words c l n) (opened_known words c l n form) low
@@ -289,7 +289,7 @@ record Counts (s t : State) (k clock : ℕ) (d : Client) : Type 0 where
 
 module _ (s : State) (k clock : ℕ) (l : Line) (words : WordMap) (d : Client) (x : Call) (y : Reply) (acts : List Act) where
   -- the entry of a frame
-  entry_of : Frame → Entry
+  entry_of : NumberedCall → Entry
   entry_of f = record { event = event.Call k f.epoch f.number f.call; reply = Some y; acts = acts }
 
   greeting_counts : s.sessions k ≡ None → y ≡ reply.Welcome s.epoch → d.told.ts ≤ clock
@@ -302,7 +302,7 @@ module _ (s : State) (k clock : ℕ) (l : Line) (words : WordMap) (d : Client) (
 
   turn_counts : (g : Greeted) (w : Session) → s.sessions k ≡ Some w → g.epoch ≡ s.epoch → w.last ≡ g.last → IsForm l → IsTurnCall x → AnswersCall s k x y acts → d.told.ts ≤ clock
       → ((stamp : Stamp) → y ≡ reply.Committed stamp → stamp.ts ≤ clock)
-      → Counts s (next s (record { event = event.Call k g.epoch (g.last + 1) x; reply = Some y; acts = acts })) k clock (told_reply words (record d { session = Some (record g { last = g.last + 1 }) }) l y)
+      → Counts s (next s (record { event = event.Call k g.epoch (g.last + 1) x; reply = Some y; acts = acts })) k clock (learned_reply words (record d { session = Some (record g { last = g.last + 1 }) }) l y)
   turn_counts g w is epoch last form turn answer low within =
       let d2 : Client = record d { session = Some (record g { last = g.last + 1 }) } in
       let knows = told_knows words d2 l clock y form (call_in_session s k x y acts answer) low within in
@@ -365,8 +365,8 @@ committed_within s t e y stamp is handed law within said =
     within stamp (subst (λ (x : State). IsAmong stamp (in_order x)) (sym is) told.0)
 
 -- what holds where the server answered a frame of the client
-pub record Went (n m : Server) (k : ℕ) (frame : Frame) (r : Option Reply) : Type 0 where
-  pub kept : IsKept m
+pub record Went (n m : Server) (k : ℕ) (frame : NumberedCall) (r : Option Reply) : Type 0 where
+  pub kept : IsConsistent m
   pub start : start_in m ≡ start_in n
   pub acts : List Act
   pub journal : m.journal ≡ n.journal ++ (record { event = event.Call k frame.epoch frame.number frame.call; reply = r; acts = acts }) ∷ []
@@ -381,17 +381,17 @@ frame_seen : (c : Client) (o : Option Greeted) (words : WordMap) (l : Line) (x :
 frame_seen c None words l x k form is = let none : 0 ≤ c.told.ts = omega arith in none
 frame_seen c (Some g) words l x k form is = line_seen words c l x k g.epoch (g.last + 1) form is
 
-went_on : (c : Crowd) (n m : Server) (k : ℕ) (l : Line) (frame : Frame) (r : Option Reply) → InStep c n → IsForm l → asks c k l false ≡ Some frame → Went n m k frame r → IsOn m
+went_on : (c : Crowd) (n m : Server) (k : ℕ) (l : Line) (frame : NumberedCall) (r : Option Reply) → InStep c n → IsForm l → asks c k l false ≡ Some frame → Went n m k frame r → IsOn m
 went_on c n m k l frame r step form e went =
     let d : Client = client_at c k in
     let (x, is, same) = frame_there d d.session (call_by c.words d l) frame e in
     let seen : seen_in (event.Call k frame.epoch frame.number frame.call) ≤ d.told.ts =
-    subst (λ (f : Frame). seen_in (event.Call k f.epoch f.number f.call) ≤ d.told.ts) (sym same) (frame_seen d d.session c.words l x k form is) in
+    subst (λ (f : NumberedCall). seen_in (event.Call k f.epoch f.number f.call) ≤ d.told.ts) (sym same) (frame_seen d d.session c.words l x k form is) in
     let clock : (state_of n).clock ≡ n.kept.clock = ((step.on.kept.right refl).kept).clock in
     on_more n m (seen_in (event.Call k frame.epoch frame.number frame.call)) (record { event = event.Call k frame.epoch frame.number frame.call; reply = r; acts = went.acts })
     step.on went.kept went.start went.journal (omega (arith, seen, (step.each k).told, clock)) went.clock went.spends went.down went.causes
 
-module _ (c : Crowd) (n m : Server) (k : ℕ) (l : Line) (frame : Frame) (r : Option Reply) (step : InStep c n) (small : k ≤ 16) (form : IsForm l) (asked : asks c k l false ≡ Some frame) (went : Went n m k frame r) where
+module _ (c : Crowd) (n m : Server) (k : ℕ) (l : Line) (frame : NumberedCall) (r : Option Reply) (step : InStep c n) (small : k ≤ 16) (form : IsForm l) (asked : asks c k l false ≡ Some frame) (went : Went n m k frame r) where
   abbrev d : Client
   d = client_at c k
 
@@ -418,9 +418,9 @@ module _ (c : Crowd) (n m : Server) (k : ℕ) (l : Line) (frame : Frame) (r : Op
       → Counts (state_of n) (state_of m) k (state_of m).clock (heard c.words d d.session l r).0
   counts x y is same handed answer =
       subst (λ (o : Option Reply). Counts (state_of n) (state_of m) k (state_of m).clock (heard c.words d d.session l o).0) (sym handed)
-      (subst (λ (t : State). Counts (state_of n) t k (state_of m).clock (heard c.words d d.session l (Some y)).0) (sym (more ∙ ap (λ (e : Entry). next (state_of n) e) (ap (λ (o : Option Reply). record entry { reply = o }) handed ∙ ap (λ (f : Frame). record { event = event.Call k f.epoch f.number f.call; reply = Some y; acts = went.acts }) same)))
+      (subst (λ (t : State). Counts (state_of n) t k (state_of m).clock (heard c.words d d.session l (Some y)).0) (sym (more ∙ ap (λ (e : Entry). next (state_of n) e) (ap (λ (o : Option Reply). record entry { reply = o }) handed ∙ ap (λ (f : NumberedCall). record { event = event.Call k f.epoch f.number f.call; reply = Some y; acts = went.acts }) same)))
       (heard_counts (state_of n) k (state_of m).clock l c.words d x y went.acts d.session ((state_of n).sessions k) (step.each k).session refl form (line_call c.words d l x form is)
-      (subst (λ (f : Frame). AnswersCall (state_of n) k f.call y went.acts) same answer) (omega (arith, (step.each k).told, rises))
+      (subst (λ (f : NumberedCall). AnswersCall (state_of n) k f.call y went.acts) same answer) (omega (arith, (step.each k).told, rises))
       (λ stamp said. committed_within (state_of n) (state_of m) entry y stamp more handed law (λ z among. decided_within (start_in m) m.journal z (went.kept.right refl).lawful among) said)))
 
   heard_step : InStep (hears c k l r).0 m
@@ -501,7 +501,7 @@ silent_line c n k most l step none = record {
 }
 
 -- one exchange that ends the line
-pub one_line : (c e : Crowd) (n m : Server) (k most : ℕ) (l : Line) (frame : Frame) (x : Exchange) → 1 ≤ most → asks c k l false ≡ Some frame → Exchanged c e n m k l frame true x → Did c e n m k l most (x ∷ [])
+pub one_line : (c e : Crowd) (n m : Server) (k most : ℕ) (l : Line) (frame : NumberedCall) (x : Exchange) → 1 ≤ most → asks c k l false ≡ Some frame → Exchanged c e n m k l frame true x → Did c e n m k l most (x ∷ [])
 one_line c e n m k most l frame x room asked h = record {
   step = h.step;
   start = h.start;
@@ -513,7 +513,7 @@ one_line c e n m k most l frame x room asked h = record {
 }
 
 -- a greeting, and what comes behind it
-pub greeted_line : (c d e : Crowd) (n m z : Server) (k : ℕ) (l : Line) (frame : Frame) (x : Exchange) (xs : List Exchange) → asks c k l false ≡ Some frame → Exchanged c d n m k l frame false x → Did d e m z k l 1 xs
+pub greeted_line : (c d e : Crowd) (n m z : Server) (k : ℕ) (l : Line) (frame : NumberedCall) (x : Exchange) (xs : List Exchange) → asks c k l false ≡ Some frame → Exchanged c d n m k l frame false x → Did d e m z k l 1 xs
     → Did c e n z k l 2 (x ∷ xs)
 greeted_line c d e n m z k l frame x xs asked h rest = record {
   step = rest.step;

@@ -3,7 +3,7 @@ use Rattle.std.specs.Prelude.{◌≡◌, ◌↔◌, ℕ, ◌+◌, false, IsSome,
 use Rattle.std.specs.List.{Contains}
 use Rattle.std.specs.List.Sorted.{IsStrictlySortedBy}
 use Rattle.alp_base.specs.declared.ids.TransId.{TransId}
-use Rattle.alp_modes.specs.Orders.{trans_cmp}
+use Rattle.alp_base.specs.Orders.{trans_cmp}
 use Rattle.alp_journal.specs.declared.entry.Entry.{Entry}
 use Rattle.alp_journal.specs.declared.event.Event.TheVariants as event
 use Rattle.alp_journal.specs.declared.log.Exchange.{Exchange}

@@ -21,13 +21,13 @@ start_in n = node.start_in held_by n
 abbrev pub state_of : Server → State
 state_of n = serial.state_of (start_in n) n.journal
 
-abbrev pub IsKept : Server → Type 0
-IsKept n = node.IsKept (λ v. true) (λ v. is_serving v.stage) held_by n
+abbrev pub IsConsistent : Server → Type 0
+IsConsistent n = node.IsConsistent (λ v. true) (λ v. is_serving v.stage) held_by n
 
 -- It is what its journal says, it is up and not to be stopped, its clock went no further than its journal, and its device
 -- did its work in each entry.
 pub record IsOn (n : Server) : Type 0 where
-  pub kept : IsKept n
+  pub kept : IsConsistent n
   pub up : n.kept.is_down ≡ false
   pub free : n.kept.vault.allowance ≡ Free
   pub early : n.kept.clock ≤ length n.journal

@@ -9,7 +9,7 @@ use Rattle.alp_script.specs.declared.line.Line.{Line}
 use Rattle.alp_script.specs.declared.numbered.NumberedLine.{NumberedLine}
 use Rattle.alp_script.specs.Named.{client_named}
 use Rattle.alp_client.specs.declared.client.Client.{Client}
-use Rattle.alp_client.specs.declared.client.Frame.{Frame}
+use Rattle.alp_client.specs.declared.client.NumberedCall.{NumberedCall}
 use Rattle.alp_client.specs.declared.client.Greeted.{Greeted}
 use Rattle.alp_client.specs.Clients.{frame_sent}
 use Rattle.alp_client.specs.Crowd.{Crowd}
@@ -37,7 +37,7 @@ pub record InStep (c : Crowd) (n : Server) : Type 0 where
 
 -- one exchange of a client: the frame went out, its entry stands last in the journal, and the client heard what it was
 -- handed
-pub record Exchanged (old new : Crowd) (before after : Server) (k : ℕ) (l : Line) (frame : Frame) (over : Bool) (x : Exchange) : Type 0 where
+pub record Exchanged (old new : Crowd) (before after : Server) (k : ℕ) (l : Line) (frame : NumberedCall) (over : Bool) (x : Exchange) : Type 0 where
   pub step : InStep new after
   pub start : start_in after ≡ start_in before
   pub sent : frame_sent x ≡ frame

@@ -6,9 +6,9 @@ ghost use Rattle.alp_top.specs.Headline.{IsRun};
 ghost use Rattle.alp_top.specs.Logs.{openings};
 ghost use Rattle.alp_top.specs.Plays.{AreLive, ranks_from};
 ghost use Rattle.alp_top.specs.Runs.{HasPlayed, HasSettled, HasTimedOut, told_of};
-ghost use Rattle.alp_top.specs.Servers.{IsKept, IsOn, start_in, state_of};
+ghost use Rattle.alp_top.specs.Servers.{IsConsistent, IsOn, start_in, state_of};
 
-use crate::play::Run;
+use crate::play::PlayedRun;
 use alp_base::{OutOfMemory, TransId};
 use alp_journal::{Entry, Event, LineLog, RunLog};
 use alp_node::{Node, Opened};
@@ -38,7 +38,7 @@ fn ranks(alloc: Global, entries: &[Entry]) -> Result<Vec<u64>, OutOfMemory>
 
 // The transactions that are live, least id first.
 fn live_transactions(alloc: Global, node: &Node<MemVault>) -> Result<Vec<TransId>, OutOfMemory>
-    requires { IsKept node.now }
+    requires { IsConsistent node.now }
     ensures live { IfOk result (λ v. AreLive (state_of node.now) v.items) }
     ensures few { IfOk result (λ v. length v.items ≤ length node.now.journal) }
 {
@@ -59,7 +59,7 @@ fn time_out(node: &mut Node<MemVault>, live: &[TransId]) -> Result<(), OutOfMemo
 }
 
 // Each transaction that still runs takes too long.
-fn settle(alloc: Global, run: &mut Run) -> Result<(), OutOfMemory>
+fn settle(alloc: Global, run: &mut PlayedRun) -> Result<(), OutOfMemory>
     requires short { length run.old.node.journal ≤ 2000 }
     requires played { (lines : List NumberedLine) × HasPlayed lines run.old.clients run.old.node run.old.lines.items }
     ensures settled { (lines : List NumberedLine) → HasPlayed lines run.old.clients run.old.node run.old.lines.items → OnOk result (HasSettled lines run.new.clients run.new.node run.new.lines.items) }
@@ -70,7 +70,11 @@ fn settle(alloc: Global, run: &mut Run) -> Result<(), OutOfMemory>
 }
 
 // The report of what a server did for these lines.
-fn told(alloc: Global, node: &Node<MemVault>, lines: &[LineLog]) -> Result<Vec<u8>, OutOfMemory>
+fn report_of_run(
+    alloc: Global,
+    node: &Node<MemVault>,
+    lines: &[LineLog],
+) -> Result<Vec<u8>, OutOfMemory>
     requires { IsOn node.now }
     ensures { IfOk result (λ v. v.items ≡ told_of node.now lines.now) }
 {
@@ -86,7 +90,7 @@ fn told(alloc: Global, node: &Node<MemVault>, lines: &[LineLog]) -> Result<Vec<u
 }
 
 /// Ends a run that has played all lines.
-pub fn finish(alloc: Global, run: Run) -> Result<Ended, OutOfMemory>
+pub fn finish(alloc: Global, run: PlayedRun) -> Result<Ended, OutOfMemory>
     requires short { length run.node.journal ≤ 2000 }
     requires played { (lines : List NumberedLine) × HasPlayed lines run.clients run.node run.lines.items }
     ensures run { (lines : List NumberedLine) → HasPlayed lines run.clients run.node run.lines.items → IfOk result (λ e. IsRun lines e.log) }
@@ -94,9 +98,9 @@ pub fn finish(alloc: Global, run: Run) -> Result<Ended, OutOfMemory>
 {
     let mut run = run;
     settle(alloc, &mut run)?;
-    let text = told(alloc, &run.node, &run.lines)?;
+    let text = report_of_run(alloc, &run.node, &run.lines)?;
     let ranks = ranks(alloc, run.node.journal().entries())?;
-    let Run {
+    let PlayedRun {
         clients: _,
         node,
         lines,

@@ -14,7 +14,7 @@ ghost use Rattle.alp_top.specs.Servers.{IsOn, start_in};
 ghost use Rattle.alp_top.specs.Steps.{InStep, Exchanged, Did, Adds};
 
 use alp_base::{OutOfMemory, Sizes};
-use alp_client::{Clients, Frame};
+use alp_client::{Clients, NumberedCall};
 use alp_files::Call;
 use alp_journal::{Event, Exchange, LineLog};
 use alp_node::{Node, StartFault};
@@ -51,7 +51,7 @@ fn send(
     node: &mut Node<MemVault>,
     client: u8,
     line: &Line,
-    frame: Frame,
+    frame: NumberedCall,
 ) -> Result<Sent, OutOfMemory>
     requires client { client ≤ 16 }
     requires step { InStep clients.old node.old }
@@ -60,7 +60,7 @@ fn send(
     requires asked { asks clients.old client line.now false ≡ Some frame }
     ensures { IfOk result (λ s. Exchanged clients.old clients.new node.old node.new client line.now frame s.is_over s.exchange) }
 {
-    let Frame {
+    let NumberedCall {
         epoch,
         number,
         call,
@@ -176,7 +176,7 @@ fn add(logs: &mut Vec<LineLog>, log: Option<LineLog>) -> Result<(), OutOfMemory>
 
 /// A run that has played some lines.
 #[derive(Drop)]
-pub struct Run {
+pub struct PlayedRun {
     pub clients: Clients,
     pub node: Node<MemVault>,
     pub lines: Vec<LineLog>,
@@ -196,7 +196,7 @@ fn new_node(alloc: Global) -> Result<Node<MemVault>, OutOfMemory>
     ensures opening { IfOk result (λ n. IsNewOpening (start_in n)) }
     ensures idle { IfOk result (λ n. n.journal ≡ []) }
 {
-    let vault = MemVault::new(alloc, VOLUME);
+    let vault = MemVault::new(alloc, VOLUME, SERVER, 1);
     match Node::start(alloc, SERVER, vault) {
         Ok(node) => Ok(node),
         Err((_, fault)) => Err(only_memory(fault)),
@@ -204,7 +204,7 @@ fn new_node(alloc: Global) -> Result<Node<MemVault>, OutOfMemory>
 }
 
 /// Plays all lines on a new server.
-pub fn play(alloc: Global, lines: &[NumberedLine]) -> Result<Run, OutOfMemory>
+pub fn play(alloc: Global, lines: &[NumberedLine]) -> Result<PlayedRun, OutOfMemory>
     requires few { length lines.now ≤ 1000 }
     requires forms { AllByRecursion (λ l. IsForm l.line) lines.now }
     requires ours { AllByRecursion (λ l. names_ours l.line ≡ true) lines.now }
@@ -218,7 +218,7 @@ pub fn play(alloc: Global, lines: &[NumberedLine]) -> Result<Run, OutOfMemory>
         let log = play_line(alloc, &mut clients, &mut node, line)?;
         add(&mut logs, log)?;
     }
-    Ok(Run {
+    Ok(PlayedRun {
         clients,
         node,
         lines: logs,

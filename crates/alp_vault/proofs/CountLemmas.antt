@@ -83,7 +83,7 @@ kept_block (PageOf f n) b m h = ap is_some (get-insert keys_total m (block_of f 
 block_at : (f : FileId) (n : ℕ) (m : Blocks) → map.contains_key (with_block (PageOf f n) m) (block_of f n) ≡ true
 block_at f n m = ap is_some (get-insert keys_total m (block_of f n) tt (block_of f n)) ∙ ap (λ (t : Bool). is_some (cond t (Some tt) (map.get m (block_of f n)))) (same_key-itself (block_of f n))
 
-found_block : (es : List (Key × Cell)) (f : FileId) (n : ℕ) → is_some (find key_cmp (PageOf f n) es) ≡ true → map.contains_key (blocks_of es) (block_of f n) ≡ true
+pub found_block : (es : List (Key × Cell)) (f : FileId) (n : ℕ) → is_some (find key_cmp (PageOf f n) es) ≡ true → map.contains_key (blocks_of es) (block_of f n) ≡ true
 found_block [] f n h = cc
 found_block (e ∷ es) f n h = go (eq_by_cmp key_cmp (PageOf f n) e.0) refl (found_block es f n) h
   where

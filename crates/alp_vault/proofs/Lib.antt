@@ -1,7 +1,7 @@
 pub mod CountLemmas
 pub mod PutLemmas
 pub mod SweepLemmas
-pub mod RowLemmas
 pub mod OwnerLemmas
 pub mod StageLemmas
 pub mod Samples
+pub mod VolumeLemmas

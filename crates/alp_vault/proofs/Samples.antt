@@ -3,10 +3,11 @@ use Rattle.std.specs.Prelude.{cond, Bool, true, false, Option, None, Some}
 use Rattle.std.specs.FinMap as map
 use Rattle.std.specs.FinMap.{get-insert, get-empty}
 use Rattle.std.specs.Ordering.{eq_by_cmp}
-use Rattle.std.proofs.Common.{◌≡◌, ℕ, List, [], ◌∷◌, sum_by, refl, sym, ◌∙◌, ap, subst}
+use Rattle.std.proofs.Common.{◌≡◌, ℕ, ◌≤◌, List, [], ◌∷◌, length, sum_by, refl, sym, ◌∙◌, ap, subst, arith}
 use Rattle.alp_base.specs.declared.ids.FileId.{FileId}
 use Rattle.alp_base.specs.declared.key.Key.{Key}
-use Rattle.alp_base.specs.declared.key.Key.TheVariants.{OwnerOf}
+use Rattle.alp_base.specs.declared.faults.Sizes.{Sizes}
+use Rattle.alp_base.specs.declared.key.Key.TheVariants.{Leader, OwnerOf}
 use Rattle.alp_base.specs.Keys.{key_cmp}
 use Rattle.alp_base.specs.KeyLaws.{keys_total}
 use Rattle.alp_files.specs.declared.cell.Cell.{Cell}
@@ -20,10 +21,14 @@ use Rattle.alp_files.proofs.ChargeLemmas.{charge-owner}
 use Rattle.alp_files.proofs.FilesLemmas.{files-put_owner}
 use Rattle.alp_files.proofs.HistoryLemmas.{get-edits_map}
 use Rattle.alp_files.proofs.SoundLemmas.{empty_sound}
-use Rattle.alp_vault.proofs.CountLemmas.{none_held}
-use Rattle.std.specs.List.{IsDistinct}
-use Rattle.alp_vault.specs.Changes.{edits_of, ArePutOnce}
-use Rattle.alp_vault.specs.declared.change.Change.{Change}
+use Rattle.alp_vault.proofs.CountLemmas.{none_held, counts-none, counts-new}
+use Rattle.alp_files.specs.Changes.{edits_of}
+use Rattle.alp_files.specs.Counts.{owner_names_of}
+use Rattle.alp_vault.specs.Owners.{with_owner}
+use Rattle.alp_vault.specs.Volumes.{IsVolumeOf}
+use Rattle.alp_vault.proofs.OwnerLemmas.{owners-put}
+use Rattle.alp_vault.proofs.VolumeLemmas.{no_owners}
+use Rattle.alp_files.specs.declared.change.Change.{Change}
 
 -- one edit of a map, seen at each key
 one : (e : Edit) (m : Cells) → map.get (edit_map e m) ≡ after (e ∷ []) (map.get m)
@@ -52,12 +57,25 @@ sound_owner o none = (owner_put map.empty o empty_sound.0, λ x r is. free x r (
         go true e = sym (ap (charge_or 0) e) ∙ none
         go false e = let wrong : None ≡ Some (cell.Owner r) = sym (get-empty key_cmp (OwnerOf x)) ∙ e in cc
 
-pub change_sound : (c : Change) (o : OwnerRecord) → o.charge ≡ 0 → c.drops ≡ [] → c.cuts ≡ [] → c.puts ≡ (OwnerOf o.name, cell.Owner o) ∷ [] → AreSound (edits_map (edits_of c) map.empty)
-change_sound c o none drops cuts puts =
-    subst (λ (fs : List FileId). AreSound (edits_map (edits_of (record { drops = fs; cuts = c.cuts; puts = c.puts })) map.empty)) (sym drops)
-    (subst (λ (cs : List (FileId × ℕ)). AreSound (edits_map (edits_of (record { drops = []; cuts = cs; puts = c.puts })) map.empty)) (sym cuts)
-    (subst (λ (ps : List (Key × Cell)). AreSound (edits_map (edits_of (record { drops = []; cuts = []; puts = ps })) map.empty)) (sym puts) (sound_owner o none)))
+-- a volume has room for one owner
+pub volume_owner : (s : Sizes) (o : OwnerRecord) → 512 ≤ s.home → o.charge ≡ 0 → IsVolumeOf s (edit_map (Put (OwnerOf o.name) (cell.Owner o)) map.empty)
+volume_owner s o home none =
+    let counts = counts-new 0 0 map.empty (OwnerOf o.name) (cell.Owner o) counts-none (get-empty key_cmp (OwnerOf o.name)) in
+    let named : owner_names_of (map.insert map.empty (OwnerOf o.name) (cell.Owner o)) ≡ o.name ∷ [] = owners-put map.empty (OwnerOf o.name) (cell.Owner o) ∙ ap (with_owner (Some o.name)) no_owners in
+    record {
+      sound = sound_owner o none;
+      fits = record {
+        places = omega (arith, counts.of_places, home);
+        files = omega (arith, counts.of_files);
+        owners = omega (arith, ap (λ (ns : List (List ℕ)). length ns) named);
+        sizes = λ f p is. (
+            let wrong : None ≡ Some (cell.Leader p) = sym (get-empty key_cmp (Leader f)) ∙ sym (get-insert keys_total map.empty (OwnerOf o.name) (cell.Owner o) (Leader f)) ∙ is in
+            cc);
+      };
+    }
 
-pub one_put_once : (puts : List (Key × Cell)) (p : Key × Cell) → puts ≡ p ∷ [] → ArePutOnce puts
-unfolding IsDistinct
-one_put_once puts p is = subst ArePutOnce (sym is) (tt, tt)
+pub change_room : (c : Change) (o : OwnerRecord) → o.charge ≡ 0 → c.drops ≡ [] → c.cuts ≡ [] → c.puts ≡ (OwnerOf o.name, cell.Owner o) ∷ [] → (s : Sizes) → 512 ≤ s.home → IsVolumeOf s (edits_map (edits_of c) map.empty)
+change_room c o none drops cuts puts s home =
+    subst (λ (fs : List FileId). IsVolumeOf s (edits_map (edits_of (record { drops = fs; cuts = c.cuts; puts = c.puts })) map.empty)) (sym drops)
+    (subst (λ (cs : List (FileId × ℕ)). IsVolumeOf s (edits_map (edits_of (record { drops = []; cuts = cs; puts = c.puts })) map.empty)) (sym cuts)
+    (subst (λ (ps : List (Key × Cell)). IsVolumeOf s (edits_map (edits_of (record { drops = []; cuts = []; puts = ps })) map.empty)) (sym puts) (volume_owner s o home none)))

@@ -22,9 +22,9 @@ use Rattle.alp_files.specs.Undo.{puts_of}
 use Rattle.alp_files.proofs.EditLemmas.{edits_at-append}
 use Rattle.alp_files.proofs.HistoryLemmas.{get-edits_map}
 use Rattle.alp_files.proofs.SameLemmas.{same_key-true, same_key-itself, same_page_key, same_file-true, same_file-itself}
-use Rattle.alp_vault.specs.declared.change.Change.{Change}
+use Rattle.alp_files.specs.declared.change.Change.{Change}
 use Rattle.alp_vault.specs.declared.sweep.Sweep.{Sweep}
-use Rattle.alp_vault.specs.Changes.{edits_of}
+use Rattle.alp_files.specs.Changes.{edits_of}
 use Rattle.alp_vault.specs.Sweeps.{is_page_between, is_swept, is_swept_by, left_of, size_at, size_or_none, drop_sweep, cut_sweep, sweeps_of}
 
 pub left-twice : (a b k : Bool) (o : Option Cell) → left_of b k (left_of a k o) ≡ left_of (a || b) k o

@@ -1,12 +1,9 @@
 pub mod Contents
-pub mod Changes
-pub mod Outcomes
 pub mod Counted
-pub mod Notes
 pub mod Owners
 pub mod HeldWords
 pub mod Sweeps
 pub mod Stages
+pub mod Volumes
 pub mod Vault
-pub mod Burns
 pub mod MemVault

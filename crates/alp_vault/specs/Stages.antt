@@ -4,11 +4,12 @@ use Rattle.std.specs.Coded.{Unit-prop}
 use Rattle.std.proofs.Common.{inl, inr, refl, sym, subst, arith}
 use Rattle.alp_files.specs.Cells.{Cells}
 use Rattle.alp_files.specs.Edits.{edits_map}
-use Rattle.alp_files.specs.Sound.{AreSound}
-use Rattle.alp_files.specs.SoundLaws.{AreSound-prop}
+use Rattle.alp_base.specs.declared.faults.Sizes.{Sizes}
 use Rattle.alp_vault.specs.Contents.{Contents}
-use Rattle.alp_vault.specs.Changes.{edits_of, made}
-use Rattle.alp_vault.specs.Outcomes.{Either}
+use Rattle.alp_files.specs.Changes.{edits_of}
+use Rattle.alp_vault.specs.Contents.{made}
+use Rattle.alp_vault.specs.Volumes.{IsVolumeOf, IsVolumeOf-prop}
+use Rattle.alp_base.specs.Crashes.{Either}
 use Rattle.alp_vault.specs.declared.stage.Pending.{Pending}
 use Rattle.alp_vault.specs.declared.stage.Stage.{Stage}
 use Rattle.alp_vault.specs.declared.stage.Stage.TheVariants.{Serving, Stopped, Torn, Made}
@@ -17,18 +18,18 @@ use Rattle.alp_vault.specs.declared.stage.Stage.TheVariants.{Serving, Stopped, T
 abbrev pub after_of : Pending → Contents → Contents
 after_of p now = made p.change p.notes.items now
 
--- the files are sound after the commit that was stopped
-abbrev pub IsFit : Stage → Cells → Type 0
-IsFit Serving m = Unit {0}
-IsFit Stopped m = Unit {0}
-IsFit (Torn p) m = AreSound (edits_map (edits_of p.change) m)
-IsFit (Made p) m = AreSound (edits_map (edits_of p.change) m)
+-- the volume has room for what the commit makes that was stopped
+abbrev pub IsFit : Sizes → Stage → Cells → Type 0
+IsFit sizes Serving m = Unit {0}
+IsFit sizes Stopped m = Unit {0}
+IsFit sizes (Torn p) m = IsVolumeOf sizes (edits_map (edits_of p.change) m)
+IsFit sizes (Made p) m = IsVolumeOf sizes (edits_map (edits_of p.change) m)
 
-pub IsFit-prop : (s : Stage) (m : Cells) → IsProp (IsFit s m)
-IsFit-prop Serving m = Unit-prop
-IsFit-prop Stopped m = Unit-prop
-IsFit-prop (Torn p) m = AreSound-prop (edits_map (edits_of p.change) m)
-IsFit-prop (Made p) m = AreSound-prop (edits_map (edits_of p.change) m)
+pub IsFit-prop : (sizes : Sizes) (s : Stage) (m : Cells) → IsProp (IsFit sizes s m)
+IsFit-prop sizes Serving m = Unit-prop
+IsFit-prop sizes Stopped m = Unit-prop
+IsFit-prop sizes (Torn p) m = IsVolumeOf-prop sizes (edits_map (edits_of p.change) m)
+IsFit-prop sizes (Made p) m = IsVolumeOf-prop sizes (edits_map (edits_of p.change) m)
 
 abbrev pub is_serving : Stage → Bool
 is_serving Serving = true
@@ -62,12 +63,12 @@ MayLeave (Made p) now c = c ≡ after_of p now
 pub no_faults : 0 < 2 ^ 64
 no_faults = omega arith
 
-pub sound_left : (s : Stage) (now c : Contents) → AreSound now.cells → IsFit s now.cells → MayLeave s now c → AreSound c.cells
-sound_left Serving now c sound fit left = subst (λ (x : Contents). AreSound x.cells) (sym left) sound
-sound_left Stopped now c sound fit left = subst (λ (x : Contents). AreSound x.cells) (sym left) sound
-sound_left (Torn p) now c sound fit (inl left) = subst (λ (x : Contents). AreSound x.cells) (sym left) sound
-sound_left (Torn p) now c sound fit (inr left) = subst (λ (x : Contents). AreSound x.cells) (sym left) fit
-sound_left (Made p) now c sound fit left = subst (λ (x : Contents). AreSound x.cells) (sym left) fit
+pub volume_left : (sizes : Sizes) (s : Stage) (now c : Contents) → IsVolumeOf sizes now.cells → IsFit sizes s now.cells → MayLeave s now c → IsVolumeOf sizes c.cells
+volume_left sizes Serving now c is fit left = subst (λ (x : Contents). IsVolumeOf sizes x.cells) (sym left) is
+volume_left sizes Stopped now c is fit left = subst (λ (x : Contents). IsVolumeOf sizes x.cells) (sym left) is
+volume_left sizes (Torn p) now c is fit (inl left) = subst (λ (x : Contents). IsVolumeOf sizes x.cells) (sym left) is
+volume_left sizes (Torn p) now c is fit (inr left) = subst (λ (x : Contents). IsVolumeOf sizes x.cells) (sym left) fit
+volume_left sizes (Made p) now c is fit left = subst (λ (x : Contents). IsVolumeOf sizes x.cells) (sym left) fit
 
 pub held_left : (s : Stage) (now : Contents) → MayLeave s now (held_at s now)
 held_left Serving now = refl

@@ -1,11 +1,15 @@
 -- What the calls of a vault answer, and why.
-use Rattle.std.specs.Prelude.{◌≡◌, ◌≤◌, ℕ, Bool, IsTrue, Result, MatchResult}
+use Rattle.std.specs.Prelude.{◌≡◌, ◌≤◌, ℕ, Bool, true, false, IsTrue, Result, MatchResult, IfErr}
 use Rattle.alp_base.specs.Causes.{Rose}
+use Rattle.alp_base.specs.Allowances.{Spends}
+use Rattle.alp_base.specs.Crashes.{Only, NoMore}
 use Rattle.alp_base.specs.declared.allowance.Allowance.{Allowance}
 use Rattle.alp_base.specs.declared.allowance.Allowance.TheVariants.{Spent}
 use Rattle.alp_base.specs.declared.faults.Sizes.{Sizes}
 use Rattle.alp_base.specs.declared.faults.VaultFault.{VaultFault}
 use Rattle.alp_base.specs.declared.faults.VaultFault.TheVariants.{Failed, Stopped, OutOfMemory, NotAVolume, Damaged}
+
+-- ---- what no call changes
 
 -- the sizes that a volume may have, in pages
 pub record AreSizes (s : Sizes) : Type 0 where
@@ -14,15 +18,33 @@ pub record AreSizes (s : Sizes) : Type 0 where
   pub area_least : 64 ≤ s.area
   pub area_most : s.area ≤ 4096
 
+-- a server by its number, which is one of so many
+pub record IsServer (server servers : ℕ) : Type 0 where
+  pub first : 1 ≤ server
+  pub among : server ≤ servers
+  pub most : servers ≤ 8
+
+-- No call changes what a vault is: whether it tells what it holds, the sizes of its volume, its server and how many there are.
+pub record IsSameVault {V : Type 0} (tells : V → Bool) (volume : V → Sizes) (server servers : V → ℕ) (old new : V) : Type 0 where
+  pub telling : tells new ≡ tells old
+  pub sizes : volume new ≡ volume old
+  pub number : server new ≡ server old
+  pub of_all : servers new ≡ servers old
+
+-- ---- why a call was refused
+
 -- a call failed where the count of faults rose, and was stopped where the allowance is spent then
 pub record HasFaultCause (before now : ℕ) (allowance : Allowance) (fault : VaultFault) : Type 0 where
   pub failed : fault ≡ Failed → Rose before now
   pub stopped : fault ≡ Stopped → allowance ≡ Spent
 
--- the same of a call that may have gone well, in which the count did not fall
-pub record HasCause {T : Type 0} (before now : ℕ) (allowance : Allowance) (result : Result T VaultFault) : Type 0 where
-  pub later : before ≤ now
-  pub cause : MatchResult result (λ _. Unit {0}) (HasFaultCause before now allowance)
+-- the count of faults moves only where a call failed or was stopped
+abbrev pub IsCountKept : ℕ → ℕ → VaultFault → Type 0
+IsCountKept before now Failed = Unit {0}
+IsCountKept before now Stopped = Unit {0}
+IsCountKept before now OutOfMemory = now ≡ before
+IsCountKept before now (NotAVolume found) = Unit {0}
+IsCountKept before now (Damaged place) = Unit {0}
 
 -- the device is a volume in its format
 abbrev pub IsOfVolume : VaultFault → Type 0
@@ -32,18 +54,46 @@ IsOfVolume OutOfMemory = Unit {0}
 IsOfVolume (NotAVolume found) = ⊥
 IsOfVolume (Damaged place) = ⊥
 
--- after a stop a vault need not serve
-abbrev pub ServesUnlessStopped : Bool → VaultFault → Type 0
-ServesUnlessStopped serves Failed = IsTrue serves
-ServesUnlessStopped serves Stopped = Unit {0}
-ServesUnlessStopped serves OutOfMemory = IsTrue serves
-ServesUnlessStopped serves (NotAVolume found) = IsTrue serves
-ServesUnlessStopped serves (Damaged place) = IsTrue serves
+-- The count of faults did not fall in a call, and stayed where the call went well or lacked memory. A refusal has its cause,
+-- and the device is a volume in its format.
+pub record HasCause {T : Type 0} (before now : ℕ) (allowance : Allowance) (result : Result T VaultFault) : Type 0 where
+  pub later : before ≤ now
+  pub still : MatchResult result (λ _. now ≡ before) (IsCountKept before now)
+  pub cause : IfErr result (HasFaultCause before now allowance)
+  pub volume : IfErr result IsOfVolume
 
--- nor after a change that failed
-abbrev pub ServesUnlessHalted : Bool → VaultFault → Type 0
-ServesUnlessHalted serves Failed = Unit {0}
-ServesUnlessHalted serves Stopped = Unit {0}
-ServesUnlessHalted serves OutOfMemory = IsTrue serves
-ServesUnlessHalted serves (NotAVolume found) = IsTrue serves
-ServesUnlessHalted serves (Damaged place) = IsTrue serves
+-- ---- whether a vault serves on
+
+-- a read that failed leaves it serving, and one that was stopped does not
+abbrev pub serves_past_read : VaultFault → Bool
+serves_past_read Failed = true
+serves_past_read Stopped = false
+serves_past_read OutOfMemory = true
+serves_past_read (NotAVolume found) = true
+serves_past_read (Damaged place) = true
+
+-- nor does a change that failed or was stopped
+abbrev pub serves_past_change : VaultFault → Bool
+serves_past_change Failed = false
+serves_past_change Stopped = false
+serves_past_change OutOfMemory = true
+serves_past_change (NotAVolume found) = true
+serves_past_change (Damaged place) = true
+
+-- how a commit ends: whether the vault serves on, what it spent, and why it was refused
+pub record HasEnded {V T : Type 0} (serves : V → Bool) (faults : V → ℕ) (allowance : V → Allowance) (old new : V) (result : Result T VaultFault) : Type 0 where
+  pub serving : MatchResult result (λ _. IsTrue (serves new)) (λ f. serves new ≡ serves_past_change f)
+  pub spends : Spends (allowance old) (allowance new)
+  pub cause : HasCause (faults old) (faults new) (allowance new) result
+
+-- ---- crashes and recoveries
+
+-- the count of faults did not fall, and nobody added to the allowance
+pub record HasSpent {V : Type 0} (faults : V → ℕ) (allowance : V → Allowance) (old new : V) : Type 0 where
+  pub later : faults old ≤ faults new
+  pub spends : Spends (allowance old) (allowance new)
+
+-- A crash gives one of the outcomes there were, and the vault that comes back has no other.
+pub record IsOneOf {C : Type 0} (old new : C → Type 0) : Type 0 where
+  pub was : NoMore old new
+  pub alone : ∥ ((c : C) × new c × Only c new) ∥₁

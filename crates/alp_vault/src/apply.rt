@@ -3,13 +3,13 @@ ghost use Rattle.std.specs.Prelude.{◌≡◌, OnOk, OnErr};
 ghost use Rattle.std.specs.FinMap as map;
 ghost use Rattle.alp_files.specs.Files.{AreFiles};
 ghost use Rattle.alp_files.specs.Edits.{edits_map};
-ghost use Rattle.alp_vault.specs.Changes.{edits_of};
+ghost use Rattle.alp_files.specs.Changes.{edits_of};
 
-use crate::Change;
 use crate::counted::CountedCells;
 use crate::puts::{kept_cells, put_all};
 use crate::sweep::{sweep_all, sweeps_in};
 use alp_base::OutOfMemory;
+use alp_files::Change;
 use std::alloc::Global;
 
 /// Makes the whole change, or none of it where there is no memory for all.

@@ -5,14 +5,13 @@ ghost use Rattle.std.specs.FinMap as map;
 ghost use Rattle.alp_files.specs.Cells.{Cells};
 ghost use Rattle.alp_files.specs.Counts.{files_at, file_count_of, used_of, blocks_of, block_of};
 ghost use Rattle.alp_vault.specs.Counted.{AreCounts, places_with};
+ghost use Rattle.alp_vault.specs.Volumes.{has_block_in};
 
+use crate::limits::{BLOCK_PAGES, BLOCKS_PER_FILE};
 use alp_base::{FileId, Key, OutOfMemory};
 use alp_files::{Cell, CellMap};
 use std::alloc::Global;
 use std::marker::Model;
-
-/// As many pages of a file are found by one index page.
-const BLOCK_PAGES: u32 = 128;
 
 /// Cells, and how many files they are and how many places they take; seen as the map of the cells.
 #[derive(Drop)]
@@ -98,6 +97,14 @@ impl CountedCells {
         ensures { result ≡ file_count_of self.now }
     {
         self.files
+    }
+
+    /// Whether a page of the file stands in this block.
+    pub fn has_block(&self, file: FileId, block: u32) -> bool
+        requires { block < BLOCKS_PER_FILE }
+        ensures { result ≡ has_block_in self.now file block }
+    {
+        has_block(&self.cells, file, BLOCK_PAGES * block)
     }
 
     // A cell at a key that has none.

@@ -2,18 +2,19 @@
 #![tactic(auto)]
 
 mod apply;
-mod change;
 mod counted;
 mod held;
+mod laws;
+mod limits;
 mod mem_vault;
 mod owners;
 mod puts;
-mod rows;
 mod stage;
 mod sweep;
 mod vault;
 
-pub use change::{Change, CutList, FileList, PutList};
+pub use laws::counts_leave_log_room;
+pub use limits::{BLOCK_PAGES, BLOCKS_PER_FILE, FILES_PER_SERVER, HEAD_PAGES, OWNERS_PER_SERVER};
 pub use mem_vault::MemVault;
 pub use vault::Vault;
 

@@ -1,29 +1,27 @@
 //! A vault in memory.
-ghost use Rattle.std.specs.Prelude.{◌≡◌, ◌≢◌, ◌↔◌, ◌<◌, ◌≤◌, ◌%◌, ℕ, Bool, true, IsTrue, OnOk, IfOk, IfErr, IsErrOf, MatchResult, Ok, Err};
+ghost use Rattle.std.specs.Prelude.{◌≡◌, ◌≢◌, ◌↔◌, ◌<◌, ◌≤◌, ◌%◌, ℕ, Bool, true, IsTrue, OnOk, IfOk, IfErr, IfSome, IsErrOf, MatchResult, Ok, Err, false};
 ghost use Rattle.std.specs.Option.{option_copied as copied};
 ghost use Rattle.std.specs.FinMap as map;
-ghost use Rattle.alp_base.specs.Allowances.{Spends, Sets, allowance_given};
-ghost use Rattle.alp_vault.specs.Burns.{burnt, IsAtEnd, Passes};
+ghost use Rattle.alp_base.specs.Allowances.{Spends, Sets, allowance_given, burnt, IsAtEnd, Passes};
 ghost use Rattle.alp_base.specs.declared.allowance.Allowance.TheVariants.{Free, Left, Spent};
 ghost use Rattle.alp_base.specs.declared.faults.VaultFault.TheVariants as fault;
 ghost use Rattle.alp_files.specs.Counts.{used_of, file_count_of, owner_count_of, owner_names_of};
 ghost use Rattle.alp_files.specs.Edits.{edits_map};
-ghost use Rattle.alp_files.specs.Sound.{AreSound};
-ghost use Rattle.alp_files.specs.SoundLaws.{AreSound-prop};
 ghost use Rattle.alp_vault.specs.Contents.{Contents};
 ghost use Rattle.alp_base.specs.Notes.{notes_after};
-ghost use Rattle.alp_fields.specs.ClockNote.{IsClockAtMost};
-ghost use Rattle.alp_vault.specs.Changes.{edits_of, ArePutOnce, made};
-ghost use Rattle.alp_vault.specs.Outcomes.{Only, NoMore, SameOutcomes, Either, Adds};
+ghost use Rattle.alp_files.specs.Changes.{edits_of};
+ghost use Rattle.alp_vault.specs.Contents.{made};
+ghost use Rattle.alp_base.specs.Crashes.{Only, NoMore, SameOutcomes, Either, Adds};
 ghost use Rattle.alp_vault.specs.Stages.{IsFit, IsFit-prop, is_serving, fallen_by, held_at};
-ghost use Rattle.alp_vault.specs.Vault.{AreSizes, HasFaultCause, HasCause, IsOfVolume, ServesUnlessStopped, ServesUnlessHalted};
+ghost use Rattle.alp_vault.specs.Vault.{AreSizes, IsServer, HasFaultCause, HasCause, HasEnded, HasSpent, IsOfVolume, IsOneOf, IsSameVault, serves_past_read};
+ghost use Rattle.alp_vault.specs.Volumes.{IsVolumeOf, IsVolumeOf-prop, fits_key, has_block_in};
 
-use crate::held::{Held, copies_of};
-use crate::rows::note_at;
+use crate::Vault;
+use crate::held::Held;
 use crate::stage::{Pending, Stage};
-use crate::{Change, Vault};
-use alp_base::{Allowance, Bytes, Key, Name, NoteChange, OutOfMemory, Sizes, VaultFault};
-use alp_files::{Cell, CellMap};
+use alp_base::{Allowance, Bytes, FileId, Key, Name, NoteChange, OutOfMemory, Sizes, VaultFault};
+use alp_files::{Cell, CellMap, Change};
+use alp_notes::copies_of;
 use std::alloc::Global;
 
 /// Cells and notes in memory. It tells what it holds, and its count of faults stays 0.
@@ -34,12 +32,15 @@ use std::alloc::Global;
 pub struct MemVault {
     alloc: Global,
     sizes: Sizes,
+    server: u8,
+    servers: u8,
     held: Held,
     stage: Stage,
     allowance: Allowance,
     ghost within: { AreSizes sizes },
-    ghost sound: { AreSound held.cells } by { AreSound-prop held.cells },
-    ghost fit: { IsFit stage held.cells } by { IsFit-prop stage held.cells },
+    ghost numbered: { IsServer server servers },
+    ghost fits: { IsVolumeOf sizes held.cells } by { IsVolumeOf-prop sizes held.cells },
+    ghost fit: { IsFit sizes stage held.cells } by { IsFit-prop sizes stage held.cells },
 }
 
 // The allowance after one more changing call that passes.
@@ -79,19 +80,23 @@ fn fallen(stage: Stage, pick: u64) -> Stage
 }
 
 impl MemVault {
-    ghost use Rattle.alp_vault.specs.MemVault.{kept_by, held_by};
+    ghost use Rattle.alp_vault.specs.MemVault.{kept_by, held_by, IsSame};
 
-    /// A vault that holds nothing.
-    pub fn new(alloc: Global, sizes: Sizes) -> MemVault
-        requires { AreSizes sizes }
+    /// A vault of this server, one of so many, that holds nothing.
+    pub fn new(alloc: Global, sizes: Sizes, server: u8, servers: u8) -> MemVault
+        requires sizes { AreSizes sizes }
+        requires server { IsServer server servers }
         ensures empty { held_by result ≡ record { cells = map.empty; notes = map.empty } }
         ensures serves { is_serving result.stage ≡ true }
         ensures sizes { result.sizes ≡ sizes }
+        ensures server { (result.server ≡ server) × (result.servers ≡ servers) }
         ensures allowance { result.allowance ≡ Free }
     {
         MemVault {
             alloc,
             sizes,
+            server,
+            servers,
             held: Held::new(alloc),
             stage: Stage::Serving,
             allowance: Allowance::Free,
@@ -112,15 +117,17 @@ impl MemVault {
         ensures held { IfOk result (λ v. held_by v ≡ held_by self) }
         ensures serves { IfOk result (λ v. is_serving v.stage ≡ true) }
         ensures allowance { IfOk result (λ v. v.allowance ≡ allowance) }
-        ensures sizes { IfOk result (λ v. v.sizes ≡ self.sizes) }
+        ensures same { MatchResult result (IsSame self) (λ e. IsSame self e.0) }
         ensures fault { IfErr result (λ e. e.1 ≡ fault.OutOfMemory) }
         ensures stage { IfErr result (λ e. e.0.stage ≡ self.stage) }
         ensures kept { IfErr result (λ e. kept_by e.0 ≡ kept_by self) }
-        ensures as_was { IfErr result (λ e. (e.0.sizes ≡ self.sizes) × (e.0.allowance ≡ self.allowance)) }
+        ensures as_was { IfErr result (λ e. e.0.allowance ≡ self.allowance) }
     {
         let MemVault {
             alloc,
             sizes,
+            server,
+            servers,
             held,
             stage,
             allowance: before,
@@ -135,6 +142,8 @@ impl MemVault {
                     let as_was = MemVault {
                         alloc,
                         sizes,
+                        server,
+                        servers,
                         held: after,
                         stage: Stage::Made(pending),
                         allowance: before,
@@ -144,6 +153,8 @@ impl MemVault {
                 Ok(MemVault {
                     alloc,
                     sizes,
+                    server,
+                    servers,
                     held: after,
                     stage: Stage::Serving,
                     allowance,
@@ -152,6 +163,8 @@ impl MemVault {
             Stage::Serving | Stage::Stopped | Stage::Torn(_) => Ok(MemVault {
                 alloc,
                 sizes,
+                server,
+                servers,
                 held,
                 stage: Stage::Serving,
                 allowance,
@@ -161,14 +174,18 @@ impl MemVault {
 }
 
 impl Vault for MemVault {
-    ghost use Rattle.alp_vault.specs.Stages.{sound_left, held_left, settled_left, no_faults};
-    ghost use Rattle.alp_vault.specs.MemVault.{kept_by, held_by, LeftBy};
+    ghost use Rattle.alp_vault.specs.Stages.{no_faults};
+    ghost use Rattle.alp_vault.specs.MemVault.{kept_by, held_by, LeftBy, IsSame, IsAsWas, IsPassed};
 
     ghost tells = { λ _. true };
 
     ghost serves = { λ v. is_serving v.stage };
 
     ghost volume = { λ v. v.sizes };
+
+    ghost server = { λ v. v.server };
+
+    ghost servers = { λ v. v.servers };
 
     ghost held = { λ v. held_by v };
 
@@ -180,21 +197,16 @@ impl Vault for MemVault {
 
     ghost allowance = { λ v. v.allowance };
 
-    ghost limits = { λ v. v.within };
+    // An odd pick leaves the commit made that was stopped, and an even one leaves it unmade.
+    ghost crashed = { λ v pick w. held_by w ≡ held_at (fallen_by pick v.stage) (kept_by v) };
 
     ghost faults_end = { λ _. no_faults };
-
-    ghost are_sound = { λ v c _ left. sound_left v.stage (kept_by v) c v.sound v.fit left };
-
-    ghost were_sound = { λ _ v c _ left. sound_left v.stage (kept_by v) c v.sound v.fit left };
-
-    ghost as_held = { λ v _. held_left v.stage (kept_by v) };
-
-    ghost settled = { λ v _ serves. settled_left v.stage (kept_by v) serves };
 
     ghost counts_now = { λ _ _ _ left. left };
 
     ghost only_now = { λ _ _ left. left };
+
+    fn knows(&self) {}
 
     fn sizes(&self) -> Sizes {
         self.sizes
@@ -216,6 +228,10 @@ impl Vault for MemVault {
         self.held.owners.as_slice()
     }
 
+    fn has_block(&self, file: FileId, block: u32) -> bool {
+        self.held.cells.has_block(file, block)
+    }
+
     fn fetch(&mut self, key: &Key) -> Result<Option<Cell>, VaultFault> {
         let Some(cell) = self.held.cells.get(key) else {
             return Ok(None);
@@ -227,41 +243,34 @@ impl Vault for MemVault {
     }
 
     fn note(&self, name: &Bytes) -> Option<&Bytes> {
-        note_at(
-            self.held.names.as_slice(),
-            self.held.values.as_slice(),
-            name,
-        )
+        self.held.notes.value(name)
     }
 
     fn note_names(&self) -> &[Bytes] {
-        self.held.names.as_slice()
+        self.held.notes.names()
     }
 
+    /// It has no log, and asks nothing of the change but that the volume has room for what is made.
     fn commit(&mut self, change: &Change, notes: &[NoteChange]) -> Result<(), VaultFault>
         requires serving { is_serving self.old.stage ≡ true }
-        requires once { ArePutOnce change.now.puts }
-        requires notes { IsClockAtMost notes.now }
-        requires sound { AreSound (edits_map (edits_of change.now) (held_by self.old).cells) }
+        requires room { IsVolumeOf self.old.sizes (edits_map (edits_of change.now) (held_by self.old).cells) }
         ensures made { OnOk result (held_by self.new ≡ made change.now notes.now (held_by self.old)) }
         ensures crash { NoMore (Either (held_by self.old) (made change.now notes.now (held_by self.old))) (LeftBy self.new) }
         ensures time { Adds (λ _ v. LeftBy v) self.old self.new (Either (held_by self.old) (made change.now notes.now (held_by self.old))) }
         ensures same { IsErrOf result fault.OutOfMemory → (held_by self.new ≡ held_by self.old) × (self.new.allowance ≡ self.old.allowance) }
-        ensures serves { MatchResult result (λ _. is_serving self.new.stage ≡ true) (ServesUnlessHalted (is_serving self.new.stage)) }
-        ensures sizes { self.new.sizes ≡ self.old.sizes }
-        ensures allowance { Spends self.old.allowance self.new.allowance }
-        ensures cause { HasCause 0 0 self.new.allowance result }
-        ensures volume { IfErr result IsOfVolume }
+        ensures kept { IsSame self.old self.new }
+        ensures ended { HasEnded (λ v. is_serving v.stage) (λ _. 0) (λ v. v.allowance) self.old self.new result }
 
-        ensures burns { OnOk result (self.new.allowance ≡ burnt self.old.allowance) }
         // It stops where the allowance is spent or this call spends it, and only there.
-        ensures stops { IsErrOf result fault.Stopped → IsAtEnd self.old.allowance }
-        ensures passes { OnOk result (Passes self.old.allowance) }
+        ensures counted { MatchResult result (λ _. IsPassed self.old.allowance self.new.allowance) (λ f. f ≡ fault.Stopped → IsAtEnd self.old.allowance) }
         // The commit that stops may have been made or not, and a crash may leave either.
         ensures either { IsErrOf result fault.Stopped → self.old.allowance ≡ Left 0 → NoMore (LeftBy self.new) (Either (held_by self.old) (made change.now notes.now (held_by self.old))) }
     {
         match self.allowance {
-            Allowance::Spent => Err(VaultFault::Stopped),
+            Allowance::Spent => {
+                self.stage = Stage::Stopped;
+                Err(VaultFault::Stopped)
+            }
             Allowance::Left(0) => match pending_of(self.alloc, change, notes) {
                 Ok(pending) => {
                     self.stage = Stage::Torn(pending);
@@ -281,8 +290,8 @@ impl Vault for MemVault {
     }
 
     fn stop_after(&mut self, calls: Option<u32>)
+        ensures kept { IsSame self.old self.new }
         ensures serves { is_serving self.new.stage ≡ is_serving self.old.stage }
-        ensures sizes { self.new.sizes ≡ self.old.sizes }
         ensures held { held_by self.new ≡ held_by self.old }
         ensures crash { SameOutcomes (LeftBy self.old) (LeftBy self.new) }
         ensures time { Adds (λ _ v. LeftBy v) self.old self.new (LeftBy self.new) }
@@ -296,41 +305,40 @@ impl Vault for MemVault {
         };
     }
 
-    /// An odd pick leaves the commit made that was stopped, and an even one leaves it unmade.
     fn power_off(self, pick: u64) -> Self
-        ensures left { LeftBy self (held_by result) }
-        ensures still { Only (held_by result) (LeftBy result) }
-        ensures sizes { result.sizes ≡ self.sizes }
+        ensures left { IsOneOf (LeftBy self) (LeftBy result) }
+        ensures crashed { held_by result ≡ held_at (fallen_by pick self.stage) (kept_by self) }
+        ensures rests { is_serving result.stage ≡ false }
+        ensures kept { IsSame self result }
         ensures allowance { result.allowance ≡ Free }
-
-        ensures picks { held_by result ≡ held_at (fallen_by pick self.stage) (kept_by self) }
     {
         MemVault {
             alloc: self.alloc,
             sizes: self.sizes,
+            server: self.server,
+            servers: self.servers,
             held: self.held,
             stage: fallen(self.stage, pick),
             allowance: Allowance::Free,
         }
     }
 
+    /// It has no device to sync, so that want of memory leaves it as it was.
     fn recover(self) -> Result<Self, (Self, VaultFault)>
+        requires halted { is_serving self.stage ≡ false }
         ensures left { IfOk result (λ v. LeftBy self (held_by v)) }
-        ensures serves { IfOk result (λ v. is_serving v.stage ≡ true) }
+        ensures serves { MatchResult result (λ v. is_serving v.stage ≡ true) (λ e. is_serving e.0.stage ≡ false) }
         ensures crash { MatchResult result (λ v. NoMore (LeftBy self) (LeftBy v)) (λ e. NoMore (LeftBy self) (LeftBy e.0)) }
         ensures time { MatchResult result (λ v. Adds (λ _ v. LeftBy v) self v (LeftBy v)) (λ e. Adds (λ _ v. LeftBy v) self e.0 (LeftBy self)) }
-        ensures same { IfErr result (λ e. e.1 ≡ fault.OutOfMemory → (held_by e.0 ≡ held_by self) × (is_serving e.0.stage ≡ is_serving self.stage) × (e.0.allowance ≡ self.allowance)) }
-        ensures outcomes { IfErr result (λ e. e.1 ≡ fault.OutOfMemory → SameOutcomes (LeftBy self) (LeftBy e.0)) }
-        ensures sizes { MatchResult result (λ v. v.sizes ≡ self.sizes) (λ e. e.0.sizes ≡ self.sizes) }
-        ensures allowance { MatchResult result (λ v. Spends self.allowance v.allowance) (λ e. Spends self.allowance e.0.allowance) }
+        ensures kept { MatchResult result (IsSame self) (λ e. IsSame self e.0) }
+        ensures spent { MatchResult result (HasSpent (λ _. 0) (λ v. v.allowance) self) (λ e. HasSpent (λ _. 0) (λ v. v.allowance) self e.0) }
         ensures cause { IfErr result (λ e. HasFaultCause 0 0 e.0.allowance e.1) }
         ensures volume { IfErr result (λ e. IsOfVolume e.1) }
 
+        ensures as_was { IfErr result (λ e. e.1 ≡ fault.OutOfMemory → IsAsWas self e.0) }
         // What it recovers is what a crash left, and not the other outcome of a stopped commit.
         ensures held { IfOk result (λ v. held_by v ≡ held_by self) }
-        ensures burns { IfOk result (λ v. v.allowance ≡ burnt self.allowance) }
-        ensures stops { IfErr result (λ e. e.1 ≡ fault.Stopped → IsAtEnd self.allowance) }
-        ensures passes { OnOk result (Passes self.allowance) }
+        ensures counted { MatchResult result (λ v. IsPassed self.allowance v.allowance) (λ e. e.1 ≡ fault.Stopped → IsAtEnd self.allowance) }
     {
         match self.allowance {
             Allowance::Spent => Err((self, VaultFault::Stopped)),

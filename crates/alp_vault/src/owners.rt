@@ -1,19 +1,32 @@
 //! Owners' names, kept in rising order.
-ghost use Rattle.std.specs.Prelude.{◌≡◌, ◌+◌, ◌<◌, ◌≤◌, length};
+ghost use Rattle.std.specs.Prelude.{◌≡◌, ◌+◌, ◌<◌, ◌≤◌, length, IfOk, IfErr};
+ghost use Rattle.std.specs.List.Sorted.{IsStrictlySortedBy};
+ghost use Rattle.alp_base.specs.Notes.{text_cmp};
 ghost use Rattle.alp_files.specs.Counts.{name_at};
+ghost use Rattle.alp_notes.specs.Rows.{IsAt, IsPlace};
 ghost use Rattle.alp_vault.specs.Owners.{with_name, with_owner, with_owners};
 
-use crate::rows::place_of;
 use alp_base::{Key, Name};
 use alp_files::Cell;
 
+// Where the name stands, or where it would.
+fn place_of(name: &Name, names: &[Name]) -> Result<usize, usize>
+    requires { IsStrictlySortedBy text_cmp names.now }
+    ensures found { IfOk result (IsAt name.now names.now) }
+    ensures absent { IfErr result (IsPlace name.now names.now) }
+{
+    names.binary_search(name)
+}
+
 fn add_name(names: &mut Vec<Name>, name: Name)
-    requires { length names.old.items < names.old.cap }
+    requires room { length names.old.items < names.old.cap }
+    requires rising { IsStrictlySortedBy text_cmp names.old.items }
     ensures added { names.new.items ≡ with_name name names.old.items }
+    ensures rising { IsStrictlySortedBy text_cmp names.new.items }
     ensures one { length names.new.items ≤ length names.old.items + 1 }
     ensures room { names.new.cap ≡ names.old.cap }
 {
-    match place_of(names.as_slice(), &name) {
+    match place_of(&name, names.as_slice()) {
         Ok(_) => {}
         Err(at) => {
             let _ = names.insert(at, name);
@@ -22,8 +35,10 @@ fn add_name(names: &mut Vec<Name>, name: Name)
 }
 
 fn add_owner(names: &mut Vec<Name>, key: &Key)
-    requires { length names.old.items < names.old.cap }
+    requires room { length names.old.items < names.old.cap }
+    requires rising { IsStrictlySortedBy text_cmp names.old.items }
     ensures added { names.new.items ≡ with_owner (name_at key.now) names.old.items }
+    ensures rising { IsStrictlySortedBy text_cmp names.new.items }
     ensures one { length names.new.items ≤ length names.old.items + 1 }
     ensures room { names.new.cap ≡ names.old.cap }
 {
@@ -34,7 +49,8 @@ fn add_owner(names: &mut Vec<Name>, key: &Key)
 
 /// Adds the names of the owners that are put, where there is room for all.
 pub fn add_owners(names: &mut Vec<Name>, puts: &[(Key, Cell)])
-    requires { length names.old.items + length puts.now ≤ names.old.cap }
+    requires room { length names.old.items + length puts.now ≤ names.old.cap }
+    requires rising { IsStrictlySortedBy text_cmp names.old.items }
     ensures added { names.new.items ≡ with_owners puts.now names.old.items }
     ensures few { length names.new.items ≤ length names.old.items + length puts.now }
 {

@@ -1,6 +1,6 @@
 //! What became of the commits of a vault in memory.
-use crate::Change;
 use alp_base::NoteChange;
+use alp_files::Change;
 
 /// A commit that was stopped.
 #[derive(Drop)]

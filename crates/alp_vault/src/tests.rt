@@ -1,15 +1,16 @@
-ghost use Rattle.std.specs.Prelude.{◌≡◌, IfOk, IsTrue, true};
+ghost use Rattle.std.specs.Prelude.{◌≡◌, ◌≤◌, IfOk, IsTrue, true, false};
 ghost use Rattle.std.specs.FinMap as map;
 ghost use Rattle.alp_files.specs.Edits.{edits_map};
-ghost use Rattle.alp_files.specs.Sound.{AreSound};
-ghost use Rattle.alp_vault.specs.Changes.{edits_of, ArePutOnce};
+ghost use Rattle.alp_files.specs.Changes.{edits_of};
 ghost use Rattle.alp_vault.specs.MemVault.{held_by};
 ghost use Rattle.alp_vault.specs.Stages.{is_serving};
+ghost use Rattle.alp_vault.specs.Volumes.{IsVolumeOf};
+ghost use Rattle.alp_base.specs.declared.faults.Sizes.{Sizes as SizesOf};
 
-use crate::{Change, CutList, FileList, MemVault, PutList, Vault};
-use alp_base::{AccessList, Bytes, Key, Name, OutOfMemory, Sizes, VaultFault};
+use crate::{MemVault, Vault};
+use alp_base::{AccessList, Bytes, FileId, Key, Name, OutOfMemory, Sizes, VaultFault};
 use alp_fields::{ClockNote, clock_change, read_clock};
-use alp_files::{Cell, OwnerRecord};
+use alp_files::{Cell, Change, CutList, FileList, OwnerRecord, PutList};
 use std::alloc::Global;
 use std::test::*;
 
@@ -18,6 +19,7 @@ const CLOCK: ClockNote = ClockNote { epoch: 1, clock: 7 };
 fn new_vault(alloc: Global) -> MemVault
     ensures empty { held_by result ≡ record { cells = map.empty; notes = map.empty } }
     ensures serves { is_serving result.stage ≡ true }
+    ensures sizes { result.sizes ≡ record { home = 512; area = 64 } }
 {
     MemVault::new(
         alloc,
@@ -25,6 +27,8 @@ fn new_vault(alloc: Global) -> MemVault
             home: 512,
             area: 64,
         },
+        1,
+        1,
     )
 }
 
@@ -34,8 +38,7 @@ fn ann() -> Name {
 
 /// The owner `ann` comes.
 fn with_owner(alloc: Global) -> Result<Change, OutOfMemory>
-    ensures once { IfOk result (λ c. ArePutOnce c.puts) }
-    ensures sound { IfOk result (λ c. AreSound (edits_map (edits_of c) map.empty)) }
+    ensures room { IfOk result (λ c. (sizes : SizesOf) → 512 ≤ sizes.home → IsVolumeOf sizes (edits_map (edits_of c) map.empty)) }
 {
     let name = ann();
     let record = OwnerRecord {
@@ -74,6 +77,12 @@ fn a_commit_is_read_back(rt: HostRuntime) -> Result<(), Fail> {
     assert_eq!(rt; seen(alloc, &vault)?, (1, Some(CLOCK)));
     assert!(rt; matches!(vault.fetch(&Key::OwnerOf(ann())), Ok(Some(Cell::Owner(_)))));
     assert_eq!(rt; (vault.used(), vault.file_count()), (0, 0));
+    let file = FileId {
+        server: 1,
+        epoch: 1,
+        counter: 1,
+    };
+    assert!(rt; !vault.has_block(file, 0));
     assert!(rt; matches!(vault.owners(), [name] if *name == ann()));
     Ok(())
 }
@@ -102,18 +111,31 @@ fn a_stopped_commit_was_made_or_not(rt: HostRuntime) -> Result<(), Fail> {
     Ok(())
 }
 
+/// Whether the vault is stopped in its recovery, and in the next one too.
+fn stops_twice(vault: MemVault) -> bool
+    requires { is_serving vault.stage ≡ false }
+{
+    match vault.recover() {
+        Err((stopped, VaultFault::Stopped)) => {
+            matches!(stopped.recover(), Err((_, VaultFault::Stopped)))
+        }
+        _ => false,
+    }
+}
+
 #[test]
 fn a_stopped_vault_stays_stopped(rt: HostRuntime) -> Result<(), Fail> {
     let alloc = rt.alloc();
-    let mut vault = new_vault(alloc);
+    let mut vault = new_vault(alloc).power_off(0);
     vault.stop_after(Some(0));
-    let stopped = match vault.recover() {
-        Err((stopped, fault)) => {
-            assert_eq!(rt; fault, VaultFault::Stopped);
-            stopped
-        }
-        Ok(passed) => passed,
-    };
-    assert!(rt; matches!(stopped.recover(), Err((_, VaultFault::Stopped))));
+    assert!(rt; stops_twice(vault));
     Ok(())
+}
+
+fn crosses<T: Send + Sync>() {}
+
+#[test]
+fn vaults_cross_threads(_rt: HostRuntime) {
+    crosses::<MemVault>();
+    crosses::<Change>();
 }

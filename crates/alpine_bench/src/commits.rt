@@ -1,16 +1,16 @@
 //! Commits to a log on a file of the host, beside appends to a file that are synced.
-ghost use Rattle.std.specs.Prelude.{◌≡◌, ◌≤◌, true, [], length, IfOk};
+ghost use Rattle.std.specs.Prelude.{◌≡◌, ◌≤◌, true, false, [], length, IfOk, IsTrue};
 ghost use Rattle.std.specs.List.{AllByRecursion};
 ghost use Rattle.alp_batch.specs.Batch.{IsBatch, page_below};
 ghost use Rattle.alp_batch.specs.Rising.{is_rising};
 ghost use Rattle.alp_wal.specs.State.{IsBelow};
-ghost use Rattle.alp_wal.specs.Wal.{disk_of, IsLog};
+ghost use Rattle.alp_wal.specs.Wal.{disk_of, is_dead, IsLog, IsKnown};
 
 use crate::rates::{Trouble, hundredths, rate_since};
 use alp_base::{OutOfMemory, Page, PageRef, Sizes, VaultFault};
 use alp_batch::{Batch, Images, NoteChanges, PageImage, encode};
 use alp_disk::{Disk, FileDisk};
-use alp_volume::format;
+use alp_format::format;
 use alp_wal::{Wal, WalFault};
 use std::alloc::Global;
 use std::fmt;
@@ -110,7 +110,8 @@ fn some_images(alloc: Global, count: u32) -> Result<Vec<PageImage>, OutOfMemory>
     Ok(images)
 }
 
-fn some_batch(alloc: Global, count: u32) -> Result<Batch, OutOfMemory>
+/// Images of the first pages, and no notes.
+pub(crate) fn some_batch(alloc: Global, count: u32) -> Result<Batch, OutOfMemory>
     requires { count ≤ 16 }
     ensures batch { IfOk result IsBatch }
     ensures below { IfOk result (λ batch. AllByRecursion (IsBelow count) batch.images) }
@@ -124,14 +125,17 @@ fn some_batch(alloc: Global, count: u32) -> Result<Batch, OutOfMemory>
     })
 }
 
-fn commit(log: &mut Wal<FileDisk>, batch: &Batch, pages: u32) -> Result<(), Trouble>
-    requires log { IsLog (⟦<FileDisk as Disk>⟧.size (disk_of log.old)) log.old }
+/// Commits a batch of images of the first pages.
+pub(crate) fn commit<D: Disk>(log: &mut Wal<D>, batch: &Batch, pages: u32) -> Result<(), Trouble>
+    requires log { IsLog (D.size (disk_of log.old)) log.old }
+    requires known { IsTrue (D.tells (disk_of log.old)) → is_dead log.old ≡ false → IsKnown (D.size (disk_of log.old)) (D.seen (disk_of log.old)) (D.may_leave (disk_of log.old)) log.old }
     requires few { pages ≤ 16 }
     requires batch { IsBatch batch.now }
     requires below { AllByRecursion (IsBelow pages) batch.now.images }
     requires pages { length batch.now.images ≡ pages }
     requires notes { batch.now.notes ≡ [] }
-    ensures { IsLog (⟦<FileDisk as Disk>⟧.size (disk_of log.new)) log.new }
+    ensures log { IsLog (D.size (disk_of log.new)) log.new }
+    ensures known { IsTrue (D.tells (disk_of log.new)) → is_dead log.new ≡ false → IsKnown (D.size (disk_of log.new)) (D.seen (disk_of log.new)) (D.may_leave (disk_of log.new)) log.new }
 {
     if log.note_names().len() > MOST_NOTES {
         return Err(Trouble::Full);

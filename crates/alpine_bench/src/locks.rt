@@ -1,5 +1,5 @@
-//! Asks and releases at a lock table on which one transaction holds many resources.
-use crate::rates::{Trouble, rate_since};
+//! Asks and releases at a lock table on which another transaction, or the asker itself, holds many resources.
+use crate::rates::{Trouble, average, rate_since};
 use alp_base::{Choice, FileId, Key, OutOfMemory, Resource, TransId};
 use alp_locks::{Grant, LockTable, Request};
 use alp_modes::Mode;
@@ -8,13 +8,18 @@ use std::alloc::Global;
 use std::fmt;
 use std::time::{Clock, Instant};
 
-/// How many resources the first transaction holds.
+/// How many resources are held.
 pub(crate) const SIZES: [u32; 3] = [16, 256, 1024];
 
-// How often one resource is asked for, and all.
+// How often one resource is asked for, and all, and more by one that holds all.
 const ROUNDS_OF_ONE: u32 = 20_000;
 
 const ROUNDS_OF_ALL: u32 = 100;
+
+const ROUNDS_OF_MORE: u32 = 1000;
+
+// How many more it asks for.
+const MORE: u32 = 16;
 
 const FILE: FileId = FileId {
     server: 1,
@@ -34,20 +39,26 @@ const ASKER: TransId = TransId {
     counter: 2,
 };
 
-/// Asks a second, each with its release.
+/// Asks a second, each with its release, and the nanoseconds of an ask for more, without one.
 #[derive(Drop)]
 pub(crate) struct Rates {
     held: u32,
     one: u128,
     all: u128,
+    more: u128,
 }
 
 impl fmt::Display for Rates {
     fn fmt<W: fmt::Write>(&self, f: &mut fmt::Formatter<W>) -> fmt::Result {
-        let Rates { held, one, all } = self;
+        let Rates {
+            held,
+            one,
+            all,
+            more,
+        } = self;
         writeln!(
             f,
-            "locks, {held} held: {one} asks and releases of one a second, {all} of {held} a second"
+            "locks, {held} held: {one} asks and releases of one a second, {all} of {held} a second; {more} nanoseconds an ask of {MORE} by their holder"
         )
     }
 }
@@ -93,6 +104,27 @@ fn rate<C: Clock>(
     rate_since(clock, start, granted)
 }
 
+// How many nanoseconds an ask for more takes, on an average, where the asker holds so many. Only what was granted counts.
+fn time_of_more<C: Clock>(
+    clock: &C,
+    alloc: Global,
+    table: &mut LockTable,
+    held: u32,
+) -> Result<u128, Trouble> {
+    let mut granted = 0u128;
+    let mut nanoseconds = 0u128;
+    for _ in 0..ROUNDS_OF_MORE {
+        ask(alloc, table, ASKER, (0, held))?;
+        let start = Instant::now(clock)?;
+        if ask(alloc, table, ASKER, (held, held.saturating_add(MORE)))? {
+            nanoseconds = nanoseconds.saturating_add(start.elapsed(clock)?.as_nanos());
+            granted = granted.saturating_add(1);
+        }
+        table.release_all(ASKER);
+    }
+    average(nanoseconds, granted).ok_or(Trouble::NoTime)
+}
+
 /// The rates where another transaction holds so many resources, and where none does.
 pub(crate) fn measure<C: Clock>(clock: &C, alloc: Global, held: u32) -> Result<Rates, Trouble> {
     let mut table = LockTable::new(alloc);
@@ -106,5 +138,11 @@ pub(crate) fn measure<C: Clock>(clock: &C, alloc: Global, held: u32) -> Result<R
     )?;
     table.release_all(HOLDER);
     let all = rate(clock, alloc, &mut table, (0, held), ROUNDS_OF_ALL)?;
-    Ok(Rates { held, one, all })
+    let more = time_of_more(clock, alloc, &mut table, held)?;
+    Ok(Rates {
+        held,
+        one,
+        all,
+        more,
+    })
 }

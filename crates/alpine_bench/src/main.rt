@@ -1,6 +1,7 @@
 //! The program `alpine_bench`: how fast the monitor, the lock table, the frames and the log are on this machine.
 #![tactic(auto)]
 
+mod checkpoints;
 mod commits;
 mod frames;
 mod locks;
@@ -53,6 +54,13 @@ fn run<R: Runtime + Files<File = File> + Threads + Wait + Sync>(
         Some(Command::Frames) => {
             let rates = frames::measure(rt, alloc)?;
             Ok(print!(rt; "{rates}")?)
+        }
+        Some(Command::Checkpoint) => {
+            for home in checkpoints::SIZES {
+                let pace = checkpoints::measure(rt, alloc, home)?;
+                print!(rt; "{pace}")?;
+            }
+            Ok(())
         }
         Some(Command::Log { plan }) => {
             for pages in commits::SIZES {

@@ -79,6 +79,16 @@ pub(crate) fn rate_since<C: Clock>(clock: &C, start: Instant, count: u64) -> Res
     per_second(count, nanoseconds).ok_or(Trouble::NoTime)
 }
 
+/// The average of so many that come to that sum, rounded down.
+pub(crate) fn average(sum: u128, count: u128) -> Option<u128>
+    ensures { IfSome result (λ mean. (0 < count) × (mean ≡ sum / count)) }
+{
+    if count == 0 {
+        return None;
+    }
+    Some(sum / count)
+}
+
 /// The first as hundredths of the second, rounded down.
 pub(crate) fn hundredths(first: u128, second: u128) -> Option<u128>
     ensures { IfSome result (λ part. (0 < second) × (part ≡ first * 100 / second)) }

@@ -5,8 +5,11 @@ pub(crate) const USAGE: &str = "\
 usage: alpine_bench COMMAND
 
   monitor THREADS  turns a second of 1 to 16 threads at one monitor, and at a Mutex
-  locks            asks and releases a second beside 16, 256 and 1024 held resources
+  locks            asks and releases a second beside 16, 256 and 1024 held resources, and the
+                   nanoseconds of an ask of 16 by their holder
   frames           encodes and decodes a second of a request to write 16 pages
+  checkpoint       the nanoseconds of a checkpoint of 16 images alone, on a disk in memory with 512
+                   home pages and with 65536
   log FOLDER COUNT PAGES
                    commits a second of batches of 1 page and of 16, COUNT of each (4 to 227), on a
                    new volume of PAGES home pages (512 to 65536) in a file in FOLDER, beside appends
@@ -26,6 +29,7 @@ pub(crate) enum Command<'a> {
     Monitor { threads: u32 },
     Locks,
     Frames,
+    Checkpoint,
     Log { plan: Plan<'a> },
 }
 
@@ -42,6 +46,7 @@ pub(crate) fn read_words<'a>(words: &[&'a str]) -> Option<Command<'a>> {
         }
         ["locks"] => Some(Command::Locks),
         ["frames"] => Some(Command::Frames),
+        ["checkpoint"] => Some(Command::Checkpoint),
         ["log", folder, count, pages] => {
             let commits = count.parse().ok()?;
             let home = pages.parse().ok()?;

@@ -11,19 +11,19 @@ use Rattle.alp_calls.proofs.look.pages_of.Goals as goal
 
 pub returns-in-Err-clause-looked : goal.returns-in-Err-clause-looked
 returns-in-Err-clause-looked g c =
-    looks_then g.V.Vault.tells g.V.Vault.serves g.V.Vault.volume g.V.Vault.held g.V.Vault.may_leave g.V.Vault.left_since g.V.Vault.faults g.V.Vault.allowance
+    looks_then g.V.Vault
     c.args.vault.now c.loop-i.vault c.push_page.new.vault (Some c.in-Err.fault) c.loop-i.invariant.0.0 c.in-Err.ensures.looked
 
 pub loop-i-preserved : goal.loop-i-preserved
 loop-i-preserved g c =
     let left = c.loop-i.invariant.0.0 in (
-      looks_then g.V.Vault.tells g.V.Vault.serves g.V.Vault.volume g.V.Vault.held g.V.Vault.may_leave g.V.Vault.left_since g.V.Vault.faults g.V.Vault.allowance
+      looks_then g.V.Vault
           c.args.vault.now c.loop-i.vault c.push_page.new.vault None left c.in_default.ensures.looked,
       λ told.
           let m : View = over c.args.intents.now (map.get (g.V.Vault.held c.args.vault.now).cells) in
           let rest : List (List ℕ) = pages_at m c.args.file (c.args.run.first + (c.loop-i.i + 1)) (c.args.run.count - (c.loop-i.i + 1)) in
           let next : c.push_page.new.pages.items ≡ c.loop-i.pages.items ++ page_in (m (PageOf c.args.file (c.args.run.first + c.loop-i.i))) ∷ [] =
-          c.in_default.ensures.page (subst IsTrue (sym left.telling) told)
+          c.in_default.ensures.page (subst IsTrue (sym left.same.telling) told)
           ∙ ap (λ (h : Contents). c.loop-i.pages.items ++ page_in (over c.args.intents.now (map.get h.cells) (PageOf c.args.file (c.args.run.first + c.loop-i.i))) ∷ []) left.contents in
           ap (λ (ps : List (List ℕ)). ps ++ rest) next
           ∙ pages_at-step c.loop-i.pages.items m c.args.file c.args.run.first c.args.run.count c.loop-i.i c.loop-i-test.true

@@ -8,7 +8,7 @@ use Rattle.alp_calls.proofs.look.pages_of.Given as goal
 
 abbrev pub invariant-loop-i : goal.invariant-loop-i
 invariant-loop-i g l =
-    Looks g.V.Vault.tells g.V.Vault.serves g.V.Vault.volume g.V.Vault.held g.V.Vault.may_leave g.V.Vault.left_since g.V.Vault.faults g.V.Vault.allowance l.initial.vault l.vault None
+    Looks g.V.Vault l.initial.vault l.vault None
     × (IsTrue (g.V.Vault.tells l.initial.vault)
     → l.pages.items ++ pages_at (over l.intents (map.get (g.V.Vault.held l.initial.vault).cells)) l.file (l.run.first + l.i) (l.run.count - l.i)
     ≡ pages_at (over l.intents (map.get (g.V.Vault.held l.initial.vault).cells)) l.file l.run.first l.run.count)

@@ -20,13 +20,13 @@ pub returns-in-Ok-clause-on : goal.returns-in-Ok-clause-on
 returns-in-Ok-clause-on c =
     let h = c.in-Ok.ensures in
     let n = c.in-Ok.node in
-    let clock : n.kept.clock ≡ 0 = ap (λ (k : ClockNote). k.clock) (new_clock (held_by c.new-vault.result) (record { epoch = n.kept.epoch; clock = n.kept.clock }) c.new-vault.ensures.empty h.raised) in
+    let clock : n.kept.clock ≡ 0 = ap (λ (k : ClockNote). k.clock) (new_clock (held_by c.new-vault.result) (record { epoch = n.kept.epoch; clock = n.kept.clock }) c.new-vault.ensures.empty h.raised.next) in
     record {
       kept = h.kept;
-      up = h.idle.3;
+      up = h.new.up;
       free = stays_free c.new-vault.result.allowance n.kept.vault.allowance h.allowance c.new-vault.ensures.allowance;
       early = omega (arith, clock);
-      answered = subst (λ (js : List Entry). Along next IsAnswered (opened (start_in n)) js) (sym h.idle.0) tt;
+      answered = subst (λ (js : List Entry). Along next IsAnswered (opened (start_in n)) js) (sym h.new.journal) tt;
     }
 
 pub returns-in-Ok-clause-opening : goal.returns-in-Ok-clause-opening
@@ -34,17 +34,17 @@ returns-in-Ok-clause-opening c =
     let h = c.in-Ok.ensures in
     let n = c.in-Ok.node in
     let clock : record { epoch = n.kept.epoch; clock = n.kept.clock } ≡ record { epoch = 1; clock = 0 } =
-    new_clock (held_by c.new-vault.result) (record { epoch = n.kept.epoch; clock = n.kept.clock }) c.new-vault.ensures.empty h.raised in
+    new_clock (held_by c.new-vault.result) (record { epoch = n.kept.epoch; clock = n.kept.clock }) c.new-vault.ensures.empty h.raised.next in
     record {
-      server = h.server;
-      cells = ap (λ (v : MemVault). (held_by v).cells) h.opening ∙ h.cells refl ∙ ap (λ (x : Contents). x.cells) c.new-vault.ensures.empty;
+      server = h.new.number;
+      cells = ap (λ (v : MemVault). (held_by v).cells) h.new.opening ∙ h.raised.cells refl ∙ ap (λ (x : Contents). x.cells) c.new-vault.ensures.empty;
       notes =
-          ap (λ (v : MemVault). (held_by v).notes) h.opening ∙ h.notes
+          ap (λ (v : MemVault). (held_by v).notes) h.new.opening ∙ h.raised.notes
           ∙ ap (λ (x : Contents). map.insert x.notes clock_name (clock_form.spell (record { epoch = n.kept.epoch; clock = n.kept.clock }))) c.new-vault.ensures.empty
           ∙ ap (λ (k : ClockNote). map.insert map.empty clock_name (clock_form.spell k)) clock;
     }
 
 pub only_memory-requires : goal.only_memory-requires
 only_memory-requires c =
-    new_fault (held_by c.new-vault.result) c.in-Err.field-0-0.allowance c.in-Err.fault c.new-vault.ensures.empty
+    new_fault c.new-vault.result.server c.new-vault.result.servers (held_by c.new-vault.result) c.in-Err.field-0-0.allowance c.in-Err.fault c.new-vault.ensures.empty
     (stays_free c.new-vault.result.allowance c.in-Err.field-0-0.allowance c.in-Err.ensures.allowance c.new-vault.ensures.allowance) c.in-Err.ensures.cause

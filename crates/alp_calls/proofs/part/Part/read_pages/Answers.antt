@@ -12,6 +12,6 @@ pub returns-clause-right : goal.returns-clause-right
 returns-clause-right g c = λ told.
     pages_read (g.V.Vault.held c.args.vault.now).cells c.args.self.now c.args.self.now c.args.open_no c.args.run c.in-Some.open c.in-Some-2.props c.in_ok-pages.pages
     (sym c.in-Some.ensures) (sym (c.in_ok-props.ensures.props told) ∙ c.in-Some-2.is) (le-ltb _ _ c.if-size-run.false)
-    (c.in_ok-pages.ensures.pages (subst IsTrue (sym c.in_ok-props.ensures.looked.0.telling) told)
+    (c.in_ok-pages.ensures.pages (subst IsTrue (sym c.in_ok-props.ensures.looked.0.same.telling) told)
     ∙ ap (λ (h : Contents). pages_at (over c.args.self.now.intents (map.get h.cells)) c.in-Some.open.file c.args.run.first c.args.run.count) c.in_ok-props.ensures.looked.0.contents)
     refl (λ m. refl)

@@ -1,7 +1,7 @@
 use Rattle.std.proofs.Common.{ap, ◌∙◌}
 use Rattle.std.specs.FinMap as map
-use Rattle.alp_modes.specs.Orders.{transactions_total, exact_transactions}
-use Rattle.alp_modes.proofs.TreeLemmas.{put_at}
+use Rattle.alp_base.specs.Orders.{transactions_total, exact_transactions}
+use Rattle.alp_base.proofs.TreeLemmas.{put_at}
 use Rattle.alp_node.proofs.lives.Lives.add.Goals.{in-Some-1, in-None-1}
 use Rattle.alp_node.proofs.lives.Lives.add.Goals as goal
 

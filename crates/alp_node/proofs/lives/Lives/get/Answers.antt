@@ -1,7 +1,7 @@
 use Rattle.std.proofs.Common.{ap, sym, ◌∙◌}
 use Rattle.std.specs.FinMap as map
-use Rattle.alp_modes.specs.Orders.{transactions_total, exact_transactions}
-use Rattle.alp_modes.proofs.TreeLemmas.{get_at}
+use Rattle.alp_base.specs.Orders.{transactions_total, exact_transactions}
+use Rattle.alp_base.proofs.TreeLemmas.{get_at}
 use Rattle.alp_node.proofs.lives.Lives.get.Goals as goal
 
 pub returns : goal.returns

@@ -3,8 +3,8 @@ use Rattle.std.specs.Prelude.{map as list_map}
 use Rattle.std.specs.FinMap as map
 use Rattle.std.specs.List.Sorted.{IsStrictlySortedBy}
 use Rattle.alp_base.specs.declared.ids.TransId.{TransId}
-use Rattle.alp_modes.specs.Orders.{trans_cmp, transactions_total, exact_transactions}
-use Rattle.alp_modes.proofs.TreeLemmas.{entries_back, tree_sorted}
+use Rattle.alp_base.specs.Orders.{trans_cmp, transactions_total, exact_transactions}
+use Rattle.alp_base.proofs.TreeLemmas.{entries_back, tree_sorted}
 use Rattle.alp_node.specs.declared.lives.Live.{Live}
 use Rattle.alp_node.proofs.lives.Lives.ids.Goals as goal
 

@@ -1,7 +1,7 @@
 use Rattle.std.proofs.Common.{ap, sym, ◌∙◌}
 use Rattle.std.specs.FinMap as map
-use Rattle.alp_modes.specs.Orders.{transactions_total, exact_transactions}
-use Rattle.alp_modes.proofs.TreeLemmas.{get_at, put_at}
+use Rattle.alp_base.specs.Orders.{transactions_total, exact_transactions}
+use Rattle.alp_base.proofs.TreeLemmas.{get_at, put_at}
 use Rattle.alp_node.proofs.lives.Lives.swap.Goals as goal
 
 pub returns-clause-after : goal.returns-clause-after

@@ -10,9 +10,9 @@ use Rattle.alp_files.specs.Sound.{AreSound}
 use Rattle.alp_journal.specs.State.{Start, opened}
 use Rattle.alp_locks.specs.Sound.{IsSound}
 use Rattle.alp_vault.specs.Contents.{Contents}
-use Rattle.alp_node.specs.declared.kept.Kept.{Kept}
+use Rattle.alp_node.specs.declared.server_state.ServerState.{ServerState}
 use Rattle.alp_node.specs.declared.node.Node.{Node}
-use Rattle.alp_node.specs.Kept.{IsAs, IsReady}
+use Rattle.alp_node.specs.ServerState.{IsAs, IsReady}
 use Rattle.alp_node.specs.Nodes.{IsRight, start_at}
 use Rattle.alp_node.proofs.StartLemmas.{raised_later, raised_within, over_nothing, new_kept, new_as, new_ready, new_right}
 use Rattle.alp_node.proofs.node.Node.start.Goals as goal
@@ -23,11 +23,11 @@ store-requires-clause-clock g c = raised_within (g.V.Vault.held c.args.vault) c.
 pub store-requires-clause-sound : goal.store-requires-clause-sound
 store-requires-clause-sound g c tells m is =
     subst AreSound (sym (over_nothing c.new.result m (g.V.Vault.held c.args.vault).cells c.new.ensures is))
-    (g.met.V.Vault.are_sound c.args.vault (g.V.Vault.held c.args.vault) tells (g.met.V.Vault.as_held c.args.vault tells))
+    (c.knows.ensures.fitting (g.V.Vault.held c.args.vault) tells (c.knows.ensures.as_held tells c.requires.serving)).sound
 
 pub returns-clause-kept : goal.returns-clause-kept
 returns-clause-kept g c =
-    let k : Kept g.row.V.Denot = record {
+    let k : ServerState g.row.V.Denot = record {
       alloc = c.args.alloc;
       server = c.args.server;
       epoch = c.in-Ok.clock.epoch;
@@ -49,9 +49,9 @@ returns-clause-kept g c =
           (subst (IsReady 0 (g.V.Vault.serves c.store-2.new.vault)) same
           (new_ready k c.args.server c.in-Ok.clock (g.V.Vault.serves c.store-2.new.vault) c.in_default.ensures.serves (subst IsSound c.new-4.ensures.empty c.new-4.ensures.sound)));
       right = λ tells. (
-          let before : IsTrue (g.V.Vault.tells c.args.vault) = subst IsTrue c.store-2.ensures.tells tells in
+          let before : IsTrue (g.V.Vault.tells c.args.vault) = subst IsTrue c.store-2.ensures.kept.telling tells in
           let cells : held.cells ≡ (g.V.Vault.held c.args.vault).cells = over_nothing c.new.result held.cells (g.V.Vault.held c.args.vault).cells c.new.ensures (c.in_default.ensures.cells before) in
-          let sound : AreSound held.cells = g.met.V.Vault.are_sound c.store-2.new.vault held tells (g.met.V.Vault.as_held c.store-2.new.vault tells) in
+          let sound : AreSound held.cells = subst AreSound (sym cells) (c.knows.ensures.fitting (g.V.Vault.held c.args.vault) before (c.knows.ensures.as_held before c.requires.serving)).sound in
           let now : IsAs (start_at c.args.server held) (opened (start_at c.args.server held)) held (new_kept k c.args.server c.in-Ok.clock) =
           new_as k c.args.server (clock_kept (g.V.Vault.held c.args.vault).notes).epoch c.in-Ok.clock held (g.V.Vault.held c.args.vault).notes sound
           (λ f x there. (c.requires.given before).ids f x (sym (ap (λ (m : Cells). map.get m (Leader f)) cells) ∙ there))
@@ -65,8 +65,13 @@ returns-clause-kept g c =
           );
     }
 
-pub returns-clause-cells : goal.returns-clause-cells
-returns-clause-cells g c tells = over_nothing c.new.result (g.V.Vault.held c.store-2.new.vault).cells (g.V.Vault.held c.args.vault).cells c.new.ensures (c.in_default.ensures.cells tells)
+pub returns-clause-raised : goal.returns-clause-raised
+returns-clause-raised g c = record {
+  format = c.in-Ok.ensures.notes;
+  next = c.in-Ok.ensures.clock;
+  cells = λ tells. over_nothing c.new.result (g.V.Vault.held c.store-2.new.vault).cells (g.V.Vault.held c.args.vault).cells c.new.ensures (c.in_default.ensures.cells tells);
+  notes = c.in_default.ensures.notes;
+}
 
 pub returns-in-Err-store-clause-cause : goal.returns-in-Err-store-clause-cause
 returns-in-Err-store-clause-cause g c = (

@@ -1,9 +1,11 @@
-use Rattle.std.proofs.Common.{List, sym, ◌∙◌, ap, arith}
+use Rattle.std.proofs.Common.{List, sym, ◌∙◌, ap, subst, arith}
+use Rattle.std.specs.List.Sorted.{IsStrictlySortedBy}
+use Rattle.alp_base.specs.Notes.{text_cmp}
 use Rattle.alp_base.specs.declared.key.Key.{Key}
 use Rattle.alp_files.specs.declared.cell.Cell.{Cell}
 use Rattle.alp_files.specs.Counts.{owner_names_of}
 use Rattle.alp_vault.specs.Owners.{with_owners}
-use Rattle.alp_vault.proofs.OwnerLemmas.{owners-made}
+use Rattle.alp_vault.proofs.OwnerLemmas.{owners-made, owners-rise}
 use Rattle.alp_vault.proofs.held.Held.make.Goals as goal
 
 pub invariant_of-self-2 : goal.invariant_of-self-2
@@ -14,6 +16,8 @@ invariant_of-self-2 c = record {
       ∙ ap (with_owners c.args.change.now.puts) c.make_room.new.self.named
       ∙ sym (owners-made c.args.change.now c.make_room.new.self.cells)
       ∙ ap owner_names_of (sym c.in_ok-apply.ensures.ok);
-  few = omega (arith, c.add_owners.ensures.few, c.in_ok-make_room.ensures.few);
-  rows = c.change_notes.ensures.rows;
+  few = omega (arith, c.add_owners.ensures.few, c.in_ok-copies.ensures.few);
 }
+
+pub add_owners-requires-clause-rising : goal.add_owners-requires-clause-rising
+add_owners-requires-clause-rising c = subst (IsStrictlySortedBy text_cmp) (sym c.make_room.new.self.named) (owners-rise c.make_room.new.self.cells)

@@ -12,5 +12,4 @@ invariant_of-result c = record {
   named =
       c.new-2.ensures.items ∙ ap (λ (es : List (Key × Cell)). filter_map name_at (list_map (λ e. e.0) es)) (sym none_held) ∙ ap owner_names_of (sym c.new.ensures);
   few = omega (arith, ap (λ (ns : List (List ℕ)). length ns) c.new-2.ensures.items);
-  rows = rw (c.new-3.ensures.items, c.new-4.ensures.items) (record { paired = refl; rising = refl });
 }
