@@ -1,0 +1,185 @@
+-- What holds of every log whose journals are lawful and linked, from sound openings on.
+use Rattle.std.specs.Prelude.{◌≡◌, ℕ, ◌<◌, ◌≤◌, true, false, ◌⊎◌, List, Option, None, Some, slice_get, map as list_map, length}
+use Rattle.alp_files.specs.Edits.{Edit, edits_map}
+use Rattle.alp_files.specs.History.{Decided}
+use Rattle.alp_files.specs.History as one
+use Rattle.std.specs.declared.cmp.Ordering.TheVariants.{Less}
+use Rattle.alp_base.specs.declared.ids.JoinNo.{JoinNo}
+use Rattle.alp_base.specs.declared.ids.TransId.{TransId}
+use Rattle.alp_base.specs.declared.ids.Stamp.{Stamp}
+use Rattle.alp_base.specs.declared.key.Key.{Key}
+use Rattle.alp_modes.specs.declared.Mode.{Mode}
+use Rattle.alp_modes.specs.Modes.{agree}
+use Rattle.alp_files.specs.Holdings.{mode_on}
+use Rattle.alp_files.specs.declared.call.Call.{Call}
+use Rattle.alp_files.specs.declared.call.Call.TheVariants as call
+use Rattle.alp_files.specs.declared.reply.Reply.{Reply}
+use Rattle.alp_files.specs.declared.reply.Reply.TheVariants as reply
+use Rattle.alp_files.specs.Sound.{AreSound}
+use Rattle.alp_journal.specs.declared.event.Event.TheVariants as event
+use Rattle.alp_journal.specs.declared.entry.Entry.{Entry}
+use Rattle.alp_history.specs.Ids.{has_join, stamp_cmp, same_trans}
+use Rattle.alp_history.specs.Opening.{DecisionNote}
+use Rattle.alp_history.specs.Coordinator.{decision_in}
+use Rattle.alp_history.specs.Participant.{Phase, Unseen, Joining, Active, Ready, Applied, Over, is_ready}
+use Rattle.alp_history.specs.Holder.{Life}
+use Rattle.alp_history.specs.State.{State}
+use Rattle.alp_history.specs.Moves.{is_new}
+use Rattle.alp_history.specs.Laws.{is_standing}
+use Rattle.alp_history.specs.Handed.{Handed, AreOfClients, ArePromisesKept}
+use Rattle.alp_history.specs.Log.{Heard, told_in, Log, opening_of, journal_of, state_at, final, IsLinked, AreLawful, AreSoundOpenings, AreDifferent, IsIn, decided, finish_of, starting_all, IsSerial, serial_end, IsChargedAfterEach, AreLatest}
+
+pub record IsProper (log : Log) : Type 0 where
+  pub different : AreDifferent log
+  pub sound : AreSoundOpenings log
+  pub lawful : AreLawful log
+  pub linked : IsLinked log
+
+-- ---- agreement
+
+-- the server committed the transaction at this stamp with these joins, in this run or in an earlier one
+abbrev pub HasCommitted : Log → ℕ → Stamp → List JoinNo → Type 0
+HasCommitted log n stamp joins = decision_in ((final log n).fates stamp.trans) ≡ Some (stamp, joins)
+
+-- a join is ready for its transaction, was applied at its stamp, or an earlier run was through with it
+abbrev pub IsKept : Stamp → Phase → Type 0
+IsKept stamp (Ready t client ts) = t ≡ stamp.trans
+IsKept stamp (Applied t x) = (t ≡ stamp.trans) × (x ≡ stamp)
+IsKept stamp Unseen = Unit {0}
+IsKept stamp (Joining t client who) = ⊥
+IsKept stamp (Active t client who) = ⊥
+IsKept stamp Over = ⊥
+
+-- no join of a committed transaction is aborted, and none is applied that is not one of a committed transaction's
+pub record DoAgreeOnEnds (log : Log) : Type 0 where
+  pub kept : (n : ℕ) (stamp : Stamp) (joins : List JoinNo) (j : JoinNo) → HasCommitted log n stamp joins → has_join j joins ≡ true → IsKept stamp ((final log j.server).phases j)
+  pub only : (n : ℕ) (j : JoinNo) (t : TransId) (stamp : Stamp) → (final log n).phases j ≡ Applied t stamp
+      → (m : ℕ) × (joins : List JoinNo) × HasCommitted log m stamp joins × (has_join j joins ≡ true) × (t ≡ stamp.trans)
+
+abbrev pub Agreement : Type 0
+Agreement = (log : Log) → IsProper log → DoAgreeOnEnds log
+
+-- ---- order
+
+-- the mode that a transaction holds on a leaf, if it has a part
+abbrev pub mode_in : Key → Option Life → Option Mode
+mode_in k None = None
+mode_in k (Some l) = mode_on l.held k
+
+abbrev pub mode_at : Log → ℕ → ℕ → TransId → Key → Option Mode
+mode_at log n i t k = mode_in k ((state_at log n i).holder.lives t)
+
+-- the transaction holds the leaf in this mode before this entry, and not any more after it
+pub record EndsAt (log : Log) (n i : ℕ) (t : TransId) (k : Key) (m : Mode) : Type 0 where
+  pub entry : Entry
+  pub stands : slice_get (journal_of log n) i ≡ Some entry
+  pub before : mode_at log n i t k ≡ Some m
+  pub after : (l : ℕ) → i < l → mode_at log n l t k ≡ None
+
+-- decided in this run, by the server that began it
+abbrev pub IsDecided : Log → Stamp → Type 0
+IsDecided log stamp = (joins : List JoinNo) × HasCommitted log stamp.trans.server stamp joins × ((opening_of log stamp.trans.server).epoch ≤ stamp.trans.epoch)
+
+-- of two decided transactions whose modes on a leaf disagree, the one whose mode ends first has the smaller stamp
+abbrev pub GoesByLocks : Log → Type 0
+GoesByLocks log = (n i l : ℕ) (k : Key) (a b : Stamp) (m o : Mode)
+    → IsDecided log a → IsDecided log b → EndsAt log n i a.trans k m → EndsAt log n l b.trans k o → agree m o ≡ false → i < l → stamp_cmp a b ≡ Less
+
+-- of two decided transactions that hold a leaf in modes that disagree, one after the other, the earlier one has the smaller
+-- stamp, whether the later one's mode ends or not
+abbrev pub GoesByTurns : Log → Type 0
+GoesByTurns log = (n i l : ℕ) (k : Key) (a b : Stamp) (m o : Mode)
+    → IsDecided log a → IsDecided log b → same_trans b.trans a.trans ≡ false → mode_at log n i a.trans k ≡ Some m → mode_at log n l b.trans k ≡ Some o
+    → agree m o ≡ false → i < l → l ≤ length (journal_of log n) → stamp_cmp a b ≡ Less
+
+-- a transaction's stamp is above what its client had seen
+abbrev pub GoesByBegins : Log → Type 0
+GoesByBegins log = (n i client epoch number : ℕ) (e : Entry) (seen stamp : Stamp)
+    → slice_get (journal_of log n) i ≡ Some e → e.event ≡ event.Call client epoch number (call.Begin seen) → e.reply ≡ Some (reply.Begun stamp.trans)
+    → is_new (state_at log n i) client epoch number ≡ true → IsDecided log stamp → seen.ts < stamp.ts
+
+abbrev pub OrderOfBegins : Type 0
+OrderOfBegins = (log : Log) → IsProper log → GoesByBegins log
+
+abbrev pub Order : Type 0
+Order = (log : Log) → IsProper log → GoesByLocks log × GoesByTurns log × GoesByBegins log
+
+-- ---- each server by itself
+
+-- the transactions that a server applied, in the order of their stamps, are one thread's history, from the cells that it
+-- opened on, with what earlier runs had made ready and was applied since, to the cells that it holds
+abbrev pub IsOneThreadAt : Log → ℕ → List Edit → Type 0
+IsOneThreadAt log n early =
+    one.IsSerial (final log n).holder.server (one.starting (edits_map early (opening_of log n).cells)) (list_map (λ (x : Stamp × Decided). x.1) (final log n).holder.applied)
+    × ((one.serial_end (final log n).holder.server (one.starting (edits_map early (opening_of log n).cells)) (list_map (λ (x : Stamp × Decided). x.1) (final log n).holder.applied)).files ≡ (final log n).holder.cells)
+
+abbrev pub EachServer : Type 0
+EachServer = (log : Log) → IsProper log → (n : ℕ) → (early : List Edit) × IsOneThreadAt log n early
+
+-- ---- history
+
+-- the decided transactions, in the order of their stamps, are one thread's history on all servers' files; each reply is
+-- the right one, and the files at the end are those that the servers hold
+pub record IsOneThread (log : Log) : Type 0 where
+  pub replies : IsSerial log (starting_all log) (decided log)
+  pub files : (n : ℕ) → (serial_end log (starting_all log) (decided log) n).files ≡ finish_of log n
+  pub charged : IsChargedAfterEach log (starting_all log) (decided log)
+  pub charged_last : (n : ℕ) → AreSound (finish_of log n)
+
+abbrev pub History : Type 0
+History = (log : Log) → IsProper log → IsOneThread log
+
+-- a part of a decided transaction was applied at its stamp, or is still ready
+abbrev pub IsWhole : Stamp → Phase → Type 0
+IsWhole x (Ready t client ts) = t ≡ x.trans
+IsWhole x (Applied t y) = (t ≡ x.trans) × (y ≡ x)
+IsWhole x Unseen = ⊥
+IsWhole x (Joining t client who) = ⊥
+IsWhole x (Active t client who) = ⊥
+IsWhole x Over = ⊥
+
+-- the decided transactions are just those that their servers committed in this run, each with all of its parts
+pub record AreWhole (log : Log) : Type 0 where
+  pub committed : (x : Stamp) (js : List JoinNo) → IsIn (x, js) (decided log) → HasCommitted log x.trans.server x js × ((opening_of log x.trans.server).epoch ≤ x.trans.epoch)
+  pub listed : (x : Stamp) (js : List JoinNo) → HasCommitted log x.trans.server x js → (opening_of log x.trans.server).epoch ≤ x.trans.epoch → IsIn (x, js) (decided log)
+  pub parts : (x : Stamp) (js : List JoinNo) (j : JoinNo) → IsIn (x, js) (decided log) → has_join j js ≡ true → IsWhole x ((final log j.server).phases j)
+
+abbrev pub Wholeness : Type 0
+Wholeness = (log : Log) → IsProper log → AreWhole log
+
+-- ---- settled
+
+-- no part lives, none is ready, and no decision has joins that have not done
+pub record IsSettled (s : State) : Type 0 where
+  pub parts : (t : TransId) → s.holder.lives t ≡ None
+  pub ready : (j : JoinNo) → is_ready (s.phases j) ≡ false
+  pub decisions : (x : Stamp) → is_standing x (s.fates x.trans) ≡ false
+
+-- a settled log ends in what its servers hold, and each part of a decided transaction was applied at its stamp
+pub record EndsInCells (log : Log) : Type 0 where
+  pub files : (n : ℕ) → finish_of log n ≡ (final log n).holder.cells
+  pub applied : (x : Stamp) (js : List JoinNo) (j : JoinNo) → IsIn (x, js) (decided log) → has_join j js ≡ true → (final log j.server).phases j ≡ Applied x.trans x
+
+abbrev pub Settling : Type 0
+Settling = (log : Log) → IsProper log → ((n : ℕ) → IsSettled (final log n)) → EndsInCells log
+
+-- Not proved yet: that each part's intents are its changes also at its place in the history (a part that goes earlier
+-- changes the same).
+abbrev pub Latest : Type 0
+Latest = (log : Log) → IsProper log → AreLatest log (starting_all log) (decided log)
+
+-- ---- what is told
+
+-- a stamp that a new call is told is of a transaction that its server committed: one of the decided ones, unless an
+-- earlier run decided it
+abbrev pub TellsOfDecided : Log → Type 0
+TellsOfDecided log = (n i client epoch number : ℕ) (c : Call) (e : Entry) (r : Reply) (x : Stamp)
+    → slice_get (journal_of log n) i ≡ Some e → e.event ≡ event.Call client epoch number c → e.reply ≡ Some r → is_new (state_at log n i) client epoch number ≡ true → IsIn (Heard x) (told_in r)
+    → (js : List JoinNo) × HasCommitted log n x js × (IsIn (x, js) (decided log) ⊎ ((d : DecisionNote) × IsIn d (opening_of log n).decisions × (d.stamp ≡ x) × (d.joins ≡ js)))
+
+abbrev pub Tellings : Type 0
+Tellings = (log : Log) → IsProper log → TellsOfDecided log
+
+-- what is promised to clients, whose items are as their machine and the servers leave them, is kept
+abbrev pub Promises : Type 0
+Promises = (log : Log) (handed : Handed) → IsProper log → AreOfClients log handed → ArePromisesKept log handed

@@ -1,0 +1,64 @@
+//! What follows from the laws for several servers.
+ghost use Rattle.alp_history.specs.WrongJournals.{AreRefused};
+ghost use Rattle.alp_history.specs.Theorems.{Agreement, EachServer, History, Order, OrderOfBegins, Promises, Settling, Tellings, Wholeness};
+
+/// However messages are lost, repeated and late and servers stop and start again, no part of a committed transaction is
+/// aborted, and none is applied that is not one of a committed transaction's.
+///
+/// It follows from the laws on sound openings (two-phase commit with presumed abort: Mohan, Lindsay and Obermarck 1986).
+pub fn parts_agree()
+    ensures { Agreement }
+{}
+
+/// What each server applied is one thread's history in the order of the stamps, whatever parts of other servers'
+/// transactions it applied late, and whatever stops inside its writes it recovered from.
+pub fn each_server_is_one_thread()
+    ensures { EachServer }
+{}
+
+/// A transaction that is decided has a stamp above the time that its client had seen as it began.
+pub fn stamps_are_above_what_was_seen()
+    ensures { OrderOfBegins }
+{}
+
+/// The decided transactions of all servers, in the order of their stamps, are one thread's history on one set of files: each
+/// reply is the right one, it ends in what the servers hold with the parts that are still ready, and charges equal sizes
+/// after each.
+pub fn all_servers_are_one_thread()
+    ensures { History }
+{}
+
+/// The decided transactions are just those that their servers committed in this run. Each part of one was applied at its
+/// stamp or is still ready.
+pub fn decided_transactions_are_whole()
+    ensures { Wholeness }
+{}
+
+/// Each stamp that a client is told is of a decided transaction, unless an earlier run decided it.
+pub fn stamps_told_are_of_decided_transactions()
+    ensures { Tellings }
+{}
+
+/// Of two decided transactions whose modes on a leaf disagree the one that holds it first, and whose mode ends there first,
+/// has the smaller stamp; and each has a stamp above the time that its client had seen as it began.
+pub fn stamps_go_by_locks()
+    ensures { Order }
+{}
+
+/// What a client is told is kept: each stamp is of a decided transaction, and what a client begins after it was told of a
+/// commit gets a stamp above that one. Of the items of clients it is given that their machine made them so (`AreOfClients`);
+/// what a raw line sent, and what was kept for a number that one sent first, is no promise.
+pub fn promises_are_kept()
+    ensures { Promises }
+{}
+
+/// Where no part lives or is ready and no decision waits for its joins, the history ends in the cells that the servers hold,
+/// and each part of a decided transaction was applied at its stamp.
+pub fn settled_logs_end_in_what_is_held()
+    ensures { Settling }
+{}
+
+/// Each of the journals of `specs/WrongJournals.antt`, which differ from right ones in one place, breaks a law.
+pub fn wrong_journals_are_refused()
+    ensures { AreRefused }
+{}
