@@ -1,15 +1,15 @@
 -- The fields of an anchor page, and which page's anchor counts.
-use Rattle.std.proofs.Common.{◌≡◌, inl, inr, ℕ, ◌-◌, ◌<◌, ◌^◌, List, [], ◌∷◌, slice_index, take, refl, sym, ◌∙◌, ap, subst, arith, Option, Some, None, Result, Ok, Err}
+use Rattle.std.proofs.Common.{◌≡◌, ◌⊎◌, inl, inr, ⊎_elim, ℕ, ◌-◌, ◌<◌, ◌^◌, List, [], ◌∷◌, slice_index, take, refl, sym, ◌∙◌, ap, subst, arith, Option, Some, None, Result, Ok, Err}
 use Rattle.std.specs.Prelude.{MatchOption, IfOk, IfErr}
 use Rattle.std.specs.Int.{w16, w32, from_be_bytes}
 use Rattle.std.proofs.lemmas.Nat.{from_be_bytes-to_be_bytes_4, from_be_bytes-to_be_bytes_2}
 use Rattle.std.proofs.lemmas.Bool.{cases_eq}
 use Rattle.alp_disk.specs.Disk.{Image, page}
 use Rattle.alp_anchor.specs.Anchor.{open_anchor, after, IsSound, IsOpen, IsOwn, Counts}
-use Rattle.alp_anchor.specs.Read.{Newer, Chosen, NoneChosen, WhyNot}
+use Rattle.alp_anchor.specs.Read.{Newer, Chosen, NoneChosen, WhyNot, IsHalted, ReadsAs, IsOf}
 use Rattle.alp_anchor.specs.declared.anchor.Anchor.{Anchor}
 use Rattle.alp_anchor.specs.declared.fault.AnchorFault.{AnchorFault}
-use Rattle.alp_anchor.specs.declared.fault.AnchorFault.TheVariants.{Halted}
+use Rattle.alp_anchor.specs.declared.fault.AnchorFault.TheVariants.{Halted, NotAVolume, Damaged}
 use Rattle.alp_anchor.proofs.Anchors.{same_generation}
 
 abbrev at : List ℕ → ℕ → ℕ
@@ -68,9 +68,9 @@ module _ (server servers n : ℕ) where
   chosen_counts image first second a found_0 found_1 (inl (is, newer)) = let f = subst (FoundIn 0 (page image 0)) is found_0 in newer_counts 0 image a second f.0 f.1 found_1 newer
   chosen_counts image first second a found_0 found_1 (inr (is, newer)) = let f = subst (FoundIn 1 (page image 1)) is found_1 in newer_counts 1 image a first f.0 f.1 found_0 newer
 
-  pub chosen_own : (p q : List ℕ) (first second : Option Anchor) (a : Anchor) → FoundIn 0 p first → FoundIn 1 q second → Chosen first second a → IsSound n a × ((a.server ≡ server) × (a.servers ≡ servers))
-  chosen_own p q first second a one two (inl (is, newer)) = let own = (subst (FoundIn 0 p) is one).0 in (own.is_open.sound, (own.server_is, own.servers_is))
-  chosen_own p q first second a one two (inr (is, newer)) = let own = (subst (FoundIn 1 q) is two).0 in (own.is_open.sound, (own.server_is, own.servers_is))
+  pub chosen_own : (p q : List ℕ) (first second : Option Anchor) (a : Anchor) → FoundIn 0 p first → FoundIn 1 q second → Chosen first second a → IsOf server servers n a
+  chosen_own p q first second a one two (inl (is, newer)) = let own = (subst (FoundIn 0 p) is one).0 in record { sound = own.is_open.sound; server_is = own.server_is; servers_is = own.servers_is }
+  chosen_own p q first second a one two (inr (is, newer)) = let own = (subst (FoundIn 1 q) is two).0 in record { sound = own.is_open.sound; server_is = own.server_is; servers_is = own.servers_is }
 
   pub none_counts : (image : Image) (first second : Option Anchor) (found : List ℕ) (e : AnchorFault) → found ≡ take 24 (page image 0) → FoundIn 0 (page image 0) first → FoundIn 1 (page image 1) second → NoneChosen first second found e → WhyNot server servers n image e
   none_counts image None None found e front found_0 found_1 is = subst (WhyNot server servers n image) (sym is) (front, found_0, found_1)
@@ -123,3 +123,33 @@ counts_once n image a b is_a is_b server servers = elim (cases_eq a.page b.page)
       let b_newer = is_b.newest a (record { is_open = subst (λ k. IsOpen n (page image k) a) a_there is_a.is_open; server_is = server; servers_is = servers }) in
       absurd (no_cycle a.generation b.generation is_a.is_open.sound.generation is_b.is_open.sound.generation a_newer b_newer)
 ]
+
+-- ---- an anchor that counts is read
+
+module _ (server servers n : ℕ) (image : Image) (a : Anchor) (counts : Counts n image a) (server_is : a.server ≡ server) (servers_is : a.servers ≡ servers) where
+  own_at : (k : ℕ) → a.page ≡ k → IsOwn server servers n (page image k) a
+  own_at k at_k = subst (λ j. IsOwn server servers n (page image j) a) at_k (record { is_open = counts.is_open; server_is = server_is; servers_is = servers_is })
+
+  newer_than : (k : ℕ) (b : Anchor) → 1 - a.page ≡ k → IsOwn server servers n (page image k) b → a.generation ≡ after b.generation
+  newer_than k b other is = counts.newest b (subst (λ j. IsOwn a.server a.servers n (page image j) b) (sym other) (record { is_open = is.is_open; server_is = is.server_is ∙ sym server_is; servers_is = is.servers_is ∙ sym servers_is }))
+
+  -- the pages of two anchors
+  first_or_second : (a.page ≡ 0) ⊎ (a.page ≡ 1)
+  first_or_second = elim (cases_eq a.page 0) [
+    | inl first ↦ inl first
+    | inr other ↦ inr (omega (arith, other, counts.is_open.sound.page))
+  ]
+
+  no_cause : (e : AnchorFault) → WhyNot server servers n image e → IsHalted e
+  no_cause (Halted halt) why = tt
+  no_cause (NotAVolume found) why = ⊎_elim (λ first. why.1 a (own_at 0 first)) (λ second. why.2 a (own_at 1 second)) first_or_second
+  no_cause (Damaged place) why =
+      let d = why.1 in
+      ⊎_elim
+      (λ first. d.not_before (sym (same_generation n _ a d.first (own_at 0 first).is_open d.first_is.is_open) ∙ newer_than 1 d.second (ap (λ k. 1 - k) first) d.second_is))
+      (λ second. d.not_after (sym (same_generation n _ a d.second (own_at 1 second).is_open d.second_is.is_open) ∙ newer_than 0 d.first (ap (λ k. 1 - k) second) d.first_is))
+      first_or_second
+
+  pub reads_as : (r : Result Anchor AnchorFault) → IfOk r (Counts n image) → IfOk r (IsOf server servers n) → IfErr r (WhyNot server servers n image) → ReadsAs a r
+  reads_as (Ok b) is own why = counts_once n image b a is counts (own.server_is ∙ sym server_is) (own.servers_is ∙ sym servers_is)
+  reads_as (Err e) is own why = no_cause e why

@@ -4,7 +4,8 @@ use Rattle.std.proofs.lemmas.List.{get_or-take, drop_all, drop_at, append-nil}
 use Rattle.std.proofs.lemmas.Bool.{cases_eq}
 use Rattle.std.specs.Prelude.{OnOk, Result, Ok, Err}
 use Rattle.alp_base.specs.Pages.{overwritten}
-use Rattle.alp_disk.specs.Disk.{Image, page, IsImage, with_bytes, Torn, Only, After, NoMore}
+use Rattle.alp_disk.specs.Disk.{Image, page, IsImage, with_bytes, Torn}
+use Rattle.alp_base.specs.Crashes.{Only, After, NoMore}
 use Rattle.alp_disk.specs.Images.{page-with_bytes, page-with_bytes_other, is_image-with_bytes}
 use Rattle.alp_disk.specs.Gates.{IsClosed}
 use Rattle.alp_disk.proofs.GateLemmas.{overwritten_gate, overwritten_rest, opened, still_closed}

@@ -2,7 +2,8 @@
 use Rattle.std.specs.Prelude.{◌≡◌, ◌⊎◌, ◌<◌, ◌≤◌, ℕ, ◌+◌, ◌-◌, ◌*◌, ◌^◌, ◌%◌, List, [], ◌∷◌, ◌++◌, replicate}
 use Rattle.std.specs.Int.{w16, w32, to_be_bytes}
 use Rattle.alp_base.specs.declared.faults.Sizes.{Sizes}
-use Rattle.alp_disk.specs.Disk.{Image, page, Only}
+use Rattle.alp_disk.specs.Disk.{Image, page}
+use Rattle.alp_base.specs.Crashes.{Only}
 use Rattle.alp_anchor.specs.Gate.{SameBut}
 use Rattle.alp_anchor.specs.declared.anchor.Anchor.{Anchor}
 

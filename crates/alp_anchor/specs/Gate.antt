@@ -1,6 +1,7 @@
 -- What closing and opening the gate of a page leaves, at each moment and at the end.
 use Rattle.std.specs.Prelude.{◌≡◌, ◌≢◌, ◌⊎◌, ℕ, List, slice_index}
-use Rattle.alp_disk.specs.Disk.{Image, page, Torn, Only}
+use Rattle.alp_disk.specs.Disk.{Image, page, Torn}
+use Rattle.alp_base.specs.Crashes.{Only}
 use Rattle.alp_disk.specs.Gates.{IsClosed}
 
 -- the same pages but for one

@@ -1,7 +1,11 @@
 -- Which anchor is read, and why none is.
-use Rattle.std.specs.Prelude.{◌≡◌, ◌≢◌, ◌⊎◌, ℕ, List, take, Option, Some, None}
+use Rattle.std.specs.Prelude.{◌≡◌, ◌≢◌, ◌⊎◌, ◌≤◌, ℕ, List, take, Option, Some, None, Result, Ok, Err, OnOk, IsErrOf}
+use Rattle.alp_base.specs.Causes.{Rose}
+use Rattle.alp_base.specs.declared.faults.Halt.TheVariants.{Failed, Stopped}
+use Rattle.alp_base.specs.declared.allowance.Allowance.{Allowance}
+use Rattle.alp_base.specs.declared.allowance.Allowance.TheVariants.{Spent}
 use Rattle.alp_disk.specs.Disk.{Image, page}
-use Rattle.alp_anchor.specs.Anchor.{IsOwn, after}
+use Rattle.alp_anchor.specs.Anchor.{IsSound, IsOwn, after}
 use Rattle.alp_anchor.specs.declared.anchor.Anchor.{Anchor}
 use Rattle.alp_anchor.specs.declared.fault.AnchorFault.{AnchorFault}
 use Rattle.alp_anchor.specs.declared.fault.AnchorFault.TheVariants.{Halted, NotAVolume, Damaged}
@@ -25,6 +29,31 @@ WhyNot server servers n image (Halted halt) = Unit {0}
 WhyNot server servers n image (NotAVolume found) = (found ≡ take 24 (page image 0)) × NoneOwn server servers n (page image 0) × NoneOwn server servers n (page image 1)
 WhyNot server servers n image (Damaged place) = (place ≡ 1) × Disagree server servers n image
 
+-- the device halted
+abbrev pub IsHalted : AnchorFault → Type 0
+IsHalted (Halted halt) = Unit {0}
+IsHalted (NotAVolume found) = ⊥
+IsHalted (Damaged place) = ⊥
+
+-- The anchor that was read is this one; none was read only where the device halted.
+abbrev pub ReadsAs : Anchor → Result Anchor AnchorFault → Type 0
+ReadsAs a (Ok b) = b ≡ a
+ReadsAs a (Err e) = IsHalted e
+
+-- an anchor of this server and this number of servers
+pub record IsOf (server servers n : ℕ) (a : Anchor) : Type 0 where
+  pub sound : IsSound n a
+  pub server_is : a.server ≡ server
+  pub servers_is : a.servers ≡ servers
+
+-- Where one was read the count of faults stays. Why none was: the device failed where the count rose, and was stopped where the allowance is spent then.
+pub record HasAnchorCause (before now : ℕ) (allowance : Allowance) (result : Result Anchor AnchorFault) : Type 0 where
+  pub later : before ≤ now
+  pub no_fault : OnOk result (now ≡ before)
+  pub failed : IsErrOf result (Halted Failed) → Rose before now
+  pub stopped : IsErrOf result (Halted Stopped) → allowance ≡ Spent
+
+-- the other anchor, where there is one, has the generation before
 abbrev pub Newer : Anchor → Option Anchor → Type 0
 Newer a None = Unit {0}
 Newer a (Some b) = a.generation ≡ after b.generation

@@ -1,6 +1,7 @@
 //! Closing and opening the gate of a page.
 ghost use Rattle.std.specs.Prelude.{◌≡◌, ◌<◌, ◌≤◌, ℕ, length, drop, IsTrue, OnOk, slice_index};
-ghost use Rattle.alp_disk.specs.Disk.{Image, page as page_of, with_bytes, Torn, Only, After, Adds};
+ghost use Rattle.alp_disk.specs.Disk.{Image, page as page_of, with_bytes, Torn};
+ghost use Rattle.alp_base.specs.Crashes.{Only, After, Adds};
 ghost use Rattle.alp_base.specs.Allowances.{Spends, HasHaltCause};
 ghost use Rattle.alp_disk.specs.Gates.{IsClosed};
 ghost use Rattle.alp_anchor.specs.Gate.{Shutting, Closing, Closed, Opening, Opened};

@@ -1,12 +1,9 @@
 //! Which anchor counts.
-ghost use Rattle.std.specs.Prelude.{◌≡◌, ◌<◌, ◌≤◌, ℕ, take, IsTrue, IfOk, IfErr, IsErrOf};
-ghost use Rattle.alp_base.specs.Causes.{Rose};
-ghost use Rattle.alp_base.specs.declared.faults.Halt.TheVariants.{Failed, Stopped};
-ghost use Rattle.alp_disk.specs.Disk.{NoMore, Adds};
-ghost use Rattle.alp_base.specs.declared.allowance.Allowance.TheVariants.{Spent};
-ghost use Rattle.alp_anchor.specs.Anchor.{IsSound, Counts};
-ghost use Rattle.alp_anchor.specs.Read.{WhyNot, Chosen, NoneChosen};
-ghost use Rattle.alp_anchor.specs.declared.fault.AnchorFault.TheVariants.{Halted};
+ghost use Rattle.std.specs.Prelude.{◌≡◌, ◌≤◌, take, IsTrue, IfOk, IfErr};
+ghost use Rattle.alp_base.specs.Crashes.{NoMore, Adds};
+ghost use Rattle.alp_anchor.specs.Anchor.{Counts};
+ghost use Rattle.alp_anchor.specs.declared.anchor.Anchor.{Anchor as Said};
+ghost use Rattle.alp_anchor.specs.Read.{WhyNot, ReadsAs, IsOf, HasAnchorCause, Chosen, NoneChosen};
 
 use crate::spelling::own_anchor;
 use crate::{Anchor, AnchorFault};
@@ -51,22 +48,21 @@ fn choose(
 ///
 /// An anchor that names another server, or another number of servers, is passed over. Where no
 /// anchor counts, there is none that names this server, or two of which neither is the other's
-/// successor; each of these answers excludes the others.
+/// successor; each of these answers excludes the others. Where one counts, it is the answer, unless
+/// the disk halts.
 pub fn read_anchor<D: Disk>(disk: &mut D, server: u8, servers: u8) -> Result<Anchor, AnchorFault>
     requires { 2 ≤ D.size disk.old }
     ensures counts { IsTrue (D.tells disk.old) → IfOk result (λ a. Counts (D.size disk.old) (D.seen disk.old) a) }
-    ensures named { IfOk result (λ a. (a.server ≡ server) × (a.servers ≡ servers)) }
-    ensures sound { IfOk result (IsSound (D.size disk.old)) }
+    ensures own { IfOk result (IsOf server servers (D.size disk.old)) }
     ensures why_not { IsTrue (D.tells disk.old) → IfErr result (WhyNot server servers (D.size disk.old) (D.seen disk.old)) }
+    ensures exact { IsTrue (D.tells disk.old) → (a : Said) → Counts (D.size disk.old) (D.seen disk.old) a → a.server ≡ server → a.servers ≡ servers → ReadsAs a result }
     ensures tells { D.tells disk.new ≡ D.tells disk.old }
     ensures size { D.size disk.new ≡ D.size disk.old }
     ensures seen { D.seen disk.new ≡ D.seen disk.old }
     ensures crash { NoMore (D.may_leave disk.old) (D.may_leave disk.new) }
     ensures time { Adds D.left_since disk.old disk.new (D.may_leave disk.old) }
     ensures allowance { D.allowance disk.new ≡ D.allowance disk.old }
-    ensures later { D.faults disk.old ≤ D.faults disk.new }
-    ensures failed { IsErrOf result (Halted Failed) → Rose (D.faults disk.old) (D.faults disk.new) }
-    ensures stopped { IsErrOf result (Halted Stopped) → D.allowance disk.new ≡ Spent }
+    ensures cause { HasAnchorCause (D.faults disk.old) (D.faults disk.new) (D.allowance disk.new) result }
 {
     let pages = disk.pages();
     let mut page = Page::zero();

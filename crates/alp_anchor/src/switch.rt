@@ -1,6 +1,7 @@
 //! The switch from one anchor to the other.
 ghost use Rattle.std.specs.Prelude.{◌≡◌, ◌-◌, ℕ, IsTrue, IfOk};
-ghost use Rattle.alp_disk.specs.Disk.{Image, LeavesOnly};
+ghost use Rattle.alp_disk.specs.Disk.{Image};
+ghost use Rattle.alp_base.specs.Crashes.{LeavesOnly};
 ghost use Rattle.alp_base.specs.Allowances.{Spends, HasHaltCause};
 ghost use Rattle.alp_anchor.specs.Anchor.{IsSound, Counts, next_anchor, Switching, Switched};
 

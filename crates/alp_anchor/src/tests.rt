@@ -1,5 +1,5 @@
 ghost use Rattle.std.specs.Prelude.{◌≤◌, IsTrue};
-ghost use Rattle.alp_disk.specs.Disk.{Only};
+ghost use Rattle.alp_base.specs.Crashes.{Only};
 
 use crate::{Anchor, AnchorFault, anchor_page, read_anchor, switch_anchor};
 use alp_base::{Halt, Page, Sizes};

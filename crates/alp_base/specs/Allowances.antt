@@ -1,5 +1,5 @@
 -- The allowance of a device or a vault: which changing calls it lets pass, and why a call halts.
-use Rattle.std.specs.Prelude.{◌≡◌, ◌⊎◌, ◌≤◌, ℕ, Result, IsErrOf, Option, Some, None}
+use Rattle.std.specs.Prelude.{◌≡◌, ◌⊎◌, ◌≤◌, ◌<◌, ℕ, ◌-◌, ◌==◌, if◌then◌else◌, Result, IsErrOf, Option, Some, None}
 use Rattle.alp_base.specs.Causes.{Rose}
 use Rattle.alp_base.specs.declared.faults.Halt.{Halt}
 use Rattle.alp_base.specs.declared.faults.Halt.TheVariants.{Failed, Stopped}
@@ -33,3 +33,21 @@ allowance_given (Some n) = Left n
 abbrev pub Sets : Option ℕ → Allowance → Allowance → Type 0
 Sets None old now = now ≡ Free
 Sets (Some n) old now = (now ≡ Left n) ⊎ (now ≡ old)
+
+-- the allowance after one more changing call
+abbrev pub burnt : Allowance → Allowance
+burnt Free = Free
+burnt (Left n) = if n == 0 then Spent else Left (n - 1)
+burnt Spent = Spent
+
+-- one more changing call passes
+abbrev pub Passes : Allowance → Type 0
+Passes Free = Unit {0}
+Passes (Left n) = 0 < n
+Passes Spent = ⊥
+
+-- one more changing call is stopped
+abbrev pub IsAtEnd : Allowance → Type 0
+IsAtEnd Free = ⊥
+IsAtEnd (Left n) = n ≡ 0
+IsAtEnd Spent = Unit {0}

@@ -6,5 +6,7 @@ pub mod Keys
 pub mod KeyLaws
 pub mod Causes
 pub mod Allowances
+pub mod Crashes
 pub mod Streams
 pub mod Notes
+pub mod Orders

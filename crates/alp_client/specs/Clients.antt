@@ -20,7 +20,7 @@ use Rattle.alp_script.specs.declared.line.FileWord.TheVariants as file_word
 use Rattle.alp_client.specs.Maps.{WordMap}
 use Rattle.alp_client.specs.Props.{new_props, later}
 use Rattle.alp_client.specs.declared.client.Client.{Client}
-use Rattle.alp_client.specs.declared.client.Frame.{Frame}
+use Rattle.alp_client.specs.declared.client.NumberedCall.{NumberedCall}
 use Rattle.alp_client.specs.declared.client.Greeted.{Greeted}
 
 -- nobody told it of a transaction
@@ -78,15 +78,15 @@ call_by words c l = call_with words c c.trans l
 -- ---- the frames of a line
 
 -- a client says `Hello` before its first call
-abbrev pub frame_in : Client → Option Greeted → Call → Frame
+abbrev pub frame_in : Client → Option Greeted → Call → NumberedCall
 frame_in c None asked = record { epoch = 0; number = 1; call = call.Hello c.name }
 frame_in c (Some g) asked = record { epoch = g.epoch; number = g.last + 1; call = asked }
 
 -- what the client asks next for a line that is not over
-abbrev pub frame_of : WordMap → Client → Line → Option Frame
+abbrev pub frame_of : WordMap → Client → Line → Option NumberedCall
 frame_of words c l = option_map (frame_in c c.session) (call_by words c l)
 
-abbrev pub frame_sent : Exchange → Frame
+abbrev pub frame_sent : Exchange → NumberedCall
 frame_sent x = record { epoch = x.epoch; number = x.number; call = x.call }
 
 -- ---- what the client makes of a reply
@@ -114,17 +114,17 @@ abbrev pub opened : WordMap → Client → Line → ℕ → Client
 opened words c (line.OpenFile client file access mode choice) n = record c { opens = map.insert c.opens (file_of words file) n }
 opened words c l n = c
 
-abbrev pub told_reply : WordMap → Client → Line → Reply → Client
-told_reply words c l (reply.Begun t) = record c { trans = Some t }
-told_reply words c l (reply.Created f n) = created c l f n
-told_reply words c l (reply.Opened n) = opened words c l n
-told_reply words c l (reply.Committed s) = record (left c l) { told = later c.told s }
-told_reply words c l (reply.Refused r) = told_refusal c l r
-told_reply words c l _ = c
+abbrev pub learned_reply : WordMap → Client → Line → Reply → Client
+learned_reply words c l (reply.Begun t) = record c { trans = Some t }
+learned_reply words c l (reply.Created f n) = created c l f n
+learned_reply words c l (reply.Opened n) = opened words c l n
+learned_reply words c l (reply.Committed s) = record (left c l) { told = later c.told s }
+learned_reply words c l (reply.Refused r) = told_refusal c l r
+learned_reply words c l _ = c
 
-abbrev pub told : WordMap → Client → Line → Option Reply → Client
-told words c l None = c
-told words c l (Some r) = told_reply words c l r
+abbrev pub learned : WordMap → Client → Line → Option Reply → Client
+learned words c l None = c
+learned words c l (Some r) = learned_reply words c l r
 
 -- a greeting begins a session, and anything else ends the line
 abbrev pub greeted : Client → Option Reply → Client × Bool
@@ -134,7 +134,7 @@ greeted c _ = (c, true)
 -- what the client knows after a reply, and whether the line is over
 abbrev pub heard : WordMap → Client → Option Greeted → Line → Option Reply → Client × Bool
 heard words c None l r = greeted c r
-heard words c (Some g) l r = (told words (record c { session = Some (record g { last = g.last + 1 }) }) l r, true)
+heard words c (Some g) l r = (learned words (record c { session = Some (record g { last = g.last + 1 }) }) l r, true)
 
 -- a `begin` leaves the transaction before
 abbrev pub begins : Client → Line → Client

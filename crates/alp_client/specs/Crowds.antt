@@ -9,7 +9,7 @@ use Rattle.alp_client.specs.Maps.{WordMap}
 use Rattle.alp_client.specs.Clients.{new_client, frame_of, frame_sent, heard, words_heard, begins, words_at}
 use Rattle.alp_client.specs.Crowd.{Crowd}
 use Rattle.alp_client.specs.declared.client.Client.{Client}
-use Rattle.alp_client.specs.declared.client.Frame.{Frame}
+use Rattle.alp_client.specs.declared.client.NumberedCall.{NumberedCall}
 
 -- what is known before the first line
 abbrev pub new_crowd : Crowd
@@ -23,7 +23,7 @@ abbrev pub with_client : Crowd → WordMap → ℕ → Client → Crowd
 with_client c words k d = record { words = words; places = slice_set c.places k d }
 
 -- what the client asks next for a line, or nothing where the line is over
-abbrev pub asks : Crowd → ℕ → Line → Bool → Option Frame
+abbrev pub asks : Crowd → ℕ → Line → Bool → Option NumberedCall
 asks c k l true = None
 asks c k l false = frame_of c.words (client_at c k) l
 

@@ -22,7 +22,7 @@ pub struct Greeted {
 
 /// A call as a client sends it, with the epoch and the number that it is given.
 #[derive(Drop)]
-pub struct Frame {
+pub struct NumberedCall {
     pub epoch: u32,
     pub number: u32,
     pub call: Call,
@@ -118,7 +118,7 @@ fn making_call(trans: TransId, line: &Line) -> Result<Option<Call>, OutOfMemory>
 }
 
 impl Client {
-    ghost use Rattle.alp_client.specs.Clients.{new_client, open_of as open_said, page_call as page_call_said, call_in as call_in_said, call_by as call_said, frame_in, frame_of, begins as begins_said, told as told_said, words_told, told_reply, created as created_said, opened as opened_said, bound, told_refusal, left as left_said, greeted as greeted_said, heard, words_heard, FitsPage, HasNext};
+    ghost use Rattle.alp_client.specs.Clients.{new_client, open_of as open_said, page_call as page_call_said, call_in as call_in_said, call_by as call_said, frame_in, frame_of, begins as begins_said, learned as learned_said, words_told, learned_reply, created as created_said, opened as opened_said, bound, told_refusal, left as left_said, greeted as greeted_said, heard, words_heard, FitsPage, HasNext};
 
     pub fn new(alloc: Global) -> Client
         ensures { result ≡ new_client }
@@ -243,18 +243,18 @@ impl Client {
     }
 
     // The frame of a call, or of a greeting where the client has no session.
-    fn frame(&self, call: Call) -> Frame
+    fn frame(&self, call: Call) -> NumberedCall
         requires { HasNext self.now.session }
         ensures { result ≡ frame_in self.now self.now.session call }
     {
         let Some(greeted) = self.session else {
-            return Frame {
+            return NumberedCall {
                 epoch: 0,
                 number: 1,
                 call: Call::Hello { name: self.name },
             };
         };
-        Frame {
+        NumberedCall {
             epoch: greeted.epoch,
             number: greeted.last + 1,
             call,
@@ -267,7 +267,7 @@ impl Client {
         alloc: Global,
         words: &Words,
         line: &Line,
-    ) -> Result<Option<Frame>, OutOfMemory>
+    ) -> Result<Option<NumberedCall>, OutOfMemory>
         requires fits { FitsPage line.now }
         requires next { HasNext self.now.session }
         ensures { IfOk result (λ frame. frame ≡ frame_of words.now self.now line.now) }
@@ -345,8 +345,8 @@ impl Client {
     }
 
     // What the client makes of the reply to the call of a line.
-    fn told(&mut self, words: &mut Words, line: &Line, reply: &Reply) -> Result<(), OutOfMemory>
-        ensures client { OnOk result (self.new ≡ told_reply words.old self.old line.now reply.now) }
+    fn learn(&mut self, words: &mut Words, line: &Line, reply: &Reply) -> Result<(), OutOfMemory>
+        ensures client { OnOk result (self.new ≡ learned_reply words.old self.old line.now reply.now) }
         ensures words { OnOk result (words.new ≡ words_told words.old line.now (Some reply.now)) }
         ensures err { OnErr result (self.new ≡ self.old) }
         ensures words_err { OnErr result (words.new ≡ words.old) }
@@ -391,7 +391,7 @@ impl Client {
     ) -> Result<(), OutOfMemory>
         requires next { greeted.last + 1 < 2 ^ 32 }
         requires session { self.old.session ≡ Some greeted }
-        ensures client { OnOk result (self.new ≡ told_said words.old (record self.old { session = Some (record greeted { last = greeted.last + 1 }) }) line.now reply.now) }
+        ensures client { OnOk result (self.new ≡ learned_said words.old (record self.old { session = Some (record greeted { last = greeted.last + 1 }) }) line.now reply.now) }
         ensures words { OnOk result (words.new ≡ words_told words.old line.now reply.now) }
         ensures err { OnErr result (self.new ≡ self.old) }
         ensures words_err { OnErr result (words.new ≡ words.old) }
@@ -403,7 +403,7 @@ impl Client {
         let Some(reply) = reply else {
             return Ok(());
         };
-        if self.told(words, line, reply).is_err() {
+        if self.learn(words, line, reply).is_err() {
             self.session = Some(greeted);
             return Err(OutOfMemory);
         }

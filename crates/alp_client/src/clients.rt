@@ -3,10 +3,10 @@ ghost use Rattle.std.specs.Prelude.{◌≡◌, ◌≤◌, OnOk, OnErr, IfOk, fal
 ghost use Rattle.alp_client.specs.Clients.{new_client, FitsPage, HasNext};
 ghost use Rattle.alp_client.specs.Crowds.{new_crowd, client_at, asks as asks_said, hears as heard, at_line as at_said, declares as declared};
 
-use crate::{Client, Frame, Words};
-use alp_base::OutOfMemory;
+use crate::{Client, NumberedCall, Words};
+use alp_base::{CLIENTS, OutOfMemory};
 use alp_files::Reply;
-use alp_script::{CLIENTS_MOST, Line};
+use alp_script::Line;
 use std::alloc::Global;
 use std::marker::Model;
 
@@ -34,7 +34,7 @@ fn new_places(alloc: Global) -> Result<Vec<Client>, OutOfMemory>
     ensures { IfOk result (λ v. v.items ≡ replicate 17 new_client) }
 {
     let mut places = Vec::new(alloc);
-    for _place in 0..CLIENTS_MOST + 1 {
+    for _place in 0..CLIENTS + 1 {
         places.push(Client::new(alloc))?;
     }
     Ok(places)
@@ -52,7 +52,12 @@ impl Clients {
     }
 
     /// What the client asks next for a line that is not over, or nothing.
-    pub fn asks(&self, alloc: Global, number: u8, line: &Line) -> Result<Option<Frame>, OutOfMemory>
+    pub fn asks(
+        &self,
+        alloc: Global,
+        number: u8,
+        line: &Line,
+    ) -> Result<Option<NumberedCall>, OutOfMemory>
         requires client { number ≤ 16 }
         requires fits { FitsPage line.now }
         requires next { HasNext (client_at self.now number).session }

@@ -5,6 +5,6 @@ mod client;
 mod clients;
 mod memory;
 
-pub use client::{Client, Frame, Greeted};
+pub use client::{Client, Greeted, NumberedCall};
 pub use clients::Clients;
 pub use memory::{Opens, Words};

@@ -4,7 +4,8 @@ use Rattle.std.specs.Prelude.{if◌then◌else◌, slice_set}
 use Rattle.std.proofs.Common.{◌≡◌, ◌≢◌, ℕ, suc, zero, ◌+◌, ◌<◌, ◌%◌, Bool, true, false, List, [], ◌∷◌, ◌++◌, length, take, refl, sym, ◌∙◌, ap, subst, add-one}
 use Rattle.rand_core.specs.Stream.{Stream, next_u32}
 use Rattle.alp_base.specs.Pages.{overwritten}
-use Rattle.alp_disk.specs.Disk.{Image, page, IsImage, with_bytes, Torn, Follows, NoMore}
+use Rattle.alp_disk.specs.Disk.{Image, page, IsImage, with_bytes, Torn}
+use Rattle.alp_base.specs.Crashes.{Follows, NoMore}
 use Rattle.alp_disk.specs.Images.{torn_same, length-with_bytes, page-with_bytes, page-with_bytes_other}
 use Rattle.alp_disk.specs.Pending.{replay, alternated, low_bytes, filled, Reaches, MayLeave, written_bytes}
 use Rattle.alp_disk.specs.PendingLaws.{replay_one, one_torn, is_image-replay, reaches-replay, read_is_left}

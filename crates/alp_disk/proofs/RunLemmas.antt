@@ -3,7 +3,8 @@ use Rattle.std.proofs.Common.{◌≡◌, ◌≢◌, inl, inr, ℕ, ◌+◌, ◌-
 use Rattle.std.proofs.lemmas.List.{drop_all, append-nil}
 use Rattle.std.proofs.lemmas.Bool.{cases_eq}
 use Rattle.alp_base.specs.Pages.{overwritten}
-use Rattle.alp_disk.specs.Disk.{Image, page, IsImage, with_bytes, Torn, Follows}
+use Rattle.alp_disk.specs.Disk.{Image, page, IsImage, with_bytes, Torn}
+use Rattle.alp_base.specs.Crashes.{Follows}
 use Rattle.alp_disk.specs.Images.{page-with_bytes, page-with_bytes_other}
 use Rattle.alp_disk.specs.Runs.{SameOutside, Holds}
 

@@ -1,9 +1,9 @@
 -- What a disk in memory shows.
-use Rattle.std.specs.Prelude.{◌≡◌, ◌↔◌, ℕ, List, [], ◌∷◌, ◌++◌, length, if◌then◌else◌, nat_lt, Result, IsErr, IsTrue}
+use Rattle.std.specs.Prelude.{◌≡◌, ◌↔◌, ◌<◌, ℕ, false, List, [], ◌∷◌, ◌++◌, length, if◌then◌else◌, nat_lt, Result, IsErr, IsTrue}
 use Rattle.alp_base.specs.Streams.{counted, is_failing}
 use Rattle.alp_base.specs.declared.faults.Halt.{Halt}
 use Rattle.alp_disk.specs.Disk.{Image}
-use Rattle.alp_disk.specs.Pending.{replay, MayLeave, written_bytes}
+use Rattle.alp_disk.specs.Pending.{replay, alternated, filled, words_of, MayLeave, written_bytes}
 use Rattle.alp_disk.specs.declared.pending_write.PendingWrite.{PendingWrite}
 use Rattle.alp_disk.specs.declared.mem_disk.MemDisk.{MemDisk}
 
@@ -46,8 +46,24 @@ pub record CountsCall {T : Type 0} (old new : MemDisk) (result : Result T Halt) 
 abbrev pub room_of_writes : ℕ
 room_of_writes = 8192
 
--- One more write waits for a sync; where there was no room for it, it alone.
-pub record Waits (at offset : ℕ) (bytes : List ℕ) (old new : List PendingWrite) : Type 0 where
+-- What is stable is as it was, and so is what waits for a sync.
+pub record SamePages (old new : MemDisk) : Type 0 where
+  pub stable : stable_of new ≡ stable_of old
+  pub pending : pending_of new ≡ pending_of old
+
+-- One more write waits for a sync. Where there was no room for it, the earlier ones are stable, and it waits alone.
+pub record Waits (at offset : ℕ) (bytes : List ℕ) (old new : MemDisk) : Type 0 where
   pub write : PendingWrite
   pub place : (write.at ≡ at) × (write.offset ≡ offset) × (written_bytes write ≡ bytes)
-  pub pending : new ≡ (if nat_lt (length old) room_of_writes then old else []) ++ write ∷ []
+  pub stable : stable_of new ≡ (if nat_lt (length (pending_of old)) room_of_writes then stable_of old else seen_of old)
+  pub pending : pending_of new ≡ (if nat_lt (length (pending_of old)) room_of_writes then pending_of old else []) ++ write ∷ []
+
+-- What a crash with a pick makes of the writes since the last sync. The counts and the list of calls that are to fail stay.
+pub record CrashedBy (pick : ℕ) (old new : MemDisk) : Type 0 where
+  pub drops : pick ≡ 0 → seen_of new ≡ stable_of old
+  pub keeps : pick ≡ 1 → seen_of new ≡ seen_of old
+  pub alternates : pick ≡ 2 → seen_of new ≡ alternated false (stable_of old) (pending_of old)
+  pub fills : 2 < pick → seen_of new ≡ filled (words_of pick) (stable_of old) (pending_of old)
+  pub synced : pending_of new ≡ []
+  pub calls : calls_of new ≡ calls_of old
+  pub fails : fails_of new ≡ fails_of old

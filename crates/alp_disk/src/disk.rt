@@ -1,6 +1,7 @@
 //! A disk as all that stands on it sees it.
 ghost use Rattle.std.specs.Prelude.{◌≡◌, ◌⊎◌, ◌≤◌, ◌<◌, ◌+◌, ◌^◌, ℕ, Bool, List, length, IsTrue, OnOk};
-ghost use Rattle.alp_disk.specs.Disk.{Image, page as page_of, IsImage, with_bytes, Torn, Follows, Only, NoMore, SameOutcomes, Adds};
+ghost use Rattle.alp_disk.specs.Disk.{Image, page as page_of, IsImage, with_bytes, Torn};
+ghost use Rattle.alp_base.specs.Crashes.{Follows, Only, NoMore, SameOutcomes, Adds};
 ghost use Rattle.alp_base.specs.Allowances.{Spends, HasHaltCause, Sets};
 ghost use Rattle.alp_base.specs.declared.allowance.Allowance.{Allowance as Limit};
 ghost use Rattle.alp_base.specs.declared.allowance.Allowance.TheVariants.{Free};
@@ -33,6 +34,9 @@ pub trait Disk: Drop {
     /// How many further changing calls pass, where a number was set.
     ghost allowance: { Self → Limit };
 
+    /// What `power_off` with a pick may give.
+    ghost crashed: { Self → ℕ → Self → Type 0 };
+
     fn pages(&self) -> u32
         ensures { result ≡ size self.now };
 
@@ -45,6 +49,7 @@ pub trait Disk: Drop {
         ensures crash { NoMore (may_leave self.old) (may_leave self.new) }
         ensures time { Adds left_since self.old self.new (may_leave self.new) }
         ensures allowance { allowance self.new ≡ allowance self.old }
+        ensures no_fault { OnOk result (faults self.new ≡ faults self.old) }
         ensures cause { HasHaltCause (faults self.old) (faults self.new) (allowance self.new) result };
 
     /// Until a sync, a crash may leave any bytes in the range.
@@ -57,6 +62,7 @@ pub trait Disk: Drop {
         ensures crash { Follows (Torn at offset (length bytes.now)) (may_leave self.old) (may_leave self.new) }
         ensures time { Adds left_since self.old self.new (may_leave self.new) }
         ensures allowance { Spends (allowance self.old) (allowance self.new) }
+        ensures no_fault { OnOk result (faults self.new ≡ faults self.old) }
         ensures cause { HasHaltCause (faults self.old) (faults self.new) (allowance self.new) result };
 
     /// After it, a crash leaves what a read gives.
@@ -68,6 +74,7 @@ pub trait Disk: Drop {
         ensures crash { NoMore (may_leave self.old) (may_leave self.new) }
         ensures time { Adds left_since self.old self.new (may_leave self.new) }
         ensures allowance { Spends (allowance self.old) (allowance self.new) }
+        ensures no_fault { OnOk result (faults self.new ≡ faults self.old) }
         ensures cause { HasHaltCause (faults self.old) (faults self.new) (allowance self.new) result };
 
     /// On a `Fuse`, lets so many further writes and syncs pass, or all of them. Other disks ignore it.
@@ -84,6 +91,7 @@ pub trait Disk: Drop {
     fn power_off(self, pick: u64) -> Self
         ensures left { IsTrue (tells self) → may_leave self (seen result) }
         ensures still { IsTrue (tells self) → Only (seen result) (may_leave result) }
+        ensures crashed { crashed self pick result }
         ensures tells { tells result ≡ tells self }
         ensures size { size result ≡ size self }
         ensures faults { faults result ≡ faults self }

@@ -73,6 +73,8 @@ impl Disk for FileDisk {
 
     ghost allowance = { λ _. Free };
 
+    ghost crashed = { λ f _ back. back ≡ f };
+
     ghost few = { λ f. f.few };
 
     ghost faults_end = { λ f. f.faults_end };
@@ -107,7 +109,7 @@ impl Disk for FileDisk {
     }
 
     fn sync(&mut self) -> Result<(), Halt> {
-        let result = self.file.sync_all();
+        let result = self.file.sync_data();
         halt_at_error(&mut self.faults, result)
     }
 

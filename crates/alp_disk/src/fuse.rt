@@ -2,7 +2,8 @@
 ghost use Rattle.std.specs.Prelude.{◌≡◌, ◌≢◌, ◌⊎◌, ◌↔◌, ◌+◌, ◌≤◌, ◌<◌, length, IsTrue, OnOk, Err};
 ghost use Rattle.alp_base.specs.Causes.{Rose};
 ghost use Rattle.alp_base.specs.declared.faults.Halt.TheVariants.{Stopped};
-ghost use Rattle.alp_disk.specs.Disk.{page as page_of, with_bytes, Torn, Follows, Only, NoMore, SameOutcomes, Adds};
+ghost use Rattle.alp_disk.specs.Disk.{page as page_of, with_bytes, Torn};
+ghost use Rattle.alp_base.specs.Crashes.{Follows, Only, NoMore, SameOutcomes, Adds};
 ghost use Rattle.alp_base.specs.Allowances.{Spends, HasHaltCause, Sets, allowance_given};
 ghost use Rattle.alp_base.specs.declared.allowance.Allowance.TheVariants.{Free, Left, Spent};
 
@@ -57,7 +58,7 @@ impl<D: Disk> Fuse<D> {
 }
 
 impl<D: Disk> Disk for Fuse<D> {
-    ghost use Rattle.alp_disk.specs.Fuse.{inner_of, allowance_of, burnt};
+    ghost use Rattle.alp_disk.specs.Fuse.{inner_of, allowance_of, Burns};
 
     ghost tells = { λ f. D.Disk.tells f.inner };
 
@@ -72,6 +73,8 @@ impl<D: Disk> Disk for Fuse<D> {
     ghost faults = { λ f. D.Disk.faults f.inner };
 
     ghost allowance = { λ f. f.allowance };
+
+    ghost crashed = { λ f pick back. D.Disk.crashed f.inner pick back.inner };
 
     ghost few = { λ f. D.Disk.few f.inner };
 
@@ -102,6 +105,7 @@ impl<D: Disk> Disk for Fuse<D> {
         ensures crash { NoMore (D.may_leave (inner_of self.old)) (D.may_leave (inner_of self.new)) }
         ensures time { Adds (λ start f. D.left_since (inner_of start) (inner_of f)) self.old self.new (D.may_leave (inner_of self.new)) }
         ensures allowance { allowance_of self.new ≡ allowance_of self.old }
+        ensures no_fault { OnOk result (D.faults (inner_of self.new) ≡ D.faults (inner_of self.old)) }
         ensures cause { HasHaltCause (D.faults (inner_of self.old)) (D.faults (inner_of self.new)) (allowance_of self.new) result }
 
         ensures stops { (result ≡ Err Stopped) ↔ (allowance_of self.new ≡ Spent) }
@@ -122,14 +126,13 @@ impl<D: Disk> Disk for Fuse<D> {
         ensures crash { Follows (Torn at offset (length bytes.now)) (D.may_leave (inner_of self.old)) (D.may_leave (inner_of self.new)) }
         ensures time { Adds (λ start f. D.left_since (inner_of start) (inner_of f)) self.old self.new (D.may_leave (inner_of self.new)) }
         ensures allowance { Spends (allowance_of self.old) (allowance_of self.new) }
+        ensures no_fault { OnOk result (D.faults (inner_of self.new) ≡ D.faults (inner_of self.old)) }
         ensures cause { HasHaltCause (D.faults (inner_of self.old)) (D.faults (inner_of self.new)) (allowance_of self.new) result }
 
-        ensures burns { allowance_of self.new ≡ burnt (allowance_of self.old) }
-        ensures stops { (result ≡ Err Stopped) ↔ (allowance_of self.new ≡ Spent) }
+        ensures burns { Burns self.old self.new result }
         // The write that stops is handed on first.
         ensures stopping { allowance_of self.old ≡ Left 0 → IsTrue (D.tells (inner_of self.old))
             → (D.seen (inner_of self.new) ≡ with_bytes (D.seen (inner_of self.old)) at offset bytes.now) ⊎ Rose (D.faults (inner_of self.old)) (D.faults (inner_of self.new)) }
-        ensures stopped { allowance_of self.old ≡ Spent → self.new ≡ self.old }
     {
         match self.allowance {
             Allowance::Free => self.inner.write(at, offset, bytes),
@@ -153,13 +156,12 @@ impl<D: Disk> Disk for Fuse<D> {
         ensures crash { NoMore (D.may_leave (inner_of self.old)) (D.may_leave (inner_of self.new)) }
         ensures time { Adds (λ start f. D.left_since (inner_of start) (inner_of f)) self.old self.new (D.may_leave (inner_of self.new)) }
         ensures allowance { Spends (allowance_of self.old) (allowance_of self.new) }
+        ensures no_fault { OnOk result (D.faults (inner_of self.new) ≡ D.faults (inner_of self.old)) }
         ensures cause { HasHaltCause (D.faults (inner_of self.old)) (D.faults (inner_of self.new)) (allowance_of self.new) result }
 
-        ensures burns { allowance_of self.new ≡ burnt (allowance_of self.old) }
-        ensures stops { (result ≡ Err Stopped) ↔ (allowance_of self.new ≡ Spent) }
+        ensures burns { Burns self.old self.new result }
         // The sync that stops is not handed on.
         ensures stopping { allowance_of self.old ≡ Left 0 → inner_of self.new ≡ inner_of self.old }
-        ensures stopped { allowance_of self.old ≡ Spent → self.new ≡ self.old }
     {
         match self.allowance {
             Allowance::Free => self.inner.sync(),

@@ -1,10 +1,11 @@
 //! A disk in memory.
-ghost use Rattle.std.specs.Prelude.{◌≡◌, ◌<◌, ◌≤◌, ◌+◌, ◌^◌, ◌↔◌, ℕ, Bool, true, false, [], length, replicate, vec_capacity, IsTrue, IsErr, OnOk, IfOk};
+ghost use Rattle.std.specs.Prelude.{◌≡◌, ◌<◌, ◌≤◌, ◌+◌, ◌^◌, ◌↔◌, ℕ, Bool, true, false, [], length, replicate, vec_capacity, IsTrue, IsErr, OnOk, OnErr, IfOk};
 ghost use Rattle.alp_base.specs.Pages.{zero_page};
 ghost use Rattle.alp_base.specs.Streams.{counted, is_failing};
-ghost use Rattle.alp_disk.specs.Disk.{page as page_of, IsImage, with_bytes, Torn, Follows, NoMore, Only, Adds};
+ghost use Rattle.alp_disk.specs.Disk.{page as page_of, IsImage, with_bytes, Torn};
+ghost use Rattle.alp_base.specs.Crashes.{Follows, NoMore, Only, Adds};
 ghost use Rattle.alp_base.specs.Allowances.{Spends, HasHaltCause};
-ghost use Rattle.alp_disk.specs.Pending.{replay, alternated, filled, words_of};
+ghost use Rattle.alp_disk.specs.Pending.{replay};
 ghost use Rattle.alp_base.specs.declared.allowance.Allowance.TheVariants.{Free};
 
 use crate::Disk;
@@ -81,7 +82,7 @@ fn fails_now(calls: &mut u64, faults: &mut u64, fails: &[u64]) -> bool
 
 impl Disk for MemDisk {
     ghost use Rattle.alp_disk.specs.PendingLaws.{is_image-replay, read_is_left};
-    ghost use Rattle.alp_disk.specs.MemDisk.{stable_of, pending_of, page_count, seen_of, LeftBy, calls_of, fails_of, faults_of, CountsCall, Waits};
+    ghost use Rattle.alp_disk.specs.MemDisk.{stable_of, pending_of, page_count, seen_of, LeftBy, calls_of, fails_of, faults_of, CountsCall, SamePages, Waits, CrashedBy};
 
     ghost tells = { λ _. true };
 
@@ -96,6 +97,8 @@ impl Disk for MemDisk {
     ghost faults = { λ m. m.faults };
 
     ghost allowance = { λ _. Free };
+
+    ghost crashed = { λ m pick back. CrashedBy pick m back };
 
     ghost few = { λ m. m.few };
 
@@ -124,9 +127,11 @@ impl Disk for MemDisk {
         ensures seen { seen_of self.new ≡ seen_of self.old }
         ensures crash { NoMore (LeftBy self.old) (LeftBy self.new) }
         ensures time { Adds (λ _ m. LeftBy m) self.old self.new (LeftBy self.new) }
+        ensures no_fault { OnOk result (faults_of self.new ≡ faults_of self.old) }
         ensures cause { HasHaltCause (faults_of self.old) (faults_of self.new) Free result }
 
         ensures counts { CountsCall self.old self.new result }
+        ensures kept { SamePages self.old self.new }
     {
         if fails_now(&mut self.calls, &mut self.faults, &self.fails) {
             return Err(Halt::Failed);
@@ -142,11 +147,13 @@ impl Disk for MemDisk {
         ensures size { page_count self.new ≡ page_count self.old }
         ensures crash { Follows (Torn at offset (length bytes.now)) (LeftBy self.old) (LeftBy self.new) }
         ensures time { Adds (λ _ m. LeftBy m) self.old self.new (LeftBy self.new) }
+        ensures no_fault { OnOk result (faults_of self.new ≡ faults_of self.old) }
         ensures cause { HasHaltCause (faults_of self.old) (faults_of self.new) Free result }
 
         ensures counts { CountsCall self.old self.new result }
         // Where there is no room for one more, the earlier ones are stable first.
-        ensures waits { OnOk result (Waits at offset bytes.now (pending_of self.old) (pending_of self.new)) }
+        ensures waits { OnOk result (Waits at offset bytes.now self.old self.new) }
+        ensures kept { OnErr result (SamePages self.old self.new) }
     {
         if fails_now(&mut self.calls, &mut self.faults, &self.fails) {
             return Err(Halt::Failed);
@@ -162,16 +169,18 @@ impl Disk for MemDisk {
         ensures seen { seen_of self.new ≡ seen_of self.old }
         ensures crash { NoMore (LeftBy self.old) (LeftBy self.new) }
         ensures time { Adds (λ _ m. LeftBy m) self.old self.new (LeftBy self.new) }
+        ensures no_fault { OnOk result (faults_of self.new ≡ faults_of self.old) }
         ensures cause { HasHaltCause (faults_of self.old) (faults_of self.new) Free result }
 
         ensures counts { CountsCall self.old self.new result }
         ensures stable { OnOk result (pending_of self.new ≡ []) }
+        ensures kept { OnErr result (SamePages self.old self.new) }
     {
-        if fails_now(&mut self.calls, &mut self.faults, &self.fails) {
-            return Err(Halt::Failed);
+        if !fails_now(&mut self.calls, &mut self.faults, &self.fails) {
+            settle(&mut self.stable, &mut self.pending);
+            return Ok(());
         }
-        settle(&mut self.stable, &mut self.pending);
-        Ok(())
+        Err(Halt::Failed)
     }
 
     fn stop_after(&mut self, _calls: Option<u32>) {}
@@ -184,13 +193,7 @@ impl Disk for MemDisk {
         ensures still { Only (seen_of result) (LeftBy result) }
         ensures size { page_count result ≡ page_count self }
         ensures faults { faults_of result ≡ faults_of self }
-
-        ensures drops { pick ≡ 0 → seen_of result ≡ stable_of self }
-        ensures keeps { pick ≡ 1 → seen_of result ≡ seen_of self }
-        ensures alternates { pick ≡ 2 → seen_of result ≡ alternated false (stable_of self) (pending_of self) }
-        ensures fills { 2 < pick → seen_of result ≡ filled (words_of pick) (stable_of self) (pending_of self) }
-        ensures calls { calls_of result ≡ calls_of self }
-        ensures fails { fails_of result ≡ fails_of self }
+        ensures crashed { CrashedBy pick self result }
     {
         let MemDisk {
             mut stable,

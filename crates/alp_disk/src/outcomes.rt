@@ -38,15 +38,14 @@ fn put(pages: &mut Vec<Page>, at: u32, offset: u16, bytes: &[u8])
     }
 }
 
-/// The page at that place after one more write.
+/// Makes one more write in the page at that place. A write of another page copies nothing.
 #[tactic(auto, using(crate::proofs::Replays::page_rules))]
-fn overlay(page: &Page, at: u32, write: &PendingWrite) -> Page
-    ensures { (image : Image) → at < length image → page.now ≡ page_of image at → result ≡ page_of (with_bytes image write.now.at write.now.offset (written_bytes write.now)) at }
+fn overlay(page: &mut Page, at: u32, write: &PendingWrite)
+    ensures { (image : Image) → at < length image → page.old ≡ page_of image at → page.new ≡ page_of (with_bytes image write.now.at write.now.offset (written_bytes write.now)) at }
 {
     if write.at == at {
-        return page.overwritten(write.offset as usize, write.bytes());
+        *page = page.overwritten(write.offset as usize, write.bytes());
     }
-    *page
 }
 
 /// A page as it reads, with the writes that wait for a sync.
@@ -56,7 +55,7 @@ pub fn newest(stable: &Vec<Page>, pending: &Vec<PendingWrite>, at: u32) -> Page
 {
     let mut page = stable[at as usize];
     for write in pending.iter() {
-        page = overlay(&page, at, write);
+        overlay(&mut page, at, write);
     }
     page
 }

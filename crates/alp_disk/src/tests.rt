@@ -3,6 +3,7 @@ ghost use Rattle.std.specs.Prelude.{◌<◌};
 use crate::{Disk, FileDisk, Fuse, MemDisk, write_span, write_synced};
 use alp_base::{Halt, Page};
 use std::fs::File;
+use std::os::unix::fs::FileExt;
 use std::test::Fail;
 use std::thread::{Threads, join};
 use std::{env, fs, process};
@@ -92,6 +93,7 @@ fn a_span_is_written_page_by_page(rt: HostRuntime) -> Result<(), Fail> {
     Ok(())
 }
 
+/// What was written stands at its place in the file: a second handle reads it after the sync.
 #[test]
 fn a_file_holds_pages(rt: HostRuntime) -> Result<(), Fail> {
     let name = format!(in rt.alloc(); "alp_disk-test-{}", process::id(rt.process()))?;
@@ -101,12 +103,20 @@ fn a_file_holds_pages(rt: HostRuntime) -> Result<(), Fail> {
     let mut disk = FileDisk::new(file, 3);
     let wrote = write_some(&mut disk);
     let synced = disk.sync();
+    let second = File::open(&rt, path.as_path())?;
+    let mut bytes = [0; 1536];
+    let read = second.read_exact_at(&mut bytes, 0);
     let mut back = disk.power_off(0);
     let held = read_some(&mut back);
     let length = fs::metadata(&rt, path.as_path())?.len();
     fs::remove_file(&rt, path.as_path())?;
-    assert!(rt; sized.is_ok());
+    let mut want = [0; 1536];
+    want[..4].copy_from_slice(&[9, 9, 1, 1]);
+    want[522..525].fill(8);
+    want[1533..].fill(7);
+    assert!(rt; sized.is_ok() && read.is_ok());
     assert_eq!(rt; (wrote, synced), (Ok(()), Ok(())));
+    assert!(rt; bytes == want);
     assert_eq!(rt; held, Ok([9, 9, 1, 1, 8, 8, 8, 7, 7, 7]));
     assert_eq!(rt; length, 1536);
     Ok(())

@@ -51,6 +51,14 @@ fn clock_bytes(alloc: Global, clock: ClockNote) -> Result<Vec<u8>, OutOfMemory>
     Ok(bytes)
 }
 
+/// The name of the note.
+pub fn clock_note_name(alloc: Global) -> Result<Bytes, OutOfMemory>
+    ensures { IfOk result (λ name. name ≡ clock_name) }
+{
+    let letters = vec![in alloc; b'C']?;
+    Ok(Bytes::new(letters))
+}
+
 /// The change by which the note gets this epoch and clock.
 pub fn clock_change(alloc: Global, clock: ClockNote) -> Result<NoteChange, OutOfMemory>
     requires { clock.clock ≤ 2 ^ 62 }
@@ -58,10 +66,10 @@ pub fn clock_change(alloc: Global, clock: ClockNote) -> Result<NoteChange, OutOf
     ensures change { IfOk result (λ n. n ≡ record { name = clock_name; value = Some (clock_form.spell clock) }) }
     ensures back { IfOk result (λ n. clock_in n.value ≡ clock) }
 {
-    let name = vec![in alloc; b'C']?;
+    let name = clock_note_name(alloc)?;
     let value = clock_bytes(alloc, clock)?;
     Ok(NoteChange {
-        name: Bytes::new(name),
+        name,
         value: Some(Bytes::new(value)),
     })
 }

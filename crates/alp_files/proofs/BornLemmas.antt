@@ -23,7 +23,7 @@ use Rattle.alp_files.specs.declared.refusal.Refusal.TheVariants as refusal
 use Rattle.alp_files.specs.declared.refusal.ListName.TheVariants as lists
 use Rattle.alp_files.specs.Cells.{View, props_in, owner_in, page_in}
 use Rattle.alp_files.specs.Edits.{Edit, Put, after}
-use Rattle.alp_files.specs.Act.{Own, Answer, Look, Ask, Say, run, unless, refused, told, no_answer, is_admin, on_props, on_open, on_change, if_change, ask_pages, page_past, page_puts, mark_put, read_pages, write_pages, make_owner, create_file, create_tests, created_file, is_new, owner_of, props_of, access_tests, opened, answer, id_in, open_at}
+use Rattle.alp_files.specs.Act.{Own, Answer, Look, Ask, Say, run, unless, refused, replied, no_answer, is_admin, on_props, on_open, on_change, if_change, ask_pages, page_past, page_puts, mark_put, read_pages, write_pages, make_owner, create_file, create_tests, created_file, is_new, owner_of, props_of, access_tests, opened, answer, id_in, open_at}
 use Rattle.alp_files.specs.Born.{IsUnborn, count_after}
 use Rattle.alp_files.specs.Built.{IsBuilt}
 use Rattle.alp_files.proofs.EditLemmas.{after-append}
@@ -114,23 +114,23 @@ module _ (server epoch count : ℕ) (m : View) (h : IsUnborn server epoch m coun
   keeps_write : (own : Own) (r : Run) (pages : List (List ℕ)) (o : Open) (p : Props) → m (Leader o.file) ≡ Some (cell.Leader p) → Keeps (run m (write_pages own r pages o p)).edits
   unfolding Keeps
   keeps_write own r pages o p there =
-      keeps_unless own (page_past r p) (told own reply.Plain (page_puts o.file r.first pages ++ mark_put o.file p (r.first + r.count)))
+      keeps_unless own (page_past r p) (replied own reply.Plain (page_puts o.file r.first pages ++ mark_put o.file p (r.first + r.count)))
       (subst (λ (v : View). IsUnborn server epoch v count) (sym (after-append (page_puts o.file r.first pages) (mark_put o.file p (r.first + r.count)) m))
       (keeps_mark o.file p (r.first + r.count) (after (page_puts o.file r.first pages) m) there (unborn_pages server epoch count o.file pages r.first m h)))
 
   keeps_pages : (own : Own) (r : Run) (o : Open) (p : Props) → Keeps (run m (read_pages own r o p)).edits
   unfolding Keeps
   keeps_pages own r o p =
-      elim (nat_lt p.size (r.first + r.count)) as (λ b. Keeps (run m (cond b (Say (refused own (refusal.NoSuchPage p.size))) (ask_pages o.file r.first r.count (λ ps. Say (told own (reply.Pages ps) []))))).edits) [
+      elim (nat_lt p.size (r.first + r.count)) as (λ b. Keeps (run m (cond b (Say (refused own (refusal.NoSuchPage p.size))) (ask_pages o.file r.first r.count (λ ps. Say (replied own (reply.Pages ps) []))))).edits) [
         | true ↦ h
-        | false ↦ keeps_read own o.file r.count r.first (λ ps. told own (reply.Pages ps) []) (λ ps. h)
+        | false ↦ keeps_read own o.file r.count r.first (λ ps. replied own (reply.Pages ps) []) (λ ps. h)
       ]
 
   keeps_owner : (own : Own) (who name : List ℕ) (quota : ℕ) (create : List (List ℕ)) → Keeps (run m (make_owner own who name quota create)).edits
   unfolding Keeps
   keeps_owner own who name quota create = keeps_unless own
       ((is_some (owner_in (m (OwnerOf name))), refusal.OwnerExists) ∷ (not (is_admin who), refusal.AccessDenied lists.Admin) ∷ [])
-      (told own reply.Plain (Put (OwnerOf name) (cell.Owner (record { name = name; quota = quota; charge = 0; create = create })) ∷ []))
+      (replied own reply.Plain (Put (OwnerOf name) (cell.Owner (record { name = name; quota = quota; charge = 0; create = create })) ∷ []))
       (unborn_owner server epoch count name (cell.Owner (record { name = name; quota = quota; charge = 0; create = create })) m h)
 
 counter_in : Key → ℕ

@@ -7,7 +7,7 @@ use Rattle.std.specs.FinMap.{FinMap, get-insert}
 use Rattle.std.specs.Map.{lookup}
 use Rattle.std.specs.BTreeMap.{is_at}
 use Rattle.std.proofs.Common.{◌≡◌, List, [], ◌∷◌, ◌++◌, ◌<◌, length, refl, sym, ◌∙◌, ap, arith}
-use Rattle.alp_files.proofs.TreeLemmas.{get_at, put_at, remove_at, entries_back as entries_again, tree_sorted}
+use Rattle.alp_base.proofs.TreeLemmas.{get_at, put_at, remove_at, entries_back as entries_again, tree_sorted}
 use Rattle.alp_base.specs.declared.key.Key.{Key}
 use Rattle.alp_base.specs.Keys.{key_cmp}
 use Rattle.alp_base.specs.KeyLaws.{keys_total, exact_keys}

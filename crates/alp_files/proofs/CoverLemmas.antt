@@ -13,14 +13,14 @@ use Rattle.alp_base.specs.declared.key.Resource.TheVariants.{Whole, Leaf}
 use Rattle.alp_modes.specs.declared.Mode.{Mode}
 use Rattle.alp_modes.specs.declared.Mode.TheVariants.{Write}
 use Rattle.alp_modes.specs.Modes.{covers_of, join_of, leaf_of}
-use Rattle.alp_modes.specs.Holdings.{Holding, join_held, covers_held, held_by, file_of, given_to, mode_on, intention_of, IsIntended}
-use Rattle.alp_modes.specs.Orders.{resource_cmp, resources_total, exact_resources}
+use Rattle.alp_files.specs.Holdings.{Holding, join_held, covers_held, held_by, file_of, given_to, mode_on, intention_of, IsIntended}
+use Rattle.alp_base.specs.Orders.{resource_cmp, resources_total, exact_resources}
 use Rattle.alp_modes.proofs.ModeLemmas.{covering-order, join-least, at-all, implied, implied-is}
-use Rattle.alp_modes.proofs.HoldingLemmas.{held_by-append}
+use Rattle.alp_files.proofs.HoldingLemmas.{held_by-append}
 use Rattle.alp_files.specs.Cells.{View}
 use Rattle.alp_files.specs.Edits.{Edit}
 use Rattle.alp_files.specs.Act.{Own, id_in}
-use Rattle.alp_files.specs.History.{Done, Standing, answer_to, step, steps}
+use Rattle.alp_files.specs.History.{PerformedCall, Standing, answer_to, step, steps}
 use Rattle.alp_files.specs.Locks.{Need, joined, whole_of, wholes_of, intention_on, asked_on, asked_each, request_of, granted, with_made, needs_made, needs_of, needs_done, HoldsOn, HoldsEach, IsMore, AreCovered}
 use Rattle.alp_files.specs.Apart.{changes}
 use Rattle.alp_files.proofs.FilesLemmas.{same-some}
@@ -80,7 +80,7 @@ pub holds-each-more : (a b : Holding) → IsMore a b → (ns : List Need) → Ho
 holds-each-more a b more [] h = tt
 holds-each-more a b more (n ∷ ns) h = (holds-more a b more n.0 n.1 h.0, holds-each-more a b more ns h.1)
 
-pub covered-more : (a b : Holding) → IsMore a b → (server : ℕ) (s : Standing) (who : List ℕ) (ds : List Done) → AreCovered a server s who ds → AreCovered b server s who ds
+pub covered-more : (a b : Holding) → IsMore a b → (server : ℕ) (s : Standing) (who : List ℕ) (ds : List PerformedCall) → AreCovered a server s who ds → AreCovered b server s who ds
 covered-more a b more server s who [] h = tt
 covered-more a b more server s who (d ∷ ds) h = (holds-each-more a b more (needs_done (map.get s.files) s.own d) h.0, covered-more a b more server (step server s who d) who ds h.1)
 
@@ -231,19 +231,19 @@ with_made-holds held None ns h = h
 with_made-holds held (Some f) ns h = (right-above (held (Whole f)) (held_by ((Whole f, Write) ∷ []) (Whole f)) Write (first-held (Whole f, Write) []), h)
 
 -- where a call's locks are held, they are with those of the file that it makes
-pub done-holds : (held : Holding) (m : View) (own : Own) (d : Done) → HoldsEach held (needs_of m own d.call) → HoldsEach (with_made held (id_in d.reply)) (needs_done m own d)
+pub done-holds : (held : Holding) (m : View) (own : Own) (d : PerformedCall) → HoldsEach held (needs_of m own d.call) → HoldsEach (with_made held (id_in d.reply)) (needs_done m own d)
 done-holds held m own d h =
     with_made-holds held (id_in d.reply) (needs_of m own d.call)
     (holds-each-more held (with_made held (id_in d.reply)) (joined-more held (needs_made (id_in d.reply))) (needs_of m own d.call) h)
 
 -- ---- one call more
 
-pub covered-push : (held : Holding) (server : ℕ) (s : Standing) (who : List ℕ) (ds : List Done) (d : Done) → AreCovered held server s who ds
+pub covered-push : (held : Holding) (server : ℕ) (s : Standing) (who : List ℕ) (ds : List PerformedCall) (d : PerformedCall) → AreCovered held server s who ds
     → HoldsEach held (needs_done (map.get (steps server s who ds).files) (steps server s who ds).own d) → AreCovered held server s who (ds ++ d ∷ [])
 covered-push held server s who [] d h g = (g, tt)
 covered-push held server s who (x ∷ ds) d h g = (h.0, covered-push held server (step server s who x) who ds d h.1 g)
 
-pub changes-push : (server : ℕ) (s : Standing) (who : List ℕ) (ds : List Done) (d : Done) → changes server s who (ds ++ d ∷ []) ≡ changes server s who ds ++ (answer_to server (steps server s who ds) who d).edits
+pub changes-push : (server : ℕ) (s : Standing) (who : List ℕ) (ds : List PerformedCall) (d : PerformedCall) → changes server s who (ds ++ d ∷ []) ≡ changes server s who ds ++ (answer_to server (steps server s who ds) who d).edits
 changes-push server s who [] d = append-nil (answer_to server s who d).edits
 changes-push server s who (x ∷ ds) d =
     ap (λ (es : List Edit). (answer_to server s who x).edits ++ es) (changes-push server (step server s who x) who ds d)

@@ -11,7 +11,7 @@ use Rattle.alp_base.specs.declared.key.Key.{Key}
 use Rattle.alp_base.specs.declared.key.Key.TheVariants.{Leader, PageOf, OwnerOf}
 use Rattle.alp_base.specs.Keys.{key_cmp}
 use Rattle.alp_base.proofs.NameLemmas.{and_left}
-use Rattle.alp_modes.specs.Holdings.{Holding, file_of, DoAgreeOnLeaves}
+use Rattle.alp_files.specs.Holdings.{Holding, file_of, DoAgreeOnLeaves}
 use Rattle.alp_files.specs.declared.cell.Cell.{Cell}
 use Rattle.alp_files.specs.declared.cell.Props.{Props}
 use Rattle.alp_files.specs.declared.call.Call.{Call}
@@ -23,7 +23,7 @@ use Rattle.alp_base.specs.declared.key.Resource.TheVariants.{Whole, Leaf}
 use Rattle.alp_files.specs.Cells.{Cells, View, same_file, has_file, props_in}
 use Rattle.alp_files.specs.Edits.{Edit, Drop, Cut, Put, is_in_file, is_past, edits_at, after, edits_map}
 use Rattle.alp_files.specs.Act.{Own, Answer, Ask, Say, run, no_opens, answer, program, id_in, open_at, unless, create_tests, created_file, no_answer, owner_of, is_changing}
-use Rattle.alp_files.specs.History.{Done, Standing, answer_to, step, steps, begun}
+use Rattle.alp_files.specs.History.{PerformedCall, Standing, answer_to, step, steps, begun}
 use Rattle.alp_files.specs.Locks.{Need, needs_there, needs_on_open, needs_if_change, needs_of, needs_made, needs_done, page_needs, HoldsEach, Reads, Writes, AreCovered, IsFormed}
 use Rattle.alp_files.specs.Apart.{IsWithin, DoShowSame, OpensRead, IsSized, AreSized, changes, ids_after, AreNewAlike, AreFormed, standing, DoesSame, Locked, after_part, IsRightUnder, DoCommute}
 use Rattle.alp_files.proofs.HistoryLemmas.{edits_map-append, get-edits_map, same_cells}
@@ -120,14 +120,14 @@ module _ (R W : Key → Type 0) where
   needs-frame m n same own os c = refl
 
   -- one call, on maps that show the same
-  pub answer-frame : (m n : View) → DoShowSame R m n → AreSized m → (server : ℕ) (made others : List FileId) (who : List ℕ) (own : Own) → OpensRead R own.opens → (d : Done) → IsFormed d.call
+  pub answer-frame : (m n : View) → DoShowSame R m n → AreSized m → (server : ℕ) (made others : List FileId) (who : List ℕ) (own : Own) → OpensRead R own.opens → (d : PerformedCall) → IsFormed d.call
       → LetsEach R W (needs_done m own d) → ((f : FileId) → id_in d.reply ≡ Some f → has_file f made ≡ has_file f others)
       → answer server made m who own d.call d.reply ≡ answer server others n who own d.call d.reply
   answer-frame m n same sized server made others who own os d formed c new =
       run-frame R W m n same (program server made who own d.call (id_in d.reply)) (program-fits R W m own os sized server made who d.call (id_in d.reply) formed c)
       ∙ ap (run n) (program-made server made others who own d.call (id_in d.reply) new)
 
-  pub answer-fits : (m : View) → AreSized m → (server : ℕ) (made : List FileId) (who : List ℕ) (own : Own) → OpensRead R own.opens → (d : Done) → IsFormed d.call → LetsEach R W (needs_done m own d)
+  pub answer-fits : (m : View) → AreSized m → (server : ℕ) (made : List FileId) (who : List ℕ) (own : Own) → OpensRead R own.opens → (d : PerformedCall) → IsFormed d.call → LetsEach R W (needs_done m own d)
       → IsWithin W (answer server made m who own d.call d.reply).edits × OpensRead R (answer server made m who own d.call d.reply).own.opens × PutsSized (answer server made m who own d.call d.reply).edits
   answer-fits m sized server made who own os d formed c =
       run-fits R W m (program server made who own d.call (id_in d.reply)) (program-fits R W m own os sized server made who d.call (id_in d.reply) formed c)
@@ -144,13 +144,13 @@ pub more-ids : (x : Option FileId) (made others : List FileId) (f : FileId) → 
 more-ids None made others f h = h
 more-ids (Some g) made others f h = ap (λ (b : Bool). same_file g f || b) h
 
-more-new : (x : Option FileId) (made others : List FileId) (ds : List Done) → AreNewAlike made others ds → AreNewAlike (option_to_list x ++ made) (option_to_list x ++ others) ds
+more-new : (x : Option FileId) (made others : List FileId) (ds : List PerformedCall) → AreNewAlike made others ds → AreNewAlike (option_to_list x ++ made) (option_to_list x ++ others) ds
 more-new x made others [] h = tt
 more-new x made others (d ∷ ds) h = (λ f e. more-ids x made others f (h.0 f e), more-new x made others ds h.1)
 
 module _ (held : Holding) (server : ℕ) (who : List ℕ) where
   -- on maps that show the same where it may read, a part does the same
-  pub part-frame : (ds : List Done) (m n : Cells) (made others : List FileId) (own : Own) → AreFormed ds → AreSized (map.get m) → OpensRead (Reads held) own.opens
+  pub part-frame : (ds : List PerformedCall) (m n : Cells) (made others : List FileId) (own : Own) → AreFormed ds → AreSized (map.get m) → OpensRead (Reads held) own.opens
       → AreCovered held server (standing m made own) who ds → DoShowSame (Reads held) (map.get m) (map.get n) → AreNewAlike made others ds
       → DoesSame held server (standing m made own) (standing n others own) who ds
   part-frame [] m n made others own formed sized os c same new = record { right = λ h. tt; edits = refl; own = refl; covered = λ h. tt }
@@ -174,7 +174,7 @@ module _ (held : Holding) (server : ℕ) (who : List ℕ) where
       }
 
   -- what a part changes, its locks let it write
-  pub part-within : (ds : List Done) (m : Cells) (made : List FileId) (own : Own) → AreFormed ds → AreSized (map.get m) → OpensRead (Reads held) own.opens
+  pub part-within : (ds : List PerformedCall) (m : Cells) (made : List FileId) (own : Own) → AreFormed ds → AreSized (map.get m) → OpensRead (Reads held) own.opens
       → AreCovered held server (standing m made own) who ds → IsWithin (Writes held) (changes server (standing m made own) who ds) × AreSized (map.get (steps server (standing m made own) who ds).files)
   part-within [] m made own formed sized os c = (tt, sized)
   part-within (d ∷ ds) m made own formed sized os c =
@@ -184,12 +184,12 @@ module _ (held : Holding) (server : ℕ) (who : List ℕ) where
       (within-append (Writes held) a.edits (changes server (standing (edits_map a.edits m) (option_to_list (id_in d.reply) ++ made) a.own) who ds) fits.0 rest.0, rest.1)
 
 -- the files that a part leaves are those that its changes make
-pub files-changed : (server : ℕ) (who : List ℕ) (ds : List Done) (s : Standing) → (steps server s who ds).files ≡ edits_map (changes server s who ds) s.files
+pub files-changed : (server : ℕ) (who : List ℕ) (ds : List PerformedCall) (s : Standing) → (steps server s who ds).files ≡ edits_map (changes server s who ds) s.files
 files-changed server who [] s = refl
 files-changed server who (d ∷ ds) s =
     files-changed server who ds (step server s who d) ∙ sym (edits_map-append (answer_to server s who d).edits (changes server (step server s who d) who ds) s.files)
 
-pub made-after : (server : ℕ) (who : List ℕ) (ds : List Done) (s : Standing) → (steps server s who ds).made ≡ ids_after s.made ds
+pub made-after : (server : ℕ) (who : List ℕ) (ds : List PerformedCall) (s : Standing) → (steps server s who ds).made ≡ ids_after s.made ds
 made-after server who [] s = refl
 made-after server who (d ∷ ds) s = made-after server who ds (step server s who d)
 
@@ -206,7 +206,7 @@ all-let (n ∷ ns) = (let-one n.0 n.1, all-let ns)
     let-one (Whole f) m = λ w k e. (tt, tt)
     let-one (Leaf k) m = (λ r. tt, λ w. tt)
 
-pub steps-sized : (server : ℕ) (s : Standing) (who : List ℕ) (ds : List Done) → AreFormed ds → AreSized (map.get s.files) → AreSized (map.get (steps server s who ds).files)
+pub steps-sized : (server : ℕ) (s : Standing) (who : List ℕ) (ds : List PerformedCall) → AreFormed ds → AreSized (map.get s.files) → AreSized (map.get (steps server s who ds).files)
 steps-sized server s who [] formed sized = sized
 steps-sized server s who (d ∷ ds) formed sized =
     steps-sized server (step server s who d) who ds formed.1
@@ -216,14 +216,14 @@ steps-sized server s who (d ∷ ds) formed sized =
 -- ---- the ids that parts give
 
 -- the locks let the leaders of the new files be written
-abbrev AreIdsWritten : Holding → List Done → Type 0
-AreIdsWritten held ds = AllByRecursion (λ (d : Done). (f : FileId) → id_in d.reply ≡ Some f → Writes held (Leader f)) ds
+abbrev AreIdsWritten : Holding → List PerformedCall → Type 0
+AreIdsWritten held ds = AllByRecursion (λ (d : PerformedCall). (f : FileId) → id_in d.reply ≡ Some f → Writes held (Leader f)) ds
 
 id-written : (held : Holding) (x : Option FileId) → LetsEach (Reads held) (Writes held) (needs_made x) → (f : FileId) → x ≡ Some f → Writes held (Leader f)
 id-written held None c f e = cc
 id-written held (Some g) c f e = subst (λ (y : FileId). Writes held (Leader y)) (same-some g f e) (c.0 writes-all (Leader g) refl).1
 
-ids-written : (held : Holding) (server : ℕ) (who : List ℕ) (ds : List Done) (s : Standing) → AreCovered held server s who ds → AreIdsWritten held ds
+ids-written : (held : Holding) (server : ℕ) (who : List ℕ) (ds : List PerformedCall) (s : Standing) → AreCovered held server s who ds → AreIdsWritten held ds
 ids-written held server who [] s c = tt
 ids-written held server who (d ∷ ds) s c = (
   id-written held (id_in d.reply) (lets-left (Reads held) (Writes held) (needs_made (id_in d.reply)) (needs_of (map.get s.files) s.own d.call) (lets-each held (needs_done (map.get s.files) s.own d) c.0)),
@@ -240,22 +240,22 @@ other-id (Some g) made f apart = go (same_file g f) refl
 
 module _ (a b : Holding) (away : (k : Key) → Writes a k → Writes b k → ⊥) where
   -- what one gave is no id of the other
-  other-ids : (ds : List Done) (made : List FileId) (f : FileId) → Writes b (Leader f) → AreIdsWritten a ds → has_file f (ids_after made ds) ≡ has_file f made
+  other-ids : (ds : List PerformedCall) (made : List FileId) (f : FileId) → Writes b (Leader f) → AreIdsWritten a ds → has_file f (ids_after made ds) ≡ has_file f made
   other-ids [] made f w h = refl
   other-ids (d ∷ ds) made f w h =
       other-ids ds (option_to_list (id_in d.reply) ++ made) f w h.1
       ∙ other-id (id_in d.reply) made f (λ g e same. away (Leader f) (subst (λ (x : FileId). Writes a (Leader x)) same (h.0 g e)) w)
 
-  new-alike : (ds es : List Done) (made : List FileId) → AreIdsWritten a ds → AreIdsWritten b es → AreNewAlike (ids_after made ds) made es
+  new-alike : (ds es : List PerformedCall) (made : List FileId) → AreIdsWritten a ds → AreIdsWritten b es → AreNewAlike (ids_after made ds) made es
   new-alike ds [] made h g = tt
   new-alike ds (e ∷ es) made h g = (λ f is. other-ids ds made f (g.0 f is) h, new-alike ds es made h g.1)
 
-alike-turned : (made others : List FileId) (ds : List Done) → AreNewAlike made others ds → AreNewAlike others made ds
+alike-turned : (made others : List FileId) (ds : List PerformedCall) → AreNewAlike made others ds → AreNewAlike others made ds
 alike-turned made others [] h = tt
 alike-turned made others (d ∷ ds) h = (λ f e. sym (h.0 f e), alike-turned made others ds h.1)
 
 -- whether the calls gave the id
-gave : FileId → List Done → Bool
+gave : FileId → List PerformedCall → Bool
 gave f [] = false
 gave f (d ∷ ds) = gave f ds || has_file f (option_to_list (id_in d.reply))
 
@@ -263,7 +263,7 @@ has-append : (x : Option FileId) (made : List FileId) (f : FileId) → has_file 
 has-append None made f = refl
 has-append (Some g) made f = ap (λ (b : Bool). b || has_file f made) (sym (or-false (same_file g f)))
 
-has-after : (ds : List Done) (made : List FileId) (f : FileId) → has_file f (ids_after made ds) ≡ (gave f ds || has_file f made)
+has-after : (ds : List PerformedCall) (made : List FileId) (f : FileId) → has_file f (ids_after made ds) ≡ (gave f ds || has_file f made)
 unfolding gave
 has-after [] made f = refl
 has-after (d ∷ ds) made f =
@@ -271,7 +271,7 @@ has-after (d ∷ ds) made f =
     ∙ ap (λ (b : Bool). gave f ds || b) (has-append (id_in d.reply) made f)
     ∙ sym (or_assoc (gave f ds) (has_file f (option_to_list (id_in d.reply))) (has_file f made))
 
-ids-commute : (ds es : List Done) (made : List FileId) (f : FileId) → has_file f (ids_after (ids_after made es) ds) ≡ has_file f (ids_after (ids_after made ds) es)
+ids-commute : (ds es : List PerformedCall) (made : List FileId) (f : FileId) → has_file f (ids_after (ids_after made es) ds) ≡ has_file f (ids_after (ids_after made ds) es)
 ids-commute ds es made f =
     has-after ds (ids_after made es) f ∙ ap (λ (b : Bool). gave f ds || b) (has-after es made f)
     ∙ sym (or_assoc (gave f ds) (gave f es) (has_file f made)) ∙ ap (λ (b : Bool). b || has_file f made) (or_comm (gave f ds) (gave f es)) ∙ or_assoc (gave f es) (gave f ds) (has_file f made)
@@ -282,7 +282,7 @@ or-parts : (a b : Bool) → (a || b) ≡ false → (a ≡ false) × (b ≡ false
 or-parts true b e = cc
 or-parts false b e = (refl, e)
 
-pub none-given : (ds es : List Done) (made : List FileId) (f : FileId) → has_file f (ids_after made ds) ≡ false → has_file f (ids_after made es) ≡ false
+pub none-given : (ds es : List PerformedCall) (made : List FileId) (f : FileId) → has_file f (ids_after made ds) ≡ false → has_file f (ids_after made es) ≡ false
     → has_file f (ids_after (ids_after made ds) es) ≡ false
 none-given ds es made f h g =
     has-after es (ids_after made ds) f ∙ ap (λ (b : Bool). gave f es || b) h

@@ -9,9 +9,9 @@ use Rattle.alp_base.specs.declared.key.Resource.TheVariants.{Whole, Leaf}
 use Rattle.alp_modes.specs.declared.Mode.{Mode}
 use Rattle.alp_modes.specs.declared.Mode.TheVariants.{Read, Write}
 use Rattle.alp_modes.specs.Modes.{agree, covers_of, leaf_of}
-use Rattle.alp_modes.specs.Holdings.{Holding, join_held, agree_held, covers_held, file_of, given_to, mode_on, DoAgreeOnLeaves}
+use Rattle.alp_files.specs.Holdings.{Holding, join_held, agree_held, covers_held, file_of, given_to, mode_on, DoAgreeOnLeaves}
 use Rattle.alp_modes.proofs.ModeLemmas.{covering-order, join-least, at-each, at-both, implied, implied-is}
-use Rattle.alp_modes.proofs.HoldingLemmas.{agree-turned}
+use Rattle.alp_files.proofs.HoldingLemmas.{agree-turned}
 use Rattle.alp_files.specs.Locks.{Need, HoldsOn, HoldsEach, Reads, Writes}
 
 -- what a need lets: to write a file is to read and write each leaf of it

@@ -12,14 +12,14 @@ use Rattle.alp_files.specs.declared.cell.Cell.{Cell}
 use Rattle.alp_files.specs.Cells.{Cells, View, has_file}
 use Rattle.alp_files.specs.Edits.{Edit, Drop, Cut, Put, is_in_file, is_past, edit_at, edits_at, after, edit_map, edits_map}
 use Rattle.alp_files.specs.Born.{AreBelow}
-use Rattle.alp_files.specs.History.{Done, Standing, Decided, IsRight, step, AreRight, steps, begun, IsSerial, serial_end}
+use Rattle.alp_files.specs.History.{PerformedCall, Standing, Decided, IsRight, step, AreRight, steps, begun, IsSerial, serial_end}
 
 -- one call more
-pub AreRight-push : (server : ℕ) (s : Standing) (who : List ℕ) (ds : List Done) (d : Done) → AreRight server s who ds → IsRight server (steps server s who ds) who d → AreRight server s who (ds ++ d ∷ [])
+pub AreRight-push : (server : ℕ) (s : Standing) (who : List ℕ) (ds : List PerformedCall) (d : PerformedCall) → AreRight server s who ds → IsRight server (steps server s who ds) who d → AreRight server s who (ds ++ d ∷ [])
 AreRight-push server s who [] d h right = (right, tt)
 AreRight-push server s who (x ∷ ds) d h right = (h.0, AreRight-push server (step server s who x) who ds d h.1 right)
 
-pub steps-push : (server : ℕ) (s : Standing) (who : List ℕ) (ds : List Done) (d : Done) → steps server s who (ds ++ d ∷ []) ≡ step server (steps server s who ds) who d
+pub steps-push : (server : ℕ) (s : Standing) (who : List ℕ) (ds : List PerformedCall) (d : PerformedCall) → steps server s who (ds ++ d ∷ []) ≡ step server (steps server s who ds) who d
 steps-push server s who [] d = refl
 steps-push server s who (x ∷ ds) d = steps-push server (step server s who x) who ds d
 

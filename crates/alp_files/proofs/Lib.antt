@@ -1,5 +1,3 @@
-pub mod TreeLemmas
-pub mod PropsFieldLaw
 pub mod CellMapLemmas
 pub mod EditLemmas
 pub mod HistoryLemmas
@@ -17,4 +15,4 @@ pub mod LookLemmas
 pub mod FrameLemmas
 pub mod CoverLemmas
 pub mod SwapLemmas
-pub mod ModeFieldLaw
+pub mod HoldingLemmas

@@ -12,7 +12,7 @@ use Rattle.alp_base.specs.declared.choices.Access.TheVariants.{ReadOnly, Change}
 use Rattle.alp_modes.specs.declared.Mode.{Mode}
 use Rattle.alp_modes.specs.declared.Mode.TheVariants.{Read, Write}
 use Rattle.alp_modes.specs.Modes.{covers_of}
-use Rattle.alp_modes.specs.Holdings.{file_of}
+use Rattle.alp_files.specs.Holdings.{file_of}
 use Rattle.alp_files.specs.declared.cell.Cell.TheVariants as cell
 use Rattle.alp_files.specs.declared.cell.Props.{Props}
 use Rattle.alp_files.specs.declared.call.Call.{Call}
@@ -26,7 +26,7 @@ use Rattle.alp_files.specs.declared.refusal.ListName.TheVariants as lists
 use Rattle.alp_files.specs.declared.open.Open.{Open}
 use Rattle.alp_files.specs.Cells.{View, same_name, same_file, props_in, owner_in, page_in}
 use Rattle.alp_files.specs.Edits.{Edit, Drop, Cut, Put}
-use Rattle.alp_files.specs.Act.{Own, Answer, Look, Ask, Say, run, unless, refused, told, no_answer, is_admin, is_over, over, owner_of, props_of, open_at, opened, on_props, on_open, on_change, if_change, is_new, created_file, create_file, create_tests, charge_put, access_tests, close_file, delete_file, ask_pages, page_past, page_puts, mark_put, read_pages, write_pages, lock_pages, is_changing, set_size, cut_file, grow_file, write_props, move_file, move_tests, program}
+use Rattle.alp_files.specs.Act.{Own, Answer, Look, Ask, Say, run, unless, refused, replied, no_answer, is_admin, is_over, quota_exceeded, owner_of, props_of, open_at, opened, on_props, on_open, on_change, if_change, is_new, created_file, create_file, create_tests, charge_put, access_tests, close_file, delete_file, ask_pages, page_past, page_puts, mark_put, read_pages, write_pages, lock_pages, is_changing, set_size, cut_file, grow_file, write_props, move_file, move_tests, program}
 use Rattle.alp_files.specs.Locks.{Need, page_limit, page_needs, needs_there, needs_on_open, needs_if_change, needs_on_change, mark_needs, size_needs, change_needs, needs_of, needs_made, IsFormed}
 use Rattle.alp_files.specs.Apart.{IsWithin, DoShowSame, OpensRead, IsSized, AreSized}
 use Rattle.alp_files.proofs.BornLemmas.{props_leader}
@@ -182,12 +182,12 @@ module _ (R W : Key → Type 0) (m : View) (own : Own) (os : OpensRead R own.ope
   read-fits : (r : Run) (o : Open) (p : Props) (mode : Mode) → IsTrue (covers_of mode Read) → m (Leader o.file) ≡ Some (cell.Leader p) → LetsEach R W (page_needs o.file r.first r.count mode) → Fits R W m (read_pages own r o p)
   read-fits r o p mode reads here c = go (nat_lt p.size (r.first + r.count)) refl
     where
-      go : (b : Bool) → nat_lt p.size (r.first + r.count) ≡ b → Fits R W m (cond b (Say (refused own (refusal.NoSuchPage p.size))) (ask_pages o.file r.first r.count (λ ps. Say (told own (reply.Pages ps) []))))
+      go : (b : Bool) → nat_lt p.size (r.first + r.count) ≡ b → Fits R W m (cond b (Say (refused own (refusal.NoSuchPage p.size))) (ask_pages o.file r.first r.count (λ ps. Say (replied own (reply.Pages ps) []))))
       go true e = (tt, os, tt)
       go false e =
           let past : r.first + r.count ≤ p.size = ltb-false p.size (r.first + r.count) e in
           let small : p.size < page_limit = its-size o.file p here in
-          pages-fits o.file r.count r.first mode (λ ps. Say (told own (reply.Pages ps) [])) reads (omega (arith, past, small)) c (λ ps. (tt, os, tt))
+          pages-fits o.file r.count r.first mode (λ ps. Say (replied own (reply.Pages ps) [])) reads (omega (arith, past, small)) c (λ ps. (tt, os, tt))
 
   puts-within : (f : FileId) (pages : List (List ℕ)) (first : ℕ) → first + length pages ≤ page_limit → LetsEach R W (page_needs f first (length pages) Write) → IsWithin W (page_puts f first pages)
   puts-within f [] first low c = tt
@@ -210,7 +210,7 @@ module _ (R W : Key → Type 0) (m : View) (own : Own) (os : OpensRead R own.ope
       let mark = mark-fits o.file p (r.first + r.count) small (lets-left R W (mark_needs o.file p (r.first + r.count)) (page_needs o.file r.first r.count Write) c) in
       let row : LetsEach R W (page_needs o.file r.first (length pages) Write) =
       subst (λ n. LetsEach R W (page_needs o.file r.first n Write)) (sym full) (lets-right R W (mark_needs o.file p (r.first + r.count)) (page_needs o.file r.first r.count Write) c) in
-      unless-fits (page_past r p) (told own reply.Plain (page_puts o.file r.first pages ++ mark_put o.file p (r.first + r.count)))
+      unless-fits (page_past r p) (replied own reply.Plain (page_puts o.file r.first pages ++ mark_put o.file p (r.first + r.count)))
       (λ no. (
       let past : r.first + r.count ≤ p.size = ltb-false p.size (r.first + r.count) no.0 in (
         within-append W (page_puts o.file r.first pages) (mark_put o.file p (r.first + r.count)) (puts-within o.file pages r.first (omega (arith, past, small, full)) row) mark.0,
@@ -219,7 +219,7 @@ module _ (R W : Key → Type 0) (m : View) (own : Own) (os : OpensRead R own.ope
       )))
 
   lock-fits : (r : Run) (o : Open) (p : Props) → Fits R W m (lock_pages own r o p)
-  lock-fits r o p = unless-fits (page_past r p) (told own reply.Plain []) (λ no. (tt, os, tt))
+  lock-fits r o p = unless-fits (page_past r p) (replied own reply.Plain []) (λ no. (tt, os, tt))
 
   delete-fits : (o : Open) (p : Props) → LetsEach R W ((Whole o.file, Write) ∷ (Leaf (OwnerOf p.owner), Write) ∷ []) → Fits R W m (delete_file own o p)
   delete-fits o p c = (
@@ -233,22 +233,22 @@ module _ (R W : Key → Type 0) (m : View) (own : Own) (os : OpensRead R own.ope
       go : (same less : Bool)
           → LetsEach R W (cond same ((Leaf (Leader o.file), Write) ∷ [])
           (cond less ((Whole o.file, Write) ∷ (Leaf (OwnerOf p.owner), Write) ∷ []) ((Leaf (Leader o.file), Write) ∷ (Leaf (OwnerOf p.owner), Write) ∷ [])))
-          → Fits R W m (cond same (Say (told own reply.Plain [])) (cond less (cut_file own size o p) (grow_file own size o p)))
+          → Fits R W m (cond same (Say (replied own reply.Plain [])) (cond less (cut_file own size o p) (grow_file own size o p)))
       go true less c = (tt, os, tt)
       go false true c =
           let file : (k : Key) → file_of k ≡ Some o.file → R k × W k = c.0 writes-all in
           (c.1.0.0 writes-read, ((λ k e. (file k e).1, ((file (Leader o.file) refl).1, (c.1.0.1 writes-all, tt))), os, (small, (tt, tt))))
       go false false c = (
         c.1.0.0 writes-read,
-        unless-fits ((is_over (owner_of (m (OwnerOf p.owner))) (size - p.size), over (owner_of (m (OwnerOf p.owner))) (size - p.size)) ∷ [])
-            (told own reply.Plain (Put (Leader o.file) (cell.Leader (record p { size = size })) ∷ charge_put p.owner (owner_of (m (OwnerOf p.owner))) ((owner_of (m (OwnerOf p.owner))).charge + (size - p.size)) ∷ []))
+        unless-fits ((is_over (owner_of (m (OwnerOf p.owner))) (size - p.size), quota_exceeded (owner_of (m (OwnerOf p.owner))) (size - p.size)) ∷ [])
+            (replied own reply.Plain (Put (Leader o.file) (cell.Leader (record p { size = size })) ∷ charge_put p.owner (owner_of (m (OwnerOf p.owner))) ((owner_of (m (OwnerOf p.owner))).charge + (size - p.size)) ∷ []))
             (λ no. ((c.0.1 writes-all, (c.1.0.1 writes-all, tt)), os, (small, (tt, tt)))),
       )
 
   move-fits : (who name : List ℕ) (o : Open) (p : Props) → p.size < page_limit → LetsEach R W (change_needs (prop.Owner name) o p) → Fits R W m (move_file own who name o p)
   move-fits who name o p small c = go (same_name p.owner name)
     where
-      go : (b : Bool) → Fits R W m (cond b (Say (told own reply.Plain [])) (Ask (OwnerOf name) (λ nc. Ask (OwnerOf p.owner) (λ oc. Say (unless own (move_tests who name p.size nc) (told own reply.Plain (
+      go : (b : Bool) → Fits R W m (cond b (Say (replied own reply.Plain [])) (Ask (OwnerOf name) (λ nc. Ask (OwnerOf p.owner) (λ oc. Say (unless own (move_tests who name p.size nc) (replied own reply.Plain (
           Put (Leader o.file) (cell.Leader (record p { owner = name })) ∷ charge_put p.owner (owner_of oc) ((owner_of oc).charge - p.size)
           ∷ charge_put name (owner_of nc) ((owner_of nc).charge + p.size) ∷ [])))))))
       go true = (tt, os, tt)
@@ -310,7 +310,7 @@ module _ (R W : Key → Type 0) (m : View) (own : Own) (os : OpensRead R own.ope
       change-fits (open_at own.opens n) (size_needs size) (set_size own size) (found R own.opens n os)
       (lets-right R W (needs_made id) _ c) (λ o p here read d. size-fits size formed.1 o p d)
   program-fits server made who (call.ReadProps trans n) id formed c =
-      open-fits (open_at own.opens n) (λ o p. []) (λ o p. Say (told own (reply.Props p) [])) (found R own.opens n os) (none (open_at own.opens n)) (λ o p here read d. (tt, os, tt))
+      open-fits (open_at own.opens n) (λ o p. []) (λ o p. Say (replied own (reply.Props p) [])) (found R own.opens n os) (none (open_at own.opens n)) (λ o p here read d. (tt, os, tt))
     where
       none-there : (x : Option Props) → LetsEach R W (needs_there x (λ p. []))
       none-there None = tt
@@ -324,19 +324,19 @@ module _ (R W : Key → Type 0) (m : View) (own : Own) (os : OpensRead R own.ope
       (lets-right R W (needs_made id) _ c) (λ o p here read d. props-fits who change o p (its-size o.file p here) d)
   program-fits server made who (call.ReadOwner trans name choice) id formed c =
       let d = lets-right R W (needs_made id) ((Leaf (OwnerOf name), Read) ∷ []) c in
-      (d.0.0 reads-all, unless-fits ((not (is_some (owner_in (m (OwnerOf name)))), refusal.UnknownOwner) ∷ []) (told own (reply.Owner (owner_of (m (OwnerOf name)))) []) (λ no. (tt, os, tt)))
+      (d.0.0 reads-all, unless-fits ((not (is_some (owner_in (m (OwnerOf name)))), refusal.UnknownOwner) ∷ []) (replied own (reply.Owner (owner_of (m (OwnerOf name)))) []) (λ no. (tt, os, tt)))
   program-fits server made who (call.MakeOwner trans name quota create choice) id formed c =
       let d = lets-right R W (needs_made id) ((Leaf (OwnerOf name), Write) ∷ []) c in (
         d.0.0 writes-read,
         unless-fits ((is_some (owner_in (m (OwnerOf name))), refusal.OwnerExists) ∷ (not (is_admin who), refusal.AccessDenied lists.Admin) ∷ [])
-            (told own reply.Plain (Put (OwnerOf name) (cell.Owner (record { name = name; quota = quota; charge = 0; create = create })) ∷ []))
+            (replied own reply.Plain (Put (OwnerOf name) (cell.Owner (record { name = name; quota = quota; charge = 0; create = create })) ∷ []))
             (λ no. ((d.0.1 writes-all, tt), os, (tt, tt))),
       )
   program-fits server made who (call.SetQuota trans name quota choice) id formed c =
       let d = lets-right R W (needs_made id) ((Leaf (OwnerOf name), Write) ∷ []) c in (
         d.0.0 writes-read,
         unless-fits ((not (is_some (owner_in (m (OwnerOf name)))), refusal.UnknownOwner) ∷ (not (is_admin who), refusal.AccessDenied lists.Admin) ∷ [])
-            (told own reply.Plain (Put (OwnerOf name) (cell.Owner (record (owner_of (m (OwnerOf name))) { quota = quota })) ∷ []))
+            (replied own reply.Plain (Put (OwnerOf name) (cell.Owner (record (owner_of (m (OwnerOf name))) { quota = quota })) ∷ []))
             (λ no. ((d.0.1 writes-all, tt), os, (tt, tt))),
       )
   program-fits server made who (call.Finish trans commit) id formed c = (tt, os, tt)

@@ -28,8 +28,8 @@ use Rattle.alp_files.specs.declared.refusal.ListName.TheVariants as lists
 use Rattle.alp_files.specs.declared.open.Open.{Open}
 use Rattle.alp_files.specs.Cells.{Cells, same_name, props_in, owner_in, page_in}
 use Rattle.alp_files.specs.Edits.{Edit, Cut, Put, edit_map, edits_map}
-use Rattle.alp_files.specs.Act.{Own, Answer, Look, Ask, Say, run, unless, refused, told, no_answer, is_admin, is_over, over, owner_of, open_at, on_props, on_open, on_change, if_change, is_new, created_file, create_file, create_tests, charge_put, delete_file, ask_pages, page_past, page_puts, mark_put, read_pages, write_pages, lock_pages, is_changing, set_size, cut_file, grow_file, write_props, move_file, move_tests, make_owner, set_quota, access_tests, props_of, opened, close_file, answer, id_in}
-use Rattle.alp_files.specs.History.{Done, Standing, Decided, step, steps, begun, serial_end}
+use Rattle.alp_files.specs.Act.{Own, Answer, Look, Ask, Say, run, unless, refused, replied, no_answer, is_admin, is_over, quota_exceeded, owner_of, open_at, on_props, on_open, on_change, if_change, is_new, created_file, create_file, create_tests, charge_put, delete_file, ask_pages, page_past, page_puts, mark_put, read_pages, write_pages, lock_pages, is_changing, set_size, cut_file, grow_file, write_props, move_file, move_tests, make_owner, set_quota, access_tests, props_of, opened, close_file, answer, id_in}
+use Rattle.alp_files.specs.History.{PerformedCall, Standing, Decided, step, steps, begun, serial_end}
 use Rattle.alp_files.specs.Sound.{AreSound, HasItsPages, HaveTheirPages, IsSoundAfterEach}
 use Rattle.alp_files.proofs.HistoryLemmas.{edits_map-append, get-edit_map}
 use Rattle.alp_files.proofs.SameLemmas.{same_name-false}
@@ -128,14 +128,14 @@ module _ (m : Cells) (s : AreSound m) where
 
   keeps_pages : (own : Own) (r : Run) (o : Open) (p : Props) → Keeps m (run (map.get m) (read_pages own r o p)).edits
   keeps_pages own r o p =
-      elim (nat_lt p.size (r.first + r.count)) as (λ b. Keeps m (run (map.get m) (cond b (Say (refused own (refusal.NoSuchPage p.size))) (ask_pages o.file r.first r.count (λ ps. Say (told own (reply.Pages ps) []))))).edits) [
+      elim (nat_lt p.size (r.first + r.count)) as (λ b. Keeps m (run (map.get m) (cond b (Say (refused own (refusal.NoSuchPage p.size))) (ask_pages o.file r.first r.count (λ ps. Say (replied own (reply.Pages ps) []))))).edits) [
         | true ↦ s
-        | false ↦ keeps_read own o.file r.count r.first (λ ps. told own (reply.Pages ps) []) (λ ps. s)
+        | false ↦ keeps_read own o.file r.count r.first (λ ps. replied own (reply.Pages ps) []) (λ ps. s)
       ]
 
   keeps_write : (own : Own) (r : Run) (pages : List (List ℕ)) → length pages ≡ r.count → (o : Open) (p : Props) → map.get m (Leader o.file) ≡ Some (cell.Leader p) → Keeps m (run (map.get m) (write_pages own r pages o p)).edits
   keeps_write own r pages full o p here =
-      keeps_unless own (page_past r p) (told own reply.Plain (page_puts o.file r.first pages ++ mark_put o.file p (r.first + r.count)))
+      keeps_unless own (page_past r p) (replied own reply.Plain (page_puts o.file r.first pages ++ mark_put o.file p (r.first + r.count)))
       (λ no. (
       let past : r.first + r.count ≤ p.size = ltb-false p.size (r.first + r.count) no.0 in
       let mid : Cells = edits_map (page_puts o.file r.first pages) m in
@@ -161,8 +161,8 @@ module _ (m : Cells) (s : AreSound m) where
   keeps_grow : (own : Own) (size : ℕ) (o : Open) (p : Props) → map.get m (Leader o.file) ≡ Some (cell.Leader p) → p.size ≤ size → Keeps m (run (map.get m) (grow_file own size o p)).edits
   keeps_grow own size o p here more =
       let r : OwnerRecord = owner_of (map.get m (OwnerOf p.owner)) in
-      keeps_unless own ((is_over r (size - p.size), over r (size - p.size)) ∷ [])
-      (told own reply.Plain (Put (Leader o.file) (cell.Leader (record p { size = size })) ∷ charge_put p.owner r (r.charge + (size - p.size)) ∷ []))
+      keeps_unless own ((is_over r (size - p.size), quota_exceeded r (size - p.size)) ∷ [])
+      (replied own reply.Plain (Put (Leader o.file) (cell.Leader (record p { size = size })) ∷ charge_put p.owner r (r.charge + (size - p.size)) ∷ []))
       (λ no. sound-resize m s o.file p (record p { size = size }) r (r.charge + (size - p.size)) here refl (its-owner o.file p here)
       (λ n c is. (let low : n < p.size = below-size (map.get m) s.0 o.file p here n c is in omega (arith, low, more)))
       (omega (arith, more)))
@@ -170,7 +170,7 @@ module _ (m : Cells) (s : AreSound m) where
   keeps_size : (own : Own) (size : ℕ) (o : Open) (p : Props) → map.get m (Leader o.file) ≡ Some (cell.Leader p) → Keeps m (run (map.get m) (set_size own size o p)).edits
   keeps_size own size o p here = go (size == p.size) (nat_lt size p.size) refl
     where
-      go : (same less : Bool) → nat_lt size p.size ≡ less → Keeps m (run (map.get m) (cond same (Say (told own reply.Plain [])) (cond less (cut_file own size o p) (grow_file own size o p)))).edits
+      go : (same less : Bool) → nat_lt size p.size ≡ less → Keeps m (run (map.get m) (cond same (Say (replied own reply.Plain [])) (cond less (cut_file own size o p) (grow_file own size o p)))).edits
       go true less e = s
       go false true e = keeps_cut own size o p here (let low : size < p.size = ltb-true size p.size e in omega (arith, low))
       go false false e = keeps_grow own size o p here (ltb-false size p.size e)
@@ -178,7 +178,7 @@ module _ (m : Cells) (s : AreSound m) where
   keeps_move : (own : Own) (who name : List ℕ) (o : Open) (p : Props) → map.get m (Leader o.file) ≡ Some (cell.Leader p) → Keeps m (run (map.get m) (move_file own who name o p)).edits
   keeps_move own who name o p here = go (same_name p.owner name) refl
     where
-      go : (b : Bool) → same_name p.owner name ≡ b → Keeps m (run (map.get m) (cond b (Say (told own reply.Plain [])) (Ask (OwnerOf name) (λ nc. Ask (OwnerOf p.owner) (λ oc. Say (unless own (move_tests who name p.size nc) (told own reply.Plain (
+      go : (b : Bool) → same_name p.owner name ≡ b → Keeps m (run (map.get m) (cond b (Say (replied own reply.Plain [])) (Ask (OwnerOf name) (λ nc. Ask (OwnerOf p.owner) (λ oc. Say (unless own (move_tests who name p.size nc) (replied own reply.Plain (
           Put (Leader o.file) (cell.Leader (record p { owner = name })) ∷ charge_put p.owner (owner_of oc) ((owner_of oc).charge - p.size)
           ∷ charge_put name (owner_of nc) ((owner_of nc).charge + p.size) ∷ [])))))))).edits
       go true e = s
@@ -196,7 +196,7 @@ module _ (m : Cells) (s : AreSound m) where
   keeps_make_owner : (own : Own) (who name : List ℕ) (quota : ℕ) (create : List (List ℕ)) → Keeps m (run (map.get m) (make_owner own who name quota create)).edits
   keeps_make_owner own who name quota create = keeps_unless own
       ((is_some (owner_in (map.get m (OwnerOf name))), refusal.OwnerExists) ∷ (not (is_admin who), refusal.AccessDenied lists.Admin) ∷ [])
-      (told own reply.Plain (Put (OwnerOf name) (cell.Owner (record { name = name; quota = quota; charge = 0; create = create })) ∷ []))
+      (replied own reply.Plain (Put (OwnerOf name) (cell.Owner (record { name = name; quota = quota; charge = 0; create = create })) ∷ []))
       (λ no. sound-owner m s name (record { name = name; quota = quota; charge = 0; create = create }) refl (sym (uncharged m s name no.0)))
 
   keeps_set_quota : (own : Own) (who name : List ℕ) (quota : ℕ) → Keeps m (run (map.get m) (set_quota own who name quota)).edits
@@ -204,13 +204,13 @@ module _ (m : Cells) (s : AreSound m) where
       let r : OwnerRecord = owner_of (map.get m (OwnerOf name)) in
       keeps_unless own
       ((not (is_some (owner_in (map.get m (OwnerOf name)))), refusal.UnknownOwner) ∷ (not (is_admin who), refusal.AccessDenied lists.Admin) ∷ [])
-      (told own reply.Plain (Put (OwnerOf name) (cell.Owner (record r { quota = quota })) ∷ []))
+      (replied own reply.Plain (Put (OwnerOf name) (cell.Owner (record r { quota = quota })) ∷ []))
       (λ no. (
       let there = some-owner (map.get m (OwnerOf name)) no.0 in
       sound-owner m s name (record r { quota = quota }) (has-name (map.get m) s.0 name r there) (s.1 name r there)))
 
   keeps_lock : (own : Own) (r : Run) (o : Open) (p : Props) → Keeps m (run (map.get m) (lock_pages own r o p)).edits
-  keeps_lock own r o p = keeps_unless own (page_past r p) (told own reply.Plain []) (λ no. s)
+  keeps_lock own r o p = keeps_unless own (page_past r p) (replied own reply.Plain []) (λ no. s)
 
   keeps_delete : (own : Own) (o : Open) (p : Props) → map.get m (Leader o.file) ≡ Some (cell.Leader p) → Keeps m (run (map.get m) (delete_file own o p)).edits
   keeps_delete own o p here = sound-delete m s o.file p (owner_of (map.get m (OwnerOf p.owner))) here (its-owner o.file p here)
@@ -237,10 +237,10 @@ answers_sound m s server made who own (call.LockPages trans n r mode choice) giv
       | false ↦ keeps_open m s own (open_at own.opens n) (lock_pages own r) (λ o p here. keeps_lock m s own r o p)
     ]
 answers_sound m s server made who own (call.SetSize trans n size choice) given full = keeps_change m s own (open_at own.opens n) (set_size own size) (keeps_size m s own size)
-answers_sound m s server made who own (call.ReadProps trans n) given full = keeps_open m s own (open_at own.opens n) (λ o p. Say (told own (reply.Props p) [])) (λ o p here. s)
+answers_sound m s server made who own (call.ReadProps trans n) given full = keeps_open m s own (open_at own.opens n) (λ o p. Say (replied own (reply.Props p) [])) (λ o p here. s)
 answers_sound m s server made who own (call.WriteProps trans n change choice) given full = keeps_change m s own (open_at own.opens n) (write_props own who change) (keeps_write_props m s own who change)
 answers_sound m s server made who own (call.ReadOwner trans name choice) given full =
-    keeps_unless m s own ((not (is_some (owner_in (map.get m (OwnerOf name)))), refusal.UnknownOwner) ∷ []) (told own (reply.Owner (owner_of (map.get m (OwnerOf name)))) []) (λ no. s)
+    keeps_unless m s own ((not (is_some (owner_in (map.get m (OwnerOf name)))), refusal.UnknownOwner) ∷ []) (replied own (reply.Owner (owner_of (map.get m (OwnerOf name)))) []) (λ no. s)
 answers_sound m s server made who own (call.MakeOwner trans name quota create choice) given full = keeps_make_owner m s own who name quota create
 answers_sound m s server made who own (call.SetQuota trans name quota choice) given full = keeps_set_quota m s own who name quota
 answers_sound m s server made who own (call.Finish trans commit) given full = s
@@ -263,7 +263,7 @@ empty_sound = (
     none : (k : Key) (c : Cell) → map.get (map.empty {R = key_cmp}) k ≡ Some c → ⊥
     none k c is = let wrong : None ≡ Some c = sym (get-empty key_cmp k) ∙ is in cc
 
-pub steps_sound : (server : ℕ) (s : Standing) (who : List ℕ) (ds : List Done) → AllByRecursion (λ (d : Done). HasItsPages d.call) ds → AreSound s.files → AreSound (steps server s who ds).files
+pub steps_sound : (server : ℕ) (s : Standing) (who : List ℕ) (ds : List PerformedCall) → AllByRecursion (λ (d : PerformedCall). HasItsPages d.call) ds → AreSound s.files → AreSound (steps server s who ds).files
 steps_sound server s who [] full sound = sound
 steps_sound server s who (d ∷ ds) full sound = steps_sound server (step server s who d) who ds full.1 (answers_sound s.files sound server s.made who s.own d.call d.reply full.0)
 

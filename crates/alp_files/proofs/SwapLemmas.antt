@@ -4,11 +4,11 @@ use Rattle.std.specs.FinMap as map
 use Rattle.std.proofs.Common.{◌≡◌, ℕ, List, [], ◌∷◌, ◌++◌, refl, sym, ◌∙◌, ap, subst}
 use Rattle.alp_base.specs.declared.ids.FileId.{FileId}
 use Rattle.alp_base.specs.declared.ids.Stamp.{Stamp}
-use Rattle.alp_modes.specs.Holdings.{Holding, DoAgreeOnLeaves}
+use Rattle.alp_files.specs.Holdings.{Holding, DoAgreeOnLeaves}
 use Rattle.alp_files.specs.Cells.{Cells, has_file}
 use Rattle.alp_files.specs.Edits.{edits_map}
 use Rattle.alp_files.specs.Act.{Own, Answer, run, answer, no_opens, id_in}
-use Rattle.alp_files.specs.History.{Done, Standing, AreRight, steps, Decided, begun, IsSerial, serial_end}
+use Rattle.alp_files.specs.History.{PerformedCall, Standing, AreRight, steps, Decided, begun, IsSerial, serial_end}
 use Rattle.alp_files.specs.Locks.{AreCovered}
 use Rattle.alp_files.specs.Apart.{AreSized, AreFormed, standing, Locked, after_part, IsRightUnder, decided_as, IsLikewise}
 use Rattle.alp_files.proofs.FrameLemmas.{program-made, more-ids, parts-commute}
@@ -18,13 +18,13 @@ abbrev pub AreAlike : List FileId → List FileId → Type 0
 AreAlike made others = (f : FileId) → has_file f made ≡ has_file f others
 
 -- the same calls, after the same ids in another order
-pub record Likewise (server : ℕ) (s t : Standing) (who : List ℕ) (ds : List Done) : Type 0 where
+pub record Likewise (server : ℕ) (s t : Standing) (who : List ℕ) (ds : List PerformedCall) : Type 0 where
   pub right : AreRight server s who ds → AreRight server t who ds
   pub covered : (held : Holding) → AreCovered held server s who ds → AreCovered held server t who ds
   pub files : (steps server s who ds).files ≡ (steps server t who ds).files
   pub made : AreAlike (steps server s who ds).made (steps server t who ds).made
 
-calls-alike : (server : ℕ) (who : List ℕ) (ds : List Done) (m : Cells) (made others : List FileId) (own : Own) → AreAlike made others → Likewise server (standing m made own) (standing m others own) who ds
+calls-alike : (server : ℕ) (who : List ℕ) (ds : List PerformedCall) (m : Cells) (made others : List FileId) (own : Own) → AreAlike made others → Likewise server (standing m made own) (standing m others own) who ds
 calls-alike server who [] m made others own alike = record { right = λ h. tt; covered = λ held h. tt; files = refl; made = alike }
 calls-alike server who (d ∷ ds) m made others own alike =
     let a : Answer = answer server made (map.get m) who own d.call d.reply in
@@ -42,7 +42,7 @@ calls-alike server who (d ∷ ds) m made others own alike =
       made = rest.made;
     }
 
-pub part-alike : (server : ℕ) (who : List ℕ) (ds : List Done) (s t : Standing) → s.files ≡ t.files → AreAlike s.made t.made → Likewise server (begun s) (begun t) who ds
+pub part-alike : (server : ℕ) (who : List ℕ) (ds : List PerformedCall) (s t : Standing) → s.files ≡ t.files → AreAlike s.made t.made → Likewise server (begun s) (begun t) who ds
 part-alike server who ds s t same alike =
     subst (λ (m : Cells). Likewise server (begun s) (standing m t.made no_opens) who ds) same (calls-alike server who ds s.files s.made t.made no_opens alike)
 

@@ -53,8 +53,8 @@ run m (Say a) = a
 abbrev pub refused : Own → Refusal → Answer
 refused own r = record { reply = Some (reply.Refused r); edits = []; own = own }
 
-abbrev pub told : Own → Reply → List Edit → Answer
-told own r es = record { reply = Some r; edits = es; own = own }
+abbrev pub replied : Own → Reply → List Edit → Answer
+replied own r es = record { reply = Some r; edits = es; own = own }
 
 abbrev pub no_answer : Own → Answer
 no_answer own = record { reply = None; edits = []; own = own }
@@ -77,8 +77,8 @@ is_admin who = same_name who (codes "Admin")
 abbrev pub is_over : OwnerRecord → ℕ → Bool
 is_over o asked = nat_lt 0 asked && nat_lt o.quota (o.charge + asked)
 
-abbrev pub over : OwnerRecord → ℕ → Refusal
-over o asked = refusal.QuotaExceeded o.charge asked o.quota
+abbrev pub quota_exceeded : OwnerRecord → ℕ → Refusal
+quota_exceeded o asked = refusal.QuotaExceeded o.charge asked o.quota
 
 -- the owner's cell with another charge
 abbrev pub charge_put : List ℕ → OwnerRecord → ℕ → Edit
@@ -136,7 +136,7 @@ abbrev pub create_tests : List ℕ → Props → Option Cell → List (Bool × R
 create_tests who start oc =
     (not (is_some (owner_in oc)), refusal.UnknownOwner)
     ∷ (not (admits (owner_of oc).create who start.owner), refusal.AccessDenied lists.Create)
-    ∷ (is_over (owner_of oc) start.size, over (owner_of oc) start.size) ∷ []
+    ∷ (is_over (owner_of oc) start.size, quota_exceeded (owner_of oc) start.size) ∷ []
 
 -- a new id is of this server, no leader, and was given to no earlier file
 abbrev pub is_new : ℕ → List FileId → FileId → Option Cell → Bool
@@ -186,7 +186,7 @@ ask_pages f first (suc n) next = Ask (PageOf f first) (λ c. ask_pages f (first 
 abbrev pub read_pages : Own → Run → Open → Props → Look
 read_pages own r o p =
     if nat_lt p.size (r.first + r.count) then Say (refused own (refusal.NoSuchPage p.size))
-    else ask_pages o.file r.first r.count (λ ps. Say (told own (reply.Pages ps) []))
+    else ask_pages o.file r.first r.count (λ ps. Say (replied own (reply.Pages ps) []))
 
 abbrev pub page_puts : FileId → ℕ → List (List ℕ) → List Edit
 page_puts f first [] = []
@@ -198,10 +198,10 @@ mark_put f p last = if nat_lt p.high_water last then Put (Leader f) (cell.Leader
 
 abbrev pub write_pages : Own → Run → List (List ℕ) → Open → Props → Look
 write_pages own r pages o p =
-    Say (unless own (page_past r p) (told own reply.Plain (page_puts o.file r.first pages ++ mark_put o.file p (r.first + r.count))))
+    Say (unless own (page_past r p) (replied own reply.Plain (page_puts o.file r.first pages ++ mark_put o.file p (r.first + r.count))))
 
 abbrev pub lock_pages : Own → Run → Open → Props → Look
-lock_pages own r o p = Say (unless own (page_past r p) (told own reply.Plain []))
+lock_pages own r o p = Say (unless own (page_past r p) (replied own reply.Plain []))
 
 -- the modes of a run that need an open for change
 abbrev pub is_changing : Mode → Bool
@@ -215,34 +215,34 @@ is_changing mode.Write = true
 -- ---- SetSize
 
 abbrev pub cut_file : Own → ℕ → Open → Props → Look
-cut_file own size o p = Ask (OwnerOf p.owner) (λ oc. Say (told own reply.Plain (
+cut_file own size o p = Ask (OwnerOf p.owner) (λ oc. Say (replied own reply.Plain (
     Cut o.file size ∷ Put (Leader o.file) (cell.Leader (record p { size = size; high_water = min p.high_water size }))
     ∷ charge_put p.owner (owner_of oc) ((owner_of oc).charge - (p.size - size)) ∷ [])))
 
 abbrev pub grow_file : Own → ℕ → Open → Props → Look
-grow_file own size o p = Ask (OwnerOf p.owner) (λ oc. Say (unless own ((is_over (owner_of oc) (size - p.size), over (owner_of oc) (size - p.size)) ∷ []) (told own reply.Plain (
+grow_file own size o p = Ask (OwnerOf p.owner) (λ oc. Say (unless own ((is_over (owner_of oc) (size - p.size), quota_exceeded (owner_of oc) (size - p.size)) ∷ []) (replied own reply.Plain (
     Put (Leader o.file) (cell.Leader (record p { size = size })) ∷ charge_put p.owner (owner_of oc) ((owner_of oc).charge + (size - p.size)) ∷ []))))
 
 abbrev pub set_size : Own → ℕ → Open → Props → Look
 set_size own size o p =
-    if size == p.size then Say (told own reply.Plain []) else if nat_lt size p.size then cut_file own size o p else grow_file own size o p
+    if size == p.size then Say (replied own reply.Plain []) else if nat_lt size p.size then cut_file own size o p else grow_file own size o p
 
 -- ---- ReadProps and WriteProps
 
 abbrev pub put_props : Own → Open → Props → Look
-put_props own o p = Say (told own reply.Plain (Put (Leader o.file) (cell.Leader p) ∷ []))
+put_props own o p = Say (replied own reply.Plain (Put (Leader o.file) (cell.Leader p) ∷ []))
 
 abbrev pub move_tests : List ℕ → List ℕ → ℕ → Option Cell → List (Bool × Refusal)
 move_tests who name size nc =
     (not (is_some (owner_in nc)), refusal.UnknownOwner)
     ∷ (not (admits (owner_of nc).create who name), refusal.AccessDenied lists.Create)
-    ∷ (is_over (owner_of nc) size, over (owner_of nc) size) ∷ []
+    ∷ (is_over (owner_of nc) size, quota_exceeded (owner_of nc) size) ∷ []
 
 -- to another owner the charge moves; to the same one nothing changes
 abbrev pub move_file : Own → List ℕ → List ℕ → Open → Props → Look
 move_file own who name o p =
-    if same_name p.owner name then Say (told own reply.Plain [])
-    else Ask (OwnerOf name) (λ nc. Ask (OwnerOf p.owner) (λ oc. Say (unless own (move_tests who name p.size nc) (told own reply.Plain (
+    if same_name p.owner name then Say (replied own reply.Plain [])
+    else Ask (OwnerOf name) (λ nc. Ask (OwnerOf p.owner) (λ oc. Say (unless own (move_tests who name p.size nc) (replied own reply.Plain (
     Put (Leader o.file) (cell.Leader (record p { owner = name })) ∷ charge_put p.owner (owner_of oc) ((owner_of oc).charge - p.size)
     ∷ charge_put name (owner_of nc) ((owner_of nc).charge + p.size) ∷ [])))))
 
@@ -257,17 +257,17 @@ write_props own who (prop.Modify l) o p = put_props own o (record p { modify = l
 -- ---- owners
 
 abbrev pub read_owner : Own → List ℕ → Look
-read_owner own name = Ask (OwnerOf name) (λ oc. Say (unless own ((not (is_some (owner_in oc)), refusal.UnknownOwner) ∷ []) (told own (reply.Owner (owner_of oc)) [])))
+read_owner own name = Ask (OwnerOf name) (λ oc. Say (unless own ((not (is_some (owner_in oc)), refusal.UnknownOwner) ∷ []) (replied own (reply.Owner (owner_of oc)) [])))
 
 abbrev pub make_owner : Own → List ℕ → List ℕ → ℕ → List (List ℕ) → Look
 make_owner own who name quota create = Ask (OwnerOf name) (λ oc. Say (unless own
     ((is_some (owner_in oc), refusal.OwnerExists) ∷ (not (is_admin who), refusal.AccessDenied lists.Admin) ∷ [])
-    (told own reply.Plain (Put (OwnerOf name) (cell.Owner (record { name = name; quota = quota; charge = 0; create = create })) ∷ []))))
+    (replied own reply.Plain (Put (OwnerOf name) (cell.Owner (record { name = name; quota = quota; charge = 0; create = create })) ∷ []))))
 
 abbrev pub set_quota : Own → List ℕ → List ℕ → ℕ → Look
 set_quota own who name quota = Ask (OwnerOf name) (λ oc. Say (unless own
     ((not (is_some (owner_in oc)), refusal.UnknownOwner) ∷ (not (is_admin who), refusal.AccessDenied lists.Admin) ∷ [])
-    (told own reply.Plain (Put (OwnerOf name) (cell.Owner (record (owner_of oc) { quota = quota })) ∷ []))))
+    (replied own reply.Plain (Put (OwnerOf name) (cell.Owner (record (owner_of oc) { quota = quota })) ∷ []))))
 
 -- ---- all calls
 
@@ -291,7 +291,7 @@ program server made who own (call.WritePages trans n r pages choice) id = on_cha
 program server made who own (call.LockPages trans n r m choice) id =
     if is_changing m then on_change own (open_at own.opens n) (lock_pages own r) else on_open own (open_at own.opens n) (lock_pages own r)
 program server made who own (call.SetSize trans n size choice) id = on_change own (open_at own.opens n) (set_size own size)
-program server made who own (call.ReadProps trans n) id = on_open own (open_at own.opens n) (λ o p. Say (told own (reply.Props p) []))
+program server made who own (call.ReadProps trans n) id = on_open own (open_at own.opens n) (λ o p. Say (replied own (reply.Props p) []))
 program server made who own (call.WriteProps trans n change choice) id = on_change own (open_at own.opens n) (write_props own who change)
 program server made who own (call.ReadOwner trans name choice) id = read_owner own name
 program server made who own (call.MakeOwner trans name quota create choice) id = make_owner own who name quota create

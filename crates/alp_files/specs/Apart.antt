@@ -6,14 +6,14 @@ use Rattle.alp_base.specs.declared.ids.FileId.{FileId}
 use Rattle.alp_base.specs.declared.ids.Stamp.{Stamp}
 use Rattle.alp_base.specs.declared.key.Key.{Key}
 use Rattle.alp_base.specs.declared.key.Key.TheVariants.{Leader}
-use Rattle.alp_modes.specs.Holdings.{Holding, file_of}
+use Rattle.alp_files.specs.Holdings.{Holding, file_of}
 use Rattle.alp_files.specs.declared.cell.Cell.{Cell}
 use Rattle.alp_files.specs.declared.cell.Cell.TheVariants as cell
 use Rattle.alp_files.specs.declared.open.Open.{Open}
 use Rattle.alp_files.specs.Cells.{Cells, View, has_file}
 use Rattle.alp_files.specs.Edits.{Edit, Drop, Cut, Put}
 use Rattle.alp_files.specs.Act.{Own, id_in}
-use Rattle.alp_files.specs.History.{Done, Standing, Decided, answer_to, step, AreRight, steps, begun, IsSerial, serial_end}
+use Rattle.alp_files.specs.History.{PerformedCall, Standing, Decided, answer_to, step, AreRight, steps, begun, IsSerial, serial_end}
 use Rattle.alp_files.specs.Locks.{page_limit, IsFormed, AreCovered}
 
 -- the changes are of places where W holds; a file that goes or is cut may change anywhere
@@ -41,23 +41,23 @@ abbrev pub AreSized : View → Type 0
 AreSized m = (k : Key) (c : Cell) → m k ≡ Some c → IsSized c
 
 -- all that the calls change
-abbrev pub changes : ℕ → Standing → List ℕ → List Done → List Edit
+abbrev pub changes : ℕ → Standing → List ℕ → List PerformedCall → List Edit
 changes server s who [] = []
 changes server s who (d ∷ ds) = (answer_to server s who d).edits ++ changes server (step server s who d) who ds
 
 -- the ids that the calls gave to files, the last one first, and those given before
-abbrev pub ids_after : List FileId → List Done → List FileId
+abbrev pub ids_after : List FileId → List PerformedCall → List FileId
 ids_after made [] = made
 ids_after made (d ∷ ds) = ids_after (option_to_list (id_in d.reply) ++ made) ds
 
 -- of the ids that these calls give, the same were given before
-abbrev pub AreNewAlike : List FileId → List FileId → List Done → Type 0
-AreNewAlike made others ds = AllByRecursion (λ (d : Done). (f : FileId) → id_in d.reply ≡ Some f → has_file f made ≡ has_file f others) ds
+abbrev pub AreNewAlike : List FileId → List FileId → List PerformedCall → Type 0
+AreNewAlike made others ds = AllByRecursion (λ (d : PerformedCall). (f : FileId) → id_in d.reply ≡ Some f → has_file f made ≡ has_file f others) ds
 
 -- ---- parts under their locks
 
-abbrev pub AreFormed : List Done → Type 0
-AreFormed ds = AllByRecursion (λ (d : Done). IsFormed d.call) ds
+abbrev pub AreFormed : List PerformedCall → Type 0
+AreFormed ds = AllByRecursion (λ (d : PerformedCall). IsFormed d.call) ds
 
 -- a thread that stands so
 abbrev pub standing : Cells → List FileId → Own → Standing
@@ -65,7 +65,7 @@ standing files made own = record { files = files; made = made; own = own }
 
 -- where one thread got each reply to these calls, so does the other; their changes and their opens are the same, and
 -- what is held covers the locks of the other's too
-pub record DoesSame (held : Holding) (server : ℕ) (one other : Standing) (who : List ℕ) (ds : List Done) : Type 0 where
+pub record DoesSame (held : Holding) (server : ℕ) (one other : Standing) (who : List ℕ) (ds : List PerformedCall) : Type 0 where
   pub right : AreRight server one who ds → AreRight server other who ds
   pub edits : changes server one who ds ≡ changes server other who ds
   pub own : (steps server one who ds).own ≡ (steps server other who ds).own
@@ -74,7 +74,7 @@ pub record DoesSame (held : Holding) (server : ℕ) (one other : Standing) (who 
 -- a transaction's part: its principal, its calls with their replies, and the locks that it holds at last
 pub record Locked : Type 0 where
   pub who : List ℕ
-  pub calls : List Done
+  pub calls : List PerformedCall
   pub held : Holding
 
 abbrev pub after_part : ℕ → Standing → Locked → Standing

@@ -11,7 +11,7 @@ use Rattle.alp_files.specs.Edits.{edits_map}
 use Rattle.alp_files.specs.Act.{Own, no_opens, Answer, answer, id_in}
 
 -- a call and the reply that was given to it
-pub record Done : Type 0 where
+pub record PerformedCall : Type 0 where
   pub call : Call
   pub reply : Reply
 
@@ -21,25 +21,25 @@ pub record Standing : Type 0 where
   pub made : List FileId
   pub own : Own
 
-abbrev pub answer_to : ℕ → Standing → List ℕ → Done → Answer
+abbrev pub answer_to : ℕ → Standing → List ℕ → PerformedCall → Answer
 answer_to server s who d = answer server s.made (map.get s.files) who s.own d.call d.reply
 
 -- the reply that was given is the right one
-abbrev pub IsRight : ℕ → Standing → List ℕ → Done → Type 0
+abbrev pub IsRight : ℕ → Standing → List ℕ → PerformedCall → Type 0
 IsRight server s who d = (answer_to server s who d).reply ≡ Some d.reply
 
-abbrev pub step : ℕ → Standing → List ℕ → Done → Standing
+abbrev pub step : ℕ → Standing → List ℕ → PerformedCall → Standing
 step server s who d = record {
   files = edits_map (answer_to server s who d).edits s.files;
   made = option_to_list (id_in d.reply) ++ s.made;
   own = (answer_to server s who d).own;
 }
 
-abbrev pub AreRight : ℕ → Standing → List ℕ → List Done → Type 0
+abbrev pub AreRight : ℕ → Standing → List ℕ → List PerformedCall → Type 0
 AreRight server s who [] = Unit {0}
 AreRight server s who (d ∷ ds) = IsRight server s who d × AreRight server (step server s who d) who ds
 
-abbrev pub steps : ℕ → Standing → List ℕ → List Done → Standing
+abbrev pub steps : ℕ → Standing → List ℕ → List PerformedCall → Standing
 steps server s who [] = s
 steps server s who (d ∷ ds) = steps server (step server s who d) who ds
 
@@ -47,7 +47,7 @@ steps server s who (d ∷ ds) = steps server (step server s who d) who ds
 pub record Decided : Type 0 where
   pub stamp : Stamp
   pub who : List ℕ
-  pub calls : List Done
+  pub calls : List PerformedCall
 
 -- at its begin a transaction has no opens
 abbrev pub begun : Standing → Standing

@@ -1,4 +1,3 @@
-pub mod PropsField
 pub mod Cells
 pub mod Edits
 pub mod Undo
@@ -13,4 +12,5 @@ pub mod Apart
 pub mod Built
 pub mod Born
 pub mod Passing
-pub mod ModeField
+pub mod Holdings
+pub mod Changes

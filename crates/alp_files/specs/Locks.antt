@@ -13,7 +13,7 @@ use Rattle.alp_base.specs.declared.choices.Access.TheVariants.{ReadOnly, Change}
 use Rattle.alp_modes.specs.declared.Mode.{Mode}
 use Rattle.alp_modes.specs.declared.Mode.TheVariants.{Read, Write}
 use Rattle.alp_modes.specs.Modes.{covers_of}
-use Rattle.alp_modes.specs.Holdings.{Holding, join_held, covers_held, held_by, file_of, given_to, mode_on, intention_of}
+use Rattle.alp_files.specs.Holdings.{Holding, join_held, covers_held, held_by, file_of, given_to, mode_on, intention_of}
 use Rattle.alp_files.specs.declared.cell.Props.{Props}
 use Rattle.alp_files.specs.declared.call.Call.{Call}
 use Rattle.alp_files.specs.declared.call.Call.TheVariants as call
@@ -22,7 +22,7 @@ use Rattle.alp_files.specs.declared.call.PropChange.TheVariants as prop
 use Rattle.alp_files.specs.declared.open.Open.{Open}
 use Rattle.alp_files.specs.Cells.{View, props_in}
 use Rattle.alp_files.specs.Act.{Own, open_at, is_changing, id_in}
-use Rattle.alp_files.specs.History.{Done, Standing, step}
+use Rattle.alp_files.specs.History.{PerformedCall, Standing, step}
 use Rattle.alp_files.specs.Sound.{HasItsPages}
 
 -- a resource and the mode in which it is to be held
@@ -96,7 +96,7 @@ needs_made None = []
 needs_made (Some f) = (Whole f, Write) ∷ []
 
 -- the locks that a part holds when it was given this reply to the call
-abbrev pub needs_done : View → Own → Done → List Need
+abbrev pub needs_done : View → Own → PerformedCall → List Need
 needs_done m own d = needs_made (id_in d.reply) ++ needs_of m own d.call
 
 -- ---- what is asked for them, and what is held then
@@ -163,7 +163,7 @@ abbrev pub IsMore : Holding → Holding → Type 0
 IsMore a b = (r : Resource) (m : Mode) → IsTrue (covers_held (a r) m) → IsTrue (covers_held (b r) m)
 
 -- what is held covers the locks of each of these calls, where it was performed
-abbrev pub AreCovered : Holding → ℕ → Standing → List ℕ → List Done → Type 0
+abbrev pub AreCovered : Holding → ℕ → Standing → List ℕ → List PerformedCall → Type 0
 AreCovered held server s who [] = Unit {0}
 AreCovered held server s who (d ∷ ds) = HoldsEach held (needs_done (map.get s.files) s.own d) × AreCovered held server (step server s who d) who ds
 

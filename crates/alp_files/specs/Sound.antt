@@ -6,7 +6,7 @@ use Rattle.alp_files.specs.declared.call.Call.{Call}
 use Rattle.alp_files.specs.declared.call.Call.TheVariants as call
 use Rattle.alp_files.specs.Cells.{Cells}
 use Rattle.alp_files.specs.Files.{AreFiles, AreCharged}
-use Rattle.alp_files.specs.History.{Done, Standing, Decided, begun, steps}
+use Rattle.alp_files.specs.History.{PerformedCall, Standing, Decided, begun, steps}
 
 -- well-formed files, whose owners' records hold their charges
 abbrev pub AreSound : Cells → Type 0
@@ -19,7 +19,7 @@ HasItsPages _ = Unit {0}
 
 -- the writes of these transactions do
 abbrev pub HaveTheirPages : List Decided → Type 0
-HaveTheirPages decided = AllByRecursion (λ d. AllByRecursion (λ (c : Done). HasItsPages c.call) d.calls) decided
+HaveTheirPages decided = AllByRecursion (λ d. AllByRecursion (λ (c : PerformedCall). HasItsPages c.call) d.calls) decided
 
 -- the files are sound after each transaction
 abbrev pub IsSoundAfterEach : ℕ → Standing → List Decided → Type 0

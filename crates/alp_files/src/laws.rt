@@ -8,8 +8,8 @@ ghost use Rattle.alp_files.specs.declared.reply.Reply.{Reply};
 ghost use Rattle.alp_files.specs.Cells.{Cells, View};
 ghost use Rattle.alp_files.specs.Edits.{edits_map};
 ghost use Rattle.alp_files.specs.Act.{Own, answer, id_in};
-ghost use Rattle.alp_files.specs.History.{Standing, Done, Decided, begun, IsSerial, serial_end, steps};
-ghost use Rattle.alp_modes.specs.Holdings.{Holding, IsIntended, DoAgreeOnLeaves};
+ghost use Rattle.alp_files.specs.History.{Standing, PerformedCall, Decided, begun, IsSerial, serial_end, steps};
+ghost use Rattle.alp_files.specs.Holdings.{Holding, IsIntended, DoAgreeOnLeaves};
 ghost use Rattle.alp_files.specs.Locks.{Need, Reads, Writes, HoldsEach, IsMore, granted, with_made, needs_of, needs_done, AreCovered};
 ghost use Rattle.alp_files.specs.Apart.{IsWithin, DoShowSame, OpensRead, AreSized, AreNewAlike, AreFormed, changes, standing, DoesSame, Locked, after_part, IsRightUnder, DoCommute, decided_as};
 ghost use Rattle.alp_files.specs.Sound.{AreSound, HasItsPages, HaveTheirPages, IsSoundAfterEach};
@@ -40,14 +40,14 @@ pub fn histories_keep_files_sound()
 /// same changes (`frame`), and all its changes are of places that it may write (`change`). Of the
 /// ids that it gives, the same must have been given before.
 pub fn calls_keep_to_their_locks()
-    ensures frame { (held : Holding) (server : ℕ) (who : List ℕ) (ds : List Done) (m n : Cells) (made others : List FileId) (own : Own)
+    ensures frame { (held : Holding) (server : ℕ) (who : List ℕ) (ds : List PerformedCall) (m n : Cells) (made others : List FileId) (own : Own)
         → AreFormed ds → AreSized (map.get m) → OpensRead (Reads held) own.opens → AreCovered held server (standing m made own) who ds
         → DoShowSame (Reads held) (map.get m) (map.get n) → AreNewAlike made others ds
         → DoesSame held server (standing m made own) (standing n others own) who ds }
-    ensures change { (held : Holding) (server : ℕ) (who : List ℕ) (ds : List Done) (m : Cells) (made : List FileId) (own : Own)
+    ensures change { (held : Holding) (server : ℕ) (who : List ℕ) (ds : List PerformedCall) (m : Cells) (made : List FileId) (own : Own)
         → AreFormed ds → AreSized (map.get m) → OpensRead (Reads held) own.opens → AreCovered held server (standing m made own) who ds
         → IsWithin (Writes held) (changes server (standing m made own) who ds) × AreSized (map.get (steps server (standing m made own) who ds).files) }
-    ensures files { (server : ℕ) (who : List ℕ) (ds : List Done) (s : Standing) → (steps server s who ds).files ≡ edits_map (changes server s who ds) s.files }
+    ensures files { (server : ℕ) (who : List ℕ) (ds : List PerformedCall) (s : Standing) → (steps server s who ds).files ≡ edits_map (changes server s who ds) s.files }
 {}
 
 /// Two transactions' parts whose locks agree on each place may go in either order: each reply stays
@@ -71,12 +71,12 @@ pub fn grants_cover_needs()
     ensures needs { (held : Holding) (ns : List Need) → HoldsEach (granted held ns) ns }
     ensures more { (held : Holding) (ns : List Need) → IsMore held (granted held ns) }
     ensures intended { (held : Holding) (ns : List Need) → IsIntended held → IsIntended (granted held ns) }
-    ensures made { (held : Holding) (m : View) (own : Own) (d : Done) → HoldsEach held (needs_of m own d.call) → HoldsEach (with_made held (id_in d.reply)) (needs_done m own d) }
+    ensures made { (held : Holding) (m : View) (own : Own) (d : PerformedCall) → HoldsEach held (needs_of m own d.call) → HoldsEach (with_made held (id_in d.reply)) (needs_done m own d) }
     ensures made_more { (held : Holding) (id : Option FileId) → IsMore held (with_made held id) }
     ensures made_intended { (held : Holding) (id : Option FileId) → IsIntended held → IsIntended (with_made held id) }
 {}
 
 /// Sizes stay numbers of pages, whatever locks are held.
 pub fn acts_keep_sizes()
-    ensures { (server : ℕ) (s : Standing) (who : List ℕ) (ds : List Done) → AreFormed ds → AreSized (map.get s.files) → AreSized (map.get (steps server s who ds).files) }
+    ensures { (server : ℕ) (s : Standing) (who : List ℕ) (ds : List PerformedCall) → AreFormed ds → AreSized (map.get s.files) → AreSized (map.get (steps server s who ds).files) }
 {}

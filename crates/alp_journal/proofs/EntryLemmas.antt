@@ -6,8 +6,8 @@ use Rattle.std.proofs.Common.{inl, inr, ◌≡◌, ℕ, ◌+◌, ◌<◌, List, 
 use Rattle.alp_base.specs.declared.ids.FileId.{FileId}
 use Rattle.alp_base.specs.declared.ids.TransId.{TransId}
 use Rattle.alp_base.specs.declared.ids.Stamp.{Stamp}
-use Rattle.alp_modes.specs.Holdings.{DoAgree}
-use Rattle.alp_modes.proofs.HoldingLemmas.{agree-turned}
+use Rattle.alp_files.specs.Holdings.{DoAgree}
+use Rattle.alp_files.proofs.HoldingLemmas.{agree-turned}
 use Rattle.alp_files.specs.declared.call.Call.{Call}
 use Rattle.alp_files.specs.declared.call.Call.TheVariants as call
 use Rattle.alp_files.specs.declared.reply.Reply.{Reply}
@@ -19,7 +19,7 @@ use Rattle.alp_files.specs.Passing.{is_passing, IsFileReply}
 use Rattle.alp_files.specs.Cells.{has_file}
 use Rattle.alp_files.specs.Edits.{edits_map}
 use Rattle.alp_files.specs.Act.{no_opens, id_in}
-use Rattle.alp_files.specs.History.{Done, Decided}
+use Rattle.alp_files.specs.History.{PerformedCall, Decided}
 use Rattle.alp_files.specs.Locks.{needs_of, with_made, HoldsEach, IsFormed}
 use Rattle.alp_files.proofs.CoverLemmas.{granted-holds}
 use Rattle.alp_files.proofs.FilesLemmas.{same-some}
@@ -65,7 +65,7 @@ waits_still : (s : State) (client : ℕ) → IsQuiet s → ◌≡◌ {A = ℕ �
 waits_still s client q = (λ i c. cond {A = Option Waiting} (c == client) (q.idle client i) (s.waiting c)) ∙ waits_not s client q
 
 -- an entry that performs no file call
-none_done : (s : State) (e : Event) (b : Bool) → PerformsRight s e (cond {A = Option (TransId × Done)} b None None)
+none_done : (s : State) (e : Event) (b : Bool) → PerformsRight s e (cond {A = Option (TransId × PerformedCall)} b None None)
 none_done s e true = tt
 none_done s e false = tt
 
@@ -135,17 +135,17 @@ module _ (s : State) (client number : ℕ) (w : Session) where
 
   -- which call an entry of the session performs
   performs_so : (c : Call) (r : Reply) → s.sessions client ≡ Some w → kind_of c ≡ Plain
-      → performs s (event.Call client s.epoch number c) (Some r) ≡ cond {A = Option (TransId × Done)} (is_new s (Some w) s.epoch number) (done_by s c r (file_trans c)) None
+      → performs s (event.Call client s.epoch number c) (Some r) ≡ cond {A = Option (TransId × PerformedCall)} (is_new s (Some w) s.epoch number) (done_by s c r (file_trans c)) None
   performs_so c r is plain =
-      ap (λ (x : Option Session). cond {A = Option (TransId × Done)} (is_new s x s.epoch number) (done_of s r (answered (s.waiting client) c (kind_of c))) None) is
-      ∙ ap (λ (k : Kind). cond {A = Option (TransId × Done)} (is_new s (Some w) s.epoch number) (done_of s r (answered (s.waiting client) c k)) None) plain
+      ap (λ (x : Option Session). cond {A = Option (TransId × PerformedCall)} (is_new s x s.epoch number) (done_of s r (answered (s.waiting client) c (kind_of c))) None) is
+      ∙ ap (λ (k : Kind). cond {A = Option (TransId × PerformedCall)} (is_new s (Some w) s.epoch number) (done_of s r (answered (s.waiting client) c k)) None) plain
 
   passing_right : (c : Call) (r : Reply) → s.sessions client ≡ Some w → kind_of c ≡ Plain → done_by s c r (file_trans c) ≡ None
       → PerformsRight s (event.Call client s.epoch number c) (performs s (event.Call client s.epoch number c) (Some r))
   passing_right c r is plain none =
       let e : Event = event.Call client s.epoch number c in
       let b : Bool = is_new s (Some w) s.epoch number in
-      subst (PerformsRight s e) (sym (performs_so c r is plain ∙ ap (λ (x : Option (TransId × Done)). cond {A = Option (TransId × Done)} b x None) none)) (none_done s e b)
+      subst (PerformsRight s e) (sym (performs_so c r is plain ∙ ap (λ (x : Option (TransId × PerformedCall)). cond {A = Option (TransId × PerformedCall)} b x None) none)) (none_done s e b)
 
   pub passing_leads : (c : Call) (f : Refusal) → IsQuiet s → s.sessions client ≡ Some w → number ≡ w.last + 1 → kind_of c ≡ Plain → is_not_yet (reply.Refused f) ≡ false
       → done_by s c (reply.Refused f) (file_trans c) ≡ None → ended_at s client s.epoch number c (reply.Refused f) ≡ [] → Leads s (call_entry c (reply.Refused f) []) counts_on
@@ -174,7 +174,7 @@ module _ (s : State) (client number : ℕ) (w : Session) where
       ap (λ (z : State). after_event z e.event e.reply) there ∙ called-next x client s.epoch number w c r (file_trans c) is refl turn plain now refl ∙ ap (with_done y) none
       ∙ (λ i. record m { waiting = waits_still s client q i }) in
       let right : PerformsRight x e.event (performs x e.event (Some r)) =
-      subst (PerformsRight x e.event) (sym (performs_so c r is plain ∙ ap (λ (z : Option (TransId × Done)). cond {A = Option (TransId × Done)} (is_new s (Some w) s.epoch number) z None) none)) (none_done x e.event (is_new s (Some w) s.epoch number)) in
+      subst (PerformsRight x e.event) (sym (performs_so c r is plain ∙ ap (λ (z : Option (TransId × PerformedCall)). cond {A = Option (TransId × PerformedCall)} (is_new s (Some w) s.epoch number) z None) none)) (none_done x e.event (is_new s (Some w) s.epoch number)) in
       lawful_so s e m leaves (record { agree = q.agree; idle = q.idle }) tt
       (subst (Along (after_act e.event) Decides s) (sym none_brought) tt)
       (subst (λ (z : State). PerformsRight z e.event (performs z e.event (Some r))) (sym there) right)
@@ -251,7 +251,7 @@ module _ (s : State) (client number : ℕ) (w : Session) where
   -- ---- a file call is performed
 
   module _ (t : TransId) (l : Life) (c : Call) (r : Reply) where
-    abbrev pub done : Done
+    abbrev pub done : PerformedCall
     done = record { call = c; reply = r }
 
     abbrev pub done_life : Life

@@ -11,7 +11,7 @@ use Rattle.std.proofs.Common.{◌≡◌, ℕ, ◌<◌, ◌≤◌, List, [], ◌�
 use Rattle.alp_base.specs.declared.ids.Stamp.{Stamp}
 use Rattle.alp_base.specs.declared.ids.TransId.{TransId}
 use Rattle.alp_base.specs.contracts.ids.TransIdOrd.TheImpl as trans_ord
-use Rattle.alp_modes.specs.Holdings.{Holding, DoAgreeOnLeaves}
+use Rattle.alp_files.specs.Holdings.{Holding, DoAgreeOnLeaves}
 use Rattle.alp_files.specs.History.{Standing, Decided, IsSerial, serial_end}
 use Rattle.alp_files.specs.Apart.{AreSized, Locked, after_part, IsRightUnder, DoCommute, decided_as}
 use Rattle.alp_files.proofs.HeldLemmas.{leaves-turned}

@@ -5,12 +5,12 @@ use Rattle.std.specs.Option.{option_to_list}
 use Rattle.std.specs.FinMap as map
 use Rattle.std.proofs.Common.{◌≡◌, ℕ, List, [], ◌∷◌, ◌++◌, refl, sym, ap, subst, ◌∙◌, inl}
 use Rattle.alp_base.specs.declared.ids.FileId.{FileId}
-use Rattle.alp_modes.specs.Holdings.{Holding, DoAgree, DoAgreeOnLeaves, IsIntended}
-use Rattle.alp_modes.proofs.HoldingLemmas.{agreement-of-leaves}
+use Rattle.alp_files.specs.Holdings.{Holding, DoAgree, DoAgreeOnLeaves, IsIntended}
+use Rattle.alp_files.proofs.HoldingLemmas.{agreement-of-leaves}
 use Rattle.alp_files.specs.Cells.{Cells, same_file, has_file}
 use Rattle.alp_files.specs.Edits.{Edit, edits_map}
 use Rattle.alp_files.specs.Act.{Own, Answer, run, answer, no_opens, id_in}
-use Rattle.alp_files.specs.History.{Done, Standing, answer_to, steps, begun}
+use Rattle.alp_files.specs.History.{PerformedCall, Standing, answer_to, steps, begun}
 use Rattle.alp_files.specs.Locks.{Need, granted, with_made, needs_made, needs_of, HoldsEach, IsFormed}
 use Rattle.alp_files.specs.Apart.{AreSized, AreFormed, changes, ids_after, standing, Locked, after_part, IsRightUnder, DoesSame}
 use Rattle.alp_files.proofs.HistoryLemmas.{AreRight-push, steps-push}
@@ -93,11 +93,11 @@ given-one (Some g) made ids f h k =
     let parts = or-false-parts (same_file g f) (has_file f made) k in
     ap (λ (b : Bool). b || has_file f ids) parts.0 ∙ h parts.1
 
-ids-push : (ids : List FileId) (ds : List Done) (d : Done) → ids_after ids (ds ++ d ∷ []) ≡ option_to_list (id_in d.reply) ++ ids_after ids ds
+ids-push : (ids : List FileId) (ds : List PerformedCall) (d : PerformedCall) → ids_after ids (ds ++ d ∷ []) ≡ option_to_list (id_in d.reply) ++ ids_after ids ds
 ids-push ids [] d = refl
 ids-push ids (x ∷ ds) d = ids-push (option_to_list (id_in x.reply) ++ ids) ds d
 
-formed-push : (ds : List Done) (d : Done) → AreFormed ds → IsFormed d.call → AreFormed (ds ++ d ∷ [])
+formed-push : (ds : List PerformedCall) (d : PerformedCall) → AreFormed ds → IsFormed d.call → AreFormed (ds ++ d ∷ [])
 formed-push [] d h k = (k, tt)
 formed-push (x ∷ ds) d h k = (h.0, formed-push ds d h.1 k)
 
@@ -107,7 +107,7 @@ pub life-given : (server : ℕ) (cells : Cells) (ids made : List FileId) (parts 
 life-given server cells ids made parts l x h =
     record { right = h.right; edits = h.edits; own = h.own; given = λ f k. h.given f (given-before x made f k); intended = h.intended; clear = h.clear }
 
-module _ (server : ℕ) (cells : Cells) (ids made : List FileId) (parts : List Item) (l : Life) (d : Done) where
+module _ (server : ℕ) (cells : Cells) (ids made : List FileId) (parts : List Item) (l : Life) (d : PerformedCall) where
   -- what a thread is answered that sees the cells with the part's changes
   abbrev said : Answer
   said = answer server [] (map.get (edits_map l.edits cells)) l.who l.own d.call d.reply

@@ -8,13 +8,13 @@ use Rattle.std.proofs.Common.{inr, ◌≡◌, ℕ, ◌<◌, ◌≤◌, List, [],
 use Rattle.alp_base.specs.declared.ids.FileId.{FileId}
 use Rattle.alp_base.specs.declared.ids.TransId.{TransId}
 use Rattle.alp_base.specs.declared.ids.Stamp.{Stamp}
-use Rattle.alp_modes.specs.Holdings.{Holding, DoAgree}
+use Rattle.alp_files.specs.Holdings.{Holding, DoAgree}
 use Rattle.alp_files.specs.declared.call.Call.{Call}
 use Rattle.alp_files.specs.declared.reply.Reply.{Reply}
 use Rattle.alp_files.specs.Cells.{Cells, has_file}
 use Rattle.alp_files.specs.Edits.{Edit, edits_map}
 use Rattle.alp_files.specs.Act.{no_opens, id_in}
-use Rattle.alp_files.specs.History.{Done, Standing, Decided, IsSerial, serial_end, starting}
+use Rattle.alp_files.specs.History.{PerformedCall, Standing, Decided, IsSerial, serial_end, starting}
 use Rattle.alp_files.specs.Locks.{needs_of}
 use Rattle.alp_files.specs.Sound.{HasItsPages, HaveTheirPages, AreSound}
 use Rattle.alp_files.specs.Apart.{AreSized, AreFormed, ids_after, after_part, IsRightUnder, decided_as}
@@ -208,7 +208,7 @@ acts_stand o e s (a ∷ acts) decision locks h = acts_stand o e (after_act e s a
 
 -- ---- the answer
 
-performed_held : (o : Start) (s : State) (e : Event) (t : TransId) (d : Done) (l : Life) → s.lives t ≡ Some l → IsPerformed s e l d → IsHeld o s → IsHeld o (performed s t d (Some l))
+performed_held : (o : Start) (s : State) (e : Event) (t : TransId) (d : PerformedCall) (l : Life) → s.lives t ≡ Some l → IsPerformed s e l d → IsHeld o s → IsHeld o (performed s t d (Some l))
 performed_held o s e t d l is law h =
     let made : List FileId = option_to_list (id_in d.reply) ++ s.made in
     let new : Life = after_done l d (answer_in s l d) in
@@ -232,12 +232,12 @@ performed_held o s e t d l is law h =
           (λ u k away k_is. life-given s.server s.cells h.ids s.made h.parts k (id_in d.reply) (h.live u k k_is));
     }
 
-done_held : (o : Start) (s : State) (e : Event) (x : Option (TransId × Done)) → PerformsRight s e x → IsHeld o s → IsHeld o (with_done s x)
+done_held : (o : Start) (s : State) (e : Event) (x : Option (TransId × PerformedCall)) → PerformsRight s e x → IsHeld o s → IsHeld o (with_done s x)
 done_held o s e None law h = h
 done_held o s e (Some x) law h = subst (λ (l : Option Life). IsHeld o (performed s x.0 x.1 l)) (sym law.1) (performed_held o s e x.0 x.1 law.0 law.1 law.2 h)
 
 -- a call is performed alike, whatever sessions there are and whoever waits
-rooms_right : (s : State) (sessions : ℕ → Option Session) (waiting : ℕ → Option Waiting) (e : Event) (x : Option (TransId × Done)) → PerformsRight s e x
+rooms_right : (s : State) (sessions : ℕ → Option Session) (waiting : ℕ → Option Waiting) (e : Event) (x : Option (TransId × PerformedCall)) → PerformsRight s e x
     → PerformsRight (record s { sessions = sessions; waiting = waiting }) e x
 rooms_right s sessions waiting e None law = tt
 rooms_right s sessions waiting e (Some x) law =
@@ -252,13 +252,13 @@ begins_held o s client w seen (Some t) h =
     (λ u k away is. h.live u k is))
 
 module _ (o : Start) (s : State) (e : Event) (client epoch number : ℕ) (c : Call) (r : Reply) (h : IsHeld o s) where
-  abbrev done_as : Kind → Option (TransId × Done)
+  abbrev done_as : Kind → Option (TransId × PerformedCall)
   done_as k = done_of s r (answered (s.waiting client) c k)
 
   abbrev counts : Session → State
   counts w = with_session s client (Some (record w { last = number }))
 
-  does_done : (w : Session) (waits : Option Waiting) (x : Option (TransId × Done)) → PerformsRight s e x → IsHeld o (with_done (with_waiting (counts w) client waits) x)
+  does_done : (w : Session) (waits : Option Waiting) (x : Option (TransId × PerformedCall)) → PerformsRight s e x → IsHeld o (with_done (with_waiting (counts w) client waits) x)
   does_done w waits x law =
       let there : State = with_waiting (counts w) client waits in
       done_held o there e x (rooms_right s there.sessions there.waiting e x law) h
@@ -335,7 +335,7 @@ opened_stands o sound = record {
 
 -- ---- what follows
 
-pages-of : (ds : List Done) → AreFormed ds → AllByRecursion (λ (d : Done). HasItsPages d.call) ds
+pages-of : (ds : List PerformedCall) → AreFormed ds → AllByRecursion (λ (d : PerformedCall). HasItsPages d.call) ds
 pages-of [] h = tt
 pages-of (d ∷ ds) h = (h.0.0, pages-of ds h.1)
 

@@ -20,7 +20,7 @@ use Rattle.alp_files.specs.declared.reply.Ended.{Ended}
 use Rattle.alp_files.specs.declared.reply.Ended.TheVariants as ended
 use Rattle.alp_files.specs.Edits.{edits_map}
 use Rattle.alp_files.specs.Act.{no_opens, id_in}
-use Rattle.alp_files.specs.History.{Done, Decided}
+use Rattle.alp_files.specs.History.{PerformedCall, Decided}
 use Rattle.alp_journal.specs.declared.act.Act.{Act}
 use Rattle.alp_journal.specs.declared.act.Act.TheVariants as act
 use Rattle.alp_journal.specs.declared.event.Event.{Event}
@@ -132,13 +132,13 @@ keeps_room n s x sessions waiting made pending h = record {
   grows = record { more = h.grows.more; decided = h.grows.decided; above = h.grows.above; clock = h.grows.clock; drawn = h.grows.drawn };
 }
 
-keeps_performed : (n : ℕ) (s x : State) (t : TransId) (d : Done) (o : Option Life) → x.lives t ≡ o → Keeps n s x → Keeps n s (performed x t d o)
+keeps_performed : (n : ℕ) (s x : State) (t : TransId) (d : PerformedCall) (o : Option Life) → x.lives t ≡ o → Keeps n s x → Keeps n s (performed x t d o)
 keeps_performed n s x t d None is h = h
 keeps_performed n s x t d (Some l) is h =
     let made : List FileId = option_to_list (id_in d.reply) ++ x.made in
     keeps_life n s (record x { made = made }) t (Some (after_done l d (answer_in x l d))) (keeps_room n s x x.sessions x.waiting made x.pending h) (λ m e. h.drawn.lives t l is)
 
-keeps_done : (n : ℕ) (s x : State) (o : Option (TransId × Done)) → Keeps n s x → Keeps n s (with_done x o)
+keeps_done : (n : ℕ) (s x : State) (o : Option (TransId × PerformedCall)) → Keeps n s x → Keeps n s (with_done x o)
 keeps_done n s x None h = h
 keeps_done n s x (Some d) h = keeps_performed n s x d.0 d.1 (x.lives d.0) refl h
 

@@ -16,7 +16,7 @@ use Rattle.alp_files.specs.declared.refusal.Refusal.TheVariants as refusal
 use Rattle.alp_files.specs.declared.refusal.Cause.{Cause}
 use Rattle.alp_files.specs.declared.refusal.Cause.TheVariants as cause
 use Rattle.alp_files.specs.Passing.{is_passing, is_passing_refusal}
-use Rattle.alp_files.specs.History.{Done}
+use Rattle.alp_files.specs.History.{PerformedCall}
 use Rattle.alp_journal.specs.declared.act.Act.{Act}
 use Rattle.alp_journal.specs.declared.act.Act.TheVariants as act
 use Rattle.alp_journal.specs.declared.event.Event.{Event}
@@ -42,7 +42,7 @@ module _ (s : State) (client epoch number : ℕ) (f : Refusal) where
   -- and nothing is performed by one in passing
   undone_by : is_passing_refusal f ≡ true → (m : State) (c : Call) (o : Option TransId) → done_by m c r o ≡ None
   undone_by passing m c None = refl
-  undone_by passing m c (Some t) = ap (λ (b : Bool). cond {A = Option (TransId × Done)} (b || is_of_no_file m c r) None (Some (t, record { call = c; reply = r }))) passing
+  undone_by passing m c (Some t) = ap (λ (b : Bool). cond {A = Option (TransId × PerformedCall)} (b || is_of_no_file m c r) None (Some (t, record { call = c; reply = r }))) passing
 
   undone : is_passing_refusal f ≡ true → (m : State) (o : Option Call) → done_of m r o ≡ None
   undone passing m None = refl
@@ -56,7 +56,7 @@ module _ (s : State) (client epoch number : ℕ) (f : Refusal) where
   does_nothing c idle w =
       let m : State = with_session s client (Some (record w { last = number })) in
       let then : Option Waiting = waiting_after number c (kind_of c) r (s.waiting client) in
-      subst (λ (o : Option (TransId × Done)). IsAsBefore s (with_done (with_waiting (begins m client w (kind_of c) (begun_in r)) client then) o)) (sym (idle w))
+      subst (λ (o : Option (TransId × PerformedCall)). IsAsBefore s (with_done (with_waiting (begins m client w (kind_of c) (begun_in r)) client then) o)) (sym (idle w))
       (subst (λ (x : State). IsAsBefore s (with_waiting x client then)) (sym (unbegun m w (kind_of c))) refl)
 
   turn_nothing : (c : Call) → IsIdle c → (b : Bool) (o : Option Session) → IsAsBefore s (cond {A = State} b (calls_on s client o number c r) s)
@@ -165,7 +165,7 @@ module _ (s : State) (client epoch number : ℕ) (t : TransId) (file : FileId) (
   open_it = call.OpenFile t file access mode choice
 
   unknown_idle : (acts : List Act) → IsIdle (with_pending s acts) client epoch number refusal.UnknownFile open_it
-  unknown_idle acts w = ap (λ (b : Bool). cond {A = Option (TransId × Done)} (not b) None (Some (t, record { call = open_it; reply = reply.Refused refusal.UnknownFile }))) away
+  unknown_idle acts w = ap (λ (b : Bool). cond {A = Option (TransId × PerformedCall)} (not b) None (Some (t, record { call = open_it; reply = reply.Refused refusal.UnknownFile }))) away
 
   unknown_leaves_at : (v : Event) (r : Option Reply) (acts : List Act) (b : Bool) → list_any is_stop acts ≡ b → v ≡ event.Call client epoch number open_it → r ≡ Some (reply.Refused refusal.UnknownFile) → AnswersBy s v r acts b
       → IsAsBefore s (next s (record { event = v; reply = r; acts = acts }))

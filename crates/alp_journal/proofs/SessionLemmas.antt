@@ -11,7 +11,7 @@ use Rattle.alp_files.specs.declared.reply.Reply.{Reply}
 use Rattle.alp_files.specs.declared.reply.Reply.TheVariants as reply
 use Rattle.alp_files.specs.Act.{no_opens, id_in}
 use Rattle.alp_files.specs.Edits.{edits_map}
-use Rattle.alp_files.specs.History.{Done}
+use Rattle.alp_files.specs.History.{PerformedCall}
 use Rattle.alp_journal.specs.declared.act.Act.{Act}
 use Rattle.alp_journal.specs.declared.act.Act.TheVariants as act
 use Rattle.alp_journal.specs.declared.event.Event.{Event}
@@ -86,13 +86,13 @@ module _ (s : State) (now : ℕ → Option Session) (o : Option TransId) where
   leaves_acts e x [] h = h
   leaves_acts e x (a ∷ acts) h = leaves_acts e (after_act e x a) acts (leaves_act e x a h)
 
-  leaves_performed : (x : State) (t : TransId) (d : Done) (life : Option Life) → x.lives t ≡ life → Leaves s now o x → Leaves s now o (performed x t d life)
+  leaves_performed : (x : State) (t : TransId) (d : PerformedCall) (life : Option Life) → x.lives t ≡ life → Leaves s now o x → Leaves s now o (performed x t d life)
   leaves_performed x t d None is h = h
   leaves_performed x t d (Some l) is h =
       leaves_life (record x { made = option_to_list (id_in d.reply) ++ x.made }) t (Some (after_done l d (answer_in x l d)))
       (record { server = h.server; epoch = h.epoch; sessions = h.sessions; lives = h.lives }) (λ m e. h.lives t l is)
 
-  leaves_done : (x : State) (d : Option (TransId × Done)) → Leaves s now o x → Leaves s now o (with_done x d)
+  leaves_done : (x : State) (d : Option (TransId × PerformedCall)) → Leaves s now o x → Leaves s now o (with_done x d)
   leaves_done x None h = h
   leaves_done x (Some d) h = leaves_performed x d.0 d.1 (x.lives d.0) refl h
 

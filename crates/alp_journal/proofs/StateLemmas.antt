@@ -18,7 +18,7 @@ use Rattle.alp_files.specs.declared.refusal.Refusal.{Refusal}
 use Rattle.alp_files.specs.declared.refusal.Refusal.TheVariants as refusal
 use Rattle.alp_files.specs.Passing.{is_passing, is_passing_refusal, IsFileReply}
 use Rattle.alp_journal.specs.declared.event.Event.TheVariants as event
-use Rattle.alp_files.specs.History.{Done, Decided}
+use Rattle.alp_files.specs.History.{PerformedCall, Decided}
 use Rattle.alp_journal.specs.Laws.{AreEarlier}
 use Rattle.alp_journal.specs.State.{State, Session, Along, Kind, Plain, Begins, kind_of, state_after, same_trans, stamp_cmp, file_trans, is_new, is_not_yet, is_of_no_file, performs, answered, done_by, done_of, with_session, with_waiting, with_done, begun_in, begins, waits, waiting_after, calls_on, called}
 
@@ -82,16 +82,16 @@ pub performs-next : (s : State) (client epoch number : ℕ) (w : Session) (c : C
     → s.sessions client ≡ Some w → epoch ≡ s.epoch → number ≡ w.last + 1 → kind_of c ≡ Plain → file_trans c ≡ Some t
     → performs s (event.Call client epoch number c) (Some r) ≡ done_by s c r (Some t)
 performs-next s client epoch number w c r t is e n plain trans =
-    ap (λ (x : Option Session). cond {A = Option (TransId × Done)} (is_new s x epoch number) (done_of s r (answered (s.waiting client) c (kind_of c))) None) is
-    ∙ ap (λ (b : Bool). cond {A = Option (TransId × Done)} b (done_of s r (answered (s.waiting client) c (kind_of c))) None) (new_call s w epoch number e n)
+    ap (λ (x : Option Session). cond {A = Option (TransId × PerformedCall)} (is_new s x epoch number) (done_of s r (answered (s.waiting client) c (kind_of c))) None) is
+    ∙ ap (λ (b : Bool). cond {A = Option (TransId × PerformedCall)} b (done_of s r (answered (s.waiting client) c (kind_of c))) None) (new_call s w epoch number e n)
     ∙ ap (λ (k : Kind). done_of s r (answered (s.waiting client) c k)) plain
     ∙ ap (done_by s c r) trans
 
 -- a file call with a reply of its own
 pub done_by-plain : (s : State) (c : Call) (r : Reply) (t : TransId) → is_passing r ≡ false → is_of_no_file s c r ≡ false → done_by s c r (Some t) ≡ Some (t, record { call = c; reply = r })
 done_by-plain s c r t own here =
-    ap (λ (b : Bool). cond {A = Option (TransId × Done)} (b || is_of_no_file s c r) None (Some (t, record { call = c; reply = r }))) own
-    ∙ ap (λ (b : Bool). cond {A = Option (TransId × Done)} b None (Some (t, record { call = c; reply = r }))) here
+    ap (λ (b : Bool). cond {A = Option (TransId × PerformedCall)} (b || is_of_no_file s c r) None (Some (t, record { call = c; reply = r }))) own
+    ∙ ap (λ (b : Bool). cond {A = Option (TransId × PerformedCall)} b None (Some (t, record { call = c; reply = r }))) here
 
 not_yet_refusal : (f : Refusal) → is_passing_refusal f ≡ false → is_not_yet (reply.Refused f) ≡ false
 not_yet_refusal refusal.NotYet h = cc

@@ -8,8 +8,8 @@ use Rattle.alp_base.specs.declared.ids.FileId.{FileId}
 use Rattle.alp_base.specs.declared.ids.Stamp.{Stamp}
 use Rattle.alp_base.specs.declared.ids.TransId.{TransId}
 use Rattle.alp_base.specs.declared.key.Resource.{Resource}
-use Rattle.alp_modes.specs.Orders.{trans_cmp, resource_cmp}
-use Rattle.alp_modes.specs.Holdings.{agree_held}
+use Rattle.alp_base.specs.Orders.{trans_cmp, resource_cmp}
+use Rattle.alp_files.specs.Holdings.{agree_held}
 use Rattle.alp_files.specs.declared.call.Call.{Call}
 use Rattle.alp_files.specs.declared.call.Call.TheVariants as call
 use Rattle.alp_files.specs.declared.reply.Reply.{Reply}

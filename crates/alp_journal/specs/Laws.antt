@@ -6,7 +6,7 @@ use Rattle.std.specs.FinMap as map
 use Rattle.alp_base.specs.declared.ids.FileId.{FileId}
 use Rattle.alp_base.specs.declared.ids.TransId.{TransId}
 use Rattle.alp_base.specs.declared.ids.Stamp.{Stamp}
-use Rattle.alp_modes.specs.Holdings.{DoAgree}
+use Rattle.alp_files.specs.Holdings.{DoAgree}
 use Rattle.alp_files.specs.declared.call.Call.{Call}
 use Rattle.alp_files.specs.declared.call.Call.TheVariants as call
 use Rattle.alp_files.specs.declared.reply.Reply.{Reply}
@@ -14,7 +14,7 @@ use Rattle.alp_files.specs.declared.reply.Reply.TheVariants as reply
 use Rattle.alp_files.specs.declared.refusal.Refusal.TheVariants as refusal
 use Rattle.alp_files.specs.Cells.{has_file}
 use Rattle.alp_files.specs.Act.{id_in}
-use Rattle.alp_files.specs.History.{Done, Decided}
+use Rattle.alp_files.specs.History.{PerformedCall, Decided}
 use Rattle.alp_files.specs.Locks.{needs_of, HoldsEach, IsFormed}
 use Rattle.alp_files.specs.Apart.{AreSized}
 use Rattle.alp_files.specs.Sound.{AreSound}
@@ -114,7 +114,7 @@ client_of e = None
 -- thread is answered that sees the committed cells with the part's own earlier changes; the id of a new file was never
 -- given before; and the part holds the locks of the call, as it sees the files. A call that is refused as one on an
 -- unknown open, or on an open that is not for change, needs no locks.
-pub record IsPerformed (s : State) (e : Event) (l : Life) (d : Done) : Type 0 where
+pub record IsPerformed (s : State) (e : Event) (l : Life) (d : PerformedCall) : Type 0 where
   pub client : client_of e ≡ Some l.client
   pub active : l.vote ≡ None
   pub formed : IsFormed d.call
@@ -122,7 +122,7 @@ pub record IsPerformed (s : State) (e : Event) (l : Life) (d : Done) : Type 0 wh
   pub fresh : (f : FileId) → id_in d.reply ≡ Some f → has_file f s.made ≡ false
   pub locked : HoldsEach l.held (needs_of (view_in s l) l.own d.call)
 
-abbrev pub PerformsRight : State → Event → Option (TransId × Done) → Type 0
+abbrev pub PerformsRight : State → Event → Option (TransId × PerformedCall) → Type 0
 PerformsRight s e None = Unit {0}
 PerformsRight s e (Some x) = (l : Life) × (s.lives x.0 ≡ Some l) × IsPerformed s e l x.1
 

@@ -11,7 +11,7 @@ use Rattle.alp_base.specs.declared.ids.Stamp.{Stamp}
 use Rattle.alp_base.specs.Notes.{Notes}
 use Rattle.alp_base.specs.contracts.ids.StampOrd.TheImpl as stamp_ord
 use Rattle.alp_fields.specs.ClockNote.{clock_kept}
-use Rattle.alp_modes.specs.Holdings.{Holding}
+use Rattle.alp_files.specs.Holdings.{Holding}
 use Rattle.alp_files.specs.declared.call.Call.{Call}
 use Rattle.alp_files.specs.declared.call.Call.TheVariants as call
 use Rattle.alp_files.specs.declared.reply.Reply.{Reply}
@@ -21,7 +21,7 @@ use Rattle.alp_files.specs.Passing.{is_passing}
 use Rattle.alp_files.specs.Cells.{Cells, View, has_file}
 use Rattle.alp_files.specs.Edits.{Edit, edits_map}
 use Rattle.alp_files.specs.Act.{Own, no_opens, Answer, answer, id_in}
-use Rattle.alp_files.specs.History.{Done, Decided}
+use Rattle.alp_files.specs.History.{PerformedCall, Decided}
 use Rattle.alp_files.specs.Locks.{needs_of, granted, with_made}
 use Rattle.alp_journal.specs.declared.act.Act.{Act}
 use Rattle.alp_journal.specs.declared.act.Act.TheVariants as act
@@ -61,7 +61,7 @@ pub record Waiting : Type 0 where
 pub record Life : Type 0 where
   pub client : ℕ
   pub who : List ℕ
-  pub calls : List Done
+  pub calls : List PerformedCall
   pub edits : List Edit
   pub own : Own
   pub held : Holding
@@ -98,7 +98,7 @@ abbrev pub view_in : State → Life → View
 view_in s l = map.get (edits_map l.edits s.cells)
 
 -- what a thread would be answered that is where the part is
-abbrev pub answer_in : State → Life → Done → Answer
+abbrev pub answer_in : State → Life → PerformedCall → Answer
 answer_in s l d = answer s.server [] (view_in s l) l.who l.own d.call d.reply
 
 -- ---- which entries perform what
@@ -165,16 +165,16 @@ answered w c (Collects n) = named n w
 answered w c Plain = Some c
 
 -- a file call is performed where its reply is its own
-abbrev pub done_by : State → Call → Reply → Option TransId → Option (TransId × Done)
+abbrev pub done_by : State → Call → Reply → Option TransId → Option (TransId × PerformedCall)
 done_by s c r None = None
 done_by s c r (Some t) = if is_passing r || is_of_no_file s c r then None else Some (t, record { call = c; reply = r })
 
-abbrev pub done_of : State → Reply → Option Call → Option (TransId × Done)
+abbrev pub done_of : State → Reply → Option Call → Option (TransId × PerformedCall)
 done_of s r None = None
 done_of s r (Some c) = done_by s c r (file_trans c)
 
 -- the file call that an entry performs, with its transaction, if it performs one
-abbrev pub performs : State → Event → Option Reply → Option (TransId × Done)
+abbrev pub performs : State → Event → Option Reply → Option (TransId × PerformedCall)
 performs s (event.Call client epoch number c) (Some r) =
     if is_new s (s.sessions client) epoch number then done_of s r (answered (s.waiting client) c (kind_of c)) else None
 performs s _ _ = None
@@ -191,7 +191,7 @@ abbrev pub with_life : State → TransId → Option Life → State
 with_life s t life = record s { lives = λ u. if same_trans u t then life else s.lives u }
 
 -- a call that its part performed; a new file is locked as it is made
-abbrev pub after_done : Life → Done → Answer → Life
+abbrev pub after_done : Life → PerformedCall → Answer → Life
 after_done l d a = record l {
   calls = l.calls ++ d ∷ [];
   edits = l.edits ++ a.edits;
@@ -199,11 +199,11 @@ after_done l d a = record l {
   held = with_made l.held (id_in d.reply);
 }
 
-abbrev pub performed : State → TransId → Done → Option Life → State
+abbrev pub performed : State → TransId → PerformedCall → Option Life → State
 performed s t d None = s
 performed s t d (Some l) = with_life (record s { made = option_to_list (id_in d.reply) ++ s.made }) t (Some (after_done l d (answer_in s l d)))
 
-abbrev pub with_done : State → Option (TransId × Done) → State
+abbrev pub with_done : State → Option (TransId × PerformedCall) → State
 with_done s None = s
 with_done s (Some x) = performed s x.0 x.1 (s.lives x.0)
 

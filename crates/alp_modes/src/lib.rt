@@ -4,10 +4,8 @@
 //! and will be raised to `Write` later: it agrees with readers, but not with another `Update`.
 #![tactic(auto)]
 
-mod leaves;
 mod table;
 
-pub use leaves::agreeing_locks_agree_on_leaves;
 pub use table::{agrees, covers, join, leaf_of, modes_are_lawful};
 
 /// What a lock allows its holder, from the least to the most.

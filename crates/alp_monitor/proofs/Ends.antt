@@ -1,19 +1,19 @@
 -- How a monitor begins and ends: passes are made, and taken in, and the rule stays.
-use Rattle.std.proofs.Common.{◌≡◌, ◌≢◌, ◌⊎◌, ℕ, zero, suc, ◌+◌, ◌<◌, ◌≤◌, eqb, List, [], ◌∷◌, ◌++◌, length, set, Option, Some, Bool, true, false, true≢false, refl, sym, ap, ◌∙◌, subst, ⊎_elim, inl, inr, arith, length-set, eq-eqb, ne_eqb}
+use Rattle.std.proofs.Common.{◌≡◌, ◌≢◌, ◌⊎◌, ℕ, zero, suc, ◌+◌, ◌*◌, ◌%◌, ◌^◌, ◌<◌, ◌≤◌, eqb, List, [], ◌∷◌, ◌++◌, length, set, Option, Some, Bool, true, false, true≢false, refl, sym, ap, ◌∙◌, subst, ⊎_elim, inl, inr, arith, length-set, eq-eqb, ne_eqb}
 use Rattle.std.specs.Prelude.{if◌then◌else◌}
 use mathlib.Core.Option.{some, some-ne-none, some-injective}
 use mathlib.Core.List.{IsPrefix}
 use lib.ListN.{get_elem?}
 use Rattle.atomic_table.specs.Table.{State, opening, Splits, Joins, Final, Seen}
 use Rattle.atomic_table.proofs.Lists.{at_longer, set_else}
-use Rattle.alp_monitor.specs.History.{told, turns_of, part}
-use Rattle.alp_monitor.specs.Rule.{IsPartOf, ArePartsOf, Knows, IsHome, IsInTurns, founding}
+use Rattle.alp_monitor.specs.History.{entries_in, turns_of, part}
+use Rattle.alp_monitor.specs.Rule.{IsPartOf, ArePartsOf, Knows, IsHome, IsInTurns, founding, waiters}
 use Rattle.alp_monitor.specs.Steps.{with_one_more, newcomer, both_of}
 use Rattle.alp_monitor.specs.declared.board.Part.{Part}
 use Rattle.alp_monitor.specs.declared.board.View.{View}
-use Rattle.alp_monitor.specs.declared.board.View.TheVariants.{Spent, Founder, Outside, Inside}
+use Rattle.alp_monitor.specs.declared.board.View.TheVariants.{Spent, Founder, Outside, Waiting, Inside}
 use Rattle.alp_monitor.proofs.Histories.{turns_from-unnamed}
-use Rattle.alp_monitor.proofs.Rules.{each_after, ArePartsOf-one}
+use Rattle.alp_monitor.proofs.Rules.{each_after, ArePartsOf-one, as_many, waiters-snoc, outsider}
 
 module _ {A : Type 0} where
   -- the place of an element of two lists in a row
@@ -75,15 +75,8 @@ module _ {B E : Type 0} where
   still h base made made' owner owner' busy holder j Spent le founder moves known = known
   still h base made made' owner owner' busy holder j (Founder b n) le founder moves known = (known.0, known.1 ∙ founder known.2, known.2)
   still h base made made' owner owner' busy holder j (Outside b ps) le founder moves known = (known.0, record { each = λ i p e. let ok = known.1.each i p e in regards h made made' owner owner' j j p le (moves p.number ok.numbered) ok; apart = known.1.apart })
+  still h base made made' owner owner' busy holder j (Waiting b p) le founder moves known = (known.0, regards h made made' owner owner' j j p le (moves p.number known.1.numbered) known.1)
   still h base made made' owner owner' busy holder j (Inside b p) le founder moves known = (known.0, regards h made made' owner owner' j j p le (moves p.number known.1.numbered) known.1, known.2, known.3, known.4)
-
-  abbrev is_inside : View B E → Bool
-  is_inside (Inside b p) = true
-  is_inside v = false
-
-  -- a seat that is not inside is not the one that is
-  outsider : (id holder : ℕ) (vs : List (View B E)) (v : View B E) (c : B) (q : Part E) → is_inside v ≡ false → get_elem? vs id ≡ some v → get_elem? vs holder ≡ some (Inside c q) → holder ≢ id
-  outsider id holder vs v c q out e f z = true≢false (sym (ap is_inside (some-injective v (Inside c q) (sym e ∙ (ap (get_elem? vs) (sym z) ∙ f)))) ∙ out)
 
 module _ {S B E : Type 0} (base_of : S → B) (entries_of : S → List E) (base : B) (passes : ℕ) where
   abbrev Rule : State (Option S) (View B E) → Type 0
@@ -97,7 +90,10 @@ module _ {S B E : Type 0} (base_of : S → B) (entries_of : S → List E) (base 
     busy = false;
     holder = 0;
     waiting = 0;
+    awake = 0;
     words = refl;
+    waiting_is = refl;
+    one_awake = omega arith;
     room = omega arith;
     few = omega arith;
     named = λ k z at. absurd (some-ne-none z (sym at));
@@ -123,7 +119,11 @@ module _ {S B E : Type 0} (base_of : S → B) (entries_of : S → List E) (base 
         busy = r.busy;
         holder = r.holder;
         waiting = r.waiting;
+        awake = r.awake;
         words = r.words;
+        waiting_is = as_many s.views id (Founder b n) (Founder b (n + 1)) r.waiting r.awake at refl r.waiting_is
+            ∙ ap (λ (k : ℕ). (2 * k + r.awake) % 2 ^ 64) (let longer : waiters (vs' ++ fresh ∷ []) ≡ waiters vs' + 0 = waiters-snoc vs' fresh in let e : waiters vs' ≡ waiters (vs' ++ fresh ∷ []) = omega (arith, longer) in e);
+        one_awake = r.one_awake;
         room = r.room;
         few = omega (arith, n_is);
         named = λ k x e. let l : x.0 < r.made = r.named k x e in omega arith;
@@ -157,7 +157,10 @@ module _ {S B E : Type 0} (base_of : S → B) (entries_of : S → List E) (base 
         busy = r.busy;
         holder = r.holder;
         waiting = r.waiting;
+        awake = r.awake;
         words = r.words;
+        waiting_is = as_many (set s.views id both) other (Outside c qs) Spent r.waiting r.awake there refl (as_many s.views id (Outside b ps) both r.waiting r.awake at refl r.waiting_is);
+        one_awake = r.one_awake;
         room = r.room;
         few = r.few;
         named = r.named;
@@ -176,7 +179,7 @@ module _ {S B E : Type 0} (base_of : S → B) (entries_of : S → List E) (base 
   pub record Ends (ps : List (Part E)) (y : S) : Type 0 where
     pub history : List (ℕ × E)
     pub base_is : base_of y ≡ base
-    pub told_is : told history ≡ entries_of y
+    pub told_is : entries_in history ≡ entries_of y
     pub begins : (i : ℕ) (p : Part E) → get_elem? ps i ≡ some p → IsPrefix p.front history
     pub complete : (i : ℕ) (p : Part E) → get_elem? ps i ≡ some p → turns_of p.number history ≡ turns_of p.number p.front
     pub makers : (k : ℕ) (x : ℕ × E) → get_elem? history k ≡ some x → (i : ℕ) × (p : Part E) × (get_elem? ps i ≡ some p) × (p.number ≡ x.0)

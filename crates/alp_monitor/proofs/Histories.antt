@@ -5,7 +5,7 @@ use mathlib.Core.Option.{some}
 use mathlib.Core.List.{IsPrefix, map-append, append-nil, append_assoc}
 use lib.ListN.{get_elem?, length-map}
 use lib.Seq.{drop-length, drop-append_seam}
-use Rattle.alp_monitor.specs.History.{told, entry_of, turns_from, turns_of, AddsAtMostOne}
+use Rattle.alp_monitor.specs.History.{entries_in, entry_of, turns_from, turns_of, AddsAtMostOne}
 use Rattle.alp_monitor.specs.Steps.{made_by, grown}
 
 module _ {E : Type 0} where
@@ -38,20 +38,20 @@ module _ {E : Type 0} where
       let l : x.0 < made = named 0 x refl in
       ap (λ (b : Bool). if b then (n, x.1) ∷ turns_from (suc n) made xs else turns_from (suc n) made xs) (ne_eqb x.0 made (λ e. omega arith)) ∙ turns_from-unnamed xs (suc n) made (λ k y e. named (suc k) y e)
 
-  pub grown-none : (k : ℕ) (h : List (ℕ × E)) (es : List E) → es ≡ told h → grown k h es ≡ h
+  pub grown-none : (k : ℕ) (h : List (ℕ × E)) (es : List E) → es ≡ entries_in h → grown k h es ≡ h
   grown-none k h es e =
       let n : length h ≡ length es = sym (length-map h entry_of) ∙ ap length (sym e) in
       let d : drop (length h) es ≡ [] = ap (λ m. drop m es) n ∙ drop-length es in
       ap (λ l. h ++ map (made_by k) l) d ∙ append-nil h
 
-  pub grown-one : (k : ℕ) (h : List (ℕ × E)) (es : List E) (x : E) → es ≡ told h ++ x ∷ [] → grown k h es ≡ h ++ (k, x) ∷ []
+  pub grown-one : (k : ℕ) (h : List (ℕ × E)) (es : List E) (x : E) → es ≡ entries_in h ++ x ∷ [] → grown k h es ≡ h ++ (k, x) ∷ []
   grown-one k h es x e =
-      let d : drop (length h) es ≡ x ∷ [] = ap (drop (length h)) e ∙ (ap (λ m. drop m (told h ++ x ∷ [])) (sym (length-map h entry_of)) ∙ drop-append_seam (told h) (x ∷ [])) in
+      let d : drop (length h) es ≡ x ∷ [] = ap (drop (length h)) e ∙ (ap (λ m. drop m (entries_in h ++ x ∷ [])) (sym (length-map h entry_of)) ∙ drop-append_seam (entries_in h) (x ∷ [])) in
       ap (λ l. h ++ map (made_by k) l) d
 
-  pub told-grown : (k : ℕ) (h : List (ℕ × E)) (es : List E) → AddsAtMostOne (told h) es → told (grown k h es) ≡ es
-  told-grown k h es (inl e) = ap told (grown-none k h es e) ∙ sym e
-  told-grown k h es (inr (small, (x, e))) = ap told (grown-one k h es x e) ∙ (map-append entry_of h ((k, x) ∷ []) ∙ sym e)
+  pub entries_in-grown : (k : ℕ) (h : List (ℕ × E)) (es : List E) → AddsAtMostOne (entries_in h) es → entries_in (grown k h es) ≡ es
+  entries_in-grown k h es (inl e) = ap entries_in (grown-none k h es e) ∙ sym e
+  entries_in-grown k h es (inr (small, (x, e))) = ap entries_in (grown-one k h es x e) ∙ (map-append entry_of h ((k, x) ∷ []) ∙ sym e)
 
   pub prefix_more : (xs ys zs : List (ℕ × E)) → IsPrefix xs ys → IsPrefix xs (ys ++ zs)
   prefix_more xs ys zs p = (p.0 ++ zs, sym (append_assoc xs p.0 zs) ∙ ap (λ l. l ++ zs) p.1)

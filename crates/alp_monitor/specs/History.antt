@@ -11,8 +11,8 @@ module _ {E : Type 0} where
   entry_of x = x.1
 
   -- the entries alone
-  abbrev pub told : List (ℕ × E) → List E
-  told history = map entry_of history
+  abbrev pub entries_in : List (ℕ × E) → List E
+  entries_in history = map entry_of history
 
   -- the entries of the pass k in a history that begins at the place n, each with its place
   abbrev pub turns_from : ℕ → ℕ → List (ℕ × E) → List (ℕ × E)

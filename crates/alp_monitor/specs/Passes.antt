@@ -2,16 +2,17 @@
 use Rattle.std.specs.Prelude.{◌≡◌, ℕ, ◌^◌, ◌<◌, ◌≤◌, List, [], ◌∷◌, length, slice_get, Option, Some, None}
 use mathlib.Core.List.{IsPrefix}
 use Rattle.atomic_table.specs.declared.shared.Seat.{Seat}
-use Rattle.alp_monitor.specs.History.{told, turns_of, part}
+use Rattle.alp_monitor.specs.History.{entries_in, turns_of, part}
 use Rattle.alp_monitor.specs.declared.board.Part.{Part}
 use Rattle.alp_monitor.specs.declared.board.View.{View}
-use Rattle.alp_monitor.specs.declared.board.View.TheVariants.{Spent, Founder, Outside, Inside}
+use Rattle.alp_monitor.specs.declared.board.View.TheVariants.{Spent, Founder, Outside, Waiting, Inside}
 use Rattle.alp_monitor.specs.declared.monitor.Monitor.{Monitor}
 use Rattle.alp_monitor.specs.declared.monitor.Pass.{Pass}
 
 module _ {B E : Type 0} where
   abbrev pub first_part : View B E → Part E
   first_part (Outside b (p ∷ ps)) = p
+  first_part (Waiting b p) = p
   first_part (Inside b p) = p
   first_part v = part 0 []
 
@@ -19,6 +20,7 @@ module _ {B E : Type 0} where
   base_in Spent = None
   base_in (Founder b n) = Some b
   base_in (Outside b ps) = Some b
+  base_in (Waiting b p) = Some b
   base_in (Inside b p) = Some b
 
 module _ {S B E : Type 0} where
@@ -91,7 +93,7 @@ module _ {S B E : Type 0} where
   -- One history has these entries. It begins with the front of each pass and has its turns at their places; each of its entries is a turn of one of the passes, which have numbers of their own
   pub record IsMadeBy (ps : List (Pass S B E)) (entries : List E) : Type 0 where
     pub history : List (ℕ × E)
-    pub told_is : told history ≡ entries
+    pub told_is : entries_in history ≡ entries
     pub fronts : (i : ℕ) (p : Pass S B E) → slice_get ps i ≡ Some p → IsPrefix (front p) history
     pub turns_are : (i : ℕ) (p : Pass S B E) → slice_get ps i ≡ Some p → turns_of (number p) history ≡ turns p
     pub makers : (k : ℕ) (x : ℕ × E) → slice_get history k ≡ Some x → HasNumber ps x.0
@@ -121,6 +123,6 @@ module _ {S B E : Type 0} (base_of : S → B) (entries_of : S → List E) where
     pub same : IsSamePass before now
     pub inside : IsInside now
     pub base : base_of_pass before ≡ Some (base_of state)
-    pub entries : entries_of state ≡ told (front now)
+    pub entries : entries_of state ≡ entries_in (front now)
     pub begins : IsPrefix (front before) (front now)
     pub turns : turns now ≡ turns before

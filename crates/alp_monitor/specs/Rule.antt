@@ -1,18 +1,28 @@
 -- The rule that every step at the table of a monitor keeps.
-use Rattle.std.specs.Prelude.{◌≡◌, ℕ, ◌+◌, ◌*◌, ◌^◌, ◌<◌, ◌≤◌, Bool, true, false, List, [], ◌∷◌, length, Option, Some}
+use Rattle.std.specs.Prelude.{◌≡◌, ℕ, ◌+◌, ◌*◌, ◌%◌, ◌^◌, ◌<◌, ◌≤◌, Bool, true, false, List, [], ◌∷◌, length, Option, Some}
 use mathlib.Core.Option.{none, some}
 use mathlib.Core.Option as maybe
 use mathlib.Core.List.{IsPrefix}
 use lib.ListN.{get_elem?}
 use Rattle.atomic_table.specs.Table.{State}
-use Rattle.alp_monitor.specs.History.{told, turns_of}
+use Rattle.alp_monitor.specs.History.{entries_in, turns_of}
 use Rattle.alp_monitor.specs.declared.board.Part.{Part}
 use Rattle.alp_monitor.specs.declared.board.View.{View}
-use Rattle.alp_monitor.specs.declared.board.View.TheVariants.{Spent, Founder, Outside, Inside}
+use Rattle.alp_monitor.specs.declared.board.View.TheVariants.{Spent, Founder, Outside, Waiting, Inside}
 
 module _ {B E : Type 0} where
   abbrev pub founding : B → View B E
   founding base = Founder base 0
+
+  -- one for a pass that is counted as waiting
+  abbrev pub waits_in : View B E → ℕ
+  waits_in (Waiting b p) = 1
+  waits_in v = 0
+
+  -- how many passes are counted as waiting
+  abbrev pub waiters : List (View B E) → ℕ
+  waiters [] = 0
+  waiters (v ∷ vs) = waits_in v + waiters vs
 
 module _ {E : Type 0} (history : List (ℕ × E)) (made : ℕ) (owner : ℕ → ℕ) where
   -- Of the pass with this part: its front begins the history, which has no other turns of it, and the seat j alone has its number
@@ -33,6 +43,7 @@ module _ {B E : Type 0} (history : List (ℕ × E)) (base : B) (made : ℕ) (own
   Knows j Spent = Unit {0}
   Knows j (Founder b n) = (b ≡ base) × (n ≡ made) × (j ≡ 0)
   Knows j (Outside b ps) = (b ≡ base) × ArePartsOf history made owner j ps
+  Knows j (Waiting b p) = (b ≡ base) × IsPartOf history made owner j p
   Knows j (Inside b p) = (b ≡ base) × IsPartOf history made owner j p × (busy ≡ true) × (j ≡ holder) × (p.front ≡ history)
 
 -- twice the number of the entries, and one more while the state is out
@@ -44,7 +55,7 @@ module _ {S B E : Type 0} (base_of : S → B) (entries_of : S → List E) where
   -- the state is out exactly while a pass is inside. At home it has the base and the whole history
   abbrev pub IsHome : List (ℕ × E) → B → Bool → List (maybe.Option (Option S)) → Type 0
   IsHome history base true homes = homes ≡ none ∷ []
-  IsHome history base false homes = (y : S) × (homes ≡ some (Some y) ∷ []) × (base_of y ≡ base) × (entries_of y ≡ told history)
+  IsHome history base false homes = (y : S) × (homes ≡ some (Some y) ∷ []) × (base_of y ≡ base) × (entries_of y ≡ entries_in history)
 
   -- base is that of the state which the monitor was made of, and passes the number of its passes
   pub record IsInTurns (base : B) (passes : ℕ) (s : State (Option S) (View B E)) : Type 0 where
@@ -56,7 +67,12 @@ module _ {S B E : Type 0} (base_of : S → B) (entries_of : S → List E) where
     -- the seat that is inside, while one is
     pub holder : ℕ
     pub waiting : ℕ
+    -- one where a pass that waits was woken and did not come back yet
+    pub awake : ℕ
     pub words : s.words ≡ word_of busy (length history) ∷ waiting ∷ []
+    -- the second word is twice the number of the passes that wait, and one more while one of them is awake
+    pub waiting_is : waiting ≡ (2 * waiters s.views + awake) % 2 ^ 64
+    pub one_awake : awake ≤ 1
     pub room : length history ≤ 2 ^ 62
     pub few : made ≤ passes
     pub named : (k : ℕ) (x : ℕ × E) → get_elem? history k ≡ some x → x.0 < made

@@ -2,10 +2,10 @@
 use Rattle.std.specs.Prelude.{◌≡◌, ◌≢◌, ℕ, ◌+◌, ◌^◌, ◌≤◌, List, [], ◌∷◌, ◌++◌, map, drop, length, Option, Some}
 use mathlib.Core.List.{IsPrefix}
 use Rattle.atomic_table.specs.Table.{Me, Step}
-use Rattle.alp_monitor.specs.History.{told, turns_of, part}
+use Rattle.alp_monitor.specs.History.{entries_in, turns_of, part}
 use Rattle.alp_monitor.specs.declared.board.Part.{Part}
 use Rattle.alp_monitor.specs.declared.board.View.{View}
-use Rattle.alp_monitor.specs.declared.board.View.TheVariants.{Spent, Founder, Outside, Inside}
+use Rattle.alp_monitor.specs.declared.board.View.TheVariants.{Spent, Founder, Outside, Waiting, Inside}
 
 module _ {B E : Type 0} where
   abbrev pub with_one_more : View B E → View B E
@@ -27,11 +27,28 @@ module _ {S V : Type 0} where
   abbrev pub Stays : Step S → Me S V → ℕ → Me S V → Type 0
   Stays step before found now = now ≡ before
 
+module _ {S B E : Type 0} where
+  -- a pass that is outside is counted as waiting
+  abbrev pub WaitsFrom : View B E → Me S (View B E) → Type 0
+  WaitsFrom (Outside b (p ∷ [])) now = now ≡ (Waiting b p, [])
+  WaitsFrom v now = Unit {0}
+
+  abbrev pub BeginsWait : Step S → Me S (View B E) → ℕ → Me S (View B E) → Type 0
+  BeginsWait step before found now = WaitsFrom before.0 now
+
+  -- a pass that is counted is outside again
+  abbrev pub ComesFrom : View B E → Me S (View B E) → Type 0
+  ComesFrom (Waiting b p) now = now ≡ (Outside b (p ∷ []), [])
+  ComesFrom v now = Unit {0}
+
+  abbrev pub EndsWait : Step S → Me S (View B E) → ℕ → Me S (View B E) → Type 0
+  EndsWait step before found now = ComesFrom before.0 now
+
 module _ {S B E : Type 0} (base_of : S → B) (entries_of : S → List E) where
   -- a pass goes inside with the state y, whose history it sees whole
   pub record GoesIn (b : B) (p : Part E) (y : S) (q : Part E) : Type 0 where
     pub base : base_of y ≡ b
-    pub entries : entries_of y ≡ told q.front
+    pub entries : entries_of y ≡ entries_in q.front
     pub number : q.number ≡ p.number
     pub begins : IsPrefix p.front q.front
     pub turns : turns_of p.number q.front ≡ turns_of p.number p.front

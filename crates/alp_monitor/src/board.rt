@@ -28,6 +28,8 @@ pub enum View<B, E> {
     Founder(B, u64),
     /// A pass that is outside, with those that it took in at the end.
     Outside(B, LinkedList<Part<E>>),
+    /// A pass that is counted as waiting.
+    Waiting(B, Part<E>),
     /// A pass that is inside: the one that the state is out with.
     Inside(B, Part<E>),
 }

@@ -2,7 +2,7 @@
 ghost use Rattle.std.specs.Prelude.{◌≡◌, ◌<◌};
 
 use crate::board::{Board, PLACE, Place, WAITING, WORD};
-use crate::plays::{Claim, CountWaiting, OnePass, Settle};
+use crate::plays::{BeginWait, Claim, EndWait, MarkAwake, OnePass, Settle};
 use crate::story::Story;
 use alp_base::OutOfMemory;
 use atomic_table::{Refused, Table};
@@ -17,7 +17,7 @@ const LOOKS: u32 = 8;
 /// A state that threads take in turns, each by a pass of its own.
 #[derive(Drop)]
 pub struct Monitor<S: Story> {
-    table: Board<S>,
+    pub(crate) table: Board<S>,
     ghost sized: { (table.shared.table_id.words ≡ 2) × (table.shared.table_id.slots ≡ 1) },
     ghost some: { 0 < table.shared.key.1 },
 }
@@ -117,7 +117,7 @@ impl<S: Story> Monitor<S> {
 impl<S: Story> Monitor<S> {
     ghost use Rattle.std.specs.Prelude.{◌%◌, [], ◌∷◌, ◌++◌, length, IfSome, IfNone, Some};
     ghost use mathlib.Core.List.{IsPrefix};
-    ghost use Rattle.alp_monitor.specs.History.{told, AddsAtMostOne};
+    ghost use Rattle.alp_monitor.specs.History.{entries_in, AddsAtMostOne};
     ghost use Rattle.alp_monitor.specs.Passes.{IsPassOf, IsOutside, IsInside, IsSamePass, IsUntouched, Enters, base_of_pass, number, front, turns};
 
     /// Waits until the state is home, and hands it out.
@@ -126,7 +126,7 @@ impl<S: Story> Monitor<S> {
         requires outside { IsOutside pass }
         ensures pass { IsSamePass pass result.pass × IsInside result.pass }
         ensures base { base_of_pass pass ≡ Some (S.base result.state) }
-        ensures history { S.entries result.state ≡ told (front result.pass) }
+        ensures history { S.entries result.state ≡ entries_in (front result.pass) }
         ensures front { IsPrefix (front pass) (front result.pass) }
         ensures turns { turns result.pass ≡ turns pass }
     {
@@ -146,16 +146,16 @@ impl<S: Story> Monitor<S> {
         requires own { IsPassOf self.now turn.pass }
         requires inside { IsInside turn.pass }
         requires base { base_of_pass turn.pass ≡ Some (S.base turn.state) }
-        requires history { AddsAtMostOne (told (front turn.pass)) (S.entries turn.state) }
+        requires history { AddsAtMostOne (entries_in (front turn.pass)) (S.entries turn.state) }
         ensures pass { IsSamePass turn.pass result × IsOutside result }
-        ensures history { told (front result) ≡ S.entries turn.state }
+        ensures history { entries_in (front result) ≡ S.entries turn.state }
         ensures front { IsPrefix (front turn.pass) (front result) }
 
         // Without an entry the pass knows what it knew. An entry is one turn more of this pass.
-        ensures none { S.entries turn.state ≡ told (front turn.pass) → front result ≡ front turn.pass }
-        ensures entry { (e : S.Entry) → S.entries turn.state ≡ told (front turn.pass) ++ e ∷ []
+        ensures none { S.entries turn.state ≡ entries_in (front turn.pass) → front result ≡ front turn.pass }
+        ensures entry { (e : S.Entry) → S.entries turn.state ≡ entries_in (front turn.pass) ++ e ∷ []
             → front result ≡ front turn.pass ++ (number turn.pass, e) ∷ [] }
-        ensures turn { (e : S.Entry) → S.entries turn.state ≡ told (front turn.pass) ++ e ∷ []
+        ensures turn { (e : S.Entry) → S.entries turn.state ≡ entries_in (front turn.pass) ++ e ∷ []
             → turns result ≡ turns turn.pass ++ (length (front turn.pass), e) ∷ [] }
     {
         let shared = &self.table.shared;
@@ -191,19 +191,20 @@ impl<S: Story> Monitor<S> {
     // changes the count, so none comes before it sleeps. Once back it is awake and looks at the word.
     fn wait<R: Wait>(&self, rt: &R, pass: &mut Pass<S>, word: u64)
         requires own { IsPassOf self.now pass.old }
+        requires outside { IsOutside pass.old }
         ensures { IsUntouched pass.old pass.new }
     {
         if self.changes_soon(word) {
             return;
         }
         let shared = &self.table.shared;
-        shared.fetch_add::<CountWaiting>(&mut pass.seat, WAITING, 2);
-        let seen = shared.fetch_and::<CountWaiting>(&mut pass.seat, WAITING, !1);
+        shared.fetch_add::<BeginWait>(&mut pass.seat, WAITING, 2);
+        let seen = shared.fetch_and::<MarkAwake>(&mut pass.seat, WAITING, !1);
         if shared.peek(WORD) % 2 != 0 {
             shared.park(rt, WAITING, (seen / 2 * 2 % (1 << 32)) as u32);
         }
-        shared.fetch_sub::<CountWaiting>(&mut pass.seat, WAITING, 2);
-        shared.fetch_and::<CountWaiting>(&mut pass.seat, WAITING, !1);
+        shared.fetch_sub::<EndWait>(&mut pass.seat, WAITING, 2);
+        shared.fetch_and::<MarkAwake>(&mut pass.seat, WAITING, !1);
     }
 
     // Looks at the word a few times, less and less often.
@@ -230,7 +231,7 @@ impl<S: Story> Monitor<S> {
         if waiting < 2 || waiting % 2 != 0 {
             return;
         }
-        let found = shared.compare_exchange::<CountWaiting>(
+        let found = shared.compare_exchange::<MarkAwake>(
             &mut pass.seat,
             WAITING,
             waiting,

@@ -21,10 +21,28 @@ impl<S: Story> Play<Option<S>, View<S::Base, S::Entry>> for Settle {
     ghost then = { Settles S.entries };
 }
 
-/// One more or one fewer waits, which changes nothing that a pass knows.
-pub(crate) struct CountWaiting;
+/// The pass is counted as waiting.
+pub(crate) struct BeginWait;
 
-impl<S, B, E> Play<S, View<B, E>> for CountWaiting {
+impl<S, B, E> Play<S, View<B, E>> for BeginWait {
+    ghost use Rattle.alp_monitor.specs.Steps.{BeginsWait};
+
+    ghost then = { BeginsWait };
+}
+
+/// It is counted no more.
+pub(crate) struct EndWait;
+
+impl<S, B, E> Play<S, View<B, E>> for EndWait {
+    ghost use Rattle.alp_monitor.specs.Steps.{EndsWait};
+
+    ghost then = { EndsWait };
+}
+
+/// One of those that wait is awake, or none is, which changes nothing that a pass knows.
+pub(crate) struct MarkAwake;
+
+impl<S, B, E> Play<S, View<B, E>> for MarkAwake {
     ghost use Rattle.alp_monitor.specs.Steps.{Stays};
 
     ghost then = { Stays };

@@ -4,3 +4,4 @@ mod four;
 mod numbers;
 mod sixteen;
 mod turns;
+mod woken;

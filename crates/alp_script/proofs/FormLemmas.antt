@@ -15,7 +15,7 @@ use Rattle.alp_modes.specs.declared.Mode.{Mode}
 use Rattle.alp_modes.specs.declared.Mode.TheVariants as mode
 use Rattle.alp_script.specs.Words.{◌>>=◌, when, is_numeral, value_from, says, number_of, within, word32_of, name_of, text_of, file_word_of, new_word_of}
 use Rattle.alp_script.specs.Grammar.{server_of, client_of, run_of, list_of, lists_of, servers_line, client_line, begin_line, owner_line, file_line, create_line, opening_of, open_line, write_line, read_line, commit_line, abort_line, line_by_verb, line_of_client, line_by, line_of}
-use Rattle.alp_script.specs.Forms.{world, IsRun, IsText, IsForm}
+use Rattle.alp_script.specs.Forms.{world, IsRunOfPages, IsText, IsForm}
 use Rattle.alp_script.specs.Forms as form
 use Rattle.alp_script.specs.declared.grammar.TheConstants.{RUN_MOST}
 use Rattle.alp_script.specs.declared.line.FileWord.{FileWord}
@@ -44,14 +44,14 @@ unfolding within
 within-bounds low high w n h = ranged low high (number_of high w) n (number_of-most high w) h
 
 a_run : (first count : Option ℕ) (run : Run) → ((n : ℕ) → count ≡ Some n → (1 ≤ n) × (n ≤ RUN_MOST))
-    → (first >>= λ f. count >>= λ n. Some (record { first = f; count = n })) ≡ Some run → IsRun run
+    → (first >>= λ f. count >>= λ n. Some (record { first = f; count = n })) ≡ Some run → IsRunOfPages run
 a_run None count run bounds h = cc
 a_run (Some f) None run bounds h = cc
 a_run (Some f) (Some n) run bounds h =
     let b = bounds n refl in
-    subst IsRun (same_Some (record { first = f; count = n }) run h) (record { some = b.0; few = b.1 })
+    subst IsRunOfPages (same_Some (record { first = f; count = n }) run h) (record { some = b.0; few = b.1 })
 
-run_of-is : (first count : List ℕ) (run : Run) → run_of first count ≡ Some run → IsRun run
+run_of-is : (first count : List ℕ) (run : Run) → run_of first count ≡ Some run → IsRunOfPages run
 unfolding run_of
 run_of-is first count run h = a_run (word32_of first) (within 1 RUN_MOST count) run (within-bounds 1 RUN_MOST count) h
 
@@ -209,7 +209,7 @@ open_form client (a ∷ b ∷ c ∷ []) l h =
 open_form client (a ∷ b ∷ c ∷ d ∷ more) l h = cc
 
 write_by : (client : ℕ) (file : Option FileWord) (run : Option Run) (text : Option (List ℕ)) (l : Line)
-    → ((r : Run) → run ≡ Some r → IsRun r) → ((t : List ℕ) → text ≡ Some t → IsText t)
+    → ((r : Run) → run ≡ Some r → IsRunOfPages r) → ((t : List ℕ) → text ≡ Some t → IsText t)
     → (file >>= λ f. run >>= λ r. text >>= λ t. Some (line.WritePages client f r t choice.Fail)) ≡ Some l → IsForm l
 write_by client None run text l p q h = cc
 write_by client (Some f) None text l p q h = cc
@@ -225,7 +225,7 @@ write_form client (a ∷ b ∷ c ∷ []) l h = cc
 write_form client (a ∷ b ∷ c ∷ d ∷ []) l h = write_by client (file_word_of a) (run_of b c) (text_of d) l (run_of-is b c) (text_of-is d) h
 write_form client (a ∷ b ∷ c ∷ d ∷ e ∷ more) l h = cc
 
-read_by : (client : ℕ) (file : Option FileWord) (run : Option Run) (l : Line) → ((r : Run) → run ≡ Some r → IsRun r)
+read_by : (client : ℕ) (file : Option FileWord) (run : Option Run) (l : Line) → ((r : Run) → run ≡ Some r → IsRunOfPages r)
     → (file >>= λ f. run >>= λ r. Some (line.ReadPages client f r mode.Read choice.Fail)) ≡ Some l → IsForm l
 read_by client None run l p h = cc
 read_by client (Some f) None l p h = cc

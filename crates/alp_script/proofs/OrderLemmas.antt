@@ -12,21 +12,21 @@ use Rattle.alp_script.specs.Forms.{IsForm}
 use Rattle.alp_script.specs.Forms as form
 use Rattle.alp_script.specs.Accepted.{declared_by}
 use Rattle.alp_script.proofs.FormLemmas.{tested}
-use Rattle.alp_script.specs.declared.grammar.TheConstants.{CLIENTS_MOST}
+use Rattle.alp_base.specs.declared.limits.TheConstants.{CLIENTS}
 use Rattle.alp_script.specs.declared.line.Line.{Line}
 
-client_bounds : (named : Option ℕ) (k : ℕ) → is_client named ≡ true → named ≡ Some k → (1 ≤ k) × (k ≤ CLIENTS_MOST)
+client_bounds : (named : Option ℕ) (k : ℕ) → is_client named ≡ true → named ≡ Some k → (1 ≤ k) × (k ≤ CLIENTS)
 client_bounds None k h e = cc
 client_bounds (Some n) k h e =
     let both = and_parts (nat_le 1 n) _ h in
-    subst (λ (m : ℕ). (1 ≤ m) × (m ≤ CLIENTS_MOST)) (same_Some n k e) (leb-true _ _ both.0, leb-true _ _ both.1)
+    subst (λ (m : ℕ). (1 ≤ m) × (m ≤ CLIENTS)) (same_Some n k e) (leb-true _ _ both.0, leb-true _ _ both.1)
 
 one_named : (named : Option ℕ) (s : ℕ) → is_one named ≡ true → named ≡ Some s → s ≡ 1
 one_named None s h e = cc
 one_named (Some n) s h e = sym (same_Some n s e) ∙ eqb-true n 1 h
 
 -- the client that a line names is one of the run
-pub ours-client : (l : Line) (k : ℕ) → names_ours l ≡ true → client_named l ≡ Some k → (1 ≤ k) × (k ≤ CLIENTS_MOST)
+pub ours-client : (l : Line) (k : ℕ) → names_ours l ≡ true → client_named l ≡ Some k → (1 ≤ k) × (k ≤ CLIENTS)
 unfolding names_ours
 ours-client l k h e = client_bounds (client_named l) k (and_parts (is_client (client_named l)) _ h).0 e
 

@@ -185,27 +185,3 @@ unfolding resume
 resume-last p open_ended some =
     ap (λ bytes. with_front p.said (script_from p.known (p.lines + 1) (lines bytes))) (append-nil p.partial)
     ∙ ap (λ texts. with_front p.said (script_from p.known (p.lines + 1) texts)) (lines-last p.partial open_ended some)
-
--- lines that were said come before what the rest says
-resume-front : (p : Progress) (front : List NumberedLine) (rest : List ℕ) → resume (record p { said = front ++ p.said }) rest ≡ with_front front (resume p rest)
-unfolding resume
-resume-front p front rest = sym (with_front-twice front p.said (script_from p.known (p.lines + 1) (lines (p.partial ++ rest))))
-
-resume-without : (p : Progress) (rest : List ℕ) → resume p rest ≡ with_front p.said (resume (record p { said = [] }) rest)
-unfolding resume
-resume-without p rest = ap (λ r. with_front p.said r) (sym (with_front-none (script_from p.known (p.lines + 1) (lines (p.partial ++ rest)))))
-
--- what a follower of the same progress took
-pub follows-joined : (p q : Progress) (piece : List ℕ) → Follows (record p { said = [] }) q piece → Follows p (record q { said = p.said ++ q.said }) piece
-follows-joined p q piece h = record {
-  same = λ rest. resume-without p (piece ++ rest) ∙ ap (with_front p.said) (h.same rest) ∙ sym (resume-front q p.said rest);
-  nearer = h.nearer;
-}
-
--- what a follower did not take
-pub refused-joined : (p q : Progress) (piece : List ℕ) (e : ScriptFault) → Takes {X = Unit {0}} (record p { said = [] }) q piece (Err e) → Takes {X = Unit {0}} p p piece (Err e)
-refused-joined p q piece (fault.Bad n) h = record {
-  always = λ rest. resume-without p (piece ++ rest) ∙ ap (with_front p.said) (h.always rest);
-}
-refused-joined p q piece fault.ReadFault h = absurd h
-refused-joined p q piece fault.OutOfMemory h = tt

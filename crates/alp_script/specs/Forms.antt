@@ -15,7 +15,7 @@ use Rattle.alp_script.specs.declared.words.TheConstants.{TEXT_BYTES}
 abbrev pub world : List (List ℕ)
 world = codes "World" ∷ []
 
-pub record IsRun (run : Run) : Type 0 where
+pub record IsRunOfPages (run : Run) : Type 0 where
   pub some : 0 < run.count
   pub few : run.count ≤ RUN_MOST
 
@@ -31,7 +31,7 @@ pub data IsForm : Line → Type 0 where
   create : (number server : ℕ) (word name : List ℕ) (size : ℕ) → size ≤ PAGES_PER_FILE → IsForm (line.Create number server word name size world world choice.Fail)
   open_read : (number : ℕ) (file : FileWord) → IsForm (line.OpenFile number file access.ReadOnly mode.Read choice.Fail)
   open_change : (number : ℕ) (file : FileWord) → IsForm (line.OpenFile number file access.Change mode.Write choice.Fail)
-  write : (number : ℕ) (file : FileWord) (run : Run) (text : List ℕ) → IsRun run → IsText text → IsForm (line.WritePages number file run text choice.Fail)
-  read : (number : ℕ) (file : FileWord) (run : Run) → IsRun run → IsForm (line.ReadPages number file run mode.Read choice.Fail)
+  write : (number : ℕ) (file : FileWord) (run : Run) (text : List ℕ) → IsRunOfPages run → IsText text → IsForm (line.WritePages number file run text choice.Fail)
+  read : (number : ℕ) (file : FileWord) (run : Run) → IsRunOfPages run → IsForm (line.ReadPages number file run mode.Read choice.Fail)
   commit : (number : ℕ) → IsForm (line.Commit number)
   abort : (number : ℕ) → IsForm (line.Abort number)

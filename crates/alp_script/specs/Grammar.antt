@@ -9,15 +9,16 @@ use Rattle.alp_base.specs.declared.lists.TheConstants.{PAGES_PER_FILE}
 use Rattle.alp_modes.specs.declared.Mode.{Mode}
 use Rattle.alp_modes.specs.declared.Mode.TheVariants as mode
 use Rattle.alp_script.specs.Words.{◌>>=◌, when, says, name_of, within, word32_of, text_of, file_word_of, new_word_of, is_line, words_of}
-use Rattle.alp_script.specs.declared.grammar.TheConstants.{SERVERS_MOST, CLIENTS_MOST, RUN_MOST}
+use Rattle.alp_base.specs.declared.limits.TheConstants.{SERVERS, CLIENTS}
+use Rattle.alp_script.specs.declared.grammar.TheConstants.{RUN_MOST}
 use Rattle.alp_script.specs.declared.line.Line.{Line}
 use Rattle.alp_script.specs.declared.line.Line.TheVariants as line
 
 abbrev pub server_of : List ℕ → Option ℕ
-server_of w = within 1 SERVERS_MOST w
+server_of w = within 1 SERVERS w
 
 abbrev pub client_of : List ℕ → Option ℕ
-client_of w = within 1 CLIENTS_MOST w
+client_of w = within 1 CLIENTS w
 
 -- pages in a row
 unfoldable pub run_of : List ℕ → List ℕ → Option Run

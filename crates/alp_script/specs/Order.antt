@@ -4,7 +4,7 @@ use Rattle.std.specs.List.{list_any}
 use Rattle.alp_script.specs.Words.{when, says}
 use Rattle.alp_script.specs.Named.{client_named, server_named}
 use Rattle.alp_script.specs.Known.{Known}
-use Rattle.alp_script.specs.declared.grammar.TheConstants.{CLIENTS_MOST}
+use Rattle.alp_base.specs.declared.limits.TheConstants.{CLIENTS}
 use Rattle.alp_script.specs.declared.line.FileWord.{FileWord}
 use Rattle.alp_script.specs.declared.line.FileWord.TheVariants as file_word
 use Rattle.alp_script.specs.declared.line.Line.{Line}
@@ -16,7 +16,7 @@ is_one (Some n) = n == 1
 
 abbrev pub is_client : Option ℕ → Bool
 is_client None = true
-is_client (Some n) = nat_le 1 n && nat_le n CLIENTS_MOST
+is_client (Some n) = nat_le 1 n && nat_le n CLIENTS
 
 -- whom the line names is of the run: a client from 1 to the most, and server 1
 unfoldable pub names_ours : Line → Bool

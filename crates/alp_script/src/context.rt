@@ -5,11 +5,10 @@ ghost use Rattle.alp_script.specs.Known.{nothing_known};
 ghost use Rattle.alp_script.specs.Order.{is_one as is_one_said, is_client as is_client_said, names_ours as names_ours_said, is_known as is_known_said, is_declared as is_declared_said, is_bound as is_bound_said, after_servers, after_client, after_call, after_create, after_file, after, next as next_said};
 
 use crate::fault::LineFault;
-use crate::grammar::CLIENTS_MOST;
 use crate::words::says;
 use crate::{FileWord, Line};
-use alp_base::Name;
-use std::alloc::{AllocError, Global};
+use alp_base::{CLIENTS, Name};
+use std::alloc::Global;
 use std::marker::Model;
 
 /// What earlier lines declared and bound.
@@ -29,21 +28,6 @@ impl Model for Context {
     ghost view = { λ c. record { servers = c.servers; clients = c.clients.items; begun = c.begun; words = c.words.items } };
 }
 
-impl Clone for Context {
-    ghost is_clone = { λ a b. b ≡ a };
-
-    fn clone(&self) -> Result<Context, AllocError> {
-        let clients = self.clients.clone()?;
-        let words = self.words.clone()?;
-        Ok(Context {
-            servers: self.servers,
-            clients,
-            begun: self.begun,
-            words,
-        })
-    }
-}
-
 fn is_one(number: Option<u8>) -> bool
     ensures { result ≡ is_one_said number }
 {
@@ -57,7 +41,7 @@ fn is_client(number: Option<u8>) -> bool
     ensures { result ≡ is_client_said number }
 {
     match number {
-        Some(number) => 1 <= number && number as u32 <= CLIENTS_MOST,
+        Some(number) => 1 <= number && number <= CLIENTS,
         None => true,
     }
 }

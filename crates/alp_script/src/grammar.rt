@@ -7,15 +7,9 @@ ghost use Rattle.alp_script.specs.Grammar.{server_of, client_of, run_of, list_of
 use crate::Line;
 use crate::fault::LineFault;
 use crate::words::{file_word, is_line, name, new_word, says, text, within, word32, words};
-use alp_base::{Access, AccessList, Choice, PAGES_PER_FILE, Run};
+use alp_base::{Access, AccessList, CLIENTS, Choice, PAGES_PER_FILE, Run, SERVERS};
 use alp_modes::Mode;
 use std::alloc::Global;
-
-/// The most servers that a run has.
-pub const SERVERS_MOST: u32 = 8;
-
-/// The most clients that a run has.
-pub const CLIENTS_MOST: u32 = 16;
 
 /// The most pages in a row that one line reads or writes.
 pub const RUN_MOST: u32 = 16;
@@ -23,14 +17,14 @@ pub const RUN_MOST: u32 = 16;
 fn server(word: &[u8]) -> Result<u8, LineFault>
     ensures { Tells result (server_of word.now) }
 {
-    let server = within(word, 1, SERVERS_MOST)?;
+    let server = within(word, 1, SERVERS as u32)?;
     Ok(server as u8)
 }
 
 fn client(word: &[u8]) -> Result<u8, LineFault>
     ensures { Tells result (client_of word.now) }
 {
-    let client = within(word, 1, CLIENTS_MOST)?;
+    let client = within(word, 1, CLIENTS as u32)?;
     Ok(client as u8)
 }
 

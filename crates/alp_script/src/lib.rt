@@ -11,7 +11,7 @@ mod reader;
 mod words;
 
 pub use fault::ScriptFault;
-pub use grammar::{CLIENTS_MOST, RUN_MOST, SERVERS_MOST};
+pub use grammar::RUN_MOST;
 pub use line::{FileWord, Line};
 pub use numbered::{NumberedLine, SCRIPT_LINES_MOST};
 pub use read::{accepted_lines, read_script};

@@ -12,7 +12,7 @@ use crate::grammar::text_in;
 use crate::numbered::SCRIPT_LINES_MOST;
 use crate::words::LINE_BYTES;
 use crate::{Line, NumberedLine, ScriptFault};
-use std::alloc::{AllocError, Global};
+use std::alloc::Global;
 use std::marker::Model;
 
 /// A reader that is given a script in pieces, and keeps the lines so far and the unfinished one.
@@ -176,57 +176,13 @@ impl Reader {
         }
     }
 
-    fn take_all(&mut self, piece: &[u8]) -> Result<(), ScriptFault>
+    /// Takes the next piece of the script. After an `Err` the script is bad, and nothing more is to be fed.
+    pub fn feed(&mut self, piece: &[u8]) -> Result<(), ScriptFault>
         ensures { Takes self.old self.new piece.now result }
     {
         for byte in piece {
             self.take(*byte)?;
         }
-        Ok(())
-    }
-
-    // A reader of the same progress that keeps no lines yet.
-    fn follower(&self) -> Result<Reader, AllocError>
-        ensures { IfOk result (λ r. r ≡ record self.now { said = [] }) }
-    {
-        let partial = self.partial.clone()?;
-        let context = self.context.clone()?;
-        Ok(Reader {
-            alloc: self.alloc,
-            context,
-            lines: self.lines,
-            partial,
-            said: Vec::new(self.alloc),
-        })
-    }
-
-    // Goes on from where the follower is, with its lines behind the own ones.
-    fn join(&mut self, follower: Reader) -> Result<(), AllocError>
-        ensures ok { OnOk result (self.new ≡ record follower { said = self.old.said ++ follower.said }) }
-        ensures err { OnErr result (self.new ≡ self.old) }
-    {
-        let Reader {
-            alloc: _,
-            context,
-            lines,
-            partial,
-            mut said,
-        } = follower;
-        self.said.append(&mut said)?;
-        self.context = context;
-        self.lines = lines;
-        self.partial = partial;
-        Ok(())
-    }
-
-    /// Takes the next piece of the script. An `Err` changes nothing.
-    pub fn feed(&mut self, piece: &[u8]) -> Result<(), ScriptFault>
-        ensures taken { Takes self.old self.new piece.now result }
-        ensures unchanged { OnErr result (self.new ≡ self.old) }
-    {
-        let mut follower = self.follower()?;
-        follower.take_all(piece)?;
-        self.join(follower)?;
         Ok(())
     }
 

@@ -64,8 +64,8 @@ fn two<R: Threads + Wait + Sync>(
     )
 }
 
-fn four<R: Threads + Wait + Sync>(rt: &R, alloc: Global) -> Result<bool, AllocError> {
-    let (monitor, (ab, cd), room) = of_four(alloc, 7, 4000)?;
+fn four<R: Threads + Wait + Sync>(rt: &R, alloc: Global, pause: u32) -> Result<bool, AllocError> {
+    let (monitor, (ab, cd), room) = of_four(alloc, 7, 4000, pause)?;
     let (ab, cd) = thread::join(
         rt,
         || -> (Done, Done)
@@ -83,6 +83,14 @@ fn four<R: Threads + Wait + Sync>(rt: &R, alloc: Global) -> Result<bool, AllocEr
 #[test]
 fn four_threads(rt: HostRuntime) -> Result<(), Fail> {
     let alloc = rt.alloc();
-    assert!(rt; four(&rt, alloc)?);
+    assert!(rt; four(&rt, alloc, 0)?);
+    Ok(())
+}
+
+// Each turn lasts longer than a pass looks before it sleeps.
+#[test]
+fn four_threads_that_sleep(rt: HostRuntime) -> Result<(), Fail> {
+    let alloc = rt.alloc();
+    assert!(rt; four(&rt, alloc, 1000)?);
     Ok(())
 }

@@ -7,6 +7,8 @@ use crate::Story;
 pub(super) struct Numbers {
     pub(super) name: u64,
     pub(super) items: Vec<u64>,
+    // How often a turn looks away before it ends.
+    pub(super) pause: u32,
 }
 
 impl Story for Numbers {

@@ -97,8 +97,8 @@ fn link<R: Threads + Wait + Sync>(
 fn pair<R: Threads + Wait + Sync>(rt: &R, alloc: Global, name: u64) -> Result<bool, AllocError>
     requires { name < 1000 }
 {
-    let (left, (lefts, more_lefts), left_room) = of_four(alloc, name, 400)?;
-    let (right, (rights, more_rights), right_room) = of_four(alloc, name + 1, 400)?;
+    let (left, (lefts, more_lefts), left_room) = of_four(alloc, name, 400, 0)?;
+    let (right, (rights, more_rights), right_room) = of_four(alloc, name + 1, 400, 0)?;
     let one = (lefts, rights);
     let two = (more_lefts, more_rights);
     let ((a, b), (c, d)) = thread::join(

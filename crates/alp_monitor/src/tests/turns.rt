@@ -4,8 +4,10 @@ ghost use Rattle.std.specs.Vec.{vec_len, vec_capacity};
 ghost use Rattle.alp_monitor.specs.Passes.{IsPassOf, IsOutside, IsSamePass, IsReady, pass_count};
 
 use super::numbers::Numbers;
+use crate::board::WAITING;
 use crate::{Monitor, Pass};
 use std::alloc::{AllocError, Global};
+use std::hint::spin_loop;
 use std::sync::Wait;
 
 // A pass that came back, the first of the numbers that it added, and where they stand.
@@ -21,6 +23,11 @@ pub(super) type Passes = (
     (Pass<Numbers>, Pass<Numbers>),
 );
 
+// How many passes are counted as waiting.
+pub(super) fn waiting(monitor: &Monitor<Numbers>) -> u64 {
+    monitor.table.shared.peek(WAITING) / 2
+}
+
 // One turn, which adds the number. Returns the place that it got.
 pub(super) fn add<R: Wait>(
     rt: &R,
@@ -35,14 +42,19 @@ pub(super) fn add<R: Wait>(
     let mut turn = monitor.enter(rt, pass);
     let place = turn.state.items.len();
     let _ = turn.state.items.push(number);
+    for _ in 0..turn.state.pause {
+        spin_loop();
+    }
     (monitor.leave(turn), place)
 }
 
-// A monitor of an empty list with this name, four passes, and a list with room for them.
+// A monitor of an empty list with this name, four passes, and a list with room for them. Each turn
+// lasts for the pause.
 pub(super) fn of_four(
     alloc: Global,
     name: u64,
     room: usize,
+    pause: u32,
 ) -> Result<(Monitor<Numbers>, Passes, Vec<Pass<Numbers>>), AllocError>
     ensures count { IfOk result (λ r. pass_count r.0 ≡ 4) }
     ensures first { IfOk result (λ r. IsReady r.0 0 r.1.0.0) }
@@ -54,6 +66,7 @@ pub(super) fn of_four(
     let numbers = Numbers {
         name,
         items: Vec::with_capacity(alloc, room)?,
+        pause,
     };
     let Ok((monitor, mut passes)) = Monitor::new(alloc, numbers, 4) else {
         return Err(AllocError);
@@ -66,7 +79,7 @@ pub(super) fn of_four(
 }
 
 // Hands the four passes back. Answers whether the list has this name, and the numbers of `each` turns
-// of each pass, where they were made, and no others.
+// of each pass, where they were made, and no others, and that no pass is counted as waiting.
 pub(super) fn close(
     monitor: Monitor<Numbers>,
     mut room: Vec<Pass<Numbers>>,
@@ -82,13 +95,15 @@ pub(super) fn close(
     requires fourth { IsReady monitor 3 done.1.1.pass }
     requires room { (room.items ≡ []) × (vec_len room ≡ 0) × (4 ≤ vec_capacity room) }
 {
+    let none_waits = waiting(&monitor) == 0;
     let ((a, b), (c, d)) = done;
     room.push_reserved(a.pass);
     room.push_reserved(b.pass);
     room.push_reserved(c.pass);
     room.push_reserved(d.pass);
     let numbers = monitor.close(room);
-    numbers.name == name
+    none_waits
+        && numbers.name == name
         && numbers.items.len() == 4 * each
         && numbers.have(a.first, each, &a.places)
         && numbers.have(b.first, each, &b.places)

@@ -1,5 +1,5 @@
 use Rattle.std.proofs.Common.{arith}
-use Rattle.alp_files.specs.PropsField.{numbers_of}
+use Rattle.alp_forms.specs.PropsField.{numbers_of}
 use Rattle.alp_leader.specs.declared.form.TheConstants.{TYPE_AT}
 use Rattle.alp_leader.proofs.PlaceLaws.{numbers_set}
 use Rattle.alp_leader.proofs.write.set_numbers.Goals as goal

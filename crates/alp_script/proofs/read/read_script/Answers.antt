@@ -12,7 +12,7 @@ loop-count-init g c = record {
 
 pub loop-count-preserved : goal.loop-count-preserved
 loop-count-preserved g c = record {
-  read = has_read-more (g.S.Source.left c.args.source.now) (g.S.Source.left c.loop-count.source) (g.S.Source.left c.read.new.self) c.loop-count.reader c.feed.new.self _ c.loop-count.invariant.read c.in-Ok.ensures.bytes.0 c.in_ok-feed.ensures.taken;
+  read = has_read-more (g.S.Source.left c.args.source.now) (g.S.Source.left c.loop-count.source) (g.S.Source.left c.read.new.self) c.loop-count.reader c.feed.new.self _ c.loop-count.invariant.read c.in-Ok.ensures.bytes.0 c.in_ok-feed.ensures;
   later = omega (arith, c.loop-count.invariant.later, c.in-Ok.ensures.cause.later);
 }
 
@@ -21,7 +21,7 @@ returns-in_err-feed-clause-script g c =
     let p = err_from_is_err_and c.from_residual.result c.from_residual.ensures.1 in
     rw (p.1, p.2)
     (reads-refused (g.S.Source.left c.args.source.now) (g.S.Source.left c.loop-count.source) (g.S.Source.left c.read.new.self) (g.S.Source.faults c.args.source.now) (g.S.Source.faults c.read.new.self)
-    c.loop-count.reader c.feed.new.self _ c.in_err-feed.field-0.0 c.loop-count.invariant.read c.in-Ok.ensures.bytes.0 c.in_err-feed.ensures.taken)
+    c.loop-count.reader c.feed.new.self _ c.in_err-feed.field-0.0 c.loop-count.invariant.read c.in-Ok.ensures.bytes.0 c.in_err-feed.ensures)
 
 pub returns-then-count-eq0-clause-script : goal.returns-then-count-eq0-clause-script
 returns-then-count-eq0-clause-script g c =

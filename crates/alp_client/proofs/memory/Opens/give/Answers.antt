@@ -1,7 +1,7 @@
 use Rattle.std.specs.FinMap as map
 use Rattle.std.proofs.Common.{ap, ◌∙◌}
 use Rattle.alp_client.specs.Maps.{OpenMap}
-use Rattle.alp_files.proofs.TreeLemmas.{put_at}
+use Rattle.alp_base.proofs.TreeLemmas.{put_at}
 use Rattle.alp_client.proofs.MapLemmas.{files_total, exact_files}
 use Rattle.alp_client.proofs.memory.Opens.give.Goals as goal
 

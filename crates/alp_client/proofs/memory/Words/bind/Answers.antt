@@ -1,7 +1,7 @@
 use Rattle.std.specs.FinMap as map
 use Rattle.std.proofs.Common.{ap, sym, ◌∙◌}
 use Rattle.alp_client.specs.Maps.{WordMap}
-use Rattle.alp_files.proofs.TreeLemmas.{put_at, get_at}
+use Rattle.alp_base.proofs.TreeLemmas.{put_at, get_at}
 use Rattle.alp_files.proofs.UndoLemmas.{on_err}
 use Rattle.alp_client.proofs.MapLemmas.{nat_list_cmp_total, exact_bytes}
 use Rattle.alp_client.proofs.memory.Words.bind.Goals as goal

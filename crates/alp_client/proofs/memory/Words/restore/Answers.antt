@@ -1,7 +1,7 @@
 use Rattle.std.specs.FinMap as map
 use Rattle.std.proofs.Common.{ap, sym, ◌∙◌}
 use Rattle.alp_client.specs.Maps.{WordMap}
-use Rattle.alp_files.proofs.TreeLemmas.{remove_at}
+use Rattle.alp_base.proofs.TreeLemmas.{remove_at}
 use Rattle.alp_client.proofs.MapLemmas.{nat_list_cmp_total, exact_bytes, bound_back, unbound}
 use Rattle.alp_client.proofs.memory.Words.restore.Goals as goal
 

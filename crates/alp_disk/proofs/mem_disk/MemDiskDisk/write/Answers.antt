@@ -32,5 +32,6 @@ pub returns-clause-waits : goal.returns-clause-waits
 returns-clause-waits c = record {
   write = c.new-write.result;
   place = (c.new-write.ensures.at_page, c.new-write.ensures.from, c.new-write.ensures.holds);
+  stable = c.note.ensures.stable;
   pending = c.note.ensures.pending;
 }

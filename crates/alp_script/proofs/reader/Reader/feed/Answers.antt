@@ -1,19 +1,21 @@
-use Rattle.std.specs.Prelude.{Err}
-use Rattle.std.proofs.Common.{subst}
+use Rattle.std.proofs.Common.{refl, arith}
 use Rattle.std.proofs.lemmas.Result.{err_from_is_err_and}
-use Rattle.alp_script.specs.Progress.{Progress, Follows, Takes}
-use Rattle.alp_script.proofs.ScriptLemmas.{follows-joined, refused-joined}
+use Rattle.alp_script.proofs.ScriptLemmas.{resume-next, refused-next, follows-all}
 use Rattle.alp_script.proofs.reader.Reader.feed.Goals as goal
 
-pub returns-in_err-take_all-clause-taken : goal.returns-in_err-take_all-clause-taken
-returns-in_err-take_all-clause-taken c =
-    let p = err_from_is_err_and c.from_residual-in_err-take_all.result c.from_residual-in_err-take_all.ensures.1 in
-    rw (p.1, p.2)
-    (refused-joined c.args.self.now c.take_all.new.self c.args.piece.now c.in_err-take_all.field-0.0
-    (subst (λ (q : Progress). Takes {X = Unit {0}} q c.take_all.new.self c.args.piece.now (Err c.in_err-take_all.field-0.0)) c.in_ok-follower.ensures c.in_err-take_all.ensures))
+pub loop-byte-init : goal.loop-byte-init
+loop-byte-init c = record { same = λ rest. refl; nearer = omega arith }
 
-pub returns-clause-taken : goal.returns-clause-taken
-returns-clause-taken c =
-    rw c.in_ok-join.ensures.ok
-    (follows-joined c.args.self.now c.take_all.new.self c.args.piece.now
-    (subst (λ (q : Progress). Follows q c.take_all.new.self c.args.piece.now) c.in_ok-follower.ensures c.in_ok-take_all.ensures))
+pub loop-byte-preserved : goal.loop-byte-preserved
+loop-byte-preserved c = record {
+  same = resume-next _ _ _ c.args.piece.now c.loop-byte.byte-index c.loop-byte-test.true c.loop-byte.invariant.same c.in_ok-take.ensures;
+  nearer = omega (arith, c.loop-byte.invariant.nearer, c.in_ok-take.ensures.nearer);
+}
+
+pub returns-in_err-take : goal.returns-in_err-take
+returns-in_err-take c =
+    let p = err_from_is_err_and c.from_residual.result c.from_residual.ensures.1 in
+    rw (p.1, p.2) (refused-next c.args.self.now c.loop-byte.self c.take.new.self c.args.piece.now c.loop-byte.byte-index c.in_err-take.field-0.0 c.loop-byte-test.true c.loop-byte.invariant.same c.in_err-take.ensures)
+
+pub returns : goal.returns
+returns c = follows-all _ _ c.args.piece.now c.loop-byte.byte-index c.loop-byte-test.false c.loop-byte.invariant.same c.loop-byte.invariant.nearer

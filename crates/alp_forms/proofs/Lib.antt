@@ -1,0 +1,5 @@
+pub mod VariantLaws
+pub mod ReasonLaws
+pub mod RefusalLaw
+pub mod ModeFieldLaw
+pub mod PropsFieldLaw

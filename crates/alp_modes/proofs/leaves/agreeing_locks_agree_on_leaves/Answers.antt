@@ -1,5 +1,0 @@
-use Rattle.alp_modes.proofs.HoldingLemmas.{agreement-of-leaves}
-use Rattle.alp_modes.proofs.leaves.agreeing_locks_agree_on_leaves.Goals as goal
-
-pub returns : goal.returns
-returns c = agreement-of-leaves

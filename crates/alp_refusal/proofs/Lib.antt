@@ -1,3 +1,0 @@
-pub mod VariantLaws
-pub mod ReasonLaws
-pub mod RefusalLaw
