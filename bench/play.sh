@@ -4,7 +4,7 @@
 # the time of a script of one line, which is the start of the program.
 cd "$(dirname "$0")/.." || exit 1
 program=crates/alpine/out/alpine
-[ -x "$program" ] || { echo "build the program first: ./play examples/first.alp" >&2; exit 1; }
+[ -x "$program" ] || { echo "build the program first: ./play --prove" >&2; exit 1; }
 folder=$(mktemp -d)
 trap 'rm -rf "$folder"' EXIT
 
