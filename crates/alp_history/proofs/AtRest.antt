@@ -1,15 +1,12 @@
 -- a settled log ends in the cells that its servers hold
-use Rattle.std.specs.Prelude.{Bool, true, false, Option, None, Some, flat_map}
-use Rattle.std.proofs.Common.{◌≡◌, ℕ, List, [], ◌∷◌, ◌++◌, refl, sym, ap, subst, ◌∙◌}
+use Rattle.std.specs.Prelude.{false, flat_map}
+use Rattle.std.proofs.Common.{◌≡◌, List, [], ◌∷◌, ◌++◌, refl, ap, ◌∙◌}
 use Rattle.alp_base.specs.declared.ids.JoinNo.{JoinNo}
-use Rattle.alp_base.specs.declared.ids.TransId.{TransId}
 use Rattle.alp_base.specs.declared.ids.Stamp.{Stamp}
-use Rattle.alp_history.specs.Ids.{has_join}
-use Rattle.alp_history.specs.Opening.{ReadyNote}
 use Rattle.alp_history.specs.Participant.{Phase, Unseen, Joining, Active, Ready, Applied, Over, is_ready}
 use Rattle.alp_history.specs.State.{State}
-use Rattle.alp_history.specs.Log.{Log, final, decided, finish_of, held, is_decided_in, ready_note, ready_in, IsIn}
-use Rattle.alp_history.specs.Theorems.{IsProper, IsSettled, IsWhole, EndsInCells, Settling}
+use Rattle.alp_history.specs.Log.{final, held, is_decided_in, ready_note}
+use Rattle.alp_history.specs.Theorems.{IsWhole, Settling}
 use Rattle.alp_history.proofs.Wholes.{are-whole}
 
 no-note : (s : State) (j : JoinNo) (p : Phase) → is_ready p ≡ false → ready_note s j p ≡ []

@@ -1,14 +1,16 @@
 -- the decided transactions of all servers, by look-up
-use Rattle.std.specs.Prelude.{Bool, true, false, cond, ◌==◌, Option, None, Some, T, filter, map as list_map}
-use Rattle.std.specs.FinMap.Entries.{put, find-put, is_sorted, is_sorted-put, by_order, find}
-use Rattle.std.specs.Ordering.{is_eq}
+use Rattle.std.specs.Prelude.{Bool, true, false, cond, ◌&&◌, ◌==◌, Option, None, Some, T, filter, map as list_map}
+use Rattle.std.specs.FinMap.Entries.{put, find-put, is_sorted, is_sorted-put, below_all, by_order, find}
+use Rattle.std.specs.Ordering.{is_eq, is_lt}
 use Rattle.std.specs.declared.cmp.Ordering.{Ordering}
 use Rattle.std.specs.declared.cmp.Ordering.TheVariants.{Less, Equal, Greater}
 use Rattle.std.proofs.Common.{◌≡◌, ℕ, ◌<◌, ◌≤◌, List, [], ◌∷◌, refl, sym, ap, subst, ◌∙◌, arith, inl, inr, ◌⊎◌, eq-eqb}
 use Rattle.std.proofs.lemmas.Bool.{eqb-true}
 use Rattle.alp_base.specs.declared.ids.JoinNo.{JoinNo}
 use Rattle.alp_base.specs.declared.ids.Stamp.{Stamp}
-use Rattle.alp_files.specs.History.{Decided}
+use Rattle.alp_files.specs.Edits.{Edit}
+use Rattle.alp_files.specs.History.{Decided, Standing, begun, steps}
+use Rattle.alp_files.specs.Apart.{changes}
 use Rattle.alp_history.specs.Ids.{has_join, stamp_cmp}
 use Rattle.alp_history.specs.Coordinator.{Fate, Undrawn, Running, Finishing, Committed, Forgotten, Ended, decision_in, joins_of}
 use Rattle.alp_history.specs.Along.{state_after}
@@ -24,6 +26,7 @@ use Rattle.alp_history.proofs.Linked.{stamps_total, itself, IsYoung, AreParts, I
 use Rattle.alp_history.proofs.Turned.{server-in}
 use Rattle.alp_history.proofs.HeldAlong.{exact_stamps}
 use Rattle.alp_history.proofs.EachServer.{along-end}
+use Rattle.alp_history.proofs.LeftBehind.{left_along}
 
 -- ---- look-ups
 
@@ -101,6 +104,39 @@ module _ {X : Type 0} where
   pub all_put-sorted : (xs ys : List (Stamp × X)) → T (is_sorted stamp_cmp ys) → T (is_sorted stamp_cmp (all_put xs ys))
   all_put-sorted [] ys h = h
   all_put-sorted (x ∷ xs) ys h = is_sorted-put stamp_cmp stamps_total x.0 x.1 (all_put xs ys) (all_put-sorted xs ys h)
+
+-- what transactions change stands at their stamps
+module _ (server : ℕ) where
+  pub left-has : (s : Standing) (xs : List (Stamp × Decided)) (x : Stamp) (es : List Edit) → at_key x (left_along server s xs) ≡ Some es → Has x xs
+  left-has s [] x es e = (let wrong : None ≡ Some es = e in cc)
+  left-has s (y ∷ ys) x es e = go (λ k. left-has (steps server (begun s) y.1.who y.1.calls) ys x es k) (stamp_cmp x y.0) e
+    where
+      go : (at_key x (left_along server (steps server (begun s) y.1.who y.1.calls) ys) ≡ Some es → Has x ys) → (o : Ordering)
+          → cond (is_eq o) (Some (changes server (begun s) y.1.who y.1.calls)) (at_key x (left_along server (steps server (begun s) y.1.who y.1.calls) ys)) ≡ Some es → (v : Decided) × (cond (is_eq o) (Some y.1) (at_key x ys) ≡ Some v)
+      go more Equal k = (y.1, refl)
+      go more Less k = more k
+      go more Greater k = more k
+
+  pub has-left : (s : Standing) (xs : List (Stamp × Decided)) (x : Stamp) (v : Decided) → at_key x xs ≡ Some v → Has x (left_along server s xs)
+  has-left s [] x v e = (let wrong : None ≡ Some v = e in cc)
+  has-left s (y ∷ ys) x v e = go (λ k. has-left (steps server (begun s) y.1.who y.1.calls) ys x v k) (stamp_cmp x y.0) e
+    where
+      go : (at_key x ys ≡ Some v → Has x (left_along server (steps server (begun s) y.1.who y.1.calls) ys)) → (o : Ordering) → cond (is_eq o) (Some y.1) (at_key x ys) ≡ Some v
+          → (es : List Edit) × (cond (is_eq o) (Some (changes server (begun s) y.1.who y.1.calls)) (at_key x (left_along server (steps server (begun s) y.1.who y.1.calls) ys)) ≡ Some es)
+      go more Equal k = (changes server (begun s) y.1.who y.1.calls, refl)
+      go more Less k = more k
+      go more Greater k = more k
+
+  left-below : (s : Standing) (x : Stamp) (xs : List (Stamp × Decided)) → below_all stamp_cmp x (left_along server s xs) ≡ below_all stamp_cmp x xs
+  left-below s x [] = refl
+  left-below s x (y ∷ ys) = ap (λ (b : Bool). is_lt (stamp_cmp x y.0) && b) (left-below (steps server (begun s) y.1.who y.1.calls) x ys)
+
+  pub left-sorted : (s : Standing) (xs : List (Stamp × Decided)) → is_sorted stamp_cmp (left_along server s xs) ≡ is_sorted stamp_cmp xs
+  left-sorted s [] = refl
+  left-sorted s (y ∷ ys) =
+      let below = left-below (steps server (begun s) y.1.who y.1.calls) y.0 ys in
+      let rest = left-sorted (steps server (begun s) y.1.who y.1.calls) ys in
+      λ i. below i && rest i
 
 filter-in : {A : Type 0} (p : A → Bool) (x : A) (xs : List A) → IsIn x (filter p xs) → IsIn x xs × (p x ≡ true)
 filter-in p x [] i = absurd i

@@ -85,6 +85,7 @@ module _ (log : Log) (proper : IsProper log) where
     parts = [];
     ids = [];
     list = refl;
+    left_so = refl;
     good = tt;
     files = refl;
     alike = λ f. refl;

@@ -12,14 +12,16 @@ use Rattle.alp_base.specs.declared.ids.Stamp.{Stamp}
 use Rattle.alp_base.specs.declared.ids.TransId.{TransId}
 use Rattle.alp_base.specs.contracts.ids.TransIdOrd.TheImpl as trans_ord
 use Rattle.alp_files.specs.Holdings.{Holding, DoAgreeOnLeaves}
-use Rattle.alp_files.specs.History.{Standing, Decided, IsSerial, serial_end}
-use Rattle.alp_files.specs.Apart.{AreSized, Locked, after_part, IsRightUnder, DoCommute, decided_as}
+use Rattle.alp_files.specs.History.{Standing, Decided, IsSerial, serial_end, begun}
+use Rattle.alp_files.specs.Apart.{AreSized, Locked, after_part, IsRightUnder, DoCommute, DoesSame, decided_as, changes}
 use Rattle.alp_files.proofs.HeldLemmas.{leaves-turned}
-use Rattle.alp_files.proofs.FrameLemmas.{parts-commute, steps-sized}
+use Rattle.alp_files.specs.Edits.{Edit}
+use Rattle.alp_files.proofs.FrameLemmas.{parts-beside, parts-commute, steps-sized}
 use Rattle.alp_files.proofs.SwapLemmas.{AreAlike, part-alike}
 use Rattle.alp_files.specs.History as history
 use Rattle.std.specs.Cmp.{nat_cmp_is}
 use Rattle.alp_history.specs.Ids.{stamp_cmp}
+use Rattle.alp_history.proofs.LeftBehind.{left_along, left-alike}
 
 -- a part that was applied, with its stamp
 abbrev pub Item : Type 0
@@ -31,6 +33,10 @@ put_item x xs = put stamp_cmp x.0 x.1 xs
 abbrev pub All : (Item → Type 0) → List Item → Type 0
 All P xs = AllByRecursion P xs
 
+-- the history that they make
+abbrev pub decided_items : List Item → List (Stamp × Decided)
+decided_items xs = list_map (λ (x : Item). (x.0, decided_as x.0 x.1)) xs
+
 module _ (server : ℕ) where
   -- each part is right, under its locks, where it stands
   abbrev pub AreGood : Standing → List Item → Type 0
@@ -40,6 +46,13 @@ module _ (server : ℕ) where
   abbrev pub end_of : Standing → List Item → Standing
   end_of s [] = s
   end_of s (x ∷ xs) = end_of (after_part server s x.1) xs
+
+  -- what a part changes where it stands, and what each of a history does
+  abbrev pub changed_by : Standing → Locked → List Edit
+  changed_by s p = changes server (begun s) p.who p.calls
+
+  abbrev pub left_by_items : Standing → List Item → List (Stamp × List Edit)
+  left_by_items s xs = left_along server s (decided_items xs)
 
   -- the same files, and the same ids in another order
   pub right-alike : (s t : Standing) (p : Locked) → s.files ≡ t.files → AreAlike s.made t.made → IsRightUnder server s p → IsRightUnder server t p
@@ -65,13 +78,17 @@ module _ (server : ℕ) where
     others : AreGood (after_part server s q) xs
     files : (end_of (after_part server s q) xs).files ≡ (after_part server (end_of s xs) q).files
     ids : AreAlike (end_of (after_part server s q) xs).made (after_part server (end_of s xs) q).made
+    changed : changed_by s q ≡ changed_by (end_of s xs) q
+    left : left_by_items (after_part server s q) xs ≡ left_by_items s xs
 
   goes-first : (xs : List Item) (s : Standing) (q : Locked) → AreSized (map.get s.files) → All (λ x. DoAgreeOnLeaves q.held x.1.held) xs → AreGood s xs → IsRightUnder server (end_of s xs) q
       → GoesFirst s q xs
-  goes-first [] s q sized away g h = record { mine = h; others = tt; files = refl; ids = λ f. refl }
+  goes-first [] s q sized away g h = record { mine = h; others = tt; files = refl; ids = λ f. refl; changed = refl; left = refl }
   goes-first (x ∷ xs) s q sized away g h =
       let rest : GoesFirst (after_part server s x.1) q xs = goes-first xs (after_part server s x.1) q (sized-after s x.1 sized g.0) away.1 g.1 h in
       let turned : DoCommute server s x.1 q = parts-commute server s x.1 q sized (leaves-turned q.held x.1.held away.0) g.0 rest.mine in
+      let ahead : DoesSame q.held server (begun s) (begun (after_part server s x.1)) q.who q.calls = parts-beside server s x.1 q sized (leaves-turned q.held x.1.held away.0) g.0 turned.earlier in
+      let behind : DoesSame x.1.held server (begun s) (begun (after_part server s q)) x.1.who x.1.calls = parts-beside server s q x.1 sized away.0 turned.earlier g.0 in
       let moved =
       good-alike xs (after_part server (after_part server s x.1) q) (after_part server (after_part server s q) x.1) (sym turned.files) (λ f. sym (turned.ids f)) rest.others in
       record {
@@ -79,6 +96,8 @@ module _ (server : ℕ) where
         others = (turned.later, moved.0);
         files = sym moved.1 ∙ rest.files;
         ids = λ f. sym (moved.2 f) ∙ rest.ids f;
+        changed = ahead.edits ∙ rest.changed;
+        left = λ i. (x.0, sym behind.edits i) ∷ (left-alike server (decided_items xs) (after_part server (after_part server s q) x.1) (after_part server (after_part server s x.1) q) turned.files turned.ids ∙ rest.left) i;
       }
 
 -- ---- the order of stamps
@@ -165,6 +184,14 @@ put-rising x (y ∷ ys) n h = go (stamp_cmp x.0 y.0) refl (put-rising x ys n.1 h
 clear-apart : (x y : Item) (v : ℕ) → v ≤ x.0.ts → x.0.ts ≤ y.0.ts → IsClear x.1.held v y → DoAgreeOnLeaves x.1.held y.1.held
 clear-apart x y v l k h = elim h [ inl a ↦ a | inr s ↦ absurd (omega (arith, l, k, s)) ]
 
+-- it is apart from all that stands behind its stamp
+all-apart : (x y : Item) (ys : List Item) (v : ℕ) → v ≤ x.0.ts → stamp_cmp x.0 y.0 ≡ Less → AreRising (y ∷ ys) → All (IsClear x.1.held v) (y ∷ ys) → All (λ z. DoAgreeOnLeaves x.1.held z.1.held) (y ∷ ys)
+all-apart x y ys v l e r c = (
+  clear-apart x y v l (less-le x.0 y.0 e) c.0,
+  map-all (λ z. (y.0.ts ≤ z.0.ts) × IsClear x.1.held v z) (λ z. DoAgreeOnLeaves x.1.held z.1.held) (λ z w. clear-apart x z v l (le_trans (less-le x.0 y.0 e) w.0) w.1) ys
+      (both-all (λ z. y.0.ts ≤ z.0.ts) (IsClear x.1.held v) ys r.0 c.1),
+)
+
 -- ---- a part goes in at its stamp
 
 module _ (server : ℕ) where
@@ -181,20 +208,28 @@ module _ (server : ℕ) where
     where
       go : (o : Ordering) → stamp_cmp x.0 y.0 ≡ o → IsPut (after_part server s y.1) x ys (put_item x ys) → IsPut s x (y ∷ ys) (by_order o (x ∷ y ∷ ys) ((y.0, x.1) ∷ ys) (y ∷ put_item x ys))
       go Less e rest =
-          let away : All (λ z. DoAgreeOnLeaves x.1.held z.1.held) (y ∷ ys) = (
-            clear-apart x y v l (less-le x.0 y.0 e) c.0,
-            map-all (λ z. (y.0.ts ≤ z.0.ts) × IsClear x.1.held v z) (λ z. DoAgreeOnLeaves x.1.held z.1.held) (λ z w. clear-apart x z v l (le_trans (less-le x.0 y.0 e) w.0) w.1) ys
-                (both-all (λ z. y.0.ts ≤ z.0.ts) (IsClear x.1.held v) ys r.0 c.1),
-          ) in
-          let first = goes-first server (y ∷ ys) s x.1 sized away g h in
+          let first = goes-first server (y ∷ ys) s x.1 sized (all-apart x y ys v l e r c) g h in
           record { good = (first.mine, first.others); files = first.files; ids = first.ids }
       go Equal e rest = absurd (n.0 e)
       go Greater e rest = record { good = (g.0, rest.good); files = rest.files; ids = rest.ids }
 
--- ---- the history that they make
+  -- and leaves its changes there, those of the others being as they were
+  pub put-left : (xs : List Item) (s : Standing) (x : Item) (v : ℕ) → v ≤ x.0.ts → AreOthers x.0 xs → AreRising xs → All (IsClear x.1.held v) xs → AreSized (map.get s.files) → AreGood server s xs
+      → IsRightUnder server (end_of server s xs) x.1 → left_by_items server s (put_item x xs) ≡ put stamp_cmp x.0 (changed_by server (end_of server s xs) x.1) (left_by_items server s xs)
+  put-left [] s x v l n r c sized g h = refl
+  put-left (y ∷ ys) s x v l n r c sized g h =
+      go (stamp_cmp x.0 y.0) refl (put-left ys (after_part server s y.1) x v l n.1 r.1 c.1 (sized-after server s y.1 sized g.0) g.1 h)
+    where
+      go : (o : Ordering) → stamp_cmp x.0 y.0 ≡ o → left_by_items server (after_part server s y.1) (put_item x ys) ≡ put stamp_cmp x.0 (changed_by server (end_of server (after_part server s y.1) ys) x.1) (left_by_items server (after_part server s y.1) ys)
+          → left_by_items server s (by_order o (x ∷ y ∷ ys) ((y.0, x.1) ∷ ys) (y ∷ put_item x ys))
+          ≡ by_order o ((x.0, changed_by server (end_of server (after_part server s y.1) ys) x.1) ∷ left_by_items server s (y ∷ ys)) ((y.0, changed_by server (end_of server (after_part server s y.1) ys) x.1) ∷ left_by_items server (after_part server s y.1) ys) ((y.0, changed_by server s y.1) ∷ put stamp_cmp x.0 (changed_by server (end_of server (after_part server s y.1) ys) x.1) (left_by_items server (after_part server s y.1) ys))
+      go Less e rest =
+          let first = goes-first server (y ∷ ys) s x.1 sized (all-apart x y ys v l e r c) g h in
+          λ i. (x.0, first.changed i) ∷ first.left i
+      go Equal e rest = absurd (n.0 e)
+      go Greater e rest = ap (λ (zs : List (Stamp × List Edit)). (y.0, changed_by server s y.1) ∷ zs) rest
 
-abbrev pub decided_items : List Item → List (Stamp × Decided)
-decided_items xs = list_map (λ (x : Item). (x.0, decided_as x.0 x.1)) xs
+-- ---- the history that they make
 
 abbrev pub history_of : List Item → List Decided
 history_of xs = list_map (λ (x : Stamp × Decided). x.1) (decided_items xs)

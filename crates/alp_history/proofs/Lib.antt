@@ -7,6 +7,7 @@ pub mod Rights
 pub mod Entries
 pub mod Logs
 pub mod Agreed
+pub mod LeftBehind
 pub mod HistoryOrder
 pub mod LifeLemmas
 pub mod OneServer
@@ -25,6 +26,7 @@ pub mod Turned
 pub mod Decisions
 pub mod Settled
 pub mod Merged
+pub mod Latest
 pub mod Wholes
 pub mod WorkedHistory
 pub mod Tells
@@ -33,6 +35,8 @@ pub mod LockOrder
 pub mod LockRace
 pub mod LetIn
 pub mod LockEnds
+pub mod LatestThere
+pub mod LatestFound
 pub mod WorkedAnswers
 pub mod Sessions
 pub mod Promises

@@ -53,7 +53,7 @@ module _ (log : Log) (proper : IsProper log) where
   -- ---- what a part that lives stands for, at each place
 
   module _ (x : Stamp) (d : IsDecided log x) where
-    abbrev L : ℕ → State → Type 0
+    abbrev pub L : ℕ → State → Type 0
     L n s = Linked log proper x.trans n s
 
     -- no part of a transaction of this run lives at an opening
@@ -80,20 +80,20 @@ module _ (log : Log) (proper : IsProper log) where
       other = λ away l e. absurd (opened-none n l e);
     }
 
-    linked-step : IsStep log proper L
+    pub linked-step : IsStep log proper L
     linked-step n m c held here seen may knows after q = linked-next log proper x.trans n m c held here may knows after q
 
     abbrev linked-place : ℕ → State → Type 0
     linked-place n s = Place log proper L (λ k s m c q. linked-core log proper x.trans k s m c q) linked-step n s
 
-    linked-at : (n i : ℕ) → i ≤ size log proper n → linked-place n (state_at log n i)
+    pub linked-at : (n i : ℕ) → i ≤ size log proper n → linked-place n (state_at log n i)
     linked-at n i le = place-at log proper L (λ k s m c q. linked-core log proper x.trans k s m c q) linked-step n i le (opened-linked n)
 
   -- ---- another thing kept from a place on at which nothing is pending
 
   module _ (X : ℕ → State → Type 0) (xc : (n : ℕ) (s m : State) → IsSameCore s m → X n s → X n m) (xs : IsStep log proper X)
       (Y : ℕ → State → Type 0) (yc : (n : ℕ) (s m : State) → IsSameCore s m → Y n s → Y n m) (ys : IsStep log proper Y) where
-    start : (n : ℕ) (s : State) → s.pending ≡ [] → Along_ log proper X xc xs n s → Y n s → Place log proper Y yc ys n s
+    pub start : (n : ℕ) (s : State) → s.pending ≡ [] → Along_ log proper X xc xs n s → Y n s → Place log proper Y yc ys n s
     start n s none w y =
         let a : Along_ log proper Y yc ys n s = record { held = w.held; linked = w.linked; here = w.here; seen = w.seen; applied = w.applied; told = w.told; made = w.made; beside = y } in
         (a, subst (λ ds. Resolves log proper Y yc ys n s ds) (sym none) (λ p o. a))
@@ -115,7 +115,7 @@ module _ (log : Log) (proper : IsProper log) where
   over-backed here P A t (Forgotten x js) o b = absurd o
 
   -- a decided transaction is not lost
-  not-over : (x : Stamp) (d : IsDecided log x) (n i : ℕ) → i ≤ size log proper n → IsOver ((state_at log n i).fates x.trans) → ⊥
+  pub not-over : (x : Stamp) (d : IsDecided log x) (n i : ℕ) → i ≤ size log proper n → IsOver ((state_at log n i).fates x.trans) → ⊥
   not-over x d n i le o =
       let home : x.trans.server ≡ n = over-backed n (Promise log proper n) (Acked log proper n i) x.trans ((state_at log n i).fates x.trans) o ((backed-at log proper n i i (omega arith) le).1 x.trans) in
       let end : IsOver ((final log n).fates x.trans) = at-end log proper n (λ s. IsOver (s.fates x.trans)) (over-from log proper n x.trans i (size log proper n) le (all-of log proper n) o) in
@@ -134,12 +134,12 @@ module _ (log : Log) (proper : IsProper log) where
   seen-end : (n : ℕ) (j : JoinNo) (i : ℕ) → i ≤ size log proper n → (p : Phase) → (state_at log n i).phases j ≡ p → IsSeen p ≡ true → j.server ≡ n
   seen-end n j i le p is h = (home-at log proper n i le).1 j (ap IsSeen is ∙ h)
 
-  not-lost : (x : Stamp) (d : IsDecided log x) (n i : ℕ) → i ≤ size log proper n → (j : JoinNo) → LetIn log proper n x.trans j → (state_at log n i).phases j ≡ Over → ⊥
+  pub not-lost : (x : Stamp) (d : IsDecided log x) (n i : ℕ) → i ≤ size log proper n → (j : JoinNo) → LetIn log proper n x.trans j → (state_at log n i).phases j ≡ Over → ⊥
   not-lost x d n i le j came is =
       subst (IsKept x) (over-end n j i le is) (kept-at x d n j (seen-end n j i le Over is refl) came)
 
   -- the stamp that a part of it was committed at is its own
-  its-stamp : (x : Stamp) (d : IsDecided log x) (n i : ℕ) → i ≤ size log proper n → (y : Stamp) → ((js : List JoinNo) × (decision_in ((state_at log n i).fates x.trans) ≡ Some (y, js))) ⊎ ((j : JoinNo) × ((state_at log n i).phases j ≡ Applied x.trans y)) → y ≡ x
+  pub its-stamp : (x : Stamp) (d : IsDecided log x) (n i : ℕ) → i ≤ size log proper n → (y : Stamp) → ((js : List JoinNo) × (decision_in ((state_at log n i).fates x.trans) ≡ Some (y, js))) ⊎ ((j : JoinNo) × ((state_at log n i).phases j ≡ Applied x.trans y)) → y ≡ x
   its-stamp x d n i le y h = elim h [
     | inl q ↦
         same-decision x d n y q.0 (at-end log proper n (λ s. decision_in (s.fates x.trans) ≡ Some (y, q.0)) (decided-from log proper n x.trans (y, q.0) i (size log proper n) le (all-of log proper n) q.1))
@@ -205,7 +205,7 @@ module _ (log : Log) (proper : IsProper log) where
       let low : q.0 ≤ x.ts = q.2 in
       let mine : v < ts = h.1 in omega (arith, e, low, mine)
 
-  late-end : (v : ℕ) (x : Stamp) (d : IsDecided log x) (n : ℕ) → IsLate log proper x.trans v n (final log n) → v < x.ts
+  pub late-end : (v : ℕ) (x : Stamp) (d : IsDecided log x) (n : ℕ) → IsLate log proper x.trans v n (final log n) → v < x.ts
   late-end v x d n h = elim h [
     | inl f ↦
         late-own v (final log n).holder.kept x d n ((final log n).fates x.trans) refl

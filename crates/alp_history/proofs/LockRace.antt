@@ -317,7 +317,7 @@ module _ (log : Log) (proper : IsProper log) where
         elim h.3 [ inl x ↦ away-next (h.0).ts h.1 x | inr x ↦ inr (late-next b (h.0).ts n m d held may knows x) ],
       )
 
-      lost-next : IsLost n m → IsLost n (state_deed m d)
+      pub lost-next : IsLost n m → IsLost n (state_deed m d)
       lost-next h = elim h [ inl x ↦ inl (over-stays d a (m.fates a) x) | inr x ↦ inr (x.0, x.1, over-keeps d x.0 (m.phases x.0) x.2) ]
 
       pub race-next : IsStill m ⊎ IsPast n m ⊎ IsLost n m → Race n (state_deed m d)

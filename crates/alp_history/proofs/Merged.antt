@@ -12,6 +12,7 @@ use Rattle.alp_base.specs.declared.ids.JoinNo.{JoinNo}
 use Rattle.alp_base.specs.declared.ids.TransId.{TransId}
 use Rattle.alp_base.specs.declared.ids.Stamp.{Stamp}
 use Rattle.alp_files.specs.Cells.{Cells}
+use Rattle.alp_files.specs.Edits.{Edit}
 use Rattle.alp_files.specs.Sound.{AreSound, HaveTheirPages, HasItsPages}
 use Rattle.alp_files.specs.Locks.{IsFormed}
 use Rattle.alp_files.specs.Apart.{after_part}
@@ -25,12 +26,13 @@ use Rattle.alp_history.specs.Participant.{Phase, Unseen, Joining, Active, Ready,
 use Rattle.alp_history.specs.Holder.{Holder, Life}
 use Rattle.alp_history.specs.State.{State}
 use Rattle.alp_history.specs.Laws.{IsHolding}
-use Rattle.alp_history.specs.Log.{Log, opening_of, final, IsIn, noted, is_noted, Decision, decided, start_of, finish_of, Share, share_at, of_life, shares_on, servers_in, shares_of, Standings, after_shares, IsChargedAfterEach, starting_all}
+use Rattle.alp_history.specs.Log.{Log, opening_of, final, IsIn, noted, is_noted, Decision, decided, start_of, finish_of, Share, share_at, of_life, shares_on, servers_in, shares_of, Standings, after_shares, IsChargedAfterEach, starting_all, edits_in, takes_part, left_in, left_there}
 use Rattle.alp_history.specs.Theorems.{IsProper, HasCommitted, IsKept, IsOneThread, History}
 use Rattle.alp_history.proofs.Places.{some-same, all-in}
 use Rattle.alp_history.proofs.IdLemmas.{or-true}
 use Rattle.alp_history.proofs.Phases.{IsSeen}
 use Rattle.alp_history.proofs.Agreed.{committed-parts, applied-committed, kept}
+use Rattle.alp_history.proofs.LeftBehind.{left_along}
 use Rattle.alp_history.proofs.HistoryOrder.{Item, AreGood, history_of}
 use Rattle.alp_history.proofs.OneServer.{in_order, one_thread, rebase}
 use Rattle.alp_history.proofs.Votes.{joined-server}
@@ -42,10 +44,18 @@ use Rattle.alp_history.proofs.HeldAlong.{exact_stamps}
 use Rattle.alp_history.proofs.EachServer.{along-end}
 use Rattle.alp_history.proofs.Severally.{on, all_on, severally, severally-end, shares-end}
 use Rattle.alp_history.proofs.Wholes.{was-seen}
-use Rattle.alp_history.proofs.Decisions.{at_key, Has, find-in, map-in, IsDecision, here-decision, young-join, tied-end, own-decided, decided-in, in-decided, same-joins, decided-sorted, linked-end, here-end}
+use Rattle.alp_history.proofs.Decisions.{at_key, Has, find-in, map-in, left-has, has-left, left-sorted, IsDecision, here-decision, young-join, tied-end, own-decided, decided-in, in-decided, same-joins, decided-sorted, linked-end, here-end}
 use Rattle.alp_history.proofs.Settled.{stamp_of, in-stamp, record_of, spread-end, all_decisions, settled-by, ready-trans, note-old, settle, is_still, Before, Behind, IsLate, settled-all}
 
 -- ---- sorted lists
+
+first : (a b : Bool) → T (a && b) → T a
+first true b p = tt
+first false b p = p
+
+second : (a b : Bool) → T (a && b) → T b
+second true b p = p
+second false b p = absurd p
 
 module _ {X : Type 0} where
   below-in : (x : Stamp) (y : Stamp) (v : X) (xs : List (Stamp × X)) → T (entries.below_all stamp_cmp x xs) → IsIn (y, v) xs → stamp_cmp x y ≡ Less
@@ -60,30 +70,21 @@ module _ {X : Type 0} where
       less Equal p = absurd p
       less Greater p = absurd p
 
-      first : (a b : Bool) → T (a && b) → T a
-      first true b p = tt
-      first false b p = p
+  -- the head is below all the rest, which is sorted too
+  pub head-low : (e : Stamp × X) (es : List (Stamp × X)) → T (is_sorted stamp_cmp (e ∷ es)) → (y : Stamp) (v : X) → IsIn (y, v) es → stamp_cmp e.0 y ≡ Less
+  head-low e es sorted y v i = below-in e.0 y v es (first (entries.below_all stamp_cmp e.0 es) (is_sorted stamp_cmp es) sorted) i
 
-      second : (a b : Bool) → T (a && b) → T b
-      second true b p = p
-      second false b p = absurd p
+  pub rest-sorted : (e : Stamp × X) (es : List (Stamp × X)) → T (is_sorted stamp_cmp (e ∷ es)) → T (is_sorted stamp_cmp es)
+  rest-sorted e es sorted = second (entries.below_all stamp_cmp e.0 es) (is_sorted stamp_cmp es) sorted
 
   -- what stands in a sorted list is found
-  sorted-find : (x : Stamp) (v : X) (xs : List (Stamp × X)) → T (is_sorted stamp_cmp xs) → IsIn (x, v) xs → at_key x xs ≡ Some v
+  pub sorted-find : (x : Stamp) (v : X) (xs : List (Stamp × X)) → T (is_sorted stamp_cmp xs) → IsIn (x, v) xs → at_key x xs ≡ Some v
   sorted-find x v [] s i = absurd i
   sorted-find x v (e ∷ es) s (inl is) = ap (λ (o : Ordering). cond (is_eq o) (Some e.1) (at_key x es)) (ap (λ (z : Stamp × X). stamp_cmp x z.0) (sym is) ∙ itself x) ∙ ap (λ (z : Stamp × X). Some z.1) (sym is)
   sorted-find x v (e ∷ es) s (inr k) =
       let low : stamp_cmp e.0 x ≡ Less = below-in e.0 x v es (first (entries.below_all stamp_cmp e.0 es) (is_sorted stamp_cmp es) s) k in
       go (stamp_cmp x e.0) refl low (sorted-find x v es (second (entries.below_all stamp_cmp e.0 es) (is_sorted stamp_cmp es) s) k)
     where
-      first : (a b : Bool) → T (a && b) → T a
-      first true b p = tt
-      first false b p = p
-
-      second : (a b : Bool) → T (a && b) → T b
-      second true b p = p
-      second false b p = absurd p
-
       go : (o : Ordering) → stamp_cmp x e.0 ≡ o → stamp_cmp e.0 x ≡ Less → at_key x es ≡ Some v → cond (is_eq o) (Some e.1) (at_key x es) ≡ Some v
       go Equal q low f = let wrong : Equal ≡ Less = sym (itself x) ∙ ap (λ z. stamp_cmp z x) (exact_stamps x e.0 q) ∙ low in cc
       go Less q low f = f
@@ -267,24 +268,24 @@ module _ (log : Log) (proper : IsProper log) where
     abbrev IsShared : Type 0
     IsShared = (x.trans.server ≡ n) ⊎ ((j : JoinNo) × (has_join j js ≡ true) × (j.server ≡ n))
 
-    shared : (mine ≡ []) ⊎ (IsShared × (mine ≡ share_here log x n))
+    shared : ((mine ≡ []) × (takes_part n (x, js) ≡ false)) ⊎ (IsShared × (mine ≡ share_here log x n) × (takes_part n (x, js) ≡ true))
     shared = go (x.trans.server == n) refl (has_server n js) refl
       where
-        go : (a : Bool) → (x.trans.server == n) ≡ a → (b : Bool) → has_server n js ≡ b → (mine ≡ []) ⊎ (IsShared × (mine ≡ share_here log x n))
-        go true e b f = (let own = eqb-true x.trans.server n e in inr (inl own, share-own own))
-        go false e true f = (let j = has-one n js f in inr (inr j, share-part j.0 j.1 j.2))
-        go false e false f = inl (share-none e f)
+        go : (a : Bool) → (x.trans.server == n) ≡ a → (b : Bool) → has_server n js ≡ b → ((mine ≡ []) × (takes_part n (x, js) ≡ false)) ⊎ (IsShared × (mine ≡ share_here log x n) × (takes_part n (x, js) ≡ true))
+        go true e b f = (let own = eqb-true x.trans.server n e in inr (inl own, share-own own, ap (λ c. c || has_server n js) e))
+        go false e true f = (let j = has-one n js f in inr (inr j, share-part j.0 j.1 j.2, λ i. e i || f i))
+        go false e false f = inl (share-none e f, λ i. e i || f i)
 
-    short-mine : IsShort mine
-    short-mine = elim shared [ inl e ↦ inl e | inr s ↦ subst IsShort (sym s.1) (short-share (final log n) x (at_key x (final log n).holder.applied)) ]
+    pub short-mine : IsShort mine
+    short-mine = elim shared [ inl e ↦ inl e.0 | inr s ↦ subst IsShort (sym s.1) (short-share (final log n) x (at_key x (final log n).holder.applied)) ]
 
   -- ---- all decisions at a server, with their stamps
 
   module _ (n : ℕ) where
-    abbrev keyed : Decision → List (Stamp × Decided)
+    abbrev pub keyed : Decision → List (Stamp × Decided)
     keyed d = list_map (λ v. (d.0, v)) (on n (shares_of log d))
 
-    abbrev all_keyed : List Decision → List (Stamp × Decided)
+    abbrev pub all_keyed : List Decision → List (Stamp × Decided)
     all_keyed ds = flat_map keyed ds
 
     keyed-values : (ds : List Decision) → list_map (λ (e : Stamp × Decided). e.1) (all_keyed ds) ≡ all_on log n ds
@@ -305,14 +306,6 @@ module _ (log : Log) (proper : IsProper log) where
     both : (a b : Bool) → T a → T b → T (a && b)
     both true b p q = q
     both false b p q = p
-
-    first : (a b : Bool) → T (a && b) → T a
-    first true b p = tt
-    first false b p = p
-
-    second : (a b : Bool) → T (a && b) → T b
-    second true b p = p
-    second false b p = absurd p
 
     keyed-below : (x : Stamp) (ds : List Decision) → AreShort ds → T (entries.below_all stamp_cmp x ds) → T (entries.below_all stamp_cmp x (all_keyed ds))
     keyed-below x [] a b = tt
@@ -480,6 +473,57 @@ module _ (log : Log) (proper : IsProper log) where
                 let there : j.epoch < (opening_of log n).epoch = subst (λ m. j.epoch < (opening_of log m).epoch) at old in
                 omega (arith, there, young)
 
+    -- a part of a decided transaction that was not applied here is still ready
+    record IsReadyHere (y : Stamp) : Type 0 where
+      join : JoinNo
+      life : Life
+      client : ℕ
+      ts : ℕ
+      listed : IsIn join here.joined
+      settled : stamp_of join (all_decisions log proper) ≡ Some y
+      ready : here.phases join ≡ Ready y.trans client ts
+      lives : here.holder.lives y.trans ≡ Some life
+      young : life.is_early ≡ false
+
+    late-part : (y : Stamp) (js : List JoinNo) (d : IsDecision log proper y js) → IsIn (y, js) (decided log) → IsShared n y js d → at_key y here.holder.applied ≡ None → IsReadyHere y
+    late-part y js d i (inl own) k = absurd (let has = subst (λ m. Has y (final log m).holder.applied) own d.key in let wrong : None ≡ Some has.0 = sym k ∙ has.1 in cc)
+    late-part y js d i (inr j) k = late (here.phases j.0) refl (subst (λ m. IsKept y ((final log m).phases j.0)) j.2 (kept log proper y.trans.server y js j.0 d.committed j.1)) ((linked-end log proper n).parts j.0) ((linked-end log proper n).kept j.0)
+      where
+        -- the decision that the join stands in is this one
+        its-stamp : (c ts : ℕ) → here.phases j.0 ≡ Ready y.trans c ts → stamp_of j.0 (all_decisions log proper) ≡ Some y
+        its-stamp c ts is =
+            let z = in-stamp j.0 (all_decisions log proper) (y, js) (in-left (y, js) (decided log) (list_map (λ (n : DecisionNote). (n.stamp, n.joins)) (noted log)) i) j.1 in
+            let q = settled-by log proper j.0 z.0 z.1 in
+            let trans : y.trans ≡ (z.0).trans = ready-trans log proper n j.0 y.trans c ts z.0 is q in
+            let two : decision_in ((final log y.trans.server).fates y.trans) ≡ Some (z.0, q.joins) = subst (λ (u : TransId). decision_in ((final log u.server).fates u) ≡ Some (z.0, q.joins)) (sym trans) q.committed in
+            z.1 ∙ ap Some (ap (λ (e : Decision). e.0) (some-same (z.0, q.joins) (y, js) (sym two ∙ d.committed)))
+
+        late : (p : Phase) → here.phases j.0 ≡ p → IsKept y p → HasPart log proper n here.holder.lives j.0 p → IsKeptAt log proper n here.holder.applied j.0 p → IsReadyHere y
+        late Unseen is q h b = absurd (was-seen log proper y js d j.0 j.1 (ap (λ m. (final log m).phases j.0) j.2 ∙ is))
+        late (Joining t c w) is q h b = absurd q
+        late (Active t c w) is q h b = absurd q
+        late Over is q h b = absurd q
+        late (Applied t z) is q h b = elim b [
+          | inl r ↦ absurd (note-old log proper n j.0 y r.0 r.1 (r.3 ∙ q.0) d.young)
+          | inr w ↦ absurd (let wrong : None ≡ Some w.0 = sym k ∙ ap (λ m. at_key m here.holder.applied) (sym q.1) ∙ w.1 in cc)
+        ]
+        late (Ready t c ts) is q h b = elim h.3 [
+          | inl r ↦ absurd (note-old log proper n j.0 y r.0 r.1 (r.3 ∙ q) d.young)
+          | inr young ↦
+              let ready : here.phases j.0 ≡ Ready y.trans c ts = is ∙ ap (λ (u : TransId). Ready u c ts) q in
+              record {
+                join = j.0;
+                life = h.0;
+                client = c;
+                ts = ts;
+                listed = (linked-end log proper n).listed j.0 (ap IsSeen is);
+                settled = its-stamp c ts ready;
+                ready = ready;
+                lives = ap here.holder.lives (sym q) ∙ h.1;
+                young = young.0;
+              }
+        ]
+
     to-last : (y : Stamp) (v : Decided) → at_key y (all_keyed (decided log)) ≡ Some v → at_key y last.applied ≡ Some v
     to-last y v e =
         let f = flat-in keyed (y, v) (decided log) (find-in y v (all_keyed (decided log)) e) in
@@ -490,7 +534,7 @@ module _ (log : Log) (proper : IsProper log) where
         let d : IsDecision log proper y (f.0).1 = decided-in log proper y (f.0).1 i in
         let among : IsIn v (on n (shares_of log (y, (f.0).1))) = subst (λ (z : Stamp). IsIn v (on n (shares_of log (z, (f.0).1)))) key (subst (λ (w : Decided). IsIn w (on n (shares_of log f.0))) value m.1) in
         elim (shared n y (f.0).1 d) [
-          | inl none ↦ absurd (subst (IsIn v) none among)
+          | inl none ↦ absurd (subst (IsIn v) none.0 among)
           | inr s ↦ there (f.0).1 d i s.0 (at_key y here.holder.applied) refl (subst (IsIn v) s.1 among)
         ]
       where
@@ -499,39 +543,113 @@ module _ (log : Log) (proper : IsProper log) where
 
         there : (js : List JoinNo) (d : IsDecision log proper y js) → IsIn (y, js) (decided log) → IsShared n y js d → (o : Option Decided) → at_key y here.holder.applied ≡ o → IsIn v (share_at here y o) → at_key y last.applied ≡ Some v
         there js d i s (Some w) k a = done.old y w k ∙ ap Some (sym (only-one w a))
-        there js d i (inl own) None k a =
-            absurd (let has = subst (λ m. Has y (final log m).holder.applied) own d.key in let wrong : None ≡ Some has.0 = sym k ∙ has.1 in cc)
-        there js d i (inr j) None k a = late (here.phases j.0) refl (subst (λ m. IsKept y ((final log m).phases j.0)) j.2 (kept log proper y.trans.server y js j.0 d.committed j.1)) ((linked-end log proper n).parts j.0) ((linked-end log proper n).kept j.0)
-          where
-            -- the decision that the join stands in is this one
-            its-stamp : (c ts : ℕ) → here.phases j.0 ≡ Ready y.trans c ts → stamp_of j.0 (all_decisions log proper) ≡ Some y
-            its-stamp c ts is =
-                let z = in-stamp j.0 (all_decisions log proper) (y, js) (in-left (y, js) (decided log) (list_map (λ (n : DecisionNote). (n.stamp, n.joins)) (noted log)) i) j.1 in
-                let q = settled-by log proper j.0 z.0 z.1 in
-                let trans : y.trans ≡ (z.0).trans = ready-trans log proper n j.0 y.trans c ts z.0 is q in
-                let two : decision_in ((final log y.trans.server).fates y.trans) ≡ Some (z.0, q.joins) = subst (λ (u : TransId). decision_in ((final log u.server).fates u) ≡ Some (z.0, q.joins)) (sym trans) q.committed in
-                z.1 ∙ ap Some (ap (λ (e : Decision). e.0) (some-same (z.0, q.joins) (y, js) (sym two ∙ d.committed)))
-
-            late : (p : Phase) → here.phases j.0 ≡ p → IsKept y p → HasPart log proper n here.holder.lives j.0 p → IsKeptAt log proper n here.holder.applied j.0 p → at_key y last.applied ≡ Some v
-            late Unseen is q h b = absurd (was-seen log proper y js d j.0 j.1 (ap (λ m. (final log m).phases j.0) j.2 ∙ is))
-            late (Joining t c w) is q h b = absurd q
-            late (Active t c w) is q h b = absurd q
-            late Over is q h b = absurd q
-            late (Applied t z) is q h b = elim b [
-              | inl r ↦ absurd (note-old log proper n j.0 y r.0 r.1 (r.3 ∙ q.0) d.young)
-              | inr w ↦ absurd (let wrong : None ≡ Some w.0 = sym k ∙ ap (λ m. at_key m here.holder.applied) (sym q.1) ∙ w.1 in cc)
-            ]
-            late (Ready t c ts) is q h b = elim h.3 [
-              | inl r ↦ absurd (note-old log proper n j.0 y r.0 r.1 (r.3 ∙ q) d.young)
-              | inr young ↦
-                  let ready : here.phases j.0 ≡ Ready y.trans c ts = is ∙ ap (λ (u : TransId). Ready u c ts) q in
-                  let life : here.holder.lives y.trans ≡ Some h.0 = ap here.holder.lives (sym q) ∙ h.1 in
-                  let v_is : v ≡ record_of y h.0 = only-one (record_of y h.0) (subst (λ (l : Option Life). IsIn v (of_life y l)) life a) in
-                  done.new j.0 ((linked-end log proper n).listed j.0 (ap IsSeen is)) y h.0 c ts (its-stamp c ts ready) ready life young.0 ∙ ap Some (sym v_is)
-            ]
+        there js d i s None k a =
+            let r = late-part y js d i s k in
+            let v_is : v ≡ record_of y r.life = only-one (record_of y r.life) (subst (λ (l : Option Life). IsIn v (of_life y l)) r.lives a) in
+            done.new r.join r.listed y r.life r.client r.ts r.settled r.ready r.lives r.young ∙ ap Some (sym v_is)
 
     same-list : last.applied ≡ all_keyed (decided log)
     same-list = same-lists last.applied (all_keyed (decided log)) (done.sorted (linked-end log proper n).sorted) merged-sorted from-last to-last
+
+    -- ---- and what each of them changed here is what is kept of it
+
+    -- what is kept here of an applied one
+    here-left : (y : Stamp) (o : Option (List Edit)) → at_key y here.holder.left ≡ o → at_key y here.holder.applied ≡ None → o ≡ None
+    here-left y None e k = refl
+    here-left y (Some es) e k =
+        let h = (along-end log proper n).held in
+        let has = left-has here.holder.server (starting h.base) here.holder.applied y es (ap (at_key y) h.left_so ∙ e) in
+        (let wrong : None ≡ Some has.0 = sym k ∙ has.1 in cc)
+
+    there-left : (y : Stamp) (js : List JoinNo) → takes_part n (y, js) ≡ true → left_there log n (y, js) ≡ left_in here y (at_key y here.holder.left)
+    there-left y js e = ap (λ (b : Bool). cond {A = List Edit} b (left_in here y (at_key y here.holder.left)) []) e
+
+    left-some : (y : Stamp) (js : List JoinNo) (d : IsDecision log proper y js) → IsIn (y, js) (decided log) → (v : Decided) → on n (shares_of log (y, js)) ≡ v ∷ [] → at_key y last.left ≡ Some (left_there log n (y, js))
+    left-some y js d i v e = elim (shared n y js d) [
+      | inl none ↦ (let wrong : [] ≡ v ∷ [] = sym none.0 ∙ e in cc)
+      | inr s ↦ go s.0 (at_key y here.holder.applied) refl ∙ ap Some (sym (there-left y js s.2))
+    ]
+      where
+        go : IsShared n y js d → (o : Option Decided) → at_key y here.holder.applied ≡ o → at_key y last.left ≡ Some (left_in here y (at_key y here.holder.left))
+        go s (Some w) k =
+            let h = (along-end log proper n).held in
+            let has = has-left here.holder.server (starting h.base) here.holder.applied y w k in
+            let mine : at_key y here.holder.left ≡ Some has.0 = ap (at_key y) (sym h.left_so) ∙ has.1 in
+            done.old_left y has.0 mine ∙ ap (λ o. Some (left_in here y o)) (sym mine)
+        go s None k =
+            let r = late-part y js d i s k in
+            done.new_left r.join r.listed y r.life r.client r.ts r.settled r.ready r.lives r.young ∙ ap (λ o. Some (edits_in o)) (sym r.lives)
+            ∙ ap (λ o. Some (left_in here y o)) (sym (here-left y (at_key y here.holder.left) refl k))
+
+    left-none : (y : Stamp) (js : List JoinNo) (d : IsDecision log proper y js) → on n (shares_of log (y, js)) ≡ [] → left_there log n (y, js) ≡ []
+    left-none y js d e = elim (shared n y js d) [
+      | inl none ↦ ap (λ (b : Bool). cond {A = List Edit} b (left_in here y (at_key y here.holder.left)) []) none.1
+      | inr s ↦ there-left y js s.2 ∙ go (at_key y here.holder.applied) refl (here.holder.lives y.trans) refl (sym s.1 ∙ e)
+    ]
+      where
+        go : (o : Option Decided) → at_key y here.holder.applied ≡ o → (l : Option Life) → here.holder.lives y.trans ≡ l → share_at here y (at_key y here.holder.applied) ≡ [] → left_in here y (at_key y here.holder.left) ≡ []
+        go (Some w) k l m none = (let wrong : w ∷ [] ≡ [] = ap (share_at here y) (sym k) ∙ none in cc)
+        go None k (Some l) m none = (let wrong : record_of y l ∷ [] ≡ [] = ap (of_life y) (sym m) ∙ ap (share_at here y) (sym k) ∙ none in cc)
+        go None k None m none = ap (left_in here y) (here-left y (at_key y here.holder.left) refl k) ∙ ap edits_in m
+
+    -- what is kept of a transaction: nothing, what it changed as it was applied, or the intents of its ready part
+    pub left-kinds : (y : Stamp) (js : List JoinNo) → IsIn (y, js) (decided log)
+        → (left_there log n (y, js) ≡ []) ⊎ (at_key y here.holder.left ≡ Some (left_there log n (y, js))) ⊎ ((l : Life) × (here.holder.lives y.trans ≡ Some l) × (l.is_early ≡ false) × (left_there log n (y, js) ≡ l.edits))
+    left-kinds y js i = elim (shared n y js d) [
+      | inl none ↦ inl (ap (λ (b : Bool). cond {A = List Edit} b (left_in here y (at_key y here.holder.left)) []) none.1)
+      | inr s ↦ inr (go s.0 s.2 (at_key y here.holder.applied) refl)
+    ]
+      where
+        d : IsDecision log proper y js
+        d = decided-in log proper y js i
+
+        go : IsShared n y js d → takes_part n (y, js) ≡ true → (o : Option Decided) → at_key y here.holder.applied ≡ o
+            → (at_key y here.holder.left ≡ Some (left_there log n (y, js))) ⊎ ((l : Life) × (here.holder.lives y.trans ≡ Some l) × (l.is_early ≡ false) × (left_there log n (y, js) ≡ l.edits))
+        go s t (Some w) k =
+            let h = (along-end log proper n).held in
+            let has = has-left here.holder.server (starting h.base) here.holder.applied y w k in
+            let mine : at_key y here.holder.left ≡ Some has.0 = ap (at_key y) (sym h.left_so) ∙ has.1 in
+            inl (mine ∙ sym (ap Some (there-left y js t ∙ ap (left_in here y) mine)))
+        go s t None k =
+            let r = late-part y js d i s k in
+            inr (r.life, r.lives, r.young, there-left y js t ∙ ap (left_in here y) (here-left y (at_key y here.holder.left) refl k) ∙ ap edits_in r.lives)
+
+    -- what is kept here as applied is of a decided transaction, and is what is kept of it
+    pub kept-decided : (y : Stamp) (es : List Edit) → at_key y here.holder.left ≡ Some es → (js : List JoinNo) × IsIn (y, js) (decided log) × (left_there log n (y, js) ≡ es)
+    kept-decided y es e =
+        let h = (along-end log proper n).held in
+        let has = left-has here.holder.server (starting h.base) here.holder.applied y es (ap (at_key y) h.left_so ∙ e) in
+        let f = flat-in keyed (y, has.0) (decided log) (find-in y has.0 (all_keyed (decided log)) (from-last y has.0 (done.old y has.0 has.1))) in
+        let m = map-in (λ (w : Decided). ((f.0).0, w)) (y, has.0) (on n (shares_of log f.0)) f.2 in
+        let key : (f.0).0 ≡ y = ap (λ (z : Stamp × Decided). z.0) m.2 in
+        let i : IsIn (y, (f.0).1) (decided log) = subst (λ (z : Stamp). IsIn {A = Decision} (z, (f.0).1) (decided log)) key f.1 in
+        let among : IsIn m.0 (on n (shares_of log (y, (f.0).1))) = subst (λ (z : Stamp). IsIn m.0 (on n (shares_of log (z, (f.0).1)))) key m.1 in (
+          (f.0).1,
+          i,
+          elim (shared n y (f.0).1 (decided-in log proper y (f.0).1 i)) [
+            | inl none ↦ absurd (subst (IsIn m.0) none.0 among)
+            | inr s ↦ there-left y (f.0).1 s.2 ∙ ap (left_in here y) e
+          ],
+        )
+
+    along-here : left_along n (starting (start_of log n)) (all_keyed (decided log)) ≡ last.left
+    along-here =
+        let h = done.held_so in
+        ap (λ m. left_along m (starting (start_of log n)) (all_keyed (decided log))) (sym last-server) ∙ ap (λ b. left_along last.server (starting b) (all_keyed (decided log))) (sym base-there)
+        ∙ ap (left_along last.server (starting h.base)) (sym same-list) ∙ h.left_so
+
+    -- at its place among all a transaction changes what is kept of it
+    pub its-left : (y : Stamp) (js : List JoinNo) → IsIn (y, js) (decided log) → (v : Decided) → on n (shares_of log (y, js)) ≡ v ∷ [] → (es : List Edit) → IsIn (y, es) (left_along n (starting (start_of log n)) (all_keyed (decided log)))
+        → es ≡ left_there log n (y, js)
+    its-left y js i v e es stands_so =
+        let d = decided-in log proper y js i in
+        let sorted : T (is_sorted stamp_cmp (left_along n (starting (start_of log n)) (all_keyed (decided log)))) =
+        subst T (sym (left-sorted n (starting (start_of log n)) (all_keyed (decided log)))) merged-sorted in
+        let found = sorted-find y es (left_along n (starting (start_of log n)) (all_keyed (decided log))) sorted stands_so in
+        some-same es (left_there log n (y, js)) (sym found ∙ ap (at_key y) along-here ∙ left-some y js d i v e)
+
+    pub none-left : (y : Stamp) (js : List JoinNo) → IsIn (y, js) (decided log) → on n (shares_of log (y, js)) ≡ [] → left_there log n (y, js) ≡ []
+    none-left y js i e = left-none y js (decided-in log proper y js i) e
 
     -- the decided transactions, as they are here, are the applied ones
     listed : in_order last ≡ all_on log n (decided log)

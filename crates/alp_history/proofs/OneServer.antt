@@ -30,7 +30,8 @@ use Rattle.alp_history.specs.Holder.{Holder, Life, no_locks, new_life, emptied, 
 use Rattle.alp_history.specs.Laws.{DoLivesAgree}
 use Rattle.alp_history.specs.Holding.{IsCalled, IsNewStamp, IsTimely, HasNotVoted, MayDo}
 use Rattle.alp_history.proofs.IdLemmas.{same_trans-true}
-use Rattle.alp_history.proofs.HistoryOrder.{Item, put_item, All, AreGood, end_of, right-alike, good-alike, sized-after as sized-part, AreRising, AreOthers, IsClear, map-all, others-earlier, put-all, put-rising, IsPut, put-good, decided_items, history_of, put-decided, good-serial, good-end}
+use Rattle.alp_history.proofs.HistoryOrder.{Item, put_item, All, AreGood, end_of, right-alike, good-alike, sized-after as sized-part, AreRising, AreOthers, IsClear, map-all, others-earlier, put-all, put-rising, IsPut, put-good, put-left, left_by_items, decided_items, history_of, put-decided, good-serial, good-end}
+use Rattle.alp_history.proofs.LeftBehind.{left_along, part-changes, left-alike}
 use Rattle.alp_history.proofs.LifeLemmas.{part_of, now_at, IsVoteClear, IsGoodLife, none-intended, idle-life, granted-life, given-before, life-given, performed-life, other-life}
 
 -- ---- changes that an earlier run made ready
@@ -55,9 +56,10 @@ module _ (server : ℕ) (held : Holding) (es : List Edit) (within : IsWithin (Wr
     good : AreGood server (standing (edits_map es s.files) s.made no_opens) xs
     files : (end_of server (standing (edits_map es s.files) s.made no_opens) xs).files ≡ edits_map es (end_of server s xs).files
     ids : AreAlike (end_of server (standing (edits_map es s.files) s.made no_opens) xs).made (end_of server s xs).made
+    left : left_by_items server (standing (edits_map es s.files) s.made no_opens) xs ≡ left_by_items server s xs
 
   comes-first : (xs : List Item) (s : Standing) → AreSized (map.get s.files) → All (λ x. DoAgreeOnLeaves held x.1.held) xs → AreGood server s xs → ComesFirst s xs
-  comes-first [] s sized away g = record { good = tt; files = refl; ids = λ f. refl }
+  comes-first [] s sized away g = record { good = tt; files = refl; ids = λ f. refl; left = refl }
   comes-first (x ∷ xs) s sized away g =
       let t : Standing = standing (edits_map es s.files) s.made no_opens in
       let same : DoesSame x.1.held server (begun s) t x.1.who x.1.calls = same-behind s x.1 away.0 sized g.0 in
@@ -77,6 +79,7 @@ module _ (server : ℕ) (held : Holding) (es : List Edit) (within : IsWithin (Wr
         good = (record { formed = g.0.formed; right = same.right g.0.right; covered = same.covered g.0.covered }, moved.0);
         files = sym moved.1 ∙ rest.files;
         ids = λ f. sym (moved.2 f) ∙ rest.ids f;
+        left = λ i. (x.0, sym same.edits i) ∷ (left-alike server (decided_items xs) t1 (standing (edits_map es s1.files) s1.made no_opens) files (λ f. ap (has_file f) made) ∙ rest.left) i;
       }
 
 -- ---- lives
@@ -135,14 +138,15 @@ agree_still before now was agree t u k l a b away = elim (was t k a) [
 
 -- The committed cells are what the applied parts leave, one after the other in the order of their stamps, each right where
 -- it stands, from the opening's cells with those changes on that earlier runs had made ready and that were applied since;
--- and each live part is right on them.
-pub record Holds (server : ℕ) (opening : Cells → Type 0) (clock kept : ℕ) (cells : Cells) (lives : TransId → Option Life) (made : List FileId) (applied : List (Stamp × Decided)) : Type 0 where
+-- and each live part is right on them. What is kept of each part's changes is what it changes where it stands.
+pub record Holds (server : ℕ) (opening : Cells → Type 0) (clock kept : ℕ) (cells : Cells) (lives : TransId → Option Life) (made : List FileId) (applied : List (Stamp × Decided)) (left : List (Stamp × List Edit)) : Type 0 where
   pub base : Cells
   pub from : opening base
   pub base_sized : AreSized (map.get base)
   pub parts : List Item
   pub ids : List FileId
   pub list : decided_items parts ≡ applied
+  pub left_so : left_along server (starting base) applied ≡ left
   pub good : AreGood server (starting base) parts
   pub files : (end_of server (starting base) parts).files ≡ cells
   pub alike : AreAlike (end_of server (starting base) parts).made ids
@@ -155,12 +159,12 @@ pub record Holds (server : ℕ) (opening : Cells → Type 0) (clock kept : ℕ) 
   pub agree : DoLivesAgree lives
 
 abbrev pub IsHeld : (Cells → Type 0) → Holder → Type 0
-IsHeld o s = Holds s.server o s.clock s.kept s.cells s.lives s.made s.applied
+IsHeld o s = Holds s.server o s.clock s.kept s.cells s.lives s.made s.applied s.left
 
 module _ (o : Cells → Type 0) (s : Holder) (h : IsHeld o s) where
   -- a later clock, and other lives
   with_lives : (clock kept : ℕ) (lives : TransId → Option Life) → s.kept ≤ kept → kept ≤ clock
-      → ((t : TransId) (l : Life) → lives t ≡ Some l → IsSoundLife s.server s.cells h.ids s.made h.parts l) → DoLivesAgree lives → Holds s.server o clock kept s.cells lives s.made s.applied
+      → ((t : TransId) (l : Life) → lives t ≡ Some l → IsSoundLife s.server s.cells h.ids s.made h.parts l) → DoLivesAgree lives → Holds s.server o clock kept s.cells lives s.made s.applied s.left
   with_lives clock kept lives low le live agree = record {
     base = h.base;
     from = h.from;
@@ -168,6 +172,7 @@ module _ (o : Cells → Type 0) (s : Holder) (h : IsHeld o s) where
     parts = h.parts;
     ids = h.ids;
     list = h.list;
+    left_so = h.left_so;
     good = h.good;
     files = h.files;
     alike = h.alike;
@@ -181,7 +186,7 @@ module _ (o : Cells → Type 0) (s : Holder) (h : IsHeld o s) where
   }
 
   -- a new part, without locks
-  new_held : (join : Option JoinNo) (t : TransId) (client seen : ℕ) (who : List ℕ) → Holds s.server o (max s.clock seen) s.kept s.cells (with_life s t (Some (new_life join client who))).lives s.made s.applied
+  new_held : (join : Option JoinNo) (t : TransId) (client seen : ℕ) (who : List ℕ) → Holds s.server o (max s.clock seen) s.kept s.cells (with_life s t (Some (new_life join client who))).lives s.made s.applied s.left
   new_held join t client seen who =
       with_lives (max s.clock seen) s.kept (with_life s t (Some (new_life join client who))).lives (le_refl s.kept) (let le : s.kept ≤ s.clock = h.order in omega (arith, le))
       (life_set (λ u k. IsSoundLife s.server s.cells h.ids s.made h.parts k) s.lives t (Some (new_life join client who))
@@ -208,14 +213,14 @@ module _ (o : Cells → Type 0) (s : Holder) (h : IsHeld o s) where
       go true is = each (s.lives u) refl is
       go false is = same l is
 
-  lapsed_held : (j : JoinNo) (t : TransId) → Holds s.server o s.clock s.kept s.cells (λ u. cond {A = Option Life} (same_trans u t) (lapsed j (s.lives u)) (s.lives u)) s.made s.applied
+  lapsed_held : (j : JoinNo) (t : TransId) → Holds s.server o s.clock s.kept s.cells (λ u. cond {A = Option Life} (same_trans u t) (lapsed j (s.lives u)) (s.lives u)) s.made s.applied s.left
   lapsed_held j t =
       with_lives s.clock s.kept (λ u. cond {A = Option Life} (same_trans u t) (lapsed j (s.lives u)) (s.lives u)) (le_refl s.kept) h.order
       (λ u l is. lapse-cases j t u (λ k. IsSoundLife s.server s.cells h.ids s.made h.parts k) l is (λ k e. h.live u k e)
       (λ k e. inr (refl, idle-life s.server s.cells h.ids s.made h.parts k.client k.who k.held k.join h.given (life-intended s.server s.cells h.ids s.made h.parts k (h.live u k e)))))
       (agree_still s.lives (λ u. cond {A = Option Life} (same_trans u t) (lapsed j (s.lives u)) (s.lives u)) (λ u l is. lapse-cases j t u (WasHeld s.lives u) l is (λ k e. inl (k, e, refl)) (λ k e. inl (k, e, refl))) h.agree)
 
-  released_held : (t : TransId) → Holds s.server o s.clock s.kept s.cells (with_life s t None).lives s.made s.applied
+  released_held : (t : TransId) → Holds s.server o s.clock s.kept s.cells (with_life s t None).lives s.made s.applied s.left
   released_held t =
       with_lives s.clock s.kept (with_life s t None).lives (le_refl s.kept) h.order
       (life_set (λ u k. IsSoundLife s.server s.cells h.ids s.made h.parts k) s.lives t None (no_life (λ k. IsSoundLife s.server s.cells h.ids s.made h.parts k)) (λ u k away is. h.live u k is))
@@ -264,7 +269,7 @@ module _ (o : Cells → Type 0) (s : Holder) (h : IsHeld o s) where
       go true e = is ∙ e
       go false e = cc
 
-  restarted_held : (clock : ℕ) → s.kept ≤ clock → Holds s.server o clock clock s.cells (λ t. if_ready (s.lives t)) s.made s.applied
+  restarted_held : (clock : ℕ) → s.kept ≤ clock → Holds s.server o clock clock s.cells (λ t. if_ready (s.lives t)) s.made s.applied s.left
   restarted_held clock le =
       with_lives clock clock (λ t. if_ready (s.lives t)) le (le_refl clock) (λ t l is. h.live t l (was_ready t l (s.lives t) refl is))
       (agree_still s.lives (λ t. if_ready (s.lives t)) (λ u l is. inl (l, was_ready u l (s.lives u) refl is, refl)) h.agree)
@@ -281,6 +286,7 @@ module _ (o : Cells → Type 0) (s : Holder) (h : IsHeld o s) where
         parts = h.parts;
         ids = h.ids;
         list = h.list;
+        left_so = h.left_so;
         good = h.good;
         files = h.files;
         alike = h.alike;
@@ -320,7 +326,7 @@ module _ (o : Cells → Type 0) (s : Holder) (h : IsHeld o s) (stamp : Stamp) (l
   -- one of this run goes into the history at its stamp
   own_held : (v : ℕ) → l.is_early ≡ false → IsGoodLife s.server s.cells h.ids s.made h.parts l → v ≤ stamp.ts → AreOthers stamp h.parts → All (IsClear l.held v) h.parts
       → Holds s.server o (max s.clock stamp.ts) (max s.clock stamp.ts) (edits_map l.edits s.cells) (with_life s stamp.trans (Some left_life)).lives s.made
-      (put stamp_cmp stamp (record { stamp = stamp; who = l.who; calls = l.calls }) s.applied)
+      (put stamp_cmp stamp (record { stamp = stamp; who = l.who; calls = l.calls }) s.applied) (put stamp_cmp stamp l.edits s.left)
   own_held v mine_own mine le new clear =
       let start : Standing = starting h.base in
       let x : Item = (stamp, part_of l) in
@@ -331,6 +337,10 @@ module _ (o : Cells → Type 0) (s : Holder) (h : IsHeld o s) (stamp : Stamp) (l
       let placed : IsPut s.server start x h.parts (put_item x h.parts) = put-good s.server h.parts start x v le new h.rising clear h.base_sized h.good there in
       let likewise = part-alike s.server l.who l.calls last base h.files h.alike in
       let files : (after_part s.server base (part_of l)).files ≡ cells = files-changed s.server l.who l.calls base ∙ ap (λ (es : List Edit). edits_map es s.cells) mine.edits in
+      let listed : decided_items (put_item x h.parts) ≡ put stamp_cmp stamp (decided_as stamp (part_of l)) s.applied =
+      put-decided x h.parts new ∙ ap (put stamp_cmp stamp (decided_as stamp (part_of l))) h.list in
+      let changed : changes s.server (begun last) l.who l.calls ≡ l.edits = part-changes s.server l.who l.calls last base h.files h.alike ∙ mine.edits in
+      let others : left_by_items s.server start h.parts ≡ s.left = ap (left_along s.server start) h.list ∙ h.left_so in
       let kept_low : s.kept ≤ s.clock = h.order in
       record {
         base = h.base;
@@ -338,7 +348,10 @@ module _ (o : Cells → Type 0) (s : Holder) (h : IsHeld o s) (stamp : Stamp) (l
         base_sized = h.base_sized;
         parts = put_item x h.parts;
         ids = ids_after h.ids l.calls;
-        list = put-decided x h.parts new ∙ ap (put stamp_cmp stamp (decided_as stamp (part_of l))) h.list;
+        list = listed;
+        left_so =
+            ap (left_along s.server start) (sym listed) ∙ put-left s.server h.parts start x v le new h.rising clear h.base_sized h.good there
+            ∙ (λ i. put stamp_cmp stamp (changed i) (others i));
         good = placed.good;
         files = placed.files ∙ likewise.files ∙ files;
         alike = λ f. placed.ids f ∙ likewise.made f ∙ ap (has_file f) (made-after s.server l.who l.calls base);
@@ -361,7 +374,7 @@ module _ (o : Cells → Type 0) (s : Holder) (h : IsHeld o s) (stamp : Stamp) (l
       }
 
   -- one of an earlier run comes before all of this one
-  early_held : (p : Cells → Type 0) → ((b : Cells) → o b → p (edits_map l.edits b)) → IsGoodEarly h.parts l → Holds s.server p (max s.clock stamp.ts) (max s.clock stamp.ts) (edits_map l.edits s.cells) (with_life s stamp.trans (Some left_life)).lives s.made s.applied
+  early_held : (p : Cells → Type 0) → ((b : Cells) → o b → p (edits_map l.edits b)) → IsGoodEarly h.parts l → Holds s.server p (max s.clock stamp.ts) (max s.clock stamp.ts) (edits_map l.edits s.cells) (with_life s stamp.trans (Some left_life)).lives s.made s.applied s.left
   early_held p turn e =
       let start : Standing = starting h.base in
       let base : Cells = edits_map l.edits h.base in
@@ -375,6 +388,7 @@ module _ (o : Cells → Type 0) (s : Holder) (h : IsHeld o s) (stamp : Stamp) (l
         parts = h.parts;
         ids = h.ids;
         list = h.list;
+        left_so = ap (left_along s.server (starting base)) (sym h.list) ∙ first.left ∙ ap (left_along s.server start) h.list ∙ h.left_so;
         good = first.good;
         files = first.files ∙ ap (edits_map l.edits) h.files;
         alike = λ f. first.ids f ∙ h.alike f;
@@ -417,11 +431,19 @@ own_place stamp l xs e = ap (λ (b : Bool). cond {A = List (Stamp × Decided)} b
 early_place : (stamp : Stamp) (l : Life) (xs : List (Stamp × Decided)) → l.is_early ≡ true → xs ≡ in_history stamp l xs
 early_place stamp l xs e = ap (λ (b : Bool). cond {A = List (Stamp × Decided)} b xs (put stamp_cmp stamp (record { stamp = stamp; who = l.who; calls = l.calls }) xs)) (sym e)
 
--- the same holds with the list of applied parts in place
-placed : (o : Cells → Type 0) (s : Holder) (stamp : Stamp) (l : Life) (xs : List (Stamp × Decided)) → xs ≡ in_history stamp l s.applied
-    → Holds s.server o (max s.clock stamp.ts) (max s.clock stamp.ts) (edits_map l.edits s.cells) (commits s stamp (Some l)).lives s.made xs → IsHeld o (commits s stamp (Some l))
-placed o s stamp l xs e h =
-    subst (λ (ys : List (Stamp × Decided)). Holds s.server o (max s.clock stamp.ts) (max s.clock stamp.ts) (edits_map l.edits s.cells) (commits s stamp (Some l)).lives s.made ys) e h
+own_left : (stamp : Stamp) (l : Life) (es : List (Stamp × List Edit)) → l.is_early ≡ false → put stamp_cmp stamp l.edits es ≡ cond {A = List (Stamp × List Edit)} l.is_early es (put stamp_cmp stamp l.edits es)
+own_left stamp l es e = ap (λ (b : Bool). cond {A = List (Stamp × List Edit)} b es (put stamp_cmp stamp l.edits es)) (sym e)
+
+early_left : (stamp : Stamp) (l : Life) (es : List (Stamp × List Edit)) → l.is_early ≡ true → es ≡ cond {A = List (Stamp × List Edit)} l.is_early es (put stamp_cmp stamp l.edits es)
+early_left stamp l es e = ap (λ (b : Bool). cond {A = List (Stamp × List Edit)} b es (put stamp_cmp stamp l.edits es)) (sym e)
+
+-- the same holds with the lists of applied parts and of their changes in place
+placed : (o : Cells → Type 0) (s : Holder) (stamp : Stamp) (l : Life) (xs : List (Stamp × Decided)) (es : List (Stamp × List Edit)) → xs ≡ in_history stamp l s.applied
+    → es ≡ cond {A = List (Stamp × List Edit)} l.is_early s.left (put stamp_cmp stamp l.edits s.left)
+    → Holds s.server o (max s.clock stamp.ts) (max s.clock stamp.ts) (edits_map l.edits s.cells) (commits s stamp (Some l)).lives s.made xs es → IsHeld o (commits s stamp (Some l))
+placed o s stamp l xs es e f h =
+    subst (λ (fs : List (Stamp × List Edit)). Holds s.server o (max s.clock stamp.ts) (max s.clock stamp.ts) (edits_map l.edits s.cells) (commits s stamp (Some l)).lives s.made (in_history stamp l s.applied) fs) f
+    (subst (λ (ys : List (Stamp × Decided)). Holds s.server o (max s.clock stamp.ts) (max s.clock stamp.ts) (edits_map l.edits s.cells) (commits s stamp (Some l)).lives s.made ys es) e h)
 
 decides_held : (o : Cells → Type 0) (s : Holder) (h : IsHeld o s) (stamp : Stamp) (x : Option Life) → s.lives stamp.trans ≡ x → s.clock < stamp.ts → HasNotVoted s stamp.trans → IsHeld o (commits s stamp x)
 decides_held o s h stamp None is late free = h
@@ -430,7 +452,7 @@ decides_held o s h stamp (Some l) is late free =
     let low : s.kept ≤ s.clock = h.order in
     let new : AreOthers stamp h.parts = others-earlier stamp s.kept h.parts (omega (arith, low, late)) h.below in
     let clear : All (IsClear l.held stamp.ts) h.parts = map-all (λ y. y.0.ts ≤ s.kept) (IsClear l.held stamp.ts) (λ y k. inr (omega (arith, low, late, k))) h.parts h.below in
-    placed o s stamp l (put stamp_cmp stamp (record { stamp = stamp; who = l.who; calls = l.calls }) s.applied) (own_place stamp l s.applied mine.0)
+    placed o s stamp l (put stamp_cmp stamp (record { stamp = stamp; who = l.who; calls = l.calls }) s.applied) (put stamp_cmp stamp l.edits s.left) (own_place stamp l s.applied mine.0) (own_left stamp l s.left mine.0)
     (own_held o s h stamp l is stamp.ts mine.0 mine.1 (le_refl stamp.ts) new clear)
 
 -- the files behind the changes of a part that an earlier run made ready
@@ -444,15 +466,16 @@ pub behind-own : (l : Life) (b : Cells) → l.is_early ≡ false → behind l b 
 behind-own l b e = ap (λ (c : Bool). cond c (edits_map l.edits b) b) e
 
 -- the same on what is known of the files that it began on
-rebased : (o p : Cells → Type 0) (server clock kept : ℕ) (cells : Cells) (lives : TransId → Option Life) (made : List FileId) (applied : List (Stamp × Decided)) (h : Holds server o clock kept cells lives made applied) → p h.base
-    → Holds server p clock kept cells lives made applied
-rebased o p server clock kept cells lives made applied h f = record {
+rebased : (o p : Cells → Type 0) (server clock kept : ℕ) (cells : Cells) (lives : TransId → Option Life) (made : List FileId) (applied : List (Stamp × Decided)) (left : List (Stamp × List Edit)) (h : Holds server o clock kept cells lives made applied left) → p h.base
+    → Holds server p clock kept cells lives made applied left
+rebased o p server clock kept cells lives made applied left h f = record {
   base = h.base;
   from = f;
   base_sized = h.base_sized;
   parts = h.parts;
   ids = h.ids;
   list = h.list;
+  left_so = h.left_so;
   good = h.good;
   files = h.files;
   alike = h.alike;
@@ -466,14 +489,14 @@ rebased o p server clock kept cells lives made applied h f = record {
 }
 
 pub rebase : (o p : Cells → Type 0) (s : Holder) → ((b : Cells) → o b → p b) → IsHeld o s → IsHeld p s
-rebase o p s f h = rebased o p s.server s.clock s.kept s.cells s.lives s.made s.applied h (f h.base h.from)
+rebase o p s f h = rebased o p s.server s.clock s.kept s.cells s.lives s.made s.applied s.left h (f h.base h.from)
 
 applies_held : (o p : Cells → Type 0) (s : Holder) (h : IsHeld o s) (stamp : Stamp) (x : Option Life) → s.lives stamp.trans ≡ x → ((l : Life) → x ≡ Some l → IsTimely s stamp l)
     → (x ≡ None → (b : Cells) → o b → p b) → ((l : Life) → x ≡ Some l → (b : Cells) → o b → p (behind l b)) → IsHeld p (commits s stamp x)
 applies_held o p s h stamp None is timely none turn = rebase o p s (none refl) h
 applies_held o p s h stamp (Some l) is timely none turn = elim (timely l refl) [
   | inl early ↦ elim (h.live stamp.trans l is) [
-    | inl e ↦ placed p s stamp l s.applied (early_place stamp l s.applied early) (early_held o s h stamp l is p (λ b q. subst p (behind-early l b early) (turn l refl b q)) e)
+    | inl e ↦ placed p s stamp l s.applied s.left (early_place stamp l s.applied early) (early_left stamp l s.left early) (early_held o s h stamp l is p (λ b q. subst p (behind-early l b early) (turn l refl b q)) e)
     | inr g ↦ absurd (let wrong : true ≡ false = sym early ∙ g.0 in cc)
   ]
   | inr v ↦ elim (h.live stamp.trans l is) [
@@ -482,7 +505,7 @@ applies_held o p s h stamp (Some l) is timely none turn = elim (timely l refl) [
         let clear : All (IsClear l.held v.0) h.parts = subst (λ (y : Option ℕ). IsVoteClear y l.held h.parts) v.2 (g.1).clear in
         let new : AreOthers stamp h.parts = new-items stamp h.parts (subst (IsNewStamp stamp) (sym h.list) v.4) in
         rebase o p (commits s stamp (Some l)) (λ b q. subst p (behind-own l b v.1) (turn l refl b q))
-        (placed o s stamp l (put stamp_cmp stamp (record { stamp = stamp; who = l.who; calls = l.calls }) s.applied) (own_place stamp l s.applied v.1)
+        (placed o s stamp l (put stamp_cmp stamp (record { stamp = stamp; who = l.who; calls = l.calls }) s.applied) (put stamp_cmp stamp l.edits s.left) (own_place stamp l s.applied v.1) (own_left stamp l s.left v.1)
         (own_held o s h stamp l is v.0 v.1 g.1 v.3 new clear))
   ]
 ]
@@ -499,9 +522,9 @@ is_applies d = false
 still_held : (o : Cells → Type 0) (s : Holder) (d : Deed) → is_applies d ≡ false → MayDo s d → IsHeld o s → IsHeld o (holder_after s d)
 still_held o s (Begins t client who seen) k law h = new_held o s h None t client seen who
 still_held o s (Enters j t client who) k law h =
-    let k : Holds s.server o (max s.clock 0) s.kept s.cells (with_life s t (Some (new_life (Some j) client who))).lives s.made s.applied = new_held o s h (Some j) t client 0 who in
+    let k : Holds s.server o (max s.clock 0) s.kept s.cells (with_life s t (Some (new_life (Some j) client who))).lives s.made s.applied s.left = new_held o s h (Some j) t client 0 who in
     let same : max s.clock 0 ≡ s.clock = omega arith in
-    subst (λ (n : ℕ). Holds s.server o n s.kept s.cells (with_life s t (Some (new_life (Some j) client who))).lives s.made s.applied) same k
+    subst (λ (n : ℕ). Holds s.server o n s.kept s.cells (with_life s t (Some (new_life (Some j) client who))).lives s.made s.applied s.left) same k
 still_held o s (Grants t c) k law h = granted_held o s h t c (s.lives t) refl law.0 law.1
 still_held o s (Performs t d) k law h =
     let l : Life = law.0.0 in

@@ -1,7 +1,6 @@
 -- what clients are told is kept
 use Rattle.std.specs.Prelude.{Bool, true, false, cond, not, ◌==◌, ◌&&◌, Option, None, Some, IsSome}
 use Rattle.std.specs.List.{AllByRecursion}
-use Rattle.std.specs.FinMap.Entries as entries
 use Rattle.std.specs.FinMap.Entries.{put}
 use Rattle.std.proofs.Common.{◌≡◌, ℕ, suc, zero, ◌+◌, ◌<◌, ◌≤◌, List, [], ◌∷◌, ◌++◌, slice_get, length, refl, sym, ap, subst, ◌∙◌, arith, inl, inr, ◌⊎◌, eq-eqb}
 use Rattle.std.proofs.lemmas.Bool.{eqb-true, and_parts}
@@ -14,10 +13,9 @@ use Rattle.alp_files.specs.declared.call.Call.{Call}
 use Rattle.alp_files.specs.declared.call.Call.TheVariants as call
 use Rattle.alp_files.specs.declared.reply.Reply.{Reply}
 use Rattle.alp_files.specs.declared.reply.Reply.TheVariants as reply
-use Rattle.alp_files.specs.declared.reply.Ended.{Ended as Ending}
 use Rattle.alp_files.specs.declared.reply.Ended.TheVariants as ending
 use Rattle.alp_files.specs.declared.refusal.Refusal.TheVariants as refusal
-use Rattle.alp_files.specs.History.{PerformedCall, Decided}
+use Rattle.alp_files.specs.History.{PerformedCall}
 use Rattle.alp_journal.specs.declared.event.Event.{Event}
 use Rattle.alp_journal.specs.declared.event.Event.TheVariants as event
 use Rattle.alp_journal.specs.declared.entry.Entry.{Entry}
@@ -31,17 +29,17 @@ use Rattle.alp_history.specs.Deeds.{Deed, Begins, Joins, Enters, Quits, Aborts, 
 use Rattle.alp_history.specs.Coordinator.{decision_in, joins_of}
 use Rattle.alp_history.specs.Holder.{Life, grants, performs, readies, commits}
 use Rattle.alp_history.specs.Log.{Log, Decision, opening_of, journal_of, state_at, final, decided, IsIn}
-use Rattle.alp_history.specs.Handed.{Mark, Own, Repeated, Raw, Sent, Item, Handed, IsRaw, stamps_in, stamps_of_reply, stamps_by, stamps_told, IsOfEntry, IsOfNone, IsOfPlace, IsBefore, IsOfRaw, IsOfRunBy, AreOfClients, IsDecidedStamp, ArePromisesKept, HaveSeen, HasSeen, HasSeenIn, HasSeenBy, IsOwn, IsOfRun, BeginAbove, BeginsAbove, IsAbove}
+use Rattle.alp_history.specs.Handed.{Mark, Own, Repeated, Raw, Sent, Item, Handed, IsRaw, stamps_in, stamps_by, stamps_told, IsOfEntry, IsOfNone, IsOfPlace, IsBefore, IsOfRaw, IsOfRunBy, AreOfClients, IsDecidedStamp, ArePromisesKept, HaveSeen, HasSeen, HasSeenIn, HasSeenBy, IsOwn, IsOfRun, BeginAbove, BeginsAbove, IsAbove}
 use Rattle.alp_history.specs.Theorems.{IsProper, HasCommitted, Promises}
 use Rattle.alp_history.proofs.BegunOrder.{begins_order}
-use Rattle.alp_history.proofs.Places.{in-list, some-same, all-in}
+use Rattle.alp_history.proofs.Places.{in-list, some-same}
 use Rattle.alp_history.proofs.Logs.{lawful-at, state-suc, stands-from}
 use Rattle.alp_history.proofs.Entries.{is_open}
 use Rattle.alp_history.proofs.Decisions.{Has, find-in, put-has, IsDecision, own-decided, in-decided, here-decision, older-note, decided-in}
 use Rattle.alp_history.proofs.Tells.{outcome-decision, decision-trans}
 use Rattle.alp_history.proofs.HistoryOrder.{stamp_cmp-earlier}
 use Rattle.alp_history.proofs.Agreed.{size, at-end, all-of, decided-from, committed-parts}
-use Rattle.alp_history.proofs.Sessions.{IsLast, session-after}
+use Rattle.alp_history.proofs.Sessions.{session-after}
 
 module _ (log : Log) (proper : IsProper log) where
   -- the entry that gave the reply that a session keeps

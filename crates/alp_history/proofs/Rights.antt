@@ -1,13 +1,12 @@
 -- A part enters where it asked to, and where none of its transaction lives: no law says so, since it follows from what an
 -- entry brings about.
-use Rattle.std.specs.Prelude.{Bool, true, false, cond, ◌&&◌, ◌||◌, ◌==◌, flat_map, Option, None, Some}
+use Rattle.std.specs.Prelude.{Bool, true, false, cond, flat_map, Option, None, Some}
 use Rattle.std.specs.List.{list_any, AllByRecursion}
-use Rattle.std.proofs.Common.{◌≡◌, ℕ, List, [], ◌∷◌, ◌++◌, refl, sym, ap, ◌∙◌}
+use Rattle.std.proofs.Common.{◌≡◌, ℕ, List, [], ◌∷◌, ◌++◌, refl, ap, ◌∙◌}
 use Rattle.std.proofs.lemmas.Bool.{or_parts}
 use Rattle.alp_base.specs.declared.ids.JoinNo.{JoinNo}
 use Rattle.alp_base.specs.declared.ids.TransId.{TransId}
 use Rattle.alp_files.specs.declared.call.Call.{Call}
-use Rattle.alp_files.specs.declared.call.Call.TheVariants as call
 use Rattle.alp_files.specs.declared.reply.Reply.{Reply}
 use Rattle.alp_journal.specs.declared.act.Act.{Act}
 use Rattle.alp_journal.specs.declared.act.Act.TheVariants as act
@@ -22,10 +21,10 @@ use Rattle.alp_history.specs.Deeds.{Deed, Begins, Joins, Enters, Quits, Aborts, 
 use Rattle.alp_history.specs.Participant.{Phase, Unseen, Joining, Active, Ready, Applied, Over}
 use Rattle.alp_history.specs.Holder.{Life}
 use Rattle.alp_history.specs.State.{State, state_deed}
-use Rattle.alp_history.specs.Moves.{enters, event_deeds, act_deeds, done_deeds, tried, next, asks_for, grants_to, begins_at}
-use Rattle.alp_history.specs.Laws.{DrawsAsTold, CountsOn, KeepsSessions, SeesView, DoLivesAgree, KeepsLocks, IsOpenPart, IsOfOpenPart, LetsGo, RegistersOnce, VotesOnce, DecidesRight, AppliesRight, ForgetsRight, SaysRight, TellsDecided, StartsRight, StopsRight, IsLawfulDeed, IsLawfulEntry, DeedsAreLawful, regained_by}
+use Rattle.alp_history.specs.Moves.{enters, act_deeds, tried, next, asks_for, grants_to}
+use Rattle.alp_history.specs.Laws.{DrawsAsTold, CountsOn, KeepsSessions, SeesView, DoLivesAgree, KeepsLocks, IsOpenPart, IsOfOpenPart, LetsGo, RegistersOnce, VotesOnce, DecidesRight, AppliesRight, ForgetsRight, SaysRight, TellsDecided, StartsRight, StopsRight, IsLawfulDeed, IsLawfulEntry, regained_by}
 use Rattle.alp_history.proofs.IdLemmas.{all-append, same_trans-true}
-use Rattle.alp_history.proofs.Origins.{IsFrom, all-flat, tried-from}
+use Rattle.alp_history.proofs.Origins.{IsFrom, tried-from}
 
 abbrev pub RunsOrEnters : State → Deed → Type 0
 RunsOrEnters s (Grants t c) = IsOpenPart s t

@@ -10,9 +10,9 @@ use Rattle.alp_base.specs.declared.ids.JoinNo.{JoinNo}
 use Rattle.alp_base.specs.declared.ids.TransId.{TransId}
 use Rattle.alp_base.specs.declared.ids.Stamp.{Stamp}
 use Rattle.alp_files.specs.Cells.{Cells}
-use Rattle.alp_files.specs.Edits.{edits_map}
+use Rattle.alp_files.specs.Edits.{Edit, edits_map}
 use Rattle.alp_files.specs.Act.{no_opens}
-use Rattle.alp_files.specs.History.{Decided}
+use Rattle.alp_files.specs.History.{Decided, starting}
 use Rattle.alp_history.specs.Ids.{same_join, has_join, stamp_cmp}
 use Rattle.alp_history.specs.Opening.{ReadyNote, DecisionNote}
 use Rattle.alp_history.specs.Deeds.{Applies}
@@ -35,7 +35,7 @@ use Rattle.alp_history.proofs.Linked.{same_join-self, stamps_total, itself, IsYo
 use Rattle.alp_history.proofs.Turned.{is_left, Began, began-same, began-first, early-noted, flat-in, noted-committed, old-join}
 use Rattle.alp_history.proofs.HeldAlong.{exact_stamps, put-keys, vote-low}
 use Rattle.alp_history.proofs.EachServer.{along-end, Nothing_}
-use Rattle.alp_history.proofs.Decisions.{at_key, find-in, put-find, put-same, IsDecision, decided-in, linked-end}
+use Rattle.alp_history.proofs.Decisions.{at_key, find-in, put-find, put-same, left-has, IsDecision, decided-in, linked-end}
 
 -- ---- the stamp of the decision that a join stands in
 
@@ -116,6 +116,21 @@ one-more x l xs new = go (l.is_early) refl
         which y v k Equal s = (let is = exact_stamps y x s in inr (is, some-same v (record_of x l) (sym k ∙ ap (λ z. at_key z (put stamp_cmp x (record_of x l) xs)) is ∙ put-same x (record_of x l) xs), e))
         which y v k Less s = inl (apart_ y v Less s (λ q. (let wrong : Less ≡ Equal = q in cc)) k)
         which y v k Greater s = inl (apart_ y v Greater s (λ q. (let wrong : Greater ≡ Equal = q in cc)) k)
+
+-- and a list of what they changed
+record IsOneLeft (x : Stamp) (l : Life) (es fs : List (Stamp × List Edit)) : Type 0 where
+  old : (y : Stamp) (v : List Edit) → at_key y es ≡ Some v → at_key y fs ≡ Some v
+  new : l.is_early ≡ false → at_key x fs ≡ Some l.edits
+
+one-left : (x : Stamp) (l : Life) (es : List (Stamp × List Edit)) → (l.is_early ≡ false → (v : List Edit) → at_key x es ≡ Some v → ⊥) → IsOneLeft x l es (cond {A = List (Stamp × List Edit)} l.is_early es (put stamp_cmp x l.edits es))
+one-left x l es new = go (l.is_early) refl
+  where
+    go : (b : Bool) → l.is_early ≡ b → IsOneLeft x l es (cond {A = List (Stamp × List Edit)} b es (put stamp_cmp x l.edits es))
+    go true e = record { old = λ y v k. k; new = λ f. (let wrong : true ≡ false = sym e ∙ f in cc) }
+    go false e = record {
+      old = λ y v k. put-find y x l.edits es (λ s. new e v (ap (λ z. at_key z es) (sym s) ∙ k)) ∙ k;
+      new = λ f. put-same x l.edits es;
+    }
 
 module _ (log : Log) (proper : IsProper log) where
   abbrev pub all_decisions : List Decision
@@ -236,6 +251,8 @@ module _ (log : Log) (proper : IsProper log) where
       pub old : (y : Stamp) (v : Decided) → at_key y h.applied ≡ Some v → at_key y g.applied ≡ Some v
       pub new : (j : JoinNo) → IsIn j js → (x : Stamp) (l : Life) (c ts : ℕ) → stamp_of j all_decisions ≡ Some x → fin.phases j ≡ Ready x.trans c ts → fin.holder.lives x.trans ≡ Some l → l.is_early ≡ false → at_key x g.applied ≡ Some (record_of x l)
       pub only : (y : Stamp) (v : Decided) → at_key y g.applied ≡ Some v → (at_key y h.applied ≡ Some v) ⊎ IsLate y v js
+      pub old_left : (y : Stamp) (es : List Edit) → at_key y h.left ≡ Some es → at_key y g.left ≡ Some es
+      pub new_left : (j : JoinNo) → IsIn j js → (x : Stamp) (l : Life) (c ts : ℕ) → stamp_of j all_decisions ≡ Some x → fin.phases j ≡ Ready x.trans c ts → fin.holder.lives x.trans ≡ Some l → l.is_early ≡ false → at_key x g.left ≡ Some l.edits
       pub sorted : T (is_sorted stamp_cmp h.applied) → T (is_sorted stamp_cmp g.applied)
       pub server : g.server ≡ h.server
 
@@ -270,6 +287,8 @@ module _ (log : Log) (proper : IsProper log) where
       old = p.old;
       new = λ k i x l c ts s r. elim i [ inl e ↦ absurd (other x c ts (ap (λ z. stamp_of z all_decisions) (sym e) ∙ s) (ap fin.phases (sym e) ∙ r)) | inr m ↦ p.new k m x l c ts s r ];
       only = λ y v e. elim (p.only y v e) [ inl a ↦ inl a | inr l ↦ inr (more-late y v j js l) ];
+      old_left = p.old_left;
+      new_left = λ k i x l c ts s r. elim i [ inl e ↦ absurd (other x c ts (ap (λ z. stamp_of z all_decisions) (sym e) ∙ s) (ap fin.phases (sym e) ∙ r)) | inr m ↦ p.new_left k m x l c ts s r ];
       sorted = p.sorted;
       server = p.server;
     }
@@ -365,6 +384,15 @@ module _ (log : Log) (proper : IsProper log) where
       step : IsOneMore x life h.applied after.applied
       step = subst (IsOneMore x life h.applied) (ap (λ (g : Holder). g.applied) (sym same)) (one-more x life h.applied own-new)
 
+      none-left : life.is_early ≡ false → (v : List Edit) → at_key x h.left ≡ Some v → ⊥
+      none-left e v k =
+          let start = starting (b.held_so).base in
+          let has = left-has h.server start h.applied x v (ap (at_key x) ((b.held_so).left_so) ∙ k) in
+          not-new x has.0 h.applied (own-new e) has.1
+
+      step_left : IsOneLeft x life h.left after.left
+      step_left = subst (IsOneLeft x life h.left) (ap (λ (g : Holder). g.left) (sym same)) (one-left x life h.left none-left)
+
       -- the others hold other transactions
       others : (k : JoinNo) → IsIn k js → (t : TransId) → IsHolding t (fin.phases k) → t ≡ x.trans → ⊥
       others k i t hold e =
@@ -404,12 +432,21 @@ module _ (log : Log) (proper : IsProper log) where
           ]
           | inr l ↦ inr (more-late y v j js l)
         ];
+        old_left = λ y v e. p.old_left y v (step_left.old y v e);
+        new_left = λ k i z l d s e r m young. elim i [
+          | inl k_is ↦
+              let z_is : x ≡ z = some-same x z (sym settled ∙ ap (λ q. stamp_of q all_decisions) (sym k_is) ∙ e) in
+              let l_is : life ≡ l = some-same life l (sym mine.1 ∙ ap (λ (q : Stamp). fin.holder.lives q.trans) z_is ∙ m) in
+              let early : life.is_early ≡ false = ap (λ (q : Life). q.is_early) l_is ∙ young in
+              subst (λ (q : Stamp). at_key q g.left ≡ Some l.edits) z_is (p.old_left x life.edits (step_left.new early) ∙ ap (λ (q : Life). Some q.edits) l_is)
+          | inr q ↦ p.new_left k q z l d s e r m young
+        ];
         sorted = λ s. p.sorted (step.sorted s);
         server = p.server ∙ server-stays (Applies j x) h;
       }
 
     pub settled-all : (js : List JoinNo) (h : Holder) → Before js h → Behind js h (settle js h)
-    settled-all [] h b = record { held_so = b.held_so; cells = refl; old = λ y v e. e; new = λ k i x l c ts s r m y. absurd i; only = λ y v e. inl e; sorted = λ s. s; server = refl }
+    settled-all [] h b = record { held_so = b.held_so; cells = refl; old = λ y v e. e; new = λ k i x l c ts s r m y. absurd i; only = λ y v e. inl e; old_left = λ y v e. e; new_left = λ k i x l c ts s r m y. absurd i; sorted = λ s. s; server = refl }
     settled-all (j ∷ js) h b = go (λ g q. settled-all js g q) (fin.phases j) refl (stamp_of j all_decisions) refl
       where
         plain : (p : Phase) → fin.phases j ≡ p → (is_ready p ≡ false) → (ready_note fin j p ≡ []) → ((g : Holder) → Before js g → Behind js g (settle js g)) → Behind (j ∷ js) h (settle js h)

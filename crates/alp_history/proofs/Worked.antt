@@ -1,26 +1,18 @@
 -- A transaction of two servers, played: messages are repeated and lost, and the worker starts again while it is ready.
-use Rattle.std.specs.Prelude.{ℕ, codes, true, false, unwrap_or, length}
+use Rattle.std.specs.Prelude.{codes, true, false, unwrap_or, length}
 use Rattle.std.specs.FinMap as map
 use Rattle.std.proofs.Common.{◌≡◌, List, [], ◌∷◌, None, Some, refl, inl, inr}
 use Rattle.alp_base.specs.declared.ids.TransId.{TransId}
-use Rattle.alp_base.specs.declared.ids.JoinNo.{JoinNo}
-use Rattle.alp_base.specs.declared.ids.Stamp.{Stamp}
-use Rattle.alp_base.specs.declared.choices.Choice.TheVariants as choice
-use Rattle.alp_files.specs.declared.call.Call.{Call}
 use Rattle.alp_files.specs.declared.call.Call.TheVariants as call
-use Rattle.alp_files.specs.declared.reply.Reply.{Reply}
 use Rattle.alp_files.specs.declared.reply.Reply.TheVariants as reply
 use Rattle.alp_files.specs.declared.refusal.Refusal.TheVariants as refusal
 use Rattle.alp_files.specs.declared.refusal.Cause.TheVariants as cause
-use Rattle.alp_journal.specs.declared.act.Act.{Act}
 use Rattle.alp_journal.specs.declared.act.Act.TheVariants as act
 use Rattle.alp_journal.specs.declared.event.Event.TheVariants as event
-use Rattle.alp_journal.specs.declared.message.Message.{Message}
 use Rattle.alp_journal.specs.declared.message.Message.TheVariants as msg
 use Rattle.alp_journal.specs.declared.entry.Entry.{Entry}
-use Rattle.alp_history.specs.Examples.{trans, join, nothing_seen, stamp, new, calls, arrives, owner, first_up, vote, done, worker_up, ask, restarts}
+use Rattle.alp_history.specs.Examples.{trans, join, stamp, new, calls, arrives, first_up, vote, done, worker_up, ask, restarts}
 use Rattle.alp_history.specs.Along.{state_after}
-use Rattle.alp_history.specs.Opening.{Start}
 use Rattle.alp_history.specs.Deeds.{Releases, Hears, Decides}
 use Rattle.alp_history.specs.Coordinator.{Finishing, Committed, Forgotten, Ended, has_votes}
 use Rattle.alp_history.specs.Participant.{Active, Ready, Applied, Over}

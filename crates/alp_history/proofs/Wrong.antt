@@ -1,9 +1,8 @@
 -- what each wrong journal breaks
-use Rattle.std.specs.Prelude.{ℕ, codes, true, false, ◌+◌, None, Some, max}
-use Rattle.std.proofs.Common.{◌≡◌, List, [], ◌∷◌, ◌++◌, refl, sym, ap, subst, ◌∙◌, arith}
+use Rattle.std.specs.Prelude.{ℕ, true, false, None, Some}
+use Rattle.std.proofs.Common.{◌≡◌, List, [], ◌∷◌, ◌++◌, refl, sym, ap, ◌∙◌, arith}
 use Rattle.alp_base.specs.declared.ids.FileId.{FileId}
 use Rattle.alp_base.specs.declared.ids.TransId.{TransId}
-use Rattle.alp_base.specs.declared.ids.JoinNo.{JoinNo}
 use Rattle.alp_files.specs.declared.cell.Props.{Props}
 use Rattle.alp_files.specs.declared.reply.Reply.TheVariants as reply
 use Rattle.alp_files.specs.declared.refusal.Refusal.TheVariants as refusal
@@ -11,16 +10,14 @@ use Rattle.alp_journal.specs.declared.act.Act.TheVariants as act
 use Rattle.alp_journal.specs.declared.message.Message.TheVariants as msg
 use Rattle.alp_journal.specs.declared.entry.Entry.{Entry}
 use Rattle.alp_history.specs.Along.{Along, state_after}
-use Rattle.alp_history.specs.Ids.{has_server, has_join}
-use Rattle.alp_history.specs.Opening.{Start}
-use Rattle.alp_history.specs.Coordinator.{Fate, Running, Finishing, joins_of, votes_in, is_running}
-use Rattle.alp_history.specs.Participant.{is_ready}
+use Rattle.alp_history.specs.Ids.{has_server}
+use Rattle.alp_history.specs.Coordinator.{joins_of, votes_in}
 use Rattle.alp_history.specs.State.{State, opened}
 use Rattle.alp_history.specs.Moves.{next}
-use Rattle.alp_history.specs.Laws.{IsLawful, IsLawfulEntry, latest_vote}
+use Rattle.alp_history.specs.Laws.{IsLawfulEntry, latest_vote}
 use Rattle.alp_history.specs.Examples.{trans, join, new, calls, arrives, owner, first_up, vote, worker_up, ask, restarts}
 use Rattle.alp_history.proofs.Worked.{life_at}
-use Rattle.alp_history.specs.WrongJournals.{IsUnlawful, hello, begin, of_three, two_joins, later_file, third_join, second_join, skips_an_id, file_of_another_epoch, decides_below_a_vote, decides_above_all_votes, decides_without_a_vote, counts_a_vote_twice, decides_at_a_tick, registers_a_server_twice, aborts_what_is_committed, votes_at_the_clock, done_while_it_lives, grants_after_the_vote, releases_what_lives, grants_to_a_repeat, another_reply_to_a_repeat, session_outlives_a_restart, loses_a_ready_part, AreRefused}
+use Rattle.alp_history.specs.WrongJournals.{IsUnlawful, hello, begin, of_three, two_joins, later_file, skips_an_id, file_of_another_epoch, decides_below_a_vote, decides_above_all_votes, decides_without_a_vote, counts_a_vote_twice, decides_at_a_tick, registers_a_server_twice, aborts_what_is_committed, votes_at_the_clock, done_while_it_lives, grants_after_the_vote, releases_what_lives, grants_to_a_repeat, another_reply_to_a_repeat, session_outlives_a_restart, loses_a_ready_part, AreRefused}
 
 -- the last entry of a lawful journal is lawful in the state before it
 last : (s : State) (es : List Entry) (e : Entry) → Along next IsLawfulEntry s (es ++ e ∷ []) → IsLawfulEntry (state_after next s es) e

@@ -29,9 +29,9 @@ use Rattle.alp_journal.specs.declared.entry.Entry.{Entry}
 use Rattle.alp_history.specs.Along.{Along, Where, state_after}
 use Rattle.alp_history.specs.Ids.{same_trans, has_join, has_server, has_stamp, same_stamp, stamp_cmp}
 use Rattle.alp_history.specs.Opening.{Start}
-use Rattle.alp_history.specs.Deeds.{Deed, Begins, Joins, Enters, Quits, Aborts, Grants, Performs, Releases, Readies, Applies, Registers, Decides, Ends, Forgets, Restarts}
+use Rattle.alp_history.specs.Deeds.{Deed, Begins, Joins, Quits, Aborts, Grants, Performs, Releases, Readies, Applies, Registers, Decides, Ends, Forgets, Restarts}
 use Rattle.alp_history.specs.Coordinator.{Fate, Vote, Undrawn, Running, Finishing, Committed, Forgotten, Ended, decision_in, joins_of, has_all, has_votes, is_running}
-use Rattle.alp_history.specs.Participant.{Phase, Joining, Active, Ready, live_in, is_ready}
+use Rattle.alp_history.specs.Participant.{Phase, Active, Ready, live_in, is_ready}
 use Rattle.alp_history.specs.Holder.{Holder, Life, view_in, answer_in, held_for}
 use Rattle.alp_history.specs.Desk.{Session, Waiting, file_trans, waiting_of}
 use Rattle.alp_history.specs.State.{State, state_deed, opened, is_trans_drawn, is_join_drawn, is_other_server}

@@ -305,17 +305,25 @@ abbrev pub latest_in : Key → Stamp → Option Cell → List (Stamp × List Edi
 latest_in k stamp old [] = old
 latest_in k stamp old (x ∷ xs) = latest_in k stamp (if is_lt (stamp_cmp x.0 stamp) then left_at k old x.1 else old) xs
 
--- what the decided transactions changed at a server, also those whose part is still ready there
-abbrev pub left_ready : Log → State → JoinNo → Phase → List (Stamp × List Edit)
-left_ready log s j (Ready t client ts) = list_map (λ (d : Decision). (d.0, edits_in (s.holder.lives t))) (filter (λ (d : Decision). has_join j d.1) (decided log))
-left_ready log s j p = []
+-- whether the server has a part of the transaction
+abbrev pub takes_part : ℕ → Decision → Bool
+takes_part n d = d.0.trans.server == n || has_server n d.1
 
-abbrev pub left_all : Log → ℕ → List (Stamp × List Edit)
-left_all log n = all_put (flat_map (λ j. left_ready log (final log n) j ((final log n).phases j)) (final log n).joined) (final log n).holder.left
+-- what a transaction changed at a server: as it was applied there, or as its ready part will
+abbrev pub left_in : State → Stamp → Option (List Edit) → List Edit
+left_in s x (Some es) = es
+left_in s x None = edits_in (s.holder.lives x.trans)
+
+abbrev pub left_there : Log → ℕ → Decision → List Edit
+left_there log n d = if takes_part n d then left_in (final log n) d.0 (entries.find stamp_cmp d.0 (final log n).holder.left) else []
+
+-- what each of them changed there, by their stamps
+abbrev pub left_of_each : Log → ℕ → List Decision → List (Stamp × List Edit)
+left_of_each log n ds = list_map (λ (d : Decision). (d.0, left_there log n d)) ds
 
 -- the cell that the decided transaction of the greatest smaller stamp left at a place, or the one of the start
 abbrev pub latest : Log → ℕ → Key → Stamp → Option Cell
-latest log n k stamp = latest_in k stamp (map.get (start_of log n) k) (left_all log n)
+latest log n k stamp = latest_in k stamp (map.get (start_of log n) k) (left_of_each log n (decided log))
 
 -- where the thread comes to a transaction its files hold at each place what is the latest there
 abbrev pub AreLatest : Log → Standings → List Decision → Type 0

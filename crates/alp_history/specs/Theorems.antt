@@ -1,5 +1,8 @@
 -- What holds of every log whose journals are lawful and linked, from sound openings on.
 use Rattle.std.specs.Prelude.{◌≡◌, ℕ, ◌<◌, ◌≤◌, true, false, ◌⊎◌, List, Option, None, Some, slice_get, map as list_map, length}
+use Rattle.std.specs.FinMap as map
+use Rattle.std.specs.FinMap.Entries as entries
+use Rattle.alp_files.specs.Locks.{Reads}
 use Rattle.alp_files.specs.Edits.{Edit, edits_map}
 use Rattle.alp_files.specs.History.{Decided}
 use Rattle.alp_files.specs.History as one
@@ -27,7 +30,7 @@ use Rattle.alp_history.specs.State.{State}
 use Rattle.alp_history.specs.Moves.{is_new}
 use Rattle.alp_history.specs.Laws.{is_standing}
 use Rattle.alp_history.specs.Handed.{Handed, AreOfClients, ArePromisesKept}
-use Rattle.alp_history.specs.Log.{Heard, told_in, Log, opening_of, journal_of, state_at, final, IsLinked, AreLawful, AreSoundOpenings, AreDifferent, IsIn, decided, finish_of, starting_all, IsSerial, serial_end, IsChargedAfterEach, AreLatest}
+use Rattle.alp_history.specs.Log.{Heard, told_in, Log, opening_of, journal_of, state_at, final, IsLinked, AreLawful, AreSoundOpenings, AreDifferent, IsIn, decided, finish_of, starting_all, IsSerial, serial_end, IsChargedAfterEach, latest, AreLatest}
 
 pub record IsProper (log : Log) : Type 0 where
   pub different : AreDifferent log
@@ -163,10 +166,21 @@ pub record EndsInCells (log : Log) : Type 0 where
 abbrev pub Settling : Type 0
 Settling = (log : Log) → IsProper log → ((n : ℕ) → IsSettled (final log n)) → EndsInCells log
 
--- Not proved yet: that each part's intents are its changes also at its place in the history (a part that goes earlier
--- changes the same).
+-- where the one thread comes to a transaction, its files hold at each place what the last one before it that changed the place
+-- left there, or what was there at the start
 abbrev pub Latest : Type 0
 Latest = (log : Log) → IsProper log → AreLatest log (starting_all log) (decided log)
+
+-- while a decided transaction that a server has not applied yet may read a place there, the server's cells hold what the
+-- decided one of the greatest smaller stamp that changed the place left there, or what was there at the start (a call is
+-- performed under locks that let its part read what the call looks at: `IsPerformed`)
+abbrev pub FindsLatest : Log → Type 0
+FindsLatest log = (n i : ℕ) (x : Stamp) (l : Life) (k : Key)
+    → IsDecided log x → i ≤ length (journal_of log n) → (state_at log n i).holder.lives x.trans ≡ Some l → entries.find stamp_cmp x (state_at log n i).holder.applied ≡ None → Reads l.held k
+    → map.get (state_at log n i).holder.cells k ≡ latest log n k x
+
+abbrev pub Findings : Type 0
+Findings = (log : Log) → IsProper log → FindsLatest log
 
 -- ---- what is told
 

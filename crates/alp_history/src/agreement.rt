@@ -1,6 +1,6 @@
 //! What follows from the laws for several servers.
 ghost use Rattle.alp_history.specs.WrongJournals.{AreRefused};
-ghost use Rattle.alp_history.specs.Theorems.{Agreement, EachServer, History, Order, OrderOfBegins, Promises, Settling, Tellings, Wholeness};
+ghost use Rattle.alp_history.specs.Theorems.{Agreement, EachServer, Findings, History, Latest, Order, OrderOfBegins, Promises, Settling, Tellings, Wholeness};
 
 /// However messages are lost, repeated and late and servers stop and start again, no part of a committed transaction is
 /// aborted, and none is applied that is not one of a committed transaction's.
@@ -26,6 +26,18 @@ pub fn stamps_are_above_what_was_seen()
 /// after each.
 pub fn all_servers_are_one_thread()
     ensures { History }
+{}
+
+/// Where that thread comes to a transaction, the files hold at each place what the decided transaction of the greatest smaller
+/// stamp that changed the place left there, or the cell of the start.
+pub fn each_finds_what_the_latest_left()
+    ensures { Latest }
+{}
+
+/// While a decided transaction that a server has not applied yet may read a place, the server's cells hold there what the
+/// decided transaction of the greatest smaller stamp that changed the place left, or the cell of the start.
+pub fn each_reads_what_the_latest_left()
+    ensures { Findings }
 {}
 
 /// The decided transactions are just those that their servers committed in this run. Each part of one was applied at its
