@@ -3,8 +3,8 @@ use Rattle.std.proofs.Common.{◌≡◌, ◌≢◌, inl, inr, ⊎_elim, ℕ, ◌
 use Rattle.std.specs.Int.{w16, w32, to_be_bytes, from_be_bytes}
 use Rattle.std.proofs.lemmas.Nat.{from_be_bytes-to_be_bytes_4}
 use Rattle.alp_base.specs.Pages.{page_of}
-use Rattle.alp_disk.specs.Disk.{Image, page}
-use Rattle.alp_anchor.specs.Gate.{SameBut, Closing, Opening, Opened}
+use Rattle.alp_disk.specs.Disk.{Image, page, SameBut}
+use Rattle.alp_anchor.specs.Gate.{Closing, Opening, Opened}
 use Rattle.alp_anchor.specs.Anchor.{open_anchor, after, IsSound, IsOpen, Counts, next_anchor, Switching, Switched}
 use Rattle.alp_anchor.specs.declared.anchor.Anchor.{Anchor}
 use Rattle.alp_disk.proofs.GateLemmas.{opened}

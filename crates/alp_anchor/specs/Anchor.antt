@@ -2,9 +2,9 @@
 use Rattle.std.specs.Prelude.{◌≡◌, ◌⊎◌, ◌<◌, ◌≤◌, ℕ, ◌+◌, ◌-◌, ◌*◌, ◌^◌, ◌%◌, List, [], ◌∷◌, ◌++◌, replicate}
 use Rattle.std.specs.Int.{w16, w32, to_be_bytes}
 use Rattle.alp_base.specs.declared.faults.Sizes.{Sizes}
-use Rattle.alp_disk.specs.Disk.{Image, page}
+use Rattle.alp_disk.specs.Disk.{Image, page, SameBut}
+use Rattle.alp_disk.specs.Gates.{open_byte}
 use Rattle.alp_base.specs.Crashes.{Only}
-use Rattle.alp_anchor.specs.Gate.{SameBut}
 use Rattle.alp_anchor.specs.declared.anchor.Anchor.{Anchor}
 
 -- the bytes behind the gate: ALPINE1, the generation, the area in use, the server, the number of servers, a zero, the sizes
@@ -18,7 +18,7 @@ header a =
 
 -- an anchor page with an open gate
 unfoldable pub open_anchor : Anchor → List ℕ
-open_anchor a = 165 ∷ (header a ++ replicate 490 0)
+open_anchor a = open_byte ∷ (header a ++ replicate 490 0)
 
 -- sizes within the limits that make up a disk of n pages: two anchors, two areas, and home
 pub record AreSizesOf (n : ℕ) (sizes : Sizes) : Type 0 where

@@ -1,20 +1,16 @@
 -- What closing and opening the gate of a page leaves, at each moment and at the end.
-use Rattle.std.specs.Prelude.{◌≡◌, ◌≢◌, ◌⊎◌, ℕ, List, slice_index}
-use Rattle.alp_disk.specs.Disk.{Image, page, Torn}
+use Rattle.std.specs.Prelude.{◌≡◌, ◌⊎◌, ℕ, List}
+use Rattle.alp_disk.specs.Disk.{Image, page, SameBut, Torn}
 use Rattle.alp_base.specs.Crashes.{Only}
-use Rattle.alp_disk.specs.Gates.{IsClosed}
-
--- the same pages but for one
-abbrev pub SameBut : ℕ → Image → Image → Type 0
-SameBut at old new = (q : ℕ) → q ≢ at → page new q ≡ page old q
+use Rattle.alp_disk.specs.Gates.{IsClosed, HasOpenGate}
 
 -- a crash while the gate of a page is closed: what was read, or that with another gate in place of an open one
 abbrev pub Shutting : ℕ → Image → Image → Type 0
-Shutting at seen c = (c ≡ seen) ⊎ ((slice_index (page seen at) 0 ≡ 165) × Torn at 0 1 seen c)
+Shutting at seen c = (c ≡ seen) ⊎ (HasOpenGate (page seen at) × Torn at 0 1 seen c)
 
 -- a crash while the disk is synced and a gate is closed: an earlier outcome, or what was read with another gate in place of an open one
 abbrev pub Closing : ℕ → (Image → Type 0) → Image → Image → Type 0
-Closing at may_leave seen c = may_leave c ⊎ ((slice_index (page seen at) 0 ≡ 165) × Torn at 0 1 seen c)
+Closing at may_leave seen c = may_leave c ⊎ (HasOpenGate (page seen at) × Torn at 0 1 seen c)
 
 -- the page stands closed, all of it on the disk
 pub record Closed (at : ℕ) (old new : Image) (may_leave : Image → Type 0) : Type 0 where

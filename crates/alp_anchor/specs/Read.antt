@@ -1,5 +1,5 @@
 -- Which anchor is read, and why none is.
-use Rattle.std.specs.Prelude.{◌≡◌, ◌≢◌, ◌⊎◌, ◌≤◌, ℕ, List, take, Option, Some, None, Result, Ok, Err, OnOk, IsErrOf}
+use Rattle.std.specs.Prelude.{◌≡◌, ◌≢◌, ◌⊎◌, ◌≤◌, ℕ, List, take, Option, Some, None, Result, Ok, Err, MatchResult, IsErrOf}
 use Rattle.alp_base.specs.Causes.{Rose}
 use Rattle.alp_base.specs.declared.faults.Halt.TheVariants.{Failed, Stopped}
 use Rattle.alp_base.specs.declared.allowance.Allowance.{Allowance}
@@ -46,10 +46,16 @@ pub record IsOf (server servers n : ℕ) (a : Anchor) : Type 0 where
   pub server_is : a.server ≡ server
   pub servers_is : a.servers ≡ servers
 
--- Where one was read the count of faults stays. Why none was: the device failed where the count rose, and was stopped where the allowance is spent then.
+-- the count of faults moves only where the device halted
+abbrev pub IsCountKept : ℕ → ℕ → AnchorFault → Type 0
+IsCountKept before now (Halted halt) = Unit {0}
+IsCountKept before now (NotAVolume found) = now ≡ before
+IsCountKept before now (Damaged place) = now ≡ before
+
+-- why the device halted: it failed where the count of faults rose, and was stopped where the allowance is spent then
 pub record HasAnchorCause (before now : ℕ) (allowance : Allowance) (result : Result Anchor AnchorFault) : Type 0 where
   pub later : before ≤ now
-  pub no_fault : OnOk result (now ≡ before)
+  pub still : MatchResult result (λ _. now ≡ before) (IsCountKept before now)
   pub failed : IsErrOf result (Halted Failed) → Rose before now
   pub stopped : IsErrOf result (Halted Stopped) → allowance ≡ Spent
 

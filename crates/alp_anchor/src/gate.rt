@@ -1,15 +1,13 @@
 //! Closing and opening the gate of a page.
-ghost use Rattle.std.specs.Prelude.{◌≡◌, ◌<◌, ◌≤◌, ℕ, length, drop, IsTrue, OnOk, slice_index};
+ghost use Rattle.std.specs.Prelude.{◌≡◌, ◌<◌, ◌≤◌, ℕ, length, drop, IsTrue, OnOk};
 ghost use Rattle.alp_disk.specs.Disk.{Image, page as page_of, with_bytes, Torn};
 ghost use Rattle.alp_base.specs.Crashes.{Only, After, Adds};
 ghost use Rattle.alp_base.specs.Allowances.{Spends, HasHaltCause};
-ghost use Rattle.alp_disk.specs.Gates.{IsClosed};
+ghost use Rattle.alp_disk.specs.Gates.{IsClosed, HasOpenGate};
 ghost use Rattle.alp_anchor.specs.Gate.{Shutting, Closing, Closed, Opening, Opened};
 
 use alp_base::{Halt, Page};
-use alp_disk::{Disk, write_synced};
-
-const OPEN: u8 = 0xA5;
+use alp_disk::{Disk, OPEN_GATE, write_synced};
 
 /// Closes the gate of a page where it reads open. A closed one is not written.
 fn shut_gate<D: Disk>(disk: &mut D, at: u32) -> Result<(), Halt>
@@ -24,7 +22,7 @@ fn shut_gate<D: Disk>(disk: &mut D, at: u32) -> Result<(), Halt>
 {
     let mut page = Page::zero();
     disk.read(at, &mut page)?;
-    if page.bytes()[0] != OPEN {
+    if page.bytes()[0] != OPEN_GATE {
         return Ok(());
     }
     write_synced(disk, at, 0, &[0])
@@ -62,7 +60,7 @@ fn stage<D: Disk>(disk: &mut D, at: u32, page: &Page) -> Result<(), Halt>
 /// Writes a page whose gate stands closed, and then opens it.
 pub fn open_gate<D: Disk>(disk: &mut D, at: u32, page: &Page) -> Result<(), Halt>
     requires at { at < D.size disk.old }
-    requires gate { slice_index page.now 0 ≡ 165 }
+    requires gate { HasOpenGate page.now }
     requires closed { IsTrue (D.tells disk.old) → IsClosed (page_of (D.seen disk.old) at) }
     requires durable { IsTrue (D.tells disk.old) → Only (D.seen disk.old) (D.may_leave disk.old) }
     ensures opened { IsTrue (D.tells disk.old) → OnOk result (Opened at page.now (D.seen disk.old) (D.seen disk.new) (D.may_leave disk.new)) }
@@ -73,5 +71,5 @@ pub fn open_gate<D: Disk>(disk: &mut D, at: u32, page: &Page) -> Result<(), Halt
     ensures cause { HasHaltCause (D.faults disk.old) (D.faults disk.new) (D.allowance disk.new) result }
 {
     stage(disk, at, page)?;
-    write_synced(disk, at, 0, &[OPEN])
+    write_synced(disk, at, 0, &[OPEN_GATE])
 }

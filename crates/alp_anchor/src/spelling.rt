@@ -4,6 +4,7 @@ ghost use Rattle.alp_anchor.specs.Anchor.{AreSizesOf, IsOpen, IsOwn, open_anchor
 
 use crate::Anchor;
 use alp_base::{Page, Sizes};
+use alp_disk::OPEN_GATE;
 
 /// The page of an anchor, with an open gate.
 pub fn anchor_page(anchor: &Anchor) -> Page
@@ -14,7 +15,7 @@ pub fn anchor_page(anchor: &Anchor) -> Page
     let a = (anchor.sizes.area as u16).to_be_bytes();
     let h = anchor.sizes.home.to_be_bytes();
     Page::beginning(&[
-        0xA5,
+        OPEN_GATE,
         65,
         76,
         80,

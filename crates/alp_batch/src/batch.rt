@@ -1,7 +1,8 @@
 //! What is committed together.
-ghost use Rattle.std.specs.Prelude.{◌≡◌, List, nat_eq, ℕ};
+ghost use Rattle.std.specs.Prelude.{◌≡◌, List, nat_eq, ℕ, IfOk};
 
-use alp_base::{NoteChange, PageRef, Sequence};
+use alp_base::{NoteChange, OutOfMemory, PageRef, Sequence};
+use std::alloc::Global;
 
 /// What a home page is to hold.
 #[derive(Clone, Drop, PartialEq, Eq)]
@@ -23,4 +24,15 @@ pub type NoteChanges = Sequence<NoteChange>;
 pub struct Batch {
     pub images: Images,
     pub notes: NoteChanges,
+}
+
+/// One more reference to the page of each image.
+pub fn share_images(alloc: Global, images: &[PageImage]) -> Result<Vec<PageImage>, OutOfMemory>
+    ensures { IfOk result (λ copy. copy.items ≡ images.now) }
+{
+    let mut copy = Vec::with_capacity(alloc, images.len())?;
+    for next in images {
+        copy.push(next.clone()?)?;
+    }
+    Ok(copy)
 }

@@ -18,8 +18,12 @@ pub record IsImage (n : ℕ) (image : Image) : Type 0 where
 unfoldable pub with_bytes : Image → ℕ → ℕ → List ℕ → Image
 with_bytes image at offset bytes = slice_set image at (overwritten (page image at) offset bytes)
 
+-- the same pages but for one
+abbrev pub SameBut : ℕ → Image → Image → Type 0
+SameBut at old new = (q : ℕ) → q ≢ at → page new q ≡ page old q
+
 -- new is old but for n bytes of the page `at`, from `offset` on
 pub record Torn (at offset n : ℕ) (old new : Image) : Type 0 where
-  pub others : (q : ℕ) → q ≢ at → page new q ≡ page old q
+  pub others : SameBut at old new
   pub before : take offset (page new at) ≡ take offset (page old at)
   pub after : drop (offset + n) (page new at) ≡ drop (offset + n) (page old at)

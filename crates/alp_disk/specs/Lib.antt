@@ -7,3 +7,4 @@ pub mod Fuse
 pub mod FileDisk
 pub mod Runs
 pub mod Gates
+pub mod Calls

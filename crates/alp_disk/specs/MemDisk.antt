@@ -36,10 +36,11 @@ fails_of m = m.fails.items
 abbrev pub faults_of : MemDisk → ℕ
 faults_of m = m.faults
 
--- One more call was counted, and it failed just where its number is among those that are to fail.
+-- One more call was counted. It failed just where its number is among those that are to fail, and one more fault is counted then.
 pub record CountsCall {T : Type 0} (old new : MemDisk) (result : Result T Halt) : Type 0 where
   pub failing : IsErr result ↔ IsTrue (is_failing (calls_of old) (fails_of old))
   pub calls : calls_of new ≡ counted (calls_of old)
+  pub faults : faults_of new ≡ (if is_failing (calls_of old) (fails_of old) then counted (faults_of old) else faults_of old)
   pub fails : fails_of new ≡ fails_of old
 
 -- so many writes wait for a sync at most

@@ -47,9 +47,9 @@ pub trait Disk: Drop {
         ensures size { size self.new ≡ size self.old }
         ensures seen { seen self.new ≡ seen self.old }
         ensures crash { NoMore (may_leave self.old) (may_leave self.new) }
+        ensures settles_nothing { NoMore (may_leave self.new) (may_leave self.old) }
         ensures time { Adds left_since self.old self.new (may_leave self.new) }
         ensures allowance { allowance self.new ≡ allowance self.old }
-        ensures no_fault { OnOk result (faults self.new ≡ faults self.old) }
         ensures cause { HasHaltCause (faults self.old) (faults self.new) (allowance self.new) result };
 
     /// Until a sync, a crash may leave any bytes in the range.
@@ -62,7 +62,6 @@ pub trait Disk: Drop {
         ensures crash { Follows (Torn at offset (length bytes.now)) (may_leave self.old) (may_leave self.new) }
         ensures time { Adds left_since self.old self.new (may_leave self.new) }
         ensures allowance { Spends (allowance self.old) (allowance self.new) }
-        ensures no_fault { OnOk result (faults self.new ≡ faults self.old) }
         ensures cause { HasHaltCause (faults self.old) (faults self.new) (allowance self.new) result };
 
     /// After it, a crash leaves what a read gives.
@@ -74,7 +73,6 @@ pub trait Disk: Drop {
         ensures crash { NoMore (may_leave self.old) (may_leave self.new) }
         ensures time { Adds left_since self.old self.new (may_leave self.new) }
         ensures allowance { Spends (allowance self.old) (allowance self.new) }
-        ensures no_fault { OnOk result (faults self.new ≡ faults self.old) }
         ensures cause { HasHaltCause (faults self.old) (faults self.new) (allowance self.new) result };
 
     /// On a `Fuse`, lets so many further writes and syncs pass, or all of them. Other disks ignore it.

@@ -103,9 +103,9 @@ impl<D: Disk> Disk for Fuse<D> {
         ensures size { D.size (inner_of self.new) ≡ D.size (inner_of self.old) }
         ensures seen { D.seen (inner_of self.new) ≡ D.seen (inner_of self.old) }
         ensures crash { NoMore (D.may_leave (inner_of self.old)) (D.may_leave (inner_of self.new)) }
+        ensures settles_nothing { NoMore (D.may_leave (inner_of self.new)) (D.may_leave (inner_of self.old)) }
         ensures time { Adds (λ start f. D.left_since (inner_of start) (inner_of f)) self.old self.new (D.may_leave (inner_of self.new)) }
         ensures allowance { allowance_of self.new ≡ allowance_of self.old }
-        ensures no_fault { OnOk result (D.faults (inner_of self.new) ≡ D.faults (inner_of self.old)) }
         ensures cause { HasHaltCause (D.faults (inner_of self.old)) (D.faults (inner_of self.new)) (allowance_of self.new) result }
 
         ensures stops { (result ≡ Err Stopped) ↔ (allowance_of self.new ≡ Spent) }
@@ -126,7 +126,6 @@ impl<D: Disk> Disk for Fuse<D> {
         ensures crash { Follows (Torn at offset (length bytes.now)) (D.may_leave (inner_of self.old)) (D.may_leave (inner_of self.new)) }
         ensures time { Adds (λ start f. D.left_since (inner_of start) (inner_of f)) self.old self.new (D.may_leave (inner_of self.new)) }
         ensures allowance { Spends (allowance_of self.old) (allowance_of self.new) }
-        ensures no_fault { OnOk result (D.faults (inner_of self.new) ≡ D.faults (inner_of self.old)) }
         ensures cause { HasHaltCause (D.faults (inner_of self.old)) (D.faults (inner_of self.new)) (allowance_of self.new) result }
 
         ensures burns { Burns self.old self.new result }
@@ -156,7 +155,6 @@ impl<D: Disk> Disk for Fuse<D> {
         ensures crash { NoMore (D.may_leave (inner_of self.old)) (D.may_leave (inner_of self.new)) }
         ensures time { Adds (λ start f. D.left_since (inner_of start) (inner_of f)) self.old self.new (D.may_leave (inner_of self.new)) }
         ensures allowance { Spends (allowance_of self.old) (allowance_of self.new) }
-        ensures no_fault { OnOk result (D.faults (inner_of self.new) ≡ D.faults (inner_of self.old)) }
         ensures cause { HasHaltCause (D.faults (inner_of self.old)) (D.faults (inner_of self.new)) (allowance_of self.new) result }
 
         ensures burns { Burns self.old self.new result }

@@ -7,6 +7,7 @@
 mod disk;
 mod file_disk;
 mod fuse;
+mod gate;
 mod mem_disk;
 mod outcomes;
 mod pending_write;
@@ -15,6 +16,7 @@ mod runs;
 pub use disk::Disk;
 pub use file_disk::FileDisk;
 pub use fuse::Fuse;
+pub use gate::OPEN_GATE;
 pub use mem_disk::MemDisk;
 pub use runs::{write_span, write_synced};
 

@@ -126,8 +126,8 @@ impl Disk for MemDisk {
         ensures size { page_count self.new ≡ page_count self.old }
         ensures seen { seen_of self.new ≡ seen_of self.old }
         ensures crash { NoMore (LeftBy self.old) (LeftBy self.new) }
+        ensures settles_nothing { NoMore (LeftBy self.new) (LeftBy self.old) }
         ensures time { Adds (λ _ m. LeftBy m) self.old self.new (LeftBy self.new) }
-        ensures no_fault { OnOk result (faults_of self.new ≡ faults_of self.old) }
         ensures cause { HasHaltCause (faults_of self.old) (faults_of self.new) Free result }
 
         ensures counts { CountsCall self.old self.new result }
@@ -147,7 +147,6 @@ impl Disk for MemDisk {
         ensures size { page_count self.new ≡ page_count self.old }
         ensures crash { Follows (Torn at offset (length bytes.now)) (LeftBy self.old) (LeftBy self.new) }
         ensures time { Adds (λ _ m. LeftBy m) self.old self.new (LeftBy self.new) }
-        ensures no_fault { OnOk result (faults_of self.new ≡ faults_of self.old) }
         ensures cause { HasHaltCause (faults_of self.old) (faults_of self.new) Free result }
 
         ensures counts { CountsCall self.old self.new result }
@@ -155,7 +154,8 @@ impl Disk for MemDisk {
         ensures waits { OnOk result (Waits at offset bytes.now self.old self.new) }
         ensures kept { OnErr result (SamePages self.old self.new) }
     {
-        if fails_now(&mut self.calls, &mut self.faults, &self.fails) {
+        let failing = fails_now(&mut self.calls, &mut self.faults, &self.fails);
+        if failing {
             return Err(Halt::Failed);
         }
         let write = PendingWrite::new(at, offset, bytes);
@@ -169,7 +169,6 @@ impl Disk for MemDisk {
         ensures seen { seen_of self.new ≡ seen_of self.old }
         ensures crash { NoMore (LeftBy self.old) (LeftBy self.new) }
         ensures time { Adds (λ _ m. LeftBy m) self.old self.new (LeftBy self.new) }
-        ensures no_fault { OnOk result (faults_of self.new ≡ faults_of self.old) }
         ensures cause { HasHaltCause (faults_of self.old) (faults_of self.new) Free result }
 
         ensures counts { CountsCall self.old self.new result }

@@ -19,7 +19,6 @@ pub fn write_synced<D: Disk>(disk: &mut D, at: u32, offset: u16, bytes: &[u8]) -
     ensures tells { D.tells disk.new ≡ D.tells disk.old }
     ensures size { D.size disk.new ≡ D.size disk.old }
     ensures allowance { Spends (D.allowance disk.old) (D.allowance disk.new) }
-    ensures no_fault { OnOk result (D.faults disk.new ≡ D.faults disk.old) }
     ensures cause { HasHaltCause (D.faults disk.old) (D.faults disk.new) (D.allowance disk.new) result }
 {
     disk.write(at, offset, bytes)?;
@@ -37,7 +36,6 @@ pub fn write_span<D: Disk>(disk: &mut D, first: u32, count: u32, bytes: &[u8]) -
     ensures tells { D.tells disk.new ≡ D.tells disk.old }
     ensures size { D.size disk.new ≡ D.size disk.old }
     ensures allowance { Spends (D.allowance disk.old) (D.allowance disk.new) }
-    ensures no_fault { OnOk result (D.faults disk.new ≡ D.faults disk.old) }
     ensures cause { HasHaltCause (D.faults disk.old) (D.faults disk.new) (D.allowance disk.new) result }
 {
     for k in 0..count {

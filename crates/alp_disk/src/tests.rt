@@ -134,7 +134,9 @@ fn disks_cross_threads(rt: HostRuntime) -> Result<(), Fail> {
     let fuse = cross_threads(&rt, Fuse::new(MemDisk::new(alloc, 3, Vec::new(alloc))?));
     let mut inner = cross_threads(&rt, fuse.into_inner());
     assert_eq!(rt; read_some(&mut inner), Ok([0; 10]));
-    let file = cross_threads(&rt, FileDisk::new(File::open(&rt, "/dev/null")?, 7));
+    let mut file = cross_threads(&rt, FileDisk::new(File::open(&rt, "/dev/null")?, 7));
     assert_eq!(rt; file.pages(), 7);
+    // The host syncs no such file, and says so: a sync is handed on.
+    assert_eq!(rt; file.sync(), Err(Halt::Failed));
     Ok(())
 }

@@ -5,13 +5,13 @@ use Rattle.std.proofs.lemmas.List.{take-replicate, drop-replicate}
 use Rattle.std.specs.FinMap as map
 use Rattle.alp_base.specs.Pages.{zero_page}
 use Rattle.alp_base.specs.declared.faults.Sizes.{Sizes}
-use Rattle.alp_disk.specs.Disk.{Image, page}
+use Rattle.alp_disk.specs.Disk.{Image, page, SameBut}
 use Rattle.alp_base.specs.Crashes.{Follows, After}
 use Rattle.alp_disk.specs.Gates.{IsClosed}
 use Rattle.alp_disk.specs.Runs.{SameOutside, Holds}
 use Rattle.alp_anchor.specs.Anchor.{AreSizesOf, IsSound, open_anchor}
 use Rattle.alp_anchor.specs.declared.anchor.Anchor.{Anchor}
-use Rattle.alp_anchor.specs.Gate.{SameBut, Opening}
+use Rattle.alp_anchor.specs.Gate.{Opening}
 use Rattle.alp_anchor.proofs.Anchors.{gate_of_open}
 use Rattle.alp_wal.specs.State.{State}
 use Rattle.alp_wal.specs.Reading.{pages_from, home_pages, home_first, area_first, ReadsBy}

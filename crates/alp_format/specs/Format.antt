@@ -8,7 +8,7 @@ use Rattle.alp_base.specs.declared.allowance.Allowance.TheVariants.{Spent}
 use Rattle.alp_base.specs.declared.faults.VaultFault.{VaultFault}
 use Rattle.alp_base.specs.declared.faults.VaultFault.TheVariants.{Failed, Stopped, OutOfMemory, NotAVolume, Damaged}
 use Rattle.alp_disk.specs.declared.disk.Disk.{Ghosts}
-use Rattle.alp_record.specs.Calls.{Changed}
+use Rattle.alp_disk.specs.Calls.{IsSameDevice}
 use Rattle.alp_disk.specs.Disk.{Image, page}
 use Rattle.alp_base.specs.Crashes.{After}
 use Rattle.alp_anchor.specs.declared.anchor.Anchor.{Anchor}
@@ -38,7 +38,7 @@ Formatting server servers n sizes may_leave c = After (SameAreas sizes) may_leav
 
 -- a disk that is given back, and why
 pub record IsRefused {D : Type 0} (g : Ghosts D) (disk back : D) (fault : VaultFault) : Type 0 where
-  pub below : Changed g disk back
+  pub below : IsSameDevice g disk back
   pub later : g.faults disk ≤ g.faults back
   pub failed : fault ≡ Failed → Rose (g.faults disk) (g.faults back)
   pub stopped : fault ≡ Stopped → g.allowance back ≡ Spent

@@ -4,7 +4,7 @@ ghost use Rattle.alp_base.specs.Allowances.{Spends, HasHaltCause};
 ghost use Rattle.alp_base.specs.Crashes.{Only, Follows, After, Adds, LeavesOnly};
 ghost use Rattle.alp_disk.specs.Runs.{SameOutside, Holds};
 ghost use Rattle.alp_anchor.specs.Anchor.{AreSizesOf, IsSound};
-ghost use Rattle.alp_record.specs.Calls.{Changed};
+ghost use Rattle.alp_disk.specs.Calls.{IsSameDevice};
 ghost use Rattle.alp_wal.specs.Reading.{ReadsBy};
 ghost use Rattle.alp_wal.specs.Wal.{disk_of, anchor_of, state_of, room_of, is_dead, IsLog, IsKnown};
 ghost use Rattle.alp_format.specs.Format.{blank_state, first_anchor, SameAreas, IsCleared, IsRefused, Formatting};
@@ -99,8 +99,8 @@ pub fn format<D: Disk>(
     ensures anchor { IfOk result (λ w. anchor_of w ≡ first_anchor server servers sizes) }
     ensures room { IfOk result (λ w. room_of w ≡ sizes.area) }
     ensures alive { IfOk result (λ w. is_dead w ≡ false) }
-    ensures below { IfOk result (λ w. Changed D.Disk disk (disk_of w)) }
-    ensures later { IfOk result (λ w. D.faults disk ≤ D.faults (disk_of w)) }
+    ensures below { IfOk result (λ w. IsSameDevice D.Disk disk (disk_of w)) }
+    ensures no_fault { IfOk result (λ w. D.faults (disk_of w) ≡ D.faults disk) }
     ensures any_moment { IsTrue (D.tells disk) → IfOk result (λ w. LeavesOnly D.left_since disk (disk_of w) (Formatting server servers (D.size disk) sizes (D.may_leave disk))) }
     // A disk that is given back is one that a stop within the call could leave.
     ensures any_moment_refused { IsTrue (D.tells disk) → IfErr result (λ e. LeavesOnly D.left_since disk e.0 (Formatting server servers (D.size disk) sizes (D.may_leave disk))) }

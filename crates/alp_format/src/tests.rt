@@ -358,6 +358,31 @@ fn many_commits_hold_what_a_plain_map_holds(rt: HostRuntime) -> Result<(), Fail>
     Ok(())
 }
 
+/// The answers to a commit in which the disk fails and to the next one, and whether the log holds what stood before them.
+fn fail_in_second<D: Disk>(
+    alloc: Global,
+    disk: D,
+) -> Result<(Option<WalFault>, Option<WalFault>, bool), Fail> {
+    let first = Change::new(7, 2, 1, 600);
+    let second = Change::new(7, 1, 2, 600);
+    let mut wal = fresh(alloc, disk)?;
+    put(&mut wal, &first.batch(alloc)?)?;
+    let failed = put(&mut wal, &second.batch(alloc)?)?;
+    let after = put(&mut wal, &second.batch(alloc)?)?;
+    let held = holds(alloc, &mut wal, &NOTHING.with(&first))?;
+    Ok((failed, after, held))
+}
+
+#[test]
+fn a_fault_leaves_a_dead_log_that_reads_on(rt: HostRuntime) -> Result<(), Fail> {
+    let alloc = rt.alloc();
+    // Formatting makes 520 calls, the first commit 9 and the second 8.
+    let fails = Vec::from_slice(alloc, &[534])?;
+    let found = fail_in_second(alloc, MemDisk::new(alloc, PAGES, fails)?)?;
+    assert_eq!(rt; found, (Some(WalFault::Failed), Some(WalFault::Dead), true));
+    Ok(())
+}
+
 /// Formats a disk, commits a change, and looks for it after a mount.
 fn is_kept<D: Disk>(alloc: Global, disk: D) -> Result<bool, Fail> {
     let change = Change::new(7, 2, 9, 600);

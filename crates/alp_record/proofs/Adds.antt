@@ -1,5 +1,5 @@
 -- What adding a record leaves.
-use Rattle.std.proofs.Common.{◌≡◌, ◌≢◌, ◌⊎◌, inl, inr, ⊎_elim, ℕ, ◌+◌, ◌-◌, ◌<◌, ◌≤◌, ◌^◌, List, [], ◌∷◌, ◌++◌, length, drop, slice_index, refl, sym, ◌∙◌, ap, subst, arith}
+use Rattle.std.proofs.Common.{◌≡◌, ◌≢◌, inl, inr, ℕ, ◌+◌, ◌-◌, ◌<◌, ◌≤◌, ◌^◌, List, [], ◌∷◌, ◌++◌, length, drop, slice_index, refl, sym, ◌∙◌, ap, subst, arith}
 use Rattle.std.proofs.lemmas.Bool.{cases_eq}
 use Rattle.alp_disk.specs.Disk.{Image, page, IsImage, with_bytes, Torn}
 use Rattle.alp_base.specs.Crashes.{Follows, After, Only}
@@ -7,7 +7,7 @@ use Rattle.alp_disk.specs.Gates.{IsClosed}
 use Rattle.alp_disk.specs.Images.{page-with_bytes, page-with_bytes_other}
 use Rattle.alp_disk.specs.Runs.{SameOutside}
 use Rattle.alp_disk.proofs.GateLemmas.{overwritten_gate, opened}
-use Rattle.alp_record.specs.Record.{body_pages, header, next_of, RecordAt, Stand, behind, IsEnd, Records}
+use Rattle.alp_record.specs.Record.{body_pages, header, next_of, RecordAt, Stand, behind, IsEnd}
 use Rattle.alp_record.specs.Adding.{Behind, Staged, Laid, Added, NotYet, Adding, OneMore, OneMoreOrNot}
 use Rattle.alp_record.proofs.Headers.{header_gate}
 

@@ -1,12 +1,12 @@
 -- Bodies in pages.
-use Rattle.std.proofs.Common.{◌≡◌, ◌↔◌, inl, inr, ℕ, ◌+◌, ◌-◌, ◌*◌, ◌/◌, ◌<◌, ◌≤◌, Bool, true, false, List, [], ◌∷◌, ◌++◌, length, get_or, take, drop, replicate, IsTrue, nat_eq, refl, sym, ◌∙◌, ap, subst, arith, length-append, length-drop, length-take}
+use Rattle.std.proofs.Common.{◌≡◌, ◌↔◌, inl, inr, ℕ, ◌+◌, ◌-◌, ◌*◌, ◌/◌, ◌<◌, ◌≤◌, Bool, true, false, List, ◌++◌, length, take, drop, replicate, IsTrue, nat_eq, refl, sym, ◌∙◌, ap, subst, arith, length-append, length-drop}
 use Rattle.std.specs.Prelude.{OnOk, Result, Ok, Err}
 use Rattle.std.specs.Cmp.Lexicographic.{pointwise, same_text, other_text}
 use Rattle.std.proofs.lemmas.List.{length-replicate, length-take-le, take-append-drop, take_all, take-take, take-append-le, drop-append-le, drop-drop, drop-take, drop_at, take_rest, take-replicate}
 use Rattle.std.proofs.lemmas.Bool.{cases_lt}
 use Rattle.alp_base.specs.Pages.{page_of, zero_page}
 use Rattle.alp_disk.specs.Disk.{Image, page, IsImage, with_bytes}
-use Rattle.alp_disk.specs.Runs.{SameOutside, Holds}
+use Rattle.alp_disk.specs.Runs.{Holds}
 use Rattle.alp_disk.proofs.RunLemmas.{same_at_first, holds_next}
 use Rattle.alp_record.specs.Record.{body_pages, padded, Hold}
 

@@ -3,3 +3,4 @@ pub mod Bodies
 pub mod Stages
 pub mod Adds
 pub mod Readings
+pub mod Causes

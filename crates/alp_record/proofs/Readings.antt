@@ -1,5 +1,5 @@
 -- An area has its records in one way.
-use Rattle.std.proofs.Common.{◌≡◌, inl, inr, ℕ, ◌+◌, ◌-◌, ◌*◌, ◌/◌, ◌%◌, ◌<◌, ◌≤◌, ◌^◌, List, [], ◌∷◌, ◌++◌, length, get_or, take, drop, replicate, slice_index, refl, sym, ◌∙◌, ap, subst, arith, length-append}
+use Rattle.std.proofs.Common.{◌≡◌, inl, inr, ℕ, ◌+◌, ◌-◌, ◌*◌, ◌/◌, ◌%◌, ◌<◌, ◌^◌, List, [], ◌∷◌, length, get_or, take, drop, replicate, slice_index, refl, sym, ◌∙◌, ap, subst, arith, length-append}
 use Rattle.std.proofs.lemmas.List.{ext_get_or, get_or-take, get_or-drop, take_at, length-replicate}
 use Rattle.alp_disk.specs.Disk.{Image, page}
 use Rattle.alp_record.specs.Record.{body_pages, padded, header, Hold, next_of, RecordAt, Stand, behind, IsEnd, Records, IsDamaged}

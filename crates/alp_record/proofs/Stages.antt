@@ -1,12 +1,11 @@
 -- A record before its gate opens.
-use Rattle.std.proofs.Common.{◌≡◌, ◌≢◌, inl, inr, ℕ, ◌+◌, ◌-◌, ◌<◌, ◌≤◌, List, [], ◌∷◌, ◌++◌, length, take, drop, slice_index, refl, sym, ◌∙◌, ap, subst, arith, length-drop, length-take}
+use Rattle.std.proofs.Common.{◌≡◌, ◌≢◌, ℕ, ◌+◌, ◌-◌, ◌<◌, List, length, take, drop, slice_index, sym, ◌∙◌, ap, arith, length-drop, length-take}
 use Rattle.std.proofs.lemmas.List.{take_all, drop_at}
 use Rattle.alp_disk.specs.Disk.{Image, page, IsImage, with_bytes, Torn}
 use Rattle.alp_base.specs.Crashes.{Follows, After}
-use Rattle.alp_disk.specs.Gates.{IsClosed}
 use Rattle.alp_disk.specs.Images.{page-with_bytes, page-with_bytes_other}
 use Rattle.alp_disk.specs.Runs.{SameOutside, Holds}
-use Rattle.alp_disk.proofs.GateLemmas.{overwritten_gate, overwritten_rest, still_closed}
+use Rattle.alp_disk.proofs.GateLemmas.{overwritten_rest, still_closed}
 use Rattle.alp_record.specs.Record.{body_pages, padded, header}
 use Rattle.alp_record.specs.Adding.{Behind, Staged}
 

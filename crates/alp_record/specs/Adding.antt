@@ -1,7 +1,6 @@
 -- What adding a record leaves, at each moment and at the end.
 use Rattle.std.specs.Prelude.{◌≡◌, ◌⊎◌, ℕ, ◌+◌, ◌-◌, List, [], ◌∷◌, ◌++◌, length, drop}
 use Rattle.alp_disk.specs.Disk.{Image, page}
-use Rattle.alp_base.specs.Crashes.{Only}
 use Rattle.alp_disk.specs.Gates.{IsClosed}
 use Rattle.alp_disk.specs.Runs.{SameOutside}
 use Rattle.alp_record.specs.Record.{body_pages, padded, header, Hold, next_of, RecordAt, IsEnd, Records, behind}

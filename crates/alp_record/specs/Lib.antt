@@ -1,3 +1,3 @@
 pub mod Record
 pub mod Adding
-pub mod Calls
+pub mod Read

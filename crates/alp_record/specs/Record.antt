@@ -1,8 +1,8 @@
 -- Records, and what the records of an area are.
-use Rattle.std.specs.Prelude.{◌≡◌, ◌⊎◌, ◌<◌, ◌≤◌, ℕ, ◌+◌, ◌-◌, ◌*◌, ◌/◌, ◌^◌, List, [], ◌∷◌, ◌++◌, length, take, drop, replicate, slice_index}
+use Rattle.std.specs.Prelude.{◌≡◌, ◌⊎◌, ◌<◌, ◌≤◌, ℕ, ◌+◌, ◌-◌, ◌*◌, ◌/◌, ◌^◌, List, [], ◌∷◌, ◌++◌, length, take, drop, replicate}
 use Rattle.std.specs.Int.{w32, to_be_bytes}
 use Rattle.alp_disk.specs.Disk.{Image, page}
-use Rattle.alp_disk.specs.Gates.{IsClosed}
+use Rattle.alp_disk.specs.Gates.{open_byte, HasOpenGate, IsClosed}
 
 -- the pages of a body of so many bytes
 abbrev pub body_pages : ℕ → ℕ
@@ -14,7 +14,7 @@ padded body = body ++ replicate (512 * body_pages (length body) - length body) 0
 
 -- a header: an open gate, the letter R, the generation, the length of the body, zeros
 unfoldable pub header : ℕ → ℕ → List ℕ
-header generation size = 165 ∷ 82 ∷ (to_be_bytes w32 generation ++ (to_be_bytes w32 size ++ replicate 502 0))
+header generation size = open_byte ∷ 82 ∷ (to_be_bytes w32 generation ++ (to_be_bytes w32 size ++ replicate 502 0))
 
 -- n pages from `first` on hold these bytes
 abbrev pub Hold : Image → ℕ → ℕ → List ℕ → Type 0
@@ -53,5 +53,5 @@ pub record Records (image : Image) (generation end at : ℕ) (bodies : List (Lis
 -- the gate is open, and no record of this generation stands here
 pub record IsDamaged (image : Image) (generation end at : ℕ) : Type 0 where
   pub inside : at < end
-  pub open_gate : slice_index (page image at) 0 ≡ 165
+  pub open_gate : HasOpenGate (page image at)
   pub none : (body : List ℕ) → RecordAt image generation end at body → ⊥

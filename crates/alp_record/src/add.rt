@@ -5,7 +5,7 @@ ghost use Rattle.alp_base.specs.Crashes.{Follows, After, Only, Adds};
 ghost use Rattle.alp_disk.specs.Gates.{IsClosed};
 ghost use Rattle.alp_base.specs.Allowances.{Spends, HasHaltCause};
 ghost use Rattle.alp_disk.specs.Runs.{SameOutside};
-ghost use Rattle.alp_record.specs.Calls.{Changed};
+ghost use Rattle.alp_disk.specs.Calls.{IsSameDevice};
 ghost use Rattle.alp_record.specs.Record.{body_pages, header, next_of, IsEnd};
 ghost use Rattle.alp_record.specs.Adding.{Behind, Staged, Laid, NotYet, Added, Adding, OneMore, OneMoreOrNot};
 
@@ -13,9 +13,7 @@ use crate::body::write_body;
 use crate::header::header_page;
 use crate::{Area, record_pages};
 use alp_base::{Halt, Page};
-use alp_disk::{Disk, write_synced};
-
-const OPEN: u8 = 0xA5;
+use alp_disk::{Disk, OPEN_GATE, write_synced};
 
 /// Writes all of a record but its gate, and syncs nothing.
 fn stage<D: Disk>(disk: &mut D, generation: u32, at: u32, body: &[u8]) -> Result<(), Halt>
@@ -101,9 +99,9 @@ pub fn add_record<D: Disk>(disk: &mut D, area: &Area, at: u32, body: &[u8]) -> R
     ensures durable { IsTrue (D.tells disk.old) → OnOk result (Only (D.seen disk.new) (D.may_leave disk.new)) }
     ensures any_moment { IsTrue (D.tells disk.old) → Adds D.left_since disk.old disk.new (Adding area.now.generation area.now.end at body.now (D.seen disk.old)) }
     ensures before_or_after { IsTrue (D.tells disk.old) → Adds D.left_since disk.old disk.new (OneMoreOrNot area.now.generation area.now.end at body.now (D.seen disk.old)) }
-    ensures stays { Changed D.Disk disk.old disk.new }
+    ensures stays { IsSameDevice D.Disk disk.old disk.new }
     ensures cause { HasHaltCause (D.faults disk.old) (D.faults disk.new) (D.allowance disk.new) result }
 {
     lay(disk, area, at, body)?;
-    write_synced(disk, at, 0, &[OPEN])
+    write_synced(disk, at, 0, &[OPEN_GATE])
 }

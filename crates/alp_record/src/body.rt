@@ -1,5 +1,5 @@
 //! Bodies: bytes in pages, with zeros behind them to the end of the last page.
-ghost use Rattle.std.specs.Prelude.{◌≡◌, ◌<◌, ◌≤◌, ◌+◌, ◌*◌, ◌++◌, ◌^◌, ◌↔◌, ℕ, List, length, take, drop, replicate, IsTrue, OnOk, IfOk, IfSome, IsErrOf, MatchOption};
+ghost use Rattle.std.specs.Prelude.{◌≡◌, ◌<◌, ◌≤◌, ◌+◌, ◌*◌, ◌++◌, ◌^◌, ◌↔◌, ℕ, List, length, take, drop, replicate, IsTrue, OnOk, IfOk, IfSome, IsErrOf, MatchResult, MatchOption};
 ghost use Rattle.alp_base.specs.Causes.{Rose};
 ghost use Rattle.alp_base.specs.declared.faults.Halt.TheVariants.{Failed, Stopped};
 ghost use Rattle.alp_base.specs.declared.allowance.Allowance.TheVariants.{Spent};
@@ -7,6 +7,7 @@ ghost use Rattle.alp_base.specs.Crashes.{Follows, After, NoMore, Adds};
 ghost use Rattle.alp_base.specs.Allowances.{Spends, HasHaltCause};
 ghost use Rattle.alp_disk.specs.Runs.{SameOutside, Holds};
 ghost use Rattle.alp_record.specs.Record.{body_pages, padded, Hold};
+ghost use Rattle.alp_record.specs.Read.{IsCountKept};
 ghost use Rattle.alp_record.specs.declared.fault.RecordFault.TheVariants.{Halted, Damaged};
 
 use crate::RecordFault;
@@ -76,6 +77,7 @@ pub(super) fn read_pages<D: Disk>(
     ensures time { Adds D.left_since disk.old disk.new (D.may_leave disk.old) }
     ensures allowance { D.allowance disk.new ≡ D.allowance disk.old }
     ensures later { D.faults disk.old ≤ D.faults disk.new }
+    ensures still { MatchResult result (λ _. D.faults disk.new ≡ D.faults disk.old) (IsCountKept (D.faults disk.old) (D.faults disk.new)) }
     ensures failed { IsErrOf result (Halted Failed) → Rose (D.faults disk.old) (D.faults disk.new) }
     ensures stopped { IsErrOf result (Halted Stopped) → D.allowance disk.new ≡ Spent }
 {

@@ -3,6 +3,7 @@ ghost use Rattle.std.specs.Prelude.{◌≡◌, ◌<◌, ◌^◌, ℕ, MatchOptio
 ghost use Rattle.alp_record.specs.Record.{header};
 
 use alp_base::Page;
+use alp_disk::OPEN_GATE;
 
 /// The header page of a record, with an open gate.
 pub fn header_page(generation: u32, size: u32) -> Page
@@ -10,7 +11,9 @@ pub fn header_page(generation: u32, size: u32) -> Page
 {
     let g = generation.to_be_bytes();
     let s = size.to_be_bytes();
-    Page::beginning(&[0xA5, 82, g[0], g[1], g[2], g[3], s[0], s[1], s[2], s[3]])
+    Page::beginning(&[
+        OPEN_GATE, 82, g[0], g[1], g[2], g[3], s[0], s[1], s[2], s[3],
+    ])
 }
 
 /// The length of the body, where the page is an open header of this generation.

@@ -1,20 +1,16 @@
 //! Reading a record.
 ghost use Rattle.std.specs.Prelude.{◌≡◌, ◌≤◌, ◌<◌, ℕ, IsTrue, ◌^◌, length, IfOk, IfSome, MatchOption, IsErrOf};
-ghost use Rattle.alp_base.specs.Causes.{Rose};
-ghost use Rattle.alp_base.specs.declared.faults.Halt.TheVariants.{Failed, Stopped};
-ghost use Rattle.alp_base.specs.declared.allowance.Allowance.TheVariants.{Spent};
-ghost use Rattle.alp_record.specs.Calls.{OnlyRead};
+ghost use Rattle.alp_disk.specs.Calls.{OnlyRead};
 ghost use Rattle.alp_record.specs.Record.{RecordAt, IsEnd, IsDamaged, next_of};
-ghost use Rattle.alp_record.specs.declared.fault.RecordFault.TheVariants.{Halted, Damaged};
+ghost use Rattle.alp_record.specs.Read.{HasRecordCause};
+ghost use Rattle.alp_record.specs.declared.fault.RecordFault.TheVariants.{Damaged};
 
 use crate::body::{read_pages, unpadded};
 use crate::header::body_size;
 use crate::{Area, RecordFault, record_pages};
 use alp_base::{Bytes, Page};
-use alp_disk::Disk;
+use alp_disk::{Disk, OPEN_GATE};
 use std::alloc::Global;
-
-const OPEN: u8 = 0xA5;
 
 /// The body of the record at a page of the area, or nothing where the records end.
 ///
@@ -32,16 +28,14 @@ pub fn read_record<D: Disk>(
     ensures small { IfOk result (λ found. IfSome found (λ body. length body < 2 ^ 32)) }
     ensures damaged { IsTrue (D.tells disk.old) → (place : ℕ) → IsErrOf result (Damaged place) → (place ≡ at) × IsDamaged (D.seen disk.old) area.now.generation area.now.end at }
     ensures stays { OnlyRead D.Disk disk.old disk.new }
-    ensures later { D.faults disk.old ≤ D.faults disk.new }
-    ensures failed { IsErrOf result (Halted Failed) → Rose (D.faults disk.old) (D.faults disk.new) }
-    ensures stopped { IsErrOf result (Halted Stopped) → D.allowance disk.new ≡ Spent }
+    ensures cause { HasRecordCause (D.faults disk.old) (D.faults disk.new) (D.allowance disk.new) result }
 {
     if at >= area.end {
         return Ok(None);
     }
     let mut page = Page::zero();
     disk.read(at, &mut page)?;
-    if page.bytes()[0] != OPEN {
+    if page.bytes()[0] != OPEN_GATE {
         return Ok(None);
     }
     let Some(size) = body_size(&page, area.generation) else {

@@ -89,6 +89,10 @@ module _ (server servers n : ℕ) (image : Image) where
   read_is_mounted state Stopped r own why = own
   read_is_mounted state OutOfMemory r own why = own
 
+  pub no_volume_is_not_damaged : (found : List ℕ) (p : ℕ) → WhyNotMounted server servers n image (NotAVolume found) → WhyNotMounted server servers n image (Damaged p) → ⊥
+  no_volume_is_not_damaged found p none (inl one) = none.1 one.1.first one.1.first_is
+  no_volume_is_not_damaged found p none (inr (a, counts, s, ss, bad)) = reads_as server servers n image a counts s ss (Err (anchor.NotAVolume found)) tt tt none
+
   pub damage_is_in_one_place : (p q : ℕ) → WhyNotMounted server servers n image (Damaged p) → WhyNotMounted server servers n image (Damaged q) → p ≡ q
   damage_is_in_one_place p q (inl one) (inl two) = one.0 ∙ sym two.0
   damage_is_in_one_place p q (inl one) (inr (a, counts, s, ss, bad)) = absurd (not_disagree a counts s ss one.1)

@@ -2,12 +2,11 @@
 use Rattle.std.proofs.Common.{◌≡◌, inl, inr, ◌⊎◌, ℕ, ◌+◌, ◌-◌, ◌*◌, ◌<◌, ◌≤◌, List, [], ◌∷◌, slice_index, sym, ap, subst, ◌∙◌, arith}
 use Rattle.std.specs.Prelude.{Result, Ok, Err, IfOk, OnOk}
 use Rattle.std.proofs.lemmas.Bool.{cases_eq}
-use Rattle.alp_disk.specs.Disk.{Image, page, Torn}
+use Rattle.alp_disk.specs.Disk.{Image, page, Torn, SameBut}
 use Rattle.alp_base.specs.Crashes.{Only, After}
 use Rattle.alp_disk.specs.Runs.{SameOutside}
 use Rattle.alp_anchor.specs.Anchor.{IsSound, Counts, after, Switching, Switched}
 use Rattle.alp_anchor.specs.declared.anchor.Anchor.{Anchor}
-use Rattle.alp_anchor.specs.Gate.{SameBut}
 use Rattle.alp_record.specs.declared.area.Area.{Area}
 use Rattle.alp_record.specs.Record.{next_of, RecordAt, Stand, behind, IsEnd, Records}
 use Rattle.alp_record.specs.Adding.{Added, Adding}

@@ -38,13 +38,14 @@ pub record IsLimited {D : Type 0} (g : Ghosts D) (calls : Option ℕ) (old new :
 -- ---- why a commit or a checkpoint answers an error
 
 -- The device failed where its count of faults rose, and was stopped where its allowance is spent then, and either leaves the log
--- dead. A dead log answers that it is, and stays as it was; a log is alive after Ok.
+-- dead; after Ok the count is as before. A dead log answers that it is, and stays as it was; a log is alive after Ok.
 pub record HasLogCause {D T : Type 0} (g : Ghosts D) (old new : Wal D) (result : Result T WalFault) : Type 0 where
   pub later : g.faults (disk_of old) ≤ g.faults (disk_of new)
+  pub no_fault : OnOk result (g.faults (disk_of new) ≡ g.faults (disk_of old))
   pub failed : IsErrOf result Failed → Rose (g.faults (disk_of old)) (g.faults (disk_of new))
   pub stopped : IsErrOf result Stopped → g.allowance (disk_of new) ≡ Spent
-  pub halted : IsErrOf result Failed → is_dead new ≡ true
-  pub cut_off : IsErrOf result Stopped → is_dead new ≡ true
+  pub dead_if_failed : IsErrOf result Failed → is_dead new ≡ true
+  pub dead_if_stopped : IsErrOf result Stopped → is_dead new ≡ true
   pub alive : OnOk result (is_dead new ≡ false)
   pub dead : IsErrOf result Dead ↔ (is_dead old ≡ true)
   pub dead_stays : IsErrOf result Dead → new ≡ old

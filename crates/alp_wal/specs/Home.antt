@@ -1,14 +1,10 @@
 -- Images are brought home.
-use Rattle.std.specs.Prelude.{◌≡◌, ◌≢◌, ◌<◌, ℕ, ◌+◌, List, Option, Some, None, slice_index_or}
-use Rattle.alp_disk.specs.Disk.{Image, page}
+use Rattle.std.specs.Prelude.{◌≡◌, ◌<◌, ℕ, ◌+◌, List, Option, Some, None, slice_index_or}
+use Rattle.alp_disk.specs.Disk.{Image, page, SameBut}
 
 -- the image of each home page, where there is one
 abbrev pub Index : Type 0
 Index = List (Option (List ℕ))
-
--- the same pages but for one
-abbrev pub SameBut : ℕ → Image → Image → Type 0
-SameBut at old new = (q : ℕ) → q ≢ at → page new q ≡ page old q
 
 -- a home page of which the index has an image may differ, and none before the home pages
 pub record SameUnlogged (first : ℕ) (index : Index) (old new : Image) : Type 0 where

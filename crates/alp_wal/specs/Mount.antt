@@ -1,10 +1,12 @@
 -- What a mount finds.
-use Rattle.std.specs.Prelude.{◌≡◌, ◌⊎◌, ℕ, List, take, Bool, true, false}
+use Rattle.std.specs.Prelude.{◌≡◌, ◌⊎◌, ℕ, List, take, Bool, true, false, Result, IfOk, IfErr}
+use Rattle.alp_base.specs.Faults.{HasFaultCause, IsCountKept}
 use Rattle.alp_base.specs.declared.faults.VaultFault.{VaultFault}
 use Rattle.alp_base.specs.declared.faults.VaultFault.TheVariants.{NotAVolume, Damaged, Failed, Stopped}
 use Rattle.alp_base.specs.declared.faults.Halt.{Halt}
 use Rattle.alp_base.specs.declared.faults.Halt.TheVariants.{Failed as HaltFailed, Stopped as HaltStopped}
 use Rattle.alp_disk.specs.Disk.{Image, page}
+use Rattle.alp_disk.specs.declared.disk.Disk.{Ghosts}
 use Rattle.alp_anchor.specs.declared.anchor.Anchor.{Anchor}
 use Rattle.alp_anchor.specs.Anchor.{Counts}
 use Rattle.alp_anchor.specs.Read.{NoneOwn, Disagree}
@@ -12,8 +14,9 @@ use Rattle.alp_batch.specs.declared.batch.Batch.{Batch}
 use Rattle.alp_record.specs.Record.{RecordAt, Stand, behind, IsDamaged}
 use Rattle.alp_wal.specs.State.{State, applied}
 use Rattle.alp_wal.specs.Reading.{Applies, Leads, area_first, area_end, home_pages, bare}
-use Rattle.alp_wal.specs.Wal.{shown, no_index, Logs}
+use Rattle.alp_wal.specs.Wal.{disk_of, shown, no_index, Logs}
 use Rattle.alp_wal.specs.declared.found.Found.{Found}
+use Rattle.alp_wal.specs.declared.wal.Wal.{Wal}
 
 -- what was found so far, over a disk that reads so
 abbrev pub found_state : Found → Image → State
@@ -67,8 +70,21 @@ WhyNotMounted server servers n image (Damaged place) =
     ((place ≡ 1) × Disagree server servers n image) ⊎ ((a : Anchor) × Counts n image a × (a.server ≡ server) × (a.servers ≡ servers) × IsBad image a place)
 WhyNotMounted server servers n image fault = WhyNone server servers n image fault
 
+-- Why a mount answers an error: it failed where the disk's count of faults rose, and was stopped where its allowance is spent then.
+-- With any other answer the count is as before.
+pub record HasMountCause {D : Type 0} (g : Ghosts D) (disk : D) (result : Result (Wal D) (D × VaultFault)) : Type 0 where
+  pub no_fault : IfOk result (λ w. g.faults (disk_of w) ≡ g.faults disk)
+  pub still : IfErr result (λ e. IsCountKept (g.faults disk) (g.faults e.0) e.1)
+  pub cause : IfErr result (λ e. HasFaultCause (g.faults disk) (g.faults e.0) (g.allowance e.0) e.1)
+
 -- a refusal that what the disk holds gives: no volume, or damage
 abbrev pub IsOfDisk : VaultFault → Type 0
 IsOfDisk (NotAVolume found) = Unit {0}
 IsOfDisk (Damaged place) = Unit {0}
 IsOfDisk other = ⊥
+
+-- an answer that comes after the first sync
+abbrev pub IsPastSync : VaultFault → Type 0
+IsPastSync Failed = ⊥
+IsPastSync Stopped = ⊥
+IsPastSync other = Unit {0}

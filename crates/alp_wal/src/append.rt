@@ -29,6 +29,7 @@ impl<D: Disk> Wal<D> {
         ensures size { D.size (disk_of self.new) ≡ D.size (disk_of self.old) }
         ensures allowance { Spends (D.allowance (disk_of self.old)) (D.allowance (disk_of self.new)) }
         ensures later { D.faults (disk_of self.old) ≤ D.faults (disk_of self.new) }
+        ensures no_fault { OnOk result (D.faults (disk_of self.new) ≡ D.faults (disk_of self.old)) }
         ensures failed { IsErrOf result Failed → Rose (D.faults (disk_of self.old)) (D.faults (disk_of self.new)) }
         ensures stopped { IsErrOf result Stopped → D.allowance (disk_of self.new) ≡ Spent }
         ensures never_dead { IsErrOf result Dead → ⊥ }

@@ -1,7 +1,8 @@
 //! How a mount begins.
-ghost use Rattle.std.specs.Prelude.{◌≡◌, ◌≤◌, ◌+◌, length, IsTrue, OnOk, IfOk, IfErr, IsErrOf, ℕ};
+ghost use Rattle.std.specs.Prelude.{◌≡◌, ◌≤◌, ◌+◌, length, IsTrue, OnOk, IfOk, IfErr, MatchResult, IsErrOf, ℕ};
 ghost use Rattle.std.specs.FinMap as map;
 ghost use Rattle.alp_base.specs.Causes.{Rose};
+ghost use Rattle.alp_base.specs.Faults.{IsCountKept};
 ghost use Rattle.alp_base.specs.Allowances.{Spends};
 ghost use Rattle.alp_base.specs.declared.faults.VaultFault.TheVariants.{Failed, Stopped, Damaged};
 ghost use Rattle.alp_base.specs.declared.allowance.Allowance.TheVariants.{Spent};
@@ -11,7 +12,7 @@ ghost use Rattle.alp_anchor.specs.Anchor.{IsSound, Counts};
 ghost use Rattle.alp_wal.specs.Live.{AreLive};
 ghost use Rattle.alp_wal.specs.Reading.{area_first, area_end};
 ghost use Rattle.alp_wal.specs.Wal.{no_index};
-ghost use Rattle.alp_wal.specs.Mount.{Finds, IsOfDisk, WhyNone, halt_fault};
+ghost use Rattle.alp_wal.specs.Mount.{Finds, IsPastSync, WhyNone, halt_fault};
 
 use crate::found::Found;
 use crate::index::ImageIndex;
@@ -76,7 +77,7 @@ pub(super) fn begin<D: Disk>(disk: &mut D, server: u8, servers: u8) -> Result<An
     ensures sound { IfOk result (IsSound (D.size disk.old)) }
     ensures why_none { IsTrue (D.tells disk.old) → IfErr result (WhyNone server servers (D.size disk.old) (D.seen disk.old)) }
     ensures durable { IsTrue (D.tells disk.old) → OnOk result (Only (D.seen disk.old) (D.may_leave disk.new)) }
-    ensures settled { IsTrue (D.tells disk.old) → IfErr result (λ e. IsOfDisk e → Only (D.seen disk.old) (D.may_leave disk.new)) }
+    ensures settled { IsTrue (D.tells disk.old) → IfErr result (λ e. IsPastSync e → Only (D.seen disk.old) (D.may_leave disk.new)) }
     ensures tells { D.tells disk.new ≡ D.tells disk.old }
     ensures size { D.size disk.new ≡ D.size disk.old }
     ensures seen { D.seen disk.new ≡ D.seen disk.old }
@@ -84,6 +85,7 @@ pub(super) fn begin<D: Disk>(disk: &mut D, server: u8, servers: u8) -> Result<An
     ensures time { Adds D.left_since disk.old disk.new (D.may_leave disk.old) }
     ensures allowance { Spends (D.allowance disk.old) (D.allowance disk.new) }
     ensures later { D.faults disk.old ≤ D.faults disk.new }
+    ensures still { MatchResult result (λ _. D.faults disk.new ≡ D.faults disk.old) (IsCountKept (D.faults disk.old) (D.faults disk.new)) }
     ensures failed { IsErrOf result Failed → Rose (D.faults disk.old) (D.faults disk.new) }
     ensures stopped { IsErrOf result Stopped → D.allowance disk.new ≡ Spent }
 {

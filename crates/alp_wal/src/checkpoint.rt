@@ -1,7 +1,7 @@
 //! Checkpoints.
 ghost use Rattle.std.specs.Prelude.{◌≡◌, ◌<◌, ◌≤◌, ◌+◌, IsTrue, OnOk, OnErr, false};
 ghost use Rattle.alp_base.specs.Crashes.{LeavesOnly};
-ghost use Rattle.alp_record.specs.Calls.{Changed};
+ghost use Rattle.alp_disk.specs.Calls.{IsSameDevice};
 ghost use Rattle.alp_wal.specs.Reading.{Reads};
 ghost use Rattle.alp_wal.specs.Live.{notes_pages};
 ghost use Rattle.alp_wal.specs.Wal.{disk_of, anchor_of, held_notes, notes_of, is_dead, room_of, state_of, IsSameVolume, IsLog, IsKnown};
@@ -30,7 +30,7 @@ impl<D: Disk> Wal<D> {
         ensures volume { IsSameVolume (anchor_of self.old) (anchor_of self.new) }
         ensures turned { OnOk result (HasTurned self.old self.new) }
         ensures stays { OnErr result (IsUnmoved self.old self.new) }
-        ensures below { Changed D.Disk (disk_of self.old) (disk_of self.new) }
+        ensures below { IsSameDevice D.Disk (disk_of self.old) (disk_of self.new) }
         ensures cause { HasCheckpointCause D.Disk self.old self.new result }
     {
         if self.dead {
@@ -58,7 +58,7 @@ impl<D: Disk> Wal<D> {
         ensures fitting { pages ≤ room_of self.old → self.new ≡ self.old }
         ensures turned { room_of self.old < pages → OnOk result (HasTurned self.old self.new) }
         ensures stays { OnErr result (IsUnmoved self.old self.new) }
-        ensures below { Changed D.Disk (disk_of self.old) (disk_of self.new) }
+        ensures below { IsSameDevice D.Disk (disk_of self.old) (disk_of self.new) }
         ensures cause { HasCheckpointCause D.Disk self.old self.new result }
     {
         if pages <= self.room() {

@@ -4,7 +4,7 @@ ghost use Rattle.std.specs.List.{AllByRecursion};
 ghost use Rattle.alp_base.specs.Crashes.{LeavesOnly};
 ghost use Rattle.alp_batch.specs.Batch.{IsBatch};
 ghost use Rattle.alp_base.specs.Notes.{notes_after};
-ghost use Rattle.alp_record.specs.Calls.{Changed};
+ghost use Rattle.alp_disk.specs.Calls.{IsSameDevice};
 ghost use Rattle.alp_wal.specs.State.{Suits, IsBelow, applied};
 ghost use Rattle.alp_wal.specs.Live.{batch_pages, BothFit};
 ghost use Rattle.alp_wal.specs.Wal.{disk_of, anchor_of, end_of, index_of, held_notes, notes_of, is_dead, room_of, state_of, indexed, IsLog, IsKnown, BeforeOrAfter};
@@ -55,7 +55,7 @@ impl<D: Disk> Wal<D> {
         ensures notes { OnOk result (notes_of self.new ≡ notes_after (batch_of prepared).notes (notes_of self.old)) }
         ensures stays { OnErr result (IsUnmoved self.old self.new) }
         ensures stays_notes { OnErr result (notes_of self.new ≡ notes_of self.old) }
-        ensures below { Changed D.Disk (disk_of self.old) (disk_of self.new) }
+        ensures below { IsSameDevice D.Disk (disk_of self.old) (disk_of self.new) }
         ensures takes_no_memory { IsErrOf result OutOfMemory → ⊥ }
         ensures cause { HasCheckpointCause D.Disk self.old self.new result }
     {
@@ -84,7 +84,7 @@ impl<D: Disk> Wal<D> {
         ensures before_or_after { IsTrue (D.tells (disk_of self.old)) → LeavesOnly D.left_since (disk_of self.old) (disk_of self.new) (BeforeOrAfter (anchor_of self.old).server (anchor_of self.old).servers (D.size (disk_of self.old)) (state_of self.old (D.seen (disk_of self.old))) (batch_of prepared)) }
         ensures made { OnOk result (HasCommitted (batch_of prepared) self.old self.new) }
         ensures stays { OnErr result (HasNotCommitted (batch_of prepared) self.old self.new) }
-        ensures below { Changed D.Disk (disk_of self.old) (disk_of self.new) }
+        ensures below { IsSameDevice D.Disk (disk_of self.old) (disk_of self.new) }
         ensures cause { HasCheckpointCause D.Disk self.old self.new result }
     {
         self.make_room(record_pages(prepared.body.as_slice().len() as u32))?;
@@ -107,7 +107,7 @@ impl<D: Disk> Wal<D> {
         ensures before_or_after { IsTrue (D.tells (disk_of self.old)) → is_dead self.old ≡ false → LeavesOnly D.left_since (disk_of self.old) (disk_of self.new) (BeforeOrAfter (anchor_of self.old).server (anchor_of self.old).servers (D.size (disk_of self.old)) (state_of self.old (D.seen (disk_of self.old))) batch.now) }
         ensures made { OnOk result (HasCommitted batch.now self.old self.new) }
         ensures stays { OnErr result (HasNotCommitted batch.now self.old self.new) }
-        ensures below { Changed D.Disk (disk_of self.old) (disk_of self.new) }
+        ensures below { IsSameDevice D.Disk (disk_of self.old) (disk_of self.new) }
         ensures cause { HasCommitCause D.Disk batch.now self.old self.new result }
     {
         if self.dead {

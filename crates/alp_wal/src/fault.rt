@@ -12,7 +12,7 @@ pub enum WalFault {
     Failed,
     #[error("the device was stopped")]
     Stopped,
-    /// The log is as before.
+    /// The log is as before, but for room that a commit made for notes.
     #[error("out of memory")]
     OutOfMemory,
     /// A record of the live notes and one of the batch are longer than an area. The log is as before.

@@ -10,10 +10,9 @@ ghost use Rattle.alp_wal.specs.Wal.{indexed, no_index, Logs};
 ghost use Rattle.alp_wal.specs.Mount.{found_state, TakenOrNot};
 
 use crate::index::ImageIndex;
-use crate::prepare::share;
 use alp_anchor::Anchor;
 use alp_base::OutOfMemory;
-use alp_batch::{Batch, PageImage, decode};
+use alp_batch::{Batch, PageImage, decode, share_images};
 use alp_notes::Notes;
 use std::alloc::Global;
 
@@ -53,7 +52,7 @@ impl Found {
         if !all_below(batch.images.as_slice(), self.anchor.sizes.home) {
             return Ok(false);
         }
-        let images = share(alloc, batch.images.as_slice())?;
+        let images = share_images(alloc, batch.images.as_slice())?;
         let changes = self.notes.make_room(alloc, batch.notes.as_slice())?;
         self.index.lay_over(images);
         self.notes.apply(changes);

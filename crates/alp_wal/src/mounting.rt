@@ -1,18 +1,19 @@
 //! Mounting a disk.
-ghost use Rattle.std.specs.Prelude.{◌≡◌, ◌≤◌, ◌<◌, ◌+◌, length, IsTrue, OnOk, IfOk, IfErr, IsErrOf, ℕ, true, false, List};
+ghost use Rattle.std.specs.Prelude.{◌≡◌, ◌≤◌, ◌<◌, ◌+◌, length, IsTrue, OnOk, IfOk, IfErr, MatchResult, IsErrOf, ℕ, true, false, List};
 ghost use Rattle.alp_base.specs.Causes.{Rose};
+ghost use Rattle.alp_base.specs.Faults.{IsCountKept};
 ghost use Rattle.alp_base.specs.declared.faults.Halt.{Halt as Halting};
 ghost use Rattle.alp_base.specs.declared.faults.VaultFault.TheVariants.{Failed, Stopped, Damaged, NotAVolume};
 ghost use Rattle.alp_base.specs.declared.allowance.Allowance.TheVariants.{Spent};
 ghost use Rattle.alp_base.specs.Allowances.{Spends};
 ghost use Rattle.alp_base.specs.Crashes.{Only, NoMore, Adds};
 ghost use Rattle.alp_anchor.specs.Anchor.{IsSound, Counts};
-ghost use Rattle.alp_record.specs.Calls.{Looked};
+ghost use Rattle.alp_disk.specs.Calls.{Looked};
 ghost use Rattle.alp_record.specs.Record.{IsEnd};
 ghost use Rattle.alp_wal.specs.Live.{AreLive, AreWithin};
 ghost use Rattle.alp_wal.specs.Reading.{area_first, area_end, Reads};
 ghost use Rattle.alp_wal.specs.Wal.{disk_of, anchor_of, state_of, is_dead, IsLog, IsKnown};
-ghost use Rattle.alp_wal.specs.Mount.{Finds, IsBad, IsOfDisk, WhyNotMounted};
+ghost use Rattle.alp_wal.specs.Mount.{Finds, IsBad, IsPastSync, WhyNotMounted, HasMountCause};
 
 use crate::Wal;
 use crate::begin::{area_of, bare, begin};
@@ -55,6 +56,7 @@ fn step<D: Disk>(
     ensures time { Adds D.left_since disk.old disk.new (D.may_leave disk.old) }
     ensures allowance { D.allowance disk.new ≡ D.allowance disk.old }
     ensures later { D.faults disk.old ≤ D.faults disk.new }
+    ensures still { MatchResult result (λ _. D.faults disk.new ≡ D.faults disk.old) (IsCountKept (D.faults disk.old) (D.faults disk.new)) }
     ensures failed { IsErrOf result Failed → Rose (D.faults disk.old) (D.faults disk.new) }
     ensures stopped { IsErrOf result Stopped → D.allowance disk.new ≡ Spent }
 {
@@ -110,6 +112,7 @@ fn replay<D: Disk>(
     ensures time { Adds D.left_since disk.old disk.new (D.may_leave disk.old) }
     ensures allowance { D.allowance disk.new ≡ D.allowance disk.old }
     ensures later { D.faults disk.old ≤ D.faults disk.new }
+    ensures still { MatchResult result (λ _. D.faults disk.new ≡ D.faults disk.old) (IsCountKept (D.faults disk.old) (D.faults disk.new)) }
     ensures failed { IsErrOf result Failed → Rose (D.faults disk.old) (D.faults disk.new) }
     ensures stopped { IsErrOf result Stopped → D.allowance disk.new ≡ Spent }
 {
@@ -140,9 +143,10 @@ fn recover<D: Disk>(
     ensures live { IfOk result (λ f. AreLive f.notes.notes) }
     ensures within { IfOk result (λ f. AreWithin (area_first f.anchor) f.end f.notes.notes) }
     ensures durable { IsTrue (D.tells disk.old) → OnOk result (Only (D.seen disk.old) (D.may_leave disk.new)) }
-    ensures settled { IsTrue (D.tells disk.old) → IfErr result (λ e. IsOfDisk e → Only (D.seen disk.old) (D.may_leave disk.new)) }
+    ensures settled { IsTrue (D.tells disk.old) → IfErr result (λ e. IsPastSync e → Only (D.seen disk.old) (D.may_leave disk.new)) }
     ensures why_not { IsTrue (D.tells disk.old) → IfErr result (WhyNotMounted server servers (D.size disk.old) (D.seen disk.old)) }
     ensures below { Looked D.Disk disk.old disk.new }
+    ensures still { MatchResult result (λ _. D.faults disk.new ≡ D.faults disk.old) (IsCountKept (D.faults disk.old) (D.faults disk.new)) }
     ensures failed { IsErrOf result Failed → Rose (D.faults disk.old) (D.faults disk.new) }
     ensures stopped { IsErrOf result Stopped → D.allowance disk.new ≡ Spent }
 {
@@ -176,9 +180,8 @@ pub fn mount<D: Disk>(
     ensures why_not { IsTrue (D.tells disk) → IfErr result (λ e. WhyNotMounted server servers (D.size disk) (D.seen disk) e.1) }
     ensures below_refused { IfErr result (λ e. Looked D.Disk disk e.0) }
     // It began with a sync: what is refused as no volume, or as damaged, is so after a crash too.
-    ensures durable { IsTrue (D.tells disk) → IfErr result (λ e. IsOfDisk e.1 → Only (D.seen e.0) (D.may_leave e.0)) }
-    ensures failed { IfErr result (λ e. e.1 ≡ Failed → Rose (D.faults disk) (D.faults e.0)) }
-    ensures stopped { IfErr result (λ e. e.1 ≡ Stopped → D.allowance e.0 ≡ Spent) }
+    ensures durable { IsTrue (D.tells disk) → IfErr result (λ e. IsPastSync e.1 → Only (D.seen e.0) (D.may_leave e.0)) }
+    ensures cause { HasMountCause D.Disk disk result }
 {
     let mut disk = disk;
     match recover(alloc, &mut disk, server, servers) {

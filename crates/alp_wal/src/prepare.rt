@@ -1,10 +1,10 @@
 //! What a commit does in memory.
-ghost use Rattle.std.specs.Prelude.{◌≡◌, ◌≤◌, length, IfOk, OnOk};
+ghost use Rattle.std.specs.Prelude.{◌≡◌, ◌≤◌, length, IfOk};
 ghost use Rattle.alp_batch.specs.Batch.{IsBatch};
 ghost use Rattle.alp_wal.specs.Prepared.{batch_of, IsReady};
 
 use alp_base::{Bytes, NoteChange, OutOfMemory};
-use alp_batch::{Batch, PageImage, encode};
+use alp_batch::{Batch, PageImage, encode, share_images};
 use alp_notes::Notes;
 use std::alloc::Global;
 
@@ -14,16 +14,6 @@ pub(super) struct Prepared {
     pub(super) body: Bytes,
     pub(super) images: Vec<PageImage>,
     pub(super) notes: Vec<NoteChange>,
-}
-
-pub(super) fn share(alloc: Global, images: &[PageImage]) -> Result<Vec<PageImage>, OutOfMemory>
-    ensures { IfOk result (λ copy. copy.items ≡ images.now) }
-{
-    let mut copy = Vec::new(alloc);
-    for next in images {
-        copy.push(next.clone()?)?;
-    }
-    Ok(copy)
 }
 
 /// Makes all that takes memory, room for the changes of notes too. The notes stay.
@@ -39,7 +29,7 @@ pub(super) fn prepare(
     ensures same { notes.new.notes ≡ notes.old.notes }
 {
     let body = encode(alloc, batch)?;
-    let images = share(alloc, batch.images.as_slice())?;
+    let images = share_images(alloc, batch.images.as_slice())?;
     let changes = notes.make_room(alloc, batch.notes.as_slice())?;
     Ok(Prepared {
         body,

@@ -3,7 +3,7 @@ ghost use Rattle.std.specs.Prelude.{◌≡◌, ◌<◌, IsTrue, OnOk, IsOk, ℕ,
 ghost use Rattle.alp_base.specs.Allowances.{HasHaltCause};
 ghost use Rattle.alp_disk.specs.Disk.{page as page_of};
 ghost use Rattle.alp_base.specs.Crashes.{NoMore, Adds};
-ghost use Rattle.alp_record.specs.Calls.{OnlyRead};
+ghost use Rattle.alp_disk.specs.Calls.{OnlyRead};
 ghost use Rattle.alp_wal.specs.Wal.{disk_of, anchor_of, index_of, state_of, IsLog, IsKnown};
 ghost use Rattle.alp_wal.specs.Calls.{IsSameLog};
 

@@ -23,5 +23,5 @@ loop-k-preserved g c =
       tells = c.write.ensures.tells ∙ before.tells;
       size = c.write.ensures.size ∙ before.size;
       allowance = spends_then _ _ _ before.allowance c.write.ensures.allowance;
-      faults = c.in_ok-write.ensures.no_fault ∙ before.faults;
+      faults = c.in_ok-write.ensures.cause.no_fault ∙ before.faults;
     }

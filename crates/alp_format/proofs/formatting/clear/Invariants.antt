@@ -1,4 +1,4 @@
-use Rattle.std.proofs.Common.{◌≡◌, ◌≤◌, ◌*◌, IsTrue, replicate}
+use Rattle.std.proofs.Common.{◌≡◌, ◌*◌, IsTrue, replicate}
 use Rattle.alp_base.specs.Crashes.{Follows, After, Adds}
 use Rattle.alp_base.specs.Allowances.{Spends}
 use Rattle.alp_disk.specs.Runs.{SameOutside, Holds}
@@ -12,5 +12,5 @@ invariant-loop-k g l = record {
   tells : g.D.Disk.tells l.disk ≡ g.D.Disk.tells l.fn.disk;
   size : g.D.Disk.size l.disk ≡ g.D.Disk.size l.fn.disk;
   allowance : Spends (g.D.Disk.allowance l.fn.disk) (g.D.Disk.allowance l.disk);
-  faults : g.D.Disk.faults l.fn.disk ≤ g.D.Disk.faults l.disk;
+  faults : g.D.Disk.faults l.disk ≡ g.D.Disk.faults l.fn.disk;
 }

@@ -1,6 +1,6 @@
-use Rattle.std.proofs.Common.{IsTrue, inl, sym, ◌∙◌, ap, subst, arith}
+use Rattle.std.proofs.Common.{IsTrue, inl, sym, subst, arith}
 use Rattle.alp_disk.proofs.Moments.{adds_more, adds_weaker}
-use Rattle.alp_record.specs.Adding.{Adding, OneMoreOrNot}
+use Rattle.alp_record.specs.Adding.{Adding}
 use Rattle.alp_record.proofs.Bodies.{on_ok}
 use Rattle.alp_record.proofs.Adds.{gate_crash, gate_opened, one_more, one_more_or_not}
 use Rattle.alp_record.proofs.add.add_record.Goals as goal

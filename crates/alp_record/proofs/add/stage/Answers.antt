@@ -1,8 +1,8 @@
-use Rattle.std.proofs.Common.{◌≡◌, ◌+◌, ℕ, List, length, drop, IsTrue, sym, ◌∙◌, ap, subst, arith, length-drop}
+use Rattle.std.proofs.Common.{◌+◌, length, IsTrue, sym, ◌∙◌, subst, arith}
 use Rattle.alp_base.proofs.AllowanceLemmas.{spends_then}
 use Rattle.alp_base.specs.Crashes.{After}
 use Rattle.alp_disk.proofs.Moments.{adds_more, adds_weaker}
-use Rattle.alp_record.specs.Record.{body_pages, header}
+use Rattle.alp_record.specs.Record.{body_pages}
 use Rattle.alp_record.specs.Adding.{Behind}
 use Rattle.alp_record.proofs.Bodies.{on_ok}
 use Rattle.alp_record.proofs.Stages.{slice_rest, slice_whole, after_body, after_header, staged_is}

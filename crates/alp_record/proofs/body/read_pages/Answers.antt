@@ -1,7 +1,6 @@
 use Rattle.std.proofs.Common.{IsTrue, ◌+◌, ◌∙◌, sym, ap, subst, arith, length, length-append}
 use Rattle.alp_disk.specs.Disk.{Image, page}
 use Rattle.alp_disk.proofs.Moments.{adds_more}
-use Rattle.alp_record.specs.Record.{Hold}
 use Rattle.alp_record.proofs.Bodies.{hold_more}
 use Rattle.alp_record.proofs.body.read_pages.Goals as goal
 
@@ -21,5 +20,5 @@ loop-k-preserved g c =
       crash = λ i left. before.crash i (c.read.ensures.crash i left);
       time = adds_more g.D.Disk.left_since _ _ _ _ _ before.time c.read.ensures.time (λ i left. before.crash i (c.read.ensures.crash i left));
       allowance = c.read.ensures.allowance ∙ before.allowance;
-      later = omega (arith, before.later, c.read.ensures.cause.later);
+      faults = c.in_ok-read.ensures.cause.no_fault ∙ before.faults;
     }

@@ -1,4 +1,4 @@
-use Rattle.std.proofs.Common.{◌≡◌, ◌≤◌, ◌*◌, IsTrue, length}
+use Rattle.std.proofs.Common.{◌≡◌, ◌*◌, IsTrue, length}
 use Rattle.alp_base.specs.Crashes.{NoMore, Adds}
 use Rattle.alp_record.specs.Record.{Hold}
 use Rattle.alp_record.proofs.body.read_pages.Given as goal
@@ -13,5 +13,5 @@ invariant-loop-k g l = record {
   crash : NoMore (g.D.Disk.may_leave l.fn.disk) (g.D.Disk.may_leave l.disk);
   time : Adds g.D.Disk.left_since l.fn.disk l.disk (g.D.Disk.may_leave l.fn.disk);
   allowance : g.D.Disk.allowance l.disk ≡ g.D.Disk.allowance l.fn.disk;
-  later : g.D.Disk.faults l.fn.disk ≤ g.D.Disk.faults l.disk;
+  faults : g.D.Disk.faults l.disk ≡ g.D.Disk.faults l.fn.disk;
 }

@@ -1,4 +1,3 @@
-use Rattle.std.proofs.Common.{sym, ◌∙◌}
 use Rattle.alp_record.proofs.Bodies.{zeros_stand, unpadded_is}
 use Rattle.alp_record.proofs.body.unpadded.Goals as goal
 

@@ -1,4 +1,4 @@
-use Rattle.std.proofs.Common.{List, ℕ, ◌/◌, ◌*◌, ◌+◌, length, IsTrue, refl, sym, ◌∙◌, ap, subst, arith}
+use Rattle.std.proofs.Common.{List, ℕ, ◌/◌, ◌+◌, length, IsTrue, refl, sym, subst}
 use Rattle.alp_disk.specs.Runs.{Holds}
 use Rattle.alp_record.specs.Record.{body_pages, padded}
 use Rattle.alp_record.proofs.Bodies.{on_ok, body_written}

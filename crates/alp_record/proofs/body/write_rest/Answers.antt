@@ -1,4 +1,4 @@
-use Rattle.std.proofs.Common.{List, ℕ, ◌<◌, length, ◌∙◌, ap, subst, arith}
+use Rattle.std.proofs.Common.{List, ℕ, ◌<◌, length, ◌∙◌, ap, arith}
 use Rattle.alp_disk.specs.Disk.{with_bytes}
 use Rattle.alp_record.proofs.Bodies.{on_ok, rest_written}
 use Rattle.alp_record.proofs.body.write_rest.Goals as goal

@@ -1,7 +1,8 @@
-use Rattle.std.proofs.Common.{◌≡◌, ◌+◌, ◌-◌, ℕ, IsTrue, sym, ◌∙◌, ap, subst, arith, length}
+use Rattle.std.proofs.Common.{◌≡◌, ◌+◌, ◌-◌, IsTrue, sym, ◌∙◌, subst, arith}
 use Rattle.alp_disk.specs.Disk.{Image}
 use Rattle.alp_record.specs.Record.{body_pages, Hold}
 use Rattle.alp_record.proofs.Readings.{past_area, bad_padding}
+use Rattle.alp_record.proofs.Causes.{none_of_ok, none_of_damage}
 use Rattle.alp_record.proofs.read.read_record.Goals as goal
 
 pub returns-then-area-at-clause-damaged : goal.returns-then-area-at-clause-damaged
@@ -22,3 +23,9 @@ returns-in_default-unpadded-clause-damaged g c told place is =
           (subst (λ n. Hold (g.D.Disk.seen c.args.disk.now) (c.args.at + 1) n c.in_ok-bytes.bytes.items) count held)
           (omega (arith, c.in_ok-bytes.ensures.long, count)) c.in_default-unpadded.ensures,
     )
+
+pub returns-in_default-unpadded-clause-cause : goal.returns-in_default-unpadded-clause-cause
+returns-in_default-unpadded-clause-cause g c = none_of_damage _ _ _ _ (c.in_ok-bytes.ensures.still ∙ c.in_ok-read.ensures.cause.no_fault)
+
+pub returns-clause-cause : goal.returns-clause-cause
+returns-clause-cause g c = none_of_ok _ _ _ _ (c.in_ok-bytes.ensures.still ∙ c.in_ok-read.ensures.cause.no_fault)

@@ -13,5 +13,5 @@ invariant-loop-j g l = record {
   tells : g.D.Disk.tells l.disk ≡ g.D.Disk.tells l.fn.disk;
   size : g.D.Disk.size l.disk ≡ g.D.Disk.size l.fn.disk;
   allowance : Spends (g.D.Disk.allowance l.fn.disk) (g.D.Disk.allowance l.disk);
-  faults : g.D.Disk.faults l.fn.disk ≤ g.D.Disk.faults l.disk;
+  faults : g.D.Disk.faults l.disk ≡ g.D.Disk.faults l.fn.disk;
 }

@@ -39,7 +39,7 @@ loop-preserved g c =
       crash = λ i left. before.crash i (step.crash i left);
       time = adds_more g.D.Disk.left_since _ _ _ _ _ before.time step.time (λ i left. before.crash i left);
       allowance = step.allowance ∙ before.allowance;
-      later = omega (arith, before.later, step.later);
+      faults = step.still ∙ before.faults;
     }
 
 err_once : {T E : Type 0} (x y : E) → ◌≡◌ {A = Result T E} (Err x) (Err y) → x ≡ y

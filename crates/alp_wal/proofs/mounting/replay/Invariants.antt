@@ -20,5 +20,5 @@ invariant-loop g l = record {
   crash : NoMore (g.D.Disk.may_leave l.fn.disk) (g.D.Disk.may_leave l.disk);
   time : Adds g.D.Disk.left_since l.fn.disk l.disk (g.D.Disk.may_leave l.fn.disk);
   allowance : g.D.Disk.allowance l.disk ≡ g.D.Disk.allowance l.fn.disk;
-  later : g.D.Disk.faults l.fn.disk ≤ g.D.Disk.faults l.disk;
+  faults : g.D.Disk.faults l.disk ≡ g.D.Disk.faults l.fn.disk;
 }
