@@ -1,6 +1,6 @@
 //! Why a call was not performed.
 ghost use Rattle.std.specs.Prelude.{◌≡◌};
-ghost use Rattle.alp_vault.specs.Vault.{IsOfVolume};
+ghost use Rattle.alp_base.specs.Faults.{IsOfVolume};
 ghost use Rattle.alp_calls.specs.Looks.{fault_as};
 ghost use Rattle.alp_calls.specs.declared.fault.CallFault.TheVariants.{OutOfMemory as NoMemory};
 

@@ -134,7 +134,7 @@ written s (call.Finish t true) = act.Decided (next_stamp s t) [] ∷ []
 written s c = []
 
 -- The device failed or was stopped: the caller is told so, and that is the last act. Those before it name what the write
--- held, and are none that came about.
+-- held, and are none that took effect.
 pub data IsHalt (s : State) (c : Call) : Option Reply → List Act → Type 0 where
   failed : IsHalt s c (Some (reply.Refused refusal.ReadFault)) (written s c ++ act.Failed ∷ [])
   stopped : IsHalt s c (Some (reply.Refused refusal.Down)) (written s c ++ act.Stopped ∷ [])

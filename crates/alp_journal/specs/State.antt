@@ -329,7 +329,7 @@ brought acts = if list_any is_stop acts then [] else acts
 abbrev pub with_pending : State → List Act → State
 with_pending s acts = record s { pending = if list_any is_stop acts then acts else s.pending }
 
--- what came about by a call, before it was answered
+-- what took effect by a call, before it was answered
 abbrev pub acted : State → Entry → State
 acted s e = with_pending (state_after (after_act e.event) s (brought e.acts)) e.acts
 

@@ -1,8 +1,8 @@
-//! What came about in a step.
+//! What took effect in a step.
 use crate::{Message, Parts, Stamps};
 use alp_base::{JoinNo, Stamp, TransId};
 
-/// One thing that came about in a step.
+/// One thing that took effect in a step.
 #[derive(Clone, Drop)]
 pub enum Act {
     Sent {

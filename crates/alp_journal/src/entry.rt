@@ -2,7 +2,7 @@
 use crate::{Acts, Event};
 use alp_files::Reply;
 
-/// What came, what was answered (nothing is silence), and what came about.
+/// What came, what was answered (nothing is silence), and what took effect.
 #[derive(Clone, Drop)]
 pub struct Entry {
     pub event: Event,

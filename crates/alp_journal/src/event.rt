@@ -17,7 +17,7 @@ pub enum Event {
         from: u8,
         message: Message,
     },
-    /// The transaction took too long.
+    /// The transaction timed out.
     Timeout {
         trans: TransId,
     },

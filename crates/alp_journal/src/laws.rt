@@ -38,7 +38,7 @@ pub fn decided_transactions_are_one_thread()
     ensures charged { (o : Start) (journal : List Entry) → IsSoundOpening o → IsLawful o journal → IsChargedFrom o journal }
 {}
 
-/// A call that is refused in passing leaves files, intents, opens and locks as they were: one of a transaction that is
+/// A transient refusal leaves files, intents, opens and locks as they were: one of a transaction that is
 /// not live, one that another's lock is in the way of, one in which the device failed or was stopped, and the open of a
 /// file that never was. A transaction that ends as its client asked goes with what it intended and held, and leaves all
 /// else.

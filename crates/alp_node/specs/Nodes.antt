@@ -47,8 +47,8 @@ pub record IsNew {V : Type 0} (server : ℕ) (n : Node V) : Type 0 where
   pub lives : n.kept.lives ≡ map.empty
   pub up : n.kept.is_down ≡ false
 
--- One entry more: this event, this reply, and what came about. Each call has a reply, and nothing else has one. The reply
--- tells of a vault that failed or was stopped just where that came about, which has its cause, and just then the server is
+-- One entry more: this event, this reply, and what took effect. Each call has a reply, and nothing else has one. The reply
+-- tells of a vault that failed or was stopped just where that is among them, which has its cause, and just then the server is
 -- down.
 pub record Answered (before after : List Entry) (e : Event) (r : Option Reply) (faults_before faults_now : ℕ) (allowance : Allowance) (is_down : Bool) : Type 0 where
   pub acts : List Act

@@ -1,5 +1,6 @@
 -- The events that a server answers so far.
 use Rattle.std.specs.Prelude.{◌≡◌, ℕ, ◌+◌, ◌≤◌, Bool, true, false, Option, None, Some}
+use Rattle.alp_base.specs.declared.limits.TheConstants.{CLIENTS}
 use Rattle.std.specs.FinMap as map
 use Rattle.alp_base.specs.declared.ids.TransId.{TransId}
 use Rattle.alp_files.specs.Cells.{Cells}
@@ -40,7 +41,7 @@ IsInTurn k client epoch number (call.Hello name) = (session_at k.sessions client
 IsInTurn k client epoch number c = IsNextOf (session_at k.sessions client) k.epoch epoch number
 
 abbrev pub IsServed : {V : Type 0} → ServerState V → Event → Type 0
-IsServed k (event.Call client epoch number c) = (client ≤ 16) × IsAskable c × IsInTurn k client epoch number c
+IsServed k (event.Call client epoch number c) = (client ≤ CLIENTS) × IsAskable c × IsInTurn k client epoch number c
 IsServed k (event.Timeout t) = Unit {0}
 IsServed k e = ⊥
 

@@ -1,5 +1,6 @@
 -- What a server keeps is what its journal says.
 use Rattle.std.specs.Prelude.{◌≡◌, ℕ, zero, suc, ◌+◌, ◌^◌, ◌<◌, ◌≤◌, Bool, true, false, IsTrue, List, [], ◌∷◌, length, Option, None, Some, is_some}
+use Rattle.alp_base.specs.declared.limits.TheConstants.{CLIENTS}
 use Rattle.std.specs.Option.{option_map}
 use Rattle.std.specs.List.{AllByRecursion, list_any}
 use Rattle.std.specs.FinMap as map
@@ -99,7 +100,7 @@ pub record IsAs {V : Type 0} (o : Start) (s : State) (held : Contents) (k : Serv
   pub clock : s.clock ≡ k.clock
   pub cells : k.is_down ≡ false → held.cells ≡ s.cells
   pub notes : k.is_down ≡ false → held.notes ≡ notes_at o s
-  pub places : length k.sessions.places ≡ 17
+  pub places : length k.sessions.places ≡ CLIENTS + 1
   pub sessions : (client : ℕ) → s.sessions client ≡ option_map told_session (session_at k.sessions client)
   pub lives : (t : TransId) → IsAlike k.locks.held t (map.get k.lives t) (s.lives t)
   pub unborn : (t : TransId) (l : Life) → s.lives t ≡ Some l → PutNoneBeyond s.server s.epoch k.given l.edits
@@ -120,7 +121,7 @@ pub record IsReady {V : Type 0} (steps : ℕ) (serves : Bool) (k : ServerState V
   pub known : (t : TransId) (l : Live) → map.get k.lives t ≡ Some l → is_some (map.get k.locks.held t) ≡ true
   pub begun : (t : TransId) (l : Live) → map.get k.lives t ≡ Some l → t.counter ≤ k.drawn
   pub opens : (t : TransId) (l : Live) → map.get k.lives t ≡ Some l → l.part.last ≤ steps
-  pub places : length k.sessions.places ≡ 17
+  pub places : length k.sessions.places ≡ CLIENTS + 1
   pub calls : (client : ℕ) (w : Session) → session_at k.sessions client ≡ Some w → w.last ≤ steps
   pub drawn : k.drawn ≤ steps
   pub given : k.given ≤ steps

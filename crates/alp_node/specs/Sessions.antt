@@ -1,11 +1,12 @@
 -- The sessions of clients, each at its client's number.
-use Rattle.std.specs.Prelude.{ℕ, Option, None, Some, replicate, slice_get, slice_set}
+use Rattle.std.specs.Prelude.{ℕ, Option, None, Some, replicate, slice_get, slice_set, ◌+◌}
+use Rattle.alp_base.specs.declared.limits.TheConstants.{CLIENTS}
 use Rattle.std.specs.Option.{option_and_then}
 use Rattle.alp_node.specs.declared.sessions.Session.{Session}
 use Rattle.alp_node.specs.declared.sessions.Sessions.{Sessions}
 
 abbrev pub no_sessions : Sessions
-no_sessions = record { places = replicate 17 None }
+no_sessions = record { places = replicate (CLIENTS + 1) None }
 
 abbrev pub session_at : Sessions → ℕ → Option Session
 session_at s client = option_and_then (λ x. x) (slice_get s.places client)

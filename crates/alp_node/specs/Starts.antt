@@ -10,7 +10,7 @@ use Rattle.alp_fields.specs.declared.clock_note.ClockNote.{ClockNote}
 use Rattle.alp_files.specs.declared.cell.Cell.{Cell}
 use Rattle.alp_files.specs.Apart.{AreSized}
 use Rattle.alp_vault.specs.Contents.{Contents}
-use Rattle.alp_vault.specs.Vault.{HasFaultCause, IsOfVolume}
+use Rattle.alp_base.specs.Faults.{HasFaultCause, IsOfVolume}
 use Rattle.alp_vault.specs.Volumes.{AreServerNotes}
 use Rattle.alp_node.specs.declared.start.StartFault.{StartFault}
 use Rattle.alp_node.specs.declared.start.StartFault.TheVariants as fault

@@ -1,5 +1,6 @@
 -- One step of a server.
 use Rattle.std.specs.Prelude.{◌≡◌, ℕ, ◌+◌, ◌≤◌, ◌==◌, max, Bool, true, false, List, [], ◌∷◌, ◌++◌, Option, None, Some, is_some, IsTrue, Result, IfOk, OnOk, OnErr}
+use Rattle.alp_base.specs.declared.limits.TheConstants.{CLIENTS}
 use Rattle.std.specs.List.{filter, list_any}
 use Rattle.std.specs.FinMap as map
 use Rattle.alp_base.specs.Allowances.{Spends}
@@ -62,7 +63,7 @@ is_call (event.Call client epoch number c) = true
 is_call _ = false
 
 -- Of any vault: what is handed out is what the entry keeps, and each call has a reply and nothing else has one. The reply
--- tells of a vault that failed or was stopped just where that came about, which has its cause, and just then the server is
+-- tells of a vault that failed or was stopped just where that is among them, which has its cause, and just then the server is
 -- down.
 pub record IsGiven (asked : Bool) (before now : ℕ) (allowance : Allowance) (is_down : Bool) (a : Answer) : Type 0 where
   pub handed : a.handed ≡ a.kept
@@ -90,7 +91,7 @@ pub record IsStep {V : Type 0} (G : Ghosts V) (old new : ServerState V) (e : Eve
 
 -- it is the session's next call
 pub record IsTurn (sessions : Sessions) (t : Turn) : Type 0 where
-  pub client : t.client ≤ 16
+  pub client : t.client ≤ CLIENTS
   pub session : session_at sessions t.client ≡ Some t.session
   pub number : t.number ≡ t.session.last + 1
 

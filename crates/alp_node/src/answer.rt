@@ -7,7 +7,7 @@ use alp_base::OutOfMemory;
 use alp_files::{Refusal, Reply};
 use alp_journal::Acts;
 
-/// A reply, once for the journal and once for the caller, and what came about. No reply is silence.
+/// A reply, once for the journal and once for the caller, and what took effect. No reply is silence.
 #[derive(Drop)]
 pub struct Answer {
     pub kept: Option<Reply>,

@@ -10,7 +10,7 @@ use crate::answer::Answer;
 use crate::lives::Live;
 use crate::server_state::ServerState;
 use crate::sessions::{Session, Turn};
-use alp_base::{Name, OutOfMemory, Stamp, TransId};
+use alp_base::{CLIENTS, Name, OutOfMemory, Stamp, TransId};
 use alp_calls::Part;
 use alp_files::Reply;
 use alp_journal::{Act, Acts};
@@ -19,7 +19,7 @@ use alp_vault::Vault;
 impl<V: Vault> ServerState<V> {
     /// A client's session begins.
     pub fn hello(&mut self, client: u8, name: Name) -> Result<Answer, OutOfMemory>
-        requires client { client ≤ 16 }
+        requires client { client ≤ CLIENTS }
         requires first { session_at self.old.sessions client ≡ None }
         requires up { self.old.is_down ≡ false }
         ensures { IsStep V.Vault self.old self.new (event.Call client 0 1 (call.Hello name)) result }

@@ -17,7 +17,7 @@ use crate::answer::Answer;
 use crate::server_state::ServerState;
 use crate::sessions::Turn;
 use crate::stored::store;
-use alp_base::{OutOfMemory, Stamp, TransId};
+use alp_base::{CLIENTS, OutOfMemory, Stamp, TransId};
 use alp_calls::CallFault;
 use alp_fields::ClockNote;
 use alp_files::{Cause, Refusal, Reply};
@@ -61,7 +61,7 @@ impl<V: Vault> ServerState<V> {
         Ok(Answer::refused(refusal, acts))
     }
 
-    /// A transaction took too long: where it is live it ends without effect.
+    /// A transaction timed out: where it is live it ends without effect.
     pub fn time_out(&mut self, trans: TransId) -> Result<Answer, OutOfMemory>
         requires up { self.old.is_down ≡ false }
         requires alone { self.old.locks.waiting ≡ [] }
@@ -120,7 +120,7 @@ impl<V: Vault> ServerState<V> {
         fault: CallFault,
         mut acts: Vec<Act>,
     ) -> Result<Answer, OutOfMemory>
-        requires client { turn.now.client ≤ 16 }
+        requires client { turn.now.client ≤ CLIENTS }
         requires room { length acts.items < vec_capacity acts }
         ensures halted { IfOk result (IsHalted acts.items fault) }
         ensures down { OnOk result (self.new ≡ record self.old { sessions = counted_in self.old.sessions turn.now; is_down = true }) }
@@ -140,7 +140,7 @@ impl<V: Vault> ServerState<V> {
 
     /// A call is refused and not performed.
     pub fn refuse(&mut self, turn: &Turn, refusal: Refusal) -> Answer
-        requires { turn.now.client ≤ 16 }
+        requires { turn.now.client ≤ CLIENTS }
         ensures kept { self.new ≡ record self.old { sessions = counted_in self.old.sessions turn.now } }
         ensures answer { result ≡ record { kept = Some (reply.Refused refusal); handed = Some (reply.Refused refusal); acts = [] } }
     {

@@ -46,7 +46,7 @@ impl Sessions {
 
     /// The session of this client is this one from now on.
     pub fn set(&mut self, client: u8, session: Session)
-        requires { client ≤ 16 }
+        requires { client ≤ CLIENTS }
         ensures { self.new ≡ with_session self.old client session }
     {
         self.places[client as usize] = Some(session);
@@ -54,7 +54,7 @@ impl Sessions {
 
     /// The session has come to this call.
     pub fn count(&mut self, turn: &Turn)
-        requires { turn.now.client ≤ 16 }
+        requires { turn.now.client ≤ CLIENTS }
         ensures { self.new ≡ counted_in self.old turn.now }
     {
         self.set(

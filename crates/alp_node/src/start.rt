@@ -6,7 +6,8 @@ ghost use Rattle.alp_base.specs.declared.faults.VaultFault.TheVariants as vault_
 ghost use Rattle.alp_calls.specs.declared.fault.CallFault.TheVariants as call_fault;
 ghost use Rattle.alp_fields.specs.Forms.{whole};
 ghost use Rattle.alp_fields.specs.ClockNote.{clock_name, clock_form};
-ghost use Rattle.alp_vault.specs.Vault.{IsOfVolume, IsSameVault};
+ghost use Rattle.alp_base.specs.Faults.{IsOfVolume};
+ghost use Rattle.alp_vault.specs.Vault.{IsSameVault};
 ghost use Rattle.alp_vault.specs.Volumes.{AreServerNotes};
 ghost use Rattle.alp_node.specs.Nodes.{IsConsistent, IsNew};
 ghost use Rattle.alp_node.specs.Starts.{AreOfServer, HasRaised, after_clock, raised, HasStartCause, IsNoteFault};

@@ -31,7 +31,7 @@ pub record HasPlayed (lines : List NumberedLine) (c : Crowd) (n : Server) (logs 
   pub recorded : AreRecorded 0 (exchanges_of logs) n.journal
   pub few : length n.journal ≤ 2 * length lines
 
--- behind these entries each of these transactions took too long
+-- behind these entries each of these transactions times out
 pub record HasTimedOut (calls : List Entry) (live : List TransId) (n : Server) : Type 0 where
   pub on : IsOn n
   pub ends : List Entry

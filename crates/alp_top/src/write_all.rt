@@ -1,7 +1,7 @@
 //! Writing all of a text.
 ghost use Rattle.std.specs.Prelude.{◌≡◌, ℕ, ◌≤◌, take, OnOk};
 ghost use Rattle.std.specs.Io.KnownBytes.{Appends};
-ghost use Rattle.alp_base.specs.Causes.{HasCause};
+ghost use Rattle.alp_base.specs.Causes.{HasStreamCause};
 
 use alp_base::{Failed, Sink};
 
@@ -9,7 +9,7 @@ use alp_base::{Failed, Sink};
 pub fn write_all<K: Sink>(sink: &mut K, bytes: &[u8]) -> Result<(), Failed>
     ensures bytes { OnOk result (Appends (K.written sink.old) (K.written sink.new) bytes.now) }
     ensures front { (count : ℕ) × Appends (K.written sink.old) (K.written sink.new) (take count bytes.now) }
-    ensures cause { HasCause (K.faults sink.old) (K.faults sink.new) result }
+    ensures cause { HasStreamCause (K.faults sink.old) (K.faults sink.new) result }
 {
     let mut done = 0;
     while done < bytes.len() {

@@ -23,10 +23,9 @@ LeftBy v = MayLeave v.stage (kept_by v)
 abbrev pub IsSame : MemVault → MemVault → Type 0
 IsSame old new = IsSameVault (λ v. true) (λ v. v.sizes) (λ v. v.server) (λ v. v.servers) old new
 
--- it holds what it held, with what a crash might have left of it and with its allowance
+-- it holds what it held, and a crash may leave what it might have left
 pub record IsAsWas (old new : MemVault) : Type 0 where
   pub holds : held_by new ≡ held_by old
-  pub allowed : new.allowance ≡ old.allowance
   pub outcomes : SameOutcomes (LeftBy old) (LeftBy new)
 
 -- a changing call passed, and counts

@@ -1,10 +1,9 @@
 -- What the calls of a vault answer, and why.
-use Rattle.std.specs.Prelude.{◌≡◌, ◌≤◌, ℕ, Bool, true, false, IsTrue, Result, MatchResult, IfErr}
-use Rattle.alp_base.specs.Causes.{Rose}
+use Rattle.std.specs.Prelude.{◌≡◌, ◌≤◌, ℕ, Bool, true, false, IsTrue, Result, MatchResult}
 use Rattle.alp_base.specs.Allowances.{Spends}
+use Rattle.alp_base.specs.Faults.{HasVaultCause}
 use Rattle.alp_base.specs.Crashes.{Only, NoMore}
 use Rattle.alp_base.specs.declared.allowance.Allowance.{Allowance}
-use Rattle.alp_base.specs.declared.allowance.Allowance.TheVariants.{Spent}
 use Rattle.alp_base.specs.declared.faults.Sizes.{Sizes}
 use Rattle.alp_base.specs.declared.faults.VaultFault.{VaultFault}
 use Rattle.alp_base.specs.declared.faults.VaultFault.TheVariants.{Failed, Stopped, OutOfMemory, NotAVolume, Damaged}
@@ -31,37 +30,6 @@ pub record IsSameVault {V : Type 0} (tells : V → Bool) (volume : V → Sizes) 
   pub number : server new ≡ server old
   pub of_all : servers new ≡ servers old
 
--- ---- why a call was refused
-
--- a call failed where the count of faults rose, and was stopped where the allowance is spent then
-pub record HasFaultCause (before now : ℕ) (allowance : Allowance) (fault : VaultFault) : Type 0 where
-  pub failed : fault ≡ Failed → Rose before now
-  pub stopped : fault ≡ Stopped → allowance ≡ Spent
-
--- the count of faults moves only where a call failed or was stopped
-abbrev pub IsCountKept : ℕ → ℕ → VaultFault → Type 0
-IsCountKept before now Failed = Unit {0}
-IsCountKept before now Stopped = Unit {0}
-IsCountKept before now OutOfMemory = now ≡ before
-IsCountKept before now (NotAVolume found) = Unit {0}
-IsCountKept before now (Damaged place) = Unit {0}
-
--- the device is a volume in its format
-abbrev pub IsOfVolume : VaultFault → Type 0
-IsOfVolume Failed = Unit {0}
-IsOfVolume Stopped = Unit {0}
-IsOfVolume OutOfMemory = Unit {0}
-IsOfVolume (NotAVolume found) = ⊥
-IsOfVolume (Damaged place) = ⊥
-
--- The count of faults did not fall in a call, and stayed where the call went well or lacked memory. A refusal has its cause,
--- and the device is a volume in its format.
-pub record HasCause {T : Type 0} (before now : ℕ) (allowance : Allowance) (result : Result T VaultFault) : Type 0 where
-  pub later : before ≤ now
-  pub still : MatchResult result (λ _. now ≡ before) (IsCountKept before now)
-  pub cause : IfErr result (HasFaultCause before now allowance)
-  pub volume : IfErr result IsOfVolume
-
 -- ---- whether a vault serves on
 
 -- a read that failed leaves it serving, and one that was stopped does not
@@ -84,7 +52,7 @@ serves_past_change (Damaged place) = true
 pub record HasEnded {V T : Type 0} (serves : V → Bool) (faults : V → ℕ) (allowance : V → Allowance) (old new : V) (result : Result T VaultFault) : Type 0 where
   pub serving : MatchResult result (λ _. IsTrue (serves new)) (λ f. serves new ≡ serves_past_change f)
   pub spends : Spends (allowance old) (allowance new)
-  pub cause : HasCause (faults old) (faults new) (allowance new) result
+  pub cause : HasVaultCause (faults old) (faults new) (allowance new) result
 
 -- ---- crashes and recoveries
 

@@ -13,7 +13,8 @@ ghost use Rattle.alp_files.specs.Changes.{edits_of};
 ghost use Rattle.alp_vault.specs.Contents.{made};
 ghost use Rattle.alp_base.specs.Crashes.{Only, NoMore, SameOutcomes, Either, Adds};
 ghost use Rattle.alp_vault.specs.Stages.{IsFit, IsFit-prop, is_serving, fallen_by, held_at};
-ghost use Rattle.alp_vault.specs.Vault.{AreSizes, IsServer, HasFaultCause, HasCause, HasEnded, HasSpent, IsOfVolume, IsOneOf, IsSameVault, serves_past_read};
+ghost use Rattle.alp_base.specs.Faults.{HasFaultCause, HasVaultCause, IsOfVolume};
+ghost use Rattle.alp_vault.specs.Vault.{AreSizes, IsServer, HasEnded, HasSpent, IsOneOf, IsSameVault, serves_past_read};
 ghost use Rattle.alp_vault.specs.Volumes.{IsVolumeOf, IsVolumeOf-prop, fits_key, has_block_in};
 
 use crate::Vault;
@@ -332,10 +333,11 @@ impl Vault for MemVault {
         ensures time { MatchResult result (λ v. Adds (λ _ v. LeftBy v) self v (LeftBy v)) (λ e. Adds (λ _ v. LeftBy v) self e.0 (LeftBy self)) }
         ensures kept { MatchResult result (IsSame self) (λ e. IsSame self e.0) }
         ensures spent { MatchResult result (HasSpent (λ _. 0) (λ v. v.allowance) self) (λ e. HasSpent (λ _. 0) (λ v. v.allowance) self e.0) }
-        ensures cause { IfErr result (λ e. HasFaultCause 0 0 e.0.allowance e.1) }
+        ensures cause { MatchResult result (λ v. ◌≡◌ {A = ℕ} 0 0) (λ e. HasFaultCause 0 0 e.0.allowance e.1) }
         ensures volume { IfErr result (λ e. IsOfVolume e.1) }
 
-        ensures as_was { IfErr result (λ e. e.1 ≡ fault.OutOfMemory → IsAsWas self e.0) }
+        // What a crash left is not decided by a recovery that was stopped.
+        ensures as_was { IfErr result (λ e. IsAsWas self e.0 × (e.1 ≡ fault.OutOfMemory → e.0.allowance ≡ self.allowance)) }
         // What it recovers is what a crash left, and not the other outcome of a stopped commit.
         ensures held { IfOk result (λ v. held_by v ≡ held_by self) }
         ensures counted { MatchResult result (λ v. IsPassed self.allowance v.allowance) (λ e. e.1 ≡ fault.Stopped → IsAtEnd self.allowance) }

@@ -15,7 +15,8 @@ ghost use Rattle.alp_base.specs.Notes.{notes_after};
 ghost use Rattle.alp_files.specs.Changes.{edits_of};
 ghost use Rattle.alp_vault.specs.Contents.{made};
 ghost use Rattle.alp_base.specs.Crashes.{Only, NoMore, SameOutcomes, Either, Adds};
-ghost use Rattle.alp_vault.specs.Vault.{AreSizes, IsServer, HasFaultCause, HasCause, HasEnded, HasSpent, IsOfVolume, IsOneOf, IsSameVault, serves_past_read};
+ghost use Rattle.alp_base.specs.Faults.{HasFaultCause, HasVaultCause, IsOfVolume};
+ghost use Rattle.alp_vault.specs.Vault.{AreSizes, IsServer, HasEnded, HasSpent, IsOneOf, IsSameVault, serves_past_read};
 ghost use Rattle.alp_vault.specs.Volumes.{IsCommit, IsVolumeOf, fits_key, has_block_in};
 
 use crate::limits::{BLOCKS_PER_FILE, HEAD_PAGES};
@@ -100,7 +101,7 @@ pub trait Vault: Sized + Drop {
         ensures crash { NoMore (may_leave self.old) (may_leave self.new) }
         ensures time { Adds left_since self.old self.new (may_leave self.new) }
         ensures allowance { allowance self.new ≡ allowance self.old }
-        ensures cause { HasCause (faults self.old) (faults self.new) (allowance self.new) result };
+        ensures cause { HasVaultCause (faults self.old) (faults self.new) (allowance self.new) result };
 
     /// The value of the note, if it stands.
     fn note(&self, name: &Bytes) -> Option<&Bytes>
@@ -128,7 +129,8 @@ pub trait Vault: Sized + Drop {
         ensures kept { IsSameVault tells volume server servers self.old self.new }
         ensures ended { HasEnded serves faults allowance self.old self.new result };
 
-    /// Lets so many further commits and recoveries pass, or all of them, where the vault stands on what can be stopped.
+    /// Lets so many further changing calls pass, or all of them: commits and recoveries of a vault in memory, writes and
+    /// syncs of one on a disk that can be stopped.
     fn stop_after(&mut self, calls: Option<u32>)
         ensures kept { IsSameVault tells volume server servers self.old self.new }
         ensures serves { serves self.new ≡ serves self.old }
@@ -161,7 +163,7 @@ pub trait Vault: Sized + Drop {
         ensures same { IfErr result (λ e. e.1 ≡ fault.OutOfMemory → held e.0 ≡ held self) }
         ensures kept { MatchResult result (IsSameVault tells volume server servers self) (λ e. IsSameVault tells volume server servers self e.0) }
         ensures spent { MatchResult result (HasSpent faults allowance self) (λ e. HasSpent faults allowance self e.0) }
-        ensures cause { IfErr result (λ e. HasFaultCause (faults self) (faults e.0) (allowance e.0) e.1) }
+        ensures cause { MatchResult result (λ v. faults v ≡ faults self) (λ e. HasFaultCause (faults self) (faults e.0) (allowance e.0) e.1) }
         // What a vault tells is a volume in its format, and so is all that a crash leaves of it.
         ensures volume { IsTrue (tells self) → IfErr result (λ e. IsOfVolume e.1) };
 

@@ -12,13 +12,13 @@ use Rattle.alp_calls.proofs.look.pages_of.Goals as goal
 pub returns-in-Err-clause-looked : goal.returns-in-Err-clause-looked
 returns-in-Err-clause-looked g c =
     looks_then g.V.Vault
-    c.args.vault.now c.loop-i.vault c.push_page.new.vault (Some c.in-Err.fault) c.loop-i.invariant.0.0 c.in-Err.ensures.looked
+    c.args.vault.now c.loop-i.vault c.push_page.new.vault (Some c.in-Err.fault) c.loop-i.invariant.0 c.in-Err.ensures.looked
 
 pub loop-i-preserved : goal.loop-i-preserved
 loop-i-preserved g c =
     let left = c.loop-i.invariant.0.0 in (
       looks_then g.V.Vault
-          c.args.vault.now c.loop-i.vault c.push_page.new.vault None left c.in_default.ensures.looked,
+          c.args.vault.now c.loop-i.vault c.push_page.new.vault None c.loop-i.invariant.0 c.in_default.ensures.looked,
       λ told.
           let m : View = over c.args.intents.now (map.get (g.V.Vault.held c.args.vault.now).cells) in
           let rest : List (List ℕ) = pages_at m c.args.file (c.args.run.first + (c.loop-i.i + 1)) (c.args.run.count - (c.loop-i.i + 1)) in

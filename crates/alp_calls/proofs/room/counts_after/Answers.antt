@@ -1,6 +1,6 @@
 use Rattle.std.specs.Prelude.{Some, None, IsTrue, true}
 use Rattle.std.specs.FinMap as map
-use Rattle.std.proofs.Common.{◌≡◌, ◌+◌, List, ◌∷◌, drop, sym, ap, ◌∙◌, subst, arith}
+use Rattle.std.proofs.Common.{◌≡◌, ◌+◌, List, ◌∷◌, drop, refl, sym, ap, ◌∙◌, subst, arith}
 use Rattle.std.proofs.lemmas.List.{at_drop_more, at_drop_all}
 use Rattle.alp_base.specs.declared.key.Key.{Key}
 use Rattle.alp_files.specs.declared.cell.Cell.{Cell}
@@ -19,7 +19,7 @@ pub loop-put-init : goal.loop-put-init
 loop-put-init g c =
     let held : Cells = (g.V.Vault.held c.args.vault.now).cells in
     record {
-      left = (left_same g.V.Vault c.args.vault.now, c.requires.serving);
+      left = (left_same g.V.Vault c.args.vault.now, c.requires.serving, refl);
       fit = c.requires.within;
       counted = λ told.
           let n : Counts = record { files = c.file_count.result; owners = c.owner_count.result; places = c.used.result } in
@@ -44,7 +44,7 @@ loop-put-preserved g c =
     ap (λ (x : Key × Cell). fit_keys (x ∷ rest)) c.put-item.is
     ∙ sym (at_drop_more fit_keys c.args.puts.now c.loop-put.put-index c.put-item.result c.loop-put-test.true) ∙ c.loop-put.invariant.fit in
     record {
-      left = looks_then g.V.Vault c.args.vault.now c.loop-put.vault c.count_put.new.vault None left.0 c.in_ok-counts.ensures.looked;
+      left = looks_then g.V.Vault c.args.vault.now c.loop-put.vault c.count_put.new.vault None left c.in_ok-counts.ensures.looked;
       fit = (one_fits c.put-item.result rest fits).1;
       counted = λ told.
           let before : Counting held target c.loop-put.opened c.loop-put.counts (c.put-item.result ∷ rest) =
