@@ -1,7 +1,8 @@
 -- The shown part of a page: a zero at its end is cut off, and what ends in no zero is shown whole.
 use Rattle.std.specs.Prelude.{◌&&◌, ◌==◌, Bool, cond, flat_map}
-use Rattle.std.proofs.Common.{◌≡◌, ℕ, ◌+◌, ◌-◌, ◌<◌, ◌≤◌, List, [], ◌∷◌, ◌++◌, length, take, get_or, true, false, refl, sym, ◌∙◌, ap, arith}
+use Rattle.std.proofs.Common.{◌≡◌, ℕ, zero, suc, ◌+◌, ◌-◌, ◌<◌, ◌≤◌, List, [], ◌∷◌, ◌++◌, length, take, drop, replicate, append-nil, append_assoc, get_or, true, false, refl, sym, ◌∙◌, ap, arith}
 use Rattle.std.proofs.Math.Bool.{and-false}
+use Rattle.std.proofs.Math.Seq.{take-add}
 use Rattle.std.proofs.Math.Dec.{eqb-suc-zero}
 use Rattle.std.proofs.lemmas.List.{take_more}
 use Rattle.std.proofs.lemmas.Bool.{ne_eqb}
@@ -28,8 +29,19 @@ one_cut xs n some within =
     ap (λ (k : ℕ). take k xs) e ∙ take_more xs (n - 1) 0 (omega arith)
 
 pub cut_zero : (xs : List ℕ) (n : ℕ) → 0 < n → n ≤ length xs → get_or xs (n - 1) 0 ≡ 0 → shown_part (take (n - 1) xs) ≡ shown_part (take n xs)
-cut_zero xs n some within zero =
-    sym (shown-zero (take (n - 1) xs)) ∙ ap (λ (b : ℕ). shown_part (take (n - 1) xs ++ b ∷ [])) (sym zero) ∙ ap shown_part (sym (one_cut xs n some within))
+cut_zero xs n some within last =
+    sym (shown-zero (take (n - 1) xs)) ∙ ap (λ (b : ℕ). shown_part (take (n - 1) xs ++ b ∷ [])) (sym last) ∙ ap shown_part (sym (one_cut xs n some within))
+
+shown-zeros : (n : ℕ) (xs : List ℕ) → shown_part (xs ++ replicate n 0) ≡ shown_part xs
+shown-zeros zero xs = ap shown_part (append-nil xs)
+shown-zeros (suc n) xs = ap shown_part (sym (append_assoc xs (0 ∷ []) (replicate n 0))) ∙ shown-zeros n (xs ++ 0 ∷ []) ∙ shown-zero xs
+
+-- a run of zeros at the end is cut off as a whole
+pub cut_zeros : (xs : List ℕ) (n k : ℕ) → k ≤ n → take (n - (n - k)) (drop (n - k) xs) ≡ replicate k 0 → shown_part (take (n - k) xs) ≡ shown_part (take n xs)
+cut_zeros xs n k some zeros =
+    let e : n - k + (n - (n - k)) ≡ n = omega (arith, some) in
+    sym (shown-zeros k (take (n - k) xs)) ∙ ap (λ (l : List ℕ). shown_part (take (n - k) xs ++ l)) (sym zeros)
+    ∙ ap shown_part (sym (take-add (n - k) (n - (n - k)) xs) ∙ ap (λ (m : ℕ). take m xs) e)
 
 pub cut_last : (xs : List ℕ) (n : ℕ) → 0 < n → n ≤ length xs → (get_or xs (n - 1) 0 ≡ 0 → ⊥) → shown_part (take n xs) ≡ take n xs
 cut_last xs n some within last =

@@ -5,6 +5,19 @@ ghost use Rattle.alp_report.specs.Replies.{shown_part, hex_digit as digit_text, 
 use alp_base::PageRef;
 use std::io::{self, Write};
 
+const ZEROS: [u8; 64] = [0; 64];
+
+/// The bytes without the zeros at their end, as far as these come in runs of 64: most pages end in many.
+fn without_runs(bytes: &[u8]) -> &[u8]
+    ensures { shown_part result.now ≡ shown_part bytes.now }
+{
+    let mut len = bytes.len();
+    while len >= 64 && &bytes[len - 64..len] == ZEROS.as_slice() {
+        len -= 64;
+    }
+    &bytes[..len]
+}
+
 /// The bytes up to the last that is not zero.
 fn shown(bytes: &[u8]) -> &[u8]
     ensures { result.now ≡ shown_part bytes.now }
@@ -56,7 +69,7 @@ fn put_bytes(out: &mut Vec<u8>, bytes: &[u8]) -> io::Result<()>
 fn put_page(out: &mut Vec<u8>, bytes: &[u8]) -> io::Result<()>
     ensures { OnOk result (out.new.items ≡ out.old.items ++ page_text bytes.now) }
 {
-    match shown(bytes) {
+    match shown(without_runs(bytes)) {
         [] => write!(out, "-"),
         [b'-'] => write!(out, "%2d"),
         shown => put_bytes(out, shown),
