@@ -1,0 +1,44 @@
+//! What memory keeps of a volume.
+ghost use Rattle.std.specs.Prelude.{◌≤◌, IfOk};
+
+use crate::files::FileTable;
+use crate::free::Free;
+use crate::owner_table::OwnerTable;
+use alp_base::OutOfMemory;
+use alp_vault::{FILES_PER_SERVER, HEAD_PAGES, OWNERS_PER_SERVER};
+use std::alloc::Global;
+
+/// The files and owners of a volume, and which of its directory entries, owners' rows and home places are taken.
+///
+/// Room for all files and owners is taken at start.
+#[derive(Drop)]
+pub struct Catalog {
+    pub files: FileTable,
+    pub owners: OwnerTable,
+    pub slots: Free,
+    pub rows: Free,
+    pub places: Free,
+}
+
+impl Catalog {
+    ghost use Rattle.alp_volume.specs.Known.{IsBlank};
+
+    /// That of a volume that holds nothing.
+    pub fn new(alloc: Global, home: u32) -> Result<Catalog, OutOfMemory>
+        requires { HEAD_PAGES ≤ home }
+        ensures { IfOk result (λ c. IsBlank home c) }
+    {
+        let files = FileTable::new(alloc)?;
+        let owners = OwnerTable::new(alloc)?;
+        let slots = Free::new(alloc, FILES_PER_SERVER)?;
+        let rows = Free::new(alloc, OWNERS_PER_SERVER)?;
+        let places = Free::behind(alloc, HEAD_PAGES, home)?;
+        Ok(Catalog {
+            files,
+            owners,
+            slots,
+            rows,
+            places,
+        })
+    }
+}
