@@ -227,11 +227,11 @@ drawn-in (act.Regained a b c d ∷ acts) t h = inr (drawn-in acts t h)
 drawn-in (act.Stopped ∷ acts) t h = inr (drawn-in acts t h)
 drawn-in (act.Failed ∷ acts) t h = inr (drawn-in acts t h)
 
-in-left : {A : Type 0} (x : A) (xs ys : List A) → IsIn x xs → IsIn x (xs ++ ys)
+pub in-left : {A : Type 0} (x : A) (xs ys : List A) → IsIn x xs → IsIn x (xs ++ ys)
 in-left x [] ys i = absurd i
 in-left x (y ∷ xs) ys i = elim i [ inl e ↦ inl e | inr m ↦ inr (in-left x xs ys m) ]
 
-in-right : {A : Type 0} (x : A) (xs ys : List A) → IsIn x ys → IsIn x (xs ++ ys)
+pub in-right : {A : Type 0} (x : A) (xs ys : List A) → IsIn x ys → IsIn x (xs ++ ys)
 in-right x [] ys i = i
 in-right x (y ∷ xs) ys i = inr (in-right x xs ys i)
 

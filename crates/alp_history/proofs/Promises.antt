@@ -29,7 +29,7 @@ use Rattle.alp_history.specs.Deeds.{Deed, Begins, Joins, Enters, Quits, Aborts, 
 use Rattle.alp_history.specs.Coordinator.{decision_in, joins_of}
 use Rattle.alp_history.specs.Holder.{Life, grants, performs, readies, commits}
 use Rattle.alp_history.specs.Log.{Log, Decision, opening_of, journal_of, state_at, final, decided, IsIn}
-use Rattle.alp_history.specs.Handed.{Mark, Own, Repeated, Raw, Sent, Item, Handed, IsRaw, stamps_in, stamps_by, stamps_told, IsOfEntry, IsOfNone, IsOfPlace, IsBefore, IsOfRaw, IsOfRunBy, AreOfClients, IsDecidedStamp, ArePromisesKept, HaveSeen, HasSeen, HasSeenIn, HasSeenBy, IsOwn, IsOfRun, BeginAbove, BeginsAbove, IsAbove}
+use Rattle.alp_history.specs.Handed.{Mark, Own, Repeated, Raw, Sent, Item, Handed, IsRaw, stamps_in, stamps_by, stamps_told, IsOfEntry, IsOfNone, IsOfPlace, IsNoGreeting, IsBefore, IsOfRaw, IsOfRunBy, AreOfClients, IsDecidedStamp, ArePromisesKept, HaveSeen, HasSeen, HasSeenIn, HasSeenBy, IsOwn, IsOfRun, BeginAbove, BeginsAbove, IsAbove}
 use Rattle.alp_history.specs.Theorems.{IsProper, HasCommitted, Promises}
 use Rattle.alp_history.proofs.BegunOrder.{begins_order}
 use Rattle.alp_history.proofs.Places.{in-list, some-same}
@@ -351,6 +351,14 @@ module _ (log : Log) (proper : IsProper log) where
   number_in (event.Call client epoch number c) = number
   number_in x = 0
 
+  abbrev call_in : Event → Call
+  call_in (event.Call client epoch number c) = c
+  call_in x = call.Hello []
+
+  greeting-or-not : (c : Call) → ((name : List ℕ) × (c ≡ call.Hello name)) ⊎ IsNoGreeting c
+  greeting-or-not (call.Hello name) = inl (name, refl)
+  greeting-or-not c = inr tt
+
   module _ (handed : Handed) (given : AreOfClients log handed) where
     -- what came of the call of an item that was handed this reply
     pub data Came (client : ℕ) (x : Item) (r : Reply) : Type 0 where
@@ -385,20 +393,26 @@ module _ (log : Log) (proper : IsProper log) where
               let call_is : event.Call client (o.sent).epoch (o.sent).number (o.sent).call ≡ event.Call client k.epoch k.number k.made = sym o.called ∙ ap (λ (e : Entry). e.event) same ∙ k.called in
               let epoch : (o.sent).epoch ≡ k.epoch = ap epoch_in call_is in
               let number : (o.sent).number ≡ k.number = ap number_in call_is in
-              came_again y k.place o.entry o.sent w.1 (record {
-                later = q;
-                earlier = o.sent;
-                there = k.place;
-                here = i;
-                later_sent = sent;
-                earlier_sent = o.said;
-                later_place = place;
-                earlier_place = w.3;
-                server = server;
-                epoch = epoch ∙ c.1 ∙ sym now;
-                number = number ∙ k.last ∙ sym rep.last;
-                order = k.earlier;
-              }) o.stands o.said o.called (ap (λ (e : Entry). e.reply) same ∙ replied) ((λ j. is_new (state_at log (server j) k.place) client (epoch j) (number j)) ∙ c.0)
+              elim (greeting-or-not (o.sent).call) [
+                | inl hello ↦
+                    let made : k.made ≡ call.Hello hello.0 = sym (ap call_in call_is) ∙ hello.1 in
+                    tells_none (hello-none (suc k.place) x.server k.place client k.epoch k.number hello.0 k.entry r (omega arith) k.stands (k.called ∙ ap (event.Call client k.epoch k.number) made) replied)
+                | inr plain ↦ came_again y k.place o.entry o.sent w.1 (record {
+                  later = q;
+                  earlier = o.sent;
+                  there = k.place;
+                  here = i;
+                  later_sent = sent;
+                  earlier_sent = o.said;
+                  later_place = place;
+                  earlier_place = w.3;
+                  server = server;
+                  epoch = epoch ∙ c.1 ∙ sym now;
+                  number = number ∙ k.last ∙ sym rep.last;
+                  order = k.earlier;
+                  no_greeting = plain;
+                }) o.stands o.said o.called (ap (λ (e : Entry). e.reply) same ∙ replied) ((λ j. is_new (state_at log (server j) k.place) client (epoch j) (number j)) ∙ c.0)
+              ]
         ]
 
     pub came : (client : ℕ) (x : Item) (r : Reply) → IsIn x (handed client) → x.reply ≡ Some r → Came client x r

@@ -52,7 +52,7 @@ pub record IsRightEntry (s : State) (e : Entry) : Type 0 where
   pub sessions : KeepsSessions s e e.event
   pub deeds : DeedsAreRight s e e.event
   pub agree : DoLivesAgree (next s e).holder.lives
-  pub released : LetsGo s e
+  pub released : LetsGo s e e.event
   pub said : AllByRecursion (SaysRight e.event (next s e)) e.acts
   pub told : TellsDecided s (next s e) e.event e.reply
   pub restart : StartsRight s e e.event

@@ -304,7 +304,7 @@ module _ (log : Log) (proper : IsProper log) where
   abbrev pub IsAged : ℕ → TransId → Fate → Type 0
   IsAged n t f = (y : Decision) → decision_in f ≡ Some y → ((d : DecisionNote) × IsIn d (opening_of log n).decisions × (d.stamp ≡ y.0) × (d.joins ≡ y.1)) ⊎ ((opening_of log n).epoch ≤ t.epoch)
 
-  abbrev AreAged : ℕ → State → Type 0
+  abbrev pub AreAged : ℕ → State → Type 0
   AreAged n s = ((opening_of log n).epoch ≤ s.ids.epoch) × ((t : TransId) → IsAged n t (s.fates t))
 
   abbrev Ages : ℕ → Deed → Type 0
@@ -335,7 +335,7 @@ module _ (log : Log) (proper : IsProper log) where
       go more true e = (let same = some-same (d.stamp, d.joins) y e in inl (d, f d (inl refl), ap (λ (z : Decision). z.0) same, ap (λ (z : Decision). z.1) same))
       go more false e = more e
 
-  aged-at : (n i : ℕ) → i ≤ size log proper n → AreAged n (state_at log n i)
+  pub aged-at : (n i : ℕ) → i ≤ size log proper n → AreAged n (state_at log n i)
   aged-at n i le =
       (stands-from log proper.lawful proper.linked (Ages n) (AreAged n) (ages-keep n) (λ s desk down pending q. q) n 0 i
       (λ k e a b at m d q law from. ages-right n e.event m d q law) (λ k e epoch clock q l. (let a : (opening_of log n).epoch ≤ (state_at log n k).ids.epoch = q.0 in omega (arith, a, l)))

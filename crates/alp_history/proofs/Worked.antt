@@ -1,7 +1,7 @@
 -- A transaction of two servers, played: messages are repeated and lost, and the worker starts again while it is ready.
 use Rattle.std.specs.Prelude.{codes, true, false, unwrap_or, length}
 use Rattle.std.specs.FinMap as map
-use Rattle.std.proofs.Common.{◌≡◌, List, [], ◌∷◌, None, Some, refl, inl, inr}
+use Rattle.std.proofs.Common.{◌≡◌, List, [], ◌∷◌, Option, None, Some, refl, sym, ap, inl, inr}
 use Rattle.alp_base.specs.declared.ids.TransId.{TransId}
 use Rattle.alp_files.specs.declared.call.Call.TheVariants as call
 use Rattle.alp_files.specs.declared.reply.Reply.TheVariants as reply
@@ -17,6 +17,7 @@ use Rattle.alp_history.specs.Deeds.{Releases, Hears, Decides}
 use Rattle.alp_history.specs.Coordinator.{Finishing, Committed, Forgotten, Ended, has_votes}
 use Rattle.alp_history.specs.Participant.{Active, Ready, Applied, Over}
 use Rattle.alp_history.specs.Holder.{Life, new_life}
+use Rattle.alp_history.specs.Desk.{Waiting, file_trans}
 use Rattle.alp_history.specs.State.{State, opened, state_deed}
 use Rattle.alp_history.specs.Moves.{tried, next}
 use Rattle.alp_files.specs.declared.refusal.Why.TheVariants as why
@@ -24,6 +25,10 @@ use Rattle.alp_history.specs.Messages.{Mail, due, on_ready}
 use Rattle.alp_history.specs.Halts.{HaltsRight}
 use Rattle.alp_history.specs.Answers.{part_refusal}
 use Rattle.alp_history.specs.Laws.{ReleasesEnded, SaysRight, MayReady, MayDecide}
+
+abbrev file_in : Option Waiting → Option TransId
+file_in None = None
+file_in (Some w) = file_trans w.call
 
 -- the part that lives
 abbrev pub life_at : State → TransId → Life
@@ -50,7 +55,7 @@ vote_released = (refl, refl)
 
 -- the decision needs the vote
 pub decided_right : MayDecide (vote.event) (state_deed before_vote (Hears trans join 1)) stamp (join ∷ [])
-decided_right = record { client = 1; votes = (join, 1) ∷ []; asked = refl; own = refl; now = refl; finishing = refl; voted = refl; time = refl; live = (life_at (state_deed before_vote (Hears trans join 1)) trans, refl, refl) }
+decided_right = record { client = 1; votes = (join, 1) ∷ []; asked = refl; own = refl; now = refl; finishing = refl; voted = refl; time = refl; idle = λ w h. sym (ap file_in h); live = (life_at (state_deed before_vote (Hears trans join 1)) trans, refl, refl) }
 
 -- the second coming of the vote, once it is decided, brings nothing
 again_nothing : tried (next before_vote vote) (arrives 2 (msg.Ready trans join 1) []) ≡ []

@@ -21,7 +21,7 @@ drawn = refl
 sessions : KeepsSessions before_vote vote vote.event
 sessions = refl
 
-released : LetsGo before_vote vote
+released : LetsGo before_vote vote vote.event
 released = ((refl, refl), (tt, tt))
 
 said : AllByRecursion (SaysRight vote.event (next before_vote vote)) vote.acts

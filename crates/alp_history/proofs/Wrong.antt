@@ -17,7 +17,9 @@ use Rattle.alp_history.specs.Moves.{next}
 use Rattle.alp_history.specs.Laws.{IsLawfulEntry, latest_vote}
 use Rattle.alp_history.specs.Examples.{trans, join, new, calls, arrives, owner, first_up, vote, worker_up, ask, restarts}
 use Rattle.alp_history.proofs.Worked.{life_at}
-use Rattle.alp_history.specs.WrongJournals.{IsUnlawful, hello, begin, of_three, two_joins, later_file, skips_an_id, file_of_another_epoch, decides_below_a_vote, decides_above_all_votes, decides_without_a_vote, counts_a_vote_twice, decides_at_a_tick, registers_a_server_twice, aborts_what_is_committed, votes_at_the_clock, done_while_it_lives, grants_after_the_vote, releases_what_lives, grants_to_a_repeat, another_reply_to_a_repeat, session_outlives_a_restart, loses_a_ready_part, AreRefused}
+use Rattle.alp_history.proofs.Named.{Only, only_after, alone_other}
+use Rattle.alp_history.proofs.Steps.{lives_there}
+use Rattle.alp_history.specs.WrongJournals.{IsUnlawful, hello, begin, second_trans, one_waits, leaves_a_waiter_free, of_three, two_joins, later_file, skips_an_id, file_of_another_epoch, decides_below_a_vote, decides_above_all_votes, decides_without_a_vote, counts_a_vote_twice, decides_at_a_tick, registers_a_server_twice, aborts_what_is_committed, votes_at_the_clock, done_while_it_lives, grants_after_the_vote, releases_what_lives, grants_to_a_repeat, another_reply_to_a_repeat, session_outlives_a_restart, loses_a_ready_part, AreRefused}
 
 -- the last entry of a lawful journal is lawful in the state before it
 last : (s : State) (es : List Entry) (e : Entry) → Along next IsLawfulEntry s (es ++ e ∷ []) → IsLawfulEntry (state_after next s es) e
@@ -80,6 +82,18 @@ late_grant h =
 early_release : IsUnlawful (new 1) releases_what_lives
 early_release h = let wrong : true ≡ false = (last _ (hello ∷ begin ∷ calls 1 3 owner reply.Plain (act.Granted trans ∷ []) ∷ []) _ h).deeds.0.locks.1.0 in cc
 
+-- when the first part is gone no other holds what the one that waits asks for
+abbrev first_ended : State
+first_ended = state_after next (opened (new 1)) leaves_a_waiter_free
+
+ended_known : Only (trans ∷ second_trans ∷ []) [] first_ended
+ended_known = only_after (trans ∷ second_trans ∷ []) [] leaves_a_waiter_free (opened (new 1)) refl (record { lives = λ u k. refl; fates = λ u k. refl; phases = λ j k. refl })
+
+waiter : IsUnlawful (new 1) leaves_a_waiter_free
+waiter h =
+    (last _ one_waits _ h).released.1.0 refl (life_at first_ended second_trans) (lives_there first_ended second_trans refl)
+    (λ u k e other. absurd (alone_other (trans ∷ second_trans ∷ []) [] second_trans first_ended ended_known refl u k e other))
+
 repeat_grant : IsUnlawful (new 1) grants_to_a_repeat
 repeat_grant h = let wrong : act.Granted trans ∷ [] ≡ [] = (last _ (hello ∷ begin ∷ calls 1 3 owner reply.Plain (act.Granted trans ∷ []) ∷ []) _ h).sessions.1 in cc
 
@@ -107,6 +121,7 @@ refused = record {
   alive = alive;
   late_grant = late_grant;
   early_release = early_release;
+  waiter = waiter;
   repeat_grant = repeat_grant;
   repeat_reply = repeat_reply;
   session = session;

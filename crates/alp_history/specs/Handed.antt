@@ -95,7 +95,12 @@ abbrev pub IsOfPlace : Log → ℕ → Item → Option ℕ → Type 0
 IsOfPlace log client x None = IsOfNone x.reply
 IsOfPlace log client x (Some i) = IsOfEntry log client x i
 
--- the same number of the same epoch at the same server, at an earlier entry
+-- each greeting has the number 1 of the epoch 0, also the next one after a restart
+abbrev pub IsNoGreeting : Call → Type 0
+IsNoGreeting (call.Hello name) = ⊥
+IsNoGreeting c = Unit {0}
+
+-- the same number of the same epoch at the same server, at an earlier entry, in a call that is no greeting
 pub record IsBefore (x y : Item) : Type 0 where
   pub later : Sent
   pub earlier : Sent
@@ -109,6 +114,7 @@ pub record IsBefore (x y : Item) : Type 0 where
   pub epoch : earlier.epoch ≡ later.epoch
   pub number : earlier.number ≡ later.number
   pub order : there < here
+  pub no_greeting : IsNoGreeting earlier.call
 
 -- a raw line of the client sent this number first
 pub record IsOfRaw (items : List Item) (x : Item) : Type 0 where

@@ -188,9 +188,11 @@ IsBlocked s w (Some t) = w.is_granted ≡ false → (l : Life) → s.holder.live
 abbrev pub WaitsInTurn : State → Type 0
 WaitsInTurn s = AllByRecursion (λ (w : Waiting). IsBlocked s w (file_trans w.call)) s.desk.waits
 
--- nothing of this stands where the device stopped
-abbrev pub LetsGo : State → Entry → Type 0
-LetsGo s e = Where (stops e) (Unit {0}) (ReleasesEnded s e × WaitsInTurn (next s e))
+-- Nothing of this stands where the device stopped. A restart leaves the locks of ready parts alone, and nobody waits; it releases
+-- none by an act, also where it finds a commit made that a stop had cut off.
+abbrev pub LetsGo : State → Entry → Event → Type 0
+LetsGo s e event.Restart = Unit {0}
+LetsGo s e x = Where (stops e) (Unit {0}) (ReleasesEnded s e × WaitsInTurn (next s e))
 
 -- ---- a transaction at its coordinator
 
@@ -224,7 +226,7 @@ DecidesAt t (event.Arrive from (msg.Ready u j ts)) = u ≡ t
 DecidesAt t e = ⊥
 
 -- what is decided was finished by its client, here and in this epoch; its joins are all that registered; each has voted;
--- its time is the greatest of the votes and of the one after the clock
+-- its time is the greatest of the votes and of the one after the clock; no file call of its part here waits or is not collected
 pub record MayDecide (e : Event) (s : State) (stamp : Stamp) (joins : List JoinNo) : Type 0 where
   pub client : ℕ
   pub votes : List Vote
@@ -234,6 +236,7 @@ pub record MayDecide (e : Event) (s : State) (stamp : Stamp) (joins : List JoinN
   pub finishing : s.fates stamp.trans ≡ Finishing client joins votes
   pub voted : has_votes (s.fates stamp.trans) ≡ true
   pub time : stamp.ts ≡ latest_vote (s.holder.clock + 1) votes
+  pub idle : (w : Waiting) → waiting_of s.desk client stamp.trans ≡ Some w → file_trans w.call ≡ None
   pub live : LivesUnvoted s stamp.trans
 
 abbrev pub DecidesRight : Event → State → Deed → Type 0
@@ -420,7 +423,7 @@ pub record IsLawfulEntry (s : State) (e : Entry) : Type 0 where
   pub sessions : KeepsSessions s e e.event
   pub deeds : DeedsAreLawful s e e.event
   pub agree : DoLivesAgree (next s e).holder.lives
-  pub released : LetsGo s e
+  pub released : LetsGo s e e.event
   pub said : AllByRecursion (SaysRight e.event (next s e)) e.acts
   pub told : TellsDecided s (next s e) e.event e.reply
   pub restart : StartsRight s e e.event

@@ -20,3 +20,7 @@ pub mod Answered
 pub mod Handed
 pub mod Examples
 pub mod WrongJournals
+pub mod RightLog
+pub mod WrongLogs
+pub mod RightJournals
+pub mod ResumedLog

@@ -1,5 +1,5 @@
 -- What holds of every log whose journals are lawful and linked, from sound openings on.
-use Rattle.std.specs.Prelude.{◌≡◌, ℕ, ◌<◌, ◌≤◌, true, false, ◌⊎◌, List, Option, None, Some, slice_get, map as list_map, length}
+use Rattle.std.specs.Prelude.{◌≡◌, ℕ, suc, ◌<◌, ◌≤◌, true, false, ◌⊎◌, List, [], ◌∷◌, Option, None, Some, slice_get, map as list_map, length}
 use Rattle.std.specs.FinMap as map
 use Rattle.std.specs.FinMap.Entries as entries
 use Rattle.alp_files.specs.Locks.{Reads}
@@ -19,6 +19,7 @@ use Rattle.alp_files.specs.declared.call.Call.TheVariants as call
 use Rattle.alp_files.specs.declared.reply.Reply.{Reply}
 use Rattle.alp_files.specs.declared.reply.Reply.TheVariants as reply
 use Rattle.alp_files.specs.Sound.{AreSound}
+use Rattle.alp_journal.specs.declared.act.Act.TheVariants as act
 use Rattle.alp_journal.specs.declared.event.Event.TheVariants as event
 use Rattle.alp_journal.specs.declared.entry.Entry.{Entry}
 use Rattle.alp_history.specs.Ids.{has_join, stamp_cmp, same_trans}
@@ -27,7 +28,7 @@ use Rattle.alp_history.specs.Coordinator.{decision_in}
 use Rattle.alp_history.specs.Participant.{Phase, Unseen, Joining, Active, Ready, Applied, Over, is_ready}
 use Rattle.alp_history.specs.Holder.{Life}
 use Rattle.alp_history.specs.State.{State}
-use Rattle.alp_history.specs.Moves.{is_new}
+use Rattle.alp_history.specs.Moves.{is_new, stops}
 use Rattle.alp_history.specs.Laws.{is_standing}
 use Rattle.alp_history.specs.Handed.{Handed, AreOfClients, ArePromisesKept}
 use Rattle.alp_history.specs.Log.{Heard, told_in, Log, opening_of, journal_of, state_at, final, IsLinked, AreLawful, AreSoundOpenings, AreDifferent, IsIn, decided, finish_of, starting_all, IsSerial, serial_end, IsChargedAfterEach, latest, AreLatest}
@@ -149,6 +150,20 @@ pub record AreWhole (log : Log) : Type 0 where
 
 abbrev pub Wholeness : Type 0
 Wholeness = (log : Log) → IsProper log → AreWhole log
+
+-- what an entry names as decided, where nothing stopped, is one of the decided transactions, with these joins
+abbrev pub ListsDecided : Log → Type 0
+ListsDecided log = (n i : ℕ) (e : Entry) (x : Stamp) (js : List JoinNo)
+    → slice_get (journal_of log n) i ≡ Some e → stops e ≡ false → IsIn (act.Decided x js) e.acts → IsIn (x, js) (decided log)
+
+-- and so is what a stopped entry names, where the restart behind it finds a clock that is not below its time
+abbrev pub ListsFound : Log → Type 0
+ListsFound log = (n i epoch clock : ℕ) (e f : Entry) (ready : List JoinNo) (stamps : List Stamp) (x : Stamp) (js : List JoinNo)
+    → slice_get (journal_of log n) i ≡ Some e → slice_get (journal_of log n) (suc i) ≡ Some f → stops e ≡ true → IsIn (act.Decided x js) e.acts
+    → f.event ≡ event.Restart → f.acts ≡ act.Regained epoch clock ready stamps ∷ [] → x.ts ≤ clock → IsIn (x, js) (decided log)
+
+abbrev pub Listing : Type 0
+Listing = (log : Log) → IsProper log → ListsDecided log × ListsFound log
 
 -- ---- settled
 

@@ -1,12 +1,14 @@
 -- Journals that differ from right ones in one place, none of which keeps the laws.
-use Rattle.std.specs.Prelude.{ℕ, codes, true, List, [], ◌∷◌, ◌++◌, None}
+use Rattle.std.specs.Prelude.{ℕ, codes, true, false, List, [], ◌∷◌, ◌++◌, None, Some}
 use Rattle.alp_base.specs.declared.ids.FileId.{FileId}
 use Rattle.alp_base.specs.declared.ids.TransId.{TransId}
 use Rattle.alp_base.specs.declared.ids.JoinNo.{JoinNo}
 use Rattle.alp_base.specs.declared.ids.Stamp.{Stamp}
 use Rattle.alp_base.specs.declared.choices.Choice.TheVariants as choice
 use Rattle.alp_files.specs.declared.cell.Props.{Props}
+use Rattle.alp_files.specs.declared.call.Call.{Call}
 use Rattle.alp_files.specs.declared.call.Call.TheVariants as call
+use Rattle.alp_files.specs.declared.reply.Reply.{Reply}
 use Rattle.alp_files.specs.declared.reply.Reply.TheVariants as reply
 use Rattle.alp_files.specs.declared.refusal.Refusal.TheVariants as refusal
 use Rattle.alp_files.specs.declared.refusal.Cause.TheVariants as cause
@@ -124,6 +126,21 @@ grants_after_the_vote = (worker_up ++ ask ∷ []) ++ calls 1 5 (call.ReadOwner t
 abbrev pub releases_what_lives : List Entry
 releases_what_lives = (hello ∷ begin ∷ calls 1 3 owner reply.Plain (act.Granted trans ∷ []) ∷ []) ++ ticks (act.Released trans ∷ []) ∷ []
 
+-- the part of another client waits for the owner, which the first part holds
+abbrev pub of_another : ℕ → ℕ → Call → Reply → List Act → Entry
+of_another epoch number c r acts = record { event = event.Call 2 epoch number c; reply = Some r; acts = acts }
+
+abbrev pub one_waits : List Entry
+one_waits =
+    hello ∷ begin ∷ calls 1 3 owner reply.Plain (act.Granted trans ∷ [])
+    ∷ of_another 0 1 (call.Hello (codes "Admin")) (reply.Welcome 1) []
+    ∷ of_another 1 2 (call.Begin nothing_seen) (reply.Begun second_trans) (act.Drawn second_trans ∷ [])
+    ∷ of_another 1 3 (call.ReadOwner second_trans (codes "ann") choice.Wait) (reply.Refused refusal.NotYet) [] ∷ []
+
+-- the first part ends, and the call that waits is left without its lock
+abbrev pub leaves_a_waiter_free : List Entry
+leaves_a_waiter_free = one_waits ++ calls 1 4 (call.Finish trans false) (reply.Refused (refusal.Aborted cause.Asked)) (act.Released trans ∷ []) ∷ []
+
 -- ---- sessions
 
 -- a repeat brings something about
@@ -160,6 +177,7 @@ pub record AreRefused : Type 0 where
   pub alive : IsUnlawful (new 2) done_while_it_lives
   pub late_grant : IsUnlawful (new 2) grants_after_the_vote
   pub early_release : IsUnlawful (new 1) releases_what_lives
+  pub waiter : IsUnlawful (new 1) leaves_a_waiter_free
   pub repeat_grant : IsUnlawful (new 1) grants_to_a_repeat
   pub repeat_reply : IsUnlawful (new 1) another_reply_to_a_repeat
   pub session : IsUnlawful (new 1) session_outlives_a_restart

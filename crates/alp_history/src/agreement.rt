@@ -1,6 +1,10 @@
 //! What follows from the laws for several servers.
 ghost use Rattle.alp_history.specs.WrongJournals.{AreRefused};
-ghost use Rattle.alp_history.specs.Theorems.{Agreement, EachServer, Findings, History, Latest, Order, OrderOfBegins, Promises, Settling, Tellings, Wholeness};
+ghost use Rattle.alp_history.specs.ResumedLog.{IsShownResumed};
+ghost use Rattle.alp_history.specs.RightJournals.{AreLawfulJournals};
+ghost use Rattle.alp_history.specs.RightLog.{IsShownRight};
+ghost use Rattle.alp_history.specs.WrongLogs.{AreWrong};
+ghost use Rattle.alp_history.specs.Theorems.{Agreement, EachServer, Findings, History, Latest, Listing, Order, OrderOfBegins, Promises, Settling, Tellings, Wholeness};
 
 /// However messages are lost, repeated and late and servers stop and start again, no part of a committed transaction is
 /// aborted, and none is applied that is not one of a committed transaction's.
@@ -73,4 +77,35 @@ pub fn settled_logs_end_in_what_is_held()
 /// Each of the journals of `specs/WrongJournals.antt`, which differ from right ones in one place, breaks a law.
 pub fn wrong_journals_are_refused()
     ensures { AreRefused }
+{}
+
+/// A log of two servers, with a lost message, a repeat, a restart of each and three transactions, keeps to all that the theorems
+/// ask; and the history that they give for it is the one written in `specs/RightLog.antt`.
+pub fn a_right_log_is_shown_right()
+    ensures { IsShownRight }
+{}
+
+/// Each of the logs of `specs/WrongLogs.antt`, which differ from the right one in one place, has a journal that breaks a law or a
+/// message that is not linked: two transactions in opposite orders on two servers, a part applied without its decision, a read lock
+/// let go at the vote, a message that nobody sent, and one that arrives before it was sent.
+pub fn wrong_logs_are_refused()
+    ensures { AreWrong }
+{}
+
+/// The journals of `specs/RightJournals.antt`, two servers' each, are lawful: with lost and repeated messages, with a worker that
+/// lost its part, with a read lock that outlives a restart, and with a decision that a stop cut off, found made or not.
+pub fn right_journals_are_lawful()
+    ensures { AreLawfulJournals }
+{}
+
+/// A log that goes on where an earlier run was cut off, with a decision and a ready part in its openings, keeps to all that the
+/// theorems ask; what the earlier run decided is in the files that its history starts on.
+pub fn a_resumed_log_is_shown_right()
+    ensures { IsShownResumed }
+{}
+
+/// What an entry of a server names as decided is one of the decided transactions, where nothing stopped it, or where the restart
+/// behind it finds a clock that is not below its time.
+pub fn decided_acts_are_listed()
+    ensures { Listing }
 {}

@@ -1,0 +1,134 @@
+-- what each wrong log lacks
+use Rattle.std.specs.Prelude.{codes, Bool, true, false, ◌&&◌, ◌||◌, not, leb, unwrap_or, Some, IsTrue}
+use Rattle.std.specs.List.{list_any}
+use Rattle.std.proofs.Common.{◌≡◌, ℕ, zero, suc, ◌<◌, ◌≤◌, List, [], ◌∷◌, ◌++◌, slice_get, refl, sym, ap, subst, ◌∙◌, inl, inr, arith}
+use Rattle.std.proofs.lemmas.Bool.{and_parts, leb-true}
+use Rattle.alp_base.specs.declared.key.Key.TheVariants.{OwnerOf}
+use Rattle.alp_base.specs.declared.key.Resource.TheVariants.{Leaf}
+use Rattle.alp_modes.specs.Modes.{agree}
+use Rattle.alp_files.specs.Holdings.{agree_held}
+use Rattle.alp_files.specs.declared.refusal.Cause.TheVariants as cause
+use Rattle.alp_journal.specs.declared.act.Act.{Act}
+use Rattle.alp_journal.specs.declared.act.Act.TheVariants as act
+use Rattle.alp_journal.specs.declared.message.Message.TheVariants as msg
+use Rattle.alp_journal.specs.declared.entry.Entry.{Entry}
+use Rattle.alp_history.specs.Along.{state_after}
+use Rattle.alp_history.specs.Deeds.{Grants}
+use Rattle.alp_history.specs.State.{State, opened, state_deed}
+use Rattle.alp_history.specs.Moves.{next}
+use Rattle.alp_history.specs.Laws.{IsLawful, IsLawfulEntry}
+use Rattle.alp_history.specs.Log.{IsIn, AreLawful, IsLinked}
+use Rattle.alp_history.specs.Examples.{trans, join}
+use Rattle.alp_history.specs.RightLog.{second, second_join, opening, sets, hello, ranks_one, ranks_two, runs, one_with, one_decides, one_votes, one, two_votes, two_with, two}
+use Rattle.alp_history.specs.WrongLogs.{two_crossed, ranks_crossed, crossed, one_tells, undecided, one_lets_go, unlocked, two_drops, forged, ranks_late, hurried, AreOpposite, AreWrong}
+use Rattle.alp_history.proofs.Places.{along-at, some-same}
+use Rattle.alp_history.proofs.IdLemmas.{or-true}
+use Rattle.alp_history.proofs.Worked.{life_at}
+use Rattle.alp_history.proofs.Steps.{lives_there}
+use Rattle.alp_history.proofs.LinkLemmas.{each_both}
+use Rattle.alp_history.proofs.RightOne.{lawful as one_lawful}
+use Rattle.alp_history.proofs.RightTwo.{lawful as two_lawful}
+use Rattle.alp_history.proofs.RightProper.{by_two, different, sound}
+use Rattle.alp_history.proofs.ForgedTwo.{lawful as forged_lawful}
+use Rattle.alp_history.proofs.WrongLinks.{by_crossed, linked_crossed, linked_undecided, linked_unlocked}
+
+-- ---- in opposite orders
+
+abbrev both_hold : State
+both_hold = state_deed (state_after next (opened (opening 2)) (two_votes ++ (hello 2 ∷ by_crossed 8 ∷ []))) (Grants second (sets second 7))
+
+disagree : IsTrue (agree_held ((life_at both_hold trans).held (Leaf (OwnerOf (codes "ann")))) ((life_at both_hold second).held (Leaf (OwnerOf (codes "ann"))))) → ⊥
+unfolding agree
+disagree h = let wrong : false ≡ true = h in cc
+
+unlawful_crossed : AreLawful crossed → ⊥
+unlawful_crossed h =
+    let law = along-at next IsLawfulEntry (opened (opening 2)) two_crossed 9 (by_crossed 9) (h 2) refl in
+    disagree (law.deeds.0.locks.1 trans second (life_at both_hold trans) (life_at both_hold second) (lives_there both_hold trans refl) (lives_there both_hold second refl) refl (Leaf (OwnerOf (codes "ann"))))
+
+opposite : AreOpposite
+opposite = record {
+  first_decided = refl;
+  second_decided = refl;
+  first_at_one = (refl, refl);
+  second_at_one = (refl, refl);
+  second_at_two = (refl, refl);
+  first_at_two = (refl, refl);
+}
+
+-- ---- without a decision
+
+unlawful_undecided : AreLawful undecided → ⊥
+unlawful_undecided h = absurd ((along-at next IsLawfulEntry (opened (opening 1)) (one_with one_tells one_votes) 5 one_tells (h 1) refl).said.1.0)
+
+-- ---- a read lock let go at the vote
+
+unlawful_unlocked : AreLawful unlocked → ⊥
+unlawful_unlocked h = (along-at next IsLawfulEntry (opened (opening 1)) (one_with one_decides one_lets_go) 14 one_lets_go (h 1) refl).deeds.1.0.locks.1.1 second_join refl
+
+-- ---- not sent, or not yet
+
+-- of what stands below this rank nothing is such an act
+abbrev is_unsent : (Act → Bool) → ℕ → List ℕ → List Entry → Bool
+is_unsent p rank rs [] = true
+is_unsent p rank [] (e ∷ es) = not (list_any p e.acts) && is_unsent p rank [] es
+is_unsent p rank (r ∷ rs) (e ∷ es) = (leb rank r || not (list_any p e.acts)) && is_unsent p rank rs es
+
+any_in : (p : Act → Bool) (xs : List Act) (x : Act) → IsIn x xs → p x ≡ true → list_any p xs ≡ true
+any_in p [] x i h = absurd i
+any_in p (y ∷ ys) x i h = go (p y) refl i (λ more. any_in p ys x more h)
+  where
+    go : (b : Bool) → p y ≡ b → IsIn x (y ∷ ys) → (IsIn x ys → list_any p ys ≡ true) → (b || list_any p ys) ≡ true
+    go true e k rest = refl
+    go false e k rest = elim k [ inl same ↦ (let wrong : true ≡ false = sym h ∙ ap p same ∙ e in cc) | inr more ↦ rest more ]
+
+none_any : (p : Act → Bool) (xs : List Act) (x : Act) → IsIn x xs → p x ≡ true → not (list_any p xs) ≡ true → ⊥
+none_any p xs x i h k = let wrong : false ≡ true = ap not (sym (any_in p xs x i h)) ∙ k in cc
+
+not_sent : (p : Act → Bool) (rank : ℕ) (rs : List ℕ) (es : List Entry) → is_unsent p rank rs es ≡ true → (place : ℕ) (e : Entry) (x : Act)
+    → slice_get es place ≡ Some e → IsIn x e.acts → p x ≡ true → unwrap_or (slice_get rs place) 0 < rank → ⊥
+not_sent p rank rs [] n place e x at i h l = cc
+not_sent p rank [] (y ∷ es) n zero e x at i h l =
+    none_any p y.acts x (subst (λ (z : Entry). IsIn x z.acts) (sym (some-same y e at)) i) h (and_parts (not (list_any p y.acts)) (is_unsent p rank [] es) n).0
+not_sent p rank [] (y ∷ es) n (suc place) e x at i h l = not_sent p rank [] es (and_parts (not (list_any p y.acts)) (is_unsent p rank [] es) n).1 place e x at i h l
+not_sent p rank (r ∷ rs) (y ∷ es) n zero e x at i h l = elim (or-true (leb rank r) (not (list_any p y.acts)) (and_parts (leb rank r || not (list_any p y.acts)) (is_unsent p rank rs es) n).0) [
+  | inl late ↦ (let over : rank ≤ r = leb-true rank r late in omega (arith, l, over))
+  | inr none ↦ none_any p y.acts x (subst (λ (z : Entry). IsIn x z.acts) (sym (some-same y e at)) i) h none
+]
+not_sent p rank (r ∷ rs) (y ∷ es) n (suc place) e x at i h l =
+    not_sent p rank rs es (and_parts (leb rank r || not (list_any p y.acts)) (is_unsent p rank rs es) n).1 place e x at i h l
+
+abbrev is_abort : Act → Bool
+is_abort (act.Sent to (msg.Abort t j c)) = true
+is_abort a = false
+
+abbrev is_welcome : Act → Bool
+is_welcome (act.Sent to (msg.Joined t j)) = true
+is_welcome a = false
+
+unlinked_forged : IsLinked forged → ⊥
+unlinked_forged h =
+    let w = h.sent 2 7 1 two_drops (msg.Abort trans join cause.Asked) refl refl in
+    not_sent is_abort 16 ranks_one one refl w.place w.entry (act.Sent 2 (msg.Abort trans join cause.Asked)) w.stands w.sent refl w.earlier
+
+unlinked_hurried : IsLinked hurried → ⊥
+unlinked_hurried h =
+    let w = h.sent 2 2 1 (by_two 2) (msg.Joined trans join) refl refl in
+    not_sent is_welcome 7 ranks_late one refl w.place w.entry (act.Sent 2 (msg.Joined trans join)) w.stands w.sent refl w.earlier
+
+lawful_forged : AreLawful forged
+lawful_forged = each_both (runs 1 ranks_one one) (runs 2 ranks_two (two_with two_drops)) (λ n x. IsLawful x.opening x.journal) one_lawful forged_lawful (λ m. tt)
+
+lawful_hurried : AreLawful hurried
+lawful_hurried = each_both (runs 1 ranks_late one) (runs 2 ranks_two two) (λ n x. IsLawful x.opening x.journal) one_lawful two_lawful (λ m. tt)
+
+-- ---- all of them
+
+pub wrong : AreWrong
+wrong = record {
+  opposite_orders = (opposite, record { different = different ranks_one ranks_crossed one two_crossed; sound = sound ranks_one ranks_crossed one two_crossed; linked = linked_crossed; unlawful = unlawful_crossed });
+  no_decision = record { different = different ranks_one ranks_two (one_with one_tells one_votes) two; sound = sound ranks_one ranks_two (one_with one_tells one_votes) two; linked = linked_undecided; unlawful = unlawful_undecided };
+  early_release = record { different = different ranks_one ranks_two (one_with one_decides one_lets_go) two; sound = sound ranks_one ranks_two (one_with one_decides one_lets_go) two; linked = linked_unlocked; unlawful = unlawful_unlocked };
+  nobody_sent = record { different = different ranks_one ranks_two one (two_with two_drops); sound = sound ranks_one ranks_two one (two_with two_drops); lawful = lawful_forged; unlinked = unlinked_forged };
+  before_it_was_sent = record { different = different ranks_late ranks_two one two; sound = sound ranks_late ranks_two one two; lawful = lawful_hurried; unlinked = unlinked_hurried };
+}
