@@ -11,19 +11,19 @@ use Rattle.alp_journal.specs.declared.event.Event.{Event}
 use Rattle.alp_journal.specs.declared.event.Event.TheVariants as event
 use Rattle.alp_journal.specs.declared.message.Message.TheVariants as msg
 use Rattle.alp_journal.specs.declared.entry.Entry.{Entry}
-use Rattle.alp_history.specs.Ids.{same_trans, same_join, has_join, is_drawn}
-use Rattle.alp_history.specs.Opening.{ReadyNote, DecisionNote}
-use Rattle.alp_history.specs.Deeds.{Deed, Begins, Joins, Enters, Quits, Aborts, Grants, Performs, Releases, Readies, Applies, Registers, Finishes, Hears, Decides, Ends, Acknowledges, Forgets, Restarts}
-use Rattle.alp_history.specs.Coordinator.{Fate, Undrawn, Running, Finishing, Committed, Forgotten, Ended, voted, has_votes, begun, fate_after, fate_noted, decision_in}
-use Rattle.alp_history.specs.Participant.{Phase, Unseen, Joining, Active, Ready, Applied, Over, phase_after, phase_noted, live_in}
-use Rattle.alp_history.specs.Desk.{Desk}
-use Rattle.alp_history.specs.State.{Ids, State, ids_after, state_deed}
-use Rattle.alp_history.specs.Moves.{next_trans, next_join}
-use Rattle.alp_history.specs.Laws.{CountsOn, MayAbort, HasDecision}
+use Rattle.alp_journal.specs.Ids.{same_trans, same_join, has_join, is_drawn}
+use Rattle.alp_journal.specs.Opening.{ReadyNote, DecisionNote}
+use Rattle.alp_journal.specs.Deeds.{Deed, Begins, Joins, Enters, Quits, Aborts, Grants, Performs, Releases, Readies, Applies, Registers, Finishes, Hears, Decides, Ends, Acknowledges, Forgets, Restarts}
+use Rattle.alp_journal.specs.Coordinator.{Fate, Undrawn, Running, Finishing, Committed, Forgotten, Ended, voted, has_votes, begun, fate_after, fate_noted, decision_in}
+use Rattle.alp_journal.specs.Participant.{Phase, Unseen, Joining, Active, Ready, Applied, Over, phase_after, phase_noted, live_in}
+use Rattle.alp_journal.specs.Desk.{Desk}
+use Rattle.alp_journal.specs.State.{Ids, State, ids_after, state_deed}
+use Rattle.alp_journal.specs.Moves.{next_trans, next_join}
+use Rattle.alp_journal.specs.Laws.{CountsOn, MayAbort, HasDecision}
 use Rattle.alp_history.specs.Log.{Log, journal_of, opening_of, rank_at, state_at, final, IsIn, WasSent}
 use Rattle.alp_history.specs.Theorems.{IsProper, HasCommitted, IsKept, DoAgreeOnEnds, Agreement}
 use Rattle.alp_history.proofs.Places.{in-list, some-same}
-use Rattle.alp_history.proofs.IdLemmas.{same_trans-true, same_join-true, all-each}
+use Rattle.alp_journal.proofs.IdLemmas.{same_trans-true, same_join-true, all-each}
 use Rattle.alp_history.proofs.Fates.{Decision, decision-stays, IsOver, over-stays, IsBacked, Brings, backed-after}
 use Rattle.alp_history.proofs.Phases.{IsJoining, dead-stays, unseen-stays, IsSeen, home-stays, IsBound, IsTold, Carries, bound-stays, told-stays}
 use Rattle.alp_history.proofs.Origins.{IsFrom}

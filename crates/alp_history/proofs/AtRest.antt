@@ -3,8 +3,8 @@ use Rattle.std.specs.Prelude.{false, flat_map}
 use Rattle.std.proofs.Common.{◌≡◌, List, [], ◌∷◌, ◌++◌, refl, ap, ◌∙◌}
 use Rattle.alp_base.specs.declared.ids.JoinNo.{JoinNo}
 use Rattle.alp_base.specs.declared.ids.Stamp.{Stamp}
-use Rattle.alp_history.specs.Participant.{Phase, Unseen, Joining, Active, Ready, Applied, Over, is_ready}
-use Rattle.alp_history.specs.State.{State}
+use Rattle.alp_journal.specs.Participant.{Phase, Unseen, Joining, Active, Ready, Applied, Over, is_ready}
+use Rattle.alp_journal.specs.State.{State}
 use Rattle.alp_history.specs.Log.{final, held, is_decided_in, ready_note}
 use Rattle.alp_history.specs.Theorems.{IsWhole, Settling}
 use Rattle.alp_history.proofs.Wholes.{are-whole}

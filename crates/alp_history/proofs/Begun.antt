@@ -6,15 +6,15 @@ use Rattle.alp_base.specs.declared.ids.JoinNo.{JoinNo}
 use Rattle.alp_base.specs.declared.ids.TransId.{TransId}
 use Rattle.alp_base.specs.declared.ids.Stamp.{Stamp}
 use Rattle.alp_journal.specs.declared.event.Event.{Event}
-use Rattle.alp_history.specs.Ids.{same_trans, has_server}
-use Rattle.alp_history.specs.Deeds.{Deed, Begins, Joins, Enters, Quits, Aborts, Grants, Performs, Releases, Readies, Applies, Registers, Finishes, Hears, Decides, Ends, Acknowledges, Forgets, Restarts}
-use Rattle.alp_history.specs.Coordinator.{Fate, Undrawn, Running, Finishing, Committed, Forgotten, Ended, begun, registered, finishing, heard, decided, ended, acknowledged, forgotten, restarted, fate_after, has_all}
-use Rattle.alp_history.specs.Holder.{Holder, Life, holder_after, grants, performs, readies, commits}
-use Rattle.alp_history.specs.State.{State, state_deed}
-use Rattle.alp_history.specs.Laws.{latest_vote}
+use Rattle.alp_journal.specs.Ids.{same_trans, has_server}
+use Rattle.alp_journal.specs.Deeds.{Deed, Begins, Joins, Enters, Quits, Aborts, Grants, Performs, Releases, Readies, Applies, Registers, Finishes, Hears, Decides, Ends, Acknowledges, Forgets, Restarts}
+use Rattle.alp_journal.specs.Coordinator.{Fate, Undrawn, Running, Finishing, Committed, Forgotten, Ended, begun, registered, finishing, heard, decided, ended, acknowledged, forgotten, restarted, fate_after, has_all}
+use Rattle.alp_journal.specs.Holder.{Holder, Life, holder_after, grants, performs, readies, commits}
+use Rattle.alp_journal.specs.State.{State, state_deed}
+use Rattle.alp_journal.specs.Laws.{latest_vote}
 use Rattle.alp_history.specs.Log.{Log, state_at}
 use Rattle.alp_history.specs.Theorems.{IsProper}
-use Rattle.alp_history.proofs.IdLemmas.{same_trans-true}
+use Rattle.alp_journal.proofs.IdLemmas.{same_trans-true}
 use Rattle.alp_history.proofs.Entries.{is_open}
 use Rattle.alp_history.proofs.Logs.{stands-from}
 use Rattle.alp_history.proofs.Votes.{latest-after}

@@ -12,18 +12,18 @@ use Rattle.alp_journal.specs.declared.act.Act.TheVariants as act
 use Rattle.alp_journal.specs.declared.event.Event.{Event}
 use Rattle.alp_journal.specs.declared.event.Event.TheVariants as event
 use Rattle.alp_journal.specs.declared.entry.Entry.{Entry}
-use Rattle.alp_history.specs.Along.{Along, Where, state_after}
-use Rattle.alp_history.specs.Ids.{same_trans}
-use Rattle.alp_history.specs.Opening.{DecisionNote}
-use Rattle.alp_history.specs.Deeds.{Deed, Begins, Joins, Enters, Quits, Aborts, Grants, Performs, Releases, Readies, Applies, Registers, Finishes, Hears, Decides, Ends, Acknowledges, Forgets, Restarts}
-use Rattle.alp_history.specs.Coordinator.{Fate, Undrawn, Running, Finishing, Committed, Forgotten, Ended, fate_after, fate_noted, begun, decision_in}
-use Rattle.alp_history.specs.State.{Ids, State, ids_after, state_deed, opened}
-use Rattle.alp_history.specs.Moves.{is_new, next_trans, event_deeds, act_deeds, done_deeds, is_stop, stops, tried, did, told, halted, next, resolved, is_effective, principal}
-use Rattle.alp_history.specs.Laws.{CountsOn, Regains, drawn_by, is_written, IsStopped, TellsStop}
+use Rattle.alp_journal.specs.Along.{Along, Where, state_after}
+use Rattle.alp_journal.specs.Ids.{same_trans}
+use Rattle.alp_journal.specs.Opening.{DecisionNote}
+use Rattle.alp_journal.specs.Deeds.{Deed, Begins, Joins, Enters, Quits, Aborts, Grants, Performs, Releases, Readies, Applies, Registers, Finishes, Hears, Decides, Ends, Acknowledges, Forgets, Restarts}
+use Rattle.alp_journal.specs.Coordinator.{Fate, Undrawn, Running, Finishing, Committed, Forgotten, Ended, fate_after, fate_noted, begun, decision_in}
+use Rattle.alp_journal.specs.State.{Ids, State, ids_after, state_deed, opened}
+use Rattle.alp_journal.specs.Moves.{is_new, next_trans, event_deeds, act_deeds, done_deeds, is_stop, stops, tried, did, told, halted, next, resolved, is_effective, principal}
+use Rattle.alp_journal.specs.Laws.{CountsOn, Regains, drawn_by, is_written, IsStopped, TellsStop}
 use Rattle.alp_history.specs.Log.{Log, journal_of, opening_of, state_at, final, IsIn}
 use Rattle.alp_history.specs.Theorems.{IsProper, GoesByBegins}
 use Rattle.alp_history.proofs.Places.{state-append, keeps-from, in-list, some-same}
-use Rattle.alp_history.proofs.IdLemmas.{same_trans-true, same_trans-itself}
+use Rattle.alp_journal.proofs.IdLemmas.{same_trans-true, same_trans-itself}
 use Rattle.alp_history.proofs.Entries.{is_open, effective-open}
 use Rattle.alp_history.proofs.Logs.{lawful-at, state-suc}
 use Rattle.alp_history.proofs.Agreed.{size, at-end, all-of, backed-at, Promise, Acked}

@@ -11,18 +11,19 @@ use Rattle.alp_base.specs.declared.ids.Stamp.{Stamp}
 use Rattle.alp_files.specs.Edits.{Edit}
 use Rattle.alp_files.specs.History.{Decided, Standing, begun, steps}
 use Rattle.alp_files.specs.Apart.{changes}
-use Rattle.alp_history.specs.Ids.{has_join, stamp_cmp}
-use Rattle.alp_history.specs.Coordinator.{Fate, Undrawn, Running, Finishing, Committed, Forgotten, Ended, decision_in, joins_of}
-use Rattle.alp_history.specs.Along.{state_after}
-use Rattle.alp_history.specs.State.{opened}
-use Rattle.alp_history.specs.Moves.{next}
+use Rattle.alp_journal.specs.Ids.{has_join, stamp_cmp}
+use Rattle.alp_journal.specs.Coordinator.{Fate, Undrawn, Running, Finishing, Committed, Forgotten, Ended, decision_in, joins_of}
+use Rattle.alp_journal.specs.Along.{state_after}
+use Rattle.alp_journal.specs.State.{opened}
+use Rattle.alp_journal.specs.Moves.{next}
 use Rattle.alp_history.specs.Log.{ServerLog, Log, of, opening_of, final, IsIn, Decision, all_put, own_of, decisions_of, decided_by, decided}
 use Rattle.alp_history.specs.Theorems.{IsProper, HasCommitted}
 use Rattle.alp_history.proofs.Places.{some-same, all-in}
 use Rattle.alp_history.proofs.Phases.{IsSeen}
 use Rattle.alp_history.proofs.Logs.{opening-server}
 use Rattle.alp_history.proofs.Agreed.{committed-parts, applied-committed}
-use Rattle.alp_history.proofs.Linked.{stamps_total, itself, IsYoung, AreParts, IsRested, IsDecidedHere, IsDecidedBefore, IsTied, IsLinkedUp}
+use Rattle.alp_journal.proofs.StampLemmas.{stamps_total, itself}
+use Rattle.alp_history.proofs.Linked.{IsYoung, AreParts, IsRested, IsDecidedHere, IsDecidedBefore, IsTied, IsLinkedUp}
 use Rattle.alp_history.proofs.Turned.{server-in}
 use Rattle.alp_history.proofs.HeldAlong.{exact_stamps}
 use Rattle.alp_history.proofs.EachServer.{along-end}

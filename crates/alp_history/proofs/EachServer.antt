@@ -17,16 +17,16 @@ use Rattle.alp_journal.specs.declared.event.Event.{Event}
 use Rattle.alp_journal.specs.declared.event.Event.TheVariants as event
 use Rattle.alp_files.specs.declared.reply.Reply.{Reply}
 use Rattle.alp_journal.specs.declared.entry.Entry.{Entry}
-use Rattle.alp_history.specs.Ids.{same_trans, same_join}
-use Rattle.alp_history.specs.Opening.{ReadyNote}
-use Rattle.alp_history.specs.Participant.{Ready, phase_noted, is_ready}
-use Rattle.alp_history.specs.Holder.{Life, holder_opened, lives_noted, early_life, commits}
-use Rattle.alp_history.specs.State.{State, opened, state_deed}
-use Rattle.alp_history.specs.Moves.{next}
+use Rattle.alp_journal.specs.Ids.{same_trans, same_join}
+use Rattle.alp_journal.specs.Opening.{ReadyNote}
+use Rattle.alp_journal.specs.Participant.{Ready, phase_noted, is_ready}
+use Rattle.alp_journal.specs.Holder.{Life, holder_opened, lives_noted, early_life, commits}
+use Rattle.alp_journal.specs.State.{State, opened, state_deed}
+use Rattle.alp_journal.specs.Moves.{next}
 use Rattle.alp_history.specs.Log.{Log, journal_of, opening_of, state_at, final, IsIn, is_noted, IsSoundOpening, PutsAreSized}
 use Rattle.alp_history.specs.Theorems.{IsProper, EachServer}
 use Rattle.alp_history.proofs.Places.{at, keeps-from}
-use Rattle.alp_history.proofs.IdLemmas.{same_trans-true}
+use Rattle.alp_journal.proofs.IdLemmas.{same_trans-true}
 use Rattle.alp_history.proofs.OneServer.{IsGoodEarly, IsHeld, in_order, one_thread, reads_kept}
 use Rattle.alp_history.proofs.Logs.{lawful-at, last}
 use Rattle.alp_history.proofs.Agreed.{size, home-at, told-at}
@@ -35,7 +35,7 @@ use Rattle.alp_history.proofs.Linked.{IsLinkedUp, same_join-self, linked-opened}
 use Rattle.alp_history.proofs.Turned.{is_left, Began}
 use Rattle.alp_history.proofs.HeldAlong.{Along_, Resolves, plain-entry, restart-entry, IsSameCore, Knows}
 use Rattle.alp_base.specs.declared.ids.JoinNo.{JoinNo}
-use Rattle.alp_history.specs.Deeds.{Deed}
+use Rattle.alp_journal.specs.Deeds.{Deed}
 use Rattle.alp_history.specs.Holding.{MayDo}
 use Rattle.alp_history.proofs.Phases.{IsSeen}
 use Rattle.alp_history.proofs.Rights.{IsRightEntry}

@@ -10,13 +10,13 @@ use Rattle.alp_journal.specs.declared.act.Act.TheVariants as act
 use Rattle.alp_journal.specs.declared.event.Event.{Event}
 use Rattle.alp_journal.specs.declared.event.Event.TheVariants as event
 use Rattle.alp_journal.specs.declared.entry.Entry.{Entry}
-use Rattle.alp_history.specs.Along.{state_after, Along}
-use Rattle.alp_history.specs.Deeds.{Deed, Begins, Joins, Enters, Quits, Aborts, Grants, Performs, Releases, Readies, Applies, Registers, Finishes, Hears, Decides, Ends, Acknowledges, Forgets, Restarts}
-use Rattle.alp_history.specs.Desk.{Desk}
-use Rattle.alp_history.specs.State.{State, state_deed}
-use Rattle.alp_history.specs.Moves.{is_effective, resolved, stops, tried, did, told, halted, next}
-use Rattle.alp_history.specs.Laws.{Regains}
-use Rattle.alp_history.proofs.IdLemmas.{all-append}
+use Rattle.alp_journal.specs.Along.{state_after, Along}
+use Rattle.alp_journal.specs.Deeds.{Deed, Begins, Joins, Enters, Quits, Aborts, Grants, Performs, Releases, Readies, Applies, Registers, Finishes, Hears, Decides, Ends, Acknowledges, Forgets, Restarts}
+use Rattle.alp_journal.specs.Desk.{Desk}
+use Rattle.alp_journal.specs.State.{State, state_deed}
+use Rattle.alp_journal.specs.Moves.{is_effective, resolved, stops, tried, did, told, halted, next}
+use Rattle.alp_journal.specs.Laws.{Regains}
+use Rattle.alp_journal.proofs.IdLemmas.{all-append}
 use Rattle.alp_history.proofs.Origins.{IsFrom, tried-from}
 use Rattle.alp_history.proofs.Rights.{IsRightDeed, IsRightEntry}
 

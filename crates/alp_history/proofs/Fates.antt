@@ -5,10 +5,10 @@ use Rattle.std.proofs.lemmas.List.Folds.{list_any-append}
 use Rattle.alp_base.specs.declared.ids.JoinNo.{JoinNo}
 use Rattle.alp_base.specs.declared.ids.TransId.{TransId}
 use Rattle.alp_base.specs.declared.ids.Stamp.{Stamp}
-use Rattle.alp_history.specs.Ids.{same_trans, same_join, has_join, has_server}
-use Rattle.alp_history.specs.Deeds.{Deed, Begins, Joins, Enters, Quits, Aborts, Grants, Performs, Releases, Readies, Applies, Registers, Finishes, Hears, Decides, Ends, Acknowledges, Forgets, Restarts}
-use Rattle.alp_history.specs.Coordinator.{Fate, Vote, Undrawn, Running, Finishing, Committed, Forgotten, Ended, begun, registered, finishing, voted, with_vote, heard, decided, ended, acknowledged, has_all, forgotten, restarted, fate_after, decision_in}
-use Rattle.alp_history.proofs.IdLemmas.{same_trans-true, same_join-true, or-true, all-each}
+use Rattle.alp_journal.specs.Ids.{same_trans, same_join, has_join, has_server}
+use Rattle.alp_journal.specs.Deeds.{Deed, Begins, Joins, Enters, Quits, Aborts, Grants, Performs, Releases, Readies, Applies, Registers, Finishes, Hears, Decides, Ends, Acknowledges, Forgets, Restarts}
+use Rattle.alp_journal.specs.Coordinator.{Fate, Vote, Undrawn, Running, Finishing, Committed, Forgotten, Ended, begun, registered, finishing, voted, with_vote, heard, decided, ended, acknowledged, has_all, forgotten, restarted, fate_after, decision_in}
+use Rattle.alp_journal.proofs.IdLemmas.{same_trans-true, same_join-true, or-true, all-each}
 
 -- ---- what stays
 

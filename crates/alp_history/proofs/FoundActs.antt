@@ -13,16 +13,16 @@ use Rattle.alp_journal.specs.declared.event.Event.TheVariants as event
 use Rattle.alp_journal.specs.declared.entry.Entry.{Entry}
 use Rattle.alp_history.specs.Log.{Log, journal_of, state_at, decided, IsIn}
 use Rattle.alp_history.specs.Theorems.{IsProper, ListsFound, Listing}
-use Rattle.alp_history.specs.Along.{Along, Where, state_after}
-use Rattle.alp_history.specs.Ids.{same_trans}
-use Rattle.alp_history.specs.Deeds.{Deed, Begins, Joins, Enters, Quits, Aborts, Grants, Performs, Releases, Readies, Applies, Registers, Finishes, Hears, Decides, Ends, Acknowledges, Forgets, Restarts}
-use Rattle.alp_history.specs.Coordinator.{Fate, Vote, decided as decided_fate, Undrawn, Running, Finishing, Committed, Forgotten, Ended, ended, fate_after, decision_in}
-use Rattle.alp_history.specs.State.{State, state_deed}
-use Rattle.alp_history.specs.Moves.{is_effective, is_stop, stops, event_deeds, act_deeds, done_deeds, tried, halted, told, next}
+use Rattle.alp_journal.specs.Along.{Along, Where, state_after}
+use Rattle.alp_journal.specs.Ids.{same_trans}
+use Rattle.alp_journal.specs.Deeds.{Deed, Begins, Joins, Enters, Quits, Aborts, Grants, Performs, Releases, Readies, Applies, Registers, Finishes, Hears, Decides, Ends, Acknowledges, Forgets, Restarts}
+use Rattle.alp_journal.specs.Coordinator.{Fate, Vote, decided as decided_fate, Undrawn, Running, Finishing, Committed, Forgotten, Ended, ended, fate_after, decision_in}
+use Rattle.alp_journal.specs.State.{State, state_deed}
+use Rattle.alp_journal.specs.Moves.{is_effective, is_stop, stops, event_deeds, act_deeds, done_deeds, tried, halted, told, next}
 use Rattle.alp_history.proofs.Fates.{decision-stays, IsOver, over-stays}
-use Rattle.alp_history.specs.Laws.{MayDecide, IsStopped, TellsStop}
+use Rattle.alp_journal.specs.Laws.{MayDecide, IsStopped, TellsStop}
 use Rattle.alp_history.proofs.Origins.{IsEventFrom, event-from}
-use Rattle.alp_history.proofs.IdLemmas.{same_trans-itself}
+use Rattle.alp_journal.proofs.IdLemmas.{same_trans-itself}
 use Rattle.alp_history.proofs.Places.{in-list, state-append}
 use Rattle.alp_history.proofs.Rights.{IsRightDeed}
 use Rattle.alp_history.proofs.ListedActs.{stays, deeds-of, listed-by, lists}

@@ -21,21 +21,21 @@ use Rattle.alp_files.specs.History.{PerformedCall, Decided}
 use Rattle.alp_journal.specs.declared.event.Event.{Event}
 use Rattle.alp_journal.specs.declared.event.Event.TheVariants as event
 use Rattle.alp_journal.specs.declared.entry.Entry.{Entry}
-use Rattle.alp_history.specs.Along.{Along, Where, state_after}
-use Rattle.alp_history.specs.Ids.{same_trans, same_join, has_join, stamp_cmp}
-use Rattle.alp_history.specs.Opening.{ReadyNote}
-use Rattle.alp_history.specs.Deeds.{Deed, Begins, Joins, Enters, Quits, Aborts, Grants, Performs, Releases, Readies, Applies, Registers, Finishes, Hears, Decides, Ends, Acknowledges, Forgets, Restarts}
-use Rattle.alp_history.specs.Coordinator.{Fate, Vote, Finishing, decision_in, is_running, fate_after}
-use Rattle.alp_history.specs.Participant.{Phase, Unseen, Ready, Applied, phase_after, phase_noted, open_in, Joining, Active}
-use Rattle.alp_history.specs.Holder.{Holder, Life, holder_after, commits, grants, performs, readies}
-use Rattle.alp_history.specs.State.{Ids, State, ids_after, joined_by, state_deed, is_other_server}
-use Rattle.alp_history.specs.Moves.{next_file, next_join, is_new, no_in, first_sent, quits_for, if_its, event_deeds, act_deeds, answered, is_of_no_file, done_by, done_of, done_deeds, is_stop, stops, tried, did, told, halted, next, resolved, is_effective, next_trans}
-use Rattle.alp_history.specs.Laws.{latest_vote, CountsOn, DecidesRight, AppliesRight, DecidesAt, is_written, IsStopped, TellsStop, StopsRight, Regains, regained_by, IsOpenPart, HasEnded, LivesVoted, LivesUnvoted}
+use Rattle.alp_journal.specs.Along.{Along, Where, state_after}
+use Rattle.alp_journal.specs.Ids.{same_trans, same_join, has_join, stamp_cmp}
+use Rattle.alp_journal.specs.Opening.{ReadyNote}
+use Rattle.alp_journal.specs.Deeds.{Deed, Begins, Joins, Enters, Quits, Aborts, Grants, Performs, Releases, Readies, Applies, Registers, Finishes, Hears, Decides, Ends, Acknowledges, Forgets, Restarts}
+use Rattle.alp_journal.specs.Coordinator.{Fate, Vote, Finishing, decision_in, is_running, fate_after}
+use Rattle.alp_journal.specs.Participant.{Phase, Unseen, Ready, Applied, phase_after, phase_noted, open_in, Joining, Active}
+use Rattle.alp_journal.specs.Holder.{Holder, Life, holder_after, commits, grants, performs, readies}
+use Rattle.alp_journal.specs.State.{Ids, State, ids_after, joined_by, state_deed, is_other_server}
+use Rattle.alp_journal.specs.Moves.{next_file, next_join, is_new, no_in, first_sent, quits_for, if_its, event_deeds, act_deeds, answered, is_of_no_file, done_by, done_of, done_deeds, is_stop, stops, tried, did, told, halted, next, resolved, is_effective, next_trans}
+use Rattle.alp_journal.specs.Laws.{latest_vote, CountsOn, DecidesRight, AppliesRight, DecidesAt, is_written, IsStopped, TellsStop, StopsRight, Regains, regained_by, IsOpenPart, HasEnded, LivesVoted, LivesUnvoted}
 use Rattle.alp_history.specs.Holding.{IsNewStamp, IsTimely, HasNotVoted, MayDo}
 use Rattle.alp_history.specs.Log.{Log, journal_of, opening_of, state_at, final, IsIn}
 use Rattle.alp_history.specs.Theorems.{IsProper}
 use Rattle.alp_history.proofs.Places.{in-list, some-same, state-append}
-use Rattle.alp_history.specs.Desk.{Desk, file_trans}
+use Rattle.alp_journal.specs.Desk.{Desk, file_trans}
 use Rattle.alp_files.specs.Passing.{is_passing}
 use Rattle.alp_files.specs.declared.call.Call.{Call}
 use Rattle.alp_files.specs.declared.reply.Reply.{Reply}
@@ -43,7 +43,7 @@ use Rattle.alp_journal.specs.declared.act.Act.{Act}
 use Rattle.alp_journal.specs.declared.act.Act.TheVariants as act
 use Rattle.alp_history.proofs.Entries.{is_open, effective-open}
 use Rattle.alp_files.proofs.SameLemmas.{same_file-true}
-use Rattle.alp_history.proofs.IdLemmas.{same_join-true, same_trans-itself, all-filter, all-append}
+use Rattle.alp_journal.proofs.IdLemmas.{same_join-true, same_trans-itself, all-filter, all-append}
 use Rattle.alp_history.proofs.Fates.{Decision}
 use Rattle.alp_history.proofs.Phases.{IsJoining, IsSeen, home-stays, phase-cases, unseen-stays, IsTold, Carries}
 use Rattle.alp_history.proofs.Origins.{IsFrom, IsEventFrom, event-from, tried-from}

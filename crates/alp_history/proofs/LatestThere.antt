@@ -20,17 +20,17 @@ use Rattle.alp_files.specs.Apart.{AreSized, after_part}
 use Rattle.alp_files.proofs.HeldLemmas.{apart, leaves-turned}
 use Rattle.alp_files.proofs.HistoryLemmas.{get-edits_map}
 use Rattle.alp_files.proofs.FrameLemmas.{apart-same, part-within, files-changed}
-use Rattle.alp_history.specs.Ids.{same_trans, same_join, stamp_cmp}
-use Rattle.alp_history.specs.Opening.{ReadyNote, DecisionNote}
-use Rattle.alp_history.specs.Coordinator.{Fate, Undrawn, Running, Finishing, Committed, Forgotten, Ended, is_running, decision_in}
-use Rattle.alp_history.specs.Participant.{Phase, Unseen, Joining, Active, Ready, Applied, Over, is_ready}
-use Rattle.alp_history.specs.Holder.{Life}
-use Rattle.alp_history.specs.State.{State}
-use Rattle.alp_history.specs.Laws.{IsOpenPart}
+use Rattle.alp_journal.specs.Ids.{same_trans, same_join, stamp_cmp}
+use Rattle.alp_journal.specs.Opening.{ReadyNote, DecisionNote}
+use Rattle.alp_journal.specs.Coordinator.{Fate, Undrawn, Running, Finishing, Committed, Forgotten, Ended, is_running, decision_in}
+use Rattle.alp_journal.specs.Participant.{Phase, Unseen, Joining, Active, Ready, Applied, Over, is_ready}
+use Rattle.alp_journal.specs.Holder.{Life}
+use Rattle.alp_journal.specs.State.{State}
+use Rattle.alp_journal.specs.Laws.{IsOpenPart}
 use Rattle.alp_history.specs.Log.{Log, opening_of, state_at, IsIn, AreDistinct, is_noted, held, start_of, left_at, latest_in}
 use Rattle.alp_history.specs.Theorems.{IsProper, IsDecided}
 use Rattle.alp_history.proofs.Places.{some-same, all-in}
-use Rattle.alp_history.proofs.IdLemmas.{same_trans-true}
+use Rattle.alp_journal.proofs.IdLemmas.{same_trans-true}
 use Rattle.alp_history.proofs.HistoryOrder.{Item, All, AreGood, end_of, sized-after, stamp_cmp-earlier, IsClear, map-all, changed_by, left_by_items}
 use Rattle.alp_history.proofs.LifeLemmas.{IsVoteClear}
 use Rattle.alp_history.proofs.OneServer.{IsHeld, life-intended}

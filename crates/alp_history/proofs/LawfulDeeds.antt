@@ -9,10 +9,10 @@ use Rattle.alp_files.specs.declared.refusal.Cause.{Cause}
 use Rattle.alp_files.specs.Act.{id_in}
 use Rattle.alp_files.specs.History.{PerformedCall}
 use Rattle.alp_journal.specs.declared.event.Event.{Event}
-use Rattle.alp_history.specs.Deeds.{Begins, Joins, Enters, Quits, Aborts, Grants, Performs, Releases, Readies, Applies, Registers, Finishes, Hears, Decides, Ends, Acknowledges, Forgets}
-use Rattle.alp_history.specs.State.{State, is_other_server}
-use Rattle.alp_history.specs.Moves.{next_trans, next_join}
-use Rattle.alp_history.specs.Laws.{IsLawfulDeed, SeesView, KeepsLocks, IsOpenPart, MayRegister, MayReady, MayDecide, MayApply, ForgetsRight}
+use Rattle.alp_journal.specs.Deeds.{Begins, Joins, Enters, Quits, Aborts, Grants, Performs, Releases, Readies, Applies, Registers, Finishes, Hears, Decides, Ends, Acknowledges, Forgets}
+use Rattle.alp_journal.specs.State.{State, is_other_server}
+use Rattle.alp_journal.specs.Moves.{next_trans, next_join}
+use Rattle.alp_journal.specs.Laws.{IsLawfulDeed, SeesView, KeepsLocks, IsOpenPart, MayRegister, MayReady, MayDecide, MayApply, ForgetsRight}
 
 module _ (e : Event) (s : State) where
   pub begins : (t : TransId) (client : ℕ) (who : List ℕ) (seen : ℕ) → t ≡ next_trans s → IsLawfulDeed e s (Begins t client who seen)

@@ -11,15 +11,15 @@ use Rattle.alp_files.specs.Act.{id_in}
 use Rattle.alp_files.specs.History.{PerformedCall}
 use Rattle.alp_journal.specs.declared.event.Event.{Event}
 use Rattle.alp_journal.specs.declared.entry.Entry.{Entry}
-use Rattle.alp_history.specs.Along.{Along}
-use Rattle.alp_history.specs.Ids.{same_trans}
-use Rattle.alp_history.specs.Deeds.{Deed, Grants, Performs, Releases}
-use Rattle.alp_history.specs.Coordinator.{is_running}
-use Rattle.alp_history.specs.Holder.{Life, no_locks}
-use Rattle.alp_history.specs.State.{State, state_deed}
-use Rattle.alp_history.specs.Moves.{next}
-use Rattle.alp_history.specs.Laws.{IsLawfulDeed, IsLawfulEntry, DrawsAsTold, KeepsSessions, DeedsAreLawful, DoLivesAgree, LetsGo, SaysRight, TellsDecided, StartsRight, StopsRight, SeesView, IsOpenPart, IsHolding}
-use Rattle.alp_history.proofs.IdLemmas.{same_trans-itself}
+use Rattle.alp_journal.specs.Along.{Along}
+use Rattle.alp_journal.specs.Ids.{same_trans}
+use Rattle.alp_journal.specs.Deeds.{Deed, Grants, Performs, Releases}
+use Rattle.alp_journal.specs.Coordinator.{is_running}
+use Rattle.alp_journal.specs.Holder.{Life, no_locks}
+use Rattle.alp_journal.specs.State.{State, state_deed}
+use Rattle.alp_journal.specs.Moves.{next}
+use Rattle.alp_journal.specs.Laws.{IsLawfulDeed, IsLawfulEntry, DrawsAsTold, KeepsSessions, DeedsAreLawful, DoLivesAgree, LetsGo, SaysRight, TellsDecided, StartsRight, StopsRight, SeesView, IsOpenPart, IsHolding}
+use Rattle.alp_journal.proofs.IdLemmas.{same_trans-itself}
 use Rattle.alp_history.proofs.Named.{Only, has_trans, is_named, is_alone, only_deed, alone, among_two, one_of_two}
 use Rattle.alp_history.proofs.NamedEnds.{vote_in, no_vote, holds_none}
 use Rattle.alp_history.proofs.LawfulDeeds.{grants, performs, releases}

@@ -14,14 +14,14 @@ use Rattle.alp_journal.specs.declared.event.Event.TheVariants as event
 use Rattle.alp_journal.specs.declared.message.Message.{Message}
 use Rattle.alp_journal.specs.declared.message.Message.TheVariants as msg
 use Rattle.alp_journal.specs.declared.entry.Entry.{Entry}
-use Rattle.alp_history.specs.Along.{Where}
-use Rattle.alp_history.specs.Ids.{same_join, has_join, has_server}
-use Rattle.alp_history.specs.Opening.{ReadyNote}
-use Rattle.alp_history.specs.Deeds.{Deed, Decides}
-use Rattle.alp_history.specs.Coordinator.{Fate, Undrawn, Running, Finishing, Committed, Forgotten, Ended, has_all, fate_after, decision_in, joins_of}
-use Rattle.alp_history.specs.State.{State, opened}
-use Rattle.alp_history.specs.Moves.{is_stop, stops, told, halted, next}
-use Rattle.alp_history.specs.Laws.{Regains, StartsRight, is_written, IsStopped, TellsStop}
+use Rattle.alp_journal.specs.Along.{Where}
+use Rattle.alp_journal.specs.Ids.{same_join, has_join, has_server}
+use Rattle.alp_journal.specs.Opening.{ReadyNote}
+use Rattle.alp_journal.specs.Deeds.{Deed, Decides}
+use Rattle.alp_journal.specs.Coordinator.{Fate, Undrawn, Running, Finishing, Committed, Forgotten, Ended, has_all, fate_after, decision_in, joins_of}
+use Rattle.alp_journal.specs.State.{State, opened}
+use Rattle.alp_journal.specs.Moves.{is_stop, stops, told, halted, next}
+use Rattle.alp_journal.specs.Laws.{Regains, StartsRight, is_written, IsStopped, TellsStop}
 use Rattle.alp_history.specs.Log.{Log, journal_of, opening_of, rank_at, state_at, final, IsIn}
 use Rattle.alp_history.specs.Theorems.{IsProper, IsDecided}
 use Rattle.alp_history.proofs.Places.{in-list, past-end, some-same, keeps-from}

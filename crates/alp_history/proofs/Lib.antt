@@ -1,5 +1,4 @@
 pub mod Places
-pub mod IdLemmas
 pub mod Fates
 pub mod Phases
 pub mod Origins

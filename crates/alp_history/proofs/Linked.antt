@@ -4,7 +4,6 @@ use Rattle.std.specs.List.{AllByRecursion}
 use Rattle.std.specs.FinMap.Entries.{put, find-put, is_sorted, is_sorted-put}
 use Rattle.std.specs.FinMap.Entries as entries
 use Rattle.std.specs.Ordering.{eq_by_cmp, is_eq}
-use Rattle.std.specs.Cmp.{IsTotalOrder, tied_itself}
 use Rattle.std.specs.declared.cmp.Ordering.{Ordering}
 use Rattle.std.specs.declared.cmp.Ordering.TheVariants.{Less, Equal, Greater}
 use Rattle.std.proofs.Common.{◌≡◌, ℕ, ◌+◌, ◌<◌, ◌≤◌, List, [], ◌∷◌, ◌++◌, refl, sym, ap, subst, ◌∙◌, arith, inl, inr, ◌⊎◌, eq-eqb}
@@ -12,35 +11,29 @@ use Rattle.std.proofs.lemmas.List.Folds.{list_any-append}
 use Rattle.alp_base.specs.declared.ids.JoinNo.{JoinNo}
 use Rattle.alp_base.specs.declared.ids.TransId.{TransId}
 use Rattle.alp_base.specs.declared.ids.Stamp.{Stamp}
-use Rattle.alp_base.specs.contracts.ids.StampOrd.TheImpl.Laws as stamp_laws
 use Rattle.alp_files.specs.Act.{no_opens}
 use Rattle.alp_files.specs.History.{Decided}
-use Rattle.alp_history.specs.Ids.{same_trans, same_join, has_join, has_server, stamp_cmp}
-use Rattle.alp_history.specs.Opening.{Start, ReadyNote, DecisionNote}
-use Rattle.alp_history.specs.Deeds.{Deed, Begins, Joins, Enters, Quits, Aborts, Grants, Performs, Releases, Readies, Applies, Registers, Finishes, Hears, Decides, Ends, Acknowledges, Forgets, Restarts}
-use Rattle.alp_history.specs.Coordinator.{Fate, Vote, Undrawn, Running, Finishing, Committed, Forgotten, Ended, begun, registered, finishing, heard, decided, ended, acknowledged, has_all, forgotten, restarted, fate_after, fate_noted, decision_in}
-use Rattle.alp_history.specs.Participant.{Phase, Unseen, Joining, Active, Ready, Applied, Over, phase_after, phase_noted}
-use Rattle.alp_history.specs.Participant as part
-use Rattle.alp_history.specs.Holder.{Life, emptied, is_part, lapsed, new_life, held_for, answer_in, after_done, with_life, grants, performs, readies, commits, if_ready, holder_after, early_life, lives_noted}
-use Rattle.alp_history.specs.State.{State, ids_after, state_deed, opened, joined_by}
-use Rattle.alp_history.specs.Moves.{next_join}
-use Rattle.alp_history.specs.Laws.{IsHolding}
+use Rattle.alp_journal.specs.Ids.{same_trans, same_join, has_join, has_server, stamp_cmp}
+use Rattle.alp_journal.proofs.StampLemmas.{stamps_total, itself}
+use Rattle.alp_journal.specs.Opening.{Start, ReadyNote, DecisionNote}
+use Rattle.alp_journal.specs.Deeds.{Deed, Begins, Joins, Enters, Quits, Aborts, Grants, Performs, Releases, Readies, Applies, Registers, Finishes, Hears, Decides, Ends, Acknowledges, Forgets, Restarts}
+use Rattle.alp_journal.specs.Coordinator.{Fate, Vote, Undrawn, Running, Finishing, Committed, Forgotten, Ended, begun, registered, finishing, heard, decided, ended, acknowledged, has_all, forgotten, restarted, fate_after, fate_noted, decision_in}
+use Rattle.alp_journal.specs.Participant.{Phase, Unseen, Joining, Active, Ready, Applied, Over, phase_after, phase_noted}
+use Rattle.alp_journal.specs.Participant as part
+use Rattle.alp_journal.specs.Holder.{Life, emptied, is_part, lapsed, new_life, held_for, answer_in, after_done, with_life, grants, performs, readies, commits, if_ready, holder_after, early_life, lives_noted}
+use Rattle.alp_journal.specs.State.{State, ids_after, state_deed, opened, joined_by}
+use Rattle.alp_journal.specs.Moves.{next_join}
+use Rattle.alp_journal.specs.Laws.{IsHolding}
 use Rattle.alp_history.specs.Holding.{HasNotVoted}
 use Rattle.alp_history.specs.Log.{Log, opening_of, IsIn, AreDistinct}
 use Rattle.alp_history.specs.Theorems.{IsProper}
 use Rattle.alp_history.proofs.Places.{some-same, all-in}
-use Rattle.alp_history.proofs.IdLemmas.{same_trans-true, same_join-true, same_trans-itself, or-true}
+use Rattle.alp_journal.proofs.IdLemmas.{same_trans-true, same_join-true, same_trans-itself, or-true}
 use Rattle.alp_history.proofs.Fates.{decision-stays}
 use Rattle.alp_history.proofs.Phases.{IsSeen, phase-cases}
 use Rattle.alp_history.proofs.Agreed.{WasDrawn, drawn-epoch, drawn-after, not-next, IsLater}
 
 -- ---- stamps
-
-pub stamps_total : IsTotalOrder stamp_cmp
-stamps_total = stamp_laws.total-law
-
-pub itself : (x : Stamp) → stamp_cmp x x ≡ Equal
-itself x = tied_itself stamps_total x
 
 -- the list has a transaction at the stamp
 abbrev pub HasKey : Stamp → List (Stamp × Decided) → Type 0

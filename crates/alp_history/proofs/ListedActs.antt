@@ -9,15 +9,15 @@ use Rattle.alp_journal.specs.declared.act.Act.{Act}
 use Rattle.alp_journal.specs.declared.act.Act.TheVariants as act
 use Rattle.alp_journal.specs.declared.event.Event.{Event}
 use Rattle.alp_journal.specs.declared.event.Event.TheVariants as event
-use Rattle.alp_history.specs.Along.{Along, state_after}
-use Rattle.alp_history.specs.Deeds.{Deed, Decides, Restarts}
-use Rattle.alp_history.specs.Coordinator.{Fate, decision_in, decided as decided_fate}
-use Rattle.alp_history.specs.State.{State, state_deed, ids_after}
-use Rattle.alp_history.specs.Moves.{event_deeds, act_deeds, done_deeds, tried, told, halted, next}
-use Rattle.alp_history.specs.Laws.{CountsOn, MayDecide, Regains}
+use Rattle.alp_journal.specs.Along.{Along, state_after}
+use Rattle.alp_journal.specs.Deeds.{Deed, Decides, Restarts}
+use Rattle.alp_journal.specs.Coordinator.{Fate, decision_in, decided as decided_fate}
+use Rattle.alp_journal.specs.State.{State, state_deed, ids_after}
+use Rattle.alp_journal.specs.Moves.{event_deeds, act_deeds, done_deeds, tried, told, halted, next}
+use Rattle.alp_journal.specs.Laws.{CountsOn, MayDecide, Regains}
 use Rattle.alp_history.specs.Log.{Log, journal_of, opening_of, state_at, IsIn, decided}
 use Rattle.alp_history.specs.Theorems.{IsProper, HasCommitted, ListsDecided}
-use Rattle.alp_history.proofs.IdLemmas.{same_trans-itself}
+use Rattle.alp_journal.proofs.IdLemmas.{same_trans-itself}
 use Rattle.alp_history.proofs.Places.{in-list}
 use Rattle.alp_history.proofs.Logs.{lawful-at, state-suc, server-stays}
 use Rattle.alp_history.proofs.Rights.{IsRightDeed, IsRightEntry}

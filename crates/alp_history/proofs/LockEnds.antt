@@ -10,18 +10,18 @@ use Rattle.alp_modes.specs.declared.Mode.{Mode}
 use Rattle.alp_modes.specs.Modes.{agree}
 use Rattle.alp_files.specs.Holdings.{Holding, DoAgree, IsIntended, mode_on, agree_held}
 use Rattle.alp_files.proofs.HoldingLemmas.{agreement-of-leaves}
-use Rattle.alp_history.specs.Ids.{same_trans, same_join, has_join, stamp_cmp}
-use Rattle.alp_history.specs.Opening.{ReadyNote}
-use Rattle.alp_history.specs.Deeds.{Deed}
-use Rattle.alp_history.specs.Coordinator.{Fate, Undrawn, Running, Finishing, Committed, Forgotten, Ended, decision_in}
-use Rattle.alp_history.specs.Participant.{Phase, Unseen, Joining, Active, Ready, Applied, Over, phase_noted}
-use Rattle.alp_history.specs.Holder.{Holder, Life}
-use Rattle.alp_history.specs.State.{State, state_deed}
+use Rattle.alp_journal.specs.Ids.{same_trans, same_join, has_join, stamp_cmp}
+use Rattle.alp_journal.specs.Opening.{ReadyNote}
+use Rattle.alp_journal.specs.Deeds.{Deed}
+use Rattle.alp_journal.specs.Coordinator.{Fate, Undrawn, Running, Finishing, Committed, Forgotten, Ended, decision_in}
+use Rattle.alp_journal.specs.Participant.{Phase, Unseen, Joining, Active, Ready, Applied, Over, phase_noted}
+use Rattle.alp_journal.specs.Holder.{Holder, Life}
+use Rattle.alp_journal.specs.State.{State, state_deed}
 use Rattle.alp_history.specs.Holding.{MayDo}
 use Rattle.alp_history.specs.Log.{Log, journal_of, opening_of, state_at, final, IsIn}
 use Rattle.alp_history.specs.Theorems.{IsProper, IsDecided, IsKept, mode_in, mode_at, EndsAt, GoesByLocks, GoesByTurns, Order}
 use Rattle.alp_history.proofs.Places.{in-list, some-same}
-use Rattle.alp_history.proofs.IdLemmas.{same_trans-true, same_trans-itself, same_join-true}
+use Rattle.alp_journal.proofs.IdLemmas.{same_trans-true, same_trans-itself, same_join-true}
 use Rattle.alp_history.proofs.Fates.{Decision, IsOver, IsBacked}
 use Rattle.alp_history.proofs.Phases.{IsSeen, IsTold}
 use Rattle.alp_history.proofs.HistoryOrder.{stamp_cmp-earlier}

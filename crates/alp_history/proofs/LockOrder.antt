@@ -4,19 +4,19 @@ use Rattle.std.proofs.Common.{◌≡◌, ℕ, ◌≤◌, List, [], ◌∷◌, �
 use Rattle.alp_base.specs.declared.ids.JoinNo.{JoinNo}
 use Rattle.alp_base.specs.declared.ids.TransId.{TransId}
 use Rattle.alp_base.specs.declared.ids.Stamp.{Stamp}
-use Rattle.alp_history.specs.Ids.{same_trans, same_join, has_server}
-use Rattle.alp_history.specs.Opening.{ReadyNote}
-use Rattle.alp_history.specs.Deeds.{Deed, Aborts, Begins, Joins, Enters, Grants, Performs, Readies, Applies, Decides, Restarts}
-use Rattle.alp_history.specs.Coordinator.{Fate, Undrawn, Running, Finishing, Committed, Forgotten, Ended, begun, has_all, fate_after}
-use Rattle.alp_history.specs.Participant.{Phase, Unseen, Joining, Active, Ready, Applied, Over, phase_after}
-use Rattle.alp_history.specs.Holder.{Holder, Life, holder_after}
-use Rattle.alp_history.specs.State.{State, state_deed}
-use Rattle.alp_history.specs.Moves.{next_trans}
+use Rattle.alp_journal.specs.Ids.{same_trans, same_join, has_server}
+use Rattle.alp_journal.specs.Opening.{ReadyNote}
+use Rattle.alp_journal.specs.Deeds.{Deed, Aborts, Begins, Joins, Enters, Grants, Performs, Readies, Applies, Decides, Restarts}
+use Rattle.alp_journal.specs.Coordinator.{Fate, Undrawn, Running, Finishing, Committed, Forgotten, Ended, begun, has_all, fate_after}
+use Rattle.alp_journal.specs.Participant.{Phase, Unseen, Joining, Active, Ready, Applied, Over, phase_after}
+use Rattle.alp_journal.specs.Holder.{Holder, Life, holder_after}
+use Rattle.alp_journal.specs.State.{State, state_deed}
+use Rattle.alp_journal.specs.Moves.{next_trans}
 use Rattle.alp_history.specs.Holding.{MayDo}
 use Rattle.alp_history.specs.Log.{Log, opening_of, IsIn}
 use Rattle.alp_history.specs.Theorems.{IsProper}
 use Rattle.alp_history.proofs.Places.{some-same}
-use Rattle.alp_history.proofs.IdLemmas.{same_trans-itself}
+use Rattle.alp_journal.proofs.IdLemmas.{same_trans-itself}
 use Rattle.alp_history.proofs.Fates.{fate-cases}
 use Rattle.alp_history.proofs.Linked.{IsLinkedUp, HasPart}
 use Rattle.alp_history.proofs.Turned.{is_left, Began}

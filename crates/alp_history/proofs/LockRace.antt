@@ -8,23 +8,23 @@ use Rattle.alp_base.specs.declared.ids.Stamp.{Stamp}
 use Rattle.alp_files.specs.Holdings.{Holding, DoAgree}
 use Rattle.alp_files.specs.Locks.{needs_of, request_of, needs_made}
 use Rattle.alp_files.specs.Act.{id_in}
-use Rattle.alp_history.specs.Ids.{same_trans, has_server}
-use Rattle.alp_history.specs.Deeds.{Deed, Begins, Enters, Releases, Readies, Applies, Decides, Restarts}
-use Rattle.alp_history.specs.Coordinator.{Fate, Undrawn, Running, Finishing, Committed, Forgotten, Ended, has_all, is_running, fate_after, decision_in}
-use Rattle.alp_history.specs.Participant.{Phase, Unseen, Joining, Active, Ready, Applied, Over, phase_after}
-use Rattle.alp_history.specs.Holder.{Holder, Life, view_in, new_life, held_for, after_done, answer_in, if_ready, holder_after}
-use Rattle.alp_history.specs.State.{State, state_deed}
-use Rattle.alp_history.specs.Laws.{IsHolding, IsOpenPart}
+use Rattle.alp_journal.specs.Ids.{same_trans, has_server}
+use Rattle.alp_journal.specs.Deeds.{Deed, Begins, Enters, Releases, Readies, Applies, Decides, Restarts}
+use Rattle.alp_journal.specs.Coordinator.{Fate, Undrawn, Running, Finishing, Committed, Forgotten, Ended, has_all, is_running, fate_after, decision_in}
+use Rattle.alp_journal.specs.Participant.{Phase, Unseen, Joining, Active, Ready, Applied, Over, phase_after}
+use Rattle.alp_journal.specs.Holder.{Holder, Life, view_in, new_life, held_for, after_done, answer_in, if_ready, holder_after}
+use Rattle.alp_journal.specs.State.{State, state_deed}
+use Rattle.alp_journal.specs.Laws.{IsHolding, IsOpenPart}
 use Rattle.alp_history.specs.Holding.{MayDo}
 use Rattle.alp_history.specs.Log.{Log}
 use Rattle.alp_history.specs.Theorems.{IsProper}
 use Rattle.alp_history.proofs.Places.{some-same}
-use Rattle.alp_history.proofs.IdLemmas.{same_trans-true, same_trans-itself}
+use Rattle.alp_journal.proofs.IdLemmas.{same_trans-true, same_trans-itself}
 use Rattle.alp_history.proofs.Fates.{fate-cases, decision-stays, IsOver, over-stays}
 use Rattle.alp_history.proofs.Linked.{IsLinkedUp}
 use Rattle.alp_history.proofs.Turned.{is_left, Began}
 use Rattle.alp_history.proofs.OneServer.{IsHeld}
-use Rattle.alp_history.specs.Moves.{next_trans}
+use Rattle.alp_journal.specs.Moves.{next_trans}
 use Rattle.alp_history.proofs.BegunOrder.{beyond-next}
 use Rattle.alp_history.proofs.HeldAlong.{Knows, IsSameCore}
 use Rattle.alp_history.proofs.LifeMoves.{Covers, covers-joined, agrees-none, left_of, life-cases, ready-was, kept-grows, phase-moves, applied-keeps, over-keeps}

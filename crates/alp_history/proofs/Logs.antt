@@ -11,13 +11,13 @@ use Rattle.alp_files.specs.History.{PerformedCall}
 use Rattle.alp_journal.specs.declared.act.Act.TheVariants as act
 use Rattle.alp_journal.specs.declared.message.Message.{Message}
 use Rattle.alp_journal.specs.declared.entry.Entry.{Entry}
-use Rattle.alp_history.specs.Along.{state_after}
-use Rattle.alp_history.specs.Deeds.{Deed, Begins, Joins, Enters, Quits, Aborts, Grants, Performs, Releases, Readies, Applies, Registers, Finishes, Hears, Decides, Ends, Acknowledges, Forgets, Restarts}
-use Rattle.alp_history.specs.Holder.{Holder, Life, holder_after, grants, performs, readies, commits}
-use Rattle.alp_history.specs.Desk.{Desk}
-use Rattle.alp_history.specs.State.{State, state_deed, opened}
-use Rattle.alp_history.specs.Moves.{next}
-use Rattle.alp_history.specs.Laws.{IsLawfulEntry, SaysRight, MaySay}
+use Rattle.alp_journal.specs.Along.{state_after}
+use Rattle.alp_journal.specs.Deeds.{Deed, Begins, Joins, Enters, Quits, Aborts, Grants, Performs, Releases, Readies, Applies, Registers, Finishes, Hears, Decides, Ends, Acknowledges, Forgets, Restarts}
+use Rattle.alp_journal.specs.Holder.{Holder, Life, holder_after, grants, performs, readies, commits}
+use Rattle.alp_journal.specs.Desk.{Desk}
+use Rattle.alp_journal.specs.State.{State, state_deed, opened}
+use Rattle.alp_journal.specs.Moves.{next}
+use Rattle.alp_journal.specs.Laws.{IsLawfulEntry, SaysRight, MaySay}
 use Rattle.alp_history.specs.Log.{ServerLog, Log, nobody, journal_of, opening_of, rank_at, state_at, final, WasSent, IsLinked, AreLawful}
 use Rattle.alp_history.proofs.Places.{at-suc, along-at, keeps-from, take-all, all-in}
 use Rattle.alp_history.proofs.Origins.{IsFrom}

@@ -19,17 +19,17 @@ use Rattle.alp_files.specs.Apart.{after_part}
 use Rattle.alp_files.specs.History.{PerformedCall, Decided, Standing, steps, begun, starting}
 use Rattle.alp_files.specs.History as one
 use Rattle.alp_files.proofs.SoundLemmas.{end_sound}
-use Rattle.alp_history.specs.Ids.{same_join, has_join, has_server, stamp_cmp}
-use Rattle.alp_history.specs.Opening.{DecisionNote}
-use Rattle.alp_history.specs.Coordinator.{decision_in}
-use Rattle.alp_history.specs.Participant.{Phase, Unseen, Joining, Active, Ready, Applied, Over, is_ready}
-use Rattle.alp_history.specs.Holder.{Holder, Life}
-use Rattle.alp_history.specs.State.{State}
-use Rattle.alp_history.specs.Laws.{IsHolding}
+use Rattle.alp_journal.specs.Ids.{same_join, has_join, has_server, stamp_cmp}
+use Rattle.alp_journal.specs.Opening.{DecisionNote}
+use Rattle.alp_journal.specs.Coordinator.{decision_in}
+use Rattle.alp_journal.specs.Participant.{Phase, Unseen, Joining, Active, Ready, Applied, Over, is_ready}
+use Rattle.alp_journal.specs.Holder.{Holder, Life}
+use Rattle.alp_journal.specs.State.{State}
+use Rattle.alp_journal.specs.Laws.{IsHolding}
 use Rattle.alp_history.specs.Log.{Log, opening_of, final, IsIn, noted, is_noted, Decision, decided, start_of, finish_of, Share, share_at, of_life, shares_on, servers_in, shares_of, Standings, after_shares, IsChargedAfterEach, starting_all, edits_in, takes_part, left_in, left_there}
 use Rattle.alp_history.specs.Theorems.{IsProper, HasCommitted, IsKept, IsOneThread, History}
 use Rattle.alp_history.proofs.Places.{some-same, all-in}
-use Rattle.alp_history.proofs.IdLemmas.{or-true}
+use Rattle.alp_journal.proofs.IdLemmas.{or-true}
 use Rattle.alp_history.proofs.Phases.{IsSeen}
 use Rattle.alp_history.proofs.Agreed.{committed-parts, applied-committed, kept}
 use Rattle.alp_history.proofs.LeftBehind.{left_along}
@@ -38,7 +38,8 @@ use Rattle.alp_history.proofs.OneServer.{in_order, one_thread, rebase}
 use Rattle.alp_history.proofs.Votes.{joined-server}
 use Rattle.alp_history.specs.Holding.{IsNewStamp}
 use Rattle.alp_history.proofs.Starts.{held-none}
-use Rattle.alp_history.proofs.Linked.{in-left, IsAway, same_join-self, stamps_total, itself, IsYoung, HasPart, IsKeptAt, IsTied}
+use Rattle.alp_journal.proofs.StampLemmas.{stamps_total, itself}
+use Rattle.alp_history.proofs.Linked.{in-left, IsAway, same_join-self, IsYoung, HasPart, IsKeptAt, IsTied}
 use Rattle.alp_history.proofs.Turned.{is_left, Began, began-same, in-flat, flat-in, any-in}
 use Rattle.alp_history.proofs.HeldAlong.{exact_stamps}
 use Rattle.alp_history.proofs.EachServer.{along-end}

@@ -6,16 +6,16 @@ use Rattle.std.proofs.lemmas.Bool.{and_parts}
 use Rattle.alp_base.specs.declared.ids.JoinNo.{JoinNo}
 use Rattle.alp_base.specs.declared.ids.TransId.{TransId}
 use Rattle.alp_journal.specs.declared.entry.Entry.{Entry}
-use Rattle.alp_history.specs.Along.{state_after}
-use Rattle.alp_history.specs.Ids.{same_trans, same_join, has_join}
-use Rattle.alp_history.specs.Deeds.{Deed, Begins, Joins, Enters, Quits, Aborts, Grants, Performs, Releases, Readies, Applies, Registers, Finishes, Hears, Decides, Ends, Acknowledges, Forgets, Restarts}
-use Rattle.alp_history.specs.Coordinator.{Fate, Undrawn, fate_after, begun, registered, finishing, heard, decided, ended, acknowledged, forgotten}
-use Rattle.alp_history.specs.Participant.{Phase, Unseen, phase_after, drawn, entered, readied, applied, quit, aborted}
-use Rattle.alp_history.specs.Holder.{Life, holder_after, grants, performs, readies, commits, lapsed, if_ready, new_life, held_for, after_done, answer_in, emptied}
-use Rattle.alp_history.specs.State.{State, state_deed}
-use Rattle.alp_history.specs.Moves.{stops, tried, told, halted, next}
-use Rattle.alp_history.specs.Laws.{DoLivesAgree}
-use Rattle.alp_history.proofs.IdLemmas.{same_trans-true, same_join-true, same_trans-itself, or-true}
+use Rattle.alp_journal.specs.Along.{state_after}
+use Rattle.alp_journal.specs.Ids.{same_trans, same_join, has_join}
+use Rattle.alp_journal.specs.Deeds.{Deed, Begins, Joins, Enters, Quits, Aborts, Grants, Performs, Releases, Readies, Applies, Registers, Finishes, Hears, Decides, Ends, Acknowledges, Forgets, Restarts}
+use Rattle.alp_journal.specs.Coordinator.{Fate, Undrawn, fate_after, begun, registered, finishing, heard, decided, ended, acknowledged, forgotten}
+use Rattle.alp_journal.specs.Participant.{Phase, Unseen, phase_after, drawn, entered, readied, applied, quit, aborted}
+use Rattle.alp_journal.specs.Holder.{Life, holder_after, grants, performs, readies, commits, lapsed, if_ready, new_life, held_for, after_done, answer_in, emptied}
+use Rattle.alp_journal.specs.State.{State, state_deed}
+use Rattle.alp_journal.specs.Moves.{stops, tried, told, halted, next}
+use Rattle.alp_journal.specs.Laws.{DoLivesAgree}
+use Rattle.alp_journal.proofs.IdLemmas.{same_trans-true, same_join-true, same_trans-itself, or-true}
 
 abbrev pub has_trans : TransId → List TransId → Bool
 has_trans t ts = list_any (λ u. same_trans u t) ts

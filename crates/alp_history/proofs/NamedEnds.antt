@@ -6,13 +6,13 @@ use Rattle.std.proofs.lemmas.Bool.{and_parts}
 use Rattle.alp_base.specs.declared.ids.JoinNo.{JoinNo}
 use Rattle.alp_base.specs.declared.ids.TransId.{TransId}
 use Rattle.alp_base.specs.declared.ids.Stamp.{Stamp}
-use Rattle.alp_history.specs.Ids.{same_trans, same_join, same_stamp, has_join, has_stamp}
-use Rattle.alp_history.specs.Participant.{is_ready}
-use Rattle.alp_history.specs.Holder.{Life}
-use Rattle.alp_history.specs.Desk.{Waiting, file_trans}
-use Rattle.alp_history.specs.State.{State}
-use Rattle.alp_history.specs.Laws.{IsHolding, is_standing}
-use Rattle.alp_history.proofs.IdLemmas.{same_trans-true, same_join-true, or-true, all-each}
+use Rattle.alp_journal.specs.Ids.{same_trans, same_join, same_stamp, has_join, has_stamp}
+use Rattle.alp_journal.specs.Participant.{is_ready}
+use Rattle.alp_journal.specs.Holder.{Life}
+use Rattle.alp_journal.specs.Desk.{Waiting, file_trans}
+use Rattle.alp_journal.specs.State.{State}
+use Rattle.alp_journal.specs.Laws.{IsHolding, is_standing}
+use Rattle.alp_journal.proofs.IdLemmas.{same_trans-true, same_join-true, or-true, all-each}
 use Rattle.alp_history.proofs.Named.{Only, has_trans}
 
 -- a part that did not vote

@@ -19,16 +19,16 @@ use Rattle.alp_journal.specs.declared.event.Event.{Event}
 use Rattle.alp_journal.specs.declared.event.Event.TheVariants as event
 use Rattle.alp_journal.specs.declared.message.Message.{Message}
 use Rattle.alp_journal.specs.declared.message.Message.TheVariants as msg
-use Rattle.alp_history.specs.Ids.{same_trans, has_join}
-use Rattle.alp_history.specs.Deeds.{Deed, Begins, Joins, Enters, Quits, Aborts, Grants, Performs, Releases, Readies, Applies, Registers, Finishes, Hears, Decides, Ends, Acknowledges, Restarts}
-use Rattle.alp_history.specs.Coordinator.{Fate, Running, Finishing, Committed, client_of}
-use Rattle.alp_history.specs.Participant.{Phase, Joining, live_in, open_in}
-use Rattle.alp_history.specs.Holder.{Life}
-use Rattle.alp_history.specs.Desk.{Desk, file_trans, is_not_yet, waiting_of}
-use Rattle.alp_history.specs.State.{State, has_part}
-use Rattle.alp_history.specs.Moves.{is_new, joins_here, ends_by, finishes, call_deeds, abort_in, no_in, first_sent, ends_for, quits_for, enters, refused_join, if_its, hears, refuses, acknowledges, message_deeds, times_out_here, times_out_join, event_deeds, asks_for, grants_to, begins_at, act_deeds, answered, is_of_no_file, done_by, done_of, done_deeds, next_join, principal}
-use Rattle.alp_history.specs.Laws.{regained_by}
-use Rattle.alp_history.proofs.IdLemmas.{all-append}
+use Rattle.alp_journal.specs.Ids.{same_trans, has_join}
+use Rattle.alp_journal.specs.Deeds.{Deed, Begins, Joins, Enters, Quits, Aborts, Grants, Performs, Releases, Readies, Applies, Registers, Finishes, Hears, Decides, Ends, Acknowledges, Restarts}
+use Rattle.alp_journal.specs.Coordinator.{Fate, Running, Finishing, Committed, client_of}
+use Rattle.alp_journal.specs.Participant.{Phase, Joining, live_in, open_in}
+use Rattle.alp_journal.specs.Holder.{Life}
+use Rattle.alp_journal.specs.Desk.{Desk, file_trans, is_not_yet, waiting_of}
+use Rattle.alp_journal.specs.State.{State, has_part}
+use Rattle.alp_journal.specs.Moves.{is_new, joins_here, ends_by, finishes, call_deeds, abort_in, no_in, first_sent, ends_for, quits_for, enters, refused_join, if_its, hears, refuses, acknowledges, message_deeds, times_out_here, times_out_join, event_deeds, asks_for, grants_to, begins_at, act_deeds, answered, is_of_no_file, done_by, done_of, done_deeds, next_join, principal}
+use Rattle.alp_journal.specs.Laws.{regained_by}
+use Rattle.alp_journal.proofs.IdLemmas.{all-append}
 
 pub all-flat : {A B : Type 0} (P : B → Type 0) (f : A → List B) (xs : List A) → ((x : A) → AllByRecursion P (f x)) → AllByRecursion P (flat_map f xs)
 all-flat P f [] h = tt

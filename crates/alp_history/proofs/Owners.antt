@@ -13,7 +13,7 @@ use Rattle.alp_files.specs.declared.call.Call.TheVariants as call
 use Rattle.alp_files.specs.Cells.{owner_in}
 use Rattle.alp_files.specs.Edits.{Put}
 use Rattle.alp_files.specs.Act.{no_opens, Answer, unless, refused, replied, is_admin}
-use Rattle.alp_history.specs.Holder.{Holder, Life, answer_in}
+use Rattle.alp_journal.specs.Holder.{Holder, Life, answer_in}
 use Rattle.alp_history.specs.RightLog.{owner_with, set_done, found_done}
 use Rattle.alp_history.specs.RightJournals.{made_done, missed_done}
 use Rattle.alp_history.proofs.Quotas.{ann, IsFresh, answer_fresh, set_with, read_with}

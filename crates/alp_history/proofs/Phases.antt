@@ -4,10 +4,10 @@ use Rattle.std.proofs.Common.{◌≡◌, ℕ, List, refl, sym, ap, subst, ◌∙
 use Rattle.alp_base.specs.declared.ids.JoinNo.{JoinNo}
 use Rattle.alp_base.specs.declared.ids.TransId.{TransId}
 use Rattle.alp_base.specs.declared.ids.Stamp.{Stamp}
-use Rattle.alp_history.specs.Ids.{same_trans, same_join}
-use Rattle.alp_history.specs.Deeds.{Deed, Begins, Joins, Enters, Quits, Aborts, Grants, Performs, Releases, Readies, Applies, Registers, Finishes, Hears, Decides, Ends, Acknowledges, Forgets, Restarts}
-use Rattle.alp_history.specs.Participant.{Phase, Unseen, Joining, Active, Ready, Applied, Over, drawn, entered, readied, applied, quit, aborted, restarted, phase_after, live_in}
-use Rattle.alp_history.proofs.IdLemmas.{same_trans-true, same_join-true}
+use Rattle.alp_journal.specs.Ids.{same_trans, same_join}
+use Rattle.alp_journal.specs.Deeds.{Deed, Begins, Joins, Enters, Quits, Aborts, Grants, Performs, Releases, Readies, Applies, Registers, Finishes, Hears, Decides, Ends, Acknowledges, Forgets, Restarts}
+use Rattle.alp_journal.specs.Participant.{Phase, Unseen, Joining, Active, Ready, Applied, Over, drawn, entered, readied, applied, quit, aborted, restarted, phase_after, live_in}
+use Rattle.alp_journal.proofs.IdLemmas.{same_trans-true, same_join-true}
 
 -- each deed leaves a phase or moves it once
 pub phase-cases : (P : Phase → Type 0) (d : Deed) (j : JoinNo) (p : Phase) → P p

@@ -2,7 +2,7 @@
 use Rattle.std.proofs.Common.{◌≡◌, ℕ, zero, suc, ◌<◌, ◌≤◌, List, [], ◌∷◌, ◌++◌, take, slice_get, length, refl, sym, ap, subst, ◌∙◌, Option, Some, None, arith, inl, inr}
 use Rattle.std.proofs.Math.Nat.{eq-or-lt_of_le}
 use Rattle.std.specs.List.{AllByRecursion}
-use Rattle.alp_history.specs.Along.{state_after, Along}
+use Rattle.alp_journal.specs.Along.{state_after, Along}
 use Rattle.alp_history.specs.Log.{IsIn}
 
 pub some-same : {A : Type 0} (x y : A) → Some x ≡ Some y → x ≡ y

@@ -19,15 +19,15 @@ use Rattle.alp_files.specs.History.{PerformedCall}
 use Rattle.alp_journal.specs.declared.event.Event.{Event}
 use Rattle.alp_journal.specs.declared.event.Event.TheVariants as event
 use Rattle.alp_journal.specs.declared.entry.Entry.{Entry}
-use Rattle.alp_history.specs.Along.{Where}
-use Rattle.alp_history.specs.Ids.{stamp_cmp}
-use Rattle.alp_history.specs.Desk.{Session}
-use Rattle.alp_history.specs.State.{State, state_deed}
-use Rattle.alp_history.specs.Moves.{is_new, follows, next}
-use Rattle.alp_history.specs.Laws.{Repeats, Greets, CallsOn, KeepsSessions, TellsIn, TellsDecided, Outcomes, ending_of}
-use Rattle.alp_history.specs.Deeds.{Deed, Begins, Joins, Enters, Quits, Aborts, Grants, Performs, Releases, Readies, Applies, Registers, Finishes, Hears, Decides, Ends, Acknowledges, Forgets, Restarts}
-use Rattle.alp_history.specs.Coordinator.{decision_in, joins_of}
-use Rattle.alp_history.specs.Holder.{Life, grants, performs, readies, commits}
+use Rattle.alp_journal.specs.Along.{Where}
+use Rattle.alp_journal.specs.Ids.{stamp_cmp}
+use Rattle.alp_journal.specs.Desk.{Session}
+use Rattle.alp_journal.specs.State.{State, state_deed}
+use Rattle.alp_journal.specs.Moves.{is_new, follows, next}
+use Rattle.alp_journal.specs.Laws.{Repeats, Greets, CallsOn, KeepsSessions, TellsIn, TellsDecided, Outcomes, ending_of}
+use Rattle.alp_journal.specs.Deeds.{Deed, Begins, Joins, Enters, Quits, Aborts, Grants, Performs, Releases, Readies, Applies, Registers, Finishes, Hears, Decides, Ends, Acknowledges, Forgets, Restarts}
+use Rattle.alp_journal.specs.Coordinator.{decision_in, joins_of}
+use Rattle.alp_journal.specs.Holder.{Life, grants, performs, readies, commits}
 use Rattle.alp_history.specs.Log.{Log, Decision, opening_of, journal_of, state_at, final, decided, IsIn}
 use Rattle.alp_history.specs.Handed.{Mark, Own, Repeated, Raw, Sent, Item, Handed, IsRaw, stamps_in, stamps_by, stamps_told, IsOfEntry, IsOfNone, IsOfPlace, IsNoGreeting, IsBefore, IsOfRaw, IsOfRunBy, AreOfClients, IsDecidedStamp, ArePromisesKept, HaveSeen, HasSeen, HasSeenIn, HasSeenBy, IsOwn, IsOfRun, BeginAbove, BeginsAbove, IsAbove}
 use Rattle.alp_history.specs.Theorems.{IsProper, HasCommitted, Promises}

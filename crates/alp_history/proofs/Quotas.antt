@@ -22,7 +22,7 @@ use Rattle.alp_files.specs.Apart.{AreSized, IsSized}
 use Rattle.alp_files.proofs.SoundEdits.{sound-owner, uncharged}
 use Rattle.alp_files.proofs.SoundLemmas.{empty_sound}
 use Rattle.alp_history.proofs.Places.{some-same}
-use Rattle.alp_history.specs.Holder.{Holder, Life, answer_in}
+use Rattle.alp_journal.specs.Holder.{Holder, Life, answer_in}
 use Rattle.alp_history.specs.RightLog.{owner_with, with_quota}
 
 abbrev pub ann : Key

@@ -5,10 +5,10 @@ use Rattle.alp_base.specs.declared.ids.JoinNo.{JoinNo}
 use Rattle.alp_base.specs.declared.ids.TransId.{TransId}
 use Rattle.alp_journal.specs.declared.event.Event.{Event}
 use Rattle.alp_journal.specs.declared.entry.Entry.{Entry}
-use Rattle.alp_history.specs.Deeds.{Ends}
-use Rattle.alp_history.specs.State.{State, opened}
-use Rattle.alp_history.specs.Moves.{next}
-use Rattle.alp_history.specs.Laws.{IsLawfulEntry, IsLawful}
+use Rattle.alp_journal.specs.Deeds.{Ends}
+use Rattle.alp_journal.specs.State.{State, opened}
+use Rattle.alp_journal.specs.Moves.{next}
+use Rattle.alp_journal.specs.Laws.{IsLawfulEntry, IsLawful}
 use Rattle.alp_history.specs.Examples.{trans, join, new}
 use Rattle.alp_history.specs.RightJournals.{hello, rejoined_one}
 use Rattle.alp_history.proofs.Named.{Only, only_next, alone}

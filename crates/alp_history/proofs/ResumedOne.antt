@@ -5,11 +5,11 @@ use Rattle.alp_base.specs.declared.ids.JoinNo.{JoinNo}
 use Rattle.alp_base.specs.declared.ids.TransId.{TransId}
 use Rattle.alp_journal.specs.declared.event.Event.{Event}
 use Rattle.alp_journal.specs.declared.entry.Entry.{Entry}
-use Rattle.alp_history.specs.Deeds.{Acknowledges}
-use Rattle.alp_history.specs.Coordinator.{Committed, Undrawn}
-use Rattle.alp_history.specs.State.{State, opened, state_deed}
-use Rattle.alp_history.specs.Moves.{next}
-use Rattle.alp_history.specs.Laws.{IsLawfulEntry, IsLawful}
+use Rattle.alp_journal.specs.Deeds.{Acknowledges}
+use Rattle.alp_journal.specs.Coordinator.{Committed, Undrawn}
+use Rattle.alp_journal.specs.State.{State, opened, state_deed}
+use Rattle.alp_journal.specs.Moves.{next}
+use Rattle.alp_journal.specs.Laws.{IsLawfulEntry, IsLawful}
 use Rattle.alp_history.specs.Examples.{trans, join, stamp}
 use Rattle.alp_history.specs.RightJournals.{hello}
 use Rattle.alp_history.specs.ResumedLog.{opening_one, resumed_one}

@@ -12,18 +12,18 @@ use Rattle.alp_files.specs.Apart.{AreSized, IsWithin}
 use Rattle.alp_files.proofs.SoundLemmas.{empty_sound}
 use Rattle.alp_journal.specs.declared.message.Message.TheVariants as msg
 use Rattle.alp_journal.specs.declared.entry.Entry.{Entry}
-use Rattle.alp_history.specs.Along.{state_after}
-use Rattle.alp_history.specs.Ids.{same_trans, same_join, has_join}
-use Rattle.alp_history.specs.Opening.{ReadyNote, DecisionNote}
-use Rattle.alp_history.specs.State.{opened}
-use Rattle.alp_history.specs.Moves.{next}
-use Rattle.alp_history.specs.Laws.{IsLawful}
+use Rattle.alp_journal.specs.Along.{state_after}
+use Rattle.alp_journal.specs.Ids.{same_trans, same_join, has_join}
+use Rattle.alp_journal.specs.Opening.{ReadyNote, DecisionNote}
+use Rattle.alp_journal.specs.State.{opened}
+use Rattle.alp_journal.specs.Moves.{next}
+use Rattle.alp_journal.specs.Laws.{IsLawful}
 use Rattle.alp_history.specs.Log.{ServerLog, of, opening_of, held, is_noted, is_decided_in, noted, IsIn, AreDifferent, AreDistinct, AreLawful, IsSoundNote, IsSoundDecision, IsSoundOpening, IsLinked}
 use Rattle.alp_history.specs.Theorems.{IsProper}
 use Rattle.alp_history.specs.Examples.{trans, join, stamp}
 use Rattle.alp_history.specs.RightLog.{with_quota, hello}
 use Rattle.alp_history.specs.ResumedLog.{left_decided, left_ready, opening_two, resumed_one, resumed_two, goes_on_one, goes_on_two, resumed, IsShownResumed}
-use Rattle.alp_history.proofs.IdLemmas.{same_join-true, or-true}
+use Rattle.alp_journal.proofs.IdLemmas.{same_join-true, or-true}
 use Rattle.alp_history.proofs.Quotas.{quota_sound, quota_sized, none_sized, put_quota}
 use Rattle.alp_history.proofs.LinkLemmas.{WasSentTo, AllRanked, sent_at, each_both, links_both}
 use Rattle.alp_history.proofs.ResumedOne.{lawful as one_lawful}

@@ -12,14 +12,14 @@ use Rattle.alp_files.specs.Act.{Answer, no_opens, replied}
 use Rattle.alp_files.proofs.CoverLemmas.{granted-holds}
 use Rattle.alp_journal.specs.declared.event.Event.{Event}
 use Rattle.alp_journal.specs.declared.entry.Entry.{Entry}
-use Rattle.alp_history.specs.Along.{Along, state_after}
-use Rattle.alp_history.specs.Deeds.{Grants, Decides, Applies, Finishes}
-use Rattle.alp_history.specs.Participant.{Ready, Unseen}
-use Rattle.alp_history.specs.Holder.{no_locks, answer_in, early_life}
-use Rattle.alp_history.specs.Desk.{waiting_of}
-use Rattle.alp_history.specs.State.{State, opened, state_deed}
-use Rattle.alp_history.specs.Moves.{next}
-use Rattle.alp_history.specs.Laws.{IsLawfulEntry, IsLawful, DoLivesAgree}
+use Rattle.alp_journal.specs.Along.{Along, state_after}
+use Rattle.alp_journal.specs.Deeds.{Grants, Decides, Applies, Finishes}
+use Rattle.alp_journal.specs.Participant.{Ready, Unseen}
+use Rattle.alp_journal.specs.Holder.{no_locks, answer_in, early_life}
+use Rattle.alp_journal.specs.Desk.{waiting_of}
+use Rattle.alp_journal.specs.State.{State, opened, state_deed}
+use Rattle.alp_journal.specs.Moves.{next}
+use Rattle.alp_journal.specs.Laws.{IsLawfulEntry, IsLawful, DoLivesAgree}
 use Rattle.alp_history.specs.Examples.{trans, join, stamp}
 use Rattle.alp_history.specs.RightLog.{owner_with, with_quota, reads, found_done, does}
 use Rattle.alp_history.specs.RightJournals.{hello, afterwards}

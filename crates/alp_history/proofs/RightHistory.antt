@@ -2,10 +2,10 @@
 use Rattle.std.specs.Prelude.{List, [], Bool}
 use Rattle.std.proofs.Common.{◌≡◌, refl, ap, ◌∙◌}
 use Rattle.alp_base.specs.declared.ids.JoinNo.{JoinNo}
-use Rattle.alp_history.specs.Along.{state_after}
-use Rattle.alp_history.specs.Opening.{ReadyNote}
-use Rattle.alp_history.specs.State.{State, opened}
-use Rattle.alp_history.specs.Moves.{next}
+use Rattle.alp_journal.specs.Along.{state_after}
+use Rattle.alp_journal.specs.Opening.{ReadyNote}
+use Rattle.alp_journal.specs.State.{State, opened}
+use Rattle.alp_journal.specs.Moves.{next}
 use Rattle.alp_history.specs.Log.{held, ready_in, is_decided_in}
 use Rattle.alp_history.specs.RightLog.{opening, one, two, right, IsHistoryOfRight}
 use Rattle.alp_history.proofs.RightOne.{cells_last as one_last}

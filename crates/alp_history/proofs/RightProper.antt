@@ -8,9 +8,9 @@ use Rattle.alp_files.specs.Apart.{AreSized}
 use Rattle.alp_files.proofs.SoundLemmas.{empty_sound}
 use Rattle.alp_journal.specs.declared.message.Message.TheVariants as msg
 use Rattle.alp_journal.specs.declared.entry.Entry.{Entry}
-use Rattle.alp_history.specs.Ids.{same_trans}
-use Rattle.alp_history.specs.Opening.{ReadyNote, DecisionNote}
-use Rattle.alp_history.specs.Laws.{IsLawful}
+use Rattle.alp_journal.specs.Ids.{same_trans}
+use Rattle.alp_journal.specs.Opening.{ReadyNote, DecisionNote}
+use Rattle.alp_journal.specs.Laws.{IsLawful}
 use Rattle.alp_history.specs.Log.{ServerLog, of, held, is_noted, IsIn, AreDifferent, AreDistinct, AreLawful, IsSoundNote, IsSoundDecision, IsSoundOpening, IsLinked}
 use Rattle.alp_history.specs.Theorems.{IsProper}
 use Rattle.alp_history.specs.Examples.{trans, join, stamp}

@@ -14,12 +14,12 @@ use Rattle.alp_files.specs.Act.{Answer, no_opens, replied}
 use Rattle.alp_files.proofs.CoverLemmas.{granted-holds}
 use Rattle.alp_journal.specs.declared.event.Event.{Event}
 use Rattle.alp_journal.specs.declared.entry.Entry.{Entry}
-use Rattle.alp_history.specs.Along.{Along, state_after}
-use Rattle.alp_history.specs.Deeds.{Grants, Hears, Decides, Applies, Acknowledges}
-use Rattle.alp_history.specs.Holder.{no_locks, answer_in}
-use Rattle.alp_history.specs.State.{State, opened, state_deed}
-use Rattle.alp_history.specs.Moves.{next}
-use Rattle.alp_history.specs.Laws.{IsLawfulEntry, IsLawful, DoLivesAgree}
+use Rattle.alp_journal.specs.Along.{Along, state_after}
+use Rattle.alp_journal.specs.Deeds.{Grants, Hears, Decides, Applies, Acknowledges}
+use Rattle.alp_journal.specs.Holder.{no_locks, answer_in}
+use Rattle.alp_journal.specs.State.{State, opened, state_deed}
+use Rattle.alp_journal.specs.Moves.{next}
+use Rattle.alp_journal.specs.Laws.{IsLawfulEntry, IsLawful, DoLivesAgree}
 use Rattle.alp_history.specs.Examples.{trans, join, stamp}
 use Rattle.alp_history.specs.RightLog.{owner_with, with_quota, opening, second, second_join, second_stamp, sets, hello, set_done, two}
 use Rattle.alp_history.proofs.Worked.{life_at}
@@ -28,7 +28,7 @@ use Rattle.alp_history.proofs.Owners.{set}
 use Rattle.alp_history.proofs.Steps.{lives_there, performed, closed, call_next}
 use Rattle.alp_history.proofs.Named.{Only, only_deed, only_next, alone}
 use Rattle.alp_history.proofs.NamedEnds.{ready_found, stamps_found, no_file_call}
-use Rattle.alp_history.specs.Desk.{waiting_of}
+use Rattle.alp_journal.specs.Desk.{waiting_of}
 use Rattle.alp_history.proofs.LawfulDeeds.{begins, joins, enters, readies, applies, registers, finishes, hears, decides, acknowledges, forgets}
 use Rattle.alp_history.proofs.LawfulEntries.{by_laws, call_alone, then_released}
 use Rattle.alp_files.specs.declared.cell.Cell.TheVariants as cell

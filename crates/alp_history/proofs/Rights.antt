@@ -15,15 +15,15 @@ use Rattle.alp_journal.specs.declared.event.Event.TheVariants as event
 use Rattle.alp_journal.specs.declared.message.Message.{Message}
 use Rattle.alp_journal.specs.declared.message.Message.TheVariants as msg
 use Rattle.alp_journal.specs.declared.entry.Entry.{Entry}
-use Rattle.alp_history.specs.Along.{Along}
-use Rattle.alp_history.specs.Ids.{same_trans}
-use Rattle.alp_history.specs.Deeds.{Deed, Begins, Joins, Enters, Quits, Aborts, Grants, Performs, Releases, Readies, Applies, Registers, Finishes, Hears, Decides, Ends, Acknowledges, Forgets, Restarts}
-use Rattle.alp_history.specs.Participant.{Phase, Unseen, Joining, Active, Ready, Applied, Over}
-use Rattle.alp_history.specs.Holder.{Life}
-use Rattle.alp_history.specs.State.{State, state_deed}
-use Rattle.alp_history.specs.Moves.{enters, act_deeds, tried, next, asks_for, grants_to}
-use Rattle.alp_history.specs.Laws.{DrawsAsTold, CountsOn, KeepsSessions, SeesView, DoLivesAgree, KeepsLocks, IsOpenPart, IsOfOpenPart, LetsGo, RegistersOnce, VotesOnce, DecidesRight, AppliesRight, ForgetsRight, SaysRight, TellsDecided, StartsRight, StopsRight, IsLawfulDeed, IsLawfulEntry, regained_by}
-use Rattle.alp_history.proofs.IdLemmas.{all-append, same_trans-true}
+use Rattle.alp_journal.specs.Along.{Along}
+use Rattle.alp_journal.specs.Ids.{same_trans}
+use Rattle.alp_journal.specs.Deeds.{Deed, Begins, Joins, Enters, Quits, Aborts, Grants, Performs, Releases, Readies, Applies, Registers, Finishes, Hears, Decides, Ends, Acknowledges, Forgets, Restarts}
+use Rattle.alp_journal.specs.Participant.{Phase, Unseen, Joining, Active, Ready, Applied, Over}
+use Rattle.alp_journal.specs.Holder.{Life}
+use Rattle.alp_journal.specs.State.{State, state_deed}
+use Rattle.alp_journal.specs.Moves.{enters, act_deeds, tried, next, asks_for, grants_to}
+use Rattle.alp_journal.specs.Laws.{DrawsAsTold, CountsOn, KeepsSessions, SeesView, DoLivesAgree, KeepsLocks, IsOpenPart, IsOfOpenPart, LetsGo, RegistersOnce, VotesOnce, DecidesRight, AppliesRight, ForgetsRight, SaysRight, TellsDecided, StartsRight, StopsRight, IsLawfulDeed, IsLawfulEntry, regained_by}
+use Rattle.alp_journal.proofs.IdLemmas.{all-append, same_trans-true}
 use Rattle.alp_history.proofs.Origins.{IsFrom, tried-from}
 
 abbrev pub RunsOrEnters : State → Deed → Type 0

@@ -9,12 +9,12 @@ use Rattle.alp_files.specs.declared.reply.Reply.{Reply}
 use Rattle.alp_journal.specs.declared.event.Event.{Event}
 use Rattle.alp_journal.specs.declared.event.Event.TheVariants as event
 use Rattle.alp_journal.specs.declared.entry.Entry.{Entry}
-use Rattle.alp_history.specs.Along.{state_after}
+use Rattle.alp_journal.specs.Along.{state_after}
 use Rattle.alp_history.proofs.Places.{some-same}
-use Rattle.alp_history.specs.Deeds.{Deed, Begins, Joins, Enters, Quits, Aborts, Grants, Performs, Releases, Readies, Applies, Registers, Finishes, Hears, Decides, Ends, Acknowledges, Forgets, Restarts}
-use Rattle.alp_history.specs.Desk.{Desk, Session, Waiting, without_waits, with_dead, is_of_part, waits_after, with_session, begins_if, begins_waiting, waiting_of, part_trans, is_not_yet, is_unknown, is_aborted, is_dead_call, waiting_at, buried, finished, collected}
-use Rattle.alp_history.specs.State.{State, state_deed, has_part}
-use Rattle.alp_history.specs.Moves.{is_new, follows, stops, tried, did, told, halted, next, greeted, counted, desk_told}
+use Rattle.alp_journal.specs.Deeds.{Deed, Begins, Joins, Enters, Quits, Aborts, Grants, Performs, Releases, Readies, Applies, Registers, Finishes, Hears, Decides, Ends, Acknowledges, Forgets, Restarts}
+use Rattle.alp_journal.specs.Desk.{Desk, Session, Waiting, without_waits, with_dead, is_of_part, waits_after, with_session, begins_if, begins_waiting, waiting_of, part_trans, is_not_yet, is_unknown, is_aborted, is_dead_call, waiting_at, buried, finished, collected}
+use Rattle.alp_journal.specs.State.{State, state_deed, has_part}
+use Rattle.alp_journal.specs.Moves.{is_new, follows, stops, tried, did, told, halted, next, greeted, counted, desk_told}
 
 abbrev Kept : Type 0
 Kept = ℕ → Option Session

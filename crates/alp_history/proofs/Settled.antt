@@ -13,25 +13,26 @@ use Rattle.alp_files.specs.Cells.{Cells}
 use Rattle.alp_files.specs.Edits.{Edit, edits_map}
 use Rattle.alp_files.specs.Act.{no_opens}
 use Rattle.alp_files.specs.History.{Decided, starting}
-use Rattle.alp_history.specs.Ids.{same_join, has_join, stamp_cmp}
-use Rattle.alp_history.specs.Opening.{ReadyNote, DecisionNote}
-use Rattle.alp_history.specs.Deeds.{Applies}
-use Rattle.alp_history.specs.Participant.{Phase, Unseen, Joining, Active, Ready, Applied, Over, is_ready}
-use Rattle.alp_history.specs.Holder.{Holder, Life, in_history, commits}
-use Rattle.alp_history.specs.State.{State}
-use Rattle.alp_history.specs.Laws.{IsHolding}
+use Rattle.alp_journal.specs.Ids.{same_join, has_join, stamp_cmp}
+use Rattle.alp_journal.specs.Opening.{ReadyNote, DecisionNote}
+use Rattle.alp_journal.specs.Deeds.{Applies}
+use Rattle.alp_journal.specs.Participant.{Phase, Unseen, Joining, Active, Ready, Applied, Over, is_ready}
+use Rattle.alp_journal.specs.Holder.{Holder, Life, in_history, commits}
+use Rattle.alp_journal.specs.State.{State}
+use Rattle.alp_journal.specs.Laws.{IsHolding}
 use Rattle.alp_history.specs.Holding.{IsNewStamp, IsTimely}
 use Rattle.alp_history.specs.Log.{ServerLog, Log, opening_of, journal_of, state_at, final, IsIn, noted, is_noted, Decision, decided, is_decided_in, held, edits_in, ready_note}
 use Rattle.alp_history.specs.Theorems.{IsProper, HasCommitted, IsKept}
 use Rattle.alp_history.proofs.Places.{some-same, all-in, in-list}
-use Rattle.alp_history.proofs.IdLemmas.{same_join-true}
+use Rattle.alp_journal.proofs.IdLemmas.{same_join-true}
 use Rattle.alp_history.proofs.Phases.{IsSeen}
 use Rattle.alp_history.proofs.Logs.{server-stays}
 use Rattle.alp_history.proofs.Votes.{IsSpread, IsTimed}
 use Rattle.alp_history.proofs.Agreed.{size, all-of, at-end, from-end, kept}
 use Rattle.alp_history.proofs.Stamped.{NotedIn, SaidAt, Tells, timed-at, decided-timed}
 use Rattle.alp_history.proofs.OneServer.{IsHeld, deed_held, rebase, behind, behind-early, behind-own}
-use Rattle.alp_history.proofs.Linked.{same_join-self, stamps_total, itself, IsYoung, HasPart, AreApart, other-point}
+use Rattle.alp_journal.proofs.StampLemmas.{stamps_total, itself}
+use Rattle.alp_history.proofs.Linked.{same_join-self, IsYoung, HasPart, AreApart, other-point}
 use Rattle.alp_history.proofs.Turned.{is_left, Began, began-same, began-first, early-noted, flat-in, noted-committed, old-join}
 use Rattle.alp_history.proofs.HeldAlong.{exact_stamps, put-keys, vote-low}
 use Rattle.alp_history.proofs.EachServer.{along-end, Nothing_}

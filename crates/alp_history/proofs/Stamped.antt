@@ -8,17 +8,17 @@ use Rattle.alp_base.specs.declared.ids.Stamp.{Stamp}
 use Rattle.alp_journal.specs.declared.event.Event.TheVariants as event
 use Rattle.alp_journal.specs.declared.message.Message.TheVariants as msg
 use Rattle.alp_journal.specs.declared.entry.Entry.{Entry}
-use Rattle.alp_history.specs.Ids.{same_trans, has_join}
-use Rattle.alp_history.specs.Opening.{DecisionNote}
-use Rattle.alp_history.specs.Deeds.{Deed, Hears, Decides}
-use Rattle.alp_history.specs.Coordinator.{Fate, Undrawn, Running, Finishing, Committed, Forgotten, Ended, voted, has_votes, fate_noted, decision_in}
-use Rattle.alp_history.specs.Participant.{Phase, Unseen, Joining, Active, Ready, Applied, Over, phase_after}
-use Rattle.alp_history.specs.State.{State}
-use Rattle.alp_history.specs.Laws.{latest_vote, HasDecision}
+use Rattle.alp_journal.specs.Ids.{same_trans, has_join}
+use Rattle.alp_journal.specs.Opening.{DecisionNote}
+use Rattle.alp_journal.specs.Deeds.{Deed, Hears, Decides}
+use Rattle.alp_journal.specs.Coordinator.{Fate, Undrawn, Running, Finishing, Committed, Forgotten, Ended, voted, has_votes, fate_noted, decision_in}
+use Rattle.alp_journal.specs.Participant.{Phase, Unseen, Joining, Active, Ready, Applied, Over, phase_after}
+use Rattle.alp_journal.specs.State.{State}
+use Rattle.alp_journal.specs.Laws.{latest_vote, HasDecision}
 use Rattle.alp_history.specs.Log.{Log, journal_of, opening_of, rank_at, state_at, final, IsIn, WasSent}
 use Rattle.alp_history.specs.Theorems.{IsProper}
 use Rattle.alp_history.proofs.Places.{in-list, some-same}
-use Rattle.alp_history.proofs.IdLemmas.{all-each}
+use Rattle.alp_journal.proofs.IdLemmas.{all-each}
 use Rattle.alp_history.proofs.Fates.{Decision}
 use Rattle.alp_history.proofs.Phases.{IsSeen, phase-cases}
 use Rattle.alp_history.proofs.Origins.{IsFrom}

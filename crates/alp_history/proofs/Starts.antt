@@ -10,8 +10,8 @@ use Rattle.alp_files.specs.Locks.{Writes}
 use Rattle.alp_files.specs.Apart.{IsWithin}
 use Rattle.alp_files.proofs.HeldLemmas.{apart, writes-is-reads}
 use Rattle.alp_files.proofs.FrameLemmas.{edits-commute}
-use Rattle.alp_history.specs.Ids.{same_trans, same_join}
-use Rattle.alp_history.specs.Opening.{ReadyNote}
+use Rattle.alp_journal.specs.Ids.{same_trans, same_join}
+use Rattle.alp_journal.specs.Opening.{ReadyNote}
 use Rattle.alp_history.specs.Log.{IsIn, AreDistinct, held}
 use Rattle.alp_history.proofs.Places.{all-in}
 

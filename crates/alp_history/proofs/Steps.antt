@@ -7,12 +7,12 @@ use Rattle.alp_files.specs.declared.call.Call.{Call}
 use Rattle.alp_files.specs.Act.{Answer, id_in}
 use Rattle.alp_files.specs.History.{PerformedCall}
 use Rattle.alp_journal.specs.declared.entry.Entry.{Entry}
-use Rattle.alp_history.specs.Along.{state_after}
-use Rattle.alp_history.specs.Deeds.{Deed, Grants, Performs}
-use Rattle.alp_history.specs.Holder.{Life, new_life, with_life, after_done, answer_in, performs}
-use Rattle.alp_history.specs.Counts.{locked_after}
-use Rattle.alp_history.specs.State.{State, state_deed, ids_after}
-use Rattle.alp_history.specs.Moves.{stops, tried, told, halted, desk_told, next}
+use Rattle.alp_journal.specs.Along.{state_after}
+use Rattle.alp_journal.specs.Deeds.{Deed, Grants, Performs}
+use Rattle.alp_journal.specs.Holder.{Life, new_life, with_life, after_done, answer_in, performs}
+use Rattle.alp_journal.specs.Counts.{locked_after}
+use Rattle.alp_journal.specs.State.{State, state_deed, ids_after}
+use Rattle.alp_journal.specs.Moves.{stops, tried, told, halted, desk_told, next}
 use Rattle.alp_history.proofs.Worked.{life_at}
 
 -- the part is there

@@ -12,11 +12,11 @@ use Rattle.alp_files.specs.declared.reply.Ended.{Ended as Ending}
 use Rattle.alp_files.specs.declared.reply.Ended.TheVariants as ending
 use Rattle.alp_journal.specs.declared.event.Event.{Event}
 use Rattle.alp_journal.specs.declared.event.Event.TheVariants as event
-use Rattle.alp_history.specs.Along.{Where}
-use Rattle.alp_history.specs.Coordinator.{Fate, Undrawn, Running, Finishing, Committed, Forgotten, Ended, decision_in}
-use Rattle.alp_history.specs.State.{State}
-use Rattle.alp_history.specs.Moves.{next}
-use Rattle.alp_history.specs.Laws.{TellsIn, TellsDecided, ending_of}
+use Rattle.alp_journal.specs.Along.{Where}
+use Rattle.alp_journal.specs.Coordinator.{Fate, Undrawn, Running, Finishing, Committed, Forgotten, Ended, decision_in}
+use Rattle.alp_journal.specs.State.{State}
+use Rattle.alp_journal.specs.Moves.{next}
+use Rattle.alp_journal.specs.Laws.{TellsIn, TellsDecided, ending_of}
 use Rattle.alp_history.specs.Log.{Log, Decision, journal_of, state_at, final, IsIn, Heard, told_in}
 use Rattle.alp_history.specs.Theorems.{IsProper, HasCommitted, TellsOfDecided, Tellings}
 use Rattle.alp_history.proofs.Places.{in-list, some-same}

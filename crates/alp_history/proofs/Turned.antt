@@ -9,19 +9,19 @@ use Rattle.alp_files.specs.Cells.{Cells}
 use Rattle.alp_files.specs.Edits.{Edit, edits_map}
 use Rattle.alp_files.proofs.HistoryLemmas.{edits_map-append}
 use Rattle.alp_journal.specs.declared.event.Event.{Event}
-use Rattle.alp_history.specs.Along.{state_after}
-use Rattle.alp_history.specs.Ids.{same_trans, same_join, has_join, has_server}
-use Rattle.alp_history.specs.Opening.{ReadyNote, DecisionNote}
-use Rattle.alp_history.specs.Deeds.{Deed, Begins, Joins, Enters, Quits, Aborts, Grants, Performs, Releases, Readies, Applies, Registers, Finishes, Hears, Decides, Ends, Acknowledges, Forgets, Restarts}
-use Rattle.alp_history.specs.Coordinator.{Fate, Undrawn, Running, Finishing, Committed, Forgotten, Ended, finishing, heard, ended, acknowledged, has_all, forgotten, fate_after, fate_noted, decision_in, is_running}
-use Rattle.alp_history.specs.Participant.{Phase, Unseen, Joining, Active, Ready, Applied, Over, phase_after, is_ready}
-use Rattle.alp_history.specs.Participant as part
-use Rattle.alp_history.specs.Holder.{Life, early_life}
-use Rattle.alp_history.specs.State.{State, ids_after, state_deed}
+use Rattle.alp_journal.specs.Along.{state_after}
+use Rattle.alp_journal.specs.Ids.{same_trans, same_join, has_join, has_server}
+use Rattle.alp_journal.specs.Opening.{ReadyNote, DecisionNote}
+use Rattle.alp_journal.specs.Deeds.{Deed, Begins, Joins, Enters, Quits, Aborts, Grants, Performs, Releases, Readies, Applies, Registers, Finishes, Hears, Decides, Ends, Acknowledges, Forgets, Restarts}
+use Rattle.alp_journal.specs.Coordinator.{Fate, Undrawn, Running, Finishing, Committed, Forgotten, Ended, finishing, heard, ended, acknowledged, has_all, forgotten, fate_after, fate_noted, decision_in, is_running}
+use Rattle.alp_journal.specs.Participant.{Phase, Unseen, Joining, Active, Ready, Applied, Over, phase_after, is_ready}
+use Rattle.alp_journal.specs.Participant as part
+use Rattle.alp_journal.specs.Holder.{Life, early_life}
+use Rattle.alp_journal.specs.State.{State, ids_after, state_deed}
 use Rattle.alp_history.specs.Log.{ServerLog, Log, nobody, of, opening_of, state_at, final, IsIn, noted, is_noted, held, start_of, IsSoundDecision}
 use Rattle.alp_history.specs.Theorems.{IsProper, HasCommitted}
 use Rattle.alp_history.proofs.Places.{some-same}
-use Rattle.alp_history.proofs.IdLemmas.{same_trans-true, same_join-true, same_trans-itself, or-true}
+use Rattle.alp_journal.proofs.IdLemmas.{same_trans-true, same_join-true, same_trans-itself, or-true}
 use Rattle.alp_history.proofs.Fates.{Decision, fate-cases}
 use Rattle.alp_history.proofs.Phases.{phase-cases, Carries}
 use Rattle.alp_history.proofs.Origins.{IsEventFrom}

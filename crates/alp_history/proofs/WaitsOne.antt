@@ -13,15 +13,15 @@ use Rattle.alp_files.specs.Act.{Answer, no_opens, replied, refused}
 use Rattle.alp_files.proofs.CoverLemmas.{granted-holds}
 use Rattle.alp_journal.specs.declared.event.Event.{Event}
 use Rattle.alp_journal.specs.declared.entry.Entry.{Entry}
-use Rattle.alp_history.specs.Along.{Along}
-use Rattle.alp_history.specs.Deeds.{Grants, Performs, Releases, Ends}
-use Rattle.alp_history.specs.Holder.{Life, no_locks, answer_in, held_for}
+use Rattle.alp_journal.specs.Along.{Along}
+use Rattle.alp_journal.specs.Deeds.{Grants, Performs, Releases, Ends}
+use Rattle.alp_journal.specs.Holder.{Life, no_locks, answer_in, held_for}
 use Rattle.alp_history.proofs.Places.{some-same}
 use Rattle.alp_modes.specs.Modes.{agree}
 use Rattle.alp_files.specs.Holdings.{agree_held}
-use Rattle.alp_history.specs.State.{State, opened, state_deed}
-use Rattle.alp_history.specs.Moves.{next}
-use Rattle.alp_history.specs.Laws.{IsLawfulEntry, IsLawful, DoLivesAgree, IsFree}
+use Rattle.alp_journal.specs.State.{State, opened, state_deed}
+use Rattle.alp_journal.specs.Moves.{next}
+use Rattle.alp_journal.specs.Laws.{IsLawfulEntry, IsLawful, DoLivesAgree, IsFree}
 use Rattle.alp_history.specs.Examples.{trans, new}
 use Rattle.alp_history.specs.RightLog.{owner_with}
 use Rattle.alp_history.specs.RightJournals.{hello, makes, made_done, waiting, waits_for, waits_one}

@@ -4,8 +4,8 @@ use Rattle.std.proofs.Common.{◌≡◌, ℕ, ◌<◌, ◌≤◌, List, refl, sy
 use Rattle.alp_base.specs.declared.ids.JoinNo.{JoinNo}
 use Rattle.alp_base.specs.declared.ids.TransId.{TransId}
 use Rattle.alp_base.specs.declared.ids.Stamp.{Stamp}
-use Rattle.alp_history.specs.Ids.{has_join}
-use Rattle.alp_history.specs.Participant.{Phase, Unseen, Joining, Active, Ready, Applied, Over}
+use Rattle.alp_journal.specs.Ids.{has_join}
+use Rattle.alp_journal.specs.Participant.{Phase, Unseen, Joining, Active, Ready, Applied, Over}
 use Rattle.alp_history.specs.Log.{Log, opening_of, state_at, final}
 use Rattle.alp_history.specs.Theorems.{IsProper, IsKept, IsWhole, AreWhole, Wholeness}
 use Rattle.alp_history.proofs.Agreed.{size, all-of, at-end, Noted, WasReady, committed-parts, kept}

@@ -12,19 +12,19 @@ use Rattle.alp_journal.specs.declared.event.Event.TheVariants as event
 use Rattle.alp_journal.specs.declared.message.Message.TheVariants as msg
 use Rattle.alp_journal.specs.declared.entry.Entry.{Entry}
 use Rattle.alp_history.specs.Examples.{trans, join, stamp, new, calls, arrives, first_up, vote, done, worker_up, ask, restarts}
-use Rattle.alp_history.specs.Along.{state_after}
-use Rattle.alp_history.specs.Deeds.{Releases, Hears, Decides}
-use Rattle.alp_history.specs.Coordinator.{Finishing, Committed, Forgotten, Ended, has_votes}
-use Rattle.alp_history.specs.Participant.{Active, Ready, Applied, Over}
-use Rattle.alp_history.specs.Holder.{Life, new_life}
-use Rattle.alp_history.specs.Desk.{Waiting, file_trans}
-use Rattle.alp_history.specs.State.{State, opened, state_deed}
-use Rattle.alp_history.specs.Moves.{tried, next}
+use Rattle.alp_journal.specs.Along.{state_after}
+use Rattle.alp_journal.specs.Deeds.{Releases, Hears, Decides}
+use Rattle.alp_journal.specs.Coordinator.{Finishing, Committed, Forgotten, Ended, has_votes}
+use Rattle.alp_journal.specs.Participant.{Active, Ready, Applied, Over}
+use Rattle.alp_journal.specs.Holder.{Life, new_life}
+use Rattle.alp_journal.specs.Desk.{Waiting, file_trans}
+use Rattle.alp_journal.specs.State.{State, opened, state_deed}
+use Rattle.alp_journal.specs.Moves.{tried, next}
 use Rattle.alp_files.specs.declared.refusal.Why.TheVariants as why
-use Rattle.alp_history.specs.Messages.{Mail, due, on_ready}
-use Rattle.alp_history.specs.Halts.{HaltsRight}
-use Rattle.alp_history.specs.Answers.{part_refusal}
-use Rattle.alp_history.specs.Laws.{ReleasesEnded, SaysRight, MayReady, MayDecide}
+use Rattle.alp_journal.specs.Messages.{Mail, due, on_ready}
+use Rattle.alp_journal.specs.Halts.{HaltsRight}
+use Rattle.alp_journal.specs.Answers.{part_refusal}
+use Rattle.alp_journal.specs.Laws.{ReleasesEnded, SaysRight, MayReady, MayDecide}
 
 abbrev file_in : Option Waiting → Option TransId
 file_in None = None

@@ -20,20 +20,20 @@ use Rattle.alp_journal.specs.declared.act.Act.TheVariants as act
 use Rattle.alp_journal.specs.declared.event.Event.TheVariants as event
 use Rattle.alp_journal.specs.declared.message.Message.TheVariants as msg
 use Rattle.alp_journal.specs.declared.entry.Entry.{Entry}
-use Rattle.alp_history.specs.Along.{state_after}
-use Rattle.alp_history.specs.Coordinator.{Fate, Undrawn, begun, finishing, decided, has_votes}
-use Rattle.alp_history.specs.Participant.{Ready, Applied}
-use Rattle.alp_history.specs.State.{State, opened}
-use Rattle.alp_history.specs.Moves.{next}
-use Rattle.alp_history.specs.Laws.{KeepsSessions, StopsRight}
-use Rattle.alp_history.specs.Messages.{Mail, due, sent_by, are_in_order}
-use Rattle.alp_history.specs.Answers.{AnswersRight}
-use Rattle.alp_history.specs.Answered.{AppliesTold, is_all_done, GrantsAtOnce, GivesOn, IsAnsweredEntry, IsAnswered, IsWalk, IsWaitingFor, at_release, shows_fault}
-use Rattle.alp_history.specs.Halts.{HaltsRight}
-use Rattle.alp_history.specs.Ids.{same_trans}
-use Rattle.alp_history.specs.Holder.{Holder, Life, new_life}
-use Rattle.alp_history.specs.Desk.{Waiting}
-use Rattle.alp_history.specs.Laws.{IsFree}
+use Rattle.alp_journal.specs.Along.{state_after}
+use Rattle.alp_journal.specs.Coordinator.{Fate, Undrawn, begun, finishing, decided, has_votes}
+use Rattle.alp_journal.specs.Participant.{Ready, Applied}
+use Rattle.alp_journal.specs.State.{State, opened}
+use Rattle.alp_journal.specs.Moves.{next}
+use Rattle.alp_journal.specs.Laws.{KeepsSessions, StopsRight}
+use Rattle.alp_journal.specs.Messages.{Mail, due, sent_by, are_in_order}
+use Rattle.alp_journal.specs.Answers.{AnswersRight}
+use Rattle.alp_journal.specs.Answered.{AppliesTold, is_all_done, GrantsAtOnce, GivesOn, IsAnsweredEntry, IsAnswered, IsWalk, IsWaitingFor, at_release, shows_fault}
+use Rattle.alp_journal.specs.Halts.{HaltsRight}
+use Rattle.alp_journal.specs.Ids.{same_trans}
+use Rattle.alp_journal.specs.Holder.{Holder, Life, new_life}
+use Rattle.alp_journal.specs.Desk.{Waiting}
+use Rattle.alp_journal.specs.Laws.{IsFree}
 use Rattle.alp_history.specs.Examples.{trans, join, stamp, nothing_seen, new, calls, arrives}
 
 -- ---- a transaction of one server

@@ -11,11 +11,11 @@ use Rattle.alp_files.specs.Holdings.{DoAgree, held_by}
 use Rattle.alp_files.specs.Sound.{AreSound}
 use Rattle.alp_files.specs.Apart.{AreSized}
 use Rattle.alp_files.proofs.SoundLemmas.{empty_sound}
-use Rattle.alp_history.specs.Ids.{same_trans}
-use Rattle.alp_history.specs.Opening.{Start, ReadyNote, DecisionNote}
-use Rattle.alp_history.specs.Participant.{Over}
-use Rattle.alp_history.specs.State.{State}
-use Rattle.alp_history.specs.Moves.{next}
+use Rattle.alp_journal.specs.Ids.{same_trans}
+use Rattle.alp_journal.specs.Opening.{Start, ReadyNote, DecisionNote}
+use Rattle.alp_journal.specs.Participant.{Over}
+use Rattle.alp_journal.specs.State.{State}
+use Rattle.alp_journal.specs.Moves.{next}
 use Rattle.alp_history.specs.Log.{Log, ServerLog, nobody, opening_of, Share, decided, shares_of, held, is_noted, IsIn, AreDistinct, IsSoundNote, IsSoundDecision, IsSoundOpening}
 use Rattle.alp_history.specs.Examples.{trans, join, stamp, new, arrives, first_up, vote, worker_up, ask, restarts}
 use Rattle.alp_history.proofs.Worked.{before_ask}

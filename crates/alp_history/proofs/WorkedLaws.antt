@@ -1,8 +1,8 @@
 -- the entry that brings the last vote keeps each law on its deeds, its releases, what it says and what it draws
 use Rattle.std.specs.List.{AllByRecursion}
 use Rattle.std.proofs.Common.{refl}
-use Rattle.alp_history.specs.Moves.{next}
-use Rattle.alp_history.specs.Laws.{DrawsAsTold, KeepsSessions, DeedsAreLawful, LetsGo, SaysRight, TellsDecided, StartsRight, StopsRight}
+use Rattle.alp_journal.specs.Moves.{next}
+use Rattle.alp_journal.specs.Laws.{DrawsAsTold, KeepsSessions, DeedsAreLawful, LetsGo, SaysRight, TellsDecided, StartsRight, StopsRight}
 use Rattle.alp_history.specs.Examples.{vote}
 use Rattle.alp_history.proofs.Worked.{before_vote, decided_right}
 

@@ -9,12 +9,12 @@ use Rattle.alp_files.specs.declared.refusal.Refusal.TheVariants as refusal
 use Rattle.alp_journal.specs.declared.act.Act.TheVariants as act
 use Rattle.alp_journal.specs.declared.message.Message.TheVariants as msg
 use Rattle.alp_journal.specs.declared.entry.Entry.{Entry}
-use Rattle.alp_history.specs.Along.{Along, state_after}
-use Rattle.alp_history.specs.Ids.{has_server}
-use Rattle.alp_history.specs.Coordinator.{joins_of, votes_in}
-use Rattle.alp_history.specs.State.{State, opened}
-use Rattle.alp_history.specs.Moves.{next}
-use Rattle.alp_history.specs.Laws.{IsLawfulEntry, latest_vote}
+use Rattle.alp_journal.specs.Along.{Along, state_after}
+use Rattle.alp_journal.specs.Ids.{has_server}
+use Rattle.alp_journal.specs.Coordinator.{joins_of, votes_in}
+use Rattle.alp_journal.specs.State.{State, opened}
+use Rattle.alp_journal.specs.Moves.{next}
+use Rattle.alp_journal.specs.Laws.{IsLawfulEntry, latest_vote}
 use Rattle.alp_history.specs.Examples.{trans, join, new, calls, arrives, owner, first_up, vote, worker_up, ask, restarts}
 use Rattle.alp_history.proofs.Worked.{life_at}
 use Rattle.alp_history.proofs.Named.{Only, only_after, alone_other}

@@ -12,17 +12,17 @@ use Rattle.alp_journal.specs.declared.act.Act.{Act}
 use Rattle.alp_journal.specs.declared.act.Act.TheVariants as act
 use Rattle.alp_journal.specs.declared.message.Message.TheVariants as msg
 use Rattle.alp_journal.specs.declared.entry.Entry.{Entry}
-use Rattle.alp_history.specs.Along.{state_after}
-use Rattle.alp_history.specs.Deeds.{Grants}
-use Rattle.alp_history.specs.State.{State, opened, state_deed}
-use Rattle.alp_history.specs.Moves.{next}
-use Rattle.alp_history.specs.Laws.{IsLawful, IsLawfulEntry}
+use Rattle.alp_journal.specs.Along.{state_after}
+use Rattle.alp_journal.specs.Deeds.{Grants}
+use Rattle.alp_journal.specs.State.{State, opened, state_deed}
+use Rattle.alp_journal.specs.Moves.{next}
+use Rattle.alp_journal.specs.Laws.{IsLawful, IsLawfulEntry}
 use Rattle.alp_history.specs.Log.{IsIn, AreLawful, IsLinked}
 use Rattle.alp_history.specs.Examples.{trans, join}
 use Rattle.alp_history.specs.RightLog.{second, second_join, opening, sets, hello, ranks_one, ranks_two, runs, one_with, one_decides, one_votes, one, two_votes, two_with, two}
 use Rattle.alp_history.specs.WrongLogs.{two_crossed, ranks_crossed, crossed, one_tells, undecided, one_lets_go, unlocked, two_drops, forged, ranks_late, hurried, AreOpposite, AreWrong}
 use Rattle.alp_history.proofs.Places.{along-at, some-same}
-use Rattle.alp_history.proofs.IdLemmas.{or-true}
+use Rattle.alp_journal.proofs.IdLemmas.{or-true}
 use Rattle.alp_history.proofs.Worked.{life_at}
 use Rattle.alp_history.proofs.Steps.{lives_there}
 use Rattle.alp_history.proofs.LinkLemmas.{each_both}

@@ -13,7 +13,7 @@ use Rattle.alp_files.specs.declared.reply.Ended.TheVariants as ending
 use Rattle.alp_files.specs.declared.refusal.Refusal.TheVariants as refusal
 use Rattle.alp_journal.specs.declared.event.Event.TheVariants as event
 use Rattle.alp_journal.specs.declared.entry.Entry.{Entry}
-use Rattle.alp_history.specs.Ids.{stamp_cmp}
+use Rattle.alp_journal.specs.Ids.{stamp_cmp}
 use Rattle.alp_history.specs.Log.{Log, Decision, journal_of, opening_of, decided, IsIn}
 
 -- ---- what was sent

@@ -9,10 +9,10 @@ use Rattle.alp_files.specs.Cells.{has_file}
 use Rattle.alp_files.specs.Act.{id_in}
 use Rattle.alp_files.specs.History.{PerformedCall, Decided}
 use Rattle.alp_files.specs.Locks.{needs_of, HoldsEach, IsFormed}
-use Rattle.alp_history.specs.Ids.{stamp_cmp}
-use Rattle.alp_history.specs.Deeds.{Deed, Grants, Performs, Readies, Applies, Decides, Restarts}
-use Rattle.alp_history.specs.Holder.{Holder, Life, holder_after, view_in, answer_in}
-use Rattle.alp_history.specs.Laws.{DoLivesAgree}
+use Rattle.alp_journal.specs.Ids.{stamp_cmp}
+use Rattle.alp_journal.specs.Deeds.{Deed, Grants, Performs, Readies, Applies, Decides, Restarts}
+use Rattle.alp_journal.specs.Holder.{Holder, Life, holder_after, view_in, answer_in}
+use Rattle.alp_journal.specs.Laws.{DoLivesAgree}
 
 -- a call of a part that has not voted, answered as one thread is, under its locks
 pub record IsCalled (h : Holder) (l : Life) (d : PerformedCall) : Type 0 where

@@ -27,15 +27,15 @@ use Rattle.alp_journal.specs.declared.act.Act.TheVariants as act
 use Rattle.alp_journal.specs.declared.event.Event.TheVariants as event
 use Rattle.alp_journal.specs.declared.message.Message.{Message}
 use Rattle.alp_journal.specs.declared.entry.Entry.{Entry}
-use Rattle.alp_history.specs.Along.{state_after}
-use Rattle.alp_history.specs.Ids.{same_trans, same_join, has_join, has_server, stamp_cmp}
-use Rattle.alp_history.specs.Opening.{ReadyNote, DecisionNote, Start}
-use Rattle.alp_history.specs.Coordinator.{joins_of}
-use Rattle.alp_history.specs.Participant.{Phase, Ready}
-use Rattle.alp_history.specs.Holder.{Life}
-use Rattle.alp_history.specs.State.{State, opened}
-use Rattle.alp_history.specs.Moves.{next}
-use Rattle.alp_history.specs.Laws.{IsLawful}
+use Rattle.alp_journal.specs.Along.{state_after}
+use Rattle.alp_journal.specs.Ids.{same_trans, same_join, has_join, has_server, stamp_cmp}
+use Rattle.alp_journal.specs.Opening.{ReadyNote, DecisionNote, Start}
+use Rattle.alp_journal.specs.Coordinator.{joins_of}
+use Rattle.alp_journal.specs.Participant.{Phase, Ready}
+use Rattle.alp_journal.specs.Holder.{Life}
+use Rattle.alp_journal.specs.State.{State, opened}
+use Rattle.alp_journal.specs.Moves.{next}
+use Rattle.alp_journal.specs.Laws.{IsLawful}
 
 -- ---- the log
 

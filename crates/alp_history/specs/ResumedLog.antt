@@ -12,7 +12,7 @@ use Rattle.alp_files.specs.declared.reply.Reply.TheVariants as reply
 use Rattle.alp_journal.specs.declared.act.Act.TheVariants as act
 use Rattle.alp_journal.specs.declared.message.Message.TheVariants as msg
 use Rattle.alp_journal.specs.declared.entry.Entry.{Entry}
-use Rattle.alp_history.specs.Opening.{ReadyNote, DecisionNote, Start}
+use Rattle.alp_journal.specs.Opening.{ReadyNote, DecisionNote, Start}
 use Rattle.alp_history.specs.Log.{Log, ServerLog, Decision, decided, shares_of, start_of, finish_of}
 use Rattle.alp_history.specs.Theorems.{IsProper, IsOneThread}
 use Rattle.alp_history.specs.Examples.{trans, join, nothing_seen, stamp, new, arrives}

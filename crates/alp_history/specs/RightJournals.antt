@@ -17,7 +17,7 @@ use Rattle.alp_journal.specs.declared.act.Act.TheVariants as act
 use Rattle.alp_journal.specs.declared.event.Event.TheVariants as event
 use Rattle.alp_journal.specs.declared.message.Message.TheVariants as msg
 use Rattle.alp_journal.specs.declared.entry.Entry.{Entry}
-use Rattle.alp_history.specs.Laws.{IsLawful}
+use Rattle.alp_journal.specs.Laws.{IsLawful}
 use Rattle.alp_history.specs.Examples.{trans, join, nothing_seen, stamp, new, arrives, restarts}
 use Rattle.alp_history.specs.RightLog.{owner_with, sets, reads, ticks}
 

@@ -22,7 +22,7 @@ use Rattle.alp_journal.specs.declared.event.Event.{Event}
 use Rattle.alp_journal.specs.declared.event.Event.TheVariants as event
 use Rattle.alp_journal.specs.declared.message.Message.TheVariants as msg
 use Rattle.alp_journal.specs.declared.entry.Entry.{Entry}
-use Rattle.alp_history.specs.Opening.{Start}
+use Rattle.alp_journal.specs.Opening.{Start}
 use Rattle.alp_history.specs.Log.{Log, ServerLog, Decision, decided, shares_of, start_of, finish_of}
 use Rattle.alp_history.specs.Theorems.{IsProper, IsOneThread}
 use Rattle.alp_history.specs.Handed.{Own, Sent, Item, Handed, AreOfClients, ArePromisesKept}

@@ -22,14 +22,14 @@ use Rattle.alp_files.specs.Sound.{AreSound}
 use Rattle.alp_journal.specs.declared.act.Act.TheVariants as act
 use Rattle.alp_journal.specs.declared.event.Event.TheVariants as event
 use Rattle.alp_journal.specs.declared.entry.Entry.{Entry}
-use Rattle.alp_history.specs.Ids.{has_join, stamp_cmp, same_trans}
-use Rattle.alp_history.specs.Opening.{DecisionNote}
-use Rattle.alp_history.specs.Coordinator.{decision_in}
-use Rattle.alp_history.specs.Participant.{Phase, Unseen, Joining, Active, Ready, Applied, Over, is_ready}
-use Rattle.alp_history.specs.Holder.{Life}
-use Rattle.alp_history.specs.State.{State}
-use Rattle.alp_history.specs.Moves.{is_new, stops}
-use Rattle.alp_history.specs.Laws.{is_standing}
+use Rattle.alp_journal.specs.Ids.{has_join, stamp_cmp, same_trans}
+use Rattle.alp_journal.specs.Opening.{DecisionNote}
+use Rattle.alp_journal.specs.Coordinator.{decision_in}
+use Rattle.alp_journal.specs.Participant.{Phase, Unseen, Joining, Active, Ready, Applied, Over, is_ready}
+use Rattle.alp_journal.specs.Holder.{Life}
+use Rattle.alp_journal.specs.State.{State}
+use Rattle.alp_journal.specs.Moves.{is_new, stops}
+use Rattle.alp_journal.specs.Laws.{is_standing}
 use Rattle.alp_history.specs.Handed.{Handed, AreOfClients, ArePromisesKept}
 use Rattle.alp_history.specs.Log.{Heard, told_in, Log, opening_of, journal_of, state_at, final, IsLinked, AreLawful, AreSoundOpenings, AreDifferent, IsIn, decided, finish_of, starting_all, IsSerial, serial_end, IsChargedAfterEach, latest, AreLatest}
 

@@ -1,4 +1,4 @@
-//! What the entries of a server's journal say together, the laws that they keep to, and what follows for several servers.
+//! What follows from the laws of journals for several servers.
 #![tactic(auto)]
 
 mod agreement;

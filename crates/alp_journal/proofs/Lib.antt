@@ -1,9 +1,6 @@
-pub mod StateLemmas
-pub mod Promises
-pub mod HistoryOrder
-pub mod LifeLemmas
-pub mod OneThread
-pub mod Worked
-pub mod EntryLemmas
-pub mod SessionLemmas
-pub mod RefusedLemmas
+pub mod IdLemmas
+pub mod AloneLemmas
+pub mod StampLemmas
+pub mod AloneEntries
+pub mod AloneEnds
+pub mod AloneCalls

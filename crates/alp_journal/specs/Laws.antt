@@ -1,9 +1,9 @@
--- What the entries of a lawful journal keep to. Each law is about one entry and the state that the entries before it
--- leave, so an entry that keeps to them makes a lawful journal longer.
-use Rattle.std.specs.Prelude.{◌≡◌, ℕ, ◌+◌, ◌<◌, ◌≤◌, false, List, [], ◌∷◌, ◌++◌, Option, None, Some, IsSome, is_some, flat_map, if◌then◌else◌, ◌==◌}
-use Rattle.std.specs.List.{list_any}
-use Rattle.std.specs.FinMap as map
+-- What the entries of a lawful journal keep to. Each law is about one entry and the state that the entries before it leave.
+use Rattle.std.specs.Prelude.{◌≡◌, ℕ, ◌+◌, ◌<◌, max, Bool, true, false, not, ◌==◌, ◌&&◌, ◌⊎◌, List, [], ◌∷◌, flat_map, Option, None, Some, IsSome, if◌then◌else◌}
+use Rattle.std.specs.List.{list_any, AllByRecursion}
+use Rattle.std.specs.FinMap.Entries as entries
 use Rattle.alp_base.specs.declared.ids.FileId.{FileId}
+use Rattle.alp_base.specs.declared.ids.JoinNo.{JoinNo}
 use Rattle.alp_base.specs.declared.ids.TransId.{TransId}
 use Rattle.alp_base.specs.declared.ids.Stamp.{Stamp}
 use Rattle.alp_files.specs.Holdings.{DoAgree}
@@ -11,36 +11,105 @@ use Rattle.alp_files.specs.declared.call.Call.{Call}
 use Rattle.alp_files.specs.declared.call.Call.TheVariants as call
 use Rattle.alp_files.specs.declared.reply.Reply.{Reply}
 use Rattle.alp_files.specs.declared.reply.Reply.TheVariants as reply
+use Rattle.alp_files.specs.declared.reply.Ended.{Ended as Ending}
+use Rattle.alp_files.specs.declared.reply.Ended.TheVariants as ending
 use Rattle.alp_files.specs.declared.refusal.Refusal.TheVariants as refusal
-use Rattle.alp_files.specs.Cells.{has_file}
+use Rattle.alp_files.specs.declared.refusal.Cause.{Cause}
+use Rattle.alp_files.specs.declared.refusal.Cause.TheVariants as cause
 use Rattle.alp_files.specs.Act.{id_in}
 use Rattle.alp_files.specs.History.{PerformedCall, Decided}
 use Rattle.alp_files.specs.Locks.{needs_of, HoldsEach, IsFormed}
-use Rattle.alp_files.specs.Apart.{AreSized}
-use Rattle.alp_files.specs.Sound.{AreSound}
 use Rattle.alp_journal.specs.declared.act.Act.{Act}
 use Rattle.alp_journal.specs.declared.act.Act.TheVariants as act
 use Rattle.alp_journal.specs.declared.event.Event.{Event}
 use Rattle.alp_journal.specs.declared.event.Event.TheVariants as event
+use Rattle.alp_journal.specs.declared.message.Message.{Message}
+use Rattle.alp_journal.specs.declared.message.Message.TheVariants as msg
 use Rattle.alp_journal.specs.declared.entry.Entry.{Entry}
-use Rattle.alp_journal.specs.State.{State, Start, Life, Waiting, Along, next, acted, after_act, is_stop, brought, opened, in_order, same_trans, view_in, answer_in, is_new, file_trans, performs, asks_for, held_for}
-use Rattle.alp_journal.specs.Told.{Told, Began, Heard, told_by, IsAmong}
+use Rattle.alp_journal.specs.Along.{Along, Where, state_after}
+use Rattle.alp_journal.specs.Ids.{same_trans, has_join, has_server, has_stamp, same_stamp, stamp_cmp}
+use Rattle.alp_journal.specs.Opening.{Start}
+use Rattle.alp_journal.specs.Deeds.{Deed, Begins, Joins, Quits, Aborts, Grants, Performs, Releases, Readies, Applies, Registers, Decides, Ends, Forgets, Restarts}
+use Rattle.alp_journal.specs.Coordinator.{Fate, Vote, Undrawn, Running, Finishing, Committed, Forgotten, Ended, decision_in, joins_of, has_all, has_votes, is_running}
+use Rattle.alp_journal.specs.Participant.{Phase, Active, Ready, live_in, is_ready}
+use Rattle.alp_journal.specs.Holder.{Holder, Life, view_in, answer_in, held_for}
+use Rattle.alp_journal.specs.Desk.{Session, Waiting, file_trans, waiting_of}
+use Rattle.alp_journal.specs.State.{State, state_deed, opened, is_trans_drawn, is_join_drawn, is_other_server}
+use Rattle.alp_journal.specs.Moves.{is_new, next_trans, next_join, next_file, resolved, is_stop, stops, tried, next}
 
 -- ---- ids and clock
 
--- the id that the next transaction gets
-abbrev pub next_trans : State → TransId
-next_trans s = record { server = s.server; epoch = s.epoch; counter = s.drawn + 1 }
+-- the transactions that the acts draw, and the one that a reply says began
+abbrev pub drawn_by : Act → List TransId
+drawn_by (act.Drawn t) = t ∷ []
+drawn_by a = []
 
--- a transaction that begins gets the next id, and nothing else comes about
-abbrev pub DrawsNext : State → Option Reply → List Act → Type 0
-DrawsNext s (Some (reply.Begun t)) acts = (t ≡ next_trans s) × (acts ≡ act.Drawn t ∷ [])
-DrawsNext s r acts = Unit {0}
+abbrev pub begun_in : Option Reply → List TransId
+begun_in (Some (reply.Begun t)) = t ∷ []
+begun_in r = []
 
--- what is decided is live, and its stamp is above the clock
-abbrev pub Decides : State → Act → Type 0
-Decides s (act.Decided stamp parts) = (s.clock < stamp.ts) × IsSome (s.lives stamp.trans)
-Decides s a = Unit {0}
+abbrev pub begun_new : State → Event → Option Reply → List TransId
+begun_new s (event.Call client epoch number c) r = if is_new s client epoch number then begun_in r else []
+begun_new s e r = []
+
+-- a transaction is drawn just where a new call is answered so
+abbrev pub DrawsAsTold : State → Entry → Type 0
+DrawsAsTold s e = flat_map drawn_by e.acts ≡ begun_new s e.event e.reply
+
+-- each kind of ids is counted through, and the epoch rises by one
+abbrev pub CountsOn : State → Deed → Type 0
+CountsOn s (Begins t client who seen) = t ≡ next_trans s
+CountsOn s (Joins j t client who) = (j ≡ next_join s) × (is_other_server s t.server ≡ true)
+CountsOn s (Performs t d) = (f : FileId) → id_in d.reply ≡ Some f → f ≡ next_file s
+CountsOn s (Restarts epoch clock) = epoch ≡ s.ids.epoch + 1
+CountsOn s d = Unit {0}
+
+-- ---- sessions
+
+-- an answer that changes nothing
+abbrev pub Repeats : Option Reply → Entry → Type 0
+Repeats r e = (e.reply ≡ r) × (e.acts ≡ [])
+
+-- a greeting begins a session with the first number; while it is the last one it gets the same reply, and no other is answered
+abbrev pub Greets : State → ℕ → ℕ → Entry → Option Session → Type 0
+Greets s epoch number e None = Where (epoch == 0 && number == 1) (e.reply ≡ Some (reply.Welcome s.ids.epoch)) (Repeats None e)
+Greets s epoch number e (Some w) = Where (epoch == 0 && number == 1 && w.last == 1) (Repeats (Some w.reply) e) (Repeats None e)
+
+abbrev pub stale : State → Option Reply
+stale s = Some (reply.Refused (refusal.StaleSession s.ids.epoch))
+
+-- the last number gets the kept reply, the next one is answered, and no other is
+abbrev pub CallsOn : State → ℕ → ℕ → Entry → Option Session → Type 0
+CallsOn s epoch number e None = Repeats (stale s) e
+CallsOn s epoch number e (Some w) =
+    Where (not (epoch == s.ids.epoch)) (Repeats (stale s) e)
+    (Where (number == w.last) (Repeats (Some w.reply) e) (Where (number == w.last + 1) (IsSome e.reply) (Repeats None e)))
+
+abbrev pub KeepsSessions : State → Entry → Event → Type 0
+KeepsSessions s e (event.Call client epoch number (call.Hello name)) = Greets s epoch number e (s.desk.sessions client)
+KeepsSessions s e (event.Call client epoch number c) = CallsOn s epoch number e (s.desk.sessions client)
+KeepsSessions s e x = e.reply ≡ (if stops e then Some (reply.Refused refusal.Down) else None)
+
+-- ---- the view
+
+abbrev pub client_of : Event → Option ℕ
+client_of (event.Call client epoch number c) = Some client
+client_of e = None
+
+-- A file call is performed by its own client's part, before it votes. It is one of the grammar. Its reply is what a
+-- thread is answered that sees the committed cells with the part's own earlier changes, and the part holds the locks of
+-- the call, as it sees the files. A call that is refused as one on an unknown open, or on an open that is not for change,
+-- needs no locks.
+pub record IsPerformed (s : Holder) (e : Event) (l : Life) (d : PerformedCall) : Type 0 where
+  pub client : client_of e ≡ Some l.client
+  pub active : l.vote ≡ None
+  pub formed : IsFormed d.call
+  pub right : (answer_in s l d).reply ≡ Some d.reply
+  pub locked : HoldsEach l.held (needs_of (view_in s l) l.own d.call)
+
+abbrev pub SeesView : Event → State → Deed → Type 0
+SeesView e s (Performs t d) = (l : Life) × (s.holder.lives t ≡ Some l) × IsPerformed s.holder e l d
+SeesView e s d = Unit {0}
 
 -- ---- locks
 
@@ -48,121 +117,317 @@ Decides s a = Unit {0}
 abbrev pub DoLivesAgree : (TransId → Option Life) → Type 0
 DoLivesAgree lives = (t u : TransId) (k l : Life) → lives t ≡ Some k → lives u ≡ Some l → same_trans t u ≡ false → DoAgree k.held l.held
 
--- a part gets locks that it asks for, and none after its vote
-abbrev pub MayBeGranted : Event → State → TransId → Option Life → Type 0
-MayBeGranted e s t None = ⊥
-MayBeGranted e s t (Some l) = (l.vote ≡ None) × IsSome (asks_for e s t l)
+-- a join that is let in or ready, of this transaction
+abbrev pub IsHolding : TransId → Phase → Type 0
+IsHolding t (Active u client who) = u ≡ t
+IsHolding t (Ready u client ts) = u ≡ t
+IsHolding t p = ⊥
 
--- locks agree as soon as they are granted, and only a live part's are released
-abbrev pub KeepsLocks : Event → State → Act → Type 0
-KeepsLocks e s (act.Granted t) = MayBeGranted e s t (s.lives t) × DoLivesAgree (after_act e s (act.Granted t)).lives
-KeepsLocks e s (act.Released t) = IsSome (s.lives t)
-KeepsLocks e s a = Unit {0}
+-- no part of the transaction lives on
+abbrev pub HasEnded : State → TransId → Type 0
+HasEnded s t = (is_running (s.fates t) ≡ false) × ((j : JoinNo) → IsHolding t (s.phases j) → ⊥)
 
--- the parts whose release stands in the acts, and those that a decision ends
+-- locks agree as soon as they are granted and as a file is made, none are granted after the vote, and only those of a part that ended are released
+abbrev pub KeepsLocks : State → Deed → Type 0
+KeepsLocks s (Grants t c) = ((l : Life) → s.holder.lives t ≡ Some l → l.vote ≡ None) × DoLivesAgree (state_deed s (Grants t c)).holder.lives
+KeepsLocks s (Performs t d) = DoLivesAgree (state_deed s (Performs t d)).holder.lives
+KeepsLocks s (Releases t) = IsSome (s.holder.lives t) × HasEnded s t
+KeepsLocks s d = Unit {0}
+
+-- a part that runs: its transaction was begun here and is not decided or aborted, or it was let in and did not vote
+abbrev pub IsOpenPart : State → TransId → Type 0
+IsOpenPart s t = (is_running (s.fates t) ≡ true) ⊎ ((j : JoinNo) × (client : ℕ) × (who : List ℕ) × (s.phases j ≡ Active t client who))
+
+-- locks are granted to parts that run, and calls are performed by them
+abbrev pub IsOfOpenPart : State → Deed → Type 0
+IsOfOpenPart s (Grants t c) = IsOpenPart s t
+IsOfOpenPart s (Performs t d) = IsOpenPart s t
+IsOfOpenPart s d = Unit {0}
+
 abbrev pub released_by : Act → List TransId
 released_by (act.Released t) = t ∷ []
 released_by a = []
 
-abbrev pub ended_by : Act → List TransId
-ended_by (act.Decided stamp parts) = stamp.trans ∷ []
-ended_by a = []
+abbrev pub granted_by : Act → List TransId
+granted_by (act.Granted t) = t ∷ []
+granted_by a = []
 
--- a Finish that is refused as aborted ends the part, where it is the client's own and live
-abbrev pub ends_if : TransId → ℕ → Option Life → List TransId
-ends_if t client None = []
-ends_if t client (Some l) = if l.client == client then t ∷ [] else []
+abbrev pub grants_of : Deed → List TransId
+grants_of (Grants t c) = t ∷ []
+grants_of d = []
 
-abbrev pub ended_at : State → ℕ → ℕ → ℕ → Call → Reply → List TransId
-ended_at s client epoch number (call.Finish t commit) (reply.Refused (refusal.Aborted cause)) =
-    if is_new s (s.sessions client) epoch number then ends_if t client (s.lives t) else []
-ended_at s client epoch number c r = []
+-- a join that still asks to be let in has no locks to release
+abbrev pub ended_join : TransId → Phase → List TransId
+ended_join t (Active u client who) = t ∷ []
+ended_join t (Ready u client ts) = t ∷ []
+ended_join t p = []
 
--- so does a timeout, unless the part voted
-abbrev pub times_out : TransId → Option Life → List TransId
-times_out t None = []
-times_out t (Some l) = if is_some l.vote then [] else t ∷ []
+-- the parts that end by a deed
+abbrev pub ended_by : State → Deed → List TransId
+ended_by s (Ends t client c) = t ∷ []
+ended_by s (Quits j t client c) = ended_join t (s.phases j)
+ended_by s (Aborts j t client c) = ended_join t (s.phases j)
+ended_by s (Decides stamp js) = stamp.trans ∷ []
+ended_by s (Applies j stamp) = stamp.trans ∷ []
+ended_by s d = []
 
--- the parts that end by the event itself
-abbrev pub ended_in : State → Event → Option Reply → List TransId
-ended_in s (event.Call client epoch number c) (Some r) = ended_at s client epoch number c r
-ended_in s (event.Timeout t) r = times_out t (s.lives t)
-ended_in s e r = []
-
--- each part that ends in the entry is released once, and no other; none ends where the device stopped
+-- each part that ends is released once, and no other; what is granted was asked for
 abbrev pub ReleasesEnded : State → Entry → Type 0
-ReleasesEnded s e =
-    flat_map released_by (brought e.acts) ≡ (if list_any is_stop e.acts then [] else ended_in s e.event e.reply) ++ flat_map ended_by (brought e.acts)
+ReleasesEnded s e = (flat_map released_by e.acts ≡ flat_map (ended_by s) (tried s e)) × (flat_map granted_by e.acts ≡ flat_map grants_of (tried s e))
 
 -- what the part would hold for the call agrees with all that the others hold
-abbrev pub IsFree : State → TransId → Life → Call → Type 0
+abbrev pub IsFree : Holder → TransId → Life → Call → Type 0
 IsFree s t l c = (u : TransId) (k : Life) → s.lives u ≡ Some k → same_trans u t ≡ false → DoAgree k.held (held_for s l c)
+
+-- the waiting call asks for locks that are not free
+abbrev pub IsBlocked : State → Waiting → Option TransId → Type 0
+IsBlocked s w None = Unit {0}
+IsBlocked s w (Some t) = w.is_granted ≡ false → (l : Life) → s.holder.lives t ≡ Some l → IsFree s.holder t l w.call → ⊥
 
 -- nobody is left waiting whose way is free
 abbrev pub WaitsInTurn : State → Type 0
-WaitsInTurn s =
-    (client : ℕ) (w : Waiting) (t : TransId) (l : Life) → s.waiting client ≡ Some w → w.is_granted ≡ false → file_trans w.call ≡ Some t → s.lives t ≡ Some l → IsFree s t l w.call → ⊥
+WaitsInTurn s = AllByRecursion (λ (w : Waiting). IsBlocked s w (file_trans w.call)) s.desk.waits
 
--- ---- performed calls
+-- Nothing of this stands where the device stopped. A restart leaves the locks of ready parts alone, and nobody waits; it releases
+-- none by an act, also where it finds a commit made that a stop had cut off.
+abbrev pub LetsGo : State → Entry → Event → Type 0
+LetsGo s e event.Restart = Unit {0}
+LetsGo s e x = Where (stops e) (Unit {0}) (ReleasesEnded s e × WaitsInTurn (next s e))
 
--- the client of a call
-abbrev pub client_of : Event → Option ℕ
-client_of (event.Call client epoch number c) = Some client
-client_of e = None
+-- ---- a transaction at its coordinator
 
--- A file call is performed by its own client's part, before it votes. It is one of the grammar. Its reply is what a
--- thread is answered that sees the committed cells with the part's own earlier changes; the id of a new file was never
--- given before; and the part holds the locks of the call, as it sees the files. A call that is refused as one on an
--- unknown open, or on an open that is not for change, needs no locks.
-pub record IsPerformed (s : State) (e : Event) (l : Life) (d : PerformedCall) : Type 0 where
-  pub client : client_of e ≡ Some l.client
-  pub active : l.vote ≡ None
-  pub formed : IsFormed d.call
-  pub right : (answer_in s l d).reply ≡ Some d.reply
-  pub fresh : (f : FileId) → id_in d.reply ≡ Some f → has_file f s.made ≡ false
-  pub locked : HoldsEach l.held (needs_of (view_in s l) l.own d.call)
+-- the join of another server comes as the first of its server, to a transaction of its own client that is not finished yet
+pub record MayRegister (e : Event) (s : State) (t : TransId) (j : JoinNo) : Type 0 where
+  pub from : ℕ
+  pub client : ℕ
+  pub joins : List JoinNo
+  pub asked : e ≡ event.Arrive from (msg.Register t j client)
+  pub runs : s.fates t ≡ Running client joins
+  pub first : has_server j.server joins ≡ false
+  pub elsewhere : is_other_server s j.server ≡ true
 
-abbrev pub PerformsRight : State → Event → Option (TransId × PerformedCall) → Type 0
-PerformsRight s e None = Unit {0}
-PerformsRight s e (Some x) = (l : Life) × (s.lives x.0 ≡ Some l) × IsPerformed s e l x.1
+abbrev pub RegistersOnce : Event → State → Deed → Type 0
+RegistersOnce e s (Registers t j) = MayRegister e s t j
+RegistersOnce e s d = Unit {0}
 
--- ---- what is told
+-- the least time that all votes allow, and the clock
+abbrev pub latest_vote : ℕ → List Vote → ℕ
+latest_vote n [] = n
+latest_vote n (v ∷ vs) = latest_vote (max n v.1) vs
 
--- each stamp that is told is of a decided transaction
-abbrev pub AreDecided : List Decided → List Told → Type 0
-AreDecided ds [] = Unit {0}
-AreDecided ds (Began t ∷ more) = AreDecided ds more
-AreDecided ds (Heard s ∷ more) = IsAmong s ds × AreDecided ds more
+-- the transaction has a part here that has not voted
+abbrev pub LivesUnvoted : State → TransId → Type 0
+LivesUnvoted s t = (l : Life) × (s.holder.lives t ≡ Some l) × (l.vote ≡ None)
+
+-- a transaction is decided at its Finish, or as a vote for it arrives
+abbrev pub DecidesAt : TransId → Event → Type 0
+DecidesAt t (event.Call client epoch number (call.Finish u commit)) = u ≡ t
+DecidesAt t (event.Arrive from (msg.Ready u j ts)) = u ≡ t
+DecidesAt t e = ⊥
+
+-- what is decided was finished by its client, here and in this epoch; its joins are all that registered; each has voted;
+-- its time is the greatest of the votes and of the one after the clock; no file call of its part here waits or is not collected
+pub record MayDecide (e : Event) (s : State) (stamp : Stamp) (joins : List JoinNo) : Type 0 where
+  pub client : ℕ
+  pub votes : List Vote
+  pub asked : DecidesAt stamp.trans e
+  pub own : stamp.trans.server ≡ s.holder.server
+  pub now : stamp.trans.epoch ≡ s.ids.epoch
+  pub finishing : s.fates stamp.trans ≡ Finishing client joins votes
+  pub voted : has_votes (s.fates stamp.trans) ≡ true
+  pub time : stamp.ts ≡ latest_vote (s.holder.clock + 1) votes
+  pub idle : (w : Waiting) → waiting_of s.desk client stamp.trans ≡ Some w → file_trans w.call ≡ None
+  pub live : LivesUnvoted s stamp.trans
+
+abbrev pub DecidesRight : Event → State → Deed → Type 0
+DecidesRight e s (Decides stamp joins) = MayDecide e s stamp joins
+DecidesRight e s d = Unit {0}
+
+abbrev pub ForgetsRight : State → Deed → Type 0
+ForgetsRight s (Forgets t) = (stamp : Stamp) × (joins : List JoinNo) × (done : List JoinNo) × (s.fates t ≡ Committed stamp joins done) × (has_all done joins ≡ true)
+ForgetsRight s d = Unit {0}
+
+-- ---- a part at its worker
+
+-- a part votes when it is asked, once, without a call that waits or is not collected, for the time after the clock
+pub record MayReady (e : Event) (s : State) (j : JoinNo) (t : TransId) (ts : ℕ) : Type 0 where
+  pub from : ℕ
+  pub client : ℕ
+  pub who : List ℕ
+  pub asked : e ≡ event.Arrive from (msg.Ask t j)
+  pub active : s.phases j ≡ Active t client who
+  pub idle : waiting_of s.desk client t ≡ None
+  pub time : ts ≡ s.holder.clock + 1
+  pub live : LivesUnvoted s t
+
+abbrev pub VotesOnce : Event → State → Deed → Type 0
+VotesOnce e s (Readies j t ts) = MayReady e s j t ts
+VotesOnce e s d = Unit {0}
+
+-- the transaction has a part here that voted for this time, in this run or an earlier one
+abbrev pub LivesVoted : State → TransId → ℕ → Type 0
+LivesVoted s t ts = (l : Life) × (s.holder.lives t ≡ Some l) × (l.vote ≡ Some ts)
+
+-- a ready part is applied when its coordinator says so, at that stamp
+pub record MayApply (e : Event) (s : State) (j : JoinNo) (stamp : Stamp) : Type 0 where
+  pub from : ℕ
+  pub client : ℕ
+  pub ts : ℕ
+  pub told : e ≡ event.Arrive from (msg.Commit stamp.trans j stamp)
+  pub ready : s.phases j ≡ Ready stamp.trans client ts
+  pub elsewhere : is_other_server s stamp.trans.server ≡ true
+  pub live : LivesVoted s stamp.trans ts
+
+abbrev pub AppliesRight : Event → State → Deed → Type 0
+AppliesRight e s (Applies j stamp) = MayApply e s j stamp
+AppliesRight e s d = Unit {0}
+
+-- ---- what is said to other servers
+
+-- an abort is said of a transaction that was drawn here and does not run: with the cause by which it ended, or as lost
+-- where it is of an older epoch, unless its decision stands
+abbrev pub MayAbort : State → TransId → Cause → Fate → Type 0
+MayAbort s t c (Ended d) = c ≡ (if t.epoch == s.ids.epoch then d else cause.Lost s.ids.epoch)
+MayAbort s t c Undrawn = (t.epoch < s.ids.epoch) × (c ≡ cause.Lost s.ids.epoch)
+MayAbort s t c (Forgotten stamp joins) = (t.epoch < s.ids.epoch) × (c ≡ cause.Lost s.ids.epoch)
+MayAbort s t c (Committed stamp [] done) = (t.epoch < s.ids.epoch) × (c ≡ cause.Lost s.ids.epoch)
+MayAbort s t c (Committed stamp (j ∷ joins) done) = ⊥
+MayAbort s t c (Running client joins) = ⊥
+MayAbort s t c (Finishing client joins votes) = ⊥
+
+abbrev pub HasDecision : Stamp → JoinNo → Option (Stamp × List JoinNo) → Type 0
+HasDecision stamp j None = ⊥
+HasDecision stamp j (Some x) = (x.0 ≡ stamp) × (has_join j x.1 ≡ true)
+
+-- a part has applied it, or is not here any more, as it was told to commit
+abbrev pub IsDone : Event → State → TransId → JoinNo → Type 0
+IsDone e s t j = (from : ℕ) × (stamp : Stamp) × (e ≡ event.Arrive from (msg.Commit t j stamp)) × (is_join_drawn s j ≡ true) × (live_in (s.phases j) ≡ None)
+
+-- what is said of a join that is let in, a vote, a commit, an abort and an end is so after the entry
+abbrev pub MaySay : Event → State → Message → Type 0
+MaySay e s (msg.Ready t j ts) = (client : ℕ) × (s.phases j ≡ Ready t client ts)
+MaySay e s (msg.Commit t j stamp) = HasDecision stamp j (decision_in (s.fates t))
+MaySay e s (msg.Abort t j c) = (is_trans_drawn s t ≡ true) × MayAbort s t c (s.fates t)
+MaySay e s (msg.Done t j) = IsDone e s t j
+MaySay e s (msg.Joined t j) = has_join j (joins_of (s.fates t)) ≡ true
+MaySay e s m = Unit {0}
+
+abbrev pub SaysRight : Event → State → Act → Type 0
+SaysRight e s (act.Sent to m) = MaySay e s m
+SaysRight e s a = Unit {0}
+
+-- ---- what is told to clients
+
+-- the decided transaction has the stamp, and was decided in this run
+abbrev pub IsDecidedAs : Stamp → State → Type 0
+IsDecidedAs stamp s = (joins : List JoinNo) × (decision_in (s.fates stamp.trans) ≡ Some (stamp, joins)) × ((d : Decided) × (entries.find stamp_cmp stamp s.holder.applied ≡ Some d))
+
+-- how a transaction stands: decided, in this epoch or by a note; running; ended, if it is of this epoch; else nothing is
+-- known of it
+abbrev pub ending_of : State → TransId → Fate → Ending
+ending_of s t (Committed stamp [] done) = if t.epoch == s.ids.epoch then ending.Committed stamp else ending.Unknown
+ending_of s t (Committed stamp (j ∷ joins) done) = ending.Committed stamp
+ending_of s t (Forgotten stamp joins) = if t.epoch == s.ids.epoch then ending.Committed stamp else ending.Unknown
+ending_of s t (Running client joins) = ending.Running
+ending_of s t (Finishing client joins votes) = ending.Running
+ending_of s t (Ended c) = if t.epoch == s.ids.epoch then ending.Aborted else ending.Unknown
+ending_of s t Undrawn = ending.Unknown
+
+abbrev pub Outcomes : State → Call → Ending → Type 0
+Outcomes s (call.Outcome t) x = (is_trans_drawn s t ≡ true) × (x ≡ ending_of s t (s.fates t))
+Outcomes s c x = ⊥
+
+abbrev pub TellsIn : State → Call → Reply → Type 0
+TellsIn s c (reply.Committed stamp) = IsDecidedAs stamp s
+TellsIn s (call.Begin seen) (reply.Begun t) = Unit {0}
+TellsIn s c (reply.Begun t) = ⊥
+TellsIn s c (reply.Ended x) = Outcomes s c x
+TellsIn s c r = Unit {0}
+
+-- of new calls; a repeat tells what was told
+abbrev pub TellsDecided : State → State → Event → Option Reply → Type 0
+TellsDecided before s (event.Call client epoch number c) (Some r) = Where (is_new before client epoch number) (TellsIn s c r) (Unit {0})
+TellsDecided before s e r = Unit {0}
+
+-- ---- restart
+
+-- a decision with joins that is not forgotten
+abbrev pub is_standing : Stamp → Fate → Bool
+is_standing x (Committed stamp [] done) = false
+is_standing x (Committed stamp (j ∷ js) done) = same_stamp stamp x
+is_standing x f = false
+
+-- what the notes keep once all is resolved: the clock of the last commit, the ready joins, and the decisions with joins
+-- that are not forgotten
+pub record IsFound (s : State) (time : ℕ) (joins : List JoinNo) (stamps : List Stamp) : Type 0 where
+  pub clock : time ≡ s.holder.kept
+  pub ready : (j : JoinNo) → has_join j joins ≡ is_ready (s.phases j)
+  pub decided : (x : Stamp) → has_stamp x stamps ≡ is_standing x (s.fates x.trans)
+
+abbrev pub Regains : State → List Act → Type 0
+Regains s (act.Regained epoch clock ready stamps ∷ []) = (epoch ≡ s.ids.epoch + 1) × IsFound (state_after state_deed s (resolved s ready clock stamps)) clock ready stamps
+Regains s acts = ⊥
+
+abbrev pub regained_by : Act → Bool
+regained_by (act.Regained epoch clock ready stamps) = true
+regained_by a = false
+
+-- a restart finds all that is stable and brings nothing else about; a server that is down does nothing but start again
+abbrev pub StartsRight : State → Entry → Event → Type 0
+StartsRight s e event.Restart = Regains s e.acts × (e.reply ≡ None)
+StartsRight s e x = (list_any regained_by e.acts ≡ false) × (s.is_down ≡ false)
+
+-- ---- a stopped entry
+
+-- its last act is the stop, and at most one write stands before it
+abbrev pub is_written : Act → Bool
+is_written (act.Readied t j ts) = true
+is_written (act.Applied j stamp) = true
+is_written (act.Decided stamp joins) = true
+is_written (act.Forgot t) = true
+is_written a = false
+
+abbrev pub IsStopped : List Act → Type 0
+IsStopped (a ∷ []) = is_stop a ≡ true
+IsStopped (a ∷ b ∷ []) = (is_written a ≡ true) × (is_stop b ≡ true)
+IsStopped acts = ⊥
+
+-- whoever gave the event is told that the server is down
+abbrev pub TellsStop : Event → Option Reply → Type 0
+TellsStop e r = r ≡ Some (reply.Refused refusal.Down)
+
+abbrev pub StopsRight : Entry → Type 0
+StopsRight e = Where (stops e) (IsStopped e.acts × TellsStop e.event e.reply) (Unit {0})
 
 -- ---- an entry, and a journal
 
+-- the laws on what comes about, each of one deed in the state where it does
+pub record IsLawfulDeed (e : Event) (s : State) (d : Deed) : Type 0 where
+  pub counts : CountsOn s d
+  pub view : SeesView e s d
+  pub locks : KeepsLocks s d
+  pub running : IsOfOpenPart s d
+  pub registration : RegistersOnce e s d
+  pub vote : VotesOnce e s d
+  pub decision : DecidesRight e s d
+  pub application : AppliesRight e s d
+  pub forgetting : ForgetsRight s d
+
+-- what a restart resolves was lawful when it was tried
+abbrev pub DeedsAreLawful : State → Entry → Event → Type 0
+DeedsAreLawful s e event.Restart = Unit {0}
+DeedsAreLawful s e x = Along state_deed (IsLawfulDeed x) s (tried s e)
+
 pub record IsLawfulEntry (s : State) (e : Entry) : Type 0 where
-  -- ids come one after the other
-  pub ids : DrawsNext s e.reply e.acts
-  -- the clock rises with each decision
-  pub decision : Along (after_act e.event) Decides s (brought e.acts)
-  -- the view: a file call is answered as one thread is, under its locks
-  pub view : PerformsRight (acted s e) e.event (performs (acted s e) e.event e.reply)
-  -- locks are granted to those who ask, and agree at each grant
-  pub grants : Along (after_act e.event) (KeepsLocks e.event) s (brought e.acts)
-  -- and after the entry
-  pub agree : DoLivesAgree (next s e).lives
-  -- locks are released at a part's end, and only then
-  pub released : ReleasesEnded s e
-  -- and whoever is free then does not go on waiting
-  pub waiting : WaitsInTurn (next s e)
-  -- no commit is told before it is decided
-  pub told : AreDecided (in_order (next s e)) (told_by e.reply)
+  pub drawn : DrawsAsTold s e
+  pub sessions : KeepsSessions s e e.event
+  pub deeds : DeedsAreLawful s e e.event
+  pub agree : DoLivesAgree (next s e).holder.lives
+  pub released : LetsGo s e e.event
+  pub said : AllByRecursion (SaysRight e.event (next s e)) e.acts
+  pub told : TellsDecided s (next s e) e.event e.reply
+  pub restart : StartsRight s e e.event
+  pub stopped : StopsRight e
 
 abbrev pub IsLawful : Start → List Entry → Type 0
 IsLawful o journal = Along next IsLawfulEntry (opened o) journal
-
--- a server opens on well-formed files whose owners' records hold their charges; sizes are numbers of pages
-pub record IsSoundOpening (o : Start) : Type 0 where
-  pub files : AreSound o.cells
-  pub sizes : AreSized (map.get o.cells)
-
--- the times of these stamps go no further
-abbrev pub AreEarlier : ℕ → List (Stamp × Decided) → Type 0
-AreEarlier clock [] = Unit {0}
-AreEarlier clock (d ∷ ds) = (d.0.ts ≤ clock) × AreEarlier clock ds

@@ -5,7 +5,6 @@ mod act;
 mod entry;
 mod event;
 mod journal;
-mod laws;
 mod lists;
 mod log;
 mod message;
@@ -15,10 +14,7 @@ pub use act::Act;
 pub use entry::Entry;
 pub use event::Event;
 pub use journal::Journal;
-pub use laws::{
-    decided_transactions_are_one_thread, passing_refusals_change_nothing, promises_are_kept,
-};
 pub use lists::{Acts, Parts, Stamps};
-pub use log::{Exchange, LineLog, RunLog};
+pub use log::{ClientLog, Item, Mark, RunLog, Sent, ServerLog};
 pub use message::{Envelope, Message};
 pub use opening::Opening;

@@ -1,4 +1,6 @@
 //! A request that is ready to be granted.
+ghost use Rattle.std.specs.Prelude.{◌≡◌, ◌==◌, length};
+
 use alp_queue::Waiter;
 use std::marker::Model;
 
@@ -18,4 +20,13 @@ impl Model for Plan {
     ghost coded = { waiter_type.the_row.coded };
 
     ghost view = { λ p. p.waiter };
+}
+
+impl Plan {
+    /// Whether all that is asked for is held already.
+    pub fn is_held(&self) -> bool
+        ensures { result ≡ (length self.now.rises == 0) }
+    {
+        self.waiter.rises.as_slice().is_empty()
+    }
 }

@@ -1,6 +1,6 @@
 -- sessions at their clients' numbers, and transactions by their ids
 use Rattle.std.specs.Prelude.{cond, Bool, true, false, ◌==◌, Option, None, Some, slice_get, slice_set, is_some}
-use Rattle.std.specs.Option.{option_map, option_and_then}
+use Rattle.std.specs.Option.{option_and_then}
 use Rattle.std.specs.FinMap as map
 use Rattle.std.specs.FinMap.{get-insert, get-remove, len-insert, len-remove, same_map}
 use Rattle.std.specs.Ordering.{eq_by_cmp}
@@ -10,11 +10,9 @@ use Rattle.std.proofs.lemmas.Bool.{eqb-true}
 use Rattle.alp_base.specs.declared.ids.TransId.{TransId}
 use Rattle.alp_base.specs.Orders.{trans_cmp, transactions_total, exact_transactions}
 use Rattle.alp_locks.proofs.HeldLemmas.{tied}
-use Rattle.alp_journal.specs.State.{same_trans}
-use Rattle.alp_journal.specs.State as state
-use Rattle.alp_journal.proofs.StateLemmas.{same_trans-itself, same_trans-true}
+use Rattle.alp_journal.specs.Ids.{same_trans}
+use Rattle.alp_journal.proofs.IdLemmas.{same_trans-itself, same_trans-true}
 use Rattle.alp_node.specs.Sessions.{session_at, with_session}
-use Rattle.alp_node.specs.ServerState.{told_session}
 use Rattle.alp_node.specs.declared.sessions.Session.{Session}
 use Rattle.alp_node.specs.declared.sessions.Sessions.{Sessions}
 
@@ -40,18 +38,6 @@ at_set {X} xs i j y h = go (j == i) refl
     go : (b : Bool) → (j == i) ≡ b → slice_get (slice_set xs i y) j ≡ cond {A = Option X} b (Some y) (slice_get xs j)
     go true e = ap (slice_get (slice_set xs i y)) (eqb-true j i e) ∙ at_same xs i y h
     go false e = at_other xs i j y (λ same. let wrong : true ≡ false = sym (eq-eqb j i same) ∙ e in cc)
-
-told_cond : (b : Bool) (w : Session) (x : Option (Option Session))
-    → option_map told_session (option_and_then (λ z. z) (cond {A = Option (Option Session)} b (Some (Some w)) x)) ≡ cond {A = Option state.Session} b (Some (told_session w)) (option_map told_session (option_and_then (λ z. z) x))
-told_cond true w x = refl
-told_cond false w x = refl
-
--- the session that was set
-pub session_set : (s : Sessions) (client : ℕ) (w : Session) (c : ℕ) → length s.places ≡ 17 → client ≤ 16
-    → option_map told_session (session_at (with_session s client w) c) ≡ cond {A = Option state.Session} (c == client) (Some (told_session w)) (option_map told_session (session_at s c))
-session_set s client w c full le =
-    ap (λ (x : Option (Option Session)). option_map told_session (option_and_then (λ z. z) x)) (at_set s.places client c (Some w) (omega (arith, full, le)))
-    ∙ told_cond (c == client) w (slice_get s.places c)
 
 at_cond : (b : Bool) (w : Session) (x : Option (Option Session)) → option_and_then (λ z. z) (cond {A = Option (Option Session)} b (Some (Some w)) x) ≡ cond {A = Option Session} b (Some w) (option_and_then (λ z. z) x)
 at_cond true w x = refl

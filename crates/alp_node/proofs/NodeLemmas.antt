@@ -1,95 +1,93 @@
--- a server keeps to its journal
-use Rattle.std.specs.Prelude.{Bool, false, IsTrue}
-use Rattle.std.specs.FinMap as map
-use Rattle.std.proofs.Common.{◌≡◌, ℕ, ◌+◌, List, [], ◌∷◌, ◌++◌, length, length-append, sym, ◌∙◌, ap, subst}
-use Rattle.alp_files.specs.Cells.{Cells}
-use Rattle.alp_files.specs.Edits.{after, edits_map}
-use Rattle.alp_files.specs.Sound.{AreSound}
-use Rattle.alp_files.proofs.HistoryLemmas.{get-edits_map, same_cells}
-use Rattle.alp_journal.specs.declared.entry.Entry.{Entry}
-use Rattle.alp_journal.specs.State.{State, Start, Along, next, opened}
-use Rattle.alp_journal.specs.Laws.{IsLawful, IsLawfulEntry}
-use Rattle.alp_journal.specs.Causes.{HasCause}
-use Rattle.alp_journal.specs.declared.event.Event.{Event}
-use Rattle.alp_journal.proofs.StateLemmas.{Along-push, state_after-push}
-use Rattle.alp_journal.proofs.OneThread.{live_sound}
+-- a server and its journal, one step more
+use Rattle.std.specs.Prelude.{IsTrue, Bool, true}
+use Rattle.std.proofs.Common.{◌≡◌, ℕ, ◌+◌, List, [], ◌∷◌, ◌++◌, length, length-append, refl, sym, ◌∙◌, ap, subst}
+use Rattle.alp_base.specs.Causes.{Rose}
 use Rattle.alp_vault.specs.Contents.{Contents}
+use Rattle.alp_vault.specs.declared.vault.Vault.{Ghosts}
+use Rattle.alp_journal.specs.declared.entry.Entry.{Entry}
+use Rattle.alp_journal.specs.declared.event.Event.{Event}
+use Rattle.alp_journal.specs.Along.{state_after, Along}
+use Rattle.alp_journal.specs.Opening.{Start}
+use Rattle.alp_journal.specs.State.{State, opened}
+use Rattle.alp_journal.specs.Moves.{next}
+use Rattle.alp_journal.specs.Laws.{IsLawful, IsLawfulEntry}
+use Rattle.alp_journal.specs.Answered.{IsAnswered, IsAnsweredSo, IsAnsweredEntry}
+use Rattle.alp_journal.specs.Alone.{Alone, alone}
 use Rattle.alp_node.specs.declared.answer.Answer.{Answer}
 use Rattle.alp_node.specs.declared.node.Node.{Node}
+use Rattle.alp_node.specs.declared.opened.Opened.{Opened}
 use Rattle.alp_node.specs.ServerState.{IsAs, IsReady}
-use Rattle.alp_node.specs.Nodes.{IsConsistent, IsRight, start_at, start_in}
-use Rattle.alp_journal.specs.Serial.{state_of}
-use Rattle.alp_node.specs.Served.{AreLivesSound}
+use Rattle.alp_node.specs.Nodes.{IsConsistent, IsRight, HasCause, state_of, start_by, start_in}
 use Rattle.alp_node.specs.Steps.{Stepped, entry_of}
-use Rattle.alp_node.proofs.KeptLemmas.{IsLive, live_there, over_empty}
 
--- the state after one entry more
-pub state_pushed : (o : Start) (journal : List Entry) (e : Entry) → state_of o (journal ++ e ∷ []) ≡ next (state_of o journal) e
-state_pushed o journal e = state_after-push next (opened o) journal e
+pub state_after-push : {S E : Type 0} (step : S → E → S) (s : S) (es : List E) (e : E) → state_after step s (es ++ e ∷ []) ≡ step (state_after step s es) e
+state_after-push step s [] e = refl
+state_after-push step s (x ∷ es) e = state_after-push step (step s x) es e
+
+pub Along-push : {S E : Type 0} (step : S → E → S) (law : S → E → Type 0) (s : S) (es : List E) (e : E) → Along step law s es → law (state_after step s es) e → Along step law s (es ++ e ∷ [])
+Along-push step law s [] e h k = (k, tt)
+Along-push step law s (x ∷ es) e h k = (h.0, Along-push step law (step s x) es e h.1 k)
+
+-- an entry has its cause in the state of the journal before it
+pub caused_so : {V : Type 0} (o : Start) (held then : Contents) (old new : Node V) (before now : ℕ) (e : Event) (x : Answer) (h : IsRight o held old) → Stepped h.state before now then new.kept e x
+    → HasCause before now (state_of o old.journal) (entry_of e x)
+caused_so o held then old new before now e x h s = (s.failed, subst (λ (z : State). IsAnsweredEntry s.failed z (entry_of e x)) (sym h.says) s.leads.answered, s.rose)
 
 -- one step more of a server that is right
-pub step_right : {V : Type 0} (o : Start) (held then : Contents) (old new : Node V) (e : Event) (a : Answer) → IsRight o held old → Stepped o (state_of o old.journal) then new.kept e a
-    → new.journal ≡ old.journal ++ (entry_of e a) ∷ [] → IsRight o then new
-step_right o held then old new e a h s is =
-    let state : state_of o new.journal ≡ s.next = ap (state_of o) is ∙ state_pushed o old.journal (entry_of e a) ∙ s.leads.leaves in
-    record {
-      opening = h.opening;
-      lawful = subst (IsLawful o) (sym is) (Along-push next IsLawfulEntry (opened o) old.journal (entry_of e a) h.lawful s.leads.lawful);
-      caused = subst (λ (es : List Entry). Along next HasCause (opened o) es) (sym is) (Along-push next HasCause (opened o) old.journal (entry_of e a) h.caused s.cause);
-      kept = subst (λ (m : State). IsAs o m then new.kept) (sym state) s.kept;
-    }
+pub step_right : {V : Type 0} (o : Start) (held then : Contents) (old new : Node V) (before now : ℕ) (e : Event) (x : Answer) (h : IsRight o held old) → Stepped h.state before now then new.kept e x
+    → new.journal ≡ old.journal ++ (entry_of e x) ∷ [] → IsRight o then new
+step_right o held then old new before now e x h s is = record {
+  opening = h.opening;
+  lawful = subst (IsLawful o) (sym is) (Along-push next IsLawfulEntry (opened o) old.journal (entry_of e x) h.lawful (subst (λ (z : State). IsLawfulEntry z (entry_of e x)) (sym h.says) s.leads.lawful));
+  caused = subst (IsAnswered o) (sym is) (Along-push next IsAnsweredSo (opened o) old.journal (entry_of e x) h.caused (s.failed, subst (λ (z : State). IsAnsweredEntry s.failed z (entry_of e x)) (sym h.says) s.leads.answered));
+  state = s.next;
+  says = ap (state_of o) is ∙ state_after-push next (opened o) old.journal (entry_of e x) ∙ ap (λ (z : State). next z (entry_of e x)) h.says ∙ s.leads.leaves;
+  kept = s.kept;
+}
 
 -- where nothing was answered
-pub still_right : {V : Type 0} (o : Start) (held then : Contents) (old new : Node V) → IsRight o held old → IsAs o (state_of o old.journal) then new.kept → new.journal ≡ old.journal → IsRight o then new
+pub still_right : {V : Type 0} (o : Start) (held then : Contents) (old new : Node V) (h : IsRight o held old) → IsAs h.state then new.kept → new.journal ≡ old.journal → IsRight o then new
 still_right o held then old new h as_is is = record {
   opening = h.opening;
   lawful = subst (IsLawful o) (sym is) h.lawful;
-  caused = subst (λ (es : List Entry). Along next HasCause (opened o) es) (sym is) h.caused;
-  kept = subst (λ (es : List Entry). IsAs o (state_of o es) then new.kept) (sym is) as_is;
+  caused = subst (IsAnswered o) (sym is) h.caused;
+  state = h.state;
+  says = ap (state_of o) is ∙ h.says;
+  kept = as_is;
 }
-
--- what the live parts intend leaves sound files
-pub lives_sound : {V : Type 0} (o : Start) (held : Contents) (n : Node V) → IsRight o held n → n.kept.is_down ≡ false → AreLivesSound held n.kept
-lives_sound o held n h up t l live m is =
-    let s : State = state_of o n.journal in
-    let x : IsLive n.kept.locks.held t l (s.lives t) = live_there n.kept.locks.held t (map.get n.kept.lives t) (s.lives t) l live (h.kept.lives t) in
-    let same : m ≡ edits_map x.life.edits s.cells =
-    same_cells m (edits_map x.life.edits s.cells)
-    (is ∙ (λ i q. x.alike.intents (map.get held.cells) i q) ∙ ap (after x.life.edits) (over_empty (map.get held.cells)) ∙ ap (λ (c : Cells). after x.life.edits (map.get c)) (h.kept.cells up) ∙ sym (get-edits_map x.life.edits s.cells)) in
-    subst AreSound (sym same) (live_sound o n.journal h.opening h.lawful t x.life x.is)
 
 pub counted_pushed : (es fs : List Entry) (e : Entry) → fs ≡ es ++ e ∷ [] → length fs ≡ length es + 1
 counted_pushed es fs e is = ap length is ∙ length-append es (e ∷ [])
 
-module _ {V : Type 0} (tells serves : V → Bool) (held : V → Contents) (old new : Node V) where
+module _ {V : Type 0} (G : Ghosts V) (old new : Node V) where
   -- the start is the same
-  start_same : new.opening ≡ old.opening → new.kept.server ≡ old.kept.server → start_in held old ≡ start_in held new
-  start_same opening server = (λ i. start_at (sym server i) (held (sym opening i).vault.value))
+  start_same : new.opening ≡ old.opening → new.kept.server ≡ old.kept.server → start_in G old ≡ start_in G new
+  start_same opening server = (λ i. start_by G (sym server i) (sym opening i).vault.value)
 
-  pub step_kept : (e : Event) (a : Answer) → IsConsistent tells serves held old → new.opening ≡ old.opening → new.kept.server ≡ old.kept.server → tells new.kept.vault ≡ tells old.kept.vault
-      → ((n : ℕ) → IsReady n (serves old.kept.vault) old.kept → IsReady (n + 1) (serves new.kept.vault) new.kept)
-      → (IsTrue (tells old.kept.vault) → (o : Start) (s : State) → IsAs o s (held old.kept.vault) old.kept → Stepped o s (held new.kept.vault) new.kept e a)
-      → new.journal ≡ old.journal ++ (entry_of e a) ∷ [] → IsConsistent tells serves held new
-  step_kept e a h opening server telling ready stepped is = record {
-    ready = subst (λ (n : ℕ). IsReady n (serves new.kept.vault) new.kept) (sym (counted_pushed old.journal new.journal (entry_of e a) is)) (ready (length old.journal) h.ready);
+  pub step_kept : (e : Event) (x : Answer) → IsConsistent G old → new.opening ≡ old.opening → new.kept.server ≡ old.kept.server → G.tells new.kept.vault ≡ G.tells old.kept.vault
+      → ((n : ℕ) → IsReady n (G.serves old.kept.vault) old.kept → IsReady (n + 1) (G.serves new.kept.vault) new.kept)
+      → (IsTrue (G.tells old.kept.vault) → (a : Alone) → IsAs a (G.held old.kept.vault) old.kept → Stepped a (G.faults old.kept.vault) (G.faults new.kept.vault) (G.held new.kept.vault) new.kept e x)
+      → new.journal ≡ old.journal ++ (entry_of e x) ∷ [] → IsConsistent G new
+  step_kept e x h opening server telling ready stepped is = record {
+    ready = subst (λ (n : ℕ). IsReady n (G.serves new.kept.vault) new.kept) (sym (counted_pushed old.journal new.journal (entry_of e x) is)) (ready (length old.journal) h.ready);
     right = λ told. (
-        let before : IsTrue (tells old.kept.vault) = subst IsTrue telling told in
-        let r : IsRight (start_in held old) (held old.kept.vault) old = h.right before in
-        subst (λ (o : Start). IsRight o (held new.kept.vault) new) (start_same opening server)
-        (step_right (start_in held old) (held old.kept.vault) (held new.kept.vault) old new e a r (stepped before (start_in held old) (state_of (start_in held old) old.journal) r.kept) is)
+        let before : IsTrue (G.tells old.kept.vault) = subst IsTrue telling told in
+        let r : IsRight (start_in G old) (G.held old.kept.vault) old = h.right before in
+        subst (λ (o : Start). IsRight o (G.held new.kept.vault) new) (start_same opening server)
+        (step_right (start_in G old) (G.held old.kept.vault) (G.held new.kept.vault) old new (G.faults old.kept.vault) (G.faults new.kept.vault) e x r (stepped before r.state r.kept) is)
         );
   }
 
-  pub still_kept : IsConsistent tells serves held old → new.opening ≡ old.opening → new.kept.server ≡ old.kept.server → tells new.kept.vault ≡ tells old.kept.vault
-      → ((n : ℕ) → IsReady n (serves old.kept.vault) old.kept → IsReady n (serves new.kept.vault) new.kept)
-      → ((o : Start) (s : State) → IsAs o s (held old.kept.vault) old.kept → IsAs o s (held new.kept.vault) new.kept)
-      → new.journal ≡ old.journal → IsConsistent tells serves held new
+  pub still_kept : IsConsistent G old → new.opening ≡ old.opening → new.kept.server ≡ old.kept.server → G.tells new.kept.vault ≡ G.tells old.kept.vault
+      → ((n : ℕ) → IsReady n (G.serves old.kept.vault) old.kept → IsReady n (G.serves new.kept.vault) new.kept)
+      → ((a : Alone) → IsAs a (G.held old.kept.vault) old.kept → IsAs a (G.held new.kept.vault) new.kept)
+      → new.journal ≡ old.journal → IsConsistent G new
   still_kept h opening server telling ready still is = record {
-    ready = subst (λ (n : ℕ). IsReady n (serves new.kept.vault) new.kept) (sym (ap length is)) (ready (length old.journal) h.ready);
+    ready = subst (λ (n : ℕ). IsReady n (G.serves new.kept.vault) new.kept) (sym (ap length is)) (ready (length old.journal) h.ready);
     right = λ told. (
-        let before : IsTrue (tells old.kept.vault) = subst IsTrue telling told in
-        let r : IsRight (start_in held old) (held old.kept.vault) old = h.right before in
-        subst (λ (o : Start). IsRight o (held new.kept.vault) new) (start_same opening server)
-        (still_right (start_in held old) (held old.kept.vault) (held new.kept.vault) old new r (still (start_in held old) (state_of (start_in held old) old.journal) r.kept) is)
+        let before : IsTrue (G.tells old.kept.vault) = subst IsTrue telling told in
+        let r : IsRight (start_in G old) (G.held old.kept.vault) old = h.right before in
+        subst (λ (o : Start). IsRight o (G.held new.kept.vault) new) (start_same opening server)
+        (still_right (start_in G old) (G.held old.kept.vault) (G.held new.kept.vault) old new r (still r.state r.kept) is)
         );
   }

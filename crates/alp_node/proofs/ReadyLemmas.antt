@@ -1,8 +1,8 @@
 -- a server stays ready, step by step
-use Rattle.std.specs.Prelude.{cond, Bool, true, false, ◌==◌, Option, None, Some, is_some}
+use Rattle.std.specs.Prelude.{cond, Bool, true, false, ◌==◌, IsTrue, Option, None, Some, is_some}
 use Rattle.std.specs.FinMap as map
 use Rattle.std.specs.Ordering.{eq_by_cmp}
-use Rattle.std.proofs.Common.{◌≡◌, ℕ, ◌+◌, ◌≤◌, List, [], length, refl, sym, ◌∙◌, ap, subst, arith}
+use Rattle.std.proofs.Common.{◌≡◌, ℕ, ◌+◌, ◌^◌, ◌<◌, ◌≤◌, List, [], length, refl, sym, ◌∙◌, ap, subst, arith}
 use Rattle.alp_base.specs.declared.ids.TransId.{TransId}
 use Rattle.alp_base.specs.declared.key.Resource.{Resource}
 use Rattle.alp_base.specs.declared.key.Resource.TheVariants.{Whole}
@@ -17,12 +17,14 @@ use Rattle.alp_locks.proofs.HeldLemmas.{insert-keeps, insert-knows}
 use Rattle.alp_locks.proofs.LawLemmas.{entering-keeps-held}
 use Rattle.alp_locks.proofs.PlanLemmas.{release-holds, release-waiting, release-knows}
 use Rattle.alp_locks.proofs.SoundLemmas.{released-sound, entered-sound}
-use Rattle.alp_journal.specs.State.{same_trans}
-use Rattle.alp_journal.proofs.StateLemmas.{same_trans-itself, same_trans-true}
+use Rattle.alp_journal.specs.Ids.{same_trans}
+use Rattle.alp_journal.proofs.IdLemmas.{same_trans-itself, same_trans-true}
+use Rattle.alp_node.specs.Dead.{without_client}
 use Rattle.alp_node.specs.Sessions.{session_at, with_session}
 use Rattle.alp_node.specs.ServerState.{IsReady}
 use Rattle.alp_node.specs.Steps.{IsTurn, counted_in, without_trans}
 use Rattle.alp_node.specs.declared.server_state.ServerState.{ServerState}
+use Rattle.alp_node.specs.declared.dead.DeadPart.{DeadPart}
 use Rattle.alp_node.specs.declared.lives.Live.{Live}
 use Rattle.alp_node.specs.declared.sessions.Session.{Session}
 use Rattle.alp_node.specs.declared.sessions.Sessions.{Sessions}
@@ -106,6 +108,8 @@ module _ {V : Type 0} (n : ℕ) (serves : Bool) (k : ServerState V) where
     given = omega (arith, h.given);
     committed = omega (arith, h.committed);
     few = omega (arith, h.few);
+    clock = h.clock;
+    raised = h.raised;
     unheld = h.unheld;
   }
 
@@ -124,6 +128,8 @@ module _ {V : Type 0} (n : ℕ) (serves : Bool) (k : ServerState V) where
     given = omega (arith, h.given);
     committed = omega (arith, h.committed);
     few = omega (arith, h.few);
+    clock = h.clock;
+    raised = h.raised;
     unheld = h.unheld;
   }
 
@@ -142,6 +148,8 @@ module _ {V : Type 0} (n : ℕ) (serves : Bool) (k : ServerState V) where
     given = omega (arith, h.given);
     committed = omega (arith, h.committed);
     few = omega (arith, h.few);
+    clock = h.clock;
+    raised = h.raised;
     unheld = h.unheld;
   }
 
@@ -160,6 +168,8 @@ module _ {V : Type 0} (n : ℕ) (serves : Bool) (k : ServerState V) where
     given = h.given;
     committed = h.committed;
     few = (let fewer : map.len (map.remove k.lives t) ≤ map.len k.lives = gone_length k.lives t in omega (arith, fewer, h.few));
+    clock = h.clock;
+    raised = h.raised;
     unheld = λ u m high. released_unheld k.locks t u (numbered k m) h.alone (h.unheld u m high);
   }
     where
@@ -182,10 +192,10 @@ module _ {V : Type 0} (n : ℕ) (serves : Bool) (k : ServerState V) where
   -- a transaction begins
   module _ (turn : Turn) (t : TransId) (l : Live) (clock : ℕ) where
     abbrev pub begun_kept : ServerState V
-    begun_kept = record k { sessions = counted_in k.sessions turn; clock = clock; drawn = k.drawn + 1; lives = map.insert k.lives t l; locks = entered k.locks t }
+    begun_kept = record k { sessions = counted_in k.sessions turn; clock = clock; drawn = k.drawn + 1; dead = without_client turn.client k.dead; lives = map.insert k.lives t l; locks = entered k.locks t }
 
-    pub begin_ready : IsTurn k.sessions turn → t.counter ≡ k.drawn + 1 → own_of l.part ≡ no_opens → IsReady n serves k → IsReady (n + 1) serves begun_kept
-    begin_ready is next none h = record {
+    pub begin_ready : IsTurn k.sessions turn → t.counter ≡ k.drawn + 1 → own_of l.part ≡ no_opens → clock ≤ 2 ^ 62 → IsReady n serves k → IsReady (n + 1) serves begun_kept
+    begin_ready is next none low h = record {
       serving = h.serving;
       sound = entered-sound k.locks t h.sound;
       alone = h.alone;
@@ -198,6 +208,8 @@ module _ {V : Type 0} (n : ℕ) (serves : Bool) (k : ServerState V) where
       given = omega (arith, h.given);
       committed = omega (arith, h.committed);
       few = (let more : map.len (map.insert k.lives t l) ≤ map.len k.lives + 1 = put_most k.lives t l in omega (arith, more, h.few));
+      clock = low;
+      raised = h.raised;
       unheld = λ u m high. entered_unheld k.locks t u (numbered k m) (h.unheld u m high);
     }
       where
@@ -230,5 +242,93 @@ module _ {V : Type 0} (n : ℕ) (serves : Bool) (k : ServerState V) where
     given = h.given;
     committed = h.committed;
     few = h.few;
+    clock = h.clock;
+    raised = h.raised;
     unheld = λ u m high. released_unheld (entered k.locks t) t u (numbered k m) h.alone (entered_unheld k.locks t u (numbered k m) (h.unheld u m high));
   }
+
+  -- whom it remembers as dead does not matter
+  pub buried_ready : (ds : List DeadPart) → IsReady n serves k → IsReady n serves (record k { dead = ds })
+  buried_ready ds h = record {
+    serving = h.serving;
+    sound = h.sound;
+    alone = h.alone;
+    known = h.known;
+    begun = h.begun;
+    opens = h.opens;
+    places = h.places;
+    calls = h.calls;
+    drawn = h.drawn;
+    given = h.given;
+    committed = h.committed;
+    few = h.few;
+    clock = h.clock;
+    raised = h.raised;
+    unheld = h.unheld;
+  }
+
+-- with another vault it is ready as before, where that serves
+pub ready_with : {V : Type 0} (n : ℕ) (before serves : Bool) (k : ServerState V) (v : V) → IsTrue serves → IsReady n before k → IsReady n serves (record k { vault = v })
+ready_with n before serves k v on h = record {
+  serving = λ _. on;
+  sound = h.sound;
+  alone = h.alone;
+  known = h.known;
+  begun = h.begun;
+  opens = h.opens;
+  places = h.places;
+  calls = h.calls;
+  drawn = h.drawn;
+  given = h.given;
+  committed = h.committed;
+  few = h.few;
+  clock = h.clock;
+  raised = h.raised;
+  unheld = h.unheld;
+}
+
+-- whoever is down need not serve
+pub down_ready : {V : Type 0} (n : ℕ) (before serves : Bool) (k : ServerState V) (v : V) → IsReady n before k → IsReady (n + 1) serves (record k { is_down = true; vault = v })
+down_ready n before serves k v h =
+    let c = stepped_ready n before k h in
+    let never : true ≡ false → ⊥ = λ e. cc in
+    record {
+      serving = λ e. absurd (never e);
+      sound = c.sound;
+      alone = c.alone;
+      known = c.known;
+      begun = c.begun;
+      opens = c.opens;
+      places = c.places;
+      calls = c.calls;
+      drawn = c.drawn;
+      given = c.given;
+      committed = c.committed;
+      few = c.few;
+      clock = c.clock;
+      raised = c.raised;
+      unheld = c.unheld;
+    }
+
+-- a commit leaves it ready
+pub commit_ready : {V : Type 0} (n : ℕ) (before serves : Bool) (k : ServerState V) (v : V) (turn : Turn) (t : TransId) → IsTrue serves → IsTurn k.sessions turn → k.clock < 2 ^ 62 → IsReady n before k
+    → IsReady (n + 1) serves (record (without_trans k t) { sessions = counted_in k.sessions turn; clock = k.clock + 1; committed = k.committed + 1; vault = v })
+commit_ready n before serves k v turn t on is early h =
+    let c = counted_ready n before (without_trans k t) turn is (gone_ready n before k t h) in
+    record {
+      serving = λ _. on;
+      sound = c.sound;
+      alone = c.alone;
+      known = c.known;
+      begun = c.begun;
+      opens = c.opens;
+      places = c.places;
+      calls = c.calls;
+      drawn = c.drawn;
+      given = c.given;
+      committed = omega (arith, h.committed);
+      few = c.few;
+      clock = omega (arith, early);
+      raised = c.raised;
+      unheld = c.unheld;
+    }

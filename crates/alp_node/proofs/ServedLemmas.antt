@@ -1,7 +1,8 @@
 -- file calls that are refused before they are looked at
-use Rattle.std.specs.Prelude.{cond, Bool, true, false, not, ◌==◌, Option, None, Some}
+use Rattle.std.specs.Prelude.{cond, Bool, true, false, not, ◌||◌, ◌==◌, nat_le, length, Option, None, Some, is_some}
+use Rattle.std.specs.Option.{option_or}
 use Rattle.std.specs.FinMap as map
-use Rattle.std.proofs.Common.{◌≡◌, ℕ, [], refl, sym, ◌∙◌, ap, subst, eqb-true}
+use Rattle.std.proofs.Common.{inl, inr, ◌⊎◌, ◌≡◌, ℕ, ◌<◌, List, [], ◌∷◌, refl, sym, ◌∙◌, ap, subst}
 use Rattle.alp_base.specs.declared.ids.TransId.{TransId}
 use Rattle.alp_files.specs.declared.call.Call.{Call}
 use Rattle.alp_files.specs.declared.call.Call.TheVariants as call
@@ -9,162 +10,127 @@ use Rattle.alp_files.specs.declared.reply.Reply.{Reply}
 use Rattle.alp_files.specs.declared.reply.Reply.TheVariants as reply
 use Rattle.alp_files.specs.declared.refusal.Refusal.{Refusal}
 use Rattle.alp_files.specs.declared.refusal.Refusal.TheVariants as refusal
-use Rattle.alp_files.specs.History.{PerformedCall}
+use Rattle.alp_files.specs.declared.refusal.Cause.TheVariants as cause
+use Rattle.alp_files.specs.declared.refusal.What.TheVariants as what
 use Rattle.alp_vault.specs.Contents.{Contents}
+use Rattle.alp_base.specs.Causes.{Rose}
 use Rattle.alp_journal.specs.declared.event.Event.TheVariants as event
-use Rattle.alp_journal.specs.State.{State, Start, Life, file_trans}
-use Rattle.alp_journal.specs.State as state
-use Rattle.alp_journal.specs.Laws.{ended_at}
-use Rattle.alp_journal.specs.Causes.{own_in, AnswersOwn, AnswersFor, AnswersCall, AnswersFinish, IsFileAnswer, is_of_unknown}
-use Rattle.alp_journal.specs.Causes.IsFileAnswer.{unknown}
-use Rattle.alp_locks.specs.Tables.{Holders}
-use Rattle.alp_node.specs.Calls.{IsServedCall}
-use Rattle.alp_node.specs.ServerState.{IsAs, IsAlike}
+use Rattle.alp_journal.specs.Deeds.{Deed, Performs}
+use Rattle.alp_journal.specs.Desk.{file_trans, is_not_yet}
+use Rattle.alp_journal.specs.Holder.{Life}
+use Rattle.alp_journal.specs.Moves.{done_by}
+use Rattle.alp_journal.specs.Answers.{Part, AtWork, part_at, at_part, part_refusal, First, OrFault, IsFileOf, IsFileAnswer, IsLocked, shape_refusal, lock_refusal, if_over}
+use Rattle.alp_journal.specs.Answered.{GrantsFor, grants_by, grants_if, asks}
+use Rattle.alp_journal.specs.Alone.{Alone, alone}
+use Rattle.alp_journal.proofs.AloneEntries.{counted_as, refused_leads}
 use Rattle.alp_node.specs.Asks.{is_of_given}
-use Rattle.alp_node.specs.Served.{IsInTurn, IsNextOf}
-use Rattle.alp_node.specs.Sessions.{session_at}
-use Rattle.alp_node.specs.Steps.{Stepped, IsTurn, IsOf, is_own, counted_in}
+use Rattle.alp_node.specs.Dead.{is_dead}
+use Rattle.alp_node.specs.ServerState.{IsAs}
+use Rattle.alp_node.specs.Standings.{standing_of}
+use Rattle.alp_node.specs.Steps.{Stepped, IsTurn, counted_in, seen_in}
 use Rattle.alp_node.specs.declared.answer.Answer.{Answer}
-use Rattle.alp_node.specs.declared.server_state.ServerState.{ServerState}
 use Rattle.alp_node.specs.declared.lives.Live.{Live}
-use Rattle.alp_node.specs.declared.sessions.Session.{Session}
+use Rattle.alp_node.specs.declared.served.Standing.TheVariants as standing
+use Rattle.alp_node.specs.declared.server_state.ServerState.{ServerState}
 use Rattle.alp_node.specs.declared.sessions.Turn.{Turn}
-use Rattle.alp_node.proofs.CauseLemmas.{file_cause}
-use Rattle.alp_node.proofs.GrantLemmas.{unknown_file}
-use Rattle.alp_node.proofs.KeptLemmas.{passing_stepped, IsLive, live_there, of_client}
+use Rattle.alp_node.proofs.FinishLemmas.{turn_session, turn_next, counts_as}
+use Rattle.alp_node.proofs.IdLemmas.{unknown_file}
+use Rattle.alp_node.proofs.KeptLemmas.{IsSession, IsLive, live_there, stands_timely, stepped_so}
+use Rattle.alp_node.proofs.StandingLemmas.{part_of, part_is}
 
--- a call of its own, which ends no part
-record IsPlain (s : State) (client number : ℕ) (c : Call) : Type 0 where
-  kind : state.kind_of c ≡ state.Plain
-  ends : (r : Reply) → ended_at s client s.epoch number c r ≡ []
+module _ {V : Type 0} (a : Alone) (before now : ℕ) (held : Contents) (k : ServerState V) (turn : Turn) (t : TransId) (c : Call) where
+  -- a file call is refused, and nothing comes about
+  pub refused_stepped : (failed : Bool) (f : Refusal) (x : Answer) → IsAs a held k → IsTurn k.sessions turn → k.is_down ≡ false → (failed ≡ true → Rose before now) → file_trans c ≡ Some t → is_not_yet (reply.Refused f) ≡ false
+      → done_by (alone a) c (reply.Refused f) (Some t) ≡ [] → IsFileOf failed (alone a) turn.client c (reply.Refused f) (Some t) → GrantsFor failed (alone a) turn.client c (reply.Refused f) [] (Some t)
+      → x ≡ record { kept = Some (reply.Refused f); handed = Some (reply.Refused f); acts = [] }
+      → Stepped a before now held (record k { sessions = counted_in k.sessions turn }) (event.Call turn.client k.epoch turn.number c) x
+  refused_stepped failed f x h is up rose named later none why grants so =
+      let s : IsSession turn.session (a.sessions turn.client) = turn_session a held k turn h is in
+      stepped_so a before now held held k (record k { sessions = counted_in k.sessions turn }) turn.client turn.number s.told c failed (reply.Refused f) [] (counted_as a turn.client turn.number s.told (reply.Refused f)) x so h
+      (refused_leads a turn.client turn.number s.told failed t c f h.quiet (h.down ∙ up) s.is (turn_next a held k turn h is) named later none why grants) (counts_as a held k turn (reply.Refused f) h is up) rose
+      (stands_timely a.holder.clock (seen_in (event.Call turn.client k.epoch turn.number c)) k.clock h.clock)
 
-served_plain : (s : State) (client number : ℕ) (c : Call) → IsServedCall c → IsPlain s client number c
-served_plain s client number (call.Hello name) h = absurd h
-served_plain s client number (call.Begin seen) h = absurd h
-served_plain s client number (call.Join t) h = absurd h
-served_plain s client number (call.CreateFile t start choice) h = record { kind = refl; ends = λ r. refl }
-served_plain s client number (call.OpenFile t f a mode choice) h = record { kind = refl; ends = λ r. refl }
-served_plain s client number (call.CloseFile t n) h = absurd h
-served_plain s client number (call.DeleteFile t n choice) h = absurd h
-served_plain s client number (call.ReadPages t n run mode choice) h = record { kind = refl; ends = λ r. refl }
-served_plain s client number (call.WritePages t n run pages choice) h = record { kind = refl; ends = λ r. refl }
-served_plain s client number (call.LockPages t n run mode choice) h = absurd h
-served_plain s client number (call.SetSize t n size choice) h = absurd h
-served_plain s client number (call.ReadProps t n) h = absurd h
-served_plain s client number (call.WriteProps t n change choice) h = absurd h
-served_plain s client number (call.ReadOwner t name choice) h = absurd h
-served_plain s client number (call.MakeOwner t name quota create choice) h = record { kind = refl; ends = λ r. refl }
-served_plain s client number (call.SetQuota t name quota choice) h = absurd h
-served_plain s client number (call.Finish t commit) h = absurd h
-served_plain s client number (call.Outcome t) h = absurd h
-served_plain s client number (call.Collect n) h = absurd h
+  -- how the part refuses it at once
+  refuses_so : (p : Part) (f : Refusal) → part_at (alone a) turn.client t ≡ p → at_part false p ≡ Some f → part_refusal (alone a) turn.client t ≡ Some f
+  refuses_so p f is refuses = ap (at_part false) is ∙ refuses
 
--- a live part that is not the client's here is not the client's by the journal
-pub not_own : (client : ℕ) (locks : Holders) (t : TransId) (x : Option Live) (y : Option Life) → is_own client x ≡ false → IsAlike locks t x y → own_in client y ≡ None
-not_own client locks t None None away h = refl
-not_own client locks t None (Some life) away h = absurd h
-not_own client locks t (Some l) None away h = absurd h
-not_own client locks t (Some l) (Some life) away h =
-    let same : (life.client == client) ≡ false = ap (λ (n : ℕ). n == client) h.client ∙ away in
-    ap (λ (b : Bool). cond {A = Option Life} b (Some life) None) same
+  part_why : (f : Refusal) → part_refusal (alone a) turn.client t ≡ Some f → IsFileOf false (alone a) turn.client c (reply.Refused f) (Some t)
+  part_why f is = subst (λ (x : Option Refusal). First x (reply.Refused f) (OrFault false (reply.Refused f) (IsFileAnswer (alone a) t c (reply.Refused f) (a.holder.lives t)))) (sym is) refl
 
-pub is_own_of : (client : ℕ) (x : Option Live) → is_own client x ≡ true → IsOf client x
-is_own_of client None e = cc
-is_own_of client (Some l) e = eqb-true l.client client e
+  part_grants : (f : Refusal) → part_refusal (alone a) turn.client t ≡ Some f → GrantsFor false (alone a) turn.client c (reply.Refused f) [] (Some t)
+  part_grants f is = inr (sym (ap (λ (x : Option Refusal). cond {A = List TransId} (is_some x) [] (grants_if (alone a) t c (reply.Refused f) (a.holder.lives t))) is))
 
-module _ {V : Type 0} (o : Start) (s : State) (told : V → Contents) (k new : ServerState V) (turn : Turn) (t : TransId) (c : Call) (a : Answer) where
-  refused_stepped : (f : Refusal) → IsAs o s (told k.vault) k → IsTurn k.sessions turn → IsServedCall c → state.is_not_yet (reply.Refused f) ≡ false → state.done_by s c (reply.Refused f) (file_trans c) ≡ None
-      → AnswersCall s turn.client c (reply.Refused f) [] → new ≡ record k { sessions = counted_in k.sessions turn }
-      → a ≡ record { kept = Some (reply.Refused f); handed = Some (reply.Refused f); acts = [] } → Stepped o s (told new.vault) new (event.Call turn.client k.epoch turn.number c) a
-  refused_stepped f h turned served now none why is said =
-      let plain : IsPlain s turn.client turn.number c = served_plain s turn.client turn.number c served in
-      subst (λ (n : ServerState V). Stepped o s (told n.vault) n (event.Call turn.client k.epoch turn.number c) a) (sym is)
-      (passing_stepped o s (told k.vault) k turn.client turn.session turn.number c f a h turned.client turned.session turned.number plain.kind now none (plain.ends (reply.Refused f)) why said)
+  pub stranger_stepped : (x : Answer) → IsAs a held k → IsTurn k.sessions turn → k.is_down ≡ false → file_trans c ≡ Some t → standing_of turn.client (map.get k.lives t) (is_dead turn.client t k.dead) ≡ standing.Unknown
+      → x ≡ record { kept = Some (reply.Refused refusal.UnknownTrans); handed = Some (reply.Refused refusal.UnknownTrans); acts = [] }
+      → Stepped a before now held (record k { sessions = counted_in k.sessions turn }) (event.Call turn.client k.epoch turn.number c) x
+  stranger_stepped x h is up named unknown so =
+      let no : part_refusal (alone a) turn.client t ≡ Some refusal.UnknownTrans = refuses_so (part_of standing.Unknown) refusal.UnknownTrans (part_is a held k turn.client t h ∙ ap part_of unknown) refl in
+      refused_stepped false refusal.UnknownTrans x h is up (λ e. cc) named refl refl (part_why refusal.UnknownTrans no) (part_grants refusal.UnknownTrans no) so
 
-  pub stranger_stepped : IsAs o s (told k.vault) k → IsTurn k.sessions turn → IsServedCall c → file_trans c ≡ Some t → is_own turn.client (map.get k.lives t) ≡ false
-      → new ≡ record k { sessions = counted_in k.sessions turn } → a ≡ record { kept = Some (reply.Refused refusal.UnknownTrans); handed = Some (reply.Refused refusal.UnknownTrans); acts = [] }
-      → Stepped o s (told new.vault) new (event.Call turn.client k.epoch turn.number c) a
-  stranger_stepped h turned served named away is said =
-      let r : Reply = reply.Refused refusal.UnknownTrans in
-      refused_stepped refusal.UnknownTrans h turned served refl (ap (state.done_by s c r) named)
-      (subst (λ (x : Option TransId). AnswersFor s turn.client c x r []) (sym named)
-      (subst (λ (x : Option Life). AnswersOwn x r [] (λ l. IsFileAnswer s t l c r [])) (sym (not_own turn.client k.locks.held t (map.get k.lives t) (s.lives t) away (h.lives t))) (refl, refl)))
-      is said
+  pub dead_call_stepped : (x : Answer) → IsAs a held k → IsTurn k.sessions turn → k.is_down ≡ false → file_trans c ≡ Some t → standing_of turn.client (map.get k.lives t) (is_dead turn.client t k.dead) ≡ standing.Dead
+      → x ≡ record { kept = Some (reply.Refused (refusal.Aborted cause.TimedOut)); handed = Some (reply.Refused (refusal.Aborted cause.TimedOut)); acts = [] }
+      → Stepped a before now held (record k { sessions = counted_in k.sessions turn }) (event.Call turn.client k.epoch turn.number c) x
+  dead_call_stepped x h is up named dead so =
+      let no : part_refusal (alone a) turn.client t ≡ Some (refusal.Aborted cause.TimedOut) = refuses_so (part_of standing.Dead) (refusal.Aborted cause.TimedOut) (part_is a held k turn.client t h ∙ ap part_of dead) refl in
+      refused_stepped false (refusal.Aborted cause.TimedOut) x h is up (λ e. cc) named refl refl (part_why (refusal.Aborted cause.TimedOut) no) (part_grants (refusal.Aborted cause.TimedOut) no) so
 
-  -- only an open names a file
-  no_file : (c : Call) → file_trans c ≡ Some t → is_of_given k.server k.epoch k.given c ≡ false → IsAs o s (told k.vault) k
-      → (is_of_unknown s c ≡ true) × (state.done_by s c (reply.Refused refusal.UnknownFile) (file_trans c) ≡ None)
-  no_file (call.OpenFile u f a mode choice) named away h =
-      let none : state.is_given s f ≡ false = unknown_file o s (told k.vault) k f h away in
-      (ap not none, ap (λ (b : Bool). cond {A = Option (TransId × PerformedCall)} b None (Some (u, record { call = call.OpenFile u f a mode choice; reply = reply.Refused refusal.UnknownFile }))) (ap not none))
-  no_file (call.Hello name) named away h = cc
-  no_file (call.Begin seen) named away h = cc
-  no_file (call.Join u) named away h = cc
-  no_file (call.CreateFile u start choice) named away h = cc
-  no_file (call.CloseFile u n) named away h = cc
-  no_file (call.DeleteFile u n choice) named away h = cc
-  no_file (call.ReadPages u n run mode choice) named away h = cc
-  no_file (call.WritePages u n run pages choice) named away h = cc
-  no_file (call.LockPages u n run mode choice) named away h = cc
-  no_file (call.SetSize u n size choice) named away h = cc
-  no_file (call.ReadProps u n) named away h = cc
-  no_file (call.WriteProps u n change choice) named away h = cc
-  no_file (call.ReadOwner u name choice) named away h = cc
-  no_file (call.MakeOwner u name quota create choice) named away h = cc
-  no_file (call.SetQuota u name quota choice) named away h = cc
-  no_file (call.Finish u commit) named away h = cc
-  no_file (call.Outcome u) named away h = cc
-  no_file (call.Collect n) named away h = cc
+  -- a call of a part at work, by what the part is answered
+  pub work_why : (failed : Bool) (r : Reply) (life : Life) → IsAs a held k → standing_of turn.client (map.get k.lives t) (is_dead turn.client t k.dead) ≡ standing.Own → a.holder.lives t ≡ Some life
+      → OrFault failed r (IsFileAnswer (alone a) t c r (Some life)) → IsFileOf failed (alone a) turn.client c r (Some t)
+  work_why failed r life h own live why =
+      let none : part_refusal (alone a) turn.client t ≡ None = ap (at_part false) (part_is a held k turn.client t h ∙ ap part_of own) in
+      subst (λ (x : Option Refusal). First x r (OrFault failed r (IsFileAnswer (alone a) t c r (a.holder.lives t)))) (sym none)
+      (subst (λ (x : Option Life). OrFault failed r (IsFileAnswer (alone a) t c r x)) (sym live) why)
 
-  pub no_file_stepped : IsAs o s (told k.vault) k → IsTurn k.sessions turn → IsServedCall c → file_trans c ≡ Some t → is_own turn.client (map.get k.lives t) ≡ true → is_of_given k.server k.epoch k.given c ≡ false
-      → new ≡ record k { sessions = counted_in k.sessions turn } → a ≡ record { kept = Some (reply.Refused refusal.UnknownFile); handed = Some (reply.Refused refusal.UnknownFile); acts = [] }
-      → Stepped o s (told new.vault) new (event.Call turn.client k.epoch turn.number c) a
-  no_file_stepped h turned served named mine away is said =
-      let r : Reply = reply.Refused refusal.UnknownFile in
-      let why = no_file c named away h in
-      let own : (l : Live) × (map.get k.lives t ≡ Some l) × (l.client ≡ turn.client) = of_client turn.client (map.get k.lives t) (is_own_of turn.client (map.get k.lives t) mine) in
-      let x : IsLive k.locks.held t own.0 (s.lives t) = live_there k.locks.held t (map.get k.lives t) (s.lives t) own.0 own.1 (h.lives t) in
-      refused_stepped refusal.UnknownFile h turned served refl why.1
-      (file_cause s turn.client c t x.life r [] named x.is (x.alike.client ∙ own.2) (unknown why.0))
-      is said
+  pub work_grants : (failed : Bool) (r : Reply) (life : Life) (ts : List TransId) → IsAs a held k → standing_of turn.client (map.get k.lives t) (is_dead turn.client t k.dead) ≡ standing.Own → a.holder.lives t ≡ Some life
+      → ts ≡ grants_if (alone a) t c r (Some life) → GrantsFor failed (alone a) turn.client c r ts (Some t)
+  work_grants failed r life ts h own live are =
+      let none : part_refusal (alone a) turn.client t ≡ None = ap (at_part false) (part_is a held k turn.client t h ∙ ap part_of own) in
+      inr (are ∙ ap (grants_if (alone a) t c r) (sym live) ∙ sym (ap (λ (x : Option Refusal). cond {A = List TransId} (is_some x) [] (grants_if (alone a) t c r (a.holder.lives t))) none))
 
--- a transaction that is not a live one of the client does not end
-module _ {V : Type 0} (o : Start) (s : State) (told : V → Contents) (k new : ServerState V) (turn : Turn) (t : TransId) (commit : Bool) (a : Answer) where
-  pub no_finish_stepped : IsAs o s (told k.vault) k → IsTurn k.sessions turn → is_own turn.client (map.get k.lives t) ≡ false → new ≡ record k { sessions = counted_in k.sessions turn }
-      → a ≡ record { kept = Some (reply.Refused refusal.UnknownTrans); handed = Some (reply.Refused refusal.UnknownTrans); acts = [] }
-      → Stepped o s (told new.vault) new (event.Call turn.client k.epoch turn.number (call.Finish t commit)) a
-  no_finish_stepped h turned away is said =
-      let c : Call = call.Finish t commit in
-      let r : Reply = reply.Refused refusal.UnknownTrans in
-      let none : own_in turn.client (s.lives t) ≡ None = not_own turn.client k.locks.held t (map.get k.lives t) (s.lives t) away (h.lives t) in
-      subst (λ (n : ServerState V). Stepped o s (told n.vault) n (event.Call turn.client k.epoch turn.number c) a) (sym is)
-      (passing_stepped o s (told k.vault) k turn.client turn.session turn.number c refusal.UnknownTrans a h turned.client turned.session turned.number refl refl refl refl
-      (subst (λ (x : Option Life). AnswersOwn x r [] (λ _. AnswersFinish s t commit r [])) (sym none) (refl, refl)) said)
+  -- a read of the vault failed
+  pub fault_stepped : (life : Life) (x : Answer) → IsAs a held k → IsTurn k.sessions turn → k.is_down ≡ false → Rose before now → file_trans c ≡ Some t → standing_of turn.client (map.get k.lives t) (is_dead turn.client t k.dead) ≡ standing.Own
+      → a.holder.lives t ≡ Some life → x ≡ record { kept = Some (reply.Refused refusal.ReadFault); handed = Some (reply.Refused refusal.ReadFault); acts = [] }
+      → Stepped a before now held (record k { sessions = counted_in k.sessions turn }) (event.Call turn.client k.epoch turn.number c) x
+  fault_stepped life x h is up rose named own live so =
+      refused_stepped true refusal.ReadFault x h is up (λ e. rose) named refl refl (work_why true (reply.Refused refusal.ReadFault) life h own live (inl (refl, refl))) (inl (refl, refl)) so
 
--- a call in its turn has the epoch of its session
-pub in_turn_epoch : {V : Type 0} (k : ServerState V) (client epoch number : ℕ) (c : Call) (w : Session) → session_at k.sessions client ≡ Some w → IsInTurn k client epoch number c → epoch ≡ k.epoch
-in_turn_epoch k client epoch number c w there h = go c h
-  where
-    next : IsNextOf (session_at k.sessions client) k.epoch epoch number → epoch ≡ k.epoch
-    next turn = (subst (λ (x : Option Session). IsNextOf x k.epoch epoch number) there turn).0
-
-    go : (c : Call) → IsInTurn k client epoch number c → epoch ≡ k.epoch
-    go (call.Hello name) h = (let wrong : None ≡ Some w = sym h.0 ∙ there in cc)
-    go (call.Begin seen) h = next h
-    go (call.Join t) h = next h
-    go (call.CreateFile t start choice) h = next h
-    go (call.OpenFile t f a mode choice) h = next h
-    go (call.CloseFile t n) h = next h
-    go (call.DeleteFile t n choice) h = next h
-    go (call.ReadPages t n run mode choice) h = next h
-    go (call.WritePages t n run pages choice) h = next h
-    go (call.LockPages t n run mode choice) h = next h
-    go (call.SetSize t n size choice) h = next h
-    go (call.ReadProps t n) h = next h
-    go (call.WriteProps t n change choice) h = next h
-    go (call.ReadOwner t name choice) h = next h
-    go (call.MakeOwner t name quota create choice) h = next h
-    go (call.SetQuota t name quota choice) h = next h
-    go (call.Finish t commit) h = next h
-    go (call.Outcome t) h = next h
-    go (call.Collect n) h = next h
+-- only an open names a file
+module _ {V : Type 0} (a : Alone) (before now : ℕ) (held : Contents) (k : ServerState V) (turn : Turn) (t : TransId) where
+  pub no_file_stepped : (c : Call) (x : Answer) → IsAs a held k → 0 < k.epoch → IsTurn k.sessions turn → k.is_down ≡ false → file_trans c ≡ Some t → standing_of turn.client (map.get k.lives t) (is_dead turn.client t k.dead) ≡ standing.Own
+      → (l : Live) → map.get k.lives t ≡ Some l → is_of_given k.server k.epoch k.given c ≡ false
+      → x ≡ record { kept = Some (reply.Refused refusal.UnknownFile); handed = Some (reply.Refused refusal.UnknownFile); acts = [] }
+      → Stepped a before now held (record k { sessions = counted_in k.sessions turn }) (event.Call turn.client k.epoch turn.number c) x
+  no_file_stepped (call.OpenFile u f access mode choice) x h some is up named own l there away so =
+      let c : Call = call.OpenFile u f access mode choice in
+      let none = unknown_file a held k f h some away in
+      let y : IsLive k.locks.held (a.locked t) t l (a.holder.lives t) = live_there k.locks.held (a.locked t) t (map.get k.lives t) (a.holder.lives t) l there (h.lives t) in
+      let shape : option_or (shape_refusal (alone a) y.life c) (lock_refusal (alone a) t y.life c) ≡ Some refusal.UnknownFile =
+          ap (λ (b : Bool). option_or (option_or (cond {A = Option Refusal} (not b) (Some refusal.UnknownFile) None) (shape_rest y.life)) (lock_refusal (alone a) t y.life c)) none in
+      refused_stepped a before now held k turn t c false refusal.UnknownFile x h is up (λ e. cc) named refl
+      (ap (λ (b : Bool). cond {A = List Deed} (not b) [] (Performs t (record { call = c; reply = reply.Refused refusal.UnknownFile }) ∷ [])) none)
+      (work_why a before now held k turn t c false (reply.Refused refusal.UnknownFile) y.life h own y.is
+      (inr (subst (λ (z : Option Refusal). First z (reply.Refused refusal.UnknownFile) (IsLocked (alone a) t y.life c (reply.Refused refusal.UnknownFile))) (sym shape) refl)))
+      (work_grants a before now held k turn t c false (reply.Refused refusal.UnknownFile) y.life [] h own y.is
+      (sym (ap (λ (z : Option Refusal). cond {A = List TransId} (is_some z) [] (grants_by (asks a.holder y.life c) t (reply.Refused refusal.UnknownFile))) shape))) so
+    where
+      shape_rest : Life → Option Refusal
+      shape_rest l = if_over (nat_le 64 (length l.own.opens)) (refusal.TooMany what.Opens 64)
+  no_file_stepped (call.Hello name) x h some is up named own l there away so = cc
+  no_file_stepped (call.Begin seen) x h some is up named own l there away so = cc
+  no_file_stepped (call.Join u) x h some is up named own l there away so = cc
+  no_file_stepped (call.CreateFile u start choice) x h some is up named own l there away so = cc
+  no_file_stepped (call.CloseFile u n) x h some is up named own l there away so = cc
+  no_file_stepped (call.DeleteFile u n choice) x h some is up named own l there away so = cc
+  no_file_stepped (call.ReadPages u n run mode choice) x h some is up named own l there away so = cc
+  no_file_stepped (call.WritePages u n run pages choice) x h some is up named own l there away so = cc
+  no_file_stepped (call.LockPages u n run mode choice) x h some is up named own l there away so = cc
+  no_file_stepped (call.SetSize u n size choice) x h some is up named own l there away so = cc
+  no_file_stepped (call.ReadProps u n) x h some is up named own l there away so = cc
+  no_file_stepped (call.WriteProps u n change choice) x h some is up named own l there away so = cc
+  no_file_stepped (call.ReadOwner u name choice) x h some is up named own l there away so = cc
+  no_file_stepped (call.MakeOwner u name quota create choice) x h some is up named own l there away so = cc
+  no_file_stepped (call.SetQuota u name quota choice) x h some is up named own l there away so = cc
+  no_file_stepped (call.Finish u commit) x h some is up named own l there away so = cc
+  no_file_stepped (call.Outcome u) x h some is up named own l there away so = cc
+  no_file_stepped (call.Collect n) x h some is up named own l there away so = cc

@@ -22,8 +22,7 @@ use Rattle.alp_vault.specs.declared.vault.Vault.{Ghosts}
 use Rattle.alp_calls.specs.Looks.{IsLeft, Looks}
 use Rattle.alp_calls.specs.declared.fault.CallFault.{CallFault}
 use Rattle.alp_calls.specs.declared.fault.CallFault.TheVariants as fault
-use Rattle.alp_node.specs.Halts.{ServesOn}
-use Rattle.alp_node.proofs.StartLemmas.{put_kept}
+use Rattle.alp_node.proofs.NoteLemmas.{put_kept}
 
 module _ {V : Type 0} (G : Ghosts V) (old mid : V) (left : IsLeft G old mid) (c : Change) where
   -- what a commit asks was asked of the vault before a look
@@ -73,9 +72,3 @@ stored_clock r old mid new n changes clock same one is back made =
     on_ok r (new.notes ≡ notes_after changes mid.notes) (clock_kept new.notes ≡ clock) made
     (λ e. ap clock_kept (e ∙ clock_put mid.notes n changes clock one is) ∙ clock_stands mid.notes n clock is back)
 
-module _ {V : Type 0} (G : Ghosts V) (old new : V) where
-  -- the vault serves on after a look that got no answer, unless it was stopped
-  pub looked_on : (f : CallFault) → Looks G old new (Some f) → ServesOn {T = Unit {0}} (G.serves new) (Err f)
-  looked_on fault.OutOfMemory h = h.1
-  looked_on fault.Failed h = tt
-  looked_on fault.Stopped h = tt

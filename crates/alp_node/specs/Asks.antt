@@ -1,5 +1,5 @@
 -- What a call asks of the lock table. The pages and the leader of a file are given by the file's lock, which the open has.
-use Rattle.std.specs.Prelude.{List, [], ◌∷◌, Bool, true, false, nat_lt, nat_le, ◌&&◌, ◌||◌, ◌==◌, ◌+◌, if◌then◌else◌, ℕ}
+use Rattle.std.specs.Prelude.{List, [], ◌∷◌, Bool, true, false, nat_lt, nat_le, ◌&&◌, ◌||◌, ◌==◌, ◌+◌, if◌then◌else◌, ℕ, length}
 use Rattle.alp_base.specs.declared.ids.FileId.{FileId}
 use Rattle.alp_base.specs.declared.ids.TransId.{TransId}
 use Rattle.alp_base.specs.declared.key.Key.TheVariants.{OwnerOf}
@@ -10,6 +10,8 @@ use Rattle.alp_files.specs.declared.call.Call.{Call}
 use Rattle.alp_files.specs.declared.call.Call.TheVariants as call
 use Rattle.alp_files.specs.declared.reply.Reply.{Reply}
 use Rattle.alp_files.specs.declared.reply.Reply.TheVariants as reply
+use Rattle.alp_journal.specs.declared.act.Act.{Act}
+use Rattle.alp_journal.specs.declared.act.Act.TheVariants as act
 use Rattle.alp_queue.specs.declared.waiter.Waiter.{Waiter}
 use Rattle.alp_locks.specs.Tables.{Table, held_of}
 use Rattle.alp_locks.specs.Asks.{waiter_of, with_granted}
@@ -59,3 +61,7 @@ plan_of locks t ns = waiter_of (held_of locks.held t) t ns
 -- the table where that plan is taken
 abbrev pub with_plan : Table → Waiter → Table
 with_plan locks w = with_granted locks w.trans w.rises w.after
+
+-- a grant stands where a mode rises
+abbrev pub acts_of : TransId → List Need → List Act
+acts_of t ns = if length ns == 0 then [] else act.Granted t ∷ []

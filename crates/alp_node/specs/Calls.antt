@@ -14,6 +14,7 @@ use Rattle.alp_calls.specs.declared.fault.CallFault.{CallFault}
 use Rattle.alp_calls.specs.declared.part.Part.{Part}
 use Rattle.alp_calls.specs.Parts.{AnswersCall, GivesOnly, ReadsOnly, IsAsBefore}
 use Rattle.alp_node.specs.declared.server_state.ServerState.{ServerState}
+use Rattle.alp_node.specs.declared.bounds.Bounds.{Bounds}
 use Rattle.alp_node.specs.declared.lives.Live.{Live}
 use Rattle.alp_node.specs.ServerState.{mode_for}
 
@@ -57,8 +58,13 @@ abbrev pub Outcome : Bool → Cells → FileId → Live → Part → Call → Re
 Outcome tells cells id l p c (Ok r) = Gave tells cells id l p c r
 Outcome tells cells id l p c (Err e) = IsAsBefore l.part p
 
+-- its bounds grow where it gave an answer
+abbrev pub bounds_then : Bounds → Bounds → Result Reply CallFault → Bounds
+bounds_then old more (Ok r) = more
+bounds_then old more (Err e) = old
+
 -- the part performed the call, and nothing else changed
-pub record Performed {V : Type 0} (tells : Bool) (cells : Cells) (old new : ServerState V) (t : TransId) (l : Live) (c : Call) (r : Result Reply CallFault) : Type 0 where
+pub record Performed {V : Type 0} (tells : Bool) (cells : Cells) (old new : ServerState V) (t : TransId) (l : Live) (c : Call) (b : Bounds) (r : Result Reply CallFault) : Type 0 where
   pub part : Part
-  pub kept : new ≡ record old { lives = map.insert old.lives t (record l { part = part }); vault = new.vault }
+  pub kept : new ≡ record old { lives = map.insert old.lives t (record l { part = part; bounds = bounds_then l.bounds b r }); vault = new.vault }
   pub outcome : Outcome tells cells (next_file old) l part c r

@@ -3,25 +3,26 @@ use Rattle.std.specs.Prelude.{◌≡◌, ℕ, Bool, IsTrue, List, [], ◌∷◌,
 use Rattle.alp_base.specs.Causes.{Rose}
 use Rattle.alp_base.specs.declared.allowance.Allowance.{Allowance}
 use Rattle.alp_base.specs.declared.allowance.Allowance.TheVariants.{Spent}
-use Rattle.alp_files.specs.declared.refusal.Refusal.{Refusal}
-use Rattle.alp_files.specs.declared.refusal.Refusal.TheVariants as refusal
 use Rattle.alp_journal.specs.declared.act.Act.{Act}
 use Rattle.alp_journal.specs.declared.act.Act.TheVariants as act
 use Rattle.alp_calls.specs.declared.fault.CallFault.{CallFault}
-use Rattle.alp_calls.specs.declared.fault.CallFault.TheVariants as fault
+use Rattle.alp_calls.specs.declared.fault.CallFault.TheVariants as call_fault
+use Rattle.alp_node.specs.declared.stored.StoreFault.{StoreFault}
+use Rattle.alp_node.specs.declared.stored.StoreFault.TheVariants as fault
+
+-- a look that got no answer, as the fault of a commit
+abbrev pub look_fault : CallFault → StoreFault
+look_fault call_fault.Failed = fault.Unread
+look_fault call_fault.Stopped = fault.Stopped
+look_fault call_fault.OutOfMemory = fault.OutOfMemory
 
 -- the vault serves on unless it failed in a commit or was stopped
-abbrev pub ServesOn : {T : Type 0} → Bool → Result T CallFault → Type 0
+abbrev pub ServesOn : {T : Type 0} → Bool → Result T StoreFault → Type 0
 ServesOn serves (Ok x) = IsTrue serves
 ServesOn serves (Err fault.OutOfMemory) = IsTrue serves
+ServesOn serves (Err fault.Unread) = IsTrue serves
 ServesOn serves (Err fault.Failed) = Unit {0}
 ServesOn serves (Err fault.Stopped) = Unit {0}
-
--- what the caller is told, and what comes about; want of memory changes nothing
-abbrev pub halt_of : CallFault → Option (Refusal × Act)
-halt_of fault.Failed = Some (refusal.ReadFault, act.Failed)
-halt_of fault.Stopped = Some (refusal.Down, act.Stopped)
-halt_of fault.OutOfMemory = None
 
 -- the vault failed or was stopped where the acts say so
 abbrev pub HaveCauses : ℕ → ℕ → Allowance → List Act → Type 0

@@ -2,6 +2,10 @@ pub mod Sessions
 pub mod ServerState
 pub mod Asks
 pub mod Halts
+pub mod Bounded
+pub mod Dead
+pub mod Standings
+pub mod Rooms
 pub mod Calls
 pub mod Steps
 pub mod Served

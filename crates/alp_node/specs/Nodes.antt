@@ -1,42 +1,60 @@
 -- A server and its journal.
-use Rattle.std.specs.Prelude.{◌≡◌, ℕ, ◌<◌, Bool, false, IsTrue, List, [], ◌∷◌, ◌++◌, length, Option, is_some}
+use Rattle.std.specs.Prelude.{◌≡◌, ℕ, ◌<◌, Bool, true, false, IsTrue, List, [], ◌∷◌, ◌++◌, length, Option, is_some}
 use Rattle.std.specs.FinMap as map
-use Rattle.std.specs.List.{filter, list_any}
+use Rattle.std.specs.List.{list_any}
+use Rattle.alp_base.specs.Causes.{Rose}
 use Rattle.alp_base.specs.declared.allowance.Allowance.{Allowance}
+use Rattle.alp_files.specs.Apart.{AreSized}
+use Rattle.alp_files.specs.Sound.{AreSound}
 use Rattle.alp_files.specs.declared.reply.Reply.{Reply}
 use Rattle.alp_vault.specs.Contents.{Contents}
+use Rattle.alp_vault.specs.declared.vault.Vault.{Ghosts}
 use Rattle.alp_journal.specs.declared.act.Act.{Act}
 use Rattle.alp_journal.specs.declared.event.Event.{Event}
 use Rattle.alp_journal.specs.declared.entry.Entry.{Entry}
-use Rattle.alp_journal.specs.Serial.{state_of}
-use Rattle.alp_journal.specs.State.{Start, Along, next, opened, is_stop}
-use Rattle.alp_journal.specs.Laws.{IsLawful, IsSoundOpening}
-use Rattle.alp_journal.specs.Causes.{HasCause, halts_told}
+use Rattle.alp_journal.specs.Along.{state_after}
+use Rattle.alp_journal.specs.Opening.{Start, start_at}
+use Rattle.alp_journal.specs.State.{State, opened}
+use Rattle.alp_journal.specs.Moves.{next, is_stop}
+use Rattle.alp_journal.specs.Laws.{IsLawful}
+use Rattle.alp_journal.specs.Answered.{IsAnswered, IsAnsweredEntry}
+use Rattle.alp_journal.specs.Alone.{Alone, alone}
 use Rattle.alp_node.specs.declared.node.Node.{Node}
 use Rattle.alp_node.specs.ServerState.{IsAs, IsReady}
 use Rattle.alp_node.specs.Halts.{HaveCauses}
 use Rattle.alp_node.specs.Sessions.{no_sessions}
 use Rattle.alp_node.specs.Steps.{is_call}
 
--- what it was started on, by what its vault held then
-abbrev pub start_at : ℕ → Contents → Start
-start_at server held = record { server = server; cells = held.cells; notes = held.notes }
+-- the state that a journal leaves
+abbrev pub state_of : Start → List Entry → State
+state_of o journal = state_after next (opened o) journal
 
-abbrev pub start_in : {V : Type 0} → (V → Contents) → Node V → Start
-start_in held n = start_at n.kept.server (held n.opening.vault.value)
+-- what it was started on, by what its vault held then
+abbrev pub start_by : {V : Type 0} → Ghosts V → ℕ → V → Start
+start_by G server v = start_at server (G.servers v) (G.volume v) (G.held v).cells (G.held v).notes
+
+abbrev pub start_in : {V : Type 0} → Ghosts V → Node V → Start
+start_in G n = start_by G n.kept.server n.opening.vault.value
+
+-- a server opens on well-formed files whose owners' records hold their charges; sizes are numbers of pages
+pub record IsSoundStart (o : Start) : Type 0 where
+  pub files : AreSound o.cells
+  pub sizes : AreSized (map.get o.cells)
 
 -- The journal is lawful, each of its entries has its cause, and the server keeps what its state says, with this in its
--- vault. The files were sound when it was started.
+-- vault: a server that runs alone. The files were sound when it was started.
 pub record IsRight {V : Type 0} (o : Start) (held : Contents) (n : Node V) : Type 0 where
-  pub opening : IsSoundOpening o
+  pub opening : IsSoundStart o
   pub lawful : IsLawful o n.journal
-  pub caused : Along next HasCause (opened o) n.journal
-  pub kept : IsAs o (state_of o n.journal) held n.kept
+  pub caused : IsAnswered o n.journal
+  pub state : Alone
+  pub says : state_of o n.journal ≡ alone state
+  pub kept : IsAs state held n.kept
 
 -- what holds of each server that the calls make, by what its vault shows
-pub record IsConsistent {V : Type 0} (tells serves : V → Bool) (held : V → Contents) (n : Node V) : Type 0 where
-  pub ready : IsReady (length n.journal) (serves n.kept.vault) n.kept
-  pub right : IsTrue (tells n.kept.vault) → IsRight (start_in held n) (held n.kept.vault) n
+pub record IsConsistent {V : Type 0} (G : Ghosts V) (n : Node V) : Type 0 where
+  pub ready : IsReady (length n.journal) (G.serves n.kept.vault) n.kept
+  pub right : IsTrue (G.tells n.kept.vault) → IsRight (start_in G n) (G.held n.kept.vault) n
 
 -- A server that did nothing yet: its opening is its vault as it is, nobody has a session or a transaction, and it is up.
 pub record IsNew {V : Type 0} (server : ℕ) (n : Node V) : Type 0 where
@@ -47,14 +65,17 @@ pub record IsNew {V : Type 0} (server : ℕ) (n : Node V) : Type 0 where
   pub lives : n.kept.lives ≡ map.empty
   pub up : n.kept.is_down ≡ false
 
--- One entry more: this event, this reply, and what took effect. Each call has a reply, and nothing else has one. The reply
--- tells of a vault that failed or was stopped just where that is among them, which has its cause, and just then the server is
--- down.
-pub record Answered (before after : List Entry) (e : Event) (r : Option Reply) (faults_before faults_now : ℕ) (allowance : Allowance) (is_down : Bool) : Type 0 where
+-- it has its cause in that state, which names a read that failed only where the count of faults rose
+abbrev pub HasCause : ℕ → ℕ → State → Entry → Type 0
+HasCause before now s e = (failed : Bool) × IsAnsweredEntry failed s e × (failed ≡ true → Rose before now)
+
+-- One entry more: this event, this reply, and what came about, with its cause where the vault tells. Each call has a reply, and
+-- nothing else has one. A vault that failed or was stopped has its cause, and just then the server is down.
+pub record Answered (tells : Bool) (s : State) (before after : List Entry) (e : Event) (r : Option Reply) (faults_before faults_now : ℕ) (allowance : Allowance) (is_down : Bool) : Type 0 where
   pub acts : List Act
   pub entry : after ≡ before ++ (record { event = e; reply = r; acts = acts }) ∷ []
+  pub cause : IsTrue tells → HasCause faults_before faults_now s (record { event = e; reply = r; acts = acts })
   pub replies : is_some r ≡ is_call e
-  pub halts : filter is_stop acts ≡ halts_told r
   pub down : is_down ≡ list_any is_stop acts
   pub causes : HaveCauses faults_before faults_now allowance acts
 

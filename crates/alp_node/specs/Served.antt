@@ -1,6 +1,5 @@
 -- The events that a server answers so far.
-use Rattle.std.specs.Prelude.{◌≡◌, ℕ, ◌+◌, ◌≤◌, Bool, true, false, Option, None, Some}
-use Rattle.alp_base.specs.declared.limits.TheConstants.{CLIENTS}
+use Rattle.std.specs.Prelude.{◌≡◌, ℕ, ◌+◌, ◌^◌, ◌≤◌, Bool, true, false, Option, None, Some}
 use Rattle.std.specs.FinMap as map
 use Rattle.alp_base.specs.declared.ids.TransId.{TransId}
 use Rattle.alp_files.specs.Cells.{Cells}
@@ -18,10 +17,10 @@ use Rattle.alp_node.specs.declared.sessions.Session.{Session}
 use Rattle.alp_node.specs.declared.server_state.ServerState.{ServerState}
 use Rattle.alp_node.specs.Calls.{IsServedCall}
 
--- a greeting, the begin or the end of a transaction, or a file call of the grammar that is served
+-- a greeting, the begin or the end of a transaction, or a file call of the grammar that is served; times are at most 2^62
 abbrev pub IsAskable : Call → Type 0
 IsAskable (call.Hello name) = Unit {0}
-IsAskable (call.Begin seen) = Unit {0}
+IsAskable (call.Begin seen) = seen.ts ≤ 2 ^ 62
 IsAskable (call.Finish t commit) = Unit {0}
 IsAskable c = IsServedCall c × IsFormed c
 
@@ -41,7 +40,7 @@ IsInTurn k client epoch number (call.Hello name) = (session_at k.sessions client
 IsInTurn k client epoch number c = IsNextOf (session_at k.sessions client) k.epoch epoch number
 
 abbrev pub IsServed : {V : Type 0} → ServerState V → Event → Type 0
-IsServed k (event.Call client epoch number c) = (client ≤ CLIENTS) × IsAskable c × IsInTurn k client epoch number c
+IsServed k (event.Call client epoch number c) = (client ≤ 16) × IsAskable c × IsInTurn k client epoch number c
 IsServed k (event.Timeout t) = Unit {0}
 IsServed k e = ⊥
 

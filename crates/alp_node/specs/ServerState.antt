@@ -1,6 +1,12 @@
--- What a server keeps is what its journal says.
-use Rattle.std.specs.Prelude.{◌≡◌, ℕ, zero, suc, ◌+◌, ◌^◌, ◌<◌, ◌≤◌, Bool, true, false, IsTrue, List, [], ◌∷◌, length, Option, None, Some, is_some}
-use Rattle.alp_base.specs.declared.limits.TheConstants.{CLIENTS}
+-- What a server keeps is what its journal says. Of each part of the journal's state:
+-- the coordinator: the live transactions are just those that run, and no id beyond the count was drawn;
+-- the participant: no join was drawn, as `Alone` says;
+-- the holder: the vault has the cells, its note the epoch and the kept clock; each live part has its intents, opens and locks;
+-- the desk: each session has its name and its last number (the replies are kept by the journal alone), no call waits, and the
+-- parts that timed out are those of the list;
+-- the counts: each live part is within its bounds;
+-- the ids: the counts of transactions and of files.
+use Rattle.std.specs.Prelude.{◌≡◌, ℕ, zero, suc, ◌+◌, ◌^◌, ◌<◌, ◌≤◌, ◌==◌, ◌&&◌, not, nat_le, Bool, true, false, IsTrue, List, [], ◌∷◌, ◌++◌, length, Option, None, Some, is_some}
 use Rattle.std.specs.Option.{option_map}
 use Rattle.std.specs.List.{AllByRecursion, list_any}
 use Rattle.std.specs.FinMap as map
@@ -26,10 +32,14 @@ use Rattle.alp_locks.specs.Tables.{Holders, holding}
 use Rattle.alp_locks.specs.Sound.{IsSound}
 use Rattle.alp_vault.specs.Contents.{Contents}
 use Rattle.alp_calls.specs.Parts.{own_of}
-use Rattle.alp_journal.specs.State.{State, Start, Life, is_stop}
-use Rattle.alp_journal.specs.State as state
-use Rattle.alp_journal.specs.Steps.{IsQuiet}
-use Rattle.alp_journal.specs.Laws.{AreEarlier}
+use Rattle.alp_files.specs.declared.refusal.Cause.{Cause}
+use Rattle.alp_journal.specs.Ids.{same_trans}
+use Rattle.alp_journal.specs.Coordinator.{Fate, Undrawn}
+use Rattle.alp_journal.specs.Holder.{Life}
+use Rattle.alp_journal.specs.Desk as desk
+use Rattle.alp_journal.specs.Alone.{Alone, IsQuiet, AreEarlier}
+use Rattle.alp_node.specs.Bounded.{IsWithin}
+use Rattle.alp_node.specs.Dead.{dead_in}
 use Rattle.alp_node.specs.Sessions.{session_at}
 use Rattle.alp_node.specs.declared.sessions.Session.{Session}
 use Rattle.alp_node.specs.declared.lives.Live.{Live}
@@ -49,68 +59,73 @@ abbrev pub IsLocked : Holding → Open → Type 0
 IsLocked held o = IsTrue (covers_held (held (Whole o.file)) (mode_for o.access))
 
 -- A live part is kept as the journal tells it: its intents make of all that may lie below them what its edits make of
--- it, the table has its locks, and each of its opens has its file locked.
-pub record IsLife (locks : Holders) (t : TransId) (l : Live) (life : Life) : Type 0 where
+-- it, the table has its locks, each of its opens has its file locked, and it comes to no more than its bounds say.
+pub record IsLife (locks : Holders) (locked : List Resource) (t : TransId) (l : Live) (life : Life) : Type 0 where
   pub client : life.client ≡ l.client
   pub who : life.who ≡ l.who
-  pub active : life.vote ≡ None
   pub intents : ChangesBy life.edits map.empty l.part.intents
   pub own : own_of l.part ≡ life.own
   pub held : (r : Resource) → life.held r ≡ holding locks t r
   pub opens : AllByRecursion (IsLocked life.held) life.own.opens
+  pub within : IsWithin l.bounds locked life.edits
 
 -- just the live parts of the journal are kept, and whoever is not live holds nothing
-abbrev pub IsAlike : Holders → TransId → Option Live → Option Life → Type 0
-IsAlike locks t None None = (r : Resource) → holding locks t r ≡ None
-IsAlike locks t (Some l) (Some life) = IsLife locks t l life
-IsAlike locks t None (Some life) = ⊥
-IsAlike locks t (Some l) None = ⊥
+abbrev pub IsAlike : Holders → List Resource → TransId → Option Live → Option Life → Type 0
+IsAlike locks locked t None None = (r : Resource) → holding locks t r ≡ None
+IsAlike locks locked t (Some l) (Some life) = IsLife locks locked t l life
+IsAlike locks locked t None (Some life) = ⊥
+IsAlike locks locked t (Some l) None = ⊥
 
 -- these edits put no leader with an id of this server and epoch beyond the count
 abbrev pub PutNoneBeyond : ℕ → ℕ → ℕ → List Edit → Type 0
 PutNoneBeyond server epoch count es = (n : ℕ) → count < n → edits_at es (Leader (record { server = server; epoch = epoch; counter = n })) None ≡ None
 
--- ---- what is stored
+-- ---- ids
 
--- the time of the last decision, or of the start
-abbrev pub last_time : ℕ → List (Stamp × Decided) → ℕ
-last_time start [] = start
-last_time start (d ∷ ds) = last_time d.0.ts ds
-
--- the notes are those of the start with the time of the last decision
-abbrev pub notes_at : Start → State → Notes
-notes_at o s = map.insert o.notes clock_name (clock_form.spell (record { epoch = s.epoch; clock = last_time (clock_kept o.notes).clock s.decided }))
-
--- ---- all of it
-
--- the ids of this server and epoch up to a counter
+-- the ids of files of this server and epoch up to a counter, the last first
 abbrev pub ids_to : ℕ → ℕ → ℕ → List FileId
 ids_to server epoch zero = []
 ids_to server epoch (suc n) = (record { server = server; epoch = epoch; counter = suc n }) ∷ ids_to server epoch n
 
--- what the journal tells of a session
-abbrev pub told_session : Session → state.Session
-told_session w = record { who = w.who; last = w.last }
+-- those of transactions, the first first
+abbrev pub trans_to : ℕ → ℕ → ℕ → List TransId
+trans_to server epoch zero = []
+trans_to server epoch (suc n) = trans_to server epoch n ++ (record { server = server; epoch = epoch; counter = suc n }) ∷ []
+
+-- an id that was not drawn here in this epoch
+abbrev pub is_beyond : ℕ → ℕ → ℕ → TransId → Bool
+is_beyond server epoch count t = not (t.server == server && t.epoch == epoch && nat_le t.counter count)
+
+-- ---- all of it
+
+-- what the journal tells of a session; the server keeps no reply
+abbrev pub kept_session : desk.Session → Session
+kept_session w = record { who = w.who; last = w.last }
 
 -- The server keeps what this state says, with this in its vault, which counts while it is not down; and it is down just
--- where the vault failed or was stopped.
-pub record IsAs {V : Type 0} (o : Start) (s : State) (held : Contents) (k : ServerState V) : Type 0 where
-  pub server : s.server ≡ k.server
-  pub epoch : s.epoch ≡ k.epoch
-  pub clock : s.clock ≡ k.clock
-  pub cells : k.is_down ≡ false → held.cells ≡ s.cells
-  pub notes : k.is_down ≡ false → held.notes ≡ notes_at o s
-  pub places : length k.sessions.places ≡ CLIENTS + 1
-  pub sessions : (client : ℕ) → s.sessions client ≡ option_map told_session (session_at k.sessions client)
-  pub lives : (t : TransId) → IsAlike k.locks.held t (map.get k.lives t) (s.lives t)
-  pub unborn : (t : TransId) (l : Life) → s.lives t ≡ Some l → PutNoneBeyond s.server s.epoch k.given l.edits
-  pub drawn : s.drawn ≡ k.drawn
-  pub made : s.made ≡ ids_to s.server s.epoch k.given
-  pub born : IsUnborn s.server s.epoch (map.get s.cells) k.given
-  pub earlier : AreEarlier s.clock s.decided
-  pub committed : length s.decided ≡ k.committed
-  pub quiet : IsQuiet s
-  pub down : k.is_down ≡ list_any is_stop s.pending
+-- where the vault was stopped, or failed in a commit.
+pub record IsAs {V : Type 0} (a : Alone) (held : Contents) (k : ServerState V) : Type 0 where
+  pub server : a.holder.server ≡ k.server
+  pub sizes : a.sizes ≡ k.sizes
+  pub epoch : a.ids.epoch ≡ k.epoch
+  pub clock : a.holder.clock ≡ k.clock
+  pub cells : k.is_down ≡ false → held.cells ≡ a.holder.cells
+  pub notes : k.is_down ≡ false → clock_kept held.notes ≡ record { epoch = a.ids.epoch; clock = a.holder.kept }
+  pub places : length k.sessions.places ≡ 17
+  pub sessions : (client : ℕ) → option_map kept_session (a.sessions client) ≡ session_at k.sessions client
+  pub dead : (client : ℕ) (t : TransId) → a.dead client t ≡ dead_in k.dead client t
+  pub lives : (t : TransId) → IsAlike k.locks.held (a.locked t) t (map.get k.lives t) (a.holder.lives t)
+  pub unborn : (t : TransId) (l : Life) → a.holder.lives t ≡ Some l → PutNoneBeyond a.holder.server a.ids.epoch k.given l.edits
+  pub drawn : a.ids.transactions ≡ k.drawn
+  pub begun : a.begun ≡ trans_to a.holder.server a.ids.epoch k.drawn
+  pub undrawn : (t : TransId) → is_beyond a.holder.server a.ids.epoch k.drawn t ≡ true → a.fates t ≡ Undrawn
+  pub files : a.ids.files ≡ k.given
+  pub made : a.holder.made ≡ ids_to a.holder.server a.ids.epoch k.given
+  pub born : IsUnborn a.holder.server a.ids.epoch (map.get a.holder.cells) k.given
+  pub earlier : AreEarlier a.holder.clock a.holder.applied
+  pub committed : length a.holder.applied ≡ k.committed
+  pub quiet : IsQuiet a
+  pub down : a.is_down ≡ k.is_down
 
 -- Whatever its vault tells: its vault serves while it is up, the table's locks agree, nobody waits, it knows each live
 -- transaction, nobody holds a lock on a file that was not made yet, and no count went further than so many steps.
@@ -121,12 +136,14 @@ pub record IsReady {V : Type 0} (steps : ℕ) (serves : Bool) (k : ServerState V
   pub known : (t : TransId) (l : Live) → map.get k.lives t ≡ Some l → is_some (map.get k.locks.held t) ≡ true
   pub begun : (t : TransId) (l : Live) → map.get k.lives t ≡ Some l → t.counter ≤ k.drawn
   pub opens : (t : TransId) (l : Live) → map.get k.lives t ≡ Some l → l.part.last ≤ steps
-  pub places : length k.sessions.places ≡ CLIENTS + 1
+  pub places : length k.sessions.places ≡ 17
   pub calls : (client : ℕ) (w : Session) → session_at k.sessions client ≡ Some w → w.last ≤ steps
   pub drawn : k.drawn ≤ steps
   pub given : k.given ≤ steps
   pub committed : k.committed ≤ steps
   pub few : map.len k.lives ≤ steps
+  pub clock : k.clock ≤ 2 ^ 62
+  pub raised : 0 < k.epoch
   pub unheld : (t : TransId) (n : ℕ) → k.given < n → holding k.locks.held t (Whole (record { server = k.server; epoch = k.epoch; counter = n })) ≡ None
 
 -- it is ready, and its counts have room for one step more
@@ -135,4 +152,4 @@ IsReadyForMore serves k = (steps : ℕ) × (steps + 1 < 2 ^ 32) × IsReady steps
 
 -- it keeps what some journal says
 abbrev pub IsOfJournal : {V : Type 0} → Contents → ServerState V → Type 0
-IsOfJournal held k = (o : Start) × (s : State) × IsAs o s held k
+IsOfJournal held k = (a : Alone) × IsAs a held k

@@ -1,24 +1,23 @@
 -- One step of a server.
-use Rattle.std.specs.Prelude.{◌≡◌, ℕ, ◌+◌, ◌≤◌, ◌==◌, max, Bool, true, false, List, [], ◌∷◌, ◌++◌, Option, None, Some, is_some, IsTrue, Result, IfOk, OnOk, OnErr}
-use Rattle.alp_base.specs.declared.limits.TheConstants.{CLIENTS}
+use Rattle.std.specs.Prelude.{◌≡◌, ℕ, ◌+◌, ◌≤◌, ◌==◌, max, Bool, true, false, List, [], ◌∷◌, ◌++◌, Option, None, Some, is_some, IsTrue, Result, Ok, IfOk, OnOk, OnErr}
 use Rattle.std.specs.List.{filter, list_any}
 use Rattle.std.specs.FinMap as map
 use Rattle.alp_base.specs.Allowances.{Spends}
+use Rattle.alp_base.specs.Causes.{Rose}
 use Rattle.alp_base.specs.declared.allowance.Allowance.{Allowance}
 use Rattle.alp_base.specs.declared.ids.TransId.{TransId}
 use Rattle.alp_base.specs.declared.memory.OutOfMemory.{OutOfMemory}
 use Rattle.alp_locks.specs.Releases.{released}
 use Rattle.alp_files.specs.declared.call.Call.TheVariants as call
 use Rattle.alp_files.specs.declared.refusal.Refusal.{Refusal}
+use Rattle.alp_files.specs.declared.refusal.Refusal.TheVariants as refusal
 use Rattle.alp_files.specs.declared.reply.Reply.TheVariants as reply
-use Rattle.alp_calls.specs.declared.fault.CallFault.{CallFault}
 use Rattle.alp_journal.specs.declared.act.Act.{Act}
 use Rattle.alp_journal.specs.declared.event.Event.{Event}
 use Rattle.alp_journal.specs.declared.event.Event.TheVariants as event
 use Rattle.alp_journal.specs.declared.entry.Entry.{Entry}
-use Rattle.alp_journal.specs.State.{State, Start, is_stop}
-use Rattle.alp_journal.specs.Steps.{Leads}
-use Rattle.alp_journal.specs.Causes.{HasCause, halts_told}
+use Rattle.alp_journal.specs.Moves.{is_stop}
+use Rattle.alp_journal.specs.Alone.{Alone, Leads}
 use Rattle.alp_vault.specs.Contents.{Contents}
 use Rattle.alp_vault.specs.declared.vault.Vault.{Ghosts}
 use Rattle.alp_node.specs.declared.answer.Answer.{Answer}
@@ -26,7 +25,8 @@ use Rattle.alp_node.specs.declared.server_state.ServerState.{ServerState}
 use Rattle.alp_node.specs.declared.lives.Live.{Live}
 use Rattle.alp_node.specs.declared.sessions.Turn.{Turn}
 use Rattle.alp_node.specs.declared.sessions.Sessions.{Sessions}
-use Rattle.alp_node.specs.Halts.{halt_of, HaveCauses}
+use Rattle.alp_node.specs.Dead.{without_part}
+use Rattle.alp_node.specs.Halts.{HaveCauses}
 use Rattle.alp_node.specs.Sessions.{session_at, with_session}
 use Rattle.alp_node.specs.ServerState.{IsAs, IsReady}
 
@@ -43,14 +43,15 @@ seen_in _ = 0
 abbrev pub IsTimely : ℕ → Event → ℕ → Type 0
 IsTimely before e now = now ≤ max before (seen_in e) + 1
 
--- The entry of the answered event is lawful, the server keeps what its state says then, the answer has its cause, and the
--- clock is no later than it may be.
-pub record Stepped {V : Type 0} (o : Start) (s : State) (held : Contents) (new : ServerState V) (e : Event) (a : Answer) : Type 0 where
-  pub next : State
-  pub leads : Leads s (entry_of e a) next
-  pub kept : IsAs o next held new
-  pub cause : HasCause s (entry_of e a)
-  pub clock : IsTimely s.clock e new.clock
+-- The entry of the answered event is lawful and has its cause, the server keeps what its state says then, and the clock is no
+-- later than it may be. That a read of the device failed shows only where the count of faults rose.
+pub record Stepped {V : Type 0} (a : Alone) (before now : ℕ) (held : Contents) (new : ServerState V) (e : Event) (x : Answer) : Type 0 where
+  pub failed : Bool
+  pub next : Alone
+  pub leads : Leads failed a (entry_of e x) next
+  pub rose : failed ≡ true → Rose before now
+  pub kept : IsAs next held new
+  pub clock : IsTimely a.holder.clock e new.clock
 
 -- which server it is stays as it was, and nobody adds to the allowance of its vault
 pub record IsSeated {V : Type 0} (allowance : V → Allowance) (old new : ServerState V) : Type 0 where
@@ -62,26 +63,24 @@ abbrev pub is_call : Event → Bool
 is_call (event.Call client epoch number c) = true
 is_call _ = false
 
--- Of any vault: what is handed out is what the entry keeps, and each call has a reply and nothing else has one. The reply
--- tells of a vault that failed or was stopped just where that is among them, which has its cause, and just then the server is
--- down.
+-- Of any vault: what is handed out is what the entry keeps, and each call has a reply and nothing else has one. A vault that
+-- failed or was stopped has its cause, and just then the server is down.
 pub record IsGiven (asked : Bool) (before now : ℕ) (allowance : Allowance) (is_down : Bool) (a : Answer) : Type 0 where
   pub handed : a.handed ≡ a.kept
   pub replies : is_some a.kept ≡ asked
-  pub halts : filter is_stop a.acts ≡ halts_told a.kept
   pub down : is_down ≡ list_any is_stop a.acts
   pub causes : HaveCauses before now allowance a.acts
 
 -- where memory was wanting, the server keeps what it kept
 pub record IsStill {V : Type 0} (serves : V → Bool) (held : V → Contents) (old new : ServerState V) : Type 0 where
-  pub kept : (o : Start) (s : State) → IsAs o s (held old.vault) old → IsAs o s (held new.vault) new
+  pub kept : (a : Alone) → IsAs a (held old.vault) old → IsAs a (held new.vault) new
   pub ready : (steps : ℕ) → IsReady steps (serves old.vault) old → IsReady steps (serves new.vault) new
   pub up : new.is_down ≡ old.is_down
 
 -- What a step comes to: with an answer to the event the server is a step further, and without one it is as before.
 pub record IsStep {V : Type 0} (G : Ghosts V) (old new : ServerState V) (e : Event) (r : Result Answer OutOfMemory) : Type 0 where
   -- where the vault tells what it holds, by what the journal says
-  pub stepped : IsTrue (G.tells old.vault) → (o : Start) (s : State) → IsAs o s (G.held old.vault) old → IfOk r (Stepped o s (G.held new.vault) new e)
+  pub stepped : IsTrue (G.tells old.vault) → (a : Alone) → IsAs a (G.held old.vault) old → IfOk r (Stepped a (G.faults old.vault) (G.faults new.vault) (G.held new.vault) new e)
   -- and of any vault
   pub given : IfOk r (IsGiven (is_call e) (G.faults old.vault) (G.faults new.vault) (G.allowance new.vault) new.is_down)
   pub ready : (steps : ℕ) → IsReady steps (G.serves old.vault) old → OnOk r (IsReady (steps + 1) (G.serves new.vault) new)
@@ -91,7 +90,7 @@ pub record IsStep {V : Type 0} (G : Ghosts V) (old new : ServerState V) (e : Eve
 
 -- it is the session's next call
 pub record IsTurn (sessions : Sessions) (t : Turn) : Type 0 where
-  pub client : t.client ≤ CLIENTS
+  pub client : t.client ≤ 16
   pub session : session_at sessions t.client ≡ Some t.session
   pub number : t.number ≡ t.session.last + 1
 
@@ -104,19 +103,24 @@ abbrev pub IsOf : ℕ → Option Live → Type 0
 IsOf client None = ⊥
 IsOf client (Some l) = l.client ≡ client
 
--- whether it is
-abbrev pub is_own : ℕ → Option Live → Bool
-is_own client None = false
-is_own client (Some l) = l.client == client
-
 -- the server where the transaction is live no more, and its locks are gone
 abbrev pub without_trans : {V : Type 0} → ServerState V → TransId → ServerState V
 without_trans k t = record k { lives = map.remove k.lives t; locks = released k.locks t }
 
--- the answer that says so, behind the acts that name what was written
-abbrev pub IsHaltedSo : List Act → Option (Refusal × Act) → Answer → Type 0
-IsHaltedSo written None a = ⊥
-IsHaltedSo written (Some x) a = a ≡ record { kept = Some (reply.Refused x.0); handed = Some (reply.Refused x.0); acts = written ++ x.1 ∷ [] }
+-- and where nothing of it is to be told to the client any more
+abbrev pub ended : {V : Type 0} → ServerState V → Turn → TransId → ServerState V
+ended k turn t = record (without_trans k t) { sessions = counted_in k.sessions turn; dead = without_part turn.client t k.dead }
 
-abbrev pub IsHalted : List Act → CallFault → Answer → Type 0
-IsHalted written fault a = IsHaltedSo written (halt_of fault) a
+-- an answer that refuses
+abbrev pub refused_answer : Refusal → List Act → Answer
+refused_answer f acts = record { kept = Some (reply.Refused f); handed = Some (reply.Refused f); acts = acts }
+
+-- the call was refused, and the session counts it
+pub record IsRefused {V : Type 0} (old new : ServerState V) (turn : Turn) (f : Refusal) (r : Result Answer OutOfMemory) : Type 0 where
+  pub kept : new ≡ record old { sessions = counted_in old.sessions turn }
+  pub answer : r ≡ Ok (refused_answer f [])
+
+-- the server is down, behind these acts
+pub record IsDown {V : Type 0} (old new : ServerState V) (acts : List Act) (r : Result Answer OutOfMemory) : Type 0 where
+  pub kept : new ≡ record old { is_down = true }
+  pub answer : r ≡ Ok (refused_answer refusal.Down acts)

@@ -1,14 +1,16 @@
 //! The answer to an event, whatever it is.
-ghost use Rattle.std.specs.Prelude.{◌≡◌, ◌<◌, ◌^◌, IsTrue, ℕ, Some, false};
+ghost use Rattle.std.specs.Prelude.{◌≡◌, IsTrue, ℕ, Some, false};
+ghost use Rattle.std.specs.FinMap as map;
 ghost use Rattle.alp_files.specs.declared.call.Call.TheVariants as call;
 ghost use Rattle.alp_journal.specs.declared.event.Event.TheVariants as event;
-ghost use Rattle.alp_journal.specs.State.{file_trans};
+ghost use Rattle.alp_journal.specs.Desk.{file_trans};
 ghost use Rattle.alp_node.specs.Calls.{IsServedCall};
 ghost use Rattle.alp_node.specs.ServerState.{IsReadyForMore, IsOfJournal};
 ghost use Rattle.alp_node.specs.Served.{IsServed, IsTurnCall, AreLivesSound};
-ghost use Rattle.alp_node.specs.Steps.{IsStep, IsTurn};
+ghost use Rattle.alp_node.specs.Steps.{IsStep, IsTurn, IsOf};
 
 use crate::answer::Answer;
+use crate::served::Standing;
 use crate::server_state::ServerState;
 use crate::sessions::Turn;
 use alp_base::{OutOfMemory, TransId};
@@ -17,22 +19,43 @@ use alp_journal::Event;
 use alp_vault::Vault;
 
 impl<V: Vault> ServerState<V> {
-    // A transaction ends as its client asks.
-    fn finish(&mut self, turn: &Turn, trans: TransId, commit: bool) -> Result<Answer, OutOfMemory>
+    // A live transaction of the client ends as it asks.
+    fn finish_own(
+        &mut self,
+        turn: &Turn,
+        trans: TransId,
+        commit: bool,
+    ) -> Result<Answer, OutOfMemory>
         requires turn { IsTurn self.old.sessions turn.now }
+        requires own { IsOf turn.now.client (map.get self.old.lives trans) }
+        requires here { trans.server ≡ self.old.server }
         requires up { self.old.is_down ≡ false }
-        requires clock { self.old.clock < 2 ^ 62 }
         requires ready { IsReadyForMore (V.serves self.old.vault) self.old }
         requires sound { IsTrue (V.tells self.old.vault) → AreLivesSound (V.held self.old.vault) self.old }
         ensures { IsStep V.Vault self.old self.new (event.Call turn.now.client self.old.epoch turn.now.number (call.Finish trans commit)) result }
     {
-        if !self.is_own(turn.client, &trans) {
-            return Ok(self.refuse(turn, Refusal::UnknownTrans));
-        }
         if commit {
             return self.commit(turn, trans);
         }
         self.abort(turn, trans)
+    }
+
+    // A transaction ends as its client asks, where the client has a part of it here.
+    fn finish(&mut self, turn: &Turn, trans: TransId, commit: bool) -> Result<Answer, OutOfMemory>
+        requires turn { IsTurn self.old.sessions turn.now }
+        requires up { self.old.is_down ≡ false }
+        requires ready { IsReadyForMore (V.serves self.old.vault) self.old }
+        requires sound { IsTrue (V.tells self.old.vault) → AreLivesSound (V.held self.old.vault) self.old }
+        ensures { IsStep V.Vault self.old self.new (event.Call turn.now.client self.old.epoch turn.now.number (call.Finish trans commit)) result }
+    {
+        if trans.server != self.server {
+            return Ok(self.refuse(turn, Refusal::UnknownTrans));
+        }
+        match self.standing(turn.client, &trans) {
+            Standing::Own => self.finish_own(turn, trans, commit),
+            Standing::Dead => Ok(self.tell_dead(turn, trans, commit)),
+            Standing::Unknown => Ok(self.refuse(turn, Refusal::UnknownTrans)),
+        }
     }
 
     // A call in its turn, other than a greeting.
@@ -40,7 +63,6 @@ impl<V: Vault> ServerState<V> {
         requires turn { IsTurn self.old.sessions turn.now }
         requires asked { IsTurnCall call.now }
         requires up { self.old.is_down ≡ false }
-        requires clock { self.old.clock < 2 ^ 62 }
         requires ready { IsReadyForMore (V.serves self.old.vault) self.old }
         requires known { IsTrue (V.tells self.old.vault) → IsOfJournal (V.held self.old.vault) self.old }
         requires sound { IsTrue (V.tells self.old.vault) → AreLivesSound (V.held self.old.vault) self.old }
@@ -62,7 +84,6 @@ impl<V: Vault> ServerState<V> {
     fn call(&mut self, client: u8, number: u32, call: &Call) -> Result<Answer, OutOfMemory>
         requires served { (epoch : ℕ) × IsServed self.old (event.Call client epoch number call.now) }
         requires up { self.old.is_down ≡ false }
-        requires clock { self.old.clock < 2 ^ 62 }
         requires ready { IsReadyForMore (V.serves self.old.vault) self.old }
         requires known { IsTrue (V.tells self.old.vault) → IsOfJournal (V.held self.old.vault) self.old }
         requires sound { IsTrue (V.tells self.old.vault) → AreLivesSound (V.held self.old.vault) self.old }
@@ -86,7 +107,6 @@ impl<V: Vault> ServerState<V> {
     pub fn answer(&mut self, event: &Event) -> Result<Answer, OutOfMemory>
         requires served { IsServed self.old event.now }
         requires up { self.old.is_down ≡ false }
-        requires clock { self.old.clock < 2 ^ 62 }
         requires ready { IsReadyForMore (V.serves self.old.vault) self.old }
         requires known { IsTrue (V.tells self.old.vault) → IsOfJournal (V.held self.old.vault) self.old }
         requires sound { IsTrue (V.tells self.old.vault) → AreLivesSound (V.held self.old.vault) self.old }

@@ -1,5 +1,5 @@
 //! Sessions and transactions begin.
-ghost use Rattle.std.specs.Prelude.{◌≡◌, ◌+◌, ◌<◌, ◌≤◌, None, false};
+ghost use Rattle.std.specs.Prelude.{◌≡◌, ◌+◌, ◌<◌, ◌≤◌, ◌^◌, None, false};
 ghost use Rattle.alp_files.specs.declared.call.Call.TheVariants as call;
 ghost use Rattle.alp_journal.specs.declared.event.Event.TheVariants as event;
 ghost use Rattle.alp_node.specs.Sessions.{session_at};
@@ -7,6 +7,7 @@ ghost use Rattle.alp_node.specs.ServerState.{IsReadyForMore};
 ghost use Rattle.alp_node.specs.Steps.{IsStep, IsTurn};
 
 use crate::answer::Answer;
+use crate::bounds::Bounds;
 use crate::lives::Live;
 use crate::server_state::ServerState;
 use crate::sessions::{Session, Turn};
@@ -15,6 +16,9 @@ use alp_calls::Part;
 use alp_files::Reply;
 use alp_journal::{Act, Acts};
 use alp_vault::Vault;
+
+/// So many transactions may be live at a server.
+const MOST_TRANSACTIONS: usize = 64;
 
 impl<V: Vault> ServerState<V> {
     /// A client's session begins.
@@ -32,13 +36,18 @@ impl<V: Vault> ServerState<V> {
         Ok(answer)
     }
 
-    /// A transaction begins. Its id is the next one, and the clock is at least what the client saw.
+    /// A transaction begins. Its id is the next one, the clock is at least what the client saw, and the client asks for no dead
+    /// part any more. Where too many are live the answer is want of memory.
     pub fn begin(&mut self, turn: &Turn, seen: Stamp) -> Result<Answer, OutOfMemory>
         requires turn { IsTurn self.old.sessions turn.now }
         requires up { self.old.is_down ≡ false }
         requires ready { IsReadyForMore (V.serves self.old.vault) self.old }
+        requires time { seen.ts ≤ 2 ^ 62 }
         ensures { IsStep V.Vault self.old self.new (event.Call turn.now.client self.old.epoch turn.now.number (call.Begin seen)) result }
     {
+        if self.lives.len() >= MOST_TRANSACTIONS {
+            return Err(OutOfMemory);
+        }
         let trans = TransId {
             server: self.server,
             epoch: self.epoch,
@@ -51,6 +60,7 @@ impl<V: Vault> ServerState<V> {
             client: turn.client,
             who: turn.session.who,
             part: Part::new(self.alloc),
+            bounds: Bounds::none(),
         };
         if self.lives.add(trans, live).is_err() {
             self.locks.release_all(trans);
@@ -58,6 +68,7 @@ impl<V: Vault> ServerState<V> {
         }
         self.drawn += 1;
         self.clock = self.clock.max(seen.ts);
+        self.dead.bury(turn.client);
         self.sessions.count(turn);
         Ok(answer)
     }

@@ -8,12 +8,14 @@ ghost use Rattle.alp_files.specs.Built.{IsBuilt};
 ghost use Rattle.alp_node.specs.declared.lives.Live.{Live as ALive};
 ghost use Rattle.alp_files.specs.Locks.{IsFormed};
 ghost use Rattle.alp_journal.specs.declared.event.Event.TheVariants as event;
-ghost use Rattle.alp_journal.specs.State.{file_trans};
+ghost use Rattle.alp_journal.specs.Desk.{file_trans};
 ghost use Rattle.alp_node.specs.ServerState.{IsReadyForMore, IsOfJournal};
 ghost use Rattle.alp_node.specs.Steps.{IsStep, IsTurn, IsOf};
-ghost use Rattle.alp_node.specs.Calls.{next_file as next_file_of, Performed, IsPageCall};
+ghost use Rattle.alp_node.specs.Calls.{next_file as next_file_of, Performed, IsPageCall, bounds_then as bounds_then_said};
+ghost use Rattle.alp_node.specs.Rooms.{IsRoomy};
 
 use crate::answer::Answer;
+use crate::bounds::Bounds;
 use crate::lives::Live;
 use crate::server_state::ServerState;
 use crate::sessions::Turn;
@@ -30,6 +32,7 @@ impl<V: Vault> ServerState<V> {
         turn: &Turn,
         trans: TransId,
         call: &Call,
+        bounds: Bounds,
     ) -> Result<Answer, OutOfMemory>
         requires turn { IsTurn self.old.sessions turn.now }
         requires own { IsOf turn.now.client (map.get self.old.lives trans) }
@@ -39,16 +42,17 @@ impl<V: Vault> ServerState<V> {
         requires named { file_trans call.now ≡ Some trans }
         requires formed { IsFormed call.now }
         requires known { IsTrue (V.tells self.old.vault) → IsOfJournal (V.held self.old.vault) self.old }
+        requires room { (l : ALive) → map.get self.old.lives trans ≡ Some l → IsRoomy (V.tells self.old.vault) (V.held self.old.vault).cells self.old l call.now bounds }
         ensures { IsStep V.Vault self.old self.new (event.Call turn.now.client self.old.epoch turn.now.number call.now) result }
     {
         let halted = Vec::with_capacity(self.alloc, 1)?;
-        match self.perform(trans, call) {
+        match self.perform(trans, call, bounds) {
             Ok(reply) => {
                 let answer = Answer::new(reply, Acts::new(Vec::new(self.alloc)))?;
                 self.sessions.count(turn);
                 Ok(answer)
             }
-            Err(fault) => self.halt(turn, fault, halted),
+            Err(fault) => self.without_answer(turn, fault, halted),
         }
     }
 
@@ -65,14 +69,19 @@ impl<V: Vault> ServerState<V> {
     }
 
     // The live transaction performs the call on what it sees.
-    pub(super) fn perform(&mut self, trans: TransId, call: &Call) -> Result<Reply, CallFault>
+    pub(super) fn perform(
+        &mut self,
+        trans: TransId,
+        call: &Call,
+        bounds: Bounds,
+    ) -> Result<Reply, CallFault>
         requires live { map.get self.old.lives trans ≢ None }
         requires serving { IsTrue (V.serves self.old.vault) }
         requires room { self.old.given + 1 < 2 ^ 32 }
         requires opens { (l : ALive) → map.get self.old.lives trans ≡ Some l → l.part.last + 1 < 2 ^ 32 }
         requires new { IsTrue (V.tells self.old.vault) → (l : ALive) → map.get self.old.lives trans ≡ Some l → seen (V.held self.old.vault).cells l.part (Leader (next_file_of self.old)) ≡ None }
         requires built { IsBuilt call.now }
-        ensures performed { (l : ALive) → map.get self.old.lives trans ≡ Some l → Performed (V.tells self.old.vault) (V.held self.old.vault).cells self.old self.new trans l call.now result }
+        ensures performed { (l : ALive) → map.get self.old.lives trans ≡ Some l → Performed (V.tells self.old.vault) (V.held self.old.vault).cells self.old self.new trans l call.now bounds result }
         ensures looked { Looks V.Vault self.old.vault self.new.vault (fault_in result) }
     {
         let id = self.next_file();
@@ -83,12 +92,24 @@ impl<V: Vault> ServerState<V> {
             client: found.client,
             who: found.who,
             part: Part::new(self.alloc),
+            bounds: found.bounds,
         };
         let mut live = self.lives.swap(trans, blank);
         let result = live
             .part
             .perform(self.alloc, &mut self.vault, live.who, id, call);
+        live.bounds = bounds_then(live.bounds, bounds, &result);
         let _ = self.lives.swap(trans, live);
         result
     }
+}
+
+// A part that gave an answer comes to more from then on.
+fn bounds_then(old: Bounds, more: Bounds, given: &Result<Reply, CallFault>) -> Bounds
+    ensures { result ≡ bounds_then_said old more given.now }
+{
+    if given.is_ok() {
+        return more;
+    }
+    old
 }

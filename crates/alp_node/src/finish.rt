@@ -1,5 +1,5 @@
 //! Transactions end.
-ghost use Rattle.std.specs.Prelude.{◌≡◌, ◌+◌, ◌<◌, ◌≤◌, ◌^◌, [], IsTrue, IfOk, OnOk, OnErr, Some, true, false, length, vec_capacity};
+ghost use Rattle.std.specs.Prelude.{◌≡◌, ◌+◌, ◌<◌, ◌≤◌, ◌^◌, ◌*◌, [], ◌∷◌, ◌++◌, IsTrue, IfOk, OnOk, OnErr, Ok, None, Some, true, false, length, vec_capacity};
 ghost use Rattle.std.specs.FinMap as map;
 ghost use Rattle.alp_calls.specs.declared.fault.CallFault.TheVariants as call_fault;
 ghost use Rattle.alp_files.specs.Sound.{AreSound};
@@ -9,21 +9,40 @@ ghost use Rattle.alp_files.specs.declared.call.Call.TheVariants as call;
 ghost use Rattle.alp_journal.specs.declared.act.Act.TheVariants as act;
 ghost use Rattle.alp_journal.specs.declared.event.Event.TheVariants as event;
 ghost use Rattle.alp_node.specs.declared.lives.Live.{Live as ALive};
+ghost use Rattle.alp_node.specs.Dead.{is_dead};
+ghost use Rattle.alp_node.specs.Standings.{standing_of};
+ghost use Rattle.alp_node.specs.declared.served.Standing.TheVariants as standing;
 ghost use Rattle.alp_node.specs.ServerState.{IsReadyForMore};
 ghost use Rattle.alp_files.specs.declared.reply.Reply.TheVariants as reply;
-ghost use Rattle.alp_node.specs.Steps.{IsStep, IsTurn, IsOf, IsHalted, counted_in, without_trans};
+ghost use Rattle.std.specs.Result.{IsErr};
+ghost use Rattle.alp_files.specs.declared.refusal.Refusal.TheVariants as refusal;
+ghost use Rattle.alp_files.specs.declared.refusal.Cause.TheVariants as cause;
+ghost use Rattle.alp_node.specs.Steps.{IsStep, IsTurn, IsOf, IsRefused, IsDown, counted_in, without_trans, ended};
 
 use crate::answer::Answer;
 use crate::server_state::ServerState;
 use crate::sessions::Turn;
-use crate::stored::store;
-use alp_base::{CLIENTS, OutOfMemory, Stamp, TransId};
+use crate::stored::{StoreFault, store};
+use alp_base::{OutOfMemory, Stamp, TransId};
 use alp_calls::CallFault;
 use alp_fields::ClockNote;
-use alp_files::{Cause, Refusal, Reply};
+use alp_files::{Cause, Refusal, Reply, Why};
 use alp_journal::{Act, Acts, Parts};
 use alp_vault::Vault;
 use std::alloc::Global;
+
+/// The last time of a clock.
+const CLOCK_END: u64 = 1 << 62;
+
+// Whether the log has room for so many puts of a part at its commit.
+fn log_takes(puts: u64, area: u32) -> bool
+    ensures { result ≡ true → 4 * puts + 28 ≤ area }
+{
+    if puts > area as u64 {
+        return false;
+    }
+    4 * puts + 28 <= area as u64
+}
 
 // The decision that a transaction is committed, which no other server has a part in.
 fn decision(alloc: Global, stamp: Stamp) -> Act
@@ -44,45 +63,94 @@ impl<V: Vault> ServerState<V> {
         self.locks.release_all(trans);
     }
 
+    // The part ends without effect, its client is told why, and nothing of it is to be told any more.
+    fn end(&mut self, turn: &Turn, trans: TransId, cause: Cause) -> Result<Answer, OutOfMemory>
+        requires client { turn.now.client ≤ 16 }
+        ensures kept { OnOk result (self.new ≡ ended self.old turn.now trans) }
+        ensures answer { IfOk result (λ a. a ≡ record { kept = Some (reply.Refused (refusal.Aborted cause)); handed = Some (reply.Refused (refusal.Aborted cause)); acts = act.Released trans ∷ [] }) }
+        ensures err { OnErr result (self.new ≡ self.old) }
+    {
+        let acts = Acts::new(vec![in self.alloc; Act::Released { trans }]?);
+        self.forget(trans);
+        self.dead.remove(turn.client, trans);
+        self.sessions.count(turn);
+        Ok(Answer::refused(Refusal::Aborted { cause }, acts))
+    }
+
     /// A live transaction of the client ends without effect, as its client asked.
     pub fn abort(&mut self, turn: &Turn, trans: TransId) -> Result<Answer, OutOfMemory>
         requires turn { IsTurn self.old.sessions turn.now }
         requires own { IsOf turn.now.client (map.get self.old.lives trans) }
+        requires here { trans.server ≡ self.old.server }
         requires up { self.old.is_down ≡ false }
-        requires alone { self.old.locks.waiting ≡ [] }
+        requires ready { IsReadyForMore (V.serves self.old.vault) self.old }
         ensures { IsStep V.Vault self.old self.new (event.Call turn.now.client self.old.epoch turn.now.number (call.Finish trans false)) result }
     {
-        let acts = Acts::new(vec![in self.alloc; Act::Released { trans }]?);
-        let refusal = Refusal::Aborted {
-            cause: Cause::Asked,
-        };
-        self.forget(trans);
-        self.sessions.count(turn);
-        Ok(Answer::refused(refusal, acts))
+        self.end(turn, trans, Cause::Asked)
     }
 
-    /// A transaction timed out: where it is live it ends without effect.
+    /// A part of the client that timed out is known of from now on.
+    pub fn tell_dead(&mut self, turn: &Turn, trans: TransId, commit: bool) -> Answer
+        requires turn { IsTurn self.old.sessions turn.now }
+        requires dead { standing_of turn.now.client (map.get self.old.lives trans) (is_dead turn.now.client trans self.old.dead) ≡ standing.Dead }
+        requires here { trans.server ≡ self.old.server }
+        requires up { self.old.is_down ≡ false }
+        ensures { IsStep V.Vault self.old self.new (event.Call turn.now.client self.old.epoch turn.now.number (call.Finish trans commit)) (Ok result) }
+    {
+        self.dead.remove(turn.client, trans);
+        let cause = Cause::TimedOut;
+        self.refuse(turn, Refusal::Aborted { cause })
+    }
+
+    /// Time runs out for a transaction: where it is live it ends without effect, and its client is to be told.
     pub fn time_out(&mut self, trans: TransId) -> Result<Answer, OutOfMemory>
         requires up { self.old.is_down ≡ false }
         requires alone { self.old.locks.waiting ≡ [] }
         ensures { IsStep V.Vault self.old self.new (event.Timeout trans) result }
     {
-        if !self.lives.has(&trans) {
+        let Some(live) = self.lives.get(&trans) else {
             return Ok(Answer::silence(Acts::new(Vec::new(self.alloc))));
-        }
+        };
+        let client = live.client;
         let acts = Acts::new(vec![in self.alloc; Act::Released { trans }]?);
+        self.dead.add(client, trans)?;
         self.forget(trans);
         Ok(Answer::silence(acts))
     }
 
-    /// A live transaction of the client is committed: one commit of the vault makes its intents cells, with the note
-    /// of the new clock.
+    /// A live transaction of the client is committed, or this server's own vote is against it at the end of the clock. Where the
+    /// log may lack room for its changes the answer is want of memory.
     pub fn commit(&mut self, turn: &Turn, trans: TransId) -> Result<Answer, OutOfMemory>
         requires turn { IsTurn self.old.sessions turn.now }
         requires own { IsOf turn.now.client (map.get self.old.lives trans) }
+        requires here { trans.server ≡ self.old.server }
+        requires up { self.old.is_down ≡ false }
+        requires ready { IsReadyForMore (V.serves self.old.vault) self.old }
+        requires sound { IsTrue (V.tells self.old.vault) → (l : ALive) → map.get self.old.lives trans ≡ Some l → (m : Cells) → map.get m ≡ over l.part.intents (map.get (V.held self.old.vault).cells) → AreSound m }
+        ensures { IsStep V.Vault self.old self.new (event.Call turn.now.client self.old.epoch turn.now.number (call.Finish trans true)) result }
+    {
+        if self.clock >= CLOCK_END {
+            return self.end(turn, trans, against(self.server, Why::ClockEnd));
+        }
+        let Some(live) = self.lives.get(&trans) else {
+            unreachable!()
+        };
+        if !log_takes(live.bounds.puts, self.sizes.area) {
+            return Err(OutOfMemory);
+        }
+        self.decide(turn, trans)
+    }
+
+    // One commit of the vault makes the intents cells, with the note of the new clock. Where a read of the vault fails before it,
+    // this server's own vote is against it.
+    fn decide(&mut self, turn: &Turn, trans: TransId) -> Result<Answer, OutOfMemory>
+        requires turn { IsTurn self.old.sessions turn.now }
+        requires own { IsOf turn.now.client (map.get self.old.lives trans) }
+        requires here { trans.server ≡ self.old.server }
         requires up { self.old.is_down ≡ false }
         requires ready { IsReadyForMore (V.serves self.old.vault) self.old }
         requires clock { self.old.clock < 2 ^ 62 }
+        requires room { (l : ALive) → map.get self.old.lives trans ≡ Some l → 4 * l.bounds.puts + 28 ≤ self.old.sizes.area }
         requires sound { IsTrue (V.tells self.old.vault) → (l : ALive) → map.get self.old.lives trans ≡ Some l → (m : Cells) → map.get m ≡ over l.part.intents (map.get (V.held self.old.vault).cells) → AreSound m }
         ensures { IsStep V.Vault self.old self.new (event.Call turn.now.client self.old.epoch turn.now.number (call.Finish trans true)) result }
     {
@@ -102,8 +170,14 @@ impl<V: Vault> ServerState<V> {
             epoch: self.epoch,
             clock: stamp.ts,
         };
-        if let Err(fault) = store(self.alloc, &mut self.vault, &live.part.intents, note) {
-            return self.halt(turn, fault, halted);
+        match store(self.alloc, &mut self.vault, &live.part.intents, note) {
+            Ok(()) => {}
+            Err(StoreFault::Unread) => {
+                return self.end(turn, trans, against(self.server, Why::ReadFault));
+            }
+            Err(StoreFault::Failed) => return Ok(self.halt(Act::Failed, halted)),
+            Err(StoreFault::Stopped) => return Ok(self.halt(Act::Stopped, halted)),
+            Err(StoreFault::OutOfMemory) => return Err(OutOfMemory),
         }
         self.forget(trans);
         self.clock = stamp.ts;
@@ -112,39 +186,54 @@ impl<V: Vault> ServerState<V> {
         Ok(answer)
     }
 
-    /// The vault gave no answer in a call: it failed or was stopped, and the server is down, or there was no memory. The
-    /// acts name what the call would have written.
-    pub fn halt(
+    /// The vault gave no answer in a file call: a read failed, and the server goes on, or the vault was stopped, and the server is
+    /// down; or there was no memory.
+    pub fn without_answer(
         &mut self,
         turn: &Turn,
         fault: CallFault,
-        mut acts: Vec<Act>,
+        acts: Vec<Act>,
     ) -> Result<Answer, OutOfMemory>
-        requires client { turn.now.client ≤ CLIENTS }
-        requires room { length acts.items < vec_capacity acts }
-        ensures halted { IfOk result (IsHalted acts.items fault) }
-        ensures down { OnOk result (self.new ≡ record self.old { sessions = counted_in self.old.sessions turn.now; is_down = true }) }
-        ensures memory { OnErr result (fault ≡ call_fault.OutOfMemory) }
-        ensures err { OnErr result (self.new ≡ self.old) }
+        requires client { turn.now.client ≤ 16 }
+        requires none { acts.items ≡ [] }
+        requires room { 0 < vec_capacity acts }
+        ensures failed { fault ≡ call_fault.Failed → IsRefused self.old self.new turn.now refusal.ReadFault result }
+        ensures stopped { fault ≡ call_fault.Stopped → IsDown self.old self.new (act.Stopped ∷ []) result }
+        ensures memory { fault ≡ call_fault.OutOfMemory → (self.new ≡ self.old) × IsErr result }
     {
-        let (refusal, act) = match fault {
-            CallFault::Failed => (Refusal::ReadFault, Act::Failed),
-            CallFault::Stopped => (Refusal::Down, Act::Stopped),
-            CallFault::OutOfMemory => return Err(OutOfMemory),
-        };
-        acts.push_reserved(act);
-        self.sessions.count(turn);
+        match fault {
+            CallFault::Failed => Ok(self.refuse(turn, Refusal::ReadFault)),
+            CallFault::Stopped => Ok(self.halt(Act::Stopped, acts)),
+            CallFault::OutOfMemory => Err(OutOfMemory),
+        }
+    }
+
+    // The vault was stopped, or failed in a commit: the server is down, and the acts name what the commit would have written. The
+    // session does not count the call.
+    fn halt(&mut self, fault: Act, mut acts: Vec<Act>) -> Answer
+        requires room { length acts.items < vec_capacity acts }
+        ensures kept { self.new ≡ record self.old { is_down = true } }
+        ensures answer { result ≡ record { kept = Some (reply.Refused refusal.Down); handed = Some (reply.Refused refusal.Down); acts = acts.items ++ fault ∷ [] } }
+    {
+        acts.push_reserved(fault);
         self.is_down = true;
-        Ok(Answer::refused(refusal, Acts::new(acts)))
+        Answer::refused(Refusal::Down, Acts::new(acts))
     }
 
     /// A call is refused and not performed.
     pub fn refuse(&mut self, turn: &Turn, refusal: Refusal) -> Answer
-        requires { turn.now.client ≤ CLIENTS }
+        requires { turn.now.client ≤ 16 }
         ensures kept { self.new ≡ record self.old { sessions = counted_in self.old.sessions turn.now } }
         ensures answer { result ≡ record { kept = Some (reply.Refused refusal); handed = Some (reply.Refused refusal); acts = [] } }
     {
         self.sessions.count(turn);
         Answer::refused(refusal, Acts::new(Vec::new(self.alloc)))
     }
+}
+
+// This server's own vote against a transaction.
+fn against(server: u8, why: Why) -> Cause
+    ensures { result ≡ cause.Voted server why }
+{
+    Cause::Voted { server, why }
 }

@@ -1,23 +1,27 @@
 //! Transactions that are live at a server.
-ghost use Rattle.std.specs.Prelude.{◌≡◌, ◌≢◌, IfOk, OnOk, OnErr, None, Some, is_some};
+ghost use Rattle.std.specs.Prelude.{◌≡◌, ◌≢◌, IfOk, IfSome, OnOk, OnErr, None, Some, is_some};
 ghost use Rattle.std.specs.FinMap as map;
 ghost use Rattle.std.specs.Option.{option_copied as copied};
 ghost use Rattle.std.specs.BTreeMap.{keys, IsOrdered};
 ghost use Rattle.std.specs.List.Sorted.{IsStrictlySortedBy};
 ghost use Rattle.alp_base.specs.Orders.{trans_cmp};
+ghost use Rattle.alp_node.specs.Bounded.{no_bounds};
+ghost use Rattle.alp_node.specs.Rooms.{total_of, totals_from};
 
+use crate::bounds::Bounds;
 use alp_base::{Name, OutOfMemory, TransId};
 use alp_calls::Part;
 use std::alloc::Global;
 use std::collections::BTreeMap;
 use std::marker::Model;
 
-/// A live transaction: its client, the principal that it acts for, and what it did here.
+/// A live transaction: its client, the principal that it acts for, what it did here, and what that comes to at most.
 #[derive(Drop)]
 pub struct Live {
     pub client: u8,
     pub who: Name,
     pub part: Part,
+    pub bounds: Bounds,
 }
 
 /// Live transactions by their ids.
@@ -83,6 +87,20 @@ impl Lives {
         }
     }
 
+    /// How many there are.
+    pub fn len(&self) -> usize
+        ensures { result ≡ map.len self.now }
+    {
+        self.lives.len()
+    }
+
+    /// Their bounds together, where they can be counted.
+    pub fn total(&self) -> Option<Bounds>
+        ensures { IfSome result (λ b. b ≡ total_of self.now) }
+    {
+        total_in(&self.lives)
+    }
+
     /// Their ids, in rising order.
     pub fn ids(&self, alloc: Global) -> Result<Vec<TransId>, OutOfMemory>
         ensures ids { IfOk result (λ v. v.items ≡ map.keys self.now) }
@@ -108,4 +126,15 @@ fn ids_in(alloc: Global, lives: &BTreeMap<TransId, Live>) -> Result<Vec<TransId>
         ids.push(*trans)?;
     }
     Ok(ids)
+}
+
+fn total_in(lives: &BTreeMap<TransId, Live>) -> Option<Bounds>
+    ensures total { IfSome result (λ b. b ≡ totals_from no_bounds lives.now.entries) }
+    ensures rising { IsOrdered trans_cmp lives.now }
+{
+    let mut total = Bounds::none();
+    for live in lives.values() {
+        total = total.with(live.bounds)?;
+    }
+    Some(total)
 }

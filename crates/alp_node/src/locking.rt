@@ -1,17 +1,20 @@
 //! File calls that ask for locks.
-ghost use Rattle.std.specs.Prelude.{◌≡◌, ◌+◌, ◌<◌, ◌^◌, IsTrue, Some, is_some, true, false};
+ghost use Rattle.std.specs.Prelude.{◌≡◌, ◌+◌, ◌<◌, ◌^◌, IsTrue, IfOk, Some, is_some, true, false};
 ghost use Rattle.std.specs.FinMap as map;
 ghost use Rattle.alp_files.specs.Locks.{IsFormed};
 ghost use Rattle.alp_locks.specs.Sound.{IsPrepared};
 ghost use Rattle.alp_journal.specs.declared.event.Event.TheVariants as event;
-ghost use Rattle.alp_journal.specs.State.{file_trans};
-ghost use Rattle.alp_node.specs.Asks.{is_of_given, is_made as is_made_of, plan_for, count_made, with_plan};
+ghost use Rattle.alp_journal.specs.Desk.{file_trans};
+ghost use Rattle.alp_node.specs.Asks.{is_of_given, is_made as is_made_of, plan_for, count_made, with_plan, acts_of};
 ghost use Rattle.alp_node.specs.ServerState.{IsReadyForMore, IsOfJournal};
 ghost use Rattle.alp_node.specs.Steps.{IsStep, IsTurn, IsOf};
+ghost use Rattle.alp_node.specs.declared.lives.Live.{Live as ALive};
 ghost use Rattle.alp_node.specs.Calls.{IsLockCall};
+ghost use Rattle.alp_node.specs.Rooms.{IsRoomy};
 
 use crate::answer::Answer;
 use crate::asks::{asks, asks_made};
+use crate::bounds::Bounds;
 use crate::server_state::ServerState;
 use crate::sessions::Turn;
 use alp_base::{OutOfMemory, TransId};
@@ -19,6 +22,7 @@ use alp_files::{Call, Refusal, Reply};
 use alp_journal::{Act, Acts};
 use alp_locks::Plan;
 use alp_vault::Vault;
+use std::alloc::Global;
 
 impl<V: Vault> ServerState<V> {
     /// A call that asks for locks: refused where another is in their way, and performed under them otherwise.
@@ -27,6 +31,7 @@ impl<V: Vault> ServerState<V> {
         turn: &Turn,
         trans: TransId,
         call: &Call,
+        bounds: Bounds,
     ) -> Result<Answer, OutOfMemory>
         requires turn { IsTurn self.old.sessions turn.now }
         requires own { IsOf turn.now.client (map.get self.old.lives trans) }
@@ -37,6 +42,7 @@ impl<V: Vault> ServerState<V> {
         requires named { file_trans call.now ≡ Some trans }
         requires formed { IsFormed call.now }
         requires known { IsTrue (V.tells self.old.vault) → IsOfJournal (V.held self.old.vault) self.old }
+        requires room { (l : ALive) → map.get self.old.lives trans ≡ Some l → IsRoomy (V.tells self.old.vault) (V.held self.old.vault).cells self.old l call.now bounds }
         ensures { IsStep V.Vault self.old self.new (event.Call turn.now.client self.old.epoch turn.now.number call.now) result }
     {
         let id = self.next_file();
@@ -45,11 +51,11 @@ impl<V: Vault> ServerState<V> {
         if let Some(holder) = self.locks.in_way_of(&asked) {
             return Ok(self.refuse(turn, Refusal::LockConflict { holder }));
         }
-        let acts = Acts::new(vec![in self.alloc; Act::Granted { trans }]?);
+        let acts = granted(self.alloc, trans, &asked)?;
         let halted = Vec::with_capacity(self.alloc, 1)?;
-        let reply = match self.perform(trans, call) {
+        let reply = match self.perform(trans, call, bounds) {
             Ok(reply) => reply,
-            Err(fault) => return self.halt(turn, fault, halted),
+            Err(fault) => return self.without_answer(turn, fault, halted),
         };
         let has_made = is_made(&reply);
         let answer = Answer::new(reply, acts)?;
@@ -81,4 +87,15 @@ fn is_made(reply: &Reply) -> bool
     ensures { result ≡ is_made_of reply.now }
 {
     matches!(reply, Reply::Created { .. })
+}
+
+// A grant stands where a mode rises.
+fn granted(alloc: Global, trans: TransId, asked: &Plan) -> Result<Acts, OutOfMemory>
+    ensures { IfOk result (λ acts. acts ≡ acts_of trans asked.now.rises) }
+{
+    if asked.is_held() {
+        return Ok(Acts::new(Vec::new(alloc)));
+    }
+    let acts = vec![in alloc; Act::Granted { trans }]?;
+    Ok(Acts::new(acts))
 }

@@ -3,9 +3,9 @@ ghost use Rattle.std.specs.Prelude.{◌≡◌, ◌+◌, ◌<◌, ◌≤◌, ◌^
 ghost use Rattle.alp_files.specs.declared.refusal.Refusal.TheVariants as refusal;
 ghost use Rattle.alp_files.specs.declared.reply.Reply.TheVariants as reply;
 ghost use Rattle.alp_journal.specs.declared.entry.Entry.{Entry as AnEntry};
-ghost use Rattle.alp_journal.specs.State.{State as StateOf, Start};
+ghost use Rattle.alp_journal.specs.Alone.{Alone};
 ghost use Rattle.alp_node.specs.ServerState.{IsAs};
-ghost use Rattle.alp_node.specs.Nodes.{IsConsistent, Answered, HasRoom};
+ghost use Rattle.alp_node.specs.Nodes.{IsConsistent, Answered, HasRoom, state_of, start_in};
 ghost use Rattle.alp_node.specs.Served.{IsServed};
 ghost use Rattle.alp_node.specs.Steps.{IsSeated, seen_in};
 
@@ -31,16 +31,15 @@ impl<V: Vault> Node<V> {
     /// A step in which the vault fails or is stopped takes the server down. From then on it answers that it is down, and
     /// makes no entry. Want of memory leaves the server as its journal says, with no new entry.
     pub fn step(&mut self, event: Event) -> Result<Option<Reply>, OutOfMemory>
-        requires kept { IsConsistent V.tells V.serves V.held self.old }
+        requires kept { IsConsistent V.Vault self.old }
         requires served { IsServed self.old.kept event }
-        requires clock { self.old.kept.clock < 2 ^ 62 }
         requires room { HasRoom self.old }
-        ensures kept { IsConsistent V.tells V.serves V.held self.new }
-        ensures answered { self.old.kept.is_down ≡ false → IfOk result (λ r. Answered self.old.journal self.new.journal event r (V.faults self.old.kept.vault) (V.faults self.new.kept.vault) (V.allowance self.new.kept.vault) self.new.kept.is_down) }
+        ensures kept { IsConsistent V.Vault self.new }
+        ensures answered { self.old.kept.is_down ≡ false → IfOk result (λ r. Answered (V.tells self.old.kept.vault) (state_of (start_in V.Vault self.old) self.old.journal) self.old.journal self.new.journal event r (V.faults self.old.kept.vault) (V.faults self.new.kept.vault) (V.allowance self.new.kept.vault) self.new.kept.is_down) }
         ensures down { self.old.kept.is_down ≡ true → IfOk result (λ r. r ≡ Some (reply.Refused refusal.Down)) }
         ensures still_down { self.old.kept.is_down ≡ true → IsOk result × (self.new ≡ self.old) }
         ensures err { OnErr result ((self.new.journal ≡ self.old.journal) × (self.new.kept.is_down ≡ self.old.kept.is_down)) }
-        ensures still { (o : Start) (s : StateOf) → IsAs o s (V.held self.old.kept.vault) self.old.kept → OnErr result (IsAs o s (V.held self.new.kept.vault) self.new.kept) }
+        ensures still { (a : Alone) → IsAs a (V.held self.old.kept.vault) self.old.kept → OnErr result (IsAs a (V.held self.new.kept.vault) self.new.kept) }
         ensures opening { self.new.opening ≡ self.old.opening }
         ensures seat { IsSeated V.allowance self.old.kept self.new.kept }
         ensures clock { IsTrue (V.tells self.old.kept.vault) → self.new.kept.clock ≤ max self.old.kept.clock (seen_in event) + 1 }

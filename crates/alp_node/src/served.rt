@@ -3,19 +3,29 @@ ghost use Rattle.std.specs.Prelude.{◌≡◌, ◌<◌, IsTrue, Some, false, tru
 ghost use Rattle.std.specs.FinMap as map;
 ghost use Rattle.alp_files.specs.Locks.{IsFormed};
 ghost use Rattle.alp_journal.specs.declared.event.Event.TheVariants as event;
-ghost use Rattle.alp_journal.specs.State.{file_trans};
+ghost use Rattle.alp_journal.specs.Desk.{file_trans};
 ghost use Rattle.alp_node.specs.Asks.{is_given as is_given_of, is_of_given as is_of_given_said};
 ghost use Rattle.alp_node.specs.Calls.{IsServedCall};
 ghost use Rattle.alp_node.specs.ServerState.{IsReadyForMore, IsOfJournal};
 ghost use Rattle.alp_node.specs.Served.{is_on_open as is_on_open_said};
-ghost use Rattle.alp_node.specs.Steps.{IsStep, IsTurn, is_own as is_own_said};
+ghost use Rattle.alp_node.specs.Dead.{is_dead};
+ghost use Rattle.alp_node.specs.Standings.{standing_of};
+ghost use Rattle.alp_node.specs.Steps.{IsStep, IsTurn};
 
 use crate::answer::Answer;
 use crate::server_state::ServerState;
 use crate::sessions::Turn;
 use alp_base::{FileId, OutOfMemory, TransId};
-use alp_files::{Call, Refusal};
+use alp_files::{Call, Cause, Refusal};
 use alp_vault::Vault;
+
+/// What a client has here of a transaction: a live part, one that timed out without its knowing, or nothing.
+#[derive(Clone, Copy, PartialEq, Eq)]
+pub enum Standing {
+    Own,
+    Dead,
+    Unknown,
+}
 
 impl<V: Vault> ServerState<V> {
     /// Whether a file was given that id here, in an older epoch or this one.
@@ -37,17 +47,24 @@ impl<V: Vault> ServerState<V> {
         }
     }
 
-    /// Whether the transaction is a live one of that client.
-    pub fn is_own(&self, client: u8, trans: &TransId) -> bool
-        ensures { result ≡ is_own_said client (map.get self.now.lives trans.now) }
+    /// What the client has here of a transaction.
+    pub fn standing(&self, client: u8, trans: &TransId) -> Standing
+        ensures { result ≡ standing_of client (map.get self.now.lives trans.now) (is_dead client trans.now self.now.dead) }
     {
-        match self.lives.get(trans) {
-            Some(live) => live.client == client,
-            None => false,
+        if let Some(live) = self.lives.get(trans) {
+            if live.client == client {
+                return Standing::Own;
+            }
+            return Standing::Unknown;
         }
+        if self.dead.has(client, trans) {
+            return Standing::Dead;
+        }
+        Standing::Unknown
     }
 
-    /// A file call: of a live transaction of the client, and on a file that was given.
+    /// A file call: of a live transaction of the client, and on a file that was given. Where what is counted of the part may
+    /// pass a limit the answer is want of memory.
     pub fn file_call(
         &mut self,
         turn: &Turn,
@@ -63,16 +80,28 @@ impl<V: Vault> ServerState<V> {
         requires known { IsTrue (V.tells self.old.vault) → IsOfJournal (V.held self.old.vault) self.old }
         ensures { IsStep V.Vault self.old self.new (event.Call turn.now.client self.old.epoch turn.now.number call.now) result }
     {
-        if !self.is_own(turn.client, &trans) {
-            return Ok(self.refuse(turn, Refusal::UnknownTrans));
+        match self.standing(turn.client, &trans) {
+            Standing::Own => {}
+            Standing::Dead => {
+                return Ok(self.refuse(
+                    turn,
+                    Refusal::Aborted {
+                        cause: Cause::TimedOut,
+                    },
+                ));
+            }
+            Standing::Unknown => return Ok(self.refuse(turn, Refusal::UnknownTrans)),
         }
         if !self.is_of_given(call) {
             return Ok(self.refuse(turn, Refusal::UnknownFile));
         }
+        let Some(bounds) = self.room_for(trans, call) else {
+            return Err(OutOfMemory);
+        };
         if is_on_open(call) {
-            return self.page_call(turn, trans, call);
+            return self.page_call(turn, trans, call, bounds);
         }
-        self.lock_call(turn, trans, call)
+        self.lock_call(turn, trans, call, bounds)
     }
 }
 

@@ -1,5 +1,8 @@
 //! What a server keeps beside its journal.
-use crate::{Lives, Sessions};
+use crate::dead::Dead;
+use crate::lives::Lives;
+use crate::sessions::Sessions;
+use alp_base::Sizes;
 use alp_locks::LockTable;
 use alp_vault::Vault;
 use std::alloc::Global;
@@ -8,8 +11,9 @@ use std::alloc::Global;
 #[derive(Drop)]
 pub struct ServerState<V: Vault> {
     pub alloc: Global,
-    /// The number of the server.
+    /// The number of the server, and the sizes of its volume.
     pub server: u8,
+    pub sizes: Sizes,
     pub epoch: u32,
     pub clock: u64,
     /// How many transactions began in this epoch, and how many files were created.
@@ -18,8 +22,10 @@ pub struct ServerState<V: Vault> {
     pub committed: u32,
     pub sessions: Sessions,
     pub lives: Lives,
+    /// Parts that timed out, and whose clients do not know yet.
+    pub dead: Dead,
     pub locks: LockTable,
     pub vault: V,
-    /// Whether the vault gave no answer in a step: it failed there, or was stopped.
+    /// Whether the vault was stopped in a step, or failed in the commit of one.
     pub is_down: bool,
 }

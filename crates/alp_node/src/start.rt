@@ -1,9 +1,9 @@
 //! How a server starts on its vault.
-ghost use Rattle.std.specs.Prelude.{◌≡◌, [], None, Ok, IfOk, IfErr, MatchResult, IsTrue, false};
+ghost use Rattle.std.specs.Prelude.{◌≡◌, ◌⊎◌, [], None, Ok, IfOk, IfErr, MatchResult, IsTrue, false};
 ghost use Rattle.std.specs.FinMap as map;
 ghost use Rattle.alp_base.specs.Allowances.{Spends};
 ghost use Rattle.alp_base.specs.declared.faults.VaultFault.TheVariants as vault_fault;
-ghost use Rattle.alp_calls.specs.declared.fault.CallFault.TheVariants as call_fault;
+ghost use Rattle.alp_node.specs.declared.stored.StoreFault.TheVariants as store_fault;
 ghost use Rattle.alp_fields.specs.Forms.{whole};
 ghost use Rattle.alp_fields.specs.ClockNote.{clock_name, clock_form};
 ghost use Rattle.alp_base.specs.Faults.{IsOfVolume};
@@ -17,9 +17,10 @@ use crate::node::Node;
 use crate::opened::Opened;
 use crate::server_state::ServerState;
 use crate::sessions::Sessions;
-use crate::stored::store;
+use crate::dead::Dead;
+use crate::stored::{StoreFault, store};
 use alp_base::VaultFault;
-use alp_calls::{CallFault, are_server_notes};
+use alp_calls::are_server_notes;
 use alp_fields::{ClockNote, clock_note_name, read_clock};
 use alp_files::CellMap;
 use alp_journal::Journal;
@@ -79,27 +80,33 @@ fn next_clock<V: Vault>(alloc: Global, vault: &V) -> Result<ClockNote, StartFaul
 }
 
 // The fault of the vault in a commit.
-fn vault_fault(fault: CallFault) -> VaultFault
-    ensures failed { result ≡ vault_fault.Failed → fault ≡ call_fault.Failed }
-    ensures stopped { result ≡ vault_fault.Stopped → fault ≡ call_fault.Stopped }
-    ensures memory { result ≡ vault_fault.OutOfMemory → fault ≡ call_fault.OutOfMemory }
+fn vault_fault(fault: StoreFault) -> VaultFault
+    ensures failed { result ≡ vault_fault.Failed → (fault ≡ store_fault.Failed) ⊎ (fault ≡ store_fault.Unread) }
+    ensures stopped { result ≡ vault_fault.Stopped → fault ≡ store_fault.Stopped }
+    ensures memory { result ≡ vault_fault.OutOfMemory → fault ≡ store_fault.OutOfMemory }
     ensures volume { IsOfVolume result }
 {
     match fault {
-        CallFault::Failed => VaultFault::Failed,
-        CallFault::Stopped => VaultFault::Stopped,
-        CallFault::OutOfMemory => VaultFault::OutOfMemory,
+        StoreFault::Unread => VaultFault::Failed,
+        StoreFault::Failed => VaultFault::Failed,
+        StoreFault::Stopped => VaultFault::Stopped,
+        StoreFault::OutOfMemory => VaultFault::OutOfMemory,
     }
 }
 
 impl<V: Vault> Node<V> {
     /// A server with what its vault holds. Its epoch is one more than that of the note, or 1 with clock 0 where there
     /// is none, and stands in the note from then on. Want of memory leaves the vault with what it held, and serving.
-    pub fn start(alloc: Global, server: u8, vault: V) -> Result<Node<V>, (V, StartFault)>
+    pub fn start(
+        alloc: Global,
+        server: u8,
+        servers: u8,
+        vault: V,
+    ) -> Result<Node<V>, (V, StartFault)>
         requires serving { IsTrue (V.serves vault) }
-        requires server { V.server vault ≡ server }
+        requires server { (V.server vault ≡ server) × (V.servers vault ≡ servers) }
         requires given { IsTrue (V.tells vault) → AreOfServer server (V.held vault) }
-        ensures kept { IfOk result (IsConsistent V.tells V.serves V.held) }
+        ensures kept { IfOk result (IsConsistent V.Vault) }
         ensures raised { IfOk result (λ n. HasRaised (V.tells vault) (V.server vault) (V.servers vault) (V.held vault) (V.held n.kept.vault) (record { epoch = n.kept.epoch; clock = n.kept.clock })) }
         ensures new { IfOk result (IsNew server) }
         ensures same { MatchResult result (λ n. IsSameVault V.tells V.volume V.server V.servers vault n.kept.vault) (λ e. IsSameVault V.tells V.volume V.server V.servers vault e.0) }
@@ -108,8 +115,10 @@ impl<V: Vault> Node<V> {
         ensures untouched { IfErr result (λ e. IsNoteFault e.1 → e.0 ≡ vault) }
         ensures memory { IfErr result (λ e. e.1 ≡ StartFault.Vault vault_fault.OutOfMemory → (V.held e.0 ≡ V.held vault) × IsTrue (V.serves e.0)) }
     {
+        let _ = servers;
         let mut vault = vault;
         vault.knows();
+        let sizes = vault.sizes();
         let clock = match next_clock(alloc, &vault) {
             Ok(clock) => clock,
             Err(fault) => return Err((vault, fault)),
@@ -120,6 +129,7 @@ impl<V: Vault> Node<V> {
         let kept = ServerState {
             alloc,
             server,
+            sizes,
             epoch: clock.epoch,
             clock: clock.clock,
             drawn: 0,
@@ -127,6 +137,7 @@ impl<V: Vault> Node<V> {
             committed: 0,
             sessions: Sessions::new(),
             lives: Lives::new(alloc),
+            dead: Dead::new(alloc),
             locks: LockTable::new(alloc),
             vault,
             is_down: false,

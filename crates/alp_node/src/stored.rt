@@ -4,8 +4,9 @@ ghost use Rattle.std.specs.FinMap as map;
 ghost use Rattle.alp_base.specs.Allowances.{Spends};
 ghost use Rattle.alp_base.specs.Causes.{Rose};
 ghost use Rattle.alp_base.specs.declared.allowance.Allowance.TheVariants.{Spent};
-ghost use Rattle.alp_calls.specs.declared.fault.CallFault.TheVariants as fault;
-ghost use Rattle.alp_node.specs.Halts.{ServesOn};
+ghost use Rattle.alp_node.specs.declared.stored.StoreFault.TheVariants as fault;
+ghost use Rattle.alp_node.specs.declared.stored.StoreFault.TheVariants.{OutOfMemory as NoMemory};
+ghost use Rattle.alp_node.specs.Halts.{ServesOn, look_fault as look_fault_said};
 ghost use Rattle.alp_fields.specs.ClockNote.{clock_name, clock_form, clock_kept};
 ghost use Rattle.alp_files.specs.Cells.{Cells};
 ghost use Rattle.alp_files.specs.Edits.{edits_map, over};
@@ -20,7 +21,54 @@ use alp_calls::{CallFault, can_take};
 use alp_fields::{ClockNote, clock_change};
 use alp_files::{CellMap, Change, CutList, FileList, PutList};
 use alp_vault::Vault;
-use std::alloc::Global;
+use std::alloc::{AllocError, AllocFailed, Global};
+
+/// Why nothing was stored.
+#[derive(Clone, Copy, PartialEq, Eq)]
+pub enum StoreFault {
+    /// A read before the commit failed. The vault goes on.
+    Unread,
+    /// The commit failed.
+    Failed,
+    /// The vault was stopped.
+    Stopped,
+    OutOfMemory,
+}
+
+impl From<OutOfMemory> for StoreFault {
+    ghost from_gives = { λ _ fault. fault ≡ NoMemory };
+
+    fn from(_refused: OutOfMemory) -> StoreFault {
+        StoreFault::OutOfMemory
+    }
+}
+
+impl From<AllocError> for StoreFault {
+    ghost from_gives = { λ _ fault. fault ≡ NoMemory };
+
+    fn from(_refused: AllocError) -> StoreFault {
+        StoreFault::OutOfMemory
+    }
+}
+
+impl<T: Drop> From<AllocFailed<T>> for StoreFault {
+    ghost from_gives = { λ _ fault. fault ≡ NoMemory };
+
+    fn from(_refused: AllocFailed<T>) -> StoreFault {
+        StoreFault::OutOfMemory
+    }
+}
+
+// A look before the commit gave no answer.
+fn look_fault(fault: CallFault) -> StoreFault
+    ensures { result ≡ look_fault_said fault }
+{
+    match fault {
+        CallFault::Failed => StoreFault::Unread,
+        CallFault::Stopped => StoreFault::Stopped,
+        CallFault::OutOfMemory => StoreFault::OutOfMemory,
+    }
+}
 
 // All that a transaction intends is put.
 fn change_of(alloc: Global, intents: &CellMap) -> Result<Change, OutOfMemory>
@@ -41,7 +89,7 @@ fn commit_change<V: Vault>(
     vault: &mut V,
     change: &Change,
     notes: &[NoteChange],
-) -> Result<(), CallFault>
+) -> Result<(), StoreFault>
     requires serving { IsTrue (V.serves vault.old) }
     requires asked { IsCommit (V.volume vault.old) (V.server vault.old) (V.servers vault.old) (V.held vault.old).notes change.now notes.now }
     requires room { IsTrue (V.tells vault.old) → IsVolumeOf (V.volume vault.old) (edits_map (edits_of change.now) (V.held vault.old).cells) }
@@ -50,15 +98,16 @@ fn commit_change<V: Vault>(
     ensures cells { IsTrue (V.tells vault.old) → OnOk result ((V.held vault.new).cells ≡ edits_map (edits_of change.now) (V.held vault.old).cells) }
     ensures notes { OnOk result ((V.held vault.new).notes ≡ notes_after notes.now (V.held vault.old).notes) }
     ensures same { IsErrOf result fault.OutOfMemory → V.held vault.new ≡ V.held vault.old }
+    ensures read { IsErrOf result fault.Unread → ⊥ }
     ensures allowance { Spends (V.allowance vault.old) (V.allowance vault.new) }
     ensures failed { IsErrOf result fault.Failed → Rose (V.faults vault.old) (V.faults vault.new) }
     ensures stopped { IsErrOf result fault.Stopped → V.allowance vault.new ≡ Spent }
 {
     match vault.commit(change, notes) {
         Ok(()) => Ok(()),
-        Err(VaultFault::Stopped) => Err(CallFault::Stopped),
-        Err(VaultFault::OutOfMemory) => Err(CallFault::OutOfMemory),
-        Err(_) => Err(CallFault::Failed),
+        Err(VaultFault::Stopped) => Err(StoreFault::Stopped),
+        Err(VaultFault::OutOfMemory) => Err(StoreFault::OutOfMemory),
+        Err(_) => Err(StoreFault::Failed),
     }
 }
 
@@ -69,7 +118,7 @@ pub fn store<V: Vault>(
     vault: &mut V,
     intents: &CellMap,
     clock: ClockNote,
-) -> Result<(), CallFault>
+) -> Result<(), StoreFault>
     requires serving { IsTrue (V.serves vault.old) }
     requires clock { clock.clock ≤ 2 ^ 62 }
     requires sound { IsTrue (V.tells vault.old) → (m : Cells) → map.get m ≡ over intents.now (map.get (V.held vault.old).cells) → AreSound m }
@@ -79,6 +128,7 @@ pub fn store<V: Vault>(
     ensures notes { OnOk result ((V.held vault.new).notes ≡ map.insert (V.held vault.old).notes clock_name (clock_form.spell clock)) }
     ensures clock { OnOk result (clock_kept (V.held vault.new).notes ≡ clock) }
     ensures same { IsErrOf result fault.OutOfMemory → V.held vault.new ≡ V.held vault.old }
+    ensures unread { IsErrOf result fault.Unread → (V.held vault.new ≡ V.held vault.old) × Rose (V.faults vault.old) (V.faults vault.new) }
     ensures allowance { Spends (V.allowance vault.old) (V.allowance vault.new) }
     ensures failed { IsErrOf result fault.Failed → Rose (V.faults vault.old) (V.faults vault.new) }
     ensures stopped { IsErrOf result fault.Stopped → V.allowance vault.new ≡ Spent }
@@ -89,10 +139,10 @@ pub fn store<V: Vault>(
     let written = notes.as_slice();
     let fits = match can_take(alloc, vault, &change, written) {
         Ok(fits) => fits,
-        Err(fault) => return Err(fault),
+        Err(fault) => return Err(look_fault(fault)),
     };
     if !fits {
-        return Err(CallFault::OutOfMemory);
+        return Err(StoreFault::OutOfMemory);
     }
     commit_change(vault, &change, written)
 }

@@ -1,7 +1,6 @@
-use Rattle.alp_node.proofs.GivenLemmas.{reply_given}
 use Rattle.std.specs.Prelude.{Some, None, max}
 use Rattle.std.specs.FinMap as map
-use Rattle.std.proofs.Common.{◌≡◌, ℕ, ◌+◌, List, [], ◌∷◌, sym, ap, ◌∙◌, subst, refl}
+use Rattle.std.proofs.Common.{◌≡◌, ℕ, ◌+◌, ◌<◌, List, [], ◌∷◌, sym, ap, ◌∙◌, subst, refl, arith}
 use Rattle.alp_base.specs.declared.ids.TransId.{TransId}
 use Rattle.alp_base.specs.declared.key.Resource.{Resource}
 use Rattle.alp_files.specs.declared.call.Call.TheVariants as call
@@ -14,11 +13,18 @@ use Rattle.alp_locks.proofs.LawLemmas.{entering-keeps-held}
 use Rattle.alp_journal.specs.declared.act.Act.{Act}
 use Rattle.alp_journal.specs.declared.act.Act.TheVariants as act
 use Rattle.alp_journal.specs.declared.event.Event.TheVariants as event
+use Rattle.alp_node.specs.Bounded.{no_bounds}
+use Rattle.alp_node.specs.Dead.{without_client}
+use Rattle.alp_node.specs.declared.bounds.Bounds.{Bounds}
 use Rattle.alp_node.specs.ServerState.{IsAs, IsReady, LiveMap}
 use Rattle.alp_node.specs.Steps.{Stepped, counted_in}
+use Rattle.alp_node.specs.declared.dead.DeadPart.{DeadPart}
 use Rattle.alp_node.specs.declared.lives.Live.{Live}
 use Rattle.alp_node.specs.declared.sessions.Sessions.{Sessions}
-use Rattle.alp_node.proofs.KeptLemmas.{as_under, none_held, begin_stepped}
+use Rattle.alp_node.specs.declared.server_state.ServerState.{ServerState}
+use Rattle.alp_node.proofs.EndLemmas.{begin_stepped, with_begun_kept}
+use Rattle.alp_node.proofs.GivenLemmas.{reply_given}
+use Rattle.alp_node.proofs.KeptLemmas.{as_under, none_held}
 use Rattle.alp_node.proofs.ReadyLemmas.{next_new, undone_holds, undone_ready, begin_ready}
 use Rattle.alp_node.proofs.SeatLemmas.{seated_alone}
 use Rattle.alp_node.proofs.server_state.ServerState.begin.Goals as goal
@@ -33,14 +39,14 @@ returns-then-is_err g c =
     let lives : c.add.new.self ≡ k.lives = when_err c.add.result _ c.add.ensures.err (sym c.if-is_err.ensures.value) in
     let locks : c.release_all.new.self ≡ released (entered k.locks t) t = c.release_all.ensures.after ∙ ap (λ (x : Table). released x t) c.in_ok-enter.ensures.after in
     record {
-      stepped = λ told o s h. tt;
+      stepped = λ told a h. tt;
       given = tt;
       ready = λ n h. tt;
       still = record {
-        kept = λ o s h. (
-            let none : (r : Resource) → holding k.locks.held t r ≡ None = none_held k.locks.held t (map.get k.lives t) (s.lives t) new_one (h.lives t) in
-            subst (λ (x : LiveMap). IsAs o s held (record k { lives = x; locks = c.release_all.new.self })) (sym lives)
-            (as_under o s held k c.release_all.new.self (λ u r. ap (λ (x : Table). holding x.held u r) locks ∙ undone_holds k.locks t u r c.requires.ready.2.alone none) h)
+        kept = λ a h. (
+            let none : (r : Resource) → holding k.locks.held t r ≡ None = none_held k.locks.held (a.locked t) t (map.get k.lives t) (a.holder.lives t) new_one (h.lives t) in
+            subst (λ (x : LiveMap). IsAs a held (record k { lives = x; locks = c.release_all.new.self })) (sym lives)
+            (as_under a held k c.release_all.new.self (λ u r. ap (λ (x : Table). holding x.held u r) locks ∙ undone_holds k.locks t u r c.requires.ready.2.alone none) h)
             );
         ready = λ n h.
             subst (λ (x : LiveMap). IsReady n serves (record k { lives = x; locks = c.release_all.new.self })) (sym lives)
@@ -55,32 +61,35 @@ pub returns : goal.returns
 returns g c =
     let k = c.args.self.now in
     let held = g.V.Vault.held k.vault in
+    let faults = g.V.Vault.faults k.vault in
     let serves = g.V.Vault.serves k.vault in
     let turn = c.args.turn.now in
     let t : TransId = record { server = k.server; epoch = k.epoch; counter = k.drawn + 1 } in
-    let l : Live = record { client = turn.client; who = turn.session.who; part = c.new-2.result } in
+    let l : Live = record { client = turn.client; who = turn.session.who; part = c.new-2.result; bounds = c.none.result } in
     let e = event.Call turn.client k.epoch turn.number (call.Begin c.args.seen) in
-    let a = c.in_ok-answer.answer in
-    let locks = c.enter.new.self in
-    let lives : c.add.new.self ≡ map.insert k.lives t l = when_ok c.add.result _ c.add.ensures.ok (sym c.if-is_err.ensures.value) in
-    let is : a ≡ record { kept = Some (reply.Begun t); handed = Some (reply.Begun t); acts = act.Drawn t ∷ [] } =
+    let x = c.in_ok-answer.answer in
+    let lives : c.add.new.self ≡ map.insert k.lives t (record l { bounds = no_bounds }) = when_ok c.add.result _ c.add.ensures.ok (sym c.if-is_err.ensures.value) ∙ ap (λ (b : Bounds). map.insert k.lives t (record l { bounds = b })) c.none.ensures in
+    let is : x ≡ record { kept = Some (reply.Begun t); handed = Some (reply.Begun t); acts = act.Drawn t ∷ [] } =
     c.in_ok-answer.ensures.ok ∙ ap (λ (acts : List Act). record { kept = Some (reply.Begun t); handed = Some (reply.Begun t); acts = acts }) (c.new-acts.ensures ∙ c.in_ok-vec.ensures.items) in
-    let same : (u : TransId) (r : Resource) → holding locks.held u r ≡ holding k.locks.held u r =
+    let same : (u : TransId) (r : Resource) → holding c.enter.new.self.held u r ≡ holding k.locks.held u r =
     λ u r. ap (λ (x : Table). holding x.held u r) c.in_ok-enter.ensures.after ∙ ap (λ x. map.get x r) (entering-keeps-held k.locks t u) in
+    let few : map.len k.lives < 64 = omega (arith, c.if-len-ge-MOST_TRANSACTIONS.false, c.len.ensures) in
     record {
-      stepped = λ told o s h.
-          subst (λ (n : ℕ). Stepped o s held (record k { clock = n; drawn = k.drawn + 1; sessions = c.count.new.self; lives = c.add.new.self; locks = locks }) e a) (sym c.max-self.ensures)
-          (subst (λ (x : Sessions). Stepped o s held (record k { clock = max k.clock c.args.seen.ts; drawn = k.drawn + 1; sessions = x; lives = c.add.new.self; locks = locks }) e a) (sym c.count.ensures)
-          (subst (λ (x : LiveMap). Stepped o s held (record k { clock = max k.clock c.args.seen.ts; drawn = k.drawn + 1; sessions = counted_in k.sessions turn; lives = x; locks = locks }) e a) (sym lives)
-          (begin_stepped o s held k turn.client turn.session turn.number c.args.seen c.new-2.result a locks h c.requires.turn.client c.requires.turn.session c.requires.turn.number
-          (next_new c.requires.ready.0 serves k c.requires.ready.2) same c.new-2.ensures.own c.new-2.ensures.intents is)));
-      given = reply_given (g.V.Vault.faults k.vault) (g.V.Vault.faults k.vault) (g.V.Vault.allowance k.vault) k.is_down (reply.Begun t) (act.Drawn t ∷ []) a is refl c.requires.up tt;
+      stepped = λ told a h.
+          subst (λ (n : ℕ). Stepped a faults faults held (record k { clock = n; drawn = k.drawn + 1; sessions = c.count.new.self; dead = c.bury.new.self; lives = c.add.new.self; locks = c.enter.new.self }) e x) (sym c.max-self.ensures)
+          (subst (λ (y : Sessions). Stepped a faults faults held (record k { clock = max k.clock c.args.seen.ts; drawn = k.drawn + 1; sessions = y; dead = c.bury.new.self; lives = c.add.new.self; locks = c.enter.new.self }) e x) (sym c.count.ensures)
+          (subst (λ (y : List DeadPart). Stepped a faults faults held (record k { clock = max k.clock c.args.seen.ts; drawn = k.drawn + 1; sessions = counted_in k.sessions turn; dead = y; lives = c.add.new.self; locks = c.enter.new.self }) e x) (sym c.bury.ensures)
+          (subst (λ (y : LiveMap). Stepped a faults faults held (record k { clock = max k.clock c.args.seen.ts; drawn = k.drawn + 1; sessions = counted_in k.sessions turn; dead = without_client turn.client k.dead; lives = y; locks = c.enter.new.self }) e x) (sym lives)
+          (begin_stepped a held k turn.client turn.number turn.session c.args.seen c.new-2.result faults faults x c.enter.new.self h c.requires.turn.client c.requires.up c.requires.turn.session c.requires.turn.number few
+          (next_new c.requires.ready.0 serves k c.requires.ready.2) same c.new-2.ensures.own c.new-2.ensures.intents is))));
+      given = reply_given faults faults (g.V.Vault.allowance k.vault) k.is_down (reply.Begun t) (act.Drawn t ∷ []) x is c.requires.up tt;
       ready = λ n h.
-          subst (λ (x : Sessions). IsReady (n + 1) serves (record k { clock = c.max-self.result; drawn = k.drawn + 1; sessions = x; lives = c.add.new.self; locks = locks })) (sym c.count.ensures)
-          (subst (λ (x : LiveMap). IsReady (n + 1) serves (record k { clock = c.max-self.result; drawn = k.drawn + 1; sessions = counted_in k.sessions turn; lives = x; locks = locks })) (sym lives)
-          (subst (λ (x : Table). IsReady (n + 1) serves (record k { clock = c.max-self.result; drawn = k.drawn + 1; sessions = counted_in k.sessions turn; lives = map.insert k.lives t l; locks = x })) (sym c.in_ok-enter.ensures.after)
-          (begin_ready n serves k turn t l c.max-self.result c.requires.turn refl c.new-2.ensures.own h)));
+          subst (λ (y : Sessions). IsReady (n + 1) serves (record k { clock = c.max-self.result; drawn = k.drawn + 1; sessions = y; dead = c.bury.new.self; lives = c.add.new.self; locks = c.enter.new.self })) (sym c.count.ensures)
+          (subst (λ (y : List DeadPart). IsReady (n + 1) serves (record k { clock = c.max-self.result; drawn = k.drawn + 1; sessions = counted_in k.sessions turn; dead = y; lives = c.add.new.self; locks = c.enter.new.self })) (sym c.bury.ensures)
+          (subst (λ (y : LiveMap). IsReady (n + 1) serves (record k { clock = c.max-self.result; drawn = k.drawn + 1; sessions = counted_in k.sessions turn; dead = without_client turn.client k.dead; lives = y; locks = c.enter.new.self })) (sym lives)
+          (subst (λ (y : Table). IsReady (n + 1) serves (record k { clock = c.max-self.result; drawn = k.drawn + 1; sessions = counted_in k.sessions turn; dead = without_client turn.client k.dead; lives = map.insert k.lives t (record l { bounds = no_bounds }); locks = y })) (sym c.in_ok-enter.ensures.after)
+          (begin_ready n serves k turn t (record l { bounds = no_bounds }) c.max-self.result c.requires.turn refl c.new-2.ensures.own (omega (arith, c.max-self.ensures, h.clock, c.requires.time)) h))));
       still = tt;
-      seat = seated_alone g.V.Vault.allowance k (record k { clock = c.max-self.result; drawn = k.drawn + 1; sessions = c.count.new.self; lives = c.add.new.self; locks = locks }) refl refl refl;
+      seat = seated_alone g.V.Vault.allowance k (record k { clock = c.max-self.result; drawn = k.drawn + 1; sessions = c.count.new.self; dead = c.bury.new.self; lives = c.add.new.self; locks = c.enter.new.self }) refl refl refl;
       telling = refl;
     }

@@ -7,8 +7,8 @@ use Rattle.alp_journal.specs.declared.event.Event.TheVariants as event
 use Rattle.alp_node.specs.ServerState.{IsReady}
 use Rattle.alp_node.specs.Steps.{Stepped}
 use Rattle.alp_node.specs.declared.sessions.Sessions.{Sessions}
+use Rattle.alp_node.proofs.EndLemmas.{hello_stepped}
 use Rattle.alp_node.proofs.GivenLemmas.{reply_given}
-use Rattle.alp_node.proofs.KeptLemmas.{hello_stepped}
 use Rattle.alp_node.proofs.ReadyLemmas.{hello_ready}
 use Rattle.alp_node.proofs.SeatLemmas.{seated_alone}
 use Rattle.alp_node.proofs.server_state.ServerState.hello.Goals as goal
@@ -17,15 +17,16 @@ pub returns : goal.returns
 returns g c =
     let k = c.args.self.now in
     let held = g.V.Vault.held k.vault in
+    let faults = g.V.Vault.faults k.vault in
     let serves = g.V.Vault.serves k.vault in
     let none : c.new-2.result ≡ [] = c.new-2.ensures ∙ c.new.ensures.items in
     let is : c.in_ok-answer.answer ≡ record { kept = Some (reply.Welcome k.epoch); handed = Some (reply.Welcome k.epoch); acts = [] } =
     c.in_ok-answer.ensures.ok ∙ ap (λ (acts : List Act). record { kept = Some (reply.Welcome k.epoch); handed = Some (reply.Welcome k.epoch); acts = acts }) none in
     record {
-      stepped = λ told o s h.
-          subst (λ (x : Sessions). Stepped o s held (record k { sessions = x }) (event.Call c.args.client 0 1 (call.Hello c.args.name)) c.in_ok-answer.answer) (sym c.set.ensures)
-          (hello_stepped o s held k c.args.client c.args.name c.in_ok-answer.answer h c.requires.client c.requires.first is);
-      given = reply_given (g.V.Vault.faults k.vault) (g.V.Vault.faults k.vault) (g.V.Vault.allowance k.vault) k.is_down (reply.Welcome k.epoch) [] c.in_ok-answer.answer is refl c.requires.up tt;
+      stepped = λ told a h.
+          subst (λ (x : Sessions). Stepped a faults faults held (record k { sessions = x }) (event.Call c.args.client 0 1 (call.Hello c.args.name)) c.in_ok-answer.answer) (sym c.set.ensures)
+          (hello_stepped a faults faults held k c.args.client c.args.name c.in_ok-answer.answer h c.requires.client c.requires.up c.requires.first is);
+      given = reply_given faults faults (g.V.Vault.allowance k.vault) k.is_down (reply.Welcome k.epoch) [] c.in_ok-answer.answer is c.requires.up tt;
       ready = λ n h. subst (λ (x : Sessions). IsReady (n + 1) serves (record k { sessions = x })) (sym c.set.ensures) (hello_ready n serves k c.args.client c.args.name c.requires.client h);
       still = tt;
       seat = seated_alone g.V.Vault.allowance k (record k { sessions = c.set.new.self }) refl refl refl;

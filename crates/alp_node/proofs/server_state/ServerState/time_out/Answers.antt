@@ -1,52 +1,42 @@
-use Rattle.alp_node.proofs.GivenLemmas.{silence_given}
-use Rattle.std.specs.Prelude.{None}
+use Rattle.std.specs.Prelude.{Some, None}
+use Rattle.std.proofs.Common.{◌≡◌, ◌+◌, List, [], ◌∷◌, ◌++◌, refl, sym, ap, ◌∙◌, subst}
 use Rattle.std.specs.FinMap as map
-use Rattle.std.proofs.Common.{◌≡◌, ◌+◌, List, [], ◌∷◌, sym, ap, ◌∙◌, subst, refl}
+use Rattle.std.specs.Option.{option_copied}
 use Rattle.alp_journal.specs.declared.act.Act.{Act}
 use Rattle.alp_journal.specs.declared.act.Act.TheVariants as act
 use Rattle.alp_journal.specs.declared.event.Event.TheVariants as event
 use Rattle.alp_node.specs.ServerState.{IsReady}
-use Rattle.alp_node.specs.Steps.{Stepped, IsSeated, without_trans}
+use Rattle.alp_node.specs.Steps.{Stepped, without_trans}
+use Rattle.alp_node.specs.declared.dead.DeadPart.{DeadPart}
 use Rattle.alp_node.specs.declared.server_state.ServerState.{ServerState}
-use Rattle.alp_node.proofs.KeptLemmas.{timeout_stepped, idle_stepped, none_there, some_there}
-use Rattle.alp_node.proofs.ReadyLemmas.{gone_ready, stepped_ready}
-use Rattle.alp_node.proofs.SeatLemmas.{seated_alone}
+use Rattle.alp_node.proofs.FinishLemmas.{timeout_stepped, idle_stepped}
+use Rattle.alp_node.proofs.ReadyLemmas.{gone_ready, buried_ready, stepped_ready}
+use Rattle.alp_node.proofs.StepLemmas.{silent_step}
 use Rattle.alp_node.proofs.server_state.ServerState.time_out.Goals as goal
 
-pub returns-then-not-has : goal.returns-then-not-has
-returns-then-not-has g c =
+pub returns-in_default : goal.returns-in_default
+returns-in_default g c =
     let k = c.args.self.now in
-    let is : c.silence.result ≡ record { kept = None; handed = None; acts = [] } =
-    c.silence.ensures ∙ ap (λ (acts : List Act). record { kept = None; handed = None; acts = acts }) (c.new-then-not-has.ensures ∙ c.new.ensures.items) in
-    record {
-      stepped = λ told o s h. idle_stepped o s (g.V.Vault.held k.vault) k 0 c.args.trans c.silence.result h (none_there (map.get k.lives c.args.trans) (sym c.has.ensures ∙ c.if-not-has.true)) is;
-      given = silence_given (g.V.Vault.faults k.vault) (g.V.Vault.faults k.vault) (g.V.Vault.allowance k.vault) k.is_down [] c.silence.result is refl c.requires.up tt;
-      ready = λ n h. stepped_ready n (g.V.Vault.serves k.vault) k h;
-      still = tt;
-      seat = seated_alone g.V.Vault.allowance k k refl refl refl;
-      telling = refl;
-    }
+    let G = g.V.Vault in
+    let so : c.silence.result ≡ record { kept = None; handed = None; acts = [] } = c.silence.ensures ∙ ap (λ (acts : List Act). record { kept = None; handed = None; acts = acts }) (c.new-in_default.ensures ∙ c.new.ensures.items) in
+    silent_step G k k c.args.trans c.silence.result [] refl refl refl c.requires.up so refl (λ m n b. tt) (λ n h. stepped_ready n (G.serves k.vault) k h)
+    (λ a h. idle_stepped a (G.faults k.vault) (G.faults k.vault) (G.held k.vault) k c.args.trans c.silence.result h c.requires.up (sym c.get.ensures ∙ ap option_copied c.in_default.is) so)
 
 pub returns : goal.returns
 returns g c =
     let k = c.args.self.now in
+    let G = g.V.Vault in
+    let faults = G.faults k.vault in
     let t = c.args.trans in
-    let held = g.V.Vault.held in
-    let serves = g.V.Vault.serves in
-    let there = some_there (map.get k.lives t) (sym c.has.ensures ∙ c.if-not-has.false) in
-    let is : c.silence-2.result ≡ record { kept = None; handed = None; acts = act.Released t ∷ [] } =
+    let l = c.in-Some.live.now in
+    let dead : List DeadPart = k.dead ++ (record { client = l.client; trans = t }) ∷ [] in
+    let after : ServerState g.row.V.Denot = record (without_trans k t) { dead = dead } in
+    let same : c.forget.new.self ≡ after = c.forget.ensures ∙ ap (λ (ds : List DeadPart). record (without_trans k t) { dead = ds }) c.in_ok-add.ensures.ok in
+    let so : c.silence-2.result ≡ record { kept = None; handed = None; acts = act.Released t ∷ [] } =
     c.silence-2.ensures ∙ ap (λ (acts : List Act). record { kept = None; handed = None; acts = acts }) (c.new-acts.ensures ∙ c.in_ok-vec.ensures.items) in
-    record {
-      stepped = λ told o s h.
-          subst (λ (x : ServerState _). Stepped o s (held x.vault) x (event.Timeout t) c.silence-2.result) (sym c.forget.ensures)
-          (timeout_stepped o s (held k.vault) k 0 t there.0 c.silence-2.result h c.requires.alone there.1 is);
-      given =
-          silence_given (g.V.Vault.faults k.vault) (g.V.Vault.faults c.forget.new.self.vault) (g.V.Vault.allowance c.forget.new.self.vault) c.forget.new.self.is_down
-          (act.Released t ∷ []) c.silence-2.result is refl (ap (λ (x : ServerState _). x.is_down) c.forget.ensures ∙ c.requires.up) tt;
-      ready = λ n h.
-          subst (λ (x : ServerState _). IsReady (n + 1) (serves x.vault) x) (sym c.forget.ensures)
-          (stepped_ready n (serves k.vault) (without_trans k t) (gone_ready n (serves k.vault) k t h));
-      still = tt;
-      seat = subst (IsSeated g.V.Vault.allowance k) (sym c.forget.ensures) (seated_alone g.V.Vault.allowance k (without_trans k t) refl refl refl);
-      telling = ap (λ (x : ServerState _). g.V.Vault.tells x.vault) c.forget.ensures;
-    }
+    silent_step G k c.forget.new.self t c.silence-2.result (act.Released t ∷ []) (ap (λ (y : ServerState _). y.vault) same) (ap (λ (y : ServerState _). y.server) same) (ap (λ (y : ServerState _). y.epoch) same)
+    (ap (λ (y : ServerState _). y.is_down) same ∙ c.requires.up) so refl (λ m n b. tt)
+    (λ n h. subst (λ (y : ServerState _). IsReady (n + 1) (G.serves k.vault) y) (sym same)
+    (buried_ready (n + 1) (G.serves k.vault) (without_trans k t) dead (stepped_ready n (G.serves k.vault) (without_trans k t) (gone_ready n (G.serves k.vault) k t h))))
+    (λ a h. subst (λ (y : ServerState _). Stepped a faults faults (G.held k.vault) y (event.Timeout t) c.silence-2.result) (sym same)
+    (timeout_stepped a faults faults (G.held k.vault) k t l c.silence-2.result h c.requires.up c.requires.alone (sym c.in-Some.ensures) so))

@@ -1,0 +1,315 @@
+-- file calls that a server which runs alone performs
+use Rattle.std.specs.Prelude.{cond, Bool, true, false, ◌&&◌, ◌||◌, ◌==◌, Option, None, Some, flat_map, is_some, if◌then◌else◌, length}
+use Rattle.std.specs.List.{list_any}
+use Rattle.std.specs.Option.{option_to_list}
+use Rattle.std.proofs.lemmas.List.{append-nil}
+use Rattle.std.proofs.Common.{inl, inr, ◌≡◌, ◌⊎◌, ℕ, ◌+◌, List, [], ◌∷◌, ◌++◌, refl, sym, ◌∙◌, ap, subst, eq-eqb, arith}
+use Rattle.alp_base.specs.declared.ids.FileId.{FileId}
+use Rattle.alp_base.specs.declared.ids.TransId.{TransId}
+use Rattle.alp_base.specs.declared.key.Resource.{Resource}
+use Rattle.alp_files.specs.Holdings.{Holding, DoAgree}
+use Rattle.alp_files.proofs.HoldingLemmas.{agree-turned}
+use Rattle.alp_files.proofs.FilesLemmas.{same-some}
+use Rattle.alp_files.specs.Act.{Answer, id_in}
+use Rattle.alp_files.specs.History.{PerformedCall}
+use Rattle.alp_files.specs.Locks.{needs_of, needs_made, with_made, HoldsEach, IsFormed}
+use Rattle.alp_files.specs.Passing.{is_passing, is_passing_refusal, IsFileReply}
+use Rattle.alp_files.specs.declared.call.Call.{Call}
+use Rattle.alp_files.specs.declared.reply.Reply.{Reply}
+use Rattle.alp_files.specs.declared.reply.Reply.TheVariants as reply
+use Rattle.alp_files.specs.declared.refusal.Refusal.{Refusal}
+use Rattle.alp_files.specs.declared.refusal.Refusal.TheVariants as refusal
+use Rattle.alp_journal.specs.declared.act.Act.{Act}
+use Rattle.alp_journal.specs.declared.act.Act.TheVariants as act
+use Rattle.alp_journal.specs.declared.event.Event.{Event}
+use Rattle.alp_journal.specs.declared.event.Event.TheVariants as event
+use Rattle.alp_journal.specs.Along.{Along}
+use Rattle.alp_journal.specs.Ids.{same_trans}
+use Rattle.alp_journal.specs.Deeds.{Deed, Grants, Performs}
+use Rattle.alp_journal.specs.Coordinator.{Fate, Running, is_running}
+use Rattle.alp_journal.specs.Holder.{Holder, Life, with_life, view_in, answer_in, held_for, after_done, grants, performs}
+use Rattle.alp_journal.specs.Desk.{Desk, Session, file_trans, is_of, is_not_yet, begins_if, waits_after, with_session}
+use Rattle.alp_journal.specs.Counts.{Locked, lock_set, with_resources, request_in}
+use Rattle.alp_journal.specs.State.{State, state_deed, has_part}
+use Rattle.alp_journal.specs.Moves.{next_file, call_deeds, act_deeds, grants_to, asks_for, call_now, is_of_no_file, answered, done_by, done_of}
+use Rattle.alp_journal.specs.Laws.{IsLawfulDeed, IsPerformed, IsFree, IsOpenPart, DoLivesAgree, TellsIn, begun_in}
+use Rattle.alp_journal.specs.Answers.{IsFileOf}
+use Rattle.alp_journal.specs.Answered.{GrantsFor}
+use Rattle.alp_journal.specs.Alone.{Alone, alone, IsQuiet, IsPaired, Leads}
+use Rattle.alp_journal.proofs.IdLemmas.{same_trans-true, same_trans-itself}
+use Rattle.alp_journal.proofs.AloneLemmas.{call_entry, new_call, call_leads}
+use Rattle.alp_journal.proofs.AloneEntries.{agree_set, turned, counted_as, IsFileCall, file_call}
+
+-- ---- what a thread is answered
+
+not_yet_refusal : (f : Refusal) → is_passing_refusal f ≡ false → is_not_yet (reply.Refused f) ≡ false
+not_yet_refusal refusal.NotYet h = cc
+not_yet_refusal refusal.BadFrame h = refl
+not_yet_refusal (refusal.StaleSession epoch) h = refl
+not_yet_refusal refusal.UnknownTrans h = refl
+not_yet_refusal refusal.Finishing h = refl
+not_yet_refusal refusal.UnknownOpen h = refl
+not_yet_refusal refusal.UnknownFile h = refl
+not_yet_refusal refusal.UnknownOwner h = refl
+not_yet_refusal refusal.OwnerExists h = refl
+not_yet_refusal refusal.ReadOnlyOpen h = refl
+not_yet_refusal (refusal.AccessDenied list) h = refl
+not_yet_refusal (refusal.NoSuchPage size) h = refl
+not_yet_refusal (refusal.QuotaExceeded charge asked quota) h = refl
+not_yet_refusal (refusal.VolumeFull left asked) h = refl
+not_yet_refusal (refusal.LogFull room asked) h = refl
+not_yet_refusal (refusal.TooMany what limit) h = refl
+not_yet_refusal (refusal.LockConflict holder) h = refl
+not_yet_refusal (refusal.Aborted cause) h = refl
+not_yet_refusal refusal.ReadFault h = refl
+not_yet_refusal refusal.Down h = refl
+not_yet_refusal refusal.OutOfMemory h = refl
+not_yet_refusal refusal.JournalFull h = refl
+
+-- it is not that the call waits, and begins nothing and tells no stamp
+pub record IsOwnReply (r : Reply) : Type 0 where
+  pub now : is_not_yet r ≡ false
+  pub none : [] ≡ begun_in (Some r)
+  pub tells : (m : State) (c : Call) → TellsIn m c r
+
+pub own_reply : (r : Reply) → IsFileReply r → IsOwnReply r
+own_reply (reply.Refused f) h = record { now = not_yet_refusal f h; none = refl; tells = λ m c. tt }
+own_reply (reply.Created f n) h = record { now = refl; none = refl; tells = λ m c. tt }
+own_reply (reply.Opened n) h = record { now = refl; none = refl; tells = λ m c. tt }
+own_reply reply.Plain h = record { now = refl; none = refl; tells = λ m c. tt }
+own_reply (reply.Pages ps) h = record { now = refl; none = refl; tells = λ m c. tt }
+own_reply (reply.Props p) h = record { now = refl; none = refl; tells = λ m c. tt }
+own_reply (reply.Owner o) h = record { now = refl; none = refl; tells = λ m c. tt }
+own_reply (reply.Welcome n) h = absurd h
+own_reply (reply.Begun t) h = absurd h
+own_reply reply.Joined h = absurd h
+own_reply (reply.Committed k) h = absurd h
+own_reply (reply.Ended k) h = absurd h
+
+-- ---- lives where one goes on
+
+-- each is paired as it was, where one goes on as its transaction runs
+pub paired_kept : (lives : TransId → Option Life) (fates : TransId → Fate) (t : TransId) (life : Option Life) → ((u : TransId) → IsPaired (lives u) (fates u)) → IsPaired life (fates t)
+    → (u : TransId) → IsPaired (cond {A = Option Life} (same_trans u t) life (lives u)) (fates u)
+paired_kept lives fates t life all this u = go (same_trans u t) refl
+  where
+    go : (b : Bool) → same_trans u t ≡ b → IsPaired (cond {A = Option Life} b life (lives u)) (fates u)
+    go true e = subst (λ (v : TransId). IsPaired life (fates v)) (sym (same_trans-true u t e)) this
+    go false e = all u
+
+twice : {A : Type 0} (b : Bool) (x y z : A) → cond {A = A} b x (cond {A = A} b y z) ≡ cond {A = A} b x z
+twice true x y z = refl
+twice false x y z = refl
+
+module _ (a : Alone) (client number : ℕ) (w : Session) (t : TransId) (l : Life) (c : Call) (r : Reply) where
+  abbrev pub done : PerformedCall
+  done = record { call = c; reply = r }
+
+  -- the part as it is behind the call, where it was performed under these locks
+  abbrev pub life_after : Holding → Life
+  life_after under = after_done (record l { held = under }) done (answer_in a.holder l done)
+
+  -- the call is performed under these locks, with these resources locked
+  abbrev pub with_call : Holding → List Resource → Alone
+  with_call under locks = record (counted_as a client number w r) {
+    ids = record a.ids { files = a.ids.files + length (option_to_list (id_in r)) };
+    holder = with_life (record a.holder { made = option_to_list (id_in r) ++ a.holder.made }) t (Some (life_after under));
+    locked = lock_set a.locked t (with_resources (needs_made (id_in r)) locks);
+  }
+
+  -- all that is owed of a call that is performed
+  pub record PerformOwes (failed : Bool) (under : Holding) (granted : List TransId) : Type 0 where
+    pub quiet : IsQuiet a
+    pub up : a.is_down ≡ false
+    pub there : a.sessions client ≡ Some w
+    pub turn : number ≡ w.last + 1
+    pub live : a.holder.lives t ≡ Some l
+    pub own : l.client ≡ client
+    pub named : file_trans c ≡ Some t
+    pub formed : IsFormed c
+    pub kind : IsFileReply r
+    pub passes : is_passing r ≡ false
+    pub given : is_of_no_file (alone a) c r ≡ false
+    pub right : (answer_in a.holder l done).reply ≡ Some r
+    pub next_id : (f : FileId) → id_in r ≡ Some f → f ≡ next_file (alone a)
+    pub locked : HoldsEach under (needs_of (view_in a.holder l) l.own c)
+    pub agree : (u : TransId) (k : Life) → a.holder.lives u ≡ Some k → same_trans u t ≡ false → DoAgree (with_made under (id_in r)) k.held
+    pub why : IsFileOf failed (alone a) client c r (Some t)
+    pub grants : GrantsFor failed (alone a) client c r granted (Some t)
+
+  pair_of : IsQuiet a → a.holder.lives t ≡ Some l → IsPaired (Some l) (a.fates t)
+  pair_of q live = subst (λ (x : Option Life). IsPaired x (a.fates t)) live (q.paired t)
+
+  runs_open : (s : State) → s.fates t ≡ a.fates t → IsPaired (Some l) (a.fates t) → IsOpenPart s t
+  runs_open s same pair = inl (ap is_running (same ∙ pair.0))
+
+  call_quiet : (under : Holding) (locks : List Resource) → IsQuiet a → a.holder.lives t ≡ Some l → ((u : TransId) (k : Life) → a.holder.lives u ≡ Some k → same_trans u t ≡ false → DoAgree (with_made under (id_in r)) k.held)
+      → IsQuiet (with_call under locks)
+  call_quiet under locks q live agrees = record {
+    agree = agree_set a.holder.lives t (Some (life_after under)) q.agree (λ x is u k away there. subst (λ (y : Life). DoAgree y.held k.held) (same-some (life_after under) x is) (agrees u k there away));
+    paired = paired_kept a.holder.lives a.fates t (Some (life_after under)) q.paired (pair_of q live);
+  }
+
+  -- what it performs
+  performed_deeds : file_trans c ≡ Some t → is_passing r ≡ false → is_of_no_file (alone a) c r ≡ false → done_of (alone a) r (answered (alone a) client c) ≡ Performs t done ∷ []
+  performed_deeds named passes given =
+      ap (done_of (alone a) r) (IsFileCall.own (file_call a client number w t c r named)) ∙ ap (done_by (alone a) c r) named
+      ∙ (λ i. cond {A = List Deed} (passes i || given i) [] (Performs t done ∷ []))
+
+  -- ---- without a lock that rises
+
+  pub performed_leads : (failed : Bool) → PerformOwes failed l.held [] → Leads failed a (call_entry a client number w c r []) (with_call l.held (a.locked t))
+  performed_leads failed o =
+      let s : State = alone a in
+      let is : IsFileCall a client number w t c r = file_call a client number w t c r o.named in
+      let reply_is : IsOwnReply r = own_reply r o.kind in
+      let pair : IsPaired (Some l) (a.fates t) = pair_of o.quiet o.live in
+      let m : Alone = with_call l.held (a.locked t) in
+      call_leads a client number w failed c r [] (Performs t done ∷ []) m o.there o.turn (record {
+        plain = is.plain;
+        greets = is.greets;
+        up = refl;
+        running = o.up;
+        brought = ap (λ (ds : List Deed). ds ++ [] ++ done_of s r (answered s client c)) is.deeds ∙ performed_deeds o.named o.passes o.given;
+        new = new_call a client number w o.there o.turn;
+        there = o.there;
+        left = (λ i. record (state_deed s (Performs t done)) {
+              desk = is.leaves (with_session s.desk client (Some (record w { last = number; reply = r }))) (has_part (state_deed s (Performs t done)) client) i;
+              is_down = false;
+              pending = [];
+            })
+            ∙ (λ i. record (state_deed s (Performs t done)) { desk = begins_if (reply_is.now i) (with_session s.desk client (Some (record w { last = number; reply = r }))) client number c; is_down = false; pending = [] })
+            ∙ (λ i. alone (record m { holder = performs a.holder t done (o.live i); begun = append-nil a.begun i }));
+        drawn = reply_is.none;
+        deeds = (record {
+          counts = o.next_id;
+          view = (l, o.live, record { client = ap (λ (n : ℕ). Some n) (sym o.own); active = pair.1; formed = o.formed; right = o.right; locked = o.locked });
+          locks = subst (λ (x : Option Life). DoLivesAgree (performs a.holder t done x).lives) (sym o.live) (IsQuiet.agree (call_quiet l.held (a.locked t) o.quiet o.live o.agree));
+          running = runs_open s refl pair;
+          registration = tt;
+          vote = tt;
+          decision = tt;
+          application = tt;
+          forgetting = tt;
+        }, tt);
+        released = refl;
+        granted = refl;
+        said = tt;
+        tells = reply_is.tells (alone m) c;
+        regained = refl;
+        quiet = call_quiet l.held (a.locked t) o.quiet o.live o.agree;
+        answer = is.answer failed (subst (IsFileOf failed s client c r) (sym o.named) o.why);
+        mail = (is.mail, refl);
+        turns = tt;
+        grants = subst (GrantsFor failed s client c r []) (sym o.named) o.grants;
+      })
+
+  -- ---- with locks that are granted at once
+
+  abbrev pub under_grant : Holding
+  under_grant = held_for a.holder l c
+
+  abbrev pub locks_granted : List Resource
+  locks_granted = with_resources (request_in a.holder c (Some l)) (a.locked t)
+
+  abbrev granting : State
+  granting = state_deed (alone a) (Grants t c)
+
+  -- the holder in its two steps
+  abbrev lives_granted : TransId → Option Life
+  lives_granted = λ u. cond {A = Option Life} (same_trans u t) (Some (record l { held = held_for a.holder l c })) (a.holder.lives u)
+
+  granted_holder : a.holder.lives t ≡ Some l → performs (grants a.holder t c (a.holder.lives t)) t done ((grants a.holder t c (a.holder.lives t)).lives t)
+      ≡ with_life (record a.holder { made = option_to_list (id_in r) ++ a.holder.made }) t (Some (life_after under_grant))
+  granted_holder live =
+      ap (λ (x : Option Life). performs (grants a.holder t c x) t done ((grants a.holder t c x).lives t)) live
+      ∙ ap (performs (grants a.holder t c (Some l)) t done) (ap (λ (b : Bool). cond {A = Option Life} b (Some (record l { held = under_grant })) (a.holder.lives t)) (same_trans-itself t))
+      ∙ (λ i. record a.holder { made = option_to_list (id_in r) ++ a.holder.made; lives = λ u. twice {A = Option Life} (same_trans u t) (Some (life_after under_grant)) (Some (record l { held = under_grant })) (a.holder.lives u) i })
+
+  granted_locked : a.holder.lives t ≡ Some l
+      → ◌≡◌ {A = Locked} (lock_set (lock_set a.locked t (with_resources (request_in a.holder c (a.holder.lives t)) (a.locked t))) t
+          (with_resources (needs_made (id_in r)) (lock_set a.locked t (with_resources (request_in a.holder c (a.holder.lives t)) (a.locked t)) t)))
+      (lock_set a.locked t (with_resources (needs_made (id_in r)) locks_granted))
+  granted_locked live =
+      ap (λ (x : Option Life). lock_set (lock_set a.locked t (with_resources (request_in a.holder c x) (a.locked t))) t (with_resources (needs_made (id_in r)) (lock_set a.locked t (with_resources (request_in a.holder c x) (a.locked t)) t))) live
+      ∙ ap (λ (b : Bool). lock_set (lock_set a.locked t locks_granted) t (with_resources (needs_made (id_in r)) (cond {A = List Resource} b locks_granted (a.locked t)))) (same_trans-itself t)
+      ∙ (λ i u. twice {A = List Resource} (same_trans u t) (with_resources (needs_made (id_in r)) locks_granted) locks_granted (a.locked u) i)
+
+  pub granted_leads : (failed : Bool) → IsFree a.holder t l c → PerformOwes failed under_grant (t ∷ []) → Leads failed a (call_entry a client number w c r (act.Granted t ∷ [])) (with_call under_grant locks_granted)
+  granted_leads failed free o =
+      let s : State = alone a in
+      let is : IsFileCall a client number w t c r = file_call a client number w t c r o.named in
+      let reply_is : IsOwnReply r = own_reply r o.kind in
+      let pair : IsPaired (Some l) (a.fates t) = pair_of o.quiet o.live in
+      let m : Alone = with_call under_grant locks_granted in
+      let ev : Event = event.Call client a.ids.epoch number c in
+      let asked : act_deeds s ev (act.Granted t) ≡ Grants t c ∷ [] =
+      ap (λ (x : Option Life). grants_to t (asks_for s ev t x)) o.live
+      ∙ ap (λ (b : Bool). grants_to t (cond {A = Option Call} (b && is_of t (file_trans c)) (Some c) None)) (eq-eqb client l.client (sym o.own))
+      ∙ ap (λ (x : Option TransId). grants_to t (cond {A = Option Call} (is_of t x) (Some c) None)) o.named
+      ∙ ap (λ (b : Bool). grants_to t (cond {A = Option Call} b (Some c) None)) (same_trans-itself t) in
+      let after : State = state_deed granting (Performs t done) in
+      let lives_then : granting.holder.lives t ≡ Some (record l { held = under_grant }) =
+      ap (λ (x : Option Life). (grants a.holder t c x).lives t) o.live ∙ ap (λ (b : Bool). cond {A = Option Life} b (Some (record l { held = under_grant })) (a.holder.lives t)) (same_trans-itself t) in
+      let agree_granted : DoLivesAgree lives_granted =
+      agree_set a.holder.lives t (Some (record l { held = under_grant })) o.quiet.agree
+      (λ x is u k away there. subst (λ (y : Life). DoAgree y.held k.held) (same-some (record l { held = under_grant }) x is) (λ q. agree-turned (under_grant q) (k.held q) ∙ free u k there away q)) in
+      call_leads a client number w failed c r (act.Granted t ∷ []) (Grants t c ∷ Performs t done ∷ []) m o.there o.turn (record {
+        plain = is.plain;
+        greets = is.greets;
+        up = refl;
+        running = o.up;
+        brought = ap (λ (ds : List Deed). ds ++ (act_deeds s ev (act.Granted t) ++ []) ++ done_of s r (answered s client c)) is.deeds
+            ∙ ap (λ (ds : List Deed). (ds ++ []) ++ done_of s r (answered s client c)) asked ∙ ap (λ (ds : List Deed). Grants t c ∷ ds) (performed_deeds o.named o.passes o.given);
+        new = new_call a client number w o.there o.turn;
+        there = o.there;
+        left = (λ i. record after {
+              desk = is.leaves (with_session s.desk client (Some (record w { last = number; reply = r }))) (has_part after client) i;
+              is_down = false;
+              pending = [];
+            })
+            ∙ (λ i. record after { desk = begins_if (reply_is.now i) (with_session s.desk client (Some (record w { last = number; reply = r }))) client number c; is_down = false; pending = [] })
+            ∙ (λ i. alone (record m { holder = granted_holder o.live i; locked = granted_locked o.live i; begun = (append-nil (a.begun ++ []) ∙ append-nil a.begun) i }));
+        drawn = reply_is.none;
+        deeds = (record {
+          counts = tt;
+          view = tt;
+          locks = (λ x at. subst (λ (y : Life). y.vote ≡ None) (same-some l x (sym o.live ∙ at)) pair.1, subst (λ (x : Option Life). DoLivesAgree (grants a.holder t c x).lives) (sym o.live) agree_granted);
+          running = runs_open s refl pair;
+          registration = tt;
+          vote = tt;
+          decision = tt;
+          application = tt;
+          forgetting = tt;
+        }, (record {
+          counts = λ f e. o.next_id f e ∙ ap (λ (x : Option Life). file_of (grants a.holder t c x).server) (sym o.live);
+          view = (record l { held = under_grant }, lives_then, record { client = ap (λ (n : ℕ). Some n) (sym o.own); active = pair.1; formed = o.formed; right = grant_right o.live o.right; locked = grant_locked o.live o.locked });
+          locks = subst (λ (h : Holder). DoLivesAgree h.lives) (sym (granted_holder o.live)) (IsQuiet.agree (call_quiet under_grant locks_granted o.quiet o.live o.agree));
+          running = runs_open granting refl pair;
+          registration = tt;
+          vote = tt;
+          decision = tt;
+          application = tt;
+          forgetting = tt;
+        }, tt));
+        released = refl;
+        granted = refl;
+        said = (tt, tt);
+        tells = reply_is.tells (alone m) c;
+        regained = refl;
+        quiet = call_quiet under_grant locks_granted o.quiet o.live o.agree;
+        answer = is.answer failed (subst (IsFileOf failed s client c r) (sym o.named) o.why);
+        mail = (is.mail, refl);
+        turns = tt;
+        grants = subst (GrantsFor failed s client c r (t ∷ [])) (sym o.named) o.grants;
+      })
+    where
+      file_of : ℕ → FileId
+      file_of server = record { server = server; epoch = a.ids.epoch; counter = a.ids.files + 1 }
+
+      -- what the part sees does not hang on its locks
+      grant_right : a.holder.lives t ≡ Some l → (answer_in a.holder l done).reply ≡ Some r → (answer_in granting.holder (record l { held = under_grant }) done).reply ≡ Some r
+      grant_right live right = subst (λ (x : Option Life). (answer_in (grants a.holder t c x) (record l { held = under_grant }) done).reply ≡ Some r) (sym live) right
+
+      grant_locked : a.holder.lives t ≡ Some l → HoldsEach under_grant (needs_of (view_in a.holder l) l.own c) → HoldsEach under_grant (needs_of (view_in granting.holder (record l { held = under_grant })) l.own c)
+      grant_locked live held = subst (λ (x : Option Life). HoldsEach under_grant (needs_of (view_in (grants a.holder t c x) (record l { held = under_grant })) l.own c)) (sym live) held

@@ -1,0 +1,181 @@
+-- entries of a server that runs alone
+use Rattle.std.specs.Prelude.{cond, Bool, true, false, not, ◌&&◌, ◌==◌, max, Option, None, Some, IsSome, flat_map, is_some}
+use Rattle.std.specs.List.{list_any, AllByRecursion}
+use Rattle.std.specs.List.Sorted.{IsPermutation}
+use Rattle.std.proofs.lemmas.List.Sorted.{IsPermutation-refl}
+use Rattle.std.proofs.lemmas.Bool.{ne_eqb}
+use Rattle.std.proofs.Common.{inl, inr, ◌≡◌, ℕ, ◌+◌, ◌<◌, List, [], ◌∷◌, ◌++◌, refl, sym, ◌∙◌, ap, subst, eq-eqb, arith}
+use Rattle.alp_base.specs.declared.ids.TransId.{TransId}
+use Rattle.alp_base.specs.declared.ids.Stamp.{Stamp}
+use Rattle.alp_files.specs.declared.call.Call.{Call}
+use Rattle.alp_files.specs.declared.call.Call.TheVariants as call
+use Rattle.alp_files.specs.declared.reply.Reply.{Reply}
+use Rattle.alp_files.specs.declared.reply.Reply.TheVariants as reply
+use Rattle.alp_journal.specs.declared.act.Act.{Act}
+use Rattle.alp_journal.specs.declared.event.Event.{Event}
+use Rattle.alp_journal.specs.declared.event.Event.TheVariants as event
+use Rattle.alp_journal.specs.declared.entry.Entry.{Entry}
+use Rattle.alp_journal.specs.Along.{state_after, Along, Where}
+use Rattle.alp_journal.specs.Deeds.{Deed}
+use Rattle.alp_journal.specs.Desk.{Desk, Session, file_trans, waits_after, with_session}
+use Rattle.alp_journal.specs.State.{State, state_deed, has_part}
+use Rattle.alp_journal.specs.Moves.{is_new, tried, told, halted, call_deeds, act_deeds, answered, done_of, is_stop, stops, next, counted, desk_told}
+use Rattle.alp_journal.specs.Coordinator.{Fate, Undrawn, Running, Finishing, Committed, Forgotten, Ended, has_votes}
+use Rattle.alp_journal.specs.Holder.{Holder, Life}
+use Rattle.alp_journal.specs.Halts.{HaltsRight}
+use Rattle.alp_journal.specs.Laws.{IsLawfulEntry, IsLawfulDeed, DoLivesAgree, ReleasesEnded, WaitsInTurn, IsStopped, TellsStop, Repeats, stale, KeepsSessions, CallsOn, drawn_by, begun_in, released_by, granted_by, grants_of, ended_by, SaysRight, TellsIn, regained_by}
+use Rattle.alp_journal.specs.Messages.{Mail, on_call, sent_by, due}
+use Rattle.alp_journal.specs.Answers.{IsAnswer, AnswersCall}
+use Rattle.alp_journal.specs.Answered.{is_release, is_all_done, CountsVotes, ForgetsDone, IsWalk, at_release, GrantsFor, GrantsAtOnce}
+use Rattle.alp_journal.specs.Alone.{Alone, alone, IsQuiet, IsPaired, Leads}
+
+-- ---- what a quiet state has
+
+no_votes : (l : Option Life) (f : Fate) → IsPaired l f → has_votes f ≡ false
+no_votes (Some l) f h = ap has_votes h.0
+no_votes None Undrawn h = refl
+no_votes None (Running client joins) h = refl
+no_votes None (Finishing client joins votes) h = absurd h
+no_votes None (Committed stamp joins done) h = refl
+no_votes None (Forgotten stamp joins) h = refl
+no_votes None (Ended c) h = refl
+
+none_done : (l : Option Life) (f : Fate) → IsPaired l f → is_all_done f ≡ false
+none_done (Some l) f h = ap is_all_done h.0
+none_done None Undrawn h = refl
+none_done None (Running client joins) h = refl
+none_done None (Finishing client joins votes) h = refl
+none_done None (Committed stamp [] done) h = refl
+none_done None (Committed stamp (j ∷ joins) done) h = cc
+none_done None (Forgotten stamp joins) h = refl
+none_done None (Ended c) h = refl
+
+pub quiet_votes : (m : Alone) → IsQuiet m → CountsVotes (alone m)
+quiet_votes m q t = no_votes (m.holder.lives t) (m.fates t) (q.paired t)
+
+pub quiet_forgets : (m : Alone) → IsQuiet m → ForgetsDone (alone m)
+quiet_forgets m q t = none_done (m.holder.lives t) (m.fates t) (q.paired t)
+
+-- nobody waits, so nobody is given what is let go
+pub gives_none : (h : Holder) (acts : List Act) → Where (list_any is_release acts) (flat_map granted_by acts ≡ []) (Unit {0})
+    → Where (list_any is_release acts) (IsWalk h [] (flat_map granted_by acts)) (Unit {0})
+gives_none h acts none = go (list_any is_release acts) none
+  where
+    go : (b : Bool) → Where b (flat_map granted_by acts ≡ []) (Unit {0}) → Where b (IsWalk h [] (flat_map granted_by acts)) (Unit {0})
+    go true n = subst (IsWalk h []) (sym n) (IsWalk.ends h)
+    go false n = tt
+
+-- ---- a new call of a session
+
+module _ (a : Alone) (client number : ℕ) (w : Session) where
+  -- its entry
+  abbrev pub call_entry : Call → Reply → List Act → Entry
+  call_entry c r acts = record { event = event.Call client a.ids.epoch number c; reply = Some r; acts = acts }
+
+  pub new_call : a.sessions client ≡ Some w → number ≡ w.last + 1 → is_new (alone a) client a.ids.epoch number ≡ true
+  new_call there turn =
+      ap (λ (x : Option Session). elim x [ None ↦ false | Some v ↦ a.ids.epoch == a.ids.epoch && number == v.last + 1 ]) there
+      ∙ ap (λ (b : Bool). b && number == w.last + 1) (eq-eqb a.ids.epoch a.ids.epoch refl) ∙ eq-eqb number (w.last + 1) turn
+
+  -- what a call brings about that is no greeting
+  pub call_tried : (c : Call) (r : Reply) (acts : List Act) → a.sessions client ≡ Some w → number ≡ w.last + 1
+      → tried (alone a) (call_entry c r acts) ≡ call_deeds (alone a) client c r ++ flat_map (act_deeds (alone a) (event.Call client a.ids.epoch number c)) acts ++ done_of (alone a) r (answered (alone a) client c)
+  call_tried c r acts there turn =
+      ap (λ (b : Bool). cond {A = List Deed} b (call_deeds (alone a) client c r) [] ++ flat_map (act_deeds (alone a) (event.Call client a.ids.epoch number c)) acts
+          ++ cond {A = List Deed} b (done_of (alone a) r (answered (alone a) client c)) []) (new_call there turn)
+
+  -- what is known behind its answer
+  abbrev pub after_call : State → Call → Reply → State
+  after_call m c r = record m {
+    desk = waits_after (with_session m.desk client (Some (record w { last = number; reply = r }))) (has_part m client) client number c r;
+    is_down = false;
+    pending = [];
+  }
+
+  -- a call that is no greeting
+  abbrev pub IsCounted : Call → Reply → Type 0
+  IsCounted c r = (m : State) → desk_told m (event.Call client a.ids.epoch number c) (Some r)
+      ≡ cond {A = Desk} (is_new m client a.ids.epoch number) (counted m.desk (has_part m client) client number c r (m.desk.sessions client)) m.desk
+
+  pub call_next : (c : Call) (r : Reply) (acts : List Act) (ds : List Deed) → IsCounted c r → stops (call_entry c r acts) ≡ false → tried (alone a) (call_entry c r acts) ≡ ds
+      → is_new (state_after state_deed (alone a) ds) client a.ids.epoch number ≡ true → (state_after state_deed (alone a) ds).desk.sessions client ≡ Some w
+      → next (alone a) (call_entry c r acts) ≡ after_call (state_after state_deed (alone a) ds) c r
+  call_next c r acts ds plain up brought new there =
+      let e : Entry = call_entry c r acts in
+      let m : State = state_after state_deed (alone a) ds in
+      ap (λ (b : Bool). cond {A = State} b (halted (alone a) e) (told (alone a) e)) up
+      ∙ ap (λ (x : State). record x { desk = desk_told x (event.Call client a.ids.epoch number c) (Some r); is_down = false; pending = [] }) (ap (state_after state_deed (alone a)) brought)
+      ∙ ap (λ (x : Desk). record m { desk = x; is_down = false; pending = [] })
+        (plain m ∙ ap (λ (b : Bool). cond {A = Desk} b (counted m.desk (has_part m client) client number c r (m.desk.sessions client)) m.desk) new
+        ∙ ap (λ (x : Option Session). counted m.desk (has_part m client) client number c r x) there)
+
+  -- what is owed of a new call's entry that brings these deeds
+  pub record CallOwes (failed : Bool) (c : Call) (r : Reply) (acts : List Act) (ds : List Deed) (m : Alone) : Type 0 where
+    pub plain : IsCounted c r
+    pub greets : (e : Entry) → CallsOn (alone a) a.ids.epoch number e (a.sessions client) → KeepsSessions (alone a) e (event.Call client a.ids.epoch number c)
+    pub up : list_any is_stop acts ≡ false
+    pub running : a.is_down ≡ false
+    pub brought : call_deeds (alone a) client c r ++ flat_map (act_deeds (alone a) (event.Call client a.ids.epoch number c)) acts ++ done_of (alone a) r (answered (alone a) client c) ≡ ds
+    pub new : is_new (state_after state_deed (alone a) ds) client a.ids.epoch number ≡ true
+    pub there : (state_after state_deed (alone a) ds).desk.sessions client ≡ Some w
+    pub left : after_call (state_after state_deed (alone a) ds) c r ≡ alone m
+    pub drawn : flat_map drawn_by acts ≡ begun_in (Some r)
+    pub deeds : Along state_deed (IsLawfulDeed (event.Call client a.ids.epoch number c)) (alone a) ds
+    pub released : flat_map released_by acts ≡ flat_map (ended_by (alone a)) ds
+    pub granted : flat_map granted_by acts ≡ flat_map grants_of ds
+    pub said : AllByRecursion (SaysRight (event.Call client a.ids.epoch number c) (alone m)) acts
+    pub tells : TellsIn (alone m) c r
+    pub regained : list_any regained_by acts ≡ false
+    pub quiet : IsQuiet m
+    pub answer : IsAnswer failed (alone a) client c r
+    pub mail : (on_call (alone a) client c r ≡ []) × (flat_map sent_by acts ≡ [])
+    pub turns : Where (list_any is_release acts) (flat_map granted_by acts ≡ []) (Unit {0})
+    pub grants : GrantsFor failed (alone a) client c r (flat_map granted_by acts) (file_trans c)
+
+  -- the session goes on
+  pub calls_on : (c : Call) (r : Reply) (acts : List Act) → a.sessions client ≡ Some w → number ≡ w.last + 1 → CallsOn (alone a) a.ids.epoch number (call_entry c r acts) (a.sessions client)
+  calls_on c r acts there turn = subst (CallsOn (alone a) a.ids.epoch number (call_entry c r acts)) (sym there)
+      (subst (λ (b : Bool). Where (not b) (Repeats (stale (alone a)) (call_entry c r acts)) (Where (number == w.last) (Repeats (Some w.reply) (call_entry c r acts)) (Where (number == w.last + 1) (IsSome (Some r)) (Repeats None (call_entry c r acts)))))
+      (sym (eq-eqb a.ids.epoch a.ids.epoch refl))
+      (subst (λ (b : Bool). Where b (Repeats (Some w.reply) (call_entry c r acts)) (Where (number == w.last + 1) (IsSome (Some r)) (Repeats None (call_entry c r acts)))) (sym (ne_eqb number w.last (λ same. let wrong : w.last ≡ w.last + 1 = sym same ∙ turn in absurd (omega (arith, wrong)))))
+      (subst (λ (b : Bool). Where b (IsSome (Some r)) (Repeats None (call_entry c r acts))) (sym (eq-eqb number (w.last + 1) turn)) refl)))
+
+  pub call_leads : (failed : Bool) (c : Call) (r : Reply) (acts : List Act) (ds : List Deed) (m : Alone) → a.sessions client ≡ Some w → number ≡ w.last + 1 → CallOwes failed c r acts ds m → Leads failed a (call_entry c r acts) m
+  call_leads failed c r acts ds m there turn o =
+      let s : State = alone a in
+      let e : Entry = call_entry c r acts in
+      let ev : Event = event.Call client a.ids.epoch number c in
+      let new : is_new s client a.ids.epoch number ≡ true = new_call there turn in
+      let done : tried s e ≡ ds = call_tried c r acts there turn ∙ o.brought in
+      let leaves : next s e ≡ alone m = call_next c r acts ds o.plain o.up done o.new o.there ∙ o.left in
+      let after : Where false (IsStopped acts × TellsStop ev (Some r)) (Unit {0}) = tt in
+      record {
+        leaves = leaves;
+        lawful = record {
+          drawn = o.drawn ∙ ap (λ (b : Bool). cond {A = List TransId} b (begun_in (Some r)) []) (sym new);
+          sessions = o.greets e (calls_on c r acts there turn);
+          deeds = subst (Along state_deed (IsLawfulDeed ev) s) (sym done) o.deeds;
+          agree = subst (λ (x : State). DoLivesAgree x.holder.lives) (sym leaves) o.quiet.agree;
+          released = subst (λ (b : Bool). Where b (Unit {0}) (ReleasesEnded s e × WaitsInTurn (next s e))) (sym o.up)
+              ((o.released ∙ ap (flat_map (ended_by s)) (sym done), o.granted ∙ ap (flat_map grants_of) (sym done)), subst WaitsInTurn (sym leaves) tt);
+          said = subst (λ (x : State). AllByRecursion (SaysRight ev x) acts) (sym leaves) o.said;
+          told = subst (λ (x : State). Where (is_new s client a.ids.epoch number) (TellsIn x c r) (Unit {0})) (sym leaves)
+              (subst (λ (b : Bool). Where b (TellsIn (alone m) c r) (Unit {0})) (sym new) o.tells);
+          restart = (o.regained, o.running);
+          stopped = subst (λ (b : Bool). Where b (IsStopped acts × TellsStop ev (Some r)) (Unit {0})) (sym o.up) tt;
+        };
+        answered = record {
+          answered = subst (λ (b : Bool). Where b (Unit {0}) (AnswersCall failed s ev (Some r))) (sym o.up) (subst (λ (b : Bool). Where b (IsAnswer failed s client c r) (Unit {0})) (sym new) o.answer);
+          sent = subst (λ (b : Bool). Where b (Unit {0}) (IsPermutation (due failed s (next s e) ev (Some r)) (flat_map sent_by acts))) (sym o.up)
+              (subst (λ (x : List Mail). IsPermutation x (flat_map sent_by acts)) (sym (ap (λ (b : Bool). cond {A = List Mail} b (on_call s client c r) []) new ∙ o.mail.0)) (subst (IsPermutation []) (sym o.mail.1) (IsPermutation-refl [])));
+          ticks = tt;
+          applied = subst (λ (b : Bool). Where b (Unit {0}) (Unit {0})) (sym o.up) tt;
+          votes = subst (λ (b : Bool). Where b (Unit {0}) (CountsVotes (next s e))) (sym o.up) (subst CountsVotes (sym leaves) (quiet_votes m o.quiet));
+          forgets = subst (λ (b : Bool). Where b (Unit {0}) (ForgetsDone (next s e))) (sym o.up) (subst ForgetsDone (sym leaves) (quiet_forgets m o.quiet));
+          turns = gives_none (at_release s e) acts o.turns;
+          grants = subst (λ (b : Bool). Where b (Unit {0}) (GrantsAtOnce failed s e ev (Some r))) (sym o.up)
+              (subst (λ (b : Bool). Where b (GrantsFor failed s client c r (flat_map granted_by acts) (file_trans c)) (Unit {0})) (sym new) o.grants);
+          halted = subst (λ (b : Bool). Where b (HaltsRight s e) (Unit {0})) (sym o.up) tt;
+        };
+        quiet = o.quiet;
+      }

@@ -1,5 +1,0 @@
-use Rattle.alp_journal.proofs.RefusedLemmas.{refused_leaves, unknown_leaves, aborted_leaves}
-use Rattle.alp_journal.proofs.laws.passing_refusals_change_nothing.Goals as goal
-
-pub returns : goal.returns
-returns c = record { refused = refused_leaves; unknown = unknown_leaves; aborted = aborted_leaves }

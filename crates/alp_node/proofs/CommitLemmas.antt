@@ -1,0 +1,226 @@
+-- commits and halts, as the server keeps them
+use Rattle.std.specs.Prelude.{cond, Bool, true, false, ◌==◌, ◌&&◌, not, max, nat_lt, filter, Option, None, Some, is_some, IsTrue, Result, Ok, Err, IfOk, OnOk, OnErr}
+use Rattle.std.specs.List.{list_all, list_any}
+use Rattle.std.specs.FinMap as map
+use Rattle.std.proofs.Common.{inl, inr, ◌⊎◌, ◌≡◌, ℕ, ◌+◌, ◌-◌, ◌*◌, ◌^◌, ◌<◌, ◌≤◌, List, [], ◌∷◌, ◌++◌, length, length-append, refl, sym, ◌∙◌, ap, subst, arith, eq-eqb}
+use Rattle.std.proofs.lemmas.Bool.{ne_eqb, ltb-true}
+use Rattle.alp_base.specs.Causes.{Rose}
+use Rattle.alp_base.specs.declared.ids.Stamp.{Stamp}
+use Rattle.alp_base.specs.declared.ids.TransId.{TransId}
+use Rattle.alp_base.specs.declared.key.Key.{Key}
+use Rattle.alp_base.specs.declared.key.Key.TheVariants.{Leader}
+use Rattle.alp_fields.specs.ClockNote.{clock_kept}
+use Rattle.alp_files.specs.Born.{IsUnborn}
+use Rattle.alp_files.specs.Cells.{Cells, View}
+use Rattle.alp_files.specs.Edits.{Edit, Drop, Cut, Put, edits_at, edits_map, after, over, is_in_file, is_past}
+use Rattle.alp_files.proofs.HistoryLemmas.{get-edits_map, same_cells}
+use Rattle.alp_files.specs.History.{Decided}
+use Rattle.alp_files.specs.declared.call.Call.{Call}
+use Rattle.alp_files.specs.declared.call.Call.TheVariants as call
+use Rattle.alp_files.specs.declared.reply.Reply.{Reply}
+use Rattle.alp_files.specs.declared.reply.Reply.TheVariants as reply
+use Rattle.alp_files.specs.declared.refusal.Refusal.TheVariants as refusal
+use Rattle.alp_files.specs.declared.refusal.Why.{Why}
+use Rattle.alp_files.specs.declared.refusal.Why.TheVariants as why
+use Rattle.alp_vault.specs.Contents.{Contents}
+use Rattle.alp_journal.specs.declared.act.Act.{Act}
+use Rattle.alp_journal.specs.declared.act.Act.TheVariants as act
+use Rattle.alp_journal.specs.declared.event.Event.TheVariants as event
+use Rattle.alp_journal.specs.declared.entry.Entry.{Entry}
+use Rattle.alp_journal.specs.Deeds.{Deed}
+use Rattle.alp_journal.specs.Moves.{tried}
+use Rattle.alp_journal.specs.Ids.{same_trans}
+use Rattle.alp_journal.specs.Coordinator.{Fate, Undrawn, Running}
+use Rattle.alp_journal.specs.Coordinator as fate
+use Rattle.alp_journal.specs.Holder.{Life}
+use Rattle.alp_journal.specs.Counts.{Intents, intent, intents_from, no_intents, changed, is_put, without_key}
+use Rattle.alp_journal.specs.Desk.{file_trans}
+use Rattle.alp_journal.specs.Messages.{why_not_own, first_why, full_or, no_room, clock_end, part_cells}
+use Rattle.alp_journal.specs.Alone.{Alone, alone, IsPaired, Leads, AreEarlier}
+use Rattle.alp_journal.proofs.StampLemmas.{put-last, AreEarlier-push}
+use Rattle.alp_journal.proofs.AloneLemmas.{call_entry}
+use Rattle.alp_journal.proofs.AloneEnds.{with_commit, commit_leads, with_halt, commit_halt_leads, file_halt_leads}
+use Rattle.alp_node.specs.Bounded.{IsWithin}
+use Rattle.alp_node.specs.Sessions.{session_at, with_session}
+use Rattle.alp_node.specs.ServerState.{IsAs}
+use Rattle.alp_node.specs.Steps.{Stepped, IsTurn, counted_in, without_trans, seen_in}
+use Rattle.alp_node.specs.declared.answer.Answer.{Answer}
+use Rattle.alp_node.specs.declared.lives.Live.{Live}
+use Rattle.alp_node.specs.declared.server_state.ServerState.{ServerState}
+use Rattle.alp_node.specs.declared.sessions.Turn.{Turn}
+use Rattle.alp_node.proofs.FinishLemmas.{gone_alike, gone_unborn, still_undrawn, turn_session, turn_next, drawn_live}
+use Rattle.alp_node.proofs.KeptLemmas.{sessions_as, IsSession, stands_timely, IsLive, live_there, over_empty, stepped_so}
+use Rattle.alp_node.proofs.MapLemmas.{places_set}
+
+-- ---- how many cells a part changes
+
+fewer : {A : Type 0} (p : A → Bool) (xs : List A) → length (filter p xs) ≤ length xs
+fewer p [] = omega arith
+fewer p (x ∷ xs) = go (p x) (fewer p xs)
+  where
+    go : (b : Bool) → length (filter p xs) ≤ length xs → length (cond b (x ∷ filter p xs) (filter p xs)) ≤ length (x ∷ xs)
+    go true h = omega (arith, h)
+    go false h = omega (arith, h)
+
+abbrev size_of : Intents → ℕ
+size_of i = length i.drops + length i.cuts + length i.puts
+
+changed_from : (i : Intents) (es : List Edit) → list_all is_put es ≡ true → size_of (intents_from i es) ≤ size_of i + length es
+changed_from i [] alone = omega arith
+changed_from i (Put k c ∷ es) alone =
+    let rest : size_of (intents_from (intent i (Put k c)) es) ≤ size_of (intent i (Put k c)) + length es = changed_from (intent i (Put k c)) es alone in
+    let one : length (without_key k i.puts ++ k ∷ []) ≡ length (without_key k i.puts) + 1 = length-append (without_key k i.puts) (k ∷ []) in
+    let less : length (without_key k i.puts) ≤ length i.puts = fewer _ i.puts in
+    omega (arith, rest, one, less)
+changed_from i (Drop f ∷ es) alone = cc
+changed_from i (Cut f n ∷ es) alone = cc
+
+pub changed_most : (es : List Edit) → list_all is_put es ≡ true → changed es ≤ length es
+changed_most es alone = omega (arith, changed_from no_intents es alone)
+
+-- ---- this server's own vote
+
+no_room_fits : (area before after : ℕ) → after ≤ area → no_room area before after ≡ None
+no_room_fits area before after fits = go (nat_lt area after) refl
+  where
+    go : (b : Bool) → nat_lt area after ≡ b → cond {A = Option Why} b (Some (why.LogFull (area - before) (after - before))) None ≡ None
+    go false e = refl
+    go true e = (let wrong : area < after = ltb-true area after e in absurd (omega (arith, wrong, fits)))
+
+module _ {V : Type 0} (a : Alone) (held : Contents) (k : ServerState V) (t : TransId) (l : Live) where
+  -- the log has room
+  room_then : IsAs a held k → map.get k.lives t ≡ Some l → 4 * l.bounds.puts + 28 ≤ k.sizes.area → no_room a.sizes.area (24 + 0 + 0) (24 + 0 + (4 * part_cells (a.holder.lives t) + 4)) ≡ None
+  room_then h live room =
+      let y : IsLive k.locks.held (a.locked t) t l (a.holder.lives t) = live_there k.locks.held (a.locked t) t (map.get k.lives t) (a.holder.lives t) l live (h.lives t) in
+      let cells : part_cells (a.holder.lives t) ≡ changed y.life.edits = ap part_cells y.is in
+      let area : a.sizes.area ≡ k.sizes.area = ap (λ s. s.area) h.sizes in
+      no_room_fits a.sizes.area (24 + 0 + 0) (24 + 0 + (4 * part_cells (a.holder.lives t) + 4)) (omega (arith, cells, area, changed_most y.life.edits y.alike.within.alone, y.alike.within.puts, room))
+
+  early_clock : IsAs a held k → k.clock < 2 ^ 62 → (a.holder.clock == clock_end) ≡ false
+  early_clock h early = ne_eqb a.holder.clock clock_end (λ e. absurd (omega (arith, e, h.clock, early)))
+
+  pub votes_for : IsAs a held k → k.clock < 2 ^ 62 → map.get k.lives t ≡ Some l → 4 * l.bounds.puts + 28 ≤ k.sizes.area → why_not_own false (alone a) t ≡ None
+  votes_for h early live room = (λ i. first_why false false (early_clock h early i) (no_room a.sizes.area (24 + 0 + 0) (24 + 0 + (4 * part_cells (a.holder.lives t) + 4)))) ∙ ap (full_or false) (room_then h live room)
+
+  pub votes_unread : IsAs a held k → k.clock < 2 ^ 62 → map.get k.lives t ≡ Some l → 4 * l.bounds.puts + 28 ≤ k.sizes.area → why_not_own true (alone a) t ≡ Some why.ReadFault
+  votes_unread h early live room = (λ i. first_why true false (early_clock h early i) (no_room a.sizes.area (24 + 0 + 0) (24 + 0 + (4 * part_cells (a.holder.lives t) + 4)))) ∙ ap (full_or true) (room_then h live room)
+
+  pub votes_at_end : IsAs a held k → k.clock ≡ 2 ^ 62 → why_not_own false (alone a) t ≡ Some why.ClockEnd
+  votes_at_end h last = ap (λ (b : Bool). first_why false false b (no_room a.sizes.area (24 + 0 + 0) (24 + 0 + (4 * part_cells (a.holder.lives t) + 4)))) (eq-eqb a.holder.clock clock_end (h.clock ∙ last))
+
+-- ---- a commit
+
+module _ {V : Type 0} (a : Alone) (before now : ℕ) (held then : Contents) (k : ServerState V) (turn : Turn) (t : TransId) (l : Live) (v : V) where
+  abbrev pub stamp_at : Stamp
+  stamp_at = record { ts = k.clock + 1; trans = t }
+
+  abbrev pub committed_kept : ServerState V
+  committed_kept = record (without_trans k t) { sessions = counted_in k.sessions turn; clock = k.clock + 1; committed = k.committed + 1; vault = v }
+
+  pub commit_stepped : (x : Answer) → IsAs a held k → IsTurn k.sessions turn → k.is_down ≡ false → k.locks.waiting ≡ [] → k.clock < 2 ^ 62 → t.server ≡ k.server → map.get k.lives t ≡ Some l → l.client ≡ turn.client
+      → 4 * l.bounds.puts + 28 ≤ k.sizes.area → map.get then.cells ≡ over l.part.intents (map.get held.cells) → clock_kept then.notes ≡ record { epoch = k.epoch; clock = k.clock + 1 }
+      → x ≡ record { kept = Some (reply.Committed stamp_at); handed = Some (reply.Committed stamp_at); acts = act.Decided stamp_at [] ∷ act.Released t ∷ [] }
+      → Stepped a before now then committed_kept (event.Call turn.client k.epoch turn.number (call.Finish t true)) x
+  commit_stepped x h is up alone early here live own room cells notes so =
+      let s : IsSession turn.session (a.sessions turn.client) = turn_session a held k turn h is in
+      let y : IsLive k.locks.held (a.locked t) t l (a.holder.lives t) = live_there k.locks.held (a.locked t) t (map.get k.lives t) (a.holder.lives t) l live (h.lives t) in
+      let es : List Edit = y.life.edits in
+      let m : Alone = with_commit a turn.client turn.number s.told t y.life in
+      let stamp : Stamp = record { ts = a.holder.clock + 1; trans = t } in
+      let leads = commit_leads a turn.client turn.number s.told t y.life h.quiet (h.down ∙ up) s.is (turn_next a held k turn h is) (here ∙ sym h.server) (drawn_live a held k t y.life h y.is).1 y.is (y.alike.client ∙ own)
+          (votes_for a held k t l h early live room) in
+      let same_stamp : stamp_at ≡ stamp = λ i. record { ts = sym h.clock i + 1; trans = t } in
+      let last : m.holder.applied ≡ a.holder.applied ++ (stamp, record { stamp = stamp; who = y.life.who; calls = y.life.calls }) ∷ [] =
+          put-last a.holder.applied stamp (record { stamp = stamp; who = y.life.who; calls = y.life.calls }) a.holder.clock h.earlier (omega arith) in
+      let clock : max a.holder.clock (a.holder.clock + 1) ≡ k.clock + 1 = omega (arith, h.clock) in
+      let same : then.cells ≡ edits_map es a.holder.cells =
+          same_cells then.cells (edits_map es a.holder.cells)
+          (cells ∙ (λ i q. y.alike.intents (map.get held.cells) i q) ∙ ap (after es) (over_empty (map.get held.cells)) ∙ ap (λ (c : Cells). after es (map.get c)) (h.cells up) ∙ sym (get-edits_map es a.holder.cells)) in
+      stepped_so a before now held then k committed_kept turn.client turn.number s.told (call.Finish t true) false (reply.Committed stamp) (act.Decided stamp [] ∷ act.Released t ∷ []) m x
+      (so ∙ ap (λ (z : Stamp). record { kept = Some (reply.Committed z); handed = Some (reply.Committed z); acts = act.Decided z [] ∷ act.Released t ∷ [] }) same_stamp) h leads
+      (record {
+        server = h.server;
+        sizes = h.sizes;
+        epoch = h.epoch;
+        clock = clock;
+        cells = λ _. same;
+        notes = λ _. notes ∙ (λ i. record { epoch = sym h.epoch i; clock = sym clock i });
+        places = places_set k.sessions turn.client (record turn.session { last = turn.number }) h.places;
+        sessions = sessions_as a.sessions k.sessions turn.client (record s.told { last = turn.number; reply = reply.Committed stamp }) (record turn.session { last = turn.number }) h.sessions h.places is.client s.who refl;
+        dead = h.dead;
+        lives = gone_alike a held k t alone h;
+        unborn = gone_unborn a held k t h;
+        drawn = h.drawn;
+        begun = h.begun;
+        undrawn = still_undrawn a.holder.server a.ids.epoch k.drawn a.fates t (λ f. fate.decided stamp [] (fate.finishing f)) refl h.undrawn;
+        files = h.files;
+        made = h.made;
+        born = λ n high. ap (λ (view : View). view (Leader (record { server = a.holder.server; epoch = a.ids.epoch; counter = n }))) (get-edits_map es a.holder.cells)
+            ∙ ap (edits_at es (Leader (record { server = a.holder.server; epoch = a.ids.epoch; counter = n }))) (h.born n high) ∙ h.unborn t y.life y.is n high;
+        earlier = subst (AreEarlier (max a.holder.clock (a.holder.clock + 1))) (sym last)
+            (subst (λ (n : ℕ). AreEarlier n (a.holder.applied ++ (stamp, record { stamp = stamp; who = y.life.who; calls = y.life.calls }) ∷ [])) (omega arith)
+            (AreEarlier-push a.holder.applied stamp (record { stamp = stamp; who = y.life.who; calls = y.life.calls }) a.holder.clock h.earlier (omega arith)));
+        committed = ap (λ (xs : List (Stamp × Decided)). length xs) last ∙ length-append a.holder.applied ((stamp, record { stamp = stamp; who = y.life.who; calls = y.life.calls }) ∷ []) ∙ ap (λ (n : ℕ). n + 1) h.committed;
+        quiet = leads.quiet;
+        down = sym up;
+      })
+      (λ e. cc) (omega (arith, h.clock))
+
+-- ---- the vault was stopped or failed
+
+-- a server that is down keeps all but what its vault has
+pub halted_as : {V : Type 0} (a m : Alone) (held then : Contents) (k : ServerState V) (v : V) (ds : List Deed) → m ≡ record a { is_down = true; pending = ds } → IsAs a held k → IsAs m then (record k { is_down = true; vault = v })
+halted_as a m held then k v ds is h =
+    let never : true ≡ false → ⊥ = λ e. cc in
+    subst (λ (x : Alone). IsAs x then (record k { is_down = true; vault = v })) (sym is) (record {
+      server = h.server;
+      sizes = h.sizes;
+      epoch = h.epoch;
+      clock = h.clock;
+      cells = λ e. absurd (never e);
+      notes = λ e. absurd (never e);
+      places = h.places;
+      sessions = h.sessions;
+      dead = h.dead;
+      lives = h.lives;
+      unborn = h.unborn;
+      drawn = h.drawn;
+      begun = h.begun;
+      undrawn = h.undrawn;
+      files = h.files;
+      made = h.made;
+      born = h.born;
+      earlier = h.earlier;
+      committed = h.committed;
+      quiet = record { agree = h.quiet.agree; paired = h.quiet.paired };
+      down = refl;
+    })
+
+module _ {V : Type 0} (a : Alone) (before now : ℕ) (held then : Contents) (k : ServerState V) (turn : Turn) (t : TransId) (v : V) (z : Act) where
+  abbrev pub IsStopAct : Type 0
+  IsStopAct = (z ≡ act.Stopped) ⊎ (z ≡ act.Failed)
+
+  pub file_halt_stepped : (c : Call) (x : Answer) → IsStopAct → IsAs a held k → IsTurn k.sessions turn → k.is_down ≡ false → file_trans c ≡ Some t
+      → x ≡ record { kept = Some (reply.Refused refusal.Down); handed = Some (reply.Refused refusal.Down); acts = z ∷ [] }
+      → Stepped a before now then (record k { is_down = true; vault = v }) (event.Call turn.client k.epoch turn.number c) x
+  file_halt_stepped c x stop h is up named so =
+      let s : IsSession turn.session (a.sessions turn.client) = turn_session a held k turn h is in
+      let e : Entry = call_entry a turn.client turn.number s.told c (reply.Refused refusal.Down) (z ∷ []) in
+      stepped_so a before now held then k (record k { is_down = true; vault = v }) turn.client turn.number s.told c false (reply.Refused refusal.Down) (z ∷ []) (with_halt a turn.client turn.number s.told e) x so h
+      (file_halt_leads a turn.client turn.number s.told t c z stop h.quiet (h.down ∙ up) s.is (turn_next a held k turn h is) named)
+      (halted_as a (with_halt a turn.client turn.number s.told e) held then k v (tried (alone a) e) refl h) (λ w. cc) (stands_timely a.holder.clock (seen_in (event.Call turn.client k.epoch turn.number c)) k.clock h.clock)
+
+  pub commit_halt_stepped : (l : Live) (x : Answer) → IsStopAct → IsAs a held k → IsTurn k.sessions turn → k.is_down ≡ false → k.clock < 2 ^ 62 → t.server ≡ k.server → map.get k.lives t ≡ Some l → l.client ≡ turn.client
+      → 4 * l.bounds.puts + 28 ≤ k.sizes.area
+      → x ≡ record { kept = Some (reply.Refused refusal.Down); handed = Some (reply.Refused refusal.Down); acts = act.Decided (record { ts = k.clock + 1; trans = t }) [] ∷ z ∷ [] }
+      → Stepped a before now then (record k { is_down = true; vault = v }) (event.Call turn.client k.epoch turn.number (call.Finish t true)) x
+  commit_halt_stepped l x stop h is up early here live own room so =
+      let s : IsSession turn.session (a.sessions turn.client) = turn_session a held k turn h is in
+      let y : IsLive k.locks.held (a.locked t) t l (a.holder.lives t) = live_there k.locks.held (a.locked t) t (map.get k.lives t) (a.holder.lives t) l live (h.lives t) in
+      let acts : List Act = act.Decided (record { ts = a.holder.clock + 1; trans = t }) [] ∷ z ∷ [] in
+      let e : Entry = call_entry a turn.client turn.number s.told (call.Finish t true) (reply.Refused refusal.Down) acts in
+      stepped_so a before now held then k (record k { is_down = true; vault = v }) turn.client turn.number s.told (call.Finish t true) false (reply.Refused refusal.Down) acts (with_halt a turn.client turn.number s.told e) x
+      (so ∙ ap (λ (n : ℕ). record { kept = Some (reply.Refused refusal.Down); handed = Some (reply.Refused refusal.Down); acts = act.Decided (record { ts = n + 1; trans = t }) [] ∷ z ∷ [] }) (sym h.clock)) h
+      (commit_halt_leads a turn.client turn.number s.told t y.life z stop h.quiet (h.down ∙ up) s.is (turn_next a held k turn h is) (here ∙ sym h.server) (drawn_live a held k t y.life h y.is).1 y.is (y.alike.client ∙ own)
+      (votes_for a held k t l h early live room))
+      (halted_as a (with_halt a turn.client turn.number s.told e) held then k v (tried (alone a) e) refl h) (λ w. cc) (stands_timely a.holder.clock 0 k.clock h.clock)

@@ -1,0 +1,252 @@
+-- greetings and begins, as the server keeps them
+use Rattle.std.specs.Prelude.{cond, Bool, true, false, ◌==◌, ◌&&◌, not, max, filter, Option, None, Some, is_some, nat_le}
+use Rattle.std.specs.List.{list_any}
+use Rattle.std.specs.FinMap as map
+use Rattle.std.proofs.Common.{◌≡◌, ℕ, suc, ◌+◌, ◌<◌, ◌≤◌, List, [], ◌∷◌, ◌++◌, length, refl, sym, ◌∙◌, ap, subst, arith, eq-eqb}
+use Rattle.std.proofs.lemmas.Bool.{le-leb, leb-true, eqb-true}
+use Rattle.alp_base.specs.declared.ids.Stamp.{Stamp}
+use Rattle.alp_base.specs.declared.ids.TransId.{TransId}
+use Rattle.alp_base.specs.declared.key.Key.TheVariants.{Leader}
+use Rattle.alp_base.specs.declared.key.Resource.{Resource}
+use Rattle.alp_calls.specs.Parts.{own_of}
+use Rattle.alp_calls.specs.declared.part.Part.{Part}
+use Rattle.alp_files.specs.Act.{no_opens}
+use Rattle.alp_files.specs.Cells.{Cells}
+use Rattle.alp_files.specs.Edits.{edits_at, over}
+use Rattle.alp_files.proofs.FilesLemmas.{same-some}
+use Rattle.alp_files.specs.declared.call.Call.TheVariants as call
+use Rattle.alp_files.specs.declared.reply.Reply.{Reply}
+use Rattle.alp_files.specs.declared.reply.Reply.TheVariants as reply
+use Rattle.alp_files.specs.declared.refusal.Refusal.{Refusal}
+use Rattle.alp_files.specs.declared.refusal.Refusal.TheVariants as refusal
+use Rattle.alp_files.specs.declared.refusal.What.TheVariants as what
+use Rattle.alp_files.specs.declared.refusal.Cause.{Cause}
+use Rattle.alp_files.specs.declared.refusal.Cause.TheVariants as cause
+use Rattle.alp_locks.specs.Tables.{Holders, Table, holding}
+use Rattle.alp_vault.specs.Contents.{Contents}
+use Rattle.alp_journal.specs.declared.act.Act.TheVariants as act
+use Rattle.alp_journal.specs.declared.event.Event.TheVariants as event
+use Rattle.alp_journal.specs.Ids.{same_trans}
+use Rattle.alp_journal.specs.Coordinator.{Fate, Undrawn, Running, Finishing, Committed, Forgotten, Ended}
+use Rattle.alp_journal.specs.Coordinator as fate
+use Rattle.alp_journal.specs.Holder.{Life, new_life}
+use Rattle.alp_journal.specs.Counts.{lock_set}
+use Rattle.alp_journal.specs.Moves.{next_trans}
+use Rattle.alp_journal.specs.Answers.{too_many, is_counted, count_of_transactions}
+use Rattle.alp_journal.specs.Desk as desk
+use Rattle.alp_journal.specs.Alone.{Alone, alone, IsPaired, Leads}
+use Rattle.alp_journal.proofs.IdLemmas.{same_trans-true}
+use Rattle.alp_journal.proofs.AloneEnds.{hello_entry, with_hello, hello_leads}
+use Rattle.alp_journal.proofs.AloneEntries.{with_begun, begin_leads}
+use Rattle.alp_node.specs.Bounded.{no_bounds}
+use Rattle.alp_node.specs.Dead.{dead_in, is_dead, without_client}
+use Rattle.alp_node.specs.Sessions.{session_at, with_session}
+use Rattle.alp_node.specs.ServerState.{IsAs, IsAlike, PutNoneBeyond, trans_to, is_beyond}
+use Rattle.alp_node.specs.Steps.{Stepped, entry_of}
+use Rattle.alp_node.specs.declared.answer.Answer.{Answer}
+use Rattle.alp_node.specs.declared.dead.DeadPart.{DeadPart}
+use Rattle.alp_node.specs.declared.lives.Live.{Live}
+use Rattle.alp_node.specs.declared.server_state.ServerState.{ServerState}
+use Rattle.alp_node.specs.declared.sessions.Session.{Session}
+use Rattle.alp_node.proofs.CountLemmas.{few_pass}
+use Rattle.alp_node.proofs.DeadLemmas.{none_left, others_left}
+use Rattle.alp_node.proofs.KeptLemmas.{sessions_as, no_session, IsSession, session_there, stands_timely, alike_set, each_set, none_held, earlier_more, stepped_so}
+use Rattle.alp_node.proofs.MapLemmas.{places_set, get_put}
+
+-- the ids up to a counter, and the next
+one_more : (server epoch n : ℕ) → trans_to server epoch n ++ (record { server = server; epoch = epoch; counter = n + 1 }) ∷ [] ≡ trans_to server epoch (n + 1)
+one_more server epoch n =
+    let next : suc n ≡ n + 1 = omega arith in
+    ap (λ (m : ℕ). trans_to server epoch n ++ (record { server = server; epoch = epoch; counter = m }) ∷ []) (sym next) ∙ ap (trans_to server epoch) next
+
+-- ---- a greeting
+
+pub hello_stepped : {V : Type 0} (a : Alone) (before now : ℕ) (held : Contents) (k : ServerState V) (client : ℕ) (name : List ℕ) (x : Answer) → IsAs a held k → client ≤ 16 → k.is_down ≡ false → session_at k.sessions client ≡ None
+    → x ≡ record { kept = Some (reply.Welcome k.epoch); handed = Some (reply.Welcome k.epoch); acts = [] }
+    → Stepped a before now held (record k { sessions = with_session k.sessions client (record { who = name; last = 1 }) }) (event.Call client 0 1 (call.Hello name)) x
+hello_stepped a before now held k client name x h le up first is =
+    let w : Session = record { who = name; last = 1 } in
+    let none : a.sessions client ≡ None = no_session (a.sessions client) (h.sessions client ∙ first) in
+    let leads : Leads false a (hello_entry a client name) (with_hello a client name) = hello_leads a client name h.quiet (h.down ∙ up) none in
+    record {
+      failed = false;
+      next = with_hello a client name;
+      leads = subst (λ (y : Answer). Leads false a (entry_of (event.Call client 0 1 (call.Hello name)) y) (with_hello a client name)) (sym is)
+          (subst (λ (n : ℕ). Leads false a (record { event = event.Call client 0 1 (call.Hello name); reply = Some (reply.Welcome n); acts = [] }) (with_hello a client name)) h.epoch leads);
+      rose = λ e. cc;
+      kept = record {
+        server = h.server;
+        sizes = h.sizes;
+        epoch = h.epoch;
+        clock = h.clock;
+        cells = h.cells;
+        notes = h.notes;
+        places = places_set k.sessions client w h.places;
+        sessions = sessions_as a.sessions k.sessions client (record { who = name; last = 1; reply = reply.Welcome a.ids.epoch }) w h.sessions h.places le refl refl;
+        dead = h.dead;
+        lives = h.lives;
+        unborn = h.unborn;
+        drawn = h.drawn;
+        begun = h.begun;
+        undrawn = h.undrawn;
+        files = h.files;
+        made = h.made;
+        born = h.born;
+        earlier = h.earlier;
+        committed = h.committed;
+        quiet = leads.quiet;
+        down = sym up;
+      };
+      clock = stands_timely a.holder.clock 0 k.clock h.clock;
+    }
+
+-- ---- a transaction begins
+
+-- just live transactions are counted
+counted_live : (l : Option Life) (f : Fate) → IsPaired l f → is_counted f ≡ true → is_some l ≡ true
+counted_live (Some l) f h e = refl
+counted_live None Undrawn h e = cc
+counted_live None (Running client joins) h e = absurd h
+counted_live None (Finishing client joins votes) h e = absurd h
+counted_live None (Committed stamp [] done) h e = cc
+counted_live None (Committed stamp (j ∷ joins) done) h e = cc
+counted_live None (Forgotten stamp joins) h e = absurd h
+counted_live None (Ended c) h e = cc
+
+kept_live : (locks : Holders) (rs : List Resource) (t : TransId) (o : Option Live) (x : Option Life) → IsAlike locks rs t o x → is_some x ≡ is_some o
+kept_live locks rs t None None h = refl
+kept_live locks rs t (Some l) (Some life) h = refl
+kept_live locks rs t None (Some life) h = absurd h
+kept_live locks rs t (Some l) None h = absurd h
+
+-- fewer than 64 are live
+pub few_live : {V : Type 0} (a : Alone) (held : Contents) (k : ServerState V) → IsAs a held k → map.len k.lives < 64 → too_many (alone a) ≡ None
+few_live a held k h few =
+    let count : length (filter (λ t. is_counted (a.fates t)) a.begun) ≤ map.len k.lives =
+    subst (λ (ts : List TransId). length (filter (λ t. is_counted (a.fates t)) ts) ≤ map.len k.lives) (sym h.begun)
+    (few_pass (λ t. is_counted (a.fates t)) a.holder.server a.ids.epoch k.drawn k.lives
+    (λ t passes. sym (kept_live k.locks.held (a.locked t) t (map.get k.lives t) (a.holder.lives t) (h.lives t)) ∙ counted_live (a.holder.lives t) (a.fates t) (h.quiet.paired t) passes)) in
+    ap (λ (b : Bool). cond {A = Option Refusal} b (Some (refusal.TooMany what.Transactions 64)) None) (over 64 (count_of_transactions (alone a)) (omega (arith, count, few)))
+  where
+    over : (m n : ℕ) → n < m → nat_le m n ≡ false
+    over m n less = go (nat_le m n) refl
+      where
+        go : (b : Bool) → nat_le m n ≡ b → b ≡ false
+        go false e = refl
+        go true e = (let wrong : m ≤ n = leb-true m n e in absurd (omega (arith, wrong, less)))
+
+module _ {V : Type 0} (a : Alone) (held : Contents) (k : ServerState V) (client number : ℕ) (w : Session) (seen : Stamp) (p : Part) where
+  abbrev pub begun_trans : TransId
+  begun_trans = record { server = k.server; epoch = k.epoch; counter = k.drawn + 1 }
+
+  abbrev pub begun_live : Live
+  begun_live = record { client = client; who = w.who; part = p; bounds = no_bounds }
+
+  abbrev pub with_begun_kept : Table → ServerState V
+  with_begun_kept locks = record k {
+    sessions = with_session k.sessions client (record w { last = number });
+    clock = max k.clock seen.ts;
+    drawn = k.drawn + 1;
+    dead = without_client client k.dead;
+    lives = map.insert k.lives begun_trans begun_live;
+    locks = locks;
+  }
+
+  trans_same : IsAs a held k → next_trans (alone a) ≡ begun_trans
+  trans_same h = λ i. record { server = h.server i; epoch = h.epoch i; counter = h.drawn i + 1 }
+
+  begun_alike : (v : desk.Session) (locks : Holders) → v.who ≡ w.who → map.get k.lives begun_trans ≡ None → ((u : TransId) (r : Resource) → holding locks u r ≡ holding k.locks.held u r) → own_of p ≡ no_opens → p.intents ≡ map.empty → IsAs a held k
+      → (u : TransId) → IsAlike locks (lock_set a.locked begun_trans [] u) u (map.get (map.insert k.lives begun_trans begun_live) u) (cond {A = Option Life} (same_trans u begun_trans) (Some (new_life None client v.who)) (a.holder.lives u))
+  begun_alike v locks who new same opens none h u =
+      subst (λ (x : Option Live). IsAlike locks (lock_set a.locked begun_trans [] u) u x (cond {A = Option Life} (same_trans u begun_trans) (Some (new_life None client v.who)) (a.holder.lives u))) (sym (get_put k.lives begun_trans begun_live u))
+      (alike_set k.locks.held locks a.locked begun_trans (Some begun_live) (Some (new_life None client v.who)) [] (map.get k.lives) a.holder.lives h.lives (λ t r away. same t r)
+      (record {
+        client = refl;
+        who = who;
+        intents = λ x. ap (λ (puts : Cells). over puts x) none;
+        own = opens;
+        held = λ r. sym (same begun_trans r ∙ none_held k.locks.held (a.locked begun_trans) begun_trans (map.get k.lives begun_trans) (a.holder.lives begun_trans) new (h.lives begun_trans) r);
+        opens = tt;
+        within = record { locks = omega arith; alone = refl; puts = omega arith; leaders = omega arith; owners = omega arith };
+      }) u)
+
+  -- the next id was not drawn
+  beyond_next : (server epoch count : ℕ) → is_beyond server epoch count (record { server = server; epoch = epoch; counter = count + 1 }) ≡ true
+  beyond_next server epoch count = ap not (λ i. eq-eqb server server refl i && eq-eqb epoch epoch refl i && not_le i)
+    where
+      not_le : nat_le (count + 1) count ≡ false
+      not_le = go (nat_le (count + 1) count) refl
+        where
+          go : (b : Bool) → nat_le (count + 1) count ≡ b → b ≡ false
+          go false e = refl
+          go true e = (let wrong : count + 1 ≤ count = leb-true (count + 1) count e in absurd (omega (arith, wrong)))
+
+  -- and of those beyond it none was either
+  undrawn_then : (server epoch count : ℕ) (fates : TransId → Fate) → ((t : TransId) → is_beyond server epoch count t ≡ true → fates t ≡ Undrawn)
+      → (t : TransId) → is_beyond server epoch (count + 1) t ≡ true → cond {A = Fate} (same_trans (record { server = server; epoch = epoch; counter = count + 1 }) t) (fate.begun client (fates t)) (fates t) ≡ Undrawn
+  undrawn_then server epoch count fates before t far = go (same_trans next t) refl
+    where
+      next : TransId
+      next = record { server = server; epoch = epoch; counter = count + 1 }
+
+      go : (b : Bool) → same_trans next t ≡ b → cond {A = Fate} b (fate.begun client (fates t)) (fates t) ≡ Undrawn
+      go true e =
+          let near : is_beyond server epoch (count + 1) t ≡ false = ap (is_beyond server epoch (count + 1)) (sym (same_trans-true next t e)) ∙ ap not (λ i. eq-eqb server server refl i && eq-eqb epoch epoch refl i && le-leb (count + 1) (count + 1) (omega arith) i) in
+          let wrong : true ≡ false = sym far ∙ near in
+          cc
+      go false e = before t (farther (t.server == server && t.epoch == epoch) (nat_le t.counter (count + 1)) (nat_le t.counter count) (λ le. le-leb t.counter (count + 1) (let low : t.counter ≤ count = leb-true t.counter count le in omega (arith, low))) far)
+        where
+          farther : (x y z : Bool) → (z ≡ true → y ≡ true) → not (x && y) ≡ true → not (x && z) ≡ true
+          farther false y z h e = refl
+          farther true y false h e = refl
+          farther true true true h e = e
+          farther true false true h e = let wrong : false ≡ true = h refl in cc
+
+  -- nobody's dead part of the client is left
+  buried : (ds : List DeadPart) (d : ℕ) (u : TransId) → cond {A = Option Cause} (d == client) None (dead_in ds d u) ≡ dead_in (without_client client ds) d u
+  buried ds d u = go (d == client) refl
+    where
+      go : (b : Bool) → (d == client) ≡ b → cond {A = Option Cause} b None (dead_in ds d u) ≡ dead_in (without_client client ds) d u
+      go true e = ap (λ (b : Bool). cond {A = Option Cause} b (Some cause.TimedOut) None) (sym (none_left ds d client u (eqb-true d client e)))
+      go false e = ap (λ (b : Bool). cond {A = Option Cause} b (Some cause.TimedOut) None) (sym (others_left ds d client u e))
+
+  pub begin_stepped : (before now : ℕ) (x : Answer) (locks : Table) → IsAs a held k → client ≤ 16 → k.is_down ≡ false → session_at k.sessions client ≡ Some w → number ≡ w.last + 1 → map.len k.lives < 64 → map.get k.lives begun_trans ≡ None
+      → ((u : TransId) (r : Resource) → holding locks.held u r ≡ holding k.locks.held u r) → own_of p ≡ no_opens → p.intents ≡ map.empty
+      → x ≡ record { kept = Some (reply.Begun begun_trans); handed = Some (reply.Begun begun_trans); acts = act.Drawn begun_trans ∷ [] }
+      → Stepped a before now held (with_begun_kept locks) (event.Call client k.epoch number (call.Begin seen)) x
+  begin_stepped before now x locks h le up there turn few new same opens none is =
+      let s : IsSession w (a.sessions client) = session_there w (a.sessions client) (h.sessions client ∙ there) in
+      let v : desk.Session = s.told in
+      let next : next_trans (alone a) ≡ begun_trans = trans_same h in
+      let undrawn : a.fates (next_trans (alone a)) ≡ Undrawn = h.undrawn (next_trans (alone a)) (subst (λ (n : ℕ). is_beyond a.holder.server a.ids.epoch n (next_trans (alone a)) ≡ true) h.drawn (beyond_next a.holder.server a.ids.epoch a.ids.transactions)) in
+      let leads = begin_leads a client number v seen h.quiet (h.down ∙ up) s.is (turn ∙ ap (λ (n : ℕ). n + 1) (sym s.last)) undrawn (few_live a held k h few) in
+      let m : Alone = with_begun a client number v seen in
+      let kept : IsAs m held (with_begun_kept locks) = record {
+        server = h.server;
+        sizes = h.sizes;
+        epoch = h.epoch;
+        clock = ap (λ (n : ℕ). max n seen.ts) h.clock;
+        cells = h.cells;
+        notes = h.notes;
+        places = places_set k.sessions client (record w { last = number }) h.places;
+        sessions = sessions_as a.sessions k.sessions client (record v { last = number; reply = reply.Begun (next_trans (alone a)) }) (record w { last = number }) h.sessions h.places le s.who refl;
+        dead = λ d u. ap (cond {A = Option Cause} (d == client) None) (h.dead d u) ∙ buried k.dead d u;
+        lives = subst (λ (t : TransId). (u : TransId) → IsAlike locks.held (lock_set a.locked t [] u) u (map.get (map.insert k.lives begun_trans begun_live) u) (cond {A = Option Life} (same_trans u t) (Some (new_life None client v.who)) (a.holder.lives u))) (sym next)
+            (begun_alike v locks.held s.who new same opens none h);
+        unborn = each_set (λ l. PutNoneBeyond a.holder.server a.ids.epoch k.given l.edits) (next_trans (alone a)) (Some (new_life None client v.who)) a.holder.lives h.unborn
+            (λ l at n high. ap (λ (y : Life). edits_at y.edits (Leader (record { server = a.holder.server; epoch = a.ids.epoch; counter = n })) None) (sym (same-some (new_life None client v.who) l at)));
+        drawn = ap (λ (n : ℕ). n + 1) h.drawn;
+        begun = (λ i. h.begun i ++ (record { server = a.holder.server; epoch = a.ids.epoch; counter = h.drawn i + 1 }) ∷ []) ∙ one_more a.holder.server a.ids.epoch k.drawn;
+        undrawn = subst (λ (n : ℕ). (t : TransId) → is_beyond a.holder.server a.ids.epoch (n + 1) t ≡ true
+                → cond {A = Fate} (same_trans (next_trans (alone a)) t) (fate.begun client (a.fates t)) (a.fates t) ≡ Undrawn) h.drawn
+            (undrawn_then a.holder.server a.ids.epoch a.ids.transactions a.fates (subst (λ (n : ℕ). (t : TransId) → is_beyond a.holder.server a.ids.epoch n t ≡ true → a.fates t ≡ Undrawn) (sym h.drawn) h.undrawn));
+        files = h.files;
+        made = h.made;
+        born = h.born;
+        earlier = earlier_more a.holder.clock (max a.holder.clock seen.ts) a.holder.applied (omega arith) h.earlier;
+        committed = h.committed;
+        quiet = leads.quiet;
+        down = sym up;
+      } in
+      stepped_so a before now held held k (with_begun_kept locks) client number v (call.Begin seen) false (reply.Begun (next_trans (alone a))) (act.Drawn (next_trans (alone a)) ∷ []) m x
+      (is ∙ ap (λ (t : TransId). record { kept = Some (reply.Begun t); handed = Some (reply.Begun t); acts = act.Drawn t ∷ [] }) (sym next)) h leads kept (λ e. cc) (omega (arith, h.clock))

@@ -1,0 +1,346 @@
+-- refusals and ends, as the server keeps them
+use Rattle.std.specs.Prelude.{cond, Bool, true, false, ◌==◌, ◌&&◌, not, max, Option, None, Some, is_some, nat_le}
+use Rattle.std.specs.FinMap as map
+use Rattle.std.proofs.Common.{◌≡◌, ℕ, ◌+◌, ◌<◌, ◌≤◌, List, [], ◌∷◌, ◌++◌, length, refl, sym, ◌∙◌, ap, subst, arith, eq-eqb}
+use Rattle.std.proofs.lemmas.Bool.{eqb-true, ne_eqb}
+use Rattle.alp_base.specs.Causes.{Rose}
+use Rattle.alp_base.specs.declared.ids.TransId.{TransId}
+use Rattle.alp_base.specs.declared.key.Resource.{Resource}
+use Rattle.alp_modes.specs.declared.Mode.{Mode}
+use Rattle.alp_files.specs.declared.call.Call.{Call}
+use Rattle.alp_files.specs.declared.call.Call.TheVariants as call
+use Rattle.alp_files.specs.declared.reply.Reply.{Reply}
+use Rattle.alp_files.specs.declared.reply.Reply.TheVariants as reply
+use Rattle.alp_files.specs.declared.refusal.Refusal.{Refusal}
+use Rattle.alp_files.specs.declared.refusal.Refusal.TheVariants as refusal
+use Rattle.alp_files.specs.declared.refusal.Cause.{Cause}
+use Rattle.alp_files.specs.declared.refusal.Cause.TheVariants as cause
+use Rattle.alp_files.specs.declared.refusal.Why.{Why}
+use Rattle.alp_locks.specs.Tables.{holding}
+use Rattle.alp_locks.specs.Releases.{released}
+use Rattle.alp_locks.proofs.PlanLemmas.{release-holds}
+use Rattle.alp_vault.specs.Contents.{Contents}
+use Rattle.alp_journal.specs.declared.act.Act.TheVariants as act
+use Rattle.alp_journal.specs.declared.event.Event.TheVariants as event
+use Rattle.alp_journal.specs.Along.{Where}
+use Rattle.alp_journal.specs.Ids.{same_trans}
+use Rattle.alp_journal.specs.Coordinator.{Fate, Undrawn, Running, Finishing, Committed, Forgotten, Ended}
+use Rattle.alp_journal.specs.Coordinator as fate
+use Rattle.alp_journal.specs.Holder.{Life}
+use Rattle.alp_journal.specs.Counts.{lock_set}
+use Rattle.alp_journal.specs.Desk as desk
+use Rattle.alp_journal.specs.Moves.{finishes}
+use Rattle.alp_journal.specs.Messages.{on_finish, why_not_own}
+use Rattle.alp_journal.specs.Answers.{Part, NoPart, AtEnd, own_part, ended_part, part_at, at_part, First, IsFinishAnswer, finish_reply}
+use Rattle.alp_journal.specs.Alone.{Alone, alone, IsPaired, Leads}
+use Rattle.alp_journal.proofs.IdLemmas.{same_trans-true, same_trans-itself}
+use Rattle.alp_journal.proofs.AloneEntries.{counted_as, without_dead, with_end, ended_quiet, abort_leads, against_leads, unknown_finish_leads, dead_finish_leads}
+use Rattle.alp_journal.proofs.AloneEnds.{timeout_entry, with_timeout, timeout_leads, as_it_was, idle_leads}
+use Rattle.alp_node.specs.Dead.{dead_in, is_dead, without_part}
+use Rattle.alp_node.specs.Sessions.{session_at, with_session}
+use Rattle.alp_node.specs.ServerState.{IsAs, IsAlike, PutNoneBeyond, is_beyond}
+use Rattle.alp_node.specs.Steps.{Stepped, IsTurn, IsOf, entry_of, counted_in, without_trans, ended, seen_in}
+use Rattle.alp_node.specs.declared.answer.Answer.{Answer}
+use Rattle.alp_node.specs.declared.lives.Live.{Live}
+use Rattle.alp_node.specs.declared.server_state.ServerState.{ServerState}
+use Rattle.alp_node.specs.declared.sessions.Turn.{Turn}
+use Rattle.alp_node.proofs.DeadLemmas.{part_left, dead_then}
+use Rattle.alp_node.proofs.KeptLemmas.{sessions_as, IsSession, session_there, stands_timely, alike_set, each_set, IsLive, live_there, none_live, stepped_so}
+use Rattle.alp_node.specs.Standings.{standing_of}
+use Rattle.alp_node.specs.declared.served.Standing.TheVariants as standing
+use Rattle.alp_node.proofs.StandingLemmas.{part_of, EndsNone, none_running, part_is, finish_none, undrawn_elsewhere}
+use Rattle.alp_node.proofs.MapLemmas.{places_set, get_gone, tied_same}
+
+-- ---- what stays
+
+-- of ids that were not drawn none moves
+pub still_undrawn : (server epoch count : ℕ) (fates : TransId → Fate) (t : TransId) (move : Fate → Fate) → move Undrawn ≡ Undrawn → ((u : TransId) → is_beyond server epoch count u ≡ true → fates u ≡ Undrawn)
+    → (u : TransId) → is_beyond server epoch count u ≡ true → cond {A = Fate} (same_trans t u) (move (fates u)) (fates u) ≡ Undrawn
+still_undrawn server epoch count fates t move still before u far = go (same_trans t u)
+  where
+    go : (b : Bool) → cond {A = Fate} b (move (fates u)) (fates u) ≡ Undrawn
+    go true = ap move (before u far) ∙ still
+    go false = before u far
+
+module _ {V : Type 0} (a : Alone) (held : Contents) (k : ServerState V) where
+  -- just where a part is gone it is kept no more
+  pub gone_alike : (t : TransId) → k.locks.waiting ≡ [] → IsAs a held k
+      → (u : TransId) → IsAlike (released k.locks t).held (lock_set a.locked t [] u) u (map.get (map.remove k.lives t) u) (cond {A = Option Life} (same_trans u t) None (a.holder.lives u))
+  gone_alike t alone h u =
+      subst (λ (x : Option Live). IsAlike (released k.locks t).held (lock_set a.locked t [] u) u x (cond {A = Option Life} (same_trans u t) None (a.holder.lives u))) (sym (get_gone k.lives t u))
+      (alike_set k.locks.held (released k.locks t).held a.locked t None None [] (map.get k.lives) a.holder.lives h.lives
+      (λ v r away. release-holds k.locks t v r alone ∙ ap (λ (b : Bool). cond {A = Option Mode} b None (holding k.locks.held v r)) (tied_same v t ∙ away))
+      (λ r. release-holds k.locks t t r alone ∙ ap (λ (b : Bool). cond {A = Option Mode} b None (holding k.locks.held t r)) (tied_same t t ∙ same_trans-itself t)) u)
+
+  pub gone_unborn : (t : TransId) → IsAs a held k → (u : TransId) (l : Life) → cond {A = Option Life} (same_trans u t) None (a.holder.lives u) ≡ Some l → PutNoneBeyond a.holder.server a.ids.epoch k.given l.edits
+  gone_unborn t h = each_set (λ l. PutNoneBeyond a.holder.server a.ids.epoch k.given l.edits) t None a.holder.lives h.unborn (λ l is. let wrong : None ≡ Some l = is in cc)
+
+  -- the session of a turn, as the journal has it
+  pub turn_session : (turn : Turn) → IsAs a held k → IsTurn k.sessions turn → IsSession turn.session (a.sessions turn.client)
+  turn_session turn h is = session_there turn.session (a.sessions turn.client) (h.sessions turn.client ∙ is.session)
+
+  -- it is the next call of that session
+  pub turn_next : (turn : Turn) (h : IsAs a held k) (is : IsTurn k.sessions turn) → turn.number ≡ (IsSession.told (turn_session turn h is)).last + 1
+  turn_next turn h is = is.number ∙ ap (λ (n : ℕ). n + 1) (sym (IsSession.last (turn_session turn h is)))
+
+  -- a state in which only the session counts on is that of a server in which it does
+  pub counts_as : (turn : Turn) (r : Reply) (h : IsAs a held k) (is : IsTurn k.sessions turn) → k.is_down ≡ false
+      → IsAs (counted_as a turn.client turn.number (IsSession.told (turn_session turn h is)) r) held (record k { sessions = counted_in k.sessions turn })
+  counts_as turn r h is up = record {
+    server = h.server;
+    sizes = h.sizes;
+    epoch = h.epoch;
+    clock = h.clock;
+    cells = h.cells;
+    notes = h.notes;
+    places = places_set k.sessions turn.client (record turn.session { last = turn.number }) h.places;
+    sessions = sessions_as a.sessions k.sessions turn.client (record (IsSession.told (turn_session turn h is)) { last = turn.number; reply = r }) (record turn.session { last = turn.number }) h.sessions h.places is.client
+        (IsSession.who (turn_session turn h is)) refl;
+    dead = h.dead;
+    lives = h.lives;
+    unborn = h.unborn;
+    drawn = h.drawn;
+    begun = h.begun;
+    undrawn = h.undrawn;
+    files = h.files;
+    made = h.made;
+    born = h.born;
+    earlier = h.earlier;
+    committed = h.committed;
+    quiet = record { agree = h.quiet.agree; paired = h.quiet.paired };
+    down = sym up;
+  }
+
+  -- a live part is of an id that was drawn
+  pub drawn_live : (t : TransId) (life : Life) → IsAs a held k → a.holder.lives t ≡ Some life → (t.server ≡ a.holder.server) × (t.epoch ≡ a.ids.epoch)
+  drawn_live t life h live = go (is_beyond a.holder.server a.ids.epoch k.drawn t) refl
+    where
+      parts : (x y z : Bool) → not (x && y && z) ≡ false → (x ≡ true) × (y ≡ true)
+      parts true true z e = (refl, refl)
+      parts true false z e = cc
+      parts false y z e = cc
+
+      go : (b : Bool) → is_beyond a.holder.server a.ids.epoch k.drawn t ≡ b → (t.server ≡ a.holder.server) × (t.epoch ≡ a.ids.epoch)
+      go true e =
+          let pair : IsPaired (Some life) (a.fates t) = subst (λ (x : Option Life). IsPaired x (a.fates t)) live (h.quiet.paired t) in
+          let wrong : Undrawn ≡ Running life.client [] = sym (h.undrawn t e) ∙ pair.0 in
+          cc
+      go false e = (let is = parts (t.server == a.holder.server) (t.epoch == a.ids.epoch) (nat_le t.counter k.drawn) e in (eqb-true t.server a.holder.server is.0, eqb-true t.epoch a.ids.epoch is.1))
+
+-- ---- a live part ends without effect
+
+module _ {V : Type 0} (a : Alone) (before now : ℕ) (held : Contents) (k : ServerState V) (turn : Turn) (t : TransId) (l : Live) where
+  ended_as : (life : Life) (c : Cause) (h : IsAs a held k) (is : IsTurn k.sessions turn) → k.is_down ≡ false → k.locks.waiting ≡ [] → a.fates t ≡ Running life.client []
+      → IsAs (with_end a turn.client turn.number (IsSession.told (turn_session a held k turn h is)) t life c) held (ended k turn t)
+  ended_as life c h is up alone runs = record {
+    server = h.server;
+    sizes = h.sizes;
+    epoch = h.epoch;
+    clock = h.clock;
+    cells = h.cells;
+    notes = h.notes;
+    places = places_set k.sessions turn.client (record turn.session { last = turn.number }) h.places;
+    sessions = sessions_as a.sessions k.sessions turn.client (record (IsSession.told (turn_session a held k turn h is)) { last = turn.number; reply = reply.Refused (refusal.Aborted c) }) (record turn.session { last = turn.number })
+        h.sessions h.places is.client (IsSession.who (turn_session a held k turn h is)) refl;
+    dead = λ d u. ap (cond {A = Option Cause} (d == turn.client && same_trans u t) None) (h.dead d u) ∙ part_left k.dead turn.client t d u;
+    lives = gone_alike a held k t alone h;
+    unborn = gone_unborn a held k t h;
+    drawn = h.drawn;
+    begun = h.begun;
+    undrawn = still_undrawn a.holder.server a.ids.epoch k.drawn a.fates t (fate.ended c) refl h.undrawn;
+    files = h.files;
+    made = h.made;
+    born = h.born;
+    earlier = h.earlier;
+    committed = h.committed;
+    quiet = ended_quiet a turn.client turn.number (IsSession.told (turn_session a held k turn h is)) t life c h.quiet runs;
+    down = sym up;
+  }
+
+  pub abort_stepped : (x : Answer) → IsAs a held k → IsTurn k.sessions turn → k.is_down ≡ false → k.locks.waiting ≡ [] → t.server ≡ k.server → map.get k.lives t ≡ Some l → l.client ≡ turn.client
+      → x ≡ record { kept = Some (reply.Refused (refusal.Aborted cause.Asked)); handed = Some (reply.Refused (refusal.Aborted cause.Asked)); acts = act.Released t ∷ [] }
+      → Stepped a before now held (ended k turn t) (event.Call turn.client k.epoch turn.number (call.Finish t false)) x
+  abort_stepped x h is up alone here live own so =
+      let s : IsSession turn.session (a.sessions turn.client) = turn_session a held k turn h is in
+      let y : IsLive k.locks.held (a.locked t) t l (a.holder.lives t) = live_there k.locks.held (a.locked t) t (map.get k.lives t) (a.holder.lives t) l live (h.lives t) in
+      let pair : IsPaired (Some y.life) (a.fates t) = subst (λ (z : Option Life). IsPaired z (a.fates t)) y.is (h.quiet.paired t) in
+      stepped_so a before now held held k (ended k turn t) turn.client turn.number s.told (call.Finish t false) false (reply.Refused (refusal.Aborted cause.Asked)) (act.Released t ∷ [])
+      (with_end a turn.client turn.number s.told t y.life cause.Asked) x so h
+      (abort_leads a turn.client turn.number s.told t y.life cause.Asked refl h.quiet (h.down ∙ up) s.is (turn_next a held k turn h is) (here ∙ sym h.server) y.is (y.alike.client ∙ own))
+      (ended_as y.life cause.Asked h is up alone pair.0) (λ e. cc) (stands_timely a.holder.clock 0 k.clock h.clock)
+
+  pub against_stepped : (failed : Bool) (why : Why) (x : Answer) → IsAs a held k → IsTurn k.sessions turn → k.is_down ≡ false → k.locks.waiting ≡ [] → t.server ≡ k.server → map.get k.lives t ≡ Some l → l.client ≡ turn.client
+      → (failed ≡ true → Rose before now) → why_not_own failed (alone a) t ≡ Some why
+      → x ≡ record { kept = Some (reply.Refused (refusal.Aborted (cause.Voted k.server why))); handed = Some (reply.Refused (refusal.Aborted (cause.Voted k.server why))); acts = act.Released t ∷ [] }
+      → Stepped a before now held (ended k turn t) (event.Call turn.client k.epoch turn.number (call.Finish t true)) x
+  against_stepped failed why x h is up alone here live own rose not so =
+      let s : IsSession turn.session (a.sessions turn.client) = turn_session a held k turn h is in
+      let y : IsLive k.locks.held (a.locked t) t l (a.holder.lives t) = live_there k.locks.held (a.locked t) t (map.get k.lives t) (a.holder.lives t) l live (h.lives t) in
+      let pair : IsPaired (Some y.life) (a.fates t) = subst (λ (z : Option Life). IsPaired z (a.fates t)) y.is (h.quiet.paired t) in
+      stepped_so a before now held held k (ended k turn t) turn.client turn.number s.told (call.Finish t true) failed (reply.Refused (refusal.Aborted (cause.Voted k.server why))) (act.Released t ∷ [])
+      (with_end a turn.client turn.number s.told t y.life (cause.Voted k.server why)) x so h
+      (against_leads a turn.client turn.number s.told t y.life (cause.Voted k.server why) failed why (ap (λ (n : ℕ). cause.Voted n why) (sym h.server)) h.quiet (h.down ∙ up) s.is (turn_next a held k turn h is) (here ∙ sym h.server) y.is
+      (y.alike.client ∙ own) not)
+      (ended_as y.life (cause.Voted k.server why) h is up alone pair.0) rose (stands_timely a.holder.clock 0 k.clock h.clock)
+
+-- ---- a Finish that ends nothing
+
+module _ {V : Type 0} (a : Alone) (before now : ℕ) (held : Contents) (k : ServerState V) (turn : Turn) (t : TransId) (commit : Bool) where
+  -- what is answered where the server has no part of it
+  no_part_answer : IsAs a held k → standing_of turn.client (map.get k.lives t) (is_dead turn.client t k.dead) ≡ standing.Unknown → IsFinishAnswer false (alone a) turn.client t commit (reply.Refused refusal.UnknownTrans)
+  no_part_answer h unknown = go (t.server == a.holder.server)
+    where
+      part : part_at (alone a) turn.client t ≡ NoPart
+      part = part_is a held k turn.client t h ∙ ap part_of unknown
+
+      go : (b : Bool) → Where b (First (at_part (commit && false) (part_at (alone a) turn.client t)) (reply.Refused refusal.UnknownTrans)
+              (reply.Refused refusal.UnknownTrans ≡ cond {A = Reply} commit (finish_reply false (alone a) t (a.fates t)) (reply.Refused (refusal.Aborted cause.Asked))))
+          (reply.Refused refusal.UnknownTrans ≡ reply.Refused refusal.UnknownTrans)
+      go true = subst (λ (p : Part). First (at_part (commit && false) p) (reply.Refused refusal.UnknownTrans)
+              (reply.Refused refusal.UnknownTrans ≡ cond {A = Reply} commit (finish_reply false (alone a) t (a.fates t)) (reply.Refused (refusal.Aborted cause.Asked)))) (sym part) refl
+      go false = refl
+
+  -- another server's transaction is none of this one's
+  elsewhere_answer : (t.server == a.holder.server) ≡ false → IsFinishAnswer false (alone a) turn.client t commit (reply.Refused refusal.UnknownTrans)
+  elsewhere_answer away = subst (λ (b : Bool). Where b (First (at_part (commit && false) (part_at (alone a) turn.client t)) (reply.Refused refusal.UnknownTrans)
+              (reply.Refused refusal.UnknownTrans ≡ cond {A = Reply} commit (finish_reply false (alone a) t (a.fates t)) (reply.Refused (refusal.Aborted cause.Asked))))
+          (reply.Refused refusal.UnknownTrans ≡ reply.Refused refusal.UnknownTrans)) (sym away) refl
+
+  unknown_so : (x : Answer) (h : IsAs a held k) (is : IsTurn k.sessions turn) → k.is_down ≡ false → EndsNone turn.client t commit (alone a).desk (reply.Refused refusal.UnknownTrans) (a.fates t)
+      → IsFinishAnswer false (alone a) turn.client t commit (reply.Refused refusal.UnknownTrans) → x ≡ record { kept = Some (reply.Refused refusal.UnknownTrans); handed = Some (reply.Refused refusal.UnknownTrans); acts = [] }
+      → Stepped a before now held (record k { sessions = counted_in k.sessions turn }) (event.Call turn.client k.epoch turn.number (call.Finish t commit)) x
+  unknown_so x h is up none why so =
+      let s : IsSession turn.session (a.sessions turn.client) = turn_session a held k turn h is in
+      stepped_so a before now held held k (record k { sessions = counted_in k.sessions turn }) turn.client turn.number s.told (call.Finish t commit) false (reply.Refused refusal.UnknownTrans) []
+      (counted_as a turn.client turn.number s.told (reply.Refused refusal.UnknownTrans)) x so h
+      (unknown_finish_leads a turn.client turn.number s.told t commit h.quiet (h.down ∙ up) s.is (turn_next a held k turn h is) none.deeds none.mail why)
+      (counts_as a held k turn (reply.Refused refusal.UnknownTrans) h is up) (λ e. cc) (stands_timely a.holder.clock 0 k.clock h.clock)
+
+  pub unknown_stepped : (x : Answer) → IsAs a held k → IsTurn k.sessions turn → k.is_down ≡ false → standing_of turn.client (map.get k.lives t) (is_dead turn.client t k.dead) ≡ standing.Unknown
+      → x ≡ record { kept = Some (reply.Refused refusal.UnknownTrans); handed = Some (reply.Refused refusal.UnknownTrans); acts = [] }
+      → Stepped a before now held (record k { sessions = counted_in k.sessions turn }) (event.Call turn.client k.epoch turn.number (call.Finish t commit)) x
+  unknown_stepped x h is up unknown so =
+      unknown_so x h is up (finish_none a held k turn.client t commit (reply.Refused refusal.UnknownTrans) h (λ own. let wrong : standing.Unknown ≡ standing.Own = sym unknown ∙ own in cc)) (no_part_answer h unknown) so
+
+  pub elsewhere_stepped : (x : Answer) → IsAs a held k → IsTurn k.sessions turn → k.is_down ≡ false → (t.server ≡ k.server → ⊥)
+      → x ≡ record { kept = Some (reply.Refused refusal.UnknownTrans); handed = Some (reply.Refused refusal.UnknownTrans); acts = [] }
+      → Stepped a before now held (record k { sessions = counted_in k.sessions turn }) (event.Call turn.client k.epoch turn.number (call.Finish t commit)) x
+  elsewhere_stepped x h is up away so =
+      let far : (t.server == a.holder.server) ≡ false = ne_eqb t.server a.holder.server (λ e. away (e ∙ h.server)) in
+      unknown_so x h is up (subst (EndsNone turn.client t commit (alone a).desk (reply.Refused refusal.UnknownTrans)) (sym (undrawn_elsewhere a held k turn.client t h far)) (none_running turn.client t commit (alone a).desk (reply.Refused refusal.UnknownTrans) Undrawn tt))
+      (elsewhere_answer far) so
+
+  -- it timed out, and its client is told
+  pub dead_stepped : (x : Answer) → IsAs a held k → IsTurn k.sessions turn → k.is_down ≡ false → t.server ≡ k.server → standing_of turn.client (map.get k.lives t) (is_dead turn.client t k.dead) ≡ standing.Dead
+      → x ≡ record { kept = Some (reply.Refused (refusal.Aborted cause.TimedOut)); handed = Some (reply.Refused (refusal.Aborted cause.TimedOut)); acts = [] }
+      → Stepped a before now held (record k { sessions = counted_in k.sessions turn; dead = without_part turn.client t k.dead }) (event.Call turn.client k.epoch turn.number (call.Finish t commit)) x
+  dead_stepped x h is up here dead so =
+      let s : IsSession turn.session (a.sessions turn.client) = turn_session a held k turn h is in
+      let r : Reply = reply.Refused (refusal.Aborted cause.TimedOut) in
+      let none : EndsNone turn.client t commit (alone a).desk r (a.fates t) = finish_none a held k turn.client t commit r h (λ own. let wrong : standing.Dead ≡ standing.Own = sym dead ∙ own in cc) in
+      let part : part_at (alone a) turn.client t ≡ AtEnd cause.TimedOut = part_is a held k turn.client t h ∙ ap part_of dead in
+      let why : IsFinishAnswer false (alone a) turn.client t commit r = subst (λ (b : Bool). Where b (First (at_part (commit && false) (part_at (alone a) turn.client t)) r
+              (r ≡ cond {A = Reply} commit (finish_reply false (alone a) t (a.fates t)) (reply.Refused (refusal.Aborted cause.Asked))))
+          (r ≡ reply.Refused refusal.UnknownTrans)) (sym (eq-eqb t.server a.holder.server (here ∙ sym h.server)))
+          (subst (λ (p : Part). First (at_part (commit && false) p) r (r ≡ cond {A = Reply} commit (finish_reply false (alone a) t (a.fates t)) (reply.Refused (refusal.Aborted cause.Asked)))) (sym part) refl) in
+      let now_as : IsAs (counted_as a turn.client turn.number s.told r) held (record k { sessions = counted_in k.sessions turn }) = counts_as a held k turn r h is up in
+      stepped_so a before now held held k (record k { sessions = counted_in k.sessions turn; dead = without_part turn.client t k.dead }) turn.client turn.number s.told (call.Finish t commit) false r []
+      (without_dead a turn.client turn.number s.told t (counted_as a turn.client turn.number s.told r)) x so h
+      (dead_finish_leads a turn.client turn.number s.told t commit cause.TimedOut h.quiet (h.down ∙ up) s.is (turn_next a held k turn h is) none.deeds none.mail why)
+      (record {
+        server = h.server;
+        sizes = h.sizes;
+        epoch = h.epoch;
+        clock = h.clock;
+        cells = h.cells;
+        notes = h.notes;
+        places = now_as.places;
+        sessions = now_as.sessions;
+        dead = λ d u. ap (cond {A = Option Cause} (d == turn.client && same_trans u t) None) (h.dead d u) ∙ part_left k.dead turn.client t d u;
+        lives = h.lives;
+        unborn = h.unborn;
+        drawn = h.drawn;
+        begun = h.begun;
+        undrawn = h.undrawn;
+        files = h.files;
+        made = h.made;
+        born = h.born;
+        earlier = h.earlier;
+        committed = h.committed;
+        quiet = record { agree = h.quiet.agree; paired = h.quiet.paired };
+        down = sym up;
+      })
+      (λ e. cc) (stands_timely a.holder.clock 0 k.clock h.clock)
+
+-- ---- time runs out
+
+module _ {V : Type 0} (a : Alone) (before now : ℕ) (held : Contents) (k : ServerState V) (t : TransId) where
+  pub timeout_stepped : (l : Live) (x : Answer) → IsAs a held k → k.is_down ≡ false → k.locks.waiting ≡ [] → map.get k.lives t ≡ Some l → x ≡ record { kept = None; handed = None; acts = act.Released t ∷ [] }
+      → Stepped a before now held (record (without_trans k t) { dead = k.dead ++ (record { client = l.client; trans = t }) ∷ [] }) (event.Timeout t) x
+  timeout_stepped l x h up alone live so =
+      let y : IsLive k.locks.held (a.locked t) t l (a.holder.lives t) = live_there k.locks.held (a.locked t) t (map.get k.lives t) (a.holder.lives t) l live (h.lives t) in
+      let leads : Leads false a (timeout_entry a t (act.Released t ∷ [])) (with_timeout a t y.life) = timeout_leads a t y.life h.quiet (h.down ∙ up) y.is in
+      record {
+        failed = false;
+        next = with_timeout a t y.life;
+        leads = subst (λ (z : Answer). Leads false a (entry_of (event.Timeout t) z) (with_timeout a t y.life)) (sym so) leads;
+        rose = λ e. cc;
+        kept = record {
+          server = h.server;
+          sizes = h.sizes;
+          epoch = h.epoch;
+          clock = h.clock;
+          cells = h.cells;
+          notes = h.notes;
+          places = h.places;
+          sessions = h.sessions;
+          dead = λ d u. ap (cond {A = Option Cause} (d == y.life.client && same_trans u t) (Some cause.TimedOut)) (h.dead d u)
+              ∙ ap (λ (n : ℕ). cond {A = Option Cause} (d == n && same_trans u t) (Some cause.TimedOut) (dead_in k.dead d u)) y.alike.client ∙ dead_then k.dead l.client t d u;
+          lives = gone_alike a held k t alone h;
+          unborn = gone_unborn a held k t h;
+          drawn = h.drawn;
+          begun = h.begun;
+          undrawn = still_undrawn a.holder.server a.ids.epoch k.drawn a.fates t (fate.ended cause.TimedOut) refl h.undrawn;
+          files = h.files;
+          made = h.made;
+          born = h.born;
+          earlier = h.earlier;
+          committed = h.committed;
+          quiet = leads.quiet;
+          down = sym up;
+        };
+        clock = stands_timely a.holder.clock 0 k.clock h.clock;
+      }
+
+  pub idle_stepped : (x : Answer) → IsAs a held k → k.is_down ≡ false → map.get k.lives t ≡ None → x ≡ record { kept = None; handed = None; acts = [] } → Stepped a before now held k (event.Timeout t) x
+  idle_stepped x h up none so = record {
+    failed = false;
+    next = as_it_was a t;
+    leads = subst (λ (z : Answer). Leads false a (entry_of (event.Timeout t) z) (as_it_was a t)) (sym so)
+        (idle_leads a t h.quiet (h.down ∙ up) (none_live k.locks.held (a.locked t) t (map.get k.lives t) (a.holder.lives t) none (h.lives t)));
+    rose = λ e. cc;
+    kept = record {
+      server = h.server;
+      sizes = h.sizes;
+      epoch = h.epoch;
+      clock = h.clock;
+      cells = h.cells;
+      notes = h.notes;
+      places = h.places;
+      sessions = h.sessions;
+      dead = h.dead;
+      lives = h.lives;
+      unborn = h.unborn;
+      drawn = h.drawn;
+      begun = h.begun;
+      undrawn = h.undrawn;
+      files = h.files;
+      made = h.made;
+      born = h.born;
+      earlier = h.earlier;
+      committed = h.committed;
+      quiet = record { agree = h.quiet.agree; paired = h.quiet.paired };
+      down = sym up;
+    };
+    clock = stands_timely a.holder.clock 0 k.clock h.clock;
+  }
