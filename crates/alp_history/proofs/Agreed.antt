@@ -26,7 +26,7 @@ use Rattle.alp_history.proofs.Places.{in-list, some-same}
 use Rattle.alp_journal.proofs.IdLemmas.{same_trans-true, same_join-true, all-each}
 use Rattle.alp_history.proofs.Fates.{Decision, decision-stays, IsOver, over-stays, IsBacked, Brings, backed-after}
 use Rattle.alp_history.proofs.Phases.{IsJoining, dead-stays, unseen-stays, IsSeen, home-stays, IsBound, IsTold, Carries, bound-stays, told-stays}
-use Rattle.alp_history.proofs.Origins.{IsFrom}
+use Rattle.alp_journal.proofs.Origins.{IsFrom}
 use Rattle.alp_history.proofs.Entries.{is_open, MayBeRight, Stands}
 use Rattle.alp_history.proofs.Logs.{opening-server, server-stays, last, said, rank-le, rank-lt, stands-from}
 use Rattle.alp_history.proofs.Rights.{IsRightDeed}

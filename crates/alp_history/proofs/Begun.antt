@@ -17,7 +17,7 @@ use Rattle.alp_history.specs.Theorems.{IsProper}
 use Rattle.alp_journal.proofs.IdLemmas.{same_trans-true}
 use Rattle.alp_history.proofs.Entries.{is_open}
 use Rattle.alp_history.proofs.Logs.{stands-from}
-use Rattle.alp_history.proofs.Votes.{latest-after}
+use Rattle.alp_journal.proofs.HeldLemmas.{latest-after}
 use Rattle.alp_history.proofs.Agreed.{size}
 use Rattle.alp_history.proofs.Rights.{IsRightDeed}
 

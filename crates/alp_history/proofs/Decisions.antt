@@ -27,7 +27,7 @@ use Rattle.alp_history.proofs.Linked.{IsYoung, AreParts, IsRested, IsDecidedHere
 use Rattle.alp_history.proofs.Turned.{server-in}
 use Rattle.alp_history.proofs.HeldAlong.{exact_stamps}
 use Rattle.alp_history.proofs.EachServer.{along-end}
-use Rattle.alp_history.proofs.LeftBehind.{left_along}
+use Rattle.alp_journal.proofs.LeftBehind.{left_along}
 
 -- ---- look-ups
 

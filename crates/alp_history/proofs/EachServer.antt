@@ -27,7 +27,7 @@ use Rattle.alp_history.specs.Log.{Log, journal_of, opening_of, state_at, final, 
 use Rattle.alp_history.specs.Theorems.{IsProper, EachServer}
 use Rattle.alp_history.proofs.Places.{at, keeps-from}
 use Rattle.alp_journal.proofs.IdLemmas.{same_trans-true}
-use Rattle.alp_history.proofs.OneServer.{IsGoodEarly, IsHeld, in_order, one_thread, reads_kept}
+use Rattle.alp_journal.proofs.OneServer.{IsGoodEarly, IsHeld, in_order, one_thread, reads_kept}
 use Rattle.alp_history.proofs.Logs.{lawful-at, last}
 use Rattle.alp_history.proofs.Agreed.{size, home-at, told-at}
 use Rattle.alp_history.proofs.Starts.{held-same}
@@ -36,7 +36,7 @@ use Rattle.alp_history.proofs.Turned.{is_left, Began}
 use Rattle.alp_history.proofs.HeldAlong.{Along_, Resolves, plain-entry, restart-entry, IsSameCore, Knows}
 use Rattle.alp_base.specs.declared.ids.JoinNo.{JoinNo}
 use Rattle.alp_journal.specs.Deeds.{Deed}
-use Rattle.alp_history.specs.Holding.{MayDo}
+use Rattle.alp_journal.specs.Holding.{MayDo}
 use Rattle.alp_history.proofs.Phases.{IsSeen}
 use Rattle.alp_history.proofs.Rights.{IsRightEntry}
 

@@ -17,7 +17,7 @@ use Rattle.alp_journal.specs.State.{State, state_deed}
 use Rattle.alp_journal.specs.Moves.{is_effective, resolved, stops, tried, did, told, halted, next}
 use Rattle.alp_journal.specs.Laws.{Regains}
 use Rattle.alp_journal.proofs.IdLemmas.{all-append}
-use Rattle.alp_history.proofs.Origins.{IsFrom, tried-from}
+use Rattle.alp_journal.proofs.Origins.{IsFrom, tried-from}
 use Rattle.alp_history.proofs.Rights.{IsRightDeed, IsRightEntry}
 
 -- what a restart may find done

@@ -21,7 +21,7 @@ use Rattle.alp_journal.specs.State.{State, state_deed}
 use Rattle.alp_journal.specs.Moves.{is_effective, is_stop, stops, event_deeds, act_deeds, done_deeds, tried, halted, told, next}
 use Rattle.alp_history.proofs.Fates.{decision-stays, IsOver, over-stays}
 use Rattle.alp_journal.specs.Laws.{MayDecide, IsStopped, TellsStop}
-use Rattle.alp_history.proofs.Origins.{IsEventFrom, event-from}
+use Rattle.alp_journal.proofs.Origins.{IsEventFrom, event-from}
 use Rattle.alp_journal.proofs.IdLemmas.{same_trans-itself}
 use Rattle.alp_history.proofs.Places.{in-list, state-append}
 use Rattle.alp_history.proofs.Rights.{IsRightDeed}

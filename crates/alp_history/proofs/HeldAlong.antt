@@ -31,7 +31,7 @@ use Rattle.alp_journal.specs.Holder.{Holder, Life, holder_after, commits, grants
 use Rattle.alp_journal.specs.State.{Ids, State, ids_after, joined_by, state_deed, is_other_server}
 use Rattle.alp_journal.specs.Moves.{next_file, next_join, is_new, no_in, first_sent, quits_for, if_its, event_deeds, act_deeds, answered, is_of_no_file, done_by, done_of, done_deeds, is_stop, stops, tried, did, told, halted, next, resolved, is_effective, next_trans}
 use Rattle.alp_journal.specs.Laws.{latest_vote, CountsOn, DecidesRight, AppliesRight, DecidesAt, is_written, IsStopped, TellsStop, StopsRight, Regains, regained_by, IsOpenPart, HasEnded, LivesVoted, LivesUnvoted}
-use Rattle.alp_history.specs.Holding.{IsNewStamp, IsTimely, HasNotVoted, MayDo}
+use Rattle.alp_journal.specs.Holding.{IsNewStamp, IsTimely, HasNotVoted, MayDo}
 use Rattle.alp_history.specs.Log.{Log, journal_of, opening_of, state_at, final, IsIn}
 use Rattle.alp_history.specs.Theorems.{IsProper}
 use Rattle.alp_history.proofs.Places.{in-list, some-same, state-append}
@@ -44,12 +44,13 @@ use Rattle.alp_journal.specs.declared.act.Act.TheVariants as act
 use Rattle.alp_history.proofs.Entries.{is_open, effective-open}
 use Rattle.alp_files.proofs.SameLemmas.{same_file-true}
 use Rattle.alp_journal.proofs.IdLemmas.{same_join-true, same_trans-itself, all-filter, all-append}
+use Rattle.alp_journal.proofs.MadeIds.{all-map, WasMade, made-fresh, made-after}
 use Rattle.alp_history.proofs.Fates.{Decision}
 use Rattle.alp_history.proofs.Phases.{IsJoining, IsSeen, home-stays, phase-cases, unseen-stays, IsTold, Carries}
-use Rattle.alp_history.proofs.Origins.{IsFrom, IsEventFrom, event-from, tried-from}
+use Rattle.alp_journal.proofs.Origins.{IsFrom, IsEventFrom, event-from, tried-from}
 use Rattle.alp_history.proofs.Logs.{server-stays}
-use Rattle.alp_history.proofs.Votes.{latest-after}
-use Rattle.alp_history.proofs.OneServer.{IsHeld, deed_held, own-life}
+use Rattle.alp_journal.proofs.HeldLemmas.{latest-after}
+use Rattle.alp_journal.proofs.OneServer.{IsHeld, deed_held, own-life}
 use Rattle.alp_history.proofs.Linked.{IsPart, IsLinkedUp, Does, linked-after}
 use Rattle.alp_history.proofs.Turned.{leads_on, IsTest, runs-the-same, is_left, Began, turns}
 use Rattle.alp_history.proofs.Agreed.{WasDrawn, past-from, not-next, drawn-after, later-law, drawn-epoch, carries-right, size, committed-parts, AbortCame, CommitCame, AreTold, told-keep}
@@ -72,10 +73,6 @@ put-keys P k v (x ∷ xs) h g = go (stamp_cmp k x.0) (put-keys P k v xs h g.1)
     go Less rest = (h, g)
     go Equal rest = (g.0, g.1)
     go Greater rest = (g.0, rest)
-
-pub all-map : {X : Type 0} (P Q : X → Type 0) → ((x : X) → P x → Q x) → (xs : List X) → AllByRecursion P xs → AllByRecursion Q xs
-all-map P Q f [] h = tt
-all-map P Q f (x ∷ xs) h = (f x h.0, all-map P Q f xs h.1)
 
 pub same_join-itself : (j : JoinNo) → same_join j j ≡ true
 same_join-itself t =
@@ -108,34 +105,7 @@ applies-there x j c ts p h = subst (λ q. IsAt x (phase_after (Applies j x) j q)
     go true e false f = cc
     go false e b f = cc
 
--- ---- ids of files
-
-abbrev pub WasMade : Ids → FileId → Type 0
-WasMade s f = (f.epoch < s.epoch) ⊎ ((f.epoch ≡ s.epoch) × (f.counter ≤ s.files))
-
-was-after : (d : Deed) (s : Ids) (f : FileId) → ((epoch clock : ℕ) → d ≡ Restarts epoch clock → s.epoch < epoch) → WasMade s f → WasMade (ids_after s d) f
-was-after (Performs t x) s f up w = elim w [ inl l ↦ inl l | inr l ↦ inr (l.0, (let b : f.counter ≤ s.files = l.1 in omega (arith, b))) ]
-was-after (Restarts epoch clock) s f up w =
-    let u : s.epoch < epoch = up epoch clock refl in elim w [ inl l ↦ inl (omega (arith, l, u)) | inr l ↦ (let e : f.epoch ≡ s.epoch = l.0 in inl (omega (arith, e, u))) ]
-was-after (Begins t c w n) s f up h = h
-was-after (Joins j t c w) s f up h = h
-was-after d s f up h = h
-
-made-fresh : (s : Ids) (f : FileId) (made : List FileId) → f.epoch ≡ s.epoch → f.counter ≡ s.files + 1 → AllByRecursion (WasMade s) made → has_file f made ≡ false
-made-fresh s f [] e c h = refl
-made-fresh s f (g ∷ gs) e c h = go (same_file g f) refl (made-fresh s f gs e c h.1)
-  where
-    no : g ≡ f → WasMade s g → ⊥
-    no same w =
-        let a : g.epoch ≡ f.epoch = ap (λ x. x.epoch) same in
-        let b : g.counter ≡ f.counter = ap (λ x. x.counter) same in
-        elim w [ inl l ↦ omega (arith, l, a, e) | inr l ↦ (let m : g.counter ≤ s.files = l.1 in omega (arith, m, b, c)) ]
-
-    go : (b : Bool) → same_file g f ≡ b → has_file f gs ≡ false → (b || has_file f gs) ≡ false
-    go true is rest = absurd (no (same_file-true g f is) h.0)
-    go false is rest = rest
-
--- ---- what a deed leaves of the list of applied transactions, and of the ids of files
+-- ---- what a deed leaves of the list of applied transactions
 
 commits-keys : (P : Stamp → Type 0) (h : Holder) (x : Stamp) (l : Option Life) → P x → AllByRecursion (λ (y : Stamp × Decided). P y.0) h.applied → AllByRecursion (λ (y : Stamp × Decided). P y.0) (commits h x l).applied
 commits-keys P h x None p g = g
@@ -178,57 +148,6 @@ applied-keys P h (Ends t c k) dec app g = g
 applied-keys P h (Acknowledges t j) dec app g = g
 applied-keys P h (Forgets t) dec app g = g
 applied-keys P h (Restarts n k) dec app g = g
-
--- the ids that were made are below the count, a new one too
-made-after : (s : Ids) (h : Holder) (d : Deed) → ((epoch clock : ℕ) → d ≡ Restarts epoch clock → s.epoch < epoch)
-    → ((t : TransId) (x : PerformedCall) → d ≡ Performs t x → (f : FileId) → id_in x.reply ≡ Some f → (f.epoch ≡ s.epoch) × (f.counter ≡ s.files + 1))
-    → AllByRecursion (WasMade s) h.made → AllByRecursion (WasMade (ids_after s d)) (holder_after h d).made
-made-after s h d up new g = go d refl (all-map (WasMade s) (WasMade (ids_after s d)) (λ f. was-after d s f up) h.made g)
-  where
-    ids : (x : PerformedCall) → ((f : FileId) → id_in x.reply ≡ Some f → (f.epoch ≡ s.epoch) × (f.counter ≡ s.files + 1)) → (o : Option FileId) → id_in x.reply ≡ o → (made : List FileId)
-        → AllByRecursion (WasMade (record s { files = s.files + length (option_to_list o) })) made → AllByRecursion (WasMade (record s { files = s.files + length (option_to_list o) })) (option_to_list o ++ made)
-    ids x n None e made k = k
-    ids x n (Some f) e made k = (let is = n f e in let c : f.counter ≡ s.files + 1 = is.1 in inr (is.0, omega (arith, c)), k)
-
-    go : (c : Deed) → d ≡ c → AllByRecursion (WasMade (ids_after s c)) h.made → AllByRecursion (WasMade (ids_after s c)) (holder_after h c).made
-    go (Performs t x) e k = one (h.lives t)
-      where
-        one : (l : Option Life) → AllByRecursion (WasMade (ids_after s (Performs t x))) (performs h t x l).made
-        one None = k
-        one (Some l) = ids x (new t x e) (id_in x.reply) refl h.made k
-    go (Grants t c) e k = one (h.lives t)
-      where
-        one : (l : Option Life) → AllByRecursion (WasMade s) (grants h t c l).made
-        one None = k
-        one (Some l) = k
-    go (Readies j t ts) e k = one (h.lives t)
-      where
-        one : (l : Option Life) → AllByRecursion (WasMade s) (readies h t ts l).made
-        one None = k
-        one (Some l) = k
-    go (Decides x js) e k = one (h.lives x.trans)
-      where
-        one : (l : Option Life) → AllByRecursion (WasMade s) (commits h x l).made
-        one None = k
-        one (Some l) = k
-    go (Applies j x) e k = one (h.lives x.trans)
-      where
-        one : (l : Option Life) → AllByRecursion (WasMade s) (commits h x l).made
-        one None = k
-        one (Some l) = k
-    go (Begins t c w n) e k = k
-    go (Joins j t c w) e k = k
-    go (Enters j t c w) e k = k
-    go (Quits j t c w) e k = k
-    go (Aborts j t c w) e k = k
-    go (Releases t) e k = k
-    go (Registers t j) e k = k
-    go (Finishes t) e k = k
-    go (Hears t j ts) e k = k
-    go (Ends t c w) e k = k
-    go (Acknowledges t j) e k = k
-    go (Forgets t) e k = k
-    go (Restarts n w) e k = k
 
 module _ (log : Log) (proper : IsProper log) where
   -- a join was told that it is let in

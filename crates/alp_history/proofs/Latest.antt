@@ -17,7 +17,7 @@ use Rattle.alp_files.proofs.HistoryLemmas.{get-edits_map}
 use Rattle.alp_journal.specs.Ids.{stamp_cmp}
 use Rattle.alp_history.specs.Log.{Log, IsIn, Decision, decided, start_of, shares_of, Standings, after_shares, starting_all, left_at, left_there, left_of_each, latest_in, latest, AreLatest}
 use Rattle.alp_history.specs.Theorems.{IsProper, Latest}
-use Rattle.alp_history.proofs.LeftBehind.{left_along}
+use Rattle.alp_journal.proofs.LeftBehind.{left_along}
 use Rattle.alp_journal.proofs.StampLemmas.{stamps_total, itself}
 use Rattle.alp_history.proofs.Decisions.{decided-in, decided-sorted}
 use Rattle.alp_history.proofs.Severally.{on, shares-end}

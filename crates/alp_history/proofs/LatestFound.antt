@@ -33,14 +33,14 @@ use Rattle.alp_journal.specs.Coordinator.{Fate, decision_in}
 use Rattle.alp_journal.specs.Participant.{Phase, Over, Applied}
 use Rattle.alp_journal.specs.Holder.{Holder, Life, grants, performs, readies, commits, holder_after}
 use Rattle.alp_journal.specs.State.{State, state_deed}
-use Rattle.alp_history.specs.Holding.{IsNewStamp, MayDo}
+use Rattle.alp_journal.specs.Holding.{IsNewStamp, MayDo}
 use Rattle.alp_history.specs.Log.{Log, state_at, final, IsIn, Decision, decided, start_of, left_at, left_there, left_of_each, latest_in, latest}
 use Rattle.alp_history.specs.Theorems.{IsProper, IsDecided, Findings}
 use Rattle.alp_history.proofs.Places.{some-same, all-in}
 use Rattle.alp_journal.proofs.IdLemmas.{same_trans-true, same_trans-itself}
 use Rattle.alp_history.proofs.Fates.{decision-stays, IsOver}
-use Rattle.alp_history.proofs.HistoryOrder.{Item, AreOthers, others-earlier, decided_items, stamp_cmp-later}
-use Rattle.alp_history.proofs.OneServer.{IsHeld, life-intended}
+use Rattle.alp_journal.proofs.HistoryOrder.{Item, AreOthers, others-earlier, decided_items, stamp_cmp-later}
+use Rattle.alp_journal.proofs.OneServer.{IsHeld, life-intended}
 use Rattle.alp_journal.proofs.StampLemmas.{stamps_total, itself}
 use Rattle.alp_history.proofs.Linked.{IsTied}
 use Rattle.alp_history.proofs.Turned.{is_left, Began}

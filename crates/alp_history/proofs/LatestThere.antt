@@ -31,10 +31,10 @@ use Rattle.alp_history.specs.Log.{Log, opening_of, state_at, IsIn, AreDistinct, 
 use Rattle.alp_history.specs.Theorems.{IsProper, IsDecided}
 use Rattle.alp_history.proofs.Places.{some-same, all-in}
 use Rattle.alp_journal.proofs.IdLemmas.{same_trans-true}
-use Rattle.alp_history.proofs.HistoryOrder.{Item, All, AreGood, end_of, sized-after, stamp_cmp-earlier, IsClear, map-all, changed_by, left_by_items}
-use Rattle.alp_history.proofs.LifeLemmas.{IsVoteClear}
-use Rattle.alp_history.proofs.OneServer.{IsHeld, life-intended}
-use Rattle.alp_history.proofs.LeftBehind.{left_along}
+use Rattle.alp_journal.proofs.HistoryOrder.{Item, All, AreGood, end_of, sized-after, stamp_cmp-earlier, IsClear, map-all, changed_by, left_by_items}
+use Rattle.alp_journal.proofs.LifeLemmas.{IsVoteClear}
+use Rattle.alp_journal.proofs.OneServer.{IsHeld, life-intended}
+use Rattle.alp_journal.proofs.LeftBehind.{left_along}
 use Rattle.alp_history.proofs.Fates.{IsOver}
 use Rattle.alp_history.proofs.Linked.{IsLinkedUp, IsYoung, HasPart, IsKeptAt, IsRested, same_join-self}
 use Rattle.alp_history.proofs.Turned.{is_left, Began}

@@ -1,15 +1,10 @@
 pub mod Places
 pub mod Fates
 pub mod Phases
-pub mod Origins
 pub mod Rights
 pub mod Entries
 pub mod Logs
 pub mod Agreed
-pub mod LeftBehind
-pub mod HistoryOrder
-pub mod LifeLemmas
-pub mod OneServer
 pub mod Worked
 pub mod Votes
 pub mod Stamped

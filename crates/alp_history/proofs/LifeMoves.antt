@@ -17,7 +17,7 @@ use Rattle.alp_journal.specs.Ids.{same_trans, same_join}
 use Rattle.alp_journal.specs.Deeds.{Deed, Begins, Joins, Enters, Quits, Aborts, Grants, Performs, Releases, Readies, Applies, Registers, Finishes, Hears, Decides, Ends, Acknowledges, Forgets, Restarts}
 use Rattle.alp_journal.specs.Participant.{Phase, Applied, Over, drawn, entered, readied, applied, quit, aborted, restarted, phase_after}
 use Rattle.alp_journal.specs.Holder.{is_part, lapsed, Holder, Life, no_locks, new_life, answer_in, held_for, grants, performs, readies, after_done, commits, if_ready, holder_after}
-use Rattle.alp_history.specs.Holding.{MayDo}
+use Rattle.alp_journal.specs.Holding.{MayDo}
 use Rattle.alp_journal.proofs.IdLemmas.{same_trans-true, same_join-true, same_trans-itself}
 
 -- ---- locks that grow

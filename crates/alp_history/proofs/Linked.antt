@@ -24,7 +24,7 @@ use Rattle.alp_journal.specs.Holder.{Life, emptied, is_part, lapsed, new_life, h
 use Rattle.alp_journal.specs.State.{State, ids_after, state_deed, opened, joined_by}
 use Rattle.alp_journal.specs.Moves.{next_join}
 use Rattle.alp_journal.specs.Laws.{IsHolding}
-use Rattle.alp_history.specs.Holding.{HasNotVoted}
+use Rattle.alp_journal.specs.Holding.{HasNotVoted}
 use Rattle.alp_history.specs.Log.{Log, opening_of, IsIn, AreDistinct}
 use Rattle.alp_history.specs.Theorems.{IsProper}
 use Rattle.alp_history.proofs.Places.{some-same, all-in}

@@ -17,17 +17,17 @@ use Rattle.alp_journal.specs.Coordinator.{Fate, Undrawn, Running, Finishing, Com
 use Rattle.alp_journal.specs.Participant.{Phase, Unseen, Joining, Active, Ready, Applied, Over, phase_noted}
 use Rattle.alp_journal.specs.Holder.{Holder, Life}
 use Rattle.alp_journal.specs.State.{State, state_deed}
-use Rattle.alp_history.specs.Holding.{MayDo}
+use Rattle.alp_journal.specs.Holding.{MayDo}
 use Rattle.alp_history.specs.Log.{Log, journal_of, opening_of, state_at, final, IsIn}
 use Rattle.alp_history.specs.Theorems.{IsProper, IsDecided, IsKept, mode_in, mode_at, EndsAt, GoesByLocks, GoesByTurns, Order}
 use Rattle.alp_history.proofs.Places.{in-list, some-same}
 use Rattle.alp_journal.proofs.IdLemmas.{same_trans-true, same_trans-itself, same_join-true}
 use Rattle.alp_history.proofs.Fates.{Decision, IsOver, IsBacked}
 use Rattle.alp_history.proofs.Phases.{IsSeen, IsTold}
-use Rattle.alp_history.proofs.HistoryOrder.{stamp_cmp-earlier}
+use Rattle.alp_journal.proofs.HistoryOrder.{stamp_cmp-earlier}
 use Rattle.alp_history.proofs.Linked.{IsLinkedUp}
 use Rattle.alp_history.proofs.Turned.{is_left, Began}
-use Rattle.alp_history.proofs.OneServer.{IsHeld, life-intended}
+use Rattle.alp_journal.proofs.OneServer.{IsHeld, life-intended}
 use Rattle.alp_history.proofs.Logs.{stands-from}
 use Rattle.alp_history.proofs.Agreed.{size, at-end, all-of, home-at, backed-at, over-from, over-none, decided-from, committed-parts, told-at, AbortCame, CommitCame, commit-came, agreed, Nothing, nothing, Promise, Acked}
 use Rattle.alp_history.proofs.Votes.{IsTimed}

@@ -12,7 +12,7 @@ use Rattle.alp_journal.specs.Participant.{Phase, Unseen, Joining, Active, Ready,
 use Rattle.alp_journal.specs.Holder.{Holder, Life, holder_after}
 use Rattle.alp_journal.specs.State.{State, state_deed}
 use Rattle.alp_journal.specs.Moves.{next_trans}
-use Rattle.alp_history.specs.Holding.{MayDo}
+use Rattle.alp_journal.specs.Holding.{MayDo}
 use Rattle.alp_history.specs.Log.{Log, opening_of, IsIn}
 use Rattle.alp_history.specs.Theorems.{IsProper}
 use Rattle.alp_history.proofs.Places.{some-same}
@@ -20,7 +20,7 @@ use Rattle.alp_journal.proofs.IdLemmas.{same_trans-itself}
 use Rattle.alp_history.proofs.Fates.{fate-cases}
 use Rattle.alp_history.proofs.Linked.{IsLinkedUp, HasPart}
 use Rattle.alp_history.proofs.Turned.{is_left, Began}
-use Rattle.alp_history.proofs.OneServer.{IsHeld}
+use Rattle.alp_journal.proofs.OneServer.{IsHeld}
 use Rattle.alp_history.proofs.BegunOrder.{IsBeyond, IsFresh, fresh-step, beyond-next}
 use Rattle.alp_history.proofs.HeldAlong.{same_join-itself, JoinedCame, Knows, IsSameCore}
 use Rattle.alp_history.proofs.LifeMoves.{IsCommit, life-cases, ready-was, kept-grows, kept-commit, phase-moves, applied-keeps, over-keeps}

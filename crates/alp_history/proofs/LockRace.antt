@@ -15,7 +15,7 @@ use Rattle.alp_journal.specs.Participant.{Phase, Unseen, Joining, Active, Ready,
 use Rattle.alp_journal.specs.Holder.{Holder, Life, view_in, new_life, held_for, after_done, answer_in, if_ready, holder_after}
 use Rattle.alp_journal.specs.State.{State, state_deed}
 use Rattle.alp_journal.specs.Laws.{IsHolding, IsOpenPart}
-use Rattle.alp_history.specs.Holding.{MayDo}
+use Rattle.alp_journal.specs.Holding.{MayDo}
 use Rattle.alp_history.specs.Log.{Log}
 use Rattle.alp_history.specs.Theorems.{IsProper}
 use Rattle.alp_history.proofs.Places.{some-same}
@@ -23,7 +23,7 @@ use Rattle.alp_journal.proofs.IdLemmas.{same_trans-true, same_trans-itself}
 use Rattle.alp_history.proofs.Fates.{fate-cases, decision-stays, IsOver, over-stays}
 use Rattle.alp_history.proofs.Linked.{IsLinkedUp}
 use Rattle.alp_history.proofs.Turned.{is_left, Began}
-use Rattle.alp_history.proofs.OneServer.{IsHeld}
+use Rattle.alp_journal.proofs.OneServer.{IsHeld}
 use Rattle.alp_journal.specs.Moves.{next_trans}
 use Rattle.alp_history.proofs.BegunOrder.{beyond-next}
 use Rattle.alp_history.proofs.HeldAlong.{Knows, IsSameCore}

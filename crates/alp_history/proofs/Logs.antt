@@ -20,7 +20,7 @@ use Rattle.alp_journal.specs.Moves.{next}
 use Rattle.alp_journal.specs.Laws.{IsLawfulEntry, SaysRight, MaySay}
 use Rattle.alp_history.specs.Log.{ServerLog, Log, nobody, journal_of, opening_of, rank_at, state_at, final, WasSent, IsLinked, AreLawful}
 use Rattle.alp_history.proofs.Places.{at-suc, along-at, keeps-from, take-all, all-in}
-use Rattle.alp_history.proofs.Origins.{IsFrom}
+use Rattle.alp_journal.proofs.Origins.{IsFrom}
 use Rattle.alp_history.proofs.Entries.{Stands, entry-keeps}
 use Rattle.alp_history.proofs.Rights.{IsRightDeed, IsRightEntry, right-entry}
 

@@ -32,11 +32,11 @@ use Rattle.alp_history.proofs.Places.{some-same, all-in}
 use Rattle.alp_journal.proofs.IdLemmas.{or-true}
 use Rattle.alp_history.proofs.Phases.{IsSeen}
 use Rattle.alp_history.proofs.Agreed.{committed-parts, applied-committed, kept}
-use Rattle.alp_history.proofs.LeftBehind.{left_along}
-use Rattle.alp_history.proofs.HistoryOrder.{Item, AreGood, history_of}
-use Rattle.alp_history.proofs.OneServer.{in_order, one_thread, rebase}
+use Rattle.alp_journal.proofs.LeftBehind.{left_along}
+use Rattle.alp_journal.proofs.HistoryOrder.{Item, AreGood, history_of}
+use Rattle.alp_journal.proofs.OneServer.{in_order, one_thread, rebase}
 use Rattle.alp_history.proofs.Votes.{joined-server}
-use Rattle.alp_history.specs.Holding.{IsNewStamp}
+use Rattle.alp_journal.specs.Holding.{IsNewStamp}
 use Rattle.alp_history.proofs.Starts.{held-none}
 use Rattle.alp_journal.proofs.StampLemmas.{stamps_total, itself}
 use Rattle.alp_history.proofs.Linked.{in-left, IsAway, same_join-self, IsYoung, HasPart, IsKeptAt, IsTied}

@@ -37,7 +37,7 @@ use Rattle.alp_history.proofs.Logs.{lawful-at, state-suc, stands-from}
 use Rattle.alp_history.proofs.Entries.{is_open}
 use Rattle.alp_history.proofs.Decisions.{Has, find-in, put-has, IsDecision, own-decided, in-decided, here-decision, older-note, decided-in}
 use Rattle.alp_history.proofs.Tells.{outcome-decision, decision-trans}
-use Rattle.alp_history.proofs.HistoryOrder.{stamp_cmp-earlier}
+use Rattle.alp_journal.proofs.HistoryOrder.{stamp_cmp-earlier}
 use Rattle.alp_history.proofs.Agreed.{size, at-end, all-of, decided-from, committed-parts}
 use Rattle.alp_history.proofs.Sessions.{session-after}
 

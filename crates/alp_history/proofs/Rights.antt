@@ -24,7 +24,7 @@ use Rattle.alp_journal.specs.State.{State, state_deed}
 use Rattle.alp_journal.specs.Moves.{enters, act_deeds, tried, next, asks_for, grants_to}
 use Rattle.alp_journal.specs.Laws.{DrawsAsTold, CountsOn, KeepsSessions, SeesView, DoLivesAgree, KeepsLocks, IsOpenPart, IsOfOpenPart, LetsGo, RegistersOnce, VotesOnce, DecidesRight, AppliesRight, ForgetsRight, SaysRight, TellsDecided, StartsRight, StopsRight, IsLawfulDeed, IsLawfulEntry, regained_by}
 use Rattle.alp_journal.proofs.IdLemmas.{all-append, same_trans-true}
-use Rattle.alp_history.proofs.Origins.{IsFrom, tried-from}
+use Rattle.alp_journal.proofs.Origins.{IsFrom, tried-from}
 
 abbrev pub RunsOrEnters : State → Deed → Type 0
 RunsOrEnters s (Grants t c) = IsOpenPart s t

@@ -20,7 +20,7 @@ use Rattle.alp_journal.specs.Participant.{Phase, Unseen, Joining, Active, Ready,
 use Rattle.alp_journal.specs.Holder.{Holder, Life, in_history, commits}
 use Rattle.alp_journal.specs.State.{State}
 use Rattle.alp_journal.specs.Laws.{IsHolding}
-use Rattle.alp_history.specs.Holding.{IsNewStamp, IsTimely}
+use Rattle.alp_journal.specs.Holding.{IsNewStamp, IsTimely}
 use Rattle.alp_history.specs.Log.{ServerLog, Log, opening_of, journal_of, state_at, final, IsIn, noted, is_noted, Decision, decided, is_decided_in, held, edits_in, ready_note}
 use Rattle.alp_history.specs.Theorems.{IsProper, HasCommitted, IsKept}
 use Rattle.alp_history.proofs.Places.{some-same, all-in, in-list}
@@ -30,7 +30,7 @@ use Rattle.alp_history.proofs.Logs.{server-stays}
 use Rattle.alp_history.proofs.Votes.{IsSpread, IsTimed}
 use Rattle.alp_history.proofs.Agreed.{size, all-of, at-end, from-end, kept}
 use Rattle.alp_history.proofs.Stamped.{NotedIn, SaidAt, Tells, timed-at, decided-timed}
-use Rattle.alp_history.proofs.OneServer.{IsHeld, deed_held, rebase, behind, behind-early, behind-own}
+use Rattle.alp_journal.proofs.OneServer.{IsHeld, deed_held, rebase, behind, behind-early, behind-own}
 use Rattle.alp_journal.proofs.StampLemmas.{stamps_total, itself}
 use Rattle.alp_history.proofs.Linked.{same_join-self, IsYoung, HasPart, AreApart, other-point}
 use Rattle.alp_history.proofs.Turned.{is_left, Began, began-same, began-first, early-noted, flat-in, noted-committed, old-join}

@@ -21,7 +21,7 @@ use Rattle.alp_history.proofs.Places.{in-list, some-same}
 use Rattle.alp_journal.proofs.IdLemmas.{all-each}
 use Rattle.alp_history.proofs.Fates.{Decision}
 use Rattle.alp_history.proofs.Phases.{IsSeen, phase-cases}
-use Rattle.alp_history.proofs.Origins.{IsFrom}
+use Rattle.alp_journal.proofs.Origins.{IsFrom}
 use Rattle.alp_history.proofs.Logs.{said, rank-le, rank-lt, stands-from}
 use Rattle.alp_history.proofs.Votes.{IsSpread, vote-in, latest-vote, IsAgreed, IsTimed, Votes, timed-after}
 use Rattle.alp_history.proofs.Agreed.{size, home-at, at-end, all-of, decided-from, Nothing, nothing}

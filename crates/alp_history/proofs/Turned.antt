@@ -24,10 +24,10 @@ use Rattle.alp_history.proofs.Places.{some-same}
 use Rattle.alp_journal.proofs.IdLemmas.{same_trans-true, same_join-true, same_trans-itself, or-true}
 use Rattle.alp_history.proofs.Fates.{Decision, fate-cases}
 use Rattle.alp_history.proofs.Phases.{phase-cases, Carries}
-use Rattle.alp_history.proofs.Origins.{IsEventFrom}
+use Rattle.alp_journal.proofs.Origins.{IsEventFrom}
 use Rattle.alp_history.proofs.Entries.{is_open}
 use Rattle.alp_history.proofs.Logs.{stands-from}
-use Rattle.alp_history.proofs.OneServer.{behind, behind-early, behind-own, Turns}
+use Rattle.alp_journal.proofs.OneServer.{behind, behind-early, behind-own, Turns}
 use Rattle.alp_history.proofs.Agreed.{size, all-of, at-end, decided-from, AbortCame, CommitCame, abort-late, WasCommitted, commit-came, committed-parts}
 use Rattle.alp_history.proofs.Starts.{IsFit, held-same, held-first}
 use Rattle.alp_history.proofs.Linked.{IsYoung, HasPart, IsLinkedUp, Does, same_join-self}

@@ -11,6 +11,7 @@ use Rattle.alp_journal.specs.Coordinator.{Fate, Vote, Undrawn, Running, Finishin
 use Rattle.alp_journal.specs.Laws.{latest_vote}
 use Rattle.alp_history.specs.Log.{IsIn}
 use Rattle.alp_journal.proofs.IdLemmas.{same_trans-true, same_join-true, or-true}
+use Rattle.alp_journal.proofs.HeldLemmas.{latest-after}
 
 -- ---- joins of different servers
 
@@ -58,19 +59,12 @@ vote-in j (v ∷ vs) h = elim (or-true (same_join v.0 j) (voted j vs) h) [
   | inr more ↦ (let r = vote-in j vs more in (r.0, inr r.1))
 ]
 
-latest-above : (n : ℕ) (vs : List Vote) → n ≤ latest_vote n vs
-latest-above n [] = omega arith
-latest-above n (v ∷ vs) = let h : max n v.1 ≤ latest_vote (max n v.1) vs = latest-above (max n v.1) vs in omega (arith, h)
-
 pub latest-vote : (n : ℕ) (vs : List Vote) (j : JoinNo) (ts : ℕ) → IsIn (j, ts) vs → ts ≤ latest_vote n vs
 latest-vote n [] j ts i = absurd i
 latest-vote n (v ∷ vs) j ts i = elim i [
-  | inl e ↦ (let a : ts ≡ v.1 = ap (λ (x : Vote). x.1) e in let h : max n v.1 ≤ latest_vote (max n v.1) vs = latest-above (max n v.1) vs in omega (arith, a, h))
+  | inl e ↦ (let a : ts ≡ v.1 = ap (λ (x : Vote). x.1) e in let h : max n v.1 ≤ latest_vote (max n v.1) vs = latest-after (max n v.1) vs in omega (arith, a, h))
   | inr m ↦ latest-vote (max n v.1) vs j ts m
 ]
-
-pub latest-after : (n : ℕ) (vs : List Vote) → n ≤ latest_vote n vs
-latest-after n vs = latest-above n vs
 
 in-append : {A : Type 0} (x : A) (xs ys : List A) → IsIn x (xs ++ ys) → IsIn x xs ⊎ IsIn x ys
 in-append x [] ys i = inr i

@@ -1,6 +1,5 @@
 pub mod Log
 pub mod Theorems
-pub mod Holding
 pub mod Handed
 pub mod RunLogs
 pub mod Examples

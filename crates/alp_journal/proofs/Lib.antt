@@ -4,3 +4,10 @@ pub mod StampLemmas
 pub mod AloneEntries
 pub mod AloneEnds
 pub mod AloneCalls
+pub mod LeftBehind
+pub mod HistoryOrder
+pub mod LifeLemmas
+pub mod OneServer
+pub mod Origins
+pub mod MadeIds
+pub mod HeldLemmas

@@ -5,7 +5,10 @@ use Rattle.alp_base.specs.declared.ids.TransId.{TransId}
 use Rattle.alp_base.specs.declared.faults.Sizes.{Sizes}
 use Rattle.alp_files.specs.declared.refusal.Cause.{Cause}
 use Rattle.alp_files.specs.History.{Decided}
+use Rattle.std.specs.List.{AllByRecursion}
 use Rattle.alp_journal.specs.declared.entry.Entry.{Entry}
+use Rattle.alp_journal.specs.declared.event.Event.{Event}
+use Rattle.alp_journal.specs.declared.event.Event.TheVariants as event
 use Rattle.alp_journal.specs.Deeds.{Deed}
 use Rattle.alp_journal.specs.Coordinator.{Fate, Undrawn, Running, Finishing, Committed, Forgotten, Ended}
 use Rattle.alp_journal.specs.Participant.{Unseen}
@@ -67,6 +70,15 @@ pub record IsQuiet (a : Alone) : Type 0 where
 abbrev pub AreEarlier : ℕ → List (Stamp × Decided) → Type 0
 AreEarlier clock [] = Unit {0}
 AreEarlier clock (d ∷ ds) = (d.0.ts ≤ clock) × AreEarlier clock ds
+
+-- the events of such a server: calls and timeouts
+abbrev pub IsOwnEvent : Event → Type 0
+IsOwnEvent (event.Call client epoch number c) = Unit {0}
+IsOwnEvent (event.Timeout t) = Unit {0}
+IsOwnEvent e = ⊥
+
+abbrev pub AreOwnEvents : List Entry → Type 0
+AreOwnEvents es = AllByRecursion (λ (e : Entry). IsOwnEvent e.event) es
 
 -- an entry is lawful and has its cause, and leads from a quiet state to that one, which is quiet again
 pub record Leads (failed : Bool) (a : Alone) (e : Entry) (m : Alone) : Type 0 where

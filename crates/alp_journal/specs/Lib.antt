@@ -15,3 +15,4 @@ pub mod Answers
 pub mod Halts
 pub mod Answered
 pub mod Alone
+pub mod Holding

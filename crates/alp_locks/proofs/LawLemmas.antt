@@ -47,7 +47,7 @@ join-none (Some a) None e = let wrong : true ≡ false = ap is_some e in cc
 join-none (Some a) (Some b) e = let wrong : true ≡ false = ap is_some e in cc
 
 -- where nothing rises nothing changes
-no-rise : (h : Held) (ns : List (Resource × Mode)) → risen h ns ≡ [] → (r : Resource) → map.get (joined h ns) r ≡ map.get h r
+pub no-rise : (h : Held) (ns : List (Resource × Mode)) → risen h ns ≡ [] → (r : Resource) → map.get (joined h ns) r ≡ map.get h r
 no-rise h ns none r = go (map.get (joined h ns) r) refl
   where
     split : (m : Mode) → map.get (joined h ns) r ≡ Some m → (b : Bool) → is_raised h (r, m) ≡ b → Some m ≡ map.get h r

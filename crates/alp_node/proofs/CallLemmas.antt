@@ -18,7 +18,7 @@ use Rattle.alp_files.specs.Built.{IsBuilt}
 use Rattle.alp_files.proofs.BornLemmas.{unborn_kept, unborn_more}
 use Rattle.alp_files.proofs.EditLemmas.{changes-append, edits_at-append}
 use Rattle.alp_files.proofs.FilesLemmas.{same-some}
-use Rattle.alp_files.specs.Edits.{edits_at, after, ChangesBy}
+use Rattle.alp_files.specs.Edits.{Edit, edits_at, after, ChangesBy}
 use Rattle.alp_files.specs.Locks.{IsMore, with_made}
 use Rattle.alp_files.proofs.HistoryLemmas.{get-edits_map}
 use Rattle.alp_locks.specs.Tables.{Table, holding}
@@ -92,11 +92,12 @@ module _ {V : Type 0} (a : Alone) (held : Contents) (k : ServerState V) where
       ∙ ap (edits_at x.life.edits (at a.holder.server a.ids.epoch)) (h.born (k.given + 1) (omega arith))
       ∙ h.unborn t x.life x.is (k.given + 1) (omega arith)
 
-  -- a part that stands as before, in a server that does
-  pub part_still : (t : TransId) (l : Live) (p : Part) (v : V) (then : Contents) → IsAs a held k → then ≡ held → map.get k.lives t ≡ Some l → IsAsBefore l.part p
-      → IsAs a then (record k { lives = map.insert k.lives t (record l { part = p }); vault = v })
-  part_still t l p v then h same there before =
-      subst (λ (c : Contents). IsAs a c (record k { lives = map.insert k.lives t (record l { part = p }); vault = v })) (sym same) (record {
+  -- a part that stands as before and may come to more, in a server that does
+  pub part_still : (t : TransId) (l : Live) (p : Part) (b : Bounds) (v : V) (then : Contents) → IsAs a held k → then ≡ held → map.get k.lives t ≡ Some l → IsAsBefore l.part p
+      → ((rs : List Resource) (es : List Edit) → IsWithin l.bounds rs es → IsWithin b rs es)
+      → IsAs a then (record k { lives = map.insert k.lives t (record l { part = p; bounds = b }); vault = v })
+  part_still t l p b v then h same there before more =
+      subst (λ (c : Contents). IsAs a c (record k { lives = map.insert k.lives t (record l { part = p; bounds = b }); vault = v })) (sym same) (record {
         server = h.server;
         sizes = h.sizes;
         epoch = h.epoch;
@@ -106,7 +107,7 @@ module _ {V : Type 0} (a : Alone) (held : Contents) (k : ServerState V) where
         places = h.places;
         sessions = h.sessions;
         dead = h.dead;
-        lives = λ u. subst (λ (x : Option Live). IsAlike k.locks.held (a.locked u) u x (a.holder.lives u)) (sym (get_put k.lives t (record l { part = p }) u)) (go u (same_trans u t) refl);
+        lives = λ u. subst (λ (x : Option Live). IsAlike k.locks.held (a.locked u) u x (a.holder.lives u)) (sym (get_put k.lives t (record l { part = p; bounds = b }) u)) (go u (same_trans u t) refl);
         unborn = h.unborn;
         drawn = h.drawn;
         begun = h.begun;
@@ -120,19 +121,19 @@ module _ {V : Type 0} (a : Alone) (held : Contents) (k : ServerState V) where
         down = h.down;
       })
     where
-      go : (u : TransId) (b : Bool) → same_trans u t ≡ b → IsAlike k.locks.held (a.locked u) u (cond {A = Option Live} b (Some (record l { part = p })) (map.get k.lives u)) (a.holder.lives u)
+      go : (u : TransId) (e : Bool) → same_trans u t ≡ e → IsAlike k.locks.held (a.locked u) u (cond {A = Option Live} e (Some (record l { part = p; bounds = b })) (map.get k.lives u)) (a.holder.lives u)
       go u false e = h.lives u
       go u true e =
           let one : t ≡ u = sym (same_trans-true u t e) in
           let x : IsLive k.locks.held (a.locked u) u l (a.holder.lives u) = live_there k.locks.held (a.locked u) u (map.get k.lives u) (a.holder.lives u) l (sym (ap (map.get k.lives) one) ∙ there) (h.lives u) in
-          subst (λ (y : Option Life). IsAlike k.locks.held (a.locked u) u (Some (record l { part = p })) y) (sym x.is) (record {
+          subst (λ (y : Option Life). IsAlike k.locks.held (a.locked u) u (Some (record l { part = p; bounds = b })) y) (sym x.is) (record {
             client = x.alike.client;
             who = x.alike.who;
             intents = subst (ChangesBy x.life.edits map.empty) (sym before.0) x.alike.intents;
             own = before.1 ∙ x.alike.own;
             held = x.alike.held;
             opens = x.alike.opens;
-            within = x.alike.within;
+            within = more (a.locked u) x.life.edits x.alike.within;
           })
 
 -- ---- a call that a part performed

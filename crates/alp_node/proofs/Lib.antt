@@ -13,7 +13,17 @@ pub mod CommitLemmas
 pub mod CallLemmas
 pub mod IdLemmas
 pub mod ServedLemmas
+pub mod AddLemmas
 pub mod LimitLemmas
+pub mod PageLemmas
+pub mod PerformLemmas
+pub mod LookLemmas
+pub mod LockLemmas
+pub mod AskLemmas
+pub mod ConflictLemmas
+pub mod GrantLemmas
+pub mod LockCallLemmas
 pub mod NodeLemmas
 pub mod NoteLemmas
 pub mod StoreLemmas
+pub mod StartLemmas

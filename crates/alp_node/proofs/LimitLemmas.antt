@@ -11,6 +11,8 @@ use Rattle.alp_base.specs.Keys.{key_cmp}
 use Rattle.alp_base.specs.KeyLaws.{keys_total, exact_keys}
 use Rattle.alp_base.specs.Orders.{trans_cmp}
 use Rattle.alp_base.specs.declared.ids.TransId.{TransId}
+use Rattle.alp_base.specs.declared.faults.Sizes.{Sizes}
+use Rattle.alp_base.specs.declared.key.Resource.{Resource}
 use Rattle.alp_base.specs.declared.key.Key.{Key}
 use Rattle.alp_base.specs.declared.key.Key.TheVariants.{Leader, PageOf, OwnerOf}
 use Rattle.alp_files.specs.declared.cell.Cell.{Cell}
@@ -21,22 +23,26 @@ use Rattle.alp_files.specs.Counts.{used_of, file_count_of, owner_count_of, block
 use Rattle.alp_files.proofs.HistoryLemmas.{edits_map-append}
 use Rattle.alp_files.specs.declared.call.Call.{Call}
 use Rattle.alp_files.specs.declared.refusal.Refusal.{Refusal}
+use Rattle.alp_files.specs.declared.refusal.Refusal.TheVariants as refusal
+use Rattle.alp_files.specs.declared.refusal.What.TheVariants as what
+use Rattle.alp_files.specs.Locks.{Need}
 use Rattle.alp_files.proofs.SumLemmas.{weight_at, sum-insert, sum-nothing}
 use Rattle.alp_vault.specs.Counted.{AreCounts, places_with}
 use Rattle.alp_vault.proofs.CountLemmas.{counts-same, used-new}
-use Rattle.alp_journal.specs.Counts.{is_put, need_of, changed}
+use Rattle.alp_journal.specs.Counts.{is_put, need_of, changed, log_need, with_resources, has_resource}
 use Rattle.alp_vault.specs.Contents.{Contents}
 use Rattle.alp_journal.specs.Coordinator.{is_running}
 use Rattle.alp_journal.specs.Holder.{Life}
 use Rattle.alp_journal.specs.State.{State}
-use Rattle.alp_journal.specs.Answers.{is_leader, is_owner, made_of, need_at, needs_of_all, all_live, made_at, made_by_all, is_past_limit, count_refusal, locks_then, if_over}
+use Rattle.alp_journal.specs.Answers.{is_leader, is_owner, made_of, need_at, needs_of_all, all_live, made_at, made_by_all, is_past_limit, left_places, rise, count_refusal, lock_refusal, locks_then, if_over}
 use Rattle.alp_journal.specs.Alone.{Alone, alone}
-use Rattle.alp_node.specs.Bounded.{puts_on, no_bounds, sum_of, bounds_of, IsWithin}
+use Rattle.alp_node.specs.Bounded.{puts_on, no_bounds, sum_of, bounds_of}
 use Rattle.alp_node.specs.Rooms.{totals_from, total_of, IsRoomy}
 use Rattle.alp_node.specs.ServerState.{LiveMap, IsAs, IsAlike, IsLife, trans_to}
 use Rattle.alp_node.specs.declared.server_state.ServerState.{ServerState}
 use Rattle.alp_node.specs.declared.bounds.Bounds.{Bounds}
 use Rattle.alp_node.specs.declared.lives.Live.{Live}
+use Rattle.alp_node.proofs.AddLemmas.{all_puts, Adds}
 use Rattle.alp_node.proofs.CommitLemmas.{changed_most}
 use Rattle.alp_node.proofs.CountLemmas.{id_at, sum_to, less_to, weigh, within_all}
 
@@ -234,58 +240,133 @@ module _ {V : Type 0} (a : Alone) (held : Contents) (k : ServerState V) where
 
 -- ---- no refusal
 
-not_over : (m n : ℕ) → n ≤ m → nat_lt m n ≡ false
+pub not_over : (m n : ℕ) → n ≤ m → nat_lt m n ≡ false
 not_over m n le = go (nat_lt m n) refl
   where
     go : (b : Bool) → nat_lt m n ≡ b → b ≡ false
     go false e = refl
     go true e = (let wrong : m < n = ltb-true m n e in absurd (omega (arith, wrong, le)))
 
-none_four : (w x y z : Bool) (e f g h : Refusal) → w ≡ false → x ≡ false → y ≡ false → z ≡ false
-    → option_or (if_over w e) (option_or (if_over x f) (option_or (if_over y g) (if_over z h))) ≡ None
-none_four w x y z e f g h p q r s = λ i. option_or (if_over (p i) e) (option_or (if_over (q i) f) (option_or (if_over (r i) g) (if_over (s i) h)))
+risen_by : (x y z w n : ℕ) → x ≤ y + n → z ≡ w → (x - z) - (y - w) ≤ n
+risen_by x y z w n h e = omega (arith, h, e)
 
--- what a call adds is within its bounds
-pub record Adds (more : Bounds) (es : List Edit) : Type 0 where
-  pub alone : list_all is_put es ≡ true
-  pub puts : length es ≤ more.puts
-  pub leaders : puts_on is_leader es ≤ more.leaders
-  pub owners : puts_on is_owner es ≤ more.owners
+-- what more puts need more
+rise_most : (m : Cells) (es fs : List Edit) → list_all is_put es ≡ true → list_all is_put fs ≡ true → need_of m (es ++ fs) - need_of m es ≤ 2 * length fs
+rise_most m es fs first second =
+    let most : used_of (edits_map (es ++ fs) m) ≤ used_of (edits_map es m) + 2 * length fs =
+        subst (λ (n : ℕ). n ≤ used_of (edits_map es m) + 2 * length fs) (sym (ap used_of (edits_map-append es fs m))) (used_most fs (edits_map es m) second) in
+    let same : used_of (edits_map (filter (λ e. not (is_put e)) (es ++ fs)) m) ≡ used_of (edits_map (filter (λ e. not (is_put e)) es) m) =
+        ap (λ (xs : List Edit). used_of (edits_map xs m)) (no_others (es ++ fs) (all_puts es fs first second) ∙ sym (no_others es first)) in
+    risen_by (used_of (edits_map (es ++ fs) m)) (used_of (edits_map es m)) (used_of (edits_map (filter (λ e. not (is_put e)) (es ++ fs)) m)) (used_of (edits_map (filter (λ e. not (is_put e)) es) m)) (2 * length fs) most same
 
-module _ {V : Type 0} (a : Alone) (held : Contents) (k : ServerState V) (t : TransId) (l : Live) (life : Life) (c : Call) (x : Answer) (b : Bounds) where
-  -- the locks that it holds then are within its bounds
+left_most : (home used all rise total more : ℕ) → 257 + used + 2 * (total + more) ≤ home → all ≤ 2 * total → rise ≤ 2 * more → rise ≤ home - 257 - used - all
+left_most home used all rise total more fits most less = omega (arith, fits, most, less)
+
+log_most : (c d l m area : ℕ) → c ≤ d → l ≤ m → log_need d m ≤ area → log_need c l ≤ area
+log_most c d l m area cells locks fits = omega (arith, cells, locks, fits)
+
+none_two : (x y : Bool) (e f : Refusal) → x ≡ false → y ≡ false → option_or (if_over x e) (if_over y f) ≡ None
+none_two x y e f p q = λ i. option_or (if_over (p i) e) (if_over (q i) f)
+
+none_five : (v w x y z : Bool) (d e f g h : Refusal) → v ≡ false → w ≡ false → x ≡ false → y ≡ false → z ≡ false
+    → option_or (if_over v d) (option_or (option_or (if_over w e) (if_over x f)) (option_or (if_over y g) (if_over z h))) ≡ None
+none_five v w x y z d e f g h p q r s t = λ i. option_or (if_over (p i) d) (option_or (option_or (if_over (q i) e) (if_over (r i) f)) (option_or (if_over (s i) g) (if_over (t i) h)))
+
+-- each need locks one resource more at most
+pub resources_most : (ns : List Need) (rs : List Resource) → length (with_resources ns rs) ≤ length rs + length ns
+resources_most [] rs = omega arith
+resources_most (n ∷ ns) rs = go (has_resource n.0 rs) (resources_most ns)
+  where
+    go : (b : Bool) → ((xs : List Resource) → length (with_resources ns xs) ≤ length xs + length ns) → length (with_resources ns (cond {A = List Resource} b rs (rs ++ n.0 ∷ []))) ≤ length rs + length (n ∷ ns)
+    go true more = omega (arith, more rs)
+    go false more = omega (arith, more (rs ++ n.0 ∷ []), length-append rs (n.0 ∷ []))
+
+module _ {V : Type 0} (a : Alone) (held : Contents) (k : ServerState V) (t : TransId) (l : Live) (life : Life) (c : Call) (b : Bounds) where
+  -- the resources that it has locked then are within its bounds
   abbrev pub LocksWithin : Type 0
-  LocksWithin = locks_then (alone a) t life c ≤ b.locks
+  LocksWithin = locks_then (alone a) t life c ≤ l.bounds.locks + (bounds_of c).locks
 
-  past_none : (p : Key → Bool) (stand limit total more : ℕ) → made_by_all p (alone a) (all_live (alone a)) ≤ total → puts_on p x.edits ≤ more → list_all is_put x.edits ≡ true → stand + (total + more) ≤ limit
-      → is_past_limit p (alone a) life x stand limit ≡ false
-  past_none p stand limit total more all adds alone fits =
-      (λ i. nat_lt (made_of p a.holder.cells life.edits) (made_of p a.holder.cells (life.edits ++ x.edits))
-          && not_over limit (stand + made_by_all p (alone a) (all_live (alone a)) + (made_of p a.holder.cells (life.edits ++ x.edits) - made_of p a.holder.cells life.edits))
-            (omega (arith, all, adds, fits, more_made a held k p life.edits x.edits alone)) i)
-      ∙ last (nat_lt (made_of p a.holder.cells life.edits) (made_of p a.holder.cells (life.edits ++ x.edits)))
-    where
-      last : (y : Bool) → (y && false) ≡ false
-      last true = refl
-      last false = refl
+  same_area : IsAs a held k → a.sizes.area ≡ k.sizes.area
+  same_area h = ap (λ (s : Sizes). s.area) h.sizes
 
-  pub counts_suffice : IsAs a held k → k.is_down ≡ false → IsLife k.locks.held (a.locked t) t l life → IsRoomy true held.cells k l c b → Adds (bounds_of c) x.edits → LocksWithin → count_refusal (alone a) t life c x ≡ None
-  counts_suffice h up mine room adds locks =
-      let cells : held.cells ≡ a.holder.cells = h.cells up in
-      let used : room.used ≡ used_of a.holder.cells = room.stocked.used refl ∙ ap used_of cells in
-      let files : room.files ≡ file_count_of a.holder.cells = room.stocked.files refl ∙ ap file_count_of cells in
-      let owners : room.owners ≡ owner_count_of a.holder.cells = room.stocked.owners refl ∙ ap owner_count_of cells in
-      let home : a.sizes.home ≡ k.sizes.home = ap (λ s. s.home) h.sizes in
-      let area : a.sizes.area ≡ k.sizes.area = ap (λ s. s.area) h.sizes in
-      let puts : b.puts ≡ l.bounds.puts + (bounds_of c).puts = ap (λ (y : Bounds). y.puts) room.with_call in
-      let held_locks : b.locks ≡ l.bounds.locks + (bounds_of c).locks = ap (λ (y : Bounds). y.locks) room.with_call in
-      let alone_all : list_all is_put (life.edits ++ x.edits) ≡ true = all_puts life.edits x.edits mine.within.alone adds.alone in
-      let most : changed (life.edits ++ x.edits) ≤ length (life.edits ++ x.edits) = changed_most (life.edits ++ x.edits) alone_all in
-      let both : length (life.edits ++ x.edits) ≡ length life.edits + length x.edits = length-append life.edits x.edits in
-      ?
-    where
-      all_puts : (es fs : List Edit) → list_all is_put es ≡ true → list_all is_put fs ≡ true → list_all is_put (es ++ fs) ≡ true
-      all_puts [] fs e f = f
-      all_puts (Put q y ∷ es) fs e f = all_puts es fs e f
-      all_puts (Drop g ∷ es) fs e f = cc
-      all_puts (Cut g n ∷ es) fs e f = cc
+  same_home : IsAs a held k → a.sizes.home ≡ k.sizes.home
+  same_home h = ap (λ (s : Sizes). s.home) h.sizes
+
+  log_fits : (cells : ℕ) → IsAs a held k → IsRoomy true held.cells k l c b → cells ≤ l.bounds.puts + (bounds_of c).puts → LocksWithin → nat_lt a.sizes.area (log_need cells (locks_then (alone a) t life c)) ≡ false
+  log_fits cells h room most locks =
+      not_over a.sizes.area (log_need cells (locks_then (alone a) t life c))
+      (log_most cells (l.bounds.puts + (bounds_of c).puts) (locks_then (alone a) t life c) (l.bounds.locks + (bounds_of c).locks) a.sizes.area most locks
+      (subst (λ (n : ℕ). log_need (l.bounds.puts + (bounds_of c).puts) (l.bounds.locks + (bounds_of c).locks) ≤ n) (sym (same_area h)) room.fits.log))
+
+  few_changed : IsLife k.locks.held (a.locked t) t l life → changed life.edits ≤ l.bounds.puts + (bounds_of c).puts
+  few_changed mine = omega (arith, changed_most life.edits mine.within.alone, mine.within.puts)
+
+  few_locks : IsRoomy true held.cells k l c b → LocksWithin → nat_lt 1024 (locks_then (alone a) t life c) ≡ false
+  few_locks room locks = not_over 1024 (locks_then (alone a) t life c) (omega (arith, locks, room.fits.locks))
+
+  -- no lock is refused for the counts
+  pub locks_suffice : IsAs a held k → IsLife k.locks.held (a.locked t) t l life → IsRoomy true held.cells k l c b → LocksWithin → lock_refusal (alone a) t life c ≡ None
+  locks_suffice h mine room locks =
+      none_two (nat_lt 1024 (locks_then (alone a) t life c)) (nat_lt a.sizes.area (log_need (changed life.edits) (locks_then (alone a) t life c))) (refusal.TooMany what.Locks 1024)
+      (refusal.LogFull a.sizes.area (log_need (changed life.edits) (locks_then (alone a) t life c))) (few_locks room locks) (log_fits (changed life.edits) h room (few_changed mine) locks)
+
+  module _ (x : Answer) where
+    past_none : (p : Key → Bool) (stand limit total more : ℕ) → made_by_all p (alone a) (all_live (alone a)) ≤ total → puts_on p x.edits ≤ more → list_all is_put x.edits ≡ true → stand + (total + more) ≤ limit
+        → is_past_limit p (alone a) life x stand limit ≡ false
+    past_none p stand limit total more all adds alone fits =
+        (λ i. nat_lt (made_of p a.holder.cells life.edits) (made_of p a.holder.cells (life.edits ++ x.edits))
+            && not_over limit (stand + made_by_all p (alone a) (all_live (alone a)) + (made_of p a.holder.cells (life.edits ++ x.edits) - made_of p a.holder.cells life.edits))
+              (past_most stand (made_by_all p (alone a) (all_live (alone a))) total more limit (made_of p a.holder.cells (life.edits ++ x.edits)) (made_of p a.holder.cells life.edits) (puts_on p x.edits) all adds fits
+              (more_made a held k p life.edits x.edits alone)) i)
+        ∙ last (nat_lt (made_of p a.holder.cells life.edits) (made_of p a.holder.cells (life.edits ++ x.edits)))
+      where
+        past_most : (stand made total more limit later now puts : ℕ) → made ≤ total → puts ≤ more → stand + (total + more) ≤ limit → later ≤ now + puts → stand + made + (later - now) ≤ limit
+        past_most stand made total more limit later now puts all adds fits grows = omega (arith, all, adds, fits, grows)
+
+        last : (y : Bool) → (y && false) ≡ false
+        last true = refl
+        last false = refl
+
+    files_fit : IsAs a held k → k.is_down ≡ false → IsRoomy true held.cells k l c b → Adds (bounds_of c) x.edits → is_past_limit is_leader (alone a) life x (file_count_of a.holder.cells) 4096 ≡ false
+    files_fit h up room adds =
+        past_none is_leader (file_count_of a.holder.cells) 4096 (total_of k.lives).leaders (bounds_of c).leaders (all_leaders a held k h) adds.leaders adds.alone
+        (subst (λ (n : ℕ). n + ((total_of k.lives).leaders + (bounds_of c).leaders) ≤ 4096) (room.stocked.files refl ∙ ap file_count_of (h.cells up)) room.fits.files)
+
+    owners_fit : IsAs a held k → k.is_down ≡ false → IsRoomy true held.cells k l c b → Adds (bounds_of c) x.edits → is_past_limit is_owner (alone a) life x (owner_count_of a.holder.cells) 256 ≡ false
+    owners_fit h up room adds =
+        past_none is_owner (owner_count_of a.holder.cells) 256 (total_of k.lives).owners (bounds_of c).owners (all_owners a held k h) adds.owners adds.alone
+        (subst (λ (n : ℕ). n + ((total_of k.lives).owners + (bounds_of c).owners) ≤ 256) (room.stocked.owners refl ∙ ap owner_count_of (h.cells up)) room.fits.owners)
+
+    places_fit : IsAs a held k → k.is_down ≡ false → IsLife k.locks.held (a.locked t) t l life → IsRoomy true held.cells k l c b → Adds (bounds_of c) x.edits → nat_lt (left_places (alone a)) (rise (alone a) life x) ≡ false
+    places_fit h up mine room adds =
+        not_over (left_places (alone a)) (rise (alone a) life x)
+        (left_most a.sizes.home (used_of a.holder.cells) (needs_of_all (alone a) (all_live (alone a))) (rise (alone a) life x) (total_of k.lives).puts (bounds_of c).puts
+        (subst (λ (n : ℕ). 257 + n + 2 * ((total_of k.lives).puts + (bounds_of c).puts) ≤ a.sizes.home) (room.stocked.used refl ∙ ap used_of (h.cells up))
+        (subst (λ (n : ℕ). 257 + room.used + 2 * ((total_of k.lives).puts + (bounds_of c).puts) ≤ n) (sym (same_home h)) room.fits.places))
+        (all_need a held k h) (twice_most (rise (alone a) life x) (length x.edits) (bounds_of c).puts (rise_most a.holder.cells life.edits x.edits mine.within.alone adds.alone) adds.puts))
+      where
+        twice_most : (r n m : ℕ) → r ≤ 2 * n → n ≤ m → r ≤ 2 * m
+        twice_most r n m less most = omega (arith, less, most)
+
+    changed_both : IsLife k.locks.held (a.locked t) t l life → Adds (bounds_of c) x.edits → changed (life.edits ++ x.edits) ≤ l.bounds.puts + (bounds_of c).puts
+    changed_both mine adds =
+        most_of (changed (life.edits ++ x.edits)) (length (life.edits ++ x.edits)) (length life.edits) (length x.edits) l.bounds.puts (bounds_of c).puts
+        (changed_most (life.edits ++ x.edits) (all_puts life.edits x.edits mine.within.alone adds.alone)) (length-append life.edits x.edits) mine.within.puts adds.puts
+      where
+        most_of : (n m i j p q : ℕ) → n ≤ m → m ≡ i + j → i ≤ p → j ≤ q → n ≤ p + q
+        most_of n m i j p q h e f g = omega (arith, h, e, f, g)
+
+    cells_fit : IsLife k.locks.held (a.locked t) t l life → IsRoomy true held.cells k l c b → Adds (bounds_of c) x.edits → nat_lt 256 (changed (life.edits ++ x.edits)) ≡ false
+    cells_fit mine room adds = not_over 256 (changed (life.edits ++ x.edits)) (at_most (changed (life.edits ++ x.edits)) (l.bounds.puts + (bounds_of c).puts) 256 (changed_both mine adds) room.fits.cells)
+      where
+        at_most : (x y z : ℕ) → x ≤ y → y ≤ z → x ≤ z
+        at_most x y z h e = omega (arith, h, e)
+
+    -- nor is the call
+    pub counts_suffice : IsAs a held k → k.is_down ≡ false → IsLife k.locks.held (a.locked t) t l life → IsRoomy true held.cells k l c b → Adds (bounds_of c) x.edits → LocksWithin → count_refusal (alone a) t life c x ≡ None
+    counts_suffice h up mine room adds locks =
+        none_five (nat_lt 256 (changed (life.edits ++ x.edits))) (is_past_limit is_leader (alone a) life x (file_count_of a.holder.cells) 4096) (is_past_limit is_owner (alone a) life x (owner_count_of a.holder.cells) 256)
+        (nat_lt (left_places (alone a)) (rise (alone a) life x)) (nat_lt a.sizes.area (log_need (changed (life.edits ++ x.edits)) (locks_then (alone a) t life c)))
+        (refusal.TooMany what.Cells 256) (refusal.TooMany what.Files 4096) (refusal.TooMany what.Owners 256) (refusal.VolumeFull (left_places (alone a)) (rise (alone a) life x))
+        (refusal.LogFull a.sizes.area (log_need (changed (life.edits ++ x.edits)) (locks_then (alone a) t life c)))
+        (cells_fit mine room adds) (files_fit h up room adds) (owners_fit h up room adds) (places_fit h up mine room adds) (log_fits (changed (life.edits ++ x.edits)) h room (changed_both mine adds) locks)

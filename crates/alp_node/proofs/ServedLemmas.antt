@@ -24,6 +24,8 @@ use Rattle.alp_journal.specs.Answered.{GrantsFor, grants_by, grants_if, asks}
 use Rattle.alp_journal.specs.Alone.{Alone, alone}
 use Rattle.alp_journal.proofs.AloneEntries.{counted_as, refused_leads}
 use Rattle.alp_node.specs.Asks.{is_of_given}
+use Rattle.alp_node.specs.Calls.{IsServedCall, IsPageCall, IsLockCall}
+use Rattle.alp_node.specs.Served.{is_on_open}
 use Rattle.alp_node.specs.Dead.{is_dead}
 use Rattle.alp_node.specs.ServerState.{IsAs}
 use Rattle.alp_node.specs.Standings.{standing_of}
@@ -116,21 +118,19 @@ module _ {V : Type 0} (a : Alone) (before now : ℕ) (held : Contents) (k : Serv
     where
       shape_rest : Life → Option Refusal
       shape_rest l = if_over (nat_le 64 (length l.own.opens)) (refusal.TooMany what.Opens 64)
-  no_file_stepped (call.Hello name) x h some is up named own l there away so = cc
-  no_file_stepped (call.Begin seen) x h some is up named own l there away so = cc
-  no_file_stepped (call.Join u) x h some is up named own l there away so = cc
-  no_file_stepped (call.CreateFile u start choice) x h some is up named own l there away so = cc
-  no_file_stepped (call.CloseFile u n) x h some is up named own l there away so = cc
-  no_file_stepped (call.DeleteFile u n choice) x h some is up named own l there away so = cc
-  no_file_stepped (call.ReadPages u n run mode choice) x h some is up named own l there away so = cc
-  no_file_stepped (call.WritePages u n run pages choice) x h some is up named own l there away so = cc
-  no_file_stepped (call.LockPages u n run mode choice) x h some is up named own l there away so = cc
-  no_file_stepped (call.SetSize u n size choice) x h some is up named own l there away so = cc
-  no_file_stepped (call.ReadProps u n) x h some is up named own l there away so = cc
-  no_file_stepped (call.WriteProps u n change choice) x h some is up named own l there away so = cc
-  no_file_stepped (call.ReadOwner u name choice) x h some is up named own l there away so = cc
-  no_file_stepped (call.MakeOwner u name quota create choice) x h some is up named own l there away so = cc
-  no_file_stepped (call.SetQuota u name quota choice) x h some is up named own l there away so = cc
-  no_file_stepped (call.Finish u commit) x h some is up named own l there away so = cc
-  no_file_stepped (call.Outcome u) x h some is up named own l there away so = cc
-  no_file_stepped (call.Collect n) x h some is up named own l there away so = cc
+  no_file_stepped c x h some is up named own l there away so = cc
+
+-- ---- which calls are on opens
+
+pub served_page : (c : Call) → IsServedCall c → is_on_open c ≡ true → IsPageCall c
+served_page (call.ReadPages t n run mode choice) is on = is.0
+served_page (call.WritePages t n run pages choice) is on = is.0
+served_page c is on = let wrong : false ≡ true = on in cc
+
+pub served_lock : (c : Call) → IsServedCall c → is_on_open c ≡ false → IsLockCall c
+served_lock (call.CreateFile t start choice) is on = is
+served_lock (call.OpenFile t f access mode choice) is on = is
+served_lock (call.MakeOwner t name quota create choice) is on = is
+served_lock (call.ReadPages t n run mode choice) is on = cc
+served_lock (call.WritePages t n run pages choice) is on = cc
+served_lock c is on = absurd is

@@ -119,6 +119,10 @@ own_live client (Some l) b e = go (l.client == client) refl e
     go true f e = eqb-true l.client client f
     go false f e = cc
 
+pub own_standing : (client : ℕ) (o : Option Live) (b : Bool) → IsOf client o → standing_of client o b ≡ standing.Own
+own_standing client None b own = absurd own
+own_standing client (Some l) b own = ap (λ (x : Bool). cond {A = Standing} x standing.Own standing.Unknown) (eq-eqb l.client client own)
+
 -- one that timed out is not
 pub dead_gone : (client : ℕ) (o : Option Live) (b : Bool) → standing_of client o b ≡ standing.Dead → (o ≡ None) × (b ≡ true)
 dead_gone client None true e = (refl, refl)

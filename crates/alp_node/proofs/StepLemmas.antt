@@ -110,10 +110,10 @@ module _ {V : Type 0} (G : Ghosts V) (k new : ServerState V) where
   pub plain_step : (turn : Turn) (c : Call) (x : Answer) (r : Reply) (acts : List Act) → new.vault ≡ k.vault → new.server ≡ k.server → new.epoch ≡ k.epoch → new.is_down ≡ false
       → x ≡ record { kept = Some r; handed = Some r; acts = acts } → list_any is_stop acts ≡ false → ((before now : ℕ) (allowance : Allowance) → HaveCauses before now allowance acts)
       → ((n : ℕ) → IsReady n (G.serves k.vault) k → IsReady (n + 1) (G.serves k.vault) new)
-      → ((a : Alone) → IsAs a (G.held k.vault) k → Stepped a (G.faults k.vault) (G.faults k.vault) (G.held k.vault) new (event.Call turn.client k.epoch turn.number c) x)
+      → (IsTrue (G.tells k.vault) → (a : Alone) → IsAs a (G.held k.vault) k → Stepped a (G.faults k.vault) (G.faults k.vault) (G.held k.vault) new (event.Call turn.client k.epoch turn.number c) x)
       → IsStep G k new (event.Call turn.client k.epoch turn.number c) (Ok x)
   plain_step turn c x r acts vault server epoch up so none causes ready steps = record {
-    stepped = λ told a h. subst (λ (v : V). Stepped a (G.faults k.vault) (G.faults v) (G.held v) new (event.Call turn.client k.epoch turn.number c) x) (sym vault) (steps a h);
+    stepped = λ told a h. subst (λ (v : V). Stepped a (G.faults k.vault) (G.faults v) (G.held v) new (event.Call turn.client k.epoch turn.number c) x) (sym vault) (steps told a h);
     given = reply_given (G.faults k.vault) (G.faults new.vault) (G.allowance new.vault) new.is_down r acts x so (up ∙ sym none) (causes (G.faults k.vault) (G.faults new.vault) (G.allowance new.vault));
     ready = λ n h. subst (λ (v : V). IsReady (n + 1) (G.serves v) new) (sym vault) (ready n h);
     still = tt;
@@ -123,12 +123,12 @@ module _ {V : Type 0} (G : Ghosts V) (k new : ServerState V) where
 
   -- the call is refused, and the session counts it
   pub refused_step : (turn : Turn) (c : Call) (x : Answer) (f : Refusal) → IsTurn k.sessions turn → k.is_down ≡ false → new ≡ record k { sessions = counted_in k.sessions turn } → x ≡ refused_answer f []
-      → ((a : Alone) → IsAs a (G.held k.vault) k → Stepped a (G.faults k.vault) (G.faults k.vault) (G.held k.vault) (record k { sessions = counted_in k.sessions turn }) (event.Call turn.client k.epoch turn.number c) x)
+      → (IsTrue (G.tells k.vault) → (a : Alone) → IsAs a (G.held k.vault) k → Stepped a (G.faults k.vault) (G.faults k.vault) (G.held k.vault) (record k { sessions = counted_in k.sessions turn }) (event.Call turn.client k.epoch turn.number c) x)
       → IsStep G k new (event.Call turn.client k.epoch turn.number c) (Ok x)
   refused_step turn c x f is up same so steps =
       plain_step turn c x (reply.Refused f) [] (ap (λ (y : ServerState V). y.vault) same) (ap (λ (y : ServerState V). y.server) same) (ap (λ (y : ServerState V). y.epoch) same) (ap (λ (y : ServerState V). y.is_down) same ∙ up) so refl
       (λ m n b. tt) (λ n h. subst (λ (y : ServerState V). IsReady (n + 1) (G.serves k.vault) y) (sym same) (counted_ready n (G.serves k.vault) k turn is h))
-      (λ a h. subst (λ (y : ServerState V). Stepped a (G.faults k.vault) (G.faults k.vault) (G.held k.vault) y (event.Call turn.client k.epoch turn.number c) x) (sym same) (steps a h))
+      (λ told a h. subst (λ (y : ServerState V). Stepped a (G.faults k.vault) (G.faults k.vault) (G.held k.vault) y (event.Call turn.client k.epoch turn.number c) x) (sym same) (steps told a h))
 
   -- an event that is met with silence
   pub silent_step : (t : TransId) (x : Answer) (acts : List Act) → new.vault ≡ k.vault → new.server ≡ k.server → new.epoch ≡ k.epoch → new.is_down ≡ false → x ≡ record { kept = None; handed = None; acts = acts }

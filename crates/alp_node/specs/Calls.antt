@@ -34,11 +34,11 @@ IsPageCall (call.ReadPages t n r mode choice) = mode ≡ Read
 IsPageCall (call.WritePages t n r pages choice) = length pages ≡ r.count
 IsPageCall _ = ⊥
 
--- those that ask for locks, of which an open locks its file in its access's mode
+-- those that ask for locks and wait for none, of which an open locks its file in its access's mode
 abbrev pub IsLockCall : Call → Type 0
-IsLockCall (call.CreateFile t start choice) = Unit {0}
-IsLockCall (call.OpenFile t file access mode choice) = mode ≡ mode_for access
-IsLockCall (call.MakeOwner t name quota create choice) = Unit {0}
+IsLockCall (call.CreateFile t start choice) = choice ≡ Fail
+IsLockCall (call.OpenFile t file access mode choice) = (mode ≡ mode_for access) × (choice ≡ Fail)
+IsLockCall (call.MakeOwner t name quota create choice) = choice ≡ Fail
 IsLockCall _ = ⊥
 
 -- the id that the next file gets

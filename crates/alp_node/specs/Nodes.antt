@@ -18,7 +18,7 @@ use Rattle.alp_journal.specs.State.{State, opened}
 use Rattle.alp_journal.specs.Moves.{next, is_stop}
 use Rattle.alp_journal.specs.Laws.{IsLawful}
 use Rattle.alp_journal.specs.Answered.{IsAnswered, IsAnsweredEntry}
-use Rattle.alp_journal.specs.Alone.{Alone, alone}
+use Rattle.alp_journal.specs.Alone.{Alone, alone, AreOwnEvents}
 use Rattle.alp_node.specs.declared.node.Node.{Node}
 use Rattle.alp_node.specs.ServerState.{IsAs, IsReady}
 use Rattle.alp_node.specs.Halts.{HaveCauses}
@@ -42,11 +42,12 @@ pub record IsSoundStart (o : Start) : Type 0 where
   pub sizes : AreSized (map.get o.cells)
 
 -- The journal is lawful, each of its entries has its cause, and the server keeps what its state says, with this in its
--- vault: a server that runs alone. The files were sound when it was started.
+-- vault: a server that runs alone, and is given calls and timeouts. The files were sound when it was started.
 pub record IsRight {V : Type 0} (o : Start) (held : Contents) (n : Node V) : Type 0 where
   pub opening : IsSoundStart o
   pub lawful : IsLawful o n.journal
   pub caused : IsAnswered o n.journal
+  pub own : AreOwnEvents n.journal
   pub state : Alone
   pub says : state_of o n.journal ≡ alone state
   pub kept : IsAs state held n.kept

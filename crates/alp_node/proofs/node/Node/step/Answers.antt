@@ -5,16 +5,14 @@ use Rattle.alp_node.specs.declared.server_state.ServerState.{ServerState}
 use Rattle.alp_node.specs.declared.node.Node.{Node}
 use Rattle.alp_node.specs.Nodes.{IsConsistent, Answered, start_in, state_of}
 use Rattle.alp_node.specs.Steps.{IsSeated, IsTimely}
-use Rattle.alp_node.proofs.NodeLemmas.{step_kept, still_kept, caused_so}
+use Rattle.alp_node.proofs.NodeLemmas.{served_own, right_sound, step_kept, still_kept, caused_so}
 use Rattle.alp_node.proofs.node.Node.step.Goals as goal
 
 pub answer-requires-clause-known : goal.answer-requires-clause-known
 answer-requires-clause-known g c tells = ((c.requires.kept.right tells).state, (c.requires.kept.right tells).kept)
 
--- open: what each live part intends leaves well-formed files. It follows from the laws on a sound start, as alp_history proves
--- of one server (`OneServer`, `HeldAlong`); it is to be proved of journals whose events are calls and timeouts.
 pub answer-requires-clause-sound : goal.answer-requires-clause-sound
-answer-requires-clause-sound g c tells = ?
+answer-requires-clause-sound g c tells = right_sound g.V.Vault c.args.self.now (g.V.Vault.held c.args.self.now.kept.vault) (c.requires.kept.right tells) c.if-is_down.false
 
 pub returns-in-Ok-clause-kept : goal.returns-in-Ok-clause-kept
 returns-in-Ok-clause-kept g c =
@@ -22,7 +20,7 @@ returns-in-Ok-clause-kept g c =
     let n : Node g.row.V.Denot = record { opening = c.args.self.now.opening; kept = c.answer.new.self; journal = c.enter.new.self.journal } in
     let same : n ≡ c.enter.new.self = (λ i. record n { opening = sym c.enter.ensures.kept.1 i; kept = sym c.enter.ensures.kept.0 i }) in
     subst (IsConsistent G) same
-    (step_kept G c.args.self.now n c.args.event c.in-Ok.answer c.requires.kept refl c.answer.ensures.seat.server c.answer.ensures.telling
+    (step_kept G c.args.self.now n c.args.event c.in-Ok.answer c.requires.kept (served_own c.args.self.now.kept c.args.event c.requires.served) refl c.answer.ensures.seat.server c.answer.ensures.telling
     c.in-Ok.ensures.ready c.in-Ok.ensures.stepped (c.enter.ensures.filled c.args.self.now.journal (c.in_ok-make_place.ensures.ok.0) (c.in_ok-make_place.ensures.ok.1)))
 
 pub returns-in-Ok-clause-answered : goal.returns-in-Ok-clause-answered

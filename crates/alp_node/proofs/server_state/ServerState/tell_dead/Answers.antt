@@ -25,5 +25,5 @@ returns g c =
     (ap (λ (y : ServerState _). y.epoch) same) (ap (λ (y : ServerState _). y.is_down) same ∙ c.requires.up) c.refuse.ensures.answer refl (λ m n b. tt)
     (λ n h. subst (λ (y : ServerState _). IsReady (n + 1) (G.serves k.vault) y) (sym same)
     (buried_ready (n + 1) (G.serves k.vault) (record k { sessions = counted_in k.sessions turn }) (without_part turn.client c.args.trans k.dead) (counted_ready n (G.serves k.vault) k turn c.requires.turn h)))
-    (λ a h. subst (λ (y : ServerState _). Stepped a faults faults (G.held k.vault) y (event.Call turn.client k.epoch turn.number (call.Finish c.args.trans c.args.commit)) c.refuse.result) (sym same)
+    (λ told a h. subst (λ (y : ServerState _). Stepped a faults faults (G.held k.vault) y (event.Call turn.client k.epoch turn.number (call.Finish c.args.trans c.args.commit)) c.refuse.result) (sym same)
     (dead_stepped a faults faults (G.held k.vault) k turn c.args.trans c.args.commit c.refuse.result h c.requires.turn c.requires.up c.requires.here c.requires.dead c.refuse.ensures.answer))

@@ -19,7 +19,7 @@ use Rattle.alp_files.proofs.HeldLemmas.{leaves-turned}
 use Rattle.alp_files.proofs.FrameLemmas.{program-made, files-changed, made-after, parts-beside, none-given}
 use Rattle.alp_files.proofs.CoverLemmas.{covered-more, covered-push, changes-push, joined-more, granted-more, granted-intended, with_made-intended, done-holds}
 use Rattle.alp_journal.specs.Holder.{Life, no_locks, after_done}
-use Rattle.alp_history.proofs.HistoryOrder.{Item, put_item, All, AreOthers, IsClear, put-all}
+use Rattle.alp_journal.proofs.HistoryOrder.{Item, put_item, All, AreOthers, IsClear, put-all}
 
 -- a part with its calls and its locks
 abbrev pub part_of : Life → Locked

@@ -28,11 +28,11 @@ use Rattle.alp_journal.specs.Ids.{same_trans, stamp_cmp}
 use Rattle.alp_journal.specs.Deeds.{Deed, Begins, Joins, Enters, Quits, Aborts, Grants, Performs, Releases, Readies, Applies, Registers, Finishes, Hears, Decides, Ends, Acknowledges, Forgets, Restarts}
 use Rattle.alp_journal.specs.Holder.{Holder, Life, no_locks, new_life, emptied, is_part, lapsed, view_in, answer_in, held_for, with_life, grants, after_done, performs, readies, in_history, commits, if_ready, holder_after}
 use Rattle.alp_journal.specs.Laws.{DoLivesAgree}
-use Rattle.alp_history.specs.Holding.{IsCalled, IsNewStamp, IsTimely, HasNotVoted, MayDo}
+use Rattle.alp_journal.specs.Holding.{IsCalled, IsNewStamp, IsTimely, HasNotVoted, MayDo}
 use Rattle.alp_journal.proofs.IdLemmas.{same_trans-true}
-use Rattle.alp_history.proofs.HistoryOrder.{Item, put_item, All, AreGood, end_of, right-alike, good-alike, sized-after as sized-part, AreRising, AreOthers, IsClear, map-all, others-earlier, put-all, put-rising, IsPut, put-good, put-left, left_by_items, decided_items, history_of, put-decided, good-serial, good-end}
-use Rattle.alp_history.proofs.LeftBehind.{left_along, part-changes, left-alike}
-use Rattle.alp_history.proofs.LifeLemmas.{part_of, now_at, IsVoteClear, IsGoodLife, none-intended, idle-life, granted-life, given-before, life-given, performed-life, other-life}
+use Rattle.alp_journal.proofs.HistoryOrder.{Item, put_item, All, AreGood, end_of, right-alike, good-alike, sized-after as sized-part, AreRising, AreOthers, IsClear, map-all, others-earlier, put-all, put-rising, IsPut, put-good, put-left, left_by_items, decided_items, history_of, put-decided, good-serial, good-end}
+use Rattle.alp_journal.proofs.LeftBehind.{left_along, part-changes, left-alike}
+use Rattle.alp_journal.proofs.LifeLemmas.{part_of, now_at, IsVoteClear, IsGoodLife, none-intended, idle-life, granted-life, given-before, life-given, performed-life, other-life}
 
 -- ---- changes that an earlier run made ready
 

@@ -21,7 +21,7 @@ use Rattle.alp_files.proofs.SwapLemmas.{AreAlike, part-alike}
 use Rattle.alp_files.specs.History as history
 use Rattle.std.specs.Cmp.{nat_cmp_is}
 use Rattle.alp_journal.specs.Ids.{stamp_cmp}
-use Rattle.alp_history.proofs.LeftBehind.{left_along, left-alike}
+use Rattle.alp_journal.proofs.LeftBehind.{left_along, left-alike}
 
 -- a part that was applied, with its stamp
 abbrev pub Item : Type 0

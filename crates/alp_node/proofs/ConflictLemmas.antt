@@ -1,0 +1,373 @@
+-- who stands in the way of a call that asks for locks, as the journal tells it
+use Rattle.std.proofs.Math.Dec.{T}
+use Rattle.std.specs.Prelude.{cond, Bool, true, false, not, ◌==◌, ◌&&◌, Option, None, Some, filter}
+use Rattle.std.specs.Option.{option_eq}
+use Rattle.std.specs.List.{AllByRecursion}
+use Rattle.std.specs.declared.cmp.Ordering.{Ordering}
+use Rattle.std.specs.declared.cmp.Ordering.TheVariants.{Less, Equal, Greater}
+use Rattle.std.specs.Ordering.{eq_by_cmp, ordering_reverse, is_eq, is_lt, is_gt}
+use Rattle.std.specs.BTreeMap.Range.{IsLeBy}
+use Rattle.std.specs.Cmp.{tied_itself}
+use Rattle.std.specs.FinMap as map
+use Rattle.std.specs.FinMap.{get-entries, entries_sorted, find as found}
+use Rattle.std.specs.FinMap.Entries.{below_all}
+use Rattle.std.proofs.Common.{◌≡◌, ℕ, List, [], ◌∷◌, ◌++◌, length, refl, sym, ◌∙◌, ap, subst}
+use Rattle.alp_base.specs.declared.ids.FileId.{FileId}
+use Rattle.alp_base.specs.declared.ids.TransId.{TransId}
+use Rattle.alp_base.specs.declared.key.Resource.{Resource}
+use Rattle.alp_base.specs.declared.key.Resource.TheVariants.{Whole}
+use Rattle.alp_modes.specs.declared.Mode.{Mode}
+use Rattle.alp_modes.specs.declared.Mode.TheVariants.{IntendRead, IntendWrite, Read, Update, ReadIntendWrite, Write}
+use Rattle.alp_modes.specs.Modes.{covers_of}
+use Rattle.alp_modes.specs.contracts.ModePartialEq.TheImpl as mode_eq
+use Rattle.alp_modes.proofs.ModeLemmas.{join_by_cases}
+use Rattle.alp_base.specs.Orders.{trans_cmp, resource_cmp, transactions_total, resources_total, exact_resources}
+use Rattle.alp_files.specs.Holdings.{join_held, agree_held, covers_held, held_by, DoAgree}
+use Rattle.alp_files.proofs.CoverLemmas.{right-above}
+use Rattle.alp_files.proofs.HoldingLemmas.{agree-turned, join_held-assoc, held_by-append, none-right}
+use Rattle.alp_files.specs.declared.call.Call.{Call}
+use Rattle.alp_files.specs.declared.call.Call.TheVariants as call
+use Rattle.alp_files.specs.Locks.{Need}
+use Rattle.alp_queue.specs.Rises.{Held, is_raised}
+use Rattle.alp_locks.specs.Tables.{Holders, held_of, holding, IsAgreeing}
+use Rattle.alp_locks.specs.Asks.{blocker, joined, risen}
+use Rattle.alp_locks.specs.Laws.{IsClear, IsFirstInWay}
+use Rattle.alp_locks.proofs.HeldLemmas.{tied}
+use Rattle.alp_locks.proofs.FreeLemmas.{granted-agrees, option-same, some-none, some-same}
+use Rattle.alp_locks.proofs.HolderLemmas.{names-first}
+use Rattle.alp_locks.proofs.LawLemmas.{joined-holds, no-rise}
+use Rattle.alp_locks.proofs.SoundLemmas.{each-middle, each-filter, each-more, passing}
+use Rattle.alp_vault.specs.Contents.{Contents}
+use Rattle.alp_journal.specs.Holder.{Life, view_in, held_for}
+use Rattle.alp_journal.specs.Alone.{Alone}
+use Rattle.alp_journal.specs.Answers.{IsInWay, IsLeastHolder}
+use Rattle.alp_node.specs.Asks.{asks_of, asks_made}
+use Rattle.alp_node.specs.Calls.{IsLockCall}
+use Rattle.alp_node.specs.ServerState.{IsAs, IsAlike, IsLife}
+use Rattle.alp_node.specs.declared.server_state.ServerState.{ServerState}
+use Rattle.alp_node.specs.declared.lives.Live.{Live}
+use Rattle.alp_node.proofs.LockLemmas.{itself, asks_right}
+use Rattle.alp_node.proofs.MapLemmas.{tied_same}
+use Rattle.alp_node.proofs.ReadyLemmas.{turned}
+
+-- ---- lists whose keys rise
+
+left_of : (a b : Bool) → T (a && b) → T a
+left_of true b h = tt
+left_of false b h = absurd h
+
+right_of : (a b : Bool) → T (a && b) → T b
+right_of true b h = h
+right_of false b h = absurd h
+
+less : (o : Ordering) → T (is_lt o) → o ≡ Less
+less Less h = refl
+less Equal h = absurd h
+less Greater h = absurd h
+
+lt_less : (o : Ordering) → is_lt o ≡ true → o ≡ Less
+lt_less Less h = refl
+lt_less Equal h = cc
+lt_less Greater h = cc
+
+abbrev Sorted : List Need → Type 0
+Sorted es = T (map.is_sorted resource_cmp es)
+
+abbrev Below : Resource → List Need → Type 0
+Below r es = T (below_all resource_cmp r es)
+
+-- nothing is found below all keys
+below_none : (r : Resource) (es : List Need) → Below r es → found resource_cmp r es ≡ None
+below_none r [] h = refl
+below_none r (e ∷ es) h =
+    ap (λ (o : Ordering). cond (is_eq o) (Some e.1) (found resource_cmp r es)) (less (resource_cmp r e.0) (left_of (is_lt (resource_cmp r e.0)) (below_all resource_cmp r es) h))
+    ∙ below_none r es (right_of (is_lt (resource_cmp r e.0)) (below_all resource_cmp r es) h)
+
+below_less : (q r : Resource) (es : List Need) → resource_cmp q r ≡ Less → Below r es → Below q es
+below_less q r [] p h = tt
+below_less q r (e ∷ es) p h =
+    go (resource_cmp q e.0) (resources_total.trans q r e.0 p (less (resource_cmp r e.0) (left_of (is_lt (resource_cmp r e.0)) (below_all resource_cmp r es) h)))
+    (below_less q r es p (right_of (is_lt (resource_cmp r e.0)) (below_all resource_cmp r es) h))
+  where
+    go : (o : Ordering) → o ≡ Less → Below q es → T (is_lt o && below_all resource_cmp q es)
+    go Less e t = t
+    go Equal e t = cc
+    go Greater e t = cc
+
+-- each is found at its key
+all_found : (es : List Need) → Sorted es → AllByRecursion (λ n. found resource_cmp n.0 es ≡ Some n.1) es
+all_found [] h = tt
+all_found (e ∷ es) h = (
+  ap (λ (o : Ordering). cond (is_eq o) (Some e.1) (found resource_cmp e.0 es)) (tied_itself resources_total e.0),
+  behind es (all_found es (right_of (below_all resource_cmp e.0 es) (map.is_sorted resource_cmp es) h)),
+)
+  where
+    other : (n : Need) → found resource_cmp n.0 es ≡ Some n.1 → (b : Bool) → eq_by_cmp resource_cmp n.0 e.0 ≡ b → cond b (Some e.1) (found resource_cmp n.0 es) ≡ Some n.1
+    other n at false same = at
+    other n at true same =
+        let it : n.0 ≡ e.0 = exact_resources n.0 e.0 (tied (resource_cmp n.0 e.0) same) in
+        absurd (some-none n.1 (sym at ∙ ap (λ (r : Resource). found resource_cmp r es) it ∙ below_none e.0 es (left_of (below_all resource_cmp e.0 es) (map.is_sorted resource_cmp es) h)))
+
+    behind : (ns : List Need) → AllByRecursion (λ n. found resource_cmp n.0 es ≡ Some n.1) ns → AllByRecursion (λ n. found resource_cmp n.0 (e ∷ es) ≡ Some n.1) ns
+    behind [] t = tt
+    behind (n ∷ ns) t = (other n t.0 (eq_by_cmp resource_cmp n.0 e.0) refl, behind ns t.1)
+
+first_same : (x y : Need) (xs ys : List Need) → x ∷ xs ≡ y ∷ ys → x ≡ y
+first_same x y xs ys e = cc
+
+rest_same : (x y : Need) (xs ys : List Need) → x ∷ xs ≡ y ∷ ys → xs ≡ ys
+rest_same x y xs ys e = cc
+
+-- what passes at a lesser key than one that passes stands before it
+stands_before : (P : Need → Type 0) (p : Need → Bool) (es : List Need) → Sorted es → (before : List Need) (n : Need) (after : List Need) → filter p es ≡ before ++ n ∷ after → AllByRecursion P before
+    → (r : Resource) (m : Mode) → resource_cmp r n.0 ≡ Less → found resource_cmp r es ≡ Some m → p (r, m) ≡ true → P (r, m)
+stands_before P p [] sorted before n after whole all r m less_is at passes = absurd (some-none m (sym at))
+stands_before P p (e ∷ es) sorted before n after whole all r m less_is at passes =
+    go (p e) refl (eq_by_cmp resource_cmp r e.0) refl before whole all at (λ b w k f. stands_before P p es (right_of (below_all resource_cmp e.0 es) (map.is_sorted resource_cmp es) sorted) b n after w k r m less_is f passes)
+  where
+    -- it is the first one
+    same : eq_by_cmp resource_cmp r e.0 ≡ true → Some e.1 ≡ Some m → e ≡ (r, m)
+    same is value = λ i. (sym (exact_resources r e.0 (tied (resource_cmp r e.0) is)) i, some-same e.1 m value i)
+
+    go : (b : Bool) → p e ≡ b → (c : Bool) → eq_by_cmp resource_cmp r e.0 ≡ c → (bs : List Need) → cond b (e ∷ filter p es) (filter p es) ≡ bs ++ n ∷ after → AllByRecursion P bs
+        → cond c (Some e.1) (found resource_cmp r es) ≡ Some m
+        → ((xs : List Need) → filter p es ≡ xs ++ n ∷ after → AllByRecursion P xs → found resource_cmp r es ≡ Some m → P (r, m)) → P (r, m)
+    go false not_yet true is bs w k f later = let wrong : true ≡ false = sym passes ∙ sym (ap p (same is f)) ∙ not_yet in cc
+    go false not_yet false is bs w k f later = later bs w k f
+    go true passed c is [] w k f later =
+        let first : e ≡ n = first_same e n (filter p es) after w in
+        let low : resource_cmp r e.0 ≡ Less = ap (λ (x : Need). resource_cmp r x.0) first ∙ less_is in
+        let gone : found resource_cmp r (e ∷ es) ≡ None =
+        ap (λ (o : Ordering). cond (is_eq o) (Some e.1) (found resource_cmp r es)) low ∙ below_none r es (below_less r e.0 es low (left_of (below_all resource_cmp e.0 es) (map.is_sorted resource_cmp es) sorted)) in
+        absurd (some-none m (sym at ∙ gone))
+    go true passed true is (x ∷ xs) w k f later =
+        subst P (sym (first_same e x (filter p es) (xs ++ n ∷ after) w) ∙ same is f) k.0
+    go true passed false is (x ∷ xs) w k f later =
+        later xs (rest_same e x (filter p es) (xs ++ n ∷ after) w) k.1 f
+
+-- ---- the first and least in the way of what is asked
+
+-- the order of transactions, turned
+no_greater : (a b : TransId) → (trans_cmp b a ≡ Less → ⊥) → IsLeBy trans_cmp a b
+no_greater a b not_less = ap is_gt (transactions_total.antisymm a b) ∙ go (trans_cmp b a) not_less
+  where
+    go : (o : Ordering) → (o ≡ Less → ⊥) → is_gt (ordering_reverse o) ≡ false
+    go Less no_less = absurd (no_less refl)
+    go Equal no_less = refl
+    go Greater no_less = refl
+
+module _ (parts : Holders) (t : TransId) (asks : List Need) where
+  -- what the asker would hold
+  abbrev pub then_held : Held
+  then_held = joined (held_of parts t) asks
+
+  abbrev rising : List Need
+  rising = risen (held_of parts t) asks
+
+  -- another's lock does not agree with that
+  abbrev pub Disagrees : Resource → TransId → Type 0
+  Disagrees r u = (eq_by_cmp trans_cmp t u ≡ false) × (agree_held (holding parts u r) (map.get then_held r) ≡ false)
+
+  pub record IsFirstOf (u : TransId) : Type 0 where
+    pub on : Resource
+    pub stands : Disagrees on u
+    pub least : (v : TransId) → Disagrees on v → IsLeBy trans_cmp u v
+    pub first : (r : Resource) (v : TransId) → is_lt (resource_cmp r on) ≡ true → Disagrees r v → ⊥
+
+  -- what rises stands there then
+  at_rising : (before : List Need) (n : Need) (after : List Need) → rising ≡ before ++ n ∷ after → map.get then_held n.0 ≡ Some n.1
+  at_rising before n after whole =
+      let es : List Need = map.entries then_held in
+      let all : AllByRecursion (λ (x : Need). found resource_cmp x.0 es ≡ Some x.1) rising =
+      each-filter (λ (x : Need). found resource_cmp x.0 es ≡ Some x.1) (is_raised (held_of parts t)) es (all_found es (entries_sorted then_held)) in
+      get-entries then_held n.0 ∙ (each-middle (λ (x : Need). found resource_cmp x.0 es ≡ Some x.1) before n after (subst (AllByRecursion (λ (x : Need). found resource_cmp x.0 es ≡ Some x.1)) whole all)).0
+
+  -- nobody is in the way on an earlier resource
+  none_earlier : IsAgreeing parts → (u : TransId) (way : IsFirstInWay parts t rising u) (r : Resource) (v : TransId) → is_lt (resource_cmp r way.need.0) ≡ true → Disagrees r v → (x : Option Mode) → map.get then_held r ≡ x → ⊥
+  none_earlier agreeing u way r v low d None at =
+      let wrong : true ≡ false = sym (agree-turned (holding parts v r) None) ∙ ap (agree_held (holding parts v r)) (sym at) ∙ d.1 in cc
+  none_earlier agreeing u way r v low d (Some m) at = go (is_raised (held_of parts t) (r, m)) refl
+    where
+      away : agree_held (holding parts v r) (Some m) ≡ false
+      away = ap (agree_held (holding parts v r)) (sym at) ∙ d.1
+
+      go : (b : Bool) → is_raised (held_of parts t) (r, m) ≡ b → ⊥
+      go true e =
+          stands_before (IsClear parts t) (is_raised (held_of parts t)) (map.entries then_held) (entries_sorted then_held) way.before way.need way.after way.whole way.clear r m
+          (lt_less (resource_cmp r way.need.0) low) (sym (get-entries then_held r) ∙ at) e v (d.0, away)
+      go false e =
+          let own : holding parts t r ≡ Some m = option-same (holding parts t r) m e in
+          let wrong : true ≡ false = sym (agreeing t v d.0 r) ∙ agree-turned (holding parts t r) (holding parts v r) ∙ ap (agree_held (holding parts v r)) own ∙ away in cc
+
+  pub first_of : IsAgreeing parts → (u : TransId) → blocker parts t rising ≡ Some u → IsFirstOf u
+  first_of agreeing u named =
+      let way : IsFirstInWay parts t rising u = names-first parts t rising u named in
+      let there : map.get then_held way.need.0 ≡ Some way.need.1 = at_rising way.before way.need way.after way.whole in
+      record {
+        on = way.need.0;
+        stands = (way.inway.0, ap (agree_held (holding parts u way.need.0)) there ∙ way.inway.1);
+        least = λ v d. no_greater u v (way.least v (d.0, sym (ap (agree_held (holding parts v way.need.0)) there) ∙ d.1));
+        first = λ r v low d. none_earlier agreeing u way r v low d (map.get then_held r) refl;
+      }
+
+  -- where what the asker would hold agrees with all, nobody is in the way
+  pub none_in_way : ((u : TransId) → eq_by_cmp trans_cmp t u ≡ false → DoAgree (map.get then_held) (holding parts u)) → blocker parts t rising ≡ None
+  none_in_way agree = go (blocker parts t rising) refl
+    where
+      go : (x : Option TransId) → blocker parts t rising ≡ x → x ≡ None
+      go None e = refl
+      go (Some u) e =
+          let way : IsFirstInWay parts t rising u = names-first parts t rising u e in
+          let there : map.get then_held way.need.0 ≡ Some way.need.1 = at_rising way.before way.need way.after way.whole in
+          let mine : Option Mode = map.get then_held way.need.0 in
+          let theirs : Option Mode = holding parts u way.need.0 in
+          let wrong : true ≡ false = sym (agree u way.inway.0 way.need.0) ∙ agree-turned mine theirs ∙ ap (agree_held theirs) there ∙ way.inway.1 in
+          cc
+
+-- ---- the lock of a file that is being made
+
+module _ (parts : Holders) (t : TransId) (id : FileId) where
+  -- where nobody holds the file, its lock agrees with all that is held
+  with_file : (u : TransId) (asks : List Need) → holding parts u (Whole id) ≡ None → DoAgree (map.get (then_held parts t asks)) (holding parts u)
+      → DoAgree (map.get (then_held parts t (asks ++ (Whole id, Write) ∷ []))) (holding parts u)
+  with_file u asks none agree r =
+      let file : List Need = (Whole id, Write) ∷ [] in
+      let h : Held = held_of parts t in
+      let mine : Option Mode = map.get (joined h asks) r in
+      let more : map.get (joined h (asks ++ file)) r ≡ join_held mine (held_by file r) =
+      joined-holds (asks ++ file) h r ∙ ap (join_held (map.get h r)) (held_by-append asks file r) ∙ sym (join_held-assoc (map.get h r) (held_by asks r) (held_by file r))
+      ∙ ap (λ (x : Option Mode). join_held x (held_by file r)) (sym (joined-holds asks h r)) in
+      ap (λ (x : Option Mode). agree_held x (holding parts u r)) more ∙ go (eq_by_cmp resource_cmp r (Whole id)) refl
+    where
+      go : (b : Bool) → eq_by_cmp resource_cmp r (Whole id) ≡ b → agree_held (join_held (map.get (joined (held_of parts t) asks) r) (cond b (Some Write) None)) (holding parts u r) ≡ true
+      go true e =
+          let free : holding parts u r ≡ None = ap (holding parts u) (exact_resources r (Whole id) (tied (resource_cmp r (Whole id)) e)) ∙ none in
+          let mine : Option Mode = join_held (map.get (joined (held_of parts t) asks) r) (Some Write) in
+          ap (agree_held mine) free ∙ agree-turned mine None
+      go false e = ap (λ (x : Option Mode). agree_held x (holding parts u r)) (none-right (map.get (joined (held_of parts t) asks) r)) ∙ agree r
+
+  made_agrees : (u : TransId) (c : Call) → holding parts u (Whole id) ≡ None → DoAgree (map.get (then_held parts t (asks_of c))) (holding parts u) → DoAgree (map.get (then_held parts t (asks_made id c))) (holding parts u)
+  made_agrees u (call.CreateFile x start choice) none agree = with_file u (asks_of (call.CreateFile x start choice)) none agree
+  made_agrees u c none agree = agree
+
+  -- so whoever has the way free for the call has it for the file
+  pub made_free : (c : Call) → IsAgreeing parts → ((u : TransId) → holding parts u (Whole id) ≡ None) → blocker parts t (risen (held_of parts t) (asks_of c)) ≡ None → blocker parts t (risen (held_of parts t) (asks_made id c)) ≡ None
+  made_free c agreeing none free = none_in_way parts t (asks_made id c) (λ u apart. made_agrees u c (none u) (granted-agrees parts t (then_held parts t (asks_of c)) agreeing free u apart))
+
+-- ---- as the journal tells it
+
+-- what others hold
+pub held_elsewhere : (locks : Holders) (rs : List Resource) (u : TransId) (y : Option Live) (m : Life) → IsAlike locks rs u y (Some m) → (q : Resource) → m.held q ≡ holding locks u q
+held_elsewhere locks rs u None m wrong q = absurd wrong
+held_elsewhere locks rs u (Some z) m life q = life.held q
+
+-- who holds a lock is live
+record HasLife (locks : Holders) (u : TransId) (x : Option Life) : Type 0 where
+  life : Life
+  is : x ≡ Some life
+  held : (q : Resource) → life.held q ≡ holding locks u q
+
+holder_lives : (locks : Holders) (rs : List Resource) (u : TransId) (y : Option Live) (x : Option Life) → IsAlike locks rs u y x → (r : Resource) (b : Option Mode) → agree_held (holding locks u r) b ≡ false → HasLife locks u x
+holder_lives locks rs u None None alike r b e = let wrong : true ≡ false = ap (λ (z : Option Mode). agree_held z b) (sym (alike r)) ∙ e in cc
+holder_lives locks rs u (Some l) (Some life) alike r b e = record { life = life; is = refl; held = alike.held }
+holder_lives locks rs u None (Some life) alike r b e = absurd alike
+holder_lives locks rs u (Some l) None alike r b e = absurd alike
+
+module _ {V : Type 0} (a : Alone) (held : Contents) (k : ServerState V) (t : TransId) (l : Live) (life : Life) (c : Call) (h : IsAs a held k) (mine : IsLife k.locks.held (a.locked t) t l life) (kind : IsLockCall c) where
+  -- what the part would hold is what the table's plan leaves
+  pub would_hold : (q : Resource) → held_for a.holder life c q ≡ map.get (then_held k.locks.held t (asks_of c)) q
+  would_hold q =
+      ap (λ (ns : List Need). join_held (life.held q) (held_by ns q)) (asks_right life.held (view_in a.holder life) life.own c kind)
+      ∙ ap (λ (y : Option Mode). join_held y (held_by (asks_of c) q)) (mine.held q) ∙ sym (joined-holds (asks_of c) (held_of k.locks.held t) q)
+
+  in_way : (r : Resource) (u : TransId) → Disagrees k.locks.held t (asks_of c) r u → IsInWay a.holder t life c r u
+  in_way r u d =
+      let x : HasLife k.locks.held u (a.holder.lives u) = holder_lives k.locks.held (a.locked u) u (map.get k.lives u) (a.holder.lives u) (h.lives u) r (map.get (then_held k.locks.held t (asks_of c)) r) d.1 in
+      record { life = x.life; live = x.is; other = turned t u (sym (tied_same t u) ∙ d.0); disagree = (λ i. agree_held (x.held r i) (would_hold r i)) ∙ d.1 }
+
+  disagrees : (r : Resource) (u : TransId) → IsInWay a.holder t life c r u → Disagrees k.locks.held t (asks_of c) r u
+  disagrees r u w =
+      let is : w.life.held r ≡ holding k.locks.held u r = held_elsewhere k.locks.held (a.locked u) u (map.get k.lives u) w.life (subst (λ (y : Option Life). IsAlike k.locks.held (a.locked u) u (map.get k.lives u) y) w.live (h.lives u)) r in
+      (tied_same t u ∙ turned u t w.other, (λ i. agree_held (sym is i) (sym (would_hold r) i)) ∙ w.disagree)
+
+  -- who is named is the least in the way on the first resource
+  pub least_holder : IsAgreeing k.locks.held → (u : TransId) → blocker k.locks.held t (risen (held_of k.locks.held t) (asks_of c)) ≡ Some u → IsLeastHolder a.holder t life c u
+  least_holder agreeing u named =
+      let f : IsFirstOf k.locks.held t (asks_of c) u = first_of k.locks.held t (asks_of c) agreeing u named in
+      record {
+        on = f.on;
+        stands = in_way f.on u f.stands;
+        least = λ v w. f.least v (disagrees f.on v w);
+        first = λ r v low w. f.first r v low (disagrees r v w);
+      }
+
+-- ---- whether anything is asked
+
+-- each mode that would be left stands there then
+all_joined : (h : Held) (ns : List Need) → AllByRecursion (λ (x : Need). map.get (joined h ns) x.0 ≡ Some x.1) (risen h ns)
+all_joined h ns =
+    each-filter (λ (x : Need). map.get (joined h ns) x.0 ≡ Some x.1) (is_raised h) (map.entries (joined h ns))
+    (each-more (λ (x : Need). found resource_cmp x.0 (map.entries (joined h ns)) ≡ Some x.1) (λ (x : Need). map.get (joined h ns) x.0 ≡ Some x.1) (λ x at. get-entries (joined h ns) x.0 ∙ at) (map.entries (joined h ns))
+    (all_found (map.entries (joined h ns)) (entries_sorted (joined h ns))))
+
+raised_not : (h : Held) (n : Need) → map.get h n.0 ≡ Some n.1 → is_raised h n ≡ false
+raised_not h n at = ap (λ (x : Option Mode). not (option_eq (mode_eq.ghosts).eq x (Some n.1))) at ∙ ap not (itself_mode n.1)
+  where
+    itself_mode : (m : Mode) → (mode_eq.ghosts).eq m m ≡ true
+    itself_mode IntendRead = refl
+    itself_mode IntendWrite = refl
+    itself_mode Read = refl
+    itself_mode Update = refl
+    itself_mode ReadIntendWrite = refl
+    itself_mode Write = refl
+
+covers_own : (m : Mode) → covers_of m m ≡ true
+unfolding covers_of
+covers_own IntendRead = refl
+covers_own IntendWrite = refl
+covers_own Read = refl
+covers_own Update = refl
+covers_own ReadIntendWrite = refl
+covers_own Write = refl
+
+join_covered : (x : Option Mode) (m : Mode) → covers_held x m ≡ true → join_held x (Some m) ≡ x
+join_covered None m h = cc
+join_covered (Some b) m h = ap Some (join_by_cases b m ∙ ap (λ (e : Bool). cond {A = Mode} e b (cond {A = Mode} (covers_of m b) m ReadIntendWrite)) h)
+
+module _ (h : Held) (q : Resource) (m : Mode) where
+  abbrev one : List Need
+  one = (q, m) ∷ []
+
+  at_itself : held_by one q ≡ Some m
+  at_itself = ap (λ (b : Bool). cond {A = Option Mode} b (Some m) None) (itself q)
+
+  -- what is covered does not rise
+  joined_same : covers_held (map.get h q) m ≡ true → (r : Resource) → map.get (joined h one) r ≡ map.get h r
+  joined_same covered r = joined-holds one h r ∙ go (eq_by_cmp resource_cmp r q) refl
+    where
+      go : (b : Bool) → eq_by_cmp resource_cmp r q ≡ b → join_held (map.get h r) (cond {A = Option Mode} b (Some m) None) ≡ map.get h r
+      go true e = join_covered (map.get h r) m (ap (λ (x : Resource). covers_held (map.get h x) m) (exact_resources r q (tied (resource_cmp r q) e)) ∙ covered)
+      go false e = none-right (map.get h r)
+
+  none_risen : covers_held (map.get h q) m ≡ true → (ns : List Need) → risen h one ≡ ns → ns ≡ []
+  none_risen covered [] is = refl
+  none_risen covered (n ∷ ns) is =
+      let at : map.get (joined h one) n.0 ≡ Some n.1 = (subst (AllByRecursion (λ (x : Need). map.get (joined h one) x.0 ≡ Some x.1)) is (all_joined h one)).0 in
+      let up : is_raised h n ≡ true = (subst (AllByRecursion (λ (x : Need). is_raised h x ≡ true)) is (passing (is_raised h) (map.entries (joined h one)))).0 in
+      let wrong : true ≡ false = sym up ∙ raised_not h n (sym (joined_same covered n.0) ∙ at) in
+      cc
+
+  -- and what does not rise is covered
+  covered_so : risen h one ≡ [] → covers_held (map.get h q) m ≡ true
+  covered_so none =
+      let same : join_held (map.get h q) (Some m) ≡ map.get h q = sym (joined-holds one h q ∙ ap (join_held (map.get h q)) at_itself) ∙ no-rise h one none q in
+      subst (λ (x : Option Mode). covers_held x m ≡ true) same (right-above (map.get h q) (Some m) m (covers_own m))
+
+  -- a need rises just where what is held does not cover it
+  pub rises_as : (ns : List Need) → risen h one ≡ ns → not (covers_held (map.get h q) m) ≡ not (length ns == 0)
+  rises_as [] is = ap not (covered_so is)
+  rises_as (n ∷ ns) is = go (covers_held (map.get h q) m) refl
+    where
+      go : (b : Bool) → covers_held (map.get h q) m ≡ b → not b ≡ true
+      go false e = refl
+      go true e = (let wrong : n ∷ ns ≡ [] = none_risen e (n ∷ ns) is in cc)

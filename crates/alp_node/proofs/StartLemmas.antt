@@ -1,0 +1,249 @@
+-- the epoch and the clock that a server starts with, and what it keeps then
+use Rattle.std.specs.Prelude.{slice_get, zero, suc, cond, Bool, true, false, IsTrue, ◌==◌, Option, None, Some, is_some, unwrap_or, Result, Ok, Err, IfErr, replicate}
+use Rattle.std.specs.Option.{option_and_then, option_map}
+use Rattle.std.specs.FinMap as map
+use Rattle.std.specs.FinMap.{get-insert, get-empty, len-empty}
+use Rattle.std.specs.Cmp.Lexicographic.{nat_list_cmp_total}
+use Rattle.std.proofs.Common.{◌≡◌, ℕ, ◌+◌, ◌<◌, ◌≤◌, ◌^◌, List, [], refl, sym, ◌∙◌, ap, subst, arith, le_refl}
+use Rattle.alp_base.specs.Notes.{Notes}
+use Rattle.alp_base.specs.declared.ids.FileId.{FileId}
+use Rattle.alp_base.specs.declared.ids.TransId.{TransId}
+use Rattle.alp_base.specs.declared.key.Key.TheVariants.{Leader}
+use Rattle.alp_base.specs.declared.key.Resource.{Resource}
+use Rattle.alp_base.specs.declared.key.Resource.TheVariants.{Whole}
+use Rattle.alp_fields.specs.Forms.{whole}
+use Rattle.alp_fields.specs.ClockNote.{clock_name, clock_form, clock_in, clock_kept}
+use Rattle.alp_fields.specs.declared.clock_note.ClockNote.{ClockNote}
+use Rattle.alp_fields.proofs.ClockLemmas.{clock_within}
+use Rattle.alp_files.specs.Born.{IsUnborn}
+use Rattle.alp_files.specs.declared.cell.Cell.{Cell}
+use Rattle.alp_files.specs.Cells.{Cells}
+use Rattle.alp_files.specs.Edits.{over}
+use Rattle.alp_files.specs.Apart.{AreSized}
+use Rattle.alp_files.specs.Sound.{AreSound}
+use Rattle.alp_files.proofs.CellMapLemmas.{over-none}
+use Rattle.alp_files.proofs.HistoryLemmas.{same_cells}
+use Rattle.alp_locks.specs.Sound.{IsSound}
+use Rattle.alp_locks.specs.Tables.{holding}
+use Rattle.alp_queue.specs.Rises.{Held}
+use Rattle.alp_base.specs.Orders.{trans_cmp, resource_cmp}
+use Rattle.alp_base.specs.declared.allowance.Allowance.{Allowance}
+use Rattle.alp_vault.specs.Contents.{Contents}
+use Rattle.alp_vault.specs.Volumes.{AreServerNotes}
+use Rattle.alp_base.specs.declared.faults.Sizes.{Sizes}
+use Rattle.alp_journal.specs.Opening.{Start, start_at}
+use Rattle.alp_journal.specs.Coordinator.{Undrawn}
+use Rattle.alp_journal.specs.Holder.{holder_opened}
+use Rattle.alp_journal.specs.State.{opened}
+use Rattle.alp_journal.specs.Laws.{IsLawful}
+use Rattle.alp_journal.specs.Answered.{IsAnswered}
+use Rattle.alp_journal.specs.Alone.{Alone, alone, AreOwnEvents}
+use Rattle.alp_journal.specs.declared.entry.Entry.{Entry}
+use Rattle.alp_vault.specs.declared.vault.Vault.{Ghosts}
+use Rattle.alp_node.specs.declared.server_state.ServerState.{ServerState}
+use Rattle.alp_node.specs.declared.lives.Live.{Live}
+use Rattle.alp_node.specs.declared.node.Node.{Node}
+use Rattle.alp_node.specs.declared.sessions.Session.{Session}
+use Rattle.alp_node.specs.declared.start.StartFault.{StartFault}
+use Rattle.alp_node.specs.declared.start.StartFault.TheVariants as start_fault
+use Rattle.alp_node.specs.ServerState.{IsAs, IsReady, IsAlike, LiveMap, kept_session}
+use Rattle.alp_node.specs.Nodes.{IsRight, state_of}
+use Rattle.alp_node.specs.Sessions.{no_sessions, session_at}
+use Rattle.alp_node.specs.Starts.{HasStartCause, after_clock, after_note, raised}
+
+ok_same : {A E : Type 0} (x y : A) → ◌≡◌ {A = Result A E} (Ok x) (Ok y) → x ≡ y
+ok_same x y e = cc
+
+-- a later epoch, and a time
+record IsLater (value : Option (List ℕ)) (c : ClockNote) : Type 0 where
+  later : (clock_in value).epoch < c.epoch
+  within : c.clock ≤ 2 ^ 62
+
+after_value : (value : List ℕ) (c : ClockNote) (found : Option ClockNote) → whole clock_form value ≡ found → after_clock found ≡ Ok c → IsLater (Some value) c
+after_value value c None is e = cc
+after_value value c (Some k) is e = go (k.epoch == 4294967295) e
+  where
+    go : (b : Bool) → cond {A = Result ClockNote StartFault} b (Err start_fault.EpochEnd) (Ok (record k { epoch = k.epoch + 1 })) ≡ Ok c → IsLater (Some value) c
+    go true e = cc
+    go false e =
+        let same : record k { epoch = k.epoch + 1 } ≡ c = ok_same (record k { epoch = k.epoch + 1 }) c e in
+        let kept : (clock_in (Some value)).epoch ≡ k.epoch = ap (λ (x : Option ClockNote). (unwrap_or x (record { epoch = 0; clock = 0 })).epoch) is in
+        let epoch : k.epoch + 1 ≡ c.epoch = ap (λ (x : ClockNote). x.epoch) same in
+        let clock : k.clock ≡ c.clock = ap (λ (x : ClockNote). x.clock) same in
+        record { later = omega (arith, kept, epoch); within = omega (arith, clock, clock_within value k is) }
+
+after_any : (value : Option (List ℕ)) (c : ClockNote) → after_note value ≡ Ok c → IsLater value c
+after_any None c e =
+    let same : record { epoch = 1; clock = 0 } ≡ c = ok_same (record { epoch = 1; clock = 0 }) c e in
+    let epoch : 1 ≡ c.epoch = ap (λ (x : ClockNote). x.epoch) same in
+    let clock : 0 ≡ c.clock = ap (λ (x : ClockNote). x.clock) same in
+    record { later = omega (arith, epoch); within = omega (arith, clock) }
+after_any (Some value) c e = after_value value c (whole clock_form value) refl e
+
+pub raised_later : (held : Contents) (c : ClockNote) → raised held ≡ Ok c → (clock_kept held.notes).epoch < c.epoch
+raised_later held c e = (after_any (map.get held.notes clock_name) c e).later
+
+pub raised_within : (held : Contents) (c : ClockNote) → raised held ≡ Ok c → c.clock ≤ 2 ^ 62
+raised_within held c e = (after_any (map.get held.notes clock_name) c e).within
+
+-- why a server does not start on notes that are in their format
+pub start_cause : (server servers : ℕ) (held : Contents) (before : ℕ) (a : Allowance) (value : List ℕ) (r : Result ClockNote StartFault) → AreServerNotes server servers held.notes
+    → map.get held.notes clock_name ≡ Some value → r ≡ after_clock (whole clock_form value) → IfErr r (HasStartCause server servers held before before a)
+start_cause server servers held before a value r are there is =
+    subst (λ (x : Result ClockNote StartFault). IfErr x (HasStartCause server servers held before before a)) (sym is) (go (whole clock_form value) refl)
+  where
+    ends : (k : ClockNote) → whole clock_form value ≡ Some k → (b : Bool) → (k.epoch == 4294967295) ≡ b
+        → IfErr (cond {A = Result ClockNote StartFault} b (Err start_fault.EpochEnd) (Ok (record k { epoch = k.epoch + 1 }))) (HasStartCause server servers held before before a)
+    ends k e true last = (
+      are,
+      ap after_note there ∙ ap after_clock e
+          ∙ ap (λ (b : Bool). cond {A = Result ClockNote StartFault} b (Err start_fault.EpochEnd) (Ok (record k { epoch = k.epoch + 1 }))) last,
+    )
+    ends k e false last = tt
+
+    go : (o : Option ClockNote) → whole clock_form value ≡ o → IfErr (after_clock o) (HasStartCause server servers held before before a)
+    go None e = let wrong : false ≡ true = ap (λ (o : Option ClockNote). is_some o) (sym e) ∙ are clock_name value there in cc
+    go (Some k) e = ends k e (k.epoch == 4294967295) refl
+
+-- no intents change nothing
+pub over_nothing : (puts m held : Cells) → puts ≡ map.empty → map.get m ≡ over puts (map.get held) → m ≡ held
+over_nothing puts m held none is = same_cells m held (is ∙ ap (λ (x : Cells). over x (map.get held)) none ∙ over-none (map.get held))
+
+-- ---- what a server keeps when it starts
+
+nobody_there : (n client : ℕ) → option_and_then (λ (x : Option Session). x) (slice_get (replicate n None) client) ≡ None
+nobody_there zero client = refl
+nobody_there (suc n) zero = refl
+nobody_there (suc n) (suc client) = nobody_there n client
+
+pub no_session : (client : ℕ) → session_at no_sessions client ≡ None
+no_session client = nobody_there 17 client
+
+abbrev no_lives : LiveMap
+no_lives = map.empty
+
+none_live : (t : TransId) → map.get no_lives t ≡ None
+none_live t = get-empty trans_cmp t
+
+none_locked : (t : TransId) (r : Resource) → holding map.empty t r ≡ None
+none_locked t r = ap (λ (x : Option Held). map.get (unwrap_or x map.empty) r) (get-empty trans_cmp t) ∙ get-empty resource_cmp r
+
+-- no file of the epoch stands yet
+none_born : (server epoch last : ℕ) (held : Cells) → ((f : FileId) (c : Cell) → map.get held (Leader f) ≡ Some c → (f.server ≡ server) × (f.epoch ≤ last)) → last < epoch
+    → IsUnborn server epoch (map.get held) 0
+none_born server epoch last held old later n high = go (map.get held (Leader f)) refl
+  where
+    f : FileId
+    f = record { server = server; epoch = epoch; counter = n }
+
+    go : (x : Option Cell) → map.get held (Leader f) ≡ x → x ≡ None
+    go None e = refl
+    go (Some c) e = let young : epoch ≤ last = (old f c e).1 in absurd (omega (arith, young, later))
+
+-- a server that did nothing yet
+abbrev pub new_kept : {V : Type 0} (old : ServerState V) (server : ℕ) (sizes : Sizes) (c : ClockNote) → ServerState V
+new_kept old server sizes c = record old {
+  server = server;
+  sizes = sizes;
+  epoch = c.epoch;
+  clock = c.clock;
+  drawn = 0;
+  given = 0;
+  committed = 0;
+  sessions = no_sessions;
+  lives = map.empty;
+  dead = [];
+  locks = record { held = map.empty; waiting = []; woken = [] };
+  is_down = false;
+}
+
+-- what its journal says
+abbrev pub new_alone : Start → Alone
+new_alone o = record {
+  servers = o.servers;
+  sizes = o.sizes;
+  ids = record { epoch = o.epoch; transactions = 0; joins = 0; files = 0 };
+  holder = holder_opened o;
+  fates = λ t. Undrawn;
+  sessions = λ client. None;
+  dead = λ client t. None;
+  locked = λ t. [];
+  begun = [];
+  is_down = false;
+  pending = [];
+}
+
+pub new_says : (server servers : ℕ) (sizes : Sizes) (cells : Cells) (notes : Notes) → opened (start_at server servers sizes cells notes) ≡ alone (new_alone (start_at server servers sizes cells notes))
+new_says server servers sizes cells notes = refl
+
+alike_none : (t : TransId) → IsAlike map.empty [] t (map.get no_lives t) None
+alike_none t = subst (λ (x : Option Live). IsAlike map.empty [] t x None) (sym (none_live t)) (none_locked t)
+
+pub new_as : {V : Type 0} (old : ServerState V) (server servers last : ℕ) (sizes : Sizes) (c : ClockNote) (held : Contents)
+    → ((f : FileId) (x : Cell) → map.get held.cells (Leader f) ≡ Some x → (f.server ≡ server) × (f.epoch ≤ last)) → last < c.epoch → clock_kept held.notes ≡ c
+    → IsAs (new_alone (start_at server servers sizes held.cells held.notes)) held (new_kept old server sizes c)
+new_as old server servers last sizes c held ids later kept =
+    let epoch : (clock_kept held.notes).epoch ≡ c.epoch = ap (λ (x : ClockNote). x.epoch) kept in
+    record {
+      server = refl;
+      sizes = refl;
+      epoch = epoch;
+      clock = ap (λ (x : ClockNote). x.clock) kept;
+      cells = λ _. refl;
+      notes = λ _. refl;
+      places = refl;
+      sessions = λ client. sym (no_session client);
+      dead = λ client t. refl;
+      lives = alike_none;
+      unborn = λ t l is. (let wrong : None ≡ Some l = is in cc);
+      drawn = refl;
+      begun = refl;
+      undrawn = λ t beyond. refl;
+      files = refl;
+      made = refl;
+      born = subst (λ (n : ℕ). IsUnborn server n (map.get held.cells) 0) (sym epoch) (none_born server c.epoch last held.cells ids later);
+      earlier = tt;
+      committed = refl;
+      quiet = record { agree = λ t u k l a b away. (let wrong : None ≡ Some k = a in cc); paired = λ t. tt };
+      down = refl;
+    }
+
+le_of : {n : ℕ} → n ≡ 0 → n ≤ 0
+le_of is = omega (arith, is)
+
+some_epoch : (m n : ℕ) → m < n → 0 < n
+some_epoch m n later = omega (arith, later)
+
+pub new_ready : {V : Type 0} (old : ServerState V) (server : ℕ) (sizes : Sizes) (c : ClockNote) (serves : Bool) → IsTrue serves → c.clock ≤ 2 ^ 62 → 0 < c.epoch → IsSound (new_kept old server sizes c).locks
+    → IsReady 0 serves (new_kept old server sizes c)
+new_ready old server sizes c serves up within later sound = record {
+  serving = λ _. up;
+  sound = sound;
+  alone = refl;
+  known = λ t l is. (let wrong : None ≡ Some l = sym (none_live t) ∙ is in cc);
+  begun = λ t l is. (let wrong : None ≡ Some l = sym (none_live t) ∙ is in cc);
+  opens = λ t l is. (let wrong : None ≡ Some l = sym (none_live t) ∙ is in cc);
+  places = refl;
+  calls = λ client w is. (let wrong : None ≡ Some w = sym (no_session client) ∙ is in cc);
+  drawn = le_refl 0;
+  given = le_refl 0;
+  committed = le_refl 0;
+  few = le_of (len-empty trans_cmp Live);
+  clock = within;
+  raised = later;
+  unheld = λ t n high. none_locked t (Whole (record { server = server; epoch = c.epoch; counter = n }));
+}
+
+pub raised_some : (held : Contents) (c : ClockNote) → raised held ≡ Ok c → 0 < c.epoch
+raised_some held c e = some_epoch (clock_kept held.notes).epoch c.epoch (raised_later held c e)
+
+pub new_right : {V : Type 0} (n : Node V) (o : Start) (held : Contents) → n.journal ≡ [] → opened o ≡ alone (new_alone o) → AreSound o.cells → AreSized (map.get o.cells) → IsAs (new_alone o) held n.kept → IsRight o held n
+new_right n o held empty says sound sized h = record {
+  opening = record { files = sound; sizes = sized };
+  lawful = subst (IsLawful o) (sym empty) tt;
+  caused = subst (IsAnswered o) (sym empty) tt;
+  own = subst AreOwnEvents (sym empty) tt;
+  state = new_alone o;
+  says = ap (state_of o) empty ∙ says;
+  kept = h;
+}

@@ -1,0 +1,92 @@
+use Rattle.std.specs.Prelude.{Err}
+use Rattle.std.specs.FinMap as map
+use Rattle.std.proofs.Common.{◌≡◌, ◌⊎◌, inl, inr, IsTrue, false, ℕ, length, sym, ap, subst, ◌∙◌}
+use Rattle.alp_base.specs.Causes.{Rose}
+use Rattle.alp_base.specs.declared.key.Key.TheVariants.{Leader}
+use Rattle.alp_fields.specs.ClockNote.{clock_kept}
+use Rattle.alp_files.specs.Apart.{AreSized}
+use Rattle.alp_files.specs.Cells.{Cells}
+use Rattle.alp_files.specs.Sound.{AreSound}
+use Rattle.alp_journal.specs.Opening.{Start, start_at}
+use Rattle.alp_locks.specs.Sound.{IsSound}
+use Rattle.alp_vault.specs.Contents.{Contents}
+use Rattle.alp_node.specs.declared.server_state.ServerState.{ServerState}
+use Rattle.alp_node.specs.declared.node.Node.{Node}
+use Rattle.alp_node.specs.declared.stored.StoreFault.{StoreFault}
+use Rattle.alp_node.specs.ServerState.{IsAs, IsReady}
+use Rattle.alp_node.specs.Nodes.{IsRight, start_by}
+use Rattle.alp_node.proofs.StartLemmas.{raised_later, raised_within, raised_some, over_nothing, new_kept, new_alone, new_says, new_as, new_ready, new_right}
+use Rattle.alp_node.proofs.node.Node.start.Goals as goal
+
+pub store-requires-clause-clock : goal.store-requires-clause-clock
+store-requires-clause-clock g c = raised_within (g.V.Vault.held c.args.vault) c.in-Ok.clock c.in-Ok.ensures.clock
+
+pub store-requires-clause-sound : goal.store-requires-clause-sound
+store-requires-clause-sound g c tells m is =
+    subst AreSound (sym (over_nothing c.new.result m (g.V.Vault.held c.args.vault).cells c.new.ensures is))
+    (c.knows.ensures.fitting (g.V.Vault.held c.args.vault) tells (c.knows.ensures.as_held tells c.requires.serving)).sound
+
+pub returns-clause-kept : goal.returns-clause-kept
+returns-clause-kept g c =
+    let G = g.V.Vault in
+    let v = c.store-2.new.vault in
+    let before = G.held c.args.vault in
+    let held : Contents = G.held v in
+    let k : ServerState g.row.V.Denot = record {
+      alloc = c.args.alloc;
+      server = c.args.server;
+      sizes = c.sizes.result;
+      epoch = c.in-Ok.clock.epoch;
+      clock = c.in-Ok.clock.clock;
+      drawn = 0;
+      given = 0;
+      committed = 0;
+      sessions = c.new-2.result;
+      lives = c.new-3.result;
+      dead = c.new-4.result;
+      locks = c.new-5.result;
+      vault = v;
+      is_down = false;
+    } in
+    let n : Node g.row.V.Denot = record { opening = record { vault = c.of.result }; kept = k; journal = c.new-6.result } in
+    let new : ServerState g.row.V.Denot = new_kept k c.args.server (G.volume v) c.in-Ok.clock in
+    let same : new ≡ k =
+    (λ i. record k { sizes = (c.store-2.ensures.kept.sizes ∙ sym c.sizes.ensures) i; sessions = sym c.new-2.ensures i; lives = sym c.new-3.ensures i; dead = sym c.new-4.ensures i; locks = sym c.new-5.ensures.empty i }) in
+    record {
+      ready = subst (λ (m : ℕ). IsReady m (G.serves v) k) (sym (ap length c.new-6.ensures))
+          (subst (IsReady 0 (G.serves v)) same
+          (new_ready k c.args.server (G.volume v) c.in-Ok.clock (G.serves v) c.in_default.ensures.serves (raised_within before c.in-Ok.clock c.in-Ok.ensures.clock) (raised_some before c.in-Ok.clock c.in-Ok.ensures.clock)
+          (subst IsSound c.new-5.ensures.empty c.new-5.ensures.sound)));
+      right = λ tells. (
+          let told : IsTrue (G.tells c.args.vault) = subst IsTrue c.store-2.ensures.kept.telling tells in
+          let cells : held.cells ≡ before.cells = over_nothing c.new.result held.cells before.cells c.new.ensures (c.in_default.ensures.cells told) in
+          let sound : AreSound held.cells = subst AreSound (sym cells) (c.knows.ensures.fitting before told (c.knows.ensures.as_held told c.requires.serving)).sound in
+          let o : Start = start_by G c.args.server v in
+          let opening : o ≡ start_by G c.args.server c.of.result.value = ap (start_by G c.args.server) (sym c.of.ensures) in
+          subst (λ (x : Start). IsRight x held n) opening
+          (new_right n o held c.new-6.ensures (new_says c.args.server (G.servers v) (G.volume v) held.cells held.notes) sound (subst (λ (m : Cells). AreSized (map.get m)) (sym cells) (c.requires.given told).sizes)
+          (subst (IsAs (new_alone o) held) same
+          (new_as k c.args.server (G.servers v) (clock_kept before.notes).epoch (G.volume v) c.in-Ok.clock held (λ f x there. (c.requires.given told).ids f x (sym (ap (λ (m : Cells). map.get m (Leader f)) cells) ∙ there))
+          (raised_later before c.in-Ok.clock c.in-Ok.ensures.clock) c.in_default.ensures.clock)))
+          );
+    }
+
+pub returns-clause-raised : goal.returns-clause-raised
+returns-clause-raised g c = record {
+  format = c.in-Ok.ensures.notes;
+  next = c.in-Ok.ensures.clock;
+  cells = λ tells. over_nothing c.new.result (g.V.Vault.held c.store-2.new.vault).cells (g.V.Vault.held c.args.vault).cells c.new.ensures (c.in_default.ensures.cells tells);
+  notes = c.in_default.ensures.notes;
+}
+
+pub returns-in-Err-store-clause-cause : goal.returns-in-Err-store-clause-cause
+returns-in-Err-store-clause-cause g c = (
+  record {
+    failed = λ e. elim (c.vault_fault.ensures.failed e) [
+      | inl is ↦ c.in-Err-store.ensures.failed (ap (λ (f : StoreFault). Err f) is)
+      | inr is ↦ (c.in-Err-store.ensures.unread (ap (λ (f : StoreFault). Err f) is)).1
+    ];
+    stopped = λ e. c.in-Err-store.ensures.stopped (ap (λ (f : StoreFault). Err f) (c.vault_fault.ensures.stopped e));
+  },
+  c.vault_fault.ensures.volume,
+)
