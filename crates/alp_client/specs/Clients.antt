@@ -1,5 +1,5 @@
 -- What one client sends for a line of the script, by what words stand for and by the replies that it was handed before.
-use Rattle.std.specs.Prelude.{ℕ, ◌+◌, ◌<◌, ◌^◌, Bool, true, false, codes, replicate, length, ◌≤◌, Option, None, Some, unwrap_or}
+use Rattle.std.specs.Prelude.{◌≡◌, ℕ, ◌+◌, ◌<◌, ◌^◌, Bool, true, false, codes, replicate, length, ◌≤◌, Option, None, Some, unwrap_or}
 use Rattle.std.specs.FinMap as map
 use Rattle.std.specs.Option.{option_map}
 use Rattle.alp_base.specs.declared.ids.FileId.{FileId}
@@ -12,7 +12,9 @@ use Rattle.alp_files.specs.declared.reply.Reply.{Reply}
 use Rattle.alp_files.specs.declared.reply.Reply.TheVariants as reply
 use Rattle.alp_files.specs.declared.refusal.Refusal.{Refusal}
 use Rattle.alp_files.specs.declared.refusal.Refusal.TheVariants as refusal
-use Rattle.alp_journal.specs.declared.log.Exchange.{Exchange}
+use Rattle.alp_journal.specs.declared.log.Item.{Item}
+use Rattle.alp_journal.specs.declared.log.Mark.TheVariants as mark
+use Rattle.alp_journal.specs.declared.log.Sent.TheVariants as sent
 use Rattle.alp_script.specs.declared.line.Line.{Line}
 use Rattle.alp_script.specs.declared.line.Line.TheVariants as line
 use Rattle.alp_script.specs.declared.line.FileWord.{FileWord}
@@ -86,8 +88,11 @@ frame_in c (Some g) asked = record { epoch = g.epoch; number = g.last + 1; call 
 abbrev pub frame_of : WordMap → Client → Line → Option NumberedCall
 frame_of words c l = option_map (frame_in c c.session) (call_by words c l)
 
-abbrev pub frame_sent : Exchange → NumberedCall
-frame_sent x = record { epoch = x.epoch; number = x.number; call = x.call }
+-- an item of the client's own line: that frame, sent to server 1
+pub record IsOfFrame (k : ℕ) (f : NumberedCall) (x : Item) : Type 0 where
+  pub server : x.server ≡ 1
+  pub mark : x.mark ≡ mark.Own
+  pub sent : x.sent ≡ sent.Call k f.epoch f.number f.call
 
 -- ---- what the client makes of a reply
 

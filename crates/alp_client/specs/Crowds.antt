@@ -2,11 +2,11 @@
 use Rattle.std.specs.Prelude.{◌≡◌, ℕ, Bool, true, false, List, [], ◌∷◌, get_or, slice_set, replicate, Option, None, Some}
 use Rattle.std.specs.FinMap as map
 use Rattle.alp_files.specs.declared.reply.Reply.{Reply}
-use Rattle.alp_journal.specs.declared.log.Exchange.{Exchange}
+use Rattle.alp_journal.specs.declared.log.Item.{Item}
 use Rattle.alp_script.specs.declared.line.Line.{Line}
 use Rattle.alp_script.specs.declared.line.Line.TheVariants as line
 use Rattle.alp_client.specs.Maps.{WordMap}
-use Rattle.alp_client.specs.Clients.{new_client, frame_of, frame_sent, heard, words_heard, begins, words_at}
+use Rattle.alp_client.specs.Clients.{new_client, frame_of, IsOfFrame, heard, words_heard, begins, words_at}
 use Rattle.alp_client.specs.Crowd.{Crowd}
 use Rattle.alp_client.specs.declared.client.Client.{Client}
 use Rattle.alp_client.specs.declared.client.NumberedCall.{NumberedCall}
@@ -43,7 +43,7 @@ abbrev pub declares : Crowd → Line → Crowd
 declares c (line.Client client name) = with_client c c.words client (record (client_at c client) { name = name })
 declares c l = c
 
--- these exchanges are those of a line of the client, and this is known behind them
-abbrev pub Exchanges : Crowd → ℕ → Line → Bool → List Exchange → Crowd → Type 0
-Exchanges c k l over [] d = (asks c k l over ≡ None) × (d ≡ c)
-Exchanges c k l over (x ∷ xs) d = (asks c k l over ≡ Some (frame_sent x)) × (x.server ≡ 1) × Exchanges (hears c k l x.reply).0 k l (hears c k l x.reply).1 xs d
+-- these items are those of a line of the client, and this is known behind them
+abbrev pub Sends : Crowd → ℕ → Line → Bool → List Item → Crowd → Type 0
+Sends c k l over [] d = (asks c k l over ≡ None) × (d ≡ c)
+Sends c k l over (x ∷ xs) d = (frame : NumberedCall) × (asks c k l over ≡ Some frame) × IsOfFrame k frame x × Sends (hears c k l x.reply).0 k l (hears c k l x.reply).1 xs d

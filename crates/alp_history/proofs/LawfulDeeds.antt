@@ -12,7 +12,7 @@ use Rattle.alp_journal.specs.declared.event.Event.{Event}
 use Rattle.alp_journal.specs.Deeds.{Begins, Joins, Enters, Quits, Aborts, Grants, Performs, Releases, Readies, Applies, Registers, Finishes, Hears, Decides, Ends, Acknowledges, Forgets}
 use Rattle.alp_journal.specs.State.{State, is_other_server}
 use Rattle.alp_journal.specs.Moves.{next_trans, next_join}
-use Rattle.alp_journal.specs.Laws.{IsLawfulDeed, SeesView, KeepsLocks, IsOpenPart, MayRegister, MayReady, MayDecide, MayApply, ForgetsRight}
+use Rattle.alp_journal.specs.Laws.{IsLawfulDeed, CountsOn, SeesView, KeepsLocks, IsOpenPart, MayRegister, MayReady, MayDecide, MayApply, ForgetsRight}
 
 module _ (e : Event) (s : State) where
   pub begins : (t : TransId) (client : ℕ) (who : List ℕ) (seen : ℕ) → t ≡ next_trans s → IsLawfulDeed e s (Begins t client who seen)
@@ -36,19 +36,12 @@ module _ (e : Event) (s : State) where
   pub grants : (t : TransId) (c : Call) → KeepsLocks s (Grants t c) → IsOpenPart s t → IsLawfulDeed e s (Grants t c)
   grants t c locks running = record { counts = tt; view = tt; locks = locks; running = running; registration = tt; vote = tt; decision = tt; application = tt; forgetting = tt }
 
+  pub performs_so : (t : TransId) (d : PerformedCall) → CountsOn s (Performs t d) → SeesView e s (Performs t d) → KeepsLocks s (Performs t d) → IsOpenPart s t → IsLawfulDeed e s (Performs t d)
+  performs_so t d counts view locks running = record { counts = counts; view = view; locks = locks; running = running; registration = tt; vote = tt; decision = tt; application = tt; forgetting = tt }
+
   -- of a call that makes no file
   pub performs : (t : TransId) (d : PerformedCall) → id_in d.reply ≡ None → SeesView e s (Performs t d) → KeepsLocks s (Performs t d) → IsOpenPart s t → IsLawfulDeed e s (Performs t d)
-  performs t d none view locks running = record {
-    counts = λ f is. (let wrong : None ≡ Some f = sym none ∙ is in cc);
-    view = view;
-    locks = locks;
-    running = running;
-    registration = tt;
-    vote = tt;
-    decision = tt;
-    application = tt;
-    forgetting = tt;
-  }
+  performs t d none view locks running = performs_so t d (λ f is. (let wrong : None ≡ Some f = sym none ∙ is in cc)) view locks running
 
   pub releases : (t : TransId) → KeepsLocks s (Releases t) → IsLawfulDeed e s (Releases t)
   releases t h = record { counts = tt; view = tt; locks = h; running = tt; registration = tt; vote = tt; decision = tt; application = tt; forgetting = tt }

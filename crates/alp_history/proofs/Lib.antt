@@ -63,6 +63,7 @@ pub mod FoundTwo
 pub mod CutOne
 pub mod CutTwo
 pub mod WaitsOne
+pub mod CreatesOne
 pub mod RightJournals
 pub mod ResumedOne
 pub mod ResumedTwo

@@ -8,6 +8,7 @@ use Rattle.alp_journal.specs.declared.event.Event.{Event}
 use Rattle.alp_journal.specs.declared.event.Event.TheVariants as event
 use Rattle.alp_journal.specs.declared.message.Message.{Message}
 use Rattle.alp_journal.specs.declared.entry.Entry.{Entry}
+use Rattle.alp_history.specs.Items.{Handed}
 use Rattle.alp_history.specs.Log.{Log, ServerLog, nobody, of, IsIn, journal_of, rank_at, WasSent, IsLinked}
 use Rattle.alp_history.specs.RightLog.{both}
 use Rattle.alp_history.proofs.Places.{in-list, some-same}
@@ -52,9 +53,9 @@ pub sent_at : (log : Log) (from to : ℕ) (m : Message) (rank place : ℕ) (e : 
     → ltb (rank_at log from place) rank ≡ true → WasSent log from to m rank
 sent_at log from to m rank place e h i l = record { place = place; entry = e; stands = h; sent = i; earlier = ltb-true (rank_at log from place) rank l }
 
-module _ (x y : ServerLog) where
+module _ (handed : Handed) (x y : ServerLog) where
   -- what holds of both servers, and of one that is none of the run
-  pub each_both : (Q : ℕ → ServerLog → Type 0) → Q x.opening.server x → Q y.opening.server y → ((m : ℕ) → Q m (nobody m)) → (n : ℕ) → Q n (of (both x y) n)
+  pub each_both : (Q : ℕ → ServerLog → Type 0) → Q x.opening.server x → Q y.opening.server y → ((m : ℕ) → Q m (nobody m)) → (n : ℕ) → Q n (of (both handed x y) n)
   each_both Q a b c n = go (x.opening.server == n) refl (y.opening.server == n) refl
     where
       go : (p : Bool) → (x.opening.server == n) ≡ p → (q : Bool) → (y.opening.server == n) ≡ q
@@ -67,18 +68,18 @@ module _ (x y : ServerLog) where
   Rises n z = (i k : ℕ) (e f : Entry) → slice_get z.journal i ≡ Some e → slice_get z.journal k ≡ Some f → i < k → unwrap_or (slice_get z.ranks i) 0 < unwrap_or (slice_get z.ranks k) 0
 
   abbrev Arrives : ℕ → ServerLog → Type 0
-  Arrives n z = (i from : ℕ) (e : Entry) (m : Message) → slice_get z.journal i ≡ Some e → e.event ≡ event.Arrive from m → WasSent (both x y) from n m (unwrap_or (slice_get z.ranks i) 0)
+  Arrives n z = (i from : ℕ) (e : Entry) (m : Message) → slice_get z.journal i ≡ Some e → e.event ≡ event.Arrive from m → WasSent (both handed x y) from n m (unwrap_or (slice_get z.ranks i) 0)
 
   rises_in : (n : ℕ) (z : ServerLog) → is_rising z.ranks ≡ true → length z.journal ≡ length z.ranks → Rises n z
   rises_in n z up all i k e f h l m = rises z.ranks up i k m (subst (λ q. k < q) all (in-list z.journal k f l))
 
-  arrives_in : (n : ℕ) (z : ServerLog) → AllRanked (λ r (e : Entry). WasSentTo (both x y) n r e.event) z.ranks z.journal → Arrives n z
-  arrives_in n z sent i from e m h k = arrived (both x y) n (unwrap_or (slice_get z.ranks i) 0) from e m (ranked_at (λ r (e : Entry). WasSentTo (both x y) n r e.event) z.ranks z.journal i e sent h) k
+  arrives_in : (n : ℕ) (z : ServerLog) → AllRanked (λ r (e : Entry). WasSentTo (both handed x y) n r e.event) z.ranks z.journal → Arrives n z
+  arrives_in n z sent i from e m h k = arrived (both handed x y) n (unwrap_or (slice_get z.ranks i) 0) from e m (ranked_at (λ r (e : Entry). WasSentTo (both handed x y) n r e.event) z.ranks z.journal i e sent h) k
 
   -- ranks rise, and each arrival was sent before
   pub links_both : is_rising x.ranks ≡ true → is_rising y.ranks ≡ true → length x.journal ≡ length x.ranks → length y.journal ≡ length y.ranks
-      → AllRanked (λ r (e : Entry). WasSentTo (both x y) x.opening.server r e.event) x.ranks x.journal
-      → AllRanked (λ r (e : Entry). WasSentTo (both x y) y.opening.server r e.event) y.ranks y.journal → IsLinked (both x y)
+      → AllRanked (λ r (e : Entry). WasSentTo (both handed x y) x.opening.server r e.event) x.ranks x.journal
+      → AllRanked (λ r (e : Entry). WasSentTo (both handed x y) y.opening.server r e.event) y.ranks y.journal → IsLinked (both handed x y)
   links_both up_x up_y all_x all_y sent_x sent_y = record {
     rising = each_both Rises (rises_in x.opening.server x up_x all_x) (rises_in y.opening.server y up_y all_y) (λ m i k e f h. cc);
     sent = each_both Arrives (arrives_in x.opening.server x sent_x) (arrives_in y.opening.server y sent_y) (λ m i from e z h. cc);

@@ -29,7 +29,8 @@ use Rattle.alp_journal.specs.Deeds.{Deed, Begins, Joins, Enters, Quits, Aborts, 
 use Rattle.alp_journal.specs.Coordinator.{decision_in, joins_of}
 use Rattle.alp_journal.specs.Holder.{Life, grants, performs, readies, commits}
 use Rattle.alp_history.specs.Log.{Log, Decision, opening_of, journal_of, state_at, final, decided, IsIn}
-use Rattle.alp_history.specs.Handed.{Mark, Own, Repeated, Raw, Sent, Item, Handed, IsRaw, stamps_in, stamps_by, stamps_told, IsOfEntry, IsOfNone, IsOfPlace, IsNoGreeting, IsBefore, IsOfRaw, IsOfRunBy, AreOfClients, IsDecidedStamp, ArePromisesKept, HaveSeen, HasSeen, HasSeenIn, HasSeenBy, IsOwn, IsOfRun, BeginAbove, BeginsAbove, IsAbove}
+use Rattle.alp_history.specs.Items.{Mark, Own, Repeated, Raw, Sent, Item, IsRaw, IsOwn, stamps_in, stamps_by, stamps_told}
+use Rattle.alp_history.specs.Handed.{IsOfEntry, IsOfNone, IsOfPlace, IsNoGreeting, IsBefore, IsOfRaw, IsOfRunBy, AreOfClients, IsDecidedStamp, ArePromisesKept, HaveSeen, HasSeen, HasSeenIn, HasSeenBy, IsOfRun, BeginAbove, BeginsAbove, IsAbove}
 use Rattle.alp_history.specs.Theorems.{IsProper, HasCommitted, Promises}
 use Rattle.alp_history.proofs.BegunOrder.{begins_order}
 use Rattle.alp_history.proofs.Places.{in-list, some-same}
@@ -343,6 +344,10 @@ module _ (log : Log) (proper : IsProper log) where
   by-call s e client epoch number (call.Outcome a) h = inr h
   by-call s e client epoch number (call.Collect a) h = inr h
 
+  abbrev client_in : Event → ℕ
+  client_in (event.Call client epoch number c) = client
+  client_in x = 0
+
   abbrev epoch_in : Event → ℕ
   epoch_in (event.Call client epoch number c) = epoch
   epoch_in x = 0
@@ -359,16 +364,17 @@ module _ (log : Log) (proper : IsProper log) where
   greeting-or-not (call.Hello name) = inl (name, refl)
   greeting-or-not c = inr tt
 
-  module _ (handed : Handed) (given : AreOfClients log handed) where
+  module _ (given : AreOfClients log) where
     -- what came of the call of an item that was handed this reply
-    pub data Came (client : ℕ) (x : Item) (r : Reply) : Type 0 where
-      tells_none : TellsNone r → Came client x r
+    pub data Came (x : Item) (r : Reply) : Type 0 where
+      tells_none : TellsNone r → Came x r
       -- its entry, where it was new
-      came_new : (i : ℕ) (e : Entry) (q : Sent) → slice_get (journal_of log x.server) i ≡ Some e → x.sent ≡ Some q → e.event ≡ event.Call client q.epoch q.number q.call → e.reply ≡ Some r
-          → is_new (state_at log x.server i) client q.epoch q.number ≡ true → Came client x r
-      -- or the item of the same number before it, which was new
-      came_again : (y : Item) (k : ℕ) (e : Entry) (q : Sent) → IsIn y (handed client) → IsBefore x y → slice_get (journal_of log y.server) k ≡ Some e → y.sent ≡ Some q
-          → e.event ≡ event.Call client q.epoch q.number q.call → e.reply ≡ Some r → is_new (state_at log y.server k) client q.epoch q.number ≡ true → Came client x r
+      came_new : (i : ℕ) (e : Entry) (q : Sent) → slice_get (journal_of log x.server) i ≡ Some e → x.sent ≡ Some q → e.event ≡ event.Call q.client q.epoch q.number q.call → e.reply ≡ Some r
+          → is_new (state_at log x.server i) q.client q.epoch q.number ≡ true → Came x r
+      -- or the item of the same number before it, whose entry was new
+      came_again : (owner : ℕ) (y : Item) (e : Entry) (b : IsBefore x y) → IsIn y (log.handed owner) → slice_get (journal_of log y.server) b.there ≡ Some e
+          → e.event ≡ event.Call b.earlier.client b.earlier.epoch b.earlier.number b.earlier.call → e.reply ≡ Some r → y.reply ≡ Some r
+          → is_new (state_at log y.server b.there) b.earlier.client b.earlier.epoch b.earlier.number ≡ true → Came x r
 
     none-refused : (r : Reply) → IsOfNone (Some r) → TellsNone r
     none-refused r h = elim h [
@@ -377,27 +383,29 @@ module _ (log : Log) (proper : IsProper log) where
     ]
 
     -- of a reply that was kept
-    kept-came : (client : ℕ) (x : Item) (i : ℕ) (q : Sent) (r : Reply) → i < length (journal_of log x.server) → x.sent ≡ Some q → x.place ≡ Some i
-        → IsRepeat (state_at log x.server i) client q.epoch q.number r → q.epoch ≡ (state_at log x.server i).ids.epoch → Came client x r
-    kept-came client x i q r inside sent place rep now =
-        let k = kept-at x.server i client rep.session (omega (arith, inside)) rep.stands in
+    kept-came : (x : Item) (i : ℕ) (q : Sent) (r : Reply) → i < length (journal_of log x.server) → x.sent ≡ Some q → x.place ≡ Some i
+        → IsRepeat (state_at log x.server i) q.client q.epoch q.number r → q.epoch ≡ (state_at log x.server i).ids.epoch → Came x r
+    kept-came x i q r inside sent place rep now =
+        let k = kept-at x.server i q.client rep.session (omega (arith, inside)) rep.stands in
         let replied : (k.entry).reply ≡ Some r = k.replied ∙ ap Some (sym rep.reply_is) in
         elim k.new [
-          | inr c ↦ tells_none (hello-none (suc k.place) x.server k.place client k.epoch k.number c.0 k.entry r (omega arith) k.stands (k.called ∙ ap (event.Call client k.epoch k.number) c.1) replied)
+          | inr c ↦ tells_none (hello-none (suc k.place) x.server k.place q.client k.epoch k.number c.0 k.entry r (omega arith) k.stands (k.called ∙ ap (event.Call q.client k.epoch k.number) c.1) replied)
           | inl c ↦
-              let w = given.whole client x.server k.place k.epoch k.number k.made k.entry k.stands k.called in
-              let y : Item = w.0 in
-              let server : y.server ≡ x.server = w.2 in
-              let o : IsOfEntry log client y k.place = subst (IsOfPlace log client y) w.3 (given.replies client y w.1) in
+              let w = given.whole q.client x.server k.place k.epoch k.number k.made k.entry k.stands k.called in
+              let y : Item = w.1 in
+              let server : y.server ≡ x.server = w.3 in
+              let o : IsOfEntry log y k.place = subst (IsOfPlace log y) w.4 (given.replies w.0 y w.2) in
               let same : o.entry ≡ k.entry = some-same o.entry k.entry (sym o.stands ∙ ap (λ m. slice_get (journal_of log m) k.place) server ∙ k.stands) in
-              let call_is : event.Call client (o.sent).epoch (o.sent).number (o.sent).call ≡ event.Call client k.epoch k.number k.made = sym o.called ∙ ap (λ (e : Entry). e.event) same ∙ k.called in
+              let call_is : event.Call (o.sent).client (o.sent).epoch (o.sent).number (o.sent).call ≡ event.Call q.client k.epoch k.number k.made = sym o.called ∙ ap (λ (e : Entry). e.event) same ∙ k.called in
+              let client : (o.sent).client ≡ q.client = ap client_in call_is in
               let epoch : (o.sent).epoch ≡ k.epoch = ap epoch_in call_is in
               let number : (o.sent).number ≡ k.number = ap number_in call_is in
+              let answer : (o.entry).reply ≡ Some r = ap (λ (e : Entry). e.reply) same ∙ replied in
               elim (greeting-or-not (o.sent).call) [
                 | inl hello ↦
                     let made : k.made ≡ call.Hello hello.0 = sym (ap call_in call_is) ∙ hello.1 in
-                    tells_none (hello-none (suc k.place) x.server k.place client k.epoch k.number hello.0 k.entry r (omega arith) k.stands (k.called ∙ ap (event.Call client k.epoch k.number) made) replied)
-                | inr plain ↦ came_again y k.place o.entry o.sent w.1 (record {
+                    tells_none (hello-none (suc k.place) x.server k.place q.client k.epoch k.number hello.0 k.entry r (omega arith) k.stands (k.called ∙ ap (event.Call q.client k.epoch k.number) made) replied)
+                | inr plain ↦ came_again w.0 y o.entry (record {
                   later = q;
                   earlier = o.sent;
                   there = k.place;
@@ -405,34 +413,35 @@ module _ (log : Log) (proper : IsProper log) where
                   later_sent = sent;
                   earlier_sent = o.said;
                   later_place = place;
-                  earlier_place = w.3;
+                  earlier_place = w.4;
                   server = server;
+                  client = client;
                   epoch = epoch ∙ c.1 ∙ sym now;
                   number = number ∙ k.last ∙ sym rep.last;
                   order = k.earlier;
                   no_greeting = plain;
-                }) o.stands o.said o.called (ap (λ (e : Entry). e.reply) same ∙ replied) ((λ j. is_new (state_at log (server j) k.place) client (epoch j) (number j)) ∙ c.0)
+                }) w.2 o.stands o.called answer (o.handed ∙ answer) ((λ j. is_new (state_at log (server j) k.place) (client j) (epoch j) (number j)) ∙ c.0)
               ]
         ]
 
-    pub came : (client : ℕ) (x : Item) (r : Reply) → IsIn x (handed client) → x.reply ≡ Some r → Came client x r
+    pub came : (client : ℕ) (x : Item) (r : Reply) → IsIn x (log.handed client) → x.reply ≡ Some r → Came x r
     came client x r among replied = at x.place refl (given.replies client x among)
       where
-        at : (p : Option ℕ) → x.place ≡ p → IsOfPlace log client x p → Came client x r
+        at : (p : Option ℕ) → x.place ≡ p → IsOfPlace log x p → Came x r
         at None place h = tells_none (none-refused r (subst IsOfNone replied h))
         at (Some i) place o =
             let q : Sent = o.sent in
             let s : State = state_at log x.server i in
             let given_reply : (o.entry).reply ≡ Some r = sym o.handed ∙ replied in
-            let law : KeepsSessions s o.entry (event.Call client q.epoch q.number q.call) = subst (KeepsSessions s o.entry) o.called (lawful-at log proper.lawful proper.linked x.server i o.entry o.stands).sessions in
-            elim (by-call s o.entry client q.epoch q.number q.call law) [
+            let law : KeepsSessions s o.entry (event.Call q.client q.epoch q.number q.call) = subst (KeepsSessions s o.entry) o.called (lawful-at log proper.lawful proper.linked x.server i o.entry o.stands).sessions in
+            elim (by-call s o.entry q.client q.epoch q.number q.call law) [
               | inl hello ↦
-                  tells_none (hello-none (suc i) x.server i client q.epoch q.number hello.0 o.entry r (omega arith) o.stands (o.called ∙ ap (event.Call client q.epoch q.number) hello.1) given_reply)
-              | inr law ↦ elim (calling s o.entry client q.epoch q.number r (s.desk.sessions client) refl law given_reply) [
+                  tells_none (hello-none (suc i) x.server i q.client q.epoch q.number hello.0 o.entry r (omega arith) o.stands (o.called ∙ ap (event.Call q.client q.epoch q.number) hello.1) given_reply)
+              | inr law ↦ elim (calling s o.entry q.client q.epoch q.number r (s.desk.sessions q.client) refl law given_reply) [
                 | inl none ↦ tells_none none
                 | inr some ↦ elim some [
                   | inl new ↦ came_new i o.entry q o.stands o.said o.called given_reply new
-                  | inr rep ↦ kept-came client x i q r (in-list (journal_of log x.server) i o.entry o.stands) o.said place rep.0 rep.1
+                  | inr rep ↦ kept-came x i q r (in-list (journal_of log x.server) i o.entry o.stands) o.said place rep.0 rep.1
                 ]
               ]
             ]
@@ -449,13 +458,15 @@ module _ (log : Log) (proper : IsProper log) where
     raw-or Repeated = inr (λ h. h)
     raw-or Raw = inl tt
 
-    told-by : (client : ℕ) (x : Item) (r : Reply) (s : Stamp) → IsIn x (handed client) → (IsRaw x.mark → ⊥) → Came client x r → IsIn s (stamps_in r) → IsOfRaw (handed client) x ⊎ IsDecidedStamp log s
-    told-by client x r s among own (tells_none n) i = absurd (subst (IsIn s) n.stamps i)
-    told-by client x r s among own (came_new i e q at sent called replied new) told =
-        inr (tells-decided x.server i client q.epoch q.number q.call e r s at called replied new (of-run x.mark q own (subst (IsOfRun log x.mark) sent (given.outcomes client x among))) told)
-    told-by client x r s among own (came_again y k e q y_among before at sent called replied new) told = elim (raw-or y.mark) [
-      | inl raw ↦ inl (record { first = y; among = y_among; raw = raw; before = before })
-      | inr not_raw ↦ inr (tells-decided y.server k client q.epoch q.number q.call e r s at called replied new (of-run y.mark q not_raw (subst (IsOfRun log y.mark) sent (given.outcomes client y y_among))) told)
+    told-by : (client : ℕ) (x : Item) (r : Reply) (s : Stamp) → IsIn x (log.handed client) → x.reply ≡ Some r → (IsRaw x.mark → ⊥) → Came x r → IsIn s (stamps_in r) → IsOfRaw log x ⊎ IsDecidedStamp log s
+    told-by client x r s among replied own (tells_none n) i = absurd (subst (IsIn s) n.stamps i)
+    told-by client x r s among replied own (came_new i e q at sent called answer new) told =
+        inr (tells-decided x.server i q.client q.epoch q.number q.call e r s at called answer new (of-run x.mark q own (subst (IsOfRun log x.mark) sent (given.outcomes client x among))) told)
+    told-by client x r s among replied own (came_again owner y e b y_among at called answer handed new) told = elim (raw-or y.mark) [
+      | inl raw ↦ inl (record { owner = owner; first = y; among = y_among; raw = raw; before = b; counted = new; kept = replied ∙ sym handed })
+      | inr not_raw ↦
+          inr (tells-decided y.server b.there b.earlier.client b.earlier.epoch b.earlier.number b.earlier.call e r s at called answer new
+          (of-run y.mark b.earlier not_raw (subst (IsOfRun log y.mark) b.earlier_sent (given.outcomes owner y y_among))) told)
     ]
 
     stamps-none : (m : Mark) (s : Stamp) → IsIn s (stamps_by m None) → ⊥
@@ -468,12 +479,12 @@ module _ (log : Log) (proper : IsProper log) where
     stamps-some Repeated r s i = ((λ h. h), i)
     stamps-some Raw r s i = absurd i
 
-    told-decided : (client : ℕ) (x : Item) (s : Stamp) → IsIn x (handed client) → IsIn s (stamps_told x) → IsOfRaw (handed client) x ⊎ IsDecidedStamp log s
+    told-decided : (client : ℕ) (x : Item) (s : Stamp) → IsIn x (log.handed client) → IsIn s (stamps_told x) → IsOfRaw log x ⊎ IsDecidedStamp log s
     told-decided client x s among i = go x.reply refl i
       where
-        go : (r : Option Reply) → x.reply ≡ r → IsIn s (stamps_by x.mark r) → IsOfRaw (handed client) x ⊎ IsDecidedStamp log s
+        go : (r : Option Reply) → x.reply ≡ r → IsIn s (stamps_by x.mark r) → IsOfRaw log x ⊎ IsDecidedStamp log s
         go None e i = absurd (stamps-none x.mark s i)
-        go (Some r) e i = let h = stamps-some x.mark r s i in told-by client x r s among h.0 (came client x r among e) h.1
+        go (Some r) e i = let h = stamps-some x.mark r s i in told-by client x r s among e h.0 (came client x r among e) h.1
 
     -- ---- begins
 
@@ -500,30 +511,31 @@ module _ (log : Log) (proper : IsProper log) where
     earlier-all ts x [] l h = tt
     earlier-all ts x (s ∷ before) l h = ((let a : s.ts ≤ ts = h.0 in stamp_cmp-earlier s x (omega (arith, l, a))), earlier-all ts x before l h.1)
 
-    begun-above : (client : ℕ) (before : List Stamp) (x : Item) (t : TransId) → IsIn x (handed client) → IsOwn x.mark → HasSeenIn before x.sent → Came client x (reply.Begun t)
-        → IsOfRaw (handed client) x ⊎ ((d : Decision) → IsIn d (decided log) → IsAbove before t d)
-    begun-above client before x t among own seen (tells_none n) = absurd (n.begun t refl)
-    begun-above client before x t among own seen (came_again y k e q y_among b at sent called replied new) = inl (record { first = y; among = y_among; raw = given.fresh client x y among y_among own b; before = b })
-    begun-above client before x t among own seen (came_new i e q at sent called replied new) = inr (λ d d_in same.
-        let c = begin-call x.server i client q.epoch q.number q.call e t at called replied new in
+    begun-above : (client : ℕ) (before : List Stamp) (x : Item) (t : TransId) → IsIn x (log.handed client) → x.reply ≡ Some (reply.Begun t) → IsOwn x.mark → HasSeenIn before x.sent → Came x (reply.Begun t)
+        → IsOfRaw log x ⊎ ((d : Decision) → IsIn d (decided log) → IsAbove before t d)
+    begun-above client before x t among replied own seen (tells_none n) = absurd (n.begun t refl)
+    begun-above client before x t among replied own seen (came_again owner y e b y_among at called answer handed new) =
+        inl (record { owner = owner; first = y; among = y_among; raw = given.fresh client owner x y among y_among own b; before = b; counted = new; kept = replied ∙ sym handed })
+    begun-above client before x t among replied own seen (came_new i e q at sent called answer new) = inr (λ d d_in same.
+        let c = begin-call x.server i q.client q.epoch q.number q.call e t at called answer new in
         let k : IsDecision log proper d.0 d.1 = decided-in log proper d.0 d.1 d_in in
         let low : (c.0).ts < (d.0).ts =
-        begins_order log proper x.server i client q.epoch q.number e c.0 d.0 at (called ∙ ap (event.Call client q.epoch q.number) c.1) (replied ∙ ap (λ u. Some (reply.Begun u)) (sym same)) new (d.1, k.committed, k.young) in
+        begins_order log proper x.server i q.client q.epoch q.number e c.0 d.0 at (called ∙ ap (event.Call q.client q.epoch q.number) c.1) (answer ∙ ap (λ u. Some (reply.Begun u)) (sym same)) new (d.1, k.committed, k.young) in
         earlier-all (c.0).ts d.0 before low (subst (HasSeenBy before) c.1 (subst (HasSeenIn before) sent seen)))
 
-    one-above : (client : ℕ) (before : List Stamp) (x : Item) (m : Mark) (r : Option Reply) → IsIn x (handed client) → x.mark ≡ m → x.reply ≡ r → HasSeen before m x.sent → BeginsAbove log (handed client) before x m r
+    one-above : (client : ℕ) (before : List Stamp) (x : Item) (m : Mark) (r : Option Reply) → IsIn x (log.handed client) → x.mark ≡ m → x.reply ≡ r → HasSeen before m x.sent → BeginsAbove log before x m r
     one-above client before x Raw r among mark replied seen = tt
     one-above client before x Repeated r among mark replied seen = tt
     one-above client before x Own None among mark replied seen = tt
-    one-above client before x Own (Some (reply.Begun t)) among mark replied seen = begun-above client before x t among (subst IsOwn (sym mark) tt) seen (came client x (reply.Begun t) among replied)
+    one-above client before x Own (Some (reply.Begun t)) among mark replied seen = begun-above client before x t among replied (subst IsOwn (sym mark) tt) seen (came client x (reply.Begun t) among replied)
     one-above client before x Own (Some r) among mark replied seen = tt
 
-    all-above : (client : ℕ) (before : List Stamp) (xs : List Item) → ((x : Item) → IsIn x xs → IsIn x (handed client)) → HaveSeen before xs → BeginAbove log (handed client) before xs
+    all-above : (client : ℕ) (before : List Stamp) (xs : List Item) → ((x : Item) → IsIn x xs → IsIn x (log.handed client)) → HaveSeen before xs → BeginAbove log before xs
     all-above client before [] sub h = tt
     all-above client before (x ∷ xs) sub h = (one-above client before x x.mark x.reply (sub x (inl refl)) refl refl h.0, all-above client (before ++ stamps_told x) xs (λ y i. sub y (inr i)) h.1)
 
-    pub kept-promises : ArePromisesKept log handed
-    kept-promises = record { told = told-decided; begun = λ client. all-above client [] (handed client) (λ x i. i) (given.seen client) }
+    pub kept-promises : ArePromisesKept log
+    kept-promises = record { told = told-decided; begun = λ client. all-above client [] (log.handed client) (λ x i. i) (given.seen client) }
 
 pub promises : Promises
-promises log handed proper given = kept-promises log proper handed given
+promises log proper given = kept-promises log proper given

@@ -21,7 +21,7 @@ use Rattle.alp_journal.specs.Laws.{IsLawful}
 use Rattle.alp_history.specs.Log.{ServerLog, of, opening_of, held, is_noted, is_decided_in, noted, IsIn, AreDifferent, AreDistinct, AreLawful, IsSoundNote, IsSoundDecision, IsSoundOpening, IsLinked}
 use Rattle.alp_history.specs.Theorems.{IsProper}
 use Rattle.alp_history.specs.Examples.{trans, join, stamp}
-use Rattle.alp_history.specs.RightLog.{with_quota, hello}
+use Rattle.alp_history.specs.RightLog.{with_quota, hello, nothing}
 use Rattle.alp_history.specs.ResumedLog.{left_decided, left_ready, opening_two, resumed_one, resumed_two, goes_on_one, goes_on_two, resumed, IsShownResumed}
 use Rattle.alp_journal.proofs.IdLemmas.{same_join-true, or-true}
 use Rattle.alp_history.proofs.Quotas.{quota_sound, quota_sized, none_sized, put_quota}
@@ -56,11 +56,11 @@ covered = (refl, tt)
 
 -- the one ready note, and the one decision
 the_ready : (P : ReadyNote → Type 0) → P left_ready → (m : ℕ) (r : ReadyNote) → IsIn r (opening_of resumed m).ready → P r
-the_ready P p = each_both goes_on_one goes_on_two (λ m (x : ServerLog). (r : ReadyNote) → IsIn r x.opening.ready → P r)
+the_ready P p = each_both nothing goes_on_one goes_on_two (λ m (x : ServerLog). (r : ReadyNote) → IsIn r x.opening.ready → P r)
     (λ r i. absurd i) (λ r i. elim i [ inl e ↦ subst P (sym e) p | inr none ↦ absurd none ]) (λ m r i. absurd i)
 
 the_decision : (P : DecisionNote → Type 0) → P left_decided → (m : ℕ) (d : DecisionNote) → IsIn d (opening_of resumed m).decisions → P d
-the_decision P p = each_both goes_on_one goes_on_two (λ m (x : ServerLog). (d : DecisionNote) → IsIn d x.opening.decisions → P d)
+the_decision P p = each_both nothing goes_on_one goes_on_two (λ m (x : ServerLog). (d : DecisionNote) → IsIn d x.opening.decisions → P d)
     (λ d i. elim i [ inl e ↦ subst P (sym e) p | inr none ↦ absurd none ]) (λ d i. absurd i) (λ m d i. absurd i)
 
 one_two : 1 < 2
@@ -97,14 +97,14 @@ agree_alone r q a b other = absurd (let wrong : true ≡ false = (λ i. same_tra
 
 sound : (n : ℕ) → IsSoundOpening resumed n
 sound n = record {
-  few = each_both goes_on_one goes_on_two (λ m x. x.opening.servers ≤ 8) (omega arith) (omega arith) (λ m. omega arith) n;
-  files = each_both goes_on_one goes_on_two (λ m x. AreSound x.opening.cells) (quota_sound 9) (quota_sound 9) (λ m. empty_sound) n;
-  files_begun = each_both goes_on_one goes_on_two (λ m x. AreSound (held (is_noted resumed) x.opening.ready x.opening.cells)) (quota_sound 9) (subst AreSound (sym (put_quota (with_quota 9) 9 5 refl)) (quota_sound 5)) (λ m. empty_sound) n;
-  sizes = each_both goes_on_one goes_on_two (λ m x. AreSized (map.get x.opening.cells)) quota_sized quota_sized (λ m. none_sized) n;
-  ready = each_both goes_on_one goes_on_two (λ m x. (r : ReadyNote) → IsIn r x.opening.ready → IsSoundNote resumed m r) (λ r i. absurd i) (λ r i. elim i [ inl e ↦ subst (IsSoundNote resumed 2) (sym e) ready_note | inr none ↦ absurd none ]) (λ m r i. absurd i) n;
-  distinct = each_both goes_on_one goes_on_two (λ m x. AreDistinct x.opening.ready) tt (tt, tt) (λ m. tt) n;
+  few = each_both nothing goes_on_one goes_on_two (λ m x. x.opening.servers ≤ 8) (omega arith) (omega arith) (λ m. omega arith) n;
+  files = each_both nothing goes_on_one goes_on_two (λ m x. AreSound x.opening.cells) (quota_sound 9) (quota_sound 9) (λ m. empty_sound) n;
+  files_begun = each_both nothing goes_on_one goes_on_two (λ m x. AreSound (held (is_noted resumed) x.opening.ready x.opening.cells)) (quota_sound 9) (subst AreSound (sym (put_quota (with_quota 9) 9 5 refl)) (quota_sound 5)) (λ m. empty_sound) n;
+  sizes = each_both nothing goes_on_one goes_on_two (λ m x. AreSized (map.get x.opening.cells)) quota_sized quota_sized (λ m. none_sized) n;
+  ready = each_both nothing goes_on_one goes_on_two (λ m x. (r : ReadyNote) → IsIn r x.opening.ready → IsSoundNote resumed m r) (λ r i. absurd i) (λ r i. elim i [ inl e ↦ subst (IsSoundNote resumed 2) (sym e) ready_note | inr none ↦ absurd none ]) (λ m r i. absurd i) n;
+  distinct = each_both nothing goes_on_one goes_on_two (λ m x. AreDistinct x.opening.ready) tt (tt, tt) (λ m. tt) n;
   agree = λ r q a b. agree_alone r q (the_ready (λ x. x ≡ left_ready) refl n r a) (the_ready (λ x. x ≡ left_ready) refl n q b);
-  decisions = each_both goes_on_one goes_on_two (λ m x. (d : DecisionNote) → IsIn d x.opening.decisions → IsSoundDecision resumed m d) (λ d i. elim i [ inl e ↦ subst (IsSoundDecision resumed 1) (sym e) decision_note | inr none ↦ absurd none ]) (λ d i. absurd i) (λ m d i. absurd i) n;
+  decisions = each_both nothing goes_on_one goes_on_two (λ m x. (d : DecisionNote) → IsIn d x.opening.decisions → IsSoundDecision resumed m d) (λ d i. elim i [ inl e ↦ subst (IsSoundDecision resumed 1) (sym e) decision_note | inr none ↦ absurd none ]) (λ d i. absurd i) (λ m d i. absurd i) n;
   one_each = λ d e a b same. the_decision (λ x. x ≡ left_decided) refl n d a ∙ sym (the_decision (λ x. x ≡ left_decided) refl n e b);
   once = λ d e j a b h k. the_noted d a ∙ sym (the_noted e b);
 }
@@ -127,10 +127,10 @@ sent_two : AllRanked (λ r (e : Entry). WasSentTo resumed 2 r e.event) goes_on_t
 sent_two = (tt, (sent_at resumed 1 2 (msg.Commit trans join stamp) 3 0 (by_one 0) refl (inl refl) refl, (tt, (tt, (tt, (tt, tt))))))
 
 linked : IsLinked resumed
-linked = links_both goes_on_one goes_on_two refl refl refl refl sent_one sent_two
+linked = links_both nothing goes_on_one goes_on_two refl refl refl refl sent_one sent_two
 
 lawful : AreLawful resumed
-lawful = each_both goes_on_one goes_on_two (λ n x. IsLawful x.opening x.journal) one_lawful two_lawful (λ m. tt)
+lawful = each_both nothing goes_on_one goes_on_two (λ n x. IsLawful x.opening x.journal) one_lawful two_lawful (λ m. tt)
 
 proper : IsProper resumed
 proper = record { different = different; sound = sound; lawful = lawful; linked = linked }

@@ -324,16 +324,28 @@ at_20 = next at_19 (entry 19)
 known_20 : Only ts js at_20
 known_20 = only_next ts js at_19 (entry 19) refl known_19
 
+-- the frame comes again
 entry_19 : IsLawfulEntry at_19 (entry 19)
-entry_19 = by_laws at_19 (entry 19) refl refl (
-  acknowledges (event_of 19) at_19 trans join,
-  (forgets (event_of 19) (state_deed at_19 (Acknowledges trans join)) trans (stamp, join ∷ [], join ∷ [], refl, refl), tt),
-)
+entry_19 = by_laws at_19 (entry 19) refl (refl, refl) tt
     (alone ts js third at_20 known_20 refl)
+    ((refl, refl), tt) tt tt (refl, refl) tt
+
+abbrev at_21 : State
+at_21 = next at_20 (entry 20)
+
+known_21 : Only ts js at_21
+known_21 = only_next ts js at_20 (entry 20) refl known_20
+
+entry_20 : IsLawfulEntry at_20 (entry 20)
+entry_20 = by_laws at_20 (entry 20) refl refl (
+  acknowledges (event_of 20) at_20 trans join,
+  (forgets (event_of 20) (state_deed at_20 (Acknowledges trans join)) trans (stamp, join ∷ [], join ∷ [], refl, refl), tt),
+)
+    (alone ts js third at_21 known_21 refl)
     ((refl, refl), tt) (tt, tt) tt (refl, refl) tt
 
 from_18 : Along next IsLawfulEntry at_18 (drop 18 one)
-from_18 = (entry_18, (entry_19, tt))
+from_18 = (entry_18, (entry_19, (entry_20, tt)))
 
 from_14 : Along next IsLawfulEntry at_14 (drop 14 one)
 from_14 = (entry_14, (entry_15, (entry_16, (entry_17, subst (λ (s : State). Along next IsLawfulEntry s (drop 18 one)) (sym same_18) from_18))))
@@ -344,7 +356,7 @@ from_3 = (entry_3, (entry_4, (entry_5, (entry_6, (entry_7, (entry_8, (entry_9, (
 pub lawful : IsLawful (opening 1) one
 lawful = (entry_0, (entry_1, (entry_2, subst (λ (s : State). Along next IsLawfulEntry s (drop 3 one)) (sym same_3) from_3)))
 
-last : state_after next (opened (opening 1)) one ≡ at_20
+last : state_after next (opened (opening 1)) one ≡ at_21
 last = ap (λ (s : State). state_after next s (drop 3 one)) same_3 ∙ ap (λ (s : State). state_after next s (drop 14 one)) same_14 ∙ ap (λ (s : State). state_after next s (drop 18 one)) same_18
 
 pub cells_last : (state_after next (opened (opening 1)) one).holder.cells ≡ with_quota 8

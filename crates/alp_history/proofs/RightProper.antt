@@ -11,42 +11,43 @@ use Rattle.alp_journal.specs.declared.entry.Entry.{Entry}
 use Rattle.alp_journal.specs.Ids.{same_trans}
 use Rattle.alp_journal.specs.Opening.{ReadyNote, DecisionNote}
 use Rattle.alp_journal.specs.Laws.{IsLawful}
+use Rattle.alp_history.specs.Items.{Handed}
 use Rattle.alp_history.specs.Log.{ServerLog, of, held, is_noted, IsIn, AreDifferent, AreDistinct, AreLawful, IsSoundNote, IsSoundDecision, IsSoundOpening, IsLinked}
 use Rattle.alp_history.specs.Theorems.{IsProper}
 use Rattle.alp_history.specs.Examples.{trans, join, stamp}
-use Rattle.alp_history.specs.RightLog.{second, second_join, second_stamp, hello, ranks_one, ranks_two, runs, both, one, two, right}
+use Rattle.alp_history.specs.RightLog.{second, second_join, second_stamp, hello, ranks_one, ranks_two, runs, both, one, two, items, right}
 use Rattle.alp_history.proofs.Quotas.{quota_sound, quota_sized, none_sized}
 use Rattle.alp_history.proofs.LinkLemmas.{WasSentTo, AllRanked, sent_at, each_both, links_both}
 use Rattle.alp_history.proofs.RightOne.{lawful as one_lawful}
 use Rattle.alp_history.proofs.RightTwo.{lawful as two_lawful}
 
-module _ (rs qs : List ℕ) (xs ys : List Entry) where
+module _ (handed : Handed) (rs qs : List ℕ) (xs ys : List Entry) where
   abbrev at_one : ServerLog
   at_one = runs 1 rs xs
 
   abbrev at_two : ServerLog
   at_two = runs 2 qs ys
 
-  pub different : AreDifferent (both at_one at_two)
+  pub different : AreDifferent (both handed at_one at_two)
   different x i = elim i [
-    | inl e ↦ subst (λ (y : ServerLog). of (both at_one at_two) y.opening.server ≡ y) (sym e) refl
+    | inl e ↦ subst (λ (y : ServerLog). of (both handed at_one at_two) y.opening.server ≡ y) (sym e) refl
     | inr more ↦ elim more [
-      | inl e ↦ subst (λ (y : ServerLog). of (both at_one at_two) y.opening.server ≡ y) (sym e) refl
+      | inl e ↦ subst (λ (y : ServerLog). of (both handed at_one at_two) y.opening.server ≡ y) (sym e) refl
       | inr none ↦ absurd none
     ]
   ]
 
-  pub sound : (n : ℕ) → IsSoundOpening (both at_one at_two) n
+  pub sound : (n : ℕ) → IsSoundOpening (both handed at_one at_two) n
   sound n = record {
-    few = each_both at_one at_two (λ m x. x.opening.servers ≤ 8) (omega arith) (omega arith) (λ m. omega arith) n;
-    files = each_both at_one at_two (λ m x. AreSound x.opening.cells) (quota_sound 9) (quota_sound 9) (λ m. empty_sound) n;
-    files_begun = each_both at_one at_two (λ m x. AreSound (held (is_noted (both at_one at_two)) x.opening.ready x.opening.cells)) (quota_sound 9) (quota_sound 9) (λ m. empty_sound) n;
-    sizes = each_both at_one at_two (λ m x. AreSized (map.get x.opening.cells)) quota_sized quota_sized (λ m. none_sized) n;
-    ready = each_both at_one at_two (λ m x. (r : ReadyNote) → IsIn r x.opening.ready → IsSoundNote (both at_one at_two) n r) (λ r i. absurd i) (λ r i. absurd i) (λ m r i. absurd i) n;
-    distinct = each_both at_one at_two (λ m x. AreDistinct x.opening.ready) tt tt (λ m. tt) n;
-    agree = each_both at_one at_two (λ m x. (r q : ReadyNote) → IsIn r x.opening.ready → IsIn q x.opening.ready → same_trans r.trans q.trans ≡ false → DoAgree (held_by r.locks) (held_by q.locks)) (λ r q i. absurd i) (λ r q i. absurd i) (λ m r q i. absurd i) n;
-    decisions = each_both at_one at_two (λ m x. (d : DecisionNote) → IsIn d x.opening.decisions → IsSoundDecision (both at_one at_two) n d) (λ d i. absurd i) (λ d i. absurd i) (λ m d i. absurd i) n;
-    one_each = each_both at_one at_two (λ m x. (d e : DecisionNote) → IsIn d x.opening.decisions → IsIn e x.opening.decisions → d.stamp.trans ≡ e.stamp.trans → d ≡ e) (λ d e i. absurd i) (λ d e i. absurd i) (λ m d e i. absurd i) n;
+    few = each_both handed at_one at_two (λ m x. x.opening.servers ≤ 8) (omega arith) (omega arith) (λ m. omega arith) n;
+    files = each_both handed at_one at_two (λ m x. AreSound x.opening.cells) (quota_sound 9) (quota_sound 9) (λ m. empty_sound) n;
+    files_begun = each_both handed at_one at_two (λ m x. AreSound (held (is_noted (both handed at_one at_two)) x.opening.ready x.opening.cells)) (quota_sound 9) (quota_sound 9) (λ m. empty_sound) n;
+    sizes = each_both handed at_one at_two (λ m x. AreSized (map.get x.opening.cells)) quota_sized quota_sized (λ m. none_sized) n;
+    ready = each_both handed at_one at_two (λ m x. (r : ReadyNote) → IsIn r x.opening.ready → IsSoundNote (both handed at_one at_two) n r) (λ r i. absurd i) (λ r i. absurd i) (λ m r i. absurd i) n;
+    distinct = each_both handed at_one at_two (λ m x. AreDistinct x.opening.ready) tt tt (λ m. tt) n;
+    agree = each_both handed at_one at_two (λ m x. (r q : ReadyNote) → IsIn r x.opening.ready → IsIn q x.opening.ready → same_trans r.trans q.trans ≡ false → DoAgree (held_by r.locks) (held_by q.locks)) (λ r q i. absurd i) (λ r q i. absurd i) (λ m r q i. absurd i) n;
+    decisions = each_both handed at_one at_two (λ m x. (d : DecisionNote) → IsIn d x.opening.decisions → IsSoundDecision (both handed at_one at_two) n d) (λ d i. absurd i) (λ d i. absurd i) (λ m d i. absurd i) n;
+    one_each = each_both handed at_one at_two (λ m x. (d e : DecisionNote) → IsIn d x.opening.decisions → IsIn e x.opening.decisions → d.stamp.trans ≡ e.stamp.trans → d ≡ e) (λ d e i. absurd i) (λ d e i. absurd i) (λ m d e i. absurd i) n;
     once = λ d e j i. absurd i;
   }
 
@@ -99,8 +100,11 @@ sent_one = (
                                     (
                                       tt,
                                       (
-                                        sent_at right 2 1 (msg.Done trans join) 36 7 (by_two 7) refl (inr (inr (inl refl))) refl,
                                         tt,
+                                        (
+                                          sent_at right 2 1 (msg.Done trans join) 36 7 (by_two 7) refl (inr (inr (inl refl))) refl,
+                                          tt,
+                                        ),
                                       ),
                                     ),
                                   ),
@@ -178,10 +182,10 @@ sent_two = (
 )
 
 linked : IsLinked right
-linked = links_both (runs 1 ranks_one one) (runs 2 ranks_two two) refl refl refl refl sent_one sent_two
+linked = links_both items (runs 1 ranks_one one) (runs 2 ranks_two two) refl refl refl refl sent_one sent_two
 
 pub lawful : AreLawful right
-lawful = each_both (runs 1 ranks_one one) (runs 2 ranks_two two) (λ n x. IsLawful x.opening x.journal) one_lawful two_lawful (λ m. tt)
+lawful = each_both items (runs 1 ranks_one one) (runs 2 ranks_two two) (λ n x. IsLawful x.opening x.journal) one_lawful two_lawful (λ m. tt)
 
 pub proper : IsProper right
-proper = record { different = different ranks_one ranks_two one two; sound = sound ranks_one ranks_two one two; lawful = lawful; linked = linked }
+proper = record { different = different items ranks_one ranks_two one two; sound = sound items ranks_one ranks_two one two; lawful = lawful; linked = linked }

@@ -17,7 +17,8 @@ use Rattle.alp_journal.specs.Coordinator.{Fate, Undrawn, Running, Finishing, Com
 use Rattle.alp_journal.specs.State.{State}
 use Rattle.alp_journal.specs.Moves.{next}
 use Rattle.alp_journal.specs.Laws.{TellsIn, TellsDecided, ending_of}
-use Rattle.alp_history.specs.Log.{Log, Decision, journal_of, state_at, final, IsIn, Heard, told_in}
+use Rattle.alp_history.specs.Log.{Log, Decision, journal_of, state_at, final, IsIn}
+use Rattle.alp_history.specs.Items.{stamps_in}
 use Rattle.alp_history.specs.Theorems.{IsProper, HasCommitted, TellsOfDecided, Tellings}
 use Rattle.alp_history.proofs.Places.{in-list, some-same}
 use Rattle.alp_history.proofs.Logs.{lawful-at, state-suc}
@@ -48,18 +49,17 @@ outcome-decision s t (Running c js) y e = cc
 outcome-decision s t (Finishing c js vs) y e = cc
 
 -- what a reply tells is decided there, of some transaction
-told-decision : (s : State) (c : Call) (r : Reply) (x : Stamp) → TellsIn s c r → IsIn (Heard x) (told_in r) → (t : TransId) × (js : List JoinNo) × (decision_in (s.fates t) ≡ Some (x, js))
+told-decision : (s : State) (c : Call) (r : Reply) (x : Stamp) → TellsIn s c r → IsIn x (stamps_in r) → (t : TransId) × (js : List JoinNo) × (decision_in (s.fates t) ≡ Some (x, js))
 told-decision s c (reply.Committed y) x h i = elim i [
-  | inl e ↦ (let same : x ≡ y = cc in (y.trans, h.0, h.1 ∙ ap (λ (w : Stamp). Some (w, h.0)) (sym same)))
+  | inl same ↦ (y.trans, h.0, h.1 ∙ ap (λ (w : Stamp). Some (w, h.0)) (sym same))
   | inr n ↦ absurd n
 ]
 told-decision s (call.Outcome t) (reply.Ended (ending.Committed y)) x h i = elim i [
-  | inl e ↦ (let same : x ≡ y = cc in let d = outcome-decision s t (s.fates t) y h.1 in (t, d.0, d.1 ∙ ap (λ (w : Stamp). Some (w, d.0)) (sym same)))
+  | inl same ↦ (let d = outcome-decision s t (s.fates t) y h.1 in (t, d.0, d.1 ∙ ap (λ (w : Stamp). Some (w, d.0)) (sym same)))
   | inr n ↦ absurd n
 ]
 told-decision s c (reply.Ended (ending.Committed y)) x h i = absurd h
 told-decision s c (reply.Ended z) x h i = absurd i
-told-decision s c (reply.Begun t) x h i = elim i [ inl e ↦ cc | inr n ↦ absurd n ]
 told-decision s c r x h i = absurd i
 
 module _ (log : Log) (proper : IsProper log) where

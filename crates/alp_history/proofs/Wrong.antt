@@ -3,8 +3,8 @@ use Rattle.std.specs.Prelude.{ℕ, true, false, None, Some}
 use Rattle.std.proofs.Common.{◌≡◌, List, [], ◌∷◌, ◌++◌, refl, sym, ap, ◌∙◌, arith}
 use Rattle.alp_base.specs.declared.ids.FileId.{FileId}
 use Rattle.alp_base.specs.declared.ids.TransId.{TransId}
-use Rattle.alp_files.specs.declared.cell.Props.{Props}
 use Rattle.alp_files.specs.declared.reply.Reply.TheVariants as reply
+use Rattle.alp_files.specs.declared.reply.Ended.TheVariants as ending
 use Rattle.alp_files.specs.declared.refusal.Refusal.TheVariants as refusal
 use Rattle.alp_journal.specs.declared.act.Act.TheVariants as act
 use Rattle.alp_journal.specs.declared.message.Message.TheVariants as msg
@@ -15,6 +15,7 @@ use Rattle.alp_journal.specs.Coordinator.{joins_of, votes_in}
 use Rattle.alp_journal.specs.State.{State, opened}
 use Rattle.alp_journal.specs.Moves.{next}
 use Rattle.alp_journal.specs.Laws.{IsLawfulEntry, latest_vote}
+use Rattle.alp_history.specs.RightLog.{opening}
 use Rattle.alp_history.specs.Examples.{trans, join, new, calls, arrives, owner, first_up, vote, worker_up, ask, restarts}
 use Rattle.alp_history.proofs.Worked.{life_at}
 use Rattle.alp_history.proofs.Named.{Only, only_after, alone_other}
@@ -32,8 +33,8 @@ some-none n h = cc
 skipped : IsUnlawful (new 1) skips_an_id
 skipped h = let wrong : 2 ≡ 1 = ap (λ (t : TransId). t.counter) ((last _ (hello ∷ []) _ h).deeds.0.counts) in omega (arith, wrong)
 
-epoch : (props : Props) → IsUnlawful (new 1) (file_of_another_epoch props)
-epoch props h = let wrong : 2 ≡ 1 = ap (λ (f : FileId). f.epoch) ((last _ (hello ∷ begin ∷ []) _ h).deeds.1.0.counts later_file refl) in omega (arith, wrong)
+epoch : IsUnlawful (opening 1) file_of_another_epoch
+epoch h = let wrong : 2 ≡ 1 = ap (λ (f : FileId). f.epoch) ((last _ (hello ∷ begin ∷ []) _ h).deeds.1.0.counts later_file refl) in omega (arith, wrong)
 
 below : IsUnlawful (new 1) decides_below_a_vote
 below h =
@@ -101,7 +102,7 @@ repeat_reply : IsUnlawful (new 1) another_reply_to_a_repeat
 repeat_reply h = let wrong : Some (reply.Refused refusal.OwnerExists) ≡ Some reply.Plain = (last _ (hello ∷ begin ∷ calls 1 3 owner reply.Plain (act.Granted trans ∷ []) ∷ []) _ h).sessions.0 in cc
 
 session : IsUnlawful (new 1) session_outlives_a_restart
-session h = let wrong : Some (reply.Refused refusal.UnknownTrans) ≡ Some (reply.Refused (refusal.StaleSession 2)) = (last _ (hello ∷ begin ∷ restarts 2 0 [] [] ∷ []) _ h).sessions.0 in cc
+session h = let wrong : Some (reply.Ended ending.Unknown) ≡ Some (reply.Refused (refusal.StaleSession 2)) = (last _ (hello ∷ begin ∷ restarts 2 0 [] [] ∷ []) _ h).sessions.0 in cc
 
 lost : IsUnlawful (new 2) loses_a_ready_part
 lost h = let wrong : false ≡ true = (last _ (worker_up ++ ask ∷ []) _ h).restart.0.1.ready join in cc

@@ -5,7 +5,7 @@ use Rattle.alp_journal.specs.declared.message.Message.TheVariants as msg
 use Rattle.alp_journal.specs.declared.entry.Entry.{Entry}
 use Rattle.alp_history.specs.Log.{IsLinked}
 use Rattle.alp_history.specs.Examples.{trans, join, stamp}
-use Rattle.alp_history.specs.RightLog.{second, second_join, second_stamp, hello, ranks_one, ranks_two, runs, one_with, one_decides, one_votes, one, two}
+use Rattle.alp_history.specs.RightLog.{second, second_join, second_stamp, hello, ranks_one, ranks_two, runs, nothing, one_with, one_decides, one_votes, one, two}
 use Rattle.alp_history.specs.WrongLogs.{two_crossed, ranks_crossed, crossed, one_tells, undecided, one_lets_go, unlocked}
 use Rattle.alp_history.proofs.LinkLemmas.{WasSentTo, AllRanked, sent_at, links_both}
 use Rattle.alp_history.proofs.RightProper.{by_one, by_two}
@@ -55,8 +55,11 @@ sent_one_crossed = (
                                     (
                                       tt,
                                       (
-                                        sent_at crossed 2 1 (msg.Done trans join) 36 13 (by_crossed 13) refl (inr (inr (inl refl))) refl,
                                         tt,
+                                        (
+                                          sent_at crossed 2 1 (msg.Done trans join) 36 13 (by_crossed 13) refl (inr (inr (inl refl))) refl,
+                                          tt,
+                                        ),
                                       ),
                                     ),
                                   ),
@@ -133,9 +136,7 @@ sent_two_crossed = (
 )
 
 pub linked_crossed : IsLinked crossed
-linked_crossed = links_both (runs 1 ranks_one one) (runs 2 ranks_crossed two_crossed) refl refl refl refl sent_one_crossed sent_two_crossed
-
--- both would hold the owner for change
+linked_crossed = links_both nothing (runs 1 ranks_one one) (runs 2 ranks_crossed two_crossed) refl refl refl refl sent_one_crossed sent_two_crossed
 
 -- ---- without a decision
 
@@ -182,8 +183,11 @@ sent_one_undecided = (
                                     (
                                       tt,
                                       (
-                                        sent_at undecided 2 1 (msg.Done trans join) 36 7 (by_two 7) refl (inr (inr (inl refl))) refl,
                                         tt,
+                                        (
+                                          sent_at undecided 2 1 (msg.Done trans join) 36 7 (by_two 7) refl (inr (inr (inl refl))) refl,
+                                          tt,
+                                        ),
                                       ),
                                     ),
                                   ),
@@ -260,7 +264,7 @@ sent_two_undecided = (
 )
 
 pub linked_undecided : IsLinked undecided
-linked_undecided = links_both (runs 1 ranks_one (one_with one_tells one_votes)) (runs 2 ranks_two two) refl refl refl refl sent_one_undecided sent_two_undecided
+linked_undecided = links_both nothing (runs 1 ranks_one (one_with one_tells one_votes)) (runs 2 ranks_two two) refl refl refl refl sent_one_undecided sent_two_undecided
 
 -- ---- a read lock let go at the vote
 
@@ -307,8 +311,11 @@ sent_one_unlocked = (
                                     (
                                       tt,
                                       (
-                                        sent_at unlocked 2 1 (msg.Done trans join) 36 7 (by_two 7) refl (inr (inr (inl refl))) refl,
                                         tt,
+                                        (
+                                          sent_at unlocked 2 1 (msg.Done trans join) 36 7 (by_two 7) refl (inr (inr (inl refl))) refl,
+                                          tt,
+                                        ),
                                       ),
                                     ),
                                   ),
@@ -385,4 +392,4 @@ sent_two_unlocked = (
 )
 
 pub linked_unlocked : IsLinked unlocked
-linked_unlocked = links_both (runs 1 ranks_one (one_with one_decides one_lets_go)) (runs 2 ranks_two two) refl refl refl refl sent_one_unlocked sent_two_unlocked
+linked_unlocked = links_both nothing (runs 1 ranks_one (one_with one_decides one_lets_go)) (runs 2 ranks_two two) refl refl refl refl sent_one_unlocked sent_two_unlocked

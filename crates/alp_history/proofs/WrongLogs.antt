@@ -19,7 +19,7 @@ use Rattle.alp_journal.specs.Moves.{next}
 use Rattle.alp_journal.specs.Laws.{IsLawful, IsLawfulEntry}
 use Rattle.alp_history.specs.Log.{IsIn, AreLawful, IsLinked}
 use Rattle.alp_history.specs.Examples.{trans, join}
-use Rattle.alp_history.specs.RightLog.{second, second_join, opening, sets, hello, ranks_one, ranks_two, runs, one_with, one_decides, one_votes, one, two_votes, two_with, two}
+use Rattle.alp_history.specs.RightLog.{second, second_join, opening, sets, hello, ranks_one, ranks_two, runs, nothing, one_with, one_decides, one_votes, one, two_votes, two_with, two}
 use Rattle.alp_history.specs.WrongLogs.{two_crossed, ranks_crossed, crossed, one_tells, undecided, one_lets_go, unlocked, two_drops, forged, ranks_late, hurried, AreOpposite, AreWrong}
 use Rattle.alp_history.proofs.Places.{along-at, some-same}
 use Rattle.alp_journal.proofs.IdLemmas.{or-true}
@@ -117,18 +117,18 @@ unlinked_hurried h =
     not_sent is_welcome 7 ranks_late one refl w.place w.entry (act.Sent 2 (msg.Joined trans join)) w.stands w.sent refl w.earlier
 
 lawful_forged : AreLawful forged
-lawful_forged = each_both (runs 1 ranks_one one) (runs 2 ranks_two (two_with two_drops)) (λ n x. IsLawful x.opening x.journal) one_lawful forged_lawful (λ m. tt)
+lawful_forged = each_both nothing (runs 1 ranks_one one) (runs 2 ranks_two (two_with two_drops)) (λ n x. IsLawful x.opening x.journal) one_lawful forged_lawful (λ m. tt)
 
 lawful_hurried : AreLawful hurried
-lawful_hurried = each_both (runs 1 ranks_late one) (runs 2 ranks_two two) (λ n x. IsLawful x.opening x.journal) one_lawful two_lawful (λ m. tt)
+lawful_hurried = each_both nothing (runs 1 ranks_late one) (runs 2 ranks_two two) (λ n x. IsLawful x.opening x.journal) one_lawful two_lawful (λ m. tt)
 
 -- ---- all of them
 
 pub wrong : AreWrong
 wrong = record {
-  opposite_orders = (opposite, record { different = different ranks_one ranks_crossed one two_crossed; sound = sound ranks_one ranks_crossed one two_crossed; linked = linked_crossed; unlawful = unlawful_crossed });
-  no_decision = record { different = different ranks_one ranks_two (one_with one_tells one_votes) two; sound = sound ranks_one ranks_two (one_with one_tells one_votes) two; linked = linked_undecided; unlawful = unlawful_undecided };
-  early_release = record { different = different ranks_one ranks_two (one_with one_decides one_lets_go) two; sound = sound ranks_one ranks_two (one_with one_decides one_lets_go) two; linked = linked_unlocked; unlawful = unlawful_unlocked };
-  nobody_sent = record { different = different ranks_one ranks_two one (two_with two_drops); sound = sound ranks_one ranks_two one (two_with two_drops); lawful = lawful_forged; unlinked = unlinked_forged };
-  before_it_was_sent = record { different = different ranks_late ranks_two one two; sound = sound ranks_late ranks_two one two; lawful = lawful_hurried; unlinked = unlinked_hurried };
+  opposite_orders = (opposite, record { different = different nothing ranks_one ranks_crossed one two_crossed; sound = sound nothing ranks_one ranks_crossed one two_crossed; linked = linked_crossed; unlawful = unlawful_crossed });
+  no_decision = record { different = different nothing ranks_one ranks_two (one_with one_tells one_votes) two; sound = sound nothing ranks_one ranks_two (one_with one_tells one_votes) two; linked = linked_undecided; unlawful = unlawful_undecided };
+  early_release = record { different = different nothing ranks_one ranks_two (one_with one_decides one_lets_go) two; sound = sound nothing ranks_one ranks_two (one_with one_decides one_lets_go) two; linked = linked_unlocked; unlawful = unlawful_unlocked };
+  nobody_sent = record { different = different nothing ranks_one ranks_two one (two_with two_drops); sound = sound nothing ranks_one ranks_two one (two_with two_drops); lawful = lawful_forged; unlinked = unlinked_forged };
+  before_it_was_sent = record { different = different nothing ranks_late ranks_two one two; sound = sound nothing ranks_late ranks_two one two; lawful = lawful_hurried; unlinked = unlinked_hurried };
 }

@@ -1,10 +1,11 @@
+pub mod Items
 pub mod Log
 pub mod Theorems
 pub mod Handed
 pub mod RunLogs
 pub mod Examples
-pub mod WrongJournals
 pub mod RightLog
 pub mod WrongLogs
 pub mod RightJournals
+pub mod WrongJournals
 pub mod ResumedLog

@@ -1,10 +1,9 @@
--- The log of a run of several servers: what its transactions are, where it starts and ends, and what clients were told.
+-- The log of a run of several servers: what its transactions are, and where it starts and ends.
 use Rattle.std.specs.Prelude.{◌≡◌, ℕ, ◌<◌, ◌≤◌, Bool, true, false, ◌==◌, ◌||◌, ◌⊎◌, List, [], ◌∷◌, ◌++◌, filter, flat_map, find, map as list_map, Option, None, Some, unwrap_or, slice_get, take, if◌then◌else◌}
 use Rattle.std.specs.List.{list_any, AllByRecursion}
 use Rattle.std.specs.FinMap as map
 use Rattle.std.specs.FinMap.Entries.{put}
 use Rattle.std.specs.FinMap.Entries as entries
-use Rattle.std.specs.declared.cmp.Ordering.TheVariants.{Less}
 use Rattle.alp_base.specs.declared.ids.JoinNo.{JoinNo}
 use Rattle.alp_base.specs.declared.ids.TransId.{TransId}
 use Rattle.alp_base.specs.declared.ids.Stamp.{Stamp}
@@ -13,10 +12,6 @@ use Rattle.alp_base.specs.Keys.{key_cmp}
 use Rattle.std.specs.Ordering.{eq_by_cmp, is_lt}
 use Rattle.alp_files.specs.Holdings.{held_by, IsIntended, DoAgree}
 use Rattle.alp_files.specs.declared.cell.Cell.{Cell}
-use Rattle.alp_files.specs.declared.reply.Reply.{Reply}
-use Rattle.alp_files.specs.declared.reply.Reply.TheVariants as reply
-use Rattle.alp_files.specs.declared.reply.Ended.{Ended as Ending}
-use Rattle.alp_files.specs.declared.reply.Ended.TheVariants as ending
 use Rattle.alp_files.specs.Cells.{Cells}
 use Rattle.alp_files.specs.Edits.{Edit, Drop, Cut, Put, edits_map, is_in_file, is_past}
 use Rattle.alp_files.specs.Locks.{Writes}
@@ -36,6 +31,7 @@ use Rattle.alp_journal.specs.Holder.{Life}
 use Rattle.alp_journal.specs.State.{State, opened}
 use Rattle.alp_journal.specs.Moves.{next}
 use Rattle.alp_journal.specs.Laws.{IsLawful}
+use Rattle.alp_history.specs.Items.{Handed}
 
 -- ---- the log
 
@@ -45,10 +41,10 @@ pub record ServerLog : Type 0 where
   pub journal : List Entry
   pub ranks : List ℕ
 
--- the whole, with what each client was handed in its order
+-- the whole, with what each client sent and was handed
 pub record Log : Type 0 where
   pub servers : List ServerLog
-  pub handed : ℕ → List Reply
+  pub handed : Handed
 
 -- a server that is none of the run
 abbrev pub nobody : ℕ → ServerLog
@@ -329,38 +325,3 @@ latest log n k stamp = latest_in k stamp (map.get (start_of log n) k) (left_of_e
 abbrev pub AreLatest : Log → Standings → List Decision → Type 0
 AreLatest log at [] = Unit {0}
 AreLatest log at (d ∷ ds) = ((n : ℕ) (k : Key) → map.get (at n).files k ≡ latest log n k d.0) × AreLatest log (after_shares at (shares_of log d)) ds
-
--- ---- what clients are told
-
-pub data Told : Type 0 where
-  Began : TransId → Told
-  Heard : Stamp → Told
-
-abbrev pub told_end : Ending → List Told
-told_end (ending.Committed s) = Heard s ∷ []
-told_end x = []
-
-abbrev pub told_in : Reply → List Told
-told_in (reply.Begun t) = Began t ∷ []
-told_in (reply.Committed s) = Heard s ∷ []
-told_in (reply.Ended x) = told_end x
-told_in r = []
-
--- a client's own begins, and the stamps that were handed to it, in its order
-abbrev pub told : Log → ℕ → List Told
-told log client = flat_map told_in (log.handed client)
-
-abbrev pub IsAmong : Stamp → List Decision → Type 0
-IsAmong s [] = ⊥
-IsAmong s (d ∷ ds) = (d.0 ≡ s) ⊎ IsAmong s ds
-
--- if it is this transaction's, the decision's stamp is above these
-abbrev pub IsAbove : List Stamp → TransId → Decision → Type 0
-IsAbove before t d = d.0.trans ≡ t → AllByRecursion (λ s. stamp_cmp s d.0 ≡ Less) before
-
--- each stamp that is told is of a decided transaction, and each transaction that begins for the client gets a stamp, if
--- any, above all that it was told before
-abbrev pub AreKept : List Decision → List Stamp → List Told → Type 0
-AreKept ds before [] = Unit {0}
-AreKept ds before (Began t ∷ more) = AllByRecursion (IsAbove before t) ds × AreKept ds before more
-AreKept ds before (Heard s ∷ more) = IsAmong s ds × AreKept ds (s ∷ before) more

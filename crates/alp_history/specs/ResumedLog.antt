@@ -16,7 +16,7 @@ use Rattle.alp_journal.specs.Opening.{ReadyNote, DecisionNote, Start}
 use Rattle.alp_history.specs.Log.{Log, ServerLog, Decision, decided, shares_of, start_of, finish_of}
 use Rattle.alp_history.specs.Theorems.{IsProper, IsOneThread}
 use Rattle.alp_history.specs.Examples.{trans, join, nothing_seen, stamp, new, arrives}
-use Rattle.alp_history.specs.RightLog.{owner_with, with_quota, reads, found_done, does, ticks, both}
+use Rattle.alp_history.specs.RightLog.{owner_with, with_quota, reads, found_done, does, ticks, both, nothing}
 use Rattle.alp_history.specs.RightJournals.{called, hello, afterwards}
 
 -- ---- what the earlier run left: it gave the owner the quota 5 on server 2, which has not heard of the commit
@@ -68,7 +68,7 @@ abbrev pub goes_on_two : ServerLog
 goes_on_two = record { opening = opening_two; journal = resumed_two; ranks = 1 ∷ 3 ∷ 5 ∷ 6 ∷ 7 ∷ 8 ∷ [] }
 
 abbrev pub resumed : Log
-resumed = both goes_on_one goes_on_two
+resumed = both nothing goes_on_one goes_on_two
 
 -- ---- its history: the reading transaction alone, on files in which the earlier one stands
 

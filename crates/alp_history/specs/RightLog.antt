@@ -1,5 +1,5 @@
--- A log of two servers that keeps the laws: three transactions, a message that is lost, one that comes twice, and each server
--- starts again once. The history that the theorems give for it is written out.
+-- A log of two servers that keeps the laws: three transactions, a message that is lost, one that comes twice, a call that comes twice,
+-- and each server starts again once. The history that the theorems give for it is written out.
 use Rattle.std.specs.Prelude.{◌≡◌, ℕ, ◌==◌, codes, true, List, [], ◌∷◌, ◌++◌, Option, None, Some, slice_get, unwrap_or, if◌then◌else◌}
 use Rattle.std.specs.FinMap as map
 use Rattle.alp_base.specs.declared.ids.TransId.{TransId}
@@ -25,7 +25,8 @@ use Rattle.alp_journal.specs.declared.entry.Entry.{Entry}
 use Rattle.alp_journal.specs.Opening.{Start}
 use Rattle.alp_history.specs.Log.{Log, ServerLog, Decision, decided, shares_of, start_of, finish_of}
 use Rattle.alp_history.specs.Theorems.{IsProper, IsOneThread}
-use Rattle.alp_history.specs.Handed.{Own, Sent, Item, Handed, AreOfClients, ArePromisesKept}
+use Rattle.alp_history.specs.Items.{Mark, Own, Repeated, Raw, Sent, Item, Handed}
+use Rattle.alp_history.specs.Handed.{AreOfClients, ArePromisesKept}
 use Rattle.alp_history.specs.Examples.{trans, join, nothing_seen, stamp, new, calls, arrives, restarts}
 
 -- ---- what both servers hold: one owner, with this quota
@@ -99,13 +100,15 @@ one_joins =
 abbrev pub one_votes : Entry
 one_votes = arrives 2 (msg.Ask second second_join) (act.Readied second second_join 2 ∷ act.Sent 2 (msg.Ready second second_join 2) ∷ [])
 
--- the second transaction is applied; the third one, whose client was told of the first, runs here alone; the first one is forgotten
+-- the second transaction is applied; the third one, whose client was told of the first, runs here alone, and its last frame comes
+-- twice; the first one is forgotten
 abbrev pub one_ends : List Entry
 one_ends =
     arrives 2 (msg.Commit second second_join second_stamp) (act.Applied second_join second_stamp ∷ act.Released second ∷ act.Sent 2 (msg.Done second second_join) ∷ [])
     ∷ calls 2 6 (call.Begin stamp) (reply.Begun third) (act.Drawn third ∷ [])
     ∷ calls 2 7 (sets third 8) reply.Plain (act.Granted third ∷ [])
     ∷ calls 2 8 (call.Finish third true) (reply.Committed third_stamp) (act.Decided third_stamp [] ∷ act.Released third ∷ [])
+    ∷ calls 2 8 (call.Finish third true) (reply.Committed third_stamp) []
     ∷ arrives 2 (msg.Done trans join) (act.Forgot trans ∷ [])
     ∷ []
 
@@ -147,19 +150,13 @@ two_ends =
     ∷ arrives 1 (msg.Commit trans join stamp) (act.Sent 1 (msg.Done trans join) ∷ [])
     ∷ []
 
--- ---- the log
+-- ---- the journals
 
 abbrev pub ranks_one : List ℕ
-ranks_one = 1 ∷ 2 ∷ 3 ∷ 6 ∷ 10 ∷ 13 ∷ 14 ∷ 15 ∷ 20 ∷ 21 ∷ 22 ∷ 24 ∷ 25 ∷ 26 ∷ 28 ∷ 30 ∷ 32 ∷ 33 ∷ 34 ∷ 36 ∷ []
+ranks_one = 1 ∷ 2 ∷ 3 ∷ 6 ∷ 10 ∷ 13 ∷ 14 ∷ 15 ∷ 20 ∷ 21 ∷ 22 ∷ 24 ∷ 25 ∷ 26 ∷ 28 ∷ 30 ∷ 32 ∷ 33 ∷ 34 ∷ 35 ∷ 36 ∷ []
 
 abbrev pub ranks_two : List ℕ
 ranks_two = 4 ∷ 5 ∷ 7 ∷ 8 ∷ 9 ∷ 11 ∷ 12 ∷ 16 ∷ 18 ∷ 19 ∷ 20 ∷ 23 ∷ 27 ∷ 29 ∷ 31 ∷ 33 ∷ 35 ∷ []
-
-abbrev pub runs : ℕ → List ℕ → List Entry → ServerLog
-runs n ranks journal = record { opening = opening n; journal = journal; ranks = ranks }
-
-abbrev pub both : ServerLog → ServerLog → Log
-both x y = record { servers = x ∷ y ∷ []; handed = λ c. [] }
 
 abbrev pub one : List Entry
 one = one_with one_decides one_votes
@@ -170,27 +167,47 @@ two_with applies = two_votes ++ (applies ∷ (two_decides ++ two_ends))
 abbrev pub two : List Entry
 two = two_with two_applies
 
-abbrev pub right : Log
-right = both (runs 1 ranks_one one) (runs 2 ranks_two two)
-
--- ---- what the client sent and was handed
+-- ---- what clients sent and were handed
 
 abbrev pub sent_in : Event → Option Sent
-sent_in (event.Call client epoch number c) = Some (record { epoch = epoch; number = number; call = c })
+sent_in (event.Call client epoch number c) = Some (record { client = client; epoch = epoch; number = number; call = c })
 sent_in e = None
 
--- a line of the client's own, whose entry stands there
-abbrev pub own : ℕ → List Entry → ℕ → Item
-own n journal i = record { server = n; mark = Own; sent = sent_in (unwrap_or (slice_get journal i) (hello 0)).event; reply = (unwrap_or (slice_get journal i) (hello 0)).reply; place = Some i }
+-- a line of such a mark, whose entry stands there
+abbrev pub line_at : Mark → ℕ → List Entry → ℕ → Item
+line_at mark n journal i = record { server = n; mark = mark; sent = sent_in (unwrap_or (slice_get journal i) (hello 0)).event; reply = (unwrap_or (slice_get journal i) (hello 0)).reply; place = Some i }
 
+abbrev pub own : ℕ → List Entry → ℕ → Item
+own n journal i = line_at Own n journal i
+
+-- bytes that spell no frame
+abbrev pub no_frame : Item
+no_frame = record { server = 2; mark = Raw; sent = None; reply = Some (reply.Refused refusal.BadFrame); place = None }
+
+-- the last of its frames is sent again, and answered as before
 abbrev pub lines : List Item
 lines =
     own 1 one 0 ∷ own 1 one 1 ∷ own 1 one 2 ∷ own 2 two 0 ∷ own 2 two 1 ∷ own 2 two 3 ∷ own 2 two 4 ∷ own 1 one 4
     ∷ own 2 two 8 ∷ own 2 two 9 ∷ own 2 two 10 ∷ own 1 one 8 ∷ own 1 one 9 ∷ own 1 one 10 ∷ own 1 one 12 ∷ own 1 one 13 ∷ own 2 two 12
-    ∷ own 1 one 16 ∷ own 1 one 17 ∷ own 1 one 18 ∷ []
+    ∷ own 1 one 16 ∷ own 1 one 17 ∷ own 1 one 18 ∷ line_at Repeated 1 one 19 ∷ no_frame ∷ []
 
 abbrev pub items : Handed
 items client = if client == 1 then lines else []
+
+-- ---- the log
+
+abbrev pub runs : ℕ → List ℕ → List Entry → ServerLog
+runs n ranks journal = record { opening = opening n; journal = journal; ranks = ranks }
+
+abbrev pub both : Handed → ServerLog → ServerLog → Log
+both handed x y = record { servers = x ∷ y ∷ []; handed = handed }
+
+-- where nothing is said of clients
+abbrev pub nothing : Handed
+nothing client = []
+
+abbrev pub right : Log
+right = both items (runs 1 ranks_one one) (runs 2 ranks_two two)
 
 -- ---- its history
 
@@ -229,6 +246,6 @@ pub record IsHistoryOfRight : Type 0 where
 -- the log and what its client was handed keep to all that the theorems ask, and they say of it what is written here
 pub record IsShownRight : Type 0 where
   pub proper : IsProper right
-  pub clients : AreOfClients right items
-  pub promises : ArePromisesKept right items
+  pub clients : AreOfClients right
+  pub promises : ArePromisesKept right
   pub history : IsHistoryOfRight

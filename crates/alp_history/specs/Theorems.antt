@@ -30,8 +30,9 @@ use Rattle.alp_journal.specs.Holder.{Life}
 use Rattle.alp_journal.specs.State.{State}
 use Rattle.alp_journal.specs.Moves.{is_new, stops}
 use Rattle.alp_journal.specs.Laws.{is_standing}
-use Rattle.alp_history.specs.Handed.{Handed, AreOfClients, ArePromisesKept}
-use Rattle.alp_history.specs.Log.{Heard, told_in, Log, opening_of, journal_of, state_at, final, IsLinked, AreLawful, AreSoundOpenings, AreDifferent, IsIn, decided, finish_of, starting_all, IsSerial, serial_end, IsChargedAfterEach, latest, AreLatest}
+use Rattle.alp_history.specs.Items.{stamps_in}
+use Rattle.alp_history.specs.Handed.{AreOfClients, ArePromisesKept}
+use Rattle.alp_history.specs.Log.{Log, opening_of, journal_of, state_at, final, IsLinked, AreLawful, AreSoundOpenings, AreDifferent, IsIn, decided, finish_of, starting_all, IsSerial, serial_end, IsChargedAfterEach, latest, AreLatest}
 
 pub record IsProper (log : Log) : Type 0 where
   pub different : AreDifferent log
@@ -203,7 +204,7 @@ Findings = (log : Log) → IsProper log → FindsLatest log
 -- earlier run decided it
 abbrev pub TellsOfDecided : Log → Type 0
 TellsOfDecided log = (n i client epoch number : ℕ) (c : Call) (e : Entry) (r : Reply) (x : Stamp)
-    → slice_get (journal_of log n) i ≡ Some e → e.event ≡ event.Call client epoch number c → e.reply ≡ Some r → is_new (state_at log n i) client epoch number ≡ true → IsIn (Heard x) (told_in r)
+    → slice_get (journal_of log n) i ≡ Some e → e.event ≡ event.Call client epoch number c → e.reply ≡ Some r → is_new (state_at log n i) client epoch number ≡ true → IsIn x (stamps_in r)
     → (js : List JoinNo) × HasCommitted log n x js × (IsIn (x, js) (decided log) ⊎ ((d : DecisionNote) × IsIn d (opening_of log n).decisions × (d.stamp ≡ x) × (d.joins ≡ js)))
 
 abbrev pub Tellings : Type 0
@@ -211,4 +212,4 @@ Tellings = (log : Log) → IsProper log → TellsOfDecided log
 
 -- what is promised to clients, whose items are as their machine and the servers leave them, is kept
 abbrev pub Promises : Type 0
-Promises = (log : Log) (handed : Handed) → IsProper log → AreOfClients log handed → ArePromisesKept log handed
+Promises = (log : Log) → IsProper log → AreOfClients log → ArePromisesKept log

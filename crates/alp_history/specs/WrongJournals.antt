@@ -5,11 +5,11 @@ use Rattle.alp_base.specs.declared.ids.TransId.{TransId}
 use Rattle.alp_base.specs.declared.ids.JoinNo.{JoinNo}
 use Rattle.alp_base.specs.declared.ids.Stamp.{Stamp}
 use Rattle.alp_base.specs.declared.choices.Choice.TheVariants as choice
-use Rattle.alp_files.specs.declared.cell.Props.{Props}
 use Rattle.alp_files.specs.declared.call.Call.{Call}
 use Rattle.alp_files.specs.declared.call.Call.TheVariants as call
 use Rattle.alp_files.specs.declared.reply.Reply.{Reply}
 use Rattle.alp_files.specs.declared.reply.Reply.TheVariants as reply
+use Rattle.alp_files.specs.declared.reply.Ended.TheVariants as ending
 use Rattle.alp_files.specs.declared.refusal.Refusal.TheVariants as refusal
 use Rattle.alp_files.specs.declared.refusal.Cause.TheVariants as cause
 use Rattle.alp_journal.specs.declared.act.Act.{Act}
@@ -20,6 +20,8 @@ use Rattle.alp_journal.specs.declared.entry.Entry.{Entry}
 use Rattle.alp_journal.specs.Opening.{Start}
 use Rattle.alp_journal.specs.Laws.{IsLawful}
 use Rattle.alp_history.specs.Examples.{trans, join, nothing_seen, stamp, new, calls, arrives, owner, first_up, vote, worker_up, ask, restarts}
+use Rattle.alp_history.specs.RightLog.{opening}
+use Rattle.alp_history.specs.RightJournals.{creates}
 
 -- a journal does not keep the laws
 abbrev pub IsUnlawful : Start → List Entry → Type 0
@@ -47,8 +49,8 @@ abbrev pub later_file : FileId
 later_file = record { server = 1; epoch = 2; counter = 1 }
 
 -- a file gets an id of the next epoch
-abbrev pub file_of_another_epoch : Props → List Entry
-file_of_another_epoch props = (hello ∷ begin ∷ []) ++ calls 1 3 (call.CreateFile trans props choice.Fail) (reply.Created later_file 1) (act.Granted trans ∷ []) ∷ []
+abbrev pub file_of_another_epoch : List Entry
+file_of_another_epoch = creates later_file
 
 -- ---- decisions
 
@@ -153,9 +155,9 @@ another_reply_to_a_repeat = (hello ∷ begin ∷ calls 1 3 owner reply.Plain (ac
 
 -- ---- restarts
 
--- a session goes on behind a restart
+-- a session goes on behind a restart: its next call is answered as if it did
 abbrev pub session_outlives_a_restart : List Entry
-session_outlives_a_restart = (hello ∷ begin ∷ restarts 2 0 [] [] ∷ []) ++ calls 1 3 (call.Outcome trans) (reply.Refused refusal.UnknownTrans) [] ∷ []
+session_outlives_a_restart = (hello ∷ begin ∷ restarts 2 0 [] [] ∷ []) ++ calls 2 3 (call.Outcome trans) (reply.Ended ending.Unknown) [] ∷ []
 
 -- a ready part is not found again
 abbrev pub loses_a_ready_part : List Entry
@@ -165,7 +167,7 @@ loses_a_ready_part = (worker_up ++ ask ∷ []) ++ restarts 2 0 [] [] ∷ []
 
 pub record AreRefused : Type 0 where
   pub skipped : IsUnlawful (new 1) skips_an_id
-  pub epoch : (props : Props) → IsUnlawful (new 1) (file_of_another_epoch props)
+  pub epoch : IsUnlawful (opening 1) file_of_another_epoch
   pub below : IsUnlawful (new 1) decides_below_a_vote
   pub above : IsUnlawful (new 1) decides_above_all_votes
   pub unvoted : IsUnlawful of_three decides_without_a_vote

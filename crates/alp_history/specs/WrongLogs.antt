@@ -11,7 +11,7 @@ use Rattle.alp_journal.specs.declared.entry.Entry.{Entry}
 use Rattle.alp_history.specs.Theorems.{HasCommitted, mode_at}
 use Rattle.alp_history.specs.Log.{Log, AreDifferent, AreSoundOpenings, AreLawful, IsLinked}
 use Rattle.alp_history.specs.Examples.{trans, join, stamp, arrives}
-use Rattle.alp_history.specs.RightLog.{second, second_join, second_stamp, ranks_one, ranks_two, runs, both, one_with, one_decides, one_votes, one, two_votes, two_applies, two_decides, two_ends, two_with, two}
+use Rattle.alp_history.specs.RightLog.{second, second_join, second_stamp, ranks_one, ranks_two, runs, both, nothing, one_with, one_decides, one_votes, one, two_votes, two_applies, two_decides, two_ends, two_with, two}
 
 abbrev pub the_owner : Key
 the_owner = OwnerOf (codes "ann")
@@ -27,7 +27,7 @@ abbrev pub ranks_crossed : List ℕ
 ranks_crossed = 4 ∷ 5 ∷ 7 ∷ 8 ∷ 9 ∷ 11 ∷ 12 ∷ 18 ∷ 19 ∷ 20 ∷ 23 ∷ 27 ∷ 29 ∷ 30 ∷ 31 ∷ 33 ∷ 35 ∷ []
 
 abbrev pub crossed : Log
-crossed = both (runs 1 ranks_one one) (runs 2 ranks_crossed two_crossed)
+crossed = both nothing (runs 1 ranks_one one) (runs 2 ranks_crossed two_crossed)
 
 -- both are decided; on server 1 the first one's lock on the owner ends before the second one's, and on server 2 behind it
 pub record AreOpposite : Type 0 where
@@ -45,7 +45,7 @@ abbrev pub one_tells : Entry
 one_tells = arrives 2 (msg.Ready trans join 1) (act.Released trans ∷ act.Sent 2 (msg.Commit trans join stamp) ∷ [])
 
 abbrev pub undecided : Log
-undecided = both (runs 1 ranks_one (one_with one_tells one_votes)) (runs 2 ranks_two two)
+undecided = both nothing (runs 1 ranks_one (one_with one_tells one_votes)) (runs 2 ranks_two two)
 
 -- ---- a read lock let go at the vote
 
@@ -53,7 +53,7 @@ abbrev pub one_lets_go : Entry
 one_lets_go = arrives 2 (msg.Ask second second_join) (act.Readied second second_join 2 ∷ act.Released second ∷ act.Sent 2 (msg.Ready second second_join 2) ∷ [])
 
 abbrev pub unlocked : Log
-unlocked = both (runs 1 ranks_one (one_with one_decides one_lets_go)) (runs 2 ranks_two two)
+unlocked = both nothing (runs 1 ranks_one (one_with one_decides one_lets_go)) (runs 2 ranks_two two)
 
 -- ---- a message that nobody sent
 
@@ -62,16 +62,16 @@ abbrev pub two_drops : Entry
 two_drops = arrives 1 (msg.Abort trans join cause.Asked) (act.Released trans ∷ [])
 
 abbrev pub forged : Log
-forged = both (runs 1 ranks_one one) (runs 2 ranks_two (two_with two_drops))
+forged = both nothing (runs 1 ranks_one one) (runs 2 ranks_two (two_with two_drops))
 
 -- ---- a message that arrives before it was sent
 
 -- server 1 lets the first join in at rank 8, and server 2 hears of it at rank 7
 abbrev pub ranks_late : List ℕ
-ranks_late = 1 ∷ 2 ∷ 3 ∷ 8 ∷ 10 ∷ 13 ∷ 14 ∷ 15 ∷ 20 ∷ 21 ∷ 22 ∷ 24 ∷ 25 ∷ 26 ∷ 28 ∷ 30 ∷ 32 ∷ 33 ∷ 34 ∷ 36 ∷ []
+ranks_late = 1 ∷ 2 ∷ 3 ∷ 8 ∷ 10 ∷ 13 ∷ 14 ∷ 15 ∷ 20 ∷ 21 ∷ 22 ∷ 24 ∷ 25 ∷ 26 ∷ 28 ∷ 30 ∷ 32 ∷ 33 ∷ 34 ∷ 35 ∷ 36 ∷ []
 
 abbrev pub hurried : Log
-hurried = both (runs 1 ranks_late one) (runs 2 ranks_two two)
+hurried = both nothing (runs 1 ranks_late one) (runs 2 ranks_two two)
 
 -- ---- all of them
 

@@ -15,6 +15,6 @@ pub use entry::Entry;
 pub use event::Event;
 pub use journal::Journal;
 pub use lists::{Acts, Parts, Stamps};
-pub use log::{ClientLog, Item, Mark, RunLog, Sent, ServerLog};
+pub use log::{Item, Mark, RunLog, Sent, ServerLog};
 pub use message::{Envelope, Message};
 pub use opening::Opening;

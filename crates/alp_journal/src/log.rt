@@ -11,10 +11,15 @@ pub enum Mark {
     Raw,
 }
 
-/// What was sent: a call with the epoch and the number that it gave, or bytes that spell none.
+/// What was sent: a call with the client, the epoch and the number that its frame named, or bytes that spell none.
 #[derive(Drop)]
 pub enum Sent {
-    Call { epoch: u32, number: u32, call: Call },
+    Call {
+        client: u8,
+        epoch: u32,
+        number: u32,
+        call: Call,
+    },
     Bytes(Bytes),
 }
 
@@ -30,13 +35,6 @@ pub struct Item {
     pub place: Option<u32>,
 }
 
-/// What a client sent and was handed, in its order.
-#[derive(Drop)]
-pub struct ClientLog {
-    pub client: u8,
-    pub items: Vec<Item>,
-}
-
 /// A server: what it was started on, what it did, and the rank of each entry.
 #[derive(Drop)]
 pub struct ServerLog<O: Opening> {
@@ -47,8 +45,9 @@ pub struct ServerLog<O: Opening> {
 }
 
 /// All that a run did. A rank orders the entries of all servers: an entry that depends on another has the greater rank.
+/// What a client sent and was handed stands at its number, in its order.
 #[derive(Drop)]
 pub struct RunLog<O: Opening> {
     pub servers: Vec<ServerLog<O>>,
-    pub clients: Vec<ClientLog>,
+    pub clients: Vec<Vec<Item>>,
 }
