@@ -1,15 +1,10 @@
--- The text of a report: a line for each line of a client, and the summary.
-use Rattle.std.specs.Prelude.{ℕ, ◌-◌, List, [], ◌∷◌, ◌++◌, codes, length, flat_map, sum, Option, None, Some}
+-- The texts of a report: that of a line of a client, and that of the summary.
+use Rattle.std.specs.Prelude.{ℕ, List, [], ◌∷◌, ◌++◌, codes, length, flat_map, sum, Option, None, Some}
 use Rattle.std.specs.Fmt.{decimal}
 use Rattle.alp_files.specs.declared.cell.OwnerRecord.{OwnerRecord}
 use Rattle.alp_files.specs.declared.reply.Reply.{Reply}
 use Rattle.alp_files.specs.Cells.{Cells, sizes_of, owners_of}
-use Rattle.alp_journal.specs.declared.log.Exchange.{Exchange}
-use Rattle.alp_journal.specs.declared.log.LineLog.{LineLog}
-use Rattle.alp_journal.specs.declared.log.RunLog.{RunLog}
-use Rattle.alp_journal.specs.declared.opening.Opening.{Ghosts}
-use Rattle.alp_journal.specs.State.{State}
-use Rattle.alp_journal.specs.Serial.{final}
+use Rattle.alp_journal.specs.declared.log.Item.{Item}
 use Rattle.alp_report.specs.Replies.{reply_text}
 
 -- what was handed: silence has a word of its own
@@ -17,17 +12,15 @@ abbrev pub handed_text : Option Reply → List ℕ
 handed_text (Some r) = reply_text r
 handed_text None = codes "silent"
 
--- the last that a line was handed, or `none` where it sent nothing
-abbrev pub exchanges_text : List Exchange → List ℕ
-exchanges_text [] = codes "none"
-exchanges_text (x ∷ []) = handed_text x.reply
-exchanges_text (x ∷ y ∷ xs) = exchanges_text (y ∷ xs)
+-- the last that was handed to a line, or `none` where it sent nothing
+abbrev pub items_text : List Item → List ℕ
+items_text [] = codes "none"
+items_text (x ∷ []) = handed_text x.reply
+items_text (x ∷ y ∷ xs) = items_text (y ∷ xs)
 
-abbrev pub line_text : LineLog → List ℕ
-line_text l = decimal l.line ++ codes " " ++ exchanges_text l.exchanges.items ++ 10 ∷ []
-
-abbrev pub lines_text : List LineLog → List ℕ
-lines_text lines = flat_map line_text lines
+-- the line of the report for a line with this number that sent these
+abbrev pub line_text : ℕ → List Item → List ℕ
+line_text number items = decimal number ++ codes " " ++ items_text items ++ 10 ∷ []
 
 abbrev pub server_text : ℕ → ℕ → ℕ → Cells → List ℕ
 server_text server epoch clock cells =
@@ -47,10 +40,3 @@ count_text committed aborted = codes "committed " ++ decimal committed ++ codes 
 abbrev pub summary_text : ℕ → ℕ → ℕ → Cells → ℕ → ℕ → List ℕ
 summary_text server epoch clock cells committed aborted =
     server_text server epoch clock cells ++ owners_text server (owners_of cells) ++ count_text committed aborted
-
-abbrev pub state_text : State → List ℕ
-state_text s = summary_text s.server s.epoch s.clock s.cells (length s.decided) (s.drawn - length s.decided)
-
--- the report of a run
-abbrev pub report_of : {O : Type 0} → Ghosts O → RunLog O → List ℕ
-report_of opening log = lines_text log.lines.items ++ state_text (final opening log)

@@ -1,4 +1,4 @@
-//! The report of a run, as text.
+//! The report of a run, as text: a line for each line of a client, and the summary.
 #![tactic(auto)]
 
 mod lines;
@@ -9,4 +9,5 @@ mod summary;
 #[cfg(test)]
 mod tests;
 
-pub use summary::{Summary, report};
+pub use lines::put_line;
+pub use summary::{Summary, put_summary};

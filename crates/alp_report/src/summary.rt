@@ -1,12 +1,10 @@
-//! The whole report: the lines of the clients, and what the server holds in the end.
-ghost use Rattle.std.specs.Prelude.{◌≡◌, ◌++◌, OnOk, IfOk, sum, length};
-ghost use Rattle.alp_report.specs.Reports.{lines_text, owner_line, owners_text, count_text};
+//! What a server holds in the end, and how its transactions ended.
+ghost use Rattle.std.specs.Prelude.{◌≡◌, ◌++◌, OnOk, sum, length};
+ghost use Rattle.alp_report.specs.Reports.{owner_line, owners_text, count_text};
 ghost use Rattle.alp_report.specs.Sections.{files_text, held_text, printed_with, printed};
 
-use crate::lines::put_lines;
 use alp_base::OutOfMemory;
 use alp_files::{CellMap, OwnerRecord};
-use alp_journal::LineLog;
 use std::alloc::Global;
 use std::io::{self, Write};
 
@@ -71,7 +69,7 @@ fn put_count(out: &mut Vec<u8>, committed: u32, aborted: u32) -> io::Result<()>
     write!(out, "committed {committed} aborted {aborted}\n")
 }
 
-fn put_summary(
+fn put_sections(
     out: &mut Vec<u8>,
     summary: &Summary,
     sizes: &[u32],
@@ -84,28 +82,18 @@ fn put_summary(
     put_count(out, summary.committed, summary.aborted)
 }
 
-fn put_report(
+/// Appends what a server holds at the end, and how its transactions ended.
+pub fn put_summary(
+    alloc: Global,
     out: &mut Vec<u8>,
-    lines: &[LineLog],
     summary: &Summary,
-    sizes: &[u32],
-    owners: &[OwnerRecord],
-) -> io::Result<()>
-    ensures { OnOk result (out.new.items ≡ out.old.items ++ (lines_text lines.now ++ printed_with summary.now sizes.now owners.now)) }
-{
-    put_lines(out, lines)?;
-    put_summary(out, summary, sizes, owners)
-}
-
-/// The report of a run: a line for each line of the clients, and the summary.
-pub fn report(alloc: Global, lines: &[LineLog], summary: &Summary) -> Result<Vec<u8>, OutOfMemory>
-    ensures { IfOk result (λ v. v.items ≡ lines_text lines.now ++ printed summary.now) }
+) -> Result<(), OutOfMemory>
+    ensures { OnOk result (out.new.items ≡ out.old.items ++ printed summary.now) }
 {
     let sizes = summary.files.sizes(alloc)?;
     let owners = summary.files.owners(alloc)?;
-    let mut out = Vec::new(alloc);
-    match put_report(&mut out, lines, summary, &sizes, &owners) {
-        Ok(()) => Ok(out),
+    match put_sections(out, summary, &sizes, &owners) {
+        Ok(()) => Ok(()),
         Err(_) => Err(OutOfMemory),
     }
 }

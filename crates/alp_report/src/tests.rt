@@ -4,7 +4,7 @@ use alp_base::{AccessList, FileId, Key, Name, Page, PageList, PageRef, Stamp, Tr
 use alp_files::{
     Call, Cause, Cell, CellMap, Ended, ListName, OwnerRecord, Props, Refusal, Reply, What, Why,
 };
-use alp_journal::{Exchange, LineLog};
+use alp_journal::{Item, Mark, Sent};
 use std::alloc::Global;
 use std::test::Fail;
 
@@ -311,28 +311,21 @@ fn what_there_is_too_much_of(rt: HostRuntime) -> Result<(), Fail> {
     Ok(())
 }
 
-// A call that was handed the reply.
-fn exchange(reply: Option<Reply>) -> Exchange {
-    Exchange {
+// What was handed for a call.
+fn item(reply: Option<Reply>) -> Item {
+    Item {
+        line: 3,
         server: 1,
-        epoch: 2,
-        number: 1,
-        call: Call::Begin { seen: STAMP },
+        mark: Mark::Own,
+        sent: Sent::Call {
+            client: 1,
+            epoch: 2,
+            number: 1,
+            call: Call::Begin { seen: STAMP },
+        },
         reply,
         place: None,
     }
-}
-
-fn line(alloc: Global, number: u32, replies: Vec<Option<Reply>>) -> Result<LineLog, Fail> {
-    let mut exchanges = Vec::new(alloc);
-    for reply in replies {
-        exchanges.push(exchange(reply))?;
-    }
-    Ok(LineLog {
-        line: number,
-        client: 1,
-        exchanges,
-    })
 }
 
 #[test]
@@ -341,17 +334,14 @@ fn a_run(rt: HostRuntime) -> Result<(), Fail> {
     let mut files = CellMap::new(alloc);
     files.put(Key::Leader(FILE), Cell::Leader(props(alloc)?))?;
     files.put(Key::OwnerOf(name(b"ann")?), Cell::Owner(owner(alloc)?))?;
-    let mut lines = Vec::new(alloc);
-    lines.push(line(
-        alloc,
-        3,
-        vec![in alloc;
-            Some(Reply::Welcome { epoch: 2 }),
-            Some(Reply::Begun { trans: TRANS }),
-        ]?,
-    )?)?;
-    lines.push(line(alloc, 4, vec![in alloc; None]?)?)?;
-    lines.push(line(alloc, 10, Vec::new(alloc))?)?;
+    let mut text = Vec::new(alloc);
+    let begun = vec![in alloc;
+        item(Some(Reply::Welcome { epoch: 2 })),
+        item(Some(Reply::Begun { trans: TRANS })),
+    ]?;
+    put_line(&mut text, 3, &begun)?;
+    put_line(&mut text, 4, &vec![in alloc; item(None)]?)?;
+    put_line(&mut text, 10, &[])?;
     let summary = Summary {
         server: 1,
         epoch: 2,
@@ -360,7 +350,7 @@ fn a_run(rt: HostRuntime) -> Result<(), Fail> {
         committed: 8,
         aborted: 9,
     };
-    let text = report(alloc, &lines, &summary)?;
+    put_summary(alloc, &mut text, &summary)?;
     let want =
         "3 ok trans 1.2.34\n4 silent\n10 none\nserver 1 epoch 2 clock 567 files 1 pages 4\nowner 1 ann charge 4 quota 10\ncommitted 8 aborted 9\n";
     assert!(rt; text.as_slice() == want.as_bytes());
