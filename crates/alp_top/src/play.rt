@@ -1,14 +1,15 @@
-//! Plays the lines of a script: the clients' calls, and what the server answers.
-ghost use Rattle.std.specs.Prelude.{◌≡◌, ◌+◌, ◌<◌, ◌≤◌, List, [], ◌∷◌, ◌++◌, OnOk, IfOk, IsSome, length, Some, true, false};
+//! Plays the lines of a script: the clients' calls, what the server answers, and the lines of the report.
+ghost use Rattle.std.specs.Prelude.{◌≡◌, ◌+◌, ◌<◌, ◌≤◌, [], ◌∷◌, ◌++◌, List, OnOk, IfOk, IsSome, length, get_or, map as list_map, Some, true, false};
 ghost use Rattle.std.specs.List.{AllByRecursion};
-ghost use Rattle.std.specs.Option.{option_to_list};
 ghost use Rattle.alp_base.specs.declared.faults.VaultFault.TheVariants as vault_fault;
 ghost use Rattle.alp_client.specs.Crowds.{client_at, asks};
-ghost use Rattle.alp_journal.specs.declared.log.Exchange.{Exchange as AnExchange};
+ghost use Rattle.alp_journal.specs.declared.log.Item.{Item as AnItem};
 ghost use Rattle.alp_node.specs.Nodes.{HasRoom};
 ghost use Rattle.alp_node.specs.declared.start.StartFault.TheVariants as start_fault;
 ghost use Rattle.alp_script.specs.Forms.{IsForm};
 ghost use Rattle.alp_script.specs.Order.{names_ours};
+ghost use Rattle.alp_script.specs.Accepted.{RisesFrom};
+ghost use Rattle.alp_top.specs.Turns.{Turn, lists_in, own_in, turns_text};
 ghost use Rattle.alp_top.specs.Runs.{HasPlayed, IsNewOpening};
 ghost use Rattle.alp_top.specs.Servers.{IsOn, start_in};
 ghost use Rattle.alp_top.specs.Steps.{InStep, Exchanged, Did, Adds};
@@ -16,14 +17,18 @@ ghost use Rattle.alp_top.specs.Steps.{InStep, Exchanged, Did, Adds};
 use alp_base::{OutOfMemory, Sizes};
 use alp_client::{Clients, NumberedCall};
 use alp_files::Call;
-use alp_journal::{Event, Exchange, LineLog};
+use alp_journal::{Event, Item, Mark, Sent};
 use alp_node::{Node, StartFault};
-use alp_script::{Line, NumberedLine};
+use alp_report::put_line;
+use alp_script::NumberedLine;
 use alp_vault::MemVault;
 use std::alloc::Global;
 
 /// The server of a run at this stage.
 const SERVER: u8 = 1;
+
+/// One more than the greatest number of a client.
+const PLACES: usize = 17;
 
 /// The sizes of its volume.
 const VOLUME: Sizes = Sizes {
@@ -38,27 +43,21 @@ fn copied(call: &Call) -> Result<Call, OutOfMemory>
     Ok(copy)
 }
 
-// What a client sent, what it heard, and whether its line is over.
-#[derive(Drop)]
-struct Sent {
-    exchange: Exchange,
-    is_over: bool,
-}
-
-// A client sends what it asks for its line, and hears the reply.
+// A client sends what it asks for its line, and hears the reply: one item more. Gives whether the line is over.
 fn send(
     clients: &mut Clients,
     node: &mut Node<MemVault>,
+    items: &mut Vec<Item>,
     client: u8,
-    line: &Line,
+    line: &NumberedLine,
     frame: NumberedCall,
-) -> Result<Sent, OutOfMemory>
+) -> Result<bool, OutOfMemory>
     requires client { client ≤ 16 }
     requires step { InStep clients.old node.old }
     requires room { HasRoom node.old }
-    requires form { IsForm line.now }
-    requires asked { asks clients.old client line.now false ≡ Some frame }
-    ensures { IfOk result (λ s. Exchanged clients.old clients.new node.old node.new client line.now frame s.is_over s.exchange) }
+    requires form { IsForm line.now.line }
+    requires asked { asks clients.old client line.now.line false ≡ Some frame }
+    ensures { IfOk result (λ over. (x : AnItem) × (items.new.items ≡ items.old.items ++ x ∷ []) × Exchanged clients.old clients.new node.old node.new client line.now frame over x) }
 {
     let NumberedCall {
         epoch,
@@ -73,105 +72,120 @@ fn send(
         number,
         call,
     })?;
-    let is_over = clients.hears(client, line, &reply)?;
-    Ok(Sent {
-        exchange: Exchange {
-            server: SERVER,
+    let is_over = clients.hears(client, &line.line, &reply)?;
+    items.push(Item {
+        line: line.number,
+        server: SERVER,
+        mark: Mark::Own,
+        sent: Sent::Call {
+            client,
             epoch,
             number,
             call: sent,
-            reply,
-            place: Some(place),
         },
-        is_over,
-    })
+        reply,
+        place: Some(place),
+    })?;
+    Ok(is_over)
 }
 
-// The exchanges of a line whose first one was the greeting.
-fn after_greeting(
+// What a client sends for a line whose greeting was answered.
+fn send_greeted(
     alloc: Global,
     clients: &mut Clients,
     node: &mut Node<MemVault>,
+    items: &mut Vec<Item>,
     client: u8,
-    line: &Line,
-    greeting: Exchange,
-) -> Result<Vec<Exchange>, OutOfMemory>
+    line: &NumberedLine,
+) -> Result<(), OutOfMemory>
     requires client { client ≤ 16 }
     requires step { InStep clients.old node.old }
     requires room { HasRoom node.old }
-    requires form { IsForm line.now }
+    requires form { IsForm line.now.line }
     requires greeted { IsSome (client_at clients.old client).session }
-    ensures { IfOk result (λ v. (xs : List AnExchange) × (v.items ≡ greeting ∷ xs) × Did clients.old clients.new node.old node.new client line.now 1 xs) }
+    ensures { OnOk result ((xs : List AnItem) × (items.new.items ≡ items.old.items ++ xs) × Did clients.old clients.new node.old node.new client line.now 1 xs) }
 {
-    let mut exchanges = Vec::new(alloc);
-    exchanges.push(greeting)?;
-    let Some(frame) = clients.asks(alloc, client, line)? else {
-        return Ok(exchanges);
-    };
-    let last = send(clients, node, client, line, frame)?;
-    exchanges.push(last.exchange)?;
-    Ok(exchanges)
+    if let Some(frame) = clients.asks(alloc, client, &line.line)? {
+        send(clients, node, items, client, line, frame)?;
+    }
+    Ok(())
 }
 
-// The exchanges of a line of a client.
-fn exchange(
+// What a client sends for a line, and is handed.
+fn send_line(
     alloc: Global,
     clients: &mut Clients,
     node: &mut Node<MemVault>,
+    items: &mut Vec<Item>,
     client: u8,
-    line: &Line,
-) -> Result<Vec<Exchange>, OutOfMemory>
+    line: &NumberedLine,
+) -> Result<(), OutOfMemory>
     requires client { client ≤ 16 }
     requires step { InStep clients.old node.old }
     requires room { length node.old.journal + 1 < 65536 }
-    requires form { IsForm line.now }
-    ensures { IfOk result (λ v. Did clients.old clients.new node.old node.new client line.now 2 v.items) }
+    requires form { IsForm line.now.line }
+    ensures { OnOk result ((xs : List AnItem) × (items.new.items ≡ items.old.items ++ xs) × Did clients.old clients.new node.old node.new client line.now 2 xs) }
 {
-    let Some(frame) = clients.asks(alloc, client, line)? else {
-        return Ok(Vec::new(alloc));
+    let Some(frame) = clients.asks(alloc, client, &line.line)? else {
+        return Ok(());
     };
-    let first = send(clients, node, client, line, frame)?;
-    if !first.is_over {
-        return after_greeting(alloc, clients, node, client, line, first.exchange);
+    if send(clients, node, items, client, line, frame)? {
+        return Ok(());
     }
-    let mut exchanges = Vec::new(alloc);
-    exchanges.push(first.exchange)?;
-    Ok(exchanges)
+    send_greeted(alloc, clients, node, items, client, line)
 }
 
-// What a line adds to the log: nothing, where it is a declaration.
+// The line of a client, with its line of the report.
+fn play_own(
+    alloc: Global,
+    clients: &mut Clients,
+    node: &mut Node<MemVault>,
+    items: &mut Vec<Item>,
+    text: &mut Vec<u8>,
+    client: u8,
+    line: &NumberedLine,
+) -> Result<(), OutOfMemory>
+    requires client { client ≤ 16 }
+    requires step { InStep clients.old node.old }
+    requires room { length node.old.journal + 1 < 65536 }
+    requires form { IsForm line.now.line }
+    ensures { OnOk result ((xs : List AnItem) × (items.new.items ≡ items.old.items ++ xs) × (text.new.items ≡ text.old.items ++ turns_text (record { line = line.now.number; client = client; items = xs } ∷ [])) × Did clients.old clients.new node.old node.new client line.now 2 xs) }
+{
+    let before = items.len();
+    send_line(alloc, clients, node, items, client, line)?;
+    put_line(text, line.number, &items[before..])
+}
+
+// A line, which adds nothing where it is a declaration.
 fn play_line(
     alloc: Global,
     clients: &mut Clients,
     node: &mut Node<MemVault>,
+    lists: &mut Vec<Vec<Item>>,
+    text: &mut Vec<u8>,
     line: &NumberedLine,
-) -> Result<Option<LineLog>, OutOfMemory>
+) -> Result<(), OutOfMemory>
     requires step { InStep clients.old node.old }
     requires room { length node.old.journal + 1 < 65536 }
     requires form { IsForm line.now.line }
     requires ours { names_ours line.now.line ≡ true }
-    ensures { IfOk result (λ o. Adds clients.old clients.new node.old node.new line.now (option_to_list o)) }
+    requires places { length lists.old.items ≡ 17 }
+    ensures { OnOk result (Adds clients.old clients.new node.old node.new line.now lists.old.items lists.new.items text.old.items text.new.items) }
 {
     let Some(client) = line.line.client() else {
         clients.declares(&line.line);
-        return Ok(None);
+        return Ok(());
     };
     clients.at_line(client, &line.line)?;
-    let exchanges = exchange(alloc, clients, node, client, &line.line)?;
-    Ok(Some(LineLog {
-        line: line.number,
+    play_own(
+        alloc,
+        clients,
+        node,
+        &mut lists[client as usize],
+        text,
         client,
-        exchanges,
-    }))
-}
-
-fn add(logs: &mut Vec<LineLog>, log: Option<LineLog>) -> Result<(), OutOfMemory>
-    ensures { OnOk result (logs.new.items ≡ logs.old.items ++ option_to_list log) }
-{
-    if let Some(log) = log {
-        logs.push(log)?;
-    }
-    Ok(())
+        line,
+    )
 }
 
 /// A run that has played some lines.
@@ -179,7 +193,10 @@ fn add(logs: &mut Vec<LineLog>, log: Option<LineLog>) -> Result<(), OutOfMemory>
 pub struct PlayedRun {
     pub clients: Clients,
     pub node: Node<MemVault>,
-    pub lines: Vec<LineLog>,
+    /// What each client sent and was handed, at its number.
+    pub lists: Vec<Vec<Item>>,
+    /// The lines of the report so far.
+    pub text: Vec<u8>,
 }
 
 // The one fault of a start on a vault in memory that holds no note.
@@ -203,24 +220,44 @@ fn new_node(alloc: Global) -> Result<Node<MemVault>, OutOfMemory>
     }
 }
 
+// A list for each number, which has nothing yet.
+fn new_lists(alloc: Global) -> Result<Vec<Vec<Item>>, OutOfMemory>
+    ensures many { IfOk result (λ v. length v.items ≡ 17) }
+    ensures empty { IfOk result (λ v. AllByRecursion (λ x. x.items ≡ []) v.items) }
+{
+    let mut lists = Vec::with_capacity(alloc, PLACES)?;
+    for _place in 0..PLACES {
+        lists.push(Vec::new(alloc))?;
+    }
+    Ok(lists)
+}
+
 /// Plays all lines on a new server.
 pub fn play(alloc: Global, lines: &[NumberedLine]) -> Result<PlayedRun, OutOfMemory>
     requires few { length lines.now ≤ 1000 }
     requires forms { AllByRecursion (λ l. IsForm l.line) lines.now }
     requires ours { AllByRecursion (λ l. names_ours l.line ≡ true) lines.now }
     ensures short { IfOk result (λ run. length run.node.journal ≤ 2000) }
-    ensures played { IfOk result (λ run. HasPlayed lines.now run.clients run.node run.lines.items) }
+    ensures played { IfOk result (λ run. HasPlayed lines.now run.clients run.node run.lists.items run.text.items) }
 {
     let mut clients = Clients::new(alloc)?;
     let mut node = new_node(alloc)?;
-    let mut logs = Vec::new(alloc);
+    let mut lists = new_lists(alloc)?;
+    let mut text = Vec::new(alloc);
     for line in lines {
-        let log = play_line(alloc, &mut clients, &mut node, line)?;
-        add(&mut logs, log)?;
+        play_line(
+            alloc,
+            &mut clients,
+            &mut node,
+            &mut lists,
+            &mut text,
+            line,
+        )?;
     }
     Ok(PlayedRun {
         clients,
         node,
-        lines: logs,
+        lists,
+        text,
     })
 }
