@@ -11,7 +11,8 @@ use Rattle.std.specs.Cmp.{tied_itself}
 use Rattle.std.specs.FinMap as map
 use Rattle.std.specs.FinMap.{get-entries, entries_sorted, find as found}
 use Rattle.std.specs.FinMap.Entries.{below_all}
-use Rattle.std.proofs.Common.{◌≡◌, ℕ, List, [], ◌∷◌, ◌++◌, length, refl, sym, ◌∙◌, ap, subst}
+use Rattle.std.proofs.Common.{◌≡◌, ℕ, List, [], ◌∷◌, ◌++◌, length, refl, sym, ◌∙◌, ap, subst, arith}
+use Rattle.std.proofs.lemmas.Bool.{ne_eqb}
 use Rattle.alp_base.specs.declared.ids.FileId.{FileId}
 use Rattle.alp_base.specs.declared.ids.TransId.{TransId}
 use Rattle.alp_base.specs.declared.key.Resource.{Resource}
@@ -334,6 +335,9 @@ join_covered : (x : Option Mode) (m : Mode) → covers_held x m ≡ true → joi
 join_covered None m h = cc
 join_covered (Some b) m h = ap Some (join_by_cases b m ∙ ap (λ (e : Bool). cond {A = Mode} e b (cond {A = Mode} (covers_of m b) m ReadIntendWrite)) h)
 
+pub not_empty : (n : Need) (ns : List Need) → (length (n ∷ ns) == 0) ≡ false
+not_empty n ns = ne_eqb (length (n ∷ ns)) 0 (λ e. absurd (omega (arith, e)))
+
 module _ (h : Held) (q : Resource) (m : Mode) where
   abbrev one : List Need
   one = (q, m) ∷ []
@@ -366,7 +370,7 @@ module _ (h : Held) (q : Resource) (m : Mode) where
   -- a need rises just where what is held does not cover it
   pub rises_as : (ns : List Need) → risen h one ≡ ns → not (covers_held (map.get h q) m) ≡ not (length ns == 0)
   rises_as [] is = ap not (covered_so is)
-  rises_as (n ∷ ns) is = go (covers_held (map.get h q) m) refl
+  rises_as (n ∷ ns) is = go (covers_held (map.get h q) m) refl ∙ sym (ap not (not_empty n ns))
     where
       go : (b : Bool) → covers_held (map.get h q) m ≡ b → not b ≡ true
       go false e = refl

@@ -1,5 +1,5 @@
 -- what is counted of live transactions, and what is counted of all ids that were drawn
-use Rattle.std.specs.Prelude.{cond, Bool, true, false, ◌&&◌, ◌==◌, not, nat_le, Option, None, Some, is_some, sum_by, filter}
+use Rattle.std.specs.Prelude.{cond, Bool, true, false, ◌&&◌, ◌==◌, not, nat_le, Option, None, Some, is_some, sum_by, filter, map as list_map}
 use Rattle.std.specs.FinMap as map
 use Rattle.std.specs.FinMap.{same_map, len-entries}
 use Rattle.std.proofs.Common.{◌≡◌, ℕ, zero, suc, ◌+◌, ◌<◌, ◌≤◌, List, [], ◌∷◌, ◌++◌, length, refl, sym, ◌∙◌, ap, subst, arith}
@@ -10,7 +10,11 @@ use Rattle.alp_base.specs.Orders.{trans_cmp, transactions_total, exact_transacti
 use Rattle.alp_files.proofs.SumLemmas.{weight_at, sum-insert}
 use Rattle.alp_journal.specs.Ids.{same_trans}
 use Rattle.alp_journal.proofs.IdLemmas.{same_trans-true, same_trans-itself}
+use Rattle.alp_node.specs.Bounded.{sum_of}
+use Rattle.alp_node.specs.Rooms.{totals_from}
 use Rattle.alp_node.specs.ServerState.{trans_to}
+use Rattle.alp_node.specs.declared.bounds.Bounds.{Bounds}
+use Rattle.alp_node.specs.declared.lives.Live.{Live}
 use Rattle.alp_node.proofs.MapLemmas.{get_put, get_gone}
 
 -- an id of this server and epoch
@@ -108,3 +112,14 @@ few_pass {X} p server epoch n m there =
     go t false e o h = omega arith
     go t true e (Some x) h = omega arith
     go t true e None h = let wrong : false ≡ true = h e in cc
+
+-- ---- all bounds together
+
+-- with those of these parts
+abbrev pub total_listed : Bounds → List Live → Bounds
+total_listed b [] = b
+total_listed b (l ∷ ls) = total_listed (sum_of b l.bounds) ls
+
+pub totals_listed : (b : Bounds) (es : List (TransId × Live)) → total_listed b (list_map (λ (e : TransId × Live). e.1) es) ≡ totals_from b es
+totals_listed b [] = refl
+totals_listed b (e ∷ es) = totals_listed (sum_of b e.1.bounds) es

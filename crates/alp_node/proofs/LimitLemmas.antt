@@ -3,7 +3,6 @@ use Rattle.std.specs.Prelude.{cond, Bool, true, false, ◌&&◌, ◌==◌, not, 
 use Rattle.std.specs.List.{list_all}
 use Rattle.std.specs.Option.{option_or}
 use Rattle.std.specs.FinMap as map
-use Rattle.std.specs.FinMap.{entries_sorted, get-entries}
 use Rattle.std.proofs.Common.{◌≡◌, ℕ, zero, suc, ◌+◌, ◌-◌, ◌*◌, ◌/◌, ◌<◌, ◌≤◌, List, [], ◌∷◌, ◌++◌, length, length-append, refl, sym, ◌∙◌, ap, subst, arith}
 use Rattle.std.proofs.lemmas.Bool.{ltb-true}
 use Rattle.std.proofs.lemmas.List.Sums.{sum_by-cons}
@@ -26,7 +25,7 @@ use Rattle.alp_files.specs.declared.refusal.Refusal.{Refusal}
 use Rattle.alp_files.specs.declared.refusal.Refusal.TheVariants as refusal
 use Rattle.alp_files.specs.declared.refusal.What.TheVariants as what
 use Rattle.alp_files.specs.Locks.{Need}
-use Rattle.alp_files.proofs.SumLemmas.{weight_at, sum-insert, sum-nothing}
+use Rattle.alp_files.proofs.SumLemmas.{weight_at, sum-insert, sum_of-nothing}
 use Rattle.alp_vault.specs.Counted.{AreCounts, places_with}
 use Rattle.alp_vault.proofs.CountLemmas.{counts-same, used-new}
 use Rattle.alp_journal.specs.Counts.{is_put, need_of, changed, log_need, with_resources, has_resource}
@@ -195,8 +194,7 @@ module _ {V : Type 0} (a : Alone) (held : Contents) (k : ServerState V) where
   none_made : (p : Key → Bool) (m : Cells) → made_in p m m ≡ 0
   none_made p m =
       counted p m (map.entries m)
-      ∙ sum-nothing keys_total exact_keys (weight p m) (map.entries m) (entries_sorted m)
-        (λ q c is. ap (λ (o : Option Cell). cond {A = ℕ} (p q && is_none o) 1 0) (get-entries m q ∙ is) ∙ zero_so (p q))
+      ∙ sum_of-nothing keys_total exact_keys (weight p m) m (λ q c is. ap (λ (o : Option Cell). cond {A = ℕ} (p q && is_none o) 1 0) is ∙ zero_so (p q))
     where
       zero_so : (b : Bool) → cond {A = ℕ} (b && false) 1 0 ≡ 0
       zero_so true = refl
@@ -313,11 +311,11 @@ module _ {V : Type 0} (a : Alone) (held : Contents) (k : ServerState V) (t : Tra
   module _ (x : Answer) where
     past_none : (p : Key → Bool) (stand limit total more : ℕ) → made_by_all p (alone a) (all_live (alone a)) ≤ total → puts_on p x.edits ≤ more → list_all is_put x.edits ≡ true → stand + (total + more) ≤ limit
         → is_past_limit p (alone a) life x stand limit ≡ false
-    past_none p stand limit total more all adds alone fits =
+    past_none p stand limit total more all adds puts fits =
         (λ i. nat_lt (made_of p a.holder.cells life.edits) (made_of p a.holder.cells (life.edits ++ x.edits))
             && not_over limit (stand + made_by_all p (alone a) (all_live (alone a)) + (made_of p a.holder.cells (life.edits ++ x.edits) - made_of p a.holder.cells life.edits))
               (past_most stand (made_by_all p (alone a) (all_live (alone a))) total more limit (made_of p a.holder.cells (life.edits ++ x.edits)) (made_of p a.holder.cells life.edits) (puts_on p x.edits) all adds fits
-              (more_made a held k p life.edits x.edits alone)) i)
+              (more_made a held k p life.edits x.edits puts)) i)
         ∙ last (nat_lt (made_of p a.holder.cells life.edits) (made_of p a.holder.cells (life.edits ++ x.edits)))
       where
         past_most : (stand made total more limit later now puts : ℕ) → made ≤ total → puts ≤ more → stand + (total + more) ≤ limit → later ≤ now + puts → stand + made + (later - now) ≤ limit

@@ -1,10 +1,10 @@
 -- the entry of a call that asked for locks
-use Rattle.std.specs.Prelude.{cond, Bool, true, false, not, ◌==◌, nat_le, nat_lt, Option, None, Some, is_some, IsTrue}
+use Rattle.std.specs.Prelude.{cond, Bool, true, false, not, ◌||◌, ◌==◌, nat_le, nat_lt, Option, None, Some, is_some, IsTrue}
 use Rattle.std.specs.List.{AllByRecursion, list_any}
 use Rattle.std.specs.Option.{option_or}
 use Rattle.std.specs.FinMap as map
 use Rattle.std.proofs.Common.{inl, inr, ◌⊎◌, ◌≡◌, ℕ, ◌+◌, ◌<◌, ◌≤◌, List, [], ◌∷◌, ◌++◌, length, refl, sym, ◌∙◌, ap, subst, arith}
-use Rattle.std.proofs.lemmas.Bool.{ne_eqb, leb-true}
+use Rattle.std.proofs.lemmas.Bool.{leb-true}
 use Rattle.alp_base.specs.declared.ids.FileId.{FileId}
 use Rattle.alp_base.specs.declared.ids.TransId.{TransId}
 use Rattle.alp_base.specs.declared.key.Resource.{Resource}
@@ -67,7 +67,7 @@ use Rattle.alp_node.specs.declared.sessions.Turn.{Turn}
 use Rattle.alp_node.proofs.AddLemmas.{Adds, within_more}
 use Rattle.alp_node.proofs.AskLemmas.{OpensLocked, lock_adds}
 use Rattle.alp_node.proofs.CallLemmas.{done_kept, performs, gave, after_call, done_as}
-use Rattle.alp_node.proofs.ConflictLemmas.{held_elsewhere, would_hold, least_holder, rises_as}
+use Rattle.alp_node.proofs.ConflictLemmas.{held_elsewhere, would_hold, least_holder, not_empty, rises_as}
 use Rattle.alp_node.proofs.FinishLemmas.{turn_session, turn_next}
 use Rattle.alp_node.proofs.GrantLemmas.{kept_beside, kept_locked, lock_built, lock_choice, lock_few, IsOne, lock_one, lock_made, of_given, next_told, id_given}
 use Rattle.alp_node.proofs.KeptLemmas.{IsSession, IsLive, live_there, stands_timely, stepped_so}
@@ -86,9 +86,6 @@ not_full n few = go (nat_le 64 n) refl
     go : (b : Bool) → nat_le 64 n ≡ b → b ≡ false
     go false e = refl
     go true e = (let wrong : 64 ≤ n = leb-true 64 n e in absurd (omega (arith, wrong, few)))
-
-not_empty : (n : Need) (ns : List Need) → (length (n ∷ ns) == 0) ≡ false
-not_empty n ns = ne_eqb (length (n ∷ ns)) 0 (λ e. absurd (omega (arith, e)))
 
 -- a reply that is a thread's is granted what was asked
 grants_asked : (t : TransId) (r : Reply) → is_passing r ≡ false → grants_by true t r ≡ t ∷ []
@@ -146,7 +143,7 @@ module _ {V : Type 0} (a : Alone) (held : Contents) (k : ServerState V) (t : Tra
         ∙ rises_as (held_of k.locks.held t) one.on one.mode (risen (held_of k.locks.held t) ((one.on, one.mode) ∷ [])) refl
         ∙ ap (λ (ns : List Need). not (length (risen (held_of k.locks.held t) ns) == 0)) (sym one.is)
       where
-        or_none : (b : Bool) → cond {A = Bool} b true false ≡ b
+        or_none : (b : Bool) → (b || false) ≡ b
         or_none true = refl
         or_none false = refl
 

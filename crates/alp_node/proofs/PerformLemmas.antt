@@ -160,10 +160,7 @@ module _ {V : Type 0} (a : Alone) (held : Contents) (k : ServerState V) (t : Tra
     page_grants : [] ≡ grants_if (alone a) t c r (Some life)
     page_grants =
         sym (one_or_none (is_some (option_or (shape_refusal (alone a) life c) (lock_refusal (alone a) t life c))) (grants_by (asks a.holder life c) t r)
-        (ap (λ (ns : List Need). grants_by (any_rises ns) t r) asks_none ∙ grants_nothing t r))
-      where
-        abbrev any_rises : List Need → Bool
-        any_rises ns = list_any (rises_on life.held) ns
+        (ap (λ (ns : List Need). grants_by (list_any (rises_on life.held) ns) t r) asks_none ∙ grants_nothing t r))
 
 module _ {V : Type 0} (a : Alone) (before now : ℕ) (held : Contents) (k : ServerState V) (turn : Turn) (t : TransId) (l : Live) (p : Part) (c : Call) (r : Reply) (b : Bounds) (v : V) where
   -- the part performed the call and stands as that says

@@ -25,7 +25,9 @@ use Rattle.alp_journal.specs.Alone.{Alone, alone}
 use Rattle.alp_journal.proofs.AloneEntries.{counted_as, refused_leads}
 use Rattle.alp_node.specs.Asks.{is_of_given}
 use Rattle.alp_node.specs.Calls.{IsServedCall, IsPageCall, IsLockCall}
-use Rattle.alp_node.specs.Served.{is_on_open}
+use Rattle.alp_node.specs.Served.{IsInTurn, IsNextOf, is_on_open}
+use Rattle.alp_node.specs.Sessions.{session_at}
+use Rattle.alp_node.specs.declared.sessions.Session.{Session}
 use Rattle.alp_node.specs.Dead.{is_dead}
 use Rattle.alp_node.specs.ServerState.{IsAs}
 use Rattle.alp_node.specs.Standings.{standing_of}
@@ -134,3 +136,13 @@ served_lock (call.MakeOwner t name quota create choice) is on = is
 served_lock (call.ReadPages t n run mode choice) is on = cc
 served_lock (call.WritePages t n run pages choice) is on = cc
 served_lock c is on = absurd is
+
+-- ---- turns
+
+-- a call in its turn has the epoch of its session
+pub in_turn_epoch : {V : Type 0} (k : ServerState V) (client epoch number : ℕ) (c : Call) (w : Session) → session_at k.sessions client ≡ Some w → IsInTurn k client epoch number c → epoch ≡ k.epoch
+in_turn_epoch k client epoch number c w there h = go c h
+  where
+    go : (c : Call) → IsInTurn k client epoch number c → epoch ≡ k.epoch
+    go (call.Hello name) h = (let wrong : None ≡ Some w = sym h.0 ∙ there in cc)
+    go c h = (subst (λ (x : Option Session). IsNextOf x k.epoch epoch number) there h).0

@@ -35,7 +35,7 @@ returns-clause-kept g c =
     let k : ServerState g.row.V.Denot = record {
       alloc = c.args.alloc;
       server = c.args.server;
-      sizes = c.sizes.result;
+      sizes = c.sizes-sizes.result;
       epoch = c.in-Ok.clock.epoch;
       clock = c.in-Ok.clock.clock;
       drawn = 0;
@@ -51,7 +51,7 @@ returns-clause-kept g c =
     let n : Node g.row.V.Denot = record { opening = record { vault = c.of.result }; kept = k; journal = c.new-6.result } in
     let new : ServerState g.row.V.Denot = new_kept k c.args.server (G.volume v) c.in-Ok.clock in
     let same : new ≡ k =
-    (λ i. record k { sizes = (c.store-2.ensures.kept.sizes ∙ sym c.sizes.ensures) i; sessions = sym c.new-2.ensures i; lives = sym c.new-3.ensures i; dead = sym c.new-4.ensures i; locks = sym c.new-5.ensures.empty i }) in
+    (λ i. record k { sizes = (c.store-2.ensures.kept.sizes ∙ sym c.sizes-sizes.ensures) i; sessions = sym c.new-2.ensures i; lives = sym c.new-3.ensures i; dead = sym c.new-4.ensures i; locks = sym c.new-5.ensures.empty i }) in
     record {
       ready = subst (λ (m : ℕ). IsReady m (G.serves v) k) (sym (ap length c.new-6.ensures))
           (subst (IsReady 0 (G.serves v)) same

@@ -1,6 +1,7 @@
-use Rattle.std.proofs.Common.{◌≡◌, ℕ, arith, refl, sym, subst, ◌∙◌}
+use Rattle.std.proofs.Common.{◌≡◌, ℕ, List, arith, refl, sym, subst, ◌∙◌}
 use Rattle.std.specs.Prelude.{Option}
 use Rattle.alp_files.specs.declared.reply.Reply.{Reply}
+use Rattle.alp_journal.specs.declared.entry.Entry.{Entry}
 use Rattle.alp_node.specs.declared.server_state.ServerState.{ServerState}
 use Rattle.alp_node.specs.declared.node.Node.{Node}
 use Rattle.alp_node.specs.Nodes.{IsConsistent, Answered, start_in, state_of}
@@ -12,7 +13,7 @@ pub answer-requires-clause-known : goal.answer-requires-clause-known
 answer-requires-clause-known g c tells = ((c.requires.kept.right tells).state, (c.requires.kept.right tells).kept)
 
 pub answer-requires-clause-sound : goal.answer-requires-clause-sound
-answer-requires-clause-sound g c tells = right_sound g.V.Vault c.args.self.now (g.V.Vault.held c.args.self.now.kept.vault) (c.requires.kept.right tells) c.if-is_down.false
+answer-requires-clause-sound g c tells = right_sound g.V.Vault c.args.self.now (g.V.Vault.held c.args.self.now.kept.vault) (c.requires.kept.right tells) c.if-self.false
 
 pub returns-in-Ok-clause-kept : goal.returns-in-Ok-clause-kept
 returns-in-Ok-clause-kept g c =
@@ -70,3 +71,6 @@ returns-in-Err-clause-clock g c tells =
     let r = (c.requires.kept.right tells) in
     let now : c.args.self.now.kept.clock ≡ c.answer.new.self.clock = sym r.kept.clock ∙ (c.in-Err.ensures.still.kept r.state r.kept).clock in
     omega (arith, now)
+
+pub returns-in_err-make_place-clause-kept : goal.returns-in_err-make_place-clause-kept
+returns-in_err-make_place-clause-kept g c = subst (λ (es : List Entry). IsConsistent g.V.Vault (record c.args.self.now { journal = es })) (sym c.in_err-make_place.ensures.err) c.requires.kept
