@@ -22,11 +22,11 @@ use Rattle.alp_history.proofs.Agreed.{size}
 use Rattle.alp_history.proofs.Rights.{IsRightDeed}
 
 -- the clock does not fall, but at a restart
-abbrev IsRestart : Deed → Bool
+abbrev pub IsRestart : Deed → Bool
 IsRestart (Restarts a b) = true
 IsRestart d = false
 
-clock-grows : (d : Deed) (h : Holder) → IsRestart d ≡ false → h.clock ≤ (holder_after h d).clock
+pub clock-grows : (d : Deed) (h : Holder) → IsRestart d ≡ false → h.clock ≤ (holder_after h d).clock
 clock-grows (Begins t c w n) h r = omega arith
 clock-grows (Grants t c) h r = go (h.lives t)
   where

@@ -38,7 +38,7 @@ collects-same : (d : Desk) (client n : ℕ) → (collected d client n).sessions 
 collects-same d client n = same-if d.sessions (is_dead_call d client (waiting_at d client n)) d (without_waits d (λ (w : Waiting). w.client == client && w.number == n)) refl refl
 
 -- what an answer leaves of waits and dead parts is no matter of sessions
-waits-same : (d : Desk) (p : TransId → Bool) (client number : ℕ) (c : Call) (r : Reply) → (waits_after d p client number c r).sessions ≡ d.sessions
+pub waits-same : (d : Desk) (p : TransId → Bool) (client number : ℕ) (c : Call) (r : Reply) → (waits_after d p client number c r).sessions ≡ d.sessions
 waits-same d p client number (call.Begin seen) r = refl
 waits-same d p client number (call.Join t) r =
     same-if d.sessions (is_unknown r) d (begins_if (is_not_yet r) (buried d client) client number (call.Join t)) refl (begins (is_not_yet r) (buried d client) client number (call.Join t))

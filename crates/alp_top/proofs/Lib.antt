@@ -1,7 +1,2 @@
-pub mod AskLemmas
-pub mod StepLemmas
-pub mod NewLemmas
-pub mod RunLemmas
-pub mod EndLemmas
+pub mod EntryLemmas
 pub mod StreamLemmas
-pub mod LiveLemmas

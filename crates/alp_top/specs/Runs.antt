@@ -1,34 +1,43 @@
--- A run that has played some lines of a script, and one that has come to its end.
-use Rattle.std.specs.Prelude.{◌≡◌, ℕ, ◌*◌, ◌≤◌, List, ◌++◌, length, map as list_map}
+-- A run that has played some lines of a script, and its server at the end.
+use Rattle.std.specs.Prelude.{◌≡◌, ℕ, ◌*◌, ◌≤◌, List, [], ◌++◌, length, map as list_map, Vec}
+use Rattle.std.specs.Global.{Global}
 use Rattle.std.specs.FinMap as map
 use Rattle.alp_base.specs.declared.ids.TransId.{TransId}
 use Rattle.alp_journal.specs.declared.entry.Entry.{Entry}
 use Rattle.alp_journal.specs.declared.event.Event.TheVariants as event
-use Rattle.alp_journal.specs.declared.log.LineLog.{LineLog}
-use Rattle.alp_journal.specs.State.{Start}
-use Rattle.alp_journal.specs.Serial as serial
-use Rattle.alp_journal.specs.Told.{exchanges_of}
-use Rattle.alp_fields.specs.ClockNote.{clock_name, clock_form}
+use Rattle.alp_journal.specs.declared.log.Item.{Item}
+use Rattle.alp_journal.specs.Opening.{Start}
+use Rattle.alp_node.specs.Nodes as node
 use Rattle.alp_script.specs.declared.numbered.NumberedLine.{NumberedLine}
 use Rattle.alp_client.specs.Crowd.{Crowd}
-use Rattle.alp_client.specs.Crowds.{new_crowd}
-use Rattle.alp_report.specs.Reports.{lines_text, state_text}
+use Rattle.alp_client.specs.Crowds.{new_crowd, client_at}
+use Rattle.alp_history.specs.RunLogs.{item_of}
+use Rattle.alp_top.specs.Turns.{Turn, lists_in, own_in, sent_in, turns_text}
 use Rattle.alp_top.specs.Plays.{Plays, AreRecorded, AreLive}
-use Rattle.alp_top.specs.Servers.{Server, IsOn, start_in, state_of}
-use Rattle.alp_top.specs.Steps.{InStep}
+use Rattle.alp_top.specs.Servers.{Server, IsOn, start_in}
+use Rattle.alp_top.specs.Steps.{InStep, HasSaid}
 
--- a new server 1, which holds nothing but the note of its first epoch, with clock 0
+-- a new server 1, alone, which holds nothing, in its first epoch and with clock 0
 pub record IsNewOpening (o : Start) : Type 0 where
   pub server : o.server ≡ 1
+  pub servers : o.servers ≡ 1
+  pub epoch : o.epoch ≡ 1
+  pub clock : o.clock ≡ 0
   pub cells : o.cells ≡ map.empty
-  pub notes : o.notes ≡ map.insert map.empty clock_name (clock_form.spell (record { epoch = 1; clock = 0 }))
+  pub ready : o.ready ≡ []
+  pub decisions : o.decisions ≡ []
 
 -- the lines so far, played on a new server
-pub record HasPlayed (lines : List NumberedLine) (c : Crowd) (n : Server) (logs : List LineLog) : Type 0 where
+pub record HasPlayed (lines : List NumberedLine) (c : Crowd) (n : Server) (lists : List (Vec Item Global)) (text : List ℕ) : Type 0 where
   pub step : InStep c n
   pub opening : IsNewOpening (start_in n)
-  pub plays : Plays new_crowd lines logs c
-  pub recorded : AreRecorded 0 (exchanges_of logs) n.journal
+  pub turns : List Turn
+  pub plays : Plays new_crowd lines turns c
+  pub places : length lists ≡ 17
+  pub lists : (k : ℕ) → lists_in lists k ≡ own_in k turns
+  pub said : (k : ℕ) → HasSaid k (client_at c k) (list_map item_of (own_in k turns))
+  pub text : text ≡ turns_text turns
+  pub recorded : AreRecorded 0 (sent_in turns) n.journal
   pub few : length n.journal ≤ 2 * length lines
 
 -- behind these entries each of these transactions times out
@@ -38,15 +47,8 @@ pub record HasTimedOut (calls : List Entry) (live : List TransId) (n : Server) :
   pub journal : n.journal ≡ calls ++ ends
   pub ended : list_map (λ e. e.event) ends ≡ list_map event.Timeout live
 
--- the lines played, and each transaction that was live then is over
-pub record HasSettled (lines : List NumberedLine) (c : Crowd) (n : Server) (logs : List LineLog) : Type 0 where
-  pub calls : List Entry
+-- each transaction that was live is over
+pub record IsAtEnd (before now : Server) : Type 0 where
   pub live : List TransId
-  pub plays : Plays new_crowd lines logs c
-  pub recorded : AreRecorded 0 (exchanges_of logs) calls
-  pub left : AreLive (serial.state_of (start_in n) calls) live
-  pub ended : HasTimedOut calls live n
-
--- the report by what its journal says
-abbrev pub told_of : Server → List LineLog → List ℕ
-told_of n logs = lines_text logs ++ state_text (state_of n)
+  pub left : AreLive (node.state_of (start_in before) before.journal) live
+  pub ended : HasTimedOut before.journal live now

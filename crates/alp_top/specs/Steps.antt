@@ -4,6 +4,7 @@ use Rattle.std.specs.Global.{Global}
 use Rattle.std.specs.List.{AllByRecursion}
 use Rattle.alp_base.specs.declared.ids.Stamp.{Stamp}
 use Rattle.alp_files.specs.declared.call.Call.{Call}
+use Rattle.alp_files.specs.declared.call.Call.TheVariants as call
 use Rattle.alp_journal.specs.Desk.{Session}
 use Rattle.alp_journal.specs.State.{State}
 use Rattle.alp_journal.specs.declared.entry.Entry.{Entry}
@@ -54,12 +55,21 @@ HasLast None xs = xs ≡ []
 HasLast (Some g) xs = AllByRecursion (λ (x : items.Item). (s : Sent) → x.sent ≡ Some s → s.number ≤ g.last) xs
 
 
--- what it sent and was handed, as its machine has it: numbers in turn, and begins that have seen all that it was told
+abbrev pub IsNoOutcome : Call → Type 0
+IsNoOutcome (call.Outcome t) = ⊥
+IsNoOutcome c = Unit {0}
+
+abbrev pub AsksNoOutcome : items.Item → Type 0
+AsksNoOutcome x = (s : Sent) → x.sent ≡ Some s → IsNoOutcome s.call
+
+-- what it sent and was handed, as its machine has it: numbers in turn, and begins that have seen all that it was told; it asks
+-- for no outcome
 pub record HasSaid (k : ℕ) (c : Client) (xs : List items.Item) : Type 0 where
   pub numbered : AreNumbered k 0 xs
   pub last : HasLast c.session xs
   pub told : AllByRecursion (λ (x : items.Item). AllByRecursion (λ (s : Stamp). s.ts ≤ c.told.ts) (stamps_told x)) xs
   pub seen : HaveSeen [] xs
+  pub outcomes : AllByRecursion AsksNoOutcome xs
 
 -- ---- what a line does
 

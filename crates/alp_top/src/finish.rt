@@ -1,18 +1,18 @@
 //! The end of a run: its log and its report.
-ghost use Rattle.std.specs.Prelude.{◌≡◌, ◌+◌, ◌≤◌, length, List, IfOk, OnOk};
-ghost use Rattle.alp_report.specs.Reports.{report_of};
+ghost use Rattle.std.specs.Prelude.{◌≡◌, ◌+◌, ◌++◌, ◌≤◌, length, List, IfOk, OnOk};
 ghost use Rattle.alp_script.specs.declared.numbered.NumberedLine.{NumberedLine};
+ghost use Rattle.alp_script.specs.Accepted.{RisesFrom};
 ghost use Rattle.alp_top.specs.Headline.{IsRun};
-ghost use Rattle.alp_top.specs.Logs.{openings};
 ghost use Rattle.alp_top.specs.Plays.{AreLive, ranks_from};
-ghost use Rattle.alp_top.specs.Runs.{HasPlayed, HasSettled, HasTimedOut, told_of};
+ghost use Rattle.alp_top.specs.Reports.{report_of, ending_text};
+ghost use Rattle.alp_top.specs.Runs.{HasPlayed, HasTimedOut, IsNewOpening, IsAtEnd};
 ghost use Rattle.alp_top.specs.Servers.{IsConsistent, IsOn, start_in, state_of};
 
 use crate::play::PlayedRun;
 use alp_base::{OutOfMemory, TransId};
-use alp_journal::{Entry, Event, LineLog, RunLog};
+use alp_journal::{Entry, Event, RunLog, ServerLog};
 use alp_node::{Node, Opened};
-use alp_report::{Summary, report};
+use alp_report::{Summary, put_summary};
 use alp_vault::MemVault;
 use std::alloc::Global;
 
@@ -59,24 +59,24 @@ fn time_out(node: &mut Node<MemVault>, live: &[TransId]) -> Result<(), OutOfMemo
 }
 
 // Each transaction that still runs takes too long.
-fn settle(alloc: Global, run: &mut PlayedRun) -> Result<(), OutOfMemory>
-    requires short { length run.old.node.journal ≤ 2000 }
-    requires played { (lines : List NumberedLine) × HasPlayed lines run.old.clients run.old.node run.old.lines.items }
-    ensures settled { (lines : List NumberedLine) → HasPlayed lines run.old.clients run.old.node run.old.lines.items → OnOk result (HasSettled lines run.new.clients run.new.node run.new.lines.items) }
-    ensures start { OnOk result (start_in run.new.node ≡ start_in run.old.node) }
+fn settle(alloc: Global, node: &mut Node<MemVault>) -> Result<(), OutOfMemory>
+    requires on { IsOn node.old }
+    requires short { length node.old.journal ≤ 2000 }
+    ensures ended { OnOk result (IsAtEnd node.old node.new) }
+    ensures start { OnOk result (start_in node.new ≡ start_in node.old) }
 {
-    let live = live_transactions(alloc, &run.node)?;
-    time_out(&mut run.node, &live)
+    let live = live_transactions(alloc, node)?;
+    time_out(node, &live)
 }
 
-// The report of what a server did for these lines.
-fn report_of_run(
+// What the server holds, and how its transactions ended.
+fn put_ending(
     alloc: Global,
+    text: &mut Vec<u8>,
     node: &Node<MemVault>,
-    lines: &[LineLog],
-) -> Result<Vec<u8>, OutOfMemory>
+) -> Result<(), OutOfMemory>
     requires { IsOn node.now }
-    ensures { IfOk result (λ v. v.items ≡ told_of node.now lines.now) }
+    ensures { OnOk result (text.new.items ≡ text.old.items ++ ending_text node.now) }
 {
     let summary = Summary {
         server: node.kept.server,
@@ -86,34 +86,37 @@ fn report_of_run(
         committed: node.kept.committed,
         aborted: node.kept.drawn.saturating_sub(node.kept.committed),
     };
-    report(alloc, lines, &summary)
+    put_summary(alloc, text, &summary)
 }
 
 /// Ends a run that has played all lines.
 pub fn finish(alloc: Global, run: PlayedRun) -> Result<Ended, OutOfMemory>
     requires short { length run.node.journal ≤ 2000 }
-    requires played { (lines : List NumberedLine) × HasPlayed lines run.clients run.node run.lines.items }
-    ensures run { (lines : List NumberedLine) → HasPlayed lines run.clients run.node run.lines.items → IfOk result (λ e. IsRun lines e.log) }
-    ensures text { IfOk result (λ e. e.text.items ≡ report_of openings e.log) }
+    requires played { (lines : List NumberedLine) × HasPlayed lines run.clients run.node run.lists.items run.text.items }
+    ensures { (lines : List NumberedLine) → RisesFrom 1 lines → HasPlayed lines run.clients run.node run.lists.items run.text.items → IfOk result (λ e. IsRun lines e.log × (e.text.items ≡ report_of lines e.log)) }
 {
-    let mut run = run;
-    settle(alloc, &mut run)?;
-    let text = report_of_run(alloc, &run.node, &run.lines)?;
-    let ranks = ranks(alloc, run.node.journal().entries())?;
     let PlayedRun {
         clients: _,
-        node,
-        lines,
+        mut node,
+        lists,
+        mut text,
     } = run;
+    settle(alloc, &mut node)?;
+    put_ending(alloc, &mut text, &node)?;
+    let ranks = ranks(alloc, node.journal().entries())?;
     let server = node.kept.server;
     let (opening, _, journal) = node.into_parts();
+    let mut servers = Vec::new(alloc);
+    servers.push(ServerLog {
+        server,
+        opening,
+        journal,
+        ranks,
+    })?;
     Ok(Ended {
         log: RunLog {
-            server,
-            opening,
-            journal,
-            ranks,
-            lines,
+            servers,
+            clients: lists,
         },
         text,
     })

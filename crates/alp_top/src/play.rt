@@ -214,7 +214,7 @@ fn new_node(alloc: Global) -> Result<Node<MemVault>, OutOfMemory>
     ensures idle { IfOk result (λ n. n.journal ≡ []) }
 {
     let vault = MemVault::new(alloc, VOLUME, SERVER, 1);
-    match Node::start(alloc, SERVER, vault) {
+    match Node::start(alloc, SERVER, 1, vault) {
         Ok(node) => Ok(node),
         Err((_, fault)) => Err(only_memory(fault)),
     }

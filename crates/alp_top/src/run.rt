@@ -2,12 +2,11 @@
 ghost use Rattle.std.specs.Prelude.{◌≡◌, ℕ, true, not, take, map, string_bytes, IfOk, OnErr};
 ghost use Rattle.std.specs.Io.KnownBytes.{Appends};
 ghost use Rattle.alp_base.specs.Causes.{Rose};
-ghost use Rattle.alp_report.specs.Reports.{report_of};
 ghost use Rattle.alp_script.specs.Reading.{GaveBadLine, SaysScript};
 ghost use Rattle.alp_script.specs.Accepted.{IsAccepted};
 ghost use Rattle.alp_top.specs.Statuses.{are_play, is_bad_words, OnPlayed, OnDone, OnBadWords, OnBadScript, OnReadFault, OnWriteFault, OnUnwritten, IsPlayedOrMemory};
-ghost use Rattle.alp_top.specs.Headline.{IsPlayed, IsRun};
-ghost use Rattle.alp_top.specs.Logs.{openings};
+ghost use Rattle.alp_top.specs.Headline.{IsPlayed, IsRun, IsReported, IsCutOff};
+ghost use Rattle.alp_top.specs.Reports.{report_of};
 
 use crate::Status;
 use crate::finish::{Ended, finish};
@@ -27,8 +26,7 @@ fn are_words_play(words: &[String]) -> bool
 
 fn play_script(alloc: Global, lines: &[NumberedLine]) -> Result<Ended, OutOfMemory>
     requires accepted { IsAccepted lines.now }
-    ensures run { IfOk result (λ e. IsRun lines.now e.log) }
-    ensures text { IfOk result (λ e. e.text.items ≡ report_of openings e.log) }
+    ensures { IfOk result (λ e. IsRun lines.now e.log × (e.text.items ≡ report_of lines.now e.log)) }
 {
     let run = play(alloc, lines)?;
     finish(alloc, run)
@@ -59,7 +57,7 @@ pub fn run_alpine<S: Source, K: Sink>(
     // The headline: the log is of a run of the script, whose committed transactions are one thread's history.
     ensures headline { OnPlayed result (IsPlayed (S.left script.old) (S.left script.new)) }
     // What is written is the report of the run and nothing else.
-    ensures output { OnDone result (λ log. Appends (K.written out.old) (K.written out.new) (report_of openings log)) }
+    ensures output { OnDone result (IsReported (S.left script.old) (S.left script.new) (K.written out.old) (K.written out.new)) }
     // The words are bad just where they are not `play`, and then nothing is read.
     ensures words { is_bad_words result ≡ not (are_play (map string_bytes words.now)) }
     ensures bad_words { OnBadWords result (script.new ≡ script.old) }
@@ -68,7 +66,7 @@ pub fn run_alpine<S: Source, K: Sink>(
     // A fault has its cause in this call; after a write fault a front of the report is written.
     ensures read_fault { OnReadFault result (Rose (S.faults script.old) (S.faults script.new)) }
     ensures write_fault { OnWriteFault result (λ log. Rose (K.faults out.old) (K.faults out.new)) }
-    ensures front { OnWriteFault result (λ log. (count : ℕ) × Appends (K.written out.old) (K.written out.new) (take count (report_of openings log))) }
+    ensures front { OnWriteFault result (IsCutOff (S.left script.old) (S.left script.new) (K.written out.old) (K.written out.new)) }
     // A script of the language is played to its end, where the streams do not fail.
     ensures complete { are_play (map string_bytes words.now) ≡ true → SaysScript (S.left script.old) → (Rose (S.faults script.old) (S.faults script.new) → ⊥) → (Rose (K.faults out.old) (K.faults out.new) → ⊥) → IsPlayedOrMemory result }
     // Nothing is written but the report.

@@ -49,6 +49,7 @@ impl Status {
     }
 }
 
+#[tactic(auto, using(crate::proofs::EntryLemmas::tried_none))]
 fn plain_text(alloc: Global, said: &str) -> Result<String, OutOfMemory>
     ensures { IfOk result (λ text. string_bytes text ≡ said.now) }
 {
