@@ -10,6 +10,8 @@ use Rattle.alp_files.specs.declared.call.Call.{Call}
 use Rattle.alp_files.specs.declared.call.Call.TheVariants as call
 use Rattle.alp_files.specs.declared.reply.Reply.{Reply}
 use Rattle.alp_files.specs.declared.reply.Reply.TheVariants as reply
+use Rattle.alp_files.specs.declared.reply.Ended.{Ended}
+use Rattle.alp_files.specs.declared.reply.Ended.TheVariants as ended
 use Rattle.alp_files.specs.declared.refusal.Refusal.{Refusal}
 use Rattle.alp_files.specs.declared.refusal.Refusal.TheVariants as refusal
 use Rattle.alp_journal.specs.declared.log.Item.{Item}
@@ -119,11 +121,17 @@ abbrev pub opened : WordMap → Client → Line → ℕ → Client
 opened words c (line.OpenFile client file access mode choice) n = record c { opens = map.insert c.opens (file_of words file) n }
 opened words c l n = c
 
+-- how a transaction ended, which is told with its stamp where it was committed
+abbrev pub told_end : Client → Ended → Client
+told_end c (ended.Committed s) = record c { told = later c.told s }
+told_end c e = c
+
 abbrev pub learned_reply : WordMap → Client → Line → Reply → Client
 learned_reply words c l (reply.Begun t) = record c { trans = Some t }
 learned_reply words c l (reply.Created f n) = created c l f n
 learned_reply words c l (reply.Opened n) = opened words c l n
 learned_reply words c l (reply.Committed s) = record (left c l) { told = later c.told s }
+learned_reply words c l (reply.Ended e) = told_end c e
 learned_reply words c l (reply.Refused r) = told_refusal c l r
 learned_reply words c l _ = c
 

@@ -8,7 +8,7 @@ use crate::{Opens, Words};
 use alp_base::{
     AccessList, Bytes, FileId, Name, OutOfMemory, Page, PageList, PageRef, Run, Stamp, TransId,
 };
-use alp_files::{Call, Props, Refusal, Reply};
+use alp_files::{Call, Ended, Props, Refusal, Reply};
 use alp_script::Line;
 use std::alloc::Global;
 use std::cmp::Ordering;
@@ -118,7 +118,7 @@ fn making_call(trans: TransId, line: &Line) -> Result<Option<Call>, OutOfMemory>
 }
 
 impl Client {
-    ghost use Rattle.alp_client.specs.Clients.{new_client, open_of as open_said, page_call as page_call_said, call_in as call_in_said, call_by as call_said, frame_in, frame_of, begins as begins_said, learned as learned_said, words_told, learned_reply, created as created_said, opened as opened_said, bound, told_refusal, left as left_said, greeted as greeted_said, heard, words_heard, FitsPage, HasNext};
+    ghost use Rattle.alp_client.specs.Clients.{new_client, open_of as open_said, page_call as page_call_said, call_in as call_in_said, call_by as call_said, frame_in, frame_of, begins as begins_said, learned as learned_said, words_told, learned_reply, created as created_said, opened as opened_said, bound, told_refusal, told_end as told_end_said, left as left_said, greeted as greeted_said, heard, words_heard, FitsPage, HasNext};
 
     pub fn new(alloc: Global) -> Client
         ensures { result ≡ new_client }
@@ -333,6 +333,15 @@ impl Client {
         }
     }
 
+    // How a transaction ended, which is told with its stamp where it was committed.
+    fn told_end(&mut self, end: &Ended)
+        ensures { self.new ≡ told_end_said self.old end.now }
+    {
+        if let Ended::Committed { stamp } = end {
+            self.told = later(self.told, *stamp);
+        }
+    }
+
     // A commit or an abort that is answered so has no transaction behind it.
     fn left(&mut self, line: &Line)
         ensures { self.new ≡ left_said self.old line.now }
@@ -361,6 +370,7 @@ impl Client {
                 self.left(line);
                 self.told = later(self.told, *stamp);
             }
+            Reply::Ended(end) => self.told_end(end),
             Reply::Refused(refusal) => self.refused(line, refusal),
             _ => {}
         }

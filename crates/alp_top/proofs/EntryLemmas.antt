@@ -1,5 +1,5 @@
 -- what an entry of a call leaves of sessions, epoch and clock
-use Rattle.std.specs.Prelude.{Bool, true, false, cond, not, ◌==◌, ◌&&◌, flat_map, Option, None, Some}
+use Rattle.std.specs.Prelude.{Bool, true, false, cond, if◌then◌else◌, not, ◌==◌, ◌&&◌, flat_map, Option, None, Some}
 use Rattle.std.specs.List.{AllByRecursion, list_any}
 use Rattle.std.proofs.Common.{◌≡◌, ℕ, ◌+◌, ◌≤◌, List, [], ◌∷◌, ◌++◌, refl, sym, ap, subst, ◌∙◌, arith}
 use Rattle.alp_base.specs.declared.ids.TransId.{TransId}
@@ -33,34 +33,34 @@ pub record IsStill (s m : State) : Type 0 where
   pub clock : s.holder.clock ≤ m.holder.clock
 
 still_deed : (s : State) (d : Deed) → IsRestart d ≡ false → IsStill s (state_deed s d)
-still_deed s (Begins t c u n) no = record { sessions = refl; epoch = refl; clock = clock-grows (Begins t c u n) s.holder no }
-still_deed s (Joins j t c u) no = record { sessions = refl; epoch = refl; clock = clock-grows (Joins j t c u) s.holder no }
-still_deed s (Enters j t c u) no = record { sessions = refl; epoch = refl; clock = clock-grows (Enters j t c u) s.holder no }
-still_deed s (Quits j t c None) no = record { sessions = refl; epoch = refl; clock = clock-grows (Quits j t c None) s.holder no }
-still_deed s (Quits j t c (Some x)) no = record { sessions = refl; epoch = refl; clock = clock-grows (Quits j t c (Some x)) s.holder no }
-still_deed s (Aborts j t c x) no = record { sessions = refl; epoch = refl; clock = clock-grows (Aborts j t c x) s.holder no }
-still_deed s (Grants t x) no = record { sessions = refl; epoch = refl; clock = clock-grows (Grants t x) s.holder no }
-still_deed s (Performs t x) no = record { sessions = refl; epoch = refl; clock = clock-grows (Performs t x) s.holder no }
-still_deed s (Releases t) no = record { sessions = refl; epoch = refl; clock = clock-grows (Releases t) s.holder no }
-still_deed s (Readies j t ts) no = record { sessions = refl; epoch = refl; clock = clock-grows (Readies j t ts) s.holder no }
-still_deed s (Applies j x) no = record { sessions = refl; epoch = refl; clock = clock-grows (Applies j x) s.holder no }
-still_deed s (Registers t j) no = record { sessions = refl; epoch = refl; clock = clock-grows (Registers t j) s.holder no }
-still_deed s (Finishes t) no = record { sessions = refl; epoch = refl; clock = clock-grows (Finishes t) s.holder no }
-still_deed s (Hears t j ts) no = record { sessions = refl; epoch = refl; clock = clock-grows (Hears t j ts) s.holder no }
-still_deed s (Decides x js) no = record { sessions = refl; epoch = refl; clock = clock-grows (Decides x js) s.holder no }
-still_deed s (Ends t c x) no = record { sessions = refl; epoch = refl; clock = clock-grows (Ends t c x) s.holder no }
-still_deed s (Acknowledges t j) no = record { sessions = refl; epoch = refl; clock = clock-grows (Acknowledges t j) s.holder no }
-still_deed s (Forgets t) no = record { sessions = refl; epoch = refl; clock = clock-grows (Forgets t) s.holder no }
-still_deed s (Restarts epoch clock) no = cc
+still_deed s (Begins t c u n) free = record { sessions = refl; epoch = refl; clock = clock-grows (Begins t c u n) s.holder free }
+still_deed s (Joins j t c u) free = record { sessions = refl; epoch = refl; clock = clock-grows (Joins j t c u) s.holder free }
+still_deed s (Enters j t c u) free = record { sessions = refl; epoch = refl; clock = clock-grows (Enters j t c u) s.holder free }
+still_deed s (Quits j t c None) free = record { sessions = refl; epoch = refl; clock = clock-grows (Quits j t c None) s.holder free }
+still_deed s (Quits j t c (Some x)) free = record { sessions = refl; epoch = refl; clock = clock-grows (Quits j t c (Some x)) s.holder free }
+still_deed s (Aborts j t c x) free = record { sessions = refl; epoch = refl; clock = clock-grows (Aborts j t c x) s.holder free }
+still_deed s (Grants t x) free = record { sessions = refl; epoch = refl; clock = clock-grows (Grants t x) s.holder free }
+still_deed s (Performs t x) free = record { sessions = refl; epoch = refl; clock = clock-grows (Performs t x) s.holder free }
+still_deed s (Releases t) free = record { sessions = refl; epoch = refl; clock = clock-grows (Releases t) s.holder free }
+still_deed s (Readies j t ts) free = record { sessions = refl; epoch = refl; clock = clock-grows (Readies j t ts) s.holder free }
+still_deed s (Applies j x) free = record { sessions = refl; epoch = refl; clock = clock-grows (Applies j x) s.holder free }
+still_deed s (Registers t j) free = record { sessions = refl; epoch = refl; clock = clock-grows (Registers t j) s.holder free }
+still_deed s (Finishes t) free = record { sessions = refl; epoch = refl; clock = clock-grows (Finishes t) s.holder free }
+still_deed s (Hears t j ts) free = record { sessions = refl; epoch = refl; clock = clock-grows (Hears t j ts) s.holder free }
+still_deed s (Decides x js) free = record { sessions = refl; epoch = refl; clock = clock-grows (Decides x js) s.holder free }
+still_deed s (Ends t c x) free = record { sessions = refl; epoch = refl; clock = clock-grows (Ends t c x) s.holder free }
+still_deed s (Acknowledges t j) free = record { sessions = refl; epoch = refl; clock = clock-grows (Acknowledges t j) s.holder free }
+still_deed s (Forgets t) free = record { sessions = refl; epoch = refl; clock = clock-grows (Forgets t) s.holder free }
+still_deed s (Restarts epoch clock) free = cc
 
 abbrev AreNoRestarts : List Deed → Type 0
 AreNoRestarts ds = AllByRecursion (λ (d : Deed). IsRestart d ≡ false) ds
 
 still_deeds : (ds : List Deed) (s : State) → AreNoRestarts ds → IsStill s (state_after state_deed s ds)
-still_deeds [] s no = record { sessions = refl; epoch = refl; clock = omega arith }
-still_deeds (d ∷ ds) s no =
-    let one = still_deed s d no.0 in
-    let rest = still_deeds ds (state_deed s d) no.1 in
+still_deeds [] s free = record { sessions = refl; epoch = refl; clock = omega arith }
+still_deeds (d ∷ ds) s free =
+    let one = still_deed s d free.0 in
+    let rest = still_deeds ds (state_deed s d) free.1 in
     record { sessions = rest.sessions ∙ one.sessions; epoch = rest.epoch ∙ one.epoch; clock = omega (arith, one.clock, rest.clock) }
 
 none_in : (ds es : List Deed) → AreNoRestarts ds → AreNoRestarts es → AreNoRestarts (ds ++ es)
@@ -172,19 +172,19 @@ grants_none t None = tt
 grants_none t (Some c) = (refl, tt)
 
 acts_none : (s : State) (client epoch number : ℕ) (c : Call) (acts : List Act) → list_any regained_by acts ≡ false → AreNoRestarts (flat_map (act_deeds s (event.Call client epoch number c)) acts)
-acts_none s client epoch number c [] no = tt
-acts_none s client epoch number c (act.Granted t ∷ acts) no = none_in _ _ (grants_none t (asks_for s (event.Call client epoch number c) t (s.holder.lives t))) (acts_none s client epoch number c acts no)
-acts_none s client epoch number c (act.Drawn t ∷ acts) no = none_in _ _ (begins_none s client epoch number c t) (acts_none s client epoch number c acts no)
-acts_none s client epoch number c (act.Registered t j ∷ acts) no = (refl, acts_none s client epoch number c acts no)
-acts_none s client epoch number c (act.Readied t j ts ∷ acts) no = (refl, acts_none s client epoch number c acts no)
-acts_none s client epoch number c (act.Decided stamp js ∷ acts) no = (refl, acts_none s client epoch number c acts no)
-acts_none s client epoch number c (act.Applied j stamp ∷ acts) no = (refl, acts_none s client epoch number c acts no)
-acts_none s client epoch number c (act.Released t ∷ acts) no = (refl, acts_none s client epoch number c acts no)
-acts_none s client epoch number c (act.Forgot t ∷ acts) no = (refl, acts_none s client epoch number c acts no)
-acts_none s client epoch number c (act.Regained now clock ready stamps ∷ acts) no = cc
-acts_none s client epoch number c (act.Sent to m ∷ acts) no = acts_none s client epoch number c acts no
-acts_none s client epoch number c (act.Stopped ∷ acts) no = acts_none s client epoch number c acts no
-acts_none s client epoch number c (act.Failed ∷ acts) no = acts_none s client epoch number c acts no
+acts_none s client epoch number c [] free = tt
+acts_none s client epoch number c (act.Granted t ∷ acts) free = none_in _ _ (grants_none t (asks_for s (event.Call client epoch number c) t (s.holder.lives t))) (acts_none s client epoch number c acts free)
+acts_none s client epoch number c (act.Drawn t ∷ acts) free = none_in _ _ (begins_none s client epoch number c t) (acts_none s client epoch number c acts free)
+acts_none s client epoch number c (act.Registered t j ∷ acts) free = (refl, acts_none s client epoch number c acts free)
+acts_none s client epoch number c (act.Readied t j ts ∷ acts) free = (refl, acts_none s client epoch number c acts free)
+acts_none s client epoch number c (act.Decided stamp js ∷ acts) free = (refl, acts_none s client epoch number c acts free)
+acts_none s client epoch number c (act.Applied j stamp ∷ acts) free = (refl, acts_none s client epoch number c acts free)
+acts_none s client epoch number c (act.Released t ∷ acts) free = (refl, acts_none s client epoch number c acts free)
+acts_none s client epoch number c (act.Forgot t ∷ acts) free = (refl, acts_none s client epoch number c acts free)
+acts_none s client epoch number c (act.Regained now clock ready stamps ∷ acts) free = cc
+acts_none s client epoch number c (act.Sent to m ∷ acts) free = acts_none s client epoch number c acts free
+acts_none s client epoch number c (act.Stopped ∷ acts) free = acts_none s client epoch number c acts free
+acts_none s client epoch number c (act.Failed ∷ acts) free = acts_none s client epoch number c acts free
 
 done_none : (s : State) (r : Reply) (o : Option Call) → AreNoRestarts (done_of s r o)
 done_none s r None = tt
@@ -196,6 +196,67 @@ done_none s r (Some c) = go _
 
 tried_none : (s : State) (client epoch number : ℕ) (c : Call) (r : Reply) (acts : List Act) → list_any regained_by acts ≡ false
     → AreNoRestarts (tried s (record { event = event.Call client epoch number c; reply = Some r; acts = acts }))
-tried_none s client epoch number c r acts no =
-    none_in _ _ (none_in _ _ (none_if (is_new s client epoch number) (call_deeds s client c r) [] (call_none s client c r) tt) (acts_none s client epoch number c acts no))
+tried_none s client epoch number c r acts free =
+    none_in _ _ (none_in _ _ (none_if (is_new s client epoch number) (call_deeds s client c r) [] (call_none s client c r) tt) (acts_none s client epoch number c acts free))
     (none_if (is_new s client epoch number) (done_of s r (answered s client c)) [] (done_none s r (answered s client c)) tt)
+
+-- ---- what stands behind the entry
+
+-- the client's session is this one, all others stay, and the clock does not fall
+pub record Leaves (s m : State) (k : ℕ) (session : Session) : Type 0 where
+  pub sessions : m.desk.sessions ≡ (λ j. if j == k then Some session else s.desk.sessions j)
+  pub epoch : m.ids.epoch ≡ s.ids.epoch
+  pub clock : s.holder.clock ≤ m.holder.clock
+
+-- a call that the session counts
+abbrev pub IsCounted : Call → Type 0
+IsCounted c = (m : State) (k epoch number : ℕ) (r : Reply)
+    → desk_told m (event.Call k epoch number c) (Some r) ≡ cond {A = Desk} (is_new m k epoch number) (counted m.desk (has_part m k) k number c r (m.desk.sessions k)) m.desk
+
+module _ (s : State) (k epoch number : ℕ) (c : Call) (r : Reply) (acts : List Act) where
+  abbrev entry : Entry
+  entry = record { event = event.Call k epoch number c; reply = Some r; acts = acts }
+
+  did_still : list_any regained_by acts ≡ false → IsStill s (did s entry)
+  did_still free = still_deeds (tried s entry) s (tried_none s k epoch number c r acts free)
+
+  up_next : stops entry ≡ false → next s entry ≡ told s entry
+  up_next up = ap (λ (b : Bool). cond {A = State} b (halted s entry) (told s entry)) up
+
+  pub turn_leaves : (w : Session) → s.desk.sessions k ≡ Some w → is_new s k epoch number ≡ true → IsCounted c → stops entry ≡ false → list_any regained_by acts ≡ false
+      → Leaves s (next s entry) k (record w { last = number; reply = r })
+  turn_leaves w is new plain up free =
+      let m : State = did s entry in
+      let still = did_still free in
+      let there : m.desk.sessions k ≡ Some w = ap (λ (f : ℕ → Option Session). f k) still.sessions ∙ is in
+      let now : is_new m k epoch number ≡ true = (λ i. follows (still.epoch i) epoch number (still.sessions i k)) ∙ new in
+      let desk : desk_told m (event.Call k epoch number c) (Some r) ≡ waits_after (with_session m.desk k (Some (record w { last = number; reply = r }))) (has_part m k) k number c r =
+      plain m k epoch number r ∙ ap (λ (b : Bool). cond {A = Desk} b (counted m.desk (has_part m k) k number c r (m.desk.sessions k)) m.desk) now
+      ∙ ap (counted m.desk (has_part m k) k number c r) there in
+      subst (λ (t : State). Leaves s t k (record w { last = number; reply = r })) (sym (up_next up))
+      (record {
+        sessions =
+            ap (λ (d : Desk). d.sessions) desk
+            ∙ waits-same (with_session m.desk k (Some (record w { last = number; reply = r }))) (has_part m k) k number c r
+            ∙ ap (λ (f : ℕ → Option Session). λ j. cond {A = Option Session} (j == k) (Some (record w { last = number; reply = r })) (f j)) still.sessions;
+        epoch = still.epoch;
+        clock = still.clock;
+      })
+
+module _ (s : State) (k : ℕ) (name : List ℕ) (r : Reply) (acts : List Act) where
+  pub greeting_leaves : s.desk.sessions k ≡ None → stops (record { event = event.Call k 0 1 (call.Hello name); reply = Some r; acts = acts }) ≡ false → list_any regained_by acts ≡ false
+      → Leaves s (next s (record { event = event.Call k 0 1 (call.Hello name); reply = Some r; acts = acts })) k (record { who = name; last = 1; reply = r })
+  greeting_leaves is up free =
+      let m : State = did s (entry s k 0 1 (call.Hello name) r acts) in
+      let still = did_still s k 0 1 (call.Hello name) r acts free in
+      let there : m.desk.sessions k ≡ None = ap (λ (f : ℕ → Option Session). f k) still.sessions ∙ is in
+      let desk : desk_told m (event.Call k 0 1 (call.Hello name)) (Some r) ≡ with_session m.desk k (Some (record { who = name; last = 1; reply = r })) =
+      ap (greeted m.desk k 0 1 name r) there in
+      subst (λ (t : State). Leaves s t k (record { who = name; last = 1; reply = r })) (sym (up_next s k 0 1 (call.Hello name) r acts up))
+      (record {
+        sessions =
+            ap (λ (d : Desk). d.sessions) desk
+            ∙ ap (λ (f : ℕ → Option Session). λ j. cond {A = Option Session} (j == k) (Some (record { who = name; last = 1; reply = r })) (f j)) still.sessions;
+        epoch = still.epoch;
+        clock = still.clock;
+      })

@@ -1,2 +1,5 @@
 pub mod EntryLemmas
+pub mod ReplyLemmas
+pub mod AskLemmas
+pub mod StepLemmas
 pub mod StreamLemmas
