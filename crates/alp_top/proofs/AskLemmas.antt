@@ -3,6 +3,8 @@ use Rattle.std.specs.Prelude.{Bool, true, false, Option, None, Some}
 use Rattle.std.specs.Option.{option_map}
 use Rattle.std.proofs.Common.{◌<◌, ◌^◌, ◌≡◌, ℕ, ◌+◌, ◌≤◌, List, refl, sym, ◌∙◌, ap, subst, arith}
 use Rattle.std.proofs.lemmas.List.{length-replicate}
+use Rattle.std.specs.List.{AllByRecursion}
+use Rattle.alp_base.specs.declared.ids.Stamp.{Stamp}
 use Rattle.alp_base.specs.declared.ids.TransId.{TransId}
 use Rattle.alp_base.specs.declared.lists.TheConstants.{PAGES_PER_FILE}
 use Rattle.alp_files.specs.declared.call.Call.{Call}
@@ -22,6 +24,7 @@ use Rattle.alp_node.specs.ServerState.{kept_session}
 use Rattle.alp_node.specs.Sessions.{session_at}
 use Rattle.alp_node.specs.Served.{IsTurnCall, IsNextOf, IsServed}
 use Rattle.alp_node.specs.Steps.{seen_in}
+use Rattle.alp_history.specs.Handed.{HasSeenBy}
 use Rattle.alp_top.specs.Steps.{IsNoOutcome}
 use Rattle.alp_top.proofs.EntryLemmas.{IsCounted}
 
@@ -80,6 +83,26 @@ line_seen words c l asked k epoch number form e = go l form e
     go l (read k file run some) e = in_trans words c l c.trans asked P e (λ t x own. is_asked _ x P own none)
     go l (commit k) e = in_trans words c l c.trans asked P e (λ t x own. is_asked _ x P own none)
     go l (abort k) e = in_trans words c l c.trans asked P e (λ t x own. is_asked _ x P own none)
+
+-- so a begin has seen all that its client was told
+pub line_has_seen : (words : WordMap) (c : Client) (l : Line) (asked : Call) (before : List Stamp) → IsForm l → call_by words c l ≡ Some asked → AllByRecursion (λ (s : Stamp). s.ts ≤ c.told.ts) before → HasSeenBy before asked
+line_has_seen words c l asked before form e low = go l form e
+  where
+    P : Call → Type 0
+    P x = HasSeenBy before x
+
+    go : (l : Line) → IsForm l → call_by words c l ≡ Some asked → P asked
+    go l (servers count) e = in_trans words c l c.trans asked P e (λ t x own. no_call x P own)
+    go l (client k name) e = in_trans words c l c.trans asked P e (λ t x own. no_call x P own)
+    go l (begin k server) e = is_asked (call.Begin c.told) asked P e low
+    go l (owner k server name quota) e = in_trans words c l c.trans asked P e (λ t x own. is_asked _ x P own tt)
+    go l (create k server word name size small) e = in_trans words c l c.trans asked P e (λ t x own. is_asked _ x P own tt)
+    go l (open_read k file) e = in_trans words c l c.trans asked P e (λ t x own. is_asked _ x P own tt)
+    go l (open_change k file) e = in_trans words c l c.trans asked P e (λ t x own. is_asked _ x P own tt)
+    go l (write k file run text some short) e = in_trans words c l c.trans asked P e (λ t x own. is_asked _ x P own tt)
+    go l (read k file run some) e = in_trans words c l c.trans asked P e (λ t x own. is_asked _ x P own tt)
+    go l (commit k) e = in_trans words c l c.trans asked P e (λ t x own. is_asked _ x P own tt)
+    go l (abort k) e = in_trans words c l c.trans asked P e (λ t x own. is_asked _ x P own tt)
 
 -- a call in its turn is served
 pub turn_served : {V : Type 0} (k : ServerState V) (who epoch number : ℕ) (asked : Call) → who ≤ 16 → IsTurnCall asked → IsNextOf (session_at k.sessions who) k.epoch epoch number

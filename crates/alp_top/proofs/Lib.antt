@@ -2,4 +2,5 @@ pub mod EntryLemmas
 pub mod ReplyLemmas
 pub mod AskLemmas
 pub mod StepLemmas
+pub mod SaidLemmas
 pub mod StreamLemmas
