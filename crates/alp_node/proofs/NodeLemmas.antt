@@ -1,8 +1,10 @@
 -- a server and its journal, one step more
-use Rattle.std.specs.Prelude.{IsTrue, Bool, true, false, Option, Some}
+use Rattle.std.specs.Prelude.{IsTrue, Bool, true, false, Option, Some, Result, Ok, Err, IfOk, OnErr}
 use Rattle.std.specs.FinMap as map
-use Rattle.std.proofs.Common.{◌≡◌, ℕ, ◌+◌, List, [], ◌∷◌, ◌++◌, length, length-append, refl, sym, ◌∙◌, ap, subst}
+use Rattle.std.proofs.Common.{◌≡◌, ℕ, ◌+◌, List, [], ◌∷◌, ◌++◌, length, length-append, refl, sym, ◌∙◌, ap, subst, arith}
 use Rattle.alp_base.specs.Causes.{Rose}
+use Rattle.alp_base.specs.declared.memory.OutOfMemory.{OutOfMemory}
+use Rattle.alp_files.specs.declared.reply.Reply.{Reply}
 use Rattle.alp_files.specs.Cells.{Cells}
 use Rattle.alp_files.specs.Edits.{Edit, edits_map, after}
 use Rattle.alp_files.specs.Sound.{AreSound}
@@ -23,11 +25,11 @@ use Rattle.alp_journal.specs.Laws.{IsLawful, IsLawfulEntry}
 use Rattle.alp_journal.specs.Answered.{IsAnswered, IsAnsweredSo, IsAnsweredEntry}
 use Rattle.alp_journal.specs.Alone.{Alone, alone, IsPaired, IsOwnEvent, AreOwnEvents}
 use Rattle.alp_node.specs.declared.answer.Answer.{Answer}
-use Rattle.alp_node.specs.declared.node.Node.{Node}
+use Rattle.alp_node.specs.NodeStates.{NodeState}
 use Rattle.alp_node.specs.declared.opened.Opened.{Opened}
 use Rattle.alp_node.specs.ServerState.{IsAs, IsReady}
-use Rattle.alp_node.specs.Nodes.{IsConsistent, IsRight, HasCause, state_of, start_by, start_in}
-use Rattle.alp_node.specs.Steps.{Stepped, entry_of}
+use Rattle.alp_node.specs.Nodes.{IsConsistent, IsRight, Answered, HasCause, state_of, start_by, start_in}
+use Rattle.alp_node.specs.Steps.{Stepped, IsEntered, IsSeated, IsTimely, entry_of}
 use Rattle.alp_node.specs.Served.{IsServed, AreLivesSound}
 use Rattle.alp_node.specs.declared.lives.Live.{Live}
 use Rattle.alp_node.specs.declared.server_state.ServerState.{ServerState}
@@ -42,7 +44,7 @@ Along-push step law s [] e h k = (k, tt)
 Along-push step law s (x ∷ es) e h k = (h.0, Along-push step law (step s x) es e h.1 k)
 
 -- an entry has its cause in the state of the journal before it
-pub caused_so : {V : Type 0} (o : Start) (held then : Contents) (old new : Node V) (before now : ℕ) (e : Event) (x : Answer) (h : IsRight o held old) → Stepped h.state before now then new.kept e x
+pub caused_so : {V : Type 0} (o : Start) (held then : Contents) (old new : NodeState V) (before now : ℕ) (e : Event) (x : Answer) (h : IsRight o held old) → Stepped h.state before now then new.kept e x
     → HasCause before now (state_of o old.journal) (entry_of e x)
 caused_so o held then old new before now e x h s = (s.failed, subst (λ (z : State). IsAnsweredEntry s.failed z (entry_of e x)) (sym h.says) s.leads.answered, s.rose)
 
@@ -53,7 +55,7 @@ served_own k (event.Timeout t) served = tt
 served_own k e served = absurd served
 
 -- one step more of a server that is right
-pub step_right : {V : Type 0} (o : Start) (held then : Contents) (old new : Node V) (before now : ℕ) (e : Event) (x : Answer) (h : IsRight o held old) → IsOwnEvent e → Stepped h.state before now then new.kept e x
+pub step_right : {V : Type 0} (o : Start) (held then : Contents) (old new : NodeState V) (before now : ℕ) (e : Event) (x : Answer) (h : IsRight o held old) → IsOwnEvent e → Stepped h.state before now then new.kept e x
     → new.journal ≡ old.journal ++ (entry_of e x) ∷ [] → IsRight o then new
 step_right o held then old new before now e x h own s is = record {
   opening = h.opening;
@@ -66,7 +68,7 @@ step_right o held then old new before now e x h own s is = record {
 }
 
 -- where nothing was answered
-pub still_right : {V : Type 0} (o : Start) (held then : Contents) (old new : Node V) (h : IsRight o held old) → IsAs h.state then new.kept → new.journal ≡ old.journal → IsRight o then new
+pub still_right : {V : Type 0} (o : Start) (held then : Contents) (old new : NodeState V) (h : IsRight o held old) → IsAs h.state then new.kept → new.journal ≡ old.journal → IsRight o then new
 still_right o held then old new h as_is is = record {
   opening = h.opening;
   lawful = subst (IsLawful o) (sym is) h.lawful;
@@ -78,7 +80,7 @@ still_right o held then old new h as_is is = record {
 }
 
 -- what its live parts intend leaves well-formed files
-pub right_sound : {V : Type 0} (G : Ghosts V) (n : Node V) (held : Contents) → IsRight (start_in G n) held n → n.kept.is_down ≡ false → AreLivesSound held n.kept
+pub right_sound : {V : Type 0} (G : Ghosts V) (n : NodeState V) (held : Contents) → IsRight (start_in G n) held n → n.kept.is_down ≡ false → AreLivesSound held n.kept
 right_sound G n held r up t l there m is =
     let a : Alone = r.state in
     let v = n.opening.vault.value in
@@ -96,7 +98,7 @@ right_sound G n held r up t l there m is =
 pub counted_pushed : (es fs : List Entry) (e : Entry) → fs ≡ es ++ e ∷ [] → length fs ≡ length es + 1
 counted_pushed es fs e is = ap length is ∙ length-append es (e ∷ [])
 
-module _ {V : Type 0} (G : Ghosts V) (old new : Node V) where
+module _ {V : Type 0} (G : Ghosts V) (old new : NodeState V) where
   -- the start is the same
   start_same : new.opening ≡ old.opening → new.kept.server ≡ old.kept.server → start_in G old ≡ start_in G new
   start_same opening server = (λ i. start_by G (sym server i) (sym opening i).vault.value)
@@ -128,3 +130,55 @@ module _ {V : Type 0} (G : Ghosts V) (old new : Node V) where
         (still_right (start_in G old) (G.held old.kept.vault) (G.held new.kept.vault) old new r (still r.state r.kept) is)
         );
   }
+
+-- ---- whatever a step came to
+
+module _ {V : Type 0} (G : Ghosts V) (old : NodeState V) (kept : ServerState V) (journal : List Entry) (e : Event) where
+  abbrev pub node_then : NodeState V
+  node_then = record old { kept = kept; journal = journal }
+
+  pub entered_kept : (r : Result (Option Reply) OutOfMemory) → IsConsistent G old → IsOwnEvent e → IsEntered G old.kept kept old.journal journal e r → IsConsistent G node_then
+  entered_kept (Ok y) h own (x, s, handed, is) = step_kept G old node_then e x h own refl s.seat.server s.telling s.ready s.stepped is
+  entered_kept (Err f) h own (s, is) = still_kept G old node_then h refl s.seat.server s.telling s.still.ready s.still.kept is
+
+  pub entered_answered : (r : Result (Option Reply) OutOfMemory) → IsConsistent G old → IsEntered G old.kept kept old.journal journal e r
+      → IfOk r (λ y. Answered (G.tells old.kept.vault) (state_of (start_in G old) old.journal) old.journal journal e y (G.faults old.kept.vault) (G.faults kept.vault) (G.allowance kept.vault) kept.is_down)
+  entered_answered (Ok y) h (x, s, handed, is) =
+      let reply : x.kept ≡ y = sym s.given.handed ∙ handed in
+      subst (λ (z : Option Reply). Answered (G.tells old.kept.vault) (state_of (start_in G old) old.journal) old.journal journal e z (G.faults old.kept.vault) (G.faults kept.vault) (G.allowance kept.vault) kept.is_down) reply (record {
+        acts = x.acts;
+        entry = is;
+        cause = λ told. (
+            let right = h.right told in
+            caused_so (start_in G old) (G.held old.kept.vault) (G.held kept.vault) old node_then (G.faults old.kept.vault) (G.faults kept.vault) e x right (s.stepped told right.state right.kept)
+            );
+        replies = s.given.replies;
+        down = s.given.down;
+        causes = s.given.causes;
+      })
+  entered_answered (Err f) h s = tt
+
+  pub entered_err : (r : Result (Option Reply) OutOfMemory) → IsEntered G old.kept kept old.journal journal e r → OnErr r ((journal ≡ old.journal) × (kept.is_down ≡ old.kept.is_down))
+  entered_err (Ok y) s = tt
+  entered_err (Err f) (s, is) = (is, s.still.up)
+
+  pub entered_still : (r : Result (Option Reply) OutOfMemory) → IsEntered G old.kept kept old.journal journal e r → (a : Alone) → IsAs a (G.held old.kept.vault) old.kept → OnErr r (IsAs a (G.held kept.vault) kept)
+  entered_still (Ok y) s a h = tt
+  entered_still (Err f) (s, is) a h = s.still.kept a h
+
+  pub entered_seat : (r : Result (Option Reply) OutOfMemory) → IsEntered G old.kept kept old.journal journal e r → IsSeated G.allowance old.kept kept
+  entered_seat (Ok y) (x, s, handed, is) = s.seat
+  entered_seat (Err f) (s, is) = s.seat
+
+  pub entered_tells : (r : Result (Option Reply) OutOfMemory) → IsEntered G old.kept kept old.journal journal e r → G.tells kept.vault ≡ G.tells old.kept.vault
+  entered_tells (Ok y) (x, s, handed, is) = s.telling
+  entered_tells (Err f) (s, is) = s.telling
+
+  pub entered_clock : (r : Result (Option Reply) OutOfMemory) → IsConsistent G old → IsEntered G old.kept kept old.journal journal e r → IsTrue (G.tells old.kept.vault) → IsTimely old.kept.clock e kept.clock
+  entered_clock (Ok y) h (x, s, handed, is) told =
+      let right = h.right told in
+      subst (λ (n : ℕ). IsTimely n e kept.clock) right.kept.clock (s.stepped told right.state right.kept).clock
+  entered_clock (Err f) h (s, is) told =
+      let right = h.right told in
+      let now : old.kept.clock ≡ kept.clock = sym right.kept.clock ∙ (s.still.kept right.state right.kept).clock in
+      omega (arith, now)

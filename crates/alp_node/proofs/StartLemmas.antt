@@ -42,7 +42,7 @@ use Rattle.alp_journal.specs.declared.entry.Entry.{Entry}
 use Rattle.alp_vault.specs.declared.vault.Vault.{Ghosts}
 use Rattle.alp_node.specs.declared.server_state.ServerState.{ServerState}
 use Rattle.alp_node.specs.declared.lives.Live.{Live}
-use Rattle.alp_node.specs.declared.node.Node.{Node}
+use Rattle.alp_node.specs.NodeStates.{NodeState}
 use Rattle.alp_node.specs.declared.sessions.Session.{Session}
 use Rattle.alp_node.specs.declared.start.StartFault.{StartFault}
 use Rattle.alp_node.specs.declared.start.StartFault.TheVariants as start_fault
@@ -237,7 +237,7 @@ new_ready old server sizes c serves up within later sound = record {
 pub raised_some : (held : Contents) (c : ClockNote) → raised held ≡ Ok c → 0 < c.epoch
 raised_some held c e = some_epoch (clock_kept held.notes).epoch c.epoch (raised_later held c e)
 
-pub new_right : {V : Type 0} (n : Node V) (o : Start) (held : Contents) → n.journal ≡ [] → opened o ≡ alone (new_alone o) → AreSound o.cells → AreSized (map.get o.cells) → IsAs (new_alone o) held n.kept → IsRight o held n
+pub new_right : {V : Type 0} (n : NodeState V) (o : Start) (held : Contents) → n.journal ≡ [] → opened o ≡ alone (new_alone o) → AreSound o.cells → AreSized (map.get o.cells) → IsAs (new_alone o) held n.kept → IsRight o held n
 new_right n o held empty says sound sized h = record {
   opening = record { files = sound; sizes = sized };
   lawful = subst (IsLawful o) (sym empty) tt;

@@ -10,4 +10,5 @@ pub mod Calls
 pub mod Steps
 pub mod Served
 pub mod Starts
+pub mod NodeStates
 pub mod Nodes

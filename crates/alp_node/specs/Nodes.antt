@@ -19,7 +19,7 @@ use Rattle.alp_journal.specs.Moves.{next, is_stop}
 use Rattle.alp_journal.specs.Laws.{IsLawful}
 use Rattle.alp_journal.specs.Answered.{IsAnswered, IsAnsweredEntry}
 use Rattle.alp_journal.specs.Alone.{Alone, alone, AreOwnEvents}
-use Rattle.alp_node.specs.declared.node.Node.{Node}
+use Rattle.alp_node.specs.NodeStates.{NodeState}
 use Rattle.alp_node.specs.ServerState.{IsAs, IsReady}
 use Rattle.alp_node.specs.Halts.{HaveCauses}
 use Rattle.alp_node.specs.Sessions.{no_sessions}
@@ -33,7 +33,7 @@ state_of o journal = state_after next (opened o) journal
 abbrev pub start_by : {V : Type 0} → Ghosts V → ℕ → V → Start
 start_by G server v = start_at server (G.servers v) (G.volume v) (G.held v).cells (G.held v).notes
 
-abbrev pub start_in : {V : Type 0} → Ghosts V → Node V → Start
+abbrev pub start_in : {V : Type 0} → Ghosts V → NodeState V → Start
 start_in G n = start_by G n.kept.server n.opening.vault.value
 
 -- a server opens on well-formed files whose owners' records hold their charges; sizes are numbers of pages
@@ -43,7 +43,7 @@ pub record IsSoundStart (o : Start) : Type 0 where
 
 -- The journal is lawful, each of its entries has its cause, and the server keeps what its state says, with this in its
 -- vault: a server that runs alone, and is given calls and timeouts. The files were sound when it was started.
-pub record IsRight {V : Type 0} (o : Start) (held : Contents) (n : Node V) : Type 0 where
+pub record IsRight {V : Type 0} (o : Start) (held : Contents) (n : NodeState V) : Type 0 where
   pub opening : IsSoundStart o
   pub lawful : IsLawful o n.journal
   pub caused : IsAnswered o n.journal
@@ -53,12 +53,12 @@ pub record IsRight {V : Type 0} (o : Start) (held : Contents) (n : Node V) : Typ
   pub kept : IsAs state held n.kept
 
 -- what holds of each server that the calls make, by what its vault shows
-pub record IsConsistent {V : Type 0} (G : Ghosts V) (n : Node V) : Type 0 where
+pub record IsConsistent {V : Type 0} (G : Ghosts V) (n : NodeState V) : Type 0 where
   pub ready : IsReady (length n.journal) (G.serves n.kept.vault) n.kept
   pub right : IsTrue (G.tells n.kept.vault) → IsRight (start_in G n) (G.held n.kept.vault) n
 
 -- A server that did nothing yet: its opening is its vault as it is, nobody has a session or a transaction, and it is up.
-pub record IsNew {V : Type 0} (server : ℕ) (n : Node V) : Type 0 where
+pub record IsNew {V : Type 0} (server : ℕ) (n : NodeState V) : Type 0 where
   pub number : n.kept.server ≡ server
   pub opening : n.opening.vault.value ≡ n.kept.vault
   pub journal : n.journal ≡ []
@@ -81,5 +81,5 @@ pub record Answered (tells : Bool) (s : State) (before after : List Entry) (e : 
   pub causes : HaveCauses faults_before faults_now allowance acts
 
 -- a journal with room for one entry
-abbrev pub HasRoom : {V : Type 0} → Node V → Type 0
+abbrev pub HasRoom : {V : Type 0} → NodeState V → Type 0
 HasRoom n = length n.journal < 65536

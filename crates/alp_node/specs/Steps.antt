@@ -1,5 +1,5 @@
 -- One step of a server.
-use Rattle.std.specs.Prelude.{◌≡◌, ℕ, ◌+◌, ◌≤◌, ◌==◌, max, Bool, true, false, List, [], ◌∷◌, ◌++◌, Option, None, Some, is_some, IsTrue, Result, Ok, IfOk, OnOk, OnErr}
+use Rattle.std.specs.Prelude.{◌≡◌, ℕ, ◌+◌, ◌≤◌, ◌==◌, max, Bool, true, false, List, [], ◌∷◌, ◌++◌, Option, None, Some, is_some, IsTrue, Result, Ok, Err, IfOk, OnOk, OnErr}
 use Rattle.std.specs.List.{filter, list_any}
 use Rattle.std.specs.FinMap as map
 use Rattle.alp_base.specs.Allowances.{Spends}
@@ -11,6 +11,7 @@ use Rattle.alp_locks.specs.Releases.{released}
 use Rattle.alp_files.specs.declared.call.Call.TheVariants as call
 use Rattle.alp_files.specs.declared.refusal.Refusal.{Refusal}
 use Rattle.alp_files.specs.declared.refusal.Refusal.TheVariants as refusal
+use Rattle.alp_files.specs.declared.reply.Reply.{Reply}
 use Rattle.alp_files.specs.declared.reply.Reply.TheVariants as reply
 use Rattle.alp_journal.specs.declared.act.Act.{Act}
 use Rattle.alp_journal.specs.declared.event.Event.{Event}
@@ -87,6 +88,11 @@ pub record IsStep {V : Type 0} (G : Ghosts V) (old new : ServerState V) (e : Eve
   pub still : OnErr r (IsStill G.serves G.held old new)
   pub seat : IsSeated G.allowance old new
   pub telling : G.tells new.vault ≡ G.tells old.vault
+
+-- the event was answered, and its entry stands behind these; or there was no memory, and no more than these stand
+abbrev pub IsEntered : {V : Type 0} → Ghosts V → (old new : ServerState V) → (before after : List Entry) → Event → Result (Option Reply) OutOfMemory → Type 0
+IsEntered G old new before after e (Ok r) = (x : Answer) × IsStep G old new e (Ok x) × (x.handed ≡ r) × (after ≡ before ++ entry_of e x ∷ [])
+IsEntered G old new before after e (Err f) = IsStep G old new e (Err f) × (after ≡ before)
 
 -- it is the session's next call
 pub record IsTurn (sessions : Sessions) (t : Turn) : Type 0 where

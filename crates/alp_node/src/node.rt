@@ -4,10 +4,10 @@ ghost use Rattle.alp_files.specs.declared.refusal.Refusal.TheVariants as refusal
 ghost use Rattle.alp_files.specs.declared.reply.Reply.TheVariants as reply;
 ghost use Rattle.alp_journal.specs.declared.entry.Entry.{Entry as AnEntry};
 ghost use Rattle.alp_journal.specs.Alone.{Alone};
-ghost use Rattle.alp_node.specs.ServerState.{IsAs};
+ghost use Rattle.alp_node.specs.ServerState.{IsAs, IsReadyForMore, IsOfJournal};
 ghost use Rattle.alp_node.specs.Nodes.{IsConsistent, Answered, HasRoom, state_of, start_in};
-ghost use Rattle.alp_node.specs.Served.{IsServed};
-ghost use Rattle.alp_node.specs.Steps.{IsSeated, seen_in};
+ghost use Rattle.alp_node.specs.Served.{IsServed, AreLivesSound};
+ghost use Rattle.alp_node.specs.Steps.{IsEntered, IsSeated, seen_in};
 
 use crate::answer::Answer;
 use crate::opened::Opened;
@@ -16,13 +16,32 @@ use alp_base::OutOfMemory;
 use alp_files::{Refusal, Reply};
 use alp_journal::{Entry, Event, Journal};
 use alp_vault::Vault;
+use std::marker::Model;
 
-/// A server: what it was started on, what it keeps, and what it did.
+/// A server: what it was started on, what it keeps, and what it did. Its journal is lawful, each entry has its cause, and its
+/// vault and tables hold what the journal says.
 #[derive(Drop)]
 pub struct Node<V: Vault> {
-    pub opening: Opened<V>,
-    pub kept: ServerState<V>,
-    pub journal: Journal,
+    pub(super) opening: Opened<V>,
+    pub(super) kept: ServerState<V>,
+    pub(super) journal: Journal,
+}
+
+impl<V: Vault> Model for Node<V> {
+    ghost use Rattle.std.specs.Coded.{codes};
+    ghost use Rattle.alp_locks.specs.contracts.table.LockTable as table_type;
+    ghost use Rattle.alp_node.specs.contracts.lives.Lives as lives_type;
+    ghost use Rattle.alp_node.specs.NodeStates.{NodeState};
+
+    ghost Value = { NodeState V };
+
+    ghost coded = { Prim.hlevel (codes, V.code, table_type.the_row.coded, lives_type.the_row.coded) };
+
+    ghost use Rattle.alp_node.specs.Nodes.{IsConsistent};
+
+    ghost view = { λ n. record { opening = n.opening; kept = n.kept; journal = n.journal } };
+
+    ghost invariant = { λ n. IsConsistent V.Vault (record { opening = n.opening; kept = n.kept; journal = n.journal }) };
 }
 
 impl<V: Vault> Node<V> {
@@ -31,10 +50,8 @@ impl<V: Vault> Node<V> {
     /// A step in which the vault fails or is stopped takes the server down. From then on it answers that it is down, and
     /// makes no entry. Want of memory leaves the server as its journal says, with no new entry.
     pub fn step(&mut self, event: Event) -> Result<Option<Reply>, OutOfMemory>
-        requires kept { IsConsistent V.Vault self.old }
         requires served { IsServed self.old.kept event }
         requires room { HasRoom self.old }
-        ensures kept { IsConsistent V.Vault self.new }
         ensures answered { self.old.kept.is_down ≡ false → IfOk result (λ r. Answered (V.tells self.old.kept.vault) (state_of (start_in V.Vault self.old) self.old.journal) self.old.journal self.new.journal event r (V.faults self.old.kept.vault) (V.faults self.new.kept.vault) (V.allowance self.new.kept.vault) self.new.kept.is_down) }
         ensures down { self.old.kept.is_down ≡ true → IfOk result (λ r. r ≡ Some (reply.Refused refusal.Down)) }
         ensures still_down { self.old.kept.is_down ≡ true → IsOk result × (self.new ≡ self.old) }
@@ -49,28 +66,14 @@ impl<V: Vault> Node<V> {
             return Ok(Some(Reply::Refused(Refusal::Down)));
         }
         self.journal.make_place(self.kept.alloc)?;
-        match self.kept.answer(&event) {
-            Ok(answer) => Ok(self.enter(event, answer)),
-            Err(OutOfMemory) => {
-                self.journal.take_back();
-                Err(OutOfMemory)
-            }
-        }
+        answer(&mut self.kept, &mut self.journal, event)
     }
 
-    // The event with its answer fills the place of its entry, and the caller gets the reply.
-    fn enter(&mut self, event: Event, answer: Answer) -> Option<Reply>
-        ensures filled { (before : List AnEntry) (last : AnEntry) → self.old.journal ≡ before ++ last ∷ [] → self.new.journal ≡ before ++ (record { event = event; reply = answer.kept; acts = answer.acts }) ∷ [] }
-        ensures kept { (self.new.kept ≡ self.old.kept) × (self.new.opening ≡ self.old.opening) }
-        ensures handed { result ≡ answer.handed }
+    /// What holds of each server.
+    pub fn knows(&self)
+        ensures { IsConsistent V.Vault self.now }
     {
-        let Answer { kept, handed, acts } = answer;
-        self.journal.fill_place(Entry {
-            event,
-            reply: kept,
-            acts,
-        });
-        handed
+        let _ = &self.kept;
     }
 
     /// What the server did since it was started.
@@ -99,4 +102,40 @@ impl<V: Vault> Node<V> {
         let ServerState { vault, .. } = kept;
         (opening, vault, journal)
     }
+}
+
+// Answers an event whose entry has its place: it is filled, or taken back where there is no memory.
+fn answer<V: Vault>(
+    kept: &mut ServerState<V>,
+    journal: &mut Journal,
+    event: Event,
+) -> Result<Option<Reply>, OutOfMemory>
+    requires served { IsServed kept.old event }
+    requires up { kept.old.is_down ≡ false }
+    requires ready { IsReadyForMore (V.serves kept.old.vault) kept.old }
+    requires known { IsTrue (V.tells kept.old.vault) → IsOfJournal (V.held kept.old.vault) kept.old }
+    requires sound { IsTrue (V.tells kept.old.vault) → AreLivesSound (V.held kept.old.vault) kept.old }
+    ensures { (before : List AnEntry) (last : AnEntry) → journal.old ≡ before ++ last ∷ [] → IsEntered V.Vault kept.old kept.new before journal.new event result }
+{
+    match kept.answer(&event) {
+        Ok(answer) => Ok(enter(journal, event, answer)),
+        Err(OutOfMemory) => {
+            journal.take_back();
+            Err(OutOfMemory)
+        }
+    }
+}
+
+// The event with its answer fills the place of its entry, and the caller gets the reply.
+fn enter(journal: &mut Journal, event: Event, answer: Answer) -> Option<Reply>
+    ensures filled { (before : List AnEntry) (last : AnEntry) → journal.old ≡ before ++ last ∷ [] → journal.new ≡ before ++ (record { event = event; reply = answer.kept; acts = answer.acts }) ∷ [] }
+    ensures handed { result ≡ answer.handed }
+{
+    let Answer { kept, handed, acts } = answer;
+    journal.fill_place(Entry {
+        event,
+        reply: kept,
+        acts,
+    });
+    handed
 }

@@ -9,7 +9,7 @@ ghost use Rattle.alp_fields.specs.ClockNote.{clock_name, clock_form};
 ghost use Rattle.alp_base.specs.Faults.{IsOfVolume};
 ghost use Rattle.alp_vault.specs.Vault.{IsSameVault};
 ghost use Rattle.alp_vault.specs.Volumes.{AreServerNotes};
-ghost use Rattle.alp_node.specs.Nodes.{IsConsistent, IsNew};
+ghost use Rattle.alp_node.specs.Nodes.{IsNew};
 ghost use Rattle.alp_node.specs.Starts.{AreOfServer, HasRaised, after_clock, raised, HasStartCause, IsNoteFault};
 
 use crate::lives::Lives;
@@ -106,7 +106,6 @@ impl<V: Vault> Node<V> {
         requires serving { IsTrue (V.serves vault) }
         requires server { (V.server vault ≡ server) × (V.servers vault ≡ servers) }
         requires given { IsTrue (V.tells vault) → AreOfServer server (V.held vault) }
-        ensures kept { IfOk result (IsConsistent V.Vault) }
         ensures raised { IfOk result (λ n. HasRaised (V.tells vault) (V.server vault) (V.servers vault) (V.held vault) (V.held n.kept.vault) (record { epoch = n.kept.epoch; clock = n.kept.clock })) }
         ensures new { IfOk result (IsNew server) }
         ensures same { MatchResult result (λ n. IsSameVault V.tells V.volume V.server V.servers vault n.kept.vault) (λ e. IsSameVault V.tells V.volume V.server V.servers vault e.0) }

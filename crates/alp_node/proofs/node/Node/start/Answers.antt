@@ -11,7 +11,7 @@ use Rattle.alp_journal.specs.Opening.{Start, start_at}
 use Rattle.alp_locks.specs.Sound.{IsSound}
 use Rattle.alp_vault.specs.Contents.{Contents}
 use Rattle.alp_node.specs.declared.server_state.ServerState.{ServerState}
-use Rattle.alp_node.specs.declared.node.Node.{Node}
+use Rattle.alp_node.specs.NodeStates.{NodeState}
 use Rattle.alp_node.specs.declared.stored.StoreFault.{StoreFault}
 use Rattle.alp_node.specs.ServerState.{IsAs, IsReady}
 use Rattle.alp_node.specs.Nodes.{IsRight, start_by}
@@ -48,7 +48,7 @@ returns-clause-kept g c =
       vault = v;
       is_down = false;
     } in
-    let n : Node g.row.V.Denot = record { opening = record { vault = c.of.result }; kept = k; journal = c.new-6.result } in
+    let n : NodeState g.row.V.Denot = record { opening = record { vault = c.of.result }; kept = k; journal = c.new-6.result } in
     let new : ServerState g.row.V.Denot = new_kept k c.args.server (G.volume v) c.in-Ok.clock in
     let same : new ≡ k =
     (λ i. record k { sizes = (c.store-2.ensures.kept.sizes ∙ sym c.sizes-sizes.ensures) i; sessions = sym c.new-2.ensures i; lives = sym c.new-3.ensures i; dead = sym c.new-4.ensures i; locks = sym c.new-5.ensures.empty i }) in
