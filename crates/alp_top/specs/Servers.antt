@@ -9,10 +9,10 @@ use Rattle.alp_journal.specs.State.{State, opened}
 use Rattle.alp_journal.specs.Moves.{next}
 use Rattle.alp_journal.specs.Answered.{IsAnsweredEntry}
 use Rattle.alp_node.specs.Nodes as node
-use Rattle.alp_node.specs.declared.node.Node.{Node}
+use Rattle.alp_node.specs.NodeStates.{NodeState}
 
 abbrev pub Server : Type 0
-Server = Node MemVault
+Server = NodeState MemVault
 
 -- what it was started on
 abbrev pub start_in : Server → Start

@@ -42,7 +42,7 @@ fn live_transactions(alloc: Global, node: &Node<MemVault>) -> Result<Vec<TransId
     ensures live { IfOk result (λ v. AreLive (state_of node.now) v.items) }
     ensures few { IfOk result (λ v. length v.items ≤ length node.now.journal) }
 {
-    node.kept.lives.ids(alloc)
+    node.live_transactions(alloc)
 }
 
 // Each of these transactions takes too long.
@@ -54,6 +54,7 @@ fn time_out(node: &mut Node<MemVault>, live: &[TransId]) -> Result<(), OutOfMemo
 {
     for trans in live {
         node.step(Event::Timeout { trans: *trans })?;
+        node.knows();
     }
     Ok(())
 }
@@ -79,12 +80,12 @@ fn put_ending(
     ensures { OnOk result (text.new.items ≡ text.old.items ++ ending_text node.now) }
 {
     let summary = Summary {
-        server: node.kept.server,
-        epoch: node.kept.epoch,
-        clock: node.kept.clock,
-        files: node.kept.vault.cells(),
-        committed: node.kept.committed,
-        aborted: node.kept.drawn.saturating_sub(node.kept.committed),
+        server: node.server(),
+        epoch: node.epoch(),
+        clock: node.clock(),
+        files: node.vault().cells(),
+        committed: node.committed(),
+        aborted: node.begun().saturating_sub(node.committed()),
     };
     put_summary(alloc, text, &summary)
 }
@@ -104,7 +105,7 @@ pub fn finish(alloc: Global, run: PlayedRun) -> Result<Ended, OutOfMemory>
     settle(alloc, &mut node)?;
     put_ending(alloc, &mut text, &node)?;
     let ranks = ranks(alloc, node.journal().entries())?;
-    let server = node.kept.server;
+    let server = node.server();
     let (opening, _, journal) = node.into_parts();
     let mut servers = Vec::new(alloc);
     servers.push(ServerLog {

@@ -72,6 +72,7 @@ fn send(
         number,
         call,
     })?;
+    node.knows();
     let is_over = clients.hears(client, &line.line, &reply)?;
     items.push(Item {
         line: line.number,
@@ -215,7 +216,10 @@ fn new_node(alloc: Global) -> Result<Node<MemVault>, OutOfMemory>
 {
     let vault = MemVault::new(alloc, VOLUME, SERVER, 1);
     match Node::start(alloc, SERVER, 1, vault) {
-        Ok(node) => Ok(node),
+        Ok(node) => {
+            node.knows();
+            Ok(node)
+        }
         Err((_, fault)) => Err(only_memory(fault)),
     }
 }
