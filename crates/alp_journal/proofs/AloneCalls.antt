@@ -174,24 +174,27 @@ module _ (a : Alone) (client number : ℕ) (w : Session) (t : TransId) (l : Life
         new = new_call a client number w o.there o.turn;
         there = o.there;
         left = (λ i. record (state_deed s (Performs t done)) {
-              desk = is.leaves (with_session s.desk client (Some (record w { last = number; reply = r }))) (has_part (state_deed s (Performs t done)) client) i;
-              is_down = false;
-              pending = [];
-            })
+          desk = is.leaves (with_session s.desk client (Some (record w { last = number; reply = r }))) (has_part (state_deed s (Performs t done)) client) i;
+          is_down = false;
+          pending = [];
+        })
             ∙ (λ i. record (state_deed s (Performs t done)) { desk = begins_if (reply_is.now i) (with_session s.desk client (Some (record w { last = number; reply = r }))) client number c; is_down = false; pending = [] })
             ∙ (λ i. alone (record m { holder = performs a.holder t done (o.live i); begun = append-nil a.begun i }));
         drawn = reply_is.none;
-        deeds = (record {
-          counts = o.next_id;
-          view = (l, o.live, record { client = ap (λ (n : ℕ). Some n) (sym o.own); active = pair.1; formed = o.formed; right = o.right; locked = o.locked });
-          locks = subst (λ (x : Option Life). DoLivesAgree (performs a.holder t done x).lives) (sym o.live) (IsQuiet.agree (call_quiet l.held (a.locked t) o.quiet o.live o.agree));
-          running = runs_open s refl pair;
-          registration = tt;
-          vote = tt;
-          decision = tt;
-          application = tt;
-          forgetting = tt;
-        }, tt);
+        deeds = (
+          record {
+            counts = o.next_id;
+            view = (l, o.live, record { client = ap (λ (n : ℕ). Some n) (sym o.own); active = pair.1; formed = o.formed; right = o.right; locked = o.locked });
+            locks = subst (λ (x : Option Life). DoLivesAgree (performs a.holder t done x).lives) (sym o.live) (IsQuiet.agree (call_quiet l.held (a.locked t) o.quiet o.live o.agree));
+            running = runs_open s refl pair;
+            registration = tt;
+            vote = tt;
+            decision = tt;
+            application = tt;
+            forgetting = tt;
+          },
+          tt,
+        );
         released = refl;
         granted = refl;
         said = tt;
@@ -228,7 +231,7 @@ module _ (a : Alone) (client number : ℕ) (w : Session) (t : TransId) (l : Life
 
   granted_locked : a.holder.lives t ≡ Some l
       → ◌≡◌ {A = Locked} (lock_set (lock_set a.locked t (with_resources (request_in a.holder c (a.holder.lives t)) (a.locked t))) t
-          (with_resources (needs_made (id_in r)) (lock_set a.locked t (with_resources (request_in a.holder c (a.holder.lives t)) (a.locked t)) t)))
+      (with_resources (needs_made (id_in r)) (lock_set a.locked t (with_resources (request_in a.holder c (a.holder.lives t)) (a.locked t)) t)))
       (lock_set a.locked t (with_resources (needs_made (id_in r)) locks_granted))
   granted_locked live =
       ap (λ (x : Option Life). lock_set (lock_set a.locked t (with_resources (request_in a.holder c x) (a.locked t))) t (with_resources (needs_made (id_in r)) (lock_set a.locked t (with_resources (request_in a.holder c x) (a.locked t)) t))) live
@@ -264,34 +267,40 @@ module _ (a : Alone) (client number : ℕ) (w : Session) (t : TransId) (l : Life
         new = new_call a client number w o.there o.turn;
         there = o.there;
         left = (λ i. record after {
-              desk = is.leaves (with_session s.desk client (Some (record w { last = number; reply = r }))) (has_part after client) i;
-              is_down = false;
-              pending = [];
-            })
+          desk = is.leaves (with_session s.desk client (Some (record w { last = number; reply = r }))) (has_part after client) i;
+          is_down = false;
+          pending = [];
+        })
             ∙ (λ i. record after { desk = begins_if (reply_is.now i) (with_session s.desk client (Some (record w { last = number; reply = r }))) client number c; is_down = false; pending = [] })
             ∙ (λ i. alone (record m { holder = granted_holder o.live i; locked = granted_locked o.live i; begun = (append-nil (a.begun ++ []) ∙ append-nil a.begun) i }));
         drawn = reply_is.none;
-        deeds = (record {
-          counts = tt;
-          view = tt;
-          locks = (λ x at. subst (λ (y : Life). y.vote ≡ None) (same-some l x (sym o.live ∙ at)) pair.1, subst (λ (x : Option Life). DoLivesAgree (grants a.holder t c x).lives) (sym o.live) agree_granted);
-          running = runs_open s refl pair;
-          registration = tt;
-          vote = tt;
-          decision = tt;
-          application = tt;
-          forgetting = tt;
-        }, (record {
-          counts = λ f e. o.next_id f e ∙ ap (λ (x : Option Life). file_of (grants a.holder t c x).server) (sym o.live);
-          view = (record l { held = under_grant }, lives_then, record { client = ap (λ (n : ℕ). Some n) (sym o.own); active = pair.1; formed = o.formed; right = grant_right o.live o.right; locked = grant_locked o.live o.locked });
-          locks = subst (λ (h : Holder). DoLivesAgree h.lives) (sym (granted_holder o.live)) (IsQuiet.agree (call_quiet under_grant locks_granted o.quiet o.live o.agree));
-          running = runs_open granting refl pair;
-          registration = tt;
-          vote = tt;
-          decision = tt;
-          application = tt;
-          forgetting = tt;
-        }, tt));
+        deeds = (
+          record {
+            counts = tt;
+            view = tt;
+            locks = (λ x at. subst (λ (y : Life). y.vote ≡ None) (same-some l x (sym o.live ∙ at)) pair.1, subst (λ (x : Option Life). DoLivesAgree (grants a.holder t c x).lives) (sym o.live) agree_granted);
+            running = runs_open s refl pair;
+            registration = tt;
+            vote = tt;
+            decision = tt;
+            application = tt;
+            forgetting = tt;
+          },
+          (
+            record {
+              counts = λ f e. o.next_id f e ∙ ap (λ (x : Option Life). file_of (grants a.holder t c x).server) (sym o.live);
+              view = (record l { held = under_grant }, lives_then, record { client = ap (λ (n : ℕ). Some n) (sym o.own); active = pair.1; formed = o.formed; right = grant_right o.live o.right; locked = grant_locked o.live o.locked });
+              locks = subst (λ (h : Holder). DoLivesAgree h.lives) (sym (granted_holder o.live)) (IsQuiet.agree (call_quiet under_grant locks_granted o.quiet o.live o.agree));
+              running = runs_open granting refl pair;
+              registration = tt;
+              vote = tt;
+              decision = tt;
+              application = tt;
+              forgetting = tt;
+            },
+            tt,
+          ),
+        );
         released = refl;
         granted = refl;
         said = (tt, tt);

@@ -155,7 +155,7 @@ module _ (a : Alone) (client number : ℕ) (w : Session) (t : TransId) (l : Life
     view = tt;
     locks = (
       subst (λ (x : Option Life). IsSome ((deciding_holder x).lives t)) (sym live)
-        (subst (λ (b : Bool). IsSome (cond {A = Option Life} b (Some (emptied l)) (a.holder.lives t))) (sym (same_trans-itself t)) refl),
+          (subst (λ (b : Bool). IsSome (cond {A = Option Life} b (Some (emptied l)) (a.holder.lives t))) (sym (same_trans-itself t)) refl),
       has_ended t (state_deed finishing_state (Decides commit_stamp [])) (Committed commit_stamp [] []) (decided_fate runs) refl (λ j. refl),
     );
     running = tt;
@@ -199,8 +199,15 @@ module _ (a : Alone) (client number : ℕ) (w : Session) (t : TransId) (l : Life
         released = refl;
         granted = refl;
         said = (tt, (tt, tt));
-        tells = ([], ap fate.decision_in (told_fate runs), (x, find-put stamp_cmp stamps_total commit_stamp commit_stamp x a.holder.applied
-            ∙ ap (λ (o : Ordering). cond {A = Option Decided} (is_eq o) (Some x) (entries.find stamp_cmp commit_stamp a.holder.applied)) (itself commit_stamp)));
+        tells = (
+          [],
+          ap fate.decision_in (told_fate runs),
+          (
+            x,
+            find-put stamp_cmp stamps_total commit_stamp commit_stamp x a.holder.applied
+                ∙ ap (λ (o : Ordering). cond {A = Option Decided} (is_eq o) (Some x) (entries.find stamp_cmp commit_stamp a.holder.applied)) (itself commit_stamp),
+          ),
+        );
         regained = refl;
         quiet = commit_quiet q runs;
         answer = subst (λ (b : Bool). Where b (First (at_part (true && false) (part_at (alone a) client t)) r (r ≡ finish_reply false (alone a) t (a.fates t))) (r ≡ reply.Refused refusal.UnknownTrans)) (sym (eq-eqb t.server a.holder.server here))
@@ -526,19 +533,27 @@ module _ (a : Alone) (t : TransId) where
         let pair : IsPaired (Some l) (a.fates t) = subst (λ (x : Option Life). IsPaired x (a.fates t)) live (q.paired t) in
         timeout_so (act.Released t ∷ []) (Ends t l.client cause.TimedOut ∷ Releases t ∷ []) with_timeout refl up refl
         (ap (λ (f : Fate). times_out_here t (fate.client_of f) ++ [] ++ (Releases t ∷ []) ++ []) pair.0)
-        (λ i. alone (record with_timeout { begun = (append-nil (a.begun ++ []) ∙ append-nil a.begun) i }))
-        (record { counts = tt; view = tt; locks = tt; running = tt; registration = tt; vote = tt; decision = tt; application = tt; forgetting = tt }, (record {
-          counts = tt;
-          view = tt;
-          locks = (subst (λ (x : Option Life). IsSome x) (sym live) refl, has_ended t (state_deed (alone a) (Ends t l.client cause.TimedOut)) (Ended cause.TimedOut)
-              (ap (λ (b : Bool). cond {A = Fate} b (fate.ended cause.TimedOut (a.fates t)) (a.fates t)) (same_trans-itself t) ∙ ap (fate.ended cause.TimedOut) pair.0) refl (λ j. refl));
-          running = tt;
-          registration = tt;
-          vote = tt;
-          decision = tt;
-          application = tt;
-          forgetting = tt;
-        }, tt))
+        (λ i. alone (record with_timeout { begun = (append-nil (a.begun ++ []) ∙ append-nil a.begun) i })) (
+          record { counts = tt; view = tt; locks = tt; running = tt; registration = tt; vote = tt; decision = tt; application = tt; forgetting = tt },
+          (
+            record {
+              counts = tt;
+              view = tt;
+              locks = (
+                subst (λ (x : Option Life). IsSome x) (sym live) refl,
+                has_ended t (state_deed (alone a) (Ends t l.client cause.TimedOut)) (Ended cause.TimedOut)
+                    (ap (λ (b : Bool). cond {A = Fate} b (fate.ended cause.TimedOut (a.fates t)) (a.fates t)) (same_trans-itself t) ∙ ap (fate.ended cause.TimedOut) pair.0) refl (λ j. refl),
+              );
+              running = tt;
+              registration = tt;
+              vote = tt;
+              decision = tt;
+              application = tt;
+              forgetting = tt;
+            },
+            tt,
+          ),
+        )
         refl refl (λ x. (tt, tt)) refl
         (record {
           agree = agree_without a.holder.lives t q.agree;

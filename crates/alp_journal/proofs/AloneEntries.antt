@@ -239,10 +239,10 @@ module _ (a : Alone) (client number : ℕ) (w : Session) where
         new = new_call a client number w there turn;
         there = there;
         left = ap (λ (b : Bool). record (alone a) {
-                desk = finished (begins_if b (with_session (alone a).desk client (Some (record w { last = number; reply = reply.Refused f }))) client number (call.Finish t commit)) client t (reply.Refused f);
-                is_down = false;
-                pending = [];
-              }) now ∙ left;
+          desk = finished (begins_if b (with_session (alone a).desk client (Some (record w { last = number; reply = reply.Refused f }))) client number (call.Finish t commit)) client t (reply.Refused f);
+          is_down = false;
+          pending = [];
+        }) now ∙ left;
         drawn = refl;
         deeds = tt;
         released = refl;
@@ -324,18 +324,24 @@ module _ (a : Alone) (client number : ℕ) (w : Session) where
           drawn = refl;
           deeds = (
             ends_lawful,
-            (record {
-              counts = tt;
-              view = tt;
-              locks = (subst (λ (x : Option Life). IsSome x) (sym live) refl, has_ended t (state_deed (alone a) (Ends t client c)) (Ended c)
-                  (ap (λ (b : Bool). cond {A = Fate} b (fate.ended c (a.fates t)) (a.fates t)) (same_trans-itself t) ∙ ap (fate.ended c) runs) refl (λ j. refl));
-              running = tt;
-              registration = tt;
-              vote = tt;
-              decision = tt;
-              application = tt;
-              forgetting = tt;
-            }, tt),
+            (
+              record {
+                counts = tt;
+                view = tt;
+                locks = (
+                  subst (λ (x : Option Life). IsSome x) (sym live) refl,
+                  has_ended t (state_deed (alone a) (Ends t client c)) (Ended c)
+                      (ap (λ (b : Bool). cond {A = Fate} b (fate.ended c (a.fates t)) (a.fates t)) (same_trans-itself t) ∙ ap (fate.ended c) runs) refl (λ j. refl),
+                );
+                running = tt;
+                registration = tt;
+                vote = tt;
+                decision = tt;
+                application = tt;
+                forgetting = tt;
+              },
+              tt,
+            ),
           );
           released = refl;
           granted = refl;
@@ -373,18 +379,27 @@ module _ (a : Alone) (client number : ℕ) (w : Session) where
           drawn = refl;
           deeds = (
             record { counts = tt; view = tt; locks = tt; running = tt; registration = tt; vote = tt; decision = tt; application = tt; forgetting = tt },
-            (ends_lawful, (record {
-              counts = tt;
-              view = tt;
-              locks = (subst (λ (x : Option Life). IsSome x) (sym live) refl, has_ended t (state_deed (state_deed (alone a) (Finishes t)) (Ends t client c)) (Ended c)
-                  (finished_ended (same_trans t t) (a.fates t) ∙ ap (λ (b : Bool). cond {A = Fate} b (fate.ended c (a.fates t)) (a.fates t)) itself ∙ ap (fate.ended c) runs) refl (λ j. refl));
-              running = tt;
-              registration = tt;
-              vote = tt;
-              decision = tt;
-              application = tt;
-              forgetting = tt;
-            }, tt)),
+            (
+              ends_lawful,
+              (
+                record {
+                  counts = tt;
+                  view = tt;
+                  locks = (
+                    subst (λ (x : Option Life). IsSome x) (sym live) refl,
+                    has_ended t (state_deed (state_deed (alone a) (Finishes t)) (Ends t client c)) (Ended c)
+                        (finished_ended (same_trans t t) (a.fates t) ∙ ap (λ (b : Bool). cond {A = Fate} b (fate.ended c (a.fates t)) (a.fates t)) itself ∙ ap (fate.ended c) runs) refl (λ j. refl),
+                  );
+                  running = tt;
+                  registration = tt;
+                  vote = tt;
+                  decision = tt;
+                  application = tt;
+                  forgetting = tt;
+                },
+                tt,
+              ),
+            ),
           );
           released = refl;
           granted = refl;

@@ -82,7 +82,7 @@ module _ (a : Alone) (client number : ℕ) (w : Session) where
       → tried (alone a) (call_entry c r acts) ≡ call_deeds (alone a) client c r ++ flat_map (act_deeds (alone a) (event.Call client a.ids.epoch number c)) acts ++ done_of (alone a) r (answered (alone a) client c)
   call_tried c r acts there turn =
       ap (λ (b : Bool). cond {A = List Deed} b (call_deeds (alone a) client c r) [] ++ flat_map (act_deeds (alone a) (event.Call client a.ids.epoch number c)) acts
-          ++ cond {A = List Deed} b (done_of (alone a) r (answered (alone a) client c)) []) (new_call there turn)
+      ++ cond {A = List Deed} b (done_of (alone a) r (answered (alone a) client c)) []) (new_call there turn)
 
   -- what is known behind its answer
   abbrev pub after_call : State → Call → Reply → State
@@ -106,8 +106,8 @@ module _ (a : Alone) (client number : ℕ) (w : Session) where
       ap (λ (b : Bool). cond {A = State} b (halted (alone a) e) (told (alone a) e)) up
       ∙ ap (λ (x : State). record x { desk = desk_told x (event.Call client a.ids.epoch number c) (Some r); is_down = false; pending = [] }) (ap (state_after state_deed (alone a)) brought)
       ∙ ap (λ (x : Desk). record m { desk = x; is_down = false; pending = [] })
-        (plain m ∙ ap (λ (b : Bool). cond {A = Desk} b (counted m.desk (has_part m client) client number c r (m.desk.sessions client)) m.desk) new
-        ∙ ap (λ (x : Option Session). counted m.desk (has_part m client) client number c r x) there)
+      (plain m ∙ ap (λ (b : Bool). cond {A = Desk} b (counted m.desk (has_part m client) client number c r (m.desk.sessions client)) m.desk) new
+      ∙ ap (λ (x : Option Session). counted m.desk (has_part m client) client number c r x) there)
 
   -- what is owed of a new call's entry that brings these deeds
   pub record CallOwes (failed : Bool) (c : Call) (r : Reply) (acts : List Act) (ds : List Deed) (m : Alone) : Type 0 where

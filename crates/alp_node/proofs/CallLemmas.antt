@@ -65,8 +65,8 @@ pub performed_so : {V : Type 0} (tells : Bool) (cells : Cells) (old : ServerStat
 performed_so tells cells old v t l found blank p c b bt r taken lives id next counted there was out back right given own kind reads last err =
     let same : found ≡ l = same_live found l (sym was ∙ there) in
     let put : lives ≡ map.insert old.lives t (record found { part = p; bounds = bounds_then found.bounds b r }) =
-        back ∙ ap (λ (m : LiveMap). map.insert m t (record found { part = p; bounds = bt })) out ∙ put_twice old.lives t blank (record found { part = p; bounds = bt })
-        ∙ ap (λ (x : Bounds). map.insert old.lives t (record found { part = p; bounds = x })) counted in
+    back ∙ ap (λ (m : LiveMap). map.insert m t (record found { part = p; bounds = bt })) out ∙ put_twice old.lives t blank (record found { part = p; bounds = bt })
+    ∙ ap (λ (x : Bounds). map.insert old.lives t (record found { part = p; bounds = x })) counted in
     subst (λ (x : Live). Performed tells cells old (record old { lives = lives; vault = v }) t x c b r) same (record {
       part = p;
       kept = ap (λ (m : LiveMap). record old { lives = m; vault = v }) put;
@@ -179,7 +179,6 @@ made_now server epoch count (reply.Owner x) only = refl
 made_now server epoch count (reply.Committed x) only = refl
 made_now server epoch count (reply.Ended e) only = refl
 made_now server epoch count (reply.Refused f) only = refl
-
 
 -- and counted
 pub files_now : (count : ℕ) (r : Reply) → count + length (option_to_list (id_in r)) ≡ count_after count r

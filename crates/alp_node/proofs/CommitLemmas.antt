@@ -128,14 +128,14 @@ module _ {V : Type 0} (a : Alone) (before now : ℕ) (held then : Contents) (k :
       let m : Alone = with_commit a turn.client turn.number s.told t y.life in
       let stamp : Stamp = record { ts = a.holder.clock + 1; trans = t } in
       let leads = commit_leads a turn.client turn.number s.told t y.life h.quiet (h.down ∙ up) s.is (turn_next a held k turn h is) (here ∙ sym h.server) (drawn_live a held k t y.life h y.is).1 y.is (y.alike.client ∙ own)
-          (votes_for a held k t l h early live room) in
+      (votes_for a held k t l h early live room) in
       let same_stamp : stamp_at ≡ stamp = λ i. record { ts = sym h.clock i + 1; trans = t } in
       let last : m.holder.applied ≡ a.holder.applied ++ (stamp, record { stamp = stamp; who = y.life.who; calls = y.life.calls }) ∷ [] =
-          put-last a.holder.applied stamp (record { stamp = stamp; who = y.life.who; calls = y.life.calls }) a.holder.clock h.earlier (omega arith) in
+      put-last a.holder.applied stamp (record { stamp = stamp; who = y.life.who; calls = y.life.calls }) a.holder.clock h.earlier (omega arith) in
       let clock : max a.holder.clock (a.holder.clock + 1) ≡ k.clock + 1 = omega (arith, h.clock) in
       let same : then.cells ≡ edits_map es a.holder.cells =
-          same_cells then.cells (edits_map es a.holder.cells)
-          (cells ∙ (λ i q. y.alike.intents (map.get held.cells) i q) ∙ ap (after es) (over_empty (map.get held.cells)) ∙ ap (λ (c : Cells). after es (map.get c)) (h.cells up) ∙ sym (get-edits_map es a.holder.cells)) in
+      same_cells then.cells (edits_map es a.holder.cells)
+      (cells ∙ (λ i q. y.alike.intents (map.get held.cells) i q) ∙ ap (after es) (over_empty (map.get held.cells)) ∙ ap (λ (c : Cells). after es (map.get c)) (h.cells up) ∙ sym (get-edits_map es a.holder.cells)) in
       stepped_so a before now held then k committed_kept turn.client turn.number s.told (call.Finish t true) false (reply.Committed stamp) (act.Decided stamp [] ∷ act.Released t ∷ []) m x
       (so ∙ ap (λ (z : Stamp). record { kept = Some (reply.Committed z); handed = Some (reply.Committed z); acts = act.Decided z [] ∷ act.Released t ∷ [] }) same_stamp) h leads
       (record {

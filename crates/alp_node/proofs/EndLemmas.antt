@@ -238,7 +238,7 @@ module _ {V : Type 0} (a : Alone) (held : Contents) (k : ServerState V) (client 
         drawn = ap (λ (n : ℕ). n + 1) h.drawn;
         begun = (λ i. h.begun i ++ (record { server = a.holder.server; epoch = a.ids.epoch; counter = h.drawn i + 1 }) ∷ []) ∙ one_more a.holder.server a.ids.epoch k.drawn;
         undrawn = subst (λ (n : ℕ). (t : TransId) → is_beyond a.holder.server a.ids.epoch (n + 1) t ≡ true
-                → cond {A = Fate} (same_trans (next_trans (alone a)) t) (fate.begun client (a.fates t)) (a.fates t) ≡ Undrawn) h.drawn
+            → cond {A = Fate} (same_trans (next_trans (alone a)) t) (fate.begun client (a.fates t)) (a.fates t) ≡ Undrawn) h.drawn
             (undrawn_then a.holder.server a.ids.epoch a.ids.transactions a.fates (subst (λ (n : ℕ). (t : TransId) → is_beyond a.holder.server a.ids.epoch n t ≡ true → a.fates t ≡ Undrawn) (sym h.drawn) h.undrawn));
         files = h.files;
         made = h.made;

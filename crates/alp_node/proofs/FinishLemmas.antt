@@ -194,17 +194,17 @@ module _ {V : Type 0} (a : Alone) (before now : ℕ) (held : Contents) (k : Serv
       part = part_is a held k turn.client t h ∙ ap part_of unknown
 
       go : (b : Bool) → Where b (First (at_part (commit && false) (part_at (alone a) turn.client t)) (reply.Refused refusal.UnknownTrans)
-              (reply.Refused refusal.UnknownTrans ≡ cond {A = Reply} commit (finish_reply false (alone a) t (a.fates t)) (reply.Refused (refusal.Aborted cause.Asked))))
+          (reply.Refused refusal.UnknownTrans ≡ cond {A = Reply} commit (finish_reply false (alone a) t (a.fates t)) (reply.Refused (refusal.Aborted cause.Asked))))
           (reply.Refused refusal.UnknownTrans ≡ reply.Refused refusal.UnknownTrans)
       go true = subst (λ (p : Part). First (at_part (commit && false) p) (reply.Refused refusal.UnknownTrans)
-              (reply.Refused refusal.UnknownTrans ≡ cond {A = Reply} commit (finish_reply false (alone a) t (a.fates t)) (reply.Refused (refusal.Aborted cause.Asked)))) (sym part) refl
+          (reply.Refused refusal.UnknownTrans ≡ cond {A = Reply} commit (finish_reply false (alone a) t (a.fates t)) (reply.Refused (refusal.Aborted cause.Asked)))) (sym part) refl
       go false = refl
 
   -- another server's transaction is none of this one's
   elsewhere_answer : (t.server == a.holder.server) ≡ false → IsFinishAnswer false (alone a) turn.client t commit (reply.Refused refusal.UnknownTrans)
   elsewhere_answer away = subst (λ (b : Bool). Where b (First (at_part (commit && false) (part_at (alone a) turn.client t)) (reply.Refused refusal.UnknownTrans)
-              (reply.Refused refusal.UnknownTrans ≡ cond {A = Reply} commit (finish_reply false (alone a) t (a.fates t)) (reply.Refused (refusal.Aborted cause.Asked))))
-          (reply.Refused refusal.UnknownTrans ≡ reply.Refused refusal.UnknownTrans)) (sym away) refl
+      (reply.Refused refusal.UnknownTrans ≡ cond {A = Reply} commit (finish_reply false (alone a) t (a.fates t)) (reply.Refused (refusal.Aborted cause.Asked))))
+      (reply.Refused refusal.UnknownTrans ≡ reply.Refused refusal.UnknownTrans)) (sym away) refl
 
   unknown_so : (x : Answer) (h : IsAs a held k) (is : IsTurn k.sessions turn) → k.is_down ≡ false → EndsNone turn.client t commit (alone a).desk (reply.Refused refusal.UnknownTrans) (a.fates t)
       → IsFinishAnswer false (alone a) turn.client t commit (reply.Refused refusal.UnknownTrans) → x ≡ record { kept = Some (reply.Refused refusal.UnknownTrans); handed = Some (reply.Refused refusal.UnknownTrans); acts = [] }
@@ -240,9 +240,9 @@ module _ {V : Type 0} (a : Alone) (before now : ℕ) (held : Contents) (k : Serv
       let none : EndsNone turn.client t commit (alone a).desk r (a.fates t) = finish_none a held k turn.client t commit r h (λ own. let wrong : standing.Dead ≡ standing.Own = sym dead ∙ own in cc) in
       let part : part_at (alone a) turn.client t ≡ AtEnd cause.TimedOut = part_is a held k turn.client t h ∙ ap part_of dead in
       let why : IsFinishAnswer false (alone a) turn.client t commit r = subst (λ (b : Bool). Where b (First (at_part (commit && false) (part_at (alone a) turn.client t)) r
-              (r ≡ cond {A = Reply} commit (finish_reply false (alone a) t (a.fates t)) (reply.Refused (refusal.Aborted cause.Asked))))
-          (r ≡ reply.Refused refusal.UnknownTrans)) (sym (eq-eqb t.server a.holder.server (here ∙ sym h.server)))
-          (subst (λ (p : Part). First (at_part (commit && false) p) r (r ≡ cond {A = Reply} commit (finish_reply false (alone a) t (a.fates t)) (reply.Refused (refusal.Aborted cause.Asked)))) (sym part) refl) in
+      (r ≡ cond {A = Reply} commit (finish_reply false (alone a) t (a.fates t)) (reply.Refused (refusal.Aborted cause.Asked))))
+      (r ≡ reply.Refused refusal.UnknownTrans)) (sym (eq-eqb t.server a.holder.server (here ∙ sym h.server)))
+      (subst (λ (p : Part). First (at_part (commit && false) p) r (r ≡ cond {A = Reply} commit (finish_reply false (alone a) t (a.fates t)) (reply.Refused (refusal.Aborted cause.Asked)))) (sym part) refl) in
       let now_as : IsAs (counted_as a turn.client turn.number s.told r) held (record k { sessions = counted_in k.sessions turn }) = counts_as a held k turn r h is up in
       stepped_so a before now held held k (record k { sessions = counted_in k.sessions turn; dead = without_part turn.client t k.dead }) turn.client turn.number s.told (call.Finish t commit) false r []
       (without_dead a turn.client turn.number s.told t (counted_as a turn.client turn.number s.told r)) x so h

@@ -60,7 +60,6 @@ among_ids server epoch (suc n) f e = go (among_ids server epoch n f) (same_file 
         let low : f.counter ≤ n = leb-true f.counter n (and_right _ _ h) in
         ap (λ (b : Bool). b && nat_le f.counter (suc n)) (and_left _ _ h) ∙ le-leb f.counter (suc n) (omega (arith, low))
 
-
 -- all that is said of one that was made here
 among_all : (server epoch n : ℕ) (f : FileId) → has_file f (ids_to server epoch n) ≡ true → (f.server ≡ server) × (0 < f.counter)
 among_all server epoch zero f e = let wrong : false ≡ true = e in cc

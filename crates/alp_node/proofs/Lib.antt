@@ -24,6 +24,7 @@ pub mod ConflictLemmas
 pub mod GrantLemmas
 pub mod LockCallLemmas
 pub mod NodeLemmas
+pub mod LiveLemmas
 pub mod NoteLemmas
 pub mod StoreLemmas
 pub mod StartLemmas

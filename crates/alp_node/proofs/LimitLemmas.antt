@@ -187,8 +187,14 @@ module _ {V : Type 0} (a : Alone) (held : Contents) (k : ServerState V) where
   all_need h =
       let f : TransId → ℕ = λ t. need_at (alone a) (a.holder.lives t) in
       let w : TransId → ℕ = λ t. weigh (λ (l : Live). l.bounds.puts) (map.get k.lives t) in
-      omega (arith, needs_list (alone a) (all_live (alone a)), live_sum f h, twice_to f w a.holder.server a.ids.epoch k.drawn (λ t. part_need t (map.get k.lives t) (a.holder.lives t) (h.lives t)),
-      within_all (λ (l : Live). l.bounds.puts) a.holder.server a.ids.epoch k.drawn k.lives, total_puts no_bounds (map.entries k.lives))
+      omega (
+        arith,
+        needs_list (alone a) (all_live (alone a)),
+        live_sum f h,
+        twice_to f w a.holder.server a.ids.epoch k.drawn (λ t. part_need t (map.get k.lives t) (a.holder.lives t) (h.lives t)),
+        within_all (λ (l : Live). l.bounds.puts) a.holder.server a.ids.epoch k.drawn k.lives,
+        total_puts no_bounds (map.entries k.lives),
+      )
 
   -- of what is there already none is made
   none_made : (p : Key → Bool) (m : Cells) → made_in p m m ≡ 0
@@ -226,15 +232,27 @@ module _ {V : Type 0} (a : Alone) (held : Contents) (k : ServerState V) where
   all_leaders h =
       let f : TransId → ℕ = λ t. made_at is_leader (alone a) (a.holder.lives t) in
       let w : TransId → ℕ = λ t. weigh (λ (l : Live). l.bounds.leaders) (map.get k.lives t) in
-      omega (arith, made_list is_leader (alone a) (all_live (alone a)), live_sum f h, less_to f w a.holder.server a.ids.epoch k.drawn (λ t. leaders_at t (map.get k.lives t) (a.holder.lives t) (h.lives t)),
-      within_all (λ (l : Live). l.bounds.leaders) a.holder.server a.ids.epoch k.drawn k.lives, total_leaders no_bounds (map.entries k.lives))
+      omega (
+        arith,
+        made_list is_leader (alone a) (all_live (alone a)),
+        live_sum f h,
+        less_to f w a.holder.server a.ids.epoch k.drawn (λ t. leaders_at t (map.get k.lives t) (a.holder.lives t) (h.lives t)),
+        within_all (λ (l : Live). l.bounds.leaders) a.holder.server a.ids.epoch k.drawn k.lives,
+        total_leaders no_bounds (map.entries k.lives),
+      )
 
   pub all_owners : IsAs a held k → made_by_all is_owner (alone a) (all_live (alone a)) ≤ (total_of k.lives).owners
   all_owners h =
       let f : TransId → ℕ = λ t. made_at is_owner (alone a) (a.holder.lives t) in
       let w : TransId → ℕ = λ t. weigh (λ (l : Live). l.bounds.owners) (map.get k.lives t) in
-      omega (arith, made_list is_owner (alone a) (all_live (alone a)), live_sum f h, less_to f w a.holder.server a.ids.epoch k.drawn (λ t. owners_at t (map.get k.lives t) (a.holder.lives t) (h.lives t)),
-      within_all (λ (l : Live). l.bounds.owners) a.holder.server a.ids.epoch k.drawn k.lives, total_owners no_bounds (map.entries k.lives))
+      omega (
+        arith,
+        made_list is_owner (alone a) (all_live (alone a)),
+        live_sum f h,
+        less_to f w a.holder.server a.ids.epoch k.drawn (λ t. owners_at t (map.get k.lives t) (a.holder.lives t) (h.lives t)),
+        within_all (λ (l : Live). l.bounds.owners) a.holder.server a.ids.epoch k.drawn k.lives,
+        total_owners no_bounds (map.entries k.lives),
+      )
 
 -- ---- no refusal
 
@@ -252,9 +270,9 @@ risen_by x y z w n h e = omega (arith, h, e)
 rise_most : (m : Cells) (es fs : List Edit) → list_all is_put es ≡ true → list_all is_put fs ≡ true → need_of m (es ++ fs) - need_of m es ≤ 2 * length fs
 rise_most m es fs first second =
     let most : used_of (edits_map (es ++ fs) m) ≤ used_of (edits_map es m) + 2 * length fs =
-        subst (λ (n : ℕ). n ≤ used_of (edits_map es m) + 2 * length fs) (sym (ap used_of (edits_map-append es fs m))) (used_most fs (edits_map es m) second) in
+    subst (λ (n : ℕ). n ≤ used_of (edits_map es m) + 2 * length fs) (sym (ap used_of (edits_map-append es fs m))) (used_most fs (edits_map es m) second) in
     let same : used_of (edits_map (filter (λ e. not (is_put e)) (es ++ fs)) m) ≡ used_of (edits_map (filter (λ e. not (is_put e)) es) m) =
-        ap (λ (xs : List Edit). used_of (edits_map xs m)) (no_others (es ++ fs) (all_puts es fs first second) ∙ sym (no_others es first)) in
+    ap (λ (xs : List Edit). used_of (edits_map xs m)) (no_others (es ++ fs) (all_puts es fs first second) ∙ sym (no_others es first)) in
     risen_by (used_of (edits_map (es ++ fs) m)) (used_of (edits_map es m)) (used_of (edits_map (filter (λ e. not (is_put e)) (es ++ fs)) m)) (used_of (edits_map (filter (λ e. not (is_put e)) es) m)) (2 * length fs) most same
 
 left_most : (home used all rise total more : ℕ) → 257 + used + 2 * (total + more) ≤ home → all ≤ 2 * total → rise ≤ 2 * more → rise ≤ home - 257 - used - all
@@ -313,9 +331,9 @@ module _ {V : Type 0} (a : Alone) (held : Contents) (k : ServerState V) (t : Tra
         → is_past_limit p (alone a) life x stand limit ≡ false
     past_none p stand limit total more all adds puts fits =
         (λ i. nat_lt (made_of p a.holder.cells life.edits) (made_of p a.holder.cells (life.edits ++ x.edits))
-            && not_over limit (stand + made_by_all p (alone a) (all_live (alone a)) + (made_of p a.holder.cells (life.edits ++ x.edits) - made_of p a.holder.cells life.edits))
-              (past_most stand (made_by_all p (alone a) (all_live (alone a))) total more limit (made_of p a.holder.cells (life.edits ++ x.edits)) (made_of p a.holder.cells life.edits) (puts_on p x.edits) all adds fits
-              (more_made a held k p life.edits x.edits puts)) i)
+        && not_over limit (stand + made_by_all p (alone a) (all_live (alone a)) + (made_of p a.holder.cells (life.edits ++ x.edits) - made_of p a.holder.cells life.edits))
+        (past_most stand (made_by_all p (alone a) (all_live (alone a))) total more limit (made_of p a.holder.cells (life.edits ++ x.edits)) (made_of p a.holder.cells life.edits) (puts_on p x.edits) all adds fits
+        (more_made a held k p life.edits x.edits puts)) i)
         ∙ last (nat_lt (made_of p a.holder.cells life.edits) (made_of p a.holder.cells (life.edits ++ x.edits)))
       where
         past_most : (stand made total more limit later now puts : ℕ) → made ≤ total → puts ≤ more → stand + (total + more) ≤ limit → later ≤ now + puts → stand + made + (later - now) ≤ limit

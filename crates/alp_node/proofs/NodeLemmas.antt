@@ -1,7 +1,7 @@
 -- a server and its journal, one step more
-use Rattle.std.specs.Prelude.{IsTrue, Bool, true, false, Option, Some, Result, Ok, Err, IfOk, OnErr}
+use Rattle.std.specs.Prelude.{IsTrue, Bool, true, false, Option, Some, Result, Ok, Err, IfOk}
 use Rattle.std.specs.FinMap as map
-use Rattle.std.proofs.Common.{◌≡◌, ℕ, ◌+◌, List, [], ◌∷◌, ◌++◌, length, length-append, refl, sym, ◌∙◌, ap, subst, arith}
+use Rattle.std.proofs.Common.{◌≡◌, ℕ, ◌+◌, List, [], ◌∷◌, ◌++◌, length, length-append, refl, sym, ◌∙◌, ap, subst}
 use Rattle.alp_base.specs.Causes.{Rose}
 use Rattle.alp_base.specs.declared.memory.OutOfMemory.{OutOfMemory}
 use Rattle.alp_files.specs.declared.reply.Reply.{Reply}
@@ -29,7 +29,7 @@ use Rattle.alp_node.specs.NodeStates.{NodeState}
 use Rattle.alp_node.specs.declared.opened.Opened.{Opened}
 use Rattle.alp_node.specs.ServerState.{IsAs, IsReady}
 use Rattle.alp_node.specs.Nodes.{IsConsistent, IsRight, Answered, HasCause, state_of, start_by, start_in}
-use Rattle.alp_node.specs.Steps.{Stepped, IsEntered, IsSeated, IsTimely, entry_of}
+use Rattle.alp_node.specs.Steps.{Stepped, IsEntered, entry_of}
 use Rattle.alp_node.specs.Served.{IsServed, AreLivesSound}
 use Rattle.alp_node.specs.declared.lives.Live.{Live}
 use Rattle.alp_node.specs.declared.server_state.ServerState.{ServerState}
@@ -157,28 +157,3 @@ module _ {V : Type 0} (G : Ghosts V) (old : NodeState V) (kept : ServerState V) 
         causes = s.given.causes;
       })
   entered_answered (Err f) h s = tt
-
-  pub entered_err : (r : Result (Option Reply) OutOfMemory) → IsEntered G old.kept kept old.journal journal e r → OnErr r ((journal ≡ old.journal) × (kept.is_down ≡ old.kept.is_down))
-  entered_err (Ok y) s = tt
-  entered_err (Err f) (s, is) = (is, s.still.up)
-
-  pub entered_still : (r : Result (Option Reply) OutOfMemory) → IsEntered G old.kept kept old.journal journal e r → (a : Alone) → IsAs a (G.held old.kept.vault) old.kept → OnErr r (IsAs a (G.held kept.vault) kept)
-  entered_still (Ok y) s a h = tt
-  entered_still (Err f) (s, is) a h = s.still.kept a h
-
-  pub entered_seat : (r : Result (Option Reply) OutOfMemory) → IsEntered G old.kept kept old.journal journal e r → IsSeated G.allowance old.kept kept
-  entered_seat (Ok y) (x, s, handed, is) = s.seat
-  entered_seat (Err f) (s, is) = s.seat
-
-  pub entered_tells : (r : Result (Option Reply) OutOfMemory) → IsEntered G old.kept kept old.journal journal e r → G.tells kept.vault ≡ G.tells old.kept.vault
-  entered_tells (Ok y) (x, s, handed, is) = s.telling
-  entered_tells (Err f) (s, is) = s.telling
-
-  pub entered_clock : (r : Result (Option Reply) OutOfMemory) → IsConsistent G old → IsEntered G old.kept kept old.journal journal e r → IsTrue (G.tells old.kept.vault) → IsTimely old.kept.clock e kept.clock
-  entered_clock (Ok y) h (x, s, handed, is) told =
-      let right = h.right told in
-      subst (λ (n : ℕ). IsTimely n e kept.clock) right.kept.clock (s.stepped told right.state right.kept).clock
-  entered_clock (Err f) h (s, is) told =
-      let right = h.right told in
-      let now : old.kept.clock ≡ kept.clock = sym right.kept.clock ∙ (s.still.kept right.state right.kept).clock in
-      omega (arith, now)

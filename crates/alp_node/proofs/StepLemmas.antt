@@ -58,7 +58,7 @@ module _ {V : Type 0} (G : Ghosts V) (k : ServerState V) (v : V) where
   pub ended_step : (turn : Turn) (t : TransId) (c : Call) (cause : Cause) (r : Result Answer OutOfMemory) (new : ServerState V) → IsSameFor (G.serves v) → IsTurn k.sessions turn → k.is_down ≡ false
       → OnOk r (new ≡ ended mid turn t) → IfOk r (λ x. x ≡ refused_answer (refusal.Aborted cause) (act.Released t ∷ [])) → OnErr r (new ≡ mid)
       → (IsTrue (G.tells k.vault) → (a : Alone) → IsAs a (G.held k.vault) k → (x : Answer) → x ≡ refused_answer (refusal.Aborted cause) (act.Released t ∷ [])
-          → Stepped a (G.faults k.vault) (G.faults v) (G.held k.vault) (ended k turn t) (event.Call turn.client k.epoch turn.number c) x)
+      → Stepped a (G.faults k.vault) (G.faults v) (G.held k.vault) (ended k turn t) (event.Call turn.client k.epoch turn.number c) x)
       → IsStep G k new (event.Call turn.client k.epoch turn.number c) r
   ended_step turn t c cause (Ok x) new same is up done so err steps =
       subst (λ (y : ServerState V). IsStep G k y (event.Call turn.client k.epoch turn.number c) (Ok x)) (sym done) (record {
@@ -93,7 +93,7 @@ module _ {V : Type 0} (G : Ghosts V) (k new : ServerState V) (v : V) where
   pub down_step : (turn : Turn) (c : Call) (x : Answer) (acts : List Act) → G.tells v ≡ G.tells k.vault → Spends (G.allowance k.vault) (G.allowance v) → new ≡ record k { is_down = true; vault = v }
       → x ≡ refused_answer refusal.Down acts → list_any is_stop acts ≡ true → HaveCauses (G.faults k.vault) (G.faults v) (G.allowance v) acts
       → (IsTrue (G.tells k.vault) → (a : Alone) → IsAs a (G.held k.vault) k
-          → Stepped a (G.faults k.vault) (G.faults v) (G.held v) (record k { is_down = true; vault = v }) (event.Call turn.client k.epoch turn.number c) x)
+      → Stepped a (G.faults k.vault) (G.faults v) (G.held v) (record k { is_down = true; vault = v }) (event.Call turn.client k.epoch turn.number c) x)
       → IsStep G k new (event.Call turn.client k.epoch turn.number c) (Ok x)
   down_step turn c x acts telling spends down so stop causes steps =
       subst (λ (y : ServerState V). IsStep G k y (event.Call turn.client k.epoch turn.number c) (Ok x)) (sym down) (record {

@@ -71,4 +71,3 @@ pub stored_clock : {E : Type 0} (r : Result (Unit {0}) E) (old mid new : Content
 stored_clock r old mid new n changes clock same one is back made =
     on_ok r (new.notes ≡ notes_after changes mid.notes) (clock_kept new.notes ≡ clock) made
     (λ e. ap clock_kept (e ∙ clock_put mid.notes n changes clock one is) ∙ clock_stands mid.notes n clock is back)
-

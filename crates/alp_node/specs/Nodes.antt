@@ -1,9 +1,12 @@
 -- A server and its journal.
-use Rattle.std.specs.Prelude.{◌≡◌, ℕ, ◌<◌, Bool, true, false, IsTrue, List, [], ◌∷◌, ◌++◌, length, Option, is_some}
+use Rattle.std.specs.Prelude.{◌≡◌, ℕ, ◌<◌, Bool, true, false, IsTrue, List, [], ◌∷◌, ◌++◌, length, Option, is_some, IsSome, ◌↔◌}
 use Rattle.std.specs.FinMap as map
-use Rattle.std.specs.List.{list_any}
+use Rattle.std.specs.List.{list_any, Contains}
+use Rattle.std.specs.List.Sorted.{IsStrictlySortedBy}
 use Rattle.alp_base.specs.Causes.{Rose}
 use Rattle.alp_base.specs.declared.allowance.Allowance.{Allowance}
+use Rattle.alp_base.specs.declared.ids.TransId.{TransId}
+use Rattle.alp_base.specs.Orders.{trans_cmp}
 use Rattle.alp_files.specs.Apart.{AreSized}
 use Rattle.alp_files.specs.Sound.{AreSound}
 use Rattle.alp_files.specs.declared.reply.Reply.{Reply}
@@ -83,3 +86,8 @@ pub record Answered (tells : Bool) (s : State) (before after : List Entry) (e : 
 -- a journal with room for one entry
 abbrev pub HasRoom : {V : Type 0} → NodeState V → Type 0
 HasRoom n = length n.journal < 65536
+
+-- these are the transactions that are live, least id first
+pub record AreLive (s : State) (ts : List TransId) : Type 0 where
+  pub rise : IsStrictlySortedBy trans_cmp ts
+  pub live : (t : TransId) → Contains ts t ↔ IsSome (s.holder.lives t)

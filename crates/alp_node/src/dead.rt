@@ -42,9 +42,7 @@ impl Dead {
     pub fn has(&self, client: u8, trans: &TransId) -> bool
         ensures { result ≡ is_dead client trans.now self.now }
     {
-        self.parts
-            .iter()
-            .any(|part| is_part(part, client, trans))
+        self.parts.iter().any(|part| is_part(part, client, trans))
     }
 
     pub fn add(&mut self, client: u8, trans: TransId) -> Result<(), OutOfMemory>

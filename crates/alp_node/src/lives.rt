@@ -1,5 +1,5 @@
 //! Transactions that are live at a server.
-ghost use Rattle.std.specs.Prelude.{◌≡◌, ◌≢◌, IfOk, IfSome, OnOk, OnErr, None, Some, is_some};
+ghost use Rattle.std.specs.Prelude.{◌≡◌, ◌≢◌, IfOk, IfSome, OnOk, OnErr, None, Some};
 ghost use Rattle.std.specs.FinMap as map;
 ghost use Rattle.std.specs.Option.{option_copied as copied};
 ghost use Rattle.std.specs.BTreeMap.{keys, IsOrdered};
@@ -57,13 +57,6 @@ impl Lives {
         ensures { copied result ≡ map.get self.now trans.now }
     {
         self.lives.get(trans)
-    }
-
-    /// Whether the transaction is live.
-    pub fn has(&self, trans: &TransId) -> bool
-        ensures { result ≡ is_some (map.get self.now trans.now) }
-    {
-        self.get(trans).is_some()
     }
 
     pub fn add(&mut self, trans: TransId, live: Live) -> Result<(), OutOfMemory>

@@ -1,21 +1,22 @@
 //! A server with its journal.
-ghost use Rattle.std.specs.Prelude.{◌≡◌, ◌+◌, ◌<◌, ◌≤◌, ◌^◌, max, IsTrue, IsOk, List, [], ◌∷◌, ◌++◌, IfOk, OnErr, Some, true, false};
+ghost use Rattle.std.specs.Prelude.{◌≡◌, ◌+◌, ◌<◌, ◌≤◌, ◌^◌, max, IsTrue, IsOk, List, [], ◌∷◌, ◌++◌, IfOk, OnErr, Some, true, false, length};
 ghost use Rattle.alp_files.specs.declared.refusal.Refusal.TheVariants as refusal;
 ghost use Rattle.alp_files.specs.declared.reply.Reply.TheVariants as reply;
 ghost use Rattle.alp_journal.specs.declared.entry.Entry.{Entry as AnEntry};
 ghost use Rattle.alp_journal.specs.Alone.{Alone};
 ghost use Rattle.alp_node.specs.ServerState.{IsAs, IsReadyForMore, IsOfJournal};
-ghost use Rattle.alp_node.specs.Nodes.{IsConsistent, Answered, HasRoom, state_of, start_in};
+ghost use Rattle.alp_node.specs.Nodes.{IsConsistent, Answered, AreLive, HasRoom, state_of, start_in};
 ghost use Rattle.alp_node.specs.Served.{IsServed, AreLivesSound};
 ghost use Rattle.alp_node.specs.Steps.{IsEntered, IsSeated, seen_in};
 
 use crate::answer::Answer;
 use crate::opened::Opened;
 use crate::server_state::ServerState;
-use alp_base::OutOfMemory;
+use alp_base::{OutOfMemory, TransId};
 use alp_files::{Refusal, Reply};
 use alp_journal::{Entry, Event, Journal};
 use alp_vault::Vault;
+use std::alloc::Global;
 use std::marker::Model;
 
 /// A server: what it was started on, what it keeps, and what it did. Its journal is lawful, each entry has its cause, and its
@@ -88,6 +89,53 @@ impl<V: Vault> Node<V> {
         ensures { result ≡ self.now.kept.is_down }
     {
         self.kept.is_down
+    }
+
+    /// Its number.
+    pub fn server(&self) -> u8
+        ensures { result ≡ self.now.kept.server }
+    {
+        self.kept.server
+    }
+
+    pub fn epoch(&self) -> u32
+        ensures { result ≡ self.now.kept.epoch }
+    {
+        self.kept.epoch
+    }
+
+    pub fn clock(&self) -> u64
+        ensures { result ≡ self.now.kept.clock }
+    {
+        self.kept.clock
+    }
+
+    /// How many transactions began here since it was started.
+    pub fn begun(&self) -> u32
+        ensures { result ≡ self.now.kept.drawn }
+    {
+        self.kept.drawn
+    }
+
+    /// And how many of them were committed.
+    pub fn committed(&self) -> u32
+        ensures { result ≡ self.now.kept.committed }
+    {
+        self.kept.committed
+    }
+
+    /// The transactions that are live, least id first.
+    pub fn live(&self, alloc: Global) -> Result<Vec<TransId>, OutOfMemory>
+        ensures live { IsTrue (V.tells self.now.kept.vault) → IfOk result (λ v. AreLive (state_of (start_in V.Vault self.now) self.now.journal) v.items) }
+        ensures few { IfOk result (λ v. length v.items ≤ length self.now.journal) }
+    {
+        self.kept.lives.ids(alloc)
+    }
+
+    pub fn vault(&self) -> &V
+        ensures { result.now ≡ self.now.kept.vault }
+    {
+        &self.kept.vault
     }
 
     /// What it was started on, its vault, and its journal.

@@ -12,13 +12,18 @@ use alp_vault::Vault;
 
 /// The limits of a part: resources that it locks, cells that it changes, opens that stand, and pages of a run and of a file.
 const MOST_LOCKS: u64 = 1024;
+
 const MOST_CELLS: u64 = 256;
+
 const MOST_OPENS: usize = 64;
+
 const MOST_RUN: u8 = 16;
+
 const MOST_PAGES: u32 = 4096;
 
 /// The limits of a server: its files and its owners.
 const MOST_FILES: u64 = 4096;
+
 const MOST_OWNERS: u64 = 256;
 
 /// The pages at the head of a volume that hold no file.

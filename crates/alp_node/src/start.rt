@@ -12,12 +12,12 @@ ghost use Rattle.alp_vault.specs.Volumes.{AreServerNotes};
 ghost use Rattle.alp_node.specs.Nodes.{IsNew};
 ghost use Rattle.alp_node.specs.Starts.{AreOfServer, HasRaised, after_clock, raised, HasStartCause, IsNoteFault};
 
+use crate::dead::Dead;
 use crate::lives::Lives;
 use crate::node::Node;
 use crate::opened::Opened;
 use crate::server_state::ServerState;
 use crate::sessions::Sessions;
-use crate::dead::Dead;
 use crate::stored::{StoreFault, store};
 use alp_base::VaultFault;
 use alp_calls::are_server_notes;

@@ -26,8 +26,8 @@ store-requires-clause-sound g c tells m is =
     subst AreSound (sym (over_nothing c.new.result m (g.V.Vault.held c.args.vault).cells c.new.ensures is))
     (c.knows.ensures.fitting (g.V.Vault.held c.args.vault) tells (c.knows.ensures.as_held tells c.requires.serving)).sound
 
-pub returns-clause-kept : goal.returns-clause-kept
-returns-clause-kept g c =
+pub invariant_of-result : goal.invariant_of-result
+invariant_of-result g c =
     let G = g.V.Vault in
     let v = c.store-2.new.vault in
     let before = G.held c.args.vault in
