@@ -43,7 +43,7 @@ seen_push before (y ∷ xs) x most low told h make =
     (h.0, seen_push (before ++ stamps_told y) xs x most (all_append (λ (s : Stamp). s.ts ≤ most) before (stamps_told y) low told.0) told.1 h.1 make)
 
 -- an item of the client's own call, with this reply
-abbrev own_item : ℕ → ℕ → ℕ → Call → Reply → Option ℕ → Item
+abbrev pub own_item : ℕ → ℕ → ℕ → Call → Reply → Option ℕ → Item
 own_item k epoch number asked y place = record { server = 1; mark = Own; sent = Some (record { client = k; epoch = epoch; number = number; call = asked }); reply = Some y; place = place }
 
 -- the call has the number after the client's last one, its begins have seen what the client was told, and the client knows what it is told now

@@ -74,7 +74,7 @@ kept_epoch n h = let r = h.right refl in ap (λ (s : State). s.ids.epoch) r.says
 pub kept_clock : (n : Server) → IsConsistent n → (state_of n).holder.clock ≡ n.kept.clock
 kept_clock n h = let r = h.right refl in ap (λ (s : State). s.holder.clock) r.says ∙ r.kept.clock
 
-kept_earlier : (n : Server) → IsConsistent n → AreEarlier (state_of n).holder.clock (state_of n).holder.applied
+pub kept_earlier : (n : Server) → IsConsistent n → AreEarlier (state_of n).holder.clock (state_of n).holder.applied
 kept_earlier n h = let r = h.right refl in subst (λ (s : State). AreEarlier s.holder.clock s.holder.applied) (sym r.says) r.kept.earlier
 
 -- ---- what a client asks
@@ -85,7 +85,7 @@ frame_there c o None frame e = cc
 frame_there c o (Some x) frame e = (x, refl, (let same : frame_in c o x ≡ frame = cc in sym same))
 
 -- no client was told of a time that clocks do not show
-told_low : (c : Crowd) (n : Server) (k : ℕ) → InStep c n → (client_at c k).told.ts ≤ 2 ^ 62
+pub told_low : (c : Crowd) (n : Server) (k : ℕ) → InStep c n → (client_at c k).told.ts ≤ 2 ^ 62
 told_low c n k step = omega (arith, (step.each k).told, kept_clock n step.on.kept, step.on.kept.ready.clock)
 
 -- what a client asks for its line is served
@@ -302,7 +302,7 @@ ended_knows c ended.Running = knows_same c c (reply.Ended ended.Running) refl (s
 ended_knows c ended.Aborted = knows_same c c (reply.Ended ended.Aborted) refl (same_known c)
 ended_knows c ended.Unknown = knows_same c c (reply.Ended ended.Unknown) refl (same_known c)
 
-told_knows : (words : WordMap) (c : Client) (l : Line) (r : Reply) → IsForm l → IsInSession r → Knows c (learned_reply words c l r) r
+pub told_knows : (words : WordMap) (c : Client) (l : Line) (r : Reply) → IsForm l → IsInSession r → Knows c (learned_reply words c l r) r
 told_knows words c l (reply.Begun t) form h = knows_same c (record c { trans = Some t }) (reply.Begun t) refl (record { session = refl; told = refl })
 told_knows words c l (reply.Created f n) form h = knows_same c (created c l f n) (reply.Created f n) refl (created_known c l f n form)
 told_knows words c l (reply.Opened n) form h = knows_same c (opened_said words c l n) (reply.Opened n) refl (opened_known words c l n form)

@@ -17,11 +17,12 @@ use Rattle.alp_history.specs.Handed.{ArePromisesKept}
 use Rattle.alp_history.specs.Theorems.{IsOneThread, AreWhole}
 use Rattle.alp_script.specs.declared.numbered.NumberedLine.{NumberedLine}
 use Rattle.alp_script.specs.Reading.{GaveScript}
+use Rattle.alp_node.specs.Nodes.{AreLive}
 use Rattle.alp_client.specs.Crowd.{Crowd}
 use Rattle.alp_client.specs.Crowds.{new_crowd}
 use Rattle.alp_top.specs.Logs.{Log, ServerOfLog, openings, log_of, lists_of}
 use Rattle.alp_top.specs.Turns.{turns_of, own_in, sent_in}
-use Rattle.alp_top.specs.Plays.{Plays, AreRecorded, AreLive, ranks_from}
+use Rattle.alp_top.specs.Plays.{Plays, AreRecorded, ranks_from}
 use Rattle.alp_top.specs.Reports.{report_of}
 use Rattle.alp_top.specs.Runs.{IsNewOpening}
 

@@ -1,15 +1,11 @@
 -- The lines of a script, played: what each sends, what the journal records of it, and what comes at the end.
-use Rattle.std.specs.Prelude.{◌≡◌, ◌↔◌, ℕ, ◌+◌, false, IsSome, List, [], ◌∷◌, ◌++◌, map as list_map, Option, None, Some}
-use Rattle.std.specs.List.{AllByRecursion, Contains}
-use Rattle.std.specs.List.Sorted.{IsStrictlySortedBy}
-use Rattle.alp_base.specs.declared.ids.TransId.{TransId}
-use Rattle.alp_base.specs.Orders.{trans_cmp}
+use Rattle.std.specs.Prelude.{◌≡◌, ℕ, ◌+◌, false, List, [], ◌∷◌, ◌++◌, map as list_map, Option, None, Some}
+use Rattle.std.specs.List.{AllByRecursion}
 use Rattle.alp_files.specs.declared.call.Call.{Call}
 use Rattle.alp_journal.specs.declared.entry.Entry.{Entry}
 use Rattle.alp_journal.specs.declared.event.Event.TheVariants as event
 use Rattle.alp_journal.specs.declared.log.Item.{Item}
 use Rattle.alp_journal.specs.declared.log.Sent.TheVariants as sent
-use Rattle.alp_journal.specs.State.{State}
 use Rattle.alp_script.specs.declared.numbered.NumberedLine.{NumberedLine}
 use Rattle.alp_script.specs.Named.{client_named}
 use Rattle.alp_client.specs.Crowd.{Crowd}
@@ -45,13 +41,6 @@ AreRecorded at [] [] = Unit {0}
 AreRecorded at [] (e ∷ es) = ⊥
 AreRecorded at (x ∷ xs) [] = ⊥
 AreRecorded at (x ∷ xs) (e ∷ es) = Records at x e × AreRecorded (at + 1) xs es
-
--- ---- the end
-
--- these are the transactions that are live, least id first
-pub record AreLive (s : State) (ts : List TransId) : Type 0 where
-  pub rise : IsStrictlySortedBy trans_cmp ts
-  pub live : (t : TransId) → Contains ts t ↔ IsSome (s.holder.lives t)
 
 -- the ranks of so many entries: one server's entries follow each other
 abbrev pub ranks_from : ℕ → List Entry → List ℕ

@@ -8,12 +8,13 @@ use Rattle.alp_journal.specs.declared.event.Event.TheVariants as event
 use Rattle.alp_journal.specs.declared.log.Item.{Item}
 use Rattle.alp_journal.specs.Opening.{Start}
 use Rattle.alp_node.specs.Nodes as node
+use Rattle.alp_node.specs.Nodes.{AreLive}
 use Rattle.alp_script.specs.declared.numbered.NumberedLine.{NumberedLine}
 use Rattle.alp_client.specs.Crowd.{Crowd}
 use Rattle.alp_client.specs.Crowds.{new_crowd, client_at}
 use Rattle.alp_history.specs.RunLogs.{item_of}
 use Rattle.alp_top.specs.Turns.{Turn, lists_in, own_in, sent_in, turns_text}
-use Rattle.alp_top.specs.Plays.{Plays, AreRecorded, AreLive}
+use Rattle.alp_top.specs.Plays.{Plays, AreRecorded}
 use Rattle.alp_top.specs.Servers.{Server, IsOn, start_in}
 use Rattle.alp_top.specs.Steps.{InStep, HasSaid}
 

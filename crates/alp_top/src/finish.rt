@@ -3,10 +3,10 @@ ghost use Rattle.std.specs.Prelude.{◌≡◌, ◌+◌, ◌++◌, ◌≤◌, len
 ghost use Rattle.alp_script.specs.declared.numbered.NumberedLine.{NumberedLine};
 ghost use Rattle.alp_script.specs.Accepted.{RisesFrom};
 ghost use Rattle.alp_top.specs.Headline.{IsRun};
-ghost use Rattle.alp_top.specs.Plays.{AreLive, ranks_from};
+ghost use Rattle.alp_top.specs.Plays.{ranks_from};
 ghost use Rattle.alp_top.specs.Reports.{report_of, ending_text};
 ghost use Rattle.alp_top.specs.Runs.{HasPlayed, HasTimedOut, IsNewOpening, IsAtEnd};
-ghost use Rattle.alp_top.specs.Servers.{IsConsistent, IsOn, start_in, state_of};
+ghost use Rattle.alp_top.specs.Servers.{IsOn, start_in};
 
 use crate::play::PlayedRun;
 use alp_base::{OutOfMemory, TransId};
@@ -36,15 +36,6 @@ fn ranks(alloc: Global, entries: &[Entry]) -> Result<Vec<u64>, OutOfMemory>
     Ok(ranks)
 }
 
-// The transactions that are live, least id first.
-fn live_transactions(alloc: Global, node: &Node<MemVault>) -> Result<Vec<TransId>, OutOfMemory>
-    requires { IsConsistent node.now }
-    ensures live { IfOk result (λ v. AreLive (state_of node.now) v.items) }
-    ensures few { IfOk result (λ v. length v.items ≤ length node.now.journal) }
-{
-    node.live_transactions(alloc)
-}
-
 // Each of these transactions takes too long.
 fn time_out(node: &mut Node<MemVault>, live: &[TransId]) -> Result<(), OutOfMemory>
     requires on { IsOn node.old }
@@ -66,7 +57,7 @@ fn settle(alloc: Global, node: &mut Node<MemVault>) -> Result<(), OutOfMemory>
     ensures ended { OnOk result (IsAtEnd node.old node.new) }
     ensures start { OnOk result (start_in node.new ≡ start_in node.old) }
 {
-    let live = live_transactions(alloc, node)?;
+    let live = node.live(alloc)?;
     time_out(node, &live)
 }
 

@@ -49,7 +49,7 @@ impl Status {
     }
 }
 
-#[tactic(auto, using(crate::proofs::SaidLemmas::said_same))]
+#[tactic(auto, using(crate::proofs::ExchangeLemmas::exchanged))]
 fn plain_text(alloc: Global, said: &str) -> Result<String, OutOfMemory>
     ensures { IfOk result (λ text. string_bytes text ≡ said.now) }
 {
