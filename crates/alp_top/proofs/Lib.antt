@@ -4,4 +4,6 @@ pub mod AskLemmas
 pub mod StepLemmas
 pub mod SaidLemmas
 pub mod ExchangeLemmas
+pub mod LineLemmas
+pub mod RunLemmas
 pub mod StreamLemmas

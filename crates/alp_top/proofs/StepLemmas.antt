@@ -199,7 +199,7 @@ pub record SameKnown (c d : Client) : Type 0 where
   pub session : d.session ≡ c.session
   pub told : d.told ≡ c.told
 
-same_known : (c : Client) → SameKnown c c
+pub same_known : (c : Client) → SameKnown c c
 same_known c = record { session = refl; told = refl }
 
 left_known : (c : Client) (l : Line) → IsForm l → SameKnown c (left c l)

@@ -29,15 +29,15 @@ pub record IsNewOpening (o : Start) : Type 0 where
   pub decisions : o.decisions ≡ []
 
 -- the lines so far, played on a new server
-pub record HasPlayed (lines : List NumberedLine) (c : Crowd) (n : Server) (lists : List (Vec Item Global)) (text : List ℕ) : Type 0 where
+pub record HasPlayed (lines : List NumberedLine) (c : Crowd) (n : Server) (vs : List (Vec Item Global)) (printed : List ℕ) : Type 0 where
   pub step : InStep c n
   pub opening : IsNewOpening (start_in n)
   pub turns : List Turn
   pub plays : Plays new_crowd lines turns c
-  pub places : length lists ≡ 17
-  pub lists : (k : ℕ) → lists_in lists k ≡ own_in k turns
+  pub places : length vs ≡ 17
+  pub lists : (k : ℕ) → lists_in vs k ≡ own_in k turns
   pub said : (k : ℕ) → HasSaid k (client_at c k) (list_map item_of (own_in k turns))
-  pub text : text ≡ turns_text turns
+  pub text : printed ≡ turns_text turns
   pub recorded : AreRecorded 0 (sent_in turns) n.journal
   pub few : length n.journal ≤ 2 * length lines
 

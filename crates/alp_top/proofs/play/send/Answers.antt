@@ -1,34 +1,51 @@
-use Rattle.std.proofs.Common.{ℕ, refl, ◌∙◌, ap, List, length}
+use Rattle.std.specs.Prelude.{Some}
+use Rattle.std.proofs.Common.{◌≡◌, ℕ, List, length, ap, ◌∙◌, refl}
+use Rattle.alp_vault.specs.contracts.mem_vault.MemVaultVault.TheImpl as mem_vault
 use Rattle.alp_journal.specs.declared.entry.Entry.{Entry}
-use Rattle.alp_vault.specs.MemVault.{held_by}
-use Rattle.alp_vault.specs.declared.mem_vault.MemVault.{MemVault}
-use Rattle.alp_node.specs.Nodes.{start_at}
-use Rattle.alp_node.specs.declared.opened.Opened.{Opened}
-use Rattle.alp_top.proofs.StepLemmas.{Went, served, early_clock, has_next, exchanged}
+use Rattle.alp_journal.specs.declared.log.Item.{Item}
+use Rattle.alp_journal.specs.declared.log.Mark.TheVariants as mark
+use Rattle.alp_journal.specs.declared.log.Sent.TheVariants as sent
+use Rattle.alp_node.specs.Nodes.{start_by}
+use Rattle.alp_top.specs.Servers.{Server}
+use Rattle.alp_top.proofs.StepLemmas.{served, has_next}
+use Rattle.alp_top.proofs.ExchangeLemmas.{Went, exchanged}
 use Rattle.alp_top.proofs.play.send.Goals as goal
 
 pub step-requires-clause-served : goal.step-requires-clause-served
-step-requires-clause-served c = served c.args.clients.now c.args.node.now c.args.client c.args.line.now c.args.frame c.requires.step c.requires.client c.requires.form c.requires.asked
-
-pub step-requires-clause-clock : goal.step-requires-clause-clock
-step-requires-clause-clock c = early_clock c.args.node.now c.requires.step.on c.requires.room
+step-requires-clause-served c = served c.args.clients.now c.args.node.now c.args.client c.args.line.now.line c.args.frame c.requires.step c.requires.client c.requires.form c.requires.asked
 
 pub hears-requires-clause-next : goal.hears-requires-clause-next
 hears-requires-clause-next c = has_next c.args.clients.now c.args.node.now c.args.client c.requires.step c.requires.room
 
 pub returns : goal.returns
 returns c =
+    let n : Server = c.args.node.now in
+    let m : Server = c.step.new.self in
     let h = c.in_ok-reply.ensures in
     let answered = h.answered c.requires.step.on.up in
-    let went : Went c.args.node.now c.step.new.self c.args.client c.args.frame c.in_ok-reply.reply = record {
-      kept = h.kept;
-      start = ap (λ (server : ℕ). start_at server (held_by c.step.new.self.opening.vault.value)) h.seat.server ∙ ap (λ (o : Opened MemVault). start_at c.args.node.now.kept.server (held_by o.vault.value)) h.opening;
+    let went : Went n m c.args.client c.args.frame c.in_ok-reply.reply = record {
+      kept = c.knows.ensures;
+      start = (λ i. start_by mem_vault.ghosts (h.seat.server i) (h.opening i).vault.value);
       acts = answered.acts;
       journal = answered.entry;
+      replies = answered.replies;
+      cause = answered.cause refl;
       causes = answered.causes;
       clock = h.clock refl;
-      spends = h.seat.spends;
       down = answered.down;
+      spends = h.seat.spends;
     } in
-    exchanged c.args.clients.now c.args.node.now c.step.new.self c.args.client c.args.line.now c.args.frame c.in_ok-reply.reply c.requires.step c.requires.client c.requires.form c.requires.asked went
-    c.hears.new.self c.in_ok-is_over.is_over c.in_ok-sent.sent (length c.entries.result.now) c.in_ok-is_over.ensures.ok c.in_ok-sent.ensures (ap (λ (js : List Entry). length js) (c.entries.ensures ∙ c.journal.ensures))
+    let place : ℕ = length c.entries.result.now in
+    let x : Item = record {
+      line = c.args.line.now.number;
+      server = 1;
+      mark = mark.Own;
+      sent = sent.Call c.args.client c.args.frame.epoch c.args.frame.number c.in_ok-sent.sent;
+      reply = c.in_ok-reply.reply;
+      place = Some place;
+    } in (
+      x,
+      c.in_ok-push.ensures.items,
+      exchanged c.args.clients.now n m c.args.client c.args.line.now c.args.frame c.in_ok-reply.reply c.requires.step c.requires.client c.requires.form c.requires.asked went
+          c.hears.new.self c.in_ok-is_over.is_over c.in_ok-sent.sent place c.in_ok-is_over.ensures.ok c.in_ok-sent.ensures (ap (λ (js : List Entry). length js) (c.entries.ensures ∙ c.journal.ensures)),
+    )

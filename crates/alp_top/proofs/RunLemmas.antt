@@ -1,0 +1,173 @@
+-- a run that goes on by one line, and what it is in the end
+use Rattle.std.specs.Prelude.{◌==◌, true, false, Bool, cond, filter, flat_map, map as list_map, Option, None, Some, Vec}
+use Rattle.std.specs.Global.{Global}
+use Rattle.std.specs.List.{AllByRecursion}
+use Rattle.std.proofs.Common.{inl, inr, ◌≡◌, ℕ, zero, suc, ◌+◌, ◌<◌, ◌≤◌, List, [], ◌∷◌, ◌++◌, length, take, get_or, refl, sym, ◌∙◌, ap, subst, arith, append_assoc, append-nil, length-append}
+use Rattle.std.proofs.lemmas.List.{take_more, map-append}
+use Rattle.std.proofs.lemmas.Grind.{flat_map-append}
+use Rattle.std.proofs.lemmas.Bool.Decides.{eqb_tells}
+use Rattle.std.proofs.lemmas.Bool.{ne_eqb}
+use Rattle.alp_journal.specs.Opening.{Start}
+use Rattle.alp_journal.specs.declared.entry.Entry.{Entry}
+use Rattle.alp_journal.specs.declared.log.Item.{Item}
+use Rattle.alp_report.specs.Reports.{line_text}
+use Rattle.alp_history.specs.Items as items
+use Rattle.alp_history.specs.RunLogs.{Lists, item_of}
+use Rattle.alp_script.specs.declared.numbered.NumberedLine.{NumberedLine}
+use Rattle.alp_script.specs.Named.{client_named}
+use Rattle.alp_script.specs.Accepted.{RisesFrom}
+use Rattle.alp_client.specs.Crowd.{Crowd}
+use Rattle.alp_client.specs.Crowds.{new_crowd, client_at}
+use Rattle.alp_top.specs.Turns.{Turn, lists_in, own_in, sent_in, turn_of, turns_of, turns_text}
+use Rattle.alp_top.specs.Plays.{PlaysLine, Plays, AreRecorded}
+use Rattle.alp_top.specs.Servers.{Server}
+use Rattle.alp_top.specs.Steps.{Adds, HasSaid}
+use Rattle.alp_top.specs.Runs.{HasPlayed, IsNewOpening}
+
+Plays-push : (c mid d : Crowd) (ls : List NumberedLine) (l : NumberedLine) (turns own : List Turn) → Plays c ls turns mid → PlaysLine mid l (client_named l.line) own d → Plays c (ls ++ l ∷ []) (turns ++ own) d
+Plays-push c mid d [] l turns own h k =
+    let here : PlaysLine c l (client_named l.line) own d = subst (λ (x : Crowd). PlaysLine x l (client_named l.line) own d) h.1 k in
+    (own, [], d, ap (λ (xs : List Turn). xs ++ own) h.0 ∙ sym (append-nil own), here, (refl, refl))
+Plays-push c mid d (x ∷ ls) l turns own h k =
+    let (first, others, after_first, is, plays, rest) = h in
+    (first, others ++ own, after_first, ap (λ (xs : List Turn). xs ++ own) is ∙ append_assoc first others own, plays, Plays-push after_first mid d ls l others own rest k)
+
+AreRecorded-append : (at : ℕ) (xs ys : List (ℕ × Item)) (es fs : List Entry) → AreRecorded at xs es → AreRecorded (at + length es) ys fs → AreRecorded at (xs ++ ys) (es ++ fs)
+AreRecorded-append at [] ys [] fs h k = subst (λ (n : ℕ). AreRecorded n ys fs) (let e : at + length {A = Entry} [] ≡ at = omega arith in e) k
+AreRecorded-append at [] ys (e ∷ es) fs h k = absurd h
+AreRecorded-append at (x ∷ xs) ys [] fs h k = absurd h
+AreRecorded-append at (x ∷ xs) ys (e ∷ es) fs h k =
+    (h.0, AreRecorded-append (at + 1) xs ys es fs h.1 (subst (λ (n : ℕ). AreRecorded n ys fs) (let e2 : at + length (e ∷ es) ≡ at + 1 + length es = omega arith in e2) k))
+
+own_append : (k : ℕ) (ts us : List Turn) → own_in k (ts ++ us) ≡ own_in k ts ++ own_in k us
+own_append k [] us = refl
+own_append k (t ∷ ts) us =
+    ap (λ (xs : List Item). cond (t.client == k) t.items [] ++ xs) (own_append k ts us) ∙ sym (append_assoc (cond (t.client == k) t.items []) (own_in k ts) (own_in k us))
+
+-- one line more
+pub played_more : (ls : List NumberedLine) (l : NumberedLine) (c d : Crowd) (n m : Server) (lists now : List (Vec Item Global)) (text told : List ℕ)
+    → HasPlayed ls c n lists text → Adds c d n m l lists now text told → HasPlayed (ls ++ l ∷ []) d m now told
+played_more ls l c d n m lists now text told h a = record {
+  step = a.step;
+  opening = subst IsNewOpening (sym a.start) h.opening;
+  turns = h.turns ++ a.turns;
+  plays = Plays-push new_crowd c d ls l h.turns a.turns h.plays a.plays;
+  places = a.places ∙ h.places;
+  lists = λ k. a.lists k ∙ ap (λ (xs : List Item). xs ++ own_in k a.turns) (h.lists k) ∙ sym (own_append k h.turns a.turns);
+  said = λ k. subst (HasSaid k (client_at d k)) (sym (map-append item_of (own_in k h.turns) (own_in k a.turns)) ∙ ap (list_map item_of) (sym (own_append k h.turns a.turns))) (a.said k (list_map item_of (own_in k h.turns)) (h.said k));
+  text = a.text ∙ ap (λ (xs : List ℕ). xs ++ turns_text a.turns) h.text ∙ sym (flat_map-append (λ (t : Turn). line_text t.line t.items) h.turns a.turns);
+  recorded =
+      subst (λ (js : List Entry). AreRecorded 0 (sent_in (h.turns ++ a.turns)) js) (sym a.journal)
+      (subst (λ (xs : List (ℕ × Item)). AreRecorded 0 xs (n.journal ++ a.entries)) (sym (flat_map-append (λ (t : Turn). list_map (λ (x : Item). (t.client, x)) t.items) h.turns a.turns))
+      (AreRecorded-append 0 (sent_in h.turns) (sent_in a.turns) n.journal a.entries h.recorded
+      (subst (λ (k : ℕ). AreRecorded k (sent_in a.turns) a.entries) (let e : length n.journal ≡ 0 + length n.journal = omega arith in e) a.recorded)));
+  few = omega (arith, ap (λ (js : List Entry). length js) a.journal, length-append n.journal a.entries, length-append ls (l ∷ []), h.few, a.few);
+}
+
+-- ---- the line at a place
+
+pub front_at : (ls : List NumberedLine) (i : ℕ) (l : NumberedLine) → i < length ls → l ≡ get_or ls i l → take (i + 1) ls ≡ take i ls ++ l ∷ []
+front_at ls i l h is = take_more ls i l h ∙ ap (λ (x : NumberedLine). take i ls ++ x ∷ []) (sym is)
+
+-- what holds of all lines holds of the one at a place
+pub at_place : (P : NumberedLine → Type 0) (ls : List NumberedLine) (i : ℕ) (l : NumberedLine) → AllByRecursion P ls → i < length ls → l ≡ get_or ls i l → P l
+at_place P [] i l all h is = absurd (omega arith)
+at_place P (x ∷ ls) zero l all h is = subst P (sym is) all.0
+at_place P (x ∷ ls) (suc i) l all h is = at_place P ls i l all.1 (omega arith) is
+
+-- ---- the turns are those that the lists of the clients have
+
+-- the items of earlier lines, of this line, and of later ones
+abbrev AreBefore : ℕ → List Item → Type 0
+AreBefore n xs = AllByRecursion (λ (x : Item). x.line < n) xs
+
+abbrev AreAt : ℕ → List Item → Type 0
+AreAt n xs = AllByRecursion (λ (x : Item). x.line ≡ n) xs
+
+abbrev AreFrom : ℕ → List Item → Type 0
+AreFrom n xs = AllByRecursion (λ (x : Item). n ≤ x.line) xs
+
+filter_none : (n : ℕ) (xs : List Item) → AllByRecursion (λ (x : Item). x.line ≡ n → ⊥) xs → filter (λ (x : Item). x.line == n) xs ≡ []
+filter_none n [] h = refl
+filter_none n (x ∷ xs) h = ap (λ (b : Bool). cond b (x ∷ filter (λ (y : Item). y.line == n) xs) (filter (λ (y : Item). y.line == n) xs)) (ne_eqb x.line n h.0) ∙ filter_none n xs h.1
+
+filter_all : (n : ℕ) (xs : List Item) → AreAt n xs → filter (λ (x : Item). x.line == n) xs ≡ xs
+filter_all n [] h = refl
+filter_all n (x ∷ xs) h = elim (eqb_tells x.line n) [
+  | inl is ↦ ap (λ (b : Bool). cond b (x ∷ filter (λ (y : Item). y.line == n) xs) (filter (λ (y : Item). y.line == n) xs)) is.0 ∙ ap (λ (ys : List Item). x ∷ ys) (filter_all n xs h.1)
+  | inr away ↦ absurd (away.1 h.0)
+]
+
+filter_append : (p : Item → Bool) (xs ys : List Item) → filter p (xs ++ ys) ≡ filter p xs ++ filter p ys
+filter_append p [] ys = refl
+filter_append p (x ∷ xs) ys = elim (p x) as (λ b. cond b (x ∷ filter p (xs ++ ys)) (filter p (xs ++ ys)) ≡ cond b (x ∷ filter p xs) (filter p xs) ++ filter p ys) [
+  | true ↦ ap (λ (zs : List Item). x ∷ zs) (filter_append p xs ys)
+  | false ↦ filter_append p xs ys
+]
+
+all_map : (P Q : Item → Type 0) → ((x : Item) → P x → Q x) → (xs : List Item) → AllByRecursion P xs → AllByRecursion Q xs
+all_map P Q f [] h = tt
+all_map P Q f (x ∷ xs) h = (f x h.0, all_map P Q f xs h.1)
+
+all_append : (P : Item → Type 0) (xs ys : List Item) → AllByRecursion P xs → AllByRecursion P ys → AllByRecursion P (xs ++ ys)
+all_append P [] ys h k = k
+all_append P (x ∷ xs) ys h k = (h.0, all_append P xs ys h.1 k)
+
+-- what stands between is just what has the number
+between : (n : ℕ) (front own rest : List Item) → AreBefore n front → AreAt n own → AreFrom (n + 1) rest → filter (λ (x : Item). x.line == n) (front ++ own ++ rest) ≡ own
+between n front own rest before at from =
+    filter_append (λ (x : Item). x.line == n) (front ++ own) rest
+    ∙ (λ i. filter_append (λ (x : Item). x.line == n) front own i ++ filter_none n rest (all_map (λ (x : Item). n + 1 ≤ x.line) (λ (x : Item). x.line ≡ n → ⊥) (λ x h is. absurd (omega (arith, h, is))) rest from) i)
+    ∙ append-nil (filter (λ (x : Item). x.line == n) front ++ filter (λ (x : Item). x.line == n) own)
+    ∙ (λ i. filter_none n front (all_map (λ (x : Item). x.line < n) (λ (x : Item). x.line ≡ n → ⊥) (λ x h is. absurd (omega (arith, h, is))) front before) i ++ filter_all n own at i)
+
+-- the items of a line's turn
+line_from : (c d : Crowd) (l : NumberedLine) (o : Option ℕ) (own : List Turn) (k : ℕ) → PlaysLine c l o own d → AreAt l.number (own_in k own)
+line_from c d l None own k h = subst (λ (ts : List Turn). AreAt l.number (own_in k ts)) (sym h.0) tt
+line_from c d l (Some client) own k h =
+    let (xs, is, at, sends) = h in
+    subst (λ (ts : List Turn). AreAt l.number (own_in k ts)) (sym is)
+    (all_append (λ (x : Item). x.line ≡ l.number) (cond (client == k) xs []) [] (elim (client == k) as (λ b. AreAt l.number (cond b xs [])) [ true ↦ at | false ↦ tt ]) tt)
+
+-- those of all turns have the numbers of their lines
+turns_from : (n : ℕ) (c d : Crowd) (ls : List NumberedLine) (turns : List Turn) (k : ℕ) → RisesFrom n ls → Plays c ls turns d → AreFrom n (own_in k turns)
+turns_from n c d [] turns k rises plays = subst (λ (ts : List Turn). AreFrom n (own_in k ts)) (sym plays.0) tt
+turns_from n c d (l ∷ ls) turns k rises plays =
+    let (own, others, mid, is, one, rest) = plays in
+    let here : AreFrom n (own_in k own) = all_map (λ (x : Item). x.line ≡ l.number) (λ (x : Item). n ≤ x.line) (λ x e. (let low : n ≤ l.number = rises.0 in omega (arith, low, e))) (own_in k own) (line_from c mid l (client_named l.line) own k one) in
+    let later : AreFrom n (own_in k others) = all_map (λ (x : Item). l.number + 1 ≤ x.line) (λ (x : Item). n ≤ x.line) (λ x e. (let low : n ≤ l.number = rises.0 in omega (arith, low, e))) (own_in k others) (turns_from (l.number + 1) mid d ls others k rises.2 rest) in
+    subst (λ (ts : List Turn). AreFrom n (own_in k ts)) (sym is) (subst (AreFrom n) (sym (own_append k own others)) (all_append (λ (x : Item). n ≤ x.line) (own_in k own) (own_in k others) here later))
+
+-- a line's turn is read off the lists, in which it stands behind earlier ones and before later ones
+turn_is : (c d : Crowd) (l : NumberedLine) (o : Option ℕ) (own others : List Turn) (lists front : Lists) → PlaysLine c l o own d → ((k : ℕ) → AreBefore l.number (front k)) → ((k : ℕ) → AreFrom (l.number + 1) (own_in k others))
+    → ((k : ℕ) → lists k ≡ front k ++ own_in k (own ++ others)) → own ≡ turn_of l.number o lists
+turn_is c d l None own others lists front h before from is = h.0
+turn_is c d l (Some client) own others lists front h before from is =
+    let (xs, one, at, sends) = h in
+    let own_is : own_in client own ≡ xs = ap (own_in client) one ∙ elim (eqb_tells client client) [
+      | inl e ↦ ap (λ (b : Bool). cond b xs [] ++ []) e.0 ∙ append-nil xs
+      | inr away ↦ absurd (away.1 refl)
+    ] in
+    let all : lists client ≡ front client ++ xs ++ own_in client others =
+    is client ∙ ap (λ (ys : List Item). front client ++ ys) (own_append client own others ∙ ap (λ (ys : List Item). ys ++ own_in client others) own_is) ∙ sym (append_assoc (front client) xs (own_in client others)) in
+    one ∙ ap (λ (ys : List Item). record { line = l.number; client = client; items = ys } ∷ [])
+    (sym (ap (filter (λ (x : Item). x.line == l.number)) all ∙ between l.number (front client) xs (own_in client others) (before client) at (from client)))
+
+turns_are_from : (n : ℕ) (c d : Crowd) (ls : List NumberedLine) (turns : List Turn) (lists front : Lists) → RisesFrom n ls → Plays c ls turns d → ((k : ℕ) → AreBefore n (front k)) → ((k : ℕ) → lists k ≡ front k ++ own_in k turns)
+    → turns ≡ turns_of ls lists
+turns_are_from n c d [] turns lists front rises plays before is = plays.0
+turns_are_from n c d (l ∷ ls) turns lists front rises plays before is =
+    let (own, others, mid, split, one, rest) = plays in
+    let low : n ≤ l.number = rises.0 in
+    let up : (k : ℕ) → AreBefore l.number (front k) = (λ k. all_map (λ (x : Item). x.line < n) (λ (x : Item). x.line < l.number) (λ x e. omega (arith, e, low)) (front k) (before k)) in
+    let here : own ≡ turn_of l.number (client_named l.line) lists =
+    turn_is c mid l (client_named l.line) own others lists front one up (λ k. turns_from (l.number + 1) mid d ls others k rises.2 rest) (λ k. is k ∙ ap (λ (ts : List Turn). front k ++ own_in k ts) split) in
+    let later : others ≡ turns_of ls lists =
+    turns_are_from (l.number + 1) mid d ls others lists (λ k. front k ++ own_in k own) rises.2 rest
+    (λ k. all_append (λ (x : Item). x.line < l.number + 1) (front k) (own_in k own) (all_map (λ (x : Item). x.line < l.number) (λ (x : Item). x.line < l.number + 1) (λ x e. omega (arith, e)) (front k) (up k))
+    (all_map (λ (x : Item). x.line ≡ l.number) (λ (x : Item). x.line < l.number + 1) (λ x e. omega (arith, e)) (own_in k own) (line_from c mid l (client_named l.line) own k one)))
+    (λ k. is k ∙ ap (λ (ts : List Turn). front k ++ own_in k ts) split ∙ ap (λ (ys : List Item). front k ++ ys) (own_append k own others) ∙ sym (append_assoc (front k) (own_in k own) (own_in k others))) in
+    split ∙ (λ i. here i ++ later i)
+
+pub turns_are : (c d : Crowd) (ls : List NumberedLine) (turns : List Turn) (lists : Lists) → RisesFrom 1 ls → Plays c ls turns d → ((k : ℕ) → lists k ≡ own_in k turns) → turns ≡ turns_of ls lists
+turns_are c d ls turns lists rises plays is = turns_are_from 1 c d ls turns lists (λ k. []) rises plays (λ k. tt) is
