@@ -1,16 +1,15 @@
 -- file calls that a server which runs alone performs
-use Rattle.std.specs.Prelude.{cond, Bool, true, false, ◌&&◌, ◌||◌, ◌==◌, Option, None, Some, flat_map, is_some, if◌then◌else◌, length}
-use Rattle.std.specs.List.{list_any}
+use Rattle.std.specs.Prelude.{cond, Bool, true, false, ◌&&◌, ◌||◌, Option, None, Some, length}
 use Rattle.std.specs.Option.{option_to_list}
 use Rattle.std.proofs.lemmas.List.{append-nil}
-use Rattle.std.proofs.Common.{inl, inr, ◌≡◌, ◌⊎◌, ℕ, ◌+◌, List, [], ◌∷◌, ◌++◌, refl, sym, ◌∙◌, ap, subst, eq-eqb, arith}
+use Rattle.std.proofs.Common.{inl, ◌≡◌, ℕ, ◌+◌, List, [], ◌∷◌, ◌++◌, refl, sym, ◌∙◌, ap, subst, eq-eqb}
 use Rattle.alp_base.specs.declared.ids.FileId.{FileId}
 use Rattle.alp_base.specs.declared.ids.TransId.{TransId}
 use Rattle.alp_base.specs.declared.key.Resource.{Resource}
 use Rattle.alp_files.specs.Holdings.{Holding, DoAgree}
 use Rattle.alp_files.proofs.HoldingLemmas.{agree-turned}
 use Rattle.alp_files.proofs.FilesLemmas.{same-some}
-use Rattle.alp_files.specs.Act.{Answer, id_in}
+use Rattle.alp_files.specs.Act.{id_in}
 use Rattle.alp_files.specs.History.{PerformedCall}
 use Rattle.alp_files.specs.Locks.{needs_of, needs_made, with_made, HoldsEach, IsFormed}
 use Rattle.alp_files.specs.Passing.{is_passing, is_passing_refusal, IsFileReply}
@@ -19,26 +18,24 @@ use Rattle.alp_files.specs.declared.reply.Reply.{Reply}
 use Rattle.alp_files.specs.declared.reply.Reply.TheVariants as reply
 use Rattle.alp_files.specs.declared.refusal.Refusal.{Refusal}
 use Rattle.alp_files.specs.declared.refusal.Refusal.TheVariants as refusal
-use Rattle.alp_journal.specs.declared.act.Act.{Act}
 use Rattle.alp_journal.specs.declared.act.Act.TheVariants as act
 use Rattle.alp_journal.specs.declared.event.Event.{Event}
 use Rattle.alp_journal.specs.declared.event.Event.TheVariants as event
-use Rattle.alp_journal.specs.Along.{Along}
 use Rattle.alp_journal.specs.Ids.{same_trans}
 use Rattle.alp_journal.specs.Deeds.{Deed, Grants, Performs}
-use Rattle.alp_journal.specs.Coordinator.{Fate, Running, is_running}
+use Rattle.alp_journal.specs.Coordinator.{Fate, is_running}
 use Rattle.alp_journal.specs.Holder.{Holder, Life, with_life, view_in, answer_in, held_for, after_done, grants, performs}
-use Rattle.alp_journal.specs.Desk.{Desk, Session, file_trans, is_of, is_not_yet, begins_if, waits_after, with_session}
+use Rattle.alp_journal.specs.Desk.{Session, file_trans, is_of, is_not_yet, begins_if, with_session}
 use Rattle.alp_journal.specs.Counts.{Locked, lock_set, with_resources, request_in}
 use Rattle.alp_journal.specs.State.{State, state_deed, has_part}
-use Rattle.alp_journal.specs.Moves.{next_file, call_deeds, act_deeds, grants_to, asks_for, call_now, is_of_no_file, answered, done_by, done_of}
-use Rattle.alp_journal.specs.Laws.{IsLawfulDeed, IsPerformed, IsFree, IsOpenPart, DoLivesAgree, TellsIn, begun_in}
+use Rattle.alp_journal.specs.Moves.{next_file, act_deeds, grants_to, asks_for, is_of_no_file, answered, done_by, done_of}
+use Rattle.alp_journal.specs.Laws.{IsFree, IsOpenPart, DoLivesAgree, TellsIn, begun_in}
 use Rattle.alp_journal.specs.Answers.{IsFileOf}
 use Rattle.alp_journal.specs.Answered.{GrantsFor}
 use Rattle.alp_journal.specs.Alone.{Alone, alone, IsQuiet, IsPaired, Leads}
 use Rattle.alp_journal.proofs.IdLemmas.{same_trans-true, same_trans-itself}
 use Rattle.alp_journal.proofs.AloneLemmas.{call_entry, new_call, call_leads}
-use Rattle.alp_journal.proofs.AloneEntries.{agree_set, turned, counted_as, IsFileCall, file_call}
+use Rattle.alp_journal.proofs.AloneEntries.{agree_set, counted_as, IsFileCall, file_call}
 
 -- ---- what a thread is answered
 

@@ -1,5 +1,5 @@
 -- commits, halts, timeouts and greetings of a server that runs alone
-use Rattle.std.specs.Prelude.{cond, Bool, true, false, ◌&&◌, ◌==◌, max, Option, None, Some, flat_map, is_some, IsSome, if◌then◌else◌}
+use Rattle.std.specs.Prelude.{cond, Bool, true, false, ◌&&◌, ◌==◌, max, Option, None, Some, flat_map, IsSome, if◌then◌else◌}
 use Rattle.std.specs.List.{list_any, AllByRecursion}
 use Rattle.std.specs.List.Sorted.{IsPermutation}
 use Rattle.std.specs.FinMap.Entries as entries
@@ -8,8 +8,7 @@ use Rattle.std.specs.Ordering.{is_eq}
 use Rattle.std.specs.declared.cmp.Ordering.{Ordering}
 use Rattle.std.proofs.lemmas.List.{append-nil}
 use Rattle.std.proofs.lemmas.List.Sorted.{IsPermutation-refl}
-use Rattle.std.proofs.Common.{inl, inr, ◌≡◌, ◌⊎◌, ℕ, ◌+◌, ◌<◌, List, [], ◌∷◌, ◌++◌, refl, sym, ◌∙◌, ap, subst, eq-eqb, arith}
-use Rattle.alp_base.specs.declared.ids.JoinNo.{JoinNo}
+use Rattle.std.proofs.Common.{inl, inr, ◌≡◌, ◌⊎◌, ℕ, ◌+◌, List, [], ◌∷◌, ◌++◌, refl, sym, ◌∙◌, ap, subst, eq-eqb}
 use Rattle.alp_base.specs.declared.ids.TransId.{TransId}
 use Rattle.alp_base.specs.declared.ids.Stamp.{Stamp}
 use Rattle.alp_files.specs.Edits.{Edit, edits_map}
@@ -18,10 +17,8 @@ use Rattle.alp_files.specs.declared.call.Call.{Call}
 use Rattle.alp_files.specs.declared.call.Call.TheVariants as call
 use Rattle.alp_files.specs.declared.reply.Reply.{Reply}
 use Rattle.alp_files.specs.declared.reply.Reply.TheVariants as reply
-use Rattle.alp_files.specs.declared.refusal.Refusal.{Refusal}
 use Rattle.alp_files.specs.declared.refusal.Refusal.TheVariants as refusal
 use Rattle.alp_files.specs.declared.refusal.Cause.TheVariants as cause
-use Rattle.alp_files.specs.declared.refusal.Why.{Why}
 use Rattle.alp_journal.specs.declared.act.Act.{Act}
 use Rattle.alp_journal.specs.declared.act.Act.TheVariants as act
 use Rattle.alp_journal.specs.declared.event.Event.{Event}
@@ -32,19 +29,18 @@ use Rattle.alp_journal.specs.Ids.{same_trans, stamp_cmp}
 use Rattle.alp_journal.specs.Deeds.{Deed, Ends, Releases, Finishes, Decides}
 use Rattle.alp_journal.specs.Coordinator.{Fate, Undrawn, Running, Finishing, Committed, Forgotten, Ended, is_running, has_votes}
 use Rattle.alp_journal.specs.Coordinator as fate
-use Rattle.alp_journal.specs.Participant.{Unseen}
-use Rattle.alp_journal.specs.Holder.{Holder, Life, new_life, with_life, commits, emptied}
+use Rattle.alp_journal.specs.Holder.{Holder, Life, with_life, commits, emptied}
 use Rattle.alp_journal.specs.Desk.{Session, file_trans}
 use Rattle.alp_journal.specs.Counts.{lock_set}
 use Rattle.alp_journal.specs.State.{State, state_deed}
 use Rattle.alp_journal.specs.Halts.{HaltsRight, written, by_call, by_finish, decides}
-use Rattle.alp_journal.specs.Moves.{finishes, is_new, follows, greeted, is_stop, tried, told, halted, next, times_out_here, act_deeds, call_deeds, answered, done_of, done_by}
-use Rattle.alp_journal.specs.Laws.{IsLawfulDeed, LivesUnvoted, KeepsSessions, CallsOn, DoLivesAgree, ReleasesEnded, WaitsInTurn, IsStopped, TellsStop, SaysRight, drawn_by, granted_by, released_by, ended_by, grants_of, regained_by, Greets}
+use Rattle.alp_journal.specs.Moves.{finishes, is_new, follows, greeted, is_stop, tried, told, halted, next, times_out_here, call_deeds, answered, done_of, done_by}
+use Rattle.alp_journal.specs.Laws.{IsLawfulDeed, KeepsSessions, CallsOn, DoLivesAgree, ReleasesEnded, WaitsInTurn, IsStopped, TellsStop, SaysRight, drawn_by, granted_by, released_by, ended_by, grants_of, regained_by, Greets}
 use Rattle.alp_journal.specs.Messages.{Mail, on_finish, on_timeout, why_not_own, due, sent_by}
 use Rattle.alp_journal.specs.Answered.{is_release, CountsVotes, ForgetsDone, at_release, GrantsAtOnce}
 use Rattle.alp_journal.specs.Answers.{Part, part_at, at_part, finish_reply, voted_reply, First, IsAnswer, AnswersCall}
 use Rattle.alp_journal.specs.Alone.{Alone, alone, IsQuiet, IsPaired, Leads}
-use Rattle.alp_journal.proofs.IdLemmas.{same_trans-true, same_trans-itself}
+use Rattle.alp_journal.proofs.IdLemmas.{same_trans-itself}
 use Rattle.alp_journal.proofs.StampLemmas.{stamps_total, itself}
 use Rattle.alp_journal.proofs.AloneLemmas.{call_entry, new_call, call_tried, calls_on, call_leads, gives_none, quiet_votes, quiet_forgets}
 use Rattle.alp_journal.proofs.AloneEntries.{agree_without, paired_set, own_at_work, counted_as, has_ended, IsFileCall, file_call}

@@ -1,10 +1,7 @@
 -- greetings, begins, refusals, ends and halts of a server that runs alone
-use Rattle.std.specs.Prelude.{cond, Bool, true, false, ◌&&◌, ◌==◌, max, Option, None, Some, flat_map, is_some, IsSome, if◌then◌else◌}
-use Rattle.std.specs.List.{list_any}
-use Rattle.std.specs.List.Sorted.{IsPermutation}
-use Rattle.std.proofs.lemmas.List.Sorted.{IsPermutation-refl}
+use Rattle.std.specs.Prelude.{cond, Bool, true, false, ◌&&◌, ◌==◌, max, Option, None, Some, IsSome, if◌then◌else◌}
 use Rattle.std.proofs.lemmas.List.{append-nil}
-use Rattle.std.proofs.Common.{inl, inr, ◌≡◌, ◌⊎◌, ℕ, ◌+◌, ◌<◌, List, [], ◌∷◌, ◌++◌, refl, sym, ◌∙◌, ap, subst, eq-eqb, arith}
+use Rattle.std.proofs.Common.{◌≡◌, ℕ, ◌+◌, List, [], ◌∷◌, ◌++◌, refl, sym, ◌∙◌, ap, subst, eq-eqb}
 use Rattle.alp_base.specs.declared.ids.JoinNo.{JoinNo}
 use Rattle.alp_base.specs.declared.ids.TransId.{TransId}
 use Rattle.alp_base.specs.declared.ids.Stamp.{Stamp}
@@ -20,14 +17,13 @@ use Rattle.alp_files.specs.declared.refusal.Refusal.TheVariants as refusal
 use Rattle.alp_files.specs.declared.refusal.Cause.{Cause}
 use Rattle.alp_files.specs.declared.refusal.Cause.TheVariants as cause
 use Rattle.alp_files.specs.declared.refusal.Why.{Why}
-use Rattle.alp_journal.specs.declared.act.Act.{Act}
 use Rattle.alp_journal.specs.declared.act.Act.TheVariants as act
 use Rattle.alp_journal.specs.declared.event.Event.{Event}
 use Rattle.alp_journal.specs.declared.event.Event.TheVariants as event
 use Rattle.alp_journal.specs.declared.entry.Entry.{Entry}
-use Rattle.alp_journal.specs.Along.{Along, Where, state_after}
+use Rattle.alp_journal.specs.Along.{Where}
 use Rattle.alp_journal.specs.Ids.{same_trans}
-use Rattle.alp_journal.specs.Deeds.{Deed, Begins, Ends, Releases, Finishes, Decides}
+use Rattle.alp_journal.specs.Deeds.{Deed, Begins, Ends, Releases, Finishes}
 use Rattle.alp_journal.specs.Coordinator.{Fate, Undrawn, Running, Finishing, Committed, Forgotten, Ended, is_running}
 use Rattle.alp_journal.specs.Participant.{Unseen}
 use Rattle.alp_journal.specs.Coordinator as fate
@@ -43,7 +39,7 @@ use Rattle.alp_journal.specs.Answered.{GrantsFor}
 use Rattle.alp_journal.specs.Answers.{Part, NoPart, AtWork, own_part, ended_part, part_at, at_part, finish_reply, voted_reply, too_many, First, IsFileOf, IsFinishAnswer, IsAnswer}
 use Rattle.alp_journal.specs.Alone.{Alone, alone, IsQuiet, IsPaired, Leads}
 use Rattle.alp_journal.proofs.IdLemmas.{same_trans-true, same_trans-itself}
-use Rattle.alp_journal.proofs.AloneLemmas.{call_entry, new_call, IsCounted, CallOwes, call_leads}
+use Rattle.alp_journal.proofs.AloneLemmas.{call_entry, new_call, IsCounted, call_leads}
 
 -- ---- lives where one is another now
 

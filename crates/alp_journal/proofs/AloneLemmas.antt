@@ -1,16 +1,13 @@
 -- entries of a server that runs alone
-use Rattle.std.specs.Prelude.{cond, Bool, true, false, not, ◌&&◌, ◌==◌, max, Option, None, Some, IsSome, flat_map, is_some}
+use Rattle.std.specs.Prelude.{cond, Bool, true, false, not, ◌&&◌, ◌==◌, Option, None, Some, IsSome, flat_map}
 use Rattle.std.specs.List.{list_any, AllByRecursion}
 use Rattle.std.specs.List.Sorted.{IsPermutation}
 use Rattle.std.proofs.lemmas.List.Sorted.{IsPermutation-refl}
 use Rattle.std.proofs.lemmas.Bool.{ne_eqb}
-use Rattle.std.proofs.Common.{inl, inr, ◌≡◌, ℕ, ◌+◌, ◌<◌, List, [], ◌∷◌, ◌++◌, refl, sym, ◌∙◌, ap, subst, eq-eqb, arith}
+use Rattle.std.proofs.Common.{◌≡◌, ℕ, ◌+◌, List, [], ◌∷◌, ◌++◌, refl, sym, ◌∙◌, ap, subst, eq-eqb, arith}
 use Rattle.alp_base.specs.declared.ids.TransId.{TransId}
-use Rattle.alp_base.specs.declared.ids.Stamp.{Stamp}
 use Rattle.alp_files.specs.declared.call.Call.{Call}
-use Rattle.alp_files.specs.declared.call.Call.TheVariants as call
 use Rattle.alp_files.specs.declared.reply.Reply.{Reply}
-use Rattle.alp_files.specs.declared.reply.Reply.TheVariants as reply
 use Rattle.alp_journal.specs.declared.act.Act.{Act}
 use Rattle.alp_journal.specs.declared.event.Event.{Event}
 use Rattle.alp_journal.specs.declared.event.Event.TheVariants as event
@@ -23,7 +20,7 @@ use Rattle.alp_journal.specs.Moves.{is_new, tried, told, halted, call_deeds, act
 use Rattle.alp_journal.specs.Coordinator.{Fate, Undrawn, Running, Finishing, Committed, Forgotten, Ended, has_votes}
 use Rattle.alp_journal.specs.Holder.{Holder, Life}
 use Rattle.alp_journal.specs.Halts.{HaltsRight}
-use Rattle.alp_journal.specs.Laws.{IsLawfulEntry, IsLawfulDeed, DoLivesAgree, ReleasesEnded, WaitsInTurn, IsStopped, TellsStop, Repeats, stale, KeepsSessions, CallsOn, drawn_by, begun_in, released_by, granted_by, grants_of, ended_by, SaysRight, TellsIn, regained_by}
+use Rattle.alp_journal.specs.Laws.{IsLawfulDeed, DoLivesAgree, ReleasesEnded, WaitsInTurn, IsStopped, TellsStop, Repeats, stale, KeepsSessions, CallsOn, drawn_by, begun_in, released_by, granted_by, grants_of, ended_by, SaysRight, TellsIn, regained_by}
 use Rattle.alp_journal.specs.Messages.{Mail, on_call, sent_by, due}
 use Rattle.alp_journal.specs.Answers.{IsAnswer, AnswersCall}
 use Rattle.alp_journal.specs.Answered.{is_release, is_all_done, CountsVotes, ForgetsDone, IsWalk, at_release, GrantsFor, GrantsAtOnce}

@@ -1,8 +1,8 @@
 -- what a server that runs alone holds is one thread's history, and what its live parts intend leaves well-formed files
-use Rattle.std.specs.Prelude.{cond, Bool, true, false, max, Option, None, Some, map as list_map}
+use Rattle.std.specs.Prelude.{cond, Bool, true, false, max, None, Some, map as list_map}
 use Rattle.std.specs.List.{list_any, AllByRecursion}
 use Rattle.std.specs.FinMap as map
-use Rattle.std.proofs.Common.{◌≡◌, ℕ, ◌+◌, ◌<◌, ◌≤◌, List, [], ◌∷◌, ◌++◌, refl, sym, ap, subst, ◌∙◌, arith, le_refl}
+use Rattle.std.proofs.Common.{◌≡◌, ℕ, ◌+◌, ◌<◌, ◌≤◌, List, [], ◌∷◌, refl, sym, ap, subst, ◌∙◌, arith, le_refl}
 use Rattle.alp_base.specs.declared.faults.Sizes.{Sizes}
 use Rattle.alp_base.specs.declared.ids.FileId.{FileId}
 use Rattle.alp_base.specs.declared.ids.JoinNo.{JoinNo}
@@ -21,18 +21,17 @@ use Rattle.alp_files.proofs.SoundLemmas.{end_sound, steps_sound}
 use Rattle.alp_journal.specs.declared.entry.Entry.{Entry}
 use Rattle.alp_journal.specs.declared.event.Event.{Event}
 use Rattle.alp_journal.specs.declared.event.Event.TheVariants as event
-use Rattle.alp_journal.specs.declared.message.Message.TheVariants as msg
 use Rattle.alp_journal.specs.Along.{Along, state_after}
 use Rattle.alp_journal.specs.Coordinator.{Vote}
-use Rattle.alp_journal.specs.Opening.{Start, start_at}
+use Rattle.alp_journal.specs.Opening.{start_at}
 use Rattle.alp_journal.specs.Deeds.{Deed, Begins, Joins, Enters, Quits, Aborts, Grants, Performs, Releases, Readies, Applies, Registers, Finishes, Hears, Decides, Ends, Acknowledges, Forgets, Restarts}
-use Rattle.alp_journal.specs.Holder.{Holder, Life}
+use Rattle.alp_journal.specs.Holder.{Life}
 use Rattle.alp_journal.specs.Holding.{HasNotVoted, MayDo}
 use Rattle.alp_journal.specs.State.{State, state_deed, opened}
 use Rattle.alp_journal.specs.Moves.{next_file, stops, tried, did, told, halted, next}
 use Rattle.alp_journal.specs.Laws.{latest_vote, CountsOn, DeedsAreLawful, StartsRight, MayApply, IsLawfulDeed, IsLawfulEntry, LivesUnvoted, regained_by}
 use Rattle.alp_journal.specs.Alone.{IsOwnEvent, AreOwnEvents}
-use Rattle.alp_journal.proofs.HistoryOrder.{Item, AreGood, history_of, good-serial, good-end}
+use Rattle.alp_journal.proofs.HistoryOrder.{Item, AreGood, history_of}
 use Rattle.alp_journal.proofs.LifeLemmas.{part_of, now_at, IsGoodLife}
 use Rattle.alp_journal.proofs.MadeIds.{WasMade, made-fresh, made-after}
 use Rattle.alp_journal.proofs.OneServer.{IsHeld, Turns, deed_held, own-life, in_order, one_thread}

@@ -1,7 +1,7 @@
 -- what calls put, within their bounds
-use Rattle.std.specs.Prelude.{Bool, true, false}
+use Rattle.std.specs.Prelude.{Bool, true}
 use Rattle.std.specs.List.{list_all}
-use Rattle.std.proofs.Common.{◌≡◌, ℕ, ◌+◌, ◌≤◌, List, [], ◌∷◌, ◌++◌, length, length-append, refl, arith}
+use Rattle.std.proofs.Common.{◌≡◌, ◌+◌, ◌≤◌, List, [], ◌∷◌, ◌++◌, length, length-append, refl, arith}
 use Rattle.alp_base.specs.declared.key.Key.{Key}
 use Rattle.alp_base.specs.declared.key.Resource.{Resource}
 use Rattle.alp_files.specs.Edits.{Edit, Drop, Cut, Put}

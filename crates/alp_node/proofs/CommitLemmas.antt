@@ -1,23 +1,19 @@
 -- commits and halts, as the server keeps them
-use Rattle.std.specs.Prelude.{cond, Bool, true, false, ◌==◌, ◌&&◌, not, max, nat_lt, filter, Option, None, Some, is_some, IsTrue, Result, Ok, Err, IfOk, OnOk, OnErr}
-use Rattle.std.specs.List.{list_all, list_any}
+use Rattle.std.specs.Prelude.{cond, Bool, true, false, ◌==◌, max, nat_lt, filter, Option, None, Some}
+use Rattle.std.specs.List.{list_all}
 use Rattle.std.specs.FinMap as map
-use Rattle.std.proofs.Common.{inl, inr, ◌⊎◌, ◌≡◌, ℕ, ◌+◌, ◌-◌, ◌*◌, ◌^◌, ◌<◌, ◌≤◌, List, [], ◌∷◌, ◌++◌, length, length-append, refl, sym, ◌∙◌, ap, subst, arith, eq-eqb}
+use Rattle.std.proofs.Common.{◌⊎◌, ◌≡◌, ℕ, ◌+◌, ◌-◌, ◌*◌, ◌^◌, ◌<◌, ◌≤◌, List, [], ◌∷◌, ◌++◌, length, length-append, refl, sym, ◌∙◌, ap, subst, arith, eq-eqb}
 use Rattle.std.proofs.lemmas.Bool.{ne_eqb, ltb-true}
-use Rattle.alp_base.specs.Causes.{Rose}
 use Rattle.alp_base.specs.declared.ids.Stamp.{Stamp}
 use Rattle.alp_base.specs.declared.ids.TransId.{TransId}
-use Rattle.alp_base.specs.declared.key.Key.{Key}
 use Rattle.alp_base.specs.declared.key.Key.TheVariants.{Leader}
 use Rattle.alp_fields.specs.ClockNote.{clock_kept}
-use Rattle.alp_files.specs.Born.{IsUnborn}
 use Rattle.alp_files.specs.Cells.{Cells, View}
-use Rattle.alp_files.specs.Edits.{Edit, Drop, Cut, Put, edits_at, edits_map, after, over, is_in_file, is_past}
+use Rattle.alp_files.specs.Edits.{Edit, Drop, Cut, Put, edits_at, edits_map, after, over}
 use Rattle.alp_files.proofs.HistoryLemmas.{get-edits_map, same_cells}
 use Rattle.alp_files.specs.History.{Decided}
 use Rattle.alp_files.specs.declared.call.Call.{Call}
 use Rattle.alp_files.specs.declared.call.Call.TheVariants as call
-use Rattle.alp_files.specs.declared.reply.Reply.{Reply}
 use Rattle.alp_files.specs.declared.reply.Reply.TheVariants as reply
 use Rattle.alp_files.specs.declared.refusal.Refusal.TheVariants as refusal
 use Rattle.alp_files.specs.declared.refusal.Why.{Why}
@@ -29,19 +25,15 @@ use Rattle.alp_journal.specs.declared.event.Event.TheVariants as event
 use Rattle.alp_journal.specs.declared.entry.Entry.{Entry}
 use Rattle.alp_journal.specs.Deeds.{Deed}
 use Rattle.alp_journal.specs.Moves.{tried}
-use Rattle.alp_journal.specs.Ids.{same_trans}
 use Rattle.alp_journal.specs.Coordinator.{Fate, Undrawn, Running}
 use Rattle.alp_journal.specs.Coordinator as fate
-use Rattle.alp_journal.specs.Holder.{Life}
 use Rattle.alp_journal.specs.Counts.{Intents, intent, intents_from, no_intents, changed, is_put, without_key}
 use Rattle.alp_journal.specs.Desk.{file_trans}
 use Rattle.alp_journal.specs.Messages.{why_not_own, first_why, full_or, no_room, clock_end, part_cells}
-use Rattle.alp_journal.specs.Alone.{Alone, alone, IsPaired, Leads, AreEarlier}
+use Rattle.alp_journal.specs.Alone.{Alone, alone, AreEarlier}
 use Rattle.alp_journal.proofs.StampLemmas.{put-last, AreEarlier-push}
 use Rattle.alp_journal.proofs.AloneLemmas.{call_entry}
 use Rattle.alp_journal.proofs.AloneEnds.{with_commit, commit_leads, with_halt, commit_halt_leads, file_halt_leads}
-use Rattle.alp_node.specs.Bounded.{IsWithin}
-use Rattle.alp_node.specs.Sessions.{session_at, with_session}
 use Rattle.alp_node.specs.ServerState.{IsAs}
 use Rattle.alp_node.specs.Steps.{Stepped, IsTurn, counted_in, without_trans, seen_in}
 use Rattle.alp_node.specs.declared.answer.Answer.{Answer}

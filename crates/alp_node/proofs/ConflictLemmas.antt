@@ -11,7 +11,7 @@ use Rattle.std.specs.Cmp.{tied_itself}
 use Rattle.std.specs.FinMap as map
 use Rattle.std.specs.FinMap.{get-entries, entries_sorted, find as found}
 use Rattle.std.specs.FinMap.Entries.{below_all}
-use Rattle.std.proofs.Common.{◌≡◌, ℕ, List, [], ◌∷◌, ◌++◌, length, refl, sym, ◌∙◌, ap, subst, arith}
+use Rattle.std.proofs.Common.{◌≡◌, List, [], ◌∷◌, ◌++◌, length, refl, sym, ◌∙◌, ap, subst, arith}
 use Rattle.std.proofs.lemmas.Bool.{ne_eqb}
 use Rattle.alp_base.specs.declared.ids.FileId.{FileId}
 use Rattle.alp_base.specs.declared.ids.TransId.{TransId}

@@ -1,9 +1,8 @@
 -- what is counted of live transactions, and what is counted of all ids that were drawn
-use Rattle.std.specs.Prelude.{cond, Bool, true, false, ◌&&◌, ◌==◌, not, nat_le, Option, None, Some, is_some, sum_by, filter, map as list_map}
+use Rattle.std.specs.Prelude.{cond, Bool, true, false, Option, None, Some, is_some, sum_by, filter, map as list_map}
 use Rattle.std.specs.FinMap as map
 use Rattle.std.specs.FinMap.{same_map, len-entries}
-use Rattle.std.proofs.Common.{◌≡◌, ℕ, zero, suc, ◌+◌, ◌<◌, ◌≤◌, List, [], ◌∷◌, ◌++◌, length, refl, sym, ◌∙◌, ap, subst, arith}
-use Rattle.std.proofs.lemmas.Bool.{le-leb, leb-true}
+use Rattle.std.proofs.Common.{◌≡◌, ℕ, zero, suc, ◌+◌, ◌≤◌, List, [], ◌∷◌, ◌++◌, length, refl, sym, ◌∙◌, ap, arith}
 use Rattle.std.proofs.lemmas.List.Sums.{sum_by-cons}
 use Rattle.alp_base.specs.declared.ids.TransId.{TransId}
 use Rattle.alp_base.specs.Orders.{trans_cmp, transactions_total, exact_transactions}

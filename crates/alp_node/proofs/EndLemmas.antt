@@ -1,6 +1,5 @@
 -- greetings and begins, as the server keeps them
 use Rattle.std.specs.Prelude.{cond, Bool, true, false, ◌==◌, ◌&&◌, not, max, filter, Option, None, Some, is_some, nat_le}
-use Rattle.std.specs.List.{list_any}
 use Rattle.std.specs.FinMap as map
 use Rattle.std.proofs.Common.{◌≡◌, ℕ, suc, ◌+◌, ◌<◌, ◌≤◌, List, [], ◌∷◌, ◌++◌, length, refl, sym, ◌∙◌, ap, subst, arith, eq-eqb}
 use Rattle.std.proofs.lemmas.Bool.{le-leb, leb-true, eqb-true}
@@ -15,7 +14,6 @@ use Rattle.alp_files.specs.Cells.{Cells}
 use Rattle.alp_files.specs.Edits.{edits_at, over}
 use Rattle.alp_files.proofs.FilesLemmas.{same-some}
 use Rattle.alp_files.specs.declared.call.Call.TheVariants as call
-use Rattle.alp_files.specs.declared.reply.Reply.{Reply}
 use Rattle.alp_files.specs.declared.reply.Reply.TheVariants as reply
 use Rattle.alp_files.specs.declared.refusal.Refusal.{Refusal}
 use Rattle.alp_files.specs.declared.refusal.Refusal.TheVariants as refusal
@@ -39,7 +37,7 @@ use Rattle.alp_journal.proofs.IdLemmas.{same_trans-true}
 use Rattle.alp_journal.proofs.AloneEnds.{hello_entry, with_hello, hello_leads}
 use Rattle.alp_journal.proofs.AloneEntries.{with_begun, begin_leads}
 use Rattle.alp_node.specs.Bounded.{no_bounds}
-use Rattle.alp_node.specs.Dead.{dead_in, is_dead, without_client}
+use Rattle.alp_node.specs.Dead.{dead_in, without_client}
 use Rattle.alp_node.specs.Sessions.{session_at, with_session}
 use Rattle.alp_node.specs.ServerState.{IsAs, IsAlike, PutNoneBeyond, trans_to, is_beyond}
 use Rattle.alp_node.specs.Steps.{Stepped, entry_of}

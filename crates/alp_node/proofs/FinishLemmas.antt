@@ -1,17 +1,14 @@
 -- refusals and ends, as the server keeps them
-use Rattle.std.specs.Prelude.{cond, Bool, true, false, ◌==◌, ◌&&◌, not, max, Option, None, Some, is_some, nat_le}
+use Rattle.std.specs.Prelude.{cond, Bool, true, false, ◌==◌, ◌&&◌, not, Option, None, Some, nat_le}
 use Rattle.std.specs.FinMap as map
-use Rattle.std.proofs.Common.{◌≡◌, ℕ, ◌+◌, ◌<◌, ◌≤◌, List, [], ◌∷◌, ◌++◌, length, refl, sym, ◌∙◌, ap, subst, arith, eq-eqb}
+use Rattle.std.proofs.Common.{◌≡◌, ℕ, ◌+◌, [], ◌∷◌, ◌++◌, refl, sym, ◌∙◌, ap, subst, eq-eqb}
 use Rattle.std.proofs.lemmas.Bool.{eqb-true, ne_eqb}
 use Rattle.alp_base.specs.Causes.{Rose}
 use Rattle.alp_base.specs.declared.ids.TransId.{TransId}
-use Rattle.alp_base.specs.declared.key.Resource.{Resource}
 use Rattle.alp_modes.specs.declared.Mode.{Mode}
-use Rattle.alp_files.specs.declared.call.Call.{Call}
 use Rattle.alp_files.specs.declared.call.Call.TheVariants as call
 use Rattle.alp_files.specs.declared.reply.Reply.{Reply}
 use Rattle.alp_files.specs.declared.reply.Reply.TheVariants as reply
-use Rattle.alp_files.specs.declared.refusal.Refusal.{Refusal}
 use Rattle.alp_files.specs.declared.refusal.Refusal.TheVariants as refusal
 use Rattle.alp_files.specs.declared.refusal.Cause.{Cause}
 use Rattle.alp_files.specs.declared.refusal.Cause.TheVariants as cause
@@ -28,18 +25,15 @@ use Rattle.alp_journal.specs.Coordinator.{Fate, Undrawn, Running, Finishing, Com
 use Rattle.alp_journal.specs.Coordinator as fate
 use Rattle.alp_journal.specs.Holder.{Life}
 use Rattle.alp_journal.specs.Counts.{lock_set}
-use Rattle.alp_journal.specs.Desk as desk
-use Rattle.alp_journal.specs.Moves.{finishes}
-use Rattle.alp_journal.specs.Messages.{on_finish, why_not_own}
-use Rattle.alp_journal.specs.Answers.{Part, NoPart, AtEnd, own_part, ended_part, part_at, at_part, First, IsFinishAnswer, finish_reply}
+use Rattle.alp_journal.specs.Messages.{why_not_own}
+use Rattle.alp_journal.specs.Answers.{Part, NoPart, AtEnd, part_at, at_part, First, IsFinishAnswer, finish_reply}
 use Rattle.alp_journal.specs.Alone.{Alone, alone, IsPaired, Leads}
-use Rattle.alp_journal.proofs.IdLemmas.{same_trans-true, same_trans-itself}
+use Rattle.alp_journal.proofs.IdLemmas.{same_trans-itself}
 use Rattle.alp_journal.proofs.AloneEntries.{counted_as, without_dead, with_end, ended_quiet, abort_leads, against_leads, unknown_finish_leads, dead_finish_leads}
 use Rattle.alp_journal.proofs.AloneEnds.{timeout_entry, with_timeout, timeout_leads, as_it_was, idle_leads}
 use Rattle.alp_node.specs.Dead.{dead_in, is_dead, without_part}
-use Rattle.alp_node.specs.Sessions.{session_at, with_session}
 use Rattle.alp_node.specs.ServerState.{IsAs, IsAlike, PutNoneBeyond, is_beyond}
-use Rattle.alp_node.specs.Steps.{Stepped, IsTurn, IsOf, entry_of, counted_in, without_trans, ended, seen_in}
+use Rattle.alp_node.specs.Steps.{Stepped, IsTurn, entry_of, counted_in, without_trans, ended}
 use Rattle.alp_node.specs.declared.answer.Answer.{Answer}
 use Rattle.alp_node.specs.declared.lives.Live.{Live}
 use Rattle.alp_node.specs.declared.server_state.ServerState.{ServerState}

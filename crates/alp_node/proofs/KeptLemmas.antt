@@ -1,12 +1,12 @@
 -- a server keeps what its journal says: what holds of each part of it
-use Rattle.std.specs.Prelude.{cond, Bool, true, false, ◌==◌, ◌&&◌, not, max, Option, None, Some, is_some}
+use Rattle.std.specs.Prelude.{cond, Bool, true, false, ◌==◌, max, Option, None, Some}
 use Rattle.std.specs.Option.{option_map}
 use Rattle.std.specs.FinMap as map
-use Rattle.std.proofs.Common.{◌≡◌, ℕ, ◌+◌, ◌≤◌, List, [], ◌∷◌, ◌++◌, length, refl, sym, ◌∙◌, ap, subst, arith}
+use Rattle.std.proofs.Common.{◌≡◌, ℕ, ◌+◌, ◌≤◌, List, [], ◌∷◌, length, refl, sym, ◌∙◌, ap, subst, arith}
 use Rattle.alp_base.specs.declared.ids.TransId.{TransId}
 use Rattle.alp_base.specs.declared.ids.Stamp.{Stamp}
 use Rattle.alp_base.specs.declared.key.Resource.{Resource}
-use Rattle.alp_files.specs.Cells.{Cells, View}
+use Rattle.alp_files.specs.Cells.{View}
 use Rattle.alp_files.specs.Edits.{over}
 use Rattle.alp_files.proofs.CellMapLemmas.{over-none}
 use Rattle.alp_files.specs.History.{Decided}

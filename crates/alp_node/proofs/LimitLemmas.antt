@@ -1,14 +1,12 @@
 -- within its bounds no call of a part is refused for what is counted
-use Rattle.std.specs.Prelude.{cond, Bool, true, false, ◌&&◌, ◌==◌, not, nat_lt, filter, sum_by, Option, None, Some, is_none, is_some, IsTrue}
+use Rattle.std.specs.Prelude.{cond, Bool, true, false, ◌&&◌, not, nat_lt, filter, sum_by, Option, None, Some, is_none}
 use Rattle.std.specs.List.{list_all}
 use Rattle.std.specs.Option.{option_or}
 use Rattle.std.specs.FinMap as map
-use Rattle.std.proofs.Common.{◌≡◌, ℕ, zero, suc, ◌+◌, ◌-◌, ◌*◌, ◌/◌, ◌<◌, ◌≤◌, List, [], ◌∷◌, ◌++◌, length, length-append, refl, sym, ◌∙◌, ap, subst, arith}
+use Rattle.std.proofs.Common.{◌≡◌, ℕ, zero, suc, ◌+◌, ◌-◌, ◌*◌, ◌<◌, ◌≤◌, List, [], ◌∷◌, ◌++◌, length, length-append, refl, sym, ◌∙◌, ap, subst, arith}
 use Rattle.std.proofs.lemmas.Bool.{ltb-true}
 use Rattle.std.proofs.lemmas.List.Sums.{sum_by-cons}
-use Rattle.alp_base.specs.Keys.{key_cmp}
 use Rattle.alp_base.specs.KeyLaws.{keys_total, exact_keys}
-use Rattle.alp_base.specs.Orders.{trans_cmp}
 use Rattle.alp_base.specs.declared.ids.TransId.{TransId}
 use Rattle.alp_base.specs.declared.faults.Sizes.{Sizes}
 use Rattle.alp_base.specs.declared.key.Resource.{Resource}
@@ -25,7 +23,7 @@ use Rattle.alp_files.specs.declared.refusal.Refusal.{Refusal}
 use Rattle.alp_files.specs.declared.refusal.Refusal.TheVariants as refusal
 use Rattle.alp_files.specs.declared.refusal.What.TheVariants as what
 use Rattle.alp_files.specs.Locks.{Need}
-use Rattle.alp_files.proofs.SumLemmas.{weight_at, sum-insert, sum_of-nothing}
+use Rattle.alp_files.proofs.SumLemmas.{sum-insert, sum_of-nothing}
 use Rattle.alp_vault.specs.Counted.{AreCounts, places_with}
 use Rattle.alp_vault.proofs.CountLemmas.{counts-same, used-new}
 use Rattle.alp_journal.specs.Counts.{is_put, need_of, changed, log_need, with_resources, has_resource}
@@ -37,7 +35,7 @@ use Rattle.alp_journal.specs.Answers.{is_leader, is_owner, made_of, need_at, nee
 use Rattle.alp_journal.specs.Alone.{Alone, alone}
 use Rattle.alp_node.specs.Bounded.{puts_on, no_bounds, sum_of, bounds_of}
 use Rattle.alp_node.specs.Rooms.{totals_from, total_of, IsRoomy}
-use Rattle.alp_node.specs.ServerState.{LiveMap, IsAs, IsAlike, IsLife, trans_to}
+use Rattle.alp_node.specs.ServerState.{IsAs, IsAlike, IsLife, trans_to}
 use Rattle.alp_node.specs.declared.server_state.ServerState.{ServerState}
 use Rattle.alp_node.specs.declared.bounds.Bounds.{Bounds}
 use Rattle.alp_node.specs.declared.lives.Live.{Live}

@@ -1,9 +1,9 @@
 -- the entry of a call that asked for locks
-use Rattle.std.specs.Prelude.{cond, Bool, true, false, not, ◌||◌, ◌==◌, nat_le, nat_lt, Option, None, Some, is_some, IsTrue}
+use Rattle.std.specs.Prelude.{cond, Bool, true, false, not, ◌||◌, ◌==◌, nat_le, Option, None, Some, is_some}
 use Rattle.std.specs.List.{AllByRecursion, list_any}
 use Rattle.std.specs.Option.{option_or}
 use Rattle.std.specs.FinMap as map
-use Rattle.std.proofs.Common.{inl, inr, ◌⊎◌, ◌≡◌, ℕ, ◌+◌, ◌<◌, ◌≤◌, List, [], ◌∷◌, ◌++◌, length, refl, sym, ◌∙◌, ap, subst, arith}
+use Rattle.std.proofs.Common.{inr, ◌≡◌, ℕ, ◌+◌, ◌<◌, ◌≤◌, List, [], ◌∷◌, ◌++◌, length, refl, sym, ◌∙◌, ap, subst, arith}
 use Rattle.std.proofs.lemmas.Bool.{leb-true}
 use Rattle.alp_base.specs.declared.ids.FileId.{FileId}
 use Rattle.alp_base.specs.declared.ids.TransId.{TransId}
@@ -39,11 +39,11 @@ use Rattle.alp_journal.specs.Ids.{same_trans}
 use Rattle.alp_journal.specs.Counts.{request_in, with_resources}
 use Rattle.alp_journal.specs.Desk as desk
 use Rattle.alp_journal.specs.Desk.{file_trans}
-use Rattle.alp_journal.specs.Holder.{Life, view_in, answer_in, held_for}
+use Rattle.alp_journal.specs.Holder.{Life, view_in, held_for}
 use Rattle.alp_journal.specs.Moves as journal
 use Rattle.alp_journal.specs.Laws.{IsFree}
-use Rattle.alp_journal.specs.Answers.{First, IsFileAnswer, IsLocked, IsThreads, shape_refusal, lock_refusal, if_over, locks_then, more_locks, count_refusal, unless_counts}
-use Rattle.alp_journal.specs.Answered.{GrantsFor, asks, grants_by, grants_if, rises_on}
+use Rattle.alp_journal.specs.Answers.{First, IsFileAnswer, IsLocked, IsThreads, shape_refusal, lock_refusal, if_over, locks_then, more_locks, unless_counts}
+use Rattle.alp_journal.specs.Answered.{GrantsFor, asks, grants_by, rises_on}
 use Rattle.alp_journal.specs.Alone.{Alone, alone, IsQuiet, Leads}
 use Rattle.alp_journal.proofs.AloneLemmas.{call_entry}
 use Rattle.alp_journal.proofs.AloneCalls.{PerformOwes, performed_leads, granted_leads, with_call}
@@ -64,8 +64,8 @@ use Rattle.alp_node.specs.declared.lives.Live.{Live}
 use Rattle.alp_node.specs.declared.server_state.ServerState.{ServerState}
 use Rattle.alp_node.specs.declared.served.Standing.TheVariants as standing
 use Rattle.alp_node.specs.declared.sessions.Turn.{Turn}
-use Rattle.alp_node.proofs.AddLemmas.{Adds, within_more}
-use Rattle.alp_node.proofs.AskLemmas.{OpensLocked, lock_adds}
+use Rattle.alp_node.proofs.AddLemmas.{within_more}
+use Rattle.alp_node.proofs.AskLemmas.{lock_adds}
 use Rattle.alp_node.proofs.CallLemmas.{done_kept, performs, gave, after_call, done_as}
 use Rattle.alp_node.proofs.ConflictLemmas.{held_elsewhere, would_hold, least_holder, not_empty, rises_as}
 use Rattle.alp_node.proofs.FinishLemmas.{turn_session, turn_next}

@@ -1,5 +1,5 @@
 -- file calls that only looked, and those that their vault did not answer
-use Rattle.std.specs.Prelude.{cond, Bool, true, false, IsTrue, is_some, Option, None, Some, Result, Ok, Err}
+use Rattle.std.specs.Prelude.{cond, Bool, true, false, IsTrue, is_some, Option, Some, Result, Ok, Err}
 use Rattle.std.specs.Result.{IsErr}
 use Rattle.std.specs.FinMap as map
 use Rattle.std.proofs.Common.{inl, ◌≡◌, ℕ, ◌+◌, ◌≤◌, List, [], ◌∷◌, refl, sym, ◌∙◌, ap, subst, arith, le_refl}
@@ -25,9 +25,7 @@ use Rattle.alp_calls.specs.declared.fault.CallFault.TheVariants as call_fault
 use Rattle.alp_calls.specs.declared.part.Part.{Part}
 use Rattle.alp_journal.specs.Ids.{same_trans}
 use Rattle.alp_journal.specs.Desk.{file_trans}
-use Rattle.alp_journal.specs.declared.act.Act.{Act}
 use Rattle.alp_journal.specs.declared.act.Act.TheVariants as act
-use Rattle.alp_journal.specs.declared.event.Event.{Event}
 use Rattle.alp_journal.specs.declared.event.Event.TheVariants as event
 use Rattle.alp_journal.specs.Alone.{Alone}
 use Rattle.alp_journal.proofs.IdLemmas.{same_trans-true}
@@ -36,7 +34,7 @@ use Rattle.alp_node.specs.Calls.{Gave, Performed}
 use Rattle.alp_node.specs.Dead.{is_dead}
 use Rattle.alp_node.specs.ServerState.{IsAs, IsReady}
 use Rattle.alp_node.specs.Standings.{standing_of}
-use Rattle.alp_node.specs.Steps.{Stepped, IsStep, IsStill, IsRefused, IsDown, IsTurn, IsOf, counted_in, refused_answer}
+use Rattle.alp_node.specs.Steps.{IsStep, IsStill, IsRefused, IsDown, IsTurn, IsOf, counted_in, refused_answer}
 use Rattle.alp_node.specs.declared.answer.Answer.{Answer}
 use Rattle.alp_node.specs.declared.bounds.Bounds.{Bounds}
 use Rattle.alp_node.specs.declared.lives.Live.{Live}

@@ -1,8 +1,7 @@
 -- a server and its journal, one step more
-use Rattle.std.specs.Prelude.{IsTrue, Bool, true, false, Option, Some, Result, Ok, Err, IfOk}
+use Rattle.std.specs.Prelude.{IsTrue, false, Option, Some, Result, Ok, Err, IfOk}
 use Rattle.std.specs.FinMap as map
 use Rattle.std.proofs.Common.{◌≡◌, ℕ, ◌+◌, List, [], ◌∷◌, ◌++◌, length, length-append, refl, sym, ◌∙◌, ap, subst}
-use Rattle.alp_base.specs.Causes.{Rose}
 use Rattle.alp_base.specs.declared.memory.OutOfMemory.{OutOfMemory}
 use Rattle.alp_files.specs.declared.reply.Reply.{Reply}
 use Rattle.alp_files.specs.Cells.{Cells}
@@ -26,12 +25,10 @@ use Rattle.alp_journal.specs.Answered.{IsAnswered, IsAnsweredSo, IsAnsweredEntry
 use Rattle.alp_journal.specs.Alone.{Alone, alone, IsPaired, IsOwnEvent, AreOwnEvents}
 use Rattle.alp_node.specs.declared.answer.Answer.{Answer}
 use Rattle.alp_node.specs.NodeStates.{NodeState}
-use Rattle.alp_node.specs.declared.opened.Opened.{Opened}
 use Rattle.alp_node.specs.ServerState.{IsAs, IsReady}
 use Rattle.alp_node.specs.Nodes.{IsConsistent, IsRight, Answered, HasCause, state_of, start_by, start_in}
 use Rattle.alp_node.specs.Steps.{Stepped, IsEntered, entry_of}
 use Rattle.alp_node.specs.Served.{IsServed, AreLivesSound}
-use Rattle.alp_node.specs.declared.lives.Live.{Live}
 use Rattle.alp_node.specs.declared.server_state.ServerState.{ServerState}
 use Rattle.alp_node.proofs.KeptLemmas.{IsLive, live_there, over_empty}
 

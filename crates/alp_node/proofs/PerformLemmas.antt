@@ -1,12 +1,11 @@
 -- the entry of a call on an open that a part performed
-use Rattle.std.specs.Prelude.{cond, Bool, true, false, not, nat_lt, IsTrue, is_some, Option, None, Some, Result, Ok, Err}
+use Rattle.std.specs.Prelude.{cond, Bool, true, false, is_some, Option, None, Some}
 use Rattle.std.specs.List.{AllByRecursion, list_any}
 use Rattle.std.specs.Option.{option_or}
 use Rattle.std.specs.FinMap as map
-use Rattle.std.proofs.Common.{inl, inr, ◌⊎◌, ◌≡◌, ℕ, ◌+◌, ◌≤◌, List, [], ◌∷◌, ◌++◌, length, refl, sym, ◌∙◌, ap, subst, arith}
+use Rattle.std.proofs.Common.{inl, inr, ◌⊎◌, ◌≡◌, ℕ, ◌+◌, ◌≤◌, List, [], ◌++◌, length, refl, sym, ◌∙◌, ap, subst, arith}
 use Rattle.alp_base.specs.declared.ids.FileId.{FileId}
 use Rattle.alp_base.specs.declared.ids.TransId.{TransId}
-use Rattle.alp_base.specs.declared.key.Resource.{Resource}
 use Rattle.alp_files.specs.Holdings.{Holding, DoAgree}
 use Rattle.alp_files.proofs.HoldingLemmas.{none-right}
 use Rattle.alp_files.specs.declared.call.Call.{Call}
@@ -16,17 +15,15 @@ use Rattle.alp_files.specs.declared.reply.Reply.TheVariants as reply
 use Rattle.alp_files.specs.declared.refusal.Refusal.{Refusal}
 use Rattle.alp_files.specs.declared.refusal.Refusal.TheVariants as refusal
 use Rattle.alp_files.specs.declared.refusal.What.TheVariants as what
-use Rattle.alp_files.specs.Act.{Own, Answer, id_in}
+use Rattle.alp_files.specs.Act.{Own, id_in}
 use Rattle.alp_files.specs.Built.{IsBuilt}
 use Rattle.alp_files.specs.Born.{count_after}
 use Rattle.alp_files.specs.Passing.{is_passing}
-use Rattle.alp_files.specs.Locks.{Need, IsFormed, needs_made, needs_of, with_made}
+use Rattle.alp_files.specs.Locks.{Need, IsFormed, needs_made, with_made}
 use Rattle.alp_calls.specs.declared.part.Part.{Part}
 use Rattle.alp_calls.specs.Parts.{Performs}
 use Rattle.alp_vault.specs.Contents.{Contents}
-use Rattle.alp_base.specs.Causes.{Rose}
 use Rattle.alp_journal.specs.declared.event.Event.TheVariants as event
-use Rattle.alp_journal.specs.Ids.{same_trans}
 use Rattle.alp_journal.specs.Counts.{request_in, with_resources}
 use Rattle.alp_journal.specs.Desk as desk
 use Rattle.alp_journal.specs.Desk.{file_trans}
@@ -39,19 +36,18 @@ use Rattle.alp_journal.specs.Answered.{asks, grants_by, grants_if, rises_on}
 use Rattle.alp_journal.specs.Alone.{Alone, alone, IsQuiet, Leads}
 use Rattle.alp_journal.proofs.AloneLemmas.{call_entry}
 use Rattle.alp_journal.proofs.AloneCalls.{PerformOwes, performed_leads, with_call}
-use Rattle.alp_node.specs.Bounded.{IsWithin, sum_of, bounds_of}
+use Rattle.alp_node.specs.Bounded.{IsWithin, bounds_of}
 use Rattle.alp_node.specs.Calls.{Gave, IsPageCall, next_file}
 use Rattle.alp_node.specs.Rooms.{HasShape, IsRoomy}
 use Rattle.alp_node.specs.Dead.{is_dead}
 use Rattle.alp_node.specs.ServerState.{IsAs, IsLife, IsLocked as IsOpenLocked}
-use Rattle.alp_node.specs.Standings.{standing_of}
 use Rattle.alp_node.specs.Steps.{Stepped, IsTurn, IsOf, counted_in, seen_in}
 use Rattle.alp_node.specs.declared.answer.Answer.{Answer as Handed}
 use Rattle.alp_node.specs.declared.bounds.Bounds.{Bounds}
 use Rattle.alp_node.specs.declared.lives.Live.{Live}
 use Rattle.alp_node.specs.declared.server_state.ServerState.{ServerState}
 use Rattle.alp_node.specs.declared.sessions.Turn.{Turn}
-use Rattle.alp_node.proofs.AddLemmas.{Adds, within_more}
+use Rattle.alp_node.proofs.AddLemmas.{within_more}
 use Rattle.alp_node.proofs.CallLemmas.{done_kept, performs, gave, after_call, done_as}
 use Rattle.alp_node.proofs.FinishLemmas.{turn_session, turn_next}
 use Rattle.alp_node.proofs.KeptLemmas.{IsSession, IsLive, live_there, stands_timely, stepped_so}

@@ -1,8 +1,8 @@
 -- file calls that are refused before they are looked at
-use Rattle.std.specs.Prelude.{cond, Bool, true, false, not, ◌||◌, ◌==◌, nat_le, length, Option, None, Some, is_some}
+use Rattle.std.specs.Prelude.{cond, Bool, true, false, not, nat_le, length, Option, None, Some, is_some}
 use Rattle.std.specs.Option.{option_or}
 use Rattle.std.specs.FinMap as map
-use Rattle.std.proofs.Common.{inl, inr, ◌⊎◌, ◌≡◌, ℕ, ◌<◌, List, [], ◌∷◌, refl, sym, ◌∙◌, ap, subst}
+use Rattle.std.proofs.Common.{inl, inr, ◌≡◌, ℕ, ◌<◌, List, [], ◌∷◌, refl, sym, ◌∙◌, ap, subst}
 use Rattle.alp_base.specs.declared.ids.TransId.{TransId}
 use Rattle.alp_files.specs.declared.call.Call.{Call}
 use Rattle.alp_files.specs.declared.call.Call.TheVariants as call
@@ -19,7 +19,7 @@ use Rattle.alp_journal.specs.Deeds.{Deed, Performs}
 use Rattle.alp_journal.specs.Desk.{file_trans, is_not_yet}
 use Rattle.alp_journal.specs.Holder.{Life}
 use Rattle.alp_journal.specs.Moves.{done_by}
-use Rattle.alp_journal.specs.Answers.{Part, AtWork, part_at, at_part, part_refusal, First, OrFault, IsFileOf, IsFileAnswer, IsLocked, shape_refusal, lock_refusal, if_over}
+use Rattle.alp_journal.specs.Answers.{Part, part_at, at_part, part_refusal, First, OrFault, IsFileOf, IsFileAnswer, IsLocked, shape_refusal, lock_refusal, if_over}
 use Rattle.alp_journal.specs.Answered.{GrantsFor, grants_by, grants_if, asks}
 use Rattle.alp_journal.specs.Alone.{Alone, alone}
 use Rattle.alp_journal.proofs.AloneEntries.{counted_as, refused_leads}

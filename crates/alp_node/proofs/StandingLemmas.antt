@@ -1,5 +1,5 @@
 -- what a client has of a transaction, as the server and as its journal say it
-use Rattle.std.specs.Prelude.{cond, Bool, true, false, ◌==◌, ◌&&◌, not, Option, None, Some, is_some, is_none, nat_le}
+use Rattle.std.specs.Prelude.{cond, Bool, true, false, ◌==◌, ◌&&◌, not, Option, None, Some, is_none, nat_le}
 use Rattle.std.specs.FinMap as map
 use Rattle.std.proofs.Common.{◌≡◌, ℕ, List, [], ◌∷◌, refl, sym, ◌∙◌, ap, subst, eq-eqb}
 use Rattle.alp_base.specs.declared.ids.TransId.{TransId}
@@ -17,8 +17,8 @@ use Rattle.alp_journal.specs.Moves.{finishes, ends_by}
 use Rattle.alp_journal.specs.Messages.{Mail, on_finish}
 use Rattle.alp_journal.specs.Answers.{Part, NoPart, AtWork, AtEnd, own_part, ended_part, part_at}
 use Rattle.alp_journal.specs.Alone.{Alone, alone, IsPaired}
-use Rattle.alp_node.specs.Dead.{is_dead, dead_in}
-use Rattle.alp_node.specs.ServerState.{IsAs, IsAlike, is_beyond}
+use Rattle.alp_node.specs.Dead.{is_dead}
+use Rattle.alp_node.specs.ServerState.{IsAs, IsAlike}
 use Rattle.alp_node.specs.Standings.{standing_of}
 use Rattle.alp_node.specs.Steps.{IsOf}
 use Rattle.alp_node.specs.declared.lives.Live.{Live}

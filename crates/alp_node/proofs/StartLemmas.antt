@@ -1,9 +1,8 @@
 -- the epoch and the clock that a server starts with, and what it keeps then
 use Rattle.std.specs.Prelude.{slice_get, zero, suc, cond, Bool, true, false, IsTrue, ◌==◌, Option, None, Some, is_some, unwrap_or, Result, Ok, Err, IfErr, replicate}
-use Rattle.std.specs.Option.{option_and_then, option_map}
+use Rattle.std.specs.Option.{option_and_then}
 use Rattle.std.specs.FinMap as map
-use Rattle.std.specs.FinMap.{get-insert, get-empty, len-empty}
-use Rattle.std.specs.Cmp.Lexicographic.{nat_list_cmp_total}
+use Rattle.std.specs.FinMap.{get-empty, len-empty}
 use Rattle.std.proofs.Common.{◌≡◌, ℕ, ◌+◌, ◌<◌, ◌≤◌, ◌^◌, List, [], refl, sym, ◌∙◌, ap, subst, arith, le_refl}
 use Rattle.alp_base.specs.Notes.{Notes}
 use Rattle.alp_base.specs.declared.ids.FileId.{FileId}
@@ -38,15 +37,13 @@ use Rattle.alp_journal.specs.State.{opened}
 use Rattle.alp_journal.specs.Laws.{IsLawful}
 use Rattle.alp_journal.specs.Answered.{IsAnswered}
 use Rattle.alp_journal.specs.Alone.{Alone, alone, AreOwnEvents}
-use Rattle.alp_journal.specs.declared.entry.Entry.{Entry}
-use Rattle.alp_vault.specs.declared.vault.Vault.{Ghosts}
 use Rattle.alp_node.specs.declared.server_state.ServerState.{ServerState}
 use Rattle.alp_node.specs.declared.lives.Live.{Live}
 use Rattle.alp_node.specs.NodeStates.{NodeState}
 use Rattle.alp_node.specs.declared.sessions.Session.{Session}
 use Rattle.alp_node.specs.declared.start.StartFault.{StartFault}
 use Rattle.alp_node.specs.declared.start.StartFault.TheVariants as start_fault
-use Rattle.alp_node.specs.ServerState.{IsAs, IsReady, IsAlike, LiveMap, kept_session}
+use Rattle.alp_node.specs.ServerState.{IsAs, IsReady, IsAlike, LiveMap}
 use Rattle.alp_node.specs.Nodes.{IsRight, state_of}
 use Rattle.alp_node.specs.Sessions.{no_sessions, session_at}
 use Rattle.alp_node.specs.Starts.{HasStartCause, after_clock, after_note, raised}

@@ -1,6 +1,5 @@
 -- a step whose part ended
 use Rattle.std.specs.Prelude.{Bool, true, false, IsTrue, None, Some, Result, Ok, Err, IfOk, OnOk, OnErr}
-use Rattle.std.specs.FinMap as map
 use Rattle.std.proofs.Common.{◌≡◌, ℕ, ◌+◌, List, [], ◌∷◌, refl, sym, ◌∙◌, ap, subst}
 use Rattle.alp_base.specs.Allowances.{Spends}
 use Rattle.alp_base.specs.declared.ids.TransId.{TransId}
@@ -20,10 +19,9 @@ use Rattle.alp_node.specs.Halts.{HaveCauses}
 use Rattle.alp_node.proofs.SeatLemmas.{seated_alone}
 use Rattle.alp_journal.specs.declared.event.Event.TheVariants as event
 use Rattle.alp_journal.specs.Alone.{Alone}
-use Rattle.alp_vault.specs.Contents.{Contents}
 use Rattle.alp_vault.specs.declared.vault.Vault.{Ghosts}
 use Rattle.alp_node.specs.ServerState.{IsAs, IsReady}
-use Rattle.alp_node.specs.Steps.{Stepped, IsStep, IsStill, IsGiven, IsSeated, IsTurn, counted_in, without_trans, ended, refused_answer}
+use Rattle.alp_node.specs.Steps.{Stepped, IsStep, IsStill, IsTurn, counted_in, without_trans, ended, refused_answer}
 use Rattle.alp_node.specs.declared.answer.Answer.{Answer}
 use Rattle.alp_node.specs.declared.server_state.ServerState.{ServerState}
 use Rattle.alp_node.specs.declared.sessions.Turn.{Turn}

@@ -1,10 +1,7 @@
 -- a commit that the vault was asked for beforehand
-use Rattle.std.specs.Prelude.{Bool, IsTrue, None, Some, Result, Ok, Err, OnOk}
+use Rattle.std.specs.Prelude.{Some, Result, OnOk}
 use Rattle.std.specs.FinMap as map
-use Rattle.std.proofs.Common.{◌≡◌, ℕ, List, [], ◌∷◌, refl, sym, ◌∙◌, ap, subst, arith}
-use Rattle.alp_base.specs.Causes.{Rose}
-use Rattle.alp_base.specs.Allowances.{Spends}
-use Rattle.alp_base.specs.declared.allowance.Allowance.{Allowance}
+use Rattle.std.proofs.Common.{◌≡◌, ℕ, List, [], ◌∷◌, sym, ◌∙◌, ap, subst}
 use Rattle.alp_base.specs.declared.bytes.NoteChange.{NoteChange}
 use Rattle.alp_base.specs.declared.faults.Sizes.{Sizes}
 use Rattle.alp_base.specs.Notes.{Notes, noted, notes_after}
@@ -19,9 +16,7 @@ use Rattle.alp_files.proofs.UndoLemmas.{on_ok}
 use Rattle.alp_vault.specs.Contents.{Contents}
 use Rattle.alp_vault.specs.Volumes.{FitsVolume, IsVolumeOf, IsCommit}
 use Rattle.alp_vault.specs.declared.vault.Vault.{Ghosts}
-use Rattle.alp_calls.specs.Looks.{IsLeft, Looks}
-use Rattle.alp_calls.specs.declared.fault.CallFault.{CallFault}
-use Rattle.alp_calls.specs.declared.fault.CallFault.TheVariants as fault
+use Rattle.alp_calls.specs.Looks.{IsLeft}
 use Rattle.alp_node.proofs.NoteLemmas.{put_kept}
 
 module _ {V : Type 0} (G : Ghosts V) (old mid : V) (left : IsLeft G old mid) (c : Change) where

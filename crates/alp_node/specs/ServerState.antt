@@ -8,12 +8,10 @@
 -- the ids: the counts of transactions and of files.
 use Rattle.std.specs.Prelude.{◌≡◌, ℕ, zero, suc, ◌+◌, ◌^◌, ◌<◌, ◌≤◌, ◌==◌, ◌&&◌, not, nat_le, Bool, true, false, IsTrue, List, [], ◌∷◌, ◌++◌, length, Option, None, Some, is_some}
 use Rattle.std.specs.Option.{option_map}
-use Rattle.std.specs.List.{AllByRecursion, list_any}
+use Rattle.std.specs.List.{AllByRecursion}
 use Rattle.std.specs.FinMap as map
-use Rattle.alp_base.specs.Notes.{Notes}
 use Rattle.alp_base.specs.declared.ids.FileId.{FileId}
 use Rattle.alp_base.specs.declared.ids.TransId.{TransId}
-use Rattle.alp_base.specs.declared.ids.Stamp.{Stamp}
 use Rattle.alp_base.specs.declared.key.Key.TheVariants.{Leader}
 use Rattle.alp_base.specs.declared.key.Resource.{Resource}
 use Rattle.alp_base.specs.declared.key.Resource.TheVariants.{Whole}
@@ -23,18 +21,15 @@ use Rattle.alp_base.specs.Orders.{trans_cmp}
 use Rattle.alp_modes.specs.declared.Mode.{Mode}
 use Rattle.alp_modes.specs.declared.Mode.TheVariants.{Read, Write}
 use Rattle.alp_files.specs.Holdings.{Holding, covers_held}
-use Rattle.alp_fields.specs.ClockNote.{clock_name, clock_form, clock_kept}
+use Rattle.alp_fields.specs.ClockNote.{clock_kept}
 use Rattle.alp_files.specs.declared.open.Open.{Open}
 use Rattle.alp_files.specs.Born.{IsUnborn}
 use Rattle.alp_files.specs.Edits.{Edit, edits_at, ChangesBy}
-use Rattle.alp_files.specs.History.{Decided}
 use Rattle.alp_locks.specs.Tables.{Holders, holding}
 use Rattle.alp_locks.specs.Sound.{IsSound}
 use Rattle.alp_vault.specs.Contents.{Contents}
 use Rattle.alp_calls.specs.Parts.{own_of}
-use Rattle.alp_files.specs.declared.refusal.Cause.{Cause}
-use Rattle.alp_journal.specs.Ids.{same_trans}
-use Rattle.alp_journal.specs.Coordinator.{Fate, Undrawn}
+use Rattle.alp_journal.specs.Coordinator.{Undrawn}
 use Rattle.alp_journal.specs.Holder.{Life}
 use Rattle.alp_journal.specs.Desk as desk
 use Rattle.alp_journal.specs.Alone.{Alone, IsQuiet, AreEarlier}

@@ -1,6 +1,6 @@
 -- One step of a server.
-use Rattle.std.specs.Prelude.{◌≡◌, ℕ, ◌+◌, ◌≤◌, ◌==◌, max, Bool, true, false, List, [], ◌∷◌, ◌++◌, Option, None, Some, is_some, IsTrue, Result, Ok, Err, IfOk, OnOk, OnErr}
-use Rattle.std.specs.List.{filter, list_any}
+use Rattle.std.specs.Prelude.{◌≡◌, ℕ, ◌+◌, ◌≤◌, max, Bool, true, false, List, [], ◌∷◌, ◌++◌, Option, None, Some, is_some, IsTrue, Result, Ok, Err, IfOk, OnOk, OnErr}
+use Rattle.std.specs.List.{list_any}
 use Rattle.std.specs.FinMap as map
 use Rattle.alp_base.specs.Allowances.{Spends}
 use Rattle.alp_base.specs.Causes.{Rose}

@@ -1,4 +1,4 @@
-use Rattle.std.proofs.Common.{◌≡◌, ◌∙◌}
+use Rattle.std.proofs.Common.{◌∙◌}
 use Rattle.alp_node.specs.Bounded.{no_bounds}
 use Rattle.alp_node.proofs.CountLemmas.{total_listed, totals_listed}
 use Rattle.alp_node.proofs.lives.total_in.Goals as goal

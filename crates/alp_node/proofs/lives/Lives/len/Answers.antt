@@ -3,7 +3,7 @@ use Rattle.std.specs.FinMap as map
 use Rattle.std.specs.FinMap.{len-entries}
 use Rattle.std.proofs.Common.{List, ap, sym, ◌∙◌}
 use Rattle.alp_base.specs.declared.ids.TransId.{TransId}
-use Rattle.alp_base.specs.Orders.{trans_cmp, transactions_total, exact_transactions}
+use Rattle.alp_base.specs.Orders.{transactions_total, exact_transactions}
 use Rattle.alp_base.proofs.TreeLemmas.{entries_back, tree_sorted}
 use Rattle.alp_node.specs.declared.lives.Live.{Live}
 use Rattle.alp_node.proofs.lives.Lives.len.Goals as goal

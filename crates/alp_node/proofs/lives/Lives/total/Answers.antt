@@ -1,14 +1,10 @@
 use Rattle.std.specs.Prelude.{IfSome}
-use Rattle.std.specs.FinMap as map
-use Rattle.std.proofs.Common.{◌≡◌, List, ap, sym, subst, ◌∙◌}
-use Rattle.alp_base.specs.declared.ids.TransId.{TransId}
-use Rattle.alp_base.specs.Orders.{trans_cmp, transactions_total, exact_transactions}
+use Rattle.std.proofs.Common.{◌≡◌, ap, sym, subst, ◌∙◌}
+use Rattle.alp_base.specs.Orders.{transactions_total, exact_transactions}
 use Rattle.alp_base.proofs.TreeLemmas.{entries_back, tree_sorted}
 use Rattle.alp_node.specs.Bounded.{no_bounds}
 use Rattle.alp_node.specs.Rooms.{totals_from, total_of}
-use Rattle.alp_node.specs.ServerState.{LiveMap}
 use Rattle.alp_node.specs.declared.bounds.Bounds.{Bounds}
-use Rattle.alp_node.specs.declared.lives.Live.{Live}
 use Rattle.alp_node.proofs.lives.Lives.total.Goals as goal
 
 pub returns : goal.returns

@@ -1,6 +1,5 @@
-use Rattle.std.specs.Prelude.{Vec, IfOk, IsTrue}
-use Rattle.std.specs.Global.{Global}
-use Rattle.std.proofs.Common.{◌≤◌, length, List, subst}
+use Rattle.std.specs.Prelude.{IfOk, IsTrue}
+use Rattle.std.proofs.Common.{◌≤◌, length, subst}
 use Rattle.alp_node.specs.NodeStates.{NodeState}
 use Rattle.alp_node.specs.Nodes.{AreLive, state_of, start_in}
 use Rattle.alp_node.proofs.LiveLemmas.{ids_live, ids_few}

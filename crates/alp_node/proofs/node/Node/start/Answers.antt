@@ -1,13 +1,12 @@
 use Rattle.std.specs.Prelude.{Err}
 use Rattle.std.specs.FinMap as map
-use Rattle.std.proofs.Common.{◌≡◌, ◌⊎◌, inl, inr, IsTrue, false, ℕ, length, sym, ap, subst, ◌∙◌}
-use Rattle.alp_base.specs.Causes.{Rose}
+use Rattle.std.proofs.Common.{◌≡◌, inl, inr, IsTrue, false, ℕ, length, sym, ap, subst, ◌∙◌}
 use Rattle.alp_base.specs.declared.key.Key.TheVariants.{Leader}
 use Rattle.alp_fields.specs.ClockNote.{clock_kept}
 use Rattle.alp_files.specs.Apart.{AreSized}
 use Rattle.alp_files.specs.Cells.{Cells}
 use Rattle.alp_files.specs.Sound.{AreSound}
-use Rattle.alp_journal.specs.Opening.{Start, start_at}
+use Rattle.alp_journal.specs.Opening.{Start}
 use Rattle.alp_locks.specs.Sound.{IsSound}
 use Rattle.alp_vault.specs.Contents.{Contents}
 use Rattle.alp_node.specs.declared.server_state.ServerState.{ServerState}

@@ -1,4 +1,4 @@
-use Rattle.std.proofs.Common.{false, refl, sym, ap}
+use Rattle.std.proofs.Common.{false, refl}
 use Rattle.std.specs.FinMap as map
 use Rattle.alp_files.specs.declared.call.Call.TheVariants as call
 use Rattle.alp_files.specs.declared.refusal.Cause.TheVariants as cause

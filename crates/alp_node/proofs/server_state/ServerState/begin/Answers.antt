@@ -21,8 +21,7 @@ use Rattle.alp_node.specs.Steps.{Stepped, counted_in}
 use Rattle.alp_node.specs.declared.dead.DeadPart.{DeadPart}
 use Rattle.alp_node.specs.declared.lives.Live.{Live}
 use Rattle.alp_node.specs.declared.sessions.Sessions.{Sessions}
-use Rattle.alp_node.specs.declared.server_state.ServerState.{ServerState}
-use Rattle.alp_node.proofs.EndLemmas.{begin_stepped, with_begun_kept}
+use Rattle.alp_node.proofs.EndLemmas.{begin_stepped}
 use Rattle.alp_node.proofs.GivenLemmas.{reply_given}
 use Rattle.alp_node.proofs.KeptLemmas.{as_under, none_held}
 use Rattle.alp_node.proofs.ReadyLemmas.{next_new, undone_holds, undone_ready, begin_ready}

@@ -1,9 +1,6 @@
-use Rattle.std.specs.Prelude.{IfOk, IsTrue, Ok, Err, Some}
+use Rattle.std.specs.Prelude.{IfOk, Err, Some}
 use Rattle.std.specs.FinMap as map
-use Rattle.std.proofs.Common.{◌≡◌, ◌+◌, List, [], ◌∷◌, ◌++◌, inl, inr, true, false, refl, sym, ap, ◌∙◌, subst, arith}
-use Rattle.alp_files.specs.Cells.{Cells}
-use Rattle.alp_files.specs.Sound.{AreSound}
-use Rattle.alp_files.specs.Edits.{over}
+use Rattle.std.proofs.Common.{◌≡◌, ◌+◌, List, [], ◌∷◌, ◌++◌, inl, inr, true, refl, sym, ap, ◌∙◌, subst}
 use Rattle.alp_files.specs.declared.call.Call.TheVariants as call
 use Rattle.alp_files.specs.declared.refusal.Cause.{Cause}
 use Rattle.alp_files.specs.declared.refusal.Cause.TheVariants as cause
@@ -26,7 +23,7 @@ use Rattle.alp_node.specs.Halts.{ServesOn}
 use Rattle.alp_node.specs.declared.stored.StoreFault.{StoreFault}
 use Rattle.alp_node.proofs.CommitLemmas.{votes_unread, commit_stepped, commit_halt_stepped}
 use Rattle.alp_node.proofs.FinishLemmas.{against_stepped}
-use Rattle.alp_node.proofs.KeptLemmas.{of_client, same_live}
+use Rattle.alp_node.proofs.KeptLemmas.{of_client}
 use Rattle.alp_node.proofs.StepLemmas.{ended_step, down_step}
 use Rattle.alp_node.proofs.server_state.ServerState.decide.Goals as goal
 

@@ -1,5 +1,4 @@
-use Rattle.std.specs.FinMap as map
-use Rattle.std.proofs.Common.{◌≡◌, refl, sym, ap, ◌∙◌, subst}
+use Rattle.std.proofs.Common.{sym, ◌∙◌}
 use Rattle.alp_files.specs.declared.call.Call.TheVariants as call
 use Rattle.alp_files.specs.declared.refusal.Refusal.TheVariants as refusal
 use Rattle.alp_node.proofs.FinishLemmas.{unknown_stepped, elsewhere_stepped}

@@ -1,6 +1,6 @@
 use Rattle.std.specs.Prelude.{is_some, Bool, Some, true}
 use Rattle.std.specs.FinMap as map
-use Rattle.std.proofs.Common.{◌≡◌, ℕ, ◌+◌, ◌<◌, ◌≤◌, List, [], ◌∷◌, le_refl, arith, refl, sym, ap, ◌∙◌, subst}
+use Rattle.std.proofs.Common.{◌≡◌, ℕ, ◌+◌, ◌<◌, ◌≤◌, List, le_refl, arith, refl, sym, ap, ◌∙◌, subst}
 use Rattle.alp_base.specs.declared.ids.FileId.{FileId}
 use Rattle.alp_files.specs.Born.{count_after}
 use Rattle.alp_files.specs.Locks.{Need}
