@@ -252,6 +252,7 @@ module _ (s : State) (k : ℕ) (l : Line) (words : WordMap) (d : Client) (x : Ca
 pub record Went (n m : Server) (k : ℕ) (frame : NumberedCall) (r : Option Reply) : Type 0 where
   pub kept : IsConsistent m
   pub start : start_in m ≡ start_in n
+  pub opening : m.opening ≡ n.opening
   pub acts : List Act
   pub journal : m.journal ≡ n.journal ++ (record { event = event.Call k frame.epoch frame.number frame.call; reply = r; acts = acts }) ∷ []
   pub replies : is_some r ≡ true
@@ -284,7 +285,7 @@ module _ (c : Crowd) (n m : Server) (k : ℕ) (l : NumberedLine) (frame : Number
       let seen : seen_in (event.Call k frame.epoch frame.number frame.call) ≤ d.told.ts =
       subst (λ (f : NumberedCall). seen_in (event.Call k f.epoch f.number f.call) ≤ d.told.ts) (sym same) (frame_seen d d.session c.words l.line x k form is) in
       on_more n m (seen_in (event.Call k frame.epoch frame.number frame.call)) entry step.on went.kept went.start went.journal
-      (omega (arith, seen, (step.each k).told, kept_clock n step.on.kept)) went.clock went.spends went.down went.causes went.cause
+      (omega (arith, seen, (step.each k).told, kept_clock n step.on.kept)) went.clock went.spends went.down went.causes went.cause went.opening
 
   more : state_of m ≡ next (state_of n) entry
   more = state_more n m entry went.start went.journal

@@ -6,4 +6,5 @@ pub mod SaidLemmas
 pub mod ExchangeLemmas
 pub mod LineLemmas
 pub mod RunLemmas
+pub mod NewLemmas
 pub mod StreamLemmas

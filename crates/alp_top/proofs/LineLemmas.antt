@@ -1,5 +1,5 @@
 -- whole lines, and what they leave of clients, lists and journal
-use Rattle.std.specs.Prelude.{◌==◌, true, false, Bool, cond, Option, None, Some, IsSome, map as list_map, slice_set, Vec, flat_map}
+use Rattle.std.specs.Prelude.{◌==◌, true, false, Bool, cond, Option, None, Some, IsSome, map as list_map, slice_set, slice_index_or, Vec}
 use Rattle.std.specs.Global.{Global}
 use Rattle.std.specs.List.{AllByRecursion}
 use Rattle.std.proofs.Common.{inl, inr, ◌⊎◌, ◌<◌, ◌≡◌, ◌≢◌, ℕ, zero, suc, ◌+◌, ◌≤◌, List, [], ◌∷◌, ◌++◌, length, refl, sym, ◌∙◌, ap, subst, arith, append_assoc, append-nil, length-append}
@@ -253,6 +253,12 @@ adds_nothing c n l lists text step form none = record {
   recorded = tt;
   few = omega arith;
 }
+
+-- the list at a place is the client's
+pub list_there : (vs : List (Vec Item Global)) (k : ℕ) (v d : Vec Item Global) → k < length vs → v ≡ slice_index_or vs k d → lists_in vs k ≡ v.items
+list_there [] k v d h is = absurd (omega (arith, h))
+list_there (x ∷ vs) zero v d h is = ap (λ (y : Vec Item Global). y.items) (sym is)
+list_there (x ∷ vs) (suc k) v d h is = list_there vs k v d (omega (arith, h)) is
 
 -- a list that is put at a place is the client's there, and no other's
 set_same : (vs : List (Vec Item Global)) (k : ℕ) (v : Vec Item Global) → k < length vs → lists_in (slice_set vs k v) k ≡ v.items

@@ -17,11 +17,17 @@ use Rattle.alp_script.specs.declared.numbered.NumberedLine.{NumberedLine}
 use Rattle.alp_script.specs.Named.{client_named}
 use Rattle.alp_script.specs.Accepted.{RisesFrom}
 use Rattle.alp_client.specs.Crowd.{Crowd}
+use Rattle.std.specs.Prelude.{replicate}
+use Rattle.std.proofs.lemmas.List.{length-replicate}
+use Rattle.alp_client.specs.Clients.{new_client}
+use Rattle.alp_client.specs.declared.client.Greeted.{Greeted}
+use Rattle.alp_journal.specs.Desk.{Session}
+use Rattle.alp_node.specs.Nodes as node
 use Rattle.alp_client.specs.Crowds.{new_crowd, client_at}
 use Rattle.alp_top.specs.Turns.{Turn, lists_in, own_in, sent_in, turn_of, turns_of, turns_text}
 use Rattle.alp_top.specs.Plays.{PlaysLine, Plays, AreRecorded}
-use Rattle.alp_top.specs.Servers.{Server}
-use Rattle.alp_top.specs.Steps.{Adds, HasSaid}
+use Rattle.alp_top.specs.Servers.{Server, IsOn, start_in, state_of}
+use Rattle.alp_top.specs.Steps.{Adds, HasSaid, HasLast, SameSession}
 use Rattle.alp_top.specs.Runs.{HasPlayed, IsNewOpening}
 
 Plays-push : (c mid d : Crowd) (ls : List NumberedLine) (l : NumberedLine) (turns own : List Turn) → Plays c ls turns mid → PlaysLine mid l (client_named l.line) own d → Plays c (ls ++ l ∷ []) (turns ++ own) d
@@ -171,3 +177,59 @@ turns_are_from n c d (l ∷ ls) turns lists front rises plays before is =
 
 pub turns_are : (c d : Crowd) (ls : List NumberedLine) (turns : List Turn) (lists : Lists) → RisesFrom 1 ls → Plays c ls turns d → ((k : ℕ) → lists k ≡ own_in k turns) → turns ≡ turns_of ls lists
 turns_are c d ls turns lists rises plays is = turns_are_from 1 c d ls turns lists (λ k. []) rises plays (λ k. tt) is
+
+-- ---- before the first line
+
+new_list : (vs : List (Vec Item Global)) (k : ℕ) → AllByRecursion (λ (v : Vec Item Global). v.items ≡ []) vs → lists_in vs k ≡ []
+new_list [] k h = refl
+new_list (v ∷ vs) zero h = h.0
+new_list (v ∷ vs) (suc k) h = new_list vs k h.1
+
+-- nobody knows a session, and nobody was told a thing
+new_session : (k : ℕ) → (client_at new_crowd k).session ≡ None
+new_session k = go 17 k
+  where
+    go : (n k : ℕ) → (get_or (replicate n new_client) k new_client).session ≡ None
+    go zero k = refl
+    go (suc n) zero = refl
+    go (suc n) (suc k) = go n k
+
+new_told : (k : ℕ) → (client_at new_crowd k).told.ts ≡ 0
+new_told k = go 17 k
+  where
+    go : (n k : ℕ) → (get_or (replicate n new_client) k new_client).told.ts ≡ 0
+    go zero k = refl
+    go (suc n) zero = refl
+    go (suc n) (suc k) = go n k
+
+-- the server has no session either
+no_state_session : (n : Server) (k : ℕ) → n.journal ≡ [] → (state_of n).desk.sessions k ≡ None
+no_state_session n k none = ap (λ (js : List Entry). (node.state_of (start_in n) js).desk.sessions k) none
+
+new_same : (epoch : ℕ) (o : Option Greeted) (w : Option Session) → o ≡ None → w ≡ None → SameSession epoch o w
+new_same epoch o w is none = subst (λ (x : Option Greeted). SameSession epoch x w) (sym is) (subst (SameSession epoch None) (sym none) tt)
+
+new_last : (o : Option Greeted) → o ≡ None → HasLast o []
+new_last o is = subst (λ (x : Option Greeted). HasLast x []) (sym is) refl
+
+pub played_none : (c : Crowd) (n : Server) (vs : List (Vec Item Global)) (text : List ℕ) → c ≡ new_crowd → IsOn n → IsNewOpening (start_in n) → n.journal ≡ [] → length vs ≡ 17
+    → AllByRecursion (λ (v : Vec Item Global). v.items ≡ []) vs → text ≡ [] → HasPlayed [] c n vs text
+played_none c n vs text is on opening none many empty blank = subst (λ (d : Crowd). HasPlayed [] d n vs text) (sym is) (record {
+  step = record {
+    on = on;
+    places = length-replicate 17 new_client;
+    each = λ k. record {
+        session = new_same (state_of n).ids.epoch (client_at new_crowd k).session ((state_of n).desk.sessions k) (new_session k) (no_state_session n k none);
+        told = (let low : (client_at new_crowd k).told.ts ≡ 0 = new_told k in omega (arith, low));
+    };
+  };
+  opening = opening;
+  turns = [];
+  plays = (refl, refl);
+  places = many;
+  lists = λ k. new_list vs k empty;
+  said = λ k. record { numbered = tt; last = new_last (client_at new_crowd k).session (new_session k); told = tt; seen = tt; outcomes = tt };
+  text = blank;
+  recorded = subst (AreRecorded 0 []) (sym none) tt;
+  few = (let short : length n.journal ≡ 0 = ap (λ (js : List Entry). length js) none in omega (arith, short));
+})

@@ -57,6 +57,9 @@ use Rattle.alp_node.specs.Served.{IsServed, IsTurnCall}
 use Rattle.alp_node.specs.Steps.{seen_in}
 use Rattle.alp_node.specs.Sessions.{session_at}
 use Rattle.alp_node.proofs.NodeLemmas.{state_after-push, Along-push}
+use Rattle.alp_vault.specs.MemVault.{held_by}
+use Rattle.alp_vault.specs.declared.mem_vault.MemVault.{MemVault}
+use Rattle.alp_node.specs.declared.opened.Opened.{Opened}
 use Rattle.alp_top.specs.Servers.{Server, IsConsistent, IsOn, start_in, state_of}
 use Rattle.alp_top.specs.Steps.{SameSession, IsInStep, InStep}
 use Rattle.alp_top.proofs.AskLemmas.{line_call, line_seen, turn_served, turn_counted, no_session, next_session}
@@ -174,8 +177,8 @@ sound_cause s e h = go h.0 h.1 h.2
 
 -- one entry more, and a clock that one step may raise
 pub on_more : (n m : Server) (seen : ℕ) (e : Entry) → IsOn n → IsConsistent m → start_in m ≡ start_in n → m.journal ≡ n.journal ++ e ∷ [] → seen ≤ n.kept.clock → m.kept.clock ≤ max n.kept.clock seen + 1
-    → Spends n.kept.vault.allowance m.kept.vault.allowance → m.kept.is_down ≡ list_any is_stop e.acts → HaveCauses 0 0 m.kept.vault.allowance e.acts → HasCause 0 0 (state_of n) e → IsOn m
-on_more n m seen e on kept same journal low clock spends down causes cause = record {
+    → Spends n.kept.vault.allowance m.kept.vault.allowance → m.kept.is_down ≡ list_any is_stop e.acts → HaveCauses 0 0 m.kept.vault.allowance e.acts → HasCause 0 0 (state_of n) e → m.opening ≡ n.opening → IsOn m
+on_more n m seen e on kept same journal low clock spends down causes cause opening = record {
   kept = kept;
   up = down ∙ no_stop e.acts free_causes;
   free = free;
@@ -184,6 +187,7 @@ on_more n m seen e on kept same journal low clock spends down causes cause = rec
       subst (λ (o : Start). Along next (IsAnsweredEntry false) (opened o) m.journal) (sym same)
       (subst (λ (js : List Entry). Along next (IsAnsweredEntry false) (opened (start_in n)) js) (sym journal)
       (Along-push next (IsAnsweredEntry false) (opened (start_in n)) n.journal e on.answered (sound_cause (state_of n) e cause)));
+  notes = ap (λ (o : Opened MemVault). (held_by o.vault.value).notes) opening ∙ on.notes;
 }
   where
     free : m.kept.vault.allowance ≡ Free

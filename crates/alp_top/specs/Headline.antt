@@ -1,9 +1,7 @@
 -- What holds of a run: the promise that the top call makes.
 use Rattle.std.specs.Prelude.{◌≡◌, ℕ, false, List, [], ◌∷◌, ◌++◌, length, take, map as list_map, Option}
 use Rattle.std.specs.Io.KnownBytes.{Appends}
-use Rattle.std.specs.FinMap as map
 use Rattle.alp_base.specs.declared.ids.TransId.{TransId}
-use Rattle.alp_fields.specs.ClockNote.{clock_name, clock_form}
 use Rattle.alp_journal.specs.declared.entry.Entry.{Entry}
 use Rattle.alp_journal.specs.declared.event.Event.TheVariants as event
 use Rattle.alp_journal.specs.Along.{Along, state_after}
@@ -25,6 +23,7 @@ use Rattle.alp_top.specs.Turns.{turns_of, own_in, sent_in}
 use Rattle.alp_top.specs.Plays.{Plays, AreRecorded, ranks_from}
 use Rattle.alp_top.specs.Reports.{report_of}
 use Rattle.alp_top.specs.Runs.{IsNewOpening}
+use Rattle.alp_top.specs.Servers.{new_notes}
 
 -- what the one server of a run was started on
 abbrev pub start_of : ServerOfLog → Start
@@ -53,7 +52,7 @@ pub record IsRun (lines : List NumberedLine) (log : Log) : Type 0 where
   pub one : log.servers.items ≡ server ∷ []
   -- the server was a new one, whose vault held nothing but the note of its epoch and clock
   pub opening : IsNewOpening (start_of server)
-  pub notes : openings.notes server.opening ≡ map.insert map.empty clock_name (clock_form.spell (record { epoch = 1; clock = 0 }))
+  pub notes : openings.notes server.opening ≡ new_notes
   -- the calls are the script's and nothing else happened; what a client was handed is what the journal says
   pub faithful : IsFaithful lines log server
   -- each reply has its cause, and comes just where that stands, with what comes about by it; no device failed

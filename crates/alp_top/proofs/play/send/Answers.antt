@@ -26,6 +26,7 @@ returns c =
     let went : Went n m c.args.client c.args.frame c.in_ok-reply.reply = record {
       kept = c.knows.ensures;
       start = (λ i. start_by mem_vault.ghosts (h.seat.server i) (h.opening i).vault.value);
+      opening = h.opening;
       acts = answered.acts;
       journal = answered.entry;
       replies = answered.replies;
