@@ -83,7 +83,7 @@ pub record Answered (tells : Bool) (s : State) (before after : List Entry) (e : 
   pub down : is_down ≡ list_any is_stop acts
   pub causes : HaveCauses faults_before faults_now allowance acts
 
--- a journal with room for one entry
+-- A journal with room for one entry. Left out is a full journal: "every call of a client".
 abbrev pub HasRoom : {V : Type 0} → NodeState V → Type 0
 HasRoom n = length n.journal < 65536
 

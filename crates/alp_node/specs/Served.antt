@@ -17,31 +17,53 @@ use Rattle.alp_node.specs.declared.sessions.Session.{Session}
 use Rattle.alp_node.specs.declared.server_state.ServerState.{ServerState}
 use Rattle.alp_node.specs.Calls.{IsServedCall}
 
--- a greeting, the begin or the end of a transaction, or a file call of the grammar that is served; times are at most 2^62
+-- What the server asks of an event so far. Each line says what it leaves out, and which of the coming stages ends that: "every
+-- call of a client", "six modes, runs and waits", "restart", or "several servers".
+
+-- a call that may be asked
 abbrev pub IsAskable : Call → Type 0
+-- a greeting, by any name: nothing is left out
 IsAskable (call.Hello name) = Unit {0}
+-- a begin whose client saw a time of at most 2^62: later times are no times, no frame spells one, and so this stays
 IsAskable (call.Begin seen) = seen.ts ≤ 2 ^ 62
+-- a commit or an abort, of whatever transaction: nothing is left out
 IsAskable (call.Finish t commit) = Unit {0}
+-- A file call of the grammar of frames, which stays, and one of those that `IsServedCall` names. Left out are the calls that
+-- close, delete or resize a file, and those on properties and on owners that stand ("every call of a client"); an open in
+-- another mode than its access has, a read in another mode than Read, and calls that lock pages, collect or may wait ("six
+-- modes, runs and waits"); the question how a transaction ended, and a join where there is one server ("restart"); and all
+-- other joins ("several servers").
 IsAskable c = IsServedCall c × IsFormed c
 
--- a call other than a greeting
+-- a call of a session that stands
 abbrev pub IsTurnCall : Call → Type 0
+-- a greeting begins a session and is no call of one: `IsInTurn` says when it comes
 IsTurnCall (call.Hello name) = ⊥
+-- each other call that may be asked
 IsTurnCall c = IsAskable c
 
 -- it is the next call of that session
 abbrev pub IsNextOf : Option Session → ℕ → ℕ → ℕ → Type 0
+-- left out is a client without a session, as after a restart: "every call of a client"
 IsNextOf None server_epoch epoch number = ⊥
+-- left out are a call of an older epoch, a repeat, and a number that is not the next one: "every call of a client"
 IsNextOf (Some w) server_epoch epoch number = (epoch ≡ server_epoch) × (number ≡ w.last + 1)
 
 -- a client greets first and once, and then its calls have the numbers in turn
 abbrev pub IsInTurn : {V : Type 0} → ServerState V → ℕ → ℕ → ℕ → Call → Type 0
+-- left out are a further greeting, and one with another epoch or number than a first one has: "every call of a client"
 IsInTurn k client epoch number (call.Hello name) = (session_at k.sessions client ≡ None) × (epoch ≡ 0) × (number ≡ 1)
+-- left out is what `IsNextOf` leaves out
 IsInTurn k client epoch number c = IsNextOf (session_at k.sessions client) k.epoch epoch number
 
+-- the named premise of a step
 abbrev pub IsServed : {V : Type 0} → ServerState V → Event → Type 0
+-- A call of one of the sixteen clients, which stays. Left out is what `IsAskable` and `IsInTurn` leave out.
 IsServed k (event.Call client epoch number c) = (client ≤ 16) × IsAskable c × IsInTurn k client epoch number c
+-- a timeout, of whatever transaction: nothing is left out
 IsServed k (event.Timeout t) = Unit {0}
+-- left out are the events Tick and Force ("restart"), and the message of another server ("several servers"); a restart is no
+-- event of a server that is up, and stays out
 IsServed k e = ⊥
 
 -- a call on an open, whose file is locked already
