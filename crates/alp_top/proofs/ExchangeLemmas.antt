@@ -53,7 +53,7 @@ use Rattle.alp_node.specs.Halts.{HaveCauses}
 use Rattle.alp_node.specs.Nodes.{HasCause}
 use Rattle.alp_node.specs.Served.{IsTurnCall}
 use Rattle.alp_node.specs.Steps.{seen_in}
-use Rattle.alp_top.specs.Servers.{Server, IsConsistent, IsOn, start_in, state_of}
+use Rattle.alp_top.specs.Servers.{Server, IsConsistent, IsOn, IsDone, start_in, state_of}
 use Rattle.alp_top.specs.Steps.{SameSession, IsInStep, InStep, HasSaid, HasLast, Exchanged}
 use Rattle.alp_top.proofs.AskLemmas.{line_call, line_seen, line_has_seen, turn_counted, turn_no_outcome}
 use Rattle.alp_top.proofs.ReplyLemmas.{IsInSession, call_in}
@@ -293,7 +293,7 @@ module _ (c : Crowd) (n m : Server) (k : ℕ) (l : NumberedLine) (frame : Number
   fine : IsFine (state_of n) entry
   fine = record {
     lawful = law_more IsLawfulEntry n m entry went.start went.journal (went.kept.right refl).lawful;
-    answered = law_more (IsAnsweredEntry false) n m entry went.start went.journal on.answered;
+    answered = (law_more IsDone n m entry went.start went.journal on.answered).1;
     up = sym went.down ∙ on.up;
     early = subst (λ (s : State). AreEarlier s.holder.clock s.holder.applied) more (kept_earlier m went.kept);
   }
@@ -338,5 +338,5 @@ module _ (c : Crowd) (n m : Server) (k : ℕ) (l : NumberedLine) (frame : Number
             (come.said xs (Some place) h));
         entry = entry;
         journal = went.journal;
-        recorded = record { epoch = frame.epoch; number = frame.number; call = frame.call; place = ap Some at; sent = ap (sent.Call k frame.epoch frame.number) same; event = refl; reply = refl };
+        recorded = record { server = refl; mark = refl; epoch = frame.epoch; number = frame.number; call = frame.call; place = ap Some at; sent = ap (sent.Call k frame.epoch frame.number) same; event = refl; reply = refl };
       }

@@ -7,4 +7,7 @@ pub mod ExchangeLemmas
 pub mod LineLemmas
 pub mod RunLemmas
 pub mod NewLemmas
+pub mod SingleLemmas
+pub mod ClientLemmas
+pub mod EndLemmas
 pub mod StreamLemmas

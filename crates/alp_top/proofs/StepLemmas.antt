@@ -60,7 +60,7 @@ use Rattle.alp_node.proofs.NodeLemmas.{state_after-push, Along-push}
 use Rattle.alp_vault.specs.MemVault.{held_by}
 use Rattle.alp_vault.specs.declared.mem_vault.MemVault.{MemVault}
 use Rattle.alp_node.specs.declared.opened.Opened.{Opened}
-use Rattle.alp_top.specs.Servers.{Server, IsConsistent, IsOn, start_in, state_of}
+use Rattle.alp_top.specs.Servers.{Server, IsConsistent, IsOn, IsDone, start_in, state_of}
 use Rattle.alp_top.specs.Steps.{SameSession, IsInStep, InStep}
 use Rattle.alp_top.proofs.AskLemmas.{line_call, line_seen, turn_served, turn_counted, no_session, next_session}
 use Rattle.alp_top.proofs.ReplyLemmas.{IsInSession, call_in}
@@ -184,9 +184,9 @@ on_more n m seen e on kept same journal low clock spends down causes cause openi
   free = free;
   early = omega (arith, on.early, low, clock, ap (λ (js : List Entry). length js) journal, length-append n.journal (e ∷ []));
   answered =
-      subst (λ (o : Start). Along next (IsAnsweredEntry false) (opened o) m.journal) (sym same)
-      (subst (λ (js : List Entry). Along next (IsAnsweredEntry false) (opened (start_in n)) js) (sym journal)
-      (Along-push next (IsAnsweredEntry false) (opened (start_in n)) n.journal e on.answered (sound_cause (state_of n) e cause)));
+      subst (λ (o : Start). Along next IsDone (opened o) m.journal) (sym same)
+      (subst (λ (js : List Entry). Along next IsDone (opened (start_in n)) js) (sym journal)
+      (Along-push next IsDone (opened (start_in n)) n.journal e on.answered (no_stop e.acts free_causes, sound_cause (state_of n) e cause)));
   notes = ap (λ (o : Opened MemVault). (held_by o.vault.value).notes) opening ∙ on.notes;
 }
   where

@@ -1,5 +1,5 @@
 -- What holds of a run: the promise that the top call makes.
-use Rattle.std.specs.Prelude.{◌≡◌, ℕ, false, List, [], ◌∷◌, ◌++◌, length, take, map as list_map, Option}
+use Rattle.std.specs.Prelude.{◌≡◌, ℕ, List, [], ◌∷◌, ◌++◌, length, take, map as list_map, Option}
 use Rattle.std.specs.Io.KnownBytes.{Appends}
 use Rattle.alp_base.specs.declared.ids.TransId.{TransId}
 use Rattle.alp_journal.specs.declared.entry.Entry.{Entry}
@@ -9,7 +9,6 @@ use Rattle.alp_journal.specs.Opening.{Start}
 use Rattle.alp_journal.specs.State.{opened}
 use Rattle.alp_journal.specs.Moves.{next}
 use Rattle.alp_journal.specs.Laws.{IsLawful}
-use Rattle.alp_journal.specs.Answered.{IsAnsweredEntry}
 use Rattle.alp_history.specs.RunLogs as runs
 use Rattle.alp_history.specs.Handed.{ArePromisesKept}
 use Rattle.alp_history.specs.Theorems.{IsOneThread, AreWhole}
@@ -23,7 +22,7 @@ use Rattle.alp_top.specs.Turns.{turns_of, own_in, sent_in}
 use Rattle.alp_top.specs.Plays.{Plays, AreRecorded, ranks_from}
 use Rattle.alp_top.specs.Reports.{report_of}
 use Rattle.alp_top.specs.Runs.{IsNewOpening}
-use Rattle.alp_top.specs.Servers.{new_notes}
+use Rattle.alp_top.specs.Servers.{new_notes, IsDone}
 
 -- what the one server of a run was started on
 abbrev pub start_of : ServerOfLog → Start
@@ -56,7 +55,7 @@ pub record IsRun (lines : List NumberedLine) (log : Log) : Type 0 where
   -- the calls are the script's and nothing else happened; what a client was handed is what the journal says
   pub faithful : IsFaithful lines log server
   -- each reply has its cause, and comes just where that stands, with what comes about by it; no device failed
-  pub caused : Along next (IsAnsweredEntry false) (opened (start_of server)) server.journal
+  pub caused : Along next IsDone (opened (start_of server)) server.journal
   -- the decided transactions, in the order of their stamps, are one thread's history: it gives every reply as given and
   -- ends in what the server holds; the files are well formed and each owner is charged the sizes of its files, after each
   -- transaction and at the end

@@ -5,6 +5,7 @@ use Rattle.alp_files.specs.declared.call.Call.{Call}
 use Rattle.alp_journal.specs.declared.entry.Entry.{Entry}
 use Rattle.alp_journal.specs.declared.event.Event.TheVariants as event
 use Rattle.alp_journal.specs.declared.log.Item.{Item}
+use Rattle.alp_journal.specs.declared.log.Mark.TheVariants as mark
 use Rattle.alp_journal.specs.declared.log.Sent.TheVariants as sent
 use Rattle.alp_script.specs.declared.numbered.NumberedLine.{NumberedLine}
 use Rattle.alp_script.specs.Named.{client_named}
@@ -25,8 +26,11 @@ Plays c [] turns d = (turns ≡ []) × (d ≡ c)
 Plays c (l ∷ ls) turns d =
     (own : List Turn) × (others : List Turn) × (mid : Crowd) × (turns ≡ own ++ others) × PlaysLine c l (client_named l.line) own mid × Plays mid ls others d
 
--- the entry at this place is that of the client's item: of the call that it sent, and with the reply that it was handed
+-- the entry at this place is that of an item of the client's own line, sent to server 1: of the call that it sent, and with the
+-- reply that it was handed
 pub record Records (at : ℕ) (x : ℕ × Item) (e : Entry) : Type 0 where
+  pub server : x.1.server ≡ 1
+  pub mark : x.1.mark ≡ mark.Own
   pub epoch : ℕ
   pub number : ℕ
   pub call : Call

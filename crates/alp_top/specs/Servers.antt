@@ -10,7 +10,8 @@ use Rattle.alp_vault.specs.contracts.mem_vault.MemVaultVault.TheImpl as mem_vaul
 use Rattle.alp_journal.specs.Opening.{Start}
 use Rattle.alp_journal.specs.Along.{Along}
 use Rattle.alp_journal.specs.State.{State, opened}
-use Rattle.alp_journal.specs.Moves.{next}
+use Rattle.alp_journal.specs.declared.entry.Entry.{Entry}
+use Rattle.alp_journal.specs.Moves.{next, stops}
 use Rattle.alp_journal.specs.Answered.{IsAnsweredEntry}
 use Rattle.alp_node.specs.Nodes as node
 use Rattle.alp_node.specs.NodeStates.{NodeState}
@@ -33,6 +34,10 @@ IsConsistent n = node.IsConsistent mem_vault.ghosts n
 abbrev pub new_notes : Notes
 new_notes = map.insert map.empty clock_name (clock_form.spell (record { epoch = 1; clock = 0 }))
 
+-- an entry that has its cause, where no device failed or stopped
+abbrev pub IsDone : State → Entry → Type 0
+IsDone s e = (stops e ≡ false) × IsAnsweredEntry false s e
+
 -- It is what its journal says, it is up and not to be stopped, its clock went no further than its journal, its device did
 -- its work in each entry, and it was started on a new vault.
 pub record IsOn (n : Server) : Type 0 where
@@ -40,5 +45,5 @@ pub record IsOn (n : Server) : Type 0 where
   pub up : n.kept.is_down ≡ false
   pub free : n.kept.vault.allowance ≡ Free
   pub early : n.kept.clock ≤ length n.journal
-  pub answered : Along next (IsAnsweredEntry false) (opened (start_in n)) n.journal
+  pub answered : Along next IsDone (opened (start_in n)) n.journal
   pub notes : (held_by n.opening.vault.value).notes ≡ new_notes

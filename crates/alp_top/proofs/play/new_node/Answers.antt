@@ -1,9 +1,8 @@
-use Rattle.std.proofs.Common.{◌≡◌, false, List, [], refl, sym, ap, subst, ◌∙◌, arith}
+use Rattle.std.proofs.Common.{◌≡◌, List, [], refl, sym, ap, subst, ◌∙◌, arith}
 use Rattle.std.specs.FinMap as map
 use Rattle.alp_fields.specs.ClockNote.{clock_name, clock_form}
 use Rattle.alp_fields.specs.declared.clock_note.ClockNote.{ClockNote}
 use Rattle.alp_journal.specs.Along.{Along}
-use Rattle.alp_journal.specs.Answered.{IsAnsweredEntry}
 use Rattle.alp_journal.specs.State.{opened}
 use Rattle.alp_journal.specs.Moves.{next}
 use Rattle.alp_journal.specs.declared.entry.Entry.{Entry}
@@ -11,7 +10,7 @@ use Rattle.alp_vault.specs.Contents.{Contents}
 use Rattle.alp_vault.specs.MemVault.{held_by}
 use Rattle.alp_vault.specs.declared.mem_vault.MemVault.{MemVault}
 use Rattle.alp_node.specs.Nodes as node
-use Rattle.alp_top.specs.Servers.{start_in}
+use Rattle.alp_top.specs.Servers.{start_in, IsDone}
 use Rattle.alp_top.proofs.NewLemmas.{new_given, new_clock, new_fault}
 use Rattle.alp_top.proofs.StepLemmas.{stays_free, kept_epoch, kept_clock}
 use Rattle.alp_top.proofs.play.new_node.Goals as goal
@@ -31,7 +30,7 @@ returns-in-Ok-clause-on c =
       up = h.new.up;
       free = stays_free c.new-vault.result.allowance n.kept.vault.allowance h.allowance c.new-vault.ensures.allowance;
       early = omega (arith, clock);
-      answered = subst (λ (js : List Entry). Along next (IsAnsweredEntry false) (opened (start_in n)) js) (sym h.new.journal) tt;
+      answered = subst (λ (js : List Entry). Along next IsDone (opened (start_in n)) js) (sym h.new.journal) tt;
       notes =
           ap (λ (v : MemVault). (held_by v).notes) h.new.opening ∙ h.raised.notes
           ∙ ap (λ (x : Contents). map.insert x.notes clock_name (clock_form.spell (record { epoch = n.kept.epoch; clock = n.kept.clock }))) c.new-vault.ensures.empty
