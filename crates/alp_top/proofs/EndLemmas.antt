@@ -73,6 +73,9 @@ one_more_out calls live n m t r h kept same opening a clock spends =
           ∙ sym (map-append event.Timeout live (t ∷ []));
     }
 
+pub one_longer : (xs ys : List Entry) (e : Entry) → ys ≡ xs ++ e ∷ [] → length ys ≡ length xs + 1
+one_longer xs ys e is = ap (λ (js : List Entry). length js) is ∙ length-append xs (e ∷ [])
+
 -- no call stands among them
 no_call : (es : List Entry) (ts : List TransId) → list_map (λ (e : Entry). e.event) es ≡ list_map event.Timeout ts
     → (i client epoch number : ℕ) (c : Call) (e : Entry) → slice_get es i ≡ Some e → e.event ≡ event.Call client epoch number c → ⊥
@@ -96,6 +99,7 @@ trans_long server epoch (suc n) =
 
 -- what the server keeps is what is printed of its journal's state
 pub ending_is : (n : Server) → IsOn n → summary_text n.kept.server n.kept.epoch n.kept.clock (mem_vault.ghosts.held n.kept.vault).cells n.kept.committed (n.kept.drawn - n.kept.committed) ≡ ending_text n
+unfolding ending_text
 ending_is n on =
     let r = on.kept.right refl in
     let k = r.kept in
@@ -114,6 +118,7 @@ log_is log x one = ap (λ (xs : List ServerOfLog). record { servers = list_map (
 -- the report of a run of one server
 pub report_is : (lines : List NumberedLine) (log : Log) (x : ServerOfLog) (n : Server) (many : ℕ) → log.servers.items ≡ x ∷ [] → end_of 1 x ≡ state_of n → (runs.start_in openings 1 x).decisions ≡ []
     → length (decided (log_of log)) ≡ length (state_of n).holder.applied → turns_text (turns_of lines (lists_of log)) ++ ending_text n ≡ report_of lines log
+unfolding ending_text
 report_is lines log x n many one same none as_many =
     let s : State = state_of n in
     let held : List ℕ = holding_text s in

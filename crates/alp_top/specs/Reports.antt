@@ -37,7 +37,7 @@ report_of lines log =
 -- ---- by what a server's journal says
 
 -- the summary of a run of one server
-abbrev pub ending_text : server.Server → List ℕ
+unfoldable pub ending_text : server.Server → List ℕ
 ending_text n =
     summary_text (server.state_of n).holder.server (server.state_of n).ids.epoch (server.state_of n).holder.clock (server.state_of n).holder.cells (length (server.state_of n).holder.applied)
     (length (server.state_of n).begun - length (server.state_of n).holder.applied)

@@ -49,7 +49,6 @@ impl Status {
     }
 }
 
-#[tactic(auto, using(crate::proofs::SingleLemmas::decided_many, crate::proofs::ClientLemmas::of_clients, crate::proofs::EndLemmas::run_over))]
 fn plain_text(alloc: Global, said: &str) -> Result<String, OutOfMemory>
     ensures { IfOk result (λ text. string_bytes text ≡ said.now) }
 {
