@@ -11,3 +11,5 @@ pub mod OneServer
 pub mod Origins
 pub mod MadeIds
 pub mod HeldLemmas
+pub mod ReachedLemmas
+pub mod RefusedLemmas
