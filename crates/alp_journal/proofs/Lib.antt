@@ -13,3 +13,4 @@ pub mod MadeIds
 pub mod HeldLemmas
 pub mod ReachedLemmas
 pub mod RefusedLemmas
+pub mod EndedLemmas

@@ -1,4 +1,5 @@
-use Rattle.alp_journal.proofs.RefusedLemmas.{refused_leaves, unknown_leaves, finish_leaves, ended_leaves, aborted_leaves}
+use Rattle.alp_journal.proofs.RefusedLemmas.{refused_leaves, unknown_leaves, finish_leaves, ended_leaves}
+use Rattle.alp_journal.proofs.EndedLemmas.{aborted_leaves}
 use Rattle.alp_journal.proofs.laws.passing_refusals_change_nothing.Goals as goal
 
 pub returns : goal.returns
