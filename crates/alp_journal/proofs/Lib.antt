@@ -11,3 +11,6 @@ pub mod OneServer
 pub mod Origins
 pub mod MadeIds
 pub mod HeldLemmas
+pub mod ReachedLemmas
+pub mod RefusedLemmas
+pub mod EndedLemmas

@@ -16,3 +16,4 @@ pub mod Halts
 pub mod Answered
 pub mod Alone
 pub mod Holding
+pub mod Refused
