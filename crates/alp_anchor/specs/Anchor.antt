@@ -3,7 +3,7 @@ use Rattle.std.specs.Prelude.{◌≡◌, ◌⊎◌, ◌<◌, ◌≤◌, ℕ, ◌
 use Rattle.std.specs.Int.{w16, w32, to_be_bytes}
 use Rattle.alp_base.specs.declared.faults.Sizes.{Sizes}
 use Rattle.alp_disk.specs.Disk.{Image, page, SameBut}
-use Rattle.alp_disk.specs.Gates.{open_byte}
+use Rattle.alp_disk.specs.declared.gate.TheConstants.{OPEN_GATE}
 use Rattle.alp_base.specs.Crashes.{Only}
 use Rattle.alp_anchor.specs.declared.anchor.Anchor.{Anchor}
 
@@ -18,7 +18,7 @@ header a =
 
 -- an anchor page with an open gate
 unfoldable pub open_anchor : Anchor → List ℕ
-open_anchor a = open_byte ∷ (header a ++ replicate 490 0)
+open_anchor a = OPEN_GATE ∷ (header a ++ replicate 490 0)
 
 -- sizes within the limits that make up a disk of n pages: two anchors, two areas, and home
 pub record AreSizesOf (n : ℕ) (sizes : Sizes) : Type 0 where

@@ -18,8 +18,8 @@ use crate::CallFault;
 use crate::look::fetched;
 use crate::server_notes::are_server_notes;
 use alp_base::{FileId, Key, NoteChange, OutOfMemory, PAGES_PER_FILE, Sizes};
-use alp_files::{Cell, CellMap, Change};
-use alp_vault::{BLOCK_PAGES, FILES_PER_SERVER, HEAD_PAGES, OWNERS_PER_SERVER, Vault};
+use alp_files::{BLOCK_PAGES, Cell, CellMap, Change};
+use alp_vault::{FILES_PER_SERVER, HEAD_PAGES, OWNERS_PER_SERVER, Vault};
 use std::alloc::Global;
 
 /// How many files and owners there are, and how many places they and their pages take.

@@ -5,14 +5,14 @@ ghost use Rattle.alp_calls.specs.ServerNotes.{is_good as is_good_said};
 ghost use Rattle.alp_vault.specs.Volumes.{is_server_note as is_server_note_said, AreServerNotes};
 
 use alp_base::Bytes;
-use alp_fields::read_clock;
+use alp_fields::{is_clock_name, read_clock};
 use alp_vault::Vault;
 
 // So far one note is in the format: that of the epoch and the clock.
 fn is_server_note(name: &Bytes, value: &Bytes) -> bool
     ensures { (server servers : ℕ) → result ≡ is_server_note_said server servers name.now value.now }
 {
-    name.as_slice() == b"C".as_slice() && read_clock(value.as_slice()).is_some()
+    is_clock_name(name.as_slice()) && read_clock(value.as_slice()).is_some()
 }
 
 // Whether the note of that name is, if it stands.

@@ -6,6 +6,7 @@ use Rattle.alp_disk.specs.Disk.{Image}
 use Rattle.alp_disk.specs.Pending.{replay, alternated, filled, words_of, MayLeave, written_bytes}
 use Rattle.alp_disk.specs.declared.pending_write.PendingWrite.{PendingWrite}
 use Rattle.alp_disk.specs.declared.mem_disk.MemDisk.{MemDisk}
+use Rattle.alp_disk.specs.declared.outcomes.TheConstants.{ROOM}
 
 -- the pages as of the last sync, or of the last time when there was no room for one more write
 abbrev pub stable_of : MemDisk → Image
@@ -43,10 +44,6 @@ pub record CountsCall {T : Type 0} (old new : MemDisk) (result : Result T Halt) 
   pub faults : faults_of new ≡ (if is_failing (calls_of old) (fails_of old) then counted (faults_of old) else faults_of old)
   pub fails : fails_of new ≡ fails_of old
 
--- so many writes wait for a sync at most
-abbrev pub room_of_writes : ℕ
-room_of_writes = 8192
-
 -- What is stable is as it was, and so is what waits for a sync.
 pub record SamePages (old new : MemDisk) : Type 0 where
   pub stable : stable_of new ≡ stable_of old
@@ -56,8 +53,8 @@ pub record SamePages (old new : MemDisk) : Type 0 where
 pub record Waits (at offset : ℕ) (bytes : List ℕ) (old new : MemDisk) : Type 0 where
   pub write : PendingWrite
   pub place : (write.at ≡ at) × (write.offset ≡ offset) × (written_bytes write ≡ bytes)
-  pub stable : stable_of new ≡ (if nat_lt (length (pending_of old)) room_of_writes then stable_of old else seen_of old)
-  pub pending : pending_of new ≡ (if nat_lt (length (pending_of old)) room_of_writes then pending_of old else []) ++ write ∷ []
+  pub stable : stable_of new ≡ (if nat_lt (length (pending_of old)) ROOM then stable_of old else seen_of old)
+  pub pending : pending_of new ≡ (if nat_lt (length (pending_of old)) ROOM then pending_of old else []) ++ write ∷ []
 
 -- What a crash with a pick makes of the writes since the last sync. The counts and the list of calls that are to fail stay.
 pub record CrashedBy (pick : ℕ) (old new : MemDisk) : Type 0 where

@@ -6,6 +6,7 @@ ghost use Rattle.alp_disk.specs.Disk.{page as page_of, IsImage, with_bytes, Torn
 ghost use Rattle.alp_base.specs.Crashes.{Follows, NoMore, Only, Adds};
 ghost use Rattle.alp_base.specs.Allowances.{Spends, HasHaltCause};
 ghost use Rattle.alp_disk.specs.Pending.{replay};
+ghost use Rattle.alp_disk.specs.declared.outcomes.TheConstants.{ROOM as room_of_writes};
 ghost use Rattle.alp_base.specs.declared.allowance.Allowance.TheVariants.{Free};
 
 use crate::Disk;
@@ -28,7 +29,7 @@ pub struct MemDisk {
     faults: u64,
     ghost whole: { IsImage (length stable.items) stable.items },
     ghost few: { length stable.items < 2 ^ 32 },
-    ghost room: { 8192 ≤ vec_capacity pending },
+    ghost room: { room_of_writes ≤ vec_capacity pending },
     ghost faults_end: { faults < 2 ^ 64 },
 }
 

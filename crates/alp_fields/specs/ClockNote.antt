@@ -6,10 +6,11 @@ use Rattle.alp_base.specs.declared.bytes.NoteChange.{NoteChange}
 use Rattle.alp_fields.specs.Forms.{Form, whole, pair, checked, mapped, u32, u64}
 use Rattle.alp_fields.specs.Fields.{is_time}
 use Rattle.alp_fields.specs.declared.clock_note.ClockNote.{ClockNote}
+use Rattle.alp_fields.specs.declared.clock_note.TheConstants.{CLOCK_LETTER}
 
 -- the letter C
 abbrev pub clock_name : List ℕ
-clock_name = 67 ∷ []
+clock_name = CLOCK_LETTER ∷ []
 
 -- an epoch, and a clock of at most 2 ^ 62
 unfoldable pub clock_form : Form ClockNote

@@ -1,5 +1,6 @@
 //! The note that keeps a server's epoch and clock through crashes.
-ghost use Rattle.std.specs.Prelude.{◌≡◌, ◌≤◌, ◌^◌, IfOk, OnOk, Some};
+ghost use Rattle.std.specs.Prelude.{◌≡◌, ◌≤◌, ◌^◌, IfOk, OnOk, Some, nat_eq};
+ghost use Rattle.std.specs.Cmp.Lexicographic.{pointwise};
 ghost use Rattle.alp_fields.specs.Forms.{whole, IsRead};
 ghost use Rattle.alp_fields.specs.ClockNote.{clock_name, clock_form, clock_in, IsClockNote};
 
@@ -14,6 +15,9 @@ pub struct ClockNote {
     /// At most 2 ^ 62.
     pub clock: u64,
 }
+
+// All of the note's name.
+const CLOCK_LETTER: u8 = b'C';
 
 #[tactic(auto, unfolding(crate::specs::ClockNote::clock_form))]
 fn next_clock(reader: &mut FieldReader) -> Option<ClockNote>
@@ -51,11 +55,18 @@ fn clock_bytes(alloc: Global, clock: ClockNote) -> Result<Vec<u8>, OutOfMemory>
     Ok(bytes)
 }
 
+/// Whether that is the name of the note, the letter C.
+pub fn is_clock_name(name: &[u8]) -> bool
+    ensures { result ≡ pointwise nat_eq name.now clock_name }
+{
+    name == [CLOCK_LETTER].as_slice()
+}
+
 /// The name of the note.
 pub fn clock_note_name(alloc: Global) -> Result<Bytes, OutOfMemory>
     ensures { IfOk result (λ name. name ≡ clock_name) }
 {
-    let letters = vec![in alloc; b'C']?;
+    let letters = vec![in alloc; CLOCK_LETTER]?;
     Ok(Bytes::new(letters))
 }
 

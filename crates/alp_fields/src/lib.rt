@@ -19,7 +19,7 @@ mod reader;
 mod rows;
 
 pub use choices::{put_access, put_choice, put_flag};
-pub use clock_note::{ClockNote, clock_change, clock_note_name, read_clock};
+pub use clock_note::{ClockNote, clock_change, clock_note_name, is_clock_name, read_clock};
 pub use fixed::{LIST_FIELD_BYTES, NAME_FIELD_BYTES};
 pub use ids::{GREATEST_TIME, put_file_id, put_join_no, put_run, put_stamp, put_trans_id};
 pub use keys::{put_key, put_resource};

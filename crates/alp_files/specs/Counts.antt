@@ -8,6 +8,7 @@ use Rattle.alp_base.specs.declared.key.Key.{Key}
 use Rattle.alp_base.specs.declared.key.Key.TheVariants.{Leader, PageOf, OwnerOf}
 use Rattle.alp_base.specs.Keys.{key_cmp}
 use Rattle.alp_files.specs.declared.cell.Cell.{Cell}
+use Rattle.alp_files.specs.declared.cell.TheConstants.{BLOCK_PAGES}
 use Rattle.alp_files.specs.Cells.{Cells, same_file}
 
 -- a file is a leader
@@ -25,13 +26,9 @@ places_at (Leader f) = 1
 places_at (PageOf f n) = 1
 places_at (OwnerOf name) = 0
 
--- as many pages of a file are found by one index page
-abbrev pub block_pages : ℕ
-block_pages = 128
-
 -- the block of a page, named by the first page number in it
 abbrev pub block_of : FileId → ℕ → Key
-block_of f n = PageOf f (n - n % block_pages)
+block_of f n = PageOf f (n - n % BLOCK_PAGES)
 
 abbrev pub Blocks : Type 0
 Blocks = FinMap key_cmp (Unit {0})

@@ -1,6 +1,9 @@
 //! What stands at a place: a file's properties, a page, or an owner's record.
 use alp_base::{AccessList, Name, PageRef};
 
+/// As many page numbers of a file make a block: its pages are found by one index page.
+pub const BLOCK_PAGES: u32 = 128;
+
 /// The properties of a file, kept on its leader page.
 #[derive(Clone, Drop, PartialEq, Eq)]
 pub struct Props {

@@ -14,7 +14,7 @@ mod reply;
 
 pub use admission::admits;
 pub use call::{Call, PropChange};
-pub use cell::{Cell, OwnerRecord, Props};
+pub use cell::{BLOCK_PAGES, Cell, OwnerRecord, Props};
 pub use cell_map::CellMap;
 pub use change::{Change, CutList, FileList, PutList};
 pub use laws::{

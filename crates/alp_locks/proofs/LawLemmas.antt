@@ -41,7 +41,7 @@ joined-holds (n ∷ ns) h r =
         ∙ join_held-assoc (map.get h r) (Some n.1) (held_by ns r)
     go false e = refl
 
-join-none : (a b : Option Mode) → join_held a b ≡ None → a ≡ None
+pub join-none : (a b : Option Mode) → join_held a b ≡ None → a ≡ None
 join-none None b e = refl
 join-none (Some a) None e = let wrong : true ≡ false = ap is_some e in cc
 join-none (Some a) (Some b) e = let wrong : true ≡ false = ap is_some e in cc

@@ -10,7 +10,7 @@ use Rattle.alp_base.specs.declared.choices.Choice.TheVariants.{Fail, Wait}
 use Rattle.alp_base.specs.declared.key.Resource.{Resource}
 use Rattle.alp_modes.specs.declared.Mode.{Mode}
 use Rattle.alp_modes.specs.Modes.{join_of}
-use Rattle.alp_files.specs.Holdings.{agree_held, held_by}
+use Rattle.alp_files.specs.Holdings.{agree_held}
 use Rattle.alp_base.specs.Orders.{trans_cmp}
 use Rattle.alp_queue.specs.declared.waiter.Waiter.{Waiter}
 use Rattle.alp_queue.specs.Order.{placed}
@@ -29,10 +29,6 @@ raised (Some a) m = join_of a m
 abbrev pub joined : Held → List (Resource × Mode) → Held
 joined held [] = held
 joined held (n ∷ ns) = joined (map.insert held n.0 (raised (map.get held n.0) n.1)) ns
-
--- modes on the resources that are asked alone, each what is held there raised by what is asked
-abbrev pub IsAfter : Held → List (Resource × Mode) → Held → Type 0
-IsAfter held ns modes = (r : Resource) → map.get modes r ≡ option_map (raised (map.get held r)) (held_by ns r)
 
 -- the resources on which the mode would rise, in their order, each once, with the modes that would be left
 abbrev pub risen : Held → List (Resource × Mode) → List (Resource × Mode)

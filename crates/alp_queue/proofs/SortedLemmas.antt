@@ -1,7 +1,7 @@
 -- entries in the order of their keys, split at one of them
-use Rattle.std.proofs.Common.{◌≡◌, ℕ, zero, suc, ◌+◌, Bool, true, false, ◌&&◌, not, cond, List, [], ◌∷◌, ◌++◌, take, drop, slice_get, Option, Some, None, is_some, refl, sym, ap, subst, ◌∙◌, arith}
+use Rattle.std.proofs.Common.{◌≡◌, ℕ, zero, suc, ◌+◌, Bool, true, false, ◌&&◌, not, cond, List, [], ◌∷◌, ◌++◌, take, drop, map as list_map, slice_get, Option, Some, None, is_some, refl, sym, ap, subst, ◌∙◌, arith}
 use Rattle.std.proofs.Math.Dec.{T}
-use Rattle.std.proofs.lemmas.List.{take-append-drop}
+use Rattle.std.proofs.lemmas.List.{take-append-drop, map-append}
 use Rattle.std.specs.List.{AllByRecursion, position_or_len}
 use Rattle.std.specs.Option.{option_or, option_and_then, unwrap_or}
 use Rattle.std.specs.declared.cmp.Ordering.{Ordering}
@@ -253,7 +253,7 @@ module _ {K X : Type 0} {R : K → K → Ordering} (total : IsTotalOrder R) wher
   abbrev pub first_tied : K → List (K × X) → Option X
   first_tied k es = option_and_then (λ e. cond (is_eq (R e.0 k)) (Some e.1) None) (slice_get es 0)
 
-  above-rest : (k : K) (es : List (K × X)) → T (is_sorted R es) → StartsFrom k es → first_tied k es ≡ None → AreAbove k es
+  pub above-rest : (k : K) (es : List (K × X)) → T (is_sorted R es) → StartsFrom k es → first_tied k es ≡ None → AreAbove k es
   above-rest k [] h from none = tt
   above-rest k (e ∷ es) h from none = go (is_eq (R e.0 k)) refl none
     where
@@ -268,7 +268,7 @@ module _ {K X : Type 0} {R : K → K → Ordering} (total : IsTotalOrder R) wher
       ap (λ xs. puts xs (ls ++ e ∷ rs)) (sym (take-append-drop n es))
       ∙ puts-apart (take n es) (drop n es) ls e rs (taken-below e.0 es) (above-rest e.0 (drop n es) (drop-sorted n es h) (rest-starts e.0 es) none) (lefts-below ls e rs k)
 
-  tied-first : (k : K) (es : List (K × X)) (x : X) → first_tied k es ≡ Some x → (d : K × X) × (es ≡ d ∷ drop 1 es) × (R d.0 k ≡ Equal) × (d.1 ≡ x)
+  pub tied-first : (k : K) (es : List (K × X)) (x : X) → first_tied k es ≡ Some x → (d : K × X) × (es ≡ d ∷ drop 1 es) × (R d.0 k ≡ Equal) × (d.1 ≡ x)
   tied-first k [] x p = let wrong : true ≡ false = sym (ap is_some p) in cc
   tied-first k (e ∷ es) x p = go (R e.0 k) refl p
     where
@@ -287,3 +287,41 @@ module _ {K X : Type 0} {R : K → K → Ordering} (total : IsTotalOrder R) wher
       ∙ puts-over (take n es) it.0 behind ls e rs (taken-below e.0 es) it.2
       (behind-tied e.0 it.0 behind (subst (λ xs. T (is_sorted R xs)) it.1 (drop-sorted n es h)) it.2) (lefts-below ls e rs k)
       ∙ ap (λ y. puts (take n es) ls ++ (e.0, y) ∷ puts behind rs) it.3
+
+-- ---- what stands at each of several keys
+
+module _ {K X W : Type 0} {R : K → K → Ordering} (total : IsTotalOrder R) (g : K × X → Option X → W) where
+  -- what each of the second entries comes to with what the first have at its key
+  abbrev pub looks : List (K × X) → List (K × X) → List W
+  looks es ds = list_map (λ d. g d (find R d.0 es)) ds
+
+  looks-left : (ds ls : List (K × X)) (e : K × X) (rs : List (K × X)) → AreBelow total e.0 ds → T (is_sorted R (ls ++ e ∷ rs)) → looks (ls ++ e ∷ rs) ds ≡ looks ls ds
+  looks-left [] ls e rs h k = refl
+  looks-left (d ∷ ds) ls e rs h k = λ i. g d (find-left total d.0 ls e rs k h.0 i) ∷ looks-left ds ls e rs h.1 k i
+
+  looks-right : (ds ls : List (K × X)) (e : K × X) (rs : List (K × X)) → AreAbove total e.0 ds → T (is_sorted R (ls ++ e ∷ rs)) → looks (ls ++ e ∷ rs) ds ≡ looks rs ds
+  looks-right [] ls e rs h k = refl
+  looks-right (d ∷ ds) ls e rs h k = λ i. g d (find-right total d.0 ls e rs k h.0 i) ∷ looks-right ds ls e rs h.1 k i
+
+  -- lesser keys are looked up to the left of an entry, and greater ones to its right
+  pub looks-around : (es ls : List (K × X)) (e : K × X) (rs : List (K × X)) → T (is_sorted R es) → T (is_sorted R (ls ++ e ∷ rs)) → first_tied total e.0 (drop (lesser_in total e.0 es) es) ≡ None
+      → looks (ls ++ e ∷ rs) es ≡ looks ls (take (lesser_in total e.0 es) es) ++ looks rs (drop (lesser_in total e.0 es) es)
+  looks-around es ls e rs h k none =
+      let n : ℕ = lesser_in total e.0 es in
+      ap (looks (ls ++ e ∷ rs)) (sym (take-append-drop n es))
+      ∙ map-append (λ d. g d (find R d.0 (ls ++ e ∷ rs))) (take n es) (drop n es)
+      ∙ (λ i. looks-left (take n es) ls e rs (taken-below total e.0 es) k i ++ looks-right (drop n es) ls e rs (above-rest total e.0 (drop n es) (drop-sorted total n es h) (rest-starts total e.0 es) none) k i)
+
+  -- and one of the same key is found there
+  pub looks-in-place : ((a b : K) → R a b ≡ Equal → a ≡ b) → (es ls : List (K × X)) (e : K × X) (rs : List (K × X)) (x : X) → T (is_sorted R es) → T (is_sorted R (ls ++ e ∷ rs))
+      → first_tied total e.0 (drop (lesser_in total e.0 es) es) ≡ Some x
+      → looks (ls ++ e ∷ rs) es ≡ looks ls (take (lesser_in total e.0 es) es) ++ g (e.0, x) (Some e.1) ∷ looks rs (drop 1 (drop (lesser_in total e.0 es) es))
+  looks-in-place exact es ls e rs x h k some =
+      let n : ℕ = lesser_in total e.0 es in
+      let it = tied-first total e.0 (drop n es) x some in
+      let behind : List (K × X) = drop 1 (drop n es) in
+      ap (looks (ls ++ e ∷ rs)) (sym (take-append-drop n es) ∙ ap (λ xs. take n es ++ xs) it.1)
+      ∙ map-append (λ d. g d (find R d.0 (ls ++ e ∷ rs))) (take n es) (it.0 ∷ behind)
+      ∙ (λ i. looks-left (take n es) ls e rs (taken-below total e.0 es) k i
+      ++ g (exact it.0.0 e.0 it.2 i, it.3 i) (find-here total it.0.0 ls e rs k it.2 i)
+      ∷ looks-right behind ls e rs (behind-tied total e.0 it.0 behind (subst (λ xs. T (is_sorted R xs)) it.1 (drop-sorted total n es h)) it.2) k i)

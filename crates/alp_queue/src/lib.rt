@@ -11,9 +11,11 @@ mod needs;
 mod queue;
 mod tree;
 mod waiter;
+mod wanted;
 
 pub use locks::Locks;
 pub use modes::Modes;
 pub use needs::Needs;
 pub use queue::{Queue, conversions_come_first, conversions_stay_first};
 pub use waiter::Waiter;
+pub use wanted::Wanted;

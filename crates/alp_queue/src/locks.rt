@@ -1,10 +1,14 @@
 //! What one transaction holds.
-ghost use Rattle.std.specs.Prelude.{◌≡◌, IfOk};
+ghost use Rattle.std.specs.Prelude.{◌≡◌, IfOk, map as list_map};
 ghost use Rattle.std.specs.Option.{option_or};
 ghost use Rattle.std.specs.FinMap as map;
+ghost use Rattle.std.specs.FinMap.{find};
+ghost use Rattle.alp_base.specs.Orders.{resource_cmp};
+ghost use Rattle.alp_queue.specs.Rises.{wanted_of};
+ghost use Rattle.alp_queue.specs.Trees.{AreRising};
 
-use crate::Modes;
-use crate::tree::{Tree, get, put_all, share};
+use crate::tree::{Tree, get, look_up, put_all, share};
+use crate::{Modes, Wanted};
 use alp_base::{OutOfMemory, Resource};
 use alp_modes::Mode;
 use std::alloc::Global;
@@ -64,12 +68,23 @@ impl Locks {
         })
     }
 
-    /// These locks with those modes in place of what was there. It costs what is put, and not what is here.
-    pub fn with_all(&self, modes: &Modes) -> Result<Locks, OutOfMemory>
-        ensures { IfOk result (λ l. (r : _) → map.get l r ≡ option_or (map.get modes.now r) (map.get self.now r)) }
+    /// What is held of the resources that are asked, in their order. It looks all up in one walk, and costs what is asked.
+    pub fn look_up(&self, asked: &Modes) -> Result<Vec<Wanted>, OutOfMemory>
+        ensures { IfOk result (λ v. v.items ≡ list_map (wanted_of (map.get self.now)) (map.entries asked.now)) }
     {
-        let list = modes.entries(self.alloc)?;
-        let tree = put_all(self.alloc, &self.tree, list.as_slice())?;
+        let list = asked.entries(self.alloc)?;
+        let mut found = Vec::with_capacity(self.alloc, list.len())?;
+        look_up(&self.tree, list.as_slice(), &mut found)?;
+        Ok(found)
+    }
+
+    /// These locks with those modes in place of what was there, whose resources rise. It costs what is put, and not what
+    /// is here.
+    pub fn with_all(&self, modes: &[(Resource, Mode)]) -> Result<Locks, OutOfMemory>
+        requires { AreRising modes.now }
+        ensures { IfOk result (λ l. (r : _) → map.get l r ≡ option_or (find resource_cmp r modes.now) (map.get self.now r)) }
+    {
+        let tree = put_all(self.alloc, &self.tree, modes)?;
         Ok(Locks {
             alloc: self.alloc,
             tree,

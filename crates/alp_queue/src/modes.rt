@@ -1,12 +1,9 @@
 //! What a request comes to.
-ghost use Rattle.std.specs.Prelude.{◌≡◌, ℕ, IfOk, OnOk, OnErr, not};
-ghost use Rattle.std.specs.List.{filter};
+ghost use Rattle.std.specs.Prelude.{◌≡◌, IfOk, OnOk, OnErr};
 ghost use Rattle.std.specs.FinMap as map;
 ghost use Rattle.std.specs.BTreeMap.{IsOrdered};
 ghost use Rattle.alp_base.specs.Orders.{resource_cmp};
-ghost use Rattle.alp_queue.specs.Rises.{is_raised};
 
-use crate::{Locks, Needs};
 use alp_base::{Key, OutOfMemory, Resource};
 use alp_modes::Mode;
 use std::alloc::Global;
@@ -61,14 +58,6 @@ impl Modes {
         Ok(())
     }
 
-    /// The resources whose modes are not those of `before`, in their order, with the modes here.
-    pub fn rises_over(&self, alloc: Global, before: &Locks) -> Result<Needs, OutOfMemory>
-        ensures { IfOk result (λ n. n ≡ filter (is_raised before.now) (map.entries self.now)) }
-    {
-        let rises = raised_in(alloc, &self.modes, before)?;
-        Ok(Needs::new(rises))
-    }
-
     /// All of them, in the order of the resources.
     pub fn entries(&self, alloc: Global) -> Result<Vec<(Resource, Mode)>, OutOfMemory>
         ensures { IfOk result (λ v. v.items ≡ map.entries self.now) }
@@ -91,22 +80,4 @@ fn listed(
         list.push((*resource, *mode))?;
     }
     Ok(list)
-}
-
-// The entries of the tree whose modes are not those of before.
-fn raised_in(
-    alloc: Global,
-    modes: &BTreeMap<Resource, Mode>,
-    before: &Locks,
-) -> Result<Vec<(Resource, Mode)>, OutOfMemory>
-    ensures raised { IfOk result (λ v. v.items ≡ filter (is_raised before.now) modes.now.entries) }
-    ensures rising { IsOrdered resource_cmp modes.now }
-{
-    let mut rises = Vec::new(alloc);
-    for (resource, mode) in modes.iter() {
-        if before.get(resource) != Some(*mode) {
-            rises.push((*resource, *mode))?;
-        }
-    }
-    Ok(rises)
 }

@@ -1,10 +1,12 @@
 //! A balanced search tree of which many versions share their parts.
-ghost use Rattle.std.specs.Prelude.{◌≡◌, ◌++◌, ◌∷◌, ◌≤◌, not, IfOk, length, position};
+ghost use Rattle.std.specs.Prelude.{◌≡◌, ◌++◌, ◌∷◌, ◌≤◌, not, IfOk, OnOk, length, position, map as list_map};
 ghost use Rattle.std.specs.Ordering.{is_lt};
 ghost use Rattle.std.specs.FinMap.{find};
 ghost use Rattle.alp_base.specs.Orders.{resource_cmp};
+ghost use Rattle.alp_queue.specs.Rises.{wanted_of, unheld};
 ghost use Rattle.alp_queue.specs.Trees.{entries, entries_of, AreRising, puts, lesser_in, first_tied};
 
+use crate::Wanted;
 use alp_base::{OutOfMemory, Resource};
 use alp_modes::Mode;
 use std::alloc::Global;
@@ -206,6 +208,51 @@ fn first_at(modes: &[(Resource, Mode)], key: &Resource) -> Option<Mode>
         return None;
     }
     Some(*mode)
+}
+
+// None of these stands there.
+fn look_at_none(asked: &[(Resource, Mode)], found: &mut Vec<Wanted>) -> Result<(), OutOfMemory>
+    ensures { OnOk result (found.new.items ≡ found.old.items ++ list_map unheld asked.now) }
+{
+    for (resource, mode) in asked {
+        found.push(Wanted {
+            resource: *resource,
+            asked: *mode,
+            held: None,
+        })?;
+    }
+    Ok(())
+}
+
+/// Looks these up, whose resources rise, and puts them behind what was found before. One walk for all: it goes down a part
+/// of the tree only where one that is asked may stand.
+pub fn look_up(
+    tree: &Tree,
+    asked: &[(Resource, Mode)],
+    found: &mut Vec<Wanted>,
+) -> Result<(), OutOfMemory>
+    ensures { AreRising (entries tree.now) → AreRising asked.now → OnOk result (found.new.items ≡ found.old.items ++ list_map (wanted_of (λ r. find resource_cmp r (entries tree.now))) asked.now) }
+{
+    if asked.is_empty() {
+        return Ok(());
+    }
+    let node = match tree {
+        Tree::Empty => return look_at_none(asked, found),
+        Tree::Fork(node) => node,
+    };
+    let top: &Node = node;
+    let (resource, held) = top.entry;
+    let before = count_before(asked, &resource);
+    look_up(&top.left, &asked[..before], found)?;
+    let Some(mode) = first_at(&asked[before..], &resource) else {
+        return look_up(&top.right, &asked[before..], found);
+    };
+    found.push(Wanted {
+        resource,
+        asked: mode,
+        held: Some(held),
+    })?;
+    look_up(&top.right, &asked[before + 1..], found)
 }
 
 /// The tree with these put in, in the order of their resources.

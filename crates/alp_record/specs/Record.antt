@@ -2,7 +2,8 @@
 use Rattle.std.specs.Prelude.{◌≡◌, ◌⊎◌, ◌<◌, ◌≤◌, ℕ, ◌+◌, ◌-◌, ◌*◌, ◌/◌, ◌^◌, List, [], ◌∷◌, ◌++◌, length, take, drop, replicate}
 use Rattle.std.specs.Int.{w32, to_be_bytes}
 use Rattle.alp_disk.specs.Disk.{Image, page}
-use Rattle.alp_disk.specs.Gates.{open_byte, HasOpenGate, IsClosed}
+use Rattle.alp_disk.specs.declared.gate.TheConstants.{OPEN_GATE}
+use Rattle.alp_disk.specs.Gates.{HasOpenGate, IsClosed}
 
 -- the pages of a body of so many bytes
 abbrev pub body_pages : ℕ → ℕ
@@ -14,7 +15,7 @@ padded body = body ++ replicate (512 * body_pages (length body) - length body) 0
 
 -- a header: an open gate, the letter R, the generation, the length of the body, zeros
 unfoldable pub header : ℕ → ℕ → List ℕ
-header generation size = open_byte ∷ 82 ∷ (to_be_bytes w32 generation ++ (to_be_bytes w32 size ++ replicate 502 0))
+header generation size = OPEN_GATE ∷ 82 ∷ (to_be_bytes w32 generation ++ (to_be_bytes w32 size ++ replicate 502 0))
 
 -- n pages from `first` on hold these bytes
 abbrev pub Hold : Image → ℕ → ℕ → List ℕ → Type 0

@@ -18,7 +18,8 @@ use Rattle.alp_files.specs.declared.cell.Props.{Props}
 use Rattle.alp_files.specs.declared.change.Change.{Change}
 use Rattle.alp_files.specs.Cells.{Cells, same_name}
 use Rattle.alp_files.specs.Changes.{ArePutOnce}
-use Rattle.alp_files.specs.Counts.{used_of, file_count_of, owner_count_of, blocks_of, block_pages}
+use Rattle.alp_files.specs.Counts.{used_of, file_count_of, owner_count_of, blocks_of}
+use Rattle.alp_files.specs.declared.cell.TheConstants.{BLOCK_PAGES}
 use Rattle.alp_files.specs.Sound.{AreSound}
 use Rattle.alp_files.specs.SoundLaws.{AreSound-prop}
 use Rattle.alp_vault.specs.declared.limits.TheConstants.{FILES_PER_SERVER, OWNERS_PER_SERVER, HEAD_PAGES}
@@ -51,7 +52,7 @@ IsVolumeOf-prop s m a b = λ i. record { sound = AreSound-prop m a.sound b.sound
 
 -- whether a page of the file stands in this block, whose first page number is so many times the block's length
 abbrev pub has_block_in : Cells → FileId → ℕ → Bool
-has_block_in m f block = map.contains_key (blocks_of (map.entries m)) (PageOf f (block_pages * block))
+has_block_in m f block = map.contains_key (blocks_of (map.entries m)) (PageOf f (BLOCK_PAGES * block))
 
 -- a cell that is put is of its key's kind, and within the limits of a file
 abbrev pub fits_key : Key → Cell → Bool

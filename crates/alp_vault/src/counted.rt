@@ -7,9 +7,9 @@ ghost use Rattle.alp_files.specs.Counts.{files_at, file_count_of, used_of, block
 ghost use Rattle.alp_vault.specs.Counted.{AreCounts, places_with};
 ghost use Rattle.alp_vault.specs.Volumes.{has_block_in};
 
-use crate::limits::{BLOCK_PAGES, BLOCKS_PER_FILE};
+use crate::limits::BLOCKS_PER_FILE;
 use alp_base::{FileId, Key, OutOfMemory};
-use alp_files::{Cell, CellMap};
+use alp_files::{BLOCK_PAGES, Cell, CellMap};
 use std::alloc::Global;
 use std::marker::Model;
 

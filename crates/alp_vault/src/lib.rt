@@ -14,7 +14,7 @@ mod sweep;
 mod vault;
 
 pub use laws::counts_leave_log_room;
-pub use limits::{BLOCK_PAGES, BLOCKS_PER_FILE, FILES_PER_SERVER, HEAD_PAGES, OWNERS_PER_SERVER};
+pub use limits::{BLOCKS_PER_FILE, FILES_PER_SERVER, HEAD_PAGES, OWNERS_PER_SERVER};
 pub use mem_vault::MemVault;
 pub use vault::Vault;
 

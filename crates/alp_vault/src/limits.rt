@@ -9,8 +9,5 @@ pub const OWNERS_PER_SERVER: u32 = 256;
 /// The home pages before the first place: the header, the directory, and the owners' records.
 pub const HEAD_PAGES: u32 = 257;
 
-/// As many pages of a file are found by one index page.
-pub const BLOCK_PAGES: u32 = 128;
-
 /// The most blocks of a file.
 pub const BLOCKS_PER_FILE: u32 = 32;

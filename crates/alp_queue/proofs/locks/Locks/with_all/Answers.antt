@@ -1,7 +1,7 @@
 use Rattle.std.proofs.Common.{◌≡◌, List, ap, sym, subst, ◌∙◌}
 use Rattle.std.specs.Option.{option_or}
 use Rattle.std.specs.FinMap as map
-use Rattle.std.specs.FinMap.{find, get-from_sorted, get-entries, entries_sorted}
+use Rattle.std.specs.FinMap.{find, get-from_sorted}
 use Rattle.alp_base.specs.declared.key.Resource.{Resource}
 use Rattle.alp_modes.specs.declared.Mode.{Mode}
 use Rattle.alp_base.specs.Orders.{resource_cmp, resources_total}
@@ -11,17 +11,14 @@ use Rattle.alp_queue.proofs.locks.Locks.with_all.Goals as goal
 
 pub invariant_of-result : goal.invariant_of-result
 invariant_of-result c =
-    let same : c.as_slice.result.now ≡ map.entries c.args.modes.now = c.as_slice.ensures.value ∙ c.in_ok-list.ensures in
-    let put : entries c.in_ok-tree.tree ≡ puts c.as_slice.result.now (entries c.self.inside.tree) = c.in_ok-tree.ensures c.self.invariant (subst AreRising (sym same) (entries_sorted c.args.modes.now)) in
-    subst AreRising (sym put) (puts-sorted resources_total c.as_slice.result.now (entries c.self.inside.tree) c.self.invariant)
+    let put : entries c.in_ok-tree.tree ≡ puts c.args.modes.now (entries c.self.inside.tree) = c.in_ok-tree.ensures c.self.invariant c.requires in
+    subst AreRising (sym put) (puts-sorted resources_total c.args.modes.now (entries c.self.inside.tree) c.self.invariant)
 
 pub returns : goal.returns
 returns c r =
     let before : List (Resource × Mode) = entries c.self.inside.tree in
-    let list : List (Resource × Mode) = c.as_slice.result.now in
-    let same : list ≡ map.entries c.args.modes.now = c.as_slice.ensures.value ∙ c.in_ok-list.ensures in
-    let put : entries c.in_ok-tree.tree ≡ puts list before = c.in_ok-tree.ensures c.self.invariant (subst AreRising (sym same) (entries_sorted c.args.modes.now)) in
-    let new : find resource_cmp r list ≡ map.get c.args.modes.now r = ap (find resource_cmp r) same ∙ sym (get-entries c.args.modes.now r) in
+    let list : List (Resource × Mode) = c.args.modes.now in
+    let put : entries c.in_ok-tree.tree ≡ puts list before = c.in_ok-tree.ensures c.self.invariant c.requires in
     let old : find resource_cmp r before ≡ map.get c.args.self.now r = sym (get-from_sorted resource_cmp before r c.self.invariant) ∙ ap (λ m. map.get m r) c.self.view_is in
     get-from_sorted resource_cmp (entries c.in_ok-tree.tree) r (subst AreRising (sym put) (puts-sorted resources_total list before c.self.invariant))
-    ∙ ap (find resource_cmp r) put ∙ find-puts resources_total r list before ∙ (λ i. option_or (new i) (old i))
+    ∙ ap (find resource_cmp r) put ∙ find-puts resources_total r list before ∙ ap (option_or (find resource_cmp r list)) old
