@@ -2,10 +2,9 @@
 use Rattle.std.specs.FinMap as map
 use Rattle.std.specs.Prelude.{codes, cond, unwrap_or, slice_get, Option, None, Some}
 use Rattle.std.specs.FinMap.{get-insert}
-use Rattle.std.proofs.Common.{◌≡◌, ℕ, ◌≤◌, List, [], ◌∷◌, refl, sym, ap, ◌∙◌, inl, arith}
+use Rattle.std.proofs.Common.{◌≡◌, ℕ, ◌≤◌, List, [], ◌∷◌, ◌++◌, refl, sym, ap, ◌∙◌, inl, arith}
 use Rattle.alp_base.specs.Keys.{key_cmp}
 use Rattle.alp_base.specs.KeyLaws.{keys_total}
-use Rattle.alp_base.specs.declared.ids.FileId.{FileId}
 use Rattle.alp_base.specs.declared.ids.JoinNo.{JoinNo}
 use Rattle.alp_base.specs.declared.ids.TransId.{TransId}
 use Rattle.alp_base.specs.declared.key.Key.TheVariants.{Leader, OwnerOf}
@@ -30,7 +29,7 @@ use Rattle.alp_journal.specs.Moves.{next}
 use Rattle.alp_journal.specs.Laws.{IsLawfulEntry, IsLawful}
 use Rattle.alp_history.specs.Examples.{trans}
 use Rattle.alp_history.specs.RightLog.{owner_with, opening}
-use Rattle.alp_history.specs.RightJournals.{hello, first_file, start, creates}
+use Rattle.alp_history.specs.WrongJournals.{hello, begun, first_file, start, creates}
 use Rattle.alp_history.proofs.Worked.{life_at}
 use Rattle.alp_history.proofs.Quotas.{ann, IsFresh, answer_fresh, quota_seen}
 use Rattle.alp_history.proofs.Places.{some-same}
@@ -46,7 +45,7 @@ abbrev js : List JoinNo
 js = []
 
 abbrev entry : ℕ → Entry
-entry i = unwrap_or (slice_get (creates first_file) i) (hello 1 0)
+entry i = unwrap_or (slice_get (begun ++ creates first_file ∷ []) i) hello
 
 abbrev event_of : ℕ → Event
 event_of i = (entry i).event
@@ -88,7 +87,7 @@ known_1 : Only ts js at_1
 known_1 = only_next ts js at_0 (entry 0) refl known_0
 
 entry_0 : IsLawfulEntry at_0 (entry 0)
-entry_0 = by_laws at_0 (entry 0) refl refl tt
+entry_0 = by_laws at_0 (entry 0) refl refl refl tt
     (alone ts js trans at_1 known_1 refl)
     ((refl, refl), tt) tt tt (refl, refl) tt
 
@@ -99,7 +98,7 @@ known_2 : Only ts js at_2
 known_2 = only_next ts js at_1 (entry 1) refl known_1
 
 entry_1 : IsLawfulEntry at_1 (entry 1)
-entry_1 = by_laws at_1 (entry 1) refl refl (begins (event_of 1) at_1 trans 1 (codes "Admin") 0 refl, tt)
+entry_1 = by_laws at_1 (entry 1) refl refl refl (begins (event_of 1) at_1 trans 1 (codes "Admin") 0 refl, tt)
     (alone ts js trans at_2 known_2 refl)
     ((refl, refl), tt) (tt, tt) tt (refl, refl) tt
 
@@ -116,7 +115,7 @@ known_3 : Only ts js at_3
 known_3 = only_next ts js at_2 (entry 2) refl known_2
 
 entry_2 : IsLawfulEntry at_2 (entry 2)
-entry_2 = by_laws at_2 (entry 2) refl refl (
+entry_2 = by_laws at_2 (entry 2) refl refl refl (
   grants (event_of 2) at_2 trans make (λ l h. ap (λ (x : Life). x.vote) (sym (some-same (life_at at_2 trans) l h)), alone ts js trans granted_2 known_granted refl) (inl refl),
   (
     performs_so (event_of 2) granted_2 trans make_done (λ f h. sym (some-same first_file f h)) (
@@ -136,5 +135,5 @@ entry_2 = by_laws at_2 (entry 2) refl refl (
     (alone ts js trans at_3 known_3 refl)
     ((refl, refl), tt) (tt, tt) tt (refl, refl) tt
 
-pub lawful : IsLawful (opening 1) (creates first_file)
+pub lawful : IsLawful (opening 1) (begun ++ creates first_file ∷ [])
 lawful = (entry_0, (entry_1, (entry_2, tt)))

@@ -147,7 +147,7 @@ filter-in p x (y ∷ ys) i = go (λ k. filter-in p x ys k) (p y) refl i
     go more true e i = elim i [ inl a ↦ (inl a, ap p a ∙ e) | inr k ↦ (let r = more k in (inr r.0, r.1)) ]
     go more false e i = (let r = more i in (inr r.0, r.1))
 
-in-filter : {A : Type 0} (p : A → Bool) (x : A) (xs : List A) → IsIn x xs → p x ≡ true → IsIn x (filter p xs)
+pub in-filter : {A : Type 0} (p : A → Bool) (x : A) (xs : List A) → IsIn x xs → p x ≡ true → IsIn x (filter p xs)
 in-filter p x [] i e = absurd i
 in-filter p x (y ∷ ys) i e = go (λ k. in-filter p x ys k e) (p y) refl i
   where

@@ -1,12 +1,12 @@
 -- what each server of a log applied is one thread's history, at each place of its journal
-use Rattle.std.specs.Prelude.{Bool, true, false, cond, ◌&&◌, Option, Some}
+use Rattle.std.specs.Prelude.{Bool, true, false, cond, not, ◌&&◌, Option, Some}
 use Rattle.std.specs.FinMap as map
 use Rattle.std.proofs.Common.{◌≡◌, ℕ, ◌≤◌, List, [], ◌∷◌, slice_get, refl, sym, ap, subst, ◌∙◌, arith, inl, inr, le_refl}
 use Rattle.alp_base.specs.declared.ids.TransId.{TransId}
 use Rattle.alp_base.specs.declared.ids.Stamp.{Stamp}
 use Rattle.alp_files.specs.Holdings.{DoAgree}
 use Rattle.alp_files.specs.Cells.{Cells}
-use Rattle.alp_files.specs.Edits.{Edit, Drop, Cut, Put, edits_map}
+use Rattle.alp_files.specs.Edits.{Edit, Drop, Cut, Put}
 use Rattle.alp_files.specs.History.{IsSerial, serial_end, starting}
 use Rattle.alp_files.proofs.FilesLemmas.{same-some}
 use Rattle.alp_files.proofs.LookLemmas.{PutsSized}
@@ -23,16 +23,16 @@ use Rattle.alp_journal.specs.Participant.{Ready, phase_noted, is_ready}
 use Rattle.alp_journal.specs.Holder.{Life, holder_opened, lives_noted, early_life, commits}
 use Rattle.alp_journal.specs.State.{State, opened, state_deed}
 use Rattle.alp_journal.specs.Moves.{next}
-use Rattle.alp_history.specs.Log.{Log, journal_of, opening_of, state_at, final, IsIn, is_noted, IsSoundOpening, PutsAreSized}
-use Rattle.alp_history.specs.Theorems.{IsProper, EachServer}
+use Rattle.alp_history.specs.Log.{Log, journal_of, opening_of, state_at, final, IsIn, held, is_noted, IsSoundOpening, PutsAreSized}
+use Rattle.alp_history.specs.Theorems.{IsProper, begun_on, IsOneThreadAt, EachServer}
 use Rattle.alp_history.proofs.Places.{at, keeps-from}
 use Rattle.alp_journal.proofs.IdLemmas.{same_trans-true}
 use Rattle.alp_journal.proofs.OneServer.{IsGoodEarly, IsHeld, in_order, one_thread, reads_kept}
 use Rattle.alp_history.proofs.Logs.{lawful-at, last}
 use Rattle.alp_history.proofs.Agreed.{size, home-at, told-at}
-use Rattle.alp_history.proofs.Starts.{held-same}
+use Rattle.alp_history.proofs.Starts.{held-same, held-none}
 use Rattle.alp_history.proofs.Linked.{IsLinkedUp, same_join-self, linked-opened}
-use Rattle.alp_history.proofs.Turned.{is_left, Began}
+use Rattle.alp_history.proofs.Turned.{is_left, is_spent, Began}
 use Rattle.alp_history.proofs.HeldAlong.{Along_, Resolves, plain-entry, restart-entry, IsSameCore, Knows}
 use Rattle.alp_base.specs.declared.ids.JoinNo.{JoinNo}
 use Rattle.alp_journal.specs.Deeds.{Deed}
@@ -71,11 +71,20 @@ module _ (log : Log) (proper : IsProper log) where
       go false h = h
 
   began-there : (n : ℕ) → Began log proper n (is_left log proper (phase_noted (opening_of log n).ready)) (opening_of log n).cells
-  began-there n = (([], refl), held-same (is_left log proper (phase_noted (opening_of log n).ready)) (is_noted log) (opening_of log n).ready (λ r i. ap (λ b. is_noted log r.join && b) (noted-ready (opening_of log n).ready r i) ∙ and-true (is_noted log r.join)) (opening_of log n).cells)
+  began-there n = (nothing-spent, held-same (is_left log proper (phase_noted (opening_of log n).ready)) (is_noted log) (opening_of log n).ready (λ r i. ap (λ b. is_noted log r.join && b) (noted-ready (opening_of log n).ready r i) ∙ and-true (is_noted log r.join)) (opening_of log n).cells)
     where
       and-true : (b : Bool) → (b && true) ≡ b
       and-true true = refl
       and-true false = refl
+
+      none-spent : (b : Bool) → (b && not b) ≡ false
+      none-spent true = refl
+      none-spent false = refl
+
+      nothing-spent : held (is_spent log proper (is_left log proper (phase_noted (opening_of log n).ready))) (opening_of log n).ready (opening_of log n).cells ≡ (opening_of log n).cells
+      nothing-spent =
+          held-none (is_spent log proper (is_left log proper (phase_noted (opening_of log n).ready))) (opening_of log n).ready
+          (λ r i. ap (λ b. is_noted log r.join && not (is_noted log r.join && b)) (noted-ready (opening_of log n).ready r i) ∙ ap (λ b. is_noted log r.join && not b) (and-true (is_noted log r.join)) ∙ none-spent (is_noted log r.join)) (opening_of log n).cells
 
   opened_held : (n : ℕ) → IsHeld (Began log proper n (is_left log proper (phase_noted (opening_of log n).ready))) (holder_opened (opening_of log n))
   opened_held n = record {
@@ -146,14 +155,20 @@ module _ (log : Log) (proper : IsProper log) where
   along-end n = subst (Along_ log proper Nothing_ (λ n s m c x. tt) (λ n m d a b c e f g h. tt) n) (last log proper.lawful proper.linked n) (plain-at n (size log proper n) (omega arith)).0
 
   -- at the end of the log the applied transactions of each server are one thread's history, in the order of their stamps
-  pub each-server : (n : ℕ) → (early : List Edit) × IsSerial (final log n).holder.server (starting (edits_map early (opening_of log n).cells)) (in_order (final log n).holder)
-      × ((serial_end (final log n).holder.server (starting (edits_map early (opening_of log n).cells)) (in_order (final log n).holder)).files ≡ (final log n).holder.cells)
+  pub each-server : (n : ℕ) → IsOneThreadAt log n
   each-server n =
       let h = (along-end n).held in
       let one = one_thread (Began log proper n (is_left log proper (final log n).phases)) (final log n).holder h in
-      let at : Cells → Type 0 = λ m. IsSerial (final log n).holder.server (starting m) (in_order (final log n).holder) × ((serial_end (final log n).holder.server (starting m) (in_order (final log n).holder)).files ≡ (final log n).holder.cells) in
-      let there = subst at (sym (h.from).0.1) one in
-      ((h.from).0.0, there.0, there.1)
+      let base : h.base ≡ begun_on log n = sym (h.from).0 ∙ held-same (is_spent log proper (is_left log proper (final log n).phases)) (λ j. is_noted log j && not (is_ready ((final log n).phases j))) (opening_of log n).ready (λ r i. spent (is_noted log r.join) (is_ready ((final log n).phases r.join))) (opening_of log n).cells in
+      record {
+        replies = subst (λ (m : Cells). IsSerial (final log n).holder.server (starting m) (in_order (final log n).holder)) base one.0;
+        files = subst (λ (m : Cells). (serial_end (final log n).holder.server (starting m) (in_order (final log n).holder)).files ≡ (final log n).holder.cells) base one.1;
+        begins = ap (held (λ j. is_noted log j && is_ready ((final log n).phases j)) (opening_of log n).ready) (sym base) ∙ (h.from).1;
+      }
+    where
+      spent : (b c : Bool) → (b && not (b && c)) ≡ (b && not c)
+      spent true c = refl
+      spent false c = refl
 
   -- while a part may read a leaf at a server, no commit of another part changes the cell there
   pub reads-stay : (n i : ℕ) → i ≤ size log proper n → (x : Stamp) (l m : Life) (u : TransId) → (state_at log n i).holder.lives x.trans ≡ Some l → (state_at log n i).holder.lives u ≡ Some m → same_trans u x.trans ≡ false
@@ -161,4 +176,4 @@ module _ (log : Log) (proper : IsProper log) where
   reads-stay n i le x l m u a b away = reads_kept (Began log proper n (is_left log proper (state_at log n i).phases)) (state_at log n i).holder (((plain-at n i le).0).held) x l u m a b away
 
 pub each_server : EachServer
-each_server log proper n = (let x = each-server log proper n in (x.0, (x.1, x.2)))
+each_server log proper n = each-server log proper n

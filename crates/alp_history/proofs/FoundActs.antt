@@ -12,7 +12,7 @@ use Rattle.alp_journal.specs.declared.event.Event.{Event}
 use Rattle.alp_journal.specs.declared.event.Event.TheVariants as event
 use Rattle.alp_journal.specs.declared.entry.Entry.{Entry}
 use Rattle.alp_history.specs.Log.{Log, journal_of, state_at, decided, IsIn}
-use Rattle.alp_history.specs.Theorems.{IsProper, ListsFound, Listing}
+use Rattle.alp_history.specs.Theorems.{IsProper}
 use Rattle.alp_journal.specs.Along.{Along, Where, state_after}
 use Rattle.alp_journal.specs.Ids.{same_trans}
 use Rattle.alp_journal.specs.Deeds.{Deed, Begins, Joins, Enters, Quits, Aborts, Grants, Performs, Releases, Readies, Applies, Registers, Finishes, Hears, Decides, Ends, Acknowledges, Forgets, Restarts}
@@ -25,7 +25,7 @@ use Rattle.alp_journal.proofs.Origins.{IsEventFrom, event-from}
 use Rattle.alp_journal.proofs.IdLemmas.{same_trans-itself}
 use Rattle.alp_history.proofs.Places.{in-list, state-append}
 use Rattle.alp_history.proofs.Rights.{IsRightDeed}
-use Rattle.alp_history.proofs.ListedActs.{stays, deeds-of, listed-by, lists}
+use Rattle.alp_history.proofs.ListedActs.{stays, deeds-of, listed-by}
 use Rattle.alp_history.proofs.Logs.{lawful-at, state-suc}
 use Rattle.alp_history.proofs.BegunOrder.{in-left, in-right}
 use Rattle.std.proofs.lemmas.Bool.Decides.{nat_tests}
@@ -122,7 +122,7 @@ along-left : (law : State → Deed → Type 0) (xs ys : List Deed) (s : State) �
 along-left law [] ys s h = tt
 along-left law (x ∷ xs) ys s h = (h.0, along-left law xs ys (state_deed s x) h.1)
 
-along-mid : (law : State → Deed → Type 0) (xs : List Deed) (d : Deed) (ys : List Deed) (s : State) → Along state_deed law s (xs ++ d ∷ ys) → law (state_after state_deed s xs) d
+pub along-mid : (law : State → Deed → Type 0) (xs : List Deed) (d : Deed) (ys : List Deed) (s : State) → Along state_deed law s (xs ++ d ∷ ys) → law (state_after state_deed s xs) d
 along-mid law [] d ys s h = h.0
 along-mid law (x ∷ xs) d ys s h = along-mid law xs d ys (state_deed s x) h.1
 
@@ -183,21 +183,21 @@ found-deed ready clock stamps from e s r evs tail dones x js froms law timely sa
 
 -- ---- a stopped entry and the restart behind it
 
--- the write is the decision, and behind it the stop
-stop-acts : (acts : List Act) (x : Stamp) (js : List JoinNo) → IsStopped acts → IsIn (act.Decided x js) acts → (b : Act) × (acts ≡ act.Decided x js ∷ b ∷ [])
-stop-acts [] x js h i = absurd h
-stop-acts (a ∷ []) x js h i = elim i [
-  | inl e ↦ absurd (let w : is_stop (act.Decided x js) ≡ true = ap is_stop e ∙ h in let no : false ≡ true = w in let never : ⊥ = cc in never)
+-- the one write, and behind it the stop
+pub stop-acts : (acts : List Act) (w : Act) → is_stop w ≡ false → IsStopped acts → IsIn w acts → (b : Act) × (acts ≡ w ∷ b ∷ [])
+stop-acts [] w n h i = absurd h
+stop-acts (a ∷ []) w n h i = elim i [
+  | inl e ↦ (let wrong : false ≡ true = sym n ∙ ap is_stop e ∙ h in cc)
   | inr none ↦ absurd none
 ]
-stop-acts (a ∷ b ∷ []) x js h i = elim i [
+stop-acts (a ∷ b ∷ []) w n h i = elim i [
   | inl e ↦ (b, ap (λ z. z ∷ b ∷ []) (sym e))
   | inr more ↦ elim more [
-    | inl e ↦ absurd (let w : is_stop (act.Decided x js) ≡ true = ap is_stop e ∙ h.1 in let no : false ≡ true = w in let never : ⊥ = cc in never)
+    | inl e ↦ (let wrong : false ≡ true = sym n ∙ ap is_stop e ∙ h.1 in cc)
     | inr none ↦ absurd none
   ]
 ]
-stop-acts (a ∷ b ∷ c ∷ acts) x js h i = absurd h
+stop-acts (a ∷ b ∷ c ∷ acts) w n h i = absurd h
 
 prefix-stays : (xs ys : List Deed) (s : State) (t : TransId) (y : Stamp × List JoinNo) → decision_in ((state_after state_deed s xs).fates t) ≡ Some y → decision_in ((state_after state_deed s (xs ++ ys)).fates t) ≡ Some y
 prefix-stays xs ys s t y h = ap (λ (z : State). decision_in (z.fates t)) (state-append state_deed s xs ys) ∙ stays ys (state_after state_deed s xs) t y h
@@ -256,14 +256,13 @@ module _ (log : Log) (proper : IsProper log) where
       after : decision_in ((next (halted (state_at log n i) (record { event = ev; reply = r; acts = act.Decided x js ∷ b ∷ [] })) (record { event = event.Restart; reply = q; acts = act.Regained epoch clock ready stamps ∷ [] })).fates x.trans) ≡ Some (x, js)
       after = prefix-stays ((kept ++ Restarts epoch clock ∷ []) ++ []) [] down x.trans (x, js) (prefix-stays (kept ++ Restarts epoch clock ∷ []) [] down x.trans (x, js) (prefix-stays kept (Restarts epoch clock ∷ []) down x.trans (x, js) found))
 
-  pub finds : ListsFound log
+  pub finds : (n i epoch clock : ℕ) (e f : Entry) (ready : List JoinNo) (stamps : List Stamp) (x : Stamp) (js : List JoinNo)
+      → slice_get (journal_of log n) i ≡ Some e → slice_get (journal_of log n) (suc i) ≡ Some f → stops e ≡ true → IsIn (act.Decided x js) e.acts
+      → f.event ≡ event.Restart → f.acts ≡ act.Regained epoch clock ready stamps ∷ [] → x.ts ≤ clock → IsIn (x, js) (decided log)
   finds n i epoch clock e f ready stamps x js at behind stopped stands restarts regained late =
       let law = lawful-at log proper.lawful proper.linked n i e at in
-      let shape = stop-acts e.acts x js (subst (λ b. Where b (IsStopped e.acts × TellsStop e.event e.reply) (Unit {0})) stopped law.stopped).0 stands in
+      let shape = stop-acts e.acts (act.Decided x js) refl (subst (λ b. Where b (IsStopped e.acts × TellsStop e.event e.reply) (Unit {0})) stopped law.stopped).0 stands in
       let same : e ≡ record { event = e.event; reply = e.reply; acts = act.Decided x js ∷ shape.0 ∷ [] } = λ k. record { event = e.event; reply = e.reply; acts = shape.1 k } in
       let again : f ≡ record { event = event.Restart; reply = f.reply; acts = act.Regained epoch clock ready stamps ∷ [] } = λ k. record { event = restarts k; reply = f.reply; acts = regained k } in
       found-at n i epoch clock ready stamps x js e.event e.reply f.reply shape.0 (at ∙ ap (λ (z : Entry). Some z) same) (behind ∙ ap (λ (z : Entry). Some z) again)
       (sym (ap (λ (z : Entry). stops z) same) ∙ stopped) late
-
-pub listing : Listing
-listing log proper = (lists log proper, finds log proper)

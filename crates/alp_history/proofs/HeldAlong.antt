@@ -97,7 +97,7 @@ applied-stays x d j p h =
     subst (λ q. IsAt x (phase_after d j q)) (sym h)
     (phase-cases (IsAt x) d j (Applied x.trans x) refl (λ t c w e. refl) refl (λ ts. refl) (λ y e. refl) refl (λ t c k e. refl) refl)
 
-applies-there : (x : Stamp) (j : JoinNo) (c ts : ℕ) (p : Phase) → p ≡ Ready x.trans c ts → IsAt x (phase_after (Applies j x) j p)
+pub applies-there : (x : Stamp) (j : JoinNo) (c ts : ℕ) (p : Phase) → p ≡ Ready x.trans c ts → IsAt x (phase_after (Applies j x) j p)
 applies-there x j c ts p h = subst (λ q. IsAt x (phase_after (Applies j x) j q)) (sym h) (go (same_join j j) (same_join-itself j) (same_trans x.trans x.trans) (same_trans-itself x.trans))
   where
     go : (a : Bool) → a ≡ true → (b : Bool) → b ≡ true → cond a (cond b (Applied x.trans x) (Ready x.trans c ts)) (Ready x.trans c ts) ≡ Applied x.trans x

@@ -35,7 +35,7 @@ use Rattle.alp_journal.specs.Holder.{Holder, Life, grants, performs, readies, co
 use Rattle.alp_journal.specs.State.{State, state_deed}
 use Rattle.alp_journal.specs.Holding.{IsNewStamp, MayDo}
 use Rattle.alp_history.specs.Log.{Log, state_at, final, IsIn, Decision, decided, start_of, left_at, left_there, left_of_each, latest_in, latest}
-use Rattle.alp_history.specs.Theorems.{IsProper, IsDecided, Findings}
+use Rattle.alp_history.specs.Theorems.{IsProper, IsDecided, FindsLatest}
 use Rattle.alp_history.proofs.Places.{some-same, all-in}
 use Rattle.alp_journal.proofs.IdLemmas.{same_trans-true, same_trans-itself}
 use Rattle.alp_history.proofs.Fates.{decision-stays, IsOver}
@@ -179,6 +179,17 @@ module _ (log : Log) (n : ℕ) (k : Key) (x : Stamp) where
           ]))
           ∙ (λ i. latest_in k x (cond (is_lt (stamp_cmp (key i) x)) (left_at k old (value i)) old) bs)
 
+-- a stamp at which something is committed now was not there
+module _ (log : Log) (proper : IsProper log) (c : ℕ) (m : State) (e : Deed) (held : IsHeld (Began log proper c (is_left log proper m.phases)) m.holder) (may : MayDo m.holder e) where
+  pub commit-new : (z : Stamp) (w : Life) → IsCommit z e → m.holder.lives z.trans ≡ Some w → w.is_early ≡ false → IsNewStamp z m.holder.applied
+  commit-new z w commit is young = elim commit [
+    | inl a ↦
+        let late : m.holder.clock < z.ts = (subst (MayDo m.holder) a.1 may).0 in
+        let low : m.holder.kept ≤ m.holder.clock = held.order in
+        subst (IsNewStamp z) held.list (items-new z held.parts (others-earlier z m.holder.kept held.parts (omega (arith, late, low)) held.below))
+    | inr a ↦ elim ((subst (MayDo m.holder) a.1 may) w is) [ inl early ↦ absurd (let wrong : true ≡ false = sym early ∙ young in cc) | inr v ↦ v.4 ]
+  ]
+
 -- ---- what is applied later
 
 module _ (log : Log) (proper : IsProper log) (x : Stamp) (d : IsDecided log x) (n i : ℕ) (i-le : i ≤ size log proper n) (l : Life) (lives : (state_at log n i).holder.lives x.trans ≡ Some l) (new : at_key x (state_at log n i).holder.applied ≡ None) (k : Key) (reads : Reads l.held k) where
@@ -227,16 +238,6 @@ module _ (log : Log) (proper : IsProper log) (x : Stamp) (d : IsDecided log x) (
     )
 
     module _ (c : ℕ) (m : State) (e : Deed) (held : IsHeld (Began log proper c (is_left log proper m.phases)) m.holder) (may : MayDo m.holder e) where
-      -- a stamp at which something is committed now was not there
-      commit-new : (z : Stamp) (w : Life) → IsCommit z e → m.holder.lives z.trans ≡ Some w → w.is_early ≡ false → IsNewStamp z m.holder.applied
-      commit-new z w commit is young = elim commit [
-        | inl a ↦
-            let late : m.holder.clock < z.ts = (subst (MayDo m.holder) a.1 may).0 in
-            let low : m.holder.kept ≤ m.holder.clock = held.order in
-            subst (IsNewStamp z) held.list (items-new z held.parts (others-earlier z m.holder.kept held.parts (omega (arith, late, low)) held.below))
-        | inr a ↦ elim ((subst (MayDo m.holder) a.1 may) w is) [ inl early ↦ absurd (let wrong : true ≡ false = sym early ∙ young in cc) | inr v ↦ v.4 ]
-      ]
-
       kept-other : (z : Stamp) (es : List Edit) → IsNewStamp z m.holder.applied → at_key y m.holder.left ≡ Some es → y ≡ z → ⊥
       kept-other z es fresh at is =
           let has = left-has m.holder.server (starting held.base) m.holder.applied y es (ap (at_key y) held.left_so ∙ at) in
@@ -248,7 +249,7 @@ module _ (log : Log) (proper : IsProper log) (x : Stamp) (d : IsDecided log x) (
       (
         left-cases (λ fs. (es : List Edit) → at_key y fs ≡ Some es → Fine c (state_deed m e) es) m.holder (λ es at. next es ((q.1).0 es at)) e (λ z w commit is young es at. put_in z w is young es at (stamp_cmp y z) refl),
         left-cases (λ fs. (es : List Edit) → at_key y before ≡ Some es → at_key y fs ≡ Some es) m.holder (q.1).1 e
-            (λ z w commit is young es at. put-find y z w.edits m.holder.left (kept-other c m e held may z es (commit-new c m e held may z w commit is young) ((q.1).1 es at)) ∙ (q.1).1 es at),
+            (λ z w commit is young es at. put-find y z w.edits m.holder.left (kept-other c m e held may z es (commit-new log proper c m e held may z w commit is young) ((q.1).1 es at)) ∙ (q.1).1 es at),
       ),
     )
       where
@@ -414,5 +415,5 @@ module _ (log : Log) (proper : IsProper log) (x : Stamp) (d : IsDecided log x) (
       found-there log proper x d n i i-le l lives new k reads
       ∙ sym (same-latest log n k x (decided log) before (map.get (start_of log n) k) (decided-sorted log proper) sorted-before tells-so knows-so)
 
-pub findings : Findings
+pub findings : (log : Log) → IsProper log → FindsLatest log
 findings log proper n i x l k d le lives new reads = found log proper x d n i le l lives new k reads

@@ -14,7 +14,7 @@ use Rattle.alp_files.specs.Cells.{Cells, View}
 use Rattle.alp_files.specs.declared.cell.Cell.{Cell}
 use Rattle.alp_files.specs.Edits.{Edit, edits_map}
 use Rattle.alp_files.specs.Act.{no_opens}
-use Rattle.alp_files.specs.History.{Standing, starting, begun}
+use Rattle.alp_files.specs.History.{Standing, Decided, starting, begun}
 use Rattle.alp_files.specs.Locks.{Reads, Writes}
 use Rattle.alp_files.specs.Apart.{AreSized, after_part}
 use Rattle.alp_files.proofs.HeldLemmas.{apart, leaves-turned}
@@ -31,7 +31,7 @@ use Rattle.alp_history.specs.Log.{Log, opening_of, state_at, IsIn, AreDistinct, 
 use Rattle.alp_history.specs.Theorems.{IsProper, IsDecided}
 use Rattle.alp_history.proofs.Places.{some-same, all-in}
 use Rattle.alp_journal.proofs.IdLemmas.{same_trans-true}
-use Rattle.alp_journal.proofs.HistoryOrder.{Item, All, AreGood, end_of, sized-after, stamp_cmp-earlier, IsClear, map-all, changed_by, left_by_items}
+use Rattle.alp_journal.proofs.HistoryOrder.{Item, All, AreGood, decided_items, end_of, sized-after, stamp_cmp-earlier, IsClear, map-all, changed_by, left_by_items}
 use Rattle.alp_journal.proofs.LifeLemmas.{IsVoteClear}
 use Rattle.alp_journal.proofs.OneServer.{IsHeld, life-intended}
 use Rattle.alp_journal.proofs.LeftBehind.{left_along}
@@ -39,7 +39,7 @@ use Rattle.alp_history.proofs.Fates.{IsOver}
 use Rattle.alp_history.proofs.Linked.{IsLinkedUp, IsYoung, HasPart, IsKeptAt, IsRested, same_join-self}
 use Rattle.alp_history.proofs.Turned.{is_left, Began}
 use Rattle.alp_history.proofs.Agreed.{size, all-of, at-end}
-use Rattle.alp_history.proofs.Decisions.{at_key}
+use Rattle.alp_history.proofs.Decisions.{at_key, find-in}
 use Rattle.alp_history.proofs.EachServer.{place-from}
 use Rattle.alp_history.proofs.Latest.{left-edits}
 use Rattle.alp_history.proofs.LetIn.{IsCalmAt, calm-at}
@@ -103,7 +103,7 @@ module _ (log : Log) (proper : IsProper log) (x : Stamp) (d : IsDecided log x) (
   s = state_at log n i
 
   -- a note of the opening is of another transaction
-  noted-other : (r : ReadyNote) → IsIn r (opening_of log n).ready → r.trans ≡ x.trans → ⊥
+  pub noted-other : (r : ReadyNote) → IsIn r (opening_of log n).ready → r.trans ≡ x.trans → ⊥
   noted-other r k e =
       let old : r.trans.epoch < (opening_of log r.trans.server).epoch = ((proper.sound n).ready r k).drawn in
       let older : x.trans.epoch < (opening_of log x.trans.server).epoch = subst (λ (t : TransId). t.epoch < (opening_of log t.server).epoch) e old in
@@ -134,6 +134,28 @@ module _ (log : Log) (proper : IsProper log) (x : Stamp) (d : IsDecided log x) (
       late-step : (v : ℕ) → IsStep log proper (λ c s. IsLate log proper x.trans v c s)
       late-step v c s d held here seen may knows after q = late-next log proper x.trans v c s d held may knows q
 
+  -- while a part of it runs here its stamp is to be above the kept clock
+  open-late : IsOpenPart s x.trans → s.holder.kept < x.ts
+  open-late runs = late-then s.holder.kept (late-open log proper x.trans s.holder.kept n s (mine.right) (omega arith) runs)
+
+  -- and so nothing is applied at it
+  pub open-new : IsOpenPart s x.trans → at_key x s.holder.applied ≡ None
+  open-new runs = go (at_key x s.holder.applied) refl
+    where
+      late : s.holder.kept < x.ts
+      late = open-late runs
+
+      low : (v : Decided) (xs : List Item) → All (λ y. y.0.ts ≤ s.holder.kept) xs → IsIn (x, v) (decided_items xs) → x.ts ≤ s.holder.kept
+      low v [] below i = absurd i
+      low v (y ∷ ys) below i = elim i [ inl same ↦ (let is : x ≡ y.0 = ap (λ (z : Stamp × Decided). z.0) same in subst (λ (z : Stamp). z.ts ≤ s.holder.kept) (sym is) below.0) | inr more ↦ low v ys below.1 more ]
+
+      go : (o : Option Decided) → at_key x s.holder.applied ≡ o → at_key x s.holder.applied ≡ None
+      go None at = at
+      go (Some v) at =
+          let among : IsIn (x, v) (decided_items h.parts) = subst (IsIn (x, v)) (sym h.list) (find-in x v s.holder.applied at) in
+          let under : x.ts ≤ s.holder.kept = low v h.parts h.below among in
+          absurd (omega (arith, late, under))
+
   module _ (l : Life) (lives : s.holder.lives x.trans ≡ Some l) (new : at_key x s.holder.applied ≡ None) where
     not-key : (y : Stamp) → y ≡ x → ((v : _) × (at_key y s.holder.applied ≡ Some v)) → ⊥
     not-key y e key = let wrong : None ≡ Some key.0 = sym new ∙ ap (λ z. at_key z s.holder.applied) (sym e) ∙ key.1 in cc
@@ -153,7 +175,7 @@ module _ (log : Log) (proper : IsProper log) (x : Stamp) (d : IsDecided log x) (
     running : IsOpenPart s x.trans → Clear
     unfolding Clear
     running runs =
-        let late : s.holder.kept < x.ts = late-then s.holder.kept (late-open log proper x.trans s.holder.kept n s (mine.right) (omega arith) runs) in
+        let late : s.holder.kept < x.ts = open-late runs in
         (suc s.holder.kept, omega (arith, late), map-all (λ y. y.0.ts ≤ s.holder.kept) (IsClear l.held (suc s.holder.kept)) (λ y low. inr (omega (arith, low))) h.parts h.below)
 
     own-clear : (f : Fate) → s.fates x.trans ≡ f → OwnLink log proper s.holder.kept f → IsRested log proper n s.holder.applied x.trans f → Clear

@@ -18,20 +18,21 @@ use Rattle.alp_journal.specs.Coordinator.{is_running}
 use Rattle.alp_journal.specs.Holder.{Life, no_locks}
 use Rattle.alp_journal.specs.State.{State, state_deed}
 use Rattle.alp_journal.specs.Moves.{next}
-use Rattle.alp_journal.specs.Laws.{IsLawfulDeed, IsLawfulEntry, DrawsAsTold, KeepsSessions, DeedsAreLawful, DoLivesAgree, LetsGo, SaysRight, TellsDecided, StartsRight, StopsRight, SeesView, IsOpenPart, IsHolding}
+use Rattle.alp_journal.specs.Laws.{IsLawfulDeed, IsLawfulEntry, DrawsAsTold, KeepsSessions, DeedsAreLawful, DoLivesAgree, LetsGo, sends_last, SaysRight, TellsDecided, StartsRight, StopsRight, SeesView, IsOpenPart, IsHolding}
 use Rattle.alp_journal.proofs.IdLemmas.{same_trans-itself}
 use Rattle.alp_history.proofs.Named.{Only, has_trans, is_named, is_alone, only_deed, alone, among_two, one_of_two}
 use Rattle.alp_history.proofs.NamedEnds.{vote_in, no_vote, holds_none}
 use Rattle.alp_history.proofs.LawfulDeeds.{grants, performs, releases}
 
-pub by_laws : (s : State) (e : Entry) → DrawsAsTold s e → KeepsSessions s e e.event → DeedsAreLawful s e e.event → DoLivesAgree (next s e).holder.lives → LetsGo s e e.event
+pub by_laws : (s : State) (e : Entry) → sends_last e.acts ≡ true → DrawsAsTold s e → KeepsSessions s e e.event → DeedsAreLawful s e e.event → DoLivesAgree (next s e).holder.lives → LetsGo s e e.event
     → AllByRecursion (SaysRight e.event (next s e)) e.acts → TellsDecided s (next s e) e.event e.reply → StartsRight s e e.event → StopsRight e → IsLawfulEntry s e
-by_laws s e drawn sessions deeds agree released said told restart stopped = record {
+by_laws s e sent drawn sessions deeds agree released said told restart stopped = record {
   drawn = drawn;
   sessions = sessions;
   deeds = deeds;
   agree = agree;
   released = released;
+  sent = sent;
   said = said;
   told = told;
   restart = restart;

@@ -92,7 +92,7 @@ stopped-says (a ∷ b ∷ []) to m h i = elim i [
 ]
 stopped-says (a ∷ b ∷ c ∷ acts) to m h i = absurd h
 
-told-pending : (s : State) (e : Entry) → (stops e ≡ true → ⊥) → (next s e).pending ≡ []
+pub told-pending : (s : State) (e : Entry) → (stops e ≡ true → ⊥) → (next s e).pending ≡ []
 told-pending s e never = go (stops e) refl
   where
     go : (b : Bool) → stops e ≡ b → (cond b (halted s e) (told s e)).pending ≡ []

@@ -48,10 +48,11 @@ pub mod RightProper
 pub mod RightHistory
 pub mod RightClients
 pub mod ForgedTwo
-pub mod WrongLinks
 pub mod WrongLogs
 pub mod LawfulEntries
 pub mod Owners
+pub mod FirstUp
+pub mod WorkerUp
 pub mod RepeatedOne
 pub mod RepeatedTwo
 pub mod RejoinedOne
@@ -70,3 +71,10 @@ pub mod ResumedTwo
 pub mod ResumedProper
 pub mod ListedActs
 pub mod FoundActs
+pub mod CommitEntries
+pub mod StillReads
+pub mod LooksAt
+pub mod Performed
+pub mod EffectiveActs
+pub mod RightNeighbours
+pub mod Shared

@@ -1,16 +1,23 @@
--- links of a log of two servers, from lists
-use Rattle.std.specs.Prelude.{Bool, true, false, cond, ◌==◌, ◌&&◌, ltb, unwrap_or, Option, None, Some}
-use Rattle.std.specs.List.{list_all}
-use Rattle.std.proofs.Common.{◌≡◌, ℕ, zero, suc, ◌<◌, List, [], ◌∷◌, slice_get, length, refl, subst, arith}
+-- links of a log of two servers, by computation
+use Rattle.std.specs.Prelude.{Bool, true, false, cond, ◌==◌, ◌&&◌, ◌||◌, ltb, unwrap_or, Option, None, Some}
+use Rattle.std.specs.List.{list_all, list_any}
+use Rattle.std.proofs.Common.{◌≡◌, ℕ, zero, suc, ◌<◌, List, [], ◌∷◌, slice_get, length, refl, sym, ap, subst, ◌∙◌, inl, inr, arith}
 use Rattle.std.proofs.lemmas.Bool.{eqb-true, ltb-true, and_parts}
+use Rattle.alp_base.specs.declared.ids.JoinNo.{JoinNo}
+use Rattle.alp_base.specs.declared.ids.TransId.{TransId}
+use Rattle.alp_base.specs.declared.ids.Stamp.{Stamp}
+use Rattle.alp_journal.specs.declared.act.Act.{Act}
 use Rattle.alp_journal.specs.declared.act.Act.TheVariants as act
 use Rattle.alp_journal.specs.declared.event.Event.{Event}
 use Rattle.alp_journal.specs.declared.event.Event.TheVariants as event
 use Rattle.alp_journal.specs.declared.message.Message.{Message}
+use Rattle.alp_journal.specs.declared.message.Message.TheVariants as msg
 use Rattle.alp_journal.specs.declared.entry.Entry.{Entry}
 use Rattle.alp_history.specs.Items.{Handed}
-use Rattle.alp_history.specs.Log.{Log, ServerLog, nobody, of, IsIn, journal_of, rank_at, WasSent, IsLinked}
+use Rattle.alp_history.specs.Log.{Log, ServerLog, nobody, of, IsIn, journal_of, WasSent, IsLinked}
 use Rattle.alp_history.specs.RightLog.{both}
+use Rattle.alp_journal.specs.Ids.{same_trans, same_join, same_stamp}
+use Rattle.alp_journal.proofs.IdLemmas.{same_trans-true, same_join-true, or-true}
 use Rattle.alp_history.proofs.Places.{in-list, some-same}
 
 -- each rank is below all that follow
@@ -29,29 +36,91 @@ rises (r ∷ rs) h i zero l m = absurd (let no : ⊥ = omega (arith, l) in no)
 rises (r ∷ rs) h zero (suc k) l m = below_each r rs k (and_parts (list_all (λ q. ltb r q) rs) (is_rising rs) h).0 (omega (arith, m))
 rises (r ∷ rs) h (suc i) (suc k) l m = rises rs (and_parts (list_all (λ q. ltb r q) rs) (is_rising rs) h).1 i k (omega (arith, l)) (omega (arith, m))
 
--- what arrives was sent before this rank
-abbrev pub WasSentTo : Log → ℕ → ℕ → Event → Type 0
-WasSentTo log n rank (event.Arrive from m) = WasSent log from n m rank
-WasSentTo log n rank e = Unit {0}
+-- ---- a message that was sent, found by looking for it
 
--- each entry with its rank
-abbrev pub AllRanked : (ℕ → Entry → Type 0) → List ℕ → List Entry → Type 0
-AllRanked P rs [] = Unit {0}
-AllRanked P [] (e ∷ es) = ⊥
-AllRanked P (r ∷ rs) (e ∷ es) = P r e × AllRanked P rs es
+abbrev is_message : Message → Message → Bool
+is_message (msg.Register t j client) (msg.Register u k other) = same_trans t u && same_join j k && client == other
+is_message (msg.Joined t j) (msg.Joined u k) = same_trans t u && same_join j k
+is_message (msg.Ask t j) (msg.Ask u k) = same_trans t u && same_join j k
+is_message (msg.Ready t j ts) (msg.Ready u k us) = same_trans t u && same_join j k && ts == us
+is_message (msg.Commit t j x) (msg.Commit u k y) = same_trans t u && same_join j k && same_stamp x y
+is_message (msg.Done t j) (msg.Done u k) = same_trans t u && same_join j k
+is_message (msg.Inquire t j) (msg.Inquire u k) = same_trans t u && same_join j k
+is_message m n = false
 
-pub ranked_at : (P : ℕ → Entry → Type 0) (rs : List ℕ) (es : List Entry) (i : ℕ) (e : Entry) → AllRanked P rs es → slice_get es i ≡ Some e → P (unwrap_or (slice_get rs i) 0) e
-ranked_at P rs [] i e h k = cc
-ranked_at P [] (x ∷ es) i e h k = absurd h
-ranked_at P (r ∷ rs) (x ∷ es) zero e h k = subst (P r) (some-same x e k) h.0
-ranked_at P (r ∷ rs) (x ∷ es) (suc i) e h k = ranked_at P rs es i e h.1 k
+same-stamp : (x y : Stamp) → same_stamp x y ≡ true → x ≡ y
+same-stamp x y h =
+    let parts = and_parts (x.ts == y.ts) (same_trans x.trans y.trans) h in
+    (λ i. record { ts = eqb-true x.ts y.ts parts.0 i; trans = same_trans-true x.trans y.trans parts.1 i })
 
-pub arrived : (log : Log) (n rank from : ℕ) (e : Entry) (m : Message) → WasSentTo log n rank e.event → e.event ≡ event.Arrive from m → WasSent log from n m rank
-arrived log n rank from e m h k = subst (WasSentTo log n rank) k h
+both-same : (t u : TransId) (j k : JoinNo) → (same_trans t u && same_join j k) ≡ true → (t ≡ u) × (j ≡ k)
+both-same t u j k h = let parts = and_parts (same_trans t u) (same_join j k) h in (same_trans-true t u parts.0, same_join-true j k parts.1)
 
-pub sent_at : (log : Log) (from to : ℕ) (m : Message) (rank place : ℕ) (e : Entry) → slice_get (journal_of log from) place ≡ Some e → IsIn (act.Sent to m) e.acts
-    → ltb (rank_at log from place) rank ≡ true → WasSent log from to m rank
-sent_at log from to m rank place e h i l = record { place = place; entry = e; stands = h; sent = i; earlier = ltb-true (rank_at log from place) rank l }
+same-message : (m n : Message) → is_message m n ≡ true → m ≡ n
+same-message (msg.Register t j client) (msg.Register u k other) h =
+    let parts = and_parts (same_trans t u && same_join j k) (client == other) h in
+    let same = both-same t u j k parts.0 in (λ i. msg.Register (same.0 i) (same.1 i) (eqb-true client other parts.1 i))
+same-message (msg.Joined t j) (msg.Joined u k) h = let same = both-same t u j k h in (λ i. msg.Joined (same.0 i) (same.1 i))
+same-message (msg.Ask t j) (msg.Ask u k) h = let same = both-same t u j k h in (λ i. msg.Ask (same.0 i) (same.1 i))
+same-message (msg.Ready t j ts) (msg.Ready u k us) h =
+    let parts = and_parts (same_trans t u && same_join j k) (ts == us) h in
+    let same = both-same t u j k parts.0 in (λ i. msg.Ready (same.0 i) (same.1 i) (eqb-true ts us parts.1 i))
+same-message (msg.Commit t j x) (msg.Commit u k y) h =
+    let parts = and_parts (same_trans t u && same_join j k) (same_stamp x y) h in
+    let same = both-same t u j k parts.0 in (λ i. msg.Commit (same.0 i) (same.1 i) (same-stamp x y parts.1 i))
+same-message (msg.Done t j) (msg.Done u k) h = let same = both-same t u j k h in (λ i. msg.Done (same.0 i) (same.1 i))
+same-message (msg.Inquire t j) (msg.Inquire u k) h = let same = both-same t u j k h in (λ i. msg.Inquire (same.0 i) (same.1 i))
+same-message m n h = cc
+
+abbrev sends : ℕ → Message → Act → Bool
+sends to m (act.Sent k n) = k == to && is_message n m
+sends to m a = false
+
+sends-it : (to : ℕ) (m : Message) (a : Act) → sends to m a ≡ true → a ≡ act.Sent to m
+sends-it to m (act.Sent k n) h = let parts = and_parts (k == to) (is_message n m) h in (λ i. act.Sent (eqb-true k to parts.0 i) (same-message n m parts.1 i))
+sends-it to m a h = cc
+
+sent-among : (to : ℕ) (m : Message) (acts : List Act) → list_any (sends to m) acts ≡ true → IsIn (act.Sent to m) acts
+sent-among to m [] h = cc
+sent-among to m (a ∷ acts) h = elim (or-true (sends to m a) (list_any (sends to m) acts) h) [ inl this ↦ inl (sym (sends-it to m a this)) | inr more ↦ inr (sent-among to m acts more) ]
+
+-- at an entry of a smaller rank
+abbrev is_sent : ℕ → Message → ℕ → List ℕ → List Entry → Bool
+is_sent to m rank rs [] = false
+is_sent to m rank [] (e ∷ es) = false
+is_sent to m rank (r ∷ rs) (e ∷ es) = (ltb r rank && list_any (sends to m) e.acts) || is_sent to m rank rs es
+
+was-sent : (to : ℕ) (m : Message) (rank : ℕ) (rs : List ℕ) (es : List Entry) → is_sent to m rank rs es ≡ true
+    → (place : ℕ) × (e : Entry) × (slice_get es place ≡ Some e) × IsIn (act.Sent to m) e.acts × (unwrap_or (slice_get rs place) 0 < rank)
+was-sent to m rank rs [] h = cc
+was-sent to m rank [] (e ∷ es) h = cc
+was-sent to m rank (r ∷ rs) (e ∷ es) h = elim (or-true (ltb r rank && list_any (sends to m) e.acts) (is_sent to m rank rs es) h) [
+  | inl this ↦ (let parts = and_parts (ltb r rank) (list_any (sends to m) e.acts) this in (0, e, refl, sent-among to m e.acts parts.1, ltb-true r rank parts.0))
+  | inr more ↦ (let x = was-sent to m rank rs es more in (suc x.0, x.1, x.2, x.3, x.4))
+]
+
+-- each arrival of a journal was sent before
+abbrev pub is_arrival_sent : Log → ℕ → ℕ → Event → Bool
+is_arrival_sent log n rank (event.Arrive from m) = is_sent n m rank (of log from).ranks (journal_of log from)
+is_arrival_sent log n rank e = true
+
+abbrev pub are_sent : Log → ℕ → List ℕ → List Entry → Bool
+are_sent log n rs [] = true
+are_sent log n [] (e ∷ es) = false
+are_sent log n (r ∷ rs) (e ∷ es) = is_arrival_sent log n r e.event && are_sent log n rs es
+
+arrival-sent : (log : Log) (n rank : ℕ) (x : Event) (from : ℕ) (m : Message) → is_arrival_sent log n rank x ≡ true → x ≡ event.Arrive from m → WasSent log from n m rank
+arrival-sent log n rank x from m h is =
+    let found = was-sent n m rank (of log from).ranks (journal_of log from) (ap (is_arrival_sent log n rank) (sym is) ∙ h) in
+    record { place = found.0; entry = found.1; stands = found.2; sent = found.3; earlier = found.4 }
+
+sent-before : (log : Log) (n : ℕ) (rs : List ℕ) (es : List Entry) → are_sent log n rs es ≡ true → (i from : ℕ) (e : Entry) (m : Message) → slice_get es i ≡ Some e → e.event ≡ event.Arrive from m
+    → WasSent log from n m (unwrap_or (slice_get rs i) 0)
+sent-before log n rs [] h i from e m at is = cc
+sent-before log n [] (x ∷ es) h i from e m at is = cc
+sent-before log n (r ∷ rs) (x ∷ es) h zero from e m at is =
+    arrival-sent log n r x.event from m (and_parts (is_arrival_sent log n r x.event) (are_sent log n rs es) h).0 (ap (λ (y : Entry). y.event) (some-same x e at) ∙ is)
+sent-before log n (r ∷ rs) (x ∷ es) h (suc i) from e m at is = sent-before log n rs es (and_parts (is_arrival_sent log n r x.event) (are_sent log n rs es) h).1 i from e m at is
 
 module _ (handed : Handed) (x y : ServerLog) where
   -- what holds of both servers, and of one that is none of the run
@@ -73,14 +142,10 @@ module _ (handed : Handed) (x y : ServerLog) where
   rises_in : (n : ℕ) (z : ServerLog) → is_rising z.ranks ≡ true → length z.journal ≡ length z.ranks → Rises n z
   rises_in n z up all i k e f h l m = rises z.ranks up i k m (subst (λ q. k < q) all (in-list z.journal k f l))
 
-  arrives_in : (n : ℕ) (z : ServerLog) → AllRanked (λ r (e : Entry). WasSentTo (both handed x y) n r e.event) z.ranks z.journal → Arrives n z
-  arrives_in n z sent i from e m h k = arrived (both handed x y) n (unwrap_or (slice_get z.ranks i) 0) from e m (ranked_at (λ r (e : Entry). WasSentTo (both handed x y) n r e.event) z.ranks z.journal i e sent h) k
-
   -- ranks rise, and each arrival was sent before
   pub links_both : is_rising x.ranks ≡ true → is_rising y.ranks ≡ true → length x.journal ≡ length x.ranks → length y.journal ≡ length y.ranks
-      → AllRanked (λ r (e : Entry). WasSentTo (both handed x y) x.opening.server r e.event) x.ranks x.journal
-      → AllRanked (λ r (e : Entry). WasSentTo (both handed x y) y.opening.server r e.event) y.ranks y.journal → IsLinked (both handed x y)
+      → are_sent (both handed x y) x.opening.server x.ranks x.journal ≡ true → are_sent (both handed x y) y.opening.server y.ranks y.journal ≡ true → IsLinked (both handed x y)
   links_both up_x up_y all_x all_y sent_x sent_y = record {
     rising = each_both Rises (rises_in x.opening.server x up_x all_x) (rises_in y.opening.server y up_y all_y) (λ m i k e f h. cc);
-    sent = each_both Arrives (arrives_in x.opening.server x sent_x) (arrives_in y.opening.server y sent_y) (λ m i from e z h. cc);
+    sent = each_both Arrives (sent-before (both handed x y) x.opening.server x.ranks x.journal sent_x) (sent-before (both handed x y) y.opening.server y.ranks y.journal sent_y) (λ m i from e z h. cc);
   }

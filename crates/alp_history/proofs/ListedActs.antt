@@ -1,6 +1,6 @@
 -- what an entry that did not stop names as decided is one of the decided transactions
-use Rattle.std.specs.Prelude.{cond, Option, Some}
-use Rattle.std.proofs.Common.{◌≡◌, ℕ, suc, ◌+◌, ◌≤◌, List, [], ◌∷◌, ◌++◌, flat_map, refl, sym, ap, subst, ◌∙◌, inl, inr, arith}
+use Rattle.std.specs.Prelude.{cond, false, Option, Some}
+use Rattle.std.proofs.Common.{◌≡◌, ℕ, suc, ◌+◌, ◌≤◌, List, [], ◌∷◌, ◌++◌, flat_map, slice_get, refl, sym, ap, subst, ◌∙◌, inl, inr, arith}
 use Rattle.alp_base.specs.declared.ids.JoinNo.{JoinNo}
 use Rattle.alp_base.specs.declared.ids.TransId.{TransId}
 use Rattle.alp_base.specs.declared.ids.Stamp.{Stamp}
@@ -9,14 +9,15 @@ use Rattle.alp_journal.specs.declared.act.Act.{Act}
 use Rattle.alp_journal.specs.declared.act.Act.TheVariants as act
 use Rattle.alp_journal.specs.declared.event.Event.{Event}
 use Rattle.alp_journal.specs.declared.event.Event.TheVariants as event
+use Rattle.alp_journal.specs.declared.entry.Entry.{Entry}
 use Rattle.alp_journal.specs.Along.{Along, state_after}
 use Rattle.alp_journal.specs.Deeds.{Deed, Decides, Restarts}
 use Rattle.alp_journal.specs.Coordinator.{Fate, decision_in, decided as decided_fate}
 use Rattle.alp_journal.specs.State.{State, state_deed, ids_after}
-use Rattle.alp_journal.specs.Moves.{event_deeds, act_deeds, done_deeds, tried, told, halted, next}
+use Rattle.alp_journal.specs.Moves.{event_deeds, act_deeds, done_deeds, stops, tried, told, halted, next}
 use Rattle.alp_journal.specs.Laws.{CountsOn, MayDecide, Regains}
 use Rattle.alp_history.specs.Log.{Log, journal_of, opening_of, state_at, IsIn, decided}
-use Rattle.alp_history.specs.Theorems.{IsProper, HasCommitted, ListsDecided}
+use Rattle.alp_history.specs.Theorems.{IsProper, HasCommitted}
 use Rattle.alp_journal.proofs.IdLemmas.{same_trans-itself}
 use Rattle.alp_history.proofs.Places.{in-list}
 use Rattle.alp_history.proofs.Logs.{lawful-at, state-suc, server-stays}
@@ -98,7 +99,8 @@ module _ (log : Log) (proper : IsProper log) where
       let late : (opening_of log n).epoch ≤ x.trans.epoch = omega (arith, old, up, now) in
       in-decided log proper x js (here-decision log proper n x js committed (λ b. older-note log proper n x js b late))
 
-  pub lists : ListsDecided log
+  -- what an entry names as decided, where nothing stopped, is one of the decided transactions, with these joins
+  pub lists : (n i : ℕ) (e : Entry) (x : Stamp) (js : List JoinNo) → slice_get (journal_of log n) i ≡ Some e → stops e ≡ false → IsIn (act.Decided x js) e.acts → IsIn (x, js) (decided log)
   lists n i e x js at going stands =
       let s : State = state_at log n i in
       let inside : suc i ≤ size log proper n = in-list (journal_of log n) i e at in

@@ -57,7 +57,7 @@ module _ (log : Log) (proper : IsProper log) where
     L n s = Linked log proper x.trans n s
 
     -- no part of a transaction of this run lives at an opening
-    opened-none : (n : ℕ) (l : Life) → (state_at log n 0).holder.lives x.trans ≡ Some l → ⊥
+    pub opened-none : (n : ℕ) (l : Life) → (state_at log n 0).holder.lives x.trans ≡ Some l → ⊥
     opened-none n l is =
         let r = note-of (opening_of log n).ready x.trans l is in
         let old : (r.0).trans.epoch < (opening_of log (r.0).trans.server).epoch = ((proper.sound n).ready r.0 r.1).drawn in

@@ -181,7 +181,7 @@ module _ (log : Log) (x : Stamp) (n : ℕ) where
   eight-unlike : AreUnlike eight
   eight-unlike = ((refl, (refl, (refl, (refl, (refl, (refl, (refl, tt))))))), ((refl, (refl, (refl, (refl, (refl, (refl, tt)))))), ((refl, (refl, (refl, (refl, (refl, tt))))), ((refl, (refl, (refl, (refl, tt)))), ((refl, (refl, (refl, tt))), ((refl, (refl, tt)), ((refl, tt), (tt, tt))))))))
 
-in-eight : (n : ℕ) → 0 < n → n ≤ 8 → IsIn n (1 ∷ 2 ∷ 3 ∷ 4 ∷ 5 ∷ 6 ∷ 7 ∷ 8 ∷ [])
+pub in-eight : (n : ℕ) → 0 < n → n ≤ 8 → IsIn n (1 ∷ 2 ∷ 3 ∷ 4 ∷ 5 ∷ 6 ∷ 7 ∷ 8 ∷ [])
 in-eight zero low high = absurd (omega (arith, low))
 in-eight (suc zero) low high = inl refl
 in-eight (suc (suc zero)) low high = inr (inl refl)

@@ -60,7 +60,7 @@ known_1 : Only ts js at_1
 known_1 = only_next ts js at_0 (entry 0) refl known_0
 
 entry_0 : IsLawfulEntry at_0 (entry 0)
-entry_0 = by_laws at_0 (entry 0) refl refl tt
+entry_0 = by_laws at_0 (entry 0) refl refl refl tt
     (alone ts js trans at_1 known_1 refl)
     ((refl, refl), tt) tt tt (refl, refl) tt
 
@@ -71,7 +71,7 @@ known_2 : Only ts js at_2
 known_2 = only_next ts js at_1 (entry 1) refl known_1
 
 entry_1 : IsLawfulEntry at_1 (entry 1)
-entry_1 = by_laws at_1 (entry 1) refl refl (begins (event_of 1) at_1 trans 1 (codes "Admin") 1 refl, tt)
+entry_1 = by_laws at_1 (entry 1) refl refl refl (begins (event_of 1) at_1 trans 1 (codes "Admin") 1 refl, tt)
     (alone ts js trans at_2 known_2 refl)
     ((refl, refl), tt) (tt, tt) tt (refl, refl) tt
 
@@ -82,7 +82,7 @@ known_3 : Only ts js at_3
 known_3 = only_next ts js at_2 (entry 2) refl known_2
 
 entry_2 : IsLawfulEntry at_2 (entry 2)
-entry_2 = by_laws at_2 (entry 2) refl refl (registers (event_of 2) at_2 trans join (record { from = 2; client = 1; joins = []; asked = refl; runs = refl; first = refl; elsewhere = refl }), tt)
+entry_2 = by_laws at_2 (entry 2) refl refl refl (registers (event_of 2) at_2 trans join (record { from = 2; client = 1; joins = []; asked = refl; runs = refl; first = refl; elsewhere = refl }), tt)
     (alone ts js trans at_3 known_3 refl)
     ((refl, refl), tt) (tt, (refl, tt)) tt (refl, refl) tt
 
@@ -102,7 +102,7 @@ known_4 : Only ts js at_4
 known_4 = subst (Only ts js) same_4 (only_next ts js at_3 (entry 3) refl known_3)
 
 entry_3 : IsLawfulEntry at_3 (entry 3)
-entry_3 = by_laws at_3 (entry 3) refl refl (call_alone ts js at_3 known_3 (event_of 3) trans (makes trans 5) (made_done trans 5) refl refl refl refl refl (inl refl) (
+entry_3 = by_laws at_3 (entry 3) refl refl refl (call_alone ts js at_3 known_3 (event_of 3) trans (makes trans 5) (made_done trans 5) refl refl refl refl refl (inl refl) (
   life_at granted_3 trans,
   lives_there granted_3 trans refl,
   record { client = refl; active = refl; formed = (tt, tt, tt); right = ap (λ (a : Answer). a.reply) answer_3; locked = granted-holds no_locks ((Leaf (OwnerOf (codes "ann")), Write) ∷ []) },
@@ -117,7 +117,7 @@ known_5 : Only ts js at_5
 known_5 = only_next ts js at_4 (entry 4) refl known_4
 
 entry_4 : IsLawfulEntry at_4 (entry 4)
-entry_4 = by_laws at_4 (entry 4) refl refl (finishes (event_of 4) at_4 trans, tt)
+entry_4 = by_laws at_4 (entry 4) refl refl refl (finishes (event_of 4) at_4 trans, tt)
     (alone ts js trans at_5 known_5 refl)
     ((refl, refl), (tt, tt)) (tt, tt) tt (refl, refl) tt
 
@@ -131,7 +131,7 @@ known_6 : Only ts js at_6
 known_6 = only_next ts js at_5 (entry 5) refl known_5
 
 entry_5 : IsLawfulEntry at_5 (entry 5)
-entry_5 = by_laws at_5 (entry 5) refl refl (
+entry_5 = by_laws at_5 (entry 5) refl refl refl (
   hears (event_of 5) at_5 trans join 2,
   then_released ts js heard_5 (only_deed ts js at_5 known_5 (Hears trans join 2) refl) (event_of 5) (Decides later_stamp (join ∷ [])) trans refl refl refl tt
       (decides (event_of 5) heard_5 later_stamp (join ∷ [])
@@ -147,7 +147,7 @@ known_7 : Only ts js at_7
 known_7 = only_next ts js at_6 (entry 6) refl known_6
 
 entry_6 : IsLawfulEntry at_6 (entry 6)
-entry_6 = by_laws at_6 (entry 6) refl refl (
+entry_6 = by_laws at_6 (entry 6) refl refl refl (
   acknowledges (event_of 6) at_6 trans join,
   (forgets (event_of 6) (state_deed at_6 (Acknowledges trans join)) trans (later_stamp, join ∷ [], join ∷ [], refl, refl), tt),
 )
@@ -161,7 +161,7 @@ known_8 : Only ts js at_8
 known_8 = only_next ts js at_7 (entry 7) refl known_7
 
 entry_7 : IsLawfulEntry at_7 (entry 7)
-entry_7 = by_laws at_7 (entry 7) refl refl tt
+entry_7 = by_laws at_7 (entry 7) refl refl refl tt
     (alone ts js trans at_8 known_8 refl)
     ((refl, refl), tt) tt (join ∷ [], refl, (does later_stamp (made_done trans 5), refl)) (refl, refl) tt
 

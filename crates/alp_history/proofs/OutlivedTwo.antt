@@ -60,7 +60,7 @@ known_1 : Only ts js at_1
 known_1 = only_next ts js at_0 (entry 0) refl known_0
 
 entry_0 : IsLawfulEntry at_0 (entry 0)
-entry_0 = by_laws at_0 (entry 0) refl refl tt
+entry_0 = by_laws at_0 (entry 0) refl refl refl tt
     (alone ts js earlier at_1 known_1 refl)
     ((refl, refl), tt) tt tt (refl, refl) tt
 
@@ -71,7 +71,7 @@ known_2 : Only ts js at_2
 known_2 = only_next ts js at_1 (entry 1) refl known_1
 
 entry_1 : IsLawfulEntry at_1 (entry 1)
-entry_1 = by_laws at_1 (entry 1) refl refl (begins (event_of 1) at_1 earlier 1 (codes "Admin") 0 refl, tt)
+entry_1 = by_laws at_1 (entry 1) refl refl refl (begins (event_of 1) at_1 earlier 1 (codes "Admin") 0 refl, tt)
     (alone ts js earlier at_2 known_2 refl)
     ((refl, refl), tt) (tt, tt) tt (refl, refl) tt
 
@@ -91,7 +91,7 @@ known_3 : Only ts js at_3
 known_3 = subst (Only ts js) same_3 (only_next ts js at_2 (entry 2) refl known_2)
 
 entry_2 : IsLawfulEntry at_2 (entry 2)
-entry_2 = by_laws at_2 (entry 2) refl refl (call_alone ts js at_2 known_2 (event_of 2) earlier (makes earlier 9) (made_done earlier 9) refl refl refl refl refl (inl refl) (
+entry_2 = by_laws at_2 (entry 2) refl refl refl (call_alone ts js at_2 known_2 (event_of 2) earlier (makes earlier 9) (made_done earlier 9) refl refl refl refl refl (inl refl) (
   life_at granted_2 earlier,
   lives_there granted_2 earlier refl,
   record { client = refl; active = refl; formed = (tt, tt, tt); right = ap (λ (a : Answer). a.reply) answer_2; locked = granted-holds no_locks ((Leaf (OwnerOf (codes "ann")), Write) ∷ []) },
@@ -109,7 +109,7 @@ known_4 : Only ts js at_4
 known_4 = only_next ts js at_3 (entry 3) refl known_3
 
 entry_3 : IsLawfulEntry at_3 (entry 3)
-entry_3 = by_laws at_3 (entry 3) refl refl (
+entry_3 = by_laws at_3 (entry 3) refl refl refl (
   finishes (event_of 3) at_3 earlier,
   then_released ts js finished_3 (only_deed ts js at_3 known_3 (Finishes earlier) refl) (event_of 3) (Decides earlier_stamp []) earlier refl refl refl ((λ h. h), tt)
       (decides (event_of 3) finished_3 earlier_stamp []
@@ -125,7 +125,7 @@ known_5 : Only ts js at_5
 known_5 = only_next ts js at_4 (entry 4) refl known_4
 
 entry_4 : IsLawfulEntry at_4 (entry 4)
-entry_4 = by_laws at_4 (entry 4) refl refl (joins (event_of 4) at_4 join trans 1 (codes "Admin") (refl, refl), tt)
+entry_4 = by_laws at_4 (entry 4) refl refl refl (joins (event_of 4) at_4 join trans 1 (codes "Admin") (refl, refl), tt)
     (alone ts js trans at_5 known_5 refl)
     ((refl, refl), (tt, tt)) (tt, tt) tt (refl, refl) tt
 
@@ -136,7 +136,7 @@ known_6 : Only ts js at_6
 known_6 = only_next ts js at_5 (entry 5) refl known_5
 
 entry_5 : IsLawfulEntry at_5 (entry 5)
-entry_5 = by_laws at_5 (entry 5) refl refl (enters (event_of 5) at_5 join trans 1 (codes "Admin"), tt)
+entry_5 = by_laws at_5 (entry 5) refl refl refl (enters (event_of 5) at_5 join trans 1 (codes "Admin"), tt)
     (alone ts js trans at_6 known_6 refl)
     ((refl, refl), (tt, tt)) tt tt (refl, refl) tt
 
@@ -147,7 +147,7 @@ known_7 : Only ts js at_7
 known_7 = only_next ts js at_6 (entry 6) refl known_6
 
 entry_6 : IsLawfulEntry at_6 (entry 6)
-entry_6 = by_laws at_6 (entry 6) refl refl tt
+entry_6 = by_laws at_6 (entry 6) refl refl refl tt
     (alone ts js trans at_7 known_7 refl)
     ((refl, refl), tt) tt tt (refl, refl) tt
 
@@ -167,7 +167,7 @@ known_8 : Only ts js at_8
 known_8 = subst (Only ts js) same_8 (only_next ts js at_7 (entry 7) refl known_7)
 
 entry_7 : IsLawfulEntry at_7 (entry 7)
-entry_7 = by_laws at_7 (entry 7) refl refl (call_alone ts js at_7 known_7 (event_of 7) trans (reads trans) (found_done trans 9) refl refl refl refl refl (inr (join, 1, codes "Admin", refl)) (
+entry_7 = by_laws at_7 (entry 7) refl refl refl (call_alone ts js at_7 known_7 (event_of 7) trans (reads trans) (found_done trans 9) refl refl refl refl refl (inr (join, 1, codes "Admin", refl)) (
   life_at granted_7 trans,
   lives_there granted_7 trans refl,
   record { client = refl; active = refl; formed = (tt, tt, tt); right = ap (λ (a : Answer). a.reply) answer_7; locked = granted-holds no_locks ((Leaf (OwnerOf (codes "ann")), Read) ∷ []) },
@@ -182,7 +182,7 @@ known_9 : Only ts js at_9
 known_9 = only_next ts js at_8 (entry 8) refl known_8
 
 entry_8 : IsLawfulEntry at_8 (entry 8)
-entry_8 = by_laws at_8 (entry 8) refl refl (readies (event_of 8) at_8 join trans 2 (record { from = 1; client = 1; who = codes "Admin"; asked = refl; active = refl; idle = refl; time = refl; live = (life_at at_8 trans, lives_there at_8 trans refl, refl) }), tt)
+entry_8 = by_laws at_8 (entry 8) refl refl refl (readies (event_of 8) at_8 join trans 2 (record { from = 1; client = 1; who = codes "Admin"; asked = refl; active = refl; idle = refl; time = refl; live = (life_at at_8 trans, lives_there at_8 trans refl, refl) }), tt)
     (alone ts js trans at_9 known_9 refl)
     ((refl, refl), tt) (tt, ((1, refl), tt)) tt (refl, refl) tt
 
@@ -193,7 +193,7 @@ known_10 : Only ts js at_10
 known_10 = only_next ts js at_9 (entry 9) refl known_9
 
 entry_9 : IsLawfulEntry at_9 (entry 9)
-entry_9 = by_laws at_9 (entry 9) refl refl tt
+entry_9 = by_laws at_9 (entry 9) refl refl refl tt
     (alone ts js trans at_10 known_10 refl)
     tt (tt, tt) tt ((refl, record { clock = refl; ready = ready_found ts js (at_9) (known_9) (join ∷ []) refl (refl, tt); decided = stamps_found ts js (at_9) (known_9) ([]) refl ((λ n. refl), ((λ n. refl), ((λ n. refl), tt))) }), refl) tt
 
@@ -204,7 +204,7 @@ known_11 : Only ts js at_11
 known_11 = only_next ts js at_10 (entry 10) refl known_10
 
 entry_10 : IsLawfulEntry at_10 (entry 10)
-entry_10 = by_laws at_10 (entry 10) refl refl tt
+entry_10 = by_laws at_10 (entry 10) refl refl refl tt
     (alone ts js trans at_11 known_11 refl)
     ((refl, refl), tt) tt tt (refl, refl) tt
 
@@ -215,7 +215,7 @@ known_12 : Only ts js at_12
 known_12 = only_next ts js at_11 (entry 11) refl known_11
 
 entry_11 : IsLawfulEntry at_11 (entry 11)
-entry_11 = by_laws at_11 (entry 11) refl refl (begins (event_of 11) at_11 afterwards 2 (codes "Admin") 0 refl, tt)
+entry_11 = by_laws at_11 (entry 11) refl refl refl (begins (event_of 11) at_11 afterwards 2 (codes "Admin") 0 refl, tt)
     (second_bare ts js trans afterwards at_12 known_12 refl refl)
     ((refl, refl), tt) (tt, tt) tt (refl, refl) tt
 
@@ -226,7 +226,7 @@ known_13 : Only ts js at_13
 known_13 = only_next ts js at_12 (entry 12) refl known_12
 
 entry_12 : IsLawfulEntry at_12 (entry 12)
-entry_12 = by_laws at_12 (entry 12) refl refl tt
+entry_12 = by_laws at_12 (entry 12) refl refl refl tt
     (second_bare ts js trans afterwards at_13 known_13 refl refl)
     ((refl, refl), tt) tt tt (refl, refl) tt
 
@@ -237,7 +237,7 @@ known_14 : Only ts js at_14
 known_14 = only_next ts js at_13 (entry 13) refl known_13
 
 entry_13 : IsLawfulEntry at_13 (entry 13)
-entry_13 = by_laws at_13 (entry 13) refl refl (then_released ts js at_13 known_13 (event_of 13) (Applies join later_stamp) trans refl refl refl ((λ h. h), tt)
+entry_13 = by_laws at_13 (entry 13) refl refl refl (then_released ts js at_13 known_13 (event_of 13) (Applies join later_stamp) trans refl refl refl ((λ h. h), tt)
     (applies (event_of 13) at_13 join later_stamp (record { from = 1; client = 1; ts = 2; told = refl; ready = refl; elsewhere = refl; live = (life_at at_13 trans, lives_there at_13 trans refl, refl) })))
     (alone ts js afterwards at_14 known_14 refl)
     ((refl, refl), tt) (tt, (tt, ((1, later_stamp, refl, refl, refl), tt))) tt (refl, refl) tt
@@ -258,7 +258,7 @@ known_15 : Only ts js at_15
 known_15 = subst (Only ts js) same_15 (only_next ts js at_14 (entry 14) refl known_14)
 
 entry_14 : IsLawfulEntry at_14 (entry 14)
-entry_14 = by_laws at_14 (entry 14) refl refl (call_alone ts js at_14 known_14 (event_of 14) afterwards (sets afterwards 3) (set_done afterwards 3) refl refl refl refl refl (inl refl) (
+entry_14 = by_laws at_14 (entry 14) refl refl refl (call_alone ts js at_14 known_14 (event_of 14) afterwards (sets afterwards 3) (set_done afterwards 3) refl refl refl refl refl (inl refl) (
   life_at granted_14 afterwards,
   lives_there granted_14 afterwards refl,
   record { client = refl; active = refl; formed = (tt, tt, tt); right = ap (λ (a : Answer). a.reply) answer_14; locked = granted-holds no_locks ((Leaf (OwnerOf (codes "ann")), Write) ∷ []) },
@@ -276,7 +276,7 @@ known_16 : Only ts js at_16
 known_16 = only_next ts js at_15 (entry 15) refl known_15
 
 entry_15 : IsLawfulEntry at_15 (entry 15)
-entry_15 = by_laws at_15 (entry 15) refl refl (
+entry_15 = by_laws at_15 (entry 15) refl refl refl (
   finishes (event_of 15) at_15 afterwards,
   then_released ts js finished_15 (only_deed ts js at_15 known_15 (Finishes afterwards) refl) (event_of 15) (Decides last_stamp []) afterwards refl refl refl ((λ h. h), tt)
       (decides (event_of 15) finished_15 last_stamp []

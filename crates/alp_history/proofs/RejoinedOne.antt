@@ -43,7 +43,7 @@ known_1 : Only ts js at_1
 known_1 = only_next ts js at_0 (entry 0) refl known_0
 
 entry_0 : IsLawfulEntry at_0 (entry 0)
-entry_0 = by_laws at_0 (entry 0) refl refl tt
+entry_0 = by_laws at_0 (entry 0) refl refl refl tt
     (alone ts js trans at_1 known_1 refl)
     ((refl, refl), tt) tt tt (refl, refl) tt
 
@@ -54,7 +54,7 @@ known_2 : Only ts js at_2
 known_2 = only_next ts js at_1 (entry 1) refl known_1
 
 entry_1 : IsLawfulEntry at_1 (entry 1)
-entry_1 = by_laws at_1 (entry 1) refl refl (begins (event_of 1) at_1 trans 1 (codes "Admin") 0 refl, tt)
+entry_1 = by_laws at_1 (entry 1) refl refl refl (begins (event_of 1) at_1 trans 1 (codes "Admin") 0 refl, tt)
     (alone ts js trans at_2 known_2 refl)
     ((refl, refl), tt) (tt, tt) tt (refl, refl) tt
 
@@ -65,7 +65,7 @@ known_3 : Only ts js at_3
 known_3 = only_next ts js at_2 (entry 2) refl known_2
 
 entry_2 : IsLawfulEntry at_2 (entry 2)
-entry_2 = by_laws at_2 (entry 2) refl refl (registers (event_of 2) at_2 trans join (record { from = 2; client = 1; joins = []; asked = refl; runs = refl; first = refl; elsewhere = refl }), tt)
+entry_2 = by_laws at_2 (entry 2) refl refl refl (registers (event_of 2) at_2 trans join (record { from = 2; client = 1; joins = []; asked = refl; runs = refl; first = refl; elsewhere = refl }), tt)
     (alone ts js trans at_3 known_3 refl)
     ((refl, refl), tt) (tt, (refl, tt)) tt (refl, refl) tt
 
@@ -76,7 +76,7 @@ known_4 : Only ts js at_4
 known_4 = only_next ts js at_3 (entry 3) refl known_3
 
 entry_3 : IsLawfulEntry at_3 (entry 3)
-entry_3 = by_laws at_3 (entry 3) refl refl tt
+entry_3 = by_laws at_3 (entry 3) refl refl refl tt
     (alone ts js trans at_4 known_4 refl)
     ((refl, refl), tt) (tt, tt) tt (refl, refl) tt
 
@@ -87,7 +87,7 @@ known_5 : Only ts js at_5
 known_5 = only_next ts js at_4 (entry 4) refl known_4
 
 entry_4 : IsLawfulEntry at_4 (entry 4)
-entry_4 = by_laws at_4 (entry 4) refl refl (finishes (event_of 4) at_4 trans, tt)
+entry_4 = by_laws at_4 (entry 4) refl refl refl (finishes (event_of 4) at_4 trans, tt)
     (alone ts js trans at_5 known_5 refl)
     ((refl, refl), (tt, tt)) (tt, tt) tt (refl, refl) tt
 
@@ -98,7 +98,7 @@ known_6 : Only ts js at_6
 known_6 = only_next ts js at_5 (entry 5) refl known_5
 
 entry_5 : IsLawfulEntry at_5 (entry 5)
-entry_5 = by_laws at_5 (entry 5) refl refl (then_released ts js at_5 known_5 (event_of 5) (Ends trans 1 (cause.Voted 2 why.UnknownJoin)) trans refl refl refl tt (ends (event_of 5) at_5 trans 1 (cause.Voted 2 why.UnknownJoin)))
+entry_5 = by_laws at_5 (entry 5) refl refl refl (then_released ts js at_5 known_5 (event_of 5) (Ends trans 1 (cause.Voted 2 why.UnknownJoin)) trans refl refl refl tt (ends (event_of 5) at_5 trans 1 (cause.Voted 2 why.UnknownJoin)))
     (alone ts js trans at_6 known_6 refl)
     ((refl, refl), (tt, tt)) (tt, ((refl, refl), tt)) tt (refl, refl) tt
 
@@ -109,7 +109,7 @@ known_7 : Only ts js at_7
 known_7 = only_next ts js at_6 (entry 6) refl known_6
 
 entry_6 : IsLawfulEntry at_6 (entry 6)
-entry_6 = by_laws at_6 (entry 6) refl refl tt
+entry_6 = by_laws at_6 (entry 6) refl refl refl tt
     (alone ts js trans at_7 known_7 refl)
     ((refl, refl), (tt, tt)) tt tt (refl, refl) tt
 

@@ -1,39 +1,37 @@
 -- the journal of server 2 with a worker that lost its part is lawful
 use Rattle.std.specs.FinMap as map
 use Rattle.std.specs.Prelude.{codes, unwrap_or, slice_get, drop, None}
-use Rattle.std.proofs.Common.{◌≡◌, ℕ, List, [], ◌∷◌, refl, sym, ap, subst, inl, inr}
+use Rattle.std.proofs.Common.{◌≡◌, ℕ, List, [], ◌∷◌, refl, sym, ap, subst, inl}
 use Rattle.alp_base.specs.Keys.{key_cmp}
 use Rattle.alp_base.specs.declared.ids.JoinNo.{JoinNo}
 use Rattle.alp_base.specs.declared.ids.TransId.{TransId}
 use Rattle.alp_base.specs.declared.key.Key.TheVariants.{OwnerOf}
 use Rattle.alp_base.specs.declared.key.Resource.TheVariants.{Leaf}
-use Rattle.alp_modes.specs.declared.Mode.TheVariants.{Read, Write}
-use Rattle.alp_files.specs.Edits.{Put}
-use Rattle.alp_files.specs.Act.{Answer, no_opens, replied, refused}
+use Rattle.alp_modes.specs.declared.Mode.TheVariants.{Read}
+use Rattle.alp_files.specs.Act.{Answer, no_opens, refused}
 use Rattle.alp_files.proofs.CoverLemmas.{granted-holds}
 use Rattle.alp_journal.specs.declared.event.Event.{Event}
 use Rattle.alp_journal.specs.declared.entry.Entry.{Entry}
 use Rattle.alp_journal.specs.Along.{Along}
 use Rattle.alp_journal.specs.Deeds.{Grants, Decides, Finishes}
 use Rattle.alp_journal.specs.Holder.{no_locks, answer_in}
-use Rattle.alp_journal.specs.State.{State, opened, state_deed}
+use Rattle.alp_journal.specs.State.{State, state_deed}
 use Rattle.alp_journal.specs.Moves.{next}
 use Rattle.alp_journal.specs.Laws.{IsLawfulEntry, IsLawful, DoLivesAgree}
 use Rattle.alp_history.specs.Examples.{trans, join, new}
-use Rattle.alp_history.specs.RightLog.{owner_with, reads, does}
-use Rattle.alp_history.specs.RightJournals.{hello, makes, made_done, missed_done, afterwards, again, afterwards_stamp, rejoined_two}
+use Rattle.alp_history.specs.RightLog.{reads, does}
+use Rattle.alp_history.specs.RightJournals.{hello, missed_done, afterwards, again, afterwards_stamp, rejoined_two}
 use Rattle.alp_history.proofs.Worked.{life_at}
 use Rattle.alp_history.proofs.Quotas.{ann}
-use Rattle.alp_history.proofs.Owners.{made, missed}
+use Rattle.alp_history.proofs.Owners.{missed}
 use Rattle.alp_history.proofs.Steps.{lives_there, performed, closed, call_next}
 use Rattle.alp_history.proofs.Named.{Only, only_deed, only_next, alone}
 use Rattle.alp_history.proofs.NamedEnds.{ready_found, stamps_found, no_file_call}
 use Rattle.alp_journal.specs.Desk.{waiting_of}
-use Rattle.alp_history.proofs.LawfulDeeds.{begins, joins, enters, finishes, decides, quits}
+use Rattle.alp_history.proofs.LawfulDeeds.{begins, joins, finishes, decides, quits}
 use Rattle.alp_history.proofs.LawfulEntries.{by_laws, call_alone, then_released}
-use Rattle.alp_files.specs.declared.cell.Cell.TheVariants as cell
-use Rattle.alp_files.specs.declared.reply.Reply.TheVariants as reply
 use Rattle.alp_files.specs.declared.refusal.Refusal.TheVariants as refusal
+use Rattle.alp_history.proofs.WorkerUp.{at_5, known_5 as first_known, worker_up_then}
 
 abbrev ts : List TransId
 ts = trans ∷ afterwards ∷ []
@@ -47,80 +45,9 @@ entry i = unwrap_or (slice_get rejoined_two i) (hello 1 0)
 abbrev event_of : ℕ → Event
 event_of i = (entry i).event
 
--- the state before each entry; what a call was answered is written out
-abbrev at_0 : State
-at_0 = opened (new 2)
-
-known_0 : Only ts js at_0
-known_0 = record { lives = λ u k. refl; fates = λ u k. refl; phases = λ j k. refl }
-
-abbrev at_1 : State
-at_1 = next at_0 (entry 0)
-
-known_1 : Only ts js at_1
-known_1 = only_next ts js at_0 (entry 0) refl known_0
-
-entry_0 : IsLawfulEntry at_0 (entry 0)
-entry_0 = by_laws at_0 (entry 0) refl refl tt
-    (alone ts js trans at_1 known_1 refl)
-    ((refl, refl), tt) tt tt (refl, refl) tt
-
-abbrev at_2 : State
-at_2 = next at_1 (entry 1)
-
-known_2 : Only ts js at_2
-known_2 = only_next ts js at_1 (entry 1) refl known_1
-
-entry_1 : IsLawfulEntry at_1 (entry 1)
-entry_1 = by_laws at_1 (entry 1) refl refl (joins (event_of 1) at_1 join trans 1 (codes "Admin") (refl, refl), tt)
-    (alone ts js trans at_2 known_2 refl)
-    ((refl, refl), (tt, tt)) (tt, tt) tt (refl, refl) tt
-
-abbrev at_3 : State
-at_3 = next at_2 (entry 2)
-
-known_3 : Only ts js at_3
-known_3 = only_next ts js at_2 (entry 2) refl known_2
-
-entry_2 : IsLawfulEntry at_2 (entry 2)
-entry_2 = by_laws at_2 (entry 2) refl refl (enters (event_of 2) at_2 join trans 1 (codes "Admin"), tt)
-    (alone ts js trans at_3 known_3 refl)
-    ((refl, refl), (tt, tt)) tt tt (refl, refl) tt
-
-abbrev at_4 : State
-at_4 = next at_3 (entry 3)
-
-known_4 : Only ts js at_4
-known_4 = only_next ts js at_3 (entry 3) refl known_3
-
-entry_3 : IsLawfulEntry at_3 (entry 3)
-entry_3 = by_laws at_3 (entry 3) refl refl tt
-    (alone ts js trans at_4 known_4 refl)
-    ((refl, refl), tt) tt tt (refl, refl) tt
-
-abbrev granted_4 : State
-granted_4 = state_deed at_4 (Grants trans (makes trans 9))
-
-answer_4 : answer_in granted_4.holder (life_at granted_4 trans) (made_done trans 9) ≡ replied no_opens reply.Plain (Put (OwnerOf (codes "ann")) (cell.Owner (owner_with 9)) ∷ [])
-answer_4 = made granted_4.holder (life_at granted_4 trans) trans 9 (record { edits = refl; own = refl; who = refl }) (map.get-empty key_cmp ann)
-
-abbrev at_5 : State
-at_5 = closed (entry 4) (performed granted_4 trans (made_done trans 9) (life_at granted_4 trans) (replied no_opens reply.Plain (Put (OwnerOf (codes "ann")) (cell.Owner (owner_with 9)) ∷ [])))
-
-same_5 : next at_4 (entry 4) ≡ at_5
-same_5 = call_next at_4 (entry 4) trans (makes trans 9) (made_done trans 9) (life_at granted_4 trans) (replied no_opens reply.Plain (Put (OwnerOf (codes "ann")) (cell.Owner (owner_with 9)) ∷ [])) refl refl (lives_there granted_4 trans refl) answer_4
-
+-- the state before each entry behind those; what a call was answered is written out
 known_5 : Only ts js at_5
-known_5 = subst (Only ts js) same_5 (only_next ts js at_4 (entry 4) refl known_4)
-
-entry_4 : IsLawfulEntry at_4 (entry 4)
-entry_4 = by_laws at_4 (entry 4) refl refl (call_alone ts js at_4 known_4 (event_of 4) trans (makes trans 9) (made_done trans 9) refl refl refl refl refl (inr (join, 1, codes "Admin", refl)) (
-  life_at granted_4 trans,
-  lives_there granted_4 trans refl,
-  record { client = refl; active = refl; formed = (tt, tt, tt); right = ap (λ (a : Answer). a.reply) answer_4; locked = granted-holds no_locks ((Leaf (OwnerOf (codes "ann")), Write) ∷ []) },
-))
-    (subst (λ (s : State). DoLivesAgree s.holder.lives) (sym same_5) (alone ts js trans at_5 known_5 refl))
-    ((refl, refl), tt) (tt, tt) tt (refl, refl) tt
+known_5 = first_known (afterwards ∷ []) (again ∷ [])
 
 abbrev at_6 : State
 at_6 = next at_5 (entry 5)
@@ -129,7 +56,7 @@ known_6 : Only ts js at_6
 known_6 = only_next ts js at_5 (entry 5) refl known_5
 
 entry_5 : IsLawfulEntry at_5 (entry 5)
-entry_5 = by_laws at_5 (entry 5) refl refl tt
+entry_5 = by_laws at_5 (entry 5) refl refl refl tt
     (alone ts js trans at_6 known_6 refl)
     tt (tt, tt) tt ((refl, record { clock = refl; ready = ready_found ts js (at_5) (known_5) ([]) refl (refl, (refl, tt)); decided = stamps_found ts js (at_5) (known_5) ([]) refl ((λ n. refl), ((λ n. refl), tt)) }), refl) tt
 
@@ -140,7 +67,7 @@ known_7 : Only ts js at_7
 known_7 = only_next ts js at_6 (entry 6) refl known_6
 
 entry_6 : IsLawfulEntry at_6 (entry 6)
-entry_6 = by_laws at_6 (entry 6) refl (refl, refl) tt
+entry_6 = by_laws at_6 (entry 6) refl refl (refl, refl) tt
     (alone ts js trans at_7 known_7 refl)
     ((refl, refl), tt) tt tt (refl, refl) tt
 
@@ -151,7 +78,7 @@ known_8 : Only ts js at_8
 known_8 = only_next ts js at_7 (entry 7) refl known_7
 
 entry_7 : IsLawfulEntry at_7 (entry 7)
-entry_7 = by_laws at_7 (entry 7) refl refl tt
+entry_7 = by_laws at_7 (entry 7) refl refl refl tt
     (alone ts js trans at_8 known_8 refl)
     ((refl, refl), tt) tt tt (refl, refl) tt
 
@@ -162,7 +89,7 @@ known_9 : Only ts js at_9
 known_9 = only_next ts js at_8 (entry 8) refl known_8
 
 entry_8 : IsLawfulEntry at_8 (entry 8)
-entry_8 = by_laws at_8 (entry 8) refl refl (joins (event_of 8) at_8 again trans 1 (codes "Admin") (refl, refl), tt)
+entry_8 = by_laws at_8 (entry 8) refl refl refl (joins (event_of 8) at_8 again trans 1 (codes "Admin") (refl, refl), tt)
     (alone ts js trans at_9 known_9 refl)
     ((refl, refl), (tt, tt)) (tt, tt) tt (refl, refl) tt
 
@@ -173,7 +100,7 @@ known_10 : Only ts js at_10
 known_10 = only_next ts js at_9 (entry 9) refl known_9
 
 entry_9 : IsLawfulEntry at_9 (entry 9)
-entry_9 = by_laws at_9 (entry 9) refl refl (quits (event_of 9) at_9 again trans 1 None, tt)
+entry_9 = by_laws at_9 (entry 9) refl refl refl (quits (event_of 9) at_9 again trans 1 None, tt)
     (alone ts js trans at_10 known_10 refl)
     ((refl, refl), tt) tt tt (refl, refl) tt
 
@@ -184,7 +111,7 @@ known_11 : Only ts js at_11
 known_11 = only_next ts js at_10 (entry 10) refl known_10
 
 entry_10 : IsLawfulEntry at_10 (entry 10)
-entry_10 = by_laws at_10 (entry 10) refl refl tt
+entry_10 = by_laws at_10 (entry 10) refl refl refl tt
     (alone ts js trans at_11 known_11 refl)
     ((refl, refl), tt) tt tt (refl, refl) tt
 
@@ -195,7 +122,7 @@ known_12 : Only ts js at_12
 known_12 = only_next ts js at_11 (entry 11) refl known_11
 
 entry_11 : IsLawfulEntry at_11 (entry 11)
-entry_11 = by_laws at_11 (entry 11) refl refl tt
+entry_11 = by_laws at_11 (entry 11) refl refl refl tt
     (alone ts js trans at_12 known_12 refl)
     ((refl, refl), tt) (tt, tt) tt (refl, refl) tt
 
@@ -206,7 +133,7 @@ known_13 : Only ts js at_13
 known_13 = only_next ts js at_12 (entry 12) refl known_12
 
 entry_12 : IsLawfulEntry at_12 (entry 12)
-entry_12 = by_laws at_12 (entry 12) refl refl tt
+entry_12 = by_laws at_12 (entry 12) refl refl refl tt
     (alone ts js trans at_13 known_13 refl)
     ((refl, refl), tt) tt tt (refl, refl) tt
 
@@ -217,7 +144,7 @@ known_14 : Only ts js at_14
 known_14 = only_next ts js at_13 (entry 13) refl known_13
 
 entry_13 : IsLawfulEntry at_13 (entry 13)
-entry_13 = by_laws at_13 (entry 13) refl refl (begins (event_of 13) at_13 afterwards 1 (codes "Admin") 0 refl, tt)
+entry_13 = by_laws at_13 (entry 13) refl refl refl (begins (event_of 13) at_13 afterwards 1 (codes "Admin") 0 refl, tt)
     (alone ts js afterwards at_14 known_14 refl)
     ((refl, refl), tt) (tt, tt) tt (refl, refl) tt
 
@@ -237,7 +164,7 @@ known_15 : Only ts js at_15
 known_15 = subst (Only ts js) same_15 (only_next ts js at_14 (entry 14) refl known_14)
 
 entry_14 : IsLawfulEntry at_14 (entry 14)
-entry_14 = by_laws at_14 (entry 14) refl refl (call_alone ts js at_14 known_14 (event_of 14) afterwards (reads afterwards) (missed_done afterwards) refl refl refl refl refl (inl refl) (
+entry_14 = by_laws at_14 (entry 14) refl refl refl (call_alone ts js at_14 known_14 (event_of 14) afterwards (reads afterwards) (missed_done afterwards) refl refl refl refl refl (inl refl) (
   life_at granted_14 afterwards,
   lives_there granted_14 afterwards refl,
   record { client = refl; active = refl; formed = (tt, tt, tt); right = ap (λ (a : Answer). a.reply) answer_14; locked = granted-holds no_locks ((Leaf (OwnerOf (codes "ann")), Read) ∷ []) },
@@ -255,7 +182,7 @@ known_16 : Only ts js at_16
 known_16 = only_next ts js at_15 (entry 15) refl known_15
 
 entry_15 : IsLawfulEntry at_15 (entry 15)
-entry_15 = by_laws at_15 (entry 15) refl refl (
+entry_15 = by_laws at_15 (entry 15) refl refl refl (
   finishes (event_of 15) at_15 afterwards,
   then_released ts js finished_15 (only_deed ts js at_15 known_15 (Finishes afterwards) refl) (event_of 15) (Decides afterwards_stamp []) afterwards refl refl refl ((λ h. h), ((λ h. h), tt))
       (decides (event_of 15) finished_15 afterwards_stamp []
@@ -267,8 +194,5 @@ entry_15 = by_laws at_15 (entry 15) refl refl (
 from_15 : Along next IsLawfulEntry at_15 (drop 15 rejoined_two)
 from_15 = (entry_15, tt)
 
-from_5 : Along next IsLawfulEntry at_5 (drop 5 rejoined_two)
-from_5 = (entry_5, (entry_6, (entry_7, (entry_8, (entry_9, (entry_10, (entry_11, (entry_12, (entry_13, (entry_14, subst (λ (s : State). Along next IsLawfulEntry s (drop 15 rejoined_two)) (sym same_15) from_15))))))))))
-
 pub lawful : IsLawful (new 2) rejoined_two
-lawful = (entry_0, (entry_1, (entry_2, (entry_3, (entry_4, subst (λ (s : State). Along next IsLawfulEntry s (drop 5 rejoined_two)) (sym same_5) from_5)))))
+lawful = worker_up_then (drop 5 rejoined_two) (entry_5, (entry_6, (entry_7, (entry_8, (entry_9, (entry_10, (entry_11, (entry_12, (entry_13, (entry_14, subst (λ (s : State). Along next IsLawfulEntry s (drop 15 rejoined_two)) (sym same_15) from_15))))))))))

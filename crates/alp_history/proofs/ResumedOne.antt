@@ -43,7 +43,7 @@ known_1 : Only ts js at_1
 known_1 = only_next ts js at_0 (entry 0) refl known_0
 
 entry_0 : IsLawfulEntry at_0 (entry 0)
-entry_0 = by_laws at_0 (entry 0) refl refl tt
+entry_0 = by_laws at_0 (entry 0) refl refl refl tt
     (alone ts js trans at_1 known_1 refl)
     ((refl, refl), tt) ((refl, refl), tt) tt (refl, refl) tt
 
@@ -54,7 +54,7 @@ known_2 : Only ts js at_2
 known_2 = only_next ts js at_1 (entry 1) refl known_1
 
 entry_1 : IsLawfulEntry at_1 (entry 1)
-entry_1 = by_laws at_1 (entry 1) refl refl (
+entry_1 = by_laws at_1 (entry 1) refl refl refl (
   acknowledges (event_of 1) at_1 trans join,
   (forgets (event_of 1) (state_deed at_1 (Acknowledges trans join)) trans (stamp, join ∷ [], join ∷ [], refl, refl), tt),
 )

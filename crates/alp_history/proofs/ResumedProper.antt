@@ -1,7 +1,7 @@
 -- the log that goes on keeps to all that the theorems ask, and its history is the one that is written out
-use Rattle.std.specs.Prelude.{true, false, unwrap_or, None, Some}
+use Rattle.std.specs.Prelude.{true, false, None, Some}
 use Rattle.std.specs.FinMap as map
-use Rattle.std.proofs.Common.{◌≡◌, ℕ, ◌<◌, ◌≤◌, arith, sym, ap, subst, ◌∙◌, [], ◌∷◌, slice_get, refl, inl, inr}
+use Rattle.std.proofs.Common.{◌≡◌, ℕ, ◌<◌, ◌≤◌, arith, sym, ap, subst, ◌∙◌, [], ◌∷◌, refl, inl, inr}
 use Rattle.alp_base.specs.declared.ids.JoinNo.{JoinNo}
 use Rattle.alp_base.specs.declared.key.Key.TheVariants.{Leader, PageOf, OwnerOf}
 use Rattle.alp_modes.specs.Modes.{covers_of}
@@ -10,8 +10,6 @@ use Rattle.alp_files.specs.Locks.{Writes}
 use Rattle.alp_files.specs.Sound.{AreSound}
 use Rattle.alp_files.specs.Apart.{AreSized, IsWithin}
 use Rattle.alp_files.proofs.SoundLemmas.{empty_sound}
-use Rattle.alp_journal.specs.declared.message.Message.TheVariants as msg
-use Rattle.alp_journal.specs.declared.entry.Entry.{Entry}
 use Rattle.alp_journal.specs.Along.{state_after}
 use Rattle.alp_journal.specs.Ids.{same_trans, same_join, has_join}
 use Rattle.alp_journal.specs.Opening.{ReadyNote, DecisionNote}
@@ -21,11 +19,11 @@ use Rattle.alp_journal.specs.Laws.{IsLawful}
 use Rattle.alp_history.specs.Log.{ServerLog, of, opening_of, held, is_noted, is_decided_in, noted, IsIn, AreDifferent, AreDistinct, AreLawful, IsSoundNote, IsSoundDecision, IsSoundOpening, IsLinked}
 use Rattle.alp_history.specs.Theorems.{IsProper}
 use Rattle.alp_history.specs.Examples.{trans, join, stamp}
-use Rattle.alp_history.specs.RightLog.{with_quota, hello, nothing}
-use Rattle.alp_history.specs.ResumedLog.{left_decided, left_ready, opening_two, resumed_one, resumed_two, goes_on_one, goes_on_two, resumed, IsShownResumed}
+use Rattle.alp_history.specs.RightLog.{with_quota, nothing}
+use Rattle.alp_history.specs.ResumedLog.{left_decided, left_ready, opening_two, resumed_two, goes_on_one, goes_on_two, resumed, IsShownResumed}
 use Rattle.alp_journal.proofs.IdLemmas.{same_join-true, or-true}
 use Rattle.alp_history.proofs.Quotas.{quota_sound, quota_sized, none_sized, put_quota}
-use Rattle.alp_history.proofs.LinkLemmas.{WasSentTo, AllRanked, sent_at, each_both, links_both}
+use Rattle.alp_history.proofs.LinkLemmas.{each_both, links_both}
 use Rattle.alp_history.proofs.ResumedOne.{lawful as one_lawful}
 use Rattle.alp_history.proofs.ResumedTwo.{lawful as two_lawful, cells_last}
 use Rattle.alp_history.proofs.RightHistory.{ends}
@@ -111,23 +109,8 @@ sound n = record {
 
 -- ---- links
 
-abbrev by_one : ℕ → Entry
-by_one i = unwrap_or (slice_get resumed_one i) (hello 0)
-
-abbrev by_two : ℕ → Entry
-by_two i = unwrap_or (slice_get resumed_two i) (hello 0)
-
-sent_one : AllRanked (λ r (e : Entry). WasSentTo resumed 1 r e.event) goes_on_one.ranks resumed_one
-sent_one = (
-  sent_at resumed 2 1 (msg.Inquire trans join) 2 0 (by_two 0) refl (inl refl) refl,
-  (sent_at resumed 2 1 (msg.Done trans join) 4 1 (by_two 1) refl (inr (inr (inl refl))) refl, tt),
-)
-
-sent_two : AllRanked (λ r (e : Entry). WasSentTo resumed 2 r e.event) goes_on_two.ranks resumed_two
-sent_two = (tt, (sent_at resumed 1 2 (msg.Commit trans join stamp) 3 0 (by_one 0) refl (inl refl) refl, (tt, (tt, (tt, (tt, tt))))))
-
 linked : IsLinked resumed
-linked = links_both nothing goes_on_one goes_on_two refl refl refl refl sent_one sent_two
+linked = links_both nothing goes_on_one goes_on_two refl refl refl refl refl refl
 
 lawful : AreLawful resumed
 lawful = each_both nothing goes_on_one goes_on_two (λ n x. IsLawful x.opening x.journal) one_lawful two_lawful (λ m. tt)

@@ -61,7 +61,7 @@ known_1 : Only ts js at_1
 known_1 = only_next ts js at_0 (entry 0) refl known_0
 
 entry_0 : IsLawfulEntry at_0 (entry 0)
-entry_0 = by_laws at_0 (entry 0) refl refl tt
+entry_0 = by_laws at_0 (entry 0) refl refl refl tt
     (alone ts js trans at_1 known_1 refl)
     ((refl, refl), tt) (tt, tt) tt (refl, refl) tt
 
@@ -72,7 +72,7 @@ known_2 : Only ts js at_2
 known_2 = only_next ts js at_1 (entry 1) refl known_1
 
 entry_1 : IsLawfulEntry at_1 (entry 1)
-entry_1 = by_laws at_1 (entry 1) refl refl (then_released ts js at_1 known_1 (event_of 1) (Applies join stamp) trans refl refl refl ((λ h. h), tt)
+entry_1 = by_laws at_1 (entry 1) refl refl refl (then_released ts js at_1 known_1 (event_of 1) (Applies join stamp) trans refl refl refl ((λ h. h), tt)
     (applies (event_of 1) at_1 join stamp (record { from = 1; client = 1; ts = 1; told = refl; ready = refl; elsewhere = refl; live = (life_at at_1 trans, lives_there at_1 trans refl, refl) })))
     (alone ts js trans at_2 known_2 refl)
     ((refl, refl), tt) (tt, (tt, ((1, stamp, refl, refl, refl), tt))) tt (refl, refl) tt
@@ -84,7 +84,7 @@ known_3 : Only ts js at_3
 known_3 = only_next ts js at_2 (entry 2) refl known_2
 
 entry_2 : IsLawfulEntry at_2 (entry 2)
-entry_2 = by_laws at_2 (entry 2) refl refl tt
+entry_2 = by_laws at_2 (entry 2) refl refl refl tt
     (alone ts js trans at_3 known_3 refl)
     ((refl, refl), tt) tt tt (refl, refl) tt
 
@@ -95,7 +95,7 @@ known_4 : Only ts js at_4
 known_4 = only_next ts js at_3 (entry 3) refl known_3
 
 entry_3 : IsLawfulEntry at_3 (entry 3)
-entry_3 = by_laws at_3 (entry 3) refl refl (begins (event_of 3) at_3 afterwards 1 (codes "Admin") 0 refl, tt)
+entry_3 = by_laws at_3 (entry 3) refl refl refl (begins (event_of 3) at_3 afterwards 1 (codes "Admin") 0 refl, tt)
     (alone ts js afterwards at_4 known_4 refl)
     ((refl, refl), tt) (tt, tt) tt (refl, refl) tt
 
@@ -115,7 +115,7 @@ known_5 : Only ts js at_5
 known_5 = subst (Only ts js) same_5 (only_next ts js at_4 (entry 4) refl known_4)
 
 entry_4 : IsLawfulEntry at_4 (entry 4)
-entry_4 = by_laws at_4 (entry 4) refl refl (call_alone ts js at_4 known_4 (event_of 4) afterwards (reads afterwards) (found_done afterwards 5) refl refl refl refl refl (inl refl) (
+entry_4 = by_laws at_4 (entry 4) refl refl refl (call_alone ts js at_4 known_4 (event_of 4) afterwards (reads afterwards) (found_done afterwards 5) refl refl refl refl refl (inl refl) (
   life_at granted_4 afterwards,
   lives_there granted_4 afterwards refl,
   record { client = refl; active = refl; formed = (tt, tt, tt); right = ap (λ (a : Answer). a.reply) answer_4; locked = granted-holds no_locks ((Leaf (OwnerOf (codes "ann")), Read) ∷ []) },
@@ -133,7 +133,7 @@ known_6 : Only ts js at_6
 known_6 = only_next ts js at_5 (entry 5) refl known_5
 
 entry_5 : IsLawfulEntry at_5 (entry 5)
-entry_5 = by_laws at_5 (entry 5) refl refl (
+entry_5 = by_laws at_5 (entry 5) refl refl refl (
   finishes (event_of 5) at_5 afterwards,
   then_released ts js finished_5 (only_deed ts js at_5 known_5 (Finishes afterwards) refl) (event_of 5) (Decides reading_stamp []) afterwards refl refl refl ((λ h. h), tt)
       (decides (event_of 5) finished_5 reading_stamp []

@@ -11,7 +11,6 @@ use Rattle.alp_history.proofs.FoundTwo as found_two
 use Rattle.alp_history.proofs.CutOne as cut_one
 use Rattle.alp_history.proofs.CutTwo as cut_two
 use Rattle.alp_history.proofs.WaitsOne as waits_one
-use Rattle.alp_history.proofs.CreatesOne as creates_one
 
 pub lawful : AreLawfulJournals
 lawful = record {
@@ -26,5 +25,4 @@ lawful = record {
   cut_one = cut_one.lawful;
   cut_two = cut_two.lawful;
   waits_one = waits_one.lawful;
-  created = creates_one.lawful;
 }

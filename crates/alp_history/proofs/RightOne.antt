@@ -1,6 +1,6 @@
 -- the journal of server 1 in the right log is lawful
 use Rattle.std.specs.FinMap as map
-use Rattle.std.specs.Prelude.{codes, unwrap_or, slice_get, drop}
+use Rattle.std.specs.Prelude.{codes, unwrap_or, slice_get, drop, take}
 use Rattle.std.specs.FinMap.{get-insert}
 use Rattle.std.proofs.Common.{◌≡◌, ℕ, List, [], ◌∷◌, refl, sym, ap, subst, ◌∙◌, inl, inr}
 use Rattle.alp_base.specs.KeyLaws.{keys_total}
@@ -60,7 +60,7 @@ known_1 : Only ts js at_1
 known_1 = only_next ts js at_0 (entry 0) refl known_0
 
 entry_0 : IsLawfulEntry at_0 (entry 0)
-entry_0 = by_laws at_0 (entry 0) refl refl tt
+entry_0 = by_laws at_0 (entry 0) refl refl refl tt
     (alone ts js trans at_1 known_1 refl)
     ((refl, refl), tt) tt tt (refl, refl) tt
 
@@ -71,7 +71,7 @@ known_2 : Only ts js at_2
 known_2 = only_next ts js at_1 (entry 1) refl known_1
 
 entry_1 : IsLawfulEntry at_1 (entry 1)
-entry_1 = by_laws at_1 (entry 1) refl refl (begins (event_of 1) at_1 trans 1 (codes "Admin") 0 refl, tt)
+entry_1 = by_laws at_1 (entry 1) refl refl refl (begins (event_of 1) at_1 trans 1 (codes "Admin") 0 refl, tt)
     (alone ts js trans at_2 known_2 refl)
     ((refl, refl), tt) (tt, tt) tt (refl, refl) tt
 
@@ -91,7 +91,7 @@ known_3 : Only ts js at_3
 known_3 = subst (Only ts js) same_3 (only_next ts js at_2 (entry 2) refl known_2)
 
 entry_2 : IsLawfulEntry at_2 (entry 2)
-entry_2 = by_laws at_2 (entry 2) refl refl (call_alone ts js at_2 known_2 (event_of 2) trans (sets trans 5) (set_done trans 5) refl refl refl refl refl (inl refl) (
+entry_2 = by_laws at_2 (entry 2) refl refl refl (call_alone ts js at_2 known_2 (event_of 2) trans (sets trans 5) (set_done trans 5) refl refl refl refl refl (inl refl) (
   life_at granted_2 trans,
   lives_there granted_2 trans refl,
   record { client = refl; active = refl; formed = (tt, tt, tt); right = ap (λ (a : Answer). a.reply) answer_2; locked = granted-holds no_locks ((Leaf (OwnerOf (codes "ann")), Write) ∷ []) },
@@ -106,7 +106,7 @@ known_4 : Only ts js at_4
 known_4 = only_next ts js at_3 (entry 3) refl known_3
 
 entry_3 : IsLawfulEntry at_3 (entry 3)
-entry_3 = by_laws at_3 (entry 3) refl refl (registers (event_of 3) at_3 trans join (record { from = 2; client = 1; joins = []; asked = refl; runs = refl; first = refl; elsewhere = refl }), tt)
+entry_3 = by_laws at_3 (entry 3) refl refl refl (registers (event_of 3) at_3 trans join (record { from = 2; client = 1; joins = []; asked = refl; runs = refl; first = refl; elsewhere = refl }), tt)
     (alone ts js trans at_4 known_4 refl)
     ((refl, refl), tt) (tt, (refl, tt)) tt (refl, refl) tt
 
@@ -117,7 +117,7 @@ known_5 : Only ts js at_5
 known_5 = only_next ts js at_4 (entry 4) refl known_4
 
 entry_4 : IsLawfulEntry at_4 (entry 4)
-entry_4 = by_laws at_4 (entry 4) refl refl (finishes (event_of 4) at_4 trans, tt)
+entry_4 = by_laws at_4 (entry 4) refl refl refl (finishes (event_of 4) at_4 trans, tt)
     (alone ts js trans at_5 known_5 refl)
     ((refl, refl), (tt, tt)) (tt, tt) tt (refl, refl) tt
 
@@ -131,7 +131,7 @@ known_6 : Only ts js at_6
 known_6 = only_next ts js at_5 (entry 5) refl known_5
 
 entry_5 : IsLawfulEntry at_5 (entry 5)
-entry_5 = by_laws at_5 (entry 5) refl refl (
+entry_5 = by_laws at_5 (entry 5) refl refl refl (
   hears (event_of 5) at_5 trans join 1,
   then_released ts js heard_5 (only_deed ts js at_5 known_5 (Hears trans join 1) refl) (event_of 5) (Decides stamp (join ∷ [])) trans refl refl refl ((λ h. h), tt)
       (decides (event_of 5) heard_5 stamp (join ∷ [])
@@ -147,7 +147,7 @@ known_7 : Only ts js at_7
 known_7 = only_next ts js at_6 (entry 6) refl known_6
 
 entry_6 : IsLawfulEntry at_6 (entry 6)
-entry_6 = by_laws at_6 (entry 6) refl refl tt
+entry_6 = by_laws at_6 (entry 6) refl refl refl tt
     (alone ts js trans at_7 known_7 refl)
     tt (tt, tt) tt ((refl, record { clock = refl; ready = ready_found ts js (at_6) (known_6) ([]) refl (refl, tt); decided = stamps_found ts js (at_6) (known_6) (stamp ∷ []) refl ((λ n. or_false _), ((λ n. or_false _ ∙ and_false _), ((λ n. or_false _ ∙ and_false _), tt))) }), refl) tt
 
@@ -158,7 +158,7 @@ known_8 : Only ts js at_8
 known_8 = only_next ts js at_7 (entry 7) refl known_7
 
 entry_7 : IsLawfulEntry at_7 (entry 7)
-entry_7 = by_laws at_7 (entry 7) refl refl tt
+entry_7 = by_laws at_7 (entry 7) refl refl refl tt
     (alone ts js trans at_8 known_8 refl)
     ((refl, refl), tt) ((refl, refl), tt) tt (refl, refl) tt
 
@@ -169,7 +169,7 @@ known_9 : Only ts js at_9
 known_9 = only_next ts js at_8 (entry 8) refl known_8
 
 entry_8 : IsLawfulEntry at_8 (entry 8)
-entry_8 = by_laws at_8 (entry 8) refl refl tt
+entry_8 = by_laws at_8 (entry 8) refl refl refl tt
     (alone ts js trans at_9 known_9 refl)
     ((refl, refl), tt) tt tt (refl, refl) tt
 
@@ -180,7 +180,7 @@ known_10 : Only ts js at_10
 known_10 = only_next ts js at_9 (entry 9) refl known_9
 
 entry_9 : IsLawfulEntry at_9 (entry 9)
-entry_9 = by_laws at_9 (entry 9) refl refl tt
+entry_9 = by_laws at_9 (entry 9) refl refl refl tt
     (alone ts js trans at_10 known_10 refl)
     ((refl, refl), tt) tt (refl, refl) (refl, refl) tt
 
@@ -191,7 +191,7 @@ known_11 : Only ts js at_11
 known_11 = only_next ts js at_10 (entry 10) refl known_10
 
 entry_10 : IsLawfulEntry at_10 (entry 10)
-entry_10 = by_laws at_10 (entry 10) refl refl (joins (event_of 10) at_10 second_join second 1 (codes "Admin") (refl, refl), tt)
+entry_10 = by_laws at_10 (entry 10) refl refl refl (joins (event_of 10) at_10 second_join second 1 (codes "Admin") (refl, refl), tt)
     (alone ts js second at_11 known_11 refl)
     ((refl, refl), (tt, tt)) (tt, tt) tt (refl, refl) tt
 
@@ -202,7 +202,7 @@ known_12 : Only ts js at_12
 known_12 = only_next ts js at_11 (entry 11) refl known_11
 
 entry_11 : IsLawfulEntry at_11 (entry 11)
-entry_11 = by_laws at_11 (entry 11) refl refl (enters (event_of 11) at_11 second_join second 1 (codes "Admin"), tt)
+entry_11 = by_laws at_11 (entry 11) refl refl refl (enters (event_of 11) at_11 second_join second 1 (codes "Admin"), tt)
     (alone ts js second at_12 known_12 refl)
     ((refl, refl), (tt, tt)) tt tt (refl, refl) tt
 
@@ -213,7 +213,7 @@ known_13 : Only ts js at_13
 known_13 = only_next ts js at_12 (entry 12) refl known_12
 
 entry_12 : IsLawfulEntry at_12 (entry 12)
-entry_12 = by_laws at_12 (entry 12) refl refl tt
+entry_12 = by_laws at_12 (entry 12) refl refl refl tt
     (alone ts js second at_13 known_13 refl)
     ((refl, refl), tt) tt tt (refl, refl) tt
 
@@ -233,7 +233,7 @@ known_14 : Only ts js at_14
 known_14 = subst (Only ts js) same_14 (only_next ts js at_13 (entry 13) refl known_13)
 
 entry_13 : IsLawfulEntry at_13 (entry 13)
-entry_13 = by_laws at_13 (entry 13) refl refl (call_alone ts js at_13 known_13 (event_of 13) second (reads second) (found_done second 5) refl refl refl refl refl (inr (second_join, 1, codes "Admin", refl)) (
+entry_13 = by_laws at_13 (entry 13) refl refl refl (call_alone ts js at_13 known_13 (event_of 13) second (reads second) (found_done second 5) refl refl refl refl refl (inr (second_join, 1, codes "Admin", refl)) (
   life_at granted_13 second,
   lives_there granted_13 second refl,
   record { client = refl; active = refl; formed = (tt, tt, tt); right = ap (λ (a : Answer). a.reply) answer_13; locked = granted-holds no_locks ((Leaf (OwnerOf (codes "ann")), Read) ∷ []) },
@@ -248,7 +248,7 @@ known_15 : Only ts js at_15
 known_15 = only_next ts js at_14 (entry 14) refl known_14
 
 entry_14 : IsLawfulEntry at_14 (entry 14)
-entry_14 = by_laws at_14 (entry 14) refl refl (readies (event_of 14) at_14 second_join second 2 (record { from = 2; client = 1; who = codes "Admin"; asked = refl; active = refl; idle = refl; time = refl; live = (life_at at_14 second, lives_there at_14 second refl, refl) }), tt)
+entry_14 = by_laws at_14 (entry 14) refl refl refl (readies (event_of 14) at_14 second_join second 2 (record { from = 2; client = 1; who = codes "Admin"; asked = refl; active = refl; idle = refl; time = refl; live = (life_at at_14 second, lives_there at_14 second refl, refl) }), tt)
     (alone ts js second at_15 known_15 refl)
     ((refl, refl), tt) (tt, ((1, refl), tt)) tt (refl, refl) tt
 
@@ -259,7 +259,7 @@ known_16 : Only ts js at_16
 known_16 = only_next ts js at_15 (entry 15) refl known_15
 
 entry_15 : IsLawfulEntry at_15 (entry 15)
-entry_15 = by_laws at_15 (entry 15) refl refl (then_released ts js at_15 known_15 (event_of 15) (Applies second_join second_stamp) second refl refl refl ((λ h. h), tt)
+entry_15 = by_laws at_15 (entry 15) refl refl refl (then_released ts js at_15 known_15 (event_of 15) (Applies second_join second_stamp) second refl refl refl ((λ h. h), tt)
     (applies (event_of 15) at_15 second_join second_stamp (record { from = 2; client = 1; ts = 2; told = refl; ready = refl; elsewhere = refl; live = (life_at at_15 second, lives_there at_15 second refl, refl) })))
     (alone ts js second at_16 known_16 refl)
     ((refl, refl), tt) (tt, (tt, ((2, second_stamp, refl, refl, refl), tt))) tt (refl, refl) tt
@@ -271,7 +271,7 @@ known_17 : Only ts js at_17
 known_17 = only_next ts js at_16 (entry 16) refl known_16
 
 entry_16 : IsLawfulEntry at_16 (entry 16)
-entry_16 = by_laws at_16 (entry 16) refl refl (begins (event_of 16) at_16 third 1 (codes "Admin") 1 refl, tt)
+entry_16 = by_laws at_16 (entry 16) refl refl refl (begins (event_of 16) at_16 third 1 (codes "Admin") 1 refl, tt)
     (alone ts js third at_17 known_17 refl)
     ((refl, refl), tt) (tt, tt) tt (refl, refl) tt
 
@@ -291,7 +291,7 @@ known_18 : Only ts js at_18
 known_18 = subst (Only ts js) same_18 (only_next ts js at_17 (entry 17) refl known_17)
 
 entry_17 : IsLawfulEntry at_17 (entry 17)
-entry_17 = by_laws at_17 (entry 17) refl refl (call_alone ts js at_17 known_17 (event_of 17) third (sets third 8) (set_done third 8) refl refl refl refl refl (inl refl) (
+entry_17 = by_laws at_17 (entry 17) refl refl refl (call_alone ts js at_17 known_17 (event_of 17) third (sets third 8) (set_done third 8) refl refl refl refl refl (inl refl) (
   life_at granted_17 third,
   lives_there granted_17 third refl,
   record { client = refl; active = refl; formed = (tt, tt, tt); right = ap (λ (a : Answer). a.reply) answer_17; locked = granted-holds no_locks ((Leaf (OwnerOf (codes "ann")), Write) ∷ []) },
@@ -309,7 +309,7 @@ known_19 : Only ts js at_19
 known_19 = only_next ts js at_18 (entry 18) refl known_18
 
 entry_18 : IsLawfulEntry at_18 (entry 18)
-entry_18 = by_laws at_18 (entry 18) refl refl (
+entry_18 = by_laws at_18 (entry 18) refl refl refl (
   finishes (event_of 18) at_18 third,
   then_released ts js finished_18 (only_deed ts js at_18 known_18 (Finishes third) refl) (event_of 18) (Decides third_stamp []) third refl refl refl ((λ h. h), tt)
       (decides (event_of 18) finished_18 third_stamp []
@@ -324,9 +324,9 @@ at_20 = next at_19 (entry 19)
 known_20 : Only ts js at_20
 known_20 = only_next ts js at_19 (entry 19) refl known_19
 
--- the frame comes again
+-- the frame comes again, and once more
 entry_19 : IsLawfulEntry at_19 (entry 19)
-entry_19 = by_laws at_19 (entry 19) refl (refl, refl) tt
+entry_19 = by_laws at_19 (entry 19) refl refl (refl, refl) tt
     (alone ts js third at_20 known_20 refl)
     ((refl, refl), tt) tt tt (refl, refl) tt
 
@@ -337,15 +337,26 @@ known_21 : Only ts js at_21
 known_21 = only_next ts js at_20 (entry 20) refl known_20
 
 entry_20 : IsLawfulEntry at_20 (entry 20)
-entry_20 = by_laws at_20 (entry 20) refl refl (
-  acknowledges (event_of 20) at_20 trans join,
-  (forgets (event_of 20) (state_deed at_20 (Acknowledges trans join)) trans (stamp, join ∷ [], join ∷ [], refl, refl), tt),
-)
+entry_20 = by_laws at_20 (entry 20) refl refl (refl, refl) tt
     (alone ts js third at_21 known_21 refl)
+    ((refl, refl), tt) tt tt (refl, refl) tt
+
+abbrev at_22 : State
+at_22 = next at_21 (entry 21)
+
+known_22 : Only ts js at_22
+known_22 = only_next ts js at_21 (entry 21) refl known_21
+
+entry_21 : IsLawfulEntry at_21 (entry 21)
+entry_21 = by_laws at_21 (entry 21) refl refl refl (
+  acknowledges (event_of 21) at_21 trans join,
+  (forgets (event_of 21) (state_deed at_21 (Acknowledges trans join)) trans (stamp, join ∷ [], join ∷ [], refl, refl), tt),
+)
+    (alone ts js third at_22 known_22 refl)
     ((refl, refl), tt) (tt, tt) tt (refl, refl) tt
 
 from_18 : Along next IsLawfulEntry at_18 (drop 18 one)
-from_18 = (entry_18, (entry_19, (entry_20, tt)))
+from_18 = (entry_18, (entry_19, (entry_20, (entry_21, tt))))
 
 from_14 : Along next IsLawfulEntry at_14 (drop 14 one)
 from_14 = (entry_14, (entry_15, (entry_16, (entry_17, subst (λ (s : State). Along next IsLawfulEntry s (drop 18 one)) (sym same_18) from_18))))
@@ -353,10 +364,27 @@ from_14 = (entry_14, (entry_15, (entry_16, (entry_17, subst (λ (s : State). Alo
 from_3 : Along next IsLawfulEntry at_3 (drop 3 one)
 from_3 = (entry_3, (entry_4, (entry_5, (entry_6, (entry_7, (entry_8, (entry_9, (entry_10, (entry_11, (entry_12, (entry_13, subst (λ (s : State). Along next IsLawfulEntry s (drop 14 one)) (sym same_14) from_14)))))))))))
 
+-- up to the first vote, and up to the question for its own
+pub up_to_vote : IsLawful (opening 1) (take 5 one)
+up_to_vote = (entry_0, (entry_1, (entry_2, subst (λ (s : State). Along next IsLawfulEntry s (drop 3 (take 5 one))) (sym same_3) (entry_3, (entry_4, tt)))))
+
+pub up_to_question : IsLawful (opening 1) (take 14 one)
+up_to_question = (
+  entry_0,
+  (
+    entry_1,
+    (
+      entry_2,
+      subst (λ (s : State). Along next IsLawfulEntry s (drop 3 (take 14 one))) (sym same_3)
+          (entry_3, (entry_4, (entry_5, (entry_6, (entry_7, (entry_8, (entry_9, (entry_10, (entry_11, (entry_12, (entry_13, tt))))))))))),
+    ),
+  ),
+)
+
 pub lawful : IsLawful (opening 1) one
 lawful = (entry_0, (entry_1, (entry_2, subst (λ (s : State). Along next IsLawfulEntry s (drop 3 one)) (sym same_3) from_3)))
 
-last : state_after next (opened (opening 1)) one ≡ at_21
+last : state_after next (opened (opening 1)) one ≡ at_22
 last = ap (λ (s : State). state_after next s (drop 3 one)) same_3 ∙ ap (λ (s : State). state_after next s (drop 14 one)) same_14 ∙ ap (λ (s : State). state_after next s (drop 18 one)) same_18
 
 pub cells_last : (state_after next (opened (opening 1)) one).holder.cells ≡ with_quota 8

@@ -364,7 +364,7 @@ module _ (log : Log) (proper : IsProper log) where
             | inl r ↦
                 let note : is_noted log j ≡ true = early-noted log proper n x j r.0 r.1 r.3 (x.trans.server, done.joins, done.committed, done.has) in
                 subst (Began log proper n (is_still js)) (sym (behind-early life m (ap (λ (z : Life). z.is_early) r.4) ∙ ap (λ (z : Life). edits_map z.edits m) r.4))
-                (began-first log proper n (is_still (j ∷ js)) (is_still js) r.0 r.1
+                (began-first log proper n (is_still (j ∷ js)) (is_still js) r.0 r.1 (ap (is_noted log) r.2 ∙ note)
                 (subst (λ i. is_still (j ∷ js) i ≡ true) (sym r.2) (ap (λ d. d && (same_join j j || has_join j js)) (left-here true note) ∙ ap (λ d. d || has_join j js) self))
                 (subst (λ i. is_still js i ≡ false) (sym r.2) (ap (λ d. is_left log proper fin.phases j && d) (not-among js b.apart.0) ∙ and-false (is_left log proper fin.phases j)))
                 (λ y i e. ap (λ d. is_left log proper fin.phases y.join && (d || has_join y.join js)) (ap (λ z. same_join z y.join) (sym r.2) ∙ e)) m q)

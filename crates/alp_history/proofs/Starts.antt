@@ -14,6 +14,7 @@ use Rattle.alp_journal.specs.Ids.{same_trans, same_join}
 use Rattle.alp_journal.specs.Opening.{ReadyNote}
 use Rattle.alp_history.specs.Log.{IsIn, AreDistinct, held}
 use Rattle.alp_history.proofs.Places.{all-in}
+use Rattle.alp_journal.proofs.IdLemmas.{same_trans-true, same_trans-itself}
 
 -- the test is asked of the notes' joins alone
 pub held-same : (p q : JoinNo → Bool) (rs : List ReadyNote) → ((r : ReadyNote) → IsIn r rs → p r.join ≡ q r.join) → (m : Cells) → held p rs m ≡ held q rs m
@@ -58,3 +59,26 @@ module _ (r : ReadyNote) (fit : IsFit r) (p q : JoinNo → Bool) (now : p r.join
       turned : (b : Bool) → IsFit x → DoAgree (held_by r.locks) (held_by x.locks) → (m : Cells) → edits_map r.edits (cond b (edits_map x.edits m) m) ≡ cond b (edits_map x.edits (edits_map r.edits m)) (edits_map r.edits m)
       turned true g agree m = sym (notes-commute r x fit g agree m)
       turned false g agree m = refl
+
+-- the notes of one server are of different transactions
+pub one-of-trans : (rs : List ReadyNote) → AreDistinct rs → (r q : ReadyNote) → IsIn r rs → IsIn q rs → same_trans r.trans q.trans ≡ true → r ≡ q
+one-of-trans [] d r q i j e = absurd i
+one-of-trans (y ∷ rs) d r q (inl a) (inl b) e = a ∙ sym b
+one-of-trans (y ∷ rs) d r q (inr i) (inr j) e = one-of-trans rs d.1 r q i j e
+one-of-trans (y ∷ rs) d r q (inl a) (inr j) e =
+    let other = (all-in (λ (z : ReadyNote). (same_trans y.trans z.trans ≡ false) × (same_join y.join z.join ≡ false)) rs q d.0 j).0 in
+    let wrong : true ≡ false = sym e ∙ ap (λ (z : ReadyNote). same_trans z.trans q.trans) a ∙ other in cc
+one-of-trans (y ∷ rs) d r q (inr i) (inl b) e =
+    let other = (all-in (λ (z : ReadyNote). (same_trans y.trans z.trans ≡ false) × (same_join y.join z.join ≡ false)) rs r d.0 i).0 in
+    let same : q.trans ≡ r.trans = sym (same_trans-true r.trans q.trans e) in
+    let wrong : true ≡ false = sym (same_trans-itself r.trans) ∙ ap (λ t. same_trans t r.trans) (sym same) ∙ ap (λ (z : ReadyNote). same_trans z.trans r.trans) b ∙ other in cc
+
+-- and one of them behind those that agree with it
+pub held-behind : (r : ReadyNote) → IsFit r → (q : JoinNo → Bool) (rs : List ReadyNote) → ((x : ReadyNote) → IsIn x rs → q x.join ≡ true → IsFit x × DoAgree (held_by r.locks) (held_by x.locks)) → (m : Cells)
+    → held q rs (edits_map r.edits m) ≡ edits_map r.edits (held q rs m)
+held-behind r fit q [] apart m = refl
+held-behind r fit q (x ∷ rs) apart m = ap (held q rs) (turned (q x.join) refl) ∙ held-behind r fit q rs (λ y i. apart y (inr i)) (cond (q x.join) (edits_map x.edits m) m)
+  where
+    turned : (b : Bool) → q x.join ≡ b → cond b (edits_map x.edits (edits_map r.edits m)) (edits_map r.edits m) ≡ edits_map r.edits (cond b (edits_map x.edits m) m)
+    turned true e = let a = apart x (inl refl) e in notes-commute r x fit a.0 a.1 m
+    turned false e = refl

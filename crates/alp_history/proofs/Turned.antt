@@ -1,13 +1,12 @@
 -- what earlier runs had made ready and decided, and how it comes to be applied
-use Rattle.std.specs.Prelude.{Bool, true, false, cond, ◌&&◌, ◌||◌, ◌==◌, Option, None, Some, unwrap_or, find, filter, flat_map}
+use Rattle.std.specs.Prelude.{Bool, true, false, cond, not, ◌&&◌, ◌||◌, ◌==◌, Option, None, Some, unwrap_or, find, filter, flat_map}
 use Rattle.std.specs.List.{list_any, AllByRecursion}
 use Rattle.std.proofs.Common.{◌≡◌, ℕ, ◌+◌, ◌<◌, ◌≤◌, List, [], ◌∷◌, ◌++◌, refl, sym, ap, subst, ◌∙◌, arith, inl, inr, ◌⊎◌}
 use Rattle.alp_base.specs.declared.ids.JoinNo.{JoinNo}
 use Rattle.alp_base.specs.declared.ids.TransId.{TransId}
 use Rattle.alp_base.specs.declared.ids.Stamp.{Stamp}
 use Rattle.alp_files.specs.Cells.{Cells}
-use Rattle.alp_files.specs.Edits.{Edit, edits_map}
-use Rattle.alp_files.proofs.HistoryLemmas.{edits_map-append}
+use Rattle.alp_files.specs.Edits.{edits_map}
 use Rattle.alp_journal.specs.declared.event.Event.{Event}
 use Rattle.alp_journal.specs.Along.{state_after}
 use Rattle.alp_journal.specs.Ids.{same_trans, same_join, has_join, has_server}
@@ -29,13 +28,13 @@ use Rattle.alp_history.proofs.Entries.{is_open}
 use Rattle.alp_history.proofs.Logs.{stands-from}
 use Rattle.alp_journal.proofs.OneServer.{behind, behind-early, behind-own, Turns}
 use Rattle.alp_history.proofs.Agreed.{size, all-of, at-end, decided-from, AbortCame, CommitCame, abort-late, WasCommitted, commit-came, committed-parts}
-use Rattle.alp_history.proofs.Starts.{IsFit, held-same, held-first}
+use Rattle.alp_history.proofs.Starts.{IsFit, held-same, held-first, held-behind, one-of-trans}
 use Rattle.alp_history.proofs.Linked.{IsYoung, HasPart, IsLinkedUp, Does, same_join-self}
 use Rattle.alp_history.proofs.Rights.{IsRightDeed}
 
 -- ---- decisions come by Decides alone
 
-decision-back : (d : Deed) (t : TransId) (f : Fate) (y : Decision) → decision_in (fate_after d t f) ≡ Some y → (decision_in f ≡ Some y) ⊎ ((x : Stamp) × (js : List JoinNo) × (d ≡ Decides x js) × (x.trans ≡ t))
+pub decision-back : (d : Deed) (t : TransId) (f : Fate) (y : Decision) → decision_in (fate_after d t f) ≡ Some y → (decision_in f ≡ Some y) ⊎ ((x : Stamp) × (js : List JoinNo) × (d ≡ Decides x js) × (x.trans ≡ t))
 decision-back d t f y h = go f h
   where
     none : {A : Type 0} → None ≡ Some y → A
@@ -372,24 +371,42 @@ module _ (log : Log) (proper : IsProper log) where
 
   -- ---- the files that the history begins with
 
-  -- from the files of the opening, with some changes; with those behind them that were decided before and are still ready,
-  -- they are those of the start
+  -- They are those of the opening, with the changes of what was decided before and is applied by now; and with those of what was
+  -- decided before and is still ready they are those of the start.
   abbrev pub is_left : (JoinNo → Phase) → JoinNo → Bool
   is_left phases j = is_noted log j && is_ready (phases j)
 
+  abbrev pub is_spent : (JoinNo → Bool) → JoinNo → Bool
+  is_spent left j = is_noted log j && not (left j)
+
   abbrev pub Began : ℕ → (JoinNo → Bool) → Cells → Type 0
-  Began n left b = ((early : List Edit) × (edits_map early (opening_of log n).cells ≡ b)) × (held left (opening_of log n).ready b ≡ start_of log n)
+  Began n left b = (held (is_spent left) (opening_of log n).ready (opening_of log n).cells ≡ b) × (held left (opening_of log n).ready b ≡ start_of log n)
 
   pub began-same : (n : ℕ) (p q : JoinNo → Bool) → ((r : ReadyNote) → IsIn r (opening_of log n).ready → p r.join ≡ q r.join) → (b : Cells) → Began n p b → Began n q b
-  began-same n p q f b h = (h.0, held-same q p (opening_of log n).ready (λ r i. sym (f r i)) b ∙ h.1)
+  began-same n p q f b h = (
+    held-same (is_spent q) (is_spent p) (opening_of log n).ready (λ r i. ap (λ c. is_noted log r.join && not c) (sym (f r i))) (opening_of log n).cells ∙ h.0,
+    held-same q p (opening_of log n).ready (λ r i. sym (f r i)) b ∙ h.1,
+  )
 
   -- one that is decided comes first
-  pub began-first : (n : ℕ) (p q : JoinNo → Bool) (r : ReadyNote) → IsIn r (opening_of log n).ready → p r.join ≡ true → q r.join ≡ false
+  pub began-first : (n : ℕ) (p q : JoinNo → Bool) (r : ReadyNote) → IsIn r (opening_of log n).ready → is_noted log r.join ≡ true → p r.join ≡ true → q r.join ≡ false
       → ((x : ReadyNote) → IsIn x (opening_of log n).ready → same_join r.join x.join ≡ false → p x.join ≡ q x.join) → (b : Cells) → Began n p b → Began n q (edits_map r.edits b)
-  began-first n p q r i now then_ rest b h = (
-    (h.0.0 ++ r.edits, edits_map-append h.0.0 r.edits (opening_of log n).cells ∙ ap (edits_map r.edits) h.0.1),
+  began-first n p q r i noted now then_ rest b h = (
+    held-first r (fit n r i) (is_spent q) (is_spent p) ((λ k. noted k && not (then_ k))) before (opening_of log n).ready (proper.sound n).distinct (λ x k. (fit n x k, (proper.sound n).agree r x i k))
+        (λ x k away. ap (λ c. is_noted log x.join && not c) (sym (rest x k away))) (λ x k. join-turn x.join r.join) (λ x k. trans-turn x.trans r.trans) i (opening_of log n).cells
+        ∙ held-behind r (fit n r i) (is_spent p) (opening_of log n).ready (λ x k e. (fit n x k, (proper.sound n).agree r x i k (unlike x k e (same_trans r.trans x.trans) refl))) (opening_of log n).cells
+        ∙ ap (edits_map r.edits) h.0,
     sym (held-first r (fit n r i) p q now then_ (opening_of log n).ready (proper.sound n).distinct (λ x k. (fit n x k, (proper.sound n).agree r x i k)) rest (λ x k. join-turn x.join r.join) (λ x k. trans-turn x.trans r.trans) i b) ∙ h.1,
   )
+    where
+      before : is_spent p r.join ≡ false
+      before = (λ k. noted k && not (now k))
+
+      unlike : (x : ReadyNote) → IsIn x (opening_of log n).ready → is_spent p x.join ≡ true → (b : Bool) → same_trans r.trans x.trans ≡ b → same_trans r.trans x.trans ≡ false
+      unlike x k e true f =
+          let is : r ≡ x = one-of-trans (opening_of log n).ready (proper.sound n).distinct r x i k f in
+          let wrong : false ≡ true = sym before ∙ ap (λ (z : ReadyNote). is_spent p z.join) is ∙ e in cc
+      unlike x k e false f = f
 
   module _ (n : ℕ) (m : State) (h : IsLinkedUp log proper n m) where
     pub old-join : (r : ReadyNote) → IsIn r (opening_of log n).ready → IsYoung log proper n r.join → ⊥
@@ -435,7 +452,7 @@ module _ (log : Log) (proper : IsProper log) where
               let life : l ≡ early_life r.0 = sym same ∙ r.4 in
               let note : is_noted log k ≡ true = early-noted n x k r.0 r.1 r.3 (commit-came log proper n x k came) in
               subst (Began n (is_left (state_deed m (Applies k x)).phases)) (sym (behind-early l b (ap (λ (z : Life). z.is_early) life) ∙ ap (λ (z : Life). edits_map z.edits b) life))
-              (began-first n (is_left m.phases) (is_left (state_deed m (Applies k x)).phases) r.0 r.1
+              (began-first n (is_left m.phases) (is_left (state_deed m (Applies k x)).phases) r.0 r.1 (ap (is_noted log) r.2 ∙ note)
               (subst (λ j. is_left m.phases j ≡ true) (sym r.2) (ap (λ c. c && is_ready (m.phases k)) note ∙ ap is_ready does.2))
               (subst (λ j. is_left (state_deed m (Applies k x)).phases j ≡ false) (sym r.2) (ap (λ p. is_noted log k && is_ready p) applied ∙ and-false (is_noted log k)))
               (λ y i e. ap (λ p. is_noted log y.join && is_ready p) (sym (others y.join (ap (λ j. same_join j y.join) (sym r.2) ∙ e)))) b q)

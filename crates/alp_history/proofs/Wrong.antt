@@ -6,6 +6,7 @@ use Rattle.alp_base.specs.declared.ids.TransId.{TransId}
 use Rattle.alp_files.specs.declared.reply.Reply.TheVariants as reply
 use Rattle.alp_files.specs.declared.reply.Ended.TheVariants as ending
 use Rattle.alp_files.specs.declared.refusal.Refusal.TheVariants as refusal
+use Rattle.alp_files.specs.declared.refusal.Cause.TheVariants as cause
 use Rattle.alp_journal.specs.declared.act.Act.TheVariants as act
 use Rattle.alp_journal.specs.declared.message.Message.TheVariants as msg
 use Rattle.alp_journal.specs.declared.entry.Entry.{Entry}
@@ -14,13 +15,14 @@ use Rattle.alp_journal.specs.Ids.{has_server}
 use Rattle.alp_journal.specs.Coordinator.{joins_of, votes_in}
 use Rattle.alp_journal.specs.State.{State, opened}
 use Rattle.alp_journal.specs.Moves.{next}
-use Rattle.alp_journal.specs.Laws.{IsLawfulEntry, latest_vote}
-use Rattle.alp_history.specs.RightLog.{opening}
-use Rattle.alp_history.specs.Examples.{trans, join, new, calls, arrives, owner, first_up, vote, worker_up, ask, restarts}
+use Rattle.alp_journal.specs.Laws.{IsLawful, IsLawfulEntry, latest_vote}
+use Rattle.alp_history.specs.RightLog.{opening, ticks}
+use Rattle.alp_history.specs.Examples.{trans, join, new, first_up, worker_up, restarts, stamp}
 use Rattle.alp_history.proofs.Worked.{life_at}
 use Rattle.alp_history.proofs.Named.{Only, only_after, alone_other}
 use Rattle.alp_history.proofs.Steps.{lives_there}
-use Rattle.alp_history.specs.WrongJournals.{IsUnlawful, hello, begin, second_trans, one_waits, leaves_a_waiter_free, of_three, two_joins, later_file, skips_an_id, file_of_another_epoch, decides_below_a_vote, decides_above_all_votes, decides_without_a_vote, counts_a_vote_twice, decides_at_a_tick, registers_a_server_twice, aborts_what_is_committed, votes_at_the_clock, done_while_it_lives, grants_after_the_vote, releases_what_lives, grants_to_a_repeat, another_reply_to_a_repeat, session_outlives_a_restart, loses_a_ready_part, AreRefused}
+use Rattle.alp_history.specs.WrongJournals.{AreRefused, hello, begun, second_trans, later_file, begins_as, creates, votes_and_decides, of_three, two_joins, votes, decides_both, one_voted, all_voted, second_join, one_registered, registers_again, committed, inquires, decides_at, votes_for, hears_commit, voted, reads_bob, made, one_waits, ends, comes_again, started_again, goes_on, decides_for, applies, says_done}
+use Rattle.alp_history.proofs.RightNeighbours as right
 
 -- the last entry of a lawful journal is lawful in the state before it
 last : (s : State) (es : List Entry) (e : Entry) → Along next IsLawfulEntry s (es ++ e ∷ []) → IsLawfulEntry (state_after next s es) e
@@ -30,101 +32,109 @@ last s (x ∷ es) e h = last (next s x) es e h.1
 some-none : (n : ℕ) → Some n ≡ None → ⊥
 some-none n h = cc
 
-skipped : IsUnlawful (new 1) skips_an_id
+skipped : IsLawful (new 1) (hello ∷ begins_as second_trans ∷ []) → ⊥
 skipped h = let wrong : 2 ≡ 1 = ap (λ (t : TransId). t.counter) ((last _ (hello ∷ []) _ h).deeds.0.counts) in omega (arith, wrong)
 
-epoch : IsUnlawful (opening 1) file_of_another_epoch
-epoch h = let wrong : 2 ≡ 1 = ap (λ (f : FileId). f.epoch) ((last _ (hello ∷ begin ∷ []) _ h).deeds.1.0.counts later_file refl) in omega (arith, wrong)
+epoch : IsLawful (opening 1) (begun ++ creates later_file ∷ []) → ⊥
+epoch h = let wrong : 2 ≡ 1 = ap (λ (f : FileId). f.epoch) ((last _ begun _ h).deeds.1.0.counts later_file refl) in omega (arith, wrong)
 
-below : IsUnlawful (new 1) decides_below_a_vote
+below : IsLawful (new 1) (first_up ++ votes_and_decides 5 4 ∷ []) → ⊥
 below h =
     let m = (last _ first_up _ h).deeds.1.0.decision in
-    let votes : (join, 5) ∷ [] ≡ m.votes = ap votes_in m.finishing in
-    let wrong : 4 ≡ 5 = m.time ∙ ap (latest_vote 1) (sym votes) in
+    let voted_so : (join, 5) ∷ [] ≡ m.votes = ap votes_in m.finishing in
+    let wrong : 4 ≡ 5 = m.time ∙ ap (latest_vote 1) (sym voted_so) in
     omega (arith, wrong)
 
-above : IsUnlawful (new 1) decides_above_all_votes
+above : IsLawful (new 1) (first_up ++ votes_and_decides 5 6 ∷ []) → ⊥
 above h =
     let m = (last _ first_up _ h).deeds.1.0.decision in
-    let votes : (join, 5) ∷ [] ≡ m.votes = ap votes_in m.finishing in
-    let wrong : 6 ≡ 5 = m.time ∙ ap (latest_vote 1) (sym votes) in
+    let voted_so : (join, 5) ∷ [] ≡ m.votes = ap votes_in m.finishing in
+    let wrong : 6 ≡ 5 = m.time ∙ ap (latest_vote 1) (sym voted_so) in
     omega (arith, wrong)
 
-unvoted : IsUnlawful of_three decides_without_a_vote
+unvoted : IsLawful of_three (two_joins ++ votes 2 join decides_both ∷ []) → ⊥
 unvoted h = let wrong : false ≡ true = (last _ two_joins _ h).deeds.1.0.decision.voted in cc
 
-twice : IsUnlawful of_three counts_a_vote_twice
-twice h = let wrong : false ≡ true = (last _ (two_joins ++ arrives 2 (msg.Ready trans join 1) [] ∷ []) _ h).deeds.1.0.decision.voted in cc
+twice : IsLawful of_three (one_voted ++ votes 2 join decides_both ∷ []) → ⊥
+twice h = let wrong : false ≡ true = (last _ one_voted _ h).deeds.1.0.decision.voted in cc
 
-tick : IsUnlawful (new 1) decides_at_a_tick
-tick h = absurd ((last _ (first_up ++ arrives 2 (msg.Ready trans join 1) [] ∷ []) _ h).deeds.0.decision.asked)
+tick : IsLawful (new 1) (all_voted ++ ticks (decides_at 1) ∷ []) → ⊥
+tick h = absurd ((last _ all_voted _ h).deeds.0.decision.asked)
 
-second : IsUnlawful (new 1) registers_a_server_twice
+second : IsLawful (new 1) (one_registered ++ registers_again (act.Registered trans second_join ∷ act.Sent 2 (msg.Joined trans second_join) ∷ []) ∷ []) → ⊥
 second h =
-    let m = (last _ (hello ∷ begin ∷ arrives 2 (msg.Register trans join 1) (act.Registered trans join ∷ act.Sent 2 (msg.Joined trans join) ∷ []) ∷ []) _ h).deeds.0.registration in
+    let m = (last _ one_registered _ h).deeds.0.registration in
     let joins : join ∷ [] ≡ m.joins = ap joins_of m.runs in
     let wrong : true ≡ false = ap (has_server 2) joins ∙ m.first in
     cc
 
-aborted : IsUnlawful (new 1) aborts_what_is_committed
-aborted h = absurd ((last _ (first_up ++ vote ∷ []) _ h).said.0.1)
+aborted : IsLawful (new 1) (committed ++ inquires (msg.Abort trans join cause.Asked) ∷ []) → ⊥
+aborted h = absurd ((last _ committed _ h).said.0.1)
 
-clock : IsUnlawful (new 2) votes_at_the_clock
+clock : IsLawful (new 2) (worker_up ++ votes_for 0 ∷ []) → ⊥
 clock h = let wrong : 0 ≡ 1 = (last _ worker_up _ h).deeds.0.vote.time in omega (arith, wrong)
 
-alive : IsUnlawful (new 2) done_while_it_lives
+alive : IsLawful (new 2) (worker_up ++ hears_commit (act.Sent 1 (msg.Done trans join) ∷ []) ∷ []) → ⊥
 alive h = let wrong : Some (trans, 1) ≡ None = (last _ worker_up _ h).said.0.4 in cc
 
-late_grant : IsUnlawful (new 2) grants_after_the_vote
-late_grant h =
-    let s : State = state_after next (opened (new 2)) (worker_up ++ ask ∷ []) in
-    some-none 1 ((last _ (worker_up ++ ask ∷ []) _ h).deeds.0.locks.0 (life_at s trans) refl)
+astray : IsLawful (new 1) (first_up ++ decides_for 1 ∷ []) → ⊥
+astray h = let wrong : false ≡ true = (last _ first_up _ h).sent in cc
 
-early_release : IsUnlawful (new 1) releases_what_lives
-early_release h = let wrong : true ≡ false = (last _ (hello ∷ begin ∷ calls 1 3 owner reply.Plain (act.Granted trans ∷ []) ∷ []) _ h).deeds.0.locks.1.0 in cc
+early : IsLawful (new 2) (voted ++ applies (says_done ∷ act.Applied join stamp ∷ act.Released trans ∷ []) ∷ []) → ⊥
+early h = let wrong : false ≡ true = (last _ voted _ h).sent in cc
+
+late_grant : IsLawful (new 2) (voted ++ reads_bob (act.Granted trans ∷ []) ∷ []) → ⊥
+late_grant h =
+    let s : State = state_after next (opened (new 2)) voted in
+    some-none 1 ((last _ voted _ h).deeds.0.locks.0 (life_at s trans) refl)
+
+early_release : IsLawful (new 1) (made ++ ticks (act.Released trans ∷ []) ∷ []) → ⊥
+early_release h = let wrong : true ≡ false = (last _ made _ h).deeds.0.locks.1.0 in cc
 
 -- when the first part is gone no other holds what the one that waits asks for
 abbrev first_ended : State
-first_ended = state_after next (opened (new 1)) leaves_a_waiter_free
+first_ended = state_after next (opened (new 1)) (one_waits ++ ends (act.Released trans ∷ []) ∷ [])
 
 ended_known : Only (trans ∷ second_trans ∷ []) [] first_ended
-ended_known = only_after (trans ∷ second_trans ∷ []) [] leaves_a_waiter_free (opened (new 1)) refl (record { lives = λ u k. refl; fates = λ u k. refl; phases = λ j k. refl })
+ended_known = only_after (trans ∷ second_trans ∷ []) [] (one_waits ++ ends (act.Released trans ∷ []) ∷ []) (opened (new 1)) refl (record { lives = λ u k. refl; fates = λ u k. refl; phases = λ j k. refl })
 
-waiter : IsUnlawful (new 1) leaves_a_waiter_free
+waiter : IsLawful (new 1) (one_waits ++ ends (act.Released trans ∷ []) ∷ []) → ⊥
 waiter h =
-    (last _ one_waits _ h).released.1.0 refl (life_at first_ended second_trans) (lives_there first_ended second_trans refl)
+    (last _ one_waits _ h).released.1.0 refl (life_at first_ended second_trans) (lives_there first_ended second_trans refl) refl
     (λ u k e other. absurd (alone_other (trans ∷ second_trans ∷ []) [] second_trans first_ended ended_known refl u k e other))
 
-repeat_grant : IsUnlawful (new 1) grants_to_a_repeat
-repeat_grant h = let wrong : act.Granted trans ∷ [] ≡ [] = (last _ (hello ∷ begin ∷ calls 1 3 owner reply.Plain (act.Granted trans ∷ []) ∷ []) _ h).sessions.1 in cc
+repeat_grant : IsLawful (new 1) (made ++ comes_again reply.Plain (act.Granted trans ∷ []) ∷ []) → ⊥
+repeat_grant h = let wrong : act.Granted trans ∷ [] ≡ [] = (last _ made _ h).sessions.1 in cc
 
-repeat_reply : IsUnlawful (new 1) another_reply_to_a_repeat
-repeat_reply h = let wrong : Some (reply.Refused refusal.OwnerExists) ≡ Some reply.Plain = (last _ (hello ∷ begin ∷ calls 1 3 owner reply.Plain (act.Granted trans ∷ []) ∷ []) _ h).sessions.0 in cc
+repeat_reply : IsLawful (new 1) (made ++ comes_again (reply.Refused refusal.OwnerExists) [] ∷ []) → ⊥
+repeat_reply h = let wrong : Some (reply.Refused refusal.OwnerExists) ≡ Some reply.Plain = (last _ made _ h).sessions.0 in cc
 
-session : IsUnlawful (new 1) session_outlives_a_restart
-session h = let wrong : Some (reply.Ended ending.Unknown) ≡ Some (reply.Refused (refusal.StaleSession 2)) = (last _ (hello ∷ begin ∷ restarts 2 0 [] [] ∷ []) _ h).sessions.0 in cc
+session : IsLawful (new 1) (started_again ++ goes_on (reply.Ended ending.Unknown) ∷ []) → ⊥
+session h = let wrong : Some (reply.Ended ending.Unknown) ≡ Some (reply.Refused (refusal.StaleSession 2)) = (last _ started_again _ h).sessions.0 in cc
 
-lost : IsUnlawful (new 2) loses_a_ready_part
-lost h = let wrong : false ≡ true = (last _ (worker_up ++ ask ∷ []) _ h).restart.0.1.ready join in cc
+lost : IsLawful (new 2) (voted ++ restarts 2 0 [] [] ∷ []) → ⊥
+lost h = let wrong : false ≡ true = (last _ voted _ h).restart.0.1.ready join in cc
 
 pub refused : AreRefused
 refused = record {
-  skipped = skipped;
-  epoch = epoch;
-  below = below;
-  above = above;
-  unvoted = unvoted;
-  twice = twice;
-  tick = tick;
-  second = second;
-  aborted = aborted;
-  clock = clock;
-  alive = alive;
-  late_grant = late_grant;
-  early_release = early_release;
-  waiter = waiter;
-  repeat_grant = repeat_grant;
-  repeat_reply = repeat_reply;
-  session = session;
-  lost = lost;
+  skipped = record { lawful = right.first_begins; unlawful = skipped };
+  epoch = record { lawful = right.first_creates; unlawful = epoch };
+  below = record { lawful = right.decides_for_the_vote; unlawful = below };
+  above = record { lawful = right.decides_for_the_vote; unlawful = above };
+  unvoted = record { lawful = right.counts_one_vote; unlawful = unvoted };
+  twice = record { lawful = right.decides_with_both; unlawful = twice };
+  tick = record { lawful = right.ticks_idly; unlawful = tick };
+  second = record { lawful = right.refuses_a_second_join; unlawful = second };
+  aborted = record { lawful = right.says_the_commit; unlawful = aborted };
+  clock = record { lawful = right.votes_after_the_clock; unlawful = clock };
+  alive = record { lawful = right.says_nothing_alive; unlawful = alive };
+  astray = record { lawful = right.decides_and_says; unlawful = astray };
+  early = record { lawful = right.applies_and_says; unlawful = early };
+  late_grant = record { lawful = right.grants_nothing_more; unlawful = late_grant };
+  early_release = record { lawful = right.keeps_what_lives; unlawful = early_release };
+  waiter = record { lawful = right.grants_the_waiter; unlawful = waiter };
+  repeat_grant = record { lawful = right.repeats_the_reply; unlawful = repeat_grant };
+  repeat_reply = record { lawful = right.repeats_the_reply; unlawful = repeat_reply };
+  session = record { lawful = right.ends_the_session; unlawful = session };
+  lost = record { lawful = right.finds_the_ready; unlawful = lost };
 }

@@ -1,12 +1,10 @@
 -- Journals of two servers that keep the laws, entry by entry: what the laws must let through. `WrongJournals` has what they refuse.
 use Rattle.std.specs.Prelude.{ℕ, codes, true, false, List, [], ◌∷◌, Some}
-use Rattle.alp_base.specs.declared.ids.FileId.{FileId}
 use Rattle.alp_base.specs.declared.ids.TransId.{TransId}
 use Rattle.alp_base.specs.declared.ids.JoinNo.{JoinNo}
 use Rattle.alp_base.specs.declared.ids.Stamp.{Stamp}
 use Rattle.alp_base.specs.declared.choices.Choice.TheVariants as choice
 use Rattle.alp_files.specs.History.{PerformedCall}
-use Rattle.alp_files.specs.declared.cell.Props.{Props}
 use Rattle.alp_files.specs.declared.call.Call.{Call}
 use Rattle.alp_files.specs.declared.call.Call.TheVariants as call
 use Rattle.alp_files.specs.declared.reply.Reply.{Reply}
@@ -21,7 +19,7 @@ use Rattle.alp_journal.specs.declared.message.Message.TheVariants as msg
 use Rattle.alp_journal.specs.declared.entry.Entry.{Entry}
 use Rattle.alp_journal.specs.Laws.{IsLawful}
 use Rattle.alp_history.specs.Examples.{trans, join, nothing_seen, stamp, new, arrives, restarts}
-use Rattle.alp_history.specs.RightLog.{owner_with, opening, sets, reads, ticks}
+use Rattle.alp_history.specs.RightLog.{owner_with, sets, reads, ticks}
 
 -- ---- who and what
 
@@ -146,7 +144,7 @@ rejoined_two =
     ∷ called 1 1 3 (call.Collect 2) reply.Joined []
     ∷ called 1 1 4 (makes trans 9) (reply.Plain) (act.Granted trans ∷ [])
     ∷ restarts 2 0 ([]) ([])
-    ∷ called 1 1 5 (makes trans 9) (reply.Refused (refusal.StaleSession 2)) []
+    ∷ called 1 1 5 (call.MakeOwner trans (codes "bob") 9 (codes "World" ∷ []) choice.Fail) (reply.Refused (refusal.StaleSession 2)) []
     ∷ hello 1 2
     ∷ called 1 2 2 (call.Join trans) (reply.Refused refusal.NotYet) (act.Sent 1 (msg.Register trans again 1) ∷ [])
     ∷ arrives 1 (msg.JoinRefused trans again) []
@@ -265,21 +263,6 @@ waits_one =
     ∷ called 2 1 4 (call.Collect 3) (reply.Refused refusal.UnknownOwner) []
     ∷ []
 
--- ---- a file that is made: its owner's quota has room for it
-
-abbrev pub first_file : FileId
-first_file = record { server = 1; epoch = 1; counter = 1 }
-
-abbrev pub start : Props
-start = record { owner = codes "ann"; name = codes "notes"; type_no = 0; create_time = 0; byte_length = 0; size = 2; high_water = 0; read = codes "World" ∷ []; modify = [] }
-
-abbrev pub creates : FileId → List Entry
-creates f =
-    hello 1 1
-    ∷ called 1 1 2 (call.Begin nothing_seen) (reply.Begun trans) (act.Drawn trans ∷ [])
-    ∷ called 1 1 3 (call.CreateFile trans start choice.Fail) (reply.Created f 1) (act.Granted trans ∷ [])
-    ∷ []
-
 -- ---- all of them
 
 pub record AreLawfulJournals : Type 0 where
@@ -294,4 +277,3 @@ pub record AreLawfulJournals : Type 0 where
   pub cut_one : IsLawful (new 1) cut_one
   pub cut_two : IsLawful (new 2) cut_two
   pub waits_one : IsLawful (new 1) waits_one
-  pub created : IsLawful (opening 1) (creates first_file)

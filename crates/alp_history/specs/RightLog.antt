@@ -1,6 +1,6 @@
--- A log of two servers that keeps the laws: three transactions, a message that is lost, one that comes twice, a call that comes twice,
+-- A log of two servers that keeps the laws: three transactions, a message that is lost, one that comes twice, a call that comes again,
 -- and each server starts again once. The history that the theorems give for it is written out.
-use Rattle.std.specs.Prelude.{◌≡◌, ℕ, ◌==◌, codes, true, List, [], ◌∷◌, ◌++◌, Option, None, Some, slice_get, unwrap_or, if◌then◌else◌}
+use Rattle.std.specs.Prelude.{◌≡◌, ℕ, ◌==◌, codes, true, List, [], ◌∷◌, ◌++◌, Option, None, Some, slice_get, unwrap_or, map as list_map, if◌then◌else◌}
 use Rattle.std.specs.FinMap as map
 use Rattle.alp_base.specs.declared.ids.TransId.{TransId}
 use Rattle.alp_base.specs.declared.ids.JoinNo.{JoinNo}
@@ -101,13 +101,14 @@ abbrev pub one_votes : Entry
 one_votes = arrives 2 (msg.Ask second second_join) (act.Readied second second_join 2 ∷ act.Sent 2 (msg.Ready second second_join 2) ∷ [])
 
 -- the second transaction is applied; the third one, whose client was told of the first, runs here alone, and its last frame comes
--- twice; the first one is forgotten
+-- three times; the first one is forgotten
 abbrev pub one_ends : List Entry
 one_ends =
     arrives 2 (msg.Commit second second_join second_stamp) (act.Applied second_join second_stamp ∷ act.Released second ∷ act.Sent 2 (msg.Done second second_join) ∷ [])
     ∷ calls 2 6 (call.Begin stamp) (reply.Begun third) (act.Drawn third ∷ [])
     ∷ calls 2 7 (sets third 8) reply.Plain (act.Granted third ∷ [])
     ∷ calls 2 8 (call.Finish third true) (reply.Committed third_stamp) (act.Decided third_stamp [] ∷ act.Released third ∷ [])
+    ∷ calls 2 8 (call.Finish third true) (reply.Committed third_stamp) []
     ∷ calls 2 8 (call.Finish third true) (reply.Committed third_stamp) []
     ∷ arrives 2 (msg.Done trans join) (act.Forgot trans ∷ [])
     ∷ []
@@ -153,7 +154,7 @@ two_ends =
 -- ---- the journals
 
 abbrev pub ranks_one : List ℕ
-ranks_one = 1 ∷ 2 ∷ 3 ∷ 6 ∷ 10 ∷ 13 ∷ 14 ∷ 15 ∷ 20 ∷ 21 ∷ 22 ∷ 24 ∷ 25 ∷ 26 ∷ 28 ∷ 30 ∷ 32 ∷ 33 ∷ 34 ∷ 35 ∷ 36 ∷ []
+ranks_one = 1 ∷ 2 ∷ 3 ∷ 6 ∷ 10 ∷ 13 ∷ 14 ∷ 15 ∷ 20 ∷ 21 ∷ 22 ∷ 24 ∷ 25 ∷ 26 ∷ 28 ∷ 30 ∷ 32 ∷ 33 ∷ 34 ∷ 35 ∷ 36 ∷ 37 ∷ []
 
 abbrev pub ranks_two : List ℕ
 ranks_two = 4 ∷ 5 ∷ 7 ∷ 8 ∷ 9 ∷ 11 ∷ 12 ∷ 16 ∷ 18 ∷ 19 ∷ 20 ∷ 23 ∷ 27 ∷ 29 ∷ 31 ∷ 33 ∷ 35 ∷ []
@@ -173,26 +174,36 @@ abbrev pub sent_in : Event → Option Sent
 sent_in (event.Call client epoch number c) = Some (record { client = client; epoch = epoch; number = number; call = c })
 sent_in e = None
 
--- a line of such a mark, whose entry stands there
-abbrev pub line_at : Mark → ℕ → List Entry → ℕ → Item
-line_at mark n journal i = record { server = n; mark = mark; sent = sent_in (unwrap_or (slice_get journal i) (hello 0)).event; reply = (unwrap_or (slice_get journal i) (hello 0)).reply; place = Some i }
+abbrev pub journal_at : ℕ → List Entry
+journal_at n = if n == 1 then one else two
 
-abbrev pub own : ℕ → List Entry → ℕ → Item
-own n journal i = line_at Own n journal i
+-- a line of such a mark at a server, whose entry stands at this place
+abbrev pub line_at : Mark → ℕ → ℕ → Item
+line_at mark n i = record { server = n; mark = mark; sent = sent_in (unwrap_or (slice_get (journal_at n) i) (hello 0)).event; reply = (unwrap_or (slice_get (journal_at n) i) (hello 0)).reply; place = Some i }
+
+abbrev pub own_line : ℕ × ℕ → Item
+own_line p = line_at Own p.0 p.1
 
 -- bytes that spell no frame
 abbrev pub no_frame : Item
 no_frame = record { server = 2; mark = Raw; sent = None; reply = Some (reply.Refused refusal.BadFrame); place = None }
 
+-- the client's own lines, by server and place
+abbrev pub own_places : List (ℕ × ℕ)
+own_places =
+    (1, 0) ∷ (1, 1) ∷ (1, 2) ∷ (2, 0) ∷ (2, 1) ∷ (2, 3) ∷ (2, 4) ∷ (1, 4) ∷ (2, 8) ∷ (2, 9) ∷ (2, 10) ∷ (1, 8) ∷ (1, 9) ∷ (1, 10) ∷ (1, 12) ∷ (1, 13) ∷ (2, 12)
+    ∷ (1, 16) ∷ (1, 17) ∷ (1, 18) ∷ []
+
 -- the last of its frames is sent again, and answered as before
 abbrev pub lines : List Item
-lines =
-    own 1 one 0 ∷ own 1 one 1 ∷ own 1 one 2 ∷ own 2 two 0 ∷ own 2 two 1 ∷ own 2 two 3 ∷ own 2 two 4 ∷ own 1 one 4
-    ∷ own 2 two 8 ∷ own 2 two 9 ∷ own 2 two 10 ∷ own 1 one 8 ∷ own 1 one 9 ∷ own 1 one 10 ∷ own 1 one 12 ∷ own 1 one 13 ∷ own 2 two 12
-    ∷ own 1 one 16 ∷ own 1 one 17 ∷ own 1 one 18 ∷ line_at Repeated 1 one 19 ∷ no_frame ∷ []
+lines = list_map own_line own_places ++ line_at Repeated 1 19 ∷ no_frame ∷ []
+
+-- another client's raw line sends that frame too, which names the first client
+abbrev pub raw_lines : List Item
+raw_lines = line_at Raw 1 20 ∷ []
 
 abbrev pub items : Handed
-items client = if client == 1 then lines else []
+items client = if client == 1 then lines else if client == 2 then raw_lines else []
 
 -- ---- the log
 

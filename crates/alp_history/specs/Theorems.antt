@@ -1,10 +1,11 @@
 -- What holds of every log whose journals are lawful and linked, from sound openings on.
-use Rattle.std.specs.Prelude.{◌≡◌, ℕ, suc, ◌<◌, ◌≤◌, true, false, ◌⊎◌, List, [], ◌∷◌, Option, None, Some, slice_get, map as list_map, length}
+use Rattle.std.specs.Prelude.{◌≡◌, ℕ, suc, ◌<◌, ◌≤◌, true, false, not, ◌&&◌, ◌⊎◌, List, [], ◌∷◌, Option, None, Some, slice_get, map as list_map, length}
+use Rattle.std.specs.List.{AllByRecursion}
 use Rattle.std.specs.FinMap as map
 use Rattle.std.specs.FinMap.Entries as entries
 use Rattle.alp_files.specs.Locks.{Reads}
-use Rattle.alp_files.specs.Edits.{Edit, edits_map}
-use Rattle.alp_files.specs.History.{Decided}
+use Rattle.alp_files.specs.Cells.{Cells}
+use Rattle.alp_files.specs.History.{PerformedCall, Decided}
 use Rattle.alp_files.specs.History as one
 use Rattle.std.specs.declared.cmp.Ordering.TheVariants.{Less}
 use Rattle.alp_base.specs.declared.ids.JoinNo.{JoinNo}
@@ -26,13 +27,14 @@ use Rattle.alp_journal.specs.Ids.{has_join, stamp_cmp, same_trans}
 use Rattle.alp_journal.specs.Opening.{DecisionNote}
 use Rattle.alp_journal.specs.Coordinator.{decision_in}
 use Rattle.alp_journal.specs.Participant.{Phase, Unseen, Joining, Active, Ready, Applied, Over, is_ready}
-use Rattle.alp_journal.specs.Holder.{Life}
+use Rattle.alp_journal.specs.Deeds.{Performs}
+use Rattle.alp_journal.specs.Holder.{Life, looked_at}
 use Rattle.alp_journal.specs.State.{State}
-use Rattle.alp_journal.specs.Moves.{is_new, stops}
+use Rattle.alp_journal.specs.Moves.{is_new, stops, tried}
 use Rattle.alp_journal.specs.Laws.{is_standing}
 use Rattle.alp_history.specs.Items.{stamps_in}
 use Rattle.alp_history.specs.Handed.{AreOfClients, ArePromisesKept}
-use Rattle.alp_history.specs.Log.{Log, opening_of, journal_of, state_at, final, IsLinked, AreLawful, AreSoundOpenings, AreDifferent, IsIn, decided, finish_of, starting_all, IsSerial, serial_end, IsChargedAfterEach, latest, AreLatest}
+use Rattle.alp_history.specs.Log.{Log, Decision, shares_on, shares_of, held, is_noted, start_of, opening_of, journal_of, state_at, final, IsLinked, AreLawful, AreSoundOpenings, AreDifferent, IsIn, decided, finish_of, starting_all, IsSerial, serial_end, IsChargedAfterEach, latest, AreLatest}
 
 pub record IsProper (log : Log) : Type 0 where
   pub different : AreDifferent log
@@ -111,15 +113,20 @@ Order = (log : Log) → IsProper log → GoesByLocks log × GoesByTurns log × G
 
 -- ---- each server by itself
 
--- the transactions that a server applied, in the order of their stamps, are one thread's history, from the cells that it
--- opened on, with what earlier runs had made ready and was applied since, to the cells that it holds
-abbrev pub IsOneThreadAt : Log → ℕ → List Edit → Type 0
-IsOneThreadAt log n early =
-    one.IsSerial (final log n).holder.server (one.starting (edits_map early (opening_of log n).cells)) (list_map (λ (x : Stamp × Decided). x.1) (final log n).holder.applied)
-    × ((one.serial_end (final log n).holder.server (one.starting (edits_map early (opening_of log n).cells)) (list_map (λ (x : Stamp × Decided). x.1) (final log n).holder.applied)).files ≡ (final log n).holder.cells)
+-- the cells that a server opened on, with the changes of those parts that earlier runs had made ready and decided and that are
+-- applied by now
+abbrev pub begun_on : Log → ℕ → Cells
+begun_on log n = held (λ j. is_noted log j && not (is_ready ((final log n).phases j))) (opening_of log n).ready (opening_of log n).cells
+
+-- The transactions that a server applied, in the order of their stamps, are one thread's history from there to the cells that
+-- it holds. With the changes of those parts that are still ready it begins where the history of all servers does.
+pub record IsOneThreadAt (log : Log) (n : ℕ) : Type 0 where
+  pub replies : one.IsSerial (final log n).holder.server (one.starting (begun_on log n)) (list_map (λ (x : Stamp × Decided). x.1) (final log n).holder.applied)
+  pub files : (one.serial_end (final log n).holder.server (one.starting (begun_on log n)) (list_map (λ (x : Stamp × Decided). x.1) (final log n).holder.applied)).files ≡ (final log n).holder.cells
+  pub begins : held (λ j. is_noted log j && is_ready ((final log n).phases j)) (opening_of log n).ready (begun_on log n) ≡ start_of log n
 
 abbrev pub EachServer : Type 0
-EachServer = (log : Log) → IsProper log → (n : ℕ) → (early : List Edit) × IsOneThreadAt log n early
+EachServer = (log : Log) → IsProper log → (n : ℕ) → IsOneThreadAt log n
 
 -- ---- history
 
@@ -152,19 +159,82 @@ pub record AreWhole (log : Log) : Type 0 where
 abbrev pub Wholeness : Type 0
 Wholeness = (log : Log) → IsProper log → AreWhole log
 
--- what an entry names as decided, where nothing stopped, is one of the decided transactions, with these joins
-abbrev pub ListsDecided : Log → Type 0
-ListsDecided log = (n i : ℕ) (e : Entry) (x : Stamp) (js : List JoinNo)
-    → slice_get (journal_of log n) i ≡ Some e → stops e ≡ false → IsIn (act.Decided x js) e.acts → IsIn (x, js) (decided log)
+-- ---- acts that take effect
 
--- and so is what a stopped entry names, where the restart behind it finds a clock that is not below its time
-abbrev pub ListsFound : Log → Type 0
-ListsFound log = (n i epoch clock : ℕ) (e f : Entry) (ready : List JoinNo) (stamps : List Stamp) (x : Stamp) (js : List JoinNo)
-    → slice_get (journal_of log n) i ≡ Some e → slice_get (journal_of log n) (suc i) ≡ Some f → stops e ≡ true → IsIn (act.Decided x js) e.acts
-    → f.event ≡ event.Restart → f.acts ≡ act.Regained epoch clock ready stamps ∷ [] → x.ts ≤ clock → IsIn (x, js) (decided log)
+-- the restart behind an entry found this clock and these joins ready
+pub record IsFoundSo (log : Log) (n i : ℕ) (so : (clock : ℕ) (ready : List JoinNo) → Type 0) : Type 0 where
+  pub entry : Entry
+  pub epoch : ℕ
+  pub clock : ℕ
+  pub ready : List JoinNo
+  pub stamps : List Stamp
+  pub stands : slice_get (journal_of log n) (suc i) ≡ Some entry
+  pub restart : entry.event ≡ event.Restart
+  pub found : entry.acts ≡ act.Regained epoch clock ready stamps ∷ []
+  pub so_found : so clock ready
+
+-- what an entry names takes effect where nothing stopped it, or where the restart behind it finds that the write was made
+abbrev pub TakesEffect : Log → ℕ → ℕ → Entry → ((clock : ℕ) (ready : List JoinNo) → Type 0) → Type 0
+TakesEffect log n i e so = (stops e ≡ false) ⊎ IsFoundSo log n i so
+
+-- an entry of the server decides it, and that takes effect: a clock that is not below its time shows it
+pub record DecidedThere (log : Log) (n : ℕ) (x : Stamp) (js : List JoinNo) : Type 0 where
+  pub place : ℕ
+  pub entry : Entry
+  pub stands : slice_get (journal_of log n) place ≡ Some entry
+  pub names : IsIn (act.Decided x js) entry.acts
+  pub effect : TakesEffect log n place entry (λ clock ready. x.ts ≤ clock)
+
+-- an entry of the server applies the join, and that takes effect: that the join is not ready any more shows it
+pub record AppliedThere (log : Log) (n : ℕ) (j : JoinNo) (x : Stamp) : Type 0 where
+  pub place : ℕ
+  pub entry : Entry
+  pub stands : slice_get (journal_of log n) place ≡ Some entry
+  pub names : IsIn (act.Applied j x) entry.acts
+  pub effect : TakesEffect log n place entry (λ clock ready. has_join j ready ≡ false)
+
+-- The decided transactions are just those that an entry decides with effect, each at the server that began it. A join is
+-- applied just where an entry of its server applies it with effect.
+pub record AreListed (log : Log) : Type 0 where
+  pub lists : (n : ℕ) (x : Stamp) (js : List JoinNo) → DecidedThere log n x js → IsIn (x, js) (decided log)
+  pub decides : (x : Stamp) (js : List JoinNo) → IsIn (x, js) (decided log) → DecidedThere log x.trans.server x js
+  pub applied : (n : ℕ) (j : JoinNo) (x : Stamp) → AppliedThere log n j x → (final log n).phases j ≡ Applied x.trans x
+  pub applies : (n : ℕ) (j : JoinNo) (t : TransId) (x : Stamp) → (final log n).phases j ≡ Applied t x → (t ≡ x.trans) × AppliedThere log n j x
 
 abbrev pub Listing : Type 0
-Listing = (log : Log) → IsProper log → ListsDecided log × ListsFound log
+Listing = (log : Log) → IsProper log → AreListed log
+
+-- ---- what a transaction does at a server
+
+-- an entry that nothing stopped performs the call for the transaction
+pub record PerformedThere (log : Log) (n : ℕ) (t : TransId) (d : PerformedCall) : Type 0 where
+  pub place : ℕ
+  pub entry : Entry
+  pub stands : slice_get (journal_of log n) place ≡ Some entry
+  pub goes : stops entry ≡ false
+  pub performs : IsIn (Performs t d) (tried (state_at log n place) entry)
+
+-- it has just this share at the server
+abbrev pub HasShare : Log → Stamp → ℕ → Decided → Type 0
+HasShare log x n share = shares_on log x n ≡ (n, share) ∷ []
+
+-- one after the other, by their stamps
+abbrev pub AreRising : List Decision → Type 0
+AreRising [] = Unit {0}
+AreRising (d ∷ ds) = AllByRecursion (λ (e : Decision). stamp_cmp d.0 e.0 ≡ Less) ds × AreRising ds
+
+-- A decided transaction has one share at the server that began it, and one at each server of its joins. The calls of a share
+-- are just those that the server's entries performed for it. The decided transactions stand in the order of their stamps.
+pub record AreShared (log : Log) : Type 0 where
+  pub own : (x : Stamp) (js : List JoinNo) → IsIn (x, js) (decided log) → (share : Decided) × HasShare log x x.trans.server share
+  pub joined : (x : Stamp) (js : List JoinNo) (j : JoinNo) → IsIn (x, js) (decided log) → has_join j js ≡ true → (share : Decided) × HasShare log x j.server share
+  pub performed : (n : ℕ) (x : Stamp) (js : List JoinNo) (d : PerformedCall) → IsIn (x, js) (decided log) → PerformedThere log n x.trans d
+      → (share : Decided) × HasShare log x n share × IsIn (n, share) (shares_of log (x, js)) × IsIn d share.calls
+  pub performs : (n : ℕ) (x : Stamp) (js : List JoinNo) (share : Decided) (d : PerformedCall) → IsIn (x, js) (decided log) → HasShare log x n share → IsIn d share.calls → PerformedThere log n x.trans d
+  pub rising : AreRising (decided log)
+
+abbrev pub Sharing : Type 0
+Sharing = (log : Log) → IsProper log → AreShared log
 
 -- ---- settled
 
@@ -187,16 +257,31 @@ Settling = (log : Log) → IsProper log → ((n : ℕ) → IsSettled (final log 
 abbrev pub Latest : Type 0
 Latest = (log : Log) → IsProper log → AreLatest log (starting_all log) (decided log)
 
+-- while a part's mode on a place is at least Read, no change of another part that takes effect touches the cell there
+abbrev pub StandsStill : Log → Type 0
+StandsStill log = (n i : ℕ) (t : TransId) (l m : Life) (k : Key)
+    → i < length (journal_of log n) → (state_at log n i).holder.lives t ≡ Some l → (state_at log n (suc i)).holder.lives t ≡ Some m → Reads l.held k
+    → map.get (state_at log n (suc i)).holder.cells k ≡ map.get (state_at log n i).holder.cells k
+
+abbrev pub Stillness : Type 0
+Stillness = (log : Log) → IsProper log → StandsStill log
+
 -- while a decided transaction that a server has not applied yet may read a place there, the server's cells hold what the
--- decided one of the greatest smaller stamp that changed the place left there, or what was there at the start (a call is
--- performed under locks that let its part read what the call looks at: `IsPerformed`)
+-- decided one of the greatest smaller stamp that changed the place left there, or what was there at the start
 abbrev pub FindsLatest : Log → Type 0
 FindsLatest log = (n i : ℕ) (x : Stamp) (l : Life) (k : Key)
     → IsDecided log x → i ≤ length (journal_of log n) → (state_at log n i).holder.lives x.trans ≡ Some l → entries.find stamp_cmp x (state_at log n i).holder.applied ≡ None → Reads l.held k
     → map.get (state_at log n i).holder.cells k ≡ latest log n k x
 
+-- where a decided transaction performs a call, its server's cells hold at each place that the call looks at what the decided one
+-- of the greatest smaller stamp that changed the place left there, or what was there at the start
+abbrev pub PerformsOnLatest : Log → Type 0
+PerformsOnLatest log = (n i : ℕ) (e : Entry) (x : Stamp) (d : PerformedCall)
+    → slice_get (journal_of log n) i ≡ Some e → stops e ≡ false → IsIn (Performs x.trans d) (tried (state_at log n i) e) → IsDecided log x
+    → (l : Life) × ((state_at log n i).holder.lives x.trans ≡ Some l) × ((k : Key) → IsIn k (looked_at (state_at log n i).holder l d) → map.get (state_at log n i).holder.cells k ≡ latest log n k x)
+
 abbrev pub Findings : Type 0
-Findings = (log : Log) → IsProper log → FindsLatest log
+Findings = (log : Log) → IsProper log → FindsLatest log × PerformsOnLatest log
 
 -- ---- what is told
 

@@ -1,10 +1,11 @@
--- Journals that differ from right ones in one place, none of which keeps the laws.
-use Rattle.std.specs.Prelude.{ℕ, codes, true, false, List, [], ◌∷◌, ◌++◌, None, Some}
+-- Pairs of journals that differ in their last entry alone: the one keeps the laws, and the other does not.
+use Rattle.std.specs.Prelude.{ℕ, codes, true, false, List, [], ◌∷◌, ◌++◌, Some}
 use Rattle.alp_base.specs.declared.ids.FileId.{FileId}
 use Rattle.alp_base.specs.declared.ids.TransId.{TransId}
 use Rattle.alp_base.specs.declared.ids.JoinNo.{JoinNo}
 use Rattle.alp_base.specs.declared.ids.Stamp.{Stamp}
 use Rattle.alp_base.specs.declared.choices.Choice.TheVariants as choice
+use Rattle.alp_files.specs.declared.cell.Props.{Props}
 use Rattle.alp_files.specs.declared.call.Call.{Call}
 use Rattle.alp_files.specs.declared.call.Call.TheVariants as call
 use Rattle.alp_files.specs.declared.reply.Reply.{Reply}
@@ -15,42 +16,44 @@ use Rattle.alp_files.specs.declared.refusal.Cause.TheVariants as cause
 use Rattle.alp_journal.specs.declared.act.Act.{Act}
 use Rattle.alp_journal.specs.declared.act.Act.TheVariants as act
 use Rattle.alp_journal.specs.declared.event.Event.TheVariants as event
+use Rattle.alp_journal.specs.declared.message.Message.{Message}
 use Rattle.alp_journal.specs.declared.message.Message.TheVariants as msg
 use Rattle.alp_journal.specs.declared.entry.Entry.{Entry}
 use Rattle.alp_journal.specs.Opening.{Start}
 use Rattle.alp_journal.specs.Laws.{IsLawful}
 use Rattle.alp_history.specs.Examples.{trans, join, nothing_seen, stamp, new, calls, arrives, owner, first_up, vote, worker_up, ask, restarts}
-use Rattle.alp_history.specs.RightLog.{opening}
-use Rattle.alp_history.specs.RightJournals.{creates}
+use Rattle.alp_history.specs.RightLog.{opening, ticks}
 
--- a journal does not keep the laws
-abbrev pub IsUnlawful : Start → List Entry → Type 0
-IsUnlawful o journal = IsLawful o journal → ⊥
+-- behind these entries the one is lawful, and the other is not
+pub record AreToldApart (o : Start) (before : List Entry) (right wrong : Entry) : Type 0 where
+  pub lawful : IsLawful o (before ++ right ∷ [])
+  pub unlawful : IsLawful o (before ++ wrong ∷ []) → ⊥
 
 abbrev pub hello : Entry
 hello = calls 0 1 (call.Hello (codes "Admin")) (reply.Welcome 1) []
 
-abbrev pub begin : Entry
-begin = calls 1 2 (call.Begin nothing_seen) (reply.Begun trans) (act.Drawn trans ∷ [])
+abbrev pub begins_as : TransId → Entry
+begins_as t = calls 1 2 (call.Begin nothing_seen) (reply.Begun t) (act.Drawn t ∷ [])
 
-abbrev pub ticks : List Act → Entry
-ticks acts = record { event = event.Tick; reply = None; acts = acts }
+abbrev pub begun : List Entry
+begun = hello ∷ begins_as trans ∷ []
 
--- ---- ids
+-- ---- ids: a transaction gets the second number first, and a file an id of the next epoch
 
 abbrev pub second_trans : TransId
 second_trans = record { server = 1; epoch = 1; counter = 2 }
 
--- the first transaction gets the second number
-abbrev pub skips_an_id : List Entry
-skips_an_id = (hello ∷ []) ++ calls 1 2 (call.Begin nothing_seen) (reply.Begun second_trans) (act.Drawn second_trans ∷ []) ∷ []
+abbrev pub first_file : FileId
+first_file = record { server = 1; epoch = 1; counter = 1 }
 
 abbrev pub later_file : FileId
 later_file = record { server = 1; epoch = 2; counter = 1 }
 
--- a file gets an id of the next epoch
-abbrev pub file_of_another_epoch : List Entry
-file_of_another_epoch = creates later_file
+abbrev pub start : Props
+start = record { owner = codes "ann"; name = codes "notes"; type_no = 0; create_time = 0; byte_length = 0; size = 2; high_water = 0; read = codes "World" ∷ []; modify = [] }
+
+abbrev pub creates : FileId → Entry
+creates f = calls 1 3 (call.CreateFile trans start choice.Fail) (reply.Created f 1) (act.Granted trans ∷ [])
 
 -- ---- decisions
 
@@ -60,12 +63,9 @@ at_time n = record { ts = n; trans = trans }
 abbrev pub decides_at : ℕ → List Act
 decides_at n = act.Decided (at_time n) (join ∷ []) ∷ act.Released trans ∷ act.Sent 2 (msg.Commit trans join (at_time n)) ∷ []
 
--- the vote is for 5, and the decision is for 4, or for 6
-abbrev pub decides_below_a_vote : List Entry
-decides_below_a_vote = first_up ++ arrives 2 (msg.Ready trans join 5) (decides_at 4) ∷ []
-
-abbrev pub decides_above_all_votes : List Entry
-decides_above_all_votes = first_up ++ arrives 2 (msg.Ready trans join 5) (decides_at 6) ∷ []
+-- a vote for this time, and a decision for that one
+abbrev pub votes_and_decides : (vote time : ℕ) → Entry
+votes_and_decides vote time = arrives 2 (msg.Ready trans join vote) (decides_at time)
 
 abbrev pub third_join : JoinNo
 third_join = record { server = 3; epoch = 1; counter = 1 }
@@ -76,57 +76,74 @@ of_three = record (new 1) { servers = 3 }
 -- a transaction with a join of each of two other servers
 abbrev pub two_joins : List Entry
 two_joins =
-    hello ∷ begin ∷ arrives 2 (msg.Register trans join 1) (act.Registered trans join ∷ act.Sent 2 (msg.Joined trans join) ∷ [])
+    hello ∷ begins_as trans ∷ arrives 2 (msg.Register trans join 1) (act.Registered trans join ∷ act.Sent 2 (msg.Joined trans join) ∷ [])
     ∷ arrives 3 (msg.Register trans third_join 1) (act.Registered trans third_join ∷ act.Sent 3 (msg.Joined trans third_join) ∷ [])
     ∷ calls 1 3 (call.Finish trans true) (reply.Refused refusal.NotYet) (act.Sent 2 (msg.Ask trans join) ∷ act.Sent 3 (msg.Ask trans third_join) ∷ []) ∷ []
+
+abbrev pub votes : ℕ → JoinNo → List Act → Entry
+votes from j acts = arrives from (msg.Ready trans j 1) acts
 
 abbrev pub decides_both : List Act
 decides_both = act.Decided stamp (join ∷ third_join ∷ []) ∷ act.Released trans ∷ act.Sent 2 (msg.Commit trans join stamp) ∷ act.Sent 3 (msg.Commit trans third_join stamp) ∷ []
 
--- one of the joins has not voted
-abbrev pub decides_without_a_vote : List Entry
-decides_without_a_vote = two_joins ++ arrives 2 (msg.Ready trans join 1) decides_both ∷ []
+-- one of the joins has voted
+abbrev pub one_voted : List Entry
+one_voted = two_joins ++ votes 2 join [] ∷ []
 
--- one join votes twice, and that counts for the other
-abbrev pub counts_a_vote_twice : List Entry
-counts_a_vote_twice = (two_joins ++ arrives 2 (msg.Ready trans join 1) [] ∷ []) ++ arrives 2 (msg.Ready trans join 1) decides_both ∷ []
-
--- all votes are there, but the entry is neither the last of them nor the Finish
-abbrev pub decides_at_a_tick : List Entry
-decides_at_a_tick = (first_up ++ arrives 2 (msg.Ready trans join 1) [] ∷ []) ++ ticks (decides_at 1) ∷ []
+-- the one join has voted, and nothing came of it yet
+abbrev pub all_voted : List Entry
+all_voted = first_up ++ votes 2 join [] ∷ []
 
 abbrev pub second_join : JoinNo
 second_join = record { server = 2; epoch = 1; counter = 2 }
 
--- a server registers a second join
-abbrev pub registers_a_server_twice : List Entry
-registers_a_server_twice =
-    (hello ∷ begin ∷ arrives 2 (msg.Register trans join 1) (act.Registered trans join ∷ act.Sent 2 (msg.Joined trans join) ∷ []) ∷ [])
-    ++ arrives 2 (msg.Register trans second_join 1) (act.Registered trans second_join ∷ act.Sent 2 (msg.Joined trans second_join) ∷ []) ∷ []
+-- another join of a server that has one comes
+abbrev pub one_registered : List Entry
+one_registered = begun ++ arrives 2 (msg.Register trans join 1) (act.Registered trans join ∷ act.Sent 2 (msg.Joined trans join) ∷ []) ∷ []
 
--- a committed transaction is said to be aborted while its decision stands
-abbrev pub aborts_what_is_committed : List Entry
-aborts_what_is_committed = (first_up ++ vote ∷ []) ++ arrives 2 (msg.Inquire trans join) (act.Sent 2 (msg.Abort trans join cause.Asked) ∷ []) ∷ []
+abbrev pub registers_again : List Act → Entry
+registers_again acts = arrives 2 (msg.Register trans second_join 1) acts
+
+-- the vote comes, and the commit is said to this server
+abbrev pub decides_for : ℕ → Entry
+decides_for to = arrives 2 (msg.Ready trans join 1) (act.Decided stamp (join ∷ []) ∷ act.Released trans ∷ act.Sent to (msg.Commit trans join stamp) ∷ [])
+
+-- a part asks how the transaction ended, while its decision stands
+abbrev pub committed : List Entry
+committed = first_up ++ vote ∷ []
+
+abbrev pub inquires : Message → Entry
+inquires m = arrives 2 (msg.Inquire trans join) (act.Sent 2 m ∷ [])
 
 -- ---- votes and what is applied
 
--- the vote is for the time of the clock, not the one after it
-abbrev pub votes_at_the_clock : List Entry
-votes_at_the_clock = worker_up ++ arrives 1 (msg.Ask trans join) (act.Readied trans join 0 ∷ act.Sent 1 (msg.Ready trans join 0) ∷ []) ∷ []
+-- asked, a part votes for this time
+abbrev pub votes_for : ℕ → Entry
+votes_for n = arrives 1 (msg.Ask trans join) (act.Readied trans join n ∷ act.Sent 1 (msg.Ready trans join n) ∷ [])
 
--- a part that lives says that it is done
-abbrev pub done_while_it_lives : List Entry
-done_while_it_lives = worker_up ++ arrives 1 (msg.Commit trans join stamp) (act.Sent 1 (msg.Done trans join) ∷ []) ∷ []
+-- a commit comes to a part that has not voted
+abbrev pub hears_commit : List Act → Entry
+hears_commit acts = arrives 1 (msg.Commit trans join stamp) acts
 
 -- ---- locks
 
--- a part gets locks behind its vote
-abbrev pub grants_after_the_vote : List Entry
-grants_after_the_vote = (worker_up ++ ask ∷ []) ++ calls 1 5 (call.ReadOwner trans (codes "bob") choice.Fail) (reply.Refused refusal.Finishing) (act.Granted trans ∷ []) ∷ []
+abbrev pub voted : List Entry
+voted = worker_up ++ ask ∷ []
 
--- the locks of a part that lives are let go
-abbrev pub releases_what_lives : List Entry
-releases_what_lives = (hello ∷ begin ∷ calls 1 3 owner reply.Plain (act.Granted trans ∷ []) ∷ []) ++ ticks (act.Released trans ∷ []) ∷ []
+-- the commit comes to a part that voted
+abbrev pub applies : List Act → Entry
+applies acts = arrives 1 (msg.Commit trans join stamp) acts
+
+abbrev pub says_done : Act
+says_done = act.Sent 1 (msg.Done trans join)
+
+-- a call of a part that voted
+abbrev pub reads_bob : List Act → Entry
+reads_bob acts = calls 1 5 (call.ReadOwner trans (codes "bob") choice.Fail) (reply.Refused refusal.Finishing) acts
+
+-- a part holds the owner that it made
+abbrev pub made : List Entry
+made = begun ++ calls 1 3 owner reply.Plain (act.Granted trans ∷ []) ∷ []
 
 -- the part of another client waits for the owner, which the first part holds
 abbrev pub of_another : ℕ → ℕ → Call → Reply → List Act → Entry
@@ -134,53 +151,63 @@ of_another epoch number c r acts = record { event = event.Call 2 epoch number c;
 
 abbrev pub one_waits : List Entry
 one_waits =
-    hello ∷ begin ∷ calls 1 3 owner reply.Plain (act.Granted trans ∷ [])
-    ∷ of_another 0 1 (call.Hello (codes "Admin")) (reply.Welcome 1) []
+    made
+    ++ of_another 0 1 (call.Hello (codes "Admin")) (reply.Welcome 1) []
     ∷ of_another 1 2 (call.Begin nothing_seen) (reply.Begun second_trans) (act.Drawn second_trans ∷ [])
     ∷ of_another 1 3 (call.ReadOwner second_trans (codes "ann") choice.Wait) (reply.Refused refusal.NotYet) [] ∷ []
 
--- the first part ends, and the call that waits is left without its lock
-abbrev pub leaves_a_waiter_free : List Entry
-leaves_a_waiter_free = one_waits ++ calls 1 4 (call.Finish trans false) (reply.Refused (refusal.Aborted cause.Asked)) (act.Released trans ∷ []) ∷ []
+-- the first part ends
+abbrev pub ends : List Act → Entry
+ends acts = calls 1 4 (call.Finish trans false) (reply.Refused (refusal.Aborted cause.Asked)) acts
 
 -- ---- sessions
 
--- a repeat brings something about
-abbrev pub grants_to_a_repeat : List Entry
-grants_to_a_repeat = (hello ∷ begin ∷ calls 1 3 owner reply.Plain (act.Granted trans ∷ []) ∷ []) ++ calls 1 3 owner reply.Plain (act.Granted trans ∷ []) ∷ []
+-- the call that made the owner comes again
+abbrev pub comes_again : Reply → List Act → Entry
+comes_again r acts = calls 1 3 owner r acts
 
--- a repeat gets another reply than the kept one
-abbrev pub another_reply_to_a_repeat : List Entry
-another_reply_to_a_repeat = (hello ∷ begin ∷ calls 1 3 owner reply.Plain (act.Granted trans ∷ []) ∷ []) ++ calls 1 3 owner (reply.Refused refusal.OwnerExists) [] ∷ []
+-- behind a restart a session's next call comes
+abbrev pub started_again : List Entry
+started_again = begun ++ restarts 2 0 [] [] ∷ []
 
--- ---- restarts
-
--- a session goes on behind a restart: its next call is answered as if it did
-abbrev pub session_outlives_a_restart : List Entry
-session_outlives_a_restart = (hello ∷ begin ∷ restarts 2 0 [] [] ∷ []) ++ calls 2 3 (call.Outcome trans) (reply.Ended ending.Unknown) [] ∷ []
-
--- a ready part is not found again
-abbrev pub loses_a_ready_part : List Entry
-loses_a_ready_part = (worker_up ++ ask ∷ []) ++ restarts 2 0 [] [] ∷ []
+abbrev pub goes_on : Reply → Entry
+goes_on r = calls 2 3 (call.Outcome trans) r []
 
 -- ---- all of them
 
 pub record AreRefused : Type 0 where
-  pub skipped : IsUnlawful (new 1) skips_an_id
-  pub epoch : IsUnlawful (opening 1) file_of_another_epoch
-  pub below : IsUnlawful (new 1) decides_below_a_vote
-  pub above : IsUnlawful (new 1) decides_above_all_votes
-  pub unvoted : IsUnlawful of_three decides_without_a_vote
-  pub twice : IsUnlawful of_three counts_a_vote_twice
-  pub tick : IsUnlawful (new 1) decides_at_a_tick
-  pub second : IsUnlawful (new 1) registers_a_server_twice
-  pub aborted : IsUnlawful (new 1) aborts_what_is_committed
-  pub clock : IsUnlawful (new 2) votes_at_the_clock
-  pub alive : IsUnlawful (new 2) done_while_it_lives
-  pub late_grant : IsUnlawful (new 2) grants_after_the_vote
-  pub early_release : IsUnlawful (new 1) releases_what_lives
-  pub waiter : IsUnlawful (new 1) leaves_a_waiter_free
-  pub repeat_grant : IsUnlawful (new 1) grants_to_a_repeat
-  pub repeat_reply : IsUnlawful (new 1) another_reply_to_a_repeat
-  pub session : IsUnlawful (new 1) session_outlives_a_restart
-  pub lost : IsUnlawful (new 2) loses_a_ready_part
+  -- the second transaction's number is not the first one's
+  pub skipped : AreToldApart (new 1) (hello ∷ []) (begins_as trans) (begins_as second_trans)
+  pub epoch : AreToldApart (opening 1) begun (creates first_file) (creates later_file)
+  -- a decision is for the time of its vote, where that is above the clock, and for no earlier or later one
+  pub below : AreToldApart (new 1) first_up (votes_and_decides 5 5) (votes_and_decides 5 4)
+  pub above : AreToldApart (new 1) first_up (votes_and_decides 5 5) (votes_and_decides 5 6)
+  -- not before all have voted, and a vote that comes twice is not another's
+  pub unvoted : AreToldApart of_three two_joins (votes 2 join []) (votes 2 join decides_both)
+  pub twice : AreToldApart of_three one_voted (votes 3 third_join decides_both) (votes 2 join decides_both)
+  -- at the last vote or the Finish, and not at a tick
+  pub tick : AreToldApart (new 1) all_voted (ticks []) (ticks (decides_at 1))
+  -- one join of a server
+  pub second : AreToldApart (new 1) one_registered (registers_again (act.Sent 2 (msg.JoinRefused trans second_join) ∷ [])) (registers_again (act.Registered trans second_join ∷ act.Sent 2 (msg.Joined trans second_join) ∷ []))
+  -- of what is committed no abort is said
+  pub aborted : AreToldApart (new 1) committed (inquires (msg.Commit trans join stamp)) (inquires (msg.Abort trans join cause.Asked))
+  -- the vote is for the time after the clock
+  pub clock : AreToldApart (new 2) worker_up (votes_for 1) (votes_for 0)
+  -- a part that lives has not done
+  pub alive : AreToldApart (new 2) worker_up (hears_commit []) (hears_commit (act.Sent 1 (msg.Done trans join) ∷ []))
+  -- a message goes to the server that it is for, and comes behind what takes effect
+  pub astray : AreToldApart (new 1) first_up (decides_for 2) (decides_for 1)
+  pub early : AreToldApart (new 2) voted (applies (act.Applied join stamp ∷ act.Released trans ∷ says_done ∷ [])) (applies (says_done ∷ act.Applied join stamp ∷ act.Released trans ∷ []))
+  -- no locks behind the vote
+  pub late_grant : AreToldApart (new 2) voted (reads_bob []) (reads_bob (act.Granted trans ∷ []))
+  -- what lives keeps its locks
+  pub early_release : AreToldApart (new 1) made (ticks []) (ticks (act.Released trans ∷ []))
+  -- who waits gets what is let go
+  pub waiter : AreToldApart (new 1) one_waits (ends (act.Released trans ∷ act.Granted second_trans ∷ [])) (ends (act.Released trans ∷ []))
+  -- a call that comes again brings nothing about, and gets the same reply
+  pub repeat_grant : AreToldApart (new 1) made (comes_again reply.Plain []) (comes_again reply.Plain (act.Granted trans ∷ []))
+  pub repeat_reply : AreToldApart (new 1) made (comes_again reply.Plain []) (comes_again (reply.Refused refusal.OwnerExists) [])
+  -- no session goes on behind a restart
+  pub session : AreToldApart (new 1) started_again (goes_on (reply.Refused (refusal.StaleSession 2))) (goes_on (reply.Ended ending.Unknown))
+  -- a ready part is found again
+  pub lost : AreToldApart (new 2) voted (restarts 2 0 (join ∷ []) []) (restarts 2 0 [] [])

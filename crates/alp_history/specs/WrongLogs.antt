@@ -1,6 +1,6 @@
 -- Logs that differ from the right one in one place, and so do not keep to what the theorems ask: three whose messages are linked,
 -- but a journal is not lawful, and two whose journals are lawful, but a message is not linked.
-use Rattle.std.specs.Prelude.{◌≡◌, ℕ, codes, List, [], ◌∷◌, ◌++◌, None, Some}
+use Rattle.std.specs.Prelude.{◌≡◌, ℕ, suc, take, codes, List, [], ◌∷◌, ◌++◌, None, Some}
 use Rattle.alp_base.specs.declared.key.Key.{Key}
 use Rattle.alp_base.specs.declared.key.Key.TheVariants.{OwnerOf}
 use Rattle.alp_modes.specs.declared.Mode.TheVariants.{Read, Write}
@@ -8,8 +8,9 @@ use Rattle.alp_files.specs.declared.refusal.Cause.TheVariants as cause
 use Rattle.alp_journal.specs.declared.act.Act.TheVariants as act
 use Rattle.alp_journal.specs.declared.message.Message.TheVariants as msg
 use Rattle.alp_journal.specs.declared.entry.Entry.{Entry}
+use Rattle.alp_journal.specs.Laws.{IsLawful}
 use Rattle.alp_history.specs.Theorems.{HasCommitted, mode_at}
-use Rattle.alp_history.specs.Log.{Log, AreDifferent, AreSoundOpenings, AreLawful, IsLinked}
+use Rattle.alp_history.specs.Log.{Log, opening_of, journal_of, AreDifferent, AreSoundOpenings, AreLawful, IsLinked}
 use Rattle.alp_history.specs.Examples.{trans, join, stamp, arrives}
 use Rattle.alp_history.specs.RightLog.{second, second_join, second_stamp, ranks_one, ranks_two, runs, both, nothing, one_with, one_decides, one_votes, one, two_votes, two_applies, two_decides, two_ends, two_with, two}
 
@@ -68,19 +69,21 @@ forged = both nothing (runs 1 ranks_one one) (runs 2 ranks_two (two_with two_dro
 
 -- server 1 lets the first join in at rank 8, and server 2 hears of it at rank 7
 abbrev pub ranks_late : List ℕ
-ranks_late = 1 ∷ 2 ∷ 3 ∷ 8 ∷ 10 ∷ 13 ∷ 14 ∷ 15 ∷ 20 ∷ 21 ∷ 22 ∷ 24 ∷ 25 ∷ 26 ∷ 28 ∷ 30 ∷ 32 ∷ 33 ∷ 34 ∷ 35 ∷ 36 ∷ []
+ranks_late = 1 ∷ 2 ∷ 3 ∷ 8 ∷ 10 ∷ 13 ∷ 14 ∷ 15 ∷ 20 ∷ 21 ∷ 22 ∷ 24 ∷ 25 ∷ 26 ∷ 28 ∷ 30 ∷ 32 ∷ 33 ∷ 34 ∷ 35 ∷ 36 ∷ 37 ∷ []
 
 abbrev pub hurried : Log
 hurried = both nothing (runs 1 ranks_late one) (runs 2 ranks_two two)
 
 -- ---- all of them
 
--- all is right but that a journal is not lawful
-pub record LacksLaws (log : Log) : Type 0 where
+-- all is right but that the journal of one server is not lawful: it is so up to this entry, and not with it
+pub record LacksLaws (log : Log) (n i : ℕ) : Type 0 where
   pub different : AreDifferent log
   pub sound : AreSoundOpenings log
   pub linked : IsLinked log
-  pub unlawful : AreLawful log → ⊥
+  pub others : (m : ℕ) → (m ≡ n → ⊥) → IsLawful (opening_of log m) (journal_of log m)
+  pub up_to : IsLawful (opening_of log n) (take i (journal_of log n))
+  pub there : IsLawful (opening_of log n) (take (suc i) (journal_of log n)) → ⊥
 
 -- all is right but that a message is not linked
 pub record LacksLinks (log : Log) : Type 0 where
@@ -90,8 +93,9 @@ pub record LacksLinks (log : Log) : Type 0 where
   pub unlinked : IsLinked log → ⊥
 
 pub record AreWrong : Type 0 where
-  pub opposite_orders : AreOpposite × LacksLaws crossed
-  pub no_decision : LacksLaws undecided
-  pub early_release : LacksLaws unlocked
+  -- the second transaction is granted its lock on the owner; the commit is told; the vote lets go
+  pub opposite_orders : AreOpposite × LacksLaws crossed 2 9
+  pub no_decision : LacksLaws undecided 1 5
+  pub early_release : LacksLaws unlocked 1 14
   pub nobody_sent : LacksLinks forged
   pub before_it_was_sent : LacksLinks hurried

@@ -4,7 +4,7 @@ ghost use Rattle.alp_history.specs.ResumedLog.{IsShownResumed};
 ghost use Rattle.alp_history.specs.RightJournals.{AreLawfulJournals};
 ghost use Rattle.alp_history.specs.RightLog.{IsShownRight};
 ghost use Rattle.alp_history.specs.WrongLogs.{AreWrong};
-ghost use Rattle.alp_history.specs.Theorems.{Agreement, EachServer, Findings, History, Latest, Listing, Order, OrderOfBegins, Promises, Settling, Tellings, Wholeness};
+ghost use Rattle.alp_history.specs.Theorems.{Agreement, EachServer, Findings, History, Latest, Listing, Order, OrderOfBegins, Promises, Settling, Sharing, Stillness, Tellings, Wholeness};
 
 /// However messages are lost, repeated and late and servers stop and start again, no part of a committed transaction is
 /// aborted, and none is applied that is not one of a committed transaction's.
@@ -38,8 +38,14 @@ pub fn each_finds_what_the_latest_left()
     ensures { Latest }
 {}
 
+/// While a part's mode on a place is at least Read, no change of another part that takes effect touches the cell there.
+pub fn cells_stand_still_while_they_are_read()
+    ensures { Stillness }
+{}
+
 /// While a decided transaction that a server has not applied yet may read a place, the server's cells hold there what the
-/// decided transaction of the greatest smaller stamp that changed the place left, or the cell of the start.
+/// decided transaction of the greatest smaller stamp that changed the place left, or the cell of the start. So they do at each
+/// place that a call looks at, where such a transaction performs it.
 pub fn each_reads_what_the_latest_left()
     ensures { Findings }
 {}
@@ -48,6 +54,12 @@ pub fn each_reads_what_the_latest_left()
 /// stamp or is still ready.
 pub fn decided_transactions_are_whole()
     ensures { Wholeness }
+{}
+
+/// Of each decided transaction there is one share at the server that began it, and one at each server of its joins; and the calls of
+/// a share are just those that entries of the server performed for it.
+pub fn shares_are_what_was_performed()
+    ensures { Sharing }
 {}
 
 /// Each stamp that a client is told is of a decided transaction, unless an earlier run decided it.
@@ -74,7 +86,8 @@ pub fn settled_logs_end_in_what_is_held()
     ensures { Settling }
 {}
 
-/// Each of the journals of `specs/WrongJournals.antt`, which differ from right ones in one place, breaks a law.
+/// Of each pair of journals of `specs/WrongJournals.antt`, which differ in their last entry alone, one is lawful and the other
+/// breaks a law.
 pub fn wrong_journals_are_refused()
     ensures { AreRefused }
 {}
@@ -104,8 +117,8 @@ pub fn a_resumed_log_is_shown_right()
     ensures { IsShownResumed }
 {}
 
-/// What an entry of a server names as decided is one of the decided transactions, where nothing stopped it, or where the restart
-/// behind it finds a clock that is not below its time.
-pub fn decided_acts_are_listed()
+/// The decided transactions are just those that an entry of a server decides with effect: where nothing stopped it, or where the
+/// restart behind it finds a clock that is not below their time. A join is applied just where an entry applies it with effect.
+pub fn effective_acts_are_listed()
     ensures { Listing }
 {}

@@ -8,11 +8,12 @@ use Rattle.alp_base.specs.declared.ids.FileId.{FileId}
 use Rattle.alp_base.specs.declared.ids.JoinNo.{JoinNo}
 use Rattle.alp_base.specs.declared.ids.TransId.{TransId}
 use Rattle.alp_base.specs.declared.ids.Stamp.{Stamp}
+use Rattle.alp_base.specs.declared.key.Key.{Key}
 use Rattle.alp_files.specs.Holdings.{Holding, held_by}
 use Rattle.alp_files.specs.declared.call.Call.{Call}
 use Rattle.alp_files.specs.Cells.{Cells, View}
 use Rattle.alp_files.specs.Edits.{Edit, edits_map}
-use Rattle.alp_files.specs.Act.{Own, no_opens, Answer, answer, id_in}
+use Rattle.alp_files.specs.Act.{Own, no_opens, Answer, Look, Ask, Say, program, answer, id_in}
 use Rattle.alp_files.specs.History.{PerformedCall, Decided}
 use Rattle.alp_files.specs.Locks.{needs_of, granted, with_made}
 use Rattle.alp_journal.specs.Ids.{same_trans, same_join, stamp_cmp}
@@ -60,6 +61,15 @@ view_in s l = map.get (edits_map l.edits s.cells)
 -- what a thread would be answered that is where the part is
 abbrev pub answer_in : Holder → Life → PerformedCall → Answer
 answer_in s l d = answer s.server [] (view_in s l) l.who l.own d.call d.reply
+
+-- the places that are looked at, one after the other
+abbrev pub asked_in : View → Look → List Key
+asked_in m (Ask k next) = k ∷ asked_in m (next (m k))
+asked_in m (Say a) = []
+
+-- those that a call looks at where the part is
+abbrev pub looked_at : Holder → Life → PerformedCall → List Key
+looked_at s l d = asked_in (view_in s l) (program s.server [] l.who l.own d.call (id_in d.reply))
 
 -- what the part holds once the locks of the call are granted, as it sees the files
 abbrev pub held_for : Holder → Life → Call → Holding

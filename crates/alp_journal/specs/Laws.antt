@@ -1,6 +1,6 @@
 -- What the entries of a lawful journal keep to. Each law is about one entry and the state that the entries before it leave.
 use Rattle.std.specs.Prelude.{◌≡◌, ℕ, ◌+◌, ◌<◌, max, Bool, true, false, not, ◌==◌, ◌&&◌, ◌⊎◌, List, [], ◌∷◌, flat_map, Option, None, Some, IsSome, if◌then◌else◌}
-use Rattle.std.specs.List.{list_any, AllByRecursion}
+use Rattle.std.specs.List.{list_any, list_all, AllByRecursion}
 use Rattle.std.specs.FinMap.Entries as entries
 use Rattle.alp_base.specs.declared.ids.FileId.{FileId}
 use Rattle.alp_base.specs.declared.ids.JoinNo.{JoinNo}
@@ -179,10 +179,10 @@ ReleasesEnded s e = (flat_map released_by e.acts ≡ flat_map (ended_by s) (trie
 abbrev pub IsFree : Holder → TransId → Life → Call → Type 0
 IsFree s t l c = (u : TransId) (k : Life) → s.lives u ≡ Some k → same_trans u t ≡ false → DoAgree k.held (held_for s l c)
 
--- the waiting call asks for locks that are not free
+-- the waiting call of a client's own part asks for locks that are not free
 abbrev pub IsBlocked : State → Waiting → Option TransId → Type 0
 IsBlocked s w None = Unit {0}
-IsBlocked s w (Some t) = w.is_granted ≡ false → (l : Life) → s.holder.lives t ≡ Some l → IsFree s.holder t l w.call → ⊥
+IsBlocked s w (Some t) = w.is_granted ≡ false → (l : Life) → s.holder.lives t ≡ Some l → w.client ≡ l.client → IsFree s.holder t l w.call → ⊥
 
 -- nobody is left waiting whose way is free
 abbrev pub WaitsInTurn : State → Type 0
@@ -316,6 +316,32 @@ abbrev pub SaysRight : Event → State → Act → Type 0
 SaysRight e s (act.Sent to m) = MaySay e s m
 SaysRight e s a = Unit {0}
 
+-- the server that a message is for: the one that drew the join, or that began the transaction
+abbrev pub is_for : ℕ → Message → Bool
+is_for to (msg.Register t j client) = to == t.server
+is_for to (msg.Joined t j) = to == j.server
+is_for to (msg.JoinRefused t j) = to == j.server
+is_for to (msg.Ask t j) = to == j.server
+is_for to (msg.Ready t j ts) = to == t.server
+is_for to (msg.No t j why) = to == t.server
+is_for to (msg.Commit t j stamp) = to == j.server
+is_for to (msg.Abort t j c) = to == j.server
+is_for to (msg.Done t j) = to == t.server
+is_for to (msg.Inquire t j) = to == t.server
+
+abbrev pub is_message : Act → Bool
+is_message (act.Sent to m) = true
+is_message a = false
+
+abbrev pub is_addressed : Act → Bool
+is_addressed (act.Sent to m) = is_for to m
+is_addressed a = false
+
+-- what takes effect comes first, and then the messages, each to the server that it is for
+abbrev pub sends_last : List Act → Bool
+sends_last [] = true
+sends_last (a ∷ acts) = if is_message a then list_all is_addressed (a ∷ acts) else sends_last acts
+
 -- ---- what is told to clients
 
 -- the decided transaction has the stamp, and was decided in this run
@@ -424,6 +450,7 @@ pub record IsLawfulEntry (s : State) (e : Entry) : Type 0 where
   pub deeds : DeedsAreLawful s e e.event
   pub agree : DoLivesAgree (next s e).holder.lives
   pub released : LetsGo s e e.event
+  pub sent : sends_last e.acts ≡ true
   pub said : AllByRecursion (SaysRight e.event (next s e)) e.acts
   pub told : TellsDecided s (next s e) e.event e.reply
   pub restart : StartsRight s e e.event
