@@ -32,7 +32,8 @@ use Rattle.alp_history.proofs.Fates.{IsOver, over-stays}
 use Rattle.alp_history.proofs.Phases.{IsSeen}
 use Rattle.alp_history.proofs.Logs.{state-suc}
 use Rattle.alp_history.proofs.LifeMoves.{IsCommit, left_of, life-cases, ready-was, over-keeps}
-use Rattle.alp_history.proofs.Linked.{IsLinkedUp, IsAway, HasPart, IsKeptAt, itself, same_join-self}
+use Rattle.alp_journal.proofs.StampLemmas.{itself}
+use Rattle.alp_history.proofs.Linked.{IsLinkedUp, IsAway, HasPart, IsKeptAt, same_join-self}
 use Rattle.alp_history.proofs.Turned.{is_left, Began, in-flat, decision-back}
 use Rattle.alp_journal.proofs.OneServer.{IsHeld, own-life}
 use Rattle.alp_history.proofs.HeldAlong.{IsSameCore, Knows, exact_stamps}

@@ -35,14 +35,14 @@ use Rattle.alp_journal.specs.Counts.{lock_set}
 use Rattle.alp_journal.specs.State.{State, state_deed}
 use Rattle.alp_journal.specs.Halts.{HaltsRight, written, by_call, by_finish, decides}
 use Rattle.alp_journal.specs.Moves.{finishes, is_new, follows, greeted, is_stop, tried, told, halted, next, times_out_here, call_deeds, answered, done_of, done_by}
-use Rattle.alp_journal.specs.Laws.{IsLawfulDeed, KeepsSessions, CallsOn, DoLivesAgree, ReleasesEnded, WaitsInTurn, IsStopped, TellsStop, SaysRight, drawn_by, granted_by, released_by, ended_by, grants_of, regained_by, Greets}
+use Rattle.alp_journal.specs.Laws.{IsLawfulDeed, KeepsSessions, CallsOn, DoLivesAgree, ReleasesEnded, WaitsInTurn, IsStopped, TellsStop, SaysRight, drawn_by, granted_by, released_by, ended_by, grants_of, regained_by, sends_last, Greets}
 use Rattle.alp_journal.specs.Messages.{Mail, on_finish, on_timeout, why_not_own, due, sent_by}
 use Rattle.alp_journal.specs.Answered.{is_release, CountsVotes, ForgetsDone, at_release, GrantsAtOnce}
 use Rattle.alp_journal.specs.Answers.{Part, part_at, at_part, finish_reply, voted_reply, First, IsAnswer, AnswersCall}
 use Rattle.alp_journal.specs.Alone.{Alone, alone, IsQuiet, IsPaired, Leads}
 use Rattle.alp_journal.proofs.IdLemmas.{same_trans-itself}
 use Rattle.alp_journal.proofs.StampLemmas.{stamps_total, itself}
-use Rattle.alp_journal.proofs.AloneLemmas.{call_entry, new_call, call_tried, calls_on, call_leads, gives_none, quiet_votes, quiet_forgets}
+use Rattle.alp_journal.proofs.AloneLemmas.{call_entry, new_call, call_tried, calls_on, call_leads, gives_none, silent_last, quiet_votes, quiet_forgets}
 use Rattle.alp_journal.proofs.AloneEntries.{agree_without, paired_set, own_at_work, counted_as, has_ended, IsFileCall, file_call}
 
 twice : {A : Type 0} (b : Bool) (x y z : A) → cond {A = A} b x (cond {A = A} b y z) ≡ cond {A = A} b x z
@@ -231,6 +231,7 @@ module _ (a : Alone) (client number : ℕ) (w : Session) where
     pub stops : list_any is_stop acts ≡ true
     pub drawn : flat_map drawn_by acts ≡ []
     pub deeds : Along state_deed (IsLawfulDeed (event.Call client a.ids.epoch number c)) (alone a) (tried (alone a) (call_entry a client number w c (reply.Refused refusal.Down) acts))
+    pub sent : sends_last acts ≡ true
     pub said : (m : State) → AllByRecursion (SaysRight (event.Call client a.ids.epoch number c) m) acts
     pub regained : list_any regained_by acts ≡ false
     pub stopped : IsStopped acts
@@ -253,6 +254,7 @@ module _ (a : Alone) (client number : ℕ) (w : Session) where
           deeds = o.deeds;
           agree = subst (λ (x : State). DoLivesAgree x.holder.lives) (sym leaves) q.agree;
           released = subst (λ (b : Bool). Where b (Unit {0}) (ReleasesEnded s e × WaitsInTurn (next s e))) (sym o.stops) tt;
+          sent = o.sent;
           said = o.said (next s e);
           told = either (is_new s client a.ids.epoch number);
           restart = (o.regained, up);
@@ -308,6 +310,7 @@ module _ (a : Alone) (client number : ℕ) (w : Session) where
             stops = refl;
             drawn = refl;
             deeds = subst (Along state_deed (IsLawfulDeed (event.Call client a.ids.epoch number c)) (alone a)) (sym (call_tried a client number w c (reply.Refused refusal.Down) (act.Stopped ∷ []) there turn ∙ none)) tt;
+            sent = refl;
             said = λ m. (tt, tt);
             regained = refl;
             stopped = refl;
@@ -320,6 +323,7 @@ module _ (a : Alone) (client number : ℕ) (w : Session) where
             stops = refl;
             drawn = refl;
             deeds = subst (Along state_deed (IsLawfulDeed (event.Call client a.ids.epoch number c)) (alone a)) (sym (call_tried a client number w c (reply.Refused refusal.Down) (act.Failed ∷ []) there turn ∙ none)) tt;
+            sent = refl;
             said = λ m. (tt, tt);
             regained = refl;
             stopped = refl;
@@ -372,6 +376,7 @@ module _ (a : Alone) (client number : ℕ) (w : Session) where
               stops = refl;
               drawn = refl;
               deeds = lawful act.Stopped (call_tried a client number w (call.Finish t true) (reply.Refused refusal.Down) (act.Decided (commit_stamp a client number w t l) [] ∷ act.Stopped ∷ []) there turn ∙ commit_brought runs);
+              sent = refl;
               said = λ m. (tt, (tt, tt));
               regained = refl;
               stopped = (refl, refl);
@@ -385,6 +390,7 @@ module _ (a : Alone) (client number : ℕ) (w : Session) where
               stops = refl;
               drawn = refl;
               deeds = lawful act.Failed (call_tried a client number w (call.Finish t true) (reply.Refused refusal.Down) (act.Decided (commit_stamp a client number w t l) [] ∷ act.Failed ∷ []) there turn ∙ commit_brought runs);
+              sent = refl;
               said = λ m. (tt, (tt, tt));
               regained = refl;
               stopped = (refl, refl);
@@ -418,6 +424,7 @@ module _ (a : Alone) (client : ℕ) (name : List ℕ) where
           deeds = subst (Along state_deed (IsLawfulDeed ev) s) (sym none) tt;
           agree = subst (λ (x : State). DoLivesAgree x.holder.lives) (sym leaves) q.agree;
           released = ((ap (flat_map (ended_by s)) (sym none), ap (flat_map grants_of) (sym none)), subst WaitsInTurn (sym leaves) tt);
+          sent = refl;
           said = tt;
           told = either (is_new s client 0 1);
           restart = (refl, up);
@@ -466,6 +473,7 @@ module _ (a : Alone) (t : TransId) where
           agree = subst (λ (x : State). DoLivesAgree x.holder.lives) (sym leaves) quiet.agree;
           released = subst (λ (b : Bool). Where b (Unit {0}) (ReleasesEnded s e × WaitsInTurn (next s e))) (sym up)
               ((released ∙ ap (flat_map (ended_by s)) (sym brought), granted ∙ ap (flat_map grants_of) (sym brought)), subst WaitsInTurn (sym leaves) tt);
+          sent = silent_last acts none_sent;
           said = said (next s e);
           told = tt;
           restart = (regained, running);

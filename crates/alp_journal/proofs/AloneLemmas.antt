@@ -9,6 +9,7 @@ use Rattle.alp_base.specs.declared.ids.TransId.{TransId}
 use Rattle.alp_files.specs.declared.call.Call.{Call}
 use Rattle.alp_files.specs.declared.reply.Reply.{Reply}
 use Rattle.alp_journal.specs.declared.act.Act.{Act}
+use Rattle.alp_journal.specs.declared.act.Act.TheVariants as act
 use Rattle.alp_journal.specs.declared.event.Event.{Event}
 use Rattle.alp_journal.specs.declared.event.Event.TheVariants as event
 use Rattle.alp_journal.specs.declared.entry.Entry.{Entry}
@@ -20,7 +21,7 @@ use Rattle.alp_journal.specs.Moves.{is_new, tried, told, halted, call_deeds, act
 use Rattle.alp_journal.specs.Coordinator.{Fate, Undrawn, Running, Finishing, Committed, Forgotten, Ended, has_votes}
 use Rattle.alp_journal.specs.Holder.{Holder, Life}
 use Rattle.alp_journal.specs.Halts.{HaltsRight}
-use Rattle.alp_journal.specs.Laws.{IsLawfulDeed, DoLivesAgree, ReleasesEnded, WaitsInTurn, IsStopped, TellsStop, Repeats, stale, KeepsSessions, CallsOn, drawn_by, begun_in, released_by, granted_by, grants_of, ended_by, SaysRight, TellsIn, regained_by}
+use Rattle.alp_journal.specs.Laws.{IsLawfulDeed, DoLivesAgree, ReleasesEnded, WaitsInTurn, IsStopped, TellsStop, Repeats, stale, KeepsSessions, CallsOn, drawn_by, begun_in, released_by, granted_by, grants_of, ended_by, sends_last, SaysRight, TellsIn, regained_by}
 use Rattle.alp_journal.specs.Messages.{Mail, on_call, sent_by, due}
 use Rattle.alp_journal.specs.Answers.{IsAnswer, AnswersCall}
 use Rattle.alp_journal.specs.Answered.{is_release, is_all_done, CountsVotes, ForgetsDone, IsWalk, at_release, GrantsFor, GrantsAtOnce}
@@ -61,6 +62,22 @@ gives_none h acts none = go (list_any is_release acts) none
     go : (b : Bool) → Where b (flat_map granted_by acts ≡ []) (Unit {0}) → Where b (IsWalk h [] (flat_map granted_by acts)) (Unit {0})
     go true n = subst (IsWalk h []) (sym n) (IsWalk.ends h)
     go false n = tt
+
+-- where nothing is sent, no message comes before what takes effect
+pub silent_last : (acts : List Act) → flat_map sent_by acts ≡ [] → sends_last acts ≡ true
+silent_last [] none = refl
+silent_last (act.Sent to m ∷ acts) none = absurd (let wrong : (to, m) ∷ flat_map sent_by acts ≡ [] = none in cc)
+silent_last (act.Granted t ∷ acts) none = silent_last acts none
+silent_last (act.Drawn t ∷ acts) none = silent_last acts none
+silent_last (act.Registered t j ∷ acts) none = silent_last acts none
+silent_last (act.Readied t j ts ∷ acts) none = silent_last acts none
+silent_last (act.Decided stamp parts ∷ acts) none = silent_last acts none
+silent_last (act.Applied j stamp ∷ acts) none = silent_last acts none
+silent_last (act.Released t ∷ acts) none = silent_last acts none
+silent_last (act.Forgot t ∷ acts) none = silent_last acts none
+silent_last (act.Regained epoch clock ready decided ∷ acts) none = silent_last acts none
+silent_last (act.Stopped ∷ acts) none = silent_last acts none
+silent_last (act.Failed ∷ acts) none = silent_last acts none
 
 -- ---- a new call of a session
 
@@ -155,6 +172,7 @@ module _ (a : Alone) (client number : ℕ) (w : Session) where
           agree = subst (λ (x : State). DoLivesAgree x.holder.lives) (sym leaves) o.quiet.agree;
           released = subst (λ (b : Bool). Where b (Unit {0}) (ReleasesEnded s e × WaitsInTurn (next s e))) (sym o.up)
               ((o.released ∙ ap (flat_map (ended_by s)) (sym done), o.granted ∙ ap (flat_map grants_of) (sym done)), subst WaitsInTurn (sym leaves) tt);
+          sent = silent_last acts o.mail.1;
           said = subst (λ (x : State). AllByRecursion (SaysRight ev x) acts) (sym leaves) o.said;
           told = subst (λ (x : State). Where (is_new s client a.ids.epoch number) (TellsIn x c r) (Unit {0})) (sym leaves)
               (subst (λ (b : Bool). Where b (TellsIn (alone m) c r) (Unit {0})) (sym new) o.tells);
