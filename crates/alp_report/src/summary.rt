@@ -83,11 +83,7 @@ fn put_sections(
 }
 
 /// Appends what a server holds at the end, and how its transactions ended.
-pub fn put_summary(
-    alloc: Global,
-    out: &mut Vec<u8>,
-    summary: &Summary,
-) -> Result<(), OutOfMemory>
+pub fn put_summary(alloc: Global, out: &mut Vec<u8>, summary: &Summary) -> Result<(), OutOfMemory>
     ensures { OnOk result (out.new.items ≡ out.old.items ++ printed summary.now) }
 {
     let sizes = summary.files.sizes(alloc)?;

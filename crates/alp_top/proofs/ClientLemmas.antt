@@ -228,12 +228,12 @@ module _ (s : ServerLog) (h : Handed) (turns : List Turn) (calls ends : List Ent
         at = e.place;
         place = refl;
         of_entry = record {
-            entry = e.entry;
-            sent = record { client = k; epoch = r.epoch; number = r.number; call = r.call };
-            stands = ap (λ (es : List Entry). slice_get es e.place) (journal_is ∙ g.journal) ∙ get_left calls ends e.place e.entry e.stands;
-            said = refl;
-            called = r.event;
-            handed = refl;
+          entry = e.entry;
+          sent = record { client = k; epoch = r.epoch; number = r.number; call = r.call };
+          stands = ap (λ (es : List Entry). slice_get es e.place) (journal_is ∙ g.journal) ∙ get_left calls ends e.place e.entry e.stands;
+          said = refl;
+          called = r.event;
+          handed = refl;
         };
         own = refl;
       }))
@@ -253,19 +253,22 @@ module _ (s : ServerLog) (h : Handed) (turns : List Turn) (calls ends : List Ent
       → (y.opening.server ≡ 1) × ((owner : ℕ) × (x : items.Item) × IsIn x (h owner) × (x.server ≡ 1) × (x.place ≡ Some i))
 
   here : HasItem s
-  here client i epoch number c e at is = (g.server, elim (get_either calls ends i e (ap (λ (es : List Entry). slice_get es i) (sym g.journal) ∙ at)) [
-    | inl there ↦
-        let q = sent_there 0 i e (sent_in turns) calls g.recorded there in
-        let k : ℕ = q.item.0 in
-        let y : Item = q.item.1 in (
-          k,
-          item_of y,
-          subst (IsIn (item_of y)) (sym (g.handed k)) (in-map item_of y (own_in k turns) (sent_own k y turns q.among)),
-          q.records.server,
-          q.records.place ∙ ap Some (let at : 0 + i ≡ i = omega arith in at),
-        )
-    | inr late ↦ absurd (g.quiet late.0 client epoch number c e late.1 is)
-  ])
+  here client i epoch number c e at is = (
+    g.server,
+    elim (get_either calls ends i e (ap (λ (es : List Entry). slice_get es i) (sym g.journal) ∙ at)) [
+      | inl there ↦
+          let q = sent_there 0 i e (sent_in turns) calls g.recorded there in
+          let k : ℕ = q.item.0 in
+          let y : Item = q.item.1 in (
+            k,
+            item_of y,
+            subst (IsIn (item_of y)) (sym (g.handed k)) (in-map item_of y (own_in k turns) (sent_own k y turns q.among)),
+            q.records.server,
+            q.records.place ∙ ap Some (let at : 0 + i ≡ i = omega arith in at),
+          )
+      | inr late ↦ absurd (g.quiet late.0 client epoch number c e late.1 is)
+    ],
+  )
 
   whole : (client n i epoch number : ℕ) (c : Call) (e : Entry) → slice_get (journal_of log n) i ≡ Some e → e.event ≡ event.Call client epoch number c
       → (owner : ℕ) × (x : items.Item) × IsIn x (log.handed owner) × (x.server ≡ n) × (x.place ≡ Some i)

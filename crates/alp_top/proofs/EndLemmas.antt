@@ -196,13 +196,13 @@ module _ (lines : List NumberedLine) (c : Crowd) (before n : Server) (vs : List 
       let proper_log : IsProper (log_of log) = subst IsProper (sym log_single) (proper server (runs.handed_of (lists_of log)) is_single) in
       let clients : AreOfClients (log_of log) = subst AreOfClients (sym log_single) (of_clients server (runs.handed_of (lists_of log)) turns calls end.ended.ends (client_at c) is_said) in
       let many : length (decided (log_of log)) ≡ length (state_of n).holder.applied =
-      ap (λ (l : logs.Log). length (decided l)) log_single ∙ decided_many server (runs.handed_of (lists_of log)) is_single ∙ ap (λ (s : State). length s.holder.applied) ends_at in
-      (record {
-        server = x;
-        one = one;
-        opening = subst IsNewOpening (sym same) new;
-        notes = ap (λ (o : Opened MemVault). (held_by o.vault.value).notes) opening ∙ end.ended.on.notes;
-        faithful = record {
+      ap (λ (l : logs.Log). length (decided l)) log_single ∙ decided_many server (runs.handed_of (lists_of log)) is_single ∙ ap (λ (s : State). length s.holder.applied) ends_at in (
+        record {
+          server = x;
+          one = one;
+          opening = subst IsNewOpening (sym same) new;
+          notes = ap (λ (o : Opened MemVault). (held_by o.vault.value).notes) opening ∙ end.ended.on.notes;
+          faithful = record {
             clients = c;
             calls = calls;
             ends = end.ended.ends;
@@ -215,9 +215,11 @@ module _ (lines : List NumberedLine) (c : Crowd) (before n : Server) (vs : List 
             left = subst (λ (o : Start). AreLive (state_after next (opened o) calls) end.live) (sym (same ∙ start)) end.left;
             ended = end.ended.ended;
             ranks = is_single.ranks;
-        };
-        caused = subst (λ (o : Start). Along next IsDone (opened o) x.journal) (sym same) (subst (λ (js : List Entry). Along next IsDone (opened (start_in n)) js) (sym journal) end.ended.on.answered);
-        serial = history (log_of log) proper_log;
-        whole = wholeness (log_of log) proper_log;
-        kept = promises (log_of log) proper_log clients;
-      }, ap (λ (ts : List ℕ). ts ++ ending_text n) (h.text ∙ ap turns_text turns_same) ∙ report_is lines log x n (length (decided (log_of log))) one ends_at refl many)
+          };
+          caused = subst (λ (o : Start). Along next IsDone (opened o) x.journal) (sym same) (subst (λ (js : List Entry). Along next IsDone (opened (start_in n)) js) (sym journal) end.ended.on.answered);
+          serial = history (log_of log) proper_log;
+          whole = wholeness (log_of log) proper_log;
+          kept = promises (log_of log) proper_log clients;
+        },
+        ap (λ (ts : List ℕ). ts ++ ending_text n) (h.text ∙ ap turns_text turns_same) ∙ report_is lines log x n (length (decided (log_of log))) one ends_at refl many,
+      )

@@ -306,7 +306,7 @@ module _ (c : Crowd) (n m : Server) (k : ℕ) (l : NumberedLine) (frame : Number
       (λ i. record { event = event.Call k (same i).epoch (same i).number (same i).call; reply = handed i; acts = went.acts }) in
       subst (λ (t : State). IsMore (state_of n) t k d (heard c.words d d.session l.line (Some y)).0 frame.epoch frame.number frame.call y) (sym (more ∙ ap (next (state_of n)) alike))
       (subst (λ (f : NumberedCall). IsMore (state_of n) (next (state_of n) (record { event = event.Call k (frame_in d d.session x).epoch (frame_in d d.session x).number (frame_in d d.session x).call; reply = Some y; acts = went.acts })) k d
-          (heard c.words d d.session l.line (Some y)).0 f.epoch f.number f.call y) (sym same)
+      (heard c.words d d.session l.line (Some y)).0 f.epoch f.number f.call y) (sym same)
       (heard_more (state_of n) k l.line c.words d x y went.acts form is d.session ((state_of n).desk.sessions k) refl (step.each k).session refl (step.each k).told
       (line_call c.words d l.line x (told_low c n k step) form is) (subst (λ (e : Entry). IsFine (state_of n) e) alike fine)))
 

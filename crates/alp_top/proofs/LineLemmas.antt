@@ -194,7 +194,6 @@ declared_step c n l (read k file run some) step = step
 declared_step c n l (commit k) step = step
 declared_step c n l (abort k) step = step
 
-
 -- the client of a line has said what it had, and so have all others
 pub said_at_line : (c : Crowd) (k : ℕ) (l : Line) → length c.places ≡ 17 → k ≤ 16 → IsForm l → (j : ℕ) (front : List items.Item) → HasSaid j (client_at c j) front → HasSaid j (client_at (at_line c k l) j) front
 said_at_line c k l places small form j front said = go (eqb_tells j k)

@@ -219,8 +219,8 @@ played_none c n vs text is on opening none many empty blank = subst (λ (d : Cro
     on = on;
     places = length-replicate 17 new_client;
     each = λ k. record {
-        session = new_same (state_of n).ids.epoch (client_at new_crowd k).session ((state_of n).desk.sessions k) (new_session k) (no_state_session n k none);
-        told = (let low : (client_at new_crowd k).told.ts ≡ 0 = new_told k in omega (arith, low));
+      session = new_same (state_of n).ids.epoch (client_at new_crowd k).session ((state_of n).desk.sessions k) (new_session k) (no_state_session n k none);
+      told = (let low : (client_at new_crowd k).told.ts ≡ 0 = new_told k in omega (arith, low));
     };
   };
   opening = opening;

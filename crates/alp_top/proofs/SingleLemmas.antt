@@ -131,21 +131,21 @@ module _ (s : ServerLog) (h : Handed) (g : IsSingle s) where
   proper = record {
     different = λ y i. elim i [ inl is ↦ ap (λ (z : ServerLog). of log z.opening.server) is ∙ of_self s h ∙ sym is | inr none ↦ absurd none ];
     sound = λ n. record {
-        few = by_server s h (λ y. y.opening.servers ≤ 8) g.few (λ m. omega arith) n;
-        files = cells_sound n;
-        files_begun = subst AreSound (sym (start_is n)) (cells_sound n);
-        sizes = by_server s h (λ y. AreSized (map.get y.opening.cells)) g.sizes (λ m. no_sizes) n;
-        ready = λ r i. absurd (no_ready n r i);
-        distinct = subst AreDistinct (sym (ready_none n)) tt;
-        agree = λ r q i k other. absurd (no_ready n r i);
-        decisions = λ d i. absurd (no_decision n d i);
-        one_each = λ d e i k same. absurd (no_decision n d i);
-        once = λ d e j i k has too. absurd (subst (IsIn d) none_noted i);
+      few = by_server s h (λ y. y.opening.servers ≤ 8) g.few (λ m. omega arith) n;
+      files = cells_sound n;
+      files_begun = subst AreSound (sym (start_is n)) (cells_sound n);
+      sizes = by_server s h (λ y. AreSized (map.get y.opening.cells)) g.sizes (λ m. no_sizes) n;
+      ready = λ r i. absurd (no_ready n r i);
+      distinct = subst AreDistinct (sym (ready_none n)) tt;
+      agree = λ r q i k other. absurd (no_ready n r i);
+      decisions = λ d i. absurd (no_decision n d i);
+      one_each = λ d e i k same. absurd (no_decision n d i);
+      once = λ d e j i k has too. absurd (subst (IsIn d) none_noted i);
     };
     lawful = by_server s h (λ y. IsLawful y.opening y.journal) g.lawful (λ n. tt);
     linked = record {
-        rising = rising;
-        sent = λ n i from e m at is. absurd (sent n i from e m at is);
+      rising = rising;
+      sent = λ n i from e m at is. absurd (sent n i from e m at is);
     };
   }
 

@@ -54,7 +54,6 @@ abbrev pub HasLast : Option Greeted → List items.Item → Type 0
 HasLast None xs = xs ≡ []
 HasLast (Some g) xs = AllByRecursion (λ (x : items.Item). (s : Sent) → x.sent ≡ Some s → s.number ≤ g.last) xs
 
-
 abbrev pub IsNoOutcome : Call → Type 0
 IsNoOutcome (call.Outcome t) = ⊥
 IsNoOutcome c = Unit {0}

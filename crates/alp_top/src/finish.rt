@@ -62,11 +62,7 @@ fn settle(alloc: Global, node: &mut Node<MemVault>) -> Result<(), OutOfMemory>
 }
 
 // What the server holds, and how its transactions ended.
-fn put_ending(
-    alloc: Global,
-    text: &mut Vec<u8>,
-    node: &Node<MemVault>,
-) -> Result<(), OutOfMemory>
+fn put_ending(alloc: Global, text: &mut Vec<u8>, node: &Node<MemVault>) -> Result<(), OutOfMemory>
     requires { IsOn node.now }
     ensures { OnOk result (text.new.items ≡ text.old.items ++ ending_text node.now) }
 {

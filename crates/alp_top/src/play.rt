@@ -249,14 +249,7 @@ pub fn play(alloc: Global, lines: &[NumberedLine]) -> Result<PlayedRun, OutOfMem
     let mut lists = new_lists(alloc)?;
     let mut text = Vec::new(alloc);
     for line in lines {
-        play_line(
-            alloc,
-            &mut clients,
-            &mut node,
-            &mut lists,
-            &mut text,
-            line,
-        )?;
+        play_line(alloc, &mut clients, &mut node, &mut lists, &mut text, line)?;
     }
     Ok(PlayedRun {
         clients,

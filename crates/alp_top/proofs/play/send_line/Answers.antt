@@ -19,8 +19,7 @@ returns c =
     let goes : Exchanged c.args.clients.now c.send.new.clients c.args.node.now c.send.new.node c.args.client c.args.line.now c.in-Some.frame false x =
     subst (λ (b : Bool). Exchanged c.args.clients.now c.send.new.clients c.args.node.now c.send.new.node c.args.client c.args.line.now c.in-Some.frame b x) c.if-branch.false done in
     on_ok_weaker c.send_greeted.result
-    (λ rest.
-    (
+    (λ rest. (
       x ∷ rest.0,
       rest.1 ∙ ap (λ (ys : List Item). ys ++ rest.0) is ∙ append_assoc c.args.items.now.items (x ∷ []) rest.0,
       greeted_line c.args.clients.now c.send.new.clients c.send_greeted.new.clients c.args.node.now c.send.new.node c.send_greeted.new.node c.args.client c.args.line.now c.in-Some.frame x rest.0
