@@ -29,7 +29,7 @@ abbrev pub start_of : ServerOfLog → Start
 start_of x = runs.start_in openings 1 x
 
 -- The calls are the script's, the replies are those given, and no other event stands in the journal but that each
--- transaction that is live behind the last line takes too long.
+-- transaction that is live behind the last line times out.
 pub record IsFaithful (lines : List NumberedLine) (log : Log) (x : ServerOfLog) : Type 0 where
   pub clients : Crowd
   pub calls : List Entry
@@ -78,7 +78,7 @@ pub record IsReported (old new : Option (List ℕ)) (before after : Option (List
   pub script : GaveScript old new lines
   pub written : Appends before after (report_of lines log)
 
--- or a front of it
+-- or a prefix of it
 pub record IsCutOff (old new : Option (List ℕ)) (before after : Option (List ℕ)) (log : Log) : Type 0 where
   pub lines : List NumberedLine
   pub script : GaveScript old new lines

@@ -36,7 +36,7 @@ fn ranks(alloc: Global, entries: &[Entry]) -> Result<Vec<u64>, OutOfMemory>
     Ok(ranks)
 }
 
-// Each of these transactions takes too long.
+// Each of these transactions times out.
 fn time_out(node: &mut Node<MemVault>, live: &[TransId]) -> Result<(), OutOfMemory>
     requires on { IsOn node.old }
     requires room { length node.old.journal + length live.now ≤ 65536 }
@@ -50,7 +50,7 @@ fn time_out(node: &mut Node<MemVault>, live: &[TransId]) -> Result<(), OutOfMemo
     Ok(())
 }
 
-// Each transaction that still runs takes too long.
+// Each transaction that still runs times out.
 fn settle(alloc: Global, node: &mut Node<MemVault>) -> Result<(), OutOfMemory>
     requires on { IsOn node.old }
     requires short { length node.old.journal ≤ 2000 }

@@ -36,7 +36,7 @@ fn play_script(alloc: Global, lines: &[NumberedLine]) -> Result<Ended, OutOfMemo
 fn hand_over<K: Sink>(ended: &Ended, out: &mut K) -> Status
     ensures done { OnDone result (λ log. (log ≡ ended.now.log) × Appends (K.written out.old) (K.written out.new) ended.now.text.items) }
     ensures fault { OnWriteFault result (λ log. (log ≡ ended.now.log) × Rose (K.faults out.old) (K.faults out.new)) }
-    ensures front { (count : ℕ) × Appends (K.written out.old) (K.written out.new) (take count ended.now.text.items) }
+    ensures prefix { (count : ℕ) × Appends (K.written out.old) (K.written out.new) (take count ended.now.text.items) }
     ensures played { OnUnwritten result ⊥ }
 {
     let log = Snapshot::of(&ended.log);
@@ -63,10 +63,10 @@ pub fn run_alpine<S: Source, K: Sink>(
     ensures bad_words { OnBadWords result (script.new ≡ script.old) }
     // That line of what the source gave is the first outside the language.
     ensures bad_script { OnBadScript result (GaveBadLine (S.left script.old) (S.left script.new)) }
-    // A fault has its cause in this call; after a write fault a front of the report is written.
+    // A fault has its cause in this call; after a write fault a prefix of the report is written.
     ensures read_fault { OnReadFault result (Rose (S.faults script.old) (S.faults script.new)) }
     ensures write_fault { OnWriteFault result (λ log. Rose (K.faults out.old) (K.faults out.new)) }
-    ensures front { OnWriteFault result (IsCutOff (S.left script.old) (S.left script.new) (K.written out.old) (K.written out.new)) }
+    ensures prefix { OnWriteFault result (IsCutOff (S.left script.old) (S.left script.new) (K.written out.old) (K.written out.new)) }
     // A script of the language is played to its end, where the streams do not fail.
     ensures complete { are_play (map string_bytes words.now) ≡ true → SaysScript (S.left script.old) → (Rose (S.faults script.old) (S.faults script.new) → ⊥) → (Rose (K.faults out.old) (K.faults out.new) → ⊥) → IsPlayedOrMemory result }
     // Nothing is written but the report.
