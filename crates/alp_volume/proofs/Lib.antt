@@ -33,3 +33,6 @@ pub mod FileNames
 pub mod FileSteps
 pub mod KnownLaws
 pub mod BlankLaws
+pub mod LaidLaws
+pub mod DraftLaws
+pub mod PutLaws

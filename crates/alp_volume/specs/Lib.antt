@@ -11,3 +11,4 @@ pub mod Counted
 pub mod Damage
 pub mod Reached
 pub mod Known
+pub mod Drafts

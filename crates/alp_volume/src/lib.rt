@@ -11,6 +11,7 @@ mod charges;
 mod cost;
 mod costs;
 mod directory;
+mod draft;
 mod entry;
 mod fetch;
 mod file_pages;
@@ -25,8 +26,12 @@ mod marks;
 mod owner_pages;
 mod owner_table;
 mod owners;
+mod put_leader;
+mod put_owner;
+mod put_page;
 mod read;
 mod reader;
+mod sheets;
 mod table;
 mod take_in;
 mod volume_files;
@@ -36,6 +41,7 @@ pub use changes::{
     a_file_comes, a_file_goes, a_file_is_cut, a_leader_is_put, a_new_block_is_put,
     a_new_page_is_put, a_page_is_put, an_owner_is_put,
 };
+pub use draft::Draft;
 pub use entry::{
     DIRECTORY_PAGES, ENTRIES_PER_PAGE, ENTRY_BYTES, Entry, clear_entry, entry_at, set_entry,
 };
@@ -51,8 +57,12 @@ pub use laws::{
 };
 pub use owner_table::OwnerTable;
 pub use owners::{OWNER_PAGES, OwnerRow, ROWS_PER_PAGE, owner_at, set_owner};
+pub use put_leader::{draft_leader, put_known_leader};
+pub use put_owner::{put_known_owner, put_new_owner};
+pub use put_page::put_in_block;
 pub use read::read_volume;
 pub use reader::PageReader;
+pub use sheets::Sheets;
 
 #[cfg(test)]
 mod tests;

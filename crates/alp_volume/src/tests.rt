@@ -330,3 +330,81 @@ fn takes_the_lowest_free_number(rt: HostRuntime) -> Result<(), Fail> {
     assert_eq!(rt; free.take(), None);
     Ok(())
 }
+
+// What reading gives of the volume with one byte of one page changed.
+fn read_changed(
+    alloc: Global,
+    page: u32,
+    at: usize,
+) -> Result<Option<Result<Catalog, VaultFault>>, OutOfMemory> {
+    let Some(mut pages) = volume(alloc)? else {
+        return Ok(None);
+    };
+    let Some(old) = pages.pages.get(page as usize) else {
+        return Ok(None);
+    };
+    let mut bytes = [0u8; 512];
+    bytes.copy_from_slice(old.bytes());
+    let Some(byte) = bytes.get_mut(at) else {
+        return Ok(None);
+    };
+    *byte = byte.wrapping_add(1);
+    let changed = PageRef::new(alloc, Page::new(bytes))?;
+    if let Some(place) = pages.pages.get_mut(page as usize) {
+        *place = changed;
+    }
+    Ok(Some(read_volume(alloc, &mut pages, HOME)))
+}
+
+#[test]
+fn reads_a_volume(rt: HostRuntime) -> Result<(), Fail> {
+    let alloc = rt.alloc();
+    let mut pages = volume(alloc).ok().ok_or("memory")?.ok_or("a volume")?;
+    let catalog = read_volume(alloc, &mut pages, HOME).ok().ok_or("a volume")?;
+    let kept = FileSlot {
+        slot: 0,
+        place: 257,
+        blocks: 1,
+    };
+    assert_eq!(rt; catalog.files.len(), 1);
+    assert!(rt; catalog.files.get(FILE) == Some(kept));
+    let owner = Name::parse(b"ann").ok_or("a name")?;
+    assert_eq!(rt; catalog.owners.names().len(), 1);
+    assert_eq!(rt; catalog.owners.get(&owner), Some(0));
+    assert!(rt; catalog.slots.is_taken(0) && !catalog.slots.is_taken(1));
+    assert!(rt; catalog.rows.is_taken(0) && !catalog.rows.is_taken(1));
+    assert!(rt; catalog.places.is_taken(256) && catalog.places.is_taken(260));
+    assert!(rt; !catalog.places.is_taken(261) && !catalog.places.is_taken(299));
+    Ok(())
+}
+
+// A page, a place in it, and the page that is damaged where the byte there is another.
+const DAMAGES: [(u32, usize, u32); 11] = [
+    (0, 7, 0),
+    (0, 511, 0),
+    (1, 8, 257),
+    (1, 9, 1),
+    (1, 31, 1),
+    (129, 32, 129),
+    (129, 1, 129),
+    (130, 0, 130),
+    (257, 35, 257),
+    (258, 2, 258),
+    (258, 511, 258),
+];
+
+#[test]
+fn names_the_first_damaged_page(rt: HostRuntime) -> Result<(), Fail> {
+    for (page, at, wanted) in DAMAGES {
+        let outcome = read_changed(rt.alloc(), page, at)
+            .ok()
+            .ok_or("memory")?
+            .ok_or("a page")?;
+        match outcome {
+            Ok(_) => assert!(rt; false, "page {page}, byte {at}"),
+            Err(VaultFault::Damaged { place }) => assert_eq!(rt; place, wanted, "byte {at}"),
+            Err(_) => assert!(rt; false, "no damage"),
+        }
+    }
+    Ok(())
+}

@@ -1,0 +1,53 @@
+//! Pages that a change has made, by their places.
+ghost use Rattle.std.specs.Prelude.{◌≡◌, OnOk, OnErr};
+ghost use Rattle.std.specs.Option.{option_copied as copied};
+ghost use Rattle.std.specs.FinMap as map;
+
+use alp_base::{OutOfMemory, PageRef};
+use std::alloc::Global;
+use std::collections::BTreeMap;
+use std::marker::Model;
+
+/// Pages by their places, in order; seen as a finite map.
+#[derive(Drop)]
+pub struct Sheets {
+    pages: BTreeMap<u32, PageRef>,
+}
+
+impl Model for Sheets {
+    ghost use Rattle.std.specs.Prelude.{ℕ, List};
+    ghost use Rattle.std.specs.FinMap as map;
+    ghost use Rattle.std.specs.Ordering.{nat_cmp};
+    ghost use Rattle.std.specs.Coded.{coded_list, coded_ℕ};
+
+    ghost Value = { map.FinMap nat_cmp (List ℕ) };
+
+    ghost coded = { map.code coded_ℕ (coded_list coded_ℕ) };
+
+    ghost view = { λ f. map.from_entries f.pages.entries };
+}
+
+impl Sheets {
+    /// No page yet.
+    pub fn new(alloc: Global) -> Sheets
+        ensures { result ≡ map.empty }
+    {
+        Sheets {
+            pages: BTreeMap::new(alloc),
+        }
+    }
+
+    pub fn get(&self, at: u32) -> Option<&PageRef>
+        ensures { copied result ≡ map.get self.now at }
+    {
+        self.pages.get(&at)
+    }
+
+    pub fn put(&mut self, at: u32, page: PageRef) -> Result<(), OutOfMemory>
+        ensures ok { OnOk result (self.new ≡ map.insert self.old at page) }
+        ensures err { OnErr result (self.new ≡ self.old) }
+    {
+        self.pages.insert(at, page)?;
+        Ok(())
+    }
+}
