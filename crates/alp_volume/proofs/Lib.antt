@@ -36,3 +36,4 @@ pub mod BlankLaws
 pub mod LaidLaws
 pub mod DraftLaws
 pub mod PutLaws
+pub mod SizedLaws

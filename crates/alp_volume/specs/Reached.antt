@@ -52,6 +52,10 @@ pub record AreMarks (home : ℕ) (names : List Name) (taken : List Bool) : Type 
   pub long : length taken ≡ home
   pub says : (p : ℕ) → slice_index_or taken p true ≡ not (nat_le 257 p && nat_lt p home && not (has_place p names))
 
+-- what was taken is taken still
+abbrev pub Stays : List Bool → List Bool → Type 0
+Stays old new = (p : ℕ) → slice_index_or old p true ≡ true → slice_index_or new p true ≡ true
+
 -- a leader or an index page
 abbrev pub IsParent : Node → Type 0
 IsParent (LeaderOf f) = Unit {0}

@@ -1,5 +1,6 @@
 //! Numbers that are taken or free: slots of the directory, rows of owners, home places.
 ghost use Rattle.std.specs.Prelude.{◌≡◌, ◌<◌, ◌≤◌, ◌^◌, ℕ, true, false, length, replicate, ◌++◌, ◌-◌, IfOk, IfSome, IsNone, slice_index_or, slice_set};
+ghost use Rattle.alp_volume.specs.Reached.{Stays};
 
 use alp_base::OutOfMemory;
 use std::alloc::Global;
@@ -70,6 +71,8 @@ impl Free {
     pub fn mark(&mut self, number: u32) -> bool
         ensures yes { result ≡ true → (slice_index_or self.old number true ≡ false) × (self.new ≡ slice_set self.old number true) }
         ensures no { result ≡ false → (slice_index_or self.old number true ≡ true) × (self.new ≡ self.old) }
+        ensures long { length self.new ≡ length self.old }
+        ensures stay { Stays self.old self.new }
     {
         let at = number as usize;
         if at >= self.taken.len() {

@@ -14,6 +14,7 @@ pub loop-block-init : goal.loop-block-init
 loop-block-init g c = record {
   read = read_none g.met.R.PageReader.still c.args.reader.now;
   long = refl;
+  stay = λ p taken. taken;
   told = λ home names f tells marks none. (names, along_begins home (g.R.PageReader.pages c.args.reader.now) names (blocks_from f c.args.size c.args.index.now 0), marks, λ n low. none n);
 }
 
@@ -27,6 +28,7 @@ loop-block-preserved g c =
     record {
       read = read_ok g.met.R.PageReader.then_on r0 c.read_block.new.reader c.in_ok-wrong.field-0 tt (read_then g.met.R.PageReader.then_on r0 r1 c.read_block.new.reader tt (Ok c.in_ok-wrong.field-0) inv.read c.in_ok-wrong.ensures.read);
       long = c.read_block.ensures.long ∙ inv.long;
+      stay = λ p taken. c.read_block.ensures.stay p (inv.stay p taken);
       told = λ home names f tells marks none.
           let t = inv.told home names f tells marks none in
           let at = g.R.PageReader.pages r0 in
