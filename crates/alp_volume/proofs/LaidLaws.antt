@@ -11,7 +11,7 @@ use Rattle.std.proofs.lemmas.Map.Views.{tells_apart}
 use Rattle.alp_volume.specs.Pages.{Pages, written}
 use Rattle.alp_volume.specs.Drafts.{Changed, laid, page_or}
 
-numbers_alike : (a b : ℕ) → eq_by_cmp nat_cmp a b ≡ (a == b)
+pub numbers_alike : (a b : ℕ) → eq_by_cmp nat_cmp a b ≡ (a == b)
 numbers_alike a b = go (eq_by_cmp nat_cmp a b) refl (a == b) refl
   where
     go : (t : Bool) → eq_by_cmp nat_cmp a b ≡ t → (u : Bool) → (a == b) ≡ u → t ≡ u

@@ -1,5 +1,5 @@
 -- What a leader that is read has: a size within the limit, and 32 index places.
-use Rattle.std.specs.Prelude.{Bool, true, false, cond, Option, None, Some}
+use Rattle.std.specs.Prelude.{IfSome, Bool, true, false, cond, Option, None, Some}
 use Rattle.std.proofs.Common.{◌≡◌, ℕ, ◌≤◌, List, [], length, refl, sym, ◌∙◌, ap}
 use Rattle.std.proofs.lemmas.Bool.{leb-true}
 use Rattle.alp_base.specs.declared.ids.FileId.{FileId}
@@ -45,3 +45,7 @@ pub row_length : (k : Node) (bytes row : List ℕ) → row_of_node k bytes ≡ S
 row_length (LeaderOf f) bytes row h = let r = reads_leader f bytes row h in ap length (sym r.row_is) ∙ leader_places bytes r.leader r.reads
 row_length (IndexOf f b) bytes row h = index_length bytes row h
 row_length (DataOf f n) bytes row h = let none : [] ≡ row = cc in ap length (sym none)
+
+pub some_size : (bytes : List ℕ) (o : Option Leader) → o ≡ whole leader_page bytes → IfSome o (λ l. l.props.size ≤ 4096)
+some_size bytes None e = tt
+some_size bytes (Some l) e = leader_size bytes l (sym e)

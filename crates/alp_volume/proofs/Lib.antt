@@ -37,3 +37,7 @@ pub mod LaidLaws
 pub mod DraftLaws
 pub mod PutLaws
 pub mod SizedLaws
+pub mod UndoLaws
+pub mod KnowsLaws
+pub mod BlockDraft
+pub mod FileDraft

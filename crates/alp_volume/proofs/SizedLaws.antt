@@ -1,7 +1,8 @@
 -- What is kept of a volume has its sizes while it is read.
 use Rattle.std.specs.Prelude.{Bool, true, false, cond, ◌==◌, nat_lt, is_some, not, Option, None, Some, replicate, slice_index_or, slice_set}
 use Rattle.std.specs.FinMap as map
-use Rattle.std.specs.FinMap.{get-empty}
+use Rattle.std.specs.FinMap.{get-empty, get-remove}
+use Rattle.std.specs.Ordering.{eq_by_cmp}
 use Rattle.std.proofs.Common.{◌≡◌, ℕ, ◌<◌, ◌≤◌, ◌-◌, List, ◌++◌, length, refl, sym, ◌∙◌, ap, subst, arith, eq-eqb}
 use Rattle.std.proofs.lemmas.Bool.{eqb-true, ltb-true, ltb-false}
 use Rattle.std.proofs.lemmas.List.{get_or-set_same, get_or-set_other, get_or_past, get_or_append_left, get_or-replicate, length-set, length-replicate}
@@ -17,6 +18,7 @@ use Rattle.alp_volume.proofs.BlankLaws.{blank_long}
 use Rattle.alp_volume.proofs.DraftLaws.{owner_sized}
 use Rattle.alp_volume.proofs.ListLaws.{got}
 use Rattle.alp_volume.proofs.MarkLaws.{free_within}
+use Rattle.alp_volume.proofs.Tables.{files_total}
 
 pub places_sized : (home : ℕ) (c : Catalog) → IsCatalog home c → (places : List Bool) → length places ≡ length c.places → Stays c.places places → IsCatalog home (record c { places = places })
 places_sized home c sized places long stays = record {
@@ -41,6 +43,26 @@ insert_sized home c f x sized slot place = record {
   where
     go : (g : FileId) (y : FileSlot) (t : Bool) → cond t (Some x) (map.get c.files g) ≡ Some y → (y.slot < 4096) × (y.place < home)
     go g y true is = let same : x ≡ y = cc in subst (λ (z : FileSlot). (z.slot < 4096) × (z.place < home)) same (slot, place)
+    go g y false is = sized.files g y is
+
+pub entry_sized : (home : ℕ) (c : Catalog) (f : FileId) (x : FileSlot) → IsCatalog home c → x.slot < 4096 → x.place < home → (files : Files) (slots : List Bool) → files ≡ map.insert c.files f x → length slots ≡ length c.slots → IsCatalog home (record c { files = files; slots = slots })
+entry_sized home c f x sized slot place files slots is long =
+    let one : IsCatalog home (record c { files = files }) = subst (λ (m : Files). IsCatalog home (record c { files = m })) (sym is) (insert_sized home c f x sized slot place) in
+    record { slots = long ∙ sized.slots; rows = one.rows; places = one.places; files = one.files; owners = one.owners; head = one.head }
+
+-- a file that is taken out, with its entry
+pub removed_sized : (home : ℕ) (c : Catalog) (f : FileId) → IsCatalog home c → (files : Files) (slots : List Bool) → files ≡ map.remove c.files f → length slots ≡ length c.slots → IsCatalog home (record c { files = files; slots = slots })
+removed_sized home c f sized files slots is long = record {
+  slots = long ∙ sized.slots;
+  rows = sized.rows;
+  places = sized.places;
+  files = λ g y there. go g y (eq_by_cmp file_cmp g f) (sym (ap (λ (m : Files). map.get m g) is ∙ get-remove files_total c.files f g) ∙ there);
+  owners = sized.owners;
+  head = sized.head;
+}
+  where
+    go : (g : FileId) (y : FileSlot) (t : Bool) → cond t None (map.get c.files g) ≡ Some y → (y.slot < 4096) × (y.place < home)
+    go g y true is = cc
     go g y false is = sized.files g y is
 
 -- a file that is taken in, with its entry and its place

@@ -1,11 +1,17 @@
 -- A change of a volume that is being made.
-use Rattle.std.specs.Prelude.{◌≡◌, ℕ, List, Option, None, Some}
+use Rattle.std.specs.Prelude.{◌≡◌, ◌≤◌, ◌<◌, ℕ, true, is_some, List, Option, None, Some}
 use Rattle.std.specs.FinMap as map
 use Rattle.std.specs.FinMap.{FinMap}
 use Rattle.std.specs.Ordering.{nat_cmp}
+use Rattle.alp_base.specs.declared.ids.FileId.{FileId}
+use Rattle.alp_base.specs.declared.key.Key.TheVariants.{Leader, PageOf}
+use Rattle.alp_fields.specs.Forms.{whole}
 use Rattle.alp_files.specs.Cells.{View}
+use Rattle.alp_leader.specs.declared.leader.Leader.{Leader as LeaderRecord}
+use Rattle.alp_leader.specs.Leader.{leader_page}
 use Rattle.alp_volume.specs.declared.catalog.Catalog.{Catalog}
 use Rattle.alp_volume.specs.Known.{IsCatalog, Knows}
+use Rattle.alp_volume.specs.Nodes.{LeaderOf}
 use Rattle.alp_volume.specs.Pages.{Pages}
 use Rattle.alp_volume.specs.Volume.{Volume, Spells}
 
@@ -26,3 +32,17 @@ pub record IsDraft (home : ℕ) (at : Pages) (m : View) (c : Catalog) : Type 0 w
   pub volume : Volume
   pub spells : Spells home at volume m
   pub knows : Knows home volume c
+
+-- The same of a file whose pages go: its leader stands there, and this is what it says.
+pub record IsCutting (home : ℕ) (at : Pages) (m : View) (c : Catalog) (f : FileId) (place : ℕ) (l : LeaderRecord) : Type 0 where
+  pub draft : IsDraft home at m c
+  pub there : draft.volume.places.of (LeaderOf f) ≡ Some place
+  pub reads : whole leader_page (at place) ≡ Some l
+
+-- no page of the file stands from this number on
+abbrev pub HasNoneFrom : FileId → ℕ → View → Type 0
+HasNoneFrom f from m = (n : ℕ) → from ≤ n → m (PageOf f n) ≡ None
+
+-- each page that stands has a leader, and a number that a page of a file may have
+abbrev pub HaveLeaders : View → Type 0
+HaveLeaders m = (f : FileId) (n : ℕ) → is_some (m (PageOf f n)) ≡ true → (n < 4096) × (is_some (m (Leader f)) ≡ true)

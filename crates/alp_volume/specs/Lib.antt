@@ -12,3 +12,4 @@ pub mod Damage
 pub mod Reached
 pub mod Known
 pub mod Drafts
+pub mod Undone

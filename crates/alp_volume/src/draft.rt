@@ -1,11 +1,12 @@
 //! A change of a volume that is being made.
-ghost use Rattle.std.specs.Prelude.{◌≡◌, ◌<◌, IsTrue, IfOk, OnOk, OnErr};
+ghost use Rattle.std.specs.Prelude.{◌≡◌, ◌<◌, [], IsTrue, IfOk, OnOk, OnErr};
 ghost use Rattle.std.specs.FinMap as map;
 ghost use Rattle.alp_volume.specs.Drafts.{laid};
 ghost use Rattle.alp_volume.specs.Reading.{HasRead};
 
 use crate::reader::PageReader;
 use crate::sheets::Sheets;
+use crate::undo::Undo;
 use alp_base::{OutOfMemory, Page, PageRef, VaultFault};
 use std::alloc::Global;
 
@@ -14,16 +15,20 @@ use std::alloc::Global;
 pub struct Draft {
     alloc: Global,
     pub pages: Sheets,
+    /// What the change did to the catalog.
+    pub undos: Vec<Undo>,
 }
 
 impl Draft {
     /// Nothing is changed yet.
     pub fn new(alloc: Global) -> Draft
-        ensures { result.pages ≡ map.empty }
+        ensures pages { result.pages ≡ map.empty }
+        ensures undos { result.undos.items ≡ [] }
     {
         Draft {
             alloc,
             pages: Sheets::new(alloc),
+            undos: Vec::new(alloc),
         }
     }
 
@@ -46,14 +51,24 @@ impl Draft {
     pub fn share(&mut self, at: u32, page: PageRef) -> Result<(), OutOfMemory>
         ensures ok { OnOk result (self.new.pages ≡ map.insert self.old.pages at page) }
         ensures err { OnErr result (self.new.pages ≡ self.old.pages) }
+        ensures undos { self.new.undos ≡ self.old.undos }
     {
         self.pages.put(at, page)
+    }
+
+    /// Forgets what the change made of a page.
+    pub fn forget(&mut self, at: u32)
+        ensures pages { self.new.pages ≡ map.remove self.old.pages at }
+        ensures undos { self.new.undos ≡ self.old.undos }
+    {
+        self.pages.remove(at);
     }
 
     /// Puts a page.
     pub fn write(&mut self, at: u32, page: Page) -> Result<(), OutOfMemory>
         ensures ok { OnOk result (self.new.pages ≡ map.insert self.old.pages at page) }
         ensures err { OnErr result (self.new.pages ≡ self.old.pages) }
+        ensures undos { self.new.undos ≡ self.old.undos }
     {
         let page = PageRef::new(self.alloc, page)?;
         self.pages.put(at, page)

@@ -66,7 +66,8 @@ pub fn decode_index(page: &[u8]) -> Option<IndexPlaces>
 impl IndexPlaces {
     /// The places of a block without pages.
     pub fn none() -> IndexPlaces
-        ensures { (k : ℕ) → slice_index_or result k 0 ≡ 0 }
+        ensures none { (k : ℕ) → slice_index_or result k 0 ≡ 0 }
+        ensures all { length result ≡ PAGES_PER_BLOCK }
     {
         IndexPlaces { places: [0; 128] }
     }
@@ -77,6 +78,13 @@ impl IndexPlaces {
         ensures { result ≡ slice_index self.now slot }
     {
         self.places[slot]
+    }
+
+    /// Whether any page of the block has a place.
+    pub fn is_used(&self) -> bool
+        ensures { result ≡ has_a_place self.now }
+    {
+        names_some(&self.places)
     }
 
     /// All of them, in the order of the pages.

@@ -26,6 +26,8 @@ mod marks;
 mod owner_pages;
 mod owner_table;
 mod owners;
+mod put_block;
+mod put_file;
 mod put_leader;
 mod put_owner;
 mod put_page;
@@ -33,7 +35,10 @@ mod read;
 mod reader;
 mod sheets;
 mod table;
+mod take_back;
 mod take_in;
+mod takes;
+mod undo;
 mod volume_files;
 
 pub use catalog::Catalog;
@@ -57,12 +62,10 @@ pub use laws::{
 };
 pub use owner_table::OwnerTable;
 pub use owners::{OWNER_PAGES, OwnerRow, ROWS_PER_PAGE, owner_at, set_owner};
-pub use put_leader::{draft_leader, put_known_leader};
-pub use put_owner::{put_known_owner, put_new_owner};
-pub use put_page::put_in_block;
 pub use read::read_volume;
 pub use reader::PageReader;
 pub use sheets::Sheets;
+pub use undo::Undo;
 
 #[cfg(test)]
 mod tests;

@@ -1,5 +1,5 @@
 //! Leaders that are put.
-ghost use Rattle.std.specs.Prelude.{◌≡◌, ◌≤◌, ◌<◌, ℕ, List, [], ◌∷◌, IsTrue, IfOk, OnOk, Some};
+ghost use Rattle.std.specs.Prelude.{◌≡◌, ◌≤◌, ◌<◌, ℕ, List, [], ◌∷◌, IsTrue, IfOk, IfSome, OnOk, Some};
 ghost use Rattle.alp_base.specs.declared.ids.FileId.{FileId as File};
 ghost use Rattle.alp_base.specs.declared.key.Key.TheVariants.{Leader as LeaderKey};
 ghost use Rattle.alp_fields.specs.Forms.{whole};
@@ -29,6 +29,7 @@ pub fn draft_leader<R: PageReader>(
 ) -> Result<Option<Leader>, VaultFault>
     requires { at < R.home reader.old }
     ensures leader { IsTrue (R.tells reader.old) → IfOk result (λ o. o ≡ whole leader_page (laid draft.now.pages (R.pages reader.old) at)) }
+    ensures size { IfOk result (λ o. IfSome o (λ l. l.props.size ≤ PAGES_PER_FILE)) }
     ensures read { HasRead R.ReadOn R.faults R.allowance reader.old reader.new result }
 {
     let page = copy_of(&draft.page(reader, at)?);
@@ -39,7 +40,7 @@ pub fn draft_leader<R: PageReader>(
 }
 
 // The page that spells the leader.
-fn leader_page_of(leader: &Leader) -> Page
+pub(crate) fn leader_page_of(leader: &Leader) -> Page
     requires { leader.now.props.size ≤ PAGES_PER_FILE }
     ensures { whole leader_page result ≡ Some leader.now }
 {
@@ -59,6 +60,7 @@ pub fn put_known_leader<R: PageReader>(
     requires at { at < R.home reader.old }
     requires size { props.size ≤ PAGES_PER_FILE }
     ensures put { (home : ℕ) (m : View) (c : ACatalog) (f : File) (d : IsDraft home (laid draft.old.pages (R.pages reader.old)) m c) → IsTrue (R.tells reader.old) → d.volume.places.of (LeaderOf f) ≡ Some at → OnOk result (IsDraft home (laid draft.new.pages (R.pages reader.old)) (after (Put (LeaderKey f) (LeaderCell props) ∷ []) m) c) }
+    ensures undos { draft.new.undos ≡ draft.old.undos }
     ensures read { HasRead R.ReadOn R.faults R.allowance reader.old reader.new result }
 {
     let Some(old) = draft_leader(alloc, draft, reader, at)? else {

@@ -10,6 +10,7 @@ ghost use Rattle.alp_volume.specs.Changes.{HasRow};
 ghost use Rattle.alp_volume.specs.Drafts.{IsDraft, laid};
 ghost use Rattle.alp_volume.specs.Known.{IsCatalog};
 ghost use Rattle.alp_volume.specs.Reading.{HasRead};
+ghost use Rattle.alp_volume.specs.Undone.{LeadsOn};
 
 use crate::catalog::Catalog;
 use crate::draft::Draft;
@@ -29,6 +30,7 @@ fn write_row<R: PageReader>(
     requires row { row < 256 }
     requires head { HEAD_PAGES ≤ R.home reader.old }
     ensures written { IsTrue (R.tells reader.old) → OnOk result ((bytes : List ℕ) × (draft.new.pages ≡ map.insert draft.old.pages (129 + row / 2) bytes) × HasRow (laid draft.old.pages (R.pages reader.old)) bytes row owner.now) }
+    ensures undos { draft.new.undos ≡ draft.old.undos }
     ensures read { HasRead R.ReadOn R.faults R.allowance reader.old reader.new result }
 {
     let page = draft.page(reader, 129 + row / 2)?;
@@ -51,6 +53,7 @@ pub fn put_known_owner<R: PageReader>(
     requires row { row < 256 }
     requires head { HEAD_PAGES ≤ R.home reader.old }
     ensures put { (home : ℕ) (m : View) (c : ACatalog) → IsTrue (R.tells reader.old) → IsDraft home (laid draft.old.pages (R.pages reader.old)) m c → map.get c.owners owner.now.name ≡ Some row → OnOk result (IsDraft home (laid draft.new.pages (R.pages reader.old)) (after (Put (OwnerOf owner.now.name) (OwnerCell owner.now) ∷ []) m) c) }
+    ensures undos { draft.new.undos ≡ draft.old.undos }
     ensures read { HasRead R.ReadOn R.faults R.allowance reader.old reader.new result }
 {
     write_row(draft, reader, row, owner)
@@ -63,17 +66,16 @@ pub fn put_new_owner<R: PageReader>(
     catalog: &mut Catalog,
     owner: &OwnerRecord,
 ) -> Result<(), VaultFault>
-    requires room { map.len catalog.old.owners < 256 }
     requires head { HEAD_PAGES ≤ R.home reader.old }
     requires sized { IsCatalog (R.home reader.old) catalog.old }
     requires new { map.get catalog.old.owners owner.now.name ≡ None }
     ensures put { (home : ℕ) (m : View) → IsTrue (R.tells reader.old) → IsDraft home (laid draft.old.pages (R.pages reader.old)) m catalog.old → OnOk result (IsDraft home (laid draft.new.pages (R.pages reader.old)) (after (Put (OwnerOf owner.now.name) (OwnerCell owner.now) ∷ []) m) catalog.new) }
+    ensures back { LeadsOn draft.old.undos.items catalog.old draft.new.undos.items catalog.new }
     ensures sized { IsCatalog (R.home reader.old) catalog.new }
     ensures read { HasRead R.ReadOn R.faults R.allowance reader.old reader.new result }
 {
-    let Some(row) = catalog.rows.take() else {
+    let Ok(row) = catalog.take_row(&mut draft.undos, owner.name) else {
         return Err(VaultFault::OutOfMemory);
     };
-    catalog.owners.add(owner.name, row);
     write_row(draft, reader, row, owner)
 }

@@ -1,5 +1,5 @@
 //! Pages of data that are put.
-ghost use Rattle.std.specs.Prelude.{◌≡◌, ◌≤◌, ◌<◌, ◌/◌, ℕ, List, [], ◌∷◌, length, IsTrue, IfOk, IfSome, OnOk, Some, None, true};
+ghost use Rattle.std.specs.Prelude.{◌≡◌, ◌≤◌, ◌<◌, ◌/◌, ◌%◌, ℕ, List, [], ◌∷◌, length, IsTrue, IfOk, IfSome, OnOk, Some, None, slice_index};
 ghost use Rattle.std.specs.FinMap as map;
 ghost use Rattle.alp_base.specs.declared.ids.FileId.{FileId as File};
 ghost use Rattle.alp_base.specs.declared.key.Key.TheVariants.{PageOf};
@@ -10,8 +10,9 @@ ghost use Rattle.alp_files.specs.Edits.{Put, after};
 ghost use Rattle.alp_volume.specs.Drafts.{IsDraft, laid};
 ghost use Rattle.alp_volume.specs.Known.{IsCatalog};
 ghost use Rattle.alp_volume.specs.Nodes.{IndexOf};
-ghost use Rattle.alp_volume.specs.Pages.{index_page, has_a_place};
+ghost use Rattle.alp_volume.specs.Pages.{Pages as PagesOf, index_page};
 ghost use Rattle.alp_volume.specs.Reading.{HasRead};
+ghost use Rattle.alp_volume.specs.Undone.{LeadsOn};
 
 use crate::catalog::Catalog;
 use crate::draft::Draft;
@@ -20,7 +21,7 @@ use crate::reader::PageReader;
 use alp_base::{OutOfMemory, PageRef, VaultFault};
 
 // The places that an index page names, as the change has it.
-fn draft_index<R: PageReader>(
+pub(crate) fn draft_index<R: PageReader>(
     draft: &Draft,
     reader: &mut R,
     at: u32,
@@ -34,23 +35,29 @@ fn draft_index<R: PageReader>(
     Ok(decode_index(page.bytes()))
 }
 
-// Puts a page of data, and then the index page that names it.
-fn share_and_name(
+// Puts a page of data at the lowest free place, and then the index page that names it.
+fn put_new_page(
     draft: &mut Draft,
+    catalog: &mut Catalog,
     index_at: u32,
-    row: &IndexPlaces,
-    place: u32,
+    row: &mut IndexPlaces,
+    number: u32,
     page: PageRef,
 ) -> Result<(), OutOfMemory>
-    requires { has_a_place row.now ≡ true }
-    ensures { OnOk result ((ix : List ℕ) × (whole index_page ix ≡ Some row.now) × (draft.new.pages ≡ map.insert (map.insert draft.old.pages place page) index_at ix)) }
+    requires row { length row.old ≡ 128 }
+    requires home { (home : ℕ) × IsCatalog home catalog.old }
+    ensures put { (home : ℕ) (base : PagesOf) (m : View) (f : File) (d : IsDraft home (laid draft.old.pages base) m catalog.old) → IsCatalog home catalog.old → d.volume.places.of (IndexOf f (number / 128)) ≡ Some index_at → whole index_page (laid draft.old.pages base index_at) ≡ Some row.old → slice_index row.old (number % 128) ≡ 0 → OnOk result (IsDraft home (laid draft.new.pages base) (after (Put (PageOf f number) (PageCell page) ∷ []) m) catalog.new) }
+    ensures back { LeadsOn draft.old.undos.items catalog.old draft.new.undos.items catalog.new }
+    ensures sized { (home : ℕ) → IsCatalog home catalog.old → IsCatalog home catalog.new }
 {
+    let place = catalog.take_place(&mut draft.undos)?;
+    row.set((number % 128) as usize, place);
     draft.share(place, page)?;
     draft.write(index_at, row.page())
 }
 
 /// Puts a page of a block whose index page stands there: over the page of that number, or at the lowest free place.
-pub fn put_in_block<R: PageReader>(
+pub(crate) fn put_in_block<R: PageReader>(
     draft: &mut Draft,
     reader: &mut R,
     catalog: &mut Catalog,
@@ -61,6 +68,7 @@ pub fn put_in_block<R: PageReader>(
     requires at { index_at < R.home reader.old }
     requires sized { IsCatalog (R.home reader.old) catalog.old }
     ensures put { (home : ℕ) (m : View) (f : File) (d : IsDraft home (laid draft.old.pages (R.pages reader.old)) m catalog.old) → home ≡ R.home reader.old → IsTrue (R.tells reader.old) → d.volume.places.of (IndexOf f (number / 128)) ≡ Some index_at → OnOk result (IsDraft home (laid draft.new.pages (R.pages reader.old)) (after (Put (PageOf f number) (PageCell page) ∷ []) m) catalog.new) }
+    ensures back { LeadsOn draft.old.undos.items catalog.old draft.new.undos.items catalog.new }
     ensures sized { IsCatalog (R.home reader.old) catalog.new }
     ensures read { HasRead R.ReadOn R.faults R.allowance reader.old reader.new result }
 {
@@ -75,11 +83,7 @@ pub fn put_in_block<R: PageReader>(
             Err(OutOfMemory) => Err(VaultFault::OutOfMemory),
         };
     }
-    let Some(place) = catalog.places.take() else {
-        return Err(VaultFault::OutOfMemory);
-    };
-    row.set(slot, place);
-    match share_and_name(draft, index_at, &row, place, page) {
+    match put_new_page(draft, catalog, index_at, &mut row, number, page) {
         Ok(()) => Ok(()),
         Err(OutOfMemory) => Err(VaultFault::OutOfMemory),
     }

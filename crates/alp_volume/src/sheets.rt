@@ -43,6 +43,13 @@ impl Sheets {
         self.pages.get(&at)
     }
 
+    /// Takes a page out, if there is one.
+    pub fn remove(&mut self, at: u32)
+        ensures { self.new ≡ map.remove self.old at }
+    {
+        self.pages.remove(&at);
+    }
+
     pub fn put(&mut self, at: u32, page: PageRef) -> Result<(), OutOfMemory>
         ensures ok { OnOk result (self.new ≡ map.insert self.old at page) }
         ensures err { OnErr result (self.new ≡ self.old) }
