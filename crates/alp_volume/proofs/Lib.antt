@@ -41,3 +41,8 @@ pub mod UndoLaws
 pub mod KnowsLaws
 pub mod BlockDraft
 pub mod FileDraft
+pub mod FreedLaws
+pub mod CutDraft
+pub mod CutRow
+pub mod DropDraft
+pub mod HeadLaws

@@ -1,5 +1,5 @@
 -- What a page that is changed says, beside what the page said before.
-use Rattle.std.specs.Prelude.{◌≡◌, ◌<◌, ◌≤◌, ℕ, Bool, true, false, is_some, ◌+◌, ◌/◌, ◌%◌, List, Option, None, Some, option_map, slice_index_or, slice_set}
+use Rattle.std.specs.Prelude.{◌≡◌, ◌<◌, ◌≤◌, ℕ, Bool, true, false, is_some, ◌+◌, ◌/◌, ◌%◌, List, Option, None, Some, option_map, slice_index_or, slice_set, map as list_map}
 use Rattle.alp_base.specs.declared.ids.FileId.{FileId}
 use Rattle.alp_fields.specs.Forms.{whole}
 use Rattle.alp_files.specs.declared.cell.OwnerRecord.{OwnerRecord}
@@ -8,7 +8,7 @@ use Rattle.alp_leader.specs.Leader.{leader_page}
 use Rattle.alp_volume.specs.declared.entry.Entry.{Entry}
 use Rattle.alp_base.specs.declared.key.Key.TheVariants.{PageOf}
 use Rattle.alp_files.specs.Cells.{same_file}
-use Rattle.alp_files.specs.Edits.{is_past}
+use Rattle.alp_files.specs.Edits.{Edit, Drop, Cut, is_past}
 use Rattle.alp_volume.specs.Naming.{named, without}
 use Rattle.alp_volume.specs.Nodes.{Node, LeaderOf, IndexOf, DataOf, file_of, same_node}
 use Rattle.alp_volume.specs.Pages.{Pages, entry, index_page, part_of, read_row}
@@ -83,3 +83,11 @@ pub record IsCutOff (at new : Pages) (v : Volume) (f : FileId) (from : ℕ) (gon
 -- a volume without those nodes
 abbrev pub volume_cut : (Node → Bool) → Volume → Volume
 volume_cut gone v = record v { places = without gone v.places }
+
+-- ---- the edits of a change
+
+abbrev pub drops_of : List FileId → List Edit
+drops_of files = list_map Drop files
+
+abbrev pub cuts_of : List (FileId × ℕ) → List Edit
+cuts_of cuts = list_map (λ p. Cut p.0 p.1) cuts

@@ -6,14 +6,14 @@ use Rattle.std.specs.Ordering.{nat_cmp}
 use Rattle.alp_base.specs.declared.ids.FileId.{FileId}
 use Rattle.alp_base.specs.declared.key.Key.TheVariants.{Leader, PageOf}
 use Rattle.alp_fields.specs.Forms.{whole}
-use Rattle.alp_files.specs.Cells.{View}
+use Rattle.alp_files.specs.Cells.{Cells, View}
 use Rattle.alp_leader.specs.declared.leader.Leader.{Leader as LeaderRecord}
 use Rattle.alp_leader.specs.Leader.{leader_page}
 use Rattle.alp_volume.specs.declared.catalog.Catalog.{Catalog}
 use Rattle.alp_volume.specs.Known.{IsCatalog, Knows}
 use Rattle.alp_volume.specs.Nodes.{LeaderOf}
 use Rattle.alp_volume.specs.Pages.{Pages}
-use Rattle.alp_volume.specs.Volume.{Volume, Spells}
+use Rattle.alp_volume.specs.Volume.{Volume, Spells, StandFor}
 
 -- pages that a change has made, by their places
 abbrev pub Changed : Type 0
@@ -46,3 +46,8 @@ HasNoneFrom f from m = (n : ℕ) → from ≤ n → m (PageOf f n) ≡ None
 -- each page that stands has a leader, and a number that a page of a file may have
 abbrev pub HaveLeaders : View → Type 0
 HaveLeaders m = (f : FileId) (n : ℕ) → is_some (m (PageOf f n)) ≡ true → (n < 4096) × (is_some (m (Leader f)) ≡ true)
+
+-- the pages stand for these cells, and memory has what it is to know of them
+pub record IsPlanned (home : ℕ) (at : Pages) (m : Cells) (c : Catalog) : Type 0 where
+  pub stands : StandFor home at m
+  pub knows : Knows home stands.volume c

@@ -13,3 +13,4 @@ pub mod Reached
 pub mod Known
 pub mod Drafts
 pub mod Undone
+pub mod Puts

@@ -10,6 +10,8 @@ mod changes;
 mod charges;
 mod cost;
 mod costs;
+mod cut_block;
+mod cut_file;
 mod directory;
 mod draft;
 mod entry;
