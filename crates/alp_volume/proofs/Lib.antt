@@ -46,3 +46,5 @@ pub mod CutDraft
 pub mod CutRow
 pub mod DropDraft
 pub mod HeadLaws
+pub mod PutsLaws
+pub mod PlanLaws

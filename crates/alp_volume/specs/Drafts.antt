@@ -47,6 +47,10 @@ HasNoneFrom f from m = (n : ℕ) → from ≤ n → m (PageOf f n) ≡ None
 abbrev pub HaveLeaders : View → Type 0
 HaveLeaders m = (f : FileId) (n : ℕ) → is_some (m (PageOf f n)) ≡ true → (n < 4096) × (is_some (m (Leader f)) ≡ true)
 
+-- each page that stands has a leader
+abbrev pub ArePaged : View → Type 0
+ArePaged m = (f : FileId) (n : ℕ) → is_some (m (PageOf f n)) ≡ true → is_some (m (Leader f)) ≡ true
+
 -- the pages stand for these cells, and memory has what it is to know of them
 pub record IsPlanned (home : ℕ) (at : Pages) (m : Cells) (c : Catalog) : Type 0 where
   pub stands : StandFor home at m

@@ -6,6 +6,7 @@
 
 mod blocks;
 mod catalog;
+mod change;
 mod changes;
 mod charges;
 mod cost;
@@ -29,6 +30,7 @@ mod owner_pages;
 mod owner_table;
 mod owners;
 mod put_block;
+mod put_cell;
 mod put_file;
 mod put_leader;
 mod put_owner;
@@ -44,6 +46,7 @@ mod undo;
 mod volume_files;
 
 pub use catalog::Catalog;
+pub use change::plan_change;
 pub use changes::{
     a_file_comes, a_file_goes, a_file_is_cut, a_leader_is_put, a_new_block_is_put,
     a_new_page_is_put, a_page_is_put, an_owner_is_put,

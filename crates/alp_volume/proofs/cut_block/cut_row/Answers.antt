@@ -46,7 +46,7 @@ returns-then-is_used-clause-cut c home base m sized cutting none reads0 some0 =
     let made = cutting_left home at m catalog f c.args.leader_at l cutting sized c.args.block c.args.first c.requires.block c.requires.first none i index_is some c.args.row.now reads left free.kept free.none c.free_slots.new.catalog.places c.free_slots.ensures.all freed c.page.result c.page.ensures has in
     on_ok_weaker c.write.result
     (λ w. subst (λ (k : Catalog). IsCutting home (laid c.write.new.self.pages base) (after (Cut f (128 * c.args.block + c.args.first) ∷ []) m) k f c.args.leader_at l) (sym c.free_slots.ensures.only)
-        (subst (λ (y : Pages). IsCutting home y (after (Cut f (128 * c.args.block + c.args.first) ∷ []) m) (record catalog { places = c.free_slots.new.catalog.places }) f c.args.leader_at l) (sym (ap (λ (s : Changed). laid s base) w ∙ laid_put old base i c.page.result)) made))
+    (subst (λ (y : Pages). IsCutting home y (after (Cut f (128 * c.args.block + c.args.first) ∷ []) m) (record catalog { places = c.free_slots.new.catalog.places }) f c.args.leader_at l) (sym (ap (λ (s : Changed). laid s base) w ∙ laid_put old base i c.page.result)) made))
     c.write.ensures.ok
 
 pub returns-clause-cut : goal.returns-clause-cut
@@ -73,15 +73,15 @@ returns-clause-cut c home base m sized cutting none reads some =
     let fi = c.free_index.ensures in
     on_ok_weaker c.free_index.result
     (λ w.
-        let lbytes = w.0.0 in
-        let spelled : whole leader_page lbytes ≡ Some (record l { index = slice_set l.index block 0 }) = w.0.1 ∙ ap Some fi.leader in
-        let bits = subst (λ (k : Leader). (b : ℕ) → b < 32 → bit_at w.1.0 b ≡ bit (not (slice_index k.index b == 0))) fi.leader w.1.1 in
-        let made = cutting_all home at m catalog f place l cutting sized block c.args.first c.requires.block c.requires.first none i refl some row reads left free.kept free.none mid.places c.free_slots.ensures.all freed empty lbytes spelled x there.1 w.1.0 bits in
-        let now : c.free_index.new.catalog ≡ with_file f (record x { blocks = w.1.0 }) (with_place i false (record catalog { places = mid.places })) = w.1.2 ∙ ap (λ (k : Catalog). with_file f (record x { blocks = w.1.0 }) (with_place i false k)) c.free_slots.ensures.only in
-        subst (λ (k : Leader). IsCutting home (laid c.free_index.new.draft.pages base) (after (Cut f (128 * block + c.args.first) ∷ []) m) c.free_index.new.catalog f place k) (sym fi.leader)
-        (subst (λ (k : Catalog). IsCutting home (laid c.free_index.new.draft.pages base) (after (Cut f (128 * block + c.args.first) ∷ []) m) k f place (record l { index = slice_set l.index block 0 })) (sym now)
-        (subst (λ (y : Pages). IsCutting home y (after (Cut f (128 * block + c.args.first) ∷ []) m) (with_file f (record x { blocks = w.1.0 }) (with_place i false (record catalog { places = mid.places }))) f place (record l { index = slice_set l.index block 0 }))
-        (sym (ap (λ (s : Changed). laid s base) w.0.2 ∙ laid_put old base place lbytes)) made)))
+    let lbytes = w.0.0 in
+    let spelled : whole leader_page lbytes ≡ Some (record l { index = slice_set l.index block 0 }) = w.0.1 ∙ ap Some fi.leader in
+    let bits = subst (λ (k : Leader). (b : ℕ) → b < 32 → bit_at w.1.0 b ≡ bit (not (slice_index k.index b == 0))) fi.leader w.1.1 in
+    let made = cutting_all home at m catalog f place l cutting sized block c.args.first c.requires.block c.requires.first none i refl some row reads left free.kept free.none mid.places c.free_slots.ensures.all freed empty lbytes spelled x there.1 w.1.0 bits in
+    let now : c.free_index.new.catalog ≡ with_file f (record x { blocks = w.1.0 }) (with_place i false (record catalog { places = mid.places })) = w.1.2 ∙ ap (λ (k : Catalog). with_file f (record x { blocks = w.1.0 }) (with_place i false k)) c.free_slots.ensures.only in
+    subst (λ (k : Leader). IsCutting home (laid c.free_index.new.draft.pages base) (after (Cut f (128 * block + c.args.first) ∷ []) m) c.free_index.new.catalog f place k) (sym fi.leader)
+    (subst (λ (k : Catalog). IsCutting home (laid c.free_index.new.draft.pages base) (after (Cut f (128 * block + c.args.first) ∷ []) m) k f place (record l { index = slice_set l.index block 0 })) (sym now)
+    (subst (λ (y : Pages). IsCutting home y (after (Cut f (128 * block + c.args.first) ∷ []) m) (with_file f (record x { blocks = w.1.0 }) (with_place i false (record catalog { places = mid.places }))) f place (record l { index = slice_set l.index block 0 }))
+    (sym (ap (λ (s : Changed). laid s base) w.0.2 ∙ laid_put old base place lbytes)) made)))
     (both c.free_index.result _ _ fi.written (fi.freed x there_mid bounds.0 within))
 
 pub returns-clause-sized : goal.returns-clause-sized

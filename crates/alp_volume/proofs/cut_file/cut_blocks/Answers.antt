@@ -54,7 +54,7 @@ loop-k-preserved g c =
           (subst (λ (y : Pages). IsCutting (g.R.PageReader.home r1) (laid c.cut_block.new.draft.pages y) (after (Cut f (128 * (31 - k) + first) ∷ []) m1) c.cut_block.new.catalog f c.args.leader_at c.cut_block.new.leader) same made) in
           let number_is : 128 * (31 - k) + first ≡ from + (128 * (32 - (k + 1)) - from) = omega (arith, first_is) in
           subst (λ (v : View). IsCutting (g.R.PageReader.home r0) (laid c.cut_block.new.draft.pages (g.R.PageReader.pages r0)) v c.cut_block.new.catalog f c.args.leader_at c.cut_block.new.leader)
-              (cut_further m f (128 * (31 - k) + first) bound (omega (arith, first_is)) ∙ ap (λ (n : ℕ). after (Cut f n ∷ []) m) number_is) back;
+          (cut_further m f (128 * (31 - k) + first) bound (omega (arith, first_is)) ∙ ap (λ (n : ℕ). after (Cut f n ∷ []) m) number_is) back;
     }
 
 pub returns-then-first-ge128-clause-cut : goal.returns-then-first-ge128-clause-cut

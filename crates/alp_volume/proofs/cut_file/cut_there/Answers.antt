@@ -23,7 +23,7 @@ returns-clause-cut g c m d tells there low =
     let here = subst (λ (n : ℕ). IsCutting n (laid old (g.R.PageReader.pages r1)) m catalog f place l) (sym same_home) (subst (λ (y : Pages). IsCutting (g.R.PageReader.home r0) (laid old y) m catalog f place l) (sym same) cutting) in
     on_ok_weaker c.cut_blocks.result
     (λ w. (subst (λ (n : ℕ). IsCutting n (laid c.cut_blocks.new.draft.pages (g.R.PageReader.pages r0)) (after (Cut f c.args.from ∷ []) m) c.cut_blocks.new.catalog f place c.cut_blocks.new.leader) same_home
-        (subst (λ (y : Pages). IsCutting (g.R.PageReader.home r1) (laid c.cut_blocks.new.draft.pages y) (after (Cut f c.args.from ∷ []) m) c.cut_blocks.new.catalog f place c.cut_blocks.new.leader) same w)).draft)
+    (subst (λ (y : Pages). IsCutting (g.R.PageReader.home r1) (laid c.cut_blocks.new.draft.pages y) (after (Cut f c.args.from ∷ []) m) c.cut_blocks.new.catalog f place c.cut_blocks.new.leader) same w)).draft)
     (c.cut_blocks.ensures.cut m told here low)
 
 pub returns-clause-sized : goal.returns-clause-sized

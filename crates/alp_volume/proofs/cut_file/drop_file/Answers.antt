@@ -29,6 +29,6 @@ returns-clause-dropped g c m tells d have =
     let here = subst (λ (n : ℕ). IsDraft n (laid c.cut_file.new.draft.pages (g.R.PageReader.pages r1)) m1 c.cut_file.new.catalog) (sym same_home) (subst (λ (y : Pages). IsDraft (g.R.PageReader.home r0) (laid c.cut_file.new.draft.pages y) m1 c.cut_file.new.catalog) (sym same) cut) in
     on_ok_weaker c.drop_bare.result
     (λ w. subst (λ (v : View). IsDraft (g.R.PageReader.home r0) (laid c.drop_bare.new.draft.pages (g.R.PageReader.pages r0)) v c.drop_bare.new.catalog) (drop_after_cut m f 0)
-        (subst (λ (n : ℕ). IsDraft n (laid c.drop_bare.new.draft.pages (g.R.PageReader.pages r0)) (after (Drop f ∷ []) m1) c.drop_bare.new.catalog) same_home
-        (subst (λ (y : Pages). IsDraft (g.R.PageReader.home r1) (laid c.drop_bare.new.draft.pages y) (after (Drop f ∷ []) m1) c.drop_bare.new.catalog) same w)))
+    (subst (λ (n : ℕ). IsDraft n (laid c.drop_bare.new.draft.pages (g.R.PageReader.pages r0)) (after (Drop f ∷ []) m1) c.drop_bare.new.catalog) same_home
+    (subst (λ (y : Pages). IsDraft (g.R.PageReader.home r1) (laid c.drop_bare.new.draft.pages y) (after (Drop f ∷ []) m1) c.drop_bare.new.catalog) same w)))
     (c.drop_bare.ensures.dropped m1 told here (none_after m f 0))

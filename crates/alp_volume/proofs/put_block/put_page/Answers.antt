@@ -30,7 +30,7 @@ returns-then-index_at-eq0-clause-put g c m tells d has =
     unplaced home at d.volume m d.spells (IndexOf f (c.args.number / 128))
     (sym (row_names home at d.volume m d.spells f x.place (leader_there home d.volume c.args.catalog.now d.knows f x there) l reads (c.args.number / 128) near) ∙ sym c.at-index_at.ensures ∙ c.if-index_at-eq0.true) in
     elim c.match-put_pages.branch [
-      in-Ok w ↦ subst (λ r. OnOk r (IsDraft home (laid c.put_pages.new.draft.pages base) (after (Put (PageOf f c.args.number) (cell.Page c.args.page) ∷ []) m) c.put_pages.new.catalog)) (sym w.result-is) (w.in-Ok.ensures.put home base m d x c.requires.sized there refl reads none)
+      | in-Ok w ↦ subst (λ r. OnOk r (IsDraft home (laid c.put_pages.new.draft.pages base) (after (Put (PageOf f c.args.number) (cell.Page c.args.page) ∷ []) m) c.put_pages.new.catalog)) (sym w.result-is) (w.in-Ok.ensures.put home base m d x c.requires.sized there refl reads none)
       | in-Err w ↦ subst (λ r. OnOk r (IsDraft home (laid c.put_pages.new.draft.pages base) (after (Put (PageOf f c.args.number) (cell.Page c.args.page) ∷ []) m) c.put_pages.new.catalog)) (sym w.result-is) tt
     ]
 

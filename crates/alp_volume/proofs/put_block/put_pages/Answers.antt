@@ -47,5 +47,5 @@ returns-clause-put c home base m d x sized there place reads none =
     let pages : c.write.new.self.pages ≡ map.insert (map.insert old p c.args.page) i c.first_index-index.result = c.in_ok-write.ensures.ok ∙ ap (λ (s : Changed). map.insert s i c.first_index-index.result) c.in_ok-share.ensures.ok in
     on_ok_weaker c.write-2.result
     (λ w. block_made home base old m catalog d sized f n c.requires.number x there l read_there none i p c.in_ok-index_at.ensures.free free_p c.args.page c.first_index-index.result c.leader_page_of.result c.first_index-index.ensures spelled c.write-2.new.self.pages
-        (w ∙ ap (λ (s : Changed). map.insert s c.args.leader_at c.leader_page_of.result) pages ∙ ap (λ (q : ℕ). map.insert (map.insert (map.insert old p c.args.page) i c.first_index-index.result) q c.leader_page_of.result) (sym place)) c.blocks_of.result bits c.keep_blocks.new.self kept)
+    (w ∙ ap (λ (s : Changed). map.insert s c.args.leader_at c.leader_page_of.result) pages ∙ ap (λ (q : ℕ). map.insert (map.insert (map.insert old p c.args.page) i c.first_index-index.result) q c.leader_page_of.result) (sym place)) c.blocks_of.result bits c.keep_blocks.new.self kept)
     c.write-2.ensures.ok

@@ -20,7 +20,7 @@ returns-clause-put g c home m tells draft =
     let low : row < 256 = subst (λ (n : ℕ). row < n) c.requires.sized.rows long in
     on_ok_weaker c.write_row.result
     (λ w. subst (λ (k : Catalog). IsDraft home (laid c.write_row.new.draft.pages (g.R.PageReader.pages c.args.reader.now)) (after (Put (OwnerOf o.name) (cell.Owner o) ∷ []) m) k) (sym c.in-Ok.ensures.taken)
-        (owner_made home (g.R.PageReader.pages c.args.reader.now) c.args.draft.now.pages c.write_row.new.draft.pages m row o w.0 w.1 w.2 catalog draft c.requires.new low long c.in-Ok.ensures.free (map.insert catalog.owners o.name row) (slice_set catalog.rows row true) refl refl))
+    (owner_made home (g.R.PageReader.pages c.args.reader.now) c.args.draft.now.pages c.write_row.new.draft.pages m row o w.0 w.1 w.2 catalog draft c.requires.new low long c.in-Ok.ensures.free (map.insert catalog.owners o.name row) (slice_set catalog.rows row true) refl refl))
     (c.write_row.ensures.written tells)
 
 pub returns-clause-sized : goal.returns-clause-sized

@@ -23,6 +23,6 @@ returns-clause-put c home base m f d sized here reads zero_ =
     let p = c.in_ok-place.place in
     on_ok_weaker c.write.result
     (λ w. subst (λ (k : Catalog). IsDraft home (laid c.write.new.self.pages base) (after (Put (PageOf f c.args.number) (cell.Page c.args.page) ∷ []) m) k) (sym c.in_ok-place.ensures.taken)
-        (page_new home base old c.write.new.self.pages m catalog d f c.args.number c.args.index_at here c.args.row.now reads c.args.page p c.page-2.result zero_ sized c.in_ok-place.ensures.free (c.page-2.ensures ∙ ap Some c.set.ensures)
-        (w ∙ ap (λ (s : Changed). map.insert s c.args.index_at c.page-2.result) c.in_ok-share.ensures.ok) (slice_set catalog.places p true) refl))
+    (page_new home base old c.write.new.self.pages m catalog d f c.args.number c.args.index_at here c.args.row.now reads c.args.page p c.page-2.result zero_ sized c.in_ok-place.ensures.free (c.page-2.ensures ∙ ap Some c.set.ensures)
+    (w ∙ ap (λ (s : Changed). map.insert s c.args.index_at c.page-2.result) c.in_ok-share.ensures.ok) (slice_set catalog.places p true) refl))
     c.write.ensures.ok
