@@ -34,6 +34,7 @@ pub mod FileSteps
 pub mod KnownLaws
 pub mod BlankLaws
 pub mod LaidLaws
+pub mod SheetLaws
 pub mod DraftLaws
 pub mod PutLaws
 pub mod SizedLaws

@@ -2,7 +2,8 @@
 use Rattle.std.specs.Prelude.{Bool, true, false, cond, is_some, Option, None, Some}
 use Rattle.std.specs.Ordering.{eq_by_cmp}
 use Rattle.std.specs.FinMap as map
-use Rattle.std.proofs.Common.{◌≡◌, ℕ, ◌<◌, List, [], ◌∷◌, refl, sym, ◌∙◌, ap, subst}
+use Rattle.std.proofs.Common.{◌≡◌, ℕ, ◌+◌, ◌*◌, ◌<◌, List, [], ◌∷◌, length, sum_by, refl, sym, ◌∙◌, ap, subst, arith}
+use Rattle.std.proofs.lemmas.List.Sums.{sum_by-cons}
 use Rattle.alp_base.specs.declared.ids.FileId.{FileId}
 use Rattle.alp_base.specs.declared.key.Key.{Key}
 use Rattle.alp_base.specs.declared.key.Key.TheVariants.{Leader, PageOf, OwnerOf}
@@ -13,7 +14,7 @@ use Rattle.alp_files.specs.Edits.{Put, after, edits_at}
 use Rattle.alp_files.specs.Undo.{puts_of}
 use Rattle.alp_files.proofs.SameLemmas.{same_key-true, same_key-itself}
 use Rattle.alp_volume.specs.Drafts.{ArePaged, HaveLeaders}
-use Rattle.alp_volume.specs.Puts.{HasLeader, HaveLeadersPut, head_made, heads_made, is_page, page_made, pages_made}
+use Rattle.alp_volume.specs.Puts.{HasLeader, HaveLeadersPut, head_made, head_pages, heads_made, is_page, page_made, page_pages, pages_made}
 
 -- ---- the order does not matter
 
@@ -130,3 +131,13 @@ head_keeps p m have = turn (is_page p.0) refl
     turn : (t : Bool) → is_page p.0 ≡ t → HaveLeaders (cond t m (after (Put p.0 p.1 ∷ []) m))
     turn true e = have
     turn false e = λ g n h. page g n e (eq_by_cmp key_cmp (PageOf g n) p.0) refl (eq_by_cmp key_cmp (Leader g) p.0) h
+
+-- ---- how many pages they change
+
+pub turns_few : (ps : List (Key × Cell)) → sum_by head_pages ps + sum_by page_pages ps ≡ 3 * length ps
+turns_few [] = refl
+turns_few (p ∷ ps) = go (is_page p.0) refl (sum_by-cons head_pages p ps) (sum_by-cons page_pages p ps) (turns_few ps)
+  where
+    go : (t : Bool) → is_page p.0 ≡ t → sum_by head_pages (p ∷ ps) ≡ cond (is_page p.0) 0 3 + sum_by head_pages ps → sum_by page_pages (p ∷ ps) ≡ cond (is_page p.0) 3 0 + sum_by page_pages ps → sum_by head_pages ps + sum_by page_pages ps ≡ 3 * length ps → sum_by head_pages (p ∷ ps) + sum_by page_pages (p ∷ ps) ≡ 3 * length (p ∷ ps)
+    go true e a b h = (let one : ◌≡◌ {A = ℕ} (cond (is_page p.0) 0 3) 0 = ap {B = ℕ} (λ (t : Bool). cond t 0 3) e in let two : ◌≡◌ {A = ℕ} (cond (is_page p.0) 3 0) 3 = ap {B = ℕ} (λ (t : Bool). cond t 3 0) e in omega (arith, a, b, h, one, two))
+    go false e a b h = (let one : ◌≡◌ {A = ℕ} (cond (is_page p.0) 0 3) 3 = ap {B = ℕ} (λ (t : Bool). cond t 0 3) e in let two : ◌≡◌ {A = ℕ} (cond (is_page p.0) 3 0) 0 = ap {B = ℕ} (λ (t : Bool). cond t 3 0) e in omega (arith, a, b, h, one, two))

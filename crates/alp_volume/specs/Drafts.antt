@@ -23,6 +23,10 @@ abbrev pub page_or : Option (List ℕ) → List ℕ → List ℕ
 page_or None old = old
 page_or (Some new) old = new
 
+-- how many pages of a change there are beside that one
+abbrev pub len_beside : ℕ → Changed → ℕ
+len_beside p new = map.len (map.remove new p)
+
 -- the pages of the change over those of the volume
 abbrev pub laid : Changed → Pages → Pages
 laid new pages q = page_or (map.get new q) (pages q)

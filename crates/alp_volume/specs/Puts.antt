@@ -37,3 +37,10 @@ HasLeader m (OwnerOf o) = Unit {0}
 abbrev pub HaveLeadersPut : View → List (Key × Cell) → Type 0
 HaveLeadersPut m [] = Unit {0}
 HaveLeadersPut m (p ∷ ps) = HasLeader m p.0 × HaveLeadersPut m ps
+
+-- the most pages that a put changes in each turn
+abbrev pub head_pages : Key × Cell → ℕ
+head_pages p = if is_page p.0 then 0 else 3
+
+abbrev pub page_pages : Key × Cell → ℕ
+page_pages p = if is_page p.0 then 3 else 0

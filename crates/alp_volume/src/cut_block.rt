@@ -8,7 +8,7 @@ ghost use Rattle.alp_volume.specs.declared.file_slot.FileSlot.{FileSlot as ASlot
 ghost use Rattle.alp_volume.specs.Counted.{bit};
 ghost use Rattle.alp_files.specs.Cells.{View};
 ghost use Rattle.alp_files.specs.Edits.{Cut, after};
-ghost use Rattle.alp_volume.specs.Drafts.{HasNoneFrom, IsCutting, laid};
+ghost use Rattle.alp_volume.specs.Drafts.{HasNoneFrom, IsCutting, laid, len_beside};
 ghost use Rattle.alp_volume.specs.Known.{IsCatalog};
 ghost use Rattle.alp_volume.specs.Pages.{Pages as PagesOf, index_page};
 ghost use Rattle.alp_volume.specs.Reading.{HasRead};
@@ -91,6 +91,7 @@ fn free_index(
     ensures freed { (x : ASlot) → map.get catalog.old.files file ≡ Some x → HEAD_PAGES ≤ slice_index leader.old.index block → slice_index leader.old.index block < length catalog.old.places → OnOk result ((blocks : ℕ) × ((b : ℕ) → b < 32 → bit_at blocks b ≡ bit (not (slice_index leader.new.index b == 0))) × (catalog.new ≡ with_file file (record x { blocks = blocks }) (with_place (slice_index leader.old.index block) false catalog.old))) }
     ensures back { LeadsOn draft.old.undos.items catalog.old draft.new.undos.items catalog.new }
     ensures sized { (home : ℕ) → IsCatalog home catalog.old → IsCatalog home catalog.new }
+    ensures few { len_beside leader_at draft.new.pages ≡ len_beside leader_at draft.old.pages }
 {
     let index_at = leader.index.at(block);
     leader.index.set(block, 0);
@@ -116,6 +117,8 @@ fn cut_row(
     requires size { leader.old.props.size ≤ PAGES_PER_FILE }
     ensures cut { (home : ℕ) (base : PagesOf) (m : View) → IsCatalog home catalog.old → IsCutting home (laid draft.old.pages base) m catalog.old file leader_at leader.old → HasNoneFrom file (128 * (block + 1)) m → whole index_page (laid draft.old.pages base (slice_index leader.old.index block)) ≡ Some row.old → (slice_index leader.old.index block ≡ 0 → ⊥) → OnOk result (IsCutting home (laid draft.new.pages base) (after (Cut file (128 * block + first) ∷ []) m) catalog.new file leader_at leader.new) }
     ensures props { leader.new.props ≡ leader.old.props }
+    ensures few { first ≡ 0 → len_beside leader_at draft.new.pages ≤ len_beside leader_at draft.old.pages }
+    ensures some { len_beside leader_at draft.new.pages ≤ len_beside leader_at draft.old.pages + 1 }
     ensures back { LeadsOn draft.old.undos.items catalog.old draft.new.undos.items catalog.new }
     ensures sized { (home : ℕ) → IsCatalog home catalog.old → IsCatalog home catalog.new }
 {
@@ -143,6 +146,8 @@ pub(crate) fn cut_block<R: PageReader>(
     requires sized { IsCatalog (R.home reader.old) catalog.old }
     ensures cut { (m : View) → IsTrue (R.tells reader.old) → IsCutting (R.home reader.old) (laid draft.old.pages (R.pages reader.old)) m catalog.old file leader_at leader.old → HasNoneFrom file (128 * (block + 1)) m → OnOk result (IsCutting (R.home reader.old) (laid draft.new.pages (R.pages reader.old)) (after (Cut file (128 * block + first) ∷ []) m) catalog.new file leader_at leader.new) }
     ensures props { leader.new.props ≡ leader.old.props }
+    ensures few { first ≡ 0 → len_beside leader_at draft.new.pages ≤ len_beside leader_at draft.old.pages }
+    ensures some { len_beside leader_at draft.new.pages ≤ len_beside leader_at draft.old.pages + 1 }
     ensures back { LeadsOn draft.old.undos.items catalog.old draft.new.undos.items catalog.new }
     ensures sized { IsCatalog (R.home reader.old) catalog.new }
     ensures read { HasRead R.ReadOn R.faults R.allowance reader.old reader.new result }

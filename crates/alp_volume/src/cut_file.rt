@@ -46,6 +46,7 @@ fn cut_blocks<R: PageReader>(
     ensures cut { (m : View) → IsTrue (R.tells reader.old) → IsCutting (R.home reader.old) (laid draft.old.pages (R.pages reader.old)) m catalog.old file leader_at leader.old → HasNoneFrom file 4096 m → OnOk result (IsCutting (R.home reader.old) (laid draft.new.pages (R.pages reader.old)) (after (Cut file from ∷ []) m) catalog.new file leader_at leader.new) }
     ensures back { LeadsOn draft.old.undos.items catalog.old draft.new.undos.items catalog.new }
     ensures sized { IsCatalog (R.home reader.old) catalog.new }
+    ensures few { map.len draft.new.pages ≤ map.len draft.old.pages + 2 }
     ensures read { HasRead R.ReadOn R.faults R.allowance reader.old reader.new result }
 {
     for k in 0..32u32 {
@@ -83,6 +84,7 @@ fn cut_there<R: PageReader>(
     ensures cut { (m : View) (d : IsDraft (R.home reader.old) (laid draft.old.pages (R.pages reader.old)) m catalog.old) → IsTrue (R.tells reader.old) → d.volume.places.of (LeaderOf file) ≡ Some leader_at → HasNoneFrom file 4096 m → OnOk result (IsDraft (R.home reader.old) (laid draft.new.pages (R.pages reader.old)) (after (Cut file from ∷ []) m) catalog.new) }
     ensures back { LeadsOn draft.old.undos.items catalog.old draft.new.undos.items catalog.new }
     ensures sized { IsCatalog (R.home reader.old) catalog.new }
+    ensures few { map.len draft.new.pages ≤ map.len draft.old.pages + 2 }
     ensures read { HasRead R.ReadOn R.faults R.allowance reader.old reader.new result }
 {
     let Some(mut leader) = draft_leader(alloc, draft, reader, leader_at)? else {
@@ -104,6 +106,7 @@ pub fn cut_file<R: PageReader>(
     ensures cut { (m : View) → IsTrue (R.tells reader.old) → IsDraft (R.home reader.old) (laid draft.old.pages (R.pages reader.old)) m catalog.old → HaveLeaders m → OnOk result (IsDraft (R.home reader.old) (laid draft.new.pages (R.pages reader.old)) (after (Cut file from ∷ []) m) catalog.new) }
     ensures back { LeadsOn draft.old.undos.items catalog.old draft.new.undos.items catalog.new }
     ensures sized { IsCatalog (R.home reader.old) catalog.new }
+    ensures few { map.len draft.new.pages ≤ map.len draft.old.pages + 2 }
     ensures read { HasRead R.ReadOn R.faults R.allowance reader.old reader.new result }
 {
     let Some(kept) = catalog.files.get(file) else {
@@ -125,6 +128,7 @@ fn free_file(
     ensures freed { (x : ASlot) → map.get catalog.old.files file ≡ Some x → x.slot ≡ slot → HEAD_PAGES ≤ place → place < length catalog.old.places → OnOk result (catalog.new ≡ with_slot slot false (without_file file (with_place place false catalog.old))) }
     ensures back { LeadsOn draft.old.undos.items catalog.old draft.new.undos.items catalog.new }
     ensures sized { (home : ℕ) → IsCatalog home catalog.old → IsCatalog home catalog.new }
+    ensures few { map.len draft.new.pages ≤ map.len draft.old.pages + 1 }
 {
     catalog.free_place(&mut draft.undos, place)?;
     catalog.free_entry(&mut draft.undos, file)?;
@@ -145,6 +149,7 @@ fn drop_bare<R: PageReader>(
     ensures dropped { (m : View) → IsTrue (R.tells reader.old) → IsDraft (R.home reader.old) (laid draft.old.pages (R.pages reader.old)) m catalog.old → HasNoneFrom file 0 m → OnOk result (IsDraft (R.home reader.old) (laid draft.new.pages (R.pages reader.old)) (after (DropOf file ∷ []) m) catalog.new) }
     ensures back { LeadsOn draft.old.undos.items catalog.old draft.new.undos.items catalog.new }
     ensures sized { IsCatalog (R.home reader.old) catalog.new }
+    ensures few { map.len draft.new.pages ≤ map.len draft.old.pages + 1 }
     ensures read { HasRead R.ReadOn R.faults R.allowance reader.old reader.new result }
 {
     let Some(kept) = catalog.files.get(file) else {
@@ -170,6 +175,7 @@ pub fn drop_file<R: PageReader>(
     ensures dropped { (m : View) → IsTrue (R.tells reader.old) → IsDraft (R.home reader.old) (laid draft.old.pages (R.pages reader.old)) m catalog.old → HaveLeaders m → OnOk result (IsDraft (R.home reader.old) (laid draft.new.pages (R.pages reader.old)) (after (DropOf file ∷ []) m) catalog.new) }
     ensures back { LeadsOn draft.old.undos.items catalog.old draft.new.undos.items catalog.new }
     ensures sized { IsCatalog (R.home reader.old) catalog.new }
+    ensures few { map.len draft.new.pages ≤ map.len draft.old.pages + 3 }
     ensures read { HasRead R.ReadOn R.faults R.allowance reader.old reader.new result }
 {
     cut_file(alloc, draft, reader, catalog, file, 0)?;

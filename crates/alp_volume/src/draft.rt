@@ -1,5 +1,5 @@
 //! A change of a volume that is being made.
-ghost use Rattle.std.specs.Prelude.{◌≡◌, ◌<◌, [], IsTrue, IfOk, OnOk, OnErr};
+ghost use Rattle.std.specs.Prelude.{◌≡◌, ◌<◌, ◌≤◌, ◌+◌, [], IsTrue, IfOk, OnOk, OnErr};
 ghost use Rattle.std.specs.FinMap as map;
 ghost use Rattle.alp_volume.specs.Drafts.{laid};
 ghost use Rattle.alp_volume.specs.Reading.{HasRead};
@@ -52,6 +52,7 @@ impl Draft {
         ensures ok { OnOk result (self.new.pages ≡ map.insert self.old.pages at page) }
         ensures err { OnErr result (self.new.pages ≡ self.old.pages) }
         ensures undos { self.new.undos ≡ self.old.undos }
+        ensures few { map.len self.new.pages ≤ map.len self.old.pages + 1 }
     {
         self.pages.put(at, page)
     }
@@ -60,6 +61,7 @@ impl Draft {
     pub fn forget(&mut self, at: u32)
         ensures pages { self.new.pages ≡ map.remove self.old.pages at }
         ensures undos { self.new.undos ≡ self.old.undos }
+        ensures few { map.len self.new.pages ≤ map.len self.old.pages }
     {
         self.pages.remove(at);
     }
@@ -69,6 +71,7 @@ impl Draft {
         ensures ok { OnOk result (self.new.pages ≡ map.insert self.old.pages at page) }
         ensures err { OnErr result (self.new.pages ≡ self.old.pages) }
         ensures undos { self.new.undos ≡ self.old.undos }
+        ensures few { map.len self.new.pages ≤ map.len self.old.pages + 1 }
     {
         let page = PageRef::new(self.alloc, page)?;
         self.pages.put(at, page)

@@ -1,5 +1,5 @@
 //! The first page of a block that is put.
-ghost use Rattle.std.specs.Prelude.{◌≡◌, ◌≤◌, ◌<◌, ◌/◌, ◌%◌, ℕ, List, [], ◌∷◌, IsTrue, OnOk, Some, None, is_some, true};
+ghost use Rattle.std.specs.Prelude.{◌≡◌, ◌≤◌, ◌<◌, ◌/◌, ◌%◌, ℕ, List, [], ◌∷◌, IsTrue, OnOk, Some, None, is_some, true, ◌+◌};
 ghost use Rattle.std.specs.FinMap as map;
 ghost use Rattle.alp_base.specs.declared.key.Key.TheVariants.{Leader as LeaderKey, PageOf};
 ghost use Rattle.alp_fields.specs.Forms.{whole};
@@ -54,6 +54,7 @@ fn put_pages(
     ensures put { (home : ℕ) (base : PagesOf) (m : View) (d : IsDraft home (laid draft.old.pages base) m catalog.old) (x : ASlot) → IsCatalog home catalog.old → map.get catalog.old.files file ≡ Some x → x.place ≡ leader_at → whole leader_page (laid draft.old.pages base leader_at) ≡ Some leader.old → d.volume.places.of (IndexOf file (number / 128)) ≡ None → OnOk result (IsDraft home (laid draft.new.pages base) (after (Put (PageOf file number) (PageCell page) ∷ []) m) catalog.new) }
     ensures back { LeadsOn draft.old.undos.items catalog.old draft.new.undos.items catalog.new }
     ensures sized { (home : ℕ) → IsCatalog home catalog.old → IsCatalog home catalog.new }
+    ensures few { map.len draft.new.pages ≤ map.len draft.old.pages + 3 }
 {
     let index_at = catalog.take_place(&mut draft.undos)?;
     let place = catalog.take_place(&mut draft.undos)?;
@@ -80,6 +81,7 @@ pub fn put_page<R: PageReader>(
     ensures put { (m : View) → IsTrue (R.tells reader.old) → IsDraft (R.home reader.old) (laid draft.old.pages (R.pages reader.old)) m catalog.old → is_some (m (LeaderKey file)) ≡ true → OnOk result (IsDraft (R.home reader.old) (laid draft.new.pages (R.pages reader.old)) (after (Put (PageOf file number) (PageCell page) ∷ []) m) catalog.new) }
     ensures back { LeadsOn draft.old.undos.items catalog.old draft.new.undos.items catalog.new }
     ensures sized { IsCatalog (R.home reader.old) catalog.new }
+    ensures few { map.len draft.new.pages ≤ map.len draft.old.pages + 3 }
     ensures read { HasRead R.ReadOn R.faults R.allowance reader.old reader.new result }
 {
     let Some(kept) = catalog.files.get(file) else {

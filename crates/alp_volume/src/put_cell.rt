@@ -1,5 +1,6 @@
 //! Cells that are put.
-ghost use Rattle.std.specs.Prelude.{◌≡◌, ◌≤◌, ◌<◌, ℕ, [], ◌∷◌, IsTrue, OnOk, IfOk, IfErr, true};
+ghost use Rattle.std.specs.Prelude.{◌≡◌, ◌≤◌, ◌<◌, ℕ, [], ◌∷◌, IsTrue, OnOk, IfOk, IfErr, true, ◌+◌};
+ghost use Rattle.std.specs.FinMap as map;
 ghost use Rattle.alp_base.specs.declared.faults.VaultFault.TheVariants as fault;
 ghost use Rattle.alp_base.specs.declared.key.Key.TheVariants.{Leader as LeaderKey, OwnerOf, PageOf};
 ghost use Rattle.alp_files.specs.declared.cell.Cell.TheVariants.{Leader as LeaderCell, Owner as OwnerCell};
@@ -8,7 +9,7 @@ ghost use Rattle.alp_files.specs.Edits.{Put, after};
 ghost use Rattle.alp_vault.specs.Volumes.{fits_key};
 ghost use Rattle.alp_volume.specs.Drafts.{HaveLeaders, IsDraft, laid};
 ghost use Rattle.alp_volume.specs.Known.{IsCatalog};
-ghost use Rattle.alp_volume.specs.Puts.{HasLeader, head_made, page_made};
+ghost use Rattle.alp_volume.specs.Puts.{HasLeader, head_made, head_pages, page_made, page_pages};
 ghost use Rattle.alp_volume.specs.Reading.{HasRead};
 ghost use Rattle.alp_volume.specs.Undone.{LeadsOn};
 
@@ -59,6 +60,7 @@ fn put_props<R: PageReader>(
     ensures put { (m : View) → IsTrue (R.tells reader.old) → IsDraft (R.home reader.old) (laid draft.old.pages (R.pages reader.old)) m catalog.old → HaveLeaders m → OnOk result (IsDraft (R.home reader.old) (laid draft.new.pages (R.pages reader.old)) (after (Put (LeaderKey file) (LeaderCell props) ∷ []) m) catalog.new) }
     ensures back { LeadsOn draft.old.undos.items catalog.old draft.new.undos.items catalog.new }
     ensures sized { IsCatalog (R.home reader.old) catalog.new }
+    ensures few { map.len draft.new.pages ≤ map.len draft.old.pages + 2 }
     ensures read { HasRead R.ReadOn R.faults R.allowance reader.old reader.new result }
 {
     match catalog.files.get(file) {
@@ -82,6 +84,7 @@ fn put_leader<R: PageReader>(
     ensures put { (m : View) → IsTrue (R.tells reader.old) → IsDraft (R.home reader.old) (laid draft.old.pages (R.pages reader.old)) m catalog.old → HaveLeaders m → OnOk result (IsDraft (R.home reader.old) (laid draft.new.pages (R.pages reader.old)) (after (Put (LeaderKey file) cell.now ∷ []) m) catalog.new) }
     ensures back { LeadsOn draft.old.undos.items catalog.old draft.new.undos.items catalog.new }
     ensures sized { IsCatalog (R.home reader.old) catalog.new }
+    ensures few { map.len draft.new.pages ≤ map.len draft.old.pages + 2 }
     ensures read { HasRead R.ReadOn R.faults R.allowance reader.old reader.new result }
 {
     let Cell::Leader(props) = cell else {
@@ -103,6 +106,7 @@ fn put_record<R: PageReader>(
     ensures put { (m : View) → IsTrue (R.tells reader.old) → IsDraft (R.home reader.old) (laid draft.old.pages (R.pages reader.old)) m catalog.old → OnOk result (IsDraft (R.home reader.old) (laid draft.new.pages (R.pages reader.old)) (after (Put (OwnerOf owner.now.name) (OwnerCell owner.now) ∷ []) m) catalog.new) }
     ensures back { LeadsOn draft.old.undos.items catalog.old draft.new.undos.items catalog.new }
     ensures sized { IsCatalog (R.home reader.old) catalog.new }
+    ensures few { map.len draft.new.pages ≤ map.len draft.old.pages + 1 }
     ensures read { HasRead R.ReadOn R.faults R.allowance reader.old reader.new result }
 {
     match catalog.owners.get(&owner.name) {
@@ -125,6 +129,7 @@ fn put_owner<R: PageReader>(
     ensures put { (m : View) → IsTrue (R.tells reader.old) → IsDraft (R.home reader.old) (laid draft.old.pages (R.pages reader.old)) m catalog.old → OnOk result (IsDraft (R.home reader.old) (laid draft.new.pages (R.pages reader.old)) (after (Put (OwnerOf name) cell.now ∷ []) m) catalog.new) }
     ensures back { LeadsOn draft.old.undos.items catalog.old draft.new.undos.items catalog.new }
     ensures sized { IsCatalog (R.home reader.old) catalog.new }
+    ensures few { map.len draft.new.pages ≤ map.len draft.old.pages + 1 }
     ensures read { HasRead R.ReadOn R.faults R.allowance reader.old reader.new result }
 {
     let Cell::Owner(owner) = cell else {
@@ -148,6 +153,7 @@ pub fn put_head<R: PageReader>(
     ensures put { (m : View) → IsTrue (R.tells reader.old) → IsDraft (R.home reader.old) (laid draft.old.pages (R.pages reader.old)) m catalog.old → HaveLeaders m → OnOk result (IsDraft (R.home reader.old) (laid draft.new.pages (R.pages reader.old)) (head_made (key, cell.now) m) catalog.new) }
     ensures back { LeadsOn draft.old.undos.items catalog.old draft.new.undos.items catalog.new }
     ensures sized { IsCatalog (R.home reader.old) catalog.new }
+    ensures few { map.len draft.new.pages ≤ map.len draft.old.pages + head_pages (key, cell.now) }
     ensures read { HasRead R.ReadOn R.faults R.allowance reader.old reader.new result }
 {
     match key {
@@ -172,6 +178,7 @@ fn put_data<R: PageReader>(
     ensures put { (m : View) → IsTrue (R.tells reader.old) → IsDraft (R.home reader.old) (laid draft.old.pages (R.pages reader.old)) m catalog.old → HasLeader m (PageOf file number) → OnOk result (IsDraft (R.home reader.old) (laid draft.new.pages (R.pages reader.old)) (after (Put (PageOf file number) cell.now ∷ []) m) catalog.new) }
     ensures back { LeadsOn draft.old.undos.items catalog.old draft.new.undos.items catalog.new }
     ensures sized { IsCatalog (R.home reader.old) catalog.new }
+    ensures few { map.len draft.new.pages ≤ map.len draft.old.pages + 3 }
     ensures read { HasRead R.ReadOn R.faults R.allowance reader.old reader.new result }
 {
     let Cell::Page(page) = cell else {
@@ -198,6 +205,7 @@ pub fn put_late<R: PageReader>(
     ensures put { (m : View) → IsTrue (R.tells reader.old) → IsDraft (R.home reader.old) (laid draft.old.pages (R.pages reader.old)) m catalog.old → HasLeader m key → OnOk result (IsDraft (R.home reader.old) (laid draft.new.pages (R.pages reader.old)) (page_made (key, cell.now) m) catalog.new) }
     ensures back { LeadsOn draft.old.undos.items catalog.old draft.new.undos.items catalog.new }
     ensures sized { IsCatalog (R.home reader.old) catalog.new }
+    ensures few { map.len draft.new.pages ≤ map.len draft.old.pages + page_pages (key, cell.now) }
     ensures read { HasRead R.ReadOn R.faults R.allowance reader.old reader.new result }
 {
     match key {

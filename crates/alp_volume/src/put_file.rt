@@ -77,6 +77,7 @@ fn write_file(
     requires size { leader.now.props.size ≤ PAGES_PER_FILE }
     ensures written { OnOk result ((bytes : List ℕ) × (whole leader_page bytes ≡ Some leader.now) × (draft.new.pages ≡ map.insert (map.insert draft.old.pages place bytes) (1 + slot / 32) entries)) }
     ensures undos { draft.new.undos ≡ draft.old.undos }
+    ensures few { map.len draft.new.pages ≤ map.len draft.old.pages + 2 }
 {
     draft.write(place, leader_page_of(leader))?;
     draft.write(1 + slot / 32, entries)
@@ -98,6 +99,7 @@ pub fn put_new_leader<R: PageReader>(
     ensures put { (m : View) → IsTrue (R.tells reader.old) → IsDraft (R.home reader.old) (laid draft.old.pages (R.pages reader.old)) m catalog.old → ((n : ℕ) → m (PageOf file n) ≡ None) → OnOk result (IsDraft (R.home reader.old) (laid draft.new.pages (R.pages reader.old)) (after (Put (LeaderKey file) (LeaderCell props) ∷ []) m) catalog.new) }
     ensures back { LeadsOn draft.old.undos.items catalog.old draft.new.undos.items catalog.new }
     ensures sized { IsCatalog (R.home reader.old) catalog.new }
+    ensures few { map.len draft.new.pages ≤ map.len draft.old.pages + 2 }
     ensures read { HasRead R.ReadOn R.faults R.allowance reader.old reader.new result }
 {
     let Ok((place, slot)) = take_file(draft, catalog, file) else {

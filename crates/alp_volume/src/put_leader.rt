@@ -1,5 +1,6 @@
 //! Leaders that are put.
-ghost use Rattle.std.specs.Prelude.{◌≡◌, ◌≤◌, ◌<◌, ℕ, List, [], ◌∷◌, IsTrue, IfOk, IfSome, OnOk, Some};
+ghost use Rattle.std.specs.Prelude.{◌≡◌, ◌≤◌, ◌<◌, ℕ, List, [], ◌∷◌, IsTrue, IfOk, IfSome, OnOk, Some, ◌+◌};
+ghost use Rattle.std.specs.FinMap as map;
 ghost use Rattle.alp_base.specs.declared.ids.FileId.{FileId as File};
 ghost use Rattle.alp_base.specs.declared.key.Key.TheVariants.{Leader as LeaderKey};
 ghost use Rattle.alp_fields.specs.Forms.{whole};
@@ -61,6 +62,7 @@ pub fn put_known_leader<R: PageReader>(
     requires size { props.size ≤ PAGES_PER_FILE }
     ensures put { (home : ℕ) (m : View) (c : ACatalog) (f : File) (d : IsDraft home (laid draft.old.pages (R.pages reader.old)) m c) → IsTrue (R.tells reader.old) → d.volume.places.of (LeaderOf f) ≡ Some at → OnOk result (IsDraft home (laid draft.new.pages (R.pages reader.old)) (after (Put (LeaderKey f) (LeaderCell props) ∷ []) m) c) }
     ensures undos { draft.new.undos ≡ draft.old.undos }
+    ensures few { map.len draft.new.pages ≤ map.len draft.old.pages + 1 }
     ensures read { HasRead R.ReadOn R.faults R.allowance reader.old reader.new result }
 {
     let Some(old) = draft_leader(alloc, draft, reader, at)? else {

@@ -31,6 +31,7 @@ fn write_row<R: PageReader>(
     requires head { HEAD_PAGES ≤ R.home reader.old }
     ensures written { IsTrue (R.tells reader.old) → OnOk result ((bytes : List ℕ) × (draft.new.pages ≡ map.insert draft.old.pages (129 + row / 2) bytes) × HasRow (laid draft.old.pages (R.pages reader.old)) bytes row owner.now) }
     ensures undos { draft.new.undos ≡ draft.old.undos }
+    ensures few { map.len draft.new.pages ≤ map.len draft.old.pages + 1 }
     ensures read { HasRead R.ReadOn R.faults R.allowance reader.old reader.new result }
 {
     let page = draft.page(reader, 129 + row / 2)?;
@@ -54,6 +55,7 @@ pub fn put_known_owner<R: PageReader>(
     requires head { HEAD_PAGES ≤ R.home reader.old }
     ensures put { (home : ℕ) (m : View) (c : ACatalog) → IsTrue (R.tells reader.old) → IsDraft home (laid draft.old.pages (R.pages reader.old)) m c → map.get c.owners owner.now.name ≡ Some row → OnOk result (IsDraft home (laid draft.new.pages (R.pages reader.old)) (after (Put (OwnerOf owner.now.name) (OwnerCell owner.now) ∷ []) m) c) }
     ensures undos { draft.new.undos ≡ draft.old.undos }
+    ensures few { map.len draft.new.pages ≤ map.len draft.old.pages + 1 }
     ensures read { HasRead R.ReadOn R.faults R.allowance reader.old reader.new result }
 {
     write_row(draft, reader, row, owner)
@@ -72,6 +74,7 @@ pub fn put_new_owner<R: PageReader>(
     ensures put { (home : ℕ) (m : View) → IsTrue (R.tells reader.old) → IsDraft home (laid draft.old.pages (R.pages reader.old)) m catalog.old → OnOk result (IsDraft home (laid draft.new.pages (R.pages reader.old)) (after (Put (OwnerOf owner.now.name) (OwnerCell owner.now) ∷ []) m) catalog.new) }
     ensures back { LeadsOn draft.old.undos.items catalog.old draft.new.undos.items catalog.new }
     ensures sized { IsCatalog (R.home reader.old) catalog.new }
+    ensures few { map.len draft.new.pages ≤ map.len draft.old.pages + 1 }
     ensures read { HasRead R.ReadOn R.faults R.allowance reader.old reader.new result }
 {
     let Ok(row) = catalog.take_row(&mut draft.undos, owner.name) else {

@@ -1,5 +1,5 @@
 //! Pages of data that are put.
-ghost use Rattle.std.specs.Prelude.{◌≡◌, ◌≤◌, ◌<◌, ◌/◌, ◌%◌, ℕ, List, [], ◌∷◌, length, IsTrue, IfOk, IfSome, OnOk, Some, None, slice_index};
+ghost use Rattle.std.specs.Prelude.{◌≡◌, ◌≤◌, ◌<◌, ◌/◌, ◌%◌, ℕ, List, [], ◌∷◌, length, IsTrue, IfOk, IfSome, OnOk, Some, None, slice_index, ◌+◌};
 ghost use Rattle.std.specs.FinMap as map;
 ghost use Rattle.alp_base.specs.declared.ids.FileId.{FileId as File};
 ghost use Rattle.alp_base.specs.declared.key.Key.TheVariants.{PageOf};
@@ -49,6 +49,7 @@ fn put_new_page(
     ensures put { (home : ℕ) (base : PagesOf) (m : View) (f : File) (d : IsDraft home (laid draft.old.pages base) m catalog.old) → IsCatalog home catalog.old → d.volume.places.of (IndexOf f (number / 128)) ≡ Some index_at → whole index_page (laid draft.old.pages base index_at) ≡ Some row.old → slice_index row.old (number % 128) ≡ 0 → OnOk result (IsDraft home (laid draft.new.pages base) (after (Put (PageOf f number) (PageCell page) ∷ []) m) catalog.new) }
     ensures back { LeadsOn draft.old.undos.items catalog.old draft.new.undos.items catalog.new }
     ensures sized { (home : ℕ) → IsCatalog home catalog.old → IsCatalog home catalog.new }
+    ensures few { map.len draft.new.pages ≤ map.len draft.old.pages + 2 }
 {
     let place = catalog.take_place(&mut draft.undos)?;
     row.set((number % 128) as usize, place);
@@ -70,6 +71,7 @@ pub(crate) fn put_in_block<R: PageReader>(
     ensures put { (home : ℕ) (m : View) (f : File) (d : IsDraft home (laid draft.old.pages (R.pages reader.old)) m catalog.old) → home ≡ R.home reader.old → IsTrue (R.tells reader.old) → d.volume.places.of (IndexOf f (number / 128)) ≡ Some index_at → OnOk result (IsDraft home (laid draft.new.pages (R.pages reader.old)) (after (Put (PageOf f number) (PageCell page) ∷ []) m) catalog.new) }
     ensures back { LeadsOn draft.old.undos.items catalog.old draft.new.undos.items catalog.new }
     ensures sized { IsCatalog (R.home reader.old) catalog.new }
+    ensures few { map.len draft.new.pages ≤ map.len draft.old.pages + 2 }
     ensures read { HasRead R.ReadOn R.faults R.allowance reader.old reader.new result }
 {
     let Some(mut row) = draft_index(draft, reader, index_at)? else {

@@ -1,5 +1,5 @@
 use Rattle.std.specs.Prelude.{Bool, IsTrue, Ok}
-use Rattle.std.proofs.Common.{◌≡◌, ◌∙◌, ◌+◌, ◌<◌, ◌∷◌, [], List, ℕ, drop, get_or, refl, sym, ap, subst, arith}
+use Rattle.std.proofs.Common.{◌≡◌, ◌∙◌, ◌+◌, ◌<◌, ◌∷◌, [], List, ℕ, length, drop, get_or, refl, sym, ap, subst, arith}
 use Rattle.std.proofs.lemmas.List.{at_drop_more, drop_all}
 use Rattle.alp_base.specs.declared.ids.FileId.{FileId}
 use Rattle.alp_files.specs.Cells.{View}
@@ -28,6 +28,7 @@ loop-cut-preserved g c =
     record {
       read = read_ok g.met.R.PageReader.then_on r0 c.cut_file.new.reader c.in_ok-cut_file.field-0 tt (read_then g.met.R.PageReader.then_on r0 r1 c.cut_file.new.reader tt (Ok c.in_ok-cut_file.field-0) inv.read c.in_ok-cut_file.ensures.read);
       sized = subst (λ (n : ℕ). IsCatalog n c.cut_file.new.catalog) same_home c.cut_file.ensures.sized;
+      few = omega (arith, inv.few, c.cut_file.ensures.few, at_drop_more (λ (xs : List (FileId × ℕ)). length xs) c.args.cuts.now i no_cut c.loop-cut-test.true);
       back = λ first led. c.cut_file.ensures.back first (inv.back first led);
       told = λ m tells d have.
           let t = inv.told m tells d have in

@@ -1,12 +1,12 @@
 use Rattle.std.specs.Prelude.{Bool, IsTrue, OnOk}
-use Rattle.std.proofs.Common.{◌≡◌, ◌∙◌, ℕ, sym, subst}
+use Rattle.std.proofs.Common.{◌≡◌, ◌∙◌, ℕ, sym, subst, arith}
 use Rattle.std.proofs.lemmas.Result.{on_ok_weaker}
 use Rattle.alp_files.specs.Cells.{View}
 use Rattle.alp_volume.specs.Drafts.{IsDraft, laid}
 use Rattle.alp_volume.specs.Known.{IsCatalog}
 use Rattle.alp_volume.specs.Pages.{Pages}
 use Rattle.alp_volume.specs.Puts.{heads_made, pages_made}
-use Rattle.alp_volume.proofs.PutsLaws.{leaders_put, turns_made}
+use Rattle.alp_volume.proofs.PutsLaws.{leaders_put, turns_few, turns_made}
 use Rattle.alp_volume.proofs.change.make_puts.Goals as goal
 
 pub put_pages-requires-clause-sized : goal.put_pages-requires-clause-sized
@@ -31,3 +31,9 @@ returns-clause-put g c m tells d have final =
     (subst (λ (n : ℕ). IsDraft n (laid c.put_pages.new.draft.pages (g.R.PageReader.pages r0)) (pages_made puts mid) c.put_pages.new.catalog) same_home
     (subst (λ (y : Pages). IsDraft (g.R.PageReader.home r1) (laid c.put_pages.new.draft.pages y) (pages_made puts mid) c.put_pages.new.catalog) same w)))
     (c.put_pages.ensures.put mid told here (leaders_put puts m final))
+
+pub returns-clause-few : goal.returns-clause-few
+returns-clause-few g c = omega (arith, c.put_heads.ensures.few, c.put_pages.ensures.few, turns_few c.args.puts.now)
+
+pub returns-in_err-put_heads-clause-few : goal.returns-in_err-put_heads-clause-few
+returns-in_err-put_heads-clause-few g c = omega (arith, c.put_heads.ensures.few, turns_few c.args.puts.now)

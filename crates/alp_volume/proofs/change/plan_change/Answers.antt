@@ -1,4 +1,7 @@
-use Rattle.std.proofs.Common.{List, [], refl, sym, subst}
+use Rattle.std.specs.FinMap as map
+use Rattle.std.specs.FinMap.{len-empty}
+use Rattle.std.specs.Ordering.{nat_cmp}
+use Rattle.std.proofs.Common.{List, ℕ, [], refl, sym, ◌∙◌, ap, subst, arith}
 use Rattle.alp_volume.specs.declared.catalog.Catalog.{Catalog}
 use Rattle.alp_volume.specs.declared.undo.Undo.{Undo}
 use Rattle.alp_volume.specs.Known.{IsCatalog}
@@ -28,3 +31,6 @@ returns-in-Ok-clause-planned g c m stands tells knows sound =
     let base = g.R.PageReader.pages c.args.reader.now in
     planned home base c.make_change.new.draft.pages m c.args.change.now c.make_change.new.catalog sound
     (c.in-Ok.ensures.made _ tells (first_draft home base m stands c.args.catalog.now knows c.new-draft.result.pages c.new-draft.ensures.pages) (starts_paged home base m stands) (ends_paged m c.args.change.now sound))
+
+pub returns-in-Ok-clause-few : goal.returns-in-Ok-clause-few
+returns-in-Ok-clause-few g c = omega (arith, c.make_change.ensures.few, ap map.len c.new-draft.ensures.pages ∙ len-empty nat_cmp (List ℕ))

@@ -1,11 +1,12 @@
 use Rattle.std.specs.Prelude.{Bool, IsTrue, Ok}
-use Rattle.std.proofs.Common.{◌≡◌, ◌∙◌, ◌+◌, ◌<◌, ◌∷◌, [], List, ℕ, drop, get_or, refl, sym, ap, subst, arith}
+use Rattle.std.proofs.Common.{◌≡◌, ◌∙◌, ◌+◌, ◌<◌, ◌∷◌, [], List, ℕ, sum_by, drop, get_or, refl, sym, ap, subst, arith}
 use Rattle.std.proofs.lemmas.List.{at_drop_more}
+use Rattle.std.proofs.lemmas.List.Sums.{sum_by-drop_more}
 use Rattle.alp_base.specs.declared.key.Key.{Key}
 use Rattle.alp_files.specs.declared.cell.Cell.{Cell}
 use Rattle.alp_files.specs.Cells.{View}
 use Rattle.alp_volume.specs.Drafts.{HaveLeaders, IsDraft, laid}
-use Rattle.alp_volume.specs.Puts.{head_made, heads_made}
+use Rattle.alp_volume.specs.Puts.{head_made, head_pages, heads_made}
 use Rattle.alp_volume.specs.Known.{IsCatalog}
 use Rattle.alp_volume.specs.Pages.{Pages}
 use Rattle.alp_volume.proofs.LoopLaws.{read_none, read_then, read_ok}
@@ -25,6 +26,7 @@ loop-put-preserved g c =
     record {
       read = read_ok g.met.R.PageReader.then_on r0 c.put_head.new.reader c.in_ok-put_head.field-0 tt (read_then g.met.R.PageReader.then_on r0 r1 c.put_head.new.reader tt (Ok c.in_ok-put_head.field-0) inv.read c.in_ok-put_head.ensures.read);
       sized = subst (λ (n : ℕ). IsCatalog n c.put_head.new.catalog) same_home c.put_head.ensures.sized;
+      few = omega (arith, inv.few, c.put_head.ensures.few, sum_by-drop_more head_pages c.args.puts.now i x c.loop-put-test.true, ap head_pages c.put-item.is);
       back = λ first led. c.put_head.ensures.back first (inv.back first led);
       told = λ m tells d have.
           let t = inv.told m tells d have in

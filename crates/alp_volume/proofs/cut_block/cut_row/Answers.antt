@@ -15,9 +15,10 @@ use Rattle.alp_volume.specs.Drafts.{Changed, IsCutting, laid}
 use Rattle.alp_volume.specs.Known.{leader_of}
 use Rattle.alp_volume.specs.Pages.{Pages, index_page, has_a_place, written}
 use Rattle.alp_volume.specs.Undone.{with_file, with_place}
-use Rattle.alp_volume.proofs.CutDraft.{freeable, index_bounds}
+use Rattle.alp_volume.proofs.CutDraft.{a_place, freeable, index_bounds}
 use Rattle.alp_volume.proofs.CutRow.{cutting_left, cutting_all}
 use Rattle.alp_volume.proofs.LaidLaws.{laid_put}
+use Rattle.alp_volume.proofs.SheetLaws.{beside_put}
 use Rattle.alp_volume.proofs.cut_block.cut_row.Goals as goal
 
 both : {T E : Type 0} (r : Result T E) (P Q : Type 0) → OnOk r P → OnOk r Q → OnOk r (P × Q)
@@ -86,3 +87,11 @@ returns-clause-cut c home base m sized cutting none reads some =
 
 pub returns-clause-sized : goal.returns-clause-sized
 returns-clause-sized c home sized = c.free_index.ensures.sized home (c.free_slots.ensures.sized home sized)
+
+pub returns-then-is_used-clause-few : goal.returns-then-is_used-clause-few
+returns-then-is_used-clause-few c all =
+    let j = a_place c.free_slots.new.row (sym c.is_used.ensures ∙ c.if-is_used.true) in
+    absurd (j.2 (c.in_ok-free_slots.ensures.none j.0 (omega arith)))
+
+pub returns-then-is_used-clause-some : goal.returns-then-is_used-clause-some
+returns-then-is_used-clause-some c = beside_put c.write.result c.args.draft.now.pages c.write.new.self.pages c.args.leader_at c.at.result c.page.result c.write.ensures.ok c.write.ensures.err

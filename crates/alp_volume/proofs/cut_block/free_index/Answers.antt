@@ -4,6 +4,7 @@ use Rattle.std.proofs.Common.{◌≡◌, ◌∙◌, sym, ap, subst}
 use Rattle.std.proofs.lemmas.Result.{on_ok_weaker}
 use Rattle.alp_volume.specs.declared.catalog.Catalog.{Catalog}
 use Rattle.alp_volume.specs.Undone.{with_file, with_place}
+use Rattle.alp_volume.proofs.SheetLaws.{beside_after}
 use Rattle.alp_volume.proofs.cut_block.free_index.Goals as goal
 
 pub returns-in_err-keep_blocks-clause-sized : goal.returns-in_err-keep_blocks-clause-sized
@@ -21,3 +22,6 @@ returns-clause-freed c x there least within =
     on_ok_weaker c.write.result
     (λ w. (c.blocks_of.result, c.blocks_of.ensures, kept ∙ ap (with_file c.args.file (record x { blocks = c.blocks_of.result })) (freed ∙ ap (λ n. with_place n false c.args.catalog.now) c.at-index_at.ensures)))
     c.write.ensures.ok
+
+pub returns-clause-few : goal.returns-clause-few
+returns-clause-few c = beside_after c.write.result c.args.draft.now.pages c.write.new.self.pages c.args.leader_at c.leader_page_of.result c.write.ensures.ok c.write.ensures.err

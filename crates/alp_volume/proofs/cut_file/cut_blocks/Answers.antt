@@ -8,6 +8,7 @@ use Rattle.alp_volume.specs.Known.{IsCatalog}
 use Rattle.alp_volume.specs.Pages.{Pages}
 use Rattle.alp_volume.proofs.CutDraft.{cut_nothing, cut_further, none_after}
 use Rattle.alp_volume.proofs.LoopLaws.{read_none, read_then, read_ok}
+use Rattle.alp_volume.proofs.SheetLaws.{len_around, len_gone}
 use Rattle.alp_volume.proofs.cut_file.cut_blocks.Goals as goal
 
 pub loop-k-init : goal.loop-k-init
@@ -15,6 +16,8 @@ loop-k-init g c = record {
   read = read_none g.met.R.PageReader.still c.args.reader.now;
   size = c.requires.size;
   sized = c.requires.sized;
+  some = omega arith;
+  none = λ low. omega arith;
   back = λ first led. led;
   told = λ m tells cutting low. subst (λ (v : View). IsCutting (g.R.PageReader.home c.args.reader.now) (laid c.args.draft.now.pages (g.R.PageReader.pages c.args.reader.now)) v c.args.catalog.now c.args.file c.args.leader_at c.args.leader.now)
       (sym (cut_nothing m c.args.file (c.args.from + (4096 - c.args.from)) (λ n late. low n (omega (arith, late))))) cutting;
@@ -40,6 +43,8 @@ loop-k-preserved g c =
       read = read_ok g.met.R.PageReader.then_on r0 c.cut_block.new.reader c.in_ok-cut_block.field-0 tt (read_then g.met.R.PageReader.then_on r0 r1 c.cut_block.new.reader tt (Ok c.in_ok-cut_block.field-0) inv.read c.in_ok-cut_block.ensures.read);
       size = subst (λ (p : Props). p.size ≤ 4096) (sym c.cut_block.ensures.props) inv.size;
       sized = subst (λ (n : ℕ). IsCatalog n c.cut_block.new.catalog) same_home c.cut_block.ensures.sized;
+      some = omega (arith, c.cut_block.ensures.some, inv.none (omega (arith, c.if-first-ge128.false, first_is)));
+      none = λ low. omega (arith, c.cut_block.ensures.few (omega (arith, first_is, low)), inv.none (omega (arith, low)));
       back = λ start led. c.cut_block.ensures.back start (inv.back start led);
       told = λ m tells cutting low.
           let told = subst (λ (t : Bool). IsTrue t) (sym telling) tells in
@@ -68,3 +73,14 @@ returns-clause-cut g c m tells cutting low =
     let from = c.args.from in
     let done : from + (128 * (32 - c.loop-k.k) - from) ≡ from = omega (arith, c.loop-k-test.false) in
     subst (λ (n : ℕ). IsCutting (g.R.PageReader.home c.args.reader.now) (laid c.loop-k.draft.pages (g.R.PageReader.pages c.args.reader.now)) (after (Cut c.args.file n ∷ []) m) c.loop-k.catalog c.args.file c.args.leader_at c.loop-k.leader) done (c.loop-k.invariant.told m tells cutting low)
+
+pub returns-then-first-ge128-clause-few : goal.returns-then-first-ge128-clause-few
+returns-then-first-ge128-clause-few g c = omega (arith, len_around c.loop-k.draft.pages c.args.leader_at, c.loop-k.invariant.some, len_gone c.args.draft.now.pages c.args.leader_at)
+
+pub returns-clause-few : goal.returns-clause-few
+returns-clause-few g c = omega (arith, len_around c.loop-k.draft.pages c.args.leader_at, c.loop-k.invariant.some, len_gone c.args.draft.now.pages c.args.leader_at)
+
+pub returns-in_err-cut_block-clause-few : goal.returns-in_err-cut_block-clause-few
+returns-in_err-cut_block-clause-few g c =
+    let same = c.loop-k.invariant.none (omega (arith, c.first_in-first.ensures, c.if-first-ge128.false)) in
+    omega (arith, len_around c.cut_block.new.draft.pages c.args.leader_at, c.cut_block.ensures.some, same, len_gone c.args.draft.now.pages c.args.leader_at)
