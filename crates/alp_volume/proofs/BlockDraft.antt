@@ -15,23 +15,23 @@ use Rattle.alp_leader.specs.declared.leader.Leader.{Leader as LeaderRecord}
 use Rattle.alp_leader.specs.Leader.{leader_page}
 use Rattle.alp_volume.specs.declared.catalog.Catalog.{Catalog}
 use Rattle.alp_volume.specs.declared.file_slot.FileSlot.{FileSlot}
-use Rattle.alp_volume.specs.Changes.{NamesBlock, NamesOne, volume_with}
-use Rattle.alp_volume.specs.Counted.{bit}
+use Rattle.alp_pages.specs.Changes.{NamesBlock, NamesOne, volume_with}
+use Rattle.alp_pages.specs.Counted.{bit}
 use Rattle.alp_volume.specs.Drafts.{Changed, IsDraft, laid}
 use Rattle.alp_volume.specs.Known.{IsCatalog, Knows}
-use Rattle.alp_volume.specs.Naming.{Naming, named}
-use Rattle.alp_volume.specs.Nodes.{Node, LeaderOf, IndexOf, DataOf, same_node}
-use Rattle.alp_volume.specs.Pages.{Pages, written}
+use Rattle.alp_pages.specs.Naming.{Naming, named}
+use Rattle.alp_pages.specs.Nodes.{Node, LeaderOf, IndexOf, DataOf, same_node}
+use Rattle.alp_pages.specs.Pages.{Pages, written}
 use Rattle.alp_volume.specs.Undone.{with_file, with_place}
-use Rattle.alp_volume.specs.Volume.{Volume, Spells, row_of_leader, row_of_node, props_cell}
-use Rattle.alp_volume.proofs.BlockLaws.{block_added}
+use Rattle.alp_pages.specs.Volume.{Volume, Spells, row_of_leader, row_of_node, props_cell}
+use Rattle.alp_pages.proofs.BlockLaws.{block_added}
 use Rattle.alp_volume.proofs.DraftLaws.{put_laid}
-use Rattle.alp_volume.proofs.FetchLaws.{is_none}
+use Rattle.alp_pages.proofs.FetchLaws.{is_none}
 use Rattle.alp_volume.proofs.KnowsLaws.{named_taken, head_taken, leader_there, leader_file, leader_row, row_bits, knows_blocks}
 use Rattle.alp_volume.proofs.LaidLaws.{laid_put}
 use Rattle.alp_volume.proofs.MarkLaws.{free_within}
 use Rattle.alp_volume.proofs.PutLaws.{free_place, place_sized}
-use Rattle.alp_volume.proofs.UnnamedLaws.{written_same}
+use Rattle.alp_pages.proofs.UnnamedLaws.{written_same}
 
 -- a number that is free beside one that was taken
 pub still_free : (xs : List Bool) (i p : ℕ) → i < length xs → slice_index_or (slice_set xs i true) p true ≡ false → (i ≡ p → ⊥) × (slice_index_or xs p true ≡ false)

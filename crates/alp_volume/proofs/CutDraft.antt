@@ -16,26 +16,26 @@ use Rattle.alp_leader.specs.declared.leader.Leader.{Leader as LeaderRecord}
 use Rattle.alp_leader.specs.Leader.{leader_page}
 use Rattle.alp_volume.specs.declared.catalog.Catalog.{Catalog}
 use Rattle.alp_volume.specs.declared.file_slot.FileSlot.{FileSlot}
-use Rattle.alp_volume.specs.Changes.{IsCutOff, volume_cut}
-use Rattle.alp_volume.specs.Counted.{bit}
+use Rattle.alp_pages.specs.Changes.{IsCutOff, volume_cut}
+use Rattle.alp_pages.specs.Counted.{bit}
 use Rattle.alp_volume.specs.Drafts.{Changed, HasNoneFrom, IsCutting, IsDraft, laid}
 use Rattle.alp_volume.specs.Known.{IsCatalog, Knows}
-use Rattle.alp_volume.specs.Naming.{Naming, number_or_0, unless, without}
-use Rattle.alp_volume.specs.Nodes.{Node, LeaderOf, IndexOf, DataOf}
-use Rattle.alp_volume.specs.Pages.{Pages, written, index_page, has_a_place}
-use Rattle.alp_volume.specs.Rows.{SpellsRow}
+use Rattle.alp_pages.specs.Naming.{Naming, number_or_0, unless, without}
+use Rattle.alp_pages.specs.Nodes.{Node, LeaderOf, IndexOf, DataOf}
+use Rattle.alp_pages.specs.Pages.{Pages, written, index_page, has_a_place}
+use Rattle.alp_pages.specs.Rows.{SpellsRow}
 use Rattle.alp_volume.specs.Undone.{AreFreeable, AreFreed, with_file, with_place}
-use Rattle.alp_volume.specs.Volume.{Volume, Spells, nodes, child_of, row_of_leader, row_of_node, props_cell}
-use Rattle.alp_volume.proofs.CutLaws.{pages_cut}
+use Rattle.alp_pages.specs.Volume.{Volume, Spells, nodes, child_of, row_of_leader, row_of_node, props_cell}
+use Rattle.alp_pages.proofs.CutLaws.{pages_cut}
 use Rattle.alp_volume.proofs.DraftLaws.{put_laid}
-use Rattle.alp_volume.proofs.FetchLaws.{is_none}
-use Rattle.alp_volume.proofs.IndexLaws.{index_length}
+use Rattle.alp_pages.proofs.FetchLaws.{is_none}
+use Rattle.alp_pages.proofs.IndexLaws.{index_length}
 use Rattle.alp_volume.proofs.KnowsLaws.{leader_file, leader_row, row_names, row_bits, knows_blocks, unplaced}
 use Rattle.alp_volume.proofs.LaidLaws.{laid_put}
-use Rattle.alp_volume.proofs.NamingLaws.{eqb_other, none_at, apart}
-use Rattle.alp_volume.proofs.UnnamedLaws.{written_same, written_other}
-use Rattle.alp_volume.proofs.SpellLaws.{node_file, node_number}
-use Rattle.alp_volume.proofs.UniqueLaws.{some_is, number}
+use Rattle.alp_pages.proofs.NamingLaws.{eqb_other, none_at, apart}
+use Rattle.alp_pages.proofs.UnnamedLaws.{written_same, written_other}
+use Rattle.alp_pages.proofs.SpellLaws.{node_file, node_number}
+use Rattle.alp_pages.proofs.UniqueLaws.{some_is, number}
 
 -- ---- cells
 

@@ -15,25 +15,25 @@ use Rattle.alp_leader.specs.declared.leader.Leader.{Leader as LeaderRecord}
 use Rattle.alp_leader.specs.Leader.{leader_page}
 use Rattle.alp_volume.specs.declared.catalog.Catalog.{Catalog}
 use Rattle.alp_volume.specs.declared.file_slot.FileSlot.{FileSlot}
-use Rattle.alp_volume.specs.Changes.{IsCutOff, volume_cut}
-use Rattle.alp_volume.specs.Counted.{bit}
+use Rattle.alp_pages.specs.Changes.{IsCutOff, volume_cut}
+use Rattle.alp_pages.specs.Counted.{bit}
 use Rattle.alp_volume.specs.Drafts.{Changed, HasNoneFrom, IsCutting, IsDraft, laid}
 use Rattle.alp_volume.specs.Known.{IsCatalog, Knows}
-use Rattle.alp_volume.specs.Naming.{Naming, number_or_0, unless, without}
-use Rattle.alp_volume.specs.Nodes.{Node, LeaderOf, IndexOf, DataOf, same_node}
-use Rattle.alp_volume.specs.Pages.{Pages, written, index_page, has_a_place}
-use Rattle.alp_volume.specs.Rows.{SpellsRow}
+use Rattle.alp_pages.specs.Naming.{Naming, number_or_0, unless, without}
+use Rattle.alp_pages.specs.Nodes.{Node, LeaderOf, IndexOf, DataOf, same_node}
+use Rattle.alp_pages.specs.Pages.{Pages, written, index_page, has_a_place}
+use Rattle.alp_pages.specs.Rows.{SpellsRow}
 use Rattle.alp_volume.specs.Undone.{AreFreed, with_file, with_place}
-use Rattle.alp_volume.specs.Volume.{Volume, Spells, nodes, row_of_leader, row_of_node, props_cell}
+use Rattle.alp_pages.specs.Volume.{Volume, Spells, nodes, row_of_leader, row_of_node, props_cell}
 use Rattle.alp_volume.proofs.CutDraft.{goes, same_turned, no_place, a_place, index_there, index_row, row_says, named_of, near_of, index_bounds, no_later_index, stays, pages_freed, children_stay, index_apart, page_stays}
-use Rattle.alp_volume.proofs.CutLaws.{pages_cut}
+use Rattle.alp_pages.proofs.CutLaws.{pages_cut}
 use Rattle.alp_volume.proofs.DraftLaws.{put_laid}
 use Rattle.alp_volume.proofs.KnowsLaws.{leader_file, leader_row, row_names, row_bits, knows_blocks}
 use Rattle.alp_volume.proofs.LaidLaws.{laid_put}
-use Rattle.alp_volume.proofs.NamingLaws.{eqb_other, apart}
-use Rattle.alp_volume.proofs.UnnamedLaws.{written_same, written_other, low_page}
-use Rattle.alp_volume.proofs.SpellLaws.{node_file, node_number}
-use Rattle.alp_volume.proofs.UniqueLaws.{some_is}
+use Rattle.alp_pages.proofs.NamingLaws.{eqb_other, apart}
+use Rattle.alp_pages.proofs.UnnamedLaws.{written_same, written_other, low_page}
+use Rattle.alp_pages.proofs.SpellLaws.{node_file, node_number}
+use Rattle.alp_pages.proofs.UniqueLaws.{some_is}
 
 module _ (home : ℕ) (at : Pages) (m : View) (c : Catalog) (f : FileId) (place : ℕ) (l : LeaderRecord) (cutting : IsCutting home at m c f place l) (sized : IsCatalog home c) (block first : ℕ) (few : block < 32) (low : first < 128) (none : HasNoneFrom f (128 * (block + 1)) m)
     (i : ℕ) (index_is : slice_index_or l.index block 0 ≡ i) (some : i ≡ 0 → ⊥) (row : List ℕ) (reads : whole index_page (at i) ≡ Some row) (left : List ℕ) (kept : (j : ℕ) → j < first → slice_index_or left j 0 ≡ slice_index_or row j 0) (gone : (j : ℕ) → first ≤ j → slice_index_or left j 0 ≡ 0)

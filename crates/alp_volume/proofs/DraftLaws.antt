@@ -10,14 +10,14 @@ use Rattle.alp_files.specs.declared.cell.OwnerRecord.{OwnerRecord}
 use Rattle.alp_files.specs.Cells.{View, same_name}
 use Rattle.alp_files.specs.Edits.{Put, after}
 use Rattle.alp_volume.specs.declared.catalog.Catalog.{Catalog}
-use Rattle.alp_volume.specs.Changes.{HasRow}
+use Rattle.alp_pages.specs.Changes.{HasRow}
 use Rattle.alp_volume.specs.Drafts.{Changed, IsDraft, laid}
 use Rattle.alp_volume.specs.Known.{IsCatalog, Knows}
-use Rattle.alp_volume.specs.Naming.{named}
-use Rattle.alp_volume.specs.Pages.{Pages, written}
+use Rattle.alp_pages.specs.Naming.{named}
+use Rattle.alp_pages.specs.Pages.{Pages, written}
 use Rattle.alp_volume.specs.Reached.{Owners}
-use Rattle.alp_volume.specs.Volume.{Volume, Spells}
-use Rattle.alp_volume.proofs.ChangeLaws.{known_owner_put, new_owner_put}
+use Rattle.alp_pages.specs.Volume.{Volume, Spells}
+use Rattle.alp_pages.proofs.ChangeLaws.{known_owner_put, new_owner_put}
 use Rattle.alp_volume.proofs.LaidLaws.{laid_put}
 use Rattle.alp_volume.proofs.RowLaws.{got}
 

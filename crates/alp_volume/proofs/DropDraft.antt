@@ -15,24 +15,24 @@ use Rattle.alp_files.specs.Edits.{Drop, after}
 use Rattle.alp_files.proofs.SameLemmas.{same_file-true, same_file-itself}
 use Rattle.alp_volume.specs.declared.catalog.Catalog.{Catalog}
 use Rattle.alp_volume.specs.declared.file_slot.FileSlot.{FileSlot}
-use Rattle.alp_volume.specs.Changes.{HasSlot, is_of, volume_without}
-use Rattle.alp_volume.specs.Counted.{bit}
+use Rattle.alp_pages.specs.Changes.{HasSlot, is_of, volume_without}
+use Rattle.alp_pages.specs.Counted.{bit}
 use Rattle.alp_volume.specs.Drafts.{Changed, IsDraft, laid, page_or}
 use Rattle.alp_volume.specs.Known.{IsCatalog, Knows, leader_of}
-use Rattle.alp_volume.specs.Naming.{unless, without}
-use Rattle.alp_volume.specs.Nodes.{Node, LeaderOf, IndexOf, DataOf, file_of}
-use Rattle.alp_volume.specs.Pages.{Pages, written}
+use Rattle.alp_pages.specs.Naming.{unless, without}
+use Rattle.alp_pages.specs.Nodes.{Node, LeaderOf, IndexOf, DataOf, file_of}
+use Rattle.alp_pages.specs.Pages.{Pages, written}
 use Rattle.alp_volume.specs.Reached.{Files, slot_of}
 use Rattle.alp_volume.specs.Undone.{with_place, with_slot, without_file}
-use Rattle.alp_volume.specs.Volume.{Volume, Spells}
-use Rattle.alp_volume.proofs.ChangeLaws.{file_gone}
+use Rattle.alp_pages.specs.Volume.{Volume, Spells}
+use Rattle.alp_pages.proofs.ChangeLaws.{file_gone}
 use Rattle.alp_volume.proofs.CutDraft.{same_turned}
 use Rattle.alp_volume.proofs.KnowsLaws.{leader_there, slot_there}
 use Rattle.alp_volume.proofs.LaidLaws.{laid_put, numbers_alike}
-use Rattle.alp_volume.proofs.NodeTests.{leaders_alike}
+use Rattle.alp_pages.proofs.NodeTests.{leaders_alike}
 use Rattle.alp_volume.proofs.Tables.{files_total}
-use Rattle.alp_volume.proofs.UniqueLaws.{some_is}
-use Rattle.alp_volume.proofs.UnnamedLaws.{unnamed}
+use Rattle.alp_pages.proofs.UniqueLaws.{some_is}
+use Rattle.alp_pages.proofs.UnnamedLaws.{unnamed}
 
 -- what a table of files has without one
 pub got_without : (files : Files) (f g : FileId) → map.get (map.remove files f) g ≡ cond (same_file f g) None (map.get files g)

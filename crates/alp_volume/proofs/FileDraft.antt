@@ -16,24 +16,24 @@ use Rattle.alp_leader.specs.declared.leader.Leader.{Leader as LeaderRecord}
 use Rattle.alp_leader.specs.Leader.{leader_page}
 use Rattle.alp_volume.specs.declared.catalog.Catalog.{Catalog}
 use Rattle.alp_volume.specs.declared.file_slot.FileSlot.{FileSlot}
-use Rattle.alp_volume.specs.Changes.{HasSlot, IsFree, volume_with_file}
-use Rattle.alp_volume.specs.Counted.{bit}
+use Rattle.alp_pages.specs.Changes.{HasSlot, IsFree, volume_with_file}
+use Rattle.alp_pages.specs.Counted.{bit}
 use Rattle.alp_volume.specs.Drafts.{Changed, IsDraft, laid}
 use Rattle.alp_volume.specs.Known.{IsCatalog, Knows, leader_of}
-use Rattle.alp_volume.specs.Nodes.{LeaderOf, IndexOf, DataOf, same_node}
-use Rattle.alp_volume.specs.Pages.{Pages, written}
+use Rattle.alp_pages.specs.Nodes.{LeaderOf, IndexOf, DataOf, same_node}
+use Rattle.alp_pages.specs.Pages.{Pages, written}
 use Rattle.alp_volume.specs.Reached.{slot_of}
 use Rattle.alp_volume.specs.Undone.{with_file, with_place, with_slot}
-use Rattle.alp_volume.specs.Volume.{Volume, Spells}
+use Rattle.alp_pages.specs.Volume.{Volume, Spells}
 use Rattle.alp_volume.proofs.DraftLaws.{put_laid}
-use Rattle.alp_volume.proofs.FetchLaws.{is_none}
-use Rattle.alp_volume.proofs.FileLaws.{file_added}
+use Rattle.alp_pages.proofs.FetchLaws.{is_none}
+use Rattle.alp_pages.proofs.FileLaws.{file_added}
 use Rattle.alp_volume.proofs.KnowsLaws.{named_taken, head_taken}
 use Rattle.alp_volume.proofs.LaidLaws.{laid_put}
 use Rattle.alp_volume.proofs.ListLaws.{got}
 use Rattle.alp_volume.proofs.MarkLaws.{free_within}
 use Rattle.alp_volume.proofs.PutLaws.{free_place}
-use Rattle.alp_volume.proofs.UniqueLaws.{some_is}
+use Rattle.alp_pages.proofs.UniqueLaws.{some_is}
 
 module _ (home : ℕ) (base : Pages) (old : Changed) (m : View) (c : Catalog) (d : IsDraft home (laid old base) m c) (sized : IsCatalog home c) (f : FileId) (none : map.get c.files f ≡ None) (p slot : ℕ) (free_p : slice_index_or c.places p true ≡ false) (free_s : slice_index_or c.slots slot true ≡ false)
     (no_pages : (n : ℕ) → m (PageOf f n) ≡ None) where

@@ -14,7 +14,7 @@ use Rattle.alp_files.proofs.SameLemmas.{same_file-true}
 use Rattle.alp_volume.specs.declared.catalog.Catalog.{Catalog}
 use Rattle.alp_volume.specs.Drafts.{HasNoneFrom, HaveLeaders, IsDraft}
 use Rattle.alp_volume.specs.Known.{leader_of}
-use Rattle.alp_volume.specs.Pages.{Pages}
+use Rattle.alp_pages.specs.Pages.{Pages}
 
 none_there : (o : Option Cell) → is_some o ≡ false → o ≡ None
 none_there None h = refl

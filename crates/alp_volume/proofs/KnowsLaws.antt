@@ -13,18 +13,18 @@ use Rattle.alp_leader.specs.declared.leader.Leader.{Leader as LeaderRecord}
 use Rattle.alp_leader.specs.Leader.{leader_page}
 use Rattle.alp_volume.specs.declared.catalog.Catalog.{Catalog}
 use Rattle.alp_volume.specs.declared.file_slot.FileSlot.{FileSlot}
-use Rattle.alp_volume.specs.Counted.{bit}
+use Rattle.alp_pages.specs.Counted.{bit}
 use Rattle.alp_volume.specs.Known.{Knows, leader_of}
-use Rattle.alp_volume.specs.Naming.{Naming, named, number_or_0}
-use Rattle.alp_volume.specs.Nodes.{Node, LeaderOf, IndexOf, DataOf, same_node}
-use Rattle.alp_volume.specs.Pages.{Pages}
+use Rattle.alp_pages.specs.Naming.{Naming, named, number_or_0}
+use Rattle.alp_pages.specs.Nodes.{Node, LeaderOf, IndexOf, DataOf, same_node}
+use Rattle.alp_pages.specs.Pages.{Pages}
 use Rattle.alp_volume.specs.Reached.{Files, slot_of}
-use Rattle.alp_volume.specs.Rows.{SpellsRow}
-use Rattle.alp_volume.specs.Volume.{Volume, Spells, nodes, row_of_node}
-use Rattle.alp_volume.proofs.LeaderLaws.{ReadsLeader, reads_leader}
+use Rattle.alp_pages.specs.Rows.{SpellsRow}
+use Rattle.alp_pages.specs.Volume.{Volume, Spells, nodes, row_of_node}
+use Rattle.alp_pages.proofs.LeaderLaws.{ReadsLeader, reads_leader}
 use Rattle.alp_volume.proofs.ListLaws.{got}
-use Rattle.alp_volume.proofs.NamingLaws.{eqb_other}
-use Rattle.alp_volume.proofs.UniqueLaws.{some_is}
+use Rattle.alp_pages.proofs.NamingLaws.{eqb_other}
+use Rattle.alp_pages.proofs.UniqueLaws.{some_is}
 
 -- a number that is taken is that of what stands there now
 pub named_taken : {K : Type 0} (same : K → K → Bool) (flags : List Bool) (n : Naming K) (k : K) (p q : ℕ) → p < length flags → slice_index_or flags q true ≡ is_some (n.at q) → slice_index_or (slice_set flags p true) q true ≡ is_some ((named same k p n).at q)

@@ -8,7 +8,7 @@ use Rattle.std.proofs.Common.{◌≡◌, ℕ, List, refl, sym, ◌∙◌, ap, eq
 use Rattle.std.proofs.lemmas.Bool.{eqb-true}
 use Rattle.std.proofs.lemmas.Cmp.{eq_by_cmp_equiv}
 use Rattle.std.proofs.lemmas.Map.Views.{tells_apart}
-use Rattle.alp_volume.specs.Pages.{Pages, written}
+use Rattle.alp_pages.specs.Pages.{Pages, written}
 use Rattle.alp_volume.specs.Drafts.{Changed, laid, page_or}
 
 pub numbers_alike : (a b : ℕ) → eq_by_cmp nat_cmp a b ≡ (a == b)

@@ -22,10 +22,10 @@ use Rattle.alp_leader.specs.Leader.{leader_page}
 use Rattle.alp_volume.specs.declared.catalog.Catalog.{Catalog}
 use Rattle.alp_volume.specs.Drafts.{ArePaged, Changed, HaveLeaders, IsDraft, IsPlanned, laid, page_or}
 use Rattle.alp_volume.specs.Known.{Knows}
-use Rattle.alp_volume.specs.Nodes.{LeaderOf}
-use Rattle.alp_volume.specs.Pages.{Pages}
-use Rattle.alp_volume.specs.Volume.{Spells, StandFor, props_cell}
-use Rattle.alp_volume.proofs.LeaderLaws.{leader_size}
+use Rattle.alp_pages.specs.Nodes.{LeaderOf}
+use Rattle.alp_pages.specs.Pages.{Pages}
+use Rattle.alp_pages.specs.Volume.{Spells, StandFor, props_cell}
+use Rattle.alp_pages.proofs.LeaderLaws.{leader_size}
 
 -- a page that stands has a leader whose size is above its number
 paged : (m : View) → AreFiles m → (f : FileId) (n : ℕ) (o : Option Cell) → m (PageOf f n) ≡ o → is_some o ≡ true → (p : Props) × (m (Leader f) ≡ Some (cell.Leader p)) × (n < p.size)

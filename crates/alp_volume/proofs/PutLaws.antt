@@ -11,21 +11,21 @@ use Rattle.alp_files.specs.declared.cell.Cell.TheVariants as cell
 use Rattle.alp_files.specs.Cells.{View}
 use Rattle.alp_files.specs.Edits.{Put, after}
 use Rattle.alp_volume.specs.declared.catalog.Catalog.{Catalog}
-use Rattle.alp_volume.specs.Changes.{volume_with}
+use Rattle.alp_pages.specs.Changes.{volume_with}
 use Rattle.alp_volume.specs.Drafts.{Changed, IsDraft, laid}
 use Rattle.alp_volume.specs.Known.{IsCatalog, Knows}
-use Rattle.alp_volume.specs.Naming.{number_or_0}
-use Rattle.alp_volume.specs.Nodes.{Node, LeaderOf, IndexOf, DataOf}
-use Rattle.alp_volume.specs.Pages.{Pages, written, index_page, has_a_place}
-use Rattle.alp_volume.specs.Rows.{SpellsRow}
-use Rattle.alp_volume.specs.Volume.{Volume, Spells, nodes}
-use Rattle.alp_volume.proofs.NamingLaws.{eqb_other}
-use Rattle.alp_volume.proofs.FetchLaws.{is_none}
-use Rattle.alp_volume.proofs.IndexLaws.{index_length}
+use Rattle.alp_pages.specs.Naming.{number_or_0}
+use Rattle.alp_pages.specs.Nodes.{Node, LeaderOf, IndexOf, DataOf}
+use Rattle.alp_pages.specs.Pages.{Pages, written, index_page, has_a_place}
+use Rattle.alp_pages.specs.Rows.{SpellsRow}
+use Rattle.alp_pages.specs.Volume.{Volume, Spells, nodes}
+use Rattle.alp_pages.proofs.NamingLaws.{eqb_other}
+use Rattle.alp_pages.proofs.FetchLaws.{is_none}
+use Rattle.alp_pages.proofs.IndexLaws.{index_length}
 use Rattle.alp_volume.proofs.MarkLaws.{free_within}
-use Rattle.alp_volume.proofs.UniqueLaws.{some_is, number}
-use Rattle.alp_volume.proofs.ChangeLaws.{page_put}
-use Rattle.alp_volume.proofs.GrowLaws.{page_added}
+use Rattle.alp_pages.proofs.UniqueLaws.{some_is, number}
+use Rattle.alp_pages.proofs.ChangeLaws.{page_put}
+use Rattle.alp_pages.proofs.GrowLaws.{page_added}
 use Rattle.alp_volume.proofs.DraftLaws.{put_laid}
 use Rattle.alp_volume.proofs.LaidLaws.{laid_put}
 

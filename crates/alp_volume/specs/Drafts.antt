@@ -11,9 +11,9 @@ use Rattle.alp_leader.specs.declared.leader.Leader.{Leader as LeaderRecord}
 use Rattle.alp_leader.specs.Leader.{leader_page}
 use Rattle.alp_volume.specs.declared.catalog.Catalog.{Catalog}
 use Rattle.alp_volume.specs.Known.{IsCatalog, Knows}
-use Rattle.alp_volume.specs.Nodes.{LeaderOf}
-use Rattle.alp_volume.specs.Pages.{Pages}
-use Rattle.alp_volume.specs.Volume.{Volume, Spells, StandFor}
+use Rattle.alp_pages.specs.Nodes.{LeaderOf}
+use Rattle.alp_pages.specs.Pages.{Pages}
+use Rattle.alp_pages.specs.Volume.{Volume, Spells, StandFor}
 
 -- pages that a change has made, by their places
 abbrev pub Changed : Type 0

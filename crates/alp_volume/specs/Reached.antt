@@ -11,13 +11,13 @@ use Rattle.alp_files.specs.declared.cell.OwnerRecord.{OwnerRecord}
 use Rattle.alp_files.specs.Cells.{same_name}
 use Rattle.alp_leader.specs.declared.leader.Leader.{Leader}
 use Rattle.alp_volume.specs.declared.cost.Cost.{Cost}
-use Rattle.alp_volume.specs.declared.entry.Entry.{Entry}
+use Rattle.alp_pages.specs.declared.entry.Entry.{Entry}
 use Rattle.alp_volume.specs.declared.file_slot.FileSlot.{FileSlot}
-use Rattle.alp_volume.specs.Counted.{bit}
-use Rattle.alp_volume.specs.Nodes.{Node, LeaderOf, IndexOf, DataOf}
-use Rattle.alp_volume.specs.Pages.{Pages, entry_in, row_in}
-use Rattle.alp_volume.specs.Volume.{child_of}
-use Rattle.alp_volume.specs.Damage.{Part, index_part, leader_at, cost_of, charge_in, Slot, OwnerRow, Name, parts_of, entry_there, owner_there, has_node, has_place, is_named, first_wrong, names_after}
+use Rattle.alp_pages.specs.Counted.{bit}
+use Rattle.alp_pages.specs.Nodes.{Node, LeaderOf, IndexOf, DataOf}
+use Rattle.alp_pages.specs.Pages.{Pages, entry_in, row_in}
+use Rattle.alp_pages.specs.Volume.{child_of}
+use Rattle.alp_pages.specs.Damage.{Part, index_part, leader_at, cost_of, charge_in, Slot, OwnerRow, Name, parts_of, entry_there, owner_there, has_node, has_place, is_named, first_wrong, names_after}
 
 -- files and owners as tables
 abbrev pub Files : Type 0

@@ -7,21 +7,21 @@ ghost use Rattle.alp_files.specs.Edits.{after, edits_map};
 ghost use Rattle.alp_files.specs.Sound.{AreSound};
 ghost use Rattle.alp_files.specs.Undo.{puts_of};
 ghost use Rattle.alp_vault.specs.Volumes.{changed_cells, fit_keys};
-ghost use Rattle.alp_volume.specs.Changes.{cuts_of, drops_of};
+ghost use Rattle.alp_pages.specs.Changes.{cuts_of, drops_of};
 ghost use Rattle.alp_volume.specs.Drafts.{ArePaged, HaveLeaders, IsDraft, IsPlanned, laid};
 ghost use Rattle.alp_volume.specs.Known.{IsCatalog, Knows};
 ghost use Rattle.alp_volume.specs.Puts.{HaveLeadersPut, head_pages, heads_made, page_pages, pages_made};
-ghost use Rattle.alp_volume.specs.Reading.{HasRead};
+ghost use Rattle.alp_pages.specs.Reading.{HasRead};
 ghost use Rattle.alp_volume.specs.Undone.{Leads, LeadsOn};
-ghost use Rattle.alp_volume.specs.Volume.{StandFor};
+ghost use Rattle.alp_pages.specs.Volume.{StandFor};
 
 use crate::catalog::Catalog;
 use crate::cut_file::{cut_file, drop_file};
 use crate::draft::Draft;
 use crate::put_cell::{put_head, put_late};
-use crate::reader::PageReader;
 use alp_base::{FileId, Key, VaultFault};
 use alp_files::{Cell, Change};
+use alp_pages::PageReader;
 use alp_vault::HEAD_PAGES;
 use std::alloc::Global;
 

@@ -5,25 +5,24 @@ ghost use Rattle.std.specs.FinMap as map;
 ghost use Rattle.alp_fields.specs.Forms.{whole};
 ghost use Rattle.alp_leader.specs.Leader.{leader_page};
 ghost use Rattle.alp_volume.specs.declared.file_slot.FileSlot.{FileSlot as ASlot};
-ghost use Rattle.alp_volume.specs.Counted.{bit};
+ghost use Rattle.alp_pages.specs.Counted.{bit};
 ghost use Rattle.alp_files.specs.Cells.{View};
 ghost use Rattle.alp_files.specs.Edits.{Cut, after};
 ghost use Rattle.alp_volume.specs.Drafts.{HasNoneFrom, IsCutting, laid, len_beside};
 ghost use Rattle.alp_volume.specs.Known.{IsCatalog};
-ghost use Rattle.alp_volume.specs.Pages.{Pages as PagesOf, index_page};
-ghost use Rattle.alp_volume.specs.Reading.{HasRead};
+ghost use Rattle.alp_pages.specs.Pages.{Pages as PagesOf, index_page};
+ghost use Rattle.alp_pages.specs.Reading.{HasRead};
 ghost use Rattle.alp_volume.specs.Undone.{AreFreeable, AreFreed, LeadsOn, with_file, with_place};
 
 use crate::blocks::blocks_of;
 use crate::catalog::Catalog;
 use crate::draft::Draft;
-use crate::index::IndexPlaces;
 use crate::put_leader::leader_page_of;
 use crate::put_page::draft_index;
-use crate::reader::PageReader;
 use crate::undo::Undo;
 use alp_base::{FileId, OutOfMemory, PAGES_PER_FILE, VaultFault};
 use alp_leader::Leader;
+use alp_pages::{IndexPlaces, PageReader};
 use alp_vault::HEAD_PAGES;
 
 // Frees the place of a page of the block, if it has one.

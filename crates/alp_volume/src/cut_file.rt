@@ -8,8 +8,8 @@ ghost use Rattle.alp_leader.specs.declared.leader.Leader.{Leader as LeaderValue}
 ghost use Rattle.alp_volume.specs.declared.file_slot.FileSlot.{FileSlot as ASlot};
 ghost use Rattle.alp_volume.specs.Drafts.{HasNoneFrom, HaveLeaders, IsCutting, IsDraft, laid};
 ghost use Rattle.alp_volume.specs.Known.{IsCatalog};
-ghost use Rattle.alp_volume.specs.Nodes.{LeaderOf};
-ghost use Rattle.alp_volume.specs.Reading.{HasRead};
+ghost use Rattle.alp_pages.specs.Nodes.{LeaderOf};
+ghost use Rattle.alp_pages.specs.Reading.{HasRead};
 ghost use Rattle.alp_volume.specs.Undone.{LeadsOn, with_place, with_slot, without_file};
 
 use crate::catalog::Catalog;
@@ -17,9 +17,9 @@ use crate::cut_block::cut_block;
 use crate::draft::Draft;
 use crate::put_file::entry_page;
 use crate::put_leader::draft_leader;
-use crate::reader::PageReader;
 use alp_base::{FileId, OutOfMemory, PAGES_PER_FILE, Page, VaultFault};
 use alp_leader::Leader;
+use alp_pages::PageReader;
 use alp_vault::HEAD_PAGES;
 use std::alloc::Global;
 

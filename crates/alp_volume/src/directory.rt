@@ -2,18 +2,16 @@
 ghost use Rattle.std.specs.Prelude.{◌≡◌, ◌≤◌, ◌<◌, ℕ, List, length, nat_eq, IsTrue, IfOk};
 ghost use Rattle.std.specs.FinMap as map;
 ghost use Rattle.std.specs.Cmp.Lexicographic.{pointwise};
-ghost use Rattle.alp_volume.specs.Pages.{entry_in, header_page};
-ghost use Rattle.alp_volume.specs.Damage.{Name};
+ghost use Rattle.alp_pages.specs.Pages.{entry_in, header_page};
+ghost use Rattle.alp_pages.specs.Damage.{Name};
 ghost use Rattle.alp_volume.specs.Reached.{AreListed, AreMarks, IsJudged, slots_from};
-ghost use Rattle.alp_volume.specs.Reading.{HasRead};
+ghost use Rattle.alp_pages.specs.Reading.{HasRead};
 ghost use Rattle.alp_volume.specs.Known.{IsCatalog};
 
 use crate::catalog::Catalog;
-use crate::entry::{Entry, entry_at};
-use crate::header::new_header;
-use crate::reader::PageReader;
 use crate::take_in::add_entry;
 use alp_base::VaultFault;
+use alp_pages::{Entry, PageReader, entry_at, new_header};
 use alp_vault::HEAD_PAGES;
 
 /// Whether the first page is the header of a volume.

@@ -2,12 +2,12 @@
 ghost use Rattle.std.specs.Prelude.{◌≡◌, ◌<◌, ◌≤◌, ◌+◌, [], IsTrue, IfOk, OnOk, OnErr};
 ghost use Rattle.std.specs.FinMap as map;
 ghost use Rattle.alp_volume.specs.Drafts.{laid};
-ghost use Rattle.alp_volume.specs.Reading.{HasRead};
+ghost use Rattle.alp_pages.specs.Reading.{HasRead};
 
-use crate::reader::PageReader;
 use crate::sheets::Sheets;
 use crate::undo::Undo;
 use alp_base::{OutOfMemory, Page, PageRef, VaultFault};
+use alp_pages::PageReader;
 use std::alloc::Global;
 
 /// The pages that a change has made so far.

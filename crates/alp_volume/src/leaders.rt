@@ -4,9 +4,9 @@ ghost use Rattle.std.specs.FinMap as map;
 ghost use Rattle.alp_fields.specs.Forms.{whole};
 ghost use Rattle.alp_leader.specs.Leader.{leader_page};
 ghost use Rattle.alp_volume.specs.declared.file_slot.FileSlot.{FileSlot as ASlot};
-ghost use Rattle.alp_volume.specs.Nodes.{LeaderOf};
-ghost use Rattle.alp_volume.specs.Pages.{Pages as PagesOf};
-ghost use Rattle.alp_volume.specs.Damage.{Name, NodePage, added, is_right, names_in};
+ghost use Rattle.alp_pages.specs.Nodes.{LeaderOf};
+ghost use Rattle.alp_pages.specs.Pages.{Pages as PagesOf};
+ghost use Rattle.alp_pages.specs.Damage.{Name, NodePage, added, is_right, names_in};
 ghost use Rattle.alp_volume.specs.Reached.{AreFresh, AreMarks, AreOwners, IsKept};
 ghost use Rattle.alp_volume.specs.Known.{IsCatalog};
 

@@ -1,9 +1,9 @@
 //! Places that are marked as pages name them.
 ghost use Rattle.std.specs.Prelude.{◌≡◌, ◌<◌, ℕ, ◌&&◌, ◌⊎◌, true, false, length, List, Some, slice_index};
 ghost use Rattle.std.specs.Option.{option_to_list};
-ghost use Rattle.alp_volume.specs.Nodes.{Node};
-ghost use Rattle.alp_volume.specs.Volume.{child_of};
-ghost use Rattle.alp_volume.specs.Damage.{Name, added, are_new, child_name, has_node, is_below, is_within, names_of};
+ghost use Rattle.alp_pages.specs.Nodes.{Node};
+ghost use Rattle.alp_pages.specs.Volume.{child_of};
+ghost use Rattle.alp_pages.specs.Damage.{Name, added, are_new, child_name, has_node, is_below, is_within, names_of};
 ghost use Rattle.alp_volume.specs.Reached.{AreFresh, AreMarks, Stays};
 
 use crate::free::Free;

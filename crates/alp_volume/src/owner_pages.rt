@@ -1,19 +1,17 @@
 //! Reading the owners' pages.
 ghost use Rattle.std.specs.Prelude.{◌≡◌, ◌≤◌, ◌<◌, ◌+◌, ℕ, List, length, IsTrue, IfOk, true, false};
 ghost use Rattle.std.specs.FinMap as map;
-ghost use Rattle.alp_volume.specs.Pages.{Pages as PagesOf, row_in};
-ghost use Rattle.alp_volume.specs.Damage.{Name, is_right_row};
+ghost use Rattle.alp_pages.specs.Pages.{Pages as PagesOf, row_in};
+ghost use Rattle.alp_pages.specs.Damage.{Name, is_right_row};
 ghost use Rattle.alp_volume.specs.Reached.{AreCosts, AreOwners, IsJudged, rows_from};
-ghost use Rattle.alp_volume.specs.Reading.{HasRead};
+ghost use Rattle.alp_pages.specs.Reading.{HasRead};
 ghost use Rattle.alp_volume.specs.Known.{IsCatalog};
 
 use crate::catalog::Catalog;
 use crate::cost::Cost;
 use crate::costs::charge_of;
-use crate::fetch::read_row;
-use crate::owners::OwnerRow;
-use crate::reader::PageReader;
 use alp_base::VaultFault;
+use alp_pages::{OwnerRow, PageReader, read_row};
 use alp_vault::HEAD_PAGES;
 use std::alloc::Global;
 

@@ -8,23 +8,22 @@ ghost use Rattle.alp_files.specs.Cells.{View};
 ghost use Rattle.alp_files.specs.Edits.{Put, after};
 ghost use Rattle.alp_leader.specs.Leader.{leader_page};
 ghost use Rattle.alp_volume.specs.declared.file_slot.FileSlot.{FileSlot as ASlot};
-ghost use Rattle.alp_volume.specs.Changes.{NamesOne};
+ghost use Rattle.alp_pages.specs.Changes.{NamesOne};
 ghost use Rattle.alp_volume.specs.Drafts.{IsDraft, laid};
 ghost use Rattle.alp_volume.specs.Known.{IsCatalog};
-ghost use Rattle.alp_volume.specs.Nodes.{IndexOf};
-ghost use Rattle.alp_volume.specs.Pages.{Pages as PagesOf};
-ghost use Rattle.alp_volume.specs.Reading.{HasRead};
+ghost use Rattle.alp_pages.specs.Nodes.{IndexOf};
+ghost use Rattle.alp_pages.specs.Pages.{Pages as PagesOf};
+ghost use Rattle.alp_pages.specs.Reading.{HasRead};
 ghost use Rattle.alp_volume.specs.Undone.{LeadsOn};
 
 use crate::blocks::blocks_of;
 use crate::catalog::Catalog;
 use crate::draft::Draft;
-use crate::index::IndexPlaces;
 use crate::put_leader::{draft_leader, leader_page_of};
 use crate::put_page::put_in_block;
-use crate::reader::PageReader;
 use alp_base::{FileId, OutOfMemory, PAGES_PER_FILE, Page, PageRef, VaultFault};
 use alp_leader::Leader;
+use alp_pages::{IndexPlaces, PageReader};
 use std::alloc::Global;
 
 // An index page that names one place.

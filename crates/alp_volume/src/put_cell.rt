@@ -10,7 +10,7 @@ ghost use Rattle.alp_vault.specs.Volumes.{fits_key};
 ghost use Rattle.alp_volume.specs.Drafts.{HaveLeaders, IsDraft, laid};
 ghost use Rattle.alp_volume.specs.Known.{IsCatalog};
 ghost use Rattle.alp_volume.specs.Puts.{HasLeader, head_made, head_pages, page_made, page_pages};
-ghost use Rattle.alp_volume.specs.Reading.{HasRead};
+ghost use Rattle.alp_pages.specs.Reading.{HasRead};
 ghost use Rattle.alp_volume.specs.Undone.{LeadsOn};
 
 use crate::catalog::Catalog;
@@ -19,9 +19,9 @@ use crate::put_block::put_page;
 use crate::put_file::put_new_leader;
 use crate::put_leader::put_known_leader;
 use crate::put_owner::{put_known_owner, put_new_owner};
-use crate::reader::PageReader;
 use alp_base::{FileId, Key, Name, PAGES_PER_FILE, PageRef, VaultFault};
 use alp_files::{Cell, OwnerRecord, Props};
+use alp_pages::PageReader;
 use alp_vault::HEAD_PAGES;
 use std::alloc::Global;
 

@@ -10,15 +10,14 @@ ghost use Rattle.alp_files.specs.Edits.{Put, after};
 ghost use Rattle.alp_leader.specs.Leader.{leader_page};
 ghost use Rattle.alp_volume.specs.declared.catalog.Catalog.{Catalog as ACatalog};
 ghost use Rattle.alp_volume.specs.Drafts.{IsDraft, laid};
-ghost use Rattle.alp_volume.specs.Nodes.{LeaderOf};
-ghost use Rattle.alp_volume.specs.Reading.{HasRead};
+ghost use Rattle.alp_pages.specs.Nodes.{LeaderOf};
+ghost use Rattle.alp_pages.specs.Reading.{HasRead};
 
 use crate::draft::Draft;
-use crate::fetch::copy_of;
-use crate::reader::PageReader;
 use alp_base::{OutOfMemory, PAGES_PER_FILE, Page, VaultFault};
 use alp_files::Props;
 use alp_leader::{Leader, decode_leader, encode_leader};
+use alp_pages::{PageReader, copy_of};
 use std::alloc::Global;
 
 /// The leader at a place, as the change has it.

@@ -6,18 +6,17 @@ ghost use Rattle.alp_files.specs.declared.cell.Cell.TheVariants.{Owner as OwnerC
 ghost use Rattle.alp_files.specs.Cells.{View};
 ghost use Rattle.alp_files.specs.Edits.{Put, after};
 ghost use Rattle.alp_volume.specs.declared.catalog.Catalog.{Catalog as ACatalog};
-ghost use Rattle.alp_volume.specs.Changes.{HasRow};
+ghost use Rattle.alp_pages.specs.Changes.{HasRow};
 ghost use Rattle.alp_volume.specs.Drafts.{IsDraft, laid};
 ghost use Rattle.alp_volume.specs.Known.{IsCatalog};
-ghost use Rattle.alp_volume.specs.Reading.{HasRead};
+ghost use Rattle.alp_pages.specs.Reading.{HasRead};
 ghost use Rattle.alp_volume.specs.Undone.{LeadsOn};
 
 use crate::catalog::Catalog;
 use crate::draft::Draft;
-use crate::owners::set_owner;
-use crate::reader::PageReader;
 use alp_base::{OutOfMemory, Page, VaultFault};
 use alp_files::OwnerRecord;
+use alp_pages::{PageReader, set_owner};
 use alp_vault::HEAD_PAGES;
 
 // Writes the record into a row.

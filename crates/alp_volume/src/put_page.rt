@@ -9,16 +9,15 @@ ghost use Rattle.alp_files.specs.Cells.{View};
 ghost use Rattle.alp_files.specs.Edits.{Put, after};
 ghost use Rattle.alp_volume.specs.Drafts.{IsDraft, laid};
 ghost use Rattle.alp_volume.specs.Known.{IsCatalog};
-ghost use Rattle.alp_volume.specs.Nodes.{IndexOf};
-ghost use Rattle.alp_volume.specs.Pages.{Pages as PagesOf, index_page};
-ghost use Rattle.alp_volume.specs.Reading.{HasRead};
+ghost use Rattle.alp_pages.specs.Nodes.{IndexOf};
+ghost use Rattle.alp_pages.specs.Pages.{Pages as PagesOf, index_page};
+ghost use Rattle.alp_pages.specs.Reading.{HasRead};
 ghost use Rattle.alp_volume.specs.Undone.{LeadsOn};
 
 use crate::catalog::Catalog;
 use crate::draft::Draft;
-use crate::index::{IndexPlaces, decode_index};
-use crate::reader::PageReader;
 use alp_base::{OutOfMemory, PageRef, VaultFault};
+use alp_pages::{IndexPlaces, PageReader, decode_index};
 
 // The places that an index page names, as the change has it.
 pub(crate) fn draft_index<R: PageReader>(

@@ -3,19 +3,19 @@ ghost use Rattle.std.specs.Prelude.{◌≡◌, ◌≤◌, ◌<◌, ℕ, List, []
 ghost use Rattle.std.specs.FinMap as map;
 ghost use Rattle.alp_base.specs.declared.faults.VaultFault.TheVariants as fault;
 ghost use Rattle.alp_files.specs.Cells.{Cells};
-ghost use Rattle.alp_volume.specs.Volume.{StandFor};
-ghost use Rattle.alp_volume.specs.Damage.{Header, Name, damage_of, parts};
+ghost use Rattle.alp_pages.specs.Volume.{StandFor};
+ghost use Rattle.alp_pages.specs.Damage.{Header, Name, damage_of, parts};
 ghost use Rattle.alp_volume.specs.Reached.{AreListed, AreMarks, AreOwners, AreWithin, IsJudged, rows_from, slots_from};
 ghost use Rattle.alp_volume.specs.Known.{IsBlank, IsCatalog, IsRead, Knows};
-ghost use Rattle.alp_volume.specs.Reading.{HasRead, HasReadAll};
+ghost use Rattle.alp_pages.specs.Reading.{HasRead, HasReadAll};
 
 use crate::catalog::Catalog;
 use crate::charges::read_costs;
 use crate::directory::{read_directory, read_header};
 use crate::owner_pages::read_owners;
-use crate::reader::PageReader;
 use crate::volume_files::read_files;
 use alp_base::{OutOfMemory, VaultFault};
+use alp_pages::PageReader;
 use alp_vault::HEAD_PAGES;
 use std::alloc::Global;
 

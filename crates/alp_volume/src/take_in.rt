@@ -1,14 +1,14 @@
 //! Taking into memory what single entries, rows and leaders say, unless they are outside the grammar.
 ghost use Rattle.std.specs.Prelude.{◌≡◌, ◌≤◌, ◌<◌, ◌+◌, ℕ, List, length, true, false, Some, Option};
 ghost use Rattle.std.specs.FinMap as map;
-ghost use Rattle.alp_volume.specs.Pages.{Pages as PagesOf, entry_in};
-ghost use Rattle.alp_volume.specs.Damage.{Name, Slot, added, names_in, is_right};
+ghost use Rattle.alp_pages.specs.Pages.{Pages as PagesOf, entry_in};
+ghost use Rattle.alp_pages.specs.Damage.{Name, Slot, added, names_in, is_right};
 ghost use Rattle.alp_volume.specs.Reached.{AreListed, AreMarks};
 ghost use Rattle.alp_volume.specs.Known.{IsCatalog};
 
 use crate::catalog::Catalog;
-use crate::entry::Entry;
 use crate::file_slot::FileSlot;
+use alp_pages::Entry;
 
 // A file with its entry, unless it or its place is known.
 fn add_file(catalog: &mut Catalog, slot: u32, entry: Entry) -> bool

@@ -6,6 +6,10 @@ use super::*;
 use alp_base::{AccessList, FileId, Name, OutOfMemory, Page, PageRef, VaultFault};
 use alp_files::{OwnerRecord, Props};
 use alp_leader::{Leader, Places, encode_leader};
+use alp_pages::{
+    Entry, PageReader, clear_entry, decode_index, entry_at, fetch_block, fetch_leader, fetch_owner,
+    fetch_page, new_header, owner_at, set_entry, set_owner,
+};
 use std::alloc::Global;
 use std::test::*;
 

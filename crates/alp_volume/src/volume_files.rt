@@ -2,22 +2,20 @@
 ghost use Rattle.std.specs.Prelude.{◌≡◌, ◌≤◌, ◌<◌, ◌+◌, ℕ, List, length, IsTrue, IfOk, None, Some};
 ghost use Rattle.std.specs.FinMap as map;
 ghost use Rattle.alp_volume.specs.declared.file_slot.FileSlot.{FileSlot as ASlot};
-ghost use Rattle.alp_volume.specs.Nodes.{LeaderOf};
-ghost use Rattle.alp_volume.specs.Pages.{entry_in};
-ghost use Rattle.alp_volume.specs.Volume.{row_of_node};
-ghost use Rattle.alp_volume.specs.Damage.{Name, entry_there, parts_of, row_there};
+ghost use Rattle.alp_pages.specs.Nodes.{LeaderOf};
+ghost use Rattle.alp_pages.specs.Pages.{entry_in};
+ghost use Rattle.alp_pages.specs.Volume.{row_of_node};
+ghost use Rattle.alp_pages.specs.Damage.{Name, entry_there, parts_of, row_there};
 ghost use Rattle.alp_volume.specs.Reached.{AreListed, AreMarks, AreNamed, AreOwners, IsJudged, IsKept, IsUnread, files_from};
-ghost use Rattle.alp_volume.specs.Reading.{HasRead};
+ghost use Rattle.alp_pages.specs.Reading.{HasRead};
 ghost use Rattle.alp_volume.specs.Known.{IsCatalog};
 
 use crate::catalog::Catalog;
 use crate::directory::read_slot;
-use crate::entry::Entry;
-use crate::fetch::read_leader;
 use crate::file_pages::read_blocks;
 use crate::leaders::add_leader;
-use crate::reader::PageReader;
 use alp_base::VaultFault;
+use alp_pages::{Entry, PageReader, read_leader};
 use alp_vault::HEAD_PAGES;
 use std::alloc::Global;
 

@@ -8,10 +8,10 @@ use Rattle.alp_files.specs.Changes.{edits_of}
 use Rattle.alp_files.specs.Edits.{after}
 use Rattle.alp_files.specs.Undo.{puts_of}
 use Rattle.alp_files.proofs.EditLemmas.{after-append}
-use Rattle.alp_volume.specs.Changes.{cuts_of, drops_of}
+use Rattle.alp_pages.specs.Changes.{cuts_of, drops_of}
 use Rattle.alp_volume.specs.Drafts.{ArePaged, IsDraft, laid}
 use Rattle.alp_volume.specs.Known.{IsCatalog}
-use Rattle.alp_volume.specs.Pages.{Pages}
+use Rattle.alp_pages.specs.Pages.{Pages}
 use Rattle.alp_volume.proofs.change.make_change.Goals as goal
 
 pub make_puts-requires-clause-sized : goal.make_puts-requires-clause-sized

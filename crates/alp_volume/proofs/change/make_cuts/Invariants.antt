@@ -3,10 +3,10 @@ use Rattle.std.specs.FinMap as map
 use Rattle.std.proofs.Common.{◌≡◌, ◌≤◌, ◌+◌, ◌*◌, length, sum_by, drop}
 use Rattle.alp_files.specs.Cells.{View}
 use Rattle.alp_files.specs.Edits.{after}
-use Rattle.alp_volume.specs.Changes.{cuts_of}
+use Rattle.alp_pages.specs.Changes.{cuts_of}
 use Rattle.alp_volume.specs.Drafts.{HaveLeaders, IsDraft, laid}
 use Rattle.alp_volume.specs.Known.{IsCatalog}
-use Rattle.alp_volume.specs.Reading.{HasRead}
+use Rattle.alp_pages.specs.Reading.{HasRead}
 use Rattle.alp_volume.specs.Undone.{LeadsOn}
 use Rattle.alp_volume.proofs.change.make_cuts.Given as goal
 

@@ -4,10 +4,10 @@ use Rattle.std.proofs.lemmas.List.{at_drop_more, drop_all}
 use Rattle.alp_base.specs.declared.ids.FileId.{FileId}
 use Rattle.alp_files.specs.Cells.{View}
 use Rattle.alp_files.specs.Edits.{Drop, after}
-use Rattle.alp_volume.specs.Changes.{drops_of}
+use Rattle.alp_pages.specs.Changes.{drops_of}
 use Rattle.alp_volume.specs.Drafts.{HaveLeaders, IsDraft, laid}
 use Rattle.alp_volume.specs.Known.{IsCatalog}
-use Rattle.alp_volume.specs.Pages.{Pages}
+use Rattle.alp_pages.specs.Pages.{Pages}
 use Rattle.alp_volume.proofs.LoopLaws.{read_none, read_then, read_ok}
 use Rattle.alp_volume.proofs.HeadLaws.{drop_keeps}
 use Rattle.alp_volume.proofs.change.make_drops.Goals as goal

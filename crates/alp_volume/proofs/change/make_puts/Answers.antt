@@ -4,7 +4,7 @@ use Rattle.std.proofs.lemmas.Result.{on_ok_weaker}
 use Rattle.alp_files.specs.Cells.{View}
 use Rattle.alp_volume.specs.Drafts.{IsDraft, laid}
 use Rattle.alp_volume.specs.Known.{IsCatalog}
-use Rattle.alp_volume.specs.Pages.{Pages}
+use Rattle.alp_pages.specs.Pages.{Pages}
 use Rattle.alp_volume.specs.Puts.{heads_made, pages_made}
 use Rattle.alp_volume.proofs.PutsLaws.{leaders_put, turns_few, turns_made}
 use Rattle.alp_volume.proofs.change.make_puts.Goals as goal

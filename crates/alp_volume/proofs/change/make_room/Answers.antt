@@ -3,10 +3,10 @@ use Rattle.std.proofs.Common.{◌≡◌, ◌∙◌, List, ℕ, sym, subst}
 use Rattle.std.proofs.lemmas.Result.{on_ok_weaker}
 use Rattle.alp_base.specs.declared.ids.FileId.{FileId}
 use Rattle.alp_files.specs.Edits.{after}
-use Rattle.alp_volume.specs.Changes.{cuts_of, drops_of}
+use Rattle.alp_pages.specs.Changes.{cuts_of, drops_of}
 use Rattle.alp_volume.specs.Drafts.{HaveLeaders, IsDraft, laid}
 use Rattle.alp_volume.specs.Known.{IsCatalog}
-use Rattle.alp_volume.specs.Pages.{Pages}
+use Rattle.alp_pages.specs.Pages.{Pages}
 use Rattle.alp_volume.proofs.change.make_room.Goals as goal
 
 pub returns-clause-sized : goal.returns-clause-sized

@@ -5,7 +5,7 @@ use Rattle.alp_files.specs.Cells.{View}
 use Rattle.alp_volume.specs.Drafts.{HaveLeaders, IsDraft, laid}
 use Rattle.alp_volume.specs.Puts.{head_pages, heads_made}
 use Rattle.alp_volume.specs.Known.{IsCatalog}
-use Rattle.alp_volume.specs.Reading.{HasRead}
+use Rattle.alp_pages.specs.Reading.{HasRead}
 use Rattle.alp_volume.specs.Undone.{LeadsOn}
 use Rattle.alp_volume.proofs.change.put_heads.Given as goal
 

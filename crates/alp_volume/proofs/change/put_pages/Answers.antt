@@ -8,7 +8,7 @@ use Rattle.alp_files.specs.Cells.{View}
 use Rattle.alp_volume.specs.Drafts.{IsDraft, laid}
 use Rattle.alp_volume.specs.Puts.{HaveLeadersPut, page_made, page_pages, pages_made}
 use Rattle.alp_volume.specs.Known.{IsCatalog}
-use Rattle.alp_volume.specs.Pages.{Pages}
+use Rattle.alp_pages.specs.Pages.{Pages}
 use Rattle.alp_volume.proofs.LoopLaws.{read_none, read_then, read_ok}
 use Rattle.alp_volume.proofs.PutsLaws.{leaders_stay, page_same}
 use Rattle.alp_volume.proofs.change.put_pages.Goals as goal

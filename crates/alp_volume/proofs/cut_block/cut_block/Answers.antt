@@ -2,7 +2,7 @@ use Rattle.std.specs.Prelude.{Some}
 use Rattle.std.proofs.Common.{◌≡◌, ◌∙◌, ℕ, sym, ap}
 use Rattle.alp_fields.specs.Forms.{whole}
 use Rattle.alp_volume.specs.Drafts.{laid}
-use Rattle.alp_volume.specs.Pages.{index_page}
+use Rattle.alp_pages.specs.Pages.{index_page}
 use Rattle.alp_volume.proofs.CutDraft.{no_block}
 use Rattle.alp_volume.proofs.cut_block.cut_block.Goals as goal
 

@@ -10,10 +10,10 @@ use Rattle.alp_leader.specs.declared.leader.Leader.{Leader}
 use Rattle.alp_leader.specs.Leader.{leader_page}
 use Rattle.alp_volume.specs.declared.catalog.Catalog.{Catalog}
 use Rattle.alp_volume.specs.declared.file_slot.FileSlot.{FileSlot}
-use Rattle.alp_volume.specs.Counted.{bit}
+use Rattle.alp_pages.specs.Counted.{bit}
 use Rattle.alp_volume.specs.Drafts.{Changed, IsCutting, laid}
 use Rattle.alp_volume.specs.Known.{leader_of}
-use Rattle.alp_volume.specs.Pages.{Pages, index_page, has_a_place, written}
+use Rattle.alp_pages.specs.Pages.{Pages, index_page, has_a_place, written}
 use Rattle.alp_volume.specs.Undone.{with_file, with_place}
 use Rattle.alp_volume.proofs.CutDraft.{a_place, freeable, index_bounds}
 use Rattle.alp_volume.proofs.CutRow.{cutting_left, cutting_all}

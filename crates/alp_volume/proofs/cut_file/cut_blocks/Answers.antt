@@ -5,7 +5,7 @@ use Rattle.alp_files.specs.Edits.{Cut, after}
 use Rattle.alp_files.specs.declared.cell.Props.{Props}
 use Rattle.alp_volume.specs.Drafts.{HasNoneFrom, IsCutting, laid}
 use Rattle.alp_volume.specs.Known.{IsCatalog}
-use Rattle.alp_volume.specs.Pages.{Pages}
+use Rattle.alp_pages.specs.Pages.{Pages}
 use Rattle.alp_volume.proofs.CutDraft.{cut_nothing, cut_further, none_after}
 use Rattle.alp_volume.proofs.LoopLaws.{read_none, read_then, read_ok}
 use Rattle.alp_volume.proofs.SheetLaws.{len_around, len_gone}

@@ -4,7 +4,7 @@ use Rattle.alp_files.specs.Cells.{View}
 use Rattle.alp_files.specs.Edits.{Cut, after}
 use Rattle.alp_volume.specs.Drafts.{HasNoneFrom, IsCutting, laid, len_beside}
 use Rattle.alp_volume.specs.Known.{IsCatalog}
-use Rattle.alp_volume.specs.Reading.{HasRead}
+use Rattle.alp_pages.specs.Reading.{HasRead}
 use Rattle.alp_volume.specs.Undone.{LeadsOn}
 use Rattle.alp_volume.proofs.cut_file.cut_blocks.Given as goal
 

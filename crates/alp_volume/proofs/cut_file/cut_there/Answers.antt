@@ -4,7 +4,7 @@ use Rattle.std.proofs.lemmas.Result.{on_ok_weaker}
 use Rattle.alp_files.specs.Edits.{Cut, after}
 use Rattle.alp_volume.specs.Drafts.{IsCutting, laid}
 use Rattle.alp_volume.specs.Known.{IsCatalog}
-use Rattle.alp_volume.specs.Pages.{Pages}
+use Rattle.alp_pages.specs.Pages.{Pages}
 use Rattle.alp_volume.proofs.cut_file.cut_there.Goals as goal
 
 pub returns-clause-cut : goal.returns-clause-cut

@@ -5,7 +5,7 @@ use Rattle.alp_files.specs.Cells.{View}
 use Rattle.alp_files.specs.Edits.{Cut, Drop, after}
 use Rattle.alp_volume.specs.Drafts.{IsDraft, laid}
 use Rattle.alp_volume.specs.Known.{IsCatalog}
-use Rattle.alp_volume.specs.Pages.{Pages}
+use Rattle.alp_pages.specs.Pages.{Pages}
 use Rattle.alp_volume.proofs.CutDraft.{none_after}
 use Rattle.alp_volume.proofs.HeadLaws.{drop_after_cut}
 use Rattle.alp_volume.proofs.cut_file.drop_file.Goals as goal

@@ -1,7 +1,7 @@
 use Rattle.std.specs.Prelude.{Bool, IsTrue, Ok, Some, None, true, false}
 use Rattle.std.proofs.Common.{◌≡◌, ◌∙◌, ◌∷◌, ℕ, ◌+◌, List, refl, sym, ap, subst, arith}
-use Rattle.alp_volume.specs.Pages.{Pages, entry_in}
-use Rattle.alp_volume.specs.Damage.{Part, Slot, Name, first_wrong, names_after}
+use Rattle.alp_pages.specs.Pages.{Pages, entry_in}
+use Rattle.alp_pages.specs.Damage.{Part, Slot, Name, first_wrong, names_after}
 use Rattle.alp_volume.specs.Reached.{AreListed, AreMarks, slots_from}
 use Rattle.alp_volume.proofs.LoopLaws.{Along, along_begins, along_more, along_stops, along_done, slots_step, slots_end, read_none, read_then, read_ok}
 use Rattle.alp_volume.proofs.directory.read_directory.Goals as goal

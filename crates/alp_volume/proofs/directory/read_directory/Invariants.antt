@@ -1,10 +1,10 @@
 use Rattle.std.specs.Prelude.{IsTrue, Ok}
 use Rattle.std.specs.FinMap as map
 use Rattle.std.proofs.Common.{◌≡◌, ◌≤◌, ◌-◌, ℕ, List, length}
-use Rattle.alp_volume.specs.Damage.{Name}
+use Rattle.alp_pages.specs.Damage.{Name}
 use Rattle.alp_volume.specs.Reached.{AreListed, AreMarks, slots_from}
 use Rattle.alp_volume.specs.Known.{IsCatalog}
-use Rattle.alp_volume.specs.Reading.{HasRead}
+use Rattle.alp_pages.specs.Reading.{HasRead}
 use Rattle.alp_volume.proofs.LoopLaws.{Along}
 use Rattle.alp_volume.proofs.directory.read_directory.Given as goal
 

@@ -2,9 +2,9 @@ use Rattle.std.specs.Prelude.{Bool, IsTrue, Ok, Some, None, Option, ◌++◌, sl
 use Rattle.std.specs.Option.{option_to_list}
 use Rattle.std.proofs.Common.{◌≡◌, ◌∙◌, ℕ, ◌+◌, ◌/◌, List, refl, sym, ap, subst, arith}
 use Rattle.alp_base.specs.declared.ids.FileId.{FileId}
-use Rattle.alp_volume.specs.Nodes.{DataOf}
-use Rattle.alp_volume.specs.Pages.{Pages}
-use Rattle.alp_volume.specs.Damage.{Part, Name, index_part, has_node, first_wrong, names_after}
+use Rattle.alp_pages.specs.Nodes.{DataOf}
+use Rattle.alp_pages.specs.Pages.{Pages}
+use Rattle.alp_pages.specs.Damage.{Part, Name, index_part, has_node, first_wrong, names_after}
 use Rattle.alp_volume.specs.Reached.{AreMarks, IsJudged, blocks_from}
 use Rattle.alp_volume.proofs.LoopLaws.{Along, along_begins, along_segment, along_segment_stops, along_done, read_none, read_then, read_ok}
 use Rattle.alp_volume.proofs.FileNames.{blocks_step, blocks_end, fresh_block, later_block}

@@ -1,8 +1,8 @@
 use Rattle.std.specs.Prelude.{Bool, true, false, ◌&&◌, Some, None, Option}
 use Rattle.std.specs.FinMap as map
 use Rattle.std.proofs.Common.{◌≡◌, rules, List, ℕ, refl, sym, ◌∙◌, ap, subst, arith}
-use Rattle.alp_volume.specs.Nodes.{LeaderOf}
-use Rattle.alp_volume.specs.Damage.{Name, added, is_within, are_new, names_of}
+use Rattle.alp_pages.specs.Nodes.{LeaderOf}
+use Rattle.alp_pages.specs.Damage.{Name, added, is_within, are_new, names_of}
 use Rattle.alp_volume.specs.Reached.{AreMarks}
 use Rattle.alp_volume.proofs.LeaderParts.{no_owner, row_judged, names_are}
 use Rattle.alp_volume.proofs.SizedLaws.{blocks_sized, places_sized}

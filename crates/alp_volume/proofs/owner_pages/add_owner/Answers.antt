@@ -1,7 +1,7 @@
 use Rattle.std.specs.Prelude.{Some, None}
 use Rattle.std.specs.Cmp.Lexicographic.{nat_list_cmp_total}
 use Rattle.std.proofs.Common.{◌≡◌, rules, sym, ◌∙◌, ap, arith}
-use Rattle.alp_volume.specs.Pages.{row_in}
+use Rattle.alp_pages.specs.Pages.{row_in}
 use Rattle.alp_volume.proofs.ListLaws.{few_more}
 use Rattle.alp_volume.proofs.SizedLaws.{owner_taken_sized}
 use Rattle.alp_volume.proofs.RowLaws.{right_row, wrong_charge, none_owned, added_owned}

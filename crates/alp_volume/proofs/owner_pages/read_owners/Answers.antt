@@ -1,7 +1,7 @@
 use Rattle.std.specs.Prelude.{Bool, true, false, ◌&&◌, IsTrue, Ok}
 use Rattle.std.proofs.Common.{◌≡◌, ◌∙◌, ◌∷◌, ℕ, ◌+◌, List, refl, sym, ap, subst, arith}
-use Rattle.alp_volume.specs.Pages.{Pages, row_in}
-use Rattle.alp_volume.specs.Damage.{Part, OwnerRow, Name, is_right, is_right_row}
+use Rattle.alp_pages.specs.Pages.{Pages, row_in}
+use Rattle.alp_pages.specs.Damage.{Part, OwnerRow, Name, is_right, is_right_row}
 use Rattle.alp_volume.specs.Reached.{AreOwners, AreCosts, rows_from}
 use Rattle.alp_volume.proofs.LoopLaws.{Along, along_begins, along_more, along_stops, along_done, rows_step, rows_end, read_none, read_then, read_ok}
 use Rattle.alp_volume.proofs.owner_pages.read_owners.Goals as goal

@@ -8,10 +8,10 @@ use Rattle.alp_files.specs.Edits.{Put, after}
 use Rattle.alp_leader.specs.Leader.{leader_page}
 use Rattle.alp_volume.specs.Drafts.{IsDraft, laid}
 use Rattle.alp_volume.specs.Known.{IsCatalog}
-use Rattle.alp_volume.specs.Nodes.{IndexOf}
-use Rattle.alp_volume.specs.Pages.{Pages}
+use Rattle.alp_pages.specs.Nodes.{IndexOf}
+use Rattle.alp_pages.specs.Pages.{Pages}
 use Rattle.alp_volume.proofs.KnowsLaws.{leader_there, row_names, unplaced}
-use Rattle.alp_volume.proofs.UniqueLaws.{number}
+use Rattle.alp_pages.proofs.UniqueLaws.{number}
 use Rattle.alp_volume.proofs.put_block.put_page.Goals as goal
 use Rattle.alp_volume.proofs.put_block.put_page.Goals.{in-Ok, in-Err}
 

@@ -7,7 +7,7 @@ use Rattle.alp_fields.specs.Forms.{whole}
 use Rattle.alp_leader.specs.declared.leader.Leader.{Leader}
 use Rattle.alp_leader.specs.Leader.{leader_page}
 use Rattle.alp_volume.specs.declared.catalog.Catalog.{Catalog}
-use Rattle.alp_volume.specs.Counted.{bit}
+use Rattle.alp_pages.specs.Counted.{bit}
 use Rattle.alp_volume.specs.Drafts.{Changed, laid}
 use Rattle.alp_volume.specs.Undone.{with_file, with_place}
 use Rattle.alp_volume.proofs.BlockDraft.{block_made}

@@ -2,10 +2,10 @@ use Rattle.std.specs.Prelude.{Some, slice_index_or}
 use Rattle.std.specs.FinMap as map
 use Rattle.std.proofs.Common.{◌≡◌, ◌+◌, ◌/◌, List, ℕ, refl, ap, subst, ◌∙◌}
 use Rattle.alp_leader.specs.declared.leader.Leader.{Leader}
-use Rattle.alp_volume.specs.Changes.{HasSlot}
+use Rattle.alp_pages.specs.Changes.{HasSlot}
 use Rattle.alp_volume.specs.Drafts.{Changed, laid}
 use Rattle.alp_volume.proofs.FileDraft.{file_made}
-use Rattle.alp_volume.proofs.IndexLaws.{no_places}
+use Rattle.alp_pages.proofs.IndexLaws.{no_places}
 use Rattle.alp_volume.proofs.put_file.put_new_leader.Goals as goal
 
 pub returns-in_default-clause-sized : goal.returns-in_default-clause-sized

@@ -1,4 +1,4 @@
-use Rattle.alp_volume.proofs.LeaderLaws.{some_size}
+use Rattle.alp_pages.proofs.LeaderLaws.{some_size}
 use Rattle.alp_volume.proofs.put_leader.draft_leader.Goals as goal
 
 pub returns-in-Ok-clause-size : goal.returns-in-Ok-clause-size

@@ -7,9 +7,9 @@ use Rattle.alp_files.specs.Edits.{Put, after}
 use Rattle.alp_leader.specs.declared.leader.Leader.{Leader as LeaderRecord}
 use Rattle.alp_leader.specs.Leader.{leader_page}
 use Rattle.alp_volume.specs.Drafts.{laid}
-use Rattle.alp_volume.specs.Nodes.{LeaderOf}
-use Rattle.alp_volume.specs.Volume.{row_of_leader, row_of_node}
-use Rattle.alp_volume.proofs.ChangeLaws.{leader_put}
+use Rattle.alp_pages.specs.Nodes.{LeaderOf}
+use Rattle.alp_pages.specs.Volume.{row_of_leader, row_of_node}
+use Rattle.alp_pages.proofs.ChangeLaws.{leader_put}
 use Rattle.alp_volume.proofs.DraftLaws.{put_laid}
 use Rattle.alp_volume.proofs.put_leader.put_known_leader.Goals as goal
 

@@ -3,7 +3,7 @@ use Rattle.std.proofs.Common.{◌≡◌, ◌∙◌, ◌%◌, List, ℕ, length, 
 use Rattle.alp_fields.specs.Forms.{whole}
 use Rattle.alp_volume.specs.Drafts.{laid}
 use Rattle.alp_volume.specs.Known.{IsCatalog}
-use Rattle.alp_volume.specs.Pages.{index_page}
+use Rattle.alp_pages.specs.Pages.{index_page}
 use Rattle.alp_volume.proofs.PutLaws.{page_known}
 use Rattle.alp_volume.proofs.put_page.put_in_block.Goals as goal
 

@@ -1,8 +1,8 @@
 use Rattle.std.specs.Prelude.{Bool, IsTrue, Some, None, Option, IfOk, ◌++◌}
 use Rattle.std.specs.FinMap as map
 use Rattle.std.proofs.Common.{◌≡◌, ◌∙◌, ◌∷◌, [], ℕ, List, refl, sym, ap, subst, arith}
-use Rattle.alp_volume.specs.Pages.{Pages}
-use Rattle.alp_volume.specs.Damage.{Part, Header, Name, names_after, parts}
+use Rattle.alp_pages.specs.Pages.{Pages}
+use Rattle.alp_pages.specs.Damage.{Part, Header, Name, names_after, parts}
 use Rattle.alp_volume.specs.Reached.{AreListed, AreMarks, AreNamed, AreOwners, AreWithin, IsJudged, rows_from, slots_from, files_from}
 use Rattle.alp_volume.specs.Known.{IsRead}
 use Rattle.alp_volume.proofs.LoopLaws.{Along, along_begins, along_segment, along_segment_stops, parts_are}

@@ -3,10 +3,10 @@ use Rattle.std.proofs.Common.{◌≡◌, ◌∙◌, ◌∷◌, ℕ, List, sym, a
 use Rattle.std.specs.List.{filter_map, enumerate_from}
 use Rattle.alp_fields.specs.Forms.{whole}
 use Rattle.alp_leader.specs.Leader.{leader_page}
-use Rattle.alp_volume.specs.Nodes.{LeaderOf}
-use Rattle.alp_volume.specs.Pages.{Pages}
-use Rattle.alp_volume.specs.Volume.{row_of_node}
-use Rattle.alp_volume.specs.Damage.{Part, NodePage, Name, is_right, row_there, added, names_in, index_part, size_of}
+use Rattle.alp_pages.specs.Nodes.{LeaderOf}
+use Rattle.alp_pages.specs.Pages.{Pages}
+use Rattle.alp_pages.specs.Volume.{row_of_node}
+use Rattle.alp_pages.specs.Damage.{Part, NodePage, Name, is_right, row_there, added, names_in, index_part, size_of}
 use Rattle.alp_volume.specs.Reached.{AreFresh, AreMarks, IsJudged, blocks_from}
 use Rattle.alp_volume.proofs.LeaderParts.{own_row}
 use Rattle.alp_volume.proofs.SizedLaws.{places_sized}

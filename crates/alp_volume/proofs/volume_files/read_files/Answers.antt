@@ -1,8 +1,8 @@
 use Rattle.std.specs.Prelude.{Bool, IsTrue, Ok, Some, None, Option, ◌++◌}
 use Rattle.std.proofs.Common.{◌≡◌, ◌∙◌, ℕ, ◌+◌, ◌≤◌, List, length, refl, sym, ap, subst, arith}
 use Rattle.alp_vault.specs.declared.limits.TheConstants.{HEAD_PAGES}
-use Rattle.alp_volume.specs.Pages.{Pages, entry_in}
-use Rattle.alp_volume.specs.Damage.{Part, Name, entry_there, parts_of}
+use Rattle.alp_pages.specs.Pages.{Pages, entry_in}
+use Rattle.alp_pages.specs.Damage.{Part, Name, entry_there, parts_of}
 use Rattle.alp_volume.specs.Reached.{AreListed, AreMarks, AreNamed, AreOwners, IsJudged, files_from}
 use Rattle.alp_volume.proofs.LoopLaws.{Along, along_begins, along_segment, along_segment_stops, along_done, files_step, files_end, read_none, read_then, read_ok}
 use Rattle.alp_volume.proofs.volume_files.read_files.Goals as goal

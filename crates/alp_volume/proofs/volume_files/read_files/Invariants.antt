@@ -1,9 +1,9 @@
 use Rattle.std.specs.Prelude.{IsTrue, Ok}
 use Rattle.std.proofs.Common.{◌≡◌, ◌≤◌, ℕ, List, length}
-use Rattle.alp_volume.specs.Damage.{Name}
+use Rattle.alp_pages.specs.Damage.{Name}
 use Rattle.alp_volume.specs.Reached.{AreListed, AreMarks, AreNamed, AreOwners, files_from}
 use Rattle.alp_volume.specs.Known.{IsCatalog}
-use Rattle.alp_volume.specs.Reading.{HasRead}
+use Rattle.alp_pages.specs.Reading.{HasRead}
 use Rattle.alp_volume.proofs.LoopLaws.{Along}
 use Rattle.alp_volume.proofs.volume_files.read_files.Given as goal
 
