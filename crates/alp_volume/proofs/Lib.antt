@@ -24,3 +24,4 @@ pub mod DropDraft
 pub mod HeadLaws
 pub mod PutsLaws
 pub mod PlanLaws
+pub mod UsedLaws

@@ -1,6 +1,7 @@
 -- As many places are taken as the cells need, by the flags that memory keeps.
 use Rattle.std.specs.Prelude.{Bool, true, false, is_some, Option, None, Some, replicate, slice_index_or, slice_set, sum_by}
-use Rattle.std.proofs.Common.{◌≡◌, ℕ, zero, suc, ◌+◌, ◌-◌, ◌*◌, ◌<◌, ◌≤◌, List, [], ◌∷◌, ◌++◌, length, refl, sym, ◌∙◌, ap, subst, arith}
+use Rattle.std.proofs.Common.{◌≡◌, ℕ, zero, suc, ◌+◌, ◌-◌, ◌*◌, ◌^◌, ◌<◌, ◌≤◌, List, [], ◌∷◌, ◌++◌, length, refl, sym, ◌∙◌, ap, subst, arith}
+use Rattle.std.proofs.lemmas.List.{length-set}
 use Rattle.std.proofs.lemmas.List.Sums.{sum_by-append, sum_by-cons, sum_by-set}
 use Rattle.std.proofs.lemmas.List.Folds.{sum_by-replicate}
 use Rattle.alp_files.specs.Cells.{Cells}
@@ -30,10 +31,11 @@ few_taken [] = omega arith
 few_taken (true ∷ xs) = omega (arith, sum_by-cons bit true xs, few_taken xs)
 few_taken (false ∷ xs) = omega (arith, sum_by-cons bit false xs, few_taken xs)
 
--- ---- flags as a function
+-- one more fits where the flags do
+pub one_fits : (xs : List Bool) (p : ℕ) → p < length xs → slice_index_or xs p true ≡ false → length xs < 2 ^ 32 → sum_by bit xs + 1 < 2 ^ 32
+one_fits xs p within free few = omega (arith, one_taken xs p within free, few_taken (slice_set xs p true), length-set xs p true)
 
-flags_from : List Bool → ℕ → ℕ → Bool
-flags_from xs i p = slice_index_or xs p true
+-- ---- flags as a function
 
 -- so many flags as the list has, one after the other from the last
 count_cons : (x : Bool) (xs : List Bool) (n : ℕ) → count_below (λ p. slice_index_or (x ∷ xs) p true) (suc n) ≡ bit x + count_below (λ p. slice_index_or xs p true) n
@@ -56,19 +58,15 @@ counted flags at home head low same n most k is = subst (λ (x : ℕ). count_bel
         omega (arith, one, two, below n (omega arith))
         )
 
+    next : (k : ℕ) → suc (257 + k) ≡ 257 + suc k
+    next k = omega arith
+
+    step : (k : ℕ) → bit (flags (257 + k)) ≡ bit (at (257 + k)) → count_below flags (257 + k) ≡ 257 + count_below at (257 + k) → count_below flags (257 + suc k) ≡ 257 + count_below at (257 + suc k)
+    step k one rest = subst (λ (x : ℕ). count_below flags x ≡ 257 + count_below at x) (next k) (omega (arith, one, rest))
+
     go : (k : ℕ) → 257 + k ≤ home → count_below flags (257 + k) ≡ 257 + count_below at (257 + k)
     go zero few = below 257 (omega arith)
-    go (suc k) few = (
-        let one : bit (flags (257 + k)) ≡ bit (at (257 + k)) = ap bit (same (257 + k) (omega arith) (omega arith)) in
-        let rest = go k (omega arith) in
-        step k one rest
-        )
-      where
-        step : (k : ℕ) → bit (flags (257 + k)) ≡ bit (at (257 + k)) → count_below flags (257 + k) ≡ 257 + count_below at (257 + k) → count_below flags (257 + suc k) ≡ 257 + count_below at (257 + suc k)
-        step k one rest = subst (λ (x : ℕ). count_below flags x ≡ 257 + count_below at x) (next k) (omega (arith, one, rest))
-
-        next : (k : ℕ) → suc (257 + k) ≡ 257 + suc k
-        next k = omega arith
+    go (suc k) few = step k (ap bit (same (257 + k) (omega arith) (omega arith))) (go k (omega arith))
 
 pub used_taken : (home : ℕ) (at : Pages) (m : Cells) (stands : StandFor home at m) (c : Catalog) → Knows home stands.volume c → IsCatalog home c → 257 ≤ home → sum_by bit c.places ≡ 257 + used_of m
 used_taken home at m stands c knows sized least =
@@ -91,12 +89,12 @@ head_used home c sized least = omega (arith, count_flags c.places, ap (count_bel
         below zero few = refl
         below (suc n) few = let one : bit (flags n) ≡ 1 = ap bit (head n (omega arith)) in omega (arith, one, below n (omega arith))
 
-        more : (k : ℕ) → 257 ≤ count_below flags (257 + k)
-        more zero = omega (arith, below 257 (omega arith))
-        more (suc k) = step k (more k)
+        next : (k : ℕ) → suc (257 + k) ≡ 257 + suc k
+        next k = omega arith
 
         step : (k : ℕ) → 257 ≤ count_below flags (257 + k) → 257 ≤ count_below flags (257 + suc k)
         step k h = subst (λ (x : ℕ). 257 ≤ count_below flags x) (next k) (omega (arith, h))
 
-        next : (k : ℕ) → suc (257 + k) ≡ 257 + suc k
-        next k = omega arith
+        more : (k : ℕ) → 257 ≤ count_below flags (257 + k)
+        more zero = omega (arith, below 257 (omega arith))
+        more (suc k) = step k (more k)

@@ -3,8 +3,8 @@ ghost use Rattle.std.proofs.Math.Nat.{le_refl};
 ghost use Rattle.alp_base.specs.declared.allowance.Allowance.TheVariants.{Free};
 
 use super::*;
-use alp_base::{AccessList, FileId, Name, OutOfMemory, Page, PageRef, VaultFault};
-use alp_files::{OwnerRecord, Props};
+use alp_base::{AccessList, FileId, Key, Name, OutOfMemory, Page, PageRef, Sequence, VaultFault};
+use alp_files::{Cell, Change, OwnerRecord, Props};
 use alp_leader::{Leader, Places, encode_leader};
 use alp_pages::{
     Entry, PageReader, clear_entry, decode_index, entry_at, fetch_block, fetch_leader, fetch_owner,
@@ -410,5 +410,115 @@ fn names_the_first_damaged_page(rt: HostRuntime) -> Result<(), Fail> {
             Err(_) => assert!(rt; false, "no damage"),
         }
     }
+    Ok(())
+}
+
+// ---- changes
+
+fn crosses<T: Send + Sync>(_value: &T) {}
+
+// Puts the pages of a plan over those in memory.
+fn apply(pages: &mut MemPages, plan: &Draft) -> Result<(), OutOfMemory> {
+    for at in 0..HOME {
+        if let Some(page) = plan.pages.get(at) {
+            let page = page.share()?;
+            if let Some(place) = pages.pages.get_mut(at as usize) {
+                *place = page;
+            }
+        }
+    }
+    Ok(())
+}
+
+fn change_of(
+    alloc: Global,
+    drops: &[FileId],
+    cuts: &[(FileId, u32)],
+) -> Result<Change, OutOfMemory> {
+    let mut gone = Vec::new(alloc);
+    for file in drops {
+        gone.push(*file)?;
+    }
+    let mut shorter = Vec::new(alloc);
+    for cut in cuts {
+        shorter.push(*cut)?;
+    }
+    Ok(Change {
+        drops: Sequence::new(gone),
+        cuts: Sequence::new(shorter),
+        puts: Sequence::new(Vec::new(alloc)),
+    })
+}
+
+#[test]
+fn drops_a_file(rt: HostRuntime) -> Result<(), Fail> {
+    let alloc = rt.alloc();
+    let mut pages = volume(alloc).ok().ok_or("memory")?.ok_or("a volume")?;
+    let mut catalog = read_volume(alloc, &mut pages, HOME).ok().ok_or("a volume")?;
+    crosses(&catalog);
+    let change = change_of(alloc, &[FILE], &[]).ok().ok_or("memory")?;
+    let plan = plan_change(alloc, &mut pages, &mut catalog, &change)
+        .ok()
+        .ok_or("a plan")?;
+    crosses(&plan);
+    assert!(rt; catalog.files.get(FILE).is_none());
+    assert!(rt; !catalog.slots.is_taken(0));
+    for place in [257, 258, 259, 260] {
+        assert!(rt; !catalog.places.is_taken(place), "place {place}");
+    }
+    let entries = plan.pages.get(1).ok_or("a page of the directory")?;
+    assert!(rt; entries.bytes() == Page::zero().bytes());
+    assert!(rt; plan.pages.get(257).is_none());
+    Ok(())
+}
+
+#[test]
+fn cuts_a_file(rt: HostRuntime) -> Result<(), Fail> {
+    let alloc = rt.alloc();
+    let mut pages = volume(alloc).ok().ok_or("memory")?.ok_or("a volume")?;
+    let mut catalog = read_volume(alloc, &mut pages, HOME).ok().ok_or("a volume")?;
+    let change = change_of(alloc, &[], &[(FILE, 1)]).ok().ok_or("memory")?;
+    let mut plan = plan_change(alloc, &mut pages, &mut catalog, &change)
+        .ok()
+        .ok_or("a plan")?;
+    assert!(rt; catalog.places.is_taken(259) && !catalog.places.is_taken(260));
+    let index = plan.pages.get(258).ok_or("an index page")?;
+    let places = decode_index(index.bytes()).ok_or("an index page")?;
+    assert_eq!(rt; (places.at(0), places.at(1)), (259, 0));
+    apply(&mut pages, &plan).ok().ok_or("memory")?;
+    let again = read_volume(alloc, &mut pages, HOME).ok().ok_or("a volume")?;
+    assert!(rt; again.files.get(FILE) == catalog.files.get(FILE));
+    assert!(rt; !again.places.is_taken(260));
+    catalog.take_back(&mut plan.undos);
+    assert!(rt; catalog.places.is_taken(260));
+    Ok(())
+}
+
+#[test]
+fn puts_a_page_at_the_lowest_free_place(rt: HostRuntime) -> Result<(), Fail> {
+    let alloc = rt.alloc();
+    let mut pages = volume(alloc).ok().ok_or("memory")?.ok_or("a volume")?;
+    let mut catalog = read_volume(alloc, &mut pages, HOME).ok().ok_or("a volume")?;
+    let page = PageRef::new(alloc, Page::beginning(b"new"))
+        .ok()
+        .ok_or("memory")?;
+    let mut puts = Vec::new(alloc);
+    puts.push((Key::PageOf(FILE, 3), Cell::Page(page)))
+        .ok()
+        .ok_or("memory")?;
+    let change = Change {
+        drops: Sequence::new(Vec::new(alloc)),
+        cuts: Sequence::new(Vec::new(alloc)),
+        puts: Sequence::new(puts),
+    };
+    let plan = plan_change(alloc, &mut pages, &mut catalog, &change)
+        .ok()
+        .ok_or("a plan")?;
+    let there = plan.pages.get(261).ok_or("a page")?;
+    assert!(rt; there.bytes().starts_with(b"new\0"));
+    let index = plan.pages.get(258).ok_or("an index page")?;
+    let places = decode_index(index.bytes()).ok_or("an index page")?;
+    assert_eq!(rt; (places.at(1), places.at(2), places.at(3)), (260, 0, 261));
+    assert!(rt; catalog.places.is_taken(261) && !catalog.places.is_taken(262));
     Ok(())
 }
