@@ -1,5 +1,7 @@
 //! Pages that a change has made, by their places.
-ghost use Rattle.std.specs.Prelude.{◌≡◌, OnOk, OnErr};
+ghost use Rattle.std.specs.Prelude.{◌≡◌, IfOk, OnOk, OnErr};
+ghost use Rattle.std.specs.BTreeMap.{IsOrdered};
+ghost use Rattle.std.specs.Ordering.{nat_cmp};
 ghost use Rattle.std.specs.Option.{option_copied as copied};
 ghost use Rattle.std.specs.FinMap as map;
 
@@ -57,4 +59,27 @@ impl Sheets {
         self.pages.insert(at, page)?;
         Ok(())
     }
+
+    /// All of them, by rising places; the pages are shared.
+    pub fn images(&self, alloc: Global) -> Result<Vec<(u32, PageRef)>, OutOfMemory>
+        ensures { IfOk result (λ v. v.items ≡ map.entries self.now) }
+    {
+        let images = images_in(alloc, &self.pages)?;
+        Ok(images)
+    }
+}
+
+// The entries of the tree.
+fn images_in(
+    alloc: Global,
+    pages: &BTreeMap<u32, PageRef>,
+) -> Result<Vec<(u32, PageRef)>, OutOfMemory>
+    ensures images { IfOk result (λ v. v.items ≡ pages.now.entries) }
+    ensures rising { IsOrdered nat_cmp pages.now }
+{
+    let mut images = Vec::new(alloc);
+    for (at, page) in pages.iter() {
+        images.push((*at, page.share()?))?;
+    }
+    Ok(images)
 }

@@ -1,6 +1,8 @@
-ghost use Rattle.std.specs.Prelude.{[], false, refl};
+ghost use Rattle.std.specs.Prelude.{◌≡◌, ◌<◌, [], false, refl, IfOk};
 ghost use Rattle.std.proofs.Math.Nat.{le_refl};
 ghost use Rattle.alp_base.specs.declared.allowance.Allowance.TheVariants.{Free};
+
+mod turns;
 
 use super::*;
 use alp_base::{AccessList, FileId, Key, Name, OutOfMemory, Page, PageRef, Sequence, VaultFault};
@@ -430,11 +432,9 @@ fn apply(pages: &mut MemPages, plan: &Draft) -> Result<(), OutOfMemory> {
     Ok(())
 }
 
-fn change_of(
-    alloc: Global,
-    drops: &[FileId],
-    cuts: &[(FileId, u32)],
-) -> Result<Change, OutOfMemory> {
+fn change_of(alloc: Global, drops: &[FileId], cuts: &[(FileId, u32)]) -> Result<Change, OutOfMemory>
+    ensures { IfOk result (λ change. change.puts ≡ []) }
+{
     let mut gone = Vec::new(alloc);
     for file in drops {
         gone.push(*file)?;
@@ -450,17 +450,27 @@ fn change_of(
     })
 }
 
+// A plan for a change without puts, of the volume and what was read of it.
+fn plan_of(
+    alloc: Global,
+    pages: &mut MemPages,
+    change: &Change,
+) -> Result<(Draft, Catalog), VaultFault>
+    requires { change.now.puts ≡ [] }
+{
+    let mut catalog = read_volume(alloc, pages, HOME)?;
+    let plan = plan_change(alloc, pages, &mut catalog, change)?;
+    Ok((plan, catalog))
+}
+
 #[test]
 fn drops_a_file(rt: HostRuntime) -> Result<(), Fail> {
     let alloc = rt.alloc();
     let mut pages = volume(alloc).ok().ok_or("memory")?.ok_or("a volume")?;
-    let mut catalog = read_volume(alloc, &mut pages, HOME).ok().ok_or("a volume")?;
-    crosses(&catalog);
     let change = change_of(alloc, &[FILE], &[]).ok().ok_or("memory")?;
-    let plan = plan_change(alloc, &mut pages, &mut catalog, &change)
-        .ok()
-        .ok_or("a plan")?;
+    let (plan, catalog) = plan_of(alloc, &mut pages, &change).ok().ok_or("a plan")?;
     crosses(&plan);
+    crosses(&catalog);
     assert!(rt; catalog.files.get(FILE).is_none());
     assert!(rt; !catalog.slots.is_taken(0));
     for place in [257, 258, 259, 260] {
@@ -476,11 +486,8 @@ fn drops_a_file(rt: HostRuntime) -> Result<(), Fail> {
 fn cuts_a_file(rt: HostRuntime) -> Result<(), Fail> {
     let alloc = rt.alloc();
     let mut pages = volume(alloc).ok().ok_or("memory")?.ok_or("a volume")?;
-    let mut catalog = read_volume(alloc, &mut pages, HOME).ok().ok_or("a volume")?;
     let change = change_of(alloc, &[], &[(FILE, 1)]).ok().ok_or("memory")?;
-    let mut plan = plan_change(alloc, &mut pages, &mut catalog, &change)
-        .ok()
-        .ok_or("a plan")?;
+    let (plan, catalog) = plan_of(alloc, &mut pages, &change).ok().ok_or("a plan")?;
     assert!(rt; catalog.places.is_taken(259) && !catalog.places.is_taken(260));
     let index = plan.pages.get(258).ok_or("an index page")?;
     let places = decode_index(index.bytes()).ok_or("an index page")?;
@@ -489,36 +496,78 @@ fn cuts_a_file(rt: HostRuntime) -> Result<(), Fail> {
     let again = read_volume(alloc, &mut pages, HOME).ok().ok_or("a volume")?;
     assert!(rt; again.files.get(FILE) == catalog.files.get(FILE));
     assert!(rt; !again.places.is_taken(260));
-    catalog.take_back(&mut plan.undos);
-    assert!(rt; catalog.places.is_taken(260));
     Ok(())
+}
+
+// Whether a plan that is taken back leaves the catalog as it was, at a place that the plan freed.
+fn is_taken_back(
+    alloc: Global,
+    pages: &mut MemPages,
+    change: &Change,
+    place: u32,
+) -> Result<bool, VaultFault>
+    requires { change.now.puts ≡ [] }
+{
+    let mut catalog = read_volume(alloc, pages, HOME)?;
+    let mut plan = plan_change(alloc, pages, &mut catalog, change)?;
+    let freed = !catalog.places.is_taken(place);
+    catalog.take_back(&mut plan.undos);
+    Ok(freed && catalog.places.is_taken(place) && catalog.files.get(FILE).is_some())
+}
+
+#[test]
+fn takes_a_plan_back(rt: HostRuntime) -> Result<(), Fail> {
+    let alloc = rt.alloc();
+    let mut pages = volume(alloc).ok().ok_or("memory")?.ok_or("a volume")?;
+    let change = change_of(alloc, &[FILE], &[]).ok().ok_or("memory")?;
+    let back = is_taken_back(alloc, &mut pages, &change, 260)
+        .ok()
+        .ok_or("a plan")?;
+    assert!(rt; back);
+    Ok(())
+}
+
+// A plan that puts a page of the file.
+fn plan_page(
+    alloc: Global,
+    pages: &mut MemPages,
+    number: u32,
+    page: PageRef,
+) -> Result<(Draft, Catalog), VaultFault>
+    requires { number < 4096 }
+{
+    let mut puts = Vec::new(alloc);
+    if puts
+        .push((Key::PageOf(FILE, number), Cell::Page(page)))
+        .is_err()
+    {
+        return Err(VaultFault::OutOfMemory);
+    }
+    let change = Change {
+        drops: Sequence::new(Vec::new(alloc)),
+        cuts: Sequence::new(Vec::new(alloc)),
+        puts: Sequence::new(puts),
+    };
+    let mut catalog = read_volume(alloc, pages, HOME)?;
+    let plan = plan_change(alloc, pages, &mut catalog, &change)?;
+    Ok((plan, catalog))
 }
 
 #[test]
 fn puts_a_page_at_the_lowest_free_place(rt: HostRuntime) -> Result<(), Fail> {
     let alloc = rt.alloc();
     let mut pages = volume(alloc).ok().ok_or("memory")?.ok_or("a volume")?;
-    let mut catalog = read_volume(alloc, &mut pages, HOME).ok().ok_or("a volume")?;
     let page = PageRef::new(alloc, Page::beginning(b"new"))
         .ok()
         .ok_or("memory")?;
-    let mut puts = Vec::new(alloc);
-    puts.push((Key::PageOf(FILE, 3), Cell::Page(page)))
-        .ok()
-        .ok_or("memory")?;
-    let change = Change {
-        drops: Sequence::new(Vec::new(alloc)),
-        cuts: Sequence::new(Vec::new(alloc)),
-        puts: Sequence::new(puts),
-    };
-    let plan = plan_change(alloc, &mut pages, &mut catalog, &change)
-        .ok()
-        .ok_or("a plan")?;
+    let (plan, catalog) = plan_page(alloc, &mut pages, 3, page).ok().ok_or("a plan")?;
     let there = plan.pages.get(261).ok_or("a page")?;
     assert!(rt; there.bytes().starts_with(b"new\0"));
     let index = plan.pages.get(258).ok_or("an index page")?;
     let places = decode_index(index.bytes()).ok_or("an index page")?;
     assert_eq!(rt; (places.at(1), places.at(2), places.at(3)), (260, 0, 261));
     assert!(rt; catalog.places.is_taken(261) && !catalog.places.is_taken(262));
+    let images = plan.pages.images(alloc).ok().ok_or("memory")?;
+    assert_eq!(rt; images.len(), 2);
     Ok(())
 }
