@@ -1,32 +1,29 @@
 -- What the first page of a block makes of a volume: the page, its index page, and the leader that names it.
-use Rattle.std.specs.Prelude.{◌⊎◌, Bool, true, false, cond, not, ◌==◌, is_some, Option, None, Some, option_map, slice_index_or, slice_set}
+use Rattle.std.specs.Prelude.{Bool, true, false, cond, ◌==◌, is_some, Option, None, Some, option_map, slice_index_or, slice_set}
 use Rattle.std.specs.Ordering.{eq_by_cmp}
-use Rattle.std.proofs.Common.{◌≡◌, ℕ, ◌<◌, ◌≤◌, ◌+◌, ◌*◌, ◌/◌, ◌%◌, List, [], ◌∷◌, length, inl, inr, refl, sym, ◌∙◌, ap, subst, arith, eq-eqb}
+use Rattle.std.proofs.Common.{◌≡◌, ℕ, ◌<◌, ◌≤◌, ◌+◌, ◌*◌, ◌/◌, ◌%◌, List, [], ◌∷◌, refl, sym, ◌∙◌, ap, subst, arith, eq-eqb}
 use Rattle.std.proofs.lemmas.Bool.{eqb-true, cond-true, cond-false}
 use Rattle.std.proofs.lemmas.List.{get_or-set_same, get_or-set_other}
 use Rattle.alp_base.specs.declared.ids.FileId.{FileId}
 use Rattle.alp_base.specs.declared.key.Key.TheVariants.{Leader, PageOf}
 use Rattle.alp_base.specs.Keys.{key_cmp}
 use Rattle.alp_fields.specs.Forms.{whole}
-use Rattle.alp_files.specs.declared.cell.Cell.{Cell}
 use Rattle.alp_files.specs.declared.cell.Cell.TheVariants as cell
 use Rattle.alp_files.specs.Cells.{View}
 use Rattle.alp_files.specs.Edits.{Put, after}
-use Rattle.alp_leader.specs.declared.leader.Leader.{Leader as LeaderRecord}
 use Rattle.alp_leader.specs.Leader.{leader_page}
 use Rattle.alp_pages.specs.Naming.{Naming, IsNaming, named, number_or_0}
 use Rattle.alp_pages.specs.Nodes.{Node, LeaderOf, IndexOf, DataOf, same_node}
-use Rattle.alp_pages.specs.Pages.{Pages, written, index_page, entry_in, row_in}
+use Rattle.alp_pages.specs.Pages.{Pages, written, entry_in, row_in}
 use Rattle.alp_pages.specs.Rows.{SpellsRow}
-use Rattle.alp_pages.specs.Volume.{Volume, Spells, nodes, child_of, width_of, row_of_node, row_of_leader, props_cell}
+use Rattle.alp_pages.specs.Volume.{Volume, Spells, nodes, child_of, width_of, props_cell}
 use Rattle.alp_pages.specs.Changes.{NamesOne, NamesBlock}
 use Rattle.alp_pages.proofs.GrowLaws.{not_same, some_is}
-use Rattle.alp_pages.proofs.FetchLaws.{is_none}
 use Rattle.alp_pages.proofs.LeaderLaws.{leader_places}
 use Rattle.alp_pages.proofs.NamingLaws.{apart, fresh, eqb_other, named-is}
 use Rattle.alp_pages.proofs.NodeTests.{nodes_tell, same_node-true, same_node-itself, pages_alike}
 use Rattle.alp_pages.proofs.SpellLaws.{node_file, node_number}
-use Rattle.alp_pages.proofs.UnnamedLaws.{written_same, written_other, low_page, low_entries, low_rows, unnamed}
+use Rattle.alp_pages.proofs.UnnamedLaws.{written_same, written_other, low_page, low_entries, low_rows}
 
 module _ (home : ℕ) (at : Pages) (v : Volume) (m : View) (s : Spells home at v m) (f : FileId) (n lp i p : ℕ) (leader : v.places.of (LeaderOf f) ≡ Some lp) (few : n < 4096) (no_index : v.places.of (IndexOf f (n / 128)) ≡ None)
     (free_i : v.places.at i ≡ None) (free_p : v.places.at p ≡ None) (ne_places : i ≡ p → ⊥) (in_i : (257 ≤ i) × (i < home)) (in_p : (257 ≤ p) × (p < home))

@@ -1,11 +1,11 @@
 -- The cells that pages without damage stand for, as a map, and what it has at each key.
-use Rattle.std.specs.Prelude.{Bool, true, false, cond, ◌==◌, is_some, Option, None, Some, option_map, sum_by, map as list_map}
+use Rattle.std.specs.Prelude.{Bool, true, false, cond, ◌==◌, Option, None, Some, option_map, sum_by, map as list_map}
 use Rattle.std.specs.Option.{option_and_then, option_to_list}
 use Rattle.std.specs.List.{cons_option, flat_map, filter_map, range_with_len, enumerate_from}
 use Rattle.std.specs.Ordering.{eq_by_cmp}
 use Rattle.std.specs.FinMap as map
 use Rattle.std.specs.FinMap.{get-insert, get-empty, len-entries, len-empty}
-use Rattle.std.proofs.Common.{◌≡◌, ℕ, zero, suc, ◌+◌, ◌-◌, ◌*◌, ◌<◌, List, [], ◌∷◌, ◌++◌, length, refl, sym, ◌∙◌, ap, subst, arith}
+use Rattle.std.proofs.Common.{◌≡◌, ℕ, zero, suc, ◌+◌, ◌-◌, ◌*◌, List, [], ◌∷◌, ◌++◌, length, refl, sym, ◌∙◌, ap, subst, arith}
 use Rattle.std.proofs.lemmas.List.Sums.{sum_by-cons, sum_by-append}
 use Rattle.alp_base.specs.declared.ids.FileId.{FileId}
 use Rattle.alp_base.specs.declared.key.Key.{Key}
@@ -18,8 +18,7 @@ use Rattle.alp_files.specs.declared.cell.Cell.{Cell}
 use Rattle.alp_files.specs.declared.cell.Cell.TheVariants as cell
 use Rattle.alp_files.specs.declared.cell.Props.{Props}
 use Rattle.alp_files.specs.declared.cell.OwnerRecord.{OwnerRecord}
-use Rattle.alp_files.specs.Cells.{Cells, View, no_props, same_name}
-use Rattle.alp_files.specs.Edits.{Put, edit_map}
+use Rattle.alp_files.specs.Cells.{Cells, no_props, same_name}
 use Rattle.alp_files.specs.Files.{IsOfKind, cost, charge_of}
 use Rattle.alp_files.proofs.ChargeLemmas.{AreKinds, cost_in, charge-put, charge-owner, charge-page}
 use Rattle.alp_files.proofs.SameLemmas.{same_name-true, same_name-itself, same_owner_key, same_key-itself, same_key-true}
@@ -29,9 +28,9 @@ use Rattle.alp_pages.specs.declared.entry.Entry.{Entry}
 use Rattle.alp_pages.specs.Nodes.{Node, LeaderOf, IndexOf, DataOf, same_node}
 use Rattle.alp_pages.specs.Pages.{Pages, entry_in, row_in}
 use Rattle.alp_pages.specs.Volume.{child_of, row_of_node}
-use Rattle.alp_pages.specs.Damage.{Part, Header, Slot, OwnerRow, NodePage, Name, entry_there, owner_there, row_there, leader_at, leader_name, child_name, names_of, names_in, parts_of, parts, cost_of, charge_in, are_new, added, index_part, size_of, is_right, names_after}
+use Rattle.alp_pages.specs.Damage.{Part, Header, Slot, OwnerRow, NodePage, Name, entry_there, owner_there, row_there, leader_at, leader_name, child_name, names_in, parts_of, parts, cost_of, charge_in, are_new, added, index_part, size_of, names_after}
 use Rattle.alp_pages.proofs.NodeTests.{leaders_alike, pages_alike}
-use Rattle.alp_pages.proofs.NamesLaws.{places_by, AreRight, IsNew, new_parts, no_node}
+use Rattle.alp_pages.proofs.NamesLaws.{places_by, AreRight, new_parts, no_node}
 use Rattle.alp_pages.proofs.SearchLaws.{is_here, find_below}
 
 abbrev is_key : Key → Key → Bool

@@ -1,31 +1,28 @@
 -- What one changed page makes of a volume: a page of data, a leader, an owner's record, a file that goes.
-use Rattle.std.specs.Prelude.{◌⊎◌, Bool, true, false, cond, not, ◌==◌, is_some, Option, None, Some, option_map, slice_index_or}
+use Rattle.std.specs.Prelude.{◌⊎◌, Bool, true, false, cond, ◌==◌, is_some, Option, None, Some, option_map}
 use Rattle.std.specs.Option.{option_and_then}
 use Rattle.std.specs.Ordering.{eq_by_cmp}
-use Rattle.std.proofs.Common.{◌≡◌, ℕ, ◌<◌, ◌≤◌, ◌+◌, ◌*◌, ◌/◌, ◌%◌, List, [], ◌∷◌, inl, inr, refl, sym, ◌∙◌, ap, subst, arith, eq-eqb}
+use Rattle.std.proofs.Common.{◌≡◌, ℕ, ◌<◌, ◌≤◌, ◌+◌, ◌/◌, ◌%◌, List, [], ◌∷◌, inl, inr, refl, sym, ◌∙◌, ap, subst, arith, eq-eqb}
 use Rattle.std.proofs.lemmas.Bool.{eqb-true, cond-true, cond-false}
 use Rattle.alp_base.specs.declared.ids.FileId.{FileId}
 use Rattle.alp_base.specs.declared.key.Key.{Key}
 use Rattle.alp_base.specs.declared.key.Key.TheVariants.{Leader, PageOf, OwnerOf}
 use Rattle.alp_base.specs.Keys.{key_cmp}
 use Rattle.alp_fields.specs.Forms.{whole}
-use Rattle.alp_files.specs.declared.cell.Cell.{Cell}
 use Rattle.alp_files.specs.declared.cell.Cell.TheVariants as cell
 use Rattle.alp_files.specs.declared.cell.OwnerRecord.{OwnerRecord}
 use Rattle.alp_files.specs.Cells.{View, same_file, same_name, owner_in}
-use Rattle.alp_files.specs.Edits.{Edit, Put, Drop, edit_at, after, is_in_file}
+use Rattle.alp_files.specs.Edits.{Put, Drop, after}
 use Rattle.alp_files.proofs.SameLemmas.{same_file-true, same_file-itself, same_name-true, same_name-itself, same_key-true, same_key-itself, same_leader_key, same_page_key, same_owner_key}
 use Rattle.alp_leader.specs.declared.leader.Leader.{Leader as LeaderRecord}
 use Rattle.alp_leader.specs.Leader.{leader_page}
-use Rattle.alp_pages.specs.declared.entry.Entry.{Entry}
 use Rattle.alp_pages.specs.Naming.{Naming, IsNaming, named, unless, without, number_or_0}
 use Rattle.alp_pages.specs.Nodes.{Node, LeaderOf, IndexOf, DataOf, file_of}
 use Rattle.alp_pages.specs.Pages.{Pages, written, entry, entry_in, part_of, read_row, row_in}
 use Rattle.alp_pages.specs.Changes.{HasRow, HasSlot, is_of, volume_without}
 use Rattle.alp_pages.specs.Rows.{SpellsRow}
-use Rattle.alp_pages.specs.Volume.{Volume, IsShaped, Spells, nodes, row_of_node, entry_for, record_for, props_cell}
+use Rattle.alp_pages.specs.Volume.{Volume, Spells, nodes, row_of_node, entry_for, record_for, props_cell}
 use Rattle.alp_pages.proofs.NamingLaws.{Tells, apart, eqb_other, named-is, without-is}
-use Rattle.alp_pages.proofs.FetchLaws.{there_is}
 use Rattle.alp_pages.proofs.SpellLaws.{node_file, node_number}
 use Rattle.alp_pages.proofs.UnnamedLaws.{written_same, written_other, low_page, low_entries, low_rows}
 

@@ -1,9 +1,8 @@
 -- What the leaders of a spelled volume cost is what its cells do.
-use Rattle.std.specs.Prelude.{Bool, true, false, cond, not, is_some, sum_by, Option, None, Some, option_map}
+use Rattle.std.specs.Prelude.{Bool, true, false, cond, is_some, sum_by, Option, None, Some, option_map}
 use Rattle.std.specs.List.{range_with_len}
 use Rattle.std.specs.FinMap as map
-use Rattle.std.proofs.Common.{◌≡◌, ℕ, zero, suc, ◌<◌, ◌≤◌, ◌+◌, List, [], ◌∷◌, refl, sym, ◌∙◌, ap, subst, arith}
-use Rattle.std.proofs.lemmas.Bool.{cond-true, cond-false}
+use Rattle.std.proofs.Common.{◌≡◌, ℕ, zero, suc, ◌<◌, ◌≤◌, ◌+◌, List, ◌∷◌, refl, sym, ◌∙◌, ap, subst, arith}
 use Rattle.std.proofs.lemmas.List.Sums.{sum_by-cons}
 use Rattle.alp_base.specs.declared.ids.FileId.{FileId}
 use Rattle.alp_base.specs.declared.key.Key.{Key}
@@ -12,10 +11,9 @@ use Rattle.alp_base.specs.KeyLaws.{keys_total, exact_keys}
 use Rattle.alp_fields.specs.Forms.{whole}
 use Rattle.alp_files.specs.declared.cell.Cell.{Cell}
 use Rattle.alp_files.specs.declared.cell.Cell.TheVariants as cell
-use Rattle.alp_files.specs.declared.cell.Props.{Props}
-use Rattle.alp_files.specs.Cells.{Cells, View, same_file}
+use Rattle.alp_files.specs.Cells.{Cells, same_file}
 use Rattle.alp_files.specs.Edits.{Drop, edit_map, is_in_file}
-use Rattle.alp_files.specs.Files.{IsOfKind, cost, charge_of}
+use Rattle.alp_files.specs.Files.{cost, charge_of}
 use Rattle.alp_files.proofs.ChargeLemmas.{AreKinds, cost_in, charge-drop}
 use Rattle.alp_files.proofs.SumLemmas.{sum_of-nothing}
 use Rattle.alp_files.proofs.HistoryLemmas.{get-edit_map}
@@ -23,8 +21,8 @@ use Rattle.alp_files.proofs.SameLemmas.{same_file-true, same_file-itself}
 use Rattle.alp_leader.specs.declared.leader.Leader.{Leader as LeaderRecord}
 use Rattle.alp_leader.specs.Leader.{leader_page}
 use Rattle.alp_pages.specs.declared.entry.Entry.{Entry}
-use Rattle.alp_pages.specs.Naming.{Naming, IsNaming, number_or_0}
-use Rattle.alp_pages.specs.Nodes.{Node, LeaderOf}
+use Rattle.alp_pages.specs.Naming.{number_or_0}
+use Rattle.alp_pages.specs.Nodes.{LeaderOf}
 use Rattle.alp_pages.specs.Pages.{Pages, entry_in}
 use Rattle.alp_pages.specs.Volume.{Volume, Spells, entry_for, props_cell}
 use Rattle.alp_pages.specs.Damage.{entry_there, leader_at, cost_of, charge_in}

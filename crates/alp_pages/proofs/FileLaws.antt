@@ -1,7 +1,7 @@
 -- A new file: its entry in a free slot, and its leader at a free place, which names no index page yet.
-use Rattle.std.specs.Prelude.{◌⊎◌, Bool, true, false, cond, ◌==◌, is_some, Option, None, Some, option_map, slice_index_or}
+use Rattle.std.specs.Prelude.{Bool, true, false, cond, ◌==◌, is_some, Option, None, Some, option_map, slice_index_or}
 use Rattle.std.specs.Ordering.{eq_by_cmp}
-use Rattle.std.proofs.Common.{◌≡◌, ℕ, ◌<◌, ◌≤◌, ◌+◌, ◌*◌, ◌/◌, ◌%◌, List, [], ◌∷◌, inl, inr, refl, sym, ◌∙◌, ap, subst, arith, eq-eqb}
+use Rattle.std.proofs.Common.{◌≡◌, ℕ, ◌<◌, ◌≤◌, ◌+◌, ◌/◌, ◌%◌, List, [], ◌∷◌, refl, sym, ◌∙◌, ap, subst, arith, eq-eqb}
 use Rattle.std.proofs.lemmas.Bool.{eqb-true, cond-true, cond-false}
 use Rattle.alp_base.specs.declared.ids.FileId.{FileId}
 use Rattle.alp_base.specs.declared.key.Key.TheVariants.{Leader, PageOf}
@@ -13,19 +13,18 @@ use Rattle.alp_files.specs.Edits.{Put, after}
 use Rattle.alp_files.proofs.SameLemmas.{same_file-true, same_file-itself}
 use Rattle.alp_leader.specs.declared.leader.Leader.{Leader as LeaderRecord}
 use Rattle.alp_leader.specs.Leader.{leader_page}
-use Rattle.alp_pages.specs.declared.entry.Entry.{Entry}
-use Rattle.alp_pages.specs.Naming.{Naming, IsNaming, named, number_or_0}
+use Rattle.alp_pages.specs.Naming.{Naming, named, number_or_0}
 use Rattle.alp_pages.specs.Nodes.{Node, LeaderOf, IndexOf, DataOf, same_node}
-use Rattle.alp_pages.specs.Pages.{Pages, written, entry, entry_in, part_of, read_row, row_in}
+use Rattle.alp_pages.specs.Pages.{Pages, written, entry, entry_in, part_of, read_row}
 use Rattle.alp_pages.specs.Rows.{SpellsRow}
-use Rattle.alp_pages.specs.Volume.{Volume, Spells, nodes, child_of, row_of_node, row_of_leader, entry_for, record_for, props_cell}
+use Rattle.alp_pages.specs.Volume.{Volume, Spells, nodes, child_of, row_of_leader, entry_for, props_cell}
 use Rattle.alp_pages.specs.Changes.{HasSlot, IsFree}
 use Rattle.alp_pages.proofs.FetchLaws.{is_none}
-use Rattle.alp_pages.proofs.GrowLaws.{not_same, some_is}
+use Rattle.alp_pages.proofs.GrowLaws.{some_is}
 use Rattle.alp_pages.proofs.NamingLaws.{Tells, fresh, eqb_other, named-is}
 use Rattle.alp_pages.proofs.NodeTests.{nodes_tell, same_node-true, same_node-itself, leaders_alike}
 use Rattle.alp_pages.proofs.SpellLaws.{node_file}
-use Rattle.alp_pages.proofs.UnnamedLaws.{written_same, written_other, low_entries, low_rows, low_page, unnamed}
+use Rattle.alp_pages.proofs.UnnamedLaws.{written_same, written_other, low_entries, unnamed}
 
 files_tell : Tells same_file
 files_tell = record { equal = same_file-true; itself = same_file-itself }

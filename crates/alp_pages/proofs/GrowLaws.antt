@@ -1,24 +1,22 @@
 -- What new pages make of a volume: a page of data in a block that has its index page.
-use Rattle.std.specs.Prelude.{◌⊎◌, Bool, true, false, cond, not, ◌==◌, is_some, Option, None, Some, option_map, slice_index_or, slice_set}
+use Rattle.std.specs.Prelude.{◌⊎◌, Bool, true, false, cond, ◌==◌, is_some, Option, None, Some, option_map, slice_index_or, slice_set}
 use Rattle.std.specs.Ordering.{eq_by_cmp}
 use Rattle.std.proofs.Common.{◌≡◌, ℕ, ◌<◌, ◌≤◌, ◌+◌, ◌*◌, ◌/◌, ◌%◌, List, [], ◌∷◌, length, inl, inr, refl, sym, ◌∙◌, ap, subst, arith, eq-eqb}
 use Rattle.std.proofs.lemmas.Bool.{eqb-true, cond-true, cond-false}
 use Rattle.std.proofs.lemmas.List.{get_or-set_same, get_or-set_other}
 use Rattle.alp_base.specs.declared.ids.FileId.{FileId}
-use Rattle.alp_base.specs.declared.key.Key.{Key}
-use Rattle.alp_base.specs.declared.key.Key.TheVariants.{Leader, PageOf, OwnerOf}
+use Rattle.alp_base.specs.declared.key.Key.TheVariants.{PageOf}
 use Rattle.alp_base.specs.Keys.{key_cmp}
 use Rattle.alp_fields.specs.Forms.{whole}
-use Rattle.alp_files.specs.declared.cell.Cell.{Cell}
 use Rattle.alp_files.specs.declared.cell.Cell.TheVariants as cell
-use Rattle.alp_files.specs.Cells.{View, same_file}
+use Rattle.alp_files.specs.Cells.{View}
 use Rattle.alp_files.specs.Edits.{Put, after}
 use Rattle.alp_leader.specs.Leader.{leader_page}
-use Rattle.alp_pages.specs.Naming.{Naming, IsNaming, named, number_or_0}
+use Rattle.alp_pages.specs.Naming.{Naming, named, number_or_0}
 use Rattle.alp_pages.specs.Nodes.{Node, LeaderOf, IndexOf, DataOf, same_node}
 use Rattle.alp_pages.specs.Pages.{Pages, written, index_page}
 use Rattle.alp_pages.specs.Rows.{SpellsRow}
-use Rattle.alp_pages.specs.Volume.{Volume, Spells, nodes, child_of, width_of, row_of_node, props_cell}
+use Rattle.alp_pages.specs.Volume.{Volume, Spells, nodes, child_of, width_of, props_cell}
 use Rattle.alp_pages.proofs.IndexLaws.{index_length}
 use Rattle.alp_pages.proofs.NamingLaws.{apart, fresh, eqb_other, named-is}
 use Rattle.alp_pages.proofs.NodeTests.{nodes_tell, same_node-true, same_node-itself, pages_alike}

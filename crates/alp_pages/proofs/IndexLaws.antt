@@ -1,14 +1,12 @@
 -- Index pages have 128 places, and name a place that is put into them.
-use Rattle.std.specs.Prelude.{Bool, true, false, cond, not, ◌||◌, Option, None, Some, ◌==◌, slice_set, slice_index_or, replicate}
-use Rattle.std.specs.List.{list_any}
-use Rattle.std.proofs.Common.{◌≡◌, ℕ, zero, suc, ◌<◌, ◌≤◌, ◌+◌, ◌*◌, List, [], ◌∷◌, length, refl, sym, ◌∙◌, ap, subst, arith}
+use Rattle.std.specs.Prelude.{true, Some, slice_index_or, replicate}
+use Rattle.std.proofs.Common.{◌≡◌, ℕ, zero, suc, List, length, refl, sym, ◌∙◌, ap, subst, arith}
 use Rattle.alp_fields.specs.Forms.{IsForm, whole, repeated, u32, IsSet}
 use Rattle.alp_fields.proofs.PlaceLemmas.{set_whole}
 use Rattle.alp_fields.proofs.FormLaws.{whole_back, whole_spelled, repeated_law, checked_law}
 use Rattle.alp_fields.proofs.FieldLaws.{u32_law}
 use Rattle.alp_fields.proofs.FixedLaws.{u32_length, repeated_length}
 use Rattle.alp_pages.specs.Pages.{index_page, has_a_place}
-use Rattle.alp_pages.proofs.NamingLaws.{eqb_other}
 
 pub index_page_law : IsForm index_page
 unfolding index_page

@@ -1,10 +1,9 @@
 -- Names that are new, one after the other, are names one to one.
-use Rattle.std.specs.Prelude.{◌⊎◌, Bool, true, false, cond, not, ◌&&◌, ◌||◌, ◌==◌, nat_le, nat_lt, Option, None, Some}
-use Rattle.std.specs.List.{list_any}
-use Rattle.std.proofs.Common.{◌≡◌, ℕ, ◌<◌, ◌≤◌, List, [], ◌∷◌, inl, inr, refl, sym, ◌∙◌, ap, subst, arith, eq-eqb}
+use Rattle.std.specs.Prelude.{◌⊎◌, Bool, true, false, cond, not, ◌&&◌, ◌||◌, ◌==◌, nat_le, nat_lt, None, Some}
+use Rattle.std.proofs.Common.{◌≡◌, ℕ, ◌<◌, ◌≤◌, List, [], ◌∷◌, inl, inr, refl, sym, ◌∙◌, ap, subst, eq-eqb}
 use Rattle.std.proofs.lemmas.Bool.{eqb-true, cond-true, cond-false, leb-true, ltb-true}
 use Rattle.alp_fields.proofs.FormLaws.{and_parts}
-use Rattle.alp_pages.specs.Naming.{Naming, IsNaming, nameless, named, named_all}
+use Rattle.alp_pages.specs.Naming.{Naming, IsNaming, nameless, named_all}
 use Rattle.alp_pages.specs.Nodes.{Node, same_node}
 use Rattle.alp_pages.specs.Pages.{Pages}
 use Rattle.alp_pages.specs.Damage.{Part, Name, has_node, has_place, is_new, are_new, added, names_in, is_read, is_right, first_wrong, place_of, names_after}

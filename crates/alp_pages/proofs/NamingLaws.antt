@@ -1,6 +1,6 @@
 -- Laws of names and numbers.
-use Rattle.std.specs.Prelude.{Bool, true, false, cond, is_some, Option, None, Some, ◌==◌}
-use Rattle.std.proofs.Common.{◌≡◌, ℕ, ◌<◌, ◌≤◌, refl, sym, ◌∙◌, ap, subst, arith, eq-eqb}
+use Rattle.std.specs.Prelude.{Bool, true, false, cond, Option, None, Some, ◌==◌}
+use Rattle.std.proofs.Common.{◌≡◌, ℕ, ◌<◌, ◌≤◌, refl, sym, ◌∙◌, ap, arith, eq-eqb}
 use Rattle.std.proofs.lemmas.Bool.{eqb-true, cond-true, cond-false}
 use Rattle.alp_pages.specs.Naming.{Naming, IsNaming, named, without, unless}
 

@@ -1,9 +1,8 @@
 -- A header and pages of zeros are a volume that holds nothing.
-use Rattle.std.specs.Prelude.{Bool, true, false, is_some, Option, None, Some, take, drop, replicate}
-use Rattle.std.specs.List.{list_all}
+use Rattle.std.specs.Prelude.{false, is_some, None, Some, take, replicate}
 use Rattle.std.specs.FinMap as map
 use Rattle.std.specs.FinMap.{get-empty}
-use Rattle.std.proofs.Common.{◌≡◌, ℕ, zero, suc, ◌<◌, ◌≤◌, ◌+◌, ◌-◌, ◌*◌, ◌/◌, ◌%◌, List, [], ◌∷◌, refl, sym, ◌∙◌, ap, subst, arith}
+use Rattle.std.proofs.Common.{◌≡◌, ℕ, ◌<◌, ◌≤◌, ◌+◌, ◌-◌, ◌*◌, ◌/◌, ◌%◌, List, refl, sym, ◌∙◌, ap, arith}
 use Rattle.std.proofs.lemmas.List.{drop-replicate, take-replicate}
 use Rattle.alp_base.specs.declared.key.Key.{Key}
 use Rattle.alp_base.specs.declared.key.Key.TheVariants.{Leader, PageOf, OwnerOf}
@@ -12,11 +11,10 @@ use Rattle.alp_base.specs.Pages.{zero_page}
 use Rattle.alp_fields.specs.Forms.{whole, u8, u32}
 use Rattle.alp_fields.specs.Fields.{file_id}
 use Rattle.alp_files.specs.declared.cell.Cell.{Cell}
-use Rattle.alp_files.specs.Cells.{Cells}
 use Rattle.alp_files.proofs.SoundLemmas.{empty_sound}
-use Rattle.alp_pages.specs.Naming.{Naming, IsNaming, nameless}
+use Rattle.alp_pages.specs.Naming.{IsNaming, nameless}
 use Rattle.alp_pages.specs.Pages.{Pages, header_page, written, part_of, entry, entry_in, read_row, row_in}
-use Rattle.alp_pages.specs.Volume.{Volume, IsShaped, Spells, StandFor}
+use Rattle.alp_pages.specs.Volume.{Volume, StandFor}
 use Rattle.alp_pages.proofs.NamingLaws.{eqb_other}
 use Rattle.alp_pages.proofs.UnnamedLaws.{written_same, written_other}
 

@@ -1,5 +1,5 @@
 -- The nodes of a map of cells: how many there are, and that none stands twice.
-use Rattle.std.specs.Prelude.{Bool, true, false, cond, not, ◌&&◌, ◌||◌, ◌==◌, is_some, sum_by, Option, None, Some, map as list_map}
+use Rattle.std.specs.Prelude.{Bool, true, false, cond, ◌&&◌, ◌||◌, is_some, sum_by, Option, None, Some, map as list_map}
 use Rattle.std.specs.List.{list_any, AllByRecursion}
 use Rattle.std.specs.declared.cmp.Ordering.{Ordering}
 use Rattle.std.specs.declared.cmp.Ordering.TheVariants.{Less, Equal, Greater}
@@ -8,23 +8,22 @@ use Rattle.std.specs.FinMap as map
 use Rattle.std.specs.FinMap.{contains_key-keys, entries_sorted, get-insert, get-empty, len-entries}
 use Rattle.std.specs.FinMap.Entries.{below_all}
 use Rattle.std.proofs.Math.Dec.{T}
-use Rattle.std.proofs.Common.{◌≡◌, ℕ, zero, suc, ◌<◌, ◌≤◌, ◌+◌, ◌-◌, ◌*◌, ◌/◌, ◌%◌, List, [], ◌∷◌, ◌++◌, length, refl, sym, ◌∙◌, ap, subst, arith, eq-eqb}
-use Rattle.std.proofs.lemmas.Bool.{eqb-true, and_from, cond-true}
+use Rattle.std.proofs.Common.{◌≡◌, ℕ, ◌-◌, ◌*◌, ◌/◌, ◌%◌, List, [], ◌∷◌, ◌++◌, length, refl, sym, ◌∙◌, ap, subst, arith, eq-eqb}
+use Rattle.std.proofs.lemmas.Bool.{and_from, cond-true}
 use Rattle.std.proofs.lemmas.List.Sums.{sum_by-cons}
 use Rattle.std.proofs.lemmas.List.{length-append, length-map}
 use Rattle.alp_base.specs.declared.ids.FileId.{FileId}
 use Rattle.alp_base.specs.declared.key.Key.{Key}
 use Rattle.alp_base.specs.declared.key.Key.TheVariants.{Leader, PageOf, OwnerOf}
 use Rattle.alp_base.specs.Keys.{key_cmp}
-use Rattle.alp_base.specs.KeyLaws.{keys_total, exact_keys}
+use Rattle.alp_base.specs.KeyLaws.{keys_total}
 use Rattle.alp_files.specs.declared.cell.Cell.{Cell}
 use Rattle.alp_files.specs.Cells.{Cells, same_file}
-use Rattle.alp_files.specs.Counts.{Blocks, blocks_of, block_of, with_block, places_at, used_of}
-use Rattle.alp_files.proofs.SameLemmas.{same_file-true, same_file-itself, same_leader_key, same_page_key, same_key-itself, same_key-true}
-use Rattle.alp_base.proofs.NameLemmas.{and_left, and_right}
+use Rattle.alp_files.specs.Counts.{blocks_of, block_of, places_at, used_of}
+use Rattle.alp_files.proofs.SameLemmas.{same_file-itself, same_page_key, same_key-itself, same_key-true}
 use Rattle.alp_pages.specs.Nodes.{Node, LeaderOf, IndexOf, DataOf, same_node}
-use Rattle.alp_pages.specs.Counted.{AreApart, nodes_in, indices_in, nodes_of, is_held, count_below, is_among, taken_places}
-use Rattle.alp_pages.specs.Naming.{Naming, IsNaming}
+use Rattle.alp_pages.specs.Counted.{AreApart, nodes_in, indices_in, nodes_of, is_held, is_among, taken_places}
+use Rattle.alp_pages.specs.Naming.{IsNaming}
 use Rattle.alp_pages.specs.Volume.{Volume, IsShaped}
 use Rattle.alp_pages.proofs.CountLaws.{count-names, count-same}
 use Rattle.alp_pages.proofs.NodeTests.{nodes_tell, same_index, leaders_alike, pages_alike}

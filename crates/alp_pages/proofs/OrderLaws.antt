@@ -1,9 +1,9 @@
 -- Pages that stand for cells have no damaged one: in the order of damage each part is right, and each name is new.
-use Rattle.std.specs.Prelude.{◌⊎◌, Bool, true, false, cond, not, ◌&&◌, ◌||◌, ◌==◌, nat_le, nat_lt, is_some, Option, None, Some, option_map, slice_index_or, map as list_map}
+use Rattle.std.specs.Prelude.{Bool, true, false, cond, not, ◌||◌, ◌==◌, nat_lt, is_some, Option, None, Some, option_map, slice_index_or, map as list_map}
 use Rattle.std.specs.Option.{option_and_then, option_to_list}
-use Rattle.std.specs.List.{cons_option, list_any, list_all, flat_map, filter_map, enumerate_from, range_with_len}
+use Rattle.std.specs.List.{cons_option, list_all, flat_map, filter_map, enumerate_from, range_with_len}
 use Rattle.std.specs.FinMap as map
-use Rattle.std.proofs.Common.{◌≡◌, ℕ, zero, suc, ◌<◌, ◌≤◌, ◌+◌, ◌-◌, ◌*◌, ◌/◌, ◌%◌, List, [], ◌∷◌, ◌++◌, length, inl, inr, refl, sym, ◌∙◌, ap, subst, arith, eq-eqb}
+use Rattle.std.proofs.Common.{◌≡◌, ℕ, zero, suc, ◌<◌, ◌≤◌, ◌+◌, ◌-◌, ◌*◌, List, [], ◌∷◌, ◌++◌, length, inl, inr, refl, sym, ◌∙◌, ap, subst, arith, eq-eqb}
 use Rattle.std.proofs.lemmas.Bool.{eqb-true, and_from, le-leb, lt-ltb}
 use Rattle.alp_base.specs.declared.ids.FileId.{FileId}
 use Rattle.alp_base.specs.declared.key.Key.TheVariants.{Leader, PageOf, OwnerOf}
@@ -12,20 +12,20 @@ use Rattle.alp_files.specs.declared.cell.Cell.{Cell}
 use Rattle.alp_files.specs.declared.cell.Cell.TheVariants as cell
 use Rattle.alp_files.specs.declared.cell.Props.{Props}
 use Rattle.alp_files.specs.declared.cell.OwnerRecord.{OwnerRecord}
-use Rattle.alp_files.specs.Cells.{Cells, View, same_name, owner_in}
+use Rattle.alp_files.specs.Cells.{Cells, same_name, owner_in}
 use Rattle.alp_files.specs.Sound.{AreSound}
 use Rattle.alp_files.proofs.SameLemmas.{same_name-true, same_name-itself}
 use Rattle.alp_leader.specs.declared.leader.Leader.{Leader as LeaderRecord}
 use Rattle.alp_leader.specs.Leader.{leader_page}
 use Rattle.alp_pages.specs.declared.entry.Entry.{Entry}
-use Rattle.alp_pages.specs.Naming.{Naming, IsNaming, number_or_0}
+use Rattle.alp_pages.specs.Naming.{number_or_0}
 use Rattle.alp_pages.specs.Nodes.{Node, LeaderOf, IndexOf, DataOf, same_node}
 use Rattle.alp_pages.specs.Pages.{Pages, header_page, entry_in, row_in}
-use Rattle.alp_pages.specs.Volume.{Volume, Spells, StandFor, nodes, entry_for, record_for, props_cell, row_of_node, width_of, child_of}
-use Rattle.alp_pages.specs.Damage.{Part, Header, Slot, OwnerRow, NodePage, Name, entry_there, owner_there, row_there, leader_name, child_name, names_of, names_in, size_of, index_part, parts_of, parts, has_node, has_place, is_new, are_new, added, is_named, has_owner, is_right_row, is_owned, is_right_node, is_below, is_within, is_read, is_right, charge_in, damage_of}
+use Rattle.alp_pages.specs.Volume.{Volume, Spells, StandFor, entry_for, record_for, props_cell, row_of_node, width_of, child_of}
+use Rattle.alp_pages.specs.Damage.{Part, Header, Slot, OwnerRow, NodePage, Name, entry_there, owner_there, row_there, leader_name, child_name, names_of, names_in, size_of, index_part, parts_of, parts, has_node, has_place, is_new, are_new, added, is_named, has_owner, is_right_row, is_owned, is_right_node, is_below, is_within, is_right, charge_in, damage_of}
 use Rattle.alp_pages.proofs.NodeTests.{same_node-true}
 use Rattle.alp_pages.proofs.FetchLaws.{there_is}
-use Rattle.alp_pages.proofs.LeaderLaws.{row_length, leader_size, reads_leader}
+use Rattle.alp_pages.proofs.LeaderLaws.{row_length, reads_leader}
 use Rattle.alp_pages.proofs.Members.{In, any-in, in-any, all-in, in-range, in-range-back, in-enumerate-back}
 use Rattle.alp_pages.proofs.NamesLaws.{AreRight, right_none}
 use Rattle.alp_pages.proofs.ChargeLaws.{charge_spelled, entry_of_slot}

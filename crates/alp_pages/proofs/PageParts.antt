@@ -1,14 +1,14 @@
 -- A part of a page is put, and the other parts stay.
-use Rattle.std.specs.Prelude.{◌⊎◌, Bool, true, false, cond, ◌||◌, ◌&&◌, not, ◌==◌, Option, None, Some, option_map, Ok, take, drop, replicate}
+use Rattle.std.specs.Prelude.{◌⊎◌, Bool, true, false, cond, ◌||◌, not, ◌==◌, Option, None, Some, option_map, Ok, take, drop, replicate}
 use Rattle.std.specs.List.{list_all}
-use Rattle.std.proofs.Common.{◌≡◌, ℕ, zero, suc, ◌<◌, ◌≤◌, ◌+◌, ◌-◌, ◌*◌, List, [], ◌∷◌, ◌++◌, length, inl, inr, refl, sym, ◌∙◌, ap, subst, arith, append_assoc, length-append, eq-eqb}
+use Rattle.std.proofs.Common.{◌≡◌, ℕ, ◌<◌, ◌≤◌, ◌+◌, ◌-◌, ◌*◌, List, [], ◌∷◌, ◌++◌, length, inl, inr, refl, sym, ◌∙◌, ap, arith, append_assoc, length-append}
 use Rattle.std.proofs.lemmas.Bool.{cond-false, eqb-true}
 use Rattle.std.proofs.lemmas.List.{take_at, drop_at, take-take, take-append-le, drop-drop, drop-take, length-take-le}
 use Rattle.alp_base.specs.Pages.{overwritten}
 use Rattle.alp_base.specs.declared.ids.FileId.{FileId}
-use Rattle.alp_fields.specs.Forms.{Form, IsForm, IsSet, pair, mapped, checked, zeros_of, u32, whole, ended, ◌>>=◌}
+use Rattle.alp_fields.specs.Forms.{Form, IsSet, pair, mapped, checked, zeros_of, u32, whole, ended, ◌>>=◌}
 use Rattle.alp_fields.specs.Fields.{file_id}
-use Rattle.alp_fields.proofs.FormLaws.{whole_back, and_parts, pair_law, mapped_law, checked_law, zeros_law}
+use Rattle.alp_fields.proofs.FormLaws.{whole_back, and_parts, pair_law, checked_law, zeros_law}
 use Rattle.alp_fields.proofs.FieldLaws.{file_id_law, u32_law}
 use Rattle.alp_fields.proofs.FixedLaws.{file_id_length, u32_length}
 use Rattle.alp_fields.proofs.PlaceLemmas.{set_pair}
@@ -16,7 +16,7 @@ use Rattle.alp_files.specs.declared.cell.OwnerRecord.{OwnerRecord}
 use Rattle.alp_owner.specs.Owner.{owner_record, unused_record}
 use Rattle.alp_owner.proofs.OwnerLaw.{owner_record_law, owner_record_length, unused_is_none}
 use Rattle.alp_pages.specs.declared.entry.Entry.{Entry}
-use Rattle.alp_pages.specs.Pages.{part_of, entry, entry_of, entry_fields, is_entry, is_no_file, no_file, read_row}
+use Rattle.alp_pages.specs.Pages.{part_of, entry, entry_of, entry_fields, is_entry, is_no_file, read_row}
 use Rattle.alp_pages.proofs.NamingLaws.{eqb_other}
 use Rattle.alp_pages.proofs.Members.{order_of}
 use Rattle.alp_pages.proofs.NewLaws.{no_entry}

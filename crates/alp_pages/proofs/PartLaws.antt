@@ -1,17 +1,15 @@
 -- Which parts a volume has, what they name, and that what is named is named by one part.
-use Rattle.std.specs.Prelude.{◌⊎◌, Bool, true, false, cond, not, ◌&&◌, ◌==◌, is_some, Option, None, Some, slice_index_or, map as list_map}
-use Rattle.std.specs.List.{flat_map, filter_map, range_with_len, enumerate_from}
-use Rattle.std.specs.Option.{option_to_list}
-use Rattle.std.proofs.Common.{◌≡◌, ℕ, ◌<◌, ◌≤◌, ◌+◌, ◌-◌, ◌*◌, List, [], ◌∷◌, ◌++◌, length, inl, inr, refl, sym, ◌∙◌, ap, subst, arith, eq-eqb}
-use Rattle.std.proofs.lemmas.Bool.{eqb-true, cond-true, cond-false}
-use Rattle.alp_base.specs.declared.ids.FileId.{FileId}
+use Rattle.std.specs.Prelude.{◌⊎◌, Bool, true, false, cond, ◌==◌, Option, None, Some, slice_index_or, map as list_map}
+use Rattle.std.specs.List.{flat_map, range_with_len, enumerate_from}
+use Rattle.std.proofs.Common.{◌≡◌, ℕ, ◌<◌, ◌+◌, ◌-◌, ◌*◌, List, ◌++◌, length, inl, inr, refl, sym, ◌∙◌, ap, subst, arith, eq-eqb}
+use Rattle.std.proofs.lemmas.Bool.{cond-false}
 use Rattle.alp_fields.specs.Forms.{whole}
 use Rattle.alp_leader.specs.Leader.{leader_page}
 use Rattle.alp_pages.specs.declared.entry.Entry.{Entry}
-use Rattle.alp_pages.specs.Nodes.{Node, LeaderOf, IndexOf, DataOf}
+use Rattle.alp_pages.specs.Nodes.{Node, LeaderOf, IndexOf}
 use Rattle.alp_pages.specs.Pages.{Pages, entry_in}
 use Rattle.alp_pages.specs.Volume.{child_of, row_of_node}
-use Rattle.alp_pages.specs.Damage.{Part, Header, Slot, OwnerRow, NodePage, Name, entry_there, row_there, leader_name, child_name, names_of, names_in, size_of, index_part, parts_of, parts}
+use Rattle.alp_pages.specs.Damage.{Part, Header, Slot, OwnerRow, NodePage, Name, entry_there, row_there, child_name, names_of, size_of, index_part, parts_of, parts}
 use Rattle.alp_pages.proofs.NamingLaws.{eqb_other}
 use Rattle.alp_pages.proofs.Members.{In, in-left, in-right, in-append, in-map, in-map-back, in-filter_map, in-filter_map-back, in-flat_map, in-flat_map-back, in-range, in-range-back, in-enumerate, in-enumerate-back}
 

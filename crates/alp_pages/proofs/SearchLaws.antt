@@ -1,7 +1,7 @@
 -- Names that are given number by number, and found by search.
-use Rattle.std.specs.Prelude.{Bool, true, false, cond, nat_lt, is_some, Option, None, Some}
-use Rattle.std.proofs.Common.{◌≡◌, ℕ, zero, suc, ◌<◌, ◌≤◌, refl, sym, ◌∙◌, ap, subst, arith}
-use Rattle.std.proofs.lemmas.Bool.{cond-true, cond-false, ltb-true, lt-ltb}
+use Rattle.std.specs.Prelude.{Bool, true, false, cond, nat_lt, Option, None, Some}
+use Rattle.std.proofs.Common.{◌≡◌, ℕ, zero, suc, ◌<◌, refl, sym, ◌∙◌, ap, arith}
+use Rattle.std.proofs.lemmas.Bool.{cond-true, ltb-true, lt-ltb}
 use Rattle.alp_pages.specs.Naming.{Naming, IsNaming}
 use Rattle.alp_pages.proofs.NamingLaws.{Tells}
 

@@ -1,22 +1,20 @@
 -- Pages without damage spell a volume: which entry, row and place everything has, and what each page says of it.
-use Rattle.std.specs.Prelude.{◌⊎◌, Bool, true, false, cond, not, ◌&&◌, ◌==◌, nat_le, is_some, Option, None, Some, option_map, slice_index_or}
+use Rattle.std.specs.Prelude.{◌⊎◌, true, Option, None, Some, slice_index_or}
 use Rattle.std.specs.Option.{option_to_list}
-use Rattle.std.proofs.Common.{◌≡◌, ℕ, zero, suc, ◌<◌, ◌≤◌, ◌+◌, ◌-◌, ◌*◌, ◌/◌, ◌%◌, List, [], ◌∷◌, length, inl, inr, refl, sym, ◌∙◌, ap, subst, arith}
+use Rattle.std.proofs.Common.{◌≡◌, ℕ, zero, suc, ◌<◌, ◌+◌, ◌-◌, ◌*◌, List, [], length, inl, inr, refl, sym, ◌∙◌, ap, subst, arith}
 use Rattle.alp_base.specs.declared.ids.FileId.{FileId}
 use Rattle.alp_fields.proofs.FormLaws.{and_parts}
-use Rattle.alp_fields.specs.Forms.{whole}
-use Rattle.alp_leader.specs.Leader.{leader_page}
 use Rattle.alp_pages.specs.declared.entry.Entry.{Entry}
-use Rattle.alp_pages.specs.Naming.{Naming, IsNaming, number_or_0, named_all}
-use Rattle.alp_pages.specs.Nodes.{Node, LeaderOf, IndexOf, DataOf, same_node}
+use Rattle.alp_pages.specs.Naming.{Naming, IsNaming, number_or_0}
+use Rattle.alp_pages.specs.Nodes.{Node, LeaderOf, IndexOf, DataOf}
 use Rattle.alp_pages.specs.Pages.{Pages, entry_in}
 use Rattle.alp_pages.specs.Rows.{SpellsRow}
-use Rattle.alp_pages.specs.Volume.{Volume, nodes, child_of, width_of, row_of_node}
-use Rattle.alp_pages.specs.Damage.{Part, Header, Slot, OwnerRow, NodePage, Name, place_of, entry_there, row_there, leader_name, names_of, names_in, parts, is_read, is_within, is_right_node, names_after}
+use Rattle.alp_pages.specs.Volume.{nodes, child_of, width_of, row_of_node}
+use Rattle.alp_pages.specs.Damage.{Part, Header, Slot, OwnerRow, NodePage, Name, place_of, entry_there, row_there, leader_name, names_of, names_in, parts, is_within, is_right_node, names_after}
 use Rattle.alp_pages.proofs.LeaderLaws.{row_length}
 use Rattle.alp_pages.proofs.Members.{In}
 use Rattle.alp_pages.proofs.NamesLaws.{places_by, AreRight, all_are_names, placed, origin, is_read_in}
-use Rattle.alp_pages.proofs.PartLaws.{Named, row-names, row-names-back, slot-part, leader-part, index-part, leader_row, leader_size_at, IsLeaderPart, IsIndexPart, OfNode, Kind, OfHeader, OfSlot, OfRow, OfPage, kind_of}
+use Rattle.alp_pages.proofs.PartLaws.{Named, row-names, row-names-back, slot-part, leader-part, index-part, leader_row, leader_size_at, OfNode, Kind, OfHeader, OfSlot, OfRow, OfPage, kind_of}
 
 -- the node of a node's page
 abbrev pub node_in : Part → Node

@@ -1,12 +1,11 @@
 -- Pages without damage stand for cells.
-use Rattle.std.specs.Prelude.{◌⊎◌, Bool, true, false, cond, not, ◌&&◌, ◌||◌, ◌==◌, nat_lt, is_some, Option, None, Some, option_map, slice_index_or, map as list_map}
+use Rattle.std.specs.Prelude.{Bool, true, false, not, ◌||◌, ◌==◌, nat_lt, is_some, Option, None, Some, option_map, slice_index_or, map as list_map}
 use Rattle.std.specs.Option.{option_and_then, option_to_list}
-use Rattle.std.specs.List.{list_any, list_all, enumerate_from, range_with_len}
+use Rattle.std.specs.List.{enumerate_from, range_with_len}
 use Rattle.std.specs.FinMap as map
 use Rattle.std.proofs.Common.{◌≡◌, ℕ, zero, suc, ◌<◌, ◌≤◌, ◌+◌, ◌-◌, ◌*◌, ◌/◌, ◌%◌, List, [], ◌∷◌, ◌++◌, length, inl, inr, refl, sym, ◌∙◌, ap, subst, arith, eq-eqb}
 use Rattle.std.proofs.lemmas.Bool.{eqb-true, ltb-true}
 use Rattle.alp_base.specs.declared.ids.FileId.{FileId}
-use Rattle.alp_base.specs.declared.key.Key.{Key}
 use Rattle.alp_base.specs.declared.key.Key.TheVariants.{Leader, PageOf, OwnerOf}
 use Rattle.alp_fields.specs.Forms.{whole}
 use Rattle.alp_fields.proofs.FormLaws.{and_parts, whole_spelled}
@@ -14,9 +13,8 @@ use Rattle.alp_files.specs.declared.cell.Cell.{Cell}
 use Rattle.alp_files.specs.declared.cell.Cell.TheVariants as cell
 use Rattle.alp_files.specs.declared.cell.Props.{Props}
 use Rattle.alp_files.specs.declared.cell.OwnerRecord.{OwnerRecord}
-use Rattle.alp_files.specs.Cells.{Cells, View, same_file, same_name, owner_in}
-use Rattle.alp_files.specs.Files.{AreFiles, AreCharged, charge_of}
-use Rattle.alp_files.specs.Sound.{AreSound}
+use Rattle.alp_files.specs.Cells.{Cells, same_file, same_name, owner_in}
+use Rattle.alp_files.specs.Files.{AreCharged}
 use Rattle.alp_files.proofs.SameLemmas.{same_name-true, same_name-itself, same_file-true, same_file-itself}
 use Rattle.alp_leader.specs.declared.leader.Leader.{Leader as LeaderRecord}
 use Rattle.alp_leader.specs.Leader.{leader_page}
@@ -24,19 +22,19 @@ use Rattle.alp_pages.specs.declared.entry.Entry.{Entry}
 use Rattle.alp_pages.specs.Naming.{Naming, IsNaming, number_or_0}
 use Rattle.alp_pages.specs.Nodes.{Node, LeaderOf, IndexOf, DataOf, same_node}
 use Rattle.alp_pages.specs.Pages.{Pages, header_page, entry_in, row_in, index_page, has_a_place}
-use Rattle.alp_pages.specs.Volume.{Volume, IsShaped, Spells, StandFor, entry_for, record_for, props_cell, row_of_node, width_of, child_of}
-use Rattle.alp_pages.specs.Damage.{Part, Header, Slot, OwnerRow, NodePage, Name, entry_there, owner_there, row_there, names_in, parts, is_read, is_right_row, is_right_node, is_owned, is_within, is_below, has_owner, is_named, charge_in, size_of, damage_of, first_wrong, has_node, are_new, added, leader_name, names_after}
-use Rattle.alp_pages.proofs.NamingLaws.{Tells, eqb_other}
+use Rattle.alp_pages.specs.Volume.{Volume, IsShaped, Spells, StandFor, entry_for, record_for, props_cell, row_of_node}
+use Rattle.alp_pages.specs.Damage.{Part, Header, Slot, OwnerRow, NodePage, Name, entry_there, owner_there, row_there, names_in, parts, is_read, is_right_row, is_right_node, is_owned, is_within, is_below, has_owner, is_named, charge_in, size_of, damage_of, has_node, are_new, added, leader_name, names_after}
+use Rattle.alp_pages.proofs.NamingLaws.{Tells}
 use Rattle.alp_pages.proofs.NodeTests.{same_node-itself}
 use Rattle.alp_pages.proofs.FetchLaws.{there_is}
 use Rattle.alp_pages.proofs.NodeLaws.{same_bits}
-use Rattle.alp_pages.proofs.LeaderLaws.{reads_leader, ReadsLeader, row_length}
+use Rattle.alp_pages.proofs.LeaderLaws.{reads_leader, row_length}
 use Rattle.alp_pages.proofs.IndexLaws.{index_page_law}
 use Rattle.alp_pages.proofs.Members.{In, in-enumerate, in-any, any-in, in-all, in-range, in-range-back, at_or_past, order_of}
-use Rattle.alp_pages.proofs.NamesLaws.{places_by, AreRight, none_wrong, is_read_in, new_parts}
-use Rattle.alp_pages.proofs.SearchLaws.{searched, search_finds, search_found, search_at, searched-is, find_below}
-use Rattle.alp_pages.proofs.PartLaws.{Named, behind_slots, slot-part, row-part, leader-part, leader_row, leader_size_at, OfNode, IsLeaderPart, IsIndexPart}
-use Rattle.alp_pages.proofs.SpellLaws.{node_in, limit_in, node_file, node_number, HasEntry, HasParent, HasPage, spelled, spelled-is, origin_of, leader_entry, entry_placed, page_placed, page_of, named_child, spells_rows}
+use Rattle.alp_pages.proofs.NamesLaws.{AreRight, none_wrong, is_read_in, new_parts}
+use Rattle.alp_pages.proofs.SearchLaws.{searched, search_finds, search_found, search_at, searched-is}
+use Rattle.alp_pages.proofs.PartLaws.{Named, behind_slots, slot-part, row-part, leader_size_at, OfNode}
+use Rattle.alp_pages.proofs.SpellLaws.{node_in, limit_in, node_file, node_number, HasEntry, spelled, spelled-is, origin_of, leader_entry, entry_placed, page_placed, page_of, named_child, spells_rows}
 use Rattle.alp_pages.proofs.CellsLaws.{props_or, leader_cell, page_cell, row_name, row_cell, cells_of, got_leader, got_page, got_owner, cells_kinds, cells_cost}
 
 files_tell : Tells same_file

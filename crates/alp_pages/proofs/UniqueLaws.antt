@@ -1,9 +1,9 @@
 -- Home pages stand for one map of cells at most.
-use Rattle.std.specs.Prelude.{Bool, true, false, is_some, Option, None, Some, option_map, slice_index_or}
+use Rattle.std.specs.Prelude.{is_some, Option, None, Some, option_map, slice_index_or}
 use Rattle.std.specs.Option.{option_and_then}
 use Rattle.std.specs.FinMap as map
 use Rattle.std.specs.FinMap.{same_map}
-use Rattle.std.proofs.Common.{◌≡◌, ℕ, ◌<◌, ◌≤◌, ◌+◌, ◌*◌, ◌/◌, ◌%◌, List, refl, sym, ◌∙◌, ap, subst, arith}
+use Rattle.std.proofs.Common.{◌≡◌, ℕ, ◌<◌, ◌+◌, ◌*◌, ◌/◌, ◌%◌, List, refl, sym, ◌∙◌, ap, arith}
 use Rattle.alp_base.specs.declared.ids.FileId.{FileId}
 use Rattle.alp_base.specs.declared.key.Key.{Key}
 use Rattle.alp_base.specs.declared.key.Key.TheVariants.{Leader, PageOf, OwnerOf}
@@ -15,13 +15,12 @@ use Rattle.alp_files.specs.declared.cell.OwnerRecord.{OwnerRecord}
 use Rattle.alp_files.specs.declared.cell.Props.{Props}
 use Rattle.alp_files.specs.Cells.{View, Cells, owner_in}
 use Rattle.alp_files.specs.Files.{AreFiles}
-use Rattle.alp_files.specs.Sound.{AreSound}
 use Rattle.alp_leader.specs.Leader.{leader_page}
 use Rattle.alp_leader.specs.declared.leader.Leader.{Leader as LeaderRecord}
 use Rattle.alp_pages.specs.declared.entry.Entry.{Entry}
-use Rattle.alp_pages.specs.Naming.{Naming, IsNaming, number_or_0}
+use Rattle.alp_pages.specs.Naming.{number_or_0}
 use Rattle.alp_pages.specs.Nodes.{Node, LeaderOf, IndexOf, DataOf}
-use Rattle.alp_pages.specs.Pages.{Pages, entry_in, row_in}
+use Rattle.alp_pages.specs.Pages.{Pages}
 use Rattle.alp_pages.specs.Rows.{SpellsRow}
 use Rattle.alp_pages.specs.Volume.{Volume, Spells, StandFor, nodes, entry_for, record_for, props_cell}
 use Rattle.alp_pages.proofs.FetchLaws.{there_is}

@@ -1,18 +1,14 @@
 -- A page that nothing names may hold anything.
-use Rattle.std.specs.Prelude.{Bool, true, false, cond, Option, None, Some, option_map, ◌==◌}
-use Rattle.std.specs.Option.{option_and_then}
+use Rattle.std.specs.Prelude.{false, None, Some, option_map, ◌==◌}
 use Rattle.std.specs.FinMap as map
-use Rattle.std.proofs.Common.{◌≡◌, ℕ, ◌<◌, ◌≤◌, ◌+◌, ◌/◌, ◌%◌, List, refl, sym, ◌∙◌, ap, subst, arith, eq-eqb}
+use Rattle.std.proofs.Common.{◌≡◌, ℕ, ◌<◌, ◌≤◌, ◌+◌, ◌/◌, ◌%◌, List, refl, sym, ◌∙◌, ap, arith, eq-eqb}
 use Rattle.std.proofs.lemmas.Bool.{cond-true, cond-false}
-use Rattle.alp_base.specs.declared.ids.FileId.{FileId}
 use Rattle.alp_files.specs.declared.cell.Cell.TheVariants as cell
 use Rattle.alp_files.specs.Cells.{View, Cells}
 use Rattle.alp_fields.specs.Forms.{whole}
 use Rattle.alp_leader.specs.Leader.{leader_page}
-use Rattle.alp_pages.specs.Naming.{Naming, IsNaming}
-use Rattle.alp_pages.specs.Nodes.{Node, LeaderOf, IndexOf, DataOf}
+use Rattle.alp_pages.specs.Nodes.{Node, LeaderOf, DataOf}
 use Rattle.alp_pages.specs.Pages.{Pages, written, entry, entry_in, part_of, read_row, row_in}
-use Rattle.alp_pages.specs.Rows.{SpellsRow}
 use Rattle.alp_pages.specs.Volume.{Volume, Spells, StandFor, nodes, props_cell}
 use Rattle.alp_pages.proofs.NamingLaws.{eqb_other, fresh}
 

@@ -1,8 +1,6 @@
 -- What pages say of one page of a file.
 use Rattle.std.specs.Prelude.{ℕ, ◌/◌, ◌%◌, ◌==◌, List, slice_index_or, Option, None, Some, if◌then◌else◌}
 use Rattle.alp_base.specs.declared.ids.FileId.{FileId}
-use Rattle.alp_files.specs.declared.cell.Cell.{Cell}
-use Rattle.alp_files.specs.declared.cell.Cell.TheVariants as cell
 use Rattle.alp_pages.specs.Nodes.{Node, LeaderOf, IndexOf}
 use Rattle.alp_pages.specs.Pages.{Pages}
 use Rattle.alp_pages.specs.Volume.{row_of_node}

@@ -1,5 +1,5 @@
 -- Home pages by place, and what the header, the directory, the owners' pages and index pages say.
-use Rattle.std.specs.Prelude.{◌≡◌, ◌≤◌, ◌<◌, ℕ, ◌+◌, ◌*◌, ◌/◌, ◌%◌, Bool, true, false, not, ◌&&◌, ◌||◌, ◌==◌, List, [], ◌∷◌, ◌++◌, replicate, take, drop, Option, None, Some, option_map, if◌then◌else◌}
+use Rattle.std.specs.Prelude.{ℕ, ◌+◌, ◌*◌, ◌/◌, ◌%◌, Bool, not, ◌&&◌, ◌||◌, ◌==◌, List, ◌∷◌, replicate, take, drop, Option, None, Some, option_map, if◌then◌else◌}
 use Rattle.std.specs.List.{list_any, list_all}
 use Rattle.alp_base.specs.declared.ids.FileId.{FileId}
 use Rattle.alp_fields.specs.Forms.{Form, pair, mapped, checked, repeated, zeros_of, u32, whole}

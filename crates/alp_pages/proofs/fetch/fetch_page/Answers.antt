@@ -1,7 +1,7 @@
-use Rattle.std.specs.Prelude.{Some, None, Bool, IsTrue}
-use Rattle.std.proofs.Common.{◌≡◌, sym, ◌∙◌, ap, subst, arith, ◌<◌, ◌/◌, ◌%◌, ℕ, List}
+use Rattle.std.specs.Prelude.{Some, Bool, IsTrue}
+use Rattle.std.proofs.Common.{◌≡◌, sym, ◌∙◌, ap, subst, arith, ◌/◌, ◌%◌, ℕ, List}
 use Rattle.alp_files.specs.declared.cell.Cell.TheVariants as cell
-use Rattle.alp_pages.specs.Nodes.{LeaderOf, IndexOf}
+use Rattle.alp_pages.specs.Nodes.{IndexOf}
 use Rattle.alp_pages.specs.Pages.{Pages}
 use Rattle.alp_pages.specs.Fetch.{named_by}
 use Rattle.alp_pages.proofs.FetchLaws.{no_index, index_within, no_page, page_within, the_page}
