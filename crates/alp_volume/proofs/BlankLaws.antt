@@ -12,11 +12,11 @@ use Rattle.alp_base.specs.KeyLaws.{file_cmp}
 use Rattle.alp_base.specs.Notes.{text_cmp}
 use Rattle.alp_base.specs.declared.ids.FileId.{FileId}
 use Rattle.alp_volume.specs.declared.catalog.Catalog.{Catalog}
-use Rattle.alp_volume.specs.declared.entry.Entry.{Entry}
+use Rattle.alp_pages.specs.declared.entry.Entry.{Entry}
 use Rattle.alp_volume.specs.declared.file_slot.FileSlot.{FileSlot}
-use Rattle.alp_volume.specs.Nodes.{LeaderOf, IndexOf, DataOf}
-use Rattle.alp_volume.specs.Pages.{Pages, entry_in, row_in}
-use Rattle.alp_volume.specs.Damage.{Part, Slot, Name, entry_there, owner_there, leader_name, added, has_node, names_after}
+use Rattle.alp_pages.specs.Nodes.{LeaderOf, IndexOf, DataOf}
+use Rattle.alp_pages.specs.Pages.{Pages, entry_in, row_in}
+use Rattle.alp_pages.specs.Damage.{Part, Slot, Name, entry_there, owner_there, leader_name, added, has_node, names_after}
 use Rattle.alp_volume.specs.Reached.{AreMarks, AreListed, AreOwners, AreNamed, AreWithin, IsUnread, Files, slots_from}
 use Rattle.alp_volume.specs.Known.{IsBlank}
 use Rattle.alp_volume.proofs.FileSteps.{is_there}

@@ -11,16 +11,16 @@ use Rattle.alp_files.proofs.SameLemmas.{same_file-true}
 use Rattle.alp_base.specs.declared.faults.VaultFault.{VaultFault}
 use Rattle.alp_leader.specs.declared.leader.Leader.{Leader}
 use Rattle.alp_leader.specs.Leader.{leader_page}
-use Rattle.alp_volume.specs.Nodes.{Node, LeaderOf, IndexOf, DataOf, same_node}
-use Rattle.alp_volume.specs.Pages.{Pages, index_page}
-use Rattle.alp_volume.specs.Volume.{child_of, row_of_node}
-use Rattle.alp_volume.specs.Damage.{Part, NodePage, Name, is_owned, is_within, are_new, size_of, parts_of, has_node, added, child_name, names_of, names_in, row_there, index_part, is_right, first_wrong, names_after, place_of}
+use Rattle.alp_pages.specs.Nodes.{Node, LeaderOf, IndexOf, DataOf, same_node}
+use Rattle.alp_pages.specs.Pages.{Pages, index_page}
+use Rattle.alp_pages.specs.Volume.{child_of, row_of_node}
+use Rattle.alp_pages.specs.Damage.{Part, NodePage, Name, is_owned, is_within, are_new, size_of, parts_of, has_node, added, child_name, names_of, names_in, row_there, index_part, is_right, first_wrong, names_after, place_of}
 use Rattle.alp_volume.specs.Reached.{IsParent, AreFresh, AreMarks, IsJudged, blocks_from}
-use Rattle.alp_volume.proofs.NamingLaws.{eqb_other}
-use Rattle.alp_volume.proofs.NodeTests.{same_node-itself}
-use Rattle.alp_volume.proofs.IndexLaws.{index_length}
+use Rattle.alp_pages.proofs.NamingLaws.{eqb_other}
+use Rattle.alp_pages.proofs.NodeTests.{same_node-itself}
+use Rattle.alp_pages.proofs.IndexLaws.{index_length}
 use Rattle.alp_volume.proofs.MarkLaws.{children_apart}
-use Rattle.alp_volume.proofs.Members.{at_or_past}
+use Rattle.alp_pages.proofs.Members.{at_or_past}
 
 -- a node that a row does not name
 pub added_other : (q k : Node) (names : List Name) (i : ℕ) (row : List ℕ) → ((j : ℕ) → i ≤ j → j < i + length row → same_node q (child_of k j) ≡ false) → has_node q (added names (filter_map (child_name k) (enumerate_from i row))) ≡ has_node q names

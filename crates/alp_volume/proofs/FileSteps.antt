@@ -8,13 +8,13 @@ use Rattle.alp_base.specs.declared.ids.FileId.{FileId}
 use Rattle.alp_base.specs.declared.faults.VaultFault.{VaultFault}
 use Rattle.alp_files.specs.Cells.{same_file}
 use Rattle.alp_files.proofs.SameLemmas.{same_file-true, same_file-itself}
-use Rattle.alp_volume.specs.declared.entry.Entry.{Entry}
+use Rattle.alp_pages.specs.declared.entry.Entry.{Entry}
 use Rattle.alp_volume.specs.declared.file_slot.FileSlot.{FileSlot}
-use Rattle.alp_volume.specs.Counted.{bit}
-use Rattle.alp_volume.specs.Nodes.{LeaderOf, IndexOf, DataOf}
-use Rattle.alp_volume.specs.Pages.{Pages, entry_in}
-use Rattle.alp_volume.specs.Volume.{row_of_node}
-use Rattle.alp_volume.specs.Damage.{Name, first_wrong, entry_there, has_node, row_there, parts_of, names_after}
+use Rattle.alp_pages.specs.Counted.{bit}
+use Rattle.alp_pages.specs.Nodes.{LeaderOf, IndexOf, DataOf}
+use Rattle.alp_pages.specs.Pages.{Pages, entry_in}
+use Rattle.alp_pages.specs.Volume.{row_of_node}
+use Rattle.alp_pages.specs.Damage.{Name, first_wrong, entry_there, has_node, row_there, parts_of, names_after}
 use Rattle.alp_volume.specs.Reached.{AreListed, AreMarks, AreNamed, IsJudged, IsKept, IsUnread, Files, slot_of}
 use Rattle.alp_volume.proofs.ListLaws.{got}
 use Rattle.alp_volume.proofs.FileNames.{file_row, file_names, leaders_stay, others_index, others_pages, own_index}

@@ -15,23 +15,23 @@ use Rattle.alp_files.specs.declared.cell.Cell.TheVariants as cell
 use Rattle.alp_files.specs.Files.{AreFiles, IsOfKind}
 use Rattle.alp_files.proofs.SameLemmas.{same_name-true, same_name-itself}
 use Rattle.alp_volume.specs.declared.catalog.Catalog.{Catalog}
-use Rattle.alp_volume.specs.declared.entry.Entry.{Entry}
+use Rattle.alp_pages.specs.declared.entry.Entry.{Entry}
 use Rattle.alp_volume.specs.declared.file_slot.FileSlot.{FileSlot}
-use Rattle.alp_volume.specs.Counted.{bit}
-use Rattle.alp_volume.specs.Naming.{Naming, IsNaming, number_or_0}
-use Rattle.alp_volume.specs.Nodes.{Node, LeaderOf, IndexOf, DataOf, same_node}
-use Rattle.alp_volume.specs.Pages.{Pages, entry_in, row_in}
-use Rattle.alp_volume.specs.Volume.{Volume, Spells, StandFor, entry_for, record_for}
-use Rattle.alp_volume.specs.Damage.{Name, Part, parts, damage_of, first_wrong, has_node, has_place, entry_there, owner_there, is_named, names_after}
+use Rattle.alp_pages.specs.Counted.{bit}
+use Rattle.alp_pages.specs.Naming.{Naming, IsNaming, number_or_0}
+use Rattle.alp_pages.specs.Nodes.{Node, LeaderOf, IndexOf, DataOf, same_node}
+use Rattle.alp_pages.specs.Pages.{Pages, entry_in, row_in}
+use Rattle.alp_pages.specs.Volume.{Volume, Spells, StandFor, entry_for, record_for}
+use Rattle.alp_pages.specs.Damage.{Name, Part, parts, damage_of, first_wrong, has_node, has_place, entry_there, owner_there, is_named, names_after}
 use Rattle.alp_volume.specs.Reached.{AreMarks, AreListed, AreOwners, AreNamed, Files, Owners, IsJudged, slot_of}
 use Rattle.alp_volume.specs.Known.{IsRead, Knows, leader_of}
-use Rattle.alp_volume.proofs.NamingLaws.{eqb_other}
+use Rattle.alp_pages.proofs.NamingLaws.{eqb_other}
 use Rattle.alp_volume.proofs.LoopLaws.{Along}
-use Rattle.alp_volume.proofs.FetchLaws.{there_is}
-use Rattle.alp_volume.proofs.NodeLaws.{same_bits}
-use Rattle.alp_volume.proofs.NamesLaws.{places_by, AreRight, none_wrong}
-use Rattle.alp_volume.proofs.StandLaws.{the_volume, spells, stands, m}
-use Rattle.alp_volume.proofs.UniqueLaws.{leader_place, child_place, page_place, page_below}
+use Rattle.alp_pages.proofs.FetchLaws.{there_is}
+use Rattle.alp_pages.proofs.NodeLaws.{same_bits}
+use Rattle.alp_pages.proofs.NamesLaws.{places_by, AreRight, none_wrong}
+use Rattle.alp_pages.proofs.StandLaws.{the_volume, spells, stands, m}
+use Rattle.alp_pages.proofs.UniqueLaws.{leader_place, child_place, page_place, page_below}
 
 -- ---- volumes that one set of pages spells have the same places
 

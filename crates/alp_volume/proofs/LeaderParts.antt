@@ -9,10 +9,10 @@ use Rattle.alp_files.specs.Cells.{same_file}
 use Rattle.alp_files.proofs.SameLemmas.{same_file-true, same_file-itself}
 use Rattle.alp_leader.specs.declared.leader.Leader.{Leader}
 use Rattle.alp_leader.specs.Leader.{leader_page}
-use Rattle.alp_volume.specs.Nodes.{LeaderOf, IndexOf}
-use Rattle.alp_volume.specs.Pages.{Pages}
-use Rattle.alp_volume.specs.Volume.{row_of_leader, row_of_node}
-use Rattle.alp_volume.specs.Damage.{Name, NodePage, has_owner, is_owned, is_right_node, is_within, are_new, added, names_of, names_in, row_there, is_right}
+use Rattle.alp_pages.specs.Nodes.{LeaderOf, IndexOf}
+use Rattle.alp_pages.specs.Pages.{Pages}
+use Rattle.alp_pages.specs.Volume.{row_of_leader, row_of_node}
+use Rattle.alp_pages.specs.Damage.{Name, NodePage, has_owner, is_owned, is_right_node, is_within, are_new, added, names_of, names_in, row_there, is_right}
 use Rattle.alp_volume.specs.Reached.{AreOwners, Owners}
 use Rattle.alp_volume.proofs.RowLaws.{has_owner_is}
 

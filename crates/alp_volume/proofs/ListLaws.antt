@@ -11,13 +11,13 @@ use Rattle.std.proofs.lemmas.List.{get_or-set_same, get_or-set_other, length-set
 use Rattle.alp_base.specs.declared.ids.FileId.{FileId}
 use Rattle.alp_files.specs.Cells.{same_file}
 use Rattle.alp_files.proofs.SameLemmas.{same_file-true, same_file-itself}
-use Rattle.alp_volume.specs.declared.entry.Entry.{Entry}
+use Rattle.alp_pages.specs.declared.entry.Entry.{Entry}
 use Rattle.alp_volume.specs.declared.file_slot.FileSlot.{FileSlot}
-use Rattle.alp_volume.specs.Nodes.{Node, LeaderOf, IndexOf, DataOf, same_node}
-use Rattle.alp_volume.specs.Pages.{Pages, entry_in}
-use Rattle.alp_volume.specs.Damage.{Name, Slot, has_node, has_place, is_new, are_new, added, names_in, is_right, entry_there, leader_name}
+use Rattle.alp_pages.specs.Nodes.{Node, LeaderOf, IndexOf, DataOf, same_node}
+use Rattle.alp_pages.specs.Pages.{Pages, entry_in}
+use Rattle.alp_pages.specs.Damage.{Name, Slot, has_node, has_place, is_new, are_new, added, names_in, is_right, entry_there, leader_name}
 use Rattle.alp_volume.specs.Reached.{AreMarks, AreListed, Files, slot_of}
-use Rattle.alp_volume.proofs.NodeTests.{leaders_alike}
+use Rattle.alp_pages.proofs.NodeTests.{leaders_alike}
 use Rattle.alp_volume.proofs.MarkLaws.{new_by, old_by, marked, free_within}
 use Rattle.alp_volume.proofs.Tables.{files_total}
 

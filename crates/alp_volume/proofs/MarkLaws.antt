@@ -7,11 +7,11 @@ use Rattle.std.proofs.lemmas.Bool.{eqb-true, cond-true, cond-false, leb-true, lt
 use Rattle.std.proofs.lemmas.List.{get_or-set_same, get_or-set_other, get_or_past, length-set}
 use Rattle.alp_fields.proofs.FormLaws.{and_parts}
 use Rattle.alp_files.specs.Cells.{same_file}
-use Rattle.alp_volume.specs.Nodes.{Node, LeaderOf, IndexOf, DataOf, same_node}
-use Rattle.alp_volume.specs.Volume.{child_of}
-use Rattle.alp_volume.specs.Damage.{Name, has_node, has_place, is_new, are_new, added, child_name, names_of, is_below, is_within}
+use Rattle.alp_pages.specs.Nodes.{Node, LeaderOf, IndexOf, DataOf, same_node}
+use Rattle.alp_pages.specs.Volume.{child_of}
+use Rattle.alp_pages.specs.Damage.{Name, has_node, has_place, is_new, are_new, added, child_name, names_of, is_below, is_within}
 use Rattle.alp_volume.specs.Reached.{AreMarks, AreFresh, IsParent}
-use Rattle.alp_volume.proofs.NamingLaws.{eqb_other}
+use Rattle.alp_pages.proofs.NamingLaws.{eqb_other}
 
 -- ---- tests
 

@@ -5,12 +5,12 @@ use Rattle.std.specs.FinMap as map
 use Rattle.alp_base.specs.declared.ids.FileId.{FileId}
 use Rattle.alp_volume.specs.declared.catalog.Catalog.{Catalog}
 use Rattle.alp_volume.specs.declared.file_slot.FileSlot.{FileSlot}
-use Rattle.alp_volume.specs.Counted.{bit}
-use Rattle.alp_volume.specs.Nodes.{LeaderOf, IndexOf}
+use Rattle.alp_pages.specs.Counted.{bit}
+use Rattle.alp_pages.specs.Nodes.{LeaderOf, IndexOf}
 use Rattle.alp_volume.specs.Reached.{AreListed, AreMarks, AreNamed, AreOwners, slot_of}
-use Rattle.alp_volume.specs.Damage.{Name}
-use Rattle.alp_volume.specs.Pages.{Pages}
-use Rattle.alp_volume.specs.Volume.{Volume}
+use Rattle.alp_pages.specs.Damage.{Name}
+use Rattle.alp_pages.specs.Pages.{Pages}
+use Rattle.alp_pages.specs.Volume.{Volume}
 
 abbrev pub leader_of : FileSlot → ℕ
 leader_of x = x.place

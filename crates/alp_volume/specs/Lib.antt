@@ -1,13 +1,6 @@
 pub mod Tables
-pub mod Naming
-pub mod Nodes
-pub mod Pages
-pub mod Rows
-pub mod Reading
-pub mod Volume
-pub mod Fetch
-pub mod Changes
-pub mod Counted
-pub mod Damage
 pub mod Reached
 pub mod Known
+pub mod Drafts
+pub mod Undone
+pub mod Puts

@@ -11,13 +11,13 @@ use Rattle.alp_files.specs.declared.cell.OwnerRecord.{OwnerRecord}
 use Rattle.alp_files.specs.Cells.{same_name}
 use Rattle.alp_leader.specs.declared.leader.Leader.{Leader}
 use Rattle.alp_volume.specs.declared.cost.Cost.{Cost}
-use Rattle.alp_volume.specs.declared.entry.Entry.{Entry}
+use Rattle.alp_pages.specs.declared.entry.Entry.{Entry}
 use Rattle.alp_volume.specs.declared.file_slot.FileSlot.{FileSlot}
-use Rattle.alp_volume.specs.Counted.{bit}
-use Rattle.alp_volume.specs.Nodes.{Node, LeaderOf, IndexOf, DataOf}
-use Rattle.alp_volume.specs.Pages.{Pages, entry_in, row_in}
-use Rattle.alp_volume.specs.Volume.{child_of}
-use Rattle.alp_volume.specs.Damage.{Part, index_part, leader_at, cost_of, charge_in, Slot, OwnerRow, Name, parts_of, entry_there, owner_there, has_node, has_place, is_named, first_wrong, names_after}
+use Rattle.alp_pages.specs.Counted.{bit}
+use Rattle.alp_pages.specs.Nodes.{Node, LeaderOf, IndexOf, DataOf}
+use Rattle.alp_pages.specs.Pages.{Pages, entry_in, row_in}
+use Rattle.alp_pages.specs.Volume.{child_of}
+use Rattle.alp_pages.specs.Damage.{Part, index_part, leader_at, cost_of, charge_in, Slot, OwnerRow, Name, parts_of, entry_there, owner_there, has_node, has_place, is_named, first_wrong, names_after}
 
 -- files and owners as tables
 abbrev pub Files : Type 0
@@ -51,6 +51,10 @@ IsJudged home at names parts P (Some place) = first_wrong home at names parts �
 pub record AreMarks (home : ℕ) (names : List Name) (taken : List Bool) : Type 0 where
   pub long : length taken ≡ home
   pub says : (p : ℕ) → slice_index_or taken p true ≡ not (nat_le 257 p && nat_lt p home && not (has_place p names))
+
+-- what was taken is taken still
+abbrev pub Stays : List Bool → List Bool → Type 0
+Stays old new = (p : ℕ) → slice_index_or old p true ≡ true → slice_index_or new p true ≡ true
 
 -- a leader or an index page
 abbrev pub IsParent : Node → Type 0

@@ -29,8 +29,9 @@ pub record IsPlace {K : Type 0} (R : K → K → Ordering) (x : K) (xs : List K)
   pub below : AreBelow R x xs i
   pub above : i < length xs → R x (get_or xs i x) ≡ Less
 
--- the rows are a table, with room for so many in each
+-- the rows are a table of at most so many, with room for all in each
 pub record IsTable {K X : Type 0} (R : K → K → Ordering) (most : ℕ) (keys : List K) (values : List X) (first second : ℕ) : Type 0 where
   pub rows : AreRows R keys values
+  pub few : length keys ≤ most
   pub keys_fit : most ≤ first
   pub values_fit : most ≤ second

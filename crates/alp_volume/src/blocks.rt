@@ -1,7 +1,7 @@
 //! Which blocks of a file have an index page, as bits.
 ghost use Rattle.std.specs.Prelude.{◌≡◌, ◌<◌, ℕ, ◌==◌, not, slice_index};
 ghost use Rattle.std.specs.Int.{bit_at};
-ghost use Rattle.alp_volume.specs.Counted.{bit};
+ghost use Rattle.alp_pages.specs.Counted.{bit};
 
 use alp_leader::Places;
 

@@ -21,7 +21,12 @@ pub struct Catalog {
 }
 
 impl Catalog {
-    ghost use Rattle.alp_volume.specs.Known.{IsBlank};
+    ghost use Rattle.std.specs.Prelude.{◌≡◌, ℕ};
+    ghost use Rattle.alp_files.specs.Cells.{Cells};
+    ghost use Rattle.alp_files.specs.Counts.{used_of};
+    ghost use Rattle.alp_pages.specs.Pages.{Pages as PagesOf};
+    ghost use Rattle.alp_pages.specs.Volume.{StandFor};
+    ghost use Rattle.alp_volume.specs.Known.{IsBlank, IsCatalog, Knows};
 
     /// That of a volume that holds nothing.
     pub fn new(alloc: Global, home: u32) -> Result<Catalog, OutOfMemory>
@@ -40,5 +45,13 @@ impl Catalog {
             rows,
             places,
         })
+    }
+
+    /// How many places the files take.
+    pub fn used(&self) -> u32
+        requires { (home : ℕ) × IsCatalog home self.now × (HEAD_PAGES ≤ home) }
+        ensures { (home : ℕ) (at : PagesOf) (m : Cells) (stands : StandFor home at m) → Knows home stands.volume self.now → IsCatalog home self.now → HEAD_PAGES ≤ home → result ≡ used_of m }
+    {
+        self.places.taken() - HEAD_PAGES
     }
 }

@@ -1,17 +1,16 @@
 //! Reading what the files of a volume cost their owners.
 ghost use Rattle.std.specs.Prelude.{◌≡◌, ◌≤◌, ◌<◌, ◌+◌, ◌++◌, ℕ, length, IsTrue, IfOk, option_map};
 ghost use Rattle.std.specs.Option.{option_to_list};
-ghost use Rattle.alp_volume.specs.Pages.{entry_in};
-ghost use Rattle.alp_volume.specs.Damage.{entry_there, leader_at};
+ghost use Rattle.alp_pages.specs.Pages.{entry_in};
+ghost use Rattle.alp_pages.specs.Damage.{entry_there, leader_at};
 ghost use Rattle.alp_volume.specs.Reached.{AreCosts, AreWithin, cost_in};
-ghost use Rattle.alp_volume.specs.Reading.{HasRead};
+ghost use Rattle.alp_pages.specs.Reading.{HasRead};
 
 use crate::cost::Cost;
 use crate::directory::read_slot;
-use crate::fetch::read_leader;
-use crate::reader::PageReader;
 use alp_base::VaultFault;
 use alp_leader::Leader;
+use alp_pages::{PageReader, read_leader};
 use alp_vault::HEAD_PAGES;
 use std::alloc::Global;
 

@@ -2,17 +2,16 @@
 ghost use Rattle.std.specs.Prelude.{◌≡◌, ◌≤◌, ◌<◌, ℕ, List, length, nat_eq, IsTrue, IfOk};
 ghost use Rattle.std.specs.FinMap as map;
 ghost use Rattle.std.specs.Cmp.Lexicographic.{pointwise};
-ghost use Rattle.alp_volume.specs.Pages.{entry_in, header_page};
-ghost use Rattle.alp_volume.specs.Damage.{Name};
+ghost use Rattle.alp_pages.specs.Pages.{entry_in, header_page};
+ghost use Rattle.alp_pages.specs.Damage.{Name};
 ghost use Rattle.alp_volume.specs.Reached.{AreListed, AreMarks, IsJudged, slots_from};
-ghost use Rattle.alp_volume.specs.Reading.{HasRead};
+ghost use Rattle.alp_pages.specs.Reading.{HasRead};
+ghost use Rattle.alp_volume.specs.Known.{IsCatalog};
 
 use crate::catalog::Catalog;
-use crate::entry::{Entry, entry_at};
-use crate::header::new_header;
-use crate::reader::PageReader;
 use crate::take_in::add_entry;
 use alp_base::VaultFault;
+use alp_pages::{Entry, PageReader, entry_at, new_header};
 use alp_vault::HEAD_PAGES;
 
 /// Whether the first page is the header of a volume.
@@ -49,6 +48,7 @@ pub fn read_directory<R: PageReader>(
     ensures judged { (home : ℕ) (names : List Name) → IsTrue (R.tells reader.old) → AreMarks home names catalog.old.places → AreListed home (R.pages reader.old) 0 names catalog.old.files catalog.old.slots → IfOk result (IsJudged home (R.pages reader.old) names (slots_from 0) (λ ns. AreMarks home ns catalog.new.places × AreListed home (R.pages reader.old) 4096 ns catalog.new.files catalog.new.slots)) }
     ensures others { (catalog.new.owners ≡ catalog.old.owners) × (catalog.new.rows ≡ catalog.old.rows) }
     ensures long { length catalog.new.places ≡ length catalog.old.places }
+    ensures sized { (home : ℕ) → IsCatalog home catalog.old → IsCatalog home catalog.new }
     ensures read { HasRead R.ReadOn R.faults R.allowance reader.old reader.new result }
 {
     for slot in 0..4096u32 {

@@ -1,26 +1,17 @@
 //! Reading the leaders of a volume with their index pages.
 ghost use Rattle.std.specs.Prelude.{◌≡◌, ◌≤◌, ◌<◌, ◌+◌, ◌/◌, ◌⊎◌, ℕ, List, length, true, false, IsTrue, IfOk, Some, slice_index};
-ghost use Rattle.std.specs.FinMap as map;
 ghost use Rattle.std.specs.Option.{option_to_list};
 ghost use Rattle.alp_base.specs.declared.ids.FileId.{FileId as File};
-ghost use Rattle.alp_volume.specs.Nodes.{IndexOf, DataOf};
-ghost use Rattle.alp_volume.specs.Pages.{entry_in};
-ghost use Rattle.alp_volume.specs.Damage.{Name, NodePage, added, entry_there, has_node, index_part, is_right, names_in, parts_of};
-ghost use Rattle.alp_volume.specs.Reached.{AreFresh, AreListed, AreMarks, AreNamed, AreOwners, IsJudged, blocks_from, files_from};
-ghost use Rattle.alp_volume.specs.Reading.{HasRead};
+ghost use Rattle.alp_pages.specs.Nodes.{IndexOf, DataOf};
+ghost use Rattle.alp_pages.specs.Damage.{Name, NodePage, added, has_node, index_part, is_right, names_in};
+ghost use Rattle.alp_volume.specs.Reached.{AreFresh, AreMarks, IsJudged, Stays, blocks_from};
+ghost use Rattle.alp_pages.specs.Reading.{HasRead};
 
-use crate::catalog::Catalog;
-use crate::directory::read_slot;
-use crate::fetch::read_leader;
 use crate::free::Free;
-use crate::index::decode_index;
-use crate::leaders::add_leader;
 use crate::marks::mark_row;
-use crate::reader::PageReader;
 use alp_base::VaultFault;
 use alp_leader::Places;
-use alp_vault::HEAD_PAGES;
-use std::alloc::Global;
+use alp_pages::{PageReader, decode_index};
 
 // Whether the page is an index page that names no place from the limit on, and only places that are new.
 fn read_index<R: PageReader>(
@@ -33,6 +24,7 @@ fn read_index<R: PageReader>(
     ensures judged { (home : ℕ) (names : List Name) (f : File) (b : ℕ) → IsTrue (R.tells reader.old) → AreMarks home names places.old → AreFresh (IndexOf f b) names → IfOk result (λ r. r ≡ is_right home (R.pages reader.old) names (NodePage (IndexOf f b) limit place)) }
     ensures marked { (home : ℕ) (names : List Name) (f : File) (b : ℕ) → IsTrue (R.tells reader.old) → AreMarks home names places.old → AreFresh (IndexOf f b) names → IfOk result (λ r. r ≡ true → AreMarks home (added names (names_in (R.pages reader.old) (NodePage (IndexOf f b) limit place))) places.new) }
     ensures long { length places.new ≡ length places.old }
+    ensures stay { Stays places.old places.new }
     ensures read { HasRead R.ReadOn R.faults R.allowance reader.old reader.new result }
 {
     let page = reader.page(place)?;
@@ -54,6 +46,7 @@ fn read_block<R: PageReader>(
     requires block { block < 32 }
     ensures judged { (home : ℕ) (names : List Name) (f : File) → IsTrue (R.tells reader.old) → AreMarks home names places.old → AreFresh (IndexOf f block) names → IfOk result (IsJudged home (R.pages reader.old) names (option_to_list (index_part f size (block, place))) (λ ns. AreMarks home ns places.new)) }
     ensures long { length places.new ≡ length places.old }
+    ensures stay { Stays places.old places.new }
     ensures read { HasRead R.ReadOn R.faults R.allowance reader.old reader.new result }
 {
     if place == 0 {
@@ -77,6 +70,7 @@ pub fn read_blocks<R: PageReader>(
     requires within { (b : ℕ) → b < 32 → slice_index index.now b < R.home reader.old }
     ensures judged { (home : ℕ) (names : List Name) (f : File) → IsTrue (R.tells reader.old) → AreMarks home names places.old → ((n : ℕ) → has_node (DataOf f n) names ≡ false) → IfOk result (IsJudged home (R.pages reader.old) names (blocks_from f size index.now 0) (λ ns. AreMarks home ns places.new)) }
     ensures long { length places.new ≡ length places.old }
+    ensures stay { Stays places.old places.new }
     ensures read { HasRead R.ReadOn R.faults R.allowance reader.old reader.new result }
 {
     for block in 0..32u32 {

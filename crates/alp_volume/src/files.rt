@@ -90,7 +90,8 @@ impl FileTable {
 
     /// Takes the file out, if it is there.
     pub fn remove(&mut self, file: FileId)
-        ensures { self.new ≡ map.remove self.old file }
+        ensures gone { self.new ≡ map.remove self.old file }
+        ensures few { IsSome (map.get self.old file) → map.len self.new < FILES_PER_SERVER }
     {
         match find(self.ids.as_slice(), &file) {
             Ok(at) => {

@@ -1,5 +1,7 @@
 //! Numbers that are taken or free: slots of the directory, rows of owners, home places.
-ghost use Rattle.std.specs.Prelude.{◌≡◌, ◌<◌, ◌≤◌, ◌^◌, ℕ, true, false, length, replicate, ◌++◌, ◌-◌, IfOk, IfSome, IsNone, slice_index_or, slice_set};
+ghost use Rattle.std.specs.Prelude.{◌≡◌, ◌<◌, ◌≤◌, ◌^◌, ℕ, true, false, length, replicate, ◌++◌, ◌-◌, IfOk, IfSome, IsNone, slice_index_or, slice_set, sum_by};
+ghost use Rattle.alp_pages.specs.Counted.{bit};
+ghost use Rattle.alp_volume.specs.Reached.{Stays};
 
 use alp_base::OutOfMemory;
 use std::alloc::Global;
@@ -11,7 +13,10 @@ pub struct Free {
     taken: Vec<bool>,
     /// No number below is free.
     lowest: usize,
+    /// How many are taken.
+    count: u32,
     ghost few: { length taken.items < 2 ^ 32 },
+    ghost counted: { count ≡ sum_by bit taken.items },
     ghost hint: { (p : ℕ) → p < lowest → slice_index_or taken.items p true ≡ true },
 }
 
@@ -45,7 +50,11 @@ impl Free {
     {
         let mut taken = Vec::new(alloc);
         taken.resize(count as usize, false)?;
-        Ok(Free { taken, lowest: 0 })
+        Ok(Free {
+            taken,
+            lowest: 0,
+            count: 0,
+        })
     }
 
     /// So many numbers, of which the first are taken and the others free.
@@ -56,7 +65,11 @@ impl Free {
         let mut taken = Vec::new(alloc);
         taken.resize(first as usize, true)?;
         taken.resize(count as usize, false)?;
-        Ok(Free { taken, lowest: 0 })
+        Ok(Free {
+            taken,
+            lowest: 0,
+            count: first,
+        })
     }
 
     /// How many numbers there are.
@@ -66,19 +79,29 @@ impl Free {
         self.taken.len()
     }
 
+    /// How many are taken.
+    pub fn taken(&self) -> u32
+        ensures { result ≡ sum_by bit self.now }
+    {
+        self.count
+    }
+
     /// Takes the number, unless it is taken or none of these.
     pub fn mark(&mut self, number: u32) -> bool
         ensures yes { result ≡ true → (slice_index_or self.old number true ≡ false) × (self.new ≡ slice_set self.old number true) }
         ensures no { result ≡ false → (slice_index_or self.old number true ≡ true) × (self.new ≡ self.old) }
+        ensures long { length self.new ≡ length self.old }
+        ensures stay { Stays self.old self.new }
     {
         let at = number as usize;
         if at >= self.taken.len() {
             return false;
         }
-        if self.taken[at] {
+        if self.is_taken(number) {
             return false;
         }
         self.taken[at] = true;
+        self.count += 1;
         true
     }
 
@@ -93,6 +116,7 @@ impl Free {
         let number = first_free(&self.taken, self.lowest)?;
         self.taken[number] = true;
         self.lowest = number;
+        self.count += 1;
         Some(number as u32)
     }
 
@@ -102,6 +126,10 @@ impl Free {
         ensures { self.new ≡ slice_set self.old number false }
     {
         let at = number as usize;
+        let was = self.taken[at];
+        if was {
+            self.count -= 1;
+        }
         self.taken[at] = false;
         if at < self.lowest {
             self.lowest = at;

@@ -1,13 +1,14 @@
 //! Taking leaders into memory.
-ghost use Rattle.std.specs.Prelude.{◌≡◌, ◌<◌, ◌⊎◌, ℕ, List, length, true, false, Some, slice_index};
+ghost use Rattle.std.specs.Prelude.{◌≡◌, ◌<◌, ◌⊎◌, ℕ, List, length, true, false, None, Some, slice_index};
 ghost use Rattle.std.specs.FinMap as map;
 ghost use Rattle.alp_fields.specs.Forms.{whole};
 ghost use Rattle.alp_leader.specs.Leader.{leader_page};
 ghost use Rattle.alp_volume.specs.declared.file_slot.FileSlot.{FileSlot as ASlot};
-ghost use Rattle.alp_volume.specs.Nodes.{LeaderOf};
-ghost use Rattle.alp_volume.specs.Pages.{Pages as PagesOf};
-ghost use Rattle.alp_volume.specs.Damage.{Name, NodePage, added, is_right, names_in};
+ghost use Rattle.alp_pages.specs.Nodes.{LeaderOf};
+ghost use Rattle.alp_pages.specs.Pages.{Pages as PagesOf};
+ghost use Rattle.alp_pages.specs.Damage.{Name, NodePage, added, is_right, names_in};
 ghost use Rattle.alp_volume.specs.Reached.{AreFresh, AreMarks, AreOwners, IsKept};
+ghost use Rattle.alp_volume.specs.Known.{IsCatalog};
 
 use crate::blocks::blocks_of;
 use crate::catalog::Catalog;
@@ -19,7 +20,8 @@ use alp_leader::{Leader, Places};
 
 // Keeps which blocks of the file have an index page.
 fn keep_blocks(files: &mut FileTable, file: FileId, index: &Places)
-    ensures { (x : ASlot) → map.get files.old file ≡ Some x → (y : ASlot) × (files.new ≡ map.insert files.old file y) × IsKept x y index.now }
+    ensures kept { (x : ASlot) → map.get files.old file ≡ Some x → (y : ASlot) × (files.new ≡ map.insert files.old file y) × IsKept x y index.now }
+    ensures absent { map.get files.old file ≡ None → files.new ≡ files.old }
 {
     let Some(kept) = files.get(file) else {
         return;
@@ -39,6 +41,7 @@ pub fn add_leader(catalog: &mut Catalog, file: FileId, leader: &Leader) -> bool
     ensures within { result ≡ true → (j : ℕ) → j < 32 → (slice_index leader.now.index j ≡ 0) ⊎ (slice_index leader.now.index j < length catalog.old.places) }
     ensures others { (catalog.new.owners ≡ catalog.old.owners) × (catalog.new.rows ≡ catalog.old.rows) × (catalog.new.slots ≡ catalog.old.slots) }
     ensures long { length catalog.new.places ≡ length catalog.old.places }
+    ensures sized { (home : ℕ) → IsCatalog home catalog.old → IsCatalog home catalog.new }
 {
     if leader.file != file {
         return false;

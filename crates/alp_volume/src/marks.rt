@@ -1,10 +1,10 @@
 //! Places that are marked as pages name them.
 ghost use Rattle.std.specs.Prelude.{◌≡◌, ◌<◌, ℕ, ◌&&◌, ◌⊎◌, true, false, length, List, Some, slice_index};
 ghost use Rattle.std.specs.Option.{option_to_list};
-ghost use Rattle.alp_volume.specs.Nodes.{Node};
-ghost use Rattle.alp_volume.specs.Volume.{child_of};
-ghost use Rattle.alp_volume.specs.Damage.{Name, added, are_new, child_name, has_node, is_below, is_within, names_of};
-ghost use Rattle.alp_volume.specs.Reached.{AreFresh, AreMarks};
+ghost use Rattle.alp_pages.specs.Nodes.{Node};
+ghost use Rattle.alp_pages.specs.Volume.{child_of};
+ghost use Rattle.alp_pages.specs.Damage.{Name, added, are_new, child_name, has_node, is_below, is_within, names_of};
+ghost use Rattle.alp_volume.specs.Reached.{AreFresh, AreMarks, Stays};
 
 use crate::free::Free;
 
@@ -14,6 +14,7 @@ fn mark_one(places: &mut Free, limit: u32, number: u32, place: u32) -> bool
     ensures marked { (home : ℕ) (names : List Name) (k : Node) → AreMarks home names places.old → result ≡ true → AreMarks home (added names (option_to_list (child_name k (number, place)))) places.new }
     ensures within { result ≡ true → (place ≡ 0) ⊎ (place < length places.old) }
     ensures long { length places.new ≡ length places.old }
+    ensures stay { Stays places.old places.new }
 {
     if place == 0 {
         return true;
@@ -31,6 +32,7 @@ pub fn mark_row(places: &mut Free, limit: u32, row: &[u32]) -> bool
     ensures marked { (home : ℕ) (names : List Name) (k : Node) → AreMarks home names places.old → AreFresh k names → result ≡ true → AreMarks home (added names (names_of k row.now)) places.new }
     ensures within { result ≡ true → (j : ℕ) → j < length row.now → (slice_index row.now j ≡ 0) ⊎ (slice_index row.now j < length places.old) }
     ensures long { length places.new ≡ length places.old }
+    ensures stay { Stays places.old places.new }
 {
     for j in 0..row.len() {
         if !mark_one(places, limit, j as u32, row[j]) {

@@ -1,18 +1,17 @@
 //! Reading the owners' pages.
 ghost use Rattle.std.specs.Prelude.{◌≡◌, ◌≤◌, ◌<◌, ◌+◌, ℕ, List, length, IsTrue, IfOk, true, false};
 ghost use Rattle.std.specs.FinMap as map;
-ghost use Rattle.alp_volume.specs.Pages.{Pages as PagesOf, row_in};
-ghost use Rattle.alp_volume.specs.Damage.{Name, is_right_row};
+ghost use Rattle.alp_pages.specs.Pages.{Pages as PagesOf, row_in};
+ghost use Rattle.alp_pages.specs.Damage.{Name, is_right_row};
 ghost use Rattle.alp_volume.specs.Reached.{AreCosts, AreOwners, IsJudged, rows_from};
-ghost use Rattle.alp_volume.specs.Reading.{HasRead};
+ghost use Rattle.alp_pages.specs.Reading.{HasRead};
+ghost use Rattle.alp_volume.specs.Known.{IsCatalog};
 
 use crate::catalog::Catalog;
 use crate::cost::Cost;
 use crate::costs::charge_of;
-use crate::fetch::read_row;
-use crate::owners::OwnerRow;
-use crate::reader::PageReader;
 use alp_base::VaultFault;
+use alp_pages::{OwnerRow, PageReader, read_row};
 use alp_vault::HEAD_PAGES;
 use std::alloc::Global;
 
@@ -25,6 +24,7 @@ fn add_owner(catalog: &mut Catalog, row: u32, found: OwnerRow, costs: &[Cost]) -
     ensures owned { (at : PagesOf) → found ≡ row_in at row → AreOwners at row catalog.old.owners catalog.old.rows → result ≡ true → AreOwners at (row + 1) catalog.new.owners catalog.new.rows }
     ensures files { (catalog.new.files ≡ catalog.old.files) × (catalog.new.slots ≡ catalog.old.slots) }
     ensures places { catalog.new.places ≡ catalog.old.places }
+    ensures sized { (home : ℕ) → IsCatalog home catalog.old → IsCatalog home catalog.new }
     ensures few { map.len catalog.new.owners ≤ map.len catalog.old.owners + 1 }
 {
     let Some(found) = found else {
@@ -53,6 +53,7 @@ pub fn read_owners<R: PageReader>(
     ensures judged { (home : ℕ) (names : List Name) → IsTrue (R.tells reader.old) → AreCosts (R.pages reader.old) costs.now → AreOwners (R.pages reader.old) 0 catalog.old.owners catalog.old.rows → IfOk result (IsJudged home (R.pages reader.old) names (rows_from 0) (λ ns. (ns ≡ names) × AreOwners (R.pages reader.old) 256 catalog.new.owners catalog.new.rows)) }
     ensures files { (catalog.new.files ≡ catalog.old.files) × (catalog.new.slots ≡ catalog.old.slots) }
     ensures places { catalog.new.places ≡ catalog.old.places }
+    ensures sized { (home : ℕ) → IsCatalog home catalog.old → IsCatalog home catalog.new }
     ensures read { HasRead R.ReadOn R.faults R.allowance reader.old reader.new result }
 {
     for row in 0..256u32 {

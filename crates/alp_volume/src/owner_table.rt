@@ -48,6 +48,13 @@ impl OwnerTable {
         self.names.as_slice()
     }
 
+    /// How many owners there are.
+    pub fn len(&self) -> usize
+        ensures { result ≡ map.len self.now }
+    {
+        self.names.len()
+    }
+
     /// The row of the owner, if the volume has it.
     pub fn get(&self, name: &Name) -> Option<u32>
         ensures { result ≡ map.get self.now name.now }
@@ -72,6 +79,19 @@ impl OwnerTable {
                 let _ = self.rows.insert(at, row);
                 true
             }
+        }
+    }
+
+    /// Takes the owner out, if it is there.
+    pub fn remove(&mut self, name: &Name)
+        ensures { self.new ≡ map.remove self.old name.now }
+    {
+        match find(self.names.as_slice(), name) {
+            Ok(at) => {
+                self.names.remove(at);
+                self.rows.remove(at);
+            }
+            Err(_) => {}
         }
     }
 }

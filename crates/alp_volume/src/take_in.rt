@@ -1,13 +1,14 @@
 //! Taking into memory what single entries, rows and leaders say, unless they are outside the grammar.
 ghost use Rattle.std.specs.Prelude.{◌≡◌, ◌≤◌, ◌<◌, ◌+◌, ℕ, List, length, true, false, Some, Option};
 ghost use Rattle.std.specs.FinMap as map;
-ghost use Rattle.alp_volume.specs.Pages.{Pages as PagesOf, entry_in};
-ghost use Rattle.alp_volume.specs.Damage.{Name, Slot, added, names_in, is_right};
+ghost use Rattle.alp_pages.specs.Pages.{Pages as PagesOf, entry_in};
+ghost use Rattle.alp_pages.specs.Damage.{Name, Slot, added, names_in, is_right};
 ghost use Rattle.alp_volume.specs.Reached.{AreListed, AreMarks};
+ghost use Rattle.alp_volume.specs.Known.{IsCatalog};
 
 use crate::catalog::Catalog;
-use crate::entry::Entry;
 use crate::file_slot::FileSlot;
+use alp_pages::Entry;
 
 // A file with its entry, unless it or its place is known.
 fn add_file(catalog: &mut Catalog, slot: u32, entry: Entry) -> bool
@@ -18,6 +19,7 @@ fn add_file(catalog: &mut Catalog, slot: u32, entry: Entry) -> bool
     ensures listed { (home : ℕ) (at : PagesOf) (names : List Name) → entry_in at slot ≡ Some (Some entry) → AreMarks home names catalog.old.places → AreListed home at slot names catalog.old.files catalog.old.slots → result ≡ true → AreListed home at (slot + 1) (added names (names_in at (Slot slot))) catalog.new.files catalog.new.slots }
     ensures others { (catalog.new.owners ≡ catalog.old.owners) × (catalog.new.rows ≡ catalog.old.rows) }
     ensures long { length catalog.new.places ≡ length catalog.old.places }
+    ensures sized { (home : ℕ) → IsCatalog home catalog.old → IsCatalog home catalog.new }
     ensures few { map.len catalog.new.files ≤ map.len catalog.old.files + 1 }
 {
     if !catalog.places.mark(entry.place) {
@@ -41,6 +43,7 @@ pub fn add_entry(catalog: &mut Catalog, slot: u32, found: &Option<Option<Entry>>
     ensures listed { (home : ℕ) (at : PagesOf) (names : List Name) → found.now ≡ entry_in at slot → AreMarks home names catalog.old.places → AreListed home at slot names catalog.old.files catalog.old.slots → result ≡ true → AreListed home at (slot + 1) (added names (names_in at (Slot slot))) catalog.new.files catalog.new.slots }
     ensures others { (catalog.new.owners ≡ catalog.old.owners) × (catalog.new.rows ≡ catalog.old.rows) }
     ensures long { length catalog.new.places ≡ length catalog.old.places }
+    ensures sized { (home : ℕ) → IsCatalog home catalog.old → IsCatalog home catalog.new }
     ensures few { map.len catalog.new.files ≤ map.len catalog.old.files + 1 }
 {
     match *found {

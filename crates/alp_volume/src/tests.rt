@@ -1,11 +1,17 @@
-ghost use Rattle.std.specs.Prelude.{[], false, refl};
+ghost use Rattle.std.specs.Prelude.{◌≡◌, ◌<◌, [], false, refl, IfOk};
 ghost use Rattle.std.proofs.Math.Nat.{le_refl};
 ghost use Rattle.alp_base.specs.declared.allowance.Allowance.TheVariants.{Free};
 
+mod turns;
+
 use super::*;
-use alp_base::{AccessList, FileId, Name, OutOfMemory, Page, PageRef, VaultFault};
-use alp_files::{OwnerRecord, Props};
+use alp_base::{AccessList, FileId, Key, Name, OutOfMemory, Page, PageRef, Sequence, VaultFault};
+use alp_files::{Cell, Change, OwnerRecord, Props};
 use alp_leader::{Leader, Places, encode_leader};
+use alp_pages::{
+    Entry, PageReader, clear_entry, decode_index, entry_at, fetch_block, fetch_leader, fetch_owner,
+    fetch_page, new_header, owner_at, set_entry, set_owner,
+};
 use std::alloc::Global;
 use std::test::*;
 
@@ -328,5 +334,240 @@ fn takes_the_lowest_free_number(rt: HostRuntime) -> Result<(), Fail> {
     assert_eq!(rt; free.take(), Some(3));
     assert_eq!(rt; free.take(), Some(4));
     assert_eq!(rt; free.take(), None);
+    Ok(())
+}
+
+// What reading gives of the volume with one byte of one page changed.
+fn read_changed(
+    alloc: Global,
+    page: u32,
+    at: usize,
+) -> Result<Option<Result<Catalog, VaultFault>>, OutOfMemory> {
+    let Some(mut pages) = volume(alloc)? else {
+        return Ok(None);
+    };
+    let Some(old) = pages.pages.get(page as usize) else {
+        return Ok(None);
+    };
+    let mut bytes = [0u8; 512];
+    bytes.copy_from_slice(old.bytes());
+    let Some(byte) = bytes.get_mut(at) else {
+        return Ok(None);
+    };
+    *byte = byte.wrapping_add(1);
+    let changed = PageRef::new(alloc, Page::new(bytes))?;
+    if let Some(place) = pages.pages.get_mut(page as usize) {
+        *place = changed;
+    }
+    Ok(Some(read_volume(alloc, &mut pages, HOME)))
+}
+
+#[test]
+fn reads_a_volume(rt: HostRuntime) -> Result<(), Fail> {
+    let alloc = rt.alloc();
+    let mut pages = volume(alloc).ok().ok_or("memory")?.ok_or("a volume")?;
+    let catalog = read_volume(alloc, &mut pages, HOME).ok().ok_or("a volume")?;
+    let kept = FileSlot {
+        slot: 0,
+        place: 257,
+        blocks: 1,
+    };
+    assert_eq!(rt; catalog.files.len(), 1);
+    assert!(rt; catalog.files.get(FILE) == Some(kept));
+    let owner = Name::parse(b"ann").ok_or("a name")?;
+    assert_eq!(rt; catalog.owners.names().len(), 1);
+    assert_eq!(rt; catalog.owners.get(&owner), Some(0));
+    assert!(rt; catalog.slots.is_taken(0) && !catalog.slots.is_taken(1));
+    assert!(rt; catalog.rows.is_taken(0) && !catalog.rows.is_taken(1));
+    assert!(rt; catalog.places.is_taken(256) && catalog.places.is_taken(260));
+    assert!(rt; !catalog.places.is_taken(261) && !catalog.places.is_taken(299));
+    Ok(())
+}
+
+// A page, a place in it, and the page that is damaged where the byte there is another.
+const DAMAGES: [(u32, usize, u32); 11] = [
+    (0, 7, 0),
+    (0, 511, 0),
+    (1, 8, 257),
+    (1, 9, 1),
+    (1, 31, 1),
+    (129, 32, 129),
+    (129, 1, 129),
+    (130, 0, 130),
+    (257, 35, 129),
+    (258, 2, 258),
+    (258, 511, 258),
+];
+
+#[test]
+fn names_the_first_damaged_page(rt: HostRuntime) -> Result<(), Fail> {
+    for (page, at, wanted) in DAMAGES {
+        let outcome = read_changed(rt.alloc(), page, at)
+            .ok()
+            .ok_or("memory")?
+            .ok_or("a page")?;
+        match outcome {
+            Ok(_) => assert!(rt; false, "page {page}, byte {at}"),
+            Err(VaultFault::Damaged { place }) => assert_eq!(rt; place, wanted, "byte {at}"),
+            Err(_) => assert!(rt; false, "no damage"),
+        }
+    }
+    Ok(())
+}
+
+// ---- changes
+
+fn crosses<T: Send + Sync>(_value: &T) {}
+
+// Puts the pages of a plan over those in memory.
+fn apply(pages: &mut MemPages, plan: &Draft) -> Result<(), OutOfMemory> {
+    for at in 0..HOME {
+        if let Some(page) = plan.pages.get(at) {
+            let page = page.share()?;
+            if let Some(place) = pages.pages.get_mut(at as usize) {
+                *place = page;
+            }
+        }
+    }
+    Ok(())
+}
+
+fn change_of(alloc: Global, drops: &[FileId], cuts: &[(FileId, u32)]) -> Result<Change, OutOfMemory>
+    ensures { IfOk result (λ change. change.puts ≡ []) }
+{
+    let mut gone = Vec::new(alloc);
+    for file in drops {
+        gone.push(*file)?;
+    }
+    let mut shorter = Vec::new(alloc);
+    for cut in cuts {
+        shorter.push(*cut)?;
+    }
+    Ok(Change {
+        drops: Sequence::new(gone),
+        cuts: Sequence::new(shorter),
+        puts: Sequence::new(Vec::new(alloc)),
+    })
+}
+
+// A plan for a change without puts, of the volume and what was read of it.
+fn plan_of(
+    alloc: Global,
+    pages: &mut MemPages,
+    change: &Change,
+) -> Result<(Draft, Catalog), VaultFault>
+    requires { change.now.puts ≡ [] }
+{
+    let mut catalog = read_volume(alloc, pages, HOME)?;
+    let plan = plan_change(alloc, pages, &mut catalog, change)?;
+    Ok((plan, catalog))
+}
+
+#[test]
+fn drops_a_file(rt: HostRuntime) -> Result<(), Fail> {
+    let alloc = rt.alloc();
+    let mut pages = volume(alloc).ok().ok_or("memory")?.ok_or("a volume")?;
+    let change = change_of(alloc, &[FILE], &[]).ok().ok_or("memory")?;
+    let (plan, catalog) = plan_of(alloc, &mut pages, &change).ok().ok_or("a plan")?;
+    crosses(&plan);
+    crosses(&catalog);
+    assert!(rt; catalog.files.get(FILE).is_none());
+    assert!(rt; !catalog.slots.is_taken(0));
+    for place in [257, 258, 259, 260] {
+        assert!(rt; !catalog.places.is_taken(place), "place {place}");
+    }
+    let entries = plan.pages.get(1).ok_or("a page of the directory")?;
+    assert!(rt; entries.bytes() == Page::zero().bytes());
+    assert!(rt; plan.pages.get(257).is_none());
+    Ok(())
+}
+
+#[test]
+fn cuts_a_file(rt: HostRuntime) -> Result<(), Fail> {
+    let alloc = rt.alloc();
+    let mut pages = volume(alloc).ok().ok_or("memory")?.ok_or("a volume")?;
+    let change = change_of(alloc, &[], &[(FILE, 1)]).ok().ok_or("memory")?;
+    let (plan, catalog) = plan_of(alloc, &mut pages, &change).ok().ok_or("a plan")?;
+    assert!(rt; catalog.places.is_taken(259) && !catalog.places.is_taken(260));
+    let index = plan.pages.get(258).ok_or("an index page")?;
+    let places = decode_index(index.bytes()).ok_or("an index page")?;
+    assert_eq!(rt; (places.at(0), places.at(1)), (259, 0));
+    apply(&mut pages, &plan).ok().ok_or("memory")?;
+    let again = read_volume(alloc, &mut pages, HOME).ok().ok_or("a volume")?;
+    assert!(rt; again.files.get(FILE) == catalog.files.get(FILE));
+    assert!(rt; !again.places.is_taken(260));
+    Ok(())
+}
+
+// Whether a plan that is taken back leaves the catalog as it was, at a place that the plan freed.
+fn is_taken_back(
+    alloc: Global,
+    pages: &mut MemPages,
+    change: &Change,
+    place: u32,
+) -> Result<bool, VaultFault>
+    requires { change.now.puts ≡ [] }
+{
+    let mut catalog = read_volume(alloc, pages, HOME)?;
+    let mut plan = plan_change(alloc, pages, &mut catalog, change)?;
+    let freed = !catalog.places.is_taken(place);
+    catalog.take_back(&mut plan.undos);
+    Ok(freed && catalog.places.is_taken(place) && catalog.files.get(FILE).is_some())
+}
+
+#[test]
+fn takes_a_plan_back(rt: HostRuntime) -> Result<(), Fail> {
+    let alloc = rt.alloc();
+    let mut pages = volume(alloc).ok().ok_or("memory")?.ok_or("a volume")?;
+    let change = change_of(alloc, &[FILE], &[]).ok().ok_or("memory")?;
+    let back = is_taken_back(alloc, &mut pages, &change, 260)
+        .ok()
+        .ok_or("a plan")?;
+    assert!(rt; back);
+    Ok(())
+}
+
+// A plan that puts a page of the file.
+fn plan_page(
+    alloc: Global,
+    pages: &mut MemPages,
+    number: u32,
+    page: PageRef,
+) -> Result<(Draft, Catalog), VaultFault>
+    requires { number < 4096 }
+{
+    let mut puts = Vec::new(alloc);
+    if puts
+        .push((Key::PageOf(FILE, number), Cell::Page(page)))
+        .is_err()
+    {
+        return Err(VaultFault::OutOfMemory);
+    }
+    let change = Change {
+        drops: Sequence::new(Vec::new(alloc)),
+        cuts: Sequence::new(Vec::new(alloc)),
+        puts: Sequence::new(puts),
+    };
+    let mut catalog = read_volume(alloc, pages, HOME)?;
+    let plan = plan_change(alloc, pages, &mut catalog, &change)?;
+    Ok((plan, catalog))
+}
+
+#[test]
+fn puts_a_page_at_the_lowest_free_place(rt: HostRuntime) -> Result<(), Fail> {
+    let alloc = rt.alloc();
+    let mut pages = volume(alloc).ok().ok_or("memory")?.ok_or("a volume")?;
+    let page = PageRef::new(alloc, Page::beginning(b"new"))
+        .ok()
+        .ok_or("memory")?;
+    let (plan, catalog) = plan_page(alloc, &mut pages, 3, page).ok().ok_or("a plan")?;
+    let there = plan.pages.get(261).ok_or("a page")?;
+    assert!(rt; there.bytes().starts_with(b"new\0"));
+    let index = plan.pages.get(258).ok_or("an index page")?;
+    let places = decode_index(index.bytes()).ok_or("an index page")?;
+    assert_eq!(rt; (places.at(1), places.at(2), places.at(3)), (260, 0, 261));
+    assert!(rt; catalog.places.is_taken(261) && !catalog.places.is_taken(262));
+    let images = plan.pages.images(alloc).ok().ok_or("memory")?;
+    assert_eq!(rt; images.len(), 2);
     Ok(())
 }

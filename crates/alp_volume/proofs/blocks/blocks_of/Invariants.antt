@@ -1,7 +1,7 @@
 use Rattle.std.specs.Prelude.{◌==◌, not, slice_index}
 use Rattle.std.specs.Int.{bit_at}
 use Rattle.std.proofs.Common.{◌≡◌, ◌≤◌, ◌<◌, ℕ}
-use Rattle.alp_volume.specs.Counted.{bit}
+use Rattle.alp_pages.specs.Counted.{bit}
 use Rattle.alp_volume.proofs.blocks.blocks_of.Given as goal
 
 abbrev pub invariant-loop-block : goal.invariant-loop-block

@@ -1,8 +1,8 @@
 use Rattle.std.specs.Prelude.{Bool, true, false, not, ◌==◌}
 use Rattle.std.proofs.Common.{◌≡◌, ◌∙◌, refl, sym, ap, w32}
 use Rattle.std.proofs.lemmas.Nat.Bits.{bit_at_set_same, bit_at_set_other}
-use Rattle.alp_volume.specs.Counted.{bit}
-use Rattle.alp_volume.proofs.NamingLaws.{eqb_other}
+use Rattle.alp_pages.specs.Counted.{bit}
+use Rattle.alp_pages.proofs.NamingLaws.{eqb_other}
 use Rattle.alp_volume.proofs.blocks.with_block.Goals as goal
 
 pub returns-clause-own : goal.returns-clause-own

@@ -1,7 +1,7 @@
 use Rattle.std.specs.Prelude.{Bool, IsTrue, Ok, Some, None, true, false}
 use Rattle.std.proofs.Common.{◌≡◌, ◌∙◌, ◌∷◌, ℕ, ◌+◌, List, refl, sym, ap, subst, arith}
-use Rattle.alp_volume.specs.Pages.{Pages, entry_in}
-use Rattle.alp_volume.specs.Damage.{Part, Slot, Name, first_wrong, names_after}
+use Rattle.alp_pages.specs.Pages.{Pages, entry_in}
+use Rattle.alp_pages.specs.Damage.{Part, Slot, Name, first_wrong, names_after}
 use Rattle.alp_volume.specs.Reached.{AreListed, AreMarks, slots_from}
 use Rattle.alp_volume.proofs.LoopLaws.{Along, along_begins, along_more, along_stops, along_done, slots_step, slots_end, read_none, read_then, read_ok}
 use Rattle.alp_volume.proofs.directory.read_directory.Goals as goal
@@ -12,6 +12,7 @@ loop-slot-init g c = record {
   few = omega (arith, c.requires.empty);
   others = (refl, refl);
   long = refl;
+  sized = λ home sized. sized;
   told = λ home names tells marks listed. (names, along_begins home (g.R.PageReader.pages c.args.reader.now) names (slots_from 0), marks, listed);
 }
 
@@ -27,6 +28,7 @@ loop-slot-preserved g c =
       few = omega (arith, inv.few, c.add_entry.ensures.few);
       others = (c.add_entry.ensures.others.0 ∙ inv.others.0, c.add_entry.ensures.others.1 ∙ inv.others.1);
       long = c.add_entry.ensures.long ∙ inv.long;
+      sized = λ home sized. c.add_entry.ensures.sized home (inv.sized home sized);
       told = λ home names tells marks listed.
           let t = inv.told home names tells marks listed in
           let at = g.R.PageReader.pages r0 in
@@ -62,3 +64,6 @@ returns-clause-judged g c home names tells marks listed =
       subst (λ (ns : List Name). AreMarks home ns c.loop-slot.catalog.places × AreListed home at 4096 ns c.loop-slot.catalog.files c.loop-slot.catalog.slots) (sym done.1)
           (t.2, subst (λ (n : ℕ). AreListed home at n t.0 c.loop-slot.catalog.files c.loop-slot.catalog.slots) end t.3),
     )
+
+pub returns-then-not-add_entry-clause-sized : goal.returns-then-not-add_entry-clause-sized
+returns-then-not-add_entry-clause-sized g c home sized = c.add_entry.ensures.sized home (c.loop-slot.invariant.sized home sized)

@@ -2,9 +2,9 @@ use Rattle.std.specs.Prelude.{Bool, IsTrue, Ok, Some, None, Option, ◌++◌, sl
 use Rattle.std.specs.Option.{option_to_list}
 use Rattle.std.proofs.Common.{◌≡◌, ◌∙◌, ℕ, ◌+◌, ◌/◌, List, refl, sym, ap, subst, arith}
 use Rattle.alp_base.specs.declared.ids.FileId.{FileId}
-use Rattle.alp_volume.specs.Nodes.{DataOf}
-use Rattle.alp_volume.specs.Pages.{Pages}
-use Rattle.alp_volume.specs.Damage.{Part, Name, index_part, has_node, first_wrong, names_after}
+use Rattle.alp_pages.specs.Nodes.{DataOf}
+use Rattle.alp_pages.specs.Pages.{Pages}
+use Rattle.alp_pages.specs.Damage.{Part, Name, index_part, has_node, first_wrong, names_after}
 use Rattle.alp_volume.specs.Reached.{AreMarks, IsJudged, blocks_from}
 use Rattle.alp_volume.proofs.LoopLaws.{Along, along_begins, along_segment, along_segment_stops, along_done, read_none, read_then, read_ok}
 use Rattle.alp_volume.proofs.FileNames.{blocks_step, blocks_end, fresh_block, later_block}
@@ -14,6 +14,7 @@ pub loop-block-init : goal.loop-block-init
 loop-block-init g c = record {
   read = read_none g.met.R.PageReader.still c.args.reader.now;
   long = refl;
+  stay = λ p taken. taken;
   told = λ home names f tells marks none. (names, along_begins home (g.R.PageReader.pages c.args.reader.now) names (blocks_from f c.args.size c.args.index.now 0), marks, λ n low. none n);
 }
 
@@ -27,6 +28,7 @@ loop-block-preserved g c =
     record {
       read = read_ok g.met.R.PageReader.then_on r0 c.read_block.new.reader c.in_ok-wrong.field-0 tt (read_then g.met.R.PageReader.then_on r0 r1 c.read_block.new.reader tt (Ok c.in_ok-wrong.field-0) inv.read c.in_ok-wrong.ensures.read);
       long = c.read_block.ensures.long ∙ inv.long;
+      stay = λ p taken. c.read_block.ensures.stay p (inv.stay p taken);
       told = λ home names f tells marks none.
           let t = inv.told home names f tells marks none in
           let at = g.R.PageReader.pages r0 in

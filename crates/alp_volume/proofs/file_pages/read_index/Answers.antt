@@ -1,9 +1,9 @@
 use Rattle.std.specs.Prelude.{Some, Option}
 use Rattle.std.proofs.Common.{◌≡◌, List, ℕ, sym, ◌∙◌, ap, subst}
 use Rattle.alp_fields.specs.Forms.{whole}
-use Rattle.alp_volume.specs.Nodes.{IndexOf}
-use Rattle.alp_volume.specs.Pages.{index_page}
-use Rattle.alp_volume.specs.Damage.{Name, added, names_of, row_there}
+use Rattle.alp_pages.specs.Nodes.{IndexOf}
+use Rattle.alp_pages.specs.Pages.{index_page}
+use Rattle.alp_pages.specs.Damage.{Name, added, names_of, row_there}
 use Rattle.alp_volume.specs.Reached.{AreMarks}
 use Rattle.alp_volume.proofs.file_pages.read_index.Goals as goal
 

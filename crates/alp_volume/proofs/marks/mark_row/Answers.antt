@@ -18,6 +18,7 @@ loop-j-preserved c = record {
       (c.mark_one.ensures.marked home left.before k left.marks c.if-not-mark_one.false);
   within = below_more _ _ c.loop-j.invariant.within (subst (λ (n : ℕ). (slice_index_or c.args.row.now c.loop-j.j 0 ≡ 0) ⊎ (slice_index_or c.args.row.now c.loop-j.j 0 < n)) c.loop-j.invariant.long (c.mark_one.ensures.within c.if-not-mark_one.false));
   long = c.mark_one.ensures.long ∙ c.loop-j.invariant.long;
+  stay = λ p taken. c.mark_one.ensures.stay p (c.loop-j.invariant.stay p taken);
 }
 
 pub returns-clause-judged : goal.returns-clause-judged

@@ -1,8 +1,9 @@
 use Rattle.std.specs.Prelude.{Some, None}
 use Rattle.std.specs.Cmp.Lexicographic.{nat_list_cmp_total}
 use Rattle.std.proofs.Common.{◌≡◌, rules, sym, ◌∙◌, ap, arith}
-use Rattle.alp_volume.specs.Pages.{row_in}
+use Rattle.alp_pages.specs.Pages.{row_in}
 use Rattle.alp_volume.proofs.ListLaws.{few_more}
+use Rattle.alp_volume.proofs.SizedLaws.{owner_taken_sized}
 use Rattle.alp_volume.proofs.RowLaws.{right_row, wrong_charge, none_owned, added_owned}
 use Rattle.alp_volume.proofs.owner_pages.add_owner.Goals as goal
 
@@ -26,3 +27,7 @@ returns-clause-owned c at found owned ok =
 
 pub returns-clause-few : goal.returns-clause-few
 returns-clause-few c = few_more nat_list_cmp_total c.args.catalog.now.owners c.add.new.self _ _ c.add.result c.add.ensures.added c.add.ensures.same
+
+pub returns-clause-sized : goal.returns-clause-sized
+returns-clause-sized c home sized =
+    owner_taken_sized home c.args.catalog.now c.in-Some-found.owner.name c.args.row sized c.requires.row c.mark.new.self c.mark.ensures.long c.add.new.self c.add.result c.add.ensures.added c.add.ensures.same

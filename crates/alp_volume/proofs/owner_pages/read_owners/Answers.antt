@@ -1,7 +1,7 @@
 use Rattle.std.specs.Prelude.{Bool, true, false, ◌&&◌, IsTrue, Ok}
 use Rattle.std.proofs.Common.{◌≡◌, ◌∙◌, ◌∷◌, ℕ, ◌+◌, List, refl, sym, ap, subst, arith}
-use Rattle.alp_volume.specs.Pages.{Pages, row_in}
-use Rattle.alp_volume.specs.Damage.{Part, OwnerRow, Name, is_right, is_right_row}
+use Rattle.alp_pages.specs.Pages.{Pages, row_in}
+use Rattle.alp_pages.specs.Damage.{Part, OwnerRow, Name, is_right, is_right_row}
 use Rattle.alp_volume.specs.Reached.{AreOwners, AreCosts, rows_from}
 use Rattle.alp_volume.proofs.LoopLaws.{Along, along_begins, along_more, along_stops, along_done, rows_step, rows_end, read_none, read_then, read_ok}
 use Rattle.alp_volume.proofs.owner_pages.read_owners.Goals as goal
@@ -16,6 +16,7 @@ loop-row-init g c = record {
   few = omega (arith, c.requires.empty);
   files = (refl, refl);
   places = refl;
+  sized = λ home sized. sized;
   told = λ home names tells costs owned. (along_begins home (g.R.PageReader.pages c.args.reader.now) names (rows_from 0), owned);
 }
 
@@ -31,6 +32,7 @@ loop-row-preserved g c =
       few = omega (arith, inv.few, c.add_owner.ensures.few);
       files = (c.add_owner.ensures.files.0 ∙ inv.files.0, c.add_owner.ensures.files.1 ∙ inv.files.1);
       places = c.add_owner.ensures.places ∙ inv.places;
+      sized = λ home sized. c.add_owner.ensures.sized home (inv.sized home sized);
       told = λ home names tells costs owned.
           let t = inv.told home names tells costs owned in
           let at = g.R.PageReader.pages r0 in
@@ -61,3 +63,6 @@ returns-clause-judged g c home names tells costs owned =
     let end : c.loop-row.row ≡ 256 = omega arith in
     let done = along_done home at names (rows_from 0) names (subst (λ (ps : List Part). Along home at names (rows_from 0) ps names) (rows_end c.loop-row.row (omega arith)) t.0) in
     (done.0, (done.1, subst (λ (n : ℕ). AreOwners at n c.loop-row.catalog.owners c.loop-row.catalog.rows) end t.1))
+
+pub returns-then-not-add_owner-clause-sized : goal.returns-then-not-add_owner-clause-sized
+returns-then-not-add_owner-clause-sized g c home sized = c.add_owner.ensures.sized home (c.loop-row.invariant.sized home sized)

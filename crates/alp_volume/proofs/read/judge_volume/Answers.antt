@@ -1,13 +1,14 @@
 use Rattle.std.specs.Prelude.{Bool, IsTrue, Some, None, Option, IfOk, ◌++◌}
 use Rattle.std.specs.FinMap as map
 use Rattle.std.proofs.Common.{◌≡◌, ◌∙◌, ◌∷◌, [], ℕ, List, refl, sym, ap, subst, arith}
-use Rattle.alp_volume.specs.Pages.{Pages}
-use Rattle.alp_volume.specs.Damage.{Part, Header, Name, names_after, parts}
+use Rattle.alp_pages.specs.Pages.{Pages}
+use Rattle.alp_pages.specs.Damage.{Part, Header, Name, names_after, parts}
 use Rattle.alp_volume.specs.Reached.{AreListed, AreMarks, AreNamed, AreOwners, AreWithin, IsJudged, rows_from, slots_from, files_from}
 use Rattle.alp_volume.specs.Known.{IsRead}
 use Rattle.alp_volume.proofs.LoopLaws.{Along, along_begins, along_segment, along_segment_stops, parts_are}
 use Rattle.alp_volume.proofs.KnownLaws.{finish}
 use Rattle.alp_volume.proofs.BlankLaws.{blank_marks, blank_listed, blank_owned, no_files, no_owners, none_named, all_within}
+use Rattle.alp_volume.proofs.SizedLaws.{blank_sized}
 use Rattle.alp_volume.proofs.read.judge_volume.Goals as goal
 
 -- the parts that are left after each of the three
@@ -81,3 +82,18 @@ returns-clause-judged g c tells =
     let owned3 : AreOwners at 256 c3.owners c3.rows = rw (c.read_files.ensures.others.0, c.read_files.ensures.others.1) right2.1.1 in
     finish home at [] (parts at) (files_from at 0) names (λ ns. AreMarks home ns c3.places × AreListed home at 4096 ns c3.files c3.slots × AreNamed 4096 ns c3.files) (λ ns. IsRead home at ns c3)
     (λ ns all. record { marks = all.0; listed = all.1; owned = owned3; named = all.2 }) along2 c.read_files.result here
+
+pub returns-in_err-wrong-clause-sized : goal.returns-in_err-wrong-clause-sized
+returns-in_err-wrong-clause-sized g c = c.judge_head.ensures.sized c.args.home (blank_sized c.args.home c.args.catalog.now c.requires.blank (omega arith))
+
+pub returns-in-Some-clause-sized : goal.returns-in-Some-clause-sized
+returns-in-Some-clause-sized g c = c.judge_head.ensures.sized c.args.home (blank_sized c.args.home c.args.catalog.now c.requires.blank (omega arith))
+
+pub returns-in_err-wrong-2-clause-sized : goal.returns-in_err-wrong-2-clause-sized
+returns-in_err-wrong-2-clause-sized g c = c.judge_owners.ensures.sized c.args.home (c.judge_head.ensures.sized c.args.home (blank_sized c.args.home c.args.catalog.now c.requires.blank (omega arith)))
+
+pub returns-in-Some-2-clause-sized : goal.returns-in-Some-2-clause-sized
+returns-in-Some-2-clause-sized g c = c.judge_owners.ensures.sized c.args.home (c.judge_head.ensures.sized c.args.home (blank_sized c.args.home c.args.catalog.now c.requires.blank (omega arith)))
+
+pub returns-clause-sized : goal.returns-clause-sized
+returns-clause-sized g c = c.read_files.ensures.sized c.args.home (c.judge_owners.ensures.sized c.args.home (c.judge_head.ensures.sized c.args.home (blank_sized c.args.home c.args.catalog.now c.requires.blank (omega arith))))

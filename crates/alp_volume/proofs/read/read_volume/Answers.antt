@@ -1,6 +1,6 @@
 use Rattle.std.specs.Prelude.{Some, None, Option}
 use Rattle.std.proofs.Common.{◌≡◌, ◌∙◌, [], ℕ, List, sym, ap, subst}
-use Rattle.alp_volume.specs.Damage.{Name, damage_of, first_wrong, parts}
+use Rattle.alp_pages.specs.Damage.{Name, damage_of, first_wrong, parts}
 use Rattle.alp_volume.specs.Reached.{IsJudged}
 use Rattle.alp_volume.specs.Known.{IsRead}
 use Rattle.alp_volume.proofs.KnownLaws.{damage_is, known_volume}

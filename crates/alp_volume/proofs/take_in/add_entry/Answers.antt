@@ -1,6 +1,6 @@
 use Rattle.std.specs.Prelude.{Some, None}
 use Rattle.std.proofs.Common.{rules, sym, ◌∙◌, ap, ◌≡◌}
-use Rattle.alp_volume.specs.Pages.{entry_in}
+use Rattle.alp_pages.specs.Pages.{entry_in}
 use Rattle.alp_volume.proofs.ListLaws.{none_listed}
 use Rattle.alp_volume.proofs.take_in.add_entry.Goals as goal
 

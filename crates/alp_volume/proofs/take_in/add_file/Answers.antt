@@ -1,4 +1,5 @@
 use Rattle.alp_volume.proofs.ListLaws.{few_more, added_listed}
+use Rattle.alp_volume.proofs.SizedLaws.{file_sized, places_sized}
 use Rattle.alp_volume.proofs.Tables.{files_total}
 use Rattle.alp_volume.proofs.take_in.add_file.Goals as goal
 
@@ -9,3 +10,11 @@ returns-clause-listed c home at names here marks listed ok =
 
 pub returns-clause-few : goal.returns-clause-few
 returns-clause-few c = few_more files_total c.args.catalog.now.files c.add.new.self _ _ c.add.result c.add.ensures.added c.add.ensures.same
+
+pub returns-then-not-mark-clause-sized : goal.returns-then-not-mark-clause-sized
+returns-then-not-mark-clause-sized c home sized = places_sized home c.args.catalog.now sized c.mark.new.self c.mark.ensures.long c.mark.ensures.stay
+
+pub returns-clause-sized : goal.returns-clause-sized
+returns-clause-sized c home sized =
+    file_sized home c.args.catalog.now c.args.entry.file (record { slot = c.args.slot; place = c.args.entry.place; blocks = 0 }) sized c.requires.slot (c.mark.ensures.yes c.if-not-mark.false).0 c.mark.new.self c.mark-2.new.self c.mark.ensures.long c.mark.ensures.stay c.mark-2.ensures.long
+    c.add.new.self c.add.result c.add.ensures.added c.add.ensures.same

@@ -3,12 +3,13 @@ use Rattle.std.proofs.Common.{◌≡◌, ◌∙◌, ◌∷◌, ℕ, List, sym, a
 use Rattle.std.specs.List.{filter_map, enumerate_from}
 use Rattle.alp_fields.specs.Forms.{whole}
 use Rattle.alp_leader.specs.Leader.{leader_page}
-use Rattle.alp_volume.specs.Nodes.{LeaderOf}
-use Rattle.alp_volume.specs.Pages.{Pages}
-use Rattle.alp_volume.specs.Volume.{row_of_node}
-use Rattle.alp_volume.specs.Damage.{Part, NodePage, Name, is_right, row_there, added, names_in, index_part, size_of}
+use Rattle.alp_pages.specs.Nodes.{LeaderOf}
+use Rattle.alp_pages.specs.Pages.{Pages}
+use Rattle.alp_pages.specs.Volume.{row_of_node}
+use Rattle.alp_pages.specs.Damage.{Part, NodePage, Name, is_right, row_there, added, names_in, index_part, size_of}
 use Rattle.alp_volume.specs.Reached.{AreFresh, AreMarks, IsJudged, blocks_from}
 use Rattle.alp_volume.proofs.LeaderParts.{own_row}
+use Rattle.alp_volume.proofs.SizedLaws.{places_sized}
 use Rattle.alp_volume.proofs.FileNames.{leader_no_data, result_passes, blocks_are}
 use Rattle.alp_volume.proofs.volume_files.read_entry_file.Goals as goal
 
@@ -33,3 +34,6 @@ returns-clause-judged g c home names tells marks unread owned =
     let here = subst (λ (x : Pages). IfOk c.read_blocks.result (IsJudged home x names1 (blocks_from f l.props.size l.index 0) (λ ns. AreMarks home ns c.read_blocks.new.places))) same judged in
     let parts = subst (λ (ps : List Part). IfOk c.read_blocks.result (IsJudged home at names1 ps (λ ns. AreMarks home ns c.read_blocks.new.places))) (sym (blocks_are at f place l reads row)) here in
     result_passes home at names (NodePage (LeaderOf f) 32 place) (filter_map (index_part f (size_of (whole leader_page (at place)))) (enumerate_from 0 (row_there (row_of_node (LeaderOf f) (at place))))) (λ ns. AreMarks home ns c.read_blocks.new.places) c.read_blocks.result right parts
+
+pub returns-clause-sized : goal.returns-clause-sized
+returns-clause-sized g c home sized = places_sized home c.add_leader.new.catalog (c.add_leader.ensures.sized home sized) c.read_blocks.new.places c.read_blocks.ensures.long c.read_blocks.ensures.stay

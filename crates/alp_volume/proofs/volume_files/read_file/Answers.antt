@@ -1,12 +1,12 @@
 use Rattle.std.specs.Prelude.{Bool, IsTrue, Some, None, Option, IfOk, ◌≤◌}
 use Rattle.std.specs.FinMap as map
 use Rattle.std.proofs.Common.{◌≡◌, ◌∙◌, ◌+◌, ℕ, List, refl, sym, ap, subst, arith}
-use Rattle.alp_volume.specs.declared.entry.Entry.{Entry}
+use Rattle.alp_pages.specs.declared.entry.Entry.{Entry}
 use Rattle.alp_volume.specs.declared.file_slot.FileSlot.{FileSlot}
-use Rattle.alp_volume.specs.Nodes.{LeaderOf}
-use Rattle.alp_volume.specs.Pages.{Pages, entry_in}
-use Rattle.alp_volume.specs.Volume.{row_of_node}
-use Rattle.alp_volume.specs.Damage.{Name, entry_there, parts_of, row_there}
+use Rattle.alp_pages.specs.Nodes.{LeaderOf}
+use Rattle.alp_pages.specs.Pages.{Pages, entry_in}
+use Rattle.alp_pages.specs.Volume.{row_of_node}
+use Rattle.alp_pages.specs.Damage.{Name, entry_there, parts_of, row_there}
 use Rattle.alp_volume.specs.Reached.{AreListed, AreMarks, AreNamed, AreOwners, IsJudged, IsKept}
 use Rattle.alp_volume.proofs.FileSteps.{is_there, no_file_more, none_judged, file_judged}
 use Rattle.alp_volume.proofs.volume_files.read_file.Goals as goal

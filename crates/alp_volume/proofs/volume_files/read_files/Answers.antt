@@ -1,8 +1,8 @@
 use Rattle.std.specs.Prelude.{Bool, IsTrue, Ok, Some, None, Option, ◌++◌}
 use Rattle.std.proofs.Common.{◌≡◌, ◌∙◌, ℕ, ◌+◌, ◌≤◌, List, length, refl, sym, ap, subst, arith}
 use Rattle.alp_vault.specs.declared.limits.TheConstants.{HEAD_PAGES}
-use Rattle.alp_volume.specs.Pages.{Pages, entry_in}
-use Rattle.alp_volume.specs.Damage.{Part, Name, entry_there, parts_of}
+use Rattle.alp_pages.specs.Pages.{Pages, entry_in}
+use Rattle.alp_pages.specs.Damage.{Part, Name, entry_there, parts_of}
 use Rattle.alp_volume.specs.Reached.{AreListed, AreMarks, AreNamed, AreOwners, IsJudged, files_from}
 use Rattle.alp_volume.proofs.LoopLaws.{Along, along_begins, along_segment, along_segment_stops, along_done, files_step, files_end, read_none, read_then, read_ok}
 use Rattle.alp_volume.proofs.volume_files.read_files.Goals as goal
@@ -12,6 +12,7 @@ loop-slot-init g c = record {
   read = read_none g.met.R.PageReader.still c.args.reader.now;
   others = (refl, refl, refl);
   long = refl;
+  sized = λ home sized. sized;
   told = λ home names tells marks listed owned named. (names, along_begins home (g.R.PageReader.pages c.args.reader.now) names (files_from (g.R.PageReader.pages c.args.reader.now) 0), marks, listed, named);
 }
 
@@ -32,6 +33,7 @@ loop-slot-preserved g c =
       read = read_ok g.met.R.PageReader.then_on r0 c.read_file.new.reader c.in_ok-wrong.field-0 tt (read_then g.met.R.PageReader.then_on r0 r1 c.read_file.new.reader tt (Ok c.in_ok-wrong.field-0) inv.read c.in_ok-wrong.ensures.read);
       others = (c.read_file.ensures.others.0 ∙ inv.others.0, c.read_file.ensures.others.1 ∙ inv.others.1, c.read_file.ensures.others.2 ∙ inv.others.2);
       long = c.read_file.ensures.long ∙ inv.long;
+      sized = λ home sized. c.read_file.ensures.sized home (inv.sized home sized);
       told = λ home names tells marks listed owned named.
           let t = inv.told home names tells marks listed owned named in
           let at = g.R.PageReader.pages r0 in
@@ -82,3 +84,9 @@ returns-clause-judged g c home names tells marks listed owned named =
       subst (λ (ns : List Name). AreMarks home ns c.loop-slot.catalog.places × AreListed home at 4096 ns c.loop-slot.catalog.files c.loop-slot.catalog.slots × AreNamed 4096 ns c.loop-slot.catalog.files) (sym done.1)
           (t.2, t.3, subst (λ (n : ℕ). AreNamed n t.0 c.loop-slot.catalog.files) end t.4),
     )
+
+pub returns-in_err-wrong-clause-sized : goal.returns-in_err-wrong-clause-sized
+returns-in_err-wrong-clause-sized g c home sized = c.read_file.ensures.sized home (c.loop-slot.invariant.sized home sized)
+
+pub returns-in-Some-clause-sized : goal.returns-in-Some-clause-sized
+returns-in-Some-clause-sized g c home sized = c.read_file.ensures.sized home (c.loop-slot.invariant.sized home sized)

@@ -2,6 +2,7 @@ use Rattle.std.proofs.Common.{◌≡◌, ◌∙◌, ◌<◌, ◌≤◌, Some, Li
 use Rattle.std.specs.Prelude.{is_some}
 use Rattle.std.specs.FinMap as map
 use Rattle.std.specs.List.{insert}
+use Rattle.std.proofs.lemmas.List.Edits.{length-insert}
 use Rattle.std.specs.List.Sorted.{IsStrictlySortedBy}
 use Rattle.alp_base.specs.declared.ids.FileId.{FileId}
 use Rattle.alp_base.specs.KeyLaws.{file_cmp, exact_files}
@@ -21,6 +22,7 @@ invariant_of-self c =
     let slots : c.insert-in-Err.new.self.items ≡ insert c.self.inside.slots.items c.in-Err.at c.args.slot = c.insert-in-Err.ensures.items ∙ ap (λ (b : Bool). if b then insert c.self.inside.slots.items c.in-Err.at c.args.slot else c.self.inside.slots.items) (c.insert-in-Err.ensures.succeeds (omega (arith, c.self.inside.slots.ok))) in
     record {
       rows = rw (ids, slots) (insert_row files_total exact_files c.self.inside.ids.items c.self.inside.slots.items c.args.file c.args.slot c.in-Err.at c.self.invariant.rows gap).rows;
+      few = subst (λ (ks : List FileId). length ks ≤ 4096) (sym ids) (omega (arith, length-insert c.self.inside.ids.items c.in-Err.at c.args.file gap.within, count, c.requires));
       keys_fit = omega (arith, c.insert.ensures.capacity, c.self.invariant.keys_fit);
       values_fit = omega (arith, c.insert-in-Err.ensures.capacity, c.self.invariant.values_fit);
     }

@@ -16,6 +16,7 @@ invariant_of-self c =
     let here : IsAt file_cmp c.args.file c.self.inside.ids.items c.in-Ok.at = subst (λ (ks : List FileId). IsAt file_cmp c.args.file ks c.in-Ok.at) c.as_slice.ensures.value c.in-Ok.ensures.found in
     record {
       rows = (set_row files_total exact_files c.self.inside.ids.items c.self.inside.slots.items c.args.file c.args.slot c.in-Ok.at c.self.invariant.rows here).rows;
+      few = c.self.invariant.few;
       keys_fit = c.self.invariant.keys_fit;
       values_fit = c.self.invariant.values_fit;
     }

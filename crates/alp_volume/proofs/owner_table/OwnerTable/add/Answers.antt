@@ -2,6 +2,7 @@ use Rattle.std.proofs.Common.{◌≡◌, ◌∙◌, ◌<◌, ◌≤◌, Some, Li
 use Rattle.std.specs.Prelude.{is_some}
 use Rattle.std.specs.FinMap as map
 use Rattle.std.specs.List.{insert}
+use Rattle.std.proofs.lemmas.List.Edits.{length-insert}
 use Rattle.std.specs.List.Sorted.{IsStrictlySortedBy}
 use Rattle.std.specs.Cmp.Lexicographic.{nat_list_cmp_total}
 use Rattle.std.proofs.lemmas.Map.Lookups.{exact_bytes}
@@ -22,6 +23,7 @@ invariant_of-self c =
     let slots : c.insert-in-Err.new.self.items ≡ insert c.self.inside.rows.items c.in-Err.at c.args.row = c.insert-in-Err.ensures.items ∙ ap (λ (b : Bool). if b then insert c.self.inside.rows.items c.in-Err.at c.args.row else c.self.inside.rows.items) (c.insert-in-Err.ensures.succeeds (omega (arith, c.self.inside.rows.ok))) in
     record {
       rows = rw (ids, slots) (insert_row nat_list_cmp_total exact_bytes c.self.inside.names.items c.self.inside.rows.items c.args.name c.args.row c.in-Err.at c.self.invariant.rows gap).rows;
+      few = subst (λ (ks : List (List ℕ)). length ks ≤ 256) (sym ids) (omega (arith, length-insert c.self.inside.names.items c.in-Err.at c.args.name gap.within, count, c.requires));
       keys_fit = omega (arith, c.insert.ensures.capacity, c.self.invariant.keys_fit);
       values_fit = omega (arith, c.insert-in-Err.ensures.capacity, c.self.invariant.values_fit);
     }

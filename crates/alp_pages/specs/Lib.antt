@@ -1,0 +1,10 @@
+pub mod Naming
+pub mod Nodes
+pub mod Pages
+pub mod Rows
+pub mod Reading
+pub mod Volume
+pub mod Fetch
+pub mod Changes
+pub mod Counted
+pub mod Damage

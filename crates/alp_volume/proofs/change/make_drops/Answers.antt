@@ -1,0 +1,49 @@
+use Rattle.std.specs.Prelude.{Bool, IsTrue, Ok}
+use Rattle.std.proofs.Common.{◌≡◌, ◌∙◌, ◌+◌, ◌<◌, ◌∷◌, [], List, ℕ, length, drop, get_or, refl, sym, ap, subst, arith}
+use Rattle.std.proofs.lemmas.List.{at_drop_more, drop_all}
+use Rattle.alp_base.specs.declared.ids.FileId.{FileId}
+use Rattle.alp_files.specs.Cells.{View}
+use Rattle.alp_files.specs.Edits.{Drop, after}
+use Rattle.alp_pages.specs.Changes.{drops_of}
+use Rattle.alp_volume.specs.Drafts.{HaveLeaders, IsDraft, laid}
+use Rattle.alp_volume.specs.Known.{IsCatalog}
+use Rattle.alp_pages.specs.Pages.{Pages}
+use Rattle.alp_volume.proofs.LoopLaws.{read_none, read_then, read_ok}
+use Rattle.alp_volume.proofs.HeadLaws.{drop_keeps}
+use Rattle.alp_volume.proofs.change.make_drops.Goals as goal
+
+abbrev no_file : FileId
+no_file = record { server = 0; epoch = 0; counter = 0 }
+
+pub loop-file-preserved : goal.loop-file-preserved
+loop-file-preserved g c =
+    let r0 = c.args.reader.now in
+    let r1 = c.loop-file.reader in
+    let inv = c.loop-file.invariant in
+    let i = c.loop-file.file-index in
+    let same : g.R.PageReader.pages r1 ≡ g.R.PageReader.pages r0 = g.met.R.PageReader.same_pages r0 r1 inv.read.on in
+    let same_home : g.R.PageReader.home r1 ≡ g.R.PageReader.home r0 = g.met.R.PageReader.same_home r0 r1 inv.read.on in
+    let telling : g.R.PageReader.tells r1 ≡ g.R.PageReader.tells r0 = g.met.R.PageReader.same_tells r0 r1 inv.read.on in
+    let x = get_or c.args.drops.now i no_file in
+    record {
+      read = read_ok g.met.R.PageReader.then_on r0 c.drop_file.new.reader c.in_ok-drop_file.field-0 tt (read_then g.met.R.PageReader.then_on r0 r1 c.drop_file.new.reader tt (Ok c.in_ok-drop_file.field-0) inv.read c.in_ok-drop_file.ensures.read);
+      sized = subst (λ (n : ℕ). IsCatalog n c.drop_file.new.catalog) same_home c.drop_file.ensures.sized;
+      few = omega (arith, inv.few, c.drop_file.ensures.few, at_drop_more (λ (xs : List FileId). length xs) c.args.drops.now i no_file c.loop-file-test.true);
+      back = λ first led. c.drop_file.ensures.back first (inv.back first led);
+      told = λ m tells d have.
+          let t = inv.told m tells d have in
+          let next = after (Drop x ∷ []) t.0 in
+          let told = subst (λ (b : Bool). IsTrue b) (sym telling) tells in
+          let here = subst (λ (n : ℕ). IsDraft n (laid c.loop-file.draft.pages (g.R.PageReader.pages r1)) t.0 c.loop-file.catalog) (sym same_home)
+          (subst (λ (y : Pages). IsDraft (g.R.PageReader.home r0) (laid c.loop-file.draft.pages y) t.0 c.loop-file.catalog) (sym same) t.1) in
+          let made = c.in_ok-drop_file.ensures.dropped t.0 told here t.2 in
+          let back = subst (λ (n : ℕ). IsDraft n (laid c.drop_file.new.draft.pages (g.R.PageReader.pages r0)) next c.drop_file.new.catalog) same_home
+          (subst (λ (y : Pages). IsDraft (g.R.PageReader.home r1) (laid c.drop_file.new.draft.pages y) next c.drop_file.new.catalog) same made) in
+          (next, back, drop_keeps t.0 x t.2, sym (at_drop_more (λ (xs : List FileId). after (drops_of xs) t.0) c.args.drops.now i no_file c.loop-file-test.true) ∙ t.3);
+    }
+
+pub returns-clause-dropped : goal.returns-clause-dropped
+returns-clause-dropped g c m tells d have =
+    let t = c.loop-file.invariant.told m tells d have in
+    let end : t.0 ≡ after (drops_of c.args.drops.now) m = sym (ap (λ (xs : List FileId). after (drops_of xs) t.0) (drop_all c.loop-file.file-index c.args.drops.now c.loop-file-test.false)) ∙ t.3 in
+    subst (λ (v : View). IsDraft (g.R.PageReader.home c.args.reader.now) (laid c.loop-file.draft.pages (g.R.PageReader.pages c.args.reader.now)) v c.loop-file.catalog × HaveLeaders v) end (t.1, t.2)

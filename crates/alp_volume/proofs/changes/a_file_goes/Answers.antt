@@ -1,5 +1,0 @@
-use Rattle.alp_volume.proofs.ChangeLaws.{file_gone}
-use Rattle.alp_volume.proofs.changes.a_file_goes.Goals as goal
-
-pub returns : goal.returns
-returns c = file_gone

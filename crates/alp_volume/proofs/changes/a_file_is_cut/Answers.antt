@@ -1,5 +1,0 @@
-use Rattle.alp_volume.proofs.CutLaws.{pages_cut}
-use Rattle.alp_volume.proofs.changes.a_file_is_cut.Goals as goal
-
-pub returns : goal.returns
-returns c = pages_cut

@@ -1,5 +1,0 @@
-use Rattle.alp_volume.proofs.IndexLaws.{no_places}
-use Rattle.alp_volume.proofs.index.IndexPlaces.none.Goals as goal
-
-pub returns : goal.returns
-returns c k = no_places 128 k

@@ -1,5 +1,0 @@
-use Rattle.alp_volume.proofs.UniqueLaws.{one_map}
-use Rattle.alp_volume.proofs.laws.pages_stand_for_one_map.Goals as goal
-
-pub returns : goal.returns
-returns c = one_map

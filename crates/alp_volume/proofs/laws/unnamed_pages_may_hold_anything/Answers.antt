@@ -1,5 +1,0 @@
-use Rattle.alp_volume.proofs.UnnamedLaws.{unnamed_stands}
-use Rattle.alp_volume.proofs.laws.unnamed_pages_may_hold_anything.Goals as goal
-
-pub returns : goal.returns
-returns c = unnamed_stands
