@@ -39,5 +39,5 @@ module _ {V : Type 0} (G : Ghosts V) where
       → Looks G old new f
   looks_then old mid new None a b = (left_then old mid new a.0 b.0, b.1, b.2 ∙ a.2)
   looks_then old mid new (Some Failed) a b = (left_then old mid new a.0 b.0, b.1, omega (arith, a.0.later, b.2))
-  looks_then old mid new (Some Stopped) a b = (left_then old mid new a.0 b.0, b.1)
+  looks_then old mid new (Some Stopped) a b = (left_then old mid new a.0 b.0, b.1, b.2)
   looks_then old mid new (Some OutOfMemory) a b = (left_then old mid new a.0 b.0, b.1, b.2 ∙ a.2)

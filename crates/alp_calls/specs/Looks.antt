@@ -1,5 +1,5 @@
 -- What a look into a vault leaves, and what may come in its way.
-use Rattle.std.specs.Prelude.{◌≡◌, ◌≤◌, IsTrue, Result, Ok, Err, Option, None, Some}
+use Rattle.std.specs.Prelude.{◌≡◌, ◌≤◌, IsTrue, false, Result, Ok, Err, Option, None, Some}
 use Rattle.alp_base.specs.Causes.{Rose}
 use Rattle.alp_base.specs.declared.allowance.Allowance.TheVariants.{Spent}
 use Rattle.alp_base.specs.declared.faults.VaultFault.{VaultFault}
@@ -33,9 +33,9 @@ module _ {V : Type 0} (G : Ghosts V) where
     pub later : G.faults old ≤ G.faults new
     pub allowed : G.allowance new ≡ G.allowance old
 
-  -- It is left so, and serves on, unless it was stopped. The count of faults stays but where it failed or was stopped, and a fault has its cause.
+  -- It is left so, and serves on, unless it was stopped, and then not. The count of faults stays but where it failed or was stopped, and a fault has its cause.
   abbrev pub Looks : V → V → Option CallFault → Type 0
   Looks old new None = IsLeft old new × IsTrue (G.serves new) × (G.faults new ≡ G.faults old)
   Looks old new (Some Failed) = IsLeft old new × IsTrue (G.serves new) × Rose (G.faults old) (G.faults new)
-  Looks old new (Some Stopped) = IsLeft old new × (G.allowance new ≡ Spent)
+  Looks old new (Some Stopped) = IsLeft old new × (G.serves new ≡ false) × (G.allowance new ≡ Spent)
   Looks old new (Some OutOfMemory) = IsLeft old new × IsTrue (G.serves new) × (G.faults new ≡ G.faults old)

@@ -26,7 +26,7 @@ use Rattle.alp_files.specs.declared.refusal.ListName.TheVariants as lists
 use Rattle.alp_files.specs.declared.open.Open.{Open}
 use Rattle.alp_files.specs.Cells.{View, same_name, same_file, props_in, owner_in, page_in}
 use Rattle.alp_files.specs.Edits.{Edit, Drop, Cut, Put}
-use Rattle.alp_files.specs.Act.{Own, Answer, Look, Ask, Say, run, unless, refused, replied, no_answer, is_admin, is_over, quota_exceeded, owner_of, props_of, open_at, opened, on_props, on_open, on_change, if_change, is_new, created_file, create_file, create_tests, charge_put, access_tests, close_file, delete_file, ask_pages, page_past, page_puts, mark_put, read_pages, write_pages, lock_pages, is_changing, set_size, cut_file, grow_file, write_props, move_file, move_tests, program}
+use Rattle.alp_files.specs.Act.{Own, Answer, Look, Ask, Say, run, unless, refused, replied, no_answer, is_admin, is_over, quota_exceeded, owner_of, props_of, open_at, opened, on_props, on_open, on_change, if_change, is_new, created_file, create_file, create_tests, charge_put, access_tests, close_file, delete_file, ask_pages, page_past, page_puts, mark_put, read_pages, write_pages, lock_pages, is_changing, set_size, cut_file, grow_file, put_props, write_props, move_file, move_tests, program}
 use Rattle.alp_files.specs.Locks.{Need, page_limit, page_needs, needs_there, needs_on_open, needs_if_change, needs_on_change, mark_needs, size_needs, change_needs, needs_of, needs_made, IsFormed}
 use Rattle.alp_files.specs.Apart.{IsWithin, DoShowSame, OpensRead, IsSized, AreSized}
 use Rattle.alp_files.proofs.BornLemmas.{props_leader}
@@ -227,14 +227,14 @@ module _ (R W : Key → Type 0) (m : View) (own : Own) (os : OpensRead R own.ope
     ((λ k e. (c.0 writes-all k e).1, (c.1.0.1 writes-all, tt)), filter-read R (λ x. not (same_file o.file x.file)) own.opens os, (tt, tt)),
   )
 
-  size-fits : (size : ℕ) → size < page_limit → (o : Open) (p : Props) → LetsEach R W (size_needs size o p) → Fits R W m (set_size own size o p)
-  size-fits size small o p c = go (size == p.size) (nat_lt size p.size) c
+  size-fits : (size : ℕ) → size < page_limit → (o : Open) (p : Props) → p.size < page_limit → LetsEach R W (size_needs size o p) → Fits R W m (set_size own size o p)
+  size-fits size small o p was c = go (size == p.size) (nat_lt size p.size) c
     where
       go : (same less : Bool)
           → LetsEach R W (cond same ((Leaf (Leader o.file), Write) ∷ [])
           (cond less ((Whole o.file, Write) ∷ (Leaf (OwnerOf p.owner), Write) ∷ []) ((Leaf (Leader o.file), Write) ∷ (Leaf (OwnerOf p.owner), Write) ∷ [])))
-          → Fits R W m (cond same (Say (replied own reply.Plain [])) (cond less (cut_file own size o p) (grow_file own size o p)))
-      go true less c = (tt, os, tt)
+          → Fits R W m (cond same (put_props own o p) (cond less (cut_file own size o p) (grow_file own size o p)))
+      go true less c = ((c.0.1 writes-all, tt), os, (was, tt))
       go false true c =
           let file : (k : Key) → file_of k ≡ Some o.file → R k × W k = c.0 writes-all in
           (c.1.0.0 writes-read, ((λ k e. (file k e).1, ((file (Leader o.file) refl).1, (c.1.0.1 writes-all, tt))), os, (small, (tt, tt))))
@@ -308,7 +308,7 @@ module _ (R W : Key → Type 0) (m : View) (own : Own) (os : OpensRead R own.ope
   program-fits server made who (call.LockPages trans n r mode choice) id formed c = locks-fits n r mode (lets-right R W (needs_made id) _ c)
   program-fits server made who (call.SetSize trans n size choice) id formed c =
       change-fits (open_at own.opens n) (size_needs size) (set_size own size) (found R own.opens n os)
-      (lets-right R W (needs_made id) _ c) (λ o p here read d. size-fits size formed.1 o p d)
+      (lets-right R W (needs_made id) _ c) (λ o p here read d. size-fits size formed.1 o p (its-size o.file p here) d)
   program-fits server made who (call.ReadProps trans n) id formed c =
       open-fits (open_at own.opens n) (λ o p. []) (λ o p. Say (replied own (reply.Props p) [])) (found R own.opens n os) (none (open_at own.opens n)) (λ o p here read d. (tt, os, tt))
     where

@@ -28,7 +28,7 @@ use Rattle.alp_files.specs.declared.refusal.ListName.TheVariants as lists
 use Rattle.alp_files.specs.declared.open.Open.{Open}
 use Rattle.alp_files.specs.Cells.{Cells, same_name, props_in, owner_in, page_in}
 use Rattle.alp_files.specs.Edits.{Edit, Cut, Put, edit_map, edits_map}
-use Rattle.alp_files.specs.Act.{Own, Answer, Look, Ask, Say, run, unless, refused, replied, no_answer, is_admin, is_over, quota_exceeded, owner_of, open_at, on_props, on_open, on_change, if_change, is_new, created_file, create_file, create_tests, charge_put, delete_file, ask_pages, page_past, page_puts, mark_put, read_pages, write_pages, lock_pages, is_changing, set_size, cut_file, grow_file, write_props, move_file, move_tests, make_owner, set_quota, access_tests, props_of, opened, close_file, answer, id_in}
+use Rattle.alp_files.specs.Act.{Own, Answer, Look, Ask, Say, run, unless, refused, replied, no_answer, is_admin, is_over, quota_exceeded, owner_of, open_at, on_props, on_open, on_change, if_change, is_new, created_file, create_file, create_tests, charge_put, delete_file, ask_pages, page_past, page_puts, mark_put, read_pages, write_pages, lock_pages, is_changing, set_size, cut_file, grow_file, put_props, write_props, move_file, move_tests, make_owner, set_quota, access_tests, props_of, opened, close_file, answer, id_in}
 use Rattle.alp_files.specs.History.{PerformedCall, Standing, Decided, step, steps, begun, serial_end}
 use Rattle.alp_files.specs.Sound.{AreSound, HasItsPages, HaveTheirPages, IsSoundAfterEach}
 use Rattle.alp_files.proofs.HistoryLemmas.{edits_map-append, get-edit_map}
@@ -170,8 +170,8 @@ module _ (m : Cells) (s : AreSound m) where
   keeps_size : (own : Own) (size : ℕ) (o : Open) (p : Props) → map.get m (Leader o.file) ≡ Some (cell.Leader p) → Keeps m (run (map.get m) (set_size own size o p)).edits
   keeps_size own size o p here = go (size == p.size) (nat_lt size p.size) refl
     where
-      go : (same less : Bool) → nat_lt size p.size ≡ less → Keeps m (run (map.get m) (cond same (Say (replied own reply.Plain [])) (cond less (cut_file own size o p) (grow_file own size o p)))).edits
-      go true less e = s
+      go : (same less : Bool) → nat_lt size p.size ≡ less → Keeps m (run (map.get m) (cond same (put_props own o p) (cond less (cut_file own size o p) (grow_file own size o p)))).edits
+      go true less e = sound-props m s o.file p p here refl refl
       go false true e = keeps_cut own size o p here (let low : size < p.size = ltb-true size p.size e in omega (arith, low))
       go false false e = keeps_grow own size o p here (ltb-false size p.size e)
 

@@ -214,6 +214,9 @@ is_changing mode.Write = true
 
 -- ---- SetSize
 
+abbrev pub put_props : Own → Open → Props → Look
+put_props own o p = Say (replied own reply.Plain (Put (Leader o.file) (cell.Leader p) ∷ []))
+
 abbrev pub cut_file : Own → ℕ → Open → Props → Look
 cut_file own size o p = Ask (OwnerOf p.owner) (λ oc. Say (replied own reply.Plain (
     Cut o.file size ∷ Put (Leader o.file) (cell.Leader (record p { size = size; high_water = min p.high_water size }))
@@ -223,14 +226,12 @@ abbrev pub grow_file : Own → ℕ → Open → Props → Look
 grow_file own size o p = Ask (OwnerOf p.owner) (λ oc. Say (unless own ((is_over (owner_of oc) (size - p.size), quota_exceeded (owner_of oc) (size - p.size)) ∷ []) (replied own reply.Plain (
     Put (Leader o.file) (cell.Leader (record p { size = size })) ∷ charge_put p.owner (owner_of oc) ((owner_of oc).charge + (size - p.size)) ∷ []))))
 
+-- the leader is put also where the size stays
 abbrev pub set_size : Own → ℕ → Open → Props → Look
 set_size own size o p =
-    if size == p.size then Say (replied own reply.Plain []) else if nat_lt size p.size then cut_file own size o p else grow_file own size o p
+    if size == p.size then put_props own o p else if nat_lt size p.size then cut_file own size o p else grow_file own size o p
 
 -- ---- ReadProps and WriteProps
-
-abbrev pub put_props : Own → Open → Props → Look
-put_props own o p = Say (replied own reply.Plain (Put (Leader o.file) (cell.Leader p) ∷ []))
 
 abbrev pub move_tests : List ℕ → List ℕ → ℕ → Option Cell → List (Bool × Refusal)
 move_tests who name size nc =

@@ -1,12 +1,13 @@
 //! Formatting a disk.
 ghost use Rattle.std.specs.Prelude.{◌≡◌, ◌≤◌, ◌+◌, ◌*◌, [], ℕ, List, IsTrue, OnOk, IfOk, IfErr, replicate, false};
+ghost use Rattle.std.specs.FinMap as map;
 ghost use Rattle.alp_base.specs.Allowances.{Spends, HasHaltCause};
 ghost use Rattle.alp_base.specs.Crashes.{Only, Follows, After, Adds, LeavesOnly};
 ghost use Rattle.alp_disk.specs.Runs.{SameOutside, Holds};
 ghost use Rattle.alp_anchor.specs.Anchor.{AreSizesOf, IsSound};
 ghost use Rattle.alp_disk.specs.Calls.{IsSameDevice};
 ghost use Rattle.alp_wal.specs.Reading.{ReadsBy};
-ghost use Rattle.alp_wal.specs.Wal.{disk_of, anchor_of, state_of, room_of, is_dead, IsLog, IsKnown};
+ghost use Rattle.alp_wal.specs.Wal.{disk_of, anchor_of, notes_of, state_of, room_of, is_dead, IsLog, IsKnown};
 ghost use Rattle.alp_format.specs.Format.{blank_state, first_anchor, SameAreas, IsCleared, IsRefused, Formatting};
 
 use alp_anchor::{Anchor, anchor_page, open_gate};
@@ -99,6 +100,7 @@ pub fn format<D: Disk>(
     ensures anchor { IfOk result (λ w. anchor_of w ≡ first_anchor server servers sizes) }
     ensures room { IfOk result (λ w. room_of w ≡ sizes.area) }
     ensures alive { IfOk result (λ w. is_dead w ≡ false) }
+    ensures none { IfOk result (λ w. notes_of w ≡ map.empty) }
     ensures below { IfOk result (λ w. IsSameDevice D.Disk disk (disk_of w)) }
     ensures no_fault { IfOk result (λ w. D.faults (disk_of w) ≡ D.faults disk) }
     ensures any_moment { IsTrue (D.tells disk) → IfOk result (λ w. LeavesOnly D.left_since disk (disk_of w) (Formatting server servers (D.size disk) sizes (D.may_leave disk))) }

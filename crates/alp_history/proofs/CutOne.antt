@@ -66,7 +66,7 @@ known_7 = only_next ts js at_6 (entry 6) refl known_6
 entry_6 : IsLawfulEntry at_6 (entry 6)
 entry_6 = by_laws at_6 (entry 6) refl refl refl tt
     (alone ts js trans at_7 known_7 refl)
-    tt (tt, tt) tt ((refl, record { clock = refl; ready = ready_found ts js (state_deed at_6 (Hears trans join 1)) (only_deed ts js at_6 known_6 (Hears trans join 1) refl) ([]) refl tt; decided = stamps_found ts js (state_deed at_6 (Hears trans join 1)) (only_deed ts js at_6 known_6 (Hears trans join 1) refl) ([]) refl ((λ n. refl), tt) }), refl) tt
+    tt (tt, tt) tt ((refl, record { clock = refl; once = refl; ready = ready_found ts js (state_deed at_6 (Hears trans join 1)) (only_deed ts js at_6 known_6 (Hears trans join 1) refl) ([]) refl tt; decided = stamps_found ts js (state_deed at_6 (Hears trans join 1)) (only_deed ts js at_6 known_6 (Hears trans join 1) refl) ([]) refl ((λ n. refl), tt) }), refl) tt
 
 abbrev at_8 : State
 at_8 = next at_7 (entry 7)

@@ -66,7 +66,7 @@ known_7 = only_next ts js at_6 (entry 6) refl known_6
 entry_6 : IsLawfulEntry at_6 (entry 6)
 entry_6 = by_laws at_6 (entry 6) refl refl refl tt
     (alone ts js trans at_7 known_7 refl)
-    tt (tt, tt) tt ((refl, record { clock = refl; ready = ready_found ts js (state_deed (state_deed at_6 (Hears trans join 1)) (Decides stamp (join ∷ []))) (only_deed ts js (state_deed at_6 (Hears trans join 1)) (only_deed ts js at_6 known_6 (Hears trans join 1) refl) (Decides stamp (join ∷ [])) refl) ([]) refl tt; decided = stamps_found ts js (state_deed (state_deed at_6 (Hears trans join 1)) (Decides stamp (join ∷ []))) (only_deed ts js (state_deed at_6 (Hears trans join 1)) (only_deed ts js at_6 known_6 (Hears trans join 1) refl) (Decides stamp (join ∷ [])) refl) (stamp ∷ []) refl ((λ n. or_false _), tt) }), refl) tt
+    tt (tt, tt) tt ((refl, record { clock = refl; once = refl; ready = ready_found ts js (state_deed (state_deed at_6 (Hears trans join 1)) (Decides stamp (join ∷ []))) (only_deed ts js (state_deed at_6 (Hears trans join 1)) (only_deed ts js at_6 known_6 (Hears trans join 1) refl) (Decides stamp (join ∷ [])) refl) ([]) refl tt; decided = stamps_found ts js (state_deed (state_deed at_6 (Hears trans join 1)) (Decides stamp (join ∷ []))) (only_deed ts js (state_deed at_6 (Hears trans join 1)) (only_deed ts js at_6 known_6 (Hears trans join 1) refl) (Decides stamp (join ∷ [])) refl) (stamp ∷ []) refl ((λ n. or_false _), tt) }), refl) tt
 
 abbrev at_8 : State
 at_8 = next at_7 (entry 7)
@@ -99,7 +99,7 @@ known_10 = only_next ts js at_9 (entry 9) refl known_9
 entry_9 : IsLawfulEntry at_9 (entry 9)
 entry_9 = by_laws at_9 (entry 9) refl refl refl (
   acknowledges (event_of 9) at_9 trans join,
-  (forgets (event_of 9) (state_deed at_9 (Acknowledges trans join)) trans (stamp, join ∷ [], join ∷ [], refl, refl), tt),
+  (forgets (event_of 9) (state_deed at_9 (Acknowledges trans join)) trans (record { from = 2; join = join; stamp = stamp; joins = join ∷ []; done = join ∷ []; told = refl; committed = refl; its = refl; all = refl }), tt),
 )
     (alone ts js trans at_10 known_10 refl)
     ((refl, refl), tt) (tt, tt) tt (refl, refl) tt

@@ -67,5 +67,5 @@ module _ (e : Event) (s : State) where
   pub acknowledges : (t : TransId) (j : JoinNo) → IsLawfulDeed e s (Acknowledges t j)
   acknowledges t j = record { counts = tt; view = tt; locks = tt; running = tt; registration = tt; vote = tt; decision = tt; application = tt; forgetting = tt }
 
-  pub forgets : (t : TransId) → ForgetsRight s (Forgets t) → IsLawfulDeed e s (Forgets t)
+  pub forgets : (t : TransId) → ForgetsRight e s (Forgets t) → IsLawfulDeed e s (Forgets t)
   forgets t h = record { counts = tt; view = tt; locks = tt; running = tt; registration = tt; vote = tt; decision = tt; application = tt; forgetting = h }

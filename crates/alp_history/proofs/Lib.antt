@@ -64,6 +64,7 @@ pub mod FoundTwo
 pub mod CutOne
 pub mod CutTwo
 pub mod WaitsOne
+pub mod BroughtOne
 pub mod CreatesOne
 pub mod RightJournals
 pub mod ResumedOne

@@ -195,7 +195,7 @@ known_10 = only_next ts js at_9 (entry 9) refl known_9
 entry_9 : IsLawfulEntry at_9 (entry 9)
 entry_9 = by_laws at_9 (entry 9) refl refl refl tt
     (alone ts js trans at_10 known_10 refl)
-    tt (tt, tt) tt ((refl, record { clock = refl; ready = ready_found ts js (at_9) (known_9) (join ∷ []) refl (refl, tt); decided = stamps_found ts js (at_9) (known_9) ([]) refl ((λ n. refl), ((λ n. refl), ((λ n. refl), tt))) }), refl) tt
+    tt (tt, tt) tt ((refl, record { clock = refl; once = refl; ready = ready_found ts js (at_9) (known_9) (join ∷ []) refl (refl, tt); decided = stamps_found ts js (at_9) (known_9) ([]) refl ((λ n. refl), ((λ n. refl), ((λ n. refl), tt))) }), refl) tt
 
 abbrev at_11 : State
 at_11 = next at_10 (entry 10)

@@ -58,7 +58,7 @@ known_6 = only_next ts js at_5 (entry 5) refl known_5
 entry_5 : IsLawfulEntry at_5 (entry 5)
 entry_5 = by_laws at_5 (entry 5) refl refl refl tt
     (alone ts js trans at_6 known_6 refl)
-    tt (tt, tt) tt ((refl, record { clock = refl; ready = ready_found ts js (at_5) (known_5) ([]) refl (refl, (refl, tt)); decided = stamps_found ts js (at_5) (known_5) ([]) refl ((λ n. refl), ((λ n. refl), tt)) }), refl) tt
+    tt (tt, tt) tt ((refl, record { clock = refl; once = refl; ready = ready_found ts js (at_5) (known_5) ([]) refl (refl, (refl, tt)); decided = stamps_found ts js (at_5) (known_5) ([]) refl ((λ n. refl), ((λ n. refl), tt)) }), refl) tt
 
 abbrev at_7 : State
 at_7 = next at_6 (entry 6)

@@ -11,6 +11,7 @@ use Rattle.alp_history.proofs.FoundTwo as found_two
 use Rattle.alp_history.proofs.CutOne as cut_one
 use Rattle.alp_history.proofs.CutTwo as cut_two
 use Rattle.alp_history.proofs.WaitsOne as waits_one
+use Rattle.alp_history.proofs.BroughtOne as brought
 
 pub lawful : AreLawfulJournals
 lawful = record {
@@ -25,4 +26,5 @@ lawful = record {
   cut_one = cut_one.lawful;
   cut_two = cut_two.lawful;
   waits_one = waits_one.lawful;
+  brought = (brought.lawful, brought.answered);
 }

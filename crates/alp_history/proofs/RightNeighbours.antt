@@ -1,21 +1,22 @@
 -- the right ones of the pairs of journals
-use Rattle.std.specs.Prelude.{codes, unwrap_or, slice_get}
+use Rattle.std.specs.Prelude.{codes, true, unwrap_or, slice_get}
 use Rattle.std.proofs.Common.{ℕ, List, [], ◌∷◌, ◌++◌, refl}
 use Rattle.alp_base.specs.declared.ids.JoinNo.{JoinNo}
 use Rattle.alp_base.specs.declared.ids.TransId.{TransId}
+use Rattle.alp_files.specs.declared.call.Call.TheVariants as call
 use Rattle.alp_files.specs.declared.reply.Reply.TheVariants as reply
 use Rattle.alp_files.specs.declared.refusal.Refusal.TheVariants as refusal
 use Rattle.alp_journal.specs.declared.act.Act.TheVariants as act
 use Rattle.alp_journal.specs.declared.message.Message.TheVariants as msg
 use Rattle.alp_journal.specs.declared.entry.Entry.{Entry}
-use Rattle.alp_journal.specs.Deeds.{Applies, Hears, Decides}
+use Rattle.alp_journal.specs.Deeds.{Applies, Hears, Finishes, Decides}
 use Rattle.alp_journal.specs.Desk.{waiting_of}
 use Rattle.alp_journal.specs.State.{State, opened, state_deed}
 use Rattle.alp_journal.specs.Moves.{next}
 use Rattle.alp_journal.specs.Laws.{IsLawful, IsLawfulEntry}
-use Rattle.alp_history.specs.Examples.{trans, join, stamp, new, first_up, vote, worker_up, restarts}
+use Rattle.alp_history.specs.Examples.{trans, join, stamp, new, calls, first_up, vote, worker_up, restarts}
 use Rattle.alp_history.specs.RightLog.{opening, ticks}
-use Rattle.alp_history.specs.WrongJournals.{hello, begins_as, begun, first_file, creates, at_time, votes_and_decides, third_join, of_three, two_joins, votes, decides_both, one_voted, all_voted, second_join, one_registered, registers_again, committed, inquires, votes_for, hears_commit, voted, reads_bob, made, one_waits, ends, second_trans, comes_again, started_again, goes_on, applies, says_done}
+use Rattle.alp_history.specs.WrongJournals.{hello, begins_as, begun, first_file, creates, at_time, votes_and_decides, third_join, of_three, two_joins, votes, decides_both, one_voted, all_voted, second_join, one_registered, registers_again, committed, inquires, votes_for, hears_commit, voted, reads_bob, made, one_waits, ends, second_trans, comes_again, started_again, goes_on, applies, says_done, committed_alone, hears_done}
 use Rattle.alp_history.proofs.Worked.{life_at}
 use Rattle.alp_history.proofs.Steps.{lives_there}
 use Rattle.alp_history.proofs.Named.{Only, only_deed, only_next, alone}
@@ -252,6 +253,38 @@ repeats_the_reply = up.owner_then (comes_again reply.Plain [] ∷ []) (again, tt
 pub grants_the_waiter : IsLawful (new 1) (one_waits ++ ends (act.Released trans ∷ act.Granted second_trans ∷ []) ∷ [])
 grants_the_waiter = waits.up_to_end
 
+-- ---- a transaction of this server alone
+
+abbrev commits_alone : Entry
+commits_alone = calls 1 3 (call.Finish trans true) (reply.Committed stamp) (act.Decided stamp [] ∷ act.Released trans ∷ [])
+
+abbrev finished_alone : State
+finished_alone = state_deed up.at_2 (Finishes trans)
+
+abbrev decided_alone : State
+decided_alone = next up.at_2 commits_alone
+
+known_alone : Only ts here decided_alone
+known_alone = only_next ts here up.at_2 commits_alone refl (up.known_2 [] [])
+
+decides_alone : IsLawfulEntry up.at_2 commits_alone
+decides_alone = by_laws up.at_2 commits_alone refl refl refl (
+  finishes commits_alone.event up.at_2 trans,
+  then_released ts here finished_alone (only_deed ts here up.at_2 (up.known_2 [] []) (Finishes trans) refl) commits_alone.event (Decides stamp []) trans refl refl refl tt
+      (decides commits_alone.event finished_alone stamp []
+      (record { client = 1; votes = []; asked = refl; own = refl; now = refl; finishing = refl; voted = refl; time = refl; idle = no_file_call (waiting_of finished_alone.desk 1 trans) refl; live = (life_at finished_alone trans, lives_there finished_alone trans refl, refl) })),
+)
+    (alone ts here trans decided_alone known_alone refl)
+    ((refl, refl), tt) (tt, (tt, tt)) ([], refl, (record { stamp = stamp; who = codes "Admin"; calls = [] }, refl)) (refl, refl) tt
+
+hears_nothing : IsLawfulEntry decided_alone (hears_done [])
+hears_nothing = by_laws decided_alone (hears_done []) refl refl refl tt
+    (alone ts here trans (next decided_alone (hears_done [])) (only_next ts here decided_alone (hears_done []) refl known_alone) refl)
+    ((refl, refl), tt) tt tt (refl, refl) tt
+
+pub forgets_no_joinless : IsLawful (new 1) (committed_alone ++ hears_done [] ∷ [])
+forgets_no_joinless = (up.entry_0, (up.entry_1, (decides_alone, (hears_nothing, tt))))
+
 -- ---- a restart
 
 known_2 : Only ts here up.at_2
@@ -269,7 +302,7 @@ known_restarted = only_next ts here up.at_2 restarts_empty refl known_2
 starts_empty : IsLawfulEntry up.at_2 restarts_empty
 starts_empty = by_laws up.at_2 restarts_empty refl refl refl tt
     (alone ts here trans restarted known_restarted refl)
-    tt (tt, tt) tt ((refl, record { clock = refl; ready = ready_found ts here up.at_2 known_2 [] refl tt; decided = stamps_found ts here up.at_2 known_2 [] refl ((λ n. refl), tt) }), refl) tt
+    tt (tt, tt) tt ((refl, record { clock = refl; once = refl; ready = ready_found ts here up.at_2 known_2 [] refl tt; decided = stamps_found ts here up.at_2 known_2 [] refl ((λ n. refl), tt) }), refl) tt
 
 abbrev stale : Entry
 stale = goes_on (reply.Refused (refusal.StaleSession 2))
@@ -318,7 +351,7 @@ restarts_ready = restarts 2 0 (join ∷ []) []
 finds_it : IsLawfulEntry worker.at_6 restarts_ready
 finds_it = by_laws worker.at_6 restarts_ready refl refl refl tt
     (alone ts there trans (next worker.at_6 restarts_ready) (only_next ts there worker.at_6 restarts_ready refl known_voted) refl)
-    tt (tt, tt) tt ((refl, record { clock = refl; ready = ready_found ts there worker.at_6 known_voted (join ∷ []) refl (refl, tt); decided = stamps_found ts there worker.at_6 known_voted [] refl ((λ n. refl), tt) }), refl) tt
+    tt (tt, tt) tt ((refl, record { clock = refl; once = refl; ready = ready_found ts there worker.at_6 known_voted (join ∷ []) refl (refl, tt); decided = stamps_found ts there worker.at_6 known_voted [] refl ((λ n. refl), tt) }), refl) tt
 
 pub finds_the_ready : IsLawful (new 2) (voted ++ restarts_ready ∷ [])
 finds_the_ready = worker.voted_then (restarts_ready ∷ []) (finds_it, tt)

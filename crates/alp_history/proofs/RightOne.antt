@@ -149,7 +149,7 @@ known_7 = only_next ts js at_6 (entry 6) refl known_6
 entry_6 : IsLawfulEntry at_6 (entry 6)
 entry_6 = by_laws at_6 (entry 6) refl refl refl tt
     (alone ts js trans at_7 known_7 refl)
-    tt (tt, tt) tt ((refl, record { clock = refl; ready = ready_found ts js (at_6) (known_6) ([]) refl (refl, tt); decided = stamps_found ts js (at_6) (known_6) (stamp ∷ []) refl ((λ n. or_false _), ((λ n. or_false _ ∙ and_false _), ((λ n. or_false _ ∙ and_false _), tt))) }), refl) tt
+    tt (tt, tt) tt ((refl, record { clock = refl; once = refl; ready = ready_found ts js (at_6) (known_6) ([]) refl (refl, tt); decided = stamps_found ts js (at_6) (known_6) (stamp ∷ []) refl ((λ n. or_false _), ((λ n. or_false _ ∙ and_false _), ((λ n. or_false _ ∙ and_false _), tt))) }), refl) tt
 
 abbrev at_8 : State
 at_8 = next at_7 (entry 7)
@@ -350,7 +350,7 @@ known_22 = only_next ts js at_21 (entry 21) refl known_21
 entry_21 : IsLawfulEntry at_21 (entry 21)
 entry_21 = by_laws at_21 (entry 21) refl refl refl (
   acknowledges (event_of 21) at_21 trans join,
-  (forgets (event_of 21) (state_deed at_21 (Acknowledges trans join)) trans (stamp, join ∷ [], join ∷ [], refl, refl), tt),
+  (forgets (event_of 21) (state_deed at_21 (Acknowledges trans join)) trans (record { from = 2; join = join; stamp = stamp; joins = join ∷ []; done = join ∷ []; told = refl; committed = refl; its = refl; all = refl }), tt),
 )
     (alone ts js third at_22 known_22 refl)
     ((refl, refl), tt) (tt, tt) tt (refl, refl) tt

@@ -141,7 +141,7 @@ known_7 = only_next ts js at_6 (entry 6) refl known_6
 entry_6 : IsLawfulEntry at_6 (entry 6)
 entry_6 = by_laws at_6 (entry 6) refl refl refl tt
     (alone ts js trans at_7 known_7 refl)
-    tt (tt, tt) tt ((refl, record { clock = refl; ready = ready_found ts js (at_6) (known_6) (join ∷ []) refl (refl, tt); decided = stamps_found ts js (at_6) (known_6) ([]) refl ((λ n. refl), ((λ n. refl), tt)) }), refl) tt
+    tt (tt, tt) tt ((refl, record { clock = refl; once = refl; ready = ready_found ts js (at_6) (known_6) (join ∷ []) refl (refl, tt); decided = stamps_found ts js (at_6) (known_6) ([]) refl ((λ n. refl), ((λ n. refl), tt)) }), refl) tt
 
 abbrev at_8 : State
 at_8 = next at_7 (entry 7)
@@ -251,7 +251,7 @@ known_15 = only_next ts js at_14 (entry 14) refl known_14
 entry_14 : IsLawfulEntry at_14 (entry 14)
 entry_14 = by_laws at_14 (entry 14) refl refl refl (
   acknowledges (event_of 14) at_14 second second_join,
-  (forgets (event_of 14) (state_deed at_14 (Acknowledges second second_join)) second (second_stamp, second_join ∷ [], second_join ∷ [], refl, refl), tt),
+  (forgets (event_of 14) (state_deed at_14 (Acknowledges second second_join)) second (record { from = 1; join = second_join; stamp = second_stamp; joins = second_join ∷ []; done = second_join ∷ []; told = refl; committed = refl; its = refl; all = refl }), tt),
 )
     (alone ts js second at_15 known_15 refl)
     ((refl, refl), (tt, tt)) (tt, tt) tt (refl, refl) tt

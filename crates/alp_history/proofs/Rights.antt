@@ -41,7 +41,7 @@ pub record IsRightDeed (e : Event) (s : State) (d : Deed) : Type 0 where
   pub vote : VotesOnce e s d
   pub decision : DecidesRight e s d
   pub application : AppliesRight e s d
-  pub forgetting : ForgetsRight s d
+  pub forgetting : ForgetsRight e s d
 
 abbrev pub DeedsAreRight : State → Entry → Event → Type 0
 DeedsAreRight s e event.Restart = Unit {0}

@@ -115,13 +115,17 @@ stopped = next (next before_ask ask) commit_stops
 
 -- it names what its write held; a stop that hides that is refused, and so is one that names what would not be written
 names_write : HaltsRight (next before_ask ask) commit_stops
-names_write = inl refl
+names_write = inl (record { reaches = refl; acts = refl })
 
 hides_write : HaltsRight (next before_ask ask) (arrives 1 (msg.Commit trans join stamp) (act.Stopped ∷ [])) → ⊥
-hides_write h = elim h [ inl e ↦ cc | inr e ↦ cc ]
+hides_write h = elim h [ inl e ↦ (let wrong : act.Stopped ∷ [] ≡ act.Applied join stamp ∷ act.Stopped ∷ [] = e.acts in cc) | inr e ↦ (let wrong : act.Stopped ∷ [] ≡ act.Applied join stamp ∷ act.Failed ∷ [] = e.acts in cc) ]
 
 writes_nothing : HaltsRight before_ask (arrives 1 (msg.Commit trans join stamp) (act.Applied join stamp ∷ act.Stopped ∷ [])) → ⊥
-writes_nothing h = elim h [ inl e ↦ cc | inr e ↦ cc ]
+writes_nothing h = elim h [ inl e ↦ (let wrong : false ≡ true = e.reaches in cc) | inr e ↦ (let wrong : false ≡ true = e.reaches in cc) ]
+
+-- a step that neither writes nor reads does not stop
+stops_idly : HaltsRight before_ask (record { event = event.Tick; reply = None; acts = act.Stopped ∷ [] }) → ⊥
+stops_idly h = elim h [ inl e ↦ (let wrong : false ≡ true = e.reaches in cc) | inr e ↦ (let wrong : false ≡ true = e.reaches in cc) ]
 
 nothing_yet : stopped.holder.cells ≡ map.empty
 nothing_yet = refl

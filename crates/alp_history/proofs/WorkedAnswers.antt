@@ -1,7 +1,7 @@
 -- rows of one server, answered as the laws on answers say, and answered wrongly
 use Rattle.std.specs.Prelude.{ℕ, codes, true, false, cond, Bool, flat_map}
 use Rattle.std.specs.List.Sorted.{IsPermutation}
-use Rattle.std.proofs.Common.{◌≡◌, List, [], ◌∷◌, Option, None, Some, refl, inl, inr}
+use Rattle.std.proofs.Common.{◌≡◌, ◌<◌, List, [], ◌∷◌, Option, None, Some, refl, inl, inr, arith}
 use Rattle.alp_base.specs.declared.ids.TransId.{TransId}
 use Rattle.alp_files.specs.declared.call.Call.{Call}
 use Rattle.alp_files.specs.declared.call.Call.TheVariants as call
@@ -14,7 +14,13 @@ use Rattle.alp_files.specs.declared.refusal.What.TheVariants as what
 use Rattle.alp_files.specs.declared.refusal.Why.TheVariants as why
 use Rattle.alp_base.specs.declared.choices.Choice.{Choice}
 use Rattle.alp_base.specs.declared.choices.Choice.TheVariants as choice
+use Rattle.alp_base.specs.declared.choices.Access.TheVariants as access
+use Rattle.alp_base.specs.declared.key.Key.TheVariants.{Leader}
+use Rattle.alp_base.specs.declared.key.Resource.TheVariants.{Leaf, Whole}
+use Rattle.alp_modes.specs.Modes.{leaf_of, covers_of}
 use Rattle.alp_modes.specs.declared.Mode.TheVariants as mode
+use Rattle.alp_files.specs.Holdings.{held_by}
+use Rattle.alp_files.specs.Locks.{Need}
 use Rattle.alp_journal.specs.declared.act.Act.{Act}
 use Rattle.alp_journal.specs.declared.act.Act.TheVariants as act
 use Rattle.alp_journal.specs.declared.event.Event.TheVariants as event
@@ -28,13 +34,15 @@ use Rattle.alp_journal.specs.Moves.{next}
 use Rattle.alp_journal.specs.Laws.{KeepsSessions, StopsRight}
 use Rattle.alp_journal.specs.Messages.{Mail, due, sent_by, are_in_order}
 use Rattle.alp_journal.specs.Answers.{AnswersRight}
-use Rattle.alp_journal.specs.Answered.{AppliesTold, is_all_done, GrantsAtOnce, GivesOn, IsAnsweredEntry, IsAnswered, IsWalk, IsWaitingFor, at_release, shows_fault}
+use Rattle.alp_journal.specs.Answered.{AppliesTold, is_all_done, GrantsAtOnce, GivesOn, IsAnsweredEntry, IsAnswered, IsWalk, IsWaitingFor, at_release, is_conversion_of, shows_fault}
 use Rattle.alp_journal.specs.Halts.{HaltsRight}
 use Rattle.alp_journal.specs.Ids.{same_trans}
 use Rattle.alp_journal.specs.Holder.{Holder, Life, new_life}
 use Rattle.alp_journal.specs.Desk.{Waiting}
 use Rattle.alp_journal.specs.Laws.{IsFree}
 use Rattle.alp_history.specs.Examples.{trans, join, stamp, nothing_seen, new, calls, arrives}
+use Rattle.alp_history.specs.WrongJournals.{first_file}
+use Rattle.alp_history.proofs.Places.{in-list}
 
 -- ---- a transaction of one server
 
@@ -173,8 +181,12 @@ registers_says = refl
 register_other : says s2 (arrives 2 (msg.Register trans join 2) []) ≡ (2, msg.JoinRefused trans join) ∷ []
 register_other = refl
 
-register_here : says s2 (arrives 2 (msg.Register trans (record { server = 1; epoch = 1; counter = 1 }) 1) []) ≡ (2, msg.JoinRefused trans (record { server = 1; epoch = 1; counter = 1 })) ∷ []
+register_here : says s2 (arrives 2 (msg.Register trans (record { server = 1; epoch = 1; counter = 1 }) 1) []) ≡ (1, msg.JoinRefused trans (record { server = 1; epoch = 1; counter = 1 })) ∷ []
 register_here = refl
+
+-- it is answered to the server that drew it, whoever brought it
+register_astray : says s2 (arrives 3 (msg.Register trans join 1) []) ≡ (2, msg.Joined trans join) ∷ []
+register_astray = refl
 
 register_undrawn : says s1 (arrives 2 (msg.Register trans join 1) []) ≡ []
 register_undrawn = refl
@@ -228,16 +240,33 @@ stop_right = ((refl, refl), refl)
 
 -- it names what the one write of the step would have held, and a stop that hides it is refused
 stop_named : HaltsRight s6 stops
-stop_named = inl refl
+stop_named = inl (record { reaches = refl; acts = refl })
 
 commit_stops : HaltsRight s2 (calls 1 3 (call.Finish trans true) (reply.Refused refusal.Down) (act.Decided stamp [] ∷ act.Failed ∷ []))
-commit_stops = inr refl
+commit_stops = inr (record { reaches = refl; acts = refl })
 
 commit_hidden : HaltsRight s2 (calls 1 3 (call.Finish trans true) (reply.Refused refusal.Down) (act.Failed ∷ [])) → ⊥
-commit_hidden h = elim h [ inl e ↦ cc | inr e ↦ cc ]
+commit_hidden h = elim h [ inl e ↦ (let wrong : act.Failed ∷ [] ≡ act.Decided stamp [] ∷ act.Stopped ∷ [] = e.acts in cc) | inr e ↦ (let wrong : act.Failed ∷ [] ≡ act.Decided stamp [] ∷ act.Failed ∷ [] = e.acts in cc) ]
 
-fault_shown : shows_fault (calls 1 3 (call.ReadProps trans 1) (reply.Refused refusal.ReadFault) []) ≡ true
+-- a read that stops ends the step; one that fails is answered
+read_stops : HaltsRight s2 (calls 1 3 (call.ReadProps trans 1) (reply.Refused refusal.Down) (act.Stopped ∷ []))
+read_stops = inl (record { reaches = refl; acts = refl })
+
+read_fails : HaltsRight s2 (calls 1 3 (call.ReadProps trans 1) (reply.Refused refusal.Down) (act.Failed ∷ [])) → ⊥
+read_fails h = elim h [ inl e ↦ (let wrong : act.Failed ∷ [] ≡ act.Stopped ∷ [] = e.acts in cc) | inr e ↦ (let wrong : false ≡ true = e.reaches in cc) ]
+
+fault_shown : shows_fault s2 (calls 1 3 (call.ReadProps trans 1) (reply.Refused refusal.ReadFault) []) ≡ true
 fault_shown = refl
+
+-- and so does this server's own vote against a commit, but not the word of another's
+own_fault_shown : shows_fault s2 (calls 1 3 (call.Finish trans true) (reply.Refused (refusal.Aborted (cause.Voted 1 why.ReadFault))) (act.Released trans ∷ [])) ≡ true
+own_fault_shown = refl
+
+last_fault_shown : shows_fault s6 (arrives 2 (msg.Ready trans join 3) (act.Released trans ∷ act.Sent 2 (msg.Abort trans join (cause.Voted 1 why.ReadFault)) ∷ [])) ≡ true
+last_fault_shown = refl
+
+other_fault : shows_fault s6 (arrives 2 (msg.No trans join why.ReadFault) (act.Released trans ∷ act.Sent 2 (msg.Abort trans join (cause.Voted 2 why.ReadFault)) ∷ [])) ≡ false
+other_fault = refl
 
 read_fault : AnswersRight true s2 (calls 1 3 (call.ReadProps trans 1) (reply.Refused refusal.ReadFault) [])
 read_fault = inl (refl, refl)
@@ -260,7 +289,7 @@ no_mail : IsPermutation {X = Mail} [] []
 no_mail = record { moves = []; below = tt; is = refl }
 
 -- what becomes of a transaction in these rows, be it the one that began
-abbrev then_begun : Bool → Fate
+abbrev pub then_begun : Bool → Fate
 then_begun t = cond t (begun 1 Undrawn) Undrawn
 
 abbrev then_finished : Bool → Fate
@@ -298,27 +327,24 @@ commit_whole = record {
   halted = tt;
 }
 
+pub hello_whole : IsAnsweredEntry false s0 hello
+hello_whole = record { answered = tt; sent = no_mail; ticks = tt; applied = tt; votes = λ t. refl; forgets = λ t. refl; turns = tt; grants = tt; halted = tt }
+
+pub begin_whole : IsAnsweredEntry false s1 begin
+begin_whole = record {
+  answered = refl;
+  sent = no_mail;
+  ticks = tt;
+  applied = tt;
+  votes = λ t. voted_begun (same_trans trans t);
+  forgets = λ t. done_begun (same_trans trans t);
+  turns = tt;
+  grants = tt;
+  halted = tt;
+}
+
 row_answered : IsAnswered (new 1) (hello ∷ begin ∷ commit ∷ [])
-row_answered = (
-  (false, record { answered = tt; sent = no_mail; ticks = tt; applied = tt; votes = λ t. refl; forgets = λ t. refl; turns = tt; grants = tt; halted = tt }),
-  (
-    (
-      false,
-      record {
-        answered = refl;
-        sent = no_mail;
-        ticks = tt;
-        applied = tt;
-        votes = λ t. voted_begun (same_trans trans t);
-        forgets = λ t. done_begun (same_trans trans t);
-        turns = tt;
-        grants = tt;
-        halted = tt;
-      },
-    ),
-    ((false, commit_whole), tt),
-  ),
-)
+row_answered = (((false, hello_whole), ((false, begin_whole), ((false, commit_whole), tt))), λ i e at. inr (let within : i < 3 = in-list (hello ∷ begin ∷ commit ∷ []) i e at in omega (arith, within)))
 
 -- ---- the worker
 
@@ -421,6 +447,32 @@ waits_now = tt
 
 grants_first : GrantsAtOnce false s2 (calls 1 3 (make trans choice.Fail) reply.Plain (act.Granted trans ∷ [])) (event.Call 1 1 3 (make trans choice.Fail)) (Some reply.Plain)
 grants_first = inr refl
+
+-- where a read failed the call has its grant or none
+abbrev fails : List Act → Entry
+fails acts = calls 1 3 (make trans choice.Fail) (reply.Refused refusal.ReadFault) acts
+
+grants_none : GrantsAtOnce true s2 (fails []) (fails []).event (fails []).reply
+grants_none = inl (refl, refl, refl)
+
+grants_before : GrantsAtOnce true s2 (fails (act.Granted trans ∷ [])) (fails []).event (fails []).reply
+grants_before = inr refl
+
+-- what its part holds already makes a conversion only where the mode would rise there: here a file is opened whose leader is
+-- locked to read, and then one that is locked itself
+abbrev opens : Waiting
+opens = record { client = 1; number = 3; call = call.OpenFile trans first_file access.ReadOnly mode.Read choice.Wait; is_granted = false }
+
+abbrev holds : List Need → Option Life
+holds held = Some (record (new_life None 1 (codes "Admin")) { held = held_by held })
+
+no_conversion : is_conversion_of s2.holder opens (holds ((Leaf (Leader first_file), mode.Read) ∷ [])) ≡ false
+unfolding leaf_of covers_of
+no_conversion = refl
+
+a_conversion : is_conversion_of s2.holder opens (holds ((Leaf (Leader first_file), mode.Read) ∷ (Whole first_file, mode.IntendRead) ∷ [])) ≡ true
+unfolding leaf_of covers_of
+a_conversion = refl
 
 abbrev lets_go : Entry
 lets_go = calls 1 4 (call.Finish trans false) (reply.Refused (refusal.Aborted cause.Asked)) (act.Released trans ∷ act.Granted trans2 ∷ [])

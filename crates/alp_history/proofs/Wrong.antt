@@ -1,6 +1,6 @@
 -- what each wrong journal breaks
 use Rattle.std.specs.Prelude.{ℕ, true, false, None, Some}
-use Rattle.std.proofs.Common.{◌≡◌, List, [], ◌∷◌, ◌++◌, refl, sym, ap, ◌∙◌, arith}
+use Rattle.std.proofs.Common.{◌≡◌, List, [], ◌∷◌, ◌++◌, refl, sym, ap, ◌∙◌, arith, inl, inr}
 use Rattle.alp_base.specs.declared.ids.FileId.{FileId}
 use Rattle.alp_base.specs.declared.ids.TransId.{TransId}
 use Rattle.alp_files.specs.declared.reply.Reply.TheVariants as reply
@@ -11,17 +11,18 @@ use Rattle.alp_journal.specs.declared.act.Act.TheVariants as act
 use Rattle.alp_journal.specs.declared.message.Message.TheVariants as msg
 use Rattle.alp_journal.specs.declared.entry.Entry.{Entry}
 use Rattle.alp_journal.specs.Along.{Along, state_after}
-use Rattle.alp_journal.specs.Ids.{has_server}
+use Rattle.alp_journal.specs.Ids.{has_join, has_server}
 use Rattle.alp_journal.specs.Coordinator.{joins_of, votes_in}
 use Rattle.alp_journal.specs.State.{State, opened}
 use Rattle.alp_journal.specs.Moves.{next}
 use Rattle.alp_journal.specs.Laws.{IsLawful, IsLawfulEntry, latest_vote}
+use Rattle.alp_journal.specs.Answered.{IsAnswered, IsAnsweredSo}
 use Rattle.alp_history.specs.RightLog.{opening, ticks}
 use Rattle.alp_history.specs.Examples.{trans, join, new, first_up, worker_up, restarts, stamp}
 use Rattle.alp_history.proofs.Worked.{life_at}
 use Rattle.alp_history.proofs.Named.{Only, only_after, alone_other}
 use Rattle.alp_history.proofs.Steps.{lives_there}
-use Rattle.alp_history.specs.WrongJournals.{AreRefused, hello, begun, second_trans, later_file, begins_as, creates, votes_and_decides, of_three, two_joins, votes, decides_both, one_voted, all_voted, second_join, one_registered, registers_again, committed, inquires, decides_at, votes_for, hears_commit, voted, reads_bob, made, one_waits, ends, comes_again, started_again, goes_on, decides_for, applies, says_done}
+use Rattle.alp_history.specs.WrongJournals.{AreRefused, hello, begun, second_trans, later_file, begins_as, creates, votes_and_decides, of_three, two_joins, votes, decides_both, one_voted, all_voted, second_join, one_registered, registers_again, committed, inquires, decides_at, votes_for, hears_commit, voted, reads_bob, made, one_waits, ends, comes_again, started_again, goes_on, decides_for, applies, says_done, committed_alone, hears_done, stops_idly}
 use Rattle.alp_history.proofs.RightNeighbours as right
 
 -- the last entry of a lawful journal is lawful in the state before it
@@ -66,6 +67,13 @@ second h =
     let m = (last _ one_registered _ h).deeds.0.registration in
     let joins : join ∷ [] ≡ m.joins = ap joins_of m.runs in
     let wrong : true ≡ false = ap (has_server 2) joins ∙ m.first in
+    cc
+
+joinless : IsLawful (new 1) (committed_alone ++ hears_done (act.Forgot trans ∷ []) ∷ []) → ⊥
+joinless h =
+    let m = (last _ committed_alone _ h).deeds.0.forgetting in
+    let none : [] ≡ m.joins = ap joins_of m.committed in
+    let wrong : false ≡ true = ap (has_join m.join) none ∙ m.its in
     cc
 
 aborted : IsLawful (new 1) (committed ++ inquires (msg.Abort trans join cause.Asked) ∷ []) → ⊥
@@ -115,6 +123,17 @@ session h = let wrong : Some (reply.Ended ending.Unknown) ≡ Some (reply.Refuse
 lost : IsLawful (new 2) (voted ++ restarts 2 0 [] [] ∷ []) → ⊥
 lost h = let wrong : false ≡ true = (last _ voted _ h).restart.0.1.ready join in cc
 
+named_twice : IsLawful (new 2) (voted ++ restarts 2 0 (join ∷ join ∷ []) [] ∷ []) → ⊥
+named_twice h = let wrong : false ≡ true = (last _ voted _ h).restart.0.1.once in cc
+
+-- the last entry of an answered journal has its cause
+last_caused : (s : State) (es : List Entry) (e : Entry) → Along next IsAnsweredSo s (es ++ e ∷ []) → IsAnsweredSo (state_after next s es) e
+last_caused s [] e h = h.0
+last_caused s (x ∷ es) e h = last_caused (next s x) es e h.1
+
+idle_stop : IsAnswered (new 1) (begun ++ stops_idly ∷ []) → ⊥
+idle_stop h = elim (last_caused _ begun _ h.0).1.halted [ inl e ↦ (let wrong : false ≡ true = e.reaches in cc) | inr e ↦ (let wrong : false ≡ true = e.reaches in cc) ]
+
 pub refused : AreRefused
 refused = record {
   skipped = record { lawful = right.first_begins; unlawful = skipped };
@@ -125,6 +144,7 @@ refused = record {
   twice = record { lawful = right.decides_with_both; unlawful = twice };
   tick = record { lawful = right.ticks_idly; unlawful = tick };
   second = record { lawful = right.refuses_a_second_join; unlawful = second };
+  joinless = record { lawful = right.forgets_no_joinless; unlawful = joinless };
   aborted = record { lawful = right.says_the_commit; unlawful = aborted };
   clock = record { lawful = right.votes_after_the_clock; unlawful = clock };
   alive = record { lawful = right.says_nothing_alive; unlawful = alive };
@@ -137,4 +157,6 @@ refused = record {
   repeat_reply = record { lawful = right.repeats_the_reply; unlawful = repeat_reply };
   session = record { lawful = right.ends_the_session; unlawful = session };
   lost = record { lawful = right.finds_the_ready; unlawful = lost };
+  named_twice = record { lawful = right.finds_the_ready; unlawful = named_twice };
+  idle_stop = idle_stop;
 }

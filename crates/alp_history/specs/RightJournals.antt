@@ -18,6 +18,7 @@ use Rattle.alp_journal.specs.declared.event.Event.TheVariants as event
 use Rattle.alp_journal.specs.declared.message.Message.TheVariants as msg
 use Rattle.alp_journal.specs.declared.entry.Entry.{Entry}
 use Rattle.alp_journal.specs.Laws.{IsLawful}
+use Rattle.alp_journal.specs.Answered.{IsAnswered}
 use Rattle.alp_history.specs.Examples.{trans, join, nothing_seen, stamp, new, arrives, restarts}
 use Rattle.alp_history.specs.RightLog.{owner_with, sets, reads, ticks}
 
@@ -263,6 +264,15 @@ waits_one =
     ∷ called 2 1 4 (call.Collect 3) (reply.Refused refusal.UnknownOwner) []
     ∷ []
 
+-- ---- a join that another server brings: the answer goes to the server that drew it
+
+abbrev pub brought : List Entry
+brought =
+    hello 1 1
+    ∷ called 1 1 2 (call.Begin nothing_seen) (reply.Begun trans) (act.Drawn trans ∷ [])
+    ∷ arrives 3 (msg.Register trans join 1) (act.Registered trans join ∷ act.Sent 2 (msg.Joined trans join) ∷ [])
+    ∷ []
+
 -- ---- all of them
 
 pub record AreLawfulJournals : Type 0 where
@@ -277,3 +287,4 @@ pub record AreLawfulJournals : Type 0 where
   pub cut_one : IsLawful (new 1) cut_one
   pub cut_two : IsLawful (new 2) cut_two
   pub waits_one : IsLawful (new 1) waits_one
+  pub brought : IsLawful (new 1) brought × IsAnswered (new 1) brought

@@ -21,6 +21,7 @@ use Rattle.alp_journal.specs.declared.message.Message.TheVariants as msg
 use Rattle.alp_journal.specs.declared.entry.Entry.{Entry}
 use Rattle.alp_journal.specs.Opening.{Start}
 use Rattle.alp_journal.specs.Laws.{IsLawful}
+use Rattle.alp_journal.specs.Answered.{IsAnswered}
 use Rattle.alp_history.specs.Examples.{trans, join, nothing_seen, stamp, new, calls, arrives, owner, first_up, vote, worker_up, ask, restarts}
 use Rattle.alp_history.specs.RightLog.{opening, ticks}
 
@@ -108,6 +109,13 @@ registers_again acts = arrives 2 (msg.Register trans second_join 1) acts
 abbrev pub decides_for : ℕ → Entry
 decides_for to = arrives 2 (msg.Ready trans join 1) (act.Decided stamp (join ∷ []) ∷ act.Released trans ∷ act.Sent to (msg.Commit trans join stamp) ∷ [])
 
+-- a transaction of this server alone is committed, and the word comes of a join that it never had
+abbrev pub committed_alone : List Entry
+committed_alone = begun ++ calls 1 3 (call.Finish trans true) (reply.Committed stamp) (act.Decided stamp [] ∷ act.Released trans ∷ []) ∷ []
+
+abbrev pub hears_done : List Act → Entry
+hears_done acts = arrives 2 (msg.Done trans join) acts
+
 -- a part asks how the transaction ended, while its decision stands
 abbrev pub committed : List Entry
 committed = first_up ++ vote ∷ []
@@ -173,6 +181,10 @@ started_again = begun ++ restarts 2 0 [] [] ∷ []
 abbrev pub goes_on : Reply → Entry
 goes_on r = calls 2 3 (call.Outcome trans) r []
 
+-- a tick in which the device stops
+abbrev pub stops_idly : Entry
+stops_idly = record { event = event.Tick; reply = Some (reply.Refused refusal.Down); acts = act.Stopped ∷ [] }
+
 -- ---- all of them
 
 pub record AreRefused : Type 0 where
@@ -189,6 +201,8 @@ pub record AreRefused : Type 0 where
   pub tick : AreToldApart (new 1) all_voted (ticks []) (ticks (decides_at 1))
   -- one join of a server
   pub second : AreToldApart (new 1) one_registered (registers_again (act.Sent 2 (msg.JoinRefused trans second_join) ∷ [])) (registers_again (act.Registered trans second_join ∷ act.Sent 2 (msg.Joined trans second_join) ∷ []))
+  -- a decision without joins leaves nothing to forget
+  pub joinless : AreToldApart (new 1) committed_alone (hears_done []) (hears_done (act.Forgot trans ∷ []))
   -- of what is committed no abort is said
   pub aborted : AreToldApart (new 1) committed (inquires (msg.Commit trans join stamp)) (inquires (msg.Abort trans join cause.Asked))
   -- the vote is for the time after the clock
@@ -211,3 +225,7 @@ pub record AreRefused : Type 0 where
   pub session : AreToldApart (new 1) started_again (goes_on (reply.Refused (refusal.StaleSession 2))) (goes_on (reply.Ended ending.Unknown))
   -- a ready part is found again
   pub lost : AreToldApart (new 2) voted (restarts 2 0 (join ∷ []) []) (restarts 2 0 [] [])
+  -- and named once
+  pub named_twice : AreToldApart (new 2) voted (restarts 2 0 (join ∷ []) []) (restarts 2 0 (join ∷ join ∷ []) [])
+  -- a step that neither writes nor reads does not stop the device
+  pub idle_stop : IsAnswered (new 1) (begun ++ stops_idly ∷ []) → ⊥

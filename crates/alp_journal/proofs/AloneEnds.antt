@@ -1,5 +1,5 @@
 -- commits, halts, timeouts and greetings of a server that runs alone
-use Rattle.std.specs.Prelude.{cond, Bool, true, false, ◌&&◌, ◌==◌, max, Option, None, Some, flat_map, IsSome, if◌then◌else◌}
+use Rattle.std.specs.Prelude.{cond, Bool, true, false, is_none, ◌&&◌, ◌||◌, ◌==◌, max, Option, None, Some, flat_map, IsSome, if◌then◌else◌}
 use Rattle.std.specs.List.{list_any, AllByRecursion}
 use Rattle.std.specs.List.Sorted.{IsPermutation}
 use Rattle.std.specs.FinMap.Entries as entries
@@ -17,6 +17,7 @@ use Rattle.alp_files.specs.declared.call.Call.{Call}
 use Rattle.alp_files.specs.declared.call.Call.TheVariants as call
 use Rattle.alp_files.specs.declared.reply.Reply.{Reply}
 use Rattle.alp_files.specs.declared.reply.Reply.TheVariants as reply
+use Rattle.alp_files.specs.declared.refusal.Refusal.{Refusal}
 use Rattle.alp_files.specs.declared.refusal.Refusal.TheVariants as refusal
 use Rattle.alp_files.specs.declared.refusal.Cause.TheVariants as cause
 use Rattle.alp_journal.specs.declared.act.Act.{Act}
@@ -33,12 +34,12 @@ use Rattle.alp_journal.specs.Holder.{Holder, Life, with_life, commits, emptied}
 use Rattle.alp_journal.specs.Desk.{Session, file_trans}
 use Rattle.alp_journal.specs.Counts.{lock_set}
 use Rattle.alp_journal.specs.State.{State, state_deed}
-use Rattle.alp_journal.specs.Halts.{HaltsRight, written, by_call, by_finish, decides}
+use Rattle.alp_journal.specs.Halts.{HaltsRight, written, by_call, by_finish, decides, is_some_act, writes, may_read, may_read_for, is_part_at_work}
 use Rattle.alp_journal.specs.Moves.{finishes, is_new, follows, greeted, is_stop, tried, told, halted, next, times_out_here, call_deeds, answered, done_of, done_by}
 use Rattle.alp_journal.specs.Laws.{IsLawfulDeed, KeepsSessions, CallsOn, DoLivesAgree, ReleasesEnded, WaitsInTurn, IsStopped, TellsStop, SaysRight, drawn_by, granted_by, released_by, ended_by, grants_of, regained_by, sends_last, Greets}
 use Rattle.alp_journal.specs.Messages.{Mail, on_finish, on_timeout, why_not_own, due, sent_by}
 use Rattle.alp_journal.specs.Answered.{is_release, CountsVotes, ForgetsDone, at_release, GrantsAtOnce}
-use Rattle.alp_journal.specs.Answers.{Part, part_at, at_part, finish_reply, voted_reply, First, IsAnswer, AnswersCall}
+use Rattle.alp_journal.specs.Answers.{Part, part_at, at_part, part_refusal, finish_reply, voted_reply, First, IsAnswer, AnswersCall}
 use Rattle.alp_journal.specs.Alone.{Alone, alone, IsQuiet, IsPaired, Leads}
 use Rattle.alp_journal.proofs.IdLemmas.{same_trans-itself}
 use Rattle.alp_journal.proofs.StampLemmas.{stamps_total, itself}
@@ -282,16 +283,25 @@ module _ (a : Alone) (client number : ℕ) (w : Session) where
   abbrev IsStop : Act → Type 0
   IsStop x = (x ≡ act.Stopped) ⊎ (x ≡ act.Failed)
 
-  -- in a file call nothing would have been written
-  pub file_halt_leads : (t : TransId) (c : Call) (x : Act) → IsStop x → IsQuiet a → a.is_down ≡ false → a.sessions client ≡ Some w → number ≡ w.last + 1 → file_trans c ≡ Some t
-      → Leads false a (call_entry a client number w c (reply.Refused refusal.Down) (x ∷ [])) (with_halt (call_entry a client number w c (reply.Refused refusal.Down) (x ∷ [])))
-  file_halt_leads t c x which q up there turn of = go x which
+  -- in a file call nothing would have been written; it is stopped as it reads
+  pub file_halt_leads : (t : TransId) (c : Call) → IsQuiet a → a.is_down ≡ false → a.sessions client ≡ Some w → number ≡ w.last + 1 → file_trans c ≡ Some t → part_refusal (alone a) client t ≡ None
+      → Leads false a (call_entry a client number w c (reply.Refused refusal.Down) (act.Stopped ∷ [])) (with_halt (call_entry a client number w c (reply.Refused refusal.Down) (act.Stopped ∷ [])))
+  file_halt_leads t c q up there turn of works =
+      halt_leads c (act.Stopped ∷ []) q up there turn (record {
+        greets = is.greets;
+        stops = refl;
+        drawn = refl;
+        deeds = subst (Along state_deed (IsLawfulDeed ev) (alone a)) (sym (call_tried a client number w c (reply.Refused refusal.Down) (act.Stopped ∷ []) there turn ∙ none)) tt;
+        sent = refl;
+        said = λ m. (tt, tt);
+        regained = refl;
+        stopped = refl;
+        released = refl;
+        halted = inl (record { reaches = reads; acts = ap (λ (ws : List Act). ws ++ act.Stopped ∷ []) (sym no_write) });
+      })
     where
-      r : Reply
-      r = reply.Refused refusal.Down
-
-      entry : Act → Entry
-      entry y = call_entry a client number w c (reply.Refused refusal.Down) (y ∷ [])
+      ev : Event
+      ev = event.Call client a.ids.epoch number c
 
       is : IsFileCall a client number w t c (reply.Refused refusal.Down)
       is = file_call a client number w t c (reply.Refused refusal.Down) of
@@ -303,33 +313,11 @@ module _ (a : Alone) (client number : ℕ) (w : Session) where
       no_write : written (alone a) (event.Call client a.ids.epoch number c) ≡ []
       no_write = ap (λ (b : Bool). cond {A = List Act} b (by_call (alone a) client c) []) (new_call a client number w there turn) ∙ is.needs_none
 
-      go : (x : Act) → IsStop x → Leads false a (call_entry a client number w c (reply.Refused refusal.Down) (x ∷ [])) (with_halt (call_entry a client number w c (reply.Refused refusal.Down) (x ∷ [])))
-      go x (inl e) = subst (λ (y : Act). Leads false a (call_entry a client number w c (reply.Refused refusal.Down) (y ∷ [])) (with_halt (call_entry a client number w c (reply.Refused refusal.Down) (y ∷ [])))) (sym e)
-          (halt_leads c (act.Stopped ∷ []) q up there turn (record {
-            greets = is.greets;
-            stops = refl;
-            drawn = refl;
-            deeds = subst (Along state_deed (IsLawfulDeed (event.Call client a.ids.epoch number c)) (alone a)) (sym (call_tried a client number w c (reply.Refused refusal.Down) (act.Stopped ∷ []) there turn ∙ none)) tt;
-            sent = refl;
-            said = λ m. (tt, tt);
-            regained = refl;
-            stopped = refl;
-            released = refl;
-            halted = inl (ap (λ (ws : List Act). ws ++ act.Stopped ∷ []) (sym no_write));
-          }))
-      go x (inr e) = subst (λ (y : Act). Leads false a (call_entry a client number w c (reply.Refused refusal.Down) (y ∷ [])) (with_halt (call_entry a client number w c (reply.Refused refusal.Down) (y ∷ [])))) (sym e)
-          (halt_leads c (act.Failed ∷ []) q up there turn (record {
-            greets = is.greets;
-            stops = refl;
-            drawn = refl;
-            deeds = subst (Along state_deed (IsLawfulDeed (event.Call client a.ids.epoch number c)) (alone a)) (sym (call_tried a client number w c (reply.Refused refusal.Down) (act.Failed ∷ []) there turn ∙ none)) tt;
-            sent = refl;
-            said = λ m. (tt, tt);
-            regained = refl;
-            stopped = refl;
-            released = refl;
-            halted = inr (ap (λ (ws : List Act). ws ++ act.Failed ∷ []) (sym no_write));
-          }))
+      reads : (writes (alone a) (event.Call client a.ids.epoch number c) || may_read (alone a) (event.Call client a.ids.epoch number c)) ≡ true
+      reads =
+          ap (λ (ws : List Act). (is_some_act ws || false) || (is_new (alone a) client a.ids.epoch number && may_read_for (alone a) client c)) no_write
+          ∙ ap (λ (b : Bool). b && may_read_for (alone a) client c) (new_call a client number w there turn)
+          ∙ is.reads ∙ ap (is_part_at_work (alone a) client) of ∙ ap (λ (x : Option Refusal). is_none x) works
 
   -- in a commit the decision would
   module _ (t : TransId) (l : Life) where
@@ -381,7 +369,10 @@ module _ (a : Alone) (client number : ℕ) (w : Session) where
               regained = refl;
               stopped = (refl, refl);
               released = refl;
-              halted = inl (ap (λ (ws : List Act). ws ++ act.Stopped ∷ []) (sym (commit_written there turn runs may)));
+              halted = inl (record {
+                reaches = ap (λ (ws : List Act). (is_some_act ws || false) || may_read (alone a) (event.Call client a.ids.epoch number (call.Finish t true))) (commit_written there turn runs may);
+                acts = ap (λ (ws : List Act). ws ++ act.Stopped ∷ []) (sym (commit_written there turn runs may));
+              });
             }))
         go x (inr e) = subst (λ (y : Act). Leads false a (call_entry a client number w (call.Finish t true) (reply.Refused refusal.Down) (act.Decided (commit_stamp a client number w t l) [] ∷ y ∷ []))
             (with_halt (call_entry a client number w (call.Finish t true) (reply.Refused refusal.Down) (act.Decided (commit_stamp a client number w t l) [] ∷ y ∷ [])))) (sym e)
@@ -395,7 +386,10 @@ module _ (a : Alone) (client number : ℕ) (w : Session) where
               regained = refl;
               stopped = (refl, refl);
               released = refl;
-              halted = inr (ap (λ (ws : List Act). ws ++ act.Failed ∷ []) (sym (commit_written there turn runs may)));
+              halted = inr (record {
+                reaches = ap (λ (ws : List Act). is_some_act ws || false) (commit_written there turn runs may);
+                acts = ap (λ (ws : List Act). ws ++ act.Failed ∷ []) (sym (commit_written there turn runs may));
+              });
             }))
 
 -- ---- a greeting

@@ -34,7 +34,7 @@ use Rattle.alp_journal.specs.State.{State, state_deed, has_part}
 use Rattle.alp_journal.specs.Moves.{who_is, next_trans, call_deeds, finishes, answered, done_by, done_of}
 use Rattle.alp_journal.specs.Laws.{IsLawfulDeed, DoLivesAgree, HasEnded, IsHolding, CallsOn, KeepsSessions}
 use Rattle.alp_journal.specs.Messages.{Mail, on_call, on_finish, why_not_own}
-use Rattle.alp_journal.specs.Halts.{by_call}
+use Rattle.alp_journal.specs.Halts.{by_call, may_read_for, is_part_at_work}
 use Rattle.alp_journal.specs.Answered.{GrantsFor}
 use Rattle.alp_journal.specs.Answers.{Part, NoPart, AtWork, own_part, ended_part, part_at, at_part, finish_reply, voted_reply, too_many, First, IsFileOf, IsFinishAnswer, IsAnswer}
 use Rattle.alp_journal.specs.Alone.{Alone, alone, IsQuiet, IsPaired, Leads}
@@ -161,21 +161,22 @@ module _ (a : Alone) (client number : ℕ) (w : Session) where
     pub mail : on_call (alone a) client c r ≡ []
     pub answer : (failed : Bool) → IsFileOf failed (alone a) client c r (file_trans c) → IsAnswer failed (alone a) client c r
     pub needs_none : by_call (alone a) client c ≡ []
+    pub reads : may_read_for (alone a) client c ≡ is_part_at_work (alone a) client (file_trans c)
 
   pub file_call : (t : TransId) (c : Call) (r : Reply) → file_trans c ≡ Some t → IsFileCall t c r
-  file_call t (call.CreateFile u start choice) r of = record { named = of; plain = λ m. refl; greets = λ e h. h; deeds = refl; own = refl; leaves = λ d live. refl; mail = refl; answer = λ failed h. h; needs_none = refl }
-  file_call t (call.OpenFile u f x mode choice) r of = record { named = of; plain = λ m. refl; greets = λ e h. h; deeds = refl; own = refl; leaves = λ d live. refl; mail = refl; answer = λ failed h. h; needs_none = refl }
-  file_call t (call.CloseFile u n) r of = record { named = of; plain = λ m. refl; greets = λ e h. h; deeds = refl; own = refl; leaves = λ d live. refl; mail = refl; answer = λ failed h. h; needs_none = refl }
-  file_call t (call.DeleteFile u n choice) r of = record { named = of; plain = λ m. refl; greets = λ e h. h; deeds = refl; own = refl; leaves = λ d live. refl; mail = refl; answer = λ failed h. h; needs_none = refl }
-  file_call t (call.ReadPages u n run mode choice) r of = record { named = of; plain = λ m. refl; greets = λ e h. h; deeds = refl; own = refl; leaves = λ d live. refl; mail = refl; answer = λ failed h. h; needs_none = refl }
-  file_call t (call.WritePages u n run pages choice) r of = record { named = of; plain = λ m. refl; greets = λ e h. h; deeds = refl; own = refl; leaves = λ d live. refl; mail = refl; answer = λ failed h. h; needs_none = refl }
-  file_call t (call.LockPages u n run mode choice) r of = record { named = of; plain = λ m. refl; greets = λ e h. h; deeds = refl; own = refl; leaves = λ d live. refl; mail = refl; answer = λ failed h. h; needs_none = refl }
-  file_call t (call.SetSize u n size choice) r of = record { named = of; plain = λ m. refl; greets = λ e h. h; deeds = refl; own = refl; leaves = λ d live. refl; mail = refl; answer = λ failed h. h; needs_none = refl }
-  file_call t (call.ReadProps u n) r of = record { named = of; plain = λ m. refl; greets = λ e h. h; deeds = refl; own = refl; leaves = λ d live. refl; mail = refl; answer = λ failed h. h; needs_none = refl }
-  file_call t (call.WriteProps u n change choice) r of = record { named = of; plain = λ m. refl; greets = λ e h. h; deeds = refl; own = refl; leaves = λ d live. refl; mail = refl; answer = λ failed h. h; needs_none = refl }
-  file_call t (call.ReadOwner u name choice) r of = record { named = of; plain = λ m. refl; greets = λ e h. h; deeds = refl; own = refl; leaves = λ d live. refl; mail = refl; answer = λ failed h. h; needs_none = refl }
-  file_call t (call.MakeOwner u name quota create choice) r of = record { named = of; plain = λ m. refl; greets = λ e h. h; deeds = refl; own = refl; leaves = λ d live. refl; mail = refl; answer = λ failed h. h; needs_none = refl }
-  file_call t (call.SetQuota u name quota choice) r of = record { named = of; plain = λ m. refl; greets = λ e h. h; deeds = refl; own = refl; leaves = λ d live. refl; mail = refl; answer = λ failed h. h; needs_none = refl }
+  file_call t (call.CreateFile u start choice) r of = record { named = of; plain = λ m. refl; greets = λ e h. h; deeds = refl; own = refl; leaves = λ d live. refl; mail = refl; answer = λ failed h. h; needs_none = refl; reads = refl }
+  file_call t (call.OpenFile u f x mode choice) r of = record { named = of; plain = λ m. refl; greets = λ e h. h; deeds = refl; own = refl; leaves = λ d live. refl; mail = refl; answer = λ failed h. h; needs_none = refl; reads = refl }
+  file_call t (call.CloseFile u n) r of = record { named = of; plain = λ m. refl; greets = λ e h. h; deeds = refl; own = refl; leaves = λ d live. refl; mail = refl; answer = λ failed h. h; needs_none = refl; reads = refl }
+  file_call t (call.DeleteFile u n choice) r of = record { named = of; plain = λ m. refl; greets = λ e h. h; deeds = refl; own = refl; leaves = λ d live. refl; mail = refl; answer = λ failed h. h; needs_none = refl; reads = refl }
+  file_call t (call.ReadPages u n run mode choice) r of = record { named = of; plain = λ m. refl; greets = λ e h. h; deeds = refl; own = refl; leaves = λ d live. refl; mail = refl; answer = λ failed h. h; needs_none = refl; reads = refl }
+  file_call t (call.WritePages u n run pages choice) r of = record { named = of; plain = λ m. refl; greets = λ e h. h; deeds = refl; own = refl; leaves = λ d live. refl; mail = refl; answer = λ failed h. h; needs_none = refl; reads = refl }
+  file_call t (call.LockPages u n run mode choice) r of = record { named = of; plain = λ m. refl; greets = λ e h. h; deeds = refl; own = refl; leaves = λ d live. refl; mail = refl; answer = λ failed h. h; needs_none = refl; reads = refl }
+  file_call t (call.SetSize u n size choice) r of = record { named = of; plain = λ m. refl; greets = λ e h. h; deeds = refl; own = refl; leaves = λ d live. refl; mail = refl; answer = λ failed h. h; needs_none = refl; reads = refl }
+  file_call t (call.ReadProps u n) r of = record { named = of; plain = λ m. refl; greets = λ e h. h; deeds = refl; own = refl; leaves = λ d live. refl; mail = refl; answer = λ failed h. h; needs_none = refl; reads = refl }
+  file_call t (call.WriteProps u n change choice) r of = record { named = of; plain = λ m. refl; greets = λ e h. h; deeds = refl; own = refl; leaves = λ d live. refl; mail = refl; answer = λ failed h. h; needs_none = refl; reads = refl }
+  file_call t (call.ReadOwner u name choice) r of = record { named = of; plain = λ m. refl; greets = λ e h. h; deeds = refl; own = refl; leaves = λ d live. refl; mail = refl; answer = λ failed h. h; needs_none = refl; reads = refl }
+  file_call t (call.MakeOwner u name quota create choice) r of = record { named = of; plain = λ m. refl; greets = λ e h. h; deeds = refl; own = refl; leaves = λ d live. refl; mail = refl; answer = λ failed h. h; needs_none = refl; reads = refl }
+  file_call t (call.SetQuota u name quota choice) r of = record { named = of; plain = λ m. refl; greets = λ e h. h; deeds = refl; own = refl; leaves = λ d live. refl; mail = refl; answer = λ failed h. h; needs_none = refl; reads = refl }
   file_call t (call.Hello name) r of = cc
   file_call t (call.Begin seen) r of = cc
   file_call t (call.Join u) r of = cc

@@ -228,4 +228,4 @@ opened_order o = record {
 }
 
 pub reached_order : (s : State) → IsReached s → IsInOrder s
-reached_order s r = subst IsInOrder r.leaves (along r.journal (opened r.start) r.lawful r.answered (opened_order r.start))
+reached_order s r = subst IsInOrder r.leaves (along r.journal (opened r.start) r.lawful r.answered.0 (opened_order r.start))

@@ -1,6 +1,6 @@
 -- What is said and answered: an entry of a server that goes by the rules has just the effects, messages and answers that its
 -- event calls for. Beside the laws of what may come about these say that it does come about.
-use Rattle.std.specs.Prelude.{◌≡◌, ℕ, ◌<◌, Bool, true, false, not, ◌||◌, ◌⊎◌, List, [], ◌∷◌, ◌++◌, filter, flat_map, Option, None, Some, is_some, slice_get, if◌then◌else◌}
+use Rattle.std.specs.Prelude.{◌≡◌, ℕ, ◌<◌, Bool, true, false, not, ◌==◌, ◌&&◌, ◌||◌, ◌⊎◌, List, [], ◌∷◌, ◌++◌, filter, flat_map, Option, None, Some, is_some, slice_get, if◌then◌else◌}
 use Rattle.std.specs.List.{list_any}
 use Rattle.std.specs.Option.{option_or}
 use Rattle.alp_base.specs.declared.ids.TransId.{TransId}
@@ -8,6 +8,7 @@ use Rattle.alp_files.specs.declared.reply.Reply.{Reply}
 use Rattle.alp_files.specs.declared.reply.Reply.TheVariants as reply
 use Rattle.alp_files.specs.declared.refusal.Refusal.TheVariants as refusal
 use Rattle.alp_files.specs.declared.refusal.Why.TheVariants as why
+use Rattle.alp_files.specs.declared.refusal.Cause.TheVariants as cause
 use Rattle.alp_files.specs.declared.call.Call.{Call}
 use Rattle.alp_files.specs.Holdings.{Holding, covers_held}
 use Rattle.alp_files.specs.Locks.{Need}
@@ -19,7 +20,7 @@ use Rattle.alp_journal.specs.declared.message.Message.TheVariants as msg
 use Rattle.alp_journal.specs.declared.entry.Entry.{Entry}
 use Rattle.alp_journal.specs.Along.{Along, Where, state_after}
 use Rattle.alp_journal.specs.Opening.{Start}
-use Rattle.alp_journal.specs.Deeds.{Grants}
+use Rattle.alp_journal.specs.Deeds.{Deed, Ends, Grants}
 use Rattle.alp_journal.specs.Coordinator.{Fate, Committed, has_all, has_votes}
 use Rattle.alp_journal.specs.Participant.{Ready, Applied}
 use Rattle.alp_journal.specs.Holder.{Holder, Life, holder_after}
@@ -53,10 +54,15 @@ ForgetsDone m = (t : TransId) → is_all_done (m.fates t) ≡ false
 
 -- ---- whose turn it is
 
+-- A call asks where the part's mode would rise on a resource: what it needs decides, and what the part holds and its file
+-- gives, and not its name.
+abbrev pub rises_on : Holding → Need → Bool
+rises_on held n = not (covers_held (held n.0) n.1)
+
 -- it holds a lock already on a resource that it asks for
 abbrev pub is_conversion_of : Holder → Waiting → Option Life → Bool
 is_conversion_of h w None = false
-is_conversion_of h w (Some l) = list_any (λ (n : Need). is_some (l.held n.0)) (request_in h w.call (Some l))
+is_conversion_of h w (Some l) = list_any (λ (n : Need). rises_on l.held n && is_some (l.held n.0)) (request_in h w.call (Some l))
 
 abbrev pub is_conversion : Holder → Waiting → Option TransId → Bool
 is_conversion h w None = false
@@ -96,11 +102,7 @@ at_release s e = (state_after state_deed s (event_deeds s e.event e.reply e.acts
 abbrev pub GivesOn : State → Entry → Type 0
 GivesOn s e = Where (list_any is_release e.acts) (IsWalk (at_release s e) (in_turn (at_release s e) s.desk.waits) (flat_map granted_by e.acts)) (Unit {0})
 
--- A call asks where the part's mode would rise on a resource: what it needs decides, and what the part holds and its file
--- gives, and not its name.
-abbrev pub rises_on : Holding → Need → Bool
-rises_on held n = not (covers_held (held n.0) n.1)
-
+-- a call asks where the part's mode would rise
 abbrev pub asks : Holder → Life → Call → Bool
 asks h l c = list_any (rises_on l.held) (request_in h c (Some l))
 
@@ -117,10 +119,10 @@ grants_if s t c r (Some l) = if is_some (option_or (shape_refusal s l c) (lock_r
 abbrev pub grants_now : State → ℕ → TransId → Call → Reply → List TransId
 grants_now s client t c r = if is_some (part_refusal s client t) then [] else grants_if s t c r (s.holder.lives t)
 
--- where a read failed it may have been before the grant or behind it
+-- where a read failed it may have been before the grant, or behind it
 abbrev pub GrantsFor : Bool → State → ℕ → Call → Reply → List TransId → Option TransId → Type 0
 GrantsFor failed s client c r ts None = Unit {0}
-GrantsFor failed s client c r ts (Some t) = ((failed ≡ true) × (r ≡ reply.Refused refusal.ReadFault)) ⊎ (ts ≡ grants_now s client t c r)
+GrantsFor failed s client c r ts (Some t) = ((failed ≡ true) × (r ≡ reply.Refused refusal.ReadFault) × (ts ≡ [])) ⊎ (ts ≡ grants_now s client t c r)
 
 abbrev pub GrantsAtOnce : Bool → State → Entry → Event → Option Reply → Type 0
 GrantsAtOnce failed s e (event.Call client epoch number c) (Some r) = Where (is_new s client epoch number) (GrantsFor failed s client c r (flat_map granted_by e.acts) (file_trans c)) (Unit {0})
@@ -144,10 +146,18 @@ pub record IsAnsweredEntry (failed : Bool) (s : State) (e : Entry) : Type 0 wher
 abbrev pub IsAnsweredSo : State → Entry → Type 0
 IsAnsweredSo s e = (failed : Bool) × IsAnsweredEntry failed s e
 
-abbrev pub IsAnswered : Start → List Entry → Type 0
-IsAnswered o journal = Along next IsAnsweredSo (opened o) journal
+-- no step adds an entry to a journal that is full; a restart does
+abbrev pub entries_limit : ℕ
+entries_limit = 65536
 
--- an entry that shows by itself that the device failed
+abbrev pub FitsJournal : List Entry → Type 0
+FitsJournal journal = (i : ℕ) (e : Entry) → slice_get journal i ≡ Some e → (e.event ≡ event.Restart) ⊎ (i < entries_limit)
+
+abbrev pub IsAnswered : Start → List Entry → Type 0
+IsAnswered o journal = Along next IsAnsweredSo (opened o) journal × FitsJournal journal
+
+-- An entry that shows that the device failed: a call is answered so, a vote says so to another server, this server's own vote
+-- ends a transaction so, or a write failed.
 abbrev pub is_fault_reply : Option Reply → Bool
 is_fault_reply (Some (reply.Refused refusal.ReadFault)) = true
 is_fault_reply r = false
@@ -157,12 +167,9 @@ is_fault_act (act.Sent to (msg.No t j why.ReadFault)) = true
 is_fault_act act.Failed = true
 is_fault_act a = false
 
-abbrev pub shows_fault : Entry → Bool
-shows_fault e = is_fault_reply e.reply || list_any is_fault_act e.acts
+abbrev pub is_fault_deed : ℕ → Deed → Bool
+is_fault_deed here (Ends t client (cause.Voted server why.ReadFault)) = server == here
+is_fault_deed here d = false
 
--- no step adds an entry to a journal that is full; a restart does
-abbrev pub entries_limit : ℕ
-entries_limit = 65536
-
-abbrev pub FitsJournal : List Entry → Type 0
-FitsJournal journal = (i : ℕ) (e : Entry) → slice_get journal i ≡ Some e → (e.event ≡ event.Restart) ⊎ (i < entries_limit)
+abbrev pub shows_fault : State → Entry → Bool
+shows_fault s e = is_fault_reply e.reply || list_any is_fault_act e.acts || list_any (is_fault_deed s.holder.server) (event_deeds s e.event e.reply e.acts)

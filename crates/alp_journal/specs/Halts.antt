@@ -1,6 +1,6 @@
 -- What the one write of a step holds. It is determined by the event and the state, so an entry whose device stopped names just
--- that, and the restart tells whether it was made.
-use Rattle.std.specs.Prelude.{◌≡◌, ℕ, ◌+◌, true, false, ◌==◌, ◌&&◌, ◌⊎◌, List, [], ◌∷◌, ◌++◌, Option, None, Some, is_none, if◌then◌else◌}
+-- that, and the restart tells whether it was made. A step that neither writes nor reads does not stop.
+use Rattle.std.specs.Prelude.{◌≡◌, ℕ, ◌+◌, Bool, true, false, ◌==◌, ◌&&◌, ◌||◌, ◌⊎◌, List, [], ◌∷◌, ◌++◌, Option, None, Some, is_none, if◌then◌else◌}
 use Rattle.alp_base.specs.declared.ids.JoinNo.{JoinNo}
 use Rattle.alp_base.specs.declared.ids.TransId.{TransId}
 use Rattle.alp_base.specs.declared.ids.Stamp.{Stamp}
@@ -17,11 +17,12 @@ use Rattle.alp_journal.specs.declared.entry.Entry.{Entry}
 use Rattle.alp_journal.specs.Ids.{same_trans, has_join}
 use Rattle.alp_journal.specs.Coordinator.{Fate, Running, Finishing, Committed, with_vote, has_all}
 use Rattle.alp_journal.specs.Participant.{Phase, Active, Ready}
-use Rattle.alp_journal.specs.Desk.{waiting_of}
+use Rattle.alp_journal.specs.Desk.{Waiting, file_trans, waiting_of, waiting_at}
 use Rattle.alp_journal.specs.State.{State}
 use Rattle.alp_journal.specs.Moves.{is_new}
 use Rattle.alp_journal.specs.Laws.{latest_vote}
 use Rattle.alp_journal.specs.Messages.{has_all_votes, why_not, why_not_own}
+use Rattle.alp_journal.specs.Answers.{part_refusal}
 
 -- the local part's changes and the decision, where this server's own vote is for it
 abbrev pub decides : TransId → ℕ → List JoinNo → Option Why → List Act
@@ -68,12 +69,58 @@ by_message s (msg.Commit t j stamp) = by_commit t j stamp (s.phases j)
 by_message s (msg.Done t j) = by_done t j (s.fates t)
 by_message s m = []
 
--- an Abort that ends a ready part is written too, and needs no act, since the event says it
 abbrev pub written : State → Event → List Act
 written s (event.Call client epoch number c) = if is_new s client epoch number then by_call s client c else []
 written s (event.Arrive from m) = by_message s m
 written s e = []
 
+-- an Abort that ends a ready part is written too, and needs no act, since the event says it
+abbrev pub is_note_of : TransId → Phase → Bool
+is_note_of t (Ready u client ts) = same_trans u t
+is_note_of t p = false
+
+abbrev pub ends_note : State → Event → Bool
+ends_note s (event.Arrive from (msg.Abort t j c)) = is_note_of t (s.phases j)
+ends_note s e = false
+
+abbrev pub is_some_act : List Act → Bool
+is_some_act [] = false
+is_some_act (a ∷ acts) = true
+
+abbrev pub writes : State → Event → Bool
+writes s e = is_some_act (written s e) || ends_note s e
+
+abbrev pub is_part_alive : State → ℕ → Option TransId → Bool
+is_part_alive s client None = false
+is_part_alive s client (Some t) = is_none (s.desk.dead client t)
+
+-- a call on files that a part at work makes, or collects once its locks are granted, may read the device
+abbrev pub is_part_at_work : State → ℕ → Option TransId → Bool
+is_part_at_work s client None = false
+is_part_at_work s client (Some t) = is_none (part_refusal s client t)
+
+abbrev pub is_performed_now : State → ℕ → Option Waiting → Bool
+is_performed_now s client None = false
+is_performed_now s client (Some w) = w.is_granted && is_part_alive s client (file_trans w.call)
+
+abbrev pub may_read_for : State → ℕ → Call → Bool
+may_read_for s client (call.Collect n) = is_performed_now s client (waiting_at s.desk client n)
+may_read_for s client c = is_part_at_work s client (file_trans c)
+
+abbrev pub may_read : State → Event → Bool
+may_read s (event.Call client epoch number c) = is_new s client epoch number && may_read_for s client c
+may_read s e = false
+
+-- an entry whose device stopped, at its write or at a read
+pub record IsStoppedSo (s : State) (e : Entry) : Type 0 where
+  pub reaches : (writes s e.event || may_read s e.event) ≡ true
+  pub acts : e.acts ≡ written s e.event ++ act.Stopped ∷ []
+
+-- one whose write failed; a read that fails is answered as such, and halts nothing
+pub record IsFailedSo (s : State) (e : Entry) : Type 0 where
+  pub reaches : writes s e.event ≡ true
+  pub acts : e.acts ≡ written s e.event ++ act.Failed ∷ []
+
 -- of an entry whose device stopped or failed
 abbrev pub HaltsRight : State → Entry → Type 0
-HaltsRight s e = (e.acts ≡ written s e.event ++ act.Stopped ∷ []) ⊎ (e.acts ≡ written s e.event ++ act.Failed ∷ [])
+HaltsRight s e = IsStoppedSo s e ⊎ IsFailedSo s e

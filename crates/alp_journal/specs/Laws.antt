@@ -243,9 +243,21 @@ abbrev pub DecidesRight : Event → State → Deed → Type 0
 DecidesRight e s (Decides stamp joins) = MayDecide e s stamp joins
 DecidesRight e s d = Unit {0}
 
-abbrev pub ForgetsRight : State → Deed → Type 0
-ForgetsRight s (Forgets t) = (stamp : Stamp) × (joins : List JoinNo) × (done : List JoinNo) × (s.fates t ≡ Committed stamp joins done) × (has_all done joins ≡ true)
-ForgetsRight s d = Unit {0}
+-- a decision is forgotten as a join of it says that it is done, where all of them have said so
+pub record MayForget (e : Event) (s : State) (t : TransId) : Type 0 where
+  pub from : ℕ
+  pub join : JoinNo
+  pub stamp : Stamp
+  pub joins : List JoinNo
+  pub done : List JoinNo
+  pub told : e ≡ event.Arrive from (msg.Done t join)
+  pub committed : s.fates t ≡ Committed stamp joins done
+  pub its : has_join join joins ≡ true
+  pub all : has_all done joins ≡ true
+
+abbrev pub ForgetsRight : Event → State → Deed → Type 0
+ForgetsRight e s (Forgets t) = MayForget e s t
+ForgetsRight e s d = Unit {0}
 
 -- ---- a part at its worker
 
@@ -383,10 +395,20 @@ is_standing x (Committed stamp [] done) = false
 is_standing x (Committed stamp (j ∷ js) done) = same_stamp stamp x
 is_standing x f = false
 
+-- each is named once
+abbrev pub are_joins_apart : List JoinNo → Bool
+are_joins_apart [] = true
+are_joins_apart (j ∷ js) = not (has_join j js) && are_joins_apart js
+
+abbrev pub are_stamps_apart : List Stamp → Bool
+are_stamps_apart [] = true
+are_stamps_apart (x ∷ xs) = not (has_stamp x xs) && are_stamps_apart xs
+
 -- what the notes keep once all is resolved: the clock of the last commit, the ready joins, and the decisions with joins
--- that are not forgotten
+-- that are not forgotten, each named once
 pub record IsFound (s : State) (time : ℕ) (joins : List JoinNo) (stamps : List Stamp) : Type 0 where
   pub clock : time ≡ s.holder.kept
+  pub once : (are_joins_apart joins && are_stamps_apart stamps) ≡ true
   pub ready : (j : JoinNo) → has_join j joins ≡ is_ready (s.phases j)
   pub decided : (x : Stamp) → has_stamp x stamps ≡ is_standing x (s.fates x.trans)
 
@@ -437,7 +459,7 @@ pub record IsLawfulDeed (e : Event) (s : State) (d : Deed) : Type 0 where
   pub vote : VotesOnce e s d
   pub decision : DecidesRight e s d
   pub application : AppliesRight e s d
-  pub forgetting : ForgetsRight s d
+  pub forgetting : ForgetsRight e s d
 
 -- what a restart resolves was lawful when it was tried
 abbrev pub DeedsAreLawful : State → Entry → Event → Type 0

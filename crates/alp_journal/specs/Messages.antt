@@ -122,24 +122,26 @@ vote_on s t j client (Some w) = msg.No t j w
 
 -- ---- a message
 
+-- What answers a message goes to the server that drew the join, or that began the transaction, whoever it came from.
+
 -- only the first join of another server is let in, and of the transaction's own client
 abbrev pub may_join : State → JoinNo → ℕ → Fate → Bool
 may_join s j client (Running c js) = c == client && is_other_server s j.server && (has_join j js || not (has_server j.server js))
 may_join s j client f = false
 
-abbrev pub on_register : State → ℕ → TransId → JoinNo → ℕ → List Mail
-on_register s from t j client =
-    if not (is_trans_drawn s t) then [] else if may_join s j client (s.fates t) then (from, msg.Joined t j) ∷ [] else (from, msg.JoinRefused t j) ∷ []
+abbrev pub on_register : State → TransId → JoinNo → ℕ → List Mail
+on_register s t j client =
+    if not (is_trans_drawn s t) then [] else if may_join s j client (s.fates t) then (j.server, msg.Joined t j) ∷ [] else (j.server, msg.JoinRefused t j) ∷ []
 
-abbrev pub unknown_join : State → ℕ → TransId → JoinNo → List Mail
-unknown_join s from t j = if is_join_drawn s j then (from, msg.No t j why.UnknownJoin) ∷ [] else []
+abbrev pub unknown_join : State → TransId → JoinNo → List Mail
+unknown_join s t j = if is_join_drawn s j then (t.server, msg.No t j why.UnknownJoin) ∷ [] else []
 
 -- a ready part says its vote again, an active one votes, one that still joins votes against, and one that is not here too
-abbrev pub on_ask : Bool → State → ℕ → TransId → JoinNo → Phase → List Mail
-on_ask failed s from t j (Ready u client ts) = if same_trans u t then (from, msg.Ready t j ts) ∷ [] else unknown_join s from t j
-on_ask failed s from t j (Active u client who) = if same_trans u t then (from, vote_on s t j client (why_not failed s client t)) ∷ [] else unknown_join s from t j
-on_ask failed s from t j (Joining u client who) = if same_trans u t then (from, msg.No t j why.Waiting) ∷ [] else unknown_join s from t j
-on_ask failed s from t j p = unknown_join s from t j
+abbrev pub on_ask : Bool → State → TransId → JoinNo → Phase → List Mail
+on_ask failed s t j (Ready u client ts) = if same_trans u t then (t.server, msg.Ready t j ts) ∷ [] else unknown_join s t j
+on_ask failed s t j (Active u client who) = if same_trans u t then (t.server, vote_on s t j client (why_not failed s client t)) ∷ [] else unknown_join s t j
+on_ask failed s t j (Joining u client who) = if same_trans u t then (t.server, msg.No t j why.Waiting) ∷ [] else unknown_join s t j
+on_ask failed s t j p = unknown_join s t j
 
 -- with the last vote the transaction is decided, or ends by this server's own; the parts are told
 abbrev pub has_all_votes : JoinNo → ℕ → List JoinNo → List Vote → Bool
@@ -162,33 +164,33 @@ on_no t j w (Finishing client js vs) = if has_join j js then to_each (λ k. msg.
 on_no t j w f = []
 
 -- what is applied is done, and so is what is not here any more
-abbrev pub on_commit : State → State → ℕ → TransId → JoinNo → List Mail
-on_commit s m from t j = if is_join_drawn s j && is_none (live_in (m.phases j)) then (from, msg.Done t j) ∷ [] else []
+abbrev pub on_commit : State → State → TransId → JoinNo → List Mail
+on_commit s m t j = if is_join_drawn s j && is_none (live_in (m.phases j)) then (t.server, msg.Done t j) ∷ [] else []
 
 abbrev pub lost_or : State → TransId → Cause → Cause
 lost_or s t c = if t.epoch == s.ids.epoch then c else cause.Lost s.ids.epoch
 
-abbrev pub commit_to : ℕ → TransId → JoinNo → Stamp → List JoinNo → List Mail
-commit_to from t j stamp js = if has_join j js then (from, msg.Commit t j stamp) ∷ [] else []
+abbrev pub commit_to : TransId → JoinNo → Stamp → List JoinNo → List Mail
+commit_to t j stamp js = if has_join j js then (j.server, msg.Commit t j stamp) ∷ [] else []
 
 -- how a transaction ended, where it did
-abbrev pub on_inquire : State → ℕ → TransId → JoinNo → Fate → List Mail
-on_inquire s from t j (Running client js) = []
-on_inquire s from t j (Finishing client js vs) = []
-on_inquire s from t j (Committed stamp [] ds) = if t.epoch == s.ids.epoch then [] else (from, msg.Abort t j (cause.Lost s.ids.epoch)) ∷ []
-on_inquire s from t j (Committed stamp (k ∷ js) ds) = commit_to from t j stamp (k ∷ js)
-on_inquire s from t j (Forgotten stamp js) = if t.epoch == s.ids.epoch then commit_to from t j stamp js else (from, msg.Abort t j (cause.Lost s.ids.epoch)) ∷ []
-on_inquire s from t j (Ended c) = (from, msg.Abort t j (lost_or s t c)) ∷ []
-on_inquire s from t j Undrawn = (from, msg.Abort t j (cause.Lost s.ids.epoch)) ∷ []
+abbrev pub on_inquire : State → TransId → JoinNo → Fate → List Mail
+on_inquire s t j (Running client js) = []
+on_inquire s t j (Finishing client js vs) = []
+on_inquire s t j (Committed stamp [] ds) = if t.epoch == s.ids.epoch then [] else (j.server, msg.Abort t j (cause.Lost s.ids.epoch)) ∷ []
+on_inquire s t j (Committed stamp (k ∷ js) ds) = commit_to t j stamp (k ∷ js)
+on_inquire s t j (Forgotten stamp js) = if t.epoch == s.ids.epoch then commit_to t j stamp js else (j.server, msg.Abort t j (cause.Lost s.ids.epoch)) ∷ []
+on_inquire s t j (Ended c) = (j.server, msg.Abort t j (lost_or s t c)) ∷ []
+on_inquire s t j Undrawn = (j.server, msg.Abort t j (cause.Lost s.ids.epoch)) ∷ []
 
-abbrev pub on_message : Bool → State → State → ℕ → Message → List Mail
-on_message failed s m from (msg.Register t j client) = on_register s from t j client
-on_message failed s m from (msg.Ask t j) = on_ask failed s from t j (s.phases j)
-on_message failed s m from (msg.Ready t j ts) = on_ready s m t j ts (why_not_own failed s t) (s.fates t)
-on_message failed s m from (msg.No t j w) = on_no t j w (s.fates t)
-on_message failed s m from (msg.Commit t j stamp) = on_commit s m from t j
-on_message failed s m from (msg.Inquire t j) = if is_trans_drawn s t then on_inquire s from t j (s.fates t) else []
-on_message failed s m from x = []
+abbrev pub on_message : Bool → State → State → Message → List Mail
+on_message failed s m (msg.Register t j client) = on_register s t j client
+on_message failed s m (msg.Ask t j) = on_ask failed s t j (s.phases j)
+on_message failed s m (msg.Ready t j ts) = on_ready s m t j ts (why_not_own failed s t) (s.fates t)
+on_message failed s m (msg.No t j w) = on_no t j w (s.fates t)
+on_message failed s m (msg.Commit t j stamp) = on_commit s m t j
+on_message failed s m (msg.Inquire t j) = if is_trans_drawn s t then on_inquire s t j (s.fates t) else []
+on_message failed s m x = []
 
 -- ---- a timeout, and a tick
 
@@ -253,7 +255,7 @@ TicksInOrder e x = Unit {0}
 
 abbrev pub due : Bool → State → State → Event → Option Reply → List Mail
 due failed s m (event.Call client epoch number c) (Some r) = if is_new s client epoch number then on_call s client c r else []
-due failed s m (event.Arrive from x) r = on_message failed s m from x
+due failed s m (event.Arrive from x) r = on_message failed s m x
 due failed s m (event.Timeout t) r = on_timeout t (s.fates t)
 due failed s m event.Tick r = on_tick s
 due failed s m e r = []

@@ -1,48 +1,61 @@
 -- commits and halts, as the server keeps them
-use Rattle.std.specs.Prelude.{cond, Bool, true, false, ◌==◌, max, nat_lt, filter, Option, None, Some}
+use Rattle.std.specs.Prelude.{cond, Bool, true, false, ◌==◌, ◌&&◌, max, nat_lt, filter, flat_map, Option, None, Some}
 use Rattle.std.specs.List.{list_all}
 use Rattle.std.specs.FinMap as map
-use Rattle.std.proofs.Common.{◌⊎◌, ◌≡◌, ℕ, ◌+◌, ◌-◌, ◌*◌, ◌^◌, ◌<◌, ◌≤◌, List, [], ◌∷◌, ◌++◌, length, length-append, refl, sym, ◌∙◌, ap, subst, arith, eq-eqb}
+use Rattle.std.proofs.Common.{◌⊎◌, ◌≡◌, ℕ, ◌+◌, ◌-◌, ◌*◌, ◌^◌, ◌<◌, ◌≤◌, List, [], ◌∷◌, ◌++◌, length, length-append, append-nil, refl, sym, ◌∙◌, ap, subst, arith, eq-eqb}
 use Rattle.std.proofs.lemmas.Bool.{ne_eqb, ltb-true}
 use Rattle.alp_base.specs.declared.ids.Stamp.{Stamp}
 use Rattle.alp_base.specs.declared.ids.TransId.{TransId}
 use Rattle.alp_base.specs.declared.key.Key.TheVariants.{Leader}
-use Rattle.alp_fields.specs.ClockNote.{clock_kept}
+use Rattle.alp_base.specs.Notes.{Notes}
+use Rattle.alp_fields.specs.ClockNote.{clock_name, clock_form}
 use Rattle.alp_files.specs.Cells.{Cells, View}
 use Rattle.alp_files.specs.Edits.{Edit, Drop, Cut, Put, edits_at, edits_map, after, over}
 use Rattle.alp_files.proofs.HistoryLemmas.{get-edits_map, same_cells}
 use Rattle.alp_files.specs.History.{Decided}
 use Rattle.alp_files.specs.declared.call.Call.{Call}
 use Rattle.alp_files.specs.declared.call.Call.TheVariants as call
+use Rattle.alp_files.specs.declared.reply.Reply.{Reply}
 use Rattle.alp_files.specs.declared.reply.Reply.TheVariants as reply
 use Rattle.alp_files.specs.declared.refusal.Refusal.TheVariants as refusal
 use Rattle.alp_files.specs.declared.refusal.Why.{Why}
 use Rattle.alp_files.specs.declared.refusal.Why.TheVariants as why
 use Rattle.alp_vault.specs.Contents.{Contents}
+use Rattle.alp_vault.specs.declared.vault.Vault.{Ghosts}
 use Rattle.alp_journal.specs.declared.act.Act.{Act}
 use Rattle.alp_journal.specs.declared.act.Act.TheVariants as act
 use Rattle.alp_journal.specs.declared.event.Event.TheVariants as event
 use Rattle.alp_journal.specs.declared.entry.Entry.{Entry}
-use Rattle.alp_journal.specs.Deeds.{Deed}
-use Rattle.alp_journal.specs.Moves.{tried}
+use Rattle.alp_journal.specs.Along.{state_after}
+use Rattle.alp_journal.specs.Deeds.{Deed, Finishes, Decides, Releases}
+use Rattle.alp_journal.specs.Holder.{Holder, Life, commits, holder_after}
+use Rattle.alp_journal.specs.Moves.{tried, act_deeds, finishes, ends_by}
 use Rattle.alp_journal.specs.Coordinator.{Fate, Undrawn, Running}
 use Rattle.alp_journal.specs.Coordinator as fate
 use Rattle.alp_journal.specs.Counts.{Intents, intent, intents_from, no_intents, changed, is_put, without_key}
 use Rattle.alp_journal.specs.Desk.{file_trans}
 use Rattle.alp_journal.specs.Messages.{why_not_own, first_why, full_or, no_room, clock_end, part_cells}
-use Rattle.alp_journal.specs.Alone.{Alone, alone, AreEarlier}
+use Rattle.alp_journal.specs.Answers.{at_part, part_refusal}
+use Rattle.alp_journal.specs.Alone.{Alone, alone, AreEarlier, IsPaired}
 use Rattle.alp_journal.proofs.StampLemmas.{put-last, AreEarlier-push}
-use Rattle.alp_journal.proofs.AloneLemmas.{call_entry}
+use Rattle.alp_journal.proofs.AloneLemmas.{call_entry, call_tried}
 use Rattle.alp_journal.proofs.AloneEnds.{with_commit, commit_leads, with_halt, commit_halt_leads, file_halt_leads}
+use Rattle.alp_node.specs.Dead.{is_dead}
+use Rattle.alp_node.specs.Durable.{clock_notes, stored_by, said_by, MightBring, Leaves, Besides, IsWritten}
 use Rattle.alp_node.specs.ServerState.{IsAs}
-use Rattle.alp_node.specs.Steps.{Stepped, IsTurn, counted_in, without_trans, seen_in}
+use Rattle.alp_node.specs.Standings.{standing_of}
+use Rattle.alp_node.specs.Steps.{Stepped, IsTurn, counted_in, without_trans, seen_in, entry_of}
 use Rattle.alp_node.specs.declared.answer.Answer.{Answer}
 use Rattle.alp_node.specs.declared.lives.Live.{Live}
 use Rattle.alp_node.specs.declared.server_state.ServerState.{ServerState}
+use Rattle.alp_node.specs.declared.served.Standing.TheVariants as standing
 use Rattle.alp_node.specs.declared.sessions.Turn.{Turn}
 use Rattle.alp_node.proofs.FinishLemmas.{gone_alike, gone_unborn, still_undrawn, turn_session, turn_next, drawn_live}
 use Rattle.alp_node.proofs.KeptLemmas.{sessions_as, IsSession, stands_timely, IsLive, live_there, over_empty, stepped_so}
 use Rattle.alp_node.proofs.MapLemmas.{places_set}
+use Rattle.alp_node.proofs.NoteLemmas.{put_again}
+use Rattle.alp_node.proofs.SeatLemmas.{leaves_as}
+use Rattle.alp_node.proofs.StandingLemmas.{part_of, part_is}
 
 -- ---- how many cells a part changes
 
@@ -102,6 +115,66 @@ module _ {V : Type 0} (a : Alone) (held : Contents) (k : ServerState V) (t : Tra
 
 -- ---- a commit
 
+-- a later clock takes the place of the one that was kept
+put_more : {V : Type 0} (a : Alone) (held : Contents) (k : ServerState V) (clock : ℕ) → IsAs a held k → k.is_down ≡ false
+    → map.insert held.notes clock_name (clock_form.spell (record { epoch = k.epoch; clock = clock })) ≡ clock_notes (record { epoch = k.epoch; clock = clock })
+put_more a held k clock h up =
+    ap (λ (n : Notes). map.insert n clock_name (clock_form.spell (record { epoch = k.epoch; clock = clock }))) (h.notes up)
+    ∙ put_again (record { epoch = a.ids.epoch; clock = a.holder.kept }) (record { epoch = k.epoch; clock = clock })
+
+module _ {V : Type 0} (a : Alone) (held : Contents) (k : ServerState V) (turn : Turn) (t : TransId) (l : Live) where
+  module _ (h : IsAs a held k) (is : IsTurn k.sessions turn) (up : k.is_down ≡ false) (live : map.get k.lives t ≡ Some l) (own : l.client ≡ turn.client) (r : Reply) (none : ends_by t turn.client r ≡ []) where
+    abbrev finish_entry : List Act → Entry
+    finish_entry acts = call_entry a turn.client turn.number (IsSession.told (turn_session a held k turn h is)) (call.Finish t true) r acts
+
+    -- what the entry tries
+    write_tried : (stamp : Stamp) (acts : List Act) (ds : List Deed) → flat_map (act_deeds (alone a) (event.Call turn.client a.ids.epoch turn.number (call.Finish t true))) acts ≡ Decides stamp [] ∷ ds
+        → tried (alone a) (finish_entry acts) ≡ Finishes t ∷ Decides stamp [] ∷ ds
+    write_tried stamp acts ds brings =
+        let y : IsLive k.locks.held (a.locked t) t l (a.holder.lives t) = live_there k.locks.held (a.locked t) t (map.get k.lives t) (a.holder.lives t) l live (h.lives t) in
+        let pair : IsPaired (Some y.life) (a.fates t) = subst (λ (x : Option Life). IsPaired x (a.fates t)) y.is (h.quiet.paired t) in
+        let runs : a.fates t ≡ Running turn.client [] = pair.0 ∙ ap (λ (n : ℕ). Running n []) (y.alike.client ∙ own) in
+        call_tried a turn.client turn.number (IsSession.told (turn_session a held k turn h is)) (call.Finish t true) r acts (IsSession.is (turn_session a held k turn h is)) (turn_next a held k turn h is)
+        ∙ ap (λ (ws : List Deed). finishes (alone a).desk turn.client t true r (a.fates t) ++ ws ++ []) brings
+        ∙ ap (λ (f : Fate). finishes (alone a).desk turn.client t true r f ++ (Decides stamp [] ∷ ds) ++ []) runs
+        ∙ ap (λ (b : Bool). cond {A = List Deed} (b && true) (Finishes t ∷ ends_by t turn.client r) [] ++ (Decides stamp [] ∷ ds) ++ []) (eq-eqb turn.client turn.client refl)
+        ∙ ap (λ (ws : List Deed). (Finishes t ∷ ws) ++ (Decides stamp [] ∷ ds) ++ []) none
+        ∙ ap (λ (ws : List Deed). Finishes t ∷ Decides stamp [] ∷ ws) (append-nil ds)
+
+    -- the one write of a commit is what the journal says of it
+    pub write_said : (acts : List Act) (ds : List Deed) (c : Contents)
+        → flat_map (act_deeds (alone a) (event.Call turn.client a.ids.epoch turn.number (call.Finish t true))) acts ≡ Decides (record { ts = k.clock + 1; trans = t }) [] ∷ ds
+        → ((o : Holder) → stored_by a.ids.epoch (state_after holder_after o ds) ≡ stored_by a.ids.epoch o)
+        → IsWritten l.part.intents (record { epoch = k.epoch; clock = k.clock + 1 }) held c
+        → c ≡ said_by (alone a) (finish_entry acts)
+    write_said acts ds c brings idle w =
+        let y : IsLive k.locks.held (a.locked t) t l (a.holder.lives t) = live_there k.locks.held (a.locked t) t (map.get k.lives t) (a.holder.lives t) l live (h.lives t) in
+        let es : List Edit = y.life.edits in
+        let stamp : Stamp = record { ts = k.clock + 1; trans = t } in
+        let clock : max a.holder.clock (k.clock + 1) ≡ k.clock + 1 = omega (arith, h.clock) in
+        let cells : c.cells ≡ edits_map es a.holder.cells =
+        same_cells c.cells (edits_map es a.holder.cells)
+        (w.cells ∙ (λ i q. y.alike.intents (map.get held.cells) i q) ∙ ap (after es) (over_empty (map.get held.cells)) ∙ ap (λ (m : Cells). after es (map.get m)) (h.cells up) ∙ sym (get-edits_map es a.holder.cells)) in
+        let notes : c.notes ≡ clock_notes (record { epoch = a.ids.epoch; clock = max a.holder.clock (k.clock + 1) }) =
+        w.notes ∙ put_more a held k (k.clock + 1) h up ∙ (λ i. clock_notes (record { epoch = sym h.epoch i; clock = sym clock i })) in
+        let made : c ≡ stored_by a.ids.epoch (commits a.holder stamp (Some y.life)) = (λ i. record { cells = cells i; notes = notes i }) in
+        made ∙ ap (λ (x : Option Life). stored_by a.ids.epoch (commits a.holder stamp x)) (sym y.is) ∙ sym (idle (commits a.holder stamp (a.holder.lives t)))
+        ∙ ap (λ (ws : List Deed). stored_by a.ids.epoch (state_after holder_after a.holder ws)) (sym (write_tried stamp acts ds brings))
+
+    -- so a crash leaves no more of it
+    pub write_leaves : (G : Ghosts V) (v : V) (x : Answer) (acts : List Act) (ds : List Deed) → G.held k.vault ≡ held → x ≡ record { kept = Some r; handed = Some r; acts = acts }
+        → flat_map (act_deeds (alone a) (event.Call turn.client a.ids.epoch turn.number (call.Finish t true))) acts ≡ Decides (record { ts = k.clock + 1; trans = t }) [] ∷ ds
+        → ((o : Holder) → stored_by a.ids.epoch (state_after holder_after o ds) ≡ stored_by a.ids.epoch o)
+        → Leaves G k.vault v (Besides G k.vault (IsWritten l.part.intents (record { epoch = k.epoch; clock = k.clock + 1 }) (G.held k.vault)))
+        → Leaves G k.vault v (Besides G k.vault (λ c. c ≡ said_by (alone a) (entry_of (event.Call turn.client k.epoch turn.number (call.Finish t true)) x)))
+    write_leaves G v x acts ds same so brings idle leaves =
+        leaves_as G k.vault v (IsWritten l.part.intents (record { epoch = k.epoch; clock = k.clock + 1 }) (G.held k.vault))
+        (λ c. c ≡ said_by (alone a) (entry_of (event.Call turn.client k.epoch turn.number (call.Finish t true)) x))
+        (λ c w. write_said acts ds c brings idle (subst (λ (b : Contents). IsWritten l.part.intents (record { epoch = k.epoch; clock = k.clock + 1 }) b c) same w)
+        ∙ ap (λ (n : ℕ). said_by (alone a) (record { event = event.Call turn.client n turn.number (call.Finish t true); reply = Some r; acts = acts })) h.epoch
+        ∙ ap (λ (z : Answer). said_by (alone a) (entry_of (event.Call turn.client k.epoch turn.number (call.Finish t true)) z)) (sym so))
+        leaves
+
 module _ {V : Type 0} (a : Alone) (before now : ℕ) (held then : Contents) (k : ServerState V) (turn : Turn) (t : TransId) (l : Live) (v : V) where
   abbrev pub stamp_at : Stamp
   stamp_at = record { ts = k.clock + 1; trans = t }
@@ -110,7 +183,7 @@ module _ {V : Type 0} (a : Alone) (before now : ℕ) (held then : Contents) (k :
   committed_kept = record (without_trans k t) { sessions = counted_in k.sessions turn; clock = k.clock + 1; committed = k.committed + 1; vault = v }
 
   pub commit_stepped : (x : Answer) → IsAs a held k → IsTurn k.sessions turn → k.is_down ≡ false → k.locks.waiting ≡ [] → k.clock < 2 ^ 62 → t.server ≡ k.server → map.get k.lives t ≡ Some l → l.client ≡ turn.client
-      → 4 * l.bounds.puts + 28 ≤ k.sizes.area → map.get then.cells ≡ over l.part.intents (map.get held.cells) → clock_kept then.notes ≡ record { epoch = k.epoch; clock = k.clock + 1 }
+      → 4 * l.bounds.puts + 28 ≤ k.sizes.area → map.get then.cells ≡ over l.part.intents (map.get held.cells) → then.notes ≡ map.insert held.notes clock_name (clock_form.spell (record { epoch = k.epoch; clock = k.clock + 1 }))
       → x ≡ record { kept = Some (reply.Committed stamp_at); handed = Some (reply.Committed stamp_at); acts = act.Decided stamp_at [] ∷ act.Released t ∷ [] }
       → Stepped a before now then committed_kept (event.Call turn.client k.epoch turn.number (call.Finish t true)) x
   commit_stepped x h is up alone early here live own room cells notes so =
@@ -136,7 +209,7 @@ module _ {V : Type 0} (a : Alone) (before now : ℕ) (held then : Contents) (k :
         epoch = h.epoch;
         clock = clock;
         cells = λ _. same;
-        notes = λ _. notes ∙ (λ i. record { epoch = sym h.epoch i; clock = sym clock i });
+        notes = λ _. notes ∙ put_more a held k (k.clock + 1) h up ∙ (λ i. clock_notes (record { epoch = sym h.epoch i; clock = sym clock i }));
         places = places_set k.sessions turn.client (record turn.session { last = turn.number }) h.places;
         sessions = sessions_as a.sessions k.sessions turn.client (record s.told { last = turn.number; reply = reply.Committed stamp }) (record turn.session { last = turn.number }) h.sessions h.places is.client s.who refl;
         dead = h.dead;
@@ -157,6 +230,23 @@ module _ {V : Type 0} (a : Alone) (before now : ℕ) (held then : Contents) (k :
         down = sym up;
       })
       (λ e. cc) (omega (arith, h.clock))
+
+  -- what the one write of it would leave is what its answer would bring about
+  pub commit_might : IsAs a held k → IsTurn k.sessions turn → k.is_down ≡ false → k.locks.waiting ≡ [] → k.clock < 2 ^ 62 → t.server ≡ k.server → map.get k.lives t ≡ Some l → l.client ≡ turn.client
+      → 4 * l.bounds.puts + 28 ≤ k.sizes.area → IsWritten l.part.intents (record { epoch = k.epoch; clock = k.clock + 1 }) held then
+      → MightBring (alone a) (event.Call turn.client k.epoch turn.number (call.Finish t true)) then
+  commit_might h is up idle early here live own room w =
+      let acts : List Act = act.Decided stamp_at [] ∷ act.Released t ∷ [] in
+      let x : Answer = record { kept = Some (reply.Committed stamp_at); handed = Some (reply.Committed stamp_at); acts = acts } in
+      let s = commit_stepped x h is up idle early here live own room w.cells w.notes refl in
+      record {
+        entry = entry_of (event.Call turn.client k.epoch turn.number (call.Finish t true)) x;
+        event = refl;
+        lawful = s.leads.lawful;
+        answered = (s.failed, s.leads.answered);
+        said = write_said a held k turn t l h is up live own (reply.Committed stamp_at) refl acts (Releases t ∷ []) then refl (λ o. refl) w
+            ∙ ap (λ (n : ℕ). said_by (alone a) (record { event = event.Call turn.client n turn.number (call.Finish t true); reply = Some (reply.Committed stamp_at); acts = acts })) h.epoch;
+      }
 
 -- ---- the vault was stopped or failed
 
@@ -188,19 +278,22 @@ halted_as a m held then k v ds is h =
       down = refl;
     })
 
+-- a read is stopped, in a call of a part at work
+module _ {V : Type 0} (a : Alone) (before now : ℕ) (held then : Contents) (k : ServerState V) (turn : Turn) (t : TransId) (v : V) where
+  pub file_halt_stepped : (c : Call) (x : Answer) → IsAs a held k → IsTurn k.sessions turn → k.is_down ≡ false → file_trans c ≡ Some t → standing_of turn.client (map.get k.lives t) (is_dead turn.client t k.dead) ≡ standing.Own
+      → x ≡ record { kept = Some (reply.Refused refusal.Down); handed = Some (reply.Refused refusal.Down); acts = act.Stopped ∷ [] }
+      → Stepped a before now then (record k { is_down = true; vault = v }) (event.Call turn.client k.epoch turn.number c) x
+  file_halt_stepped c x h is up named own so =
+      let s : IsSession turn.session (a.sessions turn.client) = turn_session a held k turn h is in
+      let e : Entry = call_entry a turn.client turn.number s.told c (reply.Refused refusal.Down) (act.Stopped ∷ []) in
+      let works : part_refusal (alone a) turn.client t ≡ None = ap (at_part false) (part_is a held k turn.client t h ∙ ap part_of own) in
+      stepped_so a before now held then k (record k { is_down = true; vault = v }) turn.client turn.number s.told c false (reply.Refused refusal.Down) (act.Stopped ∷ []) (with_halt a turn.client turn.number s.told e) x so h
+      (file_halt_leads a turn.client turn.number s.told t c h.quiet (h.down ∙ up) s.is (turn_next a held k turn h is) named works)
+      (halted_as a (with_halt a turn.client turn.number s.told e) held then k v (tried (alone a) e) refl h) (λ w. cc) (stands_timely a.holder.clock (seen_in (event.Call turn.client k.epoch turn.number c)) k.clock h.clock)
+
 module _ {V : Type 0} (a : Alone) (before now : ℕ) (held then : Contents) (k : ServerState V) (turn : Turn) (t : TransId) (v : V) (z : Act) where
   abbrev pub IsStopAct : Type 0
   IsStopAct = (z ≡ act.Stopped) ⊎ (z ≡ act.Failed)
-
-  pub file_halt_stepped : (c : Call) (x : Answer) → IsStopAct → IsAs a held k → IsTurn k.sessions turn → k.is_down ≡ false → file_trans c ≡ Some t
-      → x ≡ record { kept = Some (reply.Refused refusal.Down); handed = Some (reply.Refused refusal.Down); acts = z ∷ [] }
-      → Stepped a before now then (record k { is_down = true; vault = v }) (event.Call turn.client k.epoch turn.number c) x
-  file_halt_stepped c x stop h is up named so =
-      let s : IsSession turn.session (a.sessions turn.client) = turn_session a held k turn h is in
-      let e : Entry = call_entry a turn.client turn.number s.told c (reply.Refused refusal.Down) (z ∷ []) in
-      stepped_so a before now held then k (record k { is_down = true; vault = v }) turn.client turn.number s.told c false (reply.Refused refusal.Down) (z ∷ []) (with_halt a turn.client turn.number s.told e) x so h
-      (file_halt_leads a turn.client turn.number s.told t c z stop h.quiet (h.down ∙ up) s.is (turn_next a held k turn h is) named)
-      (halted_as a (with_halt a turn.client turn.number s.told e) held then k v (tried (alone a) e) refl h) (λ w. cc) (stands_timely a.holder.clock (seen_in (event.Call turn.client k.epoch turn.number c)) k.clock h.clock)
 
   pub commit_halt_stepped : (l : Live) (x : Answer) → IsStopAct → IsAs a held k → IsTurn k.sessions turn → k.is_down ≡ false → k.clock < 2 ^ 62 → t.server ≡ k.server → map.get k.lives t ≡ Some l → l.client ≡ turn.client
       → 4 * l.bounds.puts + 28 ≤ k.sizes.area

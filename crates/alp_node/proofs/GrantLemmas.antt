@@ -256,6 +256,7 @@ pub granted_ready : {V : Type 0} (m : ℕ) (serves : Bool) (k : ServerState V) (
     → ((n : ℕ) → count < n → held_by w.needs (numbered k n) ≡ None) → IsReady m serves k → IsReady m serves (record k { given = count; locks = with_plan k.locks w })
 granted_ready m serves k w count more low prepared free others h = record {
   serving = h.serving;
+  halted = h.halted;
   sound = grant-sound k.locks w prepared h.sound free (ap (λ (ws : List Waiter). waits ws w.trans) h.alone);
   alone = granted-waiting k.locks w.trans w.rises w.after ∙ h.alone;
   known = λ u l is. granted-knows k.locks w.trans w.rises w.after u (h.known u l is);

@@ -2,7 +2,7 @@
 use Rattle.std.specs.Prelude.{cond, Bool, true, false, IsTrue, is_some, Option, Some, Result, Ok, Err}
 use Rattle.std.specs.Result.{IsErr}
 use Rattle.std.specs.FinMap as map
-use Rattle.std.proofs.Common.{inl, ◌≡◌, ℕ, ◌+◌, ◌≤◌, List, [], ◌∷◌, refl, sym, ◌∙◌, ap, subst, arith, le_refl}
+use Rattle.std.proofs.Common.{◌≡◌, ℕ, ◌+◌, ◌≤◌, List, [], ◌∷◌, refl, sym, ◌∙◌, ap, subst, arith, le_refl}
 use Rattle.alp_base.specs.Causes.{Rose}
 use Rattle.alp_base.specs.declared.allowance.Allowance.TheVariants.{Spent}
 use Rattle.alp_base.specs.declared.ids.FileId.{FileId}
@@ -47,7 +47,7 @@ use Rattle.alp_node.proofs.GivenLemmas.{reply_given, wanting}
 use Rattle.alp_node.proofs.KeptLemmas.{IsLive, live_there, same_live}
 use Rattle.alp_node.proofs.MapLemmas.{put_length, put_there, get_put}
 use Rattle.alp_node.proofs.ReadyLemmas.{counted_ready, down_ready}
-use Rattle.alp_node.proofs.SeatLemmas.{spends_same}
+use Rattle.alp_node.proofs.SeatLemmas.{left_seated, left_noted, left_step}
 use Rattle.alp_node.proofs.ServedLemmas.{fault_stepped}
 use Rattle.alp_node.proofs.StandingLemmas.{own_standing}
 
@@ -71,9 +71,10 @@ module _ {V : Type 0} (n : ℕ) (before serves : Bool) (k : ServerState V) (t : 
   part_kept = record k { lives = map.insert k.lives t (record l { part = p; bounds = b }); vault = v }
 
   -- a part that is another now
-  pub part_ready : (m : ℕ) → IsTrue serves → map.get k.lives t ≡ Some l → p.last ≤ m → n ≤ m → IsReady n before k → IsReady m serves part_kept
-  part_ready m on there low le h = record {
+  pub part_ready : (m : ℕ) → IsTrue serves → k.is_down ≡ false → map.get k.lives t ≡ Some l → p.last ≤ m → n ≤ m → IsReady n before k → IsReady m serves part_kept
+  part_ready m on up there low le h = record {
     serving = λ _. on;
+    halted = λ down. (let wrong : false ≡ true = sym up ∙ down in cc);
     sound = h.sound;
     alone = h.alone;
     known = λ u x is. known_so u (same_trans u t) refl x (sym (get_put k.lives t (record l { part = p; bounds = b }) u) ∙ is);
@@ -109,18 +110,19 @@ module _ {V : Type 0} (G : Ghosts V) (k N : ServerState V) (t : TransId) (l : Li
   -- a part that only looked
   module _ (p : Part) (b : Bounds) (kept : N ≡ record k { lives = map.insert k.lives t (record l { part = p; bounds = b }); vault = N.vault }) (same : IsAsBefore l.part p)
       (more : (rs : List Resource) (es : List Edit) → IsWithin l.bounds rs es → IsWithin b rs es) where
-    looked_ready : (n : ℕ) (on : Bool) → IsTrue on → IsReady n (G.serves k.vault) k → IsReady n on (part_kept n (G.serves k.vault) on k t l p b N.vault)
-    looked_ready n on serving h =
+    looked_ready : (n : ℕ) (on : Bool) → IsTrue on → k.is_down ≡ false → IsReady n (G.serves k.vault) k → IsReady n on (part_kept n (G.serves k.vault) on k t l p b N.vault)
+    looked_ready n on serving up h =
         let last = ap (λ (w : Own). w.last) same.1 in
         let low : p.last ≤ n = (let was : l.part.last ≤ n = h.opens t l there in omega (arith, last)) in
-        part_ready n (G.serves k.vault) on k t l p b N.vault n serving there low (le_refl n) h
+        part_ready n (G.serves k.vault) on k t l p b N.vault n serving up there low (le_refl n) h
 
     -- leaves the server as it was
-    pub looked_still : IsLeft G k.vault N.vault → IsTrue (G.serves N.vault) → IsStill G.serves G.held k N
-    looked_still left on = record {
+    pub looked_still : IsLeft G k.vault N.vault → IsTrue (G.serves N.vault) → G.faults N.vault ≡ G.faults k.vault → k.is_down ≡ false → IsStill G k N
+    looked_still left on faults down = record {
       kept = λ a h. subst (λ (x : ServerState V). IsAs a (G.held N.vault) x) (sym kept) (part_still a (G.held k.vault) k t l p b N.vault (G.held N.vault) h left.contents there same more);
-      ready = λ n h. subst (λ (x : ServerState V). IsReady n (G.serves N.vault) x) (sym kept) (looked_ready n (G.serves N.vault) on h);
+      ready = λ n h. subst (λ (x : ServerState V). IsReady n (G.serves N.vault) x) (sym kept) (looked_ready n (G.serves N.vault) on down h);
       up = ap (λ (x : ServerState V). x.is_down) kept;
+      vault = record { held = left.contents; faults = faults; allowance = left.allowed };
     }
 
   -- ---- no answer
@@ -142,33 +144,28 @@ module _ {V : Type 0} (G : Ghosts V) (k N : ServerState V) (t : TransId) (l : Li
     look_ready n on serving h =
         let last = ap (λ (w : Own). w.last) same.1 in
         let low : p.last ≤ n = (let was : l.part.last ≤ n = h.opens t l there in omega (arith, last)) in
-        part_ready n (G.serves k.vault) on k t l p l.bounds N.vault n serving there low (le_refl n) h
+        part_ready n (G.serves k.vault) on k t l p l.bounds N.vault n serving up there low (le_refl n) h
 
     -- a read failed: the call is refused, and the server goes on
     failed_step : l.client ≡ turn.client → IsTrue (G.serves N.vault) → Rose (G.faults k.vault) (G.faults N.vault)
         → IsStep G k (record (after_look p) { sessions = counted_in k.sessions turn }) (event.Call turn.client k.epoch turn.number c) (Ok (refused_answer refusal.ReadFault []))
-    failed_step own on rose = record {
-      stepped = λ told a h. (
-          let y : IsLive k.locks.held (a.locked t) t l (a.holder.lives t) = live_there k.locks.held (a.locked t) t (map.get k.lives t) (a.holder.lives t) l there (h.lives t) in
-          fault_stepped a (G.faults k.vault) (G.faults N.vault) (G.held N.vault) (after_look p) turn t c y.life (refused_answer refusal.ReadFault []) (look_as a h) is up rose named (look_own own) y.is refl);
-      given = reply_given (G.faults k.vault) (G.faults N.vault) (G.allowance N.vault) k.is_down (reply.Refused refusal.ReadFault) [] (refused_answer refusal.ReadFault []) refl up tt;
-      ready = λ n h. counted_ready n (G.serves N.vault) (after_look p) turn is (look_ready n (G.serves N.vault) on h);
-      still = tt;
-      seat = record { server = refl; epoch = refl; spends = spends_same (G.allowance k.vault) (G.allowance N.vault) left.allowed };
-      telling = left.same.telling;
-    }
+    failed_step own on rose =
+        left_step G k (record (after_look p) { sessions = counted_in k.sessions turn }) refl refl left (event.Call turn.client k.epoch turn.number c) (refused_answer refusal.ReadFault []) up
+        (λ told a h. (
+        let y : IsLive k.locks.held (a.locked t) t l (a.holder.lives t) = live_there k.locks.held (a.locked t) t (map.get k.lives t) (a.holder.lives t) l there (h.lives t) in
+        fault_stepped a (G.faults k.vault) (G.faults N.vault) (G.held N.vault) (after_look p) turn t c y.life (refused_answer refusal.ReadFault []) (look_as a h) is up rose named (look_own own) y.is refl))
+        (reply_given (G.faults k.vault) (G.faults N.vault) (G.allowance N.vault) k.is_down (reply.Refused refusal.ReadFault) [] (refused_answer refusal.ReadFault []) refl (λ e. cc) up tt)
+        (λ n h. counted_ready n (G.serves N.vault) (after_look p) turn is (look_ready n (G.serves N.vault) on h))
 
     -- the vault was stopped: the server is down
-    stopped_step : G.allowance N.vault ≡ Spent → IsStep G k (record (after_look p) { is_down = true }) (event.Call turn.client k.epoch turn.number c) (Ok (refused_answer refusal.Down (act.Stopped ∷ [])))
-    stopped_step spent = record {
-      stepped = λ told a h.
-          file_halt_stepped a (G.faults k.vault) (G.faults N.vault) (G.held N.vault) (G.held N.vault) (after_look p) turn t N.vault act.Stopped c (refused_answer refusal.Down (act.Stopped ∷ [])) (inl refl) (look_as a h) is up named refl;
-      given = reply_given (G.faults k.vault) (G.faults N.vault) (G.allowance N.vault) true (reply.Refused refusal.Down) (act.Stopped ∷ []) (refused_answer refusal.Down (act.Stopped ∷ [])) refl refl (spent, tt);
-      ready = λ n h. down_ready n true (G.serves N.vault) (after_look p) N.vault (look_ready n true refl h);
-      still = tt;
-      seat = record { server = refl; epoch = refl; spends = spends_same (G.allowance k.vault) (G.allowance N.vault) left.allowed };
-      telling = left.same.telling;
-    }
+    stopped_step : l.client ≡ turn.client → G.serves N.vault ≡ false → G.allowance N.vault ≡ Spent
+        → IsStep G k (record (after_look p) { is_down = true }) (event.Call turn.client k.epoch turn.number c) (Ok (refused_answer refusal.Down (act.Stopped ∷ [])))
+    stopped_step own off spent =
+        left_step G k (record (after_look p) { is_down = true }) refl refl left (event.Call turn.client k.epoch turn.number c) (refused_answer refusal.Down (act.Stopped ∷ [])) up
+        (λ told a h. file_halt_stepped a (G.faults k.vault) (G.faults N.vault) (G.held N.vault) (G.held N.vault) (after_look p) turn t N.vault c (refused_answer refusal.Down (act.Stopped ∷ [])) (look_as a h) is up named (look_own own)
+        refl)
+        (reply_given (G.faults k.vault) (G.faults N.vault) (G.allowance N.vault) true (reply.Refused refusal.Down) (act.Stopped ∷ []) (refused_answer refusal.Down (act.Stopped ∷ [])) refl (λ e. cc) refl (spent, tt))
+        (λ n h. down_ready n true (G.serves N.vault) (after_look p) N.vault off (look_ready n true refl h))
 
   -- whatever the fault was
   pub without_step : (new : ServerState V) (turn : Turn) (c : Call) (b : Bounds) (fault : CallFault) (r : Result Answer OutOfMemory) → Looks G k.vault N.vault (Some fault) → IsTurn k.sessions turn → k.is_down ≡ false → file_trans c ≡ Some t
@@ -186,9 +183,10 @@ module _ {V : Type 0} (G : Ghosts V) (k N : ServerState V) (t : TransId) (l : Li
       let is_new : new ≡ record (after_look did.part) { is_down = true } = x.kept ∙ ap (λ (y : ServerState V). record y { is_down = true }) did.kept in
       subst (λ (y : ServerState V). IsStep G k y (event.Call turn.client k.epoch turn.number c) r) (sym is_new)
       (subst (IsStep G k (record (after_look did.part) { is_down = true }) (event.Call turn.client k.epoch turn.number c)) (sym x.answer)
-      (stopped_step turn c did.part did.outcome looked.0 is up named looked.1))
+      (stopped_step turn c did.part did.outcome looked.0 is up named own looked.1 looked.2))
   without_step new turn c b call_fault.OutOfMemory r looked is up named own did failed stopped memory =
       let x = memory refl in
       subst (λ (y : ServerState V). IsStep G k y (event.Call turn.client k.epoch turn.number c) r) (sym x.0)
-      (wanting G k N (event.Call turn.client k.epoch turn.number c) r x.1 (looked_still did.part l.bounds did.kept did.outcome (λ rs es w. w) looked.0 looked.1)
-      (record { server = ap (λ (y : ServerState V). y.server) did.kept; epoch = ap (λ (y : ServerState V). y.epoch) did.kept; spends = spends_same (G.allowance k.vault) (G.allowance N.vault) looked.0.allowed }) looked.0.same.telling)
+      (wanting G k N (event.Call turn.client k.epoch turn.number c) r x.1 (looked_still did.part l.bounds did.kept did.outcome (λ rs es w. w) looked.0 looked.1 looked.2 up)
+      (left_noted G k N (ap (λ (y : ServerState V). y.server) did.kept) (ap (λ (y : ServerState V). y.epoch) did.kept) looked.0 up)
+      (left_seated G k N (ap (λ (y : ServerState V). y.server) did.kept) (ap (λ (y : ServerState V). y.epoch) did.kept) looked.0) looked.0)

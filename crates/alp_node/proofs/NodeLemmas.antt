@@ -1,7 +1,9 @@
 -- a server and its journal, one step more
-use Rattle.std.specs.Prelude.{IsTrue, false, Option, Some, Result, Ok, Err, IfOk}
+use Rattle.std.specs.Prelude.{cond, Bool, IsTrue, true, false, Option, Some, Result, Ok, Err, IfOk, OnErr, MatchResult}
 use Rattle.std.specs.FinMap as map
-use Rattle.std.proofs.Common.{◌≡◌, ℕ, ◌+◌, List, [], ◌∷◌, ◌++◌, length, length-append, refl, sym, ◌∙◌, ap, subst}
+use Rattle.std.proofs.lemmas.Option.{slice_get_within}
+use Rattle.std.proofs.Common.{◌≡◌, ◌<◌, ℕ, ◌+◌, List, [], ◌∷◌, ◌++◌, length, length-append, refl, sym, ◌∙◌, ap, subst, inl, inr, ⊎_elim, arith}
+use Rattle.alp_base.specs.Crashes.{Only, Either}
 use Rattle.alp_base.specs.declared.memory.OutOfMemory.{OutOfMemory}
 use Rattle.alp_files.specs.declared.reply.Reply.{Reply}
 use Rattle.alp_files.specs.Cells.{Cells}
@@ -13,21 +15,23 @@ use Rattle.alp_vault.specs.declared.vault.Vault.{Ghosts}
 use Rattle.alp_journal.specs.declared.entry.Entry.{Entry}
 use Rattle.alp_journal.specs.declared.event.Event.{Event}
 use Rattle.alp_journal.specs.declared.event.Event.TheVariants as event
-use Rattle.alp_journal.specs.Holder.{Life}
+use Rattle.alp_journal.specs.Deeds.{Deed}
+use Rattle.alp_journal.specs.Holder.{Life, holder_after}
 use Rattle.alp_journal.proofs.HeldLemmas.{Stands, opened_stands, journal_stands, live_sound}
 use Rattle.alp_journal.proofs.IdLemmas.{all-append}
 use Rattle.alp_journal.specs.Along.{state_after, Along}
 use Rattle.alp_journal.specs.Opening.{Start}
-use Rattle.alp_journal.specs.State.{State, opened}
-use Rattle.alp_journal.specs.Moves.{next}
+use Rattle.alp_journal.specs.State.{State, state_deed, opened}
+use Rattle.alp_journal.specs.Moves.{next, tried, told, halted, stops}
 use Rattle.alp_journal.specs.Laws.{IsLawful, IsLawfulEntry}
-use Rattle.alp_journal.specs.Answered.{IsAnswered, IsAnsweredSo, IsAnsweredEntry}
+use Rattle.alp_journal.specs.Answered.{IsAnswered, IsAnsweredSo, IsAnsweredEntry, FitsJournal}
 use Rattle.alp_journal.specs.Alone.{Alone, alone, IsPaired, IsOwnEvent, AreOwnEvents}
 use Rattle.alp_node.specs.declared.answer.Answer.{Answer}
 use Rattle.alp_node.specs.NodeStates.{NodeState}
 use Rattle.alp_node.specs.ServerState.{IsAs, IsReady}
-use Rattle.alp_node.specs.Nodes.{IsConsistent, IsRight, Answered, HasCause, state_of, start_by, start_in}
-use Rattle.alp_node.specs.Steps.{Stepped, IsEntered, entry_of}
+use Rattle.alp_node.specs.Durable.{IsDurable, IsSettled, IsKeptOrBrought, MightBring, Leaves, Besides, said_of, said_by, said_then, stored_by}
+use Rattle.alp_node.specs.Nodes.{IsConsistent, IsRight, Answered, HasCause, HasNoEntry, HasRoom, state_of, start_by, start_in}
+use Rattle.alp_node.specs.Steps.{Stepped, IsStep, IsEntered, entry_of}
 use Rattle.alp_node.specs.Served.{IsServed, AreLivesSound}
 use Rattle.alp_node.specs.declared.server_state.ServerState.{ServerState}
 use Rattle.alp_node.proofs.KeptLemmas.{IsLive, live_there, over_empty}
@@ -51,13 +55,18 @@ served_own k (event.Call client epoch number c) served = tt
 served_own k (event.Timeout t) served = tt
 served_own k e served = absurd served
 
+-- a journal that had room holds no entry too many
+fits-push : (es : List Entry) (e : Entry) → length es < 65536 → FitsJournal (es ++ e ∷ [])
+fits-push es e room i x at = inr (let within : i < length (es ++ e ∷ []) = slice_get_within (es ++ e ∷ []) i x at in let long = length-append es (e ∷ []) in omega (arith, within, long, room))
+
 -- one step more of a server that is right
-pub step_right : {V : Type 0} (o : Start) (held then : Contents) (old new : NodeState V) (before now : ℕ) (e : Event) (x : Answer) (h : IsRight o held old) → IsOwnEvent e → Stepped h.state before now then new.kept e x
+pub step_right : {V : Type 0} (o : Start) (held then : Contents) (old new : NodeState V) (before now : ℕ) (e : Event) (x : Answer) (h : IsRight o held old) → HasRoom old → IsOwnEvent e → Stepped h.state before now then new.kept e x
     → new.journal ≡ old.journal ++ (entry_of e x) ∷ [] → IsRight o then new
-step_right o held then old new before now e x h own s is = record {
+step_right o held then old new before now e x h room own s is = record {
   opening = h.opening;
   lawful = subst (IsLawful o) (sym is) (Along-push next IsLawfulEntry (opened o) old.journal (entry_of e x) h.lawful (subst (λ (z : State). IsLawfulEntry z (entry_of e x)) (sym h.says) s.leads.lawful));
-  caused = subst (IsAnswered o) (sym is) (Along-push next IsAnsweredSo (opened o) old.journal (entry_of e x) h.caused (s.failed, subst (λ (z : State). IsAnsweredEntry s.failed z (entry_of e x)) (sym h.says) s.leads.answered));
+  caused = subst (IsAnswered o) (sym is)
+      (Along-push next IsAnsweredSo (opened o) old.journal (entry_of e x) h.caused.0 (s.failed, subst (λ (z : State). IsAnsweredEntry s.failed z (entry_of e x)) (sym h.says) s.leads.answered), fits-push old.journal (entry_of e x) room);
   own = subst AreOwnEvents (sym is) (all-append (λ (y : Entry). IsOwnEvent y.event) old.journal (entry_of e x ∷ []) h.own (own, tt));
   state = s.next;
   says = ap (state_of o) is ∙ state_after-push next (opened o) old.journal (entry_of e x) ∙ ap (λ (z : State). next z (entry_of e x)) h.says ∙ s.leads.leaves;
@@ -95,38 +104,75 @@ right_sound G n held r up t l there m is =
 pub counted_pushed : (es fs : List Entry) (e : Entry) → fs ≡ es ++ e ∷ [] → length fs ≡ length es + 1
 counted_pushed es fs e is = ap length is ∙ length-append es (e ∷ [])
 
-module _ {V : Type 0} (G : Ghosts V) (old new : NodeState V) where
-  -- the start is the same
-  start_same : new.opening ≡ old.opening → new.kept.server ≡ old.kept.server → start_in G old ≡ start_in G new
-  start_same opening server = (λ i. start_by G (sym server i) (sym opening i).vault.value)
+-- ---- what its vault holds
 
-  pub step_kept : (e : Event) (x : Answer) → IsConsistent G old → IsOwnEvent e → new.opening ≡ old.opening → new.kept.server ≡ old.kept.server → G.tells new.kept.vault ≡ G.tells old.kept.vault
-      → ((n : ℕ) → IsReady n (G.serves old.kept.vault) old.kept → IsReady (n + 1) (G.serves new.kept.vault) new.kept)
-      → (IsTrue (G.tells old.kept.vault) → (a : Alone) → IsAs a (G.held old.kept.vault) old.kept → Stepped a (G.faults old.kept.vault) (G.faults new.kept.vault) (G.held new.kept.vault) new.kept e x)
-      → new.journal ≡ old.journal ++ (entry_of e x) ∷ [] → IsConsistent G new
-  step_kept e x h own opening server telling ready stepped is = record {
-    ready = subst (λ (n : ℕ). IsReady n (G.serves new.kept.vault) new.kept) (sym (counted_pushed old.journal new.journal (entry_of e x) is)) (ready (length old.journal) h.ready);
-    right = λ told. (
-        let before : IsTrue (G.tells old.kept.vault) = subst IsTrue telling told in
-        let r : IsRight (start_in G old) (G.held old.kept.vault) old = h.right before in
-        subst (λ (o : Start). IsRight o (G.held new.kept.vault) new) (start_same opening server)
-        (step_right (start_in G old) (G.held old.kept.vault) (G.held new.kept.vault) old new (G.faults old.kept.vault) (G.faults new.kept.vault) e x r own (stepped before r.state r.kept) is)
-        );
+-- the holder of a state reads each deed by itself
+holder_deeds : (s : State) (ds : List Deed) → (state_after state_deed s ds).holder ≡ state_after holder_after s.holder ds
+holder_deeds s [] = refl
+holder_deeds s (d ∷ ds) = holder_deeds (state_deed s d) ds
+
+-- what an entry tries is what it leaves, or what is pending then
+tried_said : (s : State) (e : Entry) → (next s e).ids.epoch ≡ s.ids.epoch → said_by s e ≡ said_then (next s e)
+tried_said s e epoch = go (stops e) epoch
+  where
+    go : (b : Bool) → (cond {A = State} b (halted s e) (told s e)).ids.epoch ≡ s.ids.epoch → said_by s e ≡ said_then (cond {A = State} b (halted s e) (told s e))
+    go true same = refl
+    go false same = (λ i. stored_by (sym same i) (sym (holder_deeds s (tried s e)) i))
+
+-- where it stops, the journal says what it said
+halt_said : (s : State) (e : Entry) → stops e ≡ true → said_of (next s e) ≡ said_of s
+halt_said s e stop = ap (λ (b : Bool). said_of (cond {A = State} b (halted s e) (told s e))) stop
+
+-- while it is up the vault holds what the journal says
+pub right_said : {V : Type 0} (o : Start) (held : Contents) (n : NodeState V) → IsRight o held n → n.kept.is_down ≡ false → held ≡ said_of (state_of o n.journal)
+right_said o held n r up =
+    let same : held ≡ said_of (alone r.state) = (λ i. record { cells = r.kept.cells up i; notes = r.kept.notes up i }) in
+    same ∙ ap said_of (sym r.says)
+
+-- and a crash leaves just that
+pub up_durable : {V : Type 0} (o : Start) (held : Contents) (n : NodeState V) (leaves : Contents → Type 0) → IsRight o held n → n.kept.is_down ≡ false → Only held leaves → IsDurable (state_of o n.journal) leaves
+up_durable o held n leaves r up only = record {
+  up = λ _ c here. only c here ∙ right_said o held n r up;
+  down = λ c here. inl (only c here ∙ right_said o held n r up);
+}
+
+module _ {V : Type 0} (G : Ghosts V) (o : Start) (old new : NodeState V) (e : Event) (x : Answer) (r : IsRight o (G.held old.kept.vault) old)
+    (s : Stepped r.state (G.faults old.kept.vault) (G.faults new.kept.vault) (G.held new.kept.vault) new.kept e x) (is : new.journal ≡ old.journal ++ entry_of e x ∷ []) (epoch : new.kept.epoch ≡ old.kept.epoch)
+    (up : old.kept.is_down ≡ false) (only : Only (G.held old.kept.vault) (G.may_leave old.kept.vault))
+    (leaves : Leaves G old.kept.vault new.kept.vault (Besides G old.kept.vault (λ c. c ≡ said_by (alone r.state) (entry_of e x)))) where
+  after_step : state_of o new.journal ≡ next (alone r.state) (entry_of e x)
+  after_step = ap (state_of o) is ∙ state_after-push next (opened o) old.journal (entry_of e x) ∙ ap (λ (z : State). next z (entry_of e x)) r.says
+
+  said_so : said_by (alone r.state) (entry_of e x) ≡ said_then (state_of o new.journal)
+  said_so = tried_said (alone r.state) (entry_of e x) (ap (λ (m : State). m.ids.epoch) s.leads.leaves ∙ s.kept.epoch ∙ epoch ∙ sym r.kept.epoch) ∙ ap said_then (sym after_step)
+
+  either_of : (c : Contents) → Besides G old.kept.vault (λ z. z ≡ said_by (alone r.state) (entry_of e x)) c → Either (G.held old.kept.vault) (said_then (state_of o new.journal)) c
+  either_of c (inl before) = inl (only c before)
+  either_of c (inr (inl same)) = inl same
+  either_of c (inr (inr said)) = inr (said ∙ said_so)
+
+  -- through the step a crash leaves what was held, or what its write makes of that
+  pub step_leaves : Leaves G old.kept.vault new.kept.vault (Either (G.held old.kept.vault) (said_then (state_of o new.journal)))
+  step_leaves = record {
+    crash = λ c here. either_of c (leaves.crash c here);
+    time = record { each = λ start c was. ⊎_elim (λ before. inl before) (λ now. inr (either_of c now)) (leaves.time.each start c was) };
   }
 
-  pub still_kept : IsConsistent G old → new.opening ≡ old.opening → new.kept.server ≡ old.kept.server → G.tells new.kept.vault ≡ G.tells old.kept.vault
-      → ((n : ℕ) → IsReady n (G.serves old.kept.vault) old.kept → IsReady n (G.serves new.kept.vault) new.kept)
-      → ((a : Alone) → IsAs a (G.held old.kept.vault) old.kept → IsAs a (G.held new.kept.vault) new.kept)
-      → new.journal ≡ old.journal → IsConsistent G new
-  still_kept h opening server telling ready still is = record {
-    ready = subst (λ (n : ℕ). IsReady n (G.serves new.kept.vault) new.kept) (sym (ap length is)) (ready (length old.journal) h.ready);
-    right = λ told. (
-        let before : IsTrue (G.tells old.kept.vault) = subst IsTrue telling told in
-        let r : IsRight (start_in G old) (G.held old.kept.vault) old = h.right before in
-        subst (λ (o : Start). IsRight o (G.held new.kept.vault) new) (start_same opening server)
-        (still_right (start_in G old) (G.held old.kept.vault) (G.held new.kept.vault) old new r (still r.state r.kept) is)
-        );
+  -- a server that went down in it
+  pub down_durable : new.kept.is_down ≡ true → stops (entry_of e x) ≡ true → IsDurable (state_of o new.journal) (G.may_leave new.kept.vault)
+  down_durable down stop = record {
+    up = λ on c here. (
+        let wrong : true ≡ false = sym down ∙ sym s.kept.down ∙ sym (ap (λ (m : State). m.is_down) (after_step ∙ s.leads.leaves)) ∙ on in
+        cc);
+    down = λ c here. go c (step_leaves.crash c here);
   }
+    where
+      same : G.held old.kept.vault ≡ said_of (state_of o new.journal)
+      same = right_said o (G.held old.kept.vault) old r up ∙ ap said_of r.says ∙ sym (halt_said (alone r.state) (entry_of e x) stop) ∙ ap said_of (sym after_step)
+
+      go : (c : Contents) → Either (G.held old.kept.vault) (said_then (state_of o new.journal)) c → Either (said_of (state_of o new.journal)) (said_then (state_of o new.journal)) c
+      go c (inl held) = inl (held ∙ same)
+      go c (inr then) = inr then
 
 -- ---- whatever a step came to
 
@@ -134,9 +180,103 @@ module _ {V : Type 0} (G : Ghosts V) (old : NodeState V) (kept : ServerState V) 
   abbrev pub node_then : NodeState V
   node_then = record old { kept = kept; journal = journal }
 
-  pub entered_kept : (r : Result (Option Reply) OutOfMemory) → IsConsistent G old → IsOwnEvent e → IsEntered G old.kept kept old.journal journal e r → IsConsistent G node_then
-  entered_kept (Ok y) h own (x, s, handed, is) = step_kept G old node_then e x h own refl s.seat.server s.telling s.ready s.stepped is
-  entered_kept (Err f) h own (s, is) = still_kept G old node_then h refl s.seat.server s.telling s.still.ready s.still.kept is
+  module _ (h : IsConsistent G old) (up : old.kept.is_down ≡ false) (before : IsSettled G old.kept.vault) (after : IsSettled G kept.vault) where
+    told_before : G.tells kept.vault ≡ G.tells old.kept.vault → IsTrue (G.tells kept.vault) → IsTrue (G.tells old.kept.vault)
+    told_before same told = subst IsTrue same told
+
+    only_before : IsTrue (G.tells old.kept.vault) → Only (G.held old.kept.vault) (G.may_leave old.kept.vault)
+    only_before told = before told (h.ready.serving up)
+
+    start_then : kept.server ≡ old.kept.server → start_in G old ≡ start_in G node_then
+    start_then server = (λ i. start_by G (sym server i) old.opening.vault.value)
+
+    module _ (x : Answer) (room : HasRoom old) (own : IsOwnEvent e) (s : IsStep G old.kept kept e (Ok x)) (is : journal ≡ old.journal ++ entry_of e x ∷ []) where
+      ready_then : IsReady (length journal) (G.serves kept.vault) kept
+      ready_then = subst (λ (n : ℕ). IsReady n (G.serves kept.vault) kept) (sym (counted_pushed old.journal journal (entry_of e x) is)) (s.ready (length old.journal) h.ready)
+
+      module _ (told : IsTrue (G.tells old.kept.vault)) where
+        right_then : IsRight (start_in G old) (G.held kept.vault) node_then
+        right_then =
+            let r : IsRight (start_in G old) (G.held old.kept.vault) old = h.right told in
+            step_right (start_in G old) (G.held old.kept.vault) (G.held kept.vault) old node_then (G.faults old.kept.vault) (G.faults kept.vault) e x r room own (s.stepped told r.state r.kept) is
+
+        leaves_then : Leaves G old.kept.vault kept.vault (Either (G.held old.kept.vault) (said_then (state_of (start_in G old) journal)))
+        leaves_then =
+            let r : IsRight (start_in G old) (G.held old.kept.vault) old = h.right told in
+            step_leaves G (start_in G old) old node_then e x r (s.stepped told r.state r.kept) is s.seat.epoch up (only_before told) (s.leaves told r.state r.kept)
+
+        durable_then : IsDurable (state_of (start_in G old) journal) (G.may_leave kept.vault)
+        durable_then = go kept.is_down refl
+          where
+            go : (b : Bool) → kept.is_down ≡ b → IsDurable (state_of (start_in G old) journal) (G.may_leave kept.vault)
+            go false on = up_durable (start_in G old) (G.held kept.vault) node_then (G.may_leave kept.vault) right_then on (after (subst IsTrue (sym s.seat.same.telling) told) (ready_then.serving on))
+            go true down =
+                let r : IsRight (start_in G old) (G.held old.kept.vault) old = h.right told in
+                down_durable G (start_in G old) old node_then e x r (s.stepped told r.state r.kept) is s.seat.epoch up (only_before told) (s.leaves told r.state r.kept) down (sym s.given.down ∙ down)
+
+      step_kept : IsConsistent G node_then
+      step_kept = record {
+        number = s.seat.same.number ∙ h.number ∙ sym s.seat.server;
+        ready = ready_then;
+        noted = s.noted h.noted;
+        right = λ told. subst (λ (o : Start). IsRight o (G.held kept.vault) node_then) (start_then s.seat.server) (right_then (told_before s.seat.same.telling told));
+        durable = λ told. subst (λ (o : Start). IsDurable (state_of o journal) (G.may_leave kept.vault)) (start_then s.seat.server) (durable_then (told_before s.seat.same.telling told));
+      }
+
+    module _ (f : OutOfMemory) (s : IsStep G old.kept kept e (Err f)) (is : journal ≡ old.journal) where
+      still_ready : IsReady (length journal) (G.serves kept.vault) kept
+      still_ready = subst (λ (n : ℕ). IsReady n (G.serves kept.vault) kept) (sym (ap length is)) (s.still.ready (length old.journal) h.ready)
+
+      right_still : IsTrue (G.tells old.kept.vault) → IsRight (start_in G old) (G.held kept.vault) node_then
+      right_still told =
+          let r : IsRight (start_in G old) (G.held old.kept.vault) old = h.right told in
+          still_right (start_in G old) (G.held old.kept.vault) (G.held kept.vault) old node_then r (s.still.kept r.state r.kept) is
+
+      durable_still : IsTrue (G.tells old.kept.vault) → IsDurable (state_of (start_in G old) journal) (G.may_leave kept.vault)
+      durable_still told =
+          up_durable (start_in G old) (G.held kept.vault) node_then (G.may_leave kept.vault) (right_still told) (s.still.up ∙ up) (after (subst IsTrue (sym s.seat.same.telling) told) (still_ready.serving (s.still.up ∙ up)))
+
+      still_kept : IsConsistent G node_then
+      still_kept = record {
+        number = s.seat.same.number ∙ h.number ∙ sym s.seat.server;
+        ready = still_ready;
+        noted = s.noted h.noted;
+        right = λ told. subst (λ (o : Start). IsRight o (G.held kept.vault) node_then) (start_then s.seat.server) (right_still (told_before s.seat.same.telling told));
+        durable = λ told. subst (λ (o : Start). IsDurable (state_of o journal) (G.may_leave kept.vault)) (start_then s.seat.server) (durable_still (told_before s.seat.same.telling told));
+      }
+
+    pub entered_kept : (r : Result (Option Reply) OutOfMemory) → HasRoom old → IsOwnEvent e → IsEntered G old.kept kept old.journal journal e r → IsConsistent G node_then
+    entered_kept (Ok y) room own (x, s, handed, is) = step_kept x room own s is
+    entered_kept (Err f) room own (s, is) = still_kept f s is
+
+    leaves_still : (f : OutOfMemory) → IsStep G old.kept kept e (Err f) → IsTrue (G.tells old.kept.vault)
+        → Leaves G old.kept.vault kept.vault (IsKeptOrBrought (G.held old.kept.vault) (state_of (start_in G old) old.journal) e)
+    leaves_still f s told = record {
+      crash = λ c here. kept_or c (then.crash c here);
+      time = record { each = λ start c was. ⊎_elim (λ first. inl first) (λ now. inr (kept_or c now)) (then.time.each start c was) };
+    }
+      where
+        r : IsRight (start_in G old) (G.held old.kept.vault) old
+        r = h.right told
+
+        then : Leaves G old.kept.vault kept.vault (Besides G old.kept.vault (MightBring (alone r.state) e))
+        then = s.leaves told r.state r.kept
+
+        kept_or : (c : Contents) → Besides G old.kept.vault (MightBring (alone r.state) e) c → IsKeptOrBrought (G.held old.kept.vault) (state_of (start_in G old) old.journal) e c
+        kept_or c (inl first) = inl (only_before told c first)
+        kept_or c (inr (inl same)) = inl same
+        kept_or c (inr (inr might)) = inr (subst (λ (z : State). MightBring z e c) (sym r.says) might)
+
+    pub entered_durable : (r : Result (Option Reply) OutOfMemory) → HasRoom old → IsOwnEvent e → IsEntered G old.kept kept old.journal journal e r → IsTrue (G.tells old.kept.vault)
+        → MatchResult r (λ _. Leaves G old.kept.vault kept.vault (Either (G.held old.kept.vault) (said_then (state_of (start_in G node_then) journal))))
+        (λ _. Leaves G old.kept.vault kept.vault (IsKeptOrBrought (G.held old.kept.vault) (state_of (start_in G old) old.journal) e))
+    entered_durable (Ok y) room own (x, s, handed, is) told =
+        subst (λ (o : Start). Leaves G old.kept.vault kept.vault (Either (G.held old.kept.vault) (said_then (state_of o journal)))) (start_then s.seat.server) (leaves_then x room own s is told)
+    entered_durable (Err f) room own (s, is) told = leaves_still f s told
+
+  pub entered_still : (r : Result (Option Reply) OutOfMemory) → IsEntered G old.kept kept old.journal journal e r → OnErr r (HasNoEntry G old node_then)
+  entered_still (Ok y) h = tt
+  entered_still (Err f) (s, is) = record { journal = is; up = s.still.up; vault = s.still.vault }
 
   pub entered_answered : (r : Result (Option Reply) OutOfMemory) → IsConsistent G old → IsEntered G old.kept kept old.journal journal e r
       → IfOk r (λ y. Answered (G.tells old.kept.vault) (state_of (start_in G old) old.journal) old.journal journal e y (G.faults old.kept.vault) (G.faults kept.vault) (G.allowance kept.vault) kept.is_down)
@@ -150,6 +290,7 @@ module _ {V : Type 0} (G : Ghosts V) (old : NodeState V) (kept : ServerState V) 
             caused_so (start_in G old) (G.held old.kept.vault) (G.held kept.vault) old node_then (G.faults old.kept.vault) (G.faults kept.vault) e x right (s.stepped told right.state right.kept)
             );
         replies = s.given.replies;
+        still = s.given.still;
         down = s.given.down;
         causes = s.given.causes;
       })

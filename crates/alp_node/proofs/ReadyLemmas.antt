@@ -97,6 +97,7 @@ module _ {V : Type 0} (n : ℕ) (serves : Bool) (k : ServerState V) where
   pub hello_ready : (client : ℕ) (name : List ℕ) → client ≤ 16 → IsReady n serves k → IsReady (n + 1) serves (record k { sessions = with_session k.sessions client (record { who = name; last = 1 }) })
   hello_ready client name le h = record {
     serving = h.serving;
+    halted = h.halted;
     sound = h.sound;
     alone = h.alone;
     known = h.known;
@@ -117,6 +118,7 @@ module _ {V : Type 0} (n : ℕ) (serves : Bool) (k : ServerState V) where
   pub counted_ready : (turn : Turn) → IsTurn k.sessions turn → IsReady n serves k → IsReady (n + 1) serves (record k { sessions = counted_in k.sessions turn })
   counted_ready turn is h = record {
     serving = h.serving;
+    halted = h.halted;
     sound = h.sound;
     alone = h.alone;
     known = h.known;
@@ -137,6 +139,7 @@ module _ {V : Type 0} (n : ℕ) (serves : Bool) (k : ServerState V) where
   pub stepped_ready : IsReady n serves k → IsReady (n + 1) serves k
   stepped_ready h = record {
     serving = h.serving;
+    halted = h.halted;
     sound = h.sound;
     alone = h.alone;
     known = h.known;
@@ -157,6 +160,7 @@ module _ {V : Type 0} (n : ℕ) (serves : Bool) (k : ServerState V) where
   pub gone_ready : (t : TransId) → IsReady n serves k → IsReady n serves (without_trans k t)
   gone_ready t h = record {
     serving = h.serving;
+    halted = h.halted;
     sound = released-sound k.locks t h.sound;
     alone = release-waiting k.locks t h.alone;
     known = λ u l is. go u (same_trans u t) refl l (sym (get_gone k.lives t u) ∙ is);
@@ -197,6 +201,7 @@ module _ {V : Type 0} (n : ℕ) (serves : Bool) (k : ServerState V) where
     pub begin_ready : IsTurn k.sessions turn → t.counter ≡ k.drawn + 1 → own_of l.part ≡ no_opens → clock ≤ 2 ^ 62 → IsReady n serves k → IsReady (n + 1) serves begun_kept
     begin_ready is next none low h = record {
       serving = h.serving;
+      halted = h.halted;
       sound = entered-sound k.locks t h.sound;
       alone = h.alone;
       known = λ u x there. known_so u (same_trans u t) refl x (sym (get_put k.lives t l u) ∙ there);
@@ -231,6 +236,7 @@ module _ {V : Type 0} (n : ℕ) (serves : Bool) (k : ServerState V) where
   pub undone_ready : (t : TransId) → map.get k.lives t ≡ None → IsReady n serves k → IsReady n serves (record k { locks = released (entered k.locks t) t })
   undone_ready t none h = record {
     serving = h.serving;
+    halted = h.halted;
     sound = released-sound (entered k.locks t) t (entered-sound k.locks t h.sound);
     alone = release-waiting (entered k.locks t) t h.alone;
     known = λ u l is. release-knows (entered k.locks t) t u h.alone (tied_same t u ∙ away u t k.lives l none is) (insert-keeps k.locks.held t (held_of k.locks.held t) u (h.known u l is));
@@ -251,6 +257,7 @@ module _ {V : Type 0} (n : ℕ) (serves : Bool) (k : ServerState V) where
   pub buried_ready : (ds : List DeadPart) → IsReady n serves k → IsReady n serves (record k { dead = ds })
   buried_ready ds h = record {
     serving = h.serving;
+    halted = h.halted;
     sound = h.sound;
     alone = h.alone;
     known = h.known;
@@ -267,10 +274,14 @@ module _ {V : Type 0} (n : ℕ) (serves : Bool) (k : ServerState V) where
     unheld = h.unheld;
   }
 
+not_both : (b : Bool) → b ≡ false → b ≡ true → ⊥
+not_both b up down = let wrong : false ≡ true = sym up ∙ down in cc
+
 -- with another vault it is ready as before, where that serves
-pub ready_with : {V : Type 0} (n : ℕ) (before serves : Bool) (k : ServerState V) (v : V) → IsTrue serves → IsReady n before k → IsReady n serves (record k { vault = v })
-ready_with n before serves k v on h = record {
+pub ready_with : {V : Type 0} (n : ℕ) (before serves : Bool) (k : ServerState V) (v : V) → IsTrue serves → k.is_down ≡ false → IsReady n before k → IsReady n serves (record k { vault = v })
+ready_with n before serves k v on up h = record {
   serving = λ _. on;
+  halted = λ down. absurd (not_both k.is_down up down);
   sound = h.sound;
   alone = h.alone;
   known = h.known;
@@ -287,13 +298,14 @@ ready_with n before serves k v on h = record {
   unheld = h.unheld;
 }
 
--- whoever is down need not serve
-pub down_ready : {V : Type 0} (n : ℕ) (before serves : Bool) (k : ServerState V) (v : V) → IsReady n before k → IsReady (n + 1) serves (record k { is_down = true; vault = v })
-down_ready n before serves k v h =
+-- whoever is down does not serve
+pub down_ready : {V : Type 0} (n : ℕ) (before serves : Bool) (k : ServerState V) (v : V) → serves ≡ false → IsReady n before k → IsReady (n + 1) serves (record k { is_down = true; vault = v })
+down_ready n before serves k v off h =
     let c = stepped_ready n before k h in
     let never : true ≡ false → ⊥ = λ e. cc in
     record {
       serving = λ e. absurd (never e);
+      halted = λ _. off;
       sound = c.sound;
       alone = c.alone;
       known = c.known;
@@ -311,12 +323,13 @@ down_ready n before serves k v h =
     }
 
 -- a commit leaves it ready
-pub commit_ready : {V : Type 0} (n : ℕ) (before serves : Bool) (k : ServerState V) (v : V) (turn : Turn) (t : TransId) → IsTrue serves → IsTurn k.sessions turn → k.clock < 2 ^ 62 → IsReady n before k
+pub commit_ready : {V : Type 0} (n : ℕ) (before serves : Bool) (k : ServerState V) (v : V) (turn : Turn) (t : TransId) → IsTrue serves → k.is_down ≡ false → IsTurn k.sessions turn → k.clock < 2 ^ 62 → IsReady n before k
     → IsReady (n + 1) serves (record (without_trans k t) { sessions = counted_in k.sessions turn; clock = k.clock + 1; committed = k.committed + 1; vault = v })
-commit_ready n before serves k v turn t on is early h =
+commit_ready n before serves k v turn t on up is early h =
     let c = counted_ready n before (without_trans k t) turn is (gone_ready n before k t h) in
     record {
       serving = λ _. on;
+      halted = λ down. absurd (not_both k.is_down up down);
       sound = c.sound;
       alone = c.alone;
       known = c.known;

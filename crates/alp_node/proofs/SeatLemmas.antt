@@ -1,13 +1,20 @@
 -- what stays of a server in a step
-use Rattle.std.proofs.Common.{◌≡◌, refl, sym, ◌∙◌, subst, le_refl}
-use Rattle.std.specs.Prelude.{true, OnOk, OnErr, Result, Ok, Err}
+use Rattle.std.proofs.Common.{◌≡◌, ℕ, ◌+◌, refl, sym, ◌∙◌, ap, subst, le_refl, inl, inr, ⊎_elim}
+use Rattle.std.specs.Prelude.{IsTrue, false, Ok}
 use Rattle.alp_base.specs.Allowances.{Spends}
 use Rattle.alp_base.specs.declared.allowance.Allowance.{Allowance}
 use Rattle.alp_base.specs.declared.allowance.Allowance.TheVariants.{Free, Left, Spent}
-use Rattle.alp_base.specs.declared.memory.OutOfMemory.{OutOfMemory}
-use Rattle.alp_node.specs.Steps.{IsSeated}
+use Rattle.alp_fields.specs.ClockNote.{clock_kept}
+use Rattle.alp_vault.specs.Contents.{Contents}
+use Rattle.alp_vault.specs.declared.vault.Vault.{Ghosts}
+use Rattle.alp_calls.specs.Looks.{IsLeft}
+use Rattle.alp_calls.proofs.LookLemmas.{left_same}
+use Rattle.alp_journal.specs.declared.event.Event.{Event}
+use Rattle.alp_journal.specs.Alone.{Alone}
+use Rattle.alp_node.specs.Durable.{Leaves, Besides}
+use Rattle.alp_node.specs.ServerState.{IsAs, IsReady}
+use Rattle.alp_node.specs.Steps.{Stepped, IsGiven, IsSeated, IsNoted, IsStep, is_call}
 use Rattle.alp_node.specs.declared.answer.Answer.{Answer}
-use Rattle.alp_node.specs.declared.sessions.Sessions.{Sessions}
 use Rattle.alp_node.specs.declared.server_state.ServerState.{ServerState}
 
 pub spends_nothing : (a : Allowance) → Spends a a
@@ -19,17 +26,48 @@ spends_nothing Spent = refl
 pub spends_same : (a b : Allowance) → b ≡ a → Spends a b
 spends_same a b is = subst (Spends a) (sym is) (spends_nothing a)
 
-module _ {V : Type 0} (allowance : V → Allowance) (old new : ServerState V) where
-  -- a step that leaves the vault alone
-  pub seated_alone : new.server ≡ old.server → new.epoch ≡ old.epoch → new.vault ≡ old.vault → IsSeated allowance old new
-  seated_alone server epoch vault = record { server = server; epoch = epoch; spends = subst (λ (v : V). Spends (allowance old.vault) (allowance v)) (sym vault) (spends_nothing (allowance old.vault)) }
+module _ {V : Type 0} (G : Ghosts V) where
+  -- a vault that nobody asked
+  pub left_alone : (old new : V) → new ≡ old → IsLeft G old new
+  left_alone old new is = subst (IsLeft G old) (sym is) (left_same G old)
 
-  -- a step in which the vault gave no answer
-  pub halted_seated : (v : V) (sessions : Sessions) (r : Result Answer OutOfMemory) → Spends (allowance old.vault) (allowance v)
-      → OnOk r (new ≡ record old { vault = v; sessions = sessions; is_down = true }) → OnErr r (new ≡ record old { vault = v }) → IsSeated allowance old new
-  halted_seated v sessions (Ok a) spends down err = subst (IsSeated allowance old) (sym down) (record { server = refl; epoch = refl; spends = spends })
-  halted_seated v sessions (Err e) spends down err = subst (IsSeated allowance old) (sym err) (record { server = refl; epoch = refl; spends = spends })
+  -- after a look a crash leaves what it might have left before
+  pub left_leaves : (old new : V) (P : Contents → Type 0) → IsLeft G old new → Leaves G old new (Besides G old P)
+  left_leaves old new P left = record {
+    crash = λ c here. inl (left.crash c here);
+    time = record { each = λ start c was. ⊎_elim (λ before. inl before) (λ now. inr (inl now)) (left.time.each start c was) };
+  }
 
--- what is seated as another server with that vault
-pub seated_from : {V : Type 0} (allowance : V → Allowance) (old mid new : ServerState V) → mid.server ≡ old.server → mid.epoch ≡ old.epoch → IsSeated allowance (record mid { vault = old.vault }) new → IsSeated allowance old new
-seated_from allowance old mid new server epoch h = record { server = h.server ∙ server; epoch = h.epoch ∙ epoch; spends = h.spends }
+  pub leaves_as : (old new : V) (P Q : Contents → Type 0) → ((c : Contents) → P c → Q c) → Leaves G old new (Besides G old P) → Leaves G old new (Besides G old Q)
+  leaves_as old new P Q more h = record {
+    crash = λ c here. seen c (h.crash c here);
+    time = record { each = λ start c was. ⊎_elim (λ before. inl before) (λ now. inr (seen c now)) (h.time.each start c was) };
+  }
+    where
+      seen : (c : Contents) → Besides G old P c → Besides G old Q c
+      seen c (inl before) = inl before
+      seen c (inr (inl is)) = inr (inl is)
+      seen c (inr (inr has)) = inr (inr (more c has))
+
+  module _ (old new : ServerState V) (server : new.server ≡ old.server) (epoch : new.epoch ≡ old.epoch) (left : IsLeft G old.vault new.vault) where
+    pub left_seated : IsSeated G old new
+    left_seated = record { server = server; epoch = epoch; same = left.same; spends = spends_same (G.allowance old.vault) (G.allowance new.vault) left.allowed }
+
+    pub left_noted : old.is_down ≡ false → IsNoted G old → IsNoted G new
+    left_noted up h now = ap (λ (c : Contents). (clock_kept c.notes).epoch) left.contents ∙ h up ∙ sym epoch
+
+    -- a step that only looks into the vault
+    pub left_step : (e : Event) (x : Answer) → old.is_down ≡ false
+        → (IsTrue (G.tells old.vault) → (a : Alone) → IsAs a (G.held old.vault) old → Stepped a (G.faults old.vault) (G.faults new.vault) (G.held new.vault) new e x)
+        → IsGiven (is_call e) (G.faults old.vault) (G.faults new.vault) (G.allowance new.vault) new.is_down x
+        → ((n : ℕ) → IsReady n (G.serves old.vault) old → IsReady (n + 1) (G.serves new.vault) new)
+        → IsStep G old new e (Ok x)
+    left_step e x up stepped given ready = record {
+      stepped = stepped;
+      given = given;
+      ready = ready;
+      noted = left_noted up;
+      still = tt;
+      seat = left_seated;
+      leaves = λ told a h. left_leaves old.vault new.vault _ left;
+    }

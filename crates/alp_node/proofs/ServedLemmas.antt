@@ -97,7 +97,7 @@ module _ {V : Type 0} (a : Alone) (before now : ℕ) (held : Contents) (k : Serv
       → a.holder.lives t ≡ Some life → x ≡ record { kept = Some (reply.Refused refusal.ReadFault); handed = Some (reply.Refused refusal.ReadFault); acts = [] }
       → Stepped a before now held (record k { sessions = counted_in k.sessions turn }) (event.Call turn.client k.epoch turn.number c) x
   fault_stepped life x h is up rose named own live so =
-      refused_stepped true refusal.ReadFault x h is up (λ e. rose) named refl refl (work_why true (reply.Refused refusal.ReadFault) life h own live (inl (refl, refl))) (inl (refl, refl)) so
+      refused_stepped true refusal.ReadFault x h is up (λ e. rose) named refl refl (work_why true (reply.Refused refusal.ReadFault) life h own live (inl (refl, refl))) (inl (refl, refl, refl)) so
 
 -- only an open names a file
 module _ {V : Type 0} (a : Alone) (before now : ℕ) (held : Contents) (k : ServerState V) (turn : Turn) (t : TransId) where

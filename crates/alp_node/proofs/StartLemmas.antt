@@ -3,11 +3,12 @@ use Rattle.std.specs.Prelude.{slice_get, zero, suc, cond, Bool, true, false, IsT
 use Rattle.std.specs.Option.{option_and_then}
 use Rattle.std.specs.FinMap as map
 use Rattle.std.specs.FinMap.{get-empty, len-empty}
-use Rattle.std.proofs.Common.{◌≡◌, ℕ, ◌+◌, ◌<◌, ◌≤◌, ◌^◌, List, [], refl, sym, ◌∙◌, ap, subst, arith, le_refl}
+use Rattle.std.proofs.lemmas.Option.{slice_get_within}
+use Rattle.std.proofs.Common.{◌≡◌, ℕ, ◌+◌, ◌<◌, ◌≤◌, ◌^◌, List, [], refl, sym, ◌∙◌, ap, subst, inl, inr, ⊎_elim, arith, le_refl}
 use Rattle.alp_base.specs.Notes.{Notes}
 use Rattle.alp_base.specs.declared.ids.FileId.{FileId}
 use Rattle.alp_base.specs.declared.ids.TransId.{TransId}
-use Rattle.alp_base.specs.declared.key.Key.TheVariants.{Leader}
+use Rattle.alp_base.specs.declared.key.Key.TheVariants.{Leader, PageOf, OwnerOf}
 use Rattle.alp_base.specs.declared.key.Resource.{Resource}
 use Rattle.alp_base.specs.declared.key.Resource.TheVariants.{Whole}
 use Rattle.alp_fields.specs.Forms.{whole}
@@ -16,6 +17,8 @@ use Rattle.alp_fields.specs.declared.clock_note.ClockNote.{ClockNote}
 use Rattle.alp_fields.proofs.ClockLemmas.{clock_within}
 use Rattle.alp_files.specs.Born.{IsUnborn}
 use Rattle.alp_files.specs.declared.cell.Cell.{Cell}
+use Rattle.alp_files.specs.declared.cell.Cell.TheVariants as cell
+use Rattle.alp_files.specs.Locks.{page_limit}
 use Rattle.alp_files.specs.Cells.{Cells}
 use Rattle.alp_files.specs.Edits.{over}
 use Rattle.alp_files.specs.Apart.{AreSized}
@@ -27,8 +30,11 @@ use Rattle.alp_locks.specs.Tables.{holding}
 use Rattle.alp_queue.specs.Rises.{Held}
 use Rattle.alp_base.specs.Orders.{trans_cmp, resource_cmp}
 use Rattle.alp_base.specs.declared.allowance.Allowance.{Allowance}
+use Rattle.alp_base.specs.declared.faults.VaultFault.{VaultFault}
+use Rattle.alp_base.specs.Crashes.{Only}
 use Rattle.alp_vault.specs.Contents.{Contents}
-use Rattle.alp_vault.specs.Volumes.{AreServerNotes}
+use Rattle.alp_vault.specs.declared.vault.Vault.{Ghosts}
+use Rattle.alp_vault.specs.Volumes.{IsVolumeOf, AreServerNotes}
 use Rattle.alp_base.specs.declared.faults.Sizes.{Sizes}
 use Rattle.alp_journal.specs.Opening.{Start, start_at}
 use Rattle.alp_journal.specs.Coordinator.{Undrawn}
@@ -46,7 +52,8 @@ use Rattle.alp_node.specs.declared.start.StartFault.TheVariants as start_fault
 use Rattle.alp_node.specs.ServerState.{IsAs, IsReady, IsAlike, LiveMap}
 use Rattle.alp_node.specs.Nodes.{IsRight, state_of}
 use Rattle.alp_node.specs.Sessions.{no_sessions, session_at}
-use Rattle.alp_node.specs.Starts.{HasStartCause, after_clock, after_note, raised}
+use Rattle.alp_node.specs.Durable.{clock_notes, Leaves, Besides, IsWritten}
+use Rattle.alp_node.specs.Starts.{HasStartCause, IsKeptOrRaised, after_clock, after_note, raised}
 
 ok_same : {A E : Type 0} (x y : A) → ◌≡◌ {A = Result A E} (Ok x) (Ok y) → x ≡ y
 ok_same x y e = cc
@@ -177,9 +184,9 @@ alike_none : (t : TransId) → IsAlike map.empty [] t (map.get no_lives t) None
 alike_none t = subst (λ (x : Option Live). IsAlike map.empty [] t x None) (sym (none_live t)) (none_locked t)
 
 pub new_as : {V : Type 0} (old : ServerState V) (server servers last : ℕ) (sizes : Sizes) (c : ClockNote) (held : Contents)
-    → ((f : FileId) (x : Cell) → map.get held.cells (Leader f) ≡ Some x → (f.server ≡ server) × (f.epoch ≤ last)) → last < c.epoch → clock_kept held.notes ≡ c
+    → ((f : FileId) (x : Cell) → map.get held.cells (Leader f) ≡ Some x → (f.server ≡ server) × (f.epoch ≤ last)) → last < c.epoch → clock_kept held.notes ≡ c → held.notes ≡ clock_notes c
     → IsAs (new_alone (start_at server servers sizes held.cells held.notes)) held (new_kept old server sizes c)
-new_as old server servers last sizes c held ids later kept =
+new_as old server servers last sizes c held ids later kept alone =
     let epoch : (clock_kept held.notes).epoch ≡ c.epoch = ap (λ (x : ClockNote). x.epoch) kept in
     record {
       server = refl;
@@ -187,7 +194,7 @@ new_as old server servers last sizes c held ids later kept =
       epoch = epoch;
       clock = ap (λ (x : ClockNote). x.clock) kept;
       cells = λ _. refl;
-      notes = λ _. refl;
+      notes = λ _. alone ∙ ap clock_notes (sym kept);
       places = refl;
       sessions = λ client. sym (no_session client);
       dead = λ client t. refl;
@@ -215,6 +222,7 @@ pub new_ready : {V : Type 0} (old : ServerState V) (server : ℕ) (sizes : Sizes
     → IsReady 0 serves (new_kept old server sizes c)
 new_ready old server sizes c serves up within later sound = record {
   serving = λ _. up;
+  halted = λ down. (let wrong : false ≡ true = down in cc);
   sound = sound;
   alone = refl;
   known = λ t l is. (let wrong : None ≡ Some l = sym (none_live t) ∙ is in cc);
@@ -238,9 +246,41 @@ pub new_right : {V : Type 0} (n : NodeState V) (o : Start) (held : Contents) →
 new_right n o held empty says sound sized h = record {
   opening = record { files = sound; sizes = sized };
   lawful = subst (IsLawful o) (sym empty) tt;
-  caused = subst (IsAnswered o) (sym empty) tt;
+  caused = subst (IsAnswered o) (sym empty) (tt, λ i e at. inr (let within : i < 0 = slice_get_within [] i e at in omega (arith, within)));
   own = subst AreOwnEvents (sym empty) tt;
   state = new_alone o;
   says = ap (state_of o) empty ∙ says;
   kept = h;
 }
+
+-- the sizes of a volume's files are numbers of pages
+pub volume_sized : (s : Sizes) (m : Cells) → IsVolumeOf s m → AreSized (map.get m)
+unfolding page_limit
+volume_sized s m h (Leader f) (cell.Leader p) there = (let low : p.size ≤ 4096 = h.fits.sizes f p there in omega (arith, low))
+volume_sized s m h (PageOf f n) (cell.Leader p) there = absurd (h.sound.0.kinds (PageOf f n) (cell.Leader p) there)
+volume_sized s m h (OwnerOf o) (cell.Leader p) there = absurd (h.sound.0.kinds (OwnerOf o) (cell.Leader p) there)
+volume_sized s m h k (cell.Page bytes) there = tt
+volume_sized s m h k (cell.Owner o) there = tt
+
+-- ---- what a crash leaves of a start
+
+module _ {V : Type 0} (G : Ghosts V) (old : V) (only : Only (G.held old) (G.may_leave old)) where
+  -- a vault that was not written
+  pub kept_leaves : Leaves G old old (IsKeptOrRaised (G.held old))
+  kept_leaves = record { crash = λ c here. inl (only c here); time = record { each = λ start c was. inl was } }
+
+  -- and one that was written once
+  pub raised_leaves : (new : V) (puts : Cells) (k : ClockNote) → puts ≡ map.empty → raised (G.held old) ≡ Ok k → Leaves G old new (Besides G old (IsWritten puts k (G.held old)))
+      → Leaves G old new (IsKeptOrRaised (G.held old))
+  raised_leaves new puts k none is h = record {
+    crash = λ c here. seen c (h.crash c here);
+    time = record { each = λ start c was. ⊎_elim (λ before. inl before) (λ now. inr (seen c now)) (h.time.each start c was) };
+  }
+    where
+      seen : (c : Contents) → Besides G old (IsWritten puts k (G.held old)) c → IsKeptOrRaised (G.held old) c
+      seen c (inl before) = inl (only c before)
+      seen c (inr (inl same)) = inl same
+      seen c (inr (inr w)) = (let cells : c.cells ≡ (G.held old).cells = over_nothing puts c.cells (G.held old).cells none w.cells in inr (k, is, (λ i. record { cells = cells i; notes = w.notes i })))
+
+pub vault_same : (f g : VaultFault) → start_fault.Vault f ≡ start_fault.Vault g → f ≡ g
+vault_same f g e = cc

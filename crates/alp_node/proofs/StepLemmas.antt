@@ -1,9 +1,8 @@
 -- a step whose part ended
-use Rattle.std.specs.Prelude.{Bool, true, false, IsTrue, None, Some, Result, Ok, Err, IfOk, OnOk, OnErr}
+use Rattle.std.specs.Prelude.{Bool, true, false, IsTrue, None, Some, Ok}
 use Rattle.std.proofs.Common.{◌≡◌, ℕ, ◌+◌, List, [], ◌∷◌, refl, sym, ◌∙◌, ap, subst}
 use Rattle.alp_base.specs.Allowances.{Spends}
 use Rattle.alp_base.specs.declared.ids.TransId.{TransId}
-use Rattle.alp_base.specs.declared.memory.OutOfMemory.{OutOfMemory}
 use Rattle.alp_files.specs.declared.call.Call.{Call}
 use Rattle.alp_files.specs.declared.reply.Reply.TheVariants as reply
 use Rattle.alp_files.specs.declared.refusal.Refusal.{Refusal}
@@ -15,13 +14,16 @@ use Rattle.alp_files.specs.declared.reply.Reply.{Reply}
 use Rattle.alp_journal.specs.declared.act.Act.{Act}
 use Rattle.alp_journal.specs.declared.act.Act.TheVariants as act
 use Rattle.alp_journal.specs.Moves.{is_stop}
-use Rattle.alp_node.specs.Halts.{HaveCauses}
-use Rattle.alp_node.proofs.SeatLemmas.{seated_alone}
+use Rattle.alp_vault.specs.Vault.{IsSameVault}
+use Rattle.alp_calls.specs.Looks.{IsLeft}
+use Rattle.alp_node.specs.Durable.{said_by, Leaves, Besides}
+use Rattle.alp_node.specs.Halts.{HaveCauses, tells_fault}
+use Rattle.alp_node.proofs.SeatLemmas.{left_alone, left_step}
 use Rattle.alp_journal.specs.declared.event.Event.TheVariants as event
-use Rattle.alp_journal.specs.Alone.{Alone}
+use Rattle.alp_journal.specs.Alone.{Alone, alone}
 use Rattle.alp_vault.specs.declared.vault.Vault.{Ghosts}
 use Rattle.alp_node.specs.ServerState.{IsAs, IsReady}
-use Rattle.alp_node.specs.Steps.{Stepped, IsStep, IsStill, IsTurn, counted_in, without_trans, ended, refused_answer}
+use Rattle.alp_node.specs.Steps.{Stepped, IsStep, IsTurn, counted_in, without_trans, ended, refused_answer, entry_of}
 use Rattle.alp_node.specs.declared.answer.Answer.{Answer}
 use Rattle.alp_node.specs.declared.server_state.ServerState.{ServerState}
 use Rattle.alp_node.specs.declared.sessions.Turn.{Turn}
@@ -35,108 +37,81 @@ ended_ready n serves k turn t is h =
     buried_ready (n + 1) serves (record (without_trans k t) { sessions = counted_in k.sessions turn }) (without_part turn.client t k.dead) (counted_ready n serves (without_trans k t) turn is (gone_ready n serves k t h))
 
 module _ {V : Type 0} (G : Ghosts V) (k : ServerState V) (v : V) where
-  -- the vault as a look left it
-  pub record IsSameFor (serves : Bool) : Type 0 where
-    pub telling : G.tells v ≡ G.tells k.vault
-    pub contents : G.held v ≡ G.held k.vault
-    pub spends : Spends (G.allowance k.vault) (G.allowance v)
-    pub on : IsTrue (G.serves v)
-
   abbrev pub mid : ServerState V
   mid = record k { vault = v }
 
-  -- where memory was wanting then, all is as it was
-  pub mid_still : IsSameFor (G.serves v) → IsStill G.serves G.held k mid
-  mid_still same = record {
-    kept = λ a h. as_with a (G.held k.vault) (G.held v) k v same.contents h;
-    ready = λ n h. ready_with n (G.serves k.vault) (G.serves v) k v same.on h;
-    up = refl;
-  }
-
-  pub ended_step : (turn : Turn) (t : TransId) (c : Call) (cause : Cause) (r : Result Answer OutOfMemory) (new : ServerState V) → IsSameFor (G.serves v) → IsTurn k.sessions turn → k.is_down ≡ false
-      → OnOk r (new ≡ ended mid turn t) → IfOk r (λ x. x ≡ refused_answer (refusal.Aborted cause) (act.Released t ∷ [])) → OnErr r (new ≡ mid)
-      → (IsTrue (G.tells k.vault) → (a : Alone) → IsAs a (G.held k.vault) k → (x : Answer) → x ≡ refused_answer (refusal.Aborted cause) (act.Released t ∷ [])
-      → Stepped a (G.faults k.vault) (G.faults v) (G.held k.vault) (ended k turn t) (event.Call turn.client k.epoch turn.number c) x)
-      → IsStep G k new (event.Call turn.client k.epoch turn.number c) r
-  ended_step turn t c cause (Ok x) new same is up done so err steps =
-      subst (λ (y : ServerState V). IsStep G k y (event.Call turn.client k.epoch turn.number c) (Ok x)) (sym done) (record {
-        stepped = λ told a h. (
-            let s : Stepped a (G.faults k.vault) (G.faults v) (G.held k.vault) (ended k turn t) (event.Call turn.client k.epoch turn.number c) x = steps told a h x so in
-            record {
-              failed = s.failed;
-              next = s.next;
-              leads = s.leads;
-              rose = s.rose;
-              kept = as_with s.next (G.held k.vault) (G.held v) (ended k turn t) v same.contents s.kept;
-              clock = s.clock;
-            });
-        given = reply_given (G.faults k.vault) (G.faults v) (G.allowance v) k.is_down (reply.Refused (refusal.Aborted cause)) (act.Released t ∷ []) x so up tt;
-        ready = λ n h. ended_ready n (G.serves v) mid turn t is (ready_with n (G.serves k.vault) (G.serves v) k v same.on h);
-        still = tt;
-        seat = record { server = refl; epoch = refl; spends = same.spends };
-        telling = same.telling;
-      })
-  ended_step turn t c cause (Err e) new same is up done so err steps =
-      subst (λ (y : ServerState V). IsStep G k y (event.Call turn.client k.epoch turn.number c) (Err e)) (sym err) (record {
-        stepped = λ told a h. tt;
-        given = tt;
-        ready = λ n h. tt;
-        still = mid_still same;
-        seat = record { server = refl; epoch = refl; spends = same.spends };
-        telling = same.telling;
-      })
+  -- a part ends without effect, behind a look into the vault
+  pub ended_step : (turn : Turn) (t : TransId) (c : Call) (cause : Cause) (x : Answer) (new : ServerState V) → IsLeft G k.vault v → IsTrue (G.serves v)
+      → (tells_fault (Some (reply.Refused (refusal.Aborted cause))) ≡ false → G.faults v ≡ G.faults k.vault) → IsTurn k.sessions turn → k.is_down ≡ false
+      → new ≡ ended mid turn t → x ≡ refused_answer (refusal.Aborted cause) (act.Released t ∷ [])
+      → (IsTrue (G.tells k.vault) → (a : Alone) → IsAs a (G.held k.vault) k → Stepped a (G.faults k.vault) (G.faults v) (G.held k.vault) (ended k turn t) (event.Call turn.client k.epoch turn.number c) x)
+      → IsStep G k new (event.Call turn.client k.epoch turn.number c) (Ok x)
+  ended_step turn t c cause x new left on quiet is up done so steps =
+      subst (λ (y : ServerState V). IsStep G k y (event.Call turn.client k.epoch turn.number c) (Ok x)) (sym done)
+      (left_step G k (ended mid turn t) refl refl left (event.Call turn.client k.epoch turn.number c) x up
+      (λ told a h. (
+      let s : Stepped a (G.faults k.vault) (G.faults v) (G.held k.vault) (ended k turn t) (event.Call turn.client k.epoch turn.number c) x = steps told a h in
+      record {
+        failed = s.failed;
+        next = s.next;
+        leads = s.leads;
+        rose = s.rose;
+        kept = as_with s.next (G.held k.vault) (G.held v) (ended k turn t) v left.contents s.kept;
+        clock = s.clock;
+      }))
+      (reply_given (G.faults k.vault) (G.faults v) (G.allowance v) k.is_down (reply.Refused (refusal.Aborted cause)) (act.Released t ∷ []) x so quiet up tt)
+      (λ n h. ended_ready n (G.serves v) mid turn t is (ready_with n (G.serves k.vault) (G.serves v) k v on up h)))
 
 -- a step in which the vault was stopped, or failed in its commit
 module _ {V : Type 0} (G : Ghosts V) (k new : ServerState V) (v : V) where
-  pub down_step : (turn : Turn) (c : Call) (x : Answer) (acts : List Act) → G.tells v ≡ G.tells k.vault → Spends (G.allowance k.vault) (G.allowance v) → new ≡ record k { is_down = true; vault = v }
+  pub down_step : (turn : Turn) (c : Call) (x : Answer) (acts : List Act) → IsSameVault G.tells G.volume G.server G.servers k.vault v → Spends (G.allowance k.vault) (G.allowance v) → G.serves v ≡ false
+      → new ≡ record k { is_down = true; vault = v }
       → x ≡ refused_answer refusal.Down acts → list_any is_stop acts ≡ true → HaveCauses (G.faults k.vault) (G.faults v) (G.allowance v) acts
       → (IsTrue (G.tells k.vault) → (a : Alone) → IsAs a (G.held k.vault) k
       → Stepped a (G.faults k.vault) (G.faults v) (G.held v) (record k { is_down = true; vault = v }) (event.Call turn.client k.epoch turn.number c) x)
+      → (IsTrue (G.tells k.vault) → (a : Alone) → IsAs a (G.held k.vault) k
+      → Leaves G k.vault v (Besides G k.vault (λ z. z ≡ said_by (alone a) (entry_of (event.Call turn.client k.epoch turn.number c) x))))
       → IsStep G k new (event.Call turn.client k.epoch turn.number c) (Ok x)
-  down_step turn c x acts telling spends down so stop causes steps =
+  down_step turn c x acts same spends off down so stop causes steps leaves =
       subst (λ (y : ServerState V). IsStep G k y (event.Call turn.client k.epoch turn.number c) (Ok x)) (sym down) (record {
         stepped = steps;
-        given = reply_given (G.faults k.vault) (G.faults v) (G.allowance v) true (reply.Refused refusal.Down) acts x so (sym stop) causes;
-        ready = λ n h. down_ready n (G.serves k.vault) (G.serves v) k v h;
+        given = reply_given (G.faults k.vault) (G.faults v) (G.allowance v) true (reply.Refused refusal.Down) acts x so (λ e. cc) (sym stop) causes;
+        ready = λ n h. down_ready n (G.serves k.vault) (G.serves v) k v off h;
+        noted = λ h e. cc;
         still = tt;
-        seat = record { server = refl; epoch = refl; spends = spends };
-        telling = telling;
+        seat = record { server = refl; epoch = refl; same = same; spends = spends };
+        leaves = leaves;
       })
 
 -- a step that leaves the vault alone
 module _ {V : Type 0} (G : Ghosts V) (k new : ServerState V) where
-  pub plain_step : (turn : Turn) (c : Call) (x : Answer) (r : Reply) (acts : List Act) → new.vault ≡ k.vault → new.server ≡ k.server → new.epoch ≡ k.epoch → new.is_down ≡ false
+  pub plain_step : (turn : Turn) (c : Call) (x : Answer) (r : Reply) (acts : List Act) → new.vault ≡ k.vault → new.server ≡ k.server → new.epoch ≡ k.epoch → k.is_down ≡ false → new.is_down ≡ false
       → x ≡ record { kept = Some r; handed = Some r; acts = acts } → list_any is_stop acts ≡ false → ((before now : ℕ) (allowance : Allowance) → HaveCauses before now allowance acts)
       → ((n : ℕ) → IsReady n (G.serves k.vault) k → IsReady (n + 1) (G.serves k.vault) new)
       → (IsTrue (G.tells k.vault) → (a : Alone) → IsAs a (G.held k.vault) k → Stepped a (G.faults k.vault) (G.faults k.vault) (G.held k.vault) new (event.Call turn.client k.epoch turn.number c) x)
       → IsStep G k new (event.Call turn.client k.epoch turn.number c) (Ok x)
-  plain_step turn c x r acts vault server epoch up so none causes ready steps = record {
-    stepped = λ told a h. subst (λ (v : V). Stepped a (G.faults k.vault) (G.faults v) (G.held v) new (event.Call turn.client k.epoch turn.number c) x) (sym vault) (steps told a h);
-    given = reply_given (G.faults k.vault) (G.faults new.vault) (G.allowance new.vault) new.is_down r acts x so (up ∙ sym none) (causes (G.faults k.vault) (G.faults new.vault) (G.allowance new.vault));
-    ready = λ n h. subst (λ (v : V). IsReady (n + 1) (G.serves v) new) (sym vault) (ready n h);
-    still = tt;
-    seat = seated_alone G.allowance k new server epoch vault;
-    telling = ap G.tells vault;
-  }
+  plain_step turn c x r acts vault server epoch was up so none causes ready steps =
+      left_step G k new server epoch (left_alone G k.vault new.vault vault) (event.Call turn.client k.epoch turn.number c) x was
+      (λ told a h. subst (λ (v : V). Stepped a (G.faults k.vault) (G.faults v) (G.held v) new (event.Call turn.client k.epoch turn.number c) x) (sym vault) (steps told a h))
+      (reply_given (G.faults k.vault) (G.faults new.vault) (G.allowance new.vault) new.is_down r acts x so (λ _. ap G.faults vault) (up ∙ sym none) (causes (G.faults k.vault) (G.faults new.vault) (G.allowance new.vault)))
+      (λ n h. subst (λ (v : V). IsReady (n + 1) (G.serves v) new) (sym vault) (ready n h))
 
   -- the call is refused, and the session counts it
   pub refused_step : (turn : Turn) (c : Call) (x : Answer) (f : Refusal) → IsTurn k.sessions turn → k.is_down ≡ false → new ≡ record k { sessions = counted_in k.sessions turn } → x ≡ refused_answer f []
       → (IsTrue (G.tells k.vault) → (a : Alone) → IsAs a (G.held k.vault) k → Stepped a (G.faults k.vault) (G.faults k.vault) (G.held k.vault) (record k { sessions = counted_in k.sessions turn }) (event.Call turn.client k.epoch turn.number c) x)
       → IsStep G k new (event.Call turn.client k.epoch turn.number c) (Ok x)
   refused_step turn c x f is up same so steps =
-      plain_step turn c x (reply.Refused f) [] (ap (λ (y : ServerState V). y.vault) same) (ap (λ (y : ServerState V). y.server) same) (ap (λ (y : ServerState V). y.epoch) same) (ap (λ (y : ServerState V). y.is_down) same ∙ up) so refl
+      plain_step turn c x (reply.Refused f) [] (ap (λ (y : ServerState V). y.vault) same) (ap (λ (y : ServerState V). y.server) same) (ap (λ (y : ServerState V). y.epoch) same) up (ap (λ (y : ServerState V). y.is_down) same ∙ up) so refl
       (λ m n b. tt) (λ n h. subst (λ (y : ServerState V). IsReady (n + 1) (G.serves k.vault) y) (sym same) (counted_ready n (G.serves k.vault) k turn is h))
       (λ told a h. subst (λ (y : ServerState V). Stepped a (G.faults k.vault) (G.faults k.vault) (G.held k.vault) y (event.Call turn.client k.epoch turn.number c) x) (sym same) (steps told a h))
 
   -- an event that is met with silence
-  pub silent_step : (t : TransId) (x : Answer) (acts : List Act) → new.vault ≡ k.vault → new.server ≡ k.server → new.epoch ≡ k.epoch → new.is_down ≡ false → x ≡ record { kept = None; handed = None; acts = acts }
+  pub silent_step : (t : TransId) (x : Answer) (acts : List Act) → new.vault ≡ k.vault → new.server ≡ k.server → new.epoch ≡ k.epoch → k.is_down ≡ false → new.is_down ≡ false
+      → x ≡ record { kept = None; handed = None; acts = acts }
       → list_any is_stop acts ≡ false → ((before now : ℕ) (allowance : Allowance) → HaveCauses before now allowance acts) → ((n : ℕ) → IsReady n (G.serves k.vault) k → IsReady (n + 1) (G.serves k.vault) new)
       → ((a : Alone) → IsAs a (G.held k.vault) k → Stepped a (G.faults k.vault) (G.faults k.vault) (G.held k.vault) new (event.Timeout t) x) → IsStep G k new (event.Timeout t) (Ok x)
-  silent_step t x acts vault server epoch up so none causes ready steps = record {
-    stepped = λ told a h. subst (λ (v : V). Stepped a (G.faults k.vault) (G.faults v) (G.held v) new (event.Timeout t) x) (sym vault) (steps a h);
-    given = silence_given (G.faults k.vault) (G.faults new.vault) (G.allowance new.vault) new.is_down acts x so (up ∙ sym none) (causes (G.faults k.vault) (G.faults new.vault) (G.allowance new.vault));
-    ready = λ n h. subst (λ (v : V). IsReady (n + 1) (G.serves v) new) (sym vault) (ready n h);
-    still = tt;
-    seat = seated_alone G.allowance k new server epoch vault;
-    telling = ap G.tells vault;
-  }
+  silent_step t x acts vault server epoch was up so none causes ready steps =
+      left_step G k new server epoch (left_alone G k.vault new.vault vault) (event.Timeout t) x was
+      (λ told a h. subst (λ (v : V). Stepped a (G.faults k.vault) (G.faults v) (G.held v) new (event.Timeout t) x) (sym vault) (steps a h))
+      (silence_given (G.faults k.vault) (G.faults new.vault) (G.allowance new.vault) new.is_down acts x so (ap G.faults vault) up (up ∙ sym none) (causes (G.faults k.vault) (G.faults new.vault) (G.allowance new.vault)))
+      (λ n h. subst (λ (v : V). IsReady (n + 1) (G.serves v) new) (sym vault) (ready n h))

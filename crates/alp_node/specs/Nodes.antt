@@ -1,10 +1,11 @@
 -- A server and its journal.
-use Rattle.std.specs.Prelude.{◌≡◌, ℕ, ◌<◌, Bool, true, false, IsTrue, List, [], ◌∷◌, ◌++◌, length, Option, is_some, IsSome, ◌↔◌}
+use Rattle.std.specs.Prelude.{◌≡◌, ℕ, ◌<◌, ◌||◌, Bool, true, false, IsTrue, List, [], ◌∷◌, ◌++◌, length, Option, is_some, IsSome, ◌↔◌}
 use Rattle.std.specs.FinMap as map
 use Rattle.std.specs.List.{list_any, Contains}
 use Rattle.std.specs.List.Sorted.{IsStrictlySortedBy}
 use Rattle.alp_base.specs.Causes.{Rose}
 use Rattle.alp_base.specs.declared.allowance.Allowance.{Allowance}
+use Rattle.alp_base.specs.declared.faults.Sizes.{Sizes}
 use Rattle.alp_base.specs.declared.ids.TransId.{TransId}
 use Rattle.alp_base.specs.Orders.{trans_cmp}
 use Rattle.alp_files.specs.Apart.{AreSized}
@@ -24,9 +25,10 @@ use Rattle.alp_journal.specs.Answered.{IsAnswered, IsAnsweredEntry}
 use Rattle.alp_journal.specs.Alone.{Alone, alone, AreOwnEvents}
 use Rattle.alp_node.specs.NodeStates.{NodeState}
 use Rattle.alp_node.specs.ServerState.{IsAs, IsReady}
-use Rattle.alp_node.specs.Halts.{HaveCauses}
+use Rattle.alp_node.specs.Durable.{IsDurable}
+use Rattle.alp_node.specs.Halts.{HaveCauses, IsUncounted, tells_fault}
 use Rattle.alp_node.specs.Sessions.{no_sessions}
-use Rattle.alp_node.specs.Steps.{is_call}
+use Rattle.alp_node.specs.Steps.{is_call, IsNoted}
 
 -- the state that a journal leaves
 abbrev pub state_of : Start → List Entry → State
@@ -55,33 +57,49 @@ pub record IsRight {V : Type 0} (o : Start) (held : Contents) (n : NodeState V) 
   pub says : state_of o n.journal ≡ alone state
   pub kept : IsAs state held n.kept
 
--- what holds of each server that the calls make, by what its vault shows
+-- What holds of each server that the calls make, by what its vault shows: the vault is of this server, the note has its
+-- epoch, and where the vault tells what it holds, all is as the journal says, after a crash too.
 pub record IsConsistent {V : Type 0} (G : Ghosts V) (n : NodeState V) : Type 0 where
+  pub number : G.server n.kept.vault ≡ n.kept.server
   pub ready : IsReady (length n.journal) (G.serves n.kept.vault) n.kept
+  pub noted : IsNoted G n.kept
   pub right : IsTrue (G.tells n.kept.vault) → IsRight (start_in G n) (G.held n.kept.vault) n
+  pub durable : IsTrue (G.tells n.kept.vault) → IsDurable (state_of (start_in G n) n.journal) (G.may_leave n.kept.vault)
 
--- A server that did nothing yet: its opening is its vault as it is, nobody has a session or a transaction, and it is up.
-pub record IsNew {V : Type 0} (server : ℕ) (n : NodeState V) : Type 0 where
+-- A server that did nothing yet: its opening is its vault as it is, nobody has a session, a transaction or a lock, and it is
+-- up.
+pub record IsNew {V : Type 0} (volume : V → Sizes) (server : ℕ) (n : NodeState V) : Type 0 where
   pub number : n.kept.server ≡ server
+  pub sizes : n.kept.sizes ≡ volume n.kept.vault
   pub opening : n.opening.vault.value ≡ n.kept.vault
   pub journal : n.journal ≡ []
   pub sessions : n.kept.sessions ≡ no_sessions
   pub lives : n.kept.lives ≡ map.empty
+  pub dead : n.kept.dead ≡ []
+  pub locks : n.kept.locks ≡ record { held = map.empty; waiting = []; woken = [] }
   pub up : n.kept.is_down ≡ false
 
 -- it has its cause in that state, which names a read that failed only where the count of faults rose
 abbrev pub HasCause : ℕ → ℕ → State → Entry → Type 0
 HasCause before now s e = (failed : Bool) × IsAnsweredEntry failed s e × (failed ≡ true → Rose before now)
 
--- One entry more: this event, this reply, and what came about, with its cause where the vault tells. Each call has a reply, and
--- nothing else has one. A vault that failed or was stopped has its cause, and just then the server is down.
+-- One entry more: this event, this reply, and what came about, with its cause where the vault tells. Each call has a reply,
+-- each event by which the server goes down, and nothing else. A vault that failed or was stopped has its cause, and just then
+-- the server is down. A reply that tells of no fault leaves their count.
 pub record Answered (tells : Bool) (s : State) (before after : List Entry) (e : Event) (r : Option Reply) (faults_before faults_now : ℕ) (allowance : Allowance) (is_down : Bool) : Type 0 where
   pub acts : List Act
   pub entry : after ≡ before ++ (record { event = e; reply = r; acts = acts }) ∷ []
   pub cause : IsTrue tells → HasCause faults_before faults_now s (record { event = e; reply = r; acts = acts })
-  pub replies : is_some r ≡ is_call e
+  pub replies : is_some r ≡ (is_call e || is_down)
+  pub still : tells_fault r ≡ false → faults_now ≡ faults_before
   pub down : is_down ≡ list_any is_stop acts
   pub causes : HaveCauses faults_before faults_now allowance acts
+
+-- Memory was wanting: there is no entry more, and the vault holds, counts and allows what it did.
+pub record HasNoEntry {V : Type 0} (G : Ghosts V) (old new : NodeState V) : Type 0 where
+  pub journal : new.journal ≡ old.journal
+  pub up : new.kept.is_down ≡ old.kept.is_down
+  pub vault : IsUncounted G old.kept.vault new.kept.vault
 
 -- A journal with room for one entry. Left out is a full journal: "every call of a client".
 abbrev pub HasRoom : {V : Type 0} → NodeState V → Type 0

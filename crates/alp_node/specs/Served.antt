@@ -58,7 +58,7 @@ IsInTurn k client epoch number c = IsNextOf (session_at k.sessions client) k.epo
 
 -- the named premise of a step
 abbrev pub IsServed : {V : Type 0} → ServerState V → Event → Type 0
--- A call of one of the sixteen clients, which stays. Left out is what `IsAskable` and `IsInTurn` leave out.
+-- A call of a client with a number up to 16, which stays: those of scripts begin at 1, and a server takes 0 too. Left out is what `IsAskable` and `IsInTurn` leave out.
 IsServed k (event.Call client epoch number c) = (client ≤ 16) × IsAskable c × IsInTurn k client epoch number c
 -- a timeout, of whatever transaction: nothing is left out
 IsServed k (event.Timeout t) = Unit {0}

@@ -1,7 +1,7 @@
 -- What a server keeps is what its journal says. Of each part of the journal's state:
 -- the coordinator: the live transactions are just those that run, and no id beyond the count was drawn;
 -- the participant: no join was drawn, as `Alone` says;
--- the holder: the vault has the cells, its note the epoch and the kept clock; each live part has its intents, opens and locks;
+-- the holder: the vault has the cells, and one note, of the epoch and the kept clock; each live part has its intents, opens and locks;
 -- the desk: each session has its name and its last number (the replies are kept by the journal alone), no call waits, and the
 -- parts that timed out are those of the list;
 -- the counts: each live part is within its bounds;
@@ -21,7 +21,6 @@ use Rattle.alp_base.specs.Orders.{trans_cmp}
 use Rattle.alp_modes.specs.declared.Mode.{Mode}
 use Rattle.alp_modes.specs.declared.Mode.TheVariants.{Read, Write}
 use Rattle.alp_files.specs.Holdings.{Holding, covers_held}
-use Rattle.alp_fields.specs.ClockNote.{clock_kept}
 use Rattle.alp_files.specs.declared.open.Open.{Open}
 use Rattle.alp_files.specs.Born.{IsUnborn}
 use Rattle.alp_files.specs.Edits.{Edit, edits_at, ChangesBy}
@@ -35,6 +34,7 @@ use Rattle.alp_journal.specs.Desk as desk
 use Rattle.alp_journal.specs.Alone.{Alone, IsQuiet, AreEarlier}
 use Rattle.alp_node.specs.Bounded.{IsWithin}
 use Rattle.alp_node.specs.Dead.{dead_in}
+use Rattle.alp_node.specs.Durable.{clock_notes}
 use Rattle.alp_node.specs.Sessions.{session_at}
 use Rattle.alp_node.specs.declared.sessions.Session.{Session}
 use Rattle.alp_node.specs.declared.lives.Live.{Live}
@@ -105,7 +105,7 @@ pub record IsAs {V : Type 0} (a : Alone) (held : Contents) (k : ServerState V) :
   pub epoch : a.ids.epoch ≡ k.epoch
   pub clock : a.holder.clock ≡ k.clock
   pub cells : k.is_down ≡ false → held.cells ≡ a.holder.cells
-  pub notes : k.is_down ≡ false → clock_kept held.notes ≡ record { epoch = a.ids.epoch; clock = a.holder.kept }
+  pub notes : k.is_down ≡ false → held.notes ≡ clock_notes (record { epoch = a.ids.epoch; clock = a.holder.kept })
   pub places : length k.sessions.places ≡ 17
   pub sessions : (client : ℕ) → option_map kept_session (a.sessions client) ≡ session_at k.sessions client
   pub dead : (client : ℕ) (t : TransId) → a.dead client t ≡ dead_in k.dead client t
@@ -122,10 +122,11 @@ pub record IsAs {V : Type 0} (a : Alone) (held : Contents) (k : ServerState V) :
   pub quiet : IsQuiet a
   pub down : a.is_down ≡ k.is_down
 
--- Whatever its vault tells: its vault serves while it is up, the table's locks agree, nobody waits, it knows each live
+-- Whatever its vault tells: its vault serves just while it is up, the table's locks agree, nobody waits, it knows each live
 -- transaction, nobody holds a lock on a file that was not made yet, and no count went further than so many steps.
 pub record IsReady {V : Type 0} (steps : ℕ) (serves : Bool) (k : ServerState V) : Type 0 where
   pub serving : k.is_down ≡ false → IsTrue serves
+  pub halted : k.is_down ≡ true → serves ≡ false
   pub sound : IsSound k.locks
   pub alone : k.locks.waiting ≡ []
   pub known : (t : TransId) (l : Live) → map.get k.lives t ≡ Some l → is_some (map.get k.locks.held t) ≡ true

@@ -1,5 +1,5 @@
 -- How a server starts: in the epoch after that of its note.
-use Rattle.std.specs.Prelude.{◌≡◌, ℕ, ◌≤◌, ◌+◌, ◌==◌, Bool, IsTrue, List, Option, None, Some, Result, Ok, Err, if◌then◌else◌}
+use Rattle.std.specs.Prelude.{◌≡◌, ◌⊎◌, ℕ, ◌≤◌, ◌+◌, ◌==◌, Bool, IsTrue, List, Option, None, Some, Result, Ok, Err, if◌then◌else◌}
 use Rattle.std.specs.FinMap as map
 use Rattle.alp_base.specs.declared.allowance.Allowance.{Allowance}
 use Rattle.alp_base.specs.declared.ids.FileId.{FileId}
@@ -8,17 +8,15 @@ use Rattle.alp_fields.specs.Forms.{whole}
 use Rattle.alp_fields.specs.ClockNote.{clock_name, clock_form, clock_kept}
 use Rattle.alp_fields.specs.declared.clock_note.ClockNote.{ClockNote}
 use Rattle.alp_files.specs.declared.cell.Cell.{Cell}
-use Rattle.alp_files.specs.Apart.{AreSized}
 use Rattle.alp_vault.specs.Contents.{Contents}
 use Rattle.alp_base.specs.Faults.{HasFaultCause, IsOfVolume}
 use Rattle.alp_vault.specs.Volumes.{AreServerNotes}
 use Rattle.alp_node.specs.declared.start.StartFault.{StartFault}
 use Rattle.alp_node.specs.declared.start.StartFault.TheVariants as fault
 
--- ids of files were given by this server, in epochs up to that of the note, and sizes are numbers of pages
-pub record AreOfServer (server : ℕ) (held : Contents) : Type 0 where
-  pub ids : (f : FileId) (c : Cell) → map.get held.cells (Leader f) ≡ Some c → (f.server ≡ server) × (f.epoch ≤ (clock_kept held.notes).epoch)
-  pub sizes : AreSized (map.get held.cells)
+-- ids of files were given by this server, in epochs up to that of the note
+abbrev pub AreOfServer : ℕ → Contents → Type 0
+AreOfServer server held = (f : FileId) (c : Cell) → map.get held.cells (Leader f) ≡ Some c → (f.server ≡ server) × (f.epoch ≤ (clock_kept held.notes).epoch)
 
 abbrev pub after_clock : Option ClockNote → Result ClockNote StartFault
 after_clock None = Err fault.BadNote
@@ -39,6 +37,10 @@ pub record HasRaised (tells : Bool) (server servers : ℕ) (before now : Content
   pub next : raised before ≡ Ok clock
   pub cells : IsTrue tells → now.cells ≡ before.cells
   pub notes : now.notes ≡ map.insert before.notes clock_name (clock_form.spell clock)
+
+-- it is what was held, or that with the raised note
+abbrev pub IsKeptOrRaised : Contents → Contents → Type 0
+IsKeptOrRaised held c = (c ≡ held) ⊎ (k : ClockNote) × (raised held ≡ Ok k) × (c ≡ record held { notes = map.insert held.notes clock_name (clock_form.spell k) })
 
 -- it is the note by which the server does not start
 abbrev pub IsNoteFault : StartFault → Type 0

@@ -1,5 +1,5 @@
 -- One step of a server.
-use Rattle.std.specs.Prelude.{◌≡◌, ℕ, ◌+◌, ◌≤◌, max, Bool, true, false, List, [], ◌∷◌, ◌++◌, Option, None, Some, is_some, IsTrue, Result, Ok, Err, IfOk, OnOk, OnErr}
+use Rattle.std.specs.Prelude.{◌≡◌, ℕ, ◌+◌, ◌≤◌, ◌||◌, max, Bool, true, false, List, [], ◌∷◌, ◌++◌, Option, None, Some, is_some, IsTrue, Result, Ok, Err, IfOk, OnOk, OnErr, MatchResult}
 use Rattle.std.specs.List.{list_any}
 use Rattle.std.specs.FinMap as map
 use Rattle.alp_base.specs.Allowances.{Spends}
@@ -18,7 +18,9 @@ use Rattle.alp_journal.specs.declared.event.Event.{Event}
 use Rattle.alp_journal.specs.declared.event.Event.TheVariants as event
 use Rattle.alp_journal.specs.declared.entry.Entry.{Entry}
 use Rattle.alp_journal.specs.Moves.{is_stop}
-use Rattle.alp_journal.specs.Alone.{Alone, Leads}
+use Rattle.alp_journal.specs.Alone.{Alone, alone, Leads}
+use Rattle.alp_fields.specs.ClockNote.{clock_kept}
+use Rattle.alp_vault.specs.Vault.{IsSameVault}
 use Rattle.alp_vault.specs.Contents.{Contents}
 use Rattle.alp_vault.specs.declared.vault.Vault.{Ghosts}
 use Rattle.alp_node.specs.declared.answer.Answer.{Answer}
@@ -27,7 +29,8 @@ use Rattle.alp_node.specs.declared.lives.Live.{Live}
 use Rattle.alp_node.specs.declared.sessions.Turn.{Turn}
 use Rattle.alp_node.specs.declared.sessions.Sessions.{Sessions}
 use Rattle.alp_node.specs.Dead.{without_part}
-use Rattle.alp_node.specs.Halts.{HaveCauses}
+use Rattle.alp_node.specs.Durable.{said_by, MightBring, Leaves, Besides}
+use Rattle.alp_node.specs.Halts.{HaveCauses, IsUncounted, tells_fault}
 use Rattle.alp_node.specs.Sessions.{session_at, with_session}
 use Rattle.alp_node.specs.ServerState.{IsAs, IsReady}
 
@@ -54,29 +57,37 @@ pub record Stepped {V : Type 0} (a : Alone) (before now : ℕ) (held : Contents)
   pub kept : IsAs next held new
   pub clock : IsTimely a.holder.clock e new.clock
 
--- which server it is stays as it was, and nobody adds to the allowance of its vault
-pub record IsSeated {V : Type 0} (allowance : V → Allowance) (old new : ServerState V) : Type 0 where
+-- which server it is stays as it was, and so does what its vault is; nobody adds to the allowance of that
+pub record IsSeated {V : Type 0} (G : Ghosts V) (old new : ServerState V) : Type 0 where
   pub server : new.server ≡ old.server
   pub epoch : new.epoch ≡ old.epoch
-  pub spends : Spends (allowance old.vault) (allowance new.vault)
+  pub same : IsSameVault G.tells G.volume G.server G.servers old.vault new.vault
+  pub spends : Spends (G.allowance old.vault) (G.allowance new.vault)
+
+-- the note has the epoch of a server that is up
+abbrev pub IsNoted : {V : Type 0} → Ghosts V → ServerState V → Type 0
+IsNoted G k = k.is_down ≡ false → (clock_kept (G.held k.vault).notes).epoch ≡ k.epoch
 
 abbrev pub is_call : Event → Bool
 is_call (event.Call client epoch number c) = true
 is_call _ = false
 
--- Of any vault: what is handed out is what the entry keeps, and each call has a reply and nothing else has one. A vault that
--- failed or was stopped has its cause, and just then the server is down.
+-- Of any vault: what is handed out is what the entry keeps, and each call has a reply, each event by which the server goes
+-- down, and nothing else. A vault that failed or was stopped has its cause, and just then the server is down. An answer that
+-- tells of no fault leaves their count.
 pub record IsGiven (asked : Bool) (before now : ℕ) (allowance : Allowance) (is_down : Bool) (a : Answer) : Type 0 where
   pub handed : a.handed ≡ a.kept
-  pub replies : is_some a.kept ≡ asked
+  pub replies : is_some a.kept ≡ (asked || is_down)
+  pub still : tells_fault a.kept ≡ false → now ≡ before
   pub down : is_down ≡ list_any is_stop a.acts
   pub causes : HaveCauses before now allowance a.acts
 
--- where memory was wanting, the server keeps what it kept
-pub record IsStill {V : Type 0} (serves : V → Bool) (held : V → Contents) (old new : ServerState V) : Type 0 where
-  pub kept : (a : Alone) → IsAs a (held old.vault) old → IsAs a (held new.vault) new
-  pub ready : (steps : ℕ) → IsReady steps (serves old.vault) old → IsReady steps (serves new.vault) new
+-- where memory was wanting, the server keeps what it kept, and its vault holds, counts and allows what it did
+pub record IsStill {V : Type 0} (G : Ghosts V) (old new : ServerState V) : Type 0 where
+  pub kept : (a : Alone) → IsAs a (G.held old.vault) old → IsAs a (G.held new.vault) new
+  pub ready : (steps : ℕ) → IsReady steps (G.serves old.vault) old → IsReady steps (G.serves new.vault) new
   pub up : new.is_down ≡ old.is_down
+  pub vault : IsUncounted G old.vault new.vault
 
 -- What a step comes to: with an answer to the event the server is a step further, and without one it is as before.
 pub record IsStep {V : Type 0} (G : Ghosts V) (old new : ServerState V) (e : Event) (r : Result Answer OutOfMemory) : Type 0 where
@@ -85,9 +96,12 @@ pub record IsStep {V : Type 0} (G : Ghosts V) (old new : ServerState V) (e : Eve
   -- and of any vault
   pub given : IfOk r (IsGiven (is_call e) (G.faults old.vault) (G.faults new.vault) (G.allowance new.vault) new.is_down)
   pub ready : (steps : ℕ) → IsReady steps (G.serves old.vault) old → OnOk r (IsReady (steps + 1) (G.serves new.vault) new)
-  pub still : OnErr r (IsStill G.serves G.held old new)
-  pub seat : IsSeated G.allowance old new
-  pub telling : G.tells new.vault ≡ G.tells old.vault
+  pub noted : IsNoted G old → IsNoted G new
+  pub still : OnErr r (IsStill G old new)
+  pub seat : IsSeated G old new
+  -- through the step a crash leaves what it might have left before, or all that the entry was to bring about
+  pub leaves : IsTrue (G.tells old.vault) → (a : Alone) → IsAs a (G.held old.vault) old
+      → MatchResult r (λ x. Leaves G old.vault new.vault (Besides G old.vault (λ c. c ≡ said_by (alone a) (entry_of e x)))) (λ _. Leaves G old.vault new.vault (Besides G old.vault (MightBring (alone a) e)))
 
 -- the event was answered, and its entry stands behind these; or there was no memory, and no more than these stand
 abbrev pub IsEntered : {V : Type 0} → Ghosts V → (old new : ServerState V) → (before after : List Entry) → Event → Result (Option Reply) OutOfMemory → Type 0

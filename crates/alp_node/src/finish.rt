@@ -1,5 +1,5 @@
 //! Transactions end.
-ghost use Rattle.std.specs.Prelude.{◌≡◌, ◌+◌, ◌<◌, ◌≤◌, ◌^◌, ◌*◌, [], ◌∷◌, ◌++◌, IsTrue, IfOk, OnOk, OnErr, Ok, None, Some, true, false, length, vec_capacity};
+ghost use Rattle.std.specs.Prelude.{◌≡◌, ◌+◌, ◌<◌, ◌≤◌, ◌^◌, ◌*◌, [], ◌∷◌, ◌++◌, IsTrue, IfOk, Ok, None, Some, true, false, length, vec_capacity};
 ghost use Rattle.std.specs.FinMap as map;
 ghost use Rattle.alp_calls.specs.declared.fault.CallFault.TheVariants as call_fault;
 ghost use Rattle.alp_files.specs.Sound.{AreSound};
@@ -17,7 +17,7 @@ ghost use Rattle.alp_files.specs.declared.reply.Reply.TheVariants as reply;
 ghost use Rattle.std.specs.Result.{IsErr};
 ghost use Rattle.alp_files.specs.declared.refusal.Refusal.TheVariants as refusal;
 ghost use Rattle.alp_files.specs.declared.refusal.Cause.TheVariants as cause;
-ghost use Rattle.alp_node.specs.Steps.{IsStep, IsTurn, IsOf, IsRefused, IsDown, counted_in, without_trans, ended};
+ghost use Rattle.alp_node.specs.Steps.{IsStep, IsTurn, IsOf, IsRefused, IsDown, counted_in, without_trans, ended, refused_answer};
 
 use crate::answer::Answer;
 use crate::server_state::ServerState;
@@ -54,6 +54,14 @@ fn decision(alloc: Global, stamp: Stamp) -> Act
     }
 }
 
+// The act by which a part is gone.
+fn released(alloc: Global, trans: TransId) -> Result<Acts, OutOfMemory>
+    ensures { IfOk result (λ acts. acts ≡ act.Released trans ∷ []) }
+{
+    let acts = vec![in alloc; Act::Released { trans }]?;
+    Ok(Acts::new(acts))
+}
+
 impl<V: Vault> ServerState<V> {
     // The transaction is live no more, and its locks go.
     fn forget(&mut self, trans: TransId)
@@ -64,17 +72,15 @@ impl<V: Vault> ServerState<V> {
     }
 
     // The part ends without effect, its client is told why, and nothing of it is to be told any more.
-    fn end(&mut self, turn: &Turn, trans: TransId, cause: Cause) -> Result<Answer, OutOfMemory>
+    fn end(&mut self, turn: &Turn, trans: TransId, cause: Cause, acts: Acts) -> Answer
         requires client { turn.now.client ≤ 16 }
-        ensures kept { OnOk result (self.new ≡ ended self.old turn.now trans) }
-        ensures answer { IfOk result (λ a. a ≡ record { kept = Some (reply.Refused (refusal.Aborted cause)); handed = Some (reply.Refused (refusal.Aborted cause)); acts = act.Released trans ∷ [] }) }
-        ensures err { OnErr result (self.new ≡ self.old) }
+        ensures kept { self.new ≡ ended self.old turn.now trans }
+        ensures answer { result ≡ refused_answer (refusal.Aborted cause) acts }
     {
-        let acts = Acts::new(vec![in self.alloc; Act::Released { trans }]?);
         self.forget(trans);
         self.dead.remove(turn.client, trans);
         self.sessions.count(turn);
-        Ok(Answer::refused(Refusal::Aborted { cause }, acts))
+        Answer::refused(Refusal::Aborted { cause }, acts)
     }
 
     /// A live transaction of the client ends without effect, as its client asked.
@@ -86,7 +92,8 @@ impl<V: Vault> ServerState<V> {
         requires ready { IsReadyForMore (V.serves self.old.vault) self.old }
         ensures { IsStep V.Vault self.old self.new (event.Call turn.now.client self.old.epoch turn.now.number (call.Finish trans false)) result }
     {
-        self.end(turn, trans, Cause::Asked)
+        let acts = released(self.alloc, trans)?;
+        Ok(self.end(turn, trans, Cause::Asked, acts))
     }
 
     /// A part of the client that timed out is known of from now on.
@@ -130,7 +137,8 @@ impl<V: Vault> ServerState<V> {
         ensures { IsStep V.Vault self.old self.new (event.Call turn.now.client self.old.epoch turn.now.number (call.Finish trans true)) result }
     {
         if self.clock >= CLOCK_END {
-            return self.end(turn, trans, against(self.server, Why::ClockEnd));
+            let acts = released(self.alloc, trans)?;
+            return Ok(self.end(turn, trans, against(self.server, Why::ClockEnd), acts));
         }
         let Some(live) = self.lives.get(&trans) else {
             unreachable!()
@@ -158,6 +166,7 @@ impl<V: Vault> ServerState<V> {
             ts: self.clock + 1,
             trans,
         };
+        let unread = released(self.alloc, trans)?;
         let decided = decision(self.alloc, stamp);
         let acts = Acts::new(vec![in self.alloc; decided, Act::Released { trans }]?);
         let mut halted = Vec::with_capacity(self.alloc, 2)?;
@@ -173,7 +182,8 @@ impl<V: Vault> ServerState<V> {
         match store(self.alloc, &mut self.vault, &live.part.intents, note) {
             Ok(()) => {}
             Err(StoreFault::Unread) => {
-                return self.end(turn, trans, against(self.server, Why::ReadFault));
+                let cause = against(self.server, Why::ReadFault);
+                return Ok(self.end(turn, trans, cause, unread));
             }
             Err(StoreFault::Failed) => return Ok(self.halt(Act::Failed, halted)),
             Err(StoreFault::Stopped) => return Ok(self.halt(Act::Stopped, halted)),

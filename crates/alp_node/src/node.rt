@@ -1,11 +1,13 @@
 //! A server with its journal.
-ghost use Rattle.std.specs.Prelude.{◌≡◌, ◌+◌, ◌<◌, ◌≤◌, ◌^◌, max, IsTrue, IsOk, List, [], ◌∷◌, ◌++◌, IfOk, OnErr, Some, true, false, length};
+ghost use Rattle.std.specs.Prelude.{◌≡◌, ◌+◌, ◌<◌, ◌≤◌, ◌^◌, max, IsTrue, IsOk, List, [], ◌∷◌, ◌++◌, IfOk, OnErr, MatchResult, Some, true, false, length};
 ghost use Rattle.alp_files.specs.declared.refusal.Refusal.TheVariants as refusal;
 ghost use Rattle.alp_files.specs.declared.reply.Reply.TheVariants as reply;
 ghost use Rattle.alp_journal.specs.declared.entry.Entry.{Entry as AnEntry};
 ghost use Rattle.alp_journal.specs.Alone.{Alone};
 ghost use Rattle.alp_node.specs.ServerState.{IsAs, IsReadyForMore, IsOfJournal};
-ghost use Rattle.alp_node.specs.Nodes.{IsConsistent, Answered, AreLive, HasRoom, state_of, start_in};
+ghost use Rattle.alp_base.specs.Crashes.{Either};
+ghost use Rattle.alp_node.specs.Durable.{Leaves, IsSettled, IsKeptOrBrought, said_then};
+ghost use Rattle.alp_node.specs.Nodes.{IsConsistent, Answered, AreLive, HasNoEntry, HasRoom, state_of, start_in};
 ghost use Rattle.alp_node.specs.Served.{IsServed, AreLivesSound};
 ghost use Rattle.alp_node.specs.Steps.{IsEntered, IsSeated, seen_in};
 
@@ -56,12 +58,14 @@ impl<V: Vault> Node<V> {
         ensures answered { self.old.kept.is_down ≡ false → IfOk result (λ r. Answered (V.tells self.old.kept.vault) (state_of (start_in V.Vault self.old) self.old.journal) self.old.journal self.new.journal event r (V.faults self.old.kept.vault) (V.faults self.new.kept.vault) (V.allowance self.new.kept.vault) self.new.kept.is_down) }
         ensures down { self.old.kept.is_down ≡ true → IfOk result (λ r. r ≡ Some (reply.Refused refusal.Down)) }
         ensures still_down { self.old.kept.is_down ≡ true → IsOk result × (self.new ≡ self.old) }
-        ensures err { OnErr result ((self.new.journal ≡ self.old.journal) × (self.new.kept.is_down ≡ self.old.kept.is_down)) }
+        ensures err { OnErr result (HasNoEntry V.Vault self.old self.new) }
         ensures still { (a : Alone) → IsAs a (V.held self.old.kept.vault) self.old.kept → OnErr result (IsAs a (V.held self.new.kept.vault) self.new.kept) }
         ensures opening { self.new.opening ≡ self.old.opening }
-        ensures seat { IsSeated V.allowance self.old.kept self.new.kept }
+        ensures seat { IsSeated V.Vault self.old.kept self.new.kept }
         ensures clock { IsTrue (V.tells self.old.kept.vault) → self.new.kept.clock ≤ max self.old.kept.clock (seen_in event) + 1 }
-        ensures tells { V.tells self.new.kept.vault ≡ V.tells self.old.kept.vault }
+        // Through the step a crash leaves what the vault held before it, or all that its one write makes of that; where memory was
+        // wanting, what another lawful answer would have made of it.
+        ensures durable { IsTrue (V.tells self.old.kept.vault) → self.old.kept.is_down ≡ false → MatchResult result (λ _. Leaves V.Vault self.old.kept.vault self.new.kept.vault (Either (V.held self.old.kept.vault) (said_then (state_of (start_in V.Vault self.new) self.new.journal)))) (λ _. Leaves V.Vault self.old.kept.vault self.new.kept.vault (IsKeptOrBrought (V.held self.old.kept.vault) (state_of (start_in V.Vault self.old) self.old.journal) event)) }
     {
         if self.kept.is_down {
             return Ok(Some(Reply::Refused(Refusal::Down)));
@@ -163,9 +167,13 @@ fn answer<V: Vault>(
     requires ready { IsReadyForMore (V.serves kept.old.vault) kept.old }
     requires known { IsTrue (V.tells kept.old.vault) → IsOfJournal (V.held kept.old.vault) kept.old }
     requires sound { IsTrue (V.tells kept.old.vault) → AreLivesSound (V.held kept.old.vault) kept.old }
-    ensures { (before : List AnEntry) (last : AnEntry) → journal.old ≡ before ++ last ∷ [] → IsEntered V.Vault kept.old kept.new before journal.new event result }
+    ensures entered { (before : List AnEntry) (last : AnEntry) → journal.old ≡ before ++ last ∷ [] → IsEntered V.Vault kept.old kept.new before journal.new event result }
+    ensures settled { IsSettled V.Vault kept.old.vault × IsSettled V.Vault kept.new.vault }
 {
-    match kept.answer(&event) {
+    kept.vault.knows();
+    let answered = kept.answer(&event);
+    kept.vault.knows();
+    match answered {
         Ok(answer) => Ok(enter(journal, event, answer)),
         Err(OutOfMemory) => {
             journal.take_back();

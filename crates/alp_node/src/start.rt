@@ -9,8 +9,10 @@ ghost use Rattle.alp_fields.specs.ClockNote.{clock_name, clock_form};
 ghost use Rattle.alp_base.specs.Faults.{IsOfVolume};
 ghost use Rattle.alp_vault.specs.Vault.{IsSameVault};
 ghost use Rattle.alp_vault.specs.Volumes.{AreServerNotes};
+ghost use Rattle.alp_node.specs.Durable.{Leaves};
+ghost use Rattle.alp_node.specs.Halts.{IsUncounted};
 ghost use Rattle.alp_node.specs.Nodes.{IsNew};
-ghost use Rattle.alp_node.specs.Starts.{AreOfServer, HasRaised, after_clock, raised, HasStartCause, IsNoteFault};
+ghost use Rattle.alp_node.specs.Starts.{AreOfServer, HasRaised, IsKeptOrRaised, after_clock, raised, HasStartCause, IsNoteFault};
 
 use crate::dead::Dead;
 use crate::lives::Lives;
@@ -96,7 +98,8 @@ fn vault_fault(fault: StoreFault) -> VaultFault
 
 impl<V: Vault> Node<V> {
     /// A server with what its vault holds. Its epoch is one more than that of the note, or 1 with clock 0 where there
-    /// is none, and stands in the note from then on. Want of memory leaves the vault with what it held, and serving.
+    /// is none, and stands in the note from then on. Want of memory leaves the vault with what it held, serving, and
+    /// with its count of faults.
     pub fn start(
         alloc: Global,
         server: u8,
@@ -107,12 +110,15 @@ impl<V: Vault> Node<V> {
         requires server { (V.server vault ≡ server) × (V.servers vault ≡ servers) }
         requires given { IsTrue (V.tells vault) → AreOfServer server (V.held vault) }
         ensures raised { IfOk result (λ n. HasRaised (V.tells vault) (V.server vault) (V.servers vault) (V.held vault) (V.held n.kept.vault) (record { epoch = n.kept.epoch; clock = n.kept.clock })) }
-        ensures new { IfOk result (IsNew server) }
+        ensures new { IfOk result (IsNew V.volume server) }
         ensures same { MatchResult result (λ n. IsSameVault V.tells V.volume V.server V.servers vault n.kept.vault) (λ e. IsSameVault V.tells V.volume V.server V.servers vault e.0) }
         ensures allowance { MatchResult result (λ n. Spends (V.allowance vault) (V.allowance n.kept.vault)) (λ e. Spends (V.allowance vault) (V.allowance e.0)) }
         ensures cause { IfErr result (λ e. HasStartCause (V.server vault) (V.servers vault) (V.held vault) (V.faults vault) (V.faults e.0) (V.allowance e.0) e.1) }
         ensures untouched { IfErr result (λ e. IsNoteFault e.1 → e.0 ≡ vault) }
-        ensures memory { IfErr result (λ e. e.1 ≡ StartFault.Vault vault_fault.OutOfMemory → (V.held e.0 ≡ V.held vault) × IsTrue (V.serves e.0)) }
+        ensures memory { IfErr result (λ e. e.1 ≡ StartFault.Vault vault_fault.OutOfMemory → IsUncounted V.Vault vault e.0 × IsTrue (V.serves e.0)) }
+        ensures counted { IfOk result (λ n. V.faults n.kept.vault ≡ V.faults vault) }
+        // Through the whole call a crash leaves what was held, or that with the raised note.
+        ensures crash { IsTrue (V.tells vault) → MatchResult result (λ n. Leaves V.Vault vault n.kept.vault (IsKeptOrRaised (V.held vault))) (λ e. Leaves V.Vault vault e.0 (IsKeptOrRaised (V.held vault))) }
     {
         let _ = servers;
         let mut vault = vault;
@@ -125,6 +131,7 @@ impl<V: Vault> Node<V> {
         if let Err(fault) = store(alloc, &mut vault, &CellMap::new(alloc), clock) {
             return Err((vault, StartFault::Vault(vault_fault(fault))));
         }
+        vault.knows();
         let kept = ServerState {
             alloc,
             server,

@@ -1,18 +1,18 @@
 //! Commits of a server's vault: what a transaction intends, with the note of the epoch and the clock.
-ghost use Rattle.std.specs.Prelude.{◌≡◌, ◌≤◌, ◌^◌, [], IsTrue, OnOk, IfOk, IsErrOf};
+ghost use Rattle.std.specs.Prelude.{◌≡◌, ◌≤◌, ◌^◌, [], IsTrue, OnOk, IfOk};
 ghost use Rattle.std.specs.FinMap as map;
 ghost use Rattle.alp_base.specs.Allowances.{Spends};
-ghost use Rattle.alp_base.specs.Causes.{Rose};
-ghost use Rattle.alp_base.specs.declared.allowance.Allowance.TheVariants.{Spent};
-ghost use Rattle.alp_node.specs.declared.stored.StoreFault.TheVariants as fault;
+ghost use Rattle.alp_base.specs.Crashes.{Either};
 ghost use Rattle.alp_node.specs.declared.stored.StoreFault.TheVariants.{OutOfMemory as NoMemory};
-ghost use Rattle.alp_node.specs.Halts.{ServesOn, look_fault as look_fault_said};
+ghost use Rattle.alp_node.specs.Durable.{Leaves, Besides, IsWritten};
+ghost use Rattle.alp_node.specs.Halts.{Ends, look_fault as look_fault_said};
 ghost use Rattle.alp_fields.specs.ClockNote.{clock_name, clock_form, clock_kept};
 ghost use Rattle.alp_files.specs.Cells.{Cells};
 ghost use Rattle.alp_files.specs.Edits.{edits_map, over};
 ghost use Rattle.alp_files.specs.Sound.{AreSound};
 ghost use Rattle.alp_files.specs.Changes.{edits_of, ArePutOnce};
 ghost use Rattle.alp_base.specs.Notes.{notes_after};
+ghost use Rattle.alp_vault.specs.Contents.{made};
 ghost use Rattle.alp_vault.specs.Vault.{IsSameVault};
 ghost use Rattle.alp_vault.specs.Volumes.{IsCommit, IsVolumeOf};
 
@@ -94,14 +94,11 @@ fn commit_change<V: Vault>(
     requires asked { IsCommit (V.volume vault.old) (V.server vault.old) (V.servers vault.old) (V.held vault.old).notes change.now notes.now }
     requires room { IsTrue (V.tells vault.old) → IsVolumeOf (V.volume vault.old) (edits_map (edits_of change.now) (V.held vault.old).cells) }
     ensures kept { IsSameVault V.tells V.volume V.server V.servers vault.old vault.new }
-    ensures serves { ServesOn (V.serves vault.new) result }
     ensures cells { IsTrue (V.tells vault.old) → OnOk result ((V.held vault.new).cells ≡ edits_map (edits_of change.now) (V.held vault.old).cells) }
     ensures notes { OnOk result ((V.held vault.new).notes ≡ notes_after notes.now (V.held vault.old).notes) }
-    ensures same { IsErrOf result fault.OutOfMemory → V.held vault.new ≡ V.held vault.old }
-    ensures read { IsErrOf result fault.Unread → ⊥ }
+    ensures leaves { IsTrue (V.tells vault.old) → Leaves V.Vault vault.old vault.new (Either (V.held vault.old) (made change.now notes.now (V.held vault.old))) }
     ensures allowance { Spends (V.allowance vault.old) (V.allowance vault.new) }
-    ensures failed { IsErrOf result fault.Failed → Rose (V.faults vault.old) (V.faults vault.new) }
-    ensures stopped { IsErrOf result fault.Stopped → V.allowance vault.new ≡ Spent }
+    ensures ended { Ends V.Vault vault.old vault.new result }
 {
     match vault.commit(change, notes) {
         Ok(()) => Ok(()),
@@ -123,15 +120,13 @@ pub fn store<V: Vault>(
     requires clock { clock.clock ≤ 2 ^ 62 }
     requires sound { IsTrue (V.tells vault.old) → (m : Cells) → map.get m ≡ over intents.now (map.get (V.held vault.old).cells) → AreSound m }
     ensures kept { IsSameVault V.tells V.volume V.server V.servers vault.old vault.new }
-    ensures serves { ServesOn (V.serves vault.new) result }
     ensures cells { IsTrue (V.tells vault.old) → OnOk result (map.get (V.held vault.new).cells ≡ over intents.now (map.get (V.held vault.old).cells)) }
     ensures notes { OnOk result ((V.held vault.new).notes ≡ map.insert (V.held vault.old).notes clock_name (clock_form.spell clock)) }
     ensures clock { OnOk result (clock_kept (V.held vault.new).notes ≡ clock) }
-    ensures same { IsErrOf result fault.OutOfMemory → V.held vault.new ≡ V.held vault.old }
-    ensures unread { IsErrOf result fault.Unread → (V.held vault.new ≡ V.held vault.old) × Rose (V.faults vault.old) (V.faults vault.new) }
+    // Through the whole call a crash leaves what was held, or that with the one write.
+    ensures leaves { IsTrue (V.tells vault.old) → Leaves V.Vault vault.old vault.new (Besides V.Vault vault.old (IsWritten intents.now clock (V.held vault.old))) }
     ensures allowance { Spends (V.allowance vault.old) (V.allowance vault.new) }
-    ensures failed { IsErrOf result fault.Failed → Rose (V.faults vault.old) (V.faults vault.new) }
-    ensures stopped { IsErrOf result fault.Stopped → V.allowance vault.new ≡ Spent }
+    ensures ended { Ends V.Vault vault.old vault.new result }
 {
     let change = change_of(alloc, intents)?;
     let note = clock_change(alloc, clock)?;

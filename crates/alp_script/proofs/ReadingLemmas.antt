@@ -1,11 +1,13 @@
 -- lemmas on a script that is read from a source
-use Rattle.std.specs.Prelude.{Option, None, Some, Result, Ok, Err, Vec}
+use Rattle.std.specs.Prelude.{◌==◌, cond, Option, None, Some, Result, Ok, Err, Vec}
 use Rattle.std.specs.Global.{Global}
-use Rattle.std.specs.Io.KnownBytes.{Consumes, IsAtEnd}
-use Rattle.std.proofs.Common.{◌≡◌, ℕ, List, [], ◌++◌, refl, subst, inl, inr, sym, ◌∙◌, ap, append_assoc, append-nil}
+use Rattle.std.specs.Io.KnownBytes.{Consumes, Keeps, IsAtEnd}
+use Rattle.std.proofs.Common.{◌≡◌, ℕ, List, [], ◌++◌, refl, subst, inl, inr, sym, ◌∙◌, ap, arith, append_assoc, append-nil}
+use Rattle.std.proofs.lemmas.List.Sums.{sum_by-append}
 use Rattle.alp_script.specs.Script.{script}
-use Rattle.alp_script.specs.Progress.{Progress, resume, Follows, Takes, Gives}
-use Rattle.alp_script.specs.Reading.{HasRead, GaveScript, GaveBadLine, ReadsScript}
+use Rattle.alp_script.specs.Progress.{Progress, resume, line_ends, Follows, Takes, Gives}
+use Rattle.alp_script.specs.Reading.{HasRead, GaveScript, GaveBadLine, GaveGoodLines, ReadsScript}
+use Rattle.alp_script.proofs.ScriptLemmas.{resume-later}
 use Rattle.alp_script.specs.declared.fault.ScriptFault.{ScriptFault}
 use Rattle.alp_script.specs.declared.fault.ScriptFault.TheVariants as fault
 use Rattle.alp_script.specs.declared.numbered.NumberedLine.{NumberedLine}
@@ -22,8 +24,8 @@ consumes-both (Some x) (Some y) None xs ys p q = absurd q
 consumes-both (Some x) (Some y) (Some z) xs ys p q = p ∙ ap (λ rest. xs ++ rest) q ∙ sym (append_assoc xs ys z)
 
 -- nothing was read yet
-pub has_read-nothing : (a : Option (List ℕ)) (p : Progress) → ((bytes : List ℕ) → resume p bytes ≡ script bytes) → HasRead a a p
-has_read-nothing a p whole = record { bytes = []; consumed = consumes-none a; same = λ rest. sym (whole rest) }
+pub has_read-nothing : (a : Option (List ℕ)) (p : Progress) → p.lines ≡ 0 → ((bytes : List ℕ) → resume p bytes ≡ script bytes) → HasRead a a p
+has_read-nothing a p none whole = record { bytes = []; consumed = consumes-none a; same = λ rest. sym (whole rest); counted = none }
 
 joined : (bytes piece rest : List ℕ) (p : Progress) → ((more : List ℕ) → script (bytes ++ more) ≡ resume p more) → script ((bytes ++ piece) ++ rest) ≡ resume p (piece ++ rest)
 joined bytes piece rest p same = ap script (append_assoc bytes piece rest) ∙ same (piece ++ rest)
@@ -33,15 +35,16 @@ has_read-more a b c p q piece h consumed next = record {
   bytes = h.bytes ++ piece;
   consumed = consumes-both a b c h.bytes piece h.consumed consumed;
   same = λ rest. joined h.bytes piece rest p h.same ∙ next.same rest;
+  counted = omega (arith, h.counted, next.counted, sum_by-append (λ b. cond (b == 10) 1 0) h.bytes piece);
 }
 
 whole : (bytes : List ℕ) (p : Progress) (said : Result (List NumberedLine) ℕ) → ((rest : List ℕ) → script (bytes ++ rest) ≡ resume p rest) → resume p [] ≡ said → script bytes ≡ said
 whole bytes p said same e = ap script (sym (append-nil bytes)) ∙ same [] ∙ e
 
 -- the reader refused a piece
-pub reads-refused : (a b c : Option (List ℕ)) (before now : ℕ) (p q : Progress) (piece : List ℕ) (e : ScriptFault)
-    → HasRead a b p → Consumes b c piece → Takes {X = Unit {0}} p q piece (Err e) → ReadsScript a c before now (Err e)
-reads-refused a b c before now p q piece (fault.Bad n) h consumed refused =
+pub reads-refused : (a b c : Option (List ℕ)) (p q : Progress) (piece : List ℕ) (e : ScriptFault)
+    → HasRead a b p → Consumes b c piece → Takes {X = Unit {0}} p q piece (Err e) → ReadsScript a c (Err e)
+reads-refused a b c p q piece (fault.Bad n) h consumed refused =
     let always : (rest : List ℕ) → script ((h.bytes ++ piece) ++ rest) ≡ Err n = λ rest. joined h.bytes piece rest p h.same ∙ refused.always rest in
     record {
       bytes = h.bytes ++ piece;
@@ -49,29 +52,43 @@ reads-refused a b c before now p q piece (fault.Bad n) h consumed refused =
       outside = ap script (sym (append-nil (h.bytes ++ piece))) ∙ always [];
       final = inl always;
     }
-reads-refused a b c before now p q piece fault.ReadFault h consumed refused = absurd refused
-reads-refused a b c before now p q piece fault.OutOfMemory h consumed refused = tt
+reads-refused a b c p q piece fault.ReadFault h consumed refused = absurd refused
+reads-refused a b c p q piece fault.OutOfMemory h consumed refused = tt
 
 at_end : (a b c : Option (List ℕ)) (bytes : List ℕ) → Consumes a b bytes → Consumes b c [] → Consumes a c bytes
 at_end a b c bytes h k = subst (λ (xs : List ℕ). Consumes a c xs) (append-nil bytes) (consumes-both a b c bytes [] h k)
 
 -- the source came to its end
-pub reads-finished : (a b c : Option (List ℕ)) (before now : ℕ) (p : Progress) (r : Result (Vec NumberedLine Global) ScriptFault)
-    → HasRead a b p → Consumes b c [] → IsAtEnd c → Gives (λ v. v.items) r (resume p []) → ReadsScript a c before now r
-reads-finished a b c before now p (Ok v) h consumed end said = record {
+pub reads-finished : (a b c : Option (List ℕ)) (p : Progress) (r : Result (Vec NumberedLine Global) ScriptFault)
+    → HasRead a b p → Consumes b c [] → IsAtEnd c → Gives (λ v. v.items) r (resume p []) → ReadsScript a c r
+reads-finished a b c p (Ok v) h consumed end said = record {
   bytes = h.bytes;
   consumed = at_end a b c h.bytes h.consumed consumed;
   said = whole h.bytes p (Ok v.items) h.same said;
   end = end;
 }
-reads-finished a b c before now p (Err (fault.Bad n)) h consumed end said = record {
+reads-finished a b c p (Err (fault.Bad n)) h consumed end said = record {
   bytes = h.bytes;
   consumed = at_end a b c h.bytes h.consumed consumed;
   outside = whole h.bytes p (Err n) h.same said;
   final = inr end;
 }
-reads-finished a b c before now p (Err fault.ReadFault) h consumed end said = absurd said
-reads-finished a b c before now p (Err fault.OutOfMemory) h consumed end said = tt
+reads-finished a b c p (Err fault.ReadFault) h consumed end said = absurd said
+reads-finished a b c p (Err fault.OutOfMemory) h consumed end said = tt
+
+keeps : (a b c : Option (List ℕ)) (bytes : List ℕ) → Consumes a b bytes → Keeps b c → Consumes a c bytes
+keeps None b c bytes h same = tt
+keeps (Some x) None c bytes h same = absurd h
+keeps (Some x) (Some y) None bytes h same = absurd same
+keeps (Some x) (Some y) (Some z) bytes h same = h ∙ ap (λ rest. bytes ++ rest) (sym same)
+
+-- the source failed, and no line that was whole is outside
+pub reads-failed : (a b c : Option (List ℕ)) (p : Progress) → HasRead a b p → Keeps b c → GaveGoodLines a c
+reads-failed a b c p h same = record {
+  bytes = h.bytes;
+  consumed = keeps a b c h.bytes h.consumed same;
+  later = λ rest n e. omega (arith, h.counted, resume-later p rest n (sym (h.same rest) ∙ e));
+}
 
 -- a source that tells its bytes gave the script of all of them
 pub script-given : (xs : List ℕ) (new : Option (List ℕ)) (lines : List NumberedLine) → GaveScript (Some xs) new lines → script xs ≡ Ok lines

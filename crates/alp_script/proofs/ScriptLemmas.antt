@@ -2,18 +2,19 @@
 use Rattle.std.specs.Prelude.{nat_le, ◌&&◌, ◌==◌, Bool, Option, None, Some, cond, All, Result, Ok, Err}
 use Rattle.std.specs.List.{slice_split, onto_first, list_all}
 use Rattle.std.specs.Str.Lines.{lines, lines_of_parts, strip_carriage_return}
-use Rattle.std.proofs.Common.{◌≡◌, ℕ, ◌+◌, ◌-◌, ◌<◌, ◌≤◌, List, [], ◌∷◌, ◌++◌, length, take, drop, true, false, refl, sym, ◌∙◌, ap, arith, append_assoc, append-nil, length-append, slice_index, get_or, suc, add-one}
+use Rattle.std.proofs.Common.{◌≡◌, ℕ, ◌+◌, ◌-◌, ◌<◌, ◌≤◌, List, [], ◌∷◌, ◌++◌, length, take, drop, true, false, refl, sym, ◌∙◌, ap, subst, arith, append_assoc, append-nil, length-append, slice_index, get_or, suc, add-one}
 use Rattle.std.proofs.Math.Seq.{drop-cons}
 use Rattle.std.proofs.Math.Dec.{eqb-suc-zero}
 use Rattle.std.proofs.lemmas.Bool.{lt-leb}
-use Rattle.std.proofs.lemmas.List.{length-take, drop_all, nil_from_length}
+use Rattle.std.proofs.lemmas.List.{length-take, take_all, drop_all, nil_from_length}
 use Rattle.std.proofs.lemmas.List.Splits.{slice_split_none, slice_split_at}
 use Rattle.std.proofs.lemmas.List.Elements.{All-push}
+use Rattle.std.proofs.lemmas.List.Sums.{sum_by_more}
 use Rattle.alp_script.specs.Words.{◌>>=◌, is_ascii}
 use Rattle.alp_script.specs.Grammar.{text_said}
 use Rattle.alp_script.specs.Known.{Known, nothing_known}
 use Rattle.alp_script.specs.Script.{read_at, with_front, numbered, line_then, script_from, script, ended}
-use Rattle.alp_script.specs.Progress.{Progress, at_start, IsUnfinished, resume, room, Follows, IsOutside, Takes}
+use Rattle.alp_script.specs.Progress.{Progress, at_start, IsUnfinished, resume, room, line_ends, Follows, IsOutside, Takes}
 use Rattle.alp_script.specs.declared.fault.ScriptFault.{ScriptFault}
 use Rattle.alp_script.specs.declared.fault.ScriptFault.TheVariants as fault
 use Rattle.alp_script.specs.declared.line.Line.{Line}
@@ -98,11 +99,15 @@ script_from-long s n p (b ∷ rest) open_ended long = go (b == 10) refl (λ q o 
         ap (λ bytes. script_from s n (lines bytes)) (sym (append_assoc p (b ∷ []) rest))
         ∙ longer (p ++ b ∷ []) (All-push (λ x. (x == 10) ≡ false) p b open_ended e) (omega (arith, length-append p (b ∷ [])))
 
+no_end : (b : ℕ) → (b == 10) ≡ false → line_ends (b ∷ []) ≡ 0
+no_end b e = ap (λ (v : Bool). 0 + cond v 1 0) e
+
 -- a byte more in the unfinished line
-pub follows-byte : (p : Progress) (b : ℕ) → length p.partial ≤ LINE_BYTES → Follows p (record p { partial = p.partial ++ b ∷ [] }) (b ∷ [])
+pub follows-byte : (p : Progress) (b : ℕ) → (b == 10) ≡ false → length p.partial ≤ LINE_BYTES → Follows p (record p { partial = p.partial ++ b ∷ [] }) (b ∷ [])
 unfolding resume
-follows-byte p b short = record {
+follows-byte p b within short = record {
   same = λ rest. ap (λ bytes. with_front p.said (script_from p.known (p.lines + 1) (lines bytes))) (sym (append_assoc p.partial (b ∷ []) rest));
+  counted = omega (arith, no_end b within);
   nearer = omega (arith, length-append p.partial (b ∷ []));
 }
 
@@ -128,6 +133,7 @@ follows-line p l t unfinished few said = record {
       ap (λ texts. with_front p.said (script_from p.known (p.lines + 1) texts)) (lines-at p.partial rest 10 unfinished.open_ended refl)
       ∙ ap (λ o. with_front p.said (line_then (p.lines + 1) o (λ s. script_from s (p.lines + 1 + 1) (lines rest)))) said
       ∙ with_front-twice p.said (numbered (p.lines + 1) l) (script_from t (p.lines + 1 + 1) (lines rest));
+  counted = refl;
   nearer = omega (arith, unfinished.short);
 }
 
@@ -166,11 +172,21 @@ refused-next old mid new piece i (fault.Bad n) within same next = outside-next o
 refused-next old mid new piece i fault.ReadFault within same next = absurd next
 refused-next old mid new piece i fault.OutOfMemory within same next = tt
 
+-- the lines that end in one byte more
+pub counted-next : (old mid new : Progress) (piece : List ℕ) (i : ℕ) → i < length piece
+    → mid.lines ≡ old.lines + line_ends (take i piece) → Follows mid new (get_or piece i 0 ∷ []) → new.lines ≡ old.lines + line_ends (take (i + 1) piece)
+counted-next old mid new piece i within counted next =
+    let one : line_ends (get_or piece i 0 ∷ []) ≡ cond (get_or piece i 0 == 10) 1 0 = omega arith in
+    let more : line_ends (take (i + 1) piece) ≡ line_ends (take i piece) + cond (get_or piece i 0 == 10) 1 0 = sum_by_more (λ b. cond (b == 10) 1 0) piece i 0 within in
+    omega (arith, counted, next.counted, one, more)
+
 -- all of a piece
 pub follows-all : (old new : Progress) (piece : List ℕ) (i : ℕ) → length piece ≤ i
-    → ((rest : List ℕ) → resume old (piece ++ rest) ≡ resume new (drop i piece ++ rest)) → room new + i ≤ room old → Follows old new piece
-follows-all old new piece i all same nearer = record {
+    → ((rest : List ℕ) → resume old (piece ++ rest) ≡ resume new (drop i piece ++ rest)) → new.lines ≡ old.lines + line_ends (take i piece)
+    → room new + i ≤ room old → Follows old new piece
+follows-all old new piece i all same counted nearer = record {
   same = λ rest. same rest ∙ ap (λ bytes. resume new (bytes ++ rest)) (drop_all i piece all);
+  counted = counted ∙ ap (λ bytes. old.lines + line_ends bytes) (take_all i piece all);
   nearer = omega arith;
 }
 
@@ -185,3 +201,32 @@ unfolding resume
 resume-last p open_ended some =
     ap (λ bytes. with_front p.said (script_from p.known (p.lines + 1) (lines bytes))) (append-nil p.partial)
     ∙ ap (λ texts. with_front p.said (script_from p.known (p.lines + 1) texts)) (lines-last p.partial open_ended some)
+
+-- where a line is outside, it is the n-th or a later one
+abbrev OutsideFrom : ℕ → Result (List NumberedLine) ℕ → Type 0
+OutsideFrom n (Ok ls) = Unit {0}
+OutsideFrom n (Err m) = n ≤ m
+
+from_earlier : (n : ℕ) (r : Result (List NumberedLine) ℕ) → OutsideFrom (n + 1) r → OutsideFrom n r
+from_earlier n (Ok ls) later = tt
+from_earlier n (Err m) later = omega arith
+
+behind_front : (n : ℕ) (front : List NumberedLine) (r : Result (List NumberedLine) ℕ) → OutsideFrom n r → OutsideFrom n (with_front front r)
+behind_front n front (Ok ls) later = tt
+behind_front n front (Err m) later = later
+
+line-later : (n : ℕ) (o : Option (Option Line × Known)) (more : Known → Result (List NumberedLine) ℕ) → ((t : Known) → OutsideFrom (n + 1) (more t)) → OutsideFrom n (line_then n o more)
+line-later n None more later = omega arith
+line-later n (Some p) more later = behind_front n (numbered n p.0) (more p.1) (from_earlier n (more p.1) (later p.1))
+
+script_from-later : (k : Known) (n : ℕ) (texts : List (List ℕ)) → OutsideFrom n (script_from k n texts)
+script_from-later k n [] = elim k.servers as (λ v. OutsideFrom n (cond v (Ok []) (Err n))) [ true ↦ tt | false ↦ omega arith ]
+script_from-later k n (text ∷ texts) = line-later n (read_at k n text) (λ t. script_from t (n + 1) texts) (λ t. script_from-later t (n + 1) texts)
+
+-- no line that was whole is outside
+pub resume-later : (p : Progress) (rest : List ℕ) (n : ℕ) → resume p rest ≡ Err n → p.lines < n
+unfolding resume
+resume-later p rest n e =
+    let later : OutsideFrom (p.lines + 1) (Err n) =
+    subst (OutsideFrom (p.lines + 1)) e (behind_front (p.lines + 1) p.said _ (script_from-later p.known (p.lines + 1) (lines (p.partial ++ rest)))) in
+    omega (arith, later)

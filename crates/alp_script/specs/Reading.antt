@@ -1,10 +1,10 @@
 -- a script that is read from a source
-use Rattle.std.specs.Prelude.{◌≡◌, ℕ, List, ◌++◌, ◌⊎◌, Option, Some, Result, Ok, Err, Vec}
+use Rattle.std.specs.Prelude.{◌≡◌, ℕ, ◌<◌, List, ◌++◌, ◌⊎◌, Option, Some, Result, Ok, Err, Vec}
 use Rattle.std.specs.Global.{Global}
 use Rattle.std.specs.Io.KnownBytes.{Consumes, IsAtEnd}
 use Rattle.alp_base.specs.Causes.{Rose}
 use Rattle.alp_script.specs.Script.{script}
-use Rattle.alp_script.specs.Progress.{Progress, resume}
+use Rattle.alp_script.specs.Progress.{Progress, resume, line_ends}
 use Rattle.alp_script.specs.declared.fault.ScriptFault.{ScriptFault}
 use Rattle.alp_script.specs.declared.fault.ScriptFault.TheVariants as fault
 use Rattle.alp_script.specs.declared.numbered.NumberedLine.{NumberedLine}
@@ -14,6 +14,7 @@ pub record HasRead (old new : Option (List ℕ)) (progress : Progress) : Type 0 
   pub bytes : List ℕ
   pub consumed : Consumes old new bytes
   pub same : (rest : List ℕ) → script (bytes ++ rest) ≡ resume progress rest
+  pub counted : progress.lines ≡ line_ends bytes
 
 -- the source gave these bytes and came to its end, and they are the script of these lines
 pub record GaveScript (old new : Option (List ℕ)) (lines : List NumberedLine) : Type 0 where
@@ -30,6 +31,13 @@ pub record GaveBadLine (old new : Option (List ℕ)) (n : ℕ) : Type 0 where
   pub outside : script bytes ≡ Err n
   pub final : ((rest : List ℕ) → script (bytes ++ rest) ≡ Err n) ⊎ IsAtEnd new
 
+-- the source gave these bytes, and no line that ends in them is outside: whatever follows, the first line that is outside
+-- comes behind them
+pub record GaveGoodLines (old new : Option (List ℕ)) : Type 0 where
+  pub bytes : List ℕ
+  pub consumed : Consumes old new bytes
+  pub later : (rest : List ℕ) (n : ℕ) → script (bytes ++ rest) ≡ Err n → line_ends bytes < n
+
 -- what the source has left is a script
 pub record SaysScript (has : Option (List ℕ)) : Type 0 where
   pub bytes : List ℕ
@@ -37,9 +45,16 @@ pub record SaysScript (has : Option (List ℕ)) : Type 0 where
   pub left : has ≡ Some bytes
   pub said : script bytes ≡ Ok lines
 
--- what was read of a source that had old and has new, with its counts of faults before and now
-abbrev pub ReadsScript : Option (List ℕ) → Option (List ℕ) → ℕ → ℕ → Result (Vec NumberedLine Global) ScriptFault → Type 0
-ReadsScript old new before now (Ok v) = GaveScript old new v.items
-ReadsScript old new before now (Err (fault.Bad n)) = GaveBadLine old new n
-ReadsScript old new before now (Err fault.ReadFault) = Rose before now
-ReadsScript old new before now (Err fault.OutOfMemory) = Unit {0}
+-- what was read of a source that had old and has new
+abbrev pub ReadsScript : Option (List ℕ) → Option (List ℕ) → Result (Vec NumberedLine Global) ScriptFault → Type 0
+ReadsScript old new (Ok v) = GaveScript old new v.items
+ReadsScript old new (Err (fault.Bad n)) = GaveBadLine old new n
+ReadsScript old new (Err fault.ReadFault) = GaveGoodLines old new
+ReadsScript old new (Err fault.OutOfMemory) = Unit {0}
+
+-- the source's count of faults rose where a fault is answered, and nowhere else
+abbrev pub HasReadCause : ℕ → ℕ → Result (Vec NumberedLine Global) ScriptFault → Type 0
+HasReadCause before now (Ok v) = now ≡ before
+HasReadCause before now (Err (fault.Bad n)) = now ≡ before
+HasReadCause before now (Err fault.ReadFault) = Rose before now
+HasReadCause before now (Err fault.OutOfMemory) = now ≡ before

@@ -1,7 +1,7 @@
 //! Reading a script from a source.
-ghost use Rattle.std.specs.Prelude.{◌≡◌, ℕ, ◌≤◌, List};
+ghost use Rattle.std.specs.Prelude.{◌≡◌, ℕ, List};
 ghost use Rattle.alp_script.specs.Accepted.{IsAccepted};
-ghost use Rattle.alp_script.specs.Reading.{ReadsScript};
+ghost use Rattle.alp_script.specs.Reading.{ReadsScript, HasReadCause};
 ghost use Rattle.alp_script.specs.Script.{script};
 
 use crate::reader::Reader;
@@ -13,13 +13,13 @@ use std::alloc::Global;
 const PIECE_BYTES: usize = 4096;
 
 /// The lines of the script that the source gives. A line that is outside is answered before any
-/// further read.
+/// further read, and so whether or not the source would fail behind it.
 pub fn read_script<S: Source>(
     alloc: Global,
     source: &mut S,
 ) -> Result<Vec<NumberedLine>, ScriptFault>
-    ensures script { ReadsScript (S.left source.old) (S.left source.new) (S.faults source.old) (S.faults source.new) result }
-    ensures later { S.faults source.old ≤ S.faults source.new }
+    ensures script { ReadsScript (S.left source.old) (S.left source.new) result }
+    ensures cause { HasReadCause (S.faults source.old) (S.faults source.new) result }
 {
     let mut reader = Reader::new(alloc);
     let mut buf = [0u8; PIECE_BYTES];

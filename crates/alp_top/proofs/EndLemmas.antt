@@ -209,6 +209,7 @@ module _ (lines : List NumberedLine) (c : Crowd) (before n : Server) (vs : List 
             live = end.live;
             plays = subst (λ (ts : List Turn). Plays new_crowd lines ts c) turns_same h.plays;
             all = λ k. lists_are k ∙ ap (own_in k) turns_same;
+            many = ap (λ (ws : List (Vec Item Global)). length ws) lists ∙ h.places;
             journal = journal ∙ end.ended.journal;
             recorded = subst (λ (ts : List Turn). AreRecorded 0 (sent_in ts) calls) turns_same h.recorded;
             lawful = is_single.lawful;

@@ -24,10 +24,7 @@ nothing = record { cells = map.empty; notes = map.empty }
 pub new_given : (server : ℕ) (held : Contents) → held ≡ nothing → AreOfServer server held
 new_given server held none =
     subst (λ (h : Contents). AreOfServer server h) (sym none)
-    (record {
-      ids = λ f x there. (let wrong : None ≡ Some x = sym (get_cell [] (Leader f)) ∙ there in cc);
-      sizes = λ k x there. (let wrong : None ≡ Some x = sym (get_cell [] k) ∙ there in cc);
-    })
+    (λ f x there. (let wrong : None ≡ Some x = sym (get_cell [] (Leader f)) ∙ there in cc))
 
 new_raised : (held : Contents) → held ≡ nothing → raised held ≡ Ok (record { epoch = 1; clock = 0 })
 new_raised held none = ap (λ (h : Contents). raised h) none ∙ ap after_note (get-empty text_cmp clock_name)

@@ -38,6 +38,8 @@ pub record IsFaithful (lines : List NumberedLine) (log : Log) (x : ServerOfLog) 
   pub plays : Plays new_crowd lines (turns_of lines (lists_of log)) clients
   -- the clients sent nothing else
   pub all : (k : ℕ) → lists_of log k ≡ own_in k (turns_of lines (lists_of log))
+  -- there is a list for each number of a client, and one that is empty at 0
+  pub many : length log.clients.items ≡ 17
   pub journal : x.journal ≡ calls ++ ends
   pub recorded : AreRecorded 0 (sent_in (turns_of lines (lists_of log))) calls
   pub lawful : IsLawful (start_of x) x.journal
@@ -66,21 +68,18 @@ pub record IsRun (lines : List NumberedLine) (log : Log) : Type 0 where
   -- its client was told before it began
   pub kept : ArePromisesKept (log_of log)
 
--- the headline: the source gave a script, and the log is of a run of it
-pub record IsPlayed (old new : Option (List ℕ)) (log : Log) : Type 0 where
+-- the headline: the source gave a script, the log is of a run of it, and what was written is the report of both and nothing
+-- else
+pub record IsPlayed (old new : Option (List ℕ)) (before after : Option (List ℕ)) (log : Log) : Type 0 where
   pub lines : List NumberedLine
   pub script : GaveScript old new lines
   pub run : IsRun lines log
+  pub output : Appends before after (report_of lines log)
 
--- the report of a script that the source gave was written
-pub record IsReported (old new : Option (List ℕ)) (before after : Option (List ℕ)) (log : Log) : Type 0 where
-  pub lines : List NumberedLine
-  pub script : GaveScript old new lines
-  pub written : Appends before after (report_of lines log)
-
--- or a prefix of it
+-- or a prefix of that report was written
 pub record IsCutOff (old new : Option (List ℕ)) (before after : Option (List ℕ)) (log : Log) : Type 0 where
   pub lines : List NumberedLine
   pub script : GaveScript old new lines
+  pub run : IsRun lines log
   pub count : ℕ
-  pub written : Appends before after (take count (report_of lines log))
+  pub output : Appends before after (take count (report_of lines log))

@@ -18,8 +18,10 @@ use Rattle.alp_top.specs.Plays.{Plays, AreRecorded}
 use Rattle.alp_top.specs.Servers.{Server, IsOn, start_in}
 use Rattle.alp_top.specs.Steps.{InStep, HasSaid}
 
--- a new server 1, alone, which holds nothing, in its first epoch and with clock 0
+-- a new server 1, alone, which holds nothing, in its first epoch and with clock 0, on a volume of 16,384 home pages and
+-- two log areas of 2,048 pages
 pub record IsNewOpening (o : Start) : Type 0 where
+  pub sizes : o.sizes ≡ record { home = 16384; area = 2048 }
   pub server : o.server ≡ 1
   pub servers : o.servers ≡ 1
   pub epoch : o.epoch ≡ 1

@@ -1,7 +1,8 @@
 -- How a run ended: its code, its text, and what holds where it ended so.
-use Rattle.std.specs.Prelude.{ℕ, Bool, true, false, nat_eq, List, [], ◌∷◌, ◌++◌, codes}
+use Rattle.std.specs.Prelude.{◌≡◌, ℕ, Bool, true, false, nat_eq, List, [], ◌∷◌, ◌++◌, codes}
 use Rattle.std.specs.Fmt.{decimal}
 use Rattle.std.specs.Cmp.Lexicographic.{pointwise}
+use Rattle.alp_base.specs.Causes.{Rose}
 use Rattle.alp_top.specs.Logs.{Log}
 use Rattle.alp_top.specs.declared.status.Status.{Status}
 use Rattle.alp_top.specs.declared.status.Status.TheVariants as status
@@ -31,12 +32,7 @@ abbrev pub is_bad_words : Status → Bool
 is_bad_words status.BadWords = true
 is_bad_words _ = false
 
--- where the script was played, of the log
-abbrev pub OnPlayed : Status → (Log → Type 0) → Type 0
-OnPlayed (status.Done log) P = P log.value
-OnPlayed (status.WriteFault log) P = P log.value
-OnPlayed _ P = Unit {0}
-
+-- where the script was played and the report is written, of the log
 abbrev pub OnDone : Status → (Log → Type 0) → Type 0
 OnDone (status.Done log) P = P log.value
 OnDone _ P = Unit {0}
@@ -53,9 +49,20 @@ abbrev pub OnReadFault : Status → Type 0 → Type 0
 OnReadFault status.ReadFault P = P
 OnReadFault _ P = Unit {0}
 
+-- the script was played and the report cut off, of the log
 abbrev pub OnWriteFault : Status → (Log → Type 0) → Type 0
 OnWriteFault (status.WriteFault log) P = P log.value
 OnWriteFault _ P = Unit {0}
+
+-- the source's count of faults rose where a read fault is told, and stayed in every other case
+abbrev pub IsReadFaultTold : Status → ℕ → ℕ → Type 0
+IsReadFaultTold status.ReadFault before now = Rose before now
+IsReadFaultTold _ before now = now ≡ before
+
+-- the sink's count of faults rose where a write fault is told, and stayed in every other case
+abbrev pub IsWriteFaultTold : Status → ℕ → ℕ → Type 0
+IsWriteFaultTold (status.WriteFault log) before now = Rose before now
+IsWriteFaultTold _ before now = now ≡ before
 
 -- the report is written, or there was no memory
 abbrev pub IsPlayedOrMemory : Status → Type 0

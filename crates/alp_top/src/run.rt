@@ -2,10 +2,10 @@
 ghost use Rattle.std.specs.Prelude.{◌≡◌, ℕ, true, not, take, map, string_bytes, IfOk, OnErr};
 ghost use Rattle.std.specs.Io.KnownBytes.{Appends};
 ghost use Rattle.alp_base.specs.Causes.{Rose};
-ghost use Rattle.alp_script.specs.Reading.{GaveBadLine, SaysScript};
+ghost use Rattle.alp_script.specs.Reading.{GaveBadLine, GaveGoodLines, SaysScript};
 ghost use Rattle.alp_script.specs.Accepted.{IsAccepted};
-ghost use Rattle.alp_top.specs.Statuses.{are_play, is_bad_words, OnPlayed, OnDone, OnBadWords, OnBadScript, OnReadFault, OnWriteFault, OnUnwritten, IsPlayedOrMemory};
-ghost use Rattle.alp_top.specs.Headline.{IsPlayed, IsRun, IsReported, IsCutOff};
+ghost use Rattle.alp_top.specs.Statuses.{are_play, is_bad_words, OnDone, OnBadWords, OnBadScript, OnReadFault, OnWriteFault, IsReadFaultTold, IsWriteFaultTold, OnUnwritten, IsPlayedOrMemory};
+ghost use Rattle.alp_top.specs.Headline.{IsPlayed, IsRun, IsCutOff};
 ghost use Rattle.alp_top.specs.Reports.{report_of};
 
 use crate::Status;
@@ -35,8 +35,8 @@ fn play_script(alloc: Global, lines: &[NumberedLine]) -> Result<Ended, OutOfMemo
 // Writes the report of a run that is over.
 fn hand_over<K: Sink>(ended: &Ended, out: &mut K) -> Status
     ensures done { OnDone result (λ log. (log ≡ ended.now.log) × Appends (K.written out.old) (K.written out.new) ended.now.text.items) }
-    ensures fault { OnWriteFault result (λ log. (log ≡ ended.now.log) × Rose (K.faults out.old) (K.faults out.new)) }
-    ensures prefix { (count : ℕ) × Appends (K.written out.old) (K.written out.new) (take count ended.now.text.items) }
+    ensures cut_off { OnWriteFault result (λ log. (log ≡ ended.now.log) × (count : ℕ) × Appends (K.written out.old) (K.written out.new) (take count ended.now.text.items)) }
+    ensures cause { IsWriteFaultTold result (K.faults out.old) (K.faults out.new) }
     ensures played { OnUnwritten result ⊥ }
 {
     let log = Snapshot::of(&ended.log);
@@ -54,19 +54,21 @@ pub fn run_alpine<S: Source, K: Sink>(
     script: &mut S,
     out: &mut K,
 ) -> Status
-    // The headline: the log is of a run of the script, whose committed transactions are one thread's history.
-    ensures headline { OnPlayed result (IsPlayed (S.left script.old) (S.left script.new)) }
-    // What is written is the report of the run and nothing else.
-    ensures output { OnDone result (IsReported (S.left script.old) (S.left script.new) (K.written out.old) (K.written out.new)) }
+    // The headline: what is written is the report of a run of the script, whose committed transactions are one thread's
+    // history.
+    ensures headline { OnDone result (IsPlayed (S.left script.old) (S.left script.new) (K.written out.old) (K.written out.new)) }
+    // After a write fault the log is of a run of the script too, and a prefix of its report is written.
+    ensures cut_off { OnWriteFault result (IsCutOff (S.left script.old) (S.left script.new) (K.written out.old) (K.written out.new)) }
     // The words are bad just where they are not `play`, and then nothing is read.
     ensures words { is_bad_words result ≡ not (are_play (map string_bytes words.now)) }
     ensures bad_words { OnBadWords result (script.new ≡ script.old) }
     // That line of what the source gave is the first outside the language.
     ensures bad_script { OnBadScript result (GaveBadLine (S.left script.old) (S.left script.new)) }
-    // A fault has its cause in this call; after a write fault a prefix of the report is written.
-    ensures read_fault { OnReadFault result (Rose (S.faults script.old) (S.faults script.new)) }
-    ensures write_fault { OnWriteFault result (λ log. Rose (K.faults out.old) (K.faults out.new)) }
-    ensures prefix { OnWriteFault result (IsCutOff (S.left script.old) (S.left script.new) (K.written out.old) (K.written out.new)) }
+    // A source that fails behind a line outside the language is not asked that far.
+    ensures good_lines { OnReadFault result (GaveGoodLines (S.left script.old) (S.left script.new)) }
+    // A fault of a stream is told just where it came in this call.
+    ensures read_fault { IsReadFaultTold result (S.faults script.old) (S.faults script.new) }
+    ensures write_fault { IsWriteFaultTold result (K.faults out.old) (K.faults out.new) }
     // A script of the language is played to its end, where the streams do not fail.
     ensures complete { are_play (map string_bytes words.now) ≡ true → SaysScript (S.left script.old) → (Rose (S.faults script.old) (S.faults script.new) → ⊥) → (Rose (K.faults out.old) (K.faults out.new) → ⊥) → IsPlayedOrMemory result }
     // Nothing is written but the report.

@@ -1,4 +1,5 @@
 pub mod Tables
+pub mod BitsLaws
 pub mod MarkLaws
 pub mod ListLaws
 pub mod LoopLaws
@@ -25,3 +26,5 @@ pub mod HeadLaws
 pub mod PutsLaws
 pub mod PlanLaws
 pub mod UsedLaws
+pub mod CountedLaws
+pub mod PartsLaws

@@ -1,6 +1,8 @@
 pub mod Tables
+pub mod Bits
 pub mod Reached
 pub mod Known
 pub mod Drafts
 pub mod Undone
+pub mod Parts
 pub mod Puts

@@ -21,7 +21,7 @@ pub struct Catalog {
 }
 
 impl Catalog {
-    ghost use Rattle.std.specs.Prelude.{◌≡◌, ℕ};
+    ghost use Rattle.std.specs.Prelude.{◌≡◌, ◌+◌, ℕ};
     ghost use Rattle.alp_files.specs.Cells.{Cells};
     ghost use Rattle.alp_files.specs.Counts.{used_of};
     ghost use Rattle.alp_pages.specs.Pages.{Pages as PagesOf};
@@ -50,7 +50,8 @@ impl Catalog {
     /// How many places the files take.
     pub fn used(&self) -> u32
         requires { (home : ℕ) × IsCatalog home self.now × (HEAD_PAGES ≤ home) }
-        ensures { (home : ℕ) (at : PagesOf) (m : Cells) (stands : StandFor home at m) → Knows home stands.volume self.now → IsCatalog home self.now → HEAD_PAGES ≤ home → result ≡ used_of m }
+        ensures used { (home : ℕ) (at : PagesOf) (m : Cells) (stands : StandFor home at m) → Knows home stands.volume self.now → IsCatalog home self.now → HEAD_PAGES ≤ home → result ≡ used_of m }
+        ensures room { (home : ℕ) → IsCatalog home self.now → HEAD_PAGES ≤ home → result + HEAD_PAGES ≤ home }
     {
         self.places.taken() - HEAD_PAGES
     }

@@ -45,7 +45,8 @@ impl FileTable {
 
     /// How many files there are.
     pub fn len(&self) -> usize
-        ensures { result ≡ map.len self.now }
+        ensures count { result ≡ map.len self.now }
+        ensures few { result ≤ FILES_PER_SERVER }
     {
         self.ids.len()
     }
@@ -100,5 +101,12 @@ impl FileTable {
             }
             Err(_) => {}
         }
+    }
+
+    /// The ids, in order.
+    pub fn ids(&self) -> &[FileId]
+        ensures { result.now ≡ map.keys self.now }
+    {
+        self.ids.as_slice()
     }
 }

@@ -3,6 +3,7 @@ ghost use Rattle.std.specs.Prelude.{◌≡◌, ◌<◌, ◌≤◌, ◌^◌, ℕ,
 ghost use Rattle.alp_pages.specs.Counted.{bit};
 ghost use Rattle.alp_volume.specs.Reached.{Stays};
 
+use crate::bits::Bits;
 use alp_base::OutOfMemory;
 use std::alloc::Global;
 use std::marker::Model;
@@ -10,14 +11,15 @@ use std::marker::Model;
 /// Which numbers are taken; seen as the list of flags.
 #[derive(Drop)]
 pub struct Free {
-    taken: Vec<bool>,
+    taken: Bits,
     /// No number below is free.
-    lowest: usize,
+    lowest: u32,
     /// How many are taken.
     count: u32,
-    ghost few: { length taken.items < 2 ^ 32 },
-    ghost counted: { count ≡ sum_by bit taken.items },
-    ghost hint: { (p : ℕ) → p < lowest → slice_index_or taken.items p true ≡ true },
+    ghost few: { length taken < 2 ^ 32 },
+    ghost counted: { count ≡ sum_by bit taken },
+    ghost hint: { (p : ℕ) → p < lowest → slice_index_or taken p true ≡ true },
+    ghost within: { lowest ≤ length taken },
 }
 
 impl Model for Free {
@@ -25,22 +27,7 @@ impl Model for Free {
 
     ghost Value = { List Bool };
 
-    ghost view = { λ f. f.taken.items };
-}
-
-fn first_free(taken: &[bool], from: usize) -> Option<usize>
-    requires { (p : ℕ) → p < from → slice_index_or taken.now p true ≡ true }
-    ensures within { IfSome result (λ p. p < length taken.now) }
-    ensures free { IfSome result (λ p. slice_index_or taken.now p true ≡ false) }
-    ensures lowest { IfSome result (λ p. (q : ℕ) → q < p → slice_index_or taken.now q true ≡ true) }
-    ensures full { IsNone result → (q : ℕ) → slice_index_or taken.now q true ≡ true }
-{
-    for at in from..taken.len() {
-        if !taken[at] {
-            return Some(at);
-        }
-    }
-    None
+    ghost view = { λ f. f.taken };
 }
 
 impl Free {
@@ -48,8 +35,7 @@ impl Free {
     pub fn new(alloc: Global, count: u32) -> Result<Free, OutOfMemory>
         ensures { IfOk result (λ f. f ≡ replicate count false) }
     {
-        let mut taken = Vec::new(alloc);
-        taken.resize(count as usize, false)?;
+        let taken = Bits::new(alloc, count)?;
         Ok(Free {
             taken,
             lowest: 0,
@@ -62,21 +48,18 @@ impl Free {
         requires { first ≤ count }
         ensures { IfOk result (λ f. f ≡ replicate first true ++ replicate (count - first) false) }
     {
-        let mut taken = Vec::new(alloc);
-        taken.resize(first as usize, true)?;
-        taken.resize(count as usize, false)?;
-        Ok(Free {
-            taken,
-            lowest: 0,
-            count: first,
-        })
+        let mut free = Free::new(alloc, count)?;
+        for number in 0..first {
+            let _ = free.mark(number);
+        }
+        Ok(free)
     }
 
     /// How many numbers there are.
     pub fn len(&self) -> usize
         ensures { result ≡ length self.now }
     {
-        self.taken.len()
+        self.taken.len() as usize
     }
 
     /// How many are taken.
@@ -93,16 +76,22 @@ impl Free {
         ensures long { length self.new ≡ length self.old }
         ensures stay { Stays self.old self.new }
     {
-        let at = number as usize;
-        if at >= self.taken.len() {
-            return false;
-        }
         if self.is_taken(number) {
             return false;
         }
-        self.taken[at] = true;
+        self.taken.set(number);
         self.count += 1;
         true
+    }
+
+    // The lowest number that is free.
+    fn lowest_free(&self) -> Option<u32>
+        ensures within { IfSome result (λ p. p < length self.now) }
+        ensures free { IfSome result (λ p. slice_index_or self.now p true ≡ false) }
+        ensures lowest { IfSome result (λ p. (q : ℕ) → q < p → slice_index_or self.now q true ≡ true) }
+        ensures full { IsNone result → (q : ℕ) → slice_index_or self.now q true ≡ true }
+    {
+        self.taken.first_clear(self.lowest)
     }
 
     /// Takes the lowest number that is free.
@@ -113,11 +102,11 @@ impl Free {
         ensures full { IsNone result → (q : ℕ) → slice_index_or self.old q true ≡ true }
         ensures same { IsNone result → self.new ≡ self.old }
     {
-        let number = first_free(&self.taken, self.lowest)?;
-        self.taken[number] = true;
+        let number = self.lowest_free()?;
+        self.taken.set(number);
         self.lowest = number;
         self.count += 1;
-        Some(number as u32)
+        Some(number)
     }
 
     /// Frees a number.
@@ -125,14 +114,12 @@ impl Free {
         requires { number < length self.old }
         ensures { self.new ≡ slice_set self.old number false }
     {
-        let at = number as usize;
-        let was = self.taken[at];
-        if was {
+        if self.taken.is_set(number) {
             self.count -= 1;
         }
-        self.taken[at] = false;
-        if at < self.lowest {
-            self.lowest = at;
+        self.taken.clear(number);
+        if number < self.lowest {
+            self.lowest = number;
         }
     }
 
@@ -140,10 +127,6 @@ impl Free {
     pub fn is_taken(&self, number: u32) -> bool
         ensures { result ≡ slice_index_or self.now number true }
     {
-        let at = number as usize;
-        if at >= self.taken.len() {
-            return true;
-        }
-        self.taken[at]
+        self.taken.is_set(number)
     }
 }

@@ -4,12 +4,15 @@
 //! through `PageReader`, and hands out the pages that a change makes.
 #![tactic(auto)]
 
+mod before;
+mod bits;
 mod blocks;
 mod catalog;
 mod change;
 mod charges;
 mod cost;
 mod costs;
+mod counts;
 mod cut_block;
 mod cut_file;
 mod directory;
@@ -18,6 +21,8 @@ mod file_pages;
 mod file_slot;
 mod files;
 mod free;
+mod images;
+mod laws;
 mod leaders;
 mod marks;
 mod owner_pages;
@@ -37,12 +42,15 @@ mod takes;
 mod undo;
 mod volume_files;
 
+pub use bits::Bits;
 pub use catalog::Catalog;
 pub use change::plan_change;
 pub use draft::Draft;
 pub use file_slot::FileSlot;
 pub use files::FileTable;
 pub use free::Free;
+pub use images::Images;
+pub use laws::free_places_may_hold_anything;
 pub use owner_table::OwnerTable;
 pub use read::read_volume;
 pub use sheets::Sheets;

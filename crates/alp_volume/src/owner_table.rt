@@ -50,7 +50,8 @@ impl OwnerTable {
 
     /// How many owners there are.
     pub fn len(&self) -> usize
-        ensures { result ≡ map.len self.now }
+        ensures count { result ≡ map.len self.now }
+        ensures few { result ≤ OWNERS_PER_SERVER }
     {
         self.names.len()
     }

@@ -2,6 +2,7 @@ ghost use Rattle.std.specs.Prelude.{◌≡◌, ◌<◌, [], false, refl, IfOk};
 ghost use Rattle.std.proofs.Math.Nat.{le_refl};
 ghost use Rattle.alp_base.specs.declared.allowance.Allowance.TheVariants.{Free};
 
+mod plain;
 mod turns;
 
 use super::*;
@@ -381,36 +382,139 @@ fn reads_a_volume(rt: HostRuntime) -> Result<(), Fail> {
     assert!(rt; catalog.rows.is_taken(0) && !catalog.rows.is_taken(1));
     assert!(rt; catalog.places.is_taken(256) && catalog.places.is_taken(260));
     assert!(rt; !catalog.places.is_taken(261) && !catalog.places.is_taken(299));
+    assert_eq!(rt; (catalog.file_count(), catalog.owner_count()), (1, 1));
+    assert!(rt; catalog.owner_names().first() == Some(&owner));
+    assert!(rt; catalog.has_block(FILE, 0) && !catalog.has_block(FILE, 1));
     Ok(())
 }
 
-// A page, a place in it, and the page that is damaged where the byte there is another.
-const DAMAGES: [(u32, usize, u32); 11] = [
-    (0, 7, 0),
-    (0, 511, 0),
-    (1, 8, 257),
-    (1, 9, 1),
-    (1, 31, 1),
-    (129, 32, 129),
-    (129, 1, 129),
-    (130, 0, 130),
-    (257, 35, 129),
-    (258, 2, 258),
-    (258, 511, 258),
+// A page, a place in it, and the page that is damaged where the byte there is one more; none where the pages stand for
+// other cells then. The first and the last byte of each field, and of zeros between them.
+const EARLY: [(u32, usize, Option<u32>); 42] = [
+    (0, 0, Some(0)),
+    (0, 7, Some(0)),
+    (0, 8, Some(0)),
+    (0, 511, Some(0)),
+    // the entry of the file: its id, zeros, the place of the leader
+    (1, 0, Some(257)),
+    (1, 8, Some(257)),
+    (1, 9, Some(1)),
+    (1, 11, Some(1)),
+    (1, 12, Some(1)),
+    (1, 14, Some(1)),
+    (1, 15, Some(129)),
+    // an entry of no file
+    (1, 16, Some(1)),
+    (1, 24, Some(1)),
+    (1, 25, Some(1)),
+    (1, 31, Some(1)),
+    (1, 511, Some(1)),
+    (2, 0, Some(2)),
+    (128, 511, Some(128)),
+    // the record of the owner: name, quota, charge, list, zeros
+    (129, 0, Some(129)),
+    (129, 1, Some(129)),
+    (129, 3, Some(129)),
+    (129, 4, Some(129)),
+    (129, 24, Some(129)),
+    (129, 25, None),
+    (129, 28, None),
+    (129, 29, Some(129)),
+    (129, 32, Some(129)),
+    (129, 33, Some(129)),
+    (129, 34, Some(129)),
+    (129, 35, None),
+    (129, 40, Some(129)),
+    (129, 59, Some(129)),
+    (129, 60, None),
+    (129, 84, Some(129)),
+    (129, 133, Some(129)),
+    (129, 134, Some(129)),
+    (129, 255, Some(129)),
+    // rows of no owner
+    (129, 256, Some(129)),
+    (129, 511, Some(129)),
+    (130, 0, Some(130)),
+    (256, 256, Some(256)),
+    (256, 511, Some(256)),
 ];
+
+const LATE: [(u32, usize, Option<u32>); 43] = [
+    // the leader, whose size its owner is charged for: format, id, owner, name
+    (257, 0, Some(129)),
+    (257, 1, Some(257)),
+    (257, 9, Some(257)),
+    (257, 10, Some(129)),
+    (257, 11, Some(129)),
+    (257, 14, Some(129)),
+    (257, 34, Some(129)),
+    (257, 35, Some(129)),
+    (257, 36, None),
+    (257, 37, Some(129)),
+    // type, create time, length in bytes
+    (257, 60, None),
+    (257, 61, None),
+    (257, 69, None),
+    (257, 77, None),
+    // size and high-water mark
+    (257, 78, Some(129)),
+    (257, 81, Some(129)),
+    (257, 85, None),
+    // the lists
+    (257, 86, Some(129)),
+    (257, 87, Some(129)),
+    (257, 88, None),
+    (257, 93, Some(129)),
+    (257, 187, Some(129)),
+    (257, 189, None),
+    (257, 287, Some(129)),
+    // the places of index pages, and zeros
+    (257, 288, Some(257)),
+    (257, 291, Some(259)),
+    (257, 292, Some(257)),
+    (257, 295, Some(257)),
+    (257, 415, Some(257)),
+    (257, 416, Some(129)),
+    (257, 511, Some(129)),
+    // the index page: two places, none for the next two pages, and none past the size
+    (258, 0, Some(258)),
+    (258, 2, Some(258)),
+    (258, 3, Some(258)),
+    (258, 7, None),
+    (258, 8, Some(258)),
+    (258, 11, Some(258)),
+    (258, 16, Some(258)),
+    (258, 511, Some(258)),
+    // pages of data, and one that nothing names
+    (259, 0, None),
+    (260, 511, None),
+    (261, 0, None),
+    (299, 511, None),
+];
+
+// Whether reading names that page, or none, where the byte there is one more.
+fn is_named(alloc: Global, page: u32, at: usize, wanted: Option<u32>) -> Result<bool, OutOfMemory> {
+    match read_changed(alloc, page, at)? {
+        Some(Ok(catalog)) => Ok(wanted.is_none() && catalog.files.get(FILE).is_some()),
+        Some(Err(VaultFault::Damaged { place })) => Ok(wanted == Some(place)),
+        _ => Ok(false),
+    }
+}
 
 #[test]
 fn names_the_first_damaged_page(rt: HostRuntime) -> Result<(), Fail> {
-    for (page, at, wanted) in DAMAGES {
-        let outcome = read_changed(rt.alloc(), page, at)
-            .ok()
-            .ok_or("memory")?
-            .ok_or("a page")?;
-        match outcome {
-            Ok(_) => assert!(rt; false, "page {page}, byte {at}"),
-            Err(VaultFault::Damaged { place }) => assert_eq!(rt; place, wanted, "byte {at}"),
-            Err(_) => assert!(rt; false, "no damage"),
-        }
+    for (page, at, wanted) in EARLY {
+        let named = is_named(rt.alloc(), page, at, wanted).ok().ok_or("memory")?;
+        assert!(rt; named, "page {page}, byte {at}");
+    }
+    Ok(())
+}
+
+#[test]
+fn names_damage_of_files(rt: HostRuntime) -> Result<(), Fail> {
+    for (page, at, wanted) in LATE {
+        let named = is_named(rt.alloc(), page, at, wanted).ok().ok_or("memory")?;
+        assert!(rt; named, "page {page}, byte {at}");
     }
     Ok(())
 }
@@ -569,5 +673,9 @@ fn puts_a_page_at_the_lowest_free_place(rt: HostRuntime) -> Result<(), Fail> {
     assert!(rt; catalog.places.is_taken(261) && !catalog.places.is_taken(262));
     let images = plan.pages.images(alloc).ok().ok_or("memory")?;
     assert_eq!(rt; images.len(), 2);
+    let parts = plan.parted(alloc, &catalog).ok().ok_or("memory")?;
+    assert_eq!(rt; (parts.new.len(), parts.others.len()), (1, 1));
+    let new = parts.new.first().ok_or("a new page")?;
+    assert_eq!(rt; new.0, 261);
     Ok(())
 }

@@ -112,4 +112,29 @@ impl<D: Disk> Wal<D> {
     {
         self.disk
     }
+
+    /// The disk, and what was found on it with all that was committed since: `over` makes the same log of them.
+    pub fn apart(self) -> (D, Found)
+        ensures disk { result.0 ≡ disk_of self }
+        ensures anchor { result.1.anchor ≡ anchor_of self }
+        ensures end { result.1.end ≡ end_of self }
+        ensures index { result.1.index ≡ index_of self }
+        ensures notes { result.1.notes ≡ held_notes self }
+    {
+        let Wal {
+            disk,
+            anchor,
+            end,
+            index,
+            notes,
+            ..
+        } = self;
+        let found = Found {
+            anchor,
+            end,
+            index,
+            notes,
+        };
+        (disk, found)
+    }
 }

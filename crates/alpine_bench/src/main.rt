@@ -1,4 +1,4 @@
-//! The program `alpine_bench`: how fast the monitor, the lock table, the frames and the log are on this machine.
+//! The program `alpine_bench`: how fast the monitor, the lock table, the frames, the volume and the log are on this machine.
 #![tactic(auto)]
 
 mod checkpoints;
@@ -7,6 +7,7 @@ mod frames;
 mod locks;
 mod monitor;
 mod rates;
+mod volumes;
 mod words;
 
 use rates::Trouble;
@@ -59,6 +60,13 @@ fn run<R: Runtime + Files<File = File> + Threads + Wait + Sync>(
             for home in checkpoints::SIZES {
                 let pace = checkpoints::measure(rt, alloc, home)?;
                 print!(rt; "{pace}")?;
+            }
+            Ok(())
+        }
+        Some(Command::Volume) => {
+            for (files, home) in volumes::SIZES {
+                let rates = volumes::measure(rt, alloc, files, home)?;
+                print!(rt; "{rates}")?;
             }
             Ok(())
         }

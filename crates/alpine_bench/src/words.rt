@@ -10,6 +10,8 @@ usage: alpine_bench COMMAND
   frames           encodes and decodes a second of a request to write 16 pages
   checkpoint       the nanoseconds of a checkpoint of 16 images alone, on a disk in memory with 512
                    home pages and with 65536
+  volume           fetches and changed pages a second of a volume in memory with 10, 1000 and 4096
+                   files, and the microseconds to read it whole
   log FOLDER COUNT PAGES
                    commits a second of batches of 1 page and of 16, COUNT of each (4 to 227), on a
                    new volume of PAGES home pages (512 to 65536) in a file in FOLDER, beside appends
@@ -30,6 +32,7 @@ pub(crate) enum Command<'a> {
     Locks,
     Frames,
     Checkpoint,
+    Volume,
     Log { plan: Plan<'a> },
 }
 
@@ -47,6 +50,7 @@ pub(crate) fn read_words<'a>(words: &[&'a str]) -> Option<Command<'a>> {
         ["locks"] => Some(Command::Locks),
         ["frames"] => Some(Command::Frames),
         ["checkpoint"] => Some(Command::Checkpoint),
+        ["volume"] => Some(Command::Volume),
         ["log", folder, count, pages] => {
             let commits = count.parse().ok()?;
             let home = pages.parse().ok()?;

@@ -50,3 +50,6 @@ returns-clause-log g c =
       begun = omega (arith, end, ap area_first anchor);
       inside = omega (arith, end, ap area_end anchor, c.requires.least_area);
     }
+
+pub returns-clause-none : goal.returns-clause-none
+returns-clause-none g c = ap (λ (h : Held). h.notes) c.over.ensures.notes ∙ c.in-Ok.ensures.none

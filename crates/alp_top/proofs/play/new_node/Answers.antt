@@ -44,6 +44,7 @@ returns-in-Ok-clause-opening c =
     let raised : record { epoch = n.kept.epoch; clock = n.kept.clock } ≡ record { epoch = 1; clock = 0 } =
     new_clock (held_by c.new-vault.result) (record { epoch = n.kept.epoch; clock = n.kept.clock }) c.new-vault.ensures.empty h.raised.next in
     record {
+      sizes = ap (λ (v : MemVault). v.sizes) h.new.opening ∙ h.same.sizes ∙ c.new-vault.ensures.sizes;
       server = h.new.number;
       servers = ap (λ (v : MemVault). v.servers) h.new.opening ∙ h.same.of_all ∙ c.new-vault.ensures.server.1;
       epoch = ap (λ (js : List Entry). (node.state_of (start_in n) js).ids.epoch) (sym h.new.journal) ∙ kept_epoch n c.knows.ensures ∙ ap (λ (k : ClockNote). k.epoch) raised;

@@ -1,6 +1,6 @@
 use Rattle.std.specs.Prelude.{Err}
 use Rattle.std.specs.FinMap as map
-use Rattle.std.proofs.Common.{◌≡◌, inl, inr, IsTrue, false, ℕ, length, sym, ap, subst, ◌∙◌}
+use Rattle.std.proofs.Common.{◌≡◌, inl, inr, IsTrue, false, ℕ, length, refl, sym, ap, subst, ◌∙◌}
 use Rattle.alp_base.specs.declared.key.Key.TheVariants.{Leader}
 use Rattle.alp_fields.specs.ClockNote.{clock_kept}
 use Rattle.alp_files.specs.Apart.{AreSized}
@@ -9,12 +9,19 @@ use Rattle.alp_files.specs.Sound.{AreSound}
 use Rattle.alp_journal.specs.Opening.{Start}
 use Rattle.alp_locks.specs.Sound.{IsSound}
 use Rattle.alp_vault.specs.Contents.{Contents}
+use Rattle.alp_vault.specs.Volumes.{IsVolumeOf}
 use Rattle.alp_node.specs.declared.server_state.ServerState.{ServerState}
 use Rattle.alp_node.specs.NodeStates.{NodeState}
+use Rattle.alp_base.specs.declared.faults.VaultFault.TheVariants as vault_fault
+use Rattle.alp_fields.specs.declared.clock_note.ClockNote.{ClockNote}
 use Rattle.alp_node.specs.declared.stored.StoreFault.{StoreFault}
+use Rattle.alp_node.specs.declared.stored.StoreFault.TheVariants as store_fault
+use Rattle.alp_node.specs.Halts.{Ends}
+use Rattle.alp_node.proofs.NodeLemmas.{up_durable}
+use Rattle.alp_node.proofs.NoteLemmas.{put_first}
 use Rattle.alp_node.specs.ServerState.{IsAs, IsReady}
 use Rattle.alp_node.specs.Nodes.{IsRight, start_by}
-use Rattle.alp_node.proofs.StartLemmas.{raised_later, raised_within, raised_some, over_nothing, new_kept, new_alone, new_says, new_as, new_ready, new_right}
+use Rattle.alp_node.proofs.StartLemmas.{raised_later, raised_within, raised_some, over_nothing, new_kept, new_alone, new_says, new_as, new_ready, new_right, volume_sized, kept_leaves, raised_leaves, vault_same}
 use Rattle.alp_node.proofs.node.Node.start.Goals as goal
 
 pub store-requires-clause-clock : goal.store-requires-clause-clock
@@ -51,23 +58,30 @@ invariant_of-result g c =
     let new : ServerState g.row.V.Denot = new_kept k c.args.server (G.volume v) c.in-Ok.clock in
     let same : new ≡ k =
     (λ i. record k { sizes = (c.store-2.ensures.kept.sizes ∙ sym c.sizes-sizes.ensures) i; sessions = sym c.new-2.ensures i; lives = sym c.new-3.ensures i; dead = sym c.new-4.ensures i; locks = sym c.new-5.ensures.empty i }) in
+    let right : IsTrue (G.tells v) → IsRight (start_by G c.args.server c.of.result.value) held n =
+    λ tells. (
+    let told : IsTrue (G.tells c.args.vault) = subst IsTrue c.store-2.ensures.kept.telling tells in
+    let cells : held.cells ≡ before.cells = over_nothing c.new.result held.cells before.cells c.new.ensures (c.in_default.ensures.cells told) in
+    let volume : IsVolumeOf (G.volume c.args.vault) before.cells = c.knows.ensures.fitting before told (c.knows.ensures.as_held told c.requires.serving) in
+    let sound : AreSound held.cells = subst AreSound (sym cells) volume.sound in
+    let o : Start = start_by G c.args.server v in
+    let opening : o ≡ start_by G c.args.server c.of.result.value = ap (start_by G c.args.server) (sym c.of.ensures) in
+    subst (λ (x : Start). IsRight x held n) opening
+    (new_right n o held c.new-6.ensures (new_says c.args.server (G.servers v) (G.volume v) held.cells held.notes) sound (subst (λ (m : Cells). AreSized (map.get m)) (sym cells) (volume_sized (G.volume c.args.vault) before.cells volume))
+    (subst (IsAs (new_alone o) held) same
+    (new_as k c.args.server (G.servers v) (clock_kept before.notes).epoch (G.volume v) c.in-Ok.clock held (λ f x there. c.requires.given told f x (sym (ap (λ (m : Cells). map.get m (Leader f)) cells) ∙ there))
+    (raised_later before c.in-Ok.clock c.in-Ok.ensures.clock) c.in_default.ensures.clock
+    (c.in_default.ensures.notes ∙ put_first (G.server c.args.vault) (G.servers c.args.vault) before.notes c.in-Ok.clock c.in-Ok.ensures.notes))))
+    ) in
     record {
+      number = c.store-2.ensures.kept.number ∙ c.requires.server.0;
+      noted = λ _. ap (λ (x : ClockNote). x.epoch) c.in_default.ensures.clock;
+      durable = λ tells. up_durable (start_by G c.args.server c.of.result.value) held n (G.may_leave v) (right tells) refl (c.knows-2.ensures.settled tells c.in_default.ensures.ended.0);
       ready = subst (λ (m : ℕ). IsReady m (G.serves v) k) (sym (ap length c.new-6.ensures))
           (subst (IsReady 0 (G.serves v)) same
-          (new_ready k c.args.server (G.volume v) c.in-Ok.clock (G.serves v) c.in_default.ensures.serves (raised_within before c.in-Ok.clock c.in-Ok.ensures.clock) (raised_some before c.in-Ok.clock c.in-Ok.ensures.clock)
+          (new_ready k c.args.server (G.volume v) c.in-Ok.clock (G.serves v) c.in_default.ensures.ended.0 (raised_within before c.in-Ok.clock c.in-Ok.ensures.clock) (raised_some before c.in-Ok.clock c.in-Ok.ensures.clock)
           (subst IsSound c.new-5.ensures.empty c.new-5.ensures.sound)));
-      right = λ tells. (
-          let told : IsTrue (G.tells c.args.vault) = subst IsTrue c.store-2.ensures.kept.telling tells in
-          let cells : held.cells ≡ before.cells = over_nothing c.new.result held.cells before.cells c.new.ensures (c.in_default.ensures.cells told) in
-          let sound : AreSound held.cells = subst AreSound (sym cells) (c.knows.ensures.fitting before told (c.knows.ensures.as_held told c.requires.serving)).sound in
-          let o : Start = start_by G c.args.server v in
-          let opening : o ≡ start_by G c.args.server c.of.result.value = ap (start_by G c.args.server) (sym c.of.ensures) in
-          subst (λ (x : Start). IsRight x held n) opening
-          (new_right n o held c.new-6.ensures (new_says c.args.server (G.servers v) (G.volume v) held.cells held.notes) sound (subst (λ (m : Cells). AreSized (map.get m)) (sym cells) (c.requires.given told).sizes)
-          (subst (IsAs (new_alone o) held) same
-          (new_as k c.args.server (G.servers v) (clock_kept before.notes).epoch (G.volume v) c.in-Ok.clock held (λ f x there. (c.requires.given told).ids f x (sym (ap (λ (m : Cells). map.get m (Leader f)) cells) ∙ there))
-          (raised_later before c.in-Ok.clock c.in-Ok.ensures.clock) c.in_default.ensures.clock)))
-          );
+      right = right;
     }
 
 pub returns-clause-raised : goal.returns-clause-raised
@@ -78,14 +92,32 @@ returns-clause-raised g c = record {
   notes = c.in_default.ensures.notes;
 }
 
+pub returns-clause-crash : goal.returns-clause-crash
+returns-clause-crash g c told =
+    raised_leaves g.V.Vault c.args.vault (c.knows.ensures.settled told c.requires.serving) c.store-2.new.vault c.new.result c.in-Ok.clock c.new.ensures c.in-Ok.ensures.clock (c.store-2.ensures.leaves told)
+
+pub returns-in-Err-store-clause-crash : goal.returns-in-Err-store-clause-crash
+returns-in-Err-store-clause-crash g c told =
+    raised_leaves g.V.Vault c.args.vault (c.knows.ensures.settled told c.requires.serving) c.store-2.new.vault c.new.result c.in-Ok.clock c.new.ensures c.in-Ok.ensures.clock (c.store-2.ensures.leaves told)
+
+pub returns-in-Err-clause-crash : goal.returns-in-Err-clause-crash
+returns-in-Err-clause-crash g c told = kept_leaves g.V.Vault c.args.vault (c.knows.ensures.settled told c.requires.serving)
+
+pub returns-in-Err-store-clause-memory : goal.returns-in-Err-store-clause-memory
+returns-in-Err-store-clause-memory g c is =
+    let wanting : c.vault_fault.result ≡ vault_fault.OutOfMemory = vault_same c.vault_fault.result vault_fault.OutOfMemory is in
+    let ended = subst (λ (f : StoreFault). Ends {T = Unit {0}} g.V.Vault c.args.vault c.store-2.new.vault (Err f)) (c.vault_fault.ensures.memory wanting) c.in-Err-store.ensures.ended in
+    (ended.1, ended.0)
+
 pub returns-in-Err-store-clause-cause : goal.returns-in-Err-store-clause-cause
-returns-in-Err-store-clause-cause g c = (
-  record {
-    failed = λ e. elim (c.vault_fault.ensures.failed e) [
-      | inl is ↦ c.in-Err-store.ensures.failed (ap (λ (f : StoreFault). Err f) is)
-      | inr is ↦ (c.in-Err-store.ensures.unread (ap (λ (f : StoreFault). Err f) is)).1
-    ];
-    stopped = λ e. c.in-Err-store.ensures.stopped (ap (λ (f : StoreFault). Err f) (c.vault_fault.ensures.stopped e));
-  },
-  c.vault_fault.ensures.volume,
-)
+returns-in-Err-store-clause-cause g c =
+    let ended_as = λ (f : StoreFault) (is : c.in-Err-store.fault ≡ f). subst (λ (x : StoreFault). Ends {T = Unit {0}} g.V.Vault c.args.vault c.store-2.new.vault (Err x)) is c.in-Err-store.ensures.ended in (
+      record {
+        failed = λ e. elim (c.vault_fault.ensures.failed e) [
+          | inl is ↦ (ended_as store_fault.Failed is).1
+          | inr is ↦ (ended_as store_fault.Unread is).2
+        ];
+        stopped = λ e. (ended_as store_fault.Stopped (c.vault_fault.ensures.stopped e)).1;
+      },
+      c.vault_fault.ensures.volume,
+    )

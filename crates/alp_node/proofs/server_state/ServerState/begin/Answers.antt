@@ -25,7 +25,10 @@ use Rattle.alp_node.proofs.EndLemmas.{begin_stepped}
 use Rattle.alp_node.proofs.GivenLemmas.{reply_given}
 use Rattle.alp_node.proofs.KeptLemmas.{as_under, none_held}
 use Rattle.alp_node.proofs.ReadyLemmas.{next_new, undone_holds, undone_ready, begin_ready}
-use Rattle.alp_node.proofs.SeatLemmas.{seated_alone}
+use Rattle.alp_calls.proofs.LookLemmas.{left_same}
+use Rattle.alp_node.proofs.SeatLemmas.{left_leaves, left_seated, left_step}
+use Rattle.alp_journal.specs.Alone.{alone}
+use Rattle.alp_node.specs.Durable.{MightBring}
 use Rattle.alp_node.proofs.server_state.ServerState.begin.Goals as goal
 
 pub returns-then-is_err : goal.returns-then-is_err
@@ -41,6 +44,7 @@ returns-then-is_err g c =
       stepped = λ told a h. tt;
       given = tt;
       ready = λ n h. tt;
+      noted = λ h. h;
       still = record {
         kept = λ a h. (
             let none : (r : Resource) → holding k.locks.held t r ≡ None = none_held k.locks.held (a.locked t) t (map.get k.lives t) (a.holder.lives t) new_one (h.lives t) in
@@ -51,9 +55,10 @@ returns-then-is_err g c =
             subst (λ (x : LiveMap). IsReady n serves (record k { lives = x; locks = c.release_all.new.self })) (sym lives)
             (subst (λ (x : Table). IsReady n serves (record k { locks = x })) (sym locks) (undone_ready n serves k t new_one h));
         up = refl;
+        vault = record { held = refl; faults = refl; allowance = refl };
       };
-      seat = seated_alone g.V.Vault.allowance k (record k { lives = c.add.new.self; locks = c.release_all.new.self }) refl refl refl;
-      telling = refl;
+      seat = left_seated g.V.Vault k (record k { lives = c.add.new.self; locks = c.release_all.new.self }) refl refl (left_same g.V.Vault k.vault);
+      leaves = λ told a h. left_leaves g.V.Vault k.vault k.vault (MightBring (alone a) (event.Call c.args.turn.now.client k.epoch c.args.turn.now.number (call.Begin c.args.seen))) (left_same g.V.Vault k.vault);
     }
 
 pub returns : goal.returns
@@ -73,22 +78,19 @@ returns g c =
     let same : (u : TransId) (r : Resource) → holding c.enter.new.self.held u r ≡ holding k.locks.held u r =
     λ u r. ap (λ (x : Table). holding x.held u r) c.in_ok-enter.ensures.after ∙ ap (λ x. map.get x r) (entering-keeps-held k.locks t u) in
     let few : map.len k.lives < 64 = omega (arith, c.if-len-ge-MOST_TRANSACTIONS.false, c.len.ensures) in
-    record {
-      stepped = λ told a h.
-          subst (λ (n : ℕ). Stepped a faults faults held (record k { clock = n; drawn = k.drawn + 1; sessions = c.count.new.self; dead = c.bury.new.self; lives = c.add.new.self; locks = c.enter.new.self }) e x) (sym c.max-self.ensures)
-          (subst (λ (y : Sessions). Stepped a faults faults held (record k { clock = max k.clock c.args.seen.ts; drawn = k.drawn + 1; sessions = y; dead = c.bury.new.self; lives = c.add.new.self; locks = c.enter.new.self }) e x) (sym c.count.ensures)
-          (subst (λ (y : List DeadPart). Stepped a faults faults held (record k { clock = max k.clock c.args.seen.ts; drawn = k.drawn + 1; sessions = counted_in k.sessions turn; dead = y; lives = c.add.new.self; locks = c.enter.new.self }) e x) (sym c.bury.ensures)
-          (subst (λ (y : LiveMap). Stepped a faults faults held (record k { clock = max k.clock c.args.seen.ts; drawn = k.drawn + 1; sessions = counted_in k.sessions turn; dead = without_client turn.client k.dead; lives = y; locks = c.enter.new.self }) e x) (sym lives)
-          (begin_stepped a held k turn.client turn.number turn.session c.args.seen c.new-2.result faults faults x c.enter.new.self h c.requires.turn.client c.requires.up c.requires.turn.session c.requires.turn.number few
-          (next_new c.requires.ready.0 serves k c.requires.ready.2) same c.new-2.ensures.own c.new-2.ensures.intents is))));
-      given = reply_given faults faults (g.V.Vault.allowance k.vault) k.is_down (reply.Begun t) (act.Drawn t ∷ []) x is c.requires.up tt;
-      ready = λ n h.
-          subst (λ (y : Sessions). IsReady (n + 1) serves (record k { clock = c.max-self.result; drawn = k.drawn + 1; sessions = y; dead = c.bury.new.self; lives = c.add.new.self; locks = c.enter.new.self })) (sym c.count.ensures)
-          (subst (λ (y : List DeadPart). IsReady (n + 1) serves (record k { clock = c.max-self.result; drawn = k.drawn + 1; sessions = counted_in k.sessions turn; dead = y; lives = c.add.new.self; locks = c.enter.new.self })) (sym c.bury.ensures)
-          (subst (λ (y : LiveMap). IsReady (n + 1) serves (record k { clock = c.max-self.result; drawn = k.drawn + 1; sessions = counted_in k.sessions turn; dead = without_client turn.client k.dead; lives = y; locks = c.enter.new.self })) (sym lives)
-          (subst (λ (y : Table). IsReady (n + 1) serves (record k { clock = c.max-self.result; drawn = k.drawn + 1; sessions = counted_in k.sessions turn; dead = without_client turn.client k.dead; lives = map.insert k.lives t (record l { bounds = no_bounds }); locks = y })) (sym c.in_ok-enter.ensures.after)
-          (begin_ready n serves k turn t (record l { bounds = no_bounds }) c.max-self.result c.requires.turn refl c.new-2.ensures.own (omega (arith, c.max-self.ensures, h.clock, c.requires.time)) h))));
-      still = tt;
-      seat = seated_alone g.V.Vault.allowance k (record k { clock = c.max-self.result; drawn = k.drawn + 1; sessions = c.count.new.self; dead = c.bury.new.self; lives = c.add.new.self; locks = c.enter.new.self }) refl refl refl;
-      telling = refl;
-    }
+    left_step g.V.Vault k (record k { clock = c.max-self.result; drawn = k.drawn + 1; sessions = c.count.new.self; dead = c.bury.new.self; lives = c.add.new.self; locks = c.enter.new.self }) refl refl
+    (left_same g.V.Vault k.vault) e x c.requires.up
+    (λ told a h.
+    subst (λ (n : ℕ). Stepped a faults faults held (record k { clock = n; drawn = k.drawn + 1; sessions = c.count.new.self; dead = c.bury.new.self; lives = c.add.new.self; locks = c.enter.new.self }) e x) (sym c.max-self.ensures)
+    (subst (λ (y : Sessions). Stepped a faults faults held (record k { clock = max k.clock c.args.seen.ts; drawn = k.drawn + 1; sessions = y; dead = c.bury.new.self; lives = c.add.new.self; locks = c.enter.new.self }) e x) (sym c.count.ensures)
+    (subst (λ (y : List DeadPart). Stepped a faults faults held (record k { clock = max k.clock c.args.seen.ts; drawn = k.drawn + 1; sessions = counted_in k.sessions turn; dead = y; lives = c.add.new.self; locks = c.enter.new.self }) e x) (sym c.bury.ensures)
+    (subst (λ (y : LiveMap). Stepped a faults faults held (record k { clock = max k.clock c.args.seen.ts; drawn = k.drawn + 1; sessions = counted_in k.sessions turn; dead = without_client turn.client k.dead; lives = y; locks = c.enter.new.self }) e x) (sym lives)
+    (begin_stepped a held k turn.client turn.number turn.session c.args.seen c.new-2.result faults faults x c.enter.new.self h c.requires.turn.client c.requires.up c.requires.turn.session c.requires.turn.number few
+    (next_new c.requires.ready.0 serves k c.requires.ready.2) same c.new-2.ensures.own c.new-2.ensures.intents is)))))
+    (reply_given faults faults (g.V.Vault.allowance k.vault) k.is_down (reply.Begun t) (act.Drawn t ∷ []) x is (λ _. refl) c.requires.up tt)
+    (λ n h.
+    subst (λ (y : Sessions). IsReady (n + 1) serves (record k { clock = c.max-self.result; drawn = k.drawn + 1; sessions = y; dead = c.bury.new.self; lives = c.add.new.self; locks = c.enter.new.self })) (sym c.count.ensures)
+    (subst (λ (y : List DeadPart). IsReady (n + 1) serves (record k { clock = c.max-self.result; drawn = k.drawn + 1; sessions = counted_in k.sessions turn; dead = y; lives = c.add.new.self; locks = c.enter.new.self })) (sym c.bury.ensures)
+    (subst (λ (y : LiveMap). IsReady (n + 1) serves (record k { clock = c.max-self.result; drawn = k.drawn + 1; sessions = counted_in k.sessions turn; dead = without_client turn.client k.dead; lives = y; locks = c.enter.new.self })) (sym lives)
+    (subst (λ (y : Table). IsReady (n + 1) serves (record k { clock = c.max-self.result; drawn = k.drawn + 1; sessions = counted_in k.sessions turn; dead = without_client turn.client k.dead; lives = map.insert k.lives t (record l { bounds = no_bounds }); locks = y })) (sym c.in_ok-enter.ensures.after)
+    (begin_ready n serves k turn t (record l { bounds = no_bounds }) c.max-self.result c.requires.turn refl c.new-2.ensures.own (omega (arith, c.max-self.ensures, h.clock, c.requires.time)) h)))))

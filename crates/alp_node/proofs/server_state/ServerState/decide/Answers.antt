@@ -1,4 +1,4 @@
-use Rattle.std.specs.Prelude.{IfOk, Err, Some}
+use Rattle.std.specs.Prelude.{Err, Some}
 use Rattle.std.specs.FinMap as map
 use Rattle.std.proofs.Common.{◌≡◌, ◌+◌, List, [], ◌∷◌, ◌++◌, inl, inr, true, refl, sym, ap, ◌∙◌, subst}
 use Rattle.alp_files.specs.declared.call.Call.TheVariants as call
@@ -11,19 +11,27 @@ use Rattle.alp_base.specs.Allowances.{Spends}
 use Rattle.alp_files.specs.declared.reply.Reply.TheVariants as reply
 use Rattle.alp_journal.specs.declared.event.Event.TheVariants as event
 use Rattle.alp_node.specs.ServerState.{IsReady}
-use Rattle.alp_node.specs.Steps.{Stepped, IsOf, refused_answer, counted_in, without_trans}
+use Rattle.alp_node.specs.Steps.{Stepped, IsOf, refused_answer, counted_in, without_trans, entry_of}
 use Rattle.alp_node.specs.declared.lives.Live.{Live}
 use Rattle.alp_node.specs.declared.server_state.ServerState.{ServerState}
 use Rattle.alp_node.specs.declared.sessions.Sessions.{Sessions}
 use Rattle.alp_node.proofs.GivenLemmas.{reply_given}
-use Rattle.alp_node.proofs.ReadyLemmas.{commit_ready}
+use Rattle.alp_node.proofs.ReadyLemmas.{ready_with, commit_ready}
 use Rattle.alp_base.specs.declared.ids.Stamp.{Stamp}
 use Rattle.alp_journal.specs.declared.act.Act.{Act}
-use Rattle.alp_node.specs.Halts.{ServesOn}
+use Rattle.alp_fields.specs.ClockNote.{clock_kept}
+use Rattle.alp_fields.specs.declared.clock_note.ClockNote.{ClockNote}
+use Rattle.alp_vault.specs.Vault.{IsSameVault}
+use Rattle.alp_journal.specs.Alone.{alone}
+use Rattle.alp_journal.specs.Deeds.{Releases}
+use Rattle.alp_node.specs.Durable.{said_by, MightBring, Leaves, Besides, IsWritten}
+use Rattle.alp_vault.specs.Contents.{Contents}
+use Rattle.alp_node.proofs.SeatLemmas.{leaves_as}
+use Rattle.alp_node.specs.Halts.{Ends}
 use Rattle.alp_node.specs.declared.stored.StoreFault.{StoreFault}
-use Rattle.alp_node.proofs.CommitLemmas.{votes_unread, commit_stepped, commit_halt_stepped}
+use Rattle.alp_node.proofs.CommitLemmas.{votes_unread, commit_stepped, commit_might, commit_halt_stepped, write_leaves}
 use Rattle.alp_node.proofs.FinishLemmas.{against_stepped}
-use Rattle.alp_node.proofs.KeptLemmas.{of_client}
+use Rattle.alp_node.proofs.KeptLemmas.{of_client, as_with}
 use Rattle.alp_node.proofs.StepLemmas.{ended_step, down_step}
 use Rattle.alp_node.proofs.server_state.ServerState.decide.Goals as goal
 
@@ -36,13 +44,13 @@ returns-in-Err-Unread g c =
     let turn = c.args.turn.now in
     let G = g.V.Vault in
     let mine = of_client turn.client (map.get k.lives c.args.trans) c.requires.own in
-    let unread = c.in-Err-Unread.ensures.unread (ap (λ (f : StoreFault). Err f) c.in-Err-Unread.field-0-is) in
-    ended_step G k c.store.new.vault turn c.args.trans (call.Finish c.args.trans true) (cause.Voted k.server why.ReadFault) c.end.result c.end.new.self
-    (record { telling = c.store.ensures.kept.telling; contents = unread.0; spends = c.store.ensures.allowance; on = subst (λ (f : StoreFault). ServesOn {T = Unit {0}} (G.serves c.store.new.vault) (Err f)) c.in-Err-Unread.field-0-is c.in-Err-Unread.ensures.serves })
+    let ends = subst (λ (f : StoreFault). Ends {T = Unit {0}} G k.vault c.store.new.vault (Err f)) c.in-Err-Unread.field-0-is c.in-Err-Unread.ensures.ended in
+    ended_step G k c.store.new.vault turn c.args.trans (call.Finish c.args.trans true) (cause.Voted k.server why.ReadFault) c.end.result c.end.new.self ends.1 ends.0 (λ e. cc)
     c.requires.turn c.requires.up c.end.ensures.kept
-    (subst (λ (x : Cause). IfOk c.end.result (λ y. y ≡ refused_answer (refusal.Aborted x) (act.Released c.args.trans ∷ []))) c.against.ensures c.end.ensures.answer) c.end.ensures.err
-    (λ told a h x so. against_stepped a (G.faults k.vault) (G.faults c.store.new.vault) (G.held k.vault) k turn c.args.trans mine.0 true why.ReadFault x h c.requires.turn c.requires.up c.requires.ready.2.alone c.requires.here mine.1 mine.2
-    (λ e. unread.1) (votes_unread a (G.held k.vault) k c.args.trans mine.0 h c.requires.clock mine.1 (c.requires.room mine.0 mine.1)) so)
+    (c.end.ensures.answer ∙ ap (λ (x : Cause). refused_answer (refusal.Aborted x) c.in_ok-unread.unread) c.against-cause.ensures ∙ ap (refused_answer (refusal.Aborted (cause.Voted k.server why.ReadFault))) c.in_ok-unread.ensures)
+    (λ told a h. against_stepped a (G.faults k.vault) (G.faults c.store.new.vault) (G.held k.vault) k turn c.args.trans mine.0 true why.ReadFault c.end.result h c.requires.turn c.requires.up c.requires.ready.2.alone c.requires.here
+    mine.1 mine.2 (λ e. ends.2) (votes_unread a (G.held k.vault) k c.args.trans mine.0 h c.requires.clock mine.1 (c.requires.room mine.0 mine.1))
+    (c.end.ensures.answer ∙ ap (λ (x : Cause). refused_answer (refusal.Aborted x) c.in_ok-unread.unread) c.against-cause.ensures ∙ ap (refused_answer (refusal.Aborted (cause.Voted k.server why.ReadFault))) c.in_ok-unread.ensures))
 
 pub returns-in-Err-Failed : goal.returns-in-Err-Failed
 returns-in-Err-Failed g c =
@@ -52,13 +60,16 @@ returns-in-Err-Failed g c =
     let t = c.args.trans in
     let mine = of_client turn.client (map.get k.lives t) c.requires.own in
     let stamp : Stamp = record { ts = k.clock + 1; trans = t } in
+    let ends = subst (λ (f : StoreFault). Ends {T = Unit {0}} G k.vault c.store.new.vault (Err f)) c.in-Err-Failed.field-0-is c.in-Err-Failed.ensures.ended in
     let write : c.push_reserved.new.self.items ≡ act.Decided stamp [] ∷ [] =
     c.push_reserved.ensures.items ∙ ap (λ (acts : List Act). acts ++ c.decision.result ∷ []) c.in_ok-halted.ensures.items ∙ ap (λ (x : Act). x ∷ []) c.decision.ensures in
     let so : c.halt.result ≡ refused_answer refusal.Down (act.Decided stamp [] ∷ act.Failed ∷ []) = c.halt.ensures.answer ∙ ap (λ (acts : List Act). refused_answer refusal.Down (acts ++ act.Failed ∷ [])) write in
-    down_step G k c.halt.new.self c.store.new.vault turn (call.Finish t true) c.halt.result (act.Decided stamp [] ∷ act.Failed ∷ []) c.store.ensures.kept.telling c.store.ensures.allowance c.halt.ensures.kept so refl
-    (c.in-Err-Failed.ensures.failed (ap (λ (f : StoreFault). Err f) c.in-Err-Failed.field-0-is), tt)
+    down_step G k c.halt.new.self c.store.new.vault turn (call.Finish t true) c.halt.result (act.Decided stamp [] ∷ act.Failed ∷ []) c.store.ensures.kept c.store.ensures.allowance ends.0 c.halt.ensures.kept so refl
+    (ends.1, tt)
     (λ told a h. commit_halt_stepped a (G.faults k.vault) (G.faults c.store.new.vault) (G.held k.vault) (G.held c.store.new.vault) k turn t c.store.new.vault act.Failed mine.0 c.halt.result (inr refl) h c.requires.turn c.requires.up
     c.requires.clock c.requires.here mine.1 mine.2 (c.requires.room mine.0 mine.1) so)
+    (λ told a h. write_leaves a (G.held k.vault) k turn t c.in-Some.live.now h c.requires.turn c.requires.up (sym c.in-Some.ensures) (subst (IsOf turn.client) (sym c.in-Some.ensures) c.requires.own) (reply.Refused refusal.Down) refl G c.store.new.vault c.halt.result (act.Decided stamp [] ∷ act.Failed ∷ []) [] refl so refl (λ o. refl)
+    (c.store.ensures.leaves told))
 
 pub returns-in-Err-Stopped : goal.returns-in-Err-Stopped
 returns-in-Err-Stopped g c =
@@ -69,13 +80,46 @@ returns-in-Err-Stopped g c =
     let mine = of_client turn.client (map.get k.lives t) c.requires.own in
     let stamp : Stamp = record { ts = k.clock + 1; trans = t } in
     let halt = c.halt-in-Err-Stopped in
+    let ends = subst (λ (f : StoreFault). Ends {T = Unit {0}} G k.vault c.store.new.vault (Err f)) c.in-Err-Stopped.field-0-is c.in-Err-Stopped.ensures.ended in
     let write : c.push_reserved.new.self.items ≡ act.Decided stamp [] ∷ [] =
     c.push_reserved.ensures.items ∙ ap (λ (acts : List Act). acts ++ c.decision.result ∷ []) c.in_ok-halted.ensures.items ∙ ap (λ (x : Act). x ∷ []) c.decision.ensures in
     let so : halt.result ≡ refused_answer refusal.Down (act.Decided stamp [] ∷ act.Stopped ∷ []) = halt.ensures.answer ∙ ap (λ (acts : List Act). refused_answer refusal.Down (acts ++ act.Stopped ∷ [])) write in
-    down_step G k halt.new.self c.store.new.vault turn (call.Finish t true) halt.result (act.Decided stamp [] ∷ act.Stopped ∷ []) c.store.ensures.kept.telling c.store.ensures.allowance halt.ensures.kept so refl
-    (c.in-Err-Stopped.ensures.stopped (ap (λ (f : StoreFault). Err f) c.in-Err-Stopped.field-0-is), tt)
+    down_step G k halt.new.self c.store.new.vault turn (call.Finish t true) halt.result (act.Decided stamp [] ∷ act.Stopped ∷ []) c.store.ensures.kept c.store.ensures.allowance ends.0 halt.ensures.kept so refl
+    (ends.1, tt)
     (λ told a h. commit_halt_stepped a (G.faults k.vault) (G.faults c.store.new.vault) (G.held k.vault) (G.held c.store.new.vault) k turn t c.store.new.vault act.Stopped mine.0 halt.result (inl refl) h c.requires.turn c.requires.up
     c.requires.clock c.requires.here mine.1 mine.2 (c.requires.room mine.0 mine.1) so)
+    (λ told a h. write_leaves a (G.held k.vault) k turn t c.in-Some.live.now h c.requires.turn c.requires.up (sym c.in-Some.ensures) (subst (IsOf turn.client) (sym c.in-Some.ensures) c.requires.own) (reply.Refused refusal.Down) refl G c.store.new.vault halt.result (act.Decided stamp [] ∷ act.Stopped ∷ []) [] refl so refl (λ o. refl)
+    (c.store.ensures.leaves told))
+
+pub returns-in-Err-OutOfMemory : goal.returns-in-Err-OutOfMemory
+returns-in-Err-OutOfMemory g c =
+    let k = c.args.self.now in
+    let turn = c.args.turn.now in
+    let G = g.V.Vault in
+    let t = c.args.trans in
+    let v = c.store.new.vault in
+    let e = event.Call turn.client k.epoch turn.number (call.Finish t true) in
+    let live : Live = c.in-Some.live.now in
+    let there = sym c.in-Some.ensures in
+    let ends = subst (λ (f : StoreFault). Ends {T = Unit {0}} G k.vault v (Err f)) c.in-Err-OutOfMemory.field-0-is c.in-Err-OutOfMemory.ensures.ended in
+    record {
+      stepped = λ told a h. tt;
+      given = tt;
+      ready = λ n h. tt;
+      noted = λ h up. ap (λ (z : Contents). (clock_kept z.notes).epoch) ends.1.held ∙ h up;
+      still = record {
+        kept = λ a h. as_with a (G.held k.vault) (G.held v) k v ends.1.held h;
+        ready = λ n h. ready_with n (G.serves k.vault) (G.serves v) k v ends.0 c.requires.up h;
+        up = refl;
+        vault = ends.1;
+      };
+      seat = record { server = refl; epoch = refl; same = c.store.ensures.kept; spends = c.store.ensures.allowance };
+      leaves = λ told a h.
+          leaves_as G k.vault v (IsWritten live.part.intents (record { epoch = k.epoch; clock = k.clock + 1 }) (G.held k.vault)) (MightBring (alone a) e)
+          (λ z w. commit_might a (G.faults k.vault) (G.faults v) (G.held k.vault) z k turn t live v h c.requires.turn c.requires.up c.requires.ready.2.alone c.requires.clock c.requires.here there
+          (subst (IsOf turn.client) there c.requires.own) (c.requires.room live there) w)
+          (c.store.ensures.leaves told);
+    }
 
 pub returns : goal.returns
 returns g c =
@@ -100,19 +144,24 @@ returns g c =
           subst (λ (y : ServerState _). Stepped a (G.faults k.vault) (G.faults y.vault) (G.held y.vault) (record y { clock = k.clock + 1; committed = y.committed + 1; sessions = c.count.new.self }) e x) (sym c.forget.ensures)
           (subst (λ (y : Sessions). Stepped a (G.faults k.vault) (G.faults v) (G.held v) (record (without_trans k t) { clock = k.clock + 1; committed = k.committed + 1; sessions = y; vault = v }) e x) (sym counts)
           (commit_stepped a (G.faults k.vault) (G.faults v) (G.held k.vault) (G.held v) k turn t same v x h c.requires.turn c.requires.up c.requires.ready.2.alone c.requires.clock c.requires.here (sym c.in-Some.ensures)
-          (subst (IsOf turn.client) (sym c.in-Some.ensures) c.requires.own) (c.requires.room same (sym c.in-Some.ensures)) (stored.cells told) stored.clock so));
+          (subst (IsOf turn.client) (sym c.in-Some.ensures) c.requires.own) (c.requires.room same (sym c.in-Some.ensures)) (stored.cells told) stored.notes so));
       given =
           reply_given (G.faults k.vault) (G.faults c.forget.new.self.vault) (G.allowance c.forget.new.self.vault) c.forget.new.self.is_down
-          (reply.Committed stamp) (act.Decided stamp [] ∷ act.Released t ∷ []) x so (ap (λ (y : ServerState _). y.is_down) c.forget.ensures ∙ c.requires.up) tt;
+          (reply.Committed stamp) (act.Decided stamp [] ∷ act.Released t ∷ []) x so (λ _. ap (λ (y : ServerState _). G.faults y.vault) c.forget.ensures ∙ stored.ended.1) (ap (λ (y : ServerState _). y.is_down) c.forget.ensures ∙ c.requires.up) tt;
       ready = λ n h.
           subst (λ (y : ServerState _). IsReady (n + 1) (G.serves y.vault) (record y { clock = k.clock + 1; committed = y.committed + 1; sessions = c.count.new.self })) (sym c.forget.ensures)
           (subst (λ (y : Sessions). IsReady (n + 1) (G.serves v) (record (without_trans k t) { clock = k.clock + 1; committed = k.committed + 1; sessions = y; vault = v })) (sym counts)
-          (commit_ready n (G.serves k.vault) (G.serves v) k v turn t stored.serves c.requires.turn c.requires.clock h));
+          (commit_ready n (G.serves k.vault) (G.serves v) k v turn t stored.ended.0 c.requires.up c.requires.turn c.requires.clock h));
+      noted = λ h e. ap (λ (y : ServerState _). (clock_kept (G.held y.vault).notes).epoch) c.forget.ensures ∙ ap (λ (n : ClockNote). n.epoch) stored.clock ∙ sym (ap (λ (y : ServerState _). y.epoch) c.forget.ensures);
       still = tt;
       seat = record {
         server = ap (λ (y : ServerState _). y.server) c.forget.ensures;
         epoch = ap (λ (y : ServerState _). y.epoch) c.forget.ensures;
+        same = subst (λ (y : ServerState _). IsSameVault G.tells G.volume G.server G.servers k.vault y.vault) (sym c.forget.ensures) stored.kept;
         spends = subst (λ (y : ServerState _). Spends (G.allowance k.vault) (G.allowance y.vault)) (sym c.forget.ensures) stored.allowance;
       };
-      telling = ap (λ (y : ServerState _). G.tells y.vault) c.forget.ensures ∙ stored.kept.telling;
+      leaves = λ told a h.
+          subst (λ (y : ServerState _). Leaves G k.vault y.vault (Besides G k.vault (λ z. z ≡ said_by (alone a) (entry_of e x)))) (sym c.forget.ensures)
+          (write_leaves a (G.held k.vault) k turn t same h c.requires.turn c.requires.up (sym c.in-Some.ensures) (subst (IsOf turn.client) (sym c.in-Some.ensures) c.requires.own) (reply.Committed stamp) refl G v x
+          (act.Decided stamp [] ∷ act.Released t ∷ []) (Releases t ∷ []) refl so refl (λ o. refl) (stored.leaves told));
     }

@@ -11,6 +11,7 @@ use Rattle.alp_queue.specs.declared.waiter.Waiter.{Waiter}
 use Rattle.alp_locks.specs.Asks.{blocker}
 use Rattle.alp_locks.specs.Tables.{Table}
 use Rattle.alp_locks.specs.Sound.{IsPrepared}
+use Rattle.alp_calls.specs.Looks.{IsLeft}
 use Rattle.alp_node.specs.Asks.{asks_of, asks_made, asks_given, is_made, plan_for, count_made, plan_of, with_plan, acts_of}
 use Rattle.alp_node.specs.Bounded.{IsWithin, bounds_of}
 use Rattle.alp_node.specs.Calls.{next_file}
@@ -28,7 +29,7 @@ use Rattle.alp_node.proofs.KeptLemmas.{of_client}
 use Rattle.alp_node.proofs.LockCallLemmas.{conflict_stepped, lock_stepped, acts_up, acts_caused}
 use Rattle.alp_node.proofs.LookLemmas.{count_same, gave_told, part_ready, within_sum, looked_still, without_step}
 use Rattle.alp_node.proofs.ReadyLemmas.{counted_ready}
-use Rattle.alp_node.proofs.SeatLemmas.{spends_same}
+use Rattle.alp_node.proofs.SeatLemmas.{left_seated, left_noted, left_step}
 use Rattle.alp_node.proofs.StepLemmas.{refused_step}
 use Rattle.alp_node.proofs.server_state.ServerState.lock_call.Goals as goal
 
@@ -116,38 +117,32 @@ returns g c =
     ∙ ap (λ (y : ServerState _). record y { given = count_made y.given c.is_made-has_made.result; locks = with_plan y.locks (plan_for c.is_made-has_made.result c.in_ok-asked.asked c.in_ok-made.made) }) did.kept
     ∙ ap (λ (n : ℕ). record k { given = n; lives = map.insert k.lives t now; locks = with_plan k.locks (plan_for c.is_made-has_made.result c.in_ok-asked.asked c.in_ok-made.made); vault = N.vault }) count
     ∙ ap (λ (w : Waiter). record k { given = count_after k.given r; lives = map.insert k.lives t now; locks = with_plan k.locks w; vault = N.vault }) taken in
-    record {
-      stepped = λ told a h. (
-          let given = gave_told (G.tells k.vault) (G.held k.vault).cells _ l did.part call r told did.outcome in
-          let e = event.Call turn.client k.epoch turn.number call in
-          subst (λ (y : Sessions). Stepped a (G.faults k.vault) (G.faults M.vault) (G.held M.vault) (record M { sessions = y }) e x) (sym c.count.ensures)
-          (subst (λ (y : ServerState _). Stepped a (G.faults k.vault) (G.faults y.vault) (G.held y.vault) (record y { sessions = counted_in y.sessions turn }) e x) (sym kept_is)
-          (lock_stepped a (G.faults k.vault) (G.faults N.vault) (G.held k.vault) k turn t l did.part call r b N.vault x (G.held N.vault) h c.requires.up left.contents c.requires.turn there own c.requires.kind
-          c.requires.given c.requires.named c.requires.formed given (subst (λ (y : Bool). IsRoomy y (G.held k.vault).cells k l call b) told room) is c.requires.ready.2.sound c.requires.ready.2.alone free_asked
-          (free_given c.requires.ready.0 (G.serves k.vault) k t call r c.requires.ready.2 free_asked)))
-          );
-      given =
-          reply_given (G.faults k.vault) (G.faults M.vault) (G.allowance M.vault) M.is_down r (acts_of t rises) x is (ap (λ (y : ServerState _). y.is_down) kept_is ∙ c.requires.up ∙ sym (acts_up t rises))
-          (acts_caused (G.faults k.vault) (G.faults M.vault) (G.allowance M.vault) t rises);
-      ready = λ n h. (
-          let serves = G.serves N.vault in
-          let low : did.part.last ≤ n + 1 = (let was : l.part.last ≤ n = h.opens t l there in omega (arith, did.outcome.last)) in
-          let fewer : count_after k.given r ≤ n + 1 = (let was : k.given ≤ n = h.given in let one : count_after k.given r ≤ k.given + 1 = count_same k.given r in omega (arith, was, one)) in
-          let counted = counted_ready n (G.serves k.vault) k turn c.requires.turn h in
-          let parted = part_ready (n + 1) (G.serves k.vault) serves (record k { sessions = counted_in k.sessions turn }) t l did.part b N.vault (n + 1) c.in-Ok.ensures.looked.1 there low (le_refl (n + 1)) counted in
-          subst (λ (y : Sessions). IsReady (n + 1) (G.serves M.vault) (record M { sessions = y })) (sym c.count.ensures)
-          (subst (λ (y : ServerState _). IsReady (n + 1) (G.serves y.vault) (record y { sessions = counted_in y.sessions turn })) (sym kept_is)
-          (granted_ready (n + 1) serves (record k { sessions = counted_in k.sessions turn; lives = map.insert k.lives t now; vault = N.vault }) (plan_of k.locks t (asks_given (next_file k) call r)) (count_after k.given r)
-          (count_grows k.given r) fewer refl (free_given n (G.serves k.vault) k t call r h free_asked) (λ m high. given_below k.server k.epoch k.given m call r c.requires.given high) parted))
-          );
-      still = tt;
-      seat = record {
-        server = ap (λ (y : ServerState _). y.server) kept_is;
-        epoch = ap (λ (y : ServerState _). y.epoch) kept_is;
-        spends = spends_same (G.allowance k.vault) (G.allowance M.vault) (ap (λ (y : ServerState _). G.allowance y.vault) kept_is ∙ left.allowed);
-      };
-      telling = ap (λ (y : ServerState _). G.tells y.vault) kept_is ∙ left.same.telling;
-    }
+    let vault = ap (λ (y : ServerState _). y.vault) kept_is in
+    let faults = ap (λ (y : ServerState _). G.faults y.vault) kept_is ∙ c.in-Ok.ensures.looked.2 in
+    left_step G k (record M { sessions = c.count.new.self }) (ap (λ (y : ServerState _). y.server) kept_is) (ap (λ (y : ServerState _). y.epoch) kept_is) (subst (IsLeft G k.vault) (sym vault) left)
+    (event.Call turn.client k.epoch turn.number call) x c.requires.up
+    (λ told a h. (
+    let given = gave_told (G.tells k.vault) (G.held k.vault).cells _ l did.part call r told did.outcome in
+    let e = event.Call turn.client k.epoch turn.number call in
+    subst (λ (y : Sessions). Stepped a (G.faults k.vault) (G.faults M.vault) (G.held M.vault) (record M { sessions = y }) e x) (sym c.count.ensures)
+    (subst (λ (y : ServerState _). Stepped a (G.faults k.vault) (G.faults y.vault) (G.held y.vault) (record y { sessions = counted_in y.sessions turn }) e x) (sym kept_is)
+    (lock_stepped a (G.faults k.vault) (G.faults N.vault) (G.held k.vault) k turn t l did.part call r b N.vault x (G.held N.vault) h c.requires.up left.contents c.requires.turn there own c.requires.kind
+    c.requires.given c.requires.named c.requires.formed given (subst (λ (y : Bool). IsRoomy y (G.held k.vault).cells k l call b) told room) is c.requires.ready.2.sound c.requires.ready.2.alone free_asked
+    (free_given c.requires.ready.0 (G.serves k.vault) k t call r c.requires.ready.2 free_asked)))
+    ))
+    (reply_given (G.faults k.vault) (G.faults M.vault) (G.allowance M.vault) M.is_down r (acts_of t rises) x is (λ _. faults) (ap (λ (y : ServerState _). y.is_down) kept_is ∙ c.requires.up ∙ sym (acts_up t rises))
+    (acts_caused (G.faults k.vault) (G.faults M.vault) (G.allowance M.vault) t rises))
+    (λ n h. (
+    let serves = G.serves N.vault in
+    let low : did.part.last ≤ n + 1 = (let was : l.part.last ≤ n = h.opens t l there in omega (arith, did.outcome.last)) in
+    let fewer : count_after k.given r ≤ n + 1 = (let was : k.given ≤ n = h.given in let one : count_after k.given r ≤ k.given + 1 = count_same k.given r in omega (arith, was, one)) in
+    let counted = counted_ready n (G.serves k.vault) k turn c.requires.turn h in
+    let parted = part_ready (n + 1) (G.serves k.vault) serves (record k { sessions = counted_in k.sessions turn }) t l did.part b N.vault (n + 1) c.in-Ok.ensures.looked.1 c.requires.up there low (le_refl (n + 1)) counted in
+    subst (λ (y : Sessions). IsReady (n + 1) (G.serves M.vault) (record M { sessions = y })) (sym c.count.ensures)
+    (subst (λ (y : ServerState _). IsReady (n + 1) (G.serves y.vault) (record y { sessions = counted_in y.sessions turn })) (sym kept_is)
+    (granted_ready (n + 1) serves (record k { sessions = counted_in k.sessions turn; lives = map.insert k.lives t now; vault = N.vault }) (plan_of k.locks t (asks_given (next_file k) call r)) (count_after k.given r)
+    (count_grows k.given r) fewer refl (free_given n (G.serves k.vault) k t call r h free_asked) (λ m high. given_below k.server k.epoch k.given m call r c.requires.given high) parted))
+    ))
 
 pub returns-in_err-answer : goal.returns-in_err-answer
 returns-in_err-answer g c =
@@ -161,8 +156,9 @@ returns-in_err-answer g c =
     let room = c.requires.room l there in
     wanting G k N (event.Call turn.client k.epoch turn.number c.args.call.now) c.from_residual-in_err-answer.result c.from_residual-in_err-answer.ensures.0
     (looked_still G k N c.args.trans l there did.part c.args.bounds did.kept (did.outcome.reads c.in_err-answer.ensures.err)
-    (λ rs es w. subst (λ (y : Bounds). IsWithin y rs es) (sym room.with_call) (within_sum l.bounds (bounds_of c.args.call.now) rs es w)) left c.in-Ok.ensures.looked.1)
-    (record { server = ap (λ (y : ServerState _). y.server) did.kept; epoch = ap (λ (y : ServerState _). y.epoch) did.kept; spends = spends_same (G.allowance k.vault) (G.allowance N.vault) left.allowed }) left.same.telling
+    (λ rs es w. subst (λ (y : Bounds). IsWithin y rs es) (sym room.with_call) (within_sum l.bounds (bounds_of c.args.call.now) rs es w)) left c.in-Ok.ensures.looked.1 c.in-Ok.ensures.looked.2 c.requires.up)
+    (left_noted G k N (ap (λ (y : ServerState _). y.server) did.kept) (ap (λ (y : ServerState _). y.epoch) did.kept) left c.requires.up)
+    (left_seated G k N (ap (λ (y : ServerState _). y.server) did.kept) (ap (λ (y : ServerState _). y.epoch) did.kept) left) left
 
 pub returns-in-Err : goal.returns-in-Err
 returns-in-Err g c =

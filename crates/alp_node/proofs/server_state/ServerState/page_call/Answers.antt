@@ -16,7 +16,7 @@ use Rattle.alp_node.proofs.KeptLemmas.{of_client}
 use Rattle.alp_node.proofs.LookLemmas.{gave_told, part_ready, within_sum, looked_still, without_step}
 use Rattle.alp_node.proofs.PerformLemmas.{page_stepped}
 use Rattle.alp_node.proofs.ReadyLemmas.{counted_ready}
-use Rattle.alp_node.proofs.SeatLemmas.{spends_same}
+use Rattle.alp_node.proofs.SeatLemmas.{left_seated, left_noted, left_step}
 use Rattle.alp_node.proofs.server_state.ServerState.page_call.Goals as goal
 
 pub perform-requires-clause-new : goal.perform-requires-clause-new
@@ -40,27 +40,23 @@ returns-in_ok-answer-in-Ok g c =
     let room = c.requires.room l there in
     let is : x ≡ record { kept = Some r; handed = Some r; acts = [] } =
     c.in_ok-answer-in-Ok.ensures.ok ∙ ap (λ (acts : List Act). record { kept = Some r; handed = Some r; acts = acts }) (c.new-in-Ok.ensures ∙ c.new.ensures.items) in
-    record {
-      stepped = λ told a h. (
-          let e = event.Call turn.client k.epoch turn.number c.args.call.now in
-          let given = gave_told (G.tells k.vault) (G.held k.vault).cells _ l did.part c.args.call.now r told did.outcome in
-          subst (λ (y : Sessions). Stepped a (G.faults k.vault) (G.faults N.vault) (G.held N.vault) (record N { sessions = y }) e x) (sym c.count.ensures)
-          (subst (λ (y : ServerState _). Stepped a (G.faults k.vault) (G.faults N.vault) (G.held N.vault) (record y { sessions = counted_in y.sessions turn }) e x) (sym did.kept)
-          (page_stepped a (G.faults k.vault) (G.faults N.vault) (G.held k.vault) k turn t l did.part c.args.call.now r b N.vault x (G.held N.vault) h c.requires.up left.contents c.requires.turn there own c.requires.page
-          c.requires.named c.requires.formed given (subst (λ (y : Bool). IsRoomy y (G.held k.vault).cells k l c.args.call.now b) told room) is))
-          );
-      given = reply_given (G.faults k.vault) (G.faults N.vault) (G.allowance N.vault) N.is_down r [] x is (ap (λ (y : ServerState _). y.is_down) did.kept ∙ c.requires.up) tt;
-      ready = λ n h. (
-          let low : did.part.last ≤ n + 1 = (let was : l.part.last ≤ n = h.opens t l there in omega (arith, did.outcome.last)) in
-          subst (λ (y : Sessions). IsReady (n + 1) (G.serves N.vault) (record N { sessions = y })) (sym c.count.ensures)
-          (subst (λ (y : ServerState _). IsReady (n + 1) (G.serves N.vault) (record y { sessions = counted_in y.sessions turn })) (sym did.kept)
-          (part_ready (n + 1) (G.serves k.vault) (G.serves N.vault) (record k { sessions = counted_in k.sessions turn }) t l did.part b N.vault (n + 1) c.in-Ok.ensures.looked.1 there low (le_refl (n + 1))
-          (counted_ready n (G.serves k.vault) k turn c.requires.turn h)))
-          );
-      still = tt;
-      seat = record { server = ap (λ (y : ServerState _). y.server) did.kept; epoch = ap (λ (y : ServerState _). y.epoch) did.kept; spends = spends_same (G.allowance k.vault) (G.allowance N.vault) left.allowed };
-      telling = left.same.telling;
-    }
+    left_step G k (record N { sessions = c.count.new.self }) (ap (λ (y : ServerState _). y.server) did.kept) (ap (λ (y : ServerState _). y.epoch) did.kept) left (event.Call turn.client k.epoch turn.number c.args.call.now) x c.requires.up
+    (λ told a h. (
+    let e = event.Call turn.client k.epoch turn.number c.args.call.now in
+    let given = gave_told (G.tells k.vault) (G.held k.vault).cells _ l did.part c.args.call.now r told did.outcome in
+    subst (λ (y : Sessions). Stepped a (G.faults k.vault) (G.faults N.vault) (G.held N.vault) (record N { sessions = y }) e x) (sym c.count.ensures)
+    (subst (λ (y : ServerState _). Stepped a (G.faults k.vault) (G.faults N.vault) (G.held N.vault) (record y { sessions = counted_in y.sessions turn }) e x) (sym did.kept)
+    (page_stepped a (G.faults k.vault) (G.faults N.vault) (G.held k.vault) k turn t l did.part c.args.call.now r b N.vault x (G.held N.vault) h c.requires.up left.contents c.requires.turn there own c.requires.page
+    c.requires.named c.requires.formed given (subst (λ (y : Bool). IsRoomy y (G.held k.vault).cells k l c.args.call.now b) told room) is))
+    ))
+    (reply_given (G.faults k.vault) (G.faults N.vault) (G.allowance N.vault) N.is_down r [] x is (λ _. c.in-Ok.ensures.looked.2) (ap (λ (y : ServerState _). y.is_down) did.kept ∙ c.requires.up) tt)
+    (λ n h. (
+    let low : did.part.last ≤ n + 1 = (let was : l.part.last ≤ n = h.opens t l there in omega (arith, did.outcome.last)) in
+    subst (λ (y : Sessions). IsReady (n + 1) (G.serves N.vault) (record N { sessions = y })) (sym c.count.ensures)
+    (subst (λ (y : ServerState _). IsReady (n + 1) (G.serves N.vault) (record y { sessions = counted_in y.sessions turn })) (sym did.kept)
+    (part_ready (n + 1) (G.serves k.vault) (G.serves N.vault) (record k { sessions = counted_in k.sessions turn }) t l did.part b N.vault (n + 1) c.in-Ok.ensures.looked.1 c.requires.up there low (le_refl (n + 1))
+    (counted_ready n (G.serves k.vault) k turn c.requires.turn h)))
+    ))
 
 pub returns-in_err-answer-in-Ok : goal.returns-in_err-answer-in-Ok
 returns-in_err-answer-in-Ok g c =
@@ -74,8 +70,9 @@ returns-in_err-answer-in-Ok g c =
     let room = c.requires.room l there in
     wanting G k N (event.Call turn.client k.epoch turn.number c.args.call.now) c.from_residual-in_err-answer-in-Ok.result c.from_residual-in_err-answer-in-Ok.ensures.0
     (looked_still G k N c.args.trans l there did.part c.args.bounds did.kept (did.outcome.reads c.in_err-answer-in-Ok.ensures.err)
-    (λ rs es w. subst (λ (y : Bounds). IsWithin y rs es) (sym room.with_call) (within_sum l.bounds (bounds_of c.args.call.now) rs es w)) left c.in-Ok.ensures.looked.1)
-    (record { server = ap (λ (y : ServerState _). y.server) did.kept; epoch = ap (λ (y : ServerState _). y.epoch) did.kept; spends = spends_same (G.allowance k.vault) (G.allowance N.vault) left.allowed }) left.same.telling
+    (λ rs es w. subst (λ (y : Bounds). IsWithin y rs es) (sym room.with_call) (within_sum l.bounds (bounds_of c.args.call.now) rs es w)) left c.in-Ok.ensures.looked.1 c.in-Ok.ensures.looked.2 c.requires.up)
+    (left_noted G k N (ap (λ (y : ServerState _). y.server) did.kept) (ap (λ (y : ServerState _). y.epoch) did.kept) left c.requires.up)
+    (left_seated G k N (ap (λ (y : ServerState _). y.server) did.kept) (ap (λ (y : ServerState _). y.epoch) did.kept) left) left
 
 pub returns-in-Err : goal.returns-in-Err
 returns-in-Err g c =

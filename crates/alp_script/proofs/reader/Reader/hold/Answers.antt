@@ -6,4 +6,4 @@ pub returns-then-len-gt-LINE_BYTES : goal.returns-then-len-gt-LINE_BYTES
 returns-then-len-gt-LINE_BYTES c = rw (← c.self.view_is) (outside-byte _ _ c.requires c.self.invariant.open_ended (omega arith))
 
 pub returns : goal.returns
-returns c = rw (c.in_ok-push.ensures.items, ← c.self.view_is) (follows-byte _ _ (omega arith))
+returns c = rw (c.in_ok-push.ensures.items, ← c.self.view_is) (follows-byte _ _ c.requires (omega arith))

@@ -1,0 +1,4 @@
+pub mod Bays
+pub mod MemBays
+pub mod HostDisks
+pub mod HostBays

@@ -1,0 +1,16 @@
+//! Where the disks of the servers of a run come from, and where they go back to.
+#![tactic(auto)]
+
+mod bay;
+mod host_bay;
+mod host_disk;
+mod mem_bay;
+mod volume_file;
+
+pub use bay::{Bay, BayFault};
+pub use host_bay::HostBay;
+pub use host_disk::HostDisk;
+pub use mem_bay::MemBay;
+
+#[cfg(test)]
+mod tests;

@@ -1,0 +1,67 @@
+//! A bay of disks in memory.
+ghost use Rattle.std.specs.Prelude.{◌≡◌, ◌≤◌, ℕ, IfOk, length, None, true};
+ghost use Rattle.alp_disk.specs.MemDisk.{page_count};
+
+use crate::{Bay, BayFault};
+use alp_base::OutOfMemory;
+use alp_disk::MemDisk;
+use std::alloc::Global;
+
+// A disk of two pages or more.
+#[derive(Drop)]
+struct Standing {
+    disk: MemDisk,
+    ghost long: { 2 ≤ page_count disk },
+}
+
+/// Disks in memory, which stand there for as long as the bay does. It tells what stands at its places, and fails never.
+#[derive(Drop)]
+pub struct MemBay {
+    alloc: Global,
+    // Each at its server's number, and none at 0.
+    places: Vec<Option<Standing>>,
+    ghost many: { length places.items ≡ 9 },
+}
+
+impl MemBay {
+    ghost use Rattle.alp_bay.specs.MemBays.{disk_at};
+
+    /// A bay in which no disk stands.
+    pub fn new(alloc: Global) -> Result<MemBay, OutOfMemory>
+        ensures empty { IfOk result (λ bay. (server : ℕ) → disk_at bay server ≡ None) }
+    {
+        let places = Vec::from_array(
+            alloc,
+            [None, None, None, None, None, None, None, None, None],
+        )?;
+        Ok(MemBay { alloc, places })
+    }
+}
+
+impl Bay for MemBay {
+    ghost use Rattle.alp_bay.specs.MemBays.{disk_at};
+
+    type Device = MemDisk;
+
+    ghost tells = { λ _. true };
+
+    ghost at = { λ b server. disk_at b server };
+
+    ghost faults = { λ _. 0 };
+
+    fn choose(&mut self, folder: Option<&str>) -> Result<(), BayFault> {
+        let _ = folder;
+        Ok(())
+    }
+
+    fn take(&mut self, server: u8, pages: u32) -> Result<MemDisk, BayFault> {
+        match self.places[server as usize].take() {
+            Some(standing) => Ok(standing.disk),
+            None => Ok(MemDisk::new(self.alloc, pages, Vec::new(self.alloc))?),
+        }
+    }
+
+    fn give(&mut self, server: u8, device: MemDisk) {
+        self.places[server as usize] = Some(Standing { disk: device });
+    }
+}

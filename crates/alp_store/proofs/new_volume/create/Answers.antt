@@ -1,0 +1,30 @@
+use Rattle.std.specs.Prelude.{Result, IsTrue}
+use Rattle.std.proofs.Common.{sym, ◌∙◌, ap, subst}
+use Rattle.alp_anchor.specs.declared.anchor.Anchor.{Anchor}
+use Rattle.alp_base.specs.declared.faults.VaultFault.{VaultFault}
+use Rattle.alp_pool.specs.Pools.{log_of}
+use Rattle.alp_wal.specs.Calls.{Becomes}
+use Rattle.alp_wal.specs.State.{State, applied}
+use Rattle.alp_store.specs.Starts.{header_batch}
+use Rattle.alp_store.specs.Told.{told_by}
+use Rattle.alp_store.proofs.CreateLaws.{made_empty, made_volume}
+use Rattle.alp_store.proofs.new_volume.create.Goals as goal
+
+pub returns-clause-empty : goal.returns-clause-empty
+returns-clause-empty g c told =
+    let p = c.in-Ok.pages in
+    let q = c.put_header.new.pages in
+    let there = subst IsTrue (sym c.in-Ok.ensures.below.tells) told in
+    let becomes = subst (λ (r : Result (Unit {0}) VaultFault). Becomes r (told_by g.D.Disk (log_of p)) (applied (told_by g.D.Disk (log_of p)) header_batch) (told_by g.D.Disk (log_of q))) c.in_default.is (c.put_header.ensures.becomes there) in
+    let state = becomes ∙ ap (λ (s : State). applied s header_batch) (c.in-Ok.ensures.told told) in
+    made_empty g.D.Disk q c.args.sizes c.requires.sizes.least_home state c.shelve.result c.shelve.ensures.read
+
+pub returns-clause-volume : goal.returns-clause-volume
+returns-clause-volume g c told =
+    let p = c.in-Ok.pages in
+    let q = c.put_header.new.pages in
+    let there = subst IsTrue (sym c.in-Ok.ensures.below.tells) told in
+    let becomes = subst (λ (r : Result (Unit {0}) VaultFault). Becomes r (told_by g.D.Disk (log_of p)) (applied (told_by g.D.Disk (log_of p)) header_batch) (told_by g.D.Disk (log_of q))) c.in_default.is (c.put_header.ensures.becomes there) in
+    let state = becomes ∙ ap (λ (s : State). applied s header_batch) (c.in-Ok.ensures.told told) in
+    let now = subst IsTrue (sym c.put_header.ensures.same.tells) there in
+    made_volume g.D.Disk q c.args.sizes c.requires.sizes.least_home state c.shelve.result (c.put_header.ensures.same.volume.sizes ∙ ap (λ (a : Anchor). a.sizes) c.in-Ok.ensures.anchor) (c.shelve.ensures.damaged now) c.shelve.ensures.volume

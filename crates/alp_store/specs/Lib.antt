@@ -1,0 +1,12 @@
+pub mod StoreStates
+pub mod Told
+pub mod Reads
+pub mod ReadLaws
+pub mod StoreLaws
+pub mod Holding
+pub mod Shelves
+pub mod Notes
+pub mod Starts
+pub mod Batches
+pub mod Commits
+pub mod Recoveries

@@ -1,0 +1,91 @@
+-- Which disks are new, and why a store does not start on one.
+use Rattle.std.specs.Prelude.{◌≡◌, ◌⊎◌, ◌≤◌, ℕ, ◌+◌, ◌*◌, [], ◌∷◌, Some, length, MatchResult, Result, IfOk, IfErr}
+use Rattle.std.specs.FinMap as map
+use Rattle.alp_base.specs.Pages.{zero_page}
+use Rattle.alp_base.specs.Faults.{HasFaultCause, IsCountKept}
+use Rattle.alp_base.specs.declared.faults.Sizes.{Sizes}
+use Rattle.alp_base.specs.declared.faults.VaultFault.{VaultFault}
+use Rattle.alp_base.specs.declared.faults.VaultFault.TheVariants.{Damaged}
+use Rattle.alp_base.specs.declared.ids.FileId.{FileId}
+use Rattle.alp_base.specs.declared.key.Key.TheVariants.{Leader}
+use Rattle.alp_fields.specs.ClockNote.{clock_kept}
+use Rattle.alp_files.specs.declared.cell.Cell.{Cell}
+use Rattle.alp_batch.specs.declared.batch.Batch.{Batch}
+use Rattle.alp_disk.specs.Disk.{Image, page}
+use Rattle.alp_disk.specs.declared.disk.Disk.{Ghosts}
+use Rattle.alp_pages.specs.Damage.{damage_of}
+use Rattle.alp_pages.specs.Pages.{Pages, header_page}
+use Rattle.alp_vault.specs.Contents.{Contents}
+use Rattle.alp_vault.specs.Volumes.{AreServerNotes}
+use Rattle.alp_wal.specs.Mount.{WhyNotMounted}
+use Rattle.alp_wal.specs.Reading.{Reads}
+use Rattle.alp_wal.specs.State.{State}
+use Rattle.alp_wal.specs.Wal.{disk_of, anchor_of}
+use Rattle.alp_wal.specs.declared.wal.Wal.{Wal}
+use Rattle.alp_store.specs.Holding.{Holds, HoldsBy}
+use Rattle.alp_store.specs.Told.{pages_of, contents_of}
+
+-- its anchors are all zeros, and the sizes make up its n pages
+pub record IsNew (sizes : Sizes) (n : ℕ) (image : Image) : Type 0 where
+  pub size : n ≡ 2 + 2 * sizes.area + sizes.home
+  pub first : page image 0 ≡ zero_page
+  pub second : page image 1 ≡ zero_page
+
+-- this page of the disk is its first damaged home page
+pub record IsDamagedHome (sizes : Sizes) (pages : Pages) (place : ℕ) : Type 0 where
+  pub page : ℕ
+  pub wrong : damage_of sizes.home pages ≡ Some page
+  pub there : place ≡ page + (2 + 2 * sizes.area)
+
+-- it holds a volume of which that is the first damaged page
+pub record IsDamagedVolume (server servers n : ℕ) (image : Image) (place : ℕ) : Type 0 where
+  pub sizes : Sizes
+  pub state : State
+  pub reads : Reads server servers n image state
+  pub long : length state.pages ≡ sizes.home
+  pub total : 2 + 2 * sizes.area + sizes.home ≡ n
+  pub damaged : IsDamagedHome sizes (pages_of state) place
+
+-- notes are in the format of that server of so many, and files were given by it in epochs up to that of the clock's note
+pub record AreOfServer (server servers : ℕ) (held : Contents) : Type 0 where
+  pub notes : AreServerNotes server servers held.notes
+  pub files : (f : FileId) (c : Cell) → map.get held.cells (Leader f) ≡ Some c → (f.server ≡ server) × (f.epoch ≤ (clock_kept held.notes).epoch)
+
+-- a disk was mounted: the log holds what the disk's reading says, which is of its server, and the disk reads on as before
+pub record IsStarted {D : Type 0} (g : Ghosts D) (disk : D) (w : Wal D) : Type 0 where
+  pub holds : HoldsBy g w (g.seen disk) (contents_of g w)
+  pub own : AreOfServer (anchor_of w).server (anchor_of w).servers (contents_of g w)
+  pub seen : g.seen (disk_of w) ≡ g.seen disk
+
+-- it holds a volume whose notes or files are not those of the server
+pub record IsForeign (server servers n : ℕ) (image : Image) : Type 0 where
+  pub home : ℕ
+  pub held : Contents
+  pub holds : Holds server servers n home image held
+  pub foreign : AreOfServer server servers held → ⊥
+
+-- why the volume on a disk is not opened: it is not mounted, or a home page is damaged
+abbrev pub WhyNotOpened : ℕ → ℕ → ℕ → Image → VaultFault → Type 0
+WhyNotOpened server servers n image (Damaged place) = WhyNotMounted server servers n image (Damaged place) ⊎ IsDamagedVolume server servers n image place
+WhyNotOpened server servers n image fault = WhyNotMounted server servers n image fault
+
+-- why a store does not start on a disk that is not new: nor is it the server's
+abbrev pub WhyNotStarted : ℕ → ℕ → ℕ → Image → VaultFault → Type 0
+WhyNotStarted server servers n image (Damaged place) = WhyNotOpened server servers n image (Damaged place) ⊎ ((place ≡ 0) × IsForeign server servers n image)
+WhyNotStarted server servers n image fault = WhyNotMounted server servers n image fault
+
+-- The count of faults moves only where the disk failed or was stopped, and each answer has its cause.
+pub record HasOpenCause {D T : Type 0} (g : Ghosts D) (disk_in : T → D) (disk : D) (result : Result T (D × VaultFault)) : Type 0 where
+  pub later : IfErr result (λ e. g.faults disk ≤ g.faults e.0)
+  pub still : MatchResult result (λ s. g.faults (disk_in s) ≡ g.faults disk) (λ e. IsCountKept (g.faults disk) (g.faults e.0) e.1)
+  pub cause : IfErr result (λ e. HasFaultCause (g.faults disk) (g.faults e.0) (g.allowance e.0) e.1)
+
+-- The count of faults does not fall, moves only where the disk failed or was stopped, and each answer has its cause.
+pub record HasStartCause {D T : Type 0} (g : Ghosts D) (disk : D) (disk_in : T → D) (result : Result T (D × VaultFault)) : Type 0 where
+  pub still : IfOk result (λ s. g.faults (disk_in s) ≡ g.faults disk)
+  pub later : IfErr result (λ e. g.faults disk ≤ g.faults e.0)
+  pub cause : IfErr result (λ e. HasFaultCause (g.faults disk) (g.faults e.0) (g.allowance e.0) e.1)
+
+-- the header of a volume that holds nothing
+abbrev pub header_batch : Batch
+header_batch = record { images = record { at = 0; page = header_page } ∷ []; notes = [] }
