@@ -1,5 +1,6 @@
 -- What the calls of a bay leave.
-use Rattle.std.specs.Prelude.{◌≡◌, ◌≢◌, ℕ, ◌≤◌, Option, None, Some, Result, OnOk, IsErrOf, IsTrue, replicate}
+use Rattle.std.specs.Prelude.{◌≡◌, ◌≢◌, ℕ, ◌≤◌, ◌<◌, ◌^◌, Option, None, Some, Result, OnOk, IsErrOf, IsTrue, replicate}
+use Rattle.std.proofs.Common.{arith}
 use Rattle.alp_base.specs.Causes.{Rose}
 use Rattle.alp_base.specs.Crashes.{Only}
 use Rattle.alp_base.specs.Pages.{zero_page}
@@ -36,3 +37,7 @@ pub record IsEmptied {D : Type 0} (before now : ℕ → Option D) (server : ℕ)
 pub record IsFilled {D : Type 0} (before now : ℕ → Option D) (server : ℕ) (device : D) : Type 0 where
   pub here : now server ≡ Some device
   pub others : (k : ℕ) → k ≢ server → now k ≡ before k
+
+-- a bay that never fails has room for its count
+pub no_faults : 0 < 2 ^ 64
+no_faults = omega arith

@@ -1,6 +1,7 @@
 //! A bay whose disks are files of a folder, or in memory.
-ghost use Rattle.std.specs.Prelude.{◌≡◌, ℕ, ◌<◌, ◌^◌, IfOk, IsErrOf, OnOk, None};
+ghost use Rattle.std.specs.Prelude.{◌≡◌, ℕ, IfOk, IfSome, OnOk, None, string_bytes};
 
+use crate::fault_count::FaultCount;
 use crate::volume_file::{FileFault, open_volume};
 use crate::{Bay, BayFault, HostDisk, MemBay};
 use alp_base::OutOfMemory;
@@ -15,7 +16,7 @@ pub struct HostBay<R: Files<File = File> + Drop> {
     files: R,
     memory: MemBay,
     folder: Option<String>,
-    faults: u64,
+    faults: FaultCount,
 }
 
 impl<R: Files<File = File> + Drop> HostBay<R> {
@@ -25,7 +26,7 @@ impl<R: Files<File = File> + Drop> HostBay<R> {
     pub fn new(alloc: Global, files: R) -> Result<HostBay<R>, OutOfMemory>
         ensures memory { IfOk result (λ bay. bay.folder ≡ None) }
         ensures empty { IfOk result (λ bay. (server : ℕ) → host_disk_at bay.memory server ≡ None) }
-        ensures faults { IfOk result (λ bay. bay.faults ≡ 0) }
+        ensures faults { IfOk result (λ bay. bay.faults.count ≡ 0) }
     {
         let memory = MemBay::new(alloc)?;
         Ok(HostBay {
@@ -33,7 +34,7 @@ impl<R: Files<File = File> + Drop> HostBay<R> {
             files,
             memory,
             folder: None,
-            faults: 0,
+            faults: FaultCount::new(),
         })
     }
 }
@@ -43,7 +44,9 @@ fn folder_named<R: Files>(
     alloc: Global,
     files: &R,
     name: &str,
-) -> Result<Option<String>, OutOfMemory> {
+) -> Result<Option<String>, OutOfMemory>
+    ensures { IfOk result (λ found. IfSome found (λ copy. string_bytes copy ≡ name.now)) }
+{
     if name.is_empty() {
         return Ok(None);
     }
@@ -59,8 +62,9 @@ fn folder_named<R: Files>(
 }
 
 impl<R: Files<File = File> + Drop> Bay for HostBay<R> {
-    ghost use Rattle.std.specs.Prelude.{not, is_some};
-    ghost use Rattle.alp_bay.specs.HostBays.{host_disk_at};
+    ghost use Rattle.std.specs.Prelude.{not, is_some, option_map, OnErr};
+    ghost use Rattle.alp_bay.specs.Bays.{HasBayCause};
+    ghost use Rattle.alp_bay.specs.HostBays.{host_disk_at, folder_name, unnamed_tells};
 
     type Device = HostDisk;
 
@@ -68,15 +72,26 @@ impl<R: Files<File = File> + Drop> Bay for HostBay<R> {
 
     ghost at = { λ b server. host_disk_at b.memory server };
 
-    ghost faults = { λ b. b.faults };
+    ghost chosen = { λ b. folder_name b.folder };
 
-    fn choose(&mut self, folder: Option<&str>) -> Result<(), BayFault> {
+    ghost faults = { λ b. b.faults.count };
+
+    ghost told = { λ b none. unnamed_tells b.folder none };
+
+    ghost faults_end = { λ b. b.faults.end };
+
+    fn choose(&mut self, folder: Option<&str>) -> Result<(), BayFault>
+        ensures named { OnOk result (folder_name self.new.folder ≡ option_map (λ name. name.now) folder.entry) }
+        ensures refused { OnErr result (self.new.folder ≡ self.old.folder) }
+        ensures places { self.new.memory ≡ self.old.memory }
+        ensures cause { HasBayCause self.old.faults.count self.new.faults.count result }
+    {
         let Some(name) = folder else {
             self.folder = None;
             return Ok(());
         };
         let Some(found) = folder_named(self.alloc, &self.files, name)? else {
-            self.faults = self.faults.saturating_add(1);
+            self.faults.raise();
             return Err(BayFault::Failed);
         };
         self.folder = Some(found);
@@ -94,7 +109,7 @@ impl<R: Files<File = File> + Drop> Bay for HostBay<R> {
             Ok(disk) => Ok(HostDisk::File(disk)),
             Err(FileFault::OutOfMemory) => Err(BayFault::OutOfMemory),
             Err(_) => {
-                self.faults = self.faults.saturating_add(1);
+                self.faults.raise();
                 Err(BayFault::Failed)
             }
         }

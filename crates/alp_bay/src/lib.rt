@@ -2,6 +2,7 @@
 #![tactic(auto)]
 
 mod bay;
+mod fault_count;
 mod host_bay;
 mod host_disk;
 mod mem_bay;

@@ -1,5 +1,5 @@
 //! A bay of disks in memory.
-ghost use Rattle.std.specs.Prelude.{◌≡◌, ◌≤◌, ℕ, IfOk, length, None, true};
+ghost use Rattle.std.specs.Prelude.{◌≡◌, ◌≤◌, ℕ, IfOk, length, None, true, refl};
 ghost use Rattle.alp_disk.specs.MemDisk.{page_count};
 
 use crate::{Bay, BayFault};
@@ -14,7 +14,7 @@ struct Standing {
     ghost long: { 2 ≤ page_count disk },
 }
 
-/// Disks in memory, which stand there for as long as the bay does. It tells what stands at its places, and fails never.
+/// Disks in memory, which stand there for as long as the bay does. It tells what stands at its places, and never fails.
 #[derive(Drop)]
 pub struct MemBay {
     alloc: Global,
@@ -39,6 +39,7 @@ impl MemBay {
 }
 
 impl Bay for MemBay {
+    ghost use Rattle.alp_bay.specs.Bays.{no_faults};
     ghost use Rattle.alp_bay.specs.MemBays.{disk_at};
 
     type Device = MemDisk;
@@ -47,7 +48,13 @@ impl Bay for MemBay {
 
     ghost at = { λ b server. disk_at b server };
 
+    ghost chosen = { λ _. None };
+
     ghost faults = { λ _. 0 };
+
+    ghost told = { λ _ _. refl };
+
+    ghost faults_end = { λ _. no_faults };
 
     fn choose(&mut self, folder: Option<&str>) -> Result<(), BayFault> {
         let _ = folder;
