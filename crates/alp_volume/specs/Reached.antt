@@ -9,7 +9,7 @@ use Rattle.alp_base.specs.declared.ids.FileId.{FileId}
 use Rattle.alp_base.specs.KeyLaws.{file_cmp}
 use Rattle.alp_files.specs.declared.cell.OwnerRecord.{OwnerRecord}
 use Rattle.alp_files.specs.Cells.{same_name}
-use Rattle.alp_leader.specs.declared.leader.Leader.{Leader}
+use Rattle.alp_pages.specs.declared.leader.Leader.{Leader}
 use Rattle.alp_volume.specs.declared.cost.Cost.{Cost}
 use Rattle.alp_pages.specs.declared.entry.Entry.{Entry}
 use Rattle.alp_volume.specs.declared.file_slot.FileSlot.{FileSlot}

@@ -4,7 +4,7 @@ ghost use Rattle.std.specs.FinMap as map;
 ghost use Rattle.alp_base.specs.declared.key.Key.TheVariants.{PageOf};
 ghost use Rattle.alp_files.specs.Cells.{View};
 ghost use Rattle.alp_files.specs.Edits.{Cut, Drop as DropOf, after};
-ghost use Rattle.alp_leader.specs.declared.leader.Leader.{Leader as LeaderValue};
+ghost use Rattle.alp_pages.specs.declared.leader.Leader.{Leader as LeaderValue};
 ghost use Rattle.alp_volume.specs.declared.file_slot.FileSlot.{FileSlot as ASlot};
 ghost use Rattle.alp_volume.specs.Drafts.{HasNoneFrom, HaveLeaders, IsCutting, IsDraft, laid};
 ghost use Rattle.alp_volume.specs.Known.{IsCatalog};
@@ -18,8 +18,7 @@ use crate::draft::Draft;
 use crate::put_file::entry_page;
 use crate::put_leader::draft_leader;
 use alp_base::{FileId, OutOfMemory, PAGES_PER_FILE, Page, VaultFault};
-use alp_leader::Leader;
-use alp_pages::PageReader;
+use alp_pages::{Leader, PageReader};
 use alp_vault::HEAD_PAGES;
 use std::alloc::Global;
 

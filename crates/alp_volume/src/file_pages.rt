@@ -10,8 +10,7 @@ ghost use Rattle.alp_pages.specs.Reading.{HasRead};
 use crate::free::Free;
 use crate::marks::mark_row;
 use alp_base::VaultFault;
-use alp_leader::Places;
-use alp_pages::{PageReader, decode_index};
+use alp_pages::{PageReader, Places, decode_index};
 
 // Whether the page is an index page that names no place from the limit on, and only places that are new.
 fn read_index<R: PageReader>(

@@ -8,10 +8,9 @@ mod turns;
 use super::*;
 use alp_base::{AccessList, FileId, Key, Name, OutOfMemory, Page, PageRef, Sequence, VaultFault};
 use alp_files::{Cell, Change, OwnerRecord, Props};
-use alp_leader::{Leader, Places, encode_leader};
 use alp_pages::{
-    Entry, PageReader, clear_entry, decode_index, entry_at, fetch_block, fetch_leader, fetch_owner,
-    fetch_page, new_header, owner_at, set_entry, set_owner,
+    Entry, Leader, PageReader, Places, clear_entry, decode_index, encode_leader, entry_at,
+    fetch_block, fetch_leader, fetch_owner, fetch_page, new_header, owner_at, set_entry, set_owner,
 };
 use std::alloc::Global;
 use std::test::*;
