@@ -4,7 +4,7 @@ ghost use Rattle.std.specs.Int.{bit_at};
 ghost use Rattle.std.specs.FinMap as map;
 ghost use Rattle.alp_fields.specs.Forms.{whole};
 ghost use Rattle.alp_pages.specs.Leader.{leader_page};
-ghost use Rattle.alp_volume.specs.declared.file_slot.FileSlot.{FileSlot as ASlot};
+ghost use Rattle.alp_tables.specs.declared.file_slot.FileSlot.{FileSlot as ASlot};
 ghost use Rattle.alp_pages.specs.Counted.{bit};
 ghost use Rattle.alp_files.specs.Cells.{View};
 ghost use Rattle.alp_files.specs.Edits.{Cut, after};

@@ -5,7 +5,7 @@ ghost use Rattle.alp_base.specs.declared.key.Key.TheVariants.{PageOf};
 ghost use Rattle.alp_files.specs.Cells.{View};
 ghost use Rattle.alp_files.specs.Edits.{Cut, Drop as DropOf, after};
 ghost use Rattle.alp_pages.specs.declared.leader.Leader.{Leader as LeaderValue};
-ghost use Rattle.alp_volume.specs.declared.file_slot.FileSlot.{FileSlot as ASlot};
+ghost use Rattle.alp_tables.specs.declared.file_slot.FileSlot.{FileSlot as ASlot};
 ghost use Rattle.alp_volume.specs.Drafts.{HasNoneFrom, HaveLeaders, IsCutting, IsDraft, laid};
 ghost use Rattle.alp_volume.specs.Known.{IsCatalog};
 ghost use Rattle.alp_pages.specs.Nodes.{LeaderOf};

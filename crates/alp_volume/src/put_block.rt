@@ -7,7 +7,7 @@ ghost use Rattle.alp_files.specs.declared.cell.Cell.TheVariants.{Page as PageCel
 ghost use Rattle.alp_files.specs.Cells.{View};
 ghost use Rattle.alp_files.specs.Edits.{Put, after};
 ghost use Rattle.alp_pages.specs.Leader.{leader_page};
-ghost use Rattle.alp_volume.specs.declared.file_slot.FileSlot.{FileSlot as ASlot};
+ghost use Rattle.alp_tables.specs.declared.file_slot.FileSlot.{FileSlot as ASlot};
 ghost use Rattle.alp_pages.specs.Changes.{NamesOne};
 ghost use Rattle.alp_volume.specs.Drafts.{IsDraft, laid};
 ghost use Rattle.alp_volume.specs.Known.{IsCatalog};
