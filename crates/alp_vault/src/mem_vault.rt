@@ -13,7 +13,7 @@ ghost use Rattle.alp_files.specs.Changes.{edits_of};
 ghost use Rattle.alp_vault.specs.Contents.{made};
 ghost use Rattle.alp_base.specs.Crashes.{Only, NoMore, SameOutcomes, Either, Adds};
 ghost use Rattle.alp_vault.specs.Stages.{IsFit, IsFit-prop, is_serving, fallen_by, held_at};
-ghost use Rattle.alp_base.specs.Faults.{HasFaultCause, HasVaultCause, IsOfVolume};
+ghost use Rattle.alp_base.specs.Faults.{HasFaultCause, HasVaultCause, IsCountKept, IsOfVolume};
 ghost use Rattle.alp_vault.specs.Vault.{AreSizes, IsServer, HasEnded, HasSpent, IsOneOf, IsSameVault, serves_past_read};
 ghost use Rattle.alp_vault.specs.Volumes.{IsVolumeOf, IsVolumeOf-prop, fits_key, has_block_in};
 
@@ -259,6 +259,7 @@ impl Vault for MemVault {
         ensures crash { NoMore (Either (held_by self.old) (made change.now notes.now (held_by self.old))) (LeftBy self.new) }
         ensures time { Adds (λ _ v. LeftBy v) self.old self.new (Either (held_by self.old) (made change.now notes.now (held_by self.old))) }
         ensures same { IsErrOf result fault.OutOfMemory → (held_by self.new ≡ held_by self.old) × (self.new.allowance ≡ self.old.allowance) }
+        ensures memory { IsErrOf result fault.OutOfMemory → Adds (λ _ v. LeftBy v) self.old self.new (λ c. c ≡ held_by self.old) }
         ensures kept { IsSame self.old self.new }
         ensures ended { HasEnded (λ v. is_serving v.stage) (λ _. 0) (λ v. v.allowance) self.old self.new result }
 
@@ -334,6 +335,7 @@ impl Vault for MemVault {
         ensures kept { MatchResult result (IsSame self) (λ e. IsSame self e.0) }
         ensures spent { MatchResult result (HasSpent (λ _. 0) (λ v. v.allowance) self) (λ e. HasSpent (λ _. 0) (λ v. v.allowance) self e.0) }
         ensures cause { MatchResult result (λ v. ◌≡◌ {A = ℕ} 0 0) (λ e. HasFaultCause 0 0 e.0.allowance e.1) }
+        ensures still { IfErr result (λ e. IsCountKept 0 0 e.1) }
         ensures volume { IfErr result (λ e. IsOfVolume e.1) }
 
         // What a crash left is not decided by a recovery that was stopped.

@@ -15,7 +15,7 @@ ghost use Rattle.alp_base.specs.Notes.{notes_after};
 ghost use Rattle.alp_files.specs.Changes.{edits_of};
 ghost use Rattle.alp_vault.specs.Contents.{made};
 ghost use Rattle.alp_base.specs.Crashes.{Only, NoMore, SameOutcomes, Either, Adds};
-ghost use Rattle.alp_base.specs.Faults.{HasFaultCause, HasVaultCause, IsOfVolume};
+ghost use Rattle.alp_base.specs.Faults.{HasFaultCause, HasVaultCause, IsCountKept, IsOfVolume};
 ghost use Rattle.alp_vault.specs.Vault.{AreSizes, IsServer, HasEnded, HasSpent, IsOneOf, IsSameVault, serves_past_read};
 ghost use Rattle.alp_vault.specs.Volumes.{IsCommit, IsVolumeOf, fits_key, has_block_in};
 
@@ -124,8 +124,9 @@ pub trait Vault: Sized + Drop {
         // Through the whole call a crash leaves what was held before, or what is held after it.
         ensures crash { IsTrue (tells self.old) → NoMore (Either (held self.old) (made change.now notes.now (held self.old))) (may_leave self.new) }
         ensures time { IsTrue (tells self.old) → Adds left_since self.old self.new (Either (held self.old) (made change.now notes.now (held self.old))) }
-        // Want of memory leaves all as it was.
+        // Want of memory leaves all as it was, through the whole call.
         ensures same { IsErrOf result fault.OutOfMemory → (held self.new ≡ held self.old) × (allowance self.new ≡ allowance self.old) }
+        ensures memory { IsTrue (tells self.old) → IsErrOf result fault.OutOfMemory → Adds left_since self.old self.new (λ c. c ≡ held self.old) }
         ensures kept { IsSameVault tells volume server servers self.old self.new }
         ensures ended { HasEnded serves faults allowance self.old self.new result };
 
@@ -164,6 +165,8 @@ pub trait Vault: Sized + Drop {
         ensures kept { MatchResult result (IsSameVault tells volume server servers self) (λ e. IsSameVault tells volume server servers self e.0) }
         ensures spent { MatchResult result (HasSpent faults allowance self) (λ e. HasSpent faults allowance self e.0) }
         ensures cause { MatchResult result (λ v. faults v ≡ faults self) (λ e. HasFaultCause (faults self) (faults e.0) (allowance e.0) e.1) }
+        // The count of faults moves only where the vault failed or was stopped.
+        ensures still { IfErr result (λ e. IsCountKept (faults self) (faults e.0) e.1) }
         // What a vault tells is a volume in its format, and so is all that a crash leaves of it.
         ensures volume { IsTrue (tells self) → IfErr result (λ e. IsOfVolume e.1) };
 
