@@ -11,7 +11,7 @@ use Rattle.alp_fields.specs.Forms.{whole}
 use Rattle.alp_files.specs.declared.cell.Cell.TheVariants as cell
 use Rattle.alp_files.specs.Cells.{View}
 use Rattle.alp_files.specs.Edits.{Put, after}
-use Rattle.alp_leader.specs.Leader.{leader_page}
+use Rattle.alp_pages.specs.Leader.{leader_page}
 use Rattle.alp_pages.specs.Naming.{Naming, IsNaming, named, number_or_0}
 use Rattle.alp_pages.specs.Nodes.{Node, LeaderOf, IndexOf, DataOf, same_node}
 use Rattle.alp_pages.specs.Pages.{Pages, written, entry_in, row_in}

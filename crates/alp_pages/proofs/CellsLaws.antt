@@ -22,8 +22,8 @@ use Rattle.alp_files.specs.Cells.{Cells, no_props, same_name}
 use Rattle.alp_files.specs.Files.{IsOfKind, cost, charge_of}
 use Rattle.alp_files.proofs.ChargeLemmas.{AreKinds, cost_in, charge-put, charge-owner, charge-page}
 use Rattle.alp_files.proofs.SameLemmas.{same_name-true, same_name-itself, same_owner_key, same_key-itself, same_key-true}
-use Rattle.alp_leader.specs.declared.leader.Leader.{Leader as LeaderRecord}
-use Rattle.alp_leader.specs.Leader.{leader_page}
+use Rattle.alp_pages.specs.declared.leader.Leader.{Leader as LeaderRecord}
+use Rattle.alp_pages.specs.Leader.{leader_page}
 use Rattle.alp_pages.specs.declared.entry.Entry.{Entry}
 use Rattle.alp_pages.specs.Nodes.{Node, LeaderOf, IndexOf, DataOf, same_node}
 use Rattle.alp_pages.specs.Pages.{Pages, entry_in, row_in}

@@ -14,8 +14,8 @@ use Rattle.alp_files.specs.declared.cell.OwnerRecord.{OwnerRecord}
 use Rattle.alp_files.specs.Cells.{View, same_file, same_name, owner_in}
 use Rattle.alp_files.specs.Edits.{Put, Drop, after}
 use Rattle.alp_files.proofs.SameLemmas.{same_file-true, same_file-itself, same_name-true, same_name-itself, same_key-true, same_key-itself, same_leader_key, same_page_key, same_owner_key}
-use Rattle.alp_leader.specs.declared.leader.Leader.{Leader as LeaderRecord}
-use Rattle.alp_leader.specs.Leader.{leader_page}
+use Rattle.alp_pages.specs.declared.leader.Leader.{Leader as LeaderRecord}
+use Rattle.alp_pages.specs.Leader.{leader_page}
 use Rattle.alp_pages.specs.Naming.{Naming, IsNaming, named, unless, without, number_or_0}
 use Rattle.alp_pages.specs.Nodes.{Node, LeaderOf, IndexOf, DataOf, file_of}
 use Rattle.alp_pages.specs.Pages.{Pages, written, entry, entry_in, part_of, read_row, row_in}

@@ -18,8 +18,8 @@ use Rattle.alp_files.proofs.ChargeLemmas.{AreKinds, cost_in, charge-drop}
 use Rattle.alp_files.proofs.SumLemmas.{sum_of-nothing}
 use Rattle.alp_files.proofs.HistoryLemmas.{get-edit_map}
 use Rattle.alp_files.proofs.SameLemmas.{same_file-true, same_file-itself}
-use Rattle.alp_leader.specs.declared.leader.Leader.{Leader as LeaderRecord}
-use Rattle.alp_leader.specs.Leader.{leader_page}
+use Rattle.alp_pages.specs.declared.leader.Leader.{Leader as LeaderRecord}
+use Rattle.alp_pages.specs.Leader.{leader_page}
 use Rattle.alp_pages.specs.declared.entry.Entry.{Entry}
 use Rattle.alp_pages.specs.Naming.{number_or_0}
 use Rattle.alp_pages.specs.Nodes.{LeaderOf}

@@ -7,9 +7,9 @@ use Rattle.alp_fields.specs.Forms.{whole}
 use Rattle.alp_fields.proofs.FormLaws.{whole_spelled}
 use Rattle.alp_files.specs.Cells.{same_file}
 use Rattle.alp_files.proofs.SameLemmas.{same_file-true}
-use Rattle.alp_leader.specs.Leader.{leader_page, leader_body, leader_fields, sized_numbers, tail}
-use Rattle.alp_leader.specs.declared.leader.Leader.{Leader}
-use Rattle.alp_leader.proofs.LeaderLaw.{leader_page_law}
+use Rattle.alp_pages.specs.Leader.{leader_page, leader_body, leader_fields, sized_numbers, tail}
+use Rattle.alp_pages.specs.declared.leader.Leader.{Leader}
+use Rattle.alp_pages.proofs.LeaderForm.{leader_page_law}
 use Rattle.alp_pages.specs.Nodes.{Node, LeaderOf, IndexOf, DataOf}
 use Rattle.alp_pages.specs.Volume.{row_of_leader, row_of_node, width_of}
 use Rattle.alp_pages.proofs.IndexLaws.{index_length}

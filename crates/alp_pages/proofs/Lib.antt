@@ -1,3 +1,5 @@
+pub mod LeaderForm
+pub mod LeaderPlaces
 pub mod NamingLaws
 pub mod NodeTests
 pub mod FetchLaws

@@ -6,7 +6,7 @@ use Rattle.std.proofs.lemmas.Bool.{cond-true, cond-false}
 use Rattle.alp_files.specs.declared.cell.Cell.TheVariants as cell
 use Rattle.alp_files.specs.Cells.{View, Cells}
 use Rattle.alp_fields.specs.Forms.{whole}
-use Rattle.alp_leader.specs.Leader.{leader_page}
+use Rattle.alp_pages.specs.Leader.{leader_page}
 use Rattle.alp_pages.specs.Nodes.{Node, LeaderOf, DataOf}
 use Rattle.alp_pages.specs.Pages.{Pages, written, entry, entry_in, part_of, read_row, row_in}
 use Rattle.alp_pages.specs.Volume.{Volume, Spells, StandFor, nodes, props_cell}

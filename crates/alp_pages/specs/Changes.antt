@@ -3,8 +3,8 @@ use Rattle.std.specs.Prelude.{◌≡◌, ◌<◌, ◌≤◌, ℕ, Bool, true, fa
 use Rattle.alp_base.specs.declared.ids.FileId.{FileId}
 use Rattle.alp_fields.specs.Forms.{whole}
 use Rattle.alp_files.specs.declared.cell.OwnerRecord.{OwnerRecord}
-use Rattle.alp_leader.specs.declared.leader.Leader.{Leader as LeaderRecord}
-use Rattle.alp_leader.specs.Leader.{leader_page}
+use Rattle.alp_pages.specs.declared.leader.Leader.{Leader as LeaderRecord}
+use Rattle.alp_pages.specs.Leader.{leader_page}
 use Rattle.alp_pages.specs.declared.entry.Entry.{Entry}
 use Rattle.alp_base.specs.declared.key.Key.TheVariants.{PageOf}
 use Rattle.alp_files.specs.Cells.{same_file}

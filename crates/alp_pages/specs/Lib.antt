@@ -1,3 +1,4 @@
+pub mod Leader
 pub mod Naming
 pub mod Nodes
 pub mod Pages

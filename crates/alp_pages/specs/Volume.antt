@@ -10,8 +10,8 @@ use Rattle.alp_files.specs.declared.cell.Cell.TheVariants as cell
 use Rattle.alp_files.specs.declared.cell.OwnerRecord.{OwnerRecord}
 use Rattle.alp_files.specs.Cells.{Cells, View, same_file, owner_in}
 use Rattle.alp_files.specs.Sound.{AreSound}
-use Rattle.alp_leader.specs.declared.leader.Leader.{Leader as LeaderRecord}
-use Rattle.alp_leader.specs.Leader.{leader_page}
+use Rattle.alp_pages.specs.declared.leader.Leader.{Leader as LeaderRecord}
+use Rattle.alp_pages.specs.Leader.{leader_page}
 use Rattle.alp_pages.specs.declared.entry.Entry.{Entry}
 use Rattle.alp_pages.specs.Naming.{Naming, IsNaming, number_or_0}
 use Rattle.alp_pages.specs.Nodes.{Node, LeaderOf, IndexOf, DataOf}

@@ -7,8 +7,8 @@ ghost use Rattle.alp_files.specs.declared.cell.Cell.TheVariants.{Page as PageCel
 ghost use Rattle.alp_files.specs.declared.cell.OwnerRecord.{OwnerRecord as Owner};
 ghost use Rattle.alp_files.specs.Cells.{View, same_name};
 ghost use Rattle.alp_files.specs.Edits.{Put, Drop, Cut, after};
-ghost use Rattle.alp_leader.specs.declared.leader.Leader.{Leader as LeaderValue};
-ghost use Rattle.alp_leader.specs.Leader.{leader_page};
+ghost use Rattle.alp_pages.specs.declared.leader.Leader.{Leader as LeaderValue};
+ghost use Rattle.alp_pages.specs.Leader.{leader_page};
 ghost use Rattle.alp_pages.specs.Changes.{HasRow, HasSlot, IsBareLeader, IsCutOff, IsFree, NamesBlock, NamesOne, volume_cut, volume_with, volume_with_file, volume_without};
 ghost use Rattle.alp_pages.specs.Naming.{named};
 ghost use Rattle.alp_pages.specs.Nodes.{Node, LeaderOf, IndexOf, DataOf};

@@ -6,7 +6,7 @@ ghost use Rattle.alp_fields.specs.Forms.{whole};
 ghost use Rattle.std.specs.FinMap as map;
 ghost use Rattle.alp_files.specs.Cells.{Cells, View, owner_in};
 ghost use Rattle.alp_files.specs.declared.cell.Cell.TheVariants.{Page as PageCell, Leader as LeaderCell};
-ghost use Rattle.alp_leader.specs.Leader.{leader_page};
+ghost use Rattle.alp_pages.specs.Leader.{leader_page};
 ghost use Rattle.alp_pages.specs.Nodes.{LeaderOf, IndexOf};
 ghost use Rattle.alp_pages.specs.Pages.{row_in};
 ghost use Rattle.alp_pages.specs.Volume.{Volume as VolumeOf, Spells};
@@ -17,9 +17,9 @@ ghost use Rattle.alp_pages.specs.Reading.{HasRead};
 use crate::index::decode_index;
 use crate::owners::{OwnerRow, owner_at};
 use crate::reader::PageReader;
+use crate::{Leader, decode_leader};
 use alp_base::{FileId, OutOfMemory, Page, PageRef, VaultFault};
 use alp_files::{OwnerRecord, Props};
-use alp_leader::{Leader, decode_leader};
 use std::alloc::Global;
 
 pub fn copy_of(page: &PageRef) -> Page

@@ -1,4 +1,4 @@
-//! What the home pages of a volume spell, and which files, owners and pages they stand for.
+//! What the home pages of a volume spell, leaders among them, and which files, owners and pages they stand for.
 //!
 //! Home pages are read through `PageReader`, whoever holds them.
 #![tactic(auto)]
@@ -9,6 +9,10 @@ mod fetch;
 mod header;
 mod index;
 mod laws;
+mod leader;
+mod leader_form;
+mod leader_read;
+mod leader_write;
 mod owners;
 mod reader;
 
@@ -28,5 +32,12 @@ pub use laws::{
     a_new_volume_holds_nothing, pages_stand_for_one_map, pages_without_damage_stand,
     taken_places_are_those_used, unnamed_pages_may_hold_anything,
 };
+pub use leader::{INDEX_PLACES, Leader, Places};
+pub use leader_form::leaders_are_a_form;
+pub use leader_read::decode_leader;
+pub use leader_write::encode_leader;
 pub use owners::{OWNER_PAGES, OwnerRow, ROWS_PER_PAGE, owner_at, set_owner};
 pub use reader::PageReader;
+
+#[cfg(test)]
+mod tests;

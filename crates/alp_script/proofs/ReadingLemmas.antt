@@ -1,16 +1,17 @@
 -- lemmas on a script that is read from a source
-use Rattle.std.specs.Prelude.{◌==◌, cond, Option, None, Some, Result, Ok, Err, Vec}
+use Rattle.std.specs.Prelude.{◌==◌, not, ◌≤◌, length, cond, Option, None, Some, Result, Ok, Err, Vec}
 use Rattle.std.specs.Global.{Global}
 use Rattle.std.specs.Io.KnownBytes.{Consumes, Keeps, IsAtEnd}
 use Rattle.std.proofs.Common.{◌≡◌, ℕ, List, [], ◌++◌, refl, subst, inl, inr, sym, ◌∙◌, ap, arith, append_assoc, append-nil}
-use Rattle.std.proofs.lemmas.List.Sums.{sum_by-append}
+use Rattle.std.proofs.lemmas.List.Sums.{sum_by-append, suffix_len-le-length}
 use Rattle.alp_script.specs.Script.{script}
-use Rattle.alp_script.specs.Progress.{Progress, resume, line_ends, Follows, Takes, Gives}
-use Rattle.alp_script.specs.Reading.{HasRead, GaveScript, GaveBadLine, GaveGoodLines, ReadsScript}
-use Rattle.alp_script.proofs.ScriptLemmas.{resume-later}
+use Rattle.alp_script.specs.Progress.{Progress, resume, unended, Follows, Takes, Gives}
+use Rattle.alp_script.specs.Reading.{HasRead, HasNoBadLine, GaveScript, GaveBadLine, GaveGoodLines, ReadsScript}
+use Rattle.alp_script.proofs.ScriptLemmas.{resume-later, unended-on}
 use Rattle.alp_script.specs.declared.fault.ScriptFault.{ScriptFault}
 use Rattle.alp_script.specs.declared.fault.ScriptFault.TheVariants as fault
 use Rattle.alp_script.specs.declared.numbered.NumberedLine.{NumberedLine}
+use Rattle.alp_script.specs.declared.read.TheConstants.{PIECE_BYTES}
 
 consumes-none : (a : Option (List ℕ)) → Consumes a a []
 consumes-none None = tt
@@ -24,8 +25,15 @@ consumes-both (Some x) (Some y) None xs ys p q = absurd q
 consumes-both (Some x) (Some y) (Some z) xs ys p q = p ∙ ap (λ rest. xs ++ rest) q ∙ sym (append_assoc xs ys z)
 
 -- nothing was read yet
-pub has_read-nothing : (a : Option (List ℕ)) (p : Progress) → p.lines ≡ 0 → ((bytes : List ℕ) → resume p bytes ≡ script bytes) → HasRead a a p
-has_read-nothing a p none whole = record { bytes = []; consumed = consumes-none a; same = λ rest. sym (whole rest); counted = none }
+pub has_read-nothing : (a : Option (List ℕ)) (p : Progress) → p.lines ≡ 0 → p.partial ≡ [] → ((bytes : List ℕ) → resume p bytes ≡ script bytes) → HasRead a a p
+has_read-nothing a p none empty whole = record {
+  bytes = [];
+  consumed = consumes-none a;
+  same = λ rest. sym (whole rest);
+  counted = none;
+  held = ap unended empty;
+  few = omega (arith, ap length empty);
+}
 
 joined : (bytes piece rest : List ℕ) (p : Progress) → ((more : List ℕ) → script (bytes ++ more) ≡ resume p more) → script ((bytes ++ piece) ++ rest) ≡ resume p (piece ++ rest)
 joined bytes piece rest p same = ap script (append_assoc bytes piece rest) ∙ same (piece ++ rest)
@@ -36,6 +44,18 @@ has_read-more a b c p q piece h consumed next = record {
   consumed = consumes-both a b c h.bytes piece h.consumed consumed;
   same = λ rest. joined h.bytes piece rest p h.same ∙ next.same rest;
   counted = omega (arith, h.counted, next.counted, sum_by-append (λ b. cond (b == 10) 1 0) h.bytes piece);
+  held = held;
+  few = next.short h.few;
+}
+  where
+    held : unended q.partial ≡ unended (h.bytes ++ piece)
+    held = next.held ∙ unended-on p.partial h.bytes piece h.held
+
+-- what was taken has no line that is outside already
+no_bad_line : (a b : Option (List ℕ)) (p : Progress) (h : HasRead a b p) → HasNoBadLine h.bytes
+no_bad_line a b p h = record {
+  later = λ rest n e. omega (arith, h.counted, resume-later p rest n (sym (h.same rest) ∙ e));
+  short = omega (arith, h.held, h.few, suffix_len-le-length (λ (b : ℕ). not (b == 10)) p.partial);
 }
 
 whole : (bytes : List ℕ) (p : Progress) (said : Result (List NumberedLine) ℕ) → ((rest : List ℕ) → script (bytes ++ rest) ≡ resume p rest) → resume p [] ≡ said → script bytes ≡ said
@@ -43,17 +63,20 @@ whole bytes p said same e = ap script (sym (append-nil bytes)) ∙ same [] ∙ e
 
 -- the reader refused a piece
 pub reads-refused : (a b c : Option (List ℕ)) (p q : Progress) (piece : List ℕ) (e : ScriptFault)
-    → HasRead a b p → Consumes b c piece → Takes {X = Unit {0}} p q piece (Err e) → ReadsScript a c (Err e)
-reads-refused a b c p q piece (fault.Bad n) h consumed refused =
+    → length piece ≤ PIECE_BYTES → HasRead a b p → Consumes b c piece → Takes {X = Unit {0}} p q piece (Err e) → ReadsScript a c (Err e)
+reads-refused a b c p q piece (fault.Bad n) once h consumed refused =
     let always : (rest : List ℕ) → script ((h.bytes ++ piece) ++ rest) ≡ Err n = λ rest. joined h.bytes piece rest p h.same ∙ refused.always rest in
     record {
-      bytes = h.bytes ++ piece;
+      front = h.bytes;
+      piece = piece;
+      good = no_bad_line a b p h;
+      once = once;
       consumed = consumes-both a b c h.bytes piece h.consumed consumed;
       outside = ap script (sym (append-nil (h.bytes ++ piece))) ∙ always [];
       final = inl always;
     }
-reads-refused a b c p q piece fault.ReadFault h consumed refused = absurd refused
-reads-refused a b c p q piece fault.OutOfMemory h consumed refused = tt
+reads-refused a b c p q piece fault.ReadFault once h consumed refused = absurd refused
+reads-refused a b c p q piece fault.OutOfMemory once h consumed refused = tt
 
 at_end : (a b c : Option (List ℕ)) (bytes : List ℕ) → Consumes a b bytes → Consumes b c [] → Consumes a c bytes
 at_end a b c bytes h k = subst (λ (xs : List ℕ). Consumes a c xs) (append-nil bytes) (consumes-both a b c bytes [] h k)
@@ -68,9 +91,12 @@ reads-finished a b c p (Ok v) h consumed end said = record {
   end = end;
 }
 reads-finished a b c p (Err (fault.Bad n)) h consumed end said = record {
-  bytes = h.bytes;
-  consumed = at_end a b c h.bytes h.consumed consumed;
-  outside = whole h.bytes p (Err n) h.same said;
+  front = h.bytes;
+  piece = [];
+  good = no_bad_line a b p h;
+  once = omega arith;
+  consumed = consumes-both a b c h.bytes [] h.consumed consumed;
+  outside = ap script (append-nil h.bytes) ∙ whole h.bytes p (Err n) h.same said;
   final = inr end;
 }
 reads-finished a b c p (Err fault.ReadFault) h consumed end said = absurd said
@@ -87,7 +113,7 @@ pub reads-failed : (a b c : Option (List ℕ)) (p : Progress) → HasRead a b p 
 reads-failed a b c p h same = record {
   bytes = h.bytes;
   consumed = keeps a b c h.bytes h.consumed same;
-  later = λ rest n e. omega (arith, h.counted, resume-later p rest n (sym (h.same rest) ∙ e));
+  good = no_bad_line a b p h;
 }
 
 -- a source that tells its bytes gave the script of all of them
@@ -99,8 +125,8 @@ script-given xs (Some ys) lines h = ap script (h.consumed ∙ ap (λ rest. h.byt
 pub script-bad : (xs : List ℕ) (new : Option (List ℕ)) (n : ℕ) → GaveBadLine (Some xs) new n → script xs ≡ Err n
 script-bad xs None n h = absurd h.consumed
 script-bad xs (Some ys) n h =
-    let given : xs ≡ h.bytes ++ ys = h.consumed in
+    let given : xs ≡ (h.front ++ h.piece) ++ ys = h.consumed in
     elim h.final [
       | inl always ↦ ap script given ∙ always ys
-      | inr end ↦ ap script (given ∙ ap (λ rest. h.bytes ++ rest) end ∙ append-nil h.bytes) ∙ h.outside
+      | inr end ↦ ap script (given ∙ ap (λ rest. (h.front ++ h.piece) ++ rest) end ∙ append-nil (h.front ++ h.piece)) ∙ h.outside
     ]

@@ -1,12 +1,12 @@
 -- lemmas on the lines of a script that is read in pieces
-use Rattle.std.specs.Prelude.{nat_le, ◌&&◌, ◌==◌, Bool, Option, None, Some, cond, All, Result, Ok, Err}
-use Rattle.std.specs.List.{slice_split, onto_first, list_all}
+use Rattle.std.specs.Prelude.{nat_le, ◌&&◌, ◌==◌, not, reverse, Bool, Option, None, Some, cond, All, Result, Ok, Err}
+use Rattle.std.specs.List.{slice_split, onto_first, list_all, prefix_len}
 use Rattle.std.specs.Str.Lines.{lines, lines_of_parts, strip_carriage_return}
 use Rattle.std.proofs.Common.{◌≡◌, ℕ, ◌+◌, ◌-◌, ◌<◌, ◌≤◌, List, [], ◌∷◌, ◌++◌, length, take, drop, true, false, refl, sym, ◌∙◌, ap, subst, arith, append_assoc, append-nil, length-append, slice_index, get_or, suc, add-one}
 use Rattle.std.proofs.Math.Seq.{drop-cons}
 use Rattle.std.proofs.Math.Dec.{eqb-suc-zero}
 use Rattle.std.proofs.lemmas.Bool.{lt-leb}
-use Rattle.std.proofs.lemmas.List.{length-take, take_all, drop_all, nil_from_length}
+use Rattle.std.proofs.lemmas.List.{length-take, take_all, take_more, reverse-append, drop_all, nil_from_length}
 use Rattle.std.proofs.lemmas.List.Splits.{slice_split_none, slice_split_at}
 use Rattle.std.proofs.lemmas.List.Elements.{All-push}
 use Rattle.std.proofs.lemmas.List.Sums.{sum_by_more}
@@ -14,7 +14,7 @@ use Rattle.alp_script.specs.Words.{◌>>=◌, is_ascii}
 use Rattle.alp_script.specs.Grammar.{text_said}
 use Rattle.alp_script.specs.Known.{Known, nothing_known}
 use Rattle.alp_script.specs.Script.{read_at, with_front, numbered, line_then, script_from, script, ended}
-use Rattle.alp_script.specs.Progress.{Progress, at_start, IsUnfinished, resume, room, line_ends, Follows, IsOutside, Takes}
+use Rattle.alp_script.specs.Progress.{Progress, at_start, IsUnfinished, resume, room, line_ends, unended, Follows, IsOutside, Takes}
 use Rattle.alp_script.specs.declared.fault.ScriptFault.{ScriptFault}
 use Rattle.alp_script.specs.declared.fault.ScriptFault.TheVariants as fault
 use Rattle.alp_script.specs.declared.line.Line.{Line}
@@ -102,12 +102,29 @@ script_from-long s n p (b ∷ rest) open_ended long = go (b == 10) refl (λ q o 
 no_end : (b : ℕ) → (b == 10) ≡ false → line_ends (b ∷ []) ≡ 0
 no_end b e = ap (λ (v : Bool). 0 + cond v 1 0) e
 
+prefix-on : (p : ℕ → Bool) (xs a b : List ℕ) → prefix_len p a ≡ prefix_len p b → prefix_len p (xs ++ a) ≡ prefix_len p (xs ++ b)
+prefix-on p [] a b e = e
+prefix-on p (x ∷ xs) a b e = ap (λ (n : ℕ). cond (p x) (1 + n) 0) (prefix-on p xs a b e)
+
+-- nothing stands behind a line's end
+unended-none : (xs : List ℕ) → unended (xs ++ 10 ∷ []) ≡ 0
+unended-none xs = ap (λ (bytes : List ℕ). prefix_len (λ (b : ℕ). not (b == 10)) bytes) (reverse-append xs (10 ∷ []))
+
+-- what stands behind the last line's end hangs on no more of what comes before
+pub unended-on : (a b xs : List ℕ) → unended a ≡ unended b → unended (a ++ xs) ≡ unended (b ++ xs)
+unended-on a b xs e =
+    ap (λ (bytes : List ℕ). prefix_len (λ (b : ℕ). not (b == 10)) bytes) (reverse-append a xs)
+    ∙ prefix-on (λ (b : ℕ). not (b == 10)) (reverse xs) (reverse a) (reverse b) e
+    ∙ sym (ap (λ (bytes : List ℕ). prefix_len (λ (b : ℕ). not (b == 10)) bytes) (reverse-append b xs))
+
 -- a byte more in the unfinished line
 pub follows-byte : (p : Progress) (b : ℕ) → (b == 10) ≡ false → length p.partial ≤ LINE_BYTES → Follows p (record p { partial = p.partial ++ b ∷ [] }) (b ∷ [])
 unfolding resume
 follows-byte p b within short = record {
   same = λ rest. ap (λ bytes. with_front p.said (script_from p.known (p.lines + 1) (lines bytes))) (sym (append_assoc p.partial (b ∷ []) rest));
   counted = omega (arith, no_end b within);
+  held = refl;
+  short = λ few. omega (arith, length-append p.partial (b ∷ []));
   nearer = omega (arith, length-append p.partial (b ∷ []));
 }
 
@@ -134,6 +151,8 @@ follows-line p l t unfinished few said = record {
       ∙ ap (λ o. with_front p.said (line_then (p.lines + 1) o (λ s. script_from s (p.lines + 1 + 1) (lines rest)))) said
       ∙ with_front-twice p.said (numbered (p.lines + 1) l) (script_from t (p.lines + 1 + 1) (lines rest));
   counted = refl;
+  held = sym (unended-none p.partial);
+  short = λ few. omega arith;
   nearer = omega (arith, unfinished.short);
 }
 
@@ -180,13 +199,24 @@ counted-next old mid new piece i within counted next =
     let more : line_ends (take (i + 1) piece) ≡ line_ends (take i piece) + cond (get_or piece i 0 == 10) 1 0 = sum_by_more (λ b. cond (b == 10) 1 0) piece i 0 within in
     omega (arith, counted, next.counted, one, more)
 
+-- what stands behind the last line's end, with one byte more
+pub held-next : (old mid new : Progress) (piece : List ℕ) (i : ℕ) → i < length piece
+    → unended mid.partial ≡ unended (old.partial ++ take i piece) → Follows mid new (get_or piece i 0 ∷ []) → unended new.partial ≡ unended (old.partial ++ take (i + 1) piece)
+held-next old mid new piece i within held next =
+    next.held
+    ∙ unended-on mid.partial (old.partial ++ take i piece) (get_or piece i 0 ∷ []) held
+    ∙ ap unended (append_assoc old.partial (take i piece) (get_or piece i 0 ∷ []) ∙ ap (λ (xs : List ℕ). old.partial ++ xs) (sym (take_more piece i 0 within)))
+
 -- all of a piece
 pub follows-all : (old new : Progress) (piece : List ℕ) (i : ℕ) → length piece ≤ i
     → ((rest : List ℕ) → resume old (piece ++ rest) ≡ resume new (drop i piece ++ rest)) → new.lines ≡ old.lines + line_ends (take i piece)
+    → unended new.partial ≡ unended (old.partial ++ take i piece) → (length old.partial ≤ LINE_BYTES + 1 → length new.partial ≤ LINE_BYTES + 1)
     → room new + i ≤ room old → Follows old new piece
-follows-all old new piece i all same counted nearer = record {
+follows-all old new piece i all same counted held short nearer = record {
   same = λ rest. same rest ∙ ap (λ bytes. resume new (bytes ++ rest)) (drop_all i piece all);
   counted = counted ∙ ap (λ bytes. old.lines + line_ends bytes) (take_all i piece all);
+  held = held ∙ ap (λ bytes. unended (old.partial ++ bytes)) (take_all i piece all);
+  short = short;
   nearer = omega arith;
 }
 

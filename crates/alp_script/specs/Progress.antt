@@ -1,6 +1,6 @@
 -- a script that is read in pieces
-use Rattle.std.specs.Prelude.{◌≡◌, ℕ, ◌+◌, ◌-◌, ◌*◌, ◌≤◌, ◌==◌, false, List, [], ◌++◌, length, All, Result, Ok, Err}
-use Rattle.std.specs.List.{count_by}
+use Rattle.std.specs.Prelude.{◌≡◌, ℕ, ◌+◌, ◌-◌, ◌*◌, ◌≤◌, ◌==◌, not, false, List, [], ◌++◌, length, All, Result, Ok, Err}
+use Rattle.std.specs.List.{count_by, suffix_len}
 use Rattle.std.specs.Str.Lines.{lines}
 use Rattle.alp_script.specs.Known.{Known, nothing_known}
 use Rattle.alp_script.specs.Script.{with_front, script_from}
@@ -40,10 +40,16 @@ room p = (SCRIPT_LINES_MOST - p.lines) * (LINE_BYTES + 2) + (LINE_BYTES + 1 - le
 abbrev pub line_ends : List ℕ → ℕ
 line_ends bytes = count_by (λ b. b == 10) bytes
 
+-- how many bytes stand behind the last line's end
+abbrev pub unended : List ℕ → ℕ
+unended bytes = suffix_len (λ b. not (b == 10)) bytes
+
 -- whatever follows the piece, the new progress and the rest say the same
 pub record Follows (old new : Progress) (piece : List ℕ) : Type 0 where
   pub same : (rest : List ℕ) → resume old (piece ++ rest) ≡ resume new rest
   pub counted : new.lines ≡ old.lines + line_ends piece
+  pub held : unended new.partial ≡ unended (old.partial ++ piece)
+  pub short : length old.partial ≤ LINE_BYTES + 1 → length new.partial ≤ LINE_BYTES + 1
   pub nearer : room new + length piece ≤ room old
 
 -- whatever follows the piece, the n-th line is the first that is outside

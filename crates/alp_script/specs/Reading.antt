@@ -1,13 +1,15 @@
 -- a script that is read from a source
-use Rattle.std.specs.Prelude.{◌≡◌, ℕ, ◌<◌, List, ◌++◌, ◌⊎◌, Option, Some, Result, Ok, Err, Vec}
+use Rattle.std.specs.Prelude.{◌≡◌, ℕ, ◌+◌, ◌<◌, ◌≤◌, List, ◌++◌, length, ◌⊎◌, Option, Some, Result, Ok, Err, Vec}
 use Rattle.std.specs.Global.{Global}
 use Rattle.std.specs.Io.KnownBytes.{Consumes, IsAtEnd}
 use Rattle.alp_base.specs.Causes.{Rose}
 use Rattle.alp_script.specs.Script.{script}
-use Rattle.alp_script.specs.Progress.{Progress, resume, line_ends}
+use Rattle.alp_script.specs.Progress.{Progress, resume, line_ends, unended}
 use Rattle.alp_script.specs.declared.fault.ScriptFault.{ScriptFault}
 use Rattle.alp_script.specs.declared.fault.ScriptFault.TheVariants as fault
 use Rattle.alp_script.specs.declared.numbered.NumberedLine.{NumberedLine}
+use Rattle.alp_script.specs.declared.read.TheConstants.{PIECE_BYTES}
+use Rattle.alp_script.specs.declared.words.TheConstants.{LINE_BYTES}
 
 -- the source gave these bytes, and the script is what the rest makes of the progress
 pub record HasRead (old new : Option (List ℕ)) (progress : Progress) : Type 0 where
@@ -15,6 +17,14 @@ pub record HasRead (old new : Option (List ℕ)) (progress : Progress) : Type 0 
   pub consumed : Consumes old new bytes
   pub same : (rest : List ℕ) → script (bytes ++ rest) ≡ resume progress rest
   pub counted : progress.lines ≡ line_ends bytes
+  pub held : unended progress.partial ≡ unended bytes
+  pub few : length progress.partial ≤ LINE_BYTES + 1
+
+-- no line of these bytes is outside already: the first that is outside comes behind those that end in them, whatever
+-- follows, and the one that does not end is not too long
+pub record HasNoBadLine (bytes : List ℕ) : Type 0 where
+  pub later : (rest : List ℕ) (n : ℕ) → script (bytes ++ rest) ≡ Err n → line_ends bytes < n
+  pub short : unended bytes ≤ LINE_BYTES + 1
 
 -- the source gave these bytes and came to its end, and they are the script of these lines
 pub record GaveScript (old new : Option (List ℕ)) (lines : List NumberedLine) : Type 0 where
@@ -23,20 +33,22 @@ pub record GaveScript (old new : Option (List ℕ)) (lines : List NumberedLine) 
   pub said : script bytes ≡ Ok lines
   pub end : IsAtEnd new
 
--- the source gave these bytes, whose n-th line is the first that is outside; either that stays so
--- whatever follows, or nothing follows
+-- the source gave these bytes, whose n-th line is the first that is outside; either that stays so whatever follows, or
+-- nothing follows. What was read before the last piece had no line that is outside: nothing is read behind one.
 pub record GaveBadLine (old new : Option (List ℕ)) (n : ℕ) : Type 0 where
-  pub bytes : List ℕ
-  pub consumed : Consumes old new bytes
-  pub outside : script bytes ≡ Err n
-  pub final : ((rest : List ℕ) → script (bytes ++ rest) ≡ Err n) ⊎ IsAtEnd new
+  pub front : List ℕ
+  pub piece : List ℕ
+  pub consumed : Consumes old new (front ++ piece)
+  pub good : HasNoBadLine front
+  pub once : length piece ≤ PIECE_BYTES
+  pub outside : script (front ++ piece) ≡ Err n
+  pub final : ((rest : List ℕ) → script ((front ++ piece) ++ rest) ≡ Err n) ⊎ IsAtEnd new
 
--- the source gave these bytes, and no line that ends in them is outside: whatever follows, the first line that is outside
--- comes behind them
+-- the source gave these bytes, and no line of them is outside already
 pub record GaveGoodLines (old new : Option (List ℕ)) : Type 0 where
   pub bytes : List ℕ
   pub consumed : Consumes old new bytes
-  pub later : (rest : List ℕ) (n : ℕ) → script (bytes ++ rest) ≡ Err n → line_ends bytes < n
+  pub good : HasNoBadLine bytes
 
 -- what the source has left is a script
 pub record SaysScript (has : Option (List ℕ)) : Type 0 where

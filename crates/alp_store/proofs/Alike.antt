@@ -4,7 +4,7 @@ use Rattle.std.proofs.Common.{◌≡◌, ◌≤◌, ◌<◌, ℕ, List, sym, ◌
 use Rattle.alp_files.specs.Cells.{Cells}
 use Rattle.alp_fields.specs.Forms.{whole}
 use Rattle.alp_files.specs.declared.cell.Cell.TheVariants as cell
-use Rattle.alp_leader.specs.Leader.{leader_page}
+use Rattle.alp_pages.specs.Leader.{leader_page}
 use Rattle.alp_pages.specs.Nodes.{Node, DataOf, LeaderOf}
 use Rattle.alp_pages.specs.Pages.{Pages, entry, part_of, read_row}
 use Rattle.alp_pages.specs.Rows.{SpellsRow}

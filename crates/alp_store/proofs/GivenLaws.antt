@@ -18,7 +18,7 @@ use Rattle.alp_pages.specs.Pages.{Pages}
 use Rattle.alp_pages.specs.Volume.{StandFor}
 use Rattle.alp_volume.specs.Known.{Knows, leader_of}
 use Rattle.alp_volume.specs.declared.catalog.Catalog.{Catalog}
-use Rattle.alp_volume.proofs.Tables.{files_total}
+use Rattle.alp_tables.proofs.Tables.{files_total}
 
 abbrev same : FileId → FileId → Bool
 same = eq_by_cmp file_cmp

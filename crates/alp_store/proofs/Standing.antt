@@ -22,8 +22,8 @@ use Rattle.alp_files.specs.declared.cell.Props.{Props}
 use Rattle.alp_files.specs.Cells.{Cells, same_file, same_name}
 use Rattle.alp_files.specs.Counts.{file_count_of, files_at, name_at, owner_count_of, used_of}
 use Rattle.alp_files.proofs.SameLemmas.{same_file-true, same_file-itself, same_name-true, same_name-itself, same_key-itself, same_owner_key}
-use Rattle.alp_leader.specs.declared.leader.Leader.{Leader as LeaderRecord}
-use Rattle.alp_leader.specs.Leader.{leader_page}
+use Rattle.alp_pages.specs.declared.leader.Leader.{Leader as LeaderRecord}
+use Rattle.alp_pages.specs.Leader.{leader_page}
 use Rattle.alp_pages.specs.Counted.{AreApart, bit, count_below, is_among}
 use Rattle.alp_pages.specs.Damage.{parts, damage_of}
 use Rattle.alp_pages.specs.Naming.{Naming, IsNaming}

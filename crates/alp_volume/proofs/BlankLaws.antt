@@ -13,7 +13,7 @@ use Rattle.alp_base.specs.Notes.{text_cmp}
 use Rattle.alp_base.specs.declared.ids.FileId.{FileId}
 use Rattle.alp_volume.specs.declared.catalog.Catalog.{Catalog}
 use Rattle.alp_pages.specs.declared.entry.Entry.{Entry}
-use Rattle.alp_volume.specs.declared.file_slot.FileSlot.{FileSlot}
+use Rattle.alp_tables.specs.declared.file_slot.FileSlot.{FileSlot}
 use Rattle.alp_pages.specs.Nodes.{LeaderOf, IndexOf, DataOf}
 use Rattle.alp_pages.specs.Pages.{Pages, entry_in, row_in}
 use Rattle.alp_pages.specs.Damage.{Part, Slot, Name, entry_there, owner_there, leader_name, added, has_node, names_after}

@@ -11,10 +11,10 @@ use Rattle.alp_files.specs.declared.cell.Cell.TheVariants as cell
 use Rattle.alp_files.specs.Cells.{View, same_file}
 use Rattle.alp_files.specs.Edits.{Put, after}
 use Rattle.alp_files.proofs.SameLemmas.{same_file-itself}
-use Rattle.alp_leader.specs.declared.leader.Leader.{Leader as LeaderRecord}
-use Rattle.alp_leader.specs.Leader.{leader_page}
+use Rattle.alp_pages.specs.declared.leader.Leader.{Leader as LeaderRecord}
+use Rattle.alp_pages.specs.Leader.{leader_page}
 use Rattle.alp_volume.specs.declared.catalog.Catalog.{Catalog}
-use Rattle.alp_volume.specs.declared.file_slot.FileSlot.{FileSlot}
+use Rattle.alp_tables.specs.declared.file_slot.FileSlot.{FileSlot}
 use Rattle.alp_pages.specs.Changes.{NamesBlock, NamesOne, volume_with}
 use Rattle.alp_pages.specs.Counted.{bit}
 use Rattle.alp_volume.specs.Drafts.{Changed, IsDraft, laid}
@@ -29,7 +29,7 @@ use Rattle.alp_volume.proofs.DraftLaws.{put_laid}
 use Rattle.alp_pages.proofs.FetchLaws.{is_none}
 use Rattle.alp_volume.proofs.KnowsLaws.{named_taken, head_taken, leader_there, leader_file, leader_row, row_bits, knows_blocks}
 use Rattle.alp_volume.proofs.LaidLaws.{laid_put}
-use Rattle.alp_volume.proofs.MarkLaws.{free_within}
+use Rattle.alp_tables.proofs.FreeLaws.{free_within}
 use Rattle.alp_volume.proofs.PutLaws.{free_place, place_sized}
 use Rattle.alp_pages.proofs.UnnamedLaws.{written_same}
 

@@ -28,12 +28,12 @@ use Rattle.alp_pages.specs.Nodes.{IndexOf}
 use Rattle.alp_pages.specs.Pages.{Pages}
 use Rattle.alp_pages.specs.Volume.{StandFor}
 use Rattle.alp_volume.specs.declared.catalog.Catalog.{Catalog}
-use Rattle.alp_volume.specs.declared.file_slot.FileSlot.{FileSlot}
+use Rattle.alp_tables.specs.declared.file_slot.FileSlot.{FileSlot}
 use Rattle.alp_volume.specs.Known.{Knows, leader_of}
 use Rattle.alp_volume.specs.Reached.{slot_of}
 use Rattle.alp_pages.proofs.NodeLaws.{shaped_held}
 use Rattle.alp_volume.proofs.PlanLaws.{starts_paged}
-use Rattle.alp_volume.proofs.Tables.{files_total}
+use Rattle.alp_tables.proofs.Tables.{files_total}
 
 T-left : (a b : Bool) → T (a && b) → T a
 T-left true b h = tt

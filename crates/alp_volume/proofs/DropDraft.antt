@@ -14,7 +14,7 @@ use Rattle.alp_files.specs.Cells.{View, same_file}
 use Rattle.alp_files.specs.Edits.{Drop, after}
 use Rattle.alp_files.proofs.SameLemmas.{same_file-true, same_file-itself}
 use Rattle.alp_volume.specs.declared.catalog.Catalog.{Catalog}
-use Rattle.alp_volume.specs.declared.file_slot.FileSlot.{FileSlot}
+use Rattle.alp_tables.specs.declared.file_slot.FileSlot.{FileSlot}
 use Rattle.alp_pages.specs.Changes.{HasSlot, is_of, volume_without}
 use Rattle.alp_pages.specs.Counted.{bit}
 use Rattle.alp_volume.specs.Drafts.{Changed, IsDraft, laid, page_or}
@@ -30,7 +30,7 @@ use Rattle.alp_volume.proofs.CutDraft.{same_turned}
 use Rattle.alp_volume.proofs.KnowsLaws.{leader_there, slot_there}
 use Rattle.alp_volume.proofs.LaidLaws.{laid_put, numbers_alike}
 use Rattle.alp_pages.proofs.NodeTests.{leaders_alike}
-use Rattle.alp_volume.proofs.Tables.{files_total}
+use Rattle.alp_tables.proofs.Tables.{files_total}
 use Rattle.alp_pages.proofs.UniqueLaws.{some_is}
 use Rattle.alp_pages.proofs.UnnamedLaws.{unnamed}
 

@@ -12,10 +12,10 @@ use Rattle.alp_files.specs.declared.cell.Cell.TheVariants as cell
 use Rattle.alp_files.specs.Cells.{View, same_file}
 use Rattle.alp_files.specs.Edits.{Put, after}
 use Rattle.alp_files.proofs.SameLemmas.{same_file-true}
-use Rattle.alp_leader.specs.declared.leader.Leader.{Leader as LeaderRecord}
-use Rattle.alp_leader.specs.Leader.{leader_page}
+use Rattle.alp_pages.specs.declared.leader.Leader.{Leader as LeaderRecord}
+use Rattle.alp_pages.specs.Leader.{leader_page}
 use Rattle.alp_volume.specs.declared.catalog.Catalog.{Catalog}
-use Rattle.alp_volume.specs.declared.file_slot.FileSlot.{FileSlot}
+use Rattle.alp_tables.specs.declared.file_slot.FileSlot.{FileSlot}
 use Rattle.alp_pages.specs.Changes.{HasSlot, IsFree, volume_with_file}
 use Rattle.alp_pages.specs.Counted.{bit}
 use Rattle.alp_volume.specs.Drafts.{Changed, IsDraft, laid}
@@ -31,7 +31,7 @@ use Rattle.alp_pages.proofs.FileLaws.{file_added}
 use Rattle.alp_volume.proofs.KnowsLaws.{named_taken, head_taken}
 use Rattle.alp_volume.proofs.LaidLaws.{laid_put}
 use Rattle.alp_volume.proofs.ListLaws.{got}
-use Rattle.alp_volume.proofs.MarkLaws.{free_within}
+use Rattle.alp_tables.proofs.FreeLaws.{free_within}
 use Rattle.alp_volume.proofs.PutLaws.{free_place}
 use Rattle.alp_pages.proofs.UniqueLaws.{some_is}
 

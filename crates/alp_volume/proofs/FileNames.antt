@@ -9,8 +9,8 @@ use Rattle.alp_fields.specs.Forms.{whole}
 use Rattle.alp_files.specs.Cells.{same_file}
 use Rattle.alp_files.proofs.SameLemmas.{same_file-true}
 use Rattle.alp_base.specs.declared.faults.VaultFault.{VaultFault}
-use Rattle.alp_leader.specs.declared.leader.Leader.{Leader}
-use Rattle.alp_leader.specs.Leader.{leader_page}
+use Rattle.alp_pages.specs.declared.leader.Leader.{Leader}
+use Rattle.alp_pages.specs.Leader.{leader_page}
 use Rattle.alp_pages.specs.Nodes.{Node, LeaderOf, IndexOf, DataOf, same_node}
 use Rattle.alp_pages.specs.Pages.{Pages, index_page}
 use Rattle.alp_pages.specs.Volume.{child_of, row_of_node}

@@ -9,7 +9,7 @@ use Rattle.alp_base.specs.declared.faults.VaultFault.{VaultFault}
 use Rattle.alp_files.specs.Cells.{same_file}
 use Rattle.alp_files.proofs.SameLemmas.{same_file-true, same_file-itself}
 use Rattle.alp_pages.specs.declared.entry.Entry.{Entry}
-use Rattle.alp_volume.specs.declared.file_slot.FileSlot.{FileSlot}
+use Rattle.alp_tables.specs.declared.file_slot.FileSlot.{FileSlot}
 use Rattle.alp_pages.specs.Counted.{bit}
 use Rattle.alp_pages.specs.Nodes.{LeaderOf, IndexOf, DataOf}
 use Rattle.alp_pages.specs.Pages.{Pages, entry_in}

@@ -16,7 +16,7 @@ use Rattle.alp_files.specs.Files.{AreFiles, IsOfKind}
 use Rattle.alp_files.proofs.SameLemmas.{same_name-true, same_name-itself}
 use Rattle.alp_volume.specs.declared.catalog.Catalog.{Catalog}
 use Rattle.alp_pages.specs.declared.entry.Entry.{Entry}
-use Rattle.alp_volume.specs.declared.file_slot.FileSlot.{FileSlot}
+use Rattle.alp_tables.specs.declared.file_slot.FileSlot.{FileSlot}
 use Rattle.alp_pages.specs.Counted.{bit}
 use Rattle.alp_pages.specs.Naming.{Naming, IsNaming, number_or_0}
 use Rattle.alp_pages.specs.Nodes.{Node, LeaderOf, IndexOf, DataOf, same_node}

@@ -9,10 +9,10 @@ use Rattle.alp_base.specs.declared.ids.FileId.{FileId}
 use Rattle.alp_fields.specs.Forms.{whole}
 use Rattle.alp_files.specs.Cells.{View, same_file}
 use Rattle.alp_files.proofs.SameLemmas.{same_file-true, same_file-itself}
-use Rattle.alp_leader.specs.declared.leader.Leader.{Leader as LeaderRecord}
-use Rattle.alp_leader.specs.Leader.{leader_page}
+use Rattle.alp_pages.specs.declared.leader.Leader.{Leader as LeaderRecord}
+use Rattle.alp_pages.specs.Leader.{leader_page}
 use Rattle.alp_volume.specs.declared.catalog.Catalog.{Catalog}
-use Rattle.alp_volume.specs.declared.file_slot.FileSlot.{FileSlot}
+use Rattle.alp_tables.specs.declared.file_slot.FileSlot.{FileSlot}
 use Rattle.alp_pages.specs.Counted.{bit}
 use Rattle.alp_volume.specs.Known.{Knows, leader_of}
 use Rattle.alp_pages.specs.Naming.{Naming, named, number_or_0}

@@ -7,8 +7,8 @@ use Rattle.alp_base.specs.declared.ids.FileId.{FileId}
 use Rattle.alp_fields.specs.Forms.{whole}
 use Rattle.alp_files.specs.Cells.{same_file}
 use Rattle.alp_files.proofs.SameLemmas.{same_file-true, same_file-itself}
-use Rattle.alp_leader.specs.declared.leader.Leader.{Leader}
-use Rattle.alp_leader.specs.Leader.{leader_page}
+use Rattle.alp_pages.specs.declared.leader.Leader.{Leader}
+use Rattle.alp_pages.specs.Leader.{leader_page}
 use Rattle.alp_pages.specs.Nodes.{LeaderOf, IndexOf}
 use Rattle.alp_pages.specs.Pages.{Pages}
 use Rattle.alp_pages.specs.Volume.{row_of_leader, row_of_node}

@@ -1,5 +1,3 @@
-pub mod Tables
-pub mod BitsLaws
 pub mod MarkLaws
 pub mod ListLaws
 pub mod LoopLaws

@@ -12,14 +12,15 @@ use Rattle.alp_base.specs.declared.ids.FileId.{FileId}
 use Rattle.alp_files.specs.Cells.{same_file}
 use Rattle.alp_files.proofs.SameLemmas.{same_file-true, same_file-itself}
 use Rattle.alp_pages.specs.declared.entry.Entry.{Entry}
-use Rattle.alp_volume.specs.declared.file_slot.FileSlot.{FileSlot}
+use Rattle.alp_tables.specs.declared.file_slot.FileSlot.{FileSlot}
 use Rattle.alp_pages.specs.Nodes.{Node, LeaderOf, IndexOf, DataOf, same_node}
 use Rattle.alp_pages.specs.Pages.{Pages, entry_in}
 use Rattle.alp_pages.specs.Damage.{Name, Slot, has_node, has_place, is_new, are_new, added, names_in, is_right, entry_there, leader_name}
 use Rattle.alp_volume.specs.Reached.{AreMarks, AreListed, Files, slot_of}
 use Rattle.alp_pages.proofs.NodeTests.{leaders_alike}
-use Rattle.alp_volume.proofs.MarkLaws.{new_by, old_by, marked, free_within}
-use Rattle.alp_volume.proofs.Tables.{files_total}
+use Rattle.alp_volume.proofs.MarkLaws.{new_by, old_by, marked}
+use Rattle.alp_tables.proofs.FreeLaws.{free_within}
+use Rattle.alp_tables.proofs.Tables.{files_total}
 
 -- what a table of files has after one more
 pub got : (files : Files) (f : FileId) (x : FileSlot) (g : FileId) → map.get (map.insert files f x) g ≡ cond (same_file g f) (Some x) (map.get files g)

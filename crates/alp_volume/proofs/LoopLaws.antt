@@ -8,10 +8,11 @@ use Rattle.std.proofs.lemmas.Bool.{cond-true, cond-false}
 use Rattle.alp_base.specs.declared.allowance.Allowance.{Allowance}
 use Rattle.alp_base.specs.declared.faults.VaultFault.{VaultFault}
 use Rattle.alp_base.specs.Faults.{HasVaultCause}
-use Rattle.alp_leader.specs.declared.leader.Leader.{Leader}
+use Rattle.alp_pages.specs.declared.leader.Leader.{Leader}
 use Rattle.alp_pages.specs.Pages.{Pages, entry_in}
 use Rattle.alp_pages.specs.Damage.{Part, Header, Slot, OwnerRow, Name, parts, parts_of, entry_there, leader_at, cost_of, charge_in, names_in, added, is_right, first_wrong, place_of, names_after}
-use Rattle.alp_volume.specs.Reached.{slots_from, rows_from, files_from, charge_from, cost_to, cost_in}
+use Rattle.alp_volume.specs.Reached.{slots_from, rows_from, files_from, charge_from, cost_in}
+use Rattle.alp_tables.specs.Costs.{cost_to}
 use Rattle.alp_pages.specs.Reading.{HasRead}
 
 -- ---- parts

@@ -12,6 +12,7 @@ use Rattle.alp_pages.specs.Volume.{child_of}
 use Rattle.alp_pages.specs.Damage.{Name, has_node, has_place, is_new, are_new, added, child_name, names_of, is_below, is_within}
 use Rattle.alp_volume.specs.Reached.{AreMarks, AreFresh, IsParent}
 use Rattle.alp_pages.proofs.NamingLaws.{eqb_other}
+use Rattle.alp_tables.proofs.FreeLaws.{free_within}
 
 -- ---- tests
 
@@ -51,13 +52,6 @@ new_by home names taken k p marks fresh = new_test (nat_le 257 p) (nat_lt p home
 
 pub old_by : (home : ℕ) (names : List Name) (k : Node) (p : ℕ) → has_node k names ≡ true → is_new home names (k, p) ≡ false
 old_by home names k p there = old_test (nat_le 257 p) (nat_lt p home) (has_node k names) (has_place p names) there
-
-pub free_within : (taken : List Bool) (p : ℕ) → slice_index_or taken p true ≡ false → p < length taken
-free_within taken p h = go (nat_lt p (length taken)) refl
-  where
-    go : (t : Bool) → nat_lt p (length taken) ≡ t → p < length taken
-    go true e = ltb-true p (length taken) e
-    go false e = let past : slice_index_or taken p true ≡ true = get_or_past taken p true (ltb-false p (length taken) e) in cc
 
 pub marked : (home : ℕ) (names : List Name) (taken : List Bool) (k : Node) (p : ℕ) → AreMarks home names taken → slice_index_or taken p true ≡ false → AreMarks home ((k, p) ∷ names) (slice_set taken p true)
 marked home names taken k p marks free = record { long = length-set taken p true ∙ marks.long; says = λ q. go q (p == q) refl }

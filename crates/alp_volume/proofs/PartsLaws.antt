@@ -18,7 +18,7 @@ use Rattle.alp_volume.specs.Known.{IsCatalog, Knows}
 use Rattle.alp_volume.specs.Parts.{Before, is_free, said, said_or, was_free, with_undo}
 use Rattle.alp_volume.specs.Undone.{CanUndo, Leads, undo_one}
 use Rattle.alp_volume.proofs.LaidLaws.{numbers_alike}
-use Rattle.alp_volume.proofs.MarkLaws.{free_within}
+use Rattle.alp_tables.proofs.FreeLaws.{free_within}
 
 -- what is known of all places before, by what is said of some and by the flags that are left for the others
 abbrev pub Tells : Before → List Bool → List Bool → Type 0

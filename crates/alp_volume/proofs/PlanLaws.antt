@@ -17,8 +17,8 @@ use Rattle.alp_files.specs.Edits.{after, edits_map}
 use Rattle.alp_files.specs.Files.{AreFiles}
 use Rattle.alp_files.specs.Sound.{AreSound}
 use Rattle.alp_files.proofs.HistoryLemmas.{get-edits_map}
-use Rattle.alp_leader.specs.declared.leader.Leader.{Leader as LeaderRecord}
-use Rattle.alp_leader.specs.Leader.{leader_page}
+use Rattle.alp_pages.specs.declared.leader.Leader.{Leader as LeaderRecord}
+use Rattle.alp_pages.specs.Leader.{leader_page}
 use Rattle.alp_volume.specs.declared.catalog.Catalog.{Catalog}
 use Rattle.alp_volume.specs.Drafts.{ArePaged, Changed, HaveLeaders, IsDraft, IsPlanned, laid, page_or}
 use Rattle.alp_volume.specs.Known.{Knows}

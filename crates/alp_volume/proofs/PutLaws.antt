@@ -22,7 +22,7 @@ use Rattle.alp_pages.specs.Volume.{Volume, Spells, nodes}
 use Rattle.alp_pages.proofs.NamingLaws.{eqb_other}
 use Rattle.alp_pages.proofs.FetchLaws.{is_none}
 use Rattle.alp_pages.proofs.IndexLaws.{index_length}
-use Rattle.alp_volume.proofs.MarkLaws.{free_within}
+use Rattle.alp_tables.proofs.FreeLaws.{free_within}
 use Rattle.alp_pages.proofs.UniqueLaws.{some_is, number}
 use Rattle.alp_pages.proofs.ChangeLaws.{page_put}
 use Rattle.alp_pages.proofs.GrowLaws.{page_added}

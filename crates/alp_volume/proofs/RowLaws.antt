@@ -15,12 +15,13 @@ use Rattle.alp_base.specs.Notes.{text_cmp}
 use Rattle.alp_files.specs.declared.cell.OwnerRecord.{OwnerRecord}
 use Rattle.alp_files.specs.Cells.{same_name}
 use Rattle.alp_files.proofs.SameLemmas.{same_name-true, same_name-itself}
-use Rattle.alp_volume.specs.declared.cost.Cost.{Cost}
+use Rattle.alp_tables.specs.declared.cost.Cost.{Cost}
 use Rattle.alp_pages.specs.Pages.{Pages, row_in}
 use Rattle.alp_pages.specs.Damage.{owner_there, has_owner, is_named, is_right_row, charge_in}
-use Rattle.alp_volume.specs.Reached.{AreOwners, AreCosts, Owners, cost_to}
+use Rattle.alp_volume.specs.Reached.{AreOwners, AreCosts, Owners}
+use Rattle.alp_tables.specs.Costs.{cost_to}
 use Rattle.alp_pages.proofs.Members.{In, in-any, any-in, in-range, in-range-back}
-use Rattle.alp_volume.proofs.MarkLaws.{free_within}
+use Rattle.alp_tables.proofs.FreeLaws.{free_within}
 use Rattle.alp_volume.proofs.ListLaws.{is_none, less_more, not_itself}
 
 names_alike : (a b : List ℕ) → same_name a b ≡ eq_by_cmp text_cmp a b

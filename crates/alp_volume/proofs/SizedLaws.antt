@@ -11,14 +11,15 @@ use Rattle.alp_base.specs.Notes.{text_cmp}
 use Rattle.alp_base.specs.declared.ids.FileId.{FileId}
 use Rattle.alp_files.specs.Cells.{same_file}
 use Rattle.alp_volume.specs.declared.catalog.Catalog.{Catalog}
-use Rattle.alp_volume.specs.declared.file_slot.FileSlot.{FileSlot}
+use Rattle.alp_tables.specs.declared.file_slot.FileSlot.{FileSlot}
 use Rattle.alp_volume.specs.Known.{IsBlank, IsCatalog}
-use Rattle.alp_volume.specs.Reached.{Files, Owners, IsKept, Stays}
+use Rattle.alp_volume.specs.Reached.{Files, Owners, IsKept}
+use Rattle.alp_tables.specs.Bits.{Stays}
 use Rattle.alp_volume.proofs.BlankLaws.{blank_long}
 use Rattle.alp_volume.proofs.DraftLaws.{owner_sized}
 use Rattle.alp_volume.proofs.ListLaws.{got}
-use Rattle.alp_volume.proofs.MarkLaws.{free_within}
-use Rattle.alp_volume.proofs.Tables.{files_total}
+use Rattle.alp_tables.proofs.FreeLaws.{free_within}
+use Rattle.alp_tables.proofs.Tables.{files_total}
 
 pub places_sized : (home : ℕ) (c : Catalog) → IsCatalog home c → (places : List Bool) → length places ≡ length c.places → Stays c.places places → IsCatalog home (record c { places = places })
 places_sized home c sized places long stays = record {

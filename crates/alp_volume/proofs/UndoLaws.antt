@@ -13,13 +13,13 @@ use Rattle.std.proofs.lemmas.Map.Views.{tells_apart}
 use Rattle.alp_base.specs.KeyLaws.{exact_files}
 use Rattle.alp_base.specs.declared.ids.FileId.{FileId}
 use Rattle.alp_volume.specs.declared.catalog.Catalog.{Catalog}
-use Rattle.alp_volume.specs.declared.file_slot.FileSlot.{FileSlot}
+use Rattle.alp_tables.specs.declared.file_slot.FileSlot.{FileSlot}
 use Rattle.alp_volume.specs.declared.undo.Undo.{Undo}
 use Rattle.alp_volume.specs.declared.undo.Undo.TheVariants.{PlaceTaken, PlaceFreed, FileKept, FileCame, FileWent, OwnerCame}
 use Rattle.alp_volume.specs.Reached.{Files, Owners}
 use Rattle.alp_volume.specs.Undone.{CanUndo, Leads, LeadsOn, undo_one}
-use Rattle.alp_volume.proofs.MarkLaws.{free_within}
-use Rattle.alp_volume.proofs.Tables.{files_total}
+use Rattle.alp_tables.proofs.FreeLaws.{free_within}
+use Rattle.alp_tables.proofs.Tables.{files_total}
 
 -- ---- the list of changes
 

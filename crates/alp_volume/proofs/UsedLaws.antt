@@ -1,9 +1,7 @@
 -- As many places are taken as the cells need, by the flags that memory keeps.
-use Rattle.std.specs.Prelude.{Bool, true, false, is_some, Option, None, Some, replicate, slice_index_or, slice_set, sum_by}
-use Rattle.std.proofs.Common.{◌≡◌, ℕ, zero, suc, ◌+◌, ◌-◌, ◌*◌, ◌^◌, ◌<◌, ◌≤◌, List, [], ◌∷◌, ◌++◌, length, refl, sym, ◌∙◌, ap, subst, arith}
-use Rattle.std.proofs.lemmas.List.{length-set}
-use Rattle.std.proofs.lemmas.List.Sums.{sum_by-append, sum_by-cons, sum_by-set}
-use Rattle.std.proofs.lemmas.List.Folds.{sum_by-replicate}
+use Rattle.std.specs.Prelude.{Bool, true, false, cond, is_some, Option, None, Some, slice_index_or}
+use Rattle.std.proofs.Common.{◌≡◌, ℕ, zero, suc, ◌+◌, ◌-◌, ◌<◌, ◌≤◌, List, [], ◌∷◌, length, refl, sym, ◌∙◌, ap, subst, arith}
+use Rattle.std.proofs.lemmas.List.Sums.{sum_by-cons}
 use Rattle.alp_files.specs.Cells.{Cells}
 use Rattle.alp_files.specs.Counts.{used_of}
 use Rattle.alp_pages.specs.Counted.{bit, count_below, taken_places}
@@ -11,29 +9,9 @@ use Rattle.alp_pages.specs.Nodes.{Node}
 use Rattle.alp_pages.specs.Pages.{Pages}
 use Rattle.alp_pages.specs.Volume.{StandFor, Volume}
 use Rattle.alp_pages.proofs.NodeLaws.{taken-used, shaped_held}
+use Rattle.alp_tables.specs.Bits.{count_set}
 use Rattle.alp_volume.specs.declared.catalog.Catalog.{Catalog}
 use Rattle.alp_volume.specs.Known.{IsCatalog, Knows}
-
-pub none_taken : (n : ℕ) → sum_by bit (replicate n false) ≡ 0
-none_taken n = omega (arith, sum_by-replicate bit n false)
-
-pub first_taken : (n k : ℕ) → sum_by bit (replicate n true ++ replicate k false) ≡ n
-first_taken n k = omega (arith, sum_by-append bit (replicate n true) (replicate k false), sum_by-replicate bit n true, sum_by-replicate bit k false)
-
-pub one_taken : (xs : List Bool) (p : ℕ) → p < length xs → slice_index_or xs p true ≡ false → sum_by bit (slice_set xs p true) ≡ sum_by bit xs + 1
-one_taken xs p within free = let was : bit (slice_index_or xs p true) ≡ 0 = ap bit free in omega (arith, sum_by-set bit xs p true true within, was)
-
-pub one_freed : (xs : List Bool) (p : ℕ) → p < length xs → slice_index_or xs p true ≡ true → sum_by bit (slice_set xs p false) + 1 ≡ sum_by bit xs
-one_freed xs p within taken = let was : bit (slice_index_or xs p true) ≡ 1 = ap bit taken in omega (arith, sum_by-set bit xs p false true within, was)
-
-pub few_taken : (xs : List Bool) → sum_by bit xs ≤ length xs
-few_taken [] = omega arith
-few_taken (true ∷ xs) = omega (arith, sum_by-cons bit true xs, few_taken xs)
-few_taken (false ∷ xs) = omega (arith, sum_by-cons bit false xs, few_taken xs)
-
--- one more fits where the flags do
-pub one_fits : (xs : List Bool) (p : ℕ) → p < length xs → slice_index_or xs p true ≡ false → length xs < 2 ^ 32 → sum_by bit xs + 1 < 2 ^ 32
-one_fits xs p within free few = omega (arith, one_taken xs p within free, few_taken (slice_set xs p true), length-set xs p true)
 
 -- ---- flags as a function
 
@@ -42,9 +20,10 @@ count_cons : (x : Bool) (xs : List Bool) (n : ℕ) → count_below (λ p. slice_
 count_cons x xs zero = omega arith
 count_cons x xs (suc n) = omega (arith, count_cons x xs n)
 
-pub count_flags : (xs : List Bool) → sum_by bit xs ≡ count_below (λ p. slice_index_or xs p true) (length xs)
+pub count_flags : (xs : List Bool) → count_set xs ≡ count_below (λ p. slice_index_or xs p true) (length xs)
 count_flags [] = refl
-count_flags (x ∷ xs) = omega (arith, sum_by-cons bit x xs, count_flags xs, count_cons x xs (length xs))
+count_flags (true ∷ xs) = omega (arith, sum_by-cons (λ (b : Bool). cond b 1 0) true xs, count_flags xs, count_cons true xs (length xs))
+count_flags (false ∷ xs) = omega (arith, sum_by-cons (λ (b : Bool). cond b 1 0) false xs, count_flags xs, count_cons false xs (length xs))
 
 -- the pages in front of the first place are taken, and nothing stands there
 counted : (flags at : ℕ → Bool) (home : ℕ) → ((p : ℕ) → p < 257 → flags p ≡ true) → ((p : ℕ) → p < 257 → at p ≡ false) → ((p : ℕ) → 257 ≤ p → p < home → flags p ≡ at p) → (n : ℕ) → n ≤ home → (k : ℕ) → n ≡ 257 + k → count_below flags n ≡ 257 + count_below at n
@@ -68,7 +47,7 @@ counted flags at home head low same n most k is = subst (λ (x : ℕ). count_bel
     go zero few = below 257 (omega arith)
     go (suc k) few = step k (ap bit (same (257 + k) (omega arith) (omega arith))) (go k (omega arith))
 
-pub used_taken : (home : ℕ) (at : Pages) (m : Cells) (stands : StandFor home at m) (c : Catalog) → Knows home stands.volume c → IsCatalog home c → 257 ≤ home → sum_by bit c.places ≡ 257 + used_of m
+pub used_taken : (home : ℕ) (at : Pages) (m : Cells) (stands : StandFor home at m) (c : Catalog) → Knows home stands.volume c → IsCatalog home c → 257 ≤ home → count_set c.places ≡ 257 + used_of m
 used_taken home at m stands c knows sized least =
     count_flags c.places ∙ ap (count_below (λ p. slice_index_or c.places p true)) sized.places
     ∙ counted (λ p. slice_index_or c.places p true) (λ p. is_some (stands.volume.places.at p)) home knows.head (λ p low. nothing p low (stands.volume.places.at p) refl) knows.places_taken home (omega arith) (home - 257) (omega (arith, least))
@@ -79,7 +58,7 @@ used_taken home at m stands c knows sized least =
     nothing p low (Some k) e = let high = stands.spells.shape.places.least k p (stands.spells.shape.places.back p k e) in absurd (omega (arith, low, high))
 
 -- at least the pages in front of the first place are taken
-pub head_used : (home : ℕ) (c : Catalog) → IsCatalog home c → 257 ≤ home → 257 ≤ sum_by bit c.places
+pub head_used : (home : ℕ) (c : Catalog) → IsCatalog home c → 257 ≤ home → 257 ≤ count_set c.places
 head_used home c sized least = omega (arith, count_flags c.places, ap (count_below (λ p. slice_index_or c.places p true)) sized.places, at_least (λ p. slice_index_or c.places p true) sized.head home (home - 257) (omega (arith, least)))
   where
     at_least : (flags : ℕ → Bool) → ((p : ℕ) → p < 257 → flags p ≡ true) → (n k : ℕ) → n ≡ 257 + k → 257 ≤ count_below flags n

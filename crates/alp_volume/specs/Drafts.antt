@@ -7,8 +7,8 @@ use Rattle.alp_base.specs.declared.ids.FileId.{FileId}
 use Rattle.alp_base.specs.declared.key.Key.TheVariants.{Leader, PageOf}
 use Rattle.alp_fields.specs.Forms.{whole}
 use Rattle.alp_files.specs.Cells.{Cells, View}
-use Rattle.alp_leader.specs.declared.leader.Leader.{Leader as LeaderRecord}
-use Rattle.alp_leader.specs.Leader.{leader_page}
+use Rattle.alp_pages.specs.declared.leader.Leader.{Leader as LeaderRecord}
+use Rattle.alp_pages.specs.Leader.{leader_page}
 use Rattle.alp_volume.specs.declared.catalog.Catalog.{Catalog}
 use Rattle.alp_volume.specs.Known.{IsCatalog, Knows}
 use Rattle.alp_pages.specs.Nodes.{LeaderOf}

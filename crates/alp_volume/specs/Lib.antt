@@ -1,5 +1,3 @@
-pub mod Tables
-pub mod Bits
 pub mod Reached
 pub mod Known
 pub mod Drafts

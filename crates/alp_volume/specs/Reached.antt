@@ -9,10 +9,11 @@ use Rattle.alp_base.specs.declared.ids.FileId.{FileId}
 use Rattle.alp_base.specs.KeyLaws.{file_cmp}
 use Rattle.alp_files.specs.declared.cell.OwnerRecord.{OwnerRecord}
 use Rattle.alp_files.specs.Cells.{same_name}
-use Rattle.alp_leader.specs.declared.leader.Leader.{Leader}
-use Rattle.alp_volume.specs.declared.cost.Cost.{Cost}
+use Rattle.alp_pages.specs.declared.leader.Leader.{Leader}
+use Rattle.alp_tables.specs.Costs.{cost_to}
+use Rattle.alp_tables.specs.declared.cost.Cost.{Cost}
 use Rattle.alp_pages.specs.declared.entry.Entry.{Entry}
-use Rattle.alp_volume.specs.declared.file_slot.FileSlot.{FileSlot}
+use Rattle.alp_tables.specs.declared.file_slot.FileSlot.{FileSlot}
 use Rattle.alp_pages.specs.Counted.{bit}
 use Rattle.alp_pages.specs.Nodes.{Node, LeaderOf, IndexOf, DataOf}
 use Rattle.alp_pages.specs.Pages.{Pages, entry_in, row_in}
@@ -51,10 +52,6 @@ IsJudged home at names parts P (Some place) = first_wrong home at names parts �
 pub record AreMarks (home : ℕ) (names : List Name) (taken : List Bool) : Type 0 where
   pub long : length taken ≡ home
   pub says : (p : ℕ) → slice_index_or taken p true ≡ not (nat_le 257 p && nat_lt p home && not (has_place p names))
-
--- what was taken is taken still
-abbrev pub Stays : List Bool → List Bool → Type 0
-Stays old new = (p : ℕ) → slice_index_or old p true ≡ true → slice_index_or new p true ≡ true
 
 -- a leader or an index page
 abbrev pub IsParent : Node → Type 0
@@ -106,10 +103,6 @@ pub record IsKept (old new : FileSlot) (row : List ℕ) : Type 0 where
 -- the size of a file, and its owner
 abbrev pub cost_in : Leader → Cost
 cost_in l = record { owner = l.props.owner; size = l.props.size }
-
--- what it costs an owner
-abbrev pub cost_to : List ℕ → Cost → ℕ
-cost_to name c = if same_name c.owner name then c.size else 0
 
 -- the sizes of the files in the entries from this one on that name the owner
 unfoldable pub charge_from : Pages → ℕ → List ℕ → ℕ

@@ -3,7 +3,7 @@ ghost use Rattle.std.specs.Prelude.{◌≡◌, ◌<◌, ℕ, ◌==◌, not, slic
 ghost use Rattle.std.specs.Int.{bit_at};
 ghost use Rattle.alp_pages.specs.Counted.{bit};
 
-use alp_leader::Places;
+use alp_pages::Places;
 
 // The blocks with that one, if it has a place.
 fn with_block(blocks: u32, block: u32, place: u32) -> u32

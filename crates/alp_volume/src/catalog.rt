@@ -1,10 +1,8 @@
 //! What memory keeps of a volume.
 ghost use Rattle.std.specs.Prelude.{◌≤◌, IfOk};
 
-use crate::files::FileTable;
-use crate::free::Free;
-use crate::owner_table::OwnerTable;
 use alp_base::OutOfMemory;
+use alp_tables::{FileTable, Free, OwnerTable};
 use alp_vault::{FILES_PER_SERVER, HEAD_PAGES, OWNERS_PER_SERVER};
 use std::alloc::Global;
 

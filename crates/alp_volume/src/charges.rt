@@ -6,11 +6,10 @@ ghost use Rattle.alp_pages.specs.Damage.{entry_there, leader_at};
 ghost use Rattle.alp_volume.specs.Reached.{AreCosts, AreWithin, cost_in};
 ghost use Rattle.alp_pages.specs.Reading.{HasRead};
 
-use crate::cost::Cost;
 use crate::directory::read_slot;
 use alp_base::VaultFault;
-use alp_leader::Leader;
-use alp_pages::{PageReader, read_leader};
+use alp_pages::{Leader, PageReader, read_leader};
+use alp_tables::Cost;
 use alp_vault::HEAD_PAGES;
 use std::alloc::Global;
 

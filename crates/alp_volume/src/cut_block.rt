@@ -3,8 +3,8 @@ ghost use Rattle.std.specs.Prelude.{◌≡◌, ◌≤◌, ◌<◌, ◌+◌, ◌*
 ghost use Rattle.std.specs.Int.{bit_at};
 ghost use Rattle.std.specs.FinMap as map;
 ghost use Rattle.alp_fields.specs.Forms.{whole};
-ghost use Rattle.alp_leader.specs.Leader.{leader_page};
-ghost use Rattle.alp_volume.specs.declared.file_slot.FileSlot.{FileSlot as ASlot};
+ghost use Rattle.alp_pages.specs.Leader.{leader_page};
+ghost use Rattle.alp_tables.specs.declared.file_slot.FileSlot.{FileSlot as ASlot};
 ghost use Rattle.alp_pages.specs.Counted.{bit};
 ghost use Rattle.alp_files.specs.Cells.{View};
 ghost use Rattle.alp_files.specs.Edits.{Cut, after};
@@ -21,8 +21,7 @@ use crate::put_leader::leader_page_of;
 use crate::put_page::draft_index;
 use crate::undo::Undo;
 use alp_base::{FileId, OutOfMemory, PAGES_PER_FILE, VaultFault};
-use alp_leader::Leader;
-use alp_pages::{IndexPlaces, PageReader};
+use alp_pages::{IndexPlaces, Leader, PageReader};
 use alp_vault::HEAD_PAGES;
 
 // Frees the place of a page of the block, if it has one.

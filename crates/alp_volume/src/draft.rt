@@ -4,10 +4,10 @@ ghost use Rattle.std.specs.FinMap as map;
 ghost use Rattle.alp_volume.specs.Drafts.{laid};
 ghost use Rattle.alp_pages.specs.Reading.{HasRead};
 
-use crate::sheets::Sheets;
 use crate::undo::Undo;
 use alp_base::{OutOfMemory, Page, PageRef, VaultFault};
 use alp_pages::PageReader;
+use alp_tables::Sheets;
 use std::alloc::Global;
 
 /// The pages that a change has made so far.

@@ -4,14 +4,14 @@ ghost use Rattle.std.specs.Option.{option_to_list};
 ghost use Rattle.alp_base.specs.declared.ids.FileId.{FileId as File};
 ghost use Rattle.alp_pages.specs.Nodes.{IndexOf, DataOf};
 ghost use Rattle.alp_pages.specs.Damage.{Name, NodePage, added, has_node, index_part, is_right, names_in};
-ghost use Rattle.alp_volume.specs.Reached.{AreFresh, AreMarks, IsJudged, Stays, blocks_from};
+ghost use Rattle.alp_volume.specs.Reached.{AreFresh, AreMarks, IsJudged, blocks_from};
+ghost use Rattle.alp_tables.specs.Bits.{Stays};
 ghost use Rattle.alp_pages.specs.Reading.{HasRead};
 
-use crate::free::Free;
 use crate::marks::mark_row;
 use alp_base::VaultFault;
-use alp_leader::Places;
-use alp_pages::{PageReader, decode_index};
+use alp_pages::{PageReader, Places, decode_index};
+use alp_tables::Free;
 
 // Whether the page is an index page that names no place from the limit on, and only places that are new.
 fn read_index<R: PageReader>(

@@ -8,8 +8,8 @@ ghost use Rattle.alp_volume.specs.Undone.{Leads};
 use crate::before::Before;
 use crate::catalog::Catalog;
 use crate::draft::Draft;
-use crate::free::Free;
 use alp_base::{OutOfMemory, PageRef};
+use alp_tables::Free;
 use std::alloc::Global;
 
 /// The pages at places that were free before a change, and the others, each by rising places.

@@ -2,8 +2,8 @@
 ghost use Rattle.std.specs.Prelude.{◌≡◌, ◌<◌, ◌⊎◌, ℕ, List, length, true, false, None, Some, slice_index};
 ghost use Rattle.std.specs.FinMap as map;
 ghost use Rattle.alp_fields.specs.Forms.{whole};
-ghost use Rattle.alp_leader.specs.Leader.{leader_page};
-ghost use Rattle.alp_volume.specs.declared.file_slot.FileSlot.{FileSlot as ASlot};
+ghost use Rattle.alp_pages.specs.Leader.{leader_page};
+ghost use Rattle.alp_tables.specs.declared.file_slot.FileSlot.{FileSlot as ASlot};
 ghost use Rattle.alp_pages.specs.Nodes.{LeaderOf};
 ghost use Rattle.alp_pages.specs.Pages.{Pages as PagesOf};
 ghost use Rattle.alp_pages.specs.Damage.{Name, NodePage, added, is_right, names_in};
@@ -12,11 +12,10 @@ ghost use Rattle.alp_volume.specs.Known.{IsCatalog};
 
 use crate::blocks::blocks_of;
 use crate::catalog::Catalog;
-use crate::file_slot::FileSlot;
-use crate::files::FileTable;
 use crate::marks::mark_row;
 use alp_base::FileId;
-use alp_leader::{Leader, Places};
+use alp_pages::{Leader, Places};
+use alp_tables::{FileSlot, FileTable};
 
 // Keeps which blocks of the file have an index page.
 fn keep_blocks(files: &mut FileTable, file: FileId, index: &Places)

@@ -4,9 +4,10 @@ ghost use Rattle.std.specs.Option.{option_to_list};
 ghost use Rattle.alp_pages.specs.Nodes.{Node};
 ghost use Rattle.alp_pages.specs.Volume.{child_of};
 ghost use Rattle.alp_pages.specs.Damage.{Name, added, are_new, child_name, has_node, is_below, is_within, names_of};
-ghost use Rattle.alp_volume.specs.Reached.{AreFresh, AreMarks, Stays};
+ghost use Rattle.alp_volume.specs.Reached.{AreFresh, AreMarks};
+ghost use Rattle.alp_tables.specs.Bits.{Stays};
 
-use crate::free::Free;
+use alp_tables::Free;
 
 // Marks the place that a row names at that number, if it names one and may.
 fn mark_one(places: &mut Free, limit: u32, number: u32, place: u32) -> bool

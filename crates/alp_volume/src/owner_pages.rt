@@ -8,10 +8,9 @@ ghost use Rattle.alp_pages.specs.Reading.{HasRead};
 ghost use Rattle.alp_volume.specs.Known.{IsCatalog};
 
 use crate::catalog::Catalog;
-use crate::cost::Cost;
-use crate::costs::charge_of;
 use alp_base::VaultFault;
 use alp_pages::{OwnerRow, PageReader, read_row};
+use alp_tables::{Cost, charge_of};
 use alp_vault::HEAD_PAGES;
 use std::alloc::Global;
 

@@ -6,8 +6,8 @@ ghost use Rattle.alp_fields.specs.Forms.{whole};
 ghost use Rattle.alp_files.specs.declared.cell.Cell.TheVariants.{Page as PageCell};
 ghost use Rattle.alp_files.specs.Cells.{View};
 ghost use Rattle.alp_files.specs.Edits.{Put, after};
-ghost use Rattle.alp_leader.specs.Leader.{leader_page};
-ghost use Rattle.alp_volume.specs.declared.file_slot.FileSlot.{FileSlot as ASlot};
+ghost use Rattle.alp_pages.specs.Leader.{leader_page};
+ghost use Rattle.alp_tables.specs.declared.file_slot.FileSlot.{FileSlot as ASlot};
 ghost use Rattle.alp_pages.specs.Changes.{NamesOne};
 ghost use Rattle.alp_volume.specs.Drafts.{IsDraft, laid};
 ghost use Rattle.alp_volume.specs.Known.{IsCatalog};
@@ -22,8 +22,7 @@ use crate::draft::Draft;
 use crate::put_leader::{draft_leader, leader_page_of};
 use crate::put_page::put_in_block;
 use alp_base::{FileId, OutOfMemory, PAGES_PER_FILE, Page, PageRef, VaultFault};
-use alp_leader::Leader;
-use alp_pages::{IndexPlaces, PageReader};
+use alp_pages::{IndexPlaces, Leader, PageReader};
 use std::alloc::Global;
 
 // An index page that names one place.

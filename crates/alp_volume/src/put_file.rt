@@ -6,7 +6,7 @@ ghost use Rattle.alp_files.specs.declared.cell.Cell.TheVariants.{Leader as Leade
 ghost use Rattle.alp_files.specs.Cells.{View};
 ghost use Rattle.alp_files.specs.Edits.{Put, after};
 ghost use Rattle.alp_fields.specs.Forms.{whole};
-ghost use Rattle.alp_leader.specs.Leader.{leader_page};
+ghost use Rattle.alp_pages.specs.Leader.{leader_page};
 ghost use Rattle.alp_pages.specs.Changes.{HasSlot};
 ghost use Rattle.alp_volume.specs.Drafts.{IsDraft, laid};
 ghost use Rattle.alp_volume.specs.Known.{IsCatalog};
@@ -18,8 +18,7 @@ use crate::draft::Draft;
 use crate::put_leader::leader_page_of;
 use alp_base::{FileId, OutOfMemory, PAGES_PER_FILE, Page, VaultFault};
 use alp_files::Props;
-use alp_leader::{Leader, Places};
-use alp_pages::{Entry, PageReader, clear_entry, set_entry};
+use alp_pages::{Entry, Leader, PageReader, Places, clear_entry, set_entry};
 use alp_vault::HEAD_PAGES;
 
 // The page of the directory with an entry, or with none in its place.

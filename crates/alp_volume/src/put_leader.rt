@@ -7,7 +7,7 @@ ghost use Rattle.alp_fields.specs.Forms.{whole};
 ghost use Rattle.alp_files.specs.declared.cell.Cell.TheVariants.{Leader as LeaderCell};
 ghost use Rattle.alp_files.specs.Cells.{View};
 ghost use Rattle.alp_files.specs.Edits.{Put, after};
-ghost use Rattle.alp_leader.specs.Leader.{leader_page};
+ghost use Rattle.alp_pages.specs.Leader.{leader_page};
 ghost use Rattle.alp_volume.specs.declared.catalog.Catalog.{Catalog as ACatalog};
 ghost use Rattle.alp_volume.specs.Drafts.{IsDraft, laid};
 ghost use Rattle.alp_pages.specs.Nodes.{LeaderOf};
@@ -16,8 +16,7 @@ ghost use Rattle.alp_pages.specs.Reading.{HasRead};
 use crate::draft::Draft;
 use alp_base::{OutOfMemory, PAGES_PER_FILE, Page, VaultFault};
 use alp_files::Props;
-use alp_leader::{Leader, decode_leader, encode_leader};
-use alp_pages::{PageReader, copy_of};
+use alp_pages::{Leader, PageReader, copy_of, decode_leader, encode_leader};
 use std::alloc::Global;
 
 /// The leader at a place, as the change has it.

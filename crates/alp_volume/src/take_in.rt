@@ -7,8 +7,8 @@ ghost use Rattle.alp_volume.specs.Reached.{AreListed, AreMarks};
 ghost use Rattle.alp_volume.specs.Known.{IsCatalog};
 
 use crate::catalog::Catalog;
-use crate::file_slot::FileSlot;
 use alp_pages::Entry;
+use alp_tables::FileSlot;
 
 // A file with its entry, unless it or its place is known.
 fn add_file(catalog: &mut Catalog, slot: u32, entry: Entry) -> bool

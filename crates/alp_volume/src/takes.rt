@@ -1,14 +1,14 @@
 //! Taking and freeing places, entries and rows, each so that it can be taken back.
 ghost use Rattle.std.specs.Prelude.{◌≡◌, ◌<◌, ◌≤◌, ℕ, IfOk, OnOk, None, Some, true, false, length, slice_index_or};
 ghost use Rattle.std.specs.FinMap as map;
-ghost use Rattle.alp_volume.specs.declared.file_slot.FileSlot.{FileSlot as ASlot};
+ghost use Rattle.alp_tables.specs.declared.file_slot.FileSlot.{FileSlot as ASlot};
 ghost use Rattle.alp_volume.specs.Known.{IsCatalog};
 ghost use Rattle.alp_volume.specs.Undone.{LeadsOn, with_file, with_owner, with_place, with_row, with_slot, without_file};
 
 use crate::catalog::Catalog;
-use crate::file_slot::FileSlot;
 use crate::undo::Undo;
 use alp_base::{FileId, Name, OutOfMemory};
+use alp_tables::FileSlot;
 use alp_vault::{FILES_PER_SERVER, HEAD_PAGES, OWNERS_PER_SERVER};
 
 impl Catalog {

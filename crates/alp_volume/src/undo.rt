@@ -1,6 +1,6 @@
 //! Changes of what memory keeps, so that they can be taken back.
-use crate::file_slot::FileSlot;
 use alp_base::{FileId, Name};
+use alp_tables::FileSlot;
 
 /// A change of the catalog, with what it takes to take it back.
 #[derive(Clone, Copy)]

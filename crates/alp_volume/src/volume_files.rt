@@ -1,7 +1,7 @@
 //! Reading the files of a volume: each leader in the order of the directory, with its index pages.
 ghost use Rattle.std.specs.Prelude.{◌≡◌, ◌≤◌, ◌<◌, ◌+◌, ℕ, List, length, IsTrue, IfOk, None, Some};
 ghost use Rattle.std.specs.FinMap as map;
-ghost use Rattle.alp_volume.specs.declared.file_slot.FileSlot.{FileSlot as ASlot};
+ghost use Rattle.alp_tables.specs.declared.file_slot.FileSlot.{FileSlot as ASlot};
 ghost use Rattle.alp_pages.specs.Nodes.{LeaderOf};
 ghost use Rattle.alp_pages.specs.Pages.{entry_in};
 ghost use Rattle.alp_pages.specs.Volume.{row_of_node};

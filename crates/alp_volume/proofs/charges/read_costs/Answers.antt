@@ -2,10 +2,11 @@ use Rattle.std.specs.Prelude.{Bool, IsTrue, Ok, Option, Some, None, sum_by, opti
 use Rattle.std.specs.Option.{option_to_list}
 use Rattle.std.proofs.Common.{◌≡◌, ◌∙◌, ℕ, ◌+◌, List, [], ◌∷◌, ◌≤◌, length, length-append, refl, sym, ap, subst, arith, zero-add, add-zero, add_assoc}
 use Rattle.std.proofs.lemmas.List.Sums.{sum_by-append}
-use Rattle.alp_volume.specs.declared.cost.Cost.{Cost}
+use Rattle.alp_tables.specs.declared.cost.Cost.{Cost}
 use Rattle.alp_pages.specs.Pages.{Pages, entry_in}
 use Rattle.alp_pages.specs.Damage.{charge_in, cost_of, leader_at, entry_there}
-use Rattle.alp_volume.specs.Reached.{AreWithin, cost_to, cost_in, charge_from}
+use Rattle.alp_volume.specs.Reached.{AreWithin, cost_in, charge_from}
+use Rattle.alp_tables.specs.Costs.{cost_to}
 use Rattle.alp_volume.proofs.LoopLaws.{charge_step, charge_end, charge_all, costs_option, read_none, read_then, read_ok}
 use Rattle.alp_volume.proofs.charges.read_costs.Goals as goal
 

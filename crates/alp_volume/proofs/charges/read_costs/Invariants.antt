@@ -1,7 +1,8 @@
 use Rattle.std.specs.Prelude.{IsTrue, Ok, sum_by}
 use Rattle.std.proofs.Common.{◌≡◌, ◌≤◌, ◌+◌, ℕ, List, length}
 use Rattle.alp_pages.specs.Damage.{charge_in}
-use Rattle.alp_volume.specs.Reached.{AreWithin, cost_to, charge_from}
+use Rattle.alp_volume.specs.Reached.{AreWithin, charge_from}
+use Rattle.alp_tables.specs.Costs.{cost_to}
 use Rattle.alp_pages.specs.Reading.{HasRead}
 use Rattle.alp_volume.proofs.charges.read_costs.Given as goal
 

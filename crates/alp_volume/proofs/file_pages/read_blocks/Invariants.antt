@@ -3,7 +3,8 @@ use Rattle.std.proofs.Common.{◌≡◌, ◌≤◌, ◌/◌, ℕ, List, length}
 use Rattle.alp_base.specs.declared.ids.FileId.{FileId}
 use Rattle.alp_pages.specs.Nodes.{DataOf}
 use Rattle.alp_pages.specs.Damage.{Name, has_node}
-use Rattle.alp_volume.specs.Reached.{AreMarks, Stays, blocks_from}
+use Rattle.alp_volume.specs.Reached.{AreMarks, blocks_from}
+use Rattle.alp_tables.specs.Bits.{Stays}
 use Rattle.alp_pages.specs.Reading.{HasRead}
 use Rattle.alp_volume.proofs.LoopLaws.{Along}
 use Rattle.alp_volume.proofs.file_pages.read_blocks.Given as goal

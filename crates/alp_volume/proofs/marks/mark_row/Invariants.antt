@@ -1,7 +1,8 @@
 use Rattle.std.proofs.Common.{◌≡◌, ◌<◌, ℕ, List, length, get_or, ◌⊎◌}
 use Rattle.alp_pages.specs.Nodes.{Node}
 use Rattle.alp_pages.specs.Damage.{Name}
-use Rattle.alp_volume.specs.Reached.{AreFresh, AreMarks, Stays}
+use Rattle.alp_volume.specs.Reached.{AreFresh, AreMarks}
+use Rattle.alp_tables.specs.Bits.{Stays}
 use Rattle.alp_volume.proofs.MarkLaws.{RowLeft}
 use Rattle.alp_volume.proofs.marks.mark_row.Given as goal
 

@@ -1,7 +1,7 @@
 use Rattle.std.specs.Prelude.{Some, slice_index_or}
 use Rattle.std.specs.FinMap as map
 use Rattle.std.proofs.Common.{◌≡◌, ◌+◌, ◌/◌, List, ℕ, refl, ap, subst, ◌∙◌}
-use Rattle.alp_leader.specs.declared.leader.Leader.{Leader}
+use Rattle.alp_pages.specs.declared.leader.Leader.{Leader}
 use Rattle.alp_pages.specs.Changes.{HasSlot}
 use Rattle.alp_volume.specs.Drafts.{Changed, laid}
 use Rattle.alp_volume.proofs.FileDraft.{file_made}

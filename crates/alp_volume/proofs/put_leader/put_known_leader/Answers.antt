@@ -4,8 +4,8 @@ use Rattle.alp_base.specs.declared.key.Key.TheVariants.{Leader}
 use Rattle.alp_fields.specs.Forms.{whole}
 use Rattle.alp_files.specs.declared.cell.Cell.TheVariants as cell
 use Rattle.alp_files.specs.Edits.{Put, after}
-use Rattle.alp_leader.specs.declared.leader.Leader.{Leader as LeaderRecord}
-use Rattle.alp_leader.specs.Leader.{leader_page}
+use Rattle.alp_pages.specs.declared.leader.Leader.{Leader as LeaderRecord}
+use Rattle.alp_pages.specs.Leader.{leader_page}
 use Rattle.alp_volume.specs.Drafts.{laid}
 use Rattle.alp_pages.specs.Nodes.{LeaderOf}
 use Rattle.alp_pages.specs.Volume.{row_of_leader, row_of_node}

@@ -7,7 +7,7 @@ use Rattle.alp_files.specs.declared.cell.Cell.TheVariants as cell
 use Rattle.alp_files.specs.Edits.{Put, after}
 use Rattle.alp_volume.specs.declared.catalog.Catalog.{Catalog}
 use Rattle.alp_volume.specs.Drafts.{IsDraft, laid}
-use Rattle.alp_volume.proofs.MarkLaws.{free_within}
+use Rattle.alp_tables.proofs.FreeLaws.{free_within}
 use Rattle.alp_volume.proofs.DraftLaws.{owner_made}
 use Rattle.alp_volume.proofs.put_owner.put_new_owner.Goals as goal
 

@@ -1,6 +1,6 @@
 use Rattle.std.specs.Prelude.{Bool, IsTrue, IfOk}
 use Rattle.std.proofs.Common.{◌≡◌, ◌∙◌, List, sym, ap, subst}
-use Rattle.alp_volume.specs.declared.cost.Cost.{Cost}
+use Rattle.alp_tables.specs.declared.cost.Cost.{Cost}
 use Rattle.alp_pages.specs.Pages.{Pages}
 use Rattle.alp_pages.specs.Damage.{Name}
 use Rattle.alp_volume.specs.Reached.{AreCosts, AreOwners, IsJudged, rows_from}

@@ -1,6 +1,6 @@
 use Rattle.alp_volume.proofs.ListLaws.{few_more, added_listed}
 use Rattle.alp_volume.proofs.SizedLaws.{file_sized, places_sized}
-use Rattle.alp_volume.proofs.Tables.{files_total}
+use Rattle.alp_tables.proofs.Tables.{files_total}
 use Rattle.alp_volume.proofs.take_in.add_file.Goals as goal
 
 pub returns-clause-listed : goal.returns-clause-listed

@@ -2,7 +2,7 @@ use Rattle.std.specs.Prelude.{Bool, IsTrue, Some, None, Option, IfOk, true, fals
 use Rattle.std.proofs.Common.{◌≡◌, ◌∙◌, ◌∷◌, ℕ, List, sym, ap, subst}
 use Rattle.std.specs.List.{filter_map, enumerate_from}
 use Rattle.alp_fields.specs.Forms.{whole}
-use Rattle.alp_leader.specs.Leader.{leader_page}
+use Rattle.alp_pages.specs.Leader.{leader_page}
 use Rattle.alp_pages.specs.Nodes.{LeaderOf}
 use Rattle.alp_pages.specs.Pages.{Pages}
 use Rattle.alp_pages.specs.Volume.{row_of_node}

@@ -2,7 +2,7 @@ use Rattle.std.specs.Prelude.{Bool, IsTrue, Some, None, Option, IfOk, ◌≤◌}
 use Rattle.std.specs.FinMap as map
 use Rattle.std.proofs.Common.{◌≡◌, ◌∙◌, ◌+◌, ℕ, List, refl, sym, ap, subst, arith}
 use Rattle.alp_pages.specs.declared.entry.Entry.{Entry}
-use Rattle.alp_volume.specs.declared.file_slot.FileSlot.{FileSlot}
+use Rattle.alp_tables.specs.declared.file_slot.FileSlot.{FileSlot}
 use Rattle.alp_pages.specs.Nodes.{LeaderOf}
 use Rattle.alp_pages.specs.Pages.{Pages, entry_in}
 use Rattle.alp_pages.specs.Volume.{row_of_node}

@@ -2,8 +2,8 @@ use Rattle.std.specs.Prelude.{Option, not, is_some, true}
 use Rattle.std.proofs.Common.{◌≡◌, ◌<◌, ℕ, length, sym, ◌∙◌, ap, subst}
 use Rattle.std.proofs.lemmas.List.{length-set}
 use Rattle.alp_volume.specs.declared.undo.Undo.TheVariants as undo
-use Rattle.alp_volume.specs.declared.file_slot.FileSlot.{FileSlot}
-use Rattle.alp_volume.proofs.MarkLaws.{free_within}
+use Rattle.alp_tables.specs.declared.file_slot.FileSlot.{FileSlot}
+use Rattle.alp_tables.proofs.FreeLaws.{free_within}
 use Rattle.alp_volume.proofs.SizedLaws.{entry_sized}
 use Rattle.alp_volume.proofs.UndoLaws.{led_on, file_came}
 use Rattle.alp_volume.proofs.catalog.Catalog.take_entry.Goals as goal

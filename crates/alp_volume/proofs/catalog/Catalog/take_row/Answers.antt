@@ -1,7 +1,7 @@
 use Rattle.std.proofs.Common.{◌≡◌, ◌<◌, ℕ, subst}
 use Rattle.alp_volume.specs.declared.undo.Undo.TheVariants as undo
 use Rattle.alp_volume.proofs.DraftLaws.{new_name, owner_sized}
-use Rattle.alp_volume.proofs.MarkLaws.{free_within}
+use Rattle.alp_tables.proofs.FreeLaws.{free_within}
 use Rattle.alp_volume.proofs.UndoLaws.{led_on, owner_came}
 use Rattle.alp_volume.proofs.catalog.Catalog.take_row.Goals as goal
 

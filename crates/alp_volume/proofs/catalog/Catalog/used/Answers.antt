@@ -1,5 +1,6 @@
 use Rattle.std.proofs.Common.{arith}
-use Rattle.alp_volume.proofs.UsedLaws.{few_taken, head_used, used_taken}
+use Rattle.alp_tables.proofs.FreeLaws.{few_taken}
+use Rattle.alp_volume.proofs.UsedLaws.{head_used, used_taken}
 use Rattle.alp_volume.proofs.catalog.Catalog.used.Goals as goal
 
 pub overflow_sub-result : goal.overflow_sub-result

@@ -1,2 +1,0 @@
-pub mod LeaderLaw
-pub mod PlaceLaws

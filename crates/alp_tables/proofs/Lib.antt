@@ -1,0 +1,3 @@
+pub mod BitsLaws
+pub mod FreeLaws
+pub mod Tables
