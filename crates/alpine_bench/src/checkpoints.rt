@@ -3,7 +3,7 @@ ghost use Rattle.std.specs.Prelude.{◌≡◌, ◌≤◌, [], length, IfOk, IsTr
 ghost use Rattle.std.specs.List.{AllByRecursion};
 ghost use Rattle.alp_batch.specs.Batch.{IsBatch};
 ghost use Rattle.alp_wal.specs.State.{IsBelow};
-ghost use Rattle.alp_wal.specs.Wal.{disk_of, is_dead, IsLog, IsKnown};
+ghost use Rattle.alp_wal.specs.Wal.{disk_of, anchor_of, is_dead, IsLog, IsKnown};
 
 use crate::commits::{commit, some_batch};
 use crate::rates::{Trouble, average};
@@ -45,8 +45,10 @@ impl fmt::Display for Pace {
     }
 }
 
-fn new_log(alloc: Global, home: u32) -> Result<Wal<MemDisk>, Trouble>
+/// The log of a new volume in memory.
+pub(crate) fn new_log(alloc: Global, home: u32) -> Result<Wal<MemDisk>, Trouble>
     requires { (512 ≤ home) × (home ≤ 65536) }
+    ensures home { IfOk result (λ log. (anchor_of log).sizes.home ≡ home) }
     ensures log { IfOk result (λ log. IsLog (⟦<MemDisk as Disk>⟧.size (disk_of log)) log) }
     ensures known { IfOk result (λ log. IsKnown (⟦<MemDisk as Disk>⟧.size (disk_of log)) (⟦<MemDisk as Disk>⟧.seen (disk_of log)) (⟦<MemDisk as Disk>⟧.may_leave (disk_of log)) log) }
 {

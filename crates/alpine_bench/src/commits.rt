@@ -73,7 +73,8 @@ impl fmt::Display for Rates {
     }
 }
 
-fn new_file<R: Files<File = File>>(rt: &R, path: &str) -> Result<File, Trouble> {
+/// An empty file of that name.
+pub(crate) fn new_file<R: Files<File = File>>(rt: &R, path: &str) -> Result<File, Trouble> {
     let mut options = OpenOptions::new();
     options.read(true).write(true).create(true).truncate(true);
     Ok(options.open(rt, path)?)
@@ -171,8 +172,8 @@ fn commit_often<C: Clock>(
     rate_since(clock, start, u64::from(count))
 }
 
-// Appends the bytes so often, each time with a sync. Answers appends a second.
-fn append_often<C: Clock>(
+/// Appends the bytes so often, each time with a sync. Answers appends a second.
+pub(crate) fn append_often<C: Clock>(
     clock: &C,
     file: File,
     bytes: &[u8],

@@ -1,5 +1,5 @@
 //! Asks and releases at a lock table on which another transaction, or the asker itself, holds many resources.
-use crate::rates::{Trouble, average, rate_since};
+use crate::rates::{Trouble, rate_since};
 use alp_base::{Choice, FileId, Key, OutOfMemory, Resource, TransId};
 use alp_locks::{Grant, LockTable, Request};
 use alp_modes::Mode;
@@ -104,25 +104,25 @@ fn rate<C: Clock>(
     rate_since(clock, start, granted)
 }
 
-// How many nanoseconds an ask for more takes, on an average, where the asker holds so many. Only what was granted counts.
+// How many nanoseconds an ask for more takes where the asker holds so many: the middle one of all times, so that what the
+// machine does beside it counts little. Only what was granted counts.
 fn time_of_more<C: Clock>(
     clock: &C,
     alloc: Global,
     table: &mut LockTable,
     held: u32,
 ) -> Result<u128, Trouble> {
-    let mut granted = 0u128;
-    let mut nanoseconds = 0u128;
+    let mut times = Vec::new(alloc);
     for _ in 0..ROUNDS_OF_MORE {
         ask(alloc, table, ASKER, (0, held))?;
         let start = Instant::now(clock)?;
         if ask(alloc, table, ASKER, (held, held.saturating_add(MORE)))? {
-            nanoseconds = nanoseconds.saturating_add(start.elapsed(clock)?.as_nanos());
-            granted = granted.saturating_add(1);
+            times.push(start.elapsed(clock)?.as_nanos())?;
         }
         table.release_all(ASKER);
     }
-    average(nanoseconds, granted).ok_or(Trouble::NoTime)
+    times.sort()?;
+    times.get(times.len() / 2).copied().ok_or(Trouble::NoTime)
 }
 
 /// The rates where another transaction holds so many resources, and where none does.

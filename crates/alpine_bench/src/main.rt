@@ -1,12 +1,14 @@
 //! The program `alpine_bench`: how fast the monitor, the lock table, the frames, the volume and the log are on this machine.
 #![tactic(auto)]
 
+mod buffers;
 mod checkpoints;
 mod commits;
 mod frames;
 mod locks;
 mod monitor;
 mod rates;
+mod stores;
 mod volumes;
 mod words;
 
@@ -80,6 +82,10 @@ fn run<R: Runtime + Files<File = File> + Threads + Wait + Sync>(
                 print!(rt; "{rates}")?;
             }
             Ok(())
+        }
+        Some(Command::Store { plan }) => {
+            let rates = stores::measure(rt, alloc, &plan)?;
+            Ok(print!(rt; "{rates}")?)
         }
     }
 }

@@ -1,5 +1,6 @@
 //! What the words of a call ask for.
 use crate::commits::Plan;
+use crate::stores;
 
 pub(crate) const USAGE: &str = "\
 usage: alpine_bench COMMAND
@@ -17,6 +18,11 @@ usage: alpine_bench COMMAND
                    new volume of PAGES home pages (512 to 65536) in a file in FOLDER, beside appends
                    of as many bytes to another file, each with a sync; first in an area that needs no
                    checkpoint, then in areas of 64, 512 and 2048 pages, with their checkpoints
+  store FOLDER COUNT PAGES
+                   commits a second of PAGES pages (1 to 16), COUNT of them (1 to 100000), to a store on
+                   a new volume in a file in FOLDER, beside appends of as many pages to another file,
+                   each with a sync; fetches a second of pages in memory, and the time of a copy out of
+                   a page buffer beside a plain one
 ";
 
 // How many threads may be asked for.
@@ -24,6 +30,9 @@ const MOST_THREADS: u32 = 16;
 
 // How many commits may be asked for: so many records of 16 pages fit an area.
 const MOST_COMMITS: u32 = 227;
+
+// How many commits to a store may be asked for, which makes checkpoints as it needs them.
+const MOST_STORED: u32 = 100000;
 
 #[derive(Drop)]
 pub(crate) enum Command<'a> {
@@ -34,6 +43,7 @@ pub(crate) enum Command<'a> {
     Checkpoint,
     Volume,
     Log { plan: Plan<'a> },
+    Store { plan: stores::Plan<'a> },
 }
 
 /// The command that the words after the program's name are, if they are one.
@@ -62,6 +72,21 @@ pub(crate) fn read_words<'a>(words: &[&'a str]) -> Option<Command<'a>> {
                     folder,
                     commits,
                     home,
+                },
+            })
+        }
+        ["store", folder, count, pages] => {
+            let commits = count.parse().ok()?;
+            let pages = pages.parse().ok()?;
+            let are_within = 0 < commits && commits <= MOST_STORED;
+            if !are_within || pages == 0 || stores::MOST_PAGES < pages {
+                return None;
+            }
+            Some(Command::Store {
+                plan: stores::Plan {
+                    folder,
+                    commits,
+                    pages,
                 },
             })
         }
