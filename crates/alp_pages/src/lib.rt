@@ -38,6 +38,3 @@ pub use leader_read::decode_leader;
 pub use leader_write::encode_leader;
 pub use owners::{OWNER_PAGES, OwnerRow, ROWS_PER_PAGE, owner_at, set_owner};
 pub use reader::PageReader;
-
-#[cfg(test)]
-mod tests;

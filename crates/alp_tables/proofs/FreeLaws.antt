@@ -7,14 +7,12 @@ use Rattle.std.proofs.lemmas.List.Sums.{count_by-le-length, sum_by-set}
 use Rattle.std.proofs.lemmas.List.Folds.{sum_by-replicate}
 use Rattle.alp_tables.specs.Bits.{count_set}
 
-pub none_taken : (n : ℕ) → count_set (replicate n false) ≡ 0
-none_taken n = omega (arith, sum_by-replicate (λ (b : Bool). cond b 1 0) n false)
+-- one for a flag that is set
+abbrev one_if : Bool → ℕ
+one_if b = cond b 1 0
 
 pub one_taken : (xs : List Bool) (p : ℕ) → p < length xs → slice_index_or xs p true ≡ false → count_set (slice_set xs p true) ≡ count_set xs + 1
-one_taken xs p within free = let was : cond (slice_index_or xs p true) 1 0 ≡ 0 = ap (λ (b : Bool). cond b 1 0) free in omega (arith, sum_by-set (λ (b : Bool). cond b 1 0) xs p true true within, was)
-
-pub one_freed : (xs : List Bool) (p : ℕ) → p < length xs → slice_index_or xs p true ≡ true → count_set (slice_set xs p false) + 1 ≡ count_set xs
-one_freed xs p within taken = let was : cond (slice_index_or xs p true) 1 0 ≡ 1 = ap (λ (b : Bool). cond b 1 0) taken in omega (arith, sum_by-set (λ (b : Bool). cond b 1 0) xs p false true within, was)
+one_taken xs p within free = let was : one_if (slice_index_or xs p true) ≡ 0 = ap one_if free in omega (arith, sum_by-set one_if xs p true true within, was)
 
 pub few_taken : (xs : List Bool) → count_set xs ≤ length xs
 few_taken xs = count_by-le-length (λ (b : Bool). b) xs

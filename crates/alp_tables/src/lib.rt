@@ -23,6 +23,3 @@ pub use files::FileTable;
 pub use free::Free;
 pub use owner_table::OwnerTable;
 pub use sheets::Sheets;
-
-#[cfg(test)]
-mod tests;

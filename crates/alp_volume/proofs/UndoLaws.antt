@@ -17,21 +17,21 @@ use Rattle.alp_tables.specs.declared.file_slot.FileSlot.{FileSlot}
 use Rattle.alp_volume.specs.declared.undo.Undo.{Undo}
 use Rattle.alp_volume.specs.declared.undo.Undo.TheVariants.{PlaceTaken, PlaceFreed, FileKept, FileCame, FileWent, OwnerCame}
 use Rattle.alp_volume.specs.Reached.{Files, Owners}
-use Rattle.alp_volume.specs.Undone.{CanUndo, Leads, LeadsOn, undo_one}
+use Rattle.alp_volume.specs.Undone.{AreTakenBelow, CanUndo, Leads, LeadsOn, TookLowest, undo_one}
 use Rattle.alp_tables.proofs.FreeLaws.{free_within}
 use Rattle.alp_tables.proofs.Tables.{files_total}
 
 -- ---- the list of changes
 
 -- one change more
-pub push_leads : (us : List Undo) (u : Undo) (old new first : Catalog) → Leads us old first → CanUndo u new → undo_one u new ≡ old → Leads (us ++ u ∷ []) new first
-push_leads [] u old new first led can back = (new, refl, can, back ∙ led)
-push_leads (x ∷ us) u old new first led can back = (led.0, push_leads us u old new led.0 led.1 can back, led.2, led.3)
+pub push_leads : (us : List Undo) (u : Undo) (old new first : Catalog) → Leads us old first → CanUndo u new → undo_one u new ≡ old → TookLowest u old → Leads (us ++ u ∷ []) new first
+push_leads [] u old new first led can back low = (new, refl, can, back ∙ led, subst (TookLowest u) led low)
+push_leads (x ∷ us) u old new first led can back low = (led.0, push_leads us u old new led.0 led.1 can back low, led.2, led.3, led.4)
 
 -- the last of them
 pub pop_leads : (us : List Undo) (u : Undo) (new first : Catalog) → Leads (us ++ u ∷ []) new first → CanUndo u new × Leads us (undo_one u new) first
 pop_leads [] u new first led = (subst (CanUndo u) (sym led.1) led.2, ap (undo_one u) led.1 ∙ led.3)
-pop_leads (x ∷ us) u new first led = (let rest = pop_leads us u new led.0 led.1 in (rest.0, (led.0, rest.1, led.2, led.3)))
+pop_leads (x ∷ us) u new first led = (let rest = pop_leads us u new led.0 led.1 in (rest.0, (led.0, rest.1, led.2, led.3, led.4)))
 
 pub led_on : (us reserved now : List Undo) (u : Undo) (c first : Catalog) → reserved ≡ us → now ≡ reserved ++ u ∷ [] → Leads (us ++ u ∷ []) c first → Leads now c first
 led_on us reserved now u c first same pushed led = subst (λ (xs : List Undo). Leads xs c first) (sym (pushed ∙ ap (λ (xs : List Undo). xs ++ u ∷ []) same)) led
@@ -78,33 +78,37 @@ module _ {K X : Type 0} {R : K → K → Ordering} (total : IsTotalOrder R) (exa
 
 module _ (us : List Undo) (c : Catalog) where
   -- the lowest place is taken
-  pub place_taken : (p : ℕ) (places : List Bool) → slice_index_or c.places p true ≡ false → places ≡ slice_set c.places p true → LeadsOn us c (us ++ PlaceTaken p ∷ []) (record c { places = places })
-  place_taken p places free is first led =
+  pub place_taken : (p : ℕ) (places : List Bool) → slice_index_or c.places p true ≡ false → AreTakenBelow p c.places → places ≡ slice_set c.places p true → LeadsOn us c (us ++ PlaceTaken p ∷ []) (record c { places = places })
+  place_taken p places free low is first led =
       push_leads us (PlaceTaken p) c (record c { places = places }) first led
       (subst (λ (n : ℕ). p < n) (sym (ap length is ∙ length-set c.places p true)) (free_within c.places p free))
       (ap (λ (xs : List Bool). record c { places = xs }) (ap (λ (xs : List Bool). slice_set xs p false) is ∙ taken_back c.places p free))
+      low
 
   pub place_freed : (p : ℕ) (places : List Bool) → p < length c.places → slice_index_or c.places p true ≡ true → places ≡ slice_set c.places p false → LeadsOn us c (us ++ PlaceFreed p ∷ []) (record c { places = places })
   place_freed p places within taken is first led =
       push_leads us (PlaceFreed p) c (record c { places = places }) first led
       (ap (λ (xs : List Bool). slice_index_or xs p true) is ∙ get_or-set_same c.places p false true within)
       (ap (λ (xs : List Bool). record c { places = xs }) (ap (λ (xs : List Bool). slice_set xs p true) is ∙ freed_back c.places p taken))
+      tt
 
   pub file_kept : (f : FileId) (old new : FileSlot) (files : Files) → map.get c.files f ≡ Some old → files ≡ map.insert c.files f new → LeadsOn us c (us ++ FileKept f old ∷ []) (record c { files = files })
   file_kept f old new files there is first led =
       push_leads us (FileKept f old) c (record c { files = files }) first led
       (ap (λ (m : Files). is_some (map.get m f)) is ∙ inserted_there files_total exact_files c.files f new)
       (ap (λ (m : Files). record c { files = m }) (ap (λ (m : Files). map.insert m f old) is ∙ put_back files_total exact_files c.files f new old there))
+      tt
 
-  pub file_came : (f : FileId) (x : FileSlot) (files : Files) (slots : List Bool) → map.get c.files f ≡ None → files ≡ map.insert c.files f x → slice_index_or c.slots x.slot true ≡ false → slots ≡ slice_set c.slots x.slot true
+  pub file_came : (f : FileId) (x : FileSlot) (files : Files) (slots : List Bool) → map.get c.files f ≡ None → files ≡ map.insert c.files f x → slice_index_or c.slots x.slot true ≡ false → AreTakenBelow x.slot c.slots → slots ≡ slice_set c.slots x.slot true
       → LeadsOn us c (us ++ FileCame f x.slot ∷ []) (record c { files = files; slots = slots })
-  file_came f x files slots none is free marked first led =
+  file_came f x files slots none is free low marked first led =
       push_leads us (FileCame f x.slot) c (record c { files = files; slots = slots }) first led
       (subst (λ (n : ℕ). x.slot < n) (sym (ap length marked ∙ length-set c.slots x.slot true)) (free_within c.slots x.slot free))
       (λ i. record c {
         files = (ap (λ (m : Files). map.remove m f) is ∙ remove_back files_total exact_files c.files f x none) i;
         slots = (ap (λ (xs : List Bool). slice_set xs x.slot false) marked ∙ taken_back c.slots x.slot free) i;
       })
+      low
 
   pub file_went : (f : FileId) (x : FileSlot) (files : Files) (slots : List Bool) → map.get c.files f ≡ Some x → files ≡ map.remove c.files f → map.len files < 4096 → x.slot < length c.slots → slice_index_or c.slots x.slot true ≡ true → slots ≡ slice_set c.slots x.slot false
       → LeadsOn us c (us ++ FileWent f x ∷ []) (record c { files = files; slots = slots })
@@ -115,13 +119,15 @@ module _ (us : List Undo) (c : Catalog) where
         files = (ap (λ (m : Files). map.insert m f x) is ∙ insert_back files_total exact_files c.files f x there) i;
         slots = (ap (λ (xs : List Bool). slice_set xs x.slot true) freed ∙ freed_back c.slots x.slot taken) i;
       })
+      tt
 
-  pub owner_came : (name : List ℕ) (row : ℕ) (owners : Owners) (rows : List Bool) → map.get c.owners name ≡ None → owners ≡ map.insert c.owners name row → slice_index_or c.rows row true ≡ false → rows ≡ slice_set c.rows row true
+  pub owner_came : (name : List ℕ) (row : ℕ) (owners : Owners) (rows : List Bool) → map.get c.owners name ≡ None → owners ≡ map.insert c.owners name row → slice_index_or c.rows row true ≡ false → AreTakenBelow row c.rows → rows ≡ slice_set c.rows row true
       → LeadsOn us c (us ++ OwnerCame name row ∷ []) (record c { owners = owners; rows = rows })
-  owner_came name row owners rows none is free marked first led =
+  owner_came name row owners rows none is free low marked first led =
       push_leads us (OwnerCame name row) c (record c { owners = owners; rows = rows }) first led
       (subst (λ (n : ℕ). row < n) (sym (ap length marked ∙ length-set c.rows row true)) (free_within c.rows row free))
       (λ i. record c {
         owners = (ap (λ (m : Owners). map.remove m name) is ∙ remove_back nat_list_cmp_total exact_bytes c.owners name row none) i;
         rows = (ap (λ (xs : List Bool). slice_set xs row false) marked ∙ taken_back c.rows row free) i;
       })
+      low

@@ -50,10 +50,23 @@ CanUndo (FileCame f s) c = s < length c.slots
 CanUndo (FileWent f x) c = (map.len c.files < 4096) × (map.get c.files f ≡ None) × (slice_index_or c.slots x.slot true ≡ false)
 CanUndo (OwnerCame name r) c = r < length c.rows
 
--- The changes, the last one first, are taken back to the first catalog.
+-- all numbers below that one are taken
+abbrev pub AreTakenBelow : ℕ → List Bool → Type 0
+AreTakenBelow n flags = (q : ℕ) → q < n → slice_index_or flags q true ≡ true
+
+-- the place, the entry or the row that a change took was the lowest that was free
+abbrev pub TookLowest : Undo → Catalog → Type 0
+TookLowest (PlaceTaken p) c = AreTakenBelow p c.places
+TookLowest (PlaceFreed p) c = Unit {0}
+TookLowest (FileKept f x) c = Unit {0}
+TookLowest (FileCame f s) c = AreTakenBelow s c.slots
+TookLowest (FileWent f x) c = Unit {0}
+TookLowest (OwnerCame name r) c = AreTakenBelow r c.rows
+
+-- The changes, the last one first, are taken back to the first catalog, and each took the lowest number that was free.
 abbrev pub Leads : List Undo → Catalog → Catalog → Type 0
 Leads [] c first = c ≡ first
-Leads (u ∷ us) c first = (mid : Catalog) × Leads us c mid × CanUndo u mid × (undo_one u mid ≡ first)
+Leads (u ∷ us) c first = (mid : Catalog) × Leads us c mid × CanUndo u mid × (undo_one u mid ≡ first) × TookLowest u first
 
 -- further changes, which are taken back to wherever those before were
 abbrev pub LeadsOn : List Undo → Catalog → List Undo → Catalog → Type 0

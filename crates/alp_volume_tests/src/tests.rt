@@ -8,16 +8,16 @@ mod turns;
 use alp_base::{AccessList, FileId, Key, Name, OutOfMemory, Page, PageRef, Sequence, VaultFault};
 use alp_files::{Cell, Change, OwnerRecord, Props};
 use alp_pages::{
-    Entry, Leader, PageReader, Places, clear_entry, decode_index, encode_leader, entry_at,
+    Entry, Leader, PageReader, Places, clear_entry, decode_index, decode_leader, encode_leader, entry_at,
     fetch_block, fetch_leader, fetch_owner, fetch_page, new_header, owner_at, set_entry, set_owner,
 };
-use alp_tables::{FileSlot, Free};
+use alp_tables::FileSlot;
 use alp_volume::{Catalog, Draft, plan_change, read_volume};
 use std::alloc::Global;
 use std::test::*;
 
 // The volume of docs/FORMATS.md, of 300 home pages. Each line is a home page, a place in it, and the bytes from there
-// on; the others are zeros. Page 257 is the leader of that document.
+// on; the others are zeros.
 const DUMP: &str = "\
 0 0 56 4f 4c 55 4d 45 31 01
 1 0 01 00 00 00 01 00 00 00 03
@@ -28,6 +28,21 @@ const DUMP: &str = "\
 129 33 02
 129 34 05 57 6f 72 6c 64
 129 59 05 4f 77 6e 65 72
+257 0 01
+257 1 01 00 00 00 01 00 00 00 03
+257 10 03 61 6e 6e
+257 35 01 41
+257 60 00 07
+257 62 00 00 00 00 00 00 00 02
+257 70 00 00 00 00 00 00 03 e8
+257 78 00 00 00 04
+257 82 00 00 00 02
+257 86 01
+257 87 05 57 6f 72 6c 64
+257 187 02
+257 188 05 4f 77 6e 65 72
+257 213 03 62 6f 62
+257 288 00 00 01 02
 258 0 00 00 01 03
 258 4 00 00 01 04
 259 0 68 65 6c 6c 6f
@@ -228,7 +243,7 @@ fn volume(alloc: Global) -> Result<Option<MemPages>, OutOfMemory> {
 
 #[test]
 fn pages_are_those_of_the_dump(rt: HostRuntime) -> Result<(), Fail> {
-    for at in [0, 1, 129, 259] {
+    for at in [0, 1, 129, 257, 259] {
         let page = page_made(rt.alloc(), at)
             .ok()
             .ok_or("memory")?
@@ -236,6 +251,9 @@ fn pages_are_those_of_the_dump(rt: HostRuntime) -> Result<(), Fail> {
         let bytes = dumped(DUMP, at).ok_or("a dump")?;
         assert!(rt; page.bytes() == bytes.as_slice(), "page {at}");
     }
+    let page = Page::new(dumped(DUMP, 257).ok_or("a dump")?);
+    let found = decode_leader(rt.alloc(), &page).ok().ok_or("memory")?;
+    assert!(rt; found == leader(rt.alloc()).ok().ok_or("memory")?);
     let bytes = dumped(DUMP, 258).ok_or("a dump")?;
     let mut places = decode_index(&bytes).ok_or("an index page")?;
     assert_eq!(rt; places.at(0), 259);
@@ -319,51 +337,6 @@ fn entries_and_rows_are_read_exactly(rt: HostRuntime) -> Result<(), Fail> {
 }
 
 #[test]
-fn takes_the_lowest_free_number(rt: HostRuntime) -> Result<(), Fail> {
-    let mut free = Free::new(rt.alloc(), 5).ok().ok_or("memory")?;
-    assert!(rt; free.mark(1));
-    assert!(rt; !free.mark(1));
-    assert!(rt; !free.mark(5));
-    assert_eq!(rt; free.take(), Some(0));
-    assert_eq!(rt; free.take(), Some(2));
-    assert_eq!(rt; free.len(), 5);
-    if free.len() > 1 {
-        free.release(1);
-    }
-    assert!(rt; !free.is_taken(1));
-    assert_eq!(rt; free.take(), Some(1));
-    assert_eq!(rt; free.take(), Some(3));
-    assert_eq!(rt; free.take(), Some(4));
-    assert_eq!(rt; free.take(), None);
-    Ok(())
-}
-
-// What reading gives of the volume with one byte of one page changed.
-fn read_changed(
-    alloc: Global,
-    page: u32,
-    at: usize,
-) -> Result<Option<Result<Catalog, VaultFault>>, OutOfMemory> {
-    let Some(mut pages) = volume(alloc)? else {
-        return Ok(None);
-    };
-    let Some(old) = pages.pages.get(page as usize) else {
-        return Ok(None);
-    };
-    let mut bytes = [0u8; 512];
-    bytes.copy_from_slice(old.bytes());
-    let Some(byte) = bytes.get_mut(at) else {
-        return Ok(None);
-    };
-    *byte = byte.wrapping_add(1);
-    let changed = PageRef::new(alloc, Page::new(bytes))?;
-    if let Some(place) = pages.pages.get_mut(page as usize) {
-        *place = changed;
-    }
-    Ok(Some(read_volume(alloc, &mut pages, HOME)))
-}
-
-#[test]
 fn reads_a_volume(rt: HostRuntime) -> Result<(), Fail> {
     let alloc = rt.alloc();
     let mut pages = volume(alloc).ok().ok_or("memory")?.ok_or("a volume")?;
@@ -385,137 +358,6 @@ fn reads_a_volume(rt: HostRuntime) -> Result<(), Fail> {
     assert_eq!(rt; (catalog.file_count(), catalog.owner_count()), (1, 1));
     assert!(rt; catalog.owner_names().first() == Some(&owner));
     assert!(rt; catalog.has_block(FILE, 0) && !catalog.has_block(FILE, 1));
-    Ok(())
-}
-
-// A page, a place in it, and the page that is damaged where the byte there is one more; none where the pages stand for
-// other cells then. The first and the last byte of each field, and of zeros between them.
-const EARLY: [(u32, usize, Option<u32>); 42] = [
-    (0, 0, Some(0)),
-    (0, 7, Some(0)),
-    (0, 8, Some(0)),
-    (0, 511, Some(0)),
-    // the entry of the file: its id, zeros, the place of the leader
-    (1, 0, Some(257)),
-    (1, 8, Some(257)),
-    (1, 9, Some(1)),
-    (1, 11, Some(1)),
-    (1, 12, Some(1)),
-    (1, 14, Some(1)),
-    (1, 15, Some(129)),
-    // an entry of no file
-    (1, 16, Some(1)),
-    (1, 24, Some(1)),
-    (1, 25, Some(1)),
-    (1, 31, Some(1)),
-    (1, 511, Some(1)),
-    (2, 0, Some(2)),
-    (128, 511, Some(128)),
-    // the record of the owner: name, quota, charge, list, zeros
-    (129, 0, Some(129)),
-    (129, 1, Some(129)),
-    (129, 3, Some(129)),
-    (129, 4, Some(129)),
-    (129, 24, Some(129)),
-    (129, 25, None),
-    (129, 28, None),
-    (129, 29, Some(129)),
-    (129, 32, Some(129)),
-    (129, 33, Some(129)),
-    (129, 34, Some(129)),
-    (129, 35, None),
-    (129, 40, Some(129)),
-    (129, 59, Some(129)),
-    (129, 60, None),
-    (129, 84, Some(129)),
-    (129, 133, Some(129)),
-    (129, 134, Some(129)),
-    (129, 255, Some(129)),
-    // rows of no owner
-    (129, 256, Some(129)),
-    (129, 511, Some(129)),
-    (130, 0, Some(130)),
-    (256, 256, Some(256)),
-    (256, 511, Some(256)),
-];
-
-const LATE: [(u32, usize, Option<u32>); 43] = [
-    // the leader, whose size its owner is charged for: format, id, owner, name
-    (257, 0, Some(129)),
-    (257, 1, Some(257)),
-    (257, 9, Some(257)),
-    (257, 10, Some(129)),
-    (257, 11, Some(129)),
-    (257, 14, Some(129)),
-    (257, 34, Some(129)),
-    (257, 35, Some(129)),
-    (257, 36, None),
-    (257, 37, Some(129)),
-    // type, create time, length in bytes
-    (257, 60, None),
-    (257, 61, None),
-    (257, 69, None),
-    (257, 77, None),
-    // size and high-water mark
-    (257, 78, Some(129)),
-    (257, 81, Some(129)),
-    (257, 85, None),
-    // the lists
-    (257, 86, Some(129)),
-    (257, 87, Some(129)),
-    (257, 88, None),
-    (257, 93, Some(129)),
-    (257, 187, Some(129)),
-    (257, 189, None),
-    (257, 287, Some(129)),
-    // the places of index pages, and zeros
-    (257, 288, Some(257)),
-    (257, 291, Some(259)),
-    (257, 292, Some(257)),
-    (257, 295, Some(257)),
-    (257, 415, Some(257)),
-    (257, 416, Some(129)),
-    (257, 511, Some(129)),
-    // the index page: two places, none for the next two pages, and none past the size
-    (258, 0, Some(258)),
-    (258, 2, Some(258)),
-    (258, 3, Some(258)),
-    (258, 7, None),
-    (258, 8, Some(258)),
-    (258, 11, Some(258)),
-    (258, 16, Some(258)),
-    (258, 511, Some(258)),
-    // pages of data, and one that nothing names
-    (259, 0, None),
-    (260, 511, None),
-    (261, 0, None),
-    (299, 511, None),
-];
-
-// Whether reading names that page, or none, where the byte there is one more.
-fn is_named(alloc: Global, page: u32, at: usize, wanted: Option<u32>) -> Result<bool, OutOfMemory> {
-    match read_changed(alloc, page, at)? {
-        Some(Ok(catalog)) => Ok(wanted.is_none() && catalog.files.get(FILE).is_some()),
-        Some(Err(VaultFault::Damaged { place })) => Ok(wanted == Some(place)),
-        _ => Ok(false),
-    }
-}
-
-#[test]
-fn names_the_first_damaged_page(rt: HostRuntime) -> Result<(), Fail> {
-    for (page, at, wanted) in EARLY {
-        let named = is_named(rt.alloc(), page, at, wanted).ok().ok_or("memory")?;
-        assert!(rt; named, "page {page}, byte {at}");
-    }
-    Ok(())
-}
-
-#[test]
-fn names_damage_of_files(rt: HostRuntime) -> Result<(), Fail> {
-    for (page, at, wanted) in LATE {
-        let named = is_named(rt.alloc(), page, at, wanted).ok().ok_or("memory")?;
-        assert!(rt; named, "page {page}, byte {at}");
-    }
     Ok(())
 }
 

@@ -14,7 +14,7 @@ returns-clause-back c first led =
     let x : FileSlot = record { slot = c.in-Some.slot; place = c.args.place; blocks = 0 } in
     let fresh : c.add.result ≡ true = c.add.ensures.new ∙ ap (λ (o : Option FileSlot). not (is_some o)) c.requires.new in
     led_on c.args.undos.now.items c.reserve.new.self.items c.push_reserved.new.self.items (undo.FileCame f c.in-Some.slot) (record c.args.self.now { files = c.add.new.self; slots = c.take.new.self }) first c.in_ok-reserve.ensures.items c.push_reserved.ensures.items
-    (file_came c.args.undos.now.items c.args.self.now f x c.add.new.self c.take.new.self c.requires.new (c.add.ensures.added fresh) c.in-Some.ensures.free c.in-Some.ensures.taken first led)
+    (file_came c.args.undos.now.items c.args.self.now f x c.add.new.self c.take.new.self c.requires.new (c.add.ensures.added fresh) c.in-Some.ensures.free c.in-Some.ensures.lowest c.in-Some.ensures.taken first led)
 
 pub returns-clause-sized : goal.returns-clause-sized
 returns-clause-sized c home within sized =

@@ -10,7 +10,7 @@ returns-clause-back c first led =
     let row = c.in-Some.row in
     let fresh = c.add.ensures.added (new_name c.args.self.now c.args.owner c.add.result c.add.ensures.new c.requires.new) in
     led_on c.args.undos.now.items c.reserve.new.self.items c.push_reserved.new.self.items (undo.OwnerCame c.args.owner row) (record c.args.self.now { owners = c.add.new.self; rows = c.take.new.self }) first c.in_ok-reserve.ensures.items c.push_reserved.ensures.items
-    (owner_came c.args.undos.now.items c.args.self.now c.args.owner row c.add.new.self c.take.new.self c.requires.new fresh c.in-Some.ensures.free c.in-Some.ensures.taken first led)
+    (owner_came c.args.undos.now.items c.args.self.now c.args.owner row c.add.new.self c.take.new.self c.requires.new fresh c.in-Some.ensures.free c.in-Some.ensures.lowest c.in-Some.ensures.taken first led)
 
 pub returns-clause-sized : goal.returns-clause-sized
 returns-clause-sized c home sized =
