@@ -99,7 +99,7 @@ known_10 = only_next ts js at_9 (entry 9) refl known_9
 entry_9 : IsLawfulEntry at_9 (entry 9)
 entry_9 = by_laws at_9 (entry 9) refl refl refl (
   acknowledges (event_of 9) at_9 trans join,
-  (forgets (event_of 9) (state_deed at_9 (Acknowledges trans join)) trans (record { from = 2; join = join; stamp = stamp; joins = join ∷ []; done = join ∷ []; told = refl; committed = refl; its = refl; all = refl }), tt),
+  (forgets (event_of 9) (state_deed at_9 (Acknowledges trans join)) trans (record { from = 2; join = join; stamp = stamp; joins = join ∷ []; before = []; told = refl; committed = refl; its = refl; missing = refl; all = refl }), tt),
 )
     (alone ts js trans at_10 known_10 refl)
     ((refl, refl), tt) (tt, tt) tt (refl, refl) tt

@@ -149,7 +149,7 @@ known_7 = only_next ts js at_6 (entry 6) refl known_6
 entry_6 : IsLawfulEntry at_6 (entry 6)
 entry_6 = by_laws at_6 (entry 6) refl refl refl (
   acknowledges (event_of 6) at_6 trans join,
-  (forgets (event_of 6) (state_deed at_6 (Acknowledges trans join)) trans (record { from = 2; join = join; stamp = later_stamp; joins = join ∷ []; done = join ∷ []; told = refl; committed = refl; its = refl; all = refl }), tt),
+  (forgets (event_of 6) (state_deed at_6 (Acknowledges trans join)) trans (record { from = 2; join = join; stamp = later_stamp; joins = join ∷ []; before = []; told = refl; committed = refl; its = refl; missing = refl; all = refl }), tt),
 )
     (alone ts js trans at_7 known_7 refl)
     ((refl, refl), (tt, tt)) (tt, tt) tt (refl, refl) tt

@@ -108,7 +108,7 @@ known_11 = only_next ts js at_10 (entry 10) refl known_10
 entry_10 : IsLawfulEntry at_10 (entry 10)
 entry_10 = by_laws at_10 (entry 10) refl refl refl (
   acknowledges (event_of 10) at_10 trans join,
-  (forgets (event_of 10) (state_deed at_10 (Acknowledges trans join)) trans (record { from = 2; join = join; stamp = stamp; joins = join ∷ []; done = join ∷ []; told = refl; committed = refl; its = refl; all = refl }), tt),
+  (forgets (event_of 10) (state_deed at_10 (Acknowledges trans join)) trans (record { from = 2; join = join; stamp = stamp; joins = join ∷ []; before = []; told = refl; committed = refl; its = refl; missing = refl; all = refl }), tt),
 )
     (alone ts js trans at_11 known_11 refl)
     ((refl, refl), tt) (tt, tt) tt (refl, refl) tt

@@ -120,7 +120,7 @@ known_13 = only_next ts js at_12 (entry 12) refl known_12
 entry_12 : IsLawfulEntry at_12 (entry 12)
 entry_12 = by_laws at_12 (entry 12) refl refl refl (
   acknowledges (event_of 12) at_12 second second_join,
-  (forgets (event_of 12) (state_deed at_12 (Acknowledges second second_join)) second (record { from = 1; join = second_join; stamp = second_stamp; joins = second_join ∷ []; done = second_join ∷ []; told = refl; committed = refl; its = refl; all = refl }), tt),
+  (forgets (event_of 12) (state_deed at_12 (Acknowledges second second_join)) second (record { from = 1; join = second_join; stamp = second_stamp; joins = second_join ∷ []; before = []; told = refl; committed = refl; its = refl; missing = refl; all = refl }), tt),
 )
     (alone ts js second at_13 known_13 refl)
     ((refl, refl), (tt, tt)) (tt, tt) tt (refl, refl) tt

@@ -56,7 +56,7 @@ known_2 = only_next ts js at_1 (entry 1) refl known_1
 entry_1 : IsLawfulEntry at_1 (entry 1)
 entry_1 = by_laws at_1 (entry 1) refl refl refl (
   acknowledges (event_of 1) at_1 trans join,
-  (forgets (event_of 1) (state_deed at_1 (Acknowledges trans join)) trans (record { from = 2; join = join; stamp = stamp; joins = join ∷ []; done = join ∷ []; told = refl; committed = refl; its = refl; all = refl }), tt),
+  (forgets (event_of 1) (state_deed at_1 (Acknowledges trans join)) trans (record { from = 2; join = join; stamp = stamp; joins = join ∷ []; before = []; told = refl; committed = refl; its = refl; missing = refl; all = refl }), tt),
 )
     (alone ts js trans at_2 known_2 refl)
     ((refl, refl), tt) (tt, tt) tt (refl, refl) tt

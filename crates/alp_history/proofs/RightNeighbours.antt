@@ -16,12 +16,12 @@ use Rattle.alp_journal.specs.Moves.{next}
 use Rattle.alp_journal.specs.Laws.{IsLawful, IsLawfulEntry}
 use Rattle.alp_history.specs.Examples.{trans, join, stamp, new, calls, first_up, vote, worker_up, restarts}
 use Rattle.alp_history.specs.RightLog.{opening, ticks}
-use Rattle.alp_history.specs.WrongJournals.{hello, begins_as, begun, first_file, creates, at_time, votes_and_decides, third_join, of_three, two_joins, votes, decides_both, one_voted, all_voted, second_join, one_registered, registers_again, committed, inquires, votes_for, hears_commit, voted, reads_bob, made, one_waits, ends, second_trans, comes_again, started_again, goes_on, applies, says_done, committed_alone, hears_done}
+use Rattle.alp_history.specs.WrongJournals.{hello, begins_as, begun, first_file, creates, at_time, votes_and_decides, third_join, of_three, two_joins, votes, decides_both, one_voted, all_voted, second_join, one_registered, registers_again, committed, acknowledged, inquires, votes_for, hears_commit, voted, reads_bob, made, one_waits, ends, second_trans, comes_again, started_again, goes_on, applies, says_done, committed_alone, hears_done}
 use Rattle.alp_history.proofs.Worked.{life_at}
 use Rattle.alp_history.proofs.Steps.{lives_there}
 use Rattle.alp_history.proofs.Named.{Only, only_deed, only_next, alone}
 use Rattle.alp_history.proofs.NamedEnds.{no_file_call, ready_found, stamps_found}
-use Rattle.alp_history.proofs.LawfulDeeds.{begins, registers, finishes, hears, decides}
+use Rattle.alp_history.proofs.LawfulDeeds.{begins, registers, finishes, hears, decides, acknowledges}
 use Rattle.alp_history.proofs.LawfulEntries.{by_laws, then_released}
 use Rattle.alp_history.proofs.LawfulDeeds as deeds
 use Rattle.alp_history.proofs.FirstUp as up
@@ -83,6 +83,26 @@ asked_how : IsLawfulEntry decided (inquires (msg.Commit trans join stamp))
 asked_how = by_laws decided (inquires (msg.Commit trans join stamp)) refl refl refl tt
     (alone ts here trans (next decided (inquires (msg.Commit trans join stamp))) (only_next ts here decided (inquires (msg.Commit trans join stamp)) refl known_decided) refl)
     ((refl, refl), (tt, tt)) ((refl, refl), tt) tt (refl, refl) tt
+
+-- the word that its join is done comes, and comes again
+word_comes : IsLawfulEntry decided (hears_done [])
+word_comes = by_laws decided (hears_done []) refl refl refl (acknowledges (hears_done []).event decided trans join, tt)
+    (alone ts here trans (next decided (hears_done [])) (only_next ts here decided (hears_done []) refl known_decided) refl)
+    ((refl, refl), (tt, tt)) tt tt (refl, refl) tt
+
+abbrev done_once : State
+done_once = next decided (hears_done [])
+
+known_done : Only ts here done_once
+known_done = only_next ts here decided (hears_done []) refl known_decided
+
+word_again : IsLawfulEntry done_once (hears_done [])
+word_again = by_laws done_once (hears_done []) refl refl refl (acknowledges (hears_done []).event done_once trans join, tt)
+    (alone ts here trans (next done_once (hears_done [])) (only_next ts here done_once (hears_done []) refl known_done) refl)
+    ((refl, refl), (tt, tt)) tt tt (refl, refl) tt
+
+pub forgets_nothing_late : IsLawful (new 1) (acknowledged ++ hears_done [] ∷ [])
+forgets_nothing_late = up.first_up_then (vote ∷ hears_done [] ∷ hears_done [] ∷ []) (one, (word_comes, (word_again, tt)))
 
 pub decides_and_says : IsLawful (new 1) (first_up ++ vote ∷ [])
 decides_and_says = up.first_up_then (vote ∷ []) (one, tt)

@@ -350,7 +350,7 @@ known_22 = only_next ts js at_21 (entry 21) refl known_21
 entry_21 : IsLawfulEntry at_21 (entry 21)
 entry_21 = by_laws at_21 (entry 21) refl refl refl (
   acknowledges (event_of 21) at_21 trans join,
-  (forgets (event_of 21) (state_deed at_21 (Acknowledges trans join)) trans (record { from = 2; join = join; stamp = stamp; joins = join ∷ []; done = join ∷ []; told = refl; committed = refl; its = refl; all = refl }), tt),
+  (forgets (event_of 21) (state_deed at_21 (Acknowledges trans join)) trans (record { from = 2; join = join; stamp = stamp; joins = join ∷ []; before = []; told = refl; committed = refl; its = refl; missing = refl; all = refl }), tt),
 )
     (alone ts js third at_22 known_22 refl)
     ((refl, refl), tt) (tt, tt) tt (refl, refl) tt

@@ -251,7 +251,7 @@ known_15 = only_next ts js at_14 (entry 14) refl known_14
 entry_14 : IsLawfulEntry at_14 (entry 14)
 entry_14 = by_laws at_14 (entry 14) refl refl refl (
   acknowledges (event_of 14) at_14 second second_join,
-  (forgets (event_of 14) (state_deed at_14 (Acknowledges second second_join)) second (record { from = 1; join = second_join; stamp = second_stamp; joins = second_join ∷ []; done = second_join ∷ []; told = refl; committed = refl; its = refl; all = refl }), tt),
+  (forgets (event_of 14) (state_deed at_14 (Acknowledges second second_join)) second (record { from = 1; join = second_join; stamp = second_stamp; joins = second_join ∷ []; before = []; told = refl; committed = refl; its = refl; missing = refl; all = refl }), tt),
 )
     (alone ts js second at_15 known_15 refl)
     ((refl, refl), (tt, tt)) (tt, tt) tt (refl, refl) tt

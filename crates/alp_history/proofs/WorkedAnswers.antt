@@ -177,12 +177,16 @@ s4 = next s2 registers
 registers_says : says s2 registers ≡ flat_map sent_by registers.acts
 registers_says = refl
 
--- another client's join is refused, and so are one of this server and one of none
+-- another client's join is refused
 register_other : says s2 (arrives 2 (msg.Register trans join 2) []) ≡ (2, msg.JoinRefused trans join) ∷ []
 register_other = refl
 
-register_here : says s2 (arrives 2 (msg.Register trans (record { server = 1; epoch = 1; counter = 1 }) 1) []) ≡ (1, msg.JoinRefused trans (record { server = 1; epoch = 1; counter = 1 })) ∷ []
+-- to this server itself nothing is said, and nothing to one that is none of the run
+register_here : says s2 (arrives 2 (msg.Register trans (record { server = 1; epoch = 1; counter = 1 }) 1) []) ≡ []
 register_here = refl
+
+register_nobody : says s2 (arrives 2 (msg.Register trans (record { server = 9; epoch = 1; counter = 1 }) 1) []) ≡ []
+register_nobody = refl
 
 -- it is answered to the server that drew it, whoever brought it
 register_astray : says s2 (arrives 3 (msg.Register trans join 1) []) ≡ (2, msg.Joined trans join) ∷ []

@@ -1,7 +1,8 @@
 -- what each wrong journal breaks
 use Rattle.std.specs.Prelude.{ℕ, true, false, None, Some}
-use Rattle.std.proofs.Common.{◌≡◌, List, [], ◌∷◌, ◌++◌, refl, sym, ap, ◌∙◌, arith, inl, inr}
+use Rattle.std.proofs.Common.{◌≡◌, List, [], ◌∷◌, ◌++◌, drop, refl, sym, ap, ◌∙◌, arith, inl, inr}
 use Rattle.alp_base.specs.declared.ids.FileId.{FileId}
+use Rattle.alp_base.specs.declared.ids.JoinNo.{JoinNo}
 use Rattle.alp_base.specs.declared.ids.TransId.{TransId}
 use Rattle.alp_files.specs.declared.reply.Reply.TheVariants as reply
 use Rattle.alp_files.specs.declared.reply.Ended.TheVariants as ending
@@ -12,7 +13,7 @@ use Rattle.alp_journal.specs.declared.message.Message.TheVariants as msg
 use Rattle.alp_journal.specs.declared.entry.Entry.{Entry}
 use Rattle.alp_journal.specs.Along.{Along, state_after}
 use Rattle.alp_journal.specs.Ids.{has_join, has_server}
-use Rattle.alp_journal.specs.Coordinator.{joins_of, votes_in}
+use Rattle.alp_journal.specs.Coordinator.{Fate, Committed, has_all, joins_of, votes_in}
 use Rattle.alp_journal.specs.State.{State, opened}
 use Rattle.alp_journal.specs.Moves.{next}
 use Rattle.alp_journal.specs.Laws.{IsLawful, IsLawfulEntry, latest_vote}
@@ -22,7 +23,7 @@ use Rattle.alp_history.specs.Examples.{trans, join, new, first_up, worker_up, re
 use Rattle.alp_history.proofs.Worked.{life_at}
 use Rattle.alp_history.proofs.Named.{Only, only_after, alone_other}
 use Rattle.alp_history.proofs.Steps.{lives_there}
-use Rattle.alp_history.specs.WrongJournals.{AreRefused, hello, begun, second_trans, later_file, begins_as, creates, votes_and_decides, of_three, two_joins, votes, decides_both, one_voted, all_voted, second_join, one_registered, registers_again, committed, inquires, decides_at, votes_for, hears_commit, voted, reads_bob, made, one_waits, ends, comes_again, started_again, goes_on, decides_for, applies, says_done, committed_alone, hears_done, stops_idly}
+use Rattle.alp_history.specs.WrongJournals.{AreRefused, hello, begun, second_trans, later_file, begins_as, creates, votes_and_decides, of_three, two_joins, votes, decides_both, one_voted, all_voted, second_join, one_registered, registers_again, committed, acknowledged, inquires, decides_at, votes_for, hears_commit, voted, reads_bob, made, one_waits, ends, comes_again, started_again, goes_on, decides_for, applies, says_done, committed_alone, hears_done, stops_idly}
 use Rattle.alp_history.proofs.RightNeighbours as right
 
 -- the last entry of a lawful journal is lawful in the state before it
@@ -74,6 +75,19 @@ joinless h =
     let m = (last _ committed_alone _ h).deeds.0.forgetting in
     let none : [] ≡ m.joins = ap joins_of m.committed in
     let wrong : false ≡ true = ap (has_join m.join) none ∙ m.its in
+    cc
+
+-- the joins that have said that they are done
+abbrev done_in : Fate → List JoinNo
+done_in (Committed x js ds) = ds
+done_in f = []
+
+late : IsLawful (new 1) (acknowledged ++ hears_done (act.Forgot trans ∷ []) ∷ []) → ⊥
+late h =
+    let m = (last _ acknowledged _ h).deeds.1.0.forgetting in
+    let joins : join ∷ [] ≡ m.joins = ap joins_of m.committed in
+    let before : join ∷ [] ≡ m.before = ap (λ (f : Fate). drop 1 (done_in f)) m.committed in
+    let wrong : true ≡ false = ap (λ (js : List JoinNo). has_all js (join ∷ [])) before ∙ ap (has_all m.before) joins ∙ m.missing in
     cc
 
 aborted : IsLawful (new 1) (committed ++ inquires (msg.Abort trans join cause.Asked) ∷ []) → ⊥
@@ -145,6 +159,7 @@ refused = record {
   tick = record { lawful = right.ticks_idly; unlawful = tick };
   second = record { lawful = right.refuses_a_second_join; unlawful = second };
   joinless = record { lawful = right.forgets_no_joinless; unlawful = joinless };
+  late = record { lawful = right.forgets_nothing_late; unlawful = late };
   aborted = record { lawful = right.says_the_commit; unlawful = aborted };
   clock = record { lawful = right.votes_after_the_clock; unlawful = clock };
   alive = record { lawful = right.says_nothing_alive; unlawful = alive };

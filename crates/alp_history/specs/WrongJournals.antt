@@ -120,6 +120,10 @@ hears_done acts = arrives 2 (msg.Done trans join) acts
 abbrev pub committed : List Entry
 committed = first_up ++ vote ∷ []
 
+-- the word of its one join came, and nothing came of it
+abbrev pub acknowledged : List Entry
+acknowledged = committed ++ hears_done [] ∷ []
+
 abbrev pub inquires : Message → Entry
 inquires m = arrives 2 (msg.Inquire trans join) (act.Sent 2 m ∷ [])
 
@@ -203,6 +207,8 @@ pub record AreRefused : Type 0 where
   pub second : AreToldApart (new 1) one_registered (registers_again (act.Sent 2 (msg.JoinRefused trans second_join) ∷ [])) (registers_again (act.Registered trans second_join ∷ act.Sent 2 (msg.Joined trans second_join) ∷ []))
   -- a decision without joins leaves nothing to forget
   pub joinless : AreToldApart (new 1) committed_alone (hears_done []) (hears_done (act.Forgot trans ∷ []))
+  -- and one with joins is forgotten at the last word that was missing, and not when a word comes again
+  pub late : AreToldApart (new 1) acknowledged (hears_done []) (hears_done (act.Forgot trans ∷ []))
   -- of what is committed no abort is said
   pub aborted : AreToldApart (new 1) committed (inquires (msg.Commit trans join stamp)) (inquires (msg.Abort trans join cause.Asked))
   -- the vote is for the time after the clock

@@ -156,11 +156,17 @@ FitsJournal journal = (i : ℕ) (e : Entry) → slice_get journal i ≡ Some e �
 abbrev pub IsAnswered : Start → List Entry → Type 0
 IsAnswered o journal = Along next IsAnsweredSo (opened o) journal × FitsJournal journal
 
--- An entry that shows that the device failed: a call is answered so, a vote says so to another server, this server's own vote
--- ends a transaction so, or a write failed.
-abbrev pub is_fault_reply : Option Reply → Bool
-is_fault_reply (Some (reply.Refused refusal.ReadFault)) = true
-is_fault_reply r = false
+-- A reply that shows that a read of this server's device failed: in the call itself, or at its own vote on the transaction.
+abbrev pub is_fault_reply : ℕ → Option Reply → Bool
+is_fault_reply here (Some (reply.Refused refusal.ReadFault)) = true
+is_fault_reply here (Some (reply.Refused (refusal.Aborted (cause.Voted server why.ReadFault)))) = server == here
+is_fault_reply here r = false
+
+-- An entry that shows that the device failed in it: a call is answered so, a vote says so to another server, this server's own
+-- vote ends a transaction so, or a write failed. A reply may also tell of an own vote that an earlier entry cast.
+abbrev pub is_read_fault : Option Reply → Bool
+is_read_fault (Some (reply.Refused refusal.ReadFault)) = true
+is_read_fault r = false
 
 abbrev pub is_fault_act : Act → Bool
 is_fault_act (act.Sent to (msg.No t j why.ReadFault)) = true
@@ -172,4 +178,4 @@ is_fault_deed here (Ends t client (cause.Voted server why.ReadFault)) = server =
 is_fault_deed here d = false
 
 abbrev pub shows_fault : State → Entry → Bool
-shows_fault s e = is_fault_reply e.reply || list_any is_fault_act e.acts || list_any (is_fault_deed s.holder.server) (event_deeds s e.event e.reply e.acts)
+shows_fault s e = is_read_fault e.reply || list_any is_fault_act e.acts || list_any (is_fault_deed s.holder.server) (event_deeds s e.event e.reply e.acts)

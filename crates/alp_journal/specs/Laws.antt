@@ -243,17 +243,18 @@ abbrev pub DecidesRight : Event → State → Deed → Type 0
 DecidesRight e s (Decides stamp joins) = MayDecide e s stamp joins
 DecidesRight e s d = Unit {0}
 
--- a decision is forgotten as a join of it says that it is done, where all of them have said so
+-- a decision is forgotten as the last of its joins says that it is done, and at no later word
 pub record MayForget (e : Event) (s : State) (t : TransId) : Type 0 where
   pub from : ℕ
   pub join : JoinNo
   pub stamp : Stamp
   pub joins : List JoinNo
-  pub done : List JoinNo
+  pub before : List JoinNo
   pub told : e ≡ event.Arrive from (msg.Done t join)
-  pub committed : s.fates t ≡ Committed stamp joins done
+  pub committed : s.fates t ≡ Committed stamp joins (join ∷ before)
   pub its : has_join join joins ≡ true
-  pub all : has_all done joins ≡ true
+  pub missing : has_all before joins ≡ false
+  pub all : has_all (join ∷ before) joins ≡ true
 
 abbrev pub ForgetsRight : Event → State → Deed → Type 0
 ForgetsRight e s (Forgets t) = MayForget e s t

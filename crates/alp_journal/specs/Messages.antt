@@ -122,7 +122,8 @@ vote_on s t j client (Some w) = msg.No t j w
 
 -- ---- a message
 
--- What answers a message goes to the server that drew the join, or that began the transaction, whoever it came from.
+-- What answers a message goes to the server that drew the join, or that began the transaction, whoever it came from; where
+-- that is no other server of the run nothing is said (`to_others`).
 
 -- only the first join of another server is let in, and of the transaction's own client
 abbrev pub may_join : State → JoinNo → ℕ → Fate → Bool
@@ -253,11 +254,16 @@ TicksInOrder e x = Unit {0}
 
 -- ---- an entry
 
+-- what goes to another server of the run. Only what no lawful server sent names this one, or one that is none of the run; and
+-- a note may, of a run that had more of them.
+abbrev pub to_others : State → List Mail → List Mail
+to_others s ms = filter (λ (a : Mail). is_other_server s a.0) ms
+
 abbrev pub due : Bool → State → State → Event → Option Reply → List Mail
 due failed s m (event.Call client epoch number c) (Some r) = if is_new s client epoch number then on_call s client c r else []
-due failed s m (event.Arrive from x) r = on_message failed s m x
+due failed s m (event.Arrive from x) r = to_others s (on_message failed s m x)
 due failed s m (event.Timeout t) r = on_timeout t (s.fates t)
-due failed s m event.Tick r = on_tick s
+due failed s m event.Tick r = to_others s (on_tick s)
 due failed s m e r = []
 
 -- nothing more is sent than is due, and nothing less, where nothing stopped
