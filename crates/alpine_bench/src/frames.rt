@@ -2,9 +2,9 @@
 ghost use Rattle.std.specs.Prelude.{◌≡◌, IfOk, length};
 ghost use Rattle.alp_rpc.specs.Frames.{IsSendable};
 
-use crate::rates::{Trouble, rate_since};
 use alp_base::{Choice, OutOfMemory, Page, PageList, PageRef, Run, TransId};
 use alp_files::Call;
+use alp_measures::rates::{Trouble, rate_since};
 use alp_rpc::{Request, decode_request, encode_request};
 use std::alloc::Global;
 use std::fmt;

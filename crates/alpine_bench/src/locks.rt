@@ -1,7 +1,7 @@
 //! Asks and releases at a lock table on which another transaction, or the asker itself, holds many resources.
-use crate::rates::{Trouble, rate_since};
 use alp_base::{Choice, FileId, Key, OutOfMemory, Resource, TransId};
 use alp_locks::{Grant, LockTable, Request};
+use alp_measures::rates::{Trouble, rate_since};
 use alp_modes::Mode;
 use alp_queue::Needs;
 use std::alloc::Global;

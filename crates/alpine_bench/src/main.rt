@@ -1,18 +1,13 @@
 //! The program `alpine_bench`: how fast the monitor, the lock table, the frames, the volume and the log are on this machine.
 #![tactic(auto)]
 
-mod buffers;
-mod checkpoints;
-mod commits;
 mod frames;
 mod locks;
 mod monitor;
-mod rates;
-mod stores;
-mod volumes;
 mod words;
 
-use rates::Trouble;
+use alp_measures::rates::Trouble;
+use alp_measures::{checkpoints, commits, stores, volumes};
 use std::alloc::Global;
 use std::fs::{File, Files};
 use std::process::ExitCode;
@@ -93,6 +88,10 @@ fn run<R: Runtime + Files<File = File> + Threads + Wait + Sync>(
 fn main(rt: HostRuntime) -> ExitCode {
     match run(&rt, rt.alloc()) {
         Ok(()) => ExitCode::SUCCESS,
+        Err(Trouble::Words) => {
+            let _ = eprint!(rt; "{USAGE}");
+            ExitCode::from(1)
+        }
         Err(trouble) => {
             let _ = eprint!(rt; "{trouble}");
             ExitCode::from(1)

@@ -3,7 +3,7 @@ ghost use Rattle.std.specs.Prelude.{◌≡◌, ◌<◌, IfOk};
 ghost use Rattle.std.specs.Thread.{IsSync};
 ghost use Rattle.alp_monitor.specs.Passes.{IsPassOf, IsOutside};
 
-use crate::rates::{Trouble, hundredths, rate_since};
+use alp_measures::rates::{Trouble, hundredths, rate_since};
 use alp_monitor::{Monitor, Pass, Story};
 use std::alloc::Global;
 use std::rt::Runtime;

@@ -1,6 +1,5 @@
 //! What the words of a call ask for.
-use crate::commits::Plan;
-use crate::stores;
+use alp_measures::{commits, stores};
 
 pub(crate) const USAGE: &str = "\
 usage: alpine_bench COMMAND
@@ -42,7 +41,7 @@ pub(crate) enum Command<'a> {
     Frames,
     Checkpoint,
     Volume,
-    Log { plan: Plan<'a> },
+    Log { plan: commits::Plan<'a> },
     Store { plan: stores::Plan<'a> },
 }
 
@@ -68,7 +67,7 @@ pub(crate) fn read_words<'a>(words: &[&'a str]) -> Option<Command<'a>> {
                 return None;
             }
             Some(Command::Log {
-                plan: Plan {
+                plan: commits::Plan {
                     folder,
                     commits,
                     home,

@@ -1,6 +1,6 @@
 use Rattle.std.proofs.Common.{◌≡◌, IsTrue, false}
 use Rattle.alp_wal.specs.Wal.{disk_of, is_dead, IsLog, IsKnown}
-use Rattle.alpine_bench.proofs.checkpoints.timed_often.Given as goal
+use Rattle.alp_measures.proofs.checkpoints.timed_often.Given as goal
 
 abbrev pub invariant-loop : goal.invariant-loop
 invariant-loop g l = record {

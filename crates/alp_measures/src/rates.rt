@@ -1,7 +1,6 @@
 //! Rates, in whole numbers a second, and what can keep a measurement from ending.
 ghost use Rattle.std.specs.Prelude.{◌≡◌, ◌*◌, ◌/◌, ◌<◌, IfSome};
 
-use crate::words::USAGE;
 use alp_base::OutOfMemory;
 use std::alloc::{AllocError, AllocFailed};
 use std::time::{Clock, Instant};
@@ -9,7 +8,7 @@ use std::{fmt, io};
 
 /// Why nothing was measured.
 #[derive(Drop)]
-pub(crate) enum Trouble {
+pub enum Trouble {
     /// The words are no command.
     Words,
     OutOfMemory,
@@ -48,7 +47,10 @@ impl From<io::Error> for Trouble {
 impl fmt::Display for Trouble {
     fn fmt<W: fmt::Write>(&self, f: &mut fmt::Formatter<W>) -> fmt::Result {
         match self {
-            Trouble::Words => write!(f, "{USAGE}"),
+            Trouble::Words => writeln!(
+                f,
+                "no such measure: call the program without words to see its commands"
+            ),
             Trouble::OutOfMemory => writeln!(
                 f,
                 "out of memory: end other programs, and measure again"
@@ -64,7 +66,7 @@ impl fmt::Display for Trouble {
 }
 
 /// How many a second, rounded down, where so many took that time.
-pub(crate) fn per_second(count: u64, nanoseconds: u128) -> Option<u128>
+pub fn per_second(count: u64, nanoseconds: u128) -> Option<u128>
     ensures { IfSome result (λ rate. (0 < nanoseconds) × (rate ≡ count * 1000000000 / nanoseconds)) }
 {
     if nanoseconds == 0 {
@@ -74,13 +76,13 @@ pub(crate) fn per_second(count: u64, nanoseconds: u128) -> Option<u128>
 }
 
 /// How many a second since that moment.
-pub(crate) fn rate_since<C: Clock>(clock: &C, start: Instant, count: u64) -> Result<u128, Trouble> {
+pub fn rate_since<C: Clock>(clock: &C, start: Instant, count: u64) -> Result<u128, Trouble> {
     let nanoseconds = start.elapsed(clock)?.as_nanos();
     per_second(count, nanoseconds).ok_or(Trouble::NoTime)
 }
 
 /// The average of so many that come to that sum, rounded down.
-pub(crate) fn average(sum: u128, count: u128) -> Option<u128>
+pub fn average(sum: u128, count: u128) -> Option<u128>
     ensures { IfSome result (λ mean. (0 < count) × (mean ≡ sum / count)) }
 {
     if count == 0 {
@@ -90,7 +92,7 @@ pub(crate) fn average(sum: u128, count: u128) -> Option<u128>
 }
 
 /// The first as hundredths of the second, rounded down.
-pub(crate) fn hundredths(first: u128, second: u128) -> Option<u128>
+pub fn hundredths(first: u128, second: u128) -> Option<u128>
     ensures { IfSome result (λ part. (0 < second) × (part ≡ first * 100 / second)) }
 {
     let all = first.checked_mul(100)?;

@@ -1,5 +1,5 @@
 use Rattle.std.proofs.Common.{◌≡◌}
-use Rattle.alpine_bench.proofs.volumes.apply.Given as goal
+use Rattle.alp_measures.proofs.volumes.apply.Given as goal
 
 abbrev pub invariant-loop-image : goal.invariant-loop-image
 invariant-loop-image l = l.pages.home ≡ l.fn.pages.home

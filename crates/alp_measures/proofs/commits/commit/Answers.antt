@@ -5,8 +5,8 @@ use Rattle.alp_base.specs.Notes.{notes_after}
 use Rattle.alp_base.specs.declared.bytes.NoteChange.{NoteChange}
 use Rattle.alp_wal.specs.Wal.{notes_of}
 use Rattle.alp_wal.proofs.Lives.{length-names}
-use Rattle.alpine_bench.proofs.Batches.{below-more}
-use Rattle.alpine_bench.proofs.commits.commit.Goals as goal
+use Rattle.alp_measures.proofs.Batches.{below-more}
+use Rattle.alp_measures.proofs.commits.commit.Goals as goal
 
 pub commit-requires-clause-suits : goal.commit-requires-clause-suits
 commit-requires-clause-suits g c =

@@ -19,30 +19,30 @@ use std::io::Write;
 use std::time::{Clock, Instant};
 
 /// How many pages a batch has.
-pub(crate) const SIZES: [u32; 2] = [1, 16];
+pub const SIZES: [u32; 2] = [1, 16];
 
 /// The pages of an area that needs no checkpoint for so many commits.
-pub(crate) const WIDE: u32 = 4096;
+pub const WIDE: u32 = 4096;
 
 /// The pages of areas that need checkpoints.
-pub(crate) const AREAS: [u32; 3] = [64, 512, 2048];
+pub const AREAS: [u32; 3] = [64, 512, 2048];
 
 // The most notes that a log may hold.
 const MOST_NOTES: usize = 65535;
 
 /// What is measured: so many commits of batches of so many pages.
 #[derive(Drop)]
-pub(crate) struct Plan<'a> {
+pub struct Plan<'a> {
     /// Where the files are made, and removed again.
-    pub(crate) folder: &'a str,
-    pub(crate) commits: u32,
+    pub folder: &'a str,
+    pub commits: u32,
     /// The home pages of the volume.
-    pub(crate) home: u32,
+    pub home: u32,
 }
 
 /// Commits and appends a second.
 #[derive(Drop)]
-pub(crate) struct Rates {
+pub struct Rates {
     area: u32,
     pages: u32,
     commits: u128,
@@ -74,7 +74,7 @@ impl fmt::Display for Rates {
 }
 
 /// An empty file of that name.
-pub(crate) fn new_file<R: Files<File = File>>(rt: &R, path: &str) -> Result<File, Trouble> {
+pub fn new_file<R: Files<File = File>>(rt: &R, path: &str) -> Result<File, Trouble> {
     let mut options = OpenOptions::new();
     options.read(true).write(true).create(true).truncate(true);
     Ok(options.open(rt, path)?)
@@ -112,7 +112,7 @@ fn some_images(alloc: Global, count: u32) -> Result<Vec<PageImage>, OutOfMemory>
 }
 
 /// Images of the first pages, and no notes.
-pub(crate) fn some_batch(alloc: Global, count: u32) -> Result<Batch, OutOfMemory>
+pub fn some_batch(alloc: Global, count: u32) -> Result<Batch, OutOfMemory>
     requires { count ≤ 16 }
     ensures batch { IfOk result IsBatch }
     ensures below { IfOk result (λ batch. AllByRecursion (IsBelow count) batch.images) }
@@ -127,7 +127,7 @@ pub(crate) fn some_batch(alloc: Global, count: u32) -> Result<Batch, OutOfMemory
 }
 
 /// Commits a batch of images of the first pages.
-pub(crate) fn commit<D: Disk>(log: &mut Wal<D>, batch: &Batch, pages: u32) -> Result<(), Trouble>
+pub fn commit<D: Disk>(log: &mut Wal<D>, batch: &Batch, pages: u32) -> Result<(), Trouble>
     requires log { IsLog (D.size (disk_of log.old)) log.old }
     requires known { IsTrue (D.tells (disk_of log.old)) → is_dead log.old ≡ false → IsKnown (D.size (disk_of log.old)) (D.seen (disk_of log.old)) (D.may_leave (disk_of log.old)) log.old }
     requires few { pages ≤ 16 }
@@ -173,7 +173,7 @@ fn commit_often<C: Clock>(
 }
 
 /// Appends the bytes so often, each time with a sync. Answers appends a second.
-pub(crate) fn append_often<C: Clock>(
+pub fn append_often<C: Clock>(
     clock: &C,
     file: File,
     bytes: &[u8],
@@ -256,7 +256,7 @@ fn rates_on<R: Files<File = File> + Clock>(
 }
 
 /// The rates for batches of so many pages in an area of so many, on two files that are removed at the end.
-pub(crate) fn measure<R: Files<File = File> + Clock>(
+pub fn measure<R: Files<File = File> + Clock>(
     rt: &R,
     alloc: Global,
     plan: &Plan<'_>,

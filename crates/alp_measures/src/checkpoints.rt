@@ -17,7 +17,7 @@ use std::fmt;
 use std::time::{Clock, Instant};
 
 /// The home pages of the volumes.
-pub(crate) const SIZES: [u32; 2] = [512, 65536];
+pub const SIZES: [u32; 2] = [512, 65536];
 
 // How many checkpoints are timed on each.
 const ROUNDS: u32 = 100;
@@ -30,7 +30,7 @@ const AREA: u32 = 64;
 
 /// The nanoseconds of a checkpoint, on an average.
 #[derive(Drop)]
-pub(crate) struct Pace {
+pub struct Pace {
     home: u32,
     nanoseconds: u128,
 }
@@ -46,7 +46,7 @@ impl fmt::Display for Pace {
 }
 
 /// The log of a new volume in memory.
-pub(crate) fn new_log(alloc: Global, home: u32) -> Result<Wal<MemDisk>, Trouble>
+pub fn new_log(alloc: Global, home: u32) -> Result<Wal<MemDisk>, Trouble>
     requires { (512 ≤ home) × (home ≤ 65536) }
     ensures home { IfOk result (λ log. (anchor_of log).sizes.home ≡ home) }
     ensures log { IfOk result (λ log. IsLog (⟦<MemDisk as Disk>⟧.size (disk_of log)) log) }
@@ -101,7 +101,7 @@ fn timed_often<D: Disk, C: Clock>(
 }
 
 /// How long a checkpoint takes on a volume of so many home pages.
-pub(crate) fn measure<C: Clock>(clock: &C, alloc: Global, home: u32) -> Result<Pace, Trouble> {
+pub fn measure<C: Clock>(clock: &C, alloc: Global, home: u32) -> Result<Pace, Trouble> {
     if home < 512 || 65536 < home {
         return Err(Trouble::Words);
     }

@@ -18,7 +18,7 @@ use std::fs::{self, File, Files};
 use std::time::{Clock, Instant};
 
 /// How many pages a commit may put.
-pub(crate) const MOST_PAGES: u32 = 16;
+pub const MOST_PAGES: u32 = 16;
 
 // The sizes of a new volume.
 const SIZES: Sizes = Sizes {
@@ -31,16 +31,16 @@ const FETCHES: u32 = 200000;
 
 /// What is measured: so many commits of so many pages.
 #[derive(Drop)]
-pub(crate) struct Plan<'a> {
+pub struct Plan<'a> {
     /// Where the files are made, and removed again.
-    pub(crate) folder: &'a str,
-    pub(crate) commits: u32,
-    pub(crate) pages: u32,
+    pub folder: &'a str,
+    pub commits: u32,
+    pub pages: u32,
 }
 
 /// Commits, appends and fetches a second.
 #[derive(Drop)]
-pub(crate) struct Rates {
+pub struct Rates {
     pages: u32,
     commits: u128,
     appends: u128,
@@ -245,7 +245,7 @@ fn rates_on<R: Files<File = File> + Clock>(
 }
 
 /// The rates of a store in a file of the folder, which is removed at the end.
-pub(crate) fn measure<R: Files<File = File> + Clock>(
+pub fn measure<R: Files<File = File> + Clock>(
     rt: &R,
     alloc: Global,
     plan: &Plan<'_>,

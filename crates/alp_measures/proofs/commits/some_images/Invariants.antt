@@ -3,7 +3,7 @@ use Rattle.std.specs.List.{AllByRecursion}
 use Rattle.alp_batch.specs.Batch.{page_below}
 use Rattle.alp_batch.specs.Rising.{is_rising}
 use Rattle.alp_wal.specs.State.{IsBelow}
-use Rattle.alpine_bench.proofs.commits.some_images.Given as goal
+use Rattle.alp_measures.proofs.commits.some_images.Given as goal
 
 abbrev pub invariant-loop-at : goal.invariant-loop-at
 invariant-loop-at l = record {

@@ -20,7 +20,7 @@ const ROUNDS: u32 = 1000000;
 
 /// The picoseconds of a copy out of a buffer, and of a plain one.
 #[derive(Drop)]
-pub(crate) struct Pace {
+pub struct Pace {
     peek: u128,
     copy: u128,
 }
@@ -95,7 +95,7 @@ fn new_pool(alloc: Global) -> Result<Pool<MemDisk>, Trouble>
 }
 
 /// How long a copy takes, out of a buffer and plain.
-pub(crate) fn measure<C: Clock>(clock: &C, alloc: Global) -> Result<Pace, Trouble> {
+pub fn measure<C: Clock>(clock: &C, alloc: Global) -> Result<Pace, Trouble> {
     let mut pool = new_pool(alloc)?;
     warm(&mut pool)?;
     let pages = some_pages(alloc)?;

@@ -21,7 +21,7 @@ use std::fmt;
 use std::time::{Clock, Instant};
 
 /// How many files, and how many home pages.
-pub(crate) const SIZES: [(u32, u32); 4] = [(10, 512), (10, 65536), (1000, 65536), (4096, 65536)];
+pub const SIZES: [(u32, u32); 4] = [(10, 512), (10, 65536), (1000, 65536), (4096, 65536)];
 
 // How many fetches are timed, and how many changes.
 const ROUNDS: u32 = 20000;
@@ -31,7 +31,7 @@ const FEW: u32 = 10;
 
 /// Fetches and changed pages a second, of all files and of few, and the microseconds to read the volume whole.
 #[derive(Drop)]
-pub(crate) struct Rates {
+pub struct Rates {
     files: u32,
     home: u32,
     fetches: u128,
@@ -372,7 +372,7 @@ fn read_all(alloc: Global, pages: &mut MemPages, home: u32) -> Result<Catalog, T
 }
 
 /// How fast a volume of so many files and home pages is.
-pub(crate) fn measure<C: Clock>(
+pub fn measure<C: Clock>(
     clock: &C,
     alloc: Global,
     files: u32,

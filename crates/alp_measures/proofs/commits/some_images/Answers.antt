@@ -4,8 +4,8 @@ use Rattle.alp_batch.specs.Batch.{page_below}
 use Rattle.alp_batch.specs.Rising.{is_rising}
 use Rattle.alp_batch.specs.declared.batch.PageImage.{PageImage}
 use Rattle.alp_wal.specs.State.{IsBelow}
-use Rattle.alpine_bench.proofs.Batches.{rising-push, below-push}
-use Rattle.alpine_bench.proofs.commits.some_images.Goals as goal
+use Rattle.alp_measures.proofs.Batches.{rising-push, below-push}
+use Rattle.alp_measures.proofs.commits.some_images.Goals as goal
 
 pub loop-at-preserved : goal.loop-at-preserved
 loop-at-preserved c =

@@ -1,0 +1,9 @@
+//! Measures of what stands on a disk: the log, the volume and the store. Nothing but the program `alpine_bench` uses them.
+#![tactic(auto)]
+
+pub mod buffers;
+pub mod checkpoints;
+pub mod commits;
+pub mod rates;
+pub mod stores;
+pub mod volumes;
