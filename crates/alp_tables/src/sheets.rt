@@ -1,6 +1,7 @@
 //! Pages that a change has made, by their places.
-ghost use Rattle.std.specs.Prelude.{◌≡◌, IfOk, OnOk, OnErr};
-ghost use Rattle.std.specs.BTreeMap.{IsOrdered};
+ghost use Rattle.std.specs.Prelude.{◌≡◌, nat_lt, IfOk, OnOk, OnErr};
+ghost use Rattle.std.specs.BTreeMap.{IsOrdered, keys};
+ghost use Rattle.std.specs.List.{list_all};
 ghost use Rattle.std.specs.Ordering.{nat_cmp};
 ghost use Rattle.std.specs.Option.{option_copied as copied};
 ghost use Rattle.std.specs.FinMap as map;
@@ -60,6 +61,13 @@ impl Sheets {
         Ok(())
     }
 
+    /// Whether all of them lie below that place.
+    pub fn are_below(&self, home: usize) -> bool
+        ensures { result ≡ list_all (λ at. nat_lt at home) (map.keys self.now) }
+    {
+        all_below(&self.pages, home)
+    }
+
     /// All of them, by rising places; the pages are shared.
     pub fn images(&self, alloc: Global) -> Result<Vec<(u32, PageRef)>, OutOfMemory>
         ensures { IfOk result (λ v. v.items ≡ map.entries self.now) }
@@ -82,4 +90,12 @@ fn images_in(
         images.push((*at, page.share()?))?;
     }
     Ok(images)
+}
+
+// Whether all keys of the tree are below that one.
+fn all_below(pages: &BTreeMap<u32, PageRef>, home: usize) -> bool
+    ensures below { result ≡ list_all (λ at. nat_lt at home) (keys pages.now) }
+    ensures rising { IsOrdered nat_cmp pages.now }
+{
+    pages.keys().all(|at| (*at as usize) < home)
 }

@@ -1,9 +1,11 @@
 -- From cells that pages stand for to those of a change.
-use Rattle.std.specs.Prelude.{true, is_some, Option, None, Some, option_map}
+use Rattle.std.specs.Prelude.{Bool, true, false, ◌&&◌, is_some, nat_lt, Option, None, Some, option_map}
+use Rattle.std.specs.List.{AllByRecursion, list_all}
 use Rattle.std.specs.FinMap as map
 use Rattle.std.specs.FinMap.{get-empty}
 use Rattle.std.specs.Ordering.{nat_cmp}
-use Rattle.std.proofs.Common.{◌≡◌, ℕ, ◌<◌, ◌≤◌, List, refl, sym, ◌∙◌, ap, subst, arith}
+use Rattle.std.proofs.Common.{◌≡◌, ℕ, ◌<◌, ◌≤◌, List, [], ◌∷◌, refl, sym, ◌∙◌, ap, subst, arith}
+use Rattle.std.proofs.lemmas.Bool.{ltb-true}
 use Rattle.alp_base.specs.declared.ids.FileId.{FileId}
 use Rattle.alp_base.specs.declared.key.Key.TheVariants.{Leader, PageOf}
 use Rattle.alp_fields.specs.Forms.{whole}
@@ -73,3 +75,13 @@ planned home base pages m change c sound d = record {
   };
   knows = d.knows;
 }
+
+-- ---- places of a plan
+
+pub below_all : (home : ℕ) (xs : List ℕ) → list_all (λ at. nat_lt at home) xs ≡ true → AllByRecursion (λ at. at < home) xs
+below_all home [] h = tt
+below_all home (x ∷ xs) h = go (λ rest. below_all home xs rest) (nat_lt x home) refl h
+  where
+    go : (list_all (λ at. nat_lt at home) xs ≡ true → AllByRecursion (λ at. at < home) xs) → (t : Bool) → nat_lt x home ≡ t → (t && list_all (λ at. nat_lt at home) xs) ≡ true → (x < home) × AllByRecursion (λ at. at < home) xs
+    go more true e rest = (ltb-true x home e, more rest)
+    go more false e rest = cc

@@ -1,5 +1,6 @@
 -- A change of a volume that is being made.
 use Rattle.std.specs.Prelude.{◌≡◌, ◌≤◌, ◌<◌, ℕ, true, is_some, List, Option, None, Some}
+use Rattle.std.specs.List.{AllByRecursion}
 use Rattle.std.specs.FinMap as map
 use Rattle.std.specs.FinMap.{FinMap}
 use Rattle.std.specs.Ordering.{nat_cmp}
@@ -26,6 +27,10 @@ page_or (Some new) old = new
 -- how many pages of a change there are beside that one
 abbrev pub len_beside : ℕ → Changed → ℕ
 len_beside p new = map.len (map.remove new p)
+
+-- all pages of a change are pages of a volume that has so many
+abbrev pub AreBelow : ℕ → Changed → Type 0
+AreBelow home new = AllByRecursion (λ at. at < home) (map.keys new)
 
 -- the pages of the change over those of the volume
 abbrev pub laid : Changed → Pages → Pages

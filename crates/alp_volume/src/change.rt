@@ -8,7 +8,7 @@ ghost use Rattle.alp_files.specs.Sound.{AreSound};
 ghost use Rattle.alp_files.specs.Undo.{puts_of};
 ghost use Rattle.alp_vault.specs.Volumes.{changed_cells, fit_keys};
 ghost use Rattle.alp_pages.specs.Changes.{cuts_of, drops_of};
-ghost use Rattle.alp_volume.specs.Drafts.{ArePaged, HaveLeaders, IsDraft, IsPlanned, laid};
+ghost use Rattle.alp_volume.specs.Drafts.{AreBelow, ArePaged, HaveLeaders, IsDraft, IsPlanned, laid};
 ghost use Rattle.alp_volume.specs.Known.{IsCatalog, Knows};
 ghost use Rattle.alp_volume.specs.Puts.{HaveLeadersPut, head_pages, heads_made, page_pages, pages_made};
 ghost use Rattle.alp_pages.specs.Reading.{HasRead};
@@ -166,11 +166,17 @@ fn make_change<R: PageReader>(
     ensures made { (m : View) → IsTrue (R.tells reader.old) → IsDraft (R.home reader.old) (laid draft.old.pages (R.pages reader.old)) m catalog.old → HaveLeaders m → ArePaged (after (edits_of change.now) m) → OnOk result (IsDraft (R.home reader.old) (laid draft.new.pages (R.pages reader.old)) (after (edits_of change.now) m) catalog.new) }
     ensures back { LeadsOn draft.old.undos.items catalog.old draft.new.undos.items catalog.new }
     ensures sized { IsCatalog (R.home reader.old) catalog.new }
+    ensures below { OnOk result (AreBelow (R.home reader.old) draft.new.pages) }
     ensures few { map.len draft.new.pages ≤ map.len draft.old.pages + 4 * changed_cells change.now }
     ensures read { HasRead R.ReadOn R.faults R.allowance reader.old reader.new result }
 {
     make_room(alloc, draft, reader, catalog, change)?;
-    make_puts(alloc, draft, reader, catalog, change.puts.as_slice())
+    make_puts(alloc, draft, reader, catalog, change.puts.as_slice())?;
+    // Pages that a reader does not tell may have changed since the volume was read, and name places outside it.
+    if !draft.pages.are_below(catalog.places.len()) {
+        return Err(VaultFault::OutOfMemory);
+    }
+    Ok(())
 }
 
 /// The pages that make a change, and what takes the catalog back. The catalog has the change at once; where it fails the
@@ -185,6 +191,7 @@ pub fn plan_change<R: PageReader>(
     requires fits { fit_keys change.now.puts ≡ true }
     requires sized { IsCatalog (R.home reader.old) catalog.old }
     ensures planned { (m : Cells) (stands : StandFor (R.home reader.old) (R.pages reader.old) m) → IsTrue (R.tells reader.old) → Knows (R.home reader.old) stands.volume catalog.old → AreSound (edits_map (edits_of change.now) m) → IfOk result (λ d. IsPlanned (R.home reader.old) (laid d.pages (R.pages reader.old)) (edits_map (edits_of change.now) m) catalog.new) }
+    ensures below { IfOk result (λ d. AreBelow (R.home reader.old) d.pages) }
     ensures few { IfOk result (λ d. map.len d.pages ≤ 4 * changed_cells change.now) }
     ensures back { IfOk result (λ d. Leads d.undos.items catalog.new catalog.old) }
     ensures same { IfErr result (λ _. catalog.new ≡ catalog.old) }
