@@ -4,6 +4,7 @@ use Rattle.std.specs.List.{list_all}
 use Rattle.std.specs.FinMap as map
 use Rattle.std.proofs.Common.{◌⊎◌, ◌≡◌, ℕ, ◌+◌, ◌-◌, ◌*◌, ◌^◌, ◌<◌, ◌≤◌, List, [], ◌∷◌, ◌++◌, length, length-append, append-nil, refl, sym, ◌∙◌, ap, subst, arith, eq-eqb}
 use Rattle.std.proofs.lemmas.Bool.{ne_eqb, ltb-true}
+use Rattle.alp_base.specs.Causes.{Rose}
 use Rattle.alp_base.specs.declared.ids.Stamp.{Stamp}
 use Rattle.alp_base.specs.declared.ids.TransId.{TransId}
 use Rattle.alp_base.specs.declared.key.Key.TheVariants.{Leader}
@@ -36,6 +37,7 @@ use Rattle.alp_journal.specs.Counts.{Intents, intent, intents_from, no_intents, 
 use Rattle.alp_journal.specs.Desk.{file_trans}
 use Rattle.alp_journal.specs.Messages.{why_not_own, first_why, full_or, no_room, clock_end, part_cells}
 use Rattle.alp_journal.specs.Answers.{at_part, part_refusal}
+use Rattle.alp_journal.specs.Answered.{IsAnsweredEntry}
 use Rattle.alp_journal.specs.Alone.{Alone, alone, AreEarlier, IsPaired}
 use Rattle.alp_journal.proofs.StampLemmas.{put-last, AreEarlier-push}
 use Rattle.alp_journal.proofs.AloneLemmas.{call_entry, call_tried}
@@ -232,10 +234,10 @@ module _ {V : Type 0} (a : Alone) (before now : ℕ) (held then : Contents) (k :
       (λ e. cc) (omega (arith, h.clock))
 
   -- what the one write of it would leave is what its answer would bring about
-  pub commit_might : IsAs a held k → IsTurn k.sessions turn → k.is_down ≡ false → k.locks.waiting ≡ [] → k.clock < 2 ^ 62 → t.server ≡ k.server → map.get k.lives t ≡ Some l → l.client ≡ turn.client
+  pub commit_might : (Rose before now → ⊥) → IsAs a held k → IsTurn k.sessions turn → k.is_down ≡ false → k.locks.waiting ≡ [] → k.clock < 2 ^ 62 → t.server ≡ k.server → map.get k.lives t ≡ Some l → l.client ≡ turn.client
       → 4 * l.bounds.puts + 28 ≤ k.sizes.area → IsWritten l.part.intents (record { epoch = k.epoch; clock = k.clock + 1 }) held then
       → MightBring (alone a) (event.Call turn.client k.epoch turn.number (call.Finish t true)) then
-  commit_might h is up idle early here live own room w =
+  commit_might none h is up idle early here live own room w =
       let acts : List Act = act.Decided stamp_at [] ∷ act.Released t ∷ [] in
       let x : Answer = record { kept = Some (reply.Committed stamp_at); handed = Some (reply.Committed stamp_at); acts = acts } in
       let s = commit_stepped x h is up idle early here live own room w.cells w.notes refl in
@@ -243,10 +245,16 @@ module _ {V : Type 0} (a : Alone) (before now : ℕ) (held then : Contents) (k :
         entry = entry_of (event.Call turn.client k.epoch turn.number (call.Finish t true)) x;
         event = refl;
         lawful = s.leads.lawful;
-        answered = (s.failed, s.leads.answered);
+        answered = subst (λ (b : Bool). IsAnsweredEntry b (alone a) (entry_of (event.Call turn.client k.epoch turn.number (call.Finish t true)) x)) (unfailed s.failed s.rose) s.leads.answered;
+        unstopped = refl;
         said = write_said a held k turn t l h is up live own (reply.Committed stamp_at) refl acts (Releases t ∷ []) then refl (λ o. refl) w
             ∙ ap (λ (n : ℕ). said_by (alone a) (record { event = event.Call turn.client n turn.number (call.Finish t true); reply = Some (reply.Committed stamp_at); acts = acts })) h.epoch;
       }
+    where
+      -- where the count of faults stood no read failed
+      unfailed : (b : Bool) → (b ≡ true → Rose before now) → b ≡ false
+      unfailed true rose = absurd (none (rose refl))
+      unfailed false rose = refl
 
 -- ---- the vault was stopped or failed
 

@@ -43,7 +43,7 @@ use Rattle.alp_node.specs.declared.sessions.Turn.{Turn}
 use Rattle.alp_node.specs.declared.served.Standing.TheVariants as standing
 use Rattle.alp_node.proofs.CallLemmas.{part_still}
 use Rattle.alp_node.proofs.CommitLemmas.{file_halt_stepped}
-use Rattle.alp_node.proofs.GivenLemmas.{reply_given, wanting}
+use Rattle.alp_node.proofs.GivenLemmas.{IsCounted, counts_fault, counts_down, reply_given, wanting}
 use Rattle.alp_node.proofs.KeptLemmas.{IsLive, live_there, same_live}
 use Rattle.alp_node.proofs.MapLemmas.{put_length, put_there, get_put}
 use Rattle.alp_node.proofs.ReadyLemmas.{counted_ready, down_ready}
@@ -150,21 +150,23 @@ module _ {V : Type 0} (G : Ghosts V) (k N : ServerState V) (t : TransId) (l : Li
     failed_step : l.client ≡ turn.client → IsTrue (G.serves N.vault) → Rose (G.faults k.vault) (G.faults N.vault)
         → IsStep G k (record (after_look p) { sessions = counted_in k.sessions turn }) (event.Call turn.client k.epoch turn.number c) (Ok (refused_answer refusal.ReadFault []))
     failed_step own on rose =
-        left_step G k (record (after_look p) { sessions = counted_in k.sessions turn }) refl refl left (event.Call turn.client k.epoch turn.number c) (refused_answer refusal.ReadFault []) up
+        left_step G k (record (after_look p) { sessions = counted_in k.sessions turn }) refl refl refl left (event.Call turn.client k.epoch turn.number c) (refused_answer refusal.ReadFault []) up
         (λ told a h. (
         let y : IsLive k.locks.held (a.locked t) t l (a.holder.lives t) = live_there k.locks.held (a.locked t) t (map.get k.lives t) (a.holder.lives t) l there (h.lives t) in
         fault_stepped a (G.faults k.vault) (G.faults N.vault) (G.held N.vault) (after_look p) turn t c y.life (refused_answer refusal.ReadFault []) (look_as a h) is up rose named (look_own own) y.is refl))
-        (reply_given (G.faults k.vault) (G.faults N.vault) (G.allowance N.vault) k.is_down (reply.Refused refusal.ReadFault) [] (refused_answer refusal.ReadFault []) refl (λ e. cc) up tt)
+        (reply_given k.server (G.faults k.vault) (G.faults N.vault) (G.allowance N.vault) k.is_down (reply.Refused refusal.ReadFault) [] (refused_answer refusal.ReadFault []) refl
+        (subst (λ (b : Bool). IsCounted k.server (G.faults k.vault) (G.faults N.vault) b (Some (reply.Refused refusal.ReadFault))) (sym up) (counts_fault k.server (G.faults k.vault) (G.faults N.vault) (Some (reply.Refused refusal.ReadFault)) refl refl left.later rose)) up tt)
         (λ n h. counted_ready n (G.serves N.vault) (after_look p) turn is (look_ready n (G.serves N.vault) on h))
 
     -- the vault was stopped: the server is down
     stopped_step : l.client ≡ turn.client → G.serves N.vault ≡ false → G.allowance N.vault ≡ Spent
         → IsStep G k (record (after_look p) { is_down = true }) (event.Call turn.client k.epoch turn.number c) (Ok (refused_answer refusal.Down (act.Stopped ∷ [])))
     stopped_step own off spent =
-        left_step G k (record (after_look p) { is_down = true }) refl refl left (event.Call turn.client k.epoch turn.number c) (refused_answer refusal.Down (act.Stopped ∷ [])) up
+        left_step G k (record (after_look p) { is_down = true }) refl refl refl left (event.Call turn.client k.epoch turn.number c) (refused_answer refusal.Down (act.Stopped ∷ [])) up
         (λ told a h. file_halt_stepped a (G.faults k.vault) (G.faults N.vault) (G.held N.vault) (G.held N.vault) (after_look p) turn t N.vault c (refused_answer refusal.Down (act.Stopped ∷ [])) (look_as a h) is up named (look_own own)
         refl)
-        (reply_given (G.faults k.vault) (G.faults N.vault) (G.allowance N.vault) true (reply.Refused refusal.Down) (act.Stopped ∷ []) (refused_answer refusal.Down (act.Stopped ∷ [])) refl (λ e. cc) refl (spent, tt))
+        (reply_given k.server (G.faults k.vault) (G.faults N.vault) (G.allowance N.vault) true (reply.Refused refusal.Down) (act.Stopped ∷ []) (refused_answer refusal.Down (act.Stopped ∷ [])) refl
+        (counts_down k.server (G.faults k.vault) (G.faults N.vault) left.later) refl (spent, tt))
         (λ n h. down_ready n true (G.serves N.vault) (after_look p) N.vault off (look_ready n true refl h))
 
   -- whatever the fault was
@@ -188,5 +190,5 @@ module _ {V : Type 0} (G : Ghosts V) (k N : ServerState V) (t : TransId) (l : Li
       let x = memory refl in
       subst (λ (y : ServerState V). IsStep G k y (event.Call turn.client k.epoch turn.number c) r) (sym x.0)
       (wanting G k N (event.Call turn.client k.epoch turn.number c) r x.1 (looked_still did.part l.bounds did.kept did.outcome (λ rs es w. w) looked.0 looked.1 looked.2 up)
-      (left_noted G k N (ap (λ (y : ServerState V). y.server) did.kept) (ap (λ (y : ServerState V). y.epoch) did.kept) looked.0 up)
-      (left_seated G k N (ap (λ (y : ServerState V). y.server) did.kept) (ap (λ (y : ServerState V). y.epoch) did.kept) looked.0) looked.0)
+      (left_noted G k N (ap (λ (y : ServerState V). y.server) did.kept) (ap (λ (y : ServerState V). y.sizes) did.kept) (ap (λ (y : ServerState V). y.epoch) did.kept) looked.0 up)
+      (left_seated G k N (ap (λ (y : ServerState V). y.server) did.kept) (ap (λ (y : ServerState V). y.sizes) did.kept) (ap (λ (y : ServerState V). y.epoch) did.kept) looked.0) looked.0)

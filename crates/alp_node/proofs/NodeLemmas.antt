@@ -217,6 +217,7 @@ module _ {V : Type 0} (G : Ghosts V) (old : NodeState V) (kept : ServerState V) 
       step_kept : IsConsistent G node_then
       step_kept = record {
         number = s.seat.same.number ∙ h.number ∙ sym s.seat.server;
+        sizes = s.seat.sizes ∙ h.sizes ∙ sym s.seat.same.sizes;
         ready = ready_then;
         noted = s.noted h.noted;
         right = λ told. subst (λ (o : Start). IsRight o (G.held kept.vault) node_then) (start_then s.seat.server) (right_then (told_before s.seat.same.telling told));
@@ -239,6 +240,7 @@ module _ {V : Type 0} (G : Ghosts V) (old : NodeState V) (kept : ServerState V) 
       still_kept : IsConsistent G node_then
       still_kept = record {
         number = s.seat.same.number ∙ h.number ∙ sym s.seat.server;
+        sizes = s.seat.sizes ∙ h.sizes ∙ sym s.seat.same.sizes;
         ready = still_ready;
         noted = s.noted h.noted;
         right = λ told. subst (λ (o : Start). IsRight o (G.held kept.vault) node_then) (start_then s.seat.server) (right_still (told_before s.seat.same.telling told));
@@ -279,10 +281,10 @@ module _ {V : Type 0} (G : Ghosts V) (old : NodeState V) (kept : ServerState V) 
   entered_still (Err f) (s, is) = record { journal = is; up = s.still.up; vault = s.still.vault }
 
   pub entered_answered : (r : Result (Option Reply) OutOfMemory) → IsConsistent G old → IsEntered G old.kept kept old.journal journal e r
-      → IfOk r (λ y. Answered (G.tells old.kept.vault) (state_of (start_in G old) old.journal) old.journal journal e y (G.faults old.kept.vault) (G.faults kept.vault) (G.allowance kept.vault) kept.is_down)
+      → IfOk r (λ y. Answered old.kept.server (G.tells old.kept.vault) (state_of (start_in G old) old.journal) old.journal journal e y (G.faults old.kept.vault) (G.faults kept.vault) (G.allowance kept.vault) kept.is_down)
   entered_answered (Ok y) h (x, s, handed, is) =
       let reply : x.kept ≡ y = sym s.given.handed ∙ handed in
-      subst (λ (z : Option Reply). Answered (G.tells old.kept.vault) (state_of (start_in G old) old.journal) old.journal journal e z (G.faults old.kept.vault) (G.faults kept.vault) (G.allowance kept.vault) kept.is_down) reply (record {
+      subst (λ (z : Option Reply). Answered old.kept.server (G.tells old.kept.vault) (state_of (start_in G old) old.journal) old.journal journal e z (G.faults old.kept.vault) (G.faults kept.vault) (G.allowance kept.vault) kept.is_down) reply (record {
         acts = x.acts;
         entry = is;
         cause = λ told. (
@@ -290,8 +292,11 @@ module _ {V : Type 0} (G : Ghosts V) (old : NodeState V) (kept : ServerState V) 
             caused_so (start_in G old) (G.held old.kept.vault) (G.held kept.vault) old node_then (G.faults old.kept.vault) (G.faults kept.vault) e x right (s.stepped told right.state right.kept)
             );
         replies = s.given.replies;
+        later = s.given.later;
+        told = s.given.told;
         still = s.given.still;
         down = s.given.down;
+        said_down = s.given.said_down;
         causes = s.given.causes;
       })
   entered_answered (Err f) h s = tt

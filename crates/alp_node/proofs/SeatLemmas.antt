@@ -49,9 +49,9 @@ module _ {V : Type 0} (G : Ghosts V) where
       seen c (inr (inl is)) = inr (inl is)
       seen c (inr (inr has)) = inr (inr (more c has))
 
-  module _ (old new : ServerState V) (server : new.server ≡ old.server) (epoch : new.epoch ≡ old.epoch) (left : IsLeft G old.vault new.vault) where
+  module _ (old new : ServerState V) (server : new.server ≡ old.server) (sizes : new.sizes ≡ old.sizes) (epoch : new.epoch ≡ old.epoch) (left : IsLeft G old.vault new.vault) where
     pub left_seated : IsSeated G old new
-    left_seated = record { server = server; epoch = epoch; same = left.same; spends = spends_same (G.allowance old.vault) (G.allowance new.vault) left.allowed }
+    left_seated = record { server = server; sizes = sizes; epoch = epoch; same = left.same; spends = spends_same (G.allowance old.vault) (G.allowance new.vault) left.allowed }
 
     pub left_noted : old.is_down ≡ false → IsNoted G old → IsNoted G new
     left_noted up h now = ap (λ (c : Contents). (clock_kept c.notes).epoch) left.contents ∙ h up ∙ sym epoch
@@ -59,7 +59,7 @@ module _ {V : Type 0} (G : Ghosts V) where
     -- a step that only looks into the vault
     pub left_step : (e : Event) (x : Answer) → old.is_down ≡ false
         → (IsTrue (G.tells old.vault) → (a : Alone) → IsAs a (G.held old.vault) old → Stepped a (G.faults old.vault) (G.faults new.vault) (G.held new.vault) new e x)
-        → IsGiven (is_call e) (G.faults old.vault) (G.faults new.vault) (G.allowance new.vault) new.is_down x
+        → IsGiven old.server (is_call e) (G.faults old.vault) (G.faults new.vault) (G.allowance new.vault) new.is_down x
         → ((n : ℕ) → IsReady n (G.serves old.vault) old → IsReady (n + 1) (G.serves new.vault) new)
         → IsStep G old new e (Ok x)
     left_step e x up stepped given ready = record {

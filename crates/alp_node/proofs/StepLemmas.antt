@@ -1,6 +1,6 @@
 -- a step whose part ended
-use Rattle.std.specs.Prelude.{Bool, true, false, IsTrue, None, Some, Ok}
-use Rattle.std.proofs.Common.{◌≡◌, ℕ, ◌+◌, List, [], ◌∷◌, refl, sym, ◌∙◌, ap, subst}
+use Rattle.std.specs.Prelude.{Bool, true, false, ◌||◌, IsTrue, None, Some, Ok}
+use Rattle.std.proofs.Common.{◌≡◌, ℕ, ◌+◌, ◌≤◌, List, [], ◌∷◌, refl, sym, ◌∙◌, ap, subst}
 use Rattle.alp_base.specs.Allowances.{Spends}
 use Rattle.alp_base.specs.declared.ids.TransId.{TransId}
 use Rattle.alp_files.specs.declared.call.Call.{Call}
@@ -14,10 +14,11 @@ use Rattle.alp_files.specs.declared.reply.Reply.{Reply}
 use Rattle.alp_journal.specs.declared.act.Act.{Act}
 use Rattle.alp_journal.specs.declared.act.Act.TheVariants as act
 use Rattle.alp_journal.specs.Moves.{is_stop}
+use Rattle.alp_journal.specs.Answered.{is_fault_reply}
 use Rattle.alp_vault.specs.Vault.{IsSameVault}
 use Rattle.alp_calls.specs.Looks.{IsLeft}
 use Rattle.alp_node.specs.Durable.{said_by, Leaves, Besides}
-use Rattle.alp_node.specs.Halts.{HaveCauses, tells_fault}
+use Rattle.alp_node.specs.Halts.{HaveCauses, says_down}
 use Rattle.alp_node.proofs.SeatLemmas.{left_alone, left_step}
 use Rattle.alp_journal.specs.declared.event.Event.TheVariants as event
 use Rattle.alp_journal.specs.Alone.{Alone, alone}
@@ -27,7 +28,7 @@ use Rattle.alp_node.specs.Steps.{Stepped, IsStep, IsTurn, counted_in, without_tr
 use Rattle.alp_node.specs.declared.answer.Answer.{Answer}
 use Rattle.alp_node.specs.declared.server_state.ServerState.{ServerState}
 use Rattle.alp_node.specs.declared.sessions.Turn.{Turn}
-use Rattle.alp_node.proofs.GivenLemmas.{reply_given, silence_given}
+use Rattle.alp_node.proofs.GivenLemmas.{IsCounted, counts_none, counts_down, reply_given, silence_given}
 use Rattle.alp_node.proofs.KeptLemmas.{as_with}
 use Rattle.alp_node.proofs.ReadyLemmas.{gone_ready, counted_ready, buried_ready, ready_with, down_ready}
 use Rattle.alp_node.specs.Dead.{without_part}
@@ -42,13 +43,13 @@ module _ {V : Type 0} (G : Ghosts V) (k : ServerState V) (v : V) where
 
   -- a part ends without effect, behind a look into the vault
   pub ended_step : (turn : Turn) (t : TransId) (c : Call) (cause : Cause) (x : Answer) (new : ServerState V) → IsLeft G k.vault v → IsTrue (G.serves v)
-      → (tells_fault (Some (reply.Refused (refusal.Aborted cause))) ≡ false → G.faults v ≡ G.faults k.vault) → IsTurn k.sessions turn → k.is_down ≡ false
+      → IsCounted k.server (G.faults k.vault) (G.faults v) k.is_down (Some (reply.Refused (refusal.Aborted cause))) → IsTurn k.sessions turn → k.is_down ≡ false
       → new ≡ ended mid turn t → x ≡ refused_answer (refusal.Aborted cause) (act.Released t ∷ [])
       → (IsTrue (G.tells k.vault) → (a : Alone) → IsAs a (G.held k.vault) k → Stepped a (G.faults k.vault) (G.faults v) (G.held k.vault) (ended k turn t) (event.Call turn.client k.epoch turn.number c) x)
       → IsStep G k new (event.Call turn.client k.epoch turn.number c) (Ok x)
-  ended_step turn t c cause x new left on quiet is up done so steps =
+  ended_step turn t c cause x new left on counted is up done so steps =
       subst (λ (y : ServerState V). IsStep G k y (event.Call turn.client k.epoch turn.number c) (Ok x)) (sym done)
-      (left_step G k (ended mid turn t) refl refl left (event.Call turn.client k.epoch turn.number c) x up
+      (left_step G k (ended mid turn t) refl refl refl left (event.Call turn.client k.epoch turn.number c) x up
       (λ told a h. (
       let s : Stepped a (G.faults k.vault) (G.faults v) (G.held k.vault) (ended k turn t) (event.Call turn.client k.epoch turn.number c) x = steps told a h in
       record {
@@ -59,12 +60,12 @@ module _ {V : Type 0} (G : Ghosts V) (k : ServerState V) (v : V) where
         kept = as_with s.next (G.held k.vault) (G.held v) (ended k turn t) v left.contents s.kept;
         clock = s.clock;
       }))
-      (reply_given (G.faults k.vault) (G.faults v) (G.allowance v) k.is_down (reply.Refused (refusal.Aborted cause)) (act.Released t ∷ []) x so quiet up tt)
+      (reply_given k.server (G.faults k.vault) (G.faults v) (G.allowance v) k.is_down (reply.Refused (refusal.Aborted cause)) (act.Released t ∷ []) x so counted up tt)
       (λ n h. ended_ready n (G.serves v) mid turn t is (ready_with n (G.serves k.vault) (G.serves v) k v on up h)))
 
 -- a step in which the vault was stopped, or failed in its commit
 module _ {V : Type 0} (G : Ghosts V) (k new : ServerState V) (v : V) where
-  pub down_step : (turn : Turn) (c : Call) (x : Answer) (acts : List Act) → IsSameVault G.tells G.volume G.server G.servers k.vault v → Spends (G.allowance k.vault) (G.allowance v) → G.serves v ≡ false
+  pub down_step : (turn : Turn) (c : Call) (x : Answer) (acts : List Act) → IsSameVault G.tells G.volume G.server G.servers k.vault v → Spends (G.allowance k.vault) (G.allowance v) → G.serves v ≡ false → G.faults k.vault ≤ G.faults v
       → new ≡ record k { is_down = true; vault = v }
       → x ≡ refused_answer refusal.Down acts → list_any is_stop acts ≡ true → HaveCauses (G.faults k.vault) (G.faults v) (G.allowance v) acts
       → (IsTrue (G.tells k.vault) → (a : Alone) → IsAs a (G.held k.vault) k
@@ -72,46 +73,46 @@ module _ {V : Type 0} (G : Ghosts V) (k new : ServerState V) (v : V) where
       → (IsTrue (G.tells k.vault) → (a : Alone) → IsAs a (G.held k.vault) k
       → Leaves G k.vault v (Besides G k.vault (λ z. z ≡ said_by (alone a) (entry_of (event.Call turn.client k.epoch turn.number c) x))))
       → IsStep G k new (event.Call turn.client k.epoch turn.number c) (Ok x)
-  down_step turn c x acts same spends off down so stop causes steps leaves =
+  down_step turn c x acts same spends off later down so stop causes steps leaves =
       subst (λ (y : ServerState V). IsStep G k y (event.Call turn.client k.epoch turn.number c) (Ok x)) (sym down) (record {
         stepped = steps;
-        given = reply_given (G.faults k.vault) (G.faults v) (G.allowance v) true (reply.Refused refusal.Down) acts x so (λ e. cc) (sym stop) causes;
+        given = reply_given k.server (G.faults k.vault) (G.faults v) (G.allowance v) true (reply.Refused refusal.Down) acts x so (counts_down k.server (G.faults k.vault) (G.faults v) later) (sym stop) causes;
         ready = λ n h. down_ready n (G.serves k.vault) (G.serves v) k v off h;
         noted = λ h e. cc;
         still = tt;
-        seat = record { server = refl; epoch = refl; same = same; spends = spends };
+        seat = record { server = refl; sizes = refl; epoch = refl; same = same; spends = spends };
         leaves = leaves;
       })
 
 -- a step that leaves the vault alone
 module _ {V : Type 0} (G : Ghosts V) (k new : ServerState V) where
-  pub plain_step : (turn : Turn) (c : Call) (x : Answer) (r : Reply) (acts : List Act) → new.vault ≡ k.vault → new.server ≡ k.server → new.epoch ≡ k.epoch → k.is_down ≡ false → new.is_down ≡ false
+  pub plain_step : (turn : Turn) (c : Call) (x : Answer) (r : Reply) (acts : List Act) → new.vault ≡ k.vault → new.server ≡ k.server → new.sizes ≡ k.sizes → new.epoch ≡ k.epoch → k.is_down ≡ false → new.is_down ≡ false → (is_fault_reply k.server (Some r) || says_down (Some r)) ≡ false
       → x ≡ record { kept = Some r; handed = Some r; acts = acts } → list_any is_stop acts ≡ false → ((before now : ℕ) (allowance : Allowance) → HaveCauses before now allowance acts)
       → ((n : ℕ) → IsReady n (G.serves k.vault) k → IsReady (n + 1) (G.serves k.vault) new)
       → (IsTrue (G.tells k.vault) → (a : Alone) → IsAs a (G.held k.vault) k → Stepped a (G.faults k.vault) (G.faults k.vault) (G.held k.vault) new (event.Call turn.client k.epoch turn.number c) x)
       → IsStep G k new (event.Call turn.client k.epoch turn.number c) (Ok x)
-  plain_step turn c x r acts vault server epoch was up so none causes ready steps =
-      left_step G k new server epoch (left_alone G k.vault new.vault vault) (event.Call turn.client k.epoch turn.number c) x was
+  plain_step turn c x r acts vault server sizes epoch was up quiet so none causes ready steps =
+      left_step G k new server sizes epoch (left_alone G k.vault new.vault vault) (event.Call turn.client k.epoch turn.number c) x was
       (λ told a h. subst (λ (v : V). Stepped a (G.faults k.vault) (G.faults v) (G.held v) new (event.Call turn.client k.epoch turn.number c) x) (sym vault) (steps told a h))
-      (reply_given (G.faults k.vault) (G.faults new.vault) (G.allowance new.vault) new.is_down r acts x so (λ _. ap G.faults vault) (up ∙ sym none) (causes (G.faults k.vault) (G.faults new.vault) (G.allowance new.vault)))
+      (reply_given k.server (G.faults k.vault) (G.faults new.vault) (G.allowance new.vault) new.is_down r acts x so (counts_none k.server (G.faults k.vault) (G.faults new.vault) new.is_down (Some r) quiet (ap G.faults vault)) (up ∙ sym none) (causes (G.faults k.vault) (G.faults new.vault) (G.allowance new.vault)))
       (λ n h. subst (λ (v : V). IsReady (n + 1) (G.serves v) new) (sym vault) (ready n h))
 
   -- the call is refused, and the session counts it
-  pub refused_step : (turn : Turn) (c : Call) (x : Answer) (f : Refusal) → IsTurn k.sessions turn → k.is_down ≡ false → new ≡ record k { sessions = counted_in k.sessions turn } → x ≡ refused_answer f []
+  pub refused_step : (turn : Turn) (c : Call) (x : Answer) (f : Refusal) → (is_fault_reply k.server (Some (reply.Refused f)) || says_down (Some (reply.Refused f))) ≡ false → IsTurn k.sessions turn → k.is_down ≡ false → new ≡ record k { sessions = counted_in k.sessions turn } → x ≡ refused_answer f []
       → (IsTrue (G.tells k.vault) → (a : Alone) → IsAs a (G.held k.vault) k → Stepped a (G.faults k.vault) (G.faults k.vault) (G.held k.vault) (record k { sessions = counted_in k.sessions turn }) (event.Call turn.client k.epoch turn.number c) x)
       → IsStep G k new (event.Call turn.client k.epoch turn.number c) (Ok x)
-  refused_step turn c x f is up same so steps =
-      plain_step turn c x (reply.Refused f) [] (ap (λ (y : ServerState V). y.vault) same) (ap (λ (y : ServerState V). y.server) same) (ap (λ (y : ServerState V). y.epoch) same) up (ap (λ (y : ServerState V). y.is_down) same ∙ up) so refl
+  refused_step turn c x f quiet is up same so steps =
+      plain_step turn c x (reply.Refused f) [] (ap (λ (y : ServerState V). y.vault) same) (ap (λ (y : ServerState V). y.server) same) (ap (λ (y : ServerState V). y.sizes) same) (ap (λ (y : ServerState V). y.epoch) same) up (ap (λ (y : ServerState V). y.is_down) same ∙ up) quiet so refl
       (λ m n b. tt) (λ n h. subst (λ (y : ServerState V). IsReady (n + 1) (G.serves k.vault) y) (sym same) (counted_ready n (G.serves k.vault) k turn is h))
       (λ told a h. subst (λ (y : ServerState V). Stepped a (G.faults k.vault) (G.faults k.vault) (G.held k.vault) y (event.Call turn.client k.epoch turn.number c) x) (sym same) (steps told a h))
 
   -- an event that is met with silence
-  pub silent_step : (t : TransId) (x : Answer) (acts : List Act) → new.vault ≡ k.vault → new.server ≡ k.server → new.epoch ≡ k.epoch → k.is_down ≡ false → new.is_down ≡ false
+  pub silent_step : (t : TransId) (x : Answer) (acts : List Act) → new.vault ≡ k.vault → new.server ≡ k.server → new.sizes ≡ k.sizes → new.epoch ≡ k.epoch → k.is_down ≡ false → new.is_down ≡ false
       → x ≡ record { kept = None; handed = None; acts = acts }
       → list_any is_stop acts ≡ false → ((before now : ℕ) (allowance : Allowance) → HaveCauses before now allowance acts) → ((n : ℕ) → IsReady n (G.serves k.vault) k → IsReady (n + 1) (G.serves k.vault) new)
       → ((a : Alone) → IsAs a (G.held k.vault) k → Stepped a (G.faults k.vault) (G.faults k.vault) (G.held k.vault) new (event.Timeout t) x) → IsStep G k new (event.Timeout t) (Ok x)
-  silent_step t x acts vault server epoch was up so none causes ready steps =
-      left_step G k new server epoch (left_alone G k.vault new.vault vault) (event.Timeout t) x was
+  silent_step t x acts vault server sizes epoch was up so none causes ready steps =
+      left_step G k new server sizes epoch (left_alone G k.vault new.vault vault) (event.Timeout t) x was
       (λ told a h. subst (λ (v : V). Stepped a (G.faults k.vault) (G.faults v) (G.held v) new (event.Timeout t) x) (sym vault) (steps a h))
-      (silence_given (G.faults k.vault) (G.faults new.vault) (G.allowance new.vault) new.is_down acts x so (ap G.faults vault) up (up ∙ sym none) (causes (G.faults k.vault) (G.faults new.vault) (G.allowance new.vault)))
+      (silence_given k.server (G.faults k.vault) (G.faults new.vault) (G.allowance new.vault) new.is_down acts x so (ap G.faults vault) up (up ∙ sym none) (causes (G.faults k.vault) (G.faults new.vault) (G.allowance new.vault)))
       (λ n h. subst (λ (v : V). IsReady (n + 1) (G.serves v) new) (sym vault) (ready n h))

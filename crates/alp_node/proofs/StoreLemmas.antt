@@ -1,7 +1,7 @@
 -- a commit that the vault was asked for beforehand
 use Rattle.std.specs.Prelude.{None, Some, Result, Ok, Err, OnOk}
 use Rattle.std.specs.FinMap as map
-use Rattle.std.proofs.Common.{◌≡◌, ℕ, List, [], ◌∷◌, sym, ◌∙◌, ap, subst, arith, inl, inr, ⊎_elim}
+use Rattle.std.proofs.Common.{◌≡◌, ℕ, ◌≤◌, List, [], ◌∷◌, sym, ◌∙◌, ap, subst, arith, inl, inr, ⊎_elim}
 use Rattle.alp_base.specs.Crashes.{Either}
 use Rattle.alp_base.specs.declared.bytes.NoteChange.{NoteChange}
 use Rattle.alp_base.specs.declared.faults.Sizes.{Sizes}
@@ -80,7 +80,7 @@ stored_clock r old mid new n changes clock same one is back made =
 -- a look that got no answer
 pub looked_ends : {V : Type 0} (G : Ghosts V) (old new : V) (f : CallFault) → Looks G old new (Some f) → Ends {T = Unit {0}} G old new (Err (look_fault f))
 looked_ends G old new call_fault.Failed h = (h.1, h.0, h.2)
-looked_ends G old new call_fault.Stopped h = (h.1, h.2)
+looked_ends G old new call_fault.Stopped h = (h.1, h.2, h.0.later)
 looked_ends G old new call_fault.OutOfMemory h = (h.1, record { held = h.0.contents; faults = h.2; allowance = h.0.allowed })
 
 -- a commit behind a look
@@ -88,8 +88,15 @@ pub ends_then : {V : Type 0} (G : Ghosts V) (old mid new : V) (r : Result (Unit 
 ends_then G old mid new (Ok x) a b = (b.0, b.1 ∙ a.2)
 ends_then G old mid new (Err store_fault.OutOfMemory) a b = (b.0, record { held = b.1.held ∙ a.0.contents; faults = b.1.faults ∙ a.2; allowance = b.1.allowance ∙ a.0.allowed })
 ends_then G old mid new (Err store_fault.Unread) a b = (b.0, left_then G old mid new a.0 b.1, omega (arith, a.2, b.2))
-ends_then G old mid new (Err store_fault.Failed) a b = (b.0, omega (arith, a.2, b.1))
-ends_then G old mid new (Err store_fault.Stopped) a b = (b.0, b.1)
+ends_then G old mid new (Err store_fault.Failed) a b = (b.0, omega (arith, a.2, b.1), omega (arith, a.2, b.2))
+ends_then G old mid new (Err store_fault.Stopped) a b = (b.0, b.1, omega (arith, a.2, b.2))
+
+-- the count of faults never falls
+pub ends_later : {V : Type 0} (G : Ghosts V) (old new : V) (f : StoreFault) → Ends {T = Unit {0}} G old new (Err f) → G.faults old ≤ G.faults new
+ends_later G old new store_fault.OutOfMemory h = omega (arith, h.1.faults)
+ends_later G old new store_fault.Unread h = h.1.later
+ends_later G old new store_fault.Failed h = h.2
+ends_later G old new store_fault.Stopped h = h.2
 
 module _ {V : Type 0} (G : Ghosts V) (old mid new : V) (left : IsLeft G old mid) (P : Contents → Type 0) where
   -- one write behind a look

@@ -12,11 +12,11 @@ use Rattle.alp_vault.specs.declared.vault.Vault.{Ghosts}
 use Rattle.alp_journal.specs.declared.event.Event.{Event}
 use Rattle.alp_journal.specs.declared.entry.Entry.{Entry}
 use Rattle.alp_journal.specs.Laws.{IsLawfulEntry}
-use Rattle.alp_journal.specs.Answered.{IsAnsweredSo}
+use Rattle.alp_journal.specs.Answered.{IsAnsweredEntry}
 use Rattle.alp_journal.specs.Along.{state_after}
 use Rattle.alp_journal.specs.Deeds.{Deed}
 use Rattle.alp_journal.specs.Holder.{Holder, holder_after}
-use Rattle.alp_journal.specs.Moves.{tried}
+use Rattle.alp_journal.specs.Moves.{tried, stops}
 use Rattle.alp_journal.specs.State.{State}
 
 -- ---- what is held
@@ -41,12 +41,13 @@ said_with s ds = stored_by s.ids.epoch (state_after holder_after s.holder ds)
 abbrev pub said_by : State → Entry → Contents
 said_by s e = said_with s (tried s e)
 
--- it is what some lawful entry for the event would bring about, which has its cause
+-- it is what some lawful entry for the event would bring about, which has its cause, and in which no read fails and nothing stops
 pub record MightBring (s : State) (e : Event) (c : Contents) : Type 0 where
   pub entry : Entry
   pub event : entry.event ≡ e
   pub lawful : IsLawfulEntry s entry
-  pub answered : IsAnsweredSo s entry
+  pub answered : IsAnsweredEntry false s entry
+  pub unstopped : stops entry ≡ false
   pub said : c ≡ said_by s entry
 
 -- it is what was held, or that

@@ -1,13 +1,11 @@
 -- What a fault of the vault comes to.
-use Rattle.std.specs.Prelude.{◌≡◌, ℕ, Bool, true, false, IsTrue, List, [], ◌∷◌, Option, Some, Result, Ok, Err}
+use Rattle.std.specs.Prelude.{◌≡◌, ℕ, ◌≤◌, Bool, true, false, IsTrue, List, [], ◌∷◌, Option, Some, Result, Ok, Err}
 use Rattle.alp_base.specs.Causes.{Rose}
 use Rattle.alp_base.specs.declared.allowance.Allowance.{Allowance}
 use Rattle.alp_base.specs.declared.allowance.Allowance.TheVariants.{Spent}
 use Rattle.alp_files.specs.declared.reply.Reply.{Reply}
 use Rattle.alp_files.specs.declared.reply.Reply.TheVariants as reply
 use Rattle.alp_files.specs.declared.refusal.Refusal.TheVariants as refusal
-use Rattle.alp_files.specs.declared.refusal.Cause.TheVariants as cause
-use Rattle.alp_files.specs.declared.refusal.Why.TheVariants as why
 use Rattle.alp_vault.specs.declared.vault.Vault.{Ghosts}
 use Rattle.alp_calls.specs.Looks.{IsLeft}
 use Rattle.alp_journal.specs.declared.act.Act.{Act}
@@ -30,20 +28,18 @@ pub record IsUncounted {V : Type 0} (G : Ghosts V) (old new : V) : Type 0 where
   pub allowance : G.allowance new ≡ G.allowance old
 
 -- How a commit ends: the vault serves on unless it failed or was stopped in it, and then not. The count of faults stays but
--- where it failed or was stopped, and a fault has its cause.
+-- where it failed or was stopped, and never falls, and a fault has its cause.
 abbrev pub Ends : {V T : Type 0} → Ghosts V → V → V → Result T StoreFault → Type 0
 Ends G old new (Ok x) = IsTrue (G.serves new) × (G.faults new ≡ G.faults old)
 Ends G old new (Err fault.OutOfMemory) = IsTrue (G.serves new) × IsUncounted G old new
 Ends G old new (Err fault.Unread) = IsTrue (G.serves new) × IsLeft G old new × Rose (G.faults old) (G.faults new)
-Ends G old new (Err fault.Failed) = (G.serves new ≡ false) × Rose (G.faults old) (G.faults new)
-Ends G old new (Err fault.Stopped) = (G.serves new ≡ false) × (G.allowance new ≡ Spent)
+Ends G old new (Err fault.Failed) = (G.serves new ≡ false) × Rose (G.faults old) (G.faults new) × (G.faults old ≤ G.faults new)
+Ends G old new (Err fault.Stopped) = (G.serves new ≡ false) × (G.allowance new ≡ Spent) × (G.faults old ≤ G.faults new)
 
--- it tells that a read failed, or that the server is down
-abbrev pub tells_fault : Option Reply → Bool
-tells_fault (Some (reply.Refused refusal.ReadFault)) = true
-tells_fault (Some (reply.Refused (refusal.Aborted (cause.Voted server why.ReadFault)))) = true
-tells_fault (Some (reply.Refused refusal.Down)) = true
-tells_fault r = false
+-- it says that the server is down
+abbrev pub says_down : Option Reply → Bool
+says_down (Some (reply.Refused refusal.Down)) = true
+says_down r = false
 
 -- the vault failed or was stopped where the acts say so
 abbrev pub HaveCauses : ℕ → ℕ → Allowance → List Act → Type 0

@@ -1,5 +1,5 @@
 -- A server and its journal.
-use Rattle.std.specs.Prelude.{◌≡◌, ℕ, ◌<◌, ◌||◌, Bool, true, false, IsTrue, List, [], ◌∷◌, ◌++◌, length, Option, is_some, IsSome, ◌↔◌}
+use Rattle.std.specs.Prelude.{◌≡◌, ℕ, ◌<◌, ◌≤◌, ◌||◌, Bool, true, false, IsTrue, List, [], ◌∷◌, ◌++◌, length, Option, is_some, IsSome, ◌↔◌}
 use Rattle.std.specs.FinMap as map
 use Rattle.std.specs.List.{list_any, Contains}
 use Rattle.std.specs.List.Sorted.{IsStrictlySortedBy}
@@ -21,12 +21,12 @@ use Rattle.alp_journal.specs.Opening.{Start, start_at}
 use Rattle.alp_journal.specs.State.{State, opened}
 use Rattle.alp_journal.specs.Moves.{next, is_stop}
 use Rattle.alp_journal.specs.Laws.{IsLawful}
-use Rattle.alp_journal.specs.Answered.{IsAnswered, IsAnsweredEntry}
+use Rattle.alp_journal.specs.Answered.{IsAnswered, IsAnsweredEntry, is_fault_reply}
 use Rattle.alp_journal.specs.Alone.{Alone, alone, AreOwnEvents}
 use Rattle.alp_node.specs.NodeStates.{NodeState}
 use Rattle.alp_node.specs.ServerState.{IsAs, IsReady}
 use Rattle.alp_node.specs.Durable.{IsDurable}
-use Rattle.alp_node.specs.Halts.{HaveCauses, IsUncounted, tells_fault}
+use Rattle.alp_node.specs.Halts.{HaveCauses, IsUncounted, says_down}
 use Rattle.alp_node.specs.Sessions.{no_sessions}
 use Rattle.alp_node.specs.Steps.{is_call, IsNoted}
 
@@ -57,10 +57,11 @@ pub record IsRight {V : Type 0} (o : Start) (held : Contents) (n : NodeState V) 
   pub says : state_of o n.journal ≡ alone state
   pub kept : IsAs state held n.kept
 
--- What holds of each server that the calls make, by what its vault shows: the vault is of this server, the note has its
--- epoch, and where the vault tells what it holds, all is as the journal says, after a crash too.
+-- What holds of each server that the calls make, by what its vault shows: the vault is of this server and these sizes, the note
+-- has its epoch, and where the vault tells what it holds, all is as the journal says, after a crash too.
 pub record IsConsistent {V : Type 0} (G : Ghosts V) (n : NodeState V) : Type 0 where
   pub number : G.server n.kept.vault ≡ n.kept.server
+  pub sizes : n.kept.sizes ≡ G.volume n.kept.vault
   pub ready : IsReady (length n.journal) (G.serves n.kept.vault) n.kept
   pub noted : IsNoted G n.kept
   pub right : IsTrue (G.tells n.kept.vault) → IsRight (start_in G n) (G.held n.kept.vault) n
@@ -85,14 +86,18 @@ HasCause before now s e = (failed : Bool) × IsAnsweredEntry failed s e × (fail
 
 -- One entry more: this event, this reply, and what came about, with its cause where the vault tells. Each call has a reply,
 -- each event by which the server goes down, and nothing else. A vault that failed or was stopped has its cause, and just then
--- the server is down. A reply that tells of no fault leaves their count.
-pub record Answered (tells : Bool) (s : State) (before after : List Entry) (e : Event) (r : Option Reply) (faults_before faults_now : ℕ) (allowance : Allowance) (is_down : Bool) : Type 0 where
+-- the server is down, which it says. Of any vault the count of faults never falls; it rises where the reply shows that a read
+-- failed, and else it stays, but where the server goes down.
+pub record Answered (here : ℕ) (tells : Bool) (s : State) (before after : List Entry) (e : Event) (r : Option Reply) (faults_before faults_now : ℕ) (allowance : Allowance) (is_down : Bool) : Type 0 where
   pub acts : List Act
   pub entry : after ≡ before ++ (record { event = e; reply = r; acts = acts }) ∷ []
   pub cause : IsTrue tells → HasCause faults_before faults_now s (record { event = e; reply = r; acts = acts })
   pub replies : is_some r ≡ (is_call e || is_down)
-  pub still : tells_fault r ≡ false → faults_now ≡ faults_before
+  pub later : faults_before ≤ faults_now
+  pub told : is_fault_reply here r ≡ true → Rose faults_before faults_now
+  pub still : (is_fault_reply here r || is_down) ≡ false → faults_now ≡ faults_before
   pub down : is_down ≡ list_any is_stop acts
+  pub said_down : says_down r ≡ true → is_down ≡ true
   pub causes : HaveCauses faults_before faults_now allowance acts
 
 -- Memory was wanting: there is no entry more, and the vault holds, counts and allows what it did.

@@ -48,9 +48,9 @@ IsNoteFault fault.BadNote = Unit {0}
 IsNoteFault fault.EpochEnd = Unit {0}
 IsNoteFault (fault.Vault f) = ⊥
 
--- Why a server does not start: a fault of the vault, which is a volume in its format, or what its notes say. The notes are
--- to be in the format of this server, one of so many.
+-- Why a server does not start: a fault of the vault, which is a volume in its format, or what its notes say. The count of faults
+-- never falls. The notes are to be in the format of this server, one of so many.
 abbrev pub HasStartCause : ℕ → ℕ → Contents → ℕ → ℕ → Allowance → StartFault → Type 0
-HasStartCause server servers held before now allowance (fault.Vault f) = HasFaultCause before now allowance f × IsOfVolume f
+HasStartCause server servers held before now allowance (fault.Vault f) = HasFaultCause before now allowance f × IsOfVolume f × (before ≤ now)
 HasStartCause server servers held before now allowance fault.BadNote = AreServerNotes server servers held.notes → ⊥
 HasStartCause server servers held before now allowance fault.EpochEnd = AreServerNotes server servers held.notes × (raised held ≡ Err fault.EpochEnd)

@@ -18,6 +18,7 @@ use Rattle.alp_journal.specs.declared.event.Event.{Event}
 use Rattle.alp_journal.specs.declared.event.Event.TheVariants as event
 use Rattle.alp_journal.specs.declared.entry.Entry.{Entry}
 use Rattle.alp_journal.specs.Moves.{is_stop}
+use Rattle.alp_journal.specs.Answered.{is_fault_reply}
 use Rattle.alp_journal.specs.Alone.{Alone, alone, Leads}
 use Rattle.alp_fields.specs.ClockNote.{clock_kept}
 use Rattle.alp_vault.specs.Vault.{IsSameVault}
@@ -30,7 +31,7 @@ use Rattle.alp_node.specs.declared.sessions.Turn.{Turn}
 use Rattle.alp_node.specs.declared.sessions.Sessions.{Sessions}
 use Rattle.alp_node.specs.Dead.{without_part}
 use Rattle.alp_node.specs.Durable.{said_by, MightBring, Leaves, Besides}
-use Rattle.alp_node.specs.Halts.{HaveCauses, IsUncounted, tells_fault}
+use Rattle.alp_node.specs.Halts.{HaveCauses, IsUncounted, says_down}
 use Rattle.alp_node.specs.Sessions.{session_at, with_session}
 use Rattle.alp_node.specs.ServerState.{IsAs, IsReady}
 
@@ -60,6 +61,7 @@ pub record Stepped {V : Type 0} (a : Alone) (before now : ℕ) (held : Contents)
 -- which server it is stays as it was, and so does what its vault is; nobody adds to the allowance of that
 pub record IsSeated {V : Type 0} (G : Ghosts V) (old new : ServerState V) : Type 0 where
   pub server : new.server ≡ old.server
+  pub sizes : new.sizes ≡ old.sizes
   pub epoch : new.epoch ≡ old.epoch
   pub same : IsSameVault G.tells G.volume G.server G.servers old.vault new.vault
   pub spends : Spends (G.allowance old.vault) (G.allowance new.vault)
@@ -73,13 +75,16 @@ is_call (event.Call client epoch number c) = true
 is_call _ = false
 
 -- Of any vault: what is handed out is what the entry keeps, and each call has a reply, each event by which the server goes
--- down, and nothing else. A vault that failed or was stopped has its cause, and just then the server is down. An answer that
--- tells of no fault leaves their count.
-pub record IsGiven (asked : Bool) (before now : ℕ) (allowance : Allowance) (is_down : Bool) (a : Answer) : Type 0 where
+-- down, and nothing else. A vault that failed or was stopped has its cause, and just then the server is down. The count of
+-- faults never falls; it rises where the answer shows that a read failed, and else it stays, but where the server goes down.
+pub record IsGiven (here : ℕ) (asked : Bool) (before now : ℕ) (allowance : Allowance) (is_down : Bool) (a : Answer) : Type 0 where
   pub handed : a.handed ≡ a.kept
   pub replies : is_some a.kept ≡ (asked || is_down)
-  pub still : tells_fault a.kept ≡ false → now ≡ before
+  pub later : before ≤ now
+  pub told : is_fault_reply here a.kept ≡ true → Rose before now
+  pub still : (is_fault_reply here a.kept || is_down) ≡ false → now ≡ before
   pub down : is_down ≡ list_any is_stop a.acts
+  pub said_down : says_down a.kept ≡ true → is_down ≡ true
   pub causes : HaveCauses before now allowance a.acts
 
 -- where memory was wanting, the server keeps what it kept, and its vault holds, counts and allows what it did
@@ -94,7 +99,7 @@ pub record IsStep {V : Type 0} (G : Ghosts V) (old new : ServerState V) (e : Eve
   -- where the vault tells what it holds, by what the journal says
   pub stepped : IsTrue (G.tells old.vault) → (a : Alone) → IsAs a (G.held old.vault) old → IfOk r (Stepped a (G.faults old.vault) (G.faults new.vault) (G.held new.vault) new e)
   -- and of any vault
-  pub given : IfOk r (IsGiven (is_call e) (G.faults old.vault) (G.faults new.vault) (G.allowance new.vault) new.is_down)
+  pub given : IfOk r (IsGiven old.server (is_call e) (G.faults old.vault) (G.faults new.vault) (G.allowance new.vault) new.is_down)
   pub ready : (steps : ℕ) → IsReady steps (G.serves old.vault) old → OnOk r (IsReady (steps + 1) (G.serves new.vault) new)
   pub noted : IsNoted G old → IsNoted G new
   pub still : OnErr r (IsStill G old new)

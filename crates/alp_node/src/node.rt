@@ -55,7 +55,7 @@ impl<V: Vault> Node<V> {
     pub fn step(&mut self, event: Event) -> Result<Option<Reply>, OutOfMemory>
         requires served { IsServed self.old.kept event }
         requires room { HasRoom self.old }
-        ensures answered { self.old.kept.is_down ≡ false → IfOk result (λ r. Answered (V.tells self.old.kept.vault) (state_of (start_in V.Vault self.old) self.old.journal) self.old.journal self.new.journal event r (V.faults self.old.kept.vault) (V.faults self.new.kept.vault) (V.allowance self.new.kept.vault) self.new.kept.is_down) }
+        ensures answered { self.old.kept.is_down ≡ false → IfOk result (λ r. Answered self.old.kept.server (V.tells self.old.kept.vault) (state_of (start_in V.Vault self.old) self.old.journal) self.old.journal self.new.journal event r (V.faults self.old.kept.vault) (V.faults self.new.kept.vault) (V.allowance self.new.kept.vault) self.new.kept.is_down) }
         ensures down { self.old.kept.is_down ≡ true → IfOk result (λ r. r ≡ Some (reply.Refused refusal.Down)) }
         ensures still_down { self.old.kept.is_down ≡ true → IsOk result × (self.new ≡ self.old) }
         ensures err { OnErr result (HasNoEntry V.Vault self.old self.new) }

@@ -61,7 +61,7 @@ use Rattle.alp_top.proofs.ClientLemmas.{IsSaid, of_clients}
 
 -- one transaction more took too long
 pub one_more_out : (calls : List Entry) (live : List TransId) (n m : Server) (t : TransId) (r : Option Reply) → HasTimedOut calls live n → IsConsistent m → start_in m ≡ start_in n → m.opening ≡ n.opening
-    → Answered true (state_of n) n.journal m.journal (event.Timeout t) r 0 0 m.kept.vault.allowance m.kept.is_down → m.kept.clock ≤ max n.kept.clock 0 + 1 → Spends n.kept.vault.allowance m.kept.vault.allowance → HasTimedOut calls (live ++ t ∷ []) m
+    → Answered n.kept.server true (state_of n) n.journal m.journal (event.Timeout t) r 0 0 m.kept.vault.allowance m.kept.is_down → m.kept.clock ≤ max n.kept.clock 0 + 1 → Spends n.kept.vault.allowance m.kept.vault.allowance → HasTimedOut calls (live ++ t ∷ []) m
 one_more_out calls live n m t r h kept same opening a clock spends =
     let e : Entry = record { event = event.Timeout t; reply = r; acts = a.acts } in
     record {

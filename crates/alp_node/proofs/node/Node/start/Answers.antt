@@ -18,6 +18,7 @@ use Rattle.alp_node.specs.declared.stored.StoreFault.{StoreFault}
 use Rattle.alp_node.specs.declared.stored.StoreFault.TheVariants as store_fault
 use Rattle.alp_node.specs.Halts.{Ends}
 use Rattle.alp_node.proofs.NodeLemmas.{up_durable}
+use Rattle.alp_node.proofs.StoreLemmas.{ends_later}
 use Rattle.alp_node.proofs.NoteLemmas.{put_first}
 use Rattle.alp_node.specs.ServerState.{IsAs, IsReady}
 use Rattle.alp_node.specs.Nodes.{IsRight, start_by}
@@ -75,6 +76,7 @@ invariant_of-result g c =
     ) in
     record {
       number = c.store-2.ensures.kept.number ∙ c.requires.server.0;
+      sizes = sym (c.store-2.ensures.kept.sizes ∙ sym c.sizes-sizes.ensures);
       noted = λ _. ap (λ (x : ClockNote). x.epoch) c.in_default.ensures.clock;
       durable = λ tells. up_durable (start_by G c.args.server c.of.result.value) held n (G.may_leave v) (right tells) refl (c.knows-2.ensures.settled tells c.in_default.ensures.ended.0);
       ready = subst (λ (m : ℕ). IsReady m (G.serves v) k) (sym (ap length c.new-6.ensures))
@@ -120,4 +122,5 @@ returns-in-Err-store-clause-cause g c =
         stopped = λ e. (ended_as store_fault.Stopped (c.vault_fault.ensures.stopped e)).1;
       },
       c.vault_fault.ensures.volume,
+      ends_later g.V.Vault c.args.vault c.store-2.new.vault c.in-Err-store.fault c.in-Err-store.ensures.ended,
     )

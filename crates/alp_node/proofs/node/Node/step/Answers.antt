@@ -28,7 +28,7 @@ returns-clause-answered g c up =
     let old : NodeState g.row.V.Denot = record { opening = c.self.inside.opening; kept = c.self.inside.kept; journal = c.self.inside.journal } in
     let kept = c.answer.new.kept in
     let journal = c.answer.new.journal in
-    subst (λ (n : NodeState g.row.V.Denot). IfOk c.answer.result (λ r. Answered (G.tells n.kept.vault) (state_of (start_in G n) n.journal) n.journal journal c.args.event r (G.faults n.kept.vault) (G.faults kept.vault) (G.allowance kept.vault) kept.is_down))
+    subst (λ (n : NodeState g.row.V.Denot). IfOk c.answer.result (λ r. Answered n.kept.server (G.tells n.kept.vault) (state_of (start_in G n) n.journal) n.journal journal c.args.event r (G.faults n.kept.vault) (G.faults kept.vault) (G.allowance kept.vault) kept.is_down))
     c.self.view_is
     (entered_answered G old kept journal c.args.event c.answer.result c.self.invariant (c.answer.ensures.entered old.journal (c.in_ok-make_place.ensures.ok.0) (c.in_ok-make_place.ensures.ok.1)))
 

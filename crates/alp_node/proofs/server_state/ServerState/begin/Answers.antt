@@ -22,7 +22,7 @@ use Rattle.alp_node.specs.declared.dead.DeadPart.{DeadPart}
 use Rattle.alp_node.specs.declared.lives.Live.{Live}
 use Rattle.alp_node.specs.declared.sessions.Sessions.{Sessions}
 use Rattle.alp_node.proofs.EndLemmas.{begin_stepped}
-use Rattle.alp_node.proofs.GivenLemmas.{reply_given}
+use Rattle.alp_node.proofs.GivenLemmas.{counts_none, reply_given}
 use Rattle.alp_node.proofs.KeptLemmas.{as_under, none_held}
 use Rattle.alp_node.proofs.ReadyLemmas.{next_new, undone_holds, undone_ready, begin_ready}
 use Rattle.alp_calls.proofs.LookLemmas.{left_same}
@@ -57,7 +57,7 @@ returns-then-is_err g c =
         up = refl;
         vault = record { held = refl; faults = refl; allowance = refl };
       };
-      seat = left_seated g.V.Vault k (record k { lives = c.add.new.self; locks = c.release_all.new.self }) refl refl (left_same g.V.Vault k.vault);
+      seat = left_seated g.V.Vault k (record k { lives = c.add.new.self; locks = c.release_all.new.self }) refl refl refl (left_same g.V.Vault k.vault);
       leaves = λ told a h. left_leaves g.V.Vault k.vault k.vault (MightBring (alone a) (event.Call c.args.turn.now.client k.epoch c.args.turn.now.number (call.Begin c.args.seen))) (left_same g.V.Vault k.vault);
     }
 
@@ -78,7 +78,7 @@ returns g c =
     let same : (u : TransId) (r : Resource) → holding c.enter.new.self.held u r ≡ holding k.locks.held u r =
     λ u r. ap (λ (x : Table). holding x.held u r) c.in_ok-enter.ensures.after ∙ ap (λ x. map.get x r) (entering-keeps-held k.locks t u) in
     let few : map.len k.lives < 64 = omega (arith, c.if-len-ge-MOST_TRANSACTIONS.false, c.len.ensures) in
-    left_step g.V.Vault k (record k { clock = c.max-self.result; drawn = k.drawn + 1; sessions = c.count.new.self; dead = c.bury.new.self; lives = c.add.new.self; locks = c.enter.new.self }) refl refl
+    left_step g.V.Vault k (record k { clock = c.max-self.result; drawn = k.drawn + 1; sessions = c.count.new.self; dead = c.bury.new.self; lives = c.add.new.self; locks = c.enter.new.self }) refl refl refl
     (left_same g.V.Vault k.vault) e x c.requires.up
     (λ told a h.
     subst (λ (n : ℕ). Stepped a faults faults held (record k { clock = n; drawn = k.drawn + 1; sessions = c.count.new.self; dead = c.bury.new.self; lives = c.add.new.self; locks = c.enter.new.self }) e x) (sym c.max-self.ensures)
@@ -87,7 +87,7 @@ returns g c =
     (subst (λ (y : LiveMap). Stepped a faults faults held (record k { clock = max k.clock c.args.seen.ts; drawn = k.drawn + 1; sessions = counted_in k.sessions turn; dead = without_client turn.client k.dead; lives = y; locks = c.enter.new.self }) e x) (sym lives)
     (begin_stepped a held k turn.client turn.number turn.session c.args.seen c.new-2.result faults faults x c.enter.new.self h c.requires.turn.client c.requires.up c.requires.turn.session c.requires.turn.number few
     (next_new c.requires.ready.0 serves k c.requires.ready.2) same c.new-2.ensures.own c.new-2.ensures.intents is)))))
-    (reply_given faults faults (g.V.Vault.allowance k.vault) k.is_down (reply.Begun t) (act.Drawn t ∷ []) x is (λ _. refl) c.requires.up tt)
+    (reply_given k.server faults faults (g.V.Vault.allowance k.vault) k.is_down (reply.Begun t) (act.Drawn t ∷ []) x is (counts_none k.server faults faults k.is_down (Some (reply.Begun t)) refl refl) c.requires.up tt)
     (λ n h.
     subst (λ (y : Sessions). IsReady (n + 1) serves (record k { clock = c.max-self.result; drawn = k.drawn + 1; sessions = y; dead = c.bury.new.self; lives = c.add.new.self; locks = c.enter.new.self })) (sym c.count.ensures)
     (subst (λ (y : List DeadPart). IsReady (n + 1) serves (record k { clock = c.max-self.result; drawn = k.drawn + 1; sessions = counted_in k.sessions turn; dead = y; lives = c.add.new.self; locks = c.enter.new.self })) (sym c.bury.ensures)

@@ -1,6 +1,6 @@
-use Rattle.std.specs.Prelude.{Err, Some}
+use Rattle.std.specs.Prelude.{Bool, Err, Some}
 use Rattle.std.specs.FinMap as map
-use Rattle.std.proofs.Common.{◌≡◌, ◌+◌, List, [], ◌∷◌, ◌++◌, inl, inr, true, refl, sym, ap, ◌∙◌, subst}
+use Rattle.std.proofs.Common.{◌≡◌, ◌+◌, List, [], ◌∷◌, ◌++◌, inl, inr, true, refl, sym, ap, ◌∙◌, subst, arith, eq-eqb}
 use Rattle.alp_files.specs.declared.call.Call.TheVariants as call
 use Rattle.alp_files.specs.declared.refusal.Cause.{Cause}
 use Rattle.alp_files.specs.declared.refusal.Cause.TheVariants as cause
@@ -15,7 +15,7 @@ use Rattle.alp_node.specs.Steps.{Stepped, IsOf, refused_answer, counted_in, with
 use Rattle.alp_node.specs.declared.lives.Live.{Live}
 use Rattle.alp_node.specs.declared.server_state.ServerState.{ServerState}
 use Rattle.alp_node.specs.declared.sessions.Sessions.{Sessions}
-use Rattle.alp_node.proofs.GivenLemmas.{reply_given}
+use Rattle.alp_node.proofs.GivenLemmas.{IsCounted, counts_none, counts_fault, reply_given}
 use Rattle.alp_node.proofs.ReadyLemmas.{ready_with, commit_ready}
 use Rattle.alp_base.specs.declared.ids.Stamp.{Stamp}
 use Rattle.alp_journal.specs.declared.act.Act.{Act}
@@ -45,7 +45,9 @@ returns-in-Err-Unread g c =
     let G = g.V.Vault in
     let mine = of_client turn.client (map.get k.lives c.args.trans) c.requires.own in
     let ends = subst (λ (f : StoreFault). Ends {T = Unit {0}} G k.vault c.store.new.vault (Err f)) c.in-Err-Unread.field-0-is c.in-Err-Unread.ensures.ended in
-    ended_step G k c.store.new.vault turn c.args.trans (call.Finish c.args.trans true) (cause.Voted k.server why.ReadFault) c.end.result c.end.new.self ends.1 ends.0 (λ e. cc)
+    ended_step G k c.store.new.vault turn c.args.trans (call.Finish c.args.trans true) (cause.Voted k.server why.ReadFault) c.end.result c.end.new.self ends.1 ends.0
+    (subst (λ (b : Bool). IsCounted k.server (G.faults k.vault) (G.faults c.store.new.vault) b (Some (reply.Refused (refusal.Aborted (cause.Voted k.server why.ReadFault))))) (sym c.requires.up)
+    (counts_fault k.server (G.faults k.vault) (G.faults c.store.new.vault) (Some (reply.Refused (refusal.Aborted (cause.Voted k.server why.ReadFault)))) (eq-eqb k.server k.server refl) refl ends.1.later ends.2))
     c.requires.turn c.requires.up c.end.ensures.kept
     (c.end.ensures.answer ∙ ap (λ (x : Cause). refused_answer (refusal.Aborted x) c.in_ok-unread.unread) c.against-cause.ensures ∙ ap (refused_answer (refusal.Aborted (cause.Voted k.server why.ReadFault))) c.in_ok-unread.ensures)
     (λ told a h. against_stepped a (G.faults k.vault) (G.faults c.store.new.vault) (G.held k.vault) k turn c.args.trans mine.0 true why.ReadFault c.end.result h c.requires.turn c.requires.up c.requires.ready.2.alone c.requires.here
@@ -64,7 +66,7 @@ returns-in-Err-Failed g c =
     let write : c.push_reserved.new.self.items ≡ act.Decided stamp [] ∷ [] =
     c.push_reserved.ensures.items ∙ ap (λ (acts : List Act). acts ++ c.decision.result ∷ []) c.in_ok-halted.ensures.items ∙ ap (λ (x : Act). x ∷ []) c.decision.ensures in
     let so : c.halt.result ≡ refused_answer refusal.Down (act.Decided stamp [] ∷ act.Failed ∷ []) = c.halt.ensures.answer ∙ ap (λ (acts : List Act). refused_answer refusal.Down (acts ++ act.Failed ∷ [])) write in
-    down_step G k c.halt.new.self c.store.new.vault turn (call.Finish t true) c.halt.result (act.Decided stamp [] ∷ act.Failed ∷ []) c.store.ensures.kept c.store.ensures.allowance ends.0 c.halt.ensures.kept so refl
+    down_step G k c.halt.new.self c.store.new.vault turn (call.Finish t true) c.halt.result (act.Decided stamp [] ∷ act.Failed ∷ []) c.store.ensures.kept c.store.ensures.allowance ends.0 ends.2 c.halt.ensures.kept so refl
     (ends.1, tt)
     (λ told a h. commit_halt_stepped a (G.faults k.vault) (G.faults c.store.new.vault) (G.held k.vault) (G.held c.store.new.vault) k turn t c.store.new.vault act.Failed mine.0 c.halt.result (inr refl) h c.requires.turn c.requires.up
     c.requires.clock c.requires.here mine.1 mine.2 (c.requires.room mine.0 mine.1) so)
@@ -84,7 +86,7 @@ returns-in-Err-Stopped g c =
     let write : c.push_reserved.new.self.items ≡ act.Decided stamp [] ∷ [] =
     c.push_reserved.ensures.items ∙ ap (λ (acts : List Act). acts ++ c.decision.result ∷ []) c.in_ok-halted.ensures.items ∙ ap (λ (x : Act). x ∷ []) c.decision.ensures in
     let so : halt.result ≡ refused_answer refusal.Down (act.Decided stamp [] ∷ act.Stopped ∷ []) = halt.ensures.answer ∙ ap (λ (acts : List Act). refused_answer refusal.Down (acts ++ act.Stopped ∷ [])) write in
-    down_step G k halt.new.self c.store.new.vault turn (call.Finish t true) halt.result (act.Decided stamp [] ∷ act.Stopped ∷ []) c.store.ensures.kept c.store.ensures.allowance ends.0 halt.ensures.kept so refl
+    down_step G k halt.new.self c.store.new.vault turn (call.Finish t true) halt.result (act.Decided stamp [] ∷ act.Stopped ∷ []) c.store.ensures.kept c.store.ensures.allowance ends.0 ends.2 halt.ensures.kept so refl
     (ends.1, tt)
     (λ told a h. commit_halt_stepped a (G.faults k.vault) (G.faults c.store.new.vault) (G.held k.vault) (G.held c.store.new.vault) k turn t c.store.new.vault act.Stopped mine.0 halt.result (inl refl) h c.requires.turn c.requires.up
     c.requires.clock c.requires.here mine.1 mine.2 (c.requires.room mine.0 mine.1) so)
@@ -113,10 +115,10 @@ returns-in-Err-OutOfMemory g c =
         up = refl;
         vault = ends.1;
       };
-      seat = record { server = refl; epoch = refl; same = c.store.ensures.kept; spends = c.store.ensures.allowance };
+      seat = record { server = refl; sizes = refl; epoch = refl; same = c.store.ensures.kept; spends = c.store.ensures.allowance };
       leaves = λ told a h.
           leaves_as G k.vault v (IsWritten live.part.intents (record { epoch = k.epoch; clock = k.clock + 1 }) (G.held k.vault)) (MightBring (alone a) e)
-          (λ z w. commit_might a (G.faults k.vault) (G.faults v) (G.held k.vault) z k turn t live v h c.requires.turn c.requires.up c.requires.ready.2.alone c.requires.clock c.requires.here there
+          (λ z w. commit_might a 0 0 (G.held k.vault) z k turn t live v (λ rose. omega (arith, rose)) h c.requires.turn c.requires.up c.requires.ready.2.alone c.requires.clock c.requires.here there
           (subst (IsOf turn.client) there c.requires.own) (c.requires.room live there) w)
           (c.store.ensures.leaves told);
     }
@@ -146,8 +148,9 @@ returns g c =
           (commit_stepped a (G.faults k.vault) (G.faults v) (G.held k.vault) (G.held v) k turn t same v x h c.requires.turn c.requires.up c.requires.ready.2.alone c.requires.clock c.requires.here (sym c.in-Some.ensures)
           (subst (IsOf turn.client) (sym c.in-Some.ensures) c.requires.own) (c.requires.room same (sym c.in-Some.ensures)) (stored.cells told) stored.notes so));
       given =
-          reply_given (G.faults k.vault) (G.faults c.forget.new.self.vault) (G.allowance c.forget.new.self.vault) c.forget.new.self.is_down
-          (reply.Committed stamp) (act.Decided stamp [] ∷ act.Released t ∷ []) x so (λ _. ap (λ (y : ServerState _). G.faults y.vault) c.forget.ensures ∙ stored.ended.1) (ap (λ (y : ServerState _). y.is_down) c.forget.ensures ∙ c.requires.up) tt;
+          reply_given k.server (G.faults k.vault) (G.faults c.forget.new.self.vault) (G.allowance c.forget.new.self.vault) c.forget.new.self.is_down
+          (reply.Committed stamp) (act.Decided stamp [] ∷ act.Released t ∷ []) x so
+          (counts_none k.server (G.faults k.vault) (G.faults c.forget.new.self.vault) c.forget.new.self.is_down (Some (reply.Committed stamp)) refl (ap (λ (y : ServerState _). G.faults y.vault) c.forget.ensures ∙ stored.ended.1)) (ap (λ (y : ServerState _). y.is_down) c.forget.ensures ∙ c.requires.up) tt;
       ready = λ n h.
           subst (λ (y : ServerState _). IsReady (n + 1) (G.serves y.vault) (record y { clock = k.clock + 1; committed = y.committed + 1; sessions = c.count.new.self })) (sym c.forget.ensures)
           (subst (λ (y : Sessions). IsReady (n + 1) (G.serves v) (record (without_trans k t) { clock = k.clock + 1; committed = k.committed + 1; sessions = y; vault = v })) (sym counts)
@@ -156,6 +159,7 @@ returns g c =
       still = tt;
       seat = record {
         server = ap (λ (y : ServerState _). y.server) c.forget.ensures;
+        sizes = ap (λ (y : ServerState _). y.sizes) c.forget.ensures;
         epoch = ap (λ (y : ServerState _). y.epoch) c.forget.ensures;
         same = subst (λ (y : ServerState _). IsSameVault G.tells G.volume G.server G.servers k.vault y.vault) (sym c.forget.ensures) stored.kept;
         spends = subst (λ (y : ServerState _). Spends (G.allowance k.vault) (G.allowance y.vault)) (sym c.forget.ensures) stored.allowance;

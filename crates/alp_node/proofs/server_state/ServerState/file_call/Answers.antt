@@ -1,5 +1,5 @@
 use Rattle.std.specs.FinMap as map
-use Rattle.std.proofs.Common.{sym, ◌∙◌}
+use Rattle.std.proofs.Common.{refl, sym, ◌∙◌}
 use Rattle.alp_files.specs.declared.refusal.Refusal.TheVariants as refusal
 use Rattle.alp_files.specs.declared.refusal.Cause.TheVariants as cause
 use Rattle.alp_node.specs.Dead.{is_dead}
@@ -14,7 +14,7 @@ returns-in-Dead g c =
     let G = g.V.Vault in
     let k = c.args.self.now in
     let turn = c.args.turn.now in
-    refused_step G k c.refuse.new.self turn c.args.call.now c.refuse.result (refusal.Aborted cause.TimedOut) c.requires.turn c.requires.up c.refuse.ensures.kept c.refuse.ensures.answer
+    refused_step G k c.refuse.new.self turn c.args.call.now c.refuse.result (refusal.Aborted cause.TimedOut) refl c.requires.turn c.requires.up c.refuse.ensures.kept c.refuse.ensures.answer
     (λ told a h. dead_call_stepped a (G.faults k.vault) (G.faults k.vault) (G.held k.vault) k turn c.args.trans c.args.call.now c.refuse.result h c.requires.turn c.requires.up c.requires.named
     (sym c.standing.ensures ∙ c.in-Dead.is) c.refuse.ensures.answer)
 
@@ -24,7 +24,7 @@ returns-in-Unknown g c =
     let k = c.args.self.now in
     let turn = c.args.turn.now in
     let refuse = c.refuse-in-Unknown in
-    refused_step G k refuse.new.self turn c.args.call.now refuse.result refusal.UnknownTrans c.requires.turn c.requires.up refuse.ensures.kept refuse.ensures.answer
+    refused_step G k refuse.new.self turn c.args.call.now refuse.result refusal.UnknownTrans refl c.requires.turn c.requires.up refuse.ensures.kept refuse.ensures.answer
     (λ told a h. stranger_stepped a (G.faults k.vault) (G.faults k.vault) (G.held k.vault) k turn c.args.trans c.args.call.now refuse.result h c.requires.turn c.requires.up c.requires.named
     (sym c.standing.ensures ∙ c.in-Unknown.is) refuse.ensures.answer)
 
@@ -37,6 +37,6 @@ returns-then-not-is_of_given g c =
     let refuse = c.refuse-then-not-is_of_given in
     let own = sym c.standing.ensures ∙ c.in-Own.is in
     let (l, there, mine) = of_client turn.client (map.get k.lives t) (own_live turn.client (map.get k.lives t) (is_dead turn.client t k.dead) own) in
-    refused_step G k refuse.new.self turn c.args.call.now refuse.result refusal.UnknownFile c.requires.turn c.requires.up refuse.ensures.kept refuse.ensures.answer
+    refused_step G k refuse.new.self turn c.args.call.now refuse.result refusal.UnknownFile refl c.requires.turn c.requires.up refuse.ensures.kept refuse.ensures.answer
     (λ told a h. no_file_stepped a (G.faults k.vault) (G.faults k.vault) (G.held k.vault) k turn t c.args.call.now refuse.result h c.requires.ready.2.raised c.requires.turn c.requires.up c.requires.named own l there
     (sym c.is_of_given.ensures ∙ c.if-not-is_of_given.true) refuse.ensures.answer)

@@ -1,4 +1,4 @@
-use Rattle.std.proofs.Common.{sym, ◌∙◌}
+use Rattle.std.proofs.Common.{refl, sym, ◌∙◌}
 use Rattle.alp_files.specs.declared.call.Call.TheVariants as call
 use Rattle.alp_files.specs.declared.refusal.Refusal.TheVariants as refusal
 use Rattle.alp_node.proofs.FinishLemmas.{unknown_stepped, elsewhere_stepped}
@@ -10,7 +10,7 @@ returns-then-trans-self g c =
     let k = c.args.self.now in
     let G = g.V.Vault in
     let turn = c.args.turn.now in
-    refused_step G k c.refuse.new.self turn (call.Finish c.args.trans c.args.commit) c.refuse.result refusal.UnknownTrans c.requires.turn c.requires.up c.refuse.ensures.kept c.refuse.ensures.answer
+    refused_step G k c.refuse.new.self turn (call.Finish c.args.trans c.args.commit) c.refuse.result refusal.UnknownTrans refl c.requires.turn c.requires.up c.refuse.ensures.kept c.refuse.ensures.answer
     (λ told a h. elsewhere_stepped a (G.faults k.vault) (G.faults k.vault) (G.held k.vault) k turn c.args.trans c.args.commit c.refuse.result h c.requires.turn c.requires.up c.if-trans-self.true c.refuse.ensures.answer)
 
 pub returns-in-Unknown : goal.returns-in-Unknown
@@ -18,5 +18,5 @@ returns-in-Unknown g c =
     let k = c.args.self.now in
     let G = g.V.Vault in
     let turn = c.args.turn.now in
-    refused_step G k c.refuse-in-Unknown.new.self turn (call.Finish c.args.trans c.args.commit) c.refuse-in-Unknown.result refusal.UnknownTrans c.requires.turn c.requires.up c.refuse-in-Unknown.ensures.kept c.refuse-in-Unknown.ensures.answer
+    refused_step G k c.refuse-in-Unknown.new.self turn (call.Finish c.args.trans c.args.commit) c.refuse-in-Unknown.result refusal.UnknownTrans refl c.requires.turn c.requires.up c.refuse-in-Unknown.ensures.kept c.refuse-in-Unknown.ensures.answer
     (λ told a h. unknown_stepped a (G.faults k.vault) (G.faults k.vault) (G.held k.vault) k turn c.args.trans c.args.commit c.refuse-in-Unknown.result h c.requires.turn c.requires.up (sym c.standing.ensures ∙ c.in-Unknown.is) c.refuse-in-Unknown.ensures.answer)

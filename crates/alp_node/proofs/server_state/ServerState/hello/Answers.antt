@@ -8,7 +8,7 @@ use Rattle.alp_node.specs.ServerState.{IsReady}
 use Rattle.alp_node.specs.Steps.{Stepped}
 use Rattle.alp_node.specs.declared.sessions.Sessions.{Sessions}
 use Rattle.alp_node.proofs.EndLemmas.{hello_stepped}
-use Rattle.alp_node.proofs.GivenLemmas.{reply_given}
+use Rattle.alp_node.proofs.GivenLemmas.{counts_none, reply_given}
 use Rattle.alp_node.proofs.ReadyLemmas.{hello_ready}
 use Rattle.alp_calls.proofs.LookLemmas.{left_same}
 use Rattle.alp_node.proofs.SeatLemmas.{left_step}
@@ -23,9 +23,9 @@ returns g c =
     let none : c.new-2.result ≡ [] = c.new-2.ensures ∙ c.new.ensures.items in
     let is : c.in_ok-answer.answer ≡ record { kept = Some (reply.Welcome k.epoch); handed = Some (reply.Welcome k.epoch); acts = [] } =
     c.in_ok-answer.ensures.ok ∙ ap (λ (acts : List Act). record { kept = Some (reply.Welcome k.epoch); handed = Some (reply.Welcome k.epoch); acts = acts }) none in
-    left_step g.V.Vault k (record k { sessions = c.set.new.self }) refl refl (left_same g.V.Vault k.vault) (event.Call c.args.client 0 1 (call.Hello c.args.name)) c.in_ok-answer.answer c.requires.up
+    left_step g.V.Vault k (record k { sessions = c.set.new.self }) refl refl refl (left_same g.V.Vault k.vault) (event.Call c.args.client 0 1 (call.Hello c.args.name)) c.in_ok-answer.answer c.requires.up
     (λ told a h.
     subst (λ (x : Sessions). Stepped a faults faults held (record k { sessions = x }) (event.Call c.args.client 0 1 (call.Hello c.args.name)) c.in_ok-answer.answer) (sym c.set.ensures)
     (hello_stepped a faults faults held k c.args.client c.args.name c.in_ok-answer.answer h c.requires.client c.requires.up c.requires.first is))
-    (reply_given faults faults (g.V.Vault.allowance k.vault) k.is_down (reply.Welcome k.epoch) [] c.in_ok-answer.answer is (λ _. refl) c.requires.up tt)
+    (reply_given k.server faults faults (g.V.Vault.allowance k.vault) k.is_down (reply.Welcome k.epoch) [] c.in_ok-answer.answer is (counts_none k.server faults faults k.is_down (Some (reply.Welcome k.epoch)) refl refl) c.requires.up tt)
     (λ n h. subst (λ (x : Sessions). IsReady (n + 1) serves (record k { sessions = x })) (sym c.set.ensures) (hello_ready n serves k c.args.client c.args.name c.requires.client h))

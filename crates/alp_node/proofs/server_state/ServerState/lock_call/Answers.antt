@@ -23,7 +23,7 @@ use Rattle.alp_node.specs.declared.lives.Live.{Live}
 use Rattle.alp_node.specs.declared.server_state.ServerState.{ServerState}
 use Rattle.alp_node.specs.declared.sessions.Sessions.{Sessions}
 use Rattle.alp_node.proofs.CallLemmas.{unseen, count_grows}
-use Rattle.alp_node.proofs.GivenLemmas.{reply_given, wanting}
+use Rattle.alp_node.proofs.GivenLemmas.{counts_none, shows_none, reply_given, wanting}
 use Rattle.alp_node.proofs.GrantLemmas.{plan_given, count_given, free_given, given_below, granted_ready}
 use Rattle.alp_node.proofs.KeptLemmas.{of_client}
 use Rattle.alp_node.proofs.LockCallLemmas.{conflict_stepped, lock_stepped, acts_up, acts_caused}
@@ -48,7 +48,7 @@ returns-in-Some g c =
     let (l, there, own) = of_client turn.client (map.get k.lives t) c.requires.own in
     let asked_is : c.in_ok-asked.asked ≡ plan_of k.locks t (asks_of c.args.call.now) = c.in_ok-asked.ensures ∙ ap (plan_of k.locks t) c.in_ok-asks.ensures in
     let named = ap (λ (w : Waiter). blocker k.locks.held w.trans w.rises) (sym asked_is) ∙ sym c.in_way_of.ensures ∙ c.in-Some.is in
-    refused_step G k c.refuse.new.self turn c.args.call.now c.refuse.result (refusal.LockConflict c.in-Some.holder) c.requires.turn c.requires.up c.refuse.ensures.kept c.refuse.ensures.answer
+    refused_step G k c.refuse.new.self turn c.args.call.now c.refuse.result (refusal.LockConflict c.in-Some.holder) refl c.requires.turn c.requires.up c.refuse.ensures.kept c.refuse.ensures.answer
     (λ told a h. conflict_stepped a (G.faults k.vault) (G.faults k.vault) (G.held k.vault) k turn t l c.args.call.now b c.in-Some.holder c.refuse.result h c.requires.turn c.requires.up there own c.requires.kind c.requires.given
     c.requires.named (subst (λ (y : Bool). IsRoomy y (G.held k.vault).cells k l c.args.call.now b) told (c.requires.room l there)) c.requires.ready.2.sound named c.refuse.ensures.answer)
 
@@ -119,7 +119,7 @@ returns g c =
     ∙ ap (λ (w : Waiter). record k { given = count_after k.given r; lives = map.insert k.lives t now; locks = with_plan k.locks w; vault = N.vault }) taken in
     let vault = ap (λ (y : ServerState _). y.vault) kept_is in
     let faults = ap (λ (y : ServerState _). G.faults y.vault) kept_is ∙ c.in-Ok.ensures.looked.2 in
-    left_step G k (record M { sessions = c.count.new.self }) (ap (λ (y : ServerState _). y.server) kept_is) (ap (λ (y : ServerState _). y.epoch) kept_is) (subst (IsLeft G k.vault) (sym vault) left)
+    left_step G k (record M { sessions = c.count.new.self }) (ap (λ (y : ServerState _). y.server) kept_is) (ap (λ (y : ServerState _). y.sizes) kept_is) (ap (λ (y : ServerState _). y.epoch) kept_is) (subst (IsLeft G k.vault) (sym vault) left)
     (event.Call turn.client k.epoch turn.number call) x c.requires.up
     (λ told a h. (
     let given = gave_told (G.tells k.vault) (G.held k.vault).cells _ l did.part call r told did.outcome in
@@ -130,7 +130,8 @@ returns g c =
     c.requires.given c.requires.named c.requires.formed given (subst (λ (y : Bool). IsRoomy y (G.held k.vault).cells k l call b) told room) is c.requires.ready.2.sound c.requires.ready.2.alone free_asked
     (free_given c.requires.ready.0 (G.serves k.vault) k t call r c.requires.ready.2 free_asked)))
     ))
-    (reply_given (G.faults k.vault) (G.faults M.vault) (G.allowance M.vault) M.is_down r (acts_of t rises) x is (λ _. faults) (ap (λ (y : ServerState _). y.is_down) kept_is ∙ c.requires.up ∙ sym (acts_up t rises))
+    (reply_given k.server (G.faults k.vault) (G.faults M.vault) (G.allowance M.vault) M.is_down r (acts_of t rises) x is
+    (counts_none k.server (G.faults k.vault) (G.faults M.vault) M.is_down (Some r) (shows_none k.server r did.outcome.own) faults) (ap (λ (y : ServerState _). y.is_down) kept_is ∙ c.requires.up ∙ sym (acts_up t rises))
     (acts_caused (G.faults k.vault) (G.faults M.vault) (G.allowance M.vault) t rises))
     (λ n h. (
     let serves = G.serves N.vault in
@@ -157,8 +158,8 @@ returns-in_err-answer g c =
     wanting G k N (event.Call turn.client k.epoch turn.number c.args.call.now) c.from_residual-in_err-answer.result c.from_residual-in_err-answer.ensures.0
     (looked_still G k N c.args.trans l there did.part c.args.bounds did.kept (did.outcome.reads c.in_err-answer.ensures.err)
     (λ rs es w. subst (λ (y : Bounds). IsWithin y rs es) (sym room.with_call) (within_sum l.bounds (bounds_of c.args.call.now) rs es w)) left c.in-Ok.ensures.looked.1 c.in-Ok.ensures.looked.2 c.requires.up)
-    (left_noted G k N (ap (λ (y : ServerState _). y.server) did.kept) (ap (λ (y : ServerState _). y.epoch) did.kept) left c.requires.up)
-    (left_seated G k N (ap (λ (y : ServerState _). y.server) did.kept) (ap (λ (y : ServerState _). y.epoch) did.kept) left) left
+    (left_noted G k N (ap (λ (y : ServerState _). y.server) did.kept) (ap (λ (y : ServerState _). y.sizes) did.kept) (ap (λ (y : ServerState _). y.epoch) did.kept) left c.requires.up)
+    (left_seated G k N (ap (λ (y : ServerState _). y.server) did.kept) (ap (λ (y : ServerState _). y.sizes) did.kept) (ap (λ (y : ServerState _). y.epoch) did.kept) left) left
 
 pub returns-in-Err : goal.returns-in-Err
 returns-in-Err g c =

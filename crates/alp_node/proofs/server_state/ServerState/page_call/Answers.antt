@@ -11,7 +11,7 @@ use Rattle.alp_node.specs.declared.bounds.Bounds.{Bounds}
 use Rattle.alp_node.specs.declared.server_state.ServerState.{ServerState}
 use Rattle.alp_node.specs.declared.sessions.Sessions.{Sessions}
 use Rattle.alp_node.proofs.CallLemmas.{unseen}
-use Rattle.alp_node.proofs.GivenLemmas.{reply_given, wanting}
+use Rattle.alp_node.proofs.GivenLemmas.{counts_none, shows_none, reply_given, wanting}
 use Rattle.alp_node.proofs.KeptLemmas.{of_client}
 use Rattle.alp_node.proofs.LookLemmas.{gave_told, part_ready, within_sum, looked_still, without_step}
 use Rattle.alp_node.proofs.PerformLemmas.{page_stepped}
@@ -40,7 +40,7 @@ returns-in_ok-answer-in-Ok g c =
     let room = c.requires.room l there in
     let is : x ≡ record { kept = Some r; handed = Some r; acts = [] } =
     c.in_ok-answer-in-Ok.ensures.ok ∙ ap (λ (acts : List Act). record { kept = Some r; handed = Some r; acts = acts }) (c.new-in-Ok.ensures ∙ c.new.ensures.items) in
-    left_step G k (record N { sessions = c.count.new.self }) (ap (λ (y : ServerState _). y.server) did.kept) (ap (λ (y : ServerState _). y.epoch) did.kept) left (event.Call turn.client k.epoch turn.number c.args.call.now) x c.requires.up
+    left_step G k (record N { sessions = c.count.new.self }) (ap (λ (y : ServerState _). y.server) did.kept) (ap (λ (y : ServerState _). y.sizes) did.kept) (ap (λ (y : ServerState _). y.epoch) did.kept) left (event.Call turn.client k.epoch turn.number c.args.call.now) x c.requires.up
     (λ told a h. (
     let e = event.Call turn.client k.epoch turn.number c.args.call.now in
     let given = gave_told (G.tells k.vault) (G.held k.vault).cells _ l did.part c.args.call.now r told did.outcome in
@@ -49,7 +49,8 @@ returns-in_ok-answer-in-Ok g c =
     (page_stepped a (G.faults k.vault) (G.faults N.vault) (G.held k.vault) k turn t l did.part c.args.call.now r b N.vault x (G.held N.vault) h c.requires.up left.contents c.requires.turn there own c.requires.page
     c.requires.named c.requires.formed given (subst (λ (y : Bool). IsRoomy y (G.held k.vault).cells k l c.args.call.now b) told room) is))
     ))
-    (reply_given (G.faults k.vault) (G.faults N.vault) (G.allowance N.vault) N.is_down r [] x is (λ _. c.in-Ok.ensures.looked.2) (ap (λ (y : ServerState _). y.is_down) did.kept ∙ c.requires.up) tt)
+    (reply_given k.server (G.faults k.vault) (G.faults N.vault) (G.allowance N.vault) N.is_down r [] x is
+    (counts_none k.server (G.faults k.vault) (G.faults N.vault) N.is_down (Some r) (shows_none k.server r did.outcome.own) c.in-Ok.ensures.looked.2) (ap (λ (y : ServerState _). y.is_down) did.kept ∙ c.requires.up) tt)
     (λ n h. (
     let low : did.part.last ≤ n + 1 = (let was : l.part.last ≤ n = h.opens t l there in omega (arith, did.outcome.last)) in
     subst (λ (y : Sessions). IsReady (n + 1) (G.serves N.vault) (record N { sessions = y })) (sym c.count.ensures)
@@ -71,8 +72,8 @@ returns-in_err-answer-in-Ok g c =
     wanting G k N (event.Call turn.client k.epoch turn.number c.args.call.now) c.from_residual-in_err-answer-in-Ok.result c.from_residual-in_err-answer-in-Ok.ensures.0
     (looked_still G k N c.args.trans l there did.part c.args.bounds did.kept (did.outcome.reads c.in_err-answer-in-Ok.ensures.err)
     (λ rs es w. subst (λ (y : Bounds). IsWithin y rs es) (sym room.with_call) (within_sum l.bounds (bounds_of c.args.call.now) rs es w)) left c.in-Ok.ensures.looked.1 c.in-Ok.ensures.looked.2 c.requires.up)
-    (left_noted G k N (ap (λ (y : ServerState _). y.server) did.kept) (ap (λ (y : ServerState _). y.epoch) did.kept) left c.requires.up)
-    (left_seated G k N (ap (λ (y : ServerState _). y.server) did.kept) (ap (λ (y : ServerState _). y.epoch) did.kept) left) left
+    (left_noted G k N (ap (λ (y : ServerState _). y.server) did.kept) (ap (λ (y : ServerState _). y.sizes) did.kept) (ap (λ (y : ServerState _). y.epoch) did.kept) left c.requires.up)
+    (left_seated G k N (ap (λ (y : ServerState _). y.server) did.kept) (ap (λ (y : ServerState _). y.sizes) did.kept) (ap (λ (y : ServerState _). y.epoch) did.kept) left) left
 
 pub returns-in-Err : goal.returns-in-Err
 returns-in-Err g c =

@@ -18,7 +18,7 @@ returns-in_default g c =
     let k = c.args.self.now in
     let G = g.V.Vault in
     let so : c.silence.result ≡ record { kept = None; handed = None; acts = [] } = c.silence.ensures ∙ ap (λ (acts : List Act). record { kept = None; handed = None; acts = acts }) (c.new-in_default.ensures ∙ c.new.ensures.items) in
-    silent_step G k k c.args.trans c.silence.result [] refl refl refl c.requires.up c.requires.up so refl (λ m n b. tt) (λ n h. stepped_ready n (G.serves k.vault) k h)
+    silent_step G k k c.args.trans c.silence.result [] refl refl refl refl c.requires.up c.requires.up so refl (λ m n b. tt) (λ n h. stepped_ready n (G.serves k.vault) k h)
     (λ a h. idle_stepped a (G.faults k.vault) (G.faults k.vault) (G.held k.vault) k c.args.trans c.silence.result h c.requires.up (sym c.get.ensures ∙ ap option_copied c.in_default.is) so)
 
 pub returns : goal.returns
@@ -33,7 +33,7 @@ returns g c =
     let same : c.forget.new.self ≡ after = c.forget.ensures ∙ ap (λ (ds : List DeadPart). record (without_trans k t) { dead = ds }) c.in_ok-add.ensures.ok in
     let so : c.silence-2.result ≡ record { kept = None; handed = None; acts = act.Released t ∷ [] } =
     c.silence-2.ensures ∙ ap (λ (acts : List Act). record { kept = None; handed = None; acts = acts }) (c.new-acts.ensures ∙ c.in_ok-vec.ensures.items) in
-    silent_step G k c.forget.new.self t c.silence-2.result (act.Released t ∷ []) (ap (λ (y : ServerState _). y.vault) same) (ap (λ (y : ServerState _). y.server) same) (ap (λ (y : ServerState _). y.epoch) same)
+    silent_step G k c.forget.new.self t c.silence-2.result (act.Released t ∷ []) (ap (λ (y : ServerState _). y.vault) same) (ap (λ (y : ServerState _). y.server) same) (ap (λ (y : ServerState _). y.sizes) same) (ap (λ (y : ServerState _). y.epoch) same)
     c.requires.up (ap (λ (y : ServerState _). y.is_down) same ∙ c.requires.up) so refl (λ m n b. tt)
     (λ n h. subst (λ (y : ServerState _). IsReady (n + 1) (G.serves k.vault) y) (sym same)
     (buried_ready (n + 1) (G.serves k.vault) (without_trans k t) dead (stepped_ready n (G.serves k.vault) (without_trans k t) (gone_ready n (G.serves k.vault) k t h))))
