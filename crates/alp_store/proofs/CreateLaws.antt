@@ -2,15 +2,16 @@
 use Rattle.std.specs.Prelude.{None, Result, Ok, Err, MatchResult, IfOk, IfErr}
 use Rattle.std.specs.FinMap as map
 use Rattle.std.specs.FinMap.{get-empty}
-use Rattle.std.proofs.Common.{◌≡◌, ◌≤◌, ℕ, ◌∙◌, ap, subst}
+use Rattle.std.proofs.Common.{◌≡◌, ◌≤◌, ℕ, refl, ◌∙◌, ap, subst}
+use Rattle.alp_anchor.specs.declared.anchor.Anchor.{Anchor}
 use Rattle.alp_base.specs.Notes.{Notes, text_cmp}
-use Rattle.alp_base.specs.Faults.{IsOfVolume}
+use Rattle.alp_base.specs.Faults.{IsOfVolume, IsCountKept}
 use Rattle.alp_base.specs.declared.faults.Sizes.{Sizes}
 use Rattle.alp_base.specs.declared.faults.VaultFault.{VaultFault}
 use Rattle.alp_base.specs.declared.faults.VaultFault.TheVariants as fault
 use Rattle.alp_disk.specs.Calls.{OnlyRead}
 use Rattle.alp_disk.specs.declared.disk.Disk.{Ghosts}
-use Rattle.alp_format.specs.Format.{blank_state}
+use Rattle.alp_format.specs.Format.{blank_state, IsRefused}
 use Rattle.alp_pages.specs.Reading.{MayBeDamaged}
 use Rattle.alp_pool.specs.Pools.{log_of, device_of}
 use Rattle.alp_pool.specs.declared.pool.Pool.{Pool}
@@ -45,3 +46,16 @@ none_noted server servers notes none name value there =
 pub noted_empty : {D : Type 0} (server servers : ℕ) (result : Result (Shelf D) (D × VaultFault)) → IfOk result (λ s. notes_of (shelf_log s) ≡ map.empty) → IfOk result (λ s. AreServerNotes server servers (notes_of (shelf_log s)))
 noted_empty server servers (Ok s) none = none_noted server servers (notes_of (shelf_log s)) none
 noted_empty server servers (Err e) none = tt
+
+-- the anchor stays the first
+pub made_anchored : {D : Type 0} (g : Ghosts D) (q : Pool D) (a : Anchor) → anchor_of (log_of q) ≡ a → (result : Result (Shelf D) (D × VaultFault)) → MatchResult result (λ s. IsReadOn g q s.pages) (λ e. OnlyRead g (device_of q) e.0) → IfOk result (λ s. anchor_of (shelf_log s) ≡ a)
+made_anchored g q a is (Ok s) read = read.same.anchor ∙ is
+made_anchored g q a is (Err e) read = tt
+
+-- why a disk was not formatted: nothing but its device moves the count of faults
+pub refused_still : {D : Type 0} (g : Ghosts D) (disk back : D) (f : VaultFault) → IsRefused g disk back f → IsCountKept (g.faults disk) (g.faults back) f
+refused_still g disk back fault.Failed is = tt
+refused_still g disk back fault.Stopped is = tt
+refused_still g disk back fault.OutOfMemory is = ap g.faults (is.memory refl)
+refused_still g disk back (fault.NotAVolume found) is = absurd (is.never_no_volume found refl)
+refused_still g disk back (fault.Damaged place) is = absurd (is.never_damaged place refl)

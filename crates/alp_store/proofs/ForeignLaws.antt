@@ -1,9 +1,11 @@
 -- A volume that is open, and not the server's.
-use Rattle.std.specs.Prelude.{IsTrue}
+use Rattle.std.specs.Prelude.{IsTrue, false}
 use Rattle.std.proofs.Common.{◌≡◌, ℕ, sym, subst}
+use Rattle.alp_anchor.specs.Anchor.{Counts}
 use Rattle.alp_disk.specs.Calls.{Looked}
+use Rattle.alp_disk.specs.Disk.{Image}
 use Rattle.alp_disk.specs.declared.disk.Disk.{Ghosts}
-use Rattle.alp_wal.specs.Wal.{disk_of, anchor_of}
+use Rattle.alp_wal.specs.Wal.{disk_of, anchor_of, is_dead, IsKnown}
 use Rattle.alp_wal.specs.declared.wal.Wal.{Wal}
 use Rattle.alp_store.specs.Holding.{Holds, HoldsBy}
 use Rattle.alp_store.specs.Starts.{AreOfServer, IsForeign}
@@ -20,3 +22,7 @@ module _ {D : Type 0} (g : Ghosts D) (disk : D) (server servers : ℕ) (w : Wal 
     holds = subst (λ (t : (ℕ × ℕ) × ℕ). Holds t.0.0 t.0.1 t.1 (anchor_of w).sizes.home (g.seen disk) (contents_of g w)) (λ i. ((named i, of_all i), below.size i)) holds;
     foreign = other;
   }
+
+  -- the anchor of the log counts on the disk that it was mounted from
+  pub still_counts : is_dead w ≡ false → (IsTrue (g.tells (disk_of w)) → is_dead w ≡ false → IsKnown (g.size (disk_of w)) (g.seen (disk_of w)) (g.may_leave (disk_of w)) w) → IsTrue (g.tells disk) → Counts (g.size disk) (g.seen disk) (anchor_of w)
+  still_counts alive known told = subst (λ (t : ℕ × Image). Counts t.0 t.1 (anchor_of w)) (λ i. (below.size i, below.seen i)) (known (tells_on told) alive).by.counts

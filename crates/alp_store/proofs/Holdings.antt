@@ -1,6 +1,6 @@
 -- What a store holds and may leave, from one log to the next.
 use Rattle.std.specs.Prelude.{IsTrue}
-use Rattle.std.proofs.Common.{◌≡◌, ℕ, length, inl, refl, sym, ◌∙◌, ap, subst, ⊎_elim, arith}
+use Rattle.std.proofs.Common.{◌≡◌, ℕ, length, inl, inr, refl, sym, ◌∙◌, ap, subst, ⊎_elim, arith}
 use Rattle.alp_base.specs.Crashes.{NoMore, Adds}
 use Rattle.alp_base.specs.declared.faults.Sizes.{Sizes}
 use Rattle.alp_anchor.specs.Anchor.{AreSizesOf}
@@ -22,7 +22,7 @@ use Rattle.alp_wal.specs.State.{State}
 use Rattle.alp_wal.specs.Wal.{disk_of, anchor_of, IsKnown}
 use Rattle.alp_wal.specs.declared.wal.Wal.{Wal}
 use Rattle.alp_wal.proofs.Readings.{reads_once}
-use Rattle.alp_store.specs.Holding.{Holds, HoldsBy, MayLeave, LeftSince, IsSameDisk}
+use Rattle.alp_store.specs.Holding.{Holds, HoldsBy, MayLeave, LeftSince, IsSameDisk, IsAlwaysWhole}
 use Rattle.alp_store.specs.Reads.{IsReadOn}
 use Rattle.alp_store.specs.ReadLaws.{read_told}
 use Rattle.alp_store.specs.Shelves.{IsStore, IsShelf, shelf_log}
@@ -94,6 +94,13 @@ module _ {D : Type 0} (g : Ghosts D) where
     sizes = subst (λ (t : ℕ × Sizes). AreSizesOf t.0 t.1) (λ i. (sym same.size i, sym same.volume.sizes i)) store.sizes;
     server = subst (λ (t : ℕ × ℕ). IsServer t.0 t.1) (λ i. (sym same.volume.server i, sym same.volume.servers i)) store.server;
     leaves = λ told image left. (let x = store.leaves (subst IsTrue same.tells told) image (fewer image left) in (x.0, holds_after v w same image x.0 x.1));
+  }
+
+  -- a disk that was only looked at leaves what it might have left
+  pub whole_still : ((disk : D) (c : Image) → g.left_since disk disk c → g.may_leave disk c) → (v w : Wal D) → Adds g.left_since (disk_of v) (disk_of w) (g.may_leave (disk_of v)) → IsStore g v → IsAlwaysWhole g v w
+  whole_still only v w adds store told = record {
+    within = λ c left. store.leaves told c (⊎_elim (λ was. only (disk_of v) c was) (λ now. now) (adds.each (disk_of v) c left));
+    adds = record { each = λ start c left. ⊎_elim (λ was. inl was) (λ now. inr (store.leaves told c now)) (adds.each start c left) };
   }
 
   -- ---- what is left is a volume

@@ -18,3 +18,5 @@ pub mod GivenLaws
 pub mod ForeignLaws
 pub mod RightLaws
 pub mod CreateLaws
+pub mod RenewLaws
+pub mod CauseLaws

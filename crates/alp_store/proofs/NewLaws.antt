@@ -21,7 +21,7 @@ use Rattle.alp_pages.specs.Pages.{header_page, written}
 use Rattle.alp_pages.specs.Volume.{StandFor}
 use Rattle.alp_pages.proofs.NewLaws.{new_volume}
 use Rattle.alp_pages.proofs.OrderLaws.{standing_undamaged}
-use Rattle.alp_wal.specs.Live.{BothFit}
+use Rattle.alp_wal.specs.Live.{batch_pages, BothFit}
 use Rattle.alp_wal.specs.State.{State, Suits, applied}
 use Rattle.alp_store.specs.Starts.{header_batch, IsDamagedHome}
 use Rattle.alp_store.specs.Told.{pages_of, contents_in}
@@ -40,6 +40,9 @@ pub header_fits : (area : ℕ) (notes : Notes) → 64 ≤ area → notes ≡ map
 header_fits area notes enough none =
     let short : notes_length (puts (map.entries notes)) ≡ 0 = ap (λ (n : Notes). notes_length (puts (map.entries n))) none ∙ ap (λ (es : List (List ℕ × List ℕ)). notes_length (puts es)) entries-empty in
     omega (arith, short, enough)
+
+pub header_small : (area : ℕ) → 64 ≤ area → batch_pages header_batch ≤ area
+header_small area enough = omega (arith, enough)
 
 -- ---- what it makes of pages of zeros
 

@@ -32,6 +32,7 @@ use Rattle.alp_store.specs.Starts.{IsDamagedHome, WhyNotOpened}
 use Rattle.alp_store.specs.Told.{pages_of, told_by, contents_of, cells_on}
 use Rattle.alp_store.specs.declared.shelf.Shelf.{Shelf}
 use Rattle.alp_store.proofs.Holdings.{known_leaves, state_holds}
+use Rattle.alp_store.proofs.PutLaws.{spends_nothing}
 use Rattle.alp_store.proofs.Standing.{told_stands}
 
 module _ {D : Type 0} (g : Ghosts D) where
@@ -68,6 +69,33 @@ module _ {D : Type 0} (g : Ghosts D) where
     allowance = subst (λ (z : Allowance). Spends (g.allowance a) z) (sym two.allowance) one.allowance;
     later = omega (arith, one.later, later);
   }
+
+  -- reads before it leave it so
+  pub read_then_looked : (a b c : D) → OnlyRead g a b → g.faults a ≤ g.faults b → Looked g b c → Looked g a c
+  read_then_looked a b c one later two = record {
+    tells = two.tells ∙ one.tells;
+    size = two.size ∙ one.size;
+    seen = two.seen ∙ one.seen;
+    crash = λ x left. one.crash x (two.crash x left);
+    time = record { each = λ start x left. ⊎_elim (one.time.each start x) (λ now. inr (one.crash x now)) (two.time.each start x left) };
+    allowance = subst (λ (z : Allowance). Spends z (g.allowance c)) one.allowance two.allowance;
+    later = omega (arith, later, two.later);
+  }
+
+  pub read_looked : (a b : D) → OnlyRead g a b → g.faults a ≤ g.faults b → Looked g a b
+  read_looked a b one later = record {
+    tells = one.tells;
+    size = one.size;
+    seen = one.seen;
+    crash = one.crash;
+    time = one.time;
+    allowance = subst (λ (z : Allowance). Spends (g.allowance a) z) (sym one.allowance) (spends_nothing (g.allowance a));
+    later = later;
+  }
+
+  pub looked_after : (a b : D) → OnlyRead g a b → g.faults a ≤ g.faults b → (r : Result (Shelf D) (D × VaultFault)) → MatchResult r (λ s. Looked g b (disk_of (shelf_log s))) (λ e. Looked g b e.0) → MatchResult r (λ s. Looked g a (disk_of (shelf_log s))) (λ e. Looked g a e.0)
+  looked_after a b one later (Ok s) two = read_then_looked a b (disk_of (shelf_log s)) one later two
+  looked_after a b one later (Err e) two = read_then_looked a b e.0 one later two
 
   -- what was mounted is what the volume holds that was opened over it
   pub opened_holds : (disk : D) (server servers : ℕ) (v : Wal D) (s : Shelf D) → Reads server servers (g.size disk) (g.seen disk) (told_by g v) → told_by g (shelf_log s) ≡ told_by g v → IsShelf g s → IsTrue (g.tells (disk_of (shelf_log s))) → g.size (disk_of (shelf_log s)) ≡ g.size disk

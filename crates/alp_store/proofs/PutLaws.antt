@@ -1,6 +1,6 @@
 -- A commit through the log, seen from the pages that were read before it.
 use Rattle.std.specs.Prelude.{IsTrue, Result, Err, OnOk}
-use Rattle.std.proofs.Common.{◌≡◌, ℕ, inl, inr, refl, sym, ◌∙◌, ap, subst, ⊎_elim, arith}
+use Rattle.std.proofs.Common.{◌≡◌, ◌≤◌, ◌-◌, ℕ, inl, inr, refl, sym, ◌∙◌, ap, subst, ⊎_elim, arith}
 use Rattle.alp_base.specs.Allowances.{Spends}
 use Rattle.alp_base.specs.Crashes.{Adds}
 use Rattle.alp_base.specs.Faults.{HasVaultCause}
@@ -17,7 +17,8 @@ use Rattle.alp_notes.specs.Held.{Held}
 use Rattle.alp_pool.specs.Pools.{log_of, device_of}
 use Rattle.alp_pool.specs.declared.pool.Pool.{Pool}
 use Rattle.alp_wal.specs.Calls.{Becomes, IsAsBefore}
-use Rattle.alp_wal.specs.Reading.{home_pages}
+use Rattle.alp_wal.specs.Live.{batch_pages}
+use Rattle.alp_wal.specs.Reading.{home_pages, area_end}
 use Rattle.alp_wal.specs.State.{State, applied}
 use Rattle.alp_wal.specs.Wal.{disk_of, anchor_of, notes_of, shown, BeforeOrAfter, IsKnown}
 use Rattle.alp_wal.specs.declared.wal.Wal.{Wal}
@@ -48,6 +49,7 @@ module _ {D : Type 0} (g : Ghosts D) where
     told = λ i. record { pages = shown (home_pages (g.seen (is.disk i)) (is.anchor i)) (is.index i); notes = is.notes i };
     goes_on = is.dead;
     crash = λ c left. subst (λ (d : D). g.may_leave d c) is.disk left;
+    time = record { each = λ start c left. inl (subst (λ (d : D). g.left_since start d c) is.disk left) };
     allowance = ap g.allowance is.disk;
   }
 
@@ -63,7 +65,8 @@ module _ {D : Type 0} (g : Ghosts D) where
     });
     notes = tt;
     alive = tt;
-    memory = λ e. record { told = refl; goes_on = refl; crash = λ c left. left; allowance = refl };
+    anchor = tt;
+    memory = λ e. record { told = refl; goes_on = refl; crash = λ c left. left; time = record { each = λ start c left. inl left }; allowance = refl };
     spends = spends_nothing (g.allowance (disk_of w));
     cause = no_cause (g.faults (disk_of w)) (g.allowance (disk_of w));
   }
@@ -99,10 +102,12 @@ module _ {D : Type 0} (g : Ghosts D) where
       crash = λ told. record { within = λ c left. ⊎_elim (λ was. before told c (only (device_of p) c was)) (λ now. now) ((adds told).each (device_of p) c left); adds = adds told };
       notes = subst (λ (n : Notes). OnOk r (notes_of w ≡ notes_after b.notes n)) (ap (λ (h : Held). h.notes) read.same.notes) put.notes;
       alive = put.alive;
+      anchor = subst (λ (t : Anchor × ℕ). OnOk r (batch_pages b ≤ area_end t.0 - t.1 → anchor_of w ≡ t.0)) (λ i. (read.same.anchor i, read.same.end i)) put.anchor;
       memory = λ e. (let m = put.memory e in record {
         told = m.told ∙ read_told g p q read;
         goes_on = m.goes_on ∙ read.same.dead;
         crash = λ c left. read.below.crash c (m.crash c left);
+        time = record { each = λ start c left. ⊎_elim (λ was. read.below.time.each start c was) (λ now. inr (read.below.crash c now)) (m.time.each start c left) };
         allowance = m.allowance ∙ read.below.allowance;
       });
       spends = subst (λ (a : Allowance). Spends a (g.allowance (disk_of w))) read.below.allowance put.spends;

@@ -2,7 +2,7 @@
 use Rattle.std.specs.Prelude.{IsTrue, None, Some}
 use Rattle.std.proofs.Common.{◌≡◌, ◌+◌, ◌*◌, ℕ, length, sym, ◌∙◌, ap, subst, ⊎_elim, arith}
 use Rattle.alp_base.specs.Crashes.{NoMore, Adds}
-use Rattle.alp_base.specs.Faults.{HasFaultCause, IsOfVolume}
+use Rattle.alp_base.specs.Faults.{HasFaultCause, IsCountKept, IsOfVolume}
 use Rattle.alp_base.specs.declared.faults.Sizes.{Sizes}
 use Rattle.alp_base.specs.declared.faults.VaultFault.{VaultFault}
 use Rattle.alp_base.specs.declared.faults.VaultFault.TheVariants as fault
@@ -24,7 +24,7 @@ use Rattle.alp_store.specs.Shelves.{IsStore, IsShelf, shelf_log}
 use Rattle.alp_store.specs.Starts.{IsDamagedVolume, WhyNotOpened}
 use Rattle.alp_store.specs.Told.{pages_of, contents_in, told_by, contents_of}
 use Rattle.alp_store.specs.declared.shelf.Shelf.{Shelf}
-use Rattle.alp_store.proofs.Holdings.{same_anchor, holds_before, may_fewer, adds_none, store_on}
+use Rattle.alp_store.proofs.Holdings.{same_anchor, holds_before, may_fewer, adds_none, whole_still, store_on}
 
 -- a disk that holds a volume has no damaged page
 no_damage : (server servers n home : ℕ) (image : Image) (c : Contents) (place : ℕ) → Holds server servers n home image c → IsDamagedVolume server servers n image place → ⊥
@@ -100,9 +100,9 @@ module _ {D : Type 0} (g : Ghosts D) (counts : (start disk : D) (c : Image) → 
   -- ---- both outcomes
 
   -- the log over the disk that was given back
-  pub given_back : (v w : Wal D) (d e : D) (f : VaultFault) (server servers : ℕ) → d ≡ disk_of v → disk_of w ≡ e → Looked g d e → anchor_of w ≡ anchor_of v → index_of w ≡ index_of v → held_notes w ≡ held_notes v → IsStore g v
-      → HasFaultCause (g.faults d) (g.faults e) (g.allowance e) f → (IsTrue (g.tells (disk_of v)) → IsOfVolume f) → IsGivenBack g v w f
-  given_back v w d e f server servers from there looked anchor index notes store cause volume =
+  pub given_back : ((disk : D) (c : Image) → g.left_since disk disk c → g.may_leave disk c) → (v w : Wal D) (d e : D) (f : VaultFault) (server servers : ℕ) → d ≡ disk_of v → disk_of w ≡ e → Looked g d e → anchor_of w ≡ anchor_of v → index_of w ≡ index_of v → held_notes w ≡ held_notes v → IsStore g v
+      → HasFaultCause (g.faults d) (g.faults e) (g.allowance e) f → IsCountKept (g.faults d) (g.faults e) f → (IsTrue (g.tells (disk_of v)) → IsOfVolume f) → IsGivenBack g v w f
+  given_back only v w d e f server servers from there looked anchor index notes store cause still volume =
       let here : Looked g (disk_of v) (disk_of w) = subst (λ (t : D × D). Looked g t.0 t.1) (λ i. (from i, sym there i)) looked in
       record {
         store = back_store v w here anchor index notes store;
@@ -110,9 +110,11 @@ module _ {D : Type 0} (g : Ghosts D) (counts : (start disk : D) (c : Image) → 
         held = back_held v w here anchor index notes;
         crash = back_crash v w here anchor index notes;
         time = back_time v w here anchor index notes (MayLeave g v);
+        whole = whole_still g only v w here.time store;
         later = here.later;
         spends = here.allowance;
         cause = subst (λ (t : D × D). HasFaultCause (g.faults t.0) (g.faults t.1) (g.allowance t.1) f) (λ i. (from i, sym there i)) cause;
+        still = subst (λ (t : D × D). IsCountKept (g.faults t.0) (g.faults t.1) f) (λ i. (from i, sym there i)) still;
         volume = volume;
       }
 
@@ -125,9 +127,9 @@ module _ {D : Type 0} (g : Ghosts D) (counts : (start disk : D) (c : Image) → 
       is_opened (anchor_of v).server (anchor_of v).servers (g.size (disk_of v)) (anchor_of v).sizes.home (g.seen (disk_of v)) c.0 f c.1 here
 
   -- the volume is open, and has the sizes that it had
-  pub reopened : (v : Wal D) (s : Shelf D) (d : D) (server servers : ℕ) → d ≡ disk_of v → Looked g d (disk_of (shelf_log s)) → (anchor_of v).server ≡ server → (anchor_of v).servers ≡ servers → (anchor_of (shelf_log s)).server ≡ server → (anchor_of (shelf_log s)).servers ≡ servers
-      → (anchor_of (shelf_log s)).sizes ≡ (anchor_of v).sizes → IsShelf g s → (IsTrue (g.tells d) → HoldsBy g (shelf_log s) (g.seen d) (contents_of g (shelf_log s))) → g.faults (disk_of (shelf_log s)) ≡ g.faults d → IsReopened g v s
-  reopened v s d server servers from looked number of_all number_now all_now sizes is holds faults =
+  pub reopened : ((disk : D) (c : Image) → g.left_since disk disk c → g.may_leave disk c) → (v : Wal D) (s : Shelf D) (d : D) (server servers : ℕ) → d ≡ disk_of v → Looked g d (disk_of (shelf_log s)) → (anchor_of v).server ≡ server → (anchor_of v).servers ≡ servers → (anchor_of (shelf_log s)).server ≡ server → (anchor_of (shelf_log s)).servers ≡ servers
+      → (anchor_of (shelf_log s)).sizes ≡ (anchor_of v).sizes → IsStore g v → IsShelf g s → (IsTrue (g.tells d) → HoldsBy g (shelf_log s) (g.seen d) (contents_of g (shelf_log s))) → g.faults (disk_of (shelf_log s)) ≡ g.faults d → IsReopened g v s
+  reopened only v s d server servers from looked number of_all number_now all_now sizes store is holds faults =
       let w = shelf_log s in
       let here : Looked g (disk_of v) (disk_of w) = subst (λ (x : D). Looked g x (disk_of w)) from looked in
       let first = number_now ∙ sym number in
@@ -138,6 +140,7 @@ module _ {D : Type 0} (g : Ghosts D) (counts : (start disk : D) (c : Image) → 
         left = λ told. opened_left v w here first second sizes (contents_of g w) (subst (λ (x : D). HoldsBy g w (g.seen x) (contents_of g w)) from (holds (subst (λ (x : D). IsTrue (g.tells x)) (sym from) told))) told;
         crash = opened_crash v w here first second sizes;
         time = opened_time v w here first second sizes (MayLeave g w);
+        whole = whole_still g only v w here.time store;
         faults = faults ∙ ap g.faults from;
         spends = here.allowance;
       }

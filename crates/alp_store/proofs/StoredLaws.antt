@@ -31,12 +31,12 @@ use Rattle.alp_wal.specs.Wal.{disk_of, anchor_of, notes_of, is_dead, BeforeOrAft
 use Rattle.alp_wal.specs.declared.wal.Wal.{Wal}
 use Rattle.alp_store.specs.Batches.{batch_of, AreBelow}
 use Rattle.alp_store.specs.Commits.{HasPut, HasStored, IsAsItWas}
-use Rattle.alp_store.specs.Holding.{HoldsBy, MayLeave, LeftSince}
+use Rattle.alp_store.specs.Holding.{HoldsBy, MayLeave, LeftSince, IsSameDisk, IsAlwaysWhole}
 use Rattle.alp_store.specs.Reads.{IsReadOn}
 use Rattle.alp_store.specs.Shelves.{shelf_log, IsShelf, IsStore}
 use Rattle.alp_store.specs.Told.{pages_of, contents_in, told_by, contents_of}
 use Rattle.alp_store.specs.declared.shelf.Shelf.{Shelf}
-use Rattle.alp_store.proofs.Holdings.{holds_state, state_holds, holds_before, holds_after, may_fewer, adds_none, read_same, read_holds, read_shelf}
+use Rattle.alp_store.proofs.Holdings.{holds_state, state_holds, holds_before, holds_after, may_fewer, adds_none, whole_still, read_same, read_holds, read_shelf}
 use Rattle.alp_store.proofs.Overlaid.{laid_held, length-overlaid}
 use Rattle.alp_store.proofs.PutLaws.{spends_nothing}
 use Rattle.alp_store.proofs.Standing.{told_is}
@@ -51,9 +51,19 @@ module _ {D : Type 0} (g : Ghosts D) (counts : (start disk : D) (c : Image) → 
       let holds : HoldsBy g w (g.seen (disk_of w)) c = subst (λ (x : Image). HoldsBy g w x c) (k.durable m.image m.left) m.holds in
       holds_state (anchor_of w).server (anchor_of w).servers (g.size (disk_of w)) (anchor_of w).sizes.home (g.seen (disk_of w)) c (told_by g w) holds (record { anchor = anchor_of w; bodies = k.bodies; server_is = refl; servers_is = refl; by = k.by })
 
+  -- and what it might have left since, where there was nothing else to be left than before
+  pub settled_since : (s : Shelf D) → IsShelf g s → (IsTrue (g.tells (disk_of (shelf_log s))) → IsKnown (g.size (disk_of (shelf_log s))) (g.seen (disk_of (shelf_log s))) (g.may_leave (disk_of (shelf_log s))) (shelf_log s))
+      → (w : Wal D) → IsSameDisk g (shelf_log s) w → Adds g.left_since (disk_of (shelf_log s)) (disk_of w) (g.may_leave (disk_of (shelf_log s))) → IsTrue (g.tells (disk_of (shelf_log s))) → Adds (LeftSince g) (shelf_log s) w (λ c. c ≡ contents_of g (shelf_log s))
+  settled_since s is known w same adds told = record {
+    each = λ start c m. (
+        let holds = holds_before g (shelf_log s) w same m.image c m.holds in
+        ⊎_elim (λ before. inl (record { image = m.image; left = before; holds = holds })) (λ now. inr (settled s is known told c (record { image = m.image; left = now; holds = holds }))) (adds.each (disk_of start) m.image m.left)
+        );
+  }
+
   -- ---- a call that only read
 
-  module _ {T : Type 0} (change : Change) (notes : List NoteChange) (s : Shelf D) (is : IsShelf g s) (known : IsTrue (g.tells (disk_of (shelf_log s))) → IsKnown (g.size (disk_of (shelf_log s))) (g.seen (disk_of (shelf_log s))) (g.may_leave (disk_of (shelf_log s))) (shelf_log s))
+  module _ {T : Type 0} (only : (disk : D) (c : Image) → g.left_since disk disk c → g.may_leave disk c) (change : Change) (notes : List NoteChange) (s : Shelf D) (is : IsShelf g s) (known : IsTrue (g.tells (disk_of (shelf_log s))) → IsKnown (g.size (disk_of (shelf_log s))) (g.seen (disk_of (shelf_log s))) (g.may_leave (disk_of (shelf_log s))) (shelf_log s))
       (p : Pool D) (read : IsReadOn g s.pages p) (f : VaultFault) (cause : HasVaultCause {T = T} (g.faults (device_of s.pages)) (g.faults (device_of p)) (g.allowance (device_of p)) (Err f)) where
     pub stored_nothing : HasStored {T = T} g change notes s (record s { pages = p }) (Err f)
     stored_nothing =
@@ -64,6 +74,8 @@ module _ {D : Type 0} (g : Ghosts D) (counts : (start disk : D) (c : Image) → 
           noted = tt;
           crash = λ told c m. inl (settled s is known told c (may_fewer g (shelf_log s) (log_of p) same read.below.crash c m));
           time = λ told. adds_none g counts (shelf_log s) (log_of p) same read.below.time (Either (contents_of g (shelf_log s)) (made change notes (contents_of g (shelf_log s))));
+          whole = whole_still g only (shelf_log s) (log_of p) read.below.time is.store;
+          memory = λ told e. settled_since s is known (log_of p) same read.below.time told;
           same = λ e. (read_holds g s.pages p read, read.below.allowance);
           kept = same;
           store = still.store;
@@ -110,11 +122,21 @@ module _ {D : Type 0} (g : Ghosts D) (counts : (start disk : D) (c : Image) → 
     outcome : IsTrue (g.tells (disk_of w)) → (image : Image) → g.may_leave (device_of p) image → BeforeOrAfter (anchor_of w).server (anchor_of w).servers (g.size (disk_of w)) (told_by g w) (batch_of pages notes) image
     outcome told image left = (put.crash told).within image (counts (disk_of w) (device_of p) image left)
 
+    -- so they hold something
+    volume : IsTrue (g.tells (disk_of w)) → (image : Image) → BeforeOrAfter (anchor_of w).server (anchor_of w).servers (g.size (disk_of w)) (told_by g w) (batch_of pages notes) image → (x : Contents) × HoldsBy g w image x
+    volume told image is_one = ⊎_elim
+        (λ before. (contents_of g w, state_holds (anchor_of w).server (anchor_of w).servers (g.size (disk_of w)) home image (told_by g w) (contents_of g w).cells before long (is.knows told).stands))
+        (λ after. (record { cells = cells_later; notes = later.notes }, state_holds (anchor_of w).server (anchor_of w).servers (g.size (disk_of w)) home image later cells_later after (length-overlaid (batch_of pages notes).images (told_by g w).pages ∙ long) (stands_later told).stands))
+        is_one
+
+    whole : IsAlwaysWhole g w (log_of p)
+    whole told = record {
+      within = λ c left. volume told c ((put.crash told).within c left);
+      adds = record { each = λ start c left. ⊎_elim (λ was. inl was) (λ now. inr (volume told c now)) ((put.crash told).adds.each start c left) };
+    }
+
     leaves : IsTrue (g.tells (disk_of w)) → (image : Image) → g.may_leave (device_of p) image → (x : Contents) × HoldsBy g (log_of p) image x
-    leaves told image left = ⊎_elim
-        (λ before. (contents_of g w, holds_after g w (log_of p) put.same image (contents_of g w) (state_holds (anchor_of w).server (anchor_of w).servers (g.size (disk_of w)) home image (told_by g w) (contents_of g w).cells before long (is.knows told).stands)))
-        (λ after. (record { cells = cells_later; notes = later.notes }, holds_after g w (log_of p) put.same image (record { cells = cells_later; notes = later.notes }) (state_holds (anchor_of w).server (anchor_of w).servers (g.size (disk_of w)) home image later cells_later after (length-overlaid (batch_of pages notes).images (told_by g w).pages ∙ long) (stands_later told).stands)))
-        (outcome told image left)
+    leaves told image left = let x = volume told image (outcome told image left) in (x.0, holds_after g w (log_of p) put.same image x.0 x.1)
 
     store : IsStore g (log_of p)
     store = record {
@@ -169,6 +191,8 @@ module _ {D : Type 0} (g : Ghosts D) (counts : (start disk : D) (c : Image) → 
       noted = put.notes;
       crash = crash change notes s is p pages (Ok x) put below c sized planned;
       time = time change notes s is p pages (Ok x) put below c sized planned;
+      whole = whole change notes s is p pages (Ok x) put below c sized planned;
+      memory = λ told e. cc;
       same = λ e. cc;
       kept = put.same;
       store = store change notes s is p pages (Ok x) put below c sized planned;
@@ -177,12 +201,14 @@ module _ {D : Type 0} (g : Ghosts D) (counts : (start disk : D) (c : Image) → 
       cause = put.cause;
     }
 
-    pub stored_err : (f : VaultFault) → HasPut {T = T} g (batch_of pages notes) (shelf_log s) (log_of p) (Err f) → HasStored {T = T} g change notes s (record s { pages = p }) (Err f)
-    stored_err f put = record {
+    pub stored_err : (IsTrue (g.tells (disk_of (shelf_log s))) → IsKnown (g.size (disk_of (shelf_log s))) (g.seen (disk_of (shelf_log s))) (g.may_leave (disk_of (shelf_log s))) (shelf_log s)) → (f : VaultFault) → HasPut {T = T} g (batch_of pages notes) (shelf_log s) (log_of p) (Err f) → HasStored {T = T} g change notes s (record s { pages = p }) (Err f)
+    stored_err known f put = record {
       cells = λ told. tt;
       noted = tt;
       crash = crash change notes s is p pages (Err f) put below c sized planned;
       time = time change notes s is p pages (Err f) put below c sized planned;
+      whole = whole change notes s is p pages (Err f) put below c sized planned;
+      memory = λ told e. settled_since s is known (log_of p) put.same (put.memory e).time told;
       same = λ e. (let m = put.memory e in (ap contents_in m.told, m.allowance));
       kept = put.same;
       store = store change notes s is p pages (Err f) put below c sized planned;

@@ -1,5 +1,6 @@
 -- What a store holds, and what a crash may leave of it, by what may be left of its disk.
-use Rattle.std.specs.Prelude.{◌≡◌, ℕ, length}
+use Rattle.std.specs.Prelude.{◌≡◌, ℕ, IsTrue, length}
+use Rattle.alp_base.specs.Crashes.{LeavesOnly}
 use Rattle.alp_disk.specs.Disk.{Image}
 use Rattle.alp_disk.specs.declared.disk.Disk.{Ghosts}
 use Rattle.alp_pages.specs.Volume.{StandFor}
@@ -40,3 +41,7 @@ pub record IsSameDisk {D : Type 0} (g : Ghosts D) (old new : Wal D) : Type 0 whe
   pub tells : g.tells (disk_of new) ≡ g.tells (disk_of old)
   pub size : g.size (disk_of new) ≡ g.size (disk_of old)
   pub volume : IsSameVolume (anchor_of old) (anchor_of new)
+
+-- a crash at any moment from the one log to the other leaves a disk that holds something
+abbrev pub IsAlwaysWhole : {D : Type 0} → Ghosts D → Wal D → Wal D → Type 0
+IsAlwaysWhole g old new = IsTrue (g.tells (disk_of old)) → LeavesOnly g.left_since (disk_of old) (disk_of new) (λ image. (c : Contents) × HoldsBy g old image c)

@@ -1,11 +1,13 @@
 -- Which disks are new, and why a store does not start on one.
 use Rattle.std.specs.Prelude.{◌≡◌, ◌⊎◌, ◌≤◌, ℕ, ◌+◌, ◌*◌, [], ◌∷◌, Some, length, MatchResult, Result, IfOk, IfErr}
 use Rattle.std.specs.FinMap as map
+use Rattle.alp_anchor.specs.Anchor.{Counts}
+use Rattle.alp_base.specs.Crashes.{Only}
 use Rattle.alp_base.specs.Pages.{zero_page}
-use Rattle.alp_base.specs.Faults.{HasFaultCause, IsCountKept}
+use Rattle.alp_base.specs.Faults.{HasFaultCause, IsCountKept, IsOfVolume}
 use Rattle.alp_base.specs.declared.faults.Sizes.{Sizes}
 use Rattle.alp_base.specs.declared.faults.VaultFault.{VaultFault}
-use Rattle.alp_base.specs.declared.faults.VaultFault.TheVariants.{Damaged}
+use Rattle.alp_base.specs.declared.faults.VaultFault.TheVariants.{OutOfMemory, Damaged}
 use Rattle.alp_base.specs.declared.ids.FileId.{FileId}
 use Rattle.alp_base.specs.declared.key.Key.TheVariants.{Leader}
 use Rattle.alp_fields.specs.ClockNote.{clock_kept}
@@ -13,6 +15,7 @@ use Rattle.alp_files.specs.declared.cell.Cell.{Cell}
 use Rattle.alp_batch.specs.declared.batch.Batch.{Batch}
 use Rattle.alp_disk.specs.Disk.{Image, page}
 use Rattle.alp_disk.specs.declared.disk.Disk.{Ghosts}
+use Rattle.alp_format.specs.Format.{first_anchor}
 use Rattle.alp_pages.specs.Damage.{damage_of}
 use Rattle.alp_pages.specs.Pages.{Pages, header_page}
 use Rattle.alp_vault.specs.Contents.{Contents}
@@ -51,11 +54,25 @@ pub record AreOfServer (server servers : ℕ) (held : Contents) : Type 0 where
   pub notes : AreServerNotes server servers held.notes
   pub files : (f : FileId) (c : Cell) → map.get held.cells (Leader f) ≡ Some c → (f.server ≡ server) × (f.epoch ≤ (clock_kept held.notes).epoch)
 
--- a disk was mounted: the log holds what the disk's reading says, which is of its server, and the disk reads on as before
+-- a disk was mounted: the log holds what the disk's reading says, which is of its server, and has the anchor that counts there
 pub record IsStarted {D : Type 0} (g : Ghosts D) (disk : D) (w : Wal D) : Type 0 where
   pub holds : HoldsBy g w (g.seen disk) (contents_of g w)
   pub own : AreOfServer (anchor_of w).server (anchor_of w).servers (contents_of g w)
-  pub seen : g.seen (disk_of w) ≡ g.seen disk
+  pub counts : Counts (g.size disk) (g.seen disk) (anchor_of w)
+
+-- its anchors are all zeros, after a crash too
+pub record HasNoAnchor {D : Type 0} (g : Ghosts D) (disk : D) : Type 0 where
+  pub first : page (g.seen disk) 0 ≡ zero_page
+  pub second : page (g.seen disk) 1 ≡ zero_page
+  pub durable : Only (g.seen disk) (g.may_leave disk)
+
+-- a new disk was made a volume of these sizes that holds nothing, under its first anchor, or its device refused; where memory
+-- was not there, it is new again, after a crash too
+pub record HasFormatted {D T : Type 0} (g : Ghosts D) (log_in : T → Wal D) (server servers : ℕ) (sizes : Sizes) (result : Result T (D × VaultFault)) : Type 0 where
+  pub empty : IfOk result (λ s. contents_of g (log_in s) ≡ record { cells = map.empty; notes = map.empty })
+  pub anchor : IfOk result (λ s. anchor_of (log_in s) ≡ first_anchor server servers sizes)
+  pub volume : IfErr result (λ e. IsOfVolume e.1)
+  pub memory : IfErr result (λ e. e.1 ≡ OutOfMemory → IsNew sizes (g.size e.0) (g.seen e.0) × Only (g.seen e.0) (g.may_leave e.0))
 
 -- it holds a volume whose notes or files are not those of the server
 pub record IsForeign (server servers n : ℕ) (image : Image) : Type 0 where
@@ -74,16 +91,10 @@ abbrev pub WhyNotStarted : ℕ → ℕ → ℕ → Image → VaultFault → Type
 WhyNotStarted server servers n image (Damaged place) = WhyNotOpened server servers n image (Damaged place) ⊎ ((place ≡ 0) × IsForeign server servers n image)
 WhyNotStarted server servers n image fault = WhyNotMounted server servers n image fault
 
--- The count of faults moves only where the disk failed or was stopped, and each answer has its cause.
+-- The count of faults does not fall, moves only where the disk failed or was stopped, and each answer has its cause.
 pub record HasOpenCause {D T : Type 0} (g : Ghosts D) (disk_in : T → D) (disk : D) (result : Result T (D × VaultFault)) : Type 0 where
   pub later : IfErr result (λ e. g.faults disk ≤ g.faults e.0)
   pub still : MatchResult result (λ s. g.faults (disk_in s) ≡ g.faults disk) (λ e. IsCountKept (g.faults disk) (g.faults e.0) e.1)
-  pub cause : IfErr result (λ e. HasFaultCause (g.faults disk) (g.faults e.0) (g.allowance e.0) e.1)
-
--- The count of faults does not fall, moves only where the disk failed or was stopped, and each answer has its cause.
-pub record HasStartCause {D T : Type 0} (g : Ghosts D) (disk : D) (disk_in : T → D) (result : Result T (D × VaultFault)) : Type 0 where
-  pub still : IfOk result (λ s. g.faults (disk_in s) ≡ g.faults disk)
-  pub later : IfErr result (λ e. g.faults disk ≤ g.faults e.0)
   pub cause : IfErr result (λ e. HasFaultCause (g.faults disk) (g.faults e.0) (g.allowance e.0) e.1)
 
 -- the header of a volume that holds nothing

@@ -1,19 +1,20 @@
 //! New disks.
-ghost use Rattle.std.specs.Prelude.{◌≡◌, ◌≤◌, ◌<◌, ◌↔◌, IsTrue, IfOk, IfErr, MatchResult, false};
+ghost use Rattle.std.specs.Prelude.{◌≡◌, ◌≤◌, ◌<◌, ◌↔◌, IsTrue, IfOk, IfErr, OnOk, MatchResult, true, false};
 ghost use Rattle.std.specs.FinMap as map;
 ghost use Rattle.alp_anchor.specs.Anchor.{AreSizesOf};
 ghost use Rattle.alp_base.specs.Allowances.{HasHaltCause};
-ghost use Rattle.alp_base.specs.Faults.{IsOfVolume};
+ghost use Rattle.alp_base.specs.Faults.{IsOfVolume, IsCountKept, HasFaultCause};
+ghost use Rattle.alp_base.specs.declared.faults.VaultFault.TheVariants as fault;
 ghost use Rattle.alp_base.specs.Pages.{zero_page};
 ghost use Rattle.alp_disk.specs.Calls.{IsSameDevice, OnlyRead};
 ghost use Rattle.alp_disk.specs.Disk.{page as page_of};
 ghost use Rattle.alp_pool.specs.Pools.{log_of, device_of};
 ghost use Rattle.alp_vault.specs.Vault.{AreSizes, IsServer};
-ghost use Rattle.alp_wal.specs.Wal.{disk_of, anchor_of, notes_of, is_dead};
+ghost use Rattle.alp_wal.specs.Wal.{disk_of, anchor_of, notes_of, room_of, is_dead};
 ghost use Rattle.alp_format.specs.Format.{blank_state, first_anchor};
 ghost use Rattle.alp_store.specs.Commits.{HasPut};
 ghost use Rattle.alp_store.specs.Shelves.{shelf_log, IsShelf};
-ghost use Rattle.alp_store.specs.Starts.{IsNew, HasStartCause, header_batch as header_batch_said};
+ghost use Rattle.alp_store.specs.Starts.{IsNew, HasNoAnchor, HasFormatted, HasOpenCause, header_batch as header_batch_said};
 ghost use Rattle.alp_store.specs.Told.{contents_of, told_by};
 
 use crate::commit::put;
@@ -22,7 +23,7 @@ use crate::open::{buffered, shelve};
 use crate::shelf::Shelf;
 use alp_base::{Halt, OutOfMemory, Page, PageRef, Sizes, VaultFault};
 use alp_batch::{Batch, Images, NoteChanges, PageImage};
-use alp_disk::Disk;
+use alp_disk::{Disk, write_span};
 use alp_format::format;
 use alp_pages::new_header;
 use std::alloc::Global;
@@ -93,11 +94,12 @@ fn blank<D: Disk>(
     requires { AreSizesOf (D.size disk) sizes }
     ensures told { IsTrue (D.tells disk) → IfOk result (λ p. told_by D.Disk (log_of p) ≡ blank_state sizes.home) }
     ensures anchor { IfOk result (λ p. anchor_of (log_of p) ≡ first_anchor server servers sizes) }
+    ensures room { IfOk result (λ p. room_of (log_of p) ≡ sizes.area) }
     ensures none { IfOk result (λ p. notes_of (log_of p) ≡ map.empty) }
     ensures alive { IfOk result (λ p. is_dead (log_of p) ≡ false) }
     ensures below { MatchResult result (λ p. IsSameDevice D.Disk disk (device_of p)) (λ e. IsSameDevice D.Disk disk e.0) }
     ensures volume { IfErr result (λ e. IsOfVolume e.1) }
-    ensures cause { HasStartCause D.Disk disk (λ p. device_of p) result }
+    ensures cause { HasOpenCause D.Disk (λ p. device_of p) disk result }
 {
     match format(alloc, disk, server, servers, sizes) {
         Ok(log) => buffered(alloc, log),
@@ -105,8 +107,8 @@ fn blank<D: Disk>(
     }
 }
 
-/// Formats a disk and opens the volume, which holds nothing.
-pub(super) fn create<D: Disk>(
+/// A volume on a disk that is formatted, which holds nothing.
+fn made<D: Disk>(
     alloc: Global,
     disk: D,
     server: u8,
@@ -118,11 +120,10 @@ pub(super) fn create<D: Disk>(
     ensures shelf { IfOk result (IsShelf D.Disk) }
     ensures empty { IsTrue (D.tells disk) → IfOk result (λ s. contents_of D.Disk (shelf_log s) ≡ record { cells = map.empty; notes = map.empty }) }
     ensures none { IfOk result (λ s. notes_of (shelf_log s) ≡ map.empty) }
-    ensures named { IfOk result (λ s. ((anchor_of (shelf_log s)).server ≡ server) × ((anchor_of (shelf_log s)).servers ≡ servers)) }
-    ensures sizes { IfOk result (λ s. (anchor_of (shelf_log s)).sizes ≡ sizes) }
+    ensures anchor { IfOk result (λ s. anchor_of (shelf_log s) ≡ first_anchor server servers sizes) }
     ensures below { MatchResult result (λ s. IsSameDevice D.Disk disk (disk_of (shelf_log s))) (λ e. IsSameDevice D.Disk disk e.0) }
     ensures volume { IsTrue (D.tells disk) → IfErr result (λ e. IsOfVolume e.1) }
-    ensures cause { HasStartCause D.Disk disk (λ s. disk_of (shelf_log s)) result }
+    ensures cause { HasOpenCause D.Disk (λ s. disk_of (shelf_log s)) disk result }
 {
     let mut pages = match blank(alloc, disk, server, servers, sizes) {
         Ok(pages) => pages,
@@ -132,4 +133,68 @@ pub(super) fn create<D: Disk>(
         return Err((pages.close().close(), fault));
     }
     shelve(alloc, pages)
+}
+
+/// Makes a disk new again: zeros over both anchors, and a sync.
+fn renew<D: Disk>(disk: &mut D) -> Result<(), Halt>
+    requires { 2 ≤ D.size disk.old }
+    ensures blank { IsTrue (D.tells disk.old) → OnOk result (HasNoAnchor D.Disk disk.new) }
+    ensures below { IsSameDevice D.Disk disk.old disk.new }
+    ensures cause { HasHaltCause (D.faults disk.old) (D.faults disk.new) (D.allowance disk.new) result }
+{
+    write_span(disk, 0, 2, &[0; 1024])?;
+    disk.sync()?;
+    Ok(())
+}
+
+/// The disk of a volume that wanted memory, made new again; or why it is not.
+fn renewed<D: Disk>(disk: D) -> (D, VaultFault)
+    requires { 2 ≤ D.size disk }
+    ensures blank { IsTrue (D.tells disk) → result.1 ≡ fault.OutOfMemory → HasNoAnchor D.Disk result.0 }
+    ensures below { IsSameDevice D.Disk disk result.0 }
+    ensures later { D.faults disk ≤ D.faults result.0 }
+    ensures still { IsCountKept (D.faults disk) (D.faults result.0) result.1 }
+    ensures cause { HasFaultCause (D.faults disk) (D.faults result.0) (D.allowance result.0) result.1 }
+    ensures volume { IsOfVolume result.1 }
+{
+    let mut disk = disk;
+    match renew(&mut disk) {
+        Ok(()) => (disk, VaultFault::OutOfMemory),
+        Err(Halt::Failed) => (disk, VaultFault::Failed),
+        Err(Halt::Stopped) => (disk, VaultFault::Stopped),
+    }
+}
+
+fn is_of_memory(why: &VaultFault) -> bool
+    ensures yes { result ≡ true → why.now ≡ fault.OutOfMemory }
+    ensures no { result ≡ false → why.now ≡ fault.OutOfMemory → ⊥ }
+{
+    matches!(why, VaultFault::OutOfMemory)
+}
+
+/// Formats a disk and opens the volume, which holds nothing. Where memory is not there, the disk is made new again.
+pub(super) fn create<D: Disk>(
+    alloc: Global,
+    disk: D,
+    server: u8,
+    servers: u8,
+    sizes: Sizes,
+) -> Result<Shelf<D>, (D, VaultFault)>
+    requires sizes { AreSizesOf (D.size disk) sizes }
+    requires server { IsServer server servers }
+    ensures shelf { IfOk result (IsShelf D.Disk) }
+    ensures formatted { IsTrue (D.tells disk) → HasFormatted D.Disk (λ s. shelf_log s) server servers sizes result }
+    ensures none { IfOk result (λ s. notes_of (shelf_log s) ≡ map.empty) }
+    ensures anchor { IfOk result (λ s. anchor_of (shelf_log s) ≡ first_anchor server servers sizes) }
+    ensures below { MatchResult result (λ s. IsSameDevice D.Disk disk (disk_of (shelf_log s))) (λ e. IsSameDevice D.Disk disk e.0) }
+    ensures cause { HasOpenCause D.Disk (λ s. disk_of (shelf_log s)) disk result }
+{
+    let (disk, why) = match made(alloc, disk, server, servers, sizes) {
+        Ok(shelf) => return Ok(shelf),
+        Err(refused) => refused,
+    };
+    if !is_of_memory(&why) {
+        return Err((disk, why));
+    }
+    Err(renewed(disk))
 }

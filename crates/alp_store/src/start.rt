@@ -1,14 +1,13 @@
 //! Starting a store on a disk.
 ghost use Rattle.std.specs.Prelude.{◌≡◌, ◌≤◌, ℕ, IsTrue, IfOk, IfErr, MatchResult, true};
-ghost use Rattle.std.specs.FinMap as map;
-ghost use Rattle.alp_base.specs.Faults.{IsOfVolume};
+ghost use Rattle.alp_anchor.specs.Anchor.{AreSizesOf, Counts};
 ghost use Rattle.alp_disk.specs.Calls.{IsSameDevice, Looked};
 ghost use Rattle.alp_vault.specs.Vault.{AreSizes, IsServer};
 ghost use Rattle.alp_vault.specs.Volumes.{AreServerNotes};
 ghost use Rattle.alp_wal.specs.Wal.{disk_of, anchor_of, notes_of};
 ghost use Rattle.alp_store.specs.Holding.{HoldsBy};
 ghost use Rattle.alp_store.specs.Shelves.{shelf_log, IsShelf};
-ghost use Rattle.alp_store.specs.Starts.{IsNew, AreOfServer, IsStarted, WhyNotStarted, HasOpenCause, HasStartCause};
+ghost use Rattle.alp_store.specs.Starts.{IsNew, AreOfServer, IsStarted, HasFormatted, WhyNotStarted, HasOpenCause};
 ghost use Rattle.alp_store.specs.Told.{contents_of};
 
 use crate::new_volume::{create, is_new};
@@ -32,6 +31,7 @@ fn open_own<D: Disk>(
     ensures shelf { IfOk result (IsShelf D.Disk) }
     ensures holds { IsTrue (D.tells disk) → IfOk result (λ s. HoldsBy D.Disk (shelf_log s) (D.seen disk) (contents_of D.Disk (shelf_log s))) }
     ensures own { IsTrue (D.tells disk) → IfOk result (λ s. AreOfServer server servers (contents_of D.Disk (shelf_log s))) }
+    ensures counts { IsTrue (D.tells disk) → IfOk result (λ s. Counts (D.size disk) (D.seen disk) (anchor_of (shelf_log s))) }
     ensures notes { IfOk result (λ s. AreServerNotes server servers (notes_of (shelf_log s))) }
     ensures named { IfOk result (λ s. ((anchor_of (shelf_log s)).server ≡ server) × ((anchor_of (shelf_log s)).servers ≡ servers)) }
     ensures below { MatchResult result (λ s. Looked D.Disk disk (disk_of (shelf_log s))) (λ e. Looked D.Disk disk e.0) }
@@ -40,6 +40,7 @@ fn open_own<D: Disk>(
 {
     let shelf = open(alloc, disk, server, servers)?;
     if shelf.is_of_server(server) {
+        shelf.pages.knows();
         return Ok(shelf);
     }
     let Shelf { pages, .. } = shelf;
@@ -58,15 +59,14 @@ fn shelf_on<D: Disk>(
     requires sizes { AreSizes sizes }
     requires server { IsServer server servers }
     ensures shelf { IfOk result (IsShelf D.Disk) }
-    ensures new { IsTrue (D.tells disk) → IsNew sizes (D.size disk) (D.seen disk) → IfOk result (λ s. (contents_of D.Disk (shelf_log s) ≡ record { cells = map.empty; notes = map.empty }) × ((anchor_of (shelf_log s)).sizes ≡ sizes)) }
-    ensures new_refused { IsTrue (D.tells disk) → IsNew sizes (D.size disk) (D.seen disk) → IfErr result (λ e. IsOfVolume e.1) }
+    ensures new { IsTrue (D.tells disk) → IsNew sizes (D.size disk) (D.seen disk) → HasFormatted D.Disk (λ s. shelf_log s) server servers sizes result }
     ensures mounted { IsTrue (D.tells disk) → (IsNew sizes (D.size disk) (D.seen disk) → ⊥) → IfOk result (λ s. IsStarted D.Disk disk (shelf_log s)) }
     ensures why_not { IsTrue (D.tells disk) → (IsNew sizes (D.size disk) (D.seen disk) → ⊥) → IfErr result (λ e. WhyNotStarted server servers (D.size disk) (D.seen disk) e.1) }
-    ensures untouched { IsTrue (D.tells disk) → (IsNew sizes (D.size disk) (D.seen disk) → ⊥) → IfErr result (λ e. D.seen e.0 ≡ D.seen disk) }
+    ensures looked { IsTrue (D.tells disk) → (IsNew sizes (D.size disk) (D.seen disk) → ⊥) → MatchResult result (λ s. Looked D.Disk disk (disk_of (shelf_log s))) (λ e. Looked D.Disk disk e.0) }
     ensures notes { IfOk result (λ s. AreServerNotes server servers (notes_of (shelf_log s))) }
     ensures named { IfOk result (λ s. ((anchor_of (shelf_log s)).server ≡ server) × ((anchor_of (shelf_log s)).servers ≡ servers)) }
     ensures below { MatchResult result (λ s. IsSameDevice D.Disk disk (disk_of (shelf_log s))) (λ e. IsSameDevice D.Disk disk e.0) }
-    ensures cause { HasStartCause D.Disk disk (λ s. disk_of (shelf_log s)) result }
+    ensures cause { HasOpenCause D.Disk (λ s. disk_of (shelf_log s)) disk result }
 {
     let mut disk = disk;
     match is_new(&mut disk, sizes) {
@@ -91,17 +91,17 @@ impl<D: Disk> Store<D> {
         requires sizes { AreSizes sizes }
         requires server { IsServer server servers }
         ensures serves { IfOk result (λ s. s.serves ≡ true) }
-        // A new disk becomes a volume of these sizes that holds nothing.
-        ensures new { IsTrue (D.tells disk) → IsNew sizes (D.size disk) (D.seen disk) → IfOk result (λ s. (contents_of D.Disk s.log ≡ record { cells = map.empty; notes = map.empty }) × ((anchor_of s.log).sizes ≡ sizes)) }
-        ensures new_refused { IsTrue (D.tells disk) → IsNew sizes (D.size disk) (D.seen disk) → IfErr result (λ e. IsOfVolume e.1) }
-        // Any other is mounted, with the cells and notes of its reading, and reads on as before.
+        // A new disk becomes a volume of these sizes that holds nothing; where memory is not there, it stays new.
+        ensures new { IsTrue (D.tells disk) → IsNew sizes (D.size disk) (D.seen disk) → HasFormatted D.Disk (λ s. s.log) server servers sizes result }
+        // Any other is mounted, with the cells and notes of its reading. It reads on as before, and a crash leaves no more of it.
         ensures mounted { IsTrue (D.tells disk) → (IsNew sizes (D.size disk) (D.seen disk) → ⊥) → IfOk result (λ s. IsStarted D.Disk disk s.log) }
         ensures why_not { IsTrue (D.tells disk) → (IsNew sizes (D.size disk) (D.seen disk) → ⊥) → IfErr result (λ e. WhyNotStarted server servers (D.size disk) (D.seen disk) e.1) }
-        ensures untouched { IsTrue (D.tells disk) → (IsNew sizes (D.size disk) (D.seen disk) → ⊥) → IfErr result (λ e. D.seen e.0 ≡ D.seen disk) }
+        ensures looked { IsTrue (D.tells disk) → (IsNew sizes (D.size disk) (D.seen disk) → ⊥) → MatchResult result (λ s. Looked D.Disk disk (disk_of s.log)) (λ e. Looked D.Disk disk e.0) }
+        ensures sized { IfOk result (λ s. AreSizesOf (D.size (disk_of s.log)) (anchor_of s.log).sizes) }
         ensures notes { IfOk result (λ s. AreServerNotes server servers (notes_of s.log)) }
         ensures named { IfOk result (λ s. ((anchor_of s.log).server ≡ server) × ((anchor_of s.log).servers ≡ servers)) }
         ensures below { MatchResult result (λ s. IsSameDevice D.Disk disk (disk_of s.log)) (λ e. IsSameDevice D.Disk disk e.0) }
-        ensures cause { HasStartCause D.Disk disk (λ s. disk_of s.log) result }
+        ensures cause { HasOpenCause D.Disk (λ s. disk_of s.log) disk result }
     {
         let shelf = shelf_on(alloc, disk, server, servers, sizes)?;
         Ok(Store {

@@ -1,9 +1,15 @@
 //! A store as its callers see it.
-ghost use Rattle.std.specs.Prelude.{◌≡◌};
+ghost use Rattle.std.specs.Prelude.{◌≡◌, IsTrue, true};
+ghost use Rattle.alp_base.specs.Crashes.{Only};
+ghost use Rattle.alp_disk.specs.Disk.{Image};
+ghost use Rattle.alp_vault.specs.Contents.{Contents};
 ghost use Rattle.alp_vault.specs.Vault.{serves_past_change};
 ghost use Rattle.alp_wal.specs.Wal.{disk_of, anchor_of};
+ghost use Rattle.alp_store.specs.Holding.{HoldsBy};
+ghost use Rattle.alp_store.specs.Told.{contents_of};
 
 use crate::recover::reopen;
+use crate::shelf::Shelf;
 use crate::stage::Stage;
 use alp_base::{Bytes, FileId, Key, Name, NoteChange, Sizes, VaultFault};
 use alp_disk::Disk;
@@ -49,10 +55,22 @@ fn is_served_past(fault: &VaultFault) -> bool
 impl<D: Disk> Store<D> {
     /// The disk, as it is.
     pub fn into_disk(self) -> D
-        ensures { result ≡ disk_of self.log }
+        ensures disk { result ≡ disk_of self.log }
+        // Of a store that serves, what the disk reads is what the store holds, and a crash leaves that.
+        ensures holds { IsTrue (D.tells result) → self.serves ≡ true → HoldsBy D.Disk self.log (D.seen result) (contents_of D.Disk self.log) }
+        ensures left { IsTrue (D.tells result) → self.serves ≡ true → Only (D.seen result) (D.may_leave result) }
+        // Of any, whatever a crash leaves of the disk holds something.
+        ensures whole { IsTrue (D.tells result) → (image : Image) → D.may_leave result image → (c : Contents) × HoldsBy D.Disk self.log image c }
     {
         let Store { stage, .. } = self;
-        stage.into_log().close()
+        match stage {
+            Stage::Open(shelf) => {
+                let Shelf { pages, .. } = shelf;
+                pages.knows();
+                pages.close().close()
+            }
+            Stage::Fallen(log) => log.close(),
+        }
     }
 }
 

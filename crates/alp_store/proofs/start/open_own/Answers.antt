@@ -2,7 +2,7 @@ use Rattle.std.proofs.Common.{◌≤◌, ℕ, refl, ◌∙◌, ap, subst, inr, a
 use Rattle.alp_wal.specs.Wal.{disk_of}
 use Rattle.alp_wal.specs.declared.wal.Wal.{Wal}
 use Rattle.alp_store.specs.Shelves.{shelf_log}
-use Rattle.alp_store.proofs.ForeignLaws.{tells_on, is_foreign}
+use Rattle.alp_store.proofs.ForeignLaws.{tells_on, is_foreign, still_counts}
 use Rattle.alp_store.proofs.start.open_own.Goals as goal
 
 pub returns-then-is_of_server-clause-own : goal.returns-then-is_of_server-clause-own
@@ -32,3 +32,8 @@ returns-clause-cause g c =
       still = still;
       cause = record { failed = λ e. cc; stopped = λ e. cc };
     }
+
+pub returns-then-is_of_server-clause-counts : goal.returns-then-is_of_server-clause-counts
+returns-then-is_of_server-clause-counts g c told =
+    let e = c.in_ok-shelf.ensures in
+    still_counts g.D.Disk c.args.disk c.args.server c.args.servers (shelf_log c.in_ok-shelf.shelf) e.below e.named.0 e.named.1 e.shelf.alive c.knows.ensures.known told

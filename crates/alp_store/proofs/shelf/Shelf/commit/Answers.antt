@@ -38,7 +38,7 @@ returns-in-Err g c =
     let s = c.args.self.now in
     let why = c.in-Err.ensures.read.cause in
     subst (λ (k : Catalog). HasStored {T = Unit {0}} g.D.Disk c.args.change.now c.args.notes.now s (record { pages = c.plan_change.new.reader; catalog = k }) (Err c.in-Err.fault)) (sym c.in-Err.ensures.same)
-    (stored_nothing g.D.Disk g.met.D.Disk.counts_now c.args.change.now c.args.notes.now s c.requires.shelf (λ told. c.knows.ensures.known told c.requires.shelf.alive) c.plan_change.new.reader c.plan_change.ensures.read.on c.in-Err.fault
+    (stored_nothing g.D.Disk g.met.D.Disk.counts_now g.met.D.Disk.only_now c.args.change.now c.args.notes.now s c.requires.shelf (λ told. c.knows.ensures.known told c.requires.shelf.alive) c.plan_change.new.reader c.plan_change.ensures.read.on c.in-Err.fault
     (record { later = why.later; still = why.still; cause = why.cause; volume = why.volume }))
 
 pub returns : goal.returns
@@ -74,6 +74,6 @@ returns-in-Err-put_plan g c =
     (λ low. stored_err g.D.Disk g.met.D.Disk.counts_now c.args.change.now notes s c.requires.shelf c.put_plan.new.pages pages (subst (λ (a : Anchor). AreBelow a.sizes.home pages) read.same.anchor low) c.plan_change.new.catalog (subst (λ (h : ℕ). IsCatalog h c.plan_change.new.catalog) alive_home c.plan_change.ensures.sized)
     (λ told. planned_here home (home_of s.pages) alive_home (pages_of (told_by g.D.Disk w)) (contents_of g.D.Disk w).cells s.catalog (c.requires.shelf.knows told)
     (λ p. c.in-Ok.ensures.planned (contents_of g.D.Disk w).cells p.stands told p.knows (c.requires.room told).sound))
-    f put)
-    (λ same. stored_nothing g.D.Disk g.met.D.Disk.counts_now c.args.change.now notes s c.requires.shelf known c.put_plan.new.pages (subst (λ (p : Pool g.row.D.Denot). IsReadOn g.D.Disk s.pages p) (sym same.0) read) f put.cause)
+    known f put)
+    (λ same. stored_nothing g.D.Disk g.met.D.Disk.counts_now g.met.D.Disk.only_now c.args.change.now notes s c.requires.shelf known c.put_plan.new.pages (subst (λ (p : Pool g.row.D.Denot). IsReadOn g.D.Disk s.pages p) (sym same.0) read) f put.cause)
     c.in-Err-put_plan.ensures.below)

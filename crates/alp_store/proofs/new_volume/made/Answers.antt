@@ -1,14 +1,18 @@
-use Rattle.std.specs.Prelude.{Result, IsTrue}
-use Rattle.std.proofs.Common.{sym, ◌∙◌, ap, subst}
+use Rattle.std.specs.Prelude.{Result, IsTrue, OnOk}
+use Rattle.std.proofs.Common.{◌≡◌, ◌≤◌, sym, ◌∙◌, ap, subst, arith}
 use Rattle.alp_anchor.specs.declared.anchor.Anchor.{Anchor}
 use Rattle.alp_base.specs.declared.faults.VaultFault.{VaultFault}
+use Rattle.alp_format.specs.Format.{first_anchor}
 use Rattle.alp_pool.specs.Pools.{log_of}
 use Rattle.alp_wal.specs.Calls.{Becomes}
+use Rattle.alp_wal.specs.Live.{batch_pages}
 use Rattle.alp_wal.specs.State.{State, applied}
+use Rattle.alp_wal.specs.Wal.{anchor_of, room_of}
 use Rattle.alp_store.specs.Starts.{header_batch}
 use Rattle.alp_store.specs.Told.{told_by}
-use Rattle.alp_store.proofs.CreateLaws.{made_empty, made_volume}
-use Rattle.alp_store.proofs.new_volume.create.Goals as goal
+use Rattle.alp_store.proofs.CreateLaws.{made_empty, made_volume, made_anchored}
+use Rattle.alp_store.proofs.NewLaws.{header_small}
+use Rattle.alp_store.proofs.new_volume.made.Goals as goal
 
 pub returns-clause-empty : goal.returns-clause-empty
 returns-clause-empty g c told =
@@ -28,3 +32,11 @@ returns-clause-volume g c told =
     let state = becomes ∙ ap (λ (s : State). applied s header_batch) (c.in-Ok.ensures.told told) in
     let now = subst IsTrue (sym c.put_header.ensures.same.tells) there in
     made_volume g.D.Disk q c.args.sizes c.requires.sizes.least_home state c.shelve.result (c.put_header.ensures.same.volume.sizes ∙ ap (λ (a : Anchor). a.sizes) c.in-Ok.ensures.anchor) (c.shelve.ensures.damaged now) c.shelve.ensures.volume
+
+pub returns-clause-anchor : goal.returns-clause-anchor
+returns-clause-anchor g c =
+    let p = c.in-Ok.pages in
+    let q = c.put_header.new.pages in
+    let stays = subst (λ (r : Result (Unit {0}) VaultFault). OnOk r (batch_pages header_batch ≤ room_of (log_of p) → anchor_of (log_of q) ≡ anchor_of (log_of p))) c.in_default.is c.put_header.ensures.anchor in
+    let enough : 64 ≤ room_of (log_of p) = omega (arith, c.in-Ok.ensures.room, c.requires.sizes.least_area) in
+    made_anchored g.D.Disk q (first_anchor c.args.server c.args.servers c.args.sizes) (stays (header_small (room_of (log_of p)) enough) ∙ c.in-Ok.ensures.anchor) c.shelve.result c.shelve.ensures.read
