@@ -1,11 +1,15 @@
 //! Commits to a store on a file of the host, beside appends to a file that are synced, and fetches of pages that are in
 //! memory.
-ghost use Rattle.std.specs.Prelude.{◌≡◌, ◌≤◌, ◌^◌, IfOk, OnOk, IsTrue, true, false};
+ghost use Rattle.std.specs.Prelude.{◌≡◌, ◌≤◌, ◌^◌, [], IfOk, OnOk, IsTrue, false};
+ghost use Rattle.alp_files.specs.Changes.{ArePutOnce};
+ghost use Rattle.alp_vault.specs.Volumes.{IsCommit};
 
 use crate::buffers::{self, Pace};
 use crate::commits::{append_often, new_file};
 use crate::rates::{Trouble, hundredths, rate_since};
-use alp_base::{AccessList, FileId, Key, Name, OutOfMemory, Page, PageRef, Sizes, VaultFault};
+use alp_base::{
+    AccessList, FileId, Key, Name, NoteChange, OutOfMemory, Page, PageRef, Sizes, VaultFault,
+};
 use alp_calls::can_take;
 use alp_disk::{Disk, FileDisk};
 use alp_fields::{ClockNote, clock_change};
@@ -127,6 +131,37 @@ fn page_cells(alloc: Global, pages: u32, byte: u8) -> Result<CellMap, OutOfMemor
     Ok(cells)
 }
 
+// All cells are put.
+fn change_of(alloc: Global, cells: &CellMap) -> Result<Change, OutOfMemory>
+    ensures alone { IfOk result (λ c. (c.drops ≡ []) × (c.cuts ≡ [])) }
+    ensures once { IfOk result (λ c. ArePutOnce c.puts) }
+{
+    let puts = cells.copies(alloc)?;
+    Ok(Change {
+        drops: FileList::new(Vec::new(alloc)),
+        cuts: CutList::new(Vec::new(alloc)),
+        puts: PutList::new(puts),
+    })
+}
+
+// The commit of a change that the vault can take.
+fn commit_change<V: Vault>(
+    vault: &mut V,
+    change: &Change,
+    notes: &[NoteChange],
+) -> Result<(), Trouble>
+    requires serves { IsTrue (V.serves vault.old) }
+    requires silent { V.tells vault.old ≡ false }
+    requires asked { IsCommit (V.volume vault.old) (V.server vault.old) (V.servers vault.old) (V.held vault.old).notes change.now notes.now }
+    ensures serves { OnOk result (IsTrue (V.serves vault.new)) }
+    ensures silent { V.tells vault.new ≡ false }
+{
+    match vault.commit(change, notes) {
+        Ok(()) => Ok(()),
+        Err(_) => Err(Trouble::Host),
+    }
+}
+
 // Commits the cells with the note of the clock.
 fn commit<V: Vault>(
     alloc: Global,
@@ -140,22 +175,18 @@ fn commit<V: Vault>(
     ensures serves { OnOk result (IsTrue (V.serves vault.new)) }
     ensures silent { V.tells vault.new ≡ false }
 {
-    let change = Change {
-        drops: FileList::new(Vec::new(alloc)),
-        cuts: CutList::new(Vec::new(alloc)),
-        puts: PutList::new(cells.copies(alloc)?),
-    };
+    let change = change_of(alloc, cells)?;
     let note = clock_change(alloc, ClockNote { epoch: 1, clock })?;
     let notes = vec![in alloc; note]?;
-    match can_take(alloc, vault, &change, notes.as_slice()) {
-        Ok(true) => {}
-        Ok(false) => return Err(Trouble::Full),
+    let written = notes.as_slice();
+    let fits = match can_take(alloc, vault, &change, written) {
+        Ok(fits) => fits,
         Err(_) => return Err(Trouble::Host),
+    };
+    if !fits {
+        return Err(Trouble::Full);
     }
-    match vault.commit(&change, notes.as_slice()) {
-        Ok(()) => Ok(()),
-        Err(_) => Err(Trouble::Host),
-    }
+    commit_change(vault, &change, written)
 }
 
 // Commits so often. Answers commits a second.
@@ -178,6 +209,17 @@ fn commit_often<C: Clock, V: Vault>(
     rate_since(clock, start, u64::from(plan.commits))
 }
 
+// Fetches a page of the file.
+fn fetch<V: Vault>(vault: &mut V, number: u32) -> Result<(), Trouble>
+    requires serves { IsTrue (V.serves vault.old) }
+    ensures serves { OnOk result (IsTrue (V.serves vault.new)) }
+{
+    match vault.fetch(&Key::PageOf(FILE, number)) {
+        Ok(Some(_)) => Ok(()),
+        _ => Err(Trouble::Host),
+    }
+}
+
 // Fetches pages of the file in turn. Answers fetches a second.
 fn fetch_often<C: Clock, V: Vault>(clock: &C, vault: &mut V, pages: u32) -> Result<u128, Trouble>
     requires serves { IsTrue (V.serves vault.old) }
@@ -187,9 +229,7 @@ fn fetch_often<C: Clock, V: Vault>(clock: &C, vault: &mut V, pages: u32) -> Resu
     }
     let start = Instant::now(clock)?;
     for round in 0..FETCHES {
-        let Ok(Some(_)) = vault.fetch(&Key::PageOf(FILE, round % pages)) else {
-            return Err(Trouble::Host);
-        };
+        fetch(vault, round % pages)?;
     }
     rate_since(clock, start, u64::from(FETCHES))
 }

@@ -1,10 +1,15 @@
 //! A store under failures, stops and restarts.
-ghost use Rattle.std.specs.Prelude.{◌≡◌, ◌≤◌, IsTrue, IfOk, IfSome, OnOk, false};
+ghost use Rattle.std.specs.Prelude.{◌≡◌, ◌≤◌, [], IsTrue, IfOk, OnOk, false};
+ghost use Rattle.alp_files.specs.Changes.{ArePutOnce};
+ghost use Rattle.alp_vault.specs.Volumes.{IsCommit};
+ghost use Rattle.alp_store_tests.specs.declared.tests.Outcome.TheVariants.{Made};
 
 mod turns;
 
 use crate::Silent;
-use alp_base::{AccessList, FileId, Key, Name, OutOfMemory, Page, PageRef, Sizes, VaultFault};
+use alp_base::{
+    AccessList, FileId, Key, Name, NoteChange, OutOfMemory, Page, PageRef, Sizes, VaultFault,
+};
 use alp_calls::can_take;
 use alp_disk::{Disk, Fuse, MemDisk};
 use alp_fields::{ClockNote, clock_change, clock_note_name, read_clock};
@@ -103,30 +108,73 @@ fn started<D: Disk>(alloc: Global, disk: D, sizes: Sizes) -> Result<Store<D>, Fa
     }
 }
 
+// All cells are put.
+fn change_of(alloc: Global, cells: &CellMap) -> Result<Change, OutOfMemory>
+    ensures alone { IfOk result (λ c. (c.drops ≡ []) × (c.cuts ≡ [])) }
+    ensures once { IfOk result (λ c. ArePutOnce c.puts) }
+{
+    let puts = cells.copies(alloc)?;
+    Ok(Change {
+        drops: FileList::new(Vec::new(alloc)),
+        cuts: CutList::new(Vec::new(alloc)),
+        puts: PutList::new(puts),
+    })
+}
+
+// The commit of a change that the vault can take.
+fn commit_change<V: Vault>(
+    vault: &mut V,
+    change: &Change,
+    notes: &[NoteChange],
+) -> Result<(), VaultFault>
+    requires serves { IsTrue (V.serves vault.old) }
+    requires told { V.tells vault.old ≡ false }
+    requires asked { IsCommit (V.volume vault.old) (V.server vault.old) (V.servers vault.old) (V.held vault.old).notes change.now notes.now }
+    ensures serves { OnOk result (IsTrue (V.serves vault.new)) }
+    ensures told { V.tells vault.new ≡ false }
+{
+    match vault.commit(change, notes) {
+        Ok(()) => Ok(()),
+        Err(fault) => Err(fault),
+    }
+}
+
+// What came of a commit: it was made, stopped, or there is no room for it.
+#[derive(Clone, Copy, Debug, PartialEq, Eq)]
+enum Outcome {
+    Made,
+    Stopped,
+    NoRoom,
+}
+
 // Commits the cells with the note of that clock, where the vault can take it.
 fn commit<V: Vault>(
     alloc: Global,
     vault: &mut V,
     cells: &CellMap,
     clock: u32,
-) -> Result<Option<Result<(), VaultFault>>, Fail>
+) -> Result<Outcome, Fail>
     requires serves { IsTrue (V.serves vault.old) }
     requires told { V.tells vault.old ≡ false }
-    ensures serves { IfOk result (λ done. IfSome done (λ r. OnOk r (IsTrue (V.serves vault.new)))) }
+    ensures serves { IfOk result (λ done. done ≡ Made → IsTrue (V.serves vault.new)) }
     ensures told { V.tells vault.new ≡ false }
 {
-    let change = Change {
-        drops: FileList::new(Vec::new(alloc)),
-        cuts: CutList::new(Vec::new(alloc)),
-        puts: PutList::new(cells.copies(alloc)?),
-    };
+    let change = change_of(alloc, cells)?;
     let clock = u64::from(clock);
     let note = clock_change(alloc, ClockNote { epoch: 1, clock })?;
     let notes = vec![in alloc; note]?;
-    match can_take(alloc, vault, &change, notes.as_slice()) {
-        Ok(true) => Ok(Some(vault.commit(&change, notes.as_slice()))),
-        Ok(false) => Ok(None),
-        Err(_) => Err("a look".into()),
+    let written = notes.as_slice();
+    let fits = match can_take(alloc, vault, &change, written) {
+        Ok(fits) => fits,
+        Err(_) => return Err("a look".into()),
+    };
+    if !fits {
+        return Ok(Outcome::NoRoom);
+    }
+    match commit_change(vault, &change, written) {
+        Ok(()) => Ok(Outcome::Made),
+        Err(VaultFault::Stopped) => Ok(Outcome::Stopped),
+        Err(_) => Err("a commit".into()),
     }
 }
 
@@ -179,7 +227,7 @@ fn three_pages(alloc: Global) -> Result<CellMap, Fail> {
 fn written_pages(alloc: Global) -> Result<Vec<Page>, Fail> {
     let mut store = started(alloc, disk_for(alloc, SIZES)?, SIZES)?;
     let cells = three_pages(alloc)?;
-    let Some(Ok(())) = commit(alloc, &mut store, &cells, 1)? else {
+    let Outcome::Made = commit(alloc, &mut store, &cells, 1)? else {
         return Err("a commit".into());
     };
     let mut disk = store.into_disk();
@@ -265,9 +313,9 @@ fn after_a_stop(
     store.stop_after(Some(calls));
     let cells = three_pages(alloc)?;
     match commit(alloc, &mut store, &cells, 9)? {
-        Some(Ok(())) => return Ok(None),
-        Some(Err(VaultFault::Stopped)) => {}
-        _ => return Err("a commit".into()),
+        Outcome::Made => return Ok(None),
+        Outcome::Stopped => {}
+        Outcome::NoRoom => return Err("no room".into()),
     }
     let Ok(mut back) = store.power_off(pick).recover() else {
         return Err("a recovery".into());
@@ -321,27 +369,37 @@ const LARGE: Sizes = Sizes {
     area: 2048,
 };
 
+// Puts and commits so many pages from that one on.
+fn fill<V: Vault>(alloc: Global, vault: &mut V, first: u32, count: u32) -> Result<(), Fail>
+    requires serves { IsTrue (V.serves vault.old) }
+    requires told { V.tells vault.old ≡ false }
+    ensures serves { OnOk result (IsTrue (V.serves vault.new)) }
+    ensures told { V.tells vault.new ≡ false }
+{
+    let mut cells = CellMap::new(alloc);
+    if first == 0 {
+        put_file(alloc, &mut cells, 300)?;
+    }
+    put_pages(alloc, &mut cells, first, count, 7)?;
+    let Outcome::Made = commit(alloc, vault, &cells, first)? else {
+        return Err("a commit".into());
+    };
+    Ok(())
+}
+
 #[test]
 fn a_full_volume_commits(rt: HostRuntime) -> Result<(), Fail> {
     let alloc = rt.alloc();
     let mut store = started(alloc, disk_for(alloc, LARGE)?, LARGE)?;
-    let mut cells = CellMap::new(alloc);
-    put_file(alloc, &mut cells, 300)?;
-    for first in [0u32, 64, 128, 192] {
-        put_pages(
-            alloc,
-            &mut cells,
-            first,
-            if first < 192 { 64 } else { 60 },
-            7,
-        )?;
-        assert_eq!(rt; commit(alloc, &mut store, &cells, first)?, Some(Ok(())));
-        cells = CellMap::new(alloc);
-    }
+    fill(alloc, &mut store, 0, 64)?;
+    fill(alloc, &mut store, 64, 64)?;
+    fill(alloc, &mut store, 128, 64)?;
+    fill(alloc, &mut store, 192, 60)?;
     assert_eq!(rt; counts(alloc, &store)?, (1, 1, 255, 192));
-    assert_eq!(rt; byte_of(&mut store, 251), Ok(Some(7)));
+    assert_eq!(rt; byte_at(&mut store, 251)?, Some(7));
+    let mut cells = CellMap::new(alloc);
     put_pages(alloc, &mut cells, 252, 1, 7)?;
-    assert_eq!(rt; commit(alloc, &mut store, &cells, 200)?, None);
+    assert_eq!(rt; commit(alloc, &mut store, &cells, 200)?, Outcome::NoRoom);
     Ok(())
 }
 

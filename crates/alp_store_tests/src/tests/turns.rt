@@ -103,7 +103,7 @@ fn turn<V: Vault>(alloc: Global, vault: &mut V, map: &mut PlainMap, number: u32)
     put_file(alloc, &mut cells, PAGES)?;
     put_pages(alloc, &mut cells, first, count, byte)?;
     match commit(alloc, vault, &cells, clock)? {
-        Some(Ok(())) => {
+        Outcome::Made => {
             map.put(first, count, byte);
             map.clock = clock;
             Ok(())
@@ -127,6 +127,29 @@ fn agree<V: Vault>(alloc: Global, vault: &mut V, map: &PlainMap) -> Result<bool,
     Ok(same)
 }
 
+// A change, maybe a restart behind it, and a look whether the store holds what the map has.
+fn step(
+    alloc: Global,
+    store: Store<Fuse<Silent>>,
+    map: &mut PlainMap,
+    number: u32,
+) -> Result<Store<Fuse<Silent>>, Fail>
+    requires serves { IsTrue (⟦<Store<Fuse<Silent>> as Vault>⟧.serves store) }
+    requires told { ⟦<Store<Fuse<Silent>> as Vault>⟧.tells store ≡ false }
+    ensures serves { IfOk result (λ s. IsTrue (⟦<Store<Fuse<Silent>> as Vault>⟧.serves s)) }
+    ensures told { IfOk result (λ s. ⟦<Store<Fuse<Silent>> as Vault>⟧.tells s ≡ false) }
+{
+    let mut store = store;
+    turn(alloc, &mut store, map, number)?;
+    if number % 10 == 0 {
+        store = again(alloc, store, number / 10)?;
+    }
+    if number % 5 == 0 && !agree(alloc, &mut store, map)? {
+        return Err("another map".into());
+    }
+    Ok(store)
+}
+
 #[test]
 fn changes_and_restarts_beside_a_plain_map(rt: HostRuntime) -> Result<(), Fail> {
     let alloc = rt.alloc();
@@ -134,15 +157,9 @@ fn changes_and_restarts_beside_a_plain_map(rt: HostRuntime) -> Result<(), Fail> 
     let mut map = PlainMap::new(alloc)?;
     let mut seed = 7u64;
     for _ in 0..TURNS {
-        let number = next_number(&mut seed);
-        turn(alloc, &mut store, &mut map, number)?;
-        if number % 10 == 0 {
-            store = again(alloc, store, number / 10)?;
-        }
-        if number % 5 == 0 {
-            assert!(rt; agree(alloc, &mut store, &map)?);
-        }
+        store = step(alloc, store, &mut map, next_number(&mut seed))?;
     }
     assert!(rt; agree(alloc, &mut store, &map)?);
+    assert_eq!(rt; map.clock, TURNS);
     Ok(())
 }
