@@ -8,8 +8,9 @@ mod turns;
 use alp_base::{AccessList, FileId, Key, Name, OutOfMemory, Page, PageRef, Sequence, VaultFault};
 use alp_files::{Cell, Change, OwnerRecord, Props};
 use alp_pages::{
-    Entry, Leader, PageReader, Places, clear_entry, decode_index, decode_leader, encode_leader, entry_at,
-    fetch_block, fetch_leader, fetch_owner, fetch_page, new_header, owner_at, set_entry, set_owner,
+    Entry, Leader, PageReader, Places, clear_entry, decode_index, decode_leader, encode_leader,
+    entry_at, fetch_block, fetch_leader, fetch_owner, fetch_page, new_header, owner_at, set_entry,
+    set_owner,
 };
 use alp_tables::FileSlot;
 use alp_volume::{Catalog, Draft, plan_change, read_volume};
