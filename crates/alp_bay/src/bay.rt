@@ -61,6 +61,7 @@ pub trait Bay {
         ensures long { IfOk result (λ device. 2 ≤ Self.Device.size device) }
         ensures told { IsTrue (tells self.old) → IfOk result (λ device. IsTrue (Self.Device.tells device)) }
         ensures free { IfOk result (λ device. Self.Device.allowance device ≡ Free) }
+        ensures tells { tells self.new ≡ tells self.old }
         ensures chosen { chosen self.new ≡ chosen self.old }
         ensures cause { HasBayCause (faults self.old) (faults self.new) result };
 
@@ -71,6 +72,7 @@ pub trait Bay {
         requires free { Self.Device.allowance device ≡ Free }
         requires told { IsTrue (tells self.old) → IsTrue (Self.Device.tells device) }
         ensures given { IsTrue (tells self.old) → IsFilled (at self.old) (at self.new) server device }
+        ensures tells { tells self.new ≡ tells self.old }
         ensures chosen { chosen self.new ≡ chosen self.old }
         ensures faults { faults self.new ≡ faults self.old };
 

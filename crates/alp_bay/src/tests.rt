@@ -1,5 +1,6 @@
 //! A bay hands out what it was given.
 ghost use Rattle.std.specs.Prelude.{◌≡◌};
+ghost use Rattle.alp_base.specs.declared.allowance.Allowance.TheVariants.{Free};
 
 use crate::{Bay, BayFault, HostBay, MemBay};
 use alp_base::{Halt, Page};
@@ -11,7 +12,8 @@ use std::{env, fs, process};
 
 // Writes a byte into the last page of a disk, for good.
 fn write_last<D: Disk>(disk: &mut D, byte: u8) -> Result<(), Halt>
-    ensures { D.tells disk.new ≡ D.tells disk.old }
+    ensures tells { D.tells disk.new ≡ D.tells disk.old }
+    ensures free { D.allowance disk.old ≡ Free → D.allowance disk.new ≡ Free }
 {
     let pages = disk.pages();
     if pages == 0 {
