@@ -6,6 +6,7 @@ pub mod History
 pub mod Files
 pub mod Sound
 pub mod Counts
+pub mod Needs
 pub mod SoundLaws
 pub mod Locks
 pub mod Apart

@@ -1,7 +1,7 @@
 -- Why a new call is answered as it is. The refusals are tried in order: the part, the shape of the call, its locks, what one
 -- thread is answered, and the counts; each comes just where its cause stands. That a read of the device failed shows in no
 -- journal: a file call of a part that runs may be answered so, and a vote may be against the commit for it.
-use Rattle.std.specs.Prelude.{◌≡◌, ℕ, ◌+◌, ◌-◌, Bool, true, false, not, ◌==◌, ◌&&◌, nat_lt, nat_le, List, [], ◌∷◌, ◌++◌, filter, flat_map, Option, None, Some, is_some, if◌then◌else◌, length, ◌⊎◌, is_none}
+use Rattle.std.specs.Prelude.{◌≡◌, ℕ, ◌+◌, ◌-◌, Bool, true, false, not, ◌==◌, ◌&&◌, nat_lt, nat_le, List, [], ◌∷◌, ◌++◌, filter, flat_map, Option, None, Some, is_some, if◌then◌else◌, length, ◌⊎◌}
 use Rattle.std.specs.Option.{option_or}
 use Rattle.std.specs.Ordering.{is_lt}
 use Rattle.std.specs.BTreeMap.Range.{IsLeBy}
@@ -35,17 +35,13 @@ use Rattle.alp_journal.specs.Coordinator.{Fate, Running, Finishing, Committed, F
 use Rattle.alp_journal.specs.Participant.{Phase, Joining, Active, Ready, live_in}
 use Rattle.alp_journal.specs.Holder.{Holder, Life, answer_in, held_for}
 use Rattle.alp_journal.specs.Desk.{Waiting, file_trans, waiting_of, waiting_at}
-use Rattle.alp_journal.specs.Counts.{changed, log_need, need_of, with_resources, request_in}
+use Rattle.alp_journal.specs.Counts.{log_need, with_resources, request_in}
 use Rattle.alp_journal.specs.State.{State, is_trans_drawn, is_other_server, join_for}
 use Rattle.alp_journal.specs.Moves.{is_new, next_trans, next_file, is_of_no_file, stops}
 use Rattle.alp_journal.specs.Laws.{IsFree, ending_of}
 use Rattle.alp_journal.specs.Messages.{why_not_own}
-use Rattle.alp_files.specs.declared.cell.Cell.{Cell}
-use Rattle.alp_files.specs.Cells.{Cells}
-use Rattle.alp_files.specs.Edits.{Edit, edits_map}
-use Rattle.std.specs.FinMap as map
+use Rattle.alp_files.specs.Needs.{changed, need_of, is_leader, is_owner, made_of}
 use Rattle.alp_base.specs.declared.key.Key.{Key}
-use Rattle.alp_base.specs.declared.key.Key.TheVariants.{Leader, OwnerOf}
 
 -- ---- the part
 
@@ -182,18 +178,6 @@ left_places s = s.sizes.home - 257 - used_of s.holder.cells - needs_of_all s (al
 
 abbrev pub rise : State → Life → Answer → ℕ
 rise s l a = need_of s.holder.cells (l.edits ++ a.edits) - need_of s.holder.cells l.edits
-
--- the files, or the owners, that a part made and that stand in what it sees
-abbrev pub is_leader : Key → Bool
-is_leader (Leader f) = true
-is_leader k = false
-
-abbrev pub is_owner : Key → Bool
-is_owner (OwnerOf name) = true
-is_owner k = false
-
-abbrev pub made_of : (Key → Bool) → Cells → List Edit → ℕ
-made_of p m es = length (filter (λ (e : Key × Cell). p e.0 && is_none (map.get m e.0)) (map.entries (edits_map es m)))
 
 abbrev pub made_at : (Key → Bool) → State → Option Life → ℕ
 made_at p s None = 0

@@ -1,20 +1,14 @@
 -- What is counted of a part: the keys that it changes, the resources that it has locked, and the places that it needs; and
 -- whether there is room for it in the log and on the volume.
-use Rattle.std.specs.Prelude.{ℕ, ◌+◌, ◌-◌, ◌*◌, ◌/◌, Bool, true, false, not, List, [], ◌∷◌, ◌++◌, filter, length, Option, None, Some, is_some, if◌then◌else◌}
+use Rattle.std.specs.Prelude.{ℕ, ◌+◌, ◌-◌, ◌*◌, ◌/◌, Bool, List, [], ◌∷◌, ◌++◌, Option, None, Some, is_some, if◌then◌else◌}
 use Rattle.std.specs.List.{list_any}
 use Rattle.std.specs.Ordering.{eq_by_cmp}
-use Rattle.alp_base.specs.declared.ids.FileId.{FileId}
 use Rattle.alp_base.specs.declared.ids.TransId.{TransId}
-use Rattle.alp_base.specs.declared.key.Key.{Key}
 use Rattle.alp_base.specs.declared.key.Resource.{Resource}
-use Rattle.alp_base.specs.Keys.{key_cmp}
 use Rattle.alp_base.specs.Orders.{resource_cmp}
 use Rattle.alp_files.specs.declared.call.Call.{Call}
-use Rattle.alp_files.specs.Cells.{Cells, same_file}
-use Rattle.alp_files.specs.Edits.{Edit, Drop, Cut, Put, is_in_file, is_past, edits_map}
 use Rattle.alp_files.specs.Act.{id_in}
 use Rattle.alp_files.specs.Locks.{Need, needs_of, request_of, needs_made}
-use Rattle.alp_files.specs.Counts.{used_of}
 use Rattle.alp_journal.specs.Ids.{same_trans}
 use Rattle.alp_journal.specs.Opening.{ReadyNote}
 use Rattle.alp_journal.specs.Deeds.{Deed, Begins, Enters, Grants, Performs, Releases, Restarts}
@@ -57,39 +51,6 @@ abbrev pub locked_noted : List ReadyNote → Locked
 locked_noted [] t = []
 locked_noted (n ∷ ns) t = if same_trans n.trans t then with_resources n.locks [] else locked_noted ns t
 
--- ---- what is changed
-
--- files that go, files that are cut, and keys that are put, each once
-pub record Intents : Type 0 where
-  pub drops : List FileId
-  pub cuts : List FileId
-  pub puts : List Key
-
-abbrev pub no_intents : Intents
-no_intents = record { drops = []; cuts = []; puts = [] }
-
-abbrev pub without_key : Key → List Key → List Key
-without_key k ks = filter (λ q. not (eq_by_cmp key_cmp q k)) ks
-
-abbrev pub without_id : FileId → List FileId → List FileId
-without_id f fs = filter (λ g. not (same_file g f)) fs
-
-abbrev pub intent : Intents → Edit → Intents
-intent i (Drop f) = record { drops = without_id f i.drops ++ f ∷ []; cuts = without_id f i.cuts; puts = filter (λ k. not (is_in_file f k)) i.puts }
-intent i (Cut f n) = record { drops = i.drops; cuts = without_id f i.cuts ++ f ∷ []; puts = filter (λ k. not (is_past f n k)) i.puts }
-intent i (Put k c) = record { drops = i.drops; cuts = i.cuts; puts = without_key k i.puts ++ k ∷ [] }
-
-abbrev pub intents_from : Intents → List Edit → Intents
-intents_from i [] = i
-intents_from i (e ∷ es) = intents_from (intent i e) es
-
-abbrev pub intents_of : List Edit → Intents
-intents_of es = intents_from no_intents es
-
--- the changed cells of a part
-abbrev pub changed : List Edit → ℕ
-changed es = length (intents_of es).drops + length (intents_of es).cuts + length (intents_of es).puts
-
 -- ---- room in the log
 
 abbrev pub up_to_16 : ℕ → ℕ
@@ -105,13 +66,3 @@ weight c l = 2 * c + 2 + up_to_16 l
 -- applying one of the ready parts never lacks room where this sum fits
 abbrev pub ready_sum : (weights greatest : ℕ) → ℕ
 ready_sum weights greatest = 24 + weights + greatest
-
--- ---- room on the volume
-
--- the places that changes add: those that the cells take then, less those that the drops and cuts leave
-abbrev pub is_put : Edit → Bool
-is_put (Put k c) = true
-is_put e = false
-
-abbrev pub need_of : Cells → List Edit → ℕ
-need_of m es = used_of (edits_map es m) - used_of (edits_map (filter (λ e. not (is_put e)) es) m)

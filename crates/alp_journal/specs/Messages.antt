@@ -12,6 +12,7 @@ use Rattle.alp_files.specs.declared.refusal.Why.{Why}
 use Rattle.alp_files.specs.declared.refusal.Why.TheVariants as why
 use Rattle.alp_files.specs.declared.refusal.Cause.{Cause}
 use Rattle.alp_files.specs.declared.refusal.Cause.TheVariants as cause
+use Rattle.alp_files.specs.Needs.{changed}
 use Rattle.alp_journal.specs.declared.act.Act.{Act}
 use Rattle.alp_journal.specs.declared.act.Act.TheVariants as act
 use Rattle.alp_journal.specs.declared.event.Event.{Event}
@@ -25,7 +26,7 @@ use Rattle.alp_journal.specs.Coordinator.{Fate, Undrawn, Running, Finishing, Com
 use Rattle.alp_journal.specs.Participant.{Phase, Joining, Active, Ready, live_in}
 use Rattle.alp_journal.specs.Holder.{Life}
 use Rattle.alp_journal.specs.Desk.{waiting_of}
-use Rattle.alp_journal.specs.Counts.{changed, weight, ready_sum}
+use Rattle.alp_journal.specs.Counts.{weight, ready_sum}
 use Rattle.alp_journal.specs.State.{State, is_trans_drawn, is_join_drawn, is_other_server}
 use Rattle.alp_journal.specs.Moves.{is_new, call_deeds, stops, next}
 use Rattle.alp_journal.specs.Deeds.{Deed, Joins}

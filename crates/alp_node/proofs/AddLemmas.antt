@@ -5,8 +5,7 @@ use Rattle.std.proofs.Common.{◌≡◌, ◌+◌, ◌≤◌, List, [], ◌∷◌
 use Rattle.alp_base.specs.declared.key.Key.{Key}
 use Rattle.alp_base.specs.declared.key.Resource.{Resource}
 use Rattle.alp_files.specs.Edits.{Edit, Drop, Cut, Put}
-use Rattle.alp_journal.specs.Counts.{is_put}
-use Rattle.alp_journal.specs.Answers.{is_leader, is_owner}
+use Rattle.alp_files.specs.Needs.{is_leader, is_owner, is_put}
 use Rattle.alp_node.specs.Bounded.{puts_on, sum_of, IsWithin}
 use Rattle.alp_node.specs.declared.bounds.Bounds.{Bounds}
 

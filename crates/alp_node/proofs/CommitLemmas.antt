@@ -21,6 +21,7 @@ use Rattle.alp_files.specs.declared.reply.Reply.TheVariants as reply
 use Rattle.alp_files.specs.declared.refusal.Refusal.TheVariants as refusal
 use Rattle.alp_files.specs.declared.refusal.Why.{Why}
 use Rattle.alp_files.specs.declared.refusal.Why.TheVariants as why
+use Rattle.alp_files.specs.Needs.{Intents, changed, intent, intents_from, is_put, no_intents, without_key}
 use Rattle.alp_vault.specs.Contents.{Contents}
 use Rattle.alp_vault.specs.declared.vault.Vault.{Ghosts}
 use Rattle.alp_journal.specs.declared.act.Act.{Act}
@@ -33,7 +34,6 @@ use Rattle.alp_journal.specs.Holder.{Holder, Life, commits, holder_after}
 use Rattle.alp_journal.specs.Moves.{tried, act_deeds, finishes, ends_by}
 use Rattle.alp_journal.specs.Coordinator.{Fate, Undrawn, Running}
 use Rattle.alp_journal.specs.Coordinator as fate
-use Rattle.alp_journal.specs.Counts.{Intents, intent, intents_from, no_intents, changed, is_put, without_key}
 use Rattle.alp_journal.specs.Desk.{file_trans}
 use Rattle.alp_journal.specs.Messages.{why_not_own, first_why, full_or, no_room, clock_end, part_cells}
 use Rattle.alp_journal.specs.Answers.{at_part, part_refusal}

@@ -23,15 +23,16 @@ use Rattle.alp_files.specs.declared.refusal.Refusal.{Refusal}
 use Rattle.alp_files.specs.declared.refusal.Refusal.TheVariants as refusal
 use Rattle.alp_files.specs.declared.refusal.What.TheVariants as what
 use Rattle.alp_files.specs.Locks.{Need}
+use Rattle.alp_files.specs.Needs.{changed, is_leader, is_owner, is_put, made_of, need_of}
 use Rattle.alp_files.proofs.SumLemmas.{sum-insert, sum_of-nothing}
 use Rattle.alp_vault.specs.Counted.{AreCounts, places_with}
 use Rattle.alp_vault.proofs.CountLemmas.{counts-same, used-new}
-use Rattle.alp_journal.specs.Counts.{is_put, need_of, changed, log_need, with_resources, has_resource}
+use Rattle.alp_journal.specs.Counts.{log_need, with_resources, has_resource}
 use Rattle.alp_vault.specs.Contents.{Contents}
 use Rattle.alp_journal.specs.Coordinator.{is_running}
 use Rattle.alp_journal.specs.Holder.{Life}
 use Rattle.alp_journal.specs.State.{State}
-use Rattle.alp_journal.specs.Answers.{is_leader, is_owner, made_of, need_at, needs_of_all, all_live, made_at, made_by_all, is_past_limit, left_places, rise, count_refusal, lock_refusal, locks_then, if_over}
+use Rattle.alp_journal.specs.Answers.{need_at, needs_of_all, all_live, made_at, made_by_all, is_past_limit, left_places, rise, count_refusal, lock_refusal, locks_then, if_over}
 use Rattle.alp_journal.specs.Alone.{Alone, alone}
 use Rattle.alp_node.specs.Bounded.{puts_on, no_bounds, sum_of, bounds_of}
 use Rattle.alp_node.specs.Rooms.{totals_from, total_of, IsRoomy}

@@ -6,8 +6,7 @@ use Rattle.alp_base.specs.declared.key.Resource.{Resource}
 use Rattle.alp_files.specs.declared.call.Call.{Call}
 use Rattle.alp_files.specs.declared.call.Call.TheVariants as call
 use Rattle.alp_files.specs.Edits.{Edit, Put}
-use Rattle.alp_journal.specs.Counts.{is_put}
-use Rattle.alp_journal.specs.Answers.{is_leader, is_owner}
+use Rattle.alp_files.specs.Needs.{is_leader, is_owner, is_put}
 use Rattle.alp_node.specs.declared.bounds.Bounds.{Bounds}
 
 abbrev pub no_bounds : Bounds

@@ -16,8 +16,9 @@ use Rattle.alp_files.specs.Passing.{is_passing}
 use Rattle.alp_files.specs.declared.refusal.What.TheVariants as what
 use Rattle.alp_files.specs.declared.refusal.Cause.TheVariants as cause
 use Rattle.alp_files.specs.Counts.{file_count_of, owner_count_of}
-use Rattle.alp_journal.specs.Counts.{changed, log_need}
+use Rattle.alp_journal.specs.Counts.{log_need}
 use Rattle.alp_files.specs.Act.{Answer}
+use Rattle.alp_files.specs.Needs.{changed, is_leader, is_owner}
 use Rattle.alp_journal.specs.Along.{Where}
 use Rattle.alp_journal.specs.Coordinator.{Fate, Undrawn, Running, Finishing, Committed, Forgotten, Ended}
 use Rattle.alp_journal.specs.Desk.{file_trans, waiting_of}
@@ -25,7 +26,7 @@ use Rattle.alp_journal.specs.Holder.{Life, answer_in}
 use Rattle.alp_journal.specs.State.{State}
 use Rattle.alp_journal.specs.Moves.{next_trans, is_of_no_file}
 use Rattle.alp_journal.specs.Messages.{why_not_own}
-use Rattle.alp_journal.specs.Answers.{Part, NoPart, AtJoining, AtWork, AtFinish, AtReady, AtEnd, at_part, part_at, part_refusal, if_over, open_reply, open_refusal, shape_refusal, lock_refusal, many_refusal, count_refusal, unless_counts, IsThreads, IsLocked, OrFault, First, IsFileAnswer, IsFileOf, IsFinishAnswer, IsBeginAnswer, IsAnswer, voted_reply, finish_reply, too_many, count_of_transactions, locks_then, left_places, rise, is_past_limit, is_leader, is_owner}
+use Rattle.alp_journal.specs.Answers.{Part, NoPart, AtJoining, AtWork, AtFinish, AtReady, AtEnd, at_part, part_at, part_refusal, if_over, open_reply, open_refusal, shape_refusal, lock_refusal, many_refusal, count_refusal, unless_counts, IsThreads, IsLocked, OrFault, First, IsFileAnswer, IsFileOf, IsFinishAnswer, IsBeginAnswer, IsAnswer, voted_reply, finish_reply, too_many, count_of_transactions, locks_then, left_places, rise, is_past_limit}
 use Rattle.alp_node.specs.Served.{IsTurnCall}
 
 -- the answer says nothing of a stale session
