@@ -15,6 +15,7 @@ use Rattle.alp_script.specs.Forms.{IsForm}
 use Rattle.alp_script.specs.Accepted.{LeadsFrom, RisesFrom, DeclaredFrom, IsAccepted}
 use Rattle.alp_script.proofs.FormLemmas.{line_of-form}
 use Rattle.alp_script.proofs.OrderLemmas.{next-ours, next-after, next-declared, clients_after}
+use Rattle.alp_script.proofs.VolumeLemmas.{said_in_limits}
 use Rattle.alp_script.specs.declared.line.Line.{Line}
 use Rattle.alp_script.specs.declared.numbered.NumberedLine.{NumberedLine}
 use Rattle.alp_script.specs.declared.numbered.TheConstants.{SCRIPT_LINES_MOST}
@@ -154,4 +155,5 @@ accepted bytes ls h =
       declared = declared_from nothing_known ls read.leads read.forms;
       ours = ours_from nothing_known ls read.leads;
       forms = read.forms;
+      sizes = λ server. said_in_limits ls server read.forms;
     }

@@ -14,13 +14,14 @@ use Rattle.alp_base.specs.declared.lists.TheConstants.{PAGES_PER_FILE}
 use Rattle.alp_modes.specs.declared.Mode.{Mode}
 use Rattle.alp_modes.specs.declared.Mode.TheVariants as mode
 use Rattle.alp_script.specs.Words.{◌>>=◌, when, is_numeral, value_from, says, number_of, within, word32_of, name_of, text_of, file_word_of, new_word_of}
-use Rattle.alp_script.specs.Grammar.{server_of, client_of, run_of, list_of, lists_of, servers_line, client_line, begin_line, owner_line, file_line, create_line, opening_of, open_line, write_line, read_line, commit_line, abort_line, line_by_verb, line_of_client, line_by, line_of}
-use Rattle.alp_script.specs.Forms.{world, IsRunOfPages, IsText, IsForm}
+use Rattle.alp_script.specs.Grammar.{server_of, client_of, run_of, list_of, lists_of, servers_line, volume_line, client_line, begin_line, owner_line, file_line, create_line, opening_of, open_line, write_line, read_line, commit_line, abort_line, line_by_verb, line_of_client, line_by, line_of}
+use Rattle.alp_script.specs.Forms.{world, IsRunOfPages, IsText, AreInLimits, IsForm}
 use Rattle.alp_script.specs.Forms as form
 use Rattle.alp_script.specs.declared.grammar.TheConstants.{RUN_MOST}
 use Rattle.alp_script.specs.declared.line.FileWord.{FileWord}
 use Rattle.alp_script.specs.declared.line.Line.{Line}
 use Rattle.alp_script.specs.declared.line.Line.TheVariants as line
+use Rattle.alp_script.specs.declared.sizes.TheConstants.{HOME_LEAST, HOME_MOST, AREA_LEAST, AREA_MOST}
 use Rattle.alp_script.specs.declared.words.TheConstants.{TEXT_BYTES}
 
 pub tested : {A : Type 0} (b : Bool) (x y : A) → when b x ≡ Some y → (b ≡ true) × (x ≡ y)
@@ -92,6 +93,26 @@ unfolding servers_line
 servers_form [] l h = cc
 servers_form (a ∷ []) l h = servers_by (server_of a) l h
 servers_form (a ∷ b ∷ more) l h = cc
+
+volume_by : (server home area : Option ℕ) (l : Line)
+    → ((n : ℕ) → home ≡ Some n → (HOME_LEAST ≤ n) × (n ≤ HOME_MOST)) → ((n : ℕ) → area ≡ Some n → (AREA_LEAST ≤ n) × (n ≤ AREA_MOST))
+    → (server >>= λ s. home >>= λ h. area >>= λ a. Some (line.Volume s h a)) ≡ Some l → IsForm l
+volume_by None home area l p q h = cc
+volume_by (Some s) None area l p q h = cc
+volume_by (Some s) (Some n) None l p q h = cc
+volume_by (Some s) (Some n) (Some a) l p q h =
+    let (home_least, home_most) = p n refl in
+    let (area_least, area_most) = q a refl in
+    is_form (line.Volume s n a) l (form.volume s n a (record { home_least = home_least; home_most = home_most; area_least = area_least; area_most = area_most })) h
+
+volume_form : (args : List (List ℕ)) (l : Line) → volume_line args ≡ Some l → IsForm l
+unfolding volume_line
+volume_form [] l h = cc
+volume_form (a ∷ []) l h = cc
+volume_form (a ∷ b ∷ []) l h = cc
+volume_form (a ∷ b ∷ c ∷ []) l h =
+    volume_by (server_of a) (within HOME_LEAST HOME_MOST b) (within AREA_LEAST AREA_MOST c) l (within-bounds HOME_LEAST HOME_MOST b) (within-bounds AREA_LEAST AREA_MOST c) h
+volume_form (a ∷ b ∷ c ∷ d ∷ more) l h = cc
 
 client_by : (client : Option ℕ) (name : Option (List ℕ)) (l : Line) → (client >>= λ c. name >>= λ n. Some (line.Client c n)) ≡ Some l → IsForm l
 client_by None name l h = cc
@@ -272,7 +293,7 @@ of_client_form client (verb ∷ args) l h = client_then (client_of client) verb 
 
 by_form : (first : List ℕ) (args : List (List ℕ)) (l : Line) → line_by first args ≡ Some l → IsForm l
 unfolding line_by
-by_form first args l h = either _ _ _ l (servers_form args l) (either _ _ _ l (client_form args l) (of_client_form first args l)) h
+by_form first args l h = either _ _ _ l (servers_form args l) (either _ _ _ l (volume_form args l) (either _ _ _ l (client_form args l) (of_client_form first args l))) h
 
 pub line_of-form : (words : List (List ℕ)) (l : Line) → line_of words ≡ Some l → IsForm l
 line_of-form [] l h = cc

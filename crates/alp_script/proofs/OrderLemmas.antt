@@ -7,7 +7,7 @@ use Rattle.std.proofs.lemmas.Map.Views.{Contains-from_any}
 use Rattle.std.proofs.lemmas.Option.{same_Some}
 use Rattle.alp_script.specs.Named.{client_named, server_named}
 use Rattle.alp_script.specs.Known.{Known}
-use Rattle.alp_script.specs.Order.{is_one, is_client, names_ours, is_among, is_known, is_declared, after_servers, after_client, after_file, after, next}
+use Rattle.alp_script.specs.Order.{is_one, is_client, names_ours, is_among, is_known, is_declared, after_servers, after_volume, after_client, after_file, after, next}
 use Rattle.alp_script.specs.Forms.{IsForm}
 use Rattle.alp_script.specs.Forms as form
 use Rattle.alp_script.specs.Accepted.{declared_by}
@@ -65,8 +65,9 @@ same_clients k x t more e same = same ∙ ap (λ (y : Known). y.clients) e
 
 -- the declared clients are those of before and the one that the line declares
 pub clients_after : (k t : Known) (l : Line) → IsForm l → after k l ≡ Some t → k.clients ++ declared_by l ≡ t.clients
-unfolding after after_servers after_client after_file
+unfolding after after_servers after_volume after_client after_file
 clients_after k t l (form.servers count) h = same_clients k _ t [] ((tested _ _ t h).1) (append-nil k.clients)
+clients_after k t l (form.volume server home area limits) h = same_clients k _ t [] ((tested _ _ t h).1) (append-nil k.clients)
 clients_after k t l (form.client number name) h = same_clients k _ t (number ∷ []) ((tested _ _ t h).1) refl
 clients_after k t l (form.begin number server) h = same_clients k _ t [] (same_Some _ t h) (append-nil k.clients)
 clients_after k t l (form.owner number server name quota) h = same_clients k _ t [] (same_Some _ t h) (append-nil k.clients)

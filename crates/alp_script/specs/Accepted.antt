@@ -2,9 +2,10 @@
 use Rattle.std.specs.Prelude.{◌≡◌, ℕ, ◌+◌, ◌≤◌, ◌<◌, true, List, [], ◌∷◌, ◌++◌, length, Some, IfSome}
 use Rattle.std.specs.List.{AllByRecursion, Contains}
 use Rattle.alp_script.specs.Known.{Known, nothing_known}
-use Rattle.alp_script.specs.Forms.{IsForm}
+use Rattle.alp_script.specs.Forms.{AreInLimits, IsForm}
 use Rattle.alp_script.specs.Named.{client_named}
 use Rattle.alp_script.specs.Order.{next, names_ours}
+use Rattle.alp_script.specs.Volumes.{sizes_said}
 use Rattle.alp_script.specs.declared.line.Line.{Line}
 use Rattle.alp_script.specs.declared.line.Line.TheVariants as line
 use Rattle.alp_script.specs.declared.numbered.NumberedLine.{NumberedLine}
@@ -38,3 +39,4 @@ pub record IsAccepted (lines : List NumberedLine) : Type 0 where
   pub declared : DeclaredFrom [] lines
   pub ours : AllByRecursion (λ l. names_ours l.line ≡ true) lines
   pub forms : AllByRecursion (λ l. IsForm l.line) lines
+  pub sizes : (server : ℕ) → AreInLimits (sizes_said lines server)

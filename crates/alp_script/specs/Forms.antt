@@ -2,6 +2,7 @@
 use Rattle.std.specs.Prelude.{ℕ, ◌<◌, ◌≤◌, List, [], ◌∷◌, length, codes}
 use Rattle.alp_base.specs.declared.choices.Access.TheVariants as access
 use Rattle.alp_base.specs.declared.choices.Choice.TheVariants as choice
+use Rattle.alp_base.specs.declared.faults.Sizes.{Sizes}
 use Rattle.alp_base.specs.declared.ids.Run.{Run}
 use Rattle.alp_base.specs.declared.lists.TheConstants.{PAGES_PER_FILE}
 use Rattle.alp_modes.specs.declared.Mode.TheVariants as mode
@@ -9,6 +10,7 @@ use Rattle.alp_script.specs.declared.grammar.TheConstants.{RUN_MOST}
 use Rattle.alp_script.specs.declared.line.FileWord.{FileWord}
 use Rattle.alp_script.specs.declared.line.Line.{Line}
 use Rattle.alp_script.specs.declared.line.Line.TheVariants as line
+use Rattle.alp_script.specs.declared.sizes.TheConstants.{HOME_LEAST, HOME_MOST, AREA_LEAST, AREA_MOST}
 use Rattle.alp_script.specs.declared.words.TheConstants.{TEXT_BYTES}
 
 -- the access list that lets everyone in
@@ -23,8 +25,16 @@ pub record IsText (text : List ℕ) : Type 0 where
   pub some : 0 < length text
   pub short : length text ≤ TEXT_BYTES
 
+-- the sizes are within the limits of a volume
+pub record AreInLimits (s : Sizes) : Type 0 where
+  pub home_least : HOME_LEAST ≤ s.home
+  pub home_most : s.home ≤ HOME_MOST
+  pub area_least : AREA_LEAST ≤ s.area
+  pub area_most : s.area ≤ AREA_MOST
+
 pub data IsForm : Line → Type 0 where
   servers : (count : ℕ) → IsForm (line.Servers count)
+  volume : (server home area : ℕ) → AreInLimits (record { home = home; area = area }) → IsForm (line.Volume server home area)
   client : (number : ℕ) (name : List ℕ) → IsForm (line.Client number name)
   begin : (number server : ℕ) → IsForm (line.Begin number server)
   owner : (number server : ℕ) (name : List ℕ) (quota : ℕ) → IsForm (line.MakeOwner number server name quota world choice.Fail)

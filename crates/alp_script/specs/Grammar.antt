@@ -13,6 +13,7 @@ use Rattle.alp_base.specs.declared.limits.TheConstants.{SERVERS, CLIENTS}
 use Rattle.alp_script.specs.declared.grammar.TheConstants.{RUN_MOST}
 use Rattle.alp_script.specs.declared.line.Line.{Line}
 use Rattle.alp_script.specs.declared.line.Line.TheVariants as line
+use Rattle.alp_script.specs.declared.sizes.TheConstants.{HOME_LEAST, HOME_MOST, AREA_LEAST, AREA_MOST}
 
 abbrev pub server_of : List ℕ → Option ℕ
 server_of w = within 1 SERVERS w
@@ -53,6 +54,15 @@ client_line (client ∷ name ∷ []) = do
   n ← name_of name
   Some (line.Client c n)
 client_line _ = None
+
+-- the sizes of a new disk of a server, within the limits
+unfoldable pub volume_line : List (List ℕ) → Option Line
+volume_line (server ∷ home ∷ area ∷ []) = do
+  s ← server_of server
+  h ← within HOME_LEAST HOME_MOST home
+  a ← within AREA_LEAST AREA_MOST area
+  Some (line.Volume s h a)
+volume_line _ = None
 
 unfoldable pub begin_line : ℕ → List (List ℕ) → Option Line
 begin_line client (server ∷ []) = do
@@ -146,6 +156,7 @@ line_of_client client [] = None
 unfoldable pub line_by : List ℕ → List (List ℕ) → Option Line
 line_by first args =
     if says first (codes "servers") then servers_line args
+    else if says first (codes "volume") then volume_line args
     else if says first (codes "client") then client_line args
     else line_of_client first args
 

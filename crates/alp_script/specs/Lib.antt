@@ -8,4 +8,5 @@ pub mod Script
 pub mod Progress
 pub mod Reading
 pub mod Forms
+pub mod Volumes
 pub mod Accepted

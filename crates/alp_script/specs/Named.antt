@@ -28,8 +28,9 @@ client_named (line.Old client) = Some client
 client_named (line.Raw client server bytes) = Some client
 client_named _ = None
 
--- the server that a client's line names
+-- the server that a line of a client names, or the line of a volume
 unfoldable pub server_named : Line → Option ℕ
+server_named (line.Volume server home area) = Some server
 server_named (line.Begin client server) = Some server
 server_named (line.Create client server word owner size read modify choice) = Some server
 server_named (line.ReadOwner client server owner choice) = Some server

@@ -47,6 +47,10 @@ after_servers k count = when (not k.servers && count == 1) (record k { servers =
 unfoldable pub after_client : Known → ℕ → List ℕ → Option Known
 after_client k client name = when (k.servers && not k.begun && not (is_among k.clients client) && says name (codes "Admin")) (record k { clients = k.clients ++ client ∷ [] })
 
+-- the sizes of a volume, maybe again, are said before the first line of a client
+unfoldable pub after_volume : Known → Option Known
+after_volume k = when (k.servers && not k.begun) k
+
 -- a line of a client stands anywhere behind its declaration
 abbrev pub after_call : Known → Known
 after_call k = record k { begun = true }
@@ -61,6 +65,7 @@ after_file k file = when (is_bound k.words file) (after_call k)
 
 unfoldable pub after : Known → Line → Option Known
 after k (line.Servers count) = after_servers k count
+after k (line.Volume server home area) = after_volume k
 after k (line.Client client name) = after_client k client name
 after k (line.Begin client server) = Some (after_call k)
 after k (line.MakeOwner client server owner quota create choice) = Some (after_call k)

@@ -2,7 +2,7 @@
 ghost use Rattle.std.specs.Prelude.{◌≡◌, Some};
 ghost use Rattle.alp_script.specs.Telling.{TellsBy};
 ghost use Rattle.alp_script.specs.Known.{nothing_known};
-ghost use Rattle.alp_script.specs.Order.{is_one as is_one_said, is_client as is_client_said, names_ours as names_ours_said, is_known as is_known_said, is_declared as is_declared_said, is_bound as is_bound_said, after_servers, after_client, after_call, after_create, after_file, after, next as next_said};
+ghost use Rattle.alp_script.specs.Order.{is_one as is_one_said, is_client as is_client_said, names_ours as names_ours_said, is_known as is_known_said, is_declared as is_declared_said, is_bound as is_bound_said, after_servers, after_volume, after_client, after_call, after_create, after_file, after, next as next_said};
 
 use crate::fault::LineFault;
 use crate::words::says;
@@ -107,6 +107,16 @@ impl Context {
         Ok(())
     }
 
+    #[tactic(auto, unfolding(crate::specs::Order::after_volume))]
+    fn take_volume(&mut self) -> Result<(), LineFault>
+        ensures { TellsBy (λ _. self.new) result (after_volume self.old) }
+    {
+        if !self.servers || self.begun {
+            return Err(LineFault::Outside);
+        }
+        Ok(())
+    }
+
     #[tactic(auto, unfolding(crate::specs::Order::after_client))]
     fn take_client(&mut self, client: u8, name: &Name) -> Result<(), LineFault>
         ensures { TellsBy (λ _. self.new) result (after_client self.old client name.now) }
@@ -152,6 +162,7 @@ impl Context {
     {
         match line {
             Line::Servers { count } => self.take_servers(*count),
+            Line::Volume { .. } => self.take_volume(),
             Line::Client { client, name } => self.take_client(*client, name),
             Line::Begin { .. } | Line::MakeOwner { .. } => self.take_call(),
             Line::Create { word, .. } => self.take_create(word),

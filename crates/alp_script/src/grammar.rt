@@ -2,10 +2,11 @@
 ghost use Rattle.std.specs.Prelude.{◌≡◌, ℕ, List, codes};
 ghost use Rattle.alp_script.specs.Telling.{Tells};
 ghost use Rattle.alp_script.specs.Words.{shown};
-ghost use Rattle.alp_script.specs.Grammar.{server_of, client_of, run_of, list_of, lists_of, servers_line as servers_said, client_line as client_said, begin_line as begin_said, owner_line as owner_said, file_line as file_said, create_line as create_said, opening_of, open_line as open_said, write_line as write_said, read_line as read_said, commit_line as commit_said, abort_line as abort_said, line_by_verb as said_by_verb, line_of_client as said_of_client, line_by as said_by, line_of as said_of, is_skipped as is_skipped_said, line_said, text_said};
+ghost use Rattle.alp_script.specs.Grammar.{server_of, client_of, run_of, list_of, lists_of, servers_line as servers_said, volume_line as volume_said, client_line as client_said, begin_line as begin_said, owner_line as owner_said, file_line as file_said, create_line as create_said, opening_of, open_line as open_said, write_line as write_said, read_line as read_said, commit_line as commit_said, abort_line as abort_said, line_by_verb as said_by_verb, line_of_client as said_of_client, line_by as said_by, line_of as said_of, is_skipped as is_skipped_said, line_said, text_said};
 
 use crate::Line;
 use crate::fault::LineFault;
+use crate::sizes::{AREA_LEAST, AREA_MOST, HOME_LEAST, HOME_MOST};
 use crate::words::{file_word, is_line, name, new_word, says, text, within, word32, words};
 use alp_base::{Access, AccessList, CLIENTS, Choice, PAGES_PER_FILE, Run, SERVERS};
 use alp_modes::Mode;
@@ -76,6 +77,21 @@ fn servers_line(args: &[&[u8]]) -> Result<Line, LineFault>
         [count] => {
             let count = server(count)?;
             Ok(Line::Servers { count })
+        }
+        _ => Err(LineFault::Outside),
+    }
+}
+
+#[tactic(auto, unfolding(crate::specs::Grammar::volume_line))]
+fn volume_line(args: &[&[u8]]) -> Result<Line, LineFault>
+    ensures { Tells result (volume_said (shown args.now)) }
+{
+    match args {
+        [at, home, area] => {
+            let server = server(at)?;
+            let home = within(home, HOME_LEAST, HOME_MOST)?;
+            let area = within(area, AREA_LEAST, AREA_MOST)?;
+            Ok(Line::Volume { server, home, area })
         }
         _ => Err(LineFault::Outside),
     }
@@ -310,6 +326,8 @@ fn line_by(alloc: Global, first: &[u8], args: &[&[u8]]) -> Result<Line, LineFaul
 {
     if says(first, b"servers") {
         servers_line(args)
+    } else if says(first, b"volume") {
+        volume_line(args)
     } else if says(first, b"client") {
         client_line(args)
     } else {

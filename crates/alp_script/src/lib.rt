@@ -8,6 +8,7 @@ mod line;
 mod numbered;
 mod read;
 mod reader;
+mod sizes;
 mod words;
 
 pub use fault::ScriptFault;
@@ -15,6 +16,7 @@ pub use grammar::RUN_MOST;
 pub use line::{FileWord, Line};
 pub use numbered::{NumberedLine, SCRIPT_LINES_MOST};
 pub use read::{accepted_lines, read_script};
+pub use sizes::{AREA_LEAST, AREA_MOST, HOME_LEAST, HOME_MOST, NEW_AREA, NEW_HOME, sizes_of};
 pub use words::{LINE_BYTES, TEXT_BYTES};
 
 #[cfg(test)]

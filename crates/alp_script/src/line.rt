@@ -210,12 +210,13 @@ impl Line {
         }
     }
 
-    /// The server that a client's line names.
+    /// The server that a line of a client names, or the line of a volume.
     #[tactic(auto, unfolding(crate::specs::Named::server_named))]
     pub fn server(&self) -> Option<u8>
         ensures { result ≡ server_named self.now }
     {
         match self {
+            Line::Volume { server, .. } => Some(*server),
             Line::Begin { server, .. } => Some(*server),
             Line::Create { server, .. } => Some(*server),
             Line::ReadOwner { server, .. } => Some(*server),

@@ -1,6 +1,6 @@
 use crate::reader::Reader;
 use crate::*;
-use alp_base::{Access, Choice, MemSource};
+use alp_base::{Access, Choice, MemSource, Sizes};
 use alp_modes::Mode;
 use std::alloc::Global;
 use std::test::Fail;
@@ -202,6 +202,56 @@ fn reads_lines_of_16_clients(rt: HostRuntime) -> Result<(), Fail> {
         text.extend_from_slice(line.as_bytes())?;
     }
     assert_eq!(rt; count(alloc, text.as_slice()), Ok(33));
+    Ok(())
+}
+
+#[test]
+fn refuses_wrong_sizes(rt: HostRuntime) -> Result<(), Fail> {
+    let alloc = rt.alloc();
+    let cases: [(&[u8], u32); 10] = [
+        (b"volume 1 512 64\nservers 1\n", 1),
+        (b"servers 1\nvolume 1 511 64\n", 2),
+        (b"servers 1\nvolume 1 65537 64\n", 2),
+        (b"servers 1\nvolume 1 512 63\n", 2),
+        (b"servers 1\nvolume 1 512 4097\n", 2),
+        (b"servers 1\nvolume 1 512\n", 2),
+        (b"servers 1\nvolume 1 512 64 1\n", 2),
+        (b"servers 1\nvolume 0 512 64\n", 2),
+        (b"servers 1\nvolume 2 512 64\n", 2),
+        (
+            b"servers 1\nclient 1 Admin\n1 begin 1\nvolume 1 512 64\n",
+            4,
+        ),
+    ];
+    for (text, line) in cases {
+        assert_eq!(rt; count(alloc, text), Err(ScriptFault::Bad { line }));
+    }
+    Ok(())
+}
+
+// The sizes that the script gives the volume of a server.
+fn sizes_by(alloc: Global, text: &[u8], server: u8) -> Result<Sizes, ScriptFault> {
+    let bytes = Vec::from_slice(alloc, text)?;
+    let mut source = MemSource::new(bytes, Vec::new(alloc));
+    let lines = read_script(alloc, &mut source)?;
+    Ok(sizes_of(lines.as_slice(), server))
+}
+
+#[test]
+fn tells_the_last_sizes(rt: HostRuntime) -> Result<(), Fail> {
+    let alloc = rt.alloc();
+    let text = b"servers 1\nvolume 1 65536 4096\nclient 1 Admin\nvolume 1 512 64\n1 begin 1\n";
+    let last = Sizes {
+        home: 512,
+        area: 64,
+    };
+    let new = Sizes {
+        home: 16384,
+        area: 2048,
+    };
+    assert_eq!(rt; sizes_by(alloc, text, 1), Ok(last));
+    assert_eq!(rt; sizes_by(alloc, text, 2), Ok(new));
+    assert_eq!(rt; sizes_by(alloc, FIRST_PATH, 1), Ok(new));
     Ok(())
 }
 
