@@ -3,6 +3,9 @@ pub mod ReadyLemmas
 pub mod SeatLemmas
 pub mod GivenLemmas
 pub mod CountLemmas
+pub mod TotalLemmas
+pub mod LockCountLemmas
+pub mod RefusalLemmas
 pub mod DeadLemmas
 pub mod KeptLemmas
 pub mod EndLemmas
@@ -13,8 +16,7 @@ pub mod CommitLemmas
 pub mod CallLemmas
 pub mod IdLemmas
 pub mod ServedLemmas
-pub mod AddLemmas
-pub mod LimitLemmas
+pub mod ApartLemmas
 pub mod PageLemmas
 pub mod PerformLemmas
 pub mod LookLemmas
