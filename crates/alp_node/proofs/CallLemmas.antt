@@ -77,14 +77,14 @@ performed_so tells cells old v t l found blank p c b bt r taken lives id next co
 
 module _ {V : Type 0} (a : Alone) (held : Contents) (k : ServerState V) where
   -- through its intents a live part sees what the journal says that it sees
-  pub sees : (t : TransId) (rs : List Resource) (l : Live) (life : Life) → IsAs a held k → k.is_down ≡ false → IsLife k.locks.held rs t l life → seen held.cells l.part ≡ view_in a.holder life
+  pub sees : (t : TransId) (rs : List Resource) (l : Live) (life : Life) → IsAs a held k → k.is_down ≡ false → IsLife a.holder.cells k.locks.held rs t l life → seen held.cells l.part ≡ view_in a.holder life
   sees t rs l life h up is =
       (λ i q. is.intents (map.get held.cells) i q) ∙ ap (after life.edits) (over_empty (map.get held.cells)) ∙ ap (λ (c : Cells). after life.edits (map.get c)) (h.cells up) ∙ sym (get-edits_map life.edits a.holder.cells)
 
   -- the next file is new to each
   pub unseen : (t : TransId) (l : Live) → IsAs a held k → k.is_down ≡ false → map.get k.lives t ≡ Some l → seen held.cells l.part (Leader (next_file k)) ≡ None
   unseen t l h up there =
-      let x : IsLive k.locks.held (a.locked t) t l (a.holder.lives t) = live_there k.locks.held (a.locked t) t (map.get k.lives t) (a.holder.lives t) l there (h.lives t) in
+      let x : IsLive a.holder.cells k.locks.held (a.locked t) t l (a.holder.lives t) = live_there a.holder.cells k.locks.held (a.locked t) t (map.get k.lives t) (a.holder.lives t) l there (h.lives t) in
       let at : ℕ → ℕ → Key = λ server epoch. Leader (record { server = server; epoch = epoch; counter = k.given + 1 }) in
       let next : Leader (next_file k) ≡ at a.holder.server a.ids.epoch = λ i. at (sym h.server i) (sym h.epoch i) in
       ap (seen held.cells l.part) next
@@ -107,7 +107,7 @@ module _ {V : Type 0} (a : Alone) (held : Contents) (k : ServerState V) where
         places = h.places;
         sessions = h.sessions;
         dead = h.dead;
-        lives = λ u. subst (λ (x : Option Live). IsAlike k.locks.held (a.locked u) u x (a.holder.lives u)) (sym (get_put k.lives t (record l { part = p; bounds = b }) u)) (go u (same_trans u t) refl);
+        lives = λ u. subst (λ (x : Option Live). IsAlike a.holder.cells k.locks.held (a.locked u) u x (a.holder.lives u)) (sym (get_put k.lives t (record l { part = p; bounds = b }) u)) (go u (same_trans u t) refl);
         unborn = h.unborn;
         drawn = h.drawn;
         begun = h.begun;
@@ -121,12 +121,12 @@ module _ {V : Type 0} (a : Alone) (held : Contents) (k : ServerState V) where
         down = h.down;
       })
     where
-      go : (u : TransId) (e : Bool) → same_trans u t ≡ e → IsAlike k.locks.held (a.locked u) u (cond {A = Option Live} e (Some (record l { part = p; bounds = b })) (map.get k.lives u)) (a.holder.lives u)
+      go : (u : TransId) (e : Bool) → same_trans u t ≡ e → IsAlike a.holder.cells k.locks.held (a.locked u) u (cond {A = Option Live} e (Some (record l { part = p; bounds = b })) (map.get k.lives u)) (a.holder.lives u)
       go u false e = h.lives u
       go u true e =
           let one : t ≡ u = sym (same_trans-true u t e) in
-          let x : IsLive k.locks.held (a.locked u) u l (a.holder.lives u) = live_there k.locks.held (a.locked u) u (map.get k.lives u) (a.holder.lives u) l (sym (ap (map.get k.lives) one) ∙ there) (h.lives u) in
-          subst (λ (y : Option Life). IsAlike k.locks.held (a.locked u) u (Some (record l { part = p; bounds = b })) y) (sym x.is) (record {
+          let x : IsLive a.holder.cells k.locks.held (a.locked u) u l (a.holder.lives u) = live_there a.holder.cells k.locks.held (a.locked u) u (map.get k.lives u) (a.holder.lives u) l (sym (ap (map.get k.lives) one) ∙ there) (h.lives u) in
+          subst (λ (y : Option Life). IsAlike a.holder.cells k.locks.held (a.locked u) u (Some (record l { part = p; bounds = b })) y) (sym x.is) (record {
             client = x.alike.client;
             who = x.alike.who;
             intents = subst (ChangesBy x.life.edits map.empty) (sym before.0) x.alike.intents;
@@ -203,7 +203,7 @@ module _ {V : Type 0} (a : Alone) (held : Contents) (k : ServerState V) (turn : 
   gave = answer_in a.holder life (record { call = c; reply = r })
 
   -- the part gave what the journal says that a thread is answered
-  pub performs : (rs : List Resource) → IsAs a held k → k.is_down ≡ false → IsLife k.locks.held rs t l life → AnswersCall held.cells l.part p l.who (next_file k) c r → Performs l.part p gave r
+  pub performs : (rs : List Resource) → IsAs a held k → k.is_down ≡ false → IsLife a.holder.cells k.locks.held rs t l life → AnswersCall held.cells l.part p l.who (next_file k) c r → Performs l.part p gave r
   performs rs h up is right =
       let first : Performs l.part p (answer k.server [] (seen held.cells l.part) l.who (own_of l.part) c r) r = right [] refl in
       let same : answer k.server [] (seen held.cells l.part) l.who (own_of l.part) c r ≡ answer a.holder.server [] (view_in a.holder life) life.who life.own c r =
@@ -236,7 +236,7 @@ module _ {V : Type 0} (a : Alone) (held : Contents) (k : ServerState V) (turn : 
     abbrev pub after_call : desk.Session → Alone
     after_call w = with_call a turn.client turn.number w t life c r under rs
 
-    pub done_as : (then : Contents) (h : IsAs a held k) → then ≡ held → (is : IsTurn k.sessions turn) → k.is_down ≡ false → map.get k.lives t ≡ Some l → a.holder.lives t ≡ Some life → IsLife k.locks.held (a.locked t) t l life → IsBuilt c → GivesOnly (next_file k) r
+    pub done_as : (then : Contents) (h : IsAs a held k) → then ≡ held → (is : IsTurn k.sessions turn) → k.is_down ≡ false → map.get k.lives t ≡ Some l → a.holder.lives t ≡ Some life → IsLife a.holder.cells k.locks.held (a.locked t) t l life → IsBuilt c → GivesOnly (next_file k) r
         → Performs l.part p gave r → ((q : Resource) → with_made under (id_in r) q ≡ holding locks.held t q)
         → ((u : TransId) (q : Resource) → same_trans u t ≡ false → holding locks.held u q ≡ holding k.locks.held u q)
         → AllByRecursion (IsLocked (with_made under (id_in r))) gave.own.opens → IsWithin b (with_resources (needs_made (id_in r)) rs) (life.edits ++ gave.edits)
@@ -255,8 +255,8 @@ module _ {V : Type 0} (a : Alone) (held : Contents) (k : ServerState V) (turn : 
           places = places_set k.sessions turn.client (record turn.session { last = turn.number }) h.places;
           sessions = sessions_as a.sessions k.sessions turn.client (record s.told { last = turn.number; reply = r }) (record turn.session { last = turn.number }) h.sessions h.places is.client s.who refl;
           dead = h.dead;
-          lives = λ u. subst (λ (x : Option Live). IsAlike locks.held (lock_set a.locked t now u) u x (cond {A = Option Life} (same_trans u t) (Some new) (a.holder.lives u))) (sym (get_put k.lives t (record l { part = p; bounds = b }) u))
-              (alike_set k.locks.held locks.held a.locked t (Some (record l { part = p; bounds = b })) (Some new) now (map.get k.lives) a.holder.lives h.lives others (record {
+          lives = λ u. subst (λ (x : Option Live). IsAlike a.holder.cells locks.held (lock_set a.locked t now u) u x (cond {A = Option Life} (same_trans u t) (Some new) (a.holder.lives u))) (sym (get_put k.lives t (record l { part = p; bounds = b }) u))
+              (alike_set a.holder.cells k.locks.held locks.held a.locked t (Some (record l { part = p; bounds = b })) (Some new) now (map.get k.lives) a.holder.lives h.lives others (record {
                 client = mine.client;
                 who = mine.who;
                 intents = changes-append life.edits gave.edits map.empty l.part.intents p.intents mine.intents done.view;

@@ -98,7 +98,7 @@ module _ {V : Type 0} (a : Alone) (held : Contents) (k : ServerState V) (t : Tra
   -- the log has room
   room_then : IsAs a held k → map.get k.lives t ≡ Some l → 4 * l.bounds.puts + 28 ≤ k.sizes.area → no_room a.sizes.area (24 + 0 + 0) (24 + 0 + (4 * part_cells (a.holder.lives t) + 4)) ≡ None
   room_then h live room =
-      let y : IsLive k.locks.held (a.locked t) t l (a.holder.lives t) = live_there k.locks.held (a.locked t) t (map.get k.lives t) (a.holder.lives t) l live (h.lives t) in
+      let y : IsLive a.holder.cells k.locks.held (a.locked t) t l (a.holder.lives t) = live_there a.holder.cells k.locks.held (a.locked t) t (map.get k.lives t) (a.holder.lives t) l live (h.lives t) in
       let cells : part_cells (a.holder.lives t) ≡ changed y.life.edits = ap part_cells y.is in
       let area : a.sizes.area ≡ k.sizes.area = ap (λ s. s.area) h.sizes in
       no_room_fits a.sizes.area (24 + 0 + 0) (24 + 0 + (4 * part_cells (a.holder.lives t) + 4)) (omega (arith, cells, area, changed_most y.life.edits y.alike.within.alone, y.alike.within.puts, room))
@@ -133,7 +133,7 @@ module _ {V : Type 0} (a : Alone) (held : Contents) (k : ServerState V) (turn : 
     write_tried : (stamp : Stamp) (acts : List Act) (ds : List Deed) → flat_map (act_deeds (alone a) (event.Call turn.client a.ids.epoch turn.number (call.Finish t true))) acts ≡ Decides stamp [] ∷ ds
         → tried (alone a) (finish_entry acts) ≡ Finishes t ∷ Decides stamp [] ∷ ds
     write_tried stamp acts ds brings =
-        let y : IsLive k.locks.held (a.locked t) t l (a.holder.lives t) = live_there k.locks.held (a.locked t) t (map.get k.lives t) (a.holder.lives t) l live (h.lives t) in
+        let y : IsLive a.holder.cells k.locks.held (a.locked t) t l (a.holder.lives t) = live_there a.holder.cells k.locks.held (a.locked t) t (map.get k.lives t) (a.holder.lives t) l live (h.lives t) in
         let pair : IsPaired (Some y.life) (a.fates t) = subst (λ (x : Option Life). IsPaired x (a.fates t)) y.is (h.quiet.paired t) in
         let runs : a.fates t ≡ Running turn.client [] = pair.0 ∙ ap (λ (n : ℕ). Running n []) (y.alike.client ∙ own) in
         call_tried a turn.client turn.number (IsSession.told (turn_session a held k turn h is)) (call.Finish t true) r acts (IsSession.is (turn_session a held k turn h is)) (turn_next a held k turn h is)
@@ -150,7 +150,7 @@ module _ {V : Type 0} (a : Alone) (held : Contents) (k : ServerState V) (turn : 
         → IsWritten l.part.intents (record { epoch = k.epoch; clock = k.clock + 1 }) held c
         → c ≡ said_by (alone a) (finish_entry acts)
     write_said acts ds c brings idle w =
-        let y : IsLive k.locks.held (a.locked t) t l (a.holder.lives t) = live_there k.locks.held (a.locked t) t (map.get k.lives t) (a.holder.lives t) l live (h.lives t) in
+        let y : IsLive a.holder.cells k.locks.held (a.locked t) t l (a.holder.lives t) = live_there a.holder.cells k.locks.held (a.locked t) t (map.get k.lives t) (a.holder.lives t) l live (h.lives t) in
         let es : List Edit = y.life.edits in
         let stamp : Stamp = record { ts = k.clock + 1; trans = t } in
         let clock : max a.holder.clock (k.clock + 1) ≡ k.clock + 1 = omega (arith, h.clock) in
@@ -190,7 +190,7 @@ module _ {V : Type 0} (a : Alone) (before now : ℕ) (held then : Contents) (k :
       → Stepped a before now then committed_kept (event.Call turn.client k.epoch turn.number (call.Finish t true)) x
   commit_stepped x h is up alone early here live own room cells notes so =
       let s : IsSession turn.session (a.sessions turn.client) = turn_session a held k turn h is in
-      let y : IsLive k.locks.held (a.locked t) t l (a.holder.lives t) = live_there k.locks.held (a.locked t) t (map.get k.lives t) (a.holder.lives t) l live (h.lives t) in
+      let y : IsLive a.holder.cells k.locks.held (a.locked t) t l (a.holder.lives t) = live_there a.holder.cells k.locks.held (a.locked t) t (map.get k.lives t) (a.holder.lives t) l live (h.lives t) in
       let es : List Edit = y.life.edits in
       let m : Alone = with_commit a turn.client turn.number s.told t y.life in
       let stamp : Stamp = record { ts = a.holder.clock + 1; trans = t } in
@@ -309,7 +309,7 @@ module _ {V : Type 0} (a : Alone) (before now : ℕ) (held then : Contents) (k :
       → Stepped a before now then (record k { is_down = true; vault = v }) (event.Call turn.client k.epoch turn.number (call.Finish t true)) x
   commit_halt_stepped l x stop h is up early here live own room so =
       let s : IsSession turn.session (a.sessions turn.client) = turn_session a held k turn h is in
-      let y : IsLive k.locks.held (a.locked t) t l (a.holder.lives t) = live_there k.locks.held (a.locked t) t (map.get k.lives t) (a.holder.lives t) l live (h.lives t) in
+      let y : IsLive a.holder.cells k.locks.held (a.locked t) t l (a.holder.lives t) = live_there a.holder.cells k.locks.held (a.locked t) t (map.get k.lives t) (a.holder.lives t) l live (h.lives t) in
       let acts : List Act = act.Decided (record { ts = a.holder.clock + 1; trans = t }) [] ∷ z ∷ [] in
       let e : Entry = call_entry a turn.client turn.number s.told (call.Finish t true) (reply.Refused refusal.Down) acts in
       stepped_so a before now held then k (record k { is_down = true; vault = v }) turn.client turn.number s.told (call.Finish t true) false (reply.Refused refusal.Down) acts (with_halt a turn.client turn.number s.told e) x

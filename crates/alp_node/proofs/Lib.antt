@@ -11,6 +11,8 @@ pub mod KeptLemmas
 pub mod EndLemmas
 pub mod StandingLemmas
 pub mod FinishLemmas
+pub mod LiveSums
+pub mod WithinLemmas
 pub mod StepLemmas
 pub mod CommitLemmas
 pub mod CallLemmas

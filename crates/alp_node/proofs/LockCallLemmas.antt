@@ -117,11 +117,11 @@ acts_caused before now allowance t ns = go (length ns == 0)
 -- ---- how it is refused before its locks
 
 module _ {V : Type 0} (a : Alone) (held : Contents) (k : ServerState V) (t : TransId) (l : Live) (c : Call) (b : Bounds) (life : Life) where
-  opens_few : IsLife k.locks.held (a.locked t) t l life → length l.part.opens.items < 64 → nat_le 64 (length life.own.opens) ≡ false
+  opens_few : IsLife a.holder.cells k.locks.held (a.locked t) t l life → length l.part.opens.items < 64 → nat_le 64 (length life.own.opens) ≡ false
   opens_few mine few = not_full (length life.own.opens) (subst (λ (w : Own). length w.opens < 64) mine.own few)
 
   -- within the limits it is not
-  lock_shape : IsAs a held k → IsLife k.locks.held (a.locked t) t l life → IsLockCall c → is_of_given k.server k.epoch k.given c ≡ true → HasShape c (length l.part.opens.items) → shape_refusal (alone a) life c ≡ None
+  lock_shape : IsAs a held k → IsLife a.holder.cells k.locks.held (a.locked t) t l life → IsLockCall c → is_of_given k.server k.epoch k.given c ≡ true → HasShape c (length l.part.opens.items) → shape_refusal (alone a) life c ≡ None
   lock_shape h mine kind given shape = go c kind given shape
     where
       go : (x : Call) → IsLockCall x → is_of_given k.server k.epoch k.given x ≡ true → HasShape x (length l.part.opens.items) → shape_refusal (alone a) life x ≡ None
@@ -131,7 +131,7 @@ module _ {V : Type 0} (a : Alone) (held : Contents) (k : ServerState V) (t : Tra
       go (call.MakeOwner u name quota create choice) is of fits = refl
       go x is of fits = absurd is
 
-  module _ (h : IsAs a held k) (mine : IsLife k.locks.held (a.locked t) t l life) (kind : IsLockCall c) where
+  module _ (h : IsAs a held k) (mine : IsLife a.holder.cells k.locks.held (a.locked t) t l life) (kind : IsLockCall c) where
     -- what the journal's laws ask is what is asked of the table
     lock_request : request_in a.holder c (Some life) ≡ asks_of c
     lock_request = asks_right life.held (view_in a.holder life) life.own c kind
@@ -164,7 +164,7 @@ module _ {V : Type 0} (a : Alone) (before now : ℕ) (held : Contents) (k : Serv
       → x ≡ record { kept = Some (reply.Refused (refusal.LockConflict holder)); handed = Some (reply.Refused (refusal.LockConflict holder)); acts = [] }
       → Stepped a before now held (record k { sessions = counted_in k.sessions turn }) (event.Call turn.client k.epoch turn.number c) x
   conflict_stepped holder x h is up there own kind given of room sound named so =
-      let y : IsLive k.locks.held (a.locked t) t l (a.holder.lives t) = live_there k.locks.held (a.locked t) t (map.get k.lives t) (a.holder.lives t) l there (h.lives t) in
+      let y : IsLive a.holder.cells k.locks.held (a.locked t) t l (a.holder.lives t) = live_there a.holder.cells k.locks.held (a.locked t) t (map.get k.lives t) (a.holder.lives t) l there (h.lives t) in
       let r : Reply = reply.Refused (refusal.LockConflict holder) in
       let mine : standing_of turn.client (map.get k.lives t) (is_dead turn.client t k.dead) ≡ standing.Own = own_standing turn.client (map.get k.lives t) (is_dead turn.client t k.dead) (subst (IsOf turn.client) (sym there) own) in
       let none : option_or (shape_refusal (alone a) y.life c) (lock_refusal (alone a) t y.life c) ≡ None = not_refused a held k t l c b y.life h y.alike kind given room in
@@ -191,7 +191,7 @@ module _ {V : Type 0} (a : Alone) (before now : ℕ) (held : Contents) (k : Serv
   lock_kept life = done_kept a held k turn t l p c r b table_then v life
 
   module _ (life : Life) (h : IsAs a held k) (up : k.is_down ≡ false) (is : IsTurn k.sessions turn) (there : map.get k.lives t ≡ Some l) (own : l.client ≡ turn.client) (live : a.holder.lives t ≡ Some life)
-      (mine : IsLife k.locks.held (a.locked t) t l life) (kind : IsLockCall c) (of_file : is_of_given k.server k.epoch k.given c ≡ true) (given : Gave true held.cells (next_file k) l p c r) (room : IsRoomy true held.cells k l c b) where
+      (mine : IsLife a.holder.cells k.locks.held (a.locked t) t l life) (kind : IsLockCall c) (of_file : is_of_given k.server k.epoch k.given c ≡ true) (given : Gave true held.cells (next_file k) l p c r) (room : IsRoomy true held.cells k l c b) where
     abbrev did : Answer
     did = gave a held k turn t l p c r b table_then v life
 
@@ -222,7 +222,7 @@ module _ {V : Type 0} (a : Alone) (before now : ℕ) (held : Contents) (k : Serv
         ∙ sym (taken_own k.locks plan refl q)
 
     others_held : (u : TransId) (m : Life) → a.holder.lives u ≡ Some m → (q : Resource) → m.held q ≡ holding k.locks.held u q
-    others_held u m at q = held_elsewhere k.locks.held (a.locked u) u (map.get k.lives u) m (subst (λ (y : Option Life). IsAlike k.locks.held (a.locked u) u (map.get k.lives u) y) at (h.lives u)) q
+    others_held u m at q = held_elsewhere a.holder.cells k.locks.held (a.locked u) u (map.get k.lives u) m (subst (λ (y : Option Life). IsAlike a.holder.cells k.locks.held (a.locked u) u (map.get k.lives u) y) at (h.lives u)) q
 
     module _ (sound : IsSound k.locks) (nobody : k.locks.waiting ≡ []) (free : blocker k.locks.held t asked.rises ≡ None) (free_then : blocker k.locks.held t plan.rises ≡ None) where
       idle : waits k.locks.waiting t ≡ false
@@ -354,5 +354,5 @@ module _ {V : Type 0} (a : Alone) (before now : ℕ) (held : Contents) (k : Serv
       → x ≡ record { kept = Some r; handed = Some r; acts = acts_of t asked.rises } → IsSound k.locks → k.locks.waiting ≡ [] → blocker k.locks.held t asked.rises ≡ None → blocker k.locks.held t plan.rises ≡ None
       → Stepped a before now then lock_left (event.Call turn.client k.epoch turn.number c) x
   lock_stepped x then h up same is there own kind of_file of formed given room so sound nobody free free_then =
-      let y : IsLive k.locks.held (a.locked t) t l (a.holder.lives t) = live_there k.locks.held (a.locked t) t (map.get k.lives t) (a.holder.lives t) l there (h.lives t) in
+      let y : IsLive a.holder.cells k.locks.held (a.locked t) t l (a.holder.lives t) = live_there a.holder.cells k.locks.held (a.locked t) t (map.get k.lives t) (a.holder.lives t) l there (h.lives t) in
       lock_steps y.life h up is there own y.is y.alike kind of_file given room sound nobody free free_then x then same of formed so

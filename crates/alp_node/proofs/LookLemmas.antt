@@ -152,7 +152,7 @@ module _ {V : Type 0} (G : Ghosts V) (k N : ServerState V) (t : TransId) (l : Li
     failed_step own on rose =
         left_step G k (record (after_look p) { sessions = counted_in k.sessions turn }) refl refl refl left (event.Call turn.client k.epoch turn.number c) (refused_answer refusal.ReadFault []) up
         (λ told a h. (
-        let y : IsLive k.locks.held (a.locked t) t l (a.holder.lives t) = live_there k.locks.held (a.locked t) t (map.get k.lives t) (a.holder.lives t) l there (h.lives t) in
+        let y : IsLive a.holder.cells k.locks.held (a.locked t) t l (a.holder.lives t) = live_there a.holder.cells k.locks.held (a.locked t) t (map.get k.lives t) (a.holder.lives t) l there (h.lives t) in
         fault_stepped a (G.faults k.vault) (G.faults N.vault) (G.held N.vault) (after_look p) turn t c y.life (refused_answer refusal.ReadFault []) (look_as a h) is up rose named (look_own own) y.is refl))
         (reply_given k.server (G.faults k.vault) (G.faults N.vault) (G.allowance N.vault) k.is_down (reply.Refused refusal.ReadFault) [] (refused_answer refusal.ReadFault []) refl
         (subst (λ (b : Bool). IsCounted k.server (G.faults k.vault) (G.faults N.vault) b (Some (reply.Refused refusal.ReadFault))) (sym up) (counts_fault k.server (G.faults k.vault) (G.faults N.vault) (Some (reply.Refused refusal.ReadFault)) refl refl left.later rose)) up tt)

@@ -112,7 +112,7 @@ one_or_none false ts none = none
 -- ---- the entry
 
 module _ {V : Type 0} (a : Alone) (held : Contents) (k : ServerState V) (t : TransId) (l : Live) (c : Call) (r : Reply) (b : Bounds) (life : Life) where
-  module _ (h : IsAs a held k) (live : a.holder.lives t ≡ Some life) (mine : IsLife k.locks.held (a.locked t) t l life) (page : IsPageCall c) where
+  module _ (h : IsAs a held k) (live : a.holder.lives t ≡ Some life) (mine : IsLife a.holder.cells k.locks.held (a.locked t) t l life) (page : IsPageCall c) where
     -- its file's lock gives all that it needs, so it asks for nothing
     asks_none : request_in a.holder c (Some life) ≡ []
     asks_none = page_request life.held (view_in a.holder life) life.own c page mine.opens
@@ -164,7 +164,7 @@ module _ {V : Type 0} (a : Alone) (before now : ℕ) (held : Contents) (k : Serv
   page_kept = record k { sessions = counted_in k.sessions turn; lives = map.insert k.lives t (record l { part = p; bounds = b }); vault = v }
 
   module _ (life : Life) (h : IsAs a held k) (up : k.is_down ≡ false) (is : IsTurn k.sessions turn) (there : map.get k.lives t ≡ Some l) (own : l.client ≡ turn.client) (live : a.holder.lives t ≡ Some life)
-      (mine : IsLife k.locks.held (a.locked t) t l life) (page : IsPageCall c) (given : Gave true held.cells (next_file k) l p c r) (room : IsRoomy true held.cells k l c b) where
+      (mine : IsLife a.holder.cells k.locks.held (a.locked t) t l life) (page : IsPageCall c) (given : Gave true held.cells (next_file k) l p c r) (room : IsRoomy true held.cells k l c b) where
     page_done : Performs l.part p (gave a held k turn t l p c r b k.locks v life) r
     page_done = performs a held k turn t l p c r b k.locks v life (a.locked t) h up mine (given.right refl)
 
@@ -231,5 +231,5 @@ module _ {V : Type 0} (a : Alone) (before now : ℕ) (held : Contents) (k : Serv
       → file_trans c ≡ Some t → IsFormed c → Gave true held.cells (next_file k) l p c r → IsRoomy true held.cells k l c b → x ≡ record { kept = Some r; handed = Some r; acts = [] }
       → Stepped a before now then page_kept (event.Call turn.client k.epoch turn.number c) x
   page_stepped x then h up same is there own page of formed given room so =
-      let y : IsLive k.locks.held (a.locked t) t l (a.holder.lives t) = live_there k.locks.held (a.locked t) t (map.get k.lives t) (a.holder.lives t) l there (h.lives t) in
+      let y : IsLive a.holder.cells k.locks.held (a.locked t) t l (a.holder.lives t) = live_there a.holder.cells k.locks.held (a.locked t) t (map.get k.lives t) (a.holder.lives t) l there (h.lives t) in
       page_steps y.life h up is there own y.is y.alike page given room x then same of formed so

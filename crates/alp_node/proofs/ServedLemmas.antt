@@ -108,7 +108,7 @@ module _ {V : Type 0} (a : Alone) (before now : ℕ) (held : Contents) (k : Serv
   no_file_stepped (call.OpenFile u f access mode choice) x h some is up named own l there away so =
       let c : Call = call.OpenFile u f access mode choice in
       let none = unknown_file a held k f h some away in
-      let y : IsLive k.locks.held (a.locked t) t l (a.holder.lives t) = live_there k.locks.held (a.locked t) t (map.get k.lives t) (a.holder.lives t) l there (h.lives t) in
+      let y : IsLive a.holder.cells k.locks.held (a.locked t) t l (a.holder.lives t) = live_there a.holder.cells k.locks.held (a.locked t) t (map.get k.lives t) (a.holder.lives t) l there (h.lives t) in
       let shape : option_or (shape_refusal (alone a) y.life c) (lock_refusal (alone a) t y.life c) ≡ Some refusal.UnknownFile =
       ap (λ (b : Bool). option_or (option_or (cond {A = Option Refusal} (not b) (Some refusal.UnknownFile) None) (shape_rest y.life)) (lock_refusal (alone a) t y.life c)) none in
       refused_stepped a before now held k turn t c false refusal.UnknownFile x h is up (λ e. cc) named refl

@@ -199,6 +199,7 @@ new_as old server servers last sizes c held ids later kept alone =
       sessions = λ client. sym (no_session client);
       dead = λ client t. refl;
       lives = alike_none;
+      room = room;
       unborn = λ t l is. (let wrong : None ≡ Some l = is in cc);
       drawn = refl;
       begun = refl;

@@ -2,17 +2,19 @@
 use Rattle.std.specs.Prelude.{cond, Bool, true, false, Option, None, Some, sum_by}
 use Rattle.std.specs.FinMap as map
 use Rattle.std.specs.FinMap.{same_map, get-empty, len-entries}
-use Rattle.std.proofs.Common.{◌≡◌, ℕ, ◌+◌, ◌-◌, ◌*◌, ◌≤◌, List, [], ◌∷◌, length, refl, sym, ◌∙◌, ap, arith}
+use Rattle.std.proofs.Common.{◌≡◌, ℕ, ◌+◌, ◌-◌, ◌*◌, ◌≤◌, List, [], ◌∷◌, length, refl, sym, ◌∙◌, ap, subst, arith}
 use Rattle.std.proofs.lemmas.List.Sums.{sum_by-cons}
+use Rattle.alp_base.specs.declared.faults.Sizes.{Sizes}
 use Rattle.alp_base.specs.declared.ids.TransId.{TransId}
 use Rattle.alp_base.specs.Orders.{trans_cmp, transactions_total, exact_transactions}
 use Rattle.alp_calls.specs.Parts.{IsPart}
+use Rattle.alp_files.specs.Cells.{Cells}
 use Rattle.alp_files.proofs.SumLemmas.{weight_at, sum-insert, sum_of-nothing}
 use Rattle.alp_journal.specs.Ids.{same_trans}
 use Rattle.alp_journal.proofs.IdLemmas.{same_trans-true}
 use Rattle.alp_trans.specs.Counting.{no_counts}
 use Rattle.alp_trans.specs.declared.counts.Counts.{Counts}
-use Rattle.alp_node.specs.Totals.{LiveMap, total, totals_of, no_totals, with_part, without_part, AreFewTotals}
+use Rattle.alp_node.specs.Totals.{LiveMap, total, totals_of, no_totals, with_part, without_part, AreFewTotals, HaveRoom}
 use Rattle.alp_node.specs.declared.lives.Live.{Live}
 use Rattle.alp_node.specs.declared.totals.Totals.{Totals}
 use Rattle.alp_node.proofs.CountLemmas.{taken}
@@ -100,3 +102,23 @@ few_totals m few parts = record {
   files = omega (arith, few, total_most files 512 m (λ t l is. (let p : IsPart l.part = parts t l is in omega (arith, p.few.files, p.most))));
   owners = omega (arith, few, total_most owners 512 m (λ t l is. (let p : IsPart l.part = parts t l is in omega (arith, p.few.owners, p.most))));
 }
+
+-- ---- room
+
+-- where one is taken out there is room still
+pub gone_room : (s : Sizes) (m : Cells) (lives : LiveMap) (t : TransId) → HaveRoom s m (totals_of lives) → HaveRoom s m (totals_of (map.remove lives t))
+gone_room s m lives t h = go (map.get lives t) refl
+  where
+    less : Totals → Type 0
+    less x = (x.places ≤ (totals_of lives).places) × (x.files ≤ (totals_of lives).files) × (x.owners ≤ (totals_of lives).owners)
+
+    room_of : (x : Totals) → less x → HaveRoom s m x
+    room_of x le = record { places = omega (arith, h.places, le.0); files = omega (arith, h.files, le.1); owners = omega (arith, h.owners, le.2) }
+
+    go : (o : Option Live) → map.get lives t ≡ o → HaveRoom s m (totals_of (map.remove lives t))
+    go None e = subst (λ (x : LiveMap). HaveRoom s m (totals_of x)) (sym (none_gone lives t e)) h
+    go (Some l) e = subst (HaveRoom s m) (sym (gone_totals lives t l e)) (room_of (without_part (totals_of lives) l.part.counts) (omega arith, omega arith, omega arith))
+
+-- and where one begins that did nothing yet
+pub added_room : (s : Sizes) (m : Cells) (lives : LiveMap) (t : TransId) (new : Live) → map.get lives t ≡ None → new.part.counts ≡ no_counts → HaveRoom s m (totals_of lives) → HaveRoom s m (totals_of (map.insert lives t new))
+added_room s m lives t new none idle h = subst (HaveRoom s m) (sym (added_totals lives t new none idle)) h

@@ -68,9 +68,8 @@ pub record IsSeated {V : Type 0} (G : Ghosts V) (old new : ServerState V) : Type
   pub spends : Spends (G.allowance old.vault) (G.allowance new.vault)
 
 -- while the server is up, the notes of its vault are in its format, and one has its epoch
-pub record IsNoted {V : Type 0} (G : Ghosts V) (k : ServerState V) : Type 0 where
-  pub epoch : k.is_down ≡ false → (clock_kept (G.held k.vault).notes).epoch ≡ k.epoch
-  pub format : k.is_down ≡ false → AreServerNotes (G.server k.vault) (G.servers k.vault) (G.held k.vault).notes
+abbrev pub IsNoted : {V : Type 0} → Ghosts V → ServerState V → Type 0
+IsNoted G k = (k.is_down ≡ false → AreServerNotes (G.server k.vault) (G.servers k.vault) (G.held k.vault).notes) × (k.is_down ≡ false → (clock_kept (G.held k.vault).notes).epoch ≡ k.epoch)
 
 abbrev pub is_call : Event → Bool
 is_call (event.Call client epoch number c) = true
