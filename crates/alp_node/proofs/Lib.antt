@@ -11,8 +11,10 @@ pub mod KeptLemmas
 pub mod EndLemmas
 pub mod StandingLemmas
 pub mod FinishLemmas
+pub mod SpaceLemmas
 pub mod LiveSums
 pub mod WithinLemmas
+pub mod RoomLemmas
 pub mod StepLemmas
 pub mod CommitLemmas
 pub mod CallLemmas

@@ -9,6 +9,8 @@ use Rattle.alp_base.specs.declared.ids.TransId.{TransId}
 use Rattle.alp_base.specs.Orders.{trans_cmp, transactions_total, exact_transactions}
 use Rattle.alp_calls.specs.Parts.{IsPart}
 use Rattle.alp_files.specs.Cells.{Cells}
+use Rattle.alp_files.specs.Counts.{used_of, file_count_of, owner_count_of}
+use Rattle.alp_vault.specs.declared.limits.TheConstants.{FILES_PER_SERVER, OWNERS_PER_SERVER, HEAD_PAGES}
 use Rattle.alp_files.proofs.SumLemmas.{weight_at, sum-insert, sum_of-nothing}
 use Rattle.alp_journal.specs.Ids.{same_trans}
 use Rattle.alp_journal.proofs.IdLemmas.{same_trans-true}
@@ -122,3 +124,21 @@ gone_room s m lives t h = go (map.get lives t) refl
 -- and where one begins that did nothing yet
 pub added_room : (s : Sizes) (m : Cells) (lives : LiveMap) (t : TransId) (new : Live) → map.get lives t ≡ None → new.part.counts ≡ no_counts → HaveRoom s m (totals_of lives) → HaveRoom s m (totals_of (map.insert lives t new))
 added_room s m lives t new none idle h = subst (HaveRoom s m) (sym (added_totals lives t new none idle)) h
+
+-- where a part comes to more for which there is room
+pub record AreRoomed (s : Sizes) (m : Cells) (t : Totals) (old new : Counts) : Type 0 where
+  pub places : used_of m + (t.places - old.places + new.places) + HEAD_PAGES ≤ s.home
+  pub files : file_count_of m + (t.files - old.files + new.files) ≤ FILES_PER_SERVER
+  pub owners : owner_count_of m + (t.owners - old.owners + new.owners) ≤ OWNERS_PER_SERVER
+
+pub swapped_room : (s : Sizes) (m : Cells) (lives : LiveMap) (t : TransId) (old new : Live) → map.get lives t ≡ Some old → AreRoomed s m (totals_of lives) old.part.counts new.part.counts → HaveRoom s m (totals_of (map.insert lives t new))
+swapped_room s m lives t old new there h = subst (HaveRoom s m) (sym (swapped_totals lives t old new there)) (record { places = h.places; files = h.files; owners = h.owners })
+
+-- or to as much as before
+pub same_room : (s : Sizes) (m : Cells) (lives : LiveMap) (t : TransId) (old new : Live) → map.get lives t ≡ Some old → new.part.counts ≡ old.part.counts → HaveRoom s m (totals_of lives) → HaveRoom s m (totals_of (map.insert lives t new))
+same_room s m lives t old new there same h =
+    swapped_room s m lives t old new there (subst (AreRoomed s m (totals_of lives) old.part.counts) (sym same) (record {
+      places = omega (arith, h.places, among places lives t old there);
+      files = omega (arith, h.files, among files lives t old there);
+      owners = omega (arith, h.owners, among owners lives t old there);
+    }))
