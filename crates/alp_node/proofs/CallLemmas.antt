@@ -239,7 +239,7 @@ module _ {V : Type 0} (a : Alone) (held : Contents) (k : ServerState V) (turn : 
   gave_unborn h is built only m high =
       let q : Key = Leader (record { server = a.holder.server; epoch = a.ids.epoch; counter = m }) in
       let low : k.given < m = omega (arith, count_grows k.given r, high) in
-      let seen_none : view_in a.holder life q ≡ None = view_unborn h is n low in
+      let seen_none : view_in a.holder life q ≡ None = view_unborn h is m low in
       let only_so : GivesOnly (record { server = a.holder.server; epoch = a.ids.epoch; counter = k.given + 1 }) r = subst (λ (f : FileId). GivesOnly f r) (next_same h) only in
       edits_at-append life.edits gave.edits q None ∙ ap (edits_at gave.edits q) (h.unborn t life is m low) ∙ ap (edits_at gave.edits q) (sym seen_none)
       ∙ unborn_kept a.holder.server a.ids.epoch k.given [] (view_in a.holder life) life.who life.own c r built (view_unborn h is) only_so m high

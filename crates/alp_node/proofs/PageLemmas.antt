@@ -214,17 +214,18 @@ page_granted held m own c is h = ap (joined held) (page_request held m own c is 
 
 -- ---- what such a call answers
 
--- it opens nothing and makes no file, and what it puts is locked
+-- it opens nothing and makes no file, what it puts is locked, and where it is refused it puts nothing
 pub record LeavesOpens (held : Holding) (w : Own) (a : Answer) : Type 0 where
   pub own : a.own ≡ w
   pub none : (r : Reply) → a.reply ≡ Some r → id_in r ≡ None
   pub covered : AreCovered held a.edits
+  pub idle : (f : Refusal) → a.reply ≡ Some (reply.Refused f) → a.edits ≡ []
 
 same_reply : (a b : Reply) → Some a ≡ Some b → a ≡ b
 same_reply a b e = cc
 
 leaves_refused : (held : Holding) (w : Own) (f : Refusal) → LeavesOpens held w (refused w f)
-leaves_refused held w f = record { own = refl; none = λ r e. ap id_in (sym (same_reply (reply.Refused f) r e)); covered = tt }
+leaves_refused held w f = record { own = refl; none = λ r e. ap id_in (sym (same_reply (reply.Refused f) r e)); covered = tt; idle = λ g e. refl }
 
 leaves_pages : (held : Holding) (m : View) (w : Own) (f : FileId) (n first : ℕ) (next : List (List ℕ) → Look) → ((ps : List (List ℕ)) → LeavesOpens held w (run m (next ps))) → LeavesOpens held w (run m (ask_pages f first n next))
 leaves_pages held m w f zero first next h = h []
@@ -250,7 +251,7 @@ page_leaves held server made m who w (call.ReadPages t n r mode choice) given is
     reads op p true = leaves_refused held w (refusal.NoSuchPage p.size)
     reads op p false =
         leaves_pages held m w op.file r.count r.first (λ ps. Look.Say (replied w (reply.Pages ps) []))
-        (λ ps. record { own = refl; none = λ x e. ap id_in (sym (same_reply (reply.Pages ps) x e)); covered = tt })
+        (λ ps. record { own = refl; none = λ x e. ap id_in (sym (same_reply (reply.Pages ps) x e)); covered = tt; idle = λ f e. refl })
 
     there : (op : Open) (x : Option Props) → LeavesOpens held w (run m (on_props w x (read_pages w r op)))
     there op None = leaves_refused held w refusal.UnknownOpen
@@ -267,6 +268,7 @@ page_leaves held server made m who w (call.WritePages t n r pages choice) given 
     writes op p locked false = record {
       own = refl;
       none = λ x e. ap id_in (sym (same_reply reply.Plain x e));
+      idle = λ f e. (let wrong : reply.Plain ≡ reply.Refused f = same_reply reply.Plain (reply.Refused f) e in cc);
       covered = covered_both held (page_puts op.file r.first pages) (mark_put op.file p (r.first + r.count)) (pages_covered held op.file locked r.first pages) (mark_covered held op.file locked p (r.first + r.count));
     }
 

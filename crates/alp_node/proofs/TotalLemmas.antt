@@ -142,3 +142,11 @@ same_room s m lives t old new there same h =
       files = omega (arith, h.files, among files lives t old there);
       owners = omega (arith, h.owners, among owners lives t old there);
     }))
+
+-- a part that did nothing in place of one
+pub blank_few : (m : LiveMap) (t : TransId) (old new : Live) → map.get m t ≡ Some old → new.part.counts ≡ no_counts → AreFewTotals (totals_of m) → AreFewTotals (totals_of (map.insert m t new))
+blank_few m t old new there idle h = subst AreFewTotals (sym (swapped_totals m t old new there)) (record {
+  places = (let none : new.part.counts.places ≡ 0 = ap (λ (n : Counts). n.places) idle in omega (arith, h.places, none));
+  files = (let none : new.part.counts.files ≡ 0 = ap (λ (n : Counts). n.files) idle in omega (arith, h.files, none));
+  owners = (let none : new.part.counts.owners ≡ 0 = ap (λ (n : Counts). n.owners) idle in omega (arith, h.owners, none));
+})
