@@ -90,6 +90,17 @@ module _ {V : Type 0} (a : Alone) (held : Contents) (k : ServerState V) where
   sees t rs l life h up is =
       (λ i q. is.intents (map.get held.cells) i q) ∙ ap (after life.edits) (over_empty (map.get held.cells)) ∙ ap (λ (c : Cells). after life.edits (map.get c)) (h.cells up) ∙ sym (get-edits_map life.edits a.holder.cells)
 
+  -- a part gave what the journal says that a thread is answered
+  pub right_as : (t : TransId) (l : Live) (p : Part) (c : Call) (r : Reply) (life : Life) (rs : List Resource) (later : Counts) (refused : Option Refusal) → IsAs a held k → k.is_down ≡ false → IsLife a.holder.cells k.locks.held rs t l life
+      → IsRight held.cells l.part p later refused r (answer k.server [] (seen held.cells l.part) l.who (own_of l.part) c r) → IsRight a.holder.cells l.part p later refused r (answer_in a.holder life (record { call = c; reply = r }))
+  right_as t l p c r life rs later refused h up is first =
+      let same : answer k.server [] (seen held.cells l.part) l.who (own_of l.part) c r ≡ answer a.holder.server [] (view_in a.holder life) life.who life.own c r =
+      ap (λ (m : ℕ). answer m [] (seen held.cells l.part) l.who (own_of l.part) c r) (sym h.server)
+      ∙ ap (λ (x : View). answer a.holder.server [] x l.who (own_of l.part) c r) (sees t rs l life h up is)
+      ∙ ap (λ (x : List ℕ). answer a.holder.server [] (view_in a.holder life) x (own_of l.part) c r) (sym is.who)
+      ∙ ap (λ (x : Own). answer a.holder.server [] (view_in a.holder life) life.who x c r) is.own in
+      subst (λ (m : Cells). IsRight m l.part p later refused r (answer_in a.holder life (record { call = c; reply = r }))) (h.cells up) (subst (λ (x : Answer). IsRight held.cells l.part p later refused r x) same first)
+
   -- the next file is new to each
   pub unseen : (t : TransId) (l : Live) → IsAs a held k → k.is_down ≡ false → map.get k.lives t ≡ Some l → seen held.cells l.part (Leader (next_file k)) ≡ None
   unseen t l h up there =
@@ -213,17 +224,6 @@ module _ {V : Type 0} (a : Alone) (held : Contents) (k : ServerState V) (turn : 
 
   abbrev pub gave : Answer
   gave = answer_in a.holder life (record { call = c; reply = r })
-
-  -- the part gave what the journal says that a thread is answered
-  pub right_as : (rs : List Resource) (after : Counts) (refused : Option Refusal) → IsAs a held k → k.is_down ≡ false → IsLife a.holder.cells k.locks.held rs t l life
-      → IsRight held.cells l.part p after refused r (answer k.server [] (seen held.cells l.part) l.who (own_of l.part) c r) → IsRight a.holder.cells l.part p after refused r gave
-  right_as rs after refused h up is first =
-      let same : answer k.server [] (seen held.cells l.part) l.who (own_of l.part) c r ≡ answer a.holder.server [] (view_in a.holder life) life.who life.own c r =
-      ap (λ (m : ℕ). answer m [] (seen held.cells l.part) l.who (own_of l.part) c r) (sym h.server)
-      ∙ ap (λ (x : View). answer a.holder.server [] x l.who (own_of l.part) c r) (sees a held k t rs l life h up is)
-      ∙ ap (λ (x : List ℕ). answer a.holder.server [] (view_in a.holder life) x (own_of l.part) c r) (sym is.who)
-      ∙ ap (λ (x : Own). answer a.holder.server [] (view_in a.holder life) life.who x c r) is.own in
-      subst (λ (m : Cells). IsRight m l.part p after refused r gave) (h.cells up) (subst (λ (x : Answer). IsRight held.cells l.part p after refused r x) same first)
 
   next_same : IsAs a held k → next_file k ≡ record { server = a.holder.server; epoch = a.ids.epoch; counter = k.given + 1 }
   next_same h = λ i. record { server = sym h.server i; epoch = sym h.epoch i; counter = k.given + 1 }

@@ -70,6 +70,15 @@ locks_read locks n (reply.Props p) h = refl
 locks_read locks n (reply.Owner o) h = refl
 locks_read locks n r h = cc
 
+-- and so has what asks for none
+pub locks_still : (n : ℕ) (r : Result Reply CallFault) → locks_given n (record { asked = n; made = n }) r ≡ n
+locks_still n (Ok (reply.Created f number)) = refl
+locks_still n (Ok (reply.Pages pages)) = refl
+locks_still n (Ok (reply.Props p)) = refl
+locks_still n (Ok (reply.Owner o)) = refl
+locks_still n (Ok r) = refl
+locks_still n (Err e) = refl
+
 -- ---- a server stays ready
 
 module _ {V : Type 0} (n : ℕ) (before serves : Bool) (k : ServerState V) (t : TransId) (l : Live) (p : Part) (b : ℕ) (v : V) where

@@ -19,7 +19,11 @@ use Rattle.alp_trans.specs.declared.counts.Counts.{Counts}
 use Rattle.alp_vault.specs.Contents.{Contents}
 use Rattle.alp_vault.specs.declared.limits.TheConstants.{HEAD_PAGES}
 use Rattle.alp_journal.specs.Holder.{Life}
-use Rattle.alp_journal.specs.Answers.{all_live, needs_of_all, made_by_all, left_places, locks_then, count_refusal}
+use Rattle.alp_files.specs.declared.refusal.Refusal.TheVariants as refusal
+use Rattle.alp_files.specs.declared.refusal.What.TheVariants as what
+use Rattle.alp_journal.specs.Counts.{log_need}
+use Rattle.alp_node.specs.Shapes.{too_locked}
+use Rattle.alp_journal.specs.Answers.{if_over, all_live, needs_of_all, made_by_all, left_places, locks_then, count_refusal}
 use Rattle.alp_journal.specs.Alone.{Alone, alone}
 use Rattle.alp_calls.specs.Limits.{IsAllowed}
 use Rattle.alp_calls.proofs.PartLaws.{allowed}
@@ -37,6 +41,10 @@ not_over m n le = go (nat_lt m n) refl
     go : (b : Bool) → nat_lt m n ≡ b → b ≡ false
     go false e = refl
     go true e = (let wrong : m < n = ltb-true m n e in absurd (omega (arith, wrong, le)))
+
+-- within the limits no lock is too many
+pub none_locked : (area cells locks : ℕ) → locks ≤ 1024 → log_need cells locks ≤ area → too_locked area cells locks ≡ None
+none_locked area cells locks few log = λ i. option_or (if_over (not_over 1024 locks few i) (refusal.TooMany what.Locks 1024)) (if_over (not_over area (log_need cells locks) log i) (refusal.LogFull area (log_need cells locks)))
 
 counted_low : (n : ℕ) → n ≤ 4096 → counted n ≡ n
 counted_low n low = omega (arith, low)

@@ -61,6 +61,10 @@ pub record MayLock (s : Sizes) (l : Live) (n : LockCounts) : Type 0 where
   pub more : l.locks ≤ n.made
   pub asked : n.asked ≤ n.made
 
+-- and so are those of a call that asks for none
+pub still_lock : (s : Sizes) (l : Live) → IsWithin s l → MayLock s l (record { asked = l.locks; made = l.locks })
+still_lock s l h = record { few = h.locks; log = h.log; more = omega arith; asked = omega arith }
+
 pub within_then : (tells : Bool) (cells : Cells) (id : FileId) (s : Sizes) (l : Live) (p : Part) (c : Call) (n : LockCounts) (room : Room) (r : Result Reply CallFault) → IsPart p → MayLock s l n → room.area ≡ s.area → room.locks ≡ n.made
     → Outcome tells cells id l p c room r → IsWithin s (record l { part = p; locks = locks_given l.locks n r })
 within_then tells cells id s l p c n room r part may area locks h =
