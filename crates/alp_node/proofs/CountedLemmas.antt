@@ -1,7 +1,7 @@
 -- what is answered of a call whose counts may refuse it
 use Rattle.std.specs.Prelude.{cond, Bool, true, false, ◌&&◌, ◌||◌, nat_lt, Option, None, Some}
 use Rattle.std.specs.Option.{option_or}
-use Rattle.std.proofs.Common.{◌≡◌, ℕ, ◌+◌, ◌-◌, ◌≤◌, List, [], ◌++◌, append-nil, refl, sym, ◌∙◌, ap, subst, arith}
+use Rattle.std.proofs.Common.{◌≡◌, ℕ, ◌+◌, ◌-◌, ◌≤◌, List, [], ◌∷◌, ◌++◌, append-nil, refl, sym, ◌∙◌, ap, subst, arith}
 use Rattle.alp_base.specs.declared.ids.FileId.{FileId}
 use Rattle.alp_calls.specs.Limits.{refused_for, is_past}
 use Rattle.alp_calls.specs.Parts.{Answered}
@@ -12,13 +12,15 @@ use Rattle.alp_files.specs.Passing.{is_passing_refusal}
 use Rattle.alp_files.specs.declared.call.Call.{Call}
 use Rattle.alp_files.specs.declared.refusal.Refusal.{Refusal}
 use Rattle.alp_files.specs.declared.refusal.Refusal.TheVariants as refusal
+use Rattle.alp_files.specs.declared.refusal.What.{What}
 use Rattle.alp_files.specs.declared.refusal.What.TheVariants as what
 use Rattle.alp_files.specs.declared.reply.Reply.{Reply}
 use Rattle.alp_files.specs.declared.reply.Reply.TheVariants as reply
 use Rattle.alp_trans.specs.Counting.{AreCountsOf}
 use Rattle.alp_trans.specs.declared.counts.Counts.{Counts}
 use Rattle.alp_trans.specs.declared.part.Part.{Part}
-use Rattle.alp_journal.specs.Answered.{is_fault_reply}
+use Rattle.alp_base.specs.declared.ids.TransId.{TransId}
+use Rattle.alp_journal.specs.Answered.{is_fault_reply, grants_by}
 use Rattle.alp_journal.specs.Answers.{if_over, unless_counts}
 use Rattle.alp_journal.specs.Counts.{log_need}
 use Rattle.alp_journal.specs.Desk.{is_not_yet}
@@ -30,6 +32,7 @@ use Rattle.alp_node.proofs.RoomLemmas.{not_over}
 pub record IsCountRefusal (f : Refusal) : Type 0 where
   pub passes : is_passing_refusal f ≡ true
   pub now : is_not_yet (reply.Refused f) ≡ false
+  pub granted : (t : TransId) → grants_by true t (reply.Refused f) ≡ t ∷ []
   pub quiet : (here : ℕ) → (is_fault_reply here (Some (reply.Refused f)) || says_down (Some (reply.Refused f))) ≡ false
 
 pub over_is : (b : Bool) (r : Refusal) → IsCountRefusal r → (f : Refusal) → if_over b r ≡ Some f → IsCountRefusal f
@@ -43,14 +46,14 @@ pub either_is : (x y : Option Refusal) → ((f : Refusal) → x ≡ Some f → I
 either_is None y first second f e = second f e
 either_is (Some x) y first second f e = first f e
 
-too_many_is : (w : _) (n : ℕ) → IsCountRefusal (refusal.TooMany w n)
-too_many_is w n = record { passes = refl; now = refl; quiet = λ here. refl }
+pub too_many_is : (w : What) (n : ℕ) → IsCountRefusal (refusal.TooMany w n)
+too_many_is w n = record { passes = refl; now = refl; granted = λ t. refl; quiet = λ here. refl }
 
 full_is : (left asked : ℕ) → IsCountRefusal (refusal.VolumeFull left asked)
-full_is left asked = record { passes = refl; now = refl; quiet = λ here. refl }
+full_is left asked = record { passes = refl; now = refl; granted = λ t. refl; quiet = λ here. refl }
 
-log_is : (room asked : ℕ) → IsCountRefusal (refusal.LogFull room asked)
-log_is room asked = record { passes = refl; now = refl; quiet = λ here. refl }
+pub log_is : (room asked : ℕ) → IsCountRefusal (refusal.LogFull room asked)
+log_is room asked = record { passes = refl; now = refl; granted = λ t. refl; quiet = λ here. refl }
 
 pub refused_is : (room : Room) (now later : Counts) (f : Refusal) → refused_for room now later ≡ Some f → IsCountRefusal f
 refused_is room now later f e =

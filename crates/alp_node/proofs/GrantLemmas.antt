@@ -43,7 +43,6 @@ use Rattle.alp_journal.specs.Moves as journal
 use Rattle.alp_journal.specs.Answers.{choice_of, more_locks}
 use Rattle.alp_journal.specs.Alone.{Alone, alone}
 use Rattle.alp_node.specs.Asks.{is_of_given, is_given, asks_of, asks_made, asks_given, is_made, plan_for, count_made, plan_of, with_plan}
-use Rattle.alp_node.specs.Bounded.{bounds_of}
 use Rattle.alp_node.specs.Calls.{IsLockCall, next_file}
 use Rattle.alp_node.specs.ServerState.{IsAs, IsReady, IsLocked, mode_for}
 use Rattle.alp_node.specs.declared.server_state.ServerState.{ServerState}
@@ -105,13 +104,6 @@ lock_choice (call.CreateFile t start choice) is = ap (λ x. Some x) is
 lock_choice (call.OpenFile t f a mode choice) is = ap (λ x. Some x) is.1
 lock_choice (call.MakeOwner t name quota create choice) is = ap (λ x. Some x) is
 lock_choice c is = absurd is
-
--- it asks for one lock, and for that of a new file
-pub lock_few : (c : Call) → IsLockCall c → length (asks_of c) + more_locks c ≤ (bounds_of c).locks
-lock_few (call.CreateFile t start choice) is = omega arith
-lock_few (call.OpenFile t f a mode choice) is = omega arith
-lock_few (call.MakeOwner t name quota create choice) is = omega arith
-lock_few c is = absurd is
 
 -- one need, and no more
 pub record IsOne (ns : List Need) : Type 0 where
@@ -268,6 +260,9 @@ granted_ready m serves k w count more low prepared free others h = record {
   given = low;
   committed = h.committed;
   few = h.few;
+  most = h.most;
+  within = h.within;
+  sized = h.sized;
   clock = h.clock;
   raised = h.raised;
   unheld = λ u n high. all-of-plan k.locks w u (numbered k n) prepared

@@ -29,7 +29,10 @@ pub mod LockLemmas
 pub mod AskLemmas
 pub mod ConflictLemmas
 pub mod GrantLemmas
+pub mod ShapeLemmas
 pub mod LockCallLemmas
+pub mod LockDoneLemmas
+pub mod LockKeptLemmas
 pub mod NodeLemmas
 pub mod LiveLemmas
 pub mod NoteLemmas

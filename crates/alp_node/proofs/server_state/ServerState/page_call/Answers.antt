@@ -1,9 +1,11 @@
-use Rattle.std.specs.Prelude.{Some}
+use Rattle.std.specs.Prelude.{Some, Ok}
 use Rattle.std.specs.FinMap as map
 use Rattle.std.proofs.Common.{◌≡◌, ◌+◌, ◌≤◌, List, [], le_refl, arith, refl, sym, ap, ◌∙◌, subst}
 use Rattle.alp_calls.specs.Parts.{CanPerform}
 use Rattle.alp_journal.specs.declared.act.Act.{Act}
 use Rattle.alp_journal.specs.declared.event.Event.TheVariants as event
+use Rattle.alp_node.specs.Calls.{next_file}
+use Rattle.alp_node.specs.Rooms.{locks_given}
 use Rattle.alp_node.specs.ServerState.{IsReady}
 use Rattle.alp_node.specs.Steps.{Stepped, IsOf, counted_in}
 use Rattle.alp_node.specs.declared.lives.Live.{Live}
@@ -56,7 +58,7 @@ returns-in_ok-answer-in-Ok g c =
     (subst (λ (y : ServerState _). Stepped a (G.faults k.vault) (G.faults N.vault) (G.held N.vault) (record y { sessions = counted_in y.sessions turn }) e x) (sym did.kept)
     (page_stepped a (G.faults k.vault) (G.faults N.vault) (G.held k.vault) k turn t l did.part c.args.call.now did.room r _ N.vault x (G.held N.vault) h c.requires.up left.contents c.requires.turn there own c.requires.page
     (c.requires.shape l there) c.requires.named c.requires.formed (answered_told (G.tells k.vault) (G.held k.vault).cells l did.part _ c.args.call.now did.room r told did.outcome) (room_told (G.tells k.vault) (G.held k.vault).cells k l.locks did.room told did.left)
-    (c.requires.ready.2.within t l there) (locks_still l.locks _) is))
+    (c.requires.ready.2.within t l there) (locks_still l.locks (Ok r)) is))
     ))
     (reply_given k.server (G.faults k.vault) (G.faults N.vault) (G.allowance N.vault) N.is_down r [] x is
     (counts_none k.server (G.faults k.vault) (G.faults N.vault) N.is_down (Some r) (answered_quiet k.server (G.tells k.vault) (G.held k.vault).cells l.part did.part l.who _ c.args.call.now did.room r did.outcome) c.in-Ok.ensures.looked.2)
@@ -65,8 +67,8 @@ returns-in_ok-answer-in-Ok g c =
     let low : did.part.last ≤ n + 1 = (let was : l.part.last ≤ n = h.opens t l there in omega (arith, did.outcome.last)) in
     subst (λ (y : Sessions). IsReady (n + 1) (G.serves N.vault) (record N { sessions = y })) (sym c.count.ensures)
     (subst (λ (y : ServerState _). IsReady (n + 1) (G.serves N.vault) (record y { sessions = counted_in y.sessions turn })) (sym did.kept)
-    (part_ready (n + 1) (G.serves k.vault) (G.serves N.vault) (record k { sessions = counted_in k.sessions turn }) t l did.part _ N.vault (n + 1) c.in-Ok.ensures.looked.1 c.requires.up there low (le_refl (n + 1))
-    (within_then (G.tells k.vault) (G.held k.vault).cells _ k.sizes l did.part c.args.call.now _ did.room _ did.sound (still_lock k.sizes l (h.within t l there)) did.left.area did.left.held did.outcome)
+    (part_ready (n + 1) (G.serves k.vault) (G.serves N.vault) (record k { sessions = counted_in k.sessions turn }) t l did.part (locks_given l.locks (record { asked = l.locks; made = l.locks }) (Ok r)) N.vault (n + 1) c.in-Ok.ensures.looked.1 c.requires.up there low (le_refl (n + 1))
+    (within_then (G.tells k.vault) (G.held k.vault).cells (next_file k) k.sizes l did.part c.args.call.now (record { asked = l.locks; made = l.locks }) did.room (Ok r) did.sound (still_lock k.sizes l (h.within t l there)) did.left.area did.left.held did.outcome)
     (counted_ready n (G.serves k.vault) k turn c.requires.turn h)))
     ))
 
