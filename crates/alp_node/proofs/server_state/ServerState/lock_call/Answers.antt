@@ -58,6 +58,12 @@ perform-requires-clause-ready g c l there =
 pub perform-requires-clause-few : goal.perform-requires-clause-few
 perform-requires-clause-few g c = few_totals c.args.self.now.lives c.requires.ready.2.most (λ t l there. (c.requires.ready.2.within t l there).part)
 
+pub lock_counts-counts-requires : goal.lock_counts-counts-requires
+lock_counts-counts-requires g c = (c.requires.ready.2.within c.args.trans c.in-Some.live.now (sym c.in-Some.ensures)).locks
+
+pub too_locked-requires : goal.too_locked-requires
+too_locked-requires g c = (c.requires.ready.2.within c.args.trans c.in-Some.live.now (sym c.in-Some.ensures)).part.most
+
 pub returns-in-Some-too_locked : goal.returns-in-Some-too_locked
 returns-in-Some-too_locked g c =
     let G = g.V.Vault in
@@ -71,7 +77,7 @@ returns-in-Some-too_locked g c =
     let f = c.in-Some-too_locked.refusal in
     let many : too_locked k.sizes.area l.part.counts.cells (counts_then l.locks (holding k.locks.held t) call).made ≡ Some f =
     ap (λ (n : LockCounts). too_locked k.sizes.area l.part.counts.cells n.made) (sym c.lock_counts-counts.ensures) ∙ sym c.too_locked.ensures ∙ c.in-Some-too_locked.is in
-    let refuse = c.refuse-in-Some-too_locked in
+    let refuse = c.refuse in
     refused_step G k refuse.new.self turn call refuse.result f (IsCountRefusal.quiet (too_locked_is k.sizes.area l.part.counts.cells (counts_then l.locks (holding k.locks.held t) call).made f many) k.server) c.requires.turn c.requires.up
     refuse.ensures.kept refuse.ensures.answer
     (λ told a h. locks_stepped a (G.faults k.vault) (G.faults k.vault) (G.held k.vault) k turn t l call f refuse.result h c.requires.ready.2.raised c.requires.turn c.requires.up there own c.requires.kind (c.requires.shape l there) many c.requires.named
