@@ -21,7 +21,8 @@ use Rattle.alp_journal.specs.State.{State}
 use Rattle.alp_node.specs.declared.lives.Live.{Live}
 use Rattle.alp_node.specs.NodeStates.{NodeState}
 use Rattle.alp_node.specs.Nodes.{IsConsistent, IsRight, AreLive, state_of, start_in}
-use Rattle.alp_node.specs.ServerState.{IsAlike, LiveMap}
+use Rattle.alp_node.specs.ServerState.{IsAlike}
+use Rattle.alp_node.specs.Totals.{LiveMap}
 use Rattle.alp_files.specs.Cells.{Cells}
 
 -- what is kept of a transaction stands just where the journal says that it is live

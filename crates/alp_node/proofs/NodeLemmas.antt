@@ -6,7 +6,8 @@ use Rattle.std.proofs.Common.{◌≡◌, ◌<◌, ℕ, ◌+◌, List, [], ◌∷
 use Rattle.alp_base.specs.Crashes.{Only, Either}
 use Rattle.alp_base.specs.declared.memory.OutOfMemory.{OutOfMemory}
 use Rattle.alp_files.specs.declared.reply.Reply.{Reply}
-use Rattle.alp_files.specs.Edits.{Edit, edits_map, edits_of}
+use Rattle.alp_files.specs.Edits.{Edit, edits_map}
+use Rattle.alp_files.specs.Changes.{edits_of}
 use Rattle.alp_files.specs.Sound.{AreSound}
 use Rattle.alp_calls.proofs.PartLaws.{same_change}
 use Rattle.alp_trans.specs.Parts.{change_of}

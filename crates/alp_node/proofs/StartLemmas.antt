@@ -20,7 +20,8 @@ use Rattle.alp_files.specs.declared.cell.Cell.{Cell}
 use Rattle.alp_files.specs.declared.cell.Cell.TheVariants as cell
 use Rattle.alp_files.specs.Locks.{page_limit}
 use Rattle.alp_files.specs.Cells.{Cells}
-use Rattle.alp_files.specs.Edits.{ChangesBy, edits_map, edits_of}
+use Rattle.alp_files.specs.Edits.{ChangesBy, edits_map}
+use Rattle.alp_files.specs.Changes.{edits_of}
 use Rattle.alp_calls.proofs.PartLaws.{same_change}
 use Rattle.alp_trans.specs.Parts.{change_of}
 use Rattle.alp_trans.specs.declared.part.Part.{Part}
