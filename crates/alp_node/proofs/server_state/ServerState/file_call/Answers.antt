@@ -44,6 +44,6 @@ returns-in-Some-shape_refusal g c =
     let l : Live = c.in-Some.live.now in
     let there : map.get k.lives t ≡ Some l = sym c.in-Some.ensures in
     let is : shape_of k.server k.epoch k.given (length l.part.opens.items) c.args.call.now ≡ Some f =
-    ap (λ (n : ℕ). shape_of k.server k.epoch k.given n c.args.call.now) (sym c.len.ensures) ∙ sym c.shape_refusal.ensures ∙ c.in-Some-shape_refusal.is in
+    ap (λ (n : ℕ). shape_of k.server k.epoch k.given n c.args.call.now) (sym l.part.opens.ok.0 ∙ sym c.len.ensures) ∙ sym c.shape_refusal.ensures ∙ c.in-Some-shape_refusal.is in
     refused_step G k refuse.new.self turn c.args.call.now refuse.result f (shape_quiet k.server k.server k.epoch k.given (length l.part.opens.items) c.args.call.now f is) c.requires.turn c.requires.up refuse.ensures.kept refuse.ensures.answer
     (λ told a h. shape_stepped a (G.faults k.vault) (G.faults k.vault) (G.held k.vault) k turn t c.args.call.now f refuse.result h c.requires.ready.2.raised c.requires.turn c.requires.up c.requires.named c.requires.served own l there is refuse.ensures.answer)
