@@ -1,5 +1,5 @@
 -- what a call of a live part comes to
-use Rattle.std.specs.Prelude.{suc, cond, Bool, true, false, IsTrue, Option, None, Some, Result, Ok, Err, IfOk, OnOk, OnErr}
+use Rattle.std.specs.Prelude.{suc, cond, Bool, true, false, Option, None, Some, Result, Ok, Err, IfOk, OnErr}
 use Rattle.std.specs.FinMap as map
 use Rattle.std.proofs.Common.{◌≡◌, ℕ, ◌+◌, ◌<◌, ◌≤◌, List, [], ◌∷◌, ◌++◌, length, refl, sym, ◌∙◌, ap, subst, arith}
 use Rattle.alp_base.specs.declared.ids.FileId.{FileId}
@@ -18,7 +18,7 @@ use Rattle.alp_files.specs.Built.{IsBuilt}
 use Rattle.alp_files.proofs.BornLemmas.{unborn_kept, unborn_more}
 use Rattle.alp_files.proofs.EditLemmas.{changes-append, edits_at-append}
 use Rattle.alp_files.proofs.FilesLemmas.{same-some}
-use Rattle.alp_files.specs.Edits.{Edit, edits_at, after, ChangesBy}
+use Rattle.alp_files.specs.Edits.{edits_at, after, ChangesBy}
 use Rattle.alp_files.specs.Locks.{IsMore, with_made}
 use Rattle.alp_files.proofs.HistoryLemmas.{get-edits_map}
 use Rattle.alp_locks.specs.Tables.{Table, holding}

@@ -1,5 +1,5 @@
 -- what is answered of a call whose counts may refuse it
-use Rattle.std.specs.Prelude.{cond, Bool, true, false, ◌&&◌, ◌||◌, nat_lt, Option, None, Some}
+use Rattle.std.specs.Prelude.{Bool, true, false, ◌&&◌, ◌||◌, nat_lt, Option, None, Some}
 use Rattle.std.specs.Option.{option_or}
 use Rattle.std.proofs.Common.{◌≡◌, ℕ, ◌+◌, ◌-◌, ◌≤◌, List, [], ◌∷◌, ◌++◌, append-nil, refl, sym, ◌∙◌, ap, subst, arith}
 use Rattle.alp_base.specs.declared.ids.FileId.{FileId}

@@ -9,7 +9,6 @@ use Rattle.alp_base.specs.declared.key.Key.TheVariants.{Leader}
 use Rattle.alp_base.specs.declared.key.Resource.{Resource}
 use Rattle.alp_trans.specs.Counting.{AreCountsOf, no_counts}
 use Rattle.alp_trans.specs.Parts.{own_of}
-use Rattle.alp_trans.specs.declared.counts.Counts.{Counts}
 use Rattle.alp_trans.specs.declared.part.Part.{Part}
 use Rattle.alp_files.specs.Act.{no_opens}
 use Rattle.alp_files.specs.Cells.{Cells}

@@ -268,7 +268,7 @@ module _ {V : Type 0} (a : Alone) (before now : ℕ) (held : Contents) (k : Serv
         dead = λ d u. ap (cond {A = Option Cause} (d == turn.client && same_trans u t) None) (h.dead d u) ∙ part_left k.dead turn.client t d u;
         lives = h.lives;
         room = h.room;
-    unborn = h.unborn;
+        unborn = h.unborn;
         drawn = h.drawn;
         begun = h.begun;
         undrawn = h.undrawn;
@@ -308,7 +308,7 @@ module _ {V : Type 0} (a : Alone) (before now : ℕ) (held : Contents) (k : Serv
               ∙ ap (λ (n : ℕ). cond {A = Option Cause} (d == n && same_trans u t) (Some cause.TimedOut) (dead_in k.dead d u)) y.alike.client ∙ dead_then k.dead l.client t d u;
           lives = gone_alike a held k t alone h;
           room = gone_room k.sizes a.holder.cells k.lives t h.room;
-    unborn = gone_unborn a held k t h;
+          unborn = gone_unborn a held k t h;
           drawn = h.drawn;
           begun = h.begun;
           undrawn = still_undrawn a.holder.server a.ids.epoch k.drawn a.fates t (fate.ended cause.TimedOut) refl h.undrawn;
@@ -342,7 +342,7 @@ module _ {V : Type 0} (a : Alone) (before now : ℕ) (held : Contents) (k : Serv
       dead = h.dead;
       lives = h.lives;
       room = h.room;
-    unborn = h.unborn;
+      unborn = h.unborn;
       drawn = h.drawn;
       begun = h.begun;
       undrawn = h.undrawn;

@@ -1,14 +1,11 @@
 -- what the journal counts of all live parts is what the server keeps
-use Rattle.std.specs.Prelude.{cond, Bool, true, false, nat_le, filter, flat_map, Option, None, Some}
+use Rattle.std.specs.Prelude.{Bool, true, false, nat_le, filter, Option, None, Some}
 use Rattle.std.specs.FinMap as map
-use Rattle.std.proofs.Common.{◌≡◌, ℕ, ◌+◌, ◌-◌, ◌<◌, ◌≤◌, List, [], ◌∷◌, ◌++◌, refl, sym, ◌∙◌, ap, subst, arith}
+use Rattle.std.proofs.Common.{◌≡◌, ℕ, ◌+◌, ◌<◌, ◌≤◌, List, [], ◌∷◌, ◌++◌, refl, sym, ◌∙◌, ap, arith}
 use Rattle.std.proofs.lemmas.Bool.{leb-true}
 use Rattle.alp_base.specs.declared.ids.TransId.{TransId}
 use Rattle.alp_base.specs.declared.key.Key.{Key}
-use Rattle.alp_base.specs.declared.key.Resource.{Resource}
-use Rattle.alp_files.specs.Cells.{Cells}
-use Rattle.alp_files.specs.Needs.{need_of, made_of, is_leader, is_owner}
-use Rattle.alp_locks.specs.Tables.{Holders}
+use Rattle.alp_files.specs.Needs.{is_leader, is_owner}
 use Rattle.alp_vault.specs.Contents.{Contents}
 use Rattle.alp_journal.specs.Coordinator.{Fate, is_running}
 use Rattle.alp_journal.specs.Holder.{Life}

@@ -1,15 +1,15 @@
 -- a call that asked for locks and has them: what it is answered, and its entry where it is performed
-use Rattle.std.specs.Prelude.{cond, Bool, true, false, not, ◌||◌, ◌==◌, nat_le, Option, None, Some, is_some, Result, Ok, Err}
-use Rattle.std.specs.List.{AllByRecursion, list_any}
+use Rattle.std.specs.Prelude.{cond, Bool, true, false, not, ◌==◌, Option, None, Some, is_some, Ok}
+use Rattle.std.specs.List.{AllByRecursion}
 use Rattle.std.specs.Option.{option_or}
 use Rattle.std.specs.FinMap as map
-use Rattle.std.proofs.Common.{inr, ◌≡◌, ℕ, ◌+◌, ◌<◌, ◌≤◌, List, [], ◌∷◌, ◌++◌, length, refl, sym, ◌∙◌, ap, subst, arith}
+use Rattle.std.proofs.Common.{inr, ◌≡◌, ℕ, ◌+◌, ◌≤◌, List, [], ◌∷◌, ◌++◌, length, refl, sym, ◌∙◌, ap, subst, arith}
 use Rattle.alp_base.specs.declared.ids.FileId.{FileId}
 use Rattle.alp_base.specs.declared.ids.TransId.{TransId}
 use Rattle.alp_base.specs.declared.key.Resource.{Resource}
 use Rattle.alp_base.specs.declared.key.Resource.TheVariants.{Whole}
 use Rattle.alp_modes.specs.declared.Mode.{Mode}
-use Rattle.alp_files.specs.Holdings.{Holding, join_held, covers_held, held_by, DoAgree}
+use Rattle.alp_files.specs.Holdings.{Holding, join_held, held_by, DoAgree}
 use Rattle.alp_files.proofs.HoldingLemmas.{join_held-assoc, held_by-append, agree-turned}
 use Rattle.alp_files.proofs.CoverLemmas.{granted-holds, joined-more}
 use Rattle.alp_files.specs.declared.call.Call.{Call}
@@ -18,21 +18,18 @@ use Rattle.alp_files.specs.declared.reply.Reply.{Reply}
 use Rattle.alp_files.specs.declared.reply.Reply.TheVariants as reply
 use Rattle.alp_files.specs.declared.refusal.Refusal.{Refusal}
 use Rattle.alp_files.specs.declared.refusal.Refusal.TheVariants as refusal
-use Rattle.alp_files.specs.declared.refusal.What.TheVariants as what
-use Rattle.alp_files.specs.Act.{Own, Answer, id_in}
+use Rattle.alp_files.specs.Act.{Answer, id_in}
 use Rattle.alp_files.specs.Passing.{is_passing}
 use Rattle.alp_files.specs.Born.{count_after}
 use Rattle.alp_files.specs.Locks.{Need, IsMore, IsFormed, HoldsEach, needs_of, needs_made, with_made}
 use Rattle.alp_queue.specs.declared.waiter.Waiter.{Waiter}
 use Rattle.alp_queue.specs.Order.{waits}
 use Rattle.alp_locks.specs.Tables.{Table, holding, held_of}
-use Rattle.alp_locks.specs.Asks.{blocker, risen}
-use Rattle.alp_locks.specs.Sound.{IsSound}
+use Rattle.alp_locks.specs.Asks.{blocker}
 use Rattle.alp_locks.proofs.LawLemmas.{no-rise}
 use Rattle.alp_trans.specs.declared.part.Part.{Part}
-use Rattle.alp_trans.specs.declared.counts.Counts.{Counts}
 use Rattle.alp_trans.specs.Counting.{AreCountsOf}
-use Rattle.alp_calls.specs.Parts.{Performs, Answered, IsRight, IsAsBefore, StandsAfter, has_contents}
+use Rattle.alp_calls.specs.Parts.{Performs, Answered, IsRight, StandsAfter, has_contents}
 use Rattle.alp_calls.specs.Limits.{refused_for}
 use Rattle.alp_calls.specs.declared.limits.Room.{Room}
 use Rattle.alp_vault.specs.Contents.{Contents}
@@ -46,23 +43,21 @@ use Rattle.alp_journal.specs.Desk.{file_trans}
 use Rattle.alp_journal.specs.Holder.{Life, view_in, answer_in, held_for}
 use Rattle.alp_journal.specs.Moves as journal
 use Rattle.alp_journal.specs.Laws.{IsFree}
-use Rattle.alp_journal.specs.Answers.{First, IsFileOf, IsFileAnswer, IsLocked, IsThreads, count_refusal, shape_refusal, lock_refusal, if_over, locks_then, more_locks, unless_counts}
-use Rattle.alp_journal.specs.Answered.{GrantsFor, asks, grants_by, rises_on}
+use Rattle.alp_journal.specs.Answers.{First, IsFileOf, IsFileAnswer, IsLocked, IsThreads, count_refusal, shape_refusal, lock_refusal, more_locks, unless_counts}
+use Rattle.alp_journal.specs.Answered.{GrantsFor, asks, grants_by}
 use Rattle.alp_journal.specs.Alone.{Alone, alone, IsQuiet, Leads}
 use Rattle.alp_journal.proofs.AloneLemmas.{call_entry}
 use Rattle.alp_journal.proofs.AloneCalls.{PerformOwes, performed_leads, granted_leads, with_call}
-use Rattle.alp_base.specs.declared.allowance.Allowance.{Allowance}
 use Rattle.alp_journal.specs.Moves.{is_stop}
-use Rattle.alp_node.specs.Halts.{HaveCauses}
 use Rattle.alp_node.specs.Asks.{is_of_given, asks_of, asks_given, plan_of, with_plan, acts_of}
 use Rattle.alp_node.specs.Calls.{IsLockCall, next_file}
 use Rattle.alp_node.specs.Covers.{AreCovered, AreHeld}
-use Rattle.alp_node.specs.Rooms.{IsRoomOf, IsWithin, locks_given}
-use Rattle.alp_node.specs.Shapes.{shape_of, fresh_on, counts_then, too_locked}
+use Rattle.alp_node.specs.Rooms.{IsRoomOf, locks_given}
+use Rattle.alp_node.specs.Shapes.{shape_of, counts_then, too_locked}
 use Rattle.alp_node.specs.Totals.{totals_of}
 use Rattle.alp_node.specs.declared.lock_counts.LockCounts.{LockCounts}
 use Rattle.alp_node.specs.Dead.{is_dead}
-use Rattle.alp_node.specs.ServerState.{IsAs, IsReady, IsAlike, IsLife, PutNoneBeyond, IsLocked as IsOpenLocked}
+use Rattle.alp_node.specs.ServerState.{IsAs, IsReady, IsAlike, IsLife, IsLocked as IsOpenLocked}
 use Rattle.alp_node.specs.Standings.{standing_of}
 use Rattle.alp_node.specs.Steps.{Stepped, IsTurn, IsOf, counted_in, seen_in}
 use Rattle.alp_node.specs.declared.answer.Answer.{Answer as Handed}
@@ -71,21 +66,21 @@ use Rattle.alp_node.specs.declared.server_state.ServerState.{ServerState}
 use Rattle.alp_node.specs.declared.served.Standing.TheVariants as standing
 use Rattle.alp_node.specs.declared.sessions.Turn.{Turn}
 use Rattle.alp_node.proofs.ApartLemmas.{covered_puts, covered_both, covered_more}
-use Rattle.alp_node.proofs.AskLemmas.{lock_covered, lock_tells, more_locked}
+use Rattle.alp_node.proofs.AskLemmas.{lock_covered, lock_tells}
 use Rattle.alp_node.proofs.CountedLemmas.{IsCountRefusal, refused_is}
-use Rattle.alp_node.proofs.LockCountLemmas.{held_then, count_one, count_made, held_same}
+use Rattle.alp_node.proofs.LockCountLemmas.{held_then, count_made}
 use Rattle.alp_node.proofs.RoomLemmas.{refusal_same, allowed_room}
-use Rattle.alp_node.proofs.ShapeLemmas.{shape_given, lock_shape, count_none_done, too_locked_is}
-use Rattle.alp_node.proofs.TotalLemmas.{AreRoomed, same_room}
-use Rattle.alp_node.proofs.CallLemmas.{done_kept, right_as, gave, after_call, done_as}
-use Rattle.alp_node.proofs.ConflictLemmas.{held_elsewhere, would_hold, least_holder, not_empty, rises_as}
+use Rattle.alp_node.proofs.ShapeLemmas.{shape_given}
+use Rattle.alp_node.proofs.TotalLemmas.{AreRoomed}
+use Rattle.alp_node.proofs.CallLemmas.{right_as, after_call, done_as}
+use Rattle.alp_node.proofs.ConflictLemmas.{held_elsewhere, would_hold, not_empty}
 use Rattle.alp_node.proofs.FinishLemmas.{turn_session, turn_next}
-use Rattle.alp_node.proofs.GrantLemmas.{free_given, kept_beside, kept_locked, lock_built, lock_choice, IsOne, lock_one, lock_made, asked_below, of_given, next_told, id_given}
-use Rattle.alp_node.proofs.KeptLemmas.{IsSession, IsLive, live_there, alike_set, each_set, stands_timely, stepped_so}
-use Rattle.alp_node.proofs.LockLemmas.{itself, asks_right, taken_own, taken_other, taken_agrees}
+use Rattle.alp_node.proofs.GrantLemmas.{free_given, kept_beside, kept_locked, lock_built, IsOne, lock_one, lock_made, asked_below, of_given, next_told, id_given}
+use Rattle.alp_node.proofs.KeptLemmas.{IsSession, stands_timely, stepped_so}
+use Rattle.alp_node.proofs.LockLemmas.{itself, taken_own, taken_other, taken_agrees}
 use Rattle.alp_node.proofs.PerformLemmas.{grants_nothing}
 use Rattle.alp_node.proofs.LockCallLemmas.{locked_then, lock_request, lock_asks, asked_locks, made_locks, not_refused}
-use Rattle.alp_node.proofs.ServedLemmas.{first_stepped, refused_stepped, work_why, work_grants}
+use Rattle.alp_node.proofs.ServedLemmas.{work_why, work_grants}
 use Rattle.alp_node.proofs.StandingLemmas.{own_standing}
 
 same_agree : (a b x y : Holding) → ((q : Resource) → a q ≡ x q) → ((q : Resource) → b q ≡ y q) → DoAgree x y → DoAgree a b

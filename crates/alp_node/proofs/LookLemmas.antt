@@ -2,7 +2,7 @@
 use Rattle.std.specs.Prelude.{cond, Bool, true, false, IsTrue, is_some, Option, Some, Result, Ok, Err}
 use Rattle.std.specs.Result.{IsErr}
 use Rattle.std.specs.FinMap as map
-use Rattle.std.proofs.Common.{◌≡◌, ℕ, ◌+◌, ◌≤◌, List, [], ◌∷◌, refl, sym, ◌∙◌, ap, subst, arith, le_refl}
+use Rattle.std.proofs.Common.{◌≡◌, ℕ, ◌+◌, ◌≤◌, [], ◌∷◌, refl, sym, ◌∙◌, ap, subst, arith, le_refl}
 use Rattle.alp_base.specs.Causes.{Rose}
 use Rattle.alp_base.specs.declared.allowance.Allowance.TheVariants.{Spent}
 use Rattle.alp_base.specs.declared.ids.FileId.{FileId}

@@ -14,11 +14,9 @@ use Rattle.alp_files.specs.declared.reply.Reply.{Reply}
 use Rattle.alp_files.specs.declared.reply.Reply.TheVariants as reply
 use Rattle.alp_files.specs.declared.refusal.Refusal.{Refusal}
 use Rattle.alp_files.specs.declared.refusal.Refusal.TheVariants as refusal
-use Rattle.alp_files.specs.declared.refusal.What.TheVariants as what
 use Rattle.alp_files.specs.Act.{Own, id_in}
 use Rattle.alp_files.specs.Built.{IsBuilt}
 use Rattle.alp_files.specs.Born.{count_after}
-use Rattle.alp_files.specs.Passing.{is_passing}
 use Rattle.alp_files.specs.Locks.{Need, IsFormed, needs_made, with_made}
 use Rattle.alp_base.specs.declared.faults.Sizes.{Sizes}
 use Rattle.alp_calls.specs.Limits.{refused_for}
@@ -38,7 +36,7 @@ use Rattle.alp_journal.specs.Holder.{Life, view_in, answer_in}
 use Rattle.alp_journal.specs.Moves.{is_of_no_file, done_by}
 use Rattle.alp_journal.specs.State.{State}
 use Rattle.alp_journal.specs.Laws.{IsFree}
-use Rattle.alp_journal.specs.Answers.{First, IsFileOf, IsFileAnswer, IsLocked, IsThreads, shape_refusal, lock_refusal, open_reply, open_refusal, if_over, locks_then, more_locks, count_refusal, unless_counts}
+use Rattle.alp_journal.specs.Answers.{First, IsFileOf, IsFileAnswer, IsLocked, IsThreads, shape_refusal, lock_refusal, open_reply, open_refusal, locks_then, more_locks, count_refusal, unless_counts}
 use Rattle.alp_journal.specs.Answered.{GrantsFor, asks, grants_by, grants_if, rises_on}
 use Rattle.alp_journal.specs.Alone.{Alone, alone, IsQuiet, Leads}
 use Rattle.alp_journal.proofs.AloneLemmas.{call_entry}

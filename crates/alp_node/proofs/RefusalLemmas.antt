@@ -4,7 +4,6 @@ use Rattle.std.proofs.lemmas.List.{append-nil}
 use Rattle.std.proofs.Common.{inl, ◌≡◌, ℕ, ◌+◌, List, [], ◌∷◌, ◌++◌, refl, sym, ◌∙◌, ap, subst, eq-eqb}
 use Rattle.alp_base.specs.declared.ids.TransId.{TransId}
 use Rattle.alp_base.specs.declared.ids.Stamp.{Stamp}
-use Rattle.alp_base.specs.declared.key.Resource.{Resource}
 use Rattle.alp_files.specs.Holdings.{DoAgree}
 use Rattle.alp_files.proofs.HoldingLemmas.{agree-turned}
 use Rattle.alp_files.proofs.FilesLemmas.{same-some}
@@ -20,13 +19,13 @@ use Rattle.alp_journal.specs.declared.event.Event.TheVariants as event
 use Rattle.alp_journal.specs.Ids.{same_trans}
 use Rattle.alp_journal.specs.Deeds.{Deed, Grants, Performs}
 use Rattle.alp_journal.specs.Coordinator.{is_running}
-use Rattle.alp_journal.specs.Holder.{Holder, Life, with_life, grants, held_for}
+use Rattle.alp_journal.specs.Holder.{Life, with_life, grants, held_for}
 use Rattle.alp_journal.specs.Desk.{Session, file_trans, is_of, is_not_yet, begins_if, with_session}
 use Rattle.alp_journal.specs.Counts.{lock_set, with_resources, request_in}
 use Rattle.alp_journal.specs.State.{State, state_deed, has_part}
 use Rattle.alp_journal.specs.Moves.{next_trans, act_deeds, grants_to, asks_for, is_of_no_file, answered, done_by, done_of}
 use Rattle.alp_journal.specs.Laws.{IsFree, DoLivesAgree}
-use Rattle.alp_journal.specs.Answers.{IsFileOf, IsBeginAnswer, First, too_many}
+use Rattle.alp_journal.specs.Answers.{IsFileOf, First, too_many}
 use Rattle.alp_journal.specs.Answered.{GrantsFor}
 use Rattle.alp_journal.specs.Alone.{Alone, alone, IsQuiet, IsPaired, Leads}
 use Rattle.alp_journal.proofs.IdLemmas.{same_trans-itself}

@@ -1,8 +1,8 @@
 -- a call is refused for the counts just where the journal says so
-use Rattle.std.specs.Prelude.{ℕ, Option, None, Some, cond, Bool, true, false, nat_lt, ◌&&◌}
+use Rattle.std.specs.Prelude.{ℕ, None, Some, Bool, true, false, nat_lt}
 use Rattle.std.specs.Option.{option_or}
 use Rattle.std.specs.FinMap as map
-use Rattle.std.proofs.Common.{◌≡◌, ◌+◌, ◌-◌, ◌^◌, ◌<◌, ◌≤◌, List, [], ◌++◌, refl, sym, ◌∙◌, ap, subst, arith}
+use Rattle.std.proofs.Common.{◌≡◌, ◌+◌, ◌-◌, ◌<◌, ◌≤◌, ◌++◌, refl, sym, ◌∙◌, ap, arith}
 use Rattle.std.proofs.lemmas.Bool.{ltb-true, ltb-false}
 use Rattle.alp_base.specs.declared.ids.TransId.{TransId}
 use Rattle.alp_base.specs.declared.faults.Sizes.{Sizes}
@@ -13,7 +13,6 @@ use Rattle.alp_files.specs.Cells.{Cells}
 use Rattle.alp_files.specs.Counts.{used_of, file_count_of, owner_count_of}
 use Rattle.alp_files.specs.Needs.{is_leader, is_owner}
 use Rattle.alp_files.specs.declared.call.Call.{Call}
-use Rattle.alp_files.specs.declared.refusal.Refusal.{Refusal}
 use Rattle.alp_trans.specs.Counting.{AreCountsOf}
 use Rattle.alp_trans.specs.declared.counts.Counts.{Counts}
 use Rattle.alp_vault.specs.Contents.{Contents}
@@ -23,12 +22,12 @@ use Rattle.alp_files.specs.declared.refusal.Refusal.TheVariants as refusal
 use Rattle.alp_files.specs.declared.refusal.What.TheVariants as what
 use Rattle.alp_journal.specs.Counts.{log_need}
 use Rattle.alp_node.specs.Shapes.{too_locked}
-use Rattle.alp_journal.specs.Answers.{if_over, all_live, needs_of_all, made_by_all, left_places, locks_then, count_refusal}
+use Rattle.alp_journal.specs.Answers.{if_over, all_live, made_by_all, left_places, locks_then, count_refusal}
 use Rattle.alp_journal.specs.Alone.{Alone, alone}
 use Rattle.alp_calls.specs.Limits.{IsAllowed}
 use Rattle.alp_calls.proofs.PartLaws.{allowed}
 use Rattle.alp_node.specs.Rooms.{IsRoomOf, counted}
-use Rattle.alp_node.specs.ServerState.{IsAs, IsLife}
+use Rattle.alp_node.specs.ServerState.{IsAs}
 use Rattle.alp_node.specs.Totals.{totals_of}
 use Rattle.alp_node.specs.declared.lives.Live.{Live}
 use Rattle.alp_node.specs.declared.server_state.ServerState.{ServerState}

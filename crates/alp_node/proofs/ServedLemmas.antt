@@ -1,8 +1,8 @@
 -- file calls that are refused before they are looked at
-use Rattle.std.specs.Prelude.{cond, Bool, true, false, not, nat_le, length, Option, None, Some, is_some}
+use Rattle.std.specs.Prelude.{cond, Bool, true, false, Option, None, Some, is_some}
 use Rattle.std.specs.Option.{option_or}
 use Rattle.std.specs.FinMap as map
-use Rattle.std.proofs.Common.{inl, inr, ◌≡◌, ℕ, ◌<◌, List, [], ◌∷◌, refl, sym, ◌∙◌, ap, subst}
+use Rattle.std.proofs.Common.{inl, inr, ◌≡◌, ℕ, List, [], refl, sym, ◌∙◌, ap, subst}
 use Rattle.alp_base.specs.declared.ids.TransId.{TransId}
 use Rattle.alp_files.specs.declared.call.Call.{Call}
 use Rattle.alp_files.specs.declared.call.Call.TheVariants as call
@@ -11,19 +11,16 @@ use Rattle.alp_files.specs.declared.reply.Reply.TheVariants as reply
 use Rattle.alp_files.specs.declared.refusal.Refusal.{Refusal}
 use Rattle.alp_files.specs.declared.refusal.Refusal.TheVariants as refusal
 use Rattle.alp_files.specs.declared.refusal.Cause.TheVariants as cause
-use Rattle.alp_files.specs.declared.refusal.What.TheVariants as what
 use Rattle.alp_vault.specs.Contents.{Contents}
 use Rattle.alp_base.specs.Causes.{Rose}
 use Rattle.alp_journal.specs.declared.event.Event.TheVariants as event
-use Rattle.alp_journal.specs.Deeds.{Deed, Performs}
 use Rattle.alp_journal.specs.Desk.{file_trans, is_not_yet}
 use Rattle.alp_journal.specs.Holder.{Life}
 use Rattle.alp_journal.specs.Moves.{done_by}
-use Rattle.alp_journal.specs.Answers.{Part, part_at, at_part, part_refusal, First, OrFault, IsFileOf, IsFileAnswer, IsLocked, shape_refusal, lock_refusal, if_over}
+use Rattle.alp_journal.specs.Answers.{Part, part_at, at_part, part_refusal, First, OrFault, IsFileOf, IsFileAnswer, IsLocked, shape_refusal, lock_refusal}
 use Rattle.alp_journal.specs.Answered.{GrantsFor, grants_by, grants_if, asks}
 use Rattle.alp_journal.specs.Alone.{Alone, alone}
 use Rattle.alp_journal.proofs.AloneEntries.{counted_as, refused_leads}
-use Rattle.alp_node.specs.Asks.{is_of_given}
 use Rattle.alp_node.specs.Calls.{IsServedCall, IsPageCall, IsLockCall}
 use Rattle.alp_node.specs.Served.{IsInTurn, IsNextOf, is_on_open}
 use Rattle.alp_node.specs.Sessions.{session_at}
@@ -33,13 +30,11 @@ use Rattle.alp_node.specs.ServerState.{IsAs}
 use Rattle.alp_node.specs.Standings.{standing_of}
 use Rattle.alp_node.specs.Steps.{Stepped, IsTurn, counted_in, seen_in}
 use Rattle.alp_node.specs.declared.answer.Answer.{Answer}
-use Rattle.alp_node.specs.declared.lives.Live.{Live}
 use Rattle.alp_node.specs.declared.served.Standing.TheVariants as standing
 use Rattle.alp_node.specs.declared.server_state.ServerState.{ServerState}
 use Rattle.alp_node.specs.declared.sessions.Turn.{Turn}
 use Rattle.alp_node.proofs.FinishLemmas.{turn_session, turn_next, counts_as}
-use Rattle.alp_node.proofs.IdLemmas.{unknown_file}
-use Rattle.alp_node.proofs.KeptLemmas.{IsSession, IsLive, live_there, stands_timely, stepped_so}
+use Rattle.alp_node.proofs.KeptLemmas.{IsSession, stands_timely, stepped_so}
 use Rattle.alp_node.proofs.StandingLemmas.{part_of, part_is}
 
 module _ {V : Type 0} (a : Alone) (before now : ℕ) (held : Contents) (k : ServerState V) (turn : Turn) (t : TransId) (c : Call) where

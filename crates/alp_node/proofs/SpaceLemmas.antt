@@ -1,13 +1,13 @@
 -- where one part is committed the others keep their counts, and there is room for all
 use Rattle.std.specs.Prelude.{cond, Bool, true, false, Option, None, Some}
 use Rattle.std.specs.FinMap as map
-use Rattle.std.proofs.Common.{◌≡◌, ◌+◌, ◌≤◌, List, [], refl, sym, ◌∙◌, ap, subst, arith}
+use Rattle.std.proofs.Common.{◌≡◌, List, [], refl, sym, subst, arith}
 use Rattle.alp_base.specs.declared.faults.Sizes.{Sizes}
 use Rattle.alp_base.specs.declared.ids.TransId.{TransId}
 use Rattle.alp_base.specs.declared.key.Resource.{Resource}
 use Rattle.alp_files.specs.Changes.{edits_of}
 use Rattle.alp_files.specs.Cells.{Cells}
-use Rattle.alp_files.specs.Edits.{Edit, edits_map}
+use Rattle.alp_files.specs.Edits.{edits_map}
 use Rattle.alp_files.specs.Sound.{AreSound}
 use Rattle.alp_locks.specs.Releases.{released}
 use Rattle.alp_locks.specs.Tables.{Holders}

@@ -1,5 +1,5 @@
 -- a commit with the note of the clock
-use Rattle.std.specs.Prelude.{Some, Result, Ok, Err, OnOk}
+use Rattle.std.specs.Prelude.{Some, Result, Err, OnOk}
 use Rattle.std.specs.FinMap as map
 use Rattle.std.proofs.Common.{◌≡◌, refl, ℕ, ◌≤◌, List, [], ◌∷◌, sym, ◌∙◌, ap, subst, arith, inl, inr, ⊎_elim}
 use Rattle.alp_base.specs.Crashes.{Either}

@@ -1,12 +1,12 @@
 -- each live part stays within its limits
-use Rattle.std.specs.Prelude.{ℕ, Bool, true, false, List, Option, None, Some, Result, Ok, Err}
+use Rattle.std.specs.Prelude.{ℕ, Bool, List, Option, None, Some, Result, Ok, Err}
 use Rattle.std.specs.FinMap as map
-use Rattle.std.proofs.Common.{◌≡◌, ◌+◌, ◌*◌, ◌/◌, ◌≤◌, refl, sym, ap, subst, arith}
+use Rattle.std.proofs.Common.{◌≡◌, ◌≤◌, refl, sym, ap, subst, arith}
 use Rattle.alp_base.specs.declared.faults.Sizes.{Sizes}
 use Rattle.alp_calls.proofs.PartLaws.{part_begins, allowed}
 use Rattle.alp_base.specs.declared.ids.FileId.{FileId}
 use Rattle.alp_calls.specs.Limits.{refused_for, IsAllowed}
-use Rattle.alp_calls.specs.Parts.{IsPart, IsAsBefore, StandsAfter, Answered}
+use Rattle.alp_calls.specs.Parts.{IsPart, IsAsBefore, StandsAfter}
 use Rattle.alp_calls.specs.declared.fault.CallFault.{CallFault}
 use Rattle.alp_calls.specs.declared.limits.Room.{Room}
 use Rattle.alp_files.specs.Cells.{Cells}

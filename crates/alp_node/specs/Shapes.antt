@@ -1,5 +1,5 @@
 -- What a call is refused for before its locks are looked at: its shape, and how many locks it would leave.
-use Rattle.std.specs.Prelude.{ℕ, ◌+◌, not, nat_lt, nat_le, List, [], ◌∷◌, Option, None, Some, is_some, if◌then◌else◌}
+use Rattle.std.specs.Prelude.{ℕ, ◌+◌, not, nat_lt, nat_le, List, [], ◌∷◌, Option, None, is_some, if◌then◌else◌}
 use Rattle.std.specs.Option.{option_or}
 use Rattle.alp_base.specs.declared.ids.Run.{Run}
 use Rattle.alp_files.specs.Holdings.{Holding}

@@ -1,5 +1,4 @@
-use Rattle.std.proofs.Common.{◌≡◌, List, [], ◌∷◌, sym, ◌∙◌, subst, arith}
-use Rattle.alp_base.specs.declared.bytes.NoteChange.{NoteChange}
+use Rattle.std.proofs.Common.{◌≡◌, [], ◌∷◌, sym, ◌∙◌, subst, arith}
 use Rattle.alp_files.specs.declared.change.Change.{Change}
 use Rattle.alp_calls.proofs.PartLaws.{part_commits}
 use Rattle.alp_vault.specs.Volumes.{IsCommit}

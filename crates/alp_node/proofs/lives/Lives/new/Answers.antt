@@ -1,6 +1,6 @@
 use Rattle.std.proofs.Common.{sym, ap, ◌∙◌}
 use Rattle.std.specs.FinMap as map
-use Rattle.alp_node.specs.Totals.{LiveMap, totals_of}
+use Rattle.alp_node.specs.Totals.{totals_of}
 use Rattle.alp_node.proofs.TotalLemmas.{empty_totals}
 use Rattle.alp_node.proofs.lives.Lives.new.Goals as goal
 

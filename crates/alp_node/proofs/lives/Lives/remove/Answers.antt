@@ -1,4 +1,4 @@
-use Rattle.std.proofs.Common.{◌≡◌, ◌≤◌, ap, sym, subst, ◌∙◌}
+use Rattle.std.proofs.Common.{◌≤◌, ap, sym, subst, ◌∙◌}
 use Rattle.std.specs.FinMap as map
 use Rattle.alp_base.specs.Orders.{transactions_total, exact_transactions}
 use Rattle.alp_base.proofs.TreeLemmas.{get_at, remove_at}

@@ -1,9 +1,8 @@
-use Rattle.std.specs.Prelude.{Some}
-use Rattle.std.proofs.Common.{◌≡◌, ◌≤◌, ap, sym, subst, ◌∙◌}
+use Rattle.std.proofs.Common.{◌≤◌, ap, sym, subst, ◌∙◌}
 use Rattle.std.specs.FinMap as map
 use Rattle.alp_base.specs.Orders.{transactions_total, exact_transactions}
 use Rattle.alp_base.proofs.TreeLemmas.{get_at, put_at}
-use Rattle.alp_node.specs.Totals.{LiveMap, totals_of, with_part, without_part}
+use Rattle.alp_node.specs.Totals.{totals_of, with_part, without_part}
 use Rattle.alp_node.specs.declared.lives.Live.{Live}
 use Rattle.alp_node.specs.declared.totals.Totals.{Totals}
 use Rattle.alp_node.proofs.TotalLemmas.{among, swapped_totals}

@@ -3,13 +3,10 @@ use Rattle.std.specs.Prelude.{Some}
 use Rattle.std.proofs.Common.{◌≡◌, ℕ, length, ap, refl, sym, ◌∙◌}
 use Rattle.alp_files.specs.declared.refusal.Refusal.TheVariants as refusal
 use Rattle.alp_files.specs.declared.refusal.Cause.TheVariants as cause
-use Rattle.alp_node.specs.Dead.{is_dead}
-use Rattle.alp_node.proofs.KeptLemmas.{of_client}
 use Rattle.alp_node.proofs.ServedLemmas.{stranger_stepped, dead_call_stepped}
 use Rattle.alp_node.proofs.ShapeLemmas.{shape_quiet, shape_stepped}
 use Rattle.alp_node.specs.Shapes.{shape_of}
 use Rattle.alp_node.specs.declared.lives.Live.{Live}
-use Rattle.alp_node.proofs.StandingLemmas.{own_live}
 use Rattle.alp_node.proofs.StepLemmas.{refused_step}
 use Rattle.alp_node.proofs.server_state.ServerState.file_call.Goals as goal
 

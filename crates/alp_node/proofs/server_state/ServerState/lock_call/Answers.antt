@@ -15,10 +15,9 @@ use Rattle.alp_calls.specs.Looks.{IsLeft}
 use Rattle.alp_node.specs.Asks.{asks_of, asks_made, asks_given, is_made, plan_for, count_made, plan_of, with_plan, acts_of}
 use Rattle.alp_node.specs.Calls.{next_file}
 use Rattle.alp_node.specs.Rooms.{IsRoomOf, locks_given}
-use Rattle.alp_node.specs.Shapes.{shape_of, counts_then, too_locked}
+use Rattle.alp_node.specs.Shapes.{counts_then, too_locked}
 use Rattle.alp_node.specs.declared.lock_counts.LockCounts.{LockCounts}
 use Rattle.alp_locks.specs.Tables.{holding}
-use Rattle.alp_calls.specs.Parts.{CanPerform}
 use Rattle.alp_node.specs.Steps.{IsOf}
 use Rattle.alp_node.specs.ServerState.{IsReady}
 use Rattle.alp_node.specs.Steps.{Stepped, counted_in}

@@ -1,7 +1,6 @@
 use Rattle.std.specs.Prelude.{Some, Ok}
 use Rattle.std.specs.FinMap as map
-use Rattle.std.proofs.Common.{◌≡◌, ◌+◌, ◌≤◌, List, [], le_refl, arith, refl, sym, ap, ◌∙◌, subst}
-use Rattle.alp_calls.specs.Parts.{CanPerform}
+use Rattle.std.proofs.Common.{◌≡◌, ◌+◌, ◌≤◌, List, [], le_refl, arith, sym, ap, ◌∙◌, subst}
 use Rattle.alp_journal.specs.declared.act.Act.{Act}
 use Rattle.alp_journal.specs.declared.event.Event.TheVariants as event
 use Rattle.alp_node.specs.Calls.{next_file}
@@ -19,7 +18,7 @@ use Rattle.alp_node.proofs.PerformLemmas.{page_built, page_shaped, page_stepped}
 use Rattle.alp_node.proofs.ReadyLemmas.{counted_ready}
 use Rattle.alp_node.proofs.SeatLemmas.{left_seated, left_noted, left_step}
 use Rattle.alp_node.proofs.TotalLemmas.{few_totals}
-use Rattle.alp_node.proofs.WithinLemmas.{MayLock, within_then, still_lock}
+use Rattle.alp_node.proofs.WithinLemmas.{within_then, still_lock}
 use Rattle.alp_node.proofs.server_state.ServerState.page_call.Goals as goal
 
 pub perform-requires-clause-ready : goal.perform-requires-clause-ready

@@ -1,6 +1,6 @@
 use Rattle.std.specs.Prelude.{None, Some}
 use Rattle.std.specs.FinMap as map
-use Rattle.std.proofs.Common.{◌≡◌, ◌≤◌, sym, ap, subst, ◌∙◌, arith}
+use Rattle.std.proofs.Common.{◌≡◌, sym, ap, subst, ◌∙◌}
 use Rattle.alp_node.specs.Totals.{LiveMap, totals_of, AreFewTotals}
 use Rattle.alp_node.specs.declared.lives.Live.{Live}
 use Rattle.alp_node.proofs.MapLemmas.{put_there}
