@@ -1,4 +1,5 @@
+pub mod FitLemmas
 pub mod LookLemmas
+pub mod NoteLemmas
 pub mod PartLemmas
 pub mod RoomLemmas
-pub mod NoteLemmas
