@@ -1,5 +1,10 @@
+pub mod ChangedLemmas
+pub mod CountLaws
 pub mod FitLemmas
+pub mod FrameLemmas
 pub mod LookLemmas
+pub mod NeedLemmas
 pub mod NoteLemmas
 pub mod PartLemmas
+pub mod PutLemmas
 pub mod RoomLemmas

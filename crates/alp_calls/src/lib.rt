@@ -5,6 +5,7 @@ mod counting;
 mod fault;
 mod file_calls;
 mod limits;
+mod laws;
 mod look;
 mod owner_calls;
 mod page_calls;
@@ -14,6 +15,7 @@ mod said;
 mod server_notes;
 
 pub use fault::CallFault;
+pub use laws::{counts_come_to_what_there_is, counts_stay_where_others_commit};
 pub use limits::{CELLS_PER_PART, Room};
 pub use performing::perform;
 pub use room::can_take;
