@@ -19,3 +19,6 @@ fit_push [] x h e = and_then (fits_key x.0 x.1) true e refl
 fit_push (y ∷ ys) x h e =
     let parts : (fits_key y.0 y.1 ≡ true) × (fit_keys ys ≡ true) = both (fits_key y.0 y.1) (fit_keys ys) h in
     and_then (fits_key y.0 y.1) (fit_keys (ys ++ x ∷ [])) parts.0 (fit_push ys x parts.1 e)
+
+pub one_fits : (x : Key × Cell) (rest : List (Key × Cell)) → fit_keys (x ∷ rest) ≡ true → (fits_key x.0 x.1 ≡ true) × (fit_keys rest ≡ true)
+one_fits x rest h = both (fits_key x.0 x.1) (fit_keys rest) h

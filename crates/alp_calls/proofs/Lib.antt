@@ -1,10 +1,13 @@
 pub mod ChangedLemmas
 pub mod CountLaws
+pub mod CountingLemmas
 pub mod FitLemmas
 pub mod FrameLemmas
 pub mod LookLemmas
 pub mod NeedLemmas
 pub mod NoteLemmas
+pub mod PartLaws
 pub mod PartLemmas
 pub mod PutLemmas
 pub mod RoomLemmas
+pub mod SettleLemmas

@@ -76,6 +76,10 @@ abbrev pub open_in : Said → Option Open
 open_in (Told r) = None
 open_in (Done r puts o) = o
 
+abbrev pub is_told : Said → Bool
+is_told (Told r) = true
+is_told (Done r puts o) = false
+
 abbrev pub own_with : Own → Option Open → Own
 own_with own None = own
 own_with own (Some o) = record { last = o.number; opens = own.opens ++ o ∷ [] }

@@ -6,7 +6,7 @@ ghost use Rattle.alp_files.specs.Passing.{is_passing, IsFileReply};
 ghost use Rattle.alp_files.specs.Undo.{puts_of};
 ghost use Rattle.alp_vault.specs.Volumes.{fit_keys};
 ghost use Rattle.alp_calls.specs.Looks.{Looks, fault_in};
-ghost use Rattle.alp_calls.specs.Parts.{AllFit, Says, GivesNone, IsNextOpen, ArePuts, has_contents, reply_of, puts_in, open_in};
+ghost use Rattle.alp_calls.specs.Parts.{AllFit, Says, GivesNone, IsNextOpen, ArePuts, has_contents, is_told, reply_of, puts_in, open_in};
 
 use crate::CallFault;
 use crate::look::{pages_of, props_at};
@@ -72,7 +72,7 @@ pub(super) fn read_pages<V: Vault>(
     ensures id { IfOk result (λ s. GivesNone (reply_of s)) }
     ensures own { IfOk result (λ s. is_passing (reply_of s) ≡ false) }
     ensures kind { IfOk result (λ s. IsFileReply (reply_of s)) }
-    ensures reads { IfOk result (λ s. has_contents (reply_of s) ≡ true → (puts_in s ≡ []) × (open_in s ≡ None)) }
+    ensures reads { IfOk result (λ s. has_contents (reply_of s) ≡ true → is_told s ≡ true) }
     ensures next { IfOk result (λ s. IsNextOpen part.now.last (open_in s)) }
     ensures puts { IfOk result (λ s. ArePuts (puts_in s)) }
     ensures looked { Looks V.Vault vault.old vault.new (fault_in result) }
@@ -106,7 +106,7 @@ pub(super) fn write_pages<V: Vault>(
     ensures id { IfOk result (λ s. GivesNone (reply_of s)) }
     ensures own { IfOk result (λ s. is_passing (reply_of s) ≡ false) }
     ensures kind { IfOk result (λ s. IsFileReply (reply_of s)) }
-    ensures reads { IfOk result (λ s. has_contents (reply_of s) ≡ true → (puts_in s ≡ []) × (open_in s ≡ None)) }
+    ensures reads { IfOk result (λ s. has_contents (reply_of s) ≡ true → is_told s ≡ true) }
     ensures next { IfOk result (λ s. IsNextOpen part.now.last (open_in s)) }
     ensures puts { IfOk result (λ s. ArePuts (puts_in s)) }
     ensures looked { Looks V.Vault vault.old vault.new (fault_in result) }

@@ -6,7 +6,7 @@ ghost use Rattle.alp_files.specs.Passing.{is_passing, IsFileReply};
 ghost use Rattle.alp_files.specs.Undo.{puts_of};
 ghost use Rattle.alp_trans.specs.Parts.{own_of};
 ghost use Rattle.alp_calls.specs.Looks.{Looks, fault_in};
-ghost use Rattle.alp_calls.specs.Parts.{IsPart, CanPerform, IsAsBefore, seen, SaysCall, Answered, GivesOnly, IsNextOpen, ArePuts, Settled, has_contents, reply_of, puts_in, open_in, own_with};
+ghost use Rattle.alp_calls.specs.Parts.{IsPart, CanPerform, IsAsBefore, seen, SaysCall, Answered, GivesOnly, IsNextOpen, ArePuts, Settled, has_contents, is_told, reply_of, puts_in, open_in, own_with};
 
 use crate::counting::counts_after;
 use crate::file_calls::{create_file, open_file};
@@ -37,7 +37,7 @@ fn say<V: Vault>(
     ensures id { IfOk result (λ s. GivesOnly id (reply_of s)) }
     ensures own { IfOk result (λ s. is_passing (reply_of s) ≡ false) }
     ensures kind { IfOk result (λ s. IsFileReply (reply_of s)) }
-    ensures reads { IfOk result (λ s. has_contents (reply_of s) ≡ true → (puts_in s ≡ []) × (open_in s ≡ None)) }
+    ensures reads { IfOk result (λ s. has_contents (reply_of s) ≡ true → is_told s ≡ true) }
     ensures next { IfOk result (λ s. IsNextOpen part.now.last (open_in s)) }
     ensures puts { IfOk result (λ s. ArePuts (puts_in s)) }
     ensures looked { Looks V.Vault vault.old vault.new (fault_in result) }
@@ -114,7 +114,7 @@ fn settle<V: Vault>(
 ) -> Result<Reply, CallFault>
     requires serving { IsTrue (V.serves vault.old) }
     requires part { IsPart part.old }
-    requires reads { has_contents (reply_of said) ≡ true → (puts_in said ≡ []) × (open_in said ≡ None) }
+    requires reads { has_contents (reply_of said) ≡ true → is_told said ≡ true }
     requires next { IsNextOpen part.old.last (open_in said) }
     requires puts { ArePuts (puts_in said) }
     ensures settled { IfOk result (λ r. Settled (V.tells vault.old) (V.held vault.old).cells part.old part.new room said r) }
