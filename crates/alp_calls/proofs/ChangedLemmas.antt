@@ -111,7 +111,10 @@ changed_from i x (Cut f n ∷ es) alone h = cc
 pub changed_len : (es : List Edit) → list_all is_put es ≡ true → changed es ≡ map.len (edits_map es map.empty)
 unfolding times
 changed_len es alone =
-    omega (arith, changed_from no_intents map.empty es alone (record {
-      many = sym (len-empty key_cmp Cell);
-      each = λ k. ap (λ (t : Bool). cond {A = ℕ} t 1 0) (sym (ap is_some (get-empty {X = Cell} key_cmp k)));
-    }))
+    omega (
+      arith,
+      changed_from no_intents map.empty es alone (record {
+        many = sym (len-empty key_cmp Cell);
+        each = λ k. ap (λ (t : Bool). cond {A = ℕ} t 1 0) (sym (ap is_some (get-empty {X = Cell} key_cmp k)));
+      }),
+    )

@@ -1,10 +1,9 @@
 -- what holds of the counts of a part: as it puts cells, as others are committed, and as it is committed itself
-use Rattle.std.specs.Prelude.{cond, Bool, true, false, not, ◌||◌, is_some, sum_by, map as list_map, Option, None, Some}
+use Rattle.std.specs.Prelude.{cond, Bool, true, false, not, ◌||◌, is_some, sum_by, map as list_map}
 use Rattle.std.specs.List.{list_all, filter_map}
-use Rattle.std.specs.Option.{option_or}
 use Rattle.std.specs.FinMap as map
 use Rattle.std.specs.FinMap.{len-insert}
-use Rattle.std.proofs.Common.{◌≡◌, ℕ, ◌+◌, List, [], ◌∷◌, ◌++◌, length, refl, sym, ◌∙◌, ap, subst, arith}
+use Rattle.std.proofs.Common.{◌≡◌, ℕ, ◌+◌, List, [], ◌∷◌, ◌++◌, length, refl, sym, ◌∙◌, ap, arith}
 use Rattle.std.proofs.lemmas.List.Sums.{sum_by-cons}
 use Rattle.alp_base.specs.declared.key.Key.{Key}
 use Rattle.alp_base.specs.declared.key.Key.TheVariants.{Leader, PageOf, OwnerOf}
@@ -22,7 +21,7 @@ use Rattle.alp_trans.specs.declared.counts.Counts.{Counts}
 use Rattle.alp_trans.specs.declared.counts.Sight.TheVariants as sights
 use Rattle.alp_calls.proofs.ChangedLemmas.{changed_len}
 use Rattle.alp_calls.proofs.FrameLemmas.{same_need, same_made}
-use Rattle.alp_calls.proofs.NeedLemmas.{added, used_after, need_put, made_put, made_sum, none_made, total_after}
+use Rattle.alp_calls.proofs.NeedLemmas.{need_put, made_put, made_sum, none_made, total_after}
 use Rattle.alp_calls.proofs.PutLemmas.{alone_both, seen_at, some_or}
 
 -- ---- a part that did nothing

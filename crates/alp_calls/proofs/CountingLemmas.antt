@@ -1,9 +1,9 @@
 -- what a part comes to as a call puts one cell after the other
-use Rattle.std.specs.Prelude.{cond, Bool, true, false, not, ◌||◌, IsTrue, is_some, Option, None, Some}
+use Rattle.std.specs.Prelude.{cond, Bool, true, false, not, ◌||◌, IsTrue, is_some}
 use Rattle.std.specs.List.{list_all}
 use Rattle.std.specs.FinMap as map
 use Rattle.std.specs.FinMap.{len-insert}
-use Rattle.std.proofs.Common.{◌≡◌, ℕ, ◌+◌, ◌*◌, ◌≤◌, List, [], ◌∷◌, ◌++◌, length, refl, sym, ◌∙◌, ap, subst, arith, append_assoc, append-nil}
+use Rattle.std.proofs.Common.{◌≡◌, ℕ, ◌+◌, ◌≤◌, List, [], ◌∷◌, ◌++◌, length, refl, sym, ◌∙◌, ap, subst, arith, append_assoc, append-nil}
 use Rattle.alp_base.specs.declared.key.Key.{Key}
 use Rattle.alp_base.specs.declared.key.Key.TheVariants.{Leader, PageOf, OwnerOf}
 use Rattle.alp_base.specs.KeyLaws.{keys_total}

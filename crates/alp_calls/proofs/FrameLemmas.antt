@@ -1,5 +1,5 @@
 -- what a part comes to rests on the files and owners that it puts something of
-use Rattle.std.specs.Prelude.{cond, Bool, true, false, not, ◌&&◌, ◌||◌, is_some, is_none, Option, None, Some}
+use Rattle.std.specs.Prelude.{cond, Bool, true, false, ◌&&◌, ◌||◌, is_some, is_none, Option, None, Some}
 use Rattle.std.specs.List.{list_all}
 use Rattle.std.specs.FinMap as map
 use Rattle.std.specs.FinMap.{get-insert}
@@ -61,8 +61,8 @@ block_is : (m : Cells) (f : FileId) (n : ℕ) → has_block m (block_of f n) ≡
 block_is m f n = block_known m f n (any_page m f (n - n % 128) 128)
     (page_found m f (n - n % 128) (n - n % 128 + 127) (n - n % 128) 128 (omega arith) (omega arith))
     (λ none j low high.
-        let there : n - n % 128 + (j - (n - n % 128)) ≡ j = omega (arith, low) in
-        ap (λ (i : ℕ). map.get m (PageOf f i)) (sym there) ∙ no_page m f (n - n % 128) 128 none (j - (n - n % 128)) (omega (arith, low, high)))
+    let there : n - n % 128 + (j - (n - n % 128)) ≡ j = omega (arith, low) in
+    ap (λ (i : ℕ). map.get m (PageOf f i)) (sym there) ∙ no_page m f (n - n % 128) 128 none (j - (n - n % 128)) (omega (arith, low, high)))
 
 same_block : (m n : Cells) (f : FileId) → ((j : ℕ) → map.get m (PageOf f j) ≡ map.get n (PageOf f j)) → (i : ℕ) → has_block m (block_of f i) ≡ has_block n (block_of f i)
 same_block m n f same i = block_is m f i ∙ same_any m n f same (i - i % 128) 128 ∙ sym (block_is n f i)

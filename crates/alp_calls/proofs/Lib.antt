@@ -9,5 +9,4 @@ pub mod NoteLemmas
 pub mod PartLaws
 pub mod PartLemmas
 pub mod PutLemmas
-pub mod RoomLemmas
 pub mod SettleLemmas

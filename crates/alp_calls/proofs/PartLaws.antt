@@ -1,17 +1,17 @@
 -- what the counts of a part and its limits leave for its commit
 use Rattle.std.proofs.Math.Dec.{T}
 use Rattle.std.specs.Prelude.{cond, Bool, true, false, ◌&&◌, nat_lt, sum_by, Option, None, Some, map as list_map}
-use Rattle.std.specs.List.{AllByRecursion, IsDistinct, list_all}
+use Rattle.std.specs.List.{AllByRecursion, list_all}
 use Rattle.std.specs.List.Sorted.{IsStrictlySortedBy}
 use Rattle.std.specs.Option.{option_or}
-use Rattle.std.specs.Ordering.{eq_by_cmp, is_lt}
+use Rattle.std.specs.Ordering.{is_lt}
 use Rattle.std.specs.declared.cmp.Ordering.{Ordering}
 use Rattle.std.specs.declared.cmp.Ordering.TheVariants.{Less, Equal, Greater}
 use Rattle.std.specs.FinMap as map
-use Rattle.std.specs.FinMap.{get-insert, get-empty, get-entries, get-from_entries, entries_sorted, len-empty, len-entries, same_map}
+use Rattle.std.specs.FinMap.{get-empty, get-entries, get-from_entries, entries_sorted, len-empty, len-entries, same_map}
 use Rattle.std.specs.FinMap.Entries.{below_all}
-use Rattle.std.proofs.Common.{◌≡◌, ℕ, ◌+◌, ◌-◌, ◌*◌, ◌<◌, ◌≤◌, List, [], ◌∷◌, length, refl, sym, ◌∙◌, ap, subst, arith}
-use Rattle.std.proofs.lemmas.Bool.{ltb-false, ltb-true, lt-ltb, leb-true}
+use Rattle.std.proofs.Common.{◌≡◌, ℕ, ◌+◌, ◌-◌, ◌*◌, ◌<◌, ◌≤◌, List, [], ◌∷◌, refl, sym, ◌∙◌, ap, subst, arith}
+use Rattle.std.proofs.lemmas.Bool.{ltb-false, lt-ltb, leb-true}
 use Rattle.std.proofs.lemmas.List.Sums.{sum_by-cons}
 use Rattle.std.proofs.lemmas.Map.Keys.{IsDistinct-from_sorted}
 use Rattle.alp_base.specs.Keys.{key_cmp}
@@ -33,12 +33,10 @@ use Rattle.alp_files.specs.Counts.{used_of, file_count_of, owner_count_of}
 use Rattle.alp_files.specs.Edits.{Edit, edits_map, over, ChangesBy}
 use Rattle.alp_files.specs.Needs.{is_put}
 use Rattle.alp_files.specs.Sound.{AreSound}
-use Rattle.alp_files.specs.Undo.{puts_of}
 use Rattle.alp_files.proofs.HistoryLemmas.{same_cells}
-use Rattle.alp_files.proofs.SameLemmas.{same_key-true}
 use Rattle.alp_files.proofs.SumLemmas.{sum_of-nothing}
 use Rattle.alp_files.proofs.UndoLemmas.{tree_over}
-use Rattle.alp_vault.specs.Volumes.{FitsVolume, IsVolumeOf, IsCommit, AreNoteChanges, changed_cells, fits_key, fit_keys}
+use Rattle.alp_vault.specs.Volumes.{IsVolumeOf, IsCommit, AreNoteChanges, changed_cells, fits_key, fit_keys}
 use Rattle.alp_vault.specs.declared.limits.TheConstants.{FILES_PER_SERVER, OWNERS_PER_SERVER, HEAD_PAGES}
 use Rattle.alp_vault.proofs.VolumeLemmas.{log_room}
 use Rattle.alp_trans.specs.Counting.{AreCountsOf, no_counts}
@@ -51,7 +49,6 @@ use Rattle.alp_calls.specs.Limits.{refused_for, is_past, IsAllowed}
 use Rattle.alp_calls.specs.Parts.{AllFit, IsPart}
 use Rattle.alp_calls.specs.declared.limits.Room.{Room}
 use Rattle.alp_calls.proofs.CountLaws.{files_after, owners_after}
-use Rattle.alp_calls.proofs.FitLemmas.{both}
 use Rattle.alp_calls.proofs.NeedLemmas.{used_after}
 use Rattle.alp_calls.proofs.PutLemmas.{seen_at, intents_are}
 
@@ -88,7 +85,7 @@ within now later stand limit h more =
 pub allowed : (room : Room) (now later : Counts) → refused_for room now later ≡ None → IsAllowed room now later
 allowed room now later h =
     let all = none_of (nat_lt 256 later.cells) (is_past now.files later.files room.files 4096) (is_past now.owners later.owners room.owners 256)
-        (nat_lt room.left (later.places - now.places)) (nat_lt room.area (log_need later.cells room.locks)) _ _ _ _ _ h in
+    (nat_lt room.left (later.places - now.places)) (nat_lt room.area (log_need later.cells room.locks)) _ _ _ _ _ h in
     record {
       cells = ltb-false 256 later.cells all.0;
       files = within now.files later.files room.files 4096 all.1;

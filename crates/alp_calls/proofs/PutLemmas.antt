@@ -13,7 +13,7 @@ use Rattle.alp_base.specs.KeyLaws.{keys_total, exact_keys}
 use Rattle.alp_files.specs.declared.cell.Cell.{Cell}
 use Rattle.alp_files.specs.Cells.{Cells, View}
 use Rattle.alp_files.specs.Counts.{Blocks, blocks_of, block_of, with_block}
-use Rattle.alp_files.specs.Edits.{Edit, Drop, Cut, Put, edits_at, edits_map, after, over, ChangesBy}
+use Rattle.alp_files.specs.Edits.{Edit, Drop, Cut, Put, edits_at, edits_map, ChangesBy}
 use Rattle.alp_files.specs.Needs.{is_put}
 use Rattle.alp_files.proofs.HistoryLemmas.{get-edits_map}
 use Rattle.alp_vault.proofs.CountLemmas.{blocks-insert, none_held}

@@ -13,8 +13,8 @@ use Rattle.alp_files.specs.declared.call.Call.{Call}
 use Rattle.alp_files.specs.declared.cell.Cell.{Cell}
 use Rattle.alp_files.specs.declared.open.Open.{Open}
 use Rattle.alp_files.specs.declared.reply.Reply.{Reply}
-use Rattle.alp_files.specs.Act.{Own, Answer, answer}
-use Rattle.alp_files.specs.Cells.{Cells, has_file}
+use Rattle.alp_files.specs.Act.{Own, Answer}
+use Rattle.alp_files.specs.Cells.{Cells}
 use Rattle.alp_files.specs.Edits.{Edit, edits_map, ChangesBy}
 use Rattle.alp_files.specs.Needs.{is_put}
 use Rattle.alp_files.specs.Passing.{is_passing, IsFileReply}

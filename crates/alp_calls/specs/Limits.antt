@@ -1,5 +1,5 @@
 -- How a call is refused for what is counted of its part.
-use Rattle.std.specs.Prelude.{◌≡◌, ℕ, ◌+◌, ◌-◌, ◌<◌, ◌≤◌, Bool, ◌&&◌, nat_lt, Option}
+use Rattle.std.specs.Prelude.{ℕ, ◌+◌, ◌-◌, ◌<◌, ◌≤◌, Bool, ◌&&◌, nat_lt, Option}
 use Rattle.std.specs.Option.{option_or}
 use Rattle.alp_files.specs.declared.refusal.Refusal.{Refusal}
 use Rattle.alp_files.specs.declared.refusal.Refusal.TheVariants as refusal

@@ -4,13 +4,12 @@
 mod counting;
 mod fault;
 mod file_calls;
-mod limits;
 mod laws;
+mod limits;
 mod look;
 mod owner_calls;
 mod page_calls;
 mod performing;
-mod room;
 mod said;
 mod server_notes;
 
@@ -18,5 +17,4 @@ pub use fault::CallFault;
 pub use laws::{counts_come_to_what_there_is, counts_stay_where_others_commit};
 pub use limits::{CELLS_PER_PART, Room};
 pub use performing::perform;
-pub use room::can_take;
 pub use server_notes::are_server_notes;

@@ -121,9 +121,7 @@ pub(super) fn write_pages<V: Vault>(
         return Ok(Said::Told(Reply::Refused(Refusal::UnknownOpen)));
     };
     if (props.size as u64) < run.first as u64 + run.count as u64 {
-        return Ok(Said::Told(Reply::Refused(Refusal::NoSuchPage {
-            size: props.size,
-        })));
+        return Ok(Said::Told(Reply::Refused(Refusal::NoSuchPage { size: props.size })));
     }
     let mut puts = page_cells(alloc, open.file, run.first, pages.pages())?;
     raise_mark(&mut puts, open.file, props, run.first + run.count as u32)?;

@@ -8,13 +8,13 @@ ghost use Rattle.alp_trans.specs.Parts.{own_of};
 ghost use Rattle.alp_calls.specs.Looks.{Looks, fault_in};
 ghost use Rattle.alp_calls.specs.Parts.{IsPart, CanPerform, IsAsBefore, seen, SaysCall, Answered, GivesOnly, IsNextOpen, ArePuts, Settled, has_contents, is_told, reply_of, puts_in, open_in, own_with};
 
+use crate::CallFault;
 use crate::counting::counts_after;
 use crate::file_calls::{create_file, open_file};
 use crate::limits::{Room, refused_for};
 use crate::owner_calls::make_owner;
 use crate::page_calls::{read_pages, write_pages};
 use crate::said::Said;
-use crate::CallFault;
 use alp_base::{FileId, Key, Name, OutOfMemory};
 use alp_files::{Call, Cell, Open, Reply};
 use alp_trans::{Counts, Part};

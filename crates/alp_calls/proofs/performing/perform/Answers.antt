@@ -1,7 +1,6 @@
 use Rattle.std.specs.Prelude.{Bool}
 use Rattle.std.proofs.Common.{subst}
 use Rattle.alp_files.specs.Cells.{Cells}
-use Rattle.alp_files.specs.declared.reply.Reply.{Reply}
 use Rattle.alp_vault.specs.Contents.{Contents}
 use Rattle.alp_calls.specs.Parts.{Settled, Answered}
 use Rattle.alp_calls.proofs.SettleLemmas.{answered_so, when_ok}
@@ -17,6 +16,6 @@ returns-clause-answered g c =
     (λ r. Answered tells held c.args.part.now c.settle.new.part c.args.who c.args.id c.args.call.now c.args.room r)
     c.settle.ensures.settled
     (λ r h. answered_so tells held c.args.part.now c.settle.new.part c.args.who c.args.id c.args.call.now c.args.room c.in_ok-said.said r
-        c.in_ok-said.ensures.right c.in_ok-said.ensures.id c.in_ok-said.ensures.own c.in_ok-said.ensures.kind
-        (subst (λ (b : Bool). Settled b held c.args.part.now c.settle.new.part c.args.room c.in_ok-said.said r) left.same.telling
-        (subst (λ (x : Contents). Settled (g.V.Vault.tells c.say.new.vault) x.cells c.args.part.now c.settle.new.part c.args.room c.in_ok-said.said r) left.contents h)))
+    c.in_ok-said.ensures.right c.in_ok-said.ensures.id c.in_ok-said.ensures.own c.in_ok-said.ensures.kind
+    (subst (λ (b : Bool). Settled b held c.args.part.now c.settle.new.part c.args.room c.in_ok-said.said r) left.same.telling
+    (subst (λ (x : Contents). Settled (g.V.Vault.tells c.say.new.vault) x.cells c.args.part.now c.settle.new.part c.args.room c.in_ok-said.said r) left.contents h)))

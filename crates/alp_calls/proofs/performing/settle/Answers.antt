@@ -1,4 +1,4 @@
-use Rattle.std.specs.Prelude.{true, false, None}
+use Rattle.std.specs.Prelude.{true, false}
 use Rattle.std.specs.FinMap as map
 use Rattle.std.proofs.Common.{◌≡◌, List, ◌++◌, sym, ap, ◌∙◌, subst}
 use Rattle.alp_base.specs.declared.key.Key.{Key}
@@ -10,7 +10,6 @@ use Rattle.alp_trans.specs.Counting.{AreCountsOf}
 use Rattle.alp_trans.specs.Parts.{own_of}
 use Rattle.alp_trans.specs.declared.part.Part.{Part}
 use Rattle.alp_vault.specs.Volumes.{fit_keys}
-use Rattle.alp_calls.specs.Limits.{refused_for}
 use Rattle.alp_calls.specs.Parts.{IsNextOpen, is_told, has_contents, reply_of, puts_in, open_in, answer_of}
 use Rattle.alp_calls.specs.declared.said.Said.{Said}
 use Rattle.alp_calls.proofs.SettleLemmas.{done_settled, done_part}
@@ -28,7 +27,7 @@ returns-in_ok-change-in-Done-clause-settled g c =
     (sym c.in_default-refused_for.ensures)
     c.in_ok-change-in-Done.ensures.intents c.in_ok-change-in-Done.ensures.own c.in_ok-change-in-Done.ensures.counts
     (λ told es alone by are.
-        subst (λ (ps : List (Key × Cell)). AreCountsOf held (es ++ puts_of ps) c.in_ok-counts-in-Done.counts) c.deref.ensures.value (c.in_ok-counts-in-Done.ensures.counts told es alone by are))
+    subst (λ (ps : List (Key × Cell)). AreCountsOf held (es ++ puts_of ps) c.in_ok-counts-in-Done.counts) c.deref.ensures.value (c.in_ok-counts-in-Done.ensures.counts told es alone by are))
 
 pub returns-in_ok-change-in-Done-clause-part : goal.returns-in_ok-change-in-Done-clause-part
 returns-in_ok-change-in-Done-clause-part g c =
