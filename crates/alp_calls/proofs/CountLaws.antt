@@ -36,6 +36,17 @@ counts_begin m = record {
 
 -- ---- one put more
 
+-- a leader is a file, and an owner's key an owner
+files_of : (q : Key) → files_at q ≡ cond {A = ℕ} (is_leader q) 1 0
+files_of (Leader f) = refl
+files_of (PageOf f n) = refl
+files_of (OwnerOf name) = refl
+
+owners_of : (q : Key) → owners_at q ≡ cond {A = ℕ} (is_owner q) 1 0
+owners_of (Leader f) = refl
+owners_of (PageOf f n) = refl
+owners_of (OwnerOf name) = refl
+
 module _ (m : Cells) (es : List Edit) (k : Key) (c : Cell) (alone : list_all is_put es ≡ true) where
   abbrev own : Cells
   own = edits_map es map.empty
@@ -67,16 +78,6 @@ module _ (m : Cells) (es : List Edit) (k : Key) (c : Cell) (alone : list_all is_
       go true false e = omega arith
       go false true e = omega arith
       go false false e = cc
-
-  files_of : (q : Key) → files_at q ≡ cond {A = ℕ} (is_leader q) 1 0
-  files_of (Leader f) = refl
-  files_of (PageOf f n) = refl
-  files_of (OwnerOf name) = refl
-
-  owners_of : (q : Key) → owners_at q ≡ cond {A = ℕ} (is_owner q) 1 0
-  owners_of (Leader f) = refl
-  owners_of (PageOf f n) = refl
-  owners_of (OwnerOf name) = refl
 
   -- with what it sees there
   by_sight : (n : Counts) → AreCountsOf m es n → (a b d : Bool) → map.contains_key own k ≡ a → map.contains_key seen k ≡ b → is_first seen k ≡ d
@@ -137,12 +138,7 @@ counts_stay m n es c alone agree h = record {
 -- ---- the part is committed
 
 pub files_after : (m : Cells) (es : List Edit) → list_all is_put es ≡ true → file_count_of (edits_map es m) ≡ file_count_of m + made_of is_leader m es
-files_after m es alone = total_after files_at is_leader of_kind m es alone
-  where
-    of_kind : (q : Key) → files_at q ≡ cond {A = ℕ} (is_leader q) 1 0
-    of_kind (Leader f) = refl
-    of_kind (PageOf f n) = refl
-    of_kind (OwnerOf name) = refl
+files_after m es alone = total_after files_at is_leader files_of m es alone
 
 -- owners, as a sum
 names_sum : (es : List (Key × Cell)) → length (filter_map name_at (list_map (λ e. e.0) es)) ≡ sum_by (λ (e : Key × Cell). owners_at e.0) es
@@ -152,9 +148,4 @@ names_sum ((PageOf f n, c) ∷ es) = omega (arith, names_sum es)
 names_sum ((OwnerOf o, c) ∷ es) = omega (arith, names_sum es, sum_by-cons (λ (e : Key × Cell). owners_at e.0) (OwnerOf o, c) es)
 
 pub owners_after : (m : Cells) (es : List Edit) → list_all is_put es ≡ true → owner_count_of (edits_map es m) ≡ owner_count_of m + made_of is_owner m es
-owners_after m es alone = omega (arith, names_sum (map.entries (edits_map es m)), names_sum (map.entries m), total_after owners_at is_owner of_kind m es alone)
-  where
-    of_kind : (q : Key) → owners_at q ≡ cond {A = ℕ} (is_owner q) 1 0
-    of_kind (Leader f) = refl
-    of_kind (PageOf f n) = refl
-    of_kind (OwnerOf name) = refl
+owners_after m es alone = omega (arith, names_sum (map.entries (edits_map es m)), names_sum (map.entries m), total_after owners_at is_owner owners_of m es alone)

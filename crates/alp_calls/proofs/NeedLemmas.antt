@@ -16,7 +16,7 @@ use Rattle.alp_files.proofs.HistoryLemmas.{edits_map-append}
 use Rattle.alp_files.proofs.SumLemmas.{weight_at, sum-insert, sum_of-nothing}
 use Rattle.alp_vault.specs.Counted.{AreCounts, places_with}
 use Rattle.alp_vault.proofs.CountLemmas.{counts-same, used-new}
-use Rattle.alp_calls.proofs.PutLemmas.{no_others, seen_at}
+use Rattle.alp_calls.proofs.PutLemmas.{no_others, alone_both, seen_at}
 
 -- ---- places
 
@@ -47,17 +47,11 @@ used_after m es alone =
     let none : used_of (edits_map (filter (λ e. not (is_put e)) es) m) ≡ used_of m = ap (λ (xs : List Edit). used_of (edits_map xs m)) (no_others es alone) in
     omega (arith, none, used_more es m alone)
 
-last_alone : (es : List Edit) (k : Key) (c : Cell) → list_all is_put es ≡ true → list_all is_put (es ++ Put k c ∷ []) ≡ true
-last_alone [] k c alone = refl
-last_alone (Put q d ∷ es) k c alone = last_alone es k c alone
-last_alone (Drop f ∷ es) k c alone = cc
-last_alone (Cut f n ∷ es) k c alone = cc
-
 -- one put more
 pub need_put : (m : Cells) (es : List Edit) (k : Key) (c : Cell) → list_all is_put es ≡ true → need_of m (es ++ Put k c ∷ []) ≡ need_of m es + added (edits_map es m) k
 need_put m es k c alone =
     let both : used_of (edits_map (es ++ Put k c ∷ []) m) ≡ used_of (map.insert (edits_map es m) k c) = ap used_of (edits_map-append es (Put k c ∷ []) m) in
-    omega (arith, used_after m es alone, used_after m (es ++ Put k c ∷ []) (last_alone es k c alone), both, used_put (edits_map es m) k c)
+    omega (arith, used_after m es alone, used_after m (es ++ Put k c ∷ []) (alone_both es (Put k c ∷ []) alone refl), both, used_put (edits_map es m) k c)
 
 -- ---- files and owners
 

@@ -166,9 +166,6 @@ part_commits s server servers locks live p changes is noted room = record {
     cells : changed_cells (change_of p.intents) ≡ map.len p.intents
     cells = omega (arith, len-entries p.intents)
 
-some_same : (x y : Cell) → Some x ≡ Some y → x ≡ y
-some_same x y e = cc
-
 sizes_over : (intents m : Cells) → AllFit intents → ((f : FileId) (p : Props) → map.get m (Leader f) ≡ Some (cell.Leader p) → p.size ≤ PAGES_PER_FILE)
     → (f : FileId) (p : Props) → map.get (edits_map (edits_of (change_of intents)) m) (Leader f) ≡ Some (cell.Leader p) → p.size ≤ PAGES_PER_FILE
 sizes_over intents m fit small f p there = go (map.get intents (Leader f)) refl (sym (ap (λ (v : View). v (Leader f)) (change_over intents m)) ∙ there)
