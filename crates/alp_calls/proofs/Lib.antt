@@ -1,4 +1,12 @@
+pub mod ChangedLemmas
+pub mod CountLaws
+pub mod CountingLemmas
+pub mod FitLemmas
+pub mod FrameLemmas
 pub mod LookLemmas
-pub mod PartLemmas
-pub mod RoomLemmas
+pub mod NeedLemmas
 pub mod NoteLemmas
+pub mod PartLaws
+pub mod PartLemmas
+pub mod PutLemmas
+pub mod SettleLemmas

@@ -1,6 +1,6 @@
--- what a part owes where it performs a call
+-- what one thread is told that is where a part is
 use Rattle.std.specs.Prelude.{cond, Bool, true, false, not, ◌&&◌, ◌||◌, Option, None, Some, is_some, unwrap_or, nat_lt}
-use Rattle.std.proofs.Common.{◌≡◌, ℕ, zero, suc, ◌+◌, List, [], ◌∷◌, ◌++◌, refl, sym, ◌∙◌, ap, subst, eq-eqb}
+use Rattle.std.proofs.Common.{◌≡◌, ℕ, zero, suc, ◌+◌, List, [], ◌∷◌, ◌++◌, refl, sym, ◌∙◌, ap, eq-eqb}
 use Rattle.alp_base.specs.declared.ids.FileId.{FileId}
 use Rattle.alp_base.specs.declared.ids.Run.{Run}
 use Rattle.alp_base.specs.declared.key.Key.TheVariants.{Leader, PageOf, OwnerOf}
@@ -16,39 +16,37 @@ use Rattle.alp_files.specs.declared.refusal.Refusal.TheVariants as refusal
 use Rattle.alp_files.specs.declared.refusal.ListName.{ListName}
 use Rattle.alp_files.specs.declared.refusal.ListName.TheVariants as lists
 use Rattle.alp_files.specs.declared.open.Open.{Open}
-use Rattle.alp_calls.specs.declared.part.Part.{Part}
+use Rattle.alp_trans.specs.Parts.{own_of}
+use Rattle.alp_trans.specs.declared.part.Part.{Part}
+use Rattle.alp_base.specs.declared.key.Key.{Key}
+use Rattle.alp_files.specs.declared.cell.Cell.{Cell}
+use Rattle.alp_files.specs.Undo.{puts_of}
 use Rattle.alp_files.specs.Cells.{Cells, View, has_file, props_in, owner_in, page_in, no_owner, no_props, pages_at}
-use Rattle.alp_files.specs.Edits.{Edit, Put, ChangesBy, over}
+use Rattle.alp_files.specs.Edits.{Edit, Put}
 use Rattle.alp_files.specs.Act.{Own, Answer, Look, Ask, run, unless, refused, replied, no_answer, admits, is_admin, is_over, quota_exceeded, open_at, on_open, on_change, on_props, if_change, is_new, created_file, create_file, open_file, access_tests, read_pages, write_pages, make_owner, ask_pages, page_puts, mark_put, charge_put, opened}
-use Rattle.alp_calls.specs.Parts.{seen, own_of, Performs, Gives, Answers, denied_by}
+use Rattle.alp_calls.specs.Parts.{seen, denied_by}
 
 pub unless-false : (own : Own) (t : Bool) (r : Refusal) (ts : List (Bool × Refusal)) (a : Answer) → t ≡ false → unless own ((t, r) ∷ ts) a ≡ unless own ts a
 unless-false own t r ts a e = ap (λ (b : Bool). cond b (refused own r) (unless own ts a)) e
 
--- an answer that is another one is given alike
-performs_as : (old new : Part) (a b : Answer) (r : Reply) → a ≡ b → Performs old new b r → Performs old new a r
-performs_as old new a b r e h = subst (λ (x : Answer). Performs old new x r) (sym e) h
-
--- changes of the intents are changes of what the part sees
-told_changes : (old new : Part) (r : Reply) (es : List Edit) → own_of new ≡ own_of old → ChangesBy es old.intents new.intents
-    → Performs old new (replied (own_of old) r es) r
-told_changes old new r es own h = record { reply = refl; own = own; view = h }
+-- the edits are those of the puts
+by_puts : (own : Own) (r : Reply) (es : List Edit) (puts : List (Key × Cell)) → puts_of puts ≡ es → replied own r es ≡ replied own r (puts_of puts)
+by_puts own r es puts e = ap (λ (xs : List Edit). replied own r xs) (sym e)
 
 pub not-true : (b : Bool) → b ≡ true → not b ≡ false
 not-true b e = ap not e
 
 -- ---- MakeOwner
 
-pub owner_made : (held : Cells) (old new : Part) (who name : List ℕ) (quota : ℕ) (create : List (List ℕ))
-    → is_some (owner_in (seen held old (OwnerOf name))) ≡ false → is_admin who ≡ true
-    → ChangesBy (Put (OwnerOf name) (cell.Owner (record { name = name; quota = quota; charge = 0; create = create })) ∷ []) old.intents new.intents
-    → own_of new ≡ own_of old
-    → Gives held old new reply.Plain (λ own. make_owner own who name quota create)
-owner_made held old new who name quota create none admin h own =
-    let a : Answer = replied (own_of old) reply.Plain (Put (OwnerOf name) (cell.Owner (record { name = name; quota = quota; charge = 0; create = create })) ∷ []) in
-    performs_as old new _ a reply.Plain
-    (unless-false (own_of old) (is_some (owner_in (seen held old (OwnerOf name)))) refusal.OwnerExists ((not (is_admin who), refusal.AccessDenied lists.Admin) ∷ []) a none ∙ unless-false (own_of old) (not (is_admin who)) (refusal.AccessDenied lists.Admin) [] a (not-true (is_admin who) admin))
-    (told_changes old new reply.Plain _ own h)
+pub owner_made : (held : Cells) (p : Part) (who name : List ℕ) (quota : ℕ) (create : List (List ℕ)) (puts : List (Key × Cell))
+    → is_some (owner_in (seen held p (OwnerOf name))) ≡ false → is_admin who ≡ true
+    → puts_of puts ≡ Put (OwnerOf name) (cell.Owner (record { name = name; quota = quota; charge = 0; create = create })) ∷ []
+    → run (seen held p) (make_owner (own_of p) who name quota create) ≡ replied (own_of p) reply.Plain (puts_of puts)
+owner_made held p who name quota create puts none admin is =
+    let a : Answer = replied (own_of p) reply.Plain (Put (OwnerOf name) (cell.Owner (record { name = name; quota = quota; charge = 0; create = create })) ∷ []) in
+    unless-false (own_of p) (is_some (owner_in (seen held p (OwnerOf name)))) refusal.OwnerExists ((not (is_admin who), refusal.AccessDenied lists.Admin) ∷ []) a none
+    ∙ unless-false (own_of p) (not (is_admin who)) (refusal.AccessDenied lists.Admin) [] a (not-true (is_admin who) admin)
+    ∙ by_puts (own_of p) reply.Plain _ puts is
 
 -- ---- CreateFile
 
@@ -73,19 +71,18 @@ is_new-true made f lc none fresh =
     ∙ ap (λ (o : Option cell.the_data). not (is_some o) && not (has_file f made)) none
     ∙ ap not fresh
 
-pub file_created : (held : Cells) (old new : Part) (who : List ℕ) (f : FileId) (start : Props) (o : OwnerRecord)
-    → owner_in (seen held old (OwnerOf start.owner)) ≡ Some o → admits o.create who start.owner ≡ true → is_over o start.size ≡ false
-    → seen held old (Leader f) ≡ None
-    → ChangesBy (Put (Leader f) (cell.Leader (record start { byte_length = 0; high_water = 0 })) ∷ charge_put start.owner o (o.charge + start.size) ∷ []) old.intents new.intents
-    → own_of new ≡ opened (own_of old) f Change
-    → Answers held old new f (reply.Created f (old.last + 1)) (λ made own. create_file f.server made own who start)
+pub file_created : (held : Cells) (p : Part) (who : List ℕ) (f : FileId) (start : Props) (o : OwnerRecord) (puts : List (Key × Cell))
+    → owner_in (seen held p (OwnerOf start.owner)) ≡ Some o → admits o.create who start.owner ≡ true → is_over o start.size ≡ false
+    → seen held p (Leader f) ≡ None
+    → puts_of puts ≡ Put (Leader f) (cell.Leader (record start { byte_length = 0; high_water = 0 })) ∷ charge_put start.owner o (o.charge + start.size) ∷ []
+    → (made : List FileId) → has_file f made ≡ false
+    → run (seen held p) (create_file f.server made (own_of p) who start (Some f)) ≡ record { reply = Some (reply.Created f (p.last + 1)); edits = puts_of puts; own = opened (own_of p) f Change }
 unfolding create_by
-file_created held old new who f start o owner admitted within none h own made fresh =
-    performs_as old new _ (created_file (own_of old) start o f) (reply.Created f (old.last + 1))
-    (ap (λ (b : Bool). create_by (own_of old) who start f b (owner_in (seen held old (OwnerOf start.owner)))) (is_new-true made f (seen held old (Leader f)) none fresh)
-    ∙ ap (create_by (own_of old) who start f true) owner
-    ∙ create_by-some (own_of old) who start f o admitted within)
-    (record { reply = refl; own = own; view = h })
+file_created held p who f start o puts owner admitted within none is made fresh =
+    ap (λ (b : Bool). create_by (own_of p) who start f b (owner_in (seen held p (OwnerOf start.owner)))) (is_new-true made f (seen held p (Leader f)) none fresh)
+    ∙ ap (create_by (own_of p) who start f true) owner
+    ∙ create_by-some (own_of p) who start f o admitted within
+    ∙ ap (λ (xs : List Edit). record { reply = Some (reply.Created f (p.last + 1)); edits = xs; own = opened (own_of p) f Change }) (sym is)
 
 -- ---- ReadPages
 
@@ -109,30 +106,27 @@ on_change-there m own oo o p next is change there =
 cond_run : (m : View) (b : Bool) (x y : Look) → b ≡ false → run m (cond b x y) ≡ run m y
 cond_run m b x y e = ap (λ (c : Bool). run m (cond c x y)) e
 
-pub pages_read : (held : Cells) (old new : Part) (n : ℕ) (r : Run) (o : Open) (p : Props) (ps : List (List ℕ))
-    → open_at old.opens.items n ≡ Some o → props_in (seen held old (Leader o.file)) ≡ Some p → nat_lt p.size (r.first + r.count) ≡ false
-    → ps ≡ pages_at (seen held old) o.file r.first r.count → own_of new ≡ own_of old → ChangesBy [] old.intents new.intents
-    → Gives held old new (reply.Pages ps) (λ own. on_open own (open_at own.opens n) (read_pages own r))
-pages_read held old new n r o p ps is there within pages own h =
-    performs_as old new _ (replied (own_of old) (reply.Pages ps) []) (reply.Pages ps)
-    (on_open-there (seen held old) (own_of old) _ o p (read_pages (own_of old) r) is there
-    ∙ cond_run (seen held old) _ _ _ within
-    ∙ run-ask_pages (seen held old) o.file r.first r.count _
-    ∙ ap (λ (x : List (List ℕ)). replied (own_of old) (reply.Pages x) []) (sym pages))
-    (told_changes old new (reply.Pages ps) [] own h)
+pub pages_read : (held : Cells) (p : Part) (n : ℕ) (r : Run) (o : Open) (props : Props) (ps : List (List ℕ))
+    → open_at p.opens.items n ≡ Some o → props_in (seen held p (Leader o.file)) ≡ Some props → nat_lt props.size (r.first + r.count) ≡ false
+    → ps ≡ pages_at (seen held p) o.file r.first r.count
+    → run (seen held p) (on_open (own_of p) (open_at p.opens.items n) (read_pages (own_of p) r)) ≡ replied (own_of p) (reply.Pages ps) []
+pages_read held p n r o props ps is there within pages =
+    on_open-there (seen held p) (own_of p) _ o props (read_pages (own_of p) r) is there
+    ∙ cond_run (seen held p) _ _ _ within
+    ∙ run-ask_pages (seen held p) o.file r.first r.count _
+    ∙ ap (λ (x : List (List ℕ)). replied (own_of p) (reply.Pages x) []) (sym pages)
 
 -- ---- WritePages
 
-pub pages_written : (held : Cells) (old new : Part) (n : ℕ) (r : Run) (pages : List (List ℕ)) (o : Open) (p : Props)
-    → open_at old.opens.items n ≡ Some o → o.access ≡ Change → props_in (seen held old (Leader o.file)) ≡ Some p → nat_lt p.size (r.first + r.count) ≡ false
-    → ChangesBy (page_puts o.file r.first pages ++ mark_put o.file p (r.first + r.count)) old.intents new.intents → own_of new ≡ own_of old
-    → Gives held old new reply.Plain (λ own. on_change own (open_at own.opens n) (write_pages own r pages))
-pages_written held old new n r pages o p is change there within puts own =
-    let es : List Edit = page_puts o.file r.first pages ++ mark_put o.file p (r.first + r.count) in
-    performs_as old new _ (replied (own_of old) reply.Plain es) reply.Plain
-    (on_change-there (seen held old) (own_of old) _ o p (write_pages (own_of old) r pages) is change there
-    ∙ unless-false (own_of old) _ (refusal.NoSuchPage p.size) [] (replied (own_of old) reply.Plain es) within)
-    (told_changes old new reply.Plain es own puts)
+pub pages_written : (held : Cells) (p : Part) (n : ℕ) (r : Run) (pages : List (List ℕ)) (o : Open) (props : Props) (puts : List (Key × Cell))
+    → open_at p.opens.items n ≡ Some o → o.access ≡ Change → props_in (seen held p (Leader o.file)) ≡ Some props → nat_lt props.size (r.first + r.count) ≡ false
+    → puts_of puts ≡ page_puts o.file r.first pages ++ mark_put o.file props (r.first + r.count)
+    → run (seen held p) (on_change (own_of p) (open_at p.opens.items n) (write_pages (own_of p) r pages)) ≡ replied (own_of p) reply.Plain (puts_of puts)
+pages_written held p n r pages o props puts is change there within are =
+    let es : List Edit = page_puts o.file r.first pages ++ mark_put o.file props (r.first + r.count) in
+    on_change-there (seen held p) (own_of p) _ o props (write_pages (own_of p) r pages) is change there
+    ∙ unless-false (own_of p) _ (refusal.NoSuchPage props.size) [] (replied (own_of p) reply.Plain es) within
+    ∙ by_puts (own_of p) reply.Plain es puts are
 
 -- ---- OpenFile
 
@@ -158,23 +152,19 @@ open_by-some : (own : Own) (who : List ℕ) (f : FileId) (a : Access) (p : Props
 unfolding open_by
 open_by-some own who f a p = denied_says own a who p (record { reply = Some (reply.Opened (own.last + 1)); edits = []; own = opened own f a })
 
-pub open_denied : (held : Cells) (old : Part) (who : List ℕ) (f : FileId) (a : Access) (p : Props) (l : ListName)
-    → props_in (seen held old (Leader f)) ≡ Some p → denied_by a who p ≡ Some l
-    → Gives held old old (reply.Refused (refusal.AccessDenied l)) (λ own. open_file own who f a)
+pub open_denied : (held : Cells) (p : Part) (who : List ℕ) (f : FileId) (a : Access) (props : Props) (l : ListName)
+    → props_in (seen held p (Leader f)) ≡ Some props → denied_by a who props ≡ Some l
+    → run (seen held p) (open_file (own_of p) who f a) ≡ refused (own_of p) (refusal.AccessDenied l)
 unfolding open_by denied_answer
-open_denied held old who f a p l there denied =
-    performs_as old old _ (refused (own_of old) (refusal.AccessDenied l)) (reply.Refused (refusal.AccessDenied l))
-    (ap (open_by (own_of old) who f a) there ∙ open_by-some (own_of old) who f a p
-    ∙ ap (λ (d : Option ListName). denied_answer (own_of old) d (record { reply = Some (reply.Opened (old.last + 1)); edits = []; own = opened (own_of old) f a })) denied)
-    (record { reply = refl; own = refl; view = λ m. refl })
+open_denied held p who f a props l there denied =
+    ap (open_by (own_of p) who f a) there ∙ open_by-some (own_of p) who f a props
+    ∙ ap (λ (d : Option ListName). denied_answer (own_of p) d (record { reply = Some (reply.Opened (p.last + 1)); edits = []; own = opened (own_of p) f a })) denied
 
-pub file_opened : (held : Cells) (old new : Part) (who : List ℕ) (f : FileId) (a : Access) (p : Props)
-    → props_in (seen held old (Leader f)) ≡ Some p → denied_by a who p ≡ None
-    → new.intents ≡ old.intents → own_of new ≡ opened (own_of old) f a
-    → Gives held old new (reply.Opened (old.last + 1)) (λ own. open_file own who f a)
+pub file_opened : (held : Cells) (p : Part) (who : List ℕ) (f : FileId) (a : Access) (props : Props) (puts : List (Key × Cell))
+    → props_in (seen held p (Leader f)) ≡ Some props → denied_by a who props ≡ None → puts ≡ []
+    → run (seen held p) (open_file (own_of p) who f a) ≡ record { reply = Some (reply.Opened (p.last + 1)); edits = puts_of puts; own = opened (own_of p) f a }
 unfolding open_by denied_answer
-file_opened held old new who f a p there admitted same own =
-    performs_as old new _ (record { reply = Some (reply.Opened (old.last + 1)); edits = []; own = opened (own_of old) f a }) (reply.Opened (old.last + 1))
-    (ap (open_by (own_of old) who f a) there ∙ open_by-some (own_of old) who f a p
-    ∙ ap (λ (d : Option ListName). denied_answer (own_of old) d (record { reply = Some (reply.Opened (old.last + 1)); edits = []; own = opened (own_of old) f a })) admitted)
-    (record { reply = refl; own = own; view = λ m. ap (λ (x : Cells). over x m) same })
+file_opened held p who f a props puts there admitted none =
+    ap (open_by (own_of p) who f a) there ∙ open_by-some (own_of p) who f a props
+    ∙ ap (λ (d : Option ListName). denied_answer (own_of p) d (record { reply = Some (reply.Opened (p.last + 1)); edits = []; own = opened (own_of p) f a })) admitted
+    ∙ ap (λ (xs : List (Key × Cell)). record { reply = Some (reply.Opened (p.last + 1)); edits = puts_of xs; own = opened (own_of p) f a }) (sym none)

@@ -1,4 +1,5 @@
+pub mod Limits
 pub mod Looks
 pub mod Parts
-pub mod Rooms
 pub mod ServerNotes
+pub mod Sights

@@ -1,26 +1,116 @@
 -- A part as the server keeps it: what it sees, and what a call that it performs does to it.
-use Rattle.std.specs.Prelude.{◌≡◌, ℕ, Bool, List, Option, None, Some, true, false, ◌||◌, if◌then◌else◌}
+use Rattle.std.specs.Prelude.{◌≡◌, ◌+◌, ◌≤◌, ◌<◌, ◌^◌, ℕ, Bool, IsTrue, List, [], ◌∷◌, ◌++◌, Option, None, Some, true, false, ◌||◌, if◌then◌else◌, length}
+use Rattle.std.specs.List.{list_all}
 use Rattle.std.specs.FinMap as map
 use Rattle.alp_base.specs.declared.ids.FileId.{FileId}
+use Rattle.alp_base.specs.declared.key.Key.{Key}
 use Rattle.alp_base.specs.declared.choices.Access.{Access}
 use Rattle.alp_base.specs.declared.choices.Access.TheVariants.{ReadOnly, Change}
+use Rattle.alp_base.specs.declared.lists.TheConstants.{PAGES_PER_FILE}
+use Rattle.alp_files.specs.declared.cell.Cell.{Cell}
 use Rattle.alp_files.specs.declared.cell.Props.{Props}
+use Rattle.alp_files.specs.declared.open.Open.{Open}
+use Rattle.alp_files.specs.declared.refusal.Refusal.{Refusal}
 use Rattle.alp_files.specs.declared.refusal.ListName.{ListName}
 use Rattle.alp_files.specs.declared.refusal.ListName.TheVariants as lists
 use Rattle.alp_files.specs.declared.call.Call.{Call}
+use Rattle.alp_files.specs.declared.call.Call.TheVariants as call
 use Rattle.alp_files.specs.declared.reply.Reply.{Reply}
 use Rattle.alp_files.specs.declared.reply.Reply.TheVariants as reply
-use Rattle.alp_calls.specs.declared.part.Part.{Part}
+use Rattle.alp_files.specs.Act.{Own, Answer, Look, run, answer, id_in, program, admits}
+use Rattle.alp_files.specs.Built.{IsBuilt}
 use Rattle.alp_files.specs.Cells.{Cells, View, has_file}
-use Rattle.alp_files.specs.Edits.{over, ChangesBy}
-use Rattle.alp_files.specs.Act.{Own, Answer, Look, run, id_in, program, admits}
+use Rattle.alp_files.specs.Edits.{Edit, over, ChangesBy}
+use Rattle.alp_files.specs.Needs.{is_put}
+use Rattle.alp_files.specs.Passing.{is_passing, IsFileReply}
+use Rattle.alp_files.specs.Undo.{puts_of}
+use Rattle.alp_vault.specs.Volumes.{fits_key, fit_keys}
+use Rattle.alp_journal.specs.Answers.{unless_counts}
+use Rattle.alp_trans.specs.Counting.{AreCountsOf, AreFew}
+use Rattle.alp_trans.specs.Parts.{own_of}
+use Rattle.alp_trans.specs.declared.counts.Counts.{Counts}
+use Rattle.alp_trans.specs.declared.part.Part.{Part}
+use Rattle.alp_calls.specs.Limits.{refused_for}
+use Rattle.alp_calls.specs.declared.limits.Room.{Room}
+use Rattle.alp_calls.specs.declared.said.Said.{Said}
+use Rattle.alp_calls.specs.declared.said.Said.TheVariants.{Told, Done}
 
 -- what a part sees of the files that are held
 abbrev pub seen : Cells → Part → View
 seen held p = over p.intents (map.get held)
 
-abbrev pub own_of : Part → Own
-own_of p = record { last = p.last; opens = p.opens.items }
+-- ---- what is true of each part, whatever its vault tells
+
+-- each cell is of its key's kind, and within the limits of a file
+abbrev pub AllFit : Cells → Type 0
+AllFit m = (k : Key) (c : Cell) → map.get m k ≡ Some c → fits_key k c ≡ true
+
+pub record IsPart (p : Part) : Type 0 where
+  pub cells : p.counts.cells ≡ map.len p.intents
+  pub most : p.counts.cells ≤ 256
+  pub few : AreFew p.counts
+  pub fit : AllFit p.intents
+
+-- a file that is created has no more pages than a file may have
+abbrev pub IsShaped : Call → Type 0
+IsShaped (call.CreateFile trans start choice) = start.size ≤ PAGES_PER_FILE
+IsShaped _ = Unit {0}
+
+pub record CanPerform (p : Part) (c : Call) : Type 0 where
+  pub part : IsPart p
+  pub last : p.last + 1 < 2 ^ 32
+  pub built : IsBuilt c
+  pub shaped : IsShaped c
+
+-- ---- what a call comes to, before the part changes
+
+abbrev pub reply_of : Said → Reply
+reply_of (Told r) = r
+reply_of (Done r puts o) = r
+
+abbrev pub puts_in : Said → List (Key × Cell)
+puts_in (Told r) = []
+puts_in (Done r puts o) = puts.items
+
+abbrev pub open_in : Said → Option Open
+open_in (Told r) = None
+open_in (Done r puts o) = o
+
+abbrev pub is_told : Said → Bool
+is_told (Told r) = true
+is_told (Done r puts o) = false
+
+abbrev pub own_with : Own → Option Open → Own
+own_with own None = own
+own_with own (Some o) = record { last = o.number; opens = own.opens ++ o ∷ [] }
+
+abbrev pub answer_of : Own → Said → Answer
+answer_of own (Told r) = record { reply = Some r; edits = []; own = own }
+answer_of own (Done r puts o) = record { reply = Some r; edits = puts_of puts.items; own = own_with own o }
+
+-- a thread that looks so is told this
+abbrev pub Says : Cells → Part → Said → (Own → Look) → Type 0
+Says held p s look = run (seen held p) (look (own_of p)) ≡ answer_of (own_of p) s
+
+-- the same where the reply may give the id to a new file, which no earlier file had
+abbrev pub SaysNew : Cells → Part → FileId → Said → (List FileId → Own → Option FileId → Look) → Type 0
+SaysNew held p id s look = (made : List FileId) → has_file id made ≡ false → Says held p s (λ own. look made own (id_in (reply_of s)))
+
+-- the right answer to the call, where this id is the next one
+abbrev pub SaysCall : Cells → Part → List ℕ → FileId → Call → Said → Type 0
+SaysCall held p who id c s = SaysNew held p id s (λ made own. program id.server made who own c)
+
+-- the open that is made is the next one
+abbrev pub IsNextOpen : ℕ → Option Open → Type 0
+IsNextOpen last None = Unit {0}
+IsNextOpen last (Some o) = o.number ≡ last + 1
+
+-- the puts fit their keys, and are few
+pub record ArePuts (puts : List (Key × Cell)) : Type 0 where
+  pub fit : fit_keys puts ≡ true
+  pub few : length puts ≤ 256
+
+-- ---- what a call did to the part
 
 -- the part gave the reply, and stands as the answer says: what is seen through its intents is changed by the edits,
 -- whatever lies below them
@@ -29,21 +119,9 @@ pub record Performs (old new : Part) (a : Answer) (r : Reply) : Type 0 where
   pub own : own_of new ≡ a.own
   pub view : ChangesBy a.edits old.intents new.intents
 
--- the part's intents and opens are as they were
+-- the part's intents, opens and counts are as they were
 abbrev pub IsAsBefore : Part → Part → Type 0
-IsAsBefore old new = (new.intents ≡ old.intents) × (own_of new ≡ own_of old)
-
--- the part gave the reply of what is looked at so, and stands as that says
-abbrev pub Gives : Cells → Part → Part → Reply → (Own → Look) → Type 0
-Gives held old new r look = Performs old new (run (seen held old) (look (own_of old))) r
-
--- the same where the reply may give the id to a new file, which no earlier file had
-abbrev pub Answers : Cells → Part → Part → FileId → Reply → (List FileId → Own → Option FileId → Look) → Type 0
-Answers held old new id r look = (made : List FileId) → has_file id made ≡ false → Gives held old new r (λ own. look made own (id_in r))
-
--- the part gave the right reply to the call, where this id is the next one
-abbrev pub AnswersCall : Cells → Part → Part → List ℕ → FileId → Call → Reply → Type 0
-AnswersCall held old new who id c r = Answers held old new id r (λ made own. program id.server made who own c)
+IsAsBefore old new = (new.intents ≡ old.intents) × (own_of new ≡ own_of old) × (new.counts ≡ old.counts)
 
 -- if a new file got an id, it is this one
 abbrev pub GivesOnly : FileId → Reply → Type 0
@@ -63,6 +141,40 @@ has_contents _ = false
 -- such a reply left the part as it was
 abbrev pub ReadsOnly : Part → Part → Reply → Type 0
 ReadsOnly old new r = has_contents r ≡ true → IsAsBefore old new
+
+-- with these counts, or as it was where it is refused
+abbrev pub StandsAfter : (old new : Part) → Counts → Option Refusal → Type 0
+StandsAfter old new after None = new.counts ≡ after
+StandsAfter old new after (Some f) = IsAsBefore old new
+
+-- What was said is done, or it is refused for what the part would come to with it.
+pub record Settled (tells : Bool) (held : Cells) (old new : Part) (room : Room) (s : Said) (r : Reply) : Type 0 where
+  pub after : Counts
+  pub said : r ≡ unless_counts (reply_of s) (refused_for room old.counts after)
+  pub stands : StandsAfter old new after (refused_for room old.counts after)
+  pub reads : ReadsOnly old new r
+  pub last : new.last ≤ old.last + 1
+  pub counts : IsTrue tells → (es : List Edit) → list_all is_put es ≡ true → ChangesBy es map.empty old.intents → AreCountsOf held es old.counts → AreCountsOf held (es ++ (answer_of (own_of old) s).edits) after
+  pub done : refused_for room old.counts after ≡ None → Performs old new (answer_of (own_of old) s) (reply_of s)
+
+-- The part comes to these counts with the answer of one thread, and stands as the answer says where nothing refuses it.
+pub record IsRight (held : Cells) (old new : Part) (after : Counts) (refused : Option Refusal) (given : Reply) (a : Answer) : Type 0 where
+  pub reply : a.reply ≡ Some given
+  pub counts : (es : List Edit) → list_all is_put es ≡ true → ChangesBy es map.empty old.intents → AreCountsOf held es old.counts → AreCountsOf held (es ++ a.edits) after
+  pub done : refused ≡ None → Performs old new a given
+
+-- One thread is given this, the part comes to these counts with it, and what it gives is that, or a refusal for them.
+pub record Answered (tells : Bool) (held : Cells) (old new : Part) (who : List ℕ) (id : FileId) (c : Call) (room : Room) (r : Reply) : Type 0 where
+  pub given : Reply
+  pub after : Counts
+  pub ids : GivesOnly id given
+  pub own : is_passing given ≡ false
+  pub kind : IsFileReply given
+  pub said : r ≡ unless_counts given (refused_for room old.counts after)
+  pub stands : StandsAfter old new after (refused_for room old.counts after)
+  pub reads : ReadsOnly old new r
+  pub last : new.last ≤ old.last + 1
+  pub right : IsTrue tells → (made : List FileId) → has_file id made ≡ false → IsRight held old new after (refused_for room old.counts after) given (answer id.server made (seen held old) who (own_of old) c given)
 
 -- the list that does not admit who opens a file so, if one does not
 abbrev pub denied_by : Access → List ℕ → Props → Option ListName

@@ -1,17 +1,20 @@
 //! Performs the file calls of a transaction at one server, on what it sees of a vault through its own intents.
 #![tactic(auto)]
 
+mod counting;
 mod fault;
 mod file_calls;
+mod laws;
+mod limits;
 mod look;
 mod owner_calls;
 mod page_calls;
-mod part;
-mod perform;
-mod room;
+mod performing;
+mod said;
 mod server_notes;
 
 pub use fault::CallFault;
-pub use part::Part;
-pub use room::can_take;
+pub use laws::{counts_come_to_what_there_is, counts_stay_where_others_commit};
+pub use limits::{CELLS_PER_PART, Room};
+pub use performing::perform;
 pub use server_notes::are_server_notes;

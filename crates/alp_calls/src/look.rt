@@ -1,10 +1,13 @@
 //! Looks at what a part sees: its own intents, or else what the vault holds.
-ghost use Rattle.std.specs.Prelude.{◌≡◌, ◌+◌, ◌^◌, ◌<◌, [], ◌∷◌, ◌++◌, IfOk, OnOk, IsTrue};
+ghost use Rattle.std.specs.Prelude.{◌≡◌, ◌+◌, ◌^◌, ◌<◌, ◌≤◌, [], ◌∷◌, ◌++◌, IfOk, OnOk, IfSome, IsTrue, true};
 ghost use Rattle.std.specs.FinMap as map;
 ghost use Rattle.alp_base.specs.declared.key.Key.TheVariants as key;
-ghost use Rattle.alp_files.specs.Cells.{props_in, owner_in, page_in};
+ghost use Rattle.alp_base.specs.declared.lists.TheConstants.{PAGES_PER_FILE};
+ghost use Rattle.alp_files.specs.Cells.{props_in, owner_in, page_in, same_name};
 ghost use Rattle.alp_files.specs.Edits.{over};
+ghost use Rattle.alp_vault.specs.Volumes.{fits_key};
 ghost use Rattle.alp_calls.specs.Looks.{Looks, fault_in};
+ghost use Rattle.alp_calls.specs.Parts.{AllFit};
 ghost use Rattle.alp_files.specs.Cells.{pages_at};
 
 use crate::CallFault;
@@ -17,6 +20,7 @@ use std::alloc::Global;
 pub(super) fn fetched<V: Vault>(vault: &mut V, key: &Key) -> Result<Option<Cell>, CallFault>
     requires { IsTrue (V.serves vault.old) }
     ensures cell { IsTrue (V.tells vault.old) → IfOk result (λ c. c ≡ map.get (V.held vault.old).cells key.now) }
+    ensures fits { IfOk result (λ c. IfSome c (λ x. fits_key key.now x ≡ true)) }
     ensures looked { Looks V.Vault vault.old vault.new (fault_in result) }
 {
     match vault.fetch(key) {
@@ -26,8 +30,10 @@ pub(super) fn fetched<V: Vault>(vault: &mut V, key: &Key) -> Result<Option<Cell>
 }
 
 fn cell_at<V: Vault>(vault: &mut V, intents: &CellMap, key: &Key) -> Result<Option<Cell>, CallFault>
-    requires { IsTrue (V.serves vault.old) }
+    requires serving { IsTrue (V.serves vault.old) }
+    requires fit { AllFit intents.now }
     ensures cell { IsTrue (V.tells vault.old) → IfOk result (λ c. c ≡ over intents.now (map.get (V.held vault.old).cells) key.now) }
+    ensures fits { IfOk result (λ c. IfSome c (λ x. fits_key key.now x ≡ true)) }
     ensures looked { Looks V.Vault vault.old vault.new (fault_in result) }
 {
     if let Some(cell) = intents.get(key) {
@@ -42,7 +48,9 @@ pub(super) fn owner_at<V: Vault>(
     intents: &CellMap,
     name: Name,
 ) -> Result<Option<OwnerRecord>, CallFault>
-    requires { IsTrue (V.serves vault.old) }
+    requires serving { IsTrue (V.serves vault.old) }
+    requires fit { AllFit intents.now }
+    ensures named { IfOk result (λ o. IfSome o (λ r. same_name r.name name ≡ true)) }
     ensures owner { IsTrue (V.tells vault.old) → IfOk result (λ o. o ≡ owner_in (over intents.now (map.get (V.held vault.old).cells) (key.OwnerOf name))) }
     ensures looked { Looks V.Vault vault.old vault.new (fault_in result) }
 {
@@ -57,7 +65,9 @@ pub(super) fn props_at<V: Vault>(
     intents: &CellMap,
     file: FileId,
 ) -> Result<Option<Props>, CallFault>
-    requires { IsTrue (V.serves vault.old) }
+    requires serving { IsTrue (V.serves vault.old) }
+    requires fit { AllFit intents.now }
+    ensures size { IfOk result (λ p. IfSome p (λ x. x.size ≤ PAGES_PER_FILE)) }
     ensures props { IsTrue (V.tells vault.old) → IfOk result (λ p. p ≡ props_in (over intents.now (map.get (V.held vault.old).cells) (key.Leader file))) }
     ensures looked { Looks V.Vault vault.old vault.new (fault_in result) }
 {
@@ -74,7 +84,8 @@ fn page_at<V: Vault>(
     file: FileId,
     number: u32,
 ) -> Result<PageRef, CallFault>
-    requires { IsTrue (V.serves vault.old) }
+    requires serving { IsTrue (V.serves vault.old) }
+    requires fit { AllFit intents.now }
     ensures page { IsTrue (V.tells vault.old) → IfOk result (λ p. p ≡ page_in (over intents.now (map.get (V.held vault.old).cells) (key.PageOf file number))) }
     ensures looked { Looks V.Vault vault.old vault.new (fault_in result) }
 {
@@ -96,7 +107,8 @@ fn push_page<V: Vault>(
     number: u32,
     pages: &mut Vec<PageRef>,
 ) -> Result<(), CallFault>
-    requires { IsTrue (V.serves vault.old) }
+    requires serving { IsTrue (V.serves vault.old) }
+    requires fit { AllFit intents.now }
     ensures page { IsTrue (V.tells vault.old) → OnOk result (pages.new.items ≡ pages.old.items ++ page_in (over intents.now (map.get (V.held vault.old).cells) (key.PageOf file number)) ∷ []) }
     ensures looked { Looks V.Vault vault.old vault.new (fault_in result) }
 {
@@ -114,6 +126,7 @@ pub(super) fn pages_of<V: Vault>(
     run: Run,
 ) -> Result<PageList, CallFault>
     requires serving { IsTrue (V.serves vault.old) }
+    requires fit { AllFit intents.now }
     requires numbers { run.first + run.count < 2 ^ 32 }
     ensures pages { IsTrue (V.tells vault.old) → IfOk result (λ l. l ≡ pages_at (over intents.now (map.get (V.held vault.old).cells)) file run.first run.count) }
     ensures looked { Looks V.Vault vault.old vault.new (fault_in result) }

@@ -6,4 +6,5 @@ pub mod checkpoints;
 pub mod commits;
 pub mod rates;
 pub mod stores;
+mod takes;
 pub mod volumes;

@@ -7,10 +7,10 @@ ghost use Rattle.alp_vault.specs.Volumes.{IsCommit};
 use crate::buffers::{self, Pace};
 use crate::commits::{append_often, new_file};
 use crate::rates::{Trouble, hundredths, rate_since};
+use crate::takes::can_take;
 use alp_base::{
     AccessList, FileId, Key, Name, NoteChange, OutOfMemory, Page, PageRef, Sizes, VaultFault,
 };
-use alp_calls::can_take;
 use alp_disk::{Disk, FileDisk};
 use alp_fields::{ClockNote, clock_change};
 use alp_files::{Cell, CellMap, Change, CutList, FileList, OwnerRecord, Props, PutList};
@@ -179,11 +179,7 @@ fn commit<V: Vault>(
     let note = clock_change(alloc, ClockNote { epoch: 1, clock })?;
     let notes = vec![in alloc; note]?;
     let written = notes.as_slice();
-    let fits = match can_take(alloc, vault, &change, written) {
-        Ok(fits) => fits,
-        Err(_) => return Err(Trouble::Host),
-    };
-    if !fits {
+    if !can_take(vault, &change, written) {
         return Err(Trouble::Full);
     }
     commit_change(vault, &change, written)

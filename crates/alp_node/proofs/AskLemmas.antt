@@ -1,11 +1,11 @@
 -- the entry of a call that asked for locks and has them
 use Rattle.std.specs.Prelude.{cond, Bool, true, false, not, Option, None, Some, is_some}
 use Rattle.std.specs.List.{AllByRecursion}
-use Rattle.std.proofs.Common.{◌≡◌, ℕ, ◌+◌, List, [], ◌∷◌, ◌++◌, refl, sym, ◌∙◌, ap, arith}
+use Rattle.std.proofs.Common.{◌≡◌, ℕ, ◌+◌, List, [], ◌∷◌, ◌++◌, sym, ◌∙◌, ap}
 use Rattle.alp_base.specs.declared.ids.FileId.{FileId}
 use Rattle.alp_base.specs.declared.key.Key.TheVariants.{Leader, OwnerOf}
 use Rattle.alp_base.specs.declared.key.Resource.{Resource}
-use Rattle.alp_base.specs.declared.key.Resource.TheVariants.{Whole}
+use Rattle.alp_base.specs.declared.key.Resource.TheVariants.{Whole, Leaf}
 use Rattle.alp_base.specs.declared.choices.Access.{Access}
 use Rattle.alp_base.specs.declared.choices.Access.TheVariants.{Change}
 use Rattle.alp_modes.specs.declared.Mode.{Mode}
@@ -23,13 +23,12 @@ use Rattle.alp_files.specs.declared.cell.Props.{Props}
 use Rattle.alp_files.specs.declared.open.Open.{Open}
 use Rattle.alp_files.specs.Act.{Own, Answer, run, id_in, unless, refused, no_answer, opened, create_tests, created_file, create_file, is_new, owner_of, access_tests, open_file, props_of, make_owner, is_admin, answer}
 use Rattle.alp_files.specs.Cells.{View, owner_in, props_in}
-use Rattle.alp_files.specs.Locks.{IsMore, with_made}
+use Rattle.alp_files.specs.Locks.{IsMore, joined, granted, needs_of, needs_made, with_made}
 use Rattle.alp_files.proofs.CoverLemmas.{right-above, joined-more}
-use Rattle.alp_node.specs.Bounded.{bounds_of}
+use Rattle.alp_calls.specs.Parts.{has_contents}
 use Rattle.alp_node.specs.Calls.{IsLockCall}
+use Rattle.alp_node.specs.Covers.{AreCovered}
 use Rattle.alp_node.specs.ServerState.{IsLocked, mode_for}
-use Rattle.alp_node.specs.declared.bounds.Bounds.{Bounds}
-use Rattle.alp_node.proofs.AddLemmas.{Adds, adds_none}
 use Rattle.alp_node.proofs.LockLemmas.{itself, write_covers}
 
 -- ---- what such a call opens
@@ -106,31 +105,68 @@ create_locked server made under m w who start (Some f) h =
 
 -- ---- what such a call puts
 
-abbrev one_owner : Bounds
-one_owner = record { locks = 1; puts = 1; leaders = 0; owners = 1 }
+-- what is put is locked
+abbrev PutsCovered : Holding → Answer → Type 0
+PutsCovered held a = AreCovered held a.edits
 
-abbrev new_file : Bounds
-new_file = record { locks = 2; puts = 2; leaders = 1; owners = 1 }
-
-create_adds : (server : ℕ) (made : List FileId) (m : View) (w : Own) (who : List ℕ) (start : Props) (id : Option FileId) → Adds new_file (run m (create_file server made w who start id)).edits
-create_adds server made m w who start None = by_tests (λ x. Adds new_file x.edits) w (create_tests who start (m (OwnerOf start.owner))) (no_answer w) (λ x. adds_none new_file) (adds_none new_file)
-create_adds server made m w who start (Some f) =
-    by_tests (λ x. Adds new_file x.edits) w (create_tests who start (m (OwnerOf start.owner)))
-    (cond {A = Answer} (is_new server made f (m (Leader f))) (created_file w start (owner_of (m (OwnerOf start.owner))) f) (no_answer w)) (λ x. adds_none new_file) (go (is_new server made f (m (Leader f))))
+create_covered : (server : ℕ) (made : List FileId) (under : Holding) (m : View) (w : Own) (who : List ℕ) (start : Props) (id : Option FileId) → covers_held (under (Leaf (OwnerOf start.owner))) Write ≡ true
+    → PutsCovered (with_made under id) (run m (create_file server made w who start id))
+create_covered server made under m w who start None owner = by_tests (PutsCovered (with_made under None)) w (create_tests who start (m (OwnerOf start.owner))) (no_answer w) (λ x. tt) tt
+create_covered server made under m w who start (Some f) owner =
+    by_tests (PutsCovered held) w (create_tests who start (m (OwnerOf start.owner)))
+    (cond {A = Answer} (is_new server made f (m (Leader f))) (created_file w start (owner_of (m (OwnerOf start.owner))) f) (no_answer w)) (λ x. tt) (go (is_new server made f (m (Leader f))))
   where
-    go : (b : Bool) → Adds new_file (cond {A = Answer} b (created_file w start (owner_of (m (OwnerOf start.owner))) f) (no_answer w)).edits
-    go true = record { alone = refl; puts = omega arith; leaders = omega arith; owners = omega arith }
-    go false = adds_none new_file
+    held : Holding
+    held = with_made under (Some f)
 
-pub lock_adds : (server : ℕ) (made : List FileId) (m : View) (who : List ℕ) (w : Own) (c : Call) (given : Reply) → IsLockCall c → Adds (bounds_of c) (answer server made m who w c given).edits
-lock_adds server made m who w (call.CreateFile t start choice) given is = create_adds server made m w who start (id_in given)
-lock_adds server made m who w (call.OpenFile t f a mode choice) given is =
-    by_tests (λ x. Adds (bounds_of (call.OpenFile t f a mode choice)) x.edits) w ((not (is_some (props_in (m (Leader f)))), refusal.UnknownFile) ∷ access_tests a who (props_of (m (Leader f))))
-    (record { reply = Some (reply.Opened (w.last + 1)); edits = []; own = opened w f a }) (λ x. adds_none _) (adds_none _)
-lock_adds server made m who w (call.MakeOwner t name quota create choice) given is =
-    by_tests (λ x. Adds one_owner x.edits) w ((is_some (owner_in (m (OwnerOf name))), refusal.OwnerExists) ∷ (not (is_admin who), refusal.AccessDenied lists.Admin) ∷ []) _
-    (λ x. adds_none one_owner) (record { alone = refl; puts = omega arith; leaders = omega arith; owners = omega arith })
-lock_adds server made m who w c given is = absurd is
+    go : (b : Bool) → PutsCovered held (cond {A = Answer} b (created_file w start (owner_of (m (OwnerOf start.owner))) f) (no_answer w))
+    go true = (made_locked under f, (joined-more under ((Whole f, Write) ∷ []) (Leaf (OwnerOf start.owner)) Write owner, tt))
+    go false = tt
+
+-- what is asked is held then
+asked_held : (held : Holding) (on : Resource) → covers_held (joined held ((on, Write) ∷ []) on) Write ≡ true
+asked_held held on = right-above (held on) (held_by ((on, Write) ∷ []) on) Write (ap (λ (b : Bool). covers_held (cond b (Some Write) None) Write) (itself on) ∙ write_covers)
+
+pub lock_covered : (server : ℕ) (made : List FileId) (held : Holding) (m : View) (w : Own) (who : List ℕ) (c : Call) (r : Reply) → IsLockCall c
+    → AreCovered (with_made (granted held (needs_of m w c)) (id_in r)) (answer server made m who w c r).edits
+lock_covered server made held m w who (call.CreateFile t start choice) r is = create_covered server made (granted held (needs_of m w (call.CreateFile t start choice))) m w who start (id_in r) (asked_held held (Leaf (OwnerOf start.owner)))
+lock_covered server made held m w who (call.OpenFile t f a mode choice) r is =
+    by_tests (PutsCovered (with_made (granted held (needs_of m w (call.OpenFile t f a mode choice))) (id_in r))) w ((not (is_some (props_in (m (Leader f)))), refusal.UnknownFile) ∷ access_tests a who (props_of (m (Leader f))))
+    (record { reply = Some (reply.Opened (w.last + 1)); edits = []; own = opened w f a }) (λ x. tt) tt
+lock_covered server made held m w who (call.MakeOwner t name quota create choice) r is =
+    by_tests (PutsCovered (with_made (granted held (needs_of m w (call.MakeOwner t name quota create choice))) (id_in r))) w
+    ((is_some (owner_in (m (OwnerOf name))), refusal.OwnerExists) ∷ (not (is_admin who), refusal.AccessDenied lists.Admin) ∷ []) _
+    (λ x. tt) (joined-more (granted held (needs_of m w (call.MakeOwner t name quota create choice))) (needs_made (id_in r)) (Leaf (OwnerOf name)) Write (asked_held held (Leaf (OwnerOf name))), tt)
+lock_covered server made held m w who c r is = absurd is
+
+-- ---- what such a call tells
+
+-- no contents of files or owners
+abbrev TellsNone : Answer → Type 0
+TellsNone a = (r : Reply) → a.reply ≡ Some r → has_contents r ≡ false
+
+tells_none : (w : Own) (f : Refusal) → TellsNone (refused w f)
+tells_none w f r e = ap has_contents (sym (same_reply (reply.Refused f) r e))
+
+create_tells : (server : ℕ) (made : List FileId) (m : View) (w : Own) (who : List ℕ) (start : Props) (id : Option FileId) → TellsNone (run m (create_file server made w who start id))
+create_tells server made m w who start None = by_tests TellsNone w (create_tests who start (m (OwnerOf start.owner))) (no_answer w) (tells_none w) (λ r e. let wrong : None ≡ Some r = e in cc)
+create_tells server made m w who start (Some f) =
+    by_tests TellsNone w (create_tests who start (m (OwnerOf start.owner)))
+    (cond {A = Answer} (is_new server made f (m (Leader f))) (created_file w start (owner_of (m (OwnerOf start.owner))) f) (no_answer w)) (tells_none w) (go (is_new server made f (m (Leader f))))
+  where
+    go : (b : Bool) → TellsNone (cond {A = Answer} b (created_file w start (owner_of (m (OwnerOf start.owner))) f) (no_answer w))
+    go true r e = ap has_contents (sym (same_reply (reply.Created f (w.last + 1)) r e))
+    go false r e = let wrong : None ≡ Some r = e in cc
+
+pub lock_tells : (server : ℕ) (made : List FileId) (m : View) (w : Own) (who : List ℕ) (c : Call) (r : Reply) → IsLockCall c → (answer server made m who w c r).reply ≡ Some r → has_contents r ≡ false
+lock_tells server made m w who (call.CreateFile t start choice) r is done = create_tells server made m w who start (id_in r) r done
+lock_tells server made m w who (call.OpenFile t f a mode choice) r is done =
+    by_tests TellsNone w ((not (is_some (props_in (m (Leader f)))), refusal.UnknownFile) ∷ access_tests a who (props_of (m (Leader f))))
+    (record { reply = Some (reply.Opened (w.last + 1)); edits = []; own = opened w f a }) (tells_none w) (λ x e. ap has_contents (sym (same_reply (reply.Opened (w.last + 1)) x e))) r done
+lock_tells server made m w who (call.MakeOwner t name quota create choice) r is done =
+    by_tests TellsNone w ((is_some (owner_in (m (OwnerOf name))), refusal.OwnerExists) ∷ (not (is_admin who), refusal.AccessDenied lists.Admin) ∷ []) _
+    (tells_none w) (λ x e. ap has_contents (sym (same_reply reply.Plain x e))) r done
+lock_tells server made m w who c r is done = absurd is
 
 -- ---- the lock of a new file
 

@@ -1,5 +1,5 @@
 -- what a call of a live part comes to
-use Rattle.std.specs.Prelude.{suc, cond, Bool, true, false, IsTrue, Option, None, Some, Result, Ok, Err, IfOk, OnOk, OnErr}
+use Rattle.std.specs.Prelude.{suc, cond, Bool, true, false, Option, None, Some, Result, Ok, Err, IfOk, OnErr}
 use Rattle.std.specs.FinMap as map
 use Rattle.std.proofs.Common.{◌≡◌, ℕ, ◌+◌, ◌<◌, ◌≤◌, List, [], ◌∷◌, ◌++◌, length, refl, sym, ◌∙◌, ap, subst, arith}
 use Rattle.alp_base.specs.declared.ids.FileId.{FileId}
@@ -18,7 +18,7 @@ use Rattle.alp_files.specs.Built.{IsBuilt}
 use Rattle.alp_files.proofs.BornLemmas.{unborn_kept, unborn_more}
 use Rattle.alp_files.proofs.EditLemmas.{changes-append, edits_at-append}
 use Rattle.alp_files.proofs.FilesLemmas.{same-some}
-use Rattle.alp_files.specs.Edits.{Edit, edits_at, after, ChangesBy}
+use Rattle.alp_files.specs.Edits.{edits_at, after, ChangesBy}
 use Rattle.alp_files.specs.Locks.{IsMore, with_made}
 use Rattle.alp_files.proofs.HistoryLemmas.{get-edits_map}
 use Rattle.alp_locks.specs.Tables.{Table, holding}
@@ -35,14 +35,21 @@ use Rattle.alp_files.specs.declared.call.Call.{Call}
 use Rattle.alp_files.specs.declared.reply.Reply.{Reply}
 use Rattle.alp_files.specs.declared.reply.Reply.TheVariants as reply
 use Rattle.alp_files.specs.Cells.{Cells, View}
-use Rattle.alp_files.specs.Passing.{is_passing, IsFileReply}
 use Rattle.alp_calls.specs.declared.fault.CallFault.{CallFault}
-use Rattle.alp_calls.specs.declared.part.Part.{Part}
-use Rattle.alp_calls.specs.Parts.{seen, own_of, Performs, AnswersCall, GivesOnly, ReadsOnly, IsAsBefore}
-use Rattle.alp_node.specs.Bounded.{IsWithin}
-use Rattle.alp_node.specs.Calls.{Outcome, Performed, next_file, bounds_then}
-use Rattle.alp_node.specs.declared.bounds.Bounds.{Bounds}
-use Rattle.alp_node.specs.ServerState.{LiveMap, IsLife, IsAlike, IsAs, IsLocked, mode_for, PutNoneBeyond, ids_to}
+use Rattle.alp_calls.specs.declared.limits.Room.{Room}
+use Rattle.alp_calls.specs.Parts.{seen, Performs, GivesOnly, IsAsBefore, IsPart, IsRight, Answered}
+use Rattle.alp_files.specs.declared.refusal.Refusal.{Refusal}
+use Rattle.alp_trans.specs.Counting.{AreCountsOf}
+use Rattle.alp_trans.specs.Parts.{own_of}
+use Rattle.alp_trans.specs.declared.counts.Counts.{Counts}
+use Rattle.alp_trans.specs.declared.part.Part.{Part}
+use Rattle.alp_node.specs.Calls.{Outcome, Performed, next_file}
+use Rattle.alp_node.specs.Covers.{AreCovered, AreHeld}
+use Rattle.alp_node.specs.Rooms.{IsRoomOf, locks_given}
+use Rattle.alp_node.specs.Totals.{LiveMap, totals_of}
+use Rattle.alp_node.specs.declared.lock_counts.LockCounts.{LockCounts}
+use Rattle.alp_node.proofs.TotalLemmas.{AreRoomed, same_room, swapped_room}
+use Rattle.alp_node.specs.ServerState.{IsLife, IsAlike, IsAs, IsLocked, mode_for, PutNoneBeyond, ids_to}
 use Rattle.alp_node.specs.Steps.{IsTurn, counted_in}
 use Rattle.alp_node.specs.declared.sessions.Turn.{Turn}
 use Rattle.alp_node.specs.declared.server_state.ServerState.{ServerState}
@@ -51,40 +58,53 @@ use Rattle.alp_node.proofs.MapLemmas.{put_twice, get_put, places_set}
 use Rattle.alp_node.proofs.FinishLemmas.{turn_session}
 use Rattle.alp_node.proofs.KeptLemmas.{IsLive, IsSession, live_there, same_live, over_empty, alike_set, each_set, sessions_as}
 
-outcome_of : (tells : Bool) (cells : Cells) (id : FileId) (l : Live) (p : Part) (c : Call) (r : Result Reply CallFault) → (IsTrue tells → IfOk r (AnswersCall cells l.part p l.who id c)) → IfOk r (GivesOnly id)
-    → IfOk r (λ x. is_passing x ≡ false) → IfOk r IsFileReply → IfOk r (ReadsOnly l.part p) → OnOk r (p.last ≤ l.part.last + 1) → OnErr r (IsAsBefore l.part p) → Outcome tells cells id l p c r
-outcome_of tells cells id l p c (Ok r) right given own kind reads last err = record { right = right; given = given; own = own; kind = kind; reads = reads; last = last }
-outcome_of tells cells id l p c (Err e) right given own kind reads last err = err
+outcome_of : (tells : Bool) (cells : Cells) (id : FileId) (l : Live) (p : Part) (c : Call) (room : Room) (r : Result Reply CallFault) → IfOk r (Answered tells cells l.part p l.who id c room) → OnErr r (IsAsBefore l.part p)
+    → Outcome tells cells id l p c room r
+outcome_of tells cells id l p c room (Ok r) answered err = answered
+outcome_of tells cells id l p c room (Err e) answered err = err
 
 -- the part was taken out, performed the call, and was put back
-pub performed_so : {V : Type 0} (tells : Bool) (cells : Cells) (old : ServerState V) (v : V) (t : TransId) (l found blank : Live) (p : Part) (c : Call) (b bt : Bounds) (r : Result Reply CallFault) (taken lives : LiveMap) (id : FileId)
-    → id ≡ next_file old → bt ≡ bounds_then found.bounds b r
-    → map.get old.lives t ≡ Some l → map.get old.lives t ≡ Some found → taken ≡ map.insert old.lives t blank → lives ≡ map.insert taken t (record found { part = p; bounds = bt })
-    → (IsTrue tells → IfOk r (AnswersCall cells found.part p found.who id c)) → IfOk r (GivesOnly id) → IfOk r (λ x. is_passing x ≡ false) → IfOk r IsFileReply → IfOk r (ReadsOnly found.part p)
-    → OnOk r (p.last ≤ found.part.last + 1) → OnErr r (IsAsBefore found.part p) → Performed tells cells old (record old { lives = lives; vault = v }) t l c b r
-performed_so tells cells old v t l found blank p c b bt r taken lives id next counted there was out back right given own kind reads last err =
+pub performed_so : {V : Type 0} (tells : Bool) (cells : Cells) (old : ServerState V) (v : V) (t : TransId) (l found blank : Live) (p : Part) (c : Call) (n : LockCounts) (room : Room) (locks : ℕ) (r : Result Reply CallFault) (taken lives : LiveMap) (id : FileId)
+    → id ≡ next_file old → IsRoomOf tells cells old n.made room → IsPart p → locks ≡ locks_given found.locks n r
+    → map.get old.lives t ≡ Some l → map.get old.lives t ≡ Some found → taken ≡ map.insert old.lives t blank → lives ≡ map.insert taken t (record found { part = p; locks = locks })
+    → IfOk r (Answered tells cells found.part p found.who id c room) → OnErr r (IsAsBefore found.part p) → Performed tells cells old (record old { lives = lives; vault = v }) t l c n r
+performed_so tells cells old v t l found blank p c n room locks r taken lives id next of part counted there was out back answered err =
     let same : found ≡ l = same_live found l (sym was ∙ there) in
-    let put : lives ≡ map.insert old.lives t (record found { part = p; bounds = bounds_then found.bounds b r }) =
-    back ∙ ap (λ (m : LiveMap). map.insert m t (record found { part = p; bounds = bt })) out ∙ put_twice old.lives t blank (record found { part = p; bounds = bt })
-    ∙ ap (λ (x : Bounds). map.insert old.lives t (record found { part = p; bounds = x })) counted in
-    subst (λ (x : Live). Performed tells cells old (record old { lives = lives; vault = v }) t x c b r) same (record {
+    let put : lives ≡ map.insert old.lives t (record found { part = p; locks = locks_given found.locks n r }) =
+    back ∙ ap (λ (m : LiveMap). map.insert m t (record found { part = p; locks = locks })) out ∙ put_twice old.lives t blank (record found { part = p; locks = locks })
+    ∙ ap (λ (x : ℕ). map.insert old.lives t (record found { part = p; locks = x })) counted in
+    subst (λ (x : Live). Performed tells cells old (record old { lives = lives; vault = v }) t x c n r) same (record {
       part = p;
+      sound = part;
+      room = room;
+      left = of;
       kept = ap (λ (m : LiveMap). record old { lives = m; vault = v }) put;
-      outcome = subst (λ (x : FileId). Outcome tells cells x found p c r) next (outcome_of tells cells id found p c r right given own kind reads last err);
+      outcome = subst (λ (x : FileId). Outcome tells cells x found p c room r) next (outcome_of tells cells id found p c room r answered err);
     })
 
 -- ---- what a part sees, and its next file
 
 module _ {V : Type 0} (a : Alone) (held : Contents) (k : ServerState V) where
   -- through its intents a live part sees what the journal says that it sees
-  pub sees : (t : TransId) (rs : List Resource) (l : Live) (life : Life) → IsAs a held k → k.is_down ≡ false → IsLife k.locks.held rs t l life → seen held.cells l.part ≡ view_in a.holder life
+  pub sees : (t : TransId) (rs : List Resource) (l : Live) (life : Life) → IsAs a held k → k.is_down ≡ false → IsLife a.holder.cells k.locks.held rs t l life → seen held.cells l.part ≡ view_in a.holder life
   sees t rs l life h up is =
       (λ i q. is.intents (map.get held.cells) i q) ∙ ap (after life.edits) (over_empty (map.get held.cells)) ∙ ap (λ (c : Cells). after life.edits (map.get c)) (h.cells up) ∙ sym (get-edits_map life.edits a.holder.cells)
+
+  -- a part gave what the journal says that a thread is answered
+  pub right_as : (t : TransId) (l : Live) (p : Part) (c : Call) (r : Reply) (life : Life) (rs : List Resource) (later : Counts) (refused : Option Refusal) → IsAs a held k → k.is_down ≡ false → IsLife a.holder.cells k.locks.held rs t l life
+      → IsRight held.cells l.part p later refused r (answer k.server [] (seen held.cells l.part) l.who (own_of l.part) c r) → IsRight a.holder.cells l.part p later refused r (answer_in a.holder life (record { call = c; reply = r }))
+  right_as t l p c r life rs later refused h up is first =
+      let same : answer k.server [] (seen held.cells l.part) l.who (own_of l.part) c r ≡ answer a.holder.server [] (view_in a.holder life) life.who life.own c r =
+      ap (λ (m : ℕ). answer m [] (seen held.cells l.part) l.who (own_of l.part) c r) (sym h.server)
+      ∙ ap (λ (x : View). answer a.holder.server [] x l.who (own_of l.part) c r) (sees t rs l life h up is)
+      ∙ ap (λ (x : List ℕ). answer a.holder.server [] (view_in a.holder life) x (own_of l.part) c r) (sym is.who)
+      ∙ ap (λ (x : Own). answer a.holder.server [] (view_in a.holder life) life.who x c r) is.own in
+      subst (λ (m : Cells). IsRight m l.part p later refused r (answer_in a.holder life (record { call = c; reply = r }))) (h.cells up) (subst (λ (x : Answer). IsRight held.cells l.part p later refused r x) same first)
 
   -- the next file is new to each
   pub unseen : (t : TransId) (l : Live) → IsAs a held k → k.is_down ≡ false → map.get k.lives t ≡ Some l → seen held.cells l.part (Leader (next_file k)) ≡ None
   unseen t l h up there =
-      let x : IsLive k.locks.held (a.locked t) t l (a.holder.lives t) = live_there k.locks.held (a.locked t) t (map.get k.lives t) (a.holder.lives t) l there (h.lives t) in
+      let x : IsLive a.holder.cells k.locks.held (a.locked t) t l (a.holder.lives t) = live_there a.holder.cells k.locks.held (a.locked t) t (map.get k.lives t) (a.holder.lives t) l there (h.lives t) in
       let at : ℕ → ℕ → Key = λ server epoch. Leader (record { server = server; epoch = epoch; counter = k.given + 1 }) in
       let next : Leader (next_file k) ≡ at a.holder.server a.ids.epoch = λ i. at (sym h.server i) (sym h.epoch i) in
       ap (seen held.cells l.part) next
@@ -92,12 +112,11 @@ module _ {V : Type 0} (a : Alone) (held : Contents) (k : ServerState V) where
       ∙ ap (edits_at x.life.edits (at a.holder.server a.ids.epoch)) (h.born (k.given + 1) (omega arith))
       ∙ h.unborn t x.life x.is (k.given + 1) (omega arith)
 
-  -- a part that stands as before and may come to more, in a server that does
-  pub part_still : (t : TransId) (l : Live) (p : Part) (b : Bounds) (v : V) (then : Contents) → IsAs a held k → then ≡ held → map.get k.lives t ≡ Some l → IsAsBefore l.part p
-      → ((rs : List Resource) (es : List Edit) → IsWithin l.bounds rs es → IsWithin b rs es)
-      → IsAs a then (record k { lives = map.insert k.lives t (record l { part = p; bounds = b }); vault = v })
-  part_still t l p b v then h same there before more =
-      subst (λ (c : Contents). IsAs a c (record k { lives = map.insert k.lives t (record l { part = p; bounds = b }); vault = v })) (sym same) (record {
+  -- a part that stands as before, in a server that does
+  pub part_still : (t : TransId) (l : Live) (p : Part) (n : ℕ) (v : V) (then : Contents) → IsAs a held k → then ≡ held → map.get k.lives t ≡ Some l → IsAsBefore l.part p → n ≡ l.locks
+      → IsAs a then (record k { lives = map.insert k.lives t (record l { part = p; locks = n }); vault = v })
+  part_still t l p n v then h same there before locks =
+      subst (λ (c : Contents). IsAs a c (record k { lives = map.insert k.lives t (record l { part = p; locks = n }); vault = v })) (sym same) (record {
         server = h.server;
         sizes = h.sizes;
         epoch = h.epoch;
@@ -107,7 +126,8 @@ module _ {V : Type 0} (a : Alone) (held : Contents) (k : ServerState V) where
         places = h.places;
         sessions = h.sessions;
         dead = h.dead;
-        lives = λ u. subst (λ (x : Option Live). IsAlike k.locks.held (a.locked u) u x (a.holder.lives u)) (sym (get_put k.lives t (record l { part = p; bounds = b }) u)) (go u (same_trans u t) refl);
+        lives = λ u. subst (λ (x : Option Live). IsAlike a.holder.cells k.locks.held (a.locked u) u x (a.holder.lives u)) (sym (get_put k.lives t (record l { part = p; locks = n }) u)) (go u (same_trans u t) refl);
+        room = same_room k.sizes a.holder.cells k.lives t l (record l { part = p; locks = n }) there before.2 h.room;
         unborn = h.unborn;
         drawn = h.drawn;
         begun = h.begun;
@@ -121,19 +141,22 @@ module _ {V : Type 0} (a : Alone) (held : Contents) (k : ServerState V) where
         down = h.down;
       })
     where
-      go : (u : TransId) (e : Bool) → same_trans u t ≡ e → IsAlike k.locks.held (a.locked u) u (cond {A = Option Live} e (Some (record l { part = p; bounds = b })) (map.get k.lives u)) (a.holder.lives u)
+      go : (u : TransId) (e : Bool) → same_trans u t ≡ e → IsAlike a.holder.cells k.locks.held (a.locked u) u (cond {A = Option Live} e (Some (record l { part = p; locks = n })) (map.get k.lives u)) (a.holder.lives u)
       go u false e = h.lives u
       go u true e =
           let one : t ≡ u = sym (same_trans-true u t e) in
-          let x : IsLive k.locks.held (a.locked u) u l (a.holder.lives u) = live_there k.locks.held (a.locked u) u (map.get k.lives u) (a.holder.lives u) l (sym (ap (map.get k.lives) one) ∙ there) (h.lives u) in
-          subst (λ (y : Option Life). IsAlike k.locks.held (a.locked u) u (Some (record l { part = p; bounds = b })) y) (sym x.is) (record {
+          let x : IsLive a.holder.cells k.locks.held (a.locked u) u l (a.holder.lives u) = live_there a.holder.cells k.locks.held (a.locked u) u (map.get k.lives u) (a.holder.lives u) l (sym (ap (map.get k.lives) one) ∙ there) (h.lives u) in
+          subst (λ (y : Option Life). IsAlike a.holder.cells k.locks.held (a.locked u) u (Some (record l { part = p; locks = n })) y) (sym x.is) (record {
             client = x.alike.client;
             who = x.alike.who;
             intents = subst (ChangesBy x.life.edits map.empty) (sym before.0) x.alike.intents;
             own = before.1 ∙ x.alike.own;
             held = x.alike.held;
             opens = x.alike.opens;
-            within = more (a.locked u) x.life.edits x.alike.within;
+            counts = subst (AreCountsOf a.holder.cells x.life.edits) (sym before.2) x.alike.counts;
+            covered = x.alike.covered;
+            count = locks ∙ x.alike.count;
+            known = x.alike.known;
           })
 
 -- ---- a call that a part performed
@@ -195,53 +218,43 @@ files_now count (reply.Committed x) = omega arith
 files_now count (reply.Ended e) = omega arith
 files_now count (reply.Refused f) = omega arith
 
-module _ {V : Type 0} (a : Alone) (held : Contents) (k : ServerState V) (turn : Turn) (t : TransId) (l : Live) (p : Part) (c : Call) (r : Reply) (b : Bounds) (locks : Table) (v : V) (life : Life) where
+module _ {V : Type 0} (a : Alone) (held : Contents) (k : ServerState V) (turn : Turn) (t : TransId) (l : Live) (p : Part) (c : Call) (r : Reply) (n : ℕ) (locks : Table) (v : V) (life : Life) where
   abbrev pub done_kept : ServerState V
-  done_kept = record k { sessions = counted_in k.sessions turn; given = count_after k.given r; lives = map.insert k.lives t (record l { part = p; bounds = b }); locks = locks; vault = v }
+  done_kept = record k { sessions = counted_in k.sessions turn; given = count_after k.given r; lives = map.insert k.lives t (record l { part = p; locks = n }); locks = locks; vault = v }
 
   abbrev pub gave : Answer
   gave = answer_in a.holder life (record { call = c; reply = r })
-
-  -- the part gave what the journal says that a thread is answered
-  pub performs : (rs : List Resource) → IsAs a held k → k.is_down ≡ false → IsLife k.locks.held rs t l life → AnswersCall held.cells l.part p l.who (next_file k) c r → Performs l.part p gave r
-  performs rs h up is right =
-      let first : Performs l.part p (answer k.server [] (seen held.cells l.part) l.who (own_of l.part) c r) r = right [] refl in
-      let same : answer k.server [] (seen held.cells l.part) l.who (own_of l.part) c r ≡ answer a.holder.server [] (view_in a.holder life) life.who life.own c r =
-      ap (λ (n : ℕ). answer n [] (seen held.cells l.part) l.who (own_of l.part) c r) (sym h.server)
-      ∙ ap (λ (x : View). answer a.holder.server [] x l.who (own_of l.part) c r) (sees a held k t rs l life h up is)
-      ∙ ap (λ (x : List ℕ). answer a.holder.server [] (view_in a.holder life) x (own_of l.part) c r) (sym is.who)
-      ∙ ap (λ (x : Own). answer a.holder.server [] (view_in a.holder life) life.who x c r) is.own in
-      subst (λ (x : Answer). Performs l.part p x r) same first
 
   next_same : IsAs a held k → next_file k ≡ record { server = a.holder.server; epoch = a.ids.epoch; counter = k.given + 1 }
   next_same h = λ i. record { server = sym h.server i; epoch = sym h.epoch i; counter = k.given + 1 }
 
   -- no id beyond the count is in what the part saw
   view_unborn : IsAs a held k → a.holder.lives t ≡ Some life → IsUnborn a.holder.server a.ids.epoch (view_in a.holder life) k.given
-  view_unborn h is n high =
-      ap (λ (x : View). x (Leader (record { server = a.holder.server; epoch = a.ids.epoch; counter = n }))) (get-edits_map life.edits a.holder.cells)
-      ∙ ap (edits_at life.edits (Leader (record { server = a.holder.server; epoch = a.ids.epoch; counter = n }))) (h.born n high) ∙ h.unborn t life is n high
+  view_unborn h is m high =
+      ap (λ (x : View). x (Leader (record { server = a.holder.server; epoch = a.ids.epoch; counter = m }))) (get-edits_map life.edits a.holder.cells)
+      ∙ ap (edits_at life.edits (Leader (record { server = a.holder.server; epoch = a.ids.epoch; counter = m }))) (h.born m high) ∙ h.unborn t life is m high
 
   -- nor do its edits put one
   gave_unborn : IsAs a held k → a.holder.lives t ≡ Some life → IsBuilt c → GivesOnly (next_file k) r → PutNoneBeyond a.holder.server a.ids.epoch (count_after k.given r) (life.edits ++ gave.edits)
-  gave_unborn h is built only n high =
-      let q : Key = Leader (record { server = a.holder.server; epoch = a.ids.epoch; counter = n }) in
-      let low : k.given < n = omega (arith, count_grows k.given r, high) in
-      let seen_none : view_in a.holder life q ≡ None = view_unborn h is n low in
+  gave_unborn h is built only m high =
+      let q : Key = Leader (record { server = a.holder.server; epoch = a.ids.epoch; counter = m }) in
+      let low : k.given < m = omega (arith, count_grows k.given r, high) in
+      let seen_none : view_in a.holder life q ≡ None = view_unborn h is m low in
       let only_so : GivesOnly (record { server = a.holder.server; epoch = a.ids.epoch; counter = k.given + 1 }) r = subst (λ (f : FileId). GivesOnly f r) (next_same h) only in
-      edits_at-append life.edits gave.edits q None ∙ ap (edits_at gave.edits q) (h.unborn t life is n low) ∙ ap (edits_at gave.edits q) (sym seen_none)
-      ∙ unborn_kept a.holder.server a.ids.epoch k.given [] (view_in a.holder life) life.who life.own c r built (view_unborn h is) only_so n high
+      edits_at-append life.edits gave.edits q None ∙ ap (edits_at gave.edits q) (h.unborn t life is m low) ∙ ap (edits_at gave.edits q) (sym seen_none)
+      ∙ unborn_kept a.holder.server a.ids.epoch k.given [] (view_in a.holder life) life.who life.own c r built (view_unborn h is) only_so m high
 
   module _ (under : Holding) (rs : List Resource) where
     abbrev pub after_call : desk.Session → Alone
     after_call w = with_call a turn.client turn.number w t life c r under rs
 
-    pub done_as : (then : Contents) (h : IsAs a held k) → then ≡ held → (is : IsTurn k.sessions turn) → k.is_down ≡ false → map.get k.lives t ≡ Some l → a.holder.lives t ≡ Some life → IsLife k.locks.held (a.locked t) t l life → IsBuilt c → GivesOnly (next_file k) r
+    pub done_as : (then : Contents) (h : IsAs a held k) → then ≡ held → (is : IsTurn k.sessions turn) → k.is_down ≡ false → map.get k.lives t ≡ Some l → a.holder.lives t ≡ Some life → IsLife a.holder.cells k.locks.held (a.locked t) t l life → IsBuilt c → GivesOnly (next_file k) r
         → Performs l.part p gave r → ((q : Resource) → with_made under (id_in r) q ≡ holding locks.held t q)
         → ((u : TransId) (q : Resource) → same_trans u t ≡ false → holding locks.held u q ≡ holding k.locks.held u q)
-        → AllByRecursion (IsLocked (with_made under (id_in r))) gave.own.opens → IsWithin b (with_resources (needs_made (id_in r)) rs) (life.edits ++ gave.edits)
+        → AllByRecursion (IsLocked (with_made under (id_in r))) gave.own.opens → AreCountsOf a.holder.cells (life.edits ++ gave.edits) p.counts → AreCovered (with_made under (id_in r)) (life.edits ++ gave.edits)
+        → n ≡ length (with_resources (needs_made (id_in r)) rs) → AreHeld (with_made under (id_in r)) (with_resources (needs_made (id_in r)) rs) → AreRoomed k.sizes a.holder.cells (totals_of k.lives) l.part.counts p.counts
         → IsQuiet (after_call (IsSession.told (turn_session a held k turn h is))) → IsAs (after_call (IsSession.told (turn_session a held k turn h is))) then done_kept
-    done_as then h same is up there live mine built only done holds others opens within quiet =
+    done_as then h same is up there live mine built only done holds others opens counts covered count known roomed quiet =
         let s : IsSession turn.session (a.sessions turn.client) = turn_session a held k turn h is in
         let new : Life = life_after a turn.client turn.number s.told t life c r under in
         let now : List Resource = with_resources (needs_made (id_in r)) rs in
@@ -255,23 +268,27 @@ module _ {V : Type 0} (a : Alone) (held : Contents) (k : ServerState V) (turn : 
           places = places_set k.sessions turn.client (record turn.session { last = turn.number }) h.places;
           sessions = sessions_as a.sessions k.sessions turn.client (record s.told { last = turn.number; reply = r }) (record turn.session { last = turn.number }) h.sessions h.places is.client s.who refl;
           dead = h.dead;
-          lives = λ u. subst (λ (x : Option Live). IsAlike locks.held (lock_set a.locked t now u) u x (cond {A = Option Life} (same_trans u t) (Some new) (a.holder.lives u))) (sym (get_put k.lives t (record l { part = p; bounds = b }) u))
-              (alike_set k.locks.held locks.held a.locked t (Some (record l { part = p; bounds = b })) (Some new) now (map.get k.lives) a.holder.lives h.lives others (record {
+          lives = λ u. subst (λ (x : Option Live). IsAlike a.holder.cells locks.held (lock_set a.locked t now u) u x (cond {A = Option Life} (same_trans u t) (Some new) (a.holder.lives u))) (sym (get_put k.lives t (record l { part = p; locks = n }) u))
+              (alike_set a.holder.cells k.locks.held locks.held a.locked t (Some (record l { part = p; locks = n })) (Some new) now (map.get k.lives) a.holder.lives h.lives others (record {
                 client = mine.client;
                 who = mine.who;
                 intents = changes-append life.edits gave.edits map.empty l.part.intents p.intents mine.intents done.view;
                 own = done.own;
                 held = holds;
                 opens = opens;
-                within = within;
+                counts = counts;
+                covered = covered;
+                count = count;
+                known = known;
               }) u);
+          room = swapped_room k.sizes a.holder.cells k.lives t l (record l { part = p; locks = n }) there roomed;
           unborn = each_set (λ x. PutNoneBeyond a.holder.server a.ids.epoch (count_after k.given r) x.edits) t (Some new) a.holder.lives
-              (λ u x at n high. h.unborn u x at n (omega (arith, count_grows k.given r, high)))
+              (λ u x at m high. h.unborn u x at m (omega (arith, count_grows k.given r, high)))
               (λ x at. subst (λ (y : Life). PutNoneBeyond a.holder.server a.ids.epoch (count_after k.given r) y.edits) (same-some new x at) (gave_unborn h live built only));
           drawn = h.drawn;
           begun = h.begun;
           undrawn = h.undrawn;
-          files = ap (λ (n : ℕ). n + length (option_to_list (id_in r))) h.files ∙ files_now k.given r;
+          files = ap (λ (m : ℕ). m + length (option_to_list (id_in r))) h.files ∙ files_now k.given r;
           made = ap (λ (fs : List FileId). option_to_list (id_in r) ++ fs) h.made ∙ made_now a.holder.server a.ids.epoch k.given r (subst (λ (f : FileId). GivesOnly f r) (next_same h) only);
           born = unborn_more a.holder.server a.ids.epoch k.given (count_after k.given r) (map.get a.holder.cells) (count_grows k.given r) h.born;
           earlier = h.earlier;

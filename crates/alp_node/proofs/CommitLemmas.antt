@@ -1,6 +1,5 @@
 -- commits and halts, as the server keeps them
-use Rattle.std.specs.Prelude.{cond, Bool, true, false, ◌==◌, ◌&&◌, max, nat_lt, filter, flat_map, Option, None, Some}
-use Rattle.std.specs.List.{list_all}
+use Rattle.std.specs.Prelude.{cond, Bool, true, false, ◌==◌, ◌&&◌, max, nat_lt, flat_map, Option, None, Some}
 use Rattle.std.specs.FinMap as map
 use Rattle.std.proofs.Common.{◌⊎◌, ◌≡◌, ℕ, ◌+◌, ◌-◌, ◌*◌, ◌^◌, ◌<◌, ◌≤◌, List, [], ◌∷◌, ◌++◌, length, length-append, append-nil, refl, sym, ◌∙◌, ap, subst, arith, eq-eqb}
 use Rattle.std.proofs.lemmas.Bool.{ne_eqb, ltb-true}
@@ -10,9 +9,10 @@ use Rattle.alp_base.specs.declared.ids.TransId.{TransId}
 use Rattle.alp_base.specs.declared.key.Key.TheVariants.{Leader}
 use Rattle.alp_base.specs.Notes.{Notes}
 use Rattle.alp_fields.specs.ClockNote.{clock_name, clock_form}
-use Rattle.alp_files.specs.Cells.{Cells, View}
-use Rattle.alp_files.specs.Edits.{Edit, Drop, Cut, Put, edits_at, edits_map, after, over}
-use Rattle.alp_files.proofs.HistoryLemmas.{get-edits_map, same_cells}
+use Rattle.alp_files.specs.Cells.{View}
+use Rattle.alp_files.specs.Changes.{edits_of}
+use Rattle.alp_files.specs.Edits.{Edit, edits_at, edits_map}
+use Rattle.alp_files.proofs.HistoryLemmas.{get-edits_map}
 use Rattle.alp_files.specs.History.{Decided}
 use Rattle.alp_files.specs.declared.call.Call.{Call}
 use Rattle.alp_files.specs.declared.call.Call.TheVariants as call
@@ -21,7 +21,8 @@ use Rattle.alp_files.specs.declared.reply.Reply.TheVariants as reply
 use Rattle.alp_files.specs.declared.refusal.Refusal.TheVariants as refusal
 use Rattle.alp_files.specs.declared.refusal.Why.{Why}
 use Rattle.alp_files.specs.declared.refusal.Why.TheVariants as why
-use Rattle.alp_files.specs.Needs.{Intents, changed, intent, intents_from, is_put, no_intents, without_key}
+use Rattle.alp_trans.specs.Parts.{change_of}
+use Rattle.alp_calls.proofs.PartLaws.{same_change}
 use Rattle.alp_vault.specs.Contents.{Contents}
 use Rattle.alp_vault.specs.declared.vault.Vault.{Ghosts}
 use Rattle.alp_journal.specs.declared.act.Act.{Act}
@@ -52,38 +53,15 @@ use Rattle.alp_node.specs.declared.lives.Live.{Live}
 use Rattle.alp_node.specs.declared.server_state.ServerState.{ServerState}
 use Rattle.alp_node.specs.declared.served.Standing.TheVariants as standing
 use Rattle.alp_node.specs.declared.sessions.Turn.{Turn}
-use Rattle.alp_node.proofs.FinishLemmas.{gone_alike, gone_unborn, still_undrawn, turn_session, turn_next, drawn_live}
-use Rattle.alp_node.proofs.KeptLemmas.{sessions_as, IsSession, stands_timely, IsLive, live_there, over_empty, stepped_so}
+use Rattle.alp_node.specs.Rooms.{IsWithin}
+use Rattle.alp_node.proofs.ApartLemmas.{covered_puts}
+use Rattle.alp_node.proofs.SpaceLemmas.{commit_alike, commit_room}
+use Rattle.alp_node.proofs.FinishLemmas.{gone_unborn, still_undrawn, turn_session, turn_next, drawn_live}
+use Rattle.alp_node.proofs.KeptLemmas.{sessions_as, IsSession, stands_timely, IsLive, live_there, stepped_so}
 use Rattle.alp_node.proofs.MapLemmas.{places_set}
 use Rattle.alp_node.proofs.NoteLemmas.{put_again}
 use Rattle.alp_node.proofs.SeatLemmas.{leaves_as}
 use Rattle.alp_node.proofs.StandingLemmas.{part_of, part_is}
-
--- ---- how many cells a part changes
-
-fewer : {A : Type 0} (p : A → Bool) (xs : List A) → length (filter p xs) ≤ length xs
-fewer p [] = omega arith
-fewer p (x ∷ xs) = go (p x) (fewer p xs)
-  where
-    go : (b : Bool) → length (filter p xs) ≤ length xs → length (cond b (x ∷ filter p xs) (filter p xs)) ≤ length (x ∷ xs)
-    go true h = omega (arith, h)
-    go false h = omega (arith, h)
-
-abbrev size_of : Intents → ℕ
-size_of i = length i.drops + length i.cuts + length i.puts
-
-changed_from : (i : Intents) (es : List Edit) → list_all is_put es ≡ true → size_of (intents_from i es) ≤ size_of i + length es
-changed_from i [] alone = omega arith
-changed_from i (Put k c ∷ es) alone =
-    let rest : size_of (intents_from (intent i (Put k c)) es) ≤ size_of (intent i (Put k c)) + length es = changed_from (intent i (Put k c)) es alone in
-    let one : length (without_key k i.puts ++ k ∷ []) ≡ length (without_key k i.puts) + 1 = length-append (without_key k i.puts) (k ∷ []) in
-    let less : length (without_key k i.puts) ≤ length i.puts = fewer _ i.puts in
-    omega (arith, rest, one, less)
-changed_from i (Drop f ∷ es) alone = cc
-changed_from i (Cut f n ∷ es) alone = cc
-
-pub changed_most : (es : List Edit) → list_all is_put es ≡ true → changed es ≤ length es
-changed_most es alone = omega (arith, changed_from no_intents es alone)
 
 -- ---- this server's own vote
 
@@ -96,21 +74,18 @@ no_room_fits area before after fits = go (nat_lt area after) refl
 
 module _ {V : Type 0} (a : Alone) (held : Contents) (k : ServerState V) (t : TransId) (l : Live) where
   -- the log has room
-  room_then : IsAs a held k → map.get k.lives t ≡ Some l → 4 * l.bounds.puts + 28 ≤ k.sizes.area → no_room a.sizes.area (24 + 0 + 0) (24 + 0 + (4 * part_cells (a.holder.lives t) + 4)) ≡ None
-  room_then h live room =
-      let y : IsLive k.locks.held (a.locked t) t l (a.holder.lives t) = live_there k.locks.held (a.locked t) t (map.get k.lives t) (a.holder.lives t) l live (h.lives t) in
-      let cells : part_cells (a.holder.lives t) ≡ changed y.life.edits = ap part_cells y.is in
+  room_then : IsAs a held k → map.get k.lives t ≡ Some l → IsWithin k.sizes l → no_room a.sizes.area (24 + 0 + 0) (24 + 0 + (4 * part_cells (a.holder.lives t) + 4)) ≡ None
+  room_then h live within =
+      let y : IsLive a.holder.cells k.locks.held (a.locked t) t l (a.holder.lives t) = live_there a.holder.cells k.locks.held (a.locked t) t (map.get k.lives t) (a.holder.lives t) l live (h.lives t) in
+      let cells : part_cells (a.holder.lives t) ≡ l.part.counts.cells = ap part_cells y.is ∙ sym y.alike.counts.cells in
       let area : a.sizes.area ≡ k.sizes.area = ap (λ s. s.area) h.sizes in
-      no_room_fits a.sizes.area (24 + 0 + 0) (24 + 0 + (4 * part_cells (a.holder.lives t) + 4)) (omega (arith, cells, area, changed_most y.life.edits y.alike.within.alone, y.alike.within.puts, room))
+      no_room_fits a.sizes.area (24 + 0 + 0) (24 + 0 + (4 * part_cells (a.holder.lives t) + 4)) (omega (arith, cells, area, within.log))
 
   early_clock : IsAs a held k → k.clock < 2 ^ 62 → (a.holder.clock == clock_end) ≡ false
   early_clock h early = ne_eqb a.holder.clock clock_end (λ e. absurd (omega (arith, e, h.clock, early)))
 
-  pub votes_for : IsAs a held k → k.clock < 2 ^ 62 → map.get k.lives t ≡ Some l → 4 * l.bounds.puts + 28 ≤ k.sizes.area → why_not_own false (alone a) t ≡ None
+  pub votes_for : IsAs a held k → k.clock < 2 ^ 62 → map.get k.lives t ≡ Some l → IsWithin k.sizes l → why_not_own false (alone a) t ≡ None
   votes_for h early live room = (λ i. first_why false false (early_clock h early i) (no_room a.sizes.area (24 + 0 + 0) (24 + 0 + (4 * part_cells (a.holder.lives t) + 4)))) ∙ ap (full_or false) (room_then h live room)
-
-  pub votes_unread : IsAs a held k → k.clock < 2 ^ 62 → map.get k.lives t ≡ Some l → 4 * l.bounds.puts + 28 ≤ k.sizes.area → why_not_own true (alone a) t ≡ Some why.ReadFault
-  votes_unread h early live room = (λ i. first_why true false (early_clock h early i) (no_room a.sizes.area (24 + 0 + 0) (24 + 0 + (4 * part_cells (a.holder.lives t) + 4)))) ∙ ap (full_or true) (room_then h live room)
 
   pub votes_at_end : IsAs a held k → k.clock ≡ 2 ^ 62 → why_not_own false (alone a) t ≡ Some why.ClockEnd
   votes_at_end h last = ap (λ (b : Bool). first_why false false b (no_room a.sizes.area (24 + 0 + 0) (24 + 0 + (4 * part_cells (a.holder.lives t) + 4)))) (eq-eqb a.holder.clock clock_end (h.clock ∙ last))
@@ -133,7 +108,7 @@ module _ {V : Type 0} (a : Alone) (held : Contents) (k : ServerState V) (turn : 
     write_tried : (stamp : Stamp) (acts : List Act) (ds : List Deed) → flat_map (act_deeds (alone a) (event.Call turn.client a.ids.epoch turn.number (call.Finish t true))) acts ≡ Decides stamp [] ∷ ds
         → tried (alone a) (finish_entry acts) ≡ Finishes t ∷ Decides stamp [] ∷ ds
     write_tried stamp acts ds brings =
-        let y : IsLive k.locks.held (a.locked t) t l (a.holder.lives t) = live_there k.locks.held (a.locked t) t (map.get k.lives t) (a.holder.lives t) l live (h.lives t) in
+        let y : IsLive a.holder.cells k.locks.held (a.locked t) t l (a.holder.lives t) = live_there a.holder.cells k.locks.held (a.locked t) t (map.get k.lives t) (a.holder.lives t) l live (h.lives t) in
         let pair : IsPaired (Some y.life) (a.fates t) = subst (λ (x : Option Life). IsPaired x (a.fates t)) y.is (h.quiet.paired t) in
         let runs : a.fates t ≡ Running turn.client [] = pair.0 ∙ ap (λ (n : ℕ). Running n []) (y.alike.client ∙ own) in
         call_tried a turn.client turn.number (IsSession.told (turn_session a held k turn h is)) (call.Finish t true) r acts (IsSession.is (turn_session a held k turn h is)) (turn_next a held k turn h is)
@@ -150,13 +125,12 @@ module _ {V : Type 0} (a : Alone) (held : Contents) (k : ServerState V) (turn : 
         → IsWritten l.part.intents (record { epoch = k.epoch; clock = k.clock + 1 }) held c
         → c ≡ said_by (alone a) (finish_entry acts)
     write_said acts ds c brings idle w =
-        let y : IsLive k.locks.held (a.locked t) t l (a.holder.lives t) = live_there k.locks.held (a.locked t) t (map.get k.lives t) (a.holder.lives t) l live (h.lives t) in
+        let y : IsLive a.holder.cells k.locks.held (a.locked t) t l (a.holder.lives t) = live_there a.holder.cells k.locks.held (a.locked t) t (map.get k.lives t) (a.holder.lives t) l live (h.lives t) in
         let es : List Edit = y.life.edits in
         let stamp : Stamp = record { ts = k.clock + 1; trans = t } in
         let clock : max a.holder.clock (k.clock + 1) ≡ k.clock + 1 = omega (arith, h.clock) in
         let cells : c.cells ≡ edits_map es a.holder.cells =
-        same_cells c.cells (edits_map es a.holder.cells)
-        (w.cells ∙ (λ i q. y.alike.intents (map.get held.cells) i q) ∙ ap (after es) (over_empty (map.get held.cells)) ∙ ap (λ (m : Cells). after es (map.get m)) (h.cells up) ∙ sym (get-edits_map es a.holder.cells)) in
+        w.cells ∙ same_change held.cells l.part es (covered_puts y.life.held es y.alike.covered) y.alike.intents ∙ ap (edits_map es) (h.cells up) in
         let notes : c.notes ≡ clock_notes (record { epoch = a.ids.epoch; clock = max a.holder.clock (k.clock + 1) }) =
         w.notes ∙ put_more a held k (k.clock + 1) h up ∙ (λ i. clock_notes (record { epoch = sym h.epoch i; clock = sym clock i })) in
         let made : c ≡ stored_by a.ids.epoch (commits a.holder stamp (Some y.life)) = (λ i. record { cells = cells i; notes = notes i }) in
@@ -185,24 +159,23 @@ module _ {V : Type 0} (a : Alone) (before now : ℕ) (held then : Contents) (k :
   committed_kept = record (without_trans k t) { sessions = counted_in k.sessions turn; clock = k.clock + 1; committed = k.committed + 1; vault = v }
 
   pub commit_stepped : (x : Answer) → IsAs a held k → IsTurn k.sessions turn → k.is_down ≡ false → k.locks.waiting ≡ [] → k.clock < 2 ^ 62 → t.server ≡ k.server → map.get k.lives t ≡ Some l → l.client ≡ turn.client
-      → 4 * l.bounds.puts + 28 ≤ k.sizes.area → map.get then.cells ≡ over l.part.intents (map.get held.cells) → then.notes ≡ map.insert held.notes clock_name (clock_form.spell (record { epoch = k.epoch; clock = k.clock + 1 }))
+      → IsWithin k.sizes l → then.cells ≡ edits_map (edits_of (change_of l.part.intents)) held.cells → then.notes ≡ map.insert held.notes clock_name (clock_form.spell (record { epoch = k.epoch; clock = k.clock + 1 }))
       → x ≡ record { kept = Some (reply.Committed stamp_at); handed = Some (reply.Committed stamp_at); acts = act.Decided stamp_at [] ∷ act.Released t ∷ [] }
       → Stepped a before now then committed_kept (event.Call turn.client k.epoch turn.number (call.Finish t true)) x
   commit_stepped x h is up alone early here live own room cells notes so =
       let s : IsSession turn.session (a.sessions turn.client) = turn_session a held k turn h is in
-      let y : IsLive k.locks.held (a.locked t) t l (a.holder.lives t) = live_there k.locks.held (a.locked t) t (map.get k.lives t) (a.holder.lives t) l live (h.lives t) in
+      let y : IsLive a.holder.cells k.locks.held (a.locked t) t l (a.holder.lives t) = live_there a.holder.cells k.locks.held (a.locked t) t (map.get k.lives t) (a.holder.lives t) l live (h.lives t) in
       let es : List Edit = y.life.edits in
       let m : Alone = with_commit a turn.client turn.number s.told t y.life in
       let stamp : Stamp = record { ts = a.holder.clock + 1; trans = t } in
-      let leads = commit_leads a turn.client turn.number s.told t y.life h.quiet (h.down ∙ up) s.is (turn_next a held k turn h is) (here ∙ sym h.server) (drawn_live a held k t y.life h y.is).1 y.is (y.alike.client ∙ own)
+      let leads = commit_leads a turn.client turn.number s.told t y.life h.quiet (h.down ∙ up) s.is (turn_next a held k turn h is) (here ∙ sym h.server) (drawn_live a held k t y.life h y.is).now y.is (y.alike.client ∙ own)
       (votes_for a held k t l h early live room) in
       let same_stamp : stamp_at ≡ stamp = λ i. record { ts = sym h.clock i + 1; trans = t } in
       let last : m.holder.applied ≡ a.holder.applied ++ (stamp, record { stamp = stamp; who = y.life.who; calls = y.life.calls }) ∷ [] =
       put-last a.holder.applied stamp (record { stamp = stamp; who = y.life.who; calls = y.life.calls }) a.holder.clock h.earlier (omega arith) in
       let clock : max a.holder.clock (a.holder.clock + 1) ≡ k.clock + 1 = omega (arith, h.clock) in
       let same : then.cells ≡ edits_map es a.holder.cells =
-      same_cells then.cells (edits_map es a.holder.cells)
-      (cells ∙ (λ i q. y.alike.intents (map.get held.cells) i q) ∙ ap (after es) (over_empty (map.get held.cells)) ∙ ap (λ (c : Cells). after es (map.get c)) (h.cells up) ∙ sym (get-edits_map es a.holder.cells)) in
+      cells ∙ same_change held.cells l.part es (covered_puts y.life.held es y.alike.covered) y.alike.intents ∙ ap (edits_map es) (h.cells up) in
       stepped_so a before now held then k committed_kept turn.client turn.number s.told (call.Finish t true) false (reply.Committed stamp) (act.Decided stamp [] ∷ act.Released t ∷ []) m x
       (so ∙ ap (λ (z : Stamp). record { kept = Some (reply.Committed z); handed = Some (reply.Committed z); acts = act.Decided z [] ∷ act.Released t ∷ [] }) same_stamp) h leads
       (record {
@@ -215,7 +188,8 @@ module _ {V : Type 0} (a : Alone) (before now : ℕ) (held then : Contents) (k :
         places = places_set k.sessions turn.client (record turn.session { last = turn.number }) h.places;
         sessions = sessions_as a.sessions k.sessions turn.client (record s.told { last = turn.number; reply = reply.Committed stamp }) (record turn.session { last = turn.number }) h.sessions h.places is.client s.who refl;
         dead = h.dead;
-        lives = gone_alike a held k t alone h;
+        lives = commit_alike a held k h t l live y.life y.is y.alike alone;
+        room = commit_room a held k h t l live y.life y.is y.alike;
         unborn = gone_unborn a held k t h;
         drawn = h.drawn;
         begun = h.begun;
@@ -235,7 +209,7 @@ module _ {V : Type 0} (a : Alone) (before now : ℕ) (held then : Contents) (k :
 
   -- what the one write of it would leave is what its answer would bring about
   pub commit_might : (Rose before now → ⊥) → IsAs a held k → IsTurn k.sessions turn → k.is_down ≡ false → k.locks.waiting ≡ [] → k.clock < 2 ^ 62 → t.server ≡ k.server → map.get k.lives t ≡ Some l → l.client ≡ turn.client
-      → 4 * l.bounds.puts + 28 ≤ k.sizes.area → IsWritten l.part.intents (record { epoch = k.epoch; clock = k.clock + 1 }) held then
+      → IsWithin k.sizes l → IsWritten l.part.intents (record { epoch = k.epoch; clock = k.clock + 1 }) held then
       → MightBring (alone a) (event.Call turn.client k.epoch turn.number (call.Finish t true)) then
   commit_might none h is up idle early here live own room w =
       let acts : List Act = act.Decided stamp_at [] ∷ act.Released t ∷ [] in
@@ -273,6 +247,7 @@ halted_as a m held then k v ds is h =
       sessions = h.sessions;
       dead = h.dead;
       lives = h.lives;
+      room = h.room;
       unborn = h.unborn;
       drawn = h.drawn;
       begun = h.begun;
@@ -304,16 +279,16 @@ module _ {V : Type 0} (a : Alone) (before now : ℕ) (held then : Contents) (k :
   IsStopAct = (z ≡ act.Stopped) ⊎ (z ≡ act.Failed)
 
   pub commit_halt_stepped : (l : Live) (x : Answer) → IsStopAct → IsAs a held k → IsTurn k.sessions turn → k.is_down ≡ false → k.clock < 2 ^ 62 → t.server ≡ k.server → map.get k.lives t ≡ Some l → l.client ≡ turn.client
-      → 4 * l.bounds.puts + 28 ≤ k.sizes.area
+      → IsWithin k.sizes l
       → x ≡ record { kept = Some (reply.Refused refusal.Down); handed = Some (reply.Refused refusal.Down); acts = act.Decided (record { ts = k.clock + 1; trans = t }) [] ∷ z ∷ [] }
       → Stepped a before now then (record k { is_down = true; vault = v }) (event.Call turn.client k.epoch turn.number (call.Finish t true)) x
   commit_halt_stepped l x stop h is up early here live own room so =
       let s : IsSession turn.session (a.sessions turn.client) = turn_session a held k turn h is in
-      let y : IsLive k.locks.held (a.locked t) t l (a.holder.lives t) = live_there k.locks.held (a.locked t) t (map.get k.lives t) (a.holder.lives t) l live (h.lives t) in
+      let y : IsLive a.holder.cells k.locks.held (a.locked t) t l (a.holder.lives t) = live_there a.holder.cells k.locks.held (a.locked t) t (map.get k.lives t) (a.holder.lives t) l live (h.lives t) in
       let acts : List Act = act.Decided (record { ts = a.holder.clock + 1; trans = t }) [] ∷ z ∷ [] in
       let e : Entry = call_entry a turn.client turn.number s.told (call.Finish t true) (reply.Refused refusal.Down) acts in
       stepped_so a before now held then k (record k { is_down = true; vault = v }) turn.client turn.number s.told (call.Finish t true) false (reply.Refused refusal.Down) acts (with_halt a turn.client turn.number s.told e) x
       (so ∙ ap (λ (n : ℕ). record { kept = Some (reply.Refused refusal.Down); handed = Some (reply.Refused refusal.Down); acts = act.Decided (record { ts = n + 1; trans = t }) [] ∷ z ∷ [] }) (sym h.clock)) h
-      (commit_halt_leads a turn.client turn.number s.told t y.life z stop h.quiet (h.down ∙ up) s.is (turn_next a held k turn h is) (here ∙ sym h.server) (drawn_live a held k t y.life h y.is).1 y.is (y.alike.client ∙ own)
+      (commit_halt_leads a turn.client turn.number s.told t y.life z stop h.quiet (h.down ∙ up) s.is (turn_next a held k turn h is) (here ∙ sym h.server) (drawn_live a held k t y.life h y.is).now y.is (y.alike.client ∙ own)
       (votes_for a held k t l h early live room))
       (halted_as a (with_halt a turn.client turn.number s.told e) held then k v (tried (alone a) e) refl h) (λ w. cc) (stands_timely a.holder.clock 0 k.clock h.clock)

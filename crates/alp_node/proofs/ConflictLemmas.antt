@@ -50,6 +50,7 @@ use Rattle.alp_node.specs.declared.lives.Live.{Live}
 use Rattle.alp_node.proofs.LockLemmas.{itself, asks_right}
 use Rattle.alp_node.proofs.MapLemmas.{tied_same}
 use Rattle.alp_node.proofs.ReadyLemmas.{turned}
+use Rattle.alp_files.specs.Cells.{Cells}
 
 -- ---- lists whose keys rise
 
@@ -258,9 +259,9 @@ module _ (parts : Holders) (t : TransId) (id : FileId) where
 -- ---- as the journal tells it
 
 -- what others hold
-pub held_elsewhere : (locks : Holders) (rs : List Resource) (u : TransId) (y : Option Live) (m : Life) → IsAlike locks rs u y (Some m) → (q : Resource) → m.held q ≡ holding locks u q
-held_elsewhere locks rs u None m wrong q = absurd wrong
-held_elsewhere locks rs u (Some z) m life q = life.held q
+pub held_elsewhere : (cells : Cells) (locks : Holders) (rs : List Resource) (u : TransId) (y : Option Live) (m : Life) → IsAlike cells locks rs u y (Some m) → (q : Resource) → m.held q ≡ holding locks u q
+held_elsewhere cells locks rs u None m wrong q = absurd wrong
+held_elsewhere cells locks rs u (Some z) m life q = life.held q
 
 -- who holds a lock is live
 record HasLife (locks : Holders) (u : TransId) (x : Option Life) : Type 0 where
@@ -268,13 +269,13 @@ record HasLife (locks : Holders) (u : TransId) (x : Option Life) : Type 0 where
   is : x ≡ Some life
   held : (q : Resource) → life.held q ≡ holding locks u q
 
-holder_lives : (locks : Holders) (rs : List Resource) (u : TransId) (y : Option Live) (x : Option Life) → IsAlike locks rs u y x → (r : Resource) (b : Option Mode) → agree_held (holding locks u r) b ≡ false → HasLife locks u x
-holder_lives locks rs u None None alike r b e = let wrong : true ≡ false = ap (λ (z : Option Mode). agree_held z b) (sym (alike r)) ∙ e in cc
-holder_lives locks rs u (Some l) (Some life) alike r b e = record { life = life; is = refl; held = alike.held }
-holder_lives locks rs u None (Some life) alike r b e = absurd alike
-holder_lives locks rs u (Some l) None alike r b e = absurd alike
+holder_lives : (cells : Cells) (locks : Holders) (rs : List Resource) (u : TransId) (y : Option Live) (x : Option Life) → IsAlike cells locks rs u y x → (r : Resource) (b : Option Mode) → agree_held (holding locks u r) b ≡ false → HasLife locks u x
+holder_lives cells locks rs u None None alike r b e = let wrong : true ≡ false = ap (λ (z : Option Mode). agree_held z b) (sym (alike r)) ∙ e in cc
+holder_lives cells locks rs u (Some l) (Some life) alike r b e = record { life = life; is = refl; held = alike.held }
+holder_lives cells locks rs u None (Some life) alike r b e = absurd alike
+holder_lives cells locks rs u (Some l) None alike r b e = absurd alike
 
-module _ {V : Type 0} (a : Alone) (held : Contents) (k : ServerState V) (t : TransId) (l : Live) (life : Life) (c : Call) (h : IsAs a held k) (mine : IsLife k.locks.held (a.locked t) t l life) (kind : IsLockCall c) where
+module _ {V : Type 0} (a : Alone) (held : Contents) (k : ServerState V) (t : TransId) (l : Live) (life : Life) (c : Call) (h : IsAs a held k) (mine : IsLife a.holder.cells k.locks.held (a.locked t) t l life) (kind : IsLockCall c) where
   -- what the part would hold is what the table's plan leaves
   pub would_hold : (q : Resource) → held_for a.holder life c q ≡ map.get (then_held k.locks.held t (asks_of c)) q
   would_hold q =
@@ -283,12 +284,12 @@ module _ {V : Type 0} (a : Alone) (held : Contents) (k : ServerState V) (t : Tra
 
   in_way : (r : Resource) (u : TransId) → Disagrees k.locks.held t (asks_of c) r u → IsInWay a.holder t life c r u
   in_way r u d =
-      let x : HasLife k.locks.held u (a.holder.lives u) = holder_lives k.locks.held (a.locked u) u (map.get k.lives u) (a.holder.lives u) (h.lives u) r (map.get (then_held k.locks.held t (asks_of c)) r) d.1 in
+      let x : HasLife k.locks.held u (a.holder.lives u) = holder_lives a.holder.cells k.locks.held (a.locked u) u (map.get k.lives u) (a.holder.lives u) (h.lives u) r (map.get (then_held k.locks.held t (asks_of c)) r) d.1 in
       record { life = x.life; live = x.is; other = turned t u (sym (tied_same t u) ∙ d.0); disagree = (λ i. agree_held (x.held r i) (would_hold r i)) ∙ d.1 }
 
   disagrees : (r : Resource) (u : TransId) → IsInWay a.holder t life c r u → Disagrees k.locks.held t (asks_of c) r u
   disagrees r u w =
-      let is : w.life.held r ≡ holding k.locks.held u r = held_elsewhere k.locks.held (a.locked u) u (map.get k.lives u) w.life (subst (λ (y : Option Life). IsAlike k.locks.held (a.locked u) u (map.get k.lives u) y) w.live (h.lives u)) r in
+      let is : w.life.held r ≡ holding k.locks.held u r = held_elsewhere a.holder.cells k.locks.held (a.locked u) u (map.get k.lives u) w.life (subst (λ (y : Option Life). IsAlike a.holder.cells k.locks.held (a.locked u) u (map.get k.lives u) y) w.live (h.lives u)) r in
       (tied_same t u ∙ turned u t w.other, (λ i. agree_held (sym is i) (sym (would_hold r) i)) ∙ w.disagree)
 
   -- who is named is the least in the way on the first resource

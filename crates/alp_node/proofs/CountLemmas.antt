@@ -1,24 +1,32 @@
 -- what is counted of live transactions, and what is counted of all ids that were drawn
-use Rattle.std.specs.Prelude.{cond, Bool, true, false, Option, None, Some, is_some, sum_by, filter, map as list_map}
+use Rattle.std.specs.Prelude.{cond, Bool, true, false, Option, None, Some, is_some, sum_by, filter}
 use Rattle.std.specs.FinMap as map
 use Rattle.std.specs.FinMap.{same_map, len-entries}
-use Rattle.std.proofs.Common.{◌≡◌, ℕ, zero, suc, ◌+◌, ◌≤◌, List, [], ◌∷◌, ◌++◌, length, refl, sym, ◌∙◌, ap, arith}
+use Rattle.std.proofs.Common.{◌≡◌, ℕ, zero, suc, ◌+◌, ◌<◌, ◌≤◌, List, [], ◌∷◌, ◌++◌, length, refl, sym, ◌∙◌, ap, arith, ◌⊎◌, inl, inr}
+use Rattle.std.proofs.lemmas.Bool.Decides.{leb_tells}
+use Rattle.std.proofs.Math.Dec.{leb}
 use Rattle.std.proofs.lemmas.List.Sums.{sum_by-cons}
 use Rattle.alp_base.specs.declared.ids.TransId.{TransId}
 use Rattle.alp_base.specs.Orders.{trans_cmp, transactions_total, exact_transactions}
-use Rattle.alp_files.proofs.SumLemmas.{weight_at, sum-insert}
+use Rattle.alp_files.proofs.SumLemmas.{weight_at, sum-insert, sum_of-nothing}
 use Rattle.alp_journal.specs.Ids.{same_trans}
 use Rattle.alp_journal.proofs.IdLemmas.{same_trans-true, same_trans-itself}
-use Rattle.alp_node.specs.Bounded.{sum_of}
-use Rattle.alp_node.specs.Rooms.{totals_from}
 use Rattle.alp_node.specs.ServerState.{trans_to}
-use Rattle.alp_node.specs.declared.bounds.Bounds.{Bounds}
-use Rattle.alp_node.specs.declared.lives.Live.{Live}
 use Rattle.alp_node.proofs.MapLemmas.{get_put, get_gone}
 
 -- an id of this server and epoch
 abbrev pub id_at : ℕ → ℕ → ℕ → TransId
 id_at server epoch n = record { server = server; epoch = epoch; counter = n }
+
+-- it is one of those up to a counter
+pub record IsUpTo (server epoch n : ℕ) (t : TransId) : Type 0 where
+  pub here : t.server ≡ server
+  pub now : t.epoch ≡ epoch
+  pub some : 0 < t.counter
+  pub low : t.counter ≤ n
+
+none_up_to : (server epoch : ℕ) (t : TransId) → IsUpTo server epoch 0 t → ⊥
+none_up_to server epoch t h = absurd (omega (arith, h.some, h.low))
 
 -- what all ids up to a counter weigh
 abbrev pub sum_to : (TransId → ℕ) → ℕ → ℕ → ℕ → ℕ
@@ -32,10 +40,6 @@ same_to f g server epoch (suc n) same =
     let last : f (id_at server epoch (suc n)) ≡ g (id_at server epoch (suc n)) = same (suc n) (omega arith) in
     omega (arith, before, last)
 
-pub less_to : (f g : TransId → ℕ) (server epoch n : ℕ) → ((t : TransId) → f t ≤ g t) → sum_to f server epoch n ≤ sum_to g server epoch n
-less_to f g server epoch zero less = omega arith
-less_to f g server epoch (suc n) less = omega (arith, less_to f g server epoch n less, less (id_at server epoch (suc n)))
-
 -- one of a map's values weighed, if it is there
 abbrev pub weigh : {X : Type 0} → (X → ℕ) → Option X → ℕ
 weigh g None = 0
@@ -46,7 +50,7 @@ module _ {X : Type 0} (g : X → ℕ) where
   all_in m = sum_by (λ (e : TransId × X). g e.1) (map.entries m)
 
   -- with one taken out the others are left
-  taken : (m : map.FinMap trans_cmp X) (t : TransId) (x : X) → map.get m t ≡ Some x → all_in (map.remove m t) + g x ≡ all_in m
+  pub taken : (m : map.FinMap trans_cmp X) (t : TransId) (x : X) → map.get m t ≡ Some x → all_in (map.remove m t) + g x ≡ all_in m
   taken m t x there =
       let back : map.insert (map.remove m t) t x ≡ m = same_map transactions_total exact_transactions _ _ (λ u. get_put (map.remove m t) t x u ∙ ap (cond {A = Option X} (same_trans u t) (Some x)) (get_gone m t u) ∙ go u (same_trans u t) refl) in
       let none : map.get (map.remove m t) t ≡ None = get_gone m t t ∙ ap (λ (b : Bool). cond {A = Option X} b None (map.get m t)) (same_trans-itself t) in
@@ -66,19 +70,52 @@ module _ {X : Type 0} (g : X → ℕ) where
       go false e = refl
       go true e = (let same : i ≡ suc n = ap (λ (t : TransId). t.counter) (same_trans-true (id_at server epoch i) (id_at server epoch (suc n)) e) in absurd (omega (arith, same, le)))
 
-  -- all ids up to a counter weigh no more than all that are there
-  pub within_all : (server epoch n : ℕ) (m : map.FinMap trans_cmp X) → sum_to (λ t. weigh g (map.get m t)) server epoch n ≤ all_in m
-  within_all server epoch zero m = omega arith
-  within_all server epoch (suc n) m = go (within_all server epoch n) (map.get m (id_at server epoch (suc n))) refl
+  -- ids up to a counter weigh all that is there, where no others are there
+  pub all_of : (server epoch n : ℕ) (m : map.FinMap trans_cmp X) → ((t : TransId) (x : X) → map.get m t ≡ Some x → IsUpTo server epoch n t) → sum_to (λ t. weigh g (map.get m t)) server epoch n ≡ all_in m
+  all_of server epoch zero m only = sym (sum_of-nothing transactions_total exact_transactions (λ (e : TransId × X). g e.1) m (λ t x is. absurd (none_up_to server epoch t (only t x is))))
+  all_of server epoch (suc n) m only = go (all_of server epoch n) (map.get m (id_at server epoch (suc n))) refl
     where
-      go : ((m : map.FinMap trans_cmp X) → sum_to (λ t. weigh g (map.get m t)) server epoch n ≤ all_in m) → (o : Option X) → map.get m (id_at server epoch (suc n)) ≡ o → sum_to (λ t. weigh g (map.get m t)) server epoch n + weigh g (map.get m (id_at server epoch (suc n))) ≤ all_in m
-      go rec None e = (let nothing : weigh g (map.get m (id_at server epoch (suc n))) ≡ 0 = ap (weigh g) e in omega (arith, nothing, rec m))
+      last : TransId
+      last = id_at server epoch (suc n)
+
+      -- another than the last is one of those before it
+      before_last : (t : TransId) → same_trans t last ≡ false → IsUpTo server epoch (suc n) t → IsUpTo server epoch n t
+      before_last t away h = record { here = h.here; now = h.now; some = h.some; low = le_of_other n t.counter h.low (λ e. is_last t away h e) }
+        where
+          is_last : (t : TransId) → same_trans t last ≡ false → IsUpTo server epoch (suc n) t → t.counter ≡ suc n → ⊥
+          is_last t away h e =
+              let one : t ≡ last = (λ i. record { server = h.here i; epoch = h.now i; counter = e i }) in
+              let wrong : true ≡ false = sym (ap (λ (u : TransId). same_trans u last) one ∙ same_trans-itself last) ∙ away in
+              cc
+
+          le_of_other : (n c : ℕ) → c ≤ suc n → (c ≡ suc n → ⊥) → c ≤ n
+          le_of_other n c low other = which (leb_tells c n)
+            where
+              which : ((leb c n ≡ true) × (c ≤ n)) ⊎ ((leb c n ≡ false) × (n < c)) → c ≤ n
+              which (inl le) = le.1
+              which (inr gt) = absurd (other (omega (arith, low, gt.1)))
+
+      go : ((m : map.FinMap trans_cmp X) → ((t : TransId) (x : X) → map.get m t ≡ Some x → IsUpTo server epoch n t) → sum_to (λ t. weigh g (map.get m t)) server epoch n ≡ all_in m)
+          → (o : Option X) → map.get m last ≡ o → sum_to (λ t. weigh g (map.get m t)) server epoch n + weigh g (map.get m last) ≡ all_in m
+      go rec None e =
+          let nothing : weigh g (map.get m last) ≡ 0 = ap (weigh g) e in
+          let rest : sum_to (λ t. weigh g (map.get m t)) server epoch n ≡ all_in m = rec m (λ t x is. before_last t (apart t x is (same_trans t last) refl) (only t x is)) in
+          omega (arith, nothing, rest)
+        where
+          apart : (t : TransId) (x : X) → map.get m t ≡ Some x → (b : Bool) → same_trans t last ≡ b → b ≡ false
+          apart t x is false f = refl
+          apart t x is true f = let wrong : None ≡ Some x = sym e ∙ ap (map.get m) (sym (same_trans-true t last f)) ∙ is in cc
       go rec (Some x) e =
-          let last : weigh g (map.get m (id_at server epoch (suc n))) ≡ g x = ap (weigh g) e in
-          let rest : sum_to (λ t. weigh g (map.get (map.remove m (id_at server epoch (suc n))) t)) server epoch n ≤ all_in (map.remove m (id_at server epoch (suc n))) = rec (map.remove m (id_at server epoch (suc n))) in
-          let same : sum_to (λ t. weigh g (map.get (map.remove m (id_at server epoch (suc n))) t)) server epoch n ≡ sum_to (λ t. weigh g (map.get m t)) server epoch n =
-          same_to (λ t. weigh g (map.get (map.remove m (id_at server epoch (suc n))) t)) (λ t. weigh g (map.get m t)) server epoch n (λ i le. ap (weigh g) (other m server epoch n i le)) in
-          omega (arith, last, rest, same, taken m (id_at server epoch (suc n)) x e)
+          let at_last : weigh g (map.get m last) ≡ g x = ap (weigh g) e in
+          let rest : sum_to (λ t. weigh g (map.get (map.remove m last) t)) server epoch n ≡ all_in (map.remove m last) =
+          rec (map.remove m last) (λ t y is. narrow t y (same_trans t last) refl (sym (get_gone m last t) ∙ is)) in
+          let same : sum_to (λ t. weigh g (map.get (map.remove m last) t)) server epoch n ≡ sum_to (λ t. weigh g (map.get m t)) server epoch n =
+          same_to (λ t. weigh g (map.get (map.remove m last) t)) (λ t. weigh g (map.get m t)) server epoch n (λ i le. ap (weigh g) (other m server epoch n i le)) in
+          omega (arith, at_last, rest, same, taken m last x e)
+        where
+          narrow : (t : TransId) (y : X) (b : Bool) → same_trans t last ≡ b → cond {A = Option X} b None (map.get m t) ≡ Some y → IsUpTo server epoch n t
+          narrow t y true f is = let wrong : None ≡ Some y = is in cc
+          narrow t y false f is = before_last t f (only t y is)
 
 -- how many pass, one more tried
 filter_more : (p : TransId → Bool) (xs : List TransId) (x : TransId) → length (filter p (xs ++ x ∷ [])) ≡ length (filter p xs) + cond (p x) 1 0
@@ -101,24 +138,43 @@ ones : {A : Type 0} (es : List A) → sum_by (λ (e : A). 1) es ≡ length es
 ones [] = refl
 ones (e ∷ es) = omega (arith, sum_by-cons (λ _. 1) e es, ones es)
 
--- so many pass as there are at most, where each that passes is there
-pub few_pass : {X : Type 0} (p : TransId → Bool) (server epoch n : ℕ) (m : map.FinMap trans_cmp X) → ((t : TransId) → p t ≡ true → is_some (map.get m t) ≡ true) → length (filter p (trans_to server epoch n)) ≤ map.len m
-few_pass {X} p server epoch n m there =
+-- just so many pass as there are, where just those that pass are there
+pub count_pass : {X : Type 0} (p : TransId → Bool) (server epoch n : ℕ) (m : map.FinMap trans_cmp X) → ((t : TransId) (x : X) → map.get m t ≡ Some x → IsUpTo server epoch n t) → ((t : TransId) → p t ≡ is_some (map.get m t))
+    → length (filter p (trans_to server epoch n)) ≡ map.len m
+count_pass {X} p server epoch n m only there =
     let all : all_in (λ (x : X). 1) m ≡ map.len m = ones (map.entries m) ∙ sym (len-entries m) in
-    omega (arith, all, filter_to p server epoch n, within_all (λ (x : X). 1) server epoch n m, less_to (λ t. cond (p t) 1 0) (λ t. weigh (λ (x : X). 1) (map.get m t)) server epoch n (λ t. go t (p t) refl (map.get m t) (there t)))
+    let same : sum_to (λ t. cond (p t) 1 0) server epoch n ≡ sum_to (λ t. weigh (λ (x : X). 1) (map.get m t)) server epoch n =
+    same_to (λ t. cond (p t) 1 0) (λ t. weigh (λ (x : X). 1) (map.get m t)) server epoch n (λ i le. ap (λ (b : Bool). cond b 1 0) (there (id_at server epoch i)) ∙ one_of (map.get m (id_at server epoch i))) in
+    omega (arith, all, filter_to p server epoch n, all_of (λ (x : X). 1) server epoch n m only, same)
   where
-    go : (t : TransId) (b : Bool) → p t ≡ b → (o : Option X) → (p t ≡ true → is_some o ≡ true) → cond b 1 0 ≤ weigh (λ (x : X). 1) o
-    go t false e o h = omega arith
-    go t true e (Some x) h = omega arith
-    go t true e None h = let wrong : false ≡ true = h e in cc
+    one_of : (o : Option X) → cond (is_some o) 1 0 ≡ weigh (λ (x : X). 1) o
+    one_of None = refl
+    one_of (Some x) = refl
 
--- ---- all bounds together
+-- what ids in a list come to
+abbrev pub sum_list : (TransId → ℕ) → List TransId → ℕ
+sum_list f [] = 0
+sum_list f (t ∷ ts) = f t + sum_list f ts
 
--- with those of these parts
-abbrev pub total_listed : Bounds → List Live → Bounds
-total_listed b [] = b
-total_listed b (l ∷ ls) = total_listed (sum_of b l.bounds) ls
+pub sum_append : (f : TransId → ℕ) (ts us : List TransId) → sum_list f (ts ++ us) ≡ sum_list f ts + sum_list f us
+sum_append f [] us = omega arith
+sum_append f (t ∷ ts) us = omega (arith, sum_append f ts us)
 
-pub totals_listed : (b : Bounds) (es : List (TransId × Live)) → total_listed b (list_map (λ (e : TransId × Live). e.1) es) ≡ totals_from b es
-totals_listed b [] = refl
-totals_listed b (e ∷ es) = totals_listed (sum_of b e.1.bounds) es
+sum_ids : (f : TransId → ℕ) (server epoch n : ℕ) → sum_list f (trans_to server epoch n) ≡ sum_to f server epoch n
+sum_ids f server epoch zero = refl
+sum_ids f server epoch (suc n) = omega (arith, sum_append f (trans_to server epoch n) (id_at server epoch (suc n) ∷ []), sum_ids f server epoch n)
+
+-- where those that do not pass come to nothing, those that pass come to all
+sum_pass : (f : TransId → ℕ) (p : TransId → Bool) (ts : List TransId) → ((t : TransId) → p t ≡ false → f t ≡ 0) → sum_list f (filter p ts) ≡ sum_list f ts
+sum_pass f p [] light = refl
+sum_pass f p (t ∷ ts) light = go (p t) refl (sum_pass f p ts light)
+  where
+    go : (b : Bool) → p t ≡ b → sum_list f (filter p ts) ≡ sum_list f ts → sum_list f (cond {A = List TransId} b (t ∷ filter p ts) (filter p ts)) ≡ f t + sum_list f ts
+    go true e h = omega (arith, h)
+    go false e h = omega (arith, h, light t e)
+
+-- what those come to that pass, of whom just they are there
+pub sum_there : {X : Type 0} (g : X → ℕ) (f : TransId → ℕ) (p : TransId → Bool) (server epoch n : ℕ) (m : map.FinMap trans_cmp X) → ((t : TransId) (x : X) → map.get m t ≡ Some x → IsUpTo server epoch n t)
+    → ((t : TransId) → p t ≡ false → f t ≡ 0) → ((t : TransId) → f t ≡ weigh g (map.get m t)) → sum_list f (filter p (trans_to server epoch n)) ≡ all_in g m
+sum_there {X} g f p server epoch n m only light same =
+    sum_pass f p (trans_to server epoch n) light ∙ sum_ids f server epoch n ∙ same_to f (λ t. weigh g (map.get m t)) server epoch n (λ i le. same (id_at server epoch i)) ∙ all_of g server epoch n m only

@@ -1,5 +1,5 @@
 -- greetings and begins, as the server keeps them
-use Rattle.std.specs.Prelude.{cond, Bool, true, false, ◌==◌, ◌&&◌, not, max, filter, Option, None, Some, is_some, nat_le}
+use Rattle.std.specs.Prelude.{cond, Bool, true, false, ◌==◌, ◌&&◌, not, max, filter, Option, None, Some, is_some, nat_lt, nat_le}
 use Rattle.std.specs.FinMap as map
 use Rattle.std.proofs.Common.{◌≡◌, ℕ, suc, ◌+◌, ◌<◌, ◌≤◌, List, [], ◌∷◌, ◌++◌, length, refl, sym, ◌∙◌, ap, subst, arith, eq-eqb}
 use Rattle.std.proofs.lemmas.Bool.{le-leb, leb-true, eqb-true}
@@ -7,8 +7,9 @@ use Rattle.alp_base.specs.declared.ids.Stamp.{Stamp}
 use Rattle.alp_base.specs.declared.ids.TransId.{TransId}
 use Rattle.alp_base.specs.declared.key.Key.TheVariants.{Leader}
 use Rattle.alp_base.specs.declared.key.Resource.{Resource}
-use Rattle.alp_calls.specs.Parts.{own_of}
-use Rattle.alp_calls.specs.declared.part.Part.{Part}
+use Rattle.alp_trans.specs.Counting.{AreCountsOf, no_counts}
+use Rattle.alp_trans.specs.Parts.{own_of}
+use Rattle.alp_trans.specs.declared.part.Part.{Part}
 use Rattle.alp_files.specs.Act.{no_opens}
 use Rattle.alp_files.specs.Cells.{Cells}
 use Rattle.alp_files.specs.Edits.{edits_at, over}
@@ -30,13 +31,12 @@ use Rattle.alp_journal.specs.Coordinator as fate
 use Rattle.alp_journal.specs.Holder.{Life, new_life}
 use Rattle.alp_journal.specs.Counts.{lock_set}
 use Rattle.alp_journal.specs.Moves.{next_trans}
-use Rattle.alp_journal.specs.Answers.{too_many, is_counted, count_of_transactions}
+use Rattle.alp_journal.specs.Answers.{too_many, is_counted, count_of_transactions, if_over}
 use Rattle.alp_journal.specs.Desk as desk
 use Rattle.alp_journal.specs.Alone.{Alone, alone, IsPaired, Leads}
 use Rattle.alp_journal.proofs.IdLemmas.{same_trans-true}
 use Rattle.alp_journal.proofs.AloneEnds.{hello_entry, with_hello, hello_leads}
 use Rattle.alp_journal.proofs.AloneEntries.{with_begun, begin_leads}
-use Rattle.alp_node.specs.Bounded.{no_bounds}
 use Rattle.alp_node.specs.Dead.{dead_in, without_client}
 use Rattle.alp_node.specs.Sessions.{session_at, with_session}
 use Rattle.alp_node.specs.ServerState.{IsAs, IsAlike, PutNoneBeyond, trans_to, is_beyond}
@@ -46,7 +46,11 @@ use Rattle.alp_node.specs.declared.dead.DeadPart.{DeadPart}
 use Rattle.alp_node.specs.declared.lives.Live.{Live}
 use Rattle.alp_node.specs.declared.server_state.ServerState.{ServerState}
 use Rattle.alp_node.specs.declared.sessions.Session.{Session}
-use Rattle.alp_node.proofs.CountLemmas.{few_pass}
+use Rattle.alp_node.proofs.CountLemmas.{count_pass}
+use Rattle.alp_node.proofs.LiveSums.{up_to_drawn, not_reached}
+use Rattle.alp_node.proofs.RefusalLemmas.{with_buried, begin_refused_leads}
+use Rattle.alp_node.proofs.TotalLemmas.{added_room}
+use Rattle.alp_calls.proofs.CountLaws.{counts_begin}
 use Rattle.alp_node.proofs.DeadLemmas.{none_left, others_left}
 use Rattle.alp_node.proofs.KeptLemmas.{sessions_as, no_session, IsSession, session_there, stands_timely, alike_set, each_set, none_held, earlier_more, stepped_so}
 use Rattle.alp_node.proofs.MapLemmas.{places_set, get_put}
@@ -83,6 +87,7 @@ hello_stepped a before now held k client name x h le up first is =
         sessions = sessions_as a.sessions k.sessions client (record { who = name; last = 1; reply = reply.Welcome a.ids.epoch }) w h.sessions h.places le refl refl;
         dead = h.dead;
         lives = h.lives;
+        room = h.room;
         unborn = h.unborn;
         drawn = h.drawn;
         begun = h.begun;
@@ -101,44 +106,93 @@ hello_stepped a before now held k client name x h le up first is =
 -- ---- a transaction begins
 
 -- just live transactions are counted
-counted_live : (l : Option Life) (f : Fate) → IsPaired l f → is_counted f ≡ true → is_some l ≡ true
-counted_live (Some l) f h e = refl
-counted_live None Undrawn h e = cc
-counted_live None (Running client joins) h e = absurd h
-counted_live None (Finishing client joins votes) h e = absurd h
-counted_live None (Committed stamp [] done) h e = cc
-counted_live None (Committed stamp (j ∷ joins) done) h e = cc
-counted_live None (Forgotten stamp joins) h e = absurd h
-counted_live None (Ended c) h e = cc
+counted_live : (l : Option Life) (f : Fate) → IsPaired l f → is_counted f ≡ is_some l
+counted_live (Some l) f h = ap is_counted h.0
+counted_live None Undrawn h = refl
+counted_live None (Running client joins) h = absurd h
+counted_live None (Finishing client joins votes) h = absurd h
+counted_live None (Committed stamp [] done) h = refl
+counted_live None (Committed stamp (j ∷ joins) done) h = cc
+counted_live None (Forgotten stamp joins) h = absurd h
+counted_live None (Ended c) h = refl
 
-kept_live : (locks : Holders) (rs : List Resource) (t : TransId) (o : Option Live) (x : Option Life) → IsAlike locks rs t o x → is_some x ≡ is_some o
-kept_live locks rs t None None h = refl
-kept_live locks rs t (Some l) (Some life) h = refl
-kept_live locks rs t None (Some life) h = absurd h
-kept_live locks rs t (Some l) None h = absurd h
+kept_live : (cells : Cells) (locks : Holders) (rs : List Resource) (t : TransId) (o : Option Live) (x : Option Life) → IsAlike cells locks rs t o x → is_some x ≡ is_some o
+kept_live cells locks rs t None None h = refl
+kept_live cells locks rs t (Some l) (Some life) h = refl
+kept_live cells locks rs t None (Some life) h = absurd h
+kept_live cells locks rs t (Some l) None h = absurd h
+
+-- so many are counted as are live
+pub count_live : {V : Type 0} (a : Alone) (held : Contents) (k : ServerState V) → IsAs a held k → count_of_transactions (alone a) ≡ map.len k.lives
+count_live a held k h =
+    let count : length (filter (λ t. is_counted (a.fates t)) a.begun) ≡ map.len k.lives =
+    ap (λ (ts : List TransId). length (filter (λ t. is_counted (a.fates t)) ts)) h.begun
+    ∙ count_pass (λ t. is_counted (a.fates t)) a.holder.server a.ids.epoch k.drawn k.lives (up_to_drawn a held k h)
+    (λ t. counted_live (a.holder.lives t) (a.fates t) (h.quiet.paired t) ∙ kept_live a.holder.cells k.locks.held (a.locked t) t (map.get k.lives t) (a.holder.lives t) (h.lives t)) in
+    omega (arith, count)
 
 -- fewer than 64 are live
-pub few_live : {V : Type 0} (a : Alone) (held : Contents) (k : ServerState V) → IsAs a held k → map.len k.lives < 64 → too_many (alone a) ≡ None
+few_live : {V : Type 0} (a : Alone) (held : Contents) (k : ServerState V) → IsAs a held k → map.len k.lives < 64 → too_many (alone a) ≡ None
 few_live a held k h few =
-    let count : length (filter (λ t. is_counted (a.fates t)) a.begun) ≤ map.len k.lives =
-    subst (λ (ts : List TransId). length (filter (λ t. is_counted (a.fates t)) ts) ≤ map.len k.lives) (sym h.begun)
-    (few_pass (λ t. is_counted (a.fates t)) a.holder.server a.ids.epoch k.drawn k.lives
-    (λ t passes. sym (kept_live k.locks.held (a.locked t) t (map.get k.lives t) (a.holder.lives t) (h.lives t)) ∙ counted_live (a.holder.lives t) (a.fates t) (h.quiet.paired t) passes)) in
-    ap (λ (b : Bool). cond {A = Option Refusal} b (Some (refusal.TooMany what.Transactions 64)) None) (over 64 (count_of_transactions (alone a)) (omega (arith, count, few)))
-  where
-    over : (m n : ℕ) → n < m → nat_le m n ≡ false
-    over m n less = go (nat_le m n) refl
-      where
-        go : (b : Bool) → nat_le m n ≡ b → b ≡ false
-        go false e = refl
-        go true e = (let wrong : m ≤ n = leb-true m n e in absurd (omega (arith, wrong, less)))
+    ap (λ (b : Bool). if_over b (refusal.TooMany what.Transactions 64)) (ap (nat_le 64) (count_live a held k h) ∙ not_reached 64 (map.len k.lives) few)
+
+-- as many are live as may be
+many_live : {V : Type 0} (a : Alone) (held : Contents) (k : ServerState V) → IsAs a held k → 64 ≤ map.len k.lives → too_many (alone a) ≡ Some (refusal.TooMany what.Transactions 64)
+many_live a held k h many =
+    ap (λ (b : Bool). if_over b (refusal.TooMany what.Transactions 64)) (ap (nat_le 64) (count_live a held k h) ∙ le-leb 64 (map.len k.lives) many)
+
+module _ {V : Type 0} (a : Alone) (held : Contents) (k : ServerState V) (client number : ℕ) (w : Session) (seen : Stamp) where
+  -- nobody's dead part of the client is left
+  buried : (ds : List DeadPart) (d : ℕ) (u : TransId) → cond {A = Option Cause} (d == client) None (dead_in ds d u) ≡ dead_in (without_client client ds) d u
+  buried ds d u = go (d == client) refl
+    where
+      go : (b : Bool) → (d == client) ≡ b → cond {A = Option Cause} b None (dead_in ds d u) ≡ dead_in (without_client client ds) d u
+      go true e = ap (λ (b : Bool). cond {A = Option Cause} b (Some cause.TimedOut) None) (sym (none_left ds d client u (eqb-true d client e)))
+      go false e = ap (λ (b : Bool). cond {A = Option Cause} b (Some cause.TimedOut) None) (sym (others_left ds d client u e))
+
+  -- as many are live as may be: the begin is refused, and the client's dead parts go
+  pub begin_refused_stepped : (before now : ℕ) (x : Answer) → IsAs a held k → client ≤ 16 → k.is_down ≡ false → session_at k.sessions client ≡ Some w → number ≡ w.last + 1 → 64 ≤ map.len k.lives
+      → x ≡ record { kept = Some (reply.Refused (refusal.TooMany what.Transactions 64)); handed = Some (reply.Refused (refusal.TooMany what.Transactions 64)); acts = [] }
+      → Stepped a before now held (record k { sessions = with_session k.sessions client (record w { last = number }); dead = without_client client k.dead }) (event.Call client k.epoch number (call.Begin seen)) x
+  begin_refused_stepped before now x h le up there turn many is =
+      let s : IsSession w (a.sessions client) = session_there w (a.sessions client) (h.sessions client ∙ there) in
+      let v : desk.Session = s.told in
+      let f : Refusal = refusal.TooMany what.Transactions 64 in
+      let leads = begin_refused_leads a client number v seen f h.quiet (h.down ∙ up) s.is (turn ∙ ap (λ (n : ℕ). n + 1) (sym s.last)) (many_live a held k h many) in
+      stepped_so a before now held held k (record k { sessions = with_session k.sessions client (record w { last = number }); dead = without_client client k.dead }) client number v (call.Begin seen) false (reply.Refused f) []
+      (with_buried a client number v f) x is h leads
+      (record {
+        server = h.server;
+        sizes = h.sizes;
+        epoch = h.epoch;
+        clock = h.clock;
+        cells = h.cells;
+        notes = h.notes;
+        places = places_set k.sessions client (record w { last = number }) h.places;
+        sessions = sessions_as a.sessions k.sessions client (record v { last = number; reply = reply.Refused f }) (record w { last = number }) h.sessions h.places le s.who refl;
+        dead = λ d u. ap (cond {A = Option Cause} (d == client) None) (h.dead d u) ∙ buried k.dead d u;
+        lives = h.lives;
+        room = h.room;
+        unborn = h.unborn;
+        drawn = h.drawn;
+        begun = h.begun;
+        undrawn = h.undrawn;
+        files = h.files;
+        made = h.made;
+        born = h.born;
+        earlier = h.earlier;
+        committed = h.committed;
+        quiet = leads.quiet;
+        down = sym up;
+      })
+      (λ e. cc) (omega (arith, h.clock))
 
 module _ {V : Type 0} (a : Alone) (held : Contents) (k : ServerState V) (client number : ℕ) (w : Session) (seen : Stamp) (p : Part) where
   abbrev pub begun_trans : TransId
   begun_trans = record { server = k.server; epoch = k.epoch; counter = k.drawn + 1 }
 
   abbrev pub begun_live : Live
-  begun_live = record { client = client; who = w.who; part = p; bounds = no_bounds }
+  begun_live = record { client = client; who = w.who; part = p; locks = 0 }
 
   abbrev pub with_begun_kept : Table → ServerState V
   with_begun_kept locks = record k {
@@ -153,25 +207,32 @@ module _ {V : Type 0} (a : Alone) (held : Contents) (k : ServerState V) (client 
   trans_same : IsAs a held k → next_trans (alone a) ≡ begun_trans
   trans_same h = λ i. record { server = h.server i; epoch = h.epoch i; counter = h.drawn i + 1 }
 
-  begun_alike : (v : desk.Session) (locks : Holders) → v.who ≡ w.who → map.get k.lives begun_trans ≡ None → ((u : TransId) (r : Resource) → holding locks u r ≡ holding k.locks.held u r) → own_of p ≡ no_opens → p.intents ≡ map.empty → IsAs a held k
-      → (u : TransId) → IsAlike locks (lock_set a.locked begun_trans [] u) u (map.get (map.insert k.lives begun_trans begun_live) u) (cond {A = Option Life} (same_trans u begun_trans) (Some (new_life None client v.who)) (a.holder.lives u))
-  begun_alike v locks who new same opens none h u =
-      subst (λ (x : Option Live). IsAlike locks (lock_set a.locked begun_trans [] u) u x (cond {A = Option Life} (same_trans u begun_trans) (Some (new_life None client v.who)) (a.holder.lives u))) (sym (get_put k.lives begun_trans begun_live u))
-      (alike_set k.locks.held locks a.locked begun_trans (Some begun_live) (Some (new_life None client v.who)) [] (map.get k.lives) a.holder.lives h.lives (λ t r away. same t r)
+  begun_alike : (v : desk.Session) (locks : Holders) → v.who ≡ w.who → map.get k.lives begun_trans ≡ None → ((u : TransId) (r : Resource) → holding locks u r ≡ holding k.locks.held u r) → own_of p ≡ no_opens → p.intents ≡ map.empty → p.counts ≡ no_counts → IsAs a held k
+      → (u : TransId) → IsAlike a.holder.cells locks (lock_set a.locked begun_trans [] u) u (map.get (map.insert k.lives begun_trans begun_live) u) (cond {A = Option Life} (same_trans u begun_trans) (Some (new_life None client v.who)) (a.holder.lives u))
+  begun_alike v locks who new same opens none idle h u =
+      subst (λ (x : Option Live). IsAlike a.holder.cells locks (lock_set a.locked begun_trans [] u) u x (cond {A = Option Life} (same_trans u begun_trans) (Some (new_life None client v.who)) (a.holder.lives u))) (sym (get_put k.lives begun_trans begun_live u))
+      (alike_set a.holder.cells k.locks.held locks a.locked begun_trans (Some begun_live) (Some (new_life None client v.who)) [] (map.get k.lives) a.holder.lives h.lives (λ t r away. same t r)
       (record {
         client = refl;
         who = who;
         intents = λ x. ap (λ (puts : Cells). over puts x) none;
         own = opens;
-        held = λ r. sym (same begun_trans r ∙ none_held k.locks.held (a.locked begun_trans) begun_trans (map.get k.lives begun_trans) (a.holder.lives begun_trans) new (h.lives begun_trans) r);
+        held = λ r. sym (same begun_trans r ∙ none_held a.holder.cells k.locks.held (a.locked begun_trans) begun_trans (map.get k.lives begun_trans) (a.holder.lives begun_trans) new (h.lives begun_trans) r);
         opens = tt;
-        within = record { locks = omega arith; alone = refl; puts = omega arith; leaders = omega arith; owners = omega arith };
+        counts = subst (AreCountsOf a.holder.cells []) (sym idle) (counts_begin a.holder.cells);
+        covered = tt;
+        count = refl;
+        known = λ r. refl;
       }) u)
 
   -- the next id was not drawn
   beyond_next : (server epoch count : ℕ) → is_beyond server epoch count (record { server = server; epoch = epoch; counter = count + 1 }) ≡ true
-  beyond_next server epoch count = ap not (λ i. eq-eqb server server refl i && eq-eqb epoch epoch refl i && not_le i)
+  beyond_next server epoch count = ap not ((λ i. eq-eqb server server refl i && eq-eqb epoch epoch refl i && nat_lt 0 (count + 1) && not_le i) ∙ none (nat_lt 0 (count + 1)))
     where
+      none : (b : Bool) → (b && false) ≡ false
+      none true = refl
+      none false = refl
+
       not_le : nat_le (count + 1) count ≡ false
       not_le = go (nat_le (count + 1) count) refl
         where
@@ -189,10 +250,10 @@ module _ {V : Type 0} (a : Alone) (held : Contents) (k : ServerState V) (client 
 
       go : (b : Bool) → same_trans next t ≡ b → cond {A = Fate} b (fate.begun client (fates t)) (fates t) ≡ Undrawn
       go true e =
-          let near : is_beyond server epoch (count + 1) t ≡ false = ap (is_beyond server epoch (count + 1)) (sym (same_trans-true next t e)) ∙ ap not (λ i. eq-eqb server server refl i && eq-eqb epoch epoch refl i && le-leb (count + 1) (count + 1) (omega arith) i) in
+          let near : is_beyond server epoch (count + 1) t ≡ false = ap (is_beyond server epoch (count + 1)) (sym (same_trans-true next t e)) ∙ ap not (λ i. eq-eqb server server refl i && eq-eqb epoch epoch refl i && le-leb 1 (count + 1) (omega arith) i && le-leb (count + 1) (count + 1) (omega arith) i) in
           let wrong : true ≡ false = sym far ∙ near in
           cc
-      go false e = before t (farther (t.server == server && t.epoch == epoch) (nat_le t.counter (count + 1)) (nat_le t.counter count) (λ le. le-leb t.counter (count + 1) (let low : t.counter ≤ count = leb-true t.counter count le in omega (arith, low))) far)
+      go false e = before t (farther (t.server == server && t.epoch == epoch && nat_lt 0 t.counter) (nat_le t.counter (count + 1)) (nat_le t.counter count) (λ le. le-leb t.counter (count + 1) (let low : t.counter ≤ count = leb-true t.counter count le in omega (arith, low))) far)
         where
           farther : (x y z : Bool) → (z ≡ true → y ≡ true) → not (x && y) ≡ true → not (x && z) ≡ true
           farther false y z h e = refl
@@ -200,19 +261,11 @@ module _ {V : Type 0} (a : Alone) (held : Contents) (k : ServerState V) (client 
           farther true true true h e = e
           farther true false true h e = let wrong : false ≡ true = h refl in cc
 
-  -- nobody's dead part of the client is left
-  buried : (ds : List DeadPart) (d : ℕ) (u : TransId) → cond {A = Option Cause} (d == client) None (dead_in ds d u) ≡ dead_in (without_client client ds) d u
-  buried ds d u = go (d == client) refl
-    where
-      go : (b : Bool) → (d == client) ≡ b → cond {A = Option Cause} b None (dead_in ds d u) ≡ dead_in (without_client client ds) d u
-      go true e = ap (λ (b : Bool). cond {A = Option Cause} b (Some cause.TimedOut) None) (sym (none_left ds d client u (eqb-true d client e)))
-      go false e = ap (λ (b : Bool). cond {A = Option Cause} b (Some cause.TimedOut) None) (sym (others_left ds d client u e))
-
   pub begin_stepped : (before now : ℕ) (x : Answer) (locks : Table) → IsAs a held k → client ≤ 16 → k.is_down ≡ false → session_at k.sessions client ≡ Some w → number ≡ w.last + 1 → map.len k.lives < 64 → map.get k.lives begun_trans ≡ None
-      → ((u : TransId) (r : Resource) → holding locks.held u r ≡ holding k.locks.held u r) → own_of p ≡ no_opens → p.intents ≡ map.empty
+      → ((u : TransId) (r : Resource) → holding locks.held u r ≡ holding k.locks.held u r) → own_of p ≡ no_opens → p.intents ≡ map.empty → p.counts ≡ no_counts
       → x ≡ record { kept = Some (reply.Begun begun_trans); handed = Some (reply.Begun begun_trans); acts = act.Drawn begun_trans ∷ [] }
       → Stepped a before now held (with_begun_kept locks) (event.Call client k.epoch number (call.Begin seen)) x
-  begin_stepped before now x locks h le up there turn few new same opens none is =
+  begin_stepped before now x locks h le up there turn few new same opens none idle is =
       let s : IsSession w (a.sessions client) = session_there w (a.sessions client) (h.sessions client ∙ there) in
       let v : desk.Session = s.told in
       let next : next_trans (alone a) ≡ begun_trans = trans_same h in
@@ -228,9 +281,10 @@ module _ {V : Type 0} (a : Alone) (held : Contents) (k : ServerState V) (client 
         notes = h.notes;
         places = places_set k.sessions client (record w { last = number }) h.places;
         sessions = sessions_as a.sessions k.sessions client (record v { last = number; reply = reply.Begun (next_trans (alone a)) }) (record w { last = number }) h.sessions h.places le s.who refl;
-        dead = λ d u. ap (cond {A = Option Cause} (d == client) None) (h.dead d u) ∙ buried k.dead d u;
-        lives = subst (λ (t : TransId). (u : TransId) → IsAlike locks.held (lock_set a.locked t [] u) u (map.get (map.insert k.lives begun_trans begun_live) u) (cond {A = Option Life} (same_trans u t) (Some (new_life None client v.who)) (a.holder.lives u))) (sym next)
-            (begun_alike v locks.held s.who new same opens none h);
+        dead = λ d u. ap (cond {A = Option Cause} (d == client) None) (h.dead d u) ∙ buried a held k client number w seen k.dead d u;
+        lives = subst (λ (t : TransId). (u : TransId) → IsAlike a.holder.cells locks.held (lock_set a.locked t [] u) u (map.get (map.insert k.lives begun_trans begun_live) u) (cond {A = Option Life} (same_trans u t) (Some (new_life None client v.who)) (a.holder.lives u))) (sym next)
+            (begun_alike v locks.held s.who new same opens none idle h);
+        room = added_room k.sizes a.holder.cells k.lives begun_trans begun_live new idle h.room;
         unborn = each_set (λ l. PutNoneBeyond a.holder.server a.ids.epoch k.given l.edits) (next_trans (alone a)) (Some (new_life None client v.who)) a.holder.lives h.unborn
             (λ l at n high. ap (λ (y : Life). edits_at y.edits (Leader (record { server = a.holder.server; epoch = a.ids.epoch; counter = n })) None) (sym (same-some (new_life None client v.who) l at)));
         drawn = ap (λ (n : ℕ). n + 1) h.drawn;

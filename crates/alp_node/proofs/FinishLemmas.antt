@@ -1,8 +1,8 @@
 -- refusals and ends, as the server keeps them
-use Rattle.std.specs.Prelude.{cond, Bool, true, false, ◌==◌, ◌&&◌, not, Option, None, Some, nat_le}
+use Rattle.std.specs.Prelude.{cond, Bool, true, false, ◌==◌, ◌&&◌, not, Option, None, Some, nat_lt, nat_le}
 use Rattle.std.specs.FinMap as map
 use Rattle.std.proofs.Common.{◌≡◌, ℕ, ◌+◌, [], ◌∷◌, ◌++◌, refl, sym, ◌∙◌, ap, subst, eq-eqb}
-use Rattle.std.proofs.lemmas.Bool.{eqb-true, ne_eqb}
+use Rattle.std.proofs.lemmas.Bool.{eqb-true, ne_eqb, leb-true, ltb-true}
 use Rattle.alp_base.specs.Causes.{Rose}
 use Rattle.alp_base.specs.declared.ids.TransId.{TransId}
 use Rattle.alp_modes.specs.declared.Mode.{Mode}
@@ -38,12 +38,21 @@ use Rattle.alp_node.specs.declared.answer.Answer.{Answer}
 use Rattle.alp_node.specs.declared.lives.Live.{Live}
 use Rattle.alp_node.specs.declared.server_state.ServerState.{ServerState}
 use Rattle.alp_node.specs.declared.sessions.Turn.{Turn}
+use Rattle.alp_node.proofs.CountLemmas.{IsUpTo}
 use Rattle.alp_node.proofs.DeadLemmas.{part_left, dead_then}
+use Rattle.alp_node.proofs.TotalLemmas.{gone_room}
 use Rattle.alp_node.proofs.KeptLemmas.{sessions_as, IsSession, session_there, stands_timely, alike_set, each_set, IsLive, live_there, none_live, stepped_so}
 use Rattle.alp_node.specs.Standings.{standing_of}
 use Rattle.alp_node.specs.declared.served.Standing.TheVariants as standing
 use Rattle.alp_node.proofs.StandingLemmas.{part_of, EndsNone, none_running, part_is, finish_none, undrawn_elsewhere}
 use Rattle.alp_node.proofs.MapLemmas.{places_set, get_gone, tied_same}
+
+-- four tests that hold
+record AllTrue (w x y z : Bool) : Type 0 where
+  first : w ≡ true
+  second : x ≡ true
+  third : y ≡ true
+  fourth : z ≡ true
 
 -- ---- what stays
 
@@ -59,10 +68,10 @@ still_undrawn server epoch count fates t move still before u far = go (same_tran
 module _ {V : Type 0} (a : Alone) (held : Contents) (k : ServerState V) where
   -- just where a part is gone it is kept no more
   pub gone_alike : (t : TransId) → k.locks.waiting ≡ [] → IsAs a held k
-      → (u : TransId) → IsAlike (released k.locks t).held (lock_set a.locked t [] u) u (map.get (map.remove k.lives t) u) (cond {A = Option Life} (same_trans u t) None (a.holder.lives u))
+      → (u : TransId) → IsAlike a.holder.cells (released k.locks t).held (lock_set a.locked t [] u) u (map.get (map.remove k.lives t) u) (cond {A = Option Life} (same_trans u t) None (a.holder.lives u))
   gone_alike t alone h u =
-      subst (λ (x : Option Live). IsAlike (released k.locks t).held (lock_set a.locked t [] u) u x (cond {A = Option Life} (same_trans u t) None (a.holder.lives u))) (sym (get_gone k.lives t u))
-      (alike_set k.locks.held (released k.locks t).held a.locked t None None [] (map.get k.lives) a.holder.lives h.lives
+      subst (λ (x : Option Live). IsAlike a.holder.cells (released k.locks t).held (lock_set a.locked t [] u) u x (cond {A = Option Life} (same_trans u t) None (a.holder.lives u))) (sym (get_gone k.lives t u))
+      (alike_set a.holder.cells k.locks.held (released k.locks t).held a.locked t None None [] (map.get k.lives) a.holder.lives h.lives
       (λ v r away. release-holds k.locks t v r alone ∙ ap (λ (b : Bool). cond {A = Option Mode} b None (holding k.locks.held v r)) (tied_same v t ∙ away))
       (λ r. release-holds k.locks t t r alone ∙ ap (λ (b : Bool). cond {A = Option Mode} b None (holding k.locks.held t r)) (tied_same t t ∙ same_trans-itself t)) u)
 
@@ -92,6 +101,7 @@ module _ {V : Type 0} (a : Alone) (held : Contents) (k : ServerState V) where
         (IsSession.who (turn_session turn h is)) refl;
     dead = h.dead;
     lives = h.lives;
+    room = h.room;
     unborn = h.unborn;
     drawn = h.drawn;
     begun = h.begun;
@@ -106,20 +116,24 @@ module _ {V : Type 0} (a : Alone) (held : Contents) (k : ServerState V) where
   }
 
   -- a live part is of an id that was drawn
-  pub drawn_live : (t : TransId) (life : Life) → IsAs a held k → a.holder.lives t ≡ Some life → (t.server ≡ a.holder.server) × (t.epoch ≡ a.ids.epoch)
+  pub drawn_live : (t : TransId) (life : Life) → IsAs a held k → a.holder.lives t ≡ Some life → IsUpTo a.holder.server a.ids.epoch k.drawn t
   drawn_live t life h live = go (is_beyond a.holder.server a.ids.epoch k.drawn t) refl
     where
-      parts : (x y z : Bool) → not (x && y && z) ≡ false → (x ≡ true) × (y ≡ true)
-      parts true true z e = (refl, refl)
-      parts true false z e = cc
-      parts false y z e = cc
+      parts : (w x y z : Bool) → not (w && x && y && z) ≡ false → AllTrue w x y z
+      parts true true true true e = record { first = refl; second = refl; third = refl; fourth = refl }
+      parts true true true false e = cc
+      parts true true false z e = cc
+      parts true false y z e = cc
+      parts false x y z e = cc
 
-      go : (b : Bool) → is_beyond a.holder.server a.ids.epoch k.drawn t ≡ b → (t.server ≡ a.holder.server) × (t.epoch ≡ a.ids.epoch)
+      go : (b : Bool) → is_beyond a.holder.server a.ids.epoch k.drawn t ≡ b → IsUpTo a.holder.server a.ids.epoch k.drawn t
       go true e =
           let pair : IsPaired (Some life) (a.fates t) = subst (λ (x : Option Life). IsPaired x (a.fates t)) live (h.quiet.paired t) in
           let wrong : Undrawn ≡ Running life.client [] = sym (h.undrawn t e) ∙ pair.0 in
           cc
-      go false e = (let is = parts (t.server == a.holder.server) (t.epoch == a.ids.epoch) (nat_le t.counter k.drawn) e in (eqb-true t.server a.holder.server is.0, eqb-true t.epoch a.ids.epoch is.1))
+      go false e =
+          let is = parts (t.server == a.holder.server) (t.epoch == a.ids.epoch) (nat_lt 0 t.counter) (nat_le t.counter k.drawn) e in
+          record { here = eqb-true t.server a.holder.server is.first; now = eqb-true t.epoch a.ids.epoch is.second; some = ltb-true 0 t.counter is.third; low = leb-true t.counter k.drawn is.fourth }
 
 -- ---- a live part ends without effect
 
@@ -138,6 +152,7 @@ module _ {V : Type 0} (a : Alone) (before now : ℕ) (held : Contents) (k : Serv
         h.sessions h.places is.client (IsSession.who (turn_session a held k turn h is)) refl;
     dead = λ d u. ap (cond {A = Option Cause} (d == turn.client && same_trans u t) None) (h.dead d u) ∙ part_left k.dead turn.client t d u;
     lives = gone_alike a held k t alone h;
+    room = gone_room k.sizes a.holder.cells k.lives t h.room;
     unborn = gone_unborn a held k t h;
     drawn = h.drawn;
     begun = h.begun;
@@ -156,7 +171,7 @@ module _ {V : Type 0} (a : Alone) (before now : ℕ) (held : Contents) (k : Serv
       → Stepped a before now held (ended k turn t) (event.Call turn.client k.epoch turn.number (call.Finish t false)) x
   abort_stepped x h is up alone here live own so =
       let s : IsSession turn.session (a.sessions turn.client) = turn_session a held k turn h is in
-      let y : IsLive k.locks.held (a.locked t) t l (a.holder.lives t) = live_there k.locks.held (a.locked t) t (map.get k.lives t) (a.holder.lives t) l live (h.lives t) in
+      let y : IsLive a.holder.cells k.locks.held (a.locked t) t l (a.holder.lives t) = live_there a.holder.cells k.locks.held (a.locked t) t (map.get k.lives t) (a.holder.lives t) l live (h.lives t) in
       let pair : IsPaired (Some y.life) (a.fates t) = subst (λ (z : Option Life). IsPaired z (a.fates t)) y.is (h.quiet.paired t) in
       stepped_so a before now held held k (ended k turn t) turn.client turn.number s.told (call.Finish t false) false (reply.Refused (refusal.Aborted cause.Asked)) (act.Released t ∷ [])
       (with_end a turn.client turn.number s.told t y.life cause.Asked) x so h
@@ -169,7 +184,7 @@ module _ {V : Type 0} (a : Alone) (before now : ℕ) (held : Contents) (k : Serv
       → Stepped a before now held (ended k turn t) (event.Call turn.client k.epoch turn.number (call.Finish t true)) x
   against_stepped failed why x h is up alone here live own rose not so =
       let s : IsSession turn.session (a.sessions turn.client) = turn_session a held k turn h is in
-      let y : IsLive k.locks.held (a.locked t) t l (a.holder.lives t) = live_there k.locks.held (a.locked t) t (map.get k.lives t) (a.holder.lives t) l live (h.lives t) in
+      let y : IsLive a.holder.cells k.locks.held (a.locked t) t l (a.holder.lives t) = live_there a.holder.cells k.locks.held (a.locked t) t (map.get k.lives t) (a.holder.lives t) l live (h.lives t) in
       let pair : IsPaired (Some y.life) (a.fates t) = subst (λ (z : Option Life). IsPaired z (a.fates t)) y.is (h.quiet.paired t) in
       stepped_so a before now held held k (ended k turn t) turn.client turn.number s.told (call.Finish t true) failed (reply.Refused (refusal.Aborted (cause.Voted k.server why))) (act.Released t ∷ [])
       (with_end a turn.client turn.number s.told t y.life (cause.Voted k.server why)) x so h
@@ -252,6 +267,7 @@ module _ {V : Type 0} (a : Alone) (before now : ℕ) (held : Contents) (k : Serv
         sessions = now_as.sessions;
         dead = λ d u. ap (cond {A = Option Cause} (d == turn.client && same_trans u t) None) (h.dead d u) ∙ part_left k.dead turn.client t d u;
         lives = h.lives;
+        room = h.room;
         unborn = h.unborn;
         drawn = h.drawn;
         begun = h.begun;
@@ -272,7 +288,7 @@ module _ {V : Type 0} (a : Alone) (before now : ℕ) (held : Contents) (k : Serv
   pub timeout_stepped : (l : Live) (x : Answer) → IsAs a held k → k.is_down ≡ false → k.locks.waiting ≡ [] → map.get k.lives t ≡ Some l → x ≡ record { kept = None; handed = None; acts = act.Released t ∷ [] }
       → Stepped a before now held (record (without_trans k t) { dead = k.dead ++ (record { client = l.client; trans = t }) ∷ [] }) (event.Timeout t) x
   timeout_stepped l x h up alone live so =
-      let y : IsLive k.locks.held (a.locked t) t l (a.holder.lives t) = live_there k.locks.held (a.locked t) t (map.get k.lives t) (a.holder.lives t) l live (h.lives t) in
+      let y : IsLive a.holder.cells k.locks.held (a.locked t) t l (a.holder.lives t) = live_there a.holder.cells k.locks.held (a.locked t) t (map.get k.lives t) (a.holder.lives t) l live (h.lives t) in
       let leads : Leads false a (timeout_entry a t (act.Released t ∷ [])) (with_timeout a t y.life) = timeout_leads a t y.life h.quiet (h.down ∙ up) y.is in
       record {
         failed = false;
@@ -291,6 +307,7 @@ module _ {V : Type 0} (a : Alone) (before now : ℕ) (held : Contents) (k : Serv
           dead = λ d u. ap (cond {A = Option Cause} (d == y.life.client && same_trans u t) (Some cause.TimedOut)) (h.dead d u)
               ∙ ap (λ (n : ℕ). cond {A = Option Cause} (d == n && same_trans u t) (Some cause.TimedOut) (dead_in k.dead d u)) y.alike.client ∙ dead_then k.dead l.client t d u;
           lives = gone_alike a held k t alone h;
+          room = gone_room k.sizes a.holder.cells k.lives t h.room;
           unborn = gone_unborn a held k t h;
           drawn = h.drawn;
           begun = h.begun;
@@ -311,7 +328,7 @@ module _ {V : Type 0} (a : Alone) (before now : ℕ) (held : Contents) (k : Serv
     failed = false;
     next = as_it_was a t;
     leads = subst (λ (z : Answer). Leads false a (entry_of (event.Timeout t) z) (as_it_was a t)) (sym so)
-        (idle_leads a t h.quiet (h.down ∙ up) (none_live k.locks.held (a.locked t) t (map.get k.lives t) (a.holder.lives t) none (h.lives t)));
+        (idle_leads a t h.quiet (h.down ∙ up) (none_live a.holder.cells k.locks.held (a.locked t) t (map.get k.lives t) (a.holder.lives t) none (h.lives t)));
     rose = λ e. cc;
     kept = record {
       server = h.server;
@@ -324,6 +341,7 @@ module _ {V : Type 0} (a : Alone) (before now : ℕ) (held : Contents) (k : Serv
       sessions = h.sessions;
       dead = h.dead;
       lives = h.lives;
+      room = h.room;
       unborn = h.unborn;
       drawn = h.drawn;
       begun = h.begun;

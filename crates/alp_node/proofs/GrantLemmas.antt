@@ -3,7 +3,11 @@ use Rattle.std.specs.Prelude.{cond, Bool, true, false, not, ◌&&◌, ◌||◌, 
 use Rattle.std.specs.List.{AllByRecursion}
 use Rattle.std.specs.Ordering.{eq_by_cmp}
 use Rattle.std.proofs.Common.{◌≡◌, ℕ, ◌+◌, ◌<◌, ◌≤◌, List, [], ◌∷◌, ◌++◌, length, refl, sym, ◌∙◌, ap, subst, arith}
-use Rattle.std.proofs.lemmas.Bool.{ltb-true, leb-true}
+use Rattle.std.proofs.lemmas.Bool.{ltb-true, ltb-false, leb-true}
+use Rattle.std.specs.Option.{option_or}
+use Rattle.alp_files.specs.declared.refusal.What.TheVariants as what
+use Rattle.alp_journal.specs.Answers.{if_over}
+use Rattle.alp_node.specs.Shapes.{shape_of, no_open}
 use Rattle.alp_base.proofs.NameLemmas.{and_right}
 use Rattle.alp_base.specs.declared.ids.FileId.{FileId}
 use Rattle.alp_base.specs.declared.ids.TransId.{TransId}
@@ -36,14 +40,13 @@ use Rattle.alp_locks.proofs.HeldLemmas.{tied}
 use Rattle.alp_locks.proofs.LawLemmas.{all-of-plan}
 use Rattle.alp_locks.proofs.PlanLemmas.{granted-waiting, granted-knows}
 use Rattle.alp_locks.proofs.SoundLemmas.{grant-sound}
-use Rattle.alp_calls.specs.Parts.{GivesOnly}
+use Rattle.alp_calls.specs.Parts.{GivesOnly, IsShaped}
 use Rattle.alp_vault.specs.Contents.{Contents}
 use Rattle.alp_journal.specs.Moves.{is_of_no_file}
 use Rattle.alp_journal.specs.Moves as journal
 use Rattle.alp_journal.specs.Answers.{choice_of, more_locks}
 use Rattle.alp_journal.specs.Alone.{Alone, alone}
 use Rattle.alp_node.specs.Asks.{is_of_given, is_given, asks_of, asks_made, asks_given, is_made, plan_for, count_made, plan_of, with_plan}
-use Rattle.alp_node.specs.Bounded.{bounds_of}
 use Rattle.alp_node.specs.Calls.{IsLockCall, next_file}
 use Rattle.alp_node.specs.ServerState.{IsAs, IsReady, IsLocked, mode_for}
 use Rattle.alp_node.specs.declared.server_state.ServerState.{ServerState}
@@ -99,19 +102,23 @@ lock_built (call.OpenFile t f a mode choice) is = tt
 lock_built (call.MakeOwner t name quota create choice) is = tt
 lock_built c is = absurd is
 
+-- a file that is made has no more pages than may be
+pub lock_shaped : (server epoch given opens : ℕ) (c : Call) → IsLockCall c → shape_of server epoch given opens c ≡ None → IsShaped c
+lock_shaped server epoch given opens (call.CreateFile t start choice) is shape = go (nat_lt 4096 start.size) refl shape
+  where
+    go : (b : Bool) → nat_lt 4096 start.size ≡ b → option_or (if_over b (refusal.TooMany what.Pages 4096)) (no_open opens) ≡ None → start.size ≤ 4096
+    go false e none = ltb-false 4096 start.size e
+    go true e none = cc
+lock_shaped server epoch given opens (call.OpenFile t f a mode choice) is shape = tt
+lock_shaped server epoch given opens (call.MakeOwner t name quota create choice) is shape = tt
+lock_shaped server epoch given opens c is shape = absurd is
+
 -- it does not wait
 pub lock_choice : (c : Call) → IsLockCall c → choice_of c ≡ Some choice.Fail
 lock_choice (call.CreateFile t start choice) is = ap (λ x. Some x) is
 lock_choice (call.OpenFile t f a mode choice) is = ap (λ x. Some x) is.1
 lock_choice (call.MakeOwner t name quota create choice) is = ap (λ x. Some x) is
 lock_choice c is = absurd is
-
--- it asks for one lock, and for that of a new file
-pub lock_few : (c : Call) → IsLockCall c → length (asks_of c) + more_locks c ≤ (bounds_of c).locks
-lock_few (call.CreateFile t start choice) is = omega arith
-lock_few (call.OpenFile t f a mode choice) is = omega arith
-lock_few (call.MakeOwner t name quota create choice) is = omega arith
-lock_few c is = absurd is
 
 -- one need, and no more
 pub record IsOne (ns : List Need) : Type 0 where
@@ -220,7 +227,7 @@ whole_file f g e = same_whole (exact_resources (Whole f) (Whole g) (tied (resour
     same_whole : Whole f ≡ Whole g → f ≡ g
     same_whole h = cc
 
-asked_below : (server epoch count n : ℕ) (c : Call) → is_of_given server epoch count c ≡ true → count < n → held_by (asks_of c) (Whole (record { server = server; epoch = epoch; counter = n })) ≡ None
+pub asked_below : (server epoch count n : ℕ) (c : Call) → is_of_given server epoch count c ≡ true → count < n → held_by (asks_of c) (Whole (record { server = server; epoch = epoch; counter = n })) ≡ None
 asked_below server epoch count n (call.OpenFile t f a mode choice) given high = go (eq_by_cmp resource_cmp (Whole (record { server = server; epoch = epoch; counter = n })) (Whole f)) refl
   where
     go : (b : Bool) → eq_by_cmp resource_cmp (Whole (record { server = server; epoch = epoch; counter = n })) (Whole f) ≡ b → cond {A = Option Mode} b (Some mode) None ≡ None
@@ -268,6 +275,9 @@ granted_ready m serves k w count more low prepared free others h = record {
   given = low;
   committed = h.committed;
   few = h.few;
+  most = h.most;
+  within = h.within;
+  sized = h.sized;
   clock = h.clock;
   raised = h.raised;
   unheld = λ u n high. all-of-plan k.locks w u (numbered k n) prepared

@@ -6,7 +6,7 @@ use Rattle.std.proofs.Common.{◌≡◌, ℕ, ◌+◌, ◌≤◌, List, [], ◌�
 use Rattle.alp_base.specs.declared.ids.TransId.{TransId}
 use Rattle.alp_base.specs.declared.ids.Stamp.{Stamp}
 use Rattle.alp_base.specs.declared.key.Resource.{Resource}
-use Rattle.alp_files.specs.Cells.{View}
+use Rattle.alp_files.specs.Cells.{Cells, View}
 use Rattle.alp_files.specs.Edits.{over}
 use Rattle.alp_files.proofs.CellMapLemmas.{over-none}
 use Rattle.alp_files.specs.History.{Decided}
@@ -36,47 +36,47 @@ use Rattle.alp_node.proofs.MapLemmas.{session_kept}
 -- ---- what holds of lives
 
 -- other locks that come to the same
-pub alike_under : (locks new : Holders) (rs : List Resource) (t : TransId) (l : Option Live) (life : Option Life) → ((r : Resource) → holding new t r ≡ holding locks t r) → IsAlike locks rs t l life → IsAlike new rs t l life
-alike_under locks new rs t None None same h = λ r. same r ∙ h r
-alike_under locks new rs t (Some l) (Some life) same h =
-    record { client = h.client; who = h.who; intents = h.intents; own = h.own; held = λ r. h.held r ∙ sym (same r); opens = h.opens; within = h.within }
-alike_under locks new rs t None (Some life) same h = absurd h
-alike_under locks new rs t (Some l) None same h = absurd h
+pub alike_under : (cells : Cells) (locks new : Holders) (rs : List Resource) (t : TransId) (l : Option Live) (life : Option Life) → ((r : Resource) → holding new t r ≡ holding locks t r) → IsAlike cells locks rs t l life → IsAlike cells new rs t l life
+alike_under cells locks new rs t None None same h = λ r. same r ∙ h r
+alike_under cells locks new rs t (Some l) (Some life) same h =
+    record { client = h.client; who = h.who; intents = h.intents; own = h.own; held = λ r. h.held r ∙ sym (same r); opens = h.opens; counts = h.counts; covered = h.covered; count = h.count; known = h.known }
+alike_under cells locks new rs t None (Some life) same h = absurd h
+alike_under cells locks new rs t (Some l) None same h = absurd h
 
 -- who is not kept holds nothing
-pub none_held : (locks : Holders) (rs : List Resource) (t : TransId) (l : Option Live) (life : Option Life) → l ≡ None → IsAlike locks rs t l life → (r : Resource) → holding locks t r ≡ None
-none_held locks rs t None None is h = h
-none_held locks rs t None (Some life) is h = absurd h
-none_held locks rs t (Some l) life is h = let wrong : Some l ≡ None = is in cc
+pub none_held : (cells : Cells) (locks : Holders) (rs : List Resource) (t : TransId) (l : Option Live) (life : Option Life) → l ≡ None → IsAlike cells locks rs t l life → (r : Resource) → holding locks t r ≡ None
+none_held cells locks rs t None None is h = h
+none_held cells locks rs t None (Some life) is h = absurd h
+none_held cells locks rs t (Some l) life is h = let wrong : Some l ≡ None = is in cc
 
-pub none_live : (locks : Holders) (rs : List Resource) (t : TransId) (l : Option Live) (life : Option Life) → l ≡ None → IsAlike locks rs t l life → life ≡ None
-none_live locks rs t None None is h = refl
-none_live locks rs t None (Some life) is h = absurd h
-none_live locks rs t (Some l) life is h = let wrong : Some l ≡ None = is in cc
+pub none_live : (cells : Cells) (locks : Holders) (rs : List Resource) (t : TransId) (l : Option Live) (life : Option Life) → l ≡ None → IsAlike cells locks rs t l life → life ≡ None
+none_live cells locks rs t None None is h = refl
+none_live cells locks rs t None (Some life) is h = absurd h
+none_live cells locks rs t (Some l) life is h = let wrong : Some l ≡ None = is in cc
 
 -- the life of a transaction that is kept
-pub record IsLive (locks : Holders) (rs : List Resource) (t : TransId) (l : Live) (x : Option Life) : Type 0 where
+pub record IsLive (cells : Cells) (locks : Holders) (rs : List Resource) (t : TransId) (l : Live) (x : Option Life) : Type 0 where
   pub life : Life
   pub is : x ≡ Some life
-  pub alike : IsLife locks rs t l life
+  pub alike : IsLife cells locks rs t l life
 
 pub same_live : (a b : Live) → Some a ≡ Some b → a ≡ b
 same_live a b e = cc
 
-pub live_there : (locks : Holders) (rs : List Resource) (t : TransId) (o : Option Live) (x : Option Life) (l : Live) → o ≡ Some l → IsAlike locks rs t o x → IsLive locks rs t l x
-live_there locks rs t None x l is h = let wrong : None ≡ Some l = is in cc
-live_there locks rs t (Some m) None l is h = absurd h
-live_there locks rs t (Some m) (Some life) l is h = record { life = life; is = refl; alike = subst (λ (y : Live). IsLife locks rs t y life) (same_live m l is) h }
+pub live_there : (cells : Cells) (locks : Holders) (rs : List Resource) (t : TransId) (o : Option Live) (x : Option Life) (l : Live) → o ≡ Some l → IsAlike cells locks rs t o x → IsLive cells locks rs t l x
+live_there cells locks rs t None x l is h = let wrong : None ≡ Some l = is in cc
+live_there cells locks rs t (Some m) None l is h = absurd h
+live_there cells locks rs t (Some m) (Some life) l is h = record { life = life; is = refl; alike = subst (λ (y : Live). IsLife cells locks rs t y life) (same_live m l is) h }
 
 -- of each transaction but one all is as it was, and that one is so
-pub alike_set : (locks new : Holders) (locked : TransId → List Resource) (t : TransId) (o : Option Live) (x : Option Life) (rs : List Resource) (lives : TransId → Option Live) (kept : TransId → Option Life)
-    → ((u : TransId) → IsAlike locks (locked u) u (lives u) (kept u)) → ((u : TransId) (r : Resource) → same_trans u t ≡ false → holding new u r ≡ holding locks u r) → IsAlike new rs t o x
-    → (u : TransId) → IsAlike new (cond {A = List Resource} (same_trans u t) rs (locked u)) u (cond {A = Option Live} (same_trans u t) o (lives u)) (cond {A = Option Life} (same_trans u t) x (kept u))
-alike_set locks new locked t o x rs lives kept all same this u = go (same_trans u t) refl
+pub alike_set : (cells : Cells) (locks new : Holders) (locked : TransId → List Resource) (t : TransId) (o : Option Live) (x : Option Life) (rs : List Resource) (lives : TransId → Option Live) (kept : TransId → Option Life)
+    → ((u : TransId) → IsAlike cells locks (locked u) u (lives u) (kept u)) → ((u : TransId) (r : Resource) → same_trans u t ≡ false → holding new u r ≡ holding locks u r) → IsAlike cells new rs t o x
+    → (u : TransId) → IsAlike cells new (cond {A = List Resource} (same_trans u t) rs (locked u)) u (cond {A = Option Live} (same_trans u t) o (lives u)) (cond {A = Option Life} (same_trans u t) x (kept u))
+alike_set cells locks new locked t o x rs lives kept all same this u = go (same_trans u t) refl
   where
-    go : (b : Bool) → same_trans u t ≡ b → IsAlike new (cond {A = List Resource} b rs (locked u)) u (cond {A = Option Live} b o (lives u)) (cond {A = Option Life} b x (kept u))
-    go true e = subst (λ (v : TransId). IsAlike new rs v o x) (sym (same_trans-true u t e)) this
-    go false e = alike_under locks new (locked u) u (lives u) (kept u) (λ r. same u r e) (all u)
+    go : (b : Bool) → same_trans u t ≡ b → IsAlike cells new (cond {A = List Resource} b rs (locked u)) u (cond {A = Option Live} b o (lives u)) (cond {A = Option Life} b x (kept u))
+    go true e = subst (λ (v : TransId). IsAlike cells new rs v o x) (sym (same_trans-true u t e)) this
+    go false e = alike_under cells locks new (locked u) u (lives u) (kept u) (λ r. same u r e) (all u)
 
 -- of each life but one all is as it was, and that one is so
 pub each_set : (P : Life → Type 0) (t : TransId) (x : Option Life) (lives : TransId → Option Life) → ((u : TransId) (l : Life) → lives u ≡ Some l → P l) → ((l : Life) → x ≡ Some l → P l)
@@ -148,7 +148,8 @@ as_under a held k locks same h = record {
   places = h.places;
   sessions = h.sessions;
   dead = h.dead;
-  lives = λ t. alike_under k.locks.held locks.held (a.locked t) t (map.get k.lives t) (a.holder.lives t) (same t) (h.lives t);
+  lives = λ t. alike_under a.holder.cells k.locks.held locks.held (a.locked t) t (map.get k.lives t) (a.holder.lives t) (same t) (h.lives t);
+  room = h.room;
   unborn = h.unborn;
   drawn = h.drawn;
   begun = h.begun;
@@ -175,6 +176,7 @@ as_with a held then k v same h = subst (λ (x : Contents). IsAs a x (record k { 
   sessions = h.sessions;
   dead = h.dead;
   lives = h.lives;
+  room = h.room;
   unborn = h.unborn;
   drawn = h.drawn;
   begun = h.begun;

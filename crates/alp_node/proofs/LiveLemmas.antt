@@ -21,14 +21,16 @@ use Rattle.alp_journal.specs.State.{State}
 use Rattle.alp_node.specs.declared.lives.Live.{Live}
 use Rattle.alp_node.specs.NodeStates.{NodeState}
 use Rattle.alp_node.specs.Nodes.{IsConsistent, IsRight, AreLive, state_of, start_in}
-use Rattle.alp_node.specs.ServerState.{IsAlike, LiveMap}
+use Rattle.alp_node.specs.ServerState.{IsAlike}
+use Rattle.alp_node.specs.Totals.{LiveMap}
+use Rattle.alp_files.specs.Cells.{Cells}
 
 -- what is kept of a transaction stands just where the journal says that it is live
-alike_some : (locks : Holders) (rs : List Resource) (t : TransId) (x : Option Live) (y : Option Life) → IsAlike locks rs t x y → IsSome x ↔ IsSome y
-alike_some locks rs t None None h = ((λ e. e), (λ e. e))
-alike_some locks rs t None (Some y) h = absurd h
-alike_some locks rs t (Some x) None h = absurd h
-alike_some locks rs t (Some x) (Some y) h = ((λ e. refl), (λ e. refl))
+alike_some : (cells : Cells) (locks : Holders) (rs : List Resource) (t : TransId) (x : Option Live) (y : Option Life) → IsAlike cells locks rs t x y → IsSome x ↔ IsSome y
+alike_some cells locks rs t None None h = ((λ e. e), (λ e. e))
+alike_some cells locks rs t None (Some y) h = absurd h
+alike_some cells locks rs t (Some x) None h = absurd h
+alike_some cells locks rs t (Some x) (Some y) h = ((λ e. refl), (λ e. refl))
 
 key_there : (m : LiveMap) (t : TransId) → Contains (map.keys m) t ↔ IsSome (map.get m t)
 key_there m t = (
@@ -46,7 +48,7 @@ module _ {V : Type 0} (G : Ghosts V) (n : NodeState V) where
         rise = rising;
         live = λ t. (
             let there = key_there n.kept.lives t in
-            let same = alike_some n.kept.locks.held (r.state.locked t) t (map.get n.kept.lives t) (r.state.holder.lives t) (r.kept.lives t) in (
+            let same = alike_some r.state.holder.cells n.kept.locks.held (r.state.locked t) t (map.get n.kept.lives t) (r.state.holder.lives t) (r.kept.lives t) in (
               (λ c. same.0 (there.0 (subst (λ (xs : List TransId). Contains xs t) ids c))),
               (λ some. subst (λ (xs : List TransId). Contains xs t) (sym ids) (there.1 (same.1 some))),
             )

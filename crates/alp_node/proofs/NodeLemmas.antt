@@ -6,10 +6,11 @@ use Rattle.std.proofs.Common.{◌≡◌, ◌<◌, ℕ, ◌+◌, List, [], ◌∷
 use Rattle.alp_base.specs.Crashes.{Only, Either}
 use Rattle.alp_base.specs.declared.memory.OutOfMemory.{OutOfMemory}
 use Rattle.alp_files.specs.declared.reply.Reply.{Reply}
-use Rattle.alp_files.specs.Cells.{Cells}
-use Rattle.alp_files.specs.Edits.{Edit, edits_map, after}
+use Rattle.alp_files.specs.Edits.{Edit, edits_map}
+use Rattle.alp_files.specs.Changes.{edits_of}
 use Rattle.alp_files.specs.Sound.{AreSound}
-use Rattle.alp_files.proofs.HistoryLemmas.{get-edits_map, same_cells}
+use Rattle.alp_calls.proofs.PartLaws.{same_change}
+use Rattle.alp_trans.specs.Parts.{change_of}
 use Rattle.alp_vault.specs.Contents.{Contents}
 use Rattle.alp_vault.specs.declared.vault.Vault.{Ghosts}
 use Rattle.alp_journal.specs.declared.entry.Entry.{Entry}
@@ -34,7 +35,8 @@ use Rattle.alp_node.specs.Nodes.{IsConsistent, IsRight, Answered, HasCause, HasN
 use Rattle.alp_node.specs.Steps.{Stepped, IsStep, IsEntered, entry_of}
 use Rattle.alp_node.specs.Served.{IsServed, AreLivesSound}
 use Rattle.alp_node.specs.declared.server_state.ServerState.{ServerState}
-use Rattle.alp_node.proofs.KeptLemmas.{IsLive, live_there, over_empty}
+use Rattle.alp_node.proofs.ApartLemmas.{covered_puts}
+use Rattle.alp_node.proofs.KeptLemmas.{IsLive, live_there}
 
 pub state_after-push : {S E : Type 0} (step : S → E → S) (s : S) (es : List E) (e : E) → state_after step s (es ++ e ∷ []) ≡ step (state_after step s es) e
 state_after-push step s [] e = refl
@@ -87,18 +89,17 @@ still_right o held then old new h as_is is = record {
 
 -- what its live parts intend leaves well-formed files
 pub right_sound : {V : Type 0} (G : Ghosts V) (n : NodeState V) (held : Contents) → IsRight (start_in G n) held n → n.kept.is_down ≡ false → AreLivesSound held n.kept
-right_sound G n held r up t l there m is =
+right_sound G n held r up t l there =
     let a : Alone = r.state in
     let v = n.opening.vault.value in
     let k = n.kept in
     let first : Stands AreSound (opened (start_in G n)) = opened_stands k.server (G.servers v) (G.volume v) (G.held v).cells (G.held v).notes r.opening.files r.opening.sizes in
     let now : Stands AreSound (alone a) = subst (Stands AreSound) r.says (journal_stands AreSound (opened (start_in G n)) n.journal r.own r.lawful first) in
-    let y : IsLive k.locks.held (a.locked t) t l (a.holder.lives t) = live_there k.locks.held (a.locked t) t (map.get k.lives t) (a.holder.lives t) l there (r.kept.lives t) in
+    let y : IsLive a.holder.cells k.locks.held (a.locked t) t l (a.holder.lives t) = live_there a.holder.cells k.locks.held (a.locked t) t (map.get k.lives t) (a.holder.lives t) l there (r.kept.lives t) in
     let pair : IsPaired (Some y.life) (a.fates t) = subst (λ (x : Option Life). IsPaired x (a.fates t)) y.is (r.kept.quiet.paired t) in
     let es : List Edit = y.life.edits in
-    let same : m ≡ edits_map es a.holder.cells =
-    same_cells m (edits_map es a.holder.cells)
-    (is ∙ (λ i q. y.alike.intents (map.get held.cells) i q) ∙ ap (after es) (over_empty (map.get held.cells)) ∙ ap (λ (c : Cells). after es (map.get c)) (r.kept.cells up) ∙ sym (get-edits_map es a.holder.cells)) in
+    let same : edits_map (edits_of (change_of l.part.intents)) held.cells ≡ edits_map es a.holder.cells =
+    same_change held.cells l.part es (covered_puts y.life.held es y.alike.covered) y.alike.intents ∙ ap (edits_map es) (r.kept.cells up) in
     subst AreSound (sym same) (live_sound (alone a) now t y.life y.is pair.1)
 
 pub counted_pushed : (es fs : List Entry) (e : Entry) → fs ≡ es ++ e ∷ [] → length fs ≡ length es + 1

@@ -2,7 +2,7 @@
 use Rattle.std.specs.Prelude.{cond, Bool, true, false, ◌==◌, nat_lt, Option, None, Some, zero, suc}
 use Rattle.std.specs.List.{AllByRecursion}
 use Rattle.std.specs.Option.{option_and_then}
-use Rattle.std.proofs.Common.{◌≡◌, ℕ, ◌+◌, List, [], ◌∷◌, ◌++◌, length, refl, sym, ◌∙◌, ap, subst, arith}
+use Rattle.std.proofs.Common.{◌≡◌, ℕ, ◌+◌, List, [], ◌∷◌, ◌++◌, refl, sym, ◌∙◌, ap, subst}
 use Rattle.alp_base.specs.declared.ids.FileId.{FileId}
 use Rattle.alp_base.specs.declared.key.Key.{Key}
 use Rattle.alp_base.specs.declared.key.Key.TheVariants.{Leader, PageOf}
@@ -29,10 +29,9 @@ use Rattle.alp_files.specs.Locks.{Need, HoldsOn, HoldsEach, needs_of, needs_on_o
 use Rattle.alp_files.proofs.CoverLemmas.{right-above}
 use Rattle.alp_files.specs.declared.cell.Cell.TheVariants as cell
 use Rattle.alp_files.specs.Edits.{Edit, Put}
-use Rattle.alp_node.specs.Bounded.{no_bounds, sum_of, bounds_of}
 use Rattle.alp_node.specs.Calls.{IsPageCall}
-use Rattle.alp_node.specs.declared.bounds.Bounds.{Bounds}
-use Rattle.alp_node.proofs.AddLemmas.{Adds, adds_none, adds_both, adds_within}
+use Rattle.alp_node.specs.Covers.{AreCovered}
+use Rattle.alp_node.proofs.ApartLemmas.{covered_both}
 use Rattle.alp_node.specs.ServerState.{IsLocked, mode_for}
 
 -- ---- what the file's lock gives
@@ -215,95 +214,89 @@ page_granted held m own c is h = ap (joined held) (page_request held m own c is 
 
 -- ---- what such a call answers
 
--- it opens nothing, makes no file, and puts no more than so much
-pub record LeavesOpens (w : Own) (more : Bounds) (a : Answer) : Type 0 where
+-- it opens nothing and makes no file, what it puts is locked, and where it is refused it puts nothing
+pub record LeavesOpens (held : Holding) (w : Own) (a : Answer) : Type 0 where
   pub own : a.own ≡ w
   pub none : (r : Reply) → a.reply ≡ Some r → id_in r ≡ None
-  pub adds : Adds more a.edits
+  pub covered : AreCovered held a.edits
+  pub idle : (f : Refusal) → a.reply ≡ Some (reply.Refused f) → a.edits ≡ []
 
 same_reply : (a b : Reply) → Some a ≡ Some b → a ≡ b
 same_reply a b e = cc
 
-leaves_refused : (w : Own) (more : Bounds) (f : Refusal) → LeavesOpens w more (refused w f)
-leaves_refused w more f = record { own = refl; none = λ r e. ap id_in (sym (same_reply (reply.Refused f) r e)); adds = adds_none more }
+leaves_refused : (held : Holding) (w : Own) (f : Refusal) → LeavesOpens held w (refused w f)
+leaves_refused held w f = record { own = refl; none = λ r e. ap id_in (sym (same_reply (reply.Refused f) r e)); covered = tt; idle = λ g e. refl }
 
-leaves_pages : (m : View) (w : Own) (more : Bounds) (f : FileId) (n first : ℕ) (next : List (List ℕ) → Look) → ((ps : List (List ℕ)) → LeavesOpens w more (run m (next ps))) → LeavesOpens w more (run m (ask_pages f first n next))
-leaves_pages m w more f zero first next h = h []
-leaves_pages m w more f (suc n) first next h = leaves_pages m w more f n (first + 1) _ (λ ps. h _)
+leaves_pages : (held : Holding) (m : View) (w : Own) (f : FileId) (n first : ℕ) (next : List (List ℕ) → Look) → ((ps : List (List ℕ)) → LeavesOpens held w (run m (next ps))) → LeavesOpens held w (run m (ask_pages f first n next))
+leaves_pages held m w f zero first next h = h []
+leaves_pages held m w f (suc n) first next h = leaves_pages held m w f n (first + 1) _ (λ ps. h _)
 
 -- the pages of a write, and the leader where its mark rises
-abbrev one_leader : ℕ → Bounds
-one_leader n = record { locks = 0; puts = n; leaders = 1; owners = 0 }
+module _ (held : Holding) (f : FileId) (locked : covers_held (held (Whole f)) Write ≡ true) where
+  pages_covered : (first : ℕ) (ps : List (List ℕ)) → AreCovered held (page_puts f first ps)
+  pages_covered first [] = tt
+  pages_covered first (p ∷ ps) = (locked, pages_covered (first + 1) ps)
 
-abbrev only_pages : ℕ → Bounds
-only_pages n = record { locks = 0; puts = n; leaders = 0; owners = 0 }
+  mark_covered : (p : Props) (last : ℕ) → AreCovered held (mark_put f p last)
+  mark_covered p last = go (nat_lt p.high_water last)
+    where
+      go : (b : Bool) → AreCovered held (cond {A = List Edit} b (Put (Leader f) (cell.Leader (record p { high_water = last })) ∷ []) [])
+      go true = (locked, tt)
+      go false = tt
 
-pages_add : (f : FileId) (first : ℕ) (ps : List (List ℕ)) → Adds (only_pages (length ps)) (page_puts f first ps)
-pages_add f first [] = adds_none (only_pages 0)
-pages_add f first (p ∷ ps) =
-    let rest : Adds (only_pages (length ps)) (page_puts f (first + 1) ps) = pages_add f (first + 1) ps in
-    record { alone = rest.alone; puts = omega (arith, rest.puts); leaders = omega (arith, rest.leaders); owners = omega (arith, rest.owners) }
-
-mark_adds : (f : FileId) (p : Props) (last : ℕ) → Adds (one_leader 1) (mark_put f p last)
-mark_adds f p last = go (nat_lt p.high_water last)
+pub page_leaves : (held : Holding) (server : ℕ) (made : List FileId) (m : View) (who : List ℕ) (w : Own) (c : Call) (given : Reply) → IsPageCall c → AllByRecursion (IsLocked held) w.opens → LeavesOpens held w (answer server made m who w c given)
+page_leaves held server made m who w (call.ReadPages t n r mode choice) given is h = go (open_at w.opens n)
   where
-    go : (b : Bool) → Adds (one_leader 1) (cond {A = List Edit} b (Put (Leader f) (cell.Leader (record p { high_water = last })) ∷ []) [])
-    go true = record { alone = refl; puts = omega arith; leaders = omega arith; owners = omega arith }
-    go false = adds_none (one_leader 1)
-
-writes_add : (f : FileId) (first : ℕ) (ps : List (List ℕ)) (p : Props) (last n : ℕ) → length ps ≡ n → Adds (one_leader (n + 1)) (page_puts f first ps ++ mark_put f p last)
-writes_add f first ps p last n is =
-    adds_within (sum_of (only_pages (length ps)) (one_leader 1)) (one_leader (n + 1)) (page_puts f first ps ++ mark_put f p last) (omega (arith, is)) (omega arith) (omega arith)
-    (adds_both (only_pages (length ps)) (one_leader 1) (page_puts f first ps) (mark_put f p last) (pages_add f first ps) (mark_adds f p last))
-
-pub page_leaves : (server : ℕ) (made : List FileId) (m : View) (who : List ℕ) (w : Own) (c : Call) (given : Reply) → IsPageCall c → LeavesOpens w (bounds_of c) (answer server made m who w c given)
-page_leaves server made m who w (call.ReadPages t n r mode choice) given is = go (open_at w.opens n)
-  where
-    reads : (op : Open) (p : Props) (b : Bool) → LeavesOpens w no_bounds (run m (cond {A = Look} b (Look.Say (refused w (refusal.NoSuchPage p.size))) (ask_pages op.file r.first r.count (λ ps. Look.Say (replied w (reply.Pages ps) [])))))
-    reads op p true = leaves_refused w no_bounds (refusal.NoSuchPage p.size)
+    reads : (op : Open) (p : Props) (b : Bool) → LeavesOpens held w (run m (cond {A = Look} b (Look.Say (refused w (refusal.NoSuchPage p.size))) (ask_pages op.file r.first r.count (λ ps. Look.Say (replied w (reply.Pages ps) [])))))
+    reads op p true = leaves_refused held w (refusal.NoSuchPage p.size)
     reads op p false =
-        leaves_pages m w no_bounds op.file r.count r.first (λ ps. Look.Say (replied w (reply.Pages ps) []))
-        (λ ps. record { own = refl; none = λ x e. ap id_in (sym (same_reply (reply.Pages ps) x e)); adds = adds_none no_bounds })
+        leaves_pages held m w op.file r.count r.first (λ ps. Look.Say (replied w (reply.Pages ps) []))
+        (λ ps. record { own = refl; none = λ x e. ap id_in (sym (same_reply (reply.Pages ps) x e)); covered = tt; idle = λ f e. refl })
 
-    there : (op : Open) (x : Option Props) → LeavesOpens w no_bounds (run m (on_props w x (read_pages w r op)))
-    there op None = leaves_refused w no_bounds refusal.UnknownOpen
+    there : (op : Open) (x : Option Props) → LeavesOpens held w (run m (on_props w x (read_pages w r op)))
+    there op None = leaves_refused held w refusal.UnknownOpen
     there op (Some p) = reads op p (nat_lt p.size (r.first + r.count))
 
-    go : (x : Option Open) → LeavesOpens w no_bounds (run m (on_open w x (read_pages w r)))
-    go None = leaves_refused w no_bounds refusal.UnknownOpen
+    go : (x : Option Open) → LeavesOpens held w (run m (on_open w x (read_pages w r)))
+    go None = leaves_refused held w refusal.UnknownOpen
     go (Some op) = there op (props_in (m (Leader op.file)))
-page_leaves server made m who w (call.WritePages t n r pages choice) given is = go (open_at w.opens n)
+page_leaves held server made m who w (call.WritePages t n r pages choice) given is h = go (open_at w.opens n) (found_locked held w.opens n h)
   where
-    writes : (op : Open) (p : Props) (b : Bool)
-        → LeavesOpens w (one_leader (r.count + 1)) (cond {A = Answer} b (refused w (refusal.NoSuchPage p.size)) (replied w reply.Plain (page_puts op.file r.first pages ++ mark_put op.file p (r.first + r.count))))
-    writes op p true = leaves_refused w (one_leader (r.count + 1)) (refusal.NoSuchPage p.size)
-    writes op p false = record { own = refl; none = λ x e. ap id_in (sym (same_reply reply.Plain x e)); adds = writes_add op.file r.first pages p (r.first + r.count) r.count is }
+    writes : (op : Open) (p : Props) → covers_held (held (Whole op.file)) Write ≡ true → (b : Bool)
+        → LeavesOpens held w (cond {A = Answer} b (refused w (refusal.NoSuchPage p.size)) (replied w reply.Plain (page_puts op.file r.first pages ++ mark_put op.file p (r.first + r.count))))
+    writes op p locked true = leaves_refused held w (refusal.NoSuchPage p.size)
+    writes op p locked false = record {
+      own = refl;
+      none = λ x e. ap id_in (sym (same_reply reply.Plain x e));
+      idle = λ f e. (let wrong : reply.Plain ≡ reply.Refused f = same_reply reply.Plain (reply.Refused f) e in cc);
+      covered = covered_both held (page_puts op.file r.first pages) (mark_put op.file p (r.first + r.count)) (pages_covered held op.file locked r.first pages) (mark_covered held op.file locked p (r.first + r.count));
+    }
 
-    there : (op : Open) (x : Option Props) → LeavesOpens w (one_leader (r.count + 1)) (run m (on_props w x (write_pages w r pages op)))
-    there op None = leaves_refused w (one_leader (r.count + 1)) refusal.UnknownOpen
-    there op (Some p) = writes op p (nat_lt p.size (r.first + r.count))
+    there : (op : Open) (x : Option Props) → covers_held (held (Whole op.file)) Write ≡ true → LeavesOpens held w (run m (on_props w x (write_pages w r pages op)))
+    there op None locked = leaves_refused held w refusal.UnknownOpen
+    there op (Some p) locked = writes op p locked (nat_lt p.size (r.first + r.count))
 
-    changes : (op : Open) (a : Access) → LeavesOpens w (one_leader (r.count + 1)) (run m (if_change w a (Look.Ask (Leader op.file) (λ lc. on_props w (props_in lc) (write_pages w r pages op)))))
-    changes op ReadOnly = leaves_refused w (one_leader (r.count + 1)) refusal.ReadOnlyOpen
-    changes op Change = there op (props_in (m (Leader op.file)))
+    changes : (op : Open) (a : Access) → covers_held (held (Whole op.file)) (mode_for a) ≡ true → LeavesOpens held w (run m (if_change w a (Look.Ask (Leader op.file) (λ lc. on_props w (props_in lc) (write_pages w r pages op)))))
+    changes op ReadOnly locked = leaves_refused held w refusal.ReadOnlyOpen
+    changes op Change locked = there op (props_in (m (Leader op.file))) locked
 
-    go : (x : Option Open) → LeavesOpens w (one_leader (r.count + 1)) (run m (on_change w x (write_pages w r pages)))
-    go None = leaves_refused w (one_leader (r.count + 1)) refusal.UnknownOpen
-    go (Some op) = changes op op.access
-page_leaves server made m who w (call.Hello name) given is = absurd is
-page_leaves server made m who w (call.Begin seen) given is = absurd is
-page_leaves server made m who w (call.Join t) given is = absurd is
-page_leaves server made m who w (call.CreateFile t start choice) given is = absurd is
-page_leaves server made m who w (call.OpenFile t f a mode choice) given is = absurd is
-page_leaves server made m who w (call.CloseFile t n) given is = absurd is
-page_leaves server made m who w (call.DeleteFile t n choice) given is = absurd is
-page_leaves server made m who w (call.LockPages t n r mode choice) given is = absurd is
-page_leaves server made m who w (call.SetSize t n size choice) given is = absurd is
-page_leaves server made m who w (call.ReadProps t n) given is = absurd is
-page_leaves server made m who w (call.WriteProps t n change choice) given is = absurd is
-page_leaves server made m who w (call.ReadOwner t name choice) given is = absurd is
-page_leaves server made m who w (call.MakeOwner t name quota create choice) given is = absurd is
-page_leaves server made m who w (call.SetQuota t name quota choice) given is = absurd is
-page_leaves server made m who w (call.Finish t commit) given is = absurd is
-page_leaves server made m who w (call.Outcome t) given is = absurd is
-page_leaves server made m who w (call.Collect n) given is = absurd is
+    go : (x : Option Open) → ((op : Open) → x ≡ Some op → IsLocked held op) → LeavesOpens held w (run m (on_change w x (write_pages w r pages)))
+    go None locked = leaves_refused held w refusal.UnknownOpen
+    go (Some op) locked = changes op op.access (locked op refl)
+page_leaves held server made m who w (call.Hello name) given is h = absurd is
+page_leaves held server made m who w (call.Begin seen) given is h = absurd is
+page_leaves held server made m who w (call.Join t) given is h = absurd is
+page_leaves held server made m who w (call.CreateFile t start choice) given is h = absurd is
+page_leaves held server made m who w (call.OpenFile t f a mode choice) given is h = absurd is
+page_leaves held server made m who w (call.CloseFile t n) given is h = absurd is
+page_leaves held server made m who w (call.DeleteFile t n choice) given is h = absurd is
+page_leaves held server made m who w (call.LockPages t n r mode choice) given is h = absurd is
+page_leaves held server made m who w (call.SetSize t n size choice) given is h = absurd is
+page_leaves held server made m who w (call.ReadProps t n) given is h = absurd is
+page_leaves held server made m who w (call.WriteProps t n change choice) given is h = absurd is
+page_leaves held server made m who w (call.ReadOwner t name choice) given is h = absurd is
+page_leaves held server made m who w (call.MakeOwner t name quota create choice) given is h = absurd is
+page_leaves held server made m who w (call.SetQuota t name quota choice) given is h = absurd is
+page_leaves held server made m who w (call.Finish t commit) given is h = absurd is
+page_leaves held server made m who w (call.Outcome t) given is h = absurd is
+page_leaves held server made m who w (call.Collect n) given is h = absurd is

@@ -9,7 +9,7 @@ use Rattle.alp_base.specs.declared.key.Resource.TheVariants.{Whole}
 use Rattle.alp_base.specs.Orders.{trans_cmp}
 use Rattle.alp_modes.specs.declared.Mode.{Mode}
 use Rattle.alp_files.specs.Act.{Own, no_opens}
-use Rattle.alp_calls.specs.Parts.{own_of}
+use Rattle.alp_trans.specs.Parts.{own_of}
 use Rattle.alp_locks.specs.Tables.{Table, held_of, holding}
 use Rattle.alp_locks.specs.Asks.{entered}
 use Rattle.alp_locks.specs.Releases.{released}
@@ -20,6 +20,7 @@ use Rattle.alp_locks.proofs.SoundLemmas.{released-sound, entered-sound}
 use Rattle.alp_journal.specs.Ids.{same_trans}
 use Rattle.alp_journal.proofs.IdLemmas.{same_trans-itself, same_trans-true}
 use Rattle.alp_node.specs.Dead.{without_client}
+use Rattle.alp_node.specs.Rooms.{IsWithin}
 use Rattle.alp_node.specs.Sessions.{session_at, with_session}
 use Rattle.alp_node.specs.ServerState.{IsReady}
 use Rattle.alp_node.specs.Steps.{IsTurn, counted_in, without_trans}
@@ -109,6 +110,9 @@ module _ {V : Type 0} (n : ℕ) (serves : Bool) (k : ServerState V) where
     given = omega (arith, h.given);
     committed = omega (arith, h.committed);
     few = omega (arith, h.few);
+    most = h.most;
+    within = h.within;
+    sized = h.sized;
     clock = h.clock;
     raised = h.raised;
     unheld = h.unheld;
@@ -130,6 +134,9 @@ module _ {V : Type 0} (n : ℕ) (serves : Bool) (k : ServerState V) where
     given = omega (arith, h.given);
     committed = omega (arith, h.committed);
     few = omega (arith, h.few);
+    most = h.most;
+    within = h.within;
+    sized = h.sized;
     clock = h.clock;
     raised = h.raised;
     unheld = h.unheld;
@@ -151,6 +158,9 @@ module _ {V : Type 0} (n : ℕ) (serves : Bool) (k : ServerState V) where
     given = omega (arith, h.given);
     committed = omega (arith, h.committed);
     few = omega (arith, h.few);
+    most = h.most;
+    within = h.within;
+    sized = h.sized;
     clock = h.clock;
     raised = h.raised;
     unheld = h.unheld;
@@ -172,6 +182,9 @@ module _ {V : Type 0} (n : ℕ) (serves : Bool) (k : ServerState V) where
     given = h.given;
     committed = h.committed;
     few = (let fewer : map.len (map.remove k.lives t) ≤ map.len k.lives = gone_length k.lives t in omega (arith, fewer, h.few));
+    most = (let fewer : map.len (map.remove k.lives t) ≤ map.len k.lives = gone_length k.lives t in omega (arith, fewer, h.most));
+    within = λ u l is. kept u (same_trans u t) l (λ x. x.part.last ≤ x.part.last) (λ there. h.within u l there) (sym (get_gone k.lives t u) ∙ is);
+    sized = h.sized;
     clock = h.clock;
     raised = h.raised;
     unheld = λ u m high. released_unheld k.locks t u (numbered k m) h.alone (h.unheld u m high);
@@ -198,8 +211,8 @@ module _ {V : Type 0} (n : ℕ) (serves : Bool) (k : ServerState V) where
     abbrev pub begun_kept : ServerState V
     begun_kept = record k { sessions = counted_in k.sessions turn; clock = clock; drawn = k.drawn + 1; dead = without_client turn.client k.dead; lives = map.insert k.lives t l; locks = entered k.locks t }
 
-    pub begin_ready : IsTurn k.sessions turn → t.counter ≡ k.drawn + 1 → own_of l.part ≡ no_opens → clock ≤ 2 ^ 62 → IsReady n serves k → IsReady (n + 1) serves begun_kept
-    begin_ready is next none low h = record {
+    pub begin_ready : IsTurn k.sessions turn → t.counter ≡ k.drawn + 1 → own_of l.part ≡ no_opens → IsWithin k.sizes l → map.len k.lives < 64 → clock ≤ 2 ^ 62 → IsReady n serves k → IsReady (n + 1) serves begun_kept
+    begin_ready is next none fresh less low h = record {
       serving = h.serving;
       halted = h.halted;
       sound = entered-sound k.locks t h.sound;
@@ -213,6 +226,9 @@ module _ {V : Type 0} (n : ℕ) (serves : Bool) (k : ServerState V) where
       given = omega (arith, h.given);
       committed = omega (arith, h.committed);
       few = (let more : map.len (map.insert k.lives t l) ≤ map.len k.lives + 1 = put_most k.lives t l in omega (arith, more, h.few));
+      most = (let more : map.len (map.insert k.lives t l) ≤ map.len k.lives + 1 = put_most k.lives t l in omega (arith, more, less));
+      within = λ u x there. within_so u (same_trans u t) x (sym (get_put k.lives t l u) ∙ there);
+      sized = h.sized;
       clock = low;
       raised = h.raised;
       unheld = λ u m high. entered_unheld k.locks t u (numbered k m) (h.unheld u m high);
@@ -225,6 +241,10 @@ module _ {V : Type 0} (n : ℕ) (serves : Bool) (k : ServerState V) where
         begun_so : (u : TransId) (b : Bool) → same_trans u t ≡ b → (x : Live) → cond {A = Option Live} b (Some l) (map.get k.lives u) ≡ Some x → u.counter ≤ k.drawn + 1
         begun_so u true e x there = (let counter : u.counter ≡ t.counter = ap (λ (v : TransId). v.counter) (same_trans-true u t e) in omega (arith, next))
         begun_so u false e x there = (let low : u.counter ≤ k.drawn = h.begun u x there in omega arith)
+
+        within_so : (u : TransId) (b : Bool) (x : Live) → cond {A = Option Live} b (Some l) (map.get k.lives u) ≡ Some x → IsWithin k.sizes x
+        within_so u true x there = subst (IsWithin k.sizes) (same_live l x there) fresh
+        within_so u false x there = h.within u x there
 
         opens_so : (u : TransId) (b : Bool) (x : Live) → cond {A = Option Live} b (Some l) (map.get k.lives u) ≡ Some x → x.part.last ≤ n + 1
         opens_so u true x there =
@@ -248,6 +268,9 @@ module _ {V : Type 0} (n : ℕ) (serves : Bool) (k : ServerState V) where
     given = h.given;
     committed = h.committed;
     few = h.few;
+    most = h.most;
+    within = h.within;
+    sized = h.sized;
     clock = h.clock;
     raised = h.raised;
     unheld = λ u m high. released_unheld (entered k.locks t) t u (numbered k m) h.alone (entered_unheld k.locks t u (numbered k m) (h.unheld u m high));
@@ -269,6 +292,9 @@ module _ {V : Type 0} (n : ℕ) (serves : Bool) (k : ServerState V) where
     given = h.given;
     committed = h.committed;
     few = h.few;
+    most = h.most;
+    within = h.within;
+    sized = h.sized;
     clock = h.clock;
     raised = h.raised;
     unheld = h.unheld;
@@ -293,6 +319,9 @@ ready_with n before serves k v on up h = record {
   given = h.given;
   committed = h.committed;
   few = h.few;
+  most = h.most;
+  within = h.within;
+  sized = h.sized;
   clock = h.clock;
   raised = h.raised;
   unheld = h.unheld;
@@ -317,6 +346,9 @@ down_ready n before serves k v off h =
       given = c.given;
       committed = c.committed;
       few = c.few;
+      most = c.most;
+      within = c.within;
+      sized = c.sized;
       clock = c.clock;
       raised = c.raised;
       unheld = c.unheld;
@@ -341,7 +373,14 @@ commit_ready n before serves k v turn t on up is early h =
       given = c.given;
       committed = omega (arith, h.committed);
       few = c.few;
+      most = c.most;
+      within = c.within;
+      sized = c.sized;
       clock = omega (arith, early);
       raised = c.raised;
       unheld = c.unheld;
     }
+
+-- the dead parts of a client whose begin is refused go
+pub refused_ready : {V : Type 0} (n : ℕ) (serves : Bool) (k : ServerState V) (turn : Turn) (ds : List DeadPart) → IsTurn k.sessions turn → IsReady n serves k → IsReady (n + 1) serves (record k { sessions = counted_in k.sessions turn; dead = ds })
+refused_ready n serves k turn ds is h = buried_ready (n + 1) serves (record k { sessions = counted_in k.sessions turn }) ds (counted_ready n serves k turn is h)

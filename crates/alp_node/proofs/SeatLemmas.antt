@@ -6,6 +6,8 @@ use Rattle.alp_base.specs.declared.allowance.Allowance.{Allowance}
 use Rattle.alp_base.specs.declared.allowance.Allowance.TheVariants.{Free, Left, Spent}
 use Rattle.alp_fields.specs.ClockNote.{clock_kept}
 use Rattle.alp_vault.specs.Contents.{Contents}
+use Rattle.alp_vault.specs.Vault.{IsSameVault}
+use Rattle.alp_vault.specs.Volumes.{AreServerNotes}
 use Rattle.alp_vault.specs.declared.vault.Vault.{Ghosts}
 use Rattle.alp_calls.specs.Looks.{IsLeft}
 use Rattle.alp_calls.proofs.LookLemmas.{left_same}
@@ -31,6 +33,13 @@ module _ {V : Type 0} (G : Ghosts V) where
   pub left_alone : (old new : V) → new ≡ old → IsLeft G old new
   left_alone old new is = subst (IsLeft G old) (sym is) (left_same G old)
 
+  -- notes that stay are in the format that they were in
+  pub same_format : (old new : V) → IsSameVault G.tells G.volume G.server G.servers old new → (G.held new).notes ≡ (G.held old).notes → AreServerNotes (G.server old) (G.servers old) (G.held old).notes
+      → AreServerNotes (G.server new) (G.servers new) (G.held new).notes
+  same_format old new same notes h =
+      subst (λ (n : ℕ). AreServerNotes n (G.servers new) (G.held new).notes) (sym same.number)
+      (subst (λ (n : ℕ). AreServerNotes (G.server old) n (G.held new).notes) (sym same.of_all) (subst (AreServerNotes (G.server old) (G.servers old)) (sym notes) h))
+
   -- after a look a crash leaves what it might have left before
   pub left_leaves : (old new : V) (P : Contents → Type 0) → IsLeft G old new → Leaves G old new (Besides G old P)
   left_leaves old new P left = record {
@@ -54,7 +63,10 @@ module _ {V : Type 0} (G : Ghosts V) where
     left_seated = record { server = server; sizes = sizes; epoch = epoch; same = left.same; spends = spends_same (G.allowance old.vault) (G.allowance new.vault) left.allowed }
 
     pub left_noted : old.is_down ≡ false → IsNoted G old → IsNoted G new
-    left_noted up h now = ap (λ (c : Contents). (clock_kept c.notes).epoch) left.contents ∙ h up ∙ sym epoch
+    left_noted up h = (
+      (λ now. same_format old.vault new.vault left.same (ap (λ (c : Contents). c.notes) left.contents) (h.0 up)),
+      (λ now. ap (λ (c : Contents). (clock_kept c.notes).epoch) left.contents ∙ h.1 up ∙ sym epoch),
+    )
 
     -- a step that only looks into the vault
     pub left_step : (e : Event) (x : Answer) → old.is_down ≡ false

@@ -1,8 +1,8 @@
 -- file calls that are refused before they are looked at
-use Rattle.std.specs.Prelude.{cond, Bool, true, false, not, nat_le, length, Option, None, Some, is_some}
+use Rattle.std.specs.Prelude.{cond, Bool, true, false, Option, None, Some, is_some}
 use Rattle.std.specs.Option.{option_or}
 use Rattle.std.specs.FinMap as map
-use Rattle.std.proofs.Common.{inl, inr, ◌≡◌, ℕ, ◌<◌, List, [], ◌∷◌, refl, sym, ◌∙◌, ap, subst}
+use Rattle.std.proofs.Common.{inl, inr, ◌≡◌, ℕ, List, [], refl, sym, ◌∙◌, ap, subst}
 use Rattle.alp_base.specs.declared.ids.TransId.{TransId}
 use Rattle.alp_files.specs.declared.call.Call.{Call}
 use Rattle.alp_files.specs.declared.call.Call.TheVariants as call
@@ -11,19 +11,16 @@ use Rattle.alp_files.specs.declared.reply.Reply.TheVariants as reply
 use Rattle.alp_files.specs.declared.refusal.Refusal.{Refusal}
 use Rattle.alp_files.specs.declared.refusal.Refusal.TheVariants as refusal
 use Rattle.alp_files.specs.declared.refusal.Cause.TheVariants as cause
-use Rattle.alp_files.specs.declared.refusal.What.TheVariants as what
 use Rattle.alp_vault.specs.Contents.{Contents}
 use Rattle.alp_base.specs.Causes.{Rose}
 use Rattle.alp_journal.specs.declared.event.Event.TheVariants as event
-use Rattle.alp_journal.specs.Deeds.{Deed, Performs}
 use Rattle.alp_journal.specs.Desk.{file_trans, is_not_yet}
 use Rattle.alp_journal.specs.Holder.{Life}
 use Rattle.alp_journal.specs.Moves.{done_by}
-use Rattle.alp_journal.specs.Answers.{Part, part_at, at_part, part_refusal, First, OrFault, IsFileOf, IsFileAnswer, IsLocked, shape_refusal, lock_refusal, if_over}
+use Rattle.alp_journal.specs.Answers.{Part, part_at, at_part, part_refusal, First, OrFault, IsFileOf, IsFileAnswer, IsLocked, shape_refusal, lock_refusal}
 use Rattle.alp_journal.specs.Answered.{GrantsFor, grants_by, grants_if, asks}
 use Rattle.alp_journal.specs.Alone.{Alone, alone}
 use Rattle.alp_journal.proofs.AloneEntries.{counted_as, refused_leads}
-use Rattle.alp_node.specs.Asks.{is_of_given}
 use Rattle.alp_node.specs.Calls.{IsServedCall, IsPageCall, IsLockCall}
 use Rattle.alp_node.specs.Served.{IsInTurn, IsNextOf, is_on_open}
 use Rattle.alp_node.specs.Sessions.{session_at}
@@ -33,13 +30,11 @@ use Rattle.alp_node.specs.ServerState.{IsAs}
 use Rattle.alp_node.specs.Standings.{standing_of}
 use Rattle.alp_node.specs.Steps.{Stepped, IsTurn, counted_in, seen_in}
 use Rattle.alp_node.specs.declared.answer.Answer.{Answer}
-use Rattle.alp_node.specs.declared.lives.Live.{Live}
 use Rattle.alp_node.specs.declared.served.Standing.TheVariants as standing
 use Rattle.alp_node.specs.declared.server_state.ServerState.{ServerState}
 use Rattle.alp_node.specs.declared.sessions.Turn.{Turn}
 use Rattle.alp_node.proofs.FinishLemmas.{turn_session, turn_next, counts_as}
-use Rattle.alp_node.proofs.IdLemmas.{unknown_file}
-use Rattle.alp_node.proofs.KeptLemmas.{IsSession, IsLive, live_there, stands_timely, stepped_so}
+use Rattle.alp_node.proofs.KeptLemmas.{IsSession, stands_timely, stepped_so}
 use Rattle.alp_node.proofs.StandingLemmas.{part_of, part_is}
 
 module _ {V : Type 0} (a : Alone) (before now : ℕ) (held : Contents) (k : ServerState V) (turn : Turn) (t : TransId) (c : Call) where
@@ -99,28 +94,15 @@ module _ {V : Type 0} (a : Alone) (before now : ℕ) (held : Contents) (k : Serv
   fault_stepped life x h is up rose named own live so =
       refused_stepped true refusal.ReadFault x h is up (λ e. rose) named refl refl (work_why true (reply.Refused refusal.ReadFault) life h own live (inl (refl, refl))) (inl (refl, refl, refl)) so
 
--- only an open names a file
-module _ {V : Type 0} (a : Alone) (before now : ℕ) (held : Contents) (k : ServerState V) (turn : Turn) (t : TransId) where
-  pub no_file_stepped : (c : Call) (x : Answer) → IsAs a held k → 0 < k.epoch → IsTurn k.sessions turn → k.is_down ≡ false → file_trans c ≡ Some t → standing_of turn.client (map.get k.lives t) (is_dead turn.client t k.dead) ≡ standing.Own
-      → (l : Live) → map.get k.lives t ≡ Some l → is_of_given k.server k.epoch k.given c ≡ false
-      → x ≡ record { kept = Some (reply.Refused refusal.UnknownFile); handed = Some (reply.Refused refusal.UnknownFile); acts = [] }
+  -- it is refused before its locks are looked at
+  pub first_stepped : (f : Refusal) (life : Life) (x : Answer) → IsAs a held k → IsTurn k.sessions turn → k.is_down ≡ false → file_trans c ≡ Some t → standing_of turn.client (map.get k.lives t) (is_dead turn.client t k.dead) ≡ standing.Own
+      → a.holder.lives t ≡ Some life → option_or (shape_refusal (alone a) life c) (lock_refusal (alone a) t life c) ≡ Some f → is_not_yet (reply.Refused f) ≡ false → done_by (alone a) c (reply.Refused f) (Some t) ≡ []
+      → x ≡ record { kept = Some (reply.Refused f); handed = Some (reply.Refused f); acts = [] }
       → Stepped a before now held (record k { sessions = counted_in k.sessions turn }) (event.Call turn.client k.epoch turn.number c) x
-  no_file_stepped (call.OpenFile u f access mode choice) x h some is up named own l there away so =
-      let c : Call = call.OpenFile u f access mode choice in
-      let none = unknown_file a held k f h some away in
-      let y : IsLive k.locks.held (a.locked t) t l (a.holder.lives t) = live_there k.locks.held (a.locked t) t (map.get k.lives t) (a.holder.lives t) l there (h.lives t) in
-      let shape : option_or (shape_refusal (alone a) y.life c) (lock_refusal (alone a) t y.life c) ≡ Some refusal.UnknownFile =
-      ap (λ (b : Bool). option_or (option_or (cond {A = Option Refusal} (not b) (Some refusal.UnknownFile) None) (shape_rest y.life)) (lock_refusal (alone a) t y.life c)) none in
-      refused_stepped a before now held k turn t c false refusal.UnknownFile x h is up (λ e. cc) named refl
-      (ap (λ (b : Bool). cond {A = List Deed} (not b) [] (Performs t (record { call = c; reply = reply.Refused refusal.UnknownFile }) ∷ [])) none)
-      (work_why a before now held k turn t c false (reply.Refused refusal.UnknownFile) y.life h own y.is
-      (inr (subst (λ (z : Option Refusal). First z (reply.Refused refusal.UnknownFile) (IsLocked (alone a) t y.life c (reply.Refused refusal.UnknownFile))) (sym shape) refl)))
-      (work_grants a before now held k turn t c false (reply.Refused refusal.UnknownFile) y.life [] h own y.is
-      (sym (ap (λ (z : Option Refusal). cond {A = List TransId} (is_some z) [] (grants_by (asks a.holder y.life c) t (reply.Refused refusal.UnknownFile))) shape))) so
-    where
-      shape_rest : Life → Option Refusal
-      shape_rest l = if_over (nat_le 64 (length l.own.opens)) (refusal.TooMany what.Opens 64)
-  no_file_stepped c x h some is up named own l there away so = cc
+  first_stepped f life x h is up named own live first later none so =
+      refused_stepped false f x h is up (λ e. cc) named later none
+      (work_why false (reply.Refused f) life h own live (inr (subst (λ (z : Option Refusal). First z (reply.Refused f) (IsLocked (alone a) t life c (reply.Refused f))) (sym first) refl)))
+      (work_grants false (reply.Refused f) life [] h own live (sym (ap (λ (z : Option Refusal). cond {A = List TransId} (is_some z) [] (grants_by (asks a.holder life c) t (reply.Refused f))) first))) so
 
 -- ---- which calls are on opens
 

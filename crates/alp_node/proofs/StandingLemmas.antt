@@ -1,5 +1,5 @@
 -- what a client has of a transaction, as the server and as its journal say it
-use Rattle.std.specs.Prelude.{cond, Bool, true, false, ◌==◌, ◌&&◌, not, Option, None, Some, is_none, nat_le}
+use Rattle.std.specs.Prelude.{cond, Bool, true, false, ◌==◌, ◌&&◌, not, Option, None, Some, is_none, nat_lt, nat_le}
 use Rattle.std.specs.FinMap as map
 use Rattle.std.proofs.Common.{◌≡◌, ℕ, List, [], ◌∷◌, refl, sym, ◌∙◌, ap, subst, eq-eqb}
 use Rattle.alp_base.specs.declared.ids.TransId.{TransId}
@@ -26,6 +26,7 @@ use Rattle.alp_node.specs.declared.served.Standing.{Standing}
 use Rattle.alp_node.specs.declared.served.Standing.TheVariants as standing
 use Rattle.alp_node.specs.declared.server_state.ServerState.{ServerState}
 use Rattle.std.proofs.lemmas.Bool.{eqb-true}
+use Rattle.alp_files.specs.Cells.{Cells}
 
 -- the part that the journal says
 abbrev pub part_of : Standing → Part
@@ -42,21 +43,21 @@ not_running client dead (Committed x js ds) h = refl
 not_running client dead (Forgotten x js) h = absurd h
 not_running client dead (Ended c) h = refl
 
-own_part_is : (client : ℕ) (locks : Holders) (rs : List Resource) (t : TransId) (o : Option Live) (x : Option Life) (f : Fate) (dead : Option Cause) (b : Bool) → IsAlike locks rs t o x → IsPaired x f
+own_part_is : (client : ℕ) (cells : Cells) (locks : Holders) (rs : List Resource) (t : TransId) (o : Option Live) (x : Option Life) (f : Fate) (dead : Option Cause) (b : Bool) → IsAlike cells locks rs t o x → IsPaired x f
     → dead ≡ cond {A = Option Cause} b (Some cause.TimedOut) None → own_part client dead f ≡ part_of (standing_of client o b)
-own_part_is client locks rs t None None f dead b h p is = not_running client dead f p ∙ ap ended_part is ∙ go b
+own_part_is client cells locks rs t None None f dead b h p is = not_running client dead f p ∙ ap ended_part is ∙ go b
   where
     go : (b : Bool) → ended_part (cond {A = Option Cause} b (Some cause.TimedOut) None) ≡ part_of (cond {A = Standing} b standing.Dead standing.Unknown)
     go true = refl
     go false = refl
-own_part_is client locks rs t (Some l) (Some life) f dead b h p is =
+own_part_is client cells locks rs t (Some l) (Some life) f dead b h p is =
     ap (own_part client dead) (p.0 ∙ ap (λ (n : ℕ). Running n []) h.client) ∙ go (l.client == client)
   where
     go : (x : Bool) → cond {A = Part} x AtWork NoPart ≡ part_of (cond {A = Standing} x standing.Own standing.Unknown)
     go true = refl
     go false = refl
-own_part_is client locks rs t None (Some life) f dead b h p is = absurd h
-own_part_is client locks rs t (Some l) None f dead b h p is = absurd h
+own_part_is client cells locks rs t None (Some life) f dead b h p is = absurd h
+own_part_is client cells locks rs t (Some l) None f dead b h p is = absurd h
 
 -- a Finish ends nothing where the client has no live part
 pub record EndsNone (client : ℕ) (t : TransId) (commit : Bool) (desk : Desk) (r : Reply) (f : Fate) : Type 0 where
@@ -81,25 +82,25 @@ others_running client owner t true desk r away = record {
 }
 others_running client owner t false desk r away = record { deeds = ap (λ (b : Bool). cond {A = List Deed} b (Ends t client cause.Asked ∷ []) []) away; mail = ap (λ (b : Bool). cond {A = List Mail} b [] []) away }
 
-ends_none : (client : ℕ) (locks : Holders) (rs : List Resource) (t : TransId) (o : Option Live) (x : Option Life) (f : Fate) (b : Bool) (commit : Bool) (desk : Desk) (r : Reply) → IsAlike locks rs t o x → IsPaired x f
+ends_none : (client : ℕ) (cells : Cells) (locks : Holders) (rs : List Resource) (t : TransId) (o : Option Live) (x : Option Life) (f : Fate) (b : Bool) (commit : Bool) (desk : Desk) (r : Reply) → IsAlike cells locks rs t o x → IsPaired x f
     → (standing_of client o b ≡ standing.Own → ⊥) → EndsNone client t commit desk r f
-ends_none client locks rs t None None f b commit desk r h p not_own = none_running client t commit desk r f p
-ends_none client locks rs t (Some l) (Some life) f b commit desk r h p not_own =
+ends_none client cells locks rs t None None f b commit desk r h p not_own = none_running client t commit desk r f p
+ends_none client cells locks rs t (Some l) (Some life) f b commit desk r h p not_own =
     subst (EndsNone client t commit desk r) (sym (p.0 ∙ ap (λ (n : ℕ). Running n []) h.client)) (others_running client l.client t commit desk r (go (l.client == client) refl))
   where
     go : (x : Bool) → (l.client == client) ≡ x → x ≡ false
     go false e = refl
     go true e = absurd (not_own (ap (λ (y : Bool). cond {A = Standing} y standing.Own standing.Unknown) e))
-ends_none client locks rs t None (Some life) f b commit desk r h p not_own = absurd h
-ends_none client locks rs t (Some l) None f b commit desk r h p not_own = absurd h
+ends_none client cells locks rs t None (Some life) f b commit desk r h p not_own = absurd h
+ends_none client cells locks rs t (Some l) None f b commit desk r h p not_own = absurd h
 
 module _ {V : Type 0} (a : Alone) (held : Contents) (k : ServerState V) (client : ℕ) (t : TransId) where
   -- an id of another server was not drawn here
   pub undrawn_elsewhere : IsAs a held k → (t.server == a.holder.server) ≡ false → a.fates t ≡ Undrawn
-  undrawn_elsewhere h away = h.undrawn t (ap (λ (b : Bool). not (b && t.epoch == a.ids.epoch && nat_le t.counter k.drawn)) away)
+  undrawn_elsewhere h away = h.undrawn t (ap (λ (b : Bool). not (b && t.epoch == a.ids.epoch && nat_lt 0 t.counter && nat_le t.counter k.drawn)) away)
 
   pub part_is : IsAs a held k → part_at (alone a) client t ≡ part_of (standing_of client (map.get k.lives t) (is_dead client t k.dead))
-  part_is h = go (t.server == a.holder.server) refl ∙ own_part_is client k.locks.held (a.locked t) t (map.get k.lives t) (a.holder.lives t) (a.fates t) (a.dead client t) (is_dead client t k.dead) (h.lives t) (h.quiet.paired t) (h.dead client t)
+  part_is h = go (t.server == a.holder.server) refl ∙ own_part_is client a.holder.cells k.locks.held (a.locked t) t (map.get k.lives t) (a.holder.lives t) (a.fates t) (a.dead client t) (is_dead client t k.dead) (h.lives t) (h.quiet.paired t) (h.dead client t)
     where
       go : (b : Bool) → (t.server == a.holder.server) ≡ b → part_at (alone a) client t ≡ own_part client (a.dead client t) (a.fates t)
       go true e = ap (λ (b : Bool). cond {A = Part} b (own_part client (a.dead client t) (a.fates t)) (ended_part (a.dead client t))) e
@@ -107,7 +108,7 @@ module _ {V : Type 0} (a : Alone) (held : Contents) (k : ServerState V) (client 
           ∙ sym (ap (own_part client (a.dead client t)) (undrawn_elsewhere h e))
 
   pub finish_none : (commit : Bool) (r : Reply) → IsAs a held k → (standing_of client (map.get k.lives t) (is_dead client t k.dead) ≡ standing.Own → ⊥) → EndsNone client t commit (alone a).desk r (a.fates t)
-  finish_none commit r h = ends_none client k.locks.held (a.locked t) t (map.get k.lives t) (a.holder.lives t) (a.fates t) (is_dead client t k.dead) commit (alone a).desk r (h.lives t) (h.quiet.paired t)
+  finish_none commit r h = ends_none client a.holder.cells k.locks.held (a.locked t) t (map.get k.lives t) (a.holder.lives t) (a.fates t) (is_dead client t k.dead) commit (alone a).desk r (h.lives t) (h.quiet.paired t)
 
 -- the client's own is live
 pub own_live : (client : ℕ) (o : Option Live) (b : Bool) → standing_of client o b ≡ standing.Own → IsOf client o

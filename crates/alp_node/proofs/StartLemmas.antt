@@ -20,11 +20,13 @@ use Rattle.alp_files.specs.declared.cell.Cell.{Cell}
 use Rattle.alp_files.specs.declared.cell.Cell.TheVariants as cell
 use Rattle.alp_files.specs.Locks.{page_limit}
 use Rattle.alp_files.specs.Cells.{Cells}
-use Rattle.alp_files.specs.Edits.{over}
+use Rattle.alp_files.specs.Edits.{ChangesBy, edits_map}
+use Rattle.alp_files.specs.Changes.{edits_of}
+use Rattle.alp_calls.proofs.PartLaws.{same_change}
+use Rattle.alp_trans.specs.Parts.{change_of}
+use Rattle.alp_trans.specs.declared.part.Part.{Part}
 use Rattle.alp_files.specs.Apart.{AreSized}
 use Rattle.alp_files.specs.Sound.{AreSound}
-use Rattle.alp_files.proofs.CellMapLemmas.{over-none}
-use Rattle.alp_files.proofs.HistoryLemmas.{same_cells}
 use Rattle.alp_locks.specs.Sound.{IsSound}
 use Rattle.alp_locks.specs.Tables.{holding}
 use Rattle.alp_queue.specs.Rises.{Held}
@@ -49,7 +51,9 @@ use Rattle.alp_node.specs.NodeStates.{NodeState}
 use Rattle.alp_node.specs.declared.sessions.Session.{Session}
 use Rattle.alp_node.specs.declared.start.StartFault.{StartFault}
 use Rattle.alp_node.specs.declared.start.StartFault.TheVariants as start_fault
-use Rattle.alp_node.specs.ServerState.{IsAs, IsReady, IsAlike, LiveMap}
+use Rattle.alp_node.specs.ServerState.{IsAs, IsReady, IsAlike}
+use Rattle.alp_node.specs.Totals.{LiveMap, totals_of, HaveRoom}
+use Rattle.alp_node.proofs.TotalLemmas.{empty_totals}
 use Rattle.alp_node.specs.Nodes.{IsRight, state_of}
 use Rattle.alp_node.specs.Sessions.{no_sessions, session_at}
 use Rattle.alp_node.specs.Durable.{clock_notes, Leaves, Besides, IsWritten}
@@ -110,8 +114,8 @@ start_cause server servers held before a value r are there is =
     go (Some k) e = ends k e (k.epoch == 4294967295) refl
 
 -- no intents change nothing
-pub over_nothing : (puts m held : Cells) → puts ≡ map.empty → map.get m ≡ over puts (map.get held) → m ≡ held
-over_nothing puts m held none is = same_cells m held (is ∙ ap (λ (x : Cells). over x (map.get held)) none ∙ over-none (map.get held))
+pub no_change : (m : Cells) (p : Part) → p.intents ≡ map.empty → edits_map (edits_of (change_of p.intents)) m ≡ m
+no_change m p none = same_change m p [] refl (subst (ChangesBy [] map.empty) (sym none) (λ v. refl))
 
 -- ---- what a server keeps when it starts
 
@@ -180,13 +184,17 @@ new_alone o = record {
 pub new_says : (server servers : ℕ) (sizes : Sizes) (cells : Cells) (notes : Notes) → opened (start_at server servers sizes cells notes) ≡ alone (new_alone (start_at server servers sizes cells notes))
 new_says server servers sizes cells notes = refl
 
-alike_none : (t : TransId) → IsAlike map.empty [] t (map.get no_lives t) None
-alike_none t = subst (λ (x : Option Live). IsAlike map.empty [] t x None) (sym (none_live t)) (none_locked t)
+alike_none : (cells : Cells) (t : TransId) → IsAlike cells map.empty [] t (map.get no_lives t) None
+alike_none cells t = subst (λ (x : Option Live). IsAlike cells map.empty [] t x None) (sym (none_live t)) (none_locked t)
+
+-- there is room for no parts
+new_room : (s : Sizes) (m : Cells) → IsVolumeOf s m → HaveRoom s m (totals_of no_lives)
+new_room s m is = subst (HaveRoom s m) (sym empty_totals) (record { places = omega (arith, is.fits.places); files = omega (arith, is.fits.files); owners = omega (arith, is.fits.owners) })
 
 pub new_as : {V : Type 0} (old : ServerState V) (server servers last : ℕ) (sizes : Sizes) (c : ClockNote) (held : Contents)
-    → ((f : FileId) (x : Cell) → map.get held.cells (Leader f) ≡ Some x → (f.server ≡ server) × (f.epoch ≤ last)) → last < c.epoch → clock_kept held.notes ≡ c → held.notes ≡ clock_notes c
+    → ((f : FileId) (x : Cell) → map.get held.cells (Leader f) ≡ Some x → (f.server ≡ server) × (f.epoch ≤ last)) → last < c.epoch → clock_kept held.notes ≡ c → held.notes ≡ clock_notes c → IsVolumeOf sizes held.cells
     → IsAs (new_alone (start_at server servers sizes held.cells held.notes)) held (new_kept old server sizes c)
-new_as old server servers last sizes c held ids later kept alone =
+new_as old server servers last sizes c held ids later kept alone volume =
     let epoch : (clock_kept held.notes).epoch ≡ c.epoch = ap (λ (x : ClockNote). x.epoch) kept in
     record {
       server = refl;
@@ -198,7 +206,8 @@ new_as old server servers last sizes c held ids later kept alone =
       places = refl;
       sessions = λ client. sym (no_session client);
       dead = λ client t. refl;
-      lives = alike_none;
+      lives = alike_none held.cells;
+      room = new_room sizes held.cells volume;
       unborn = λ t l is. (let wrong : None ≡ Some l = is in cc);
       drawn = refl;
       begun = refl;
@@ -215,12 +224,15 @@ new_as old server servers last sizes c held ids later kept alone =
 le_of : {n : ℕ} → n ≡ 0 → n ≤ 0
 le_of is = omega (arith, is)
 
+few_of : {n : ℕ} → n ≡ 0 → n ≤ 64
+few_of is = omega (arith, is)
+
 some_epoch : (m n : ℕ) → m < n → 0 < n
 some_epoch m n later = omega (arith, later)
 
-pub new_ready : {V : Type 0} (old : ServerState V) (server : ℕ) (sizes : Sizes) (c : ClockNote) (serves : Bool) → IsTrue serves → c.clock ≤ 2 ^ 62 → 0 < c.epoch → IsSound (new_kept old server sizes c).locks
+pub new_ready : {V : Type 0} (old : ServerState V) (server : ℕ) (sizes : Sizes) (c : ClockNote) (serves : Bool) → IsTrue serves → c.clock ≤ 2 ^ 62 → 0 < c.epoch → 64 ≤ sizes.area → IsSound (new_kept old server sizes c).locks
     → IsReady 0 serves (new_kept old server sizes c)
-new_ready old server sizes c serves up within later sound = record {
+new_ready old server sizes c serves up within later area sound = record {
   serving = λ _. up;
   halted = λ down. (let wrong : false ≡ true = down in cc);
   sound = sound;
@@ -234,6 +246,9 @@ new_ready old server sizes c serves up within later sound = record {
   given = le_refl 0;
   committed = le_refl 0;
   few = le_of (len-empty trans_cmp Live);
+  most = few_of (len-empty trans_cmp Live);
+  within = λ t l is. (let wrong : None ≡ Some l = sym (none_live t) ∙ is in cc);
+  sized = area;
   clock = within;
   raised = later;
   unheld = λ t n high. none_locked t (Whole (record { server = server; epoch = c.epoch; counter = n }));
@@ -270,17 +285,17 @@ module _ {V : Type 0} (G : Ghosts V) (old : V) (only : Only (G.held old) (G.may_
   kept_leaves = record { crash = λ c here. inl (only c here); time = record { each = λ start c was. inl was } }
 
   -- and one that was written once
-  pub raised_leaves : (new : V) (puts : Cells) (k : ClockNote) → puts ≡ map.empty → raised (G.held old) ≡ Ok k → Leaves G old new (Besides G old (IsWritten puts k (G.held old)))
+  pub raised_leaves : (new : V) (p : Part) (k : ClockNote) → p.intents ≡ map.empty → raised (G.held old) ≡ Ok k → Leaves G old new (Besides G old (IsWritten p.intents k (G.held old)))
       → Leaves G old new (IsKeptOrRaised (G.held old))
-  raised_leaves new puts k none is h = record {
+  raised_leaves new p k none is h = record {
     crash = λ c here. seen c (h.crash c here);
     time = record { each = λ start c was. ⊎_elim (λ before. inl before) (λ now. inr (seen c now)) (h.time.each start c was) };
   }
     where
-      seen : (c : Contents) → Besides G old (IsWritten puts k (G.held old)) c → IsKeptOrRaised (G.held old) c
+      seen : (c : Contents) → Besides G old (IsWritten p.intents k (G.held old)) c → IsKeptOrRaised (G.held old) c
       seen c (inl before) = inl (only c before)
       seen c (inr (inl same)) = inl same
-      seen c (inr (inr w)) = (let cells : c.cells ≡ (G.held old).cells = over_nothing puts c.cells (G.held old).cells none w.cells in inr (k, is, (λ i. record { cells = cells i; notes = w.notes i })))
+      seen c (inr (inr w)) = (let cells : c.cells ≡ (G.held old).cells = w.cells ∙ no_change (G.held old).cells p none in inr (k, is, (λ i. record { cells = cells i; notes = w.notes i })))
 
 pub vault_same : (f g : VaultFault) → start_fault.Vault f ≡ start_fault.Vault g → f ≡ g
 vault_same f g e = cc

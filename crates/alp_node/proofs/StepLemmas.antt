@@ -78,7 +78,7 @@ module _ {V : Type 0} (G : Ghosts V) (k new : ServerState V) (v : V) where
         stepped = steps;
         given = reply_given k.server (G.faults k.vault) (G.faults v) (G.allowance v) true (reply.Refused refusal.Down) acts x so (counts_down k.server (G.faults k.vault) (G.faults v) later) (sym stop) causes;
         ready = λ n h. down_ready n (G.serves k.vault) (G.serves v) k v off h;
-        noted = λ h e. cc;
+        noted = λ h. ((λ e. cc), (λ e. cc));
         still = tt;
         seat = record { server = refl; sizes = refl; epoch = refl; same = same; spends = spends };
         leaves = leaves;

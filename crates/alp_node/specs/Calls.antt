@@ -1,5 +1,5 @@
 -- The calls that a server answers so far, and what its answers rest on.
-use Rattle.std.specs.Prelude.{◌≡◌, ◌+◌, ◌≤◌, length, Bool, false, IsTrue, Result, Ok, Err}
+use Rattle.std.specs.Prelude.{◌≡◌, ◌+◌, length, Bool, Result, Ok, Err}
 use Rattle.std.specs.FinMap as map
 use Rattle.alp_base.specs.declared.choices.Choice.TheVariants.{Fail}
 use Rattle.alp_modes.specs.declared.Mode.TheVariants.{Read}
@@ -9,13 +9,14 @@ use Rattle.alp_base.specs.declared.ids.FileId.{FileId}
 use Rattle.alp_base.specs.declared.ids.TransId.{TransId}
 use Rattle.alp_files.specs.declared.reply.Reply.{Reply}
 use Rattle.alp_files.specs.Cells.{Cells}
-use Rattle.alp_files.specs.Passing.{is_passing, IsFileReply}
 use Rattle.alp_calls.specs.declared.fault.CallFault.{CallFault}
-use Rattle.alp_calls.specs.declared.part.Part.{Part}
-use Rattle.alp_calls.specs.Parts.{AnswersCall, GivesOnly, ReadsOnly, IsAsBefore}
+use Rattle.alp_calls.specs.declared.limits.Room.{Room}
+use Rattle.alp_trans.specs.declared.part.Part.{Part}
+use Rattle.alp_calls.specs.Parts.{IsPart, Answered, IsAsBefore}
 use Rattle.alp_node.specs.declared.server_state.ServerState.{ServerState}
-use Rattle.alp_node.specs.declared.bounds.Bounds.{Bounds}
 use Rattle.alp_node.specs.declared.lives.Live.{Live}
+use Rattle.alp_node.specs.declared.lock_counts.LockCounts.{LockCounts}
+use Rattle.alp_node.specs.Rooms.{IsRoomOf, locks_given}
 use Rattle.alp_node.specs.ServerState.{mode_for}
 
 -- file calls that are performed so far: opens lock their files in their access's mode, reads are in Read, a write has as
@@ -45,26 +46,16 @@ IsLockCall _ = ⊥
 abbrev pub next_file : {V : Type 0} → ServerState V → FileId
 next_file k = record { server = k.server; epoch = k.epoch; counter = k.given + 1 }
 
--- what a live part gave for a call, and how it stands
-pub record Gave (tells : Bool) (cells : Cells) (id : FileId) (l : Live) (p : Part) (c : Call) (r : Reply) : Type 0 where
-  pub right : IsTrue tells → AnswersCall cells l.part p l.who id c r
-  pub given : GivesOnly id r
-  pub own : is_passing r ≡ false
-  pub kind : IsFileReply r
-  pub reads : ReadsOnly l.part p r
-  pub last : p.last ≤ l.part.last + 1
-
-abbrev pub Outcome : Bool → Cells → FileId → Live → Part → Call → Result Reply CallFault → Type 0
-Outcome tells cells id l p c (Ok r) = Gave tells cells id l p c r
-Outcome tells cells id l p c (Err e) = IsAsBefore l.part p
-
--- its bounds grow where it gave an answer
-abbrev pub bounds_then : Bounds → Bounds → Result Reply CallFault → Bounds
-bounds_then old more (Ok r) = more
-bounds_then old more (Err e) = old
+-- what a live part gave for a call, or that it stands as before
+abbrev pub Outcome : Bool → Cells → FileId → Live → Part → Call → Room → Result Reply CallFault → Type 0
+Outcome tells cells id l p c room (Ok r) = Answered tells cells l.part p l.who id c room r
+Outcome tells cells id l p c room (Err e) = IsAsBefore l.part p
 
 -- the part performed the call, and nothing else changed
-pub record Performed {V : Type 0} (tells : Bool) (cells : Cells) (old new : ServerState V) (t : TransId) (l : Live) (c : Call) (b : Bounds) (r : Result Reply CallFault) : Type 0 where
+pub record Performed {V : Type 0} (tells : Bool) (cells : Cells) (old new : ServerState V) (t : TransId) (l : Live) (c : Call) (n : LockCounts) (r : Result Reply CallFault) : Type 0 where
   pub part : Part
-  pub kept : new ≡ record old { lives = map.insert old.lives t (record l { part = part; bounds = bounds_then l.bounds b r }); vault = new.vault }
-  pub outcome : Outcome tells cells (next_file old) l part c r
+  pub sound : IsPart part
+  pub room : Room
+  pub left : IsRoomOf tells cells old n.made room
+  pub kept : new ≡ record old { lives = map.insert old.lives t (record l { part = part; locks = locks_given l.locks n r }); vault = new.vault }
+  pub outcome : Outcome tells cells (next_file old) l part c room r

@@ -6,7 +6,9 @@ use Rattle.alp_base.specs.Notes.{Notes}
 use Rattle.alp_fields.specs.ClockNote.{clock_name, clock_form}
 use Rattle.alp_fields.specs.declared.clock_note.ClockNote.{ClockNote}
 use Rattle.alp_files.specs.Cells.{Cells}
-use Rattle.alp_files.specs.Edits.{over}
+use Rattle.alp_files.specs.Changes.{edits_of}
+use Rattle.alp_files.specs.Edits.{edits_map}
+use Rattle.alp_trans.specs.Parts.{change_of}
 use Rattle.alp_vault.specs.Contents.{Contents}
 use Rattle.alp_vault.specs.declared.vault.Vault.{Ghosts}
 use Rattle.alp_journal.specs.declared.event.Event.{Event}
@@ -81,5 +83,5 @@ Besides G v P c = G.may_leave v c ⊎ (c ≡ G.held v) ⊎ P c
 
 -- what was held, with these intents and this clock
 pub record IsWritten (intents : Cells) (clock : ClockNote) (before c : Contents) : Type 0 where
-  pub cells : map.get c.cells ≡ over intents (map.get before.cells)
+  pub cells : c.cells ≡ edits_map (edits_of (change_of intents)) before.cells
   pub notes : c.notes ≡ map.insert before.notes clock_name (clock_form.spell clock)

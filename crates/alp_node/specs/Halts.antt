@@ -7,19 +7,10 @@ use Rattle.alp_files.specs.declared.reply.Reply.{Reply}
 use Rattle.alp_files.specs.declared.reply.Reply.TheVariants as reply
 use Rattle.alp_files.specs.declared.refusal.Refusal.TheVariants as refusal
 use Rattle.alp_vault.specs.declared.vault.Vault.{Ghosts}
-use Rattle.alp_calls.specs.Looks.{IsLeft}
 use Rattle.alp_journal.specs.declared.act.Act.{Act}
 use Rattle.alp_journal.specs.declared.act.Act.TheVariants as act
-use Rattle.alp_calls.specs.declared.fault.CallFault.{CallFault}
-use Rattle.alp_calls.specs.declared.fault.CallFault.TheVariants as call_fault
 use Rattle.alp_node.specs.declared.stored.StoreFault.{StoreFault}
 use Rattle.alp_node.specs.declared.stored.StoreFault.TheVariants as fault
-
--- a look that got no answer, as the fault of a commit
-abbrev pub look_fault : CallFault → StoreFault
-look_fault call_fault.Failed = fault.Unread
-look_fault call_fault.Stopped = fault.Stopped
-look_fault call_fault.OutOfMemory = fault.OutOfMemory
 
 -- where memory was wanting, the vault holds, counts and allows what it did
 pub record IsUncounted {V : Type 0} (G : Ghosts V) (old new : V) : Type 0 where
@@ -32,7 +23,6 @@ pub record IsUncounted {V : Type 0} (G : Ghosts V) (old new : V) : Type 0 where
 abbrev pub Ends : {V T : Type 0} → Ghosts V → V → V → Result T StoreFault → Type 0
 Ends G old new (Ok x) = IsTrue (G.serves new) × (G.faults new ≡ G.faults old)
 Ends G old new (Err fault.OutOfMemory) = IsTrue (G.serves new) × IsUncounted G old new
-Ends G old new (Err fault.Unread) = IsTrue (G.serves new) × IsLeft G old new × Rose (G.faults old) (G.faults new)
 Ends G old new (Err fault.Failed) = (G.serves new ≡ false) × Rose (G.faults old) (G.faults new) × (G.faults old ≤ G.faults new)
 Ends G old new (Err fault.Stopped) = (G.serves new ≡ false) × (G.allowance new ≡ Spent) × (G.faults old ≤ G.faults new)
 

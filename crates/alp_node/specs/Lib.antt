@@ -2,8 +2,10 @@ pub mod Sessions
 pub mod Durable
 pub mod ServerState
 pub mod Asks
+pub mod Shapes
+pub mod Covers
+pub mod Totals
 pub mod Halts
-pub mod Bounded
 pub mod Dead
 pub mod Standings
 pub mod Rooms

@@ -2,9 +2,10 @@
 use Rattle.std.specs.Prelude.{◌≡◌, ℕ, ◌+◌, ◌^◌, ◌≤◌, Bool, true, false, Option, None, Some}
 use Rattle.std.specs.FinMap as map
 use Rattle.alp_base.specs.declared.ids.TransId.{TransId}
-use Rattle.alp_files.specs.Cells.{Cells}
-use Rattle.alp_files.specs.Edits.{over}
+use Rattle.alp_files.specs.Changes.{edits_of}
+use Rattle.alp_files.specs.Edits.{edits_map}
 use Rattle.alp_files.specs.Sound.{AreSound}
+use Rattle.alp_trans.specs.Parts.{change_of}
 use Rattle.alp_vault.specs.Contents.{Contents}
 use Rattle.alp_node.specs.declared.lives.Live.{Live}
 use Rattle.alp_files.specs.declared.call.Call.{Call}
@@ -74,4 +75,4 @@ is_on_open c = false
 
 -- what each live part intends leaves well-formed files
 abbrev pub AreLivesSound : {V : Type 0} → Contents → ServerState V → Type 0
-AreLivesSound held k = (t : TransId) (l : Live) → map.get k.lives t ≡ Some l → (m : Cells) → map.get m ≡ over l.part.intents (map.get held.cells) → AreSound m
+AreLivesSound held k = (t : TransId) (l : Live) → map.get k.lives t ≡ Some l → AreSound (edits_map (edits_of (change_of l.part.intents)) held.cells)

@@ -4,9 +4,9 @@
 -- the holder: the vault has the cells, and one note, of the epoch and the kept clock; each live part has its intents, opens and locks;
 -- the desk: each session has its name and its last number (the replies are kept by the journal alone), no call waits, and the
 -- parts that timed out are those of the list;
--- the counts: each live part is within its bounds;
+-- the counts: each live part has its own, and beside the cells there is room for what all of them come to;
 -- the ids: the counts of transactions and of files.
-use Rattle.std.specs.Prelude.{◌≡◌, ℕ, zero, suc, ◌+◌, ◌^◌, ◌<◌, ◌≤◌, ◌==◌, ◌&&◌, not, nat_le, Bool, true, false, IsTrue, List, [], ◌∷◌, ◌++◌, length, Option, None, Some, is_some}
+use Rattle.std.specs.Prelude.{◌≡◌, ℕ, zero, suc, ◌+◌, ◌^◌, ◌<◌, ◌≤◌, ◌==◌, ◌&&◌, not, nat_lt, nat_le, Bool, true, false, IsTrue, List, [], ◌∷◌, ◌++◌, length, Option, None, Some, is_some}
 use Rattle.std.specs.Option.{option_map}
 use Rattle.std.specs.List.{AllByRecursion}
 use Rattle.std.specs.FinMap as map
@@ -17,33 +17,33 @@ use Rattle.alp_base.specs.declared.key.Resource.{Resource}
 use Rattle.alp_base.specs.declared.key.Resource.TheVariants.{Whole}
 use Rattle.alp_base.specs.declared.choices.Access.{Access}
 use Rattle.alp_base.specs.declared.choices.Access.TheVariants.{ReadOnly, Change}
-use Rattle.alp_base.specs.Orders.{trans_cmp}
 use Rattle.alp_modes.specs.declared.Mode.{Mode}
 use Rattle.alp_modes.specs.declared.Mode.TheVariants.{Read, Write}
 use Rattle.alp_files.specs.Holdings.{Holding, covers_held}
+use Rattle.alp_files.specs.Cells.{Cells}
 use Rattle.alp_files.specs.declared.open.Open.{Open}
 use Rattle.alp_files.specs.Born.{IsUnborn}
 use Rattle.alp_files.specs.Edits.{Edit, edits_at, ChangesBy}
 use Rattle.alp_locks.specs.Tables.{Holders, holding}
 use Rattle.alp_locks.specs.Sound.{IsSound}
 use Rattle.alp_vault.specs.Contents.{Contents}
-use Rattle.alp_calls.specs.Parts.{own_of}
+use Rattle.alp_trans.specs.Parts.{own_of}
+use Rattle.alp_trans.specs.Counting.{AreCountsOf}
 use Rattle.alp_journal.specs.Coordinator.{Undrawn}
 use Rattle.alp_journal.specs.Holder.{Life}
 use Rattle.alp_journal.specs.Desk as desk
 use Rattle.alp_journal.specs.Alone.{Alone, IsQuiet, AreEarlier}
-use Rattle.alp_node.specs.Bounded.{IsWithin}
+use Rattle.alp_node.specs.Covers.{AreCovered, AreHeld}
 use Rattle.alp_node.specs.Dead.{dead_in}
 use Rattle.alp_node.specs.Durable.{clock_notes}
+use Rattle.alp_node.specs.Rooms.{IsWithin}
 use Rattle.alp_node.specs.Sessions.{session_at}
+use Rattle.alp_node.specs.Totals.{totals_of, HaveRoom}
 use Rattle.alp_node.specs.declared.sessions.Session.{Session}
 use Rattle.alp_node.specs.declared.lives.Live.{Live}
 use Rattle.alp_node.specs.declared.server_state.ServerState.{ServerState}
 
 -- ---- live transactions
-
-abbrev pub LiveMap : Type 0
-LiveMap = map.FinMap trans_cmp Live
 
 -- the lock that an open has on its file gives all its leaves
 abbrev pub mode_for : Access → Mode
@@ -54,22 +54,26 @@ abbrev pub IsLocked : Holding → Open → Type 0
 IsLocked held o = IsTrue (covers_held (held (Whole o.file)) (mode_for o.access))
 
 -- A live part is kept as the journal tells it: its intents make of all that may lie below them what its edits make of
--- it, the table has its locks, each of its opens has its file locked, and it comes to no more than its bounds say.
-pub record IsLife (locks : Holders) (locked : List Resource) (t : TransId) (l : Live) (life : Life) : Type 0 where
+-- it, the table has its locks, of which there are as many as it counts, each of its opens has its file locked, and so has what
+-- it puts. Its counts are those of its edits over the cells.
+pub record IsLife (cells : Cells) (locks : Holders) (locked : List Resource) (t : TransId) (l : Live) (life : Life) : Type 0 where
   pub client : life.client ≡ l.client
   pub who : life.who ≡ l.who
   pub intents : ChangesBy life.edits map.empty l.part.intents
   pub own : own_of l.part ≡ life.own
   pub held : (r : Resource) → life.held r ≡ holding locks t r
   pub opens : AllByRecursion (IsLocked life.held) life.own.opens
-  pub within : IsWithin l.bounds locked life.edits
+  pub counts : AreCountsOf cells life.edits l.part.counts
+  pub covered : AreCovered life.held life.edits
+  pub count : l.locks ≡ length locked
+  pub known : AreHeld life.held locked
 
 -- just the live parts of the journal are kept, and whoever is not live holds nothing
-abbrev pub IsAlike : Holders → List Resource → TransId → Option Live → Option Life → Type 0
-IsAlike locks locked t None None = (r : Resource) → holding locks t r ≡ None
-IsAlike locks locked t (Some l) (Some life) = IsLife locks locked t l life
-IsAlike locks locked t None (Some life) = ⊥
-IsAlike locks locked t (Some l) None = ⊥
+abbrev pub IsAlike : Cells → Holders → List Resource → TransId → Option Live → Option Life → Type 0
+IsAlike cells locks locked t None None = (r : Resource) → holding locks t r ≡ None
+IsAlike cells locks locked t (Some l) (Some life) = IsLife cells locks locked t l life
+IsAlike cells locks locked t None (Some life) = ⊥
+IsAlike cells locks locked t (Some l) None = ⊥
 
 -- these edits put no leader with an id of this server and epoch beyond the count
 abbrev pub PutNoneBeyond : ℕ → ℕ → ℕ → List Edit → Type 0
@@ -89,7 +93,7 @@ trans_to server epoch (suc n) = trans_to server epoch n ++ (record { server = se
 
 -- an id that was not drawn here in this epoch
 abbrev pub is_beyond : ℕ → ℕ → ℕ → TransId → Bool
-is_beyond server epoch count t = not (t.server == server && t.epoch == epoch && nat_le t.counter count)
+is_beyond server epoch count t = not (t.server == server && t.epoch == epoch && nat_lt 0 t.counter && nat_le t.counter count)
 
 -- ---- all of it
 
@@ -109,7 +113,8 @@ pub record IsAs {V : Type 0} (a : Alone) (held : Contents) (k : ServerState V) :
   pub places : length k.sessions.places ≡ 17
   pub sessions : (client : ℕ) → option_map kept_session (a.sessions client) ≡ session_at k.sessions client
   pub dead : (client : ℕ) (t : TransId) → a.dead client t ≡ dead_in k.dead client t
-  pub lives : (t : TransId) → IsAlike k.locks.held (a.locked t) t (map.get k.lives t) (a.holder.lives t)
+  pub lives : (t : TransId) → IsAlike a.holder.cells k.locks.held (a.locked t) t (map.get k.lives t) (a.holder.lives t)
+  pub room : HaveRoom k.sizes a.holder.cells (totals_of k.lives)
   pub unborn : (t : TransId) (l : Life) → a.holder.lives t ≡ Some l → PutNoneBeyond a.holder.server a.ids.epoch k.given l.edits
   pub drawn : a.ids.transactions ≡ k.drawn
   pub begun : a.begun ≡ trans_to a.holder.server a.ids.epoch k.drawn
@@ -123,7 +128,8 @@ pub record IsAs {V : Type 0} (a : Alone) (held : Contents) (k : ServerState V) :
   pub down : a.is_down ≡ k.is_down
 
 -- Whatever its vault tells: its vault serves just while it is up, the table's locks agree, nobody waits, it knows each live
--- transaction, nobody holds a lock on a file that was not made yet, and no count went further than so many steps.
+-- transaction, each live part is within its limits, as many as there may be, nobody holds a lock on a file that was not made yet,
+-- and no count went further than so many steps.
 pub record IsReady {V : Type 0} (steps : ℕ) (serves : Bool) (k : ServerState V) : Type 0 where
   pub serving : k.is_down ≡ false → IsTrue serves
   pub halted : k.is_down ≡ true → serves ≡ false
@@ -138,6 +144,9 @@ pub record IsReady {V : Type 0} (steps : ℕ) (serves : Bool) (k : ServerState V
   pub given : k.given ≤ steps
   pub committed : k.committed ≤ steps
   pub few : map.len k.lives ≤ steps
+  pub most : map.len k.lives ≤ 64
+  pub within : (t : TransId) (l : Live) → map.get k.lives t ≡ Some l → IsWithin k.sizes l
+  pub sized : 64 ≤ k.sizes.area
   pub clock : k.clock ≤ 2 ^ 62
   pub raised : 0 < k.epoch
   pub unheld : (t : TransId) (n : ℕ) → k.given < n → holding k.locks.held t (Whole (record { server = k.server; epoch = k.epoch; counter = n })) ≡ None

@@ -22,6 +22,7 @@ use Rattle.alp_journal.specs.Answered.{is_fault_reply}
 use Rattle.alp_journal.specs.Alone.{Alone, alone, Leads}
 use Rattle.alp_fields.specs.ClockNote.{clock_kept}
 use Rattle.alp_vault.specs.Vault.{IsSameVault}
+use Rattle.alp_vault.specs.Volumes.{AreServerNotes}
 use Rattle.alp_vault.specs.Contents.{Contents}
 use Rattle.alp_vault.specs.declared.vault.Vault.{Ghosts}
 use Rattle.alp_node.specs.declared.answer.Answer.{Answer}
@@ -66,9 +67,9 @@ pub record IsSeated {V : Type 0} (G : Ghosts V) (old new : ServerState V) : Type
   pub same : IsSameVault G.tells G.volume G.server G.servers old.vault new.vault
   pub spends : Spends (G.allowance old.vault) (G.allowance new.vault)
 
--- the note has the epoch of a server that is up
+-- while the server is up, the notes of its vault are in its format, and one has its epoch
 abbrev pub IsNoted : {V : Type 0} → Ghosts V → ServerState V → Type 0
-IsNoted G k = k.is_down ≡ false → (clock_kept (G.held k.vault).notes).epoch ≡ k.epoch
+IsNoted G k = (k.is_down ≡ false → AreServerNotes (G.server k.vault) (G.servers k.vault) (G.held k.vault).notes) × (k.is_down ≡ false → (clock_kept (G.held k.vault).notes).epoch ≡ k.epoch)
 
 abbrev pub is_call : Event → Bool
 is_call (event.Call client epoch number c) = true

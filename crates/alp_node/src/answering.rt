@@ -7,7 +7,7 @@ ghost use Rattle.alp_journal.specs.Desk.{file_trans};
 ghost use Rattle.alp_node.specs.Calls.{IsServedCall};
 ghost use Rattle.alp_node.specs.ServerState.{IsReadyForMore, IsOfJournal};
 ghost use Rattle.alp_node.specs.Served.{IsServed, IsTurnCall, AreLivesSound};
-ghost use Rattle.alp_node.specs.Steps.{IsStep, IsTurn, IsOf};
+ghost use Rattle.alp_node.specs.Steps.{IsStep, IsNoted, IsTurn, IsOf};
 
 use crate::answer::Answer;
 use crate::served::Standing;
@@ -31,6 +31,9 @@ impl<V: Vault> ServerState<V> {
         requires here { trans.server ≡ self.old.server }
         requires up { self.old.is_down ≡ false }
         requires ready { IsReadyForMore (V.serves self.old.vault) self.old }
+        requires noted { IsNoted V.Vault self.old }
+        requires sized { self.old.sizes ≡ V.volume self.old.vault }
+        requires known { IsTrue (V.tells self.old.vault) → IsOfJournal (V.held self.old.vault) self.old }
         requires sound { IsTrue (V.tells self.old.vault) → AreLivesSound (V.held self.old.vault) self.old }
         ensures { IsStep V.Vault self.old self.new (event.Call turn.now.client self.old.epoch turn.now.number (call.Finish trans commit)) result }
     {
@@ -45,6 +48,9 @@ impl<V: Vault> ServerState<V> {
         requires turn { IsTurn self.old.sessions turn.now }
         requires up { self.old.is_down ≡ false }
         requires ready { IsReadyForMore (V.serves self.old.vault) self.old }
+        requires noted { IsNoted V.Vault self.old }
+        requires sized { self.old.sizes ≡ V.volume self.old.vault }
+        requires known { IsTrue (V.tells self.old.vault) → IsOfJournal (V.held self.old.vault) self.old }
         requires sound { IsTrue (V.tells self.old.vault) → AreLivesSound (V.held self.old.vault) self.old }
         ensures { IsStep V.Vault self.old self.new (event.Call turn.now.client self.old.epoch turn.now.number (call.Finish trans commit)) result }
     {
@@ -65,6 +71,8 @@ impl<V: Vault> ServerState<V> {
         requires up { self.old.is_down ≡ false }
         requires ready { IsReadyForMore (V.serves self.old.vault) self.old }
         requires known { IsTrue (V.tells self.old.vault) → IsOfJournal (V.held self.old.vault) self.old }
+        requires noted { IsNoted V.Vault self.old }
+        requires sized { self.old.sizes ≡ V.volume self.old.vault }
         requires sound { IsTrue (V.tells self.old.vault) → AreLivesSound (V.held self.old.vault) self.old }
         ensures { IsStep V.Vault self.old self.new (event.Call turn.now.client self.old.epoch turn.now.number call.now) result }
     {
@@ -86,6 +94,8 @@ impl<V: Vault> ServerState<V> {
         requires up { self.old.is_down ≡ false }
         requires ready { IsReadyForMore (V.serves self.old.vault) self.old }
         requires known { IsTrue (V.tells self.old.vault) → IsOfJournal (V.held self.old.vault) self.old }
+        requires noted { IsNoted V.Vault self.old }
+        requires sized { self.old.sizes ≡ V.volume self.old.vault }
         requires sound { IsTrue (V.tells self.old.vault) → AreLivesSound (V.held self.old.vault) self.old }
         ensures { (epoch : ℕ) → IsServed self.old (event.Call client epoch number call.now) → IsStep V.Vault self.old self.new (event.Call client epoch number call.now) result }
     {
@@ -109,6 +119,8 @@ impl<V: Vault> ServerState<V> {
         requires up { self.old.is_down ≡ false }
         requires ready { IsReadyForMore (V.serves self.old.vault) self.old }
         requires known { IsTrue (V.tells self.old.vault) → IsOfJournal (V.held self.old.vault) self.old }
+        requires noted { IsNoted V.Vault self.old }
+        requires sized { self.old.sizes ≡ V.volume self.old.vault }
         requires sound { IsTrue (V.tells self.old.vault) → AreLivesSound (V.held self.old.vault) self.old }
         ensures { IsStep V.Vault self.old self.new event.now result }
     {

@@ -7,14 +7,13 @@ ghost use Rattle.alp_node.specs.ServerState.{IsReadyForMore};
 ghost use Rattle.alp_node.specs.Steps.{IsStep, IsTurn};
 
 use crate::answer::Answer;
-use crate::bounds::Bounds;
 use crate::lives::Live;
 use crate::server_state::ServerState;
 use crate::sessions::{Session, Turn};
 use alp_base::{CLIENTS, Name, OutOfMemory, Stamp, TransId};
-use alp_calls::Part;
-use alp_files::Reply;
+use alp_files::{Refusal, Reply, What};
 use alp_journal::{Act, Acts};
+use alp_trans::Part;
 use alp_vault::Vault;
 
 /// So many transactions may be live at a server.
@@ -36,8 +35,8 @@ impl<V: Vault> ServerState<V> {
         Ok(answer)
     }
 
-    /// A transaction begins. Its id is the next one, the clock is at least what the client saw, and the client asks for no dead
-    /// part any more. Where too many are live the answer is want of memory.
+    /// A transaction begins, where not too many are live. Its id is the next one, and the clock is at least what the client saw.
+    /// The client asks for no dead part any more.
     pub fn begin(&mut self, turn: &Turn, seen: Stamp) -> Result<Answer, OutOfMemory>
         requires turn { IsTurn self.old.sessions turn.now }
         requires up { self.old.is_down ≡ false }
@@ -46,7 +45,14 @@ impl<V: Vault> ServerState<V> {
         ensures { IsStep V.Vault self.old self.new (event.Call turn.now.client self.old.epoch turn.now.number (call.Begin seen)) result }
     {
         if self.lives.len() >= MOST_TRANSACTIONS {
-            return Err(OutOfMemory);
+            self.dead.bury(turn.client);
+            return Ok(self.refuse(
+                turn,
+                Refusal::TooMany {
+                    what: What::Transactions,
+                    limit: MOST_TRANSACTIONS as u32,
+                },
+            ));
         }
         let trans = TransId {
             server: self.server,
@@ -60,7 +66,7 @@ impl<V: Vault> ServerState<V> {
             client: turn.client,
             who: turn.session.who,
             part: Part::new(self.alloc),
-            bounds: Bounds::none(),
+            locks: 0,
         };
         if self.lives.add(trans, live).is_err() {
             self.locks.release_all(trans);

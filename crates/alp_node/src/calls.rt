@@ -1,28 +1,30 @@
 //! File calls: under their locks, on what their part sees.
-ghost use Rattle.std.specs.Prelude.{◌≡◌, ◌≢◌, ◌+◌, ◌<◌, ◌^◌, IsTrue, Some, None, false};
+ghost use Rattle.std.specs.Prelude.{◌≡◌, ◌≢◌, ◌+◌, ◌<◌, ◌^◌, IsTrue, Some, None, false, length};
 ghost use Rattle.std.specs.FinMap as map;
 ghost use Rattle.alp_base.specs.declared.key.Key.TheVariants.{Leader};
 ghost use Rattle.alp_calls.specs.Looks.{Looks, fault_in};
-ghost use Rattle.alp_calls.specs.Parts.{seen};
-ghost use Rattle.alp_files.specs.Built.{IsBuilt};
 ghost use Rattle.alp_node.specs.declared.lives.Live.{Live as ALive};
 ghost use Rattle.alp_files.specs.Locks.{IsFormed};
 ghost use Rattle.alp_journal.specs.declared.event.Event.TheVariants as event;
 ghost use Rattle.alp_journal.specs.Desk.{file_trans};
 ghost use Rattle.alp_node.specs.ServerState.{IsReadyForMore, IsOfJournal};
 ghost use Rattle.alp_node.specs.Steps.{IsStep, IsTurn, IsOf};
-ghost use Rattle.alp_node.specs.Calls.{next_file as next_file_of, Performed, IsPageCall, bounds_then as bounds_then_said};
-ghost use Rattle.alp_node.specs.Rooms.{IsRoomy};
+ghost use Rattle.alp_calls.specs.Parts.{CanPerform, seen};
+ghost use Rattle.alp_node.specs.Calls.{next_file as next_file_of, Performed, IsPageCall};
+ghost use Rattle.alp_node.specs.Shapes.{shape_of};
+ghost use Rattle.alp_node.specs.Totals.{totals_of, AreFewTotals};
 
 use crate::answer::Answer;
-use crate::bounds::Bounds;
 use crate::lives::Live;
+use crate::lock_counts::LockCounts;
+use crate::room::locks_given;
 use crate::server_state::ServerState;
 use crate::sessions::Turn;
 use alp_base::{FileId, OutOfMemory, TransId};
-use alp_calls::{CallFault, Part};
+use alp_calls::{CallFault, perform};
 use alp_files::{Call, Reply};
 use alp_journal::Acts;
+use alp_trans::Part;
 use alp_vault::Vault;
 
 impl<V: Vault> ServerState<V> {
@@ -32,7 +34,6 @@ impl<V: Vault> ServerState<V> {
         turn: &Turn,
         trans: TransId,
         call: &Call,
-        bounds: Bounds,
     ) -> Result<Answer, OutOfMemory>
         requires turn { IsTurn self.old.sessions turn.now }
         requires own { IsOf turn.now.client (map.get self.old.lives trans) }
@@ -42,11 +43,18 @@ impl<V: Vault> ServerState<V> {
         requires named { file_trans call.now ≡ Some trans }
         requires formed { IsFormed call.now }
         requires known { IsTrue (V.tells self.old.vault) → IsOfJournal (V.held self.old.vault) self.old }
-        requires room { (l : ALive) → map.get self.old.lives trans ≡ Some l → IsRoomy (V.tells self.old.vault) (V.held self.old.vault).cells self.old l call.now bounds }
+        requires shape { (l : ALive) → map.get self.old.lives trans ≡ Some l → shape_of self.old.server self.old.epoch self.old.given (length l.part.opens.items) call.now ≡ None }
         ensures { IsStep V.Vault self.old self.new (event.Call turn.now.client self.old.epoch turn.now.number call.now) result }
     {
         let halted = Vec::with_capacity(self.alloc, 1)?;
-        match self.perform(trans, call, bounds) {
+        let Some(live) = self.lives.get(&trans) else {
+            unreachable!()
+        };
+        let locks = LockCounts {
+            asked: live.locks,
+            made: live.locks,
+        };
+        match self.perform(trans, call, locks) {
             Ok(reply) => {
                 let answer = Answer::new(reply, Acts::new(Vec::new(self.alloc)))?;
                 self.sessions.count(turn);
@@ -73,18 +81,19 @@ impl<V: Vault> ServerState<V> {
         &mut self,
         trans: TransId,
         call: &Call,
-        bounds: Bounds,
+        locks: LockCounts,
     ) -> Result<Reply, CallFault>
         requires live { map.get self.old.lives trans ≢ None }
         requires serving { IsTrue (V.serves self.old.vault) }
         requires room { self.old.given + 1 < 2 ^ 32 }
-        requires opens { (l : ALive) → map.get self.old.lives trans ≡ Some l → l.part.last + 1 < 2 ^ 32 }
+        requires ready { (l : ALive) → map.get self.old.lives trans ≡ Some l → CanPerform l.part call.now }
+        requires few { AreFewTotals (totals_of self.old.lives) }
         requires new { IsTrue (V.tells self.old.vault) → (l : ALive) → map.get self.old.lives trans ≡ Some l → seen (V.held self.old.vault).cells l.part (Leader (next_file_of self.old)) ≡ None }
-        requires built { IsBuilt call.now }
-        ensures performed { (l : ALive) → map.get self.old.lives trans ≡ Some l → Performed (V.tells self.old.vault) (V.held self.old.vault).cells self.old self.new trans l call.now bounds result }
+        ensures performed { (l : ALive) → map.get self.old.lives trans ≡ Some l → Performed (V.tells self.old.vault) (V.held self.old.vault).cells self.old self.new trans l call.now locks result }
         ensures looked { Looks V.Vault self.old.vault self.new.vault (fault_in result) }
     {
         let id = self.next_file();
+        let room = self.room(locks.made);
         let Some(found) = self.lives.get(&trans) else {
             unreachable!()
         };
@@ -92,24 +101,21 @@ impl<V: Vault> ServerState<V> {
             client: found.client,
             who: found.who,
             part: Part::new(self.alloc),
-            bounds: found.bounds,
+            locks: found.locks,
         };
         let mut live = self.lives.swap(trans, blank);
-        let result = live
-            .part
-            .perform(self.alloc, &mut self.vault, live.who, id, call);
-        live.bounds = bounds_then(live.bounds, bounds, &result);
+        let who = live.who;
+        let result = perform(
+            &mut live.part,
+            self.alloc,
+            &mut self.vault,
+            who,
+            id,
+            call,
+            room,
+        );
+        live.locks = locks_given(live.locks, locks, &result);
         let _ = self.lives.swap(trans, live);
         result
     }
-}
-
-// A part that gave an answer comes to more from then on.
-fn bounds_then(old: Bounds, more: Bounds, given: &Result<Reply, CallFault>) -> Bounds
-    ensures { result ≡ bounds_then_said old more given.now }
-{
-    if given.is_ok() {
-        return more;
-    }
-    old
 }

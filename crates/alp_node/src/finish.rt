@@ -1,10 +1,11 @@
 //! Transactions end.
-ghost use Rattle.std.specs.Prelude.{◌≡◌, ◌+◌, ◌<◌, ◌≤◌, ◌^◌, ◌*◌, [], ◌∷◌, ◌++◌, IsTrue, IfOk, Ok, None, Some, true, false, length, vec_capacity};
+ghost use Rattle.std.specs.Prelude.{◌≡◌, ◌+◌, ◌<◌, ◌≤◌, ◌^◌, [], ◌∷◌, ◌++◌, IsTrue, IfOk, Ok, None, Some, true, false, length, vec_capacity};
 ghost use Rattle.std.specs.FinMap as map;
 ghost use Rattle.alp_calls.specs.declared.fault.CallFault.TheVariants as call_fault;
 ghost use Rattle.alp_files.specs.Sound.{AreSound};
-ghost use Rattle.alp_files.specs.Cells.{Cells};
-ghost use Rattle.alp_files.specs.Edits.{over};
+ghost use Rattle.alp_files.specs.Changes.{edits_of};
+ghost use Rattle.alp_files.specs.Edits.{edits_map};
+ghost use Rattle.alp_trans.specs.Parts.{change_of};
 ghost use Rattle.alp_files.specs.declared.call.Call.TheVariants as call;
 ghost use Rattle.alp_journal.specs.declared.act.Act.TheVariants as act;
 ghost use Rattle.alp_journal.specs.declared.event.Event.TheVariants as event;
@@ -12,12 +13,12 @@ ghost use Rattle.alp_node.specs.declared.lives.Live.{Live as ALive};
 ghost use Rattle.alp_node.specs.Dead.{is_dead};
 ghost use Rattle.alp_node.specs.Standings.{standing_of};
 ghost use Rattle.alp_node.specs.declared.served.Standing.TheVariants as standing;
-ghost use Rattle.alp_node.specs.ServerState.{IsReadyForMore};
+ghost use Rattle.alp_node.specs.ServerState.{IsReadyForMore, IsOfJournal};
 ghost use Rattle.alp_files.specs.declared.reply.Reply.TheVariants as reply;
 ghost use Rattle.std.specs.Result.{IsErr};
 ghost use Rattle.alp_files.specs.declared.refusal.Refusal.TheVariants as refusal;
 ghost use Rattle.alp_files.specs.declared.refusal.Cause.TheVariants as cause;
-ghost use Rattle.alp_node.specs.Steps.{IsStep, IsTurn, IsOf, IsRefused, IsDown, counted_in, without_trans, ended, refused_answer};
+ghost use Rattle.alp_node.specs.Steps.{IsStep, IsNoted, IsTurn, IsOf, IsRefused, IsDown, counted_in, without_trans, ended, refused_answer};
 
 use crate::answer::Answer;
 use crate::server_state::ServerState;
@@ -33,16 +34,6 @@ use std::alloc::Global;
 
 /// The last time of a clock.
 const CLOCK_END: u64 = 1 << 62;
-
-// Whether the log has room for so many puts of a part at its commit.
-fn log_takes(puts: u64, area: u32) -> bool
-    ensures { result ≡ true → 4 * puts + 28 ≤ area }
-{
-    if puts > area as u64 {
-        return false;
-    }
-    4 * puts + 28 <= area as u64
-}
 
 // The decision that a transaction is committed, which no other server has a part in.
 fn decision(alloc: Global, stamp: Stamp) -> Act
@@ -125,32 +116,27 @@ impl<V: Vault> ServerState<V> {
         Ok(Answer::silence(acts))
     }
 
-    /// A live transaction of the client is committed, or this server's own vote is against it at the end of the clock. Where the
-    /// log may lack room for its changes the answer is want of memory.
+    /// A live transaction of the client is committed, or this server's own vote is against it at the end of the clock.
     pub fn commit(&mut self, turn: &Turn, trans: TransId) -> Result<Answer, OutOfMemory>
         requires turn { IsTurn self.old.sessions turn.now }
         requires own { IsOf turn.now.client (map.get self.old.lives trans) }
         requires here { trans.server ≡ self.old.server }
         requires up { self.old.is_down ≡ false }
         requires ready { IsReadyForMore (V.serves self.old.vault) self.old }
-        requires sound { IsTrue (V.tells self.old.vault) → (l : ALive) → map.get self.old.lives trans ≡ Some l → (m : Cells) → map.get m ≡ over l.part.intents (map.get (V.held self.old.vault).cells) → AreSound m }
+        requires noted { IsNoted V.Vault self.old }
+        requires sized { self.old.sizes ≡ V.volume self.old.vault }
+        requires known { IsTrue (V.tells self.old.vault) → IsOfJournal (V.held self.old.vault) self.old }
+        requires sound { IsTrue (V.tells self.old.vault) → (l : ALive) → map.get self.old.lives trans ≡ Some l → AreSound (edits_map (edits_of (change_of l.part.intents)) (V.held self.old.vault).cells) }
         ensures { IsStep V.Vault self.old self.new (event.Call turn.now.client self.old.epoch turn.now.number (call.Finish trans true)) result }
     {
         if self.clock >= CLOCK_END {
             let acts = released(self.alloc, trans)?;
             return Ok(self.end(turn, trans, against(self.server, Why::ClockEnd), acts));
         }
-        let Some(live) = self.lives.get(&trans) else {
-            unreachable!()
-        };
-        if !log_takes(live.bounds.puts, self.sizes.area) {
-            return Err(OutOfMemory);
-        }
         self.decide(turn, trans)
     }
 
-    // One commit of the vault makes the intents cells, with the note of the new clock. Where a read of the vault fails before it,
-    // this server's own vote is against it.
+    // One commit of the vault makes the intents cells, with the note of the new clock.
     fn decide(&mut self, turn: &Turn, trans: TransId) -> Result<Answer, OutOfMemory>
         requires turn { IsTurn self.old.sessions turn.now }
         requires own { IsOf turn.now.client (map.get self.old.lives trans) }
@@ -158,15 +144,16 @@ impl<V: Vault> ServerState<V> {
         requires up { self.old.is_down ≡ false }
         requires ready { IsReadyForMore (V.serves self.old.vault) self.old }
         requires clock { self.old.clock < 2 ^ 62 }
-        requires room { (l : ALive) → map.get self.old.lives trans ≡ Some l → 4 * l.bounds.puts + 28 ≤ self.old.sizes.area }
-        requires sound { IsTrue (V.tells self.old.vault) → (l : ALive) → map.get self.old.lives trans ≡ Some l → (m : Cells) → map.get m ≡ over l.part.intents (map.get (V.held self.old.vault).cells) → AreSound m }
+        requires noted { IsNoted V.Vault self.old }
+        requires sized { self.old.sizes ≡ V.volume self.old.vault }
+        requires known { IsTrue (V.tells self.old.vault) → IsOfJournal (V.held self.old.vault) self.old }
+        requires sound { IsTrue (V.tells self.old.vault) → (l : ALive) → map.get self.old.lives trans ≡ Some l → AreSound (edits_map (edits_of (change_of l.part.intents)) (V.held self.old.vault).cells) }
         ensures { IsStep V.Vault self.old self.new (event.Call turn.now.client self.old.epoch turn.now.number (call.Finish trans true)) result }
     {
         let stamp = Stamp {
             ts: self.clock + 1,
             trans,
         };
-        let unread = released(self.alloc, trans)?;
         let decided = decision(self.alloc, stamp);
         let acts = Acts::new(vec![in self.alloc; decided, Act::Released { trans }]?);
         let mut halted = Vec::with_capacity(self.alloc, 2)?;
@@ -179,12 +166,9 @@ impl<V: Vault> ServerState<V> {
             epoch: self.epoch,
             clock: stamp.ts,
         };
-        match store(self.alloc, &mut self.vault, &live.part.intents, note) {
+        self.vault.knows();
+        match store(self.alloc, &mut self.vault, &live.part, note) {
             Ok(()) => {}
-            Err(StoreFault::Unread) => {
-                let cause = against(self.server, Why::ReadFault);
-                return Ok(self.end(turn, trans, cause, unread));
-            }
             Err(StoreFault::Failed) => return Ok(self.halt(Act::Failed, halted)),
             Err(StoreFault::Stopped) => return Ok(self.halt(Act::Stopped, halted)),
             Err(StoreFault::OutOfMemory) => return Err(OutOfMemory),

@@ -1,47 +1,52 @@
 //! Transactions that are live at a server.
-ghost use Rattle.std.specs.Prelude.{◌≡◌, ◌≢◌, IfOk, IfSome, OnOk, OnErr, None, Some};
+ghost use Rattle.std.specs.Prelude.{◌≡◌, ◌≢◌, ◌≤◌, IfOk, OnOk, OnErr, None, Some};
 ghost use Rattle.std.specs.FinMap as map;
 ghost use Rattle.std.specs.Option.{option_copied as copied};
 ghost use Rattle.std.specs.BTreeMap.{keys, IsOrdered};
 ghost use Rattle.std.specs.List.Sorted.{IsStrictlySortedBy};
 ghost use Rattle.alp_base.specs.Orders.{trans_cmp};
-ghost use Rattle.alp_node.specs.Bounded.{no_bounds};
-ghost use Rattle.alp_node.specs.Rooms.{total_of, totals_from};
+ghost use Rattle.alp_trans.specs.Counting.{no_counts};
+ghost use Rattle.alp_node.specs.Totals.{totals_of, AreFewTotals};
 
-use crate::bounds::Bounds;
+use crate::totals::Totals;
 use alp_base::{Name, OutOfMemory, TransId};
-use alp_calls::Part;
+use alp_trans::Part;
 use std::alloc::Global;
 use std::collections::BTreeMap;
 use std::marker::Model;
 
-/// A live transaction: its client, the principal that it acts for, what it did here, and what that comes to at most.
+/// A live transaction: its client, the principal that it acts for, what it did here, and how many resources it has locked.
 #[derive(Drop)]
 pub struct Live {
     pub client: u8,
     pub who: Name,
     pub part: Part,
-    pub bounds: Bounds,
+    pub locks: u32,
 }
 
-/// Live transactions by their ids.
+/// Live transactions by their ids, and what they come to together, which is kept as they change and end.
 #[derive(Drop)]
 pub struct Lives {
     lives: BTreeMap<TransId, Live>,
+    totals: Totals,
 }
 
 impl Model for Lives {
+    ghost use Rattle.std.specs.Prelude.{◌≡◌};
     ghost use Rattle.std.specs.FinMap as map;
     ghost use Rattle.alp_base.specs.Orders.{trans_cmp};
     ghost use Rattle.alp_node.specs.declared.lives.Live.{Live};
     ghost use Rattle.alp_base.specs.contracts.ids.TransId as id_type;
     ghost use Rattle.alp_node.specs.contracts.lives.Live as live_type;
+    ghost use Rattle.alp_node.specs.Totals.{totals_of};
 
     ghost Value = { map.FinMap trans_cmp Live };
 
     ghost coded = { map.code id_type.the_row.coded live_type.the_row.coded };
 
     ghost view = { λ l. map.from_entries l.lives.entries };
+
+    ghost invariant = { λ l. l.totals ≡ totals_of (map.from_entries l.lives.entries) };
 }
 
 impl Lives {
@@ -50,6 +55,7 @@ impl Lives {
     {
         Lives {
             lives: BTreeMap::new(alloc),
+            totals: Totals::none(),
         }
     }
 
@@ -59,7 +65,10 @@ impl Lives {
         self.lives.get(trans)
     }
 
+    /// A transaction is live from now on, whose part did nothing yet.
     pub fn add(&mut self, trans: TransId, live: Live) -> Result<(), OutOfMemory>
+        requires new { map.get self.old trans ≡ None }
+        requires idle { live.part.counts ≡ no_counts }
         ensures ok { OnOk result (self.new ≡ map.insert self.old trans live) }
         ensures err { OnErr result (self.new ≡ self.old) }
     {
@@ -69,12 +78,18 @@ impl Lives {
 
     /// This stands for a transaction that is live, and what stood for it is given. Takes no memory.
     pub fn swap(&mut self, trans: TransId, live: Live) -> Live
-        requires { map.get self.old trans ≢ None }
+        requires there { map.get self.old trans ≢ None }
+        requires few { AreFewTotals (totals_of self.old) }
+        requires part { (live.part.counts.places ≤ 32768) × (live.part.counts.files ≤ 32768) × (live.part.counts.owners ≤ 32768) }
         ensures after { self.new ≡ map.insert self.old trans live }
         ensures before { map.get self.old trans ≡ Some result }
     {
+        let counts = live.part.counts;
         match self.lives.insert(trans, live) {
-            Ok(Some(old)) => old,
+            Ok(Some(old)) => {
+                self.totals = self.totals.without(old.part.counts).with(counts);
+                old
+            }
             Ok(None) => unreachable!(),
             Err(_) => unreachable!(),
         }
@@ -87,11 +102,11 @@ impl Lives {
         self.lives.len()
     }
 
-    /// Their bounds together, where they can be counted.
-    pub fn total(&self) -> Option<Bounds>
-        ensures { IfSome result (λ b. b ≡ total_of self.now) }
+    /// What they come to together.
+    pub fn totals(&self) -> Totals
+        ensures { result ≡ totals_of self.now }
     {
-        total_in(&self.lives)
+        self.totals
     }
 
     /// Their ids, in rising order.
@@ -103,10 +118,13 @@ impl Lives {
         Ok(ids)
     }
 
+    /// A transaction is live no more.
     pub fn remove(&mut self, trans: &TransId)
         ensures { self.new ≡ map.remove self.old trans.now }
     {
-        self.lives.remove(trans);
+        if let Some(old) = self.lives.remove(trans) {
+            self.totals = self.totals.without(old.part.counts);
+        }
     }
 }
 
@@ -119,15 +137,4 @@ fn ids_in(alloc: Global, lives: &BTreeMap<TransId, Live>) -> Result<Vec<TransId>
         ids.push(*trans)?;
     }
     Ok(ids)
-}
-
-fn total_in(lives: &BTreeMap<TransId, Live>) -> Option<Bounds>
-    ensures total { IfSome result (λ b. b ≡ totals_from no_bounds lives.now.entries) }
-    ensures rising { IsOrdered trans_cmp lives.now }
-{
-    let mut total = Bounds::none();
-    for live in lives.values() {
-        total = total.with(live.bounds)?;
-    }
-    Some(total)
 }

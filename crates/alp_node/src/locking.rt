@@ -1,20 +1,20 @@
 //! File calls that ask for locks.
-ghost use Rattle.std.specs.Prelude.{◌≡◌, ◌+◌, ◌<◌, ◌^◌, IsTrue, IfOk, Some, is_some, true, false};
+ghost use Rattle.std.specs.Prelude.{◌≡◌, ◌+◌, ◌<◌, ◌^◌, IsTrue, IfOk, Some, None, is_some, true, false, length};
 ghost use Rattle.std.specs.FinMap as map;
 ghost use Rattle.alp_files.specs.Locks.{IsFormed};
 ghost use Rattle.alp_locks.specs.Sound.{IsPrepared};
 ghost use Rattle.alp_journal.specs.declared.event.Event.TheVariants as event;
 ghost use Rattle.alp_journal.specs.Desk.{file_trans};
-ghost use Rattle.alp_node.specs.Asks.{is_of_given, is_made as is_made_of, plan_for, count_made, with_plan, acts_of};
+ghost use Rattle.alp_node.specs.Asks.{is_made as is_made_of, plan_for, count_made, with_plan, acts_of};
 ghost use Rattle.alp_node.specs.ServerState.{IsReadyForMore, IsOfJournal};
 ghost use Rattle.alp_node.specs.Steps.{IsStep, IsTurn, IsOf};
 ghost use Rattle.alp_node.specs.declared.lives.Live.{Live as ALive};
 ghost use Rattle.alp_node.specs.Calls.{IsLockCall};
-ghost use Rattle.alp_node.specs.Rooms.{IsRoomy};
+ghost use Rattle.alp_node.specs.Shapes.{shape_of};
 
 use crate::answer::Answer;
 use crate::asks::{asks, asks_made};
-use crate::bounds::Bounds;
+use crate::lock_counts::too_locked;
 use crate::server_state::ServerState;
 use crate::sessions::Turn;
 use alp_base::{OutOfMemory, TransId};
@@ -25,35 +25,41 @@ use alp_vault::Vault;
 use std::alloc::Global;
 
 impl<V: Vault> ServerState<V> {
-    /// A call that asks for locks: refused where another is in their way, and performed under them otherwise.
+    /// A call that asks for locks: refused where they are too many or another is in their way, and performed under them
+    /// otherwise.
     pub fn lock_call(
         &mut self,
         turn: &Turn,
         trans: TransId,
         call: &Call,
-        bounds: Bounds,
     ) -> Result<Answer, OutOfMemory>
         requires turn { IsTurn self.old.sessions turn.now }
         requires own { IsOf turn.now.client (map.get self.old.lives trans) }
         requires up { self.old.is_down ≡ false }
         requires ready { IsReadyForMore (V.serves self.old.vault) self.old }
         requires kind { IsLockCall call.now }
-        requires given { is_of_given self.old.server self.old.epoch self.old.given call.now ≡ true }
         requires named { file_trans call.now ≡ Some trans }
         requires formed { IsFormed call.now }
         requires known { IsTrue (V.tells self.old.vault) → IsOfJournal (V.held self.old.vault) self.old }
-        requires room { (l : ALive) → map.get self.old.lives trans ≡ Some l → IsRoomy (V.tells self.old.vault) (V.held self.old.vault).cells self.old l call.now bounds }
+        requires shape { (l : ALive) → map.get self.old.lives trans ≡ Some l → shape_of self.old.server self.old.epoch self.old.given (length l.part.opens.items) call.now ≡ None }
         ensures { IsStep V.Vault self.old self.new (event.Call turn.now.client self.old.epoch turn.now.number call.now) result }
     {
         let id = self.next_file();
         let asked = self.locks.plan(trans, asks(self.alloc, call)?)?;
         let made = self.locks.plan(trans, asks_made(self.alloc, id, call)?)?;
+        let Some(live) = self.lives.get(&trans) else {
+            unreachable!()
+        };
+        let counts = self.lock_counts(trans, live.locks, call);
+        if let Some(refusal) = too_locked(self.sizes.area, live.part.counts.cells, counts.made) {
+            return Ok(self.refuse(turn, refusal));
+        }
         if let Some(holder) = self.locks.in_way_of(&asked) {
             return Ok(self.refuse(turn, Refusal::LockConflict { holder }));
         }
         let acts = granted(self.alloc, trans, &asked)?;
         let halted = Vec::with_capacity(self.alloc, 1)?;
-        let reply = match self.perform(trans, call, bounds) {
+        let reply = match self.perform(trans, call, counts) {
             Ok(reply) => reply,
             Err(fault) => return self.without_answer(turn, fault, halted),
         };

@@ -9,7 +9,7 @@ ghost use Rattle.alp_base.specs.Crashes.{Either};
 ghost use Rattle.alp_node.specs.Durable.{Leaves, IsSettled, IsKeptOrBrought, said_then};
 ghost use Rattle.alp_node.specs.Nodes.{IsConsistent, Answered, AreLive, HasNoEntry, HasRoom, state_of, start_in};
 ghost use Rattle.alp_node.specs.Served.{IsServed, AreLivesSound};
-ghost use Rattle.alp_node.specs.Steps.{IsEntered, IsSeated, seen_in};
+ghost use Rattle.alp_node.specs.Steps.{IsEntered, IsNoted, IsSeated, seen_in};
 
 use crate::answer::Answer;
 use crate::opened::Opened;
@@ -166,6 +166,8 @@ fn answer<V: Vault>(
     requires up { kept.old.is_down ≡ false }
     requires ready { IsReadyForMore (V.serves kept.old.vault) kept.old }
     requires known { IsTrue (V.tells kept.old.vault) → IsOfJournal (V.held kept.old.vault) kept.old }
+    requires noted { IsNoted V.Vault kept.old }
+    requires sized { kept.old.sizes ≡ V.volume kept.old.vault }
     requires sound { IsTrue (V.tells kept.old.vault) → AreLivesSound (V.held kept.old.vault) kept.old }
     ensures entered { (before : List AnEntry) (last : AnEntry) → journal.old ≡ before ++ last ∷ [] → IsEntered V.Vault kept.old kept.new before journal.new event result }
     ensures settled { IsSettled V.Vault kept.old.vault × IsSettled V.Vault kept.new.vault }

@@ -4,7 +4,6 @@ ghost use Rattle.std.specs.FinMap as map;
 ghost use Rattle.alp_files.specs.Locks.{IsFormed};
 ghost use Rattle.alp_journal.specs.declared.event.Event.TheVariants as event;
 ghost use Rattle.alp_journal.specs.Desk.{file_trans};
-ghost use Rattle.alp_node.specs.Asks.{is_given as is_given_of, is_of_given as is_of_given_said};
 ghost use Rattle.alp_node.specs.Calls.{IsServedCall};
 ghost use Rattle.alp_node.specs.ServerState.{IsReadyForMore, IsOfJournal};
 ghost use Rattle.alp_node.specs.Served.{is_on_open as is_on_open_said};
@@ -15,7 +14,7 @@ ghost use Rattle.alp_node.specs.Steps.{IsStep, IsTurn};
 use crate::answer::Answer;
 use crate::server_state::ServerState;
 use crate::sessions::Turn;
-use alp_base::{FileId, OutOfMemory, TransId};
+use alp_base::{OutOfMemory, TransId};
 use alp_files::{Call, Cause, Refusal};
 use alp_vault::Vault;
 
@@ -28,25 +27,6 @@ pub enum Standing {
 }
 
 impl<V: Vault> ServerState<V> {
-    /// Whether a file was given that id here, in an older epoch or this one.
-    pub fn is_given(&self, file: &FileId) -> bool
-        ensures { result ≡ is_given_of self.now.server self.now.epoch self.now.given file.now }
-    {
-        let is_here = file.server == self.server && 0 < file.epoch && 0 < file.counter;
-        let is_now = file.epoch == self.epoch && file.counter <= self.given;
-        is_here && (file.epoch < self.epoch || is_now)
-    }
-
-    // Whether a call that opens a file names one that was given.
-    fn is_of_given(&self, call: &Call) -> bool
-        ensures { result ≡ is_of_given_said self.now.server self.now.epoch self.now.given call.now }
-    {
-        match call {
-            Call::OpenFile { file, .. } => self.is_given(file),
-            _ => true,
-        }
-    }
-
     /// What the client has here of a transaction.
     pub fn standing(&self, client: u8, trans: &TransId) -> Standing
         ensures { result ≡ standing_of client (map.get self.now.lives trans.now) (is_dead client trans.now self.now.dead) }
@@ -63,8 +43,7 @@ impl<V: Vault> ServerState<V> {
         Standing::Unknown
     }
 
-    /// A file call: of a live transaction of the client, and on a file that was given. Where what is counted of the part may
-    /// pass a limit the answer is want of memory.
+    /// A file call: of a live transaction of the client, and of a shape that is within the limits.
     pub fn file_call(
         &mut self,
         turn: &Turn,
@@ -92,16 +71,16 @@ impl<V: Vault> ServerState<V> {
             }
             Standing::Unknown => return Ok(self.refuse(turn, Refusal::UnknownTrans)),
         }
-        if !self.is_of_given(call) {
-            return Ok(self.refuse(turn, Refusal::UnknownFile));
-        }
-        let Some(bounds) = self.room_for(trans, call) else {
-            return Err(OutOfMemory);
+        let Some(live) = self.lives.get(&trans) else {
+            unreachable!()
         };
-        if is_on_open(call) {
-            return self.page_call(turn, trans, call, bounds);
+        if let Some(refusal) = self.shape_refusal(call, live.part.opens.len()) {
+            return Ok(self.refuse(turn, refusal));
         }
-        self.lock_call(turn, trans, call, bounds)
+        if is_on_open(call) {
+            return self.page_call(turn, trans, call);
+        }
+        self.lock_call(turn, trans, call)
     }
 }
 

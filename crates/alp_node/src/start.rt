@@ -1,5 +1,5 @@
 //! How a server starts on its vault.
-ghost use Rattle.std.specs.Prelude.{◌≡◌, ◌⊎◌, [], None, Ok, IfOk, IfErr, MatchResult, IsTrue, false};
+ghost use Rattle.std.specs.Prelude.{◌≡◌, [], None, Ok, IfOk, IfErr, MatchResult, IsTrue, false};
 ghost use Rattle.std.specs.FinMap as map;
 ghost use Rattle.alp_base.specs.Allowances.{Spends};
 ghost use Rattle.alp_base.specs.declared.faults.VaultFault.TheVariants as vault_fault;
@@ -24,9 +24,9 @@ use crate::stored::{StoreFault, store};
 use alp_base::VaultFault;
 use alp_calls::are_server_notes;
 use alp_fields::{ClockNote, clock_note_name, read_clock};
-use alp_files::CellMap;
 use alp_journal::Journal;
 use alp_locks::LockTable;
+use alp_trans::Part;
 use alp_vault::Vault;
 use std::alloc::Global;
 use std::snapshot::Snapshot;
@@ -83,13 +83,12 @@ fn next_clock<V: Vault>(alloc: Global, vault: &V) -> Result<ClockNote, StartFaul
 
 // The fault of the vault in a commit.
 fn vault_fault(fault: StoreFault) -> VaultFault
-    ensures failed { result ≡ vault_fault.Failed → (fault ≡ store_fault.Failed) ⊎ (fault ≡ store_fault.Unread) }
+    ensures failed { result ≡ vault_fault.Failed → fault ≡ store_fault.Failed }
     ensures stopped { result ≡ vault_fault.Stopped → fault ≡ store_fault.Stopped }
     ensures memory { result ≡ vault_fault.OutOfMemory → fault ≡ store_fault.OutOfMemory }
     ensures volume { IsOfVolume result }
 {
     match fault {
-        StoreFault::Unread => VaultFault::Failed,
         StoreFault::Failed => VaultFault::Failed,
         StoreFault::Stopped => VaultFault::Stopped,
         StoreFault::OutOfMemory => VaultFault::OutOfMemory,
@@ -128,7 +127,7 @@ impl<V: Vault> Node<V> {
             Ok(clock) => clock,
             Err(fault) => return Err((vault, fault)),
         };
-        if let Err(fault) = store(alloc, &mut vault, &CellMap::new(alloc), clock) {
+        if let Err(fault) = store(alloc, &mut vault, &Part::new(alloc), clock) {
             return Err((vault, StartFault::Vault(vault_fault(fault))));
         }
         vault.knows();

@@ -1,6 +1,4 @@
-use Rattle.std.proofs.Common.{◌≡◌, ◌∙◌, List, ℕ, ap, sym, drop, arith}
-use Rattle.std.specs.Prelude.{Bool, true}
-use Rattle.std.specs.FinMap as map
+use Rattle.std.proofs.Common.{◌∙◌, ap, sym, arith}
 use Rattle.std.proofs.lemmas.List.{at_drop_all}
 use Rattle.alp_base.specs.Notes.{Notes}
 use Rattle.alp_calls.proofs.NoteLemmas.{all_good, good_notes}

@@ -15,6 +15,12 @@ answer-requires-clause-sound g c tells =
     let old : NodeState g.row.V.Denot = record { opening = c.self.inside.opening; kept = c.self.inside.kept; journal = c.self.inside.journal } in
     right_sound g.V.Vault old (g.V.Vault.held old.kept.vault) (c.self.invariant.right tells) c.if-self.false
 
+pub answer-requires-clause-noted : goal.answer-requires-clause-noted
+answer-requires-clause-noted g c = c.self.invariant.noted
+
+pub answer-requires-clause-sized : goal.answer-requires-clause-sized
+answer-requires-clause-sized g c = c.self.invariant.sizes
+
 pub invariant_of-self-2 : goal.invariant_of-self-2
 invariant_of-self-2 g c =
     let old : NodeState g.row.V.Denot = record { opening = c.self.inside.opening; kept = c.self.inside.kept; journal = c.self.inside.journal } in

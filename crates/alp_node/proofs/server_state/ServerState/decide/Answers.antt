@@ -1,10 +1,7 @@
-use Rattle.std.specs.Prelude.{Bool, Err, Some}
+use Rattle.std.specs.Prelude.{Err, Some}
 use Rattle.std.specs.FinMap as map
-use Rattle.std.proofs.Common.{◌≡◌, ◌+◌, List, [], ◌∷◌, ◌++◌, inl, inr, true, refl, sym, ap, ◌∙◌, subst, arith, eq-eqb}
+use Rattle.std.proofs.Common.{◌≡◌, ◌+◌, ◌*◌, ◌≤◌, List, [], ◌∷◌, ◌++◌, inl, inr, true, refl, sym, ap, ◌∙◌, subst, arith}
 use Rattle.alp_files.specs.declared.call.Call.TheVariants as call
-use Rattle.alp_files.specs.declared.refusal.Cause.{Cause}
-use Rattle.alp_files.specs.declared.refusal.Cause.TheVariants as cause
-use Rattle.alp_files.specs.declared.refusal.Why.TheVariants as why
 use Rattle.alp_files.specs.declared.refusal.Refusal.TheVariants as refusal
 use Rattle.alp_journal.specs.declared.act.Act.TheVariants as act
 use Rattle.alp_base.specs.Allowances.{Spends}
@@ -15,44 +12,50 @@ use Rattle.alp_node.specs.Steps.{Stepped, IsOf, refused_answer, counted_in, with
 use Rattle.alp_node.specs.declared.lives.Live.{Live}
 use Rattle.alp_node.specs.declared.server_state.ServerState.{ServerState}
 use Rattle.alp_node.specs.declared.sessions.Sessions.{Sessions}
-use Rattle.alp_node.proofs.GivenLemmas.{IsCounted, counts_none, counts_fault, reply_given}
+use Rattle.alp_node.proofs.GivenLemmas.{counts_none, reply_given}
 use Rattle.alp_node.proofs.ReadyLemmas.{ready_with, commit_ready}
 use Rattle.alp_base.specs.declared.ids.Stamp.{Stamp}
 use Rattle.alp_journal.specs.declared.act.Act.{Act}
 use Rattle.alp_fields.specs.ClockNote.{clock_kept}
 use Rattle.alp_fields.specs.declared.clock_note.ClockNote.{ClockNote}
+use Rattle.alp_base.specs.declared.faults.Sizes.{Sizes}
 use Rattle.alp_vault.specs.Vault.{IsSameVault}
+use Rattle.alp_vault.specs.Volumes.{AreServerNotes}
 use Rattle.alp_journal.specs.Alone.{alone}
 use Rattle.alp_journal.specs.Deeds.{Releases}
 use Rattle.alp_node.specs.Durable.{said_by, MightBring, Leaves, Besides, IsWritten}
 use Rattle.alp_vault.specs.Contents.{Contents}
-use Rattle.alp_node.proofs.SeatLemmas.{leaves_as}
+use Rattle.alp_node.proofs.SeatLemmas.{leaves_as, same_format}
 use Rattle.alp_node.specs.Halts.{Ends}
 use Rattle.alp_node.specs.declared.stored.StoreFault.{StoreFault}
-use Rattle.alp_node.proofs.CommitLemmas.{votes_unread, commit_stepped, commit_might, commit_halt_stepped, write_leaves}
-use Rattle.alp_node.proofs.FinishLemmas.{against_stepped}
-use Rattle.alp_node.proofs.KeptLemmas.{of_client, as_with}
-use Rattle.alp_node.proofs.StepLemmas.{ended_step, down_step}
+use Rattle.alp_node.proofs.SpaceLemmas.{commit_fits}
+use Rattle.alp_node.proofs.CommitLemmas.{commit_stepped, commit_might, commit_halt_stepped, write_leaves}
+use Rattle.alp_node.proofs.KeptLemmas.{IsLive, live_there, of_client, as_with}
+use Rattle.alp_node.proofs.StepLemmas.{down_step}
 use Rattle.alp_node.proofs.server_state.ServerState.decide.Goals as goal
 
-pub store-requires-clause-sound : goal.store-requires-clause-sound
-store-requires-clause-sound g c tells = c.requires.sound tells c.in-Some.live.now (sym c.in-Some.ensures)
+pub store-requires-clause-part : goal.store-requires-clause-part
+store-requires-clause-part g c = (c.requires.ready.2.within c.args.trans c.in-Some.live.now (sym c.in-Some.ensures)).part
 
-pub returns-in-Err-Unread : goal.returns-in-Err-Unread
-returns-in-Err-Unread g c =
+pub store-requires-clause-log : goal.store-requires-clause-log
+store-requires-clause-log g c =
+    let within = c.requires.ready.2.within c.args.trans c.in-Some.live.now (sym c.in-Some.ensures) in
+    subst (λ (s : Sizes). 6 * c.in-Some.live.now.part.counts.cells + 30 ≤ s.area) c.requires.sized (omega (arith, within.log))
+
+pub store-requires-clause-format : goal.store-requires-clause-format
+store-requires-clause-format g c = c.requires.noted.0 c.requires.up
+
+pub store-requires-clause-room : goal.store-requires-clause-room
+store-requires-clause-room g c told =
     let k = c.args.self.now in
-    let turn = c.args.turn.now in
     let G = g.V.Vault in
-    let mine = of_client turn.client (map.get k.lives c.args.trans) c.requires.own in
-    let ends = subst (λ (f : StoreFault). Ends {T = Unit {0}} G k.vault c.store.new.vault (Err f)) c.in-Err-Unread.field-0-is c.in-Err-Unread.ensures.ended in
-    ended_step G k c.store.new.vault turn c.args.trans (call.Finish c.args.trans true) (cause.Voted k.server why.ReadFault) c.end.result c.end.new.self ends.1 ends.0
-    (subst (λ (b : Bool). IsCounted k.server (G.faults k.vault) (G.faults c.store.new.vault) b (Some (reply.Refused (refusal.Aborted (cause.Voted k.server why.ReadFault))))) (sym c.requires.up)
-    (counts_fault k.server (G.faults k.vault) (G.faults c.store.new.vault) (Some (reply.Refused (refusal.Aborted (cause.Voted k.server why.ReadFault)))) (eq-eqb k.server k.server refl) refl ends.1.later ends.2))
-    c.requires.turn c.requires.up c.end.ensures.kept
-    (c.end.ensures.answer ∙ ap (λ (x : Cause). refused_answer (refusal.Aborted x) c.in_ok-unread.unread) c.against-cause.ensures ∙ ap (refused_answer (refusal.Aborted (cause.Voted k.server why.ReadFault))) c.in_ok-unread.ensures)
-    (λ told a h. against_stepped a (G.faults k.vault) (G.faults c.store.new.vault) (G.held k.vault) k turn c.args.trans mine.0 true why.ReadFault c.end.result h c.requires.turn c.requires.up c.requires.ready.2.alone c.requires.here
-    mine.1 mine.2 (λ e. ends.2) (votes_unread a (G.held k.vault) k c.args.trans mine.0 h c.requires.clock mine.1 (c.requires.room mine.0 mine.1))
-    (c.end.ensures.answer ∙ ap (λ (x : Cause). refused_answer (refusal.Aborted x) c.in_ok-unread.unread) c.against-cause.ensures ∙ ap (refused_answer (refusal.Aborted (cause.Voted k.server why.ReadFault))) c.in_ok-unread.ensures))
+    let t = c.args.trans in
+    let l : Live = c.in-Some.live.now in
+    let there : map.get k.lives t ≡ Some l = sym c.in-Some.ensures in
+    let (a, h) = c.requires.known told in
+    let y : IsLive a.holder.cells k.locks.held (a.locked t) t l (a.holder.lives t) = live_there a.holder.cells k.locks.held (a.locked t) t (map.get k.lives t) (a.holder.lives t) l there (h.lives t) in
+    commit_fits a (G.held k.vault) k h t l there y.life y.is y.alike (G.volume k.vault) c.requires.up c.requires.sized (c.requires.ready.2.within t l there)
+    (c.knows.ensures.fitting (G.held k.vault) told (c.knows.ensures.as_held told (c.requires.ready.2.serving c.requires.up))) (c.requires.sound told l there)
 
 pub returns-in-Err-Failed : goal.returns-in-Err-Failed
 returns-in-Err-Failed g c =
@@ -69,7 +72,7 @@ returns-in-Err-Failed g c =
     down_step G k c.halt.new.self c.store.new.vault turn (call.Finish t true) c.halt.result (act.Decided stamp [] ∷ act.Failed ∷ []) c.store.ensures.kept c.store.ensures.allowance ends.0 ends.2 c.halt.ensures.kept so refl
     (ends.1, tt)
     (λ told a h. commit_halt_stepped a (G.faults k.vault) (G.faults c.store.new.vault) (G.held k.vault) (G.held c.store.new.vault) k turn t c.store.new.vault act.Failed mine.0 c.halt.result (inr refl) h c.requires.turn c.requires.up
-    c.requires.clock c.requires.here mine.1 mine.2 (c.requires.room mine.0 mine.1) so)
+    c.requires.clock c.requires.here mine.1 mine.2 (c.requires.ready.2.within t mine.0 mine.1) so)
     (λ told a h. write_leaves a (G.held k.vault) k turn t c.in-Some.live.now h c.requires.turn c.requires.up (sym c.in-Some.ensures) (subst (IsOf turn.client) (sym c.in-Some.ensures) c.requires.own) (reply.Refused refusal.Down) refl G c.store.new.vault c.halt.result (act.Decided stamp [] ∷ act.Failed ∷ []) [] refl so refl (λ o. refl)
     (c.store.ensures.leaves told))
 
@@ -89,7 +92,7 @@ returns-in-Err-Stopped g c =
     down_step G k halt.new.self c.store.new.vault turn (call.Finish t true) halt.result (act.Decided stamp [] ∷ act.Stopped ∷ []) c.store.ensures.kept c.store.ensures.allowance ends.0 ends.2 halt.ensures.kept so refl
     (ends.1, tt)
     (λ told a h. commit_halt_stepped a (G.faults k.vault) (G.faults c.store.new.vault) (G.held k.vault) (G.held c.store.new.vault) k turn t c.store.new.vault act.Stopped mine.0 halt.result (inl refl) h c.requires.turn c.requires.up
-    c.requires.clock c.requires.here mine.1 mine.2 (c.requires.room mine.0 mine.1) so)
+    c.requires.clock c.requires.here mine.1 mine.2 (c.requires.ready.2.within t mine.0 mine.1) so)
     (λ told a h. write_leaves a (G.held k.vault) k turn t c.in-Some.live.now h c.requires.turn c.requires.up (sym c.in-Some.ensures) (subst (IsOf turn.client) (sym c.in-Some.ensures) c.requires.own) (reply.Refused refusal.Down) refl G c.store.new.vault halt.result (act.Decided stamp [] ∷ act.Stopped ∷ []) [] refl so refl (λ o. refl)
     (c.store.ensures.leaves told))
 
@@ -108,7 +111,7 @@ returns-in-Err-OutOfMemory g c =
       stepped = λ told a h. tt;
       given = tt;
       ready = λ n h. tt;
-      noted = λ h up. ap (λ (z : Contents). (clock_kept z.notes).epoch) ends.1.held ∙ h up;
+      noted = λ h. ((λ up. same_format G k.vault v c.store.ensures.kept (ap (λ (z : Contents). z.notes) ends.1.held) (h.0 up)), (λ up. ap (λ (z : Contents). (clock_kept z.notes).epoch) ends.1.held ∙ h.1 up));
       still = record {
         kept = λ a h. as_with a (G.held k.vault) (G.held v) k v ends.1.held h;
         ready = λ n h. ready_with n (G.serves k.vault) (G.serves v) k v ends.0 c.requires.up h;
@@ -119,7 +122,7 @@ returns-in-Err-OutOfMemory g c =
       leaves = λ told a h.
           leaves_as G k.vault v (IsWritten live.part.intents (record { epoch = k.epoch; clock = k.clock + 1 }) (G.held k.vault)) (MightBring (alone a) e)
           (λ z w. commit_might a 0 0 (G.held k.vault) z k turn t live v (λ rose. omega (arith, rose)) h c.requires.turn c.requires.up c.requires.ready.2.alone c.requires.clock c.requires.here there
-          (subst (IsOf turn.client) there c.requires.own) (c.requires.room live there) w)
+          (subst (IsOf turn.client) there c.requires.own) (c.requires.ready.2.within t live there) w)
           (c.store.ensures.leaves told);
     }
 
@@ -146,7 +149,7 @@ returns g c =
           subst (λ (y : ServerState _). Stepped a (G.faults k.vault) (G.faults y.vault) (G.held y.vault) (record y { clock = k.clock + 1; committed = y.committed + 1; sessions = c.count.new.self }) e x) (sym c.forget.ensures)
           (subst (λ (y : Sessions). Stepped a (G.faults k.vault) (G.faults v) (G.held v) (record (without_trans k t) { clock = k.clock + 1; committed = k.committed + 1; sessions = y; vault = v }) e x) (sym counts)
           (commit_stepped a (G.faults k.vault) (G.faults v) (G.held k.vault) (G.held v) k turn t same v x h c.requires.turn c.requires.up c.requires.ready.2.alone c.requires.clock c.requires.here (sym c.in-Some.ensures)
-          (subst (IsOf turn.client) (sym c.in-Some.ensures) c.requires.own) (c.requires.room same (sym c.in-Some.ensures)) (stored.cells told) stored.notes so));
+          (subst (IsOf turn.client) (sym c.in-Some.ensures) c.requires.own) (c.requires.ready.2.within t same (sym c.in-Some.ensures)) (stored.cells told) stored.notes so));
       given =
           reply_given k.server (G.faults k.vault) (G.faults c.forget.new.self.vault) (G.allowance c.forget.new.self.vault) c.forget.new.self.is_down
           (reply.Committed stamp) (act.Decided stamp [] ∷ act.Released t ∷ []) x so
@@ -155,7 +158,10 @@ returns g c =
           subst (λ (y : ServerState _). IsReady (n + 1) (G.serves y.vault) (record y { clock = k.clock + 1; committed = y.committed + 1; sessions = c.count.new.self })) (sym c.forget.ensures)
           (subst (λ (y : Sessions). IsReady (n + 1) (G.serves v) (record (without_trans k t) { clock = k.clock + 1; committed = k.committed + 1; sessions = y; vault = v })) (sym counts)
           (commit_ready n (G.serves k.vault) (G.serves v) k v turn t stored.ended.0 c.requires.up c.requires.turn c.requires.clock h));
-      noted = λ h e. ap (λ (y : ServerState _). (clock_kept (G.held y.vault).notes).epoch) c.forget.ensures ∙ ap (λ (n : ClockNote). n.epoch) stored.clock ∙ sym (ap (λ (y : ServerState _). y.epoch) c.forget.ensures);
+      noted = λ h. (
+        (λ e. subst (λ (y : ServerState _). AreServerNotes (G.server y.vault) (G.servers y.vault) (G.held y.vault).notes) (sym c.forget.ensures) stored.format),
+        (λ e. ap (λ (y : ServerState _). (clock_kept (G.held y.vault).notes).epoch) c.forget.ensures ∙ ap (λ (n : ClockNote). n.epoch) stored.clock ∙ sym (ap (λ (y : ServerState _). y.epoch) c.forget.ensures)),
+      );
       still = tt;
       seat = record {
         server = ap (λ (y : ServerState _). y.server) c.forget.ensures;

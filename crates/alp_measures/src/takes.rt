@@ -1,0 +1,62 @@
+//! Whether a vault can take a commit, as far as it asks for one whatever it tells.
+ghost use Rattle.std.specs.Prelude.{◌≡◌, ◌+◌, ◌*◌, ◌≤◌, [], ◌∷◌, true, IsTrue, length};
+ghost use Rattle.alp_base.specs.declared.bytes.NoteChange.{NoteChange as ANoteChange};
+ghost use Rattle.alp_fields.specs.ClockNote.{IsClockNote};
+ghost use Rattle.alp_files.specs.Changes.{ArePutOnce};
+ghost use Rattle.alp_vault.specs.Volumes.{IsCommit, fits_key as fits_key_said, fit_keys as fit_keys_said};
+
+use alp_base::{Key, NoteChange, PAGES_PER_FILE};
+use alp_calls::are_server_notes;
+use alp_files::{Cell, Change};
+use alp_vault::Vault;
+
+// A cell is of its key's kind, and within the limits of a file.
+fn fits_key(key: &Key, cell: &Cell) -> bool
+    ensures { result ≡ fits_key_said key.now cell.now }
+{
+    match key {
+        Key::Leader(_) => match cell {
+            Cell::Leader(props) => props.size <= PAGES_PER_FILE,
+            _ => false,
+        },
+        Key::PageOf(_, number) => match cell {
+            Cell::Page(_) => *number < PAGES_PER_FILE,
+            _ => false,
+        },
+        Key::OwnerOf(name) => match cell {
+            Cell::Owner(record) => record.name == *name,
+            _ => false,
+        },
+    }
+}
+
+fn fit_keys(puts: &[(Key, Cell)]) -> bool
+    ensures { result ≡ fit_keys_said puts.now }
+{
+    puts.iter().all(|put| fits_key(&put.0, &put.1))
+}
+
+// Whether the log has room for a commit of so many cells, of a part without locks.
+fn log_has_room(area: u32, cells: usize) -> bool
+    ensures { result ≡ true → 6 * cells + 0 + 30 ≤ area }
+{
+    cells < 65536 && 6 * cells + 30 <= area as usize
+}
+
+/// Whether the vault can take a commit of these puts with the note of the clock.
+pub fn can_take<V: Vault>(vault: &V, change: &Change, notes: &[NoteChange]) -> bool
+    requires serving { IsTrue (V.serves vault.now) }
+    requires once { ArePutOnce change.now.puts }
+    requires alone { (change.now.drops ≡ []) × (change.now.cuts ≡ []) }
+    requires clock { (n : ANoteChange) × (notes.now ≡ n ∷ []) × IsClockNote n }
+    ensures { result ≡ true → IsCommit (V.volume vault.now) (V.server vault.now) (V.servers vault.now) (V.held vault.now).notes change.now notes.now }
+{
+    let puts = change.puts.as_slice();
+    if !fit_keys(puts) {
+        return false;
+    }
+    if !log_has_room(vault.sizes().area, puts.len()) {
+        return false;
+    }
+    are_server_notes(vault)
+}

@@ -1,0 +1,83 @@
+-- how many resources a part has locked: just those on which it holds a lock
+use Rattle.std.specs.Prelude.{cond, Bool, true, false, ◌||◌, Option, None, Some, is_some}
+use Rattle.std.specs.Ordering.{eq_by_cmp}
+use Rattle.std.proofs.Common.{◌≡◌, ◌+◌, List, [], ◌∷◌, ◌++◌, length, length-append, refl, sym, ◌∙◌, ap, arith}
+use Rattle.alp_base.specs.declared.ids.FileId.{FileId}
+use Rattle.alp_base.specs.declared.key.Resource.{Resource}
+use Rattle.alp_base.specs.declared.key.Resource.TheVariants.{Whole}
+use Rattle.alp_modes.specs.declared.Mode.{Mode}
+use Rattle.alp_modes.specs.declared.Mode.TheVariants.{Write}
+use Rattle.alp_base.specs.Orders.{resource_cmp, exact_resources}
+use Rattle.alp_files.specs.Holdings.{Holding, join_held, held_by}
+use Rattle.alp_files.specs.Locks.{Need, joined, needs_made}
+use Rattle.alp_files.proofs.HoldingLemmas.{join_held-assoc, held_by-append, none-right}
+use Rattle.alp_locks.proofs.HeldLemmas.{tied}
+use Rattle.alp_journal.specs.Counts.{has_resource, with_resources}
+use Rattle.alp_node.specs.Covers.{AreHeld}
+
+has-push : (r q : Resource) (rs : List Resource) → has_resource r (rs ++ q ∷ []) ≡ has_resource r rs || eq_by_cmp resource_cmp r q
+has-push r q [] = go (eq_by_cmp resource_cmp r q)
+  where
+    go : (b : Bool) → (b || false) ≡ b
+    go true = refl
+    go false = refl
+has-push r q (x ∷ rs) = go (eq_by_cmp resource_cmp r x) (has-push r q rs)
+  where
+    go : (b : Bool) → has_resource r (rs ++ q ∷ []) ≡ has_resource r rs || eq_by_cmp resource_cmp r q → (b || has_resource r (rs ++ q ∷ [])) ≡ (b || has_resource r rs) || eq_by_cmp resource_cmp r q
+    go true h = refl
+    go false h = h
+
+-- the same resources, or one more
+abbrev one_more : Resource → List Resource → List Resource
+one_more q rs = cond {A = List Resource} (has_resource q rs) rs (rs ++ q ∷ [])
+
+some_joined : (x : Option Mode) (b : Bool) (m : Mode) → is_some (join_held x (cond {A = Option Mode} b (Some m) None)) ≡ is_some x || b
+some_joined None true m = refl
+some_joined None false m = refl
+some_joined (Some a) true m = refl
+some_joined (Some a) false m = refl
+
+or_false : (b : Bool) → (b || false) ≡ b
+or_false true = refl
+or_false false = refl
+
+has-one_more : (r q : Resource) (rs : List Resource) → has_resource r (one_more q rs) ≡ has_resource r rs || eq_by_cmp resource_cmp r q
+has-one_more r q rs = go (has_resource q rs) refl
+  where
+    go : (b : Bool) → has_resource q rs ≡ b → has_resource r (cond {A = List Resource} b rs (rs ++ q ∷ [])) ≡ has_resource r rs || eq_by_cmp resource_cmp r q
+    go false e = has-push r q rs
+    go true e = which (eq_by_cmp resource_cmp r q) refl
+      where
+        which : (b : Bool) → eq_by_cmp resource_cmp r q ≡ b → has_resource r rs ≡ has_resource r rs || b
+        which false f = sym (or_false (has_resource r rs))
+        which true f =
+            let same : r ≡ q = exact_resources r q (tied (resource_cmp r q) f) in
+            let here : has_resource r rs ≡ true = ap (λ (x : Resource). has_resource x rs) same ∙ e in
+            here ∙ ap (λ (b : Bool). b || true) (sym here)
+
+held_one : (held : Holding) (n : Need) (rs : List Resource) → AreHeld held rs → AreHeld (joined held (n ∷ [])) (one_more n.0 rs)
+held_one held n rs all r =
+    has-one_more r n.0 rs ∙ ap (λ (b : Bool). b || eq_by_cmp resource_cmp r n.0) (all r) ∙ sym (some_joined (held r) (eq_by_cmp resource_cmp r n.0) n.1)
+
+-- what is locked then is what is held then
+pub held_then : (held : Holding) (ns : List Need) (rs : List Resource) → AreHeld held rs → AreHeld (joined held ns) (with_resources ns rs)
+held_then held [] rs all r = all r ∙ ap is_some (sym (none-right (held r)))
+held_then held (n ∷ ns) rs all r =
+    held_then (joined held (n ∷ [])) ns (one_more n.0 rs) (held_one held n rs all) r
+    ∙ ap is_some (join_held-assoc (held r) (held_by (n ∷ []) r) (held_by ns r) ∙ ap (join_held (held r)) (sym (held_by-append (n ∷ []) ns r)))
+
+-- one that is not held counts
+pub count_one : (held : Holding) (n : Need) (rs : List Resource) → AreHeld held rs → length (with_resources (n ∷ []) rs) ≡ length rs + cond (is_some (held n.0)) 0 1
+count_one held n rs all = ap (λ (b : Bool). length (cond {A = List Resource} b rs (rs ++ n.0 ∷ []))) (all n.0) ∙ go (is_some (held n.0))
+  where
+    go : (b : Bool) → length (cond {A = List Resource} b rs (rs ++ n.0 ∷ [])) ≡ length rs + cond b 0 1
+    go true = omega arith
+    go false = length-append rs (n.0 ∷ [])
+
+-- and so does a new file
+pub count_made : (held : Holding) (f : FileId) (rs : List Resource) → AreHeld held rs → held (Whole f) ≡ None → length (with_resources (needs_made (Some f)) rs) ≡ length rs + 1
+count_made held f rs all none = count_one held (Whole f, Write) rs all ∙ ap (λ (x : Option Mode). length rs + cond (is_some x) 0 1) none
+
+-- locks are counted so under a holding that is the same
+pub held_same : (a b : Holding) (rs : List Resource) → ((r : Resource) → a r ≡ b r) → AreHeld a rs → AreHeld b rs
+held_same a b rs same all r = all r ∙ ap is_some (same r)

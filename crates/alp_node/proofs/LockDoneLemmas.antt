@@ -1,0 +1,358 @@
+-- a call that asked for locks and has them: what it is answered, and its entry where it is performed
+use Rattle.std.specs.Prelude.{cond, Bool, true, false, not, ◌==◌, Option, None, Some, is_some, Ok}
+use Rattle.std.specs.List.{AllByRecursion}
+use Rattle.std.specs.Option.{option_or}
+use Rattle.std.specs.FinMap as map
+use Rattle.std.proofs.Common.{inr, ◌≡◌, ℕ, ◌+◌, ◌≤◌, List, [], ◌∷◌, ◌++◌, length, refl, sym, ◌∙◌, ap, subst, arith}
+use Rattle.alp_base.specs.declared.ids.FileId.{FileId}
+use Rattle.alp_base.specs.declared.ids.TransId.{TransId}
+use Rattle.alp_base.specs.declared.key.Resource.{Resource}
+use Rattle.alp_base.specs.declared.key.Resource.TheVariants.{Whole}
+use Rattle.alp_modes.specs.declared.Mode.{Mode}
+use Rattle.alp_files.specs.Holdings.{Holding, join_held, held_by, DoAgree}
+use Rattle.alp_files.proofs.HoldingLemmas.{join_held-assoc, held_by-append, agree-turned}
+use Rattle.alp_files.proofs.CoverLemmas.{granted-holds, joined-more}
+use Rattle.alp_files.specs.declared.call.Call.{Call}
+use Rattle.alp_files.specs.declared.call.Call.TheVariants as call
+use Rattle.alp_files.specs.declared.reply.Reply.{Reply}
+use Rattle.alp_files.specs.declared.reply.Reply.TheVariants as reply
+use Rattle.alp_files.specs.declared.refusal.Refusal.{Refusal}
+use Rattle.alp_files.specs.declared.refusal.Refusal.TheVariants as refusal
+use Rattle.alp_files.specs.Act.{Answer, id_in}
+use Rattle.alp_files.specs.Passing.{is_passing}
+use Rattle.alp_files.specs.Born.{count_after}
+use Rattle.alp_files.specs.Locks.{Need, IsMore, IsFormed, HoldsEach, needs_of, needs_made, with_made}
+use Rattle.alp_queue.specs.declared.waiter.Waiter.{Waiter}
+use Rattle.alp_queue.specs.Order.{waits}
+use Rattle.alp_locks.specs.Tables.{Table, holding, held_of}
+use Rattle.alp_locks.specs.Asks.{blocker}
+use Rattle.alp_locks.proofs.LawLemmas.{no-rise}
+use Rattle.alp_trans.specs.declared.part.Part.{Part}
+use Rattle.alp_trans.specs.Counting.{AreCountsOf}
+use Rattle.alp_calls.specs.Parts.{Performs, Answered, IsRight, StandsAfter, has_contents}
+use Rattle.alp_calls.specs.Limits.{refused_for}
+use Rattle.alp_calls.specs.declared.limits.Room.{Room}
+use Rattle.alp_vault.specs.Contents.{Contents}
+use Rattle.alp_journal.specs.declared.act.Act.{Act}
+use Rattle.alp_journal.specs.declared.act.Act.TheVariants as act
+use Rattle.alp_journal.specs.declared.event.Event.TheVariants as event
+use Rattle.alp_journal.specs.Ids.{same_trans}
+use Rattle.alp_journal.specs.Counts.{request_in, with_resources}
+use Rattle.alp_journal.specs.Desk as desk
+use Rattle.alp_journal.specs.Desk.{file_trans}
+use Rattle.alp_journal.specs.Holder.{Life, view_in, answer_in, held_for}
+use Rattle.alp_journal.specs.Moves as journal
+use Rattle.alp_journal.specs.Laws.{IsFree}
+use Rattle.alp_journal.specs.Answers.{First, IsFileOf, IsFileAnswer, IsLocked, IsThreads, count_refusal, shape_refusal, lock_refusal, more_locks, unless_counts}
+use Rattle.alp_journal.specs.Answered.{GrantsFor, asks, grants_by}
+use Rattle.alp_journal.specs.Alone.{Alone, alone, IsQuiet, Leads}
+use Rattle.alp_journal.proofs.AloneLemmas.{call_entry}
+use Rattle.alp_journal.proofs.AloneCalls.{PerformOwes, performed_leads, granted_leads, with_call}
+use Rattle.alp_journal.specs.Moves.{is_stop}
+use Rattle.alp_node.specs.Asks.{is_of_given, asks_of, asks_given, plan_of, with_plan, acts_of}
+use Rattle.alp_node.specs.Calls.{IsLockCall, next_file}
+use Rattle.alp_node.specs.Covers.{AreCovered, AreHeld}
+use Rattle.alp_node.specs.Rooms.{IsRoomOf, locks_given}
+use Rattle.alp_node.specs.Shapes.{shape_of, counts_then, too_locked}
+use Rattle.alp_node.specs.Totals.{totals_of}
+use Rattle.alp_node.specs.declared.lock_counts.LockCounts.{LockCounts}
+use Rattle.alp_node.specs.Dead.{is_dead}
+use Rattle.alp_node.specs.ServerState.{IsAs, IsReady, IsAlike, IsLife, IsLocked as IsOpenLocked}
+use Rattle.alp_node.specs.Standings.{standing_of}
+use Rattle.alp_node.specs.Steps.{Stepped, IsTurn, IsOf, counted_in, seen_in}
+use Rattle.alp_node.specs.declared.answer.Answer.{Answer as Handed}
+use Rattle.alp_node.specs.declared.lives.Live.{Live}
+use Rattle.alp_node.specs.declared.server_state.ServerState.{ServerState}
+use Rattle.alp_node.specs.declared.served.Standing.TheVariants as standing
+use Rattle.alp_node.specs.declared.sessions.Turn.{Turn}
+use Rattle.alp_node.proofs.ApartLemmas.{covered_puts, covered_both, covered_more}
+use Rattle.alp_node.proofs.AskLemmas.{lock_covered, lock_tells}
+use Rattle.alp_node.proofs.CountedLemmas.{IsCountRefusal, refused_is}
+use Rattle.alp_node.proofs.LockCountLemmas.{held_then, count_made}
+use Rattle.alp_node.proofs.RoomLemmas.{refusal_same, allowed_room}
+use Rattle.alp_node.proofs.ShapeLemmas.{shape_given}
+use Rattle.alp_node.proofs.TotalLemmas.{AreRoomed}
+use Rattle.alp_node.proofs.CallLemmas.{right_as, after_call, done_as}
+use Rattle.alp_node.proofs.ConflictLemmas.{held_elsewhere, would_hold, not_empty}
+use Rattle.alp_node.proofs.FinishLemmas.{turn_session, turn_next}
+use Rattle.alp_node.proofs.GrantLemmas.{free_given, kept_beside, kept_locked, lock_built, IsOne, lock_one, lock_made, asked_below, of_given, next_told, id_given}
+use Rattle.alp_node.proofs.KeptLemmas.{IsSession, stands_timely, stepped_so}
+use Rattle.alp_node.proofs.LockLemmas.{itself, taken_own, taken_other, taken_agrees}
+use Rattle.alp_node.proofs.PerformLemmas.{grants_nothing}
+use Rattle.alp_node.proofs.LockCallLemmas.{locked_then, lock_request, lock_asks, asked_locks, made_locks, not_refused}
+use Rattle.alp_node.proofs.ServedLemmas.{work_why, work_grants}
+use Rattle.alp_node.proofs.StandingLemmas.{own_standing}
+
+same_agree : (a b x y : Holding) → ((q : Resource) → a q ≡ x q) → ((q : Resource) → b q ≡ y q) → DoAgree x y → DoAgree a b
+same_agree a b x y first second agree = subst (λ (z : Holding). DoAgree z b) (λ i q. sym (first q) i) (subst (DoAgree x) (λ i q. sym (second q) i) agree)
+
+-- what asks is granted that
+grants_asked : (t : TransId) (r : Reply) → is_passing r ≡ false → grants_by true t r ≡ t ∷ []
+grants_asked t (reply.Refused (refusal.LockConflict holder)) own = cc
+grants_asked t (reply.Refused refusal.NotYet) own = cc
+grants_asked t r own = refl
+
+grants_as : (t : TransId) (r : Reply) (b : Bool) (ns : List Need) → grants_by true t r ≡ t ∷ [] → b ≡ not (length ns == 0) → cond {A = List TransId} (length ns == 0) [] (t ∷ []) ≡ grants_by b t r
+grants_as t r b [] own is = sym (ap (λ (x : Bool). grants_by x t r) is ∙ grants_nothing t r)
+grants_as t r b (n ∷ ns) own is =
+    ap (λ (x : Bool). cond {A = List TransId} x [] (t ∷ [])) (not_empty n ns)
+    ∙ sym (ap (λ (x : Bool). grants_by x t r) (is ∙ ap not (not_empty n ns)) ∙ own)
+
+some_right : (x : Option Mode) (m : Mode) → is_some (join_held x (Some m)) ≡ true
+some_right None m = refl
+some_right (Some y) m = refl
+
+more_most : (c : Call) → more_locks c ≤ 1
+more_most (call.CreateFile t start choice) = omega arith
+more_most c = omega arith
+
+-- how many it has locked then
+kept_count : (locks : ℕ) (n : LockCounts) (g : Reply) (rs : List Resource) → has_contents g ≡ false → length rs ≡ n.asked → ((f : FileId) → id_in g ≡ Some f → length (with_resources (needs_made (Some f)) rs) ≡ n.made)
+    → locks_given locks n (Ok g) ≡ length (with_resources (needs_made (id_in g)) rs)
+kept_count locks n (reply.Created f number) rs h asked made = sym (made f refl)
+kept_count locks n (reply.Pages pages) rs h asked made = cc
+kept_count locks n (reply.Props p) rs h asked made = cc
+kept_count locks n (reply.Owner o) rs h asked made = cc
+kept_count locks n g rs h asked made = sym asked
+
+module _ {V : Type 0} (a : Alone) (before now : ℕ) (held : Contents) (k : ServerState V) (turn : Turn) (t : TransId) (l : Live) (p : Part) (c : Call) (room : Room) (r : Reply) (v : V) where
+  -- how many are locked then, and what was asked
+  abbrev pub locks_now : LockCounts
+  locks_now = counts_then l.locks (holding k.locks.held t) c
+
+  abbrev pub asked : Waiter
+  asked = plan_of k.locks t (asks_of c)
+
+  abbrev plan : Reply → Waiter
+  plan g = plan_of k.locks t (asks_given (next_file k) c g)
+
+  -- the table, and the server, as the call leaves them where it is answered so
+  abbrev pub table_then : Reply → Table
+  table_then g = with_plan k.locks (plan g)
+
+  abbrev pub lock_left : Reply → ServerState V
+  lock_left g = record k { sessions = counted_in k.sessions turn; given = count_after k.given g; lives = map.insert k.lives t (record l { part = p; locks = locks_given l.locks locks_now (Ok g) }); locks = table_then g; vault = v }
+
+  module _ (m : ℕ) (on : Bool) (ready : IsReady m on k) (life : Life) (h : IsAs a held k) (up : k.is_down ≡ false) (is : IsTurn k.sessions turn) (there : map.get k.lives t ≡ Some l) (own : l.client ≡ turn.client) (live : a.holder.lives t ≡ Some life)
+      (mine : IsLife a.holder.cells k.locks.held (a.locked t) t l life) (kind : IsLockCall c) (given : Answered true held.cells l.part p l.who (next_file k) c room r) (of : IsRoomOf true held.cells k locks_now.made room)
+      (shape : shape_of k.server k.epoch k.given (length l.part.opens.items) c ≡ None) (few : too_locked k.sizes.area l.part.counts.cells locks_now.made ≡ None) (free : blocker k.locks.held t asked.rises ≡ None) where
+    abbrev g : Reply
+    g = given.given
+
+    abbrev did : Answer
+    did = answer_in a.holder life (record { call = c; reply = g })
+
+    abbrev refused : Option Refusal
+    refused = refused_for room l.part.counts given.after
+
+    lock_right : IsRight a.holder.cells l.part p given.after refused g did
+    lock_right = right_as a held k t l p c g life (a.locked t) given.after refused h up mine (given.right refl [] refl)
+
+    lock_after : AreCountsOf a.holder.cells (life.edits ++ did.edits) given.after
+    lock_after = lock_right.counts life.edits (covered_puts life.held life.edits mine.covered) mine.intents mine.counts
+
+    lock_counted : refused ≡ count_refusal (alone a) t life c did
+    lock_counted = refusal_same a held k h up locks_now.made room of t life c did l.part.counts given.after mine.counts lock_after (made_locks a held k t l c life h mine kind)
+
+    of_file : is_of_given k.server k.epoch k.given c ≡ true
+    of_file = shape_given k.server k.epoch k.given (length l.part.opens.items) c shape
+
+    -- what the part would hold for the call
+    abbrev pub under : Holding
+    under = held_for a.holder life c
+
+    -- what is kept is what was asked, with the lock of a new file
+    keeps : asks_given (next_file k) c g ≡ asks_of c ++ needs_made (id_in g)
+    keeps = kept_beside a.holder.server [] (view_in a.holder life) life.own life.who (next_file k) c g kind lock_right.reply given.ids
+
+    under_is : (q : Resource) → under q ≡ join_held (holding k.locks.held t q) (held_by (asks_of c) q)
+    under_is q =
+        ap (λ (ns : List Need). join_held (life.held q) (held_by ns q)) (lock_request a held k t l c life h mine kind)
+        ∙ ap (λ (y : Option Mode). join_held y (held_by (asks_of c) q)) (mine.held q)
+
+    pub first_held : (q : Resource) → under q ≡ holding (with_plan k.locks asked).held t q
+    first_held q = under_is q ∙ sym (taken_own k.locks asked refl q)
+
+    then_holds : (q : Resource) → with_made under (id_in g) q ≡ holding (table_then g).held t q
+    then_holds q =
+        ap (λ (y : Option Mode). join_held y (held_by (needs_made (id_in g)) q)) (under_is q)
+        ∙ join_held-assoc (holding k.locks.held t q) (held_by (asks_of c) q) (held_by (needs_made (id_in g)) q)
+        ∙ ap (join_held (holding k.locks.held t q)) (sym (held_by-append (asks_of c) (needs_made (id_in g)) q) ∙ ap (λ (ns : List Need). held_by ns q) (sym keeps))
+        ∙ sym (taken_own k.locks (plan g) refl q)
+
+    others_held : (u : TransId) (o : Life) → a.holder.lives u ≡ Some o → (q : Resource) → o.held q ≡ holding k.locks.held u q
+    others_held u o at q = held_elsewhere a.holder.cells k.locks.held (a.locked u) u (map.get k.lives u) o (subst (λ (y : Option Life). IsAlike a.holder.cells k.locks.held (a.locked u) u (map.get k.lives u) y) at (h.lives u)) q
+
+    idle : waits k.locks.waiting t ≡ false
+    idle = ap (λ (ws : List Waiter). waits ws t) ready.alone
+
+    pub lock_free : IsFree a.holder t life c
+    lock_free u o at away q =
+        agree-turned (o.held q) (under q)
+        ∙ same_agree under o.held (holding (with_plan k.locks asked).held t) (holding (with_plan k.locks asked).held u) first_held
+        (λ x. others_held u o at x ∙ sym (taken_other k.locks asked refl u x away)) (taken_agrees k.locks asked refl ready.sound free idle u away) q
+
+    lock_agrees : (u : TransId) (o : Life) → a.holder.lives u ≡ Some o → same_trans u t ≡ false → DoAgree (with_made under (id_in g)) o.held
+    lock_agrees u o at away =
+        same_agree (with_made under (id_in g)) o.held (holding (table_then g).held t) (holding (table_then g).held u) then_holds
+        (λ q. others_held u o at q ∙ sym (taken_other k.locks (plan g) refl u q away)) (taken_agrees k.locks (plan g) refl ready.sound (free_given m on k t c g ready free) idle u away)
+
+    next_id : (f : FileId) → id_in g ≡ Some f → f ≡ journal.next_file (alone a)
+    next_id f e = id_given (next_file k) f g e given.ids ∙ next_told a held k h
+
+    lock_threads : IsThreads (alone a) t life c r
+    lock_threads = record { given = g; own = given.own; right = lock_right.reply; next_id = next_id; counted = given.said ∙ ap (unless_counts g) lock_counted }
+
+    passed : option_or (shape_refusal (alone a) life c) (lock_refusal (alone a) t life c) ≡ None
+    passed = not_refused a held k t l c life h mine kind ready.raised shape few
+
+    lock_answer : IsFileAnswer (alone a) t c r (Some life)
+    lock_answer = subst (λ (x : Option Refusal). First x r (IsLocked (alone a) t life c r)) (sym passed) (IsLocked.performed r lock_free lock_threads)
+
+    my_standing : standing_of turn.client (map.get k.lives t) (is_dead turn.client t k.dead) ≡ standing.Own
+    my_standing = own_standing turn.client (map.get k.lives t) (is_dead turn.client t k.dead) (subst (IsOf turn.client) (sym there) own)
+
+    pub lock_why : IsFileOf false (alone a) turn.client c r (Some t)
+    lock_why = work_why a before now held k turn t c false r life h my_standing live (inr lock_answer)
+
+    grants_of : (o : Option Refusal) → refused ≡ o → grants_by true t r ≡ t ∷ []
+    grants_of None e = subst (λ (y : Reply). grants_by true t y ≡ t ∷ []) (sym (given.said ∙ ap (unless_counts g) e)) (grants_asked t g given.own)
+    grants_of (Some f) e = subst (λ (y : Reply). grants_by true t y ≡ t ∷ []) (sym (given.said ∙ ap (unless_counts g) e)) (IsCountRefusal.granted (refused_is room l.part.counts given.after f e) t)
+
+    -- it is granted where something rises
+    lock_grants : GrantsFor false (alone a) turn.client c r (cond {A = List TransId} (length asked.rises == 0) [] (t ∷ [])) (Some t)
+    lock_grants =
+        work_grants a before now held k turn t c false r life (cond {A = List TransId} (length asked.rises == 0) [] (t ∷ [])) h my_standing live
+        (grants_as t r (asks a.holder life c) asked.rises (grants_of refused refl) (lock_asks a held k t l c life h mine kind)
+        ∙ sym (ap (λ (x : Option Refusal). cond {A = List TransId} (is_some x) [] (grants_by (asks a.holder life c) t r)) passed))
+
+    pub grants_none : asked.rises ≡ [] → GrantsFor false (alone a) turn.client c r [] (Some t)
+    grants_none none = subst (λ (ns : List Need). GrantsFor false (alone a) turn.client c r (cond {A = List TransId} (length ns == 0) [] (t ∷ [])) (Some t)) none lock_grants
+
+    pub grants_some : (n : Need) (ns : List Need) → asked.rises ≡ n ∷ ns → GrantsFor false (alone a) turn.client c r (t ∷ []) (Some t)
+    grants_some n ns some =
+        subst (λ (e : Bool). GrantsFor false (alone a) turn.client c r (cond {A = List TransId} e [] (t ∷ [])) (Some t)) (ap (λ (ms : List Need). length ms == 0) some ∙ not_empty n ns) lock_grants
+
+    -- what is held already is not granted
+    pub under_held : asked.rises ≡ [] → under ≡ life.held
+    under_held none = λ i q. (would_hold a held k t l life c h mine kind q ∙ no-rise (held_of k.locks.held t) (asks_of c) none q ∙ sym (mine.held q)) i
+
+    -- and counts already
+    pub still_locked : under ≡ life.held → locked_then a held k t l c life h mine kind ≡ a.locked t
+    still_locked none =
+        let one : IsOne (asks_of c) = lock_one c kind in
+        let there_now : is_some (life.held one.on) ≡ true =
+        ap (λ (y : Holding). is_some (y one.on)) (sym none) ∙ ap is_some (under_is one.on) ∙ ap (λ (ns : List Need). is_some (join_held (holding k.locks.held t one.on) (held_by ns one.on))) one.is
+        ∙ ap (λ (b : Bool). is_some (join_held (holding k.locks.held t one.on) (cond {A = Option Mode} b (Some one.mode) None))) (itself one.on) ∙ some_right (holding k.locks.held t one.on) one.mode in
+        ap (λ (ns : List Need). with_resources ns (a.locked t)) (lock_request a held k t l c life h mine kind ∙ one.is)
+        ∙ ap (λ (b : Bool). cond {A = List Resource} b (a.locked t) (a.locked t ++ one.on ∷ [])) (mine.known one.on ∙ there_now)
+
+    pub known_then : AreHeld under (locked_then a held k t l c life h mine kind)
+    known_then = held_then life.held (request_in a.holder c (Some life)) (a.locked t) mine.known
+
+    pub count_then : length (locked_then a held k t l c life h mine kind) ≡ locks_now.asked
+    count_then = asked_locks a held k t l c life h mine kind
+
+    abbrev pub told : desk.Session
+    told = IsSession.told (turn_session a held k turn h is)
+
+    -- no limit is passed, and the part gives what a thread is given
+    module _ (passes : refused ≡ None) where
+      as_given : r ≡ g
+      as_given = given.said ∙ ap (unless_counts g) passes
+
+      lock_done : Performs l.part p did g
+      lock_done = IsRight.done lock_right passes
+
+      lock_owes : file_trans c ≡ Some t → IsFormed c → (x : Holding) → under ≡ x → (ts : List TransId) → GrantsFor false (alone a) turn.client c r ts (Some t) → PerformOwes a turn.client turn.number told t life c g false x ts
+      lock_owes of_trans formed x same ts grants = record {
+        quiet = h.quiet;
+        up = h.down ∙ up;
+        there = IsSession.is (turn_session a held k turn h is);
+        turn = turn_next a held k turn h is;
+        live = live;
+        own = mine.client ∙ own;
+        named = of_trans;
+        formed = formed;
+        kind = given.kind;
+        passes = given.own;
+        given = of_given a held k c g h of_file;
+        right = lock_right.reply;
+        next_id = next_id;
+        locked = subst (λ (y : Holding). HoldsEach y (needs_of (view_in a.holder life) life.own c)) same (granted-holds life.held (needs_of (view_in a.holder life) life.own c));
+        agree = λ u m at away. subst (λ (y : Holding). DoAgree (with_made y (id_in g)) m.held) same (lock_agrees u m at away);
+        why = subst (λ (y : Reply). IsFileOf false (alone a) turn.client c y (Some t)) as_given lock_why;
+        grants = subst (λ (y : Reply). GrantsFor false (alone a) turn.client c y ts (Some t)) as_given grants;
+      }
+
+      lock_opens : AllByRecursion (IsOpenLocked (with_made under (id_in g))) did.own.opens
+      lock_opens = kept_locked a.holder.server [] life.held (view_in a.holder life) life.own life.who c g kind mine.opens
+
+      more_then : IsMore life.held (with_made under (id_in g))
+      more_then q x covered = joined-more under (needs_made (id_in g)) q x (joined-more life.held (request_in a.holder c (Some life)) q x covered)
+
+      lock_puts : AreCovered (with_made under (id_in g)) (life.edits ++ did.edits)
+      lock_puts =
+          covered_both (with_made under (id_in g)) life.edits did.edits (covered_more life.held (with_made under (id_in g)) more_then life.edits mine.covered)
+          (lock_covered a.holder.server [] life.held (view_in a.holder life) life.own life.who c g kind)
+
+      -- nobody held the new file
+      new_free : (f : FileId) → id_in g ≡ Some f → under (Whole f) ≡ None
+      new_free f e =
+          ap (λ (x : FileId). under (Whole x)) (id_given (next_file k) f g e given.ids) ∙ under_is (Whole (next_file k))
+          ∙ (λ i. join_held (ready.unheld t (k.given + 1) (omega arith) i) (asked_below k.server k.epoch k.given (k.given + 1) c of_file (omega arith) i))
+
+      made_count : (rs : List Resource) → length rs ≡ locks_now.asked → AreHeld under rs → (f : FileId) → id_in g ≡ Some f → length (with_resources (needs_made (Some f)) rs) ≡ locks_now.made
+      made_count rs count known f e =
+          let one : 1 ≤ more_locks c = subst (λ (o : Option FileId). length (needs_made o) ≤ more_locks c) e (lock_made a.holder.server [] (view_in a.holder life) life.own life.who c g kind lock_right.reply) in
+          let counted : length (with_resources (needs_made (Some f)) rs) ≡ length rs + 1 = count_made under f rs known (new_free f e) in
+          omega (arith, counted, count, one, more_most c)
+
+      lock_as : (then : Contents) → then ≡ held → (x : Holding) → under ≡ x → (rs : List Resource) → length rs ≡ locks_now.asked → AreHeld under rs → IsQuiet (with_call a turn.client turn.number told t life c g x rs)
+          → IsAs (after_call a held k turn t l p c g (locks_given l.locks locks_now (Ok g)) (table_then g) v life x rs told) then (lock_left g)
+      lock_as then same x so rs count known quiet =
+          let counts : p.counts ≡ given.after = subst (StandsAfter l.part p given.after) passes given.stands in
+          done_as a held k turn t l p c g (locks_given l.locks locks_now (Ok g)) (table_then g) v life x rs then h same is up there live mine (lock_built c kind) given.ids lock_done
+          (λ q. ap (λ (y : Holding). with_made y (id_in g) q) (sym so) ∙ then_holds q) (λ u q away. taken_other k.locks (plan g) refl u q away)
+          (subst (λ (y : Holding). AllByRecursion (IsOpenLocked (with_made y (id_in g))) did.own.opens) so lock_opens)
+          (subst (AreCountsOf a.holder.cells (life.edits ++ did.edits)) (sym counts) lock_after)
+          (subst (λ (y : Holding). AreCovered (with_made y (id_in g)) (life.edits ++ did.edits)) so lock_puts)
+          (kept_count l.locks locks_now g rs (lock_tells a.holder.server [] (view_in a.holder life) life.own life.who c g kind lock_right.reply) count (made_count rs count known))
+          (subst (λ (y : Holding). AreHeld (with_made y (id_in g)) (with_resources (needs_made (id_in g)) rs)) so (held_then under (needs_made (id_in g)) rs known))
+          (subst (AreRoomed k.sizes a.holder.cells (totals_of k.lives) l.part.counts) (sym counts) (allowed_room a held k h up locks_now.made room of t l given.after there passes)) quiet
+
+      abbrev Steps : Contents → Handed → Type 0
+      Steps then x = Stepped a before now then (lock_left g) (event.Call turn.client k.epoch turn.number c) x
+
+      held_steps : (x : Handed) (then : Contents) → then ≡ held → file_trans c ≡ Some t → IsFormed c → asked.rises ≡ [] → x ≡ record { kept = Some g; handed = Some g; acts = [] } → Steps then x
+      held_steps x then same of_trans formed none so =
+          let still : under ≡ life.held = under_held none in
+          let leads : Leads false a (call_entry a turn.client turn.number told c g []) (with_call a turn.client turn.number told t life c g life.held (a.locked t)) =
+          performed_leads a turn.client turn.number told t life c g false (lock_owes of_trans formed life.held still [] (grants_none none)) in
+          stepped_so a before now held then k (lock_left g) turn.client turn.number told c false g [] (with_call a turn.client turn.number told t life c g life.held (a.locked t)) x so h leads
+          (lock_as then same life.held still (a.locked t) (ap (λ (rs : List Resource). length rs) (sym (still_locked still)) ∙ count_then) (subst (AreHeld under) (still_locked still) known_then) leads.quiet) (λ e. cc)
+          (stands_timely a.holder.clock (seen_in (event.Call turn.client k.epoch turn.number c)) k.clock h.clock)
+
+      granted_steps : (x : Handed) (then : Contents) → then ≡ held → file_trans c ≡ Some t → IsFormed c → (n : Need) (ns : List Need) → asked.rises ≡ n ∷ ns
+          → x ≡ record { kept = Some g; handed = Some g; acts = act.Granted t ∷ [] } → Steps then x
+      granted_steps x then same of_trans formed n ns some so =
+          let rs : List Resource = locked_then a held k t l c life h mine kind in
+          let leads : Leads false a (call_entry a turn.client turn.number told c g (act.Granted t ∷ [])) (with_call a turn.client turn.number told t life c g under rs) =
+          granted_leads a turn.client turn.number told t life c g false lock_free (lock_owes of_trans formed under refl (t ∷ []) (grants_some n ns some)) in
+          stepped_so a before now held then k (lock_left g) turn.client turn.number told c false g (act.Granted t ∷ []) (with_call a turn.client turn.number told t life c g under rs) x so h leads
+          (lock_as then same under refl rs count_then known_then leads.quiet) (λ e. cc) (stands_timely a.holder.clock (seen_in (event.Call turn.client k.epoch turn.number c)) k.clock h.clock)
+
+      lock_steps : (x : Handed) (then : Contents) → then ≡ held → file_trans c ≡ Some t → IsFormed c → x ≡ record { kept = Some g; handed = Some g; acts = acts_of t asked.rises } → Steps then x
+      lock_steps x then same of_trans formed so = go asked.rises refl
+        where
+          go : (ns : List Need) → asked.rises ≡ ns → Steps then x
+          go [] e = held_steps x then same of_trans formed e (so ∙ ap (λ (ms : List Need). record { kept = Some g; handed = Some g; acts = acts_of t ms }) e)
+          go (n ∷ ns) e =
+              granted_steps x then same of_trans formed n ns e
+              (so ∙ ap (λ (y : Bool). record { kept = Some g; handed = Some g; acts = cond {A = List Act} y [] (act.Granted t ∷ []) }) (ap (λ (ms : List Need). length ms == 0) e ∙ not_empty n ns))
+
+      pub lock_performed : (x : Handed) (then : Contents) → then ≡ held → file_trans c ≡ Some t → IsFormed c → x ≡ record { kept = Some r; handed = Some r; acts = acts_of t asked.rises }
+          → Stepped a before now then (lock_left r) (event.Call turn.client k.epoch turn.number c) x
+      lock_performed x then same of_trans formed so =
+          subst (λ (y : Reply). Stepped a before now then (lock_left y) (event.Call turn.client k.epoch turn.number c) x) (sym as_given)
+          (lock_steps x then same of_trans formed (so ∙ ap (λ (y : Reply). record { kept = Some y; handed = Some y; acts = acts_of t asked.rises }) as_given))

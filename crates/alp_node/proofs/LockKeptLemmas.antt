@@ -1,0 +1,249 @@
+-- a call that asked for locks and has them, and that the counts refuse: its part keeps the locks, and nothing else comes about
+use Rattle.std.specs.Prelude.{cond, Bool, true, false, ◌==◌, Option, None, Some}
+use Rattle.std.specs.List.{AllByRecursion}
+use Rattle.std.specs.FinMap as map
+use Rattle.std.proofs.Common.{◌≡◌, ℕ, List, [], ◌∷◌, length, refl, sym, ◌∙◌, ap, subst}
+use Rattle.alp_base.specs.declared.ids.TransId.{TransId}
+use Rattle.alp_base.specs.declared.key.Resource.{Resource}
+use Rattle.alp_files.specs.Holdings.{Holding}
+use Rattle.alp_files.proofs.CoverLemmas.{joined-more}
+use Rattle.alp_files.specs.declared.call.Call.{Call}
+use Rattle.alp_files.specs.declared.reply.Reply.{Reply}
+use Rattle.alp_files.specs.declared.reply.Reply.TheVariants as reply
+use Rattle.alp_files.specs.declared.refusal.Refusal.{Refusal}
+use Rattle.alp_files.specs.Edits.{ChangesBy}
+use Rattle.alp_files.specs.Locks.{Need, IsMore, IsFormed}
+use Rattle.alp_queue.specs.declared.waiter.Waiter.{Waiter}
+use Rattle.alp_locks.specs.Tables.{Table}
+use Rattle.alp_locks.specs.Asks.{blocker}
+use Rattle.alp_trans.specs.declared.part.Part.{Part}
+use Rattle.alp_trans.specs.Counting.{AreCountsOf}
+use Rattle.alp_calls.specs.Parts.{Answered, IsAsBefore, StandsAfter}
+use Rattle.alp_calls.specs.Limits.{refused_for}
+use Rattle.alp_calls.specs.declared.limits.Room.{Room}
+use Rattle.alp_vault.specs.Contents.{Contents}
+use Rattle.alp_journal.specs.declared.act.Act.{Act}
+use Rattle.alp_journal.specs.declared.act.Act.TheVariants as act
+use Rattle.alp_journal.specs.declared.event.Event.TheVariants as event
+use Rattle.alp_journal.specs.Ids.{same_trans}
+use Rattle.alp_journal.specs.Counts.{lock_set, request_in}
+use Rattle.alp_journal.proofs.AloneEntries.{counted_as}
+use Rattle.alp_journal.specs.Desk as desk
+use Rattle.alp_journal.specs.Desk.{file_trans}
+use Rattle.alp_journal.specs.Holder.{Life, held_for}
+use Rattle.alp_journal.specs.Answers.{IsFileOf, unless_counts}
+use Rattle.alp_journal.specs.Answered.{GrantsFor}
+use Rattle.alp_journal.specs.Alone.{Alone, alone, IsQuiet, Leads}
+use Rattle.alp_journal.proofs.AloneLemmas.{call_entry}
+use Rattle.alp_node.specs.Asks.{with_plan, acts_of}
+use Rattle.alp_node.specs.Calls.{IsLockCall, next_file}
+use Rattle.alp_node.specs.Covers.{AreCovered, AreHeld}
+use Rattle.alp_node.specs.Rooms.{IsRoomOf}
+use Rattle.alp_node.specs.Shapes.{shape_of, too_locked}
+use Rattle.alp_node.specs.declared.lock_counts.LockCounts.{LockCounts}
+use Rattle.alp_node.specs.ServerState.{IsAs, IsReady, IsAlike, IsLife, PutNoneBeyond, IsLocked as IsOpenLocked}
+use Rattle.alp_node.specs.Steps.{Stepped, IsTurn, counted_in, seen_in}
+use Rattle.alp_node.specs.declared.answer.Answer.{Answer as Handed}
+use Rattle.alp_node.specs.declared.lives.Live.{Live}
+use Rattle.alp_node.specs.declared.server_state.ServerState.{ServerState}
+use Rattle.alp_node.specs.declared.sessions.Turn.{Turn}
+use Rattle.alp_node.proofs.ApartLemmas.{covered_more}
+use Rattle.alp_node.proofs.AskLemmas.{more_locked}
+use Rattle.alp_node.proofs.CountedLemmas.{IsCountRefusal, refused_is}
+use Rattle.alp_node.proofs.ShapeLemmas.{count_none_done}
+use Rattle.alp_node.proofs.TotalLemmas.{same_room}
+use Rattle.alp_node.proofs.ConflictLemmas.{not_empty}
+use Rattle.alp_node.proofs.FinishLemmas.{turn_session, turn_next, counts_as}
+use Rattle.alp_node.proofs.KeptLemmas.{IsSession, IsLive, live_there, alike_under, alike_set, each_set, stands_timely, stepped_so}
+use Rattle.alp_node.proofs.LockLemmas.{taken_other}
+use Rattle.alp_node.proofs.LockCallLemmas.{locked_then}
+use Rattle.alp_node.proofs.LockDoneLemmas.{locks_now, asked, lock_left, first_held, lock_free, lock_why, grants_none, grants_some, under_held, still_locked, known_then, count_then, lock_performed}
+use Rattle.alp_node.proofs.RefusalLemmas.{with_locks, refused_granted_leads}
+use Rattle.alp_node.proofs.MapLemmas.{get_put}
+use Rattle.alp_files.proofs.FilesLemmas.{same-some}
+use Rattle.alp_journal.proofs.IdLemmas.{same_trans-true}
+use Rattle.alp_node.proofs.ServedLemmas.{refused_stepped}
+
+module _ {V : Type 0} (a : Alone) (before now : ℕ) (held : Contents) (k : ServerState V) (turn : Turn) (t : TransId) (l : Live) (p : Part) (c : Call) (room : Room) (r : Reply) (v : V) where
+  abbrev locks_asked : LockCounts
+  locks_asked = locks_now a before now held k turn t l p c room r v
+
+  abbrev wanted : Waiter
+  wanted = asked a before now held k turn t l p c room r v
+
+  abbrev with_asked : Table
+  with_asked = with_plan k.locks wanted
+
+  -- its part as it was, with the locks that were asked
+  abbrev live_now : Live
+  live_now = record l { part = p; locks = locks_asked.asked }
+
+  abbrev server_now : ServerState V
+  server_now = record k { lives = map.insert k.lives t live_now; locks = with_asked; vault = v }
+
+  abbrev left : Reply → ServerState V
+  left = lock_left a before now held k turn t l p c room r v
+
+  module _ (m : ℕ) (on : Bool) (ready : IsReady m on k) (life : Life) (h : IsAs a held k) (up : k.is_down ≡ false) (is : IsTurn k.sessions turn) (there : map.get k.lives t ≡ Some l) (own : l.client ≡ turn.client) (live : a.holder.lives t ≡ Some life)
+      (mine : IsLife a.holder.cells k.locks.held (a.locked t) t l life) (kind : IsLockCall c) (given : Answered true held.cells l.part p l.who (next_file k) c room r) (of : IsRoomOf true held.cells k locks_asked.made room)
+      (shape : shape_of k.server k.epoch k.given (length l.part.opens.items) c ≡ None) (few : too_locked k.sizes.area l.part.counts.cells locks_asked.made ≡ None) (free : blocker k.locks.held t wanted.rises ≡ None)
+      (f : Refusal) (full : refused_for room l.part.counts given.after ≡ Some f) where
+    abbrev would : Holding
+    would = held_for a.holder life c
+
+    abbrev resources : List Resource
+    resources = locked_then a held k t l c life h mine kind
+
+    abbrev w : desk.Session
+    w = IsSession.told (turn_session a held k turn h is)
+
+    counted : IsCountRefusal f
+    counted = refused_is room l.part.counts given.after f full
+
+    as_refused : r ≡ reply.Refused f
+    as_refused = given.said ∙ ap (unless_counts given.given) full
+
+    stands : IsAsBefore l.part p
+    stands = subst (StandsAfter l.part p given.after) full given.stands
+
+    why : IsFileOf false (alone a) turn.client c (reply.Refused f) (Some t)
+    why = subst (λ (y : Reply). IsFileOf false (alone a) turn.client c y (Some t)) as_refused (lock_why a before now held k turn t l p c room r v m on ready life h up is there own live mine kind given of shape few free)
+
+    more : IsMore life.held would
+    more = joined-more life.held (request_in a.holder c (Some life))
+
+    known : AreHeld would resources
+    known = known_then a before now held k turn t l p c room r v m on ready life h up is there own live mine kind given of shape few free
+
+    count : length resources ≡ locks_asked.asked
+    count = count_then a before now held k turn t l p c room r v m on ready life h up is there own live mine kind given of shape few free
+
+    -- the part with the locks
+    life_kept : (x : Holding) → would ≡ x → (rs : List Resource) → length rs ≡ locks_asked.asked → AreHeld would rs → IsLife a.holder.cells with_asked.held rs t live_now (record life { held = x })
+    life_kept x so rs many all = record {
+      client = mine.client;
+      who = mine.who;
+      intents = subst (ChangesBy life.edits map.empty) (sym stands.0) mine.intents;
+      own = stands.1 ∙ mine.own;
+      held = λ q. ap (λ (y : Holding). y q) (sym so) ∙ first_held a before now held k turn t l p c room r v m on ready life h up is there own live mine kind given of shape few free q;
+      opens = subst (λ (y : Holding). AllByRecursion (IsOpenLocked y) life.own.opens) so (more_locked life.held would more life.own.opens mine.opens);
+      counts = subst (AreCountsOf a.holder.cells life.edits) (sym stands.2) mine.counts;
+      covered = subst (λ (y : Holding). AreCovered y life.edits) so (covered_more life.held would more life.edits mine.covered);
+      count = sym many;
+      known = subst (λ (y : Holding). AreHeld y rs) so all;
+    }
+
+    -- ---- nothing rises
+
+    held_as : (then : Contents) → then ≡ held → would ≡ life.held → resources ≡ a.locked t → IsAs a then server_now
+    held_as then same still rs = subst (λ (x : Contents). IsAs a x server_now) (sym same) (record {
+      server = h.server;
+      sizes = h.sizes;
+      epoch = h.epoch;
+      clock = h.clock;
+      cells = h.cells;
+      notes = h.notes;
+      places = h.places;
+      sessions = h.sessions;
+      dead = h.dead;
+      lives = λ u. subst (λ (x : Option Live). IsAlike a.holder.cells with_asked.held (a.locked u) u x (a.holder.lives u)) (sym (get_put k.lives t live_now u)) (go u (same_trans u t) refl);
+      room = same_room k.sizes a.holder.cells k.lives t l live_now there stands.2 h.room;
+      unborn = h.unborn;
+      drawn = h.drawn;
+      begun = h.begun;
+      undrawn = h.undrawn;
+      files = h.files;
+      made = h.made;
+      born = h.born;
+      earlier = h.earlier;
+      committed = h.committed;
+      quiet = h.quiet;
+      down = h.down;
+    })
+      where
+        go : (u : TransId) (e : Bool) → same_trans u t ≡ e → IsAlike a.holder.cells with_asked.held (a.locked u) u (cond {A = Option Live} e (Some live_now) (map.get k.lives u)) (a.holder.lives u)
+        go u true e =
+            subst (λ (x : TransId). IsAlike a.holder.cells with_asked.held (a.locked x) x (Some live_now) (a.holder.lives x)) (sym (same_trans-true u t e))
+            (subst (λ (x : Option Life). IsAlike a.holder.cells with_asked.held (a.locked t) t (Some live_now) x) (sym live)
+            (life_kept life.held still (a.locked t) (ap (λ (x : List Resource). length x) (sym rs) ∙ count) (subst (AreHeld would) rs known)))
+        go u false e = alike_under a.holder.cells k.locks.held with_asked.held (a.locked u) u (map.get k.lives u) (a.holder.lives u) (λ q. taken_other k.locks wanted refl u q e) (h.lives u)
+
+    held_refused : (x : Handed) (then : Contents) → then ≡ held → file_trans c ≡ Some t → wanted.rises ≡ [] → x ≡ record { kept = Some (reply.Refused f); handed = Some (reply.Refused f); acts = [] }
+        → Stepped a before now then (left (reply.Refused f)) (event.Call turn.client k.epoch turn.number c) x
+    held_refused x then same of_trans none so =
+        let still : would ≡ life.held = under_held a before now held k turn t l p c room r v m on ready life h up is there own live mine kind given of shape few free none in
+        let rs : resources ≡ a.locked t = still_locked a before now held k turn t l p c room r v m on ready life h up is there own live mine kind given of shape few free still in
+        refused_stepped a before now then server_now turn t c false f x (held_as then same still rs) is up (λ e. cc) of_trans counted.now (count_none_done a t c f counted) why
+        (subst (λ (y : Reply). GrantsFor false (alone a) turn.client c y [] (Some t)) as_refused (grants_none a before now held k turn t l p c room r v m on ready life h up is there own live mine kind given of shape few free none)) so
+
+    -- ---- it is granted
+
+    granted_as : (then : Contents) → then ≡ held → IsQuiet (with_locks a turn.client turn.number w t life c f) → IsAs (with_locks a turn.client turn.number w t life c f) then (left (reply.Refused f))
+    granted_as then same quiet =
+        let s : IsAs (counted_as a turn.client turn.number w (reply.Refused f)) held (record k { sessions = counted_in k.sessions turn }) = counts_as a held k turn (reply.Refused f) h is up in
+        let new : Life = record life { held = would } in
+        subst (λ (x : Contents). IsAs (with_locks a turn.client turn.number w t life c f) x (left (reply.Refused f))) (sym same) (record {
+          server = h.server;
+          sizes = h.sizes;
+          epoch = h.epoch;
+          clock = h.clock;
+          cells = h.cells;
+          notes = h.notes;
+          places = s.places;
+          sessions = s.sessions;
+          dead = h.dead;
+          lives = λ u. subst (λ (x : Option Live). IsAlike a.holder.cells with_asked.held (lock_set a.locked t resources u) u x (cond {A = Option Life} (same_trans u t) (Some new) (a.holder.lives u))) (sym (get_put k.lives t live_now u))
+              (alike_set a.holder.cells k.locks.held with_asked.held a.locked t (Some live_now) (Some new) resources (map.get k.lives) a.holder.lives h.lives (λ u q away. taken_other k.locks wanted refl u q away)
+              (life_kept would refl resources count known) u);
+          room = same_room k.sizes a.holder.cells k.lives t l live_now there stands.2 h.room;
+          unborn = each_set (λ x. PutNoneBeyond a.holder.server a.ids.epoch k.given x.edits) t (Some new) a.holder.lives h.unborn
+              (λ x at. subst (λ (y : Life). PutNoneBeyond a.holder.server a.ids.epoch k.given y.edits) (same-some new x at) (h.unborn t life live));
+          drawn = h.drawn;
+          begun = h.begun;
+          undrawn = h.undrawn;
+          files = h.files;
+          made = h.made;
+          born = h.born;
+          earlier = h.earlier;
+          committed = h.committed;
+          quiet = quiet;
+          down = s.down;
+        })
+
+    granted_refused : (x : Handed) (then : Contents) → then ≡ held → file_trans c ≡ Some t → (n : Need) (ns : List Need) → wanted.rises ≡ n ∷ ns
+        → x ≡ record { kept = Some (reply.Refused f); handed = Some (reply.Refused f); acts = act.Granted t ∷ [] } → Stepped a before now then (left (reply.Refused f)) (event.Call turn.client k.epoch turn.number c) x
+    granted_refused x then same of_trans n ns some so =
+        let leads : Leads false a (call_entry a turn.client turn.number w c (reply.Refused f) (act.Granted t ∷ [])) (with_locks a turn.client turn.number w t life c f) =
+        refused_granted_leads a turn.client turn.number w t life c f false h.quiet (h.down ∙ up) (IsSession.is (turn_session a held k turn h is)) (turn_next a held k turn h is) live (mine.client ∙ own) of_trans counted.passes counted.now
+        (lock_free a before now held k turn t l p c room r v m on ready life h up is there own live mine kind given of shape few free) why
+        (subst (λ (y : Reply). GrantsFor false (alone a) turn.client c y (t ∷ []) (Some t)) as_refused (grants_some a before now held k turn t l p c room r v m on ready life h up is there own live mine kind given of shape few free n ns some)) in
+        stepped_so a before now held then k (left (reply.Refused f)) turn.client turn.number w c false (reply.Refused f) (act.Granted t ∷ []) (with_locks a turn.client turn.number w t life c f) x so h leads (granted_as then same leads.quiet) (λ e. cc)
+        (stands_timely a.holder.clock (seen_in (event.Call turn.client k.epoch turn.number c)) k.clock h.clock)
+
+    lock_refused : (x : Handed) (then : Contents) → then ≡ held → file_trans c ≡ Some t → x ≡ record { kept = Some r; handed = Some r; acts = acts_of t wanted.rises }
+        → Stepped a before now then (left r) (event.Call turn.client k.epoch turn.number c) x
+    lock_refused x then same of_trans so =
+        subst (λ (y : Reply). Stepped a before now then (left y) (event.Call turn.client k.epoch turn.number c) x) (sym as_refused) (go wanted.rises refl)
+      where
+        told_so : x ≡ record { kept = Some (reply.Refused f); handed = Some (reply.Refused f); acts = acts_of t wanted.rises }
+        told_so = so ∙ ap (λ (y : Reply). record { kept = Some y; handed = Some y; acts = acts_of t wanted.rises }) as_refused
+
+        go : (ns : List Need) → wanted.rises ≡ ns → Stepped a before now then (left (reply.Refused f)) (event.Call turn.client k.epoch turn.number c) x
+        go [] e = held_refused x then same of_trans e (told_so ∙ ap (λ (ms : List Need). record { kept = Some (reply.Refused f); handed = Some (reply.Refused f); acts = acts_of t ms }) e)
+        go (n ∷ ns) e =
+            granted_refused x then same of_trans n ns e
+            (told_so ∙ ap (λ (y : Bool). record { kept = Some (reply.Refused f); handed = Some (reply.Refused f); acts = cond {A = List Act} y [] (act.Granted t ∷ []) }) (ap (λ (ms : List Need). length ms == 0) e ∙ not_empty n ns))
+
+  -- ---- either
+
+  pub lock_stepped : (m : ℕ) (on : Bool) (x : Handed) (then : Contents) → IsReady m on k → IsAs a held k → k.is_down ≡ false → then ≡ held → IsTurn k.sessions turn → map.get k.lives t ≡ Some l → l.client ≡ turn.client → IsLockCall c
+      → shape_of k.server k.epoch k.given (length l.part.opens.items) c ≡ None → too_locked k.sizes.area l.part.counts.cells locks_asked.made ≡ None → file_trans c ≡ Some t → IsFormed c
+      → Answered true held.cells l.part p l.who (next_file k) c room r → IsRoomOf true held.cells k locks_asked.made room → x ≡ record { kept = Some r; handed = Some r; acts = acts_of t wanted.rises } → blocker k.locks.held t wanted.rises ≡ None
+      → Stepped a before now then (left r) (event.Call turn.client k.epoch turn.number c) x
+  lock_stepped m on x then ready h up same is there own kind shape few of_trans formed given of so free =
+      let y : IsLive a.holder.cells k.locks.held (a.locked t) t l (a.holder.lives t) = live_there a.holder.cells k.locks.held (a.locked t) t (map.get k.lives t) (a.holder.lives t) l there (h.lives t) in
+      go y (refused_for room l.part.counts given.after) refl
+    where
+      go : (y : IsLive a.holder.cells k.locks.held (a.locked t) t l (a.holder.lives t)) → (o : Option Refusal) → refused_for room l.part.counts given.after ≡ o → Stepped a before now then (left r) (event.Call turn.client k.epoch turn.number c) x
+      go y None e = lock_performed a before now held k turn t l p c room r v m on ready y.life h up is there own y.is y.alike kind given of shape few free e x then same of_trans formed so
+      go y (Some f) e = lock_refused m on ready y.life h up is there own y.is y.alike kind given of shape few free f e x then same of_trans so

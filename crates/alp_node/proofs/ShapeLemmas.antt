@@ -1,0 +1,181 @@
+-- a call is refused for its shape and its locks just where the journal says so
+use Rattle.std.specs.Prelude.{cond, Bool, true, false, not, ◌||◌, nat_lt, nat_le, Option, None, Some}
+use Rattle.std.specs.Option.{option_or}
+use Rattle.std.specs.FinMap as map
+use Rattle.std.proofs.lemmas.Bool.{ltb-false}
+use Rattle.std.proofs.Common.{inl, inr, ◌⊎◌, ◌≡◌, ℕ, ◌<◌, List, [], ◌∷◌, length, refl, sym, ◌∙◌, ap, subst, arith}
+use Rattle.alp_base.specs.declared.faults.Sizes.{Sizes}
+use Rattle.alp_base.specs.declared.ids.FileId.{FileId}
+use Rattle.alp_base.specs.declared.ids.TransId.{TransId}
+use Rattle.alp_files.specs.Act.{Own}
+use Rattle.alp_files.specs.Holdings.{Holding}
+use Rattle.alp_files.specs.declared.call.Call.{Call}
+use Rattle.alp_files.specs.declared.call.Call.TheVariants as call
+use Rattle.alp_files.specs.declared.refusal.Refusal.{Refusal}
+use Rattle.alp_files.specs.declared.refusal.Refusal.TheVariants as refusal
+use Rattle.alp_files.specs.declared.refusal.What.TheVariants as what
+use Rattle.alp_files.specs.declared.reply.Reply.TheVariants as reply
+use Rattle.alp_vault.specs.Contents.{Contents}
+use Rattle.alp_journal.specs.Counts.{log_need}
+use Rattle.alp_journal.specs.Deeds.{Deed, Performs}
+use Rattle.alp_journal.specs.Desk.{file_trans, is_not_yet}
+use Rattle.alp_journal.specs.Holder.{Life}
+use Rattle.alp_journal.specs.Moves.{done_by, is_of_no_file}
+use Rattle.alp_journal.specs.State.{is_file_drawn}
+use Rattle.alp_journal.specs.declared.event.Event.TheVariants as event
+use Rattle.alp_journal.specs.Answers.{shape_refusal, lock_refusal, if_over}
+use Rattle.alp_journal.specs.Answered.{is_fault_reply}
+use Rattle.alp_journal.specs.Alone.{Alone, alone}
+use Rattle.alp_node.specs.Asks.{is_given, is_of_given}
+use Rattle.alp_node.specs.Calls.{IsServedCall, IsLockCall}
+use Rattle.alp_node.specs.Dead.{is_dead}
+use Rattle.alp_node.specs.Halts.{says_down}
+use Rattle.alp_node.specs.ServerState.{IsAs, IsLife}
+use Rattle.alp_node.specs.Shapes.{no_open, no_run, shape_of, counts_then, too_locked}
+use Rattle.alp_node.specs.Standings.{standing_of}
+use Rattle.alp_node.specs.Steps.{Stepped, IsTurn, counted_in}
+use Rattle.alp_node.specs.declared.answer.Answer.{Answer}
+use Rattle.alp_node.specs.declared.lives.Live.{Live}
+use Rattle.alp_node.specs.declared.lock_counts.LockCounts.{LockCounts}
+use Rattle.alp_node.specs.declared.server_state.ServerState.{ServerState}
+use Rattle.alp_node.specs.declared.served.Standing.TheVariants as standing
+use Rattle.alp_node.specs.declared.sessions.Turn.{Turn}
+use Rattle.alp_node.proofs.CountedLemmas.{IsCountRefusal, over_is, either_is, too_many_is, log_is}
+use Rattle.alp_node.proofs.IdLemmas.{known_file, unknown_file}
+use Rattle.alp_node.proofs.KeptLemmas.{IsLive, live_there}
+use Rattle.alp_node.proofs.ServedLemmas.{first_stepped}
+use Rattle.alp_node.proofs.WithinLemmas.{MayLock}
+
+-- ---- its shape
+
+-- a call of that shape opens a file that was given
+pub shape_given : (server epoch given opens : ℕ) (c : Call) → shape_of server epoch given opens c ≡ None → is_of_given server epoch given c ≡ true
+shape_given server epoch given opens (call.OpenFile t f access mode choice) e = go (is_given server epoch given f) e
+  where
+    go : (b : Bool) → option_or (if_over (not b) refusal.UnknownFile) (no_open opens) ≡ None → b ≡ true
+    go true e = refl
+    go false e = cc
+shape_given server epoch given opens c e = refl
+
+-- ---- what such a refusal is
+
+shape_is : (server epoch given opens : ℕ) (c : Call) (f : Refusal) → shape_of server epoch given opens c ≡ Some f → IsCountRefusal f ⊎ ((f ≡ refusal.UnknownFile) × (is_of_given server epoch given c ≡ false))
+shape_is server epoch given opens (call.CreateFile t start choice) f e =
+    inl (either_is (if_over (nat_lt 4096 start.size) (refusal.TooMany what.Pages 4096)) (no_open opens) (over_is (nat_lt 4096 start.size) (refusal.TooMany what.Pages 4096) (too_many_is what.Pages 4096))
+    (over_is (nat_le 64 opens) (refusal.TooMany what.Opens 64) (too_many_is what.Opens 64)) f e)
+shape_is server epoch given opens (call.OpenFile t g access mode choice) f e = go (is_given server epoch given g) refl e
+  where
+    same_refusal : (x y : Refusal) → Some y ≡ Some x → x ≡ y
+    same_refusal x y e = cc
+
+    go : (b : Bool) → is_given server epoch given g ≡ b → option_or (if_over (not b) refusal.UnknownFile) (no_open opens) ≡ Some f → IsCountRefusal f ⊎ ((f ≡ refusal.UnknownFile) × (is_given server epoch given g ≡ false))
+    go true is e = inl (over_is (nat_le 64 opens) (refusal.TooMany what.Opens 64) (too_many_is what.Opens 64) f e)
+    go false is e = inr (same_refusal f refusal.UnknownFile e, is)
+shape_is server epoch given opens (call.ReadPages t n r mode choice) f e = inl (over_is (nat_lt 16 r.count) (refusal.TooMany what.Run 16) (too_many_is what.Run 16) f e)
+shape_is server epoch given opens (call.WritePages t n r pages choice) f e = inl (over_is (nat_lt 16 r.count) (refusal.TooMany what.Run 16) (too_many_is what.Run 16) f e)
+shape_is server epoch given opens c f e = cc
+
+pub shape_now : (server epoch given opens : ℕ) (c : Call) (f : Refusal) → shape_of server epoch given opens c ≡ Some f → is_not_yet (reply.Refused f) ≡ false
+shape_now server epoch given opens c f e = go (shape_is server epoch given opens c f e)
+  where
+    go : IsCountRefusal f ⊎ ((f ≡ refusal.UnknownFile) × (is_of_given server epoch given c ≡ false)) → is_not_yet (reply.Refused f) ≡ false
+    go (inl counts) = counts.now
+    go (inr x) = ap (λ (g : Refusal). is_not_yet (reply.Refused g)) x.0
+
+pub shape_quiet : (here server epoch given opens : ℕ) (c : Call) (f : Refusal) → shape_of server epoch given opens c ≡ Some f → (is_fault_reply here (Some (reply.Refused f)) || says_down (Some (reply.Refused f))) ≡ false
+shape_quiet here server epoch given opens c f e = go (shape_is server epoch given opens c f e)
+  where
+    go : IsCountRefusal f ⊎ ((f ≡ refusal.UnknownFile) × (is_of_given server epoch given c ≡ false)) → (is_fault_reply here (Some (reply.Refused f)) || says_down (Some (reply.Refused f))) ≡ false
+    go (inl counts) = counts.quiet here
+    go (inr x) = ap (λ (g : Refusal). is_fault_reply here (Some (reply.Refused g)) || says_down (Some (reply.Refused g))) x.0
+
+-- where the counts refuse it nothing is done
+pub count_none_done : (a : Alone) (t : TransId) (c : Call) (f : Refusal) → IsCountRefusal f → done_by (alone a) c (reply.Refused f) (Some t) ≡ []
+count_none_done a t c f counts = ap (λ (b : Bool). cond {A = List Deed} (b || is_of_no_file (alone a) c (reply.Refused f)) [] (Performs t (record { call = c; reply = reply.Refused f }) ∷ [])) counts.passes
+
+-- ---- as the journal tells it
+
+-- what is refused so is so before all else
+pub first_is : (o p q : Option Refusal) (f : Refusal) → o ≡ Some f → option_or (option_or o p) q ≡ Some f
+first_is o p q f e = ap (λ (x : Option Refusal). option_or (option_or x p) q) e
+
+module _ {V : Type 0} (a : Alone) (held : Contents) (k : ServerState V) (h : IsAs a held k) (raised : 0 < k.epoch) (t : TransId) (l : Live) (life : Life) (mine : IsLife a.holder.cells k.locks.held (a.locked t) t l life) where
+  -- the ids that the counts tell as given the journal tells too
+  drawn_same : (f : FileId) → is_file_drawn (alone a) f ≡ is_given k.server k.epoch k.given f
+  drawn_same f = go (is_given k.server k.epoch k.given f) refl
+    where
+      go : (b : Bool) → is_given k.server k.epoch k.given f ≡ b → is_file_drawn (alone a) f ≡ b
+      go true e = known_file a held k f h e
+      go false e = unknown_file a held k f h raised e
+
+  opens_same : length life.own.opens ≡ length l.part.opens.items
+  opens_same = ap (λ (w : Own). length w.opens) (sym mine.own)
+
+  -- how a call that asks for locks is refused by its shape
+  pub lock_shape : (c : Call) → IsLockCall c → shape_refusal (alone a) life c ≡ shape_of k.server k.epoch k.given (length l.part.opens.items) c
+  lock_shape (call.CreateFile u start choice) is = ap (λ (n : ℕ). option_or (if_over (nat_lt 4096 start.size) (refusal.TooMany what.Pages 4096)) (no_open n)) opens_same
+  lock_shape (call.OpenFile u f access mode choice) is = λ i. option_or (if_over (not (drawn_same f i)) refusal.UnknownFile) (no_open (opens_same i))
+  lock_shape (call.MakeOwner u name quota create choice) is = refl
+  lock_shape c is = absurd is
+
+  -- and any that is served
+  pub shape_told : (c : Call) (f : Refusal) (rest : Option Refusal) → IsServedCall c → shape_of k.server k.epoch k.given (length l.part.opens.items) c ≡ Some f → option_or (shape_refusal (alone a) life c) rest ≡ Some f
+  shape_told (call.CreateFile u start choice) f rest is e = ap (λ (x : Option Refusal). option_or x rest) (lock_shape (call.CreateFile u start choice) is ∙ e)
+  shape_told (call.OpenFile u g access mode choice) f rest is e = ap (λ (x : Option Refusal). option_or x rest) (lock_shape (call.OpenFile u g access mode choice) is ∙ e)
+  shape_told (call.ReadPages u n r mode choice) f rest is e = first_is (no_run r) _ rest f e
+  shape_told (call.WritePages u n r pages choice) f rest is e = first_is (no_run r) _ rest f e
+  shape_told (call.MakeOwner u name quota create choice) f rest is e = cc
+  shape_told c f rest is e = absurd is
+
+  -- and nothing is done
+  pub shape_none : (c : Call) (f : Refusal) → IsServedCall c → shape_of k.server k.epoch k.given (length l.part.opens.items) c ≡ Some f → done_by (alone a) c (reply.Refused f) (Some t) ≡ []
+  shape_none c f is e = go (shape_is k.server k.epoch k.given (length l.part.opens.items) c f e)
+    where
+      drawn_not : (x : Call) → is_of_given k.server k.epoch k.given x ≡ false → done_by (alone a) x (reply.Refused refusal.UnknownFile) (Some t) ≡ []
+      drawn_not (call.OpenFile u g access mode choice) away = ap (λ (b : Bool). cond {A = List Deed} (not b) [] (Performs t (record { call = call.OpenFile u g access mode choice; reply = reply.Refused refusal.UnknownFile }) ∷ [])) (drawn_same g ∙ away)
+      drawn_not x away = cc
+
+      go : IsCountRefusal f ⊎ ((f ≡ refusal.UnknownFile) × (is_of_given k.server k.epoch k.given c ≡ false)) → done_by (alone a) c (reply.Refused f) (Some t) ≡ []
+      go (inl counts) = count_none_done a t c f counts
+      go (inr x) = subst (λ (g : Refusal). done_by (alone a) c (reply.Refused g) (Some t) ≡ []) (sym x.0) (drawn_not c x.1)
+
+-- a file call is refused for its shape
+pub shape_stepped : {V : Type 0} (a : Alone) (before now : ℕ) (held : Contents) (k : ServerState V) (turn : Turn) (t : TransId) (c : Call) (f : Refusal) (x : Answer) → IsAs a held k → 0 < k.epoch → IsTurn k.sessions turn → k.is_down ≡ false
+    → file_trans c ≡ Some t → IsServedCall c → standing_of turn.client (map.get k.lives t) (is_dead turn.client t k.dead) ≡ standing.Own → (l : Live) → map.get k.lives t ≡ Some l
+    → shape_of k.server k.epoch k.given (length l.part.opens.items) c ≡ Some f → x ≡ record { kept = Some (reply.Refused f); handed = Some (reply.Refused f); acts = [] }
+    → Stepped a before now held (record k { sessions = counted_in k.sessions turn }) (event.Call turn.client k.epoch turn.number c) x
+shape_stepped a before now held k turn t c f x h raised is up named served own l there e so =
+    let y : IsLive a.holder.cells k.locks.held (a.locked t) t l (a.holder.lives t) = live_there a.holder.cells k.locks.held (a.locked t) t (map.get k.lives t) (a.holder.lives t) l there (h.lives t) in
+    first_stepped a before now held k turn t c f y.life x h is up named own y.is (shape_told a held k h raised t l y.life y.alike c f (lock_refusal (alone a) t y.life c) served e)
+    (shape_now k.server k.epoch k.given (length l.part.opens.items) c f e) (shape_none a held k h raised t l y.life y.alike c f served e) so
+
+-- ---- its locks
+
+-- too many locks are refused for the counts
+pub too_locked_is : (area cells locks : ℕ) (f : Refusal) → too_locked area cells locks ≡ Some f → IsCountRefusal f
+too_locked_is area cells locks f e =
+    either_is (if_over (nat_lt 1024 locks) (refusal.TooMany what.Locks 1024)) (if_over (nat_lt area (log_need cells locks)) (refusal.LogFull area (log_need cells locks))) (over_is (nat_lt 1024 locks) (refusal.TooMany what.Locks 1024) (too_many_is what.Locks 1024))
+    (over_is (nat_lt area (log_need cells locks)) (refusal.LogFull area (log_need cells locks)) (log_is area (log_need cells locks))) f e
+
+not_over : (b : Bool) (r : Refusal) → if_over b r ≡ None → b ≡ false
+not_over true r e = cc
+not_over false r e = refl
+
+neither : (x y : Option Refusal) → option_or x y ≡ None → (x ≡ None) × (y ≡ None)
+neither None y e = (refl, e)
+neither (Some f) y e = cc
+
+-- what is not refused is within the limits
+pub may_lock : (s : Sizes) (l : Live) (held : Holding) (c : Call) → too_locked s.area l.part.counts.cells (counts_then l.locks held c).made ≡ None → MayLock s l (counts_then l.locks held c)
+may_lock s l held c none = record {
+  few = ltb-false 1024 n.made (not_over (nat_lt 1024 n.made) (refusal.TooMany what.Locks 1024) both.0);
+  log = ltb-false s.area (log_need l.part.counts.cells n.made) (not_over (nat_lt s.area (log_need l.part.counts.cells n.made)) (refusal.LogFull s.area (log_need l.part.counts.cells n.made)) both.1);
+  more = omega arith;
+  asked = omega arith;
+}
+  where
+    n : LockCounts
+    n = counts_then l.locks held c
+
+    both : (if_over (nat_lt 1024 n.made) (refusal.TooMany what.Locks 1024) ≡ None) × (if_over (nat_lt s.area (log_need l.part.counts.cells n.made)) (refusal.LogFull s.area (log_need l.part.counts.cells n.made)) ≡ None)
+    both = neither (if_over (nat_lt 1024 n.made) (refusal.TooMany what.Locks 1024)) (if_over (nat_lt s.area (log_need l.part.counts.cells n.made)) (refusal.LogFull s.area (log_need l.part.counts.cells n.made))) none

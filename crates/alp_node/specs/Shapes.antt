@@ -1,0 +1,46 @@
+-- What a call is refused for before its locks are looked at: its shape, and how many locks it would leave.
+use Rattle.std.specs.Prelude.{ℕ, ◌+◌, not, nat_lt, nat_le, List, [], ◌∷◌, Option, None, is_some, if◌then◌else◌}
+use Rattle.std.specs.Option.{option_or}
+use Rattle.alp_base.specs.declared.ids.Run.{Run}
+use Rattle.alp_files.specs.Holdings.{Holding}
+use Rattle.alp_files.specs.Locks.{Need}
+use Rattle.alp_files.specs.declared.call.Call.{Call}
+use Rattle.alp_files.specs.declared.call.Call.TheVariants as call
+use Rattle.alp_files.specs.declared.refusal.Refusal.{Refusal}
+use Rattle.alp_files.specs.declared.refusal.Refusal.TheVariants as refusal
+use Rattle.alp_files.specs.declared.refusal.What.TheVariants as what
+use Rattle.alp_journal.specs.Counts.{log_need}
+use Rattle.alp_journal.specs.Answers.{if_over, more_locks}
+use Rattle.alp_node.specs.Asks.{is_given, asks_of}
+use Rattle.alp_node.specs.declared.lock_counts.LockCounts.{LockCounts}
+
+-- one open more than stand would be too many
+abbrev pub no_open : ℕ → Option Refusal
+no_open opens = if_over (nat_le 64 opens) (refusal.TooMany what.Opens 64)
+
+abbrev pub no_run : Run → Option Refusal
+no_run r = if_over (nat_lt 16 r.count) (refusal.TooMany what.Run 16)
+
+-- where the server and its epoch gave ids to so many files, and the part has so many opens; what is wrong with an open that a
+-- call names is seen as the call is performed
+abbrev pub shape_of : (server epoch given opens : ℕ) → Call → Option Refusal
+shape_of server epoch given opens (call.CreateFile t start choice) = option_or (if_over (nat_lt 4096 start.size) (refusal.TooMany what.Pages 4096)) (no_open opens)
+shape_of server epoch given opens (call.OpenFile t f access mode choice) = option_or (if_over (not (is_given server epoch given f)) refusal.UnknownFile) (no_open opens)
+shape_of server epoch given opens (call.ReadPages t n r mode choice) = no_run r
+shape_of server epoch given opens (call.WritePages t n r pages choice) = no_run r
+shape_of server epoch given opens c = None
+
+-- ---- locks
+
+-- of the resources that are asked for those that are not held yet
+abbrev pub fresh_on : Holding → List Need → ℕ
+fresh_on held [] = 0
+fresh_on held (n ∷ ns) = (if is_some (held n.0) then 0 else 1) + fresh_on held ns
+
+-- how many a part has locked behind a call, where it makes no file and where it makes one
+abbrev pub counts_then : ℕ → Holding → Call → LockCounts
+counts_then locks held c = record { asked = locks + fresh_on held (asks_of c); made = locks + fresh_on held (asks_of c) + more_locks c }
+
+-- a part that changes so many cells may have so many locked
+abbrev pub too_locked : (area cells locks : ℕ) → Option Refusal
+too_locked area cells locks = option_or (if_over (nat_lt 1024 locks) (refusal.TooMany what.Locks 1024)) (if_over (nat_lt area (log_need cells locks)) (refusal.LogFull area (log_need cells locks)))
