@@ -1,4 +1,4 @@
-//! Measures of what stands on a disk: the log, the volume and the store. Nothing but the program `alpine_bench` uses them.
+//! Measures of what stands on a disk: the log, the volume and the store. The program `alpine_bench` prints them.
 #![tactic(auto)]
 
 pub mod buffers;
@@ -8,3 +8,5 @@ pub mod rates;
 pub mod stores;
 mod takes;
 pub mod volumes;
+
+pub use takes::can_take;

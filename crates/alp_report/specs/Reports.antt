@@ -22,10 +22,14 @@ items_text (x ∷ y ∷ xs) = items_text (y ∷ xs)
 abbrev pub line_text : ℕ → List Item → List ℕ
 line_text number items = decimal number ++ codes " " ++ items_text items ++ 10 ∷ []
 
+-- so many files with so many pages
+abbrev pub files_text : ℕ → ℕ → List ℕ
+files_text files pages = codes " files " ++ decimal files ++ codes " pages " ++ decimal pages ++ 10 ∷ []
+
 abbrev pub server_text : ℕ → ℕ → ℕ → Cells → List ℕ
 server_text server epoch clock cells =
     codes "server " ++ decimal server ++ codes " epoch " ++ decimal epoch ++ codes " clock " ++ decimal clock
-    ++ codes " files " ++ decimal (length (sizes_of cells)) ++ codes " pages " ++ decimal (sum (sizes_of cells)) ++ 10 ∷ []
+    ++ files_text (length (sizes_of cells)) (sum (sizes_of cells))
 
 abbrev pub owner_line : ℕ → OwnerRecord → List ℕ
 owner_line server o = codes "owner " ++ decimal server ++ codes " " ++ o.name ++ codes " charge " ++ decimal o.charge ++ codes " quota " ++ decimal o.quota ++ 10 ∷ []

@@ -1,9 +1,7 @@
 use crate::replies::put_reply;
 use crate::*;
-use alp_base::{AccessList, FileId, Key, Name, Page, PageList, PageRef, Stamp, TransId};
-use alp_files::{
-    Call, Cause, Cell, CellMap, Ended, ListName, OwnerRecord, Props, Refusal, Reply, What, Why,
-};
+use alp_base::{AccessList, FileId, Name, Page, PageList, PageRef, Stamp, TransId};
+use alp_files::{Call, Cause, Ended, ListName, OwnerRecord, Props, Refusal, Reply, What, Why};
 use alp_journal::{Item, Mark, Sent};
 use std::alloc::Global;
 use std::test::Fail;
@@ -331,9 +329,7 @@ fn item(reply: Option<Reply>) -> Item {
 #[test]
 fn a_run(rt: HostRuntime) -> Result<(), Fail> {
     let alloc = rt.alloc();
-    let mut files = CellMap::new(alloc);
-    files.put(Key::Leader(FILE), Cell::Leader(props(alloc)?))?;
-    files.put(Key::OwnerOf(name(b"ann")?), Cell::Owner(owner(alloc)?))?;
+    let owners = vec![in alloc; owner(alloc)?]?;
     let mut text = Vec::new(alloc);
     let begun = vec![in alloc;
         item(Some(Reply::Welcome { epoch: 2 })),
@@ -346,11 +342,12 @@ fn a_run(rt: HostRuntime) -> Result<(), Fail> {
         server: 1,
         epoch: 2,
         clock: 567,
-        files: &files,
+        files: 1,
+        owners: &owners,
         committed: 8,
         aborted: 9,
     };
-    put_summary(alloc, &mut text, &summary)?;
+    put_summary(&mut text, &summary)?;
     let want =
         "3 ok trans 1.2.34\n4 silent\n10 none\nserver 1 epoch 2 clock 567 files 1 pages 4\nowner 1 ann charge 4 quota 10\ncommitted 8 aborted 9\n";
     assert!(rt; text.as_slice() == want.as_bytes());

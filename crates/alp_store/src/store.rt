@@ -1,5 +1,6 @@
 //! A store as its callers see it.
 ghost use Rattle.std.specs.Prelude.{◌≡◌, IsTrue, true};
+ghost use Rattle.alp_anchor.specs.Anchor.{AreSizesOf};
 ghost use Rattle.alp_base.specs.Crashes.{Only};
 ghost use Rattle.alp_disk.specs.Disk.{Image};
 ghost use Rattle.alp_vault.specs.Contents.{Contents};
@@ -56,6 +57,7 @@ impl<D: Disk> Store<D> {
     /// The disk, as it is.
     pub fn into_disk(self) -> D
         ensures disk { result ≡ disk_of self.log }
+        ensures sized { AreSizesOf (D.size result) (anchor_of self.log).sizes }
         // Of a store that serves, what the disk reads is what the store holds, and a crash leaves that.
         ensures holds { IsTrue (D.tells result) → self.serves ≡ true → HoldsBy D.Disk self.log (D.seen result) (contents_of D.Disk self.log) }
         ensures left { IsTrue (D.tells result) → self.serves ≡ true → Only (D.seen result) (D.may_leave result) }

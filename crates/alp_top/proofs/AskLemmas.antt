@@ -1,5 +1,5 @@
 -- what a client asks is served
-use Rattle.std.specs.Prelude.{Bool, true, false, Option, None, Some}
+use Rattle.std.specs.Prelude.{Option, None, Some}
 use Rattle.std.specs.Option.{option_map}
 use Rattle.std.proofs.Common.{◌<◌, ◌^◌, ◌≡◌, ℕ, ◌+◌, ◌≤◌, List, refl, sym, ◌∙◌, ap, subst, arith}
 use Rattle.std.proofs.lemmas.List.{length-replicate}
@@ -12,7 +12,7 @@ use Rattle.alp_files.specs.declared.call.Call.TheVariants as call
 use Rattle.alp_files.specs.Locks.{page_limit}
 use Rattle.alp_files.proofs.HeldLemmas.{reads-all}
 use Rattle.alp_script.specs.declared.line.Line.{Line}
-use Rattle.alp_script.specs.Forms.{IsForm, servers, client, begin, owner, create, open_read, open_change, write, read, commit, abort}
+use Rattle.alp_script.specs.Forms.{IsForm, servers, volume, client, begin, owner, create, open_read, open_change, write, read, commit, abort}
 use Rattle.alp_client.specs.Maps.{WordMap}
 use Rattle.alp_client.specs.declared.client.Client.{Client}
 use Rattle.alp_client.specs.Clients.{call_in, call_with, call_by}
@@ -50,6 +50,7 @@ small_size size h = omega (arith, h)
 -- the call of a line is one that the server answers
 pub line_call : (words : WordMap) (c : Client) (l : Line) (asked : Call) → c.told.ts ≤ 2 ^ 62 → IsForm l → call_by words c l ≡ Some asked → IsTurnCall asked
 line_call words c l asked low (servers count) e = in_trans words c l c.trans asked IsTurnCall e (λ t x own. no_call x IsTurnCall own)
+line_call words c l asked low (volume server home area small) e = in_trans words c l c.trans asked IsTurnCall e (λ t x own. no_call x IsTurnCall own)
 line_call words c l asked low (client k name) e = in_trans words c l c.trans asked IsTurnCall e (λ t x own. no_call x IsTurnCall own)
 line_call words c l asked low (begin k server) e = is_asked (call.Begin c.told) asked IsTurnCall e low
 line_call words c l asked low (owner k server name quota) e = in_trans words c l c.trans asked IsTurnCall e (λ t x own. is_asked _ x IsTurnCall own (refl, (tt, tt, tt)))
@@ -73,6 +74,7 @@ line_seen words c l asked k epoch number form e = go l form e
 
     go : (l : Line) → IsForm l → call_by words c l ≡ Some asked → P asked
     go l (servers count) e = in_trans words c l c.trans asked P e (λ t x own. no_call x P own)
+    go l (volume server home area small) e = in_trans words c l c.trans asked P e (λ t x own. no_call x P own)
     go l (client k name) e = in_trans words c l c.trans asked P e (λ t x own. no_call x P own)
     go l (begin k server) e = is_asked (call.Begin c.told) asked P e (omega arith)
     go l (owner k server name quota) e = in_trans words c l c.trans asked P e (λ t x own. is_asked _ x P own none)
@@ -93,6 +95,7 @@ line_has_seen words c l asked before form e low = go l form e
 
     go : (l : Line) → IsForm l → call_by words c l ≡ Some asked → P asked
     go l (servers count) e = in_trans words c l c.trans asked P e (λ t x own. no_call x P own)
+    go l (volume server home area small) e = in_trans words c l c.trans asked P e (λ t x own. no_call x P own)
     go l (client k name) e = in_trans words c l c.trans asked P e (λ t x own. no_call x P own)
     go l (begin k server) e = is_asked (call.Begin c.told) asked P e low
     go l (owner k server name quota) e = in_trans words c l c.trans asked P e (λ t x own. is_asked _ x P own tt)

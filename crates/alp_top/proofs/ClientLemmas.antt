@@ -1,13 +1,11 @@
 -- the items of a run are as its clients' machine and the servers leave them
-use Rattle.std.specs.Prelude.{◌==◌, true, false, Bool, cond, Option, None, Some, slice_get, flat_map, map as list_map}
+use Rattle.std.specs.Prelude.{◌==◌, true, false, Bool, cond, Option, None, Some, slice_get, map as list_map}
 use Rattle.std.specs.List.{AllByRecursion}
-use Rattle.std.proofs.Common.{inl, inr, ◌⊎◌, ◌≡◌, ℕ, zero, suc, ◌+◌, ◌<◌, ◌≤◌, List, [], ◌∷◌, ◌++◌, length, refl, sym, ◌∙◌, ap, subst, arith}
+use Rattle.std.proofs.Common.{inl, inr, ◌⊎◌, ◌≡◌, ℕ, zero, suc, ◌+◌, ◌<◌, List, [], ◌∷◌, ◌++◌, refl, sym, ◌∙◌, ap, subst, arith}
 use Rattle.std.proofs.lemmas.Bool.Decides.{eqb_tells}
-use Rattle.alp_base.specs.declared.ids.TransId.{TransId}
 use Rattle.alp_files.specs.declared.call.Call.{Call}
 use Rattle.alp_files.specs.declared.call.Call.TheVariants as call
 use Rattle.alp_journal.specs.declared.entry.Entry.{Entry}
-use Rattle.alp_journal.specs.declared.event.Event.{Event}
 use Rattle.alp_journal.specs.declared.event.Event.TheVariants as event
 use Rattle.alp_journal.specs.declared.log.Item.{Item}
 use Rattle.alp_journal.specs.declared.log.Mark.{Mark}
@@ -15,7 +13,7 @@ use Rattle.alp_journal.specs.declared.log.Mark.TheVariants as mark
 use Rattle.alp_journal.specs.declared.log.Sent.TheVariants as sent
 use Rattle.alp_history.specs.Items as items
 use Rattle.alp_history.specs.Items.{Handed, Own, IsOwn, IsRaw}
-use Rattle.alp_history.specs.Handed.{AreOfClients, IsOfPlace, IsOfEntry, IsBefore, IsOfRun, IsOfRunBy, IsOfRunIn, HaveSeen}
+use Rattle.alp_history.specs.Handed.{AreOfClients, IsOfPlace, IsOfEntry, IsBefore, IsOfRun, IsOfRunBy, HaveSeen}
 use Rattle.alp_history.specs.Log.{Log, ServerLog, journal_of, IsIn}
 use Rattle.alp_history.specs.RunLogs.{item_of}
 use Rattle.alp_history.proofs.Decisions.{map-in, in-map}

@@ -1,26 +1,24 @@
 -- what an entry of a call leaves of sessions, epoch and clock
-use Rattle.std.specs.Prelude.{Bool, true, false, cond, if◌then◌else◌, not, ◌==◌, ◌&&◌, flat_map, Option, None, Some}
+use Rattle.std.specs.Prelude.{Bool, true, false, cond, if◌then◌else◌, ◌==◌, flat_map, Option, None, Some}
 use Rattle.std.specs.List.{AllByRecursion, list_any}
-use Rattle.std.proofs.Common.{◌≡◌, ℕ, ◌+◌, ◌≤◌, List, [], ◌∷◌, ◌++◌, refl, sym, ap, subst, ◌∙◌, arith}
+use Rattle.std.proofs.Common.{◌≡◌, ℕ, ◌≤◌, List, [], ◌∷◌, ◌++◌, refl, sym, ap, subst, ◌∙◌, arith}
 use Rattle.alp_base.specs.declared.ids.TransId.{TransId}
 use Rattle.alp_files.specs.declared.call.Call.{Call}
 use Rattle.alp_files.specs.declared.call.Call.TheVariants as call
 use Rattle.alp_files.specs.declared.reply.Reply.{Reply}
 use Rattle.alp_files.specs.declared.reply.Reply.TheVariants as reply
 use Rattle.alp_files.specs.declared.refusal.Refusal.TheVariants as refusal
-use Rattle.alp_files.specs.Passing.{is_passing}
 use Rattle.alp_journal.specs.declared.act.Act.{Act}
 use Rattle.alp_journal.specs.declared.act.Act.TheVariants as act
 use Rattle.alp_journal.specs.declared.entry.Entry.{Entry}
-use Rattle.alp_journal.specs.declared.event.Event.{Event}
 use Rattle.alp_journal.specs.declared.event.Event.TheVariants as event
 use Rattle.alp_journal.specs.Along.{state_after}
 use Rattle.alp_journal.specs.Coordinator.{Fate, Undrawn, Running, Finishing, Committed, Forgotten, Ended}
 use Rattle.alp_journal.specs.Deeds.{Deed, Begins, Joins, Enters, Quits, Aborts, Grants, Performs, Releases, Readies, Applies, Registers, Finishes, Hears, Decides, Ends, Acknowledges, Forgets, Restarts}
-use Rattle.alp_journal.specs.Desk.{Desk, Session, is_not_yet, waits_after, with_session, waiting_of}
+use Rattle.alp_journal.specs.Desk.{Desk, Session, is_not_yet, waits_after, with_session}
 use Rattle.alp_journal.specs.State.{State, state_deed, has_part}
 use Rattle.alp_journal.specs.Laws.{regained_by}
-use Rattle.alp_journal.specs.Moves.{is_new, follows, stops, tried, did, told, halted, next, counted, greeted, desk_told, call_deeds, event_deeds, act_deeds, begins_at, grants_to, asks_for, done_deeds, done_of, done_by, answered, finishes, ends_by, joins_here, is_of_no_file, principal}
+use Rattle.alp_journal.specs.Moves.{is_new, follows, stops, tried, did, told, halted, next, counted, greeted, desk_told, call_deeds, act_deeds, begins_at, grants_to, asks_for, done_of, done_by, answered, finishes, ends_by, joins_here, principal}
 use Rattle.alp_history.proofs.Begun.{IsRestart, clock-grows}
 use Rattle.alp_history.proofs.Sessions.{waits-same}
 

@@ -1,17 +1,14 @@
 -- a client sends, the server answers, and both stay in step
-use Rattle.std.specs.Prelude.{◌==◌, ◌&&◌, true, false, Bool, cond, max, is_some, Option, None, Some, IsSome, map as list_map}
-use Rattle.std.specs.List.{list_any, AllByRecursion}
-use Rattle.std.proofs.Common.{inl, inr, ◌⊎◌, ◌<◌, ◌^◌, ◌≡◌, ◌≢◌, ℕ, ◌+◌, ◌≤◌, List, [], ◌∷◌, ◌++◌, length, refl, sym, ◌∙◌, ap, subst, arith, eq-eqb}
+use Rattle.std.specs.Prelude.{◌==◌, ◌&&◌, true, false, Bool, cond, is_some, Option, None, Some}
+use Rattle.std.specs.List.{AllByRecursion}
+use Rattle.std.proofs.Common.{inl, inr, ◌⊎◌, ◌<◌, ◌≡◌, ◌≢◌, ℕ, ◌+◌, ◌≤◌, List, [], ◌∷◌, ◌++◌, length, refl, sym, ◌∙◌, ap, subst, arith, eq-eqb}
 use Rattle.std.proofs.lemmas.Bool.Decides.{eqb_tells}
-use Rattle.alp_base.specs.Allowances.{Spends}
 use Rattle.alp_base.specs.declared.ids.Stamp.{Stamp}
 use Rattle.alp_files.specs.declared.call.Call.{Call}
 use Rattle.alp_files.specs.declared.call.Call.TheVariants as call
 use Rattle.alp_files.specs.declared.reply.Reply.{Reply}
 use Rattle.alp_files.specs.declared.reply.Reply.TheVariants as reply
 use Rattle.alp_files.specs.declared.reply.Ended.{Ended}
-use Rattle.alp_files.specs.declared.reply.Ended.TheVariants as ended
-use Rattle.alp_files.specs.declared.refusal.Refusal.{Refusal}
 use Rattle.alp_files.specs.History.{Decided}
 use Rattle.std.specs.FinMap.Entries as entries
 use Rattle.std.specs.Ordering.{eq_by_cmp, is_eq}
@@ -24,16 +21,14 @@ use Rattle.alp_script.specs.Forms.{IsForm}
 use Rattle.alp_journal.specs.declared.act.Act.{Act}
 use Rattle.alp_journal.specs.declared.entry.Entry.{Entry}
 use Rattle.alp_journal.specs.declared.event.Event.TheVariants as event
-use Rattle.alp_journal.specs.declared.log.Item.{Item}
 use Rattle.alp_journal.specs.declared.log.Mark.TheVariants as mark
 use Rattle.alp_journal.specs.declared.log.Sent.TheVariants as sent
 use Rattle.alp_journal.specs.Along.{Where}
 use Rattle.alp_journal.specs.Alone.{AreEarlier}
 use Rattle.alp_journal.specs.Desk.{Session}
 use Rattle.alp_journal.specs.Ids.{stamp_cmp}
-use Rattle.alp_journal.specs.Opening.{Start}
 use Rattle.alp_journal.specs.State.{State}
-use Rattle.alp_journal.specs.Moves.{next, is_stop, is_new, follows, stops}
+use Rattle.alp_journal.specs.Moves.{next, is_new, follows, stops}
 use Rattle.alp_journal.specs.Laws as laws
 use Rattle.alp_journal.specs.Laws.{IsLawfulEntry, TellsIn, IsDecidedAs, regained_by}
 use Rattle.alp_journal.specs.Answers.{IsAnswer, AnswersCall}
@@ -49,17 +44,16 @@ use Rattle.alp_client.specs.Clients.{call_by, frame_in, greeted, heard, learned_
 use Rattle.alp_client.specs.Crowd.{Crowd}
 use Rattle.alp_client.specs.Crowds.{client_at, with_client, asks, hears}
 use Rattle.alp_client.proofs.CrowdLemmas.{at_same, at_other, as_many}
-use Rattle.alp_node.specs.Halts.{HaveCauses}
-use Rattle.alp_node.specs.Nodes.{HasCause}
 use Rattle.alp_node.specs.Served.{IsTurnCall}
-use Rattle.alp_node.specs.Steps.{seen_in}
-use Rattle.alp_top.specs.Servers.{Server, IsConsistent, IsOn, IsDone, start_in, state_of}
+use Rattle.alp_vault.specs.declared.vault.Vault.{Ghosts}
+use Rattle.alp_node.specs.NodeStates.{NodeState}
+use Rattle.alp_top.specs.Servers.{HasStepped, state_of}
 use Rattle.alp_top.specs.Steps.{SameSession, IsInStep, InStep, HasSaid, HasLast, Exchanged}
-use Rattle.alp_top.proofs.AskLemmas.{line_call, line_seen, line_has_seen, turn_counted, turn_no_outcome}
-use Rattle.alp_top.proofs.ReplyLemmas.{IsInSession, call_in}
+use Rattle.alp_top.proofs.AskLemmas.{line_call, line_has_seen, turn_counted, turn_no_outcome}
+use Rattle.alp_top.proofs.ReplyLemmas.{call_in}
 use Rattle.alp_top.proofs.EntryLemmas.{Leaves, turn_leaves, greeting_leaves}
-use Rattle.alp_top.proofs.StepLemmas.{kept_clock, kept_earlier, frame_there, told_low, on_more, state_more, law_more, Knows, told_knows}
-use Rattle.alp_top.proofs.SaidLemmas.{IsNextItem, said_more, own_item}
+use Rattle.alp_top.proofs.StepLemmas.{kept_earlier, frame_there, told_low, state_more, law_more, told_knows}
+use Rattle.alp_top.proofs.SaidLemmas.{said_more, own_item}
 
 -- ---- the stamps of an answer
 
@@ -248,70 +242,46 @@ module _ (s : State) (k : ℕ) (l : Line) (words : WordMap) (d : Client) (x : Ca
 
 -- ---- one item
 
--- what holds where the server answered a frame of the client
-pub record Went (n m : Server) (k : ℕ) (frame : NumberedCall) (r : Option Reply) : Type 0 where
-  pub kept : IsConsistent m
-  pub start : start_in m ≡ start_in n
-  pub opening : m.opening ≡ n.opening
-  pub acts : List Act
-  pub journal : m.journal ≡ n.journal ++ (record { event = event.Call k frame.epoch frame.number frame.call; reply = r; acts = acts }) ∷ []
-  pub replies : is_some r ≡ true
-  pub cause : HasCause 0 0 (state_of n) (record { event = event.Call k frame.epoch frame.number frame.call; reply = r; acts = acts })
-  pub causes : HaveCauses 0 0 m.kept.vault.allowance acts
-  pub clock : m.kept.clock ≤ max n.kept.clock (seen_in (event.Call k frame.epoch frame.number frame.call)) + 1
-  pub down : m.kept.is_down ≡ list_any is_stop acts
-  pub spends : Spends n.kept.vault.allowance m.kept.vault.allowance
-
--- the frame's client saw no more than the clock
-frame_seen : (c : Client) (o : Option Greeted) (words : WordMap) (l : Line) (x : Call) (k : ℕ) → IsForm l → call_by words c l ≡ Some x
-    → seen_in (event.Call k (frame_in c o x).epoch (frame_in c o x).number (frame_in c o x).call) ≤ c.told.ts
-frame_seen c None words l x k form is = let none : 0 ≤ c.told.ts = omega arith in none
-frame_seen c (Some g) words l x k form is = line_seen words c l x k g.epoch (g.last + 1) form is
-
 there : (o : Option Reply) → is_some o ≡ true → (y : Reply) × (o ≡ Some y)
 there None e = cc
 there (Some y) e = (y, refl)
 
-module _ (c : Crowd) (n m : Server) (k : ℕ) (l : NumberedLine) (frame : NumberedCall) (r : Option Reply) (step : InStep c n) (small : k ≤ 16) (form : IsForm l.line) (asked : asks c k l.line false ≡ Some frame) (went : Went n m k frame r) where
+module _ {V : Type 0} (G : Ghosts V) (c : Crowd) (n m : NodeState V) (k : ℕ) (l : NumberedLine) (frame : NumberedCall) (r : Option Reply) (step : InStep G c n) (small : k ≤ 16) (form : IsForm l.line) (asked : asks c k l.line false ≡ Some frame)
+    (went : HasStepped G n m (event.Call k frame.epoch frame.number frame.call) r) where
   abbrev d : Client
   d = client_at c k
 
   abbrev entry : Entry
   entry = record { event = event.Call k frame.epoch frame.number frame.call; reply = r; acts = went.acts }
 
-  on : IsOn m
-  on =
-      let (x, is, same) = frame_there d d.session (call_by c.words d l.line) frame asked in
-      let seen : seen_in (event.Call k frame.epoch frame.number frame.call) ≤ d.told.ts =
-      subst (λ (f : NumberedCall). seen_in (event.Call k f.epoch f.number f.call) ≤ d.told.ts) (sym same) (frame_seen d d.session c.words l.line x k form is) in
-      on_more n m (seen_in (event.Call k frame.epoch frame.number frame.call)) entry step.on went.kept went.start went.journal
-      (omega (arith, seen, (step.each k).told, kept_clock n step.on.kept)) went.clock went.spends went.down went.causes went.cause went.opening
+  abbrev first : State
+  first = state_of G n
 
-  more : state_of m ≡ next (state_of n) entry
-  more = state_more n m entry went.start went.journal
+  more : state_of G m ≡ next first entry
+  more = state_more G n m entry went.start went.journal
 
-  fine : IsFine (state_of n) entry
+  fine : IsFine first entry
   fine = record {
-    lawful = law_more IsLawfulEntry n m entry went.start went.journal (went.kept.right refl).lawful;
-    answered = (law_more IsDone n m entry went.start went.journal on.answered).1;
-    up = sym went.down ∙ on.up;
-    early = subst (λ (s : State). AreEarlier s.holder.clock s.holder.applied) more (kept_earlier m went.kept);
+    lawful = law_more G n m entry went.start went.journal IsLawfulEntry (went.on.kept.right went.on.tells).lawful;
+    answered = went.done.1;
+    up = went.done.0;
+    early = subst (λ (s : State). AreEarlier s.holder.clock s.holder.applied) more (kept_earlier G m went.on);
   }
 
   -- what comes of it
   comes : (x : Call) (y : Reply) → call_by c.words d l.line ≡ Some x → frame ≡ frame_in d d.session x → r ≡ Some y
-      → IsMore (state_of n) (state_of m) k d (heard c.words d d.session l.line (Some y)).0 frame.epoch frame.number frame.call y
+      → IsMore first (state_of G m) k d (heard c.words d d.session l.line (Some y)).0 frame.epoch frame.number frame.call y
   comes x y is same handed =
       let alike : entry ≡ record { event = event.Call k (frame_in d d.session x).epoch (frame_in d d.session x).number (frame_in d d.session x).call; reply = Some y; acts = went.acts } =
       (λ i. record { event = event.Call k (same i).epoch (same i).number (same i).call; reply = handed i; acts = went.acts }) in
-      subst (λ (t : State). IsMore (state_of n) t k d (heard c.words d d.session l.line (Some y)).0 frame.epoch frame.number frame.call y) (sym (more ∙ ap (next (state_of n)) alike))
-      (subst (λ (f : NumberedCall). IsMore (state_of n) (next (state_of n) (record { event = event.Call k (frame_in d d.session x).epoch (frame_in d d.session x).number (frame_in d d.session x).call; reply = Some y; acts = went.acts })) k d
+      subst (λ (t : State). IsMore first t k d (heard c.words d d.session l.line (Some y)).0 frame.epoch frame.number frame.call y) (sym (more ∙ ap (next first) alike))
+      (subst (λ (f : NumberedCall). IsMore first (next first (record { event = event.Call k (frame_in d d.session x).epoch (frame_in d d.session x).number (frame_in d d.session x).call; reply = Some y; acts = went.acts })) k d
       (heard c.words d d.session l.line (Some y)).0 f.epoch f.number f.call y) (sym same)
-      (heard_more (state_of n) k l.line c.words d x y went.acts form is d.session ((state_of n).desk.sessions k) refl (step.each k).session refl (step.each k).told
-      (line_call c.words d l.line x (told_low c n k step) form is) (subst (λ (e : Entry). IsFine (state_of n) e) alike fine)))
+      (heard_more first k l.line c.words d x y went.acts form is d.session (first.desk.sessions k) refl (step.each k).session refl (step.each k).told
+      (line_call c.words d l.line x (told_low G c n k step) form is) (subst (λ (e : Entry). IsFine first e) alike fine)))
 
   pub exchanged : (new : Crowd) (over : Bool) (made : Call) (place : ℕ) → (new, over) ≡ hears c k l.line r → made ≡ frame.call → place ≡ length n.journal
-      → Exchanged c new n m k l frame over (record { line = l.number; server = 1; mark = mark.Own; sent = sent.Call k frame.epoch frame.number made; reply = r; place = Some place })
+      → Exchanged G c new n m k l frame over (record { line = l.number; server = 1; mark = mark.Own; sent = sent.Call k frame.epoch frame.number made; reply = r; place = Some place })
   exchanged new over made place knows same at =
       let (x, is, framed) = frame_there d d.session (call_by c.words d l.line) frame asked in
       let (y, handed) = there r went.replies in
@@ -323,11 +293,12 @@ module _ (c : Crowd) (n m : Server) (k : ℕ) (l : NumberedLine) (frame : Number
       let here : k < length c.places = omega (arith, step.places, small) in
       let mine : client_at new k ≡ d2 = ap (λ (z : Crowd). client_at z k) left ∙ at_same c words k d2 here in
       record {
-        step = subst (λ (z : Crowd). InStep z m) (sym left) (record {
-          on = on;
+        step = subst (λ (z : Crowd). InStep G z m) (sym left) (record {
+          on = went.on;
           places = as_many c words k d2 ∙ step.places;
-          each = all_in_step c (state_of n) (state_of m) words k d2 step.places small step.each (subst (λ (z : Client). Counts (state_of n) (state_of m) k z) heard_so come.counts);
+          each = all_in_step c first (state_of G m) words k d2 step.places small step.each (subst (λ (z : Client). Counts first (state_of G m) k z) heard_so come.counts);
         });
+        opening = went.opening;
         start = went.start;
         number = refl;
         sent = record { server = refl; mark = refl; sent = ap (sent.Call k frame.epoch frame.number) same };

@@ -6,8 +6,14 @@ pub mod SaidLemmas
 pub mod ExchangeLemmas
 pub mod LineLemmas
 pub mod RunLemmas
-pub mod NewLemmas
+pub mod CalmLemmas
+pub mod GoneLemmas
 pub mod SingleLemmas
 pub mod ClientLemmas
 pub mod EndLemmas
+pub mod DiskLemmas
+pub mod BayLemmas
+pub mod PlayedLemmas
+pub mod SummaryLemmas
+pub mod OwnerLemmas
 pub mod StreamLemmas

@@ -1,10 +1,9 @@
 -- whole lines, and what they leave of clients, lists and journal
 use Rattle.std.specs.Prelude.{◌==◌, true, false, Bool, cond, Option, None, Some, IsSome, map as list_map, slice_set, slice_index_or, Vec}
 use Rattle.std.specs.Global.{Global}
-use Rattle.std.specs.List.{AllByRecursion}
-use Rattle.std.proofs.Common.{inl, inr, ◌⊎◌, ◌<◌, ◌≡◌, ◌≢◌, ℕ, zero, suc, ◌+◌, ◌≤◌, List, [], ◌∷◌, ◌++◌, length, refl, sym, ◌∙◌, ap, subst, arith, append_assoc, append-nil, length-append}
+use Rattle.std.proofs.Common.{inl, inr, ◌⊎◌, ◌<◌, ◌≡◌, ◌≢◌, ℕ, zero, suc, ◌≤◌, List, [], ◌∷◌, ◌++◌, length, refl, sym, ◌∙◌, ap, subst, arith, append_assoc, append-nil, length-append}
 use Rattle.std.proofs.lemmas.Bool.Decides.{eqb_tells, leb_tells}
-use Rattle.std.proofs.lemmas.List.{set_past, map-append}
+use Rattle.std.proofs.lemmas.List.{set_past}
 use Rattle.std.proofs.Math.Dec.{leb}
 use Rattle.alp_base.specs.declared.ids.Stamp.{Stamp}
 use Rattle.alp_files.specs.declared.reply.Reply.{Reply}
@@ -12,11 +11,10 @@ use Rattle.alp_files.specs.declared.reply.Reply.TheVariants as reply
 use Rattle.alp_script.specs.declared.line.Line.{Line}
 use Rattle.alp_script.specs.declared.numbered.NumberedLine.{NumberedLine}
 use Rattle.alp_script.specs.Named.{client_named}
-use Rattle.alp_script.specs.Forms.{IsForm, servers, client, begin, owner, create, open_read, open_change, write, read, commit, abort}
+use Rattle.alp_script.specs.Forms.{IsForm, servers, volume, client, begin, owner, create, open_read, open_change, write, read, commit, abort}
 use Rattle.alp_journal.specs.declared.entry.Entry.{Entry}
 use Rattle.alp_journal.specs.declared.log.Item.{Item}
 use Rattle.alp_journal.specs.State.{State}
-use Rattle.alp_report.specs.Reports.{line_text}
 use Rattle.alp_history.specs.Items as items
 use Rattle.alp_history.specs.RunLogs.{item_of}
 use Rattle.alp_client.specs.Maps.{WordMap}
@@ -27,8 +25,10 @@ use Rattle.alp_client.specs.Clients.{greeted, heard, words_heard, words_at, begi
 use Rattle.alp_client.specs.Crowd.{Crowd}
 use Rattle.alp_client.specs.Crowds.{client_at, with_client, asks, hears, at_line, declares, Sends}
 use Rattle.alp_client.proofs.CrowdLemmas.{at_same, at_other, as_many}
-use Rattle.alp_top.specs.Servers.{Server, state_of}
-use Rattle.alp_top.specs.Turns.{Turn, lists_in, own_in, sent_in, turns_text}
+use Rattle.alp_vault.specs.declared.vault.Vault.{Ghosts}
+use Rattle.alp_node.specs.NodeStates.{NodeState}
+use Rattle.alp_top.specs.Servers.{state_of}
+use Rattle.alp_top.specs.Turns.{Turn, lists_in, own_in, turns_text}
 use Rattle.alp_top.specs.Plays.{AreRecorded, PlaysLine}
 use Rattle.alp_top.specs.Steps.{SameSession, IsInStep, InStep, HasSaid, Exchanged, Did, Adds}
 use Rattle.alp_top.proofs.StepLemmas.{SameKnown, same_known}
@@ -82,9 +82,10 @@ others_stay c new k l r over e j away =
     let d : Client = client_at c k in
     ap (λ (p : Crowd × Bool). client_at p.0 j) (sym e) ∙ at_other c (words_heard c.words d.session l r) k j (heard c.words d d.session l r).0 away
 
-pub silent_line : (c : Crowd) (n : Server) (k most : ℕ) (l : NumberedLine) → InStep c n → asks c k l.line false ≡ None → Did c c n n k l most []
-silent_line c n k most l step none = record {
+pub silent_line : {V : Type 0} (G : Ghosts V) (c : Crowd) (n : NodeState V) (k most : ℕ) (l : NumberedLine) → InStep G c n → asks c k l.line false ≡ None → Did G c c n n k l most []
+silent_line G c n k most l step none = record {
   step = step;
+  opening = refl;
   start = refl;
   number = tt;
   sends = (none, refl);
@@ -97,9 +98,10 @@ silent_line c n k most l step none = record {
 }
 
 -- one item that ends the line
-pub one_line : (c e : Crowd) (n m : Server) (k most : ℕ) (l : NumberedLine) (frame : NumberedCall) (x : Item) → 1 ≤ most → asks c k l.line false ≡ Some frame → Exchanged c e n m k l frame true x → Did c e n m k l most (x ∷ [])
-one_line c e n m k most l frame x room asked h = record {
+pub one_line : {V : Type 0} (G : Ghosts V) (c e : Crowd) (n m : NodeState V) (k most : ℕ) (l : NumberedLine) (frame : NumberedCall) (x : Item) → 1 ≤ most → asks c k l.line false ≡ Some frame → Exchanged G c e n m k l frame true x → Did G c e n m k l most (x ∷ [])
+one_line G c e n m k most l frame x room asked h = record {
   step = h.step;
+  opening = h.opening;
   start = h.start;
   number = (h.number, tt);
   sends = (frame, asked, h.sent, ends_line (hears c k l.line x.reply) e k l.line h.heard);
@@ -112,10 +114,11 @@ one_line c e n m k most l frame x room asked h = record {
 }
 
 -- a greeting, and what comes behind it
-pub greeted_line : (c d e : Crowd) (n m z : Server) (k : ℕ) (l : NumberedLine) (frame : NumberedCall) (x : Item) (xs : List Item) → asks c k l.line false ≡ Some frame → Exchanged c d n m k l frame false x → Did d e m z k l 1 xs
-    → Did c e n z k l 2 (x ∷ xs)
-greeted_line c d e n m z k l frame x xs asked h rest = record {
+pub greeted_line : {V : Type 0} (G : Ghosts V) (c d e : Crowd) (n m z : NodeState V) (k : ℕ) (l : NumberedLine) (frame : NumberedCall) (x : Item) (xs : List Item) → asks c k l.line false ≡ Some frame → Exchanged G c d n m k l frame false x → Did G d e m z k l 1 xs
+    → Did G c e n z k l 2 (x ∷ xs)
+greeted_line G c d e n m z k l frame x xs asked h rest = record {
   step = rest.step;
+  opening = rest.opening ∙ h.opening;
   start = rest.start ∙ h.start;
   number = (h.number, rest.number);
   sends = (frame, asked, h.sent, subst (λ (q : Crowd × Bool). Sends q.0 k l.line q.1 xs e) (sym h.heard) rest.sends);
@@ -134,6 +137,7 @@ greeted_line c d e n m z k l frame x xs asked h rest = record {
 
 begins_known : (c : Client) (l : Line) → IsForm l → SameKnown c (begins c l)
 begins_known c l (servers count) = same_known c
+begins_known c l (volume server home area small) = same_known c
 begins_known c l (client k name) = same_known c
 begins_known c l (begin k server) = record { session = refl; told = refl }
 begins_known c l (owner k server name quota) = same_known c
@@ -153,46 +157,47 @@ still_in_step s k c d same h = record {
 }
 
 -- one client is another now that knows the same of both
-pub still_step : (c : Crowd) (n : Server) (words : WordMap) (k : ℕ) (d : Client) → k < length c.places → SameKnown (client_at c k) d → InStep c n → InStep (with_client c words k d) n
-still_step c n words k d here same step = record {
+pub still_step : {V : Type 0} (G : Ghosts V) (c : Crowd) (n : NodeState V) (words : WordMap) (k : ℕ) (d : Client) → k < length c.places → SameKnown (client_at c k) d → InStep G c n → InStep G (with_client c words k d) n
+still_step G c n words k d here same step = record {
   on = step.on;
   places = as_many c words k d ∙ step.places;
   each = λ j. go j (eqb_tells j k);
 }
   where
-    go : (j : ℕ) → (((j == k) ≡ true) × (j ≡ k)) ⊎ (((j == k) ≡ false) × (j ≢ k)) → IsInStep (state_of n) j (client_at (with_client c words k d) j)
+    go : (j : ℕ) → (((j == k) ≡ true) × (j ≡ k)) ⊎ (((j == k) ≡ false) × (j ≢ k)) → IsInStep (state_of G n) j (client_at (with_client c words k d) j)
     go j (inl is) =
-        subst (λ (i : ℕ). IsInStep (state_of n) i (client_at (with_client c words k d) i)) (sym is.1)
-        (subst (λ (x : Client). IsInStep (state_of n) k x) (sym (at_same c words k d here)) (still_in_step (state_of n) k (client_at c k) d same (step.each k)))
-    go j (inr away) = subst (λ (x : Client). IsInStep (state_of n) j x) (sym (at_other c words k j d away.1)) (step.each j)
+        subst (λ (i : ℕ). IsInStep (state_of G n) i (client_at (with_client c words k d) i)) (sym is.1)
+        (subst (λ (x : Client). IsInStep (state_of G n) k x) (sym (at_same c words k d here)) (still_in_step (state_of G n) k (client_at c k) d same (step.each k)))
+    go j (inr away) = subst (λ (x : Client). IsInStep (state_of G n) j x) (sym (at_other c words k j d away.1)) (step.each j)
 
-pub at_step : (c : Crowd) (n : Server) (k : ℕ) (l : Line) → k ≤ 16 → IsForm l → InStep c n → InStep (at_line c k l) n
-at_step c n k l small form step =
-    still_step c n (words_at c.words l) k (begins (client_at c k) l) (omega (arith, small, step.places)) (begins_known (client_at c k) l form) step
+pub at_step : {V : Type 0} (G : Ghosts V) (c : Crowd) (n : NodeState V) (k : ℕ) (l : Line) → k ≤ 16 → IsForm l → InStep G c n → InStep G (at_line c k l) n
+at_step G c n k l small form step =
+    still_step G c n (words_at c.words l) k (begins (client_at c k) l) (omega (arith, small, step.places)) (begins_known (client_at c k) l form) step
 
 -- past the last place nothing changes
-past_step : (c : Crowd) (n : Server) (k : ℕ) (d : Client) → length c.places ≤ k → InStep c n → InStep (with_client c c.words k d) n
-past_step c n k d past step = subst (λ (xs : List Client). InStep (record { words = c.words; places = xs }) n) (sym (set_past c.places k d past)) step
+past_step : {V : Type 0} (G : Ghosts V) (c : Crowd) (n : NodeState V) (k : ℕ) (d : Client) → length c.places ≤ k → InStep G c n → InStep G (with_client c c.words k d) n
+past_step G c n k d past step = subst (λ (xs : List Client). InStep G (record { words = c.words; places = xs }) n) (sym (set_past c.places k d past)) step
 
-pub declared_step : (c : Crowd) (n : Server) (l : Line) → IsForm l → InStep c n → InStep (declares c l) n
-declared_step c n l (servers count) step = step
-declared_step c n l (client k name) step = go (leb_tells (length c.places) k)
+pub declared_step : {V : Type 0} (G : Ghosts V) (c : Crowd) (n : NodeState V) (l : Line) → IsForm l → InStep G c n → InStep G (declares c l) n
+declared_step G c n l (servers count) step = step
+declared_step G c n l (volume server home area small) step = step
+declared_step G c n l (client k name) step = go (leb_tells (length c.places) k)
   where
     d : Client
     d = record (client_at c k) { name = name }
 
-    go : ((leb (length c.places) k ≡ true) × (length c.places ≤ k)) ⊎ ((leb (length c.places) k ≡ false) × (k < length c.places)) → InStep (with_client c c.words k d) n
-    go (inl past) = past_step c n k d past.1 step
-    go (inr here) = still_step c n c.words k d here.1 (record { session = refl; told = refl }) step
-declared_step c n l (begin k server) step = step
-declared_step c n l (owner k server name quota) step = step
-declared_step c n l (create k server word name size small) step = step
-declared_step c n l (open_read k file) step = step
-declared_step c n l (open_change k file) step = step
-declared_step c n l (write k file run text some short) step = step
-declared_step c n l (read k file run some) step = step
-declared_step c n l (commit k) step = step
-declared_step c n l (abort k) step = step
+    go : ((leb (length c.places) k ≡ true) × (length c.places ≤ k)) ⊎ ((leb (length c.places) k ≡ false) × (k < length c.places)) → InStep G (with_client c c.words k d) n
+    go (inl past) = past_step G c n k d past.1 step
+    go (inr here) = still_step G c n c.words k d here.1 (record { session = refl; told = refl }) step
+declared_step G c n l (begin k server) step = step
+declared_step G c n l (owner k server name quota) step = step
+declared_step G c n l (create k server word name size small) step = step
+declared_step G c n l (open_read k file) step = step
+declared_step G c n l (open_change k file) step = step
+declared_step G c n l (write k file run text some short) step = step
+declared_step G c n l (read k file run some) step = step
+declared_step G c n l (commit k) step = step
+declared_step G c n l (abort k) step = step
 
 -- the client of a line has said what it had, and so have all others
 pub said_at_line : (c : Crowd) (k : ℕ) (l : Line) → length c.places ≡ 17 → k ≤ 16 → IsForm l → (j : ℕ) (front : List items.Item) → HasSaid j (client_at c j) front → HasSaid j (client_at (at_line c k l) j) front
@@ -225,6 +230,7 @@ said_declared c l (client k name) j front said = go (leb_tells (length c.places)
     go (inl past) = subst (λ (xs : List Client). HasSaid j (client_at (record { words = c.words; places = xs }) j) front) (sym (set_past c.places k d past.1)) said
     go (inr here) = one (eqb_tells j k) here.1
 said_declared c l (servers count) j front said = said
+said_declared c l (volume server home area small) j front said = said
 said_declared c l (begin k server) j front said = said
 said_declared c l (owner k server name quota) j front said = said
 said_declared c l (create k server word name size small) j front said = said
@@ -237,9 +243,10 @@ said_declared c l (abort k) j front said = said
 
 -- ---- what a line adds
 
-pub adds_nothing : (c : Crowd) (n : Server) (l : NumberedLine) (lists : List (Vec Item Global)) (text : List ℕ) → InStep c n → IsForm l.line → client_named l.line ≡ None → Adds c (declares c l.line) n n l lists lists text text
-adds_nothing c n l lists text step form none = record {
-  step = declared_step c n l.line form step;
+pub adds_nothing : {V : Type 0} (G : Ghosts V) (c : Crowd) (n : NodeState V) (l : NumberedLine) (lists : List (Vec Item Global)) (text : List ℕ) → InStep G c n → IsForm l.line → client_named l.line ≡ None → Adds G c (declares c l.line) n n l lists lists text text
+adds_nothing G c n l lists text step form none = record {
+  step = declared_step G c n l.line form step;
+  opening = refl;
   start = refl;
   turns = [];
   plays = subst (λ (o : Option ℕ). PlaysLine c l o [] (declares c l.line)) (sym none) (refl, refl);
@@ -293,11 +300,12 @@ own_other l k j xs away = elim (eqb_tells k j) [
   | inr other ↦ ap (λ (b : Bool). cond b xs [] ++ []) other.0
 ]
 
-pub adds_item : (c d : Crowd) (n m : Server) (l : NumberedLine) (k : ℕ) (xs : List Item) (lists : List (Vec Item Global)) (v : Vec Item Global) (text now : List ℕ) → client_named l.line ≡ Some k → k ≤ 16
-    → length c.places ≡ 17 → IsForm l.line → length lists ≡ 17 → v.items ≡ lists_in lists k ++ xs → now ≡ text ++ turns_text (turn_at l k xs ∷ []) → Did (at_line c k l.line) d n m k l 2 xs
-    → Adds c d n m l lists (slice_set lists k v) text now
-adds_item c d n m l k xs lists v text now named small places form many is told did = record {
+pub adds_item : {V : Type 0} (G : Ghosts V) (c d : Crowd) (n m : NodeState V) (l : NumberedLine) (k : ℕ) (xs : List Item) (lists : List (Vec Item Global)) (v : Vec Item Global) (text now : List ℕ) → client_named l.line ≡ Some k → k ≤ 16
+    → length c.places ≡ 17 → IsForm l.line → length lists ≡ 17 → v.items ≡ lists_in lists k ++ xs → now ≡ text ++ turns_text (turn_at l k xs ∷ []) → Did G (at_line c k l.line) d n m k l 2 xs
+    → Adds G c d n m l lists (slice_set lists k v) text now
+adds_item G c d n m l k xs lists v text now named small places form many is told did = record {
   step = did.step;
+  opening = did.opening;
   start = did.start;
   turns = turn_at l k xs ∷ [];
   plays = subst (λ (o : Option ℕ). PlaysLine c l o (turn_at l k xs ∷ []) d) (sym named) (xs, refl, did.number, did.sends);

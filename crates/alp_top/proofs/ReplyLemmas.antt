@@ -1,9 +1,7 @@
 -- what a call that is served is not answered: that its session is stale, or how another transaction ended
-use Rattle.std.specs.Prelude.{Bool, true, false, cond, not, ◌==◌, ◌&&◌, nat_lt, nat_le, is_some, length, Option, None, Some}
+use Rattle.std.specs.Prelude.{Bool, true, false, cond, ◌==◌, ◌&&◌, nat_lt, nat_le, is_some, length, Option, None, Some}
 use Rattle.std.specs.Option.{option_or}
-use Rattle.std.specs.List.{AllByRecursion}
-use Rattle.std.proofs.Common.{inl, inr, ◌⊎◌, ◌≡◌, ℕ, ◌+◌, ◌-◌, ◌≤◌, List, [], ◌∷◌, ◌++◌, refl, sym, ap, subst, ◌∙◌, arith}
-use Rattle.alp_base.specs.declared.ids.Stamp.{Stamp}
+use Rattle.std.proofs.Common.{inl, inr, ◌≡◌, ℕ, [], ◌∷◌, ◌++◌, sym, subst}
 use Rattle.alp_base.specs.declared.ids.TransId.{TransId}
 use Rattle.alp_files.specs.declared.call.Call.{Call}
 use Rattle.alp_files.specs.declared.call.Call.TheVariants as call
@@ -21,12 +19,12 @@ use Rattle.alp_files.specs.Act.{Answer}
 use Rattle.alp_files.specs.Needs.{changed, is_leader, is_owner}
 use Rattle.alp_journal.specs.Along.{Where}
 use Rattle.alp_journal.specs.Coordinator.{Fate, Undrawn, Running, Finishing, Committed, Forgotten, Ended}
-use Rattle.alp_journal.specs.Desk.{file_trans, waiting_of}
+use Rattle.alp_journal.specs.Desk.{waiting_of}
 use Rattle.alp_journal.specs.Holder.{Life, answer_in}
 use Rattle.alp_journal.specs.State.{State}
 use Rattle.alp_journal.specs.Moves.{next_trans, is_of_no_file}
 use Rattle.alp_journal.specs.Messages.{why_not_own}
-use Rattle.alp_journal.specs.Answers.{Part, NoPart, AtJoining, AtWork, AtFinish, AtReady, AtEnd, at_part, part_at, part_refusal, if_over, open_reply, open_refusal, shape_refusal, lock_refusal, many_refusal, count_refusal, unless_counts, IsThreads, IsLocked, OrFault, First, IsFileAnswer, IsFileOf, IsFinishAnswer, IsBeginAnswer, IsAnswer, voted_reply, finish_reply, too_many, count_of_transactions, locks_then, left_places, rise, is_past_limit}
+use Rattle.alp_journal.specs.Answers.{Part, NoPart, AtJoining, AtWork, AtFinish, AtReady, AtEnd, at_part, part_at, part_refusal, if_over, open_reply, open_refusal, shape_refusal, lock_refusal, many_refusal, count_refusal, unless_counts, IsThreads, IsLocked, OrFault, First, IsFileAnswer, IsFileOf, IsFinishAnswer, IsAnswer, voted_reply, finish_reply, too_many, count_of_transactions, locks_then, left_places, rise, is_past_limit}
 use Rattle.alp_node.specs.Served.{IsTurnCall}
 
 -- the answer says nothing of a stale session

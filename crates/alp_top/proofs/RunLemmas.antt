@@ -1,5 +1,5 @@
 -- a run that goes on by one line, and what it is in the end
-use Rattle.std.specs.Prelude.{◌==◌, true, false, Bool, cond, filter, flat_map, map as list_map, Option, None, Some, Vec}
+use Rattle.std.specs.Prelude.{◌==◌, true, false, Bool, cond, filter, map as list_map, Option, None, Some, Vec}
 use Rattle.std.specs.Global.{Global}
 use Rattle.std.specs.List.{AllByRecursion}
 use Rattle.std.proofs.Common.{inl, inr, ◌≡◌, ℕ, zero, suc, ◌+◌, ◌<◌, ◌≤◌, List, [], ◌∷◌, ◌++◌, length, take, get_or, refl, sym, ◌∙◌, ap, subst, arith, append_assoc, append-nil, length-append}
@@ -7,11 +7,9 @@ use Rattle.std.proofs.lemmas.List.{take_more, map-append}
 use Rattle.std.proofs.lemmas.Grind.{flat_map-append}
 use Rattle.std.proofs.lemmas.Bool.Decides.{eqb_tells}
 use Rattle.std.proofs.lemmas.Bool.{ne_eqb}
-use Rattle.alp_journal.specs.Opening.{Start}
 use Rattle.alp_journal.specs.declared.entry.Entry.{Entry}
 use Rattle.alp_journal.specs.declared.log.Item.{Item}
 use Rattle.alp_report.specs.Reports.{line_text}
-use Rattle.alp_history.specs.Items as items
 use Rattle.alp_history.specs.RunLogs.{Lists, item_of}
 use Rattle.alp_script.specs.declared.numbered.NumberedLine.{NumberedLine}
 use Rattle.alp_script.specs.Named.{client_named}
@@ -26,9 +24,12 @@ use Rattle.alp_node.specs.Nodes as node
 use Rattle.alp_client.specs.Crowds.{new_crowd, client_at}
 use Rattle.alp_top.specs.Turns.{Turn, lists_in, own_in, sent_in, turn_of, turns_of, turns_text}
 use Rattle.alp_top.specs.Plays.{PlaysLine, Plays, AreRecorded}
-use Rattle.alp_top.specs.Servers.{Server, IsOn, start_in, state_of}
+use Rattle.alp_vault.specs.declared.vault.Vault.{Ghosts}
+use Rattle.alp_node.specs.NodeStates.{NodeState}
+use Rattle.alp_node.specs.Nodes.{start_in}
+use Rattle.alp_top.specs.Servers.{IsOn, state_of}
 use Rattle.alp_top.specs.Steps.{Adds, HasSaid, HasLast, SameSession}
-use Rattle.alp_top.specs.Runs.{HasPlayed, IsNewOpening}
+use Rattle.alp_top.specs.Runs.{HasPlayed}
 
 Plays-push : (c mid d : Crowd) (ls : List NumberedLine) (l : NumberedLine) (turns own : List Turn) → Plays c ls turns mid → PlaysLine mid l (client_named l.line) own d → Plays c (ls ++ l ∷ []) (turns ++ own) d
 Plays-push c mid d [] l turns own h k =
@@ -51,11 +52,10 @@ own_append k (t ∷ ts) us =
     ap (λ (xs : List Item). cond (t.client == k) t.items [] ++ xs) (own_append k ts us) ∙ sym (append_assoc (cond (t.client == k) t.items []) (own_in k ts) (own_in k us))
 
 -- one line more
-pub played_more : (ls : List NumberedLine) (l : NumberedLine) (c d : Crowd) (n m : Server) (lists now : List (Vec Item Global)) (text told : List ℕ)
-    → HasPlayed ls c n lists text → Adds c d n m l lists now text told → HasPlayed (ls ++ l ∷ []) d m now told
-played_more ls l c d n m lists now text told h a = record {
+pub played_more : {V : Type 0} (G : Ghosts V) (ls : List NumberedLine) (l : NumberedLine) (c d : Crowd) (n m : NodeState V) (lists now : List (Vec Item Global)) (text told : List ℕ)
+    → HasPlayed G ls c n lists text → Adds G c d n m l lists now text told → HasPlayed G (ls ++ l ∷ []) d m now told
+played_more G ls l c d n m lists now text told h a = record {
   step = a.step;
-  opening = subst IsNewOpening (sym a.start) h.opening;
   turns = h.turns ++ a.turns;
   plays = Plays-push new_crowd c d ls l h.turns a.turns h.plays a.plays;
   places = a.places ∙ h.places;
@@ -71,6 +71,13 @@ played_more ls l c d n m lists now text told h a = record {
 }
 
 -- ---- the line at a place
+
+-- the first lines are no more than all
+pub front_long : (ls : List NumberedLine) (i : ℕ) → length (take i ls) ≤ length ls
+front_long [] zero = omega arith
+front_long [] (suc i) = omega arith
+front_long (l ∷ ls) zero = omega arith
+front_long (l ∷ ls) (suc i) = omega (arith, front_long ls i)
 
 pub front_at : (ls : List NumberedLine) (i : ℕ) (l : NumberedLine) → i < length ls → l ≡ get_or ls i l → take (i + 1) ls ≡ take i ls ++ l ∷ []
 front_at ls i l h is = take_more ls i l h ∙ ap (λ (x : NumberedLine). take i ls ++ x ∷ []) (sym is)
@@ -203,8 +210,8 @@ new_told k = go 17 k
     go (suc n) (suc k) = go n k
 
 -- the server has no session either
-no_state_session : (n : Server) (k : ℕ) → n.journal ≡ [] → (state_of n).desk.sessions k ≡ None
-no_state_session n k none = ap (λ (js : List Entry). (node.state_of (start_in n) js).desk.sessions k) none
+no_state_session : {V : Type 0} (G : Ghosts V) (n : NodeState V) (k : ℕ) → n.journal ≡ [] → (state_of G n).desk.sessions k ≡ None
+no_state_session G n k none = ap (λ (js : List Entry). (node.state_of (start_in G n) js).desk.sessions k) none
 
 new_same : (epoch : ℕ) (o : Option Greeted) (w : Option Session) → o ≡ None → w ≡ None → SameSession epoch o w
 new_same epoch o w is none = subst (λ (x : Option Greeted). SameSession epoch x w) (sym is) (subst (SameSession epoch None) (sym none) tt)
@@ -212,18 +219,17 @@ new_same epoch o w is none = subst (λ (x : Option Greeted). SameSession epoch x
 new_last : (o : Option Greeted) → o ≡ None → HasLast o []
 new_last o is = subst (λ (x : Option Greeted). HasLast x []) (sym is) refl
 
-pub played_none : (c : Crowd) (n : Server) (vs : List (Vec Item Global)) (text : List ℕ) → c ≡ new_crowd → IsOn n → IsNewOpening (start_in n) → n.journal ≡ [] → length vs ≡ 17
-    → AllByRecursion (λ (v : Vec Item Global). v.items ≡ []) vs → text ≡ [] → HasPlayed [] c n vs text
-played_none c n vs text is on opening none many empty blank = subst (λ (d : Crowd). HasPlayed [] d n vs text) (sym is) (record {
+pub played_none : {V : Type 0} (G : Ghosts V) (c : Crowd) (n : NodeState V) (vs : List (Vec Item Global)) (text : List ℕ) → c ≡ new_crowd → IsOn G n → n.journal ≡ [] → length vs ≡ 17
+    → AllByRecursion (λ (v : Vec Item Global). v.items ≡ []) vs → text ≡ [] → HasPlayed G [] c n vs text
+played_none G c n vs text is on none many empty blank = subst (λ (d : Crowd). HasPlayed G [] d n vs text) (sym is) (record {
   step = record {
     on = on;
     places = length-replicate 17 new_client;
     each = λ k. record {
-      session = new_same (state_of n).ids.epoch (client_at new_crowd k).session ((state_of n).desk.sessions k) (new_session k) (no_state_session n k none);
+      session = new_same (state_of G n).ids.epoch (client_at new_crowd k).session ((state_of G n).desk.sessions k) (new_session k) (no_state_session G n k none);
       told = (let low : (client_at new_crowd k).told.ts ≡ 0 = new_told k in omega (arith, low));
     };
   };
-  opening = opening;
   turns = [];
   plays = (refl, refl);
   places = many;

@@ -1,41 +1,36 @@
 -- the log of one server that runs alone is proper
-use Rattle.std.specs.Prelude.{◌==◌, true, false, Bool, cond, Option, None, Some, slice_get, unwrap_or, find, filter, flat_map, map as list_map}
-use Rattle.std.specs.List.{AllByRecursion}
+use Rattle.std.specs.Prelude.{◌==◌, true, false, Bool, cond, None, Some, slice_get, unwrap_or, filter, map as list_map}
 use Rattle.std.specs.FinMap as map
-use Rattle.std.specs.FinMap.Entries as entries
 use Rattle.std.specs.FinMap.Entries.{put, is_sorted, below_all, by_order}
 use Rattle.std.specs.Ordering.{is_lt}
 use Rattle.std.specs.declared.cmp.Ordering.{Ordering}
 use Rattle.std.specs.declared.cmp.Ordering.TheVariants.{Less, Equal, Greater}
 use Rattle.std.proofs.Math.Dec.{T}
-use Rattle.std.proofs.Common.{inl, inr, ◌⊎◌, ◌≡◌, ℕ, zero, suc, ◌+◌, ◌<◌, ◌≤◌, ◌&&◌, List, [], ◌∷◌, ◌++◌, length, refl, sym, ◌∙◌, ap, subst, arith, eq-eqb}
+use Rattle.std.proofs.Common.{inl, inr, ◌≡◌, ℕ, zero, suc, ◌+◌, ◌<◌, ◌≤◌, ◌&&◌, List, [], ◌∷◌, ◌++◌, length, refl, sym, ◌∙◌, ap, subst, arith, eq-eqb}
 use Rattle.std.proofs.lemmas.Bool.Decides.{eqb_tells}
 use Rattle.std.proofs.lemmas.Bool.{ne_eqb}
 use Rattle.alp_base.specs.Keys.{key_cmp}
 use Rattle.alp_base.specs.declared.ids.JoinNo.{JoinNo}
 use Rattle.alp_base.specs.declared.ids.Stamp.{Stamp}
-use Rattle.alp_files.specs.Cells.{Cells}
 use Rattle.alp_files.specs.Apart.{AreSized}
 use Rattle.alp_files.specs.History.{Decided}
 use Rattle.alp_files.specs.Sound.{AreSound}
 use Rattle.alp_files.proofs.SoundLemmas.{empty_sound}
 use Rattle.alp_files.proofs.CellMapLemmas.{get_cell}
 use Rattle.alp_journal.specs.declared.entry.Entry.{Entry}
-use Rattle.alp_journal.specs.declared.event.Event.{Event}
 use Rattle.alp_journal.specs.declared.event.Event.TheVariants as event
 use Rattle.alp_journal.specs.declared.message.Message.{Message}
 use Rattle.alp_journal.specs.Along.{state_after}
 use Rattle.alp_journal.specs.Alone.{Alone, alone, IsOwnEvent, AreOwnEvents}
 use Rattle.alp_journal.specs.Coordinator.{joins_of}
-use Rattle.alp_journal.specs.Ids.{stamp_cmp, has_join}
+use Rattle.alp_journal.specs.Ids.{stamp_cmp}
 use Rattle.alp_journal.specs.Laws.{IsLawful}
 use Rattle.alp_journal.specs.Moves.{next}
-use Rattle.alp_journal.specs.Opening.{Start, ReadyNote, DecisionNote}
-use Rattle.alp_journal.specs.Participant.{Unseen, Applied, Phase}
+use Rattle.alp_journal.specs.Opening.{ReadyNote, DecisionNote}
+use Rattle.alp_journal.specs.Participant.{Unseen, Applied}
 use Rattle.alp_journal.specs.State.{State, opened}
 use Rattle.alp_history.specs.Items.{Handed}
-use Rattle.alp_history.specs.Log as logs
-use Rattle.alp_history.specs.Log.{ServerLog, Log, Decision, nobody, of, journal_of, opening_of, rank_at, final, IsIn, AreDistinct, WasSent, noted, held, is_noted, start_of, own_of, decisions_of, decided, decided_by, all_put}
+use Rattle.alp_history.specs.Log.{ServerLog, Log, Decision, nobody, of, journal_of, opening_of, rank_at, final, IsIn, AreDistinct, noted, held, is_noted, start_of, own_of, decisions_of, decided, all_put}
 use Rattle.alp_history.specs.Theorems.{IsProper}
 use Rattle.alp_history.proofs.Decisions.{linked-end, here-end, tied-end}
 use Rattle.alp_top.specs.Plays.{ranks_from}

@@ -1,84 +1,72 @@
 -- the clients stay in step with their server through a call
-use Rattle.std.specs.Prelude.{◌==◌, true, false, Bool, cond, max, Option, None, Some, IsSome, map as list_map}
+use Rattle.std.specs.Prelude.{true, false, Bool, cond, Option, None, Some}
 use Rattle.std.specs.Option.{option_map}
-use Rattle.std.specs.List.{list_any, AllByRecursion}
+use Rattle.std.specs.List.{AllByRecursion}
 use Rattle.std.specs.Ordering.{is_lt, ordering_reverse}
-use Rattle.std.specs.declared.cmp.Ordering.TheVariants.{Less, Greater}
-use Rattle.std.proofs.Common.{inl, inr, ◌⊎◌, ◌<◌, ◌^◌, ◌≡◌, ◌≢◌, ℕ, ◌+◌, ◌≤◌, List, [], ◌∷◌, ◌++◌, length, refl, sym, ◌∙◌, ap, subst, arith, eq-eqb, append_assoc, append-nil, length-append}
-use Rattle.std.proofs.lemmas.Bool.Decides.{eqb_tells, leb_tells}
-use Rattle.std.proofs.lemmas.List.{set_past}
-use Rattle.std.proofs.Math.Dec.{leb}
-use Rattle.alp_base.specs.Causes.{Rose}
-use Rattle.alp_base.specs.Allowances.{Spends}
-use Rattle.alp_base.specs.declared.allowance.Allowance.{Allowance}
-use Rattle.alp_base.specs.declared.allowance.Allowance.TheVariants.{Free, Left, Spent}
+use Rattle.std.proofs.Common.{inl, inr, ◌<◌, ◌^◌, ◌≡◌, ℕ, ◌+◌, ◌≤◌, List, [], ◌∷◌, ◌++◌, length, refl, sym, ◌∙◌, ap, subst, arith}
+use Rattle.std.proofs.lemmas.Bool.Decides.{leb_tells}
 use Rattle.alp_base.specs.declared.ids.FileId.{FileId}
 use Rattle.alp_base.specs.declared.ids.Stamp.{Stamp}
 use Rattle.alp_files.specs.declared.call.Call.{Call}
-use Rattle.alp_files.specs.declared.call.Call.TheVariants as call
 use Rattle.alp_files.specs.declared.reply.Reply.{Reply}
 use Rattle.alp_files.specs.declared.reply.Reply.TheVariants as reply
 use Rattle.alp_files.specs.declared.reply.Ended.{Ended}
 use Rattle.alp_files.specs.declared.reply.Ended.TheVariants as ended
 use Rattle.alp_files.specs.declared.refusal.Refusal.TheVariants as refusal
-use Rattle.alp_files.specs.History.{Decided}
 use Rattle.alp_script.specs.declared.line.Line.{Line}
-use Rattle.alp_script.specs.Forms.{IsForm, servers, client, begin, owner, create, open_read, open_change, write, read, commit, abort}
-use Rattle.alp_journal.specs.declared.act.Act.{Act}
-use Rattle.alp_journal.specs.declared.act.Act.TheVariants as act
+use Rattle.alp_script.specs.Forms.{IsForm, servers, volume, client, begin, owner, create, open_read, open_change, write, read, commit, abort}
 use Rattle.alp_journal.specs.declared.entry.Entry.{Entry}
 use Rattle.alp_journal.specs.declared.event.Event.TheVariants as event
-use Rattle.alp_journal.specs.Along.{Along, state_after, Where}
-use Rattle.alp_journal.specs.Alone.{AreEarlier, alone}
+use Rattle.alp_journal.specs.Along.{Along, state_after}
+use Rattle.alp_journal.specs.Alone.{AreEarlier}
 use Rattle.alp_journal.specs.Desk.{Session}
 use Rattle.alp_journal.specs.Ids.{stamp_cmp}
 use Rattle.alp_journal.specs.Opening.{Start}
 use Rattle.alp_journal.specs.State.{State, opened}
-use Rattle.alp_journal.specs.Moves.{next, is_stop, is_new, stops}
-use Rattle.alp_journal.specs.Laws.{IsLawfulEntry, TellsIn, TellsDecided, IsDecidedAs, regained_by}
-use Rattle.alp_journal.specs.Answers.{IsAnswer, AnswersCall}
-use Rattle.alp_journal.specs.Answered.{IsAnsweredEntry}
+use Rattle.alp_journal.specs.Moves.{next}
 use Rattle.alp_journal.proofs.StampLemmas.{stamps_total, stamp_cmp-later}
-use Rattle.alp_history.specs.Items.{stamps_in, stamp_of_end}
+use Rattle.alp_history.specs.Items.{stamps_in}
 use Rattle.alp_client.specs.Maps.{WordMap}
 use Rattle.alp_client.specs.Props.{later}
 use Rattle.alp_client.specs.declared.client.Client.{Client}
 use Rattle.alp_client.specs.declared.client.NumberedCall.{NumberedCall}
 use Rattle.alp_client.specs.declared.client.Greeted.{Greeted}
-use Rattle.alp_client.specs.Clients.{call_by, frame_in, greeted, heard, learned_reply, left, created, opened as opened_said, words_heard, words_at, begins, told_end, HasNext}
+use Rattle.alp_client.specs.Clients.{call_by, frame_in, learned_reply, left, created, opened as opened_said, told_end, HasNext}
 use Rattle.alp_client.specs.Crowd.{Crowd}
-use Rattle.alp_client.specs.Crowds.{client_at, with_client, asks, hears, at_line, declares}
-use Rattle.alp_client.proofs.CrowdLemmas.{at_same, at_other, as_many}
-use Rattle.alp_node.specs.declared.sessions.Session as node_session
+use Rattle.alp_client.specs.Crowds.{client_at, asks}
 use Rattle.alp_node.specs.ServerState.{kept_session}
-use Rattle.alp_node.specs.Halts.{HaveCauses}
-use Rattle.alp_node.specs.Nodes.{HasCause}
 use Rattle.alp_node.specs.Served.{IsServed, IsTurnCall}
-use Rattle.alp_node.specs.Steps.{seen_in}
 use Rattle.alp_node.specs.Sessions.{session_at}
 use Rattle.alp_node.proofs.NodeLemmas.{state_after-push, Along-push}
-use Rattle.alp_vault.specs.MemVault.{held_by}
-use Rattle.alp_vault.specs.declared.mem_vault.MemVault.{MemVault}
-use Rattle.alp_node.specs.declared.opened.Opened.{Opened}
-use Rattle.alp_top.specs.Servers.{Server, IsConsistent, IsOn, IsDone, start_in, state_of}
-use Rattle.alp_top.specs.Steps.{SameSession, IsInStep, InStep}
-use Rattle.alp_top.proofs.AskLemmas.{line_call, line_seen, turn_served, turn_counted, no_session, next_session}
-use Rattle.alp_top.proofs.ReplyLemmas.{IsInSession, call_in}
-use Rattle.alp_top.proofs.EntryLemmas.{Leaves, turn_leaves, greeting_leaves}
+use Rattle.alp_vault.specs.declared.vault.Vault.{Ghosts}
+use Rattle.alp_node.specs.NodeStates.{NodeState}
+use Rattle.alp_node.specs.Nodes as node
+use Rattle.alp_node.specs.Nodes.{start_in}
+use Rattle.alp_top.specs.Servers.{IsOn, state_of}
+use Rattle.alp_top.specs.Steps.{SameSession, InStep}
+use Rattle.alp_top.proofs.AskLemmas.{line_call, turn_served, no_session, next_session}
+use Rattle.alp_top.proofs.ReplyLemmas.{IsInSession}
 
 -- ---- what a server keeps is what its journal says
 
-pub kept_sessions : (n : Server) (k : ℕ) → IsConsistent n → option_map kept_session ((state_of n).desk.sessions k) ≡ session_at n.kept.sessions k
-kept_sessions n k h = let r = h.right refl in ap (λ (s : State). option_map kept_session (s.desk.sessions k)) r.says ∙ r.kept.sessions k
+module _ {V : Type 0} (G : Ghosts V) (n : NodeState V) (on : IsOn G n) where
+  right : node.IsRight (start_in G n) (G.held n.kept.vault) n
+  right = on.kept.right on.tells
 
-pub kept_epoch : (n : Server) → IsConsistent n → (state_of n).ids.epoch ≡ n.kept.epoch
-kept_epoch n h = let r = h.right refl in ap (λ (s : State). s.ids.epoch) r.says ∙ r.kept.epoch
+  pub kept_sessions : (k : ℕ) → option_map kept_session ((state_of G n).desk.sessions k) ≡ session_at n.kept.sessions k
+  kept_sessions k = ap (λ (s : State). option_map kept_session (s.desk.sessions k)) right.says ∙ right.kept.sessions k
 
-pub kept_clock : (n : Server) → IsConsistent n → (state_of n).holder.clock ≡ n.kept.clock
-kept_clock n h = let r = h.right refl in ap (λ (s : State). s.holder.clock) r.says ∙ r.kept.clock
+  pub kept_epoch : (state_of G n).ids.epoch ≡ n.kept.epoch
+  kept_epoch = ap (λ (s : State). s.ids.epoch) right.says ∙ right.kept.epoch
 
-pub kept_earlier : (n : Server) → IsConsistent n → AreEarlier (state_of n).holder.clock (state_of n).holder.applied
-kept_earlier n h = let r = h.right refl in subst (λ (s : State). AreEarlier s.holder.clock s.holder.applied) (sym r.says) r.kept.earlier
+  pub kept_server : (state_of G n).holder.server ≡ n.kept.server
+  kept_server = ap (λ (s : State). s.holder.server) right.says ∙ right.kept.server
+
+  pub kept_clock : (state_of G n).holder.clock ≡ n.kept.clock
+  kept_clock = ap (λ (s : State). s.holder.clock) right.says ∙ right.kept.clock
+
+  pub kept_earlier : AreEarlier (state_of G n).holder.clock (state_of G n).holder.applied
+  kept_earlier = subst (λ (s : State). AreEarlier s.holder.clock s.holder.applied) (sym right.says) right.kept.earlier
 
 -- ---- what a client asks
 
@@ -87,47 +75,38 @@ pub frame_there : (c : Client) (o : Option Greeted) (asked : Option Call) (frame
 frame_there c o None frame e = cc
 frame_there c o (Some x) frame e = (x, refl, (let same : frame_in c o x ≡ frame = cc in sym same))
 
--- no client was told of a time that clocks do not show
-pub told_low : (c : Crowd) (n : Server) (k : ℕ) → InStep c n → (client_at c k).told.ts ≤ 2 ^ 62
-told_low c n k step = omega (arith, (step.each k).told, kept_clock n step.on.kept, step.on.kept.ready.clock)
+module _ {V : Type 0} (G : Ghosts V) (c : Crowd) (n : NodeState V) (k : ℕ) (step : InStep G c n) where
+  -- no client was told of a time that clocks do not show
+  pub told_low : (client_at c k).told.ts ≤ 2 ^ 62
+  told_low = omega (arith, (step.each k).told, kept_clock G n step.on, step.on.kept.ready.clock)
 
--- what a client asks for its line is served
-pub served : (c : Crowd) (n : Server) (k : ℕ) (l : Line) (frame : NumberedCall) → InStep c n → k ≤ 16 → IsForm l → asks c k l false ≡ Some frame → IsServed n.kept (event.Call k frame.epoch frame.number frame.call)
-served c n k l frame step small form e =
-    let d : Client = client_at c k in
-    let (x, is, same) = frame_there d d.session (call_by c.words d l) frame e in
-    subst (λ (f : NumberedCall). IsServed n.kept (event.Call k f.epoch f.number f.call)) (sym same)
-    (go d x (line_call c.words d l x (told_low c n k step) form is) d.session ((state_of n).desk.sessions k) (step.each k).session (kept_sessions n k step.on.kept))
-  where
-    go : (d : Client) (x : Call) → IsTurnCall x → (o : Option Greeted) (w : Option Session) → SameSession (state_of n).ids.epoch o w → option_map kept_session w ≡ session_at n.kept.sessions k
-        → IsServed n.kept (event.Call k (frame_in d o x).epoch (frame_in d o x).number (frame_in d o x).call)
-    go d x turn None None h is = (small, tt, (no_session (session_at n.kept.sessions k) None is refl, refl, refl))
-    go d x turn None (Some w) h is = absurd h
-    go d x turn (Some g) None h is = absurd h
-    go d x turn (Some g) (Some w) h is =
-        turn_served n.kept k g.epoch (g.last + 1) x small turn
-        (next_session (session_at n.kept.sessions k) w n.kept.epoch g.epoch (g.last + 1) is (h.0 ∙ kept_epoch n step.on.kept) (ap (λ (m : ℕ). m + 1) (sym h.1)))
+  -- what a client asks for its line is served
+  pub served : (l : Line) (frame : NumberedCall) → k ≤ 16 → IsForm l → asks c k l false ≡ Some frame → IsServed n.kept (event.Call k frame.epoch frame.number frame.call)
+  served l frame small form e =
+      let d : Client = client_at c k in
+      let (x, is, same) = frame_there d d.session (call_by c.words d l) frame e in
+      subst (λ (f : NumberedCall). IsServed n.kept (event.Call k f.epoch f.number f.call)) (sym same)
+      (go d x (line_call c.words d l x told_low form is) d.session ((state_of G n).desk.sessions k) (step.each k).session (kept_sessions G n step.on k))
+    where
+      go : (d : Client) (x : Call) → IsTurnCall x → (o : Option Greeted) (w : Option Session) → SameSession (state_of G n).ids.epoch o w → option_map kept_session w ≡ session_at n.kept.sessions k
+          → IsServed n.kept (event.Call k (frame_in d o x).epoch (frame_in d o x).number (frame_in d o x).call)
+      go d x turn None None h is = (small, tt, (no_session (session_at n.kept.sessions k) None is refl, refl, refl))
+      go d x turn None (Some w) h is = absurd h
+      go d x turn (Some g) None h is = absurd h
+      go d x turn (Some g) (Some w) h is =
+          turn_served n.kept k g.epoch (g.last + 1) x small turn
+          (next_session (session_at n.kept.sessions k) w n.kept.epoch g.epoch (g.last + 1) is (h.0 ∙ kept_epoch G n step.on) (ap (λ (m : ℕ). m + 1) (sym h.1)))
 
--- its number has its four bytes
-pub has_next : (c : Crowd) (n : Server) (k : ℕ) → InStep c n → length n.journal < 65536 → HasNext (client_at c k).session
-has_next c n k step room = go (client_at c k).session ((state_of n).desk.sessions k) (step.each k).session (kept_sessions n k step.on.kept)
-  where
-    go : (o : Option Greeted) (w : Option Session) → SameSession (state_of n).ids.epoch o w → option_map kept_session w ≡ session_at n.kept.sessions k → HasNext o
-    go None w h is = tt
-    go (Some g) None h is = absurd h
-    go (Some g) (Some w) h is =
-        let low : w.last ≤ length n.journal = step.on.kept.ready.calls k (kept_session w) (sym is) in
-        omega (arith, low, room, h.1)
-
--- ---- a server that nobody stops
-
-pub no_rise : Rose 0 0 → ⊥
-no_rise h = omega (arith, h)
-
-pub stays_free : (a b : Allowance) → Spends a b → a ≡ Free → b ≡ Free
-stays_free Free b h e = h
-stays_free (Left k) b h e = cc
-stays_free Spent b h e = cc
+  -- its number has its four bytes
+  pub has_next : length n.journal < 65536 → HasNext (client_at c k).session
+  has_next room = go (client_at c k).session ((state_of G n).desk.sessions k) (step.each k).session (kept_sessions G n step.on k)
+    where
+      go : (o : Option Greeted) (w : Option Session) → SameSession (state_of G n).ids.epoch o w → option_map kept_session w ≡ session_at n.kept.sessions k → HasNext o
+      go None w h is = tt
+      go (Some g) None h is = absurd h
+      go (Some g) (Some w) h is =
+          let low : w.last ≤ length n.journal = step.on.kept.ready.calls k (kept_session w) (sym is) in
+          omega (arith, low, room, h.1)
 
 -- ---- an entry more
 
@@ -136,65 +115,23 @@ last_law : {S E : Type 0} (step : S → E → S) (law : S → E → Type 0) (s :
 last_law step law s [] e h = h.0
 last_law step law s (x ∷ es) e h = last_law step law (step s x) es e h.1
 
-pub state_more : (n m : Server) (e : Entry) → start_in m ≡ start_in n → m.journal ≡ n.journal ++ e ∷ [] → state_of m ≡ next (state_of n) e
-state_more n m e same journal =
-    ap (λ (o : Start). state_after next (opened o) m.journal) same
-    ∙ ap (λ (js : List Entry). state_after next (opened (start_in n)) js) journal
-    ∙ state_after-push next (opened (start_in n)) n.journal e
+module _ {V : Type 0} (G : Ghosts V) (n m : NodeState V) (e : Entry) (same : start_in G m ≡ start_in G n) (journal : m.journal ≡ n.journal ++ e ∷ []) where
+  pub state_more : state_of G m ≡ next (state_of G n) e
+  state_more =
+      ap (λ (o : Start). state_after next (opened o) m.journal) same
+      ∙ ap (λ (js : List Entry). state_after next (opened (start_in G n)) js) journal
+      ∙ state_after-push next (opened (start_in G n)) n.journal e
 
-pub law_more : (law : State → Entry → Type 0) (n m : Server) (e : Entry) → start_in m ≡ start_in n → m.journal ≡ n.journal ++ e ∷ [] → Along next law (opened (start_in m)) m.journal → law (state_of n) e
-law_more law n m e same journal h =
-    last_law next law (opened (start_in n)) n.journal e
-    (subst (λ (js : List Entry). Along next law (opened (start_in n)) js) journal (subst (λ (o : Start). Along next law (opened o) m.journal) same h))
+  pub law_more : (law : State → Entry → Type 0) → Along next law (opened (start_in G m)) m.journal → law (state_of G n) e
+  law_more law h =
+      last_law next law (opened (start_in G n)) n.journal e
+      (subst (λ (js : List Entry). Along next law (opened (start_in G n)) js) journal (subst (λ (o : Start). Along next law (opened o) m.journal) same h))
 
--- ---- what it was answered
-
--- where nothing fails and nobody stops it, no act says so
-no_stop : (acts : List Act) → HaveCauses 0 0 Free acts → list_any is_stop acts ≡ false
-no_stop [] causes = refl
-no_stop (act.Drawn t ∷ more) causes = no_stop more causes
-no_stop (act.Decided stamp parts ∷ more) causes = no_stop more causes
-no_stop (act.Granted t ∷ more) causes = no_stop more causes
-no_stop (act.Released t ∷ more) causes = no_stop more causes
-no_stop (act.Sent to message ∷ more) causes = no_stop more causes
-no_stop (act.Registered t join ∷ more) causes = no_stop more causes
-no_stop (act.Readied t join ts ∷ more) causes = no_stop more causes
-no_stop (act.Applied join stamp ∷ more) causes = no_stop more causes
-no_stop (act.Forgot t ∷ more) causes = no_stop more causes
-no_stop (act.Regained epoch clock ready stamps ∷ more) causes = no_stop more causes
-no_stop (act.Failed ∷ more) causes = absurd (no_rise causes.0)
-no_stop (act.Stopped ∷ more) causes = let wrong : Free ≡ Spent = causes.0 in cc
-
--- and no read failed
-sound_cause : (s : State) (e : Entry) → HasCause 0 0 s e → IsAnsweredEntry false s e
-sound_cause s e h = go h.0 h.1 h.2
-  where
-    go : (failed : Bool) → IsAnsweredEntry failed s e → (failed ≡ true → Rose 0 0) → IsAnsweredEntry false s e
-    go true x rose = absurd (no_rise (rose refl))
-    go false x rose = x
-
--- ---- a server goes on
-
--- one entry more, and a clock that one step may raise
-pub on_more : (n m : Server) (seen : ℕ) (e : Entry) → IsOn n → IsConsistent m → start_in m ≡ start_in n → m.journal ≡ n.journal ++ e ∷ [] → seen ≤ n.kept.clock → m.kept.clock ≤ max n.kept.clock seen + 1
-    → Spends n.kept.vault.allowance m.kept.vault.allowance → m.kept.is_down ≡ list_any is_stop e.acts → HaveCauses 0 0 m.kept.vault.allowance e.acts → HasCause 0 0 (state_of n) e → m.opening ≡ n.opening → IsOn m
-on_more n m seen e on kept same journal low clock spends down causes cause opening = record {
-  kept = kept;
-  up = down ∙ no_stop e.acts free_causes;
-  free = free;
-  early = omega (arith, on.early, low, clock, ap (λ (js : List Entry). length js) journal, length-append n.journal (e ∷ []));
-  answered =
-      subst (λ (o : Start). Along next IsDone (opened o) m.journal) (sym same)
-      (subst (λ (js : List Entry). Along next IsDone (opened (start_in n)) js) (sym journal)
-      (Along-push next IsDone (opened (start_in n)) n.journal e on.answered (no_stop e.acts free_causes, sound_cause (state_of n) e cause)));
-  notes = ap (λ (o : Opened MemVault). (held_by o.vault.value).notes) opening ∙ on.notes;
-}
-  where
-    free : m.kept.vault.allowance ≡ Free
-    free = stays_free n.kept.vault.allowance m.kept.vault.allowance spends on.free
-
-    free_causes : HaveCauses 0 0 Free e.acts
-    free_causes = subst (λ (a : Allowance). HaveCauses 0 0 a e.acts) free causes
+  -- what holds along the journal and of the last entry holds along all
+  pub along_more : (law : State → Entry → Type 0) → Along next law (opened (start_in G n)) n.journal → law (state_of G n) e → Along next law (opened (start_in G m)) m.journal
+  along_more law h last =
+      subst (λ (o : Start). Along next law (opened o) m.journal) (sym same)
+      (subst (λ (js : List Entry). Along next law (opened (start_in G n)) js) (sym journal) (Along-push next law (opened (start_in G n)) n.journal e h last))
 
 -- ---- what the client makes of an answer
 
@@ -208,6 +145,7 @@ same_known c = record { session = refl; told = refl }
 
 left_known : (c : Client) (l : Line) → IsForm l → SameKnown c (left c l)
 left_known c l (servers count) = same_known c
+left_known c l (volume server home area small) = same_known c
 left_known c l (client k name) = same_known c
 left_known c l (begin k server) = same_known c
 left_known c l (owner k server name quota) = same_known c
@@ -221,6 +159,7 @@ left_known c l (abort k) = record { session = refl; told = refl }
 
 created_known : (c : Client) (l : Line) (f : FileId) (n : ℕ) → IsForm l → SameKnown c (created c l f n)
 created_known c l f n (servers count) = same_known c
+created_known c l f n (volume server home area small) = same_known c
 created_known c l f n (client k name) = same_known c
 created_known c l f n (begin k server) = same_known c
 created_known c l f n (owner k server name quota) = same_known c
@@ -234,6 +173,7 @@ created_known c l f n (abort k) = same_known c
 
 opened_known : (words : WordMap) (c : Client) (l : Line) (n : ℕ) → IsForm l → SameKnown c (opened_said words c l n)
 opened_known words c l n (servers count) = same_known c
+opened_known words c l n (volume server home area small) = same_known c
 opened_known words c l n (client k name) = same_known c
 opened_known words c l n (begin k server) = same_known c
 opened_known words c l n (owner k server name quota) = same_known c

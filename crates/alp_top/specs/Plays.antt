@@ -1,5 +1,5 @@
 -- The lines of a script, played: what each sends, what the journal records of it, and what comes at the end.
-use Rattle.std.specs.Prelude.{◌≡◌, ℕ, ◌+◌, false, List, [], ◌∷◌, ◌++◌, map as list_map, Option, None, Some}
+use Rattle.std.specs.Prelude.{◌≡◌, ℕ, ◌+◌, false, List, [], ◌∷◌, ◌++◌, Option, None, Some}
 use Rattle.std.specs.List.{AllByRecursion}
 use Rattle.alp_files.specs.declared.call.Call.{Call}
 use Rattle.alp_journal.specs.declared.entry.Entry.{Entry}
@@ -10,7 +10,7 @@ use Rattle.alp_journal.specs.declared.log.Sent.TheVariants as sent
 use Rattle.alp_script.specs.declared.numbered.NumberedLine.{NumberedLine}
 use Rattle.alp_script.specs.Named.{client_named}
 use Rattle.alp_client.specs.Crowd.{Crowd}
-use Rattle.alp_client.specs.Crowds.{new_crowd, at_line, declares, Sends}
+use Rattle.alp_client.specs.Crowds.{at_line, declares, Sends}
 use Rattle.alp_top.specs.Turns.{Turn}
 
 -- what one line adds: a client's line has its turn, a declaration has none

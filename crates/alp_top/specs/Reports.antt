@@ -3,6 +3,7 @@ use Rattle.std.specs.Prelude.{ℕ, ◌-◌, List, ◌++◌, length, sum, flat_ma
 use Rattle.alp_journal.specs.Along.{state_after}
 use Rattle.alp_journal.specs.State.{State, opened}
 use Rattle.alp_journal.specs.Moves.{next}
+use Rattle.alp_vault.specs.declared.vault.Vault.{Ghosts}
 use Rattle.alp_history.specs.RunLogs.{start_in}
 use Rattle.alp_history.specs.Log.{decided}
 use Rattle.alp_report.specs.Reports.{server_text, owners_text, count_text, summary_text}
@@ -10,34 +11,34 @@ use Rattle.alp_files.specs.Cells.{owners_of}
 use Rattle.alp_script.specs.declared.numbered.NumberedLine.{NumberedLine}
 use Rattle.alp_top.specs.Logs.{Log, ServerOfLog, openings, log_of, lists_of}
 use Rattle.alp_top.specs.Turns.{turns_of, turns_text}
-use Rattle.alp_top.specs.Servers as server
 
 -- what a server's journal says at its end, in a run of so many servers
-abbrev pub end_of : ℕ → ServerOfLog → State
-end_of servers x = state_after next (opened (start_in openings servers x)) x.journal
+abbrev pub end_of : {V : Type 0} → Ghosts V → ℕ → ServerOfLog V → State
+end_of G servers x = state_after next (opened (start_in (openings G) servers x)) x.journal
 
 -- what a server holds then
 abbrev pub holding_text : State → List ℕ
 holding_text s = server_text s.holder.server s.ids.epoch s.holder.clock s.holder.cells ++ owners_text s.holder.server (owners_of s.holder.cells)
 
 -- the transactions that it began in the run, all but those that earlier runs decided
-abbrev pub begun_at : ℕ → ServerOfLog → ℕ
-begun_at servers x = length (end_of servers x).begun - length (start_in openings servers x).decisions
+abbrev pub begun_at : {V : Type 0} → Ghosts V → ℕ → ServerOfLog V → ℕ
+begun_at G servers x = length (end_of G servers x).begun - length (start_in (openings G) servers x).decisions
 
 -- committed are those that are decided, and all others that began are aborted
-abbrev pub counts_text : Log → List ℕ
-counts_text log =
-    count_text (length (decided (log_of log))) (sum (list_map (begun_at (length log.servers.items)) log.servers.items) - length (decided (log_of log)))
+abbrev pub counts_text : {V : Type 0} → Ghosts V → Log V → List ℕ
+counts_text G log =
+    count_text (length (decided (log_of G log)))
+    (sum (list_map (begun_at G (length log.servers.items)) log.servers.items) - length (decided (log_of G log)))
 
 -- the lines of the clients, what each server holds, and how the transactions ended
-abbrev pub report_of : List NumberedLine → Log → List ℕ
-report_of lines log =
-    turns_text (turns_of lines (lists_of log)) ++ flat_map (λ x. holding_text (end_of (length log.servers.items) x)) log.servers.items ++ counts_text log
+abbrev pub report_of : {V : Type 0} → Ghosts V → List NumberedLine → Log V → List ℕ
+report_of G lines log =
+    turns_text (turns_of lines (lists_of G log)) ++ flat_map (λ x. holding_text (end_of G (length log.servers.items) x)) log.servers.items
+    ++ counts_text G log
 
 -- ---- by what a server's journal says
 
 -- the summary of a run of one server
-unfoldable pub ending_text : server.Server → List ℕ
-ending_text n =
-    summary_text (server.state_of n).holder.server (server.state_of n).ids.epoch (server.state_of n).holder.clock (server.state_of n).holder.cells (length (server.state_of n).holder.applied)
-    (length (server.state_of n).begun - length (server.state_of n).holder.applied)
+unfoldable pub ending_text : State → List ℕ
+ending_text s =
+    summary_text s.holder.server s.ids.epoch s.holder.clock s.holder.cells (length s.holder.applied) (length s.begun - length s.holder.applied)

@@ -1,39 +1,25 @@
 -- A run that has played some lines of a script, and its server at the end.
-use Rattle.std.specs.Prelude.{◌≡◌, ℕ, ◌*◌, ◌≤◌, List, [], ◌++◌, length, map as list_map, Vec}
+use Rattle.std.specs.Prelude.{◌≡◌, ℕ, ◌*◌, ◌≤◌, List, ◌++◌, length, map as list_map, Vec}
 use Rattle.std.specs.Global.{Global}
-use Rattle.std.specs.FinMap as map
 use Rattle.alp_base.specs.declared.ids.TransId.{TransId}
 use Rattle.alp_journal.specs.declared.entry.Entry.{Entry}
 use Rattle.alp_journal.specs.declared.event.Event.TheVariants as event
 use Rattle.alp_journal.specs.declared.log.Item.{Item}
-use Rattle.alp_journal.specs.Opening.{Start}
-use Rattle.alp_node.specs.Nodes as node
-use Rattle.alp_node.specs.Nodes.{AreLive}
+use Rattle.alp_node.specs.Nodes.{AreLive, start_in}
 use Rattle.alp_script.specs.declared.numbered.NumberedLine.{NumberedLine}
 use Rattle.alp_client.specs.Crowd.{Crowd}
 use Rattle.alp_client.specs.Crowds.{new_crowd, client_at}
 use Rattle.alp_history.specs.RunLogs.{item_of}
 use Rattle.alp_top.specs.Turns.{Turn, lists_in, own_in, sent_in, turns_text}
 use Rattle.alp_top.specs.Plays.{Plays, AreRecorded}
-use Rattle.alp_top.specs.Servers.{Server, IsOn, start_in}
+use Rattle.alp_vault.specs.declared.vault.Vault.{Ghosts}
+use Rattle.alp_node.specs.NodeStates.{NodeState}
+use Rattle.alp_top.specs.Servers.{IsOn, state_of}
 use Rattle.alp_top.specs.Steps.{InStep, HasSaid}
 
--- a new server 1, alone, which holds nothing, in its first epoch and with clock 0, on a volume of 16,384 home pages and
--- two log areas of 2,048 pages
-pub record IsNewOpening (o : Start) : Type 0 where
-  pub sizes : o.sizes ≡ record { home = 16384; area = 2048 }
-  pub server : o.server ≡ 1
-  pub servers : o.servers ≡ 1
-  pub epoch : o.epoch ≡ 1
-  pub clock : o.clock ≡ 0
-  pub cells : o.cells ≡ map.empty
-  pub ready : o.ready ≡ []
-  pub decisions : o.decisions ≡ []
-
--- the lines so far, played on a new server
-pub record HasPlayed (lines : List NumberedLine) (c : Crowd) (n : Server) (vs : List (Vec Item Global)) (printed : List ℕ) : Type 0 where
-  pub step : InStep c n
-  pub opening : IsNewOpening (start_in n)
+-- the lines so far, played on a server that did nothing before
+pub record HasPlayed {V : Type 0} (G : Ghosts V) (lines : List NumberedLine) (c : Crowd) (n : NodeState V) (vs : List (Vec Item Global)) (printed : List ℕ) : Type 0 where
+  pub step : InStep G c n
   pub turns : List Turn
   pub plays : Plays new_crowd lines turns c
   pub places : length vs ≡ 17
@@ -43,15 +29,24 @@ pub record HasPlayed (lines : List NumberedLine) (c : Crowd) (n : Server) (vs : 
   pub recorded : AreRecorded 0 (sent_in turns) n.journal
   pub few : length n.journal ≤ 2 * length lines
 
--- behind these entries each of these transactions times out
-pub record HasTimedOut (calls : List Entry) (live : List TransId) (n : Server) : Type 0 where
-  pub on : IsOn n
+-- the same server, behind whose entries of before each of these transactions times out
+pub record HasTimedOut {V : Type 0} (G : Ghosts V) (before : NodeState V) (calls : List Entry) (live : List TransId) (n : NodeState V) : Type 0 where
+  pub on : IsOn G n
+  pub opening : n.opening ≡ before.opening
+  pub start : start_in G n ≡ start_in G before
   pub ends : List Entry
   pub journal : n.journal ≡ calls ++ ends
   pub ended : list_map (λ e. e.event) ends ≡ list_map event.Timeout live
 
 -- each transaction that was live is over
-pub record IsAtEnd (before now : Server) : Type 0 where
+pub record IsAtEnd {V : Type 0} (G : Ghosts V) (before now : NodeState V) : Type 0 where
   pub live : List TransId
-  pub left : AreLive (node.state_of (start_in before) before.journal) live
-  pub ended : HasTimedOut before.journal live now
+  pub left : AreLive (state_of G before) live
+  pub ended : HasTimedOut G before before.journal live now
+
+-- all lines were played on the first of these servers, and then each transaction that was left timed out
+pub record HasPlayedOut {V : Type 0} (G : Ghosts V) (lines : List NumberedLine) (first last : NodeState V) (c : Crowd) (vs : List (Vec Item Global)) (printed : List ℕ) : Type 0 where
+  pub before : NodeState V
+  pub played : HasPlayed G lines c before vs printed
+  pub opening : last.opening ≡ first.opening
+  pub ended : IsAtEnd G before last

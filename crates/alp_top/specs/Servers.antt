@@ -1,49 +1,63 @@
--- The server of a run: one whose vault is in memory, and which nobody stops.
-use Rattle.std.specs.Prelude.{◌≡◌, ◌≤◌, false, length}
+-- The server of a run: server 1, alone, up, which nobody stops, and whose vault tells what it holds.
+use Rattle.std.specs.Prelude.{◌≡◌, ◌≤◌, false, IsTrue, List, [], ◌∷◌, ◌++◌, Option, is_some, Result, OnOk, IsErrOf}
+use Rattle.alp_base.specs.Causes.{Rose}
 use Rattle.alp_base.specs.declared.allowance.Allowance.TheVariants.{Free}
-use Rattle.std.specs.FinMap as map
-use Rattle.alp_base.specs.Notes.{Notes}
-use Rattle.alp_fields.specs.ClockNote.{clock_name, clock_form}
-use Rattle.alp_vault.specs.MemVault.{held_by}
-use Rattle.alp_vault.specs.declared.mem_vault.MemVault.{MemVault}
-use Rattle.alp_vault.specs.contracts.mem_vault.MemVaultVault.TheImpl as mem_vault
-use Rattle.alp_journal.specs.Opening.{Start}
+use Rattle.alp_files.specs.declared.reply.Reply.{Reply}
+use Rattle.alp_vault.specs.Vault.{IsSameVault}
+use Rattle.alp_vault.specs.declared.vault.Vault.{Ghosts}
 use Rattle.alp_journal.specs.Along.{Along}
 use Rattle.alp_journal.specs.State.{State, opened}
+use Rattle.alp_journal.specs.declared.act.Act.{Act}
 use Rattle.alp_journal.specs.declared.entry.Entry.{Entry}
+use Rattle.alp_journal.specs.declared.event.Event.{Event}
 use Rattle.alp_journal.specs.Moves.{next, stops}
 use Rattle.alp_journal.specs.Answered.{IsAnsweredEntry}
 use Rattle.alp_node.specs.Nodes as node
+use Rattle.alp_node.specs.Nodes.{IsConsistent, start_in}
 use Rattle.alp_node.specs.NodeStates.{NodeState}
-
-abbrev pub Server : Type 0
-Server = NodeState MemVault
-
--- what it was started on
-abbrev pub start_in : Server → Start
-start_in n = node.start_in mem_vault.ghosts n
+use Rattle.alp_node.specs.Steps.{is_call}
+use Rattle.alp_top.specs.declared.fault.PlayFault.{PlayFault}
+use Rattle.alp_top.specs.declared.fault.PlayFault.TheVariants as fault
 
 -- what its journal says
-abbrev pub state_of : Server → State
-state_of n = node.state_of (start_in n) n.journal
-
-abbrev pub IsConsistent : Server → Type 0
-IsConsistent n = node.IsConsistent mem_vault.ghosts n
-
--- the notes of a new vault: that of its first epoch and of clock 0
-abbrev pub new_notes : Notes
-new_notes = map.insert map.empty clock_name (clock_form.spell (record { epoch = 1; clock = 0 }))
+abbrev pub state_of : {V : Type 0} → Ghosts V → NodeState V → State
+state_of G n = node.state_of (start_in G n) n.journal
 
 -- an entry that has its cause, where no device failed or stopped
 abbrev pub IsDone : State → Entry → Type 0
 IsDone s e = (stops e ≡ false) × IsAnsweredEntry false s e
 
--- It is what its journal says, it is up and not to be stopped, its clock went no further than its journal, its device did
--- its work in each entry, and it was started on a new vault.
-pub record IsOn (n : Server) : Type 0 where
-  pub kept : IsConsistent n
+-- it is what its journal says, and its device did its work in each entry
+pub record IsOn {V : Type 0} (G : Ghosts V) (n : NodeState V) : Type 0 where
+  pub kept : IsConsistent G n
+  pub tells : IsTrue (G.tells n.kept.vault)
   pub up : n.kept.is_down ≡ false
-  pub free : n.kept.vault.allowance ≡ Free
-  pub early : n.kept.clock ≤ length n.journal
-  pub answered : Along next IsDone (opened (start_in n)) n.journal
-  pub notes : (held_by n.opening.vault.value).notes ≡ new_notes
+  pub free : G.allowance n.kept.vault ≡ Free
+  pub first : n.kept.server ≡ 1
+  pub alone : G.servers n.opening.vault.value ≡ 1
+  pub answered : Along next IsDone (opened (start_in G n)) n.journal
+
+-- What a call leaves of the vault of a server, whether it went well or not: it is the vault that it was, and its count of faults
+-- did not fall: it stayed where the call went well, and rose where the device failed. Nobody stops it.
+pub record HasGone {V T : Type 0} (G : Ghosts V) (old new : V) (result : Result T PlayFault) : Type 0 where
+  pub same : IsSameVault G.tells G.volume G.server G.servers old new
+  pub free : G.allowance old ≡ Free → G.allowance new ≡ Free
+  pub later : G.faults old ≤ G.faults new
+  pub still : OnOk result (G.faults new ≡ G.faults old)
+  pub failed : IsErrOf result fault.Device → Rose (G.faults old) (G.faults new)
+
+-- a call that only looks: what the vault holds stays, and where it went well the vault serves on
+pub record HasLooked {V T : Type 0} (G : Ghosts V) (old new : V) (result : Result T PlayFault) : Type 0 where
+  pub held : G.held new ≡ G.held old
+  pub allowance : G.allowance new ≡ G.allowance old
+  pub serves : OnOk result (IsTrue (G.serves new))
+
+-- one event was answered so: one entry more, and the device did its work
+pub record HasStepped {V : Type 0} (G : Ghosts V) (old new : NodeState V) (e : Event) (r : Option Reply) : Type 0 where
+  pub on : IsOn G new
+  pub opening : new.opening ≡ old.opening
+  pub start : start_in G new ≡ start_in G old
+  pub acts : List Act
+  pub journal : new.journal ≡ old.journal ++ (record { event = e; reply = r; acts = acts }) ∷ []
+  pub done : IsDone (state_of G old) (record { event = e; reply = r; acts = acts })
+  pub replies : is_some r ≡ is_call e

@@ -1,77 +1,130 @@
 -- How a run ended: its code, its text, and what holds where it ended so.
-use Rattle.std.specs.Prelude.{◌≡◌, ℕ, Bool, true, false, nat_eq, List, [], ◌∷◌, ◌++◌, codes}
+use Rattle.std.specs.Prelude.{◌≡◌, ◌⊎◌, ℕ, Bool, true, false, nat_eq, List, [], ◌∷◌, ◌++◌, codes}
 use Rattle.std.specs.Fmt.{decimal}
 use Rattle.std.specs.Cmp.Lexicographic.{pointwise}
 use Rattle.alp_base.specs.Causes.{Rose}
+use Rattle.alp_disk.specs.declared.disk.Disk.{Ghosts}
+use Rattle.alp_disk.specs.declared.fuse.Fuse.{Fuse}
+use Rattle.alp_store.specs.StoreStates.{StoreOf}
 use Rattle.alp_top.specs.Logs.{Log}
+use Rattle.alp_top.specs.declared.fault.RunFault.{RunFault}
+use Rattle.alp_top.specs.declared.fault.RunFault.TheVariants as fault
 use Rattle.alp_top.specs.declared.status.Status.{Status}
 use Rattle.alp_top.specs.declared.status.Status.TheVariants as status
 
-abbrev pub code_of : Status → ℕ
-code_of (status.Done log) = 0
-code_of status.BadWords = 1
-code_of (status.BadScript line) = 2
-code_of status.ReadFault = 3
-code_of (status.WriteFault log) = 4
-code_of status.OutOfMemory = 6
+-- the vault of a run's server, on a device that the run may stop
+abbrev pub Kept : (D : Type 0) → Ghosts D → Type 0
+Kept D g = StoreOf (Fuse D g)
 
-abbrev pub status_said : Status → List ℕ
-status_said (status.Done log) = []
-status_said status.BadWords = codes "alpine: bad words"
-status_said (status.BadScript line) = codes "alpine: bad script line " ++ decimal line
-status_said status.ReadFault = codes "alpine: read fault"
-status_said (status.WriteFault log) = codes "alpine: write fault"
-status_said status.OutOfMemory = codes "alpine: out of memory"
+module _ {D : Type 0} {g : Ghosts D} where
+  abbrev pub code_of : Status D g → ℕ
+  code_of (status.Done log) = 0
+  code_of status.BadWords = 1
+  code_of (status.BadScript line) = 2
+  code_of status.ReadFault = 3
+  code_of (status.WriteFault log) = 4
+  code_of (status.DiskFault server) = 5
+  code_of status.OutOfMemory = 6
+  code_of (status.TooLong limit) = 7
+  code_of (status.NotAVolume server found) = 8
+  code_of (status.Damaged server place) = 9
+
+  abbrev pub status_said : Status D g → List ℕ
+  status_said (status.Done log) = []
+  status_said status.BadWords = codes "alpine: bad words"
+  status_said (status.BadScript line) = codes "alpine: bad script line " ++ decimal line
+  status_said status.ReadFault = codes "alpine: read fault"
+  status_said (status.WriteFault log) = codes "alpine: write fault"
+  status_said (status.DiskFault server) = codes "alpine: disk fault server " ++ decimal server
+  status_said status.OutOfMemory = codes "alpine: out of memory"
+  status_said (status.TooLong limit) = codes "alpine: too long " ++ decimal limit
+  status_said (status.NotAVolume server found) = codes "alpine: not a volume server " ++ decimal server
+  status_said (status.Damaged server place) = codes "alpine: damaged server " ++ decimal server ++ codes " place " ++ decimal place
+
+  -- how a run ended that the bay or the disk of server 1 ended
+  abbrev pub ended_by : RunFault → Status D g
+  ended_by fault.Bay = status.DiskFault 0
+  ended_by fault.Disk = status.DiskFault 1
+  ended_by fault.OutOfMemory = status.OutOfMemory
+  ended_by fault.EpochEnd = status.TooLong 4294967295
+  ended_by (fault.NotAVolume found) = status.NotAVolume 1 found
+  ended_by (fault.Damaged place) = status.Damaged 1 place
+
+  -- where the script was played and the report is written, of the log
+  abbrev pub OnDone : Status D g → (Log (Kept D g) → Type 0) → Type 0
+  OnDone (status.Done log) P = P log.value
+  OnDone _ P = Unit {0}
+
+  -- the script was played and the report cut off, of the log
+  abbrev pub OnWriteFault : Status D g → (Log (Kept D g) → Type 0) → Type 0
+  OnWriteFault (status.WriteFault log) P = P log.value
+  OnWriteFault _ P = Unit {0}
+
+  abbrev pub is_bad_words : Status D g → Bool
+  is_bad_words status.BadWords = true
+  is_bad_words _ = false
+
+  abbrev pub OnBadWords : Status D g → Type 0 → Type 0
+  OnBadWords status.BadWords P = P
+  OnBadWords _ P = Unit {0}
+
+  abbrev pub OnBadScript : Status D g → (ℕ → Type 0) → Type 0
+  OnBadScript (status.BadScript line) P = P line
+  OnBadScript _ P = Unit {0}
+
+  abbrev pub OnReadFault : Status D g → Type 0 → Type 0
+  OnReadFault status.ReadFault P = P
+  OnReadFault _ P = Unit {0}
+
+  -- where no report was begun
+  abbrev pub OnUnwritten : Status D g → Type 0 → Type 0
+  OnUnwritten (status.Done log) P = Unit {0}
+  OnUnwritten (status.WriteFault log) P = Unit {0}
+  OnUnwritten _ P = P
+
+  -- where no disk was asked for
+  abbrev pub OnUntaken : Status D g → Type 0 → Type 0
+  OnUntaken status.BadWords P = P
+  OnUntaken (status.BadScript line) P = P
+  OnUntaken status.ReadFault P = P
+  OnUntaken _ P = Unit {0}
+
+  -- Where the bay or the disk of server 1 ended the run, of the fault. Server 0 is the bay, and the limit of an epoch is its last.
+  abbrev pub OnRunFault : Status D g → (RunFault → Type 0) → Type 0
+  OnRunFault (status.DiskFault server) P = ((server ≡ 0) × P fault.Bay) ⊎ ((server ≡ 1) × P fault.Disk)
+  OnRunFault (status.TooLong limit) P = (limit ≡ 4294967295) × P fault.EpochEnd
+  OnRunFault (status.NotAVolume server found) P = (server ≡ 1) × P (fault.NotAVolume found)
+  OnRunFault (status.Damaged server place) P = (server ≡ 1) × P (fault.Damaged place)
+  OnRunFault _ P = Unit {0}
+
+  -- where memory was wanting
+  abbrev pub OnMemory : Status D g → Type 0 → Type 0
+  OnMemory status.OutOfMemory P = P
+  OnMemory _ P = Unit {0}
+
+  -- the source's count of faults rose where a read fault is told, and stayed in every other case
+  abbrev pub IsReadFaultTold : Status D g → ℕ → ℕ → Type 0
+  IsReadFaultTold status.ReadFault before now = Rose before now
+  IsReadFaultTold _ before now = now ≡ before
+
+  -- the sink's count of faults rose where a write fault is told, and stayed in every other case
+  abbrev pub IsWriteFaultTold : Status D g → ℕ → ℕ → Type 0
+  IsWriteFaultTold (status.WriteFault log) before now = Rose before now
+  IsWriteFaultTold _ before now = now ≡ before
+
+  -- the report is written, or its writing failed
+  abbrev pub IsHandedOver : Status D g → Type 0
+  IsHandedOver (status.Done log) = Unit {0}
+  IsHandedOver (status.WriteFault log) = Unit {0}
+  IsHandedOver _ = ⊥
+
+  -- the report is written, or there was no memory
+  abbrev pub IsPlayedOrMemory : Status D g → Type 0
+  IsPlayedOrMemory (status.Done log) = Unit {0}
+  IsPlayedOrMemory status.OutOfMemory = Unit {0}
+  IsPlayedOrMemory _ = ⊥
 
 -- the words of a run are the one word `play`
 abbrev pub are_play : List (List ℕ) → Bool
 are_play (w ∷ []) = pointwise nat_eq w (codes "play")
 are_play _ = false
-
-abbrev pub is_bad_words : Status → Bool
-is_bad_words status.BadWords = true
-is_bad_words _ = false
-
--- where the script was played and the report is written, of the log
-abbrev pub OnDone : Status → (Log → Type 0) → Type 0
-OnDone (status.Done log) P = P log.value
-OnDone _ P = Unit {0}
-
-abbrev pub OnBadWords : Status → Type 0 → Type 0
-OnBadWords status.BadWords P = P
-OnBadWords _ P = Unit {0}
-
-abbrev pub OnBadScript : Status → (ℕ → Type 0) → Type 0
-OnBadScript (status.BadScript line) P = P line
-OnBadScript _ P = Unit {0}
-
-abbrev pub OnReadFault : Status → Type 0 → Type 0
-OnReadFault status.ReadFault P = P
-OnReadFault _ P = Unit {0}
-
--- the script was played and the report cut off, of the log
-abbrev pub OnWriteFault : Status → (Log → Type 0) → Type 0
-OnWriteFault (status.WriteFault log) P = P log.value
-OnWriteFault _ P = Unit {0}
-
--- the source's count of faults rose where a read fault is told, and stayed in every other case
-abbrev pub IsReadFaultTold : Status → ℕ → ℕ → Type 0
-IsReadFaultTold status.ReadFault before now = Rose before now
-IsReadFaultTold _ before now = now ≡ before
-
--- the sink's count of faults rose where a write fault is told, and stayed in every other case
-abbrev pub IsWriteFaultTold : Status → ℕ → ℕ → Type 0
-IsWriteFaultTold (status.WriteFault log) before now = Rose before now
-IsWriteFaultTold _ before now = now ≡ before
-
--- the report is written, or there was no memory
-abbrev pub IsPlayedOrMemory : Status → Type 0
-IsPlayedOrMemory (status.Done log) = Unit {0}
-IsPlayedOrMemory status.OutOfMemory = Unit {0}
-IsPlayedOrMemory _ = ⊥
-
--- where no report was begun
-abbrev pub OnUnwritten : Status → Type 0 → Type 0
-OnUnwritten (status.Done log) P = Unit {0}
-OnUnwritten (status.WriteFault log) P = Unit {0}
-OnUnwritten _ P = P

@@ -12,7 +12,7 @@ use Rattle.alp_journal.specs.declared.log.Item.{Item}
 use Rattle.alp_history.specs.Items.{Sent, stamps_told}
 use Rattle.alp_history.specs.Items as items
 use Rattle.alp_history.specs.Handed.{HaveSeen}
-use Rattle.alp_history.specs.RunLogs.{item_of, sent_of}
+use Rattle.alp_history.specs.RunLogs.{item_of}
 use Rattle.alp_script.specs.declared.numbered.NumberedLine.{NumberedLine}
 use Rattle.alp_script.specs.Named.{client_named}
 use Rattle.alp_client.specs.declared.client.Client.{Client}
@@ -23,7 +23,10 @@ use Rattle.alp_client.specs.Crowd.{Crowd}
 use Rattle.alp_client.specs.Crowds.{client_at, hears, Sends}
 use Rattle.alp_top.specs.Turns.{Turn, lists_in, own_in, sent_in, turns_text}
 use Rattle.alp_top.specs.Plays.{Records, AreRecorded, PlaysLine}
-use Rattle.alp_top.specs.Servers.{Server, IsOn, start_in, state_of}
+use Rattle.alp_vault.specs.declared.vault.Vault.{Ghosts}
+use Rattle.alp_node.specs.NodeStates.{NodeState}
+use Rattle.alp_node.specs.Nodes.{start_in}
+use Rattle.alp_top.specs.Servers.{IsOn, state_of}
 
 -- client and server know the session, or neither does
 abbrev pub SameSession : ℕ → Option Greeted → Option Session → Type 0
@@ -38,10 +41,10 @@ pub record IsInStep (s : State) (k : ℕ) (c : Client) : Type 0 where
   pub told : c.told.ts ≤ s.holder.clock
 
 -- all clients are in step with a server that goes on
-pub record InStep (c : Crowd) (n : Server) : Type 0 where
-  pub on : IsOn n
+pub record InStep {V : Type 0} (G : Ghosts V) (c : Crowd) (n : NodeState V) : Type 0 where
+  pub on : IsOn G n
   pub places : length c.places ≡ 17
-  pub each : (k : ℕ) → IsInStep (state_of n) k (client_at c k)
+  pub each : (k : ℕ) → IsInStep (state_of G n) k (client_at c k)
 
 -- ---- what a client's list says of it
 
@@ -73,9 +76,10 @@ pub record HasSaid (k : ℕ) (c : Client) (xs : List items.Item) : Type 0 where
 -- ---- what a line does
 
 -- one item of a client: the frame went out, its entry stands last in the journal, and the client heard what it was handed
-pub record Exchanged (old new : Crowd) (before after : Server) (k : ℕ) (l : NumberedLine) (frame : NumberedCall) (over : Bool) (x : Item) : Type 0 where
-  pub step : InStep new after
-  pub start : start_in after ≡ start_in before
+pub record Exchanged {V : Type 0} (G : Ghosts V) (old new : Crowd) (before after : NodeState V) (k : ℕ) (l : NumberedLine) (frame : NumberedCall) (over : Bool) (x : Item) : Type 0 where
+  pub step : InStep G new after
+  pub opening : after.opening ≡ before.opening
+  pub start : start_in G after ≡ start_in G before
   pub number : x.line ≡ l.number
   pub sent : IsOfFrame k frame x
   pub heard : hears old k l.line x.reply ≡ (new, over)
@@ -85,9 +89,10 @@ pub record Exchanged (old new : Crowd) (before after : Server) (k : ℕ) (l : Nu
   pub recorded : Records (length before.journal) (k, x) entry
 
 -- a line's items, so many at most, each with an entry of its own behind those before
-pub record Did (old new : Crowd) (before after : Server) (k : ℕ) (l : NumberedLine) (most : ℕ) (xs : List Item) : Type 0 where
-  pub step : InStep new after
-  pub start : start_in after ≡ start_in before
+pub record Did {V : Type 0} (G : Ghosts V) (old new : Crowd) (before after : NodeState V) (k : ℕ) (l : NumberedLine) (most : ℕ) (xs : List Item) : Type 0 where
+  pub step : InStep G new after
+  pub opening : after.opening ≡ before.opening
+  pub start : start_in G after ≡ start_in G before
   pub number : AllByRecursion (λ (x : Item). x.line ≡ l.number) xs
   pub sends : Sends old k l.line false xs new
   pub said : (front : List items.Item) → HasSaid k (client_at old k) front → HasSaid k (client_at new k) (front ++ list_map item_of xs)
@@ -98,9 +103,10 @@ pub record Did (old new : Crowd) (before after : Server) (k : ℕ) (l : Numbered
   pub few : length entries ≤ most
 
 -- what a line adds to the lists of the clients, to the report and to the journal
-pub record Adds (old new : Crowd) (before after : Server) (l : NumberedLine) (lists_before lists_after : List (Vec Item Global)) (text_before text_after : List ℕ) : Type 0 where
-  pub step : InStep new after
-  pub start : start_in after ≡ start_in before
+pub record Adds {V : Type 0} (G : Ghosts V) (old new : Crowd) (before after : NodeState V) (l : NumberedLine) (lists_before lists_after : List (Vec Item Global)) (text_before text_after : List ℕ) : Type 0 where
+  pub step : InStep G new after
+  pub opening : after.opening ≡ before.opening
+  pub start : start_in G after ≡ start_in G before
   pub turns : List Turn
   pub plays : PlaysLine old l (client_named l.line) turns new
   pub places : length lists_after ≡ length lists_before

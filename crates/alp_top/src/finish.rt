@@ -1,26 +1,41 @@
 //! The end of a run: its log and its report.
-ghost use Rattle.std.specs.Prelude.{◌≡◌, ◌+◌, ◌++◌, ◌≤◌, length, List, IfOk, OnOk};
-ghost use Rattle.alp_script.specs.declared.numbered.NumberedLine.{NumberedLine};
-ghost use Rattle.alp_script.specs.Accepted.{RisesFrom};
-ghost use Rattle.alp_top.specs.Headline.{IsRun};
+ghost use Rattle.std.specs.Prelude.{◌≡◌, ◌-◌, ◌+◌, ◌++◌, ◌∷◌, [], ◌≤◌, length, IsTrue, IfOk, OnOk};
+ghost use Rattle.alp_base.specs.declared.allowance.Allowance.TheVariants.{Free};
+ghost use Rattle.alp_files.specs.Sound.{AreSound};
+ghost use Rattle.alp_report.specs.Reports.{summary_text};
+ghost use Rattle.alp_script.specs.Accepted.{IsAccepted};
+ghost use Rattle.alp_top.specs.Endings.{IsEnding, IsServerLog, IsEnded};
 ghost use Rattle.alp_top.specs.Plays.{ranks_from};
-ghost use Rattle.alp_top.specs.Reports.{report_of, ending_text};
-ghost use Rattle.alp_top.specs.Runs.{HasPlayed, HasTimedOut, IsNewOpening, IsAtEnd};
-ghost use Rattle.alp_top.specs.Servers.{IsOn, start_in};
+ghost use Rattle.alp_top.specs.Runs.{HasPlayed, HasPlayedOut};
+ghost use Rattle.alp_top.specs.Servers.{IsOn, HasGone, HasLooked};
 
-use crate::play::PlayedRun;
-use alp_base::{OutOfMemory, TransId};
-use alp_journal::{Entry, Event, RunLog, ServerLog};
+use crate::fault::PlayFault;
+use crate::owners::owner_records;
+use crate::play::{PlayedRun, play};
+use crate::settle::settle;
+use alp_base::OutOfMemory;
+use alp_journal::{Entry, Journal, RunLog, ServerLog};
 use alp_node::{Node, Opened};
 use alp_report::{Summary, put_summary};
-use alp_vault::MemVault;
+use alp_script::NumberedLine;
+use alp_vault::Vault;
 use std::alloc::Global;
 
 /// A run that is over, and the text of its report.
 #[derive(Drop)]
-pub struct Ended {
-    pub log: RunLog<Opened<MemVault>>,
+pub struct Ended<V: Vault> {
+    pub log: RunLog<Opened<V>>,
     pub text: Vec<u8>,
+}
+
+/// A server's numbers behind its last event.
+#[derive(Clone, Copy)]
+struct Ending {
+    server: u8,
+    epoch: u32,
+    clock: u64,
+    committed: u32,
+    aborted: u32,
 }
 
 // The entries of one server follow each other.
@@ -36,64 +51,57 @@ fn ranks(alloc: Global, entries: &[Entry]) -> Result<Vec<u64>, OutOfMemory>
     Ok(ranks)
 }
 
-// Each of these transactions times out.
-fn time_out(node: &mut Node<MemVault>, live: &[TransId]) -> Result<(), OutOfMemory>
-    requires on { IsOn node.old }
-    requires room { length node.old.journal + length live.now ≤ 65536 }
-    ensures timed { OnOk result (HasTimedOut node.old.journal live.now node.new) }
-    ensures start { OnOk result (start_in node.new ≡ start_in node.old) }
+fn ending_of<V: Vault>(node: &Node<V>) -> Ending
+    ensures { IsEnding node.now result }
 {
-    for trans in live {
-        node.step(Event::Timeout { trans: *trans })?;
-        node.knows();
-    }
-    Ok(())
-}
-
-// Each transaction that still runs times out.
-fn settle(alloc: Global, node: &mut Node<MemVault>) -> Result<(), OutOfMemory>
-    requires on { IsOn node.old }
-    requires short { length node.old.journal ≤ 2000 }
-    ensures ended { OnOk result (IsAtEnd node.old node.new) }
-    ensures start { OnOk result (start_in node.new ≡ start_in node.old) }
-{
-    let live = node.live(alloc)?;
-    time_out(node, &live)
-}
-
-// What the server holds, and how its transactions ended.
-fn put_ending(alloc: Global, text: &mut Vec<u8>, node: &Node<MemVault>) -> Result<(), OutOfMemory>
-    requires { IsOn node.now }
-    ensures { OnOk result (text.new.items ≡ text.old.items ++ ending_text node.now) }
-{
-    let summary = Summary {
+    Ending {
         server: node.server(),
         epoch: node.epoch(),
         clock: node.clock(),
-        files: node.vault().cells(),
         committed: node.committed(),
         aborted: node.begun().saturating_sub(node.committed()),
-    };
-    put_summary(alloc, text, &summary)
+    }
 }
 
-/// Ends a run that has played all lines.
-pub fn finish(alloc: Global, run: PlayedRun) -> Result<Ended, OutOfMemory>
-    requires short { length run.node.journal ≤ 2000 }
-    requires played { (lines : List NumberedLine) × HasPlayed lines run.clients run.node run.lists.items run.text.items }
-    ensures { (lines : List NumberedLine) → RisesFrom 1 lines → HasPlayed lines run.clients run.node run.lists.items run.text.items → IfOk result (λ e. IsRun lines e.log × (e.text.items ≡ report_of lines e.log)) }
+// What the server holds, and how its transactions ended.
+fn put_ending<V: Vault>(
+    alloc: Global,
+    text: &mut Vec<u8>,
+    vault: &mut V,
+    ending: Ending,
+) -> Result<(), PlayFault>
+    requires serving { IsTrue (V.serves vault.old) }
+    requires free { V.allowance vault.old ≡ Free }
+    requires tells { IsTrue (V.tells vault.old) }
+    ensures gone { HasGone V.Vault vault.old vault.new result }
+    ensures looked { HasLooked V.Vault vault.old vault.new result }
+    ensures text { OnOk result (text.new.items ≡ text.old.items ++ summary_text ending.server ending.epoch ending.clock (V.held vault.old).cells ending.committed ending.aborted) }
 {
-    let PlayedRun {
-        clients: _,
-        mut node,
-        lists,
-        mut text,
-    } = run;
-    settle(alloc, &mut node)?;
-    put_ending(alloc, &mut text, &node)?;
-    let ranks = ranks(alloc, node.journal().entries())?;
-    let server = node.server();
-    let (opening, _, journal) = node.into_parts();
+    let owners = owner_records(alloc, vault)?;
+    vault.knows();
+    let summary = Summary {
+        server: ending.server,
+        epoch: ending.epoch,
+        clock: ending.clock,
+        files: vault.file_count(),
+        owners: &owners,
+        committed: ending.committed,
+        aborted: ending.aborted,
+    };
+    put_summary(text, &summary)?;
+    Ok(())
+}
+
+// The logs of all servers: so far of one.
+fn server_logs<V: Vault>(
+    alloc: Global,
+    server: u8,
+    opening: Opened<V>,
+    journal: Journal,
+) -> Result<Vec<ServerLog<Opened<V>>>, OutOfMemory>
+    ensures { IfOk result (λ v. IsServerLog server opening journal v.items) }
+{
+    let ranks = ranks(alloc, journal.entries())?;
     let mut servers = Vec::new(alloc);
     servers.push(ServerLog {
         server,
@@ -101,11 +109,65 @@ pub fn finish(alloc: Global, run: PlayedRun) -> Result<Ended, OutOfMemory>
         journal,
         ranks,
     })?;
-    Ok(Ended {
-        log: RunLog {
-            servers,
-            clients: lists,
-        },
-        text,
-    })
+    Ok(servers)
+}
+
+// Plays all lines, and lets time run out for the transactions that are left.
+fn play_out<V: Vault>(
+    alloc: Global,
+    lines: &[NumberedLine],
+    node: &mut Node<V>,
+) -> Result<PlayedRun, PlayFault>
+    requires accepted { IsAccepted lines.now }
+    requires on { IsOn V.Vault node.old }
+    requires idle { node.old.journal ≡ [] }
+    ensures gone { HasGone V.Vault node.old.kept.vault node.new.kept.vault result }
+    ensures played { IfOk result (λ run. HasPlayedOut V.Vault lines.now node.old node.new run.clients run.lists.items run.text.items) }
+{
+    let run = play(alloc, lines, node)?;
+    settle(alloc, node)?;
+    Ok(run)
+}
+
+/// Plays the lines on a server that did nothing yet, and ends it. Its vault comes back, and the log and the report where all
+/// was played.
+pub fn run_node<V: Vault>(
+    alloc: Global,
+    lines: &[NumberedLine],
+    node: Node<V>,
+) -> (V, Result<Ended<V>, PlayFault>)
+    requires accepted { IsAccepted lines.now }
+    requires on { IsOn V.Vault node }
+    requires idle { node.journal ≡ [] }
+    ensures gone { HasGone V.Vault node.kept.vault result.0 result.1 }
+    ensures ended { IfOk result.1 (λ e. IsEnded V.Vault lines.now node result.0 e.log e.text.items) }
+{
+    let mut node = node;
+    let played = play_out(alloc, lines, &mut node);
+    let ending = ending_of(&node);
+    node.knows();
+    let (opening, vault, journal) = node.into_parts();
+    let mut vault = vault;
+    let run = match played {
+        Ok(run) => run,
+        Err(fault) => return (vault, Err(fault)),
+    };
+    let PlayedRun {
+        clients: _,
+        lists,
+        mut text,
+    } = run;
+    if let Err(fault) = put_ending(alloc, &mut text, &mut vault, ending) {
+        return (vault, Err(fault));
+    }
+    match server_logs(alloc, ending.server, opening, journal) {
+        Ok(servers) => {
+            let log = RunLog {
+                servers,
+                clients: lists,
+            };
+            (vault, Ok(Ended { log, text }))
+        }
+        Err(OutOfMemory) => (vault, Err(PlayFault::OutOfMemory)),
+    }
 }

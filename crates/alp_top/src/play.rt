@@ -1,40 +1,34 @@
 //! Plays the lines of a script: the clients' calls, what the server answers, and the lines of the report.
 ghost use Rattle.std.specs.Prelude.{◌≡◌, ◌+◌, ◌<◌, ◌≤◌, [], ◌∷◌, ◌++◌, List, OnOk, IfOk, IsSome, length, get_or, map as list_map, Some, true, false};
 ghost use Rattle.std.specs.List.{AllByRecursion};
-ghost use Rattle.alp_base.specs.declared.faults.VaultFault.TheVariants as vault_fault;
 ghost use Rattle.alp_client.specs.Crowds.{client_at, asks};
 ghost use Rattle.alp_journal.specs.declared.log.Item.{Item as AnItem};
 ghost use Rattle.alp_node.specs.Nodes.{HasRoom};
-ghost use Rattle.alp_node.specs.declared.start.StartFault.TheVariants as start_fault;
 ghost use Rattle.alp_script.specs.Forms.{IsForm};
 ghost use Rattle.alp_script.specs.Order.{names_ours};
 ghost use Rattle.alp_script.specs.Accepted.{RisesFrom};
 ghost use Rattle.alp_top.specs.Turns.{Turn, lists_in, own_in, turns_text};
-ghost use Rattle.alp_top.specs.Runs.{HasPlayed, IsNewOpening};
-ghost use Rattle.alp_top.specs.Servers.{IsOn, start_in};
+ghost use Rattle.alp_top.specs.Runs.{HasPlayed};
+ghost use Rattle.alp_top.specs.Servers.{IsOn, HasGone};
 ghost use Rattle.alp_top.specs.Steps.{InStep, Exchanged, Did, Adds};
 
-use alp_base::{OutOfMemory, Sizes};
+use crate::fault::PlayFault;
+use crate::step::step;
+use alp_base::OutOfMemory;
 use alp_client::{Clients, NumberedCall};
 use alp_files::Call;
 use alp_journal::{Event, Item, Mark, Sent};
-use alp_node::{Node, StartFault};
+use alp_node::Node;
 use alp_report::put_line;
 use alp_script::NumberedLine;
-use alp_vault::MemVault;
+use alp_vault::Vault;
 use std::alloc::Global;
 
 /// The server of a run at this stage.
-const SERVER: u8 = 1;
+pub const SERVER: u8 = 1;
 
 /// One more than the greatest number of a client.
 const PLACES: usize = 17;
-
-/// The sizes of its volume.
-const VOLUME: Sizes = Sizes {
-    home: 16384,
-    area: 2048,
-};
 
 fn copied(call: &Call) -> Result<Call, OutOfMemory>
     ensures { IfOk result (λ copy. copy ≡ call.now) }
@@ -44,20 +38,21 @@ fn copied(call: &Call) -> Result<Call, OutOfMemory>
 }
 
 // A client sends what it asks for its line, and hears the reply: one item more. Gives whether the line is over.
-fn send(
+fn send<V: Vault>(
     clients: &mut Clients,
-    node: &mut Node<MemVault>,
+    node: &mut Node<V>,
     items: &mut Vec<Item>,
     client: u8,
     line: &NumberedLine,
     frame: NumberedCall,
-) -> Result<bool, OutOfMemory>
+) -> Result<bool, PlayFault>
     requires client { client ≤ 16 }
-    requires step { InStep clients.old node.old }
+    requires step { InStep V.Vault clients.old node.old }
     requires room { HasRoom node.old }
     requires form { IsForm line.now.line }
     requires asked { asks clients.old client line.now.line false ≡ Some frame }
-    ensures { IfOk result (λ over. (x : AnItem) × (items.new.items ≡ items.old.items ++ x ∷ []) × Exchanged clients.old clients.new node.old node.new client line.now frame over x) }
+    ensures gone { HasGone V.Vault node.old.kept.vault node.new.kept.vault result }
+    ensures sent { IfOk result (λ over. (x : AnItem) × (items.new.items ≡ items.old.items ++ x ∷ []) × Exchanged V.Vault clients.old clients.new node.old node.new client line.now frame over x) }
 {
     let NumberedCall {
         epoch,
@@ -66,13 +61,13 @@ fn send(
     } = frame;
     let place = node.journal().entries().len() as u32;
     let sent = copied(&call)?;
-    let reply = node.step(Event::Call {
+    let asked = Event::Call {
         client,
         epoch,
         number,
         call,
-    })?;
-    node.knows();
+    };
+    let reply = step(node, asked)?;
     let is_over = clients.hears(client, &line.line, &reply)?;
     items.push(Item {
         line: line.number,
@@ -91,20 +86,21 @@ fn send(
 }
 
 // What a client sends for a line whose greeting was answered.
-fn send_greeted(
+fn send_greeted<V: Vault>(
     alloc: Global,
     clients: &mut Clients,
-    node: &mut Node<MemVault>,
+    node: &mut Node<V>,
     items: &mut Vec<Item>,
     client: u8,
     line: &NumberedLine,
-) -> Result<(), OutOfMemory>
+) -> Result<(), PlayFault>
     requires client { client ≤ 16 }
-    requires step { InStep clients.old node.old }
+    requires step { InStep V.Vault clients.old node.old }
     requires room { HasRoom node.old }
     requires form { IsForm line.now.line }
     requires greeted { IsSome (client_at clients.old client).session }
-    ensures { OnOk result ((xs : List AnItem) × (items.new.items ≡ items.old.items ++ xs) × Did clients.old clients.new node.old node.new client line.now 1 xs) }
+    ensures gone { HasGone V.Vault node.old.kept.vault node.new.kept.vault result }
+    ensures did { OnOk result ((xs : List AnItem) × (items.new.items ≡ items.old.items ++ xs) × Did V.Vault clients.old clients.new node.old node.new client line.now 1 xs) }
 {
     if let Some(frame) = clients.asks(alloc, client, &line.line)? {
         send(clients, node, items, client, line, frame)?;
@@ -113,19 +109,20 @@ fn send_greeted(
 }
 
 // What a client sends for a line, and is handed.
-fn send_line(
+fn send_line<V: Vault>(
     alloc: Global,
     clients: &mut Clients,
-    node: &mut Node<MemVault>,
+    node: &mut Node<V>,
     items: &mut Vec<Item>,
     client: u8,
     line: &NumberedLine,
-) -> Result<(), OutOfMemory>
+) -> Result<(), PlayFault>
     requires client { client ≤ 16 }
-    requires step { InStep clients.old node.old }
+    requires step { InStep V.Vault clients.old node.old }
     requires room { length node.old.journal + 1 < 65536 }
     requires form { IsForm line.now.line }
-    ensures { OnOk result ((xs : List AnItem) × (items.new.items ≡ items.old.items ++ xs) × Did clients.old clients.new node.old node.new client line.now 2 xs) }
+    ensures gone { HasGone V.Vault node.old.kept.vault node.new.kept.vault result }
+    ensures did { OnOk result ((xs : List AnItem) × (items.new.items ≡ items.old.items ++ xs) × Did V.Vault clients.old clients.new node.old node.new client line.now 2 xs) }
 {
     let Some(frame) = clients.asks(alloc, client, &line.line)? else {
         return Ok(());
@@ -137,41 +134,44 @@ fn send_line(
 }
 
 // The line of a client, with its line of the report.
-fn play_own(
+fn play_own<V: Vault>(
     alloc: Global,
     clients: &mut Clients,
-    node: &mut Node<MemVault>,
+    node: &mut Node<V>,
     items: &mut Vec<Item>,
     text: &mut Vec<u8>,
     client: u8,
     line: &NumberedLine,
-) -> Result<(), OutOfMemory>
+) -> Result<(), PlayFault>
     requires client { client ≤ 16 }
-    requires step { InStep clients.old node.old }
+    requires step { InStep V.Vault clients.old node.old }
     requires room { length node.old.journal + 1 < 65536 }
     requires form { IsForm line.now.line }
-    ensures { OnOk result ((xs : List AnItem) × (items.new.items ≡ items.old.items ++ xs) × (text.new.items ≡ text.old.items ++ turns_text (record { line = line.now.number; client = client; items = xs } ∷ [])) × Did clients.old clients.new node.old node.new client line.now 2 xs) }
+    ensures gone { HasGone V.Vault node.old.kept.vault node.new.kept.vault result }
+    ensures did { OnOk result ((xs : List AnItem) × (items.new.items ≡ items.old.items ++ xs) × (text.new.items ≡ text.old.items ++ turns_text (record { line = line.now.number; client = client; items = xs } ∷ [])) × Did V.Vault clients.old clients.new node.old node.new client line.now 2 xs) }
 {
     let before = items.len();
     send_line(alloc, clients, node, items, client, line)?;
-    put_line(text, line.number, &items[before..])
+    put_line(text, line.number, &items[before..])?;
+    Ok(())
 }
 
 // A line, which adds nothing where it is a declaration.
-fn play_line(
+fn play_line<V: Vault>(
     alloc: Global,
     clients: &mut Clients,
-    node: &mut Node<MemVault>,
+    node: &mut Node<V>,
     lists: &mut Vec<Vec<Item>>,
     text: &mut Vec<u8>,
     line: &NumberedLine,
-) -> Result<(), OutOfMemory>
-    requires step { InStep clients.old node.old }
+) -> Result<(), PlayFault>
+    requires step { InStep V.Vault clients.old node.old }
     requires room { length node.old.journal + 1 < 65536 }
     requires form { IsForm line.now.line }
     requires ours { names_ours line.now.line ≡ true }
     requires places { length lists.old.items ≡ 17 }
-    ensures { OnOk result (Adds clients.old clients.new node.old node.new line.now lists.old.items lists.new.items text.old.items text.new.items) }
+    ensures gone { HasGone V.Vault node.old.kept.vault node.new.kept.vault result }
+    ensures adds { OnOk result (Adds V.Vault clients.old clients.new node.old node.new line.now lists.old.items lists.new.items text.old.items text.new.items) }
 {
     let Some(client) = line.line.client() else {
         clients.declares(&line.line);
@@ -189,39 +189,14 @@ fn play_line(
     )
 }
 
-/// A run that has played some lines.
+/// What the lines that were played left beside the server.
 #[derive(Drop)]
 pub struct PlayedRun {
     pub clients: Clients,
-    pub node: Node<MemVault>,
     /// What each client sent and was handed, at its number.
     pub lists: Vec<Vec<Item>>,
     /// The lines of the report so far.
     pub text: Vec<u8>,
-}
-
-// The one fault of a start on a vault in memory that holds no note.
-fn only_memory(fault: StartFault) -> OutOfMemory
-    requires { fault ≡ start_fault.Vault vault_fault.OutOfMemory }
-{
-    let _ = fault;
-    OutOfMemory
-}
-
-// A server on a vault that holds nothing, with the sizes that a new volume gets.
-fn new_node(alloc: Global) -> Result<Node<MemVault>, OutOfMemory>
-    ensures on { IfOk result IsOn }
-    ensures opening { IfOk result (λ n. IsNewOpening (start_in n)) }
-    ensures idle { IfOk result (λ n. n.journal ≡ []) }
-{
-    let vault = MemVault::new(alloc, VOLUME, SERVER, 1);
-    match Node::start(alloc, SERVER, 1, vault) {
-        Ok(node) => {
-            node.knows();
-            Ok(node)
-        }
-        Err((_, fault)) => Err(only_memory(fault)),
-    }
 }
 
 // A list for each number, which has nothing yet.
@@ -236,24 +211,30 @@ fn new_lists(alloc: Global) -> Result<Vec<Vec<Item>>, OutOfMemory>
     Ok(lists)
 }
 
-/// Plays all lines on a new server.
-pub fn play(alloc: Global, lines: &[NumberedLine]) -> Result<PlayedRun, OutOfMemory>
+/// Plays all lines on a server that did nothing yet. Where the device fails the rest is not played.
+pub fn play<V: Vault>(
+    alloc: Global,
+    lines: &[NumberedLine],
+    node: &mut Node<V>,
+) -> Result<PlayedRun, PlayFault>
     requires few { length lines.now ≤ 1000 }
     requires forms { AllByRecursion (λ l. IsForm l.line) lines.now }
     requires ours { AllByRecursion (λ l. names_ours l.line ≡ true) lines.now }
-    ensures short { IfOk result (λ run. length run.node.journal ≤ 2000) }
-    ensures played { IfOk result (λ run. HasPlayed lines.now run.clients run.node run.lists.items run.text.items) }
+    requires on { IsOn V.Vault node.old }
+    requires idle { node.old.journal ≡ [] }
+    ensures gone { HasGone V.Vault node.old.kept.vault node.new.kept.vault result }
+    ensures opening { IfOk result (λ _. node.new.opening ≡ node.old.opening) }
+    ensures short { IfOk result (λ _. length node.new.journal ≤ 2000) }
+    ensures played { IfOk result (λ run. HasPlayed V.Vault lines.now run.clients node.new run.lists.items run.text.items) }
 {
     let mut clients = Clients::new(alloc)?;
-    let mut node = new_node(alloc)?;
     let mut lists = new_lists(alloc)?;
     let mut text = Vec::new(alloc);
     for line in lines {
-        play_line(alloc, &mut clients, &mut node, &mut lists, &mut text, line)?;
+        play_line(alloc, &mut clients, node, &mut lists, &mut text, line)?;
     }
     Ok(PlayedRun {
         clients,
-        node,
         lists,
         text,
     })

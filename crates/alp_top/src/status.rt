@@ -1,39 +1,47 @@
 //! How a run ended.
-ghost use Rattle.std.specs.Prelude.{◌≡◌, IfOk, string_bytes};
-ghost use Rattle.alp_top.specs.declared.status.Status.TheVariants as variant;
-ghost use Rattle.alp_top.specs.Statuses.{code_of, status_said};
+ghost use Rattle.std.specs.Prelude.{◌≡◌, ◌++◌, codes, IfOk, string_bytes};
+ghost use Rattle.std.specs.Fmt.{decimal};
+ghost use Rattle.alp_top.specs.Statuses.{code_of, status_said, ended_by as ended_by_said};
 
+use crate::fault::RunFault;
+use crate::play::SERVER;
 use alp_base::OutOfMemory;
+use alp_disk::{Disk, Fuse};
 use alp_journal::RunLog;
 use alp_node::Opened;
-use alp_vault::MemVault;
+use alp_store::Store;
 use std::alloc::Global;
 use std::fmt::Write;
 use std::snapshot::Snapshot;
 
+/// What the server of a run was started on: its vault on a disk that may be stopped.
+pub type Kept<D> = Opened<Store<Fuse<D>>>;
+
 /// How a run ended. What was played is told by the log.
 #[derive(Drop)]
-pub enum Status {
+pub enum Status<D: Disk> {
     /// The script was played and the whole report is written.
-    Done {
-        log: Snapshot<RunLog<Opened<MemVault>>>,
-    },
+    Done { log: Snapshot<RunLog<Kept<D>>> },
     /// The words are not `play`.
     BadWords,
     /// The first line of the script that is outside the language, counted from 1.
-    BadScript {
-        line: u32,
-    },
+    BadScript { line: u32 },
     /// The script could not be read.
     ReadFault,
     /// The script was played, and the report could be written in part only.
-    WriteFault {
-        log: Snapshot<RunLog<Opened<MemVault>>>,
-    },
+    WriteFault { log: Snapshot<RunLog<Kept<D>>> },
+    /// The disk of this server failed, or with 0 the bay of disks.
+    DiskFault { server: u8 },
     OutOfMemory,
+    /// No epoch is left behind the last one, which is the limit.
+    TooLong { limit: u32 },
+    /// The disk of this server is not new and holds no volume of it; its first page begins so.
+    NotAVolume { server: u8, found: [u8; 24] },
+    /// The first page of the disk of this server that is not in its format, or 0 for a note.
+    Damaged { server: u8, place: u32 },
 }
 
-impl Status {
+impl<D: Disk> Status<D> {
     /// The exit code of the program.
     pub fn code(&self) -> u8
         ensures { result ≡ code_of self.now }
@@ -44,8 +52,38 @@ impl Status {
             Status::BadScript { line: _ } => 2,
             Status::ReadFault => 3,
             Status::WriteFault { log: _ } => 4,
+            Status::DiskFault { server: _ } => 5,
             Status::OutOfMemory => 6,
+            Status::TooLong { limit: _ } => 7,
+            Status::NotAVolume {
+                server: _,
+                found: _,
+            } => 8,
+            Status::Damaged {
+                server: _,
+                place: _,
+            } => 9,
         }
+    }
+}
+
+/// The disk of server 1, or the bay, ended a run.
+pub fn ended_by<D: Disk>(fault: RunFault) -> Status<D>
+    ensures { result ≡ ended_by_said fault }
+{
+    match fault {
+        RunFault::Bay => Status::DiskFault { server: 0 },
+        RunFault::Disk => Status::DiskFault { server: SERVER },
+        RunFault::OutOfMemory => Status::OutOfMemory,
+        RunFault::EpochEnd => Status::TooLong { limit: u32::MAX },
+        RunFault::NotAVolume { found } => Status::NotAVolume {
+            server: SERVER,
+            found,
+        },
+        RunFault::Damaged { place } => Status::Damaged {
+            server: SERVER,
+            place,
+        },
     }
 }
 
@@ -57,26 +95,46 @@ fn plain_text(alloc: Global, said: &str) -> Result<String, OutOfMemory>
     Ok(text)
 }
 
-fn line_text(alloc: Global, line: u32) -> Result<String, OutOfMemory>
-    ensures { IfOk result (λ text. string_bytes text ≡ status_said (variant.BadScript line)) }
+// A text that ends in a number.
+fn numbered_text(alloc: Global, said: &str, number: u32) -> Result<String, OutOfMemory>
+    ensures { IfOk result (λ text. string_bytes text ≡ said.now ++ decimal number) }
 {
     let mut text = String::new(alloc);
-    match write!(text, "alpine: bad script line {line}") {
+    text.push_str(said)?;
+    match write!(text, "{number}") {
+        Ok(()) => Ok(text),
+        Err(_) => Err(OutOfMemory),
+    }
+}
+
+fn damaged_text(alloc: Global, server: u8, place: u32) -> Result<String, OutOfMemory>
+    ensures { IfOk result (λ text. string_bytes text ≡ codes "alpine: damaged server " ++ decimal server ++ codes " place " ++ decimal place) }
+{
+    let mut text = String::new(alloc);
+    match write!(text, "alpine: damaged server {server} place {place}") {
         Ok(()) => Ok(text),
         Err(_) => Err(OutOfMemory),
     }
 }
 
 /// What the program says of the status on standard error: nothing where the run is done.
-pub fn status_text(alloc: Global, status: &Status) -> Result<String, OutOfMemory>
+pub fn status_text<D: Disk>(alloc: Global, status: &Status<D>) -> Result<String, OutOfMemory>
     ensures { IfOk result (λ text. string_bytes text ≡ status_said status.now) }
 {
     match status {
         Status::Done { log: _ } => plain_text(alloc, ""),
         Status::BadWords => plain_text(alloc, "alpine: bad words"),
-        Status::BadScript { line } => line_text(alloc, *line),
+        Status::BadScript { line } => numbered_text(alloc, "alpine: bad script line ", *line),
         Status::ReadFault => plain_text(alloc, "alpine: read fault"),
         Status::WriteFault { log: _ } => plain_text(alloc, "alpine: write fault"),
+        Status::DiskFault { server } => {
+            numbered_text(alloc, "alpine: disk fault server ", *server as u32)
+        }
         Status::OutOfMemory => plain_text(alloc, "alpine: out of memory"),
+        Status::TooLong { limit } => numbered_text(alloc, "alpine: too long ", *limit),
+        Status::NotAVolume { server, found: _ } => {
+            numbered_text(alloc, "alpine: not a volume server ", *server as u32)
+        }
+        Status::Damaged { server, place } => damaged_text(alloc, *server, *place),
     }
 }

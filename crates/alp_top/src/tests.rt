@@ -1,5 +1,10 @@
+ghost use Rattle.std.specs.Prelude.{◌≡◌, ◌≤◌, length, IfOk};
+ghost use Rattle.alp_base.specs.declared.allowance.Allowance.TheVariants.{Free};
+
 use crate::*;
 use alp_base::{MemSink, MemSource};
+use alp_bay::{Bay, MemBay};
+use alp_disk::{Disk, MemDisk};
 use std::alloc::Global;
 use std::io::Write;
 use std::test::Fail;
@@ -77,6 +82,13 @@ const LEFT_TOLD: &[u8] =
 // Client 1 made a file of its owner, and both clients began.
 const BOTH_BEGUN: &[u8] =
     b"servers 1\nclient 1 Admin\nclient 2 Admin\n1 begin 1\n1 mkowner 1 ann 10 World\n1 create 1 A ann 4 World World\n1 write A 0 1 hello\n1 commit\n1 begin 1\n2 begin 1\n";
+
+// Another day: a client reads what stands on the disk.
+const AGAIN: &[u8] =
+    b"servers 1\nclient 1 Admin\n1 begin 1\n1 open 1.1.1 read r\n1 read 1.1.1 0 2\n1 commit\n";
+
+const AGAIN_TOLD: &[u8] =
+    b"3 ok trans 1.2.1\n4 ok open 1\n5 ok hello -\n6 ok stamp 2 1.2.1\nserver 1 epoch 2 clock 2 files 1 pages 4\nowner 1 ann charge 4 quota 10\ncommitted 1 aborted 0\n";
 
 // What a client does then to the file or to its owner: for each of the two the lines, without their client.
 const DEEDS: [&[&[u8]]; 8] = [
@@ -158,12 +170,24 @@ struct Told {
     written: Vec<u8>,
 }
 
+// On a new disk.
 fn run(alloc: Global, asked: &[&str], text: &[u8], failing: &Failing) -> Result<Told, Fail> {
+    let mut bay = MemBay::new(alloc)?;
+    run_in(alloc, asked, text, failing, &mut bay)
+}
+
+fn run_in(
+    alloc: Global,
+    asked: &[&str],
+    text: &[u8],
+    failing: &Failing,
+    bay: &mut MemBay,
+) -> Result<Told, Fail> {
     let words = words(alloc, asked)?;
     let bytes = Vec::from_slice(alloc, text)?;
     let mut script = MemSource::new(bytes, calls(alloc, failing.reads)?);
     let mut out = MemSink::new(alloc, failing.room, calls(alloc, failing.writes)?)?;
-    let status = run_alpine(alloc, &words, &mut script, &mut out);
+    let status = run_alpine(alloc, &words, &mut script, &mut out, bay);
     Ok(Told {
         code: status.code(),
         said: status_text(alloc, &status)?,
@@ -221,6 +245,47 @@ fn plays_clients_that_interleave(rt: HostRuntime) -> Result<(), Fail> {
     let left = run(alloc, &["play"], LEFT, &SOUND)?;
     assert_eq!(rt; left.code, 0);
     assert_eq!(rt; left.written.as_slice(), LEFT_TOLD);
+    Ok(())
+}
+
+#[test]
+fn plays_on_the_disk_that_was_given_back(rt: HostRuntime) -> Result<(), Fail> {
+    let alloc = rt.alloc();
+    let mut bay = MemBay::new(alloc)?;
+    let told = run_in(alloc, &["play"], SCRIPT, &SOUND, &mut bay)?;
+    assert_eq!(rt; told.code, 0);
+    let again = run_in(alloc, &["play"], AGAIN, &SOUND, &mut bay)?;
+    assert_eq!(rt; again.code, 0);
+    assert_eq!(rt; again.written.as_slice(), AGAIN_TOLD);
+    Ok(())
+}
+
+// A disk of so many pages whose calls with these numbers fail, and whose first page begins so.
+fn disk_with(alloc: Global, pages: u32, failing: Vec<u64>, begins: &[u8]) -> Result<MemDisk, Fail>
+    requires pages { 2 ≤ pages }
+    requires short { length begins.now ≤ 512 }
+    ensures long { IfOk result (λ disk. 2 ≤ ⟦<MemDisk as Disk>⟧.size disk) }
+    ensures free { IfOk result (λ disk. ⟦<MemDisk as Disk>⟧.allowance disk ≡ Free) }
+{
+    let mut disk = MemDisk::new(alloc, pages, failing)?;
+    let _ = disk.write(0, 0, begins);
+    disk.stop_after(None);
+    Ok(disk)
+}
+
+#[test]
+fn tells_what_is_wrong_with_a_disk(rt: HostRuntime) -> Result<(), Fail> {
+    let alloc = rt.alloc();
+    let mut bay = MemBay::new(alloc)?;
+    bay.give(1, disk_with(alloc, 2, Vec::new(alloc), b"hello")?);
+    let told = run_in(alloc, &["play"], SCRIPT, &SOUND, &mut bay)?;
+    assert_eq!(rt; told.code, 8);
+    assert_eq!(rt; told.said.as_str(), "alpine: not a volume server 1");
+    assert_eq!(rt; told.written.len(), 0);
+    bay.give(1, disk_with(alloc, 2, calls(alloc, 1)?, b"")?);
+    let told = run_in(alloc, &["play"], SCRIPT, &SOUND, &mut bay)?;
+    assert_eq!(rt; told.code, 5);
+    assert_eq!(rt; told.said.as_str(), "alpine: disk fault server 1");
     Ok(())
 }
 

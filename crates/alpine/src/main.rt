@@ -1,7 +1,9 @@
-//! The program `alpine`: the script on standard input, the report on standard output.
+//! The program `alpine`: the script on standard input, the report on standard output, the disk in memory.
 #![tactic(auto)]
 
 use alp_base::{ReadSource, WriteSink};
+use alp_bay::MemBay;
+use alp_disk::MemDisk;
 use alp_top::{Status, run_alpine, status_text};
 use std::process::ExitCode;
 use std::{env, io};
@@ -15,15 +17,18 @@ fn words(rt: &HostRuntime) -> io::Result<Vec<String>> {
     Ok(words)
 }
 
-fn run(rt: &HostRuntime) -> Status {
+fn run(rt: &HostRuntime) -> Status<MemDisk> {
     let words = match words(rt) {
         Ok(words) => words,
         Err(e) if e.kind() == io::ErrorKind::OutOfMemory => return Status::OutOfMemory,
         Err(_) => return Status::BadWords,
     };
+    let Ok(mut bay) = MemBay::new(rt.alloc()) else {
+        return Status::OutOfMemory;
+    };
     let mut script = ReadSource::new(rt.stdin());
     let mut out = WriteSink::new(rt.stdout());
-    run_alpine(rt.alloc(), &words, &mut script, &mut out)
+    run_alpine(rt.alloc(), &words, &mut script, &mut out, &mut bay)
 }
 
 fn main(rt: HostRuntime) -> ExitCode {

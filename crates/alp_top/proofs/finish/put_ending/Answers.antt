@@ -1,19 +1,20 @@
-use Rattle.std.proofs.Common.{◌≡◌, ◌++◌, ◌-◌, ℕ, List, ap, ◌∙◌}
-use Rattle.std.proofs.lemmas.Result.{on_ok_weaker}
-use Rattle.alp_report.specs.Reports.{summary_text}
-use Rattle.alp_report.specs.Sections.{printed}
+use Rattle.std.specs.Prelude.{IsTrue}
+use Rattle.std.proofs.Common.{ℕ, List, ◌++◌, sym, ◌∙◌, ap, subst}
+use Rattle.alp_files.specs.Counts.{file_count_of}
+use Rattle.alp_files.specs.Cells.{Cells}
+use Rattle.alp_files.specs.Sound.{AreSound}
 use Rattle.alp_report.specs.declared.summary.Summary.{Summary}
-use Rattle.alp_vault.specs.MemVault.{held_by}
-use Rattle.alp_vault.specs.declared.mem_vault.MemVault.{MemVault}
-use Rattle.alp_top.specs.Reports.{ending_text}
-use Rattle.alp_top.proofs.EndLemmas.{ending_is}
+use Rattle.alp_vault.specs.Contents.{Contents}
+use Rattle.alp_top.proofs.SummaryLemmas.{printed_is}
 use Rattle.alp_top.proofs.finish.put_ending.Goals as goal
 
-pub returns : goal.returns
-returns c =
-    let same : summary_text c.server.result c.epoch.result c.clock.result c.cells.result.now c.committed.result c.saturating_sub.result ≡ ending_text c.args.node.now =
-    (λ i. summary_text (c.server.ensures i) (c.epoch.ensures i) (c.clock.ensures i) ((c.cells.ensures ∙ ap (λ (v : MemVault). (held_by v).cells) c.vault.ensures) i) (c.committed.ensures i)
-    ((c.saturating_sub.ensures ∙ (λ j. c.begun.ensures j - c.committed-2.ensures j)) i)) ∙ ending_is c.args.node.now c.requires in
-    on_ok_weaker {P = c.put_summary.new.out.items ≡ c.args.text.now.items ++ summary_text c.server.result c.epoch.result c.clock.result c.cells.result.now c.committed.result c.saturating_sub.result}
-    {Q = c.put_summary.new.out.items ≡ c.args.text.now.items ++ ending_text c.args.node.now} c.put_summary.result
-    (λ is. is ∙ ap (λ (ts : List ℕ). c.args.text.now.items ++ ts) same) c.put_summary.ensures
+pub returns-clause-text : goal.returns-clause-text
+returns-clause-text g c =
+    let m : Cells = (g.V.Vault.held c.args.vault.now).cells in
+    let owners = c.in_ok-owners.ensures in
+    let told = subst IsTrue (sym owners.gone.same.telling) c.requires.tells in
+    let sound : AreSound m = subst (λ (x : Contents). AreSound x.cells) owners.looked.held (c.knows.ensures.fitting _ told (c.knows.ensures.as_held told owners.looked.serves)).sound in
+    let s : Summary = record { server = c.args.ending.server; epoch = c.args.ending.epoch; clock = c.args.ending.clock; files = c.file_count.result; owners = c.deref.result; committed = c.args.ending.committed; aborted = c.args.ending.aborted } in
+    c.in_ok-put_summary.ensures
+    ∙ ap (λ (ts : List ℕ). c.args.text.now.items ++ ts)
+    (printed_is s m sound (c.file_count.ensures told ∙ ap (λ (x : Contents). file_count_of x.cells) owners.looked.held) (c.deref.ensures.value ∙ owners.owners c.requires.tells))

@@ -1,41 +1,22 @@
 use Rattle.std.specs.Prelude.{Some}
-use Rattle.std.proofs.Common.{◌≡◌, ℕ, List, length, ap, ◌∙◌, refl}
-use Rattle.alp_vault.specs.contracts.mem_vault.MemVaultVault.TheImpl as mem_vault
+use Rattle.std.proofs.Common.{ℕ, List, length, ap, ◌∙◌}
 use Rattle.alp_journal.specs.declared.entry.Entry.{Entry}
 use Rattle.alp_journal.specs.declared.log.Item.{Item}
 use Rattle.alp_journal.specs.declared.log.Mark.TheVariants as mark
 use Rattle.alp_journal.specs.declared.log.Sent.TheVariants as sent
-use Rattle.alp_node.specs.Nodes.{start_by}
-use Rattle.alp_top.specs.Servers.{Server}
 use Rattle.alp_top.proofs.StepLemmas.{served, has_next}
-use Rattle.alp_top.proofs.ExchangeLemmas.{Went, exchanged}
+use Rattle.alp_top.proofs.ExchangeLemmas.{exchanged}
 use Rattle.alp_top.proofs.play.send.Goals as goal
 
 pub step-requires-clause-served : goal.step-requires-clause-served
-step-requires-clause-served c = served c.args.clients.now c.args.node.now c.args.client c.args.line.now.line c.args.frame c.requires.step c.requires.client c.requires.form c.requires.asked
+step-requires-clause-served g c = served g.V.Vault c.args.clients.now c.args.node.now c.args.client c.requires.step c.args.line.now.line c.args.frame c.requires.client c.requires.form c.requires.asked
 
 pub hears-requires-clause-next : goal.hears-requires-clause-next
-hears-requires-clause-next c = has_next c.args.clients.now c.args.node.now c.args.client c.requires.step c.requires.room
+hears-requires-clause-next g c = has_next g.V.Vault c.args.clients.now c.args.node.now c.args.client c.requires.step c.requires.room
 
-pub returns : goal.returns
-returns c =
-    let n : Server = c.args.node.now in
-    let m : Server = c.step.new.self in
-    let h = c.in_ok-reply.ensures in
-    let answered = h.answered c.requires.step.on.up in
-    let went : Went n m c.args.client c.args.frame c.in_ok-reply.reply = record {
-      kept = c.knows.ensures;
-      start = (λ i. start_by mem_vault.ghosts (h.seat.server i) (h.opening i).vault.value);
-      opening = h.opening;
-      acts = answered.acts;
-      journal = answered.entry;
-      replies = answered.replies;
-      cause = answered.cause refl;
-      causes = answered.causes;
-      clock = h.clock refl;
-      down = answered.down;
-      spends = h.seat.spends;
-    } in
+pub returns-clause-sent : goal.returns-clause-sent
+returns-clause-sent g c =
+    let went = c.in_ok-reply.ensures.stepped in
     let place : ℕ = length c.entries.result.now in
     let x : Item = record {
       line = c.args.line.now.number;
@@ -47,6 +28,6 @@ returns c =
     } in (
       x,
       c.in_ok-push.ensures.items,
-      exchanged c.args.clients.now n m c.args.client c.args.line.now c.args.frame c.in_ok-reply.reply c.requires.step c.requires.client c.requires.form c.requires.asked went
+      exchanged g.V.Vault c.args.clients.now c.args.node.now c.step.new.node c.args.client c.args.line.now c.args.frame c.in_ok-reply.reply c.requires.step c.requires.client c.requires.form c.requires.asked went
           c.hears.new.self c.in_ok-is_over.is_over c.in_ok-sent.sent place c.in_ok-is_over.ensures.ok c.in_ok-sent.ensures (ap (λ (js : List Entry). length js) (c.entries.ensures ∙ c.journal.ensures)),
     )

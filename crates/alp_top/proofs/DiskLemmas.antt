@@ -1,0 +1,224 @@
+-- a run on a disk: what it was started on, why it was not, and what it leaves
+use Rattle.std.specs.Prelude.{◌==◌, true, false, Bool, Option, None, Some, Result, Ok, Err, IfOk, OnOk}
+use Rattle.std.specs.FinMap as map
+use Rattle.std.specs.FinMap.{get-empty}
+use Rattle.std.proofs.lemmas.Bool.Decides.{eqb_tells}
+use Rattle.std.proofs.Common.{inl, inr, ◌⊎◌, ◌≡◌, ◌≢◌, ℕ, ◌+◌, ◌*◌, List, [], refl, sym, ◌∙◌, ap, subst}
+use Rattle.alp_base.specs.Causes.{Rose}
+use Rattle.alp_base.specs.Crashes.{Only}
+use Rattle.alp_base.specs.Faults.{HasFaultCause, IsOfVolume}
+use Rattle.alp_base.specs.Notes.{text_cmp}
+use Rattle.alp_base.specs.declared.allowance.Allowance.{Allowance}
+use Rattle.alp_base.specs.declared.allowance.Allowance.TheVariants.{Free, Spent}
+use Rattle.alp_base.specs.declared.faults.Sizes.{Sizes}
+use Rattle.alp_base.specs.declared.faults.VaultFault.{VaultFault}
+use Rattle.alp_base.specs.declared.faults.VaultFault.TheVariants as vault_fault
+use Rattle.alp_base.specs.Pages.{zero_page}
+use Rattle.alp_base.specs.declared.key.Key.TheVariants.{Leader}
+use Rattle.alp_files.specs.Cells.{same_name}
+use Rattle.alp_files.specs.declared.cell.Cell.{Cell}
+use Rattle.alp_files.proofs.CellMapLemmas.{get_cell}
+use Rattle.alp_files.proofs.SameLemmas.{same_name-true, same_name-false}
+use Rattle.alp_anchor.specs.Anchor.{Counts}
+use Rattle.alp_anchor.specs.declared.anchor.Anchor.{Anchor}
+use Rattle.alp_disk.specs.Disk.{Image, page}
+use Rattle.alp_disk.specs.declared.disk.Disk.{Ghosts}
+use Rattle.alp_fields.specs.ClockNote.{clock_name, clock_form}
+use Rattle.alp_fields.specs.declared.clock_note.ClockNote.{ClockNote}
+use Rattle.alp_node.specs.Starts.{AreOfServer, HasRaised, after_note, raised, HasStartCause}
+use Rattle.alp_node.specs.declared.start.StartFault.{StartFault}
+use Rattle.alp_node.specs.declared.start.StartFault.TheVariants as start_fault
+use Rattle.alp_store.specs.Holding.{Holds}
+use Rattle.alp_store.specs.Starts.{IsNew, WhyNotStarted}
+use Rattle.alp_vault.specs.Contents.{Contents}
+use Rattle.alp_vault.specs.Volumes.{AreServerNotes}
+use Rattle.alp_files.specs.Apart.{AreSized}
+use Rattle.alp_files.specs.Sound.{AreSound}
+use Rattle.alp_journal.specs.declared.entry.Entry.{Entry}
+use Rattle.alp_journal.specs.Opening.{Start, start_at}
+use Rattle.alp_node.specs.Durable.{said_of}
+use Rattle.alp_node.specs.NodeStates.{NodeState}
+use Rattle.alp_node.specs.Nodes as node
+use Rattle.alp_node.specs.Nodes.{start_in}
+use Rattle.alp_node.specs.declared.opened.Opened.{Opened}
+use Rattle.alp_node.proofs.StartLemmas.{volume_sized}
+use Rattle.alp_vault.specs.Volumes.{IsVolumeOf}
+use Rattle.alp_vault.specs.declared.vault.Vault.{Ghosts as VaultGhosts}
+use Rattle.alp_top.specs.Logs.{ServerOfLog, openings, start_of}
+use Rattle.alp_top.specs.Reports.{end_of}
+use Rattle.alp_top.specs.Servers.{IsOn}
+use Rattle.alp_top.proofs.StepLemmas.{kept_epoch, kept_clock}
+use Rattle.alp_top.specs.Faults.{of_vault, of_start, played}
+use Rattle.alp_top.specs.Volumes.{HasDiskCause, IsOpenedNew, IsOpenedOn, IsStored}
+use Rattle.alp_top.specs.declared.fault.PlayFault.{PlayFault}
+use Rattle.alp_top.specs.declared.fault.PlayFault.TheVariants as play_fault
+
+abbrev nothing : Contents
+nothing = record { cells = map.empty; notes = map.empty }
+
+-- ---- a volume that holds nothing begins in its first epoch
+
+pub raised_nothing : (held : Contents) → held ≡ nothing → raised held ≡ Ok (record { epoch = 1; clock = 0 })
+raised_nothing held none = ap raised none ∙ ap after_note (get-empty text_cmp clock_name)
+
+pub first_clock : (held : Contents) (c : ClockNote) → held ≡ nothing → raised held ≡ Ok c → c ≡ record { epoch = 1; clock = 0 }
+first_clock held c none e = same c (record { epoch = 1; clock = 0 }) (sym e ∙ raised_nothing held none)
+  where
+    same : (x y : ClockNote) → ◌≡◌ {A = Result ClockNote StartFault} (Ok x) (Ok y) → x ≡ y
+    same x y e = cc
+
+not_last : (held : Contents) → held ≡ nothing → raised held ≡ Err start_fault.EpochEnd → ⊥
+not_last held none last = apart (sym (raised_nothing held none) ∙ last)
+  where
+    apart : ◌≡◌ {A = Result ClockNote StartFault} (Ok (record { epoch = 1; clock = 0 })) (Err start_fault.EpochEnd) → ⊥
+    apart e = cc
+
+-- ---- a disk is new, or it is not
+
+new_by : (sizes : Sizes) (n : ℕ) (image : Image) → IsNew sizes n image ⊎ (IsNew sizes n image → ⊥)
+new_by sizes n image = go (eqb_tells n (2 + 2 * sizes.area + sizes.home)) (same_name (page image 0) zero_page) refl (same_name (page image 1) zero_page) refl
+  where
+    go : (((n == (2 + 2 * sizes.area + sizes.home)) ≡ true) × (n ≡ 2 + 2 * sizes.area + sizes.home)) ⊎ (((n == (2 + 2 * sizes.area + sizes.home)) ≡ false) × (n ≢ 2 + 2 * sizes.area + sizes.home))
+        → (a : Bool) → same_name (page image 0) zero_page ≡ a → (b : Bool) → same_name (page image 1) zero_page ≡ b → IsNew sizes n image ⊎ (IsNew sizes n image → ⊥)
+    go (inl many) true one true two = inl (record { size = many.1; first = same_name-true (page image 0) zero_page one; second = same_name-true (page image 1) zero_page two })
+    go (inl many) true one false two = inr (λ is. same_name-false (page image 1) zero_page two is.second)
+    go (inl many) false one b two = inr (λ is. same_name-false (page image 0) zero_page one is.first)
+    go (inr other) a one b two = inr (λ is. other.1 is.size)
+
+-- what a store that started holds was given by its server
+pub of_server : {D : Type 0} (g : Ghosts D) (sizes : Sizes) (d : D) (held : Contents) → (IsNew sizes (g.size d) (g.seen d) → held ≡ nothing) → ((IsNew sizes (g.size d) (g.seen d) → ⊥) → AreOfServer 1 held) → AreOfServer 1 held
+of_server g sizes d held new old = go (new_by sizes (g.size d) (g.seen d))
+  where
+    none : AreOfServer 1 nothing
+    none f c is = (let wrong : ◌≡◌ {A = Option Cell} None (Some c) = sym (get_cell [] (Leader f)) ∙ is in cc)
+
+    go : IsNew sizes (g.size d) (g.seen d) ⊎ (IsNew sizes (g.size d) (g.seen d) → ⊥) → AreOfServer 1 held
+    go (inl is) = subst (AreOfServer 1) (sym (new is)) none
+    go (inr is) = old is
+
+-- a disk that holds something for a server, by its numbers
+pub holds_one : (server servers n m home rooms : ℕ) (image : Image) (held : Contents) → server ≡ 1 → servers ≡ 1 → n ≡ m → home ≡ rooms → Holds server servers n home image held → Holds 1 1 m rooms image held
+holds_one server servers n m home rooms image held one alone long same h =
+    subst (λ (k : ℕ). Holds 1 1 m k image held) same
+    (subst (λ (k : ℕ). Holds 1 1 k home image held) long (subst (λ (k : ℕ). Holds 1 k n home image held) alone (subst (λ (k : ℕ). Holds k servers n home image held) one h)))
+
+pub if_ok : {T E : Type 0} (P : T → Type 0) (r : Result T E) (x : T) → r ≡ Ok x → IfOk r P → P x
+if_ok P r x is h = subst (λ q. IfOk q P) is h
+
+pub on_ok : {T E : Type 0} (P : Type 0) (r : Result T E) (x : T) → r ≡ Ok x → OnOk r P → P
+on_ok P r x is h = subst (λ q. OnOk q P) is h
+
+-- ---- why a run does not begin
+
+module _ {D : Type 0} (g : Ghosts D) (sizes : Sizes) (d e : D) where
+  abbrev IsNewDisk : Type 0
+  IsNewDisk = IsNew sizes (g.size d) (g.seen d)
+
+  -- the store did not start
+  pub not_opened : (f : VaultFault) → HasFaultCause (g.faults d) (g.faults e) (g.allowance e) f → g.allowance e ≡ Free → (IsNewDisk → IsOfVolume f)
+      → ((IsNewDisk → ⊥) → WhyNotStarted 1 1 (g.size d) (g.seen d) f) → ((IsNewDisk → ⊥) → g.seen e ≡ g.seen d) → HasDiskCause g sizes (of_vault f) d e
+  not_opened vault_fault.Failed cause free new why seen = cause.failed refl
+  not_opened vault_fault.Stopped cause free new why seen = absurd (spent (sym free ∙ cause.stopped refl))
+    where
+      spent : Free ≡ Spent → ⊥
+      spent e = cc
+  not_opened vault_fault.OutOfMemory cause free new why seen = tt
+  not_opened (vault_fault.NotAVolume found) cause free new why seen = (record { old = new; seen = seen new }, why new)
+  not_opened (vault_fault.Damaged place) cause free new why seen = (record { old = new; seen = seen new }, why new)
+
+  -- the store did, and the server on it did not
+  pub not_started : (held : Contents) (f : StartFault) (between : ℕ) (allowance : Allowance) (home : ℕ) → HasStartCause 1 1 held between (g.faults e) allowance f → allowance ≡ Free → between ≡ g.faults d → AreServerNotes 1 1 held.notes
+      → (IsNewDisk → held ≡ nothing) → ((IsNewDisk → ⊥) → Holds 1 1 (g.size d) home (g.seen d) held) → ((IsNewDisk → ⊥) → f ≡ start_fault.EpochEnd → g.seen e ≡ g.seen d) → HasDiskCause g sizes (of_start f) d e
+  not_started held (start_fault.Vault f) between allowance home cause free kept notes new holds seen = go f cause
+    where
+      go : (f : VaultFault) → HasStartCause 1 1 held between (g.faults e) allowance (start_fault.Vault f) → HasDiskCause g sizes (of_vault f) d e
+      go vault_fault.Failed h = subst (λ (n : ℕ). Rose n (g.faults e)) kept (h.0.failed refl)
+      go vault_fault.Stopped h = absurd (spent (sym free ∙ h.0.stopped refl))
+        where
+          spent : Free ≡ Spent → ⊥
+          spent e = cc
+      go vault_fault.OutOfMemory h = tt
+      go (vault_fault.NotAVolume found) h = absurd h.1
+      go (vault_fault.Damaged place) h = absurd h.1
+  not_started held start_fault.BadNote between allowance home cause free kept notes new holds seen = absurd (cause notes)
+  not_started held start_fault.EpochEnd between allowance home cause free kept notes new holds seen =
+      let old : IsNewDisk → ⊥ = (λ is. not_last held (new is) cause.1) in (
+        record { old = old; seen = seen old refl },
+        record { home = home; held = held; holds = holds old; last = cause.1 },
+      )
+
+-- a run on it was not played to its end
+pub not_played : {D : Type 0} (g : Ghosts D) (sizes : Sizes) (d e : D) (f : PlayFault) → (f ≡ play_fault.Device → Rose (g.faults d) (g.faults e)) → HasDiskCause g sizes (played f) d e
+not_played g sizes d e play_fault.Device rose = rose refl
+not_played g sizes d e play_fault.OutOfMemory rose = tt
+
+-- ---- what a run leaves on its disk
+
+module _ {V D : Type 0} (G : VaultGhosts V) (g : Ghosts D) (sizes : Sizes) (x : ServerOfLog V) (n : NodeState V) (before : Contents) (vol : Sizes) (d e : D)
+    (number : x.server ≡ 1) (opening : x.opening ≡ n.opening) (on : IsOn G n) (idle : n.journal ≡ []) (at_once : n.opening.vault.value ≡ n.kept.vault) (volume : G.volume n.kept.vault ≡ vol)
+    (rose : HasRaised (G.tells n.kept.vault) 1 1 before (G.held n.kept.vault) (record { epoch = n.kept.epoch; clock = n.kept.clock })) where
+  abbrev o : Start
+  o = start_of G x
+
+  as_opened : o ≡ start_in G n
+  as_opened = (λ i. start_at ((number ∙ sym on.first) i) (sym on.alone i) (G.volume (opening i).vault.value) (G.held (opening i).vault.value).cells (G.held (opening i).vault.value).notes)
+
+  sizes_are : o.sizes ≡ vol
+  sizes_are = ap (λ (p : Start). p.sizes) as_opened ∙ ap G.volume at_once ∙ volume
+
+  epoch_is : o.epoch ≡ n.kept.epoch
+  epoch_is = ap (λ (p : Start). p.epoch) as_opened ∙ ap (λ (js : List Entry). (node.state_of (start_in G n) js).ids.epoch) (sym idle) ∙ kept_epoch G n on
+
+  clock_is : o.clock ≡ n.kept.clock
+  clock_is = ap (λ (p : Start). p.clock) as_opened ∙ ap (λ (js : List Entry). (node.state_of (start_in G n) js).holder.clock) (sym idle) ∙ kept_clock G n on
+
+  note_is : ◌≡◌ {A = ClockNote} (record { epoch = o.epoch; clock = o.clock }) (record { epoch = n.kept.epoch; clock = n.kept.clock })
+  note_is = (λ i. record { epoch = epoch_is i; clock = clock_is i })
+
+  cells_are : o.cells ≡ before.cells
+  cells_are = ap (λ (p : Start). p.cells) as_opened ∙ ap (λ (v : V). (G.held v).cells) at_once ∙ rose.cells on.tells
+
+  noted : (openings G).notes x.opening ≡ map.insert before.notes clock_name (clock_form.spell (record { epoch = o.epoch; clock = o.clock }))
+  noted =
+      ap (λ (p : Opened V). (G.held p.vault.value).notes) opening ∙ ap (λ (v : V). (G.held v).notes) at_once ∙ rose.notes
+      ∙ ap (λ (c : ClockNote). map.insert before.notes clock_name (clock_form.spell c)) (sym note_is)
+
+  opened_new : before ≡ nothing → vol ≡ sizes → IsOpenedNew sizes o ((openings G).notes x.opening)
+  opened_new none same =
+      let first : ◌≡◌ {A = ClockNote} (record { epoch = o.epoch; clock = o.clock }) (record { epoch = 1; clock = 0 }) = note_is ∙ first_clock before (record { epoch = n.kept.epoch; clock = n.kept.clock }) none rose.next in
+      record {
+        sizes_are = sizes_are ∙ same;
+        epoch = ap (λ (c : ClockNote). c.epoch) first;
+        clock = ap (λ (c : ClockNote). c.clock) first;
+        cells = cells_are ∙ ap (λ (c : Contents). c.cells) none;
+        noted = noted ∙ (λ i. map.insert (none i).notes clock_name (clock_form.spell (first i)));
+      }
+
+  opened_on : (a : Anchor) → Counts (g.size d) (g.seen d) a → vol ≡ a.sizes → Holds 1 1 (g.size d) vol.home (g.seen d) before → IsOpenedOn (g.size d) (g.seen d) o ((openings G).notes x.opening)
+  opened_on a counts same holds = record {
+    anchor = a;
+    counts = counts;
+    sizes_are = sizes_are ∙ same;
+    held = before;
+    holds = subst (λ (s : Sizes). Holds 1 1 (g.size d) s.home (g.seen d) before) (sym sizes_are) holds;
+    cells = cells_are;
+    next = rose.next ∙ ap Ok (sym note_is);
+    noted = noted;
+  }
+
+  pub stored : (held : Contents) → held ≡ said_of (end_of G 1 x) → IsVolumeOf vol held.cells → (IsNew sizes (g.size d) (g.seen d) → before ≡ nothing) → (IsNew sizes (g.size d) (g.seen d) → vol ≡ sizes)
+      → (a : Anchor) → vol ≡ a.sizes → ((IsNew sizes (g.size d) (g.seen d) → ⊥) → Counts (g.size d) (g.seen d) a)
+      → ((IsNew sizes (g.size d) (g.seen d) → ⊥) → Holds 1 1 (g.size d) vol.home (g.seen d) before)
+      → Holds 1 1 (g.size e) vol.home (g.seen e) held → Only (g.seen e) (g.may_leave e) → g.faults e ≡ g.faults d
+      → IsStored g sizes o ((openings G).notes x.opening) (end_of G 1 x) d e
+  stored held said fits none same a as_anchor counts holds finish durable unfailed = record {
+    new = λ is. opened_new (none is) (same is);
+    found = λ is. opened_on a (counts is) as_anchor (holds is);
+    finish = subst (λ (s : Sizes). Holds 1 1 (g.size e) s.home (g.seen e) (said_of (end_of G 1 x))) (sym sizes_are) (subst (λ (c : Contents). Holds 1 1 (g.size e) vol.home (g.seen e) c) said finish);
+    durable = durable;
+    sound = record {
+      files = subst (λ (c : Contents). AreSound c.cells) said fits.sound;
+      sizes = subst (λ (c : Contents). AreSized (map.get c.cells)) said (volume_sized vol held.cells fits);
+    };
+    unfailed = unfailed;
+  }

@@ -1,0 +1,117 @@
+-- the end of a run, as its status tells it
+use Rattle.std.specs.Prelude.{Option, None, Some, replicate, take}
+use Rattle.std.specs.Io.KnownBytes.{Appends}
+use Rattle.std.proofs.Common.{inl, inr, ◌≡◌, ◌<◌, ℕ, zero, suc, List, refl, sym, ◌∙◌, ap, subst, arith}
+use Rattle.alp_base.specs.Causes.{Rose}
+use Rattle.alp_base.specs.Pages.{zero_page}
+use Rattle.alp_base.specs.declared.faults.Sizes.{Sizes}
+use Rattle.alp_bay.specs.Bays.{IsTaken}
+use Rattle.alp_disk.specs.Disk.{Image, page}
+use Rattle.alp_disk.specs.declared.disk.Disk.{Ghosts}
+use Rattle.alp_script.specs.Reading.{GaveScript}
+use Rattle.alp_script.specs.Volumes.{sizes_said}
+use Rattle.alp_script.specs.declared.numbered.NumberedLine.{NumberedLine}
+use Rattle.alp_store.specs.Starts.{IsNew}
+use Rattle.alp_vault.specs.declared.vault.Vault.{Ghosts as VaultGhosts}
+use Rattle.alp_top.specs.Headline.{IsRunOf, IsPlayed, IsCutOff}
+use Rattle.alp_top.specs.Logs.{Log}
+use Rattle.alp_top.specs.Statuses.{Kept, OnDone, OnWriteFault, OnRunFault, ended_by, IsPlayedOrMemory}
+use Rattle.alp_top.specs.Volumes.{pages_of, IsReturned, HasRunCause, IsStartable, StartsOn}
+use Rattle.alp_top.specs.declared.fault.RunFault.{RunFault}
+use Rattle.alp_top.specs.declared.fault.RunFault.TheVariants as fault
+use Rattle.alp_top.specs.declared.status.Status.{Status}
+use Rattle.alp_top.specs.declared.status.Status.TheVariants as status
+
+-- ---- the report is written, or a part of it
+
+module _ {V D : Type 0} (G : VaultGhosts V) (g : Ghosts D) (old new wrote written : Option (List ℕ)) (before after : ℕ → Option D) (lines : List NumberedLine) (log : Log V) (text : List ℕ) (script : GaveScript old new lines)
+    (x : IsReturned g (sizes_said lines 1) before after (IsRunOf G g (sizes_said lines 1) lines log text)) where
+  pub is_played : (l : Log V) → l ≡ log → Appends wrote written text → IsPlayed G g old new wrote written before after l
+  is_played l same out = subst (λ (l : Log V). IsPlayed G g old new wrote written before after l) (sym same) (record {
+    lines = lines;
+    script = script;
+    run = x.left.run;
+    stored = record { taken = x.taken; was = x.was; given = x.given; now = x.now; others = x.others; size = x.size; later = x.later; left = x.left.stored };
+    output = subst (λ (bytes : List ℕ). Appends wrote written bytes) x.left.report out;
+  })
+
+  pub is_cut_off : (l : Log V) → l ≡ log → (count : ℕ) → Appends wrote written (take count text) → IsCutOff G g old new wrote written before after l
+  is_cut_off l same count out = subst (λ (l : Log V). IsCutOff G g old new wrote written before after l) (sym same) (record {
+    lines = lines;
+    script = script;
+    run = x.left.run;
+    stored = record { taken = x.taken; was = x.was; given = x.given; now = x.now; others = x.others; size = x.size; later = x.later; left = x.left.stored };
+    count = count;
+    output = subst (λ (bytes : List ℕ). Appends wrote written (take count bytes)) x.left.report out;
+  })
+
+module _ {D : Type 0} {g : Ghosts D} where
+  pub done_then : (s : Status D g) (P Q : Log (Kept D g) → Type 0) → ((log : Log (Kept D g)) → P log → Q log) → OnDone s P → OnDone s Q
+  done_then (status.Done log) P Q f h = f log.value h
+  done_then status.BadWords P Q f h = tt
+  done_then (status.BadScript line) P Q f h = tt
+  done_then status.ReadFault P Q f h = tt
+  done_then (status.WriteFault log) P Q f h = tt
+  done_then (status.DiskFault server) P Q f h = tt
+  done_then status.OutOfMemory P Q f h = tt
+  done_then (status.TooLong limit) P Q f h = tt
+  done_then (status.NotAVolume server found) P Q f h = tt
+  done_then (status.Damaged server place) P Q f h = tt
+
+  pub cut_then : (s : Status D g) (P Q : Log (Kept D g) → Type 0) → ((log : Log (Kept D g)) → P log → Q log) → OnWriteFault s P → OnWriteFault s Q
+  cut_then (status.WriteFault log) P Q f h = f log.value h
+  cut_then status.BadWords P Q f h = tt
+  cut_then (status.BadScript line) P Q f h = tt
+  cut_then status.ReadFault P Q f h = tt
+  cut_then (status.Done log) P Q f h = tt
+  cut_then (status.DiskFault server) P Q f h = tt
+  cut_then status.OutOfMemory P Q f h = tt
+  cut_then (status.TooLong limit) P Q f h = tt
+  cut_then (status.NotAVolume server found) P Q f h = tt
+  cut_then (status.Damaged server place) P Q f h = tt
+
+  -- ---- the bay or the disk ended the run
+
+  pub caused : (s : Status D g) (f : RunFault) (P : RunFault → Type 0) → s ≡ ended_by f → P f → OnRunFault s P
+  caused s f P is p = subst (λ (q : Status D g). OnRunFault q P) (sym is) (go f p)
+    where
+      go : (f : RunFault) → P f → OnRunFault (ended_by {D = D} {g = g} f) P
+      go fault.Bay p = inl (refl, p)
+      go fault.Disk p = inr (refl, p)
+      go fault.OutOfMemory p = tt
+      go fault.EpochEnd p = (refl, p)
+      go (fault.NotAVolume found) p = (refl, p)
+      go (fault.Damaged place) p = (refl, p)
+
+-- ---- where nothing fails the script is played
+
+zeros : (n i : ℕ) → i < n → page (replicate n zero_page) i ≡ zero_page
+zeros zero i less = absurd (omega (arith, less))
+zeros (suc n) zero less = refl
+zeros (suc n) (suc i) less = zeros n i (omega (arith, less))
+
+module _ {D : Type 0} {g : Ghosts D} (sizes : Sizes) (before after : ℕ → Option D) (starts : StartsOn g sizes before after) where
+  -- the disk that was taken is new, or one to start on
+  startable : (d : D) (o : Option D) → before 1 ≡ o → IsTaken g o (pages_of sizes) d → IsStartable sizes (g.size d) (g.seen d)
+  startable d None is new =
+      let blank : IsNew sizes (g.size d) (g.seen d) = record {
+        size = new.size;
+        first = ap (λ (i : Image). page i 0) new.zeros ∙ zeros (pages_of sizes) 0 (omega arith);
+        second = ap (λ (i : Image). page i 1) new.zeros ∙ zeros (pages_of sizes) 1 (omega arith);
+      } in
+      record { volume = λ found why. blank; whole = λ place why. blank; epoch = λ none. blank }
+  startable d (Some s) is same = subst (λ (q : D). IsStartable sizes (g.size q) (g.seen q)) (sym same) (starts.startable s is)
+
+  pub plays_on : (s : Status D g) (f : RunFault) (bay_before bay_after : ℕ) → s ≡ ended_by f → HasRunCause g sizes before after bay_before bay_after f → (Rose bay_before bay_after → ⊥) → IsPlayedOrMemory s
+  plays_on s f bay_before bay_after is cause still = subst (λ (q : Status D g). IsPlayedOrMemory q) (sym is) (go f cause)
+    where
+      on : (x : D) → IsTaken g (before 1) (pages_of sizes) x → IsStartable sizes (g.size x) (g.seen x)
+      on x was = startable x (before 1) refl was
+
+      go : (f : RunFault) → HasRunCause g sizes before after bay_before bay_after f → IsPlayedOrMemory (ended_by {D = D} {g = g} f)
+      go fault.Bay x = absurd (still x.1)
+      go fault.Disk x = absurd (starts.unfailed x.taken x.given x.was x.now x.left)
+      go fault.OutOfMemory x = tt
+      go fault.EpochEnd x = absurd (x.left.0.old ((on x.taken x.was).epoch x.left.1))
+      go (fault.NotAVolume found) x = absurd (x.left.0.old ((on x.taken x.was).volume found x.left.1))
+      go (fault.Damaged place) x = absurd (x.left.0.old ((on x.taken x.was).whole place x.left.1))

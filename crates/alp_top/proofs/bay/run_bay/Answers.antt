@@ -1,0 +1,72 @@
+use Rattle.std.specs.Prelude.{Option, IsTrue}
+use Rattle.std.proofs.Common.{◌≡◌, ◌≢◌, ℕ, refl, sym, ◌∙◌, ap, subst}
+use Rattle.std.proofs.lemmas.Result.{IfOk-weaker, IfErr-weaker}
+use Rattle.alp_base.specs.declared.faults.Sizes.{Sizes}
+use Rattle.alp_bay.specs.Bays.{IsTaken}
+use Rattle.alp_disk.specs.contracts.fuse.FuseDisk.TheImpl as fuse_disk
+use Rattle.alp_script.specs.Volumes.{sizes_said}
+use Rattle.alp_top.specs.Volumes.{pages_of, HasDiskCause}
+use Rattle.alp_top.proofs.BayLemmas.{ShowAlike, run_resized, run_alike, returned, run_cause}
+use Rattle.alp_top.proofs.bay.run_bay.Goals as goal
+
+pub give-requires-clause-told : goal.give-requires-clause-told
+give-requires-clause-told g c told =
+    let device = c.in_ok-device.ensures.told (subst IsTrue c.in_ok-device.ensures.tells told) in
+    subst IsTrue (sym (c.stop_after.ensures.tells ∙ ap g.B.Device.Disk.tells c.into_inner-device.ensures ∙ c.run_disk-disk.ensures.tells ∙ c.new.ensures.tells)) device
+
+pub returns-clause-ran : goal.returns-clause-ran
+returns-clause-ran g c =
+    let h = g.B.Device.Disk in
+    let fuse = fuse_disk.ghosts g.row.B-Device g.B.Device.Disk g.B.Device.Disk-dict g.B.Device.Destruct-dict in
+    let open_ = c.in_ok-choose.ensures in
+    let took = c.in_ok-device.ensures in
+    let S : Sizes = sizes_said c.args.lines.now 1 in
+    let told : IsTrue (g.B.Bay.tells c.choose.new.self) = g.met.B.Bay.told c.choose.new.self (open_.unnamed refl) in
+    let filled = c.give.ensures.given (subst IsTrue (sym took.tells) told) in
+    let taken : ShowAlike fuse h c.new.result c.in_ok-device.device = record { size = sym c.new.ensures.size; seen = sym c.new.ensures.seen; faults = sym c.new.ensures.faults; leaves = c.new.ensures.crash.no_fewer } in
+    let given : ShowAlike fuse h c.run_disk-disk.result.0 c.stop_after.new.self = record {
+      size = c.stop_after.ensures.size ∙ ap h.size c.into_inner-device.ensures;
+      seen = c.stop_after.ensures.seen ∙ ap h.seen c.into_inner-device.ensures;
+      faults = c.stop_after.ensures.faults ∙ ap h.faults c.into_inner-device.ensures;
+      leaves = λ i left. subst (λ (q : g.row.B-Device.Denot). h.may_leave q i) c.into_inner-device.ensures (c.stop_after.ensures.crash.no_more i left);
+    } in
+    let was : IsTaken h (g.B.Bay.at c.args.bay.now 1) (pages_of S) c.in_ok-device.device =
+    subst (λ (n : ℕ). IsTaken h (g.B.Bay.at c.args.bay.now 1) n c.in_ok-device.device) (c.pages_of.ensures ∙ ap pages_of c.sizes_of-sizes.ensures)
+    (subst (λ (f : ℕ → Option g.row.B-Device.Denot). IsTaken h (f 1) c.pages_of.result c.in_ok-device.device) open_.places (took.taken told)) in
+    let others : (k : ℕ) → k ≢ 1 → g.B.Bay.at c.give.new.self k ≡ g.B.Bay.at c.args.bay.now k =
+    (λ k away. filled.others k away ∙ (took.emptied told).others k away ∙ ap (λ (f : ℕ → Option g.row.B-Device.Denot). f k) open_.places) in
+    IfOk-weaker c.run_disk-disk.result.1 _ _
+    (λ e x.
+    returned fuse h S c.new.result c.run_disk-disk.result.0 c.in_ok-device.device c.stop_after.new.self taken given (g.B.Bay.at c.args.bay.now) (g.B.Bay.at c.give.new.self) was filled.here others c.run_disk-disk.ensures.size
+    c.run_disk-disk.ensures.later _
+    (run_alike fuse h S c.new.result c.run_disk-disk.result.0 c.in_ok-device.device c.stop_after.new.self taken given _ c.args.lines.now e.log e.text.items
+    (run_resized _ fuse c.sizes_of-sizes.result S c.args.lines.now e.log e.text.items c.new.result c.run_disk-disk.result.0 c.sizes_of-sizes.ensures x)))
+    c.run_disk-disk.ensures.ran
+
+pub returns-clause-cause : goal.returns-clause-cause
+returns-clause-cause g c =
+    let h = g.B.Device.Disk in
+    let fuse = fuse_disk.ghosts g.row.B-Device g.B.Device.Disk g.B.Device.Disk-dict g.B.Device.Destruct-dict in
+    let open_ = c.in_ok-choose.ensures in
+    let took = c.in_ok-device.ensures in
+    let S : Sizes = sizes_said c.args.lines.now 1 in
+    let told : IsTrue (g.B.Bay.tells c.choose.new.self) = g.met.B.Bay.told c.choose.new.self (open_.unnamed refl) in
+    let filled = c.give.ensures.given (subst IsTrue (sym took.tells) told) in
+    let taken : ShowAlike fuse h c.new.result c.in_ok-device.device = record { size = sym c.new.ensures.size; seen = sym c.new.ensures.seen; faults = sym c.new.ensures.faults; leaves = c.new.ensures.crash.no_fewer } in
+    let given : ShowAlike fuse h c.run_disk-disk.result.0 c.stop_after.new.self = record {
+      size = c.stop_after.ensures.size ∙ ap h.size c.into_inner-device.ensures;
+      seen = c.stop_after.ensures.seen ∙ ap h.seen c.into_inner-device.ensures;
+      faults = c.stop_after.ensures.faults ∙ ap h.faults c.into_inner-device.ensures;
+      leaves = λ i left. subst (λ (q : g.row.B-Device.Denot). h.may_leave q i) c.into_inner-device.ensures (c.stop_after.ensures.crash.no_more i left);
+    } in
+    let was : IsTaken h (g.B.Bay.at c.args.bay.now 1) (pages_of S) c.in_ok-device.device =
+    subst (λ (n : ℕ). IsTaken h (g.B.Bay.at c.args.bay.now 1) n c.in_ok-device.device) (c.pages_of.ensures ∙ ap pages_of c.sizes_of-sizes.ensures)
+    (subst (λ (f : ℕ → Option g.row.B-Device.Denot). IsTaken h (f 1) c.pages_of.result c.in_ok-device.device) open_.places (took.taken told)) in
+    let others : (k : ℕ) → k ≢ 1 → g.B.Bay.at c.give.new.self k ≡ g.B.Bay.at c.args.bay.now k =
+    (λ k away. filled.others k away ∙ (took.emptied told).others k away ∙ ap (λ (f : ℕ → Option g.row.B-Device.Denot). f k) open_.places) in
+    IfErr-weaker c.run_disk-disk.result.1 _ _
+    (λ f x.
+    run_cause fuse h S c.new.result c.run_disk-disk.result.0 c.in_ok-device.device c.stop_after.new.self taken given (g.B.Bay.at c.args.bay.now) (g.B.Bay.at c.give.new.self) was filled.here others c.run_disk-disk.ensures.size
+    c.run_disk-disk.ensures.later (g.B.Bay.faults c.args.bay.now) (g.B.Bay.faults c.give.new.self) f
+    (subst (λ (z : Sizes). HasDiskCause fuse z f c.new.result c.run_disk-disk.result.0) c.sizes_of-sizes.ensures x))
+    c.run_disk-disk.ensures.cause

@@ -1,0 +1,23 @@
+use Rattle.std.proofs.Common.{ℕ, List, ◌++◌, refl, ◌∙◌, ap, subst}
+use Rattle.alp_report.specs.Reports.{summary_text}
+use Rattle.alp_top.specs.Endings.{IsServerLog}
+use Rattle.alp_top.proofs.EndLemmas.{run_over, ending_is}
+use Rattle.alp_top.proofs.finish.run_node.Goals as goal
+
+pub returns-in-Ok-server_logs-clause-ended : goal.returns-in-Ok-server_logs-clause-ended
+returns-in-Ok-server_logs-clause-ended g c =
+    let G = g.V.Vault in
+    let n = c.play_out-played.new.node in
+    let out = c.in-Ok.ensures.played in
+    let parts = c.into_parts-opening.ensures in
+    let e = c.ending_of-ending.ensures in
+    let put = c.in_default.ensures in
+    run_over G c.args.lines.now c.args.node n c.in-Ok.run'.clients c.in-Ok.run'.lists.items c.in-Ok.run'.text.items (record { servers = c.in-Ok-server_logs.servers; clients = c.in-Ok.run'.lists }) c.ending_of-ending.result.server
+    c.requires.accepted.rises out e.server
+    (subst (λ p. IsServerLog c.ending_of-ending.result.server p.0 p.2 c.in-Ok-server_logs.servers.items) parts c.in-Ok-server_logs.ensures)
+    refl c.put_ending.new.vault c.put_ending.new.text.items
+    (put.text
+    ∙ ap (λ (ts : List ℕ). c.in-Ok.run'.text.items ++ ts)
+    ((λ i. summary_text (e.server i) (e.epoch i) (e.clock i) (G.held (parts i).1).cells (e.committed i) (e.aborted i)) ∙ ending_is G n out.ended.ended.on))
+    put.looked.serves
+    (put.looked.held ∙ ap (λ p. G.held p.1) parts)

@@ -1,0 +1,66 @@
+use Rattle.std.specs.Prelude.{◌||◌, true, false, Bool, IsTrue}
+use Rattle.std.proofs.Common.{◌≡◌, ℕ, refl, sym, ◌∙◌, ap, subst}
+use Rattle.alp_base.specs.Causes.{Rose}
+use Rattle.alp_base.specs.declared.allowance.Allowance.{Allowance}
+use Rattle.alp_base.specs.declared.allowance.Allowance.TheVariants.{Free}
+use Rattle.alp_journal.specs.Answered.{is_fault_reply}
+use Rattle.alp_node.specs.Halts.{HaveCauses}
+use Rattle.alp_node.specs.Nodes.{start_by, start_in}
+use Rattle.alp_node.specs.Steps.{is_call}
+use Rattle.alp_top.specs.Servers.{IsDone, state_of}
+use Rattle.alp_top.proofs.CalmLemmas.{calm, down_failed}
+use Rattle.alp_top.proofs.GoneLemmas.{stays_free}
+use Rattle.alp_top.proofs.StepLemmas.{along_more, kept_server}
+use Rattle.alp_top.proofs.step.step.Goals as goal
+use Rattle.alp_top.proofs.step.step.Goals.{then-is_down-via-then-is_down, then-is_down-via-else-is_down+then-shows_fault}
+
+or_false : (a b : Bool) → b ≡ false → (a || b) ≡ a
+or_false true b is = refl
+or_false false b is = is
+
+pub returns-then-is_down-clause-gone : goal.returns-then-is_down-clause-gone
+returns-then-is_down-clause-gone g c =
+    let h = c.in_ok-reply.ensures in
+    let a = h.answered c.requires.on.up in
+    let free : g.V.Vault.allowance c.step.new.self.kept.vault ≡ Free = stays_free _ _ h.seat.spends c.requires.on.free in
+    let before : ℕ = g.V.Vault.faults c.args.node.now.kept.vault in
+    let now : ℕ = g.V.Vault.faults c.step.new.self.kept.vault in
+    let rose : Rose before now = elim c.then-is_down.branch [
+      | then-is_down-via-then-is_down w ↦
+          down_failed before now a.acts (sym a.down ∙ sym c.is_down.ensures ∙ w.if-is_down.true)
+          (subst (λ (b : Allowance). HaveCauses before now b a.acts) free a.causes)
+      | then-is_down-via-else-is_down+then-shows_fault w ↦
+          a.told (ap (λ (k : ℕ). is_fault_reply k c.in_ok-reply.reply) (sym c.server-here.ensures) ∙ sym w.shows_fault.ensures ∙ w.if-shows_fault.true)
+    ] in
+    record { same = h.seat.same; free = λ e. stays_free _ _ h.seat.spends e; later = a.later; still = tt; failed = λ _. rose }
+
+pub returns-clause-stepped : goal.returns-clause-stepped
+returns-clause-stepped g c =
+    let h = c.in_ok-reply.ensures in
+    let a = h.answered c.requires.on.up in
+    let n = c.args.node.now in
+    let m = c.step.new.self in
+    let up : m.kept.is_down ≡ false = sym c.is_down.ensures ∙ c.if-is_down.false in
+    let start : start_in g.V.Vault m ≡ start_in g.V.Vault n = (λ i. start_by g.V.Vault (h.seat.server i) (h.opening i).vault.value) in
+    let (failed, ans, rose) = a.cause c.requires.on.tells in
+    let no : is_fault_reply (state_of g.V.Vault n).holder.server c.in_ok-reply.reply ≡ false =
+    ap (λ (k : ℕ). is_fault_reply k c.in_ok-reply.reply) (kept_server g.V.Vault n c.requires.on ∙ sym c.server-here.ensures) ∙ sym c.shows_fault.ensures ∙ c.if-shows_fault.false in
+    let done : IsDone (state_of g.V.Vault n) (record { event = c.args.event; reply = c.in_ok-reply.reply; acts = a.acts }) =
+    (sym a.down ∙ up, calm n.kept failed (state_of g.V.Vault n) c.args.event c.in_ok-reply.reply a.acts c.requires.served no ans) in
+    record {
+      on = record {
+        kept = c.knows.ensures;
+        tells = subst IsTrue (sym h.seat.same.telling) c.requires.on.tells;
+        up = up;
+        free = stays_free _ _ h.seat.spends c.requires.on.free;
+        first = h.seat.server ∙ c.requires.on.first;
+        alone = (λ i. g.V.Vault.servers (h.opening i).vault.value) ∙ c.requires.on.alone;
+        answered = along_more g.V.Vault n m _ start a.entry IsDone c.requires.on.answered done;
+      };
+      opening = h.opening;
+      start = start;
+      acts = a.acts;
+      journal = a.entry;
+      done = done;
+      replies = a.replies ∙ or_false (is_call c.args.event) m.kept.is_down up;
+    }

@@ -1,0 +1,103 @@
+use Rattle.std.specs.Prelude.{IsTrue}
+use Rattle.std.proofs.Common.{◌≡◌, ℕ, List, refl, sym, ◌∙◌, ap, subst}
+use Rattle.alp_base.specs.declared.faults.Sizes.{Sizes}
+use Rattle.alp_anchor.specs.declared.anchor.Anchor.{Anchor}
+use Rattle.std.specs.Prelude.{Bool}
+use Rattle.alp_vault.specs.Contents.{Contents}
+use Rattle.alp_vault.specs.Volumes.{IsVolumeOf}
+use Rattle.alp_journal.specs.declared.entry.Entry.{Entry}
+use Rattle.alp_journal.specs.Along.{Along}
+use Rattle.alp_journal.specs.Moves.{next}
+use Rattle.alp_journal.specs.State.{opened}
+use Rattle.alp_node.specs.Nodes.{start_in}
+use Rattle.alp_node.specs.Starts.{AreOfServer as StartOfServer, HasStartCause, HasRaised, IsNoteFault}
+use Rattle.alp_node.specs.declared.start.StartFault.{StartFault}
+use Rattle.alp_store.specs.Told.{contents_of}
+use Rattle.alp_wal.specs.Wal.{disk_of, anchor_of}
+use Rattle.alp_store.specs.contracts.store.StoreVault.TheImpl as store_vault
+use Rattle.alp_top.specs.Faults.{of_start}
+use Rattle.alp_top.specs.Servers.{IsOn, IsDone}
+use Rattle.alp_top.specs.declared.fault.RunFault.{RunFault}
+use Rattle.alp_top.specs.Volumes.{HasDiskCause}
+use Rattle.alp_top.proofs.GoneLemmas.{stays_free}
+use Rattle.alp_top.proofs.DiskLemmas.{not_opened, not_started, of_server, stored, holds_one, if_ok, on_ok}
+use Rattle.alp_top.proofs.volume.run_disk.Goals as goal
+
+pub returns-in-Err-clause-cause : goal.returns-in-Err-clause-cause
+returns-in-Err-clause-cause g c =
+    let h = c.in-Err.ensures in
+    subst (λ (f : RunFault). HasDiskCause g.D.Disk c.args.sizes f c.args.disk c.in-Err.disk) (sym c.of_vault.ensures)
+    (not_opened g.D.Disk c.args.sizes c.args.disk c.in-Err.disk c.in-Err.fault h.cause.cause (stays_free _ _ h.below.allowance c.requires.free) (λ is. (h.new c.requires.told is).volume) (λ old. h.why_not c.requires.told old)
+    (λ old. (h.looked c.requires.told old).seen))
+
+pub start-requires-2-clause-given : goal.start-requires-2-clause-given
+start-requires-2-clause-given g c told =
+    let h = c.in-Ok.ensures in
+    of_server g.D.Disk c.args.sizes c.args.disk (contents_of g.D.Disk c.in-Ok.store.log) (λ is. (h.new c.requires.told is).empty)
+    (λ old. subst (λ (k : ℕ). StartOfServer k (contents_of g.D.Disk c.in-Ok.store.log)) h.named.0 (h.mounted c.requires.told old).own.files)
+
+pub returns-in-Err-start-clause-cause : goal.returns-in-Err-start-clause-cause
+returns-in-Err-start-clause-cause g c =
+    let G = g.D.Disk in
+    let d = c.args.disk in
+    let s = c.in-Ok.store.log in
+    let h = c.in-Ok.ensures in
+    let k = c.in-Err-start.ensures in
+    let f : StartFault = c.in-Err-start.fault in
+    let e = disk_of c.in-Err-start.store.log in
+    let cause : HasStartCause 1 1 (contents_of G s) (G.faults (disk_of s)) (G.faults e) (G.allowance e) f =
+    subst (λ (b : ℕ). HasStartCause 1 b (contents_of G s) (G.faults (disk_of s)) (G.faults e) (G.allowance e) f) h.named.1
+    (subst (λ (a : ℕ). HasStartCause a (anchor_of s).servers (contents_of G s) (G.faults (disk_of s)) (G.faults e) (G.allowance e) f) h.named.0 k.cause) in
+    subst (λ (q : RunFault). HasDiskCause G c.args.sizes q d c.into_disk.result) (sym c.of_start.ensures)
+    (subst (λ (q : g.row.D.Denot). HasDiskCause G c.args.sizes (of_start f) d q) (sym c.into_disk.ensures.disk)
+    (not_started G c.args.sizes d e (contents_of G s) f (G.faults (disk_of s)) (G.allowance e) (anchor_of s).sizes.home cause (stays_free _ _ k.allowance (stays_free _ _ h.below.allowance c.requires.free)) h.cause.still h.notes
+    (λ is. (h.new c.requires.told is).empty)
+    (λ old. holds_one _ _ _ _ _ _ (G.seen d) (contents_of G s) h.named.0 h.named.1 (h.looked c.requires.told old).size refl (h.mounted c.requires.told old).holds)
+    (λ old last. ap (λ v. G.seen (disk_of v.log)) (k.untouched (subst IsNoteFault (sym last) tt)) ∙ (h.looked c.requires.told old).seen)))
+
+pub returns-in-Ok-ended-clause-ran : goal.returns-in-Ok-ended-clause-ran
+returns-in-Ok-ended-clause-ran g c =
+    let G = g.D.Disk in
+    let V = store_vault.ghosts g.row.D g.D.Disk g.D.Disk-dict g.D.Destruct-dict in
+    let d = c.args.disk in
+    let s = c.in-Ok.store.log in
+    let h = c.in-Ok.ensures in
+    let n = c.in-Ok-start.node in
+    let k = c.in-Ok-start.ensures in
+    let r = c.run_node-store.ensures in
+    let s2 = c.run_node-store.result.0 in
+    let e = c.into_disk-disk.result in
+    let vol : Sizes = (anchor_of s).sizes in
+    let held : Contents = contents_of G s2.log in
+    let w = if_ok _ c.run_node-store.result.1 c.in-Ok-ended.ended c.in-Ok-ended.is r.ended in
+    let tells = subst IsTrue (sym (k.same.telling ∙ h.below.tells)) c.requires.told in
+    let told = subst IsTrue (sym r.gone.same.telling) tells in
+    let on : IsOn V n = record {
+      kept = c.knows.ensures;
+      tells = tells;
+      up = k.new.up;
+      free = stays_free _ _ k.allowance (stays_free _ _ h.below.allowance c.requires.free);
+      first = k.new.number;
+      alone = ap V.servers k.new.opening ∙ k.same.of_all ∙ h.named.1;
+      answered = subst (λ (js : List Entry). Along next IsDone (opened (start_in V n)) js) (sym k.new.journal) tt;
+    } in
+    let rose : HasRaised (V.tells n.kept.vault) 1 1 (contents_of G s) (V.held n.kept.vault) (record { epoch = n.kept.epoch; clock = n.kept.clock }) =
+    subst (λ (t : Bool). HasRaised t 1 1 (contents_of G s) (V.held n.kept.vault) (record { epoch = n.kept.epoch; clock = n.kept.clock })) (sym k.same.telling)
+    (subst (λ (b : ℕ). HasRaised (G.tells (disk_of s)) 1 b (contents_of G s) (V.held n.kept.vault) (record { epoch = n.kept.epoch; clock = n.kept.clock })) h.named.1
+    (subst (λ (a : ℕ). HasRaised (G.tells (disk_of s)) a (anchor_of s).servers (contents_of G s) (V.held n.kept.vault) (record { epoch = n.kept.epoch; clock = n.kept.clock })) h.named.0 k.raised)) in
+    let last = c.into_disk-disk.ensures in
+    let here = subst IsTrue (ap G.tells (sym last.disk)) told in
+    let volume : (anchor_of s2.log).sizes ≡ vol = r.gone.same.sizes ∙ k.same.sizes in
+    let fits : IsVolumeOf vol held.cells = subst (λ (z : Sizes). IsVolumeOf z held.cells) volume (c.knows-2.ensures.fitting held told (c.knows-2.ensures.as_held told w.serves)) in
+    record {
+      run = w.run;
+      report = w.report;
+      stored =
+          stored V G c.args.sizes w.run.server n (contents_of G s) vol d e w.run.number w.opening on k.new.journal k.new.opening k.same.sizes rose held w.held fits (λ is. (h.new c.requires.told is).empty)
+          (λ is. ap (λ (a : Anchor). a.sizes) (h.new c.requires.told is).anchor) (anchor_of s) refl (λ old. (h.mounted c.requires.told old).counts)
+          (λ old. holds_one _ _ _ _ _ _ (G.seen d) (contents_of G s) h.named.0 h.named.1 (h.looked c.requires.told old).size refl (h.mounted c.requires.told old).holds)
+          (holds_one _ _ _ _ _ _ (G.seen e) held (r.gone.same.number ∙ k.same.number ∙ h.named.0) (r.gone.same.of_all ∙ k.same.of_all ∙ h.named.1) (ap G.size (sym last.disk)) (ap (λ (z : Sizes). z.home) volume)
+          (last.holds here w.serves))
+          (last.left here w.serves)
+          (ap G.faults last.disk ∙ on_ok _ c.run_node-store.result.1 c.in-Ok-ended.ended c.in-Ok-ended.is r.gone.still ∙ k.counted ∙ h.cause.still);
+    }

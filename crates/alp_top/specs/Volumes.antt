@@ -1,0 +1,124 @@
+-- The disk of the run's server: what the server opened on, and what the disk holds when it is given back.
+use Rattle.std.specs.Prelude.{◌≡◌, ◌≢◌, ◌⊎◌, ◌≤◌, ℕ, ◌+◌, ◌*◌, List, Option, Some, Ok, Err}
+use Rattle.std.specs.FinMap as map
+use Rattle.alp_base.specs.Causes.{Rose}
+use Rattle.alp_base.specs.Crashes.{Only}
+use Rattle.alp_base.specs.Notes.{Notes}
+use Rattle.alp_base.specs.declared.faults.Sizes.{Sizes}
+use Rattle.alp_base.specs.declared.faults.VaultFault.TheVariants as vault_fault
+use Rattle.alp_anchor.specs.Anchor.{Counts}
+use Rattle.alp_anchor.specs.declared.anchor.Anchor.{Anchor}
+use Rattle.alp_bay.specs.Bays.{IsTaken}
+use Rattle.alp_disk.specs.Disk.{Image}
+use Rattle.alp_disk.specs.declared.disk.Disk.{Ghosts}
+use Rattle.alp_fields.specs.ClockNote.{clock_name, clock_form}
+use Rattle.alp_journal.specs.Opening.{Start, start_at}
+use Rattle.alp_journal.specs.State.{State}
+use Rattle.alp_node.specs.Durable.{said_of}
+use Rattle.alp_node.specs.Nodes.{IsSoundStart}
+use Rattle.alp_node.specs.Starts.{raised}
+use Rattle.alp_node.specs.declared.start.StartFault.TheVariants.{EpochEnd}
+use Rattle.alp_store.specs.Holding.{Holds}
+use Rattle.alp_store.specs.Starts.{IsNew, WhyNotStarted}
+use Rattle.alp_vault.specs.Contents.{Contents}
+use Rattle.alp_top.specs.declared.fault.RunFault.{RunFault}
+use Rattle.alp_top.specs.declared.fault.RunFault.TheVariants as fault
+
+-- the pages of a disk whose volume has these sizes: two anchors, two areas of the log, and home
+abbrev pub pages_of : Sizes → ℕ
+pages_of sizes = 2 + 2 * sizes.area + sizes.home
+
+-- ---- what the server opened on
+
+-- The disk was new: a volume of these sizes that held nothing, in the first epoch and with clock 0.
+pub record IsOpenedNew (sizes : Sizes) (o : Start) (notes : Notes) : Type 0 where
+  pub sizes_are : o.sizes ≡ sizes
+  pub epoch : o.epoch ≡ 1
+  pub clock : o.clock ≡ 0
+  pub cells : o.cells ≡ map.empty
+  pub noted : notes ≡ map.insert map.empty clock_name (clock_form.spell (record { epoch = 1; clock = 0 }))
+
+-- It was not: the server opened on what the disk's reading says, in the sizes of the anchor that counts there, and in the epoch
+-- after that of its note, which it raised.
+pub record IsOpenedOn (n : ℕ) (image : Image) (o : Start) (notes : Notes) : Type 0 where
+  pub anchor : Anchor
+  pub counts : Counts n image anchor
+  pub sizes_are : o.sizes ≡ anchor.sizes
+  pub held : Contents
+  pub holds : Holds 1 1 n o.sizes.home image held
+  pub cells : o.cells ≡ held.cells
+  pub next : raised held ≡ Ok (record { epoch = o.epoch; clock = o.clock })
+  pub noted : notes ≡ map.insert held.notes clock_name (clock_form.spell (record { epoch = o.epoch; clock = o.clock }))
+
+-- ---- what the disk holds behind the run
+
+-- What the server holds in the end is what the disk that was given back holds, and what a crash leaves of it: no note but that of
+-- the epoch and the clock, and what is sound to start on. The disk did not fail.
+pub record IsStored {D : Type 0} (g : Ghosts D) (sizes : Sizes) (o : Start) (notes : Notes) (m : State) (taken given : D) : Type 0 where
+  pub new : IsNew sizes (g.size taken) (g.seen taken) → IsOpenedNew sizes o notes
+  pub found : (IsNew sizes (g.size taken) (g.seen taken) → ⊥) → IsOpenedOn (g.size taken) (g.seen taken) o notes
+  pub finish : Holds 1 1 (g.size given) o.sizes.home (g.seen given) (said_of m)
+  pub durable : Only (g.seen given) (g.may_leave given)
+  pub sound : IsSoundStart (start_at 1 1 o.sizes (said_of m).cells (said_of m).notes)
+  pub unfailed : g.faults given ≡ g.faults taken
+
+-- ---- how the bay stands behind the run
+
+-- One disk was taken from the place of server 1, and this one is given back there. No other place changed.
+pub record IsReturned {D : Type 0} (g : Ghosts D) (sizes : Sizes) (before after : ℕ → Option D) (P : D → D → Type 0) : Type 0 where
+  pub taken : D
+  pub was : IsTaken g (before 1) (pages_of sizes) taken
+  pub given : D
+  pub now : after 1 ≡ Some given
+  pub others : (k : ℕ) → k ≢ 1 → after k ≡ before k
+  pub size : g.size given ≡ g.size taken
+  pub later : g.faults taken ≤ g.faults given
+  pub left : P taken given
+
+-- ---- why a run ended before its report
+
+-- a disk that is not new, of which nothing that a read gives was changed
+pub record IsLeftAlone {D : Type 0} (g : Ghosts D) (sizes : Sizes) (taken given : D) : Type 0 where
+  pub old : IsNew sizes (g.size taken) (g.seen taken) → ⊥
+  pub seen : g.seen given ≡ g.seen taken
+
+-- its volume has no epoch left
+pub record HasNoEpoch (n : ℕ) (image : Image) : Type 0 where
+  pub home : ℕ
+  pub held : Contents
+  pub holds : Holds 1 1 n home image held
+  pub last : raised held ≡ Err EpochEnd
+
+-- the disk failed, or it holds no volume of the server, or a damaged one, or one without a further epoch
+abbrev pub HasDiskCause : {D : Type 0} → Ghosts D → Sizes → RunFault → D → D → Type 0
+HasDiskCause g sizes fault.Disk taken given = Rose (g.faults taken) (g.faults given)
+HasDiskCause g sizes (fault.NotAVolume found) taken given =
+    IsLeftAlone g sizes taken given × WhyNotStarted 1 1 (g.size taken) (g.seen taken) (vault_fault.NotAVolume found)
+HasDiskCause g sizes (fault.Damaged place) taken given =
+    IsLeftAlone g sizes taken given × WhyNotStarted 1 1 (g.size taken) (g.seen taken) (vault_fault.Damaged place)
+HasDiskCause g sizes fault.EpochEnd taken given = IsLeftAlone g sizes taken given × HasNoEpoch (g.size taken) (g.seen taken)
+HasDiskCause g sizes fault.Bay taken given = ⊥
+HasDiskCause g sizes fault.OutOfMemory taken given = Unit {0}
+
+-- no disk was taken, or one was and is given back
+abbrev pub IsUntakenOrReturned : {D : Type 0} → Ghosts D → (before after : ℕ → Option D) → Type 0
+IsUntakenOrReturned g before after = (after ≡ before) ⊎ (sizes : Sizes) × IsReturned g sizes before after (λ _ _. Unit {0})
+
+-- how the bay stands then: where the bay failed nothing was taken, and where memory was wanting perhaps
+abbrev pub HasRunCause : {D : Type 0} → Ghosts D → Sizes → (before after : ℕ → Option D) → (bay_before bay_after : ℕ) → RunFault → Type 0
+HasRunCause g sizes before after bay_before bay_after fault.Bay = (after ≡ before) × Rose bay_before bay_after
+HasRunCause g sizes before after bay_before bay_after fault.OutOfMemory = IsUntakenOrReturned g before after
+HasRunCause g sizes before after bay_before bay_after f = IsReturned g sizes before after (HasDiskCause g sizes f)
+
+-- ---- which disks a run starts on
+
+-- it is new, or holds a volume of the server that has a further epoch
+pub record IsStartable (sizes : Sizes) (n : ℕ) (image : Image) : Type 0 where
+  pub volume : (found : List ℕ) → WhyNotStarted 1 1 n image (vault_fault.NotAVolume found) → IsNew sizes n image
+  pub whole : (place : ℕ) → WhyNotStarted 1 1 n image (vault_fault.Damaged place) → IsNew sizes n image
+  pub epoch : HasNoEpoch n image → IsNew sizes n image
+
+-- the device that was there, or a new one, is such a disk, and did not fail
+pub record StartsOn {D : Type 0} (g : Ghosts D) (sizes : Sizes) (before after : ℕ → Option D) : Type 0 where
+  pub startable : (d : D) → before 1 ≡ Some d → IsStartable sizes (g.size d) (g.seen d)
+  pub unfailed : (d e : D) → IsTaken g (before 1) (pages_of sizes) d → after 1 ≡ Some e → Rose (g.faults d) (g.faults e) → ⊥

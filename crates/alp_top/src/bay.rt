@@ -1,0 +1,48 @@
+//! The disk of the run's server is taken from its bay and given back.
+ghost use Rattle.std.specs.Prelude.{◌≡◌, IfOk, IfErr};
+ghost use Rattle.alp_script.specs.Accepted.{IsAccepted};
+ghost use Rattle.alp_script.specs.Volumes.{sizes_said};
+ghost use Rattle.alp_top.specs.Headline.{IsRunOf};
+ghost use Rattle.alp_top.specs.Volumes.{HasRunCause, IsReturned, pages_of as pages_of_said};
+ghost use Rattle.alp_vault.specs.Vault.{AreSizes};
+
+use crate::fault::RunFault;
+use crate::finish::Ended;
+use crate::play::SERVER;
+use crate::volume::run_disk;
+use alp_base::Sizes;
+use alp_bay::Bay;
+use alp_disk::{Disk, Fuse};
+use alp_script::{NumberedLine, sizes_of};
+use alp_store::Store;
+use alp_vault::Vault;
+use std::alloc::Global;
+
+// The pages of a new disk for a volume of these sizes.
+fn pages_of(sizes: Sizes) -> u32
+    requires { AreSizes sizes }
+    ensures { result ≡ pages_of_said sizes }
+{
+    2 + 2 * sizes.area + sizes.home
+}
+
+/// Plays the lines on the disk of server 1, in memory where no folder was chosen before. The disk is given back however the
+/// run ends.
+pub fn run_bay<B: Bay>(
+    alloc: Global,
+    lines: &[NumberedLine],
+    bay: &mut B,
+) -> Result<Ended<Store<Fuse<B::Device>>>, RunFault>
+    requires accepted { IsAccepted lines.now }
+    ensures ran { IfOk result (λ e. IsReturned B.Device.Disk (sizes_said lines.now 1) (B.at bay.old) (B.at bay.new) (IsRunOf ⟦<Store<Fuse<B::Device>> as Vault>⟧ B.Device.Disk (sizes_said lines.now 1) lines.now e.log e.text.items)) }
+    ensures cause { IfErr result (HasRunCause B.Device.Disk (sizes_said lines.now 1) (B.at bay.old) (B.at bay.new) (B.faults bay.old) (B.faults bay.new)) }
+{
+    bay.choose(None)?;
+    let sizes = sizes_of(lines, SERVER);
+    let device = bay.take(SERVER, pages_of(sizes))?;
+    let (disk, ended) = run_disk(alloc, lines, Fuse::new(device), sizes);
+    let mut device = disk.into_inner();
+    device.stop_after(None);
+    bay.give(SERVER, device);
+    ended
+}
