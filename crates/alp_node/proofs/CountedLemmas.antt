@@ -25,7 +25,9 @@ use Rattle.alp_journal.specs.Answers.{if_over, unless_counts}
 use Rattle.alp_journal.specs.Counts.{log_need}
 use Rattle.alp_journal.specs.Desk.{is_not_yet}
 use Rattle.alp_node.specs.Halts.{says_down}
+use Rattle.alp_node.specs.Turns.{TellsUpTo, IsInSession}
 use Rattle.alp_node.proofs.GivenLemmas.{shows_none}
+use Rattle.alp_node.proofs.TurnLemmas.{file_reply_in, file_reply_tells}
 use Rattle.alp_node.proofs.RoomLemmas.{not_over}
 
 -- a refusal for counts: it rests on more than a thread sees, lets no call wait, and tells of no fault
@@ -34,6 +36,7 @@ pub record IsCountRefusal (f : Refusal) : Type 0 where
   pub now : is_not_yet (reply.Refused f) ≡ false
   pub granted : (t : TransId) → grants_by true t (reply.Refused f) ≡ t ∷ []
   pub quiet : (here : ℕ) → (is_fault_reply here (Some (reply.Refused f)) || says_down (Some (reply.Refused f))) ≡ false
+  pub inside : IsInSession (reply.Refused f)
 
 pub over_is : (b : Bool) (r : Refusal) → IsCountRefusal r → (f : Refusal) → if_over b r ≡ Some f → IsCountRefusal f
 over_is true r h f e = subst IsCountRefusal (same r f e) h
@@ -47,13 +50,13 @@ either_is None y first second f e = second f e
 either_is (Some x) y first second f e = first f e
 
 pub too_many_is : (w : What) (n : ℕ) → IsCountRefusal (refusal.TooMany w n)
-too_many_is w n = record { passes = refl; now = refl; granted = λ t. refl; quiet = λ here. refl }
+too_many_is w n = record { passes = refl; now = refl; granted = λ t. refl; quiet = λ here. refl; inside = tt }
 
 full_is : (left asked : ℕ) → IsCountRefusal (refusal.VolumeFull left asked)
-full_is left asked = record { passes = refl; now = refl; granted = λ t. refl; quiet = λ here. refl }
+full_is left asked = record { passes = refl; now = refl; granted = λ t. refl; quiet = λ here. refl; inside = tt }
 
 pub log_is : (room asked : ℕ) → IsCountRefusal (refusal.LogFull room asked)
-log_is room asked = record { passes = refl; now = refl; granted = λ t. refl; quiet = λ here. refl }
+log_is room asked = record { passes = refl; now = refl; granted = λ t. refl; quiet = λ here. refl; inside = tt }
 
 pub refused_is : (room : Room) (now later : Counts) (f : Refusal) → refused_for room now later ≡ Some f → IsCountRefusal f
 refused_is room now later f e =
@@ -90,3 +93,20 @@ pub answered_quiet : (here : ℕ) (tells : Bool) (cells : Cells) (old new : Part
 answered_quiet here tells cells old new who id c room r h =
     subst (λ (x : Reply). (is_fault_reply here (Some x) || says_down (Some x)) ≡ false) (sym h.said)
     (unless_quiet here room old.counts h.after h.given (refused_for room old.counts h.after) refl (shows_none here h.given h.own))
+
+-- it is in its session, and tells no time
+unless_inside : (room : Room) (now later : Counts) (given : Reply) (o : Option Refusal) → refused_for room now later ≡ o → IsInSession given → IsInSession (unless_counts given o)
+unless_inside room now later given None e h = h
+unless_inside room now later given (Some f) e h = (refused_is room now later f e).inside
+
+unless_tells : (clock : ℕ) (given : Reply) (o : Option Refusal) → TellsUpTo clock given → TellsUpTo clock (unless_counts given o)
+unless_tells clock given None h = h
+unless_tells clock given (Some f) h = tt
+
+pub answered_inside : (tells : Bool) (cells : Cells) (old new : Part) (who : List ℕ) (id : FileId) (c : Call) (room : Room) (r : Reply) → Answered tells cells old new who id c room r → IsInSession r
+answered_inside tells cells old new who id c room r h =
+    subst IsInSession (sym h.said) (unless_inside room old.counts h.after h.given (refused_for room old.counts h.after) refl (file_reply_in h.given h.kind))
+
+pub answered_tells : (clock : ℕ) (tells : Bool) (cells : Cells) (old new : Part) (who : List ℕ) (id : FileId) (c : Call) (room : Room) (r : Reply) → Answered tells cells old new who id c room r → TellsUpTo clock r
+answered_tells clock tells cells old new who id c room r h =
+    subst (TellsUpTo clock) (sym h.said) (unless_tells clock h.given (refused_for room old.counts h.after) (file_reply_tells clock h.given h.kind))

@@ -24,6 +24,7 @@ use Rattle.alp_node.proofs.SeatLemmas.{left_leaves}
 use Rattle.alp_node.specs.Halts.{HaveCauses, says_down}
 use Rattle.alp_node.specs.ServerState.{IsReady}
 use Rattle.alp_node.specs.Steps.{Stepped, IsGiven, IsSeated, IsNoted, IsStill, IsStep, is_call, entry_of}
+use Rattle.alp_node.specs.Turns.{HasTurned}
 use Rattle.alp_node.specs.declared.answer.Answer.{Answer}
 use Rattle.alp_node.specs.declared.server_state.ServerState.{ServerState}
 
@@ -98,6 +99,7 @@ module _ {V : Type 0} (G : Ghosts V) (old new : ServerState V) where
     noted = noted;
     still = on_err r (IsStill G old new) still;
     seat = seat;
+    turned = λ up. IfOk-from_err r (λ x. HasTurned old new e x.kept) err;
     leaves = λ told a h.
         match_err r (λ x. Leaves G old.vault new.vault (Besides G old.vault (λ c. c ≡ said_by (alone a) (entry_of e x)))) (λ _. Leaves G old.vault new.vault (Besides G old.vault (MightBring (alone a) e))) err
         (λ _. left_leaves G old.vault new.vault (MightBring (alone a) e) left);

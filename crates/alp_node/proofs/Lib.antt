@@ -15,6 +15,7 @@ pub mod SpaceLemmas
 pub mod LiveSums
 pub mod WithinLemmas
 pub mod RoomLemmas
+pub mod TurnLemmas
 pub mod CountedLemmas
 pub mod StepLemmas
 pub mod CommitLemmas

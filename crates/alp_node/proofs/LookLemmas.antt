@@ -47,6 +47,7 @@ use Rattle.alp_node.proofs.GivenLemmas.{IsCounted, counts_fault, counts_down, re
 use Rattle.alp_node.proofs.KeptLemmas.{IsLive, live_there, same_live}
 use Rattle.alp_node.proofs.MapLemmas.{put_length, put_there, get_put}
 use Rattle.alp_node.proofs.ReadyLemmas.{counted_ready, down_ready}
+use Rattle.alp_node.proofs.TurnLemmas.{counts_refused, file_call_greets_none}
 use Rattle.alp_node.proofs.SeatLemmas.{left_seated, left_noted, left_step}
 use Rattle.alp_node.proofs.ServedLemmas.{fault_stepped}
 use Rattle.alp_node.proofs.StandingLemmas.{own_standing}
@@ -178,6 +179,7 @@ module _ {V : Type 0} (G : Ghosts V) (k N : ServerState V) (t : TransId) (l : Li
         (reply_given k.server (G.faults k.vault) (G.faults N.vault) (G.allowance N.vault) k.is_down (reply.Refused refusal.ReadFault) [] (refused_answer refusal.ReadFault []) refl
         (subst (λ (b : Bool). IsCounted k.server (G.faults k.vault) (G.faults N.vault) b (Some (reply.Refused refusal.ReadFault))) (sym up) (counts_fault k.server (G.faults k.vault) (G.faults N.vault) (Some (reply.Refused refusal.ReadFault)) refl refl left.later rose)) up tt)
         (λ n h. counted_ready n (G.serves N.vault) (after_look p) turn is (look_ready n (G.serves N.vault) on h))
+        (λ on. counts_refused k (record (after_look p) { sessions = counted_in k.sessions turn }) turn is c refusal.ReadFault (file_call_greets_none c t named) tt refl refl)
 
     -- the vault was stopped: the server is down
     stopped_step : l.client ≡ turn.client → G.serves N.vault ≡ false → G.allowance N.vault ≡ Spent
@@ -189,6 +191,7 @@ module _ {V : Type 0} (G : Ghosts V) (k N : ServerState V) (t : TransId) (l : Li
         (reply_given k.server (G.faults k.vault) (G.faults N.vault) (G.allowance N.vault) true (reply.Refused refusal.Down) (act.Stopped ∷ []) (refused_answer refusal.Down (act.Stopped ∷ [])) refl
         (counts_down k.server (G.faults k.vault) (G.faults N.vault) left.later) refl (spent, tt))
         (λ n h. down_ready n true (G.serves N.vault) (after_look p) N.vault off (look_ready n true refl h))
+        (λ on. cc)
 
   -- whatever the fault was
   pub without_step : (new : ServerState V) (turn : Turn) (c : Call) (b : LockCounts) (fault : CallFault) (r : Result Answer OutOfMemory) → Looks G k.vault N.vault (Some fault) → IsTurn k.sessions turn → k.is_down ≡ false → file_trans c ≡ Some t

@@ -33,6 +33,7 @@ use Rattle.alp_node.specs.ServerState.{IsAs, IsReady}
 use Rattle.alp_node.specs.Durable.{IsDurable, IsSettled, IsKeptOrBrought, MightBring, Leaves, Besides, said_of, said_by, said_then, stored_by}
 use Rattle.alp_node.specs.Nodes.{IsConsistent, IsRight, Answered, HasCause, HasNoEntry, HasRoom, state_of, start_by, start_in}
 use Rattle.alp_node.specs.Steps.{Stepped, IsStep, IsEntered, entry_of}
+use Rattle.alp_node.specs.Turns.{HasTurned}
 use Rattle.alp_node.specs.Served.{IsServed, AreLivesSound}
 use Rattle.alp_node.specs.declared.server_state.ServerState.{ServerState}
 use Rattle.alp_node.proofs.ApartLemmas.{covered_puts}
@@ -276,6 +277,11 @@ module _ {V : Type 0} (G : Ghosts V) (old : NodeState V) (kept : ServerState V) 
     entered_durable (Ok y) room own (x, s, handed, is) told =
         subst (λ (o : Start). Leaves G old.kept.vault kept.vault (Either (G.held old.kept.vault) (said_then (state_of o journal)))) (start_then s.seat.server) (leaves_then x room own s is told)
     entered_durable (Err f) room own (s, is) told = leaves_still f s told
+
+  -- where it goes on, its sessions and its clock went on with the event
+  pub entered_turned : (r : Result (Option Reply) OutOfMemory) → IsEntered G old.kept kept old.journal journal e r → kept.is_down ≡ false → IfOk r (λ y. HasTurned old.kept kept e y)
+  entered_turned (Ok y) (x, s, handed, is) up = subst (λ (z : Option Reply). HasTurned old.kept kept e z) (sym s.given.handed ∙ handed) (s.turned up)
+  entered_turned (Err f) h up = tt
 
   pub entered_still : (r : Result (Option Reply) OutOfMemory) → IsEntered G old.kept kept old.journal journal e r → OnErr r (HasNoEntry G old node_then)
   entered_still (Ok y) h = tt

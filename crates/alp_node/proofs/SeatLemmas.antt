@@ -16,6 +16,7 @@ use Rattle.alp_journal.specs.Alone.{Alone}
 use Rattle.alp_node.specs.Durable.{Leaves, Besides}
 use Rattle.alp_node.specs.ServerState.{IsAs, IsReady}
 use Rattle.alp_node.specs.Steps.{Stepped, IsGiven, IsSeated, IsNoted, IsStep, is_call}
+use Rattle.alp_node.specs.Turns.{HasTurned}
 use Rattle.alp_node.specs.declared.answer.Answer.{Answer}
 use Rattle.alp_node.specs.declared.server_state.ServerState.{ServerState}
 
@@ -73,13 +74,15 @@ module _ {V : Type 0} (G : Ghosts V) where
         → (IsTrue (G.tells old.vault) → (a : Alone) → IsAs a (G.held old.vault) old → Stepped a (G.faults old.vault) (G.faults new.vault) (G.held new.vault) new e x)
         → IsGiven old.server (is_call e) (G.faults old.vault) (G.faults new.vault) (G.allowance new.vault) new.is_down x
         → ((n : ℕ) → IsReady n (G.serves old.vault) old → IsReady (n + 1) (G.serves new.vault) new)
+        → (new.is_down ≡ false → HasTurned old new e x.kept)
         → IsStep G old new e (Ok x)
-    left_step e x up stepped given ready = record {
+    left_step e x up stepped given ready turned = record {
       stepped = stepped;
       given = given;
       ready = ready;
       noted = left_noted up;
       still = tt;
       seat = left_seated;
+      turned = turned;
       leaves = λ told a h. left_leaves old.vault new.vault _ left;
     }

@@ -30,6 +30,7 @@ use Rattle.alp_node.specs.Asks.{is_given, is_of_given}
 use Rattle.alp_node.specs.Calls.{IsServedCall, IsLockCall}
 use Rattle.alp_node.specs.Dead.{is_dead}
 use Rattle.alp_node.specs.Halts.{says_down}
+use Rattle.alp_node.specs.Turns.{IsInSession}
 use Rattle.alp_node.specs.ServerState.{IsAs, IsLife}
 use Rattle.alp_node.specs.Shapes.{no_open, no_run, shape_of, counts_then, too_locked}
 use Rattle.alp_node.specs.Standings.{standing_of}
@@ -81,6 +82,13 @@ shape_now server epoch given opens c f e = go (shape_is server epoch given opens
     go : IsCountRefusal f ⊎ ((f ≡ refusal.UnknownFile) × (is_of_given server epoch given c ≡ false)) → is_not_yet (reply.Refused f) ≡ false
     go (inl counts) = counts.now
     go (inr x) = ap (λ (g : Refusal). is_not_yet (reply.Refused g)) x.0
+
+pub shape_inside : (server epoch given opens : ℕ) (c : Call) (f : Refusal) → shape_of server epoch given opens c ≡ Some f → IsInSession (reply.Refused f)
+shape_inside server epoch given opens c f e = go (shape_is server epoch given opens c f e)
+  where
+    go : IsCountRefusal f ⊎ ((f ≡ refusal.UnknownFile) × (is_of_given server epoch given c ≡ false)) → IsInSession (reply.Refused f)
+    go (inl counts) = counts.inside
+    go (inr x) = subst (λ (g : Refusal). IsInSession (reply.Refused g)) (sym x.0) tt
 
 pub shape_quiet : (here server epoch given opens : ℕ) (c : Call) (f : Refusal) → shape_of server epoch given opens c ≡ Some f → (is_fault_reply here (Some (reply.Refused f)) || says_down (Some (reply.Refused f))) ≡ false
 shape_quiet here server epoch given opens c f e = go (shape_is server epoch given opens c f e)

@@ -1,6 +1,6 @@
 -- a step whose part ended
 use Rattle.std.specs.Prelude.{Bool, true, false, ◌||◌, IsTrue, None, Some, Ok}
-use Rattle.std.proofs.Common.{◌≡◌, ℕ, ◌+◌, ◌≤◌, List, [], ◌∷◌, refl, sym, ◌∙◌, ap, subst}
+use Rattle.std.proofs.Common.{◌≡◌, ℕ, ◌+◌, ◌≤◌, List, [], ◌∷◌, refl, sym, ◌∙◌, ap, subst, arith}
 use Rattle.alp_base.specs.Allowances.{Spends}
 use Rattle.alp_base.specs.declared.ids.TransId.{TransId}
 use Rattle.alp_files.specs.declared.call.Call.{Call}
@@ -25,12 +25,14 @@ use Rattle.alp_journal.specs.Alone.{Alone, alone}
 use Rattle.alp_vault.specs.declared.vault.Vault.{Ghosts}
 use Rattle.alp_node.specs.ServerState.{IsAs, IsReady}
 use Rattle.alp_node.specs.Steps.{Stepped, IsStep, IsTurn, counted_in, without_trans, ended, refused_answer, entry_of}
+use Rattle.alp_node.specs.Turns.{IsInSession, is_greeting, HasTurned}
 use Rattle.alp_node.specs.declared.answer.Answer.{Answer}
 use Rattle.alp_node.specs.declared.server_state.ServerState.{ServerState}
 use Rattle.alp_node.specs.declared.sessions.Turn.{Turn}
 use Rattle.alp_node.proofs.GivenLemmas.{IsCounted, counts_none, counts_down, reply_given, silence_given}
 use Rattle.alp_node.proofs.KeptLemmas.{as_with}
 use Rattle.alp_node.proofs.ReadyLemmas.{gone_ready, counted_ready, buried_ready, ready_with, down_ready}
+use Rattle.alp_node.proofs.TurnLemmas.{counts_refused}
 use Rattle.alp_node.specs.Dead.{without_part}
 
 pub ended_ready : {V : Type 0} (n : ℕ) (serves : Bool) (k : ServerState V) (turn : Turn) (t : TransId) → IsTurn k.sessions turn → IsReady n serves k → IsReady (n + 1) serves (ended k turn t)
@@ -46,8 +48,9 @@ module _ {V : Type 0} (G : Ghosts V) (k : ServerState V) (v : V) where
       → IsCounted k.server (G.faults k.vault) (G.faults v) k.is_down (Some (reply.Refused (refusal.Aborted cause))) → IsTurn k.sessions turn → k.is_down ≡ false
       → new ≡ ended mid turn t → x ≡ refused_answer (refusal.Aborted cause) (act.Released t ∷ [])
       → (IsTrue (G.tells k.vault) → (a : Alone) → IsAs a (G.held k.vault) k → Stepped a (G.faults k.vault) (G.faults v) (G.held k.vault) (ended k turn t) (event.Call turn.client k.epoch turn.number c) x)
+      → is_greeting c ≡ false
       → IsStep G k new (event.Call turn.client k.epoch turn.number c) (Ok x)
-  ended_step turn t c cause x new left on counted is up done so steps =
+  ended_step turn t c cause x new left on counted is up done so steps other =
       subst (λ (y : ServerState V). IsStep G k y (event.Call turn.client k.epoch turn.number c) (Ok x)) (sym done)
       (left_step G k (ended mid turn t) refl refl refl left (event.Call turn.client k.epoch turn.number c) x up
       (λ told a h. (
@@ -61,7 +64,8 @@ module _ {V : Type 0} (G : Ghosts V) (k : ServerState V) (v : V) where
         clock = s.clock;
       }))
       (reply_given k.server (G.faults k.vault) (G.faults v) (G.allowance v) k.is_down (reply.Refused (refusal.Aborted cause)) (act.Released t ∷ []) x so counted up tt)
-      (λ n h. ended_ready n (G.serves v) mid turn t is (ready_with n (G.serves k.vault) (G.serves v) k v on up h)))
+      (λ n h. ended_ready n (G.serves v) mid turn t is (ready_with n (G.serves k.vault) (G.serves v) k v on up h))
+      (λ on. subst (λ (y : Answer). HasTurned k (ended mid turn t) (event.Call turn.client k.epoch turn.number c) y.kept) (sym so) (counts_refused k (ended mid turn t) turn is c (refusal.Aborted cause) other tt refl refl)))
 
 -- a step in which the vault was stopped, or failed in its commit
 module _ {V : Type 0} (G : Ghosts V) (k new : ServerState V) (v : V) where
@@ -81,6 +85,7 @@ module _ {V : Type 0} (G : Ghosts V) (k new : ServerState V) (v : V) where
         noted = λ h. ((λ e. cc), (λ e. cc));
         still = tt;
         seat = record { server = refl; sizes = refl; epoch = refl; same = same; spends = spends };
+        turned = λ up. cc;
         leaves = leaves;
       })
 
@@ -90,29 +95,35 @@ module _ {V : Type 0} (G : Ghosts V) (k new : ServerState V) where
       → x ≡ record { kept = Some r; handed = Some r; acts = acts } → list_any is_stop acts ≡ false → ((before now : ℕ) (allowance : Allowance) → HaveCauses before now allowance acts)
       → ((n : ℕ) → IsReady n (G.serves k.vault) k → IsReady (n + 1) (G.serves k.vault) new)
       → (IsTrue (G.tells k.vault) → (a : Alone) → IsAs a (G.held k.vault) k → Stepped a (G.faults k.vault) (G.faults k.vault) (G.held k.vault) new (event.Call turn.client k.epoch turn.number c) x)
+      → HasTurned k new (event.Call turn.client k.epoch turn.number c) (Some r)
       → IsStep G k new (event.Call turn.client k.epoch turn.number c) (Ok x)
-  plain_step turn c x r acts vault server sizes epoch was up quiet so none causes ready steps =
+  plain_step turn c x r acts vault server sizes epoch was up quiet so none causes ready steps turned =
       left_step G k new server sizes epoch (left_alone G k.vault new.vault vault) (event.Call turn.client k.epoch turn.number c) x was
       (λ told a h. subst (λ (v : V). Stepped a (G.faults k.vault) (G.faults v) (G.held v) new (event.Call turn.client k.epoch turn.number c) x) (sym vault) (steps told a h))
       (reply_given k.server (G.faults k.vault) (G.faults new.vault) (G.allowance new.vault) new.is_down r acts x so (counts_none k.server (G.faults k.vault) (G.faults new.vault) new.is_down (Some r) quiet (ap G.faults vault)) (up ∙ sym none) (causes (G.faults k.vault) (G.faults new.vault) (G.allowance new.vault)))
       (λ n h. subst (λ (v : V). IsReady (n + 1) (G.serves v) new) (sym vault) (ready n h))
+      (λ on. subst (λ (y : Answer). HasTurned k new (event.Call turn.client k.epoch turn.number c) y.kept) (sym so) turned)
 
   -- the call is refused, and the session counts it
   pub refused_step : (turn : Turn) (c : Call) (x : Answer) (f : Refusal) → (is_fault_reply k.server (Some (reply.Refused f)) || says_down (Some (reply.Refused f))) ≡ false → IsTurn k.sessions turn → k.is_down ≡ false → new ≡ record k { sessions = counted_in k.sessions turn } → x ≡ refused_answer f []
       → (IsTrue (G.tells k.vault) → (a : Alone) → IsAs a (G.held k.vault) k → Stepped a (G.faults k.vault) (G.faults k.vault) (G.held k.vault) (record k { sessions = counted_in k.sessions turn }) (event.Call turn.client k.epoch turn.number c) x)
+      → is_greeting c ≡ false → IsInSession (reply.Refused f)
       → IsStep G k new (event.Call turn.client k.epoch turn.number c) (Ok x)
-  refused_step turn c x f quiet is up same so steps =
+  refused_step turn c x f quiet is up same so steps other inside =
       plain_step turn c x (reply.Refused f) [] (ap (λ (y : ServerState V). y.vault) same) (ap (λ (y : ServerState V). y.server) same) (ap (λ (y : ServerState V). y.sizes) same) (ap (λ (y : ServerState V). y.epoch) same) up (ap (λ (y : ServerState V). y.is_down) same ∙ up) quiet so refl
       (λ m n b. tt) (λ n h. subst (λ (y : ServerState V). IsReady (n + 1) (G.serves k.vault) y) (sym same) (counted_ready n (G.serves k.vault) k turn is h))
       (λ told a h. subst (λ (y : ServerState V). Stepped a (G.faults k.vault) (G.faults k.vault) (G.held k.vault) y (event.Call turn.client k.epoch turn.number c) x) (sym same) (steps told a h))
+      (counts_refused k new turn is c f other inside (ap (λ (y : ServerState V). y.clock) same) (ap (λ (y : ServerState V). y.sessions) same))
 
   -- an event that is met with silence
   pub silent_step : (t : TransId) (x : Answer) (acts : List Act) → new.vault ≡ k.vault → new.server ≡ k.server → new.sizes ≡ k.sizes → new.epoch ≡ k.epoch → k.is_down ≡ false → new.is_down ≡ false
       → x ≡ record { kept = None; handed = None; acts = acts }
       → list_any is_stop acts ≡ false → ((before now : ℕ) (allowance : Allowance) → HaveCauses before now allowance acts) → ((n : ℕ) → IsReady n (G.serves k.vault) k → IsReady (n + 1) (G.serves k.vault) new)
-      → ((a : Alone) → IsAs a (G.held k.vault) k → Stepped a (G.faults k.vault) (G.faults k.vault) (G.held k.vault) new (event.Timeout t) x) → IsStep G k new (event.Timeout t) (Ok x)
-  silent_step t x acts vault server sizes epoch was up so none causes ready steps =
+      → ((a : Alone) → IsAs a (G.held k.vault) k → Stepped a (G.faults k.vault) (G.faults k.vault) (G.held k.vault) new (event.Timeout t) x)
+      → new.clock ≡ k.clock → new.sessions ≡ k.sessions → IsStep G k new (event.Timeout t) (Ok x)
+  silent_step t x acts vault server sizes epoch was up so none causes ready steps clock sessions =
       left_step G k new server sizes epoch (left_alone G k.vault new.vault vault) (event.Timeout t) x was
       (λ told a h. subst (λ (v : V). Stepped a (G.faults k.vault) (G.faults v) (G.held v) new (event.Timeout t) x) (sym vault) (steps a h))
       (silence_given k.server (G.faults k.vault) (G.faults new.vault) (G.allowance new.vault) new.is_down acts x so (ap G.faults vault) up (up ∙ sym none) (causes (G.faults k.vault) (G.faults new.vault) (G.allowance new.vault)))
       (λ n h. subst (λ (v : V). IsReady (n + 1) (G.serves v) new) (sym vault) (ready n h))
+      (λ on. subst (λ (y : Answer). HasTurned k new (event.Timeout t) y.kept) (sym so) (record { later = omega (arith, clock); times = tt; sessions = sessions }))

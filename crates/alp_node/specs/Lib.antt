@@ -10,6 +10,7 @@ pub mod Dead
 pub mod Standings
 pub mod Rooms
 pub mod Calls
+pub mod Turns
 pub mod Steps
 pub mod Served
 pub mod Starts

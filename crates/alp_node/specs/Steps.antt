@@ -35,6 +35,7 @@ use Rattle.alp_node.specs.Durable.{said_by, MightBring, Leaves, Besides}
 use Rattle.alp_node.specs.Halts.{HaveCauses, IsUncounted, says_down}
 use Rattle.alp_node.specs.Sessions.{session_at, with_session}
 use Rattle.alp_node.specs.ServerState.{IsAs, IsReady}
+use Rattle.alp_node.specs.Turns.{HasTurned}
 
 -- the entry of an event with its answer
 abbrev pub entry_of : Event → Answer → Entry
@@ -105,6 +106,7 @@ pub record IsStep {V : Type 0} (G : Ghosts V) (old new : ServerState V) (e : Eve
   pub noted : IsNoted G old → IsNoted G new
   pub still : OnErr r (IsStill G old new)
   pub seat : IsSeated G old new
+  pub turned : new.is_down ≡ false → IfOk r (λ x. HasTurned old new e x.kept)
   -- through the step a crash leaves what it might have left before, or all that the entry was to bring about
   pub leaves : IsTrue (G.tells old.vault) → (a : Alone) → IsAs a (G.held old.vault) old
       → MatchResult r (λ x. Leaves G old.vault new.vault (Besides G old.vault (λ c. c ≡ said_by (alone a) (entry_of e x)))) (λ _. Leaves G old.vault new.vault (Besides G old.vault (MightBring (alone a) e)))

@@ -10,6 +10,7 @@ ghost use Rattle.alp_node.specs.Durable.{Leaves, IsSettled, IsKeptOrBrought, sai
 ghost use Rattle.alp_node.specs.Nodes.{IsConsistent, Answered, AreLive, HasNoEntry, HasRoom, state_of, start_in};
 ghost use Rattle.alp_node.specs.Served.{IsServed, AreLivesSound};
 ghost use Rattle.alp_node.specs.Steps.{IsEntered, IsNoted, IsSeated, seen_in};
+ghost use Rattle.alp_node.specs.Turns.{HasTurned};
 
 use crate::answer::Answer;
 use crate::opened::Opened;
@@ -62,6 +63,7 @@ impl<V: Vault> Node<V> {
         ensures still { (a : Alone) → IsAs a (V.held self.old.kept.vault) self.old.kept → OnErr result (IsAs a (V.held self.new.kept.vault) self.new.kept) }
         ensures opening { self.new.opening ≡ self.old.opening }
         ensures seat { IsSeated V.Vault self.old.kept self.new.kept }
+        ensures turned { self.new.kept.is_down ≡ false → IfOk result (λ r. HasTurned self.old.kept self.new.kept event r) }
         ensures clock { IsTrue (V.tells self.old.kept.vault) → self.new.kept.clock ≤ max self.old.kept.clock (seen_in event) + 1 }
         // Through the step a crash leaves what the vault held before it, or all that its one write makes of that; where memory was
         // wanting, what another lawful answer would have made of it.

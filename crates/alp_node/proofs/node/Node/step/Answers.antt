@@ -4,7 +4,8 @@ use Rattle.alp_base.specs.Crashes.{Either}
 use Rattle.alp_node.specs.Durable.{Leaves, IsKeptOrBrought, said_then}
 use Rattle.alp_node.specs.NodeStates.{NodeState}
 use Rattle.alp_node.specs.Nodes.{Answered, HasRoom, start_in, state_of}
-use Rattle.alp_node.proofs.NodeLemmas.{served_own, right_sound, entered_kept, entered_durable, entered_answered}
+use Rattle.alp_node.specs.Turns.{HasTurned}
+use Rattle.alp_node.proofs.NodeLemmas.{served_own, right_sound, entered_kept, entered_durable, entered_answered, entered_turned}
 use Rattle.alp_node.proofs.node.Node.step.Goals as goal
 
 pub answer-requires-clause-known : goal.answer-requires-clause-known
@@ -49,3 +50,12 @@ returns-clause-durable g c told up =
     (entered_durable G old kept journal c.args.event c.self.invariant c.if-self.false c.answer.ensures.settled.0 c.answer.ensures.settled.1 c.answer.result
     (subst (λ (n : NodeState g.row.V.Denot). HasRoom n) (sym c.self.view_is) c.requires.room) (served_own c.args.self.now.kept c.args.event c.requires.served)
     (c.answer.ensures.entered old.journal (c.in_ok-make_place.ensures.ok.0) (c.in_ok-make_place.ensures.ok.1)) (subst (λ (n : NodeState g.row.V.Denot). IsTrue (G.tells n.kept.vault)) (sym c.self.view_is) told))
+
+pub returns-clause-turned : goal.returns-clause-turned
+returns-clause-turned g c up =
+    let G = g.V.Vault in
+    let old : NodeState g.row.V.Denot = record { opening = c.self.inside.opening; kept = c.self.inside.kept; journal = c.self.inside.journal } in
+    let kept = c.answer.new.kept in
+    let journal = c.answer.new.journal in
+    subst (λ (n : NodeState g.row.V.Denot). IfOk c.answer.result (λ r. HasTurned n.kept kept c.args.event r)) c.self.view_is
+    (entered_turned G old kept journal c.args.event c.answer.result (c.answer.ensures.entered old.journal (c.in_ok-make_place.ensures.ok.0) (c.in_ok-make_place.ensures.ok.1)) up)

@@ -24,3 +24,4 @@ returns g c =
     (counts_none k.server (G.faults k.vault) (G.faults k.vault) k.is_down (Some (reply.Refused (refusal.Aborted cause.Asked))) refl refl)
     c.requires.turn c.requires.up c.end.ensures.kept so
     (λ told a h. abort_stepped a (G.faults k.vault) (G.faults k.vault) (G.held k.vault) k turn c.args.trans mine.0 c.end.result h c.requires.turn c.requires.up c.requires.ready.2.alone c.requires.here mine.1 mine.2 so)
+    refl

@@ -23,6 +23,9 @@ use Rattle.alp_node.specs.declared.dead.DeadPart.{DeadPart}
 use Rattle.alp_node.specs.declared.lives.Live.{Live}
 use Rattle.alp_node.specs.declared.server_state.ServerState.{ServerState}
 use Rattle.alp_node.specs.declared.sessions.Sessions.{Sessions}
+use Rattle.alp_node.specs.Turns.{HasTurned}
+use Rattle.alp_node.specs.declared.answer.Answer.{Answer}
+use Rattle.alp_node.proofs.TurnLemmas.{counts_on, counts_refused}
 use Rattle.alp_node.proofs.EndLemmas.{begin_stepped, begin_refused_stepped}
 use Rattle.alp_node.proofs.WithinLemmas.{new_within}
 use Rattle.alp_node.proofs.StepLemmas.{plain_step}
@@ -62,6 +65,7 @@ returns-then-is_err g c =
         vault = record { held = refl; faults = refl; allowance = refl };
       };
       seat = left_seated g.V.Vault k (record k { lives = c.add.new.self; locks = c.release_all.new.self }) refl refl refl (left_same g.V.Vault k.vault);
+      turned = λ up. tt;
       leaves = λ told a h. left_leaves g.V.Vault k.vault k.vault (MightBring (alone a) (event.Call c.args.turn.now.client k.epoch c.args.turn.now.number (call.Begin c.args.seen))) (left_same g.V.Vault k.vault);
     }
 
@@ -98,6 +102,9 @@ returns g c =
     (subst (λ (y : LiveMap). IsReady (n + 1) serves (record k { clock = c.max-self.result; drawn = k.drawn + 1; sessions = counted_in k.sessions turn; dead = without_client turn.client k.dead; lives = y; locks = c.enter.new.self })) (sym lives)
     (subst (λ (y : Table). IsReady (n + 1) serves (record k { clock = c.max-self.result; drawn = k.drawn + 1; sessions = counted_in k.sessions turn; dead = without_client turn.client k.dead; lives = map.insert k.lives t l; locks = y })) (sym c.in_ok-enter.ensures.after)
     (begin_ready n serves k turn t l c.max-self.result c.requires.turn refl c.new-2.ensures.own (new_within k.sizes turn.client turn.session.who c.new-2.result c.new-2.ensures.intents c.new-2.ensures.counts h.sized) few (omega (arith, c.max-self.ensures, h.clock, c.requires.time)) h)))))
+    (λ on. subst (λ (y : Answer). HasTurned k (record k { clock = c.max-self.result; drawn = k.drawn + 1; sessions = c.count.new.self; dead = c.bury-2.new.self; lives = c.add.new.self; locks = c.enter.new.self }) e y.kept) (sym is)
+    (counts_on k (record k { clock = c.max-self.result; drawn = k.drawn + 1; sessions = c.count.new.self; dead = c.bury-2.new.self; lives = c.add.new.self; locks = c.enter.new.self }) turn c.requires.turn
+    (call.Begin c.args.seen) (reply.Begun t) refl tt (omega (arith, c.max-self.ensures)) tt c.count.ensures))
 
 pub returns-then-len-ge-MOST_TRANSACTIONS : goal.returns-then-len-ge-MOST_TRANSACTIONS
 returns-then-len-ge-MOST_TRANSACTIONS g c =
@@ -114,6 +121,7 @@ returns-then-len-ge-MOST_TRANSACTIONS g c =
     (λ n h. subst (λ (y : ServerState _). IsReady (n + 1) (G.serves k.vault) y) (sym kept) (refused_ready n (G.serves k.vault) k turn (without_client turn.client k.dead) c.requires.turn h))
     (λ told a h. subst (λ (y : ServerState _). Stepped a (G.faults k.vault) (G.faults k.vault) (G.held k.vault) y e c.refuse.result) (sym kept)
     (begin_refused_stepped a (G.held k.vault) k turn.client turn.number turn.session c.args.seen (G.faults k.vault) (G.faults k.vault) c.refuse.result h c.requires.turn.client c.requires.up c.requires.turn.session c.requires.turn.number many c.refuse.ensures.answer))
+    (counts_refused k c.refuse.new.self turn c.requires.turn (call.Begin c.args.seen) f refl tt (ap (λ (y : ServerState _). y.clock) kept) (ap (λ (y : ServerState _). y.sessions) kept))
 
 -- the table has no room
 pub returns-in_err-enter : goal.returns-in_err-enter

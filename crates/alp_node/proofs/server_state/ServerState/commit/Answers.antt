@@ -29,3 +29,4 @@ returns-then-self-ge-CLOCK_END g c =
     c.requires.turn c.requires.up c.end.ensures.kept so
     (λ told a h. against_stepped a (G.faults k.vault) (G.faults k.vault) (G.held k.vault) k turn c.args.trans mine.0 false why.ClockEnd c.end.result h c.requires.turn c.requires.up c.requires.ready.2.alone c.requires.here mine.1
     mine.2 (λ e. cc) (votes_at_end a (G.held k.vault) k c.args.trans mine.0 h last) so)
+    refl

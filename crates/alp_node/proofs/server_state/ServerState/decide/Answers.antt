@@ -12,6 +12,9 @@ use Rattle.alp_node.specs.Steps.{Stepped, IsOf, refused_answer, counted_in, with
 use Rattle.alp_node.specs.declared.lives.Live.{Live}
 use Rattle.alp_node.specs.declared.server_state.ServerState.{ServerState}
 use Rattle.alp_node.specs.declared.sessions.Sessions.{Sessions}
+use Rattle.alp_node.specs.Turns.{HasTurned}
+use Rattle.alp_node.specs.declared.answer.Answer.{Answer}
+use Rattle.alp_node.proofs.TurnLemmas.{counts_on}
 use Rattle.alp_node.proofs.GivenLemmas.{counts_none, reply_given}
 use Rattle.alp_node.proofs.ReadyLemmas.{ready_with, commit_ready}
 use Rattle.alp_base.specs.declared.ids.Stamp.{Stamp}
@@ -119,6 +122,7 @@ returns-in-Err-OutOfMemory g c =
         vault = ends.1;
       };
       seat = record { server = refl; sizes = refl; epoch = refl; same = c.store.ensures.kept; spends = c.store.ensures.allowance };
+      turned = λ up. tt;
       leaves = λ told a h.
           leaves_as G k.vault v (IsWritten live.part.intents (record { epoch = k.epoch; clock = k.clock + 1 }) (G.held k.vault)) (MightBring (alone a) e)
           (λ z w. commit_might a 0 0 (G.held k.vault) z k turn t live v (λ rose. omega (arith, rose)) h c.requires.turn c.requires.up c.requires.ready.2.alone c.requires.clock c.requires.here there
@@ -170,6 +174,10 @@ returns g c =
         same = subst (λ (y : ServerState _). IsSameVault G.tells G.volume G.server G.servers k.vault y.vault) (sym c.forget.ensures) stored.kept;
         spends = subst (λ (y : ServerState _). Spends (G.allowance k.vault) (G.allowance y.vault)) (sym c.forget.ensures) stored.allowance;
       };
+      turned = λ up.
+          subst (λ (y : ServerState _). HasTurned k (record y { clock = k.clock + 1; committed = y.committed + 1; sessions = c.count.new.self }) e x.kept) (sym c.forget.ensures)
+          (subst (λ (y : Answer). HasTurned k (record (without_trans k t) { clock = k.clock + 1; committed = k.committed + 1; sessions = c.count.new.self; vault = v }) e y.kept) (sym so)
+          (counts_on k (record (without_trans k t) { clock = k.clock + 1; committed = k.committed + 1; sessions = c.count.new.self; vault = v }) turn c.requires.turn (call.Finish t true) (reply.Committed stamp) refl tt (omega arith) (omega arith) counts));
       leaves = λ told a h.
           subst (λ (y : ServerState _). Leaves G k.vault y.vault (Besides G k.vault (λ z. z ≡ said_by (alone a) (entry_of e x)))) (sym c.forget.ensures)
           (write_leaves a (G.held k.vault) k turn t same h c.requires.turn c.requires.up (sym c.in-Some.ensures) (subst (IsOf turn.client) (sym c.in-Some.ensures) c.requires.own) (reply.Committed stamp) refl G v x

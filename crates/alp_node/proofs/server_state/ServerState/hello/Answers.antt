@@ -7,6 +7,8 @@ use Rattle.alp_journal.specs.declared.event.Event.TheVariants as event
 use Rattle.alp_node.specs.ServerState.{IsReady}
 use Rattle.alp_node.specs.Steps.{Stepped}
 use Rattle.alp_node.specs.declared.sessions.Sessions.{Sessions}
+use Rattle.alp_node.specs.Turns.{HasTurned}
+use Rattle.alp_node.specs.declared.answer.Answer.{Answer}
 use Rattle.alp_node.proofs.EndLemmas.{hello_stepped}
 use Rattle.alp_node.proofs.GivenLemmas.{counts_none, reply_given}
 use Rattle.alp_node.proofs.ReadyLemmas.{hello_ready}
@@ -29,3 +31,5 @@ returns g c =
     (hello_stepped a faults faults held k c.args.client c.args.name c.in_ok-answer.answer h c.requires.client c.requires.up c.requires.first is))
     (reply_given k.server faults faults (g.V.Vault.allowance k.vault) k.is_down (reply.Welcome k.epoch) [] c.in_ok-answer.answer is (counts_none k.server faults faults k.is_down (Some (reply.Welcome k.epoch)) refl refl) c.requires.up tt)
     (λ n h. subst (λ (x : Sessions). IsReady (n + 1) serves (record k { sessions = x })) (sym c.set.ensures) (hello_ready n serves k c.args.client c.args.name c.requires.client h))
+    (λ on. subst (λ (y : Answer). HasTurned k (record k { sessions = c.set.new.self }) (event.Call c.args.client 0 1 (call.Hello c.args.name)) y.kept) (sym is)
+    (record { later = omega arith; times = tt; sessions = (refl, c.set.ensures) }))

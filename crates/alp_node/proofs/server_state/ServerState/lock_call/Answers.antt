@@ -24,6 +24,9 @@ use Rattle.alp_node.specs.Steps.{Stepped, counted_in}
 use Rattle.alp_node.specs.declared.lives.Live.{Live}
 use Rattle.alp_node.specs.declared.server_state.ServerState.{ServerState}
 use Rattle.alp_node.specs.declared.sessions.Sessions.{Sessions}
+use Rattle.alp_node.specs.Turns.{HasTurned}
+use Rattle.alp_node.specs.declared.answer.Answer.{Answer}
+use Rattle.alp_node.proofs.TurnLemmas.{counts_on, file_call_greets_none}
 use Rattle.alp_node.proofs.CallLemmas.{unseen, count_grows}
 use Rattle.alp_node.proofs.GivenLemmas.{counts_none, reply_given, wanting}
 use Rattle.alp_node.proofs.GrantLemmas.{lock_built, lock_shaped, plan_given, count_given, free_given, given_below, granted_ready}
@@ -81,6 +84,7 @@ returns-in-Some-too_locked g c =
     refuse.ensures.kept refuse.ensures.answer
     (λ told a h. locks_stepped a (G.faults k.vault) (G.faults k.vault) (G.held k.vault) k turn t l call f refuse.result h c.requires.ready.2.raised c.requires.turn c.requires.up there own c.requires.kind (c.requires.shape l there) many c.requires.named
     refuse.ensures.answer)
+    (file_call_greets_none call t c.requires.named) (IsCountRefusal.inside (too_locked_is k.sizes.area l.part.counts.cells (counts_then l.locks (holding k.locks.held t) call).made f many))
 
 pub returns-in-Some-in_way_of : goal.returns-in-Some-in_way_of
 returns-in-Some-in_way_of g c =
@@ -100,6 +104,7 @@ returns-in-Some-in_way_of g c =
     refused_step G k refuse.new.self turn call refuse.result (refusal.LockConflict c.in-Some-in_way_of.holder) refl c.requires.turn c.requires.up refuse.ensures.kept refuse.ensures.answer
     (λ told a h. conflict_stepped a (G.faults k.vault) (G.faults k.vault) (G.held k.vault) k turn t l call c.in-Some-in_way_of.holder refuse.result h c.requires.ready.2.raised c.requires.turn c.requires.up there own c.requires.kind
     (c.requires.shape l there) few c.requires.named c.requires.ready.2.sound named refuse.ensures.answer)
+    (file_call_greets_none call t c.requires.named) tt
 
 pub keep_locks-requires-clause-room : goal.keep_locks-requires-clause-room
 keep_locks-requires-clause-room g c =
@@ -208,6 +213,12 @@ returns g c =
     (granted_ready (m + 1) serves (record k { sessions = counted_in k.sessions turn; lives = map.insert k.lives t now; vault = N.vault }) (plan_of k.locks t (asks_given (next_file k) call r)) (count_after k.given r)
     (count_grows k.given r) fewer refl (free_given m (G.serves k.vault) k t call r h free_asked) (λ high_id high. given_below k.server k.epoch k.given high_id call r of_file high) parted))
     ))
+    (λ on. subst (λ (y : Answer). HasTurned k (record M { sessions = c.count.new.self }) (event.Call turn.client k.epoch turn.number call) y.kept) (sym is)
+    (counts_on k (record M { sessions = c.count.new.self }) turn c.requires.turn call r (file_call_greets_none call t c.requires.named)
+    (answered_inside (G.tells k.vault) (G.held k.vault).cells l.part did.part l.who (next_file k) call did.room r did.outcome)
+    (let clock : M.clock ≡ k.clock = ap (λ (y : ServerState _). y.clock) kept_is in omega (arith, clock))
+    (answered_tells M.clock (G.tells k.vault) (G.held k.vault).cells l.part did.part l.who (next_file k) call did.room r did.outcome)
+    (c.count.ensures ∙ ap (λ (y : ServerState _). counted_in y.sessions turn) kept_is)))
 
 pub returns-in_err-answer : goal.returns-in_err-answer
 returns-in_err-answer g c =

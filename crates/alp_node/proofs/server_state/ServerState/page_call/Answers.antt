@@ -10,8 +10,11 @@ use Rattle.alp_node.specs.Steps.{Stepped, IsOf, counted_in}
 use Rattle.alp_node.specs.declared.lives.Live.{Live}
 use Rattle.alp_node.specs.declared.server_state.ServerState.{ServerState}
 use Rattle.alp_node.specs.declared.sessions.Sessions.{Sessions}
+use Rattle.alp_node.specs.Turns.{HasTurned}
+use Rattle.alp_node.specs.declared.answer.Answer.{Answer}
+use Rattle.alp_node.proofs.TurnLemmas.{counts_on, file_call_greets_none}
 use Rattle.alp_node.proofs.CallLemmas.{unseen}
-use Rattle.alp_node.proofs.CountedLemmas.{answered_quiet}
+use Rattle.alp_node.proofs.CountedLemmas.{answered_quiet, answered_inside, answered_tells}
 use Rattle.alp_node.proofs.GivenLemmas.{counts_none, reply_given, wanting}
 use Rattle.alp_node.proofs.LookLemmas.{answered_told, room_told, locks_read, locks_still, part_ready, looked_still, without_step}
 use Rattle.alp_node.proofs.PerformLemmas.{page_built, page_shaped, page_stepped}
@@ -70,6 +73,12 @@ returns-in_ok-answer-in-Ok g c =
     (within_then (G.tells k.vault) (G.held k.vault).cells (next_file k) k.sizes l did.part c.args.call.now (record { asked = l.locks; made = l.locks }) did.room (Ok r) did.sound (still_lock k.sizes l (h.within t l there)) did.left.area did.left.held did.outcome)
     (counted_ready n (G.serves k.vault) k turn c.requires.turn h)))
     ))
+    (λ on. subst (λ (y : Answer). HasTurned k (record N { sessions = c.count.new.self }) (event.Call turn.client k.epoch turn.number c.args.call.now) y.kept) (sym is)
+    (counts_on k (record N { sessions = c.count.new.self }) turn c.requires.turn c.args.call.now r (file_call_greets_none c.args.call.now t c.requires.named)
+    (answered_inside (G.tells k.vault) (G.held k.vault).cells l.part did.part l.who _ c.args.call.now did.room r did.outcome)
+    (let clock : N.clock ≡ k.clock = ap (λ (y : ServerState _). y.clock) did.kept in omega (arith, clock))
+    (answered_tells N.clock (G.tells k.vault) (G.held k.vault).cells l.part did.part l.who _ c.args.call.now did.room r did.outcome)
+    (c.count.ensures ∙ ap (λ (y : ServerState _). counted_in y.sessions turn) did.kept)))
 
 pub returns-in_err-answer-in-Ok : goal.returns-in_err-answer-in-Ok
 returns-in_err-answer-in-Ok g c =

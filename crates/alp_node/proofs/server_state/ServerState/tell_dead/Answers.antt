@@ -8,6 +8,7 @@ use Rattle.alp_node.specs.Dead.{without_part}
 use Rattle.alp_node.specs.ServerState.{IsReady}
 use Rattle.alp_node.specs.Steps.{Stepped, counted_in}
 use Rattle.alp_node.specs.declared.server_state.ServerState.{ServerState}
+use Rattle.alp_node.proofs.TurnLemmas.{counts_refused}
 use Rattle.alp_node.proofs.FinishLemmas.{dead_stepped}
 use Rattle.alp_node.proofs.ReadyLemmas.{counted_ready, buried_ready}
 use Rattle.alp_node.proofs.StepLemmas.{plain_step}
@@ -27,3 +28,4 @@ returns g c =
     (buried_ready (n + 1) (G.serves k.vault) (record k { sessions = counted_in k.sessions turn }) (without_part turn.client c.args.trans k.dead) (counted_ready n (G.serves k.vault) k turn c.requires.turn h)))
     (λ told a h. subst (λ (y : ServerState _). Stepped a faults faults (G.held k.vault) y (event.Call turn.client k.epoch turn.number (call.Finish c.args.trans c.args.commit)) c.refuse.result) (sym same)
     (dead_stepped a faults faults (G.held k.vault) k turn c.args.trans c.args.commit c.refuse.result h c.requires.turn c.requires.up c.requires.here c.requires.dead c.refuse.ensures.answer))
+    (counts_refused k c.refuse.new.self turn c.requires.turn (call.Finish c.args.trans c.args.commit) (refusal.Aborted cause.TimedOut) refl tt (ap (λ (y : ServerState _). y.clock) same) (ap (λ (y : ServerState _). y.sessions) same))

@@ -19,7 +19,7 @@ returns-in_default g c =
     let G = g.V.Vault in
     let so : c.silence.result ≡ record { kept = None; handed = None; acts = [] } = c.silence.ensures ∙ ap (λ (acts : List Act). record { kept = None; handed = None; acts = acts }) (c.new-in_default.ensures ∙ c.new.ensures.items) in
     silent_step G k k c.args.trans c.silence.result [] refl refl refl refl c.requires.up c.requires.up so refl (λ m n b. tt) (λ n h. stepped_ready n (G.serves k.vault) k h)
-    (λ a h. idle_stepped a (G.faults k.vault) (G.faults k.vault) (G.held k.vault) k c.args.trans c.silence.result h c.requires.up (sym c.get.ensures ∙ ap option_copied c.in_default.is) so)
+    (λ a h. idle_stepped a (G.faults k.vault) (G.faults k.vault) (G.held k.vault) k c.args.trans c.silence.result h c.requires.up (sym c.get.ensures ∙ ap option_copied c.in_default.is) so) refl refl
 
 pub returns : goal.returns
 returns g c =
@@ -39,3 +39,4 @@ returns g c =
     (buried_ready (n + 1) (G.serves k.vault) (without_trans k t) dead (stepped_ready n (G.serves k.vault) (without_trans k t) (gone_ready n (G.serves k.vault) k t h))))
     (λ a h. subst (λ (y : ServerState _). Stepped a faults faults (G.held k.vault) y (event.Timeout t) c.silence-2.result) (sym same)
     (timeout_stepped a faults faults (G.held k.vault) k t l c.silence-2.result h c.requires.up c.requires.alone (sym c.in-Some.ensures) so))
+    (ap (λ (y : ServerState _). y.clock) same) (ap (λ (y : ServerState _). y.sessions) same)
