@@ -26,7 +26,6 @@ use Rattle.alp_node.specs.Served.{IsTurnCall, IsNextOf, IsServed}
 use Rattle.alp_node.specs.Steps.{seen_in}
 use Rattle.alp_history.specs.Handed.{HasSeenBy}
 use Rattle.alp_top.specs.Steps.{IsNoOutcome}
-use Rattle.alp_top.proofs.EntryLemmas.{IsCounted}
 
 -- ---- the call of a line
 
@@ -130,28 +129,6 @@ turn_served k who epoch number (call.Finish t keep) small h turn = (small, h, tu
 turn_served k who epoch number (call.Outcome t) small h turn = (small, h, turn)
 turn_served k who epoch number (call.Collect n) small h turn = (small, h, turn)
 
--- its session counts it
-pub turn_counted : (asked : Call) → IsTurnCall asked → IsCounted asked
-turn_counted (call.Hello name) h = absurd h
-turn_counted (call.Begin seen) h = λ m k epoch number reply. refl
-turn_counted (call.Join t) h = λ m k epoch number reply. refl
-turn_counted (call.CreateFile t start choice) h = λ m k epoch number reply. refl
-turn_counted (call.OpenFile t file access mode choice) h = λ m k epoch number reply. refl
-turn_counted (call.CloseFile t n) h = λ m k epoch number reply. refl
-turn_counted (call.DeleteFile t n choice) h = λ m k epoch number reply. refl
-turn_counted (call.ReadPages t n r mode choice) h = λ m k epoch number reply. refl
-turn_counted (call.WritePages t n r pages choice) h = λ m k epoch number reply. refl
-turn_counted (call.LockPages t n r mode choice) h = λ m k epoch number reply. refl
-turn_counted (call.SetSize t n size choice) h = λ m k epoch number reply. refl
-turn_counted (call.ReadProps t n) h = λ m k epoch number reply. refl
-turn_counted (call.WriteProps t n change choice) h = λ m k epoch number reply. refl
-turn_counted (call.ReadOwner t name choice) h = λ m k epoch number reply. refl
-turn_counted (call.MakeOwner t name quota list choice) h = λ m k epoch number reply. refl
-turn_counted (call.SetQuota t name quota choice) h = λ m k epoch number reply. refl
-turn_counted (call.Finish t keep) h = λ m k epoch number reply. refl
-turn_counted (call.Outcome t) h = λ m k epoch number reply. refl
-turn_counted (call.Collect n) h = λ m k epoch number reply. refl
-
 -- it asks for no outcome
 pub turn_no_outcome : (asked : Call) → IsTurnCall asked → IsNoOutcome asked
 turn_no_outcome (call.Hello name) h = absurd h
@@ -173,12 +150,3 @@ turn_no_outcome (call.SetQuota t name quota choice) h = tt
 turn_no_outcome (call.Finish t keep) h = tt
 turn_no_outcome (call.Outcome t) h = absurd h.0
 turn_no_outcome (call.Collect n) h = tt
-
--- ---- sessions
-
--- the server has a session just where its journal tells one
-pub no_session : (o : Option node_session.Session) (w : Option Session) → option_map kept_session w ≡ o → w ≡ None → o ≡ None
-no_session o w e h = sym e ∙ ap (option_map kept_session) h
-
-pub next_session : (o : Option node_session.Session) (w : Session) (server_epoch epoch number : ℕ) → option_map kept_session (Some w) ≡ o → epoch ≡ server_epoch → number ≡ w.last + 1 → IsNextOf o server_epoch epoch number
-next_session o w server_epoch epoch number e h n = subst (λ (x : Option node_session.Session). IsNextOf x server_epoch epoch number) e (h, n)

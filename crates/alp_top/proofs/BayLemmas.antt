@@ -1,12 +1,15 @@
 -- a disk in a fuse, and out of it again
-use Rattle.std.specs.Prelude.{Option, Some}
-use Rattle.std.proofs.Common.{inr, ◌≡◌, ◌≢◌, ◌≤◌, ℕ, List, sym, ◌∙◌, subst, arith}
+use Rattle.std.specs.Prelude.{Option, Some, Result, Ok, Err, IfErr}
+use Rattle.std.specs.Result.{IsErr, IsErrAnd}
+use Rattle.std.proofs.Common.{inl, inr, ap, refl, ◌≡◌, ◌≢◌, ◌≤◌, ℕ, List, sym, ◌∙◌, subst, arith}
 use Rattle.alp_base.specs.Causes.{Rose}
-use Rattle.alp_base.specs.Crashes.{Only, NoMore}
+use Rattle.alp_base.specs.Crashes.{Only, NoMore, SameOutcomes}
 use Rattle.alp_base.specs.Notes.{Notes}
 use Rattle.alp_base.specs.declared.faults.Sizes.{Sizes}
 use Rattle.alp_base.specs.declared.faults.VaultFault.TheVariants as vault_fault
-use Rattle.alp_bay.specs.Bays.{IsTaken}
+use Rattle.alp_bay.specs.Bays.{HasBayCause, IsTaken}
+use Rattle.alp_bay.specs.declared.bay.BayFault.{BayFault}
+use Rattle.alp_bay.specs.declared.bay.BayFault.TheVariants as bay_fault
 use Rattle.alp_disk.specs.Disk.{Image}
 use Rattle.alp_disk.specs.declared.disk.Disk.{Ghosts}
 use Rattle.alp_journal.specs.Opening.{Start}
@@ -16,18 +19,19 @@ use Rattle.alp_script.specs.declared.numbered.NumberedLine.{NumberedLine}
 use Rattle.alp_store.specs.Holding.{Holds}
 use Rattle.alp_store.specs.Starts.{IsNew, WhyNotStarted}
 use Rattle.alp_vault.specs.declared.vault.Vault.{Ghosts as VaultGhosts}
+use Rattle.alp_top.specs.Faults.{of_bay}
 use Rattle.alp_top.specs.Headline.{IsRunOf}
 use Rattle.alp_top.specs.Logs.{Log}
-use Rattle.alp_top.specs.Volumes.{pages_of, IsOpenedOn, IsStored, IsReturned, IsLeftAlone, HasNoEpoch, HasDiskCause, HasRunCause}
+use Rattle.alp_top.specs.Volumes.{pages_of, IsOpenedOn, IsStored, IsReturned, IsLeftAlone, HasNoEpoch, HasDiskCause, HasRunCause, IsBayTold}
 use Rattle.alp_top.specs.declared.fault.RunFault.{RunFault}
 use Rattle.alp_top.specs.declared.fault.RunFault.TheVariants as fault
 
--- two devices that show the same, the second of which a crash leaves no more of than of the first
+-- two devices that show the same, and of which a crash leaves the same
 pub record ShowAlike {A B : Type 0} (g : Ghosts A) (h : Ghosts B) (a : A) (b : B) : Type 0 where
   pub size : h.size b ≡ g.size a
   pub seen : h.seen b ≡ g.seen a
   pub faults : h.faults b ≡ g.faults a
-  pub leaves : NoMore (g.may_leave a) (h.may_leave b)
+  pub leaves : SameOutcomes (g.may_leave a) (h.may_leave b)
 
 -- what a crash leaves of the second where of the first it leaves one image alone
 only_alike : {A : Type 0} (x y : A) (old new : A → Type 0) → NoMore old new → y ≡ x → Only x old → Only y new
@@ -52,7 +56,7 @@ module _ {A B : Type 0} (g : Ghosts A) (h : Ghosts B) (sizes : Sizes) (ta ga : A
     new = λ is. x.new (new_before is);
     found = λ old. at_taken (λ n i. IsOpenedOn n i o notes) (x.found (λ is. old (new_then is)));
     finish = subst (λ (n : ℕ). Holds 1 1 n o.sizes.home (h.seen gb) (said_of m)) (sym given.size) (subst (λ (i : Image). Holds 1 1 (g.size ga) o.sizes.home i (said_of m)) (sym given.seen) x.finish);
-    durable = only_alike (g.seen ga) (h.seen gb) (g.may_leave ga) (h.may_leave gb) given.leaves given.seen x.durable;
+    durable = only_alike (g.seen ga) (h.seen gb) (g.may_leave ga) (h.may_leave gb) given.leaves.no_more given.seen x.durable;
     sound = x.sound;
     unfailed = given.faults ∙ x.unfailed ∙ sym taken.faults;
   }
@@ -61,12 +65,17 @@ module _ {A B : Type 0} (g : Ghosts A) (h : Ghosts B) (sizes : Sizes) (ta ga : A
   run_alike G lines log text x = record { run = x.run; report = x.report; stored = stored_alike _ _ _ x.stored }
 
   alone_alike : IsLeftAlone g sizes ta ga → IsLeftAlone h sizes tb gb
-  alone_alike x = record { old = λ is. x.old (new_before is); seen = given.seen ∙ x.seen ∙ sym taken.seen }
+  alone_alike x = record {
+    old = λ is. x.old (new_before is);
+    seen = given.seen ∙ x.seen ∙ sym taken.seen;
+    crash = λ i left. taken.leaves.no_more i (x.crash i (given.leaves.no_fewer i left));
+    unfailed = given.faults ∙ x.unfailed ∙ sym taken.faults;
+  }
 
   cause_alike : (f : RunFault) → HasDiskCause g sizes f ta ga → HasDiskCause h sizes f tb gb
   cause_alike fault.Bay x = absurd x
   cause_alike fault.Disk x = subst (λ (n : ℕ). Rose n (h.faults gb)) (sym taken.faults) (subst (λ (n : ℕ). Rose (g.faults ta) n) (sym given.faults) x)
-  cause_alike fault.OutOfMemory x = tt
+  cause_alike fault.OutOfMemory x = given.faults ∙ x ∙ sym taken.faults
   cause_alike fault.EpochEnd x = (alone_alike x.0, at_taken HasNoEpoch x.1)
   cause_alike (fault.NotAVolume found) x = (alone_alike x.0, at_taken (λ n i. WhyNotStarted 1 1 n i (vault_fault.NotAVolume found)) x.1)
   cause_alike (fault.Damaged place) x = (alone_alike x.0, at_taken (λ n i. WhyNotStarted 1 1 n i (vault_fault.Damaged place)) x.1)
@@ -87,8 +96,40 @@ module _ {A B : Type 0} (g : Ghosts A) (h : Ghosts B) (sizes : Sizes) (ta ga : A
 
     pub run_cause : (bay_before bay_after : ℕ) (f : RunFault) → HasDiskCause g sizes f ta ga → HasRunCause h sizes before after bay_before bay_after f
     run_cause bay_before bay_after fault.Bay x = absurd x
-    run_cause bay_before bay_after fault.OutOfMemory x = inr (sizes, returned (λ _ _. Unit {0}) tt)
+    run_cause bay_before bay_after fault.OutOfMemory x = inr (returned (HasDiskCause h sizes fault.OutOfMemory) (cause_alike fault.OutOfMemory x))
     run_cause bay_before bay_after fault.Disk x = returned (HasDiskCause h sizes fault.Disk) (cause_alike fault.Disk x)
     run_cause bay_before bay_after fault.EpochEnd x = returned (HasDiskCause h sizes fault.EpochEnd) (cause_alike fault.EpochEnd x)
     run_cause bay_before bay_after (fault.NotAVolume found) x = returned (HasDiskCause h sizes (fault.NotAVolume found)) (cause_alike (fault.NotAVolume found) x)
     run_cause bay_before bay_after (fault.Damaged place) x = returned (HasDiskCause h sizes (fault.Damaged place)) (cause_alike (fault.Damaged place) x)
+
+-- ---- the bay ended the run
+
+as_err : {U : Type 0} (f : RunFault) (r : Result U RunFault) → IsErr r → IsErrAnd r (λ e. e ≡ f) → r ≡ Err f
+as_err f (Ok x) is same = cc
+as_err f (Err e) is same = ap Err same
+
+-- it failed, or there was no memory, and nothing stands elsewhere than before
+module _ {T U : Type 0} (before now : ℕ) (f : BayFault) (cause : HasBayCause {T = T} before now (Err f)) (r : Result U RunFault) (err : IsErr r) (as : IsErrAnd r (λ e. e ≡ of_bay f)) where
+  pub bay_told : IsBayTold r before now
+  bay_told = subst (λ (q : Result U RunFault). IsBayTold q before now) (sym (as_err (of_bay f) r err as)) (go f cause)
+    where
+      go : (f : BayFault) → HasBayCause {T = T} before now (Err f) → IsBayTold {T = U} (Err (of_bay f)) before now
+      go bay_fault.Failed h = h.failed refl
+      go bay_fault.OutOfMemory h = h.memory refl
+
+  pub bay_cause : {B : Type 0} (h : Ghosts B) (sizes : Sizes) (was is : ℕ → Option B) → is ≡ was → IfErr r (HasRunCause h sizes was is before now)
+  bay_cause h sizes was is same = subst (λ (q : Result U RunFault). IfErr q (HasRunCause h sizes was is before now)) (sym (as_err (of_bay f) r err as)) (go f cause)
+    where
+      go : (f : BayFault) → HasBayCause {T = T} before now (Err f) → HasRunCause h sizes was is before now (of_bay f)
+      go bay_fault.Failed h = (same, h.failed refl)
+      go bay_fault.OutOfMemory h = inl same
+
+-- the bay did its work
+pub bay_still : {U : Type 0} (r : Result U RunFault) (before now : ℕ) → now ≡ before → (r ≡ Err fault.Bay → ⊥) → IsBayTold r before now
+bay_still (Ok x) before now same none = same
+bay_still (Err fault.Bay) before now same none = absurd (none refl)
+bay_still (Err fault.Disk) before now same none = same
+bay_still (Err fault.OutOfMemory) before now same none = same
+bay_still (Err fault.EpochEnd) before now same none = same
+bay_still (Err (fault.NotAVolume found)) before now same none = same
+bay_still (Err (fault.Damaged place)) before now same none = same

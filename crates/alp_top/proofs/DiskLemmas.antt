@@ -1,12 +1,12 @@
 -- a run on a disk: what it was started on, why it was not, and what it leaves
-use Rattle.std.specs.Prelude.{◌==◌, true, false, Bool, Option, None, Some, Result, Ok, Err, IfOk, OnOk}
+use Rattle.std.specs.Prelude.{◌==◌, true, false, Bool, Option, None, Some, IsTrue, Result, Ok, Err, IfOk, OnOk}
 use Rattle.std.specs.FinMap as map
 use Rattle.std.specs.FinMap.{get-empty}
 use Rattle.std.proofs.lemmas.Bool.Decides.{eqb_tells}
 use Rattle.std.proofs.Common.{inl, inr, ◌⊎◌, ◌≡◌, ◌≢◌, ℕ, ◌+◌, ◌*◌, List, [], refl, sym, ◌∙◌, ap, subst}
 use Rattle.alp_base.specs.Causes.{Rose}
-use Rattle.alp_base.specs.Crashes.{Only}
-use Rattle.alp_base.specs.Faults.{HasFaultCause, IsOfVolume}
+use Rattle.alp_base.specs.Crashes.{Only, NoMore}
+use Rattle.alp_base.specs.Faults.{HasFaultCause, IsCountKept, IsOfVolume}
 use Rattle.alp_base.specs.Notes.{text_cmp}
 use Rattle.alp_base.specs.declared.allowance.Allowance.{Allowance}
 use Rattle.alp_base.specs.declared.allowance.Allowance.TheVariants.{Free, Spent}
@@ -29,7 +29,7 @@ use Rattle.alp_node.specs.Starts.{AreOfServer, HasRaised, after_note, raised, Ha
 use Rattle.alp_node.specs.declared.start.StartFault.{StartFault}
 use Rattle.alp_node.specs.declared.start.StartFault.TheVariants as start_fault
 use Rattle.alp_store.specs.Holding.{Holds}
-use Rattle.alp_store.specs.Starts.{IsNew, WhyNotStarted}
+use Rattle.alp_store.specs.Starts.{AreOfServer as StartedOnOwn, IsNew, WhyNotStarted}
 use Rattle.alp_vault.specs.Contents.{Contents}
 use Rattle.alp_vault.specs.Volumes.{AreServerNotes}
 use Rattle.alp_files.specs.Apart.{AreSized}
@@ -49,7 +49,7 @@ use Rattle.alp_top.specs.Reports.{end_of}
 use Rattle.alp_top.specs.Servers.{IsOn}
 use Rattle.alp_top.proofs.StepLemmas.{kept_epoch, kept_clock}
 use Rattle.alp_top.specs.Faults.{of_vault, of_start, played}
-use Rattle.alp_top.specs.Volumes.{HasDiskCause, IsOpenedNew, IsOpenedOn, IsStored}
+use Rattle.alp_top.specs.Volumes.{HasDiskCause, IsLeftAlone, IsOpenedNew, IsOpenedOn, IsStored}
 use Rattle.alp_top.specs.declared.fault.PlayFault.{PlayFault}
 use Rattle.alp_top.specs.declared.fault.PlayFault.TheVariants as play_fault
 
@@ -114,48 +114,54 @@ module _ {D : Type 0} (g : Ghosts D) (sizes : Sizes) (d e : D) where
   abbrev IsNewDisk : Type 0
   IsNewDisk = IsNew sizes (g.size d) (g.seen d)
 
+  -- of a disk that is not new it reads as before, and a crash leaves no more
+  pub record ReadsOn : Type 0 where
+    pub seen : (IsNewDisk → ⊥) → g.seen e ≡ g.seen d
+    pub crash : (IsNewDisk → ⊥) → NoMore (g.may_leave d) (g.may_leave e)
+
+  left_alone : ReadsOn → (IsNewDisk → ⊥) → g.faults e ≡ g.faults d → IsLeftAlone g sizes d e
+  left_alone on old unfailed = record { old = old; seen = on.seen old; crash = on.crash old; unfailed = unfailed }
+
+  spent_free : Free ≡ Spent → ⊥
+  spent_free e = cc
+
   -- the store did not start
-  pub not_opened : (f : VaultFault) → HasFaultCause (g.faults d) (g.faults e) (g.allowance e) f → g.allowance e ≡ Free → (IsNewDisk → IsOfVolume f)
-      → ((IsNewDisk → ⊥) → WhyNotStarted 1 1 (g.size d) (g.seen d) f) → ((IsNewDisk → ⊥) → g.seen e ≡ g.seen d) → HasDiskCause g sizes (of_vault f) d e
-  not_opened vault_fault.Failed cause free new why seen = cause.failed refl
-  not_opened vault_fault.Stopped cause free new why seen = absurd (spent (sym free ∙ cause.stopped refl))
-    where
-      spent : Free ≡ Spent → ⊥
-      spent e = cc
-  not_opened vault_fault.OutOfMemory cause free new why seen = tt
-  not_opened (vault_fault.NotAVolume found) cause free new why seen = (record { old = new; seen = seen new }, why new)
-  not_opened (vault_fault.Damaged place) cause free new why seen = (record { old = new; seen = seen new }, why new)
+  pub not_opened : (f : VaultFault) → HasFaultCause (g.faults d) (g.faults e) (g.allowance e) f → IsCountKept (g.faults d) (g.faults e) f → g.allowance e ≡ Free → (IsNewDisk → IsOfVolume f)
+      → ((IsNewDisk → ⊥) → WhyNotStarted 1 1 (g.size d) (g.seen d) f) → ReadsOn → HasDiskCause g sizes (of_vault f) d e
+  not_opened vault_fault.Failed cause kept free new why on = cause.failed refl
+  not_opened vault_fault.Stopped cause kept free new why on = absurd (spent_free (sym free ∙ cause.stopped refl))
+  not_opened vault_fault.OutOfMemory cause kept free new why on = kept
+  not_opened (vault_fault.NotAVolume found) cause kept free new why on = (left_alone on new kept, why new)
+  not_opened (vault_fault.Damaged place) cause kept free new why on = (left_alone on new kept, why new)
 
   -- the store did, and the server on it did not
   pub not_started : (held : Contents) (f : StartFault) (between : ℕ) (allowance : Allowance) (home : ℕ) → HasStartCause 1 1 held between (g.faults e) allowance f → allowance ≡ Free → between ≡ g.faults d → AreServerNotes 1 1 held.notes
-      → (IsNewDisk → held ≡ nothing) → ((IsNewDisk → ⊥) → Holds 1 1 (g.size d) home (g.seen d) held) → ((IsNewDisk → ⊥) → f ≡ start_fault.EpochEnd → g.seen e ≡ g.seen d) → HasDiskCause g sizes (of_start f) d e
-  not_started held (start_fault.Vault f) between allowance home cause free kept notes new holds seen = go f cause
+      → (f ≡ start_fault.Vault vault_fault.OutOfMemory → g.faults e ≡ between) → (f ≡ start_fault.EpochEnd → g.faults e ≡ between)
+      → (IsNewDisk → held ≡ nothing) → ((IsNewDisk → ⊥) → Holds 1 1 (g.size d) home (g.seen d) held) → ((IsNewDisk → ⊥) → StartedOnOwn 1 1 held) → (f ≡ start_fault.EpochEnd → ReadsOn) → HasDiskCause g sizes (of_start f) d e
+  not_started held (start_fault.Vault f) between allowance home cause free kept notes memory last_epoch new holds own on = go f cause memory
     where
-      go : (f : VaultFault) → HasStartCause 1 1 held between (g.faults e) allowance (start_fault.Vault f) → HasDiskCause g sizes (of_vault f) d e
-      go vault_fault.Failed h = subst (λ (n : ℕ). Rose n (g.faults e)) kept (h.0.failed refl)
-      go vault_fault.Stopped h = absurd (spent (sym free ∙ h.0.stopped refl))
-        where
-          spent : Free ≡ Spent → ⊥
-          spent e = cc
-      go vault_fault.OutOfMemory h = tt
-      go (vault_fault.NotAVolume found) h = absurd h.1
-      go (vault_fault.Damaged place) h = absurd h.1
-  not_started held start_fault.BadNote between allowance home cause free kept notes new holds seen = absurd (cause notes)
-  not_started held start_fault.EpochEnd between allowance home cause free kept notes new holds seen =
+      go : (f : VaultFault) → HasStartCause 1 1 held between (g.faults e) allowance (start_fault.Vault f) → (start_fault.Vault f ≡ start_fault.Vault vault_fault.OutOfMemory → g.faults e ≡ between) → HasDiskCause g sizes (of_vault f) d e
+      go vault_fault.Failed h memory = subst (λ (n : ℕ). Rose n (g.faults e)) kept (h.0.failed refl)
+      go vault_fault.Stopped h memory = absurd (spent_free (sym free ∙ h.0.stopped refl))
+      go vault_fault.OutOfMemory h memory = memory refl ∙ kept
+      go (vault_fault.NotAVolume found) h memory = absurd h.1
+      go (vault_fault.Damaged place) h memory = absurd h.1
+  not_started held start_fault.BadNote between allowance home cause free kept notes memory last_epoch new holds own on = absurd (cause notes)
+  not_started held start_fault.EpochEnd between allowance home cause free kept notes memory last_epoch new holds own on =
       let old : IsNewDisk → ⊥ = (λ is. not_last held (new is) cause.1) in (
-        record { old = old; seen = seen old refl },
-        record { home = home; held = held; holds = holds old; last = cause.1 },
+        left_alone (on refl) old (last_epoch refl ∙ kept),
+        record { home = home; held = held; holds = holds old; own = own old; last = cause.1 },
       )
 
 -- a run on it was not played to its end
-pub not_played : {D : Type 0} (g : Ghosts D) (sizes : Sizes) (d e : D) (f : PlayFault) → (f ≡ play_fault.Device → Rose (g.faults d) (g.faults e)) → HasDiskCause g sizes (played f) d e
-not_played g sizes d e play_fault.Device rose = rose refl
-not_played g sizes d e play_fault.OutOfMemory rose = tt
+pub not_played : {D : Type 0} (g : Ghosts D) (sizes : Sizes) (d e : D) (f : PlayFault) → (f ≡ play_fault.Device → Rose (g.faults d) (g.faults e)) → (f ≡ play_fault.OutOfMemory → g.faults e ≡ g.faults d) → HasDiskCause g sizes (played f) d e
+not_played g sizes d e play_fault.Device rose kept = rose refl
+not_played g sizes d e play_fault.OutOfMemory rose kept = kept refl
 
 -- ---- what a run leaves on its disk
 
 module _ {V D : Type 0} (G : VaultGhosts V) (g : Ghosts D) (sizes : Sizes) (x : ServerOfLog V) (n : NodeState V) (before : Contents) (vol : Sizes) (d e : D)
-    (number : x.server ≡ 1) (opening : x.opening ≡ n.opening) (on : IsOn G n) (idle : n.journal ≡ []) (at_once : n.opening.vault.value ≡ n.kept.vault) (volume : G.volume n.kept.vault ≡ vol)
+    (number : x.server ≡ 1) (opening : x.opening ≡ n.opening) (on : IsOn G n) (told : IsTrue (G.tells n.kept.vault)) (idle : n.journal ≡ []) (at_once : n.opening.vault.value ≡ n.kept.vault) (volume : G.volume n.kept.vault ≡ vol)
     (rose : HasRaised (G.tells n.kept.vault) 1 1 before (G.held n.kept.vault) (record { epoch = n.kept.epoch; clock = n.kept.clock })) where
   abbrev o : Start
   o = start_of G x
@@ -167,16 +173,16 @@ module _ {V D : Type 0} (G : VaultGhosts V) (g : Ghosts D) (sizes : Sizes) (x : 
   sizes_are = ap (λ (p : Start). p.sizes) as_opened ∙ ap G.volume at_once ∙ volume
 
   epoch_is : o.epoch ≡ n.kept.epoch
-  epoch_is = ap (λ (p : Start). p.epoch) as_opened ∙ ap (λ (js : List Entry). (node.state_of (start_in G n) js).ids.epoch) (sym idle) ∙ kept_epoch G n on
+  epoch_is = ap (λ (p : Start). p.epoch) as_opened ∙ ap (λ (js : List Entry). (node.state_of (start_in G n) js).ids.epoch) (sym idle) ∙ kept_epoch G n on told
 
   clock_is : o.clock ≡ n.kept.clock
-  clock_is = ap (λ (p : Start). p.clock) as_opened ∙ ap (λ (js : List Entry). (node.state_of (start_in G n) js).holder.clock) (sym idle) ∙ kept_clock G n on
+  clock_is = ap (λ (p : Start). p.clock) as_opened ∙ ap (λ (js : List Entry). (node.state_of (start_in G n) js).holder.clock) (sym idle) ∙ kept_clock G n on told
 
   note_is : ◌≡◌ {A = ClockNote} (record { epoch = o.epoch; clock = o.clock }) (record { epoch = n.kept.epoch; clock = n.kept.clock })
   note_is = (λ i. record { epoch = epoch_is i; clock = clock_is i })
 
   cells_are : o.cells ≡ before.cells
-  cells_are = ap (λ (p : Start). p.cells) as_opened ∙ ap (λ (v : V). (G.held v).cells) at_once ∙ rose.cells on.tells
+  cells_are = ap (λ (p : Start). p.cells) as_opened ∙ ap (λ (v : V). (G.held v).cells) at_once ∙ rose.cells told
 
   noted : (openings G).notes x.opening ≡ map.insert before.notes clock_name (clock_form.spell (record { epoch = o.epoch; clock = o.clock }))
   noted =
@@ -194,13 +200,14 @@ module _ {V D : Type 0} (G : VaultGhosts V) (g : Ghosts D) (sizes : Sizes) (x : 
         noted = noted ∙ (λ i. map.insert (none i).notes clock_name (clock_form.spell (first i)));
       }
 
-  opened_on : (a : Anchor) → Counts (g.size d) (g.seen d) a → vol ≡ a.sizes → Holds 1 1 (g.size d) vol.home (g.seen d) before → IsOpenedOn (g.size d) (g.seen d) o ((openings G).notes x.opening)
-  opened_on a counts same holds = record {
+  opened_on : (a : Anchor) → Counts (g.size d) (g.seen d) a → vol ≡ a.sizes → Holds 1 1 (g.size d) vol.home (g.seen d) before → StartedOnOwn 1 1 before → IsOpenedOn (g.size d) (g.seen d) o ((openings G).notes x.opening)
+  opened_on a counts same holds own = record {
     anchor = a;
     counts = counts;
     sizes_are = sizes_are ∙ same;
     held = before;
     holds = subst (λ (s : Sizes). Holds 1 1 (g.size d) s.home (g.seen d) before) (sym sizes_are) holds;
+    own = own;
     cells = cells_are;
     next = rose.next ∙ ap Ok (sym note_is);
     noted = noted;
@@ -208,12 +215,12 @@ module _ {V D : Type 0} (G : VaultGhosts V) (g : Ghosts D) (sizes : Sizes) (x : 
 
   pub stored : (held : Contents) → held ≡ said_of (end_of G 1 x) → IsVolumeOf vol held.cells → (IsNew sizes (g.size d) (g.seen d) → before ≡ nothing) → (IsNew sizes (g.size d) (g.seen d) → vol ≡ sizes)
       → (a : Anchor) → vol ≡ a.sizes → ((IsNew sizes (g.size d) (g.seen d) → ⊥) → Counts (g.size d) (g.seen d) a)
-      → ((IsNew sizes (g.size d) (g.seen d) → ⊥) → Holds 1 1 (g.size d) vol.home (g.seen d) before)
+      → ((IsNew sizes (g.size d) (g.seen d) → ⊥) → Holds 1 1 (g.size d) vol.home (g.seen d) before) → ((IsNew sizes (g.size d) (g.seen d) → ⊥) → StartedOnOwn 1 1 before)
       → Holds 1 1 (g.size e) vol.home (g.seen e) held → Only (g.seen e) (g.may_leave e) → g.faults e ≡ g.faults d
       → IsStored g sizes o ((openings G).notes x.opening) (end_of G 1 x) d e
-  stored held said fits none same a as_anchor counts holds finish durable unfailed = record {
+  stored held said fits none same a as_anchor counts holds own finish durable unfailed = record {
     new = λ is. opened_new (none is) (same is);
-    found = λ is. opened_on a (counts is) as_anchor (holds is);
+    found = λ is. opened_on a (counts is) as_anchor (holds is) (own is);
     finish = subst (λ (s : Sizes). Holds 1 1 (g.size e) s.home (g.seen e) (said_of (end_of G 1 x))) (sym sizes_are) (subst (λ (c : Contents). Holds 1 1 (g.size e) vol.home (g.seen e) c) said finish);
     durable = durable;
     sound = record {

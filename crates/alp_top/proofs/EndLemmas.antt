@@ -94,9 +94,9 @@ trans_long server epoch (suc n) =
     let rest : length (trans_to server epoch n) ≡ n = trans_long server epoch n in
     length-append (trans_to server epoch n) ((record { server = server; epoch = epoch; counter = suc n }) ∷ []) ∙ omega (arith, rest)
 
-module _ {V : Type 0} (G : Ghosts V) (n : NodeState V) (on : IsOn G n) where
+module _ {V : Type 0} (G : Ghosts V) (n : NodeState V) (on : IsOn G n) (told : IsTrue (G.tells n.kept.vault)) where
   of_journal : node.IsRight (start_in G n) (G.held n.kept.vault) n
-  of_journal = on.kept.right on.tells
+  of_journal = on.kept.right told
 
   -- what the server keeps is what is printed of its journal's state
   pub ending_is : summary_text n.kept.server n.kept.epoch n.kept.clock (G.held n.kept.vault).cells n.kept.committed (n.kept.drawn - n.kept.committed) ≡ ending_text (state_of G n)
@@ -141,7 +141,7 @@ module _ {V : Type 0} (G : Ghosts V) where
 -- ---- a run that is over
 
 module _ {V : Type 0} (G : Ghosts V) (lines : List NumberedLine) (first n : NodeState V) (c : Crowd) (vs : List (Vec Item Global)) (text : List ℕ) (log : Log V) (server : ℕ) (rises : RisesFrom 1 lines)
-    (out : HasPlayedOut G lines first n c vs text) (number : server ≡ n.kept.server) (servers : IsServerLog server n.opening n.journal log.servers.items) (lists : log.clients.items ≡ vs) where
+    (out : HasPlayedOut G lines first n c vs text) (number : server ≡ n.kept.server) (servers : IsServerLog server n.opening n.journal log.servers.items) (lists : log.clients.items ≡ vs) (told : IsTrue (G.tells n.kept.vault)) where
   abbrev calls : List Entry
   calls = out.before.journal
 
@@ -161,7 +161,7 @@ module _ {V : Type 0} (G : Ghosts V) (lines : List NumberedLine) (first n : Node
   on = end.ended.on
 
   right : node.IsRight (start_in G n) (G.held n.kept.vault) n
-  right = on.kept.right on.tells
+  right = on.kept.right told
 
   x_number : x.server ≡ n.kept.server
   x_number = servers.number ∙ number
@@ -230,11 +230,11 @@ module _ {V : Type 0} (G : Ghosts V) (lines : List NumberedLine) (first n : Node
           journal = journal ∙ end.ended.journal;
           recorded = subst (λ (ts : List Turn). AreRecorded 0 (sent_in ts) calls) turns_same h.recorded;
           lawful = is_single.lawful;
-          left = subst (λ (o : Start). AreLive (state_after next (opened o) calls) end.live) (sym (same ∙ end.ended.start)) end.left;
+          left = subst (λ (o : Start). AreLive (state_after next (opened o) calls) end.live) (sym (same ∙ end.ended.start)) (end.left told);
           ended = end.ended.ended;
           ranks = is_single.ranks;
         };
-        caused = subst (λ (o : Start). Along next IsDone (opened o) x.journal) (sym same) (subst (λ (js : List Entry). Along next IsDone (opened (start_in G n)) js) (sym journal) on.answered);
+        caused = subst (λ (o : Start). Along next IsDone (opened o) x.journal) (sym same) (subst (λ (js : List Entry). Along next IsDone (opened (start_in G n)) js) (sym journal) (on.answered told));
         serial = history (log_of G log) proper_log;
         whole = wholeness (log_of G log) proper_log;
         kept = promises (log_of G log) proper_log clients;
@@ -254,5 +254,5 @@ module _ {V : Type 0} (G : Ghosts V) (lines : List NumberedLine) (first n : Node
     report = is ∙ report;
     opening = servers.opened ∙ out.opening;
     serves = serves;
-    held = held ∙ held_is G n on ∙ ap said_of (sym ends_at);
+    held = held ∙ held_is G n on told ∙ ap said_of (sym ends_at);
   }

@@ -35,8 +35,8 @@ handed_on f (Err e) is same = ap Err same
 module _ {V : Type 0} (G : Ghosts V) where
   -- nothing was done
   pub gone_nothing : {T : Type 0} (v : V) (r : Result T PlayFault) → (IsErrOf r fault.Device → ⊥) → HasGone G v v r
-  gone_nothing v (Ok x) none = record { same = record { telling = refl; sizes = refl; number = refl; of_all = refl }; free = λ e. e; later = omega arith; still = refl; failed = λ e. absurd (none e) }
-  gone_nothing v (Err f) none = record { same = record { telling = refl; sizes = refl; number = refl; of_all = refl }; free = λ e. e; later = omega arith; still = tt; failed = λ e. absurd (none e) }
+  gone_nothing v (Ok x) none = record { same = record { telling = refl; sizes = refl; number = refl; of_all = refl }; free = λ e. e; later = omega arith; still = refl; failed = λ e. absurd (none e); memory = λ e. refl }
+  gone_nothing v (Err f) none = record { same = record { telling = refl; sizes = refl; number = refl; of_all = refl }; free = λ e. e; later = omega arith; still = tt; failed = λ e. absurd (none e); memory = λ e. refl }
 
   -- one call went well, and then the next came to this
   pub gone_then : {T U : Type 0} (u v w : V) (x : T) (r : Result U PlayFault) → HasGone {T = T} G u v (Ok x) → HasGone G v w r → HasGone G u w r
@@ -46,6 +46,7 @@ module _ {V : Type 0} (G : Ghosts V) where
     later = omega (arith, h.later, k.later);
     still = go r k.still;
     failed = λ e. subst (λ (n : ℕ). Rose n (G.faults w)) h.still (k.failed e);
+    memory = λ e. k.memory e ∙ h.still;
   }
     where
       go : (r : Result U PlayFault) → OnOk r (G.faults w ≡ G.faults v) → OnOk r (G.faults w ≡ G.faults u)
@@ -54,20 +55,20 @@ module _ {V : Type 0} (G : Ghosts V) where
 
   -- a call came to this, and what is made of it is no other fault
   pub gone_err : {T U : Type 0} (u v : V) (f : PlayFault) → HasGone {T = T} G u v (Err f) → HasGone {T = U} G u v (Err f)
-  gone_err {T = T} {U = U} u v f h = record { same = h.same; free = h.free; later = h.later; still = tt; failed = λ e. h.failed (as_err f e) }
+  gone_err {T = T} {U = U} u v f h = record { same = h.same; free = h.free; later = h.later; still = tt; failed = λ e. h.failed (as_err f fault.Device e); memory = λ e. h.memory (as_err f fault.OutOfMemory e) }
     where
-      as_err : {T U : Type 0} (f : PlayFault) → ◌≡◌ {A = Result U PlayFault} (Err f) (Err fault.Device) → ◌≡◌ {A = Result T PlayFault} (Err f) (Err fault.Device)
-      as_err f e = let same : f ≡ fault.Device = cc in ap Err same
+      as_err : {T U : Type 0} (f x : PlayFault) → ◌≡◌ {A = Result U PlayFault} (Err f) (Err x) → ◌≡◌ {A = Result T PlayFault} (Err f) (Err x)
+      as_err f x e = let same : f ≡ x = cc in ap Err same
 
   pub gone_ok : {T U : Type 0} (u v : V) (x : T) (y : U) → HasGone {T = T} G u v (Ok x) → HasGone {T = U} G u v (Ok y)
-  gone_ok {T = T} {U = U} u v x y h = record { same = h.same; free = h.free; later = h.later; still = h.still; failed = λ e. absurd (apart y e) }
+  gone_ok {T = T} {U = U} u v x y h = record { same = h.same; free = h.free; later = h.later; still = h.still; failed = λ e. absurd (apart y e); memory = λ e. h.still }
     where
       apart : {U : Type 0} (y : U) → ◌≡◌ {A = Result U PlayFault} (Ok y) (Err fault.Device) → ⊥
       apart y e = cc
 
   -- it went well, and then memory was wanting
   pub gone_memory : {T U : Type 0} (u v : V) (x : T) → HasGone {T = T} G u v (Ok x) → HasGone {T = U} G u v (Err fault.OutOfMemory)
-  gone_memory {T = T} {U = U} u v x h = record { same = h.same; free = h.free; later = h.later; still = tt; failed = λ e. absurd (apart e) }
+  gone_memory {T = T} {U = U} u v x h = record { same = h.same; free = h.free; later = h.later; still = tt; failed = λ e. absurd (apart e); memory = λ e. h.still }
     where
       apart : {U : Type 0} → ◌≡◌ {A = Result U PlayFault} (Err fault.OutOfMemory) (Err fault.Device) → ⊥
       apart e = cc

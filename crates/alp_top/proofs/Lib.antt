@@ -1,5 +1,3 @@
-pub mod EntryLemmas
-pub mod ReplyLemmas
 pub mod AskLemmas
 pub mod StepLemmas
 pub mod SaidLemmas

@@ -14,7 +14,8 @@ use Rattle.alp_script.specs.Named.{client_named}
 use Rattle.alp_script.specs.Forms.{IsForm, servers, volume, client, begin, owner, create, open_read, open_change, write, read, commit, abort}
 use Rattle.alp_journal.specs.declared.entry.Entry.{Entry}
 use Rattle.alp_journal.specs.declared.log.Item.{Item}
-use Rattle.alp_journal.specs.State.{State}
+use Rattle.alp_node.specs.Sessions.{session_at}
+use Rattle.alp_node.specs.declared.server_state.ServerState.{ServerState}
 use Rattle.alp_history.specs.Items as items
 use Rattle.alp_history.specs.RunLogs.{item_of}
 use Rattle.alp_client.specs.Maps.{WordMap}
@@ -27,7 +28,6 @@ use Rattle.alp_client.specs.Crowds.{client_at, with_client, asks, hears, at_line
 use Rattle.alp_client.proofs.CrowdLemmas.{at_same, at_other, as_many}
 use Rattle.alp_vault.specs.declared.vault.Vault.{Ghosts}
 use Rattle.alp_node.specs.NodeStates.{NodeState}
-use Rattle.alp_top.specs.Servers.{state_of}
 use Rattle.alp_top.specs.Turns.{Turn, lists_in, own_in, turns_text}
 use Rattle.alp_top.specs.Plays.{AreRecorded, PlaysLine}
 use Rattle.alp_top.specs.Steps.{SameSession, IsInStep, InStep, HasSaid, Exchanged, Did, Adds}
@@ -150,9 +150,9 @@ begins_known c l (commit k) = same_known c
 begins_known c l (abort k) = same_known c
 
 -- a client that knows the same session and stamp is in step
-still_in_step : (s : State) (k : ℕ) (c d : Client) → SameKnown c d → IsInStep s k c → IsInStep s k d
+still_in_step : {V : Type 0} (s : ServerState V) (k : ℕ) (c d : Client) → SameKnown c d → IsInStep s k c → IsInStep s k d
 still_in_step s k c d same h = record {
-  session = subst (λ (o : Option Greeted). SameSession s.ids.epoch o (s.desk.sessions k)) (sym same.session) h.session;
+  session = subst (λ (o : Option Greeted). SameSession s.epoch o (session_at s.sessions k)) (sym same.session) h.session;
   told = (let told : d.told.ts ≡ c.told.ts = ap (λ (x : Stamp). x.ts) same.told in omega (arith, told, h.told));
 }
 
@@ -164,11 +164,11 @@ still_step G c n words k d here same step = record {
   each = λ j. go j (eqb_tells j k);
 }
   where
-    go : (j : ℕ) → (((j == k) ≡ true) × (j ≡ k)) ⊎ (((j == k) ≡ false) × (j ≢ k)) → IsInStep (state_of G n) j (client_at (with_client c words k d) j)
+    go : (j : ℕ) → (((j == k) ≡ true) × (j ≡ k)) ⊎ (((j == k) ≡ false) × (j ≢ k)) → IsInStep n.kept j (client_at (with_client c words k d) j)
     go j (inl is) =
-        subst (λ (i : ℕ). IsInStep (state_of G n) i (client_at (with_client c words k d) i)) (sym is.1)
-        (subst (λ (x : Client). IsInStep (state_of G n) k x) (sym (at_same c words k d here)) (still_in_step (state_of G n) k (client_at c k) d same (step.each k)))
-    go j (inr away) = subst (λ (x : Client). IsInStep (state_of G n) j x) (sym (at_other c words k j d away.1)) (step.each j)
+        subst (λ (i : ℕ). IsInStep n.kept i (client_at (with_client c words k d) i)) (sym is.1)
+        (subst (λ (x : Client). IsInStep n.kept k x) (sym (at_same c words k d here)) (still_in_step n.kept k (client_at c k) d same (step.each k)))
+    go j (inr away) = subst (λ (x : Client). IsInStep n.kept j x) (sym (at_other c words k j d away.1)) (step.each j)
 
 pub at_step : {V : Type 0} (G : Ghosts V) (c : Crowd) (n : NodeState V) (k : ℕ) (l : Line) → k ≤ 16 → IsForm l → InStep G c n → InStep G (at_line c k l) n
 at_step G c n k l small form step =

@@ -1,5 +1,5 @@
 -- the end of a run, as its status tells it
-use Rattle.std.specs.Prelude.{Option, None, Some, replicate, take}
+use Rattle.std.specs.Prelude.{Option, None, Some, Err, replicate, take}
 use Rattle.std.specs.Io.KnownBytes.{Appends}
 use Rattle.std.proofs.Common.{inl, inr, ◌≡◌, ◌<◌, ℕ, zero, suc, List, refl, sym, ◌∙◌, ap, subst, arith}
 use Rattle.alp_base.specs.Causes.{Rose}
@@ -15,8 +15,8 @@ use Rattle.alp_store.specs.Starts.{IsNew}
 use Rattle.alp_vault.specs.declared.vault.Vault.{Ghosts as VaultGhosts}
 use Rattle.alp_top.specs.Headline.{IsRunOf, IsPlayed, IsCutOff}
 use Rattle.alp_top.specs.Logs.{Log}
-use Rattle.alp_top.specs.Statuses.{Kept, OnDone, OnWriteFault, OnRunFault, ended_by, IsPlayedOrMemory}
-use Rattle.alp_top.specs.Volumes.{pages_of, IsReturned, HasRunCause, IsStartable, StartsOn}
+use Rattle.alp_top.specs.Statuses.{Kept, OnDone, OnWriteFault, OnCutShort, ended_by, IsBayFaultTold, IsHandedOver, IsPlayedOrMemory}
+use Rattle.alp_top.specs.Volumes.{pages_of, IsReturned, HasRunCause, IsBayTold, IsStartable, StartsOn}
 use Rattle.alp_top.specs.declared.fault.RunFault.{RunFault}
 use Rattle.alp_top.specs.declared.fault.RunFault.TheVariants as fault
 use Rattle.alp_top.specs.declared.status.Status.{Status}
@@ -72,16 +72,41 @@ module _ {D : Type 0} {g : Ghosts D} where
 
   -- ---- the bay or the disk ended the run
 
-  pub caused : (s : Status D g) (f : RunFault) (P : RunFault → Type 0) → s ≡ ended_by f → P f → OnRunFault s P
-  caused s f P is p = subst (λ (q : Status D g). OnRunFault q P) (sym is) (go f p)
+  pub caused : (s : Status D g) (f : RunFault) (U : Type 0) (P : RunFault → Type 0) → s ≡ ended_by f → P f → OnCutShort s U P
+  caused s f U P is p = subst (λ (q : Status D g). OnCutShort q U P) (sym is) (go f p)
     where
-      go : (f : RunFault) → P f → OnRunFault (ended_by {D = D} {g = g} f) P
+      go : (f : RunFault) → P f → OnCutShort (ended_by {D = D} {g = g} f) U P
       go fault.Bay p = inl (refl, p)
       go fault.Disk p = inr (refl, p)
-      go fault.OutOfMemory p = tt
+      go fault.OutOfMemory p = inr p
       go fault.EpochEnd p = (refl, p)
       go (fault.NotAVolume found) p = (refl, p)
       go (fault.Damaged place) p = (refl, p)
+
+  -- a fault of the bay is told of the whole run
+  pub bay_told : {T : Type 0} (s : Status D g) (f : RunFault) (before now : ℕ) → s ≡ ended_by f → IsBayTold {T = T} (Err f) before now → IsBayFaultTold s before now
+  bay_told {T = T} s f before now is h = subst (λ (q : Status D g). IsBayFaultTold q before now) (sym is) (go f h)
+    where
+      go : (f : RunFault) → IsBayTold {T = T} (Err f) before now → IsBayFaultTold (ended_by {D = D} {g = g} f) before now
+      go fault.Bay h = inl (refl, h)
+      go fault.Disk h = inr (refl, h)
+      go fault.OutOfMemory h = h
+      go fault.EpochEnd h = h
+      go (fault.NotAVolume found) h = h
+      go (fault.Damaged place) h = h
+
+  -- a report that was handed over tells no fault of the bay
+  pub handed_told : (s : Status D g) (before now : ℕ) → IsHandedOver s → now ≡ before → IsBayFaultTold s before now
+  handed_told (status.Done log) before now h same = same
+  handed_told (status.WriteFault log) before now h same = same
+  handed_told status.BadWords before now h same = absurd h
+  handed_told (status.BadScript line) before now h same = absurd h
+  handed_told status.ReadFault before now h same = absurd h
+  handed_told (status.DiskFault server) before now h same = absurd h
+  handed_told status.OutOfMemory before now h same = absurd h
+  handed_told (status.TooLong limit) before now h same = absurd h
+  handed_told (status.NotAVolume server found) before now h same = absurd h
+  handed_told (status.Damaged server place) before now h same = absurd h
 
 -- ---- where nothing fails the script is played
 

@@ -19,15 +19,16 @@ use Rattle.std.specs.Prelude.{replicate}
 use Rattle.std.proofs.lemmas.List.{length-replicate}
 use Rattle.alp_client.specs.Clients.{new_client}
 use Rattle.alp_client.specs.declared.client.Greeted.{Greeted}
-use Rattle.alp_journal.specs.Desk.{Session}
-use Rattle.alp_node.specs.Nodes as node
+use Rattle.alp_node.specs.Sessions.{session_at}
+use Rattle.alp_node.specs.declared.sessions.Session.{Session}
+use Rattle.alp_node.specs.declared.sessions.Sessions.{Sessions}
+use Rattle.alp_node.proofs.StartLemmas.{no_session}
 use Rattle.alp_client.specs.Crowds.{new_crowd, client_at}
 use Rattle.alp_top.specs.Turns.{Turn, lists_in, own_in, sent_in, turn_of, turns_of, turns_text}
 use Rattle.alp_top.specs.Plays.{PlaysLine, Plays, AreRecorded}
 use Rattle.alp_vault.specs.declared.vault.Vault.{Ghosts}
 use Rattle.alp_node.specs.NodeStates.{NodeState}
-use Rattle.alp_node.specs.Nodes.{start_in}
-use Rattle.alp_top.specs.Servers.{IsOn, state_of}
+use Rattle.alp_top.specs.Servers.{IsOn, IsIdle}
 use Rattle.alp_top.specs.Steps.{Adds, HasSaid, HasLast, SameSession}
 use Rattle.alp_top.specs.Runs.{HasPlayed}
 
@@ -210,23 +211,20 @@ new_told k = go 17 k
     go (suc n) (suc k) = go n k
 
 -- the server has no session either
-no_state_session : {V : Type 0} (G : Ghosts V) (n : NodeState V) (k : ℕ) → n.journal ≡ [] → (state_of G n).desk.sessions k ≡ None
-no_state_session G n k none = ap (λ (js : List Entry). (node.state_of (start_in G n) js).desk.sessions k) none
-
 new_same : (epoch : ℕ) (o : Option Greeted) (w : Option Session) → o ≡ None → w ≡ None → SameSession epoch o w
 new_same epoch o w is none = subst (λ (x : Option Greeted). SameSession epoch x w) (sym is) (subst (SameSession epoch None) (sym none) tt)
 
 new_last : (o : Option Greeted) → o ≡ None → HasLast o []
 new_last o is = subst (λ (x : Option Greeted). HasLast x []) (sym is) refl
 
-pub played_none : {V : Type 0} (G : Ghosts V) (c : Crowd) (n : NodeState V) (vs : List (Vec Item Global)) (text : List ℕ) → c ≡ new_crowd → IsOn G n → n.journal ≡ [] → length vs ≡ 17
+pub played_none : {V : Type 0} (G : Ghosts V) (c : Crowd) (n : NodeState V) (vs : List (Vec Item Global)) (text : List ℕ) → c ≡ new_crowd → IsOn G n → IsIdle n → length vs ≡ 17
     → AllByRecursion (λ (v : Vec Item Global). v.items ≡ []) vs → text ≡ [] → HasPlayed G [] c n vs text
-played_none G c n vs text is on none many empty blank = subst (λ (d : Crowd). HasPlayed G [] d n vs text) (sym is) (record {
+played_none G c n vs text is on idle many empty blank = subst (λ (d : Crowd). HasPlayed G [] d n vs text) (sym is) (record {
   step = record {
     on = on;
     places = length-replicate 17 new_client;
     each = λ k. record {
-      session = new_same (state_of G n).ids.epoch (client_at new_crowd k).session ((state_of G n).desk.sessions k) (new_session k) (no_state_session G n k none);
+      session = new_same n.kept.epoch (client_at new_crowd k).session (session_at n.kept.sessions k) (new_session k) (ap (λ (s : Sessions). session_at s k) idle.sessions ∙ no_session k);
       told = (let low : (client_at new_crowd k).told.ts ≡ 0 = new_told k in omega (arith, low));
     };
   };
@@ -236,6 +234,6 @@ played_none G c n vs text is on none many empty blank = subst (λ (d : Crowd). H
   lists = λ k. new_list vs k empty;
   said = λ k. record { numbered = tt; last = new_last (client_at new_crowd k).session (new_session k); told = tt; seen = tt; outcomes = tt };
   text = blank;
-  recorded = subst (AreRecorded 0 []) (sym none) tt;
-  few = (let short : length n.journal ≡ 0 = ap (λ (js : List Entry). length js) none in omega (arith, short));
+  recorded = subst (AreRecorded 0 []) (sym idle.journal) tt;
+  few = (let short : length n.journal ≡ 0 = ap (λ (js : List Entry). length js) idle.journal in omega (arith, short));
 })

@@ -1,6 +1,7 @@
 -- the clients stay in step with their server through a call
 use Rattle.std.specs.Prelude.{true, false, Bool, cond, Option, None, Some}
 use Rattle.std.specs.Option.{option_map}
+use Rattle.std.specs.Prelude.{IsTrue}
 use Rattle.std.specs.List.{AllByRecursion}
 use Rattle.std.specs.Ordering.{is_lt, ordering_reverse}
 use Rattle.std.proofs.Common.{inl, inr, ◌<◌, ◌^◌, ◌≡◌, ℕ, ◌+◌, ◌≤◌, List, [], ◌∷◌, ◌++◌, length, refl, sym, ◌∙◌, ap, subst, arith}
@@ -18,8 +19,7 @@ use Rattle.alp_script.specs.Forms.{IsForm, servers, volume, client, begin, owner
 use Rattle.alp_journal.specs.declared.entry.Entry.{Entry}
 use Rattle.alp_journal.specs.declared.event.Event.TheVariants as event
 use Rattle.alp_journal.specs.Along.{Along, state_after}
-use Rattle.alp_journal.specs.Alone.{AreEarlier}
-use Rattle.alp_journal.specs.Desk.{Session}
+use Rattle.alp_node.specs.declared.sessions.Session.{Session}
 use Rattle.alp_journal.specs.Ids.{stamp_cmp}
 use Rattle.alp_journal.specs.Opening.{Start}
 use Rattle.alp_journal.specs.State.{State, opened}
@@ -34,8 +34,7 @@ use Rattle.alp_client.specs.declared.client.Greeted.{Greeted}
 use Rattle.alp_client.specs.Clients.{call_by, frame_in, learned_reply, left, created, opened as opened_said, told_end, HasNext}
 use Rattle.alp_client.specs.Crowd.{Crowd}
 use Rattle.alp_client.specs.Crowds.{client_at, asks}
-use Rattle.alp_node.specs.ServerState.{kept_session}
-use Rattle.alp_node.specs.Served.{IsServed, IsTurnCall}
+use Rattle.alp_node.specs.Served.{IsServed, IsTurnCall, IsNextOf}
 use Rattle.alp_node.specs.Sessions.{session_at}
 use Rattle.alp_node.proofs.NodeLemmas.{state_after-push, Along-push}
 use Rattle.alp_vault.specs.declared.vault.Vault.{Ghosts}
@@ -44,17 +43,14 @@ use Rattle.alp_node.specs.Nodes as node
 use Rattle.alp_node.specs.Nodes.{start_in}
 use Rattle.alp_top.specs.Servers.{IsOn, state_of}
 use Rattle.alp_top.specs.Steps.{SameSession, InStep}
-use Rattle.alp_top.proofs.AskLemmas.{line_call, turn_served, no_session, next_session}
-use Rattle.alp_top.proofs.ReplyLemmas.{IsInSession}
+use Rattle.alp_top.proofs.AskLemmas.{line_call, turn_served}
+use Rattle.alp_node.specs.Turns.{IsInSession}
 
 -- ---- what a server keeps is what its journal says
 
-module _ {V : Type 0} (G : Ghosts V) (n : NodeState V) (on : IsOn G n) where
+module _ {V : Type 0} (G : Ghosts V) (n : NodeState V) (on : IsOn G n) (told : IsTrue (G.tells n.kept.vault)) where
   right : node.IsRight (start_in G n) (G.held n.kept.vault) n
-  right = on.kept.right on.tells
-
-  pub kept_sessions : (k : ℕ) → option_map kept_session ((state_of G n).desk.sessions k) ≡ session_at n.kept.sessions k
-  kept_sessions k = ap (λ (s : State). option_map kept_session (s.desk.sessions k)) right.says ∙ right.kept.sessions k
+  right = on.kept.right told
 
   pub kept_epoch : (state_of G n).ids.epoch ≡ n.kept.epoch
   kept_epoch = ap (λ (s : State). s.ids.epoch) right.says ∙ right.kept.epoch
@@ -64,9 +60,6 @@ module _ {V : Type 0} (G : Ghosts V) (n : NodeState V) (on : IsOn G n) where
 
   pub kept_clock : (state_of G n).holder.clock ≡ n.kept.clock
   kept_clock = ap (λ (s : State). s.holder.clock) right.says ∙ right.kept.clock
-
-  pub kept_earlier : AreEarlier (state_of G n).holder.clock (state_of G n).holder.applied
-  kept_earlier = subst (λ (s : State). AreEarlier s.holder.clock s.holder.applied) (sym right.says) right.kept.earlier
 
 -- ---- what a client asks
 
@@ -78,7 +71,7 @@ frame_there c o (Some x) frame e = (x, refl, (let same : frame_in c o x ≡ fram
 module _ {V : Type 0} (G : Ghosts V) (c : Crowd) (n : NodeState V) (k : ℕ) (step : InStep G c n) where
   -- no client was told of a time that clocks do not show
   pub told_low : (client_at c k).told.ts ≤ 2 ^ 62
-  told_low = omega (arith, (step.each k).told, kept_clock G n step.on, step.on.kept.ready.clock)
+  told_low = omega (arith, (step.each k).told, step.on.kept.ready.clock)
 
   -- what a client asks for its line is served
   pub served : (l : Line) (frame : NumberedCall) → k ≤ 16 → IsForm l → asks c k l false ≡ Some frame → IsServed n.kept (event.Call k frame.epoch frame.number frame.call)
@@ -86,26 +79,26 @@ module _ {V : Type 0} (G : Ghosts V) (c : Crowd) (n : NodeState V) (k : ℕ) (st
       let d : Client = client_at c k in
       let (x, is, same) = frame_there d d.session (call_by c.words d l) frame e in
       subst (λ (f : NumberedCall). IsServed n.kept (event.Call k f.epoch f.number f.call)) (sym same)
-      (go d x (line_call c.words d l x told_low form is) d.session ((state_of G n).desk.sessions k) (step.each k).session (kept_sessions G n step.on k))
+      (go d x (line_call c.words d l x told_low form is) d.session (session_at n.kept.sessions k) (step.each k).session refl)
     where
-      go : (d : Client) (x : Call) → IsTurnCall x → (o : Option Greeted) (w : Option Session) → SameSession (state_of G n).ids.epoch o w → option_map kept_session w ≡ session_at n.kept.sessions k
+      go : (d : Client) (x : Call) → IsTurnCall x → (o : Option Greeted) (w : Option Session) → SameSession n.kept.epoch o w → session_at n.kept.sessions k ≡ w
           → IsServed n.kept (event.Call k (frame_in d o x).epoch (frame_in d o x).number (frame_in d o x).call)
-      go d x turn None None h is = (small, tt, (no_session (session_at n.kept.sessions k) None is refl, refl, refl))
+      go d x turn None None h is = (small, tt, (is, refl, refl))
       go d x turn None (Some w) h is = absurd h
       go d x turn (Some g) None h is = absurd h
       go d x turn (Some g) (Some w) h is =
           turn_served n.kept k g.epoch (g.last + 1) x small turn
-          (next_session (session_at n.kept.sessions k) w n.kept.epoch g.epoch (g.last + 1) is (h.0 ∙ kept_epoch G n step.on) (ap (λ (m : ℕ). m + 1) (sym h.1)))
+          (subst (λ (o : Option Session). IsNextOf o n.kept.epoch g.epoch (g.last + 1)) (sym is) (h.0, ap (λ (m : ℕ). m + 1) (sym h.1)))
 
   -- its number has its four bytes
   pub has_next : length n.journal < 65536 → HasNext (client_at c k).session
-  has_next room = go (client_at c k).session ((state_of G n).desk.sessions k) (step.each k).session (kept_sessions G n step.on k)
+  has_next room = go (client_at c k).session (session_at n.kept.sessions k) (step.each k).session refl
     where
-      go : (o : Option Greeted) (w : Option Session) → SameSession (state_of G n).ids.epoch o w → option_map kept_session w ≡ session_at n.kept.sessions k → HasNext o
+      go : (o : Option Greeted) (w : Option Session) → SameSession n.kept.epoch o w → session_at n.kept.sessions k ≡ w → HasNext o
       go None w h is = tt
       go (Some g) None h is = absurd h
       go (Some g) (Some w) h is =
-          let low : w.last ≤ length n.journal = step.on.kept.ready.calls k (kept_session w) (sym is) in
+          let low : w.last ≤ length n.journal = step.on.kept.ready.calls k w is in
           omega (arith, low, room, h.1)
 
 -- ---- an entry more

@@ -1,5 +1,5 @@
 -- A run that has played some lines of a script, and its server at the end.
-use Rattle.std.specs.Prelude.{◌≡◌, ℕ, ◌*◌, ◌≤◌, List, ◌++◌, length, map as list_map, Vec}
+use Rattle.std.specs.Prelude.{◌≡◌, ℕ, ◌*◌, ◌≤◌, IsTrue, List, ◌++◌, length, map as list_map, Vec}
 use Rattle.std.specs.Global.{Global}
 use Rattle.alp_base.specs.declared.ids.TransId.{TransId}
 use Rattle.alp_journal.specs.declared.entry.Entry.{Entry}
@@ -38,10 +38,10 @@ pub record HasTimedOut {V : Type 0} (G : Ghosts V) (before : NodeState V) (calls
   pub journal : n.journal ≡ calls ++ ends
   pub ended : list_map (λ e. e.event) ends ≡ list_map event.Timeout live
 
--- each transaction that was live is over
+-- each transaction that was live is over, by the journal where the vault tells
 pub record IsAtEnd {V : Type 0} (G : Ghosts V) (before now : NodeState V) : Type 0 where
   pub live : List TransId
-  pub left : AreLive (state_of G before) live
+  pub left : IsTrue (G.tells before.kept.vault) → AreLive (state_of G before) live
   pub ended : HasTimedOut G before before.journal live now
 
 -- all lines were played on the first of these servers, and then each transaction that was left timed out

@@ -1,4 +1,4 @@
--- The server of a run: server 1, alone, up, which nobody stops, and whose vault tells what it holds.
+-- The server of a run: server 1, alone, up, and which nobody stops.
 use Rattle.std.specs.Prelude.{◌≡◌, ◌≤◌, false, IsTrue, List, [], ◌∷◌, ◌++◌, Option, is_some, Result, OnOk, IsErrOf}
 use Rattle.alp_base.specs.Causes.{Rose}
 use Rattle.alp_base.specs.declared.allowance.Allowance.TheVariants.{Free}
@@ -15,7 +15,9 @@ use Rattle.alp_journal.specs.Answered.{IsAnsweredEntry}
 use Rattle.alp_node.specs.Nodes as node
 use Rattle.alp_node.specs.Nodes.{IsConsistent, start_in}
 use Rattle.alp_node.specs.NodeStates.{NodeState}
+use Rattle.alp_node.specs.Sessions.{no_sessions}
 use Rattle.alp_node.specs.Steps.{is_call}
+use Rattle.alp_node.specs.Turns.{HasTurned}
 use Rattle.alp_top.specs.declared.fault.PlayFault.{PlayFault}
 use Rattle.alp_top.specs.declared.fault.PlayFault.TheVariants as fault
 
@@ -27,24 +29,29 @@ state_of G n = node.state_of (start_in G n) n.journal
 abbrev pub IsDone : State → Entry → Type 0
 IsDone s e = (stops e ≡ false) × IsAnsweredEntry false s e
 
--- it is what its journal says, and its device did its work in each entry
+-- it is what its journal says; where its vault tells what it holds, its device did its work in each entry
 pub record IsOn {V : Type 0} (G : Ghosts V) (n : NodeState V) : Type 0 where
   pub kept : IsConsistent G n
-  pub tells : IsTrue (G.tells n.kept.vault)
   pub up : n.kept.is_down ≡ false
   pub free : G.allowance n.kept.vault ≡ Free
   pub first : n.kept.server ≡ 1
   pub alone : G.servers n.opening.vault.value ≡ 1
-  pub answered : Along next IsDone (opened (start_in G n)) n.journal
+  pub answered : IsTrue (G.tells n.kept.vault) → Along next IsDone (opened (start_in G n)) n.journal
+
+-- it did nothing yet
+pub record IsIdle {V : Type 0} (n : NodeState V) : Type 0 where
+  pub journal : n.journal ≡ []
+  pub sessions : n.kept.sessions ≡ no_sessions
 
 -- What a call leaves of the vault of a server, whether it went well or not: it is the vault that it was, and its count of faults
--- did not fall: it stayed where the call went well, and rose where the device failed. Nobody stops it.
+-- did not fall: it stayed where the call went well or memory was wanting, and rose where the device failed. Nobody stops it.
 pub record HasGone {V T : Type 0} (G : Ghosts V) (old new : V) (result : Result T PlayFault) : Type 0 where
   pub same : IsSameVault G.tells G.volume G.server G.servers old new
   pub free : G.allowance old ≡ Free → G.allowance new ≡ Free
   pub later : G.faults old ≤ G.faults new
   pub still : OnOk result (G.faults new ≡ G.faults old)
   pub failed : IsErrOf result fault.Device → Rose (G.faults old) (G.faults new)
+  pub memory : IsErrOf result fault.OutOfMemory → G.faults new ≡ G.faults old
 
 -- a call that only looks: what the vault holds stays, and where it went well the vault serves on
 pub record HasLooked {V T : Type 0} (G : Ghosts V) (old new : V) (result : Result T PlayFault) : Type 0 where
@@ -52,12 +59,14 @@ pub record HasLooked {V T : Type 0} (G : Ghosts V) (old new : V) (result : Resul
   pub allowance : G.allowance new ≡ G.allowance old
   pub serves : OnOk result (IsTrue (G.serves new))
 
--- one event was answered so: one entry more, and the device did its work
+-- one event was answered so: one entry more, and the device did its work, which the entry shows where the vault tells
 pub record HasStepped {V : Type 0} (G : Ghosts V) (old new : NodeState V) (e : Event) (r : Option Reply) : Type 0 where
   pub on : IsOn G new
   pub opening : new.opening ≡ old.opening
   pub start : start_in G new ≡ start_in G old
   pub acts : List Act
   pub journal : new.journal ≡ old.journal ++ (record { event = e; reply = r; acts = acts }) ∷ []
-  pub done : IsDone (state_of G old) (record { event = e; reply = r; acts = acts })
+  pub done : IsTrue (G.tells old.kept.vault) → IsDone (state_of G old) (record { event = e; reply = r; acts = acts })
+  pub turned : HasTurned old.kept new.kept e r
+  pub epoch : new.kept.epoch ≡ old.kept.epoch
   pub replies : is_some r ≡ is_call e

@@ -1,11 +1,11 @@
 -- How a run ended: its code, its text, and what holds where it ended so.
-use Rattle.std.specs.Prelude.{◌≡◌, ◌⊎◌, ℕ, Bool, true, false, nat_eq, List, [], ◌∷◌, ◌++◌, codes}
+use Rattle.std.specs.Prelude.{◌≡◌, ◌⊎◌, ℕ, Bool, true, false, IsTrue, List, [], ◌++◌, None, codes}
 use Rattle.std.specs.Fmt.{decimal}
-use Rattle.std.specs.Cmp.Lexicographic.{pointwise}
 use Rattle.alp_base.specs.Causes.{Rose}
 use Rattle.alp_disk.specs.declared.disk.Disk.{Ghosts}
 use Rattle.alp_disk.specs.declared.fuse.Fuse.{Fuse}
 use Rattle.alp_store.specs.StoreStates.{StoreOf}
+use Rattle.alp_words.specs.Words.{folder_named}
 use Rattle.alp_top.specs.Logs.{Log}
 use Rattle.alp_top.specs.declared.fault.RunFault.{RunFault}
 use Rattle.alp_top.specs.declared.fault.RunFault.TheVariants as fault
@@ -60,9 +60,13 @@ module _ {D : Type 0} {g : Ghosts D} where
   OnWriteFault (status.WriteFault log) P = P log.value
   OnWriteFault _ P = Unit {0}
 
-  abbrev pub is_bad_words : Status D g → Bool
-  is_bad_words status.BadWords = true
-  is_bad_words _ = false
+  -- bad words are told just where they are bad, unless memory is wanting
+  abbrev pub AreWordsTold : Bool → Status D g → Type 0
+  AreWordsTold true status.BadWords = Unit {0}
+  AreWordsTold true status.OutOfMemory = Unit {0}
+  AreWordsTold true _ = ⊥
+  AreWordsTold false status.BadWords = ⊥
+  AreWordsTold false _ = Unit {0}
 
   abbrev pub OnBadWords : Status D g → Type 0 → Type 0
   OnBadWords status.BadWords P = P
@@ -89,18 +93,20 @@ module _ {D : Type 0} {g : Ghosts D} where
   OnUntaken status.ReadFault P = P
   OnUntaken _ P = Unit {0}
 
-  -- Where the bay or the disk of server 1 ended the run, of the fault. Server 0 is the bay, and the limit of an epoch is its last.
-  abbrev pub OnRunFault : Status D g → (RunFault → Type 0) → Type 0
-  OnRunFault (status.DiskFault server) P = ((server ≡ 0) × P fault.Bay) ⊎ ((server ≡ 1) × P fault.Disk)
-  OnRunFault (status.TooLong limit) P = (limit ≡ 4294967295) × P fault.EpochEnd
-  OnRunFault (status.NotAVolume server found) P = (server ≡ 1) × P (fault.NotAVolume found)
-  OnRunFault (status.Damaged server place) P = (server ≡ 1) × P (fault.Damaged place)
-  OnRunFault _ P = Unit {0}
+  -- Where the run was cut short: the bay or the disk of server 1 ended it, of the fault, or memory was wanting, before a disk was
+  -- asked for or behind that. Server 0 is the bay, and the limit of an epoch is its last.
+  abbrev pub OnCutShort : Status D g → Type 0 → (RunFault → Type 0) → Type 0
+  OnCutShort (status.DiskFault server) U P = ((server ≡ 0) × P fault.Bay) ⊎ ((server ≡ 1) × P fault.Disk)
+  OnCutShort (status.TooLong limit) U P = (limit ≡ 4294967295) × P fault.EpochEnd
+  OnCutShort (status.NotAVolume server found) U P = (server ≡ 1) × P (fault.NotAVolume found)
+  OnCutShort (status.Damaged server place) U P = (server ≡ 1) × P (fault.Damaged place)
+  OnCutShort status.OutOfMemory U P = U ⊎ P fault.OutOfMemory
+  OnCutShort _ U P = Unit {0}
 
-  -- where memory was wanting
-  abbrev pub OnMemory : Status D g → Type 0 → Type 0
-  OnMemory status.OutOfMemory P = P
-  OnMemory _ P = Unit {0}
+  -- the bay's count of faults rose where its fault is told, and stayed in every other case
+  abbrev pub IsBayFaultTold : Status D g → ℕ → ℕ → Type 0
+  IsBayFaultTold (status.DiskFault server) before now = ((server ≡ 0) × Rose before now) ⊎ ((server ≡ 1) × (now ≡ before))
+  IsBayFaultTold _ before now = now ≡ before
 
   -- the source's count of faults rose where a read fault is told, and stayed in every other case
   abbrev pub IsReadFaultTold : Status D g → ℕ → ℕ → Type 0
@@ -124,7 +130,6 @@ module _ {D : Type 0} {g : Ghosts D} where
   IsPlayedOrMemory status.OutOfMemory = Unit {0}
   IsPlayedOrMemory _ = ⊥
 
--- the words of a run are the one word `play`
-abbrev pub are_play : List (List ℕ) → Bool
-are_play (w ∷ []) = pointwise nat_eq w (codes "play")
-are_play _ = false
+-- the words name no folder, or the bay tells what stands in it
+abbrev pub IsTold : List (List ℕ) → Bool → Type 0
+IsTold words tells = (folder_named words ≡ None) ⊎ IsTrue tells

@@ -5,8 +5,6 @@ use Rattle.std.specs.List.{AllByRecursion}
 use Rattle.alp_base.specs.declared.ids.Stamp.{Stamp}
 use Rattle.alp_files.specs.declared.call.Call.{Call}
 use Rattle.alp_files.specs.declared.call.Call.TheVariants as call
-use Rattle.alp_journal.specs.Desk.{Session}
-use Rattle.alp_journal.specs.State.{State}
 use Rattle.alp_journal.specs.declared.entry.Entry.{Entry}
 use Rattle.alp_journal.specs.declared.log.Item.{Item}
 use Rattle.alp_history.specs.Items.{Sent, stamps_told}
@@ -26,7 +24,10 @@ use Rattle.alp_top.specs.Plays.{Records, AreRecorded, PlaysLine}
 use Rattle.alp_vault.specs.declared.vault.Vault.{Ghosts}
 use Rattle.alp_node.specs.NodeStates.{NodeState}
 use Rattle.alp_node.specs.Nodes.{start_in}
-use Rattle.alp_top.specs.Servers.{IsOn, state_of}
+use Rattle.alp_node.specs.Sessions.{session_at}
+use Rattle.alp_node.specs.declared.server_state.ServerState.{ServerState}
+use Rattle.alp_node.specs.declared.sessions.Session.{Session}
+use Rattle.alp_top.specs.Servers.{IsOn}
 
 -- client and server know the session, or neither does
 abbrev pub SameSession : ℕ → Option Greeted → Option Session → Type 0
@@ -36,15 +37,15 @@ SameSession epoch (Some g) None = ⊥
 SameSession epoch (Some g) (Some w) = (g.epoch ≡ epoch) × (w.last ≡ g.last)
 
 -- a client's session is the server's, and no stamp that it was told is beyond the clock
-pub record IsInStep (s : State) (k : ℕ) (c : Client) : Type 0 where
-  pub session : SameSession s.ids.epoch c.session (s.desk.sessions k)
-  pub told : c.told.ts ≤ s.holder.clock
+pub record IsInStep {V : Type 0} (k : ServerState V) (number : ℕ) (c : Client) : Type 0 where
+  pub session : SameSession k.epoch c.session (session_at k.sessions number)
+  pub told : c.told.ts ≤ k.clock
 
 -- all clients are in step with a server that goes on
 pub record InStep {V : Type 0} (G : Ghosts V) (c : Crowd) (n : NodeState V) : Type 0 where
   pub on : IsOn G n
   pub places : length c.places ≡ 17
-  pub each : (k : ℕ) → IsInStep (state_of G n) k (client_at c k)
+  pub each : (k : ℕ) → IsInStep n.kept k (client_at c k)
 
 -- ---- what a client's list says of it
 

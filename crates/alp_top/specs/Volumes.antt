@@ -1,8 +1,8 @@
 -- The disk of the run's server: what the server opened on, and what the disk holds when it is given back.
-use Rattle.std.specs.Prelude.{◌≡◌, ◌≢◌, ◌⊎◌, ◌≤◌, ℕ, ◌+◌, ◌*◌, List, Option, Some, Ok, Err}
+use Rattle.std.specs.Prelude.{◌≡◌, ◌≢◌, ◌⊎◌, ◌≤◌, ℕ, ◌+◌, ◌*◌, List, Option, Some, Result, Ok, Err}
 use Rattle.std.specs.FinMap as map
 use Rattle.alp_base.specs.Causes.{Rose}
-use Rattle.alp_base.specs.Crashes.{Only}
+use Rattle.alp_base.specs.Crashes.{Only, NoMore}
 use Rattle.alp_base.specs.Notes.{Notes}
 use Rattle.alp_base.specs.declared.faults.Sizes.{Sizes}
 use Rattle.alp_base.specs.declared.faults.VaultFault.TheVariants as vault_fault
@@ -19,7 +19,7 @@ use Rattle.alp_node.specs.Nodes.{IsSoundStart}
 use Rattle.alp_node.specs.Starts.{raised}
 use Rattle.alp_node.specs.declared.start.StartFault.TheVariants.{EpochEnd}
 use Rattle.alp_store.specs.Holding.{Holds}
-use Rattle.alp_store.specs.Starts.{IsNew, WhyNotStarted}
+use Rattle.alp_store.specs.Starts.{AreOfServer, IsNew, WhyNotStarted}
 use Rattle.alp_vault.specs.Contents.{Contents}
 use Rattle.alp_top.specs.declared.fault.RunFault.{RunFault}
 use Rattle.alp_top.specs.declared.fault.RunFault.TheVariants as fault
@@ -38,7 +38,7 @@ pub record IsOpenedNew (sizes : Sizes) (o : Start) (notes : Notes) : Type 0 wher
   pub cells : o.cells ≡ map.empty
   pub noted : notes ≡ map.insert map.empty clock_name (clock_form.spell (record { epoch = 1; clock = 0 }))
 
--- It was not: the server opened on what the disk's reading says, in the sizes of the anchor that counts there, and in the epoch
+-- It was not: the server opened on what the disk's reading says, which is the server's, in the sizes of the anchor that counts there, and in the epoch
 -- after that of its note, which it raised.
 pub record IsOpenedOn (n : ℕ) (image : Image) (o : Start) (notes : Notes) : Type 0 where
   pub anchor : Anchor
@@ -46,6 +46,7 @@ pub record IsOpenedOn (n : ℕ) (image : Image) (o : Start) (notes : Notes) : Ty
   pub sizes_are : o.sizes ≡ anchor.sizes
   pub held : Contents
   pub holds : Holds 1 1 n o.sizes.home image held
+  pub own : AreOfServer 1 1 held
   pub cells : o.cells ≡ held.cells
   pub next : raised held ≡ Ok (record { epoch = o.epoch; clock = o.clock })
   pub noted : notes ≡ map.insert held.notes clock_name (clock_form.spell (record { epoch = o.epoch; clock = o.clock }))
@@ -77,19 +78,24 @@ pub record IsReturned {D : Type 0} (g : Ghosts D) (sizes : Sizes) (before after 
 
 -- ---- why a run ended before its report
 
--- a disk that is not new, of which nothing that a read gives was changed
+-- a disk that is not new, of which nothing that a read gives was changed, and of which a crash leaves no more than before; it did
+-- not fail
 pub record IsLeftAlone {D : Type 0} (g : Ghosts D) (sizes : Sizes) (taken given : D) : Type 0 where
   pub old : IsNew sizes (g.size taken) (g.seen taken) → ⊥
   pub seen : g.seen given ≡ g.seen taken
+  pub crash : NoMore (g.may_leave taken) (g.may_leave given)
+  pub unfailed : g.faults given ≡ g.faults taken
 
--- its volume has no epoch left
+-- its volume is the server's, and has no epoch left
 pub record HasNoEpoch (n : ℕ) (image : Image) : Type 0 where
   pub home : ℕ
   pub held : Contents
   pub holds : Holds 1 1 n home image held
+  pub own : AreOfServer 1 1 held
   pub last : raised held ≡ Err EpochEnd
 
--- the disk failed, or it holds no volume of the server, or a damaged one, or one without a further epoch
+-- The disk failed, or it holds no volume of the server, or a damaged one, or one without a further epoch. Where memory was wanting
+-- it did not fail.
 abbrev pub HasDiskCause : {D : Type 0} → Ghosts D → Sizes → RunFault → D → D → Type 0
 HasDiskCause g sizes fault.Disk taken given = Rose (g.faults taken) (g.faults given)
 HasDiskCause g sizes (fault.NotAVolume found) taken given =
@@ -98,16 +104,12 @@ HasDiskCause g sizes (fault.Damaged place) taken given =
     IsLeftAlone g sizes taken given × WhyNotStarted 1 1 (g.size taken) (g.seen taken) (vault_fault.Damaged place)
 HasDiskCause g sizes fault.EpochEnd taken given = IsLeftAlone g sizes taken given × HasNoEpoch (g.size taken) (g.seen taken)
 HasDiskCause g sizes fault.Bay taken given = ⊥
-HasDiskCause g sizes fault.OutOfMemory taken given = Unit {0}
+HasDiskCause g sizes fault.OutOfMemory taken given = g.faults given ≡ g.faults taken
 
--- no disk was taken, or one was and is given back
-abbrev pub IsUntakenOrReturned : {D : Type 0} → Ghosts D → (before after : ℕ → Option D) → Type 0
-IsUntakenOrReturned g before after = (after ≡ before) ⊎ (sizes : Sizes) × IsReturned g sizes before after (λ _ _. Unit {0})
-
--- how the bay stands then: where the bay failed nothing was taken, and where memory was wanting perhaps
+-- How the bay stands then: where the bay failed nothing was taken. Where memory was wanting nothing was, or the disk is given back.
 abbrev pub HasRunCause : {D : Type 0} → Ghosts D → Sizes → (before after : ℕ → Option D) → (bay_before bay_after : ℕ) → RunFault → Type 0
 HasRunCause g sizes before after bay_before bay_after fault.Bay = (after ≡ before) × Rose bay_before bay_after
-HasRunCause g sizes before after bay_before bay_after fault.OutOfMemory = IsUntakenOrReturned g before after
+HasRunCause g sizes before after bay_before bay_after fault.OutOfMemory = (after ≡ before) ⊎ IsReturned g sizes before after (HasDiskCause g sizes fault.OutOfMemory)
 HasRunCause g sizes before after bay_before bay_after f = IsReturned g sizes before after (HasDiskCause g sizes f)
 
 -- ---- which disks a run starts on
@@ -122,3 +124,8 @@ pub record IsStartable (sizes : Sizes) (n : ℕ) (image : Image) : Type 0 where
 pub record StartsOn {D : Type 0} (g : Ghosts D) (sizes : Sizes) (before after : ℕ → Option D) : Type 0 where
   pub startable : (d : D) → before 1 ≡ Some d → IsStartable sizes (g.size d) (g.seen d)
   pub unfailed : (d e : D) → IsTaken g (before 1) (pages_of sizes) d → after 1 ≡ Some e → Rose (g.faults d) (g.faults e) → ⊥
+
+-- the bay's count of faults rose where a fault of it is told, and stayed in every other case
+abbrev pub IsBayTold : {T : Type 0} → Result T RunFault → ℕ → ℕ → Type 0
+IsBayTold (Err fault.Bay) before now = Rose before now
+IsBayTold r before now = now ≡ before

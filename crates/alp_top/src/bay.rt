@@ -1,9 +1,9 @@
 //! The disk of the run's server is taken from its bay and given back.
-ghost use Rattle.std.specs.Prelude.{◌≡◌, IfOk, IfErr};
+ghost use Rattle.std.specs.Prelude.{◌≡◌, ◌⊎◌, None, IsTrue, IfOk, IfErr};
 ghost use Rattle.alp_script.specs.Accepted.{IsAccepted};
 ghost use Rattle.alp_script.specs.Volumes.{sizes_said};
 ghost use Rattle.alp_top.specs.Headline.{IsRunOf};
-ghost use Rattle.alp_top.specs.Volumes.{HasRunCause, IsReturned, pages_of as pages_of_said};
+ghost use Rattle.alp_top.specs.Volumes.{HasRunCause, IsBayTold, IsReturned, pages_of as pages_of_said};
 ghost use Rattle.alp_vault.specs.Vault.{AreSizes};
 
 use crate::fault::RunFault;
@@ -26,18 +26,20 @@ fn pages_of(sizes: Sizes) -> u32
     2 + 2 * sizes.area + sizes.home
 }
 
-/// Plays the lines on the disk of server 1, in memory where no folder was chosen before. The disk is given back however the
-/// run ends.
+/// Plays the lines on the disk of server 1, in the folder that is named, or in memory where none is. The disk is given back
+/// however the run ends.
 pub fn run_bay<B: Bay>(
     alloc: Global,
     lines: &[NumberedLine],
+    folder: Option<&str>,
     bay: &mut B,
 ) -> Result<Ended<Store<Fuse<B::Device>>>, RunFault>
     requires accepted { IsAccepted lines.now }
-    ensures ran { IfOk result (λ e. IsReturned B.Device.Disk (sizes_said lines.now 1) (B.at bay.old) (B.at bay.new) (IsRunOf ⟦<Store<Fuse<B::Device>> as Vault>⟧ B.Device.Disk (sizes_said lines.now 1) lines.now e.log e.text.items)) }
-    ensures cause { IfErr result (HasRunCause B.Device.Disk (sizes_said lines.now 1) (B.at bay.old) (B.at bay.new) (B.faults bay.old) (B.faults bay.new)) }
+    ensures ran { (folder.entry ≡ None) ⊎ IsTrue (B.tells bay.new) → IfOk result (λ e. IsReturned B.Device.Disk (sizes_said lines.now 1) (B.at bay.old) (B.at bay.new) (IsRunOf ⟦<Store<Fuse<B::Device>> as Vault>⟧ B.Device.Disk (sizes_said lines.now 1) lines.now e.log e.text.items)) }
+    ensures cause { (folder.entry ≡ None) ⊎ IsTrue (B.tells bay.new) → IfErr result (HasRunCause B.Device.Disk (sizes_said lines.now 1) (B.at bay.old) (B.at bay.new) (B.faults bay.old) (B.faults bay.new)) }
+    ensures bay { IsBayTold result (B.faults bay.old) (B.faults bay.new) }
 {
-    bay.choose(None)?;
+    bay.choose(folder)?;
     let sizes = sizes_of(lines, SERVER);
     let device = bay.take(SERVER, pages_of(sizes))?;
     let (disk, ended) = run_disk(alloc, lines, Fuse::new(device), sizes);

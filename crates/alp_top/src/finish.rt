@@ -7,7 +7,7 @@ ghost use Rattle.alp_script.specs.Accepted.{IsAccepted};
 ghost use Rattle.alp_top.specs.Endings.{IsEnding, IsServerLog, IsEnded};
 ghost use Rattle.alp_top.specs.Plays.{ranks_from};
 ghost use Rattle.alp_top.specs.Runs.{HasPlayed, HasPlayedOut};
-ghost use Rattle.alp_top.specs.Servers.{IsOn, HasGone, HasLooked};
+ghost use Rattle.alp_top.specs.Servers.{IsOn, IsIdle, HasGone, HasLooked};
 
 use crate::fault::PlayFault;
 use crate::owners::owner_records;
@@ -72,10 +72,9 @@ fn put_ending<V: Vault>(
 ) -> Result<(), PlayFault>
     requires serving { IsTrue (V.serves vault.old) }
     requires free { V.allowance vault.old ≡ Free }
-    requires tells { IsTrue (V.tells vault.old) }
     ensures gone { HasGone V.Vault vault.old vault.new result }
     ensures looked { HasLooked V.Vault vault.old vault.new result }
-    ensures text { OnOk result (text.new.items ≡ text.old.items ++ summary_text ending.server ending.epoch ending.clock (V.held vault.old).cells ending.committed ending.aborted) }
+    ensures text { IsTrue (V.tells vault.old) → OnOk result (text.new.items ≡ text.old.items ++ summary_text ending.server ending.epoch ending.clock (V.held vault.old).cells ending.committed ending.aborted) }
 {
     let owners = owner_records(alloc, vault)?;
     vault.knows();
@@ -120,7 +119,7 @@ fn play_out<V: Vault>(
 ) -> Result<PlayedRun, PlayFault>
     requires accepted { IsAccepted lines.now }
     requires on { IsOn V.Vault node.old }
-    requires idle { node.old.journal ≡ [] }
+    requires idle { IsIdle node.old }
     ensures gone { HasGone V.Vault node.old.kept.vault node.new.kept.vault result }
     ensures played { IfOk result (λ run. HasPlayedOut V.Vault lines.now node.old node.new run.clients run.lists.items run.text.items) }
 {
@@ -138,9 +137,9 @@ pub fn run_node<V: Vault>(
 ) -> (V, Result<Ended<V>, PlayFault>)
     requires accepted { IsAccepted lines.now }
     requires on { IsOn V.Vault node }
-    requires idle { node.journal ≡ [] }
+    requires idle { IsIdle node }
     ensures gone { HasGone V.Vault node.kept.vault result.0 result.1 }
-    ensures ended { IfOk result.1 (λ e. IsEnded V.Vault lines.now node result.0 e.log e.text.items) }
+    ensures ended { IsTrue (V.tells node.kept.vault) → IfOk result.1 (λ e. IsEnded V.Vault lines.now node result.0 e.log e.text.items) }
 {
     let mut node = node;
     let played = play_out(alloc, lines, &mut node);

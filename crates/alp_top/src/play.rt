@@ -9,7 +9,7 @@ ghost use Rattle.alp_script.specs.Order.{names_ours};
 ghost use Rattle.alp_script.specs.Accepted.{RisesFrom};
 ghost use Rattle.alp_top.specs.Turns.{Turn, lists_in, own_in, turns_text};
 ghost use Rattle.alp_top.specs.Runs.{HasPlayed};
-ghost use Rattle.alp_top.specs.Servers.{IsOn, HasGone};
+ghost use Rattle.alp_top.specs.Servers.{IsOn, IsIdle, HasGone};
 ghost use Rattle.alp_top.specs.Steps.{InStep, Exchanged, Did, Adds};
 
 use crate::fault::PlayFault;
@@ -221,7 +221,7 @@ pub fn play<V: Vault>(
     requires forms { AllByRecursion (λ l. IsForm l.line) lines.now }
     requires ours { AllByRecursion (λ l. names_ours l.line ≡ true) lines.now }
     requires on { IsOn V.Vault node.old }
-    requires idle { node.old.journal ≡ [] }
+    requires idle { IsIdle node.old }
     ensures gone { HasGone V.Vault node.old.kept.vault node.new.kept.vault result }
     ensures opening { IfOk result (λ _. node.new.opening ≡ node.old.opening) }
     ensures short { IfOk result (λ _. length node.new.journal ≤ 2000) }

@@ -1,11 +1,11 @@
 //! A whole run, from the words of the program to the bytes of the report and the disk that is given back.
-ghost use Rattle.std.specs.Prelude.{◌≡◌, ℕ, true, not, take, map, string_bytes};
+ghost use Rattle.std.specs.Prelude.{◌≡◌, ℕ, false, take, map, string_bytes};
 ghost use Rattle.std.specs.Io.KnownBytes.{Appends};
 ghost use Rattle.alp_base.specs.Causes.{Rose};
 ghost use Rattle.alp_script.specs.Reading.{GaveBadLine, GaveGoodLines, SaysScript};
 ghost use Rattle.alp_top.specs.Headline.{IsPlayed, IsCutOff, HasCause, StartsHere};
-ghost use Rattle.alp_top.specs.Statuses.{are_play, is_bad_words, OnDone, OnBadWords, OnBadScript, OnReadFault, OnWriteFault, OnRunFault, OnUntaken, OnMemory, IsReadFaultTold, IsWriteFaultTold, OnUnwritten, IsPlayedOrMemory, IsHandedOver};
-ghost use Rattle.alp_top.specs.Volumes.{IsUntakenOrReturned};
+ghost use Rattle.alp_top.specs.Statuses.{AreWordsTold, IsTold, OnDone, OnBadWords, OnBadScript, OnReadFault, OnWriteFault, OnCutShort, OnUntaken, IsReadFaultTold, IsWriteFaultTold, IsBayFaultTold, OnUnwritten, IsPlayedOrMemory, IsHandedOver};
+ghost use Rattle.alp_words.specs.Words.{are_bad};
 
 use crate::bay::run_bay;
 use crate::finish::Ended;
@@ -17,15 +17,9 @@ use alp_disk::{Disk, Fuse};
 use alp_script::{ScriptFault, accepted_lines, read_script};
 use alp_store::Store;
 use alp_vault::Vault;
+use alp_words::{Command, WordsFault, read_command};
 use std::alloc::Global;
 use std::snapshot::Snapshot;
-
-// Whether the words ask for the one thing that the program does so far.
-fn are_words_play(words: &[String]) -> bool
-    ensures { result ≡ are_play (map string_bytes words.now) }
-{
-    words.len() == 1 && words[0].as_str() == "play"
-}
 
 // Writes the report of a run that is over.
 fn hand_over<D: Disk, K: Sink>(ended: &Ended<Store<Fuse<D>>>, out: &mut K) -> Status<D>
@@ -41,9 +35,11 @@ fn hand_over<D: Disk, K: Sink>(ended: &Ended<Store<Fuse<D>>>, out: &mut K) -> St
     }
 }
 
-/// Plays the script on the disk that the bay has for server 1, and writes the report, which is made whole before its first byte
-/// is written. The words come first, then the script to its first bad line, then the disk; the first event that ends the run
-/// gives its status. A disk that was taken is given back however the run ends.
+/// Plays the script on the disk that the bay has for server 1, in the folder that the words name or in memory, and writes the
+/// report, which is made whole before its first byte is written. The words come first, then the script to its first bad line,
+/// then the disk; the first event that ends the run gives its status. A disk that was taken is given back however the run ends.
+///
+/// What a folder's files hold no contract can say: what is said of disks holds of those in memory, and of a bay that tells.
 pub fn run_alpine<S: Source, K: Sink, B: Bay>(
     alloc: Global,
     words: &[String],
@@ -53,31 +49,33 @@ pub fn run_alpine<S: Source, K: Sink, B: Bay>(
 ) -> Status<B::Device>
     // The headline: what is written is the report of a run of the script, whose committed transactions are one thread's
     // history, and the disk is given back with what the server holds in the end.
-    ensures headline { OnDone result (IsPlayed ⟦<Store<Fuse<B::Device>> as Vault>⟧ B.Device.Disk (S.left script.old) (S.left script.new) (K.written out.old) (K.written out.new) (B.at bay.old) (B.at bay.new)) }
+    ensures headline { IsTold (map string_bytes words.now) (B.tells bay.new) → OnDone result (IsPlayed ⟦<Store<Fuse<B::Device>> as Vault>⟧ B.Device.Disk (S.left script.old) (S.left script.new) (K.written out.old) (K.written out.new) (B.at bay.old) (B.at bay.new)) }
     // After a write fault the log is of a run of the script too, and a prefix of its report is written.
-    ensures cut_off { OnWriteFault result (IsCutOff ⟦<Store<Fuse<B::Device>> as Vault>⟧ B.Device.Disk (S.left script.old) (S.left script.new) (K.written out.old) (K.written out.new) (B.at bay.old) (B.at bay.new)) }
-    // The words are bad just where they are not `play`, and then nothing is read.
-    ensures words { is_bad_words result ≡ not (are_play (map string_bytes words.now)) }
+    ensures cut_off { IsTold (map string_bytes words.now) (B.tells bay.new) → OnWriteFault result (IsCutOff ⟦<Store<Fuse<B::Device>> as Vault>⟧ B.Device.Disk (S.left script.old) (S.left script.new) (K.written out.old) (K.written out.new) (B.at bay.old) (B.at bay.new)) }
+    // The words are told bad just where the program's command line has no such words, and then nothing is read.
+    ensures words { AreWordsTold (are_bad (map string_bytes words.now)) result }
     ensures bad_words { OnBadWords result (script.new ≡ script.old) }
     // That line of what the source gave is the first outside the language.
     ensures bad_script { OnBadScript result (GaveBadLine (S.left script.old) (S.left script.new)) }
     // A source that fails behind a line outside the language is not asked that far.
     ensures good_lines { OnReadFault result (GaveGoodLines (S.left script.old) (S.left script.new)) }
-    // A fault of a stream is told just where it came in this call.
-    ensures streams { IsReadFaultTold result (S.faults script.old) (S.faults script.new) × IsWriteFaultTold result (K.faults out.old) (K.faults out.new) }
-    // The bay or the disk ended the run: it failed in this call, or the disk is not one of the server's.
-    ensures disk { OnRunFault result (HasCause B.Device.Disk (S.left script.old) (S.left script.new) (B.at bay.old) (B.at bay.new) (B.faults bay.old) (B.faults bay.new)) }
-    // No disk is asked for before the script is read; where memory is wanting later, it is given back.
-    ensures untaken { OnUntaken result (bay.new ≡ bay.old) × OnMemory result (IsUntakenOrReturned B.Device.Disk (B.at bay.old) (B.at bay.new)) }
+    // A fault of a stream or of the bay is told just where it came in this call.
+    ensures faults { IsReadFaultTold result (S.faults script.old) (S.faults script.new) × IsWriteFaultTold result (K.faults out.old) (K.faults out.new) × IsBayFaultTold result (B.faults bay.old) (B.faults bay.new) }
+    // The bay or the disk ended the run: it failed in this call, or the disk is not one of the server's. Or memory was wanting.
+    ensures disk { IsTold (map string_bytes words.now) (B.tells bay.new) → OnCutShort result (bay.new ≡ bay.old) (HasCause B.Device.Disk (S.left script.old) (S.left script.new) (B.at bay.old) (B.at bay.new) (B.faults bay.old) (B.faults bay.new)) }
+    // No disk is asked for before the script is read.
+    ensures untaken { OnUntaken result (bay.new ≡ bay.old) }
     // A script of the language is played to its end on a disk that is new or the server's, where nothing fails.
-    ensures complete { are_play (map string_bytes words.now) ≡ true → SaysScript (S.left script.old) → (Rose (S.faults script.old) (S.faults script.new) → ⊥) → (Rose (K.faults out.old) (K.faults out.new) → ⊥)
-        → (Rose (B.faults bay.old) (B.faults bay.new) → ⊥) → StartsHere B.Device.Disk (S.left script.old) (S.left script.new) (B.at bay.old) (B.at bay.new) → IsPlayedOrMemory result }
+    ensures complete { are_bad (map string_bytes words.now) ≡ false → SaysScript (S.left script.old) → (Rose (S.faults script.old) (S.faults script.new) → ⊥) → (Rose (K.faults out.old) (K.faults out.new) → ⊥)
+        → (Rose (B.faults bay.old) (B.faults bay.new) → ⊥) → IsTold (map string_bytes words.now) (B.tells bay.new) → StartsHere B.Device.Disk (S.left script.old) (S.left script.new) (B.at bay.old) (B.at bay.new) → IsPlayedOrMemory result }
     // Nothing is written but the report.
     ensures unwritten { OnUnwritten result (out.new ≡ out.old) }
 {
-    if !are_words_play(words) {
-        return Status::BadWords;
-    }
+    let folder = match read_command(alloc, words) {
+        Ok(Command::Play { folder }) => folder,
+        Err(WordsFault::Bad) => return Status::BadWords,
+        Err(WordsFault::OutOfMemory) => return Status::OutOfMemory,
+    };
     let lines = match read_script(alloc, script) {
         Ok(lines) => lines,
         Err(ScriptFault::Bad { line }) => return Status::BadScript { line },
@@ -85,7 +83,7 @@ pub fn run_alpine<S: Source, K: Sink, B: Bay>(
         Err(ScriptFault::OutOfMemory) => return Status::OutOfMemory,
     };
     accepted_lines();
-    match run_bay(alloc, &lines, bay) {
+    match run_bay(alloc, &lines, folder.as_deref(), bay) {
         Ok(ended) => hand_over(&ended, out),
         Err(fault) => ended_by(fault),
     }

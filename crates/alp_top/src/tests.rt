@@ -3,11 +3,13 @@ ghost use Rattle.alp_base.specs.declared.allowance.Allowance.TheVariants.{Free};
 
 use crate::*;
 use alp_base::{MemSink, MemSource};
-use alp_bay::{Bay, MemBay};
+use alp_bay::{Bay, HostBay, MemBay};
 use alp_disk::{Disk, MemDisk};
 use std::alloc::Global;
 use std::io::Write;
+use std::path::PathBuf;
 use std::test::Fail;
+use std::{env, fs, process};
 
 const SCRIPT: &[u8] =
     b"servers 1\nclient 1 Admin\n1 begin 1\n1 mkowner 1 ann 10 World\n1 create 1 A ann 4 World World\n1 write A 0 1 hello\n1 read A 0 2\n1 commit\n";
@@ -176,12 +178,12 @@ fn run(alloc: Global, asked: &[&str], text: &[u8], failing: &Failing) -> Result<
     run_in(alloc, asked, text, failing, &mut bay)
 }
 
-fn run_in(
+fn run_in<B: Bay>(
     alloc: Global,
     asked: &[&str],
     text: &[u8],
     failing: &Failing,
-    bay: &mut MemBay,
+    bay: &mut B,
 ) -> Result<Told, Fail> {
     let words = words(alloc, asked)?;
     let bytes = Vec::from_slice(alloc, text)?;
@@ -215,7 +217,13 @@ fn plays_each_prefix(rt: HostRuntime) -> Result<(), Fail> {
 #[test]
 fn refuses_other_words_and_scripts(rt: HostRuntime) -> Result<(), Fail> {
     let alloc = rt.alloc();
-    for asked in [&[] as &[&str], &["play", "now"], &["Play"]] {
+    for asked in [
+        &[] as &[&str],
+        &["play", "now"],
+        &["Play"],
+        &["play", "--folder"],
+        &["--help"],
+    ] {
         let told = run(alloc, asked, SCRIPT, &SOUND)?;
         assert_eq!(rt; told.code, 1);
         assert_eq!(rt; told.said.as_str(), "alpine: bad words");
@@ -257,6 +265,60 @@ fn plays_on_the_disk_that_was_given_back(rt: HostRuntime) -> Result<(), Fail> {
     let again = run_in(alloc, &["play"], AGAIN, &SOUND, &mut bay)?;
     assert_eq!(rt; again.code, 0);
     assert_eq!(rt; again.written.as_slice(), AGAIN_TOLD);
+    Ok(())
+}
+
+// A new folder of this process.
+fn new_folder(rt: &HostRuntime) -> Result<PathBuf, Fail> {
+    let name = format!(in rt.alloc(); "alp_top-test-{}", process::id(rt.process()))?;
+    let path = env::temp_dir(rt)?.join(rt.alloc(), name.as_str())?;
+    fs::create_dir(rt, path.as_path())?;
+    Ok(path)
+}
+
+#[test]
+fn plays_on_the_volume_of_a_folder(rt: HostRuntime) -> Result<(), Fail> {
+    let alloc = rt.alloc();
+    let path = new_folder(&rt)?;
+    let folder = path.as_path().to_str().ok_or("a name")?;
+    for (script, report) in [(SCRIPT, expected(alloc, 8)?.as_slice()), (AGAIN, AGAIN_TOLD)] {
+        let mut bay = HostBay::new(alloc, rt)?;
+        let told = run_in(alloc, &["play", "--folder", folder], script, &SOUND, &mut bay)?;
+        assert_eq!(rt; told.code, 0);
+        assert_eq!(rt; told.written.as_slice(), report);
+    }
+    let mut bay = HostBay::new(alloc, rt)?;
+    let told = run_in(alloc, &["play", "--folder="], SCRIPT, &SOUND, &mut bay)?;
+    assert_eq!(rt; told.said.as_str(), "alpine: disk fault server 0");
+    fs::remove_dir_all(&rt, path.as_path())?;
+    Ok(())
+}
+
+// The smallest log has no room for the pages of both writes together, and the smallest home none for one page more.
+const NO_LOG: &[u8] =
+    b"servers 1\nvolume 1 512 64\nclient 1 Admin\n1 begin 1\n1 mkowner 1 ann 200 World\n1 commit\n1 begin 1\n1 create 1 A ann 8 World World\n1 write A 0 4 x\n1 write A 0 3 x\n1 commit\n";
+
+const NO_LOG_TOLD: &[u8] =
+    b"4 ok trans 1.1.1\n5 ok\n6 ok stamp 1 1.1.1\n7 ok trans 1.1.2\n8 ok file 1.1.1 open 1\n9 refused 14 room 64 asked 67\n10 ok\n11 ok stamp 2 1.1.2\nserver 1 epoch 1 clock 2 files 1 pages 8\nowner 1 ann charge 8 quota 200\ncommitted 2 aborted 0\n";
+
+const NO_HOME: &[u8] =
+    b"servers 1\nvolume 1 512 2048\nclient 1 Admin\n1 begin 1\n1 mkowner 1 ann 400 World\n1 create 1 A ann 300 World World\n";
+
+#[test]
+fn refuses_what_has_no_room(rt: HostRuntime) -> Result<(), Fail> {
+    let alloc = rt.alloc();
+    let told = run(alloc, &["play"], NO_LOG, &SOUND)?;
+    assert_eq!(rt; told.code, 0);
+    assert_eq!(rt; told.written.as_slice(), NO_LOG_TOLD);
+    let mut script = Vec::from_slice(alloc, NO_HOME)?;
+    for k in 0..15u32 {
+        let first = 16 * k;
+        write!(script, "1 write A {first} 16 x\n")?;
+    }
+    script.extend_from_slice(b"1 write A 240 12 x\n1 write A 252 1 x\n")?;
+    let full = run(alloc, &["play"], script.as_slice(), &SOUND)?;
+    assert_eq!(rt; full.code, 0);
+    assert_eq!(rt; last_answer(full.written.as_slice()), b"refused 13 left 0 asked 1");
     Ok(())
 }
 

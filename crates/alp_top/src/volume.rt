@@ -27,13 +27,12 @@ pub fn run_disk<D: Disk>(
     requires accepted { IsAccepted lines.now }
     requires pages { 2 ≤ D.size disk }
     requires sizes { AreSizes sizes }
-    requires told { IsTrue (D.tells disk) }
     requires free { D.allowance disk ≡ Free }
     ensures size { D.size result.0 ≡ D.size disk }
     ensures tells { D.tells result.0 ≡ D.tells disk }
     ensures later { D.faults disk ≤ D.faults result.0 }
-    ensures ran { IfOk result.1 (λ e. IsRunOf ⟦<Store<D> as Vault>⟧ D.Disk sizes lines.now e.log e.text.items disk result.0) }
-    ensures cause { IfErr result.1 (λ f. HasDiskCause D.Disk sizes f disk result.0) }
+    ensures ran { IsTrue (D.tells disk) → IfOk result.1 (λ e. IsRunOf ⟦<Store<D> as Vault>⟧ D.Disk sizes lines.now e.log e.text.items disk result.0) }
+    ensures cause { IsTrue (D.tells disk) → IfErr result.1 (λ f. HasDiskCause D.Disk sizes f disk result.0) }
 {
     let store = match Store::start(alloc, disk, SERVER, 1, sizes) {
         Ok(store) => store,

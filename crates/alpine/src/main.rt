@@ -1,9 +1,8 @@
-//! The program `alpine`: the script on standard input, the report on standard output, the disk in memory.
+//! The program `alpine`: the script on standard input, the report on standard output, the disks in a folder or in memory.
 #![tactic(auto)]
 
 use alp_base::{ReadSource, WriteSink};
-use alp_bay::MemBay;
-use alp_disk::MemDisk;
+use alp_bay::{HostBay, HostDisk};
 use alp_top::{Status, run_alpine, status_text};
 use std::process::ExitCode;
 use std::{env, io};
@@ -17,13 +16,13 @@ fn words(rt: &HostRuntime) -> io::Result<Vec<String>> {
     Ok(words)
 }
 
-fn run(rt: &HostRuntime) -> Status<MemDisk> {
-    let words = match words(rt) {
+fn run(rt: HostRuntime) -> Status<HostDisk> {
+    let words = match words(&rt) {
         Ok(words) => words,
         Err(e) if e.kind() == io::ErrorKind::OutOfMemory => return Status::OutOfMemory,
         Err(_) => return Status::BadWords,
     };
-    let Ok(mut bay) = MemBay::new(rt.alloc()) else {
+    let Ok(mut bay) = HostBay::new(rt.alloc(), rt) else {
         return Status::OutOfMemory;
     };
     let mut script = ReadSource::new(rt.stdin());
@@ -32,7 +31,7 @@ fn run(rt: &HostRuntime) -> Status<MemDisk> {
 }
 
 fn main(rt: HostRuntime) -> ExitCode {
-    let status = run(&rt);
+    let status = run(rt);
     if let Ok(text) = status_text(rt.alloc(), &status) {
         if !text.is_empty() {
             let _ = eprintln!(rt; "{text}");

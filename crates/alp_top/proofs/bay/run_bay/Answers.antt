@@ -15,20 +15,27 @@ give-requires-clause-told g c told =
     subst IsTrue (sym (c.stop_after.ensures.tells ∙ ap g.B.Device.Disk.tells c.into_inner-device.ensures ∙ c.run_disk-disk.ensures.tells ∙ c.new.ensures.tells)) device
 
 pub returns-clause-ran : goal.returns-clause-ran
-returns-clause-ran g c =
+returns-clause-ran g c asked =
     let h = g.B.Device.Disk in
     let fuse = fuse_disk.ghosts g.row.B-Device g.B.Device.Disk g.B.Device.Disk-dict g.B.Device.Destruct-dict in
     let open_ = c.in_ok-choose.ensures in
     let took = c.in_ok-device.ensures in
     let S : Sizes = sizes_said c.args.lines.now 1 in
-    let told : IsTrue (g.B.Bay.tells c.choose.new.self) = g.met.B.Bay.told c.choose.new.self (open_.unnamed refl) in
+    let told : IsTrue (g.B.Bay.tells c.choose.new.self) = elim asked [
+      | inl none ↦ g.met.B.Bay.told c.choose.new.self (open_.unnamed none)
+      | inr tells ↦ subst IsTrue (c.give.ensures.tells ∙ took.tells) tells
+    ] in
+    let fused = subst IsTrue (sym c.new.ensures.tells) ((took.told told)) in
     let filled = c.give.ensures.given (subst IsTrue (sym took.tells) told) in
-    let taken : ShowAlike fuse h c.new.result c.in_ok-device.device = record { size = sym c.new.ensures.size; seen = sym c.new.ensures.seen; faults = sym c.new.ensures.faults; leaves = c.new.ensures.crash.no_fewer } in
+    let taken : ShowAlike fuse h c.new.result c.in_ok-device.device = record { size = sym c.new.ensures.size; seen = sym c.new.ensures.seen; faults = sym c.new.ensures.faults; leaves = record { no_more = c.new.ensures.crash.no_fewer; no_fewer = c.new.ensures.crash.no_more } } in
     let given : ShowAlike fuse h c.run_disk-disk.result.0 c.stop_after.new.self = record {
       size = c.stop_after.ensures.size ∙ ap h.size c.into_inner-device.ensures;
       seen = c.stop_after.ensures.seen ∙ ap h.seen c.into_inner-device.ensures;
       faults = c.stop_after.ensures.faults ∙ ap h.faults c.into_inner-device.ensures;
-      leaves = λ i left. subst (λ (q : g.row.B-Device.Denot). h.may_leave q i) c.into_inner-device.ensures (c.stop_after.ensures.crash.no_more i left);
+      leaves = record {
+        no_more = λ i left. subst (λ (q : g.row.B-Device.Denot). h.may_leave q i) c.into_inner-device.ensures (c.stop_after.ensures.crash.no_more i left);
+        no_fewer = λ i left. c.stop_after.ensures.crash.no_fewer i (subst (λ (q : g.row.B-Device.Denot). h.may_leave q i) (sym c.into_inner-device.ensures) left);
+      };
     } in
     let was : IsTaken h (g.B.Bay.at c.args.bay.now 1) (pages_of S) c.in_ok-device.device =
     subst (λ (n : ℕ). IsTaken h (g.B.Bay.at c.args.bay.now 1) n c.in_ok-device.device) (c.pages_of.ensures ∙ ap pages_of c.sizes_of-sizes.ensures)
@@ -41,23 +48,30 @@ returns-clause-ran g c =
     c.run_disk-disk.ensures.later _
     (run_alike fuse h S c.new.result c.run_disk-disk.result.0 c.in_ok-device.device c.stop_after.new.self taken given _ c.args.lines.now e.log e.text.items
     (run_resized _ fuse c.sizes_of-sizes.result S c.args.lines.now e.log e.text.items c.new.result c.run_disk-disk.result.0 c.sizes_of-sizes.ensures x)))
-    c.run_disk-disk.ensures.ran
+    (c.run_disk-disk.ensures.ran fused)
 
 pub returns-clause-cause : goal.returns-clause-cause
-returns-clause-cause g c =
+returns-clause-cause g c asked =
     let h = g.B.Device.Disk in
     let fuse = fuse_disk.ghosts g.row.B-Device g.B.Device.Disk g.B.Device.Disk-dict g.B.Device.Destruct-dict in
     let open_ = c.in_ok-choose.ensures in
     let took = c.in_ok-device.ensures in
     let S : Sizes = sizes_said c.args.lines.now 1 in
-    let told : IsTrue (g.B.Bay.tells c.choose.new.self) = g.met.B.Bay.told c.choose.new.self (open_.unnamed refl) in
+    let told : IsTrue (g.B.Bay.tells c.choose.new.self) = elim asked [
+      | inl none ↦ g.met.B.Bay.told c.choose.new.self (open_.unnamed none)
+      | inr tells ↦ subst IsTrue (c.give.ensures.tells ∙ took.tells) tells
+    ] in
+    let fused = subst IsTrue (sym c.new.ensures.tells) ((took.told told)) in
     let filled = c.give.ensures.given (subst IsTrue (sym took.tells) told) in
-    let taken : ShowAlike fuse h c.new.result c.in_ok-device.device = record { size = sym c.new.ensures.size; seen = sym c.new.ensures.seen; faults = sym c.new.ensures.faults; leaves = c.new.ensures.crash.no_fewer } in
+    let taken : ShowAlike fuse h c.new.result c.in_ok-device.device = record { size = sym c.new.ensures.size; seen = sym c.new.ensures.seen; faults = sym c.new.ensures.faults; leaves = record { no_more = c.new.ensures.crash.no_fewer; no_fewer = c.new.ensures.crash.no_more } } in
     let given : ShowAlike fuse h c.run_disk-disk.result.0 c.stop_after.new.self = record {
       size = c.stop_after.ensures.size ∙ ap h.size c.into_inner-device.ensures;
       seen = c.stop_after.ensures.seen ∙ ap h.seen c.into_inner-device.ensures;
       faults = c.stop_after.ensures.faults ∙ ap h.faults c.into_inner-device.ensures;
-      leaves = λ i left. subst (λ (q : g.row.B-Device.Denot). h.may_leave q i) c.into_inner-device.ensures (c.stop_after.ensures.crash.no_more i left);
+      leaves = record {
+        no_more = λ i left. subst (λ (q : g.row.B-Device.Denot). h.may_leave q i) c.into_inner-device.ensures (c.stop_after.ensures.crash.no_more i left);
+        no_fewer = λ i left. c.stop_after.ensures.crash.no_fewer i (subst (λ (q : g.row.B-Device.Denot). h.may_leave q i) (sym c.into_inner-device.ensures) left);
+      };
     } in
     let was : IsTaken h (g.B.Bay.at c.args.bay.now 1) (pages_of S) c.in_ok-device.device =
     subst (λ (n : ℕ). IsTaken h (g.B.Bay.at c.args.bay.now 1) n c.in_ok-device.device) (c.pages_of.ensures ∙ ap pages_of c.sizes_of-sizes.ensures)
@@ -69,4 +83,4 @@ returns-clause-cause g c =
     run_cause fuse h S c.new.result c.run_disk-disk.result.0 c.in_ok-device.device c.stop_after.new.self taken given (g.B.Bay.at c.args.bay.now) (g.B.Bay.at c.give.new.self) was filled.here others c.run_disk-disk.ensures.size
     c.run_disk-disk.ensures.later (g.B.Bay.faults c.args.bay.now) (g.B.Bay.faults c.give.new.self) f
     (subst (λ (z : Sizes). HasDiskCause fuse z f c.new.result c.run_disk-disk.result.0) c.sizes_of-sizes.ensures x))
-    c.run_disk-disk.ensures.cause
+    (c.run_disk-disk.ensures.cause fused)

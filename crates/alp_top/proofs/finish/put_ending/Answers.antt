@@ -9,12 +9,12 @@ use Rattle.alp_top.proofs.SummaryLemmas.{printed_is}
 use Rattle.alp_top.proofs.finish.put_ending.Goals as goal
 
 pub returns-clause-text : goal.returns-clause-text
-returns-clause-text g c =
+returns-clause-text g c tells =
     let m : Cells = (g.V.Vault.held c.args.vault.now).cells in
     let owners = c.in_ok-owners.ensures in
-    let told = subst IsTrue (sym owners.gone.same.telling) c.requires.tells in
+    let told = subst IsTrue (sym owners.gone.same.telling) tells in
     let sound : AreSound m = subst (λ (x : Contents). AreSound x.cells) owners.looked.held (c.knows.ensures.fitting _ told (c.knows.ensures.as_held told owners.looked.serves)).sound in
     let s : Summary = record { server = c.args.ending.server; epoch = c.args.ending.epoch; clock = c.args.ending.clock; files = c.file_count.result; owners = c.deref.result; committed = c.args.ending.committed; aborted = c.args.ending.aborted } in
     c.in_ok-put_summary.ensures
     ∙ ap (λ (ts : List ℕ). c.args.text.now.items ++ ts)
-    (printed_is s m sound (c.file_count.ensures told ∙ ap (λ (x : Contents). file_count_of x.cells) owners.looked.held) (c.deref.ensures.value ∙ owners.owners c.requires.tells))
+    (printed_is s m sound (c.file_count.ensures told ∙ ap (λ (x : Contents). file_count_of x.cells) owners.looked.held) (c.deref.ensures.value ∙ owners.owners tells))

@@ -13,7 +13,8 @@ run_bay-requires-clause-accepted g c κs within =
     subst (λ (ls : List NumberedLine). IsAccepted ls) (sym c.deref.ensures.value) (c.accepted_lines.ensures script.bytes c.in-Ok.lines.items script.said)
 
 pub returns-in-Ok-run_bay-clause-headline : goal.returns-in-Ok-run_bay-clause-headline
-returns-in-Ok-run_bay-clause-headline g c =
+returns-in-Ok-run_bay-clause-headline g c told =
+    let ran = c.in-Ok-run_bay.ensures.ran (asked_of told) in
     let lines : List NumberedLine = c.deref.result.now in
     let script : GaveScript (g.S.Source.left c.args.script.now) (g.S.Source.left c.read_script.new.source) lines = subst (GaveScript _ _) (sym c.deref.ensures.value) c.in-Ok.ensures.script in
     done_then c.hand_over.result _ _

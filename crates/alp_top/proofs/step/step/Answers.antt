@@ -32,7 +32,7 @@ returns-then-is_down-clause-gone g c =
       | then-is_down-via-else-is_down+then-shows_fault w ↦
           a.told (ap (λ (k : ℕ). is_fault_reply k c.in_ok-reply.reply) (sym c.server-here.ensures) ∙ sym w.shows_fault.ensures ∙ w.if-shows_fault.true)
     ] in
-    record { same = h.seat.same; free = λ e. stays_free _ _ h.seat.spends e; later = a.later; still = tt; failed = λ _. rose }
+    record { same = h.seat.same; free = λ e. stays_free _ _ h.seat.spends e; later = a.later; still = tt; failed = λ _. rose; memory = λ e. cc }
 
 pub returns-clause-stepped : goal.returns-clause-stepped
 returns-clause-stepped g c =
@@ -42,25 +42,31 @@ returns-clause-stepped g c =
     let m = c.step.new.self in
     let up : m.kept.is_down ≡ false = sym c.is_down.ensures ∙ c.if-is_down.false in
     let start : start_in g.V.Vault m ≡ start_in g.V.Vault n = (λ i. start_by g.V.Vault (h.seat.server i) (h.opening i).vault.value) in
-    let (failed, ans, rose) = a.cause c.requires.on.tells in
+    let done : IsTrue (g.V.Vault.tells n.kept.vault) → IsDone (state_of g.V.Vault n) (record { event = c.args.event; reply = c.in_ok-reply.reply; acts = a.acts }) =
+    (λ told. (
+    let (failed, ans, rose) = a.cause told in
     let no : is_fault_reply (state_of g.V.Vault n).holder.server c.in_ok-reply.reply ≡ false =
-    ap (λ (k : ℕ). is_fault_reply k c.in_ok-reply.reply) (kept_server g.V.Vault n c.requires.on ∙ sym c.server-here.ensures) ∙ sym c.shows_fault.ensures ∙ c.if-shows_fault.false in
-    let done : IsDone (state_of g.V.Vault n) (record { event = c.args.event; reply = c.in_ok-reply.reply; acts = a.acts }) =
-    (sym a.down ∙ up, calm n.kept failed (state_of g.V.Vault n) c.args.event c.in_ok-reply.reply a.acts c.requires.served no ans) in
+    ap (λ (k : ℕ). is_fault_reply k c.in_ok-reply.reply) (kept_server g.V.Vault n c.requires.on told ∙ sym c.server-here.ensures) ∙ sym c.shows_fault.ensures ∙ c.if-shows_fault.false in
+    (sym a.down ∙ up, calm n.kept failed (state_of g.V.Vault n) c.args.event c.in_ok-reply.reply a.acts c.requires.served no ans)
+    )) in
     record {
       on = record {
         kept = c.knows.ensures;
-        tells = subst IsTrue (sym h.seat.same.telling) c.requires.on.tells;
         up = up;
         free = stays_free _ _ h.seat.spends c.requires.on.free;
         first = h.seat.server ∙ c.requires.on.first;
         alone = (λ i. g.V.Vault.servers (h.opening i).vault.value) ∙ c.requires.on.alone;
-        answered = along_more g.V.Vault n m _ start a.entry IsDone c.requires.on.answered done;
+        answered = λ now. (
+            let told : IsTrue (g.V.Vault.tells n.kept.vault) = subst IsTrue h.seat.same.telling now in
+            along_more g.V.Vault n m _ start a.entry IsDone (c.requires.on.answered told) (done told)
+            );
       };
       opening = h.opening;
       start = start;
       acts = a.acts;
       journal = a.entry;
       done = done;
+      turned = h.turned up;
+      epoch = h.seat.epoch;
       replies = a.replies ∙ or_false (is_call c.args.event) m.kept.is_down up;
     }

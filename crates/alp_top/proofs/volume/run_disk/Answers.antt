@@ -12,6 +12,8 @@ use Rattle.alp_journal.specs.State.{opened}
 use Rattle.alp_node.specs.Nodes.{start_in}
 use Rattle.alp_node.specs.Starts.{AreOfServer as StartOfServer, HasStartCause, HasRaised, IsNoteFault}
 use Rattle.alp_node.specs.declared.start.StartFault.{StartFault}
+use Rattle.alp_base.specs.Crashes.{NoMore}
+use Rattle.alp_store.specs.Starts.{AreOfServer as StoredOfServer}
 use Rattle.alp_store.specs.Told.{contents_of}
 use Rattle.alp_wal.specs.Wal.{disk_of, anchor_of}
 use Rattle.alp_store.specs.contracts.store.StoreVault.TheImpl as store_vault
@@ -24,20 +26,21 @@ use Rattle.alp_top.proofs.DiskLemmas.{not_opened, not_started, of_server, stored
 use Rattle.alp_top.proofs.volume.run_disk.Goals as goal
 
 pub returns-in-Err-clause-cause : goal.returns-in-Err-clause-cause
-returns-in-Err-clause-cause g c =
+returns-in-Err-clause-cause g c told =
     let h = c.in-Err.ensures in
     subst (λ (f : RunFault). HasDiskCause g.D.Disk c.args.sizes f c.args.disk c.in-Err.disk) (sym c.of_vault.ensures)
-    (not_opened g.D.Disk c.args.sizes c.args.disk c.in-Err.disk c.in-Err.fault h.cause.cause (stays_free _ _ h.below.allowance c.requires.free) (λ is. (h.new c.requires.told is).volume) (λ old. h.why_not c.requires.told old)
-    (λ old. (h.looked c.requires.told old).seen))
+    (not_opened g.D.Disk c.args.sizes c.args.disk c.in-Err.disk c.in-Err.fault h.cause.cause h.cause.still (stays_free _ _ h.below.allowance c.requires.free) (λ is. (h.new told is).volume) (λ old. h.why_not told old)
+    (record { seen = λ old. (h.looked told old).seen; crash = λ old. (h.looked told old).crash }))
 
 pub start-requires-2-clause-given : goal.start-requires-2-clause-given
-start-requires-2-clause-given g c told =
+start-requires-2-clause-given g c tells =
     let h = c.in-Ok.ensures in
-    of_server g.D.Disk c.args.sizes c.args.disk (contents_of g.D.Disk c.in-Ok.store.log) (λ is. (h.new c.requires.told is).empty)
-    (λ old. subst (λ (k : ℕ). StartOfServer k (contents_of g.D.Disk c.in-Ok.store.log)) h.named.0 (h.mounted c.requires.told old).own.files)
+    let told = subst IsTrue h.below.tells tells in
+    of_server g.D.Disk c.args.sizes c.args.disk (contents_of g.D.Disk c.in-Ok.store.log) (λ is. (h.new told is).empty)
+    (λ old. subst (λ (k : ℕ). StartOfServer k (contents_of g.D.Disk c.in-Ok.store.log)) h.named.0 (h.mounted told old).own.files)
 
 pub returns-in-Err-start-clause-cause : goal.returns-in-Err-start-clause-cause
-returns-in-Err-start-clause-cause g c =
+returns-in-Err-start-clause-cause g c told =
     let G = g.D.Disk in
     let d = c.args.disk in
     let s = c.in-Ok.store.log in
@@ -51,12 +54,21 @@ returns-in-Err-start-clause-cause g c =
     subst (λ (q : RunFault). HasDiskCause G c.args.sizes q d c.into_disk.result) (sym c.of_start.ensures)
     (subst (λ (q : g.row.D.Denot). HasDiskCause G c.args.sizes (of_start f) d q) (sym c.into_disk.ensures.disk)
     (not_started G c.args.sizes d e (contents_of G s) f (G.faults (disk_of s)) (G.allowance e) (anchor_of s).sizes.home cause (stays_free _ _ k.allowance (stays_free _ _ h.below.allowance c.requires.free)) h.cause.still h.notes
-    (λ is. (h.new c.requires.told is).empty)
-    (λ old. holds_one _ _ _ _ _ _ (G.seen d) (contents_of G s) h.named.0 h.named.1 (h.looked c.requires.told old).size refl (h.mounted c.requires.told old).holds)
-    (λ old last. ap (λ v. G.seen (disk_of v.log)) (k.untouched (subst IsNoteFault (sym last) tt)) ∙ (h.looked c.requires.told old).seen)))
+    (λ is. (k.memory is).0.faults)
+    (λ is. ap (λ v. G.faults (disk_of v.log)) (k.untouched (subst IsNoteFault (sym is) tt)))
+    (λ is. (h.new told is).empty)
+    (λ old. holds_one _ _ _ _ _ _ (G.seen d) (contents_of G s) h.named.0 h.named.1 (h.looked told old).size refl (h.mounted told old).holds)
+    (λ old. subst (λ (b : ℕ). StoredOfServer 1 b (contents_of G s)) h.named.1 (subst (λ (a : ℕ). StoredOfServer a (anchor_of s).servers (contents_of G s)) h.named.0 (h.mounted told old).own))
+    (λ last. (
+    let same = k.untouched (subst IsNoteFault (sym last) tt) in
+    record {
+      seen = λ old. ap (λ v. G.seen (disk_of v.log)) same ∙ (h.looked told old).seen;
+      crash = λ old. subst (λ (q : g.row.D.Denot). NoMore (G.may_leave d) (G.may_leave q)) (sym (ap (λ v. disk_of v.log) same)) (h.looked told old).crash;
+    }
+    ))))
 
 pub returns-in-Ok-ended-clause-ran : goal.returns-in-Ok-ended-clause-ran
-returns-in-Ok-ended-clause-ran g c =
+returns-in-Ok-ended-clause-ran g c given =
     let G = g.D.Disk in
     let V = store_vault.ghosts g.row.D g.D.Disk g.D.Disk-dict g.D.Destruct-dict in
     let d = c.args.disk in
@@ -69,17 +81,16 @@ returns-in-Ok-ended-clause-ran g c =
     let e = c.into_disk-disk.result in
     let vol : Sizes = (anchor_of s).sizes in
     let held : Contents = contents_of G s2.log in
-    let w = if_ok _ c.run_node-store.result.1 c.in-Ok-ended.ended c.in-Ok-ended.is r.ended in
-    let tells = subst IsTrue (sym (k.same.telling ∙ h.below.tells)) c.requires.told in
+    let tells = subst IsTrue (sym (k.same.telling ∙ h.below.tells)) given in
     let told = subst IsTrue (sym r.gone.same.telling) tells in
+    let w = if_ok _ c.run_node-store.result.1 c.in-Ok-ended.ended c.in-Ok-ended.is (r.ended tells) in
     let on : IsOn V n = record {
       kept = c.knows.ensures;
-      tells = tells;
       up = k.new.up;
       free = stays_free _ _ k.allowance (stays_free _ _ h.below.allowance c.requires.free);
       first = k.new.number;
       alone = ap V.servers k.new.opening ∙ k.same.of_all ∙ h.named.1;
-      answered = subst (λ (js : List Entry). Along next IsDone (opened (start_in V n)) js) (sym k.new.journal) tt;
+      answered = λ _. subst (λ (js : List Entry). Along next IsDone (opened (start_in V n)) js) (sym k.new.journal) tt;
     } in
     let rose : HasRaised (V.tells n.kept.vault) 1 1 (contents_of G s) (V.held n.kept.vault) (record { epoch = n.kept.epoch; clock = n.kept.clock }) =
     subst (λ (t : Bool). HasRaised t 1 1 (contents_of G s) (V.held n.kept.vault) (record { epoch = n.kept.epoch; clock = n.kept.clock })) (sym k.same.telling)
@@ -93,9 +104,10 @@ returns-in-Ok-ended-clause-ran g c =
       run = w.run;
       report = w.report;
       stored =
-          stored V G c.args.sizes w.run.server n (contents_of G s) vol d e w.run.number w.opening on k.new.journal k.new.opening k.same.sizes rose held w.held fits (λ is. (h.new c.requires.told is).empty)
-          (λ is. ap (λ (a : Anchor). a.sizes) (h.new c.requires.told is).anchor) (anchor_of s) refl (λ old. (h.mounted c.requires.told old).counts)
-          (λ old. holds_one _ _ _ _ _ _ (G.seen d) (contents_of G s) h.named.0 h.named.1 (h.looked c.requires.told old).size refl (h.mounted c.requires.told old).holds)
+          stored V G c.args.sizes w.run.server n (contents_of G s) vol d e w.run.number w.opening on tells k.new.journal k.new.opening k.same.sizes rose held w.held fits (λ is. (h.new given is).empty)
+          (λ is. ap (λ (a : Anchor). a.sizes) (h.new given is).anchor) (anchor_of s) refl (λ old. (h.mounted given old).counts)
+          (λ old. holds_one _ _ _ _ _ _ (G.seen d) (contents_of G s) h.named.0 h.named.1 (h.looked given old).size refl (h.mounted given old).holds)
+          (λ old. subst (λ (b : ℕ). StoredOfServer 1 b (contents_of G s)) h.named.1 (subst (λ (a : ℕ). StoredOfServer a (anchor_of s).servers (contents_of G s)) h.named.0 (h.mounted given old).own))
           (holds_one _ _ _ _ _ _ (G.seen e) held (r.gone.same.number ∙ k.same.number ∙ h.named.0) (r.gone.same.of_all ∙ k.same.of_all ∙ h.named.1) (ap G.size (sym last.disk)) (ap (λ (z : Sizes). z.home) volume)
           (last.holds here w.serves))
           (last.left here w.serves)
