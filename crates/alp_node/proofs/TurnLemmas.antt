@@ -18,8 +18,8 @@ use Rattle.alp_node.specs.declared.sessions.Sessions.{Sessions}
 use Rattle.alp_node.specs.declared.sessions.Turn.{Turn}
 
 counted_on : (epoch client number : ℕ) (c : Call) (r : Reply) (old new : Sessions) → is_greeting c ≡ false → IsCountedOn client number r old new → HasCounted epoch client number c (Some r) old new
-counted_on epoch client number (call.Hello name) r old new no h = cc
-counted_on epoch client number c r old new no h = h
+counted_on epoch client number (call.Hello name) r old new other h = cc
+counted_on epoch client number c r old new other h = h
 
 -- a call of a transaction's files greets nobody
 pub file_call_greets_none : (c : Call) (t : TransId) → file_trans c ≡ Some t → is_greeting c ≡ false
@@ -42,7 +42,7 @@ module _ {V : Type 0} (k new : ServerState V) (turn : Turn) (is : IsTurn k.sessi
   pub counts_on : (c : Call) (r : Reply) → is_greeting c ≡ false → IsInSession r → k.clock ≤ new.clock → TellsUpTo new.clock r → new.sessions ≡ counted_in k.sessions turn
       → HasTurned k new (event.Call turn.client k.epoch turn.number c) (Some r)
   counts_on c r other inside later times sessions =
-      record { later = later; times = times; sessions = counted_on k.epoch turn.client turn.number c r k.sessions new.sessions other (inside, (turn.session, is.session, sessions)) }
+      record { later = later; times = times; sessions = counted_on k.epoch turn.client turn.number c r k.sessions new.sessions other (inside, turn.session, is.session, sessions) }
 
   -- one that is refused, too
   pub counts_refused : (c : Call) (f : Refusal) → is_greeting c ≡ false → IsInSession (reply.Refused f) → new.clock ≡ k.clock → new.sessions ≡ counted_in k.sessions turn

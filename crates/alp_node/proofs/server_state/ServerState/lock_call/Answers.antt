@@ -33,7 +33,7 @@ use Rattle.alp_node.proofs.GrantLemmas.{lock_built, lock_shaped, plan_given, cou
 use Rattle.alp_node.proofs.LockCallLemmas.{locks_stepped, conflict_stepped, acts_up, acts_caused}
 use Rattle.alp_node.proofs.LockKeptLemmas.{lock_stepped}
 use Rattle.alp_node.proofs.ShapeLemmas.{shape_given, too_locked_is, may_lock}
-use Rattle.alp_node.proofs.CountedLemmas.{answered_quiet, IsCountRefusal}
+use Rattle.alp_node.proofs.CountedLemmas.{answered_quiet, IsCountRefusal, answered_inside, answered_tells}
 use Rattle.alp_node.proofs.WithinLemmas.{MayLock, within_then}
 use Rattle.alp_node.proofs.TotalLemmas.{few_totals}
 use Rattle.alp_node.proofs.LookLemmas.{count_same, answered_told, room_told, locks_read, part_ready, looked_still, without_step}
