@@ -1,0 +1,174 @@
+-- Words that the command line takes begin with the name of a command of its own.
+use Rattle.std.proofs.Common.{◌≡◌, ◌∙◌, ◌||◌, ◌&&◌, ◌==◌, ℕ, zero, suc, cond, Bool, true, false, not, refl, sym, ap, subst, List, [], ◌∷◌, ◌++◌, length, Option, Some, None, option_map, codes, true≢false}
+use Rattle.std.specs.List.{fold}
+use Rattle.std.specs.Box.{box_value}
+use Rattle.std.specs.Prelude.{Box, slice_get, option_and_then, is_some}
+use Rattle.std.specs.Str.{bytes_eq, chars}
+use Rattle.clap.specs.Kinds.{Kinds, or_else}
+use Rattle.clap.specs.Faults.{fault_of, level_fault, walk_fault, turn_fault, other_fault, step_fault, flag_word_fault, long_fault, flags_fault, bundle_step_fault, short_fault, defaults_fault}
+use Rattle.clap.specs.Lexer.{long_of, short_of}
+use Rattle.clap.specs.Matches.{first_value, subcommand_name_of}
+use Rattle.clap.specs.declared.parser.matches.Found.{Found}
+use Rattle.clap.specs.Simple.{App, Shape, built, entered, names_of, subcommand_of, subcommand_rows, subcommand_rows_of}
+use Rattle.clap.specs.declared.parser.matches.ArgMatches.{ArgMatches}
+use Rattle.clap.specs.declared.parser.matches.ArgMatches.TheViews.{out-ArgMatches, out-SubCommand}
+use Rattle.clap.specs.declared.parser.matches.SubCommand.{SubCommand}
+use Rattle.std.proofs.lemmas.Slice.Eq.{bytes_eq-Decides}
+use Rattle.clap.specs.Walk.{Held, Names, Row, Rule, Text, Walk, Waiting, idle, arg_by_long, arg_by_short, first_of, bundle_met, long_or_other, nothing_held, rows_of, subcommand_met, subcommand_or_other, short_or_plain, stop_after, walk, walk_from, walked}
+use Rattle.clap.proofs.WalkLemmas.{first_value-rows, walk_stopped}
+use Rattle.alp_words.specs.Definition.{alpine}
+use Rattle.alp_words.specs.Words.{are_any}
+
+-- the command line as a parse finds it: with help of its own
+abbrev app : App
+app = built alpine
+
+abbrev top : Shape
+top = app.top
+
+abbrev names : Names
+names = names_of app
+
+abbrev start : Walk
+start = walk_from nothing_held
+
+-- where one of two steps fails, both do
+first_fails : (a b : Kinds) → are_any a ≡ true → are_any (or_else a b) ≡ true
+first_fails [] b e = absurd (true≢false (sym e))
+first_fails (k ∷ ks) b e = refl
+
+second_fails : (a b : Kinds) → are_any b ≡ true → are_any (or_else a b) ≡ true
+second_fails [] b e = e
+second_fails (k ∷ ks) b e = refl
+
+-- what a word comes to that names no command
+abbrev other_kinds : Text → Option (Text × Option Text) → Kinds
+other_kinds w l = or_else (flag_word_fault top.rules false l w nothing_held) (step_fault top 1 (long_or_other top.rules idle w l nothing_held).0 (long_or_other top.rules idle w l nothing_held).1)
+
+-- the one option is `--help`
+long_fails : (name : Text) (value : Option Text) → are_any (long_fault top.rules false (arg_by_long top.rules name) value nothing_held) ≡ true
+long_fails name value = go (bytes_eq (codes "help") name) value refl
+  where
+    go : (b : Bool) (v : Option Text) → bytes_eq (codes "help") name ≡ b → are_any (long_fault top.rules false (arg_by_long top.rules name) v nothing_held) ≡ true
+    go true None e = rw e refl
+    go true (Some v) e = rw e refl
+    go false v e = rw e refl
+
+-- and the one short one is `-h`
+abbrev bundle_kinds : Text → Text → ℕ → Option ℕ → Kinds
+bundle_kinds w flags k x = or_else (bundle_step_fault top.rules false x flags 0 nothing_held (flags_fault top.rules false k))
+    (step_fault top 1 (Rattle.clap.specs.Walk.after_flag top.rules idle w (Rattle.clap.specs.Walk.bundle_step top.rules x flags 0 Rattle.clap.specs.Walk.plain nothing_held (bundle_met top.rules k)).0 (Rattle.clap.specs.Walk.bundle_step top.rules x flags 0 Rattle.clap.specs.Walk.plain nothing_held (bundle_met top.rules k)).1).0 (Rattle.clap.specs.Walk.after_flag top.rules idle w (Rattle.clap.specs.Walk.bundle_step top.rules x flags 0 Rattle.clap.specs.Walk.plain nothing_held (bundle_met top.rules k)).0 (Rattle.clap.specs.Walk.bundle_step top.rules x flags 0 Rattle.clap.specs.Walk.plain nothing_held (bundle_met top.rules k)).1).1)
+
+char_fails : (x : ℕ) (rest : Text) (next : Held → Kinds) → are_any (short_fault top.rules false (arg_by_short top.rules x) rest nothing_held next) ≡ true
+char_fails x rest next = go (104 == x) refl
+  where
+    go : (b : Bool) → (104 == x) ≡ b → are_any (short_fault top.rules false (arg_by_short top.rules x) rest nothing_held next) ≡ true
+    go true e = rw e refl
+    go false e = rw e refl
+
+bundle_fails : (w flags : Text) (k : ℕ) (x : Option ℕ) → are_any (bundle_kinds w flags k x) ≡ true
+bundle_fails w flags k None = refl
+bundle_fails w flags k (Some x) = first_fails _ _ (char_fails x _ _)
+
+abbrev flags_kinds : Text → Text → ℕ → Kinds
+flags_kinds w flags n = or_else (flags_fault top.rules false n flags 0 nothing_held)
+    (step_fault top 1 (Rattle.clap.specs.Walk.after_flag top.rules idle w (bundle_met top.rules n flags 0 Rattle.clap.specs.Walk.plain nothing_held).0 (bundle_met top.rules n flags 0 Rattle.clap.specs.Walk.plain nothing_held).1).0 (Rattle.clap.specs.Walk.after_flag top.rules idle w (bundle_met top.rules n flags 0 Rattle.clap.specs.Walk.plain nothing_held).0 (bundle_met top.rules n flags 0 Rattle.clap.specs.Walk.plain nothing_held).1).1)
+
+flags_fail : (w flags : Text) (n : ℕ) → are_any (flags_kinds w flags n) ≡ true
+unfolding flags_fault bundle_met
+flags_fail w flags zero = refl
+flags_fail w flags (suc k) = bundle_fails w flags k (slice_get (chars flags) 0)
+
+abbrev short_kinds : Text → Option Text → Kinds
+short_kinds w s = or_else (Rattle.std.specs.Option.option_map_or (λ flags. flags_fault top.rules false (length flags) flags 0 nothing_held) s []) (step_fault top 1 (short_or_plain top.rules idle w s nothing_held).0 (short_or_plain top.rules idle w s nothing_held).1)
+
+short_fails : (w : Text) (s : Option Text) → are_any (short_kinds w s) ≡ true
+short_fails w None = refl
+short_fails w (Some flags) = flags_fail w flags (length flags)
+
+other_fails : (w : Text) (l : Option (Text × Option Text)) → are_any (other_kinds w l) ≡ true
+other_fails w None = short_fails w (short_of w)
+other_fails w (Some p) = first_fails _ _ (long_fails p.0 p.1)
+
+-- ---- the first word
+
+abbrev met_kinds : Text → Option Text → Kinds
+met_kinds w o = or_else (other_fault top o w nothing_held) (step_fault top 1 (subcommand_or_other top.rules o idle 1 w nothing_held).0 (subcommand_or_other top.rules o idle 1 w nothing_held).1)
+
+-- a word that names no command and is not `--` is none that the command line takes
+stray_fails : (w : Text) → bytes_eq w (codes "--") ≡ false → are_any (met_kinds w None) ≡ true
+stray_fails w e = rw e (other_fails w (long_of w))
+
+-- after `--` nothing can be said
+behind_dashes : (rest : List Text) → are_any (fault_of alpine (codes "alpine" ∷ codes "--" ∷ rest)) ≡ true
+unfolding walked walk_fault defaults_fault
+behind_dashes [] = refl
+behind_dashes (w ∷ rest) = refl
+
+-- the first word is the name of `play`
+enters : (rest : List Text) → stop_after top.rules names (codes "play" ∷ rest) ≡ Some (codes "play", rest)
+unfolding walked
+enters rest = ap (λ v. v.stopped) (sym (walk_stopped top.rules names start (codes "play") [] rest))
+
+abbrev name_of : Option (Text × List Row) → Option Text
+name_of = option_map (λ p. p.0)
+
+plays : (rest : List Text) → name_of (subcommand_of alpine (codes "alpine" ∷ codes "play" ∷ rest)) ≡ Some (codes "play")
+plays rest = ap (λ stop. name_of (entered app stop)) (enters rest)
+
+-- where the first word fails, the line does
+line_fails : (w : Text) (rest : List Text) → are_any (turn_fault top names start w) ≡ true → are_any (fault_of alpine (codes "alpine" ∷ w ∷ rest)) ≡ true
+unfolding walk_fault
+line_fails w rest e = first_fails _ _ (first_fails _ _ e)
+
+-- a word that is neither `play` nor `help`
+turn_other : (w : Text) → bytes_eq (codes "play") w ≡ false → bytes_eq (codes "help") w ≡ false → bytes_eq w (codes "--") ≡ false
+    → are_any (turn_fault top names start w) ≡ true
+turn_other w a b c =
+    let none : subcommand_met names idle w ≡ None = rw (a, b) refl in
+    ap (λ o. are_any (met_kinds w o)) none ∙ stray_fails w c
+
+no_words : are_any (fault_of alpine (codes "alpine" ∷ [])) ≡ true
+unfolding walked walk_fault defaults_fault
+no_words = refl
+
+helps : (rest : List Text) → are_any (fault_of alpine (codes "alpine" ∷ codes "help" ∷ rest)) ≡ true
+unfolding walk_fault
+helps rest = refl
+
+-- words that are taken begin with `play`
+begins_with_play : (words : List Text) → are_any (fault_of alpine (codes "alpine" ∷ words)) ≡ false → name_of (subcommand_of alpine (codes "alpine" ∷ words)) ≡ Some (codes "play")
+begins_with_play [] taken = absurd (true≢false (sym no_words ∙ taken))
+begins_with_play (w ∷ rest) taken = go (bytes_eq (codes "play") w) (bytes_eq (codes "help") w) (bytes_eq w (codes "--")) refl refl refl
+  where
+    bad : are_any (fault_of alpine (codes "alpine" ∷ w ∷ rest)) ≡ true → ⊥
+    bad e = true≢false (sym e ∙ taken)
+    go : (a b c : Bool) → bytes_eq (codes "play") w ≡ a → bytes_eq (codes "help") w ≡ b → bytes_eq w (codes "--") ≡ c
+        → name_of (subcommand_of alpine (codes "alpine" ∷ w ∷ rest)) ≡ Some (codes "play")
+    go true b c p q r = subst (λ (v : Text). name_of (subcommand_of alpine (codes "alpine" ∷ v ∷ rest)) ≡ Some (codes "play")) ((bytes_eq-Decides (codes "play") w).0 p) (plays rest)
+    go false true c p q r = absurd (bad (subst (λ (v : Text). are_any (fault_of alpine (codes "alpine" ∷ v ∷ rest)) ≡ true) ((bytes_eq-Decides (codes "help") w).0 q) (helps rest)))
+    go false false true p q r = absurd (bad (subst (λ (v : Text). are_any (fault_of alpine (codes "alpine" ∷ v ∷ rest)) ≡ true) (sym ((bytes_eq-Decides w (codes "--")).0 r)) (behind_dashes rest)))
+    go false false false p q r = absurd (bad (line_fails w rest (turn_other w p q r)))
+
+taken_is_play : (all : List Text) → are_any (fault_of alpine all) ≡ false → name_of (subcommand_of alpine all) ≡ Some (codes "play")
+taken_is_play [] taken = absurd (true≢false (sym no_words ∙ taken))
+taken_is_play (name ∷ words) taken = begins_with_play words taken
+
+module _ {Z : Type 0} where
+  name_in : (sub : Option (Box SubCommand Z)) → option_map (λ b. (out-SubCommand (box_value b)).name.now) sub ≡ name_of (subcommand_rows sub)
+  name_in None = refl
+  name_in (Some b) = refl
+
+-- matches of words that are taken are those of `play`
+pub is_play : (all : List Text) (m : ArgMatches) → are_any (fault_of alpine all) ≡ false → subcommand_rows_of m ≡ subcommand_of alpine all
+    → subcommand_name_of m ≡ Some (codes "play")
+is_play all m taken rows = name_in (out-ArgMatches m).subcommand ∙ ap name_of rows ∙ taken_is_play all taken
+
+-- and what they have of the folder is what the words name
+pub folder_in_rows : (o : Option (Text × List Row)) (rows : List Row) → option_map (λ p. p.1) o ≡ Some rows
+    → option_and_then (λ p. first_of (codes "folder") p.1) o ≡ first_of (codes "folder") rows
+folder_in_rows None rows e = absurd (true≢false (sym (ap is_some e)))
+folder_in_rows (Some p) rows e = ap (option_and_then (first_of (codes "folder"))) e
+
+pub first_text : (found : Found) → first_value found (codes "folder") ≡ first_of (codes "folder") (rows_of found)
+first_text found = first_value-rows found (codes "folder")

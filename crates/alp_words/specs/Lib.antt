@@ -1,0 +1,3 @@
+pub mod Definition
+pub mod Faults
+pub mod Words
