@@ -1,11 +1,11 @@
 -- Words that the command line takes begin with the name of a command of its own.
-use Rattle.std.proofs.Common.{◌≡◌, ◌∙◌, ◌||◌, ◌&&◌, ◌==◌, ℕ, zero, suc, cond, Bool, true, false, not, refl, sym, ap, subst, List, [], ◌∷◌, ◌++◌, length, Option, Some, None, option_map, codes, true≢false}
+use Rattle.std.proofs.Common.{◌≡◌, ◌∙◌, ◌==◌, ℕ, zero, suc, Bool, true, false, refl, sym, ap, subst, List, [], ◌∷◌, length, Option, Some, None, option_map, codes, true≢false}
 use Rattle.std.specs.List.{fold}
 use Rattle.std.specs.Box.{box_value}
 use Rattle.std.specs.Prelude.{Box, slice_get, option_and_then, is_some}
 use Rattle.std.specs.Str.{bytes_eq, chars}
 use Rattle.clap.specs.Kinds.{Kinds, or_else}
-use Rattle.clap.specs.Faults.{fault_of, level_fault, walk_fault, turn_fault, other_fault, step_fault, flag_word_fault, long_fault, flags_fault, bundle_step_fault, short_fault, defaults_fault}
+use Rattle.clap.specs.Faults.{fault_of, walk_fault, turn_fault, other_fault, step_fault, flag_word_fault, long_fault, flags_fault, bundle_step_fault, short_fault, defaults_fault}
 use Rattle.clap.specs.Lexer.{long_of, short_of}
 use Rattle.clap.specs.Matches.{first_value, subcommand_name_of}
 use Rattle.clap.specs.declared.parser.matches.Found.{Found}
@@ -143,6 +143,7 @@ begins_with_play (w ∷ rest) taken = go (bytes_eq (codes "play") w) (bytes_eq (
   where
     bad : are_any (fault_of alpine (codes "alpine" ∷ w ∷ rest)) ≡ true → ⊥
     bad e = true≢false (sym e ∙ taken)
+
     go : (a b c : Bool) → bytes_eq (codes "play") w ≡ a → bytes_eq (codes "help") w ≡ b → bytes_eq w (codes "--") ≡ c
         → name_of (subcommand_of alpine (codes "alpine" ∷ w ∷ rest)) ≡ Some (codes "play")
     go true b c p q r = subst (λ (v : Text). name_of (subcommand_of alpine (codes "alpine" ∷ v ∷ rest)) ≡ Some (codes "play")) ((bytes_eq-Decides (codes "play") w).0 p) (plays rest)

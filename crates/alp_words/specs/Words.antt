@@ -15,11 +15,11 @@ abbrev pub are_refused : List (List ℕ) → Bool
 are_refused words = are_any (fault_of alpine words)
 
 -- the words name no command
-abbrev pub are_bad : List (List ℕ) → Bool
+unfoldable pub are_bad : List (List ℕ) → Bool
 are_bad words = are_refused (codes "alpine" ∷ words)
 
 -- the folder that they name, if any
-abbrev pub folder_named : List (List ℕ) → Option (List ℕ)
+unfoldable pub folder_named : List (List ℕ) → Option (List ℕ)
 folder_named words = option_and_then (λ p. first_of (codes "folder") p.1) (subcommand_of alpine (codes "alpine" ∷ words))
 
 -- they name this command

@@ -55,9 +55,9 @@ fn folder_in(alloc: Global, play: &ArgMatches) -> Result<Option<String>, AllocEr
     }
 }
 
-#[tactic(auto, using(crate::proofs::TopLevel::folder_in_rows))]
 /// The command that the words name, which are those after the program's name. They are refused where the command line refuses
 /// them: where it lacks a word, and where they ask for help.
+#[tactic(auto, using(crate::proofs::TopLevel::folder_in_rows), unfolding(crate::specs::Words::are_bad, crate::specs::Words::folder_named))]
 pub fn read_command(alloc: Global, words: &[String]) -> Result<Command, WordsFault>
     // Words that are bad give no command.
     ensures good { OnOk result (are_bad (map string_bytes words.now) ≡ false) }

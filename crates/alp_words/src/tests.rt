@@ -98,9 +98,11 @@ fn meaning_of(rt: &HostRuntime, line: &[&str]) -> Result<Result<Command, WordsFa
 fn is_wanted(meaning: &Result<Command, WordsFault>, wanted: Wanted) -> bool {
     match meaning {
         Ok(Command::Play { folder: None }) => wanted == InMemory,
-        Ok(Command::Play {
-            folder: Some(folder),
-        }) => match wanted {
+        Ok(
+            Command::Play {
+                folder: Some(folder),
+            },
+        ) => match wanted {
             In(name) => folder.as_str() == name,
             _ => false,
         },
