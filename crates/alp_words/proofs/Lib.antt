@@ -1,2 +1,3 @@
+mod Matches
 mod Refusals
 mod TopLevel

@@ -1,5 +1,5 @@
 use Rattle.std.proofs.Common.{rules, map}
-use Rattle.alp_words.proofs.TopLevel.{is_play}
+use Rattle.alp_words.proofs.Matches.{is_play}
 use Rattle.alp_words.proofs.read.matches_of.Goals as goal
 
 pub returns-in-Ok-clause-play : goal.returns-in-Ok-clause-play
