@@ -1,5 +1,6 @@
 -- What the calls of a bay leave.
-use Rattle.std.specs.Prelude.{◌≡◌, ◌≢◌, ℕ, ◌≤◌, ◌<◌, ◌^◌, Option, None, Some, Result, OnOk, IsErrOf, IsTrue, replicate}
+use Rattle.std.specs.Prelude.{◌≡◌, ◌≢◌, ℕ, ◌≤◌, ◌<◌, ◌^◌, List, String, string_bytes, Option, None, Some, Result, OnOk, IsErrOf, IsTrue, replicate}
+use Rattle.std.specs.Option.{option_map}
 use Rattle.std.proofs.Common.{arith}
 use Rattle.alp_base.specs.Causes.{Rose}
 use Rattle.alp_base.specs.Crashes.{Only}
@@ -7,6 +8,10 @@ use Rattle.alp_base.specs.Pages.{zero_page}
 use Rattle.alp_disk.specs.declared.disk.Disk.{Ghosts}
 use Rattle.alp_bay.specs.declared.bay.BayFault.{BayFault}
 use Rattle.alp_bay.specs.declared.bay.BayFault.TheVariants as fault
+
+-- the name of the folder, if one was chosen
+abbrev pub folder_name : {Z : Type 0} → Option (String Z) → Option (List ℕ)
+folder_name folder = option_map string_bytes folder
 
 -- The count of faults did not fall in a call, rose where the call failed, and stayed where it went well or lacked memory.
 pub record HasBayCause {T : Type 0} (before now : ℕ) (result : Result T BayFault) : Type 0 where

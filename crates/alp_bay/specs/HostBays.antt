@@ -1,8 +1,9 @@
--- What stands in a bay of the host, and which folder was chosen for it.
-use Rattle.std.specs.Prelude.{◌≡◌, ℕ, List, Option, Some, None, String, IsTrue, not, is_some, string_bytes}
+-- What stands in a bay of the host.
+use Rattle.std.specs.Prelude.{◌≡◌, ℕ, Option, Some, None, String, IsTrue, not, is_some, string_bytes}
 use Rattle.std.specs.Option.{option_map}
 use Rattle.std.proofs.Common.{refl, sym}
 use Rattle.std.proofs.lemmas.Option.{none-some}
+use Rattle.alp_bay.specs.Bays.{folder_name}
 use Rattle.alp_bay.specs.MemBays.{disk_at}
 use Rattle.alp_bay.specs.declared.mem_bay.MemBay.{MemBay}
 use Rattle.alp_bay.specs.declared.host_disk.HostDisk.{HostDisk}
@@ -11,10 +12,6 @@ use Rattle.alp_bay.specs.declared.host_disk.HostDisk.TheVariants as kind
 -- the disk in memory at a server's place, if any
 abbrev pub host_disk_at : MemBay → ℕ → Option HostDisk
 host_disk_at memory server = option_map kind.Memory (disk_at memory server)
-
--- the name of the folder, if one was chosen
-abbrev pub folder_name : {Z : Type 0} → Option (String Z) → Option (List ℕ)
-folder_name folder = option_map string_bytes folder
 
 -- where none was chosen, what stands there is told
 pub unnamed_tells : {Z : Type 0} → (folder : Option (String Z)) → folder_name folder ≡ None → IsTrue (not (is_some folder))

@@ -1,5 +1,6 @@
 //! A bay as the run of a program sees it.
 ghost use Rattle.std.specs.Prelude.{◌≡◌, ℕ, ◌≤◌, ◌<◌, ◌^◌, Bool, IsTrue, List, Option, None, IfOk, OnErr, OnOk};
+ghost use Rattle.std.specs.Option.{option_map};
 ghost use Rattle.alp_base.specs.declared.allowance.Allowance.TheVariants.{Free};
 ghost use Rattle.alp_bay.specs.declared.bay.BayFault.TheVariants.{OutOfMemory as NoMemory};
 ghost use Rattle.alp_bay.specs.Bays.{HasBayCause, IsTaken, IsEmptied, IsFilled};
@@ -45,7 +46,7 @@ pub trait Bay {
 
     /// From now on the devices are those of a folder, or those in memory where none is named.
     fn choose(&mut self, folder: Option<&str>) -> Result<(), BayFault>
-        ensures unnamed { folder.entry ≡ None → OnOk result (chosen self.new ≡ None) }
+        ensures named { OnOk result (chosen self.new ≡ option_map (λ name. name.now) folder.entry) }
         ensures refused { OnErr result (chosen self.new ≡ chosen self.old) }
         ensures places { at self.new ≡ at self.old }
         ensures cause { HasBayCause (faults self.old) (faults self.new) result };

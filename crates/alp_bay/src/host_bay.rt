@@ -63,8 +63,8 @@ fn folder_named<R: Files>(
 
 impl<R: Files<File = File> + Drop> Bay for HostBay<R> {
     ghost use Rattle.std.specs.Prelude.{not, is_some, option_map, OnErr};
-    ghost use Rattle.alp_bay.specs.Bays.{HasBayCause};
-    ghost use Rattle.alp_bay.specs.HostBays.{host_disk_at, folder_name, unnamed_tells};
+    ghost use Rattle.alp_bay.specs.Bays.{HasBayCause, folder_name};
+    ghost use Rattle.alp_bay.specs.HostBays.{host_disk_at, unnamed_tells};
 
     type Device = HostDisk;
 

@@ -1,5 +1,5 @@
 //! A bay of disks in memory.
-ghost use Rattle.std.specs.Prelude.{◌≡◌, ◌≤◌, ℕ, IfOk, length, None, true, refl};
+ghost use Rattle.std.specs.Prelude.{◌≡◌, ◌≤◌, ℕ, IfOk, length, None, true, refl, string_bytes};
 ghost use Rattle.alp_disk.specs.MemDisk.{page_count};
 
 use crate::{Bay, BayFault};
@@ -14,13 +14,23 @@ struct Standing {
     ghost long: { 2 ≤ page_count disk },
 }
 
-/// Disks in memory, which stand there for as long as the bay does. It tells what stands at its places, and never fails.
+/// Disks in memory, which stand there for as long as the bay does. It tells what stands at its places, and never fails. A folder
+/// that is chosen for it changes nothing but what it says of the choice.
 #[derive(Drop)]
 pub struct MemBay {
     alloc: Global,
     // Each at its server's number, and none at 0.
     places: Vec<Option<Standing>>,
+    folder: Option<String>,
     ghost many: { length places.items ≡ 9 },
+}
+
+fn copied(alloc: Global, name: &str) -> Result<String, OutOfMemory>
+    ensures { IfOk result (λ copy. string_bytes copy ≡ name.now) }
+{
+    let mut copy = String::new(alloc);
+    copy.push_str(name)?;
+    Ok(copy)
 }
 
 impl MemBay {
@@ -34,12 +44,16 @@ impl MemBay {
             alloc,
             [None, None, None, None, None, None, None, None, None],
         )?;
-        Ok(MemBay { alloc, places })
+        Ok(MemBay {
+            alloc,
+            places,
+            folder: None,
+        })
     }
 }
 
 impl Bay for MemBay {
-    ghost use Rattle.alp_bay.specs.Bays.{no_faults};
+    ghost use Rattle.alp_bay.specs.Bays.{folder_name, no_faults};
     ghost use Rattle.alp_bay.specs.MemBays.{disk_at};
 
     type Device = MemDisk;
@@ -48,7 +62,7 @@ impl Bay for MemBay {
 
     ghost at = { λ b server. disk_at b server };
 
-    ghost chosen = { λ _. None };
+    ghost chosen = { λ b. folder_name b.folder };
 
     ghost faults = { λ _. 0 };
 
@@ -57,7 +71,10 @@ impl Bay for MemBay {
     ghost faults_end = { λ _. no_faults };
 
     fn choose(&mut self, folder: Option<&str>) -> Result<(), BayFault> {
-        let _ = folder;
+        self.folder = match folder {
+            Some(name) => Some(copied(self.alloc, name)?),
+            None => None,
+        };
         Ok(())
     }
 

@@ -22,7 +22,7 @@ use Rattle.alp_vault.specs.declared.vault.Vault.{Ghosts as VaultGhosts}
 use Rattle.alp_top.specs.Faults.{of_bay}
 use Rattle.alp_top.specs.Headline.{IsRunOf}
 use Rattle.alp_top.specs.Logs.{Log}
-use Rattle.alp_top.specs.Volumes.{pages_of, IsOpenedOn, IsStored, IsReturned, IsLeftAlone, HasNoEpoch, HasDiskCause, HasRunCause, IsBayTold}
+use Rattle.alp_top.specs.Volumes.{pages_of, IsOpenedOn, IsStored, IsReturned, IsLeftAlone, HasNoEpoch, HasDiskCause, HasRunCause, IsBayTold, OnTakenBy}
 use Rattle.alp_top.specs.declared.fault.RunFault.{RunFault}
 use Rattle.alp_top.specs.declared.fault.RunFault.TheVariants as fault
 
@@ -117,6 +117,13 @@ module _ {T U : Type 0} (before now : ℕ) (f : BayFault) (cause : HasBayCause {
       go bay_fault.Failed h = h.failed refl
       go bay_fault.OutOfMemory h = h.memory refl
 
+  pub bay_untaken : (P : Type 0) → OnTakenBy r P
+  bay_untaken P = subst (λ (q : Result U RunFault). OnTakenBy q P) (sym (as_err (of_bay f) r err as)) (go f)
+    where
+      go : (f : BayFault) → OnTakenBy {T = U} (Err (of_bay f)) P
+      go bay_fault.Failed = tt
+      go bay_fault.OutOfMemory = tt
+
   pub bay_cause : {B : Type 0} (h : Ghosts B) (sizes : Sizes) (was is : ℕ → Option B) → is ≡ was → IfErr r (HasRunCause h sizes was is before now)
   bay_cause h sizes was is same = subst (λ (q : Result U RunFault). IfErr q (HasRunCause h sizes was is before now)) (sym (as_err (of_bay f) r err as)) (go f cause)
     where
@@ -133,3 +140,12 @@ bay_still (Err fault.OutOfMemory) before now same none = same
 bay_still (Err fault.EpochEnd) before now same none = same
 bay_still (Err (fault.NotAVolume found)) before now same none = same
 bay_still (Err (fault.Damaged place)) before now same none = same
+
+pub taken_by : {U : Type 0} (r : Result U RunFault) (P : Type 0) → P → OnTakenBy r P
+taken_by (Ok x) P p = p
+taken_by (Err fault.Bay) P p = tt
+taken_by (Err fault.Disk) P p = p
+taken_by (Err fault.OutOfMemory) P p = tt
+taken_by (Err fault.EpochEnd) P p = p
+taken_by (Err (fault.NotAVolume found)) P p = p
+taken_by (Err (fault.Damaged place)) P p = p

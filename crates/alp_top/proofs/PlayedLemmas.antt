@@ -1,5 +1,6 @@
 -- the end of a run, as its status tells it
-use Rattle.std.specs.Prelude.{Option, None, Some, Err, replicate, take}
+use Rattle.std.specs.Prelude.{Option, None, Some, Err, is_some, replicate, take}
+use Rattle.std.specs.Option.{option_map}
 use Rattle.std.specs.Io.KnownBytes.{Appends}
 use Rattle.std.proofs.Common.{inl, inr, ◌≡◌, ◌<◌, ℕ, zero, suc, List, refl, sym, ◌∙◌, ap, subst, arith}
 use Rattle.alp_base.specs.Causes.{Rose}
@@ -15,8 +16,8 @@ use Rattle.alp_store.specs.Starts.{IsNew}
 use Rattle.alp_vault.specs.declared.vault.Vault.{Ghosts as VaultGhosts}
 use Rattle.alp_top.specs.Headline.{IsRunOf, IsPlayed, IsCutOff}
 use Rattle.alp_top.specs.Logs.{Log}
-use Rattle.alp_top.specs.Statuses.{Kept, OnDone, OnWriteFault, OnCutShort, ended_by, IsBayFaultTold, IsHandedOver, IsPlayedOrMemory}
-use Rattle.alp_top.specs.Volumes.{pages_of, IsReturned, HasRunCause, IsBayTold, IsStartable, StartsOn}
+use Rattle.alp_top.specs.Statuses.{Kept, OnDone, OnWriteFault, OnCutShort, OnTaken, ended_by, IsBayFaultTold, IsHandedOver, IsPlayedOrMemory}
+use Rattle.alp_top.specs.Volumes.{pages_of, IsReturned, HasRunCause, IsBayTold, OnTakenBy, IsStartable, StartsOn}
 use Rattle.alp_top.specs.declared.fault.RunFault.{RunFault}
 use Rattle.alp_top.specs.declared.fault.RunFault.TheVariants as fault
 use Rattle.alp_top.specs.declared.status.Status.{Status}
@@ -83,6 +84,30 @@ module _ {D : Type 0} {g : Ghosts D} where
       go (fault.NotAVolume found) p = (refl, p)
       go (fault.Damaged place) p = (refl, p)
 
+  -- where a disk was taken
+  pub taken_told : {T : Type 0} (s : Status D g) (f : RunFault) (P : Type 0) → s ≡ ended_by f → OnTakenBy {T = T} (Err f) P → OnTaken s P
+  taken_told {T = T} s f P is h = subst (λ (q : Status D g). OnTaken q P) (sym is) (go f h)
+    where
+      go : (f : RunFault) → OnTakenBy {T = T} (Err f) P → OnTaken (ended_by {D = D} {g = g} f) P
+      go fault.Bay h = inl refl
+      go fault.Disk h = inr h
+      go fault.OutOfMemory h = tt
+      go fault.EpochEnd h = h
+      go (fault.NotAVolume found) h = h
+      go (fault.Damaged place) h = h
+
+  pub handed_taken : (s : Status D g) (P : Type 0) → IsHandedOver s → P → OnTaken s P
+  handed_taken (status.Done log) P h p = p
+  handed_taken (status.WriteFault log) P h p = p
+  handed_taken status.BadWords P h p = tt
+  handed_taken (status.BadScript line) P h p = tt
+  handed_taken status.ReadFault P h p = tt
+  handed_taken (status.DiskFault server) P h p = inr p
+  handed_taken status.OutOfMemory P h p = tt
+  handed_taken (status.TooLong limit) P h p = p
+  handed_taken (status.NotAVolume server found) P h p = p
+  handed_taken (status.Damaged server place) P h p = p
+
   -- a fault of the bay is told of the whole run
   pub bay_told : {T : Type 0} (s : Status D g) (f : RunFault) (before now : ℕ) → s ≡ ended_by f → IsBayTold {T = T} (Err f) before now → IsBayFaultTold s before now
   bay_told {T = T} s f before now is h = subst (λ (q : Status D g). IsBayFaultTold q before now) (sym is) (go f h)
@@ -107,6 +132,14 @@ module _ {D : Type 0} {g : Ghosts D} where
   handed_told (status.TooLong limit) before now h same = absurd h
   handed_told (status.NotAVolume server found) before now h same = absurd h
   handed_told (status.Damaged server place) before now h same = absurd h
+
+-- ---- the folder that the words name
+
+-- an option is none where what is made of it is, and so is one that stands just where it does
+pub none_named : {X Y Z : Type 0} (f : X → Y) (o : Option X) (named : Option Y) (given : Option Z) → option_map f o ≡ named → named ≡ None → is_some given ≡ is_some o → given ≡ None
+none_named f None named None same none alike = refl
+none_named f None named (Some z) same none alike = cc
+none_named f (Some x) named given same none alike = let wrong : Some (f x) ≡ None = same ∙ none in cc
 
 -- ---- where nothing fails the script is played
 

@@ -41,7 +41,7 @@ pub record HasTimedOut {V : Type 0} (G : Ghosts V) (before : NodeState V) (calls
 -- each transaction that was live is over, by the journal where the vault tells
 pub record IsAtEnd {V : Type 0} (G : Ghosts V) (before now : NodeState V) : Type 0 where
   pub live : List TransId
-  pub left : IsTrue (G.tells before.kept.vault) → AreLive (state_of G before) live
+  pub left : IsTrue (G.tells now.kept.vault) → AreLive (state_of G before) live
   pub ended : HasTimedOut G before before.journal live now
 
 -- all lines were played on the first of these servers, and then each transaction that was left timed out

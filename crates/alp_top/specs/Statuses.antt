@@ -103,6 +103,16 @@ module _ {D : Type 0} {g : Ghosts D} where
   OnCutShort status.OutOfMemory U P = U ⊎ P fault.OutOfMemory
   OnCutShort _ U P = Unit {0}
 
+  -- where a disk was taken, whatever came then
+  abbrev pub OnTaken : Status D g → Type 0 → Type 0
+  OnTaken (status.Done log) P = P
+  OnTaken (status.WriteFault log) P = P
+  OnTaken (status.DiskFault server) P = (server ≡ 0) ⊎ P
+  OnTaken (status.TooLong limit) P = P
+  OnTaken (status.NotAVolume server found) P = P
+  OnTaken (status.Damaged server place) P = P
+  OnTaken _ P = Unit {0}
+
   -- the bay's count of faults rose where its fault is told, and stayed in every other case
   abbrev pub IsBayFaultTold : Status D g → ℕ → ℕ → Type 0
   IsBayFaultTold (status.DiskFault server) before now = ((server ≡ 0) × Rose before now) ⊎ ((server ≡ 1) × (now ≡ before))

@@ -129,3 +129,9 @@ pub record StartsOn {D : Type 0} (g : Ghosts D) (sizes : Sizes) (before after : 
 abbrev pub IsBayTold : {T : Type 0} → Result T RunFault → ℕ → ℕ → Type 0
 IsBayTold (Err fault.Bay) before now = Rose before now
 IsBayTold r before now = now ≡ before
+
+-- where a disk was taken
+abbrev pub OnTakenBy : {T : Type 0} → Result T RunFault → Type 0 → Type 0
+OnTakenBy (Err fault.Bay) P = Unit {0}
+OnTakenBy (Err fault.OutOfMemory) P = Unit {0}
+OnTakenBy r P = P

@@ -4,8 +4,8 @@ ghost use Rattle.std.specs.Io.KnownBytes.{Appends};
 ghost use Rattle.alp_base.specs.Causes.{Rose};
 ghost use Rattle.alp_script.specs.Reading.{GaveBadLine, GaveGoodLines, SaysScript};
 ghost use Rattle.alp_top.specs.Headline.{IsPlayed, IsCutOff, HasCause, StartsHere};
-ghost use Rattle.alp_top.specs.Statuses.{AreWordsTold, IsTold, OnDone, OnBadWords, OnBadScript, OnReadFault, OnWriteFault, OnCutShort, OnUntaken, IsReadFaultTold, IsWriteFaultTold, IsBayFaultTold, OnUnwritten, IsPlayedOrMemory, IsHandedOver};
-ghost use Rattle.alp_words.specs.Words.{are_bad};
+ghost use Rattle.alp_top.specs.Statuses.{AreWordsTold, IsTold, OnDone, OnBadWords, OnBadScript, OnReadFault, OnWriteFault, OnCutShort, OnTaken, OnUntaken, IsReadFaultTold, IsWriteFaultTold, IsBayFaultTold, OnUnwritten, IsPlayedOrMemory, IsHandedOver};
+ghost use Rattle.alp_words.specs.Words.{are_bad, folder_named};
 
 use crate::bay::run_bay;
 use crate::finish::Ended;
@@ -63,6 +63,8 @@ pub fn run_alpine<S: Source, K: Sink, B: Bay>(
     ensures faults { IsReadFaultTold result (S.faults script.old) (S.faults script.new) × IsWriteFaultTold result (K.faults out.old) (K.faults out.new) × IsBayFaultTold result (B.faults bay.old) (B.faults bay.new) }
     // The bay or the disk ended the run: it failed in this call, or the disk is not one of the server's. Or memory was wanting.
     ensures disk { IsTold (map string_bytes words.now) (B.tells bay.new) → OnCutShort result (bay.new ≡ bay.old) (HasCause B.Device.Disk (S.left script.old) (S.left script.new) (B.at bay.old) (B.at bay.new) (B.faults bay.old) (B.faults bay.new)) }
+    // The disk is one of the folder that the words name, or in memory where they name none.
+    ensures folder { OnTaken result (B.chosen bay.new ≡ folder_named (map string_bytes words.now)) }
     // No disk is asked for before the script is read.
     ensures untaken { OnUntaken result (bay.new ≡ bay.old) }
     // A script of the language is played to its end on a disk that is new or the server's, where nothing fails.

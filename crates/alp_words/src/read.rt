@@ -45,7 +45,7 @@ fn copy_of(alloc: Global, text: &str) -> Result<String, AllocError>
 }
 
 // The folder that stands in the matches of `play`.
-#[tactic(auto, using(crate::proofs::TopLevel::first_text))]
+#[tactic(auto, using(crate::proofs::Matches::first_text))]
 fn folder_in(alloc: Global, play: &ArgMatches) -> Result<Option<String>, AllocError>
     ensures { IfOk result (λ folder. option_map string_bytes folder ≡ first_of (codes "folder") (rows_of (found_of play.now))) }
 {
@@ -55,9 +55,9 @@ fn folder_in(alloc: Global, play: &ArgMatches) -> Result<Option<String>, AllocEr
     }
 }
 
-/// The command that the words name, which are those after the program's name. They are refused where the command line refuses
-/// them: where it lacks a word, and where they ask for help.
-#[tactic(auto, using(crate::proofs::TopLevel::folder_in_rows), unfolding(crate::specs::Words::are_bad, crate::specs::Words::folder_named))]
+/// The command that the words name, which are those after the program's name. They are bad where the command line has no
+/// place for one of them or wants one more, and where they ask for help.
+#[tactic(auto, using(crate::proofs::Matches::folder_in_rows), unfolding(crate::specs::Words::are_bad, crate::specs::Words::folder_named))]
 pub fn read_command(alloc: Global, words: &[String]) -> Result<Command, WordsFault>
     // Words that are bad give no command.
     ensures good { OnOk result (are_bad (map string_bytes words.now) ≡ false) }

@@ -22,7 +22,7 @@ returns-clause-ran g c asked =
     let took = c.in_ok-device.ensures in
     let S : Sizes = sizes_said c.args.lines.now 1 in
     let told : IsTrue (g.B.Bay.tells c.choose.new.self) = elim asked [
-      | inl none ↦ g.met.B.Bay.told c.choose.new.self (open_.unnamed none)
+      | inl none ↦ g.met.B.Bay.told c.choose.new.self (open_.named ∙ ap (option_map (λ (name : _). name.now)) none)
       | inr tells ↦ subst IsTrue (c.give.ensures.tells ∙ took.tells) tells
     ] in
     let fused = subst IsTrue (sym c.new.ensures.tells) ((took.told told)) in
@@ -58,7 +58,7 @@ returns-clause-cause g c asked =
     let took = c.in_ok-device.ensures in
     let S : Sizes = sizes_said c.args.lines.now 1 in
     let told : IsTrue (g.B.Bay.tells c.choose.new.self) = elim asked [
-      | inl none ↦ g.met.B.Bay.told c.choose.new.self (open_.unnamed none)
+      | inl none ↦ g.met.B.Bay.told c.choose.new.self (open_.named ∙ ap (option_map (λ (name : _). name.now)) none)
       | inr tells ↦ subst IsTrue (c.give.ensures.tells ∙ took.tells) tells
     ] in
     let fused = subst IsTrue (sym c.new.ensures.tells) ((took.told told)) in

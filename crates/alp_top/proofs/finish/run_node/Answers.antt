@@ -1,3 +1,4 @@
+use Rattle.std.specs.Prelude.{IsTrue}
 use Rattle.std.proofs.Common.{ℕ, List, ◌++◌, refl, ◌∙◌, ap, subst}
 use Rattle.alp_report.specs.Reports.{summary_text}
 use Rattle.alp_top.specs.Endings.{IsServerLog}
@@ -12,7 +13,7 @@ returns-in-Ok-server_logs-clause-ended g c tells =
     let parts = c.into_parts-opening.ensures in
     let e = c.ending_of-ending.ensures in
     let put = c.in_default.ensures in
-    let told : IsTrue (G.tells n.kept.vault) = subst IsTrue (sym c.play_out.ensures.gone.same.telling) tells in
+    let told : IsTrue (G.tells n.kept.vault) = subst IsTrue (sym c.play_out-played.ensures.gone.same.telling) tells in
     run_over G c.args.lines.now c.args.node n c.in-Ok.run'.clients c.in-Ok.run'.lists.items c.in-Ok.run'.text.items (record { servers = c.in-Ok-server_logs.servers; clients = c.in-Ok.run'.lists }) c.ending_of-ending.result.server
     c.requires.accepted.rises out e.server
     (subst (λ p. IsServerLog c.ending_of-ending.result.server p.0 p.2 c.in-Ok-server_logs.servers.items) parts c.in-Ok-server_logs.ensures)
