@@ -1,23 +1,5 @@
 -- Words that the command line takes begin with the name of a command of its own.
 use Rattle.std.proofs.Common.{◌≡◌, ◌∙◌, ◌==◌, ℕ, zero, suc, Bool, true, false, refl, sym, ap, subst, List, [], ◌∷◌, length, Option, Some, None, option_map, codes, true≢false}
-<<<<<<< HEAD
-use Rattle.std.specs.List.{fold}
-use Rattle.std.specs.Box.{box_value}
-use Rattle.std.specs.Prelude.{Box, slice_get, option_and_then, is_some}
-use Rattle.std.specs.Str.{bytes_eq, chars}
-use Rattle.clap.specs.Kinds.{Kinds, or_else}
-use Rattle.clap.specs.Faults.{fault_of, walk_fault, turn_fault, other_fault, step_fault, flag_word_fault, long_fault, flags_fault, bundle_step_fault, short_fault, defaults_fault}
-use Rattle.clap.specs.Lexer.{long_of, short_of}
-use Rattle.clap.specs.Matches.{first_value, subcommand_name_of}
-use Rattle.clap.specs.declared.parser.matches.Found.{Found}
-use Rattle.clap.specs.Simple.{App, Shape, built, entered, names_of, subcommand_of, subcommand_rows, subcommand_rows_of}
-use Rattle.clap.specs.declared.parser.matches.ArgMatches.{ArgMatches}
-use Rattle.clap.specs.declared.parser.matches.ArgMatches.TheViews.{out-ArgMatches, out-SubCommand}
-use Rattle.clap.specs.declared.parser.matches.SubCommand.{SubCommand}
-use Rattle.std.proofs.lemmas.Slice.Eq.{bytes_eq-Decides}
-use Rattle.clap.specs.Walk.{Held, Names, Row, Rule, Text, Walk, Waiting, idle, arg_by_long, arg_by_short, first_of, bundle_met, long_or_other, nothing_held, rows_of, subcommand_met, subcommand_or_other, short_or_plain, stop_after, walk, walk_from, walked}
-use Rattle.clap.proofs.WalkLemmas.{first_value-rows, walk_stopped}
-=======
 use Rattle.std.specs.Option.{option_map_or}
 use Rattle.std.specs.Prelude.{slice_get}
 use Rattle.std.specs.Str.{bytes_eq, chars}
@@ -28,7 +10,6 @@ use Rattle.clap.specs.Simple.{App, Shape, built, entered, names_of, subcommand_o
 use Rattle.std.proofs.lemmas.Slice.Eq.{bytes_eq-Decides}
 use Rattle.clap.specs.Walk.{Held, Names, Row, Step, Text, Walk, after_flag, idle, plain, arg_by_long, arg_by_short, bundle_met, bundle_step, long_or_other, nothing_held, subcommand_met, subcommand_or_other, short_or_plain, stop_after, walk_from, walked}
 use Rattle.clap.proofs.WalkLemmas.{walk_stopped}
->>>>>>> 08d816d33b45a97376e17a13e822ffa1868ea207
 use Rattle.alp_words.specs.Definition.{alpine}
 use Rattle.alp_words.specs.Words.{are_any}
 
@@ -45,26 +26,11 @@ names = names_of app
 abbrev start : Walk
 start = walk_from nothing_held
 
-<<<<<<< HEAD
--- where one of two steps fails, both do
-=======
 -- where the first of two steps fails, both do
->>>>>>> 08d816d33b45a97376e17a13e822ffa1868ea207
 first_fails : (a b : Kinds) → are_any a ≡ true → are_any (or_else a b) ≡ true
 first_fails [] b e = absurd (true≢false (sym e))
 first_fails (k ∷ ks) b e = refl
 
-<<<<<<< HEAD
-second_fails : (a b : Kinds) → are_any b ≡ true → are_any (or_else a b) ≡ true
-second_fails [] b e = e
-second_fails (k ∷ ks) b e = refl
-
--- what a word comes to that names no command
-abbrev other_kinds : Text → Option (Text × Option Text) → Kinds
-other_kinds w l = or_else (flag_word_fault top.rules false l w nothing_held) (step_fault top 1 (long_or_other top.rules idle w l nothing_held).0 (long_or_other top.rules idle w l nothing_held).1)
-
--- the one option is `--help`
-=======
 -- what the step fails by that a first word comes to
 abbrev after : Held × Step → Kinds
 after met = step_fault top 1 met.0 met.1
@@ -72,7 +38,6 @@ after met = step_fault top 1 met.0 met.1
 -- ---- a first word that names no command and is not `--`
 
 -- the one long option is `--help`
->>>>>>> 08d816d33b45a97376e17a13e822ffa1868ea207
 long_fails : (name : Text) (value : Option Text) → are_any (long_fault top.rules false (arg_by_long top.rules name) value nothing_held) ≡ true
 long_fails name value = go (bytes_eq (codes "help") name) value refl
   where
@@ -81,59 +46,14 @@ long_fails name value = go (bytes_eq (codes "help") name) value refl
     go true (Some v) e = rw e refl
     go false v e = rw e refl
 
-<<<<<<< HEAD
--- and the one short one is `-h`
-abbrev bundle_kinds : Text → Text → ℕ → Option ℕ → Kinds
-bundle_kinds w flags k x = or_else (bundle_step_fault top.rules false x flags 0 nothing_held (flags_fault top.rules false k))
-    (step_fault top 1 (Rattle.clap.specs.Walk.after_flag top.rules idle w (Rattle.clap.specs.Walk.bundle_step top.rules x flags 0 Rattle.clap.specs.Walk.plain nothing_held (bundle_met top.rules k)).0 (Rattle.clap.specs.Walk.bundle_step top.rules x flags 0 Rattle.clap.specs.Walk.plain nothing_held (bundle_met top.rules k)).1).0 (Rattle.clap.specs.Walk.after_flag top.rules idle w (Rattle.clap.specs.Walk.bundle_step top.rules x flags 0 Rattle.clap.specs.Walk.plain nothing_held (bundle_met top.rules k)).0 (Rattle.clap.specs.Walk.bundle_step top.rules x flags 0 Rattle.clap.specs.Walk.plain nothing_held (bundle_met top.rules k)).1).1)
-
-char_fails : (x : ℕ) (rest : Text) (next : Held → Kinds) → are_any (short_fault top.rules false (arg_by_short top.rules x) rest nothing_held next) ≡ true
-char_fails x rest next = go (104 == x) refl
-=======
 -- and the one short option is `-h`
 short_fails : (x : ℕ) (rest : Text) (next : Held → Kinds) → are_any (short_fault top.rules false (arg_by_short top.rules x) rest nothing_held next) ≡ true
 short_fails x rest next = go (104 == x) refl
->>>>>>> 08d816d33b45a97376e17a13e822ffa1868ea207
   where
     go : (b : Bool) → (104 == x) ≡ b → are_any (short_fault top.rules false (arg_by_short top.rules x) rest nothing_held next) ≡ true
     go true e = rw e refl
     go false e = rw e refl
 
-<<<<<<< HEAD
-bundle_fails : (w flags : Text) (k : ℕ) (x : Option ℕ) → are_any (bundle_kinds w flags k x) ≡ true
-bundle_fails w flags k None = refl
-bundle_fails w flags k (Some x) = first_fails _ _ (char_fails x _ _)
-
-abbrev flags_kinds : Text → Text → ℕ → Kinds
-flags_kinds w flags n = or_else (flags_fault top.rules false n flags 0 nothing_held)
-    (step_fault top 1 (Rattle.clap.specs.Walk.after_flag top.rules idle w (bundle_met top.rules n flags 0 Rattle.clap.specs.Walk.plain nothing_held).0 (bundle_met top.rules n flags 0 Rattle.clap.specs.Walk.plain nothing_held).1).0 (Rattle.clap.specs.Walk.after_flag top.rules idle w (bundle_met top.rules n flags 0 Rattle.clap.specs.Walk.plain nothing_held).0 (bundle_met top.rules n flags 0 Rattle.clap.specs.Walk.plain nothing_held).1).1)
-
-flags_fail : (w flags : Text) (n : ℕ) → are_any (flags_kinds w flags n) ≡ true
-unfolding flags_fault bundle_met
-flags_fail w flags zero = refl
-flags_fail w flags (suc k) = bundle_fails w flags k (slice_get (chars flags) 0)
-
-abbrev short_kinds : Text → Option Text → Kinds
-short_kinds w s = or_else (Rattle.std.specs.Option.option_map_or (λ flags. flags_fault top.rules false (length flags) flags 0 nothing_held) s []) (step_fault top 1 (short_or_plain top.rules idle w s nothing_held).0 (short_or_plain top.rules idle w s nothing_held).1)
-
-short_fails : (w : Text) (s : Option Text) → are_any (short_kinds w s) ≡ true
-short_fails w None = refl
-short_fails w (Some flags) = flags_fail w flags (length flags)
-
-other_fails : (w : Text) (l : Option (Text × Option Text)) → are_any (other_kinds w l) ≡ true
-other_fails w None = short_fails w (short_of w)
-other_fails w (Some p) = first_fails _ _ (long_fails p.0 p.1)
-
--- ---- the first word
-
-abbrev met_kinds : Text → Option Text → Kinds
-met_kinds w o = or_else (other_fault top o w nothing_held) (step_fault top 1 (subcommand_or_other top.rules o idle 1 w nothing_held).0 (subcommand_or_other top.rules o idle 1 w nothing_held).1)
-
--- a word that names no command and is not `--` is none that the command line takes
-stray_fails : (w : Text) → bytes_eq w (codes "--") ≡ false → are_any (met_kinds w None) ≡ true
-stray_fails w e = rw e (other_fails w (long_of w))
-
-=======
 -- the first flag of a bundle fails, and with no flag the word is a stray one
 abbrev flag_kinds : Text → Text → ℕ → Option ℕ → Kinds
 flag_kinds w flags k x =
@@ -179,7 +99,6 @@ stray_fails w e = rw e (option_fails w (long_of w))
 
 -- ---- the first word
 
->>>>>>> 08d816d33b45a97376e17a13e822ffa1868ea207
 -- after `--` nothing can be said
 behind_dashes : (rest : List Text) → are_any (fault_of alpine (codes "alpine" ∷ codes "--" ∷ rest)) ≡ true
 unfolding walked walk_fault defaults_fault
@@ -191,11 +110,7 @@ enters : (rest : List Text) → stop_after top.rules names (codes "play" ∷ res
 unfolding walked
 enters rest = ap (λ v. v.stopped) (sym (walk_stopped top.rules names start (codes "play") [] rest))
 
-<<<<<<< HEAD
-abbrev name_of : Option (Text × List Row) → Option Text
-=======
 abbrev pub name_of : Option (Text × List Row) → Option Text
->>>>>>> 08d816d33b45a97376e17a13e822ffa1868ea207
 name_of = option_map (λ p. p.0)
 
 plays : (rest : List Text) → name_of (subcommand_of alpine (codes "alpine" ∷ codes "play" ∷ rest)) ≡ Some (codes "play")
@@ -209,15 +124,9 @@ line_fails w rest e = first_fails _ _ (first_fails _ _ e)
 -- a word that is neither `play` nor `help`
 turn_other : (w : Text) → bytes_eq (codes "play") w ≡ false → bytes_eq (codes "help") w ≡ false → bytes_eq w (codes "--") ≡ false
     → are_any (turn_fault top names start w) ≡ true
-<<<<<<< HEAD
-turn_other w a b c =
-    let none : subcommand_met names idle w ≡ None = rw (a, b) refl in
-    ap (λ o. are_any (met_kinds w o)) none ∙ stray_fails w c
-=======
 turn_other w not_play not_help not_dashes =
     let none : subcommand_met names idle w ≡ None = rw (not_play, not_help) refl in
     ap (λ o. are_any (word_kinds w o)) none ∙ stray_fails w not_dashes
->>>>>>> 08d816d33b45a97376e17a13e822ffa1868ea207
 
 no_words : are_any (fault_of alpine (codes "alpine" ∷ [])) ≡ true
 unfolding walked walk_fault defaults_fault
@@ -242,32 +151,7 @@ begins_with_play (w ∷ rest) taken = go (bytes_eq (codes "play") w) (bytes_eq (
     go false false true p q r = absurd (bad (subst (λ (v : Text). are_any (fault_of alpine (codes "alpine" ∷ v ∷ rest)) ≡ true) (sym ((bytes_eq-Decides w (codes "--")).0 r)) (behind_dashes rest)))
     go false false false p q r = absurd (bad (line_fails w rest (turn_other w p q r)))
 
-<<<<<<< HEAD
-taken_is_play : (all : List Text) → are_any (fault_of alpine all) ≡ false → name_of (subcommand_of alpine all) ≡ Some (codes "play")
-taken_is_play [] taken = absurd (true≢false (sym no_words ∙ taken))
-taken_is_play (name ∷ words) taken = begins_with_play words taken
-
-module _ {Z : Type 0} where
-  name_in : (sub : Option (Box SubCommand Z)) → option_map (λ b. (out-SubCommand (box_value b)).name.now) sub ≡ name_of (subcommand_rows sub)
-  name_in None = refl
-  name_in (Some b) = refl
-
--- matches of words that are taken are those of `play`
-pub is_play : (all : List Text) (m : ArgMatches) → are_any (fault_of alpine all) ≡ false → subcommand_rows_of m ≡ subcommand_of alpine all
-    → subcommand_name_of m ≡ Some (codes "play")
-is_play all m taken rows = name_in (out-ArgMatches m).subcommand ∙ ap name_of rows ∙ taken_is_play all taken
-
--- and what they have of the folder is what the words name
-pub folder_in_rows : (o : Option (Text × List Row)) (rows : List Row) → option_map (λ p. p.1) o ≡ Some rows
-    → option_and_then (λ p. first_of (codes "folder") p.1) o ≡ first_of (codes "folder") rows
-folder_in_rows None rows e = absurd (true≢false (sym (ap is_some e)))
-folder_in_rows (Some p) rows e = ap (option_and_then (first_of (codes "folder"))) e
-
-pub first_text : (found : Found) → first_value found (codes "folder") ≡ first_of (codes "folder") (rows_of found)
-first_text found = first_value-rows found (codes "folder")
-=======
 -- and so they do with the program's name before them, which may be any word
 pub taken_is_play : (all : List Text) → are_any (fault_of alpine all) ≡ false → name_of (subcommand_of alpine all) ≡ Some (codes "play")
 taken_is_play [] taken = absurd (true≢false (sym no_words ∙ taken))
 taken_is_play (name ∷ words) taken = begins_with_play words taken
->>>>>>> 08d816d33b45a97376e17a13e822ffa1868ea207

@@ -1,9 +1,5 @@
 use Rattle.std.proofs.Common.{rules, map}
-<<<<<<< HEAD
-use Rattle.alp_words.proofs.TopLevel.{is_play}
-=======
 use Rattle.alp_words.proofs.Matches.{is_play}
->>>>>>> 08d816d33b45a97376e17a13e822ffa1868ea207
 use Rattle.alp_words.proofs.read.matches_of.Goals as goal
 
 pub returns-in-Ok-clause-play : goal.returns-in-Ok-clause-play
