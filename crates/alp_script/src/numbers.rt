@@ -13,5 +13,4 @@ pub fn numbers_are_fixed()
     ensures area { (area_least ≡ 64) × (area_most ≡ 4096) }
     ensures lines { (script_lines_most ≡ 1000) × (line_bytes ≡ 1024) }
     ensures words { (text_bytes ≡ 64) × (run_most ≡ 16) }
-{
-}
+{}

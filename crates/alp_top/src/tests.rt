@@ -281,9 +281,18 @@ fn plays_on_the_volume_of_a_folder(rt: HostRuntime) -> Result<(), Fail> {
     let alloc = rt.alloc();
     let path = new_folder(&rt)?;
     let folder = path.as_path().to_str().ok_or("a name")?;
-    for (script, report) in [(SCRIPT, expected(alloc, 8)?.as_slice()), (AGAIN, AGAIN_TOLD)] {
+    for (script, report) in [
+        (SCRIPT, expected(alloc, 8)?.as_slice()),
+        (AGAIN, AGAIN_TOLD),
+    ] {
         let mut bay = HostBay::new(alloc, rt)?;
-        let told = run_in(alloc, &["play", "--folder", folder], script, &SOUND, &mut bay)?;
+        let told = run_in(
+            alloc,
+            &["play", "--folder", folder],
+            script,
+            &SOUND,
+            &mut bay,
+        )?;
         assert_eq!(rt; told.code, 0);
         assert_eq!(rt; told.written.as_slice(), report);
     }
@@ -318,7 +327,10 @@ fn refuses_what_has_no_room(rt: HostRuntime) -> Result<(), Fail> {
     script.extend_from_slice(b"1 write A 240 12 x\n1 write A 252 1 x\n")?;
     let full = run(alloc, &["play"], script.as_slice(), &SOUND)?;
     assert_eq!(rt; full.code, 0);
-    assert_eq!(rt; last_answer(full.written.as_slice()), b"refused 13 left 0 asked 1");
+    assert_eq!(rt;
+        last_answer(full.written.as_slice()),
+        b"refused 13 left 0 asked 1"
+    );
     Ok(())
 }
 
