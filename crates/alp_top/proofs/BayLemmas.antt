@@ -22,7 +22,7 @@ use Rattle.alp_vault.specs.declared.vault.Vault.{Ghosts as VaultGhosts}
 use Rattle.alp_top.specs.Faults.{of_bay}
 use Rattle.alp_top.specs.Headline.{IsRunOf}
 use Rattle.alp_top.specs.Logs.{Log}
-use Rattle.alp_top.specs.Volumes.{pages_of, IsOpenedOn, IsStored, IsReturned, IsLeftAlone, HasNoEpoch, HasDiskCause, HasRunCause, IsBayTold, OnTakenBy}
+use Rattle.alp_top.specs.Volumes.{pages_of, IsOpenedOn, IsStored, IsReturned, IsLeftAlone, HasNoEpoch, HasDiskCause, HasRunCause, IsBayTold, IsOfDisk, OnTakenBy}
 use Rattle.alp_top.specs.declared.fault.RunFault.{RunFault}
 use Rattle.alp_top.specs.declared.fault.RunFault.TheVariants as fault
 
@@ -109,37 +109,37 @@ as_err f (Ok x) is same = cc
 as_err f (Err e) is same = ap Err same
 
 -- it failed, or there was no memory, and nothing stands elsewhere than before
-module _ {T U : Type 0} (before now : ℕ) (f : BayFault) (cause : HasBayCause {T = T} before now (Err f)) (r : Result U RunFault) (err : IsErr r) (as : IsErrAnd r (λ e. e ≡ of_bay f)) where
+module _ {T U : Type 0} (before now : ℕ) (f : BayFault) (cause : HasBayCause {T = T} before now (Err f)) (r : Result U RunFault) (err : IsErr r) (alike : IsErrAnd r (λ e. e ≡ of_bay f)) where
   pub bay_told : IsBayTold r before now
-  bay_told = subst (λ (q : Result U RunFault). IsBayTold q before now) (sym (as_err (of_bay f) r err as)) (go f cause)
+  bay_told = subst (λ (q : Result U RunFault). IsBayTold q before now) (sym (as_err (of_bay f) r err alike)) (go f cause)
     where
       go : (f : BayFault) → HasBayCause {T = T} before now (Err f) → IsBayTold {T = U} (Err (of_bay f)) before now
       go bay_fault.Failed h = h.failed refl
       go bay_fault.OutOfMemory h = h.memory refl
 
   pub bay_untaken : (P : Type 0) → OnTakenBy r P
-  bay_untaken P = subst (λ (q : Result U RunFault). OnTakenBy q P) (sym (as_err (of_bay f) r err as)) (go f)
+  bay_untaken P = subst (λ (q : Result U RunFault). OnTakenBy q P) (sym (as_err (of_bay f) r err alike)) (go f)
     where
       go : (f : BayFault) → OnTakenBy {T = U} (Err (of_bay f)) P
       go bay_fault.Failed = tt
       go bay_fault.OutOfMemory = tt
 
   pub bay_cause : {B : Type 0} (h : Ghosts B) (sizes : Sizes) (was is : ℕ → Option B) → is ≡ was → IfErr r (HasRunCause h sizes was is before now)
-  bay_cause h sizes was is same = subst (λ (q : Result U RunFault). IfErr q (HasRunCause h sizes was is before now)) (sym (as_err (of_bay f) r err as)) (go f cause)
+  bay_cause h sizes was is same = subst (λ (q : Result U RunFault). IfErr q (HasRunCause h sizes was is before now)) (sym (as_err (of_bay f) r err alike)) (go f cause)
     where
       go : (f : BayFault) → HasBayCause {T = T} before now (Err f) → HasRunCause h sizes was is before now (of_bay f)
       go bay_fault.Failed h = (same, h.failed refl)
       go bay_fault.OutOfMemory h = inl same
 
 -- the bay did its work
-pub bay_still : {U : Type 0} (r : Result U RunFault) (before now : ℕ) → now ≡ before → (r ≡ Err fault.Bay → ⊥) → IsBayTold r before now
-bay_still (Ok x) before now same none = same
-bay_still (Err fault.Bay) before now same none = absurd (none refl)
-bay_still (Err fault.Disk) before now same none = same
-bay_still (Err fault.OutOfMemory) before now same none = same
-bay_still (Err fault.EpochEnd) before now same none = same
-bay_still (Err (fault.NotAVolume found)) before now same none = same
-bay_still (Err (fault.Damaged place)) before now same none = same
+pub bay_still : {U : Type 0} (r : Result U RunFault) (before now : ℕ) → now ≡ before → IfErr r IsOfDisk → IsBayTold r before now
+bay_still (Ok x) before now same own = same
+bay_still (Err fault.Bay) before now same own = absurd own
+bay_still (Err fault.Disk) before now same own = same
+bay_still (Err fault.OutOfMemory) before now same own = same
+bay_still (Err fault.EpochEnd) before now same own = same
+bay_still (Err (fault.NotAVolume found)) before now same own = same
+bay_still (Err (fault.Damaged place)) before now same own = same
 
 pub taken_by : {U : Type 0} (r : Result U RunFault) (P : Type 0) → P → OnTakenBy r P
 taken_by (Ok x) P p = p

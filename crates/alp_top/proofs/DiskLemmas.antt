@@ -49,7 +49,7 @@ use Rattle.alp_top.specs.Reports.{end_of}
 use Rattle.alp_top.specs.Servers.{IsOn}
 use Rattle.alp_top.proofs.StepLemmas.{kept_epoch, kept_clock}
 use Rattle.alp_top.specs.Faults.{of_vault, of_start, played}
-use Rattle.alp_top.specs.Volumes.{HasDiskCause, IsLeftAlone, IsOpenedNew, IsOpenedOn, IsStored}
+use Rattle.alp_top.specs.Volumes.{HasDiskCause, IsOfDisk, IsLeftAlone, IsOpenedNew, IsOpenedOn, IsStored}
 use Rattle.alp_top.specs.declared.fault.PlayFault.{PlayFault}
 use Rattle.alp_top.specs.declared.fault.PlayFault.TheVariants as play_fault
 
@@ -157,6 +157,23 @@ module _ {D : Type 0} (g : Ghosts D) (sizes : Sizes) (d e : D) where
 pub not_played : {D : Type 0} (g : Ghosts D) (sizes : Sizes) (d e : D) (f : PlayFault) → (f ≡ play_fault.Device → Rose (g.faults d) (g.faults e)) → (f ≡ play_fault.OutOfMemory → g.faults e ≡ g.faults d) → HasDiskCause g sizes (played f) d e
 not_played g sizes d e play_fault.Device rose kept = rose refl
 not_played g sizes d e play_fault.OutOfMemory rose kept = kept refl
+
+-- none of these is a fault of the bay
+pub of_vault_own : (f : VaultFault) → IsOfDisk (of_vault f)
+of_vault_own vault_fault.Failed = tt
+of_vault_own vault_fault.Stopped = tt
+of_vault_own vault_fault.OutOfMemory = tt
+of_vault_own (vault_fault.NotAVolume found) = tt
+of_vault_own (vault_fault.Damaged place) = tt
+
+pub of_start_own : (f : StartFault) → IsOfDisk (of_start f)
+of_start_own (start_fault.Vault f) = of_vault_own f
+of_start_own start_fault.BadNote = tt
+of_start_own start_fault.EpochEnd = tt
+
+pub played_own : (f : PlayFault) → IsOfDisk (played f)
+played_own play_fault.Device = tt
+played_own play_fault.OutOfMemory = tt
 
 -- ---- what a run leaves on its disk
 

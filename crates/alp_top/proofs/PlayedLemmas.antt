@@ -2,7 +2,7 @@
 use Rattle.std.specs.Prelude.{Option, None, Some, Err, is_some, replicate, take}
 use Rattle.std.specs.Option.{option_map}
 use Rattle.std.specs.Io.KnownBytes.{Appends}
-use Rattle.std.proofs.Common.{inl, inr, ◌≡◌, ◌<◌, ℕ, zero, suc, List, refl, sym, ◌∙◌, ap, subst, arith}
+use Rattle.std.proofs.Common.{inl, inr, ◌⊎◌, ◌≡◌, ◌<◌, ℕ, zero, suc, List, refl, sym, ◌∙◌, ap, subst, arith}
 use Rattle.alp_base.specs.Causes.{Rose}
 use Rattle.alp_base.specs.Pages.{zero_page}
 use Rattle.alp_base.specs.declared.faults.Sizes.{Sizes}
@@ -136,10 +136,15 @@ module _ {D : Type 0} {g : Ghosts D} where
 -- ---- the folder that the words name
 
 -- an option is none where what is made of it is, and so is one that stands just where it does
-pub none_named : {X Y Z : Type 0} (f : X → Y) (o : Option X) (named : Option Y) (given : Option Z) → option_map f o ≡ named → named ≡ None → is_some given ≡ is_some o → given ≡ None
+none_named : {X Y Z : Type 0} (f : X → Y) (o : Option X) (named : Option Y) (given : Option Z) → option_map f o ≡ named → named ≡ None → is_some given ≡ is_some o → given ≡ None
 none_named f None named None same none alike = refl
 none_named f None named (Some z) same none alike = cc
 none_named f (Some x) named given same none alike = let wrong : Some (f x) ≡ None = same ∙ none in cc
+
+-- the words name no folder, and so none is chosen, or the bay tells
+pub folder_told : {X Y Z : Type 0} (f : X → Y) (o : Option X) (named : Option Y) (given : Option Z) (T : Type 0) → option_map f o ≡ named → is_some given ≡ is_some o → (named ≡ None) ⊎ T → (given ≡ None) ⊎ T
+folder_told f o named given T same alike (inl none) = inl (none_named f o named given same none alike)
+folder_told f o named given T same alike (inr t) = inr t
 
 -- ---- where nothing fails the script is played
 

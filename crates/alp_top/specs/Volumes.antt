@@ -106,6 +106,11 @@ HasDiskCause g sizes fault.EpochEnd taken given = IsLeftAlone g sizes taken give
 HasDiskCause g sizes fault.Bay taken given = ⊥
 HasDiskCause g sizes fault.OutOfMemory taken given = g.faults given ≡ g.faults taken
 
+-- it is no fault of the bay
+abbrev pub IsOfDisk : RunFault → Type 0
+IsOfDisk fault.Bay = ⊥
+IsOfDisk f = Unit {0}
+
 -- How the bay stands then: where the bay failed nothing was taken. Where memory was wanting nothing was, or the disk is given back.
 abbrev pub HasRunCause : {D : Type 0} → Ghosts D → Sizes → (before after : ℕ → Option D) → (bay_before bay_after : ℕ) → RunFault → Type 0
 HasRunCause g sizes before after bay_before bay_after fault.Bay = (after ≡ before) × Rose bay_before bay_after

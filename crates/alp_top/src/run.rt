@@ -53,14 +53,14 @@ pub fn run_alpine<S: Source, K: Sink, B: Bay>(
     // After a write fault the log is of a run of the script too, and a prefix of its report is written.
     ensures cut_off { IsTold (map string_bytes words.now) (B.tells bay.new) → OnWriteFault result (IsCutOff ⟦<Store<Fuse<B::Device>> as Vault>⟧ B.Device.Disk (S.left script.old) (S.left script.new) (K.written out.old) (K.written out.new) (B.at bay.old) (B.at bay.new)) }
     // The words are told bad just where the program's command line has no such words, and then nothing is read.
-    ensures words { AreWordsTold (are_bad (map string_bytes words.now)) result }
-    ensures bad_words { OnBadWords result (script.new ≡ script.old) }
+    ensures words { AreWordsTold (are_bad (map string_bytes words.now)) result × OnBadWords result (script.new ≡ script.old) }
     // That line of what the source gave is the first outside the language.
     ensures bad_script { OnBadScript result (GaveBadLine (S.left script.old) (S.left script.new)) }
     // A source that fails behind a line outside the language is not asked that far.
     ensures good_lines { OnReadFault result (GaveGoodLines (S.left script.old) (S.left script.new)) }
     // A fault of a stream or of the bay is told just where it came in this call.
-    ensures faults { IsReadFaultTold result (S.faults script.old) (S.faults script.new) × IsWriteFaultTold result (K.faults out.old) (K.faults out.new) × IsBayFaultTold result (B.faults bay.old) (B.faults bay.new) }
+    ensures streams { IsReadFaultTold result (S.faults script.old) (S.faults script.new) × IsWriteFaultTold result (K.faults out.old) (K.faults out.new) }
+    ensures bay { IsBayFaultTold result (B.faults bay.old) (B.faults bay.new) }
     // The bay or the disk ended the run: it failed in this call, or the disk is not one of the server's. Or memory was wanting.
     ensures disk { IsTold (map string_bytes words.now) (B.tells bay.new) → OnCutShort result (bay.new ≡ bay.old) (HasCause B.Device.Disk (S.left script.old) (S.left script.new) (B.at bay.old) (B.at bay.new) (B.faults bay.old) (B.faults bay.new)) }
     // The disk is one of the folder that the words name, or in memory where they name none.

@@ -1,12 +1,13 @@
 use Rattle.std.specs.Prelude.{Option, IsTrue}
-use Rattle.std.proofs.Common.{◌≡◌, ◌≢◌, ℕ, refl, sym, ◌∙◌, ap, subst}
+use Rattle.std.specs.Option.{option_map}
+use Rattle.std.proofs.Common.{inl, inr, ◌≡◌, ◌≢◌, ℕ, refl, sym, ◌∙◌, ap, subst}
 use Rattle.std.proofs.lemmas.Result.{IfOk-weaker, IfErr-weaker}
 use Rattle.alp_base.specs.declared.faults.Sizes.{Sizes}
 use Rattle.alp_bay.specs.Bays.{IsTaken}
 use Rattle.alp_disk.specs.contracts.fuse.FuseDisk.TheImpl as fuse_disk
 use Rattle.alp_script.specs.Volumes.{sizes_said}
 use Rattle.alp_top.specs.Volumes.{pages_of, HasDiskCause}
-use Rattle.alp_top.proofs.BayLemmas.{ShowAlike, run_resized, run_alike, returned, run_cause}
+use Rattle.alp_top.proofs.BayLemmas.{ShowAlike, run_resized, run_alike, returned, run_cause, bay_cause, bay_untaken, bay_told, bay_still, taken_by}
 use Rattle.alp_top.proofs.bay.run_bay.Goals as goal
 
 pub give-requires-clause-told : goal.give-requires-clause-told
@@ -84,3 +85,26 @@ returns-clause-cause g c asked =
     c.run_disk-disk.ensures.later (g.B.Bay.faults c.args.bay.now) (g.B.Bay.faults c.give.new.self) f
     (subst (λ (z : Sizes). HasDiskCause fuse z f c.new.result c.run_disk-disk.result.0) c.sizes_of-sizes.ensures x))
     (c.run_disk-disk.ensures.cause fused)
+
+-- ---- the bay ended it
+
+pub returns-in_err-choose-clause-cause : goal.returns-in_err-choose-clause-cause
+returns-in_err-choose-clause-cause g c asked =
+    bay_cause _ _ c.in_err-choose.field-0.0 c.in_err-choose.ensures.cause c.from_residual-in_err-choose.result c.from_residual-in_err-choose.ensures.0 c.from_residual-in_err-choose.ensures.1 g.B.Device.Disk (sizes_said c.args.lines.now 1) _ _
+    c.choose.ensures.places
+
+pub returns-in_err-choose-clause-chosen : goal.returns-in_err-choose-clause-chosen
+returns-in_err-choose-clause-chosen g c =
+    bay_untaken _ _ c.in_err-choose.field-0.0 c.in_err-choose.ensures.cause c.from_residual-in_err-choose.result c.from_residual-in_err-choose.ensures.0 c.from_residual-in_err-choose.ensures.1 _
+
+pub returns-in_err-choose-clause-bay : goal.returns-in_err-choose-clause-bay
+returns-in_err-choose-clause-bay g c =
+    bay_told _ _ c.in_err-choose.field-0.0 c.in_err-choose.ensures.cause c.from_residual-in_err-choose.result c.from_residual-in_err-choose.ensures.0 c.from_residual-in_err-choose.ensures.1
+
+-- ---- the disk was taken
+
+pub returns-clause-chosen : goal.returns-clause-chosen
+returns-clause-chosen g c = taken_by c.run_disk-disk.result.1 _ (c.give.ensures.chosen ∙ c.in_ok-device.ensures.chosen ∙ c.in_ok-choose.ensures.named)
+
+pub returns-clause-bay : goal.returns-clause-bay
+returns-clause-bay g c = bay_still c.run_disk-disk.result.1 _ _ (c.give.ensures.faults ∙ c.in_ok-device.ensures.cause.still ∙ c.in_ok-choose.ensures.cause.still) c.run_disk-disk.ensures.own

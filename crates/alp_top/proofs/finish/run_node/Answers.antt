@@ -1,5 +1,5 @@
 use Rattle.std.specs.Prelude.{IsTrue}
-use Rattle.std.proofs.Common.{ℕ, List, ◌++◌, refl, ◌∙◌, ap, subst}
+use Rattle.std.proofs.Common.{ℕ, List, ◌++◌, refl, sym, ◌∙◌, ap, subst}
 use Rattle.alp_report.specs.Reports.{summary_text}
 use Rattle.alp_top.specs.Endings.{IsServerLog}
 use Rattle.alp_top.proofs.EndLemmas.{run_over, ending_is}

@@ -20,9 +20,9 @@ use Rattle.alp_store.specs.contracts.store.StoreVault.TheImpl as store_vault
 use Rattle.alp_top.specs.Faults.{of_start}
 use Rattle.alp_top.specs.Servers.{IsOn, IsDone}
 use Rattle.alp_top.specs.declared.fault.RunFault.{RunFault}
-use Rattle.alp_top.specs.Volumes.{HasDiskCause}
+use Rattle.alp_top.specs.Volumes.{HasDiskCause, IsOfDisk}
 use Rattle.alp_top.proofs.GoneLemmas.{stays_free}
-use Rattle.alp_top.proofs.DiskLemmas.{not_opened, not_started, of_server, stored, holds_one, if_ok, on_ok}
+use Rattle.alp_top.proofs.DiskLemmas.{not_opened, not_started, of_vault_own, of_start_own, of_server, stored, holds_one, if_ok, on_ok}
 use Rattle.alp_top.proofs.volume.run_disk.Goals as goal
 
 pub returns-in-Err-clause-cause : goal.returns-in-Err-clause-cause
@@ -31,6 +31,9 @@ returns-in-Err-clause-cause g c told =
     subst (λ (f : RunFault). HasDiskCause g.D.Disk c.args.sizes f c.args.disk c.in-Err.disk) (sym c.of_vault.ensures)
     (not_opened g.D.Disk c.args.sizes c.args.disk c.in-Err.disk c.in-Err.fault h.cause.cause h.cause.still (stays_free _ _ h.below.allowance c.requires.free) (λ is. (h.new told is).volume) (λ old. h.why_not told old)
     (record { seen = λ old. (h.looked told old).seen; crash = λ old. (h.looked told old).crash }))
+
+pub returns-in-Err-clause-own : goal.returns-in-Err-clause-own
+returns-in-Err-clause-own g c = subst IsOfDisk (sym c.of_vault.ensures) (of_vault_own c.in-Err.fault)
 
 pub start-requires-2-clause-given : goal.start-requires-2-clause-given
 start-requires-2-clause-given g c tells =
@@ -66,6 +69,9 @@ returns-in-Err-start-clause-cause g c told =
       crash = λ old. subst (λ (q : g.row.D.Denot). NoMore (G.may_leave d) (G.may_leave q)) (sym (ap (λ v. disk_of v.log) same)) (h.looked told old).crash;
     }
     ))))
+
+pub returns-in-Err-start-clause-own : goal.returns-in-Err-start-clause-own
+returns-in-Err-start-clause-own g c = subst IsOfDisk (sym c.of_start.ensures) (of_start_own c.in-Err-start.fault)
 
 pub returns-in-Ok-ended-clause-ran : goal.returns-in-Ok-ended-clause-ran
 returns-in-Ok-ended-clause-ran g c given =
