@@ -85,8 +85,8 @@ module _ {D : Type 0} {g : Ghosts D} where
       go (fault.Damaged place) p = (refl, p)
 
   -- where a disk was taken
-  pub taken_told : {T : Type 0} (s : Status D g) (f : RunFault) (P : Type 0) → s ≡ ended_by f → OnTakenBy {T = T} (Err f) P → OnTaken s P
-  taken_told {T = T} s f P is h = subst (λ (q : Status D g). OnTaken q P) (sym is) (go f h)
+  pub taken_told : (T : Type 0) (s : Status D g) (f : RunFault) (P : Type 0) → s ≡ ended_by f → OnTakenBy {T = T} (Err f) P → OnTaken s P
+  taken_told T s f P is h = subst (λ (q : Status D g). OnTaken q P) (sym is) (go f h)
     where
       go : (f : RunFault) → OnTakenBy {T = T} (Err f) P → OnTaken (ended_by {D = D} {g = g} f) P
       go fault.Bay h = inl refl
@@ -109,8 +109,8 @@ module _ {D : Type 0} {g : Ghosts D} where
   handed_taken (status.Damaged server place) P h p = p
 
   -- a fault of the bay is told of the whole run
-  pub bay_told : {T : Type 0} (s : Status D g) (f : RunFault) (before now : ℕ) → s ≡ ended_by f → IsBayTold {T = T} (Err f) before now → IsBayFaultTold s before now
-  bay_told {T = T} s f before now is h = subst (λ (q : Status D g). IsBayFaultTold q before now) (sym is) (go f h)
+  pub bay_told : (T : Type 0) (s : Status D g) (f : RunFault) (before now : ℕ) → s ≡ ended_by f → IsBayTold {T = T} (Err f) before now → IsBayFaultTold s before now
+  bay_told T s f before now is h = subst (λ (q : Status D g). IsBayFaultTold q before now) (sym is) (go f h)
     where
       go : (f : RunFault) → IsBayTold {T = T} (Err f) before now → IsBayFaultTold (ended_by {D = D} {g = g} f) before now
       go fault.Bay h = inl (refl, h)

@@ -41,12 +41,12 @@ pub returns-in-Ok-run_bay-clause-folder : goal.returns-in-Ok-run_bay-clause-fold
 returns-in-Ok-run_bay-clause-folder g c = handed_taken c.hand_over.result _ c.hand_over.ensures.played (c.in-Ok-run_bay.ensures.chosen ∙ c.as_deref.ensures.value ∙ c.in-Ok-Play.ensures.named)
 
 pub returns-clause-bay : goal.returns-clause-bay
-returns-clause-bay g c = bay_told c.ended_by.result c.in-Err.fault _ _ c.ended_by.ensures c.in-Err.ensures.bay
+returns-clause-bay g c = bay_told _ c.ended_by.result c.in-Err.fault _ _ c.ended_by.ensures c.in-Err.ensures.bay
 
 pub returns-clause-folder : goal.returns-clause-folder
 returns-clause-folder g c =
     let named : Option (List ℕ) = folder_named (list_map string_bytes c.args.words.now) in
-    taken_told c.ended_by.result c.in-Err.fault (g.B.Bay.chosen c.run_bay.new.bay ≡ named) c.ended_by.ensures
+    taken_told _ c.ended_by.result c.in-Err.fault (g.B.Bay.chosen c.run_bay.new.bay ≡ named) c.ended_by.ensures
     (subst (λ (o : Option (List ℕ)). OnTakenBy (Err c.in-Err.fault) (g.B.Bay.chosen c.run_bay.new.bay ≡ o)) (c.as_deref.ensures.value ∙ c.in-Ok-Play.ensures.named) c.in-Err.ensures.chosen)
 
 pub returns-clause-disk : goal.returns-clause-disk
