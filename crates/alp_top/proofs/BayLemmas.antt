@@ -68,7 +68,7 @@ module _ {A B : Type 0} (g : Ghosts A) (h : Ghosts B) (sizes : Sizes) (ta ga : A
   alone_alike x = record {
     old = λ is. x.old (new_before is);
     seen = given.seen ∙ x.seen ∙ sym taken.seen;
-    crash = λ i left. taken.leaves.no_more i (x.crash i (given.leaves.no_fewer i left));
+    crash = λ i left. taken.leaves.no_fewer i (x.crash i (given.leaves.no_more i left));
     unfailed = given.faults ∙ x.unfailed ∙ sym taken.faults;
   }
 

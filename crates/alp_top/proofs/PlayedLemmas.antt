@@ -1,5 +1,5 @@
 -- the end of a run, as its status tells it
-use Rattle.std.specs.Prelude.{Option, None, Some, Err, is_some, replicate, take}
+use Rattle.std.specs.Prelude.{Option, None, Some, replicate, take}
 use Rattle.std.specs.Option.{option_map}
 use Rattle.std.specs.Io.KnownBytes.{Appends}
 use Rattle.std.proofs.Common.{inl, inr, ◌⊎◌, ◌≡◌, ◌<◌, ℕ, zero, suc, List, refl, sym, ◌∙◌, ap, subst, arith}
@@ -14,10 +14,13 @@ use Rattle.alp_script.specs.Volumes.{sizes_said}
 use Rattle.alp_script.specs.declared.numbered.NumberedLine.{NumberedLine}
 use Rattle.alp_store.specs.Starts.{IsNew}
 use Rattle.alp_vault.specs.declared.vault.Vault.{Ghosts as VaultGhosts}
+use Rattle.alp_words.specs.Words.{folder_named, IsNamedBy}
+use Rattle.alp_words.specs.declared.command.Command.{Command}
+use Rattle.alp_words.specs.declared.command.Command.TheVariants as command
 use Rattle.alp_top.specs.Headline.{IsRunOf, IsPlayed, IsCutOff}
 use Rattle.alp_top.specs.Logs.{Log}
-use Rattle.alp_top.specs.Statuses.{Kept, OnDone, OnWriteFault, OnCutShort, OnTaken, ended_by, IsBayFaultTold, IsHandedOver, IsPlayedOrMemory}
-use Rattle.alp_top.specs.Volumes.{pages_of, IsReturned, HasRunCause, IsBayTold, OnTakenBy, IsStartable, StartsOn}
+use Rattle.alp_top.specs.Statuses.{Kept, OnDone, OnWriteFault, OnCutShort, OnTaken, ended_by, folder_in, IsBayFaultTold, IsHandedOver, IsPlayedOrMemory}
+use Rattle.alp_top.specs.Volumes.{pages_of, IsReturned, HasRunCause, IsBayFault, OnTakenFor, IsStartable, StartsOn}
 use Rattle.alp_top.specs.declared.fault.RunFault.{RunFault}
 use Rattle.alp_top.specs.declared.fault.RunFault.TheVariants as fault
 use Rattle.alp_top.specs.declared.status.Status.{Status}
@@ -85,10 +88,10 @@ module _ {D : Type 0} {g : Ghosts D} where
       go (fault.Damaged place) p = (refl, p)
 
   -- where a disk was taken
-  pub taken_told : (T : Type 0) (s : Status D g) (f : RunFault) (P : Type 0) → s ≡ ended_by f → OnTakenBy {T = T} (Err f) P → OnTaken s P
-  taken_told T s f P is h = subst (λ (q : Status D g). OnTaken q P) (sym is) (go f h)
+  pub taken_told : (s : Status D g) (f : RunFault) (P : Type 0) → s ≡ ended_by f → OnTakenFor f P → OnTaken s P
+  taken_told s f P is h = subst (λ (q : Status D g). OnTaken q P) (sym is) (go f h)
     where
-      go : (f : RunFault) → OnTakenBy {T = T} (Err f) P → OnTaken (ended_by {D = D} {g = g} f) P
+      go : (f : RunFault) → OnTakenFor f P → OnTaken (ended_by {D = D} {g = g} f) P
       go fault.Bay h = inl refl
       go fault.Disk h = inr h
       go fault.OutOfMemory h = tt
@@ -109,10 +112,10 @@ module _ {D : Type 0} {g : Ghosts D} where
   handed_taken (status.Damaged server place) P h p = p
 
   -- a fault of the bay is told of the whole run
-  pub bay_told : (T : Type 0) (s : Status D g) (f : RunFault) (before now : ℕ) → s ≡ ended_by f → IsBayTold {T = T} (Err f) before now → IsBayFaultTold s before now
-  bay_told T s f before now is h = subst (λ (q : Status D g). IsBayFaultTold q before now) (sym is) (go f h)
+  pub bay_told : (s : Status D g) (f : RunFault) (before now : ℕ) → s ≡ ended_by f → IsBayFault f before now → IsBayFaultTold s before now
+  bay_told s f before now is h = subst (λ (q : Status D g). IsBayFaultTold q before now) (sym is) (go f h)
     where
-      go : (f : RunFault) → IsBayTold {T = T} (Err f) before now → IsBayFaultTold (ended_by {D = D} {g = g} f) before now
+      go : (f : RunFault) → IsBayFault f before now → IsBayFaultTold (ended_by {D = D} {g = g} f) before now
       go fault.Bay h = inl (refl, h)
       go fault.Disk h = inr (refl, h)
       go fault.OutOfMemory h = h
@@ -135,16 +138,18 @@ module _ {D : Type 0} {g : Ghosts D} where
 
 -- ---- the folder that the words name
 
--- an option is none where what is made of it is, and so is one that stands just where it does
-none_named : {X Y Z : Type 0} (f : X → Y) (o : Option X) (named : Option Y) (given : Option Z) → option_map f o ≡ named → named ≡ None → is_some given ≡ is_some o → given ≡ None
-none_named f None named None same none alike = refl
-none_named f None named (Some z) same none alike = cc
-none_named f (Some x) named given same none alike = let wrong : Some (f x) ≡ None = same ∙ none in cc
+pub named_folder : (words : List (List ℕ)) (c : Command) → IsNamedBy words c → folder_in c ≡ folder_named words
+named_folder words (command.Play folder) h = h
+
+-- an option is none where what is made of it is
+none_of : {X Y : Type 0} (f : X → Y) (o : Option X) → option_map f o ≡ None → o ≡ None
+none_of f None e = refl
+none_of f (Some x) e = cc
 
 -- the words name no folder, and so none is chosen, or the bay tells
-pub folder_told : {X Y Z : Type 0} (f : X → Y) (o : Option X) (named : Option Y) (given : Option Z) (T : Type 0) → option_map f o ≡ named → is_some given ≡ is_some o → (named ≡ None) ⊎ T → (given ≡ None) ⊎ T
-folder_told f o named given T same alike (inl none) = inl (none_named f o named given same none alike)
-folder_told f o named given T same alike (inr t) = inr t
+pub folder_told : {X Y : Type 0} (f : X → Y) (given : Option X) (named : Option Y) (T : Type 0) → option_map f given ≡ named → (named ≡ None) ⊎ T → (given ≡ None) ⊎ T
+folder_told f given named T same (inl none) = inl (none_of f given (same ∙ none))
+folder_told f given named T same (inr t) = inr t
 
 -- ---- where nothing fails the script is played
 

@@ -1,11 +1,14 @@
 -- How a run ended: its code, its text, and what holds where it ended so.
-use Rattle.std.specs.Prelude.{◌≡◌, ◌⊎◌, ℕ, Bool, true, false, IsTrue, List, [], ◌++◌, None, codes}
+use Rattle.std.specs.Prelude.{◌≡◌, ◌⊎◌, ℕ, Bool, true, false, IsTrue, List, [], ◌++◌, Option, None, codes, string_bytes}
+use Rattle.std.specs.Option.{option_map}
 use Rattle.std.specs.Fmt.{decimal}
 use Rattle.alp_base.specs.Causes.{Rose}
 use Rattle.alp_disk.specs.declared.disk.Disk.{Ghosts}
 use Rattle.alp_disk.specs.declared.fuse.Fuse.{Fuse}
 use Rattle.alp_store.specs.StoreStates.{StoreOf}
 use Rattle.alp_words.specs.Words.{folder_named}
+use Rattle.alp_words.specs.declared.command.Command.{Command}
+use Rattle.alp_words.specs.declared.command.Command.TheVariants as command
 use Rattle.alp_top.specs.Logs.{Log}
 use Rattle.alp_top.specs.declared.fault.RunFault.{RunFault}
 use Rattle.alp_top.specs.declared.fault.RunFault.TheVariants as fault
@@ -139,6 +142,10 @@ module _ {D : Type 0} {g : Ghosts D} where
   IsPlayedOrMemory (status.Done log) = Unit {0}
   IsPlayedOrMemory status.OutOfMemory = Unit {0}
   IsPlayedOrMemory _ = ⊥
+
+-- the folder of a command
+abbrev pub folder_in : Command → Option (List ℕ)
+folder_in (command.Play folder) = option_map string_bytes folder
 
 -- the words name no folder, or the bay tells what stands in it
 abbrev pub IsTold : List (List ℕ) → Bool → Type 0

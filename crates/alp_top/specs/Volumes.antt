@@ -131,12 +131,20 @@ pub record StartsOn {D : Type 0} (g : Ghosts D) (sizes : Sizes) (before after : 
   pub unfailed : (d e : D) → IsTaken g (before 1) (pages_of sizes) d → after 1 ≡ Some e → Rose (g.faults d) (g.faults e) → ⊥
 
 -- the bay's count of faults rose where a fault of it is told, and stayed in every other case
+abbrev pub IsBayFault : RunFault → ℕ → ℕ → Type 0
+IsBayFault fault.Bay before now = Rose before now
+IsBayFault f before now = now ≡ before
+
 abbrev pub IsBayTold : {T : Type 0} → Result T RunFault → ℕ → ℕ → Type 0
-IsBayTold (Err fault.Bay) before now = Rose before now
-IsBayTold r before now = now ≡ before
+IsBayTold (Ok x) before now = now ≡ before
+IsBayTold (Err f) before now = IsBayFault f before now
 
 -- where a disk was taken
+abbrev pub OnTakenFor : RunFault → Type 0 → Type 0
+OnTakenFor fault.Bay P = Unit {0}
+OnTakenFor fault.OutOfMemory P = Unit {0}
+OnTakenFor f P = P
+
 abbrev pub OnTakenBy : {T : Type 0} → Result T RunFault → Type 0 → Type 0
-OnTakenBy (Err fault.Bay) P = Unit {0}
-OnTakenBy (Err fault.OutOfMemory) P = Unit {0}
-OnTakenBy r P = P
+OnTakenBy (Ok x) P = P
+OnTakenBy (Err f) P = OnTakenFor f P

@@ -1,10 +1,11 @@
 //! A whole run, from the words of the program to the bytes of the report and the disk that is given back.
 ghost use Rattle.std.specs.Prelude.{◌≡◌, ℕ, false, take, map, string_bytes};
 ghost use Rattle.std.specs.Io.KnownBytes.{Appends};
+ghost use Rattle.std.specs.Option.{option_map};
 ghost use Rattle.alp_base.specs.Causes.{Rose};
 ghost use Rattle.alp_script.specs.Reading.{GaveBadLine, GaveGoodLines, SaysScript};
 ghost use Rattle.alp_top.specs.Headline.{IsPlayed, IsCutOff, HasCause, StartsHere};
-ghost use Rattle.alp_top.specs.Statuses.{AreWordsTold, IsTold, OnDone, OnBadWords, OnBadScript, OnReadFault, OnWriteFault, OnCutShort, OnTaken, OnUntaken, IsReadFaultTold, IsWriteFaultTold, IsBayFaultTold, OnUnwritten, IsPlayedOrMemory, IsHandedOver};
+ghost use Rattle.alp_top.specs.Statuses.{AreWordsTold, IsTold, OnDone, OnBadWords, OnBadScript, OnReadFault, OnWriteFault, OnCutShort, OnTaken, OnUntaken, folder_in, IsReadFaultTold, IsWriteFaultTold, IsBayFaultTold, OnUnwritten, IsPlayedOrMemory, IsHandedOver};
 ghost use Rattle.alp_words.specs.Words.{are_bad, folder_named};
 
 use crate::bay::run_bay;
@@ -20,6 +21,15 @@ use alp_vault::Vault;
 use alp_words::{Command, WordsFault, read_command};
 use std::alloc::Global;
 use std::snapshot::Snapshot;
+
+// The folder that a command names.
+fn folder_of(command: &Command) -> Option<&str>
+    ensures { option_map (λ name. name.now) result ≡ folder_in command.now }
+{
+    match command {
+        Command::Play { folder } => folder.as_deref(),
+    }
+}
 
 // Writes the report of a run that is over.
 fn hand_over<D: Disk, K: Sink>(ended: &Ended<Store<Fuse<D>>>, out: &mut K) -> Status<D>
@@ -73,8 +83,8 @@ pub fn run_alpine<S: Source, K: Sink, B: Bay>(
     // Nothing is written but the report.
     ensures unwritten { OnUnwritten result (out.new ≡ out.old) }
 {
-    let folder = match read_command(alloc, words) {
-        Ok(Command::Play { folder }) => folder,
+    let command = match read_command(alloc, words) {
+        Ok(command) => command,
         Err(WordsFault::Bad) => return Status::BadWords,
         Err(WordsFault::OutOfMemory) => return Status::OutOfMemory,
     };
@@ -85,7 +95,7 @@ pub fn run_alpine<S: Source, K: Sink, B: Bay>(
         Err(ScriptFault::OutOfMemory) => return Status::OutOfMemory,
     };
     accepted_lines();
-    match run_bay(alloc, &lines, folder.as_deref(), bay) {
+    match run_bay(alloc, &lines, folder_of(&command), bay) {
         Ok(ended) => hand_over(&ended, out),
         Err(fault) => ended_by(fault),
     }

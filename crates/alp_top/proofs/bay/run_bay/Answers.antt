@@ -90,16 +90,16 @@ returns-clause-cause g c asked =
 
 pub returns-in_err-choose-clause-cause : goal.returns-in_err-choose-clause-cause
 returns-in_err-choose-clause-cause g c asked =
-    bay_cause _ _ c.in_err-choose.field-0.0 c.in_err-choose.ensures.cause c.from_residual-in_err-choose.result c.from_residual-in_err-choose.ensures.0 c.from_residual-in_err-choose.ensures.1 g.B.Device.Disk (sizes_said c.args.lines.now 1) _ _
+    bay_cause _ _ c.in_err-choose.field-0.0 c.in_err-choose.ensures.cause c.from_residual.result c.from_residual.ensures.0 c.from_residual.ensures.1 g.B.Device.Disk (sizes_said c.args.lines.now 1) _ _
     c.choose.ensures.places
 
 pub returns-in_err-choose-clause-chosen : goal.returns-in_err-choose-clause-chosen
 returns-in_err-choose-clause-chosen g c =
-    bay_untaken _ _ c.in_err-choose.field-0.0 c.in_err-choose.ensures.cause c.from_residual-in_err-choose.result c.from_residual-in_err-choose.ensures.0 c.from_residual-in_err-choose.ensures.1 _
+    bay_untaken _ _ c.in_err-choose.field-0.0 c.in_err-choose.ensures.cause c.from_residual.result c.from_residual.ensures.0 c.from_residual.ensures.1 _
 
 pub returns-in_err-choose-clause-bay : goal.returns-in_err-choose-clause-bay
 returns-in_err-choose-clause-bay g c =
-    bay_told _ _ c.in_err-choose.field-0.0 c.in_err-choose.ensures.cause c.from_residual-in_err-choose.result c.from_residual-in_err-choose.ensures.0 c.from_residual-in_err-choose.ensures.1
+    bay_told _ _ c.in_err-choose.field-0.0 c.in_err-choose.ensures.cause c.from_residual.result c.from_residual.ensures.0 c.from_residual.ensures.1
 
 -- ---- the disk was taken
 

@@ -1,26 +1,25 @@
-use Rattle.std.specs.Prelude.{Option, None, Err, map as list_map, string_bytes}
-use Rattle.std.specs.Option.{option_map}
-use Rattle.std.proofs.Common.{◌≡◌, ℕ, List, inl, inr, ◌⊎◌, sym, ◌∙◌, subst}
+use Rattle.std.specs.Prelude.{Option, map as list_map, string_bytes}
+use Rattle.std.proofs.Common.{◌≡◌, ℕ, List, sym, ◌∙◌, subst}
 use Rattle.alp_script.specs.Accepted.{IsAccepted}
 use Rattle.alp_script.specs.Reading.{GaveScript}
 use Rattle.alp_script.specs.Volumes.{sizes_said}
 use Rattle.alp_script.specs.declared.numbered.NumberedLine.{NumberedLine}
 use Rattle.alp_words.specs.Words.{folder_named}
 use Rattle.alp_top.specs.Headline.{HasCause}
-use Rattle.alp_top.specs.Volumes.{OnTakenBy}
-use Rattle.alp_top.proofs.PlayedLemmas.{is_played, is_cut_off, done_then, cut_then, caused, taken_told, handed_taken, bay_told, handed_told, folder_told, plays_on}
+use Rattle.alp_top.specs.Volumes.{OnTakenFor}
+use Rattle.alp_top.proofs.PlayedLemmas.{is_played, is_cut_off, done_then, cut_then, caused, taken_told, handed_taken, bay_told, handed_told, named_folder, folder_told, plays_on}
 use Rattle.alp_top.proofs.run.run_alpine.Goals as goal
 
 pub run_bay-requires-clause-accepted : goal.run_bay-requires-clause-accepted
 run_bay-requires-clause-accepted g c κs within =
-    let script = c.in-Ok.ensures.script in
-    subst (λ (ls : List NumberedLine). IsAccepted ls) (sym c.deref.ensures.value) (c.accepted_lines.ensures script.bytes c.in-Ok.lines.items script.said)
+    let script = c.in-Ok-read_script.ensures.script in
+    subst (λ (ls : List NumberedLine). IsAccepted ls) (sym c.deref.ensures.value) (c.accepted_lines.ensures script.bytes c.in-Ok-read_script.lines.items script.said)
 
 pub returns-in-Ok-run_bay-clause-headline : goal.returns-in-Ok-run_bay-clause-headline
 returns-in-Ok-run_bay-clause-headline g c told =
     let lines : List NumberedLine = c.deref.result.now in
-    let script : GaveScript (g.S.Source.left c.args.script.now) (g.S.Source.left c.read_script.new.source) lines = subst (GaveScript _ _) (sym c.deref.ensures.value) c.in-Ok.ensures.script in
-    let asked = folder_told string_bytes c.in-Ok-Play.folder _ c.as_deref.result _ c.in-Ok-Play.ensures.named c.as_deref.ensures.variant told in
+    let script : GaveScript (g.S.Source.left c.args.script.now) (g.S.Source.left c.read_script.new.source) lines = subst (GaveScript _ _) (sym c.deref.ensures.value) c.in-Ok-read_script.ensures.script in
+    let asked = folder_told (λ name. name.now) c.folder_of.result _ _ (c.folder_of.ensures ∙ named_folder _ c.in-Ok.command c.in-Ok.ensures.named) told in
     done_then c.hand_over.result _ _
     (λ log h. is_played _ g.B.Device.Disk _ _ _ _ _ _ lines c.in-Ok-run_bay.ended.log c.in-Ok-run_bay.ended.text.items script (c.in-Ok-run_bay.ensures.ran asked) log h.0 h.1)
     c.hand_over.ensures.done
@@ -28,8 +27,8 @@ returns-in-Ok-run_bay-clause-headline g c told =
 pub returns-in-Ok-run_bay-clause-cut_off : goal.returns-in-Ok-run_bay-clause-cut_off
 returns-in-Ok-run_bay-clause-cut_off g c told =
     let lines : List NumberedLine = c.deref.result.now in
-    let script : GaveScript (g.S.Source.left c.args.script.now) (g.S.Source.left c.read_script.new.source) lines = subst (GaveScript _ _) (sym c.deref.ensures.value) c.in-Ok.ensures.script in
-    let asked = folder_told string_bytes c.in-Ok-Play.folder _ c.as_deref.result _ c.in-Ok-Play.ensures.named c.as_deref.ensures.variant told in
+    let script : GaveScript (g.S.Source.left c.args.script.now) (g.S.Source.left c.read_script.new.source) lines = subst (GaveScript _ _) (sym c.deref.ensures.value) c.in-Ok-read_script.ensures.script in
+    let asked = folder_told (λ name. name.now) c.folder_of.result _ _ (c.folder_of.ensures ∙ named_folder _ c.in-Ok.command c.in-Ok.ensures.named) told in
     cut_then c.hand_over.result _ _
     (λ log h. is_cut_off _ g.B.Device.Disk _ _ _ _ _ _ lines c.in-Ok-run_bay.ended.log c.in-Ok-run_bay.ended.text.items script (c.in-Ok-run_bay.ensures.ran asked) log h.0 h.1 h.2)
     c.hand_over.ensures.cut_off
@@ -38,25 +37,25 @@ pub returns-in-Ok-run_bay-clause-bay : goal.returns-in-Ok-run_bay-clause-bay
 returns-in-Ok-run_bay-clause-bay g c = handed_told c.hand_over.result _ _ c.hand_over.ensures.played c.in-Ok-run_bay.ensures.bay
 
 pub returns-in-Ok-run_bay-clause-folder : goal.returns-in-Ok-run_bay-clause-folder
-returns-in-Ok-run_bay-clause-folder g c = handed_taken c.hand_over.result _ c.hand_over.ensures.played (c.in-Ok-run_bay.ensures.chosen ∙ c.as_deref.ensures.value ∙ c.in-Ok-Play.ensures.named)
+returns-in-Ok-run_bay-clause-folder g c = handed_taken c.hand_over.result _ c.hand_over.ensures.played (c.in-Ok-run_bay.ensures.chosen ∙ c.folder_of.ensures ∙ named_folder _ c.in-Ok.command c.in-Ok.ensures.named)
 
 pub returns-clause-bay : goal.returns-clause-bay
-returns-clause-bay g c = bay_told _ c.ended_by.result c.in-Err.fault _ _ c.ended_by.ensures c.in-Err.ensures.bay
+returns-clause-bay g c = bay_told c.ended_by.result c.in-Err.fault _ _ c.ended_by.ensures c.in-Err.ensures.bay
 
 pub returns-clause-folder : goal.returns-clause-folder
 returns-clause-folder g c =
     let named : Option (List ℕ) = folder_named (list_map string_bytes c.args.words.now) in
-    taken_told _ c.ended_by.result c.in-Err.fault (g.B.Bay.chosen c.run_bay.new.bay ≡ named) c.ended_by.ensures
-    (subst (λ (o : Option (List ℕ)). OnTakenBy (Err c.in-Err.fault) (g.B.Bay.chosen c.run_bay.new.bay ≡ o)) (c.as_deref.ensures.value ∙ c.in-Ok-Play.ensures.named) c.in-Err.ensures.chosen)
+    taken_told c.ended_by.result c.in-Err.fault (g.B.Bay.chosen c.run_bay.new.bay ≡ named) c.ended_by.ensures
+    (subst (λ (o : Option (List ℕ)). OnTakenFor c.in-Err.fault (g.B.Bay.chosen c.run_bay.new.bay ≡ o)) (c.folder_of.ensures ∙ named_folder _ c.in-Ok.command c.in-Ok.ensures.named) c.in-Err.ensures.chosen)
 
 pub returns-clause-disk : goal.returns-clause-disk
 returns-clause-disk g c told =
-    let script : GaveScript (g.S.Source.left c.args.script.now) (g.S.Source.left c.read_script.new.source) c.deref.result.now = subst (GaveScript _ _) (sym c.deref.ensures.value) c.in-Ok.ensures.script in
-    let asked = folder_told string_bytes c.in-Ok-Play.folder _ c.as_deref.result _ c.in-Ok-Play.ensures.named c.as_deref.ensures.variant told in
+    let script : GaveScript (g.S.Source.left c.args.script.now) (g.S.Source.left c.read_script.new.source) c.deref.result.now = subst (GaveScript _ _) (sym c.deref.ensures.value) c.in-Ok-read_script.ensures.script in
+    let asked = folder_told (λ name. name.now) c.folder_of.result _ _ (c.folder_of.ensures ∙ named_folder _ c.in-Ok.command c.in-Ok.ensures.named) told in
     caused c.ended_by.result c.in-Err.fault _ (HasCause g.B.Device.Disk _ _ _ _ _ _) c.ended_by.ensures (record { lines = c.deref.result.now; script = script; cause = c.in-Err.ensures.cause asked })
 
 pub returns-clause-complete : goal.returns-clause-complete
 returns-clause-complete g c good says source sink bay told starts =
-    let script : GaveScript (g.S.Source.left c.args.script.now) (g.S.Source.left c.read_script.new.source) c.deref.result.now = subst (GaveScript _ _) (sym c.deref.ensures.value) c.in-Ok.ensures.script in
-    let asked = folder_told string_bytes c.in-Ok-Play.folder _ c.as_deref.result _ c.in-Ok-Play.ensures.named c.as_deref.ensures.variant told in
+    let script : GaveScript (g.S.Source.left c.args.script.now) (g.S.Source.left c.read_script.new.source) c.deref.result.now = subst (GaveScript _ _) (sym c.deref.ensures.value) c.in-Ok-read_script.ensures.script in
+    let asked = folder_told (λ name. name.now) c.folder_of.result _ _ (c.folder_of.ensures ∙ named_folder _ c.in-Ok.command c.in-Ok.ensures.named) told in
     plays_on (sizes_said c.deref.result.now 1) _ _ (starts c.deref.result.now script) c.ended_by.result c.in-Err.fault _ _ c.ended_by.ensures (c.in-Err.ensures.cause asked) bay
