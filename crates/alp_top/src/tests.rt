@@ -329,7 +329,7 @@ fn refuses_what_has_no_room(rt: HostRuntime) -> Result<(), Fail> {
     assert_eq!(rt; full.code, 0);
     assert_eq!(rt;
         last_answer(full.written.as_slice()),
-        b"refused 13 left 0 asked 1"
+        b"refused 13 left 0 asked 1".as_slice()
     );
     Ok(())
 }
