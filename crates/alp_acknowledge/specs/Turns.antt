@@ -12,11 +12,11 @@ HasComeTo last (Some w) = w.last ≡ last
 
 -- The server is up, and the client's session there has the epoch and the last number that the client knows. No time that the
 -- client was told is later than the server's clock.
-pub record IsTold {V : Type 0} (epoch last told : ℕ) (n : NodeState V) : Type 0 where
+pub record IsTold {V : Type 0} (here last seen : ℕ) (n : NodeState V) : Type 0 where
   pub up : n.kept.is_down ≡ false
-  pub epoch : epoch ≡ n.kept.epoch
+  pub epoch : here ≡ n.kept.epoch
   pub session : HasComeTo last (session_at n.kept.sessions 1)
-  pub told : told ≤ n.kept.clock
+  pub told : seen ≤ n.kept.clock
 
 abbrev pub InStep : {V : Type 0} → Caller V → Type 0
 InStep c = IsTold c.epoch c.last c.told.ts c.node
