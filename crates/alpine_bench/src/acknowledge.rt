@@ -1,10 +1,13 @@
 //! Commits to the volume in a folder, each of which is printed once the server has told it.
+ghost use Rattle.std.specs.Prelude.{◌≤◌, IfOk};
+ghost use Rattle.alp_acknowledge.specs.Turns.{InStep};
+
 use crate::failed::Failed;
 use crate::server::start;
 use alp_acknowledge::{Caller, Ledger};
 use alp_base::{FileId, Sizes, Stamp};
 use alp_bay::{Bay, HostBay, HostDisk};
-use alp_disk::FileDisk;
+use alp_disk::{Disk, FileDisk};
 use alp_vault::Vault;
 use std::alloc::Global;
 use std::fs::{File, Files};
@@ -33,7 +36,9 @@ fn volume_in<R: Runtime + Files<File = File>>(
     rt: &R,
     alloc: Global,
     folder: &str,
-) -> Result<FileDisk, Failed> {
+) -> Result<FileDisk, Failed>
+    ensures { IfOk result (λ disk. 2 ≤ ⟦<FileDisk as Disk>⟧.size disk) }
+{
     let mut bay = HostBay::new(alloc, rt.clone()?)?;
     bay.choose(Some(folder))?;
     let disk = bay.take(SERVER, 2 + 2 * SIZES.area + SIZES.home)?;
@@ -79,7 +84,9 @@ fn commit_often<R: Runtime, V: Vault>(
     caller: &mut Caller<V>,
     ledger: Ledger,
     commits: u32,
-) -> Result<(), Failed> {
+) -> Result<(), Failed>
+    requires { InStep caller.old }
+{
     for round in 0..commits {
         let number = round + 1;
         let stamp = ledger.enter(caller, number)?;

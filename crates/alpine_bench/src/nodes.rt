@@ -1,4 +1,7 @@
 //! Transactions of a client through a server on a file of the host, beside writes of as many bytes that are synced.
+ghost use Rattle.std.specs.Prelude.{◌≤◌};
+ghost use Rattle.alp_acknowledge.specs.Turns.{InStep};
+
 use crate::failed::Failed;
 use crate::server::start;
 use alp_acknowledge::{Caller, Table};
@@ -65,7 +68,9 @@ fn change_often<C: Clock, V: Vault>(
     clock: &C,
     caller: &mut Caller<V>,
     plan: &Plan<'_>,
-) -> Result<u128, Failed> {
+) -> Result<u128, Failed>
+    requires { InStep caller.old }
+{
     let mut table = Table::make(caller)?;
     let start = Instant::now(clock)?;
     for round in 0..plan.commits {
@@ -101,7 +106,9 @@ fn append_rate<C: Clock>(
     alloc: Global,
     file: File,
     plan: &Plan<'_>,
-) -> Result<u128, Failed> {
+) -> Result<u128, Failed>
+    requires { plan.now.pages ≤ MOST_PAGES }
+{
     let whole = vec![in alloc; 1u8; 512 * APPENDED_PAGES as usize]?;
     append(&file, whole.as_slice(), 0)?;
     let bytes = vec![in alloc; 7u8; 512 * plan.pages as usize]?;
@@ -119,7 +126,9 @@ fn rates_on<R: Files<File = File> + Clock>(
     plan: &Plan<'_>,
     volume: &str,
     appended: &str,
-) -> Result<Rates, Failed> {
+) -> Result<Rates, Failed>
+    requires { plan.now.pages ≤ MOST_PAGES }
+{
     let appends = append_rate(rt, alloc, new_file(rt, appended)?, plan)?;
     let commits = commit_rate(rt, alloc, new_file(rt, volume)?, plan)?;
     let hundredths = hundredths(commits, appends).ok_or(Failed::Measure(Trouble::NoTime))?;
@@ -136,6 +145,9 @@ pub(crate) fn measure<R: Files<File = File> + Clock>(
     alloc: Global,
     plan: &Plan<'_>,
 ) -> Result<Rates, Failed> {
+    if MOST_PAGES < plan.pages {
+        return Err(Failed::Measure(Trouble::Words));
+    }
     let folder = plan.folder;
     let volume = format!(in alloc; "{folder}/alpine_bench-volume")?;
     let appended = format!(in alloc; "{folder}/alpine_bench-appended")?;
