@@ -6,7 +6,9 @@ use Rattle.alp_files.specs.declared.call.Call.TheVariants as call
 use Rattle.alp_files.specs.declared.reply.Reply.{Reply}
 use Rattle.alp_files.specs.declared.reply.Reply.TheVariants as reply
 use Rattle.alp_journal.specs.declared.event.Event.TheVariants as event
+use Rattle.alp_vault.specs.declared.vault.Vault.{Ghosts}
 use Rattle.alp_node.specs.NodeStates.{NodeState}
+use Rattle.alp_node.specs.Nodes.{IsConsistent}
 use Rattle.alp_node.specs.Served.{IsServed, IsTurnCall, IsNextOf}
 use Rattle.alp_node.specs.ServerState.{IsReady}
 use Rattle.alp_node.specs.Sessions.{session_at, with_session}
@@ -42,6 +44,18 @@ turned_on epoch client number c (Some r) old new own h = (r, refl, h)
 -- a session that was set has come to its number
 pub come_to : (old new : Sessions) (w : Session) → length old.places ≡ 17 → new ≡ with_session old 1 w → HasComeTo w.last (session_at new 1)
 come_to old new w long is = subst (λ (s : Sessions). HasComeTo w.last (session_at s 1)) (sym is) (subst (HasComeTo w.last) (sym (session_kept old 1 w 1 long arith)) refl)
+
+-- the client's next call is served
+pub call_served : {V : Type 0} (n : NodeState V) (here last seen : ℕ) (c : Call) → IsTold here last seen n → IsTurnCall c → IsServed n.kept (event.Call 1 here (last + 1) c)
+call_served n here last seen c is own = turn_served n.kept 1 here (last + 1) c arith own (next_of (session_at n.kept.sessions 1) n.kept.epoch here last is.epoch is.session)
+
+-- it has asked no more often than the server made entries
+pub few_asked : {V : Type 0} (G : Ghosts V) (n : NodeState V) (here last seen : ℕ) → IsTold here last seen n → IsConsistent G n → last ≤ length n.journal
+few_asked G n here last seen is k = at_most (session_at n.kept.sessions 1) last (length n.journal) is.session (λ w e. k.ready.calls 1 w e)
+
+-- and what it saw is a time
+pub seen_time : {V : Type 0} (G : Ghosts V) (n : NodeState V) (here last seen : ℕ) → IsTold here last seen n → IsConsistent G n → seen ≤ 2 ^ 62
+seen_time G n here last seen is k = let at : seen ≤ n.kept.clock = is.told in let low : n.kept.clock ≤ 2 ^ 62 = k.ready.clock in omega (arith, at, low)
 
 module _ {V : Type 0} (old new : NodeState V) where
   -- behind its next call the client is in step
