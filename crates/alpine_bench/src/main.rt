@@ -1,13 +1,19 @@
-//! The program `alpine_bench`: how fast the monitor, the lock table, the frames, the volume and the log are on this machine.
+//! The program `alpine_bench`: how fast the monitor, the lock table, the frames, the volume, the log and a server are on this
+//! machine, and commits that are acknowledged, for a test that kills it.
 #![tactic(auto)]
 
+mod acknowledge;
+mod failed;
 mod frames;
 mod locks;
 mod monitor;
+mod nodes;
+mod server;
 mod words;
 
 use alp_measures::rates::Trouble;
 use alp_measures::{checkpoints, commits, stores, volumes};
+use failed::Failed;
 use std::alloc::Global;
 use std::fs::{File, Files};
 use std::process::ExitCode;
@@ -32,11 +38,11 @@ fn said<R: Runtime>(rt: &R, alloc: Global) -> Result<Vec<String<R::A>>, Trouble>
 fn run<R: Runtime + Files<File = File> + Threads + Wait + Sync>(
     rt: &R,
     alloc: Global,
-) -> Result<(), Trouble> {
+) -> Result<(), Failed> {
     let words = said(rt, alloc)?;
     let shown: Vec<&str> = words.iter().map(|word| word.as_str()).collect(alloc)?;
     match read_words(shown.as_slice()) {
-        None => Err(Trouble::Words),
+        None => Err(Failed::Measure(Trouble::Words)),
         Some(Command::Usage) => Ok(print!(rt; "{USAGE}")?),
         Some(Command::Monitor { threads }) => {
             let rates = monitor::measure(rt, alloc, threads)?;
@@ -82,18 +88,23 @@ fn run<R: Runtime + Files<File = File> + Threads + Wait + Sync>(
             let rates = stores::measure(rt, alloc, &plan)?;
             Ok(print!(rt; "{rates}")?)
         }
+        Some(Command::Node { plan }) => {
+            let rates = nodes::measure(rt, alloc, &plan)?;
+            Ok(print!(rt; "{rates}")?)
+        }
+        Some(Command::Acknowledge { plan }) => acknowledge::commit(rt, alloc, &plan),
     }
 }
 
 fn main(rt: HostRuntime) -> ExitCode {
     match run(&rt, rt.alloc()) {
         Ok(()) => ExitCode::SUCCESS,
-        Err(Trouble::Words) => {
+        Err(Failed::Measure(Trouble::Words)) => {
             let _ = eprint!(rt; "{USAGE}");
             ExitCode::from(1)
         }
-        Err(trouble) => {
-            let _ = eprint!(rt; "{trouble}");
+        Err(failed) => {
+            let _ = eprint!(rt; "{failed}");
             ExitCode::from(1)
         }
     }

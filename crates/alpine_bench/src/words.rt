@@ -1,4 +1,5 @@
 //! What the words of a call ask for.
+use crate::{acknowledge, nodes};
 use alp_measures::{commits, stores};
 
 pub(crate) const USAGE: &str = "\
@@ -22,6 +23,14 @@ usage: alpine_bench COMMAND
                    a new volume in a file in FOLDER, beside appends of as many pages to another file,
                    each with a sync; fetches a second of pages in memory, and the time of a copy out of
                    a page buffer beside a plain one
+  node FOLDER COUNT PAGES
+                   transactions of one client of a server on a new volume in a file in FOLDER, each of
+                   which writes PAGES random pages (1 to 16) of 4096, COUNT of them (1 to 3000), a second,
+                   beside appends of as many bytes to a file that is as long before, each with a sync
+  acknowledge FOLDER COUNT
+                   commits COUNT transactions (1 to 10000) to the volume in FOLDER, server1.vol, which is
+                   made where there is none, and prints each with its stamp once the server has told it;
+                   bench/kill.sh kills it, and looks for what was printed
 ";
 
 // How many threads may be asked for.
@@ -33,6 +42,9 @@ const MOST_COMMITS: u32 = 227;
 // How many commits to a store may be asked for, which makes checkpoints as it needs them.
 const MOST_STORED: u32 = 100000;
 
+// How many transactions may be acknowledged: so many have room in the journal of a server.
+const MOST_ACKNOWLEDGED: u32 = 10000;
+
 #[derive(Drop)]
 pub(crate) enum Command<'a> {
     Usage,
@@ -43,6 +55,8 @@ pub(crate) enum Command<'a> {
     Volume,
     Log { plan: commits::Plan<'a> },
     Store { plan: stores::Plan<'a> },
+    Node { plan: nodes::Plan<'a> },
+    Acknowledge { plan: acknowledge::Plan<'a> },
 }
 
 /// The command that the words after the program's name are, if they are one.
@@ -87,6 +101,32 @@ pub(crate) fn read_words<'a>(words: &[&'a str]) -> Option<Command<'a>> {
                     commits,
                     pages,
                 },
+            })
+        }
+        ["node", folder, count, pages] => {
+            let commits = count.parse().ok()?;
+            let pages = pages.parse().ok()?;
+            if commits == 0 || nodes::MOST_COMMITS < commits {
+                return None;
+            }
+            if pages == 0 || nodes::MOST_PAGES < pages {
+                return None;
+            }
+            Some(Command::Node {
+                plan: nodes::Plan {
+                    folder,
+                    commits,
+                    pages,
+                },
+            })
+        }
+        ["acknowledge", folder, count] => {
+            let commits = count.parse().ok()?;
+            if commits == 0 || MOST_ACKNOWLEDGED < commits {
+                return None;
+            }
+            Some(Command::Acknowledge {
+                plan: acknowledge::Plan { folder, commits },
             })
         }
         _ => None,
