@@ -1,4 +1,6 @@
 -- a client and its server go on in step
+use Rattle.alp_base.specs.declared.lists.TheConstants.{PAGES_PER_FILE}
+use Rattle.alp_files.specs.Locks.{page_limit}
 use Rattle.std.specs.Prelude.{false, true, Option, None, Some, IfSome, cond, ◌==◌}
 use Rattle.std.proofs.Common.{◌≡◌, ℕ, List, ◌+◌, ◌<◌, ◌≤◌, ◌^◌, length, refl, sym, ◌∙◌, ap, subst, arith}
 use Rattle.alp_files.specs.declared.call.Call.{Call}
@@ -41,13 +43,18 @@ turned_on epoch client number c None old new own h = absurd h
 turned_on epoch client number (call.Hello name) (Some r) old new own h = absurd own
 turned_on epoch client number c (Some r) old new own h = (r, refl, h)
 
+-- sizes up to that of the largest file are numbers of pages
+pub small_size : (size : ℕ) → size ≤ PAGES_PER_FILE → size < page_limit
+unfolding page_limit
+small_size size h = omega (arith, h)
+
 -- a session that was set has come to its number
 pub come_to : (old new : Sessions) (w : Session) → length old.places ≡ 17 → new ≡ with_session old 1 w → HasComeTo w.last (session_at new 1)
-come_to old new w long is = subst (λ (s : Sessions). HasComeTo w.last (session_at s 1)) (sym is) (subst (HasComeTo w.last) (sym (session_kept old 1 w 1 long arith)) refl)
+come_to old new w long is = subst (λ (s : Sessions). HasComeTo w.last (session_at s 1)) (sym is) (subst (HasComeTo w.last) (sym (session_kept old 1 w 1 long (omega arith))) refl)
 
 -- the client's next call is served
 pub call_served : {V : Type 0} (n : NodeState V) (here last seen : ℕ) (c : Call) → IsTold here last seen n → IsTurnCall c → IsServed n.kept (event.Call 1 here (last + 1) c)
-call_served n here last seen c is own = turn_served n.kept 1 here (last + 1) c arith own (next_of (session_at n.kept.sessions 1) n.kept.epoch here last is.epoch is.session)
+call_served n here last seen c is own = turn_served n.kept 1 here (last + 1) c (omega arith) own (next_of (session_at n.kept.sessions 1) n.kept.epoch here last is.epoch is.session)
 
 -- it has asked no more often than the server made entries
 pub few_asked : {V : Type 0} (G : Ghosts V) (n : NodeState V) (here last seen : ℕ) → IsTold here last seen n → IsConsistent G n → last ≤ length n.journal

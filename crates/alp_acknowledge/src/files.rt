@@ -1,5 +1,6 @@
 //! What the client asks of files and their owner.
-ghost use Rattle.std.specs.Prelude.{◌≡◌, ◌<◌, ◌^◌, OnOk, IfOk};
+ghost use Rattle.std.specs.Prelude.{◌≡◌, ◌<◌, ◌≤◌, ◌^◌, OnOk, IfOk};
+ghost use Rattle.alp_base.specs.declared.lists.TheConstants.{PAGES_PER_FILE};
 ghost use Rattle.alp_acknowledge.specs.Turns.{InStep};
 
 use crate::ServeFault;
@@ -75,7 +76,8 @@ pub(crate) fn create<V: Vault>(
     trans: TransId,
     size: u32,
 ) -> Result<Opened, ServeFault>
-    requires { InStep caller.old }
+    requires step { InStep caller.old }
+    requires size { size ≤ PAGES_PER_FILE }
     ensures { OnOk result (InStep caller.new) }
 {
     let start = new_props(caller.alloc, size)?;
