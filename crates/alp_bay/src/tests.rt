@@ -85,14 +85,16 @@ fn a_folder_keeps_its_volumes(rt: HostRuntime) -> Result<(), Fail> {
     let mut disk = second.take(1, 9).ok().ok_or("the disk again")?;
     let byte = last_of(&mut disk).ok().ok_or("a read")?;
     let refused = bay.take(1, 4).err();
+    drop(disk);
+    let third = bay.take(3, 5).ok().ok_or("a disk of another server")?;
     let odd = File::create(&rt, path.join(rt.alloc(), "server2.vol")?.as_path())?;
     odd.set_len(1025)?;
     let uneven = bay.take(2, 4).err();
-    drop(disk);
     fs::remove_dir_all(&rt, path.as_path())?;
     assert_eq!(rt; again, (7, 4));
     assert_eq!(rt; byte, 7);
     assert_eq!(rt; refused, Some(BayFault::Failed));
+    assert_eq!(rt; third.pages(), 5);
     assert_eq!(rt; uneven, Some(BayFault::Failed));
     Ok(())
 }

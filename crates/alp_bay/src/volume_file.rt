@@ -1,9 +1,11 @@
 //! The file of a server's volume in a folder.
-ghost use Rattle.std.specs.Prelude.{◌≤◌, IfOk, IfSome};
+ghost use Rattle.std.specs.Prelude.{◌≡◌, ◌≤◌, ◌++◌, codes, IfOk, IfSome, string_bytes};
+ghost use Rattle.std.specs.Fmt.{decimal};
 
 use alp_base::OutOfMemory;
 use alp_disk::{Disk, FileDisk};
 use std::alloc::Global;
+use std::fmt::Write;
 use std::fs::{File, Files, OpenOptions, TryLockError};
 use std::io;
 
@@ -44,9 +46,14 @@ impl From<TryLockError> for FileFault {
 }
 
 // Where the volume of a server stands.
-fn path_of(alloc: Global, folder: &str, server: u8) -> Result<String, OutOfMemory> {
-    let path = format!(in alloc; "{folder}/server{server}.vol")?;
-    Ok(path)
+fn path_of(alloc: Global, folder: &str, server: u8) -> Result<String, OutOfMemory>
+    ensures { IfOk result (λ path. string_bytes path ≡ folder.now ++ codes "/server" ++ decimal server ++ codes ".vol") }
+{
+    let mut path = String::new(alloc);
+    match write!(path, "{folder}/server{server}.vol") {
+        Ok(()) => Ok(path),
+        Err(_) => Err(OutOfMemory),
+    }
 }
 
 // The file of a volume, which is made where it is missing, and which no other program has.
