@@ -1,5 +1,5 @@
 //! The file of a server's volume in a folder.
-ghost use Rattle.std.specs.Prelude.{◌≡◌, ◌≤◌, ◌++◌, codes, IfOk, IfSome, string_bytes};
+ghost use Rattle.std.specs.Prelude.{◌≡◌, ◌≢◌, ℕ, ◌*◌, ◌^◌, ◌≤◌, ◌<◌, ◌++◌, codes, IfOk, IfSome, IfNone, string_bytes};
 ghost use Rattle.std.specs.Fmt.{decimal};
 
 use alp_base::OutOfMemory;
@@ -78,9 +78,10 @@ fn make_whole<R: Files<File = File>>(
     Ok(())
 }
 
-// How many pages a file of that length has.
+// How many pages a file of that length has, if it can be a disk.
 fn pages_in(bytes: u64) -> Option<u32>
-    ensures { IfSome result (λ pages. 2 ≤ pages) }
+    ensures exact { IfSome result (λ pages. (bytes ≡ 512 * pages) × (2 ≤ pages)) }
+    ensures none { IfNone result ((pages : ℕ) → 2 ≤ pages → pages < 2 ^ 32 → bytes ≢ 512 * pages) }
 {
     let pages = bytes / PAGE_BYTES;
     if bytes % PAGE_BYTES != 0 || pages < FEWEST_PAGES {
@@ -99,7 +100,8 @@ pub fn open_volume<R: Files<File = File>>(
     pages: u32,
 ) -> Result<FileDisk, FileFault>
     requires { 2 ≤ pages }
-    ensures { IfOk result (λ disk. 2 ≤ ⟦<FileDisk as Disk>⟧.size disk) }
+    ensures long { IfOk result (λ disk. 2 ≤ ⟦<FileDisk as Disk>⟧.size disk) }
+    ensures unfailed { IfOk result (λ disk. ⟦<FileDisk as Disk>⟧.faults disk ≡ 0) }
 {
     let path = path_of(alloc, folder, server)?;
     let file = open_alone(files, path.as_str())?;
