@@ -4,7 +4,7 @@ ghost use Rattle.alp_disk.specs.MemDisk.{page_count};
 
 use crate::{Bay, BayFault};
 use alp_base::OutOfMemory;
-use alp_disk::MemDisk;
+use alp_disk::{Disk, MemDisk};
 use std::alloc::Global;
 
 // A disk of two pages or more.
@@ -53,7 +53,9 @@ impl MemBay {
 }
 
 impl Bay for MemBay {
-    ghost use Rattle.alp_bay.specs.Bays.{folder_name, no_faults};
+    ghost use Rattle.std.specs.Prelude.{[], OnOk, OnErr};
+    ghost use Rattle.alp_disk.specs.MemDisk.{fails_of};
+    ghost use Rattle.alp_bay.specs.Bays.{folder_name, no_faults, HasBayCause, IsTaken, IsEmptied};
     ghost use Rattle.alp_bay.specs.MemBays.{disk_at};
 
     type Device = MemDisk;
@@ -78,7 +80,19 @@ impl Bay for MemBay {
         Ok(())
     }
 
-    fn take(&mut self, server: u8, pages: u32) -> Result<MemDisk, BayFault> {
+    fn take(&mut self, server: u8, pages: u32) -> Result<MemDisk, BayFault>
+        requires server { (1 ≤ server) × (server ≤ 8) }
+        requires pages { 2 ≤ pages }
+        ensures taken { IfOk result (IsTaken ⟦<MemDisk as Disk>⟧ (disk_at self.old server) pages) }
+        ensures emptied { OnOk result (IsEmptied (disk_at self.old) (disk_at self.new) server) }
+        ensures refused { OnErr result (disk_at self.new ≡ disk_at self.old) }
+        ensures long { IfOk result (λ disk. 2 ≤ page_count disk) }
+        ensures chosen { self.new.folder ≡ self.old.folder }
+        ensures cause { HasBayCause 0 0 result }
+
+        // No call of a new disk is to fail.
+        ensures sound { disk_at self.old server ≡ None → IfOk result (λ disk. fails_of disk ≡ []) }
+    {
         match self.places[server as usize].take() {
             Some(standing) => Ok(standing.disk),
             None => Ok(MemDisk::new(self.alloc, pages, Vec::new(self.alloc))?),
