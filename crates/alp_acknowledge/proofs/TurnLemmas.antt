@@ -19,7 +19,7 @@ use Rattle.alp_node.specs.declared.server_state.ServerState.{ServerState}
 use Rattle.alp_node.specs.declared.sessions.Session.{Session}
 use Rattle.alp_node.specs.declared.sessions.Sessions.{Sessions}
 use Rattle.alp_node.proofs.MapLemmas.{session_kept}
-use Rattle.alp_acknowledge.specs.Turns.{HasComeTo, IsTold}
+use Rattle.alp_acknowledge.specs.Turns.{HasComeTo, KnowsSession}
 
 -- in its turn a call of a session is served
 pub turn_served : {V : Type 0} (k : ServerState V) (who epoch number : ℕ) (asked : Call) → who ≤ 16 → IsTurnCall asked → IsNextOf (session_at k.sessions who) k.epoch epoch number
@@ -53,21 +53,21 @@ pub come_to : (old new : Sessions) (w : Session) → length old.places ≡ 17 �
 come_to old new w long is = subst (λ (s : Sessions). HasComeTo w.last (session_at s 1)) (sym is) (subst (HasComeTo w.last) (sym (session_kept old 1 w 1 long (omega arith))) refl)
 
 -- the client's next call is served
-pub call_served : {V : Type 0} (n : NodeState V) (here last seen : ℕ) (c : Call) → IsTold here last seen n → IsTurnCall c → IsServed n.kept (event.Call 1 here (last + 1) c)
+pub call_served : {V : Type 0} (n : NodeState V) (here last seen : ℕ) (c : Call) → KnowsSession here last seen n → IsTurnCall c → IsServed n.kept (event.Call 1 here (last + 1) c)
 call_served n here last seen c is own = turn_served n.kept 1 here (last + 1) c (omega arith) own (next_of (session_at n.kept.sessions 1) n.kept.epoch here last is.epoch is.session)
 
 -- it has asked no more often than the server made entries
-pub few_asked : {V : Type 0} (G : Ghosts V) (n : NodeState V) (here last seen : ℕ) → IsTold here last seen n → IsConsistent G n → last ≤ length n.journal
+pub few_asked : {V : Type 0} (G : Ghosts V) (n : NodeState V) (here last seen : ℕ) → KnowsSession here last seen n → IsConsistent G n → last ≤ length n.journal
 few_asked G n here last seen is k = at_most (session_at n.kept.sessions 1) last (length n.journal) is.session (λ w e. k.ready.calls 1 w e)
 
 -- and what it saw is a time
-pub seen_time : {V : Type 0} (G : Ghosts V) (n : NodeState V) (here last seen : ℕ) → IsTold here last seen n → IsConsistent G n → seen ≤ 2 ^ 62
+pub seen_time : {V : Type 0} (G : Ghosts V) (n : NodeState V) (here last seen : ℕ) → KnowsSession here last seen n → IsConsistent G n → seen ≤ 2 ^ 62
 seen_time G n here last seen is k = let at : seen ≤ n.kept.clock = is.told in let low : n.kept.clock ≤ 2 ^ 62 = k.ready.clock in omega (arith, at, low)
 
 module _ {V : Type 0} (old new : NodeState V) where
   -- behind its next call the client is in step
-  pub in_step : (epoch last told : ℕ) (c : Call) (r : Option Reply) → IsTold epoch last told old → IsTurnCall c → length old.kept.sessions.places ≡ 17
-      → new.kept.is_down ≡ false → new.kept.epoch ≡ old.kept.epoch → HasTurned old.kept new.kept (event.Call 1 epoch (last + 1) c) r → IsTold epoch (last + 1) told new
+  pub in_step : (epoch last told : ℕ) (c : Call) (r : Option Reply) → KnowsSession epoch last told old → IsTurnCall c → length old.kept.sessions.places ≡ 17
+      → new.kept.is_down ≡ false → new.kept.epoch ≡ old.kept.epoch → HasTurned old.kept new.kept (event.Call 1 epoch (last + 1) c) r → KnowsSession epoch (last + 1) told new
   in_step epoch last told c r is own long up same t =
       let (x, given, on) = turned_on old.kept.epoch 1 (last + 1) c r old.kept.sessions new.kept.sessions own t.sessions in
       let later : old.kept.clock ≤ new.kept.clock = t.later in
@@ -81,7 +81,7 @@ module _ {V : Type 0} (old new : NodeState V) where
 
   -- and behind its greeting
   pub greeted : (epoch : ℕ) (name : List ℕ) (r : Option Reply) → r ≡ Some (reply.Welcome epoch) → length old.kept.sessions.places ≡ 17
-      → new.kept.is_down ≡ false → new.kept.epoch ≡ old.kept.epoch → HasTurned old.kept new.kept (event.Call 1 0 1 (call.Hello name)) r → IsTold epoch 1 0 new
+      → new.kept.is_down ≡ false → new.kept.epoch ≡ old.kept.epoch → HasTurned old.kept new.kept (event.Call 1 0 1 (call.Hello name)) r → KnowsSession epoch 1 0 new
   greeted epoch name None is long up same t = cc
   greeted epoch name (Some x) is long up same t =
       let said : Some (reply.Welcome old.kept.epoch) ≡ Some (reply.Welcome epoch) = (λ i. Some (sym t.sessions.0 i)) ∙ is in

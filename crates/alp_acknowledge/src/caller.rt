@@ -3,7 +3,7 @@ ghost use Rattle.std.specs.Prelude.{◌≡◌, ◌≤◌, [], IfOk, OnOk, false}
 ghost use Rattle.alp_node.specs.Nodes.{IsNew};
 ghost use Rattle.alp_node.specs.Served.{IsTurnCall};
 ghost use Rattle.alp_node.specs.Turns.{TellsUpTo};
-ghost use Rattle.alp_acknowledge.specs.Turns.{InStep};
+ghost use Rattle.alp_acknowledge.specs.Turns.{InStep, HasAsked, HasCommitted};
 
 use crate::ServeFault;
 use alp_base::{Name, Stamp, TransId};
@@ -75,6 +75,7 @@ impl<V: Vault> Caller<V> {
         requires step { InStep self.old }
         requires call { IsTurnCall call }
         ensures step { OnOk result (InStep self.new) }
+        ensures asked { IfOk result (HasAsked self.old self.new call) }
         ensures told { IfOk result (TellsUpTo self.new.node.kept.clock) }
     {
         if MOST_ENTRIES <= self.node.journal().entries().len() {
@@ -112,7 +113,8 @@ impl<V: Vault> Caller<V> {
     /// Commits a transaction, and is told its stamp.
     pub(crate) fn commit(&mut self, trans: TransId) -> Result<Stamp, ServeFault>
         requires { InStep self.old }
-        ensures { OnOk result (InStep self.new) }
+        ensures step { OnOk result (InStep self.new) }
+        ensures told { IfOk result (HasCommitted self.old self.new trans) }
     {
         match self.ask(Call::Finish {
             trans,

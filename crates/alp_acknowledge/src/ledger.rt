@@ -1,6 +1,6 @@
 //! Two files that each commit changes alike, so that a half of one can be seen.
-ghost use Rattle.std.specs.Prelude.{◌≡◌, OnOk};
-ghost use Rattle.alp_acknowledge.specs.Turns.{InStep};
+ghost use Rattle.std.specs.Prelude.{◌≡◌, IfOk, OnOk};
+ghost use Rattle.alp_acknowledge.specs.Turns.{InStep, IsLastTold};
 
 use crate::ServeFault;
 use crate::caller::Caller;
@@ -53,7 +53,8 @@ impl Ledger {
     /// Makes both files, and their owner where it is not there, in one transaction of its own.
     pub fn make<V: Vault>(caller: &mut Caller<V>) -> Result<(Ledger, Stamp), ServeFault>
         requires { InStep caller.old }
-        ensures { OnOk result (InStep caller.new) }
+        ensures step { OnOk result (InStep caller.new) }
+        ensures told { IfOk result (λ made. IsLastTold caller.new made.1) }
     {
         let trans = caller.begin()?;
         make_owner(caller, trans)?;
@@ -70,7 +71,8 @@ impl Ledger {
     /// Puts the number of a commit into both files, in one transaction.
     pub fn enter<V: Vault>(&self, caller: &mut Caller<V>, number: u32) -> Result<Stamp, ServeFault>
         requires { InStep caller.old }
-        ensures { OnOk result (InStep caller.new) }
+        ensures step { OnOk result (InStep caller.new) }
+        ensures told { IfOk result (IsLastTold caller.new) }
     {
         let trans = caller.begin()?;
         let left = open(caller, trans, self.left)?;

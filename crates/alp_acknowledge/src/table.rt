@@ -1,6 +1,6 @@
 //! A file whose pages are changed at random.
-ghost use Rattle.std.specs.Prelude.{◌≡◌, ◌+◌, ◌<◌, ◌≤◌, ◌^◌, OnOk};
-ghost use Rattle.alp_acknowledge.specs.Turns.{InStep};
+ghost use Rattle.std.specs.Prelude.{◌≡◌, ◌+◌, ◌<◌, ◌≤◌, ◌^◌, IfOk, OnOk};
+ghost use Rattle.alp_acknowledge.specs.Turns.{InStep, IsLastTold};
 
 use crate::ServeFault;
 use crate::caller::Caller;
@@ -91,7 +91,8 @@ impl Table {
         byte: u8,
     ) -> Result<Stamp, ServeFault>
         requires { InStep caller.old }
-        ensures { OnOk result (InStep caller.new) }
+        ensures step { OnOk result (InStep caller.new) }
+        ensures told { IfOk result (IsLastTold caller.new) }
     {
         let trans = caller.begin()?;
         let opened = open(caller, trans, self.file)?;
