@@ -1,7 +1,7 @@
 -- a disk in a fuse, and out of it again
 use Rattle.std.specs.Prelude.{Option, Some, Result, Ok, Err, IfErr}
 use Rattle.std.specs.Result.{IsErr, IsErrAnd}
-use Rattle.std.proofs.Common.{inl, inr, ap, refl, ◌≡◌, ◌≢◌, ◌≤◌, ℕ, List, sym, ◌∙◌, subst, arith}
+use Rattle.std.proofs.Common.{inl, inr, ap, refl, ◌≡◌, ◌⊎◌, ◌≢◌, ◌≤◌, ℕ, List, sym, ◌∙◌, subst, arith}
 use Rattle.alp_base.specs.Causes.{Rose}
 use Rattle.alp_base.specs.Crashes.{Only, NoMore, SameOutcomes}
 use Rattle.alp_base.specs.Notes.{Notes}
@@ -22,7 +22,7 @@ use Rattle.alp_vault.specs.declared.vault.Vault.{Ghosts as VaultGhosts}
 use Rattle.alp_top.specs.Faults.{of_bay}
 use Rattle.alp_top.specs.Headline.{IsRunOf}
 use Rattle.alp_top.specs.Logs.{Log}
-use Rattle.alp_top.specs.Volumes.{pages_of, IsOpenedOn, IsStored, IsReturned, IsLeftAlone, HasNoEpoch, HasDiskCause, HasRunCause, IsBayTold, IsOfDisk, OnTakenBy}
+use Rattle.alp_top.specs.Volumes.{pages_of, IsOpenedOn, IsStored, IsReturned, IsLeftAlone, HasNoEpoch, HasDiskCause, HasRunCause, IsBayTold, IsFolderChosen, IsDiskTold, IsOfDisk, OnTakenBy}
 use Rattle.alp_top.specs.declared.fault.RunFault.{RunFault}
 use Rattle.alp_top.specs.declared.fault.RunFault.TheVariants as fault
 
@@ -124,6 +124,13 @@ module _ {T U : Type 0} (before now : ℕ) (f : BayFault) (cause : HasBayCause {
       go bay_fault.Failed = tt
       go bay_fault.OutOfMemory = tt
 
+  pub bay_folder : (was is named : Option (List ℕ)) → (is ≡ named) ⊎ (is ≡ was) → IsFolderChosen r was is named
+  bay_folder was is named left = subst (λ (q : Result U RunFault). IsFolderChosen q was is named) (sym (as_err (of_bay f) r err alike)) (go f)
+    where
+      go : (f : BayFault) → IsFolderChosen {T = U} (Err (of_bay f)) was is named
+      go bay_fault.Failed = left
+      go bay_fault.OutOfMemory = left
+
   pub bay_cause : {B : Type 0} (h : Ghosts B) (sizes : Sizes) (was is : ℕ → Option B) → is ≡ was → IfErr r (HasRunCause h sizes was is before now)
   bay_cause h sizes was is same = subst (λ (q : Result U RunFault). IfErr q (HasRunCause h sizes was is before now)) (sym (as_err (of_bay f) r err alike)) (go f cause)
     where
@@ -140,6 +147,19 @@ bay_still (Err fault.OutOfMemory) before now same own = same
 bay_still (Err fault.EpochEnd) before now same own = same
 bay_still (Err (fault.NotAVolume found)) before now same own = same
 bay_still (Err (fault.Damaged place)) before now same own = same
+
+pub folder_taken : {U : Type 0} (r : Result U RunFault) (was is named : Option (List ℕ)) → is ≡ named → IsFolderChosen r was is named
+folder_taken (Ok x) was is named same = same
+folder_taken (Err fault.Bay) was is named same = inl same
+folder_taken (Err fault.Disk) was is named same = same
+folder_taken (Err fault.OutOfMemory) was is named same = inl same
+folder_taken (Err fault.EpochEnd) was is named same = same
+folder_taken (Err (fault.NotAVolume found)) was is named same = same
+folder_taken (Err (fault.Damaged place)) was is named same = same
+
+-- the count of a disk that shows the same
+pub counted_alike : {U : Type 0} (r : Result U RunFault) (before now was is : ℕ) → before ≡ was → now ≡ is → IsDiskTold r before now → IsDiskTold r was is
+counted_alike r before now was is one two told = subst (λ (n : ℕ). IsDiskTold r n is) one (subst (λ (n : ℕ). IsDiskTold r before n) two told)
 
 pub taken_by : {U : Type 0} (r : Result U RunFault) (P : Type 0) → P → OnTakenBy r P
 taken_by (Ok x) P p = p

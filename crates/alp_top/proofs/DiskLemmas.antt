@@ -25,7 +25,7 @@ use Rattle.alp_disk.specs.Disk.{Image, page}
 use Rattle.alp_disk.specs.declared.disk.Disk.{Ghosts}
 use Rattle.alp_fields.specs.ClockNote.{clock_name, clock_form}
 use Rattle.alp_fields.specs.declared.clock_note.ClockNote.{ClockNote}
-use Rattle.alp_node.specs.Starts.{AreOfServer, HasRaised, after_note, raised, HasStartCause}
+use Rattle.alp_node.specs.Starts.{AreOfServer, HasRaised, after_note, raised, HasStartCause, IsNoteFault}
 use Rattle.alp_node.specs.declared.start.StartFault.{StartFault}
 use Rattle.alp_node.specs.declared.start.StartFault.TheVariants as start_fault
 use Rattle.alp_store.specs.Holding.{Holds}
@@ -49,7 +49,7 @@ use Rattle.alp_top.specs.Reports.{end_of}
 use Rattle.alp_top.specs.Servers.{IsOn}
 use Rattle.alp_top.proofs.StepLemmas.{kept_epoch, kept_clock}
 use Rattle.alp_top.specs.Faults.{of_vault, of_start, played}
-use Rattle.alp_top.specs.Volumes.{HasDiskCause, IsOfDisk, IsLeftAlone, IsOpenedNew, IsOpenedOn, IsStored}
+use Rattle.alp_top.specs.Volumes.{HasDiskCause, IsDiskFault, IsOfDisk, IsLeftAlone, IsOpenedNew, IsOpenedOn, IsStored}
 use Rattle.alp_top.specs.declared.fault.PlayFault.{PlayFault}
 use Rattle.alp_top.specs.declared.fault.PlayFault.TheVariants as play_fault
 
@@ -175,6 +175,28 @@ pub played_own : (f : PlayFault) → IsOfDisk (played f)
 played_own play_fault.Device = tt
 played_own play_fault.OutOfMemory = tt
 
+-- ---- the count of faults of any disk
+
+pub opened_counted : (before now : ℕ) (allowance : Allowance) (f : VaultFault) → HasFaultCause before now allowance f → IsCountKept before now f → allowance ≡ Free → IsDiskFault (of_vault f) before now
+opened_counted before now allowance vault_fault.Failed cause kept free = cause.failed refl
+opened_counted before now allowance vault_fault.Stopped cause kept free = let wrong : Free ≡ Spent = sym free ∙ cause.stopped refl in cc
+opened_counted before now allowance vault_fault.OutOfMemory cause kept free = kept
+opened_counted before now allowance (vault_fault.NotAVolume found) cause kept free = kept
+opened_counted before now allowance (vault_fault.Damaged place) cause kept free = kept
+
+pub started_counted : (server servers before between now : ℕ) (held : Contents) (allowance : Allowance) (f : StartFault) → HasStartCause server servers held between now allowance f → allowance ≡ Free → between ≡ before
+    → (f ≡ start_fault.Vault vault_fault.OutOfMemory → now ≡ between) → (IsNoteFault f → now ≡ between) → IsDiskFault (of_start f) before now
+started_counted server servers before between now held allowance (start_fault.Vault f) cause free kept memory note = go f cause memory
+  where
+    go : (f : VaultFault) → HasStartCause server servers held between now allowance (start_fault.Vault f) → (start_fault.Vault f ≡ start_fault.Vault vault_fault.OutOfMemory → now ≡ between) → IsDiskFault (of_vault f) before now
+    go vault_fault.Failed h memory = subst (λ (n : ℕ). Rose n now) kept (h.0.failed refl)
+    go vault_fault.Stopped h memory = let wrong : Free ≡ Spent = sym free ∙ h.0.stopped refl in cc
+    go vault_fault.OutOfMemory h memory = memory refl ∙ kept
+    go (vault_fault.NotAVolume found) h memory = absurd h.1
+    go (vault_fault.Damaged place) h memory = absurd h.1
+started_counted server servers before between now held allowance start_fault.BadNote cause free kept memory note = note tt ∙ kept
+started_counted server servers before between now held allowance start_fault.EpochEnd cause free kept memory note = note tt ∙ kept
+
 -- ---- what a run leaves on its disk
 
 module _ {V D : Type 0} (G : VaultGhosts V) (g : Ghosts D) (sizes : Sizes) (x : ServerOfLog V) (n : NodeState V) (before : Contents) (vol : Sizes) (d e : D)
@@ -217,10 +239,11 @@ module _ {V D : Type 0} (G : VaultGhosts V) (g : Ghosts D) (sizes : Sizes) (x : 
         noted = noted ∙ (λ i. map.insert (none i).notes clock_name (clock_form.spell (first i)));
       }
 
-  opened_on : (a : Anchor) → Counts (g.size d) (g.seen d) a → vol ≡ a.sizes → Holds 1 1 (g.size d) vol.home (g.seen d) before → StartedOnOwn 1 1 before → IsOpenedOn (g.size d) (g.seen d) o ((openings G).notes x.opening)
-  opened_on a counts same holds own = record {
+  opened_on : (a : Anchor) → Counts (g.size d) (g.seen d) a → (a.server ≡ 1) × (a.servers ≡ 1) → vol ≡ a.sizes → Holds 1 1 (g.size d) vol.home (g.seen d) before → StartedOnOwn 1 1 before → IsOpenedOn (g.size d) (g.seen d) o ((openings G).notes x.opening)
+  opened_on a counts named same holds own = record {
     anchor = a;
     counts = counts;
+    named = named;
     sizes_are = sizes_are ∙ same;
     held = before;
     holds = subst (λ (s : Sizes). Holds 1 1 (g.size d) s.home (g.seen d) before) (sym sizes_are) holds;
@@ -231,13 +254,13 @@ module _ {V D : Type 0} (G : VaultGhosts V) (g : Ghosts D) (sizes : Sizes) (x : 
   }
 
   pub stored : (held : Contents) → held ≡ said_of (end_of G 1 x) → IsVolumeOf vol held.cells → (IsNew sizes (g.size d) (g.seen d) → before ≡ nothing) → (IsNew sizes (g.size d) (g.seen d) → vol ≡ sizes)
-      → (a : Anchor) → vol ≡ a.sizes → ((IsNew sizes (g.size d) (g.seen d) → ⊥) → Counts (g.size d) (g.seen d) a)
+      → (a : Anchor) → (a.server ≡ 1) × (a.servers ≡ 1) → vol ≡ a.sizes → ((IsNew sizes (g.size d) (g.seen d) → ⊥) → Counts (g.size d) (g.seen d) a)
       → ((IsNew sizes (g.size d) (g.seen d) → ⊥) → Holds 1 1 (g.size d) vol.home (g.seen d) before) → ((IsNew sizes (g.size d) (g.seen d) → ⊥) → StartedOnOwn 1 1 before)
       → Holds 1 1 (g.size e) vol.home (g.seen e) held → Only (g.seen e) (g.may_leave e) → g.faults e ≡ g.faults d
       → IsStored g sizes o ((openings G).notes x.opening) (end_of G 1 x) d e
-  stored held said fits none same a as_anchor counts holds own finish durable unfailed = record {
+  stored held said fits none same a named as_anchor counts holds own finish durable unfailed = record {
     new = λ is. opened_new (none is) (same is);
-    found = λ is. opened_on a (counts is) as_anchor (holds is) (own is);
+    found = λ is. opened_on a (counts is) named as_anchor (holds is) (own is);
     finish = subst (λ (s : Sizes). Holds 1 1 (g.size e) s.home (g.seen e) (said_of (end_of G 1 x))) (sym sizes_are) (subst (λ (c : Contents). Holds 1 1 (g.size e) vol.home (g.seen e) c) said finish);
     durable = durable;
     sound = record {

@@ -19,8 +19,8 @@ use Rattle.alp_words.specs.declared.command.Command.{Command}
 use Rattle.alp_words.specs.declared.command.Command.TheVariants as command
 use Rattle.alp_top.specs.Headline.{IsRunOf, IsPlayed, IsCutOff}
 use Rattle.alp_top.specs.Logs.{Log}
-use Rattle.alp_top.specs.Statuses.{Kept, OnDone, OnWriteFault, OnCutShort, OnTaken, ended_by, folder_in, IsBayFaultTold, IsHandedOver, IsPlayedOrMemory}
-use Rattle.alp_top.specs.Volumes.{pages_of, IsReturned, HasRunCause, IsBayFault, OnTakenFor, IsStartable, StartsOn}
+use Rattle.alp_top.specs.Statuses.{Kept, OnDone, OnWriteFault, OnCutShort, ended_by, folder_in, IsFolderTold, OnDiskFault, IsBayFaultTold, IsHandedOver, IsPlayedOrMemory}
+use Rattle.alp_top.specs.Volumes.{pages_of, IsReturned, HasRunCause, IsBayFault, IsFolderLeft, IsDiskFault, OnTakenFor, IsStartable, StartsOn}
 use Rattle.alp_top.specs.declared.fault.RunFault.{RunFault}
 use Rattle.alp_top.specs.declared.fault.RunFault.TheVariants as fault
 use Rattle.alp_top.specs.declared.status.Status.{Status}
@@ -87,54 +87,54 @@ module _ {D : Type 0} {g : Ghosts D} where
       go (fault.NotAVolume found) p = (refl, p)
       go (fault.Damaged place) p = (refl, p)
 
-  -- where a disk was taken
-  pub taken_told : (s : Status D g) (f : RunFault) (P : Type 0) → s ≡ ended_by f → OnTakenFor f P → OnTaken s P
-  taken_told s f P is h = subst (λ (q : Status D g). OnTaken q P) (sym is) (go f h)
+  -- which folder the bay is left with
+  pub folder_left : (s : Status D g) (f : RunFault) (before now named : Option (List ℕ)) → s ≡ ended_by f → IsFolderLeft f before now named → IsFolderTold s before now named
+  folder_left s f before now named is h = subst (λ (q : Status D g). IsFolderTold q before now named) (sym is) (go f h)
     where
-      go : (f : RunFault) → OnTakenFor f P → OnTaken (ended_by {D = D} {g = g} f) P
-      go fault.Bay h = inl refl
-      go fault.Disk h = inr h
-      go fault.OutOfMemory h = tt
-      go fault.EpochEnd h = h
-      go (fault.NotAVolume found) h = h
-      go (fault.Damaged place) h = h
-
-  pub handed_taken : (s : Status D g) (P : Type 0) → IsHandedOver s → P → OnTaken s P
-  handed_taken (status.Done log) P h p = p
-  handed_taken (status.WriteFault log) P h p = p
-  handed_taken status.BadWords P h p = tt
-  handed_taken (status.BadScript line) P h p = tt
-  handed_taken status.ReadFault P h p = tt
-  handed_taken (status.DiskFault server) P h p = inr p
-  handed_taken status.OutOfMemory P h p = tt
-  handed_taken (status.TooLong limit) P h p = p
-  handed_taken (status.NotAVolume server found) P h p = p
-  handed_taken (status.Damaged server place) P h p = p
-
-  -- a fault of the bay is told of the whole run
-  pub bay_told : (s : Status D g) (f : RunFault) (before now : ℕ) → s ≡ ended_by f → IsBayFault f before now → IsBayFaultTold s before now
-  bay_told s f before now is h = subst (λ (q : Status D g). IsBayFaultTold q before now) (sym is) (go f h)
-    where
-      go : (f : RunFault) → IsBayFault f before now → IsBayFaultTold (ended_by {D = D} {g = g} f) before now
-      go fault.Bay h = inl (refl, h)
-      go fault.Disk h = inr (refl, h)
+      go : (f : RunFault) → IsFolderLeft f before now named → IsFolderTold (ended_by {D = D} {g = g} f) before now named
+      go fault.Bay h = elim h [ inl chosen ↦ inl chosen | inr kept ↦ inr (refl, kept) ]
+      go fault.Disk h = inl h
       go fault.OutOfMemory h = h
       go fault.EpochEnd h = h
       go (fault.NotAVolume found) h = h
       go (fault.Damaged place) h = h
 
-  -- a report that was handed over tells no fault of the bay
-  pub handed_told : (s : Status D g) (before now : ℕ) → IsHandedOver s → now ≡ before → IsBayFaultTold s before now
-  handed_told (status.Done log) before now h same = same
-  handed_told (status.WriteFault log) before now h same = same
-  handed_told status.BadWords before now h same = absurd h
-  handed_told (status.BadScript line) before now h same = absurd h
-  handed_told status.ReadFault before now h same = absurd h
-  handed_told (status.DiskFault server) before now h same = absurd h
-  handed_told status.OutOfMemory before now h same = absurd h
-  handed_told (status.TooLong limit) before now h same = absurd h
-  handed_told (status.NotAVolume server found) before now h same = absurd h
-  handed_told (status.Damaged server place) before now h same = absurd h
+  pub handed_folder : (s : Status D g) (before now named : Option (List ℕ)) → IsHandedOver s → now ≡ named → IsFolderTold s before now named
+  handed_folder (status.Done log) before now named h same = same
+  handed_folder (status.WriteFault log) before now named h same = same
+  handed_folder status.BadWords before now named h same = absurd h
+  handed_folder (status.BadScript line) before now named h same = absurd h
+  handed_folder status.ReadFault before now named h same = absurd h
+  handed_folder (status.DiskFault server) before now named h same = absurd h
+  handed_folder status.OutOfMemory before now named h same = absurd h
+  handed_folder (status.TooLong limit) before now named h same = absurd h
+  handed_folder (status.NotAVolume server found) before now named h same = absurd h
+  handed_folder (status.Damaged server place) before now named h same = absurd h
+
+  -- a fault of a disk is told where its count rose
+  pub disk_counted : {X : Type 0} (faults : X → ℕ) (s : Status D g) (f : RunFault) → s ≡ ended_by f → OnTakenFor f ((taken : X) × (given : X) × IsDiskFault f (faults taken) (faults given))
+      → OnDiskFault s ((taken : X) × (given : X) × Rose (faults taken) (faults given))
+  disk_counted {X = X} faults s f is h = subst (λ (q : Status D g). OnDiskFault q ((taken : X) × (given : X) × Rose (faults taken) (faults given))) (sym is) (go f h)
+    where
+      go : (f : RunFault) → OnTakenFor f ((taken : X) × (given : X) × IsDiskFault f (faults taken) (faults given)) → OnDiskFault (ended_by {D = D} {g = g} f) ((taken : X) × (given : X) × Rose (faults taken) (faults given))
+      go fault.Bay h = inl refl
+      go fault.Disk h = inr h
+      go fault.OutOfMemory h = tt
+      go fault.EpochEnd h = tt
+      go (fault.NotAVolume found) h = tt
+      go (fault.Damaged place) h = tt
+
+  pub handed_counted : (s : Status D g) (P : Type 0) → IsHandedOver s → OnDiskFault s P
+  handed_counted (status.Done log) P h = tt
+  handed_counted (status.WriteFault log) P h = tt
+  handed_counted status.BadWords P h = tt
+  handed_counted (status.BadScript line) P h = tt
+  handed_counted status.ReadFault P h = tt
+  handed_counted (status.DiskFault server) P h = absurd h
+  handed_counted status.OutOfMemory P h = tt
+  handed_counted (status.TooLong limit) P h = tt
+  handed_counted (status.NotAVolume server found) P h = tt
+  handed_counted (status.Damaged server place) P h = tt
 
 -- ---- the folder that the words name
 

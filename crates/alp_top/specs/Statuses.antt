@@ -116,6 +116,17 @@ module _ {D : Type 0} {g : Ghosts D} where
   OnTaken (status.Damaged server place) P = P
   OnTaken _ P = Unit {0}
 
+  -- Which folder the bay is left with: where a disk was taken, the one that the words name, and else that or the one before.
+  abbrev pub IsFolderTold : Status D g → (before now named : Option (List ℕ)) → Type 0
+  IsFolderTold status.OutOfMemory before now named = (now ≡ named) ⊎ (now ≡ before)
+  IsFolderTold (status.DiskFault server) before now named = (now ≡ named) ⊎ ((server ≡ 0) × (now ≡ before))
+  IsFolderTold s before now named = OnTaken s (now ≡ named)
+
+  -- where the disk of a server failed, of its count of faults
+  abbrev pub OnDiskFault : Status D g → Type 0 → Type 0
+  OnDiskFault (status.DiskFault server) P = (server ≡ 0) ⊎ P
+  OnDiskFault _ P = Unit {0}
+
   -- the bay's count of faults rose where its fault is told, and stayed in every other case
   abbrev pub IsBayFaultTold : Status D g → ℕ → ℕ → Type 0
   IsBayFaultTold (status.DiskFault server) before now = ((server ≡ 0) × Rose before now) ⊎ ((server ≡ 1) × (now ≡ before))

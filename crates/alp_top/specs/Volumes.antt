@@ -43,6 +43,7 @@ pub record IsOpenedNew (sizes : Sizes) (o : Start) (notes : Notes) : Type 0 wher
 pub record IsOpenedOn (n : ℕ) (image : Image) (o : Start) (notes : Notes) : Type 0 where
   pub anchor : Anchor
   pub counts : Counts n image anchor
+  pub named : (anchor.server ≡ 1) × (anchor.servers ≡ 1)
   pub sizes_are : o.sizes ≡ anchor.sizes
   pub held : Contents
   pub holds : Holds 1 1 n o.sizes.home image held
@@ -138,6 +139,25 @@ IsBayFault f before now = now ≡ before
 abbrev pub IsBayTold : {T : Type 0} → Result T RunFault → ℕ → ℕ → Type 0
 IsBayTold (Ok x) before now = now ≡ before
 IsBayTold (Err f) before now = IsBayFault f before now
+
+-- which folder the bay is left with: where a disk was taken, the one that is named, and else that or the one before
+abbrev pub IsFolderLeft : RunFault → (before now named : Option (List ℕ)) → Type 0
+IsFolderLeft fault.Bay before now named = (now ≡ named) ⊎ (now ≡ before)
+IsFolderLeft fault.OutOfMemory before now named = (now ≡ named) ⊎ (now ≡ before)
+IsFolderLeft f before now named = now ≡ named
+
+abbrev pub IsFolderChosen : {T : Type 0} → Result T RunFault → (before now named : Option (List ℕ)) → Type 0
+IsFolderChosen (Ok x) before now named = now ≡ named
+IsFolderChosen (Err f) before now named = IsFolderLeft f before now named
+
+-- the disk's count of faults rose where a fault of it is told, and stayed in every other case
+abbrev pub IsDiskFault : RunFault → ℕ → ℕ → Type 0
+IsDiskFault fault.Disk before now = Rose before now
+IsDiskFault f before now = now ≡ before
+
+abbrev pub IsDiskTold : {T : Type 0} → Result T RunFault → ℕ → ℕ → Type 0
+IsDiskTold (Ok x) before now = now ≡ before
+IsDiskTold (Err f) before now = IsDiskFault f before now
 
 -- where a disk was taken
 abbrev pub OnTakenFor : RunFault → Type 0 → Type 0

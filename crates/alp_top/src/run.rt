@@ -5,7 +5,7 @@ ghost use Rattle.std.specs.Option.{option_map};
 ghost use Rattle.alp_base.specs.Causes.{Rose};
 ghost use Rattle.alp_script.specs.Reading.{GaveBadLine, GaveGoodLines, SaysScript};
 ghost use Rattle.alp_top.specs.Headline.{IsPlayed, IsCutOff, HasCause, StartsHere};
-ghost use Rattle.alp_top.specs.Statuses.{AreWordsTold, IsTold, OnDone, OnBadWords, OnBadScript, OnReadFault, OnWriteFault, OnCutShort, OnTaken, OnUntaken, folder_in, IsReadFaultTold, IsWriteFaultTold, IsBayFaultTold, OnUnwritten, IsPlayedOrMemory, IsHandedOver};
+ghost use Rattle.alp_top.specs.Statuses.{AreWordsTold, IsTold, OnDone, OnBadWords, OnBadScript, OnReadFault, OnWriteFault, OnCutShort, OnUntaken, folder_in, IsReadFaultTold, IsWriteFaultTold, IsBayFaultTold, IsFolderTold, OnDiskFault, OnUnwritten, IsPlayedOrMemory, IsHandedOver};
 ghost use Rattle.alp_words.specs.Words.{are_bad, folder_named};
 
 use crate::bay::run_bay;
@@ -69,12 +69,13 @@ pub fn run_alpine<S: Source, K: Sink, B: Bay>(
     // A source that fails behind a line outside the language is not asked that far.
     ensures good_lines { OnReadFault result (GaveGoodLines (S.left script.old) (S.left script.new)) }
     // A fault of a stream or of the bay is told just where it came in this call.
-    ensures streams { IsReadFaultTold result (S.faults script.old) (S.faults script.new) × IsWriteFaultTold result (K.faults out.old) (K.faults out.new) }
-    ensures bay { IsBayFaultTold result (B.faults bay.old) (B.faults bay.new) }
+    ensures faults { IsReadFaultTold result (S.faults script.old) (S.faults script.new) × IsWriteFaultTold result (K.faults out.old) (K.faults out.new) × IsBayFaultTold result (B.faults bay.old) (B.faults bay.new) }
     // The bay or the disk ended the run: it failed in this call, or the disk is not one of the server's. Or memory was wanting.
     ensures disk { IsTold (map string_bytes words.now) (B.tells bay.new) → OnCutShort result (bay.new ≡ bay.old) (HasCause B.Device.Disk (S.left script.old) (S.left script.new) (B.at bay.old) (B.at bay.new) (B.faults bay.old) (B.faults bay.new)) }
+    // A fault of a disk is told only of one that failed in this call, whether it tells what it holds or not.
+    ensures counted { OnDiskFault result ((taken : B.Device) × (given : B.Device) × Rose (B.Device.faults taken) (B.Device.faults given)) }
     // The disk is one of the folder that the words name, or in memory where they name none.
-    ensures folder { OnTaken result (B.chosen bay.new ≡ folder_named (map string_bytes words.now)) }
+    ensures folder { IsFolderTold result (B.chosen bay.old) (B.chosen bay.new) (folder_named (map string_bytes words.now)) }
     // No disk is asked for before the script is read.
     ensures untaken { OnUntaken result (bay.new ≡ bay.old) }
     // A script of the language is played to its end on a disk that is new or the server's, where nothing fails.

@@ -1,13 +1,13 @@
 use Rattle.std.specs.Prelude.{Option, IsTrue}
 use Rattle.std.specs.Option.{option_map}
-use Rattle.std.proofs.Common.{inl, inr, ◌≡◌, ◌≢◌, ℕ, refl, sym, ◌∙◌, ap, subst}
+use Rattle.std.proofs.Common.{inl, inr, ◌≡◌, ◌≢◌, ℕ, sym, ◌∙◌, ap, subst}
 use Rattle.std.proofs.lemmas.Result.{IfOk-weaker, IfErr-weaker}
 use Rattle.alp_base.specs.declared.faults.Sizes.{Sizes}
 use Rattle.alp_bay.specs.Bays.{IsTaken}
 use Rattle.alp_disk.specs.contracts.fuse.FuseDisk.TheImpl as fuse_disk
 use Rattle.alp_script.specs.Volumes.{sizes_said}
 use Rattle.alp_top.specs.Volumes.{pages_of, HasDiskCause}
-use Rattle.alp_top.proofs.BayLemmas.{ShowAlike, run_resized, run_alike, returned, run_cause, bay_cause, bay_untaken, bay_told, bay_still, taken_by}
+use Rattle.alp_top.proofs.BayLemmas.{ShowAlike, run_resized, run_alike, returned, run_cause, bay_cause, bay_untaken, bay_folder, bay_told, bay_still, folder_taken, counted_alike, taken_by}
 use Rattle.alp_top.proofs.bay.run_bay.Goals as goal
 
 pub give-requires-clause-told : goal.give-requires-clause-told
@@ -95,6 +95,10 @@ returns-in_err-choose-clause-cause g c asked =
 
 pub returns-in_err-choose-clause-chosen : goal.returns-in_err-choose-clause-chosen
 returns-in_err-choose-clause-chosen g c =
+    bay_folder _ _ c.in_err-choose.field-0.0 c.in_err-choose.ensures.cause c.from_residual.result c.from_residual.ensures.0 c.from_residual.ensures.1 _ _ _ (inr c.in_err-choose.ensures.refused)
+
+pub returns-in_err-choose-clause-counted : goal.returns-in_err-choose-clause-counted
+returns-in_err-choose-clause-counted g c =
     bay_untaken _ _ c.in_err-choose.field-0.0 c.in_err-choose.ensures.cause c.from_residual.result c.from_residual.ensures.0 c.from_residual.ensures.1 _
 
 pub returns-in_err-choose-clause-bay : goal.returns-in_err-choose-clause-bay
@@ -103,8 +107,17 @@ returns-in_err-choose-clause-bay g c =
 
 -- ---- the disk was taken
 
+pub returns-clause-counted : goal.returns-clause-counted
+returns-clause-counted g c =
+    let h = g.B.Device.Disk in
+    taken_by c.run_disk-disk.result.1 _ (
+      c.in_ok-device.device,
+      c.stop_after.new.self,
+      counted_alike c.run_disk-disk.result.1 _ _ (h.faults c.in_ok-device.device) (h.faults c.stop_after.new.self) c.new.ensures.faults (sym (c.stop_after.ensures.faults ∙ ap h.faults c.into_inner-device.ensures)) c.run_disk-disk.ensures.counted,
+    )
+
 pub returns-clause-chosen : goal.returns-clause-chosen
-returns-clause-chosen g c = taken_by c.run_disk-disk.result.1 _ (c.give.ensures.chosen ∙ c.in_ok-device.ensures.chosen ∙ c.in_ok-choose.ensures.named)
+returns-clause-chosen g c = folder_taken c.run_disk-disk.result.1 _ _ _ (c.give.ensures.chosen ∙ c.in_ok-device.ensures.chosen ∙ c.in_ok-choose.ensures.named)
 
 pub returns-clause-bay : goal.returns-clause-bay
 returns-clause-bay g c = bay_still c.run_disk-disk.result.1 _ _ (c.give.ensures.faults ∙ c.in_ok-device.ensures.cause.still ∙ c.in_ok-choose.ensures.cause.still) c.run_disk-disk.ensures.own

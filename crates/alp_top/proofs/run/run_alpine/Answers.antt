@@ -1,13 +1,13 @@
 use Rattle.std.specs.Prelude.{Option, map as list_map, string_bytes}
-use Rattle.std.proofs.Common.{◌≡◌, ℕ, List, sym, ◌∙◌, subst}
+use Rattle.std.proofs.Common.{ℕ, List, sym, ◌∙◌, subst}
 use Rattle.alp_script.specs.Accepted.{IsAccepted}
 use Rattle.alp_script.specs.Reading.{GaveScript}
 use Rattle.alp_script.specs.Volumes.{sizes_said}
 use Rattle.alp_script.specs.declared.numbered.NumberedLine.{NumberedLine}
 use Rattle.alp_words.specs.Words.{folder_named}
 use Rattle.alp_top.specs.Headline.{HasCause}
-use Rattle.alp_top.specs.Volumes.{OnTakenFor}
-use Rattle.alp_top.proofs.PlayedLemmas.{is_played, is_cut_off, done_then, cut_then, caused, taken_told, handed_taken, bay_told, handed_told, named_folder, folder_told, plays_on}
+use Rattle.alp_top.specs.Volumes.{IsFolderLeft}
+use Rattle.alp_top.proofs.PlayedLemmas.{is_played, is_cut_off, done_then, cut_then, caused, folder_left, handed_folder, disk_counted, handed_counted, named_folder, folder_told, plays_on}
 use Rattle.alp_top.proofs.run.run_alpine.Goals as goal
 
 pub run_bay-requires-clause-accepted : goal.run_bay-requires-clause-accepted
@@ -33,20 +33,20 @@ returns-in-Ok-run_bay-clause-cut_off g c told =
     (λ log h. is_cut_off _ g.B.Device.Disk _ _ _ _ _ _ lines c.in-Ok-run_bay.ended.log c.in-Ok-run_bay.ended.text.items script (c.in-Ok-run_bay.ensures.ran asked) log h.0 h.1 h.2)
     c.hand_over.ensures.cut_off
 
-pub returns-in-Ok-run_bay-clause-bay : goal.returns-in-Ok-run_bay-clause-bay
-returns-in-Ok-run_bay-clause-bay g c = handed_told c.hand_over.result _ _ c.hand_over.ensures.played c.in-Ok-run_bay.ensures.bay
+pub returns-in-Ok-run_bay-clause-counted : goal.returns-in-Ok-run_bay-clause-counted
+returns-in-Ok-run_bay-clause-counted g c = handed_counted c.hand_over.result _ c.hand_over.ensures.played
 
 pub returns-in-Ok-run_bay-clause-folder : goal.returns-in-Ok-run_bay-clause-folder
-returns-in-Ok-run_bay-clause-folder g c = handed_taken c.hand_over.result _ c.hand_over.ensures.played (c.in-Ok-run_bay.ensures.chosen ∙ c.folder_of.ensures ∙ named_folder _ c.in-Ok.command c.in-Ok.ensures.named)
+returns-in-Ok-run_bay-clause-folder g c = handed_folder c.hand_over.result _ _ _ c.hand_over.ensures.played (c.in-Ok-run_bay.ensures.chosen ∙ c.folder_of.ensures ∙ named_folder _ c.in-Ok.command c.in-Ok.ensures.named)
 
-pub returns-clause-bay : goal.returns-clause-bay
-returns-clause-bay g c = bay_told c.ended_by.result c.in-Err.fault _ _ c.ended_by.ensures c.in-Err.ensures.bay
+pub returns-clause-counted : goal.returns-clause-counted
+returns-clause-counted g c = disk_counted g.B.Device.Disk.faults c.ended_by.result c.in-Err.fault c.ended_by.ensures c.in-Err.ensures.counted
 
 pub returns-clause-folder : goal.returns-clause-folder
 returns-clause-folder g c =
     let named : Option (List ℕ) = folder_named (list_map string_bytes c.args.words.now) in
-    taken_told c.ended_by.result c.in-Err.fault (g.B.Bay.chosen c.run_bay.new.bay ≡ named) c.ended_by.ensures
-    (subst (λ (o : Option (List ℕ)). OnTakenFor c.in-Err.fault (g.B.Bay.chosen c.run_bay.new.bay ≡ o)) (c.folder_of.ensures ∙ named_folder _ c.in-Ok.command c.in-Ok.ensures.named) c.in-Err.ensures.chosen)
+    folder_left c.ended_by.result c.in-Err.fault (g.B.Bay.chosen c.args.bay.now) (g.B.Bay.chosen c.run_bay.new.bay) named c.ended_by.ensures
+    (subst (λ (o : Option (List ℕ)). IsFolderLeft c.in-Err.fault (g.B.Bay.chosen c.args.bay.now) (g.B.Bay.chosen c.run_bay.new.bay) o) (c.folder_of.ensures ∙ named_folder _ c.in-Ok.command c.in-Ok.ensures.named) c.in-Err.ensures.chosen)
 
 pub returns-clause-disk : goal.returns-clause-disk
 returns-clause-disk g c told =

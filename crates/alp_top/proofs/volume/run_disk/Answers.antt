@@ -20,9 +20,9 @@ use Rattle.alp_store.specs.contracts.store.StoreVault.TheImpl as store_vault
 use Rattle.alp_top.specs.Faults.{of_start}
 use Rattle.alp_top.specs.Servers.{IsOn, IsDone}
 use Rattle.alp_top.specs.declared.fault.RunFault.{RunFault}
-use Rattle.alp_top.specs.Volumes.{HasDiskCause, IsOfDisk}
+use Rattle.alp_top.specs.Volumes.{HasDiskCause, IsDiskFault, IsOfDisk}
 use Rattle.alp_top.proofs.GoneLemmas.{stays_free}
-use Rattle.alp_top.proofs.DiskLemmas.{not_opened, not_started, of_vault_own, of_start_own, of_server, stored, holds_one, if_ok, on_ok}
+use Rattle.alp_top.proofs.DiskLemmas.{not_opened, not_started, of_vault_own, of_start_own, of_server, stored, holds_one, if_ok, on_ok, opened_counted, started_counted}
 use Rattle.alp_top.proofs.volume.run_disk.Goals as goal
 
 pub returns-in-Err-clause-cause : goal.returns-in-Err-clause-cause
@@ -34,6 +34,12 @@ returns-in-Err-clause-cause g c told =
 
 pub returns-in-Err-clause-own : goal.returns-in-Err-clause-own
 returns-in-Err-clause-own g c = subst IsOfDisk (sym c.of_vault.ensures) (of_vault_own c.in-Err.fault)
+
+pub returns-in-Err-clause-counted : goal.returns-in-Err-clause-counted
+returns-in-Err-clause-counted g c =
+    let h = c.in-Err.ensures in
+    subst (λ (f : RunFault). IsDiskFault f (g.D.Disk.faults c.args.disk) (g.D.Disk.faults c.in-Err.disk)) (sym c.of_vault.ensures)
+    (opened_counted _ _ _ c.in-Err.fault h.cause.cause h.cause.still (stays_free _ _ h.below.allowance c.requires.free))
 
 pub start-requires-2-clause-given : goal.start-requires-2-clause-given
 start-requires-2-clause-given g c tells =
@@ -69,6 +75,17 @@ returns-in-Err-start-clause-cause g c told =
       crash = λ old. subst (λ (q : g.row.D.Denot). NoMore (G.may_leave d) (G.may_leave q)) (sym (ap (λ v. disk_of v.log) same)) (h.looked told old).crash;
     }
     ))))
+
+pub returns-in-Err-start-clause-counted : goal.returns-in-Err-start-clause-counted
+returns-in-Err-start-clause-counted g c =
+    let G = g.D.Disk in
+    let s = c.in-Ok.store.log in
+    let h = c.in-Ok.ensures in
+    let k = c.in-Err-start.ensures in
+    let f : StartFault = c.in-Err-start.fault in
+    subst (λ (q : RunFault). IsDiskFault q (G.faults c.args.disk) (G.faults c.into_disk.result)) (sym c.of_start.ensures)
+    (subst (λ (q : g.row.D.Denot). IsDiskFault (of_start f) (G.faults c.args.disk) (G.faults q)) (sym c.into_disk.ensures.disk)
+    (started_counted (anchor_of s).server (anchor_of s).servers _ _ _ (contents_of G s) _ f k.cause (stays_free _ _ k.allowance (stays_free _ _ h.below.allowance c.requires.free)) h.cause.still (λ is. (k.memory is).0.faults) (λ is. ap (λ v. G.faults (disk_of v.log)) (k.untouched is))))
 
 pub returns-in-Err-start-clause-own : goal.returns-in-Err-start-clause-own
 returns-in-Err-start-clause-own g c = subst IsOfDisk (sym c.of_start.ensures) (of_start_own c.in-Err-start.fault)
@@ -111,7 +128,7 @@ returns-in-Ok-ended-clause-ran g c given =
       report = w.report;
       stored =
           stored V G c.args.sizes w.run.server n (contents_of G s) vol d e w.run.number w.opening on tells k.new.journal k.new.opening k.same.sizes rose held w.held fits (λ is. (h.new given is).empty)
-          (λ is. ap (λ (a : Anchor). a.sizes) (h.new given is).anchor) (anchor_of s) refl (λ old. (h.mounted given old).counts)
+          (λ is. ap (λ (a : Anchor). a.sizes) (h.new given is).anchor) (anchor_of s) h.named refl (λ old. (h.mounted given old).counts)
           (λ old. holds_one _ _ _ _ _ _ (G.seen d) (contents_of G s) h.named.0 h.named.1 (h.looked given old).size refl (h.mounted given old).holds)
           (λ old. subst (λ (b : ℕ). StoredOfServer 1 b (contents_of G s)) h.named.1 (subst (λ (a : ℕ). StoredOfServer a (anchor_of s).servers (contents_of G s)) h.named.0 (h.mounted given old).own))
           (holds_one _ _ _ _ _ _ (G.seen e) held (r.gone.same.number ∙ k.same.number ∙ h.named.0) (r.gone.same.of_all ∙ k.same.of_all ∙ h.named.1) (ap G.size (sym last.disk)) (ap (λ (z : Sizes). z.home) volume)
