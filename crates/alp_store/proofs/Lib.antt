@@ -20,3 +20,4 @@ pub mod RightLaws
 pub mod CreateLaws
 pub mod RenewLaws
 pub mod CauseLaws
+pub mod MakingLaws

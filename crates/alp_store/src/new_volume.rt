@@ -3,18 +3,20 @@ ghost use Rattle.std.specs.Prelude.{◌≡◌, ◌≤◌, ◌<◌, ◌↔◌, Is
 ghost use Rattle.std.specs.FinMap as map;
 ghost use Rattle.alp_anchor.specs.Anchor.{AreSizesOf};
 ghost use Rattle.alp_base.specs.Allowances.{HasHaltCause};
+ghost use Rattle.alp_base.specs.Crashes.{Adds, After, LeavesOnly};
 ghost use Rattle.alp_base.specs.Faults.{IsOfVolume, IsCountKept, HasFaultCause};
 ghost use Rattle.alp_base.specs.declared.faults.VaultFault.TheVariants as fault;
 ghost use Rattle.alp_base.specs.Pages.{zero_page};
 ghost use Rattle.alp_disk.specs.Calls.{IsSameDevice, OnlyRead};
 ghost use Rattle.alp_disk.specs.Disk.{page as page_of};
+ghost use Rattle.alp_disk.specs.Runs.{SameOutside};
 ghost use Rattle.alp_pool.specs.Pools.{log_of, device_of};
 ghost use Rattle.alp_vault.specs.Vault.{AreSizes, IsServer};
 ghost use Rattle.alp_wal.specs.Wal.{disk_of, anchor_of, notes_of, room_of, is_dead};
-ghost use Rattle.alp_format.specs.Format.{blank_state, first_anchor};
+ghost use Rattle.alp_format.specs.Format.{blank_state, first_anchor, Formatting};
 ghost use Rattle.alp_store.specs.Commits.{HasPut};
 ghost use Rattle.alp_store.specs.Shelves.{shelf_log, IsShelf};
-ghost use Rattle.alp_store.specs.Starts.{IsNew, HasNoAnchor, HasFormatted, HasOpenCause, header_batch as header_batch_said};
+ghost use Rattle.alp_store.specs.Starts.{IsNew, HasNoAnchor, Making, HasFormatted, HasOpenCause, header_batch as header_batch_said};
 ghost use Rattle.alp_store.specs.Told.{contents_of, told_by};
 
 use crate::commit::put;
@@ -97,6 +99,7 @@ fn blank<D: Disk>(
     ensures room { IfOk result (λ p. room_of (log_of p) ≡ sizes.area) }
     ensures none { IfOk result (λ p. notes_of (log_of p) ≡ map.empty) }
     ensures alive { IfOk result (λ p. is_dead (log_of p) ≡ false) }
+    ensures moment { IsTrue (D.tells disk) → MatchResult result (λ p. LeavesOnly D.left_since disk (device_of p) (Formatting server servers (D.size disk) sizes (D.may_leave disk))) (λ e. LeavesOnly D.left_since disk e.0 (Formatting server servers (D.size disk) sizes (D.may_leave disk))) }
     ensures below { MatchResult result (λ p. IsSameDevice D.Disk disk (device_of p)) (λ e. IsSameDevice D.Disk disk e.0) }
     ensures volume { IfErr result (λ e. IsOfVolume e.1) }
     ensures cause { HasOpenCause D.Disk (λ p. device_of p) disk result }
@@ -122,6 +125,7 @@ fn made<D: Disk>(
     ensures none { IfOk result (λ s. notes_of (shelf_log s) ≡ map.empty) }
     ensures anchor { IfOk result (λ s. anchor_of (shelf_log s) ≡ first_anchor server servers sizes) }
     ensures below { MatchResult result (λ s. IsSameDevice D.Disk disk (disk_of (shelf_log s))) (λ e. IsSameDevice D.Disk disk e.0) }
+    ensures moment { IsTrue (D.tells disk) → MatchResult result (λ s. LeavesOnly D.left_since disk (disk_of (shelf_log s)) (Making server servers (D.size disk) sizes (D.may_leave disk))) (λ e. LeavesOnly D.left_since disk e.0 (Making server servers (D.size disk) sizes (D.may_leave disk))) }
     ensures volume { IsTrue (D.tells disk) → IfErr result (λ e. IsOfVolume e.1) }
     ensures cause { HasOpenCause D.Disk (λ s. disk_of (shelf_log s)) disk result }
 {
@@ -139,6 +143,7 @@ fn made<D: Disk>(
 fn renew<D: Disk>(disk: &mut D) -> Result<(), Halt>
     requires { 2 ≤ D.size disk.old }
     ensures blank { IsTrue (D.tells disk.old) → OnOk result (HasNoAnchor D.Disk disk.new) }
+    ensures moment { Adds D.left_since disk.old disk.new (After (SameOutside 0 2) (D.may_leave disk.old)) }
     ensures below { IsSameDevice D.Disk disk.old disk.new }
     ensures cause { HasHaltCause (D.faults disk.old) (D.faults disk.new) (D.allowance disk.new) result }
 {
@@ -151,6 +156,7 @@ fn renew<D: Disk>(disk: &mut D) -> Result<(), Halt>
 fn renewed<D: Disk>(disk: D) -> (D, VaultFault)
     requires { 2 ≤ D.size disk }
     ensures blank { IsTrue (D.tells disk) → result.1 ≡ fault.OutOfMemory → HasNoAnchor D.Disk result.0 }
+    ensures moment { Adds D.left_since disk result.0 (After (SameOutside 0 2) (D.may_leave disk)) }
     ensures below { IsSameDevice D.Disk disk result.0 }
     ensures later { D.faults disk ≤ D.faults result.0 }
     ensures still { IsCountKept (D.faults disk) (D.faults result.0) result.1 }
@@ -183,7 +189,7 @@ pub(super) fn create<D: Disk>(
     requires sizes { AreSizesOf (D.size disk) sizes }
     requires server { IsServer server servers }
     ensures shelf { IfOk result (IsShelf D.Disk) }
-    ensures formatted { IsTrue (D.tells disk) → HasFormatted D.Disk (λ s. shelf_log s) server servers sizes result }
+    ensures formatted { IsTrue (D.tells disk) → HasFormatted D.Disk (λ s. shelf_log s) server servers sizes disk result }
     ensures none { IfOk result (λ s. notes_of (shelf_log s) ≡ map.empty) }
     ensures anchor { IfOk result (λ s. anchor_of (shelf_log s) ≡ first_anchor server servers sizes) }
     ensures below { MatchResult result (λ s. IsSameDevice D.Disk disk (disk_of (shelf_log s))) (λ e. IsSameDevice D.Disk disk e.0) }

@@ -59,7 +59,7 @@ fn shelf_on<D: Disk>(
     requires sizes { AreSizes sizes }
     requires server { IsServer server servers }
     ensures shelf { IfOk result (IsShelf D.Disk) }
-    ensures new { IsTrue (D.tells disk) → IsNew sizes (D.size disk) (D.seen disk) → HasFormatted D.Disk (λ s. shelf_log s) server servers sizes result }
+    ensures new { IsTrue (D.tells disk) → IsNew sizes (D.size disk) (D.seen disk) → HasFormatted D.Disk (λ s. shelf_log s) server servers sizes disk result }
     ensures mounted { IsTrue (D.tells disk) → (IsNew sizes (D.size disk) (D.seen disk) → ⊥) → IfOk result (λ s. IsStarted D.Disk disk (shelf_log s)) }
     ensures why_not { IsTrue (D.tells disk) → (IsNew sizes (D.size disk) (D.seen disk) → ⊥) → IfErr result (λ e. WhyNotStarted server servers (D.size disk) (D.seen disk) e.1) }
     ensures looked { IsTrue (D.tells disk) → (IsNew sizes (D.size disk) (D.seen disk) → ⊥) → MatchResult result (λ s. Looked D.Disk disk (disk_of (shelf_log s))) (λ e. Looked D.Disk disk e.0) }
@@ -91,8 +91,9 @@ impl<D: Disk> Store<D> {
         requires sizes { AreSizes sizes }
         requires server { IsServer server servers }
         ensures serves { IfOk result (λ s. s.serves ≡ true) }
-        // A new disk becomes a volume of these sizes that holds nothing; where memory is not there, it stays new.
-        ensures new { IsTrue (D.tells disk) → IsNew sizes (D.size disk) (D.seen disk) → HasFormatted D.Disk (λ s. s.log) server servers sizes result }
+        // A new disk becomes a volume of these sizes that holds nothing; where memory is not there, it stays new. After a fault it is one
+        // that a stop within the call could leave.
+        ensures new { IsTrue (D.tells disk) → IsNew sizes (D.size disk) (D.seen disk) → HasFormatted D.Disk (λ s. s.log) server servers sizes disk result }
         // Any other is mounted, with the cells and notes of its reading. It reads on as before, and a crash leaves no more of it.
         ensures mounted { IsTrue (D.tells disk) → (IsNew sizes (D.size disk) (D.seen disk) → ⊥) → IfOk result (λ s. IsStarted D.Disk disk s.log) }
         ensures why_not { IsTrue (D.tells disk) → (IsNew sizes (D.size disk) (D.seen disk) → ⊥) → IfErr result (λ e. WhyNotStarted server servers (D.size disk) (D.seen disk) e.1) }

@@ -3,16 +3,40 @@ use Rattle.std.proofs.Common.{◌≡◌, ◌≤◌, sym, ◌∙◌, ap, subst, a
 use Rattle.alp_anchor.specs.declared.anchor.Anchor.{Anchor}
 use Rattle.alp_base.specs.declared.faults.VaultFault.{VaultFault}
 use Rattle.alp_format.specs.Format.{first_anchor}
-use Rattle.alp_pool.specs.Pools.{log_of}
+use Rattle.alp_base.specs.Crashes.{LeavesOnly}
+use Rattle.alp_pool.specs.Pools.{log_of, device_of}
 use Rattle.alp_wal.specs.Calls.{Becomes}
 use Rattle.alp_wal.specs.Live.{batch_pages}
 use Rattle.alp_wal.specs.State.{State, applied}
-use Rattle.alp_wal.specs.Wal.{anchor_of, room_of}
-use Rattle.alp_store.specs.Starts.{header_batch}
+use Rattle.alp_wal.specs.Wal.{disk_of, anchor_of, room_of}
+use Rattle.alp_wal.specs.declared.wal.Wal.{Wal}
+use Rattle.alp_store.specs.Starts.{header_batch, Making}
 use Rattle.alp_store.specs.Told.{told_by}
 use Rattle.alp_store.proofs.CreateLaws.{made_empty, made_volume, made_anchored}
 use Rattle.alp_store.proofs.NewLaws.{header_small}
+use Rattle.alp_store.proofs.MakingLaws.{header_put, shelved}
 use Rattle.alp_store.proofs.new_volume.made.Goals as goal
+
+pub returns-in-Err-put_header-clause-moment : goal.returns-in-Err-put_header-clause-moment
+returns-in-Err-put_header-clause-moment g c told =
+    let p = c.in-Ok.pages in
+    let q = c.put_header.new.pages in
+    let k = c.in-Ok.ensures in
+    let there = subst IsTrue (sym k.below.tells) told in
+    let header =
+    header_put g.D.Disk c.args.server c.args.servers c.args.sizes c.args.disk (device_of p) (device_of q) (anchor_of (log_of p)) (told_by g.D.Disk (log_of p)) k.anchor k.below.size (k.told told) (k.moment told) (c.put_header.ensures.crash there) in
+    let last = c.close-in-Err-put_header.ensures ∙ ap (λ (w : Wal g.row.D.Denot). disk_of w) c.close.ensures in
+    subst (λ (e : g.row.D.Denot). LeavesOnly g.D.Disk.left_since c.args.disk e (Making c.args.server c.args.servers (g.D.Disk.size c.args.disk) c.args.sizes (g.D.Disk.may_leave c.args.disk))) (sym last) header
+
+pub returns-clause-moment : goal.returns-clause-moment
+returns-clause-moment g c told =
+    let p = c.in-Ok.pages in
+    let q = c.put_header.new.pages in
+    let k = c.in-Ok.ensures in
+    let there = subst IsTrue (sym k.below.tells) told in
+    let header =
+    header_put g.D.Disk c.args.server c.args.servers c.args.sizes c.args.disk (device_of p) (device_of q) (anchor_of (log_of p)) (told_by g.D.Disk (log_of p)) k.anchor k.below.size (k.told told) (k.moment told) (c.put_header.ensures.crash there) in
+    shelved g.D.Disk c.args.server c.args.servers c.args.sizes g.met.D.Disk.counts_now c.args.disk q c.shelve.result c.shelve.ensures.read header
 
 pub returns-clause-empty : goal.returns-clause-empty
 returns-clause-empty g c told =
