@@ -1,14 +1,15 @@
 #!/usr/bin/env bash
 # Kills a server for real: bench/kill.sh FOLDER ROUNDS. In each round `alpine_bench acknowledge` commits to the volume in
 # FOLDER, and is killed by SIGKILL at a random moment after its first acknowledged commit. Then `alpine play --folder FOLDER`
-# mounts the volume and reads what the commits wrote: each commit whose line came out is to be there, whole, and at most the one
-# behind them besides; of none there is a half. In the end the files of all rounds are read once more. ROUNDS is from 1 to 200,
-# the first of them on the volume that stands in FOLDER, or on a new one.
+# mounts the volume and reads what the commits wrote: the last 32 of the commits whose lines came out are to be there, whole, and
+# at most the one behind them besides; of none there is a half. Their stamps are to rise, and the clock not to be behind the last.
+# In the end the files of all rounds are read once more. ROUNDS is from 1 to 200, the first of them on the volume that stands in
+# FOLDER, or on a new one.
 #
 # A round has two files of 32 pages. Commit N fills page N modulo 32 of both with `commit-` and the eight digits of N, so the two
-# files are alike, and hold the last 32 commits.
+# files are alike, and hold the last 32 commits. What the commits before them wrote, 2,000 or so in a round, is seen by nobody.
 #
-# It shows that nothing told is lost, and nothing half done is left, where the process dies at any moment of a commit or a
+# It shows that none of these is lost, and nothing half done is left, where the process dies at any moment of a commit or a
 # checkpoint. It cannot show what a power cut leaves: the host's cache outlives a killed process, so a sync that is missing is
 # not seen here. ALPINE_BENCH and ALPINE name other programs than those that the gate left.
 set -eu
@@ -83,7 +84,7 @@ wanted() { # LAST
     }'
 }
 
-# Judges the files of a round: all that was told is there, and at most the commit behind it.
+# Judges the files of a round: the last 32 commits that were told are there, and at most the one behind them.
 judge() { # LINE LAST
     pages_of "$1" > "$work/found"
     wanted "$2" > "$work/wanted"
@@ -102,6 +103,7 @@ for ((round = 1; round <= rounds; round++)); do
     read -r _ left right _ _ < "$work/told-$round"
     read -r _ last _ ts _ < <(tail -n 1 "$work/told-$round")
     [ "$(grep -c '^commit ' "$work/told-$round")" -eq "$last" ] || lost "the commits that were told are not those from 1 to $last"
+    awk '$1 == "commit" { if ($4 + 0 <= before) exit 1; before = $4 + 0 }' "$work/told-$round" || lost "the stamps that were told do not rise"
     { printf 'servers 1\nclient 1 Admin\n'; reading "$left" "$right"; } > "$work/script"
     mount
     more=0
@@ -131,5 +133,5 @@ for ((first = 0; first < rounds; first += 100)); do
 done
 
 took=$(($(date +%s) - started))
-echo "$rounds kills, $told acknowledged commits, none lost and no half of one; $ahead times the commit behind them was made before the kill; $took seconds"
+echo "$rounds kills, $told acknowledged commits: the last 32 of each round are there, whole, and no half of one; $ahead times the commit behind them was made before the kill; $took seconds"
 rm -rf "$work"

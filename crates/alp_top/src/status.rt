@@ -22,7 +22,7 @@ pub type Kept<D> = Opened<Store<Fuse<D>>>;
 pub enum Status<D: Disk> {
     /// The script was played and the whole report is written.
     Done { log: Snapshot<RunLog<Kept<D>>> },
-    /// The words are not `play`.
+    /// The command line has no such words, or they ask for help.
     BadWords,
     /// The first line of the script that is outside the language, counted from 1.
     BadScript { line: u32 },
