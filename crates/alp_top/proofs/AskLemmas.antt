@@ -1,7 +1,6 @@
 -- what a client asks is served
 use Rattle.std.specs.Prelude.{Option, None, Some}
-use Rattle.std.specs.Option.{option_map}
-use Rattle.std.proofs.Common.{◌<◌, ◌^◌, ◌≡◌, ℕ, ◌+◌, ◌≤◌, List, refl, sym, ◌∙◌, ap, subst, arith}
+use Rattle.std.proofs.Common.{◌<◌, ◌^◌, ◌≡◌, ℕ, ◌≤◌, List, refl, subst, arith}
 use Rattle.std.proofs.lemmas.List.{length-replicate}
 use Rattle.std.specs.List.{AllByRecursion}
 use Rattle.alp_base.specs.declared.ids.Stamp.{Stamp}
@@ -17,10 +16,7 @@ use Rattle.alp_client.specs.Maps.{WordMap}
 use Rattle.alp_client.specs.declared.client.Client.{Client}
 use Rattle.alp_client.specs.Clients.{call_in, call_with, call_by}
 use Rattle.alp_journal.specs.declared.event.Event.TheVariants as event
-use Rattle.alp_journal.specs.Desk.{Session}
 use Rattle.alp_node.specs.declared.server_state.ServerState.{ServerState}
-use Rattle.alp_node.specs.declared.sessions.Session as node_session
-use Rattle.alp_node.specs.ServerState.{kept_session}
 use Rattle.alp_node.specs.Sessions.{session_at}
 use Rattle.alp_node.specs.Served.{IsTurnCall, IsNextOf, IsServed}
 use Rattle.alp_node.specs.Steps.{seen_in}

@@ -19,8 +19,8 @@ use Rattle.alp_words.specs.declared.command.Command.{Command}
 use Rattle.alp_words.specs.declared.command.Command.TheVariants as command
 use Rattle.alp_top.specs.Headline.{IsRunOf, IsPlayed, IsCutOff}
 use Rattle.alp_top.specs.Logs.{Log}
-use Rattle.alp_top.specs.Statuses.{Kept, OnDone, OnWriteFault, OnCutShort, ended_by, folder_in, IsFolderTold, OnDiskFault, IsBayFaultTold, IsHandedOver, IsPlayedOrMemory}
-use Rattle.alp_top.specs.Volumes.{pages_of, IsReturned, HasRunCause, IsBayFault, IsFolderLeft, IsDiskFault, OnTakenFor, IsStartable, StartsOn}
+use Rattle.alp_top.specs.Statuses.{Kept, OnDone, OnWriteFault, OnCutShort, ended_by, folder_in, IsFolderTold, OnDiskFault, IsHandedOver, IsPlayedOrMemory}
+use Rattle.alp_top.specs.Volumes.{pages_of, IsReturned, HasRunCause, IsFolderLeft, IsDiskFault, OnTakenFor, IsStartable, StartsOn}
 use Rattle.alp_top.specs.declared.fault.RunFault.{RunFault}
 use Rattle.alp_top.specs.declared.fault.RunFault.TheVariants as fault
 use Rattle.alp_top.specs.declared.status.Status.{Status}
