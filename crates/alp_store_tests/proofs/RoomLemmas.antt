@@ -1,5 +1,5 @@
 -- a change of few cells, where there are few, leaves what any volume has room for
-use Rattle.std.specs.Prelude.{Bool, true, false, not, ◌&&◌, cond, sum_by, map as list_map}
+use Rattle.std.specs.Prelude.{Bool, true, false, not, ◌&&◌, cond, sum_by, Some, map as list_map}
 use Rattle.std.specs.List.{filter_map}
 use Rattle.std.specs.FinMap as map
 use Rattle.std.specs.FinMap.{len-insert, len-empty}
@@ -37,7 +37,7 @@ module _ (w : Key × Cell → ℕ) where
 
   after_puts : (ps : List (Key × Cell)) (m : Cells) → sum_of w (edits_map (puts_of ps) m) ≤ sum_of w m + sum_by w ps
   after_puts [] m = omega arith
-  after_puts (p ∷ ps) m = omega (arith, sum_by-cons w p ps, sum-insert keys_total w m p.0 p.1, after_puts ps (map.insert m p.0 p.1))
+  after_puts (p ∷ ps) m = omega (arith, sum_by-cons w p ps, sum-insert keys_total exact_keys w m p.0 p.1, after_puts ps (map.insert m p.0 p.1))
 
   after_cuts : (cs : List (FileId × ℕ)) (ps : List (Key × Cell)) (m : Cells) → sum_of w (edits_map (list_map (λ p. Cut p.0 p.1) cs ++ puts_of ps) m) ≤ sum_of w m + sum_by w ps
   after_cuts [] ps m = after_puts ps m
@@ -96,11 +96,11 @@ misfit e = cond (fits_key e.0 e.1) 0 1
 
 puts_fit : (ps : List (Key × Cell)) → fit_keys ps ≡ true → sum_by misfit ps ≡ 0
 puts_fit [] fit = refl
-puts_fit (p ∷ ps) fit = go (fits_key p.0 p.1) fit (sum_by-cons misfit p ps)
+puts_fit (p ∷ ps) fit = go (fits_key p.0 p.1) fit (sum_by-cons misfit p ps) (puts_fit ps)
   where
-    go : (b : Bool) → b && fit_keys ps ≡ true → sum_by misfit (p ∷ ps) ≡ cond b 0 1 + sum_by misfit ps → sum_by misfit (p ∷ ps) ≡ 0
-    go true rest sum = omega (arith, sum, puts_fit ps rest)
-    go false rest sum = cc
+    go : (b : Bool) → b && fit_keys ps ≡ true → sum_by misfit (p ∷ ps) ≡ cond b 0 1 + sum_by misfit ps → (fit_keys ps ≡ true → sum_by misfit ps ≡ 0) → sum_by misfit (p ∷ ps) ≡ 0
+    go true rest sum more = omega (arith, sum, more rest)
+    go false rest sum more = cc
 
 sizes_small : (m : Cells) → sum_of misfit m ≡ 0 → (f : FileId) (p : Props) → map.get m (Leader f) ≡ Some (cell.Leader p) → p.size ≤ PAGES_PER_FILE
 sizes_small m none f p is = go (fits_key (Leader f) (cell.Leader p)) refl
@@ -111,7 +111,7 @@ sizes_small m none f p is = go (fits_key (Leader f) (cell.Leader p)) refl
       none,
       ap (sum_of misfit) (back_again m (Leader f) (cell.Leader p) is),
       ap (weight_at misfit (Leader f)) (not_there_now m (Leader f)),
-      sum-insert keys_total misfit (map.remove m (Leader f)) (Leader f) (cell.Leader p),
+      sum-insert keys_total exact_keys misfit (map.remove m (Leader f)) (Leader f) (cell.Leader p),
     )
 
     go : (b : Bool) → fits_key (Leader f) (cell.Leader p) ≡ b → p.size ≤ PAGES_PER_FILE

@@ -1,5 +1,5 @@
 //! A vault in memory.
-ghost use Rattle.std.specs.Prelude.{◌≡◌, ◌+◌, ◌≤◌, true, IfOk, OnOk, IsTrue};
+ghost use Rattle.std.specs.Prelude.{◌≡◌, ◌+◌, ◌≤◌, true, IfOk, OnOk, IsTrue, length};
 ghost use Rattle.alp_fields.specs.ClockNote.{IsClockNote};
 ghost use Rattle.alp_files.specs.Changes.{ArePutOnce};
 ghost use Rattle.alp_files.specs.Counts.{used_of, owner_count_of};
@@ -24,12 +24,13 @@ pub(super) struct Memory {
     ghost serves: { IsTrue (⟦<MemVault as Vault>⟧.serves vault) },
 }
 
-// Whether there are so few cells that any volume has room for them and for so many puts.
-fn are_few(vault: &MemVault, puts: usize) -> bool
+// Whether there are so few cells, also those that the change puts, that any volume has room for them.
+fn are_few(vault: &MemVault, change: &Change) -> bool
     requires { IsTrue (⟦<MemVault as Vault>⟧.serves vault.now) }
-    ensures { result ≡ true → let cells = (⟦<MemVault as Vault>⟧.held vault.now).cells in used_of cells + owner_count_of cells + puts ≤ 127 }
+    ensures { result ≡ true → let cells = (⟦<MemVault as Vault>⟧.held vault.now).cells in used_of cells + owner_count_of cells + length change.now.puts ≤ 127 }
 {
     let cells = u64::from(vault.used()) + u64::from(vault.owner_count());
+    let puts = change.puts.as_slice().len();
     puts < 128 && cells + puts as u64 <= 127
 }
 
@@ -41,7 +42,7 @@ fn commit(vault: &mut MemVault, change: &Change, note: NoteChange) -> Result<(),
     ensures { OnOk result (IsTrue (⟦<MemVault as Vault>⟧.serves vault.new)) }
 {
     let notes = [note];
-    if !can_take(vault, change, &notes) || !are_few(vault, change.puts.as_slice().len()) {
+    if !can_take(vault, change, &notes) || !are_few(vault, change) {
         return Err("no room".into());
     }
     vault.knows();
