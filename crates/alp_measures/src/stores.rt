@@ -1,6 +1,6 @@
 //! Commits to a store on a file of the host, beside appends to a file that are synced, and fetches of pages that are in
 //! memory.
-ghost use Rattle.std.specs.Prelude.{◌≡◌, ◌≤◌, ◌^◌, [], IfOk, OnOk, IsTrue, false};
+ghost use Rattle.std.specs.Prelude.{◌≡◌, ◌≤◌, ◌^◌, IfOk, OnOk, IsTrue, false};
 ghost use Rattle.alp_files.specs.Changes.{ArePutOnce};
 ghost use Rattle.alp_vault.specs.Volumes.{IsCommit};
 
@@ -133,8 +133,7 @@ fn page_cells(alloc: Global, pages: u32, byte: u8) -> Result<CellMap, OutOfMemor
 
 // All cells are put.
 fn change_of(alloc: Global, cells: &CellMap) -> Result<Change, OutOfMemory>
-    ensures alone { IfOk result (λ c. (c.drops ≡ []) × (c.cuts ≡ [])) }
-    ensures once { IfOk result (λ c. ArePutOnce c.puts) }
+    ensures { IfOk result (λ c. ArePutOnce c.puts) }
 {
     let puts = cells.copies(alloc)?;
     Ok(Change {

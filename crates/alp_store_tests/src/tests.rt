@@ -1,6 +1,8 @@
 //! A store under failures, stops and restarts.
+mod changes;
 mod commits;
 mod fixtures;
+mod memory;
 mod quiet_disk;
 mod serving;
 mod turns;
@@ -10,6 +12,7 @@ use alp_disk::Disk;
 use alp_files::CellMap;
 use alp_store::Store;
 use alp_vault::Vault;
+use commits::puts_of;
 use fixtures::{FILE, SIZES, agree, committed, mem_disk, put_file, put_pages, same_cell, started};
 use quiet_disk::QuietDisk;
 use serving::Serving;
@@ -115,8 +118,9 @@ fn after_a_stop<D: Disk>(
 ) -> Result<Option<Left>, Fail> {
     let cells = three_pages(alloc)?;
     let none = CellMap::new(alloc);
+    let change = puts_of(alloc, &cells)?;
     let store = started(alloc, disk, SIZES)?;
-    let (store, stopped) = store.stopped(alloc, &cells, 9, calls, pick)?;
+    let (store, stopped) = store.stopped(alloc, &change, 9, calls, pick)?;
     let (store, before) = agree(store, &none, 3)?;
     let (store, after) = agree(store, &cells, 3)?;
     let counts = store.counts(alloc)?;

@@ -1,5 +1,5 @@
-//! What the tests ask of a vault of which nothing is told.
-ghost use Rattle.std.specs.Prelude.{◌≡◌, [], IsTrue, IfOk, OnOk, false};
+//! What the tests ask of a vault.
+ghost use Rattle.std.specs.Prelude.{◌≡◌, IsTrue, IfOk, OnOk, false};
 ghost use Rattle.alp_fields.specs.ClockNote.{IsClockNote};
 ghost use Rattle.alp_files.specs.Changes.{ArePutOnce};
 
@@ -12,9 +12,8 @@ use std::alloc::Global;
 use std::test::Fail;
 
 // All cells are put.
-fn change_of(alloc: Global, cells: &CellMap) -> Result<Change, OutOfMemory>
-    ensures alone { IfOk result (λ c. (c.drops ≡ []) × (c.cuts ≡ [])) }
-    ensures once { IfOk result (λ c. ArePutOnce c.puts) }
+pub(super) fn puts_of(alloc: Global, cells: &CellMap) -> Result<Change, OutOfMemory>
+    ensures { IfOk result (λ c. ArePutOnce c.puts) }
 {
     let puts = cells.copies(alloc)?;
     Ok(Change {
@@ -24,15 +23,22 @@ fn change_of(alloc: Global, cells: &CellMap) -> Result<Change, OutOfMemory>
     })
 }
 
+// The note of that clock.
+pub(super) fn clock_note(alloc: Global, clock: u32) -> Result<NoteChange, OutOfMemory>
+    ensures { IfOk result IsClockNote }
+{
+    let clock = u64::from(clock);
+    clock_change(alloc, ClockNote { epoch: 1, clock })
+}
+
 // Makes the change where the vault can take it. Gives whether it could.
-fn commit_change<V: Vault>(
+fn commit_noted<V: Vault>(
     vault: &mut V,
     change: &Change,
     note: NoteChange,
 ) -> Result<bool, VaultFault>
     requires serves { IsTrue (V.serves vault.old) }
     requires told { V.tells vault.old ≡ false }
-    requires alone { (change.now.drops ≡ []) × (change.now.cuts ≡ []) }
     requires once { ArePutOnce change.now.puts }
     requires clock { IsClockNote note }
     ensures serves { OnOk result (IsTrue (V.serves vault.new)) }
@@ -48,30 +54,27 @@ fn commit_change<V: Vault>(
     }
 }
 
-// Commits the cells with the note of that clock. Gives whether there is room for them.
+// Makes the change with the note of that clock. Gives whether there is room for it.
 pub(super) fn commit<V: Vault>(
     alloc: Global,
     vault: &mut V,
-    cells: &CellMap,
+    change: &Change,
     clock: u32,
 ) -> Result<bool, VaultFault>
     requires serves { IsTrue (V.serves vault.old) }
     requires told { V.tells vault.old ≡ false }
+    requires once { ArePutOnce change.now.puts }
     ensures serves { OnOk result (IsTrue (V.serves vault.new)) }
     ensures told { V.tells vault.new ≡ false }
 {
-    let Ok(change) = change_of(alloc, cells) else {
-        return Err(VaultFault::OutOfMemory);
-    };
-    let clock = u64::from(clock);
-    let Ok(note) = clock_change(alloc, ClockNote { epoch: 1, clock }) else {
-        return Err(VaultFault::OutOfMemory);
-    };
-    commit_change(vault, &change, note)
+    match clock_note(alloc, clock) {
+        Ok(note) => commit_noted(vault, change, note),
+        Err(OutOfMemory) => Err(VaultFault::OutOfMemory),
+    }
 }
 
 // The clock of the note, and 0 where there is none.
-pub(super) fn clock_of<V: Vault>(alloc: Global, vault: &V) -> Result<u64, Fail>
+fn clock_of<V: Vault>(alloc: Global, vault: &V) -> Result<u64, Fail>
     requires { IsTrue (V.serves vault.now) }
 {
     let name = clock_note_name(alloc)?;
@@ -82,4 +85,12 @@ pub(super) fn clock_of<V: Vault>(alloc: Global, vault: &V) -> Result<u64, Fail>
         Some(note) => Ok(note.clock),
         None => Err("a note".into()),
     }
+}
+
+// Files, owners, places and the clock.
+pub(super) fn counts_of<V: Vault>(alloc: Global, vault: &V) -> Result<(u32, u32, u32, u64), Fail>
+    requires { IsTrue (V.serves vault.now) }
+{
+    let clock = clock_of(alloc, vault)?;
+    Ok((vault.file_count(), vault.owner_count(), vault.used(), clock))
 }

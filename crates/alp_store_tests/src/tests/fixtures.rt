@@ -1,4 +1,7 @@
 //! Disks and cells of the tests.
+ghost use Rattle.std.specs.Prelude.{◌≡◌};
+
+use super::commits::puts_of;
 use super::quiet_disk::QuietDisk;
 use super::serving::Serving;
 use crate::Silent;
@@ -51,10 +54,27 @@ pub(super) fn started<D: Disk>(
 
 // ---- cells
 
-fn ann() -> Result<Name, Fail> {
+pub(super) fn ann() -> Result<Name, Fail> {
     match Name::parse(b"ann") {
         Some(name) => Ok(name),
         None => Err("a name".into()),
+    }
+}
+
+pub(super) fn props_of(alloc: Global, owner: Name, size: u32, time: u32) -> Props
+    ensures owner { result.owner ≡ owner }
+    ensures size { result.size ≡ size }
+{
+    Props {
+        owner,
+        name: owner,
+        type_no: 0,
+        create_time: u64::from(time),
+        byte_length: 0,
+        size,
+        high_water: size,
+        read: AccessList::new(Vec::new(alloc)),
+        modify: AccessList::new(Vec::new(alloc)),
     }
 }
 
@@ -66,17 +86,7 @@ pub(super) fn put_file(
     quota: u32,
 ) -> Result<(), Fail> {
     let name = ann()?;
-    let props = Props {
-        owner: name,
-        name,
-        type_no: 0,
-        create_time: u64::from(quota),
-        byte_length: 0,
-        size,
-        high_water: size,
-        read: AccessList::new(Vec::new(alloc)),
-        modify: AccessList::new(Vec::new(alloc)),
-    };
+    let props = props_of(alloc, name, size, quota);
     let owner = OwnerRecord {
         name,
         quota,
@@ -104,18 +114,15 @@ pub(super) fn put_pages(
     Ok(())
 }
 
-// The store with these cells, where there is room for them.
+// The store with these cells.
 pub(super) fn committed<V: Vault>(
     alloc: Global,
     store: Serving<V>,
     cells: &CellMap,
     clock: u32,
 ) -> Result<Serving<V>, Fail> {
-    let (store, made) = store.commit(alloc, cells, clock)?;
-    if !made {
-        return Err("no room".into());
-    }
-    Ok(store)
+    let change = puts_of(alloc, cells)?;
+    store.commit(alloc, &change, clock)
 }
 
 pub(super) fn same_cell(found: &Option<Cell>, wanted: Option<&Cell>) -> bool {
@@ -127,7 +134,7 @@ pub(super) fn same_cell(found: &Option<Cell>, wanted: Option<&Cell>) -> bool {
 }
 
 // Whether the store holds at the key what the map has there, 1 where it does and 0 where it does not.
-fn agree_at<V: Vault>(
+pub(super) fn agree_at<V: Vault>(
     store: Serving<V>,
     cells: &CellMap,
     key: &Key,

@@ -1,11 +1,12 @@
 //! A vault that serves.
 ghost use Rattle.std.specs.Prelude.{◌≡◌, IsTrue, false};
+ghost use Rattle.alp_files.specs.Changes.{ArePutOnce};
 
-use super::commits::{clock_of, commit};
+use super::commits::{commit, counts_of};
 use super::quiet_disk::QuietDisk;
 use alp_base::{Key, VaultFault};
 use alp_disk::Disk;
-use alp_files::{Cell, CellMap};
+use alp_files::{Cell, Change};
 use alp_store::Store;
 use alp_vault::Vault;
 use std::alloc::Global;
@@ -27,16 +28,19 @@ impl<V: Vault> Serving<V> {
         Serving { vault }
     }
 
-    // Commits the cells with the note of that clock. Gives whether there is room for them.
+    // Makes the change with the note of that clock.
     pub(super) fn commit(
         self,
         alloc: Global,
-        cells: &CellMap,
+        change: &Change,
         clock: u32,
-    ) -> Result<(Serving<V>, bool), Fail> {
+    ) -> Result<Serving<V>, Fail>
+        requires { ArePutOnce change.now.puts }
+    {
         let Serving { mut vault } = self;
-        match commit(alloc, &mut vault, cells, clock) {
-            Ok(made) => Ok((Serving { vault }, made)),
+        match commit(alloc, &mut vault, change, clock) {
+            Ok(true) => Ok(Serving { vault }),
+            Ok(false) => Err("no room".into()),
             Err(_) => Err("a commit".into()),
         }
     }
@@ -45,14 +49,16 @@ impl<V: Vault> Serving<V> {
     pub(super) fn stopped(
         self,
         alloc: Global,
-        cells: &CellMap,
+        change: &Change,
         clock: u32,
         calls: u32,
         pick: u64,
-    ) -> Result<(Serving<V>, bool), Fail> {
+    ) -> Result<(Serving<V>, bool), Fail>
+        requires { ArePutOnce change.now.puts }
+    {
         let Serving { mut vault } = self;
         vault.stop_after(Some(calls));
-        match commit(alloc, &mut vault, cells, clock) {
+        match commit(alloc, &mut vault, change, clock) {
             Ok(true) => Ok((Serving { vault }, false)),
             Err(VaultFault::Stopped) => Ok((after_crash(vault, pick)?, true)),
             _ => Err("a commit".into()),
@@ -77,9 +83,7 @@ impl<V: Vault> Serving<V> {
 
     // Files, owners, places and the clock.
     pub(super) fn counts(&self, alloc: Global) -> Result<(u32, u32, u32, u64), Fail> {
-        let vault = &self.vault;
-        let clock = clock_of(alloc, vault)?;
-        Ok((vault.file_count(), vault.owner_count(), vault.used(), clock))
+        counts_of(alloc, &self.vault)
     }
 }
 

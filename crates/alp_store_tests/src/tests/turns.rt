@@ -1,10 +1,10 @@
-//! Random changes with restarts, beside a plain map.
-use super::fixtures::{FILE, SIZES, agree, committed, mem_disk, put_file, put_pages, started};
+//! Random changes with restarts, beside a vault in memory.
+use super::changes::all_keys;
+use super::fixtures::{SIZES, agree_at, mem_disk, started};
+use super::memory::Memory;
 use super::quiet_disk::QuietDisk;
 use super::serving::Serving;
-use alp_base::Key;
 use alp_disk::Disk;
-use alp_files::CellMap;
 use alp_store::Store;
 use alp_vault::Vault;
 use std::alloc::Global;
@@ -12,35 +12,6 @@ use std::test::*;
 
 // How many changes are made.
 const TURNS: u32 = 1000;
-
-// How many pages the file may have.
-const PAGES: u32 = 200;
-
-// What the store holds.
-#[derive(Drop)]
-struct PlainMap {
-    cells: CellMap,
-    clock: u32,
-}
-
-impl PlainMap {
-    // One for the file, one for each page, and one for each of its two blocks that has a page.
-    fn used(&self) -> u32 {
-        let mut places = 1u32;
-        let mut blocks = (0u32, 0u32);
-        for number in 0..PAGES {
-            if self.cells.get(&Key::PageOf(FILE, number)).is_some() {
-                places = places.saturating_add(1);
-                blocks = if number < 128 {
-                    (1, blocks.1)
-                } else {
-                    (blocks.0, 1)
-                };
-            }
-        }
-        places.saturating_add(blocks.0).saturating_add(blocks.1)
-    }
-}
 
 // The next of numbers that look random.
 fn next_number(seed: &mut u64) -> u32 {
@@ -50,27 +21,36 @@ fn next_number(seed: &mut u64) -> u32 {
     (*seed >> 33) as u32
 }
 
-// The file and up to three of its pages, by that number.
-fn put_some(alloc: Global, cells: &mut CellMap, number: u32) -> Result<(), Fail> {
-    let first = number % 190;
-    let count = number / 190 % 3 + 1;
-    let byte = (number / 1000 % 250) as u8;
-    put_file(alloc, cells, PAGES, number)?;
-    put_pages(alloc, cells, first, count, byte)
+// A store, and a vault in memory that is to hold the same.
+#[derive(Drop)]
+struct Twins<V: Vault> {
+    store: Serving<V>,
+    memory: Memory,
 }
 
-// A change of the store and of the map.
-fn turn<V: Vault>(
-    alloc: Global,
-    store: Serving<V>,
-    map: &mut PlainMap,
-    number: u32,
-) -> Result<Serving<V>, Fail> {
-    let mut change = CellMap::new(alloc);
-    put_some(alloc, &mut change, number)?;
-    put_some(alloc, &mut map.cells, number)?;
-    map.clock = map.clock.saturating_add(1);
-    committed(alloc, store, &change, map.clock)
+impl<V: Vault> Twins<V> {
+    // The same change of both.
+    fn turn(self, alloc: Global, number: u32, clock: u32) -> Result<Twins<V>, Fail> {
+        let (memory, change) = self.memory.commit_next(alloc, number, clock)?;
+        let store = self.store.commit(alloc, &change, clock)?;
+        Ok(Twins { store, memory })
+    }
+
+    // Both, where they hold the same cells and count the same, with the same clock.
+    fn agree(self, alloc: Global) -> Result<Twins<V>, Fail> {
+        let Twins { mut store, memory } = self;
+        for key in all_keys(alloc)? {
+            let (next, same) = agree_at(store, memory.cells(), &key)?;
+            store = next;
+            if same == 0 {
+                return Err("another cell".into());
+            }
+        }
+        if store.counts(alloc)? != memory.counts(alloc)? {
+            return Err("another count".into());
+        }
+        Ok(Twins { store, memory })
+    }
 }
 
 // The store again: on its disk anew, or after a crash with a recovery.
@@ -85,56 +65,45 @@ fn again<D: Disk>(
     store.crash(u64::from(number))
 }
 
-// The store, where it holds just what the map has.
-fn agreeing<V: Vault>(
-    alloc: Global,
-    store: Serving<V>,
-    map: &PlainMap,
-) -> Result<Serving<V>, Fail> {
-    let (store, same) = agree(store, &map.cells, PAGES)?;
-    let counts = store.counts(alloc)?;
-    if same != PAGES + 2 || counts != (1, 1, map.used(), u64::from(map.clock)) {
-        return Err("another map".into());
-    }
-    Ok(store)
-}
-
-// A change, maybe a restart behind it, and maybe a look whether the store holds what the map has.
+// A change, maybe a restart of the store behind it, and maybe a look whether both hold the same.
 fn step<D: Disk>(
     alloc: Global,
-    store: Serving<Store<D>>,
-    map: &mut PlainMap,
+    twins: Twins<Store<D>>,
     number: u32,
-) -> Result<Serving<Store<D>>, Fail> {
-    let mut store = turn(alloc, store, map, number)?;
-    if number % 10 == 0 {
-        store = again(alloc, store, number / 10)?;
+    clock: u32,
+) -> Result<Twins<Store<D>>, Fail> {
+    let Twins { mut store, memory } = twins.turn(alloc, number, clock)?;
+    let more = number >> 20;
+    if more % 10 == 0 {
+        store = again(alloc, store, more / 10)?;
     }
-    if number % 5 == 0 {
-        store = agreeing(alloc, store, map)?;
+    let twins = Twins { store, memory };
+    if more % 5 == 0 {
+        return twins.agree(alloc);
     }
-    Ok(store)
+    Ok(twins)
 }
 
-// Gives how many changes were made.
-fn play<D: Disk>(alloc: Global, disk: QuietDisk<D>) -> Result<u32, Fail> {
-    let mut store = started(alloc, disk, SIZES)?;
-    let mut map = PlainMap {
-        cells: CellMap::new(alloc),
-        clock: 0,
+// Gives the vault in memory at the end.
+fn play<D: Disk>(alloc: Global, disk: QuietDisk<D>) -> Result<Memory, Fail> {
+    let mut twins = Twins {
+        store: started(alloc, disk, SIZES)?,
+        memory: Memory::new(alloc),
     };
     let mut seed = 7u64;
-    for _ in 0..TURNS {
-        store = step(alloc, store, &mut map, next_number(&mut seed))?;
+    for turn in 0..TURNS {
+        twins = step(alloc, twins, next_number(&mut seed), turn + 1)?;
     }
-    agreeing(alloc, store, &map)?;
-    Ok(map.clock)
+    Ok(twins.agree(alloc)?.memory)
 }
 
 #[test]
-fn changes_and_restarts_beside_a_plain_map(rt: HostRuntime) -> Result<(), Fail> {
+fn changes_and_restarts_beside_a_vault_in_memory(rt: HostRuntime) -> Result<(), Fail> {
     let alloc = rt.alloc();
     let disk = mem_disk(alloc, SIZES, Vec::new(alloc))?;
-    assert_eq!(rt; play(alloc, disk)?, TURNS);
+    let memory = play(alloc, disk)?;
+    let (_, owners, _, clock) = memory.counts(alloc)?;
+    assert_eq!(rt; (owners, clock), (1, u64::from(TURNS)));
+    assert!(rt; memory.deleted > 0 && memory.cut > 0);
     Ok(())
 }

@@ -1,0 +1,103 @@
+//! A vault in memory.
+ghost use Rattle.std.specs.Prelude.{◌≡◌, ◌+◌, ◌≤◌, true, IfOk, OnOk, IsTrue, length};
+ghost use Rattle.alp_fields.specs.ClockNote.{IsClockNote};
+ghost use Rattle.alp_files.specs.Changes.{ArePutOnce};
+ghost use Rattle.alp_files.specs.Counts.{used_of, owner_count_of};
+ghost use Rattle.alp_store_tests.specs.FileChanges.{IsFileChange};
+
+use super::changes::next_change;
+use super::commits::{clock_note, counts_of};
+use super::fixtures::SIZES;
+use alp_base::NoteChange;
+use alp_files::{CellMap, Change};
+use alp_measures::can_take;
+use alp_vault::{MemVault, Vault};
+use std::alloc::Global;
+use std::test::Fail;
+
+// A vault in memory that serves, in which so many files were deleted, and from which so many cuts took pages.
+#[derive(Drop)]
+pub(super) struct Memory {
+    vault: MemVault,
+    pub(super) deleted: u32,
+    pub(super) cut: u32,
+    ghost serves: { IsTrue (⟦<MemVault as Vault>⟧.serves vault) },
+}
+
+// Whether there are so few cells, also those that the change puts, that any volume has room for them.
+fn are_few(vault: &MemVault, change: &Change) -> bool
+    requires { IsTrue (⟦<MemVault as Vault>⟧.serves vault.now) }
+    ensures { result ≡ true → let cells = (⟦<MemVault as Vault>⟧.held vault.now).cells in used_of cells + owner_count_of cells + length change.now.puts ≤ 127 }
+{
+    let cells = u64::from(vault.used()) + u64::from(vault.owner_count());
+    let puts = change.puts.as_slice().len();
+    puts < 128 && cells + puts as u64 <= 127
+}
+
+// Makes the change of a vault in which there are few cells.
+fn commit(vault: &mut MemVault, change: &Change, note: NoteChange) -> Result<(), Fail>
+    requires serves { IsTrue (⟦<MemVault as Vault>⟧.serves vault.old) }
+    requires clock { IsClockNote note }
+    requires change { IsFileChange (⟦<MemVault as Vault>⟧.held vault.old).cells change.now }
+    ensures { OnOk result (IsTrue (⟦<MemVault as Vault>⟧.serves vault.new)) }
+{
+    let notes = [note];
+    if !can_take(vault, change, &notes) || !are_few(vault, change) {
+        return Err("no room".into());
+    }
+    vault.knows();
+    match vault.commit(change, &notes) {
+        Ok(()) => Ok(()),
+        Err(_) => Err("a commit".into()),
+    }
+}
+
+impl Memory {
+    pub(super) fn new(alloc: Global) -> Memory {
+        Memory {
+            vault: MemVault::new(alloc, SIZES, 1, 1),
+            deleted: 0,
+            cut: 0,
+        }
+    }
+
+    // Makes a change by that number with the note of that clock. Gives the change too.
+    pub(super) fn commit_next(
+        self,
+        alloc: Global,
+        number: u32,
+        clock: u32,
+    ) -> Result<(Memory, Change), Fail>
+        ensures { IfOk result (λ r. ArePutOnce r.1.puts) }
+    {
+        let Memory {
+            mut vault,
+            mut deleted,
+            mut cut,
+        } = self;
+        let before = vault.used();
+        let change = next_change(alloc, vault.cells(), number)?;
+        let note = clock_note(alloc, clock)?;
+        commit(&mut vault, &change, note)?;
+        if !change.drops.as_slice().is_empty() {
+            deleted = deleted.saturating_add(1);
+        } else if vault.used() < before {
+            cut = cut.saturating_add(1);
+        }
+        let memory = Memory {
+            vault,
+            deleted,
+            cut,
+        };
+        Ok((memory, change))
+    }
+
+    pub(super) fn cells(&self) -> &CellMap {
+        self.vault.cells()
+    }
+
+    // Files, owners, places and the clock.
+    pub(super) fn counts(&self, alloc: Global) -> Result<(u32, u32, u32, u64), Fail> {
+        counts_of(alloc, &self.vault)
+    }
+}
