@@ -31,29 +31,6 @@ pub(super) fn clock_note(alloc: Global, clock: u32) -> Result<NoteChange, OutOfM
     clock_change(alloc, ClockNote { epoch: 1, clock })
 }
 
-// Makes the change where the vault can take it. Gives whether it could.
-fn commit_noted<V: Vault>(
-    vault: &mut V,
-    change: &Change,
-    note: NoteChange,
-) -> Result<bool, VaultFault>
-    requires serves { IsTrue (V.serves vault.old) }
-    requires told { V.tells vault.old ≡ false }
-    requires once { ArePutOnce change.now.puts }
-    requires clock { IsClockNote note }
-    ensures serves { OnOk result (IsTrue (V.serves vault.new)) }
-    ensures told { V.tells vault.new ≡ false }
-{
-    let notes = [note];
-    if !can_take(vault, change, &notes) {
-        return Ok(false);
-    }
-    match vault.commit(change, &notes) {
-        Ok(()) => Ok(true),
-        Err(fault) => Err(fault),
-    }
-}
-
 // Makes the change with the note of that clock. Gives whether there is room for it.
 pub(super) fn commit<V: Vault>(
     alloc: Global,
@@ -67,9 +44,16 @@ pub(super) fn commit<V: Vault>(
     ensures serves { OnOk result (IsTrue (V.serves vault.new)) }
     ensures told { V.tells vault.new ≡ false }
 {
-    match clock_note(alloc, clock) {
-        Ok(note) => commit_noted(vault, change, note),
-        Err(OutOfMemory) => Err(VaultFault::OutOfMemory),
+    let Ok(note) = clock_note(alloc, clock) else {
+        return Err(VaultFault::OutOfMemory);
+    };
+    let notes = [note];
+    if !can_take(vault, change, &notes) {
+        return Ok(false);
+    }
+    match vault.commit(change, &notes) {
+        Ok(()) => Ok(true),
+        Err(fault) => Err(fault),
     }
 }
 

@@ -24,14 +24,16 @@ pub(super) struct Memory {
     ghost serves: { IsTrue (⟦<MemVault as Vault>⟧.serves vault) },
 }
 
-// Whether there are so few cells, also those that the change puts, that any volume has room for them.
+// A volume has 255 places at least, and a cell takes two at most: its own, and that of its block.
+const FEW: u32 = 127;
+
+// Whether there are few cells, also with those that the change puts.
 fn are_few(vault: &MemVault, change: &Change) -> bool
     requires { IsTrue (⟦<MemVault as Vault>⟧.serves vault.now) }
-    ensures { result ≡ true → let cells = (⟦<MemVault as Vault>⟧.held vault.now).cells in used_of cells + owner_count_of cells + length change.now.puts ≤ 127 }
+    ensures { result ≡ true → let cells = (⟦<MemVault as Vault>⟧.held vault.now).cells in used_of cells + owner_count_of cells + length change.now.puts ≤ FEW }
 {
-    let cells = u64::from(vault.used()) + u64::from(vault.owner_count());
-    let puts = change.puts.as_slice().len();
-    puts < 128 && cells + puts as u64 <= 127
+    let cells = vault.used() as u128 + vault.owner_count() as u128;
+    cells + change.puts.as_slice().len() as u128 <= FEW as u128
 }
 
 // Makes the change of a vault in which there are few cells.
