@@ -11,7 +11,7 @@ use Rattle.alp_journal.specs.declared.entry.Entry.{Entry}
 use Rattle.alp_journal.specs.declared.event.Event.TheVariants as event
 use Rattle.alp_node.specs.NodeStates.{NodeState}
 use Rattle.alp_node.specs.Sessions.{session_at}
-use Rattle.alp_node.specs.declared.sessions.Session.{Session}
+use Rattle.alp_journal.specs.Desk.{Session}
 use Rattle.alp_acknowledge.specs.declared.caller.Caller.{Caller}
 
 -- the session has come to this call

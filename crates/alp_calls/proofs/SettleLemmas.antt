@@ -17,7 +17,7 @@ use Rattle.alp_files.specs.Act.{Own, Answer}
 use Rattle.alp_files.specs.Cells.{Cells}
 use Rattle.alp_files.specs.Edits.{Edit, edits_map, ChangesBy}
 use Rattle.alp_files.specs.Needs.{is_put}
-use Rattle.alp_files.specs.Passing.{is_passing, IsFileReply}
+use Rattle.alp_files.specs.Passing.{is_passing}
 use Rattle.alp_files.specs.Undo.{puts_of}
 use Rattle.alp_files.proofs.SameLemmas.{same_key-true}
 use Rattle.alp_files.proofs.UndoLemmas.{puts_change}
@@ -28,7 +28,7 @@ use Rattle.alp_trans.specs.Parts.{own_of}
 use Rattle.alp_trans.specs.declared.counts.Counts.{Counts}
 use Rattle.alp_trans.specs.declared.part.Part.{Part}
 use Rattle.alp_calls.specs.Limits.{refused_for}
-use Rattle.alp_calls.specs.Parts.{AllFit, IsPart, Performs, Settled, IsRight, Answered, SaysCall, GivesOnly, StandsAfter, IsNextOpen, has_contents, own_with, reply_of, answer_of}
+use Rattle.alp_calls.specs.Parts.{AllFit, IsPart, Performs, Settled, IsRight, Answered, SaysCall, GivesOnly, StandsAfter, IsNextOpen, IsPartReply, has_contents, own_with, reply_of, answer_of}
 use Rattle.alp_calls.specs.declared.fault.CallFault.{CallFault}
 use Rattle.alp_calls.specs.declared.limits.Room.{Room}
 use Rattle.alp_calls.specs.declared.said.Said.{Said}
@@ -90,7 +90,7 @@ done_settled tells held old new room s r puts o after is given silent next free 
 
 -- what was said is what one thread is given
 pub answered_so : (tells : Bool) (held : Cells) (old new : Part) (who : List ℕ) (id : FileId) (c : Call) (room : Room) (s : Said) (r : Reply)
-    → (IsTrue tells → SaysCall held old who id c s) → GivesOnly id (reply_of s) → is_passing (reply_of s) ≡ false → IsFileReply (reply_of s)
+    → (IsTrue tells → SaysCall held old who id c s) → GivesOnly id (reply_of s) → is_passing (reply_of s) ≡ false → IsPartReply (reply_of s)
     → Settled tells held old new room s r → Answered tells held old new who id c room r
 answered_so tells held old new who id c room s r says ids own kind h = record {
   given = reply_of s;

@@ -11,6 +11,7 @@ use Rattle.alp_files.specs.declared.cell.Cell.{Cell}
 use Rattle.alp_files.specs.declared.cell.Props.{Props}
 use Rattle.alp_files.specs.declared.open.Open.{Open}
 use Rattle.alp_files.specs.declared.refusal.Refusal.{Refusal}
+use Rattle.alp_files.specs.declared.refusal.Refusal.TheVariants as refusal
 use Rattle.alp_files.specs.declared.refusal.ListName.{ListName}
 use Rattle.alp_files.specs.declared.refusal.ListName.TheVariants as lists
 use Rattle.alp_files.specs.declared.call.Call.{Call}
@@ -138,6 +139,15 @@ has_contents (reply.Props p) = true
 has_contents (reply.Owner o) = true
 has_contents _ = false
 
+-- it says that a journal is full
+abbrev pub is_full : Reply → Bool
+is_full (reply.Refused refusal.JournalFull) = true
+is_full _ = false
+
+-- a part gives what one thread gets, and knows nothing of a journal
+abbrev pub IsPartReply : Reply → Type 0
+IsPartReply r = IsFileReply r × (is_full r ≡ false)
+
 -- such a reply left the part as it was
 abbrev pub ReadsOnly : Part → Part → Reply → Type 0
 ReadsOnly old new r = has_contents r ≡ true → IsAsBefore old new
@@ -169,7 +179,7 @@ pub record Answered (tells : Bool) (held : Cells) (old new : Part) (who : List �
   pub after : Counts
   pub ids : GivesOnly id given
   pub own : is_passing given ≡ false
-  pub kind : IsFileReply given
+  pub kind : IsPartReply given
   pub said : r ≡ unless_counts given (refused_for room old.counts after)
   pub stands : StandsAfter old new after (refused_for room old.counts after)
   pub reads : ReadsOnly old new r

@@ -3,9 +3,9 @@ ghost use Rattle.std.specs.Prelude.{◌≡◌, ◌+◌, ◌^◌, ◌<◌, ◌≤
 ghost use Rattle.alp_base.specs.declared.key.Key.TheVariants as key;
 ghost use Rattle.alp_base.specs.declared.lists.TheConstants.{PAGES_PER_FILE};
 ghost use Rattle.alp_files.specs.Act.{is_over as over_quota, open_file as open_file_said, create_file as create_file_said};
-ghost use Rattle.alp_files.specs.Passing.{is_passing, IsFileReply};
+ghost use Rattle.alp_files.specs.Passing.{is_passing};
 ghost use Rattle.alp_calls.specs.Looks.{Looks, fault_in};
-ghost use Rattle.alp_calls.specs.Parts.{AllFit, seen, denied_by, Says, SaysNew, GivesOnly, GivesNone, IsNextOpen, ArePuts, has_contents, is_told, reply_of, puts_in, open_in};
+ghost use Rattle.alp_calls.specs.Parts.{AllFit, seen, denied_by, Says, SaysNew, GivesOnly, GivesNone, IsNextOpen, ArePuts, has_contents, IsPartReply, is_told, reply_of, puts_in, open_in};
 
 use crate::CallFault;
 use crate::look::{owner_at, props_at};
@@ -59,7 +59,7 @@ pub(super) fn create_file<V: Vault>(
     ensures right { IsTrue (V.tells vault.old) → IfOk result (λ s. SaysNew (V.held vault.old).cells part.now id s (λ made own. create_file_said id.server made own who start.now)) }
     ensures id { IfOk result (λ s. GivesOnly id (reply_of s)) }
     ensures own { IfOk result (λ s. is_passing (reply_of s) ≡ false) }
-    ensures kind { IfOk result (λ s. IsFileReply (reply_of s)) }
+    ensures kind { IfOk result (λ s. IsPartReply (reply_of s)) }
     ensures reads { IfOk result (λ s. has_contents (reply_of s) ≡ true → is_told s ≡ true) }
     ensures next { IfOk result (λ s. IsNextOpen part.now.last (open_in s)) }
     ensures puts { IfOk result (λ s. ArePuts (puts_in s)) }
@@ -118,7 +118,7 @@ pub(super) fn open_file<V: Vault>(
     ensures right { IsTrue (V.tells vault.old) → IfOk result (λ s. Says (V.held vault.old).cells part.now s (λ own. open_file_said own who file access)) }
     ensures id { IfOk result (λ s. GivesNone (reply_of s)) }
     ensures own { IfOk result (λ s. is_passing (reply_of s) ≡ false) }
-    ensures kind { IfOk result (λ s. IsFileReply (reply_of s)) }
+    ensures kind { IfOk result (λ s. IsPartReply (reply_of s)) }
     ensures reads { IfOk result (λ s. has_contents (reply_of s) ≡ true → is_told s ≡ true) }
     ensures next { IfOk result (λ s. IsNextOpen part.now.last (open_in s)) }
     ensures puts { IfOk result (λ s. ArePuts (puts_in s)) }

@@ -1,9 +1,9 @@
 //! Calls about owners.
 ghost use Rattle.std.specs.Prelude.{◌≡◌, [], ◌∷◌, ◌++◌, IfOk, IsTrue, None, false, true};
 ghost use Rattle.alp_files.specs.Act.{is_admin as admin, make_owner as make_owner_said};
-ghost use Rattle.alp_files.specs.Passing.{is_passing, IsFileReply};
+ghost use Rattle.alp_files.specs.Passing.{is_passing};
 ghost use Rattle.alp_calls.specs.Looks.{Looks, fault_in};
-ghost use Rattle.alp_calls.specs.Parts.{AllFit, Says, GivesNone, IsNextOpen, ArePuts, has_contents, is_told, reply_of, puts_in, open_in};
+ghost use Rattle.alp_calls.specs.Parts.{AllFit, Says, GivesNone, IsNextOpen, ArePuts, has_contents, IsPartReply, is_told, reply_of, puts_in, open_in};
 
 use crate::CallFault;
 use crate::look::owner_at;
@@ -34,7 +34,7 @@ pub(super) fn make_owner<V: Vault>(
     ensures right { IsTrue (V.tells vault.old) → IfOk result (λ s. Says (V.held vault.old).cells part.now s (λ own. make_owner_said own who owner quota create.now)) }
     ensures id { IfOk result (λ s. GivesNone (reply_of s)) }
     ensures own { IfOk result (λ s. is_passing (reply_of s) ≡ false) }
-    ensures kind { IfOk result (λ s. IsFileReply (reply_of s)) }
+    ensures kind { IfOk result (λ s. IsPartReply (reply_of s)) }
     ensures reads { IfOk result (λ s. has_contents (reply_of s) ≡ true → is_told s ≡ true) }
     ensures next { IfOk result (λ s. IsNextOpen part.now.last (open_in s)) }
     ensures puts { IfOk result (λ s. ArePuts (puts_in s)) }

@@ -2,11 +2,11 @@
 ghost use Rattle.std.specs.Prelude.{◌≡◌, ◌+◌, ◌≤◌, [], ◌∷◌, ◌++◌, length, IfOk, OnOk, IsTrue, None, false, true};
 ghost use Rattle.alp_base.specs.declared.lists.TheConstants.{PAGES_PER_FILE};
 ghost use Rattle.alp_files.specs.Act.{open_at, on_open, on_change, page_puts, mark_put, read_pages as read_pages_said, write_pages as write_pages_said};
-ghost use Rattle.alp_files.specs.Passing.{is_passing, IsFileReply};
+ghost use Rattle.alp_files.specs.Passing.{is_passing};
 ghost use Rattle.alp_files.specs.Undo.{puts_of};
 ghost use Rattle.alp_vault.specs.Volumes.{fit_keys};
 ghost use Rattle.alp_calls.specs.Looks.{Looks, fault_in};
-ghost use Rattle.alp_calls.specs.Parts.{AllFit, Says, GivesNone, IsNextOpen, ArePuts, has_contents, is_told, reply_of, puts_in, open_in};
+ghost use Rattle.alp_calls.specs.Parts.{AllFit, Says, GivesNone, IsNextOpen, ArePuts, has_contents, IsPartReply, is_told, reply_of, puts_in, open_in};
 
 use crate::CallFault;
 use crate::look::{pages_of, props_at};
@@ -71,7 +71,7 @@ pub(super) fn read_pages<V: Vault>(
     ensures right { IsTrue (V.tells vault.old) → IfOk result (λ s. Says (V.held vault.old).cells part.now s (λ own. on_open own (open_at own.opens open_no) (read_pages_said own run))) }
     ensures id { IfOk result (λ s. GivesNone (reply_of s)) }
     ensures own { IfOk result (λ s. is_passing (reply_of s) ≡ false) }
-    ensures kind { IfOk result (λ s. IsFileReply (reply_of s)) }
+    ensures kind { IfOk result (λ s. IsPartReply (reply_of s)) }
     ensures reads { IfOk result (λ s. has_contents (reply_of s) ≡ true → is_told s ≡ true) }
     ensures next { IfOk result (λ s. IsNextOpen part.now.last (open_in s)) }
     ensures puts { IfOk result (λ s. ArePuts (puts_in s)) }
@@ -105,7 +105,7 @@ pub(super) fn write_pages<V: Vault>(
     ensures right { IsTrue (V.tells vault.old) → IfOk result (λ s. Says (V.held vault.old).cells part.now s (λ own. on_change own (open_at own.opens open_no) (write_pages_said own run pages.now))) }
     ensures id { IfOk result (λ s. GivesNone (reply_of s)) }
     ensures own { IfOk result (λ s. is_passing (reply_of s) ≡ false) }
-    ensures kind { IfOk result (λ s. IsFileReply (reply_of s)) }
+    ensures kind { IfOk result (λ s. IsPartReply (reply_of s)) }
     ensures reads { IfOk result (λ s. has_contents (reply_of s) ≡ true → is_told s ≡ true) }
     ensures next { IfOk result (λ s. IsNextOpen part.now.last (open_in s)) }
     ensures puts { IfOk result (λ s. ArePuts (puts_in s)) }

@@ -2,11 +2,11 @@
 ghost use Rattle.std.specs.Prelude.{◌≡◌, ◌+◌, ◌^◌, ◌<◌, ◌≤◌, [], IfOk, OnOk, OnErr, IsTrue, None, false, true};
 ghost use Rattle.alp_base.specs.declared.key.Key.TheVariants as key;
 ghost use Rattle.alp_files.specs.Edits.{edits_map};
-ghost use Rattle.alp_files.specs.Passing.{is_passing, IsFileReply};
+ghost use Rattle.alp_files.specs.Passing.{is_passing};
 ghost use Rattle.alp_files.specs.Undo.{puts_of};
 ghost use Rattle.alp_trans.specs.Parts.{own_of};
 ghost use Rattle.alp_calls.specs.Looks.{Looks, fault_in};
-ghost use Rattle.alp_calls.specs.Parts.{IsPart, CanPerform, IsAsBefore, seen, SaysCall, Answered, GivesOnly, IsNextOpen, ArePuts, Settled, has_contents, is_told, reply_of, puts_in, open_in, own_with};
+ghost use Rattle.alp_calls.specs.Parts.{IsPart, CanPerform, IsAsBefore, seen, SaysCall, Answered, GivesOnly, IsNextOpen, ArePuts, Settled, has_contents, IsPartReply, is_told, reply_of, puts_in, open_in, own_with};
 
 use crate::CallFault;
 use crate::counting::counts_after;
@@ -36,7 +36,7 @@ fn say<V: Vault>(
     ensures right { IsTrue (V.tells vault.old) → IfOk result (λ s. SaysCall (V.held vault.old).cells part.now who id call.now s) }
     ensures id { IfOk result (λ s. GivesOnly id (reply_of s)) }
     ensures own { IfOk result (λ s. is_passing (reply_of s) ≡ false) }
-    ensures kind { IfOk result (λ s. IsFileReply (reply_of s)) }
+    ensures kind { IfOk result (λ s. IsPartReply (reply_of s)) }
     ensures reads { IfOk result (λ s. has_contents (reply_of s) ≡ true → is_told s ≡ true) }
     ensures next { IfOk result (λ s. IsNextOpen part.now.last (open_in s)) }
     ensures puts { IfOk result (λ s. ArePuts (puts_in s)) }

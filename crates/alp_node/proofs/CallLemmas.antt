@@ -27,7 +27,7 @@ use Rattle.alp_files.specs.Locks.{needs_made}
 use Rattle.alp_journal.specs.Ids.{same_trans}
 use Rattle.alp_journal.specs.Holder.{Life, view_in, answer_in}
 use Rattle.alp_journal.specs.Counts.{lock_set, with_resources}
-use Rattle.alp_journal.specs.Desk as desk
+use Rattle.alp_journal.specs.Desk.{Session}
 use Rattle.alp_journal.specs.Alone.{Alone, IsQuiet}
 use Rattle.alp_journal.proofs.IdLemmas.{same_trans-true}
 use Rattle.alp_journal.proofs.AloneCalls.{with_call, life_after}
@@ -55,8 +55,7 @@ use Rattle.alp_node.specs.declared.sessions.Turn.{Turn}
 use Rattle.alp_node.specs.declared.server_state.ServerState.{ServerState}
 use Rattle.alp_node.specs.declared.lives.Live.{Live}
 use Rattle.alp_node.proofs.MapLemmas.{put_twice, get_put, places_set}
-use Rattle.alp_node.proofs.FinishLemmas.{turn_session}
-use Rattle.alp_node.proofs.KeptLemmas.{IsLive, IsSession, live_there, same_live, over_empty, alike_set, each_set, sessions_as}
+use Rattle.alp_node.proofs.KeptLemmas.{IsLive, session_of, session_then, live_there, same_live, over_empty, alike_set, each_set, sessions_as}
 
 outcome_of : (tells : Bool) (cells : Cells) (id : FileId) (l : Live) (p : Part) (c : Call) (room : Room) (r : Result Reply CallFault) → IfOk r (Answered tells cells l.part p l.who id c room) → OnErr r (IsAsBefore l.part p)
     → Outcome tells cells id l p c room r
@@ -220,7 +219,7 @@ files_now count (reply.Refused f) = omega arith
 
 module _ {V : Type 0} (a : Alone) (held : Contents) (k : ServerState V) (turn : Turn) (t : TransId) (l : Live) (p : Part) (c : Call) (r : Reply) (n : ℕ) (locks : Table) (v : V) (life : Life) where
   abbrev pub done_kept : ServerState V
-  done_kept = record k { sessions = counted_in k.sessions turn; given = count_after k.given r; lives = map.insert k.lives t (record l { part = p; locks = n }); locks = locks; vault = v }
+  done_kept = record k { sessions = counted_in k.sessions turn r; given = count_after k.given r; lives = map.insert k.lives t (record l { part = p; locks = n }); locks = locks; vault = v }
 
   abbrev pub gave : Answer
   gave = answer_in a.holder life (record { call = c; reply = r })
@@ -245,7 +244,7 @@ module _ {V : Type 0} (a : Alone) (held : Contents) (k : ServerState V) (turn : 
       ∙ unborn_kept a.holder.server a.ids.epoch k.given [] (view_in a.holder life) life.who life.own c r built (view_unborn h is) only_so m high
 
   module _ (under : Holding) (rs : List Resource) where
-    abbrev pub after_call : desk.Session → Alone
+    abbrev pub after_call : Session → Alone
     after_call w = with_call a turn.client turn.number w t life c r under rs
 
     pub done_as : (then : Contents) (h : IsAs a held k) → then ≡ held → (is : IsTurn k.sessions turn) → k.is_down ≡ false → map.get k.lives t ≡ Some l → a.holder.lives t ≡ Some life → IsLife a.holder.cells k.locks.held (a.locked t) t l life → IsBuilt c → GivesOnly (next_file k) r
@@ -253,20 +252,20 @@ module _ {V : Type 0} (a : Alone) (held : Contents) (k : ServerState V) (turn : 
         → ((u : TransId) (q : Resource) → same_trans u t ≡ false → holding locks.held u q ≡ holding k.locks.held u q)
         → AllByRecursion (IsLocked (with_made under (id_in r))) gave.own.opens → AreCountsOf a.holder.cells (life.edits ++ gave.edits) p.counts → AreCovered (with_made under (id_in r)) (life.edits ++ gave.edits)
         → n ≡ length (with_resources (needs_made (id_in r)) rs) → AreHeld (with_made under (id_in r)) (with_resources (needs_made (id_in r)) rs) → AreRoomed k.sizes a.holder.cells (totals_of k.lives) l.part.counts p.counts
-        → IsQuiet (after_call (IsSession.told (turn_session a held k turn h is))) → IsAs (after_call (IsSession.told (turn_session a held k turn h is))) then done_kept
+        → IsQuiet (after_call (session_of turn is)) → IsAs (after_call (session_of turn is)) then done_kept
     done_as then h same is up there live mine built only done holds others opens counts covered count known roomed quiet =
-        let s : IsSession turn.session (a.sessions turn.client) = turn_session a held k turn h is in
-        let new : Life = life_after a turn.client turn.number s.told t life c r under in
+        let w : Session = session_of turn is in
+        let new : Life = life_after a turn.client turn.number w t life c r under in
         let now : List Resource = with_resources (needs_made (id_in r)) rs in
-        subst (λ (x : Contents). IsAs (after_call s.told) x done_kept) (sym same) (record {
+        subst (λ (x : Contents). IsAs (after_call w) x done_kept) (sym same) (record {
           server = h.server;
           sizes = h.sizes;
           epoch = h.epoch;
           clock = h.clock;
           cells = h.cells;
           notes = h.notes;
-          places = places_set k.sessions turn.client (record turn.session { last = turn.number }) h.places;
-          sessions = sessions_as a.sessions k.sessions turn.client (record s.told { last = turn.number; reply = r }) (record turn.session { last = turn.number }) h.sessions h.places is.client s.who refl;
+          places = places_set k.sessions turn.client (session_then turn r) h.places;
+          sessions = sessions_as a.sessions k.sessions turn.client (session_then turn r) h.sessions h.places is.client;
           dead = h.dead;
           lives = λ u. subst (λ (x : Option Live). IsAlike a.holder.cells locks.held (lock_set a.locked t now u) u x (cond {A = Option Life} (same_trans u t) (Some new) (a.holder.lives u))) (sym (get_put k.lives t (record l { part = p; locks = n }) u))
               (alike_set a.holder.cells k.locks.held locks.held a.locked t (Some (record l { part = p; locks = n })) (Some new) now (map.get k.lives) a.holder.lives h.lives others (record {

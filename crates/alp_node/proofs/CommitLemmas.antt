@@ -35,7 +35,7 @@ use Rattle.alp_journal.specs.Holder.{Holder, Life, commits, holder_after}
 use Rattle.alp_journal.specs.Moves.{tried, act_deeds, finishes, ends_by}
 use Rattle.alp_journal.specs.Coordinator.{Fate, Undrawn, Running}
 use Rattle.alp_journal.specs.Coordinator as fate
-use Rattle.alp_journal.specs.Desk.{file_trans}
+use Rattle.alp_journal.specs.Desk.{Session, file_trans}
 use Rattle.alp_journal.specs.Messages.{why_not_own, first_why, full_or, no_room, clock_end, part_cells}
 use Rattle.alp_journal.specs.Answers.{at_part, part_refusal}
 use Rattle.alp_journal.specs.Answered.{IsAnsweredEntry}
@@ -47,17 +47,18 @@ use Rattle.alp_node.specs.Dead.{is_dead}
 use Rattle.alp_node.specs.Durable.{clock_notes, stored_by, said_by, MightBring, Leaves, Besides, IsWritten}
 use Rattle.alp_node.specs.ServerState.{IsAs}
 use Rattle.alp_node.specs.Standings.{standing_of}
-use Rattle.alp_node.specs.Steps.{Stepped, IsTurn, counted_in, without_trans, seen_in, entry_of}
+use Rattle.alp_node.specs.Steps.{Stepped, IsTurn, counted_in, without_trans, seen_in, told_answer, refused_answer, entry_of}
 use Rattle.alp_node.specs.declared.answer.Answer.{Answer}
 use Rattle.alp_node.specs.declared.lives.Live.{Live}
 use Rattle.alp_node.specs.declared.server_state.ServerState.{ServerState}
 use Rattle.alp_node.specs.declared.served.Standing.TheVariants as standing
 use Rattle.alp_node.specs.declared.sessions.Turn.{Turn}
 use Rattle.alp_node.specs.Rooms.{IsWithin}
+use Rattle.alp_node.specs.Sessions.{session_at}
 use Rattle.alp_node.proofs.ApartLemmas.{covered_puts}
 use Rattle.alp_node.proofs.SpaceLemmas.{commit_alike, commit_room}
-use Rattle.alp_node.proofs.FinishLemmas.{gone_unborn, still_undrawn, turn_session, turn_next, drawn_live}
-use Rattle.alp_node.proofs.KeptLemmas.{sessions_as, IsSession, stands_timely, IsLive, live_there, stepped_so}
+use Rattle.alp_node.proofs.FinishLemmas.{gone_unborn, still_undrawn, turn_session, drawn_live}
+use Rattle.alp_node.proofs.KeptLemmas.{sessions_as, session_of, session_then, stands_timely, IsLive, live_there, stepped_so}
 use Rattle.alp_node.proofs.MapLemmas.{places_set}
 use Rattle.alp_node.proofs.NoteLemmas.{put_again}
 use Rattle.alp_node.proofs.SeatLemmas.{leaves_as}
@@ -102,7 +103,7 @@ put_more a held k clock h up =
 module _ {V : Type 0} (a : Alone) (held : Contents) (k : ServerState V) (turn : Turn) (t : TransId) (l : Live) where
   module _ (h : IsAs a held k) (is : IsTurn k.sessions turn) (up : k.is_down ≡ false) (live : map.get k.lives t ≡ Some l) (own : l.client ≡ turn.client) (r : Reply) (none : ends_by t turn.client r ≡ []) where
     abbrev finish_entry : List Act → Entry
-    finish_entry acts = call_entry a turn.client turn.number (IsSession.told (turn_session a held k turn h is)) (call.Finish t true) r acts
+    finish_entry acts = call_entry a turn.client turn.number (session_of turn is) (call.Finish t true) r acts
 
     -- what the entry tries
     write_tried : (stamp : Stamp) (acts : List Act) (ds : List Deed) → flat_map (act_deeds (alone a) (event.Call turn.client a.ids.epoch turn.number (call.Finish t true))) acts ≡ Decides stamp [] ∷ ds
@@ -111,7 +112,7 @@ module _ {V : Type 0} (a : Alone) (held : Contents) (k : ServerState V) (turn : 
         let y : IsLive a.holder.cells k.locks.held (a.locked t) t l (a.holder.lives t) = live_there a.holder.cells k.locks.held (a.locked t) t (map.get k.lives t) (a.holder.lives t) l live (h.lives t) in
         let pair : IsPaired (Some y.life) (a.fates t) = subst (λ (x : Option Life). IsPaired x (a.fates t)) y.is (h.quiet.paired t) in
         let runs : a.fates t ≡ Running turn.client [] = pair.0 ∙ ap (λ (n : ℕ). Running n []) (y.alike.client ∙ own) in
-        call_tried a turn.client turn.number (IsSession.told (turn_session a held k turn h is)) (call.Finish t true) r acts (IsSession.is (turn_session a held k turn h is)) (turn_next a held k turn h is)
+        call_tried a turn.client turn.number (session_of turn is) (call.Finish t true) r acts (turn_session a held k turn h is) is.number
         ∙ ap (λ (ws : List Deed). finishes (alone a).desk turn.client t true r (a.fates t) ++ ws ++ []) brings
         ∙ ap (λ (f : Fate). finishes (alone a).desk turn.client t true r f ++ (Decides stamp [] ∷ ds) ++ []) runs
         ∙ ap (λ (b : Bool). cond {A = List Deed} (b && true) (Finishes t ∷ ends_by t turn.client r) [] ++ (Decides stamp [] ∷ ds) ++ []) (eq-eqb turn.client turn.client refl)
@@ -138,7 +139,7 @@ module _ {V : Type 0} (a : Alone) (held : Contents) (k : ServerState V) (turn : 
         ∙ ap (λ (ws : List Deed). stored_by a.ids.epoch (state_after holder_after a.holder ws)) (sym (write_tried stamp acts ds brings))
 
     -- so a crash leaves no more of it
-    pub write_leaves : (G : Ghosts V) (v : V) (x : Answer) (acts : List Act) (ds : List Deed) → G.held k.vault ≡ held → x ≡ record { kept = Some r; handed = Some r; acts = acts }
+    pub write_leaves : (G : Ghosts V) (v : V) (x : Answer) (acts : List Act) (ds : List Deed) → G.held k.vault ≡ held → x ≡ told_answer (Some r) acts
         → flat_map (act_deeds (alone a) (event.Call turn.client a.ids.epoch turn.number (call.Finish t true))) acts ≡ Decides (record { ts = k.clock + 1; trans = t }) [] ∷ ds
         → ((o : Holder) → stored_by a.ids.epoch (state_after holder_after o ds) ≡ stored_by a.ids.epoch o)
         → Leaves G k.vault v (Besides G k.vault (IsWritten l.part.intents (record { epoch = k.epoch; clock = k.clock + 1 }) (G.held k.vault)))
@@ -156,19 +157,19 @@ module _ {V : Type 0} (a : Alone) (before now : ℕ) (held then : Contents) (k :
   stamp_at = record { ts = k.clock + 1; trans = t }
 
   abbrev pub committed_kept : ServerState V
-  committed_kept = record (without_trans k t) { sessions = counted_in k.sessions turn; clock = k.clock + 1; committed = k.committed + 1; vault = v }
+  committed_kept = record (without_trans k t) { sessions = counted_in k.sessions turn (reply.Committed stamp_at); clock = k.clock + 1; committed = k.committed + 1; vault = v }
 
   pub commit_stepped : (x : Answer) → IsAs a held k → IsTurn k.sessions turn → k.is_down ≡ false → k.locks.waiting ≡ [] → k.clock < 2 ^ 62 → t.server ≡ k.server → map.get k.lives t ≡ Some l → l.client ≡ turn.client
       → IsWithin k.sizes l → then.cells ≡ edits_map (edits_of (change_of l.part.intents)) held.cells → then.notes ≡ map.insert held.notes clock_name (clock_form.spell (record { epoch = k.epoch; clock = k.clock + 1 }))
-      → x ≡ record { kept = Some (reply.Committed stamp_at); handed = Some (reply.Committed stamp_at); acts = act.Decided stamp_at [] ∷ act.Released t ∷ [] }
+      → x ≡ told_answer (Some (reply.Committed stamp_at)) (act.Decided stamp_at [] ∷ act.Released t ∷ [])
       → Stepped a before now then committed_kept (event.Call turn.client k.epoch turn.number (call.Finish t true)) x
   commit_stepped x h is up alone early here live own room cells notes so =
-      let s : IsSession turn.session (a.sessions turn.client) = turn_session a held k turn h is in
+      let w : Session = session_of turn is in
       let y : IsLive a.holder.cells k.locks.held (a.locked t) t l (a.holder.lives t) = live_there a.holder.cells k.locks.held (a.locked t) t (map.get k.lives t) (a.holder.lives t) l live (h.lives t) in
       let es : List Edit = y.life.edits in
-      let m : Alone = with_commit a turn.client turn.number s.told t y.life in
+      let m : Alone = with_commit a turn.client turn.number w t y.life in
       let stamp : Stamp = record { ts = a.holder.clock + 1; trans = t } in
-      let leads = commit_leads a turn.client turn.number s.told t y.life h.quiet (h.down ∙ up) s.is (turn_next a held k turn h is) (here ∙ sym h.server) (drawn_live a held k t y.life h y.is).now y.is (y.alike.client ∙ own)
+      let leads = commit_leads a turn.client turn.number w t y.life h.quiet (h.down ∙ up) (turn_session a held k turn h is) is.number (here ∙ sym h.server) (drawn_live a held k t y.life h y.is).now y.is (y.alike.client ∙ own)
       (votes_for a held k t l h early live room) in
       let same_stamp : stamp_at ≡ stamp = λ i. record { ts = sym h.clock i + 1; trans = t } in
       let last : m.holder.applied ≡ a.holder.applied ++ (stamp, record { stamp = stamp; who = y.life.who; calls = y.life.calls }) ∷ [] =
@@ -176,8 +177,8 @@ module _ {V : Type 0} (a : Alone) (before now : ℕ) (held then : Contents) (k :
       let clock : max a.holder.clock (a.holder.clock + 1) ≡ k.clock + 1 = omega (arith, h.clock) in
       let same : then.cells ≡ edits_map es a.holder.cells =
       cells ∙ same_change held.cells l.part es (covered_puts y.life.held es y.alike.covered) y.alike.intents ∙ ap (edits_map es) (h.cells up) in
-      stepped_so a before now held then k committed_kept turn.client turn.number s.told (call.Finish t true) false (reply.Committed stamp) (act.Decided stamp [] ∷ act.Released t ∷ []) m x
-      (so ∙ ap (λ (z : Stamp). record { kept = Some (reply.Committed z); handed = Some (reply.Committed z); acts = act.Decided z [] ∷ act.Released t ∷ [] }) same_stamp) h leads
+      stepped_so a before now held then k committed_kept turn.client turn.number w (call.Finish t true) false (reply.Committed stamp) (act.Decided stamp [] ∷ act.Released t ∷ []) m x
+      (so ∙ ap (λ (z : Stamp). told_answer (Some (reply.Committed z)) (act.Decided z [] ∷ act.Released t ∷ [])) same_stamp) h leads
       (record {
         server = h.server;
         sizes = h.sizes;
@@ -185,8 +186,9 @@ module _ {V : Type 0} (a : Alone) (before now : ℕ) (held then : Contents) (k :
         clock = clock;
         cells = λ _. same;
         notes = λ _. notes ∙ put_more a held k (k.clock + 1) h up ∙ (λ i. clock_notes (record { epoch = sym h.epoch i; clock = sym clock i }));
-        places = places_set k.sessions turn.client (record turn.session { last = turn.number }) h.places;
-        sessions = sessions_as a.sessions k.sessions turn.client (record s.told { last = turn.number; reply = reply.Committed stamp }) (record turn.session { last = turn.number }) h.sessions h.places is.client s.who refl;
+        places = places_set k.sessions turn.client (session_then turn (reply.Committed stamp_at)) h.places;
+        sessions = subst (λ (z : Stamp). (c : ℕ) → cond {A = Option Session} (c == turn.client) (Some (session_then turn (reply.Committed z))) (a.sessions c) ≡ session_at (counted_in k.sessions turn (reply.Committed stamp_at)) c) same_stamp
+            (sessions_as a.sessions k.sessions turn.client (session_then turn (reply.Committed stamp_at)) h.sessions h.places is.client);
         dead = h.dead;
         lives = commit_alike a held k h t l live y.life y.is y.alike alone;
         room = commit_room a held k h t l live y.life y.is y.alike;
@@ -213,7 +215,7 @@ module _ {V : Type 0} (a : Alone) (before now : ℕ) (held then : Contents) (k :
       → MightBring (alone a) (event.Call turn.client k.epoch turn.number (call.Finish t true)) then
   commit_might none h is up idle early here live own room w =
       let acts : List Act = act.Decided stamp_at [] ∷ act.Released t ∷ [] in
-      let x : Answer = record { kept = Some (reply.Committed stamp_at); handed = Some (reply.Committed stamp_at); acts = acts } in
+      let x : Answer = told_answer (Some (reply.Committed stamp_at)) acts in
       let s = commit_stepped x h is up idle early here live own room w.cells w.notes refl in
       record {
         entry = entry_of (event.Call turn.client k.epoch turn.number (call.Finish t true)) x;
@@ -264,15 +266,15 @@ halted_as a m held then k v ds is h =
 -- a read is stopped, in a call of a part at work
 module _ {V : Type 0} (a : Alone) (before now : ℕ) (held then : Contents) (k : ServerState V) (turn : Turn) (t : TransId) (v : V) where
   pub file_halt_stepped : (c : Call) (x : Answer) → IsAs a held k → IsTurn k.sessions turn → k.is_down ≡ false → file_trans c ≡ Some t → standing_of turn.client (map.get k.lives t) (is_dead turn.client t k.dead) ≡ standing.Own
-      → x ≡ record { kept = Some (reply.Refused refusal.Down); handed = Some (reply.Refused refusal.Down); acts = act.Stopped ∷ [] }
+      → x ≡ refused_answer refusal.Down (act.Stopped ∷ [])
       → Stepped a before now then (record k { is_down = true; vault = v }) (event.Call turn.client k.epoch turn.number c) x
   file_halt_stepped c x h is up named own so =
-      let s : IsSession turn.session (a.sessions turn.client) = turn_session a held k turn h is in
-      let e : Entry = call_entry a turn.client turn.number s.told c (reply.Refused refusal.Down) (act.Stopped ∷ []) in
+      let w : Session = session_of turn is in
+      let e : Entry = call_entry a turn.client turn.number w c (reply.Refused refusal.Down) (act.Stopped ∷ []) in
       let works : part_refusal (alone a) turn.client t ≡ None = ap (at_part false) (part_is a held k turn.client t h ∙ ap part_of own) in
-      stepped_so a before now held then k (record k { is_down = true; vault = v }) turn.client turn.number s.told c false (reply.Refused refusal.Down) (act.Stopped ∷ []) (with_halt a turn.client turn.number s.told e) x so h
-      (file_halt_leads a turn.client turn.number s.told t c h.quiet (h.down ∙ up) s.is (turn_next a held k turn h is) named works)
-      (halted_as a (with_halt a turn.client turn.number s.told e) held then k v (tried (alone a) e) refl h) (λ w. cc) (stands_timely a.holder.clock (seen_in (event.Call turn.client k.epoch turn.number c)) k.clock h.clock)
+      stepped_so a before now held then k (record k { is_down = true; vault = v }) turn.client turn.number w c false (reply.Refused refusal.Down) (act.Stopped ∷ []) (with_halt a turn.client turn.number w e) x so h
+      (file_halt_leads a turn.client turn.number w t c h.quiet (h.down ∙ up) (turn_session a held k turn h is) is.number named works)
+      (halted_as a (with_halt a turn.client turn.number w e) held then k v (tried (alone a) e) refl h) (λ w. cc) (stands_timely a.holder.clock (seen_in (event.Call turn.client k.epoch turn.number c)) k.clock h.clock)
 
 module _ {V : Type 0} (a : Alone) (before now : ℕ) (held then : Contents) (k : ServerState V) (turn : Turn) (t : TransId) (v : V) (z : Act) where
   abbrev pub IsStopAct : Type 0
@@ -280,15 +282,15 @@ module _ {V : Type 0} (a : Alone) (before now : ℕ) (held then : Contents) (k :
 
   pub commit_halt_stepped : (l : Live) (x : Answer) → IsStopAct → IsAs a held k → IsTurn k.sessions turn → k.is_down ≡ false → k.clock < 2 ^ 62 → t.server ≡ k.server → map.get k.lives t ≡ Some l → l.client ≡ turn.client
       → IsWithin k.sizes l
-      → x ≡ record { kept = Some (reply.Refused refusal.Down); handed = Some (reply.Refused refusal.Down); acts = act.Decided (record { ts = k.clock + 1; trans = t }) [] ∷ z ∷ [] }
+      → x ≡ refused_answer refusal.Down (act.Decided (record { ts = k.clock + 1; trans = t }) [] ∷ z ∷ [])
       → Stepped a before now then (record k { is_down = true; vault = v }) (event.Call turn.client k.epoch turn.number (call.Finish t true)) x
   commit_halt_stepped l x stop h is up early here live own room so =
-      let s : IsSession turn.session (a.sessions turn.client) = turn_session a held k turn h is in
+      let w : Session = session_of turn is in
       let y : IsLive a.holder.cells k.locks.held (a.locked t) t l (a.holder.lives t) = live_there a.holder.cells k.locks.held (a.locked t) t (map.get k.lives t) (a.holder.lives t) l live (h.lives t) in
       let acts : List Act = act.Decided (record { ts = a.holder.clock + 1; trans = t }) [] ∷ z ∷ [] in
-      let e : Entry = call_entry a turn.client turn.number s.told (call.Finish t true) (reply.Refused refusal.Down) acts in
-      stepped_so a before now held then k (record k { is_down = true; vault = v }) turn.client turn.number s.told (call.Finish t true) false (reply.Refused refusal.Down) acts (with_halt a turn.client turn.number s.told e) x
-      (so ∙ ap (λ (n : ℕ). record { kept = Some (reply.Refused refusal.Down); handed = Some (reply.Refused refusal.Down); acts = act.Decided (record { ts = n + 1; trans = t }) [] ∷ z ∷ [] }) (sym h.clock)) h
-      (commit_halt_leads a turn.client turn.number s.told t y.life z stop h.quiet (h.down ∙ up) s.is (turn_next a held k turn h is) (here ∙ sym h.server) (drawn_live a held k t y.life h y.is).now y.is (y.alike.client ∙ own)
+      let e : Entry = call_entry a turn.client turn.number w (call.Finish t true) (reply.Refused refusal.Down) acts in
+      stepped_so a before now held then k (record k { is_down = true; vault = v }) turn.client turn.number w (call.Finish t true) false (reply.Refused refusal.Down) acts (with_halt a turn.client turn.number w e) x
+      (so ∙ ap (λ (n : ℕ). refused_answer refusal.Down (act.Decided (record { ts = n + 1; trans = t }) [] ∷ z ∷ [])) (sym h.clock)) h
+      (commit_halt_leads a turn.client turn.number w t y.life z stop h.quiet (h.down ∙ up) (turn_session a held k turn h is) is.number (here ∙ sym h.server) (drawn_live a held k t y.life h y.is).now y.is (y.alike.client ∙ own)
       (votes_for a held k t l h early live room))
-      (halted_as a (with_halt a turn.client turn.number s.told e) held then k v (tried (alone a) e) refl h) (λ w. cc) (stands_timely a.holder.clock 0 k.clock h.clock)
+      (halted_as a (with_halt a turn.client turn.number w e) held then k v (tried (alone a) e) refl h) (λ w. cc) (stands_timely a.holder.clock 0 k.clock h.clock)

@@ -24,10 +24,10 @@ use Rattle.alp_journal.specs.Answered.{is_fault_reply, grants_by}
 use Rattle.alp_journal.specs.Answers.{if_over, unless_counts}
 use Rattle.alp_journal.specs.Counts.{log_need}
 use Rattle.alp_journal.specs.Desk.{is_not_yet}
-use Rattle.alp_node.specs.Halts.{says_down}
-use Rattle.alp_node.specs.Turns.{TellsUpTo, IsInSession}
+use Rattle.alp_node.specs.Halts.{says_shut}
+use Rattle.alp_node.specs.Turns.{TellsUpTo, IsInSession, IsKeepable}
 use Rattle.alp_node.proofs.GivenLemmas.{shows_none}
-use Rattle.alp_node.proofs.TurnLemmas.{file_reply_in, file_reply_tells}
+use Rattle.alp_node.proofs.TurnLemmas.{part_reply_in, file_reply_tells}
 use Rattle.alp_node.proofs.RoomLemmas.{not_over}
 
 -- a refusal for counts: it rests on more than a thread sees, lets no call wait, and tells of no fault
@@ -35,7 +35,7 @@ pub record IsCountRefusal (f : Refusal) : Type 0 where
   pub passes : is_passing_refusal f ≡ true
   pub now : is_not_yet (reply.Refused f) ≡ false
   pub granted : (t : TransId) → grants_by true t (reply.Refused f) ≡ t ∷ []
-  pub quiet : (here : ℕ) → (is_fault_reply here (Some (reply.Refused f)) || says_down (Some (reply.Refused f))) ≡ false
+  pub quiet : (here : ℕ) → (is_fault_reply here (Some (reply.Refused f)) || says_shut (Some (reply.Refused f))) ≡ false
   pub inside : IsInSession (reply.Refused f)
 
 pub over_is : (b : Bool) (r : Refusal) → IsCountRefusal r → (f : Refusal) → if_over b r ≡ Some f → IsCountRefusal f
@@ -82,17 +82,17 @@ same_counts m es fs now later none before after =
     let same : AreCountsOf m es later = subst (λ (xs : List Edit). AreCountsOf m xs later) (ap (λ (xs : List Edit). es ++ xs) none ∙ append-nil es) after in
     (λ i. record { cells = (same.cells ∙ sym before.cells) i; places = (same.places ∙ sym before.places) i; files = (same.files ∙ sym before.files) i; owners = (same.owners ∙ sym before.owners) i })
 
-pub unless_quiet : (here : ℕ) (room : Room) (now later : Counts) (given : Reply) (o : Option Refusal) → refused_for room now later ≡ o → (is_fault_reply here (Some given) || says_down (Some given)) ≡ false
-    → (is_fault_reply here (Some (unless_counts given o)) || says_down (Some (unless_counts given o))) ≡ false
+pub unless_quiet : (here : ℕ) (room : Room) (now later : Counts) (given : Reply) (o : Option Refusal) → refused_for room now later ≡ o → (is_fault_reply here (Some given) || says_shut (Some given)) ≡ false
+    → (is_fault_reply here (Some (unless_counts given o)) || says_shut (Some (unless_counts given o))) ≡ false
 unless_quiet here room now later given None e h = h
 unless_quiet here room now later given (Some f) e h = (refused_is room now later f e).quiet here
 
 -- what is answered tells of no fault, whatever the vault tells
 pub answered_quiet : (here : ℕ) (tells : Bool) (cells : Cells) (old new : Part) (who : List ℕ) (id : FileId) (c : Call) (room : Room) (r : Reply) → Answered tells cells old new who id c room r
-    → (is_fault_reply here (Some r) || says_down (Some r)) ≡ false
+    → (is_fault_reply here (Some r) || says_shut (Some r)) ≡ false
 answered_quiet here tells cells old new who id c room r h =
-    subst (λ (x : Reply). (is_fault_reply here (Some x) || says_down (Some x)) ≡ false) (sym h.said)
-    (unless_quiet here room old.counts h.after h.given (refused_for room old.counts h.after) refl (shows_none here h.given h.own))
+    subst (λ (x : Reply). (is_fault_reply here (Some x) || says_shut (Some x)) ≡ false) (sym h.said)
+    (unless_quiet here room old.counts h.after h.given (refused_for room old.counts h.after) refl (shows_none here h.given h.own h.kind.1))
 
 -- it is in its session, and tells no time
 unless_inside : (room : Room) (now later : Counts) (given : Reply) (o : Option Refusal) → refused_for room now later ≡ o → IsInSession given → IsInSession (unless_counts given o)
@@ -103,10 +103,9 @@ unless_tells : (clock : ℕ) (given : Reply) (o : Option Refusal) → TellsUpTo 
 unless_tells clock given None h = h
 unless_tells clock given (Some f) h = tt
 
-pub answered_inside : (tells : Bool) (cells : Cells) (old new : Part) (who : List ℕ) (id : FileId) (c : Call) (room : Room) (r : Reply) → Answered tells cells old new who id c room r → IsInSession r
-answered_inside tells cells old new who id c room r h =
-    subst IsInSession (sym h.said) (unless_inside room old.counts h.after h.given (refused_for room old.counts h.after) refl (file_reply_in h.given h.kind))
-
-pub answered_tells : (clock : ℕ) (tells : Bool) (cells : Cells) (old new : Part) (who : List ℕ) (id : FileId) (c : Call) (room : Room) (r : Reply) → Answered tells cells old new who id c room r → TellsUpTo clock r
-answered_tells clock tells cells old new who id c room r h =
-    subst (TellsUpTo clock) (sym h.said) (unless_tells clock h.given (refused_for room old.counts h.after) (file_reply_tells clock h.given h.kind))
+-- so its session may keep it
+pub answered_keeps : (clock : ℕ) (tells : Bool) (cells : Cells) (old new : Part) (who : List ℕ) (id : FileId) (c : Call) (room : Room) (r : Reply) → Answered tells cells old new who id c room r → IsKeepable clock r
+answered_keeps clock tells cells old new who id c room r h = subst (IsKeepable clock) (sym h.said) (record {
+  inside = unless_inside room old.counts h.after h.given (refused_for room old.counts h.after) refl (part_reply_in h.given h.kind);
+  times = unless_tells clock h.given (refused_for room old.counts h.after) (file_reply_tells clock h.given h.kind.0);
+})

@@ -32,7 +32,6 @@ use Rattle.alp_journal.specs.Holder.{Life, new_life}
 use Rattle.alp_journal.specs.Counts.{lock_set}
 use Rattle.alp_journal.specs.Moves.{next_trans}
 use Rattle.alp_journal.specs.Answers.{too_many, is_counted, count_of_transactions, if_over}
-use Rattle.alp_journal.specs.Desk as desk
 use Rattle.alp_journal.specs.Alone.{Alone, alone, IsPaired, Leads}
 use Rattle.alp_journal.proofs.IdLemmas.{same_trans-true}
 use Rattle.alp_journal.proofs.AloneEnds.{hello_entry, with_hello, hello_leads}
@@ -40,19 +39,19 @@ use Rattle.alp_journal.proofs.AloneEntries.{with_begun, begin_leads}
 use Rattle.alp_node.specs.Dead.{dead_in, without_client}
 use Rattle.alp_node.specs.Sessions.{session_at, with_session}
 use Rattle.alp_node.specs.ServerState.{IsAs, IsAlike, PutNoneBeyond, trans_to, is_beyond}
-use Rattle.alp_node.specs.Steps.{Stepped, entry_of}
+use Rattle.alp_node.specs.Steps.{Stepped, told_answer, refused_answer, entry_of}
 use Rattle.alp_node.specs.declared.answer.Answer.{Answer}
 use Rattle.alp_node.specs.declared.dead.DeadPart.{DeadPart}
 use Rattle.alp_node.specs.declared.lives.Live.{Live}
 use Rattle.alp_node.specs.declared.server_state.ServerState.{ServerState}
-use Rattle.alp_node.specs.declared.sessions.Session.{Session}
+use Rattle.alp_journal.specs.Desk.{Session}
 use Rattle.alp_node.proofs.CountLemmas.{count_pass}
 use Rattle.alp_node.proofs.LiveSums.{up_to_drawn, not_reached}
 use Rattle.alp_node.proofs.RefusalLemmas.{with_buried, begin_refused_leads}
 use Rattle.alp_node.proofs.TotalLemmas.{added_room}
 use Rattle.alp_calls.proofs.CountLaws.{counts_begin}
 use Rattle.alp_node.proofs.DeadLemmas.{none_left, others_left}
-use Rattle.alp_node.proofs.KeptLemmas.{sessions_as, no_session, IsSession, session_there, stands_timely, alike_set, each_set, none_held, earlier_more, stepped_so}
+use Rattle.alp_node.proofs.KeptLemmas.{sessions_as, stands_timely, alike_set, each_set, none_held, earlier_more, stepped_so}
 use Rattle.alp_node.proofs.MapLemmas.{places_set, get_put}
 
 -- the ids up to a counter, and the next
@@ -64,11 +63,11 @@ one_more server epoch n =
 -- ---- a greeting
 
 pub hello_stepped : {V : Type 0} (a : Alone) (before now : ℕ) (held : Contents) (k : ServerState V) (client : ℕ) (name : List ℕ) (x : Answer) → IsAs a held k → client ≤ 16 → k.is_down ≡ false → session_at k.sessions client ≡ None
-    → x ≡ record { kept = Some (reply.Welcome k.epoch); handed = Some (reply.Welcome k.epoch); acts = [] }
-    → Stepped a before now held (record k { sessions = with_session k.sessions client (record { who = name; last = 1 }) }) (event.Call client 0 1 (call.Hello name)) x
+    → x ≡ told_answer (Some (reply.Welcome k.epoch)) []
+    → Stepped a before now held (record k { sessions = with_session k.sessions client (record { who = name; last = 1; reply = reply.Welcome k.epoch }) }) (event.Call client 0 1 (call.Hello name)) x
 hello_stepped a before now held k client name x h le up first is =
-    let w : Session = record { who = name; last = 1 } in
-    let none : a.sessions client ≡ None = no_session (a.sessions client) (h.sessions client ∙ first) in
+    let w : Session = record { who = name; last = 1; reply = reply.Welcome k.epoch } in
+    let none : a.sessions client ≡ None = h.sessions client ∙ first in
     let leads : Leads false a (hello_entry a client name) (with_hello a client name) = hello_leads a client name h.quiet (h.down ∙ up) none in
     record {
       failed = false;
@@ -84,7 +83,8 @@ hello_stepped a before now held k client name x h le up first is =
         cells = h.cells;
         notes = h.notes;
         places = places_set k.sessions client w h.places;
-        sessions = sessions_as a.sessions k.sessions client (record { who = name; last = 1; reply = reply.Welcome a.ids.epoch }) w h.sessions h.places le refl refl;
+        sessions = subst (λ (n : ℕ). (c : ℕ) → cond {A = Option Session} (c == client) (Some (record { who = name; last = 1; reply = reply.Welcome n })) (a.sessions c) ≡ session_at (with_session k.sessions client w) c) (sym h.epoch)
+            (sessions_as a.sessions k.sessions client w h.sessions h.places le);
         dead = h.dead;
         lives = h.lives;
         room = h.room;
@@ -152,15 +152,14 @@ module _ {V : Type 0} (a : Alone) (held : Contents) (k : ServerState V) (client 
 
   -- as many are live as may be: the begin is refused, and the client's dead parts go
   pub begin_refused_stepped : (before now : ℕ) (x : Answer) → IsAs a held k → client ≤ 16 → k.is_down ≡ false → session_at k.sessions client ≡ Some w → number ≡ w.last + 1 → 64 ≤ map.len k.lives
-      → x ≡ record { kept = Some (reply.Refused (refusal.TooMany what.Transactions 64)); handed = Some (reply.Refused (refusal.TooMany what.Transactions 64)); acts = [] }
-      → Stepped a before now held (record k { sessions = with_session k.sessions client (record w { last = number }); dead = without_client client k.dead }) (event.Call client k.epoch number (call.Begin seen)) x
+      → x ≡ refused_answer (refusal.TooMany what.Transactions 64) []
+      → Stepped a before now held (record k { sessions = with_session k.sessions client (record w { last = number; reply = reply.Refused (refusal.TooMany what.Transactions 64) }); dead = without_client client k.dead }) (event.Call client k.epoch number (call.Begin seen)) x
   begin_refused_stepped before now x h le up there turn many is =
-      let s : IsSession w (a.sessions client) = session_there w (a.sessions client) (h.sessions client ∙ there) in
-      let v : desk.Session = s.told in
       let f : Refusal = refusal.TooMany what.Transactions 64 in
-      let leads = begin_refused_leads a client number v seen f h.quiet (h.down ∙ up) s.is (turn ∙ ap (λ (n : ℕ). n + 1) (sym s.last)) (many_live a held k h many) in
-      stepped_so a before now held held k (record k { sessions = with_session k.sessions client (record w { last = number }); dead = without_client client k.dead }) client number v (call.Begin seen) false (reply.Refused f) []
-      (with_buried a client number v f) x is h leads
+      let counted : Session = record w { last = number; reply = reply.Refused f } in
+      let leads = begin_refused_leads a client number w seen f h.quiet (h.down ∙ up) (h.sessions client ∙ there) turn (many_live a held k h many) in
+      stepped_so a before now held held k (record k { sessions = with_session k.sessions client counted; dead = without_client client k.dead }) client number w (call.Begin seen) false (reply.Refused f) []
+      (with_buried a client number w f) x is h leads
       (record {
         server = h.server;
         sizes = h.sizes;
@@ -168,8 +167,8 @@ module _ {V : Type 0} (a : Alone) (held : Contents) (k : ServerState V) (client 
         clock = h.clock;
         cells = h.cells;
         notes = h.notes;
-        places = places_set k.sessions client (record w { last = number }) h.places;
-        sessions = sessions_as a.sessions k.sessions client (record v { last = number; reply = reply.Refused f }) (record w { last = number }) h.sessions h.places le s.who refl;
+        places = places_set k.sessions client counted h.places;
+        sessions = sessions_as a.sessions k.sessions client counted h.sessions h.places le;
         dead = λ d u. ap (cond {A = Option Cause} (d == client) None) (h.dead d u) ∙ buried k.dead d u;
         lives = h.lives;
         room = h.room;
@@ -196,7 +195,7 @@ module _ {V : Type 0} (a : Alone) (held : Contents) (k : ServerState V) (client 
 
   abbrev pub with_begun_kept : Table → ServerState V
   with_begun_kept locks = record k {
-    sessions = with_session k.sessions client (record w { last = number });
+    sessions = with_session k.sessions client (record w { last = number; reply = reply.Begun begun_trans });
     clock = max k.clock seen.ts;
     drawn = k.drawn + 1;
     dead = without_client client k.dead;
@@ -207,14 +206,14 @@ module _ {V : Type 0} (a : Alone) (held : Contents) (k : ServerState V) (client 
   trans_same : IsAs a held k → next_trans (alone a) ≡ begun_trans
   trans_same h = λ i. record { server = h.server i; epoch = h.epoch i; counter = h.drawn i + 1 }
 
-  begun_alike : (v : desk.Session) (locks : Holders) → v.who ≡ w.who → map.get k.lives begun_trans ≡ None → ((u : TransId) (r : Resource) → holding locks u r ≡ holding k.locks.held u r) → own_of p ≡ no_opens → p.intents ≡ map.empty → p.counts ≡ no_counts → IsAs a held k
-      → (u : TransId) → IsAlike a.holder.cells locks (lock_set a.locked begun_trans [] u) u (map.get (map.insert k.lives begun_trans begun_live) u) (cond {A = Option Life} (same_trans u begun_trans) (Some (new_life None client v.who)) (a.holder.lives u))
-  begun_alike v locks who new same opens none idle h u =
-      subst (λ (x : Option Live). IsAlike a.holder.cells locks (lock_set a.locked begun_trans [] u) u x (cond {A = Option Life} (same_trans u begun_trans) (Some (new_life None client v.who)) (a.holder.lives u))) (sym (get_put k.lives begun_trans begun_live u))
-      (alike_set a.holder.cells k.locks.held locks a.locked begun_trans (Some begun_live) (Some (new_life None client v.who)) [] (map.get k.lives) a.holder.lives h.lives (λ t r away. same t r)
+  begun_alike : (locks : Holders) → map.get k.lives begun_trans ≡ None → ((u : TransId) (r : Resource) → holding locks u r ≡ holding k.locks.held u r) → own_of p ≡ no_opens → p.intents ≡ map.empty → p.counts ≡ no_counts → IsAs a held k
+      → (u : TransId) → IsAlike a.holder.cells locks (lock_set a.locked begun_trans [] u) u (map.get (map.insert k.lives begun_trans begun_live) u) (cond {A = Option Life} (same_trans u begun_trans) (Some (new_life None client w.who)) (a.holder.lives u))
+  begun_alike locks new same opens none idle h u =
+      subst (λ (x : Option Live). IsAlike a.holder.cells locks (lock_set a.locked begun_trans [] u) u x (cond {A = Option Life} (same_trans u begun_trans) (Some (new_life None client w.who)) (a.holder.lives u))) (sym (get_put k.lives begun_trans begun_live u))
+      (alike_set a.holder.cells k.locks.held locks a.locked begun_trans (Some begun_live) (Some (new_life None client w.who)) [] (map.get k.lives) a.holder.lives h.lives (λ t r away. same t r)
       (record {
         client = refl;
-        who = who;
+        who = refl;
         intents = λ x. ap (λ (puts : Cells). over puts x) none;
         own = opens;
         held = λ r. sym (same begun_trans r ∙ none_held a.holder.cells k.locks.held (a.locked begun_trans) begun_trans (map.get k.lives begun_trans) (a.holder.lives begun_trans) new (h.lives begun_trans) r);
@@ -263,15 +262,14 @@ module _ {V : Type 0} (a : Alone) (held : Contents) (k : ServerState V) (client 
 
   pub begin_stepped : (before now : ℕ) (x : Answer) (locks : Table) → IsAs a held k → client ≤ 16 → k.is_down ≡ false → session_at k.sessions client ≡ Some w → number ≡ w.last + 1 → map.len k.lives < 64 → map.get k.lives begun_trans ≡ None
       → ((u : TransId) (r : Resource) → holding locks.held u r ≡ holding k.locks.held u r) → own_of p ≡ no_opens → p.intents ≡ map.empty → p.counts ≡ no_counts
-      → x ≡ record { kept = Some (reply.Begun begun_trans); handed = Some (reply.Begun begun_trans); acts = act.Drawn begun_trans ∷ [] }
+      → x ≡ told_answer (Some (reply.Begun begun_trans)) (act.Drawn begun_trans ∷ [])
       → Stepped a before now held (with_begun_kept locks) (event.Call client k.epoch number (call.Begin seen)) x
   begin_stepped before now x locks h le up there turn few new same opens none idle is =
-      let s : IsSession w (a.sessions client) = session_there w (a.sessions client) (h.sessions client ∙ there) in
-      let v : desk.Session = s.told in
       let next : next_trans (alone a) ≡ begun_trans = trans_same h in
       let undrawn : a.fates (next_trans (alone a)) ≡ Undrawn = h.undrawn (next_trans (alone a)) (subst (λ (n : ℕ). is_beyond a.holder.server a.ids.epoch n (next_trans (alone a)) ≡ true) h.drawn (beyond_next a.holder.server a.ids.epoch a.ids.transactions)) in
-      let leads = begin_leads a client number v seen h.quiet (h.down ∙ up) s.is (turn ∙ ap (λ (n : ℕ). n + 1) (sym s.last)) undrawn (few_live a held k h few) in
-      let m : Alone = with_begun a client number v seen in
+      let leads = begin_leads a client number w seen h.quiet (h.down ∙ up) (h.sessions client ∙ there) turn undrawn (few_live a held k h few) in
+      let m : Alone = with_begun a client number w seen in
+      let counted : Session = record w { last = number; reply = reply.Begun begun_trans } in
       let kept : IsAs m held (with_begun_kept locks) = record {
         server = h.server;
         sizes = h.sizes;
@@ -279,14 +277,15 @@ module _ {V : Type 0} (a : Alone) (held : Contents) (k : ServerState V) (client 
         clock = ap (λ (n : ℕ). max n seen.ts) h.clock;
         cells = h.cells;
         notes = h.notes;
-        places = places_set k.sessions client (record w { last = number }) h.places;
-        sessions = sessions_as a.sessions k.sessions client (record v { last = number; reply = reply.Begun (next_trans (alone a)) }) (record w { last = number }) h.sessions h.places le s.who refl;
+        places = places_set k.sessions client counted h.places;
+        sessions = subst (λ (t : TransId). (c : ℕ) → cond {A = Option Session} (c == client) (Some (record w { last = number; reply = reply.Begun t })) (a.sessions c) ≡ session_at (with_session k.sessions client counted) c) (sym next)
+            (sessions_as a.sessions k.sessions client counted h.sessions h.places le);
         dead = λ d u. ap (cond {A = Option Cause} (d == client) None) (h.dead d u) ∙ buried a held k client number w seen k.dead d u;
-        lives = subst (λ (t : TransId). (u : TransId) → IsAlike a.holder.cells locks.held (lock_set a.locked t [] u) u (map.get (map.insert k.lives begun_trans begun_live) u) (cond {A = Option Life} (same_trans u t) (Some (new_life None client v.who)) (a.holder.lives u))) (sym next)
-            (begun_alike v locks.held s.who new same opens none idle h);
+        lives = subst (λ (t : TransId). (u : TransId) → IsAlike a.holder.cells locks.held (lock_set a.locked t [] u) u (map.get (map.insert k.lives begun_trans begun_live) u) (cond {A = Option Life} (same_trans u t) (Some (new_life None client w.who)) (a.holder.lives u))) (sym next)
+            (begun_alike locks.held new same opens none idle h);
         room = added_room k.sizes a.holder.cells k.lives begun_trans begun_live new idle h.room;
-        unborn = each_set (λ l. PutNoneBeyond a.holder.server a.ids.epoch k.given l.edits) (next_trans (alone a)) (Some (new_life None client v.who)) a.holder.lives h.unborn
-            (λ l at n high. ap (λ (y : Life). edits_at y.edits (Leader (record { server = a.holder.server; epoch = a.ids.epoch; counter = n })) None) (sym (same-some (new_life None client v.who) l at)));
+        unborn = each_set (λ l. PutNoneBeyond a.holder.server a.ids.epoch k.given l.edits) (next_trans (alone a)) (Some (new_life None client w.who)) a.holder.lives h.unborn
+            (λ l at n high. ap (λ (y : Life). edits_at y.edits (Leader (record { server = a.holder.server; epoch = a.ids.epoch; counter = n })) None) (sym (same-some (new_life None client w.who) l at)));
         drawn = ap (λ (n : ℕ). n + 1) h.drawn;
         begun = (λ i. h.begun i ++ (record { server = a.holder.server; epoch = a.ids.epoch; counter = h.drawn i + 1 }) ∷ []) ∙ one_more a.holder.server a.ids.epoch k.drawn;
         undrawn = subst (λ (n : ℕ). (t : TransId) → is_beyond a.holder.server a.ids.epoch (n + 1) t ≡ true
@@ -300,5 +299,5 @@ module _ {V : Type 0} (a : Alone) (held : Contents) (k : ServerState V) (client 
         quiet = leads.quiet;
         down = sym up;
       } in
-      stepped_so a before now held held k (with_begun_kept locks) client number v (call.Begin seen) false (reply.Begun (next_trans (alone a))) (act.Drawn (next_trans (alone a)) ∷ []) m x
-      (is ∙ ap (λ (t : TransId). record { kept = Some (reply.Begun t); handed = Some (reply.Begun t); acts = act.Drawn t ∷ [] }) (sym next)) h leads kept (λ e. cc) (omega (arith, h.clock))
+      stepped_so a before now held held k (with_begun_kept locks) client number w (call.Begin seen) false (reply.Begun (next_trans (alone a))) (act.Drawn (next_trans (alone a)) ∷ []) m x
+      (is ∙ ap (λ (t : TransId). told_answer (Some (reply.Begun t)) (act.Drawn t ∷ [])) (sym next)) h leads kept (λ e. cc) (omega (arith, h.clock))

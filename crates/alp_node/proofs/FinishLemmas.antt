@@ -1,7 +1,7 @@
 -- refusals and ends, as the server keeps them
 use Rattle.std.specs.Prelude.{cond, Bool, true, false, ◌==◌, ◌&&◌, not, Option, None, Some, nat_lt, nat_le}
 use Rattle.std.specs.FinMap as map
-use Rattle.std.proofs.Common.{◌≡◌, ℕ, ◌+◌, [], ◌∷◌, ◌++◌, refl, sym, ◌∙◌, ap, subst, eq-eqb}
+use Rattle.std.proofs.Common.{◌≡◌, ℕ, [], ◌∷◌, ◌++◌, refl, sym, ◌∙◌, ap, subst, eq-eqb}
 use Rattle.std.proofs.lemmas.Bool.{eqb-true, ne_eqb, leb-true, ltb-true}
 use Rattle.alp_base.specs.Causes.{Rose}
 use Rattle.alp_base.specs.declared.ids.TransId.{TransId}
@@ -23,6 +23,7 @@ use Rattle.alp_journal.specs.Along.{Where}
 use Rattle.alp_journal.specs.Ids.{same_trans}
 use Rattle.alp_journal.specs.Coordinator.{Fate, Undrawn, Running, Finishing, Committed, Forgotten, Ended}
 use Rattle.alp_journal.specs.Coordinator as fate
+use Rattle.alp_journal.specs.Desk.{Session}
 use Rattle.alp_journal.specs.Holder.{Life}
 use Rattle.alp_journal.specs.Counts.{lock_set}
 use Rattle.alp_journal.specs.Messages.{why_not_own}
@@ -33,7 +34,7 @@ use Rattle.alp_journal.proofs.AloneEntries.{counted_as, without_dead, with_end, 
 use Rattle.alp_journal.proofs.AloneEnds.{timeout_entry, with_timeout, timeout_leads, as_it_was, idle_leads}
 use Rattle.alp_node.specs.Dead.{dead_in, is_dead, without_part}
 use Rattle.alp_node.specs.ServerState.{IsAs, IsAlike, PutNoneBeyond, is_beyond}
-use Rattle.alp_node.specs.Steps.{Stepped, IsTurn, entry_of, counted_in, without_trans, ended}
+use Rattle.alp_node.specs.Steps.{Stepped, IsTurn, entry_of, counted_in, without_trans, ended, told_answer, refused_answer}
 use Rattle.alp_node.specs.declared.answer.Answer.{Answer}
 use Rattle.alp_node.specs.declared.lives.Live.{Live}
 use Rattle.alp_node.specs.declared.server_state.ServerState.{ServerState}
@@ -41,7 +42,7 @@ use Rattle.alp_node.specs.declared.sessions.Turn.{Turn}
 use Rattle.alp_node.proofs.CountLemmas.{IsUpTo}
 use Rattle.alp_node.proofs.DeadLemmas.{part_left, dead_then}
 use Rattle.alp_node.proofs.TotalLemmas.{gone_room}
-use Rattle.alp_node.proofs.KeptLemmas.{sessions_as, IsSession, session_there, stands_timely, alike_set, each_set, IsLive, live_there, none_live, stepped_so}
+use Rattle.alp_node.proofs.KeptLemmas.{sessions_as, session_of, session_then, stands_timely, alike_set, each_set, IsLive, live_there, none_live, stepped_so}
 use Rattle.alp_node.specs.Standings.{standing_of}
 use Rattle.alp_node.specs.declared.served.Standing.TheVariants as standing
 use Rattle.alp_node.proofs.StandingLemmas.{part_of, EndsNone, none_running, part_is, finish_none, undrawn_elsewhere}
@@ -78,17 +79,13 @@ module _ {V : Type 0} (a : Alone) (held : Contents) (k : ServerState V) where
   pub gone_unborn : (t : TransId) → IsAs a held k → (u : TransId) (l : Life) → cond {A = Option Life} (same_trans u t) None (a.holder.lives u) ≡ Some l → PutNoneBeyond a.holder.server a.ids.epoch k.given l.edits
   gone_unborn t h = each_set (λ l. PutNoneBeyond a.holder.server a.ids.epoch k.given l.edits) t None a.holder.lives h.unborn (λ l is. let wrong : None ≡ Some l = is in cc)
 
-  -- the session of a turn, as the journal has it
-  pub turn_session : (turn : Turn) → IsAs a held k → IsTurn k.sessions turn → IsSession turn.session (a.sessions turn.client)
-  turn_session turn h is = session_there turn.session (a.sessions turn.client) (h.sessions turn.client ∙ is.session)
-
-  -- it is the next call of that session
-  pub turn_next : (turn : Turn) (h : IsAs a held k) (is : IsTurn k.sessions turn) → turn.number ≡ (IsSession.told (turn_session turn h is)).last + 1
-  turn_next turn h is = is.number ∙ ap (λ (n : ℕ). n + 1) (sym (IsSession.last (turn_session turn h is)))
+  -- the session of a turn is the journal's
+  pub turn_session : (turn : Turn) → IsAs a held k → (is : IsTurn k.sessions turn) → a.sessions turn.client ≡ Some (session_of turn is)
+  turn_session turn h is = h.sessions turn.client ∙ is.session
 
   -- a state in which only the session counts on is that of a server in which it does
   pub counts_as : (turn : Turn) (r : Reply) (h : IsAs a held k) (is : IsTurn k.sessions turn) → k.is_down ≡ false
-      → IsAs (counted_as a turn.client turn.number (IsSession.told (turn_session turn h is)) r) held (record k { sessions = counted_in k.sessions turn })
+      → IsAs (counted_as a turn.client turn.number (session_of turn is) r) held (record k { sessions = counted_in k.sessions turn r })
   counts_as turn r h is up = record {
     server = h.server;
     sizes = h.sizes;
@@ -96,9 +93,8 @@ module _ {V : Type 0} (a : Alone) (held : Contents) (k : ServerState V) where
     clock = h.clock;
     cells = h.cells;
     notes = h.notes;
-    places = places_set k.sessions turn.client (record turn.session { last = turn.number }) h.places;
-    sessions = sessions_as a.sessions k.sessions turn.client (record (IsSession.told (turn_session turn h is)) { last = turn.number; reply = r }) (record turn.session { last = turn.number }) h.sessions h.places is.client
-        (IsSession.who (turn_session turn h is)) refl;
+    places = places_set k.sessions turn.client (session_then turn r) h.places;
+    sessions = sessions_as a.sessions k.sessions turn.client (session_then turn r) h.sessions h.places is.client;
     dead = h.dead;
     lives = h.lives;
     room = h.room;
@@ -139,7 +135,7 @@ module _ {V : Type 0} (a : Alone) (held : Contents) (k : ServerState V) where
 
 module _ {V : Type 0} (a : Alone) (before now : ℕ) (held : Contents) (k : ServerState V) (turn : Turn) (t : TransId) (l : Live) where
   ended_as : (life : Life) (c : Cause) (h : IsAs a held k) (is : IsTurn k.sessions turn) → k.is_down ≡ false → k.locks.waiting ≡ [] → a.fates t ≡ Running life.client []
-      → IsAs (with_end a turn.client turn.number (IsSession.told (turn_session a held k turn h is)) t life c) held (ended k turn t)
+      → IsAs (with_end a turn.client turn.number (session_of turn is) t life c) held (ended k turn t (reply.Refused (refusal.Aborted c)))
   ended_as life c h is up alone runs = record {
     server = h.server;
     sizes = h.sizes;
@@ -147,9 +143,8 @@ module _ {V : Type 0} (a : Alone) (before now : ℕ) (held : Contents) (k : Serv
     clock = h.clock;
     cells = h.cells;
     notes = h.notes;
-    places = places_set k.sessions turn.client (record turn.session { last = turn.number }) h.places;
-    sessions = sessions_as a.sessions k.sessions turn.client (record (IsSession.told (turn_session a held k turn h is)) { last = turn.number; reply = reply.Refused (refusal.Aborted c) }) (record turn.session { last = turn.number })
-        h.sessions h.places is.client (IsSession.who (turn_session a held k turn h is)) refl;
+    places = places_set k.sessions turn.client (session_then turn (reply.Refused (refusal.Aborted c))) h.places;
+    sessions = sessions_as a.sessions k.sessions turn.client (session_then turn (reply.Refused (refusal.Aborted c))) h.sessions h.places is.client;
     dead = λ d u. ap (cond {A = Option Cause} (d == turn.client && same_trans u t) None) (h.dead d u) ∙ part_left k.dead turn.client t d u;
     lives = gone_alike a held k t alone h;
     room = gone_room k.sizes a.holder.cells k.lives t h.room;
@@ -162,33 +157,33 @@ module _ {V : Type 0} (a : Alone) (before now : ℕ) (held : Contents) (k : Serv
     born = h.born;
     earlier = h.earlier;
     committed = h.committed;
-    quiet = ended_quiet a turn.client turn.number (IsSession.told (turn_session a held k turn h is)) t life c h.quiet runs;
+    quiet = ended_quiet a turn.client turn.number (session_of turn is) t life c h.quiet runs;
     down = sym up;
   }
 
   pub abort_stepped : (x : Answer) → IsAs a held k → IsTurn k.sessions turn → k.is_down ≡ false → k.locks.waiting ≡ [] → t.server ≡ k.server → map.get k.lives t ≡ Some l → l.client ≡ turn.client
-      → x ≡ record { kept = Some (reply.Refused (refusal.Aborted cause.Asked)); handed = Some (reply.Refused (refusal.Aborted cause.Asked)); acts = act.Released t ∷ [] }
-      → Stepped a before now held (ended k turn t) (event.Call turn.client k.epoch turn.number (call.Finish t false)) x
+      → x ≡ refused_answer (refusal.Aborted cause.Asked) (act.Released t ∷ [])
+      → Stepped a before now held (ended k turn t (reply.Refused (refusal.Aborted cause.Asked))) (event.Call turn.client k.epoch turn.number (call.Finish t false)) x
   abort_stepped x h is up alone here live own so =
-      let s : IsSession turn.session (a.sessions turn.client) = turn_session a held k turn h is in
+      let w : Session = session_of turn is in
       let y : IsLive a.holder.cells k.locks.held (a.locked t) t l (a.holder.lives t) = live_there a.holder.cells k.locks.held (a.locked t) t (map.get k.lives t) (a.holder.lives t) l live (h.lives t) in
       let pair : IsPaired (Some y.life) (a.fates t) = subst (λ (z : Option Life). IsPaired z (a.fates t)) y.is (h.quiet.paired t) in
-      stepped_so a before now held held k (ended k turn t) turn.client turn.number s.told (call.Finish t false) false (reply.Refused (refusal.Aborted cause.Asked)) (act.Released t ∷ [])
-      (with_end a turn.client turn.number s.told t y.life cause.Asked) x so h
-      (abort_leads a turn.client turn.number s.told t y.life cause.Asked refl h.quiet (h.down ∙ up) s.is (turn_next a held k turn h is) (here ∙ sym h.server) y.is (y.alike.client ∙ own))
+      stepped_so a before now held held k (ended k turn t (reply.Refused (refusal.Aborted cause.Asked))) turn.client turn.number w (call.Finish t false) false (reply.Refused (refusal.Aborted cause.Asked)) (act.Released t ∷ [])
+      (with_end a turn.client turn.number w t y.life cause.Asked) x so h
+      (abort_leads a turn.client turn.number w t y.life cause.Asked refl h.quiet (h.down ∙ up) (turn_session a held k turn h is) is.number (here ∙ sym h.server) y.is (y.alike.client ∙ own))
       (ended_as y.life cause.Asked h is up alone pair.0) (λ e. cc) (stands_timely a.holder.clock 0 k.clock h.clock)
 
   pub against_stepped : (failed : Bool) (why : Why) (x : Answer) → IsAs a held k → IsTurn k.sessions turn → k.is_down ≡ false → k.locks.waiting ≡ [] → t.server ≡ k.server → map.get k.lives t ≡ Some l → l.client ≡ turn.client
       → (failed ≡ true → Rose before now) → why_not_own failed (alone a) t ≡ Some why
-      → x ≡ record { kept = Some (reply.Refused (refusal.Aborted (cause.Voted k.server why))); handed = Some (reply.Refused (refusal.Aborted (cause.Voted k.server why))); acts = act.Released t ∷ [] }
-      → Stepped a before now held (ended k turn t) (event.Call turn.client k.epoch turn.number (call.Finish t true)) x
+      → x ≡ refused_answer (refusal.Aborted (cause.Voted k.server why)) (act.Released t ∷ [])
+      → Stepped a before now held (ended k turn t (reply.Refused (refusal.Aborted (cause.Voted k.server why)))) (event.Call turn.client k.epoch turn.number (call.Finish t true)) x
   against_stepped failed why x h is up alone here live own rose not so =
-      let s : IsSession turn.session (a.sessions turn.client) = turn_session a held k turn h is in
+      let w : Session = session_of turn is in
       let y : IsLive a.holder.cells k.locks.held (a.locked t) t l (a.holder.lives t) = live_there a.holder.cells k.locks.held (a.locked t) t (map.get k.lives t) (a.holder.lives t) l live (h.lives t) in
       let pair : IsPaired (Some y.life) (a.fates t) = subst (λ (z : Option Life). IsPaired z (a.fates t)) y.is (h.quiet.paired t) in
-      stepped_so a before now held held k (ended k turn t) turn.client turn.number s.told (call.Finish t true) failed (reply.Refused (refusal.Aborted (cause.Voted k.server why))) (act.Released t ∷ [])
-      (with_end a turn.client turn.number s.told t y.life (cause.Voted k.server why)) x so h
-      (against_leads a turn.client turn.number s.told t y.life (cause.Voted k.server why) failed why (ap (λ (n : ℕ). cause.Voted n why) (sym h.server)) h.quiet (h.down ∙ up) s.is (turn_next a held k turn h is) (here ∙ sym h.server) y.is
+      stepped_so a before now held held k (ended k turn t (reply.Refused (refusal.Aborted (cause.Voted k.server why)))) turn.client turn.number w (call.Finish t true) failed (reply.Refused (refusal.Aborted (cause.Voted k.server why))) (act.Released t ∷ [])
+      (with_end a turn.client turn.number w t y.life (cause.Voted k.server why)) x so h
+      (against_leads a turn.client turn.number w t y.life (cause.Voted k.server why) failed why (ap (λ (n : ℕ). cause.Voted n why) (sym h.server)) h.quiet (h.down ∙ up) (turn_session a held k turn h is) is.number (here ∙ sym h.server) y.is
       (y.alike.client ∙ own) not)
       (ended_as y.life (cause.Voted k.server why) h is up alone pair.0) rose (stands_timely a.holder.clock 0 k.clock h.clock)
 
@@ -216,24 +211,24 @@ module _ {V : Type 0} (a : Alone) (before now : ℕ) (held : Contents) (k : Serv
       (reply.Refused refusal.UnknownTrans ≡ reply.Refused refusal.UnknownTrans)) (sym away) refl
 
   unknown_so : (x : Answer) (h : IsAs a held k) (is : IsTurn k.sessions turn) → k.is_down ≡ false → EndsNone turn.client t commit (alone a).desk (reply.Refused refusal.UnknownTrans) (a.fates t)
-      → IsFinishAnswer false (alone a) turn.client t commit (reply.Refused refusal.UnknownTrans) → x ≡ record { kept = Some (reply.Refused refusal.UnknownTrans); handed = Some (reply.Refused refusal.UnknownTrans); acts = [] }
-      → Stepped a before now held (record k { sessions = counted_in k.sessions turn }) (event.Call turn.client k.epoch turn.number (call.Finish t commit)) x
+      → IsFinishAnswer false (alone a) turn.client t commit (reply.Refused refusal.UnknownTrans) → x ≡ refused_answer refusal.UnknownTrans []
+      → Stepped a before now held (record k { sessions = counted_in k.sessions turn (reply.Refused refusal.UnknownTrans) }) (event.Call turn.client k.epoch turn.number (call.Finish t commit)) x
   unknown_so x h is up none why so =
-      let s : IsSession turn.session (a.sessions turn.client) = turn_session a held k turn h is in
-      stepped_so a before now held held k (record k { sessions = counted_in k.sessions turn }) turn.client turn.number s.told (call.Finish t commit) false (reply.Refused refusal.UnknownTrans) []
-      (counted_as a turn.client turn.number s.told (reply.Refused refusal.UnknownTrans)) x so h
-      (unknown_finish_leads a turn.client turn.number s.told t commit h.quiet (h.down ∙ up) s.is (turn_next a held k turn h is) none.deeds none.mail why)
+      let w : Session = session_of turn is in
+      stepped_so a before now held held k (record k { sessions = counted_in k.sessions turn (reply.Refused refusal.UnknownTrans) }) turn.client turn.number w (call.Finish t commit) false (reply.Refused refusal.UnknownTrans) []
+      (counted_as a turn.client turn.number w (reply.Refused refusal.UnknownTrans)) x so h
+      (unknown_finish_leads a turn.client turn.number w t commit h.quiet (h.down ∙ up) (turn_session a held k turn h is) is.number none.deeds none.mail why)
       (counts_as a held k turn (reply.Refused refusal.UnknownTrans) h is up) (λ e. cc) (stands_timely a.holder.clock 0 k.clock h.clock)
 
   pub unknown_stepped : (x : Answer) → IsAs a held k → IsTurn k.sessions turn → k.is_down ≡ false → standing_of turn.client (map.get k.lives t) (is_dead turn.client t k.dead) ≡ standing.Unknown
-      → x ≡ record { kept = Some (reply.Refused refusal.UnknownTrans); handed = Some (reply.Refused refusal.UnknownTrans); acts = [] }
-      → Stepped a before now held (record k { sessions = counted_in k.sessions turn }) (event.Call turn.client k.epoch turn.number (call.Finish t commit)) x
+      → x ≡ refused_answer refusal.UnknownTrans []
+      → Stepped a before now held (record k { sessions = counted_in k.sessions turn (reply.Refused refusal.UnknownTrans) }) (event.Call turn.client k.epoch turn.number (call.Finish t commit)) x
   unknown_stepped x h is up unknown so =
       unknown_so x h is up (finish_none a held k turn.client t commit (reply.Refused refusal.UnknownTrans) h (λ own. let wrong : standing.Unknown ≡ standing.Own = sym unknown ∙ own in cc)) (no_part_answer h unknown) so
 
   pub elsewhere_stepped : (x : Answer) → IsAs a held k → IsTurn k.sessions turn → k.is_down ≡ false → (t.server ≡ k.server → ⊥)
-      → x ≡ record { kept = Some (reply.Refused refusal.UnknownTrans); handed = Some (reply.Refused refusal.UnknownTrans); acts = [] }
-      → Stepped a before now held (record k { sessions = counted_in k.sessions turn }) (event.Call turn.client k.epoch turn.number (call.Finish t commit)) x
+      → x ≡ refused_answer refusal.UnknownTrans []
+      → Stepped a before now held (record k { sessions = counted_in k.sessions turn (reply.Refused refusal.UnknownTrans) }) (event.Call turn.client k.epoch turn.number (call.Finish t commit)) x
   elsewhere_stepped x h is up away so =
       let far : (t.server == a.holder.server) ≡ false = ne_eqb t.server a.holder.server (λ e. away (e ∙ h.server)) in
       unknown_so x h is up (subst (EndsNone turn.client t commit (alone a).desk (reply.Refused refusal.UnknownTrans)) (sym (undrawn_elsewhere a held k turn.client t h far)) (none_running turn.client t commit (alone a).desk (reply.Refused refusal.UnknownTrans) Undrawn tt))
@@ -241,10 +236,10 @@ module _ {V : Type 0} (a : Alone) (before now : ℕ) (held : Contents) (k : Serv
 
   -- it timed out, and its client is told
   pub dead_stepped : (x : Answer) → IsAs a held k → IsTurn k.sessions turn → k.is_down ≡ false → t.server ≡ k.server → standing_of turn.client (map.get k.lives t) (is_dead turn.client t k.dead) ≡ standing.Dead
-      → x ≡ record { kept = Some (reply.Refused (refusal.Aborted cause.TimedOut)); handed = Some (reply.Refused (refusal.Aborted cause.TimedOut)); acts = [] }
-      → Stepped a before now held (record k { sessions = counted_in k.sessions turn; dead = without_part turn.client t k.dead }) (event.Call turn.client k.epoch turn.number (call.Finish t commit)) x
+      → x ≡ refused_answer (refusal.Aborted cause.TimedOut) []
+      → Stepped a before now held (record k { sessions = counted_in k.sessions turn (reply.Refused (refusal.Aborted cause.TimedOut)); dead = without_part turn.client t k.dead }) (event.Call turn.client k.epoch turn.number (call.Finish t commit)) x
   dead_stepped x h is up here dead so =
-      let s : IsSession turn.session (a.sessions turn.client) = turn_session a held k turn h is in
+      let w : Session = session_of turn is in
       let r : Reply = reply.Refused (refusal.Aborted cause.TimedOut) in
       let none : EndsNone turn.client t commit (alone a).desk r (a.fates t) = finish_none a held k turn.client t commit r h (λ own. let wrong : standing.Dead ≡ standing.Own = sym dead ∙ own in cc) in
       let part : part_at (alone a) turn.client t ≡ AtEnd cause.TimedOut = part_is a held k turn.client t h ∙ ap part_of dead in
@@ -252,10 +247,10 @@ module _ {V : Type 0} (a : Alone) (before now : ℕ) (held : Contents) (k : Serv
       (r ≡ cond {A = Reply} commit (finish_reply false (alone a) t (a.fates t)) (reply.Refused (refusal.Aborted cause.Asked))))
       (r ≡ reply.Refused refusal.UnknownTrans)) (sym (eq-eqb t.server a.holder.server (here ∙ sym h.server)))
       (subst (λ (p : Part). First (at_part (commit && false) p) r (r ≡ cond {A = Reply} commit (finish_reply false (alone a) t (a.fates t)) (reply.Refused (refusal.Aborted cause.Asked)))) (sym part) refl) in
-      let now_as : IsAs (counted_as a turn.client turn.number s.told r) held (record k { sessions = counted_in k.sessions turn }) = counts_as a held k turn r h is up in
-      stepped_so a before now held held k (record k { sessions = counted_in k.sessions turn; dead = without_part turn.client t k.dead }) turn.client turn.number s.told (call.Finish t commit) false r []
-      (without_dead a turn.client turn.number s.told t (counted_as a turn.client turn.number s.told r)) x so h
-      (dead_finish_leads a turn.client turn.number s.told t commit cause.TimedOut h.quiet (h.down ∙ up) s.is (turn_next a held k turn h is) none.deeds none.mail why)
+      let now_as : IsAs (counted_as a turn.client turn.number w r) held (record k { sessions = counted_in k.sessions turn r }) = counts_as a held k turn r h is up in
+      stepped_so a before now held held k (record k { sessions = counted_in k.sessions turn (reply.Refused (refusal.Aborted cause.TimedOut)); dead = without_part turn.client t k.dead }) turn.client turn.number w (call.Finish t commit) false r []
+      (without_dead a turn.client turn.number w t (counted_as a turn.client turn.number w r)) x so h
+      (dead_finish_leads a turn.client turn.number w t commit cause.TimedOut h.quiet (h.down ∙ up) (turn_session a held k turn h is) is.number none.deeds none.mail why)
       (record {
         server = h.server;
         sizes = h.sizes;
@@ -285,7 +280,7 @@ module _ {V : Type 0} (a : Alone) (before now : ℕ) (held : Contents) (k : Serv
 -- ---- time runs out
 
 module _ {V : Type 0} (a : Alone) (before now : ℕ) (held : Contents) (k : ServerState V) (t : TransId) where
-  pub timeout_stepped : (l : Live) (x : Answer) → IsAs a held k → k.is_down ≡ false → k.locks.waiting ≡ [] → map.get k.lives t ≡ Some l → x ≡ record { kept = None; handed = None; acts = act.Released t ∷ [] }
+  pub timeout_stepped : (l : Live) (x : Answer) → IsAs a held k → k.is_down ≡ false → k.locks.waiting ≡ [] → map.get k.lives t ≡ Some l → x ≡ told_answer None (act.Released t ∷ [])
       → Stepped a before now held (record (without_trans k t) { dead = k.dead ++ (record { client = l.client; trans = t }) ∷ [] }) (event.Timeout t) x
   timeout_stepped l x h up alone live so =
       let y : IsLive a.holder.cells k.locks.held (a.locked t) t l (a.holder.lives t) = live_there a.holder.cells k.locks.held (a.locked t) t (map.get k.lives t) (a.holder.lives t) l live (h.lives t) in
@@ -323,7 +318,7 @@ module _ {V : Type 0} (a : Alone) (before now : ℕ) (held : Contents) (k : Serv
         clock = stands_timely a.holder.clock 0 k.clock h.clock;
       }
 
-  pub idle_stepped : (x : Answer) → IsAs a held k → k.is_down ≡ false → map.get k.lives t ≡ None → x ≡ record { kept = None; handed = None; acts = [] } → Stepped a before now held k (event.Timeout t) x
+  pub idle_stepped : (x : Answer) → IsAs a held k → k.is_down ≡ false → map.get k.lives t ≡ None → x ≡ told_answer None [] → Stepped a before now held k (event.Timeout t) x
   idle_stepped x h up none so = record {
     failed = false;
     next = as_it_was a t;

@@ -271,6 +271,7 @@ granted_ready m serves k w count more low prepared free others h = record {
   opens = h.opens;
   places = h.places;
   calls = h.calls;
+  replies = h.replies;
   drawn = h.drawn;
   given = low;
   committed = h.committed;

@@ -1,6 +1,5 @@
 -- a server keeps what its journal says: what holds of each part of it
 use Rattle.std.specs.Prelude.{cond, Bool, true, false, ◌==◌, max, Option, None, Some}
-use Rattle.std.specs.Option.{option_map}
 use Rattle.std.specs.FinMap as map
 use Rattle.std.proofs.Common.{◌≡◌, ℕ, ◌+◌, ◌≤◌, List, [], ◌∷◌, length, refl, sym, ◌∙◌, ap, subst, arith}
 use Rattle.alp_base.specs.declared.ids.TransId.{TransId}
@@ -19,18 +18,18 @@ use Rattle.alp_journal.specs.declared.event.Event.TheVariants as event
 use Rattle.alp_base.specs.Causes.{Rose}
 use Rattle.alp_journal.specs.Ids.{same_trans}
 use Rattle.alp_journal.specs.Holder.{Life}
-use Rattle.alp_journal.specs.Desk as desk
 use Rattle.alp_journal.specs.Alone.{Alone, Leads, AreEarlier}
 use Rattle.alp_journal.proofs.IdLemmas.{same_trans-true}
 use Rattle.alp_journal.proofs.AloneLemmas.{call_entry}
 use Rattle.alp_node.specs.Sessions.{session_at, with_session}
-use Rattle.alp_node.specs.ServerState.{IsLife, IsAlike, IsAs, kept_session}
-use Rattle.alp_node.specs.Steps.{Stepped, IsOf, IsTimely, entry_of}
+use Rattle.alp_node.specs.ServerState.{IsLife, IsAlike, IsAs}
+use Rattle.alp_node.specs.Steps.{Stepped, IsOf, IsTimely, IsTurn, told_answer, entry_of}
 use Rattle.alp_node.specs.declared.answer.Answer.{Answer}
 use Rattle.alp_node.specs.declared.server_state.ServerState.{ServerState}
 use Rattle.alp_node.specs.declared.lives.Live.{Live}
-use Rattle.alp_node.specs.declared.sessions.Session.{Session}
+use Rattle.alp_journal.specs.Desk.{Session}
 use Rattle.alp_node.specs.declared.sessions.Sessions.{Sessions}
+use Rattle.alp_node.specs.declared.sessions.Turn.{Turn}
 use Rattle.alp_node.proofs.MapLemmas.{session_kept}
 
 -- ---- what holds of lives
@@ -107,31 +106,17 @@ over_empty v = over-none v
 
 -- ---- what holds of sessions
 
--- the session as the journal has it, with the reply that it keeps
-pub record IsSession (w : Session) (x : Option desk.Session) : Type 0 where
-  pub told : desk.Session
-  pub is : x ≡ Some told
-  pub who : told.who ≡ w.who
-  pub last : told.last ≡ w.last
+-- the session whose next call it is, and the same with that call counted
+abbrev pub session_of : {sessions : Sessions} (turn : Turn) → IsTurn sessions turn → Session
+session_of turn is = record { who = turn.who; last = is.last; reply = is.kept }
 
-pub session_there : (w : Session) (x : Option desk.Session) → option_map kept_session x ≡ Some w → IsSession w x
-session_there w None is = let wrong : None ≡ Some w = is in cc
-session_there w (Some v) is = let same : record { who = v.who; last = v.last } ≡ w = cc in record { told = v; is = refl; who = ap (λ (y : Session). y.who) same; last = ap (λ (y : Session). y.last) same }
-
-pub no_session : (x : Option desk.Session) → option_map kept_session x ≡ None → x ≡ None
-no_session None is = refl
-no_session (Some v) is = cc
+abbrev pub session_then : Turn → Reply → Session
+session_then turn r = record { who = turn.who; last = turn.number; reply = r }
 
 -- the sessions where one is another now
-kept_cond : (b : Bool) (v : desk.Session) (w : Session) (x : Option desk.Session) (y : Option Session) → v.who ≡ w.who → v.last ≡ w.last → option_map kept_session x ≡ y
-    → option_map kept_session (cond {A = Option desk.Session} b (Some v) x) ≡ cond {A = Option Session} b (Some w) y
-kept_cond true v w x y who last same = λ i. Some (record { who = who i; last = last i })
-kept_cond false v w x y who last same = same
-
-pub sessions_as : (sessions : ℕ → Option desk.Session) (kept : Sessions) (client : ℕ) (v : desk.Session) (w : Session) → ((c : ℕ) → option_map kept_session (sessions c) ≡ session_at kept c)
-    → length kept.places ≡ 17 → client ≤ 16 → v.who ≡ w.who → v.last ≡ w.last
-    → (c : ℕ) → option_map kept_session (cond {A = Option desk.Session} (c == client) (Some v) (sessions c)) ≡ session_at (with_session kept client w) c
-sessions_as sessions kept client v w all full le who last c = kept_cond (c == client) v w (sessions c) (session_at kept c) who last (all c) ∙ sym (session_kept kept client w c full le)
+pub sessions_as : (sessions : ℕ → Option Session) (kept : Sessions) (client : ℕ) (w : Session) → ((c : ℕ) → sessions c ≡ session_at kept c) → length kept.places ≡ 17 → client ≤ 16
+    → (c : ℕ) → cond {A = Option Session} (c == client) (Some w) (sessions c) ≡ session_at (with_session kept client w) c
+sessions_as sessions kept client w all full le c = ap (cond {A = Option Session} (c == client) (Some w)) (all c) ∙ sym (session_kept kept client w c full le)
 
 -- ---- all of it
 
@@ -191,8 +176,8 @@ as_with a held then k v same h = subst (λ (x : Contents). IsAs a x (record k { 
 })
 
 -- a new call's entry and its answer
-module _ {V : Type 0} (a : Alone) (before now : ℕ) (held then : Contents) (k new : ServerState V) (client number : ℕ) (w : desk.Session) (c : Call) where
-  pub stepped_so : (failed : Bool) (r : Reply) (acts : List Act) (m : Alone) (x : Answer) → x ≡ record { kept = Some r; handed = Some r; acts = acts } → IsAs a held k → Leads failed a (call_entry a client number w c r acts) m
+module _ {V : Type 0} (a : Alone) (before now : ℕ) (held then : Contents) (k new : ServerState V) (client number : ℕ) (w : Session) (c : Call) where
+  pub stepped_so : (failed : Bool) (r : Reply) (acts : List Act) (m : Alone) (x : Answer) → x ≡ told_answer (Some r) acts → IsAs a held k → Leads failed a (call_entry a client number w c r acts) m
       → IsAs m then new → (failed ≡ true → Rose before now) → IsTimely a.holder.clock (event.Call client k.epoch number c) new.clock → Stepped a before now then new (event.Call client k.epoch number c) x
   stepped_so failed r acts m x is h leads kept rose timely = record {
     failed = failed;

@@ -16,8 +16,10 @@ pub mod LiveSums
 pub mod WithinLemmas
 pub mod RoomLemmas
 pub mod TurnLemmas
+pub mod OrderLemmas
 pub mod CountedLemmas
 pub mod StepLemmas
+pub mod IdleLemmas
 pub mod CommitLemmas
 pub mod CallLemmas
 pub mod IdLemmas

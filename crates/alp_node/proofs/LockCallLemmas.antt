@@ -38,7 +38,7 @@ use Rattle.alp_node.specs.declared.lock_counts.LockCounts.{LockCounts}
 use Rattle.alp_node.specs.Dead.{is_dead}
 use Rattle.alp_node.specs.ServerState.{IsAs, IsLife}
 use Rattle.alp_node.specs.Standings.{standing_of}
-use Rattle.alp_node.specs.Steps.{Stepped, IsTurn, IsOf, counted_in}
+use Rattle.alp_node.specs.Steps.{Stepped, IsTurn, IsOf, counted_in, refused_answer}
 use Rattle.alp_node.specs.declared.answer.Answer.{Answer as Handed}
 use Rattle.alp_node.specs.declared.lives.Live.{Live}
 use Rattle.alp_node.specs.declared.server_state.ServerState.{ServerState}
@@ -134,8 +134,8 @@ module _ {V : Type 0} (a : Alone) (before now : ℕ) (held : Contents) (k : Serv
   -- it would leave too many locks
   pub locks_stepped : (f : Refusal) (x : Handed) → IsAs a held k → 0 < k.epoch → IsTurn k.sessions turn → k.is_down ≡ false → map.get k.lives t ≡ Some l → l.client ≡ turn.client → IsLockCall c
       → shape_of k.server k.epoch k.given (length l.part.opens.items) c ≡ None → too_locked k.sizes.area l.part.counts.cells (counts_then l.locks (holding k.locks.held t) c).made ≡ Some f → file_trans c ≡ Some t
-      → x ≡ record { kept = Some (reply.Refused f); handed = Some (reply.Refused f); acts = [] }
-      → Stepped a before now held (record k { sessions = counted_in k.sessions turn }) (event.Call turn.client k.epoch turn.number c) x
+      → x ≡ refused_answer f []
+      → Stepped a before now held (record k { sessions = counted_in k.sessions turn (reply.Refused f) }) (event.Call turn.client k.epoch turn.number c) x
   locks_stepped f x h raised is up there own kind shape many of so =
       let y : IsLive a.holder.cells k.locks.held (a.locked t) t l (a.holder.lives t) = live_there a.holder.cells k.locks.held (a.locked t) t (map.get k.lives t) (a.holder.lives t) l there (h.lives t) in
       let counted : IsCountRefusal f = too_locked_is k.sizes.area l.part.counts.cells (counts_then l.locks (holding k.locks.held t) c).made f many in
@@ -146,8 +146,8 @@ module _ {V : Type 0} (a : Alone) (before now : ℕ) (held : Contents) (k : Serv
   pub conflict_stepped : (holder : TransId) (x : Handed) → IsAs a held k → 0 < k.epoch → IsTurn k.sessions turn → k.is_down ≡ false → map.get k.lives t ≡ Some l → l.client ≡ turn.client → IsLockCall c
       → shape_of k.server k.epoch k.given (length l.part.opens.items) c ≡ None → too_locked k.sizes.area l.part.counts.cells (counts_then l.locks (holding k.locks.held t) c).made ≡ None → file_trans c ≡ Some t → IsSound k.locks
       → blocker k.locks.held t (plan_of k.locks t (asks_of c)).rises ≡ Some holder
-      → x ≡ record { kept = Some (reply.Refused (refusal.LockConflict holder)); handed = Some (reply.Refused (refusal.LockConflict holder)); acts = [] }
-      → Stepped a before now held (record k { sessions = counted_in k.sessions turn }) (event.Call turn.client k.epoch turn.number c) x
+      → x ≡ refused_answer (refusal.LockConflict holder) []
+      → Stepped a before now held (record k { sessions = counted_in k.sessions turn (reply.Refused (refusal.LockConflict holder)) }) (event.Call turn.client k.epoch turn.number c) x
   conflict_stepped holder x h raised is up there own kind shape few of sound named so =
       let y : IsLive a.holder.cells k.locks.held (a.locked t) t l (a.holder.lives t) = live_there a.holder.cells k.locks.held (a.locked t) t (map.get k.lives t) (a.holder.lives t) l there (h.lives t) in
       let r : Reply = reply.Refused (refusal.LockConflict holder) in

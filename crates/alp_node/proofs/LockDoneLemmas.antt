@@ -38,7 +38,7 @@ use Rattle.alp_journal.specs.declared.act.Act.TheVariants as act
 use Rattle.alp_journal.specs.declared.event.Event.TheVariants as event
 use Rattle.alp_journal.specs.Ids.{same_trans}
 use Rattle.alp_journal.specs.Counts.{request_in, with_resources}
-use Rattle.alp_journal.specs.Desk as desk
+use Rattle.alp_journal.specs.Desk.{Session}
 use Rattle.alp_journal.specs.Desk.{file_trans}
 use Rattle.alp_journal.specs.Holder.{Life, view_in, answer_in, held_for}
 use Rattle.alp_journal.specs.Moves as journal
@@ -59,7 +59,7 @@ use Rattle.alp_node.specs.declared.lock_counts.LockCounts.{LockCounts}
 use Rattle.alp_node.specs.Dead.{is_dead}
 use Rattle.alp_node.specs.ServerState.{IsAs, IsReady, IsAlike, IsLife, IsLocked as IsOpenLocked}
 use Rattle.alp_node.specs.Standings.{standing_of}
-use Rattle.alp_node.specs.Steps.{Stepped, IsTurn, IsOf, counted_in, seen_in}
+use Rattle.alp_node.specs.Steps.{Stepped, IsTurn, IsOf, counted_in, seen_in, told_answer}
 use Rattle.alp_node.specs.declared.answer.Answer.{Answer as Handed}
 use Rattle.alp_node.specs.declared.lives.Live.{Live}
 use Rattle.alp_node.specs.declared.server_state.ServerState.{ServerState}
@@ -74,9 +74,9 @@ use Rattle.alp_node.proofs.ShapeLemmas.{shape_given}
 use Rattle.alp_node.proofs.TotalLemmas.{AreRoomed}
 use Rattle.alp_node.proofs.CallLemmas.{right_as, after_call, done_as}
 use Rattle.alp_node.proofs.ConflictLemmas.{held_elsewhere, would_hold, not_empty}
-use Rattle.alp_node.proofs.FinishLemmas.{turn_session, turn_next}
+use Rattle.alp_node.proofs.FinishLemmas.{turn_session}
 use Rattle.alp_node.proofs.GrantLemmas.{free_given, kept_beside, kept_locked, lock_built, IsOne, lock_one, lock_made, asked_below, of_given, next_told, id_given}
-use Rattle.alp_node.proofs.KeptLemmas.{IsSession, stands_timely, stepped_so}
+use Rattle.alp_node.proofs.KeptLemmas.{session_of, stands_timely, stepped_so}
 use Rattle.alp_node.proofs.LockLemmas.{itself, taken_own, taken_other, taken_agrees}
 use Rattle.alp_node.proofs.PerformLemmas.{grants_nothing}
 use Rattle.alp_node.proofs.LockCallLemmas.{locked_then, lock_request, lock_asks, asked_locks, made_locks, not_refused}
@@ -131,7 +131,7 @@ module _ {V : Type 0} (a : Alone) (before now : ℕ) (held : Contents) (k : Serv
   table_then g = with_plan k.locks (plan g)
 
   abbrev pub lock_left : Reply → ServerState V
-  lock_left g = record k { sessions = counted_in k.sessions turn; given = count_after k.given g; lives = map.insert k.lives t (record l { part = p; locks = locks_given l.locks locks_now (Ok g) }); locks = table_then g; vault = v }
+  lock_left g = record k { sessions = counted_in k.sessions turn g; given = count_after k.given g; lives = map.insert k.lives t (record l { part = p; locks = locks_given l.locks locks_now (Ok g) }); locks = table_then g; vault = v }
 
   module _ (m : ℕ) (on : Bool) (ready : IsReady m on k) (life : Life) (h : IsAs a held k) (up : k.is_down ≡ false) (is : IsTurn k.sessions turn) (there : map.get k.lives t ≡ Some l) (own : l.client ≡ turn.client) (live : a.holder.lives t ≡ Some life)
       (mine : IsLife a.holder.cells k.locks.held (a.locked t) t l life) (kind : IsLockCall c) (given : Answered true held.cells l.part p l.who (next_file k) c room r) (of : IsRoomOf true held.cells k locks_now.made room)
@@ -253,8 +253,8 @@ module _ {V : Type 0} (a : Alone) (before now : ℕ) (held : Contents) (k : Serv
     pub count_then : length (locked_then a held k t l c life h mine kind) ≡ locks_now.asked
     count_then = asked_locks a held k t l c life h mine kind
 
-    abbrev pub told : desk.Session
-    told = IsSession.told (turn_session a held k turn h is)
+    abbrev pub told : Session
+    told = session_of turn is
 
     -- no limit is passed, and the part gives what a thread is given
     module _ (passes : refused ≡ None) where
@@ -268,13 +268,13 @@ module _ {V : Type 0} (a : Alone) (before now : ℕ) (held : Contents) (k : Serv
       lock_owes of_trans formed x same ts grants = record {
         quiet = h.quiet;
         up = h.down ∙ up;
-        there = IsSession.is (turn_session a held k turn h is);
-        turn = turn_next a held k turn h is;
+        there = turn_session a held k turn h is;
+        turn = is.number;
         live = live;
         own = mine.client ∙ own;
         named = of_trans;
         formed = formed;
-        kind = given.kind;
+        kind = given.kind.0;
         passes = given.own;
         given = of_given a held k c g h of_file;
         right = lock_right.reply;
@@ -324,7 +324,7 @@ module _ {V : Type 0} (a : Alone) (before now : ℕ) (held : Contents) (k : Serv
       abbrev Steps : Contents → Handed → Type 0
       Steps then x = Stepped a before now then (lock_left g) (event.Call turn.client k.epoch turn.number c) x
 
-      held_steps : (x : Handed) (then : Contents) → then ≡ held → file_trans c ≡ Some t → IsFormed c → asked.rises ≡ [] → x ≡ record { kept = Some g; handed = Some g; acts = [] } → Steps then x
+      held_steps : (x : Handed) (then : Contents) → then ≡ held → file_trans c ≡ Some t → IsFormed c → asked.rises ≡ [] → x ≡ told_answer (Some g) [] → Steps then x
       held_steps x then same of_trans formed none so =
           let still : under ≡ life.held = under_held none in
           let leads : Leads false a (call_entry a turn.client turn.number told c g []) (with_call a turn.client turn.number told t life c g life.held (a.locked t)) =
@@ -334,7 +334,7 @@ module _ {V : Type 0} (a : Alone) (before now : ℕ) (held : Contents) (k : Serv
           (stands_timely a.holder.clock (seen_in (event.Call turn.client k.epoch turn.number c)) k.clock h.clock)
 
       granted_steps : (x : Handed) (then : Contents) → then ≡ held → file_trans c ≡ Some t → IsFormed c → (n : Need) (ns : List Need) → asked.rises ≡ n ∷ ns
-          → x ≡ record { kept = Some g; handed = Some g; acts = act.Granted t ∷ [] } → Steps then x
+          → x ≡ told_answer (Some g) (act.Granted t ∷ []) → Steps then x
       granted_steps x then same of_trans formed n ns some so =
           let rs : List Resource = locked_then a held k t l c life h mine kind in
           let leads : Leads false a (call_entry a turn.client turn.number told c g (act.Granted t ∷ [])) (with_call a turn.client turn.number told t life c g under rs) =
@@ -342,17 +342,17 @@ module _ {V : Type 0} (a : Alone) (before now : ℕ) (held : Contents) (k : Serv
           stepped_so a before now held then k (lock_left g) turn.client turn.number told c false g (act.Granted t ∷ []) (with_call a turn.client turn.number told t life c g under rs) x so h leads
           (lock_as then same under refl rs count_then known_then leads.quiet) (λ e. cc) (stands_timely a.holder.clock (seen_in (event.Call turn.client k.epoch turn.number c)) k.clock h.clock)
 
-      lock_steps : (x : Handed) (then : Contents) → then ≡ held → file_trans c ≡ Some t → IsFormed c → x ≡ record { kept = Some g; handed = Some g; acts = acts_of t asked.rises } → Steps then x
+      lock_steps : (x : Handed) (then : Contents) → then ≡ held → file_trans c ≡ Some t → IsFormed c → x ≡ told_answer (Some g) (acts_of t asked.rises) → Steps then x
       lock_steps x then same of_trans formed so = go asked.rises refl
         where
           go : (ns : List Need) → asked.rises ≡ ns → Steps then x
-          go [] e = held_steps x then same of_trans formed e (so ∙ ap (λ (ms : List Need). record { kept = Some g; handed = Some g; acts = acts_of t ms }) e)
+          go [] e = held_steps x then same of_trans formed e (so ∙ ap (λ (ms : List Need). told_answer (Some g) (acts_of t ms)) e)
           go (n ∷ ns) e =
               granted_steps x then same of_trans formed n ns e
-              (so ∙ ap (λ (y : Bool). record { kept = Some g; handed = Some g; acts = cond {A = List Act} y [] (act.Granted t ∷ []) }) (ap (λ (ms : List Need). length ms == 0) e ∙ not_empty n ns))
+              (so ∙ ap (λ (y : Bool). told_answer (Some g) (cond {A = List Act} y [] (act.Granted t ∷ []))) (ap (λ (ms : List Need). length ms == 0) e ∙ not_empty n ns))
 
-      pub lock_performed : (x : Handed) (then : Contents) → then ≡ held → file_trans c ≡ Some t → IsFormed c → x ≡ record { kept = Some r; handed = Some r; acts = acts_of t asked.rises }
+      pub lock_performed : (x : Handed) (then : Contents) → then ≡ held → file_trans c ≡ Some t → IsFormed c → x ≡ told_answer (Some r) (acts_of t asked.rises)
           → Stepped a before now then (lock_left r) (event.Call turn.client k.epoch turn.number c) x
       lock_performed x then same of_trans formed so =
           subst (λ (y : Reply). Stepped a before now then (lock_left y) (event.Call turn.client k.epoch turn.number c) x) (sym as_given)
-          (lock_steps x then same of_trans formed (so ∙ ap (λ (y : Reply). record { kept = Some y; handed = Some y; acts = acts_of t asked.rises }) as_given))
+          (lock_steps x then same of_trans formed (so ∙ ap (λ (y : Reply). told_answer (Some y) (acts_of t asked.rises)) as_given))

@@ -28,7 +28,7 @@ use Rattle.alp_journal.specs.declared.event.Event.TheVariants as event
 use Rattle.alp_journal.specs.Ids.{same_trans}
 use Rattle.alp_journal.specs.Counts.{lock_set, request_in}
 use Rattle.alp_journal.proofs.AloneEntries.{counted_as}
-use Rattle.alp_journal.specs.Desk as desk
+use Rattle.alp_journal.specs.Desk.{Session}
 use Rattle.alp_journal.specs.Desk.{file_trans}
 use Rattle.alp_journal.specs.Holder.{Life, held_for}
 use Rattle.alp_journal.specs.Answers.{IsFileOf, unless_counts}
@@ -42,7 +42,7 @@ use Rattle.alp_node.specs.Rooms.{IsRoomOf}
 use Rattle.alp_node.specs.Shapes.{shape_of, too_locked}
 use Rattle.alp_node.specs.declared.lock_counts.LockCounts.{LockCounts}
 use Rattle.alp_node.specs.ServerState.{IsAs, IsReady, IsAlike, IsLife, PutNoneBeyond, IsLocked as IsOpenLocked}
-use Rattle.alp_node.specs.Steps.{Stepped, IsTurn, counted_in, seen_in}
+use Rattle.alp_node.specs.Steps.{Stepped, IsTurn, counted_in, seen_in, told_answer, refused_answer}
 use Rattle.alp_node.specs.declared.answer.Answer.{Answer as Handed}
 use Rattle.alp_node.specs.declared.lives.Live.{Live}
 use Rattle.alp_node.specs.declared.server_state.ServerState.{ServerState}
@@ -53,8 +53,8 @@ use Rattle.alp_node.proofs.CountedLemmas.{IsCountRefusal, refused_is}
 use Rattle.alp_node.proofs.ShapeLemmas.{count_none_done}
 use Rattle.alp_node.proofs.TotalLemmas.{same_room}
 use Rattle.alp_node.proofs.ConflictLemmas.{not_empty}
-use Rattle.alp_node.proofs.FinishLemmas.{turn_session, turn_next, counts_as}
-use Rattle.alp_node.proofs.KeptLemmas.{IsSession, IsLive, live_there, alike_under, alike_set, each_set, stands_timely, stepped_so}
+use Rattle.alp_node.proofs.FinishLemmas.{turn_session, counts_as}
+use Rattle.alp_node.proofs.KeptLemmas.{session_of, IsLive, live_there, alike_under, alike_set, each_set, stands_timely, stepped_so}
 use Rattle.alp_node.proofs.LockLemmas.{taken_other}
 use Rattle.alp_node.proofs.LockCallLemmas.{locked_then}
 use Rattle.alp_node.proofs.LockDoneLemmas.{locks_now, asked, lock_left, first_held, lock_free, lock_why, grants_none, grants_some, under_held, still_locked, known_then, count_then, lock_performed}
@@ -94,8 +94,8 @@ module _ {V : Type 0} (a : Alone) (before now : ℕ) (held : Contents) (k : Serv
     abbrev resources : List Resource
     resources = locked_then a held k t l c life h mine kind
 
-    abbrev w : desk.Session
-    w = IsSession.told (turn_session a held k turn h is)
+    abbrev w : Session
+    w = session_of turn is
 
     counted : IsCountRefusal f
     counted = refused_is room l.part.counts given.after f full
@@ -168,7 +168,7 @@ module _ {V : Type 0} (a : Alone) (before now : ℕ) (held : Contents) (k : Serv
             (life_kept life.held still (a.locked t) (ap (λ (x : List Resource). length x) (sym rs) ∙ count) (subst (AreHeld would) rs known)))
         go u false e = alike_under a.holder.cells k.locks.held with_asked.held (a.locked u) u (map.get k.lives u) (a.holder.lives u) (λ q. taken_other k.locks wanted refl u q e) (h.lives u)
 
-    held_refused : (x : Handed) (then : Contents) → then ≡ held → file_trans c ≡ Some t → wanted.rises ≡ [] → x ≡ record { kept = Some (reply.Refused f); handed = Some (reply.Refused f); acts = [] }
+    held_refused : (x : Handed) (then : Contents) → then ≡ held → file_trans c ≡ Some t → wanted.rises ≡ [] → x ≡ refused_answer f []
         → Stepped a before now then (left (reply.Refused f)) (event.Call turn.client k.epoch turn.number c) x
     held_refused x then same of_trans none so =
         let still : would ≡ life.held = under_held a before now held k turn t l p c room r v m on ready life h up is there own live mine kind given of shape few free none in
@@ -180,7 +180,7 @@ module _ {V : Type 0} (a : Alone) (before now : ℕ) (held : Contents) (k : Serv
 
     granted_as : (then : Contents) → then ≡ held → IsQuiet (with_locks a turn.client turn.number w t life c f) → IsAs (with_locks a turn.client turn.number w t life c f) then (left (reply.Refused f))
     granted_as then same quiet =
-        let s : IsAs (counted_as a turn.client turn.number w (reply.Refused f)) held (record k { sessions = counted_in k.sessions turn }) = counts_as a held k turn (reply.Refused f) h is up in
+        let s : IsAs (counted_as a turn.client turn.number w (reply.Refused f)) held (record k { sessions = counted_in k.sessions turn (reply.Refused f) }) = counts_as a held k turn (reply.Refused f) h is up in
         let new : Life = record life { held = would } in
         subst (λ (x : Contents). IsAs (with_locks a turn.client turn.number w t life c f) x (left (reply.Refused f))) (sym same) (record {
           server = h.server;
@@ -211,34 +211,34 @@ module _ {V : Type 0} (a : Alone) (before now : ℕ) (held : Contents) (k : Serv
         })
 
     granted_refused : (x : Handed) (then : Contents) → then ≡ held → file_trans c ≡ Some t → (n : Need) (ns : List Need) → wanted.rises ≡ n ∷ ns
-        → x ≡ record { kept = Some (reply.Refused f); handed = Some (reply.Refused f); acts = act.Granted t ∷ [] } → Stepped a before now then (left (reply.Refused f)) (event.Call turn.client k.epoch turn.number c) x
+        → x ≡ refused_answer f (act.Granted t ∷ []) → Stepped a before now then (left (reply.Refused f)) (event.Call turn.client k.epoch turn.number c) x
     granted_refused x then same of_trans n ns some so =
         let leads : Leads false a (call_entry a turn.client turn.number w c (reply.Refused f) (act.Granted t ∷ [])) (with_locks a turn.client turn.number w t life c f) =
-        refused_granted_leads a turn.client turn.number w t life c f false h.quiet (h.down ∙ up) (IsSession.is (turn_session a held k turn h is)) (turn_next a held k turn h is) live (mine.client ∙ own) of_trans counted.passes counted.now
+        refused_granted_leads a turn.client turn.number w t life c f false h.quiet (h.down ∙ up) (turn_session a held k turn h is) is.number live (mine.client ∙ own) of_trans counted.passes counted.now
         (lock_free a before now held k turn t l p c room r v m on ready life h up is there own live mine kind given of shape few free) why
         (subst (λ (y : Reply). GrantsFor false (alone a) turn.client c y (t ∷ []) (Some t)) as_refused (grants_some a before now held k turn t l p c room r v m on ready life h up is there own live mine kind given of shape few free n ns some)) in
         stepped_so a before now held then k (left (reply.Refused f)) turn.client turn.number w c false (reply.Refused f) (act.Granted t ∷ []) (with_locks a turn.client turn.number w t life c f) x so h leads (granted_as then same leads.quiet) (λ e. cc)
         (stands_timely a.holder.clock (seen_in (event.Call turn.client k.epoch turn.number c)) k.clock h.clock)
 
-    lock_refused : (x : Handed) (then : Contents) → then ≡ held → file_trans c ≡ Some t → x ≡ record { kept = Some r; handed = Some r; acts = acts_of t wanted.rises }
+    lock_refused : (x : Handed) (then : Contents) → then ≡ held → file_trans c ≡ Some t → x ≡ told_answer (Some r) (acts_of t wanted.rises)
         → Stepped a before now then (left r) (event.Call turn.client k.epoch turn.number c) x
     lock_refused x then same of_trans so =
         subst (λ (y : Reply). Stepped a before now then (left y) (event.Call turn.client k.epoch turn.number c) x) (sym as_refused) (go wanted.rises refl)
       where
-        told_so : x ≡ record { kept = Some (reply.Refused f); handed = Some (reply.Refused f); acts = acts_of t wanted.rises }
-        told_so = so ∙ ap (λ (y : Reply). record { kept = Some y; handed = Some y; acts = acts_of t wanted.rises }) as_refused
+        told_so : x ≡ refused_answer f (acts_of t wanted.rises)
+        told_so = so ∙ ap (λ (y : Reply). told_answer (Some y) (acts_of t wanted.rises)) as_refused
 
         go : (ns : List Need) → wanted.rises ≡ ns → Stepped a before now then (left (reply.Refused f)) (event.Call turn.client k.epoch turn.number c) x
-        go [] e = held_refused x then same of_trans e (told_so ∙ ap (λ (ms : List Need). record { kept = Some (reply.Refused f); handed = Some (reply.Refused f); acts = acts_of t ms }) e)
+        go [] e = held_refused x then same of_trans e (told_so ∙ ap (λ (ms : List Need). refused_answer f (acts_of t ms)) e)
         go (n ∷ ns) e =
             granted_refused x then same of_trans n ns e
-            (told_so ∙ ap (λ (y : Bool). record { kept = Some (reply.Refused f); handed = Some (reply.Refused f); acts = cond {A = List Act} y [] (act.Granted t ∷ []) }) (ap (λ (ms : List Need). length ms == 0) e ∙ not_empty n ns))
+            (told_so ∙ ap (λ (y : Bool). refused_answer f (cond {A = List Act} y [] (act.Granted t ∷ []))) (ap (λ (ms : List Need). length ms == 0) e ∙ not_empty n ns))
 
   -- ---- either
 
   pub lock_stepped : (m : ℕ) (on : Bool) (x : Handed) (then : Contents) → IsReady m on k → IsAs a held k → k.is_down ≡ false → then ≡ held → IsTurn k.sessions turn → map.get k.lives t ≡ Some l → l.client ≡ turn.client → IsLockCall c
       → shape_of k.server k.epoch k.given (length l.part.opens.items) c ≡ None → too_locked k.sizes.area l.part.counts.cells locks_asked.made ≡ None → file_trans c ≡ Some t → IsFormed c
-      → Answered true held.cells l.part p l.who (next_file k) c room r → IsRoomOf true held.cells k locks_asked.made room → x ≡ record { kept = Some r; handed = Some r; acts = acts_of t wanted.rises } → blocker k.locks.held t wanted.rises ≡ None
+      → Answered true held.cells l.part p l.who (next_file k) c room r → IsRoomOf true held.cells k locks_asked.made room → x ≡ told_answer (Some r) (acts_of t wanted.rises) → blocker k.locks.held t wanted.rises ≡ None
       → Stepped a before now then (left r) (event.Call turn.client k.epoch turn.number c) x
   lock_stepped m on x then ready h up same is there own kind shape few of_trans formed given of so free =
       let y : IsLive a.holder.cells k.locks.held (a.locked t) t l (a.holder.lives t) = live_there a.holder.cells k.locks.held (a.locked t) t (map.get k.lives t) (a.holder.lives t) l there (h.lives t) in

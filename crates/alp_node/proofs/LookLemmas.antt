@@ -47,7 +47,7 @@ use Rattle.alp_node.proofs.GivenLemmas.{IsCounted, counts_fault, counts_down, re
 use Rattle.alp_node.proofs.KeptLemmas.{IsLive, live_there, same_live}
 use Rattle.alp_node.proofs.MapLemmas.{put_length, put_there, get_put}
 use Rattle.alp_node.proofs.ReadyLemmas.{counted_ready, down_ready}
-use Rattle.alp_node.proofs.TurnLemmas.{counts_refused, file_call_greets_none}
+use Rattle.alp_node.proofs.TurnLemmas.{counts_refused}
 use Rattle.alp_node.proofs.SeatLemmas.{left_seated, left_noted, left_step}
 use Rattle.alp_node.proofs.ServedLemmas.{fault_stepped}
 use Rattle.alp_node.proofs.StandingLemmas.{own_standing}
@@ -98,6 +98,7 @@ module _ {V : Type 0} (n : ℕ) (before serves : Bool) (k : ServerState V) (t : 
     opens = λ u x is. opens_so u (same_trans u t) x (sym (get_put k.lives t (record l { part = p; locks = b }) u) ∙ is);
     places = h.places;
     calls = λ c w is. (let before_now : w.last ≤ n = h.calls c w is in omega arith);
+    replies = h.replies;
     drawn = omega (arith, h.drawn, le);
     given = omega (arith, h.given, le);
     committed = omega (arith, h.committed, le);
@@ -144,6 +145,8 @@ module _ {V : Type 0} (G : Ghosts V) (k N : ServerState V) (t : TransId) (l : Li
       kept = λ a h. subst (λ (x : ServerState V). IsAs a (G.held N.vault) x) (sym kept) (part_still a (G.held k.vault) k t l p b N.vault (G.held N.vault) h left.contents there same locks);
       ready = λ n h. subst (λ (x : ServerState V). IsReady n (G.serves N.vault) x) (sym kept) (looked_ready n (G.serves N.vault) on down h);
       up = ap (λ (x : ServerState V). x.is_down) kept;
+      sessions = ap (λ (x : ServerState V). x.sessions) kept;
+      clock = ap (λ (x : ServerState V). x.clock) kept;
       vault = record { held = left.contents; faults = faults; allowance = left.allowed };
     }
 
@@ -170,16 +173,16 @@ module _ {V : Type 0} (G : Ghosts V) (k N : ServerState V) (t : TransId) (l : Li
 
     -- a read failed: the call is refused, and the server goes on
     failed_step : l.client ≡ turn.client → IsTrue (G.serves N.vault) → Rose (G.faults k.vault) (G.faults N.vault)
-        → IsStep G k (record (after_look p) { sessions = counted_in k.sessions turn }) (event.Call turn.client k.epoch turn.number c) (Ok (refused_answer refusal.ReadFault []))
+        → IsStep G k (record (after_look p) { sessions = counted_in k.sessions turn (reply.Refused refusal.ReadFault) }) (event.Call turn.client k.epoch turn.number c) (Ok (refused_answer refusal.ReadFault []))
     failed_step own on rose =
-        left_step G k (record (after_look p) { sessions = counted_in k.sessions turn }) refl refl refl left (event.Call turn.client k.epoch turn.number c) (refused_answer refusal.ReadFault []) up
+        left_step G k (record (after_look p) { sessions = counted_in k.sessions turn (reply.Refused refusal.ReadFault) }) refl refl refl left (event.Call turn.client k.epoch turn.number c) (refused_answer refusal.ReadFault []) up
         (λ told a h. (
         let y : IsLive a.holder.cells k.locks.held (a.locked t) t l (a.holder.lives t) = live_there a.holder.cells k.locks.held (a.locked t) t (map.get k.lives t) (a.holder.lives t) l there (h.lives t) in
         fault_stepped a (G.faults k.vault) (G.faults N.vault) (G.held N.vault) (after_look p) turn t c y.life (refused_answer refusal.ReadFault []) (look_as a h) is up rose named (look_own own) y.is refl))
         (reply_given k.server (G.faults k.vault) (G.faults N.vault) (G.allowance N.vault) k.is_down (reply.Refused refusal.ReadFault) [] (refused_answer refusal.ReadFault []) refl
         (subst (λ (b : Bool). IsCounted k.server (G.faults k.vault) (G.faults N.vault) b (Some (reply.Refused refusal.ReadFault))) (sym up) (counts_fault k.server (G.faults k.vault) (G.faults N.vault) (Some (reply.Refused refusal.ReadFault)) refl refl left.later rose)) up tt)
-        (λ n h. counted_ready n (G.serves N.vault) (after_look p) turn is (look_ready n (G.serves N.vault) on h))
-        (λ on. counts_refused k (record (after_look p) { sessions = counted_in k.sessions turn }) turn is c refusal.ReadFault (file_call_greets_none c t named) tt refl refl)
+        (λ n h. counted_ready n (G.serves N.vault) (after_look p) turn (reply.Refused refusal.ReadFault) is (record { inside = tt; times = tt }) (look_ready n (G.serves N.vault) on h))
+        (λ on. counts_refused k (record (after_look p) { sessions = counted_in k.sessions turn (reply.Refused refusal.ReadFault) }) turn is c refusal.ReadFault tt refl refl)
 
     -- the vault was stopped: the server is down
     stopped_step : l.client ≡ turn.client → G.serves N.vault ≡ false → G.allowance N.vault ≡ Spent
@@ -200,9 +203,9 @@ module _ {V : Type 0} (G : Ghosts V) (k N : ServerState V) (t : TransId) (l : Li
       → IsStep G k new (event.Call turn.client k.epoch turn.number c) r
   without_step new turn c b call_fault.Failed r looked is up named own did failed stopped memory =
       let x : IsRefused N new turn refusal.ReadFault r = failed refl in
-      let is_new : new ≡ record (after_look did.part) { sessions = counted_in k.sessions turn } = x.kept ∙ ap (λ (y : ServerState V). record y { sessions = counted_in y.sessions turn }) did.kept in
+      let is_new : new ≡ record (after_look did.part) { sessions = counted_in k.sessions turn (reply.Refused refusal.ReadFault) } = x.kept ∙ ap (λ (y : ServerState V). record y { sessions = counted_in y.sessions turn (reply.Refused refusal.ReadFault) }) did.kept in
       subst (λ (y : ServerState V). IsStep G k y (event.Call turn.client k.epoch turn.number c) r) (sym is_new)
-      (subst (IsStep G k (record (after_look did.part) { sessions = counted_in k.sessions turn }) (event.Call turn.client k.epoch turn.number c)) (sym x.answer)
+      (subst (IsStep G k (record (after_look did.part) { sessions = counted_in k.sessions turn (reply.Refused refusal.ReadFault) }) (event.Call turn.client k.epoch turn.number c)) (sym x.answer)
       (failed_step turn c did.part did.sound did.outcome looked.0 is up named own looked.1 looked.2))
   without_step new turn c b call_fault.Stopped r looked is up named own did failed stopped memory =
       let x : IsDown N new (act.Stopped ∷ []) r = stopped refl in

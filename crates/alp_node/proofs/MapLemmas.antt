@@ -13,7 +13,7 @@ use Rattle.alp_locks.proofs.HeldLemmas.{tied}
 use Rattle.alp_journal.specs.Ids.{same_trans}
 use Rattle.alp_journal.proofs.IdLemmas.{same_trans-itself, same_trans-true}
 use Rattle.alp_node.specs.Sessions.{session_at, with_session}
-use Rattle.alp_node.specs.declared.sessions.Session.{Session}
+use Rattle.alp_journal.specs.Desk.{Session}
 use Rattle.alp_node.specs.declared.sessions.Sessions.{Sessions}
 
 -- ---- sessions

@@ -25,17 +25,18 @@ use Rattle.alp_journal.specs.Opening.{Start}
 use Rattle.alp_journal.specs.State.{State, state_deed, opened}
 use Rattle.alp_journal.specs.Moves.{next, tried, told, halted, stops}
 use Rattle.alp_journal.specs.Laws.{IsLawful, IsLawfulEntry}
-use Rattle.alp_journal.specs.Answered.{IsAnswered, IsAnsweredSo, IsAnsweredEntry, FitsJournal}
+use Rattle.alp_journal.specs.Answered.{IsAnswered, IsAnsweredSo, IsAnsweredEntry, FitsJournal, entries_limit}
 use Rattle.alp_journal.specs.Alone.{Alone, alone, IsPaired, IsOwnEvent, AreOwnEvents}
 use Rattle.alp_node.specs.declared.answer.Answer.{Answer}
 use Rattle.alp_node.specs.NodeStates.{NodeState}
 use Rattle.alp_node.specs.ServerState.{IsAs, IsReady}
 use Rattle.alp_node.specs.Durable.{IsDurable, IsSettled, IsKeptOrBrought, MightBring, Leaves, Besides, said_of, said_by, said_then, stored_by}
 use Rattle.alp_node.specs.Nodes.{IsConsistent, IsRight, Answered, HasCause, HasNoEntry, HasRoom, state_of, start_by, start_in}
-use Rattle.alp_node.specs.Steps.{Stepped, IsStep, IsEntered, entry_of}
+use Rattle.alp_node.specs.Steps.{Stepped, IsStepAs, IsEntered, entry_of}
 use Rattle.alp_node.specs.Turns.{HasTurned}
 use Rattle.alp_node.specs.Served.{IsServed, AreLivesSound}
 use Rattle.alp_node.specs.declared.server_state.ServerState.{ServerState}
+use Rattle.alp_node.specs.declared.sessions.CallOrder.{CallOrder}
 use Rattle.alp_node.proofs.ApartLemmas.{covered_puts}
 use Rattle.alp_node.proofs.KeptLemmas.{IsLive, live_there}
 
@@ -53,13 +54,13 @@ pub caused_so : {V : Type 0} (o : Start) (held then : Contents) (old new : NodeS
 caused_so o held then old new before now e x h s = (s.failed, subst (λ (z : State). IsAnsweredEntry s.failed z (entry_of e x)) (sym h.says) s.leads.answered, s.rose)
 
 -- what is served is a call or a timeout
-pub served_own : {V : Type 0} (k : ServerState V) (e : Event) → IsServed k e → IsOwnEvent e
-served_own k (event.Call client epoch number c) served = tt
-served_own k (event.Timeout t) served = tt
-served_own k e served = absurd served
+pub served_own : (e : Event) → IsServed e → IsOwnEvent e
+served_own (event.Call client epoch number c) served = tt
+served_own (event.Timeout t) served = tt
+served_own e served = absurd served
 
 -- a journal that had room holds no entry too many
-fits-push : (es : List Entry) (e : Entry) → length es < 65536 → FitsJournal (es ++ e ∷ [])
+fits-push : (es : List Entry) (e : Entry) → length es < entries_limit → FitsJournal (es ++ e ∷ [])
 fits-push es e room i x at = inr (let within : i < length (es ++ e ∷ []) = slice_get_within (es ++ e ∷ []) i x at in let long = length-append es (e ∷ []) in omega (arith, within, long, room))
 
 -- one step more of a server that is right
@@ -178,7 +179,7 @@ module _ {V : Type 0} (G : Ghosts V) (o : Start) (old new : NodeState V) (e : Ev
 
 -- ---- whatever a step came to
 
-module _ {V : Type 0} (G : Ghosts V) (old : NodeState V) (kept : ServerState V) (journal : List Entry) (e : Event) where
+module _ {V : Type 0} (G : Ghosts V) (old : NodeState V) (kept : ServerState V) (journal : List Entry) (e : Event) (o : Option CallOrder) where
   abbrev pub node_then : NodeState V
   node_then = record old { kept = kept; journal = journal }
 
@@ -192,7 +193,7 @@ module _ {V : Type 0} (G : Ghosts V) (old : NodeState V) (kept : ServerState V) 
     start_then : kept.server ≡ old.kept.server → start_in G old ≡ start_in G node_then
     start_then server = (λ i. start_by G (sym server i) old.opening.vault.value)
 
-    module _ (x : Answer) (room : HasRoom old) (own : IsOwnEvent e) (s : IsStep G old.kept kept e (Ok x)) (is : journal ≡ old.journal ++ entry_of e x ∷ []) where
+    module _ (x : Answer) (room : HasRoom old) (own : IsOwnEvent e) (s : IsStepAs G o old.kept kept e (Ok x)) (is : journal ≡ old.journal ++ entry_of e x ∷ []) where
       ready_then : IsReady (length journal) (G.serves kept.vault) kept
       ready_then = subst (λ (n : ℕ). IsReady n (G.serves kept.vault) kept) (sym (counted_pushed old.journal journal (entry_of e x) is)) (s.ready (length old.journal) h.ready)
 
@@ -226,7 +227,7 @@ module _ {V : Type 0} (G : Ghosts V) (old : NodeState V) (kept : ServerState V) 
         durable = λ told. subst (λ (o : Start). IsDurable (state_of o journal) (G.may_leave kept.vault)) (start_then s.seat.server) (durable_then (told_before s.seat.same.telling told));
       }
 
-    module _ (f : OutOfMemory) (s : IsStep G old.kept kept e (Err f)) (is : journal ≡ old.journal) where
+    module _ (f : OutOfMemory) (s : IsStepAs G o old.kept kept e (Err f)) (is : journal ≡ old.journal) where
       still_ready : IsReady (length journal) (G.serves kept.vault) kept
       still_ready = subst (λ (n : ℕ). IsReady n (G.serves kept.vault) kept) (sym (ap length is)) (s.still.ready (length old.journal) h.ready)
 
@@ -249,11 +250,11 @@ module _ {V : Type 0} (G : Ghosts V) (old : NodeState V) (kept : ServerState V) 
         durable = λ told. subst (λ (o : Start). IsDurable (state_of o journal) (G.may_leave kept.vault)) (start_then s.seat.server) (durable_still (told_before s.seat.same.telling told));
       }
 
-    pub entered_kept : (r : Result (Option Reply) OutOfMemory) → HasRoom old → IsOwnEvent e → IsEntered G old.kept kept old.journal journal e r → IsConsistent G node_then
+    pub entered_kept : (r : Result (Option Reply) OutOfMemory) → HasRoom old → IsOwnEvent e → IsEntered G o old.kept kept old.journal journal e r → IsConsistent G node_then
     entered_kept (Ok y) room own (x, s, handed, is) = step_kept x room own s is
     entered_kept (Err f) room own (s, is) = still_kept f s is
 
-    leaves_still : (f : OutOfMemory) → IsStep G old.kept kept e (Err f) → IsTrue (G.tells old.kept.vault)
+    leaves_still : (f : OutOfMemory) → IsStepAs G o old.kept kept e (Err f) → IsTrue (G.tells old.kept.vault)
         → Leaves G old.kept.vault kept.vault (IsKeptOrBrought (G.held old.kept.vault) (state_of (start_in G old) old.journal) e)
     leaves_still f s told = record {
       crash = λ c here. kept_or c (then.crash c here);
@@ -271,7 +272,7 @@ module _ {V : Type 0} (G : Ghosts V) (old : NodeState V) (kept : ServerState V) 
         kept_or c (inr (inl same)) = inl same
         kept_or c (inr (inr might)) = inr (subst (λ (z : State). MightBring z e c) (sym r.says) might)
 
-    pub entered_durable : (r : Result (Option Reply) OutOfMemory) → HasRoom old → IsOwnEvent e → IsEntered G old.kept kept old.journal journal e r → IsTrue (G.tells old.kept.vault)
+    pub entered_durable : (r : Result (Option Reply) OutOfMemory) → HasRoom old → IsOwnEvent e → IsEntered G o old.kept kept old.journal journal e r → IsTrue (G.tells old.kept.vault)
         → MatchResult r (λ _. Leaves G old.kept.vault kept.vault (Either (G.held old.kept.vault) (said_then (state_of (start_in G node_then) journal))))
         (λ _. Leaves G old.kept.vault kept.vault (IsKeptOrBrought (G.held old.kept.vault) (state_of (start_in G old) old.journal) e))
     entered_durable (Ok y) room own (x, s, handed, is) told =
@@ -279,19 +280,19 @@ module _ {V : Type 0} (G : Ghosts V) (old : NodeState V) (kept : ServerState V) 
     entered_durable (Err f) room own (s, is) told = leaves_still f s told
 
   -- where it goes on, its sessions and its clock went on with the event
-  pub entered_turned : (r : Result (Option Reply) OutOfMemory) → IsEntered G old.kept kept old.journal journal e r → kept.is_down ≡ false → IfOk r (λ y. HasTurned old.kept kept e y)
-  entered_turned (Ok y) (x, s, handed, is) up = subst (λ (z : Option Reply). HasTurned old.kept kept e z) (sym s.given.handed ∙ handed) (s.turned up)
+  pub entered_turned : (r : Result (Option Reply) OutOfMemory) → IsEntered G o old.kept kept old.journal journal e r → kept.is_down ≡ false → IfOk r (λ y. HasTurned o old.kept kept e y)
+  entered_turned (Ok y) (x, s, handed, is) up = subst (λ (z : Option Reply). HasTurned o old.kept kept e z) (sym s.given.handed ∙ handed) (s.turned up)
   entered_turned (Err f) h up = tt
 
-  pub entered_still : (r : Result (Option Reply) OutOfMemory) → IsEntered G old.kept kept old.journal journal e r → OnErr r (HasNoEntry G old node_then)
+  pub entered_still : (r : Result (Option Reply) OutOfMemory) → IsEntered G o old.kept kept old.journal journal e r → OnErr r (HasNoEntry G old node_then)
   entered_still (Ok y) h = tt
-  entered_still (Err f) (s, is) = record { journal = is; up = s.still.up; vault = s.still.vault }
+  entered_still (Err f) (s, is) = record { journal = is; up = s.still.up; sessions = s.still.sessions; clock = s.still.clock; vault = s.still.vault }
 
-  pub entered_answered : (r : Result (Option Reply) OutOfMemory) → IsConsistent G old → IsEntered G old.kept kept old.journal journal e r
-      → IfOk r (λ y. Answered old.kept.server (G.tells old.kept.vault) (state_of (start_in G old) old.journal) old.journal journal e y (G.faults old.kept.vault) (G.faults kept.vault) (G.allowance kept.vault) kept.is_down)
+  pub entered_answered : (r : Result (Option Reply) OutOfMemory) → IsConsistent G old → IsEntered G o old.kept kept old.journal journal e r
+      → IfOk r (λ y. Answered old.kept.server o (G.tells old.kept.vault) (state_of (start_in G old) old.journal) old.journal journal e y (G.faults old.kept.vault) (G.faults kept.vault) (G.allowance kept.vault) kept.is_down)
   entered_answered (Ok y) h (x, s, handed, is) =
       let reply : x.kept ≡ y = sym s.given.handed ∙ handed in
-      subst (λ (z : Option Reply). Answered old.kept.server (G.tells old.kept.vault) (state_of (start_in G old) old.journal) old.journal journal e z (G.faults old.kept.vault) (G.faults kept.vault) (G.allowance kept.vault) kept.is_down) reply (record {
+      subst (λ (z : Option Reply). Answered old.kept.server o (G.tells old.kept.vault) (state_of (start_in G old) old.journal) old.journal journal e z (G.faults old.kept.vault) (G.faults kept.vault) (G.allowance kept.vault) kept.is_down) reply (record {
         acts = x.acts;
         entry = is;
         cause = λ told. (
@@ -304,6 +305,7 @@ module _ {V : Type 0} (G : Ghosts V) (old : NodeState V) (kept : ServerState V) 
         still = s.given.still;
         down = s.given.down;
         said_down = s.given.said_down;
+        halts = s.given.halts;
         causes = s.given.causes;
       })
   entered_answered (Err f) h s = tt

@@ -30,7 +30,7 @@ use Rattle.alp_journal.specs.declared.event.Event.TheVariants as event
 use Rattle.alp_journal.specs.Counts.{request_in, with_resources, log_need}
 use Rattle.alp_journal.specs.Deeds.{Deed}
 use Rattle.alp_journal.specs.Deeds as deed
-use Rattle.alp_journal.specs.Desk as desk
+use Rattle.alp_journal.specs.Desk.{Session}
 use Rattle.alp_journal.specs.Desk.{file_trans}
 use Rattle.alp_journal.specs.Holder.{Life, view_in, answer_in}
 use Rattle.alp_journal.specs.Moves.{is_of_no_file, done_by}
@@ -48,14 +48,14 @@ use Rattle.alp_node.specs.Shapes.{shape_of, too_locked}
 use Rattle.alp_node.specs.Totals.{totals_of}
 use Rattle.alp_node.specs.Dead.{is_dead}
 use Rattle.alp_node.specs.ServerState.{IsAs, IsLife, IsLocked as IsOpenLocked}
-use Rattle.alp_node.specs.Steps.{Stepped, IsTurn, IsOf, counted_in, seen_in}
+use Rattle.alp_node.specs.Steps.{Stepped, IsTurn, IsOf, counted_in, seen_in, told_answer}
 use Rattle.alp_node.specs.declared.answer.Answer.{Answer as Handed}
 use Rattle.alp_node.specs.declared.lives.Live.{Live}
 use Rattle.alp_node.specs.declared.server_state.ServerState.{ServerState}
 use Rattle.alp_node.specs.declared.sessions.Turn.{Turn}
 use Rattle.alp_node.proofs.CallLemmas.{done_kept, right_as, after_call, done_as, part_still}
-use Rattle.alp_node.proofs.FinishLemmas.{turn_session, turn_next}
-use Rattle.alp_node.proofs.KeptLemmas.{IsSession, IsLive, live_there, stands_timely, stepped_so}
+use Rattle.alp_node.proofs.FinishLemmas.{turn_session}
+use Rattle.alp_node.proofs.KeptLemmas.{session_of, IsLive, live_there, stands_timely, stepped_so}
 use Rattle.alp_node.proofs.ApartLemmas.{covered_puts, covered_both}
 use Rattle.alp_node.proofs.CountedLemmas.{IsCountRefusal, refused_is, same_passes, same_counts}
 use Rattle.alp_node.proofs.RoomLemmas.{refusal_same, allowed_room, none_locked}
@@ -208,9 +208,12 @@ module _ {V : Type 0} (a : Alone) (held : Contents) (k : ServerState V) (t : Tra
           go (inr x) = subst (λ (y : Option Refusal). First (option_or y (lock_refusal (alone a) t life c)) r (IsLocked (alone a) t life c r)) (sym (as_thread ∙ x.1)) (open_passes x.0 x.2)
 
 module _ {V : Type 0} (a : Alone) (before now : ℕ) (held : Contents) (k : ServerState V) (turn : Turn) (t : TransId) (l : Live) (p : Part) (c : Call) (room : Room) (r : Reply) (n : ℕ) (v : V) where
-  -- the part performed the call and stands as that says
+  -- the part performed the call and stands as that says, where it is answered so
+  abbrev pub page_then : Reply → ServerState V
+  page_then g = record k { sessions = counted_in k.sessions turn g; lives = map.insert k.lives t (record l { part = p; locks = n }); vault = v }
+
   abbrev pub page_kept : ServerState V
-  page_kept = record k { sessions = counted_in k.sessions turn; lives = map.insert k.lives t (record l { part = p; locks = n }); vault = v }
+  page_kept = page_then r
 
   module _ (life : Life) (h : IsAs a held k) (up : k.is_down ≡ false) (is : IsTurn k.sessions turn) (there : map.get k.lives t ≡ Some l) (own : l.client ≡ turn.client) (live : a.holder.lives t ≡ Some life)
       (mine : IsLife a.holder.cells k.locks.held (a.locked t) t l life) (page : IsPageCall c) (given : Answered true held.cells l.part p l.who (next_file k) c room r) (of : IsRoomOf true held.cells k l.locks room) (within : IsWithin k.sizes l)
@@ -218,8 +221,8 @@ module _ {V : Type 0} (a : Alone) (before now : ℕ) (held : Contents) (k : Serv
     abbrev did : Answer
     did = told a held k t l p c room r life h live mine page up within of given shape
 
-    abbrev w : desk.Session
-    w = IsSession.told (turn_session a held k turn h is)
+    abbrev w : Session
+    w = session_of turn is
 
     as_held : with_made life.held (id_in given.given) ≡ life.held
     as_held = made_none life.held (id_in given.given) (no_id a held k t l p c room r life h live mine page up within of given shape)
@@ -247,13 +250,13 @@ module _ {V : Type 0} (a : Alone) (before now : ℕ) (held : Contents) (k : Serv
       page_owes of_trans formed = record {
         quiet = h.quiet;
         up = h.down ∙ up;
-        there = IsSession.is (turn_session a held k turn h is);
-        turn = turn_next a held k turn h is;
+        there = turn_session a held k turn h is;
+        turn = is.number;
         live = live;
         own = mine.client ∙ own;
         named = of_trans;
         formed = formed;
-        kind = given.kind;
+        kind = given.kind.0;
         passes = given.own;
         given = page_no_file (alone a) c given.given page;
         right = page_done.reply;
@@ -282,18 +285,19 @@ module _ {V : Type 0} (a : Alone) (before now : ℕ) (held : Contents) (k : Serv
           (subst (λ (x : Holding). AreHeld x (with_resources (needs_made (id_in given.given)) (a.locked t))) (sym as_held) (subst (λ (x : Option FileId). AreHeld life.held (with_resources (needs_made x) (a.locked t))) (sym none) mine.known))
           (subst (AreRoomed k.sizes a.holder.cells (totals_of k.lives) l.part.counts) (sym counts) (allowed_room a held k h up l.locks room of t l given.after there passes)) quiet
 
-      page_performed : (x : Handed) (then : Contents) → then ≡ held → file_trans c ≡ Some t → IsFormed c → x ≡ record { kept = Some r; handed = Some r; acts = [] }
+      page_performed : (x : Handed) (then : Contents) → then ≡ held → file_trans c ≡ Some t → IsFormed c → x ≡ told_answer (Some r) []
           → Stepped a before now then page_kept (event.Call turn.client k.epoch turn.number c) x
       page_performed x then same of_trans formed so =
           let leads : Leads false a (call_entry a turn.client turn.number w c given.given []) (with_call a turn.client turn.number w t life c given.given life.held (a.locked t)) =
           performed_leads a turn.client turn.number w t life c given.given false (page_owes of_trans formed) in
           let none : id_in given.given ≡ None = page_left_so.none given.given page_done.reply in
-          subst (λ (m : ℕ). Stepped a before now then (record page_kept { given = m }) (event.Call turn.client k.epoch turn.number c) x) (count_none k.given given.given none)
+          subst (λ (y : Reply). Stepped a before now then (page_then y) (event.Call turn.client k.epoch turn.number c) x) (sym as_given)
+          (subst (λ (m : ℕ). Stepped a before now then (record (page_then given.given) { given = m }) (event.Call turn.client k.epoch turn.number c) x) (count_none k.given given.given none)
           (stepped_so a before now held then k (done_kept a held k turn t l p c given.given n k.locks v life) turn.client turn.number w c false given.given [] (with_call a turn.client turn.number w t life c given.given life.held (a.locked t)) x
-          (so ∙ ap (λ (y : Reply). record { kept = Some y; handed = Some y; acts = [] }) as_given) h leads (page_as then same leads.quiet) (λ e. cc) (stands_timely a.holder.clock (seen_in (event.Call turn.client k.epoch turn.number c)) k.clock h.clock))
+          (so ∙ ap (λ (y : Reply). told_answer (Some y) []) as_given) h leads (page_as then same leads.quiet) (λ e. cc) (stands_timely a.holder.clock (seen_in (event.Call turn.client k.epoch turn.number c)) k.clock h.clock)))
 
     -- a limit would be passed, and the part stands as before
-    page_refused : (f : Refusal) → refused_for room l.part.counts given.after ≡ Some f → (x : Handed) (then : Contents) → then ≡ held → file_trans c ≡ Some t → x ≡ record { kept = Some r; handed = Some r; acts = [] }
+    page_refused : (f : Refusal) → refused_for room l.part.counts given.after ≡ Some f → (x : Handed) (then : Contents) → then ≡ held → file_trans c ≡ Some t → x ≡ told_answer (Some r) []
         → Stepped a before now then page_kept (event.Call turn.client k.epoch turn.number c) x
     page_refused f full x then same of_trans so =
         let is_count : IsCountRefusal f = refused_is room l.part.counts given.after f full in
@@ -301,13 +305,14 @@ module _ {V : Type 0} (a : Alone) (before now : ℕ) (held : Contents) (k : Serv
         let stands : IsAsBefore l.part p = subst (StandsAfter l.part p given.after) full given.stands in
         let none : done_by (alone a) c (reply.Refused f) (Some t) ≡ [] = ap (λ (b : Bool). cond {A = List Deed} (b || is_of_no_file (alone a) c (reply.Refused f)) [] (deed.Performs t (record { call = c; reply = reply.Refused f }) ∷ [])) is_count.passes in
         let still : IsAs a then (record k { lives = map.insert k.lives t (record l { part = p; locks = n }); vault = v }) = part_still a held k t l p n v then h same there stands locks in
-        refused_stepped a before now then (record k { lives = map.insert k.lives t (record l { part = p; locks = n }); vault = v }) turn t c false f x still is up (λ e. cc) of_trans is_count.now none
+        subst (λ (y : Reply). Stepped a before now then (page_then y) (event.Call turn.client k.epoch turn.number c) x) (sym as_refused)
+        (refused_stepped a before now then (record k { lives = map.insert k.lives t (record l { part = p; locks = n }); vault = v }) turn t c false f x still is up (λ e. cc) of_trans is_count.now none
         (subst (λ (y : Reply). IsFileOf false (alone a) turn.client c y (Some t)) as_refused why) (subst (λ (y : Reply). GrantsFor false (alone a) turn.client c y [] (Some t)) as_refused granted)
-        (so ∙ ap (λ (y : Reply). record { kept = Some y; handed = Some y; acts = [] }) as_refused)
+        (so ∙ ap (λ (y : Reply). told_answer (Some y) []) as_refused))
 
   pub page_stepped : (x : Handed) (then : Contents) → IsAs a held k → k.is_down ≡ false → then ≡ held → IsTurn k.sessions turn → map.get k.lives t ≡ Some l → l.client ≡ turn.client → IsPageCall c
       → shape_of k.server k.epoch k.given (length l.part.opens.items) c ≡ None → file_trans c ≡ Some t → IsFormed c → Answered true held.cells l.part p l.who (next_file k) c room r → IsRoomOf true held.cells k l.locks room → IsWithin k.sizes l → n ≡ l.locks
-      → x ≡ record { kept = Some r; handed = Some r; acts = [] } → Stepped a before now then page_kept (event.Call turn.client k.epoch turn.number c) x
+      → x ≡ told_answer (Some r) [] → Stepped a before now then page_kept (event.Call turn.client k.epoch turn.number c) x
   page_stepped x then h up same is there own page shape of_trans formed given of within locks so =
       let y : IsLive a.holder.cells k.locks.held (a.locked t) t l (a.holder.lives t) = live_there a.holder.cells k.locks.held (a.locked t) t (map.get k.lives t) (a.holder.lives t) l there (h.lives t) in
       go y (refused_for room l.part.counts given.after) refl

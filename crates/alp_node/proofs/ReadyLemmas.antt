@@ -2,12 +2,15 @@
 use Rattle.std.specs.Prelude.{cond, Bool, true, false, ◌==◌, IsTrue, Option, None, Some, is_some}
 use Rattle.std.specs.FinMap as map
 use Rattle.std.specs.Ordering.{eq_by_cmp}
-use Rattle.std.proofs.Common.{◌≡◌, ℕ, ◌+◌, ◌^◌, ◌<◌, ◌≤◌, List, [], length, refl, sym, ◌∙◌, ap, subst, arith}
+use Rattle.std.proofs.Common.{◌≡◌, ℕ, ◌+◌, ◌^◌, ◌<◌, ◌≤◌, List, [], length, refl, sym, ◌∙◌, ap, subst, arith, le_refl}
 use Rattle.alp_base.specs.declared.ids.TransId.{TransId}
 use Rattle.alp_base.specs.declared.key.Resource.{Resource}
 use Rattle.alp_base.specs.declared.key.Resource.TheVariants.{Whole}
 use Rattle.alp_base.specs.Orders.{trans_cmp}
 use Rattle.alp_modes.specs.declared.Mode.{Mode}
+use Rattle.alp_files.specs.declared.reply.Ended.TheVariants as ended
+use Rattle.alp_files.specs.declared.reply.Reply.{Reply}
+use Rattle.alp_files.specs.declared.reply.Reply.TheVariants as reply
 use Rattle.alp_files.specs.Act.{Own, no_opens}
 use Rattle.alp_trans.specs.Parts.{own_of}
 use Rattle.alp_locks.specs.Tables.{Table, held_of, holding}
@@ -24,10 +27,11 @@ use Rattle.alp_node.specs.Rooms.{IsWithin}
 use Rattle.alp_node.specs.Sessions.{session_at, with_session}
 use Rattle.alp_node.specs.ServerState.{IsReady}
 use Rattle.alp_node.specs.Steps.{IsTurn, counted_in, without_trans}
+use Rattle.alp_node.specs.Turns.{TellsUpTo, IsKeepable}
 use Rattle.alp_node.specs.declared.server_state.ServerState.{ServerState}
 use Rattle.alp_node.specs.declared.dead.DeadPart.{DeadPart}
 use Rattle.alp_node.specs.declared.lives.Live.{Live}
-use Rattle.alp_node.specs.declared.sessions.Session.{Session}
+use Rattle.alp_journal.specs.Desk.{Session}
 use Rattle.alp_node.specs.declared.sessions.Sessions.{Sessions}
 use Rattle.alp_node.specs.declared.sessions.Turn.{Turn}
 use Rattle.alp_node.proofs.MapLemmas.{put_most, gone_length, session_kept, places_set, get_put, get_gone, tied_same}
@@ -50,7 +54,37 @@ calls_set sessions client w n full le all low c x is = go (c == client) (sym (se
     go false e = (let before : x.last ≤ n = all c x e in omega arith)
 
 turn_within : (sessions : Sessions) (t : Turn) (n : ℕ) → IsTurn sessions t → ((c : ℕ) (x : Session) → session_at sessions c ≡ Some x → x.last ≤ n) → t.number ≤ n + 1
-turn_within sessions t n turn all = (let low : t.session.last ≤ n = all t.client t.session turn.session in omega (arith, turn.number))
+turn_within sessions t n turn all = (let low : turn.last ≤ n = all t.client (record { who = t.who; last = turn.last; reply = turn.kept }) turn.session in omega (arith, turn.number))
+
+-- what a reply tells is no later at a later clock
+tells_later : (m n : ℕ) (r : Reply) → m ≤ n → TellsUpTo m r → TellsUpTo n r
+tells_later m n (reply.Committed stamp) le h = omega (arith, le, h)
+tells_later m n (reply.Ended (ended.Committed stamp)) le h = omega (arith, le, h)
+tells_later m n (reply.Ended ended.Running) le h = tt
+tells_later m n (reply.Ended ended.Aborted) le h = tt
+tells_later m n (reply.Ended ended.Unknown) le h = tt
+tells_later m n (reply.Welcome e) le h = tt
+tells_later m n (reply.Begun t) le h = tt
+tells_later m n reply.Joined le h = tt
+tells_later m n (reply.Created f k) le h = tt
+tells_later m n (reply.Opened k) le h = tt
+tells_later m n reply.Plain le h = tt
+tells_later m n (reply.Pages ps) le h = tt
+tells_later m n (reply.Props p) le h = tt
+tells_later m n (reply.Owner o) le h = tt
+tells_later m n (reply.Refused f) le h = tt
+
+pub keepable_later : (m n : ℕ) (r : Reply) → m ≤ n → IsKeepable m r → IsKeepable n r
+keepable_later m n r le h = record { inside = h.inside; times = tells_later m n r le h.times }
+
+-- each session keeps what it may, and so does one that is set
+replies_set : (sessions : Sessions) (client : ℕ) (w : Session) (m n : ℕ) → length sessions.places ≡ 17 → client ≤ 16 → m ≤ n → ((c : ℕ) (x : Session) → session_at sessions c ≡ Some x → IsKeepable m x.reply) → IsKeepable n w.reply
+    → (c : ℕ) (x : Session) → session_at (with_session sessions client w) c ≡ Some x → IsKeepable n x.reply
+replies_set sessions client w m n full small le all new c x is = go (c == client) (sym (session_kept sessions client w c full small) ∙ is)
+  where
+    go : (b : Bool) → cond {A = Option Session} b (Some w) (session_at sessions c) ≡ Some x → IsKeepable n x.reply
+    go true e = subst (λ (y : Session). IsKeepable n y.reply) (same_session w x e) new
+    go false e = keepable_later m n x.reply le (all c x e)
 
 -- ---- locks
 
@@ -95,7 +129,7 @@ entered_unheld t u v r none = ap (λ h. map.get h r) (entering-keeps-held t u v)
 
 module _ {V : Type 0} (n : ℕ) (serves : Bool) (k : ServerState V) where
   -- a session begins
-  pub hello_ready : (client : ℕ) (name : List ℕ) → client ≤ 16 → IsReady n serves k → IsReady (n + 1) serves (record k { sessions = with_session k.sessions client (record { who = name; last = 1 }) })
+  pub hello_ready : (client : ℕ) (name : List ℕ) → client ≤ 16 → IsReady n serves k → IsReady (n + 1) serves (record k { sessions = with_session k.sessions client (record { who = name; last = 1; reply = reply.Welcome k.epoch }) })
   hello_ready client name le h = record {
     serving = h.serving;
     halted = h.halted;
@@ -104,8 +138,9 @@ module _ {V : Type 0} (n : ℕ) (serves : Bool) (k : ServerState V) where
     known = h.known;
     begun = h.begun;
     opens = λ t l is. (let low : l.part.last ≤ n = h.opens t l is in omega arith);
-    places = places_set k.sessions client (record { who = name; last = 1 }) h.places;
-    calls = calls_set k.sessions client (record { who = name; last = 1 }) n h.places le h.calls (omega arith);
+    places = places_set k.sessions client (record { who = name; last = 1; reply = reply.Welcome k.epoch }) h.places;
+    calls = calls_set k.sessions client (record { who = name; last = 1; reply = reply.Welcome k.epoch }) n h.places le h.calls (omega arith);
+    replies = replies_set k.sessions client (record { who = name; last = 1; reply = reply.Welcome k.epoch }) k.clock k.clock h.places le (le_refl k.clock) h.replies (record { inside = tt; times = tt });
     drawn = omega (arith, h.drawn);
     given = omega (arith, h.given);
     committed = omega (arith, h.committed);
@@ -118,9 +153,9 @@ module _ {V : Type 0} (n : ℕ) (serves : Bool) (k : ServerState V) where
     unheld = h.unheld;
   }
 
-  -- the session counts on
-  pub counted_ready : (turn : Turn) → IsTurn k.sessions turn → IsReady n serves k → IsReady (n + 1) serves (record k { sessions = counted_in k.sessions turn })
-  counted_ready turn is h = record {
+  -- the session counts on, and keeps the reply
+  pub counted_ready : (turn : Turn) (r : Reply) → IsTurn k.sessions turn → IsKeepable k.clock r → IsReady n serves k → IsReady (n + 1) serves (record k { sessions = counted_in k.sessions turn r })
+  counted_ready turn r is keeps h = record {
     serving = h.serving;
     halted = h.halted;
     sound = h.sound;
@@ -128,8 +163,9 @@ module _ {V : Type 0} (n : ℕ) (serves : Bool) (k : ServerState V) where
     known = h.known;
     begun = h.begun;
     opens = λ t l there. (let low : l.part.last ≤ n = h.opens t l there in omega arith);
-    places = places_set k.sessions turn.client (record turn.session { last = turn.number }) h.places;
-    calls = calls_set k.sessions turn.client (record turn.session { last = turn.number }) n h.places is.client h.calls (turn_within k.sessions turn n is h.calls);
+    places = places_set k.sessions turn.client (record { who = turn.who; last = turn.number; reply = r }) h.places;
+    calls = calls_set k.sessions turn.client (record { who = turn.who; last = turn.number; reply = r }) n h.places is.client h.calls (turn_within k.sessions turn n is h.calls);
+    replies = replies_set k.sessions turn.client (record { who = turn.who; last = turn.number; reply = r }) k.clock k.clock h.places is.client (le_refl k.clock) h.replies keeps;
     drawn = omega (arith, h.drawn);
     given = omega (arith, h.given);
     committed = omega (arith, h.committed);
@@ -154,6 +190,7 @@ module _ {V : Type 0} (n : ℕ) (serves : Bool) (k : ServerState V) where
     opens = λ t l is. (let low : l.part.last ≤ n = h.opens t l is in omega arith);
     places = h.places;
     calls = λ c w is. (let low : w.last ≤ n = h.calls c w is in omega arith);
+    replies = h.replies;
     drawn = omega (arith, h.drawn);
     given = omega (arith, h.given);
     committed = omega (arith, h.committed);
@@ -178,6 +215,7 @@ module _ {V : Type 0} (n : ℕ) (serves : Bool) (k : ServerState V) where
     opens = λ u l is. kept u (same_trans u t) l (λ x. x.part.last ≤ n) (λ there. h.opens u l there) (sym (get_gone k.lives t u) ∙ is);
     places = h.places;
     calls = h.calls;
+    replies = h.replies;
     drawn = h.drawn;
     given = h.given;
     committed = h.committed;
@@ -209,10 +247,10 @@ module _ {V : Type 0} (n : ℕ) (serves : Bool) (k : ServerState V) where
   -- a transaction begins
   module _ (turn : Turn) (t : TransId) (l : Live) (clock : ℕ) where
     abbrev pub begun_kept : ServerState V
-    begun_kept = record k { sessions = counted_in k.sessions turn; clock = clock; drawn = k.drawn + 1; dead = without_client turn.client k.dead; lives = map.insert k.lives t l; locks = entered k.locks t }
+    begun_kept = record k { sessions = counted_in k.sessions turn (reply.Begun t); clock = clock; drawn = k.drawn + 1; dead = without_client turn.client k.dead; lives = map.insert k.lives t l; locks = entered k.locks t }
 
-    pub begin_ready : IsTurn k.sessions turn → t.counter ≡ k.drawn + 1 → own_of l.part ≡ no_opens → IsWithin k.sizes l → map.len k.lives < 64 → clock ≤ 2 ^ 62 → IsReady n serves k → IsReady (n + 1) serves begun_kept
-    begin_ready is next none fresh less low h = record {
+    pub begin_ready : IsTurn k.sessions turn → t.counter ≡ k.drawn + 1 → own_of l.part ≡ no_opens → IsWithin k.sizes l → map.len k.lives < 64 → k.clock ≤ clock → clock ≤ 2 ^ 62 → IsReady n serves k → IsReady (n + 1) serves begun_kept
+    begin_ready is next none fresh less later low h = record {
       serving = h.serving;
       halted = h.halted;
       sound = entered-sound k.locks t h.sound;
@@ -220,8 +258,9 @@ module _ {V : Type 0} (n : ℕ) (serves : Bool) (k : ServerState V) where
       known = λ u x there. known_so u (same_trans u t) refl x (sym (get_put k.lives t l u) ∙ there);
       begun = λ u x there. begun_so u (same_trans u t) refl x (sym (get_put k.lives t l u) ∙ there);
       opens = λ u x there. opens_so u (same_trans u t) x (sym (get_put k.lives t l u) ∙ there);
-      places = places_set k.sessions turn.client (record turn.session { last = turn.number }) h.places;
-      calls = calls_set k.sessions turn.client (record turn.session { last = turn.number }) n h.places is.client h.calls (turn_within k.sessions turn n is h.calls);
+      places = places_set k.sessions turn.client (record { who = turn.who; last = turn.number; reply = reply.Begun t }) h.places;
+      calls = calls_set k.sessions turn.client (record { who = turn.who; last = turn.number; reply = reply.Begun t }) n h.places is.client h.calls (turn_within k.sessions turn n is h.calls);
+      replies = replies_set k.sessions turn.client (record { who = turn.who; last = turn.number; reply = reply.Begun t }) k.clock clock h.places is.client later h.replies (record { inside = tt; times = tt });
       drawn = omega (arith, h.drawn);
       given = omega (arith, h.given);
       committed = omega (arith, h.committed);
@@ -264,6 +303,7 @@ module _ {V : Type 0} (n : ℕ) (serves : Bool) (k : ServerState V) where
     opens = h.opens;
     places = h.places;
     calls = h.calls;
+    replies = h.replies;
     drawn = h.drawn;
     given = h.given;
     committed = h.committed;
@@ -288,6 +328,7 @@ module _ {V : Type 0} (n : ℕ) (serves : Bool) (k : ServerState V) where
     opens = h.opens;
     places = h.places;
     calls = h.calls;
+    replies = h.replies;
     drawn = h.drawn;
     given = h.given;
     committed = h.committed;
@@ -315,6 +356,7 @@ ready_with n before serves k v on up h = record {
   opens = h.opens;
   places = h.places;
   calls = h.calls;
+  replies = h.replies;
   drawn = h.drawn;
   given = h.given;
   committed = h.committed;
@@ -342,6 +384,7 @@ down_ready n before serves k v off h =
       opens = c.opens;
       places = c.places;
       calls = c.calls;
+      replies = c.replies;
       drawn = c.drawn;
       given = c.given;
       committed = c.committed;
@@ -356,9 +399,10 @@ down_ready n before serves k v off h =
 
 -- a commit leaves it ready
 pub commit_ready : {V : Type 0} (n : ℕ) (before serves : Bool) (k : ServerState V) (v : V) (turn : Turn) (t : TransId) → IsTrue serves → k.is_down ≡ false → IsTurn k.sessions turn → k.clock < 2 ^ 62 → IsReady n before k
-    → IsReady (n + 1) serves (record (without_trans k t) { sessions = counted_in k.sessions turn; clock = k.clock + 1; committed = k.committed + 1; vault = v })
+    → IsReady (n + 1) serves (record (without_trans k t) { sessions = counted_in k.sessions turn (reply.Committed (record { ts = k.clock + 1; trans = t })); clock = k.clock + 1; committed = k.committed + 1; vault = v })
 commit_ready n before serves k v turn t on up is early h =
-    let c = counted_ready n before (without_trans k t) turn is (gone_ready n before k t h) in
+    let c = stepped_ready n before (without_trans k t) (gone_ready n before k t h) in
+    let w : Session = record { who = turn.who; last = turn.number; reply = reply.Committed (record { ts = k.clock + 1; trans = t }) } in
     record {
       serving = λ _. on;
       halted = λ down. absurd (not_both k.is_down up down);
@@ -367,8 +411,9 @@ commit_ready n before serves k v turn t on up is early h =
       known = c.known;
       begun = c.begun;
       opens = c.opens;
-      places = c.places;
-      calls = c.calls;
+      places = places_set k.sessions turn.client w h.places;
+      calls = calls_set k.sessions turn.client w n h.places is.client h.calls (turn_within k.sessions turn n is h.calls);
+      replies = replies_set k.sessions turn.client w k.clock (k.clock + 1) h.places is.client (omega arith) h.replies (record { inside = tt; times = le_refl (k.clock + 1) });
       drawn = c.drawn;
       given = c.given;
       committed = omega (arith, h.committed);
@@ -382,5 +427,6 @@ commit_ready n before serves k v turn t on up is early h =
     }
 
 -- the dead parts of a client whose begin is refused go
-pub refused_ready : {V : Type 0} (n : ℕ) (serves : Bool) (k : ServerState V) (turn : Turn) (ds : List DeadPart) → IsTurn k.sessions turn → IsReady n serves k → IsReady (n + 1) serves (record k { sessions = counted_in k.sessions turn; dead = ds })
-refused_ready n serves k turn ds is h = buried_ready (n + 1) serves (record k { sessions = counted_in k.sessions turn }) ds (counted_ready n serves k turn is h)
+pub refused_ready : {V : Type 0} (n : ℕ) (serves : Bool) (k : ServerState V) (turn : Turn) (r : Reply) (ds : List DeadPart) → IsTurn k.sessions turn → IsKeepable k.clock r → IsReady n serves k
+    → IsReady (n + 1) serves (record k { sessions = counted_in k.sessions turn r; dead = ds })
+refused_ready n serves k turn r ds is keeps h = buried_ready (n + 1) serves (record k { sessions = counted_in k.sessions turn r }) ds (counted_ready n serves k turn r is keeps h)

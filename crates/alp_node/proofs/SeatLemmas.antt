@@ -1,6 +1,6 @@
 -- what stays of a server in a step
 use Rattle.std.proofs.Common.{◌≡◌, ℕ, ◌+◌, refl, sym, ◌∙◌, ap, subst, le_refl, inl, inr, ⊎_elim}
-use Rattle.std.specs.Prelude.{IsTrue, false, Ok}
+use Rattle.std.specs.Prelude.{IsTrue, false, Option, Some, Ok}
 use Rattle.alp_base.specs.Allowances.{Spends}
 use Rattle.alp_base.specs.declared.allowance.Allowance.{Allowance}
 use Rattle.alp_base.specs.declared.allowance.Allowance.TheVariants.{Free, Left, Spent}
@@ -15,10 +15,12 @@ use Rattle.alp_journal.specs.declared.event.Event.{Event}
 use Rattle.alp_journal.specs.Alone.{Alone}
 use Rattle.alp_node.specs.Durable.{Leaves, Besides}
 use Rattle.alp_node.specs.ServerState.{IsAs, IsReady}
-use Rattle.alp_node.specs.Steps.{Stepped, IsGiven, IsSeated, IsNoted, IsStep, is_call}
+use Rattle.alp_node.specs.Steps.{Stepped, IsGiven, IsSeated, IsNoted, IsStepAs, IsStep}
 use Rattle.alp_node.specs.Turns.{HasTurned}
 use Rattle.alp_node.specs.declared.answer.Answer.{Answer}
 use Rattle.alp_node.specs.declared.server_state.ServerState.{ServerState}
+use Rattle.alp_node.specs.declared.sessions.CallOrder.{CallOrder}
+use Rattle.alp_node.specs.declared.sessions.CallOrder.TheVariants as order
 
 pub spends_nothing : (a : Allowance) → Spends a a
 spends_nothing Free = refl
@@ -69,14 +71,14 @@ module _ {V : Type 0} (G : Ghosts V) where
       (λ now. ap (λ (c : Contents). (clock_kept c.notes).epoch) left.contents ∙ h.1 up ∙ sym epoch),
     )
 
-    -- a step that only looks into the vault
-    pub left_step : (e : Event) (x : Answer) → old.is_down ≡ false
+    -- a step that only looks into the vault, by what the event is among the calls of its client
+    pub left_step_as : (o : Option CallOrder) (e : Event) (x : Answer) → old.is_down ≡ false
         → (IsTrue (G.tells old.vault) → (a : Alone) → IsAs a (G.held old.vault) old → Stepped a (G.faults old.vault) (G.faults new.vault) (G.held new.vault) new e x)
-        → IsGiven old.server (is_call e) (G.faults old.vault) (G.faults new.vault) (G.allowance new.vault) new.is_down x
+        → IsGiven old.server o (G.faults old.vault) (G.faults new.vault) (G.allowance new.vault) new.is_down x
         → ((n : ℕ) → IsReady n (G.serves old.vault) old → IsReady (n + 1) (G.serves new.vault) new)
-        → (new.is_down ≡ false → HasTurned old new e x.kept)
-        → IsStep G old new e (Ok x)
-    left_step e x up stepped given ready turned = record {
+        → (new.is_down ≡ false → HasTurned o old new e x.kept)
+        → IsStepAs G o old new e (Ok x)
+    left_step_as o e x up stepped given ready turned = record {
       stepped = stepped;
       given = given;
       ready = ready;
@@ -86,3 +88,12 @@ module _ {V : Type 0} (G : Ghosts V) where
       turned = turned;
       leaves = λ told a h. left_leaves old.vault new.vault _ left;
     }
+
+    -- that of a session's next call
+    pub left_step : (e : Event) (x : Answer) → old.is_down ≡ false
+        → (IsTrue (G.tells old.vault) → (a : Alone) → IsAs a (G.held old.vault) old → Stepped a (G.faults old.vault) (G.faults new.vault) (G.held new.vault) new e x)
+        → IsGiven old.server (Some order.Next) (G.faults old.vault) (G.faults new.vault) (G.allowance new.vault) new.is_down x
+        → ((n : ℕ) → IsReady n (G.serves old.vault) old → IsReady (n + 1) (G.serves new.vault) new)
+        → (new.is_down ≡ false → HasTurned (Some order.Next) old new e x.kept)
+        → IsStep G old new e (Ok x)
+    left_step e x up stepped given ready turned = left_step_as (Some order.Next) e x up stepped given ready turned

@@ -22,31 +22,30 @@ use Rattle.alp_journal.specs.Answered.{GrantsFor, grants_by, grants_if, asks}
 use Rattle.alp_journal.specs.Alone.{Alone, alone}
 use Rattle.alp_journal.proofs.AloneEntries.{counted_as, refused_leads}
 use Rattle.alp_node.specs.Calls.{IsServedCall, IsPageCall, IsLockCall}
-use Rattle.alp_node.specs.Served.{IsInTurn, IsNextOf, is_on_open}
-use Rattle.alp_node.specs.Sessions.{session_at}
-use Rattle.alp_node.specs.declared.sessions.Session.{Session}
+use Rattle.alp_node.specs.Served.{is_on_open}
+use Rattle.alp_journal.specs.Desk.{Session}
 use Rattle.alp_node.specs.Dead.{is_dead}
 use Rattle.alp_node.specs.ServerState.{IsAs}
 use Rattle.alp_node.specs.Standings.{standing_of}
-use Rattle.alp_node.specs.Steps.{Stepped, IsTurn, counted_in, seen_in}
+use Rattle.alp_node.specs.Steps.{Stepped, IsTurn, counted_in, seen_in, refused_answer}
 use Rattle.alp_node.specs.declared.answer.Answer.{Answer}
 use Rattle.alp_node.specs.declared.served.Standing.TheVariants as standing
 use Rattle.alp_node.specs.declared.server_state.ServerState.{ServerState}
 use Rattle.alp_node.specs.declared.sessions.Turn.{Turn}
-use Rattle.alp_node.proofs.FinishLemmas.{turn_session, turn_next, counts_as}
-use Rattle.alp_node.proofs.KeptLemmas.{IsSession, stands_timely, stepped_so}
+use Rattle.alp_node.proofs.FinishLemmas.{turn_session, counts_as}
+use Rattle.alp_node.proofs.KeptLemmas.{session_of, stands_timely, stepped_so}
 use Rattle.alp_node.proofs.StandingLemmas.{part_of, part_is}
 
 module _ {V : Type 0} (a : Alone) (before now : ℕ) (held : Contents) (k : ServerState V) (turn : Turn) (t : TransId) (c : Call) where
   -- a file call is refused, and nothing comes about
   pub refused_stepped : (failed : Bool) (f : Refusal) (x : Answer) → IsAs a held k → IsTurn k.sessions turn → k.is_down ≡ false → (failed ≡ true → Rose before now) → file_trans c ≡ Some t → is_not_yet (reply.Refused f) ≡ false
       → done_by (alone a) c (reply.Refused f) (Some t) ≡ [] → IsFileOf failed (alone a) turn.client c (reply.Refused f) (Some t) → GrantsFor failed (alone a) turn.client c (reply.Refused f) [] (Some t)
-      → x ≡ record { kept = Some (reply.Refused f); handed = Some (reply.Refused f); acts = [] }
-      → Stepped a before now held (record k { sessions = counted_in k.sessions turn }) (event.Call turn.client k.epoch turn.number c) x
+      → x ≡ refused_answer f []
+      → Stepped a before now held (record k { sessions = counted_in k.sessions turn (reply.Refused f) }) (event.Call turn.client k.epoch turn.number c) x
   refused_stepped failed f x h is up rose named later none why grants so =
-      let s : IsSession turn.session (a.sessions turn.client) = turn_session a held k turn h is in
-      stepped_so a before now held held k (record k { sessions = counted_in k.sessions turn }) turn.client turn.number s.told c failed (reply.Refused f) [] (counted_as a turn.client turn.number s.told (reply.Refused f)) x so h
-      (refused_leads a turn.client turn.number s.told failed t c f h.quiet (h.down ∙ up) s.is (turn_next a held k turn h is) named later none why grants) (counts_as a held k turn (reply.Refused f) h is up) rose
+      let w : Session = session_of turn is in
+      stepped_so a before now held held k (record k { sessions = counted_in k.sessions turn (reply.Refused f) }) turn.client turn.number w c failed (reply.Refused f) [] (counted_as a turn.client turn.number w (reply.Refused f)) x so h
+      (refused_leads a turn.client turn.number w failed t c f h.quiet (h.down ∙ up) (turn_session a held k turn h is) is.number named later none why grants) (counts_as a held k turn (reply.Refused f) h is up) rose
       (stands_timely a.holder.clock (seen_in (event.Call turn.client k.epoch turn.number c)) k.clock h.clock)
 
   -- how the part refuses it at once
@@ -60,15 +59,15 @@ module _ {V : Type 0} (a : Alone) (before now : ℕ) (held : Contents) (k : Serv
   part_grants f is = inr (sym (ap (λ (x : Option Refusal). cond {A = List TransId} (is_some x) [] (grants_if (alone a) t c (reply.Refused f) (a.holder.lives t))) is))
 
   pub stranger_stepped : (x : Answer) → IsAs a held k → IsTurn k.sessions turn → k.is_down ≡ false → file_trans c ≡ Some t → standing_of turn.client (map.get k.lives t) (is_dead turn.client t k.dead) ≡ standing.Unknown
-      → x ≡ record { kept = Some (reply.Refused refusal.UnknownTrans); handed = Some (reply.Refused refusal.UnknownTrans); acts = [] }
-      → Stepped a before now held (record k { sessions = counted_in k.sessions turn }) (event.Call turn.client k.epoch turn.number c) x
+      → x ≡ refused_answer refusal.UnknownTrans []
+      → Stepped a before now held (record k { sessions = counted_in k.sessions turn (reply.Refused refusal.UnknownTrans) }) (event.Call turn.client k.epoch turn.number c) x
   stranger_stepped x h is up named unknown so =
       let no : part_refusal (alone a) turn.client t ≡ Some refusal.UnknownTrans = refuses_so (part_of standing.Unknown) refusal.UnknownTrans (part_is a held k turn.client t h ∙ ap part_of unknown) refl in
       refused_stepped false refusal.UnknownTrans x h is up (λ e. cc) named refl refl (part_why refusal.UnknownTrans no) (part_grants refusal.UnknownTrans no) so
 
   pub dead_call_stepped : (x : Answer) → IsAs a held k → IsTurn k.sessions turn → k.is_down ≡ false → file_trans c ≡ Some t → standing_of turn.client (map.get k.lives t) (is_dead turn.client t k.dead) ≡ standing.Dead
-      → x ≡ record { kept = Some (reply.Refused (refusal.Aborted cause.TimedOut)); handed = Some (reply.Refused (refusal.Aborted cause.TimedOut)); acts = [] }
-      → Stepped a before now held (record k { sessions = counted_in k.sessions turn }) (event.Call turn.client k.epoch turn.number c) x
+      → x ≡ refused_answer (refusal.Aborted cause.TimedOut) []
+      → Stepped a before now held (record k { sessions = counted_in k.sessions turn (reply.Refused (refusal.Aborted cause.TimedOut)) }) (event.Call turn.client k.epoch turn.number c) x
   dead_call_stepped x h is up named dead so =
       let no : part_refusal (alone a) turn.client t ≡ Some (refusal.Aborted cause.TimedOut) = refuses_so (part_of standing.Dead) (refusal.Aborted cause.TimedOut) (part_is a held k turn.client t h ∙ ap part_of dead) refl in
       refused_stepped false (refusal.Aborted cause.TimedOut) x h is up (λ e. cc) named refl refl (part_why (refusal.Aborted cause.TimedOut) no) (part_grants (refusal.Aborted cause.TimedOut) no) so
@@ -89,16 +88,16 @@ module _ {V : Type 0} (a : Alone) (before now : ℕ) (held : Contents) (k : Serv
 
   -- a read of the vault failed
   pub fault_stepped : (life : Life) (x : Answer) → IsAs a held k → IsTurn k.sessions turn → k.is_down ≡ false → Rose before now → file_trans c ≡ Some t → standing_of turn.client (map.get k.lives t) (is_dead turn.client t k.dead) ≡ standing.Own
-      → a.holder.lives t ≡ Some life → x ≡ record { kept = Some (reply.Refused refusal.ReadFault); handed = Some (reply.Refused refusal.ReadFault); acts = [] }
-      → Stepped a before now held (record k { sessions = counted_in k.sessions turn }) (event.Call turn.client k.epoch turn.number c) x
+      → a.holder.lives t ≡ Some life → x ≡ refused_answer refusal.ReadFault []
+      → Stepped a before now held (record k { sessions = counted_in k.sessions turn (reply.Refused refusal.ReadFault) }) (event.Call turn.client k.epoch turn.number c) x
   fault_stepped life x h is up rose named own live so =
       refused_stepped true refusal.ReadFault x h is up (λ e. rose) named refl refl (work_why true (reply.Refused refusal.ReadFault) life h own live (inl (refl, refl))) (inl (refl, refl, refl)) so
 
   -- it is refused before its locks are looked at
   pub first_stepped : (f : Refusal) (life : Life) (x : Answer) → IsAs a held k → IsTurn k.sessions turn → k.is_down ≡ false → file_trans c ≡ Some t → standing_of turn.client (map.get k.lives t) (is_dead turn.client t k.dead) ≡ standing.Own
       → a.holder.lives t ≡ Some life → option_or (shape_refusal (alone a) life c) (lock_refusal (alone a) t life c) ≡ Some f → is_not_yet (reply.Refused f) ≡ false → done_by (alone a) c (reply.Refused f) (Some t) ≡ []
-      → x ≡ record { kept = Some (reply.Refused f); handed = Some (reply.Refused f); acts = [] }
-      → Stepped a before now held (record k { sessions = counted_in k.sessions turn }) (event.Call turn.client k.epoch turn.number c) x
+      → x ≡ refused_answer f []
+      → Stepped a before now held (record k { sessions = counted_in k.sessions turn (reply.Refused f) }) (event.Call turn.client k.epoch turn.number c) x
   first_stepped f life x h is up named own live first later none so =
       refused_stepped false f x h is up (λ e. cc) named later none
       (work_why false (reply.Refused f) life h own live (inr (subst (λ (z : Option Refusal). First z (reply.Refused f) (IsLocked (alone a) t life c (reply.Refused f))) (sym first) refl)))
@@ -118,13 +117,3 @@ served_lock (call.MakeOwner t name quota create choice) is on = is
 served_lock (call.ReadPages t n run mode choice) is on = cc
 served_lock (call.WritePages t n run pages choice) is on = cc
 served_lock c is on = absurd is
-
--- ---- turns
-
--- a call in its turn has the epoch of its session
-pub in_turn_epoch : {V : Type 0} (k : ServerState V) (client epoch number : ℕ) (c : Call) (w : Session) → session_at k.sessions client ≡ Some w → IsInTurn k client epoch number c → epoch ≡ k.epoch
-in_turn_epoch k client epoch number c w there h = go c h
-  where
-    go : (c : Call) → IsInTurn k client epoch number c → epoch ≡ k.epoch
-    go (call.Hello name) h = (let wrong : None ≡ Some w = sym h.0 ∙ there in cc)
-    go c h = (subst (λ (x : Option Session). IsNextOf x k.epoch epoch number) there h).0

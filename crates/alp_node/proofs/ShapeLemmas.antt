@@ -29,12 +29,12 @@ use Rattle.alp_journal.specs.Alone.{Alone, alone}
 use Rattle.alp_node.specs.Asks.{is_given, is_of_given}
 use Rattle.alp_node.specs.Calls.{IsServedCall, IsLockCall}
 use Rattle.alp_node.specs.Dead.{is_dead}
-use Rattle.alp_node.specs.Halts.{says_down}
+use Rattle.alp_node.specs.Halts.{says_shut}
 use Rattle.alp_node.specs.Turns.{IsInSession}
 use Rattle.alp_node.specs.ServerState.{IsAs, IsLife}
 use Rattle.alp_node.specs.Shapes.{no_open, no_run, shape_of, counts_then, too_locked}
 use Rattle.alp_node.specs.Standings.{standing_of}
-use Rattle.alp_node.specs.Steps.{Stepped, IsTurn, counted_in}
+use Rattle.alp_node.specs.Steps.{Stepped, IsTurn, counted_in, refused_answer}
 use Rattle.alp_node.specs.declared.answer.Answer.{Answer}
 use Rattle.alp_node.specs.declared.lives.Live.{Live}
 use Rattle.alp_node.specs.declared.lock_counts.LockCounts.{LockCounts}
@@ -90,12 +90,12 @@ shape_inside server epoch given opens c f e = go (shape_is server epoch given op
     go (inl counts) = counts.inside
     go (inr x) = subst (λ (g : Refusal). IsInSession (reply.Refused g)) (sym x.0) tt
 
-pub shape_quiet : (here server epoch given opens : ℕ) (c : Call) (f : Refusal) → shape_of server epoch given opens c ≡ Some f → (is_fault_reply here (Some (reply.Refused f)) || says_down (Some (reply.Refused f))) ≡ false
+pub shape_quiet : (here server epoch given opens : ℕ) (c : Call) (f : Refusal) → shape_of server epoch given opens c ≡ Some f → (is_fault_reply here (Some (reply.Refused f)) || says_shut (Some (reply.Refused f))) ≡ false
 shape_quiet here server epoch given opens c f e = go (shape_is server epoch given opens c f e)
   where
-    go : IsCountRefusal f ⊎ ((f ≡ refusal.UnknownFile) × (is_of_given server epoch given c ≡ false)) → (is_fault_reply here (Some (reply.Refused f)) || says_down (Some (reply.Refused f))) ≡ false
+    go : IsCountRefusal f ⊎ ((f ≡ refusal.UnknownFile) × (is_of_given server epoch given c ≡ false)) → (is_fault_reply here (Some (reply.Refused f)) || says_shut (Some (reply.Refused f))) ≡ false
     go (inl counts) = counts.quiet here
-    go (inr x) = ap (λ (g : Refusal). is_fault_reply here (Some (reply.Refused g)) || says_down (Some (reply.Refused g))) x.0
+    go (inr x) = ap (λ (g : Refusal). is_fault_reply here (Some (reply.Refused g)) || says_shut (Some (reply.Refused g))) x.0
 
 -- where the counts refuse it nothing is done
 pub count_none_done : (a : Alone) (t : TransId) (c : Call) (f : Refusal) → IsCountRefusal f → done_by (alone a) c (reply.Refused f) (Some t) ≡ []
@@ -150,8 +150,8 @@ module _ {V : Type 0} (a : Alone) (held : Contents) (k : ServerState V) (h : IsA
 -- a file call is refused for its shape
 pub shape_stepped : {V : Type 0} (a : Alone) (before now : ℕ) (held : Contents) (k : ServerState V) (turn : Turn) (t : TransId) (c : Call) (f : Refusal) (x : Answer) → IsAs a held k → 0 < k.epoch → IsTurn k.sessions turn → k.is_down ≡ false
     → file_trans c ≡ Some t → IsServedCall c → standing_of turn.client (map.get k.lives t) (is_dead turn.client t k.dead) ≡ standing.Own → (l : Live) → map.get k.lives t ≡ Some l
-    → shape_of k.server k.epoch k.given (length l.part.opens.items) c ≡ Some f → x ≡ record { kept = Some (reply.Refused f); handed = Some (reply.Refused f); acts = [] }
-    → Stepped a before now held (record k { sessions = counted_in k.sessions turn }) (event.Call turn.client k.epoch turn.number c) x
+    → shape_of k.server k.epoch k.given (length l.part.opens.items) c ≡ Some f → x ≡ refused_answer f []
+    → Stepped a before now held (record k { sessions = counted_in k.sessions turn (reply.Refused f) }) (event.Call turn.client k.epoch turn.number c) x
 shape_stepped a before now held k turn t c f x h raised is up named served own l there e so =
     let y : IsLive a.holder.cells k.locks.held (a.locked t) t l (a.holder.lives t) = live_there a.holder.cells k.locks.held (a.locked t) t (map.get k.lives t) (a.holder.lives t) l there (h.lives t) in
     first_stepped a before now held k turn t c f y.life x h is up named own y.is (shape_told a held k h raised t l y.life y.alike c f (lock_refusal (alone a) t y.life c) served e)

@@ -48,7 +48,7 @@ use Rattle.alp_journal.specs.Alone.{Alone, alone, AreOwnEvents}
 use Rattle.alp_node.specs.declared.server_state.ServerState.{ServerState}
 use Rattle.alp_node.specs.declared.lives.Live.{Live}
 use Rattle.alp_node.specs.NodeStates.{NodeState}
-use Rattle.alp_node.specs.declared.sessions.Session.{Session}
+use Rattle.alp_journal.specs.Desk.{Session}
 use Rattle.alp_node.specs.declared.start.StartFault.{StartFault}
 use Rattle.alp_node.specs.declared.start.StartFault.TheVariants as start_fault
 use Rattle.alp_node.specs.ServerState.{IsAs, IsReady, IsAlike}
@@ -242,6 +242,7 @@ new_ready old server sizes c serves up within later area sound = record {
   opens = λ t l is. (let wrong : None ≡ Some l = sym (none_live t) ∙ is in cc);
   places = refl;
   calls = λ client w is. (let wrong : None ≡ Some w = sym (no_session client) ∙ is in cc);
+  replies = λ client w is. (let wrong : None ≡ Some w = sym (no_session client) ∙ is in cc);
   drawn = le_refl 0;
   given = le_refl 0;
   committed = le_refl 0;

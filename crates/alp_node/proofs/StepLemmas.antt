@@ -18,26 +18,27 @@ use Rattle.alp_journal.specs.Answered.{is_fault_reply}
 use Rattle.alp_vault.specs.Vault.{IsSameVault}
 use Rattle.alp_calls.specs.Looks.{IsLeft}
 use Rattle.alp_node.specs.Durable.{said_by, Leaves, Besides}
-use Rattle.alp_node.specs.Halts.{HaveCauses, says_down}
-use Rattle.alp_node.proofs.SeatLemmas.{left_alone, left_step}
+use Rattle.alp_node.specs.Halts.{HaveCauses, says_shut}
+use Rattle.alp_node.proofs.SeatLemmas.{left_alone, left_step_as, left_step}
 use Rattle.alp_journal.specs.declared.event.Event.TheVariants as event
 use Rattle.alp_journal.specs.Alone.{Alone, alone}
 use Rattle.alp_vault.specs.declared.vault.Vault.{Ghosts}
 use Rattle.alp_node.specs.ServerState.{IsAs, IsReady}
-use Rattle.alp_node.specs.Steps.{Stepped, IsStep, IsTurn, counted_in, without_trans, ended, refused_answer, entry_of}
-use Rattle.alp_node.specs.Turns.{IsInSession, is_greeting, HasTurned}
+use Rattle.alp_node.specs.Steps.{Stepped, IsStepAs, IsStep, IsTurn, counted_in, without_trans, ended, told_answer, refused_answer, entry_of}
+use Rattle.alp_node.specs.Turns.{IsInSession, IsKeepable, HasTurned}
 use Rattle.alp_node.specs.declared.answer.Answer.{Answer}
 use Rattle.alp_node.specs.declared.server_state.ServerState.{ServerState}
+use Rattle.alp_node.specs.declared.sessions.CallOrder.TheVariants as order
 use Rattle.alp_node.specs.declared.sessions.Turn.{Turn}
-use Rattle.alp_node.proofs.GivenLemmas.{IsCounted, counts_none, counts_down, reply_given, silence_given}
+use Rattle.alp_node.proofs.GivenLemmas.{IsCounted, counts_none, counts_down, reply_given, calm_given}
 use Rattle.alp_node.proofs.KeptLemmas.{as_with}
 use Rattle.alp_node.proofs.ReadyLemmas.{gone_ready, counted_ready, buried_ready, ready_with, down_ready}
 use Rattle.alp_node.proofs.TurnLemmas.{counts_refused}
 use Rattle.alp_node.specs.Dead.{without_part}
 
-pub ended_ready : {V : Type 0} (n : ℕ) (serves : Bool) (k : ServerState V) (turn : Turn) (t : TransId) → IsTurn k.sessions turn → IsReady n serves k → IsReady (n + 1) serves (ended k turn t)
-ended_ready n serves k turn t is h =
-    buried_ready (n + 1) serves (record (without_trans k t) { sessions = counted_in k.sessions turn }) (without_part turn.client t k.dead) (counted_ready n serves (without_trans k t) turn is (gone_ready n serves k t h))
+pub ended_ready : {V : Type 0} (n : ℕ) (serves : Bool) (k : ServerState V) (turn : Turn) (t : TransId) (r : Reply) → IsTurn k.sessions turn → IsKeepable k.clock r → IsReady n serves k → IsReady (n + 1) serves (ended k turn t r)
+ended_ready n serves k turn t r is keeps h =
+    buried_ready (n + 1) serves (record (without_trans k t) { sessions = counted_in k.sessions turn r }) (without_part turn.client t k.dead) (counted_ready n serves (without_trans k t) turn r is keeps (gone_ready n serves k t h))
 
 module _ {V : Type 0} (G : Ghosts V) (k : ServerState V) (v : V) where
   abbrev pub mid : ServerState V
@@ -46,26 +47,27 @@ module _ {V : Type 0} (G : Ghosts V) (k : ServerState V) (v : V) where
   -- a part ends without effect, behind a look into the vault
   pub ended_step : (turn : Turn) (t : TransId) (c : Call) (cause : Cause) (x : Answer) (new : ServerState V) → IsLeft G k.vault v → IsTrue (G.serves v)
       → IsCounted k.server (G.faults k.vault) (G.faults v) k.is_down (Some (reply.Refused (refusal.Aborted cause))) → IsTurn k.sessions turn → k.is_down ≡ false
-      → new ≡ ended mid turn t → x ≡ refused_answer (refusal.Aborted cause) (act.Released t ∷ [])
-      → (IsTrue (G.tells k.vault) → (a : Alone) → IsAs a (G.held k.vault) k → Stepped a (G.faults k.vault) (G.faults v) (G.held k.vault) (ended k turn t) (event.Call turn.client k.epoch turn.number c) x)
-      → is_greeting c ≡ false
+      → new ≡ ended mid turn t (reply.Refused (refusal.Aborted cause)) → x ≡ refused_answer (refusal.Aborted cause) (act.Released t ∷ [])
+      → (IsTrue (G.tells k.vault) → (a : Alone) → IsAs a (G.held k.vault) k
+      → Stepped a (G.faults k.vault) (G.faults v) (G.held k.vault) (ended k turn t (reply.Refused (refusal.Aborted cause))) (event.Call turn.client k.epoch turn.number c) x)
       → IsStep G k new (event.Call turn.client k.epoch turn.number c) (Ok x)
-  ended_step turn t c cause x new left on counted is up done so steps other =
+  ended_step turn t c cause x new left on counted is up done so steps =
+      let r : Reply = reply.Refused (refusal.Aborted cause) in
       subst (λ (y : ServerState V). IsStep G k y (event.Call turn.client k.epoch turn.number c) (Ok x)) (sym done)
-      (left_step G k (ended mid turn t) refl refl refl left (event.Call turn.client k.epoch turn.number c) x up
+      (left_step G k (ended mid turn t r) refl refl refl left (event.Call turn.client k.epoch turn.number c) x up
       (λ told a h. (
-      let s : Stepped a (G.faults k.vault) (G.faults v) (G.held k.vault) (ended k turn t) (event.Call turn.client k.epoch turn.number c) x = steps told a h in
+      let s : Stepped a (G.faults k.vault) (G.faults v) (G.held k.vault) (ended k turn t r) (event.Call turn.client k.epoch turn.number c) x = steps told a h in
       record {
         failed = s.failed;
         next = s.next;
         leads = s.leads;
         rose = s.rose;
-        kept = as_with s.next (G.held k.vault) (G.held v) (ended k turn t) v left.contents s.kept;
+        kept = as_with s.next (G.held k.vault) (G.held v) (ended k turn t r) v left.contents s.kept;
         clock = s.clock;
       }))
       (reply_given k.server (G.faults k.vault) (G.faults v) (G.allowance v) k.is_down (reply.Refused (refusal.Aborted cause)) (act.Released t ∷ []) x so counted up tt)
-      (λ n h. ended_ready n (G.serves v) mid turn t is (ready_with n (G.serves k.vault) (G.serves v) k v on up h))
-      (λ on. subst (λ (y : Answer). HasTurned k (ended mid turn t) (event.Call turn.client k.epoch turn.number c) y.kept) (sym so) (counts_refused k (ended mid turn t) turn is c (refusal.Aborted cause) other tt refl refl)))
+      (λ n h. ended_ready n (G.serves v) mid turn t r is (record { inside = tt; times = tt }) (ready_with n (G.serves k.vault) (G.serves v) k v on up h))
+      (λ on. subst (λ (y : Answer). HasTurned (Some order.Next) k (ended mid turn t r) (event.Call turn.client k.epoch turn.number c) y.kept) (sym so) (counts_refused k (ended mid turn t r) turn is c (refusal.Aborted cause) tt refl refl)))
 
 -- a step in which the vault was stopped, or failed in its commit
 module _ {V : Type 0} (G : Ghosts V) (k new : ServerState V) (v : V) where
@@ -91,39 +93,39 @@ module _ {V : Type 0} (G : Ghosts V) (k new : ServerState V) (v : V) where
 
 -- a step that leaves the vault alone
 module _ {V : Type 0} (G : Ghosts V) (k new : ServerState V) where
-  pub plain_step : (turn : Turn) (c : Call) (x : Answer) (r : Reply) (acts : List Act) → new.vault ≡ k.vault → new.server ≡ k.server → new.sizes ≡ k.sizes → new.epoch ≡ k.epoch → k.is_down ≡ false → new.is_down ≡ false → (is_fault_reply k.server (Some r) || says_down (Some r)) ≡ false
-      → x ≡ record { kept = Some r; handed = Some r; acts = acts } → list_any is_stop acts ≡ false → ((before now : ℕ) (allowance : Allowance) → HaveCauses before now allowance acts)
+  pub plain_step : (turn : Turn) (c : Call) (x : Answer) (r : Reply) (acts : List Act) → new.vault ≡ k.vault → new.server ≡ k.server → new.sizes ≡ k.sizes → new.epoch ≡ k.epoch → k.is_down ≡ false → new.is_down ≡ false → (is_fault_reply k.server (Some r) || says_shut (Some r)) ≡ false
+      → x ≡ told_answer (Some r) acts → list_any is_stop acts ≡ false → ((before now : ℕ) (allowance : Allowance) → HaveCauses before now allowance acts)
       → ((n : ℕ) → IsReady n (G.serves k.vault) k → IsReady (n + 1) (G.serves k.vault) new)
       → (IsTrue (G.tells k.vault) → (a : Alone) → IsAs a (G.held k.vault) k → Stepped a (G.faults k.vault) (G.faults k.vault) (G.held k.vault) new (event.Call turn.client k.epoch turn.number c) x)
-      → HasTurned k new (event.Call turn.client k.epoch turn.number c) (Some r)
+      → HasTurned (Some order.Next) k new (event.Call turn.client k.epoch turn.number c) (Some r)
       → IsStep G k new (event.Call turn.client k.epoch turn.number c) (Ok x)
   plain_step turn c x r acts vault server sizes epoch was up quiet so none causes ready steps turned =
       left_step G k new server sizes epoch (left_alone G k.vault new.vault vault) (event.Call turn.client k.epoch turn.number c) x was
       (λ told a h. subst (λ (v : V). Stepped a (G.faults k.vault) (G.faults v) (G.held v) new (event.Call turn.client k.epoch turn.number c) x) (sym vault) (steps told a h))
-      (reply_given k.server (G.faults k.vault) (G.faults new.vault) (G.allowance new.vault) new.is_down r acts x so (counts_none k.server (G.faults k.vault) (G.faults new.vault) new.is_down (Some r) quiet (ap G.faults vault)) (up ∙ sym none) (causes (G.faults k.vault) (G.faults new.vault) (G.allowance new.vault)))
+      (reply_given k.server (G.faults k.vault) (G.faults new.vault) (G.allowance new.vault) new.is_down r acts x so (counts_none k.server (G.faults k.vault) (G.faults new.vault) new.is_down (Some r) quiet (ap G.faults vault) up) (up ∙ sym none) (causes (G.faults k.vault) (G.faults new.vault) (G.allowance new.vault)))
       (λ n h. subst (λ (v : V). IsReady (n + 1) (G.serves v) new) (sym vault) (ready n h))
-      (λ on. subst (λ (y : Answer). HasTurned k new (event.Call turn.client k.epoch turn.number c) y.kept) (sym so) turned)
+      (λ on. subst (λ (y : Answer). HasTurned (Some order.Next) k new (event.Call turn.client k.epoch turn.number c) y.kept) (sym so) turned)
 
   -- the call is refused, and the session counts it
-  pub refused_step : (turn : Turn) (c : Call) (x : Answer) (f : Refusal) → (is_fault_reply k.server (Some (reply.Refused f)) || says_down (Some (reply.Refused f))) ≡ false → IsTurn k.sessions turn → k.is_down ≡ false → new ≡ record k { sessions = counted_in k.sessions turn } → x ≡ refused_answer f []
-      → (IsTrue (G.tells k.vault) → (a : Alone) → IsAs a (G.held k.vault) k → Stepped a (G.faults k.vault) (G.faults k.vault) (G.held k.vault) (record k { sessions = counted_in k.sessions turn }) (event.Call turn.client k.epoch turn.number c) x)
-      → is_greeting c ≡ false → IsInSession (reply.Refused f)
+  pub refused_step : (turn : Turn) (c : Call) (x : Answer) (f : Refusal) → (is_fault_reply k.server (Some (reply.Refused f)) || says_shut (Some (reply.Refused f))) ≡ false → IsTurn k.sessions turn → k.is_down ≡ false → new ≡ record k { sessions = counted_in k.sessions turn (reply.Refused f) } → x ≡ refused_answer f []
+      → (IsTrue (G.tells k.vault) → (a : Alone) → IsAs a (G.held k.vault) k → Stepped a (G.faults k.vault) (G.faults k.vault) (G.held k.vault) (record k { sessions = counted_in k.sessions turn (reply.Refused f) }) (event.Call turn.client k.epoch turn.number c) x)
+      → IsInSession (reply.Refused f)
       → IsStep G k new (event.Call turn.client k.epoch turn.number c) (Ok x)
-  refused_step turn c x f quiet is up same so steps other inside =
+  refused_step turn c x f quiet is up same so steps inside =
       plain_step turn c x (reply.Refused f) [] (ap (λ (y : ServerState V). y.vault) same) (ap (λ (y : ServerState V). y.server) same) (ap (λ (y : ServerState V). y.sizes) same) (ap (λ (y : ServerState V). y.epoch) same) up (ap (λ (y : ServerState V). y.is_down) same ∙ up) quiet so refl
-      (λ m n b. tt) (λ n h. subst (λ (y : ServerState V). IsReady (n + 1) (G.serves k.vault) y) (sym same) (counted_ready n (G.serves k.vault) k turn is h))
+      (λ m n b. tt) (λ n h. subst (λ (y : ServerState V). IsReady (n + 1) (G.serves k.vault) y) (sym same) (counted_ready n (G.serves k.vault) k turn (reply.Refused f) is (record { inside = inside; times = tt }) h))
       (λ told a h. subst (λ (y : ServerState V). Stepped a (G.faults k.vault) (G.faults k.vault) (G.held k.vault) y (event.Call turn.client k.epoch turn.number c) x) (sym same) (steps told a h))
-      (counts_refused k new turn is c f other inside (ap (λ (y : ServerState V). y.clock) same) (ap (λ (y : ServerState V). y.sessions) same))
+      (counts_refused k new turn is c f inside (ap (λ (y : ServerState V). y.clock) same) (ap (λ (y : ServerState V). y.sessions) same))
 
   -- an event that is met with silence
   pub silent_step : (t : TransId) (x : Answer) (acts : List Act) → new.vault ≡ k.vault → new.server ≡ k.server → new.sizes ≡ k.sizes → new.epoch ≡ k.epoch → k.is_down ≡ false → new.is_down ≡ false
-      → x ≡ record { kept = None; handed = None; acts = acts }
+      → x ≡ told_answer None acts
       → list_any is_stop acts ≡ false → ((before now : ℕ) (allowance : Allowance) → HaveCauses before now allowance acts) → ((n : ℕ) → IsReady n (G.serves k.vault) k → IsReady (n + 1) (G.serves k.vault) new)
       → ((a : Alone) → IsAs a (G.held k.vault) k → Stepped a (G.faults k.vault) (G.faults k.vault) (G.held k.vault) new (event.Timeout t) x)
-      → new.clock ≡ k.clock → new.sessions ≡ k.sessions → IsStep G k new (event.Timeout t) (Ok x)
+      → new.clock ≡ k.clock → new.sessions ≡ k.sessions → IsStepAs G None k new (event.Timeout t) (Ok x)
   silent_step t x acts vault server sizes epoch was up so none causes ready steps clock sessions =
-      left_step G k new server sizes epoch (left_alone G k.vault new.vault vault) (event.Timeout t) x was
+      left_step_as G k new server sizes epoch (left_alone G k.vault new.vault vault) None (event.Timeout t) x was
       (λ told a h. subst (λ (v : V). Stepped a (G.faults k.vault) (G.faults v) (G.held v) new (event.Timeout t) x) (sym vault) (steps a h))
-      (silence_given k.server (G.faults k.vault) (G.faults new.vault) (G.allowance new.vault) new.is_down acts x so (ap G.faults vault) up (up ∙ sym none) (causes (G.faults k.vault) (G.faults new.vault) (G.allowance new.vault)))
+      (calm_given k.server (G.faults k.vault) (G.faults new.vault) (G.allowance new.vault) new.is_down None None acts x so refl refl refl (ap G.faults vault) up (up ∙ sym none) (causes (G.faults k.vault) (G.faults new.vault) (G.allowance new.vault)))
       (λ n h. subst (λ (v : V). IsReady (n + 1) (G.serves v) new) (sym vault) (ready n h))
-      (λ on. subst (λ (y : Answer). HasTurned k new (event.Timeout t) y.kept) (sym so) (record { later = omega (arith, clock); times = tt; sessions = sessions }))
+      (λ on. subst (λ (y : Answer). HasTurned None k new (event.Timeout t) y.kept) (sym so) (record { later = omega (arith, clock); times = tt; sessions = sessions }))

@@ -26,10 +26,11 @@ Ends G old new (Err fault.OutOfMemory) = IsTrue (G.serves new) × IsUncounted G 
 Ends G old new (Err fault.Failed) = (G.serves new ≡ false) × Rose (G.faults old) (G.faults new) × (G.faults old ≤ G.faults new)
 Ends G old new (Err fault.Stopped) = (G.serves new ≡ false) × (G.allowance new ≡ Spent) × (G.faults old ≤ G.faults new)
 
--- it says that the server is down
-abbrev pub says_down : Option Reply → Bool
-says_down (Some (reply.Refused refusal.Down)) = true
-says_down r = false
+-- it says that the server takes no event: it is down, or its journal is full
+abbrev pub says_shut : Option Reply → Bool
+says_shut (Some (reply.Refused refusal.Down)) = true
+says_shut (Some (reply.Refused refusal.JournalFull)) = true
+says_shut r = false
 
 -- the vault failed or was stopped where the acts say so
 abbrev pub HaveCauses : ℕ → ℕ → Allowance → List Act → Type 0

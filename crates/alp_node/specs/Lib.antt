@@ -1,4 +1,5 @@
 pub mod Sessions
+pub mod Orders
 pub mod Durable
 pub mod ServerState
 pub mod Asks

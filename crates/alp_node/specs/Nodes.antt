@@ -1,5 +1,5 @@
 -- A server and its journal.
-use Rattle.std.specs.Prelude.{◌≡◌, ℕ, ◌<◌, ◌≤◌, ◌||◌, Bool, true, false, IsTrue, List, [], ◌∷◌, ◌++◌, length, Option, is_some, IsSome, ◌↔◌}
+use Rattle.std.specs.Prelude.{◌≡◌, ℕ, ◌<◌, ◌≤◌, ◌||◌, Bool, true, false, IsTrue, List, [], ◌∷◌, ◌++◌, length, Option, Some, is_some, IsSome, ◌↔◌}
 use Rattle.std.specs.FinMap as map
 use Rattle.std.specs.List.{list_any, Contains}
 use Rattle.std.specs.List.Sorted.{IsStrictlySortedBy}
@@ -11,6 +11,8 @@ use Rattle.alp_base.specs.Orders.{trans_cmp}
 use Rattle.alp_files.specs.Apart.{AreSized}
 use Rattle.alp_files.specs.Sound.{AreSound}
 use Rattle.alp_files.specs.declared.reply.Reply.{Reply}
+use Rattle.alp_files.specs.declared.reply.Reply.TheVariants as reply
+use Rattle.alp_files.specs.declared.refusal.Refusal.TheVariants as refusal
 use Rattle.alp_vault.specs.Contents.{Contents}
 use Rattle.alp_vault.specs.declared.vault.Vault.{Ghosts}
 use Rattle.alp_journal.specs.declared.act.Act.{Act}
@@ -21,14 +23,17 @@ use Rattle.alp_journal.specs.Opening.{Start, start_at}
 use Rattle.alp_journal.specs.State.{State, opened}
 use Rattle.alp_journal.specs.Moves.{next, is_stop}
 use Rattle.alp_journal.specs.Laws.{IsLawful}
-use Rattle.alp_journal.specs.Answered.{IsAnswered, IsAnsweredEntry, is_fault_reply}
+use Rattle.alp_journal.specs.Answered.{IsAnswered, IsAnsweredEntry, entries_limit}
 use Rattle.alp_journal.specs.Alone.{Alone, alone, AreOwnEvents}
 use Rattle.alp_node.specs.NodeStates.{NodeState}
 use Rattle.alp_node.specs.ServerState.{IsAs, IsReady}
 use Rattle.alp_node.specs.Durable.{IsDurable}
-use Rattle.alp_node.specs.Halts.{HaveCauses, IsUncounted, says_down}
+use Rattle.alp_node.specs.Halts.{HaveCauses, IsUncounted, says_shut}
+use Rattle.alp_node.specs.Orders.{is_answered, is_fault_now}
 use Rattle.alp_node.specs.Sessions.{no_sessions}
-use Rattle.alp_node.specs.Steps.{is_call, IsNoted}
+use Rattle.alp_node.specs.Steps.{IsNoted}
+use Rattle.alp_node.specs.declared.sessions.CallOrder.{CallOrder}
+use Rattle.alp_node.specs.declared.sessions.CallOrder.TheVariants as order
 
 -- the state that a journal leaves
 abbrev pub state_of : Start → List Entry → State
@@ -84,31 +89,40 @@ pub record IsNew {V : Type 0} (volume : V → Sizes) (server : ℕ) (n : NodeSta
 abbrev pub HasCause : ℕ → ℕ → State → Entry → Type 0
 HasCause before now s e = (failed : Bool) × IsAnsweredEntry failed s e × (failed ≡ true → Rose before now)
 
--- One entry more: this event, this reply, and what came about, with its cause where the vault tells. Each call has a reply,
--- each event by which the server goes down, and nothing else. A vault that failed or was stopped has its cause, and just then
--- the server is down, which it says. Of any vault the count of faults never falls; it rises where the reply shows that a read
--- failed, and else it stays, but where the server goes down.
-pub record Answered (here : ℕ) (tells : Bool) (s : State) (before after : List Entry) (e : Event) (r : Option Reply) (faults_before faults_now : ℕ) (allowance : Allowance) (is_down : Bool) : Type 0 where
+-- One entry more: this event, which is this among the calls of its client, this reply, and what came about, with its cause where
+-- the vault tells. Each call that is not astray has a reply, each event by which the server goes down, and nothing else. A
+-- vault that failed or was stopped has its cause, and just then the server is down; only then it says so, and it does not say that
+-- its journal is full. It goes down only in the next call of a session, and then the reply says nothing else. Of any vault the
+-- count of faults never falls; it rises where the reply shows that a read failed, and else it stays, but where the server goes
+-- down.
+pub record Answered (here : ℕ) (o : Option CallOrder) (tells : Bool) (s : State) (before after : List Entry) (e : Event) (r : Option Reply) (faults_before faults_now : ℕ) (allowance : Allowance) (is_down : Bool) : Type 0 where
   pub acts : List Act
   pub entry : after ≡ before ++ (record { event = e; reply = r; acts = acts }) ∷ []
   pub cause : IsTrue tells → HasCause faults_before faults_now s (record { event = e; reply = r; acts = acts })
-  pub replies : is_some r ≡ (is_call e || is_down)
+  pub replies : is_some r ≡ (is_answered o || is_down)
   pub later : faults_before ≤ faults_now
-  pub told : is_fault_reply here r ≡ true → Rose faults_before faults_now
-  pub still : (is_fault_reply here r || is_down) ≡ false → faults_now ≡ faults_before
+  pub told : is_fault_now here o r ≡ true → Rose faults_before faults_now
+  pub still : (is_fault_now here o r || is_down) ≡ false → faults_now ≡ faults_before
   pub down : is_down ≡ list_any is_stop acts
-  pub said_down : says_down r ≡ true → is_down ≡ true
+  pub said_down : says_shut r ≡ true → (is_down ≡ true) × (r ≡ Some (reply.Refused refusal.Down))
+  pub halts : is_down ≡ true → (o ≡ Some order.Next) × (r ≡ Some (reply.Refused refusal.Down))
   pub causes : HaveCauses faults_before faults_now allowance acts
 
--- Memory was wanting: there is no entry more, and the vault holds, counts and allows what it did.
+-- Memory was wanting: there is no entry more, sessions and clock are as before, and the vault holds, counts and allows what it
+-- did.
 pub record HasNoEntry {V : Type 0} (G : Ghosts V) (old new : NodeState V) : Type 0 where
   pub journal : new.journal ≡ old.journal
   pub up : new.kept.is_down ≡ old.kept.is_down
+  pub sessions : new.kept.sessions ≡ old.kept.sessions
+  pub clock : new.kept.clock ≡ old.kept.clock
   pub vault : IsUncounted G old.kept.vault new.kept.vault
 
--- A journal with room for one entry. Left out is a full journal: "every call of a client".
+-- a journal with room for one entry, and one that is full
 abbrev pub HasRoom : {V : Type 0} → NodeState V → Type 0
-HasRoom n = length n.journal < 65536
+HasRoom n = length n.journal < entries_limit
+
+abbrev pub IsFull : {V : Type 0} → NodeState V → Type 0
+IsFull n = entries_limit ≤ length n.journal
 
 -- these are the transactions that are live, least id first
 pub record AreLive (s : State) (ts : List TransId) : Type 0 where

@@ -1,5 +1,5 @@
 -- The events that a server answers so far.
-use Rattle.std.specs.Prelude.{◌≡◌, ℕ, ◌+◌, ◌^◌, ◌≤◌, Bool, true, false, Option, None, Some}
+use Rattle.std.specs.Prelude.{◌≡◌, ◌^◌, ◌≤◌, Bool, true, false, Some}
 use Rattle.std.specs.FinMap as map
 use Rattle.alp_base.specs.declared.ids.TransId.{TransId}
 use Rattle.alp_files.specs.Changes.{edits_of}
@@ -13,8 +13,6 @@ use Rattle.alp_files.specs.declared.call.Call.TheVariants as call
 use Rattle.alp_files.specs.Locks.{IsFormed}
 use Rattle.alp_journal.specs.declared.event.Event.{Event}
 use Rattle.alp_journal.specs.declared.event.Event.TheVariants as event
-use Rattle.alp_node.specs.Sessions.{session_at}
-use Rattle.alp_node.specs.declared.sessions.Session.{Session}
 use Rattle.alp_node.specs.declared.server_state.ServerState.{ServerState}
 use Rattle.alp_node.specs.Calls.{IsServedCall}
 
@@ -23,7 +21,7 @@ use Rattle.alp_node.specs.Calls.{IsServedCall}
 
 -- a call that may be asked
 abbrev pub IsAskable : Call → Type 0
--- a greeting, by any name: nothing is left out
+-- a greeting, by any name and at any time: nothing is left out
 IsAskable (call.Hello name) = Unit {0}
 -- a begin whose client saw a time of at most 2^62: later times are no times, no frame spells one, and so this stays
 IsAskable (call.Begin seen) = seen.ts ≤ 2 ^ 62
@@ -38,34 +36,21 @@ IsAskable c = IsServedCall c × IsFormed c
 
 -- a call of a session that stands
 abbrev pub IsTurnCall : Call → Type 0
--- a greeting begins a session and is no call of one: `IsInTurn` says when it comes
+-- a greeting begins a session and is no call of one
 IsTurnCall (call.Hello name) = ⊥
 -- each other call that may be asked
 IsTurnCall c = IsAskable c
 
--- it is the next call of that session
-abbrev pub IsNextOf : Option Session → ℕ → ℕ → ℕ → Type 0
--- left out is a client without a session, as after a restart: "every call of a client"
-IsNextOf None server_epoch epoch number = ⊥
--- left out are a call of an older epoch, a repeat, and a number that is not the next one: "every call of a client"
-IsNextOf (Some w) server_epoch epoch number = (epoch ≡ server_epoch) × (number ≡ w.last + 1)
-
--- a client greets first and once, and then its calls have the numbers in turn
-abbrev pub IsInTurn : {V : Type 0} → ServerState V → ℕ → ℕ → ℕ → Call → Type 0
--- left out are a further greeting, and one with another epoch or number than a first one has: "every call of a client"
-IsInTurn k client epoch number (call.Hello name) = (session_at k.sessions client ≡ None) × (epoch ≡ 0) × (number ≡ 1)
--- left out is what `IsNextOf` leaves out
-IsInTurn k client epoch number c = IsNextOf (session_at k.sessions client) k.epoch epoch number
-
 -- the named premise of a step
-abbrev pub IsServed : {V : Type 0} → ServerState V → Event → Type 0
--- A call of a client with a number up to 16, which stays: those of scripts begin at 1, and a server takes 0 too. Left out is what `IsAskable` and `IsInTurn` leave out.
-IsServed k (event.Call client epoch number c) = (client ≤ 16) × IsAskable c × IsInTurn k client epoch number c
+abbrev pub IsServed : Event → Type 0
+-- A call of a client with a number up to 16, which stays: those of scripts begin at 1, and a server takes 0 too. It has any epoch
+-- and any number. Left out is what `IsAskable` leaves out.
+IsServed (event.Call client epoch number c) = (client ≤ 16) × IsAskable c
 -- a timeout, of whatever transaction: nothing is left out
-IsServed k (event.Timeout t) = Unit {0}
+IsServed (event.Timeout t) = Unit {0}
 -- left out are the events Tick and Force ("restart"), and the message of another server ("several servers"); a restart is no
 -- event of a server that is up, and stays out
-IsServed k e = ⊥
+IsServed e = ⊥
 
 -- a call on an open, whose file is locked already
 abbrev pub is_on_open : Call → Bool

@@ -2,12 +2,11 @@
 -- the coordinator: the live transactions are just those that run, and no id beyond the count was drawn;
 -- the participant: no join was drawn, as `Alone` says;
 -- the holder: the vault has the cells, and one note, of the epoch and the kept clock; each live part has its intents, opens and locks;
--- the desk: each session has its name and its last number (the replies are kept by the journal alone), no call waits, and the
+-- the desk: the sessions are just those, each with its principal, its last number and the reply to that; no call waits, and the
 -- parts that timed out are those of the list;
 -- the counts: each live part has its own, and beside the cells there is room for what all of them come to;
 -- the ids: the counts of transactions and of files.
 use Rattle.std.specs.Prelude.{◌≡◌, ℕ, zero, suc, ◌+◌, ◌^◌, ◌<◌, ◌≤◌, ◌==◌, ◌&&◌, not, nat_lt, nat_le, Bool, true, false, IsTrue, List, [], ◌∷◌, ◌++◌, length, Option, None, Some, is_some}
-use Rattle.std.specs.Option.{option_map}
 use Rattle.std.specs.List.{AllByRecursion}
 use Rattle.std.specs.FinMap as map
 use Rattle.alp_base.specs.declared.ids.FileId.{FileId}
@@ -31,7 +30,7 @@ use Rattle.alp_trans.specs.Parts.{own_of}
 use Rattle.alp_trans.specs.Counting.{AreCountsOf}
 use Rattle.alp_journal.specs.Coordinator.{Undrawn}
 use Rattle.alp_journal.specs.Holder.{Life}
-use Rattle.alp_journal.specs.Desk as desk
+use Rattle.alp_journal.specs.Desk.{Session}
 use Rattle.alp_journal.specs.Alone.{Alone, IsQuiet, AreEarlier}
 use Rattle.alp_node.specs.Covers.{AreCovered, AreHeld}
 use Rattle.alp_node.specs.Dead.{dead_in}
@@ -39,7 +38,7 @@ use Rattle.alp_node.specs.Durable.{clock_notes}
 use Rattle.alp_node.specs.Rooms.{IsWithin}
 use Rattle.alp_node.specs.Sessions.{session_at}
 use Rattle.alp_node.specs.Totals.{totals_of, HaveRoom}
-use Rattle.alp_node.specs.declared.sessions.Session.{Session}
+use Rattle.alp_node.specs.Turns.{IsKeepable}
 use Rattle.alp_node.specs.declared.lives.Live.{Live}
 use Rattle.alp_node.specs.declared.server_state.ServerState.{ServerState}
 
@@ -97,10 +96,6 @@ is_beyond server epoch count t = not (t.server == server && t.epoch == epoch && 
 
 -- ---- all of it
 
--- what the journal tells of a session; the server keeps no reply
-abbrev pub kept_session : desk.Session → Session
-kept_session w = record { who = w.who; last = w.last }
-
 -- The server keeps what this state says, with this in its vault, which counts while it is not down; and it is down just
 -- where the vault was stopped, or failed in a commit.
 pub record IsAs {V : Type 0} (a : Alone) (held : Contents) (k : ServerState V) : Type 0 where
@@ -111,7 +106,7 @@ pub record IsAs {V : Type 0} (a : Alone) (held : Contents) (k : ServerState V) :
   pub cells : k.is_down ≡ false → held.cells ≡ a.holder.cells
   pub notes : k.is_down ≡ false → held.notes ≡ clock_notes (record { epoch = a.ids.epoch; clock = a.holder.kept })
   pub places : length k.sessions.places ≡ 17
-  pub sessions : (client : ℕ) → option_map kept_session (a.sessions client) ≡ session_at k.sessions client
+  pub sessions : (client : ℕ) → a.sessions client ≡ session_at k.sessions client
   pub dead : (client : ℕ) (t : TransId) → a.dead client t ≡ dead_in k.dead client t
   pub lives : (t : TransId) → IsAlike a.holder.cells k.locks.held (a.locked t) t (map.get k.lives t) (a.holder.lives t)
   pub room : HaveRoom k.sizes a.holder.cells (totals_of k.lives)
@@ -129,7 +124,7 @@ pub record IsAs {V : Type 0} (a : Alone) (held : Contents) (k : ServerState V) :
 
 -- Whatever its vault tells: its vault serves just while it is up, the table's locks agree, nobody waits, it knows each live
 -- transaction, each live part is within its limits, as many as there may be, nobody holds a lock on a file that was not made yet,
--- and no count went further than so many steps.
+-- each session keeps what it may, and no count went further than so many steps.
 pub record IsReady {V : Type 0} (steps : ℕ) (serves : Bool) (k : ServerState V) : Type 0 where
   pub serving : k.is_down ≡ false → IsTrue serves
   pub halted : k.is_down ≡ true → serves ≡ false
@@ -140,6 +135,7 @@ pub record IsReady {V : Type 0} (steps : ℕ) (serves : Bool) (k : ServerState V
   pub opens : (t : TransId) (l : Live) → map.get k.lives t ≡ Some l → l.part.last ≤ steps
   pub places : length k.sessions.places ≡ 17
   pub calls : (client : ℕ) (w : Session) → session_at k.sessions client ≡ Some w → w.last ≤ steps
+  pub replies : (client : ℕ) (w : Session) → session_at k.sessions client ≡ Some w → IsKeepable k.clock w.reply
   pub drawn : k.drawn ≤ steps
   pub given : k.given ≤ steps
   pub committed : k.committed ≤ steps

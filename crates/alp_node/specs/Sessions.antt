@@ -2,7 +2,7 @@
 use Rattle.std.specs.Prelude.{ℕ, Option, None, Some, replicate, slice_get, slice_set, ◌+◌}
 use Rattle.alp_base.specs.declared.limits.TheConstants.{CLIENTS}
 use Rattle.std.specs.Option.{option_and_then}
-use Rattle.alp_node.specs.declared.sessions.Session.{Session}
+use Rattle.alp_journal.specs.Desk.{Session}
 use Rattle.alp_node.specs.declared.sessions.Sessions.{Sessions}
 
 abbrev pub no_sessions : Sessions

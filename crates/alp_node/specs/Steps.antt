@@ -18,7 +18,6 @@ use Rattle.alp_journal.specs.declared.event.Event.{Event}
 use Rattle.alp_journal.specs.declared.event.Event.TheVariants as event
 use Rattle.alp_journal.specs.declared.entry.Entry.{Entry}
 use Rattle.alp_journal.specs.Moves.{is_stop}
-use Rattle.alp_journal.specs.Answered.{is_fault_reply}
 use Rattle.alp_journal.specs.Alone.{Alone, alone, Leads}
 use Rattle.alp_fields.specs.ClockNote.{clock_kept}
 use Rattle.alp_vault.specs.Vault.{IsSameVault}
@@ -28,11 +27,14 @@ use Rattle.alp_vault.specs.declared.vault.Vault.{Ghosts}
 use Rattle.alp_node.specs.declared.answer.Answer.{Answer}
 use Rattle.alp_node.specs.declared.server_state.ServerState.{ServerState}
 use Rattle.alp_node.specs.declared.lives.Live.{Live}
+use Rattle.alp_node.specs.declared.sessions.CallOrder.{CallOrder}
+use Rattle.alp_node.specs.declared.sessions.CallOrder.TheVariants as order
 use Rattle.alp_node.specs.declared.sessions.Turn.{Turn}
 use Rattle.alp_node.specs.declared.sessions.Sessions.{Sessions}
 use Rattle.alp_node.specs.Dead.{without_part}
 use Rattle.alp_node.specs.Durable.{said_by, MightBring, Leaves, Besides}
-use Rattle.alp_node.specs.Halts.{HaveCauses, IsUncounted, says_down}
+use Rattle.alp_node.specs.Halts.{HaveCauses, IsUncounted, says_shut}
+use Rattle.alp_node.specs.Orders.{is_answered, is_fault_now}
 use Rattle.alp_node.specs.Sessions.{session_at, with_session}
 use Rattle.alp_node.specs.ServerState.{IsAs, IsReady}
 use Rattle.alp_node.specs.Turns.{HasTurned}
@@ -72,59 +74,68 @@ pub record IsSeated {V : Type 0} (G : Ghosts V) (old new : ServerState V) : Type
 abbrev pub IsNoted : {V : Type 0} → Ghosts V → ServerState V → Type 0
 IsNoted G k = (k.is_down ≡ false → AreServerNotes (G.server k.vault) (G.servers k.vault) (G.held k.vault).notes) × (k.is_down ≡ false → (clock_kept (G.held k.vault).notes).epoch ≡ k.epoch)
 
-abbrev pub is_call : Event → Bool
-is_call (event.Call client epoch number c) = true
-is_call _ = false
-
--- Of any vault: what is handed out is what the entry keeps, and each call has a reply, each event by which the server goes
--- down, and nothing else. A vault that failed or was stopped has its cause, and just then the server is down. The count of
--- faults never falls; it rises where the answer shows that a read failed, and else it stays, but where the server goes down.
-pub record IsGiven (here : ℕ) (asked : Bool) (before now : ℕ) (allowance : Allowance) (is_down : Bool) (a : Answer) : Type 0 where
+-- Of any vault: what is handed out is what the entry keeps, and each call that is not astray has a reply, each event by which the
+-- server goes down, and nothing else. A vault that failed or was stopped has its cause, and just then the server is down; only
+-- then it says so, and it never says that its journal is full. It goes down only in the next call of a session, and then the
+-- answer says nothing else. The count of faults never falls; it rises where the answer shows that a read failed, and else it
+-- stays, but where the server goes down.
+pub record IsGiven (here : ℕ) (o : Option CallOrder) (before now : ℕ) (allowance : Allowance) (is_down : Bool) (a : Answer) : Type 0 where
   pub handed : a.handed ≡ a.kept
-  pub replies : is_some a.kept ≡ (asked || is_down)
+  pub replies : is_some a.kept ≡ (is_answered o || is_down)
   pub later : before ≤ now
-  pub told : is_fault_reply here a.kept ≡ true → Rose before now
-  pub still : (is_fault_reply here a.kept || is_down) ≡ false → now ≡ before
+  pub told : is_fault_now here o a.kept ≡ true → Rose before now
+  pub still : (is_fault_now here o a.kept || is_down) ≡ false → now ≡ before
   pub down : is_down ≡ list_any is_stop a.acts
-  pub said_down : says_down a.kept ≡ true → is_down ≡ true
+  pub said_down : says_shut a.kept ≡ true → (is_down ≡ true) × (a.kept ≡ Some (reply.Refused refusal.Down))
+  pub halts : is_down ≡ true → (o ≡ Some order.Next) × (a.kept ≡ Some (reply.Refused refusal.Down))
   pub causes : HaveCauses before now allowance a.acts
 
--- where memory was wanting, the server keeps what it kept, and its vault holds, counts and allows what it did
+-- Where memory was wanting, the server keeps what it kept, and its vault holds, counts and allows what it did. Of any vault its
+-- sessions and its clock are as before.
 pub record IsStill {V : Type 0} (G : Ghosts V) (old new : ServerState V) : Type 0 where
   pub kept : (a : Alone) → IsAs a (G.held old.vault) old → IsAs a (G.held new.vault) new
   pub ready : (steps : ℕ) → IsReady steps (G.serves old.vault) old → IsReady steps (G.serves new.vault) new
   pub up : new.is_down ≡ old.is_down
+  pub sessions : new.sessions ≡ old.sessions
+  pub clock : new.clock ≡ old.clock
   pub vault : IsUncounted G old.vault new.vault
 
--- What a step comes to: with an answer to the event the server is a step further, and without one it is as before.
-pub record IsStep {V : Type 0} (G : Ghosts V) (old new : ServerState V) (e : Event) (r : Result Answer OutOfMemory) : Type 0 where
+-- What an event comes to that is this among the calls of its client: with an answer the server is a step further, and without
+-- one it is as before.
+pub record IsStepAs {V : Type 0} (G : Ghosts V) (o : Option CallOrder) (old new : ServerState V) (e : Event) (r : Result Answer OutOfMemory) : Type 0 where
   -- where the vault tells what it holds, by what the journal says
   pub stepped : IsTrue (G.tells old.vault) → (a : Alone) → IsAs a (G.held old.vault) old → IfOk r (Stepped a (G.faults old.vault) (G.faults new.vault) (G.held new.vault) new e)
   -- and of any vault
-  pub given : IfOk r (IsGiven old.server (is_call e) (G.faults old.vault) (G.faults new.vault) (G.allowance new.vault) new.is_down)
+  pub given : IfOk r (IsGiven old.server o (G.faults old.vault) (G.faults new.vault) (G.allowance new.vault) new.is_down)
   pub ready : (steps : ℕ) → IsReady steps (G.serves old.vault) old → OnOk r (IsReady (steps + 1) (G.serves new.vault) new)
   pub noted : IsNoted G old → IsNoted G new
   pub still : OnErr r (IsStill G old new)
   pub seat : IsSeated G old new
-  pub turned : new.is_down ≡ false → IfOk r (λ x. HasTurned old new e x.kept)
+  pub turned : new.is_down ≡ false → IfOk r (λ x. HasTurned o old new e x.kept)
   -- through the step a crash leaves what it might have left before, or all that the entry was to bring about
   pub leaves : IsTrue (G.tells old.vault) → (a : Alone) → IsAs a (G.held old.vault) old
       → MatchResult r (λ x. Leaves G old.vault new.vault (Besides G old.vault (λ c. c ≡ said_by (alone a) (entry_of e x)))) (λ _. Leaves G old.vault new.vault (Besides G old.vault (MightBring (alone a) e)))
 
--- the event was answered, and its entry stands behind these; or there was no memory, and no more than these stand
-abbrev pub IsEntered : {V : Type 0} → Ghosts V → (old new : ServerState V) → (before after : List Entry) → Event → Result (Option Reply) OutOfMemory → Type 0
-IsEntered G old new before after e (Ok r) = (x : Answer) × IsStep G old new e (Ok x) × (x.handed ≡ r) × (after ≡ before ++ entry_of e x ∷ [])
-IsEntered G old new before after e (Err f) = IsStep G old new e (Err f) × (after ≡ before)
+-- what the next call of a session comes to
+abbrev pub IsStep : {V : Type 0} → Ghosts V → (old new : ServerState V) → Event → Result Answer OutOfMemory → Type 0
+IsStep G old new e r = IsStepAs G (Some order.Next) old new e r
 
--- it is the session's next call
+-- the event was answered, and its entry stands behind these; or there was no memory, and no more than these stand
+abbrev pub IsEntered : {V : Type 0} → Ghosts V → Option CallOrder → (old new : ServerState V) → (before after : List Entry) → Event → Result (Option Reply) OutOfMemory → Type 0
+IsEntered G o old new before after e (Ok r) = (x : Answer) × IsStepAs G o old new e (Ok x) × (x.handed ≡ r) × (after ≡ before ++ entry_of e x ∷ [])
+IsEntered G o old new before after e (Err f) = IsStepAs G o old new e (Err f) × (after ≡ before)
+
+-- it is the next call of its client's session, behind the last one and its reply
 pub record IsTurn (sessions : Sessions) (t : Turn) : Type 0 where
   pub client : t.client ≤ 16
-  pub session : session_at sessions t.client ≡ Some t.session
-  pub number : t.number ≡ t.session.last + 1
+  pub last : ℕ
+  pub kept : Reply
+  pub session : session_at sessions t.client ≡ Some (record { who = t.who; last = last; reply = kept })
+  pub number : t.number ≡ last + 1
 
--- the sessions where this one has come to that call
-abbrev pub counted_in : Sessions → Turn → Sessions
-counted_in sessions t = with_session sessions t.client (record t.session { last = t.number })
+-- the sessions where this one has come to that call, and keeps its reply
+abbrev pub counted_in : Sessions → Turn → Reply → Sessions
+counted_in sessions t r = with_session sessions t.client (record { who = t.who; last = t.number; reply = r })
 
 -- the live transaction is this client's
 abbrev pub IsOf : ℕ → Option Live → Type 0
@@ -135,17 +146,21 @@ IsOf client (Some l) = l.client ≡ client
 abbrev pub without_trans : {V : Type 0} → ServerState V → TransId → ServerState V
 without_trans k t = record k { lives = map.remove k.lives t; locks = released k.locks t }
 
--- and where nothing of it is to be told to the client any more
-abbrev pub ended : {V : Type 0} → ServerState V → Turn → TransId → ServerState V
-ended k turn t = record (without_trans k t) { sessions = counted_in k.sessions turn; dead = without_part turn.client t k.dead }
+-- and where nothing of it is to be told to the client any more, whose call is answered so
+abbrev pub ended : {V : Type 0} → ServerState V → Turn → TransId → Reply → ServerState V
+ended k turn t r = record (without_trans k t) { sessions = counted_in k.sessions turn r; dead = without_part turn.client t k.dead }
 
--- an answer that refuses
+-- an answer with this reply, or with none
+abbrev pub told_answer : Option Reply → List Act → Answer
+told_answer r acts = record { kept = r; handed = r; acts = acts }
+
+-- one that refuses
 abbrev pub refused_answer : Refusal → List Act → Answer
-refused_answer f acts = record { kept = Some (reply.Refused f); handed = Some (reply.Refused f); acts = acts }
+refused_answer f acts = told_answer (Some (reply.Refused f)) acts
 
 -- the call was refused, and the session counts it
 pub record IsRefused {V : Type 0} (old new : ServerState V) (turn : Turn) (f : Refusal) (r : Result Answer OutOfMemory) : Type 0 where
-  pub kept : new ≡ record old { sessions = counted_in old.sessions turn }
+  pub kept : new ≡ record old { sessions = counted_in old.sessions turn (reply.Refused f) }
   pub answer : r ≡ Ok (refused_answer f [])
 
 -- the server is down, behind these acts

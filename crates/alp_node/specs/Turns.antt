@@ -8,9 +8,12 @@ use Rattle.alp_files.specs.declared.reply.Reply.{Reply}
 use Rattle.alp_files.specs.declared.reply.Reply.TheVariants as reply
 use Rattle.alp_journal.specs.declared.event.Event.{Event}
 use Rattle.alp_journal.specs.declared.event.Event.TheVariants as event
+use Rattle.alp_journal.specs.Desk.{Session}
+use Rattle.alp_node.specs.Orders.{idle_reply}
 use Rattle.alp_node.specs.Sessions.{session_at, with_session}
 use Rattle.alp_node.specs.declared.server_state.ServerState.{ServerState}
-use Rattle.alp_node.specs.declared.sessions.Session.{Session}
+use Rattle.alp_node.specs.declared.sessions.CallOrder.{CallOrder}
+use Rattle.alp_node.specs.declared.sessions.CallOrder.TheVariants as order
 use Rattle.alp_node.specs.declared.sessions.Sessions.{Sessions}
 
 -- no time that the reply tells is later than this one
@@ -19,32 +22,47 @@ TellsUpTo clock (reply.Committed stamp) = stamp.ts ≤ clock
 TellsUpTo clock (reply.Ended (ended.Committed stamp)) = stamp.ts ≤ clock
 TellsUpTo clock r = Unit {0}
 
--- it does not say that the session is over
+-- it does not say that the session is over, that the server is down or that its journal is full
 abbrev pub IsInSession : Reply → Type 0
 IsInSession (reply.Refused (refusal.StaleSession epoch)) = ⊥
+IsInSession (reply.Refused refusal.Down) = ⊥
+IsInSession (reply.Refused refusal.JournalFull) = ⊥
 IsInSession r = Unit {0}
+
+-- a session may keep it while the clock is no earlier than this
+pub record IsKeepable (clock : ℕ) (r : Reply) : Type 0 where
+  pub inside : IsInSession r
+  pub times : TellsUpTo clock r
 
 abbrev pub is_greeting : Call → Bool
 is_greeting (call.Hello name) = true
 is_greeting c = false
 
--- the session has come to the call with this number, and the reply is one to a call of it
-abbrev pub IsCountedOn : ℕ → ℕ → Reply → Sessions → Sessions → Type 0
-IsCountedOn client number r old new = IsInSession r × (w : Session) × (session_at old client ≡ Some w) × (new ≡ with_session old client (record w { last = number }))
+-- a greeting begins the client's session in the server's epoch, and changes nothing else
+abbrev pub HasGreeted : {V : Type 0} → (old new : ServerState V) → (client : ℕ) → Call → Option Reply → Type 0
+HasGreeted old new client (call.Hello name) r = (r ≡ Some (reply.Welcome old.epoch)) × (new ≡ record old { sessions = with_session old.sessions client (record { who = name; last = 1; reply = reply.Welcome old.epoch }) })
+HasGreeted old new client c r = ⊥
 
--- a greeting begins the client's session in this epoch, and each other call is counted in the one that stands
-abbrev pub HasCounted : (epoch client number : ℕ) → Call → Option Reply → Sessions → Sessions → Type 0
-HasCounted epoch client number c None old new = ⊥
-HasCounted epoch client number (call.Hello name) (Some r) old new = (r ≡ reply.Welcome epoch) × (new ≡ with_session old client (record { who = name; last = number }))
-HasCounted epoch client number c (Some r) old new = IsCountedOn client number r old new
+-- the session has come to the call with this number, and keeps the reply, which is one to a call of it
+abbrev pub IsCountedOn : ℕ → ℕ → Reply → Sessions → Sessions → Type 0
+IsCountedOn client number r old new = IsInSession r × (w : Session) × (session_at old client ≡ Some w) × (new ≡ with_session old client (record w { last = number; reply = r }))
+
+-- What becomes of the sessions by a call that is this among those of its client. Where it neither begins a session nor is the
+-- next one it changes nothing at all.
+abbrev pub HasCounted : {V : Type 0} → CallOrder → (old new : ServerState V) → (client number : ℕ) → Call → Option Reply → Type 0
+HasCounted order.First old new client number c r = HasGreeted old new client c r
+HasCounted order.Next old new client number c r = (y : Reply) × (r ≡ Some y) × IsCountedOn client number y old.sessions new.sessions
+HasCounted o old new client number c r = (r ≡ idle_reply o old.epoch (session_at old.sessions client)) × (new ≡ old)
 
 -- only a call touches a session
-abbrev pub AreTurned : ℕ → Event → Option Reply → Sessions → Sessions → Type 0
-AreTurned epoch (event.Call client asked number c) r old new = HasCounted epoch client number c r old new
-AreTurned epoch e r old new = new ≡ old
+abbrev pub AreTurned : {V : Type 0} → Option CallOrder → (old new : ServerState V) → Event → Option Reply → Type 0
+AreTurned None old new e r = new.sessions ≡ old.sessions
+AreTurned (Some o) old new (event.Call client epoch number c) r = HasCounted o old new client number c r
+AreTurned (Some o) old new e r = ⊥
 
--- the event was answered by a server that goes on: its clock does not fall back, and is not behind what the reply tells
-pub record HasTurned {V : Type 0} (old new : ServerState V) (e : Event) (r : Option Reply) : Type 0 where
+-- The event, which is this among the calls of its client, was answered by a server that goes on: its clock does not fall back, and
+-- is not behind what the reply tells.
+pub record HasTurned {V : Type 0} (o : Option CallOrder) (old new : ServerState V) (e : Event) (r : Option Reply) : Type 0 where
   pub later : old.clock ≤ new.clock
   pub times : IfSome r (TellsUpTo new.clock)
-  pub sessions : AreTurned old.epoch e r old.sessions new.sessions
+  pub sessions : AreTurned o old new e r

@@ -1,7 +1,7 @@
 //! What an event comes to.
 ghost use Rattle.std.specs.Prelude.{◌≡◌, None, Some, IfOk, OnErr, true};
-ghost use Rattle.alp_files.specs.declared.reply.Reply.TheVariants as reply;
 ghost use Rattle.alp_calls.specs.Parts.{has_contents};
+ghost use Rattle.alp_node.specs.Steps.{told_answer, refused_answer};
 
 use alp_base::OutOfMemory;
 use alp_files::{Refusal, Reply};
@@ -16,21 +16,22 @@ pub struct Answer {
 }
 
 impl Answer {
-    /// An answer with a reply. It wants memory only to copy a reply that tells contents of files.
-    pub fn new(reply: Reply, acts: Acts) -> Result<Answer, OutOfMemory>
-        ensures ok { IfOk result (λ a. a ≡ record { kept = Some reply; handed = Some reply; acts = acts }) }
-        ensures err { OnErr result (has_contents reply ≡ true) }
+    /// An answer with copies of a reply. It wants memory only where the reply tells contents of files.
+    pub fn new(reply: &Reply, acts: Acts) -> Result<Answer, OutOfMemory>
+        ensures ok { IfOk result (λ a. a ≡ told_answer (Some reply.now) acts) }
+        ensures err { OnErr result (has_contents reply.now ≡ true) }
     {
-        let handed = copy_of(&reply)?;
+        let kept = copy_of(reply)?;
+        let handed = copy_of(reply)?;
         Ok(Answer {
-            kept: Some(reply),
+            kept: Some(kept),
             handed: Some(handed),
             acts,
         })
     }
 
     pub fn silence(acts: Acts) -> Answer
-        ensures { result ≡ record { kept = None; handed = None; acts = acts } }
+        ensures { result ≡ told_answer None acts }
     {
         Answer {
             kept: None,
@@ -40,7 +41,7 @@ impl Answer {
     }
 
     pub fn refused(refusal: Refusal, acts: Acts) -> Answer
-        ensures { result ≡ record { kept = Some (reply.Refused refusal); handed = Some (reply.Refused refusal); acts = acts } }
+        ensures { result ≡ refused_answer refusal acts }
     {
         Answer {
             kept: Some(Reply::Refused(refusal)),

@@ -1,21 +1,25 @@
 //! The answer to an event, whatever it is.
-ghost use Rattle.std.specs.Prelude.{◌≡◌, IsTrue, ℕ, Some, false};
+ghost use Rattle.std.specs.Prelude.{◌≡◌, ◌≢◌, ◌≤◌, IsTrue, IfOk, IfSome, None, Some, false, []};
 ghost use Rattle.std.specs.FinMap as map;
 ghost use Rattle.alp_files.specs.declared.call.Call.TheVariants as call;
 ghost use Rattle.alp_journal.specs.declared.event.Event.TheVariants as event;
 ghost use Rattle.alp_journal.specs.Desk.{file_trans};
+ghost use Rattle.alp_files.specs.declared.refusal.Refusal.TheVariants as refusal;
 ghost use Rattle.alp_node.specs.Calls.{IsServedCall};
+ghost use Rattle.alp_node.specs.Orders.{order_of, order_in};
 ghost use Rattle.alp_node.specs.ServerState.{IsReadyForMore, IsOfJournal};
-ghost use Rattle.alp_node.specs.Served.{IsServed, IsTurnCall, AreLivesSound};
-ghost use Rattle.alp_node.specs.Steps.{IsStep, IsNoted, IsTurn, IsOf};
+ghost use Rattle.alp_node.specs.Served.{IsServed, IsAskable, IsTurnCall, AreLivesSound};
+ghost use Rattle.alp_node.specs.Sessions.{session_at};
+ghost use Rattle.alp_node.specs.Steps.{IsStep, IsStepAs, IsNoted, IsTurn, IsOf, told_answer, refused_answer};
+ghost use Rattle.alp_node.specs.declared.sessions.CallOrder.TheVariants as order;
 
 use crate::answer::Answer;
 use crate::served::Standing;
 use crate::server_state::ServerState;
-use crate::sessions::Turn;
+use crate::sessions::{CallOrder, Turn};
 use alp_base::{OutOfMemory, TransId};
 use alp_files::{Call, Refusal};
-use alp_journal::Event;
+use alp_journal::{Acts, Event};
 use alp_vault::Vault;
 
 impl<V: Vault> ServerState<V> {
@@ -88,49 +92,99 @@ impl<V: Vault> ServerState<V> {
         self.file_call(turn, trans, call)
     }
 
-    // A call of a client, which greets first.
-    fn call(&mut self, client: u8, number: u32, call: &Call) -> Result<Answer, OutOfMemory>
-        requires served { (epoch : ℕ) × IsServed self.old (event.Call client epoch number call.now) }
+    // The next call of the client's session.
+    fn next_call(&mut self, client: u8, number: u32, call: &Call) -> Result<Answer, OutOfMemory>
+        requires client { client ≤ 16 }
+        requires asked { IsAskable call.now }
+        requires next { order_of self.old.epoch self.old.epoch number call.now (session_at self.old.sessions client) ≡ order.Next }
         requires up { self.old.is_down ≡ false }
         requires ready { IsReadyForMore (V.serves self.old.vault) self.old }
         requires known { IsTrue (V.tells self.old.vault) → IsOfJournal (V.held self.old.vault) self.old }
         requires noted { IsNoted V.Vault self.old }
         requires sized { self.old.sizes ≡ V.volume self.old.vault }
         requires sound { IsTrue (V.tells self.old.vault) → AreLivesSound (V.held self.old.vault) self.old }
-        ensures { (epoch : ℕ) → IsServed self.old (event.Call client epoch number call.now) → IsStep V.Vault self.old self.new (event.Call client epoch number call.now) result }
+        ensures { IsStep V.Vault self.old self.new (event.Call client self.old.epoch number call.now) result }
     {
-        if let Call::Hello { name } = call {
-            return self.hello(client, *name);
-        }
         let Some(session) = self.sessions.get(client) else {
             unreachable!()
         };
         let turn = Turn {
             client,
             number,
-            session,
+            who: session.who,
         };
         self.call_in_turn(&turn, call)
     }
 
-    /// The answer to an event that is served.
-    pub fn answer(&mut self, event: &Event) -> Result<Answer, OutOfMemory>
-        requires served { IsServed self.old event.now }
+    // The reply that the client's session keeps, again.
+    fn repeat(&self, client: u8) -> Result<Answer, OutOfMemory>
+        requires { session_at self.now.sessions client ≢ None }
+        ensures { IfOk result (λ a. IfSome (session_at self.now.sessions client) (λ w. a ≡ told_answer (Some w.reply) [])) }
+    {
+        let Some(session) = self.sessions.get(client) else {
+            unreachable!()
+        };
+        Answer::new(&session.reply, Acts::new(Vec::new(self.alloc)))
+    }
+
+    // No session of the client stands in the epoch of its call. It learns that of the server.
+    fn stale(&self) -> Answer
+        ensures { result ≡ refused_answer (refusal.StaleSession self.now.epoch) [] }
+    {
+        let refusal = Refusal::StaleSession { epoch: self.epoch };
+        Answer::refused(refusal, Acts::new(Vec::new(self.alloc)))
+    }
+
+    // A call of a client, by what it is among those of its session. Only the first and the next one bring anything about.
+    fn call(
+        &mut self,
+        client: u8,
+        epoch: u32,
+        number: u32,
+        call: &Call,
+    ) -> Result<Answer, OutOfMemory>
+        requires client { client ≤ 16 }
+        requires asked { IsAskable call.now }
         requires up { self.old.is_down ≡ false }
         requires ready { IsReadyForMore (V.serves self.old.vault) self.old }
         requires known { IsTrue (V.tells self.old.vault) → IsOfJournal (V.held self.old.vault) self.old }
         requires noted { IsNoted V.Vault self.old }
         requires sized { self.old.sizes ≡ V.volume self.old.vault }
         requires sound { IsTrue (V.tells self.old.vault) → AreLivesSound (V.held self.old.vault) self.old }
-        ensures { IsStep V.Vault self.old self.new event.now result }
+        ensures { IsStepAs V.Vault (Some (order_of self.old.epoch epoch number call.now (session_at self.old.sessions client))) self.old self.new (event.Call client epoch number call.now) result }
+    {
+        match self.sessions.order(client, self.epoch, epoch, number, call) {
+            CallOrder::First => {
+                let Call::Hello { name } = call else {
+                    unreachable!()
+                };
+                self.hello(client, *name)
+            }
+            CallOrder::Next => self.next_call(client, number, call),
+            CallOrder::Repeat => self.repeat(client),
+            CallOrder::Stale => Ok(self.stale()),
+            CallOrder::Astray => Ok(Answer::silence(Acts::new(Vec::new(self.alloc)))),
+        }
+    }
+
+    /// The answer to an event that is served.
+    pub fn answer(&mut self, event: &Event) -> Result<Answer, OutOfMemory>
+        requires served { IsServed event.now }
+        requires up { self.old.is_down ≡ false }
+        requires ready { IsReadyForMore (V.serves self.old.vault) self.old }
+        requires known { IsTrue (V.tells self.old.vault) → IsOfJournal (V.held self.old.vault) self.old }
+        requires noted { IsNoted V.Vault self.old }
+        requires sized { self.old.sizes ≡ V.volume self.old.vault }
+        requires sound { IsTrue (V.tells self.old.vault) → AreLivesSound (V.held self.old.vault) self.old }
+        ensures { IsStepAs V.Vault (order_in self.old event.now) self.old self.new event.now result }
     {
         match event {
             Event::Call {
                 client,
-                epoch: _,
+                epoch,
                 number,
                 call,
-            } => self.call(*client, *number, call),
+            } => self.call(*client, *epoch, *number, call),
             Event::Timeout { trans } => self.time_out(*trans),
             _ => unreachable!(),
         }

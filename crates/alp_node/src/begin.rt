@@ -1,10 +1,11 @@
 //! Sessions and transactions begin.
-ghost use Rattle.std.specs.Prelude.{◌≡◌, ◌+◌, ◌<◌, ◌≤◌, ◌^◌, None, false};
+ghost use Rattle.std.specs.Prelude.{◌≡◌, ◌+◌, ◌<◌, ◌≤◌, ◌^◌, None, Some, false};
 ghost use Rattle.alp_files.specs.declared.call.Call.TheVariants as call;
 ghost use Rattle.alp_journal.specs.declared.event.Event.TheVariants as event;
 ghost use Rattle.alp_node.specs.Sessions.{session_at};
 ghost use Rattle.alp_node.specs.ServerState.{IsReadyForMore};
-ghost use Rattle.alp_node.specs.Steps.{IsStep, IsTurn};
+ghost use Rattle.alp_node.specs.Steps.{IsStep, IsStepAs, IsTurn};
+ghost use Rattle.alp_node.specs.declared.sessions.CallOrder.TheVariants as order;
 
 use crate::answer::Answer;
 use crate::lives::Live;
@@ -25,13 +26,16 @@ impl<V: Vault> ServerState<V> {
         requires client { client ≤ CLIENTS }
         requires first { session_at self.old.sessions client ≡ None }
         requires up { self.old.is_down ≡ false }
-        ensures { IsStep V.Vault self.old self.new (event.Call client 0 1 (call.Hello name)) result }
+        ensures { IsStepAs V.Vault (Some order.First) self.old self.new (event.Call client 0 1 (call.Hello name)) result }
     {
-        let answer = Answer::new(
-            Reply::Welcome { epoch: self.epoch },
-            Acts::new(Vec::new(self.alloc)),
-        )?;
-        self.sessions.set(client, Session { who: name, last: 1 });
+        let reply = Reply::Welcome { epoch: self.epoch };
+        let answer = Answer::new(&reply, Acts::new(Vec::new(self.alloc)))?;
+        let session = Session {
+            who: name,
+            last: 1,
+            reply,
+        };
+        self.sessions.set(client, session);
         Ok(answer)
     }
 
@@ -60,11 +64,12 @@ impl<V: Vault> ServerState<V> {
             counter: self.drawn + 1,
         };
         let acts = Acts::new(vec![in self.alloc; Act::Drawn { trans }]?);
-        let answer = Answer::new(Reply::Begun { trans }, acts)?;
+        let reply = Reply::Begun { trans };
+        let answer = Answer::new(&reply, acts)?;
         self.locks.enter(trans)?;
         let live = Live {
             client: turn.client,
-            who: turn.session.who,
+            who: turn.who,
             part: Part::new(self.alloc),
             locks: 0,
         };
@@ -75,7 +80,7 @@ impl<V: Vault> ServerState<V> {
         self.drawn += 1;
         self.clock = self.clock.max(seen.ts);
         self.dead.bury(turn.client);
-        self.sessions.count(turn);
+        self.sessions.count(turn, reply);
         Ok(answer)
     }
 }

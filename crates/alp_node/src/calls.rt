@@ -56,8 +56,8 @@ impl<V: Vault> ServerState<V> {
         };
         match self.perform(trans, call, locks) {
             Ok(reply) => {
-                let answer = Answer::new(reply, Acts::new(Vec::new(self.alloc)))?;
-                self.sessions.count(turn);
+                let answer = Answer::new(&reply, Acts::new(Vec::new(self.alloc)))?;
+                self.sessions.count(turn, reply);
                 Ok(answer)
             }
             Err(fault) => self.without_answer(turn, fault, halted),

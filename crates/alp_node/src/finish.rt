@@ -18,7 +18,7 @@ ghost use Rattle.alp_files.specs.declared.reply.Reply.TheVariants as reply;
 ghost use Rattle.std.specs.Result.{IsErr};
 ghost use Rattle.alp_files.specs.declared.refusal.Refusal.TheVariants as refusal;
 ghost use Rattle.alp_files.specs.declared.refusal.Cause.TheVariants as cause;
-ghost use Rattle.alp_node.specs.Steps.{IsStep, IsNoted, IsTurn, IsOf, IsRefused, IsDown, counted_in, without_trans, ended, refused_answer};
+ghost use Rattle.alp_node.specs.Steps.{IsStep, IsStepAs, IsNoted, IsTurn, IsOf, IsRefused, IsDown, counted_in, without_trans, ended, refused_answer};
 
 use crate::answer::Answer;
 use crate::server_state::ServerState;
@@ -65,13 +65,14 @@ impl<V: Vault> ServerState<V> {
     // The part ends without effect, its client is told why, and nothing of it is to be told any more.
     fn end(&mut self, turn: &Turn, trans: TransId, cause: Cause, acts: Acts) -> Answer
         requires client { turn.now.client ≤ 16 }
-        ensures kept { self.new ≡ ended self.old turn.now trans }
+        ensures kept { self.new ≡ ended self.old turn.now trans (reply.Refused (refusal.Aborted cause)) }
         ensures answer { result ≡ refused_answer (refusal.Aborted cause) acts }
     {
         self.forget(trans);
         self.dead.remove(turn.client, trans);
-        self.sessions.count(turn);
-        Answer::refused(Refusal::Aborted { cause }, acts)
+        let refusal = Refusal::Aborted { cause };
+        self.sessions.count(turn, Reply::Refused(refusal));
+        Answer::refused(refusal, acts)
     }
 
     /// A live transaction of the client ends without effect, as its client asked.
@@ -104,7 +105,7 @@ impl<V: Vault> ServerState<V> {
     pub fn time_out(&mut self, trans: TransId) -> Result<Answer, OutOfMemory>
         requires up { self.old.is_down ≡ false }
         requires alone { self.old.locks.waiting ≡ [] }
-        ensures { IsStep V.Vault self.old self.new (event.Timeout trans) result }
+        ensures { IsStepAs V.Vault None self.old self.new (event.Timeout trans) result }
     {
         let Some(live) = self.lives.get(&trans) else {
             return Ok(Answer::silence(Acts::new(Vec::new(self.alloc))));
@@ -158,7 +159,8 @@ impl<V: Vault> ServerState<V> {
         let acts = Acts::new(vec![in self.alloc; decided, Act::Released { trans }]?);
         let mut halted = Vec::with_capacity(self.alloc, 2)?;
         halted.push_reserved(decision(self.alloc, stamp));
-        let answer = Answer::new(Reply::Committed { stamp }, acts)?;
+        let reply = Reply::Committed { stamp };
+        let answer = Answer::new(&reply, acts)?;
         let Some(live) = self.lives.get(&trans) else {
             unreachable!()
         };
@@ -176,7 +178,7 @@ impl<V: Vault> ServerState<V> {
         self.forget(trans);
         self.clock = stamp.ts;
         self.committed += 1;
-        self.sessions.count(turn);
+        self.sessions.count(turn, reply);
         Ok(answer)
     }
 
@@ -207,7 +209,7 @@ impl<V: Vault> ServerState<V> {
     fn halt(&mut self, fault: Act, mut acts: Vec<Act>) -> Answer
         requires room { length acts.items < vec_capacity acts }
         ensures kept { self.new ≡ record self.old { is_down = true } }
-        ensures answer { result ≡ record { kept = Some (reply.Refused refusal.Down); handed = Some (reply.Refused refusal.Down); acts = acts.items ++ fault ∷ [] } }
+        ensures answer { result ≡ refused_answer refusal.Down (acts.items ++ fault ∷ []) }
     {
         acts.push_reserved(fault);
         self.is_down = true;
@@ -217,10 +219,10 @@ impl<V: Vault> ServerState<V> {
     /// A call is refused and not performed.
     pub fn refuse(&mut self, turn: &Turn, refusal: Refusal) -> Answer
         requires { turn.now.client ≤ 16 }
-        ensures kept { self.new ≡ record self.old { sessions = counted_in self.old.sessions turn.now } }
-        ensures answer { result ≡ record { kept = Some (reply.Refused refusal); handed = Some (reply.Refused refusal); acts = [] } }
+        ensures kept { self.new ≡ record self.old { sessions = counted_in self.old.sessions turn.now (reply.Refused refusal) } }
+        ensures answer { result ≡ refused_answer refusal [] }
     {
-        self.sessions.count(turn);
+        self.sessions.count(turn, Reply::Refused(refusal));
         Answer::refused(refusal, Acts::new(Vec::new(self.alloc)))
     }
 }

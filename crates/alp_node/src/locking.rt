@@ -64,9 +64,9 @@ impl<V: Vault> ServerState<V> {
             Err(fault) => return self.without_answer(turn, fault, halted),
         };
         let has_made = is_made(&reply);
-        let answer = Answer::new(reply, acts)?;
+        let answer = Answer::new(&reply, acts)?;
         self.keep_locks(has_made, asked, made);
-        self.sessions.count(turn);
+        self.sessions.count(turn, reply);
         Ok(answer)
     }
 

@@ -1,5 +1,5 @@
 //! A server with its journal.
-ghost use Rattle.std.specs.Prelude.{◌≡◌, ◌+◌, ◌<◌, ◌≤◌, ◌^◌, max, IsTrue, IsOk, List, [], ◌∷◌, ◌++◌, IfOk, OnErr, MatchResult, Some, true, false, length};
+ghost use Rattle.std.specs.Prelude.{◌≡◌, ◌+◌, ◌≤◌, max, IsTrue, List, [], ◌∷◌, ◌++◌, IfOk, OnErr, MatchResult, Ok, Some, true, false, length};
 ghost use Rattle.alp_files.specs.declared.refusal.Refusal.TheVariants as refusal;
 ghost use Rattle.alp_files.specs.declared.reply.Reply.TheVariants as reply;
 ghost use Rattle.alp_journal.specs.declared.entry.Entry.{Entry as AnEntry};
@@ -7,7 +7,8 @@ ghost use Rattle.alp_journal.specs.Alone.{Alone};
 ghost use Rattle.alp_node.specs.ServerState.{IsAs, IsReadyForMore, IsOfJournal};
 ghost use Rattle.alp_base.specs.Crashes.{Either};
 ghost use Rattle.alp_node.specs.Durable.{Leaves, IsSettled, IsKeptOrBrought, said_then};
-ghost use Rattle.alp_node.specs.Nodes.{IsConsistent, Answered, AreLive, HasNoEntry, HasRoom, state_of, start_in};
+ghost use Rattle.alp_node.specs.Nodes.{IsConsistent, Answered, AreLive, HasNoEntry, HasRoom, IsFull, state_of, start_in};
+ghost use Rattle.alp_node.specs.Orders.{order_in};
 ghost use Rattle.alp_node.specs.Served.{IsServed, AreLivesSound};
 ghost use Rattle.alp_node.specs.Steps.{IsEntered, IsNoted, IsSeated, seen_in};
 ghost use Rattle.alp_node.specs.Turns.{HasTurned};
@@ -21,6 +22,9 @@ use alp_journal::{Entry, Event, Journal};
 use alp_vault::Vault;
 use std::alloc::Global;
 use std::marker::Model;
+
+/// So many entries a journal has at most.
+const MOST_ENTRIES: usize = 65_536;
 
 /// A server: what it was started on, what it keeps, and what it did. Its journal is lawful, each entry has its cause, and its
 /// vault and tables hold what the journal says.
@@ -52,25 +56,32 @@ impl<V: Vault> Node<V> {
     /// Answers an event in one step, with one entry more of the journal. No reply is silence.
     ///
     /// A step in which the vault fails or is stopped takes the server down. From then on it answers that it is down, and
-    /// makes no entry. Want of memory leaves the server as its journal says, with no new entry.
+    /// makes no entry. Where its journal is full it says so, and makes no entry. Want of memory leaves the server as its journal
+    /// says, with no new entry.
+    ///
+    /// A call is answered by what it is among those of its client: a first greeting begins a session, the next call is performed,
+    /// a repeat of the last one gets the same reply again, and one of no session that stands here in its epoch is told the
+    /// epoch of the server. To any other call there is no reply.
     pub fn step(&mut self, event: Event) -> Result<Option<Reply>, OutOfMemory>
-        requires served { IsServed self.old.kept event }
-        requires room { HasRoom self.old }
-        ensures answered { self.old.kept.is_down ≡ false → IfOk result (λ r. Answered self.old.kept.server (V.tells self.old.kept.vault) (state_of (start_in V.Vault self.old) self.old.journal) self.old.journal self.new.journal event r (V.faults self.old.kept.vault) (V.faults self.new.kept.vault) (V.allowance self.new.kept.vault) self.new.kept.is_down) }
-        ensures down { self.old.kept.is_down ≡ true → IfOk result (λ r. r ≡ Some (reply.Refused refusal.Down)) }
-        ensures still_down { self.old.kept.is_down ≡ true → IsOk result × (self.new ≡ self.old) }
+        requires served { IsServed event }
+        ensures answered { self.old.kept.is_down ≡ false → HasRoom self.old → IfOk result (λ r. Answered self.old.kept.server (order_in self.old.kept event) (V.tells self.old.kept.vault) (state_of (start_in V.Vault self.old) self.old.journal) self.old.journal self.new.journal event r (V.faults self.old.kept.vault) (V.faults self.new.kept.vault) (V.allowance self.new.kept.vault) self.new.kept.is_down) }
+        ensures down { self.old.kept.is_down ≡ true → (result ≡ Ok (Some (reply.Refused refusal.Down))) × (self.new ≡ self.old) }
+        ensures full { self.old.kept.is_down ≡ false → IsFull self.old → (result ≡ Ok (Some (reply.Refused refusal.JournalFull))) × (self.new ≡ self.old) }
         ensures err { OnErr result (HasNoEntry V.Vault self.old self.new) }
         ensures still { (a : Alone) → IsAs a (V.held self.old.kept.vault) self.old.kept → OnErr result (IsAs a (V.held self.new.kept.vault) self.new.kept) }
         ensures opening { self.new.opening ≡ self.old.opening }
         ensures seat { IsSeated V.Vault self.old.kept self.new.kept }
-        ensures turned { self.new.kept.is_down ≡ false → IfOk result (λ r. HasTurned self.old.kept self.new.kept event r) }
+        ensures turned { HasRoom self.old → self.new.kept.is_down ≡ false → IfOk result (λ r. HasTurned (order_in self.old.kept event) self.old.kept self.new.kept event r) }
         ensures clock { IsTrue (V.tells self.old.kept.vault) → self.new.kept.clock ≤ max self.old.kept.clock (seen_in event) + 1 }
         // Through the step a crash leaves what the vault held before it, or all that its one write makes of that; where memory was
         // wanting, what another lawful answer would have made of it.
-        ensures durable { IsTrue (V.tells self.old.kept.vault) → self.old.kept.is_down ≡ false → MatchResult result (λ _. Leaves V.Vault self.old.kept.vault self.new.kept.vault (Either (V.held self.old.kept.vault) (said_then (state_of (start_in V.Vault self.new) self.new.journal)))) (λ _. Leaves V.Vault self.old.kept.vault self.new.kept.vault (IsKeptOrBrought (V.held self.old.kept.vault) (state_of (start_in V.Vault self.old) self.old.journal) event)) }
+        ensures durable { IsTrue (V.tells self.old.kept.vault) → self.old.kept.is_down ≡ false → HasRoom self.old → MatchResult result (λ _. Leaves V.Vault self.old.kept.vault self.new.kept.vault (Either (V.held self.old.kept.vault) (said_then (state_of (start_in V.Vault self.new) self.new.journal)))) (λ _. Leaves V.Vault self.old.kept.vault self.new.kept.vault (IsKeptOrBrought (V.held self.old.kept.vault) (state_of (start_in V.Vault self.old) self.old.journal) event)) }
     {
         if self.kept.is_down {
             return Ok(Some(Reply::Refused(Refusal::Down)));
+        }
+        if self.journal.entries().len() >= MOST_ENTRIES {
+            return Ok(Some(Reply::Refused(Refusal::JournalFull)));
         }
         self.journal.make_place(self.kept.alloc)?;
         answer(&mut self.kept, &mut self.journal, event)
@@ -164,14 +175,14 @@ fn answer<V: Vault>(
     journal: &mut Journal,
     event: Event,
 ) -> Result<Option<Reply>, OutOfMemory>
-    requires served { IsServed kept.old event }
+    requires served { IsServed event }
     requires up { kept.old.is_down ≡ false }
     requires ready { IsReadyForMore (V.serves kept.old.vault) kept.old }
     requires known { IsTrue (V.tells kept.old.vault) → IsOfJournal (V.held kept.old.vault) kept.old }
     requires noted { IsNoted V.Vault kept.old }
     requires sized { kept.old.sizes ≡ V.volume kept.old.vault }
     requires sound { IsTrue (V.tells kept.old.vault) → AreLivesSound (V.held kept.old.vault) kept.old }
-    ensures entered { (before : List AnEntry) (last : AnEntry) → journal.old ≡ before ++ last ∷ [] → IsEntered V.Vault kept.old kept.new before journal.new event result }
+    ensures entered { (before : List AnEntry) (last : AnEntry) → journal.old ≡ before ++ last ∷ [] → IsEntered V.Vault (order_in kept.old event) kept.old kept.new before journal.new event result }
     ensures settled { IsSettled V.Vault kept.old.vault × IsSettled V.Vault kept.new.vault }
 {
     kept.vault.knows();

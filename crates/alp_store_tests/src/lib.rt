@@ -3,9 +3,5 @@
 //! cells that are told is shown for the vault in memory that makes the same changes.
 #![tactic(auto)]
 
-mod silent;
-
-pub use silent::Silent;
-
 #[cfg(test)]
 mod tests;

@@ -16,9 +16,7 @@ use Rattle.alp_client.specs.Maps.{WordMap}
 use Rattle.alp_client.specs.declared.client.Client.{Client}
 use Rattle.alp_client.specs.Clients.{call_in, call_with, call_by}
 use Rattle.alp_journal.specs.declared.event.Event.TheVariants as event
-use Rattle.alp_node.specs.declared.server_state.ServerState.{ServerState}
-use Rattle.alp_node.specs.Sessions.{session_at}
-use Rattle.alp_node.specs.Served.{IsTurnCall, IsNextOf, IsServed}
+use Rattle.alp_node.specs.Served.{IsTurnCall}
 use Rattle.alp_node.specs.Steps.{seen_in}
 use Rattle.alp_history.specs.Handed.{HasSeenBy}
 use Rattle.alp_top.specs.Steps.{IsNoOutcome}
@@ -101,29 +99,6 @@ line_has_seen words c l asked before form e low = go l form e
     go l (read k file run some) e = in_trans words c l c.trans asked P e (λ t x own. is_asked _ x P own tt)
     go l (commit k) e = in_trans words c l c.trans asked P e (λ t x own. is_asked _ x P own tt)
     go l (abort k) e = in_trans words c l c.trans asked P e (λ t x own. is_asked _ x P own tt)
-
--- a call in its turn is served
-pub turn_served : {V : Type 0} (k : ServerState V) (who epoch number : ℕ) (asked : Call) → who ≤ 16 → IsTurnCall asked → IsNextOf (session_at k.sessions who) k.epoch epoch number
-    → IsServed k (event.Call who epoch number asked)
-turn_served k who epoch number (call.Hello name) small h turn = absurd h
-turn_served k who epoch number (call.Begin seen) small h turn = (small, h, turn)
-turn_served k who epoch number (call.Join t) small h turn = (small, h, turn)
-turn_served k who epoch number (call.CreateFile t start choice) small h turn = (small, h, turn)
-turn_served k who epoch number (call.OpenFile t file access mode choice) small h turn = (small, h, turn)
-turn_served k who epoch number (call.CloseFile t n) small h turn = (small, h, turn)
-turn_served k who epoch number (call.DeleteFile t n choice) small h turn = (small, h, turn)
-turn_served k who epoch number (call.ReadPages t n r mode choice) small h turn = (small, h, turn)
-turn_served k who epoch number (call.WritePages t n r pages choice) small h turn = (small, h, turn)
-turn_served k who epoch number (call.LockPages t n r mode choice) small h turn = (small, h, turn)
-turn_served k who epoch number (call.SetSize t n size choice) small h turn = (small, h, turn)
-turn_served k who epoch number (call.ReadProps t n) small h turn = (small, h, turn)
-turn_served k who epoch number (call.WriteProps t n change choice) small h turn = (small, h, turn)
-turn_served k who epoch number (call.ReadOwner t name choice) small h turn = (small, h, turn)
-turn_served k who epoch number (call.MakeOwner t name quota list choice) small h turn = (small, h, turn)
-turn_served k who epoch number (call.SetQuota t name quota choice) small h turn = (small, h, turn)
-turn_served k who epoch number (call.Finish t keep) small h turn = (small, h, turn)
-turn_served k who epoch number (call.Outcome t) small h turn = (small, h, turn)
-turn_served k who epoch number (call.Collect n) small h turn = (small, h, turn)
 
 -- it asks for no outcome
 pub turn_no_outcome : (asked : Call) → IsTurnCall asked → IsNoOutcome asked

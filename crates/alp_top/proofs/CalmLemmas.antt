@@ -29,7 +29,10 @@ use Rattle.alp_journal.specs.Answers.{First, OrFault, IsAnswer, IsFileOf, IsFile
 use Rattle.alp_journal.specs.Answered.{IsAnsweredEntry, GrantsFor, is_fault_reply}
 use Rattle.alp_node.specs.Halts.{HaveCauses}
 use Rattle.alp_node.specs.Served.{IsServed, IsAskable}
-use Rattle.alp_node.specs.declared.server_state.ServerState.{ServerState}
+use Rattle.alp_node.specs.Orders.{is_fault_now}
+use Rattle.alp_node.specs.declared.sessions.CallOrder.{CallOrder}
+use Rattle.alp_node.specs.declared.sessions.CallOrder.TheVariants as order
+use Rattle.alp_top.specs.Servers.{is_due}
 
 where_map : (b : Bool) (P Q R : Type 0) → (P → Q) → Where b P R → Where b Q R
 where_map true P Q R f h = f h
@@ -108,9 +111,9 @@ module _ (failed : Bool) (s : State) (y : Reply) (quiet : is_fault_reply s.holde
   grants_calm client c ts (Some t) (inl (broke, is, none)) = absurd (no_fault is)
   grants_calm client c ts (Some t) (inr h) = inr h
 
-pub calm : {V : Type 0} (k : ServerState V) (failed : Bool) (s : State) (e : Event) (r : Option Reply) (acts : List Act) → IsServed k e → (quiet : is_fault_reply s.holder.server r ≡ false)
+pub calm : (failed : Bool) (s : State) (e : Event) (r : Option Reply) (acts : List Act) → IsServed e → (quiet : is_fault_reply s.holder.server r ≡ false)
     → IsAnsweredEntry failed s (record { event = e; reply = r; acts = acts }) → IsAnsweredEntry false s (record { event = e; reply = r; acts = acts })
-calm k failed s (event.Call client epoch number c) (Some y) acts served quiet h = record {
+calm failed s (event.Call client epoch number c) (Some y) acts served quiet h = record {
   answered =
       where_else (stops (record { event = event.Call client epoch number c; reply = Some y; acts = acts })) (Unit {0}) _ _
       (where_map (is_new s client epoch number) _ _ (Unit {0}) (answer_calm failed s y quiet client c served.1)) h.answered;
@@ -125,7 +128,7 @@ calm k failed s (event.Call client epoch number c) (Some y) acts served quiet h 
       (where_map (is_new s client epoch number) _ _ (Unit {0}) (grants_calm failed s y quiet client c (flat_map granted_by acts) (file_trans c))) h.grants;
   halted = h.halted;
 }
-calm k failed s (event.Call client epoch number c) None acts served quiet h = record {
+calm failed s (event.Call client epoch number c) None acts served quiet h = record {
   answered = h.answered;
   sent = h.sent;
   ticks = h.ticks;
@@ -136,7 +139,7 @@ calm k failed s (event.Call client epoch number c) None acts served quiet h = re
   grants = h.grants;
   halted = h.halted;
 }
-calm k failed s (event.Timeout t) r acts served quiet h = record {
+calm failed s (event.Timeout t) r acts served quiet h = record {
   answered = h.answered;
   sent = h.sent;
   ticks = h.ticks;
@@ -147,10 +150,20 @@ calm k failed s (event.Timeout t) r acts served quiet h = record {
   grants = h.grants;
   halted = h.halted;
 }
-calm k failed s (event.Arrive from message) r acts served quiet h = absurd served
-calm k failed s event.Restart r acts served quiet h = absurd served
-calm k failed s event.Tick r acts served quiet h = absurd served
-calm k failed s event.Force r acts served quiet h = absurd served
+calm failed s (event.Arrive from message) r acts served quiet h = absurd served
+calm failed s event.Restart r acts served quiet h = absurd served
+calm failed s event.Tick r acts served quiet h = absurd served
+calm failed s event.Force r acts served quiet h = absurd served
+
+-- ---- what is due tells of its own step alone
+
+pub due_fault : (here : ℕ) (o : Option CallOrder) (r : Option Reply) → is_due o ≡ true → is_fault_now here o r ≡ is_fault_reply here r
+due_fault here None r due = refl
+due_fault here (Some order.First) r due = refl
+due_fault here (Some order.Next) r due = refl
+due_fault here (Some order.Repeat) r due = cc
+due_fault here (Some order.Stale) r due = cc
+due_fault here (Some order.Astray) r due = cc
 
 -- ---- a server that nobody stops goes down where its device failed
 

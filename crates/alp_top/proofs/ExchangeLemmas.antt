@@ -29,9 +29,12 @@ use Rattle.alp_client.specs.Crowds.{client_at, with_client, asks, hears}
 use Rattle.alp_client.proofs.CrowdLemmas.{at_same, at_other, as_many}
 use Rattle.alp_node.specs.Served.{IsTurnCall}
 use Rattle.alp_node.specs.Sessions.{session_at, with_session}
-use Rattle.alp_node.specs.Turns.{TellsUpTo, IsCountedOn, HasCounted, HasTurned}
+use Rattle.alp_node.specs.Orders.{order_in, is_answered}
+use Rattle.alp_node.specs.Turns.{TellsUpTo, IsInSession, HasTurned}
+use Rattle.alp_node.specs.declared.sessions.CallOrder.{CallOrder}
+use Rattle.alp_node.specs.declared.sessions.CallOrder.TheVariants as order
 use Rattle.alp_node.specs.declared.server_state.ServerState.{ServerState}
-use Rattle.alp_node.specs.declared.sessions.Session.{Session}
+use Rattle.alp_journal.specs.Desk.{Session}
 use Rattle.alp_node.specs.declared.sessions.Sessions.{Sessions}
 use Rattle.alp_node.proofs.MapLemmas.{session_kept}
 use Rattle.alp_vault.specs.declared.vault.Vault.{Ghosts}
@@ -39,7 +42,7 @@ use Rattle.alp_node.specs.NodeStates.{NodeState}
 use Rattle.alp_top.specs.Servers.{HasStepped}
 use Rattle.alp_top.specs.Steps.{SameSession, IsInStep, InStep, HasSaid, HasLast, Exchanged}
 use Rattle.alp_top.proofs.AskLemmas.{line_call, line_has_seen, turn_no_outcome}
-use Rattle.alp_top.proofs.StepLemmas.{frame_there, told_low, told_knows}
+use Rattle.alp_top.proofs.StepLemmas.{frame_there, told_low, told_knows, sent_as, sent_order}
 use Rattle.alp_top.proofs.SaidLemmas.{said_more, own_item}
 
 -- ---- the stamps of an answer
@@ -62,12 +65,10 @@ told_within clock (reply.Props p) h = tt
 told_within clock (reply.Owner o) h = tt
 told_within clock (reply.Refused f) h = tt
 
--- ---- all clients stay in step
+same_reply : (a b : Reply) → Some a ≡ Some b → a ≡ b
+same_reply a b e = cc
 
--- a call in its turn is counted in the session that stands
-in_turn : (epoch k number : ℕ) (x : Call) (y : Reply) (old new : Sessions) → IsTurnCall x → HasCounted epoch k number x (Some y) old new → IsCountedOn k number y old new
-in_turn epoch k number (call.Hello name) y old new turn h = absurd turn
-in_turn epoch k number x y old new turn h = h
+-- ---- all clients stay in step
 
 -- the server counted a call of the client, and the client knows it
 pub record Counts {V : Type 0} (old new : ServerState V) (k : ℕ) (d : Client) : Type 0 where
@@ -112,13 +113,13 @@ pub record IsMore {V : Type 0} (old new : ServerState V) (k : ℕ) (c d : Client
   pub said : (xs : List items.Item) (place : Option ℕ) → HasSaid k c xs → HasSaid k d (xs ++ own_item k epoch number asked y place ∷ [])
 
 module _ {V : Type 0} (old new : ServerState V) (k : ℕ) (l : Line) (words : WordMap) (d : Client) (x : Call) (y : Reply) (form : IsForm l) (asked : call_by words d l ≡ Some x) where
-  greeting : d.session ≡ None → d.told.ts ≤ old.clock → HasTurned old new (event.Call k 0 1 (call.Hello d.name)) (Some y) → IsMore old new k d (greeted d (Some y)).0 0 1 (call.Hello d.name) y
+  greeting : d.session ≡ None → d.told.ts ≤ old.clock → HasTurned (Some order.First) old new (event.Call k 0 1 (call.Hello d.name)) (Some y) → IsMore old new k d (greeted d (Some y)).0 0 1 (call.Hello d.name) y
   greeting none low turned =
-      let is : y ≡ reply.Welcome old.epoch = turned.sessions.0 in
+      let is : y ≡ reply.Welcome old.epoch = same_reply y (reply.Welcome old.epoch) turned.sessions.0 in
       let d2 : Client = record d { session = Some (record { epoch = old.epoch; last = 1 }) } in
       subst (λ (r : Reply). IsMore old new k d (greeted d (Some r)).0 0 1 (call.Hello d.name) y) (sym is)
       (record {
-        counts = record { session = record { who = d.name; last = 1 }; sessions = turned.sessions.1; same = (refl, refl); told = omega (arith, low, turned.later) };
+        counts = record { session = record { who = d.name; last = 1; reply = reply.Welcome old.epoch }; sessions = ap (λ (n : ServerState V). n.sessions) turned.sessions.1; same = (refl, refl); told = omega (arith, low, turned.later) };
         said = λ xs place h. said_more k d d2 0 0 1 (call.Hello d.name) y place xs
             (record {
               before = λ zs last. subst (λ (us : List items.Item). AllByRecursion (λ (z : items.Item). (q : items.Sent) → z.sent ≡ Some q → q.number ≤ 0) us) (sym (subst (λ (o : Option Greeted). HasLast o zs) none last)) tt;
@@ -132,18 +133,21 @@ module _ {V : Type 0} (old new : ServerState V) (k : ℕ) (l : Line) (words : Wo
             h;
       })
 
-  turn : (g : Greeted) (w : Session) → d.session ≡ Some g → g.epoch ≡ old.epoch → d.told.ts ≤ old.clock → IsTurnCall x → HasTurned old new (event.Call k g.epoch (g.last + 1) x) (Some y)
+  turn : (g : Greeted) (w : Session) → d.session ≡ Some g → g.epoch ≡ old.epoch → d.told.ts ≤ old.clock → IsTurnCall x → HasTurned (Some order.Next) old new (event.Call k g.epoch (g.last + 1) x) (Some y)
       → IsMore old new k d (learned_reply words (record d { session = Some (record g { last = g.last + 1 }) }) l y) g.epoch (g.last + 1) x y
   turn g w has epoch low served turned =
-      let (inside, stood, stood_there, counted) = in_turn old.epoch k (g.last + 1) x y old.sessions new.sessions served turned.sessions in
+      let (z, is, on) = turned.sessions in
+      let (inside_z, stood, stood_there, counted) = on in
+      let inside : IsInSession y = subst IsInSession (sym (same_reply y z is)) inside_z in
+      let now : Session = record stood { last = g.last + 1; reply = z } in
       let d2 : Client = record d { session = Some (record g { last = g.last + 1 }) } in
       let d3 : Client = learned_reply words d2 l y in
       let knows = told_knows words d2 l y form inside in
       record {
         counts = record {
-          session = record stood { last = g.last + 1 };
+          session = now;
           sessions = counted;
-          same = subst (λ (o : Option Greeted). SameSession old.epoch o (Some (record stood { last = g.last + 1 }))) (sym knows.session) (epoch, refl);
+          same = subst (λ (o : Option Greeted). SameSession old.epoch o (Some now)) (sym knows.session) (epoch, refl);
           told = knows.within new.clock (omega (arith, low, turned.later)) (told_within new.clock y turned.times);
         };
         said = λ xs place h. said_more k d d3 g.last g.epoch (g.last + 1) x y place xs
@@ -160,7 +164,7 @@ module _ {V : Type 0} (old new : ServerState V) (k : ℕ) (l : Line) (words : Wo
       }
 
   pub heard_more : (o : Option Greeted) (w : Option Session) → d.session ≡ o → SameSession old.epoch o w → d.told.ts ≤ old.clock → IsTurnCall x
-      → HasTurned old new (event.Call k (frame_in d o x).epoch (frame_in d o x).number (frame_in d o x).call) (Some y)
+      → HasTurned (Some (sent_as o)) old new (event.Call k (frame_in d o x).epoch (frame_in d o x).number (frame_in d o x).call) (Some y)
       → IsMore old new k d (heard words d o l (Some y)).0 (frame_in d o x).epoch (frame_in d o x).number (frame_in d o x).call y
   heard_more None None has h low served turned = greeting has low turned
   heard_more None (Some w) has h low served turned = absurd h
@@ -168,6 +172,10 @@ module _ {V : Type 0} (old new : ServerState V) (k : ℕ) (l : Line) (words : Wo
   heard_more (Some g) (Some w) has h low served turned = turn g w has h.0 low served turned
 
 -- ---- one item
+
+sent_answered : (o : Option Greeted) → is_answered (Some (sent_as o)) ≡ true
+sent_answered None = refl
+sent_answered (Some g) = refl
 
 there : (o : Option Reply) → is_some o ≡ true → (y : Reply) × (o ≡ Some y)
 there None e = cc
@@ -181,22 +189,28 @@ module _ {V : Type 0} (G : Ghosts V) (c : Crowd) (n m : NodeState V) (k : ℕ) (
   abbrev entry : Entry
   entry = record { event = event.Call k frame.epoch frame.number frame.call; reply = r; acts = went.acts }
 
+  -- what it is among the calls of the client
+  order_so : (x : Call) → call_by c.words d l.line ≡ Some x → frame ≡ frame_in d d.session x → order_in n.kept (event.Call k frame.epoch frame.number frame.call) ≡ Some (sent_as d.session)
+  order_so x is same =
+      ap (λ (f : NumberedCall). order_in n.kept (event.Call k f.epoch f.number f.call)) same
+      ∙ sent_order n.kept d k x d.session (session_at n.kept.sessions k) (line_call c.words d l.line x (told_low G c n k step) form is) (step.each k).session refl
+
   -- what comes of it
   comes : (x : Call) (y : Reply) → call_by c.words d l.line ≡ Some x → frame ≡ frame_in d d.session x → r ≡ Some y
       → IsMore n.kept m.kept k d (heard c.words d d.session l.line (Some y)).0 frame.epoch frame.number frame.call y
   comes x y is same handed =
-      let turned : HasTurned n.kept m.kept (event.Call k (frame_in d d.session x).epoch (frame_in d d.session x).number (frame_in d d.session x).call) (Some y) =
-      subst (λ (o : Option Reply). HasTurned n.kept m.kept (event.Call k (frame_in d d.session x).epoch (frame_in d d.session x).number (frame_in d d.session x).call) o) handed
-      (subst (λ (f : NumberedCall). HasTurned n.kept m.kept (event.Call k f.epoch f.number f.call) r) same went.turned) in
+      let turned : HasTurned (Some (sent_as d.session)) n.kept m.kept (event.Call k (frame_in d d.session x).epoch (frame_in d d.session x).number (frame_in d d.session x).call) (Some y) =
+      subst (λ (o : Option Reply). HasTurned (Some (sent_as d.session)) n.kept m.kept (event.Call k (frame_in d d.session x).epoch (frame_in d d.session x).number (frame_in d d.session x).call) o) handed
+      (subst (λ (f : NumberedCall). HasTurned (Some (sent_as d.session)) n.kept m.kept (event.Call k f.epoch f.number f.call) r) same
+      (subst (λ (o : Option CallOrder). HasTurned o n.kept m.kept (event.Call k frame.epoch frame.number frame.call) r) (order_so x is same) went.turned)) in
       subst (λ (f : NumberedCall). IsMore n.kept m.kept k d (heard c.words d d.session l.line (Some y)).0 f.epoch f.number f.call y) (sym same)
-      (heard_more n.kept m.kept k l.line c.words d x y form is d.session (session_at n.kept.sessions k) refl (step.each k).session (step.each k).told
-      (line_call c.words d l.line x (told_low G c n k step) form is) turned)
+      (heard_more n.kept m.kept k l.line c.words d x y form is d.session (session_at n.kept.sessions k) refl (step.each k).session (step.each k).told (line_call c.words d l.line x (told_low G c n k step) form is) turned)
 
   pub exchanged : (new : Crowd) (over : Bool) (made : Call) (place : ℕ) → (new, over) ≡ hears c k l.line r → made ≡ frame.call → place ≡ length n.journal
       → Exchanged G c new n m k l frame over (record { line = l.number; server = 1; mark = mark.Own; sent = sent.Call k frame.epoch frame.number made; reply = r; place = Some place })
   exchanged new over made place knows same at =
       let (x, is, framed) = frame_there d d.session (call_by c.words d l.line) frame asked in
-      let (y, handed) = there r went.replies in
+      let (y, handed) = there r (went.replies ∙ ap is_answered (order_so x is framed) ∙ sent_answered d.session) in
       let come = comes x y is framed handed in
       let words : WordMap = words_heard c.words d.session l.line r in
       let d2 : Client = (heard c.words d d.session l.line r).0 in

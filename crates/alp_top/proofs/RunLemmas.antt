@@ -20,7 +20,7 @@ use Rattle.std.proofs.lemmas.List.{length-replicate}
 use Rattle.alp_client.specs.Clients.{new_client}
 use Rattle.alp_client.specs.declared.client.Greeted.{Greeted}
 use Rattle.alp_node.specs.Sessions.{session_at}
-use Rattle.alp_node.specs.declared.sessions.Session.{Session}
+use Rattle.alp_journal.specs.Desk.{Session}
 use Rattle.alp_node.specs.declared.sessions.Sessions.{Sessions}
 use Rattle.alp_node.proofs.StartLemmas.{no_session}
 use Rattle.alp_client.specs.Crowds.{new_crowd, client_at}

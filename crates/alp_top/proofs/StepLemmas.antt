@@ -9,6 +9,7 @@ use Rattle.std.proofs.lemmas.Bool.Decides.{leb_tells}
 use Rattle.alp_base.specs.declared.ids.FileId.{FileId}
 use Rattle.alp_base.specs.declared.ids.Stamp.{Stamp}
 use Rattle.alp_files.specs.declared.call.Call.{Call}
+use Rattle.alp_files.specs.declared.call.Call.TheVariants as call
 use Rattle.alp_files.specs.declared.reply.Reply.{Reply}
 use Rattle.alp_files.specs.declared.reply.Reply.TheVariants as reply
 use Rattle.alp_files.specs.declared.reply.Ended.{Ended}
@@ -19,7 +20,7 @@ use Rattle.alp_script.specs.Forms.{IsForm, servers, volume, client, begin, owner
 use Rattle.alp_journal.specs.declared.entry.Entry.{Entry}
 use Rattle.alp_journal.specs.declared.event.Event.TheVariants as event
 use Rattle.alp_journal.specs.Along.{Along, state_after}
-use Rattle.alp_node.specs.declared.sessions.Session.{Session}
+use Rattle.alp_journal.specs.Desk.{Session}
 use Rattle.alp_journal.specs.Ids.{stamp_cmp}
 use Rattle.alp_journal.specs.Opening.{Start}
 use Rattle.alp_journal.specs.State.{State, opened}
@@ -34,16 +35,21 @@ use Rattle.alp_client.specs.declared.client.Greeted.{Greeted}
 use Rattle.alp_client.specs.Clients.{call_by, frame_in, learned_reply, left, created, opened as opened_said, told_end, HasNext}
 use Rattle.alp_client.specs.Crowd.{Crowd}
 use Rattle.alp_client.specs.Crowds.{client_at, asks}
-use Rattle.alp_node.specs.Served.{IsServed, IsTurnCall, IsNextOf}
+use Rattle.alp_node.specs.Served.{IsServed, IsTurnCall}
+use Rattle.alp_node.specs.Orders.{order_in, order_of}
+use Rattle.alp_node.specs.declared.sessions.CallOrder.{CallOrder}
+use Rattle.alp_node.specs.declared.sessions.CallOrder.TheVariants as order
+use Rattle.alp_node.proofs.OrderLemmas.{is_next, turn_askable, turn_no_greeting}
 use Rattle.alp_node.specs.Sessions.{session_at}
 use Rattle.alp_node.proofs.NodeLemmas.{state_after-push, Along-push}
 use Rattle.alp_vault.specs.declared.vault.Vault.{Ghosts}
+use Rattle.alp_node.specs.declared.server_state.ServerState.{ServerState}
 use Rattle.alp_node.specs.NodeStates.{NodeState}
 use Rattle.alp_node.specs.Nodes as node
 use Rattle.alp_node.specs.Nodes.{start_in}
-use Rattle.alp_top.specs.Servers.{IsOn, state_of}
+use Rattle.alp_top.specs.Servers.{IsOn, state_of, is_due}
 use Rattle.alp_top.specs.Steps.{SameSession, InStep}
-use Rattle.alp_top.proofs.AskLemmas.{line_call, turn_served}
+use Rattle.alp_top.proofs.AskLemmas.{line_call}
 use Rattle.alp_node.specs.Turns.{IsInSession}
 
 -- ---- what a server keeps is what its journal says
@@ -68,27 +74,46 @@ pub frame_there : (c : Client) (o : Option Greeted) (asked : Option Call) (frame
 frame_there c o None frame e = cc
 frame_there c o (Some x) frame e = (x, refl, (let same : frame_in c o x ≡ frame = cc in sym same))
 
+-- what it is among the calls of a client that knows its session: a greeting begins one, and any other call is the next
+abbrev pub sent_as : Option Greeted → CallOrder
+sent_as None = order.First
+sent_as (Some g) = order.Next
+
+sent_due : (o : Option Greeted) → is_due (Some (sent_as o)) ≡ true
+sent_due None = refl
+sent_due (Some g) = refl
+
+pub sent_order : {V : Type 0} (s : ServerState V) (d : Client) (k : ℕ) (x : Call) (o : Option Greeted) (w : Option Session) → IsTurnCall x → SameSession s.epoch o w → session_at s.sessions k ≡ w
+    → order_in s (event.Call k (frame_in d o x).epoch (frame_in d o x).number (frame_in d o x).call) ≡ Some (sent_as o)
+sent_order s d k x None None turn h is = ap (λ (w : Option Session). Some (order_of s.epoch 0 1 (call.Hello d.name) w)) is
+sent_order s d k x None (Some w) turn h is = absurd h
+sent_order s d k x (Some g) None turn h is = absurd h
+sent_order s d k x (Some g) (Some w) turn h is =
+    ap (λ (v : Option Session). Some (order_of s.epoch g.epoch (g.last + 1) x v)) is
+    ∙ ap (λ (y : CallOrder). Some y) (is_next s.epoch g.epoch (g.last + 1) x w (turn_no_greeting x turn) h.0 (ap (λ (m : ℕ). m + 1) (sym h.1)))
+
 module _ {V : Type 0} (G : Ghosts V) (c : Crowd) (n : NodeState V) (k : ℕ) (step : InStep G c n) where
   -- no client was told of a time that clocks do not show
   pub told_low : (client_at c k).told.ts ≤ 2 ^ 62
   told_low = omega (arith, (step.each k).told, step.on.kept.ready.clock)
 
-  -- what a client asks for its line is served
-  pub served : (l : Line) (frame : NumberedCall) → k ≤ 16 → IsForm l → asks c k l false ≡ Some frame → IsServed n.kept (event.Call k frame.epoch frame.number frame.call)
+  -- what a client asks for its line is served, and due
+  pub served : (l : Line) (frame : NumberedCall) → k ≤ 16 → IsForm l → asks c k l false ≡ Some frame → IsServed (event.Call k frame.epoch frame.number frame.call)
   served l frame small form e =
       let d : Client = client_at c k in
       let (x, is, same) = frame_there d d.session (call_by c.words d l) frame e in
-      subst (λ (f : NumberedCall). IsServed n.kept (event.Call k f.epoch f.number f.call)) (sym same)
-      (go d x (line_call c.words d l x told_low form is) d.session (session_at n.kept.sessions k) (step.each k).session refl)
+      subst (λ (f : NumberedCall). IsServed (event.Call k f.epoch f.number f.call)) (sym same) (go d x (line_call c.words d l x told_low form is) d.session)
     where
-      go : (d : Client) (x : Call) → IsTurnCall x → (o : Option Greeted) (w : Option Session) → SameSession n.kept.epoch o w → session_at n.kept.sessions k ≡ w
-          → IsServed n.kept (event.Call k (frame_in d o x).epoch (frame_in d o x).number (frame_in d o x).call)
-      go d x turn None None h is = (small, tt, (is, refl, refl))
-      go d x turn None (Some w) h is = absurd h
-      go d x turn (Some g) None h is = absurd h
-      go d x turn (Some g) (Some w) h is =
-          turn_served n.kept k g.epoch (g.last + 1) x small turn
-          (subst (λ (o : Option Session). IsNextOf o n.kept.epoch g.epoch (g.last + 1)) (sym is) (h.0, ap (λ (m : ℕ). m + 1) (sym h.1)))
+      go : (d : Client) (x : Call) → IsTurnCall x → (o : Option Greeted) → IsServed (event.Call k (frame_in d o x).epoch (frame_in d o x).number (frame_in d o x).call)
+      go d x turn None = (small, tt)
+      go d x turn (Some g) = (small, turn_askable x turn)
+
+  pub due : (l : Line) (frame : NumberedCall) → IsForm l → asks c k l false ≡ Some frame → is_due (order_in n.kept (event.Call k frame.epoch frame.number frame.call)) ≡ true
+  due l frame form e =
+      let d : Client = client_at c k in
+      let (x, is, same) = frame_there d d.session (call_by c.words d l) frame e in
+      subst (λ (f : NumberedCall). is_due (order_in n.kept (event.Call k f.epoch f.number f.call)) ≡ true) (sym same)
+      (ap is_due (sent_order n.kept d k x d.session (session_at n.kept.sessions k) (line_call c.words d l x told_low form is) (step.each k).session refl) ∙ sent_due d.session)
 
   -- its number has its four bytes
   pub has_next : length n.journal < 65536 → HasNext (client_at c k).session

@@ -1,5 +1,5 @@
 -- The server of a run: server 1, alone, up, and which nobody stops.
-use Rattle.std.specs.Prelude.{◌≡◌, ◌≤◌, false, IsTrue, List, [], ◌∷◌, ◌++◌, Option, is_some, Result, OnOk, IsErrOf}
+use Rattle.std.specs.Prelude.{◌≡◌, ◌≤◌, Bool, true, false, IsTrue, List, [], ◌∷◌, ◌++◌, Option, None, Some, is_some, Result, OnOk, IsErrOf}
 use Rattle.alp_base.specs.Causes.{Rose}
 use Rattle.alp_base.specs.declared.allowance.Allowance.TheVariants.{Free}
 use Rattle.alp_files.specs.declared.reply.Reply.{Reply}
@@ -16,8 +16,10 @@ use Rattle.alp_node.specs.Nodes as node
 use Rattle.alp_node.specs.Nodes.{IsConsistent, start_in}
 use Rattle.alp_node.specs.NodeStates.{NodeState}
 use Rattle.alp_node.specs.Sessions.{no_sessions}
-use Rattle.alp_node.specs.Steps.{is_call}
+use Rattle.alp_node.specs.Orders.{order_in, is_answered}
 use Rattle.alp_node.specs.Turns.{HasTurned}
+use Rattle.alp_node.specs.declared.sessions.CallOrder.{CallOrder}
+use Rattle.alp_node.specs.declared.sessions.CallOrder.TheVariants as order
 use Rattle.alp_top.specs.declared.fault.PlayFault.{PlayFault}
 use Rattle.alp_top.specs.declared.fault.PlayFault.TheVariants as fault
 
@@ -59,6 +61,13 @@ pub record HasLooked {V T : Type 0} (G : Ghosts V) (old new : V) (result : Resul
   pub allowance : G.allowance new ≡ G.allowance old
   pub serves : OnOk result (IsTrue (G.serves new))
 
+-- it is no call, or what a client sends that is in step with its server: a greeting where it has no session, and else the next call
+abbrev pub is_due : Option CallOrder → Bool
+is_due None = true
+is_due (Some order.First) = true
+is_due (Some order.Next) = true
+is_due (Some o) = false
+
 -- one event was answered so: one entry more, and the device did its work, which the entry shows where the vault tells
 pub record HasStepped {V : Type 0} (G : Ghosts V) (old new : NodeState V) (e : Event) (r : Option Reply) : Type 0 where
   pub on : IsOn G new
@@ -67,6 +76,6 @@ pub record HasStepped {V : Type 0} (G : Ghosts V) (old new : NodeState V) (e : E
   pub acts : List Act
   pub journal : new.journal ≡ old.journal ++ (record { event = e; reply = r; acts = acts }) ∷ []
   pub done : IsTrue (G.tells old.kept.vault) → IsDone (state_of G old) (record { event = e; reply = r; acts = acts })
-  pub turned : HasTurned old.kept new.kept e r
+  pub turned : HasTurned (order_in old.kept e) old.kept new.kept e r
   pub epoch : new.kept.epoch ≡ old.kept.epoch
-  pub replies : is_some r ≡ is_call e
+  pub replies : is_some r ≡ is_answered (order_in old.kept e)

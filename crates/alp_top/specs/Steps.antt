@@ -26,7 +26,7 @@ use Rattle.alp_node.specs.NodeStates.{NodeState}
 use Rattle.alp_node.specs.Nodes.{start_in}
 use Rattle.alp_node.specs.Sessions.{session_at}
 use Rattle.alp_node.specs.declared.server_state.ServerState.{ServerState}
-use Rattle.alp_node.specs.declared.sessions.Session.{Session}
+use Rattle.alp_journal.specs.Desk.{Session}
 use Rattle.alp_top.specs.Servers.{IsOn}
 
 -- client and server know the session, or neither does

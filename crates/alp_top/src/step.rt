@@ -1,9 +1,10 @@
 //! One step of the run's server, on a device that may fail.
-ghost use Rattle.std.specs.Prelude.{◌≡◌, ◌||◌, IsTrue, IfOk};
+ghost use Rattle.std.specs.Prelude.{◌≡◌, ◌||◌, true, IsTrue, IfOk};
 ghost use Rattle.alp_journal.specs.Answered.{is_fault_reply};
 ghost use Rattle.alp_node.specs.Nodes.{HasRoom};
 ghost use Rattle.alp_node.specs.Served.{IsServed};
-ghost use Rattle.alp_top.specs.Servers.{IsOn, HasGone, HasStepped};
+ghost use Rattle.alp_node.specs.Orders.{order_in};
+ghost use Rattle.alp_top.specs.Servers.{IsOn, HasGone, HasStepped, is_due};
 
 use crate::fault::PlayFault;
 use alp_files::{Cause, Refusal, Reply, Why};
@@ -34,7 +35,8 @@ fn shows_fault(here: u8, reply: &Option<Reply>) -> bool
 /// The server answers the event, or its device failed.
 pub fn step<V: Vault>(node: &mut Node<V>, event: Event) -> Result<Option<Reply>, PlayFault>
     requires on { IsOn V.Vault node.old }
-    requires served { IsServed node.old.kept event }
+    requires served { IsServed event }
+    requires due { is_due (order_in node.old.kept event) ≡ true }
     requires room { HasRoom node.old }
     ensures gone { HasGone V.Vault node.old.kept.vault node.new.kept.vault result }
     ensures stepped { IfOk result (HasStepped V.Vault node.old node.new event) }

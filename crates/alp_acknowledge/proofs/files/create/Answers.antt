@@ -1,4 +1,4 @@
-use Rattle.std.proofs.Common.{◌≡◌, ◌<◌, ℕ, refl, sym, subst}
+use Rattle.std.proofs.Common.{◌<◌, ℕ, refl, sym, subst}
 use Rattle.alp_files.specs.Locks.{page_limit}
 use Rattle.alp_acknowledge.proofs.TurnLemmas.{small_size}
 use Rattle.alp_acknowledge.proofs.files.create.Goals as goal

@@ -4,9 +4,12 @@ use Rattle.alp_journal.specs.declared.entry.Entry.{Entry}
 use Rattle.alp_journal.specs.declared.log.Item.{Item}
 use Rattle.alp_journal.specs.declared.log.Mark.TheVariants as mark
 use Rattle.alp_journal.specs.declared.log.Sent.TheVariants as sent
-use Rattle.alp_top.proofs.StepLemmas.{served, has_next}
+use Rattle.alp_top.proofs.StepLemmas.{served, due, has_next}
 use Rattle.alp_top.proofs.ExchangeLemmas.{exchanged}
 use Rattle.alp_top.proofs.play.send.Goals as goal
+
+pub step-requires-clause-due : goal.step-requires-clause-due
+step-requires-clause-due g c = due g.V.Vault c.args.clients.now c.args.node.now c.args.client c.requires.step c.args.line.now.line c.args.frame c.requires.form c.requires.asked
 
 pub step-requires-clause-served : goal.step-requires-clause-served
 step-requires-clause-served g c = served g.V.Vault c.args.clients.now c.args.node.now c.args.client c.requires.step c.args.line.now.line c.args.frame c.requires.client c.requires.form c.requires.asked

@@ -1,4 +1,4 @@
-use Rattle.std.specs.Prelude.{◌||◌, true, false, Bool, IsTrue}
+use Rattle.std.specs.Prelude.{◌||◌, true, false, Bool, IsTrue, Result, Ok, Err}
 use Rattle.std.proofs.Common.{◌≡◌, ℕ, refl, sym, ◌∙◌, ap, subst}
 use Rattle.alp_base.specs.Causes.{Rose}
 use Rattle.alp_base.specs.declared.allowance.Allowance.{Allowance}
@@ -6,9 +6,10 @@ use Rattle.alp_base.specs.declared.allowance.Allowance.TheVariants.{Free}
 use Rattle.alp_journal.specs.Answered.{is_fault_reply}
 use Rattle.alp_node.specs.Halts.{HaveCauses}
 use Rattle.alp_node.specs.Nodes.{start_by, start_in}
-use Rattle.alp_node.specs.Steps.{is_call}
+use Rattle.alp_node.specs.Orders.{order_in, is_answered, is_fault_now}
 use Rattle.alp_top.specs.Servers.{IsDone, state_of}
-use Rattle.alp_top.proofs.CalmLemmas.{calm, down_failed}
+use Rattle.alp_top.specs.declared.fault.PlayFault.{PlayFault}
+use Rattle.alp_top.proofs.CalmLemmas.{calm, due_fault, down_failed}
 use Rattle.alp_top.proofs.GoneLemmas.{stays_free}
 use Rattle.alp_top.proofs.StepLemmas.{along_more, kept_server}
 use Rattle.alp_top.proofs.step.step.Goals as goal
@@ -18,10 +19,13 @@ or_false : (a b : Bool) → b ≡ false → (a || b) ≡ a
 or_false true b is = refl
 or_false false b is = is
 
+no_fault : {T : Type 0} (y : T) (f : PlayFault) → ◌≡◌ {A = Result T PlayFault} (Ok y) (Err f) → ⊥
+no_fault y f e = cc
+
 pub returns-then-is_down-clause-gone : goal.returns-then-is_down-clause-gone
 returns-then-is_down-clause-gone g c =
     let h = c.in_ok-reply.ensures in
-    let a = h.answered c.requires.on.up in
+    let a = h.answered c.requires.on.up c.requires.room in
     let free : g.V.Vault.allowance c.step.new.self.kept.vault ≡ Free = stays_free _ _ h.seat.spends c.requires.on.free in
     let before : ℕ = g.V.Vault.faults c.args.node.now.kept.vault in
     let now : ℕ = g.V.Vault.faults c.step.new.self.kept.vault in
@@ -30,14 +34,32 @@ returns-then-is_down-clause-gone g c =
           down_failed before now a.acts (sym a.down ∙ sym c.is_down.ensures ∙ w.if-is_down.true)
           (subst (λ (b : Allowance). HaveCauses before now b a.acts) free a.causes)
       | then-is_down-via-else-is_down+then-shows_fault w ↦
-          a.told (ap (λ (k : ℕ). is_fault_reply k c.in_ok-reply.reply) (sym c.server-here.ensures) ∙ sym w.shows_fault.ensures ∙ w.if-shows_fault.true)
+          a.told (due_fault c.args.node.now.kept.server (order_in c.args.node.now.kept c.args.event) c.in_ok-reply.reply c.requires.due ∙ ap (λ (k : ℕ). is_fault_reply k c.in_ok-reply.reply) (sym c.server-here.ensures) ∙ sym w.shows_fault.ensures ∙ w.if-shows_fault.true)
     ] in
     record { same = h.seat.same; free = λ e. stays_free _ _ h.seat.spends e; later = a.later; still = tt; failed = λ _. rose; memory = λ e. cc }
+
+pub returns-clause-gone : goal.returns-clause-gone
+returns-clause-gone g c =
+    let h = c.in_ok-reply.ensures in
+    let a = h.answered c.requires.on.up c.requires.room in
+    let n = c.args.node.now in
+    let m = c.step.new.self in
+    let up : m.kept.is_down ≡ false = sym c.is_down.ensures ∙ c.if-is_down.false in
+    let quiet : is_fault_now n.kept.server (order_in n.kept c.args.event) c.in_ok-reply.reply ≡ false =
+    due_fault n.kept.server (order_in n.kept c.args.event) c.in_ok-reply.reply c.requires.due ∙ ap (λ (k : ℕ). is_fault_reply k c.in_ok-reply.reply) (sym c.server-here.ensures) ∙ sym c.shows_fault.ensures ∙ c.if-shows_fault.false in
+    record {
+      same = h.seat.same;
+      free = λ e. stays_free _ _ h.seat.spends e;
+      later = a.later;
+      still = a.still (or_false (is_fault_now n.kept.server (order_in n.kept c.args.event) c.in_ok-reply.reply) m.kept.is_down up ∙ quiet);
+      failed = λ e. absurd (no_fault _ _ e);
+      memory = λ e. absurd (no_fault _ _ e);
+    }
 
 pub returns-clause-stepped : goal.returns-clause-stepped
 returns-clause-stepped g c =
     let h = c.in_ok-reply.ensures in
-    let a = h.answered c.requires.on.up in
+    let a = h.answered c.requires.on.up c.requires.room in
     let n = c.args.node.now in
     let m = c.step.new.self in
     let up : m.kept.is_down ≡ false = sym c.is_down.ensures ∙ c.if-is_down.false in
@@ -47,7 +69,7 @@ returns-clause-stepped g c =
     let (failed, ans, rose) = a.cause told in
     let no : is_fault_reply (state_of g.V.Vault n).holder.server c.in_ok-reply.reply ≡ false =
     ap (λ (k : ℕ). is_fault_reply k c.in_ok-reply.reply) (kept_server g.V.Vault n c.requires.on told ∙ sym c.server-here.ensures) ∙ sym c.shows_fault.ensures ∙ c.if-shows_fault.false in
-    (sym a.down ∙ up, calm n.kept failed (state_of g.V.Vault n) c.args.event c.in_ok-reply.reply a.acts c.requires.served no ans)
+    (sym a.down ∙ up, calm failed (state_of g.V.Vault n) c.args.event c.in_ok-reply.reply a.acts c.requires.served no ans)
     )) in
     record {
       on = record {
@@ -66,7 +88,7 @@ returns-clause-stepped g c =
       acts = a.acts;
       journal = a.entry;
       done = done;
-      turned = h.turned up;
+      turned = h.turned c.requires.room up;
       epoch = h.seat.epoch;
-      replies = a.replies ∙ or_false (is_call c.args.event) m.kept.is_down up;
+      replies = a.replies ∙ or_false (is_answered (order_in n.kept c.args.event)) m.kept.is_down up;
     }

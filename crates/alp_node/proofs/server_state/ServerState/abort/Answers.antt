@@ -21,7 +21,6 @@ returns g c =
     let mine = of_client turn.client (map.get k.lives c.args.trans) c.requires.own in
     let so = c.end.ensures.answer ∙ ap (refused_answer (refusal.Aborted cause.Asked)) c.in_ok-acts.ensures in
     ended_step G k k.vault turn c.args.trans (call.Finish c.args.trans false) cause.Asked c.end.result c.end.new.self (left_same G k.vault) (c.requires.ready.2.serving c.requires.up)
-    (counts_none k.server (G.faults k.vault) (G.faults k.vault) k.is_down (Some (reply.Refused (refusal.Aborted cause.Asked))) refl refl)
+    (counts_none k.server (G.faults k.vault) (G.faults k.vault) k.is_down (Some (reply.Refused (refusal.Aborted cause.Asked))) refl refl c.requires.up)
     c.requires.turn c.requires.up c.end.ensures.kept so
     (λ told a h. abort_stepped a (G.faults k.vault) (G.faults k.vault) (G.held k.vault) k turn c.args.trans mine.0 c.end.result h c.requires.turn c.requires.up c.requires.ready.2.alone c.requires.here mine.1 mine.2 so)
-    refl

@@ -12,13 +12,13 @@ use Rattle.alp_locks.specs.Tables.{Table, holding}
 use Rattle.alp_locks.specs.Asks.{entered}
 use Rattle.alp_locks.specs.Releases.{released}
 use Rattle.alp_locks.proofs.LawLemmas.{entering-keeps-held}
-use Rattle.alp_journal.specs.declared.act.Act.{Act}
 use Rattle.alp_journal.specs.declared.act.Act.TheVariants as act
 use Rattle.alp_journal.specs.declared.event.Event.TheVariants as event
 use Rattle.alp_node.specs.Dead.{without_client}
 use Rattle.alp_node.specs.ServerState.{IsAs, IsReady}
 use Rattle.alp_node.specs.Totals.{LiveMap}
-use Rattle.alp_node.specs.Steps.{Stepped, IsStep, counted_in}
+use Rattle.alp_node.specs.Steps.{Stepped, IsStep, counted_in, told_answer}
+use Rattle.alp_node.specs.declared.sessions.CallOrder.TheVariants as order
 use Rattle.alp_node.specs.declared.dead.DeadPart.{DeadPart}
 use Rattle.alp_node.specs.declared.lives.Live.{Live}
 use Rattle.alp_node.specs.declared.server_state.ServerState.{ServerState}
@@ -30,7 +30,7 @@ use Rattle.alp_node.proofs.EndLemmas.{begin_stepped, begin_refused_stepped}
 use Rattle.alp_node.proofs.WithinLemmas.{new_within}
 use Rattle.alp_node.proofs.StepLemmas.{plain_step}
 use Rattle.alp_node.proofs.GivenLemmas.{counts_none, reply_given, wanting}
-use Rattle.alp_node.proofs.KeptLemmas.{as_under, none_held}
+use Rattle.alp_node.proofs.KeptLemmas.{as_under, none_held, session_of}
 use Rattle.alp_node.proofs.ReadyLemmas.{next_new, undone_holds, undone_ready, begin_ready, refused_ready}
 use Rattle.alp_calls.proofs.LookLemmas.{left_same}
 use Rattle.alp_node.proofs.SeatLemmas.{left_leaves, left_seated, left_step}
@@ -62,6 +62,8 @@ returns-then-is_err g c =
             subst (λ (x : LiveMap). IsReady n serves (record k { lives = x; locks = c.release_all.new.self })) (sym lives)
             (subst (λ (x : Table). IsReady n serves (record k { locks = x })) (sym locks) (undone_ready n serves k t new_one h));
         up = refl;
+        sessions = refl;
+        clock = refl;
         vault = record { held = refl; faults = refl; allowance = refl };
       };
       seat = left_seated g.V.Vault k (record k { lives = c.add.new.self; locks = c.release_all.new.self }) refl refl refl (left_same g.V.Vault k.vault);
@@ -77,12 +79,12 @@ returns g c =
     let serves = g.V.Vault.serves k.vault in
     let turn = c.args.turn.now in
     let t : TransId = record { server = k.server; epoch = k.epoch; counter = k.drawn + 1 } in
-    let l : Live = record { client = turn.client; who = turn.session.who; part = c.new-2.result; locks = 0 } in
+    let l : Live = record { client = turn.client; who = turn.who; part = c.new-2.result; locks = 0 } in
     let e = event.Call turn.client k.epoch turn.number (call.Begin c.args.seen) in
     let x = c.in_ok-answer.answer in
     let lives : c.add.new.self ≡ map.insert k.lives t l = when_ok c.add.result _ c.add.ensures.ok (sym c.if-is_err.ensures.value) in
-    let is : x ≡ record { kept = Some (reply.Begun t); handed = Some (reply.Begun t); acts = act.Drawn t ∷ [] } =
-    c.in_ok-answer.ensures.ok ∙ ap (λ (acts : List Act). record { kept = Some (reply.Begun t); handed = Some (reply.Begun t); acts = acts }) (c.new-acts.ensures ∙ c.in_ok-vec.ensures.items) in
+    let is : x ≡ told_answer (Some (reply.Begun t)) (act.Drawn t ∷ []) =
+    c.in_ok-answer.ensures.ok ∙ ap (told_answer (Some (reply.Begun t))) (c.new-acts.ensures ∙ c.in_ok-vec.ensures.items) in
     let same : (u : TransId) (r : Resource) → holding c.enter.new.self.held u r ≡ holding k.locks.held u r =
     λ u r. ap (λ (x : Table). holding x.held u r) c.in_ok-enter.ensures.after ∙ ap (λ x. map.get x r) (entering-keeps-held k.locks t u) in
     let few : map.len k.lives < 64 = omega (arith, c.if-len-ge-MOST_TRANSACTIONS.false, c.len.ensures) in
@@ -91,20 +93,20 @@ returns g c =
     (λ told a h.
     subst (λ (n : ℕ). Stepped a faults faults held (record k { clock = n; drawn = k.drawn + 1; sessions = c.count.new.self; dead = c.bury-2.new.self; lives = c.add.new.self; locks = c.enter.new.self }) e x) (sym c.max-self.ensures)
     (subst (λ (y : Sessions). Stepped a faults faults held (record k { clock = max k.clock c.args.seen.ts; drawn = k.drawn + 1; sessions = y; dead = c.bury-2.new.self; lives = c.add.new.self; locks = c.enter.new.self }) e x) (sym c.count.ensures)
-    (subst (λ (y : List DeadPart). Stepped a faults faults held (record k { clock = max k.clock c.args.seen.ts; drawn = k.drawn + 1; sessions = counted_in k.sessions turn; dead = y; lives = c.add.new.self; locks = c.enter.new.self }) e x) (sym c.bury-2.ensures)
-    (subst (λ (y : LiveMap). Stepped a faults faults held (record k { clock = max k.clock c.args.seen.ts; drawn = k.drawn + 1; sessions = counted_in k.sessions turn; dead = without_client turn.client k.dead; lives = y; locks = c.enter.new.self }) e x) (sym lives)
-    (begin_stepped a held k turn.client turn.number turn.session c.args.seen c.new-2.result faults faults x c.enter.new.self h c.requires.turn.client c.requires.up c.requires.turn.session c.requires.turn.number few
+    (subst (λ (y : List DeadPart). Stepped a faults faults held (record k { clock = max k.clock c.args.seen.ts; drawn = k.drawn + 1; sessions = counted_in k.sessions turn (reply.Begun t); dead = y; lives = c.add.new.self; locks = c.enter.new.self }) e x) (sym c.bury-2.ensures)
+    (subst (λ (y : LiveMap). Stepped a faults faults held (record k { clock = max k.clock c.args.seen.ts; drawn = k.drawn + 1; sessions = counted_in k.sessions turn (reply.Begun t); dead = without_client turn.client k.dead; lives = y; locks = c.enter.new.self }) e x) (sym lives)
+    (begin_stepped a held k turn.client turn.number (session_of turn c.requires.turn) c.args.seen c.new-2.result faults faults x c.enter.new.self h c.requires.turn.client c.requires.up c.requires.turn.session c.requires.turn.number few
     (next_new c.requires.ready.0 serves k c.requires.ready.2) same c.new-2.ensures.own c.new-2.ensures.intents c.new-2.ensures.counts is)))))
-    (reply_given k.server faults faults (g.V.Vault.allowance k.vault) k.is_down (reply.Begun t) (act.Drawn t ∷ []) x is (counts_none k.server faults faults k.is_down (Some (reply.Begun t)) refl refl) c.requires.up tt)
+    (reply_given k.server faults faults (g.V.Vault.allowance k.vault) k.is_down (reply.Begun t) (act.Drawn t ∷ []) x is (counts_none k.server faults faults k.is_down (Some (reply.Begun t)) refl refl c.requires.up) c.requires.up tt)
     (λ n h.
     subst (λ (y : Sessions). IsReady (n + 1) serves (record k { clock = c.max-self.result; drawn = k.drawn + 1; sessions = y; dead = c.bury-2.new.self; lives = c.add.new.self; locks = c.enter.new.self })) (sym c.count.ensures)
-    (subst (λ (y : List DeadPart). IsReady (n + 1) serves (record k { clock = c.max-self.result; drawn = k.drawn + 1; sessions = counted_in k.sessions turn; dead = y; lives = c.add.new.self; locks = c.enter.new.self })) (sym c.bury-2.ensures)
-    (subst (λ (y : LiveMap). IsReady (n + 1) serves (record k { clock = c.max-self.result; drawn = k.drawn + 1; sessions = counted_in k.sessions turn; dead = without_client turn.client k.dead; lives = y; locks = c.enter.new.self })) (sym lives)
-    (subst (λ (y : Table). IsReady (n + 1) serves (record k { clock = c.max-self.result; drawn = k.drawn + 1; sessions = counted_in k.sessions turn; dead = without_client turn.client k.dead; lives = map.insert k.lives t l; locks = y })) (sym c.in_ok-enter.ensures.after)
-    (begin_ready n serves k turn t l c.max-self.result c.requires.turn refl c.new-2.ensures.own (new_within k.sizes turn.client turn.session.who c.new-2.result c.new-2.ensures.intents c.new-2.ensures.counts h.sized) few (omega (arith, c.max-self.ensures, h.clock, c.requires.time)) h)))))
-    (λ on. subst (λ (y : Answer). HasTurned k (record k { clock = c.max-self.result; drawn = k.drawn + 1; sessions = c.count.new.self; dead = c.bury-2.new.self; lives = c.add.new.self; locks = c.enter.new.self }) e y.kept) (sym is)
+    (subst (λ (y : List DeadPart). IsReady (n + 1) serves (record k { clock = c.max-self.result; drawn = k.drawn + 1; sessions = counted_in k.sessions turn (reply.Begun t); dead = y; lives = c.add.new.self; locks = c.enter.new.self })) (sym c.bury-2.ensures)
+    (subst (λ (y : LiveMap). IsReady (n + 1) serves (record k { clock = c.max-self.result; drawn = k.drawn + 1; sessions = counted_in k.sessions turn (reply.Begun t); dead = without_client turn.client k.dead; lives = y; locks = c.enter.new.self })) (sym lives)
+    (subst (λ (y : Table). IsReady (n + 1) serves (record k { clock = c.max-self.result; drawn = k.drawn + 1; sessions = counted_in k.sessions turn (reply.Begun t); dead = without_client turn.client k.dead; lives = map.insert k.lives t l; locks = y })) (sym c.in_ok-enter.ensures.after)
+    (begin_ready n serves k turn t l c.max-self.result c.requires.turn refl c.new-2.ensures.own (new_within k.sizes turn.client turn.who c.new-2.result c.new-2.ensures.intents c.new-2.ensures.counts h.sized) few (omega (arith, c.max-self.ensures)) (omega (arith, c.max-self.ensures, h.clock, c.requires.time)) h)))))
+    (λ on. subst (λ (y : Answer). HasTurned (Some order.Next) k (record k { clock = c.max-self.result; drawn = k.drawn + 1; sessions = c.count.new.self; dead = c.bury-2.new.self; lives = c.add.new.self; locks = c.enter.new.self }) e y.kept) (sym is)
     (counts_on k (record k { clock = c.max-self.result; drawn = k.drawn + 1; sessions = c.count.new.self; dead = c.bury-2.new.self; lives = c.add.new.self; locks = c.enter.new.self }) turn c.requires.turn
-    (call.Begin c.args.seen) (reply.Begun t) refl tt (omega (arith, c.max-self.ensures)) tt c.count.ensures))
+    (call.Begin c.args.seen) (reply.Begun t) tt (omega (arith, c.max-self.ensures)) tt c.count.ensures))
 
 pub returns-then-len-ge-MOST_TRANSACTIONS : goal.returns-then-len-ge-MOST_TRANSACTIONS
 returns-then-len-ge-MOST_TRANSACTIONS g c =
@@ -114,14 +116,14 @@ returns-then-len-ge-MOST_TRANSACTIONS g c =
     let many : 64 ≤ map.len k.lives = omega (arith, c.if-len-ge-MOST_TRANSACTIONS.true, c.len.ensures) in
     let e = event.Call turn.client k.epoch turn.number (call.Begin c.args.seen) in
     let f = refusal.TooMany what.Transactions 64 in
-    let kept : c.refuse.new.self ≡ record k { sessions = counted_in k.sessions turn; dead = without_client turn.client k.dead } =
-    c.refuse.ensures.kept ∙ ap (λ (ds : List DeadPart). record k { sessions = counted_in k.sessions turn; dead = ds }) c.bury.ensures in
+    let kept : c.refuse.new.self ≡ record k { sessions = counted_in k.sessions turn (reply.Refused f); dead = without_client turn.client k.dead } =
+    c.refuse.ensures.kept ∙ ap (λ (ds : List DeadPart). record k { sessions = counted_in k.sessions turn (reply.Refused f); dead = ds }) c.bury.ensures in
     plain_step G k c.refuse.new.self turn (call.Begin c.args.seen) c.refuse.result (reply.Refused f) [] (ap (λ (y : ServerState _). y.vault) kept) (ap (λ (y : ServerState _). y.server) kept) (ap (λ (y : ServerState _). y.sizes) kept)
     (ap (λ (y : ServerState _). y.epoch) kept) c.requires.up (ap (λ (y : ServerState _). y.is_down) kept ∙ c.requires.up) refl c.refuse.ensures.answer refl (λ m n b. tt)
-    (λ n h. subst (λ (y : ServerState _). IsReady (n + 1) (G.serves k.vault) y) (sym kept) (refused_ready n (G.serves k.vault) k turn (without_client turn.client k.dead) c.requires.turn h))
+    (λ n h. subst (λ (y : ServerState _). IsReady (n + 1) (G.serves k.vault) y) (sym kept) (refused_ready n (G.serves k.vault) k turn (reply.Refused f) (without_client turn.client k.dead) c.requires.turn (record { inside = tt; times = tt }) h))
     (λ told a h. subst (λ (y : ServerState _). Stepped a (G.faults k.vault) (G.faults k.vault) (G.held k.vault) y e c.refuse.result) (sym kept)
-    (begin_refused_stepped a (G.held k.vault) k turn.client turn.number turn.session c.args.seen (G.faults k.vault) (G.faults k.vault) c.refuse.result h c.requires.turn.client c.requires.up c.requires.turn.session c.requires.turn.number many c.refuse.ensures.answer))
-    (counts_refused k c.refuse.new.self turn c.requires.turn (call.Begin c.args.seen) f refl tt (ap (λ (y : ServerState _). y.clock) kept) (ap (λ (y : ServerState _). y.sessions) kept))
+    (begin_refused_stepped a (G.held k.vault) k turn.client turn.number (session_of turn c.requires.turn) c.args.seen (G.faults k.vault) (G.faults k.vault) c.refuse.result h c.requires.turn.client c.requires.up c.requires.turn.session c.requires.turn.number many c.refuse.ensures.answer))
+    (counts_refused k c.refuse.new.self turn c.requires.turn (call.Begin c.args.seen) f tt (ap (λ (y : ServerState _). y.clock) kept) (ap (λ (y : ServerState _). y.sessions) kept))
 
 -- the table has no room
 pub returns-in_err-enter : goal.returns-in_err-enter
@@ -131,4 +133,4 @@ returns-in_err-enter g c =
     let e = event.Call c.args.turn.now.client k.epoch c.args.turn.now.number (call.Begin c.args.seen) in
     subst (λ (x : Table). IsStep G k (record k { locks = x }) e c.from_residual-in_err-enter.result) (sym c.in_err-enter.ensures.err)
     (wanting G k k e c.from_residual-in_err-enter.result c.from_residual-in_err-enter.ensures.0
-    (record { kept = λ a h. h; ready = λ n h. h; up = refl; vault = record { held = refl; faults = refl; allowance = refl } }) (λ h. h) (left_seated G k k refl refl refl (left_same G k.vault)) (left_same G k.vault))
+    (record { kept = λ a h. h; ready = λ n h. h; up = refl; sessions = refl; clock = refl; vault = record { held = refl; faults = refl; allowance = refl } }) (λ h. h) (left_seated G k k refl refl refl (left_same G k.vault)) (left_same G k.vault))

@@ -6,7 +6,7 @@ use Rattle.alp_files.specs.declared.reply.Reply.TheVariants as reply
 use Rattle.alp_files.specs.declared.refusal.Cause.TheVariants as cause
 use Rattle.alp_files.specs.declared.refusal.Cause.{Cause}
 use Rattle.alp_files.specs.declared.refusal.Refusal.TheVariants as refusal
-use Rattle.alp_node.specs.Steps.{refused_answer}
+use Rattle.alp_node.specs.Steps.{ended, refused_answer}
 use Rattle.alp_files.specs.declared.refusal.Why.TheVariants as why
 use Rattle.alp_node.proofs.CommitLemmas.{votes_at_end}
 use Rattle.alp_node.proofs.FinishLemmas.{against_stepped}
@@ -25,8 +25,7 @@ returns-then-self-ge-CLOCK_END g c =
     let last : k.clock ≡ 2 ^ 62 = omega (arith, c.if-self-ge-CLOCK_END.true, c.requires.ready.2.clock) in
     let so = c.end.ensures.answer ∙ ap (λ (x : Cause). refused_answer (refusal.Aborted x) c.in_ok-acts.acts) c.against.ensures ∙ ap (refused_answer (refusal.Aborted (cause.Voted k.server why.ClockEnd))) c.in_ok-acts.ensures in
     ended_step G k k.vault turn c.args.trans (call.Finish c.args.trans true) (cause.Voted k.server why.ClockEnd) c.end.result c.end.new.self (left_same G k.vault) (c.requires.ready.2.serving c.requires.up)
-    (counts_none k.server (G.faults k.vault) (G.faults k.vault) k.is_down (Some (reply.Refused (refusal.Aborted (cause.Voted k.server why.ClockEnd)))) refl refl)
-    c.requires.turn c.requires.up c.end.ensures.kept so
+    (counts_none k.server (G.faults k.vault) (G.faults k.vault) k.is_down (Some (reply.Refused (refusal.Aborted (cause.Voted k.server why.ClockEnd)))) refl refl c.requires.up)
+    c.requires.turn c.requires.up (c.end.ensures.kept ∙ ap (λ (x : Cause). ended k turn c.args.trans (reply.Refused (refusal.Aborted x))) c.against.ensures) so
     (λ told a h. against_stepped a (G.faults k.vault) (G.faults k.vault) (G.held k.vault) k turn c.args.trans mine.0 false why.ClockEnd c.end.result h c.requires.turn c.requires.up c.requires.ready.2.alone c.requires.here mine.1
     mine.2 (λ e. cc) (votes_at_end a (G.held k.vault) k c.args.trans mine.0 h last) so)
-    refl

@@ -8,7 +8,8 @@ use Rattle.alp_base.specs.Allowances.{Spends}
 use Rattle.alp_files.specs.declared.reply.Reply.TheVariants as reply
 use Rattle.alp_journal.specs.declared.event.Event.TheVariants as event
 use Rattle.alp_node.specs.ServerState.{IsReady}
-use Rattle.alp_node.specs.Steps.{Stepped, IsOf, refused_answer, counted_in, without_trans, entry_of}
+use Rattle.alp_node.specs.Steps.{Stepped, IsOf, told_answer, refused_answer, counted_in, without_trans, entry_of}
+use Rattle.alp_node.specs.declared.sessions.CallOrder.TheVariants as order
 use Rattle.alp_node.specs.declared.lives.Live.{Live}
 use Rattle.alp_node.specs.declared.server_state.ServerState.{ServerState}
 use Rattle.alp_node.specs.declared.sessions.Sessions.{Sessions}
@@ -119,6 +120,8 @@ returns-in-Err-OutOfMemory g c =
         kept = λ a h. as_with a (G.held k.vault) (G.held v) k v ends.1.held h;
         ready = λ n h. ready_with n (G.serves k.vault) (G.serves v) k v ends.0 c.requires.up h;
         up = refl;
+        sessions = refl;
+        clock = refl;
         vault = ends.1;
       };
       seat = record { server = refl; sizes = refl; epoch = refl; same = c.store.ensures.kept; spends = c.store.ensures.allowance };
@@ -142,10 +145,10 @@ returns g c =
     let mine = of_client turn.client (map.get k.lives t) c.requires.own in
     let stamp : Stamp = record { ts = k.clock + 1; trans = t } in
     let e = event.Call turn.client k.epoch turn.number (call.Finish t true) in
-    let counts : c.count.new.self ≡ counted_in k.sessions turn = c.count.ensures ∙ ap (λ (y : ServerState _). counted_in y.sessions turn) c.forget.ensures in
-    let so : x ≡ record { kept = Some (reply.Committed stamp); handed = Some (reply.Committed stamp); acts = act.Decided stamp [] ∷ act.Released t ∷ [] } =
+    let counts : c.count.new.self ≡ counted_in k.sessions turn (reply.Committed stamp) = c.count.ensures ∙ ap (λ (y : ServerState _). counted_in y.sessions turn (reply.Committed stamp)) c.forget.ensures in
+    let so : x ≡ told_answer (Some (reply.Committed stamp)) (act.Decided stamp [] ∷ act.Released t ∷ []) =
     c.in_ok-answer.ensures.ok
-    ∙ ap (λ (acts : List Act). record { kept = Some (reply.Committed stamp); handed = Some (reply.Committed stamp); acts = acts })
+    ∙ ap (told_answer (Some (reply.Committed stamp)))
     (c.new-acts.ensures ∙ c.in_ok-vec.ensures.items ∙ ap (λ (y : Act). y ∷ act.Released t ∷ []) c.decision-decided.ensures) in
     let same : Live = c.in-Some.live.now in
     record {
@@ -157,7 +160,7 @@ returns g c =
       given =
           reply_given k.server (G.faults k.vault) (G.faults c.forget.new.self.vault) (G.allowance c.forget.new.self.vault) c.forget.new.self.is_down
           (reply.Committed stamp) (act.Decided stamp [] ∷ act.Released t ∷ []) x so
-          (counts_none k.server (G.faults k.vault) (G.faults c.forget.new.self.vault) c.forget.new.self.is_down (Some (reply.Committed stamp)) refl (ap (λ (y : ServerState _). G.faults y.vault) c.forget.ensures ∙ stored.ended.1)) (ap (λ (y : ServerState _). y.is_down) c.forget.ensures ∙ c.requires.up) tt;
+          (counts_none k.server (G.faults k.vault) (G.faults c.forget.new.self.vault) c.forget.new.self.is_down (Some (reply.Committed stamp)) refl (ap (λ (y : ServerState _). G.faults y.vault) c.forget.ensures ∙ stored.ended.1) (ap (λ (y : ServerState _). y.is_down) c.forget.ensures ∙ c.requires.up)) (ap (λ (y : ServerState _). y.is_down) c.forget.ensures ∙ c.requires.up) tt;
       ready = λ n h.
           subst (λ (y : ServerState _). IsReady (n + 1) (G.serves y.vault) (record y { clock = k.clock + 1; committed = y.committed + 1; sessions = c.count.new.self })) (sym c.forget.ensures)
           (subst (λ (y : Sessions). IsReady (n + 1) (G.serves v) (record (without_trans k t) { clock = k.clock + 1; committed = k.committed + 1; sessions = y; vault = v })) (sym counts)
@@ -175,9 +178,9 @@ returns g c =
         spends = subst (λ (y : ServerState _). Spends (G.allowance k.vault) (G.allowance y.vault)) (sym c.forget.ensures) stored.allowance;
       };
       turned = λ up.
-          subst (λ (y : ServerState _). HasTurned k (record y { clock = k.clock + 1; committed = y.committed + 1; sessions = c.count.new.self }) e x.kept) (sym c.forget.ensures)
-          (subst (λ (y : Answer). HasTurned k (record (without_trans k t) { clock = k.clock + 1; committed = k.committed + 1; sessions = c.count.new.self; vault = v }) e y.kept) (sym so)
-          (counts_on k (record (without_trans k t) { clock = k.clock + 1; committed = k.committed + 1; sessions = c.count.new.self; vault = v }) turn c.requires.turn (call.Finish t true) (reply.Committed stamp) refl tt (omega arith) (omega arith) counts));
+          subst (λ (y : ServerState _). HasTurned (Some order.Next) k (record y { clock = k.clock + 1; committed = y.committed + 1; sessions = c.count.new.self }) e x.kept) (sym c.forget.ensures)
+          (subst (λ (y : Answer). HasTurned (Some order.Next) k (record (without_trans k t) { clock = k.clock + 1; committed = k.committed + 1; sessions = c.count.new.self; vault = v }) e y.kept) (sym so)
+          (counts_on k (record (without_trans k t) { clock = k.clock + 1; committed = k.committed + 1; sessions = c.count.new.self; vault = v }) turn c.requires.turn (call.Finish t true) (reply.Committed stamp) tt (omega arith) (omega arith) counts));
       leaves = λ told a h.
           subst (λ (y : ServerState _). Leaves G k.vault y.vault (Besides G k.vault (λ z. z ≡ said_by (alone a) (entry_of e x)))) (sym c.forget.ensures)
           (write_leaves a (G.held k.vault) k turn t same h c.requires.turn c.requires.up (sym c.in-Some.ensures) (subst (IsOf turn.client) (sym c.in-Some.ensures) c.requires.own) (reply.Committed stamp) refl G v x

@@ -5,7 +5,6 @@ use Rattle.alp_base.specs.declared.ids.FileId.{FileId}
 use Rattle.alp_files.specs.Born.{count_after}
 use Rattle.alp_files.specs.Locks.{Need}
 use Rattle.alp_files.specs.declared.refusal.Refusal.TheVariants as refusal
-use Rattle.alp_journal.specs.declared.act.Act.{Act}
 use Rattle.alp_journal.specs.declared.event.Event.TheVariants as event
 use Rattle.alp_queue.specs.declared.waiter.Waiter.{Waiter}
 use Rattle.alp_locks.specs.Asks.{blocker}
@@ -20,20 +19,21 @@ use Rattle.alp_node.specs.declared.lock_counts.LockCounts.{LockCounts}
 use Rattle.alp_locks.specs.Tables.{holding}
 use Rattle.alp_node.specs.Steps.{IsOf}
 use Rattle.alp_node.specs.ServerState.{IsReady}
-use Rattle.alp_node.specs.Steps.{Stepped, counted_in}
+use Rattle.alp_node.specs.Steps.{Stepped, counted_in, told_answer}
+use Rattle.alp_node.specs.declared.sessions.CallOrder.TheVariants as order
 use Rattle.alp_node.specs.declared.lives.Live.{Live}
 use Rattle.alp_node.specs.declared.server_state.ServerState.{ServerState}
 use Rattle.alp_node.specs.declared.sessions.Sessions.{Sessions}
-use Rattle.alp_node.specs.Turns.{HasTurned}
+use Rattle.alp_node.specs.Turns.{TellsUpTo, IsKeepable, HasTurned}
 use Rattle.alp_node.specs.declared.answer.Answer.{Answer}
-use Rattle.alp_node.proofs.TurnLemmas.{counts_on, file_call_greets_none}
+use Rattle.alp_node.proofs.TurnLemmas.{counts_on}
 use Rattle.alp_node.proofs.CallLemmas.{unseen, count_grows}
 use Rattle.alp_node.proofs.GivenLemmas.{counts_none, reply_given, wanting}
 use Rattle.alp_node.proofs.GrantLemmas.{lock_built, lock_shaped, plan_given, count_given, free_given, given_below, granted_ready}
 use Rattle.alp_node.proofs.LockCallLemmas.{locks_stepped, conflict_stepped, acts_up, acts_caused}
 use Rattle.alp_node.proofs.LockKeptLemmas.{lock_stepped}
 use Rattle.alp_node.proofs.ShapeLemmas.{shape_given, too_locked_is, may_lock}
-use Rattle.alp_node.proofs.CountedLemmas.{answered_quiet, IsCountRefusal, answered_inside, answered_tells}
+use Rattle.alp_node.proofs.CountedLemmas.{answered_quiet, IsCountRefusal, answered_keeps}
 use Rattle.alp_node.proofs.WithinLemmas.{MayLock, within_then}
 use Rattle.alp_node.proofs.TotalLemmas.{few_totals}
 use Rattle.alp_node.proofs.LookLemmas.{count_same, answered_told, room_told, locks_read, part_ready, looked_still, without_step}
@@ -84,7 +84,7 @@ returns-in-Some-too_locked g c =
     refuse.ensures.kept refuse.ensures.answer
     (λ told a h. locks_stepped a (G.faults k.vault) (G.faults k.vault) (G.held k.vault) k turn t l call f refuse.result h c.requires.ready.2.raised c.requires.turn c.requires.up there own c.requires.kind (c.requires.shape l there) many c.requires.named
     refuse.ensures.answer)
-    (file_call_greets_none call t c.requires.named) (IsCountRefusal.inside (too_locked_is k.sizes.area l.part.counts.cells (counts_then l.locks (holding k.locks.held t) call).made f many))
+    (IsCountRefusal.inside (too_locked_is k.sizes.area l.part.counts.cells (counts_then l.locks (holding k.locks.held t) call).made f many))
 
 pub returns-in-Some-in_way_of : goal.returns-in-Some-in_way_of
 returns-in-Some-in_way_of g c =
@@ -104,7 +104,7 @@ returns-in-Some-in_way_of g c =
     refused_step G k refuse.new.self turn call refuse.result (refusal.LockConflict c.in-Some-in_way_of.holder) refl c.requires.turn c.requires.up refuse.ensures.kept refuse.ensures.answer
     (λ told a h. conflict_stepped a (G.faults k.vault) (G.faults k.vault) (G.held k.vault) k turn t l call c.in-Some-in_way_of.holder refuse.result h c.requires.ready.2.raised c.requires.turn c.requires.up there own c.requires.kind
     (c.requires.shape l there) few c.requires.named c.requires.ready.2.sound named refuse.ensures.answer)
-    (file_call_greets_none call t c.requires.named) tt
+    tt
 
 pub keep_locks-requires-clause-room : goal.keep_locks-requires-clause-room
 keep_locks-requires-clause-room g c =
@@ -168,8 +168,8 @@ returns g c =
     let b = locks_given l.locks n (Ok r) in
     let asked_is : c.in_ok-asked.asked ≡ plan_of k.locks t (asks_of call) = c.in_ok-asked.ensures ∙ ap (plan_of k.locks t) c.in_ok-asks.ensures in
     let rises : List Need = (plan_of k.locks t (asks_of call)).rises in
-    let is : x ≡ record { kept = Some r; handed = Some r; acts = acts_of t rises } =
-    c.in_ok-answer.ensures.ok ∙ ap (λ (acts : List Act). record { kept = Some r; handed = Some r; acts = acts }) (c.in_ok-acts.ensures ∙ ap (λ (w : Waiter). acts_of t w.rises) asked_is) in
+    let keeps : IsKeepable k.clock r = answered_keeps k.clock (G.tells k.vault) (G.held k.vault).cells l.part did.part l.who (next_file k) call did.room r did.outcome in
+    let is : x ≡ told_answer (Some r) (acts_of t rises) = c.in_ok-answer.ensures.ok ∙ ap (told_answer (Some r)) (c.in_ok-acts.ensures ∙ ap (λ (w : Waiter). acts_of t w.rises) asked_is) in
     let made_is : c.in_ok-made.made ≡ plan_of k.locks t (asks_made (next_file k) call) =
     c.in_ok-made.ensures ∙ ap (plan_of k.locks t) (c.in_ok-asks_made.ensures ∙ ap (λ (id : FileId). asks_made id call) c.next_file-id.ensures) in
     let free_asked = ap (λ (w : Waiter). blocker k.locks.held w.trans w.rises) (sym asked_is) ∙ sym c.in_way_of.ensures ∙ c.in_default-in_way_of.is in
@@ -192,33 +192,32 @@ returns g c =
     let of = room_told (G.tells k.vault) (G.held k.vault).cells k n.made did.room told (subst (λ (y : LockCounts). IsRoomOf (G.tells k.vault) (G.held k.vault).cells k y.made did.room) n_is did.left) in
     let e = event.Call turn.client k.epoch turn.number call in
     subst (λ (y : Sessions). Stepped a (G.faults k.vault) (G.faults M.vault) (G.held M.vault) (record M { sessions = y }) e x) (sym c.count.ensures)
-    (subst (λ (y : ServerState _). Stepped a (G.faults k.vault) (G.faults y.vault) (G.held y.vault) (record y { sessions = counted_in y.sessions turn }) e x) (sym kept_is)
+    (subst (λ (y : ServerState _). Stepped a (G.faults k.vault) (G.faults y.vault) (G.held y.vault) (record y { sessions = counted_in y.sessions turn r }) e x) (sym kept_is)
     (lock_stepped a (G.faults k.vault) (G.faults N.vault) (G.held k.vault) k turn t l did.part call did.room r N.vault c.requires.ready.0 (G.serves k.vault) x (G.held N.vault) c.requires.ready.2 h c.requires.up left.contents c.requires.turn there own
     c.requires.kind shape few c.requires.named c.requires.formed given of is free_asked))
     ))
     (reply_given k.server (G.faults k.vault) (G.faults M.vault) (G.allowance M.vault) M.is_down r (acts_of t rises) x is
     (counts_none k.server (G.faults k.vault) (G.faults M.vault) M.is_down (Some r)
-    (answered_quiet k.server (G.tells k.vault) (G.held k.vault).cells l.part did.part l.who (next_file k) call did.room r did.outcome) faults) (ap (λ (y : ServerState _). y.is_down) kept_is ∙ c.requires.up ∙ sym (acts_up t rises))
+    (answered_quiet k.server (G.tells k.vault) (G.held k.vault).cells l.part did.part l.who (next_file k) call did.room r did.outcome) faults (ap (λ (y : ServerState _). y.is_down) kept_is ∙ c.requires.up)) (ap (λ (y : ServerState _). y.is_down) kept_is ∙ c.requires.up ∙ sym (acts_up t rises))
     (acts_caused (G.faults k.vault) (G.faults M.vault) (G.allowance M.vault) t rises))
     (λ m h. (
     let serves = G.serves N.vault in
     let low : did.part.last ≤ m + 1 = (let was : l.part.last ≤ m = h.opens t l there in omega (arith, did.outcome.last)) in
     let fewer : count_after k.given r ≤ m + 1 = (let was : k.given ≤ m = h.given in let one : count_after k.given r ≤ k.given + 1 = count_same k.given r in omega (arith, was, one)) in
-    let counted = counted_ready m (G.serves k.vault) k turn c.requires.turn h in
+    let counted = counted_ready m (G.serves k.vault) k turn r c.requires.turn keeps h in
     let may : MayLock k.sizes l n = may_lock k.sizes l (holding k.locks.held t) call few in
     let within = within_then (G.tells k.vault) (G.held k.vault).cells (next_file k) k.sizes l did.part call n did.room (Ok r) did.sound may did.left.area (did.left.held ∙ ap (λ (y : LockCounts). y.made) n_is) did.outcome in
-    let parted = part_ready (m + 1) (G.serves k.vault) serves (record k { sessions = counted_in k.sessions turn }) t l did.part b N.vault (m + 1) c.in-Ok.ensures.looked.1 c.requires.up there low (le_refl (m + 1)) within counted in
+    let parted = part_ready (m + 1) (G.serves k.vault) serves (record k { sessions = counted_in k.sessions turn r }) t l did.part b N.vault (m + 1) c.in-Ok.ensures.looked.1 c.requires.up there low (le_refl (m + 1)) within counted in
     subst (λ (y : Sessions). IsReady (m + 1) (G.serves M.vault) (record M { sessions = y })) (sym c.count.ensures)
-    (subst (λ (y : ServerState _). IsReady (m + 1) (G.serves y.vault) (record y { sessions = counted_in y.sessions turn })) (sym kept_is)
-    (granted_ready (m + 1) serves (record k { sessions = counted_in k.sessions turn; lives = map.insert k.lives t now; vault = N.vault }) (plan_of k.locks t (asks_given (next_file k) call r)) (count_after k.given r)
+    (subst (λ (y : ServerState _). IsReady (m + 1) (G.serves y.vault) (record y { sessions = counted_in y.sessions turn r })) (sym kept_is)
+    (granted_ready (m + 1) serves (record k { sessions = counted_in k.sessions turn r; lives = map.insert k.lives t now; vault = N.vault }) (plan_of k.locks t (asks_given (next_file k) call r)) (count_after k.given r)
     (count_grows k.given r) fewer refl (free_given m (G.serves k.vault) k t call r h free_asked) (λ high_id high. given_below k.server k.epoch k.given high_id call r of_file high) parted))
     ))
-    (λ on. subst (λ (y : Answer). HasTurned k (record M { sessions = c.count.new.self }) (event.Call turn.client k.epoch turn.number call) y.kept) (sym is)
-    (counts_on k (record M { sessions = c.count.new.self }) turn c.requires.turn call r (file_call_greets_none call t c.requires.named)
-    (answered_inside (G.tells k.vault) (G.held k.vault).cells l.part did.part l.who (next_file k) call did.room r did.outcome)
+    (λ on. subst (λ (y : Answer). HasTurned (Some order.Next) k (record M { sessions = c.count.new.self }) (event.Call turn.client k.epoch turn.number call) y.kept) (sym is)
+    (counts_on k (record M { sessions = c.count.new.self }) turn c.requires.turn call r keeps.inside
     (let clock : M.clock ≡ k.clock = ap (λ (y : ServerState _). y.clock) kept_is in omega (arith, clock))
-    (answered_tells M.clock (G.tells k.vault) (G.held k.vault).cells l.part did.part l.who (next_file k) call did.room r did.outcome)
-    (c.count.ensures ∙ ap (λ (y : ServerState _). counted_in y.sessions turn) kept_is)))
+    (subst (λ (y : ServerState _). TellsUpTo y.clock r) (sym kept_is) keeps.times)
+    (c.count.ensures ∙ ap (λ (y : ServerState _). counted_in y.sessions turn r) kept_is)))
 
 pub returns-in_err-answer : goal.returns-in_err-answer
 returns-in_err-answer g c =

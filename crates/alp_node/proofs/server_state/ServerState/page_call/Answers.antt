@@ -1,20 +1,20 @@
 use Rattle.std.specs.Prelude.{Some, Ok}
 use Rattle.std.specs.FinMap as map
-use Rattle.std.proofs.Common.{◌≡◌, ◌+◌, ◌≤◌, List, [], le_refl, arith, sym, ap, ◌∙◌, subst}
-use Rattle.alp_journal.specs.declared.act.Act.{Act}
+use Rattle.std.proofs.Common.{◌≡◌, ◌+◌, ◌≤◌, [], le_refl, arith, sym, ap, ◌∙◌, subst}
 use Rattle.alp_journal.specs.declared.event.Event.TheVariants as event
 use Rattle.alp_node.specs.Calls.{next_file}
 use Rattle.alp_node.specs.Rooms.{locks_given}
 use Rattle.alp_node.specs.ServerState.{IsReady}
-use Rattle.alp_node.specs.Steps.{Stepped, IsOf, counted_in}
+use Rattle.alp_node.specs.Steps.{Stepped, IsOf, counted_in, told_answer}
+use Rattle.alp_node.specs.declared.sessions.CallOrder.TheVariants as order
 use Rattle.alp_node.specs.declared.lives.Live.{Live}
 use Rattle.alp_node.specs.declared.server_state.ServerState.{ServerState}
 use Rattle.alp_node.specs.declared.sessions.Sessions.{Sessions}
-use Rattle.alp_node.specs.Turns.{HasTurned}
+use Rattle.alp_node.specs.Turns.{TellsUpTo, IsKeepable, HasTurned}
 use Rattle.alp_node.specs.declared.answer.Answer.{Answer}
-use Rattle.alp_node.proofs.TurnLemmas.{counts_on, file_call_greets_none}
+use Rattle.alp_node.proofs.TurnLemmas.{counts_on}
 use Rattle.alp_node.proofs.CallLemmas.{unseen}
-use Rattle.alp_node.proofs.CountedLemmas.{answered_quiet, answered_inside, answered_tells}
+use Rattle.alp_node.proofs.CountedLemmas.{answered_quiet, answered_keeps}
 use Rattle.alp_node.proofs.GivenLemmas.{counts_none, reply_given, wanting}
 use Rattle.alp_node.proofs.LookLemmas.{answered_told, room_told, locks_read, locks_still, part_ready, looked_still, without_step}
 use Rattle.alp_node.proofs.PerformLemmas.{page_built, page_shaped, page_stepped}
@@ -51,34 +51,33 @@ returns-in_ok-answer-in-Ok g c =
     let own : l.client ≡ turn.client = subst (IsOf turn.client) there c.requires.own in
     let did = c.in-Ok.ensures.performed l there in
     let left = c.in-Ok.ensures.looked.0 in
-    let is : x ≡ record { kept = Some r; handed = Some r; acts = [] } =
-    c.in_ok-answer-in-Ok.ensures.ok ∙ ap (λ (acts : List Act). record { kept = Some r; handed = Some r; acts = acts }) (c.new-in-Ok.ensures ∙ c.new.ensures.items) in
+    let keeps : IsKeepable k.clock r = answered_keeps k.clock (G.tells k.vault) (G.held k.vault).cells l.part did.part l.who _ c.args.call.now did.room r did.outcome in
+    let is : x ≡ told_answer (Some r) [] = c.in_ok-answer-in-Ok.ensures.ok ∙ ap (told_answer (Some r)) (c.new-in-Ok.ensures ∙ c.new.ensures.items) in
     left_step G k (record N { sessions = c.count.new.self }) (ap (λ (y : ServerState _). y.server) did.kept) (ap (λ (y : ServerState _). y.sizes) did.kept) (ap (λ (y : ServerState _). y.epoch) did.kept) left (event.Call turn.client k.epoch turn.number c.args.call.now) x c.requires.up
     (λ told a h. (
     let e = event.Call turn.client k.epoch turn.number c.args.call.now in
     subst (λ (y : Sessions). Stepped a (G.faults k.vault) (G.faults N.vault) (G.held N.vault) (record N { sessions = y }) e x) (sym c.count.ensures)
-    (subst (λ (y : ServerState _). Stepped a (G.faults k.vault) (G.faults N.vault) (G.held N.vault) (record y { sessions = counted_in y.sessions turn }) e x) (sym did.kept)
+    (subst (λ (y : ServerState _). Stepped a (G.faults k.vault) (G.faults N.vault) (G.held N.vault) (record y { sessions = counted_in y.sessions turn r }) e x) (sym did.kept)
     (page_stepped a (G.faults k.vault) (G.faults N.vault) (G.held k.vault) k turn t l did.part c.args.call.now did.room r _ N.vault x (G.held N.vault) h c.requires.up left.contents c.requires.turn there own c.requires.page
     (c.requires.shape l there) c.requires.named c.requires.formed (answered_told (G.tells k.vault) (G.held k.vault).cells l did.part _ c.args.call.now did.room r told did.outcome) (room_told (G.tells k.vault) (G.held k.vault).cells k l.locks did.room told did.left)
     (c.requires.ready.2.within t l there) (locks_still l.locks (Ok r)) is))
     ))
     (reply_given k.server (G.faults k.vault) (G.faults N.vault) (G.allowance N.vault) N.is_down r [] x is
-    (counts_none k.server (G.faults k.vault) (G.faults N.vault) N.is_down (Some r) (answered_quiet k.server (G.tells k.vault) (G.held k.vault).cells l.part did.part l.who _ c.args.call.now did.room r did.outcome) c.in-Ok.ensures.looked.2)
+    (counts_none k.server (G.faults k.vault) (G.faults N.vault) N.is_down (Some r) (answered_quiet k.server (G.tells k.vault) (G.held k.vault).cells l.part did.part l.who _ c.args.call.now did.room r did.outcome) c.in-Ok.ensures.looked.2 (ap (λ (y : ServerState _). y.is_down) did.kept ∙ c.requires.up))
     (ap (λ (y : ServerState _). y.is_down) did.kept ∙ c.requires.up) tt)
     (λ n h. (
     let low : did.part.last ≤ n + 1 = (let was : l.part.last ≤ n = h.opens t l there in omega (arith, did.outcome.last)) in
     subst (λ (y : Sessions). IsReady (n + 1) (G.serves N.vault) (record N { sessions = y })) (sym c.count.ensures)
-    (subst (λ (y : ServerState _). IsReady (n + 1) (G.serves N.vault) (record y { sessions = counted_in y.sessions turn })) (sym did.kept)
-    (part_ready (n + 1) (G.serves k.vault) (G.serves N.vault) (record k { sessions = counted_in k.sessions turn }) t l did.part (locks_given l.locks (record { asked = l.locks; made = l.locks }) (Ok r)) N.vault (n + 1) c.in-Ok.ensures.looked.1 c.requires.up there low (le_refl (n + 1))
+    (subst (λ (y : ServerState _). IsReady (n + 1) (G.serves N.vault) (record y { sessions = counted_in y.sessions turn r })) (sym did.kept)
+    (part_ready (n + 1) (G.serves k.vault) (G.serves N.vault) (record k { sessions = counted_in k.sessions turn r }) t l did.part (locks_given l.locks (record { asked = l.locks; made = l.locks }) (Ok r)) N.vault (n + 1) c.in-Ok.ensures.looked.1 c.requires.up there low (le_refl (n + 1))
     (within_then (G.tells k.vault) (G.held k.vault).cells (next_file k) k.sizes l did.part c.args.call.now (record { asked = l.locks; made = l.locks }) did.room (Ok r) did.sound (still_lock k.sizes l (h.within t l there)) did.left.area did.left.held did.outcome)
-    (counted_ready n (G.serves k.vault) k turn c.requires.turn h)))
+    (counted_ready n (G.serves k.vault) k turn r c.requires.turn keeps h)))
     ))
-    (λ on. subst (λ (y : Answer). HasTurned k (record N { sessions = c.count.new.self }) (event.Call turn.client k.epoch turn.number c.args.call.now) y.kept) (sym is)
-    (counts_on k (record N { sessions = c.count.new.self }) turn c.requires.turn c.args.call.now r (file_call_greets_none c.args.call.now t c.requires.named)
-    (answered_inside (G.tells k.vault) (G.held k.vault).cells l.part did.part l.who _ c.args.call.now did.room r did.outcome)
+    (λ on. subst (λ (y : Answer). HasTurned (Some order.Next) k (record N { sessions = c.count.new.self }) (event.Call turn.client k.epoch turn.number c.args.call.now) y.kept) (sym is)
+    (counts_on k (record N { sessions = c.count.new.self }) turn c.requires.turn c.args.call.now r keeps.inside
     (let clock : N.clock ≡ k.clock = ap (λ (y : ServerState _). y.clock) did.kept in omega (arith, clock))
-    (answered_tells N.clock (G.tells k.vault) (G.held k.vault).cells l.part did.part l.who _ c.args.call.now did.room r did.outcome)
-    (c.count.ensures ∙ ap (λ (y : ServerState _). counted_in y.sessions turn) did.kept)))
+    (subst (λ (y : ServerState _). TellsUpTo y.clock r) (sym did.kept) keeps.times)
+    (c.count.ensures ∙ ap (λ (y : ServerState _). counted_in y.sessions turn r) did.kept)))
 
 pub returns-in_err-answer-in-Ok : goal.returns-in_err-answer-in-Ok
 returns-in_err-answer-in-Ok g c =

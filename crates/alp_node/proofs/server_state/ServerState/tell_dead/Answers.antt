@@ -20,12 +20,12 @@ returns g c =
     let turn = c.args.turn.now in
     let G = g.V.Vault in
     let faults = G.faults k.vault in
-    let after : ServerState g.row.V.Denot = record k { sessions = counted_in k.sessions turn; dead = without_part turn.client c.args.trans k.dead } in
-    let same : c.refuse.new.self ≡ after = c.refuse.ensures.kept ∙ ap (λ ds. record k { sessions = counted_in k.sessions turn; dead = ds }) c.remove.ensures in
+    let after : ServerState g.row.V.Denot = record k { sessions = counted_in k.sessions turn (reply.Refused (refusal.Aborted cause.TimedOut)); dead = without_part turn.client c.args.trans k.dead } in
+    let same : c.refuse.new.self ≡ after = c.refuse.ensures.kept ∙ ap (λ ds. record k { sessions = counted_in k.sessions turn (reply.Refused (refusal.Aborted cause.TimedOut)); dead = ds }) c.remove.ensures in
     plain_step G k c.refuse.new.self turn (call.Finish c.args.trans c.args.commit) c.refuse.result (reply.Refused (refusal.Aborted cause.TimedOut)) [] (ap (λ (y : ServerState _). y.vault) same) (ap (λ (y : ServerState _). y.server) same)
     (ap (λ (y : ServerState _). y.sizes) same) (ap (λ (y : ServerState _). y.epoch) same) c.requires.up (ap (λ (y : ServerState _). y.is_down) same ∙ c.requires.up) refl c.refuse.ensures.answer refl (λ m n b. tt)
     (λ n h. subst (λ (y : ServerState _). IsReady (n + 1) (G.serves k.vault) y) (sym same)
-    (buried_ready (n + 1) (G.serves k.vault) (record k { sessions = counted_in k.sessions turn }) (without_part turn.client c.args.trans k.dead) (counted_ready n (G.serves k.vault) k turn c.requires.turn h)))
+    (buried_ready (n + 1) (G.serves k.vault) (record k { sessions = counted_in k.sessions turn (reply.Refused (refusal.Aborted cause.TimedOut)) }) (without_part turn.client c.args.trans k.dead) (counted_ready n (G.serves k.vault) k turn (reply.Refused (refusal.Aborted cause.TimedOut)) c.requires.turn (record { inside = tt; times = tt }) h)))
     (λ told a h. subst (λ (y : ServerState _). Stepped a faults faults (G.held k.vault) y (event.Call turn.client k.epoch turn.number (call.Finish c.args.trans c.args.commit)) c.refuse.result) (sym same)
     (dead_stepped a faults faults (G.held k.vault) k turn c.args.trans c.args.commit c.refuse.result h c.requires.turn c.requires.up c.requires.here c.requires.dead c.refuse.ensures.answer))
-    (counts_refused k c.refuse.new.self turn c.requires.turn (call.Finish c.args.trans c.args.commit) (refusal.Aborted cause.TimedOut) refl tt (ap (λ (y : ServerState _). y.clock) same) (ap (λ (y : ServerState _). y.sessions) same))
+    (counts_refused k c.refuse.new.self turn c.requires.turn (call.Finish c.args.trans c.args.commit) (refusal.Aborted cause.TimedOut) tt (ap (λ (y : ServerState _). y.clock) same) (ap (λ (y : ServerState _). y.sessions) same))
