@@ -1,151 +1,203 @@
--- what holds of the counts of a part: as it puts cells, as others are committed, and as it is committed itself
-use Rattle.std.specs.Prelude.{cond, Bool, true, false, not, ◌||◌, is_some, sum_by, map as list_map}
-use Rattle.std.specs.List.{list_all, filter_map}
+-- what holds of the counts of a part: as it begins, as others are committed, and as it is committed itself
+use Rattle.std.specs.Prelude.{cond, Bool, true, false, not, ◌||◌, IsTrue, is_some, is_none, sum_by, Option, None, Some, map as list_map}
+use Rattle.std.specs.List.{list_any, filter_map}
 use Rattle.std.specs.FinMap as map
-use Rattle.std.specs.FinMap.{len-insert}
-use Rattle.std.proofs.Common.{◌≡◌, ℕ, ◌+◌, List, [], ◌∷◌, ◌++◌, length, refl, sym, ◌∙◌, ap, arith}
+use Rattle.std.specs.FinMap.{contains_key-keys, get-empty, get-insert, len-empty}
+use Rattle.std.specs.Ordering.{eq_by_cmp}
+use Rattle.std.proofs.Common.{◌≡◌, ℕ, ◌+◌, List, [], ◌∷◌, ◌++◌, length, refl, sym, ◌∙◌, ap, subst, arith}
 use Rattle.std.proofs.lemmas.List.Sums.{sum_by-cons}
 use Rattle.alp_base.specs.declared.key.Key.{Key}
 use Rattle.alp_base.specs.declared.key.Key.TheVariants.{Leader, PageOf, OwnerOf}
-use Rattle.alp_base.specs.KeyLaws.{keys_total}
+use Rattle.alp_base.specs.Keys.{key_cmp}
+use Rattle.alp_base.specs.KeyLaws.{file_cmp, keys_total}
 use Rattle.alp_files.specs.declared.cell.Cell.{Cell}
 use Rattle.alp_files.specs.Cells.{Cells}
-use Rattle.alp_files.specs.Counts.{files_at, places_at, name_at, block_of, file_count_of, owner_count_of}
-use Rattle.alp_files.specs.Edits.{Edit, Put, edits_map}
-use Rattle.alp_files.specs.Needs.{changed, is_put, made_of, need_of, is_leader, is_owner}
-use Rattle.alp_files.proofs.HistoryLemmas.{edits_map-append}
-use Rattle.alp_vault.specs.Counted.{places_with}
-use Rattle.alp_trans.specs.Counting.{AreCountsOf, no_counts, counts_with, has_block, is_first, owners_at, sight}
-use Rattle.alp_trans.specs.Frames.{DoAgreeNear}
+use Rattle.alp_files.specs.Counts.{used_of, files_at, name_at, file_count_of, owner_count_of}
+use Rattle.alp_files.specs.Edits.{Edit, Drop, Cut, Put, is_in_file, is_past, edit_at, edit_map, edits_map}
+use Rattle.alp_files.specs.Needs.{Intents, no_intents, intents_from, intents_of, is_gone, changed, changed_by, left_of, need_of, freed_of, made_of, lost_of, missing_in, is_leader, is_owner}
+use Rattle.alp_files.specs.Undo.{puts_of}
+use Rattle.alp_files.proofs.HistoryLemmas.{get-edit_map}
+use Rattle.alp_files.proofs.IntentLemmas.{intents_from-append, puts_from, puts_alone}
+use Rattle.alp_files.proofs.SameLemmas.{same_key-true, same_key-itself}
+use Rattle.alp_trans.specs.Counting.{AreCountsOf, no_counts, counts_by, left_by, with_intents}
+use Rattle.alp_trans.specs.Frames.{is_near, touches, DoAgreeNear}
 use Rattle.alp_trans.specs.declared.counts.Counts.{Counts}
-use Rattle.alp_trans.specs.declared.counts.Sight.TheVariants as sights
-use Rattle.alp_calls.proofs.ChangedLemmas.{changed_len}
-use Rattle.alp_calls.proofs.FrameLemmas.{same_need, same_made}
-use Rattle.alp_calls.proofs.NeedLemmas.{need_put, made_put, made_sum, none_made, total_after}
-use Rattle.alp_calls.proofs.PutLemmas.{alone_both, seen_at, some_or}
+use Rattle.alp_calls.specs.Sights.{IsRaised, IsTurned}
+use Rattle.alp_calls.proofs.FrameLemmas.{used_along, made_along}
+use Rattle.alp_calls.proofs.GoneLemmas.{bare}
+use Rattle.alp_calls.proofs.IntentCounts.{get-left, left_less, none_left, same_counts, counted_by, are_counts, files_of, with_all, left_all}
+use Rattle.alp_calls.proofs.MissingLemmas.{count_in, differ}
+use Rattle.alp_calls.proofs.NeedLemmas.{made_sum, none_made, used_kept}
 
 -- ---- a part that did nothing
 
 pub counts_begin : (m : Cells) → AreCountsOf m [] no_counts
-counts_begin m = record {
-  cells = refl;
-  places = omega arith;
-  files = sym (made_sum is_leader m [] ∙ none_made is_leader m);
-  owners = sym (made_sum is_owner m [] ∙ none_made is_owner m);
-}
+counts_begin m = are_counts m [] no_counts (sym (bare no_intents m refl ∙ same_counts _ no_counts (omega (arith, len-empty file_cmp (Unit {0}), len-empty file_cmp ℕ)) refl refl refl))
 
--- ---- one put more
+-- ---- a call goes on
 
--- a leader is a file, and an owner's key an owner
-files_of : (q : Key) → files_at q ≡ cond {A = ℕ} (is_leader q) 1 0
-files_of (Leader f) = refl
-files_of (PageOf f n) = refl
-files_of (OwnerOf name) = refl
+-- what goes is counted, and then what is put
+pub counted_after : (tells : Bool) (held : Cells) (i : Intents) (gone puts : List Edit) (start mid n : Counts) → IsTurned tells held i (intents_from i gone) start mid
+    → IsRaised tells held (intents_from i gone) (intents_from (intents_from i gone) puts) mid n → IsTurned tells held i (intents_from i (gone ++ puts)) start n
+counted_after tells held i gone puts start mid n turned raised = subst (λ (x : Intents). IsTurned tells held i x start n) (sym (intents_from-append i gone puts)) (record {
+  cells = cells;
+  few = raised.few;
+  counts = λ told is.
+      let same : mid ≡ counts_by held (intents_from i gone) = turned.counts told is in
+      let places : mid.places ≡ (counts_by held (intents_from i gone)).places = ap (λ (x : Counts). x.places) same in
+      let files : mid.files ≡ (counts_by held (intents_from i gone)).files = ap (λ (x : Counts). x.files) same in
+      let owners : mid.owners ≡ (counts_by held (intents_from i gone)).owners = ap (λ (x : Counts). x.owners) same in
+      same_counts n (counts_by held (intents_from (intents_from i gone) puts)) cells
+      (omega (arith, raised.places told, places)) (omega (arith, raised.files told, files)) (omega (arith, raised.owners told, owners));
+})
+  where
+    cells : n.cells ≡ changed_by (intents_from (intents_from i gone) puts)
+    cells = omega (arith, turned.cells, raised.cells)
 
-owners_of : (q : Key) → owners_at q ≡ cond {A = ℕ} (is_owner q) 1 0
-owners_of (Leader f) = refl
-owners_of (PageOf f n) = refl
-owners_of (OwnerOf name) = refl
-
-module _ (m : Cells) (es : List Edit) (k : Key) (c : Cell) (alone : list_all is_put es ≡ true) where
-  abbrev own : Cells
-  own = edits_map es map.empty
-
-  abbrev seen : Cells
-  seen = edits_map es m
-
-  abbrev more : List Edit
-  more = es ++ Put k c ∷ []
-
-  cells_put : changed more ≡ cond {A = ℕ} (map.contains_key own k) (changed es) (changed es + 1)
-  cells_put =
-      changed_len more (alone_both es (Put k c ∷ []) alone refl) ∙ ap map.len (edits_map-append es (Put k c ∷ []) map.empty) ∙ len-insert keys_total own k c
-      ∙ ap (λ (n : ℕ). cond {A = ℕ} (map.contains_key own k) n (n + 1)) (sym (changed_len es alone))
-
-  -- what it put it sees
-  own_seen : map.contains_key seen k ≡ (map.contains_key own k || map.contains_key m k)
-  own_seen = ap is_some (seen_at es alone m k) ∙ some_or (map.get own k) (map.get m k)
-
-  places_of : (x : Cells) (q : Key) (b : Bool) → is_first x q ≡ b → places_with x q ≡ places_at q + cond {A = ℕ} b 1 0
-  places_of x (Leader f) false e = omega arith
-  places_of x (Leader f) true e = cc
-  places_of x (OwnerOf name) false e = omega arith
-  places_of x (OwnerOf name) true e = cc
-  places_of x (PageOf f n) b e = go (has_block x (block_of f n)) b e
-    where
-      go : (h b : Bool) → not h ≡ b → cond {A = ℕ} h 1 2 ≡ 1 + cond {A = ℕ} b 1 0
-      go true true e = cc
-      go true false e = omega arith
-      go false true e = omega arith
-      go false false e = cc
-
-  -- with what it sees there
-  by_sight : (n : Counts) → AreCountsOf m es n → (a b d : Bool) → map.contains_key own k ≡ a → map.contains_key seen k ≡ b → is_first seen k ≡ d
-      → AreCountsOf m more (counts_with n k (cond a sights.Put (cond b sights.Stands (cond d sights.First sights.Beside))))
-  by_sight n h a b d is_own is_seen is_first =
-      go a b d is_own
-      (cells_put ∙ ap (λ (t : Bool). cond {A = ℕ} t (changed es) (changed es + 1)) is_own)
-      (need_put m es k c alone ∙ ap (λ (t : Bool). need_of m es + cond {A = ℕ} t 0 (places_with seen k)) is_seen)
-      (made_put is_leader m es k c alone ∙ ap (λ (t : Bool). made_of is_leader m es + cond {A = ℕ} t 0 (cond {A = ℕ} (is_leader k) 1 0)) is_seen)
-      (made_put is_owner m es k c alone ∙ ap (λ (t : Bool). made_of is_owner m es + cond {A = ℕ} t 0 (cond {A = ℕ} (is_owner k) 1 0)) is_seen)
-      (places_of seen k d is_first)
-      (sym is_seen ∙ own_seen ∙ ap (λ (t : Bool). t || map.contains_key m k) is_own)
-    where
-      go : (a b d : Bool) → map.contains_key own k ≡ a → changed more ≡ cond {A = ℕ} a (changed es) (changed es + 1) → need_of m more ≡ need_of m es + cond {A = ℕ} b 0 (places_with seen k)
-          → made_of is_leader m more ≡ made_of is_leader m es + cond {A = ℕ} b 0 (cond {A = ℕ} (is_leader k) 1 0)
-          → made_of is_owner m more ≡ made_of is_owner m es + cond {A = ℕ} b 0 (cond {A = ℕ} (is_owner k) 1 0)
-          → places_with seen k ≡ places_at k + cond {A = ℕ} d 1 0 → b ≡ (a || map.contains_key m k)
-          → AreCountsOf m more (counts_with n k (cond a sights.Put (cond b sights.Stands (cond d sights.First sights.Beside))))
-      go true true d e cells places files owners place there = record {
-        cells = omega (arith, h.cells, cells);
-        places = omega (arith, h.places, places);
-        files = omega (arith, h.files, files);
-        owners = omega (arith, h.owners, owners);
-      }
-      go true false d e cells places files owners place there = cc
-      go false true d e cells places files owners place there = record {
-        cells = omega (arith, h.cells, cells);
-        places = omega (arith, h.places, places);
-        files = omega (arith, h.files, files);
-        owners = omega (arith, h.owners, owners);
-      }
-      go false false true e cells places files owners place there = record {
-        cells = omega (arith, h.cells, cells);
-        places = omega (arith, h.places, places, place);
-        files = omega (arith, h.files, files, files_of k);
-        owners = omega (arith, h.owners, owners, owners_of k);
-      }
-      go false false false e cells places files owners place there = record {
-        cells = omega (arith, h.cells, cells);
-        places = omega (arith, h.places, places, place);
-        files = omega (arith, h.files, files, files_of k);
-        owners = omega (arith, h.owners, owners, owners_of k);
-      }
-
-  pub counts_put : (n : Counts) → AreCountsOf m es n → AreCountsOf m more (counts_with n k (sight own seen k))
-  counts_put n h = by_sight n h (map.contains_key own k) (map.contains_key seen k) (is_first seen k) refl refl refl
+-- counts that were those of a part are those of it with the edits of the call
+pub counts_from : (tells : Bool) (held : Cells) (i : Intents) (es fs : List Edit) (start n : Counts) → IsTurned tells held i (intents_from i fs) start n
+    → IsTrue tells → i ≡ intents_of es → AreCountsOf held es start → AreCountsOf held (es ++ fs) n
+counts_from tells held i es fs start n h told is are =
+    are_counts held (es ++ fs) n
+    (h.counts told (counted_by held es start are ∙ ap (counts_by held) (sym is))
+    ∙ ap (λ (x : Intents). counts_by held (intents_from x fs)) is ∙ ap (counts_by held) (sym (intents_from-append no_intents es fs)))
 
 -- ---- others are committed
 
-pub counts_stay : (m n : Cells) (es : List Edit) (c : Counts) → list_all is_put es ≡ true → DoAgreeNear es m n → AreCountsOf m es c → AreCountsOf n es c
-counts_stay m n es c alone agree h = record {
-  cells = h.cells;
-  places = h.places ∙ sym (same_need m n es alone agree);
-  files = h.files ∙ sym (same_made is_leader m n es alone agree);
-  owners = h.owners ∙ sym (same_made is_owner m n es alone agree);
-}
+or_left : (a b : Bool) → a ≡ true → (a || b) ≡ true
+or_left true b h = refl
+or_left false b h = cc
+
+or_right : (a b : Bool) → b ≡ true → (a || b) ≡ true
+or_right true b h = refl
+or_right false b h = h
+
+-- a key that is put near this one
+record NearPut (ks : List Key) (q : Key) : Type 0 where
+  key : Key
+  there : list_any (eq_by_cmp key_cmp key) ks ≡ true
+  near : is_near key q ≡ true
+
+near_put : (puts : List (Key × Cell)) (q : Key) → touches (puts_of puts) q ≡ true → NearPut (list_map (λ (e : Key × Cell). e.0) puts) q
+near_put [] q h = cc
+near_put (e ∷ puts) q h = go (is_near e.0 q) refl h (near_put puts q)
+  where
+    go : (b : Bool) → is_near e.0 q ≡ b → (b || touches (puts_of puts) q) ≡ true → (touches (puts_of puts) q ≡ true → NearPut (list_map (λ (x : Key × Cell). x.0) puts) q)
+        → NearPut (e.0 ∷ list_map (λ (x : Key × Cell). x.0) puts) q
+    go true near any rest = record { key = e.0; there = or_left (eq_by_cmp key_cmp e.0 e.0) _ (same_key-itself e.0); near = near }
+    go false near any rest = let r = rest any in record { key = r.key; there = or_right (eq_by_cmp key_cmp r.key e.0) _ r.there; near = r.near }
+
+-- what edits put and was not there is near them
+put_near : (es : List Edit) (x : Cells) (k q : Key) → map.contains_key (edits_map es x) k ≡ true → map.contains_key x k ≡ false → is_near k q ≡ true → touches es q ≡ true
+put_near [] x k q there none near = let wrong : true ≡ false = sym there ∙ none in cc
+put_near (Put j c ∷ es) x k q there none near = go (eq_by_cmp key_cmp k j) refl (put_near es (map.insert x j c) k q there)
+  where
+    go : (b : Bool) → eq_by_cmp key_cmp k j ≡ b → (map.contains_key (map.insert x j c) k ≡ false → is_near k q ≡ true → touches es q ≡ true) → (is_near j q || touches es q) ≡ true
+    go true h rest = or_left (is_near j q) (touches es q) (ap (λ (y : Key). is_near y q) (sym (same_key-true k j h)) ∙ near)
+    go false h rest = or_right (is_near j q) (touches es q) (rest (ap is_some (get-insert keys_total x j c k ∙ ap (λ (b : Bool). cond b (Some c) (map.get x k)) h) ∙ none) near)
+put_near (Drop f ∷ es) x k q there none near =
+    or_right (is_in_file f q) (touches es q) (put_near es (edit_map (Drop f) x) k q there (ap is_some (get-edit_map (Drop f) x k) ∙ go (is_in_file f k) (map.get x k) none) near)
+  where
+    go : (b : Bool) (o : Option Cell) → is_some o ≡ false → is_some (cond b None o) ≡ false
+    go true o h = refl
+    go false o h = h
+put_near (Cut f n ∷ es) x k q there none near =
+    or_right (is_in_file f q) (touches es q) (put_near es (edit_map (Cut f n) x) k q there (ap is_some (get-edit_map (Cut f n) x k) ∙ go (is_past f n k) (map.get x k) none) near)
+  where
+    go : (b : Bool) (o : Option Cell) → is_some o ≡ false → is_some (cond b None o) ≡ false
+    go true o h = refl
+    go false o h = h
+
+-- what a part's puts are near its edits are near
+puts_touch : (es : List Edit) (q : Key) → touches (puts_of (map.entries (intents_of es).puts)) q ≡ true → touches es q ≡ true
+puts_touch es q h =
+    let n : NearPut (map.keys (intents_of es).puts) q = near_put (map.entries (intents_of es).puts) q h in
+    put_near es map.empty n.key q
+    (ap (λ (x : Cells). map.contains_key x n.key) (sym (puts_from no_intents es)) ∙ contains_key-keys (intents_of es).puts n.key ∙ n.there)
+    (ap is_some (get-empty {X = Cell} key_cmp n.key)) n.near
+
+module _ (m n : Cells) (es : List Edit) (agree : DoAgreeNear es m n) where
+  abbrev mine : Intents
+  mine = intents_of es
+
+  abbrev put : List Edit
+  put = puts_of (map.entries mine.puts)
+
+  agree_left : DoAgreeNear put (left_by mine m) (left_by mine n)
+  agree_left q near = get-left mine m q ∙ ap (λ (o : Option Cell). cond (is_gone mine q) None o) (agree q (puts_touch es q near)) ∙ sym (get-left mine n q)
+
+  agree_put : DoAgreeNear put m n
+  agree_put q near = agree q (puts_touch es q near)
+
+  used_same : used_of (with_intents mine m) + used_of (left_by mine n) ≡ used_of (with_intents mine n) + used_of (left_by mine m)
+  used_same = used_along put (left_by mine m) (left_by mine n) (puts_alone (map.entries mine.puts)) agree_left
+
+  made_same : (p : Key → Bool) → missing_in p m (with_intents mine m) ≡ missing_in p n (with_intents mine n)
+  made_same p = omega (
+    arith,
+    made_along p m n put (left_by mine m) (left_by mine n) (puts_alone (map.entries mine.puts)) agree_left agree_put,
+    none_left mine m p,
+    none_left mine n p,
+    made_sum p m (with_intents mine m),
+    made_sum p n (with_intents mine n),
+  )
+
+  counts_same : counts_by m mine ≡ counts_by n mine
+  counts_same = same_counts (counts_by m mine) (counts_by n mine) refl (omega (arith, used_same, left_less mine m, left_less mine n)) (made_same is_leader) (made_same is_owner)
+
+pub counts_stay : (m n : Cells) (es : List Edit) (c : Counts) → DoAgreeNear es m n → AreCountsOf m es c → AreCountsOf n es c
+counts_stay m n es c agree h = are_counts n es c (counted_by m es c h ∙ counts_same m n es agree)
 
 -- ---- the part is committed
 
-pub files_after : (m : Cells) (es : List Edit) → list_all is_put es ≡ true → file_count_of (edits_map es m) ≡ file_count_of m + made_of is_leader m es
-files_after m es alone = total_after files_at is_leader files_of m es alone
+pub changed_after : (es : List Edit) → changed es ≡ map.len (intents_of es).drops + map.len (intents_of es).cuts + map.len (edits_map es map.empty)
+changed_after es = ap (λ (x : Cells). map.len (intents_of es).drops + map.len (intents_of es).cuts + map.len x) (puts_from no_intents es)
+
+pub used_after : (m : Cells) (es : List Edit) → used_of (edits_map es m) + freed_of m es ≡ used_of m + need_of m es
+used_after m es =
+    let all : used_of (with_intents (intents_of es) m) ≡ used_of (edits_map es m) = ap used_of (with_all es m) in
+    let left : used_of (left_by (intents_of es) m) ≡ used_of (left_of m es) = ap used_of (left_all es m) in
+    omega (arith, all, left, left_less (intents_of es) m, used_kept m (λ k. not (is_gone (intents_of es) k)))
+
+files_count : (x : Cells) → file_count_of x ≡ count_in is_leader x
+files_count x = go (map.entries x)
+  where
+    go : (es : List (Key × Cell)) → sum_by (λ (e : Key × Cell). files_at e.0) es ≡ sum_by (λ (e : Key × Cell). cond {A = ℕ} (is_leader e.0) 1 0) es
+    go [] = refl
+    go (e ∷ es) = omega (arith, go es, files_of e.0, sum_by-cons (λ (x : Key × Cell). files_at x.0) e es, sum_by-cons (λ (x : Key × Cell). cond {A = ℕ} (is_leader x.0) 1 0) e es)
+
+pub files_after : (m : Cells) (es : List Edit) → file_count_of (edits_map es m) + lost_of is_leader m es ≡ file_count_of m + made_of is_leader m es
+files_after m es = omega (arith, differ is_leader m (edits_map es m), files_count m, files_count (edits_map es m))
 
 -- owners, as a sum
-names_sum : (es : List (Key × Cell)) → length (filter_map name_at (list_map (λ e. e.0) es)) ≡ sum_by (λ (e : Key × Cell). owners_at e.0) es
+names_sum : (es : List (Key × Cell)) → length (filter_map name_at (list_map (λ e. e.0) es)) ≡ sum_by (λ (e : Key × Cell). cond {A = ℕ} (is_owner e.0) 1 0) es
 names_sum [] = refl
 names_sum ((Leader f, c) ∷ es) = omega (arith, names_sum es)
 names_sum ((PageOf f n, c) ∷ es) = omega (arith, names_sum es)
-names_sum ((OwnerOf o, c) ∷ es) = omega (arith, names_sum es, sum_by-cons (λ (e : Key × Cell). owners_at e.0) (OwnerOf o, c) es)
+names_sum ((OwnerOf o, c) ∷ es) = omega (arith, names_sum es, sum_by-cons (λ (e : Key × Cell). cond {A = ℕ} (is_owner e.0) 1 0) (OwnerOf o, c) es)
 
-pub owners_after : (m : Cells) (es : List Edit) → list_all is_put es ≡ true → owner_count_of (edits_map es m) ≡ owner_count_of m + made_of is_owner m es
-owners_after m es alone = omega (arith, names_sum (map.entries (edits_map es m)), names_sum (map.entries m), total_after owners_at is_owner owners_of m es alone)
+-- no owner goes
+owner_stays : (es : List Edit) (m : Cells) (q : Key) → is_owner q ≡ true → map.contains_key m q ≡ true → map.contains_key (edits_map es m) q ≡ true
+owner_stays es m (Leader f) is there = cc
+owner_stays es m (PageOf f n) is there = cc
+owner_stays [] m (OwnerOf name) is there = there
+owner_stays (e ∷ es) m (OwnerOf name) is there = owner_stays es (edit_map e m) (OwnerOf name) is (ap is_some (get-edit_map e m (OwnerOf name)) ∙ go e)
+  where
+    put : (b : Bool) (c : Cell) (o : Option Cell) → is_some o ≡ true → is_some (cond b (Some c) o) ≡ true
+    put true c o h = refl
+    put false c o h = h
+
+    go : (e : Edit) → is_some (edit_at e (OwnerOf name) (map.get m (OwnerOf name))) ≡ true
+    go (Drop f) = there
+    go (Cut f n) = there
+    go (Put k c) = put (eq_by_cmp key_cmp (OwnerOf name) k) c (map.get m (OwnerOf name)) there
+
+none_lost : (m : Cells) (es : List Edit) → lost_of is_owner m es ≡ 0
+none_lost m es = made_sum is_owner (edits_map es m) m ∙ none_made is_owner (edits_map es m) m (λ q c kind is. go (map.get (edits_map es m) q) (owner_stays es m q kind (ap is_some is)))
+  where
+    go : (o : Option Cell) → is_some o ≡ true → is_none o ≡ false
+    go None h = cc
+    go (Some c) h = refl
+
+pub owners_after : (m : Cells) (es : List Edit) → owner_count_of (edits_map es m) ≡ owner_count_of m + made_of is_owner m es
+owners_after m es = omega (arith, differ is_owner m (edits_map es m), names_sum (map.entries m), names_sum (map.entries (edits_map es m)), none_lost m es)

@@ -1,25 +1,29 @@
 -- what a part comes to as a call puts one cell after the other
-use Rattle.std.specs.Prelude.{cond, Bool, true, false, not, ◌||◌, IsTrue, is_some}
+use Rattle.std.specs.Prelude.{cond, Bool, true, false, not, ◌&&◌, ◌||◌, IsTrue, is_some, Option, None, Some}
 use Rattle.std.specs.List.{list_all}
+use Rattle.std.specs.Option.{option_or}
 use Rattle.std.specs.FinMap as map
-use Rattle.std.specs.FinMap.{len-insert}
+use Rattle.std.specs.FinMap.{get-empty}
 use Rattle.std.proofs.Common.{◌≡◌, ℕ, ◌+◌, ◌≤◌, List, [], ◌∷◌, ◌++◌, length, refl, sym, ◌∙◌, ap, subst, arith, append_assoc, append-nil}
 use Rattle.alp_base.specs.declared.key.Key.{Key}
 use Rattle.alp_base.specs.declared.key.Key.TheVariants.{Leader, PageOf, OwnerOf}
-use Rattle.alp_base.specs.KeyLaws.{keys_total}
+use Rattle.alp_base.specs.Keys.{key_cmp}
 use Rattle.alp_files.specs.declared.cell.Cell.{Cell}
 use Rattle.alp_files.specs.Cells.{Cells}
 use Rattle.alp_files.specs.Counts.{files_at, places_at, block_of}
-use Rattle.alp_files.specs.Edits.{Edit, Put, edits_map, ChangesBy}
-use Rattle.alp_files.specs.Needs.{is_put}
-use Rattle.alp_files.proofs.HistoryLemmas.{edits_map-append}
-use Rattle.alp_trans.specs.Counting.{AreCountsOf, AreFew, counts_with, has_block, is_first, owners_at, sight}
+use Rattle.alp_files.specs.Edits.{Edit, Put, edits_map}
+use Rattle.alp_files.specs.Needs.{Intents, intend, intents_from, is_gone, is_put, changed_by}
+use Rattle.alp_files.specs.Undo.{puts_of}
+use Rattle.alp_files.proofs.HistoryLemmas.{edits_map-append, same_cells}
+use Rattle.alp_files.proofs.IntentLemmas.{intents_from-append, puts_from, puts_alone}
+use Rattle.alp_trans.specs.Counting.{AreFew, left_by, with_intents, counts_by, counts_with, has_block, is_first, owners_at, sight_by}
 use Rattle.alp_trans.specs.declared.counts.Counts.{Counts}
 use Rattle.alp_trans.specs.declared.counts.Sight.{Sight}
 use Rattle.alp_trans.specs.declared.counts.Sight.TheVariants as sights
-use Rattle.alp_calls.specs.Sights.{IsSight, is_own, is_first_there, sight_there, was_put}
-use Rattle.alp_calls.proofs.CountLaws.{counts_put}
-use Rattle.alp_calls.proofs.PutLemmas.{alone_both, seen_at, some_or, has_over, intents_are}
+use Rattle.alp_trans.proofs.ChangeLemmas.{get-laid}
+use Rattle.alp_calls.specs.Sights.{IsSight, IsRaised, is_own, is_left, is_first_there, has_block_there, sight_there, was_put}
+use Rattle.alp_calls.proofs.IntentCounts.{get-left, there_with, with_more, cells_put, counts_put}
+use Rattle.alp_calls.proofs.PutLemmas.{alone_both, seen_at, some_or, has_over}
 
 -- ---- what is seen
 
@@ -27,60 +31,72 @@ or_three : (x y z : Bool) → ((x || y) || z) ≡ (x || (y || z))
 or_three true y z = refl
 or_three false y z = refl
 
-module _ (es done : List Edit) (held intents more : Cells) (alone : list_all is_put es ≡ true) (then : list_all is_put done ≡ true)
-    (are : intents ≡ edits_map es map.empty) (those : more ≡ edits_map done map.empty) (k : Key) where
-  abbrev both : List Edit
-  both = es ++ done
+-- all cells of a map, put where nothing is
+pub laid_alone : (x : Cells) → edits_map (puts_of (map.entries x)) map.empty ≡ x
+laid_alone x = same_cells (edits_map (puts_of (map.entries x)) map.empty) x (λ j q. (get-laid x map.empty q ∙ ap (option_or (map.get x q)) (get-empty key_cmp q) ∙ or_none (map.get x q)) j)
+  where
+    or_none : (o : Option Cell) → option_or o None ≡ o
+    or_none None = refl
+    or_none (Some c) = refl
 
-  -- what both put is what the puts of the call make of the intents
-  both_own : edits_map both map.empty ≡ edits_map done intents
-  both_own = edits_map-append es done map.empty ∙ ap (edits_map done) (sym are)
+module _ (i : Intents) (done : List Edit) (held more : Cells) (alone : list_all is_put done ≡ true) (those : more ≡ edits_map done map.empty) (k : Key) where
+  abbrev behind : Intents
+  behind = intents_from i done
 
-  own_there : map.contains_key (edits_map both map.empty) k ≡ is_own more intents k
+  own_there : map.contains_key behind.puts k ≡ is_own more i k
   own_there =
-      ap (λ (x : Cells). map.contains_key x k) both_own ∙ ap is_some (seen_at done then intents k) ∙ some_or (map.get (edits_map done map.empty) k) (map.get intents k)
-      ∙ ap (λ (x : Cells). map.contains_key x k || map.contains_key intents k) (sym those)
+      ap (λ (x : Cells). map.contains_key x k) (puts_from i done) ∙ ap is_some (seen_at done alone i.puts k) ∙ some_or (map.get (edits_map done map.empty) k) (map.get i.puts k)
+      ∙ ap (λ (x : Cells). map.contains_key x k || map.contains_key i.puts k) (sym those)
 
-  seen_there : map.contains_key (edits_map both held) k ≡ (is_own more intents k || map.contains_key held k)
+  left_there : map.contains_key (left_by i held) k ≡ is_left i held k
+  left_there = ap is_some (get-left i held k) ∙ go (is_gone i k) (map.get held k)
+    where
+      go : (b : Bool) (o : Option Cell) → is_some (cond b None o) ≡ (not b && is_some o)
+      go true o = refl
+      go false o = refl
+
+  seen_there : map.contains_key (with_intents behind held) k ≡ (is_own more i k || is_left i held k)
   seen_there =
-      ap is_some (seen_at both (alone_both es done alone then) held k) ∙ some_or (map.get (edits_map both map.empty) k) (map.get held k)
-      ∙ ap (λ (b : Bool). b || map.contains_key held k) own_there
+      ap (λ (x : Cells). map.contains_key x k) (with_more i done held)
+      ∙ ap is_some (seen_at done alone (with_intents i held) k) ∙ some_or (map.get (edits_map done map.empty) k) (map.get (with_intents i held) k)
+      ∙ (λ j. map.contains_key (sym those j) k || (there_with i held k ∙ ap (λ (b : Bool). map.contains_key i.puts k || b) left_there) j)
+      ∙ sym (or_three (map.contains_key more k) (map.contains_key i.puts k) (is_left i held k))
 
-  block_there : (b : Key) → has_block (edits_map both held) b ≡ (has_block more b || (has_block intents b || has_block held b))
+  block_there : (b : Key) → has_block (with_intents behind held) b ≡ has_block_there more i held b
   block_there b =
-      has_over both (alone_both es done alone then) held b
-      ∙ ap (λ (x : Cells). has_block x b || has_block held b) both_own
-      ∙ ap (λ (t : Bool). t || has_block held b) (has_over done then intents b)
-      ∙ ap (λ (x : Cells). (has_block x b || has_block intents b) || has_block held b) (sym those)
-      ∙ or_three (has_block more b) (has_block intents b) (has_block held b)
+      ap (λ (x : Cells). has_block x b) (with_more i done held)
+      ∙ has_over done alone (with_intents i held) b
+      ∙ (λ j. has_block (sym those j) b || (has_over (puts_of (map.entries i.puts)) (puts_alone (map.entries i.puts)) (left_by i held) b ∙ ap (λ (x : Cells). has_block x b || has_block (left_by i held) b) (laid_alone i.puts)) j)
 
-  first_there : (q : Key) → is_first (edits_map both held) q ≡ is_first_there more intents held q
+  first_there : (q : Key) → is_first (with_intents behind held) q ≡ is_first_there more i held q
   first_there (Leader f) = refl
   first_there (PageOf f n) = ap not (block_there (block_of f n))
   first_there (OwnerOf name) = refl
 
-  pub sight_is : sight (edits_map both map.empty) (edits_map both held) k ≡ sight_there more intents held k
+  pub sight_is : sight_by behind held k ≡ sight_there more i held k
   sight_is =
-      (λ i. cond (own_there i) sights.Put (cond (seen_there i) sights.Stands (cond (first_there k i) sights.First sights.Beside)))
-      ∙ go (is_own more intents k)
+      (λ j. cond (own_there j) sights.Put (cond (seen_there j) sights.Stands (cond (first_there k j) sights.First (cond (map.contains_key held k) sights.Again sights.Beside))))
+      ∙ go (is_own more i k)
     where
-      go : (o : Bool) → cond o sights.Put (cond (o || map.contains_key held k) sights.Stands (cond (is_first_there more intents held k) sights.First sights.Beside))
-          ≡ cond o sights.Put (cond (map.contains_key held k) sights.Stands (cond (is_first_there more intents held k) sights.First sights.Beside))
+      go : (o : Bool) → cond o sights.Put (cond (o || is_left i held k) sights.Stands (cond (is_first_there more i held k) sights.First (cond (map.contains_key held k) sights.Again sights.Beside)))
+          ≡ cond o sights.Put (cond (is_left i held k) sights.Stands (cond (is_first_there more i held k) sights.First (cond (map.contains_key held k) sights.Again sights.Beside)))
       go true = refl
       go false = refl
 
--- ---- whatever the vault tells
+-- ---- one put more, whatever the vault tells
 
 cells_with : (n : Counts) (k : Key) (s : Sight) → (counts_with n k s).cells ≡ cond {A = ℕ} (was_put s) n.cells (n.cells + 1)
 cells_with n k sights.Put = refl
 cells_with n k sights.Stands = refl
 cells_with n k sights.First = refl
+cells_with n k sights.Again = refl
 cells_with n k sights.Beside = refl
 
 cells_grow : (n : Counts) (k : Key) (s : Sight) → (counts_with n k s).cells ≤ n.cells + 1
 cells_grow n k sights.Put = omega arith
 cells_grow n k sights.Stands = omega arith
 cells_grow n k sights.First = omega arith
+cells_grow n k sights.Again = omega arith
 cells_grow n k sights.Beside = omega arith
 
 record AtMostOne (k : Key) : Type 0 where
@@ -97,57 +113,82 @@ few_with : (n : Counts) (k : Key) (s : Sight) → AreFew n → AreFew (counts_wi
 few_with n k sights.Put h = h
 few_with n k sights.Stands h = record { places = omega (arith, h.places); files = omega (arith, h.files); owners = omega (arith, h.owners) }
 few_with n k sights.First h = let one = at_most_one k in record { places = omega (arith, h.places, one.places); files = omega (arith, h.files, one.files); owners = omega (arith, h.owners, one.owners) }
+few_with n k sights.Again h = let one = at_most_one k in record { places = omega (arith, h.places, one.places); files = omega (arith, h.files); owners = omega (arith, h.owners) }
 few_with n k sights.Beside h = let one = at_most_one k in record { places = omega (arith, h.places, one.places); files = omega (arith, h.files, one.files); owners = omega (arith, h.owners, one.owners) }
+
+-- ---- one put more, by what is seen
+
+-- a sight adds the same to all counts
+record AddsAlike (a b : Counts) (k : Key) (s : Sight) : Type 0 where
+  places : (counts_with a k s).places + b.places ≡ a.places + (counts_with b k s).places
+  files : (counts_with a k s).files + b.files ≡ a.files + (counts_with b k s).files
+  owners : (counts_with a k s).owners + b.owners ≡ a.owners + (counts_with b k s).owners
+
+adds_alike : (a b : Counts) (k : Key) (s : Sight) → AddsAlike a b k s
+adds_alike a b k sights.Put = record { places = refl; files = refl; owners = refl }
+adds_alike a b k sights.Stands = record { places = omega arith; files = omega arith; owners = omega arith }
+adds_alike a b k sights.First = record { places = omega arith; files = omega arith; owners = omega arith }
+adds_alike a b k sights.Again = record { places = omega arith; files = omega arith; owners = omega arith }
+adds_alike a b k sights.Beside = record { places = omega arith; files = omega arith; owners = omega arith }
+
+pub raised_put : (tells : Bool) (held : Cells) (before i : Intents) (start n : Counts) (k : Key) (c : Cell) (s : Sight) → IsRaised tells held before i start n
+    → was_put s ≡ map.contains_key i.puts k → (IsTrue tells → s ≡ sight_by i held k) → IsRaised tells held before (intend (Put k c) i) start (counts_with n k s)
+raised_put tells held before i start n k c s h own there = record {
+  cells = more (was_put s) (cells_with n k s) (cells_put i held k c ∙ ap (λ (b : Bool). cond {A = ℕ} b (changed_by i) (changed_by i + 1)) (sym own));
+  few = few_with n k s h.few;
+  places = λ told. let put : (counts_by held (intend (Put k c) i)).places ≡ (counts_with (counts_by held i) k s).places = ap (λ (x : Counts). x.places) (by told) in
+      omega (arith, h.places told, put, (adds_alike n (counts_by held i) k s).places);
+  files = λ told. let put : (counts_by held (intend (Put k c) i)).files ≡ (counts_with (counts_by held i) k s).files = ap (λ (x : Counts). x.files) (by told) in
+      omega (arith, h.files told, put, (adds_alike n (counts_by held i) k s).files);
+  owners = λ told. let put : (counts_by held (intend (Put k c) i)).owners ≡ (counts_with (counts_by held i) k s).owners = ap (λ (x : Counts). x.owners) (by told) in
+      omega (arith, h.owners told, put, (adds_alike n (counts_by held i) k s).owners);
+}
+  where
+    by : IsTrue tells → counts_by held (intend (Put k c) i) ≡ counts_with (counts_by held i) k s
+    by told = counts_put i held k c ∙ ap (counts_with (counts_by held i) k) (sym (there told))
+
+    more : (b : Bool) → (counts_with n k s).cells ≡ cond {A = ℕ} b n.cells (n.cells + 1) → changed_by (intend (Put k c) i) ≡ cond {A = ℕ} b (changed_by i) (changed_by i + 1)
+        → (counts_with n k s).cells + changed_by before ≡ start.cells + changed_by (intend (Put k c) i)
+    more true e f = omega (arith, h.cells, e, f)
+    more false e f = omega (arith, h.cells, e, f)
 
 -- ---- one after the other
 
 -- Some of the puts are made, and these are the counts so far; the rest is to come.
-pub record Counting (tells : Bool) (held intents more : Cells) (start n : Counts) (all rest : List Edit) : Type 0 where
+pub record Counting (tells : Bool) (held : Cells) (i : Intents) (more : Cells) (start n : Counts) (all rest : List Edit) : Type 0 where
   pub done : List Edit
   pub split : done ++ rest ≡ all
   pub alone : list_all is_put done ≡ true
   pub those : more ≡ edits_map done map.empty
-  pub cells : n.cells ≡ map.len (edits_map done intents)
-  pub few : AreFew n
+  pub raised : IsRaised tells held i (intents_from i done) start n
   pub most : n.cells + length rest ≤ start.cells + length all
-  pub counts : IsTrue tells → (es : List Edit) → list_all is_put es ≡ true → ChangesBy es map.empty intents → AreCountsOf held es start → AreCountsOf held (es ++ done) n
 
-pub counting_begins : (tells : Bool) (held intents more : Cells) (start : Counts) (all : List Edit) → more ≡ map.empty → start.cells ≡ map.len intents → AreFew start
-    → Counting tells held intents more start start all all
-counting_begins tells held intents more start all none cells few = record {
+pub counting_begins : (tells : Bool) (held : Cells) (i : Intents) (more : Cells) (start : Counts) (all : List Edit) → more ≡ map.empty → AreFew start
+    → Counting tells held i more start start all all
+counting_begins tells held i more start all none few = record {
   done = [];
   split = refl;
   alone = refl;
   those = none;
-  cells = cells;
-  few = few;
+  raised = record { cells = refl; few = few; places = λ told. refl; files = λ told. refl; owners = λ told. refl };
   most = omega arith;
-  counts = λ told es alone is h. subst (λ (xs : List Edit). AreCountsOf held xs start) (sym (append-nil es)) h;
 }
 
-pub counting_goes_on : (tells : Bool) (held intents more next : Cells) (start n : Counts) (all rest : List Edit) (k : Key) (c : Cell) (s : Sight) (later : Counts)
-    → Counting tells held intents more start n all (Put k c ∷ rest) → IsSight tells more intents held k s → later ≡ counts_with n k s → next ≡ map.insert more k c
-    → Counting tells held intents next start later all rest
-counting_goes_on tells held intents more next start n all rest k c s later h seen counted put = record {
+pub counting_goes_on : (tells : Bool) (held : Cells) (i : Intents) (more next : Cells) (start n : Counts) (all rest : List Edit) (k : Key) (c : Cell) (s : Sight) (later : Counts)
+    → Counting tells held i more start n all (Put k c ∷ rest) → IsSight tells more i held k s → later ≡ counts_with n k s → next ≡ map.insert more k c
+    → Counting tells held i next start later all rest
+counting_goes_on tells held i more next start n all rest k c s later h seen counted put = record {
   done = h.done ++ Put k c ∷ [];
   split = append_assoc h.done (Put k c ∷ []) rest ∙ h.split;
   alone = alone_both h.done (Put k c ∷ []) h.alone refl;
   those = put ∙ ap (λ (x : Cells). map.insert x k c) h.those ∙ sym (edits_map-append h.done (Put k c ∷ []) map.empty);
-  cells = ap (λ (x : Counts). x.cells) counted ∙ cells_with n k s ∙ ap (λ (b : Bool). cond {A = ℕ} b n.cells (n.cells + 1)) own
-      ∙ ap (λ (i : ℕ). cond {A = ℕ} (map.contains_key (edits_map h.done intents) k) i (i + 1)) h.cells
-      ∙ sym (ap map.len (edits_map-append h.done (Put k c ∷ []) intents) ∙ len-insert keys_total (edits_map h.done intents) k c);
-  few = subst AreFew (sym counted) (few_with n k s h.few);
+  raised = subst (λ (x : Counts). IsRaised tells held i (intents_from i (h.done ++ Put k c ∷ [])) start x) (sym counted)
+      (subst (λ (x : Intents). IsRaised tells held i x start (counts_with n k s)) (sym (intents_from-append i h.done (Put k c ∷ [])))
+      (raised_put tells held i (intents_from i h.done) start n k c s h.raised
+      (seen.own ∙ sym (own_there i h.done held more h.alone h.those k))
+      (λ told. seen.there told ∙ sym (sight_is i h.done held more h.alone h.those k))));
   most = omega (arith, h.most, cells_grow n k s, ap (λ (x : Counts). x.cells) counted);
-  counts = λ told es alone is started.
-      let are : intents ≡ edits_map es map.empty = intents_are es intents is in
-      let same : later ≡ counts_with n k (sight (edits_map (es ++ h.done) map.empty) (edits_map (es ++ h.done) held) k) =
-      counted ∙ ap (counts_with n k) (seen.there told ∙ sym (sight_is es h.done held intents more alone h.alone are h.those k)) in
-      subst (λ (x : Counts). AreCountsOf held (es ++ (h.done ++ Put k c ∷ [])) x) (sym same)
-      (subst (λ (xs : List Edit). AreCountsOf held xs (counts_with n k (sight (edits_map (es ++ h.done) map.empty) (edits_map (es ++ h.done) held) k))) (append_assoc es h.done (Put k c ∷ []))
-      (counts_put held (es ++ h.done) k c (alone_both es h.done alone h.alone) n (h.counts told es alone is started)));
 }
-  where
-    own : was_put s ≡ map.contains_key (edits_map h.done intents) k
-    own =
-        seen.own ∙ ap (λ (x : Cells). map.contains_key x k || map.contains_key intents k) h.those
-        ∙ sym (ap is_some (seen_at h.done h.alone intents k) ∙ some_or (map.get (edits_map h.done map.empty) k) (map.get intents k))
+
+pub counting_ends : (tells : Bool) (held : Cells) (i : Intents) (more : Cells) (start n : Counts) (all : List Edit) → Counting tells held i more start n all [] → IsRaised tells held i (intents_from i all) start n
+counting_ends tells held i more start n all h = subst (λ (es : List Edit). IsRaised tells held i (intents_from i es) start n) (sym (append-nil h.done) ∙ h.split) h.raised

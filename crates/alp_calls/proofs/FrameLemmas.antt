@@ -1,4 +1,4 @@
--- what a part comes to rests on the files and owners that it puts something of
+-- what a part comes to rests on the files and owners that it touches
 use Rattle.std.specs.Prelude.{cond, Bool, true, false, ◌&&◌, ◌||◌, is_some, is_none, Option, None, Some}
 use Rattle.std.specs.List.{list_all}
 use Rattle.std.specs.FinMap as map
@@ -11,24 +11,26 @@ use Rattle.alp_base.specs.declared.key.Key.TheVariants.{Leader, PageOf, OwnerOf}
 use Rattle.alp_base.specs.Keys.{key_cmp}
 use Rattle.alp_base.specs.KeyLaws.{keys_total}
 use Rattle.alp_files.specs.declared.cell.Cell.{Cell}
-use Rattle.alp_files.specs.Cells.{Cells}
+use Rattle.alp_files.specs.Cells.{Cells, same_file}
 use Rattle.alp_files.specs.Counts.{used_of, block_of, APageStands}
-use Rattle.alp_files.specs.Edits.{Edit, Drop, Cut, Put, edits_map}
-use Rattle.alp_files.specs.Needs.{is_put, made_of, need_of}
-use Rattle.alp_files.proofs.SameLemmas.{same_key-true, same_key-itself, same_file-itself}
+use Rattle.alp_files.specs.Edits.{Edit, Drop, Cut, Put, is_in_file, is_past, edit_map, edits_map}
+use Rattle.alp_files.specs.Needs.{is_put}
+use Rattle.alp_base.proofs.NameLemmas.{and_left}
+use Rattle.alp_files.proofs.HistoryLemmas.{get-edit_map}
+use Rattle.alp_files.proofs.SameLemmas.{same_key-true, same_key-itself, same_file-true, same_file-itself}
 use Rattle.alp_vault.specs.Counted.{places_with}
 use Rattle.alp_vault.proofs.CountLemmas.{block_known}
 use Rattle.alp_trans.specs.Counting.{has_block}
-use Rattle.alp_trans.specs.Frames.{is_near, puts_near, DoAgreeNear, AreApart}
-use Rattle.alp_calls.proofs.NeedLemmas.{added, used_put, used_after, weight, made_in, made_sum, none_made, sum_put}
+use Rattle.alp_trans.specs.Frames.{is_near, is_at, touches, key_of, DoAgreeNear, AreApart}
+use Rattle.alp_calls.proofs.NeedLemmas.{added, used_put, weight, made_in, sum_put}
 
 -- ---- the pages of a block
 
-any_page : Cells → FileId → ℕ → ℕ → Bool
+pub any_page : Cells → FileId → ℕ → ℕ → Bool
 any_page m f i zero = false
 any_page m f i (suc n) = is_some (map.get m (PageOf f i)) || any_page m f (i + 1) n
 
-page_found : (m : Cells) (f : FileId) (first last i n : ℕ) → first ≤ i → i + n ≤ last + 1 → any_page m f i n ≡ true → APageStands m f first last
+pub page_found : (m : Cells) (f : FileId) (first last i n : ℕ) → first ≤ i → i + n ≤ last + 1 → any_page m f i n ≡ true → APageStands m f first last
 unfolding any_page
 page_found m f first last i zero low high any = cc
 page_found m f first last i (suc n) low high any = go (map.get m (PageOf f i)) refl any (page_found m f first last (i + 1) n (omega (arith, low)) (omega (arith, high)))
@@ -41,7 +43,7 @@ none_or : (o : Option Cell) (b : Bool) → (is_some o || b) ≡ false → (o ≡
 none_or None b h = (refl, h)
 none_or (Some d) b h = cc
 
-no_page : (m : Cells) (f : FileId) (i n : ℕ) → any_page m f i n ≡ false → (d : ℕ) → d < n → map.get m (PageOf f (i + d)) ≡ None
+pub no_page : (m : Cells) (f : FileId) (i n : ℕ) → any_page m f i n ≡ false → (d : ℕ) → d < n → map.get m (PageOf f (i + d)) ≡ None
 unfolding any_page
 no_page m f i zero none d less = absurd (omega (arith, less))
 no_page m f i (suc n) none zero less =
@@ -57,7 +59,7 @@ same_any m n f same i zero = refl
 same_any m n f same i (suc c) =
     ap (λ (o : Option Cell). is_some o || any_page m f (i + 1) c) (same i) ∙ ap (λ (b : Bool). is_some (map.get n (PageOf f i)) || b) (same_any m n f same (i + 1) c)
 
-block_is : (m : Cells) (f : FileId) (n : ℕ) → has_block m (block_of f n) ≡ any_page m f (n - n % 128) 128
+pub block_is : (m : Cells) (f : FileId) (n : ℕ) → has_block m (block_of f n) ≡ any_page m f (n - n % 128) 128
 block_is m f n = block_known m f n (any_page m f (n - n % 128) 128)
     (page_found m f (n - n % 128) (n - n % 128 + 127) (n - n % 128) 128 (omega arith) (omega arith))
     (λ none j low high.
@@ -94,17 +96,17 @@ or_right false b h = h
 
 -- where a key is near the first put, and behind it
 first_near : (k : Key) (c : Cell) (es : List Edit) (x y : Cells) → DoAgreeNear (Put k c ∷ es) x y → (q : Key) → is_near k q ≡ true → map.get x q ≡ map.get y q
-first_near k c es x y agree q h = agree q (or_left (is_near k q) (puts_near es q) h)
+first_near k c es x y agree q h = agree q (or_left (is_near k q) (touches es q) h)
 
 rest_near : (k : Key) (c : Cell) (es : List Edit) (x y : Cells) → DoAgreeNear (Put k c ∷ es) x y → DoAgreeNear es (map.insert x k c) (map.insert y k c)
 rest_near k c es x y agree q h =
     get-insert keys_total x k c q
-    ∙ ap (cond (eq_by_cmp key_cmp q k) (Some c)) (agree q (or_right (is_near k q) (puts_near es q) h))
+    ∙ ap (cond (eq_by_cmp key_cmp q k) (Some c)) (agree q (or_right (is_near k q) (touches es q) h))
     ∙ sym (get-insert keys_total y k c q)
 
 -- ---- places
 
-used_along : (es : List Edit) (x y : Cells) → list_all is_put es ≡ true → DoAgreeNear es x y → used_of (edits_map es x) + used_of y ≡ used_of (edits_map es y) + used_of x
+pub used_along : (es : List Edit) (x y : Cells) → list_all is_put es ≡ true → DoAgreeNear es x y → used_of (edits_map es x) + used_of y ≡ used_of (edits_map es y) + used_of x
 used_along [] x y alone agree = omega arith
 used_along (Put k c ∷ es) x y alone agree =
     omega (
@@ -117,9 +119,6 @@ used_along (Put k c ∷ es) x y alone agree =
 used_along (Drop f ∷ es) x y alone agree = cc
 used_along (Cut f n ∷ es) x y alone agree = cc
 
-pub same_need : (m n : Cells) (es : List Edit) → list_all is_put es ≡ true → DoAgreeNear es m n → need_of n es ≡ need_of m es
-same_need m n es alone agree = omega (arith, used_along es m n alone agree, used_after m es alone, used_after n es alone)
-
 -- ---- files and owners
 
 module _ (p : Key → Bool) (m n : Cells) where
@@ -130,12 +129,12 @@ module _ (p : Key → Bool) (m n : Cells) where
   same_made_at x y k same held =
       ap (λ (o : Option Cell). cond {A = ℕ} (is_some o) 0 (weight p m k)) same ∙ ap (λ (i : ℕ). cond {A = ℕ} (map.contains_key y k) 0 i) (same_weight k held)
 
-  made_along : (es : List Edit) (x y : Cells) → list_all is_put es ≡ true → DoAgreeNear es x y → DoAgreeNear es m n → made_in p m (edits_map es x) + made_in p n y ≡ made_in p n (edits_map es y) + made_in p m x
+  pub made_along : (es : List Edit) (x y : Cells) → list_all is_put es ≡ true → DoAgreeNear es x y → DoAgreeNear es m n → made_in p m (edits_map es x) + made_in p n y ≡ made_in p n (edits_map es y) + made_in p m x
   made_along [] x y alone agree held = omega arith
   made_along (Put k c ∷ es) x y alone agree held =
       omega (
         arith,
-        made_along es (map.insert x k c) (map.insert y k c) alone (rest_near k c es x y agree) (λ q h. held q (or_right (is_near k q) (puts_near es q) h)),
+        made_along es (map.insert x k c) (map.insert y k c) alone (rest_near k c es x y agree) (λ q h. held q (or_right (is_near k q) (touches es q) h)),
         sum_put (weight p m) x k c,
         sum_put (weight p n) y k c,
         same_made_at x y k (first_near k c es x y agree k (near_itself k)) (first_near k c es m n held k (near_itself k)),
@@ -143,17 +142,49 @@ module _ (p : Key → Bool) (m n : Cells) where
   made_along (Drop f ∷ es) x y alone agree held = cc
   made_along (Cut f i ∷ es) x y alone agree held = cc
 
-  pub same_made : (es : List Edit) → list_all is_put es ≡ true → DoAgreeNear es m n → made_of p n es ≡ made_of p m es
-  same_made es alone agree = omega (arith, made_sum p m es, made_sum p n es, none_made p m, none_made p n, made_along es m n alone agree agree)
-
 -- ---- parts that are apart
 
-pub apart_agrees : (m : Cells) (es fs : List Edit) → list_all is_put fs ≡ true → AreApart es fs → DoAgreeNear es m (edits_map fs m)
-apart_agrees m es [] alone apart q h = refl
-apart_agrees m es (Put k c ∷ fs) alone apart q h = sym (go (eq_by_cmp key_cmp q k) refl) ∙ apart_agrees (map.insert m k c) es fs alone apart.1 q h
+-- what is touched of a file is touched of all its keys
+at_file : (e : Edit) (f : FileId) (q : Key) → is_in_file f q ≡ true → is_at e q ≡ is_at e (Leader f)
+at_file e f (OwnerOf name) h = cc
+at_file (Drop g) f (Leader h) same = ap (same_file g) (sym (same_file-true f h same))
+at_file (Cut g n) f (Leader h) same = ap (same_file g) (sym (same_file-true f h same))
+at_file (Put (Leader g) c) f (Leader h) same = ap (same_file g) (sym (same_file-true f h same))
+at_file (Put (PageOf g n) c) f (Leader h) same = ap (same_file g) (sym (same_file-true f h same))
+at_file (Put (OwnerOf name) c) f (Leader h) same = refl
+at_file (Drop g) f (PageOf h i) same = ap (same_file g) (sym (same_file-true f h same))
+at_file (Cut g n) f (PageOf h i) same = ap (same_file g) (sym (same_file-true f h same))
+at_file (Put (Leader g) c) f (PageOf h i) same = ap (same_file g) (sym (same_file-true f h same))
+at_file (Put (PageOf g n) c) f (PageOf h i) same = ap (same_file g) (sym (same_file-true f h same))
+at_file (Put (OwnerOf name) c) f (PageOf h i) same = refl
+
+touches_file : (es : List Edit) (f : FileId) (q : Key) → is_in_file f q ≡ true → touches es q ≡ touches es (Leader f)
+touches_file [] f q h = refl
+touches_file (e ∷ es) f q h = λ j. at_file e f q h j || touches_file es f q h j
+
+past_in : (f : FileId) (n : ℕ) (q : Key) → is_past f n q ≡ true → is_in_file f q ≡ true
+past_in f n (Leader g) h = cc
+past_in f n (PageOf g i) h = and_left _ _ h
+past_in f n (OwnerOf name) h = cc
+
+-- an edit elsewhere leaves what is there
+left_there : (es : List Edit) (e : Edit) (m : Cells) (q : Key) → touches es (key_of e) ≡ false → touches es q ≡ true → map.get (edit_map e m) q ≡ map.get m q
+left_there es (Drop f) m q apart near = get-edit_map (Drop f) m q ∙ go (is_in_file f q) refl
   where
-    go : (b : Bool) → eq_by_cmp key_cmp q k ≡ b → map.get (map.insert m k c) q ≡ map.get m q
-    go true e = let wrong : true ≡ false = sym h ∙ ap (puts_near es) (same_key-true q k e) ∙ apart.0 in cc
-    go false e = get-insert keys_total m k c q ∙ ap (λ (b : Bool). cond b (Some c) (map.get m q)) e
-apart_agrees m es (Drop f ∷ fs) alone apart q h = cc
-apart_agrees m es (Cut f n ∷ fs) alone apart q h = cc
+    go : (b : Bool) → is_in_file f q ≡ b → cond b None (map.get m q) ≡ map.get m q
+    go true h = let wrong : true ≡ false = sym near ∙ touches_file es f q h ∙ apart in cc
+    go false h = refl
+left_there es (Cut f n) m q apart near = get-edit_map (Cut f n) m q ∙ go (is_past f n q) refl
+  where
+    go : (b : Bool) → is_past f n q ≡ b → cond b None (map.get m q) ≡ map.get m q
+    go true h = let wrong : true ≡ false = sym near ∙ touches_file es f q (past_in f n q h) ∙ apart in cc
+    go false h = refl
+left_there es (Put k c) m q apart near = get-edit_map (Put k c) m q ∙ go (eq_by_cmp key_cmp q k) refl
+  where
+    go : (b : Bool) → eq_by_cmp key_cmp q k ≡ b → cond b (Some c) (map.get m q) ≡ map.get m q
+    go true h = let wrong : true ≡ false = sym near ∙ ap (touches es) (same_key-true q k h) ∙ apart in cc
+    go false h = refl
+
+pub apart_agrees : (m : Cells) (es fs : List Edit) → AreApart es fs → DoAgreeNear es m (edits_map fs m)
+apart_agrees m es [] apart q near = refl
+apart_agrees m es (f ∷ fs) apart q near = sym (left_there es f m q apart.0 near) ∙ apart_agrees (edit_map f m) es fs apart.1 q near

@@ -1,30 +1,23 @@
 -- edits that put and do no more, over what is held
-use Rattle.std.specs.Prelude.{Option, None, Some, cond, Bool, true, false, not, ◌||◌, filter, is_some}
+use Rattle.std.specs.Prelude.{Option, None, Some, cond, Bool, true, false, ◌||◌, is_some}
 use Rattle.std.specs.List.{list_all}
 use Rattle.std.specs.Option.{option_or}
 use Rattle.std.specs.FinMap as map
-use Rattle.std.specs.FinMap.{get-insert, get-empty, same_map}
+use Rattle.std.specs.FinMap.{get-insert, get-empty}
 use Rattle.std.specs.Ordering.{eq_by_cmp}
 use Rattle.std.proofs.Common.{◌≡◌, List, [], ◌∷◌, ◌++◌, refl, sym, ◌∙◌, ap}
 use Rattle.alp_base.specs.declared.key.Key.{Key}
 use Rattle.alp_base.specs.declared.key.Key.TheVariants.{Leader, PageOf, OwnerOf}
 use Rattle.alp_base.specs.Keys.{key_cmp}
-use Rattle.alp_base.specs.KeyLaws.{keys_total, exact_keys}
+use Rattle.alp_base.specs.KeyLaws.{keys_total}
 use Rattle.alp_files.specs.declared.cell.Cell.{Cell}
 use Rattle.alp_files.specs.Cells.{Cells, View}
 use Rattle.alp_files.specs.Counts.{Blocks, blocks_of, block_of, with_block}
-use Rattle.alp_files.specs.Edits.{Edit, Drop, Cut, Put, edits_at, edits_map, ChangesBy}
+use Rattle.alp_files.specs.Edits.{Edit, Drop, Cut, Put, edits_at, edits_map}
 use Rattle.alp_files.specs.Needs.{is_put}
 use Rattle.alp_files.proofs.HistoryLemmas.{get-edits_map}
 use Rattle.alp_vault.proofs.CountLemmas.{blocks-insert, none_held}
 use Rattle.alp_trans.specs.Counting.{has_block}
-
--- nothing goes
-pub no_others : (es : List Edit) → list_all is_put es ≡ true → filter (λ e. not (is_put e)) es ≡ []
-no_others [] alone = refl
-no_others (Put k c ∷ es) alone = no_others es alone
-no_others (Drop f ∷ es) alone = cc
-no_others (Cut f n ∷ es) alone = cc
 
 pub alone_both : (es fs : List Edit) → list_all is_put es ≡ true → list_all is_put fs ≡ true → list_all is_put (es ++ fs) ≡ true
 alone_both [] fs h e = e
@@ -62,16 +55,6 @@ seen_at es alone m q =
 pub some_or : (o p : Option Cell) → is_some (option_or o p) ≡ (is_some o || is_some p)
 some_or None p = refl
 some_or (Some x) p = refl
-
-or_none : (o : Option Cell) → option_or o None ≡ o
-or_none None = refl
-or_none (Some x) = refl
-
--- intents that edits led to are all that these put
-pub intents_are : (es : List Edit) (intents : Cells) → ChangesBy es map.empty intents → intents ≡ edits_map es map.empty
-intents_are es intents h = same_map keys_total exact_keys _ _ (λ q.
-    sym (or_none (map.get intents q)) ∙ ap (λ (v : View). v q) (h (λ k. None)) ∙ ap (λ (o : Option Cell). edits_at es q (option_or o None)) (get-empty key_cmp q)
-    ∙ sym (own_at es q))
 
 -- ---- blocks that have a page
 

@@ -1,5 +1,7 @@
+pub mod Finds
 pub mod Limits
 pub mod Looks
+pub mod Opened
 pub mod Parts
 pub mod ServerNotes
 pub mod Sights

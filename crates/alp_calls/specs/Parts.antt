@@ -1,44 +1,44 @@
 -- A part as the server keeps it: what it sees, and what a call that it performs does to it.
-use Rattle.std.specs.Prelude.{◌≡◌, ◌+◌, ◌≤◌, ◌<◌, ◌^◌, ℕ, Bool, IsTrue, List, [], ◌∷◌, ◌++◌, Option, None, Some, true, false, ◌||◌, if◌then◌else◌, length}
-use Rattle.std.specs.List.{list_all}
+use Rattle.std.specs.Prelude.{◌≡◌, ◌+◌, ◌≤◌, ◌<◌, ◌^◌, ℕ, Bool, IsTrue, IsSome, List, [], ◌∷◌, ◌++◌, Option, None, Some, true, false, length}
 use Rattle.std.specs.FinMap as map
 use Rattle.alp_base.specs.declared.ids.FileId.{FileId}
 use Rattle.alp_base.specs.declared.key.Key.{Key}
-use Rattle.alp_base.specs.declared.choices.Access.{Access}
-use Rattle.alp_base.specs.declared.choices.Access.TheVariants.{ReadOnly, Change}
 use Rattle.alp_base.specs.declared.lists.TheConstants.{PAGES_PER_FILE}
 use Rattle.alp_files.specs.declared.cell.Cell.{Cell}
-use Rattle.alp_files.specs.declared.cell.Props.{Props}
-use Rattle.alp_files.specs.declared.open.Open.{Open}
 use Rattle.alp_files.specs.declared.refusal.Refusal.{Refusal}
 use Rattle.alp_files.specs.declared.refusal.Refusal.TheVariants as refusal
-use Rattle.alp_files.specs.declared.refusal.ListName.{ListName}
-use Rattle.alp_files.specs.declared.refusal.ListName.TheVariants as lists
 use Rattle.alp_files.specs.declared.call.Call.{Call}
 use Rattle.alp_files.specs.declared.call.Call.TheVariants as call
 use Rattle.alp_files.specs.declared.reply.Reply.{Reply}
 use Rattle.alp_files.specs.declared.reply.Reply.TheVariants as reply
-use Rattle.alp_files.specs.Act.{Own, Answer, Look, run, answer, id_in, program, admits}
-use Rattle.alp_files.specs.Built.{IsBuilt}
+use Rattle.alp_files.specs.Act.{Own, Answer, Look, run, answer, id_in, program, without_open, without_file}
 use Rattle.alp_files.specs.Cells.{Cells, View, has_file}
-use Rattle.alp_files.specs.Edits.{Edit, over, ChangesBy}
-use Rattle.alp_files.specs.Needs.{is_put}
+use Rattle.alp_files.specs.Edits.{Edit}
+use Rattle.alp_files.specs.Needs.{intents_from, intents_of, through, changed_by}
 use Rattle.alp_files.specs.Passing.{is_passing, IsFileReply}
+use Rattle.alp_files.specs.Reading.{asked_pages, TellsPages}
+use Rattle.alp_files.specs.Sound.{HasItsPages}
 use Rattle.alp_files.specs.Undo.{puts_of}
 use Rattle.alp_vault.specs.Volumes.{fits_key, fit_keys}
 use Rattle.alp_journal.specs.Answers.{unless_counts}
+use Rattle.alp_journal.specs.Desk.{file_trans}
 use Rattle.alp_trans.specs.Counting.{AreCountsOf, AreFew}
-use Rattle.alp_trans.specs.Parts.{own_of}
+use Rattle.alp_trans.specs.Parts.{own_of, gone_edits, AreBeside}
 use Rattle.alp_trans.specs.declared.counts.Counts.{Counts}
+use Rattle.alp_trans.specs.declared.gone.Gone.{Gone}
 use Rattle.alp_trans.specs.declared.part.Part.{Part}
 use Rattle.alp_calls.specs.Limits.{refused_for}
+use Rattle.alp_calls.specs.Opened.{OpensNoOther}
 use Rattle.alp_calls.specs.declared.limits.Room.{Room}
+use Rattle.alp_calls.specs.declared.said.Effect.{Effect}
+use Rattle.alp_calls.specs.declared.said.OpenChange.{OpenChange}
+use Rattle.alp_calls.specs.declared.said.OpenChange.TheVariants.{Stay, Opened, Closed, Left}
 use Rattle.alp_calls.specs.declared.said.Said.{Said}
 use Rattle.alp_calls.specs.declared.said.Said.TheVariants.{Told, Done}
 
 -- what a part sees of the files that are held
 abbrev pub seen : Cells → Part → View
-seen held p = over p.intents (map.get held)
+seen held p = through p.intents (map.get held)
 
 -- ---- what is true of each part, whatever its vault tells
 
@@ -47,47 +47,60 @@ abbrev pub AllFit : Cells → Type 0
 AllFit m = (k : Key) (c : Cell) → map.get m k ≡ Some c → fits_key k c ≡ true
 
 pub record IsPart (p : Part) : Type 0 where
-  pub cells : p.counts.cells ≡ map.len p.intents
+  pub cells : p.counts.cells ≡ changed_by p.intents
   pub most : p.counts.cells ≤ 256
   pub few : AreFew p.counts
-  pub fit : AllFit p.intents
+  pub fit : AllFit p.intents.puts
 
--- a file that is created has no more pages than a file may have
+-- a file gets no more pages than a file may have
 abbrev pub IsShaped : Call → Type 0
 IsShaped (call.CreateFile trans start choice) = start.size ≤ PAGES_PER_FILE
+IsShaped (call.SetSize trans open_no size choice) = size ≤ PAGES_PER_FILE
 IsShaped _ = Unit {0}
 
+-- it is a file call, and a write brings as many pages as its run has
 pub record CanPerform (p : Part) (c : Call) : Type 0 where
   pub part : IsPart p
   pub last : p.last + 1 < 2 ^ 32
-  pub built : IsBuilt c
+  pub file : IsSome (file_trans c)
+  pub whole : HasItsPages c
   pub shaped : IsShaped c
 
 -- ---- what a call comes to, before the part changes
 
 abbrev pub reply_of : Said → Reply
 reply_of (Told r) = r
-reply_of (Done r puts o) = r
+reply_of (Done r e) = r
+
+abbrev pub gone_in : Said → Option Gone
+gone_in (Told r) = None
+gone_in (Done r e) = e.gone
 
 abbrev pub puts_in : Said → List (Key × Cell)
 puts_in (Told r) = []
-puts_in (Done r puts o) = puts.items
+puts_in (Done r e) = e.puts.items
 
-abbrev pub open_in : Said → Option Open
-open_in (Told r) = None
-open_in (Done r puts o) = o
+abbrev pub opens_in : Said → OpenChange
+opens_in (Told r) = Stay
+opens_in (Done r e) = e.opens
 
 abbrev pub is_told : Said → Bool
 is_told (Told r) = true
-is_told (Done r puts o) = false
+is_told (Done r e) = false
 
-abbrev pub own_with : Own → Option Open → Own
-own_with own None = own
-own_with own (Some o) = record { last = o.number; opens = own.opens ++ o ∷ [] }
+-- what goes, and then what is put
+abbrev pub edits_in : Effect → List Edit
+edits_in e = gone_edits e.gone ++ puts_of e.puts.items
+
+abbrev pub own_with : Own → OpenChange → Own
+own_with own Stay = own
+own_with own (Opened o) = record { last = o.number; opens = own.opens ++ o ∷ [] }
+own_with own (Closed n) = record own { opens = without_open own.opens n }
+own_with own (Left f) = record own { opens = without_file own.opens f }
 
 abbrev pub answer_of : Own → Said → Answer
 answer_of own (Told r) = record { reply = Some r; edits = []; own = own }
-answer_of own (Done r puts o) = record { reply = Some r; edits = puts_of puts.items; own = own_with own o }
+answer_of own (Done r e) = record { reply = Some r; edits = edits_in e; own = own_with own e.opens }
 
 -- a thread that looks so is told this
 abbrev pub Says : Cells → Part → Said → (Own → Look) → Type 0
@@ -102,27 +115,14 @@ abbrev pub SaysCall : Cells → Part → List ℕ → FileId → Call → Said �
 SaysCall held p who id c s = SaysNew held p id s (λ made own. program id.server made who own c)
 
 -- the open that is made is the next one
-abbrev pub IsNextOpen : ℕ → Option Open → Type 0
-IsNextOpen last None = Unit {0}
-IsNextOpen last (Some o) = o.number ≡ last + 1
+abbrev pub IsNextOpen : ℕ → OpenChange → Type 0
+IsNextOpen last (Opened o) = o.number ≡ last + 1
+IsNextOpen last _ = Unit {0}
 
 -- the puts fit their keys, and are few
 pub record ArePuts (puts : List (Key × Cell)) : Type 0 where
   pub fit : fit_keys puts ≡ true
   pub few : length puts ≤ 256
-
--- ---- what a call did to the part
-
--- the part gave the reply, and stands as the answer says: what is seen through its intents is changed by the edits,
--- whatever lies below them
-pub record Performs (old new : Part) (a : Answer) (r : Reply) : Type 0 where
-  pub reply : a.reply ≡ Some r
-  pub own : own_of new ≡ a.own
-  pub view : ChangesBy a.edits old.intents new.intents
-
--- the part's intents, opens and counts are as they were
-abbrev pub IsAsBefore : Part → Part → Type 0
-IsAsBefore old new = (new.intents ≡ old.intents) × (own_of new ≡ own_of old) × (new.counts ≡ old.counts)
 
 -- if a new file got an id, it is this one
 abbrev pub GivesOnly : FileId → Reply → Type 0
@@ -148,6 +148,31 @@ is_full _ = false
 abbrev pub IsPartReply : Reply → Type 0
 IsPartReply r = IsFileReply r × (is_full r ≡ false)
 
+-- nor does a refusal of it
+abbrev pub IsPartRefusal : Refusal → Type 0
+IsPartRefusal f = IsPartReply (reply.Refused f)
+
+-- what is said is an answer to a file call, contents are told where nothing changes, and what is put stands beside what goes
+pub record IsProper (p : Part) (s : Said) : Type 0 where
+  pub own : is_passing (reply_of s) ≡ false
+  pub kind : IsPartReply (reply_of s)
+  pub reads : has_contents (reply_of s) ≡ true → is_told s ≡ true
+  pub next : IsNextOpen p.last (opens_in s)
+  pub puts : ArePuts (puts_in s)
+  pub beside : AreBeside (gone_in s) (puts_in s)
+
+-- ---- what a call did to the part
+
+-- the part gave the reply, and stands as the answer says
+pub record Performs (old new : Part) (a : Answer) (r : Reply) : Type 0 where
+  pub reply : a.reply ≡ Some r
+  pub own : own_of new ≡ a.own
+  pub view : new.intents ≡ intents_from old.intents a.edits
+
+-- the part's intents, opens and counts are as they were
+abbrev pub IsAsBefore : Part → Part → Type 0
+IsAsBefore old new = (new.intents ≡ old.intents) × (own_of new ≡ own_of old) × (new.counts ≡ old.counts)
+
 -- such a reply left the part as it was
 abbrev pub ReadsOnly : Part → Part → Reply → Type 0
 ReadsOnly old new r = has_contents r ≡ true → IsAsBefore old new
@@ -164,16 +189,17 @@ pub record Settled (tells : Bool) (held : Cells) (old new : Part) (room : Room) 
   pub stands : StandsAfter old new after (refused_for room old.counts after)
   pub reads : ReadsOnly old new r
   pub last : new.last ≤ old.last + 1
-  pub counts : IsTrue tells → (es : List Edit) → list_all is_put es ≡ true → ChangesBy es map.empty old.intents → AreCountsOf held es old.counts → AreCountsOf held (es ++ (answer_of (own_of old) s).edits) after
+  pub counts : IsTrue tells → (es : List Edit) → old.intents ≡ intents_of es → AreCountsOf held es old.counts → AreCountsOf held (es ++ (answer_of (own_of old) s).edits) after
   pub done : refused_for room old.counts after ≡ None → Performs old new (answer_of (own_of old) s) (reply_of s)
 
 -- The part comes to these counts with the answer of one thread, and stands as the answer says where nothing refuses it.
 pub record IsRight (held : Cells) (old new : Part) (after : Counts) (refused : Option Refusal) (given : Reply) (a : Answer) : Type 0 where
   pub reply : a.reply ≡ Some given
-  pub counts : (es : List Edit) → list_all is_put es ≡ true → ChangesBy es map.empty old.intents → AreCountsOf held es old.counts → AreCountsOf held (es ++ a.edits) after
+  pub counts : (es : List Edit) → old.intents ≡ intents_of es → AreCountsOf held es old.counts → AreCountsOf held (es ++ a.edits) after
   pub done : refused ≡ None → Performs old new a given
 
--- One thread is given this, the part comes to these counts with it, and what it gives is that, or a refusal for them.
+-- One thread is given this, the part comes to these counts with it, and what it gives is that, or a refusal for them. Pages are
+-- told to a call that asks for so many.
 pub record Answered (tells : Bool) (held : Cells) (old new : Part) (who : List ℕ) (id : FileId) (c : Call) (room : Room) (r : Reply) : Type 0 where
   pub given : Reply
   pub after : Counts
@@ -184,9 +210,6 @@ pub record Answered (tells : Bool) (held : Cells) (old new : Part) (who : List �
   pub stands : StandsAfter old new after (refused_for room old.counts after)
   pub reads : ReadsOnly old new r
   pub last : new.last ≤ old.last + 1
+  pub opens : OpensNoOther old.opens.items new.opens.items c r
+  pub pages : TellsPages (asked_pages c) r
   pub right : IsTrue tells → (made : List FileId) → has_file id made ≡ false → IsRight held old new after (refused_for room old.counts after) given (answer id.server made (seen held old) who (own_of old) c given)
-
--- the list that does not admit who opens a file so, if one does not
-abbrev pub denied_by : Access → List ℕ → Props → Option ListName
-denied_by ReadOnly who p = if admits p.read who p.owner || admits p.modify who p.owner then None else Some lists.Read
-denied_by Change who p = if admits p.modify who p.owner then None else Some lists.Modify

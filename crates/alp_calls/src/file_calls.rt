@@ -1,47 +1,24 @@
-//! Calls that create and open files.
-ghost use Rattle.std.specs.Prelude.{◌≡◌, ◌+◌, ◌^◌, ◌<◌, ◌≤◌, [], ◌∷◌, ◌++◌, length, IfOk, IsTrue, None, false, true};
+//! Calls that create, open, close and delete files.
+ghost use Rattle.std.specs.Prelude.{◌≡◌, ◌+◌, ◌^◌, ◌<◌, ◌≤◌, IfOk, IsTrue, None, Some};
 ghost use Rattle.alp_base.specs.declared.key.Key.TheVariants as key;
 ghost use Rattle.alp_base.specs.declared.lists.TheConstants.{PAGES_PER_FILE};
-ghost use Rattle.alp_files.specs.Act.{is_over as over_quota, open_file as open_file_said, create_file as create_file_said};
-ghost use Rattle.alp_files.specs.Passing.{is_passing};
+ghost use Rattle.alp_files.specs.Act.{open_at, on_change, create_file as create_file_said, open_file as open_file_said, close_file as close_file_said, delete_file as delete_file_said, id_in};
+ghost use Rattle.alp_files.specs.Files.{AreFiles};
+ghost use Rattle.alp_files.specs.Cells.{Cells};
+ghost use Rattle.alp_files.specs.Reading.{TellsPages};
 ghost use Rattle.alp_calls.specs.Looks.{Looks, fault_in};
-ghost use Rattle.alp_calls.specs.Parts.{AllFit, seen, denied_by, Says, SaysNew, GivesOnly, GivesNone, IsNextOpen, ArePuts, has_contents, IsPartReply, is_told, reply_of, puts_in, open_in};
+ghost use Rattle.alp_calls.specs.Opened.{OpensOnly};
+ghost use Rattle.alp_calls.specs.Parts.{AllFit, seen, Says, SaysNew, GivesOnly, GivesNone, IsProper, reply_of, opens_in};
 
 use crate::CallFault;
+use crate::finding::{OpenedFile, charged, denied, lowered, opened_file};
 use crate::look::{owner_at, props_at};
-use crate::said::Said;
+use crate::said::{Effect, OpenChange, Said};
 use alp_base::{Access, FileId, Key, Name};
-use alp_files::{Cell, ListName, Open, OwnerRecord, Props, Refusal, Reply, admits};
-use alp_trans::Part;
+use alp_files::{Cell, Open, Props, Refusal, Reply};
+use alp_trans::{Gone, Part};
 use alp_vault::Vault;
 use std::alloc::Global;
-
-fn is_over(owner: &OwnerRecord, asked: u32) -> bool
-    ensures { result ≡ over_quota owner.now asked }
-{
-    0 < asked && (owner.quota as u64) < owner.charge as u64 + asked as u64
-}
-
-// The list that has to admit who opens the file so, where it does not.
-fn denied(props: &Props, who: Name, access: Access) -> Option<ListName>
-    ensures { result ≡ denied_by access who props.now }
-{
-    let may_change = admits(&props.modify, &who, &props.owner);
-    match access {
-        Access::ReadOnly => {
-            if admits(&props.read, &who, &props.owner) || may_change {
-                return None;
-            }
-            Some(ListName::Read)
-        }
-        Access::Change => {
-            if may_change {
-                return None;
-            }
-            Some(ListName::Modify)
-        }
-    }
-}
 
 pub(super) fn create_file<V: Vault>(
     alloc: Global,
@@ -52,39 +29,24 @@ pub(super) fn create_file<V: Vault>(
     start: &Props,
 ) -> Result<Said, CallFault>
     requires serving { IsTrue (V.serves vault.old) }
-    requires fit { AllFit part.now.intents }
+    requires fit { AllFit part.now.intents.puts }
     requires room { part.now.last + 1 < 2 ^ 32 }
     requires size { start.now.size ≤ PAGES_PER_FILE }
     requires new { IsTrue (V.tells vault.old) → seen (V.held vault.old).cells part.now (key.Leader id) ≡ None }
     ensures right { IsTrue (V.tells vault.old) → IfOk result (λ s. SaysNew (V.held vault.old).cells part.now id s (λ made own. create_file_said id.server made own who start.now)) }
     ensures id { IfOk result (λ s. GivesOnly id (reply_of s)) }
-    ensures own { IfOk result (λ s. is_passing (reply_of s) ≡ false) }
-    ensures kind { IfOk result (λ s. IsPartReply (reply_of s)) }
-    ensures reads { IfOk result (λ s. has_contents (reply_of s) ≡ true → is_told s ≡ true) }
-    ensures next { IfOk result (λ s. IsNextOpen part.now.last (open_in s)) }
-    ensures puts { IfOk result (λ s. ArePuts (puts_in s)) }
+    ensures proper { IfOk result (λ s. IsProper part.now s) }
+    ensures opens { IfOk result (λ s. OpensOnly (id_in (reply_of s)) (opens_in s)) }
+    ensures pages { IfOk result (λ s. TellsPages None (reply_of s)) }
     ensures looked { Looks V.Vault vault.old vault.new (fault_in result) }
 {
-    let Some(mut owner) = owner_at(vault, &part.intents, start.owner)? else {
-        return Ok(Said::Told(Reply::Refused(Refusal::UnknownOwner)));
+    let owner = match charged(vault, part, who, start.owner, start.size)? {
+        Ok(owner) => owner,
+        Err(refusal) => return Ok(Said::Told(Reply::Refused(refusal))),
     };
-    if !admits(&owner.create, &who, &start.owner) {
-        return Ok(Said::Told(Reply::Refused(Refusal::AccessDenied {
-            list: ListName::Create,
-        })));
-    }
-    let (charge, asked, quota) = (owner.charge, start.size, owner.quota);
-    if is_over(&owner, asked) {
-        return Ok(Said::Told(Reply::Refused(Refusal::QuotaExceeded {
-            charge,
-            asked,
-            quota,
-        })));
-    }
     let mut props = start.clone()?;
     props.byte_length = 0;
     props.high_water = 0;
-    owner.charge = charge + asked;
     let puts = vec![in alloc;
         (Key::Leader(id), Cell::Leader(props)),
         (Key::OwnerOf(start.owner), Cell::Owner(owner)),
@@ -95,12 +57,15 @@ pub(super) fn create_file<V: Vault>(
             file: id,
             open_no: number,
         },
-        puts,
-        opened: Some(Open {
-            number,
-            file: id,
-            access: Access::Change,
-        }),
+        effect: Effect {
+            gone: None,
+            puts,
+            opens: OpenChange::Opened(Open {
+                number,
+                file: id,
+                access: Access::Change,
+            }),
+        },
     })
 }
 
@@ -113,15 +78,13 @@ pub(super) fn open_file<V: Vault>(
     access: Access,
 ) -> Result<Said, CallFault>
     requires serving { IsTrue (V.serves vault.old) }
-    requires fit { AllFit part.now.intents }
+    requires fit { AllFit part.now.intents.puts }
     requires room { part.now.last + 1 < 2 ^ 32 }
     ensures right { IsTrue (V.tells vault.old) → IfOk result (λ s. Says (V.held vault.old).cells part.now s (λ own. open_file_said own who file access)) }
     ensures id { IfOk result (λ s. GivesNone (reply_of s)) }
-    ensures own { IfOk result (λ s. is_passing (reply_of s) ≡ false) }
-    ensures kind { IfOk result (λ s. IsPartReply (reply_of s)) }
-    ensures reads { IfOk result (λ s. has_contents (reply_of s) ≡ true → is_told s ≡ true) }
-    ensures next { IfOk result (λ s. IsNextOpen part.now.last (open_in s)) }
-    ensures puts { IfOk result (λ s. ArePuts (puts_in s)) }
+    ensures proper { IfOk result (λ s. IsProper part.now s) }
+    ensures opens { IfOk result (λ s. OpensOnly (Some file) (opens_in s)) }
+    ensures pages { IfOk result (λ s. TellsPages None (reply_of s)) }
     ensures looked { Looks V.Vault vault.old vault.new (fault_in result) }
 {
     let Some(props) = props_at(vault, &part.intents, file)? else {
@@ -133,11 +96,69 @@ pub(super) fn open_file<V: Vault>(
     let number = part.last + 1;
     Ok(Said::Done {
         reply: Reply::Opened { open_no: number },
-        puts: Vec::new(alloc),
-        opened: Some(Open {
-            number,
-            file,
-            access,
-        }),
+        effect: Effect {
+            gone: None,
+            puts: Vec::new(alloc),
+            opens: OpenChange::Opened(Open {
+                number,
+                file,
+                access,
+            }),
+        },
+    })
+}
+
+pub(super) fn close_file(alloc: Global, part: &Part, open_no: u32) -> Said
+    ensures right { (held : Cells) → Says held part.now result (λ own. close_file_said own open_no (open_at own.opens open_no)) }
+    ensures id { GivesNone (reply_of result) }
+    ensures proper { IsProper part.now result }
+    ensures opens { OpensOnly (id_in (reply_of result)) (opens_in result) }
+    ensures pages { TellsPages None (reply_of result) }
+{
+    if part.open_of(open_no).is_none() {
+        return Said::Told(Reply::Refused(Refusal::UnknownOpen));
+    }
+    Said::Done {
+        reply: Reply::Plain,
+        effect: Effect {
+            gone: None,
+            puts: Vec::new(alloc),
+            opens: OpenChange::Closed(open_no),
+        },
+    }
+}
+
+pub(super) fn delete_file<V: Vault>(
+    alloc: Global,
+    vault: &mut V,
+    part: &Part,
+    open_no: u32,
+) -> Result<Said, CallFault>
+    requires serving { IsTrue (V.serves vault.old) }
+    requires fit { AllFit part.now.intents.puts }
+    requires files { IsTrue (V.tells vault.old) → AreFiles (seen (V.held vault.old).cells part.now) }
+    ensures right { IsTrue (V.tells vault.old) → IfOk result (λ s. Says (V.held vault.old).cells part.now s (λ own. on_change own (open_at own.opens open_no) (delete_file_said own))) }
+    ensures id { IfOk result (λ s. GivesNone (reply_of s)) }
+    ensures proper { IfOk result (λ s. IsProper part.now s) }
+    ensures opens { IfOk result (λ s. OpensOnly (id_in (reply_of s)) (opens_in s)) }
+    ensures pages { IfOk result (λ s. TellsPages None (reply_of s)) }
+    ensures looked { Looks V.Vault vault.old vault.new (fault_in result) }
+{
+    let OpenedFile { opened, props } = match opened_file(vault, part, open_no, Access::Change)? {
+        Ok(found) => found,
+        Err(refusal) => return Ok(Said::Told(Reply::Refused(refusal))),
+    };
+    let Some(owner) = owner_at(vault, &part.intents, props.owner)? else {
+        return Ok(Said::Told(Reply::Refused(Refusal::UnknownOwner)));
+    };
+    let owner = lowered(owner, props.size);
+    let puts = vec![in alloc; (Key::OwnerOf(props.owner), Cell::Owner(owner))]?;
+    Ok(Said::Done {
+        reply: Reply::Plain,
+        effect: Effect {
+            gone: Some(Gone::File(opened.file)),
+            puts,
+            opens: OpenChange::Left(opened.file),
+        },
     })
 }

@@ -1,13 +1,14 @@
 //! Calls about owners.
-ghost use Rattle.std.specs.Prelude.{◌≡◌, [], ◌∷◌, ◌++◌, IfOk, IsTrue, None, false, true};
-ghost use Rattle.alp_files.specs.Act.{is_admin as admin, make_owner as make_owner_said};
-ghost use Rattle.alp_files.specs.Passing.{is_passing};
+ghost use Rattle.std.specs.Prelude.{◌≡◌, IfOk, IsTrue, None};
+ghost use Rattle.alp_files.specs.Act.{is_admin as admin, read_owner as read_owner_said, make_owner as make_owner_said, set_quota as set_quota_said, id_in};
+ghost use Rattle.alp_files.specs.Reading.{TellsPages};
 ghost use Rattle.alp_calls.specs.Looks.{Looks, fault_in};
-ghost use Rattle.alp_calls.specs.Parts.{AllFit, Says, GivesNone, IsNextOpen, ArePuts, has_contents, IsPartReply, is_told, reply_of, puts_in, open_in};
+ghost use Rattle.alp_calls.specs.Opened.{OpensOnly};
+ghost use Rattle.alp_calls.specs.Parts.{AllFit, Says, GivesNone, IsProper, reply_of, opens_in};
 
 use crate::CallFault;
 use crate::look::owner_at;
-use crate::said::Said;
+use crate::said::{Effect, OpenChange, Said};
 use alp_base::{AccessList, Key, Name};
 use alp_files::{Cell, ListName, OwnerRecord, Refusal, Reply};
 use alp_trans::Part;
@@ -20,6 +21,26 @@ fn is_admin(who: Name) -> bool
     who.as_bytes() == b"Admin".as_slice()
 }
 
+pub(super) fn read_owner<V: Vault>(
+    vault: &mut V,
+    part: &Part,
+    owner: Name,
+) -> Result<Said, CallFault>
+    requires serving { IsTrue (V.serves vault.old) }
+    requires fit { AllFit part.now.intents.puts }
+    ensures right { IsTrue (V.tells vault.old) → IfOk result (λ s. Says (V.held vault.old).cells part.now s (λ own. read_owner_said own owner)) }
+    ensures id { IfOk result (λ s. GivesNone (reply_of s)) }
+    ensures proper { IfOk result (λ s. IsProper part.now s) }
+    ensures opens { IfOk result (λ s. OpensOnly (id_in (reply_of s)) (opens_in s)) }
+    ensures pages { IfOk result (λ s. TellsPages None (reply_of s)) }
+    ensures looked { Looks V.Vault vault.old vault.new (fault_in result) }
+{
+    let Some(record) = owner_at(vault, &part.intents, owner)? else {
+        return Ok(Said::Told(Reply::Refused(Refusal::UnknownOwner)));
+    };
+    Ok(Said::Told(Reply::Owner(record)))
+}
+
 pub(super) fn make_owner<V: Vault>(
     alloc: Global,
     vault: &mut V,
@@ -30,14 +51,12 @@ pub(super) fn make_owner<V: Vault>(
     create: &AccessList,
 ) -> Result<Said, CallFault>
     requires serving { IsTrue (V.serves vault.old) }
-    requires fit { AllFit part.now.intents }
+    requires fit { AllFit part.now.intents.puts }
     ensures right { IsTrue (V.tells vault.old) → IfOk result (λ s. Says (V.held vault.old).cells part.now s (λ own. make_owner_said own who owner quota create.now)) }
     ensures id { IfOk result (λ s. GivesNone (reply_of s)) }
-    ensures own { IfOk result (λ s. is_passing (reply_of s) ≡ false) }
-    ensures kind { IfOk result (λ s. IsPartReply (reply_of s)) }
-    ensures reads { IfOk result (λ s. has_contents (reply_of s) ≡ true → is_told s ≡ true) }
-    ensures next { IfOk result (λ s. IsNextOpen part.now.last (open_in s)) }
-    ensures puts { IfOk result (λ s. ArePuts (puts_in s)) }
+    ensures proper { IfOk result (λ s. IsProper part.now s) }
+    ensures opens { IfOk result (λ s. OpensOnly (id_in (reply_of s)) (opens_in s)) }
+    ensures pages { IfOk result (λ s. TellsPages None (reply_of s)) }
     ensures looked { Looks V.Vault vault.old vault.new (fault_in result) }
 {
     if owner_at(vault, &part.intents, owner)?.is_some() {
@@ -57,7 +76,47 @@ pub(super) fn make_owner<V: Vault>(
     let puts = vec![in alloc; (Key::OwnerOf(owner), Cell::Owner(record))]?;
     Ok(Said::Done {
         reply: Reply::Plain,
-        puts,
-        opened: None,
+        effect: Effect {
+            gone: None,
+            puts,
+            opens: OpenChange::Stay,
+        },
+    })
+}
+
+pub(super) fn set_quota<V: Vault>(
+    alloc: Global,
+    vault: &mut V,
+    part: &Part,
+    who: Name,
+    owner: Name,
+    quota: u32,
+) -> Result<Said, CallFault>
+    requires serving { IsTrue (V.serves vault.old) }
+    requires fit { AllFit part.now.intents.puts }
+    ensures right { IsTrue (V.tells vault.old) → IfOk result (λ s. Says (V.held vault.old).cells part.now s (λ own. set_quota_said own who owner quota)) }
+    ensures id { IfOk result (λ s. GivesNone (reply_of s)) }
+    ensures proper { IfOk result (λ s. IsProper part.now s) }
+    ensures opens { IfOk result (λ s. OpensOnly (id_in (reply_of s)) (opens_in s)) }
+    ensures pages { IfOk result (λ s. TellsPages None (reply_of s)) }
+    ensures looked { Looks V.Vault vault.old vault.new (fault_in result) }
+{
+    let Some(mut record) = owner_at(vault, &part.intents, owner)? else {
+        return Ok(Said::Told(Reply::Refused(Refusal::UnknownOwner)));
+    };
+    if !is_admin(who) {
+        return Ok(Said::Told(Reply::Refused(Refusal::AccessDenied {
+            list: ListName::Admin,
+        })));
+    }
+    record.quota = quota;
+    let puts = vec![in alloc; (Key::OwnerOf(owner), Cell::Owner(record))]?;
+    Ok(Said::Done {
+        reply: Reply::Plain,
+        effect: Effect {
+            gone: None,
+            puts,
+            opens: OpenChange::Stay,
+        },
     })
 }

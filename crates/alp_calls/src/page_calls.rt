@@ -1,21 +1,31 @@
-//! Calls that read and write pages.
-ghost use Rattle.std.specs.Prelude.{◌≡◌, ◌+◌, ◌≤◌, [], ◌∷◌, ◌++◌, length, IfOk, OnOk, IsTrue, None, false, true};
+//! Calls that read, write and lock pages.
+ghost use Rattle.std.specs.Prelude.{◌≡◌, ◌+◌, ◌≤◌, ◌++◌, length, nat_lt, IfOk, OnOk, IsTrue, true, if◌then◌else◌, None, Some};
 ghost use Rattle.alp_base.specs.declared.lists.TheConstants.{PAGES_PER_FILE};
-ghost use Rattle.alp_files.specs.Act.{open_at, on_open, on_change, page_puts, mark_put, read_pages as read_pages_said, write_pages as write_pages_said};
-ghost use Rattle.alp_files.specs.Passing.{is_passing};
+ghost use Rattle.alp_files.specs.Act.{open_at, on_open, on_change, is_changing, page_puts, mark_put, read_pages as read_pages_said, write_pages as write_pages_said, lock_pages as lock_pages_said, id_in};
 ghost use Rattle.alp_files.specs.Undo.{puts_of};
+ghost use Rattle.alp_files.specs.Reading.{TellsPages};
 ghost use Rattle.alp_vault.specs.Volumes.{fit_keys};
 ghost use Rattle.alp_calls.specs.Looks.{Looks, fault_in};
-ghost use Rattle.alp_calls.specs.Parts.{AllFit, Says, GivesNone, IsNextOpen, ArePuts, has_contents, IsPartReply, is_told, reply_of, puts_in, open_in};
+ghost use Rattle.alp_calls.specs.Opened.{OpensOnly};
+ghost use Rattle.alp_calls.specs.Parts.{AllFit, Says, GivesNone, IsProper, reply_of, opens_in};
 
 use crate::CallFault;
-use crate::look::{pages_of, props_at};
-use crate::said::Said;
+use crate::finding::{OpenedFile, access_for, opened_file};
+use crate::look::pages_of;
+use crate::said::{Effect, OpenChange, Said};
 use alp_base::{Access, FileId, Key, OutOfMemory, PageList, PageRef, Run};
 use alp_files::{Cell, Props, Refusal, Reply};
+use alp_modes::Mode;
 use alp_trans::Part;
 use alp_vault::Vault;
 use std::alloc::Global;
+
+// Whether the run passes the file's size.
+fn is_past(run: Run, props: &Props) -> bool
+    ensures { result ≡ nat_lt props.now.size (run.first + run.count) }
+{
+    (props.size as u64) < run.first as u64 + run.count as u64
+}
 
 // The pages of a run as puts.
 fn page_cells(
@@ -67,27 +77,22 @@ pub(super) fn read_pages<V: Vault>(
     run: Run,
 ) -> Result<Said, CallFault>
     requires serving { IsTrue (V.serves vault.old) }
-    requires fit { AllFit part.now.intents }
+    requires fit { AllFit part.now.intents.puts }
     ensures right { IsTrue (V.tells vault.old) → IfOk result (λ s. Says (V.held vault.old).cells part.now s (λ own. on_open own (open_at own.opens open_no) (read_pages_said own run))) }
     ensures id { IfOk result (λ s. GivesNone (reply_of s)) }
-    ensures own { IfOk result (λ s. is_passing (reply_of s) ≡ false) }
-    ensures kind { IfOk result (λ s. IsPartReply (reply_of s)) }
-    ensures reads { IfOk result (λ s. has_contents (reply_of s) ≡ true → is_told s ≡ true) }
-    ensures next { IfOk result (λ s. IsNextOpen part.now.last (open_in s)) }
-    ensures puts { IfOk result (λ s. ArePuts (puts_in s)) }
+    ensures proper { IfOk result (λ s. IsProper part.now s) }
+    ensures opens { IfOk result (λ s. OpensOnly (id_in (reply_of s)) (opens_in s)) }
+    ensures pages { IfOk result (λ s. TellsPages (Some run.count) (reply_of s)) }
     ensures looked { Looks V.Vault vault.old vault.new (fault_in result) }
 {
-    let Some(open) = part.open_of(open_no) else {
-        return Ok(Said::Told(Reply::Refused(Refusal::UnknownOpen)));
+    let OpenedFile { opened, props } = match opened_file(vault, part, open_no, Access::ReadOnly)? {
+        Ok(found) => found,
+        Err(refusal) => return Ok(Said::Told(Reply::Refused(refusal))),
     };
-    let Some(props) = props_at(vault, &part.intents, open.file)? else {
-        return Ok(Said::Told(Reply::Refused(Refusal::UnknownOpen)));
-    };
-    let size = props.size;
-    if (size as u64) < run.first as u64 + run.count as u64 {
-        return Ok(Said::Told(Reply::Refused(Refusal::NoSuchPage { size })));
+    if is_past(run, &props) {
+        return Ok(Said::Told(Reply::Refused(Refusal::NoSuchPage { size: props.size })));
     }
-    let pages = pages_of(alloc, vault, &part.intents, open.file, run)?;
+    let pages = pages_of(alloc, vault, &part.intents, opened.file, run)?;
     Ok(Said::Told(Reply::Pages(pages)))
 }
 
@@ -100,34 +105,59 @@ pub(super) fn write_pages<V: Vault>(
     pages: &PageList,
 ) -> Result<Said, CallFault>
     requires serving { IsTrue (V.serves vault.old) }
-    requires fit { AllFit part.now.intents }
+    requires fit { AllFit part.now.intents.puts }
     requires whole { length pages.now ≡ run.count }
     ensures right { IsTrue (V.tells vault.old) → IfOk result (λ s. Says (V.held vault.old).cells part.now s (λ own. on_change own (open_at own.opens open_no) (write_pages_said own run pages.now))) }
     ensures id { IfOk result (λ s. GivesNone (reply_of s)) }
-    ensures own { IfOk result (λ s. is_passing (reply_of s) ≡ false) }
-    ensures kind { IfOk result (λ s. IsPartReply (reply_of s)) }
-    ensures reads { IfOk result (λ s. has_contents (reply_of s) ≡ true → is_told s ≡ true) }
-    ensures next { IfOk result (λ s. IsNextOpen part.now.last (open_in s)) }
-    ensures puts { IfOk result (λ s. ArePuts (puts_in s)) }
+    ensures proper { IfOk result (λ s. IsProper part.now s) }
+    ensures opens { IfOk result (λ s. OpensOnly (id_in (reply_of s)) (opens_in s)) }
+    ensures pages { IfOk result (λ s. TellsPages None (reply_of s)) }
     ensures looked { Looks V.Vault vault.old vault.new (fault_in result) }
 {
-    let Some(open) = part.open_of(open_no) else {
-        return Ok(Said::Told(Reply::Refused(Refusal::UnknownOpen)));
+    let OpenedFile { opened, props } = match opened_file(vault, part, open_no, Access::Change)? {
+        Ok(found) => found,
+        Err(refusal) => return Ok(Said::Told(Reply::Refused(refusal))),
     };
-    if open.access == Access::ReadOnly {
-        return Ok(Said::Told(Reply::Refused(Refusal::ReadOnlyOpen)));
-    }
-    let Some(props) = props_at(vault, &part.intents, open.file)? else {
-        return Ok(Said::Told(Reply::Refused(Refusal::UnknownOpen)));
-    };
-    if (props.size as u64) < run.first as u64 + run.count as u64 {
+    if is_past(run, &props) {
         return Ok(Said::Told(Reply::Refused(Refusal::NoSuchPage { size: props.size })));
     }
-    let mut puts = page_cells(alloc, open.file, run.first, pages.pages())?;
-    raise_mark(&mut puts, open.file, props, run.first + run.count as u32)?;
+    let mut puts = page_cells(alloc, opened.file, run.first, pages.pages())?;
+    raise_mark(&mut puts, opened.file, props, run.first + run.count as u32)?;
     Ok(Said::Done {
         reply: Reply::Plain,
-        puts,
-        opened: None,
+        effect: Effect {
+            gone: None,
+            puts,
+            opens: OpenChange::Stay,
+        },
     })
+}
+
+/// The locks stand already, and nothing is read.
+pub(super) fn lock_pages<V: Vault>(
+    vault: &mut V,
+    part: &Part,
+    open_no: u32,
+    run: Run,
+    mode: Mode,
+) -> Result<Said, CallFault>
+    requires serving { IsTrue (V.serves vault.old) }
+    requires fit { AllFit part.now.intents.puts }
+    ensures right { IsTrue (V.tells vault.old) → IfOk result (λ s. Says (V.held vault.old).cells part.now s (λ own.
+        if is_changing mode then on_change own (open_at own.opens open_no) (lock_pages_said own run) else on_open own (open_at own.opens open_no) (lock_pages_said own run))) }
+    ensures id { IfOk result (λ s. GivesNone (reply_of s)) }
+    ensures proper { IfOk result (λ s. IsProper part.now s) }
+    ensures opens { IfOk result (λ s. OpensOnly (id_in (reply_of s)) (opens_in s)) }
+    ensures pages { IfOk result (λ s. TellsPages None (reply_of s)) }
+    ensures looked { Looks V.Vault vault.old vault.new (fault_in result) }
+{
+    let wanted = access_for(mode);
+    let props = match opened_file(vault, part, open_no, wanted)? {
+        Ok(found) => found.props,
+        Err(refusal) => return Ok(Said::Told(Reply::Refused(refusal))),
+    };
+    if is_past(run, &props) {
+        return Ok(Said::Told(Reply::Refused(Refusal::NoSuchPage { size: props.size })));
+    }
+    Ok(Said::Told(Reply::Plain))
 }

@@ -1,22 +1,26 @@
-//! The file calls that are built so far.
-ghost use Rattle.std.specs.Prelude.{◌≡◌, ◌+◌, ◌^◌, ◌<◌, ◌≤◌, [], IfOk, OnOk, OnErr, IsTrue, None, false, true};
+//! The file calls.
+ghost use Rattle.std.specs.Prelude.{◌≡◌, ◌+◌, ◌^◌, ◌<◌, ◌≤◌, IfOk, OnOk, OnErr, IsTrue, None};
 ghost use Rattle.alp_base.specs.declared.key.Key.TheVariants as key;
-ghost use Rattle.alp_files.specs.Edits.{edits_map};
-ghost use Rattle.alp_files.specs.Passing.{is_passing};
-ghost use Rattle.alp_files.specs.Undo.{puts_of};
-ghost use Rattle.alp_trans.specs.Parts.{own_of};
+ghost use Rattle.alp_files.specs.Files.{AreFiles};
+ghost use Rattle.alp_files.specs.Needs.{intents_from};
+ghost use Rattle.alp_files.specs.Reading.{asked_pages, TellsPages};
+ghost use Rattle.alp_trans.specs.Parts.{own_of, AreBeside};
 ghost use Rattle.alp_calls.specs.Looks.{Looks, fault_in};
-ghost use Rattle.alp_calls.specs.Parts.{IsPart, CanPerform, IsAsBefore, seen, SaysCall, Answered, GivesOnly, IsNextOpen, ArePuts, Settled, has_contents, IsPartReply, is_told, reply_of, puts_in, open_in, own_with};
+ghost use Rattle.alp_calls.specs.Opened.{OpensOnly, named_by};
+ghost use Rattle.alp_calls.specs.Parts.{IsPart, CanPerform, IsAsBefore, seen, SaysCall, Answered, GivesOnly, IsProper, Settled, reply_of, own_with, edits_in, opens_in};
 
 use crate::CallFault;
 use crate::counting::counts_after;
-use crate::file_calls::{create_file, open_file};
+use crate::file_calls::{close_file, create_file, delete_file, open_file};
 use crate::limits::{Room, refused_for};
-use crate::owner_calls::make_owner;
-use crate::page_calls::{read_pages, write_pages};
-use crate::said::Said;
-use alp_base::{FileId, Key, Name, OutOfMemory};
-use alp_files::{Call, Cell, Open, Reply};
+use crate::opens::change_opens;
+use crate::owner_calls::{make_owner, read_owner, set_quota};
+use crate::page_calls::{lock_pages, read_pages, write_pages};
+use crate::prop_calls::{read_props, write_props};
+use crate::said::{Effect, Said};
+use crate::size_calls::set_size;
+use alp_base::{FileId, Name, OutOfMemory};
+use alp_files::{Call, Reply};
 use alp_trans::{Counts, Part};
 use alp_vault::Vault;
 use std::alloc::Global;
@@ -32,75 +36,67 @@ fn say<V: Vault>(
 ) -> Result<Said, CallFault>
     requires serving { IsTrue (V.serves vault.old) }
     requires new { IsTrue (V.tells vault.old) → seen (V.held vault.old).cells part.now (key.Leader id) ≡ None }
+    requires files { IsTrue (V.tells vault.old) → AreFiles (seen (V.held vault.old).cells part.now) }
     requires ready { CanPerform part.now call.now }
     ensures right { IsTrue (V.tells vault.old) → IfOk result (λ s. SaysCall (V.held vault.old).cells part.now who id call.now s) }
     ensures id { IfOk result (λ s. GivesOnly id (reply_of s)) }
-    ensures own { IfOk result (λ s. is_passing (reply_of s) ≡ false) }
-    ensures kind { IfOk result (λ s. IsPartReply (reply_of s)) }
-    ensures reads { IfOk result (λ s. has_contents (reply_of s) ≡ true → is_told s ≡ true) }
-    ensures next { IfOk result (λ s. IsNextOpen part.now.last (open_in s)) }
-    ensures puts { IfOk result (λ s. ArePuts (puts_in s)) }
+    ensures proper { IfOk result (λ s. IsProper part.now s) }
+    ensures opens { IfOk result (λ s. OpensOnly (named_by call.now (reply_of s)) (opens_in s)) }
+    ensures pages { IfOk result (λ s. TellsPages (asked_pages call.now) (reply_of s)) }
     ensures looked { Looks V.Vault vault.old vault.new (fault_in result) }
 {
     match call {
-        Call::CreateFile {
-            trans: _,
-            start,
-            choice: _,
-        } => create_file(alloc, vault, part, who, id, start),
-        Call::OpenFile {
-            trans: _,
-            file,
-            access,
-            mode: _,
-            choice: _,
-        } => open_file(alloc, vault, part, who, *file, *access),
-        Call::ReadPages {
-            trans: _,
-            open_no,
-            run,
-            mode: _,
-            choice: _,
-        } => read_pages(alloc, vault, part, *open_no, *run),
+        Call::CreateFile { start, .. } => create_file(alloc, vault, part, who, id, start),
+        Call::OpenFile { file, access, .. } => {
+            open_file(alloc, vault, part, who, *file, *access)
+        }
+        Call::CloseFile { open_no, .. } => Ok(close_file(alloc, part, *open_no)),
+        Call::DeleteFile { open_no, .. } => delete_file(alloc, vault, part, *open_no),
+        Call::ReadPages { open_no, run, .. } => read_pages(alloc, vault, part, *open_no, *run),
         Call::WritePages {
-            trans: _,
             open_no,
             run,
             pages,
-            choice: _,
+            ..
         } => write_pages(alloc, vault, part, *open_no, *run, pages),
+        Call::LockPages {
+            open_no,
+            run,
+            mode,
+            ..
+        } => lock_pages(vault, part, *open_no, *run, *mode),
+        Call::SetSize { open_no, size, .. } => set_size(alloc, vault, part, *open_no, *size),
+        Call::ReadProps { open_no, .. } => read_props(vault, part, *open_no),
+        Call::WriteProps {
+            open_no,
+            change,
+            ..
+        } => write_props(alloc, vault, part, who, *open_no, change),
+        Call::ReadOwner { owner, .. } => read_owner(vault, part, *owner),
         Call::MakeOwner {
-            trans: _,
             owner,
             quota,
             create,
-            choice: _,
+            ..
         } => make_owner(alloc, vault, part, who, *owner, *quota, create),
+        Call::SetQuota { owner, quota, .. } => set_quota(alloc, vault, part, who, *owner, *quota),
         _ => unreachable!(),
     }
 }
 
-// The part puts the cells and makes the open, and comes to these counts.
-fn change(
-    part: &mut Part,
-    alloc: Global,
-    counts: Counts,
-    puts: Vec<(Key, Cell)>,
-    opened: Option<Open>,
-) -> Result<(), OutOfMemory>
-    ensures intents { OnOk result (part.new.intents ≡ edits_map (puts_of puts.items) part.old.intents) }
-    ensures own { OnOk result (own_of part.new ≡ own_with (own_of part.old) opened) }
+// The part changes so, and comes to these counts.
+fn change(part: &mut Part, alloc: Global, counts: Counts, effect: Effect) -> Result<(), OutOfMemory>
+    requires { AreBeside effect.gone effect.puts.items }
+    ensures intents { OnOk result (part.new.intents ≡ intents_from part.old.intents (edits_in effect)) }
+    ensures own { OnOk result (own_of part.new ≡ own_with (own_of part.old) effect.opens) }
     ensures counts { OnOk result (part.new.counts ≡ counts) }
     ensures err { OnErr result (IsAsBefore part.old part.new) }
 {
+    let Effect { gone, puts, opens } = effect;
     part.opens.reserve(1)?;
-    part.intents.put_all(alloc, puts)?;
+    part.intents.change(alloc, gone, puts)?;
     part.counts = counts;
-    let Some(open) = opened else {
-        return Ok(());
-    };
-    part.last = open.number;
-    part.opens.push_reserved(open);
+    change_opens(part, opens);
     Ok(())
 }
 
@@ -114,9 +110,7 @@ fn settle<V: Vault>(
 ) -> Result<Reply, CallFault>
     requires serving { IsTrue (V.serves vault.old) }
     requires part { IsPart part.old }
-    requires reads { has_contents (reply_of said) ≡ true → is_told said ≡ true }
-    requires next { IsNextOpen part.old.last (open_in said) }
-    requires puts { ArePuts (puts_in said) }
+    requires proper { IsProper part.old said }
     ensures settled { IfOk result (λ r. Settled (V.tells vault.old) (V.held vault.old).cells part.old part.new room said r) }
     ensures part { IsPart part.new }
     ensures err { OnErr result (IsAsBefore part.old part.new) }
@@ -129,16 +123,12 @@ fn settle<V: Vault>(
             }
             Ok(reply)
         }
-        Said::Done {
-            reply,
-            puts,
-            opened,
-        } => {
-            let counts = counts_after(alloc, vault, part, &puts)?;
+        Said::Done { reply, effect } => {
+            let counts = counts_after(alloc, vault, part, effect.gone, &effect.puts)?;
             if let Some(refusal) = refused_for(room, part.counts, counts) {
                 return Ok(Reply::Refused(refusal));
             }
-            change(part, alloc, counts, puts, opened)?;
+            change(part, alloc, counts, effect)?;
             Ok(reply)
         }
     }
@@ -157,6 +147,7 @@ pub fn perform<V: Vault>(
 ) -> Result<Reply, CallFault>
     requires serving { IsTrue (V.serves vault.old) }
     requires new { IsTrue (V.tells vault.old) → seen (V.held vault.old).cells part.old (key.Leader id) ≡ None }
+    requires files { IsTrue (V.tells vault.old) → AreFiles (seen (V.held vault.old).cells part.old) }
     requires ready { CanPerform part.old call.now }
     ensures answered { IfOk result (λ r. Answered (V.tells vault.old) (V.held vault.old).cells part.old part.new who id call.now room r) }
     ensures part { IsPart part.new }

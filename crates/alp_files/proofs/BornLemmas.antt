@@ -1,5 +1,5 @@
 -- a call gives no id but the next one
-use Rattle.std.specs.Prelude.{cond, Bool, true, false, not, nat_lt, Option, None, Some, is_some}
+use Rattle.std.specs.Prelude.{cond, Bool, true, false, not, ◌==◌, ◌-◌, min, nat_lt, Option, None, Some, is_some}
 use Rattle.std.specs.Ordering.{eq_by_cmp}
 use Rattle.std.proofs.lemmas.Map.Views.{tells_apart}
 use Rattle.std.proofs.Common.{◌≡◌, ℕ, zero, suc, ◌+◌, ◌<◌, ◌≤◌, List, [], ◌∷◌, ◌++◌, refl, sym, ◌∙◌, ap, subst, arith}
@@ -15,17 +15,19 @@ use Rattle.alp_files.specs.declared.cell.Cell.TheVariants as cell
 use Rattle.alp_files.specs.declared.cell.Props.{Props}
 use Rattle.alp_files.specs.declared.call.Call.{Call}
 use Rattle.alp_files.specs.declared.call.Call.TheVariants as call
+use Rattle.alp_files.specs.declared.call.PropChange.{PropChange}
+use Rattle.alp_files.specs.declared.call.PropChange.TheVariants as prop
+use Rattle.alp_modes.specs.declared.Mode.{Mode}
 use Rattle.alp_files.specs.declared.reply.Reply.{Reply}
 use Rattle.alp_files.specs.declared.reply.Reply.TheVariants as reply
 use Rattle.alp_files.specs.declared.refusal.Refusal.{Refusal}
 use Rattle.alp_files.specs.declared.open.Open.{Open}
 use Rattle.alp_files.specs.declared.refusal.Refusal.TheVariants as refusal
 use Rattle.alp_files.specs.declared.refusal.ListName.TheVariants as lists
-use Rattle.alp_files.specs.Cells.{View, props_in, owner_in, page_in}
-use Rattle.alp_files.specs.Edits.{Edit, Put, after}
-use Rattle.alp_files.specs.Act.{Own, Answer, Look, Ask, Say, run, unless, refused, replied, no_answer, is_admin, on_props, on_open, on_change, if_change, ask_pages, page_past, page_puts, mark_put, read_pages, write_pages, make_owner, create_file, create_tests, created_file, is_new, owner_of, props_of, access_tests, opened, answer, id_in, open_at}
+use Rattle.alp_files.specs.Cells.{View, same_file, same_name, props_in, owner_in, page_in}
+use Rattle.alp_files.specs.Edits.{Edit, Drop, Cut, Put, after}
+use Rattle.alp_files.specs.Act.{Own, Answer, Look, Ask, Say, run, unless, refused, replied, no_answer, admits, is_admin, is_over, quota_exceeded, charge_put, on_props, on_open, on_change, if_change, ask_pages, page_past, page_puts, mark_put, read_pages, write_pages, lock_pages, is_changing, close_file, delete_file, put_props, cut_file, grow_file, set_size, move_tests, move_file, write_props, read_owner, make_owner, set_quota, create_file, create_tests, created_file, is_new, owner_of, props_of, access_tests, opened, answer, id_in, open_at}
 use Rattle.alp_files.specs.Born.{IsUnborn, count_after}
-use Rattle.alp_files.specs.Built.{IsBuilt}
 use Rattle.alp_files.proofs.EditLemmas.{after-append}
 
 -- a leader that is seen has an id that was given
@@ -53,6 +55,12 @@ unborn_pages server epoch count f (p ∷ ps) first m h = unborn_pages server epo
 
 unborn_owner : (server epoch count : ℕ) (name : List ℕ) (c : Cell) (m : View) → IsUnborn server epoch m count → IsUnborn server epoch (after (Put (OwnerOf name) c ∷ []) m) count
 unborn_owner server epoch count name c m h = h
+
+-- what goes takes no leader above the count along that was not there
+unborn_drop : (server epoch count : ℕ) (f : FileId) (m : View) → IsUnborn server epoch m count → IsUnborn server epoch (after (Drop f ∷ []) m) count
+unborn_drop server epoch count f m h n high =
+    let g : FileId = record { server = server; epoch = epoch; counter = n } in
+    elim (same_file f g) as (λ b. cond b None (m (Leader g)) ≡ None) [ true ↦ refl | false ↦ h n high ]
 
 -- a count that is higher
 pub unborn_more : (server epoch m n : ℕ) (v : View) → m ≤ n → IsUnborn server epoch v m → IsUnborn server epoch v n
@@ -133,6 +141,85 @@ module _ (server epoch count : ℕ) (m : View) (h : IsUnborn server epoch m coun
       (replied own reply.Plain (Put (OwnerOf name) (cell.Owner (record { name = name; quota = quota; charge = 0; create = create })) ∷ []))
       (unborn_owner server epoch count name (cell.Owner (record { name = name; quota = quota; charge = 0; create = create })) m h)
 
+  -- the leader of a file that is seen
+  keeps_leader : (o : Open) (p new : Props) → m (Leader o.file) ≡ Some (cell.Leader p) → IsUnborn server epoch (after (Put (Leader o.file) (cell.Leader new) ∷ []) m) count
+  keeps_leader o p new there = unborn_leader server epoch count m o.file (cell.Leader new) h (born_there server epoch count m o.file (cell.Leader p) h there)
+
+  keeps_close : (own : Own) (n : ℕ) (oo : Option Open) → Keeps (run m (close_file own n oo)).edits
+  unfolding Keeps
+  keeps_close own n None = h
+  keeps_close own n (Some o) = h
+
+  keeps_delete : (own : Own) (o : Open) (p : Props) → Keeps (run m (delete_file own o p)).edits
+  unfolding Keeps
+  keeps_delete own o p = unborn_drop server epoch count o.file m h
+
+  keeps_lock : (own : Own) (mode : Mode) (r : Run) (oo : Option Open)
+      → Keeps (run m (cond (is_changing mode) (on_change own oo (lock_pages own r)) (on_open own oo (lock_pages own r)))).edits
+  unfolding Keeps
+  keeps_lock own mode r oo =
+      elim (is_changing mode) as (λ b. Keeps (run m (cond b (on_change own oo (lock_pages own r)) (on_open own oo (lock_pages own r)))).edits) [
+        | true ↦ keeps_change own oo (lock_pages own r) (λ o p there. keeps_unless own (page_past r p) (replied own reply.Plain []) h)
+        | false ↦ keeps_open own oo (lock_pages own r) (λ o p there. keeps_unless own (page_past r p) (replied own reply.Plain []) h)
+      ]
+
+  keeps_put : (own : Own) (o : Open) (p new : Props) → m (Leader o.file) ≡ Some (cell.Leader p) → Keeps (run m (put_props own o new)).edits
+  unfolding Keeps
+  keeps_put own o p new there = keeps_leader o p new there
+
+  keeps_cut : (own : Own) (size : ℕ) (o : Open) (p : Props) → m (Leader o.file) ≡ Some (cell.Leader p) → Keeps (run m (cut_file own size o p)).edits
+  unfolding Keeps
+  keeps_cut own size o p there = keeps_leader o p (record p { size = size; high_water = min p.high_water size }) there
+
+  keeps_grow : (own : Own) (size : ℕ) (o : Open) (p : Props) → m (Leader o.file) ≡ Some (cell.Leader p) → Keeps (run m (grow_file own size o p)).edits
+  unfolding Keeps
+  keeps_grow own size o p there =
+      let oc : Option Cell = m (OwnerOf p.owner) in
+      keeps_unless own ((is_over (owner_of oc) (size - p.size), quota_exceeded (owner_of oc) (size - p.size)) ∷ [])
+      (replied own reply.Plain (Put (Leader o.file) (cell.Leader (record p { size = size })) ∷ charge_put p.owner (owner_of oc) ((owner_of oc).charge + (size - p.size)) ∷ []))
+      (keeps_leader o p (record p { size = size }) there)
+
+  keeps_size : (own : Own) (size : ℕ) (o : Open) (p : Props) → m (Leader o.file) ≡ Some (cell.Leader p) → Keeps (run m (set_size own size o p)).edits
+  unfolding Keeps
+  keeps_size own size o p there =
+      elim (size == p.size) as (λ b. Keeps (run m (cond b (put_props own o p) (cond (nat_lt size p.size) (cut_file own size o p) (grow_file own size o p)))).edits) [
+        | true ↦ keeps_put own o p p there
+        | false ↦ elim (nat_lt size p.size) as (λ b. Keeps (run m (cond b (cut_file own size o p) (grow_file own size o p))).edits) [
+          | true ↦ keeps_cut own size o p there
+          | false ↦ keeps_grow own size o p there
+        ]
+      ]
+
+  keeps_move : (own : Own) (who name : List ℕ) (o : Open) (p : Props) → m (Leader o.file) ≡ Some (cell.Leader p) → Keeps (run m (move_file own who name o p)).edits
+  unfolding Keeps
+  keeps_move own who name o p there =
+      let nc : Option Cell = m (OwnerOf name) in
+      let oc : Option Cell = m (OwnerOf p.owner) in
+      let moved : Answer = replied own reply.Plain (Put (Leader o.file) (cell.Leader (record p { owner = name }))
+      ∷ charge_put p.owner (owner_of oc) ((owner_of oc).charge - p.size) ∷ charge_put name (owner_of nc) ((owner_of nc).charge + p.size) ∷ []) in
+      elim (same_name p.owner name) as (λ b. Keeps (run m (cond b (Say (replied own reply.Plain []))
+      (Ask (OwnerOf name) (λ nc. Ask (OwnerOf p.owner) (λ oc. Say (unless own (move_tests who name p.size nc) (replied own reply.Plain (Put (Leader o.file) (cell.Leader (record p { owner = name }))
+      ∷ charge_put p.owner (owner_of oc) ((owner_of oc).charge - p.size) ∷ charge_put name (owner_of nc) ((owner_of nc).charge + p.size) ∷ [])))))))).edits) [
+        | true ↦ h
+        | false ↦ keeps_unless own (move_tests who name p.size nc) moved (keeps_leader o p (record p { owner = name }) there)
+      ]
+
+  keeps_props_put : (own : Own) (who : List ℕ) (change : PropChange) (o : Open) (p : Props) → m (Leader o.file) ≡ Some (cell.Leader p) → Keeps (run m (write_props own who change o p)).edits
+  unfolding Keeps
+  keeps_props_put own who (prop.Owner n) o p there = keeps_move own who n o p there
+  keeps_props_put own who (prop.Name n) o p there = keeps_put own o p (record p { name = n }) there
+  keeps_props_put own who (prop.TypeNo n) o p there = keeps_put own o p (record p { type_no = n }) there
+  keeps_props_put own who (prop.ByteLength n) o p there = keeps_put own o p (record p { byte_length = n }) there
+  keeps_props_put own who (prop.Read l) o p there = keeps_put own o p (record p { read = l }) there
+  keeps_props_put own who (prop.Modify l) o p there = keeps_put own o p (record p { modify = l }) there
+
+  keeps_quota : (own : Own) (who name : List ℕ) (quota : ℕ) → Keeps (run m (set_quota own who name quota)).edits
+  unfolding Keeps
+  keeps_quota own who name quota = keeps_unless own
+      ((not (is_some (owner_in (m (OwnerOf name)))), refusal.UnknownOwner) ∷ (not (is_admin who), refusal.AccessDenied lists.Admin) ∷ [])
+      (replied own reply.Plain (Put (OwnerOf name) (cell.Owner (record (owner_of (m (OwnerOf name))) { quota = quota })) ∷ []))
+      h
+
 counter_in : Key → ℕ
 counter_in (Leader f) = f.counter
 counter_in (PageOf f n) = 0
@@ -164,11 +251,11 @@ module _ (server epoch count : ℕ) (m : View) (h : IsUnborn server epoch m coun
 
 -- after a call no id above the count is seen, whatever is answered
 pub unborn_kept : (server epoch count : ℕ) (made : List FileId) (m : View) (who : List ℕ) (own : Own) (c : Call) (r : Reply)
-    → IsBuilt c → IsUnborn server epoch m count
+    → IsUnborn server epoch m count
     → ((f : FileId) (n : ℕ) → r ≡ reply.Created f n → f ≡ record { server = server; epoch = epoch; counter = count + 1 })
     → IsUnborn server epoch (after (answer server made m who own c r).edits m) (count_after count r)
 unfolding Keeps
-unborn_kept server epoch count made m who own c r built h id = go c r built id
+unborn_kept server epoch count made m who own c r h id = go c r id
   where
     below : (r : Reply) → count ≤ count_after count r
     below (reply.Created f n) = omega arith
@@ -203,25 +290,26 @@ unborn_kept server epoch count made m who own c r built h id = go c r built id
     created start (reply.Ended e) id = keeps_refusal server epoch count m h made own who start
     created start (reply.Refused f) id = keeps_refusal server epoch count m h made own who start
 
-    go : (c : Call) (r : Reply) → IsBuilt c → ((f : FileId) (n : ℕ) → r ≡ reply.Created f n → f ≡ record { server = server; epoch = epoch; counter = count + 1 })
+    go : (c : Call) (r : Reply) → ((f : FileId) (n : ℕ) → r ≡ reply.Created f n → f ≡ record { server = server; epoch = epoch; counter = count + 1 })
         → IsUnborn server epoch (after (answer server made m who own c r).edits m) (count_after count r)
-    go (call.CreateFile t start choice) r built id = created start r id
-    go (call.OpenFile t f a mode choice) r built id = more ((answer server made m who own (call.OpenFile t f a mode choice) r).edits) r (keeps_unless server epoch count m h own
+    go (call.CreateFile t start choice) r id = created start r id
+    go (call.OpenFile t f a mode choice) r id = more ((answer server made m who own (call.OpenFile t f a mode choice) r).edits) r (keeps_unless server epoch count m h own
         ((not (is_some (props_in (m (Leader f)))), refusal.UnknownFile) ∷ access_tests a who (props_of (m (Leader f)))) (record { reply = Some (reply.Opened (own.last + 1)); edits = []; own = opened own f a }) h)
-    go (call.ReadPages t n run mode choice) r built id = more ((answer server made m who own (call.ReadPages t n run mode choice) r).edits) r (keeps_open server epoch count m h own (open_at own.opens n) (read_pages own run) (λ o p there. keeps_pages server epoch count m h own run o p))
-    go (call.WritePages t n run pages choice) r built id = more ((answer server made m who own (call.WritePages t n run pages choice) r).edits) r (keeps_change server epoch count m h own (open_at own.opens n) (write_pages own run pages) (λ o p there. keeps_write server epoch count m h own run pages o p there))
-    go (call.MakeOwner t name quota create choice) r built id = more ((answer server made m who own (call.MakeOwner t name quota create choice) r).edits) r (keeps_owner server epoch count m h own who name quota create)
-    go (call.Hello name) r built id = absurd built
-    go (call.Begin seen) r built id = absurd built
-    go (call.Join t) r built id = absurd built
-    go (call.CloseFile t n) r built id = absurd built
-    go (call.DeleteFile t n choice) r built id = absurd built
-    go (call.LockPages t n run mode choice) r built id = absurd built
-    go (call.SetSize t n size choice) r built id = absurd built
-    go (call.ReadProps t n) r built id = absurd built
-    go (call.WriteProps t n change choice) r built id = absurd built
-    go (call.ReadOwner t name choice) r built id = absurd built
-    go (call.SetQuota t name quota choice) r built id = absurd built
-    go (call.Finish t commit) r built id = absurd built
-    go (call.Outcome t) r built id = absurd built
-    go (call.Collect n) r built id = absurd built
+    go (call.CloseFile t n) r id = more ((answer server made m who own (call.CloseFile t n) r).edits) r (keeps_close server epoch count m h own n (open_at own.opens n))
+    go (call.DeleteFile t n choice) r id = more ((answer server made m who own (call.DeleteFile t n choice) r).edits) r (keeps_change server epoch count m h own (open_at own.opens n) (delete_file own) (λ o p there. keeps_delete server epoch count m h own o p))
+    go (call.ReadPages t n run mode choice) r id = more ((answer server made m who own (call.ReadPages t n run mode choice) r).edits) r (keeps_open server epoch count m h own (open_at own.opens n) (read_pages own run) (λ o p there. keeps_pages server epoch count m h own run o p))
+    go (call.WritePages t n run pages choice) r id = more ((answer server made m who own (call.WritePages t n run pages choice) r).edits) r (keeps_change server epoch count m h own (open_at own.opens n) (write_pages own run pages) (λ o p there. keeps_write server epoch count m h own run pages o p there))
+    go (call.LockPages t n run mode choice) r id = more ((answer server made m who own (call.LockPages t n run mode choice) r).edits) r (keeps_lock server epoch count m h own mode run (open_at own.opens n))
+    go (call.SetSize t n size choice) r id = more ((answer server made m who own (call.SetSize t n size choice) r).edits) r (keeps_change server epoch count m h own (open_at own.opens n) (set_size own size) (λ o p there. keeps_size server epoch count m h own size o p there))
+    go (call.ReadProps t n) r id = more ((answer server made m who own (call.ReadProps t n) r).edits) r (keeps_open server epoch count m h own (open_at own.opens n) (λ o p. Say (replied own (reply.Props p) [])) (λ o p there. h))
+    go (call.WriteProps t n change choice) r id = more ((answer server made m who own (call.WriteProps t n change choice) r).edits) r (keeps_change server epoch count m h own (open_at own.opens n) (write_props own who change) (λ o p there. keeps_props_put server epoch count m h own who change o p there))
+    go (call.ReadOwner t name choice) r id = more ((answer server made m who own (call.ReadOwner t name choice) r).edits) r (keeps_unless server epoch count m h own
+        ((not (is_some (owner_in (m (OwnerOf name)))), refusal.UnknownOwner) ∷ []) (replied own (reply.Owner (owner_of (m (OwnerOf name)))) []) h)
+    go (call.MakeOwner t name quota create choice) r id = more ((answer server made m who own (call.MakeOwner t name quota create choice) r).edits) r (keeps_owner server epoch count m h own who name quota create)
+    go (call.SetQuota t name quota choice) r id = more ((answer server made m who own (call.SetQuota t name quota choice) r).edits) r (keeps_quota server epoch count m h own who name quota)
+    go (call.Hello name) r id = more [] r h
+    go (call.Begin seen) r id = more [] r h
+    go (call.Join t) r id = more [] r h
+    go (call.Finish t commit) r id = more [] r h
+    go (call.Outcome t) r id = more [] r h
+    go (call.Collect n) r id = more [] r h

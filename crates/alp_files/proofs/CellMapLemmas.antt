@@ -1,9 +1,9 @@
 -- a tree of cells is a finite map
-use Rattle.std.specs.Prelude.{Option, None, Some, cond, Bool, true, false, map as list_map}
+use Rattle.std.specs.Prelude.{Option, None, Some, cond, Bool, true, false, filter, map as list_map}
 use Rattle.std.specs.Option.{option_or}
 use Rattle.std.specs.List.Sorted.{IsStrictlySortedBy}
 use Rattle.std.specs.FinMap as map
-use Rattle.std.specs.FinMap.{FinMap, get-insert}
+use Rattle.std.specs.FinMap.{FinMap, get-insert, get-retain_keys, same_map}
 use Rattle.std.specs.Map.{lookup}
 use Rattle.std.specs.BTreeMap.{is_at}
 use Rattle.std.proofs.Common.{◌≡◌, List, [], ◌∷◌, ◌++◌, ◌<◌, length, refl, sym, ◌∙◌, ap, arith}
@@ -11,6 +11,7 @@ use Rattle.alp_base.proofs.TreeLemmas.{get_at, put_at, remove_at, entries_back a
 use Rattle.alp_base.specs.declared.key.Key.{Key}
 use Rattle.alp_base.specs.Keys.{key_cmp}
 use Rattle.alp_base.specs.KeyLaws.{keys_total, exact_keys}
+use Rattle.alp_files.proofs.SameLemmas.{same_key-true}
 
 -- what the entries have at a key
 abbrev pub cell_at : {X : Type 0} → List (Key × X) → Key → Option X
@@ -73,3 +74,32 @@ one_removal es fs k h = remove_at keys_total exact_keys es fs k h
 -- what is seen in the map is what the entries have
 pub seen_at : {X : Type 0} (es : List (Key × X)) → map.get (map.from_entries {R = key_cmp} es) ≡ cell_at es
 seen_at es = λ i q. get_cell es q i
+
+-- ---- the entries at the keys that pass a test
+
+module _ {X : Type 0} (p : Key → Bool) where
+  cell_at-filter : (es : List (Key × X)) (q : Key) → cell_at (filter (λ e. p e.0) es) q ≡ cond (p q) (cell_at es q) None
+  cell_at-filter [] q = go (p q)
+    where
+      go : (b : Bool) → None ≡ cond {A = Option X} b None None
+      go true = refl
+      go false = refl
+  cell_at-filter (e ∷ es) q = go (p e.0) (is_at (key_cmp q) e.0) refl refl (cell_at-filter es q)
+    where
+      other : (b : Bool) (t : Bool) → p e.0 ≡ b → is_at (key_cmp q) e.0 ≡ t → t ≡ true → p q ≡ b
+      other b t kept here is = ap p (same_key-true q e.0 (here ∙ is)) ∙ kept
+
+      go : (b t : Bool) → p e.0 ≡ b → is_at (key_cmp q) e.0 ≡ t → cell_at (filter (λ x. p x.0) es) q ≡ cond (p q) (cell_at es q) None
+          → cell_at (cond {A = List (Key × X)} b (e ∷ filter (λ x. p x.0) es) (filter (λ x. p x.0) es)) q ≡ cond (p q) (cond t (Some e.1) (cell_at es q)) None
+      go true true kept here rest =
+          ap (λ (t : Bool). cond t (Some e.1) (cell_at (filter (λ x. p x.0) es) q)) here ∙ ap (λ (b : Bool). cond b (Some e.1) None) (sym (other true true kept here refl))
+      go true false kept here rest = ap (λ (t : Bool). cond t (Some e.1) (cell_at (filter (λ x. p x.0) es) q)) here ∙ rest
+      go false true kept here rest =
+          let gone : p q ≡ false = other false true kept here refl in
+          rest ∙ ap (λ (b : Bool). cond b (cell_at es q) None) gone ∙ ap (λ (b : Bool). cond b (Some e.1) None) (sym gone)
+      go false false kept here rest = rest
+
+  pub kept_entries : (es : List (Key × X)) → map.from_entries {R = key_cmp} (filter (λ e. p e.0) es) ≡ map.retain_keys (map.from_entries es) p
+  kept_entries es = same_map keys_total exact_keys _ _ (λ q.
+      get_cell (filter (λ e. p e.0) es) q ∙ cell_at-filter es q ∙ ap (λ (o : Option X). cond (p q) o None) (sym (get_cell es q))
+      ∙ sym (get-retain_keys (map.from_entries es) p q (λ x e. ap p (sym (exact_keys q x e)))))

@@ -2,6 +2,8 @@ pub mod CellMapLemmas
 pub mod EditLemmas
 pub mod HistoryLemmas
 pub mod UndoLemmas
+pub mod PutBack
+pub mod IntentLemmas
 pub mod BornLemmas
 pub mod SumLemmas
 pub mod SameLemmas

@@ -10,8 +10,9 @@ pub mod Needs
 pub mod SoundLaws
 pub mod Locks
 pub mod Apart
-pub mod Built
 pub mod Born
 pub mod Passing
 pub mod Holdings
+pub mod IntentCode
 pub mod Changes
+pub mod Reading

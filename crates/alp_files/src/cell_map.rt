@@ -1,5 +1,5 @@
 //! A map of cells by their keys.
-ghost use Rattle.std.specs.Prelude.{◌≡◌, ℕ, ◌<◌, ◌≤◌, List, [], ◌∷◌, ◌++◌, length, true, false, IfOk, OnOk, OnErr, Some, None, IsSome, IfSome, IfNone, map as list_map};
+ghost use Rattle.std.specs.Prelude.{◌≡◌, ℕ, ◌<◌, ◌≤◌, List, [], ◌∷◌, ◌++◌, length, filter, true, false, not, IfOk, OnOk, OnErr, Some, None, IsSome, IfSome, IfNone, map as list_map};
 ghost use Rattle.std.specs.List.{filter_map, IsDistinct};
 ghost use Rattle.std.specs.Ordering.{eq_by_cmp};
 ghost use Rattle.std.specs.BTreeMap.{values, get, IsOrdered};
@@ -10,7 +10,7 @@ ghost use Rattle.alp_base.specs.Keys.{key_cmp};
 ghost use Rattle.alp_files.specs.declared.cell.Cell.{Cell as ACell};
 ghost use Rattle.alp_files.specs.Undo.{puts_of, LedBy};
 ghost use Rattle.alp_files.specs.Cells.{Cells, View, size_in, sizes_of, owner_in, owners_of};
-ghost use Rattle.alp_files.specs.Edits.{over, edits_map};
+ghost use Rattle.alp_files.specs.Edits.{over, edits_map, is_in_file as is_in_file_said, is_past as is_past_said};
 ghost use Rattle.alp_files.specs.Counts.{APageStands, page_up_to};
 ghost use Rattle.std.specs.FinMap as map;
 ghost use Rattle.std.specs.Option.{option_copied as copied};
@@ -81,6 +81,20 @@ impl CellMap {
         ensures { self.new ≡ map.remove self.old key.now }
     {
         self.cells.remove(key);
+    }
+
+    /// Nothing of the file stands from now on.
+    pub fn remove_file(&mut self, file: FileId)
+        ensures { self.new ≡ map.retain_keys self.old (λ k. not (is_in_file_said file k)) }
+    {
+        self.cells.retain(|key, _| !is_in_file(key, file));
+    }
+
+    /// No page of the file from this number on stands from now on.
+    pub fn remove_pages(&mut self, file: FileId, first: u32)
+        ensures { self.new ≡ map.retain_keys self.old (λ k. not (is_past_said file first k)) }
+    {
+        self.cells.retain(|key, _| !is_past(key, file, first));
     }
 
     /// Whether a page of the file stands at a number from `first` to `last`.
@@ -158,6 +172,14 @@ impl CellMap {
         Ok(copies)
     }
 
+    /// Those of one file.
+    pub fn copies_of(&self, alloc: Global, file: FileId) -> Result<Vec<(Key, Cell)>, OutOfMemory>
+        ensures { IfOk result (λ v. v.items ≡ filter (λ e. is_in_file_said file e.0) (map.entries self.now)) }
+    {
+        let copies = copies_of(alloc, &self.cells, file)?;
+        Ok(copies)
+    }
+
     /// The sizes of the files, in pages.
     pub fn sizes(&self, alloc: Global) -> Result<Vec<u32>, OutOfMemory>
         ensures { IfOk result (λ v. v.items ≡ sizes_of self.now) }
@@ -172,6 +194,27 @@ impl CellMap {
     {
         let owners = owners_in(alloc, &self.cells)?;
         Ok(owners)
+    }
+}
+
+/// Whether the key is the leader or a page of the file.
+pub fn is_in_file(key: &Key, file: FileId) -> bool
+    ensures { result ≡ is_in_file_said file key.now }
+{
+    match key {
+        Key::Leader(other) => file == *other,
+        Key::PageOf(other, _) => file == *other,
+        Key::OwnerOf(_) => false,
+    }
+}
+
+/// Whether the key is a page of the file from this number on.
+pub fn is_past(key: &Key, file: FileId, first: u32) -> bool
+    ensures { result ≡ is_past_said file first key.now }
+{
+    match key {
+        Key::PageOf(other, number) => file == *other && first <= *number,
+        _ => false,
     }
 }
 
@@ -204,6 +247,23 @@ fn copies_in(alloc: Global, cells: &BTreeMap<Key, Cell>) -> Result<Vec<(Key, Cel
     let mut copies = Vec::new(alloc);
     for (key, cell) in cells.iter() {
         copies.push((*key, cell.clone()?))?;
+    }
+    Ok(copies)
+}
+
+fn copies_of(
+    alloc: Global,
+    cells: &BTreeMap<Key, Cell>,
+    file: FileId,
+) -> Result<Vec<(Key, Cell)>, OutOfMemory>
+    ensures copies { IfOk result (λ v. v.items ≡ filter (λ e. is_in_file_said file e.0) cells.now.entries) }
+    ensures rising { IsOrdered key_cmp cells.now }
+{
+    let mut copies = Vec::new(alloc);
+    for (key, cell) in cells.iter() {
+        if is_in_file(key, file) {
+            copies.push((*key, cell.clone()?))?;
+        }
     }
     Ok(copies)
 }

@@ -79,3 +79,5 @@ pub mod Performed
 pub mod EffectiveActs
 pub mod RightNeighbours
 pub mod Shared
+pub mod RefusedAnswers
+pub mod RefusalLemmas

@@ -1,7 +1,7 @@
 -- rows of one server, answered as the laws on answers say, and answered wrongly
-use Rattle.std.specs.Prelude.{ℕ, codes, true, false, cond, Bool, flat_map}
+use Rattle.std.specs.Prelude.{ℕ, codes, true, false, cond, Bool, flat_map, ◌++◌}
 use Rattle.std.specs.List.Sorted.{IsPermutation}
-use Rattle.std.proofs.Common.{◌≡◌, ◌<◌, List, [], ◌∷◌, Option, None, Some, refl, inl, inr, arith}
+use Rattle.std.proofs.Common.{ap, sym, ◌∙◌, ◌≡◌, ◌<◌, List, [], ◌∷◌, Option, None, Some, refl, inl, inr, arith}
 use Rattle.alp_base.specs.declared.ids.TransId.{TransId}
 use Rattle.alp_files.specs.declared.call.Call.{Call}
 use Rattle.alp_files.specs.declared.call.Call.TheVariants as call
@@ -43,6 +43,12 @@ use Rattle.alp_journal.specs.Laws.{IsFree}
 use Rattle.alp_history.specs.Examples.{trans, join, stamp, nothing_seen, new, calls, arrives}
 use Rattle.alp_history.specs.WrongJournals.{first_file}
 use Rattle.alp_history.proofs.Places.{in-list}
+use Rattle.std.specs.FinMap.{len-empty}
+use Rattle.alp_base.specs.KeyLaws.{file_cmp}
+use Rattle.alp_base.specs.Keys.{key_cmp}
+use Rattle.alp_files.specs.declared.cell.Cell.{Cell}
+use Rattle.alp_files.specs.Needs.{changed}
+use Rattle.alp_journal.specs.Halts.{written}
 
 -- ---- a transaction of one server
 
@@ -73,11 +79,15 @@ says s e = due false s (next s e) e.event e.reply
 hello_session : KeepsSessions s0 hello hello.event
 hello_session = refl
 
+-- a part that has no change yet changes nothing
+nothing_changed : changed [] ≡ 0
+nothing_changed = cc (len-empty file_cmp (Unit {0}), len-empty file_cmp ℕ, len-empty key_cmp Cell)
+
 begin_answered : AnswersRight false s1 begin
 begin_answered = refl
 
 commit_answered : AnswersRight false s2 commit
-commit_answered = refl
+commit_answered = rw (nothing_changed) refl
 
 commit_says : says s2 commit ≡ []
 commit_says = refl
@@ -87,14 +97,14 @@ commit_counts = refl
 
 -- without a fault it may not be refused for one
 commit_not_fault : AnswersRight false s2 (calls 1 3 (call.Finish trans true) (reply.Refused (refusal.Aborted (cause.Voted 1 why.ReadFault))) (act.Released trans ∷ [])) → ⊥
-commit_not_fault h = cc
+commit_not_fault h = let wrong : reply.Refused (refusal.Aborted (cause.Voted 1 why.ReadFault)) ≡ reply.Committed stamp = h ∙ sym commit_answered in cc
 
 commit_fault : AnswersRight true s2 (calls 1 3 (call.Finish trans true) (reply.Refused (refusal.Aborted (cause.Voted 1 why.ReadFault))) (act.Released trans ∷ []))
-commit_fault = refl
+commit_fault = rw (nothing_changed) refl
 
 -- nor be kept waiting
 commit_not_later : AnswersRight false s2 (calls 1 3 (call.Finish trans true) (reply.Refused refusal.NotYet) []) → ⊥
-commit_not_later h = cc
+commit_not_later h = let wrong : reply.Refused refusal.NotYet ≡ reply.Committed stamp = h ∙ sym commit_answered in cc
 
 -- after it: the outcome, another Finish, a Begin of the next one, a Collect of nothing, a Join at the coordinator
 outcome_answered : AnswersRight false s3 (calls 1 4 (call.Outcome trans) (reply.Ended (ending.Committed stamp)) [])
@@ -211,7 +221,7 @@ abbrev vote : Entry
 vote = arrives 2 (msg.Ready trans join 3) (act.Decided (record { ts = 3; trans = trans }) (join ∷ []) ∷ act.Released trans ∷ act.Sent 2 (msg.Commit trans join (record { ts = 3; trans = trans })) ∷ [])
 
 vote_says : says s6 vote ≡ flat_map sent_by vote.acts
-vote_says = refl
+vote_says = rw (nothing_changed) refl
 
 vote_counts : has_votes ((next s6 vote).fates trans) ≡ false
 vote_counts = refl
@@ -244,13 +254,16 @@ stop_right = ((refl, refl), refl)
 
 -- it names what the one write of the step would have held, and a stop that hides it is refused
 stop_named : HaltsRight s6 stops
-stop_named = inl (record { reaches = refl; acts = refl })
+stop_named = inl (record { reaches = rw (nothing_changed) refl; acts = rw (nothing_changed) refl })
 
 commit_stops : HaltsRight s2 (calls 1 3 (call.Finish trans true) (reply.Refused refusal.Down) (act.Decided stamp [] ∷ act.Failed ∷ []))
-commit_stops = inr (record { reaches = refl; acts = refl })
+commit_stops = inr (record { reaches = rw (nothing_changed) refl; acts = rw (nothing_changed) refl })
+
+commit_writes : written s2 (event.Call 1 1 3 (call.Finish trans true)) ≡ act.Decided stamp [] ∷ []
+commit_writes = rw (nothing_changed) refl
 
 commit_hidden : HaltsRight s2 (calls 1 3 (call.Finish trans true) (reply.Refused refusal.Down) (act.Failed ∷ [])) → ⊥
-commit_hidden h = elim h [ inl e ↦ (let wrong : act.Failed ∷ [] ≡ act.Decided stamp [] ∷ act.Stopped ∷ [] = e.acts in cc) | inr e ↦ (let wrong : act.Failed ∷ [] ≡ act.Decided stamp [] ∷ act.Failed ∷ [] = e.acts in cc) ]
+commit_hidden h = elim h [ inl e ↦ (let wrong : act.Failed ∷ [] ≡ act.Decided stamp [] ∷ act.Stopped ∷ [] = e.acts ∙ ap (λ xs. xs ++ act.Stopped ∷ []) commit_writes in cc) | inr e ↦ (let wrong : act.Failed ∷ [] ≡ act.Decided stamp [] ∷ act.Failed ∷ [] = e.acts ∙ ap (λ xs. xs ++ act.Failed ∷ []) commit_writes in cc) ]
 
 -- a read that stops ends the step; one that fails is answered
 read_stops : HaltsRight s2 (calls 1 3 (call.ReadProps trans 1) (reply.Refused refusal.Down) (act.Stopped ∷ []))
@@ -320,7 +333,7 @@ done_begun false = refl
 
 commit_whole : IsAnsweredEntry false s2 commit
 commit_whole = record {
-  answered = refl;
+  answered = commit_answered;
   sent = no_mail;
   ticks = tt;
   applied = tt;
@@ -401,10 +414,10 @@ abbrev asked : Entry
 asked = arrives 1 (msg.Ask trans join) (act.Readied trans join 1 ∷ act.Sent 1 (msg.Ready trans join 1) ∷ [])
 
 asked_says : says w5 asked ≡ flat_map sent_by asked.acts
-asked_says = refl
+asked_says = rw (nothing_changed) refl
 
 asked_fault : due true w5 (next w5 asked) asked.event asked.reply ≡ (1, msg.No trans join why.ReadFault) ∷ []
-asked_fault = refl
+asked_fault = rw (nothing_changed) refl
 
 abbrev w6 : State
 w6 = next w5 asked
@@ -450,7 +463,7 @@ waits_now : GrantsAtOnce false q1 (calls2 1 4 (call.Outcome trans) (reply.Ended 
 waits_now = tt
 
 grants_first : GrantsAtOnce false s2 (calls 1 3 (make trans choice.Fail) reply.Plain (act.Granted trans ∷ [])) (event.Call 1 1 3 (make trans choice.Fail)) (Some reply.Plain)
-grants_first = inr refl
+grants_first = inr (rw (nothing_changed) refl)
 
 -- where a read failed the call has its grant or none
 abbrev fails : List Act → Entry
@@ -460,7 +473,7 @@ grants_none : GrantsAtOnce true s2 (fails []) (fails []).event (fails []).reply
 grants_none = inl (refl, refl, refl)
 
 grants_before : GrantsAtOnce true s2 (fails (act.Granted trans ∷ [])) (fails []).event (fails []).reply
-grants_before = inr refl
+grants_before = inr (rw (nothing_changed) refl)
 
 -- what its part holds already makes a conversion only where the mode would rise there: here a file is opened whose leader is
 -- locked to read, and then one that is locked itself

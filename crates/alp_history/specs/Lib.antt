@@ -9,3 +9,4 @@ pub mod WrongLogs
 pub mod RightJournals
 pub mod WrongJournals
 pub mod ResumedLog
+pub mod Refusals

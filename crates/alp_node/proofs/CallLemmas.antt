@@ -14,11 +14,12 @@ use Rattle.alp_files.specs.Holdings.{Holding}
 use Rattle.alp_files.specs.declared.open.Open.{Open}
 use Rattle.alp_files.specs.Act.{Own, Answer, answer, id_in}
 use Rattle.alp_files.specs.Born.{count_after, IsUnborn}
-use Rattle.alp_files.specs.Built.{IsBuilt}
 use Rattle.alp_files.proofs.BornLemmas.{unborn_kept, unborn_more}
-use Rattle.alp_files.proofs.EditLemmas.{changes-append, edits_at-append}
+use Rattle.alp_files.proofs.EditLemmas.{edits_at-append}
+use Rattle.alp_files.proofs.IntentLemmas.{through_of, intents_from-append}
 use Rattle.alp_files.proofs.FilesLemmas.{same-some}
-use Rattle.alp_files.specs.Edits.{edits_at, after, ChangesBy}
+use Rattle.alp_files.specs.Edits.{edits_at, after}
+use Rattle.alp_files.specs.Needs.{Intents, no_intents, intents_from, through}
 use Rattle.alp_files.specs.Locks.{IsMore, with_made}
 use Rattle.alp_files.proofs.HistoryLemmas.{get-edits_map}
 use Rattle.alp_locks.specs.Tables.{Table, holding}
@@ -43,7 +44,11 @@ use Rattle.alp_trans.specs.Counting.{AreCountsOf}
 use Rattle.alp_trans.specs.Parts.{own_of}
 use Rattle.alp_trans.specs.declared.counts.Counts.{Counts}
 use Rattle.alp_trans.specs.declared.part.Part.{Part}
-use Rattle.alp_node.specs.Calls.{Outcome, Performed, next_file}
+use Rattle.alp_calls.specs.Looks.{Looks, fault_in}
+use Rattle.alp_vault.specs.declared.vault.Vault.{Ghosts}
+use Rattle.alp_journal.specs.declared.act.Act.{Act}
+use Rattle.alp_node.specs.Calls.{given_of, IsAnswerTo, Outcome, Performed, next_file}
+use Rattle.alp_node.specs.declared.answer.Given.{Given}
 use Rattle.alp_node.specs.Covers.{AreCovered, AreHeld}
 use Rattle.alp_node.specs.Rooms.{IsRoomOf, locks_given}
 use Rattle.alp_node.specs.Totals.{LiveMap, totals_of}
@@ -55,30 +60,38 @@ use Rattle.alp_node.specs.declared.sessions.Turn.{Turn}
 use Rattle.alp_node.specs.declared.server_state.ServerState.{ServerState}
 use Rattle.alp_node.specs.declared.lives.Live.{Live}
 use Rattle.alp_node.proofs.MapLemmas.{put_twice, get_put, places_set}
-use Rattle.alp_node.proofs.KeptLemmas.{IsLive, session_of, session_then, live_there, same_live, over_empty, alike_set, each_set, sessions_as}
+use Rattle.alp_node.proofs.KeptLemmas.{IsLive, session_of, session_then, live_there, same_live, alike_set, each_set, sessions_as}
 
-outcome_of : (tells : Bool) (cells : Cells) (id : FileId) (l : Live) (p : Part) (c : Call) (room : Room) (r : Result Reply CallFault) → IfOk r (Answered tells cells l.part p l.who id c room) → OnErr r (IsAsBefore l.part p)
-    → Outcome tells cells id l p c room r
-outcome_of tells cells id l p c room (Ok r) answered err = answered
-outcome_of tells cells id l p c room (Err e) answered err = err
+outcome_of : (tells : Bool) (cells : Cells) (id : FileId) (l : Live) (p : Part) (c : Call) (room : Room) (acts : List Act) (given : Result Reply CallFault) (r : Result Given CallFault) → IfOk given (Answered tells cells l.part p l.who id c room) → OnErr given (IsAsBefore l.part p)
+    → IsAnswerTo given acts r → Outcome tells cells id l p c room acts r
+outcome_of tells cells id l p c room acts (Ok g) (Ok x) done err to = record { is = to ∙ ap (λ (y : Given). given_of y.reply acts) (sym to); given = subst (λ (y : Given). Answered tells cells l.part p l.who id c room y.reply) (sym to) done }
+outcome_of tells cells id l p c room acts (Ok g) (Err e) done err to = done.reads to.1
+outcome_of tells cells id l p c room acts (Err f) (Ok x) done err to = let wrong : Ok x ≡ Err f = to in cc
+outcome_of tells cells id l p c room acts (Err f) (Err e) done err to = err
+
+-- the vault was looked at as that was given
+pub looked_answer : {V : Type 0} (G : Ghosts V) (old new : V) (acts : List Act) (given : Result Reply CallFault) (r : Result Given CallFault) → IsAnswerTo given acts r → Looks G old new (fault_in given) → Looks G old new (fault_in r)
+looked_answer G old new acts (Ok g) (Ok x) to look = look
+looked_answer G old new acts (Ok g) (Err e) to look = subst (λ (f : CallFault). Looks G old new (Some f)) (sym to.0) look
+looked_answer G old new acts (Err f) r to look = subst (λ (y : Result Given CallFault). Looks G old new (fault_in y)) (sym to) look
 
 -- the part was taken out, performed the call, and was put back
-pub performed_so : {V : Type 0} (tells : Bool) (cells : Cells) (old : ServerState V) (v : V) (t : TransId) (l found blank : Live) (p : Part) (c : Call) (n : LockCounts) (room : Room) (locks : ℕ) (r : Result Reply CallFault) (taken lives : LiveMap) (id : FileId)
+pub performed_so : {V : Type 0} (tells : Bool) (cells : Cells) (old : ServerState V) (v : V) (t : TransId) (l found blank : Live) (p : Part) (c : Call) (n : LockCounts) (room : Room) (locks : ℕ) (acts : List Act) (given : Result Reply CallFault) (r : Result Given CallFault) (taken lives : LiveMap) (id : FileId)
     → id ≡ next_file old → IsRoomOf tells cells old n.made room → IsPart p → locks ≡ locks_given found.locks n r
     → map.get old.lives t ≡ Some l → map.get old.lives t ≡ Some found → taken ≡ map.insert old.lives t blank → lives ≡ map.insert taken t (record found { part = p; locks = locks })
-    → IfOk r (Answered tells cells found.part p found.who id c room) → OnErr r (IsAsBefore found.part p) → Performed tells cells old (record old { lives = lives; vault = v }) t l c n r
-performed_so tells cells old v t l found blank p c n room locks r taken lives id next of part counted there was out back answered err =
+    → IfOk given (Answered tells cells found.part p found.who id c room) → OnErr given (IsAsBefore found.part p) → IsAnswerTo given acts r → Performed tells cells old (record old { lives = lives; vault = v }) t l c n acts r
+performed_so tells cells old v t l found blank p c n room locks acts given r taken lives id next of part counted there was out back done err to =
     let same : found ≡ l = same_live found l (sym was ∙ there) in
     let put : lives ≡ map.insert old.lives t (record found { part = p; locks = locks_given found.locks n r }) =
     back ∙ ap (λ (m : LiveMap). map.insert m t (record found { part = p; locks = locks })) out ∙ put_twice old.lives t blank (record found { part = p; locks = locks })
     ∙ ap (λ (x : ℕ). map.insert old.lives t (record found { part = p; locks = x })) counted in
-    subst (λ (x : Live). Performed tells cells old (record old { lives = lives; vault = v }) t x c n r) same (record {
+    subst (λ (x : Live). Performed tells cells old (record old { lives = lives; vault = v }) t x c n acts r) same (record {
       part = p;
       sound = part;
       room = room;
       left = of;
       kept = ap (λ (m : LiveMap). record old { lives = m; vault = v }) put;
-      outcome = subst (λ (x : FileId). Outcome tells cells x found p c room r) next (outcome_of tells cells id found p c room r answered err);
+      outcome = subst (λ (x : FileId). Outcome tells cells x found p c room acts r) next (outcome_of tells cells id found p c room acts given r done err to);
     })
 
 -- ---- what a part sees, and its next file
@@ -87,7 +100,7 @@ module _ {V : Type 0} (a : Alone) (held : Contents) (k : ServerState V) where
   -- through its intents a live part sees what the journal says that it sees
   pub sees : (t : TransId) (rs : List Resource) (l : Live) (life : Life) → IsAs a held k → k.is_down ≡ false → IsLife a.holder.cells k.locks.held rs t l life → seen held.cells l.part ≡ view_in a.holder life
   sees t rs l life h up is =
-      (λ i q. is.intents (map.get held.cells) i q) ∙ ap (after life.edits) (over_empty (map.get held.cells)) ∙ ap (λ (c : Cells). after life.edits (map.get c)) (h.cells up) ∙ sym (get-edits_map life.edits a.holder.cells)
+      ap (λ (i : Intents). through i (map.get held.cells)) is.intents ∙ through_of life.edits (map.get held.cells) ∙ ap (λ (c : Cells). after life.edits (map.get c)) (h.cells up) ∙ sym (get-edits_map life.edits a.holder.cells)
 
   -- a part gave what the journal says that a thread is answered
   pub right_as : (t : TransId) (l : Live) (p : Part) (c : Call) (r : Reply) (life : Life) (rs : List Resource) (later : Counts) (refused : Option Refusal) → IsAs a held k → k.is_down ≡ false → IsLife a.holder.cells k.locks.held rs t l life
@@ -148,7 +161,7 @@ module _ {V : Type 0} (a : Alone) (held : Contents) (k : ServerState V) where
           subst (λ (y : Option Life). IsAlike a.holder.cells k.locks.held (a.locked u) u (Some (record l { part = p; locks = n })) y) (sym x.is) (record {
             client = x.alike.client;
             who = x.alike.who;
-            intents = subst (ChangesBy x.life.edits map.empty) (sym before.0) x.alike.intents;
+            intents = before.0 ∙ x.alike.intents;
             own = before.1 ∙ x.alike.own;
             held = x.alike.held;
             opens = x.alike.opens;
@@ -234,26 +247,26 @@ module _ {V : Type 0} (a : Alone) (held : Contents) (k : ServerState V) (turn : 
       ∙ ap (edits_at life.edits (Leader (record { server = a.holder.server; epoch = a.ids.epoch; counter = m }))) (h.born m high) ∙ h.unborn t life is m high
 
   -- nor do its edits put one
-  gave_unborn : IsAs a held k → a.holder.lives t ≡ Some life → IsBuilt c → GivesOnly (next_file k) r → PutNoneBeyond a.holder.server a.ids.epoch (count_after k.given r) (life.edits ++ gave.edits)
-  gave_unborn h is built only m high =
+  gave_unborn : IsAs a held k → a.holder.lives t ≡ Some life → GivesOnly (next_file k) r → PutNoneBeyond a.holder.server a.ids.epoch (count_after k.given r) (life.edits ++ gave.edits)
+  gave_unborn h is only m high =
       let q : Key = Leader (record { server = a.holder.server; epoch = a.ids.epoch; counter = m }) in
       let low : k.given < m = omega (arith, count_grows k.given r, high) in
       let seen_none : view_in a.holder life q ≡ None = view_unborn h is m low in
       let only_so : GivesOnly (record { server = a.holder.server; epoch = a.ids.epoch; counter = k.given + 1 }) r = subst (λ (f : FileId). GivesOnly f r) (next_same h) only in
       edits_at-append life.edits gave.edits q None ∙ ap (edits_at gave.edits q) (h.unborn t life is m low) ∙ ap (edits_at gave.edits q) (sym seen_none)
-      ∙ unborn_kept a.holder.server a.ids.epoch k.given [] (view_in a.holder life) life.who life.own c r built (view_unborn h is) only_so m high
+      ∙ unborn_kept a.holder.server a.ids.epoch k.given [] (view_in a.holder life) life.who life.own c r (view_unborn h is) only_so m high
 
   module _ (under : Holding) (rs : List Resource) where
     abbrev pub after_call : Session → Alone
     after_call w = with_call a turn.client turn.number w t life c r under rs
 
-    pub done_as : (then : Contents) (h : IsAs a held k) → then ≡ held → (is : IsTurn k.sessions turn) → k.is_down ≡ false → map.get k.lives t ≡ Some l → a.holder.lives t ≡ Some life → IsLife a.holder.cells k.locks.held (a.locked t) t l life → IsBuilt c → GivesOnly (next_file k) r
+    pub done_as : (then : Contents) (h : IsAs a held k) → then ≡ held → (is : IsTurn k.sessions turn) → k.is_down ≡ false → map.get k.lives t ≡ Some l → a.holder.lives t ≡ Some life → IsLife a.holder.cells k.locks.held (a.locked t) t l life → GivesOnly (next_file k) r
         → Performs l.part p gave r → ((q : Resource) → with_made under (id_in r) q ≡ holding locks.held t q)
         → ((u : TransId) (q : Resource) → same_trans u t ≡ false → holding locks.held u q ≡ holding k.locks.held u q)
         → AllByRecursion (IsLocked (with_made under (id_in r))) gave.own.opens → AreCountsOf a.holder.cells (life.edits ++ gave.edits) p.counts → AreCovered (with_made under (id_in r)) (life.edits ++ gave.edits)
         → n ≡ length (with_resources (needs_made (id_in r)) rs) → AreHeld (with_made under (id_in r)) (with_resources (needs_made (id_in r)) rs) → AreRoomed k.sizes a.holder.cells (totals_of k.lives) l.part.counts p.counts
         → IsQuiet (after_call (session_of turn is)) → IsAs (after_call (session_of turn is)) then done_kept
-    done_as then h same is up there live mine built only done holds others opens counts covered count known roomed quiet =
+    done_as then h same is up there live mine only done holds others opens counts covered count known roomed quiet =
         let w : Session = session_of turn is in
         let new : Life = life_after a turn.client turn.number w t life c r under in
         let now : List Resource = with_resources (needs_made (id_in r)) rs in
@@ -271,7 +284,7 @@ module _ {V : Type 0} (a : Alone) (held : Contents) (k : ServerState V) (turn : 
               (alike_set a.holder.cells k.locks.held locks.held a.locked t (Some (record l { part = p; locks = n })) (Some new) now (map.get k.lives) a.holder.lives h.lives others (record {
                 client = mine.client;
                 who = mine.who;
-                intents = changes-append life.edits gave.edits map.empty l.part.intents p.intents mine.intents done.view;
+                intents = done.view ∙ ap (λ (i : Intents). intents_from i gave.edits) mine.intents ∙ sym (intents_from-append no_intents life.edits gave.edits);
                 own = done.own;
                 held = holds;
                 opens = opens;
@@ -283,7 +296,7 @@ module _ {V : Type 0} (a : Alone) (held : Contents) (k : ServerState V) (turn : 
           room = swapped_room k.sizes a.holder.cells k.lives t l (record l { part = p; locks = n }) there roomed;
           unborn = each_set (λ x. PutNoneBeyond a.holder.server a.ids.epoch (count_after k.given r) x.edits) t (Some new) a.holder.lives
               (λ u x at m high. h.unborn u x at m (omega (arith, count_grows k.given r, high)))
-              (λ x at. subst (λ (y : Life). PutNoneBeyond a.holder.server a.ids.epoch (count_after k.given r) y.edits) (same-some new x at) (gave_unborn h live built only));
+              (λ x at. subst (λ (y : Life). PutNoneBeyond a.holder.server a.ids.epoch (count_after k.given r) y.edits) (same-some new x at) (gave_unborn h live only));
           drawn = h.drawn;
           begun = h.begun;
           undrawn = h.undrawn;

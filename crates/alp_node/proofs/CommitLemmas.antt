@@ -55,7 +55,6 @@ use Rattle.alp_node.specs.declared.served.Standing.TheVariants as standing
 use Rattle.alp_node.specs.declared.sessions.Turn.{Turn}
 use Rattle.alp_node.specs.Rooms.{IsWithin}
 use Rattle.alp_node.specs.Sessions.{session_at}
-use Rattle.alp_node.proofs.ApartLemmas.{covered_puts}
 use Rattle.alp_node.proofs.SpaceLemmas.{commit_alike, commit_room}
 use Rattle.alp_node.proofs.FinishLemmas.{gone_unborn, still_undrawn, turn_session, drawn_live}
 use Rattle.alp_node.proofs.KeptLemmas.{sessions_as, session_of, session_then, stands_timely, IsLive, live_there, stepped_so}
@@ -131,7 +130,7 @@ module _ {V : Type 0} (a : Alone) (held : Contents) (k : ServerState V) (turn : 
         let stamp : Stamp = record { ts = k.clock + 1; trans = t } in
         let clock : max a.holder.clock (k.clock + 1) ≡ k.clock + 1 = omega (arith, h.clock) in
         let cells : c.cells ≡ edits_map es a.holder.cells =
-        w.cells ∙ same_change held.cells l.part es (covered_puts y.life.held es y.alike.covered) y.alike.intents ∙ ap (edits_map es) (h.cells up) in
+        w.cells ∙ same_change held.cells l.part es y.alike.intents ∙ ap (edits_map es) (h.cells up) in
         let notes : c.notes ≡ clock_notes (record { epoch = a.ids.epoch; clock = max a.holder.clock (k.clock + 1) }) =
         w.notes ∙ put_more a held k (k.clock + 1) h up ∙ (λ i. clock_notes (record { epoch = sym h.epoch i; clock = sym clock i })) in
         let made : c ≡ stored_by a.ids.epoch (commits a.holder stamp (Some y.life)) = (λ i. record { cells = cells i; notes = notes i }) in
@@ -176,7 +175,7 @@ module _ {V : Type 0} (a : Alone) (before now : ℕ) (held then : Contents) (k :
       put-last a.holder.applied stamp (record { stamp = stamp; who = y.life.who; calls = y.life.calls }) a.holder.clock h.earlier (omega arith) in
       let clock : max a.holder.clock (a.holder.clock + 1) ≡ k.clock + 1 = omega (arith, h.clock) in
       let same : then.cells ≡ edits_map es a.holder.cells =
-      cells ∙ same_change held.cells l.part es (covered_puts y.life.held es y.alike.covered) y.alike.intents ∙ ap (edits_map es) (h.cells up) in
+      cells ∙ same_change held.cells l.part es y.alike.intents ∙ ap (edits_map es) (h.cells up) in
       stepped_so a before now held then k committed_kept turn.client turn.number w (call.Finish t true) false (reply.Committed stamp) (act.Decided stamp [] ∷ act.Released t ∷ []) m x
       (so ∙ ap (λ (z : Stamp). told_answer (Some (reply.Committed z)) (act.Decided z [] ∷ act.Released t ∷ [])) same_stamp) h leads
       (record {

@@ -1,8 +1,8 @@
 -- who stands in the way of a call that asks for locks, as the journal tells it
 use Rattle.std.proofs.Math.Dec.{T}
-use Rattle.std.specs.Prelude.{cond, Bool, true, false, not, ◌==◌, ◌&&◌, Option, None, Some, filter}
+use Rattle.std.specs.Prelude.{cond, Bool, true, false, not, ◌==◌, ◌&&◌, ◌||◌, Option, None, Some, filter}
 use Rattle.std.specs.Option.{option_eq}
-use Rattle.std.specs.List.{AllByRecursion}
+use Rattle.std.specs.List.{AllByRecursion, list_any}
 use Rattle.std.specs.declared.cmp.Ordering.{Ordering}
 use Rattle.std.specs.declared.cmp.Ordering.TheVariants.{Less, Equal, Greater}
 use Rattle.std.specs.Ordering.{eq_by_cmp, ordering_reverse, is_eq, is_lt, is_gt}
@@ -24,10 +24,9 @@ use Rattle.alp_modes.specs.contracts.ModePartialEq.TheImpl as mode_eq
 use Rattle.alp_modes.proofs.ModeLemmas.{join_by_cases}
 use Rattle.alp_base.specs.Orders.{trans_cmp, resource_cmp, transactions_total, resources_total, exact_resources}
 use Rattle.alp_files.specs.Holdings.{join_held, agree_held, covers_held, held_by, DoAgree}
-use Rattle.alp_files.proofs.CoverLemmas.{right-above}
+use Rattle.alp_files.proofs.CoverLemmas.{left-above, right-above}
 use Rattle.alp_files.proofs.HoldingLemmas.{agree-turned, join_held-assoc, held_by-append, none-right}
 use Rattle.alp_files.specs.declared.call.Call.{Call}
-use Rattle.alp_files.specs.declared.call.Call.TheVariants as call
 use Rattle.alp_files.specs.Locks.{Need}
 use Rattle.alp_queue.specs.Rises.{Held, is_raised}
 use Rattle.alp_locks.specs.Tables.{Holders, held_of, holding, IsAgreeing}
@@ -39,15 +38,15 @@ use Rattle.alp_locks.proofs.HolderLemmas.{names-first}
 use Rattle.alp_locks.proofs.LawLemmas.{joined-holds, no-rise}
 use Rattle.alp_locks.proofs.SoundLemmas.{each-middle, each-filter, each-more, passing}
 use Rattle.alp_vault.specs.Contents.{Contents}
-use Rattle.alp_journal.specs.Holder.{Life, view_in, held_for}
+use Rattle.alp_journal.specs.Counts.{request_in}
+use Rattle.alp_journal.specs.Holder.{Life, held_for}
 use Rattle.alp_journal.specs.Alone.{Alone}
 use Rattle.alp_journal.specs.Answers.{IsInWay, IsLeastHolder}
-use Rattle.alp_node.specs.Asks.{asks_of, asks_made}
-use Rattle.alp_node.specs.Calls.{IsLockCall}
+use Rattle.alp_node.specs.Asks.{asks_made}
 use Rattle.alp_node.specs.ServerState.{IsAs, IsAlike, IsLife}
 use Rattle.alp_node.specs.declared.server_state.ServerState.{ServerState}
 use Rattle.alp_node.specs.declared.lives.Live.{Live}
-use Rattle.alp_node.proofs.LockLemmas.{itself, asks_right}
+use Rattle.alp_node.proofs.LockLemmas.{itself}
 use Rattle.alp_node.proofs.MapLemmas.{tied_same}
 use Rattle.alp_node.proofs.ReadyLemmas.{turned}
 use Rattle.alp_files.specs.Cells.{Cells}
@@ -248,13 +247,9 @@ module _ (parts : Holders) (t : TransId) (id : FileId) where
           ap (agree_held mine) free ∙ agree-turned mine None
       go false e = ap (λ (x : Option Mode). agree_held x (holding parts u r)) (none-right (map.get (joined (held_of parts t) asks) r)) ∙ agree r
 
-  made_agrees : (u : TransId) (c : Call) → holding parts u (Whole id) ≡ None → DoAgree (map.get (then_held parts t (asks_of c))) (holding parts u) → DoAgree (map.get (then_held parts t (asks_made id c))) (holding parts u)
-  made_agrees u (call.CreateFile x start choice) none agree = with_file u (asks_of (call.CreateFile x start choice)) none agree
-  made_agrees u c none agree = agree
-
-  -- so whoever has the way free for the call has it for the file
-  pub made_free : (c : Call) → IsAgreeing parts → ((u : TransId) → holding parts u (Whole id) ≡ None) → blocker parts t (risen (held_of parts t) (asks_of c)) ≡ None → blocker parts t (risen (held_of parts t) (asks_made id c)) ≡ None
-  made_free c agreeing none free = none_in_way parts t (asks_made id c) (λ u apart. made_agrees u c (none u) (granted-agrees parts t (then_held parts t (asks_of c)) agreeing free u apart))
+  -- so whoever has the way free for what it asks has it for the file too
+  pub made_free : (asks : List Need) → IsAgreeing parts → ((u : TransId) → holding parts u (Whole id) ≡ None) → blocker parts t (risen (held_of parts t) asks) ≡ None → blocker parts t (risen (held_of parts t) (asks_made id asks)) ≡ None
+  made_free asks agreeing none free = none_in_way parts t (asks_made id asks) (λ u apart. with_file u asks (none u) (granted-agrees parts t (then_held parts t asks) agreeing free u apart))
 
 -- ---- as the journal tells it
 
@@ -275,27 +270,26 @@ holder_lives cells locks rs u (Some l) (Some life) alike r b e = record { life =
 holder_lives cells locks rs u None (Some life) alike r b e = absurd alike
 holder_lives cells locks rs u (Some l) None alike r b e = absurd alike
 
-module _ {V : Type 0} (a : Alone) (held : Contents) (k : ServerState V) (t : TransId) (l : Live) (life : Life) (c : Call) (h : IsAs a held k) (mine : IsLife a.holder.cells k.locks.held (a.locked t) t l life) (kind : IsLockCall c) where
+module _ {V : Type 0} (a : Alone) (held : Contents) (k : ServerState V) (t : TransId) (l : Live) (life : Life) (c : Call) (ns : List Need) (h : IsAs a held k) (mine : IsLife a.holder.cells k.locks.held (a.locked t) t l life) (asked : request_in a.holder c (Some life) ≡ ns) where
   -- what the part would hold is what the table's plan leaves
-  pub would_hold : (q : Resource) → held_for a.holder life c q ≡ map.get (then_held k.locks.held t (asks_of c)) q
+  pub would_hold : (q : Resource) → held_for a.holder life c q ≡ map.get (then_held k.locks.held t ns) q
   would_hold q =
-      ap (λ (ns : List Need). join_held (life.held q) (held_by ns q)) (asks_right life.held (view_in a.holder life) life.own c kind)
-      ∙ ap (λ (y : Option Mode). join_held y (held_by (asks_of c) q)) (mine.held q) ∙ sym (joined-holds (asks_of c) (held_of k.locks.held t) q)
+      ap (λ (ms : List Need). join_held (life.held q) (held_by ms q)) asked ∙ ap (λ (y : Option Mode). join_held y (held_by ns q)) (mine.held q) ∙ sym (joined-holds ns (held_of k.locks.held t) q)
 
-  in_way : (r : Resource) (u : TransId) → Disagrees k.locks.held t (asks_of c) r u → IsInWay a.holder t life c r u
+  in_way : (r : Resource) (u : TransId) → Disagrees k.locks.held t ns r u → IsInWay a.holder t life c r u
   in_way r u d =
-      let x : HasLife k.locks.held u (a.holder.lives u) = holder_lives a.holder.cells k.locks.held (a.locked u) u (map.get k.lives u) (a.holder.lives u) (h.lives u) r (map.get (then_held k.locks.held t (asks_of c)) r) d.1 in
+      let x : HasLife k.locks.held u (a.holder.lives u) = holder_lives a.holder.cells k.locks.held (a.locked u) u (map.get k.lives u) (a.holder.lives u) (h.lives u) r (map.get (then_held k.locks.held t ns) r) d.1 in
       record { life = x.life; live = x.is; other = turned t u (sym (tied_same t u) ∙ d.0); disagree = (λ i. agree_held (x.held r i) (would_hold r i)) ∙ d.1 }
 
-  disagrees : (r : Resource) (u : TransId) → IsInWay a.holder t life c r u → Disagrees k.locks.held t (asks_of c) r u
+  disagrees : (r : Resource) (u : TransId) → IsInWay a.holder t life c r u → Disagrees k.locks.held t ns r u
   disagrees r u w =
       let is : w.life.held r ≡ holding k.locks.held u r = held_elsewhere a.holder.cells k.locks.held (a.locked u) u (map.get k.lives u) w.life (subst (λ (y : Option Life). IsAlike a.holder.cells k.locks.held (a.locked u) u (map.get k.lives u) y) w.live (h.lives u)) r in
       (tied_same t u ∙ turned u t w.other, (λ i. agree_held (sym is i) (sym (would_hold r) i)) ∙ w.disagree)
 
   -- who is named is the least in the way on the first resource
-  pub least_holder : IsAgreeing k.locks.held → (u : TransId) → blocker k.locks.held t (risen (held_of k.locks.held t) (asks_of c)) ≡ Some u → IsLeastHolder a.holder t life c u
+  pub least_holder : IsAgreeing k.locks.held → (u : TransId) → blocker k.locks.held t (risen (held_of k.locks.held t) ns) ≡ Some u → IsLeastHolder a.holder t life c u
   least_holder agreeing u named =
-      let f : IsFirstOf k.locks.held t (asks_of c) u = first_of k.locks.held t (asks_of c) agreeing u named in
+      let f : IsFirstOf k.locks.held t ns u = first_of k.locks.held t ns agreeing u named in
       record {
         on = f.on;
         stands = in_way f.on u f.stands;
@@ -339,40 +333,66 @@ join_covered (Some b) m h = ap Some (join_by_cases b m ∙ ap (λ (e : Bool). co
 pub not_empty : (n : Need) (ns : List Need) → (length (n ∷ ns) == 0) ≡ false
 not_empty n ns = ne_eqb (length (n ∷ ns)) 0 (λ e. absurd (omega (arith, e)))
 
-module _ (h : Held) (q : Resource) (m : Mode) where
-  abbrev one : List Need
-  one = (q, m) ∷ []
+-- what is held covers each need
+abbrev IsCoveredBy : Held → List Need → Type 0
+IsCoveredBy h ns = AllByRecursion (λ (n : Need). covers_held (map.get h n.0) n.1 ≡ true) ns
 
-  at_itself : held_by one q ≡ Some m
-  at_itself = ap (λ (b : Bool). cond {A = Option Mode} b (Some m) None) (itself q)
+abbrev rises : Held → Need → Bool
+rises h n = not (covers_held (map.get h n.0) n.1)
 
-  -- what is covered does not rise
-  joined_same : covers_held (map.get h q) m ≡ true → (r : Resource) → map.get (joined h one) r ≡ map.get h r
-  joined_same covered r = joined-holds one h r ∙ go (eq_by_cmp resource_cmp r q) refl
+module _ (h : Held) where
+  any_covered : (ns : List Need) → list_any (rises h) ns ≡ false → IsCoveredBy h ns
+  any_covered [] e = tt
+  any_covered (n ∷ ns) e = go (covers_held (map.get h n.0) n.1) refl (any_covered ns) e
     where
-      go : (b : Bool) → eq_by_cmp resource_cmp r q ≡ b → join_held (map.get h r) (cond {A = Option Mode} b (Some m) None) ≡ map.get h r
-      go true e = join_covered (map.get h r) m (ap (λ (x : Resource). covers_held (map.get h x) m) (exact_resources r q (tied (resource_cmp r q) e)) ∙ covered)
-      go false e = none-right (map.get h r)
+      go : (b : Bool) → covers_held (map.get h n.0) n.1 ≡ b → (list_any (rises h) ns ≡ false → IsCoveredBy h ns) → (not b || list_any (rises h) ns) ≡ false → (covers_held (map.get h n.0) n.1 ≡ true) × IsCoveredBy h ns
+      go true is rest e = (is, rest e)
+      go false is rest e = cc
 
-  none_risen : covers_held (map.get h q) m ≡ true → (ns : List Need) → risen h one ≡ ns → ns ≡ []
-  none_risen covered [] is = refl
-  none_risen covered (n ∷ ns) is =
-      let at : map.get (joined h one) n.0 ≡ Some n.1 = (subst (AllByRecursion (λ (x : Need). map.get (joined h one) x.0 ≡ Some x.1)) is (all_joined h one)).0 in
-      let up : is_raised h n ≡ true = (subst (AllByRecursion (λ (x : Need). is_raised h x ≡ true)) is (passing (is_raised h) (map.entries (joined h one)))).0 in
-      let wrong : true ≡ false = sym up ∙ raised_not h n (sym (joined_same covered n.0) ∙ at) in
+  covered_any : (ns : List Need) → IsCoveredBy h ns → list_any (rises h) ns ≡ false
+  covered_any [] all = refl
+  covered_any (n ∷ ns) all = ap (λ (b : Bool). not b || list_any (rises h) ns) all.0 ∙ covered_any ns all.1
+
+  -- what is covered leaves what is held as it is
+  covered_same : (ns : List Need) → IsCoveredBy h ns → (r : Resource) → join_held (map.get h r) (held_by ns r) ≡ map.get h r
+  covered_same [] all r = none-right (map.get h r)
+  covered_same (n ∷ ns) all r = go (eq_by_cmp resource_cmp r n.0) refl (covered_same ns all.1 r)
+    where
+      go : (b : Bool) → eq_by_cmp resource_cmp r n.0 ≡ b → join_held (map.get h r) (held_by ns r) ≡ map.get h r → join_held (map.get h r) (cond {A = Option Mode} b (join_held (Some n.1) (held_by ns r)) (held_by ns r)) ≡ map.get h r
+      go true e rest =
+          let there : covers_held (map.get h r) n.1 ≡ true = ap (λ (x : Resource). covers_held (map.get h x) n.1) (exact_resources r n.0 (tied (resource_cmp r n.0) e)) ∙ all.0 in
+          sym (join_held-assoc (map.get h r) (Some n.1) (held_by ns r)) ∙ ap (λ (x : Option Mode). join_held x (held_by ns r)) (join_covered (map.get h r) n.1 there) ∙ rest
+      go false e rest = rest
+
+  pub none_risen : (ns : List Need) → IsCoveredBy h ns → (xs : List Need) → risen h ns ≡ xs → xs ≡ []
+  none_risen ns all [] is = refl
+  none_risen ns all (x ∷ xs) is =
+      let at : map.get (joined h ns) x.0 ≡ Some x.1 = (subst (AllByRecursion (λ (y : Need). map.get (joined h ns) y.0 ≡ Some y.1)) is (all_joined h ns)).0 in
+      let up : is_raised h x ≡ true = (subst (AllByRecursion (λ (y : Need). is_raised h y ≡ true)) is (passing (is_raised h) (map.entries (joined h ns)))).0 in
+      let wrong : true ≡ false = sym up ∙ raised_not h x (sym (joined-holds ns h x.0 ∙ covered_same ns all x.0) ∙ at) in
       cc
 
   -- and what does not rise is covered
-  covered_so : risen h one ≡ [] → covers_held (map.get h q) m ≡ true
-  covered_so none =
-      let same : join_held (map.get h q) (Some m) ≡ map.get h q = sym (joined-holds one h q ∙ ap (join_held (map.get h q)) at_itself) ∙ no-rise h one none q in
-      subst (λ (x : Option Mode). covers_held x m ≡ true) same (right-above (map.get h q) (Some m) m (covers_own m))
+  covered_under : (ns : List Need) → ((r : Resource) (m : Mode) → covers_held (held_by ns r) m ≡ true → covers_held (map.get h r) m ≡ true) → IsCoveredBy h ns
+  covered_under [] under = tt
+  covered_under (n ∷ ns) under = (under n.0 n.1 own, covered_under ns (λ r m is. under r m (more r m (eq_by_cmp resource_cmp r n.0) is)))
+    where
+      own : covers_held (held_by (n ∷ ns) n.0) n.1 ≡ true
+      own = ap (λ (b : Bool). covers_held (cond {A = Option Mode} b (join_held (Some n.1) (held_by ns n.0)) (held_by ns n.0)) n.1) (itself n.0) ∙ left-above (Some n.1) (held_by ns n.0) n.1 (covers_own n.1)
+
+      more : (r : Resource) (m : Mode) (b : Bool) → covers_held (held_by ns r) m ≡ true → covers_held (cond {A = Option Mode} b (join_held (Some n.1) (held_by ns r)) (held_by ns r)) m ≡ true
+      more r m true is = right-above (Some n.1) (held_by ns r) m is
+      more r m false is = is
+
+  covered_so : (ns : List Need) → risen h ns ≡ [] → IsCoveredBy h ns
+  covered_so ns none = covered_under ns (λ r m is. subst (λ (x : Option Mode). covers_held x m ≡ true) (sym (joined-holds ns h r) ∙ no-rise h ns none r) (right-above (map.get h r) (held_by ns r) m is))
 
   -- a need rises just where what is held does not cover it
-  pub rises_as : (ns : List Need) → risen h one ≡ ns → not (covers_held (map.get h q) m) ≡ not (length ns == 0)
-  rises_as [] is = ap not (covered_so is)
-  rises_as (n ∷ ns) is = go (covers_held (map.get h q) m) refl ∙ sym (ap not (not_empty n ns))
+  pub rises_as : (ns : List Need) → list_any (rises h) ns ≡ not (length (risen h ns) == 0)
+  rises_as ns = go (list_any (rises h) ns) refl (risen h ns) refl
     where
-      go : (b : Bool) → covers_held (map.get h q) m ≡ b → not b ≡ true
-      go false e = refl
-      go true e = (let wrong : n ∷ ns ≡ [] = none_risen e (n ∷ ns) is in cc)
+      go : (b : Bool) → list_any (rises h) ns ≡ b → (xs : List Need) → risen h ns ≡ xs → b ≡ not (length xs == 0)
+      go false e [] is = refl
+      go false e (x ∷ xs) is = (let wrong : x ∷ xs ≡ [] = none_risen ns (any_covered ns e) (x ∷ xs) is in cc)
+      go true e [] is = (let wrong : true ≡ false = sym e ∙ covered_any ns (covered_so ns is) in cc)
+      go true e (x ∷ xs) is = sym (ap not (not_empty x xs))

@@ -12,7 +12,8 @@ use Rattle.alp_trans.specs.Parts.{own_of}
 use Rattle.alp_trans.specs.declared.part.Part.{Part}
 use Rattle.alp_files.specs.Act.{no_opens}
 use Rattle.alp_files.specs.Cells.{Cells}
-use Rattle.alp_files.specs.Edits.{edits_at, over}
+use Rattle.alp_files.specs.Edits.{edits_at}
+use Rattle.alp_files.specs.Needs.{no_intents}
 use Rattle.alp_files.proofs.FilesLemmas.{same-some}
 use Rattle.alp_files.specs.declared.call.Call.TheVariants as call
 use Rattle.alp_files.specs.declared.reply.Reply.TheVariants as reply
@@ -206,7 +207,7 @@ module _ {V : Type 0} (a : Alone) (held : Contents) (k : ServerState V) (client 
   trans_same : IsAs a held k → next_trans (alone a) ≡ begun_trans
   trans_same h = λ i. record { server = h.server i; epoch = h.epoch i; counter = h.drawn i + 1 }
 
-  begun_alike : (locks : Holders) → map.get k.lives begun_trans ≡ None → ((u : TransId) (r : Resource) → holding locks u r ≡ holding k.locks.held u r) → own_of p ≡ no_opens → p.intents ≡ map.empty → p.counts ≡ no_counts → IsAs a held k
+  begun_alike : (locks : Holders) → map.get k.lives begun_trans ≡ None → ((u : TransId) (r : Resource) → holding locks u r ≡ holding k.locks.held u r) → own_of p ≡ no_opens → p.intents ≡ no_intents → p.counts ≡ no_counts → IsAs a held k
       → (u : TransId) → IsAlike a.holder.cells locks (lock_set a.locked begun_trans [] u) u (map.get (map.insert k.lives begun_trans begun_live) u) (cond {A = Option Life} (same_trans u begun_trans) (Some (new_life None client w.who)) (a.holder.lives u))
   begun_alike locks new same opens none idle h u =
       subst (λ (x : Option Live). IsAlike a.holder.cells locks (lock_set a.locked begun_trans [] u) u x (cond {A = Option Life} (same_trans u begun_trans) (Some (new_life None client w.who)) (a.holder.lives u))) (sym (get_put k.lives begun_trans begun_live u))
@@ -214,7 +215,7 @@ module _ {V : Type 0} (a : Alone) (held : Contents) (k : ServerState V) (client 
       (record {
         client = refl;
         who = refl;
-        intents = λ x. ap (λ (puts : Cells). over puts x) none;
+        intents = none;
         own = opens;
         held = λ r. sym (same begun_trans r ∙ none_held a.holder.cells k.locks.held (a.locked begun_trans) begun_trans (map.get k.lives begun_trans) (a.holder.lives begun_trans) new (h.lives begun_trans) r);
         opens = tt;
@@ -261,7 +262,7 @@ module _ {V : Type 0} (a : Alone) (held : Contents) (k : ServerState V) (client 
           farther true false true h e = let wrong : false ≡ true = h refl in cc
 
   pub begin_stepped : (before now : ℕ) (x : Answer) (locks : Table) → IsAs a held k → client ≤ 16 → k.is_down ≡ false → session_at k.sessions client ≡ Some w → number ≡ w.last + 1 → map.len k.lives < 64 → map.get k.lives begun_trans ≡ None
-      → ((u : TransId) (r : Resource) → holding locks.held u r ≡ holding k.locks.held u r) → own_of p ≡ no_opens → p.intents ≡ map.empty → p.counts ≡ no_counts
+      → ((u : TransId) (r : Resource) → holding locks.held u r ≡ holding k.locks.held u r) → own_of p ≡ no_opens → p.intents ≡ no_intents → p.counts ≡ no_counts
       → x ≡ told_answer (Some (reply.Begun begun_trans)) (act.Drawn begun_trans ∷ [])
       → Stepped a before now held (with_begun_kept locks) (event.Call client k.epoch number (call.Begin seen)) x
   begin_stepped before now x locks h le up there turn few new same opens none idle is =

@@ -1,21 +1,13 @@
--- what a call that asks for locks asks, keeps and opens
+-- what a call that was answered keeps of what it asked
 use Rattle.std.specs.Prelude.{cond, Bool, true, false, not, ◌&&◌, ◌||◌, ◌==◌, nat_lt, nat_le, Option, None, Some}
-use Rattle.std.specs.List.{AllByRecursion}
 use Rattle.std.specs.Ordering.{eq_by_cmp}
-use Rattle.std.proofs.Common.{◌≡◌, ℕ, ◌+◌, ◌<◌, ◌≤◌, List, [], ◌∷◌, ◌++◌, length, refl, sym, ◌∙◌, ap, subst, arith}
-use Rattle.std.proofs.lemmas.Bool.{ltb-true, ltb-false, leb-true}
-use Rattle.std.specs.Option.{option_or}
-use Rattle.alp_files.specs.declared.refusal.What.TheVariants as what
-use Rattle.alp_journal.specs.Answers.{if_over}
-use Rattle.alp_node.specs.Shapes.{shape_of, no_open}
+use Rattle.std.proofs.Common.{◌≡◌, ℕ, ◌+◌, ◌<◌, ◌≤◌, List, [], ◌∷◌, ◌++◌, append-nil, refl, sym, ◌∙◌, ap, subst, arith}
+use Rattle.std.proofs.lemmas.Bool.{ltb-true, leb-true}
 use Rattle.alp_base.proofs.NameLemmas.{and_right}
 use Rattle.alp_base.specs.declared.ids.FileId.{FileId}
 use Rattle.alp_base.specs.declared.ids.TransId.{TransId}
 use Rattle.alp_base.specs.declared.key.Resource.{Resource}
 use Rattle.alp_base.specs.declared.key.Resource.TheVariants.{Whole}
-use Rattle.alp_base.specs.declared.choices.Access.{Access}
-use Rattle.alp_base.specs.declared.choices.Access.TheVariants.{ReadOnly, Change}
-use Rattle.alp_base.specs.declared.choices.Choice.TheVariants as choice
 use Rattle.alp_base.specs.Orders.{trans_cmp, resource_cmp, exact_resources}
 use Rattle.alp_modes.specs.declared.Mode.{Mode}
 use Rattle.alp_modes.specs.declared.Mode.TheVariants.{Write}
@@ -25,12 +17,11 @@ use Rattle.alp_files.specs.declared.call.Call.TheVariants as call
 use Rattle.alp_files.specs.declared.reply.Reply.{Reply}
 use Rattle.alp_files.specs.declared.reply.Reply.TheVariants as reply
 use Rattle.alp_files.specs.declared.refusal.Refusal.TheVariants as refusal
-use Rattle.alp_files.specs.Act.{Own, answer, id_in}
-use Rattle.alp_files.specs.Built.{IsBuilt}
+use Rattle.alp_files.specs.Act.{id_in}
 use Rattle.alp_files.specs.Born.{count_after}
-use Rattle.alp_files.specs.Cells.{View}
-use Rattle.alp_files.specs.Locks.{Need, IsMore, granted, needs_of, request_of, joined, with_made, needs_made}
-use Rattle.alp_files.proofs.CoverLemmas.{right-above, joined-more}
+use Rattle.alp_files.specs.Locks.{Need, needs_made, with_made}
+use Rattle.alp_files.proofs.CoverLemmas.{right-above}
+use Rattle.alp_files.proofs.HoldingLemmas.{held_by-append}
 use Rattle.alp_queue.specs.declared.waiter.Waiter.{Waiter}
 use Rattle.alp_queue.specs.Order.{waits}
 use Rattle.alp_locks.specs.Tables.{Table, holding}
@@ -40,153 +31,66 @@ use Rattle.alp_locks.proofs.HeldLemmas.{tied}
 use Rattle.alp_locks.proofs.LawLemmas.{all-of-plan}
 use Rattle.alp_locks.proofs.PlanLemmas.{granted-waiting, granted-knows}
 use Rattle.alp_locks.proofs.SoundLemmas.{grant-sound}
-use Rattle.alp_calls.specs.Parts.{GivesOnly, IsShaped}
+use Rattle.alp_calls.specs.Parts.{GivesOnly}
 use Rattle.alp_vault.specs.Contents.{Contents}
 use Rattle.alp_journal.specs.Moves.{is_of_no_file}
 use Rattle.alp_journal.specs.Moves as journal
-use Rattle.alp_journal.specs.Answers.{choice_of, more_locks}
 use Rattle.alp_journal.specs.Alone.{Alone, alone}
-use Rattle.alp_node.specs.Asks.{is_of_given, is_given, asks_of, asks_made, asks_given, is_made, plan_for, count_made, plan_of, with_plan}
-use Rattle.alp_node.specs.Calls.{IsLockCall, next_file}
-use Rattle.alp_node.specs.ServerState.{IsAs, IsReady, IsLocked, mode_for}
+use Rattle.alp_node.specs.Asks.{is_of_given, is_given, IsGivenOn, AreGiven, asks_made, asks_given, makes_file, is_made, plan_if, plan_for, count_made, plan_of, with_plan}
+use Rattle.alp_node.specs.Calls.{next_file}
+use Rattle.alp_node.specs.ServerState.{IsAs, IsReady}
 use Rattle.alp_node.specs.declared.server_state.ServerState.{ServerState}
-use Rattle.alp_node.proofs.AskLemmas.{OpensLocked, open_none, owner_none, more_locked, open_locked, owner_locked, create_locked}
 use Rattle.alp_node.proofs.ConflictLemmas.{made_free}
 use Rattle.alp_node.proofs.IdLemmas.{known_file}
-use Rattle.alp_node.proofs.LockLemmas.{itself, read_covers, write_covers, asks_right}
+use Rattle.alp_node.proofs.LockLemmas.{itself, write_covers}
+use Rattle.alp_node.proofs.OpenLemmas.{opens_later}
 use Rattle.alp_node.proofs.ReadyLemmas.{numbered}
 
--- ---- what is asked, and for which reply
+-- ---- what is kept
 
 -- the plan that is taken is one of what is kept
-pub plan_given : (locks : Table) (t : TransId) (id : FileId) (c : Call) (r : Reply) → plan_for (is_made r) (plan_of locks t (asks_of c)) (plan_of locks t (asks_made id c)) ≡ plan_of locks t (asks_given id c r)
-plan_given locks t id c (reply.Created f n) = refl
-plan_given locks t id c r = refl
+pub plan_given : (locks : Table) (t : TransId) (id : FileId) (c : Call) (ns : List Need) (r : Reply) → plan_for (is_made r) (plan_of locks t ns) (plan_if (makes_file c) (plan_of locks t (asks_made id ns))) ≡ plan_of locks t (asks_given id c ns r)
+plan_given locks t id c ns r = go (makes_file c) (is_made r)
+  where
+    go : (a b : Bool) → plan_for b (plan_of locks t ns) (plan_if a (plan_of locks t (asks_made id ns))) ≡ plan_of locks t (cond {A = List Need} (b && a) (asks_made id ns) ns)
+    go true true = refl
+    go true false = refl
+    go false true = refl
+    go false false = refl
+
+-- whichever it is
+pub plan_is : (locks : Table) (t : TransId) (ns ms : List Need) (b m : Bool) → (qs : List Need) × (plan_for b (plan_of locks t ns) (plan_if m (plan_of locks t ms)) ≡ plan_of locks t qs)
+plan_is locks t ns ms true true = (ms, refl)
+plan_is locks t ns ms true false = (ns, refl)
+plan_is locks t ns ms false true = (ns, refl)
+plan_is locks t ns ms false false = (ns, refl)
 
 -- so is the count
 pub count_given : (count : ℕ) (r : Reply) → count_made count (is_made r) ≡ count_after count r
 count_given count (reply.Created f n) = refl
 count_given count r = refl
 
--- where nobody stands in the way of either, nobody does
-free_either : (locks : Table) (t : TransId) (id : FileId) (c : Call) (r : Reply) → blocker locks.held t (plan_of locks t (asks_of c)).rises ≡ None → blocker locks.held t (plan_of locks t (asks_made id c)).rises ≡ None
-    → blocker locks.held t (plan_of locks t (asks_given id c r)).rises ≡ None
-free_either locks t id c (reply.Created f n) asked made = made
-free_either locks t id c r asked made = asked
-
--- so nobody does where the file that may be made is nobody's
-pub free_given : {V : Type 0} (m : ℕ) (serves : Bool) (k : ServerState V) (t : TransId) (c : Call) (r : Reply) → IsReady m serves k → blocker k.locks.held t (plan_of k.locks t (asks_of c)).rises ≡ None
-    → blocker k.locks.held t (plan_of k.locks t (asks_given (next_file k) c r)).rises ≡ None
-free_given m serves k t c r h free =
-    free_either k.locks t (next_file k) c r free (made_free k.locks.held t (next_file k) c h.sound.agreeing (λ u. h.unheld u (k.given + 1) (omega arith)) free)
-
--- where no file is made, what is kept is what was asked
-asks_none : (id : FileId) (c : Call) (r : Reply) → id_in r ≡ None → asks_given id c r ≡ asks_of c
-asks_none id c (reply.Created f n) none = let wrong : Some f ≡ None = none in cc
-asks_none id c r none = refl
-
-append_none : (ns : List Need) → ns ≡ ns ++ []
-append_none [] = refl
-append_none (n ∷ ns) = ap (λ (x : List Need). n ∷ x) (append_none ns)
-
--- and the new file's lock beside it where one is made
-made_beside : (id : FileId) (t : TransId) (c : Call) (r : Reply) → (asks_made id c ≡ asks_of c ++ needs_made (Some id)) → GivesOnly id r → asks_given id c r ≡ asks_of c ++ needs_made (id_in r)
-made_beside id t c (reply.Created f n) is only = is ∙ ap (λ (g : FileId). asks_of c ++ needs_made (Some g)) (sym (only f n refl))
-made_beside id t c r is only = append_none (asks_of c)
-
--- ---- such a call by itself
-
-pub lock_built : (c : Call) → IsLockCall c → IsBuilt c
-lock_built (call.CreateFile t start choice) is = tt
-lock_built (call.OpenFile t f a mode choice) is = tt
-lock_built (call.MakeOwner t name quota create choice) is = tt
-lock_built c is = absurd is
-
--- a file that is made has no more pages than may be
-pub lock_shaped : (server epoch given opens : ℕ) (c : Call) → IsLockCall c → shape_of server epoch given opens c ≡ None → IsShaped c
-lock_shaped server epoch given opens (call.CreateFile t start choice) is shape = go (nat_lt 4096 start.size) refl shape
+-- where nobody stands in the way of what is asked, nobody does of what is kept: the file that may be made is nobody's
+pub free_given : {V : Type 0} (m : ℕ) (serves : Bool) (k : ServerState V) (t : TransId) (c : Call) (ns : List Need) (r : Reply) → IsReady m serves k → blocker k.locks.held t (plan_of k.locks t ns).rises ≡ None
+    → blocker k.locks.held t (plan_of k.locks t (asks_given (next_file k) c ns r)).rises ≡ None
+free_given m serves k t c ns r h free = go (is_made r && makes_file c)
   where
-    go : (b : Bool) → nat_lt 4096 start.size ≡ b → option_or (if_over b (refusal.TooMany what.Pages 4096)) (no_open opens) ≡ None → start.size ≤ 4096
-    go false e none = ltb-false 4096 start.size e
-    go true e none = cc
-lock_shaped server epoch given opens (call.OpenFile t f a mode choice) is shape = tt
-lock_shaped server epoch given opens (call.MakeOwner t name quota create choice) is shape = tt
-lock_shaped server epoch given opens c is shape = absurd is
-
--- it does not wait
-pub lock_choice : (c : Call) → IsLockCall c → choice_of c ≡ Some choice.Fail
-lock_choice (call.CreateFile t start choice) is = ap (λ x. Some x) is
-lock_choice (call.OpenFile t f a mode choice) is = ap (λ x. Some x) is.1
-lock_choice (call.MakeOwner t name quota create choice) is = ap (λ x. Some x) is
-lock_choice c is = absurd is
-
--- one need, and no more
-pub record IsOne (ns : List Need) : Type 0 where
-  pub on : Resource
-  pub mode : Mode
-  pub is : ns ≡ (on, mode) ∷ []
-
-pub lock_one : (c : Call) → IsLockCall c → IsOne (asks_of c)
-lock_one (call.CreateFile t start choice) is = record { on = _; mode = _; is = refl }
-lock_one (call.OpenFile t f a mode choice) is = record { on = _; mode = _; is = refl }
-lock_one (call.MakeOwner t name quota create choice) is = record { on = _; mode = _; is = refl }
-lock_one c is = absurd is
-
-made_few : (r : Reply) → length (needs_made (id_in r)) ≤ 1
-made_few (reply.Created f n) = omega arith
-made_few r = omega arith
-
-none_few : (id : Option FileId) → id ≡ None → length (needs_made id) ≤ 0
-none_few id none = subst (λ (x : Option FileId). length (needs_made x) ≤ 0) (sym none) (omega arith)
-
-pub lock_made : (server : ℕ) (made : List FileId) (m : View) (w : Own) (who : List ℕ) (c : Call) (r : Reply) → IsLockCall c → (answer server made m who w c r).reply ≡ Some r → length (needs_made (id_in r)) ≤ more_locks c
-lock_made server made m w who (call.CreateFile t start choice) r is done = made_few r
-lock_made server made m w who (call.OpenFile t f a mode choice) r is done = none_few (id_in r) (open_none m w who f a r done)
-lock_made server made m w who (call.MakeOwner t name quota create choice) r is done = none_few (id_in r) (owner_none m w who name quota create r done)
-lock_made server made m w who c r is done = absurd is
+    go : (b : Bool) → blocker k.locks.held t (plan_of k.locks t (cond {A = List Need} b (asks_made (next_file k) ns) ns)).rises ≡ None
+    go true = made_free k.locks.held t (next_file k) ns h.sound.agreeing (λ u. h.unheld u (k.given + 1) (omega arith)) free
+    go false = free
 
 -- what is kept is what was asked, with the lock of a new file
-pub kept_beside : (server : ℕ) (made : List FileId) (m : View) (w : Own) (who : List ℕ) (id : FileId) (c : Call) (r : Reply) → IsLockCall c → (answer server made m who w c r).reply ≡ Some r → GivesOnly id r
-    → asks_given id c r ≡ asks_of c ++ needs_made (id_in r)
-kept_beside server made m w who id (call.CreateFile t start choice) r is done only = made_beside id t (call.CreateFile t start choice) r refl only
-kept_beside server made m w who id (call.OpenFile t f a mode choice) r is done only =
-    let none : id_in r ≡ None = open_none m w who f a r done in
-    asks_none id (call.OpenFile t f a mode choice) r none ∙ append_none (asks_of (call.OpenFile t f a mode choice)) ∙ ap (λ (x : Option FileId). (Whole f, mode) ∷ needs_made x) (sym none)
-kept_beside server made m w who id (call.MakeOwner t name quota create choice) r is done only =
-    let none : id_in r ≡ None = owner_none m w who name quota create r done in
-    asks_none id (call.MakeOwner t name quota create choice) r none ∙ append_none (asks_of (call.MakeOwner t name quota create choice))
-    ∙ ap (λ (x : Option FileId). asks_of (call.MakeOwner t name quota create choice) ++ needs_made x) (sym none)
-kept_beside server made m w who id c r is done only = absurd is
-
--- an open has its file locked
-open_asked : (held : Holding) (m : View) (w : Own) (c : Call) (t : TransId) (f : FileId) (a : Access) → request_of held (needs_of m w c) ≡ (Whole f, mode_for a) ∷ [] → covers_held (granted held (needs_of m w c) (Whole f)) (mode_for a) ≡ true
-open_asked held m w c t f a asks =
-    subst (λ (ns : List Need). covers_held (joined held ns (Whole f)) (mode_for a) ≡ true) (sym asks)
-    (right-above (held (Whole f)) (held_by ((Whole f, mode_for a) ∷ []) (Whole f)) (mode_for a) (ap (λ (b : Bool). covers_held (cond {A = Option Mode} b (Some (mode_for a)) None) (mode_for a)) (itself (Whole f)) ∙ own_mode a))
+pub kept_beside : (id : FileId) (c : Call) (ns : List Need) (r : Reply) → (makes_file c ≡ false → id_in r ≡ None) → GivesOnly id r → asks_given id c ns r ≡ ns ++ needs_made (id_in r)
+kept_beside id c ns (reply.Created f n) only_creates only = go (makes_file c) refl
   where
-    own_mode : (b : Access) → covers_held (Some (mode_for b)) (mode_for b) ≡ true
-    own_mode ReadOnly = read_covers
-    own_mode Change = write_covers
+    go : (b : Bool) → makes_file c ≡ b → cond {A = List Need} b (asks_made id ns) ns ≡ ns ++ (Whole f, Write) ∷ []
+    go true e = ap (λ (g : FileId). ns ++ (Whole g, Write) ∷ []) (sym (only f n refl))
+    go false e = (let wrong : Some f ≡ None = only_creates e in cc)
+kept_beside id c ns r only_creates only = sym (append-nil ns)
 
--- the locks cover every open then
-pub kept_locked : (server : ℕ) (made : List FileId) (held : Holding) (m : View) (w : Own) (who : List ℕ) (c : Call) (r : Reply) → IsLockCall c → AllByRecursion (IsLocked held) w.opens
-    → OpensLocked (with_made (granted held (needs_of m w c)) (id_in r)) (answer server made m who w c r)
-kept_locked server made held m w who (call.CreateFile t start choice) r is h =
-    let c : Call = call.CreateFile t start choice in
-    create_locked server made (granted held (needs_of m w c)) m w who start (id_in r) (more_locked held (granted held (needs_of m w c)) (joined-more held (request_of held (needs_of m w c))) w.opens h)
-kept_locked server made held m w who (call.OpenFile t f a mode choice) r is h =
-    let c : Call = call.OpenFile t f a mode choice in
-    let under : Holding = granted held (needs_of m w c) in
-    let more : IsMore under (with_made under (id_in r)) = joined-more under (needs_made (id_in r)) in
-    let asks : request_of held (needs_of m w c) ≡ (Whole f, mode_for a) ∷ [] = asks_right held m w c is ∙ ap (λ (x : Mode). (Whole f, x) ∷ []) is.0 in
-    open_locked (with_made under (id_in r)) m w who f a (more_locked under (with_made under (id_in r)) more w.opens (more_locked held under (joined-more held (request_of held (needs_of m w c))) w.opens h))
-    (more (Whole f) (mode_for a) (open_asked held m w c t f a asks))
-kept_locked server made held m w who (call.MakeOwner t name quota create choice) r is h =
-    let c : Call = call.MakeOwner t name quota create choice in
-    let under : Holding = granted held (needs_of m w c) in
-    owner_locked (with_made under (id_in r)) m w who name quota create
-    (more_locked under (with_made under (id_in r)) (joined-more under (needs_made (id_in r))) w.opens (more_locked held under (joined-more held (request_of held (needs_of m w c))) w.opens h))
-kept_locked server made held m w who c r is h = absurd is
+-- a file that is made is locked as it is made
+pub made_locked : (under : Holding) (f : FileId) → covers_held (with_made under (Some f) (Whole f)) Write ≡ true
+made_locked under f = right-above (under (Whole f)) (held_by ((Whole f, Write) ∷ []) (Whole f)) Write (ap (λ (b : Bool). covers_held (cond b (Some Write) None) Write) (itself (Whole f)) ∙ write_covers)
 
 -- ---- ids
 
@@ -227,31 +131,41 @@ whole_file f g e = same_whole (exact_resources (Whole f) (Whole g) (tied (resour
     same_whole : Whole f ≡ Whole g → f ≡ g
     same_whole h = cc
 
-pub asked_below : (server epoch count n : ℕ) (c : Call) → is_of_given server epoch count c ≡ true → count < n → held_by (asks_of c) (Whole (record { server = server; epoch = epoch; counter = n })) ≡ None
-asked_below server epoch count n (call.OpenFile t f a mode choice) given high = go (eq_by_cmp resource_cmp (Whole (record { server = server; epoch = epoch; counter = n })) (Whole f)) refl
-  where
-    go : (b : Bool) → eq_by_cmp resource_cmp (Whole (record { server = server; epoch = epoch; counter = n })) (Whole f) ≡ b → cond {A = Option Mode} b (Some mode) None ≡ None
-    go true e = absurd (none_of_given server epoch count n high (ap (is_given server epoch count) (whole_file (record { server = server; epoch = epoch; counter = n }) f e) ∙ given))
-    go false e = refl
-asked_below server epoch count n c given high = refl
+same_resource : (r q : Resource) → eq_by_cmp resource_cmp r q ≡ true → r ≡ q
+same_resource r q e = exact_resources r q (tied (resource_cmp r q) e)
 
-made_below : (server epoch count n : ℕ) (c : Call) → is_of_given server epoch count c ≡ true → count + 1 < n
-    → held_by (asks_made (record { server = server; epoch = epoch; counter = count + 1 }) c) (Whole (record { server = server; epoch = epoch; counter = n })) ≡ None
-made_below server epoch count n (call.CreateFile t start choice) given high =
-    go (eq_by_cmp resource_cmp (Whole (record { server = server; epoch = epoch; counter = n })) (Whole (record { server = server; epoch = epoch; counter = count + 1 }))) refl
-  where
-    go : (b : Bool) → eq_by_cmp resource_cmp (Whole (record { server = server; epoch = epoch; counter = n })) (Whole (record { server = server; epoch = epoch; counter = count + 1 })) ≡ b → cond {A = Option Mode} b (Some Write) None ≡ None
-    go true e =
-        let same : n ≡ count + 1 = ap (λ (f : FileId). f.counter) (whole_file (record { server = server; epoch = epoch; counter = n }) (record { server = server; epoch = epoch; counter = count + 1 }) e) in
-        absurd (omega (arith, high, same))
-    go false e = refl
-made_below server epoch count n c given high = asked_below server epoch count n c given (omega (arith, high))
+module _ (server epoch count n : ℕ) where
+  abbrev beyond : Resource
+  beyond = Whole (record { server = server; epoch = epoch; counter = n })
 
--- no file beyond the count is among what is kept
-pub given_below : (server epoch count n : ℕ) (c : Call) (r : Reply) → is_of_given server epoch count c ≡ true → count_after count r < n
-    → held_by (asks_given (record { server = server; epoch = epoch; counter = count + 1 }) c r) (Whole (record { server = server; epoch = epoch; counter = n })) ≡ None
-given_below server epoch count n c (reply.Created f m) given high = made_below server epoch count n c given high
-given_below server epoch count n c r given high = asked_below server epoch count n c given high
+  pub asked_below : (ns : List Need) → AreGiven server epoch count ns → count < n → held_by ns beyond ≡ None
+  asked_below [] given high = refl
+  asked_below (x ∷ ns) given high = go (eq_by_cmp resource_cmp beyond x.0) refl (asked_below ns given.1 high)
+    where
+      go : (b : Bool) → eq_by_cmp resource_cmp beyond x.0 ≡ b → held_by ns beyond ≡ None → cond {A = Option Mode} b (join_held (Some x.1) (held_by ns beyond)) (held_by ns beyond) ≡ None
+      go true e rest = absurd (none_of_given server epoch count n high (subst (IsGivenOn server epoch count) (sym (same_resource beyond x.0 e)) given.0))
+      go false e rest = rest
+
+  -- no file beyond the count is among what is kept
+  pub given_below : (c : Call) (ns : List Need) (r : Reply) → AreGiven server epoch count ns → count_after count r < n → held_by (asks_given (record { server = server; epoch = epoch; counter = count + 1 }) c ns r) beyond ≡ None
+  given_below c ns (reply.Created f m) given high = go (makes_file c)
+    where
+      next : FileId
+      next = record { server = server; epoch = epoch; counter = count + 1 }
+
+      away : (b : Bool) → eq_by_cmp resource_cmp beyond (Whole next) ≡ b → cond {A = Option Mode} b (Some Write) None ≡ None
+      away true e =
+          let same : n ≡ count + 1 = ap (λ (f : FileId). f.counter) (whole_file (record { server = server; epoch = epoch; counter = n }) next e) in
+          absurd (omega (arith, high, same))
+      away false e = refl
+
+      asked : held_by ns beyond ≡ None
+      asked = asked_below ns given (omega (arith, high))
+
+      go : (b : Bool) → held_by (cond {A = List Need} b (asks_made next ns) ns) beyond ≡ None
+      go true = held_by-append ns ((Whole next, Write) ∷ []) beyond ∙ (λ i. join_held (asked i) (away (eq_by_cmp resource_cmp beyond (Whole next)) refl i))
+      go false = asked
+  given_below c ns r given high = asked_below ns given high
 
 -- a plan of other resources leaves a file to nobody that nobody holds
 joined_none : (b : Bool) (x y : Option Mode) → x ≡ None → y ≡ None → cond {A = Option Mode} b (join_held x y) x ≡ None
@@ -269,6 +183,7 @@ granted_ready m serves k w count more low prepared free others h = record {
   known = λ u l is. granted-knows k.locks w.trans w.rises w.after u (h.known u l is);
   begun = h.begun;
   opens = h.opens;
+  opened = λ u l is. opens_later k.server k.epoch k.given count more l.part.opens.items (h.opened u l is);
   places = h.places;
   calls = h.calls;
   replies = h.replies;

@@ -32,7 +32,7 @@ use Rattle.alp_node.specs.Orders.{greeting_order, session_order, order_of, idle_
 use Rattle.alp_node.specs.ServerState.{IsAs, IsReady}
 use Rattle.alp_node.specs.Sessions.{session_at}
 use Rattle.alp_node.specs.Steps.{Stepped, IsStepAs, seen_in, told_answer, entry_of}
-use Rattle.alp_node.specs.Turns.{TellsUpTo, IsInSession, HasCounted, HasTurned}
+use Rattle.alp_node.specs.Turns.{TellsUpTo, IsInSession, HasCounted, HasTurned, IsToldItsPages}
 use Rattle.alp_node.specs.declared.answer.Answer.{Answer}
 use Rattle.alp_node.specs.declared.server_state.ServerState.{ServerState}
 use Rattle.alp_node.specs.declared.sessions.CallOrder.{CallOrder}
@@ -291,6 +291,13 @@ module _ {V : Type 0} (G : Ghosts V) (k : ServerState V) (client epoch number : 
   idle_counted order.Stale idle = (refl, refl)
   idle_counted order.Astray idle = (refl, refl)
 
+  idle_pages : (o : CallOrder) → IsIdle o → IsToldItsPages (Some o) this_call (idle_reply o k.epoch here_now)
+  idle_pages order.First idle = tt
+  idle_pages order.Next idle = absurd idle
+  idle_pages order.Repeat idle = tt
+  idle_pages order.Stale idle = tt
+  idle_pages order.Astray idle = tt
+
   module _ (n : ℕ) (ready : IsReady n (G.serves k.vault) k) (up : k.is_down ≡ false) where
     -- it is answered, and the server stays as it was
     pub idle_step : (x : Answer) → IsIdle (order_of k.epoch epoch number c here_now) → x ≡ told_answer (idle_reply (order_of k.epoch epoch number c here_now) k.epoch here_now) []
@@ -307,6 +314,7 @@ module _ {V : Type 0} (G : Ghosts V) (k : ServerState V) (client epoch number : 
           later = le_refl k.clock;
           times = idle_tells o k.clock k.epoch here_now idle (λ v is. (ready.replies client v is).times);
           sessions = idle_counted o idle;
+          pages = idle_pages o idle;
         }))
 
     -- a repeat gets the kept reply, unless there is no memory to copy it

@@ -5,9 +5,7 @@ use Rattle.std.proofs.Common.{◌≡◌, ℕ, ◌+◌, ◌≤◌, List, [], ◌�
 use Rattle.alp_base.specs.declared.ids.TransId.{TransId}
 use Rattle.alp_base.specs.declared.ids.Stamp.{Stamp}
 use Rattle.alp_base.specs.declared.key.Resource.{Resource}
-use Rattle.alp_files.specs.Cells.{Cells, View}
-use Rattle.alp_files.specs.Edits.{over}
-use Rattle.alp_files.proofs.CellMapLemmas.{over-none}
+use Rattle.alp_files.specs.Cells.{Cells}
 use Rattle.alp_files.specs.History.{Decided}
 use Rattle.alp_files.specs.declared.call.Call.{Call}
 use Rattle.alp_files.specs.declared.reply.Reply.{Reply}
@@ -99,10 +97,6 @@ of_client client (Some l) h = (l, refl, h)
 -- a clock that stands is no later than it may be
 pub stands_timely : (before seen now : ℕ) → before ≡ now → now ≤ max before seen + 1
 stands_timely before seen now same = omega arith
-
--- no puts over what is seen
-pub over_empty : (v : View) → over map.empty v ≡ v
-over_empty v = over-none v
 
 -- ---- what holds of sessions
 

@@ -25,8 +25,12 @@ pub mod CallLemmas
 pub mod IdLemmas
 pub mod ServedLemmas
 pub mod ApartLemmas
-pub mod PageLemmas
-pub mod PerformLemmas
+pub mod FileLockLemmas
+pub mod OpenLemmas
+pub mod BehindLemmas
+pub mod AnswerLemmas
+pub mod MadeLemmas
+pub mod ClosedLemmas
 pub mod LookLemmas
 pub mod LockLemmas
 pub mod AskLemmas

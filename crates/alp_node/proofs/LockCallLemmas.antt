@@ -1,58 +1,64 @@
--- a call that asks for locks: what it asks, and how it is refused before it is performed
-use Rattle.std.specs.Prelude.{cond, Bool, true, false, not, ◌||◌, ◌==◌, Option, None, Some, is_some}
+-- a file call: what it asks, and how it is refused before it is performed
+use Rattle.std.specs.Prelude.{cond, Bool, true, false, not, ◌==◌, Option, None, Some, is_some}
 use Rattle.std.specs.List.{list_any}
 use Rattle.std.specs.Option.{option_or}
 use Rattle.std.specs.FinMap as map
-use Rattle.std.proofs.Common.{inr, ◌≡◌, ℕ, ◌+◌, ◌<◌, List, [], ◌∷◌, length, refl, sym, ◌∙◌, ap, subst}
+use Rattle.std.proofs.Common.{inl, inr, ◌⊎◌, ◌≡◌, ℕ, ◌+◌, ◌<◌, List, [], ◌∷◌, length, refl, sym, ◌∙◌, ap, subst, arith}
+use Rattle.alp_base.specs.declared.allowance.Allowance.{Allowance}
 use Rattle.alp_base.specs.declared.ids.TransId.{TransId}
 use Rattle.alp_base.specs.declared.key.Resource.{Resource}
-use Rattle.alp_modes.specs.declared.Mode.{Mode}
-use Rattle.alp_files.specs.Holdings.{Holding, covers_held}
+use Rattle.alp_files.specs.Act.{Own}
+use Rattle.alp_files.specs.Cells.{View}
+use Rattle.alp_files.specs.Holdings.{Holding}
 use Rattle.alp_files.specs.declared.call.Call.{Call}
+use Rattle.alp_files.specs.declared.call.Call.TheVariants as call
 use Rattle.alp_files.specs.declared.reply.Reply.{Reply}
 use Rattle.alp_files.specs.declared.reply.Reply.TheVariants as reply
 use Rattle.alp_files.specs.declared.refusal.Refusal.{Refusal}
 use Rattle.alp_files.specs.declared.refusal.Refusal.TheVariants as refusal
-use Rattle.alp_files.specs.Locks.{Need}
-use Rattle.alp_locks.specs.Tables.{holding, held_of}
+use Rattle.alp_files.specs.Locks.{Need, request_of}
+use Rattle.alp_locks.specs.Tables.{Holders, holding, held_of}
 use Rattle.alp_locks.specs.Asks.{blocker, risen}
 use Rattle.alp_locks.specs.Sound.{IsSound}
 use Rattle.alp_vault.specs.Contents.{Contents}
+use Rattle.alp_trans.specs.Parts.{own_of}
+use Rattle.alp_calls.specs.Parts.{seen}
 use Rattle.alp_journal.specs.declared.act.Act.{Act}
 use Rattle.alp_journal.specs.declared.act.Act.TheVariants as act
 use Rattle.alp_journal.specs.declared.event.Event.TheVariants as event
 use Rattle.alp_journal.specs.Counts.{request_in, with_resources}
 use Rattle.alp_journal.specs.Desk.{file_trans}
 use Rattle.alp_journal.specs.Holder.{Life, view_in}
-use Rattle.alp_journal.specs.Answers.{First, IsLocked, shape_refusal, lock_refusal, locks_then, more_locks}
+use Rattle.alp_journal.specs.Moves.{is_stop}
+use Rattle.alp_journal.specs.Answers.{First, IsLocked, shape_refusal, lock_refusal, locks_then, more_locks, choice_of}
 use Rattle.alp_journal.specs.Answered.{asks, rises_on}
 use Rattle.alp_journal.specs.Alone.{Alone, alone}
-use Rattle.alp_base.specs.declared.allowance.Allowance.{Allowance}
-use Rattle.alp_journal.specs.Moves.{is_stop}
+use Rattle.alp_base.specs.declared.choices.Choice.TheVariants as choice
 use Rattle.alp_node.specs.Halts.{HaveCauses}
 use Rattle.alp_node.specs.Asks.{asks_of, plan_of, acts_of}
-use Rattle.alp_node.specs.Calls.{IsLockCall}
+use Rattle.alp_node.specs.Calls.{IsServedCall}
 use Rattle.alp_node.specs.Covers.{AreHeld}
-use Rattle.alp_node.specs.Shapes.{shape_of, fresh_on, counts_then, too_locked}
-use Rattle.alp_node.specs.declared.lock_counts.LockCounts.{LockCounts}
 use Rattle.alp_node.specs.Dead.{is_dead}
+use Rattle.alp_node.specs.Rooms.{IsWithin}
+use Rattle.alp_node.specs.Shapes.{shape_of, fresh_on, counts_then, too_locked}
 use Rattle.alp_node.specs.ServerState.{IsAs, IsLife}
 use Rattle.alp_node.specs.Standings.{standing_of}
 use Rattle.alp_node.specs.Steps.{Stepped, IsTurn, IsOf, counted_in, refused_answer}
 use Rattle.alp_node.specs.declared.answer.Answer.{Answer as Handed}
 use Rattle.alp_node.specs.declared.lives.Live.{Live}
+use Rattle.alp_node.specs.declared.lock_counts.LockCounts.{LockCounts}
 use Rattle.alp_node.specs.declared.server_state.ServerState.{ServerState}
 use Rattle.alp_node.specs.declared.served.Standing.TheVariants as standing
 use Rattle.alp_node.specs.declared.sessions.Turn.{Turn}
+use Rattle.alp_node.proofs.AskLemmas.{asks_right}
+use Rattle.alp_node.proofs.CallLemmas.{sees}
+use Rattle.alp_node.proofs.ConflictLemmas.{least_holder, none_risen, rises_as}
 use Rattle.alp_node.proofs.CountedLemmas.{IsCountRefusal}
-use Rattle.alp_node.proofs.LockCountLemmas.{count_one, held_same}
-use Rattle.alp_node.proofs.ShapeLemmas.{lock_shape, count_none_done, too_locked_is}
-use Rattle.alp_node.proofs.ConflictLemmas.{least_holder, rises_as}
-use Rattle.alp_node.proofs.GrantLemmas.{lock_choice, IsOne, lock_one}
 use Rattle.alp_node.proofs.KeptLemmas.{IsLive, live_there}
-use Rattle.alp_node.proofs.LockLemmas.{asks_right}
-use Rattle.alp_node.proofs.PerformLemmas.{one_or_none}
+use Rattle.alp_node.proofs.LockCountLemmas.{count_all, held_same}
+use Rattle.alp_node.proofs.RoomLemmas.{none_locked}
 use Rattle.alp_node.proofs.ServedLemmas.{first_stepped, refused_stepped, work_why, work_grants}
+use Rattle.alp_node.proofs.ShapeLemmas.{IsShut, shape_cases, count_none_done, too_locked_is}
 use Rattle.alp_node.proofs.StandingLemmas.{own_standing}
 
 -- no act of it stops the server
@@ -70,47 +76,65 @@ acts_caused before now allowance t ns = go (length ns == 0)
     go true = tt
     go false = tt
 
--- one that is asked counts where it is not held
-fresh_one : (held : Holding) (n : Need) → fresh_on held (n ∷ []) ≡ cond (is_some (held n.0)) 0 1
-fresh_one held n = go (is_some (held n.0))
-  where
-    go : (b : Bool) → cond b 0 1 + 0 ≡ cond b 0 1
-    go true = refl
-    go false = refl
+-- a call that asks for locks waits for none
+pub asks_choice : (m : View) (own : Own) (c : Call) → IsServedCall c → (choice_of c ≡ Some choice.Fail) ⊎ (asks_of m own c ≡ [])
+asks_choice m own (call.CreateFile t start x) is = inl (ap (λ y. Some y) is)
+asks_choice m own (call.OpenFile t f a mode x) is = inl (ap (λ y. Some y) is.1)
+asks_choice m own (call.CloseFile t n) is = inr refl
+asks_choice m own (call.DeleteFile t n x) is = inl (ap (λ y. Some y) is)
+asks_choice m own (call.ReadPages t n r mode x) is = inl (ap (λ y. Some y) is.1)
+asks_choice m own (call.WritePages t n r pages x) is = inl (ap (λ y. Some y) is.1)
+asks_choice m own (call.SetSize t n size x) is = inl (ap (λ y. Some y) is)
+asks_choice m own (call.ReadProps t n) is = inr refl
+asks_choice m own (call.WriteProps t n change x) is = inl (ap (λ y. Some y) is)
+asks_choice m own (call.ReadOwner t name x) is = inl (ap (λ y. Some y) is)
+asks_choice m own (call.MakeOwner t name quota create x) is = inl (ap (λ y. Some y) is)
+asks_choice m own (call.SetQuota t name quota x) is = inl (ap (λ y. Some y) is)
+asks_choice m own c is = absurd is
+
+-- nobody is in the way of nothing
+none_asked_free : (locks : Holders) (t : TransId) (holder : TransId) → blocker locks t (risen (held_of locks t) []) ≡ Some holder → ⊥
+none_asked_free locks t holder e =
+    let none : risen (held_of locks t) [] ≡ [] = none_risen (held_of locks t) [] tt (risen (held_of locks t) []) refl in
+    let wrong : None ≡ Some holder = sym (ap (blocker locks t) none) ∙ e in
+    cc
 
 -- ---- what it asks
 
-module _ {V : Type 0} (a : Alone) (held : Contents) (k : ServerState V) (t : TransId) (l : Live) (c : Call) (life : Life) (h : IsAs a held k) (mine : IsLife a.holder.cells k.locks.held (a.locked t) t l life) (kind : IsLockCall c) where
+module _ {V : Type 0} (a : Alone) (held : Contents) (k : ServerState V) (t : TransId) (l : Live) (c : Call) (ns : List Need) (life : Life) (h : IsAs a held k) (up : k.is_down ≡ false) (mine : IsLife a.holder.cells k.locks.held (a.locked t) t l life)
+    (served : IsServedCall c) (told : ns ≡ asks_of (seen held.cells l.part) (own_of l.part) c) where
   -- how many resources it has locked then
   abbrev pub counts : LockCounts
-  counts = counts_then l.locks (holding k.locks.held t) c
+  counts = counts_then l.locks (holding k.locks.held t) ns c
 
   abbrev pub locked_then : List Resource
   locked_then = with_resources (request_in a.holder c (Some life)) (a.locked t)
 
+  told_so : asks_of (view_in a.holder life) life.own c ≡ ns
+  told_so = (λ i. asks_of (sym (sees a held k t (a.locked t) l life h up mine) i) (sym mine.own i) c) ∙ sym told
+
   -- what the journal's laws ask is what is asked of the table
-  pub lock_request : request_in a.holder c (Some life) ≡ asks_of c
-  lock_request = asks_right life.held (view_in a.holder life) life.own c kind
+  pub lock_request : request_in a.holder c (Some life) ≡ ns
+  lock_request = asks_right life.held (view_in a.holder life) life.own c served mine.opens ∙ told_so
 
-  pub lock_asks : asks a.holder life c ≡ not (length (risen (held_of k.locks.held t) (asks_of c)) == 0)
-  lock_asks =
-      let one : IsOne (asks_of c) = lock_one c kind in
-      ap (list_any (rises_on life.held)) (lock_request ∙ one.is) ∙ or_none (rises_on life.held (one.on, one.mode)) ∙ ap (λ (x : Option Mode). not (covers_held x one.mode)) (mine.held one.on)
-      ∙ rises_as (held_of k.locks.held t) one.on one.mode (risen (held_of k.locks.held t) ((one.on, one.mode) ∷ [])) refl
-      ∙ ap (λ (ns : List Need). not (length (risen (held_of k.locks.held t) ns) == 0)) (sym one.is)
+  -- and it waits for none of it
+  pub lock_choice : (choice_of c ≡ Some choice.Fail) ⊎ (ns ≡ [])
+  lock_choice = go (asks_choice (view_in a.holder life) life.own c served)
     where
-      or_none : (b : Bool) → (b || false) ≡ b
-      or_none true = refl
-      or_none false = refl
+      go : (choice_of c ≡ Some choice.Fail) ⊎ (asks_of (view_in a.holder life) life.own c ≡ []) → (choice_of c ≡ Some choice.Fail) ⊎ (ns ≡ [])
+      go (inl fails) = inl fails
+      go (inr none) = inr (sym told_so ∙ none)
 
-  lock_known : AreHeld (holding k.locks.held t) (a.locked t)
+  pub lock_asks : asks a.holder life c ≡ not (length (risen (held_of k.locks.held t) ns) == 0)
+  lock_asks =
+      ap (list_any (rises_on life.held)) lock_request ∙ ap (λ (x : Holding). list_any (rises_on x) ns) (λ i q. mine.held q i) ∙ rises_as (held_of k.locks.held t) ns
+
+  pub lock_known : AreHeld (holding k.locks.held t) (a.locked t)
   lock_known = held_same life.held (holding k.locks.held t) (a.locked t) mine.held mine.known
 
   pub asked_locks : length locked_then ≡ counts.asked
   asked_locks =
-      let one : IsOne (asks_of c) = lock_one c kind in
-      ap (λ (ns : List Need). length (with_resources ns (a.locked t))) (lock_request ∙ one.is) ∙ count_one (holding k.locks.held t) (one.on, one.mode) (a.locked t) lock_known
-      ∙ (λ i. sym mine.count i + sym (fresh_one (holding k.locks.held t) (one.on, one.mode)) i) ∙ ap (λ (ns : List Need). l.locks + fresh_on (holding k.locks.held t) ns) (sym one.is)
+      ap (λ (ms : List Need). length (with_resources ms (a.locked t))) lock_request ∙ count_all (holding k.locks.held t) ns (a.locked t) lock_known ∙ ap (λ (n : ℕ). n + fresh_on (holding k.locks.held t) ns) (sym mine.count)
 
   pub made_locks : counts.made ≡ locks_then (alone a) t life c
   made_locks = ap (λ (m : ℕ). m + more_locks c) (sym asked_locks)
@@ -119,41 +143,79 @@ module _ {V : Type 0} (a : Alone) (held : Contents) (k : ServerState V) (t : Tra
   pub told_locks : lock_refusal (alone a) t life c ≡ too_locked k.sizes.area l.part.counts.cells counts.made
   told_locks = λ i. too_locked (h.sizes i).area (sym mine.counts.cells i) (sym made_locks i)
 
-  -- so it is asked, and neither its shape nor its locks refuse it
-  pub not_refused : 0 < k.epoch → shape_of k.server k.epoch k.given (length l.part.opens.items) c ≡ None → too_locked k.sizes.area l.part.counts.cells counts.made ≡ None
-      → option_or (shape_refusal (alone a) life c) (lock_refusal (alone a) t life c) ≡ None
-  not_refused raised shape few = λ i. option_or ((lock_shape a held k h raised t l life mine c kind ∙ shape) i) ((told_locks ∙ few) i)
+  -- neither its shape nor its locks refuse it
+  pub not_refused : shape_refusal (alone a) life c ≡ None → too_locked k.sizes.area l.part.counts.cells counts.made ≡ None → option_or (shape_refusal (alone a) life c) (lock_refusal (alone a) t life c) ≡ None
+  not_refused shape few = λ i. option_or (shape i) ((told_locks ∙ few) i)
 
-  pub locks_refused : 0 < k.epoch → (f : Refusal) → shape_of k.server k.epoch k.given (length l.part.opens.items) c ≡ None → too_locked k.sizes.area l.part.counts.cells counts.made ≡ Some f
-      → option_or (shape_refusal (alone a) life c) (lock_refusal (alone a) t life c) ≡ Some f
-  locks_refused raised f shape many = λ i. option_or ((lock_shape a held k h raised t l life mine c kind ∙ shape) i) ((told_locks ∙ many) i)
+  -- one that is refused for its open asks for nothing
+  module _ (raised : 0 < k.epoch) (shut : IsShut a held k h raised t l life mine c) where
+    pub shut_none : ns ≡ []
+    shut_none = sym lock_request ∙ ap (request_of life.held) shut.none
+
+    shut_counts : counts.made ≡ l.locks
+    shut_counts = ap (λ (ms : List Need). l.locks + fresh_on (holding k.locks.held t) ms + more_locks c) shut_none ∙ ap (λ (m : ℕ). l.locks + 0 + m) shut.less ∙ add_nothing l.locks
+      where
+        add_nothing : (m : ℕ) → m + 0 + 0 ≡ m
+        add_nothing m = omega arith
+
+    -- so its locks are no more than before
+    pub shut_few : IsWithin k.sizes l → too_locked k.sizes.area l.part.counts.cells counts.made ≡ None
+    shut_few within = ap (too_locked k.sizes.area l.part.counts.cells) shut_counts ∙ none_locked k.sizes.area l.part.counts.cells l.locks within.locks within.log
+
+    pub shut_first : option_or (shape_refusal (alone a) life c) (lock_refusal (alone a) t life c) ≡ Some shut.refusal
+    shut_first = ap (λ (x : Option Refusal). option_or x (lock_refusal (alone a) t life c)) shut.first
 
 -- ---- it is refused
 
-module _ {V : Type 0} (a : Alone) (before now : ℕ) (held : Contents) (k : ServerState V) (turn : Turn) (t : TransId) (l : Live) (c : Call) where
+module _ {V : Type 0} (a : Alone) (before now : ℕ) (held : Contents) (k : ServerState V) (turn : Turn) (t : TransId) (l : Live) (c : Call) (ns : List Need) where
+  abbrev then_counts : LockCounts
+  then_counts = counts_then l.locks (holding k.locks.held t) ns c
+
   -- it would leave too many locks
-  pub locks_stepped : (f : Refusal) (x : Handed) → IsAs a held k → 0 < k.epoch → IsTurn k.sessions turn → k.is_down ≡ false → map.get k.lives t ≡ Some l → l.client ≡ turn.client → IsLockCall c
-      → shape_of k.server k.epoch k.given (length l.part.opens.items) c ≡ None → too_locked k.sizes.area l.part.counts.cells (counts_then l.locks (holding k.locks.held t) c).made ≡ Some f → file_trans c ≡ Some t
+  pub locks_stepped : (f : Refusal) (x : Handed) → IsAs a held k → 0 < k.epoch → IsTurn k.sessions turn → k.is_down ≡ false → map.get k.lives t ≡ Some l → l.client ≡ turn.client → IsWithin k.sizes l → IsServedCall c
+      → ns ≡ asks_of (seen held.cells l.part) (own_of l.part) c → shape_of k.server k.epoch k.given (length l.part.opens.items) c ≡ None → too_locked k.sizes.area l.part.counts.cells then_counts.made ≡ Some f → file_trans c ≡ Some t
       → x ≡ refused_answer f []
       → Stepped a before now held (record k { sessions = counted_in k.sessions turn (reply.Refused f) }) (event.Call turn.client k.epoch turn.number c) x
-  locks_stepped f x h raised is up there own kind shape many of so =
+  locks_stepped f x h raised is up there own within served told shape many of so =
       let y : IsLive a.holder.cells k.locks.held (a.locked t) t l (a.holder.lives t) = live_there a.holder.cells k.locks.held (a.locked t) t (map.get k.lives t) (a.holder.lives t) l there (h.lives t) in
-      let counted : IsCountRefusal f = too_locked_is k.sizes.area l.part.counts.cells (counts_then l.locks (holding k.locks.held t) c).made f many in
+      let counted : IsCountRefusal f = too_locked_is k.sizes.area l.part.counts.cells then_counts.made f many in
       first_stepped a before now held k turn t c f y.life x h is up of (own_standing turn.client (map.get k.lives t) (is_dead turn.client t k.dead) (subst (IsOf turn.client) (sym there) own)) y.is
-      (locks_refused a held k t l c y.life h y.alike kind raised f shape many) counted.now (count_none_done a t c f counted) so
+      (go y.life y.alike (shape_cases a held k h raised t l y.life y.alike c served shape)) counted.now (count_none_done a t c f counted) so
+    where
+      go : (life : Life) (mine : IsLife a.holder.cells k.locks.held (a.locked t) t l life) → (shape_refusal (alone a) life c ≡ None) ⊎ IsShut a held k h raised t l life mine c
+          → option_or (shape_refusal (alone a) life c) (lock_refusal (alone a) t life c) ≡ Some f
+      go life mine (inl passes) = λ i. option_or (passes i) ((told_locks a held k t l c ns life h up mine served told ∙ many) i)
+      go life mine (inr shut) = (let wrong : None ≡ Some f = sym (shut_few a held k t l c ns life h up mine served told raised shut within) ∙ many in cc)
 
   -- another is in its way
-  pub conflict_stepped : (holder : TransId) (x : Handed) → IsAs a held k → 0 < k.epoch → IsTurn k.sessions turn → k.is_down ≡ false → map.get k.lives t ≡ Some l → l.client ≡ turn.client → IsLockCall c
-      → shape_of k.server k.epoch k.given (length l.part.opens.items) c ≡ None → too_locked k.sizes.area l.part.counts.cells (counts_then l.locks (holding k.locks.held t) c).made ≡ None → file_trans c ≡ Some t → IsSound k.locks
-      → blocker k.locks.held t (plan_of k.locks t (asks_of c)).rises ≡ Some holder
+  pub conflict_stepped : (holder : TransId) (x : Handed) → IsAs a held k → 0 < k.epoch → IsTurn k.sessions turn → k.is_down ≡ false → map.get k.lives t ≡ Some l → l.client ≡ turn.client → IsServedCall c
+      → ns ≡ asks_of (seen held.cells l.part) (own_of l.part) c → shape_of k.server k.epoch k.given (length l.part.opens.items) c ≡ None → too_locked k.sizes.area l.part.counts.cells then_counts.made ≡ None → file_trans c ≡ Some t → IsSound k.locks
+      → blocker k.locks.held t (plan_of k.locks t ns).rises ≡ Some holder
       → x ≡ refused_answer (refusal.LockConflict holder) []
       → Stepped a before now held (record k { sessions = counted_in k.sessions turn (reply.Refused (refusal.LockConflict holder)) }) (event.Call turn.client k.epoch turn.number c) x
-  conflict_stepped holder x h raised is up there own kind shape few of sound named so =
+  conflict_stepped holder x h raised is up there own served told shape few of sound named so =
       let y : IsLive a.holder.cells k.locks.held (a.locked t) t l (a.holder.lives t) = live_there a.holder.cells k.locks.held (a.locked t) t (map.get k.lives t) (a.holder.lives t) l there (h.lives t) in
       let r : Reply = reply.Refused (refusal.LockConflict holder) in
       let mine : standing_of turn.client (map.get k.lives t) (is_dead turn.client t k.dead) ≡ standing.Own = own_standing turn.client (map.get k.lives t) (is_dead turn.client t k.dead) (subst (IsOf turn.client) (sym there) own) in
-      let none : option_or (shape_refusal (alone a) y.life c) (lock_refusal (alone a) t y.life c) ≡ None = not_refused a held k t l c y.life h y.alike kind raised shape few in
+      let none : option_or (shape_refusal (alone a) y.life c) (lock_refusal (alone a) t y.life c) ≡ None =
+      not_refused a held k t l c ns y.life h up y.alike served told (open_there y.life y.alike (shape_cases a held k h raised t l y.life y.alike c served shape)) few in
       refused_stepped a before now held k turn t c false (refusal.LockConflict holder) x h is up (λ e. cc) of refl refl
       (work_why a before now held k turn t c false r y.life h mine y.is
-      (inr (subst (λ (z : Option Refusal). First z r (IsLocked (alone a) t y.life c r)) (sym none) (IsLocked.conflict holder (lock_choice c kind) (least_holder a held k t l y.life c h y.alike kind sound.agreeing holder named)))))
+      (inr (subst (λ (z : Option Refusal). First z r (IsLocked (alone a) t y.life c r)) (sym none)
+      (IsLocked.conflict holder (fails (lock_choice a held k t l c ns y.life h up y.alike served told)) (least_holder a held k t l y.life c ns h y.alike (lock_request a held k t l c ns y.life h up y.alike served told) sound.agreeing holder named)))))
       (work_grants a before now held k turn t c false r y.life [] h mine y.is (sym (one_or_none (is_some (option_or (shape_refusal (alone a) y.life c) (lock_refusal (alone a) t y.life c))) [] refl))) so
+    where
+      no_need : ns ≡ [] → ⊥
+      no_need none = none_asked_free k.locks.held t holder (subst (λ (ms : List Need). blocker k.locks.held t (plan_of k.locks t ms).rises ≡ Some holder) none named)
+
+      open_there : (life : Life) (mine : IsLife a.holder.cells k.locks.held (a.locked t) t l life) → (shape_refusal (alone a) life c ≡ None) ⊎ IsShut a held k h raised t l life mine c → shape_refusal (alone a) life c ≡ None
+      open_there life mine (inl passes) = passes
+      open_there life mine (inr shut) = absurd (no_need (shut_none a held k t l c ns life h up mine served told raised shut))
+
+      fails : (choice_of c ≡ Some choice.Fail) ⊎ (ns ≡ []) → choice_of c ≡ Some choice.Fail
+      fails (inl is_fail) = is_fail
+      fails (inr none) = absurd (no_need none)
+
+      one_or_none : (b : Bool) (ts : List TransId) → ts ≡ [] → cond {A = List TransId} b [] ts ≡ []
+      one_or_none true ts none = refl
+      one_or_none false ts none = none

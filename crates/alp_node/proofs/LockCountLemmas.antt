@@ -1,7 +1,8 @@
 -- how many resources a part has locked: just those on which it holds a lock
 use Rattle.std.specs.Prelude.{cond, Bool, true, false, ◌||◌, Option, None, Some, is_some}
 use Rattle.std.specs.Ordering.{eq_by_cmp}
-use Rattle.std.proofs.Common.{◌≡◌, ◌+◌, List, [], ◌∷◌, ◌++◌, length, length-append, refl, sym, ◌∙◌, ap, arith}
+use Rattle.std.specs.List.{AllByRecursion, list_any}
+use Rattle.std.proofs.Common.{◌≡◌, ℕ, ◌+◌, add_assoc, List, [], ◌∷◌, ◌++◌, length, length-append, refl, sym, ◌∙◌, ap, arith}
 use Rattle.alp_base.specs.declared.ids.FileId.{FileId}
 use Rattle.alp_base.specs.declared.key.Resource.{Resource}
 use Rattle.alp_base.specs.declared.key.Resource.TheVariants.{Whole}
@@ -14,6 +15,7 @@ use Rattle.alp_files.proofs.HoldingLemmas.{join_held-assoc, held_by-append, none
 use Rattle.alp_locks.proofs.HeldLemmas.{tied}
 use Rattle.alp_journal.specs.Counts.{has_resource, with_resources}
 use Rattle.alp_node.specs.Covers.{AreHeld}
+use Rattle.alp_node.specs.Shapes.{fresh_on}
 
 has-push : (r q : Resource) (rs : List Resource) → has_resource r (rs ++ q ∷ []) ≡ has_resource r rs || eq_by_cmp resource_cmp r q
 has-push r q [] = go (eq_by_cmp resource_cmp r q)
@@ -67,12 +69,52 @@ held_then held (n ∷ ns) rs all r =
     ∙ ap is_some (join_held-assoc (held r) (held_by (n ∷ []) r) (held_by ns r) ∙ ap (join_held (held r)) (sym (held_by-append (n ∷ []) ns r)))
 
 -- one that is not held counts
-pub count_one : (held : Holding) (n : Need) (rs : List Resource) → AreHeld held rs → length (with_resources (n ∷ []) rs) ≡ length rs + cond (is_some (held n.0)) 0 1
+count_one : (held : Holding) (n : Need) (rs : List Resource) → AreHeld held rs → length (one_more n.0 rs) ≡ length rs + cond (is_some (held n.0)) 0 1
 count_one held n rs all = ap (λ (b : Bool). length (cond {A = List Resource} b rs (rs ++ n.0 ∷ []))) (all n.0) ∙ go (is_some (held n.0))
   where
     go : (b : Bool) → length (cond {A = List Resource} b rs (rs ++ n.0 ∷ [])) ≡ length rs + cond b 0 1
     go true = omega arith
     go false = length-append rs (n.0 ∷ [])
+
+-- and each of those that are asked counts so, once
+pub count_all : (held : Holding) (ns : List Need) (rs : List Resource) → AreHeld held rs → length (with_resources ns rs) ≡ length rs + fresh_on held ns
+count_all held [] rs all = omega arith
+count_all held (n ∷ ns) rs all =
+    let rest : length (with_resources ns (one_more n.0 rs)) ≡ length (one_more n.0 rs) + fresh_on (joined held (n ∷ [])) ns = count_all (joined held (n ∷ [])) ns (one_more n.0 rs) (held_one held n rs all) in
+    omega (arith, rest, count_one held n rs all)
+
+-- those that are held already are locked already
+pub none_more : (held : Holding) (ns : List Need) (rs : List Resource) → AreHeld held rs → AllByRecursion (λ (n : Need). is_some (held n.0) ≡ true) ns → with_resources ns rs ≡ rs
+none_more held [] rs all there = refl
+none_more held (n ∷ ns) rs all there = ap (λ (b : Bool). with_resources ns (cond {A = List Resource} b rs (rs ++ n.0 ∷ []))) (all n.0 ∙ there.0) ∙ none_more held ns rs all there.1
+
+-- one need more counts where its resource is neither held nor asked before
+pub fresh_push : (held : Holding) (ns : List Need) (n : Need) → fresh_on held (ns ++ n ∷ []) ≡ fresh_on held ns + cond (is_some (joined held ns n.0)) 0 1
+fresh_push held [] n = ap (λ (x : Option Mode). cond (is_some x) 0 1 + 0) (sym (none-right (held n.0))) ∙ turn (cond (is_some (joined held [] n.0)) 0 1)
+  where
+    turn : (m : ℕ) → m + 0 ≡ 0 + m
+    turn m = omega arith
+fresh_push held (x ∷ ns) n =
+    let same : joined (joined held (x ∷ [])) ns n.0 ≡ joined held (x ∷ ns) n.0 = join_held-assoc (held n.0) (held_by (x ∷ []) n.0) (held_by ns n.0) ∙ ap (join_held (held n.0)) (sym (held_by-append (x ∷ []) ns n.0)) in
+    ap (λ (m : ℕ). cond (is_some (held x.0)) 0 1 + m) (fresh_push (joined held (x ∷ [])) ns n ∙ ap (λ (y : Option Mode). fresh_on (joined held (x ∷ [])) ns + cond (is_some y) 0 1) same)
+    ∙ sym (add_assoc (cond (is_some (held x.0)) 0 1) (fresh_on (joined held (x ∷ [])) ns) (cond (is_some (joined held (x ∷ ns) n.0)) 0 1))
+
+some_either : (x y : Option Mode) → is_some (join_held x y) ≡ (is_some x || is_some y)
+some_either None y = refl
+some_either (Some a) None = refl
+some_either (Some a) (Some b) = refl
+
+some_by : (ns : List Need) (r : Resource) → is_some (held_by ns r) ≡ list_any (λ (n : Need). eq_by_cmp resource_cmp r n.0) ns
+some_by [] r = refl
+some_by (n ∷ ns) r = go (eq_by_cmp resource_cmp r n.0) (some_by ns r)
+  where
+    go : (b : Bool) → is_some (held_by ns r) ≡ list_any (λ (m : Need). eq_by_cmp resource_cmp r m.0) ns → is_some (cond {A = Option Mode} b (join_held (Some n.1) (held_by ns r)) (held_by ns r)) ≡ (b || list_any (λ (m : Need). eq_by_cmp resource_cmp r m.0) ns)
+    go true rest = some_either (Some n.1) (held_by ns r)
+    go false rest = rest
+
+-- what is held or asked
+pub held_or_asked : (held : Holding) (ns : List Need) (r : Resource) → is_some (joined held ns r) ≡ (is_some (held r) || list_any (λ (n : Need). eq_by_cmp resource_cmp r n.0) ns)
+held_or_asked held ns r = some_either (held r) (held_by ns r) ∙ ap (λ (b : Bool). is_some (held r) || b) (some_by ns r)
 
 -- and so does a new file
 pub count_made : (held : Holding) (f : FileId) (rs : List Resource) → AreHeld held rs → held (Whole f) ≡ None → length (with_resources (needs_made (Some f)) rs) ≡ length rs + 1

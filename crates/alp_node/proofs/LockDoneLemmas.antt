@@ -1,17 +1,20 @@
--- a call that asked for locks and has them: what it is answered, and its entry where it is performed
+-- a file call that has the locks that it asked: what it is answered, and its entry where it is performed
 use Rattle.std.specs.Prelude.{cond, Bool, true, false, not, ◌==◌, Option, None, Some, is_some, Ok}
 use Rattle.std.specs.List.{AllByRecursion}
 use Rattle.std.specs.Option.{option_or}
 use Rattle.std.specs.FinMap as map
-use Rattle.std.proofs.Common.{inr, ◌≡◌, ℕ, ◌+◌, ◌≤◌, List, [], ◌∷◌, ◌++◌, length, refl, sym, ◌∙◌, ap, subst, arith}
+use Rattle.std.specs.Ordering.{eq_by_cmp}
+use Rattle.std.proofs.Common.{inl, inr, ◌⊎◌, ◌≡◌, ℕ, ◌+◌, ◌≤◌, List, [], ◌∷◌, ◌++◌, length, refl, sym, ◌∙◌, ap, subst, arith}
 use Rattle.alp_base.specs.declared.ids.FileId.{FileId}
 use Rattle.alp_base.specs.declared.ids.TransId.{TransId}
 use Rattle.alp_base.specs.declared.key.Resource.{Resource}
 use Rattle.alp_base.specs.declared.key.Resource.TheVariants.{Whole}
 use Rattle.alp_modes.specs.declared.Mode.{Mode}
-use Rattle.alp_files.specs.Holdings.{Holding, join_held, held_by, DoAgree}
+use Rattle.alp_modes.specs.declared.Mode.TheVariants.{Write}
+use Rattle.alp_base.specs.Orders.{resource_cmp}
+use Rattle.alp_files.specs.Holdings.{Holding, join_held, covers_held, held_by, DoAgree}
 use Rattle.alp_files.proofs.HoldingLemmas.{join_held-assoc, held_by-append, agree-turned}
-use Rattle.alp_files.proofs.CoverLemmas.{granted-holds, joined-more}
+use Rattle.alp_files.proofs.CoverLemmas.{granted-holds, joined-more, holds-each-more}
 use Rattle.alp_files.specs.declared.call.Call.{Call}
 use Rattle.alp_files.specs.declared.call.Call.TheVariants as call
 use Rattle.alp_files.specs.declared.reply.Reply.{Reply}
@@ -25,11 +28,12 @@ use Rattle.alp_files.specs.Locks.{Need, IsMore, IsFormed, HoldsEach, needs_of, n
 use Rattle.alp_queue.specs.declared.waiter.Waiter.{Waiter}
 use Rattle.alp_queue.specs.Order.{waits}
 use Rattle.alp_locks.specs.Tables.{Table, holding, held_of}
-use Rattle.alp_locks.specs.Asks.{blocker}
+use Rattle.alp_locks.specs.Asks.{blocker, risen}
 use Rattle.alp_locks.proofs.LawLemmas.{no-rise}
 use Rattle.alp_trans.specs.declared.part.Part.{Part}
 use Rattle.alp_trans.specs.Counting.{AreCountsOf}
-use Rattle.alp_calls.specs.Parts.{Performs, Answered, IsRight, StandsAfter, has_contents}
+use Rattle.alp_calls.specs.Parts.{seen, Performs, Answered, IsRight, StandsAfter}
+use Rattle.alp_trans.specs.Parts.{own_of}
 use Rattle.alp_calls.specs.Limits.{refused_for}
 use Rattle.alp_calls.specs.declared.limits.Room.{Room}
 use Rattle.alp_vault.specs.Contents.{Contents}
@@ -37,7 +41,7 @@ use Rattle.alp_journal.specs.declared.act.Act.{Act}
 use Rattle.alp_journal.specs.declared.act.Act.TheVariants as act
 use Rattle.alp_journal.specs.declared.event.Event.TheVariants as event
 use Rattle.alp_journal.specs.Ids.{same_trans}
-use Rattle.alp_journal.specs.Counts.{request_in, with_resources}
+use Rattle.alp_journal.specs.Counts.{request_in, with_resources, log_need}
 use Rattle.alp_journal.specs.Desk.{Session}
 use Rattle.alp_journal.specs.Desk.{file_trans}
 use Rattle.alp_journal.specs.Holder.{Life, view_in, answer_in, held_for}
@@ -49,8 +53,8 @@ use Rattle.alp_journal.specs.Alone.{Alone, alone, IsQuiet, Leads}
 use Rattle.alp_journal.proofs.AloneLemmas.{call_entry}
 use Rattle.alp_journal.proofs.AloneCalls.{PerformOwes, performed_leads, granted_leads, with_call}
 use Rattle.alp_journal.specs.Moves.{is_stop}
-use Rattle.alp_node.specs.Asks.{is_of_given, asks_of, asks_given, plan_of, with_plan, acts_of}
-use Rattle.alp_node.specs.Calls.{IsLockCall, next_file}
+use Rattle.alp_node.specs.Asks.{is_of_given, AreGiven, asks_of, asks_given, makes_file, plan_of, with_plan, acts_of}
+use Rattle.alp_node.specs.Calls.{IsServedCall, given_of, next_file}
 use Rattle.alp_node.specs.Covers.{AreCovered, AreHeld}
 use Rattle.alp_node.specs.Rooms.{IsRoomOf, locks_given}
 use Rattle.alp_node.specs.Shapes.{shape_of, counts_then, too_locked}
@@ -65,26 +69,32 @@ use Rattle.alp_node.specs.declared.lives.Live.{Live}
 use Rattle.alp_node.specs.declared.server_state.ServerState.{ServerState}
 use Rattle.alp_node.specs.declared.served.Standing.TheVariants as standing
 use Rattle.alp_node.specs.declared.sessions.Turn.{Turn}
-use Rattle.alp_node.proofs.ApartLemmas.{covered_puts, covered_both, covered_more}
-use Rattle.alp_node.proofs.AskLemmas.{lock_covered, lock_tells}
-use Rattle.alp_node.proofs.CountedLemmas.{IsCountRefusal, refused_is}
-use Rattle.alp_node.proofs.LockCountLemmas.{held_then, count_made}
+use Rattle.alp_node.proofs.AnswerLemmas.{Keeps, call_keeps}
+use Rattle.alp_node.proofs.ApartLemmas.{covered_both, covered_more}
+use Rattle.alp_node.proofs.CountedLemmas.{IsCountRefusal, refused_is, same_counts, same_passes}
+use Rattle.alp_node.proofs.LockCountLemmas.{held_then, count_made, none_more}
 use Rattle.alp_node.proofs.RoomLemmas.{refusal_same, allowed_room}
-use Rattle.alp_node.proofs.ShapeLemmas.{shape_given}
+use Rattle.alp_node.proofs.ShapeLemmas.{shape_given, IsShut, shape_cases, may_lock}
 use Rattle.alp_node.proofs.TotalLemmas.{AreRoomed}
-use Rattle.alp_node.proofs.CallLemmas.{right_as, after_call, done_as}
-use Rattle.alp_node.proofs.ConflictLemmas.{held_elsewhere, would_hold, not_empty}
+use Rattle.alp_node.proofs.CallLemmas.{right_as, after_call, locked_more, done_as}
+use Rattle.alp_node.proofs.ConflictLemmas.{held_elsewhere, would_hold, none_risen, not_empty}
 use Rattle.alp_node.proofs.FinishLemmas.{turn_session}
-use Rattle.alp_node.proofs.GrantLemmas.{free_given, kept_beside, kept_locked, lock_built, IsOne, lock_one, lock_made, asked_below, of_given, next_told, id_given}
+use Rattle.alp_node.proofs.GrantLemmas.{free_given, kept_beside, made_locked, asked_below, of_given, next_told, id_given}
 use Rattle.alp_node.proofs.KeptLemmas.{session_of, stands_timely, stepped_so}
 use Rattle.alp_node.proofs.LockLemmas.{itself, taken_own, taken_other, taken_agrees}
-use Rattle.alp_node.proofs.PerformLemmas.{grants_nothing}
-use Rattle.alp_node.proofs.LockCallLemmas.{locked_then, lock_request, lock_asks, asked_locks, made_locks, not_refused}
+use Rattle.alp_node.proofs.LockCallLemmas.{locked_then, lock_request, lock_asks, lock_known, asked_locks, made_locks, not_refused, shut_none, shut_first}
+use Rattle.alp_node.proofs.MadeLemmas.{makes_only}
 use Rattle.alp_node.proofs.ServedLemmas.{work_why, work_grants}
 use Rattle.alp_node.proofs.StandingLemmas.{own_standing}
 
 same_agree : (a b x y : Holding) → ((q : Resource) → a q ≡ x q) → ((q : Resource) → b q ≡ y q) → DoAgree x y → DoAgree a b
 same_agree a b x y first second agree = subst (λ (z : Holding). DoAgree z b) (λ i q. sym (first q) i) (subst (DoAgree x) (λ i q. sym (second q) i) agree)
+
+-- what asks for nothing is granted nothing
+grants_nothing : (t : TransId) (r : Reply) → grants_by false t r ≡ []
+grants_nothing t (reply.Refused (refusal.LockConflict holder)) = refl
+grants_nothing t (reply.Refused refusal.NotYet) = refl
+grants_nothing t r = refl
 
 -- what asks is granted that
 grants_asked : (t : TransId) (r : Reply) → is_passing r ≡ false → grants_by true t r ≡ t ∷ []
@@ -98,43 +108,60 @@ grants_as t r b (n ∷ ns) own is =
     ap (λ (x : Bool). cond {A = List TransId} x [] (t ∷ [])) (not_empty n ns)
     ∙ sym (ap (λ (x : Bool). grants_by x t r) (is ∙ ap not (not_empty n ns)) ∙ own)
 
-some_right : (x : Option Mode) (m : Mode) → is_some (join_held x (Some m)) ≡ true
-some_right None m = refl
-some_right (Some y) m = refl
-
-more_most : (c : Call) → more_locks c ≤ 1
-more_most (call.CreateFile t start choice) = omega arith
-more_most c = omega arith
+-- a call that may make a file counts its lock
+makes_more : (c : Call) → makes_file c ≡ true → more_locks c ≡ 1
+makes_more (call.CreateFile t start choice) e = refl
+makes_more c e = cc
 
 -- how many it has locked then
-kept_count : (locks : ℕ) (n : LockCounts) (g : Reply) (rs : List Resource) → has_contents g ≡ false → length rs ≡ n.asked → ((f : FileId) → id_in g ≡ Some f → length (with_resources (needs_made (Some f)) rs) ≡ n.made)
-    → locks_given locks n (Ok g) ≡ length (with_resources (needs_made (id_in g)) rs)
-kept_count locks n (reply.Created f number) rs h asked made = sym (made f refl)
-kept_count locks n (reply.Pages pages) rs h asked made = cc
-kept_count locks n (reply.Props p) rs h asked made = cc
-kept_count locks n (reply.Owner o) rs h asked made = cc
-kept_count locks n g rs h asked made = sym asked
+kept_count : (locks : ℕ) (n : LockCounts) (g : Reply) (rs : List Resource) → length rs ≡ n.asked → ((f : FileId) → id_in g ≡ Some f → length (with_resources (needs_made (Some f)) rs) ≡ n.made)
+    → locks_given locks n (Ok (given_of g [])) ≡ length (with_resources (needs_made (id_in g)) rs)
+kept_count locks n (reply.Created f number) rs asked made = sym (made f refl)
+kept_count locks n g rs asked made = sym asked
 
-module _ {V : Type 0} (a : Alone) (before now : ℕ) (held : Contents) (k : ServerState V) (turn : Turn) (t : TransId) (l : Live) (p : Part) (c : Call) (room : Room) (r : Reply) (v : V) where
+-- each that is asked and held is locked already
+held_already : (held : Holding) (asks : List Need) (same : (q : Resource) → join_held (held q) (held_by asks q) ≡ held q) → (ns : List Need) → ((q : Resource) → is_some (held_by ns q) ≡ true → is_some (held_by asks q) ≡ true) → AllByRecursion (λ (n : Need). is_some (held n.0) ≡ true) ns
+held_already held asks same [] among = tt
+held_already held asks same (n ∷ ns) among = (
+  ap is_some (sym (same n.0)) ∙ some_joined (held n.0) (held_by asks n.0) (among n.0 (ap (λ (b : Bool). is_some (cond {A = Option Mode} b (join_held (Some n.1) (held_by ns n.0)) (held_by ns n.0))) (itself n.0) ∙ some_left n.1 (held_by ns n.0))),
+  held_already held asks same ns (λ q there. among q (some_more (eq_by_cmp resource_cmp q n.0) n.1 (held_by ns q) there)),
+)
+  where
+    some_left : (m : Mode) (x : Option Mode) → is_some (join_held (Some m) x) ≡ true
+    some_left m None = refl
+    some_left m (Some y) = refl
+
+    some_joined : (x y : Option Mode) → is_some y ≡ true → is_some (join_held x y) ≡ true
+    some_joined None y there = there
+    some_joined (Some z) None there = cc
+    some_joined (Some z) (Some y) there = refl
+
+    some_more : (b : Bool) (m : Mode) (x : Option Mode) → is_some x ≡ true → is_some (cond {A = Option Mode} b (join_held (Some m) x) x) ≡ true
+    some_more true m None there = cc
+    some_more true m (Some y) there = refl
+    some_more false m x there = there
+
+module _ {V : Type 0} (a : Alone) (before now : ℕ) (held : Contents) (k : ServerState V) (turn : Turn) (t : TransId) (l : Live) (p : Part) (c : Call) (ns : List Need) (room : Room) (r : Reply) (v : V) where
   -- how many are locked then, and what was asked
   abbrev pub locks_now : LockCounts
-  locks_now = counts_then l.locks (holding k.locks.held t) c
+  locks_now = counts_then l.locks (holding k.locks.held t) ns c
 
   abbrev pub asked : Waiter
-  asked = plan_of k.locks t (asks_of c)
+  asked = plan_of k.locks t ns
 
   abbrev plan : Reply → Waiter
-  plan g = plan_of k.locks t (asks_given (next_file k) c g)
+  plan g = plan_of k.locks t (asks_given (next_file k) c ns g)
 
   -- the table, and the server, as the call leaves them where it is answered so
   abbrev pub table_then : Reply → Table
   table_then g = with_plan k.locks (plan g)
 
   abbrev pub lock_left : Reply → ServerState V
-  lock_left g = record k { sessions = counted_in k.sessions turn g; given = count_after k.given g; lives = map.insert k.lives t (record l { part = p; locks = locks_given l.locks locks_now (Ok g) }); locks = table_then g; vault = v }
+  lock_left g = record k { sessions = counted_in k.sessions turn g; given = count_after k.given g; lives = map.insert k.lives t (record l { part = p; locks = locks_given l.locks locks_now (Ok (given_of g [])) }); locks = table_then g; vault = v }
 
   module _ (m : ℕ) (on : Bool) (ready : IsReady m on k) (life : Life) (h : IsAs a held k) (up : k.is_down ≡ false) (is : IsTurn k.sessions turn) (there : map.get k.lives t ≡ Some l) (own : l.client ≡ turn.client) (live : a.holder.lives t ≡ Some life)
-      (mine : IsLife a.holder.cells k.locks.held (a.locked t) t l life) (kind : IsLockCall c) (given : Answered true held.cells l.part p l.who (next_file k) c room r) (of : IsRoomOf true held.cells k locks_now.made room)
+      (mine : IsLife a.holder.cells k.locks.held (a.locked t) t l life) (served : IsServedCall c) (files : AreGiven k.server k.epoch k.given ns) (from : ns ≡ asks_of (seen held.cells l.part) (own_of l.part) c)
+      (given : Answered true held.cells l.part p l.who (next_file k) c room r) (of : IsRoomOf true held.cells k locks_now.made room)
       (shape : shape_of k.server k.epoch k.given (length l.part.opens.items) c ≡ None) (few : too_locked k.sizes.area l.part.counts.cells locks_now.made ≡ None) (free : blocker k.locks.held t asked.rises ≡ None) where
     abbrev g : Reply
     g = given.given
@@ -149,10 +176,10 @@ module _ {V : Type 0} (a : Alone) (before now : ℕ) (held : Contents) (k : Serv
     lock_right = right_as a held k t l p c g life (a.locked t) given.after refused h up mine (given.right refl [] refl)
 
     lock_after : AreCountsOf a.holder.cells (life.edits ++ did.edits) given.after
-    lock_after = lock_right.counts life.edits (covered_puts life.held life.edits mine.covered) mine.intents mine.counts
+    lock_after = lock_right.counts life.edits mine.intents mine.counts
 
     lock_counted : refused ≡ count_refusal (alone a) t life c did
-    lock_counted = refusal_same a held k h up locks_now.made room of t life c did l.part.counts given.after mine.counts lock_after (made_locks a held k t l c life h mine kind)
+    lock_counted = refusal_same a held k h up locks_now.made room of t life c did l.part.counts given.after mine.counts lock_after (made_locks a held k t l c ns life h up mine served from)
 
     of_file : is_of_given k.server k.epoch k.given c ≡ true
     of_file = shape_given k.server k.epoch k.given (length l.part.opens.items) c shape
@@ -162,13 +189,15 @@ module _ {V : Type 0} (a : Alone) (before now : ℕ) (held : Contents) (k : Serv
     under = held_for a.holder life c
 
     -- what is kept is what was asked, with the lock of a new file
-    keeps : asks_given (next_file k) c g ≡ asks_of c ++ needs_made (id_in g)
-    keeps = kept_beside a.holder.server [] (view_in a.holder life) life.own life.who (next_file k) c g kind lock_right.reply given.ids
+    only_creates : makes_file c ≡ false → id_in g ≡ None
+    only_creates none = makes_only a.holder.server [] (view_in a.holder life) life.own life.who c g served none lock_right.reply
 
-    under_is : (q : Resource) → under q ≡ join_held (holding k.locks.held t q) (held_by (asks_of c) q)
+    keeps : asks_given (next_file k) c ns g ≡ ns ++ needs_made (id_in g)
+    keeps = kept_beside (next_file k) c ns g only_creates given.ids
+
+    under_is : (q : Resource) → under q ≡ join_held (holding k.locks.held t q) (held_by ns q)
     under_is q =
-        ap (λ (ns : List Need). join_held (life.held q) (held_by ns q)) (lock_request a held k t l c life h mine kind)
-        ∙ ap (λ (y : Option Mode). join_held y (held_by (asks_of c) q)) (mine.held q)
+        ap (λ (ms : List Need). join_held (life.held q) (held_by ms q)) (lock_request a held k t l c ns life h up mine served from) ∙ ap (λ (y : Option Mode). join_held y (held_by ns q)) (mine.held q)
 
     pub first_held : (q : Resource) → under q ≡ holding (with_plan k.locks asked).held t q
     first_held q = under_is q ∙ sym (taken_own k.locks asked refl q)
@@ -176,8 +205,8 @@ module _ {V : Type 0} (a : Alone) (before now : ℕ) (held : Contents) (k : Serv
     then_holds : (q : Resource) → with_made under (id_in g) q ≡ holding (table_then g).held t q
     then_holds q =
         ap (λ (y : Option Mode). join_held y (held_by (needs_made (id_in g)) q)) (under_is q)
-        ∙ join_held-assoc (holding k.locks.held t q) (held_by (asks_of c) q) (held_by (needs_made (id_in g)) q)
-        ∙ ap (join_held (holding k.locks.held t q)) (sym (held_by-append (asks_of c) (needs_made (id_in g)) q) ∙ ap (λ (ns : List Need). held_by ns q) (sym keeps))
+        ∙ join_held-assoc (holding k.locks.held t q) (held_by ns q) (held_by (needs_made (id_in g)) q)
+        ∙ ap (join_held (holding k.locks.held t q)) (sym (held_by-append ns (needs_made (id_in g)) q) ∙ ap (λ (ms : List Need). held_by ms q) (sym keeps))
         ∙ sym (taken_own k.locks (plan g) refl q)
 
     others_held : (u : TransId) (o : Life) → a.holder.lives u ≡ Some o → (q : Resource) → o.held q ≡ holding k.locks.held u q
@@ -195,7 +224,7 @@ module _ {V : Type 0} (a : Alone) (before now : ℕ) (held : Contents) (k : Serv
     lock_agrees : (u : TransId) (o : Life) → a.holder.lives u ≡ Some o → same_trans u t ≡ false → DoAgree (with_made under (id_in g)) o.held
     lock_agrees u o at away =
         same_agree (with_made under (id_in g)) o.held (holding (table_then g).held t) (holding (table_then g).held u) then_holds
-        (λ q. others_held u o at q ∙ sym (taken_other k.locks (plan g) refl u q away)) (taken_agrees k.locks (plan g) refl ready.sound (free_given m on k t c g ready free) idle u away)
+        (λ q. others_held u o at q ∙ sym (taken_other k.locks (plan g) refl u q away)) (taken_agrees k.locks (plan g) refl ready.sound (free_given m on k t c ns g ready free) idle u away)
 
     next_id : (f : FileId) → id_in g ≡ Some f → f ≡ journal.next_file (alone a)
     next_id f e = id_given (next_file k) f g e given.ids ∙ next_told a held k h
@@ -203,11 +232,38 @@ module _ {V : Type 0} (a : Alone) (before now : ℕ) (held : Contents) (k : Serv
     lock_threads : IsThreads (alone a) t life c r
     lock_threads = record { given = g; own = given.own; right = lock_right.reply; next_id = next_id; counted = given.said ∙ ap (unless_counts g) lock_counted }
 
-    passed : option_or (shape_refusal (alone a) life c) (lock_refusal (alone a) t life c) ≡ None
-    passed = not_refused a held k t l c life h mine kind ready.raised shape few
+    -- it is refused for its open, and for no counts, or neither its shape nor its locks refuse it
+    cases : (shape_refusal (alone a) life c ≡ None) ⊎ IsShut a held k h ready.raised t l life mine c
+    cases = shape_cases a held k h ready.raised t l life mine c served shape
+
+    passed : shape_refusal (alone a) life c ≡ None → option_or (shape_refusal (alone a) life c) (lock_refusal (alone a) t life c) ≡ None
+    passed open_there = not_refused a held k t l c ns life h up mine served from open_there few
+
+    module _ (shut : IsShut a held k h ready.raised t l life mine c) where
+      shut_given : g ≡ reply.Refused shut.refusal
+      shut_given = same_reply (sym lock_right.reply ∙ ap (λ (x : Answer). x.reply) (shut.is g))
+        where
+          same_reply : {x y : Reply} → Some x ≡ Some y → x ≡ y
+          same_reply e = cc
+
+      shut_after : given.after ≡ l.part.counts
+      shut_after = same_counts a.holder.cells life.edits did.edits l.part.counts given.after (ap (λ (x : Answer). x.edits) (shut.is g)) mine.counts lock_after
+
+      shut_log : log_need l.part.counts.cells room.locks ≤ room.area
+      shut_log = subst (λ (n : ℕ). log_need l.part.counts.cells n ≤ room.area) (sym of.held) (subst (λ (n : ℕ). log_need l.part.counts.cells locks_now.made ≤ n) (sym of.area) (may_lock k.sizes l (holding k.locks.held t) ns c few).log)
+
+      shut_passes : refused ≡ None
+      shut_passes = ap (refused_for room l.part.counts) shut_after ∙ same_passes room l.part.counts (ready.within t l there).part.most shut_log
+
+      shut_reply : r ≡ reply.Refused shut.refusal
+      shut_reply = given.said ∙ ap (unless_counts g) shut_passes ∙ shut_given
 
     lock_answer : IsFileAnswer (alone a) t c r (Some life)
-    lock_answer = subst (λ (x : Option Refusal). First x r (IsLocked (alone a) t life c r)) (sym passed) (IsLocked.performed r lock_free lock_threads)
+    lock_answer = go cases
+      where
+        go : (shape_refusal (alone a) life c ≡ None) ⊎ IsShut a held k h ready.raised t l life mine c → First (option_or (shape_refusal (alone a) life c) (lock_refusal (alone a) t life c)) r (IsLocked (alone a) t life c r)
+        go (inl open_there) = subst (λ (x : Option Refusal). First x r (IsLocked (alone a) t life c r)) (sym (passed open_there)) (IsLocked.performed r lock_free lock_threads)
+        go (inr shut) = subst (λ (x : Option Refusal). First x r (IsLocked (alone a) t life c r)) (sym (shut_first a held k t l c ns life h up mine served from ready.raised shut)) (shut_reply shut)
 
     my_standing : standing_of turn.client (map.get k.lives t) (is_dead turn.client t k.dead) ≡ standing.Own
     my_standing = own_standing turn.client (map.get k.lives t) (is_dead turn.client t k.dead) (subst (IsOf turn.client) (sym there) own)
@@ -219,12 +275,22 @@ module _ {V : Type 0} (a : Alone) (before now : ℕ) (held : Contents) (k : Serv
     grants_of None e = subst (λ (y : Reply). grants_by true t y ≡ t ∷ []) (sym (given.said ∙ ap (unless_counts g) e)) (grants_asked t g given.own)
     grants_of (Some f) e = subst (λ (y : Reply). grants_by true t y ≡ t ∷ []) (sym (given.said ∙ ap (unless_counts g) e)) (IsCountRefusal.granted (refused_is room l.part.counts given.after f e) t)
 
+    asks_so : asks a.holder life c ≡ not (length asked.rises == 0)
+    asks_so = lock_asks a held k t l c ns life h up mine served from
+
     -- it is granted where something rises
     lock_grants : GrantsFor false (alone a) turn.client c r (cond {A = List TransId} (length asked.rises == 0) [] (t ∷ [])) (Some t)
-    lock_grants =
-        work_grants a before now held k turn t c false r life (cond {A = List TransId} (length asked.rises == 0) [] (t ∷ [])) h my_standing live
-        (grants_as t r (asks a.holder life c) asked.rises (grants_of refused refl) (lock_asks a held k t l c life h mine kind)
-        ∙ sym (ap (λ (x : Option Refusal). cond {A = List TransId} (is_some x) [] (grants_by (asks a.holder life c) t r)) passed))
+    lock_grants = work_grants a before now held k turn t c false r life (cond {A = List TransId} (length asked.rises == 0) [] (t ∷ [])) h my_standing live (go cases)
+      where
+        by_first : Option Refusal → List TransId
+        by_first x = cond {A = List TransId} (is_some x) [] (grants_by (asks a.holder life c) t r)
+
+        go : (shape_refusal (alone a) life c ≡ None) ⊎ IsShut a held k h ready.raised t l life mine c → cond {A = List TransId} (length asked.rises == 0) [] (t ∷ []) ≡ by_first (option_or (shape_refusal (alone a) life c) (lock_refusal (alone a) t life c))
+        go (inl open_there) = grants_as t r (asks a.holder life c) asked.rises (grants_of refused refl) asks_so ∙ sym (ap by_first (passed open_there))
+        go (inr shut) =
+            let nothing : ns ≡ [] = shut_none a held k t l c ns life h up mine served from ready.raised shut in
+            let none : asked.rises ≡ [] = ap (λ (ms : List Need). risen (held_of k.locks.held t) ms) nothing ∙ none_risen (held_of k.locks.held t) [] tt (risen (held_of k.locks.held t) []) refl in
+            ap (λ (ms : List Need). cond {A = List TransId} (length ms == 0) [] (t ∷ [])) none ∙ sym (ap by_first (shut_first a held k t l c ns life h up mine served from ready.raised shut))
 
     pub grants_none : asked.rises ≡ [] → GrantsFor false (alone a) turn.client c r [] (Some t)
     grants_none none = subst (λ (ns : List Need). GrantsFor false (alone a) turn.client c r (cond {A = List TransId} (length ns == 0) [] (t ∷ [])) (Some t)) none lock_grants
@@ -235,23 +301,20 @@ module _ {V : Type 0} (a : Alone) (before now : ℕ) (held : Contents) (k : Serv
 
     -- what is held already is not granted
     pub under_held : asked.rises ≡ [] → under ≡ life.held
-    under_held none = λ i q. (would_hold a held k t l life c h mine kind q ∙ no-rise (held_of k.locks.held t) (asks_of c) none q ∙ sym (mine.held q)) i
+    under_held none = λ i q. (would_hold a held k t l life c ns h mine (lock_request a held k t l c ns life h up mine served from) q ∙ no-rise (held_of k.locks.held t) ns none q ∙ sym (mine.held q)) i
 
     -- and counts already
-    pub still_locked : under ≡ life.held → locked_then a held k t l c life h mine kind ≡ a.locked t
+    pub still_locked : under ≡ life.held → locked_then a held k t l c ns life h up mine served from ≡ a.locked t
     still_locked none =
-        let one : IsOne (asks_of c) = lock_one c kind in
-        let there_now : is_some (life.held one.on) ≡ true =
-        ap (λ (y : Holding). is_some (y one.on)) (sym none) ∙ ap is_some (under_is one.on) ∙ ap (λ (ns : List Need). is_some (join_held (holding k.locks.held t one.on) (held_by ns one.on))) one.is
-        ∙ ap (λ (b : Bool). is_some (join_held (holding k.locks.held t one.on) (cond {A = Option Mode} b (Some one.mode) None))) (itself one.on) ∙ some_right (holding k.locks.held t one.on) one.mode in
-        ap (λ (ns : List Need). with_resources ns (a.locked t)) (lock_request a held k t l c life h mine kind ∙ one.is)
-        ∙ ap (λ (b : Bool). cond {A = List Resource} b (a.locked t) (a.locked t ++ one.on ∷ [])) (mine.known one.on ∙ there_now)
+        let same : (q : Resource) → join_held (holding k.locks.held t q) (held_by ns q) ≡ holding k.locks.held t q = λ q. sym (under_is q) ∙ ap (λ (y : Holding). y q) none ∙ mine.held q in
+        ap (λ (ms : List Need). with_resources ms (a.locked t)) (lock_request a held k t l c ns life h up mine served from)
+        ∙ none_more (holding k.locks.held t) ns (a.locked t) (lock_known a held k t l c ns life h up mine served from) (held_already (holding k.locks.held t) ns same ns (λ q there. there))
 
-    pub known_then : AreHeld under (locked_then a held k t l c life h mine kind)
+    pub known_then : AreHeld under (locked_then a held k t l c ns life h up mine served from)
     known_then = held_then life.held (request_in a.holder c (Some life)) (a.locked t) mine.known
 
-    pub count_then : length (locked_then a held k t l c life h mine kind) ≡ locks_now.asked
-    count_then = asked_locks a held k t l c life h mine kind
+    pub count_then : length (locked_then a held k t l c ns life h up mine served from) ≡ locks_now.asked
+    count_then = asked_locks a held k t l c ns life h up mine served from
 
     abbrev pub told : Session
     told = session_of turn is
@@ -285,39 +348,45 @@ module _ {V : Type 0} (a : Alone) (before now : ℕ) (held : Contents) (k : Serv
         grants = subst (λ (y : Reply). GrantsFor false (alone a) turn.client c y ts (Some t)) as_given grants;
       }
 
-      lock_opens : AllByRecursion (IsOpenLocked (with_made under (id_in g))) did.own.opens
-      lock_opens = kept_locked a.holder.server [] life.held (view_in a.holder life) life.own life.who c g kind mine.opens
-
       more_then : IsMore life.held (with_made under (id_in g))
       more_then q x covered = joined-more under (needs_made (id_in g)) q x (joined-more life.held (request_in a.holder c (Some life)) q x covered)
 
+      -- each open is locked, and what it changed
+      lock_keeps : Keeps (with_made under (id_in g)) did
+      lock_keeps =
+          call_keeps a.holder.server [] (with_made under (id_in g)) (view_in a.holder life) life.own life.who c g served (locked_more life.held (with_made under (id_in g)) more_then life.own.opens mine.opens)
+          (holds-each-more under (with_made under (id_in g)) (joined-more under (needs_made (id_in g))) (needs_of (view_in a.holder life) life.own c) (granted-holds life.held (needs_of (view_in a.holder life) life.own c)))
+          (λ f e. subst (λ (x : Option FileId). covers_held (with_made under x (Whole f)) Write ≡ true) (sym e) (made_locked under f))
+
       lock_puts : AreCovered (with_made under (id_in g)) (life.edits ++ did.edits)
-      lock_puts =
-          covered_both (with_made under (id_in g)) life.edits did.edits (covered_more life.held (with_made under (id_in g)) more_then life.edits mine.covered)
-          (lock_covered a.holder.server [] life.held (view_in a.holder life) life.own life.who c g kind)
+      lock_puts = covered_both (with_made under (id_in g)) life.edits did.edits (covered_more life.held (with_made under (id_in g)) more_then life.edits mine.covered) lock_keeps.covered
 
       -- nobody held the new file
       new_free : (f : FileId) → id_in g ≡ Some f → under (Whole f) ≡ None
       new_free f e =
           ap (λ (x : FileId). under (Whole x)) (id_given (next_file k) f g e given.ids) ∙ under_is (Whole (next_file k))
-          ∙ (λ i. join_held (ready.unheld t (k.given + 1) (omega arith) i) (asked_below k.server k.epoch k.given (k.given + 1) c of_file (omega arith) i))
+          ∙ (λ i. join_held (ready.unheld t (k.given + 1) (omega arith) i) (asked_below k.server k.epoch k.given (k.given + 1) ns files (omega arith) i))
+
+      creates : (b : Bool) → makes_file c ≡ b → (f : FileId) → id_in g ≡ Some f → b ≡ true
+      creates true e f is = refl
+      creates false e f is = (let wrong : None ≡ Some f = sym (only_creates e) ∙ is in cc)
 
       made_count : (rs : List Resource) → length rs ≡ locks_now.asked → AreHeld under rs → (f : FileId) → id_in g ≡ Some f → length (with_resources (needs_made (Some f)) rs) ≡ locks_now.made
       made_count rs count known f e =
-          let one : 1 ≤ more_locks c = subst (λ (o : Option FileId). length (needs_made o) ≤ more_locks c) e (lock_made a.holder.server [] (view_in a.holder life) life.own life.who c g kind lock_right.reply) in
+          let one : more_locks c ≡ 1 = makes_more c (creates (makes_file c) refl f e) in
           let counted : length (with_resources (needs_made (Some f)) rs) ≡ length rs + 1 = count_made under f rs known (new_free f e) in
-          omega (arith, counted, count, one, more_most c)
+          omega (arith, counted, count, one)
 
       lock_as : (then : Contents) → then ≡ held → (x : Holding) → under ≡ x → (rs : List Resource) → length rs ≡ locks_now.asked → AreHeld under rs → IsQuiet (with_call a turn.client turn.number told t life c g x rs)
-          → IsAs (after_call a held k turn t l p c g (locks_given l.locks locks_now (Ok g)) (table_then g) v life x rs told) then (lock_left g)
+          → IsAs (after_call a held k turn t l p c g (locks_given l.locks locks_now (Ok (given_of g []))) (table_then g) v life x rs told) then (lock_left g)
       lock_as then same x so rs count known quiet =
           let counts : p.counts ≡ given.after = subst (StandsAfter l.part p given.after) passes given.stands in
-          done_as a held k turn t l p c g (locks_given l.locks locks_now (Ok g)) (table_then g) v life x rs then h same is up there live mine (lock_built c kind) given.ids lock_done
+          done_as a held k turn t l p c g (locks_given l.locks locks_now (Ok (given_of g []))) (table_then g) v life x rs then h same is up there live mine given.ids lock_done
           (λ q. ap (λ (y : Holding). with_made y (id_in g) q) (sym so) ∙ then_holds q) (λ u q away. taken_other k.locks (plan g) refl u q away)
-          (subst (λ (y : Holding). AllByRecursion (IsOpenLocked (with_made y (id_in g))) did.own.opens) so lock_opens)
+          (subst (λ (y : Holding). AllByRecursion (IsOpenLocked (with_made y (id_in g))) did.own.opens) so lock_keeps.opens)
           (subst (AreCountsOf a.holder.cells (life.edits ++ did.edits)) (sym counts) lock_after)
           (subst (λ (y : Holding). AreCovered (with_made y (id_in g)) (life.edits ++ did.edits)) so lock_puts)
-          (kept_count l.locks locks_now g rs (lock_tells a.holder.server [] (view_in a.holder life) life.own life.who c g kind lock_right.reply) count (made_count rs count known))
+          (kept_count l.locks locks_now g rs count (made_count rs count known))
           (subst (λ (y : Holding). AreHeld (with_made y (id_in g)) (with_resources (needs_made (id_in g)) rs)) so (held_then under (needs_made (id_in g)) rs known))
           (subst (AreRoomed k.sizes a.holder.cells (totals_of k.lives) l.part.counts) (sym counts) (allowed_room a held k h up locks_now.made room of t l given.after there passes)) quiet
 
@@ -333,23 +402,23 @@ module _ {V : Type 0} (a : Alone) (before now : ℕ) (held : Contents) (k : Serv
           (lock_as then same life.held still (a.locked t) (ap (λ (rs : List Resource). length rs) (sym (still_locked still)) ∙ count_then) (subst (AreHeld under) (still_locked still) known_then) leads.quiet) (λ e. cc)
           (stands_timely a.holder.clock (seen_in (event.Call turn.client k.epoch turn.number c)) k.clock h.clock)
 
-      granted_steps : (x : Handed) (then : Contents) → then ≡ held → file_trans c ≡ Some t → IsFormed c → (n : Need) (ns : List Need) → asked.rises ≡ n ∷ ns
+      granted_steps : (x : Handed) (then : Contents) → then ≡ held → file_trans c ≡ Some t → IsFormed c → (n : Need) (more : List Need) → asked.rises ≡ n ∷ more
           → x ≡ told_answer (Some g) (act.Granted t ∷ []) → Steps then x
-      granted_steps x then same of_trans formed n ns some so =
-          let rs : List Resource = locked_then a held k t l c life h mine kind in
+      granted_steps x then same of_trans formed n more some so =
+          let rs : List Resource = locked_then a held k t l c ns life h up mine served from in
           let leads : Leads false a (call_entry a turn.client turn.number told c g (act.Granted t ∷ [])) (with_call a turn.client turn.number told t life c g under rs) =
-          granted_leads a turn.client turn.number told t life c g false lock_free (lock_owes of_trans formed under refl (t ∷ []) (grants_some n ns some)) in
+          granted_leads a turn.client turn.number told t life c g false lock_free (lock_owes of_trans formed under refl (t ∷ []) (grants_some n more some)) in
           stepped_so a before now held then k (lock_left g) turn.client turn.number told c false g (act.Granted t ∷ []) (with_call a turn.client turn.number told t life c g under rs) x so h leads
           (lock_as then same under refl rs count_then known_then leads.quiet) (λ e. cc) (stands_timely a.holder.clock (seen_in (event.Call turn.client k.epoch turn.number c)) k.clock h.clock)
 
       lock_steps : (x : Handed) (then : Contents) → then ≡ held → file_trans c ≡ Some t → IsFormed c → x ≡ told_answer (Some g) (acts_of t asked.rises) → Steps then x
       lock_steps x then same of_trans formed so = go asked.rises refl
         where
-          go : (ns : List Need) → asked.rises ≡ ns → Steps then x
+          go : (qs : List Need) → asked.rises ≡ qs → Steps then x
           go [] e = held_steps x then same of_trans formed e (so ∙ ap (λ (ms : List Need). told_answer (Some g) (acts_of t ms)) e)
-          go (n ∷ ns) e =
-              granted_steps x then same of_trans formed n ns e
-              (so ∙ ap (λ (y : Bool). told_answer (Some g) (cond {A = List Act} y [] (act.Granted t ∷ []))) (ap (λ (ms : List Need). length ms == 0) e ∙ not_empty n ns))
+          go (n ∷ more) e =
+              granted_steps x then same of_trans formed n more e
+              (so ∙ ap (λ (y : Bool). told_answer (Some g) (cond {A = List Act} y [] (act.Granted t ∷ []))) (ap (λ (ms : List Need). length ms == 0) e ∙ not_empty n more))
 
       pub lock_performed : (x : Handed) (then : Contents) → then ≡ held → file_trans c ≡ Some t → IsFormed c → x ≡ told_answer (Some r) (acts_of t asked.rises)
           → Stepped a before now then (lock_left r) (event.Call turn.client k.epoch turn.number c) x

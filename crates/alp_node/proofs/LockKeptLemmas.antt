@@ -1,4 +1,4 @@
--- a call that asked for locks and has them, and that the counts refuse: its part keeps the locks, and nothing else comes about
+-- a file call that has the locks that it asked, and that the counts refuse: its part keeps the locks, and nothing else comes about
 use Rattle.std.specs.Prelude.{cond, Bool, true, false, ◌==◌, Option, None, Some}
 use Rattle.std.specs.List.{AllByRecursion}
 use Rattle.std.specs.FinMap as map
@@ -11,14 +11,14 @@ use Rattle.alp_files.specs.declared.call.Call.{Call}
 use Rattle.alp_files.specs.declared.reply.Reply.{Reply}
 use Rattle.alp_files.specs.declared.reply.Reply.TheVariants as reply
 use Rattle.alp_files.specs.declared.refusal.Refusal.{Refusal}
-use Rattle.alp_files.specs.Edits.{ChangesBy}
 use Rattle.alp_files.specs.Locks.{Need, IsMore, IsFormed}
 use Rattle.alp_queue.specs.declared.waiter.Waiter.{Waiter}
 use Rattle.alp_locks.specs.Tables.{Table}
 use Rattle.alp_locks.specs.Asks.{blocker}
 use Rattle.alp_trans.specs.declared.part.Part.{Part}
 use Rattle.alp_trans.specs.Counting.{AreCountsOf}
-use Rattle.alp_calls.specs.Parts.{Answered, IsAsBefore, StandsAfter}
+use Rattle.alp_calls.specs.Parts.{seen, Answered, IsAsBefore, StandsAfter}
+use Rattle.alp_trans.specs.Parts.{own_of}
 use Rattle.alp_calls.specs.Limits.{refused_for}
 use Rattle.alp_calls.specs.declared.limits.Room.{Room}
 use Rattle.alp_vault.specs.Contents.{Contents}
@@ -35,8 +35,8 @@ use Rattle.alp_journal.specs.Answers.{IsFileOf, unless_counts}
 use Rattle.alp_journal.specs.Answered.{GrantsFor}
 use Rattle.alp_journal.specs.Alone.{Alone, alone, IsQuiet, Leads}
 use Rattle.alp_journal.proofs.AloneLemmas.{call_entry}
-use Rattle.alp_node.specs.Asks.{with_plan, acts_of}
-use Rattle.alp_node.specs.Calls.{IsLockCall, next_file}
+use Rattle.alp_node.specs.Asks.{AreGiven, asks_of, with_plan, acts_of}
+use Rattle.alp_node.specs.Calls.{IsServedCall, next_file}
 use Rattle.alp_node.specs.Covers.{AreCovered, AreHeld}
 use Rattle.alp_node.specs.Rooms.{IsRoomOf}
 use Rattle.alp_node.specs.Shapes.{shape_of, too_locked}
@@ -48,7 +48,7 @@ use Rattle.alp_node.specs.declared.lives.Live.{Live}
 use Rattle.alp_node.specs.declared.server_state.ServerState.{ServerState}
 use Rattle.alp_node.specs.declared.sessions.Turn.{Turn}
 use Rattle.alp_node.proofs.ApartLemmas.{covered_more}
-use Rattle.alp_node.proofs.AskLemmas.{more_locked}
+use Rattle.alp_node.proofs.CallLemmas.{locked_more}
 use Rattle.alp_node.proofs.CountedLemmas.{IsCountRefusal, refused_is}
 use Rattle.alp_node.proofs.ShapeLemmas.{count_none_done}
 use Rattle.alp_node.proofs.TotalLemmas.{same_room}
@@ -64,12 +64,12 @@ use Rattle.alp_files.proofs.FilesLemmas.{same-some}
 use Rattle.alp_journal.proofs.IdLemmas.{same_trans-true}
 use Rattle.alp_node.proofs.ServedLemmas.{refused_stepped}
 
-module _ {V : Type 0} (a : Alone) (before now : ℕ) (held : Contents) (k : ServerState V) (turn : Turn) (t : TransId) (l : Live) (p : Part) (c : Call) (room : Room) (r : Reply) (v : V) where
+module _ {V : Type 0} (a : Alone) (before now : ℕ) (held : Contents) (k : ServerState V) (turn : Turn) (t : TransId) (l : Live) (p : Part) (c : Call) (ns : List Need) (room : Room) (r : Reply) (v : V) where
   abbrev locks_asked : LockCounts
-  locks_asked = locks_now a before now held k turn t l p c room r v
+  locks_asked = locks_now a before now held k turn t l p c ns room r v
 
   abbrev wanted : Waiter
-  wanted = asked a before now held k turn t l p c room r v
+  wanted = asked a before now held k turn t l p c ns room r v
 
   abbrev with_asked : Table
   with_asked = with_plan k.locks wanted
@@ -82,17 +82,17 @@ module _ {V : Type 0} (a : Alone) (before now : ℕ) (held : Contents) (k : Serv
   server_now = record k { lives = map.insert k.lives t live_now; locks = with_asked; vault = v }
 
   abbrev left : Reply → ServerState V
-  left = lock_left a before now held k turn t l p c room r v
+  left = lock_left a before now held k turn t l p c ns room r v
 
   module _ (m : ℕ) (on : Bool) (ready : IsReady m on k) (life : Life) (h : IsAs a held k) (up : k.is_down ≡ false) (is : IsTurn k.sessions turn) (there : map.get k.lives t ≡ Some l) (own : l.client ≡ turn.client) (live : a.holder.lives t ≡ Some life)
-      (mine : IsLife a.holder.cells k.locks.held (a.locked t) t l life) (kind : IsLockCall c) (given : Answered true held.cells l.part p l.who (next_file k) c room r) (of : IsRoomOf true held.cells k locks_asked.made room)
+      (mine : IsLife a.holder.cells k.locks.held (a.locked t) t l life) (served : IsServedCall c) (files : AreGiven k.server k.epoch k.given ns) (from : ns ≡ asks_of (seen held.cells l.part) (own_of l.part) c) (given : Answered true held.cells l.part p l.who (next_file k) c room r) (of : IsRoomOf true held.cells k locks_asked.made room)
       (shape : shape_of k.server k.epoch k.given (length l.part.opens.items) c ≡ None) (few : too_locked k.sizes.area l.part.counts.cells locks_asked.made ≡ None) (free : blocker k.locks.held t wanted.rises ≡ None)
       (f : Refusal) (full : refused_for room l.part.counts given.after ≡ Some f) where
     abbrev would : Holding
     would = held_for a.holder life c
 
     abbrev resources : List Resource
-    resources = locked_then a held k t l c life h mine kind
+    resources = locked_then a held k t l c ns life h up mine served from
 
     abbrev w : Session
     w = session_of turn is
@@ -107,26 +107,26 @@ module _ {V : Type 0} (a : Alone) (before now : ℕ) (held : Contents) (k : Serv
     stands = subst (StandsAfter l.part p given.after) full given.stands
 
     why : IsFileOf false (alone a) turn.client c (reply.Refused f) (Some t)
-    why = subst (λ (y : Reply). IsFileOf false (alone a) turn.client c y (Some t)) as_refused (lock_why a before now held k turn t l p c room r v m on ready life h up is there own live mine kind given of shape few free)
+    why = subst (λ (y : Reply). IsFileOf false (alone a) turn.client c y (Some t)) as_refused (lock_why a before now held k turn t l p c ns room r v m on ready life h up is there own live mine served files from given of shape few free)
 
     more : IsMore life.held would
     more = joined-more life.held (request_in a.holder c (Some life))
 
     known : AreHeld would resources
-    known = known_then a before now held k turn t l p c room r v m on ready life h up is there own live mine kind given of shape few free
+    known = known_then a before now held k turn t l p c ns room r v m on ready life h up is there own live mine served files from given of shape few free
 
     count : length resources ≡ locks_asked.asked
-    count = count_then a before now held k turn t l p c room r v m on ready life h up is there own live mine kind given of shape few free
+    count = count_then a before now held k turn t l p c ns room r v m on ready life h up is there own live mine served files from given of shape few free
 
     -- the part with the locks
     life_kept : (x : Holding) → would ≡ x → (rs : List Resource) → length rs ≡ locks_asked.asked → AreHeld would rs → IsLife a.holder.cells with_asked.held rs t live_now (record life { held = x })
     life_kept x so rs many all = record {
       client = mine.client;
       who = mine.who;
-      intents = subst (ChangesBy life.edits map.empty) (sym stands.0) mine.intents;
+      intents = stands.0 ∙ mine.intents;
       own = stands.1 ∙ mine.own;
-      held = λ q. ap (λ (y : Holding). y q) (sym so) ∙ first_held a before now held k turn t l p c room r v m on ready life h up is there own live mine kind given of shape few free q;
-      opens = subst (λ (y : Holding). AllByRecursion (IsOpenLocked y) life.own.opens) so (more_locked life.held would more life.own.opens mine.opens);
+      held = λ q. ap (λ (y : Holding). y q) (sym so) ∙ first_held a before now held k turn t l p c ns room r v m on ready life h up is there own live mine served files from given of shape few free q;
+      opens = subst (λ (y : Holding). AllByRecursion (IsOpenLocked y) life.own.opens) so (locked_more life.held would more life.own.opens mine.opens);
       counts = subst (AreCountsOf a.holder.cells life.edits) (sym stands.2) mine.counts;
       covered = subst (λ (y : Holding). AreCovered y life.edits) so (covered_more life.held would more life.edits mine.covered);
       count = sym many;
@@ -171,10 +171,10 @@ module _ {V : Type 0} (a : Alone) (before now : ℕ) (held : Contents) (k : Serv
     held_refused : (x : Handed) (then : Contents) → then ≡ held → file_trans c ≡ Some t → wanted.rises ≡ [] → x ≡ refused_answer f []
         → Stepped a before now then (left (reply.Refused f)) (event.Call turn.client k.epoch turn.number c) x
     held_refused x then same of_trans none so =
-        let still : would ≡ life.held = under_held a before now held k turn t l p c room r v m on ready life h up is there own live mine kind given of shape few free none in
-        let rs : resources ≡ a.locked t = still_locked a before now held k turn t l p c room r v m on ready life h up is there own live mine kind given of shape few free still in
+        let still : would ≡ life.held = under_held a before now held k turn t l p c ns room r v m on ready life h up is there own live mine served files from given of shape few free none in
+        let rs : resources ≡ a.locked t = still_locked a before now held k turn t l p c ns room r v m on ready life h up is there own live mine served files from given of shape few free still in
         refused_stepped a before now then server_now turn t c false f x (held_as then same still rs) is up (λ e. cc) of_trans counted.now (count_none_done a t c f counted) why
-        (subst (λ (y : Reply). GrantsFor false (alone a) turn.client c y [] (Some t)) as_refused (grants_none a before now held k turn t l p c room r v m on ready life h up is there own live mine kind given of shape few free none)) so
+        (subst (λ (y : Reply). GrantsFor false (alone a) turn.client c y [] (Some t)) as_refused (grants_none a before now held k turn t l p c ns room r v m on ready life h up is there own live mine served files from given of shape few free none)) so
 
     -- ---- it is granted
 
@@ -210,13 +210,13 @@ module _ {V : Type 0} (a : Alone) (before now : ℕ) (held : Contents) (k : Serv
           down = s.down;
         })
 
-    granted_refused : (x : Handed) (then : Contents) → then ≡ held → file_trans c ≡ Some t → (n : Need) (ns : List Need) → wanted.rises ≡ n ∷ ns
+    granted_refused : (x : Handed) (then : Contents) → then ≡ held → file_trans c ≡ Some t → (n : Need) (others : List Need) → wanted.rises ≡ n ∷ others
         → x ≡ refused_answer f (act.Granted t ∷ []) → Stepped a before now then (left (reply.Refused f)) (event.Call turn.client k.epoch turn.number c) x
-    granted_refused x then same of_trans n ns some so =
+    granted_refused x then same of_trans n others some so =
         let leads : Leads false a (call_entry a turn.client turn.number w c (reply.Refused f) (act.Granted t ∷ [])) (with_locks a turn.client turn.number w t life c f) =
         refused_granted_leads a turn.client turn.number w t life c f false h.quiet (h.down ∙ up) (turn_session a held k turn h is) is.number live (mine.client ∙ own) of_trans counted.passes counted.now
-        (lock_free a before now held k turn t l p c room r v m on ready life h up is there own live mine kind given of shape few free) why
-        (subst (λ (y : Reply). GrantsFor false (alone a) turn.client c y (t ∷ []) (Some t)) as_refused (grants_some a before now held k turn t l p c room r v m on ready life h up is there own live mine kind given of shape few free n ns some)) in
+        (lock_free a before now held k turn t l p c ns room r v m on ready life h up is there own live mine served files from given of shape few free) why
+        (subst (λ (y : Reply). GrantsFor false (alone a) turn.client c y (t ∷ []) (Some t)) as_refused (grants_some a before now held k turn t l p c ns room r v m on ready life h up is there own live mine served files from given of shape few free n others some)) in
         stepped_so a before now held then k (left (reply.Refused f)) turn.client turn.number w c false (reply.Refused f) (act.Granted t ∷ []) (with_locks a turn.client turn.number w t life c f) x so h leads (granted_as then same leads.quiet) (λ e. cc)
         (stands_timely a.holder.clock (seen_in (event.Call turn.client k.epoch turn.number c)) k.clock h.clock)
 
@@ -228,22 +228,22 @@ module _ {V : Type 0} (a : Alone) (before now : ℕ) (held : Contents) (k : Serv
         told_so : x ≡ refused_answer f (acts_of t wanted.rises)
         told_so = so ∙ ap (λ (y : Reply). told_answer (Some y) (acts_of t wanted.rises)) as_refused
 
-        go : (ns : List Need) → wanted.rises ≡ ns → Stepped a before now then (left (reply.Refused f)) (event.Call turn.client k.epoch turn.number c) x
+        go : (qs : List Need) → wanted.rises ≡ qs → Stepped a before now then (left (reply.Refused f)) (event.Call turn.client k.epoch turn.number c) x
         go [] e = held_refused x then same of_trans e (told_so ∙ ap (λ (ms : List Need). refused_answer f (acts_of t ms)) e)
-        go (n ∷ ns) e =
-            granted_refused x then same of_trans n ns e
-            (told_so ∙ ap (λ (y : Bool). refused_answer f (cond {A = List Act} y [] (act.Granted t ∷ []))) (ap (λ (ms : List Need). length ms == 0) e ∙ not_empty n ns))
+        go (n ∷ others) e =
+            granted_refused x then same of_trans n others e
+            (told_so ∙ ap (λ (y : Bool). refused_answer f (cond {A = List Act} y [] (act.Granted t ∷ []))) (ap (λ (ms : List Need). length ms == 0) e ∙ not_empty n others))
 
   -- ---- either
 
-  pub lock_stepped : (m : ℕ) (on : Bool) (x : Handed) (then : Contents) → IsReady m on k → IsAs a held k → k.is_down ≡ false → then ≡ held → IsTurn k.sessions turn → map.get k.lives t ≡ Some l → l.client ≡ turn.client → IsLockCall c
+  pub lock_stepped : (m : ℕ) (on : Bool) (x : Handed) (then : Contents) → IsReady m on k → IsAs a held k → k.is_down ≡ false → then ≡ held → IsTurn k.sessions turn → map.get k.lives t ≡ Some l → l.client ≡ turn.client → IsServedCall c → AreGiven k.server k.epoch k.given ns → ns ≡ asks_of (seen held.cells l.part) (own_of l.part) c
       → shape_of k.server k.epoch k.given (length l.part.opens.items) c ≡ None → too_locked k.sizes.area l.part.counts.cells locks_asked.made ≡ None → file_trans c ≡ Some t → IsFormed c
       → Answered true held.cells l.part p l.who (next_file k) c room r → IsRoomOf true held.cells k locks_asked.made room → x ≡ told_answer (Some r) (acts_of t wanted.rises) → blocker k.locks.held t wanted.rises ≡ None
       → Stepped a before now then (left r) (event.Call turn.client k.epoch turn.number c) x
-  lock_stepped m on x then ready h up same is there own kind shape few of_trans formed given of so free =
+  lock_stepped m on x then ready h up same is there own served files from shape few of_trans formed given of so free =
       let y : IsLive a.holder.cells k.locks.held (a.locked t) t l (a.holder.lives t) = live_there a.holder.cells k.locks.held (a.locked t) t (map.get k.lives t) (a.holder.lives t) l there (h.lives t) in
       go y (refused_for room l.part.counts given.after) refl
     where
       go : (y : IsLive a.holder.cells k.locks.held (a.locked t) t l (a.holder.lives t)) → (o : Option Refusal) → refused_for room l.part.counts given.after ≡ o → Stepped a before now then (left r) (event.Call turn.client k.epoch turn.number c) x
-      go y None e = lock_performed a before now held k turn t l p c room r v m on ready y.life h up is there own y.is y.alike kind given of shape few free e x then same of_trans formed so
-      go y (Some f) e = lock_refused m on ready y.life h up is there own y.is y.alike kind given of shape few free f e x then same of_trans so
+      go y None e = lock_performed a before now held k turn t l p c ns room r v m on ready y.life h up is there own y.is y.alike served files from given of shape few free e x then same of_trans formed so
+      go y (Some f) e = lock_refused m on ready y.life h up is there own y.is y.alike served files from given of shape few free f e x then same of_trans so

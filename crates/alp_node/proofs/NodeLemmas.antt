@@ -37,7 +37,6 @@ use Rattle.alp_node.specs.Turns.{HasTurned}
 use Rattle.alp_node.specs.Served.{IsServed, AreLivesSound}
 use Rattle.alp_node.specs.declared.server_state.ServerState.{ServerState}
 use Rattle.alp_node.specs.declared.sessions.CallOrder.{CallOrder}
-use Rattle.alp_node.proofs.ApartLemmas.{covered_puts}
 use Rattle.alp_node.proofs.KeptLemmas.{IsLive, live_there}
 
 pub state_after-push : {S E : Type 0} (step : S → E → S) (s : S) (es : List E) (e : E) → state_after step s (es ++ e ∷ []) ≡ step (state_after step s es) e
@@ -101,7 +100,7 @@ right_sound G n held r up t l there =
     let pair : IsPaired (Some y.life) (a.fates t) = subst (λ (x : Option Life). IsPaired x (a.fates t)) y.is (r.kept.quiet.paired t) in
     let es : List Edit = y.life.edits in
     let same : edits_map (edits_of (change_of l.part.intents)) held.cells ≡ edits_map es a.holder.cells =
-    same_change held.cells l.part es (covered_puts y.life.held es y.alike.covered) y.alike.intents ∙ ap (edits_map es) (r.kept.cells up) in
+    same_change held.cells l.part es y.alike.intents ∙ ap (edits_map es) (r.kept.cells up) in
     subst AreSound (sym same) (live_sound (alone a) now t y.life y.is pair.1)
 
 pub counted_pushed : (es fs : List Entry) (e : Entry) → fs ≡ es ++ e ∷ [] → length fs ≡ length es + 1
@@ -283,10 +282,6 @@ module _ {V : Type 0} (G : Ghosts V) (old : NodeState V) (kept : ServerState V) 
   pub entered_turned : (r : Result (Option Reply) OutOfMemory) → IsEntered G o old.kept kept old.journal journal e r → kept.is_down ≡ false → IfOk r (λ y. HasTurned o old.kept kept e y)
   entered_turned (Ok y) (x, s, handed, is) up = subst (λ (z : Option Reply). HasTurned o old.kept kept e z) (sym s.given.handed ∙ handed) (s.turned up)
   entered_turned (Err f) h up = tt
-
-  pub entered_still : (r : Result (Option Reply) OutOfMemory) → IsEntered G o old.kept kept old.journal journal e r → OnErr r (HasNoEntry G old node_then)
-  entered_still (Ok y) h = tt
-  entered_still (Err f) (s, is) = record { journal = is; up = s.still.up; sessions = s.still.sessions; clock = s.still.clock; vault = s.still.vault }
 
   pub entered_answered : (r : Result (Option Reply) OutOfMemory) → IsConsistent G old → IsEntered G o old.kept kept old.journal journal e r
       → IfOk r (λ y. Answered old.kept.server o (G.tells old.kept.vault) (state_of (start_in G old) old.journal) old.journal journal e y (G.faults old.kept.vault) (G.faults kept.vault) (G.allowance kept.vault) kept.is_down)

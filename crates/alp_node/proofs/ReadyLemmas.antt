@@ -1,6 +1,7 @@
 -- a server stays ready, step by step
 use Rattle.std.specs.Prelude.{cond, Bool, true, false, ◌==◌, IsTrue, Option, None, Some, is_some}
 use Rattle.std.specs.FinMap as map
+use Rattle.std.specs.List.{list_all}
 use Rattle.std.specs.Ordering.{eq_by_cmp}
 use Rattle.std.proofs.Common.{◌≡◌, ℕ, ◌+◌, ◌^◌, ◌<◌, ◌≤◌, List, [], length, refl, sym, ◌∙◌, ap, subst, arith, le_refl}
 use Rattle.alp_base.specs.declared.ids.TransId.{TransId}
@@ -12,6 +13,7 @@ use Rattle.alp_files.specs.declared.reply.Ended.TheVariants as ended
 use Rattle.alp_files.specs.declared.reply.Reply.{Reply}
 use Rattle.alp_files.specs.declared.reply.Reply.TheVariants as reply
 use Rattle.alp_files.specs.Act.{Own, no_opens}
+use Rattle.alp_files.specs.declared.open.Open.{Open}
 use Rattle.alp_trans.specs.Parts.{own_of}
 use Rattle.alp_locks.specs.Tables.{Table, held_of, holding}
 use Rattle.alp_locks.specs.Asks.{entered}
@@ -22,6 +24,7 @@ use Rattle.alp_locks.proofs.PlanLemmas.{release-holds, release-waiting, release-
 use Rattle.alp_locks.proofs.SoundLemmas.{released-sound, entered-sound}
 use Rattle.alp_journal.specs.Ids.{same_trans}
 use Rattle.alp_journal.proofs.IdLemmas.{same_trans-itself, same_trans-true}
+use Rattle.alp_node.specs.Asks.{is_given}
 use Rattle.alp_node.specs.Dead.{without_client}
 use Rattle.alp_node.specs.Rooms.{IsWithin}
 use Rattle.alp_node.specs.Sessions.{session_at, with_session}
@@ -138,6 +141,7 @@ module _ {V : Type 0} (n : ℕ) (serves : Bool) (k : ServerState V) where
     known = h.known;
     begun = h.begun;
     opens = λ t l is. (let low : l.part.last ≤ n = h.opens t l is in omega arith);
+    opened = h.opened;
     places = places_set k.sessions client (record { who = name; last = 1; reply = reply.Welcome k.epoch }) h.places;
     calls = calls_set k.sessions client (record { who = name; last = 1; reply = reply.Welcome k.epoch }) n h.places le h.calls (omega arith);
     replies = replies_set k.sessions client (record { who = name; last = 1; reply = reply.Welcome k.epoch }) k.clock k.clock h.places le (le_refl k.clock) h.replies (record { inside = tt; times = tt });
@@ -163,6 +167,7 @@ module _ {V : Type 0} (n : ℕ) (serves : Bool) (k : ServerState V) where
     known = h.known;
     begun = h.begun;
     opens = λ t l there. (let low : l.part.last ≤ n = h.opens t l there in omega arith);
+    opened = h.opened;
     places = places_set k.sessions turn.client (record { who = turn.who; last = turn.number; reply = r }) h.places;
     calls = calls_set k.sessions turn.client (record { who = turn.who; last = turn.number; reply = r }) n h.places is.client h.calls (turn_within k.sessions turn n is h.calls);
     replies = replies_set k.sessions turn.client (record { who = turn.who; last = turn.number; reply = r }) k.clock k.clock h.places is.client (le_refl k.clock) h.replies keeps;
@@ -188,6 +193,7 @@ module _ {V : Type 0} (n : ℕ) (serves : Bool) (k : ServerState V) where
     known = h.known;
     begun = h.begun;
     opens = λ t l is. (let low : l.part.last ≤ n = h.opens t l is in omega arith);
+    opened = h.opened;
     places = h.places;
     calls = λ c w is. (let low : w.last ≤ n = h.calls c w is in omega arith);
     replies = h.replies;
@@ -213,6 +219,7 @@ module _ {V : Type 0} (n : ℕ) (serves : Bool) (k : ServerState V) where
     known = λ u l is. go u (same_trans u t) refl l (sym (get_gone k.lives t u) ∙ is);
     begun = λ u l is. kept u (same_trans u t) l (λ x. x.part.last ≤ x.part.last) (λ there. h.begun u l there) (sym (get_gone k.lives t u) ∙ is);
     opens = λ u l is. kept u (same_trans u t) l (λ x. x.part.last ≤ n) (λ there. h.opens u l there) (sym (get_gone k.lives t u) ∙ is);
+    opened = λ u l is. kept u (same_trans u t) l (λ x. x.part.last ≤ x.part.last) (λ there. h.opened u l there) (sym (get_gone k.lives t u) ∙ is);
     places = h.places;
     calls = h.calls;
     replies = h.replies;
@@ -258,6 +265,7 @@ module _ {V : Type 0} (n : ℕ) (serves : Bool) (k : ServerState V) where
       known = λ u x there. known_so u (same_trans u t) refl x (sym (get_put k.lives t l u) ∙ there);
       begun = λ u x there. begun_so u (same_trans u t) refl x (sym (get_put k.lives t l u) ∙ there);
       opens = λ u x there. opens_so u (same_trans u t) x (sym (get_put k.lives t l u) ∙ there);
+      opened = λ u x there. opened_so u (same_trans u t) x (sym (get_put k.lives t l u) ∙ there);
       places = places_set k.sessions turn.client (record { who = turn.who; last = turn.number; reply = reply.Begun t }) h.places;
       calls = calls_set k.sessions turn.client (record { who = turn.who; last = turn.number; reply = reply.Begun t }) n h.places is.client h.calls (turn_within k.sessions turn n is h.calls);
       replies = replies_set k.sessions turn.client (record { who = turn.who; last = turn.number; reply = reply.Begun t }) k.clock clock h.places is.client later h.replies (record { inside = tt; times = tt });
@@ -291,6 +299,10 @@ module _ {V : Type 0} (n : ℕ) (serves : Bool) (k : ServerState V) where
             omega (arith, zero_opens)
         opens_so u false x there = (let low : x.part.last ≤ n = h.opens u x there in omega arith)
 
+        opened_so : (u : TransId) (b : Bool) (x : Live) → cond {A = Option Live} b (Some l) (map.get k.lives u) ≡ Some x → list_all (λ (o : Open). is_given k.server k.epoch k.given o.file) x.part.opens.items ≡ true
+        opened_so u true x there = ap (λ (y : Live). list_all (λ (o : Open). is_given k.server k.epoch k.given o.file) y.part.opens.items) (sym (same_live l x there)) ∙ ap (λ (w : Own). list_all (λ (o : Open). is_given k.server k.epoch k.given o.file) w.opens) none
+        opened_so u false x there = h.opened u x there
+
   -- who entered and was released again changes nothing
   pub undone_ready : (t : TransId) → map.get k.lives t ≡ None → IsReady n serves k → IsReady n serves (record k { locks = released (entered k.locks t) t })
   undone_ready t none h = record {
@@ -301,6 +313,7 @@ module _ {V : Type 0} (n : ℕ) (serves : Bool) (k : ServerState V) where
     known = λ u l is. release-knows (entered k.locks t) t u h.alone (tied_same t u ∙ away u t k.lives l none is) (insert-keeps k.locks.held t (held_of k.locks.held t) u (h.known u l is));
     begun = h.begun;
     opens = h.opens;
+    opened = h.opened;
     places = h.places;
     calls = h.calls;
     replies = h.replies;
@@ -326,6 +339,7 @@ module _ {V : Type 0} (n : ℕ) (serves : Bool) (k : ServerState V) where
     known = h.known;
     begun = h.begun;
     opens = h.opens;
+    opened = h.opened;
     places = h.places;
     calls = h.calls;
     replies = h.replies;
@@ -354,6 +368,7 @@ ready_with n before serves k v on up h = record {
   known = h.known;
   begun = h.begun;
   opens = h.opens;
+  opened = h.opened;
   places = h.places;
   calls = h.calls;
   replies = h.replies;
@@ -382,6 +397,7 @@ down_ready n before serves k v off h =
       known = c.known;
       begun = c.begun;
       opens = c.opens;
+      opened = c.opened;
       places = c.places;
       calls = c.calls;
       replies = c.replies;
@@ -411,6 +427,7 @@ commit_ready n before serves k v turn t on up is early h =
       known = c.known;
       begun = c.begun;
       opens = c.opens;
+      opened = c.opened;
       places = places_set k.sessions turn.client w h.places;
       calls = calls_set k.sessions turn.client w n h.places is.client h.calls (turn_within k.sessions turn n is h.calls);
       replies = replies_set k.sessions turn.client w k.clock (k.clock + 1) h.places is.client (omega arith) h.replies (record { inside = tt; times = le_refl (k.clock + 1) });

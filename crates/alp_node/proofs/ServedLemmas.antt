@@ -5,7 +5,6 @@ use Rattle.std.specs.FinMap as map
 use Rattle.std.proofs.Common.{inl, inr, ◌≡◌, ℕ, List, [], refl, sym, ◌∙◌, ap, subst}
 use Rattle.alp_base.specs.declared.ids.TransId.{TransId}
 use Rattle.alp_files.specs.declared.call.Call.{Call}
-use Rattle.alp_files.specs.declared.call.Call.TheVariants as call
 use Rattle.alp_files.specs.declared.reply.Reply.{Reply}
 use Rattle.alp_files.specs.declared.reply.Reply.TheVariants as reply
 use Rattle.alp_files.specs.declared.refusal.Refusal.{Refusal}
@@ -21,8 +20,6 @@ use Rattle.alp_journal.specs.Answers.{Part, part_at, at_part, part_refusal, Firs
 use Rattle.alp_journal.specs.Answered.{GrantsFor, grants_by, grants_if, asks}
 use Rattle.alp_journal.specs.Alone.{Alone, alone}
 use Rattle.alp_journal.proofs.AloneEntries.{counted_as, refused_leads}
-use Rattle.alp_node.specs.Calls.{IsServedCall, IsPageCall, IsLockCall}
-use Rattle.alp_node.specs.Served.{is_on_open}
 use Rattle.alp_journal.specs.Desk.{Session}
 use Rattle.alp_node.specs.Dead.{is_dead}
 use Rattle.alp_node.specs.ServerState.{IsAs}
@@ -102,18 +99,3 @@ module _ {V : Type 0} (a : Alone) (before now : ℕ) (held : Contents) (k : Serv
       refused_stepped false f x h is up (λ e. cc) named later none
       (work_why false (reply.Refused f) life h own live (inr (subst (λ (z : Option Refusal). First z (reply.Refused f) (IsLocked (alone a) t life c (reply.Refused f))) (sym first) refl)))
       (work_grants false (reply.Refused f) life [] h own live (sym (ap (λ (z : Option Refusal). cond {A = List TransId} (is_some z) [] (grants_by (asks a.holder life c) t (reply.Refused f))) first))) so
-
--- ---- which calls are on opens
-
-pub served_page : (c : Call) → IsServedCall c → is_on_open c ≡ true → IsPageCall c
-served_page (call.ReadPages t n run mode choice) is on = is.0
-served_page (call.WritePages t n run pages choice) is on = is.0
-served_page c is on = let wrong : false ≡ true = on in cc
-
-pub served_lock : (c : Call) → IsServedCall c → is_on_open c ≡ false → IsLockCall c
-served_lock (call.CreateFile t start choice) is on = is
-served_lock (call.OpenFile t f access mode choice) is on = is
-served_lock (call.MakeOwner t name quota create choice) is on = is
-served_lock (call.ReadPages t n run mode choice) is on = cc
-served_lock (call.WritePages t n run pages choice) is on = cc
-served_lock c is on = absurd is

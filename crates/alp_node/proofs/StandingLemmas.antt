@@ -111,25 +111,15 @@ module _ {V : Type 0} (a : Alone) (held : Contents) (k : ServerState V) (client 
   finish_none commit r h = ends_none client a.holder.cells k.locks.held (a.locked t) t (map.get k.lives t) (a.holder.lives t) (a.fates t) (is_dead client t k.dead) commit (alone a).desk r (h.lives t) (h.quiet.paired t)
 
 -- the client's own is live
-pub own_live : (client : ℕ) (o : Option Live) (b : Bool) → standing_of client o b ≡ standing.Own → IsOf client o
-own_live client None true e = cc
-own_live client None false e = cc
-own_live client (Some l) b e = go (l.client == client) refl e
-  where
-    go : (x : Bool) → (l.client == client) ≡ x → cond {A = Standing} x standing.Own standing.Unknown ≡ standing.Own → l.client ≡ client
-    go true f e = eqb-true l.client client f
-    go false f e = cc
-
 pub own_standing : (client : ℕ) (o : Option Live) (b : Bool) → IsOf client o → standing_of client o b ≡ standing.Own
 own_standing client None b own = absurd own
 own_standing client (Some l) b own = ap (λ (x : Bool). cond {A = Standing} x standing.Own standing.Unknown) (eq-eqb l.client client own)
 
--- one that timed out is not
-pub dead_gone : (client : ℕ) (o : Option Live) (b : Bool) → standing_of client o b ≡ standing.Dead → (o ≡ None) × (b ≡ true)
-dead_gone client None true e = (refl, refl)
-dead_gone client None false e = cc
-dead_gone client (Some l) b e = go (l.client == client) e
+pub standing_own : (client : ℕ) (o : Option Live) (b : Bool) → standing_of client o b ≡ standing.Own → IsOf client o
+standing_own client None true e = cc
+standing_own client None false e = cc
+standing_own client (Some l) b e = go (l.client == client) refl e
   where
-    go : (x : Bool) → cond {A = Standing} x standing.Own standing.Unknown ≡ standing.Dead → (Some l ≡ None) × (b ≡ true)
-    go true e = cc
-    go false e = cc
+    go : (x : Bool) → (l.client == client) ≡ x → cond {A = Standing} x standing.Own standing.Unknown ≡ standing.Own → l.client ≡ client
+    go true is e = eqb-true l.client client is
+    go false is e = cc

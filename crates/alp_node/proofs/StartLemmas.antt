@@ -20,7 +20,8 @@ use Rattle.alp_files.specs.declared.cell.Cell.{Cell}
 use Rattle.alp_files.specs.declared.cell.Cell.TheVariants as cell
 use Rattle.alp_files.specs.Locks.{page_limit}
 use Rattle.alp_files.specs.Cells.{Cells}
-use Rattle.alp_files.specs.Edits.{ChangesBy, edits_map}
+use Rattle.alp_files.specs.Edits.{edits_map}
+use Rattle.alp_files.specs.Needs.{no_intents}
 use Rattle.alp_files.specs.Changes.{edits_of}
 use Rattle.alp_calls.proofs.PartLaws.{same_change}
 use Rattle.alp_trans.specs.Parts.{change_of}
@@ -114,8 +115,8 @@ start_cause server servers held before a value r are there is =
     go (Some k) e = ends k e (k.epoch == 4294967295) refl
 
 -- no intents change nothing
-pub no_change : (m : Cells) (p : Part) → p.intents ≡ map.empty → edits_map (edits_of (change_of p.intents)) m ≡ m
-no_change m p none = same_change m p [] refl (subst (ChangesBy [] map.empty) (sym none) (λ v. refl))
+pub no_change : (m : Cells) (p : Part) → p.intents ≡ no_intents → edits_map (edits_of (change_of p.intents)) m ≡ m
+no_change m p none = same_change m p [] none
 
 -- ---- what a server keeps when it starts
 
@@ -240,6 +241,7 @@ new_ready old server sizes c serves up within later area sound = record {
   known = λ t l is. (let wrong : None ≡ Some l = sym (none_live t) ∙ is in cc);
   begun = λ t l is. (let wrong : None ≡ Some l = sym (none_live t) ∙ is in cc);
   opens = λ t l is. (let wrong : None ≡ Some l = sym (none_live t) ∙ is in cc);
+  opened = λ t l is. (let wrong : None ≡ Some l = sym (none_live t) ∙ is in cc);
   places = refl;
   calls = λ client w is. (let wrong : None ≡ Some w = sym (no_session client) ∙ is in cc);
   replies = λ client w is. (let wrong : None ≡ Some w = sym (no_session client) ∙ is in cc);
@@ -286,7 +288,7 @@ module _ {V : Type 0} (G : Ghosts V) (old : V) (only : Only (G.held old) (G.may_
   kept_leaves = record { crash = λ c here. inl (only c here); time = record { each = λ start c was. inl was } }
 
   -- and one that was written once
-  pub raised_leaves : (new : V) (p : Part) (k : ClockNote) → p.intents ≡ map.empty → raised (G.held old) ≡ Ok k → Leaves G old new (Besides G old (IsWritten p.intents k (G.held old)))
+  pub raised_leaves : (new : V) (p : Part) (k : ClockNote) → p.intents ≡ no_intents → raised (G.held old) ≡ Ok k → Leaves G old new (Besides G old (IsWritten p.intents k (G.held old)))
       → Leaves G old new (IsKeptOrRaised (G.held old))
   raised_leaves new p k none is h = record {
     crash = λ c here. seen c (h.crash c here);

@@ -128,4 +128,4 @@ module _ {V : Type 0} (G : Ghosts V) (k new : ServerState V) where
       (λ told a h. subst (λ (v : V). Stepped a (G.faults k.vault) (G.faults v) (G.held v) new (event.Timeout t) x) (sym vault) (steps a h))
       (calm_given k.server (G.faults k.vault) (G.faults new.vault) (G.allowance new.vault) new.is_down None None acts x so refl refl refl (ap G.faults vault) up (up ∙ sym none) (causes (G.faults k.vault) (G.faults new.vault) (G.allowance new.vault)))
       (λ n h. subst (λ (v : V). IsReady (n + 1) (G.serves v) new) (sym vault) (ready n h))
-      (λ on. subst (λ (y : Answer). HasTurned None k new (event.Timeout t) y.kept) (sym so) (record { later = omega (arith, clock); times = tt; sessions = sessions }))
+      (λ on. subst (λ (y : Answer). HasTurned None k new (event.Timeout t) y.kept) (sym so) (record { later = omega (arith, clock); times = tt; sessions = sessions; pages = tt }))

@@ -8,7 +8,7 @@ use Rattle.alp_base.specs.Notes.{Notes, noted, notes_after}
 use Rattle.alp_fields.specs.ClockNote.{clock_name, clock_form, clock_in, clock_kept, IsClockNote, IsClockAtMost}
 use Rattle.alp_fields.specs.declared.clock_note.ClockNote.{ClockNote}
 use Rattle.alp_files.specs.declared.change.Change.{Change}
-use Rattle.alp_files.specs.Cells.{Cells}
+use Rattle.alp_files.specs.Needs.{Intents}
 use Rattle.alp_files.proofs.UndoLemmas.{on_ok}
 use Rattle.alp_trans.specs.Parts.{change_of}
 use Rattle.alp_vault.specs.Contents.{Contents, made}
@@ -54,25 +54,10 @@ stored_format G r old new n changes one is same are made =
     (subst (λ (x : ℕ). AreServerNotes (G.server old) x (G.held new).notes) (sym same.of_all)
     (subst (AreServerNotes (G.server old) (G.servers old)) (sym e) (note_changes n changes one (G.server old) (G.servers old) (G.held old).notes are is).after)))
 
--- ---- how it ends, and what a crash leaves
+-- ---- how it ends
 
 -- the count of faults never falls
 pub ends_later : {V : Type 0} (G : Ghosts V) (old new : V) (f : StoreFault) → Ends {T = Unit {0}} G old new (Err f) → G.faults old ≤ G.faults new
 ends_later G old new store_fault.OutOfMemory h = omega (arith, h.1.faults)
 ends_later G old new store_fault.Failed h = h.2
 ends_later G old new store_fault.Stopped h = h.2
-
--- one write
-pub leaves_written : {V : Type 0} (G : Ghosts V) (old new : V) (P : Contents → Type 0) (then : Contents) → P then → Leaves G old new (Either (G.held old) then) → Leaves G old new (Besides G old P)
-leaves_written G old new P then has h = record {
-  crash = λ c here. seen c (h.crash c here);
-  time = record { each = λ start c was. ⊎_elim (λ before. inl before) (λ now. inr (seen c now)) (h.time.each start c was) };
-}
-  where
-    seen : (c : Contents) → Either (G.held old) then c → Besides G old P c
-    seen c (inl is) = inr (inl is)
-    seen c (inr is) = inr (inr (subst P (sym is) has))
-
-pub written_so : (puts : Cells) (clock : ClockNote) (old : Contents) (c : Change) (n : NoteChange) (changes : List NoteChange) → c ≡ change_of puts → changes ≡ n ∷ [] → n ≡ record { name = clock_name; value = Some (clock_form.spell clock) }
-    → IsWritten puts clock old (made c changes old)
-written_so puts clock old c n changes same one is = subst (λ (x : Change). IsWritten puts clock old (made x changes old)) (sym same) (record { cells = refl; notes = clock_put n changes one old.notes clock is })

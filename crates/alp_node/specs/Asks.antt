@@ -1,13 +1,24 @@
 -- What a call asks of the lock table. The pages and the leader of a file are given by the file's lock, which the open has.
-use Rattle.std.specs.Prelude.{List, [], ◌∷◌, Bool, true, false, nat_lt, nat_le, ◌&&◌, ◌||◌, ◌==◌, ◌+◌, if◌then◌else◌, ℕ, length}
+use Rattle.std.specs.Prelude.{◌≡◌, List, [], ◌∷◌, ◌++◌, Bool, true, false, nat_lt, nat_le, ◌&&◌, ◌||◌, ◌==◌, ◌+◌, if◌then◌else◌, ℕ, length, IsTrue, Option, None, Some, IfSome, Result, Ok, Err}
+use Rattle.std.specs.List.{AllByRecursion}
 use Rattle.alp_base.specs.declared.ids.FileId.{FileId}
 use Rattle.alp_base.specs.declared.ids.TransId.{TransId}
+use Rattle.alp_base.specs.declared.choices.Access.TheVariants.{Change}
 use Rattle.alp_base.specs.declared.key.Key.TheVariants.{OwnerOf}
+use Rattle.alp_base.specs.declared.key.Resource.{Resource}
 use Rattle.alp_base.specs.declared.key.Resource.TheVariants.{Whole, Leaf}
-use Rattle.alp_modes.specs.declared.Mode.TheVariants.{Write}
+use Rattle.alp_modes.specs.declared.Mode.{Mode}
+use Rattle.alp_modes.specs.declared.Mode.TheVariants.{Read, Write}
+use Rattle.alp_files.specs.Act.{Own, open_at}
+use Rattle.alp_files.specs.Cells.{Cells, View}
 use Rattle.alp_files.specs.Locks.{Need}
 use Rattle.alp_files.specs.declared.call.Call.{Call}
 use Rattle.alp_files.specs.declared.call.Call.TheVariants as call
+use Rattle.alp_files.specs.declared.call.PropChange.{PropChange}
+use Rattle.alp_files.specs.declared.call.PropChange.TheVariants as prop
+use Rattle.alp_files.specs.declared.cell.Props.{Props}
+use Rattle.alp_files.specs.declared.open.Open.{Open}
+use Rattle.alp_files.specs.declared.refusal.Refusal.{Refusal}
 use Rattle.alp_files.specs.declared.reply.Reply.{Reply}
 use Rattle.alp_files.specs.declared.reply.Reply.TheVariants as reply
 use Rattle.alp_journal.specs.declared.act.Act.{Act}
@@ -15,18 +26,95 @@ use Rattle.alp_journal.specs.declared.act.Act.TheVariants as act
 use Rattle.alp_queue.specs.declared.waiter.Waiter.{Waiter}
 use Rattle.alp_locks.specs.Tables.{Table, held_of}
 use Rattle.alp_locks.specs.Asks.{waiter_of, with_granted}
+use Rattle.alp_calls.specs.Finds.{found_on}
+use Rattle.alp_calls.specs.Parts.{seen}
+use Rattle.alp_calls.specs.declared.finding.OpenedFile.{OpenedFile}
+use Rattle.alp_trans.specs.Parts.{own_of}
+use Rattle.alp_trans.specs.declared.part.Part.{Part}
 
--- whoever performs the call keeps these, whatever the reply
-abbrev pub asks_of : Call → List Need
-asks_of (call.CreateFile t start choice) = (Leaf (OwnerOf start.owner), Write) ∷ []
-asks_of (call.OpenFile t file access mode choice) = (Whole file, mode) ∷ []
-asks_of (call.MakeOwner t owner quota create choice) = (Leaf (OwnerOf owner), Write) ∷ []
-asks_of _ = []
+-- ---- what is asked
+
+abbrev pub owner_asks : List ℕ → Mode → List Need
+owner_asks name m = (Leaf (OwnerOf name), m) ∷ []
+
+-- a smaller size cuts pages off, and so locks the file; the owner is charged where the size differs
+abbrev pub size_asks : ℕ → Open → Props → List Need
+size_asks size o p =
+    if size == p.size then [] else if nat_lt size p.size then (Whole o.file, Write) ∷ owner_asks p.owner Write else owner_asks p.owner Write
+
+-- a charge goes from one owner to the other
+abbrev pub change_asks : PropChange → Open → Props → List Need
+change_asks (prop.Owner n) o p = (Leaf (OwnerOf p.owner), Write) ∷ owner_asks n Write
+change_asks _ o p = []
+
+-- of a call on an open for change, whose file is there
+abbrev pub changing_asks : Call → Open → Props → List Need
+changing_asks (call.DeleteFile t n choice) o p = (Whole o.file, Write) ∷ owner_asks p.owner Write
+changing_asks (call.SetSize t n size choice) o p = size_asks size o p
+changing_asks (call.WriteProps t n change choice) o p = change_asks change o p
+changing_asks _ o p = []
+
+abbrev pub on_opened : Option OpenedFile → (Open → Props → List Need) → List Need
+on_opened None next = []
+on_opened (Some x) next = next x.opened x.props
+
+-- what is asked where such an open of the call is found; whoever performs the call keeps it, whatever the reply
+abbrev pub asks_on : Option OpenedFile → Call → List Need
+asks_on x (call.CreateFile t start choice) = owner_asks start.owner Write
+asks_on x (call.OpenFile t file access mode choice) = (Whole file, mode) ∷ []
+asks_on x (call.ReadOwner t name choice) = owner_asks name Read
+asks_on x (call.MakeOwner t name quota create choice) = owner_asks name Write
+asks_on x (call.SetQuota t name quota choice) = owner_asks name Write
+asks_on x c = on_opened x (changing_asks c)
+
+-- the open that is looked for before that is known
+abbrev pub looks_at : Call → Option ℕ
+looks_at (call.DeleteFile t n choice) = Some n
+looks_at (call.SetSize t n size choice) = Some n
+looks_at (call.WriteProps t n (prop.Owner name) choice) = Some n
+looks_at _ = None
+
+abbrev pub if_found : Result OpenedFile Refusal → Option OpenedFile
+if_found (Ok x) = Some x
+if_found (Err f) = None
+
+abbrev pub found_in : View → List Open → Option ℕ → Option OpenedFile
+found_in m opens None = None
+found_in m opens (Some n) = if_found (found_on Change m (open_at opens n))
+
+-- what a part that sees this asks
+abbrev pub asks_of : View → Own → Call → List Need
+asks_of m own c = asks_on (found_in m own.opens (looks_at c)) c
+
+-- it is an open of these
+abbrev pub IsOneOf : List Open → OpenedFile → Type 0
+IsOneOf opens x = (n : ℕ) × (open_at opens n ≡ Some x.opened)
+
+-- These are asked for the call of a part. Whatever the vault tells, a file among them is one that the call names, or one that
+-- the part has open.
+pub record IsAsked (tells : Bool) (cells : Cells) (p : Part) (c : Call) (ns : List Need) : Type 0 where
+  pub found : Option OpenedFile
+  pub stands : IfSome found (IsOneOf p.opens.items)
+  pub is : ns ≡ asks_on found c
+  pub told : IsTrue tells → ns ≡ asks_of (seen cells p) (own_of p) c
 
 -- and the lock on a file with this id, where it is made
-abbrev pub asks_made : FileId → Call → List Need
-asks_made id (call.CreateFile t start choice) = (Leaf (OwnerOf start.owner), Write) ∷ (Whole id, Write) ∷ []
-asks_made id c = asks_of c
+abbrev pub asks_made : FileId → List Need → List Need
+asks_made id ns = ns ++ (Whole id, Write) ∷ []
+
+abbrev pub makes_file : Call → Bool
+makes_file (call.CreateFile t start choice) = true
+makes_file _ = false
+
+abbrev pub is_made : Reply → Bool
+is_made (reply.Created f n) = true
+is_made _ = false
+
+-- what is kept after a reply
+abbrev pub asks_given : FileId → Call → List Need → Reply → List Need
+asks_given id c ns r = if is_made r && makes_file c then asks_made id ns else ns
+
+-- ---- files that were given
 
 -- an id that a file was given here, in an older epoch or up to this count
 abbrev pub is_given : ℕ → ℕ → ℕ → FileId → Bool
@@ -37,19 +125,23 @@ abbrev pub is_of_given : ℕ → ℕ → ℕ → Call → Bool
 is_of_given server epoch count (call.OpenFile t file access mode choice) = is_given server epoch count file
 is_of_given server epoch count c = true
 
--- what is kept after a reply
-abbrev pub asks_given : FileId → Call → Reply → List Need
-asks_given id c (reply.Created f n) = asks_made id c
-asks_given id c _ = asks_of c
+-- a file that is asked for is one of them
+abbrev pub IsGivenOn : ℕ → ℕ → ℕ → Resource → Type 0
+IsGivenOn server epoch count (Whole f) = is_given server epoch count f ≡ true
+IsGivenOn server epoch count (Leaf k) = Unit {0}
 
--- a file was made
-abbrev pub is_made : Reply → Bool
-is_made (reply.Created f n) = true
-is_made _ = false
+abbrev pub AreGiven : ℕ → ℕ → ℕ → List Need → Type 0
+AreGiven server epoch count ns = AllByRecursion (λ n. IsGivenOn server epoch count n.0) ns
 
--- of two plans the second where a file was made, and the count with it
-abbrev pub plan_for : Bool → Waiter → Waiter → Waiter
-plan_for has_made asked made = if has_made then made else asked
+-- ---- what is granted
+
+abbrev pub plan_if : Bool → Waiter → Option Waiter
+plan_if b made = if b then Some made else None
+
+-- of two plans the second where there is one and a file was made, and the count with it
+abbrev pub plan_for : Bool → Waiter → Option Waiter → Waiter
+plan_for true asked (Some made) = made
+plan_for has_made asked made = asked
 
 abbrev pub count_made : ℕ → Bool → ℕ
 count_made count has_made = if has_made then count + 1 else count

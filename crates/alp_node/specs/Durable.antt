@@ -5,7 +5,7 @@ use Rattle.alp_base.specs.Crashes.{Only, NoMore, Either, Adds}
 use Rattle.alp_base.specs.Notes.{Notes}
 use Rattle.alp_fields.specs.ClockNote.{clock_name, clock_form}
 use Rattle.alp_fields.specs.declared.clock_note.ClockNote.{ClockNote}
-use Rattle.alp_files.specs.Cells.{Cells}
+use Rattle.alp_files.specs.Needs.{Intents}
 use Rattle.alp_files.specs.Changes.{edits_of}
 use Rattle.alp_files.specs.Edits.{edits_map}
 use Rattle.alp_trans.specs.Parts.{change_of}
@@ -82,6 +82,6 @@ abbrev pub Besides : {V : Type 0} → Ghosts V → V → (Contents → Type 0) �
 Besides G v P c = G.may_leave v c ⊎ (c ≡ G.held v) ⊎ P c
 
 -- what was held, with these intents and this clock
-pub record IsWritten (intents : Cells) (clock : ClockNote) (before c : Contents) : Type 0 where
+pub record IsWritten (intents : Intents) (clock : ClockNote) (before c : Contents) : Type 0 where
   pub cells : c.cells ≡ edits_map (edits_of (change_of intents)) before.cells
   pub notes : c.notes ≡ map.insert before.notes clock_name (clock_form.spell clock)

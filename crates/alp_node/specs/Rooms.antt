@@ -1,16 +1,16 @@
 -- What is left for a part beside what all live parts come to.
-use Rattle.std.specs.Prelude.{◌≡◌, ℕ, ◌+◌, ◌-◌, ◌^◌, ◌≤◌, min, Bool, IsTrue, Result, Ok, Err}
+use Rattle.std.specs.Prelude.{◌≡◌, ℕ, ◌+◌, ◌-◌, ◌^◌, ◌≤◌, min, Bool, IsTrue, Result, Ok, Err, if◌then◌else◌}
 use Rattle.alp_base.specs.declared.faults.Sizes.{Sizes}
 use Rattle.alp_calls.specs.Parts.{IsPart}
 use Rattle.alp_calls.specs.declared.fault.CallFault.{CallFault}
 use Rattle.alp_calls.specs.declared.limits.Room.{Room}
 use Rattle.alp_files.specs.Cells.{Cells}
 use Rattle.alp_files.specs.Counts.{used_of, file_count_of, owner_count_of}
-use Rattle.alp_files.specs.declared.reply.Reply.{Reply}
-use Rattle.alp_files.specs.declared.reply.Reply.TheVariants as reply
 use Rattle.alp_journal.specs.Counts.{log_need}
 use Rattle.alp_vault.specs.declared.limits.TheConstants.{HEAD_PAGES}
+use Rattle.alp_node.specs.Asks.{is_made}
 use Rattle.alp_node.specs.Totals.{totals_of}
+use Rattle.alp_node.specs.declared.answer.Given.{Given}
 use Rattle.alp_node.specs.declared.lives.Live.{Live}
 use Rattle.alp_node.specs.declared.lock_counts.LockCounts.{LockCounts}
 use Rattle.alp_node.specs.declared.server_state.ServerState.{ServerState}
@@ -33,11 +33,7 @@ pub record IsWithin (s : Sizes) (l : Live) : Type 0 where
   pub locks : l.locks ≤ 1024
   pub log : log_need l.part.counts.cells l.locks ≤ s.area
 
--- how many resources it has locked behind a call: a call that reads asks for none
-abbrev pub locks_given : ℕ → LockCounts → Result Reply CallFault → ℕ
-locks_given locks n (Ok (reply.Created f number)) = n.made
-locks_given locks n (Ok (reply.Pages pages)) = locks
-locks_given locks n (Ok (reply.Props p)) = locks
-locks_given locks n (Ok (reply.Owner o)) = locks
-locks_given locks n (Ok r) = n.asked
+-- how many resources it has locked behind a call that was answered so; without an answer it has as many as before
+abbrev pub locks_given : ℕ → LockCounts → Result Given CallFault → ℕ
+locks_given locks n (Ok x) = if is_made x.reply then n.made else n.asked
 locks_given locks n (Err e) = locks

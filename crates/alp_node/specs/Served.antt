@@ -1,5 +1,5 @@
 -- The events that a server answers so far.
-use Rattle.std.specs.Prelude.{◌≡◌, ◌^◌, ◌≤◌, Bool, true, false, Some}
+use Rattle.std.specs.Prelude.{◌≡◌, ◌^◌, ◌≤◌, Some}
 use Rattle.std.specs.FinMap as map
 use Rattle.alp_base.specs.declared.ids.TransId.{TransId}
 use Rattle.alp_files.specs.Changes.{edits_of}
@@ -27,8 +27,7 @@ IsAskable (call.Hello name) = Unit {0}
 IsAskable (call.Begin seen) = seen.ts ≤ 2 ^ 62
 -- a commit or an abort, of whatever transaction: nothing is left out
 IsAskable (call.Finish t commit) = Unit {0}
--- A file call of the grammar of frames, which stays, and one of those that `IsServedCall` names. Left out are the calls that
--- close, delete or resize a file, and those on properties and on owners that stand ("every call of a client"); an open in
+-- A file call of the grammar of frames, which stays, and one of those that `IsServedCall` names. Left out are an open in
 -- another mode than its access has, a read in another mode than Read, and calls that lock pages, collect or may wait ("six
 -- modes, runs and waits"); the question how a transaction ended, and a join where there is one server ("restart"); and all
 -- other joins ("several servers").
@@ -51,12 +50,6 @@ IsServed (event.Timeout t) = Unit {0}
 -- left out are the events Tick and Force ("restart"), and the message of another server ("several servers"); a restart is no
 -- event of a server that is up, and stays out
 IsServed e = ⊥
-
--- a call on an open, whose file is locked already
-abbrev pub is_on_open : Call → Bool
-is_on_open (call.ReadPages t n r mode choice) = true
-is_on_open (call.WritePages t n r pages choice) = true
-is_on_open c = false
 
 -- what each live part intends leaves well-formed files
 abbrev pub AreLivesSound : {V : Type 0} → Contents → ServerState V → Type 0

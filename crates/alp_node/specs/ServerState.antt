@@ -7,7 +7,7 @@
 -- the counts: each live part has its own, and beside the cells there is room for what all of them come to;
 -- the ids: the counts of transactions and of files.
 use Rattle.std.specs.Prelude.{◌≡◌, ℕ, zero, suc, ◌+◌, ◌^◌, ◌<◌, ◌≤◌, ◌==◌, ◌&&◌, not, nat_lt, nat_le, Bool, true, false, IsTrue, List, [], ◌∷◌, ◌++◌, length, Option, None, Some, is_some}
-use Rattle.std.specs.List.{AllByRecursion}
+use Rattle.std.specs.List.{AllByRecursion, list_all}
 use Rattle.std.specs.FinMap as map
 use Rattle.alp_base.specs.declared.ids.FileId.{FileId}
 use Rattle.alp_base.specs.declared.ids.TransId.{TransId}
@@ -22,7 +22,8 @@ use Rattle.alp_files.specs.Holdings.{Holding, covers_held}
 use Rattle.alp_files.specs.Cells.{Cells}
 use Rattle.alp_files.specs.declared.open.Open.{Open}
 use Rattle.alp_files.specs.Born.{IsUnborn}
-use Rattle.alp_files.specs.Edits.{Edit, edits_at, ChangesBy}
+use Rattle.alp_files.specs.Edits.{Edit, edits_at}
+use Rattle.alp_files.specs.Needs.{intents_of}
 use Rattle.alp_locks.specs.Tables.{Holders, holding}
 use Rattle.alp_locks.specs.Sound.{IsSound}
 use Rattle.alp_vault.specs.Contents.{Contents}
@@ -32,6 +33,7 @@ use Rattle.alp_journal.specs.Coordinator.{Undrawn}
 use Rattle.alp_journal.specs.Holder.{Life}
 use Rattle.alp_journal.specs.Desk.{Session}
 use Rattle.alp_journal.specs.Alone.{Alone, IsQuiet, AreEarlier}
+use Rattle.alp_node.specs.Asks.{is_given}
 use Rattle.alp_node.specs.Covers.{AreCovered, AreHeld}
 use Rattle.alp_node.specs.Dead.{dead_in}
 use Rattle.alp_node.specs.Durable.{clock_notes}
@@ -52,13 +54,13 @@ mode_for Change = Write
 abbrev pub IsLocked : Holding → Open → Type 0
 IsLocked held o = IsTrue (covers_held (held (Whole o.file)) (mode_for o.access))
 
--- A live part is kept as the journal tells it: its intents make of all that may lie below them what its edits make of
--- it, the table has its locks, of which there are as many as it counts, each of its opens has its file locked, and so has what
--- it puts. Its counts are those of its edits over the cells.
+-- A live part is kept as the journal tells it: its intents are what its edits come to, the table has its locks, of which there
+-- are as many as it counts, each of its opens has its file locked, and so has what it changes. Its counts are those of its edits
+-- over the cells.
 pub record IsLife (cells : Cells) (locks : Holders) (locked : List Resource) (t : TransId) (l : Live) (life : Life) : Type 0 where
   pub client : life.client ≡ l.client
   pub who : life.who ≡ l.who
-  pub intents : ChangesBy life.edits map.empty l.part.intents
+  pub intents : l.part.intents ≡ intents_of life.edits
   pub own : own_of l.part ≡ life.own
   pub held : (r : Resource) → life.held r ≡ holding locks t r
   pub opens : AllByRecursion (IsLocked life.held) life.own.opens
@@ -123,8 +125,8 @@ pub record IsAs {V : Type 0} (a : Alone) (held : Contents) (k : ServerState V) :
   pub down : a.is_down ≡ k.is_down
 
 -- Whatever its vault tells: its vault serves just while it is up, the table's locks agree, nobody waits, it knows each live
--- transaction, each live part is within its limits, as many as there may be, nobody holds a lock on a file that was not made yet,
--- each session keeps what it may, and no count went further than so many steps.
+-- transaction, each live part is within its limits, as many as there may be, nobody has a file open or holds a lock on one that
+-- was not made yet, each session keeps what it may, and no count went further than so many steps.
 pub record IsReady {V : Type 0} (steps : ℕ) (serves : Bool) (k : ServerState V) : Type 0 where
   pub serving : k.is_down ≡ false → IsTrue serves
   pub halted : k.is_down ≡ true → serves ≡ false
@@ -133,6 +135,7 @@ pub record IsReady {V : Type 0} (steps : ℕ) (serves : Bool) (k : ServerState V
   pub known : (t : TransId) (l : Live) → map.get k.lives t ≡ Some l → is_some (map.get k.locks.held t) ≡ true
   pub begun : (t : TransId) (l : Live) → map.get k.lives t ≡ Some l → t.counter ≤ k.drawn
   pub opens : (t : TransId) (l : Live) → map.get k.lives t ≡ Some l → l.part.last ≤ steps
+  pub opened : (t : TransId) (l : Live) → map.get k.lives t ≡ Some l → list_all (λ o. is_given k.server k.epoch k.given o.file) l.part.opens.items ≡ true
   pub places : length k.sessions.places ≡ 17
   pub calls : (client : ℕ) (w : Session) → session_at k.sessions client ≡ Some w → w.last ≤ steps
   pub replies : (client : ℕ) (w : Session) → session_at k.sessions client ≡ Some w → IsKeepable k.clock w.reply

@@ -3,7 +3,7 @@ use Rattle.std.specs.Prelude.{ℕ, ◌+◌, not, nat_lt, nat_le, List, [], ◌�
 use Rattle.std.specs.Option.{option_or}
 use Rattle.alp_base.specs.declared.ids.Run.{Run}
 use Rattle.alp_files.specs.Holdings.{Holding}
-use Rattle.alp_files.specs.Locks.{Need}
+use Rattle.alp_files.specs.Locks.{Need, joined}
 use Rattle.alp_files.specs.declared.call.Call.{Call}
 use Rattle.alp_files.specs.declared.call.Call.TheVariants as call
 use Rattle.alp_files.specs.declared.refusal.Refusal.{Refusal}
@@ -11,7 +11,7 @@ use Rattle.alp_files.specs.declared.refusal.Refusal.TheVariants as refusal
 use Rattle.alp_files.specs.declared.refusal.What.TheVariants as what
 use Rattle.alp_journal.specs.Counts.{log_need}
 use Rattle.alp_journal.specs.Answers.{if_over, more_locks}
-use Rattle.alp_node.specs.Asks.{is_given, asks_of}
+use Rattle.alp_node.specs.Asks.{is_given}
 use Rattle.alp_node.specs.declared.lock_counts.LockCounts.{LockCounts}
 
 -- one open more than stand would be too many
@@ -21,25 +21,30 @@ no_open opens = if_over (nat_le 64 opens) (refusal.TooMany what.Opens 64)
 abbrev pub no_run : Run → Option Refusal
 no_run r = if_over (nat_lt 16 r.count) (refusal.TooMany what.Run 16)
 
+-- more pages than a file may have
+abbrev pub no_size : ℕ → Option Refusal
+no_size size = if_over (nat_lt 4096 size) (refusal.TooMany what.Pages 4096)
+
 -- where the server and its epoch gave ids to so many files, and the part has so many opens; what is wrong with an open that a
--- call names is seen as the call is performed
+-- call names is seen as the call is performed, and then it asks for no lock
 abbrev pub shape_of : (server epoch given opens : ℕ) → Call → Option Refusal
-shape_of server epoch given opens (call.CreateFile t start choice) = option_or (if_over (nat_lt 4096 start.size) (refusal.TooMany what.Pages 4096)) (no_open opens)
+shape_of server epoch given opens (call.CreateFile t start choice) = option_or (no_size start.size) (no_open opens)
 shape_of server epoch given opens (call.OpenFile t f access mode choice) = option_or (if_over (not (is_given server epoch given f)) refusal.UnknownFile) (no_open opens)
 shape_of server epoch given opens (call.ReadPages t n r mode choice) = no_run r
 shape_of server epoch given opens (call.WritePages t n r pages choice) = no_run r
+shape_of server epoch given opens (call.SetSize t n size choice) = no_size size
 shape_of server epoch given opens c = None
 
 -- ---- locks
 
--- of the resources that are asked for those that are not held yet
+-- of the resources that are asked for those that are not held yet, each once
 abbrev pub fresh_on : Holding → List Need → ℕ
 fresh_on held [] = 0
-fresh_on held (n ∷ ns) = (if is_some (held n.0) then 0 else 1) + fresh_on held ns
+fresh_on held (n ∷ ns) = (if is_some (held n.0) then 0 else 1) + fresh_on (joined held (n ∷ [])) ns
 
--- how many a part has locked behind a call, where it makes no file and where it makes one
-abbrev pub counts_then : ℕ → Holding → Call → LockCounts
-counts_then locks held c = record { asked = locks + fresh_on held (asks_of c); made = locks + fresh_on held (asks_of c) + more_locks c }
+-- how many a part has locked behind a call that asks these, where it makes no file and where it makes one
+abbrev pub counts_then : ℕ → Holding → List Need → Call → LockCounts
+counts_then locks held ns c = record { asked = locks + fresh_on held ns; made = locks + fresh_on held ns + more_locks c }
 
 -- a part that changes so many cells may have so many locked
 abbrev pub too_locked : (area cells locks : ℕ) → Option Refusal

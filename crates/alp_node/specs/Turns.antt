@@ -1,11 +1,12 @@
 -- How sessions and the clock go on in a step, whatever the vault tells.
-use Rattle.std.specs.Prelude.{◌≡◌, ℕ, ◌≤◌, Bool, true, false, Option, None, Some, IfSome}
+use Rattle.std.specs.Prelude.{◌≡◌, ℕ, ◌≤◌, Bool, true, false, Option, None, Some, IfSome, length}
 use Rattle.alp_files.specs.declared.call.Call.{Call}
 use Rattle.alp_files.specs.declared.call.Call.TheVariants as call
 use Rattle.alp_files.specs.declared.refusal.Refusal.TheVariants as refusal
 use Rattle.alp_files.specs.declared.reply.Ended.TheVariants as ended
 use Rattle.alp_files.specs.declared.reply.Reply.{Reply}
 use Rattle.alp_files.specs.declared.reply.Reply.TheVariants as reply
+use Rattle.alp_files.specs.Reading.{asked_pages, TellsPages}
 use Rattle.alp_journal.specs.declared.event.Event.{Event}
 use Rattle.alp_journal.specs.declared.event.Event.TheVariants as event
 use Rattle.alp_journal.specs.Desk.{Session}
@@ -60,9 +61,20 @@ AreTurned None old new e r = new.sessions ≡ old.sessions
 AreTurned (Some o) old new (event.Call client epoch number c) r = HasCounted o old new client number c r
 AreTurned (Some o) old new e r = ⊥
 
+-- where it tells pages, so many were asked, and no more than a run may have
+abbrev pub TellsRun : Option ℕ → Reply → Type 0
+TellsRun asked (reply.Pages pages) = TellsPages asked (reply.Pages pages) × (length pages ≤ 16)
+TellsRun asked r = Unit {0}
+
+-- the next call of a session is told no pages but those that it asks for
+abbrev pub IsToldItsPages : Option CallOrder → Event → Option Reply → Type 0
+IsToldItsPages (Some order.Next) (event.Call client epoch number c) r = IfSome r (TellsRun (asked_pages c))
+IsToldItsPages o e r = Unit {0}
+
 -- The event, which is this among the calls of its client, was answered by a server that goes on: its clock does not fall back, and
--- is not behind what the reply tells.
+-- is not behind what the reply tells. The next call of a session is told its pages; a repeat is told what was kept.
 pub record HasTurned {V : Type 0} (o : Option CallOrder) (old new : ServerState V) (e : Event) (r : Option Reply) : Type 0 where
   pub later : old.clock ≤ new.clock
   pub times : IfSome r (TellsUpTo new.clock)
   pub sessions : AreTurned o old new e r
+  pub pages : IsToldItsPages o e r

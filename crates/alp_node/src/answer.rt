@@ -1,6 +1,8 @@
 //! What an event comes to.
 ghost use Rattle.std.specs.Prelude.{◌≡◌, None, Some, IfOk, OnErr, true};
 ghost use Rattle.alp_calls.specs.Parts.{has_contents};
+ghost use Rattle.alp_node.specs.Asks.{is_made as is_made_said};
+ghost use Rattle.alp_node.specs.Calls.{given_of};
 ghost use Rattle.alp_node.specs.Steps.{told_answer, refused_answer};
 
 use alp_base::OutOfMemory;
@@ -48,6 +50,31 @@ impl Answer {
             handed: Some(Reply::Refused(refusal)),
             acts,
         }
+    }
+}
+
+/// What a part gave for a call: the reply, which its session keeps, and the answer that tells it.
+#[derive(Drop)]
+pub struct Given {
+    pub reply: Reply,
+    pub answer: Answer,
+}
+
+impl Given {
+    /// It wants memory only to copy a reply that tells contents of files.
+    pub fn new(reply: Reply, acts: Acts) -> Result<Given, OutOfMemory>
+        ensures ok { IfOk result (λ x. x ≡ given_of reply acts) }
+        ensures err { OnErr result (has_contents reply ≡ true) }
+    {
+        let answer = Answer::new(&reply, acts)?;
+        Ok(Given { reply, answer })
+    }
+
+    /// Whether a file was made.
+    pub fn is_made(&self) -> bool
+        ensures { result ≡ is_made_said self.now.reply }
+    {
+        matches!(&self.reply, Reply::Created { .. })
     }
 }
 

@@ -198,9 +198,16 @@ fn trans_of(call: &Call) -> Option<TransId>
     match call {
         Call::CreateFile { trans, .. } => Some(*trans),
         Call::OpenFile { trans, .. } => Some(*trans),
+        Call::CloseFile { trans, .. } => Some(*trans),
+        Call::DeleteFile { trans, .. } => Some(*trans),
         Call::ReadPages { trans, .. } => Some(*trans),
         Call::WritePages { trans, .. } => Some(*trans),
+        Call::SetSize { trans, .. } => Some(*trans),
+        Call::ReadProps { trans, .. } => Some(*trans),
+        Call::WriteProps { trans, .. } => Some(*trans),
+        Call::ReadOwner { trans, .. } => Some(*trans),
         Call::MakeOwner { trans, .. } => Some(*trans),
+        Call::SetQuota { trans, .. } => Some(*trans),
         _ => None,
     }
 }

@@ -1,69 +1,30 @@
-//! File calls: under their locks, on what their part sees.
-ghost use Rattle.std.specs.Prelude.{◌≡◌, ◌≢◌, ◌+◌, ◌<◌, ◌^◌, IsTrue, Some, None, false, length};
+//! File calls: what they ask by what their part sees, and what their part gives.
+ghost use Rattle.std.specs.Prelude.{◌≡◌, ◌≢◌, ◌+◌, ◌<◌, ◌^◌, IsTrue, IfOk, IfSome, Some, None};
 ghost use Rattle.std.specs.FinMap as map;
 ghost use Rattle.alp_base.specs.declared.key.Key.TheVariants.{Leader};
+ghost use Rattle.alp_files.specs.Files.{AreFiles};
 ghost use Rattle.alp_calls.specs.Looks.{Looks, fault_in};
+ghost use Rattle.alp_calls.specs.Parts.{AllFit, CanPerform, IsPart, seen};
 ghost use Rattle.alp_node.specs.declared.lives.Live.{Live as ALive};
-ghost use Rattle.alp_files.specs.Locks.{IsFormed};
-ghost use Rattle.alp_journal.specs.declared.event.Event.TheVariants as event;
-ghost use Rattle.alp_journal.specs.Desk.{file_trans};
-ghost use Rattle.alp_node.specs.ServerState.{IsReadyForMore, IsOfJournal};
-ghost use Rattle.alp_node.specs.Steps.{IsStep, IsTurn, IsOf};
-ghost use Rattle.alp_calls.specs.Parts.{CanPerform, seen};
-ghost use Rattle.alp_node.specs.Calls.{next_file as next_file_of, Performed, IsPageCall};
-ghost use Rattle.alp_node.specs.Shapes.{shape_of};
+ghost use Rattle.alp_node.specs.Asks.{IsAsked, IsOneOf, found_in, looks_at as looked_at};
+ghost use Rattle.alp_node.specs.Calls.{next_file as next_file_of, IsAnswerTo, Performed};
 ghost use Rattle.alp_node.specs.Totals.{totals_of, AreFewTotals};
 
-use crate::answer::Answer;
+use crate::answer::Given;
+use crate::asks::{asks, looks_at};
 use crate::lives::Live;
 use crate::lock_counts::LockCounts;
 use crate::room::locks_given;
 use crate::server_state::ServerState;
-use crate::sessions::Turn;
-use alp_base::{FileId, OutOfMemory, TransId};
-use alp_calls::{CallFault, perform};
+use alp_base::{Access, FileId, TransId};
+use alp_calls::{CallFault, OpenedFile, opened_file, perform};
 use alp_files::{Call, Reply};
 use alp_journal::Acts;
+use alp_queue::Needs;
 use alp_trans::Part;
 use alp_vault::Vault;
 
 impl<V: Vault> ServerState<V> {
-    /// A call on an open, whose file is locked already.
-    pub fn page_call(
-        &mut self,
-        turn: &Turn,
-        trans: TransId,
-        call: &Call,
-    ) -> Result<Answer, OutOfMemory>
-        requires turn { IsTurn self.old.sessions turn.now }
-        requires own { IsOf turn.now.client (map.get self.old.lives trans) }
-        requires up { self.old.is_down ≡ false }
-        requires ready { IsReadyForMore (V.serves self.old.vault) self.old }
-        requires page { IsPageCall call.now }
-        requires named { file_trans call.now ≡ Some trans }
-        requires formed { IsFormed call.now }
-        requires known { IsTrue (V.tells self.old.vault) → IsOfJournal (V.held self.old.vault) self.old }
-        requires shape { (l : ALive) → map.get self.old.lives trans ≡ Some l → shape_of self.old.server self.old.epoch self.old.given (length l.part.opens.items) call.now ≡ None }
-        ensures { IsStep V.Vault self.old self.new (event.Call turn.now.client self.old.epoch turn.now.number call.now) result }
-    {
-        let halted = Vec::with_capacity(self.alloc, 1)?;
-        let Some(live) = self.lives.get(&trans) else {
-            unreachable!()
-        };
-        let locks = LockCounts {
-            asked: live.locks,
-            made: live.locks,
-        };
-        match self.perform(trans, call, locks) {
-            Ok(reply) => {
-                let answer = Answer::new(&reply, Acts::new(Vec::new(self.alloc)))?;
-                self.sessions.count(turn, reply);
-                Ok(answer)
-            }
-            Err(fault) => self.without_answer(turn, fault, halted),
-        }
-    }
-
     // The id that the next file gets.
     pub(super) fn next_file(&self) -> FileId
         requires { self.now.given + 1 < 2 ^ 32 }
@@ -76,20 +37,40 @@ impl<V: Vault> ServerState<V> {
         }
     }
 
-    // The live transaction performs the call on what it sees.
+    // What the call asks, by what the part of the live transaction sees.
+    pub(super) fn asks(&mut self, trans: TransId, call: &Call) -> Result<Needs, CallFault>
+        requires live { map.get self.old.lives trans ≢ None }
+        requires serving { IsTrue (V.serves self.old.vault) }
+        requires part { (l : ALive) → map.get self.old.lives trans ≡ Some l → IsPart l.part }
+        ensures asked { (l : ALive) → map.get self.old.lives trans ≡ Some l → IfOk result (IsAsked (V.tells self.old.vault) (V.held self.old.vault).cells l.part call.now) }
+        ensures kept { self.new ≡ record self.old { vault = self.new.vault } }
+        ensures looked { Looks V.Vault self.old.vault self.new.vault (fault_in result) }
+    {
+        let Some(live) = self.lives.get(&trans) else {
+            unreachable!()
+        };
+        let found = found_open(&mut self.vault, &live.part, call)?;
+        let needs = asks(self.alloc, &found, call)?;
+        Ok(needs)
+    }
+
+    // The live transaction performs the call on what it sees. Where it is answered, that came about, and it has as many resources
+    // locked as it asked for.
     pub(super) fn perform(
         &mut self,
         trans: TransId,
         call: &Call,
         locks: LockCounts,
-    ) -> Result<Reply, CallFault>
+        acts: Acts,
+    ) -> Result<Given, CallFault>
         requires live { map.get self.old.lives trans ≢ None }
         requires serving { IsTrue (V.serves self.old.vault) }
         requires room { self.old.given + 1 < 2 ^ 32 }
         requires ready { (l : ALive) → map.get self.old.lives trans ≡ Some l → CanPerform l.part call.now }
         requires few { AreFewTotals (totals_of self.old.lives) }
         requires new { IsTrue (V.tells self.old.vault) → (l : ALive) → map.get self.old.lives trans ≡ Some l → seen (V.held self.old.vault).cells l.part (Leader (next_file_of self.old)) ≡ None }
-        ensures performed { (l : ALive) → map.get self.old.lives trans ≡ Some l → Performed (V.tells self.old.vault) (V.held self.old.vault).cells self.old self.new trans l call.now locks result }
+        requires files { IsTrue (V.tells self.old.vault) → (l : ALive) → map.get self.old.lives trans ≡ Some l → AreFiles (seen (V.held self.old.vault).cells l.part) }
+        ensures performed { (l : ALive) → map.get self.old.lives trans ≡ Some l → Performed (V.tells self.old.vault) (V.held self.old.vault).cells self.old self.new trans l call.now locks acts result }
         ensures looked { Looks V.Vault self.old.vault self.new.vault (fault_in result) }
     {
         let id = self.next_file();
@@ -105,7 +86,7 @@ impl<V: Vault> ServerState<V> {
         };
         let mut live = self.lives.swap(trans, blank);
         let who = live.who;
-        let result = perform(
+        let given = perform(
             &mut live.part,
             self.alloc,
             &mut self.vault,
@@ -114,8 +95,39 @@ impl<V: Vault> ServerState<V> {
             call,
             room,
         );
+        let result = with_answer(given, acts);
         live.locks = locks_given(live.locks, locks, &result);
         let _ = self.lives.swap(trans, live);
         result
     }
+}
+
+// The open for change on which the locks of the call depend, if they do, with its file.
+fn found_open<V: Vault>(
+    vault: &mut V,
+    part: &Part,
+    call: &Call,
+) -> Result<Option<OpenedFile>, CallFault>
+    requires serving { IsTrue (V.serves vault.old) }
+    requires fit { AllFit part.now.intents.puts }
+    ensures stands { IfOk result (λ x. IfSome x (IsOneOf part.now.opens.items)) }
+    ensures found { IsTrue (V.tells vault.old) → IfOk result (λ x. x ≡ found_in (seen (V.held vault.old).cells part.now) part.now.opens.items (looked_at call.now)) }
+    ensures looked { Looks V.Vault vault.old vault.new (fault_in result) }
+{
+    let Some(open_no) = looks_at(call) else {
+        return Ok(None);
+    };
+    match opened_file(vault, part, open_no, Access::Change)? {
+        Ok(found) => Ok(Some(found)),
+        Err(_) => Ok(None),
+    }
+}
+
+// What was given, with its answer, unless memory is wanting to hand it out.
+fn with_answer(given: Result<Reply, CallFault>, acts: Acts) -> Result<Given, CallFault>
+    ensures { IsAnswerTo given acts result }
+{
+    let reply = given?;
+    let told = Given::new(reply, acts)?;
+    Ok(told)
 }

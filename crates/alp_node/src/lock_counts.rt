@@ -1,12 +1,17 @@
 //! How many resources a part has locked.
-ghost use Rattle.std.specs.Prelude.{◌≡◌, ◌≤◌, is_some, if◌then◌else◌};
+ghost use Rattle.std.specs.Prelude.{◌≡◌, ◌≤◌, length, is_some, not};
+ghost use Rattle.std.specs.List.{list_any};
+ghost use Rattle.std.specs.Ordering.{eq_by_cmp};
+ghost use Rattle.alp_base.specs.Orders.{resource_cmp};
+ghost use Rattle.alp_files.specs.Locks.{joined};
 ghost use Rattle.alp_locks.specs.Tables.{holding};
-ghost use Rattle.alp_node.specs.Asks.{asks_of};
 ghost use Rattle.alp_node.specs.Shapes.{fresh_on, counts_then, too_locked as too_locked_said};
 
 use crate::server_state::ServerState;
-use alp_base::{Key, Resource, TransId};
+use alp_base::{Resource, TransId};
 use alp_files::{Call, Refusal, What};
+use alp_modes::Mode;
+use alp_queue::Needs;
 use alp_vault::Vault;
 
 /// The most resources that a part has locked.
@@ -20,12 +25,13 @@ pub struct LockCounts {
 }
 
 impl<V: Vault> ServerState<V> {
-    /// How many the live transaction has locked behind the call, which has so many locked now.
-    pub fn lock_counts(&self, trans: TransId, locks: u32, call: &Call) -> LockCounts
-        requires { locks ≤ 1024 }
-        ensures { result ≡ counts_then locks (holding self.now.locks.held trans) call.now }
+    /// How many the live transaction has locked behind the call, which asks these and has so many locked now.
+    pub fn lock_counts(&self, trans: TransId, locks: u32, needs: &Needs, call: &Call) -> LockCounts
+        requires locks { locks ≤ 1024 }
+        requires few { length needs.now ≤ 2 }
+        ensures { result ≡ counts_then locks (holding self.now.locks.held trans) needs.now call.now }
     {
-        let asked = locks + self.fresh(trans, call);
+        let asked = locks + self.fresh(trans, needs.as_slice());
         let made = match call {
             Call::CreateFile { .. } => asked + 1,
             _ => asked,
@@ -33,32 +39,36 @@ impl<V: Vault> ServerState<V> {
         LockCounts { asked, made }
     }
 
-    // How many of the resources that the call asks for are not held yet.
-    fn fresh(&self, trans: TransId, call: &Call) -> u32
-        ensures count { result ≡ fresh_on (holding self.now.locks.held trans) (asks_of call.now) }
-        ensures few { result ≤ 1 }
+    // How many of the resources are not held yet, each once.
+    fn fresh(&self, trans: TransId, needs: &[(Resource, Mode)]) -> u32
+        requires { length needs.now ≤ 2 }
+        ensures count { result ≡ fresh_on (holding self.now.locks.held trans) needs.now }
+        ensures few { result ≤ 2 }
     {
-        match call {
-            Call::CreateFile { start, .. } => {
-                self.fresh_at(trans, &Resource::Leaf(Key::OwnerOf(start.owner)))
+        let mut count = 0;
+        for (i, need) in needs.iter().enumerate() {
+            if self.is_fresh(trans, &need.0, &needs[..i]) {
+                count += 1;
             }
-            Call::OpenFile { file, .. } => self.fresh_at(trans, &Resource::Whole(*file)),
-            Call::MakeOwner { owner, .. } => {
-                self.fresh_at(trans, &Resource::Leaf(Key::OwnerOf(*owner)))
-            }
-            _ => 0,
         }
+        count
     }
 
-    fn fresh_at(&self, trans: TransId, at: &Resource) -> u32
-        ensures count { result ≡ (if is_some (holding self.now.locks.held trans at.now) then 0 else 1) }
-        ensures few { result ≤ 1 }
+    // Whether a resource is neither held nor among these.
+    fn is_fresh(&self, trans: TransId, at: &Resource, before: &[(Resource, Mode)]) -> bool
+        ensures { result ≡ not (is_some (joined (holding self.now.locks.held trans) before.now at.now)) }
     {
         if self.locks.mode_of(trans, at).is_some() {
-            return 0;
+            return false;
         }
-        1
+        !is_among(at, before)
     }
+}
+
+fn is_among(at: &Resource, needs: &[(Resource, Mode)]) -> bool
+    ensures { result ≡ list_any (λ n. eq_by_cmp resource_cmp at.now n.0) needs.now }
+{
+    needs.iter().any(|need| at.cmp(&need.0).is_eq())
 }
 
 /// How a part that changes so many cells is refused as many locked resources, in an area of so many pages, if it is.

@@ -2,10 +2,10 @@
 ghost use Rattle.std.specs.Prelude.{◌≡◌, IsTrue};
 ghost use Rattle.alp_node.specs.Rooms.{IsRoomOf, locks_given as locks_given_said};
 
+use crate::answer::Given;
 use crate::lock_counts::LockCounts;
 use crate::server_state::ServerState;
 use alp_calls::{CallFault, Room};
-use alp_files::Reply;
 use alp_vault::{HEAD_PAGES, Vault};
 
 impl<V: Vault> ServerState<V> {
@@ -28,15 +28,16 @@ impl<V: Vault> ServerState<V> {
 }
 
 /// How many resources a part has locked behind a call that came to this.
-pub fn locks_given(old: u32, counts: LockCounts, given: &Result<Reply, CallFault>) -> u32
+pub fn locks_given(old: u32, counts: LockCounts, given: &Result<Given, CallFault>) -> u32
     ensures { result ≡ locks_given_said old counts given.now }
 {
     match given {
-        Ok(Reply::Created { .. }) => counts.made,
-        Ok(Reply::Pages(_)) => old,
-        Ok(Reply::Props(_)) => old,
-        Ok(Reply::Owner(_)) => old,
-        Ok(_) => counts.asked,
+        Ok(given) => {
+            if given.is_made() {
+                return counts.made;
+            }
+            counts.asked
+        }
         Err(_) => old,
     }
 }

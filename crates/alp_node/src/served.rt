@@ -6,9 +6,9 @@ ghost use Rattle.alp_journal.specs.declared.event.Event.TheVariants as event;
 ghost use Rattle.alp_journal.specs.Desk.{file_trans};
 ghost use Rattle.alp_node.specs.Calls.{IsServedCall};
 ghost use Rattle.alp_node.specs.ServerState.{IsReadyForMore, IsOfJournal};
-ghost use Rattle.alp_node.specs.Served.{is_on_open as is_on_open_said};
 ghost use Rattle.alp_node.specs.Dead.{is_dead};
 ghost use Rattle.alp_node.specs.Standings.{standing_of};
+ghost use Rattle.alp_node.specs.Served.{AreLivesSound};
 ghost use Rattle.alp_node.specs.Steps.{IsStep, IsTurn};
 
 use crate::answer::Answer;
@@ -57,6 +57,7 @@ impl<V: Vault> ServerState<V> {
         requires formed { IsFormed call.now }
         requires ready { IsReadyForMore (V.serves self.old.vault) self.old }
         requires known { IsTrue (V.tells self.old.vault) → IsOfJournal (V.held self.old.vault) self.old }
+        requires sound { IsTrue (V.tells self.old.vault) → AreLivesSound (V.held self.old.vault) self.old }
         ensures { IsStep V.Vault self.old self.new (event.Call turn.now.client self.old.epoch turn.now.number call.now) result }
     {
         match self.standing(turn.client, &trans) {
@@ -77,16 +78,10 @@ impl<V: Vault> ServerState<V> {
         if let Some(refusal) = self.shape_refusal(call, live.part.opens.len()) {
             return Ok(self.refuse(turn, refusal));
         }
-        if is_on_open(call) {
-            return self.page_call(turn, trans, call);
+        let halted = Vec::with_capacity(self.alloc, 1)?;
+        match self.asks(trans, call) {
+            Ok(needs) => self.lock_call(turn, trans, call, needs, halted),
+            Err(fault) => self.without_answer(turn, fault, halted),
         }
-        self.lock_call(turn, trans, call)
     }
-}
-
-// Whether the call is on an open, whose file is locked already.
-fn is_on_open(call: &Call) -> bool
-    ensures { result ≡ is_on_open_said call.now }
-{
-    matches!(call, Call::ReadPages { .. } | Call::WritePages { .. })
 }

@@ -1,7 +1,7 @@
 //! What a call is refused for by its shape alone.
 ghost use Rattle.std.specs.Prelude.{◌≡◌};
 ghost use Rattle.alp_node.specs.Asks.{is_given as is_given_of};
-ghost use Rattle.alp_node.specs.Shapes.{no_open as no_open_said, no_run as no_run_said, shape_of};
+ghost use Rattle.alp_node.specs.Shapes.{no_open as no_open_said, no_run as no_run_said, no_size as no_size_said, shape_of};
 
 use crate::server_state::ServerState;
 use alp_base::{FileId, PAGES_PER_FILE, Run};
@@ -29,15 +29,10 @@ impl<V: Vault> ServerState<V> {
         ensures { result ≡ shape_of self.now.server self.now.epoch self.now.given opens call.now }
     {
         match call {
-            Call::CreateFile { start, .. } => {
-                if start.size > PAGES_PER_FILE {
-                    return Some(Refusal::TooMany {
-                        what: What::Pages,
-                        limit: PAGES_PER_FILE,
-                    });
-                }
-                no_open(opens)
-            }
+            Call::CreateFile { start, .. } => match no_size(start.size) {
+                Some(refusal) => Some(refusal),
+                None => no_open(opens),
+            },
             Call::OpenFile { file, .. } => {
                 if !self.is_given(file) {
                     return Some(Refusal::UnknownFile);
@@ -46,9 +41,23 @@ impl<V: Vault> ServerState<V> {
             }
             Call::ReadPages { run, .. } => no_run(run),
             Call::WritePages { run, .. } => no_run(run),
+            Call::SetSize { size, .. } => no_size(*size),
             _ => None,
         }
     }
+}
+
+// The file would have too many pages.
+fn no_size(size: u32) -> Option<Refusal>
+    ensures { result ≡ no_size_said size }
+{
+    if size > PAGES_PER_FILE {
+        return Some(Refusal::TooMany {
+            what: What::Pages,
+            limit: PAGES_PER_FILE,
+        });
+    }
+    None
 }
 
 // One open more would be too many.

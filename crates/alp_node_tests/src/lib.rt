@@ -1,5 +1,5 @@
 //! Tests of a server as its clients see it, over a store on a disk in memory of which nothing is told: repeats, calls out of
-//! their turn, and a journal that is full.
+//! their turn, a journal that is full, and what the calls on files and owners come to.
 #![tactic(auto)]
 
 #[cfg(test)]

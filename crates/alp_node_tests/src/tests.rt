@@ -1,6 +1,8 @@
 //! A server and its clients' sessions.
 ghost use Rattle.std.specs.Prelude.{◌≡◌, IfOk, IsTrue, false};
 
+mod files;
+
 use alp_base::{Name, Sizes, Stamp, TransId};
 use alp_disk::MemDisk;
 use alp_files::{Call, Refusal, Reply};

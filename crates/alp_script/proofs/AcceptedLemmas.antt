@@ -1,22 +1,22 @@
 -- what holds of the lines of a script
 use Rattle.std.specs.Prelude.{nat_le, Bool, Option, None, Some, IfSome, Result, Ok, Err, cond}
 use Rattle.std.specs.List.{AllByRecursion}
-use Rattle.std.specs.Option.{option_map}
 use Rattle.std.specs.Str.Lines.{lines}
 use Rattle.std.proofs.Common.{◌≡◌, ℕ, ◌+◌, ◌<◌, ◌≤◌, List, [], ◌∷◌, ◌++◌, length, true, false, refl, sym, ◌∙◌, ap, subst, arith}
 use Rattle.std.proofs.lemmas.Bool.{leb-true}
-use Rattle.std.proofs.lemmas.Option.{same_Some}
-use Rattle.alp_script.specs.Words.{◌>>=◌, is_line, words_of}
-use Rattle.alp_script.specs.Grammar.{is_skipped, line_said, line_of, text_said}
+use Rattle.alp_tokens.specs.Words.{◌>>=◌}
+use Rattle.alp_lines.specs.Grammar.{text_said}
 use Rattle.alp_script.specs.Known.{Known, nothing_known}
 use Rattle.alp_script.specs.Order.{names_ours}
 use Rattle.alp_script.specs.Script.{step, read_at, numbered, with_front, line_then, script_from, script}
-use Rattle.alp_script.specs.Forms.{IsForm}
+use Rattle.alp_lines.specs.Forms.{IsForm}
 use Rattle.alp_script.specs.Accepted.{LeadsFrom, RisesFrom, DeclaredFrom, IsAccepted}
-use Rattle.alp_script.proofs.FormLemmas.{line_of-form}
+use Rattle.alp_lines.proofs.FormLemmas.{text_said-form}
 use Rattle.alp_script.proofs.OrderLemmas.{next-ours, next-after, next-declared, clients_after}
 use Rattle.alp_script.proofs.VolumeLemmas.{said_in_limits}
-use Rattle.alp_script.specs.declared.line.Line.{Line}
+use Rattle.alp_lines.specs.declared.line.Line.{Line}
+use Rattle.alp_script.specs.declared.fault.ScriptFault.{ScriptFault}
+use Rattle.alp_script.specs.declared.fault.ScriptFault.TheVariants as fault
 use Rattle.alp_script.specs.declared.numbered.NumberedLine.{NumberedLine}
 use Rattle.alp_script.specs.declared.numbered.TheConstants.{SCRIPT_LINES_MOST}
 
@@ -40,21 +40,6 @@ spoken k (Some said) p h =
     let both = stepped k said (step k said) p refl h in
     (both.0, ap Some both.1)
 
-said_form : (b c : Bool) (line : Option Line) (said : Option Line) → ((l : Line) → line ≡ Some l → IsForm l)
-    → cond b (cond c (Some None) (option_map Some line)) None ≡ Some said → IfSome said IsForm
-said_form false c line said form h = cc
-said_form true true line said form h = subst (λ (o : Option Line). IfSome o IsForm) (same_Some None said h) tt
-said_form true false None said form h = cc
-said_form true false (Some l) said form h = subst (λ (o : Option Line). IfSome o IsForm) (same_Some (Some l) said h) (form l refl)
-
-words_form : (words : Option (List (List ℕ))) (l : Line) → (words >>= line_of) ≡ Some l → IsForm l
-words_form None l h = cc
-words_form (Some words) l h = line_of-form words l h
-
-text_said-form : (text : List ℕ) (said : Option Line) → text_said text ≡ Some said → IfSome said IsForm
-unfolding text_said line_said
-text_said-form text said h = said_form (is_line text) (is_skipped text) (words_of text >>= line_of) said (words_form (words_of text)) h
-
 in_bounds : (b : Bool) (said : Option (Option Line × Known)) (p : Option Line × Known) → cond b said None ≡ Some p → (b ≡ true) × (said ≡ Some p)
 in_bounds true said p h = (refl, h)
 in_bounds false said p h = cc
@@ -66,12 +51,12 @@ read_at-some k n text p h =
     let told = spoken k (text_said text) p both.1 in
     record { few = leb-true _ _ both.0; may = told.0; form = text_said-form text p.0 told.1 }
 
-closed : (b : Bool) (n : ℕ) (ls : List NumberedLine) → cond b (Ok []) (Err n) ≡ Ok ls → (b ≡ true) × (ls ≡ [])
+closed : (b : Bool) (n : ℕ) (ls : List NumberedLine) → cond b (Ok []) (Err (fault.Bad n)) ≡ Ok ls → (b ≡ true) × (ls ≡ [])
 closed true n ls h = (refl, cc)
 closed false n ls h = cc
 
 -- the lines behind a first part
-front_then : (front : List NumberedLine) (r : Result (List NumberedLine) ℕ) (ls : List NumberedLine) → with_front front r ≡ Ok ls → (more : List NumberedLine) × (r ≡ Ok more) × (front ++ more ≡ ls)
+front_then : (front : List NumberedLine) (r : Result (List NumberedLine) ScriptFault) (ls : List NumberedLine) → with_front front r ≡ Ok ls → (more : List NumberedLine) × (r ≡ Ok more) × (front ++ more ≡ ls)
 front_then front (Ok more) ls h = (more, refl, cc)
 front_then front (Err n) ls h = cc
 

@@ -1,7 +1,5 @@
-pub mod WordsLemmas
 pub mod ScriptLemmas
 pub mod ReadingLemmas
-pub mod FormLemmas
 pub mod OrderLemmas
 pub mod VolumeLemmas
 pub mod AcceptedLemmas

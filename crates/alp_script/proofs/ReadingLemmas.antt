@@ -5,8 +5,8 @@ use Rattle.std.specs.Io.KnownBytes.{Consumes, Keeps, IsAtEnd}
 use Rattle.std.proofs.Common.{◌≡◌, ℕ, List, [], ◌++◌, refl, subst, inl, inr, sym, ◌∙◌, ap, arith, append_assoc, append-nil}
 use Rattle.std.proofs.lemmas.List.Sums.{sum_by-append, suffix_len-le-length}
 use Rattle.alp_script.specs.Script.{script}
-use Rattle.alp_script.specs.Progress.{Progress, resume, unended, Follows, Takes, Gives}
-use Rattle.alp_script.specs.Reading.{HasRead, HasNoBadLine, GaveScript, GaveBadLine, GaveGoodLines, ReadsScript}
+use Rattle.alp_script.specs.Progress.{Progress, resume, unended, Follows, IsOutside, Takes, Gives}
+use Rattle.alp_script.specs.Reading.{HasRead, HasNoBadLine, GaveScript, GaveFlaw, GaveGoodLines, ReadsScript}
 use Rattle.alp_script.proofs.ScriptLemmas.{resume-later, unended-on}
 use Rattle.alp_script.specs.declared.fault.ScriptFault.{ScriptFault}
 use Rattle.alp_script.specs.declared.fault.ScriptFault.TheVariants as fault
@@ -32,6 +32,7 @@ has_read-nothing a p none empty whole = record {
   same = λ rest. sym (whole rest);
   counted = none;
   held = ap unended empty;
+  whole = omega (arith, none);
   few = omega (arith, ap length empty);
 }
 
@@ -44,6 +45,7 @@ has_read-more a b c p q piece h consumed next = record {
   consumed = consumes-both a b c h.bytes piece h.consumed consumed;
   same = λ rest. joined h.bytes piece rest p h.same ∙ next.same rest;
   counted = omega (arith, h.counted, next.counted, sum_by-append (λ b. cond (b == 10) 1 0) h.bytes piece);
+  whole = next.few h.whole;
   held = held;
   few = next.short h.few;
 }
@@ -55,17 +57,17 @@ has_read-more a b c p q piece h consumed next = record {
 no_bad_line : (a b : Option (List ℕ)) (p : Progress) (h : HasRead a b p) → HasNoBadLine h.bytes
 no_bad_line a b p h = record {
   later = λ rest n e. omega (arith, h.counted, resume-later p rest n (sym (h.same rest) ∙ e));
+  few = omega (arith, h.counted, h.whole);
   short = omega (arith, h.held, h.few, suffix_len-le-length (λ (b : ℕ). not (b == 10)) p.partial);
 }
 
-whole : (bytes : List ℕ) (p : Progress) (said : Result (List NumberedLine) ℕ) → ((rest : List ℕ) → script (bytes ++ rest) ≡ resume p rest) → resume p [] ≡ said → script bytes ≡ said
+whole : (bytes : List ℕ) (p : Progress) (said : Result (List NumberedLine) ScriptFault) → ((rest : List ℕ) → script (bytes ++ rest) ≡ resume p rest) → resume p [] ≡ said → script bytes ≡ said
 whole bytes p said same e = ap script (sym (append-nil bytes)) ∙ same [] ∙ e
 
--- the reader refused a piece
-pub reads-refused : (a b c : Option (List ℕ)) (p q : Progress) (piece : List ℕ) (e : ScriptFault)
-    → length piece ≤ PIECE_BYTES → HasRead a b p → Consumes b c piece → Takes {X = Unit {0}} p q piece (Err e) → ReadsScript a c (Err e)
-reads-refused a b c p q piece (fault.Bad n) once h consumed refused =
-    let always : (rest : List ℕ) → script ((h.bytes ++ piece) ++ rest) ≡ Err n = λ rest. joined h.bytes piece rest p h.same ∙ refused.always rest in
+flawed : (a b c : Option (List ℕ)) (p : Progress) (piece : List ℕ) (flaw : ScriptFault)
+    → length piece ≤ PIECE_BYTES → HasRead a b p → Consumes b c piece → IsOutside p piece flaw → GaveFlaw a c flaw
+flawed a b c p piece flaw once h consumed refused =
+    let always : (rest : List ℕ) → script ((h.bytes ++ piece) ++ rest) ≡ Err flaw = λ rest. joined h.bytes piece rest p h.same ∙ refused.always rest in
     record {
       front = h.bytes;
       piece = piece;
@@ -75,11 +77,28 @@ reads-refused a b c p q piece (fault.Bad n) once h consumed refused =
       outside = ap script (sym (append-nil (h.bytes ++ piece))) ∙ always [];
       final = inl always;
     }
+
+-- the reader refused a piece
+pub reads-refused : (a b c : Option (List ℕ)) (p q : Progress) (piece : List ℕ) (e : ScriptFault)
+    → length piece ≤ PIECE_BYTES → HasRead a b p → Consumes b c piece → Takes {X = Unit {0}} p q piece (Err e) → ReadsScript a c (Err e)
+reads-refused a b c p q piece (fault.Bad n) once h consumed refused = flawed a b c p piece (fault.Bad n) once h consumed refused
+reads-refused a b c p q piece fault.TooLong once h consumed refused = flawed a b c p piece fault.TooLong once h consumed refused
 reads-refused a b c p q piece fault.ReadFault once h consumed refused = absurd refused
 reads-refused a b c p q piece fault.OutOfMemory once h consumed refused = tt
 
 at_end : (a b c : Option (List ℕ)) (bytes : List ℕ) → Consumes a b bytes → Consumes b c [] → Consumes a c bytes
 at_end a b c bytes h k = subst (λ (xs : List ℕ). Consumes a c xs) (append-nil bytes) (consumes-both a b c bytes [] h k)
+
+flawed_at_end : (a b c : Option (List ℕ)) (p : Progress) (flaw : ScriptFault) → HasRead a b p → Consumes b c [] → IsAtEnd c → resume p [] ≡ Err flaw → GaveFlaw a c flaw
+flawed_at_end a b c p flaw h consumed end said = record {
+  front = h.bytes;
+  piece = [];
+  good = no_bad_line a b p h;
+  once = omega arith;
+  consumed = consumes-both a b c h.bytes [] h.consumed consumed;
+  outside = ap script (append-nil h.bytes) ∙ whole h.bytes p (Err flaw) h.same said;
+  final = inr end;
+}
 
 -- the source came to its end
 pub reads-finished : (a b c : Option (List ℕ)) (p : Progress) (r : Result (Vec NumberedLine Global) ScriptFault)
@@ -90,15 +109,8 @@ reads-finished a b c p (Ok v) h consumed end said = record {
   said = whole h.bytes p (Ok v.items) h.same said;
   end = end;
 }
-reads-finished a b c p (Err (fault.Bad n)) h consumed end said = record {
-  front = h.bytes;
-  piece = [];
-  good = no_bad_line a b p h;
-  once = omega arith;
-  consumed = consumes-both a b c h.bytes [] h.consumed consumed;
-  outside = ap script (append-nil h.bytes) ∙ whole h.bytes p (Err n) h.same said;
-  final = inr end;
-}
+reads-finished a b c p (Err (fault.Bad n)) h consumed end said = flawed_at_end a b c p (fault.Bad n) h consumed end said
+reads-finished a b c p (Err fault.TooLong) h consumed end said = flawed_at_end a b c p fault.TooLong h consumed end said
 reads-finished a b c p (Err fault.ReadFault) h consumed end said = absurd said
 reads-finished a b c p (Err fault.OutOfMemory) h consumed end said = tt
 
@@ -121,10 +133,10 @@ pub script-given : (xs : List ℕ) (new : Option (List ℕ)) (lines : List Numbe
 script-given xs None lines h = absurd h.consumed
 script-given xs (Some ys) lines h = ap script (h.consumed ∙ ap (λ rest. h.bytes ++ rest) h.end ∙ append-nil h.bytes) ∙ h.said
 
--- the n-th line of all that a source tells is the first that is outside
-pub script-bad : (xs : List ℕ) (new : Option (List ℕ)) (n : ℕ) → GaveBadLine (Some xs) new n → script xs ≡ Err n
-script-bad xs None n h = absurd h.consumed
-script-bad xs (Some ys) n h =
+-- it is wrong with all that a source tells
+pub script-bad : (xs : List ℕ) (new : Option (List ℕ)) (flaw : ScriptFault) → GaveFlaw (Some xs) new flaw → script xs ≡ Err flaw
+script-bad xs None flaw h = absurd h.consumed
+script-bad xs (Some ys) flaw h =
     let given : xs ≡ (h.front ++ h.piece) ++ ys = h.consumed in
     elim h.final [
       | inl always ↦ ap script given ∙ always ys

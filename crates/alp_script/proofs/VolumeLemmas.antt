@@ -5,11 +5,11 @@ use Rattle.std.proofs.Common.{◌≡◌, ℕ, suc, ◌+◌, ◌<◌, ◌≤◌, 
 use Rattle.std.proofs.lemmas.List.{drop_all}
 use Rattle.std.proofs.Math.Seq.{drop-cons}
 use Rattle.alp_base.specs.declared.faults.Sizes.{Sizes}
-use Rattle.alp_script.specs.Words.{when}
-use Rattle.alp_script.specs.Forms.{AreInLimits, IsForm}
-use Rattle.alp_script.specs.Forms as form
+use Rattle.alp_tokens.specs.Words.{when}
+use Rattle.alp_lines.specs.Forms.{AreInLimits, IsForm}
+use Rattle.alp_lines.specs.Forms as form
 use Rattle.alp_script.specs.Volumes.{new_sizes, sizes_in, sizes_said}
-use Rattle.alp_script.specs.declared.line.Line.{Line}
+use Rattle.alp_lines.specs.declared.line.Line.{Line}
 use Rattle.alp_script.specs.declared.numbered.NumberedLine.{NumberedLine}
 
 abbrev Fits : Option Sizes → Type 0
@@ -24,15 +24,25 @@ form_fits : (server : ℕ) (l : Line) → IsForm l → Fits (sizes_in server l)
 form_fits server l (form.servers count) = tt
 form_fits server l (form.volume number home area limits) = when_fits (number == server) (record { home = home; area = area }) limits
 form_fits server l (form.client number name) = tt
+form_fits server l (form.patience count some few) = tt
 form_fits server l (form.begin number at) = tt
-form_fits server l (form.owner number at name quota) = tt
-form_fits server l (form.create number at word name size small) = tt
-form_fits server l (form.open_read number file) = tt
-form_fits server l (form.open_change number file) = tt
-form_fits server l (form.write number file run text few short) = tt
-form_fits server l (form.read number file run few) = tt
 form_fits server l (form.commit number) = tt
 form_fits server l (form.abort number) = tt
+form_fits server l (form.repeat number) = tt
+form_fits server l (form.old number) = tt
+form_fits server l (form.owner number at name quota create few) = tt
+form_fits server l (form.read_owner number at name) = tt
+form_fits server l (form.quota number at name quota) = tt
+form_fits server l (form.create number at word name size read modify small few_read few_modify) = tt
+form_fits server l (form.open_read number file) = tt
+form_fits server l (form.open_change number file) = tt
+form_fits server l (form.close number file) = tt
+form_fits server l (form.delete number file) = tt
+form_fits server l (form.write number file run text few short) = tt
+form_fits server l (form.read number file run few) = tt
+form_fits server l (form.size number file size small) = tt
+form_fits server l (form.props number file) = tt
+form_fits server l (form.change number file change formed) = tt
 
 or_new : (said : Option Sizes) → Fits said → AreInLimits (unwrap_or said new_sizes)
 or_new None fits = record { home_least = omega arith; home_most = omega arith; area_least = omega arith; area_most = omega arith }

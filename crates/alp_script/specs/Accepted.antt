@@ -2,12 +2,12 @@
 use Rattle.std.specs.Prelude.{◌≡◌, ℕ, ◌+◌, ◌≤◌, ◌<◌, true, List, [], ◌∷◌, ◌++◌, length, Some, IfSome}
 use Rattle.std.specs.List.{AllByRecursion, Contains}
 use Rattle.alp_script.specs.Known.{Known, nothing_known}
-use Rattle.alp_script.specs.Forms.{AreInLimits, IsForm}
-use Rattle.alp_script.specs.Named.{client_named}
+use Rattle.alp_lines.specs.Forms.{AreInLimits, IsForm}
+use Rattle.alp_lines.specs.Named.{client_named}
 use Rattle.alp_script.specs.Order.{next, names_ours}
 use Rattle.alp_script.specs.Volumes.{sizes_said}
-use Rattle.alp_script.specs.declared.line.Line.{Line}
-use Rattle.alp_script.specs.declared.line.Line.TheVariants as line
+use Rattle.alp_lines.specs.declared.line.Line.{Line}
+use Rattle.alp_lines.specs.declared.line.Line.TheVariants as line
 use Rattle.alp_script.specs.declared.numbered.NumberedLine.{NumberedLine}
 use Rattle.alp_script.specs.declared.numbered.TheConstants.{SCRIPT_LINES_MOST}
 

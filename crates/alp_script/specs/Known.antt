@@ -8,7 +8,7 @@ pub record Known : Type 0 where
   pub clients : List ℕ
   -- a line of a client stood
   pub begun : Bool
-  -- what create lines bound, in their order
+  -- what create lines bound, each once, in rising order
   pub words : List (List ℕ)
 
 -- no line stood

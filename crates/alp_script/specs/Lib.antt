@@ -1,12 +1,7 @@
-pub mod Words
-pub mod Telling
-pub mod Grammar
-pub mod Named
 pub mod Known
 pub mod Order
 pub mod Script
 pub mod Progress
 pub mod Reading
-pub mod Forms
 pub mod Volumes
 pub mod Accepted

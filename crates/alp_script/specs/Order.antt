@@ -1,14 +1,19 @@
 -- which line may come next, by what the lines so far tell
-use Rattle.std.specs.Prelude.{ℕ, Bool, true, ◌&&◌, not, ◌==◌, nat_le, List, [], ◌∷◌, ◌++◌, codes, Option, None, Some, if◌then◌else◌}
+use Rattle.std.specs.Prelude.{ℕ, Bool, true, ◌&&◌, not, ◌==◌, nat_le, List, [], ◌∷◌, ◌++◌, Option, None, Some, if◌then◌else◌}
 use Rattle.std.specs.List.{list_any}
-use Rattle.alp_script.specs.Words.{when, says}
-use Rattle.alp_script.specs.Named.{client_named, server_named}
+use Rattle.std.specs.Ordering.{nat_cmp}
+use Rattle.std.specs.Cmp.Lexicographic.{slice_cmp}
+use Rattle.std.specs.declared.cmp.Ordering.{Ordering}
+use Rattle.std.specs.BTreeMap.{is_at}
+use Rattle.std.specs.BTreeSet.{insert_key}
+use Rattle.alp_tokens.specs.Words.{when}
+use Rattle.alp_lines.specs.Named.{client_named, server_named}
 use Rattle.alp_script.specs.Known.{Known}
 use Rattle.alp_base.specs.declared.limits.TheConstants.{CLIENTS}
-use Rattle.alp_script.specs.declared.line.FileWord.{FileWord}
-use Rattle.alp_script.specs.declared.line.FileWord.TheVariants as file_word
-use Rattle.alp_script.specs.declared.line.Line.{Line}
-use Rattle.alp_script.specs.declared.line.Line.TheVariants as line
+use Rattle.alp_lines.specs.declared.line.FileWord.{FileWord}
+use Rattle.alp_lines.specs.declared.line.FileWord.TheVariants as file_word
+use Rattle.alp_lines.specs.declared.line.Line.{Line}
+use Rattle.alp_lines.specs.declared.line.Line.TheVariants as line
 
 abbrev pub is_one : Option ℕ → Bool
 is_one None = true
@@ -34,18 +39,26 @@ is_known clients (Some client) = is_among clients client
 unfoldable pub is_declared : Known → Line → Bool
 is_declared k l = names_ours l && is_known k.clients (client_named l)
 
+-- the order of words
+abbrev pub word_cmp : List ℕ → List ℕ → Ordering
+word_cmp = slice_cmp nat_cmp
+
 -- a word that a create line bound, or an id of server 1
 abbrev pub is_bound : List (List ℕ) → FileWord → Bool
-is_bound words (file_word.Word name) = list_any (λ w. says w name) words
+is_bound words (file_word.Word name) = list_any (is_at (word_cmp name)) words
 is_bound words (file_word.Id id) = id.server == 1
 
 -- the servers are declared first and once, and there is one
 unfoldable pub after_servers : Known → ℕ → Option Known
 after_servers k count = when (not k.servers && count == 1) (record k { servers = true })
 
--- a client, of the principal Admin, is declared once and before the first line of a client
-unfoldable pub after_client : Known → ℕ → List ℕ → Option Known
-after_client k client name = when (k.servers && not k.begun && not (is_among k.clients client) && says name (codes "Admin")) (record k { clients = k.clients ++ client ∷ [] })
+-- a setting stands anywhere behind the servers
+unfoldable pub after_setting : Known → Option Known
+after_setting k = when k.servers k
+
+-- a client, of whatever principal, is declared once and before the first line of a client
+unfoldable pub after_client : Known → ℕ → Option Known
+after_client k client = when (k.servers && not k.begun && not (is_among k.clients client)) (record k { clients = k.clients ++ client ∷ [] })
 
 -- the sizes of a volume, maybe again, are said before the first line of a client
 unfoldable pub after_volume : Known → Option Known
@@ -57,7 +70,7 @@ after_call k = record k { begun = true }
 
 -- a create line binds its word, maybe again
 abbrev pub after_create : Known → List ℕ → Known
-after_create k word = record k { begun = true; words = k.words ++ word ∷ [] }
+after_create k word = record k { begun = true; words = insert_key word_cmp k.words word }
 
 -- a line on a file names a bound word or an id
 unfoldable pub after_file : Known → FileWord → Option Known
@@ -66,15 +79,25 @@ after_file k file = when (is_bound k.words file) (after_call k)
 unfoldable pub after : Known → Line → Option Known
 after k (line.Servers count) = after_servers k count
 after k (line.Volume server home area) = after_volume k
-after k (line.Client client name) = after_client k client name
+after k (line.Client client name) = after_client k client
+after k (line.Patience count) = after_setting k
 after k (line.Begin client server) = Some (after_call k)
-after k (line.MakeOwner client server owner quota create choice) = Some (after_call k)
-after k (line.Create client server word owner size read modify choice) = Some (after_create k word)
-after k (line.OpenFile client file access mode choice) = after_file k file
-after k (line.WritePages client file run text choice) = after_file k file
-after k (line.ReadPages client file run mode choice) = after_file k file
 after k (line.Commit client) = Some (after_call k)
 after k (line.Abort client) = Some (after_call k)
+after k (line.Repeat client) = Some (after_call k)
+after k (line.Old client) = Some (after_call k)
+after k (line.Create client server word owner size read modify choice) = Some (after_create k word)
+after k (line.OpenFile client file access mode choice) = after_file k file
+after k (line.CloseFile client file) = after_file k file
+after k (line.DeleteFile client file choice) = after_file k file
+after k (line.ReadPages client file run mode choice) = after_file k file
+after k (line.WritePages client file run text choice) = after_file k file
+after k (line.SetSize client file size choice) = after_file k file
+after k (line.ReadProps client file) = after_file k file
+after k (line.WriteProps client file change choice) = after_file k file
+after k (line.ReadOwner client server owner choice) = Some (after_call k)
+after k (line.MakeOwner client server owner quota create choice) = Some (after_call k)
+after k (line.SetQuota client server owner quota choice) = Some (after_call k)
 after k _ = None
 
 -- what is known after a line, where the line may stand

@@ -2,9 +2,9 @@
 use Rattle.std.specs.Prelude.{ℕ, ◌==◌, List, Option, None, unwrap_or}
 use Rattle.std.specs.List.{filter_map, last_or}
 use Rattle.alp_base.specs.declared.faults.Sizes.{Sizes}
-use Rattle.alp_script.specs.Words.{when}
-use Rattle.alp_script.specs.declared.line.Line.{Line}
-use Rattle.alp_script.specs.declared.line.Line.TheVariants as line
+use Rattle.alp_tokens.specs.Words.{when}
+use Rattle.alp_lines.specs.declared.line.Line.{Line}
+use Rattle.alp_lines.specs.declared.line.Line.TheVariants as line
 use Rattle.alp_script.specs.declared.numbered.NumberedLine.{NumberedLine}
 use Rattle.alp_script.specs.declared.sizes.TheConstants.{NEW_HOME, NEW_AREA}
 

@@ -1,14 +1,14 @@
 //! What the lines of a script so far tell, and which line may come next.
 ghost use Rattle.std.specs.Prelude.{◌≡◌, Some};
-ghost use Rattle.alp_script.specs.Telling.{TellsBy};
+ghost use Rattle.alp_tokens.specs.Telling.{TellsBy};
 ghost use Rattle.alp_script.specs.Known.{nothing_known};
-ghost use Rattle.alp_script.specs.Order.{is_one as is_one_said, is_client as is_client_said, names_ours as names_ours_said, is_known as is_known_said, is_declared as is_declared_said, is_bound as is_bound_said, after_servers, after_volume, after_client, after_call, after_create, after_file, after, next as next_said};
+ghost use Rattle.alp_script.specs.Order.{is_one as is_one_said, is_client as is_client_said, names_ours as names_ours_said, is_known as is_known_said, is_declared as is_declared_said, is_bound as is_bound_said, after_servers, after_setting, after_volume, after_client, after_call, after_create, after_file, after, next as next_said};
 
-use crate::fault::LineFault;
-use crate::words::says;
-use crate::{FileWord, Line};
 use alp_base::{CLIENTS, Name};
+use alp_lines::{FileWord, Line};
+use alp_tokens::LineFault;
 use std::alloc::Global;
+use std::collections::BTreeSet;
 use std::marker::Model;
 
 /// What earlier lines declared and bound.
@@ -17,7 +17,7 @@ pub(crate) struct Context {
     servers: bool,
     clients: Vec<u8>,
     begun: bool,
-    words: Vec<Name>,
+    words: BTreeSet<Name>,
 }
 
 impl Model for Context {
@@ -25,7 +25,7 @@ impl Model for Context {
 
     ghost Value = { Known };
 
-    ghost view = { λ c. record { servers = c.servers; clients = c.clients.items; begun = c.begun; words = c.words.items } };
+    ghost view = { λ c. record { servers = c.servers; clients = c.clients.items; begun = c.begun; words = c.words.keys } };
 }
 
 fn is_one(number: Option<u8>) -> bool
@@ -62,8 +62,8 @@ fn is_known(clients: &[u8], client: Option<u8>) -> bool
     }
 }
 
-fn is_bound(words: &[Name], file: &FileWord) -> bool
-    ensures { result ≡ is_bound_said words.now file.now }
+fn is_bound(words: &BTreeSet<Name>, file: &FileWord) -> bool
+    ensures { result ≡ is_bound_said words.now.keys file.now }
 {
     match file {
         FileWord::Word(name) => words.contains(name),
@@ -79,7 +79,7 @@ impl Context {
             servers: false,
             clients: Vec::new(alloc),
             begun: false,
-            words: Vec::new(alloc),
+            words: BTreeSet::new(alloc),
         }
     }
 
@@ -107,6 +107,16 @@ impl Context {
         Ok(())
     }
 
+    #[tactic(auto, unfolding(crate::specs::Order::after_setting))]
+    fn take_setting(&mut self) -> Result<(), LineFault>
+        ensures { TellsBy (λ _. self.new) result (after_setting self.old) }
+    {
+        if !self.servers {
+            return Err(LineFault::Outside);
+        }
+        Ok(())
+    }
+
     #[tactic(auto, unfolding(crate::specs::Order::after_volume))]
     fn take_volume(&mut self) -> Result<(), LineFault>
         ensures { TellsBy (λ _. self.new) result (after_volume self.old) }
@@ -118,12 +128,11 @@ impl Context {
     }
 
     #[tactic(auto, unfolding(crate::specs::Order::after_client))]
-    fn take_client(&mut self, client: u8, name: &Name) -> Result<(), LineFault>
-        ensures { TellsBy (λ _. self.new) result (after_client self.old client name.now) }
+    fn take_client(&mut self, client: u8) -> Result<(), LineFault>
+        ensures { TellsBy (λ _. self.new) result (after_client self.old client) }
     {
         let again = self.clients.contains(&client);
-        let admin = says(name.as_bytes(), b"Admin");
-        if !self.servers || self.begun || again || !admin {
+        if !self.servers || self.begun || again {
             return Err(LineFault::Outside);
         }
         self.clients.push(client)?;
@@ -140,7 +149,7 @@ impl Context {
     fn take_create(&mut self, word: &Name) -> Result<(), LineFault>
         ensures { TellsBy (λ _. self.new) result (Some (after_create self.old word.now)) }
     {
-        self.words.push(*word)?;
+        self.words.insert(*word)?;
         self.begun = true;
         Ok(())
     }
@@ -149,7 +158,7 @@ impl Context {
     fn take_file(&mut self, file: &FileWord) -> Result<(), LineFault>
         ensures { TellsBy (λ _. self.new) result (after_file self.old file.now) }
     {
-        if !is_bound(self.words.as_slice(), file) {
+        if !is_bound(&self.words, file) {
             return Err(LineFault::Outside);
         }
         self.begun = true;
@@ -163,13 +172,22 @@ impl Context {
         match line {
             Line::Servers { count } => self.take_servers(*count),
             Line::Volume { .. } => self.take_volume(),
-            Line::Client { client, name } => self.take_client(*client, name),
-            Line::Begin { .. } | Line::MakeOwner { .. } => self.take_call(),
+            Line::Client { client, .. } => self.take_client(*client),
+            Line::Patience { .. } => self.take_setting(),
+            Line::Begin { .. } | Line::Commit { .. } | Line::Abort { .. } => self.take_call(),
+            Line::Repeat { .. } | Line::Old { .. } => self.take_call(),
             Line::Create { word, .. } => self.take_create(word),
             Line::OpenFile { file, .. } => self.take_file(file),
-            Line::WritePages { file, .. } => self.take_file(file),
+            Line::CloseFile { file, .. } => self.take_file(file),
+            Line::DeleteFile { file, .. } => self.take_file(file),
             Line::ReadPages { file, .. } => self.take_file(file),
-            Line::Commit { .. } | Line::Abort { .. } => self.take_call(),
+            Line::WritePages { file, .. } => self.take_file(file),
+            Line::SetSize { file, .. } => self.take_file(file),
+            Line::ReadProps { file, .. } => self.take_file(file),
+            Line::WriteProps { file, .. } => self.take_file(file),
+            Line::ReadOwner { .. } | Line::MakeOwner { .. } | Line::SetQuota { .. } => {
+                self.take_call()
+            }
             _ => Err(LineFault::Outside),
         }
     }

@@ -3,23 +3,21 @@
 
 mod context;
 mod fault;
-mod grammar;
-mod line;
 mod numbered;
 mod numbers;
 mod read;
 mod reader;
 mod sizes;
-mod words;
 
+pub use alp_lines::{
+    AREA_LEAST, AREA_MOST, FileWord, HOME_LEAST, HOME_MOST, Line, PATIENCE_MOST, RUN_MOST,
+};
+pub use alp_tokens::{LINE_BYTES, TEXT_BYTES};
 pub use fault::ScriptFault;
-pub use grammar::RUN_MOST;
-pub use line::{FileWord, Line};
 pub use numbered::{NumberedLine, SCRIPT_LINES_MOST};
 pub use numbers::numbers_are_fixed;
 pub use read::{accepted_lines, read_script};
-pub use sizes::{AREA_LEAST, AREA_MOST, HOME_LEAST, HOME_MOST, NEW_AREA, NEW_HOME, sizes_of};
-pub use words::{LINE_BYTES, TEXT_BYTES};
+pub use sizes::{NEW_AREA, NEW_HOME, sizes_of};
 
 #[cfg(test)]
 mod tests;

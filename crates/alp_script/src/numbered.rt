@@ -1,8 +1,8 @@
 //! Lines with their numbers.
-use crate::Line;
+use alp_lines::Line;
 
 /// The most lines that a script has.
-pub const SCRIPT_LINES_MOST: u32 = 1000;
+pub const SCRIPT_LINES_MOST: u32 = 200_000;
 
 /// A line of a script, and which line of it, counted from 1.
 #[derive(Clone, Drop, PartialEq, Eq)]

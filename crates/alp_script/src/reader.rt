@@ -1,17 +1,16 @@
 //! A script that is read in pieces.
 ghost use Rattle.std.specs.Prelude.{◌≡◌, ℕ, ◌+◌, ◌==◌, List, [], ◌∷◌, ◌++◌, length, false, IfOk, IfErr, OnErr, OnOk, ◌<◌, ◌≤◌};
 ghost use Rattle.std.specs.Str.Lines.{strip_carriage_return};
-ghost use Rattle.alp_script.specs.Telling.{TellsBy};
-ghost use Rattle.alp_script.specs.Script.{read_at as said_at, script, with_front, ended as ended_said, script_from, numbered, step as step_said};
+ghost use Rattle.alp_tokens.specs.Telling.{TellsBy};
+ghost use Rattle.alp_script.specs.Script.{flaw_at as flaw_said, read_at as said_at, script, with_front, ended as ended_said, script_from, numbered, step as step_said};
 ghost use Rattle.alp_script.specs.declared.fault.ScriptFault.TheVariants as fault;
 ghost use Rattle.alp_script.specs.Progress.{Progress, at_start, resume, Follows, Takes, Gives};
 
 use crate::context::Context;
-use crate::fault::LineFault;
-use crate::grammar::text_in;
 use crate::numbered::SCRIPT_LINES_MOST;
-use crate::words::LINE_BYTES;
-use crate::{Line, NumberedLine, ScriptFault};
+use crate::{NumberedLine, ScriptFault};
+use alp_lines::{Line, text_in};
+use alp_tokens::{LINE_BYTES, LineFault};
 use std::alloc::Global;
 use std::marker::Model;
 
@@ -60,6 +59,18 @@ fn read_at(
     let said = text_in(alloc, text)?;
     step(context, &said)?;
     Ok(said)
+}
+
+// What is wrong with a script whose line of this number is the first that is outside, or one too many.
+#[tactic(auto, unfolding(crate::specs::Script::flaw_at))]
+fn flaw_at(number: u32) -> ScriptFault
+    ensures { result ≡ flaw_said number }
+{
+    if number <= SCRIPT_LINES_MOST {
+        ScriptFault::Bad { line: number }
+    } else {
+        ScriptFault::TooLong
+    }
 }
 
 // Keeps the line, where there is one.
@@ -114,7 +125,7 @@ fn last_line(
             keep(&mut said, number, line)?;
             ended(&context, number + 1, said)
         }
-        Err(LineFault::Outside) => Err(ScriptFault::Bad { line: number }),
+        Err(LineFault::Outside) => Err(flaw_at(number)),
         Err(LineFault::OutOfMemory) => Err(ScriptFault::OutOfMemory),
     }
 }
@@ -140,9 +151,7 @@ impl Reader {
         ensures { Takes self.old self.new (byte ∷ []) result }
     {
         if self.partial.len() > LINE_BYTES {
-            return Err(ScriptFault::Bad {
-                line: self.lines + 1,
-            });
+            return Err(flaw_at(self.lines + 1));
         }
         self.partial.push(byte)?;
         Ok(())
@@ -161,7 +170,7 @@ impl Reader {
                 self.partial.clear();
                 Ok(())
             }
-            Err(LineFault::Outside) => Err(ScriptFault::Bad { line: number }),
+            Err(LineFault::Outside) => Err(flaw_at(number)),
             Err(LineFault::OutOfMemory) => Err(ScriptFault::OutOfMemory),
         }
     }

@@ -2,20 +2,9 @@
 ghost use Rattle.std.specs.Prelude.{◌≡◌};
 ghost use Rattle.alp_script.specs.Volumes.{sizes_in as sizes_in_said, sizes_said};
 
-use crate::{Line, NumberedLine};
+use crate::NumberedLine;
 use alp_base::Sizes;
-
-/// The fewest pages for files and owners that a volume may have.
-pub const HOME_LEAST: u32 = 512;
-
-/// The most pages for files and owners that a volume may have.
-pub const HOME_MOST: u32 = 65536;
-
-/// The fewest pages that an area of its log may have.
-pub const AREA_LEAST: u32 = 64;
-
-/// The most pages that an area of its log may have.
-pub const AREA_MOST: u32 = 4096;
+use alp_lines::Line;
 
 /// The pages for files and owners of a new volume whose sizes no line says.
 pub const NEW_HOME: u32 = 16384;

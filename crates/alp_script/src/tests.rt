@@ -79,7 +79,7 @@ fn finds_the_first_bad_line(rt: HostRuntime) -> Result<(), Fail> {
         (b"servers 1\nclient 1 Admin\n1 commit 1\n", 3),
         (b"servers 1\nclient 1 Admin\n1 abort 1\n", 3),
         (
-            b"servers 1\nclient 1 Admin\n1 begin 1\n1 mkowner 1 ann 4 World\n1 create 1 A ann 4097 World World\n",
+            b"servers 1\nclient 1 Admin\n1 begin 1\n1 mkowner 1 ann 4 World\n1 create 1 A ann 4294967296\n",
             5,
         ),
     ];
@@ -93,7 +93,7 @@ fn finds_the_first_bad_line(rt: HostRuntime) -> Result<(), Fail> {
 fn refuses_wrong_clients(rt: HostRuntime) -> Result<(), Fail> {
     let alloc = rt.alloc();
     let cases: [(&[u8], u32); 9] = [
-        (b"servers 1\n\nclient 1 ann\n", 3),
+        (b"servers 1\n\nclient 1 a+n\n", 3),
         (b"servers 1\nclient 0 Admin\n", 2),
         (b"servers 1\nclient 17 Admin\n", 2),
         (
@@ -143,11 +143,53 @@ fn refuses_wrong_file_lines(rt: HostRuntime) -> Result<(), Fail> {
 }
 
 #[test]
+fn patience_stands_behind_the_servers(rt: HostRuntime) -> Result<(), Fail> {
+    let alloc = rt.alloc();
+    let early = b"patience 3\nservers 1\n";
+    assert_eq!(rt; count(alloc, early), Err(ScriptFault::Bad { line: 1 }));
+    let often =
+        b"servers 1\npatience 3\nclient 1 bob\npatience 1\nclient 2 ann\n2 begin 1\npatience 2\n";
+    assert_eq!(rt; count(alloc, often), Ok(7usize));
+    Ok(())
+}
+
+#[test]
 fn reads_many_transactions(rt: HostRuntime) -> Result<(), Fail> {
     let alloc = rt.alloc();
     let text =
         b"# two transactions\n\nservers 1\nclient 1 Admin\n1 begin 1\n1 mkowner 1 ann 4 World\n1 create 1 A ann 4096 World World\n1 create 1 A bob 1 World World\n1 commit\n1 read A 4294967295 16\n1 begin 1\n1 begin 1\n1 write 1.7.9 0 1 x\n1 commit\n1 commit\n";
     assert_eq!(rt; count(alloc, text), Ok(13));
+    Ok(())
+}
+
+#[test]
+fn reads_lines_that_send_again(rt: HostRuntime) -> Result<(), Fail> {
+    let alloc = rt.alloc();
+    let text = b"servers 1\nclient 1 Admin\n1 old\n1 begin 1\n1 repeat\n";
+    assert_eq!(rt; count(alloc, text), Ok(5));
+    let undeclared = b"servers 1\nclient 1 Admin\n2 repeat\n";
+    assert_eq!(rt; count(alloc, undeclared), Err(ScriptFault::Bad { line: 3 }));
+    let late = b"servers 1\nclient 1 Admin\n1 repeat\nclient 2 Admin\n";
+    assert_eq!(rt; count(alloc, late), Err(ScriptFault::Bad { line: 4 }));
+    Ok(())
+}
+
+// A word may be bound again and again, among others.
+#[test]
+fn reads_many_words(rt: HostRuntime) -> Result<(), Fail> {
+    let alloc = rt.alloc();
+    let mut text = Vec::from_slice(alloc, b"servers 1\nclient 1 Admin\n")?;
+    for word in 0..2000u32 {
+        let line = format!(in alloc; "1 create 1 F{} ann 1\n1 close F{}\n", word % 97, word % 97)?;
+        text.extend_from_slice(line.as_bytes())?;
+    }
+    assert_eq!(rt; count(alloc, text.as_slice()), Ok(4002));
+    text.extend_from_slice(b"1 close F97\n")?;
+    let line = 4003;
+    assert_eq!(rt;
+        count(alloc, text.as_slice()),
+        Err(ScriptFault::Bad { line })
+    );
     Ok(())
 }
 
@@ -255,24 +297,43 @@ fn tells_the_last_sizes(rt: HostRuntime) -> Result<(), Fail> {
     Ok(())
 }
 
-// A script of so many lines, all but the first without a word.
-fn empty_lines(alloc: Global, lines: usize) -> Result<Vec<u8>, ScriptFault> {
-    let mut bytes = Vec::from_slice(alloc, b"servers 1\n")?;
-    for _ in 1..lines {
+// The script of the line and so many empty ones behind it.
+fn with_empty_lines(alloc: Global, line: &[u8], more: usize) -> Result<Vec<u8>, ScriptFault> {
+    let mut bytes = Vec::from_slice(alloc, line)?;
+    for _ in 0..more {
         bytes.push(b'\n')?;
     }
     Ok(bytes)
 }
 
 #[test]
-fn takes_1000_lines(rt: HostRuntime) -> Result<(), Fail> {
+fn takes_200000_lines(rt: HostRuntime) -> Result<(), Fail> {
     let alloc = rt.alloc();
-    let fits = empty_lines(alloc, 1000)?;
-    assert_eq!(rt; count(alloc, fits.as_slice()), Ok(1));
-    let long = empty_lines(alloc, 1001)?;
+    let mut text = with_empty_lines(alloc, b"servers 1\n", 199_999)?;
+    assert_eq!(rt; count(alloc, text.as_slice()), Ok(1));
+    text.extend_from_slice(b"1 fly")?;
+    assert_eq!(rt; count(alloc, text.as_slice()), Err(ScriptFault::TooLong));
+    let one_more = with_empty_lines(alloc, b"servers 1\n", 200_000)?;
     assert_eq!(rt;
-        count(alloc, long.as_slice()),
-        Err(ScriptFault::Bad { line: 1001 })
+        count(alloc, one_more.as_slice()),
+        Err(ScriptFault::TooLong)
+    );
+    Ok(())
+}
+
+#[test]
+fn no_servers_in_200000_lines(rt: HostRuntime) -> Result<(), Fail> {
+    let alloc = rt.alloc();
+    let text = with_empty_lines(alloc, b"", 200_000)?;
+    let line = 200_001;
+    assert_eq!(rt;
+        count(alloc, text.as_slice()),
+        Err(ScriptFault::Bad { line })
+    );
+    let one_more = with_empty_lines(alloc, b"", 200_001)?;
+    assert_eq!(rt;
+        count(alloc, one_more.as_slice()),
+        Err(ScriptFault::TooLong)
     );
     Ok(())
 }

@@ -72,13 +72,28 @@ module _ {A B : Type 0} (g : Ghosts A) (h : Ghosts B) (sizes : Sizes) (ta ga : A
     unfailed = given.faults ∙ x.unfailed ∙ sym taken.faults;
   }
 
-  cause_alike : (f : RunFault) → HasDiskCause g sizes f ta ga → HasDiskCause h sizes f tb gb
-  cause_alike fault.Bay x = absurd x
-  cause_alike fault.Disk x = subst (λ (n : ℕ). Rose n (h.faults gb)) (sym taken.faults) (subst (λ (n : ℕ). Rose (g.faults ta) n) (sym given.faults) x)
-  cause_alike fault.OutOfMemory x = given.faults ∙ x ∙ sym taken.faults
-  cause_alike fault.EpochEnd x = (alone_alike x.0, at_taken HasNoEpoch x.1)
-  cause_alike (fault.NotAVolume found) x = (alone_alike x.0, at_taken (λ n i. WhyNotStarted 1 1 n i (vault_fault.NotAVolume found)) x.1)
-  cause_alike (fault.Damaged place) x = (alone_alike x.0, at_taken (λ n i. WhyNotStarted 1 1 n i (vault_fault.Damaged place)) x.1)
+  cause_alike : (lines : List NumberedLine) (f : RunFault) → HasDiskCause g sizes lines f ta ga → HasDiskCause h sizes lines f tb gb
+  cause_alike lines fault.Bay x = absurd x
+  cause_alike lines fault.Disk x = subst (λ (n : ℕ). Rose n (h.faults gb)) (sym taken.faults) (subst (λ (n : ℕ). Rose (g.faults ta) n) (sym given.faults) x)
+  cause_alike lines fault.OutOfMemory x = given.faults ∙ x ∙ sym taken.faults
+  cause_alike lines fault.JournalFull x = record {
+    opening = x.opening;
+    notes = x.notes;
+    started = x.started;
+    journal = x.journal;
+    full = x.full;
+    lawful = x.lawful;
+    caused = x.caused;
+    stored = stored_alike x.opening x.notes _ x.stored;
+    turns = x.turns;
+    stopped = x.stopped;
+    serial = x.serial;
+    whole = x.whole;
+    kept = x.kept;
+  }
+  cause_alike lines fault.EpochEnd x = (alone_alike x.0, at_taken HasNoEpoch x.1)
+  cause_alike lines (fault.NotAVolume found) x = (alone_alike x.0, at_taken (λ n i. WhyNotStarted 1 1 n i (vault_fault.NotAVolume found)) x.1)
+  cause_alike lines (fault.Damaged place) x = (alone_alike x.0, at_taken (λ n i. WhyNotStarted 1 1 n i (vault_fault.Damaged place)) x.1)
 
   -- the disk was taken from its place and stands there again
   module _ (before after : ℕ → Option B) (was : IsTaken h (before 1) (pages_of sizes) tb) (now : after 1 ≡ Some gb) (others : (k : ℕ) → k ≢ 1 → after k ≡ before k) (size : g.size ga ≡ g.size ta) (later : g.faults ta ≤ g.faults ga) where
@@ -94,13 +109,14 @@ module _ {A B : Type 0} (g : Ghosts A) (h : Ghosts B) (sizes : Sizes) (ta ga : A
       left = x;
     }
 
-    pub run_cause : (bay_before bay_after : ℕ) (f : RunFault) → HasDiskCause g sizes f ta ga → HasRunCause h sizes before after bay_before bay_after f
-    run_cause bay_before bay_after fault.Bay x = absurd x
-    run_cause bay_before bay_after fault.OutOfMemory x = inr (returned (HasDiskCause h sizes fault.OutOfMemory) (cause_alike fault.OutOfMemory x))
-    run_cause bay_before bay_after fault.Disk x = returned (HasDiskCause h sizes fault.Disk) (cause_alike fault.Disk x)
-    run_cause bay_before bay_after fault.EpochEnd x = returned (HasDiskCause h sizes fault.EpochEnd) (cause_alike fault.EpochEnd x)
-    run_cause bay_before bay_after (fault.NotAVolume found) x = returned (HasDiskCause h sizes (fault.NotAVolume found)) (cause_alike (fault.NotAVolume found) x)
-    run_cause bay_before bay_after (fault.Damaged place) x = returned (HasDiskCause h sizes (fault.Damaged place)) (cause_alike (fault.Damaged place) x)
+    pub run_cause : (lines : List NumberedLine) (bay_before bay_after : ℕ) (f : RunFault) → HasDiskCause g sizes lines f ta ga → HasRunCause h sizes lines before after bay_before bay_after f
+    run_cause lines bay_before bay_after fault.Bay x = absurd x
+    run_cause lines bay_before bay_after fault.OutOfMemory x = inr (returned (HasDiskCause h sizes lines fault.OutOfMemory) (cause_alike lines fault.OutOfMemory x))
+    run_cause lines bay_before bay_after fault.Disk x = returned (HasDiskCause h sizes lines fault.Disk) (cause_alike lines fault.Disk x)
+    run_cause lines bay_before bay_after fault.JournalFull x = returned (HasDiskCause h sizes lines fault.JournalFull) (cause_alike lines fault.JournalFull x)
+    run_cause lines bay_before bay_after fault.EpochEnd x = returned (HasDiskCause h sizes lines fault.EpochEnd) (cause_alike lines fault.EpochEnd x)
+    run_cause lines bay_before bay_after (fault.NotAVolume found) x = returned (HasDiskCause h sizes lines (fault.NotAVolume found)) (cause_alike lines (fault.NotAVolume found) x)
+    run_cause lines bay_before bay_after (fault.Damaged place) x = returned (HasDiskCause h sizes lines (fault.Damaged place)) (cause_alike lines (fault.Damaged place) x)
 
 -- ---- the bay ended the run
 
@@ -131,10 +147,10 @@ module _ {T U : Type 0} (before now : ℕ) (f : BayFault) (cause : HasBayCause {
       go bay_fault.Failed = left
       go bay_fault.OutOfMemory = left
 
-  pub bay_cause : {B : Type 0} (h : Ghosts B) (sizes : Sizes) (was is : ℕ → Option B) → is ≡ was → IfErr r (HasRunCause h sizes was is before now)
-  bay_cause h sizes was is same = subst (λ (q : Result U RunFault). IfErr q (HasRunCause h sizes was is before now)) (sym (as_err (of_bay f) r err alike)) (go f cause)
+  pub bay_cause : {B : Type 0} (h : Ghosts B) (sizes : Sizes) (lines : List NumberedLine) (was is : ℕ → Option B) → is ≡ was → IfErr r (HasRunCause h sizes lines was is before now)
+  bay_cause h sizes lines was is same = subst (λ (q : Result U RunFault). IfErr q (HasRunCause h sizes lines was is before now)) (sym (as_err (of_bay f) r err alike)) (go f cause)
     where
-      go : (f : BayFault) → HasBayCause {T = T} before now (Err f) → HasRunCause h sizes was is before now (of_bay f)
+      go : (f : BayFault) → HasBayCause {T = T} before now (Err f) → HasRunCause h sizes lines was is before now (of_bay f)
       go bay_fault.Failed h = (same, h.failed refl)
       go bay_fault.OutOfMemory h = inl same
 
@@ -144,6 +160,7 @@ bay_still (Ok x) before now same own = same
 bay_still (Err fault.Bay) before now same own = absurd own
 bay_still (Err fault.Disk) before now same own = same
 bay_still (Err fault.OutOfMemory) before now same own = same
+bay_still (Err fault.JournalFull) before now same own = same
 bay_still (Err fault.EpochEnd) before now same own = same
 bay_still (Err (fault.NotAVolume found)) before now same own = same
 bay_still (Err (fault.Damaged place)) before now same own = same
@@ -153,6 +170,7 @@ folder_taken (Ok x) was is named same = same
 folder_taken (Err fault.Bay) was is named same = inl same
 folder_taken (Err fault.Disk) was is named same = same
 folder_taken (Err fault.OutOfMemory) was is named same = inl same
+folder_taken (Err fault.JournalFull) was is named same = same
 folder_taken (Err fault.EpochEnd) was is named same = same
 folder_taken (Err (fault.NotAVolume found)) was is named same = same
 folder_taken (Err (fault.Damaged place)) was is named same = same
@@ -166,6 +184,7 @@ taken_by (Ok x) P p = p
 taken_by (Err fault.Bay) P p = tt
 taken_by (Err fault.Disk) P p = p
 taken_by (Err fault.OutOfMemory) P p = tt
+taken_by (Err fault.JournalFull) P p = p
 taken_by (Err fault.EpochEnd) P p = p
 taken_by (Err (fault.NotAVolume found)) P p = p
 taken_by (Err (fault.Damaged place)) P p = p

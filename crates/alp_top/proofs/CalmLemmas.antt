@@ -1,7 +1,7 @@
 -- what a step shows of its device
-use Rattle.std.specs.Prelude.{◌==◌, true, false, Bool, Option, None, Some, flat_map, if◌then◌else◌}
+use Rattle.std.specs.Prelude.{◌==◌, true, false, Bool, Option, None, Some, IfSome, flat_map, if◌then◌else◌}
 use Rattle.std.specs.List.{list_any}
-use Rattle.std.proofs.Common.{inl, inr, ◌≡◌, ℕ, List, [], ◌∷◌, refl, sym, ◌∙◌, ap, eq-eqb}
+use Rattle.std.proofs.Common.{inl, inr, ◌≡◌, ℕ, List, [], ◌∷◌, length, refl, sym, ◌∙◌, ap, subst, eq-eqb}
 use Rattle.alp_base.specs.Causes.{Rose}
 use Rattle.alp_base.specs.declared.allowance.Allowance.TheVariants.{Free, Spent}
 use Rattle.alp_base.specs.declared.ids.TransId.{TransId}
@@ -20,7 +20,7 @@ use Rattle.alp_journal.specs.declared.event.Event.{Event}
 use Rattle.alp_journal.specs.declared.event.Event.TheVariants as event
 use Rattle.alp_journal.specs.Along.{Where}
 use Rattle.alp_journal.specs.Coordinator.{Fate, Running, Finishing, Undrawn, Committed, Forgotten, Ended}
-use Rattle.alp_journal.specs.Desk.{file_trans}
+use Rattle.alp_journal.specs.Desk.{Session, file_trans}
 use Rattle.alp_journal.specs.State.{State}
 use Rattle.alp_journal.specs.Moves.{is_new, is_stop, stops}
 use Rattle.alp_journal.specs.Laws.{granted_by}
@@ -29,10 +29,14 @@ use Rattle.alp_journal.specs.Answers.{First, OrFault, IsAnswer, IsFileOf, IsFile
 use Rattle.alp_journal.specs.Answered.{IsAnsweredEntry, GrantsFor, is_fault_reply}
 use Rattle.alp_node.specs.Halts.{HaveCauses}
 use Rattle.alp_node.specs.Served.{IsServed, IsAskable}
-use Rattle.alp_node.specs.Orders.{is_fault_now}
+use Rattle.alp_node.specs.Orders.{is_fault_now, idle_reply}
+use Rattle.alp_node.specs.Sessions.{session_at}
+use Rattle.alp_node.specs.Turns.{HasTurned}
+use Rattle.alp_node.specs.declared.server_state.ServerState.{ServerState}
 use Rattle.alp_node.specs.declared.sessions.CallOrder.{CallOrder}
 use Rattle.alp_node.specs.declared.sessions.CallOrder.TheVariants as order
-use Rattle.alp_top.specs.Servers.{is_due}
+use Rattle.alp_top.specs.Servers.{AreCalm}
+use Rattle.alp_top.proofs.ReplyLemmas.{kept_after}
 
 where_map : (b : Bool) (P Q R : Type 0) → (P → Q) → Where b P R → Where b Q R
 where_map true P Q R f h = f h
@@ -155,15 +159,52 @@ calm failed s event.Restart r acts served quiet h = absurd served
 calm failed s event.Tick r acts served quiet h = absurd served
 calm failed s event.Force r acts served quiet h = absurd served
 
--- ---- what is due tells of its own step alone
+-- ---- what is told of this step alone
 
-pub due_fault : (here : ℕ) (o : Option CallOrder) (r : Option Reply) → is_due o ≡ true → is_fault_now here o r ≡ is_fault_reply here r
-due_fault here None r due = refl
-due_fault here (Some order.First) r due = refl
-due_fault here (Some order.Next) r due = refl
-due_fault here (Some order.Repeat) r due = cc
-due_fault here (Some order.Stale) r due = cc
-due_fault here (Some order.Astray) r due = cc
+-- where a reply shows no fault, it shows none of this step
+pub quiet_now : (here : ℕ) (o : Option CallOrder) (r : Option Reply) → is_fault_reply here r ≡ false → is_fault_now here o r ≡ false
+quiet_now here None r quiet = quiet
+quiet_now here (Some order.First) r quiet = quiet
+quiet_now here (Some order.Next) r quiet = quiet
+quiet_now here (Some order.Repeat) r quiet = refl
+quiet_now here (Some order.Stale) r quiet = quiet
+quiet_now here (Some order.Astray) r quiet = quiet
+
+module _ {V : Type 0} (old new : ServerState V) (places : length old.sessions.places ≡ 17) (calm_before : AreCalm old.server old.sessions) where
+  -- the reply that is kept shows no fault
+  kept_quiet : (client : ℕ) (w : Option Session) → session_at old.sessions client ≡ w → is_fault_reply old.server (idle_reply order.Repeat old.epoch w) ≡ false
+  kept_quiet client None is = refl
+  kept_quiet client (Some w) is = calm_before client w is
+
+  -- a reply that shows a fault shows one of this step, since no reply that is kept shows any
+  pub fault_now : (o : Option CallOrder) (e : Event) (r : Option Reply) → HasTurned o old new e r → is_fault_reply old.server r ≡ true → is_fault_now old.server o r ≡ true
+  fault_now None e r turned shows = shows
+  fault_now (Some order.First) e r turned shows = shows
+  fault_now (Some order.Next) e r turned shows = shows
+  fault_now (Some order.Stale) e r turned shows = shows
+  fault_now (Some order.Astray) e r turned shows = shows
+  fault_now (Some order.Repeat) (event.Call client epoch number c) r turned shows =
+      let wrong : true ≡ false = sym shows ∙ ap (is_fault_reply old.server) turned.sessions.0 ∙ kept_quiet client (session_at old.sessions client) refl in cc
+  fault_now (Some order.Repeat) (event.Arrive from message) r turned shows = absurd turned.sessions
+  fault_now (Some order.Repeat) (event.Timeout t) r turned shows = absurd turned.sessions
+  fault_now (Some order.Repeat) event.Restart r turned shows = absurd turned.sessions
+  fault_now (Some order.Repeat) event.Tick r turned shows = absurd turned.sessions
+  fault_now (Some order.Repeat) event.Force r turned shows = absurd turned.sessions
+
+  calm_reply : (r : Option Reply) → is_fault_reply old.server r ≡ false → IfSome r (λ y. is_fault_reply old.server (Some y) ≡ false)
+  calm_reply None quiet = tt
+  calm_reply (Some y) quiet = quiet
+
+  -- an answer that shows no fault leaves no kept reply that shows one
+  pub calm_after : (o : Option CallOrder) (e : Event) (r : Option Reply) → IsServed e → HasTurned o old new e r → is_fault_reply old.server r ≡ false → AreCalm old.server new.sessions
+  calm_after None e r served turned quiet = subst (AreCalm old.server) (sym turned.sessions) calm_before
+  calm_after (Some o) (event.Call client epoch number c) r served turned quiet =
+      kept_after (λ (y : Reply). is_fault_reply old.server (Some y) ≡ false) old new places calm_before o client number c r served.0 turned.sessions (calm_reply r quiet)
+  calm_after (Some o) (event.Arrive from message) r served turned quiet = absurd turned.sessions
+  calm_after (Some o) (event.Timeout t) r served turned quiet = absurd turned.sessions
+  calm_after (Some o) event.Restart r served turned quiet = absurd turned.sessions
+  calm_after (Some o) event.Tick r served turned quiet = absurd turned.sessions
+  calm_after (Some o) event.Force r served turned quiet = absurd turned.sessions
 
 -- ---- a server that nobody stops goes down where its device failed
 

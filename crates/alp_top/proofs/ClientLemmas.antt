@@ -1,68 +1,68 @@
 -- the items of a run are as its clients' machine and the servers leave them
-use Rattle.std.specs.Prelude.{◌==◌, true, false, Bool, cond, Option, None, Some, slice_get, map as list_map}
+use Rattle.std.specs.Prelude.{◌==◌, max, true, false, Bool, cond, Option, None, Some, slice_get, map as list_map}
 use Rattle.std.specs.List.{AllByRecursion}
-use Rattle.std.proofs.Common.{inl, inr, ◌⊎◌, ◌≡◌, ℕ, zero, suc, ◌+◌, ◌<◌, List, [], ◌∷◌, ◌++◌, refl, sym, ◌∙◌, ap, subst, arith}
+use Rattle.std.proofs.Common.{inl, inr, ◌⊎◌, ◌≡◌, ℕ, zero, suc, ◌+◌, ◌<◌, ◌≤◌, List, [], ◌∷◌, ◌++◌, refl, sym, ◌∙◌, ap, subst, arith}
+use Rattle.std.proofs.Math.Nat.{le-max_left, le-max_right}
 use Rattle.std.proofs.lemmas.Bool.Decides.{eqb_tells}
 use Rattle.alp_files.specs.declared.call.Call.{Call}
 use Rattle.alp_files.specs.declared.call.Call.TheVariants as call
 use Rattle.alp_journal.specs.declared.entry.Entry.{Entry}
 use Rattle.alp_journal.specs.declared.event.Event.TheVariants as event
 use Rattle.alp_journal.specs.declared.log.Item.{Item}
-use Rattle.alp_journal.specs.declared.log.Mark.{Mark}
 use Rattle.alp_journal.specs.declared.log.Mark.TheVariants as mark
 use Rattle.alp_journal.specs.declared.log.Sent.TheVariants as sent
 use Rattle.alp_history.specs.Items as items
-use Rattle.alp_history.specs.Items.{Handed, Own, IsOwn, IsRaw}
+use Rattle.alp_history.specs.Items.{Handed, IsOwn}
 use Rattle.alp_history.specs.Handed.{AreOfClients, IsOfPlace, IsOfEntry, IsBefore, IsOfRun, IsOfRunBy, HaveSeen}
 use Rattle.alp_history.specs.Log.{Log, ServerLog, journal_of, IsIn}
-use Rattle.alp_history.specs.RunLogs.{item_of}
+use Rattle.alp_history.specs.RunLogs.{item_of, mark_of}
 use Rattle.alp_history.proofs.Decisions.{map-in, in-map}
 use Rattle.alp_history.proofs.Linked.{in-left, in-right}
 use Rattle.alp_history.proofs.Logs.{opening-server}
-use Rattle.alp_client.specs.declared.client.Client.{Client}
+use Rattle.alp_session.specs.declared.client.Client.{Client}
 use Rattle.alp_top.specs.Turns.{Turn, own_in, sent_in}
 use Rattle.alp_top.specs.Plays.{Records, AreRecorded}
-use Rattle.alp_top.specs.Steps.{AreNumbered, AsksNoOutcome, IsNoOutcome, HasSaid}
+use Rattle.alp_top.specs.Steps.{IsInTurn, AreNumbered, AsksNoOutcome, IsNoOutcome, HasSaid}
 use Rattle.alp_top.proofs.SingleLemmas.{single, of_self, by_server}
 
 -- ---- an item and its entry
 
 -- an item of a list that is recorded has its entry
-pub record IsEntered (at : ℕ) (x : ℕ × Item) (es : List Entry) : Type 0 where
+pub record IsEntered (epoch at : ℕ) (x : ℕ × Item) (es : List Entry) : Type 0 where
   pub place : ℕ
   pub entry : Entry
   pub stands : slice_get es place ≡ Some entry
-  pub records : Records (at + place) x entry
+  pub records : Records epoch (at + place) x entry
 
-entered : (at : ℕ) (x : ℕ × Item) (xs : List (ℕ × Item)) (es : List Entry) → AreRecorded at xs es → IsIn x xs → IsEntered at x es
-entered at x [] es h i = absurd i
-entered at x (y ∷ xs) [] h i = absurd h
-entered at x (y ∷ xs) (e ∷ es) h (inl is) = record {
+entered : (epoch at : ℕ) (x : ℕ × Item) (xs : List (ℕ × Item)) (es : List Entry) → AreRecorded epoch at xs es → IsIn x xs → IsEntered epoch at x es
+entered epoch at x [] es h i = absurd i
+entered epoch at x (y ∷ xs) [] h i = absurd h
+entered epoch at x (y ∷ xs) (e ∷ es) h (inl is) = record {
   place = 0;
   entry = e;
   stands = refl;
-  records = subst (λ (n : ℕ). Records n x e) (let same : at ≡ at + 0 = omega arith in same) (subst (λ (z : ℕ × Item). Records at z e) (sym is) h.0);
+  records = subst (λ (n : ℕ). Records epoch n x e) (let same : at ≡ at + 0 = omega arith in same) (subst (λ (z : ℕ × Item). Records epoch at z e) (sym is) h.0);
 }
-entered at x (y ∷ xs) (e ∷ es) h (inr i) =
-    let rest = entered (at + 1) x xs es h.1 i in
-    record { place = suc rest.place; entry = rest.entry; stands = rest.stands; records = subst (λ (n : ℕ). Records n x rest.entry) (omega arith) rest.records }
+entered epoch at x (y ∷ xs) (e ∷ es) h (inr i) =
+    let rest = entered epoch (at + 1) x xs es h.1 i in
+    record { place = suc rest.place; entry = rest.entry; stands = rest.stands; records = subst (λ (n : ℕ). Records epoch n x rest.entry) (omega arith) rest.records }
 
 -- an entry of a call that is recorded has its item
-pub record IsSent (i : ℕ) (xs : List (ℕ × Item)) (e : Entry) : Type 0 where
+pub record IsSent (epoch i : ℕ) (xs : List (ℕ × Item)) (e : Entry) : Type 0 where
   pub item : ℕ × Item
   pub among : IsIn item xs
-  pub records : Records i item e
+  pub records : Records epoch i item e
 
-sent_there : (at i : ℕ) (e : Entry) (xs : List (ℕ × Item)) (es : List Entry) → AreRecorded at xs es → slice_get es i ≡ Some e → IsSent (at + i) xs e
-sent_there at i e [] [] h is = cc
-sent_there at i e [] (f ∷ es) h is = absurd h
-sent_there at i e (x ∷ xs) [] h is = absurd h
-sent_there at zero e (x ∷ xs) (f ∷ es) h is =
+sent_there : (epoch at i : ℕ) (e : Entry) (xs : List (ℕ × Item)) (es : List Entry) → AreRecorded epoch at xs es → slice_get es i ≡ Some e → IsSent epoch (at + i) xs e
+sent_there epoch at i e [] [] h is = cc
+sent_there epoch at i e [] (f ∷ es) h is = absurd h
+sent_there epoch at i e (x ∷ xs) [] h is = absurd h
+sent_there epoch at zero e (x ∷ xs) (f ∷ es) h is =
     let same : f ≡ e = cc in
-    record { item = x; among = inl refl; records = subst (λ (n : ℕ). Records n x e) (let alike : at ≡ at + 0 = omega arith in alike) (subst (Records at x) same h.0) }
-sent_there at (suc i) e (x ∷ xs) (f ∷ es) h is =
-    let rest = sent_there (at + 1) i e xs es h.1 is in
-    record { item = rest.item; among = inr rest.among; records = subst (λ (n : ℕ). Records n rest.item e) (omega arith) rest.records }
+    record { item = x; among = inl refl; records = subst (λ (n : ℕ). Records epoch n x e) (let alike : at ≡ at + 0 = omega arith in alike) (subst (Records epoch at x) same h.0) }
+sent_there epoch at (suc i) e (x ∷ xs) (f ∷ es) h is =
+    let rest = sent_there epoch (at + 1) i e xs es h.1 is in
+    record { item = rest.item; among = inr rest.among; records = subst (λ (n : ℕ). Records epoch n rest.item e) (omega arith) rest.records }
 
 -- ---- turns and lists
 
@@ -112,35 +112,84 @@ sent_same s t e = cc
 place_same : (i j : ℕ) → ◌≡◌ {A = Option ℕ} (Some i) (Some j) → i ≡ j
 place_same i j e = cc
 
--- an item's number is above the one that its list begins from, and its client is the list's
-above : (k from : ℕ) (xs : List items.Item) (x : items.Item) (q : items.Sent) → AreNumbered k from xs → IsIn x xs → x.sent ≡ Some q → (q.client ≡ k) × (from < q.number)
-above k from [] x q h i is = absurd i
-above k from (y ∷ xs) x q h (inl e) is =
-    let (s, said, whose, after, rest) = h in
+-- the client of an item is the list's
+client_in : (k from : ℕ) (xs : List items.Item) (x : items.Item) (q : items.Sent) → AreNumbered k from xs → IsIn x xs → x.sent ≡ Some q → q.client ≡ k
+client_in k from [] x q h i is = absurd i
+client_in k from (y ∷ xs) x q h (inl e) is =
+    let (s, said, whose, turn, rest) = h in
     let same : s ≡ q = sent_same s q (sym said ∙ ap (λ (z : items.Item). z.sent) (sym e) ∙ is) in
-    subst (λ (t : items.Sent). (t.client ≡ k) × (from < t.number)) same (whose, after)
-above k from (y ∷ xs) x q h (inr i) is =
-    let (s, said, whose, after, rest) = h in
-    let later = above k s.number xs x q rest i is in
-    (later.0, omega (arith, after, later.1))
+    subst (λ (t : items.Sent). t.client ≡ k) same whose
+client_in k from (y ∷ xs) x q h (inr i) is = let (s, said, whose, turn, rest) = h in client_in k (max from s.number) xs x q rest i is
 
--- two items of a list with the same number are one
-one_number : (k from : ℕ) (xs : List items.Item) (x y : items.Item) (q r : items.Sent) → AreNumbered k from xs → IsIn x xs → IsIn y xs → x.sent ≡ Some q → y.sent ≡ Some r → q.number ≡ r.number → x ≡ y
-one_number k from [] x y q r h i j is too same = absurd i
-one_number k from (z ∷ xs) x y q r h (inl a) (inl b) is too same = a ∙ sym b
-one_number k from (z ∷ xs) x y q r h (inl a) (inr j) is too same =
-    let (s, said, whose, after, rest) = h in
-    let mine : s ≡ q = sent_same s q (sym said ∙ ap (λ (z : items.Item). z.sent) (sym a) ∙ is) in
-    let low : s.number ≡ q.number = ap (λ (t : items.Sent). t.number) mine in
-    let up : s.number < r.number = (above k s.number xs y r rest j too).1 in
-    absurd (omega (arith, low, up, same))
-one_number k from (z ∷ xs) x y q r h (inr i) (inl b) is too same =
-    let (s, said, whose, after, rest) = h in
-    let mine : s ≡ r = sent_same s r (sym said ∙ ap (λ (z : items.Item). z.sent) (sym b) ∙ too) in
-    let low : s.number ≡ r.number = ap (λ (t : items.Sent). t.number) mine in
-    let up : s.number < q.number = (above k s.number xs x q rest i is).1 in
-    absurd (omega (arith, low, up, same))
-one_number k from (z ∷ xs) x y q r h (inr i) (inr j) is too same = let (s, said, whose, after, rest) = h in one_number k s.number xs x y q r rest i j is too same
+own_turn : (m : items.Mark) (from number : ℕ) → IsOwn m → IsInTurn m from number → from < number
+own_turn items.Own from number own h = h
+own_turn items.Repeated from number own h = absurd own
+own_turn items.Raw from number own h = absurd own
+
+-- the number of a client's own item is above the one that its list begins from
+above : (k from : ℕ) (xs : List items.Item) (x : items.Item) (q : items.Sent) → AreNumbered k from xs → IsIn x xs → IsOwn x.mark → x.sent ≡ Some q → from < q.number
+above k from [] x q h i own is = absurd i
+above k from (y ∷ xs) x q h (inl e) own is =
+    let (s, said, whose, turn, rest) = h in
+    let same : s ≡ q = sent_same s q (sym said ∙ ap (λ (z : items.Item). z.sent) (sym e) ∙ is) in
+    subst (λ (t : items.Sent). from < t.number) same (own_turn y.mark from s.number (subst (λ (z : items.Item). IsOwn z.mark) e own) turn)
+above k from (y ∷ xs) x q h (inr i) own is =
+    let (s, said, whose, turn, rest) = h in
+    let later : max from s.number < q.number = above k (max from s.number) xs x q rest i own is in
+    omega (arith, later, le-max_left from s.number)
+
+-- places that rise from this one on
+abbrev AreRising : ℕ → List items.Item → Type 0
+AreRising from [] = Unit {0}
+AreRising from (x ∷ xs) = (p : ℕ) × (x.place ≡ Some p) × (from ≤ p) × AreRising (p + 1) xs
+
+lower : (a b : ℕ) (xs : List items.Item) → a ≤ b → AreRising b xs → AreRising a xs
+lower a b [] le h = tt
+lower a b (x ∷ xs) le h = let (p, at, low, rest) = h in (p, at, omega (arith, le, low), rest)
+
+own_items : (epoch k c : ℕ) (b : Bool) (zs : List Item) (ts : List Turn) (at : ℕ) (es : List Entry) → ((a : ℕ) (fs : List Entry) → AreRecorded epoch a (sent_in ts) fs → AreRising a (list_map item_of (own_in k ts)))
+    → AreRecorded epoch at (list_map (λ (x : Item). (c, x)) zs ++ sent_in ts) es → AreRising at (list_map item_of (cond b zs [] ++ own_in k ts))
+own_items epoch k c true [] ts at es rest h = rest at es h
+own_items epoch k c false [] ts at es rest h = rest at es h
+own_items epoch k c b (z ∷ zs) ts at [] rest h = absurd h
+own_items epoch k c true (z ∷ zs) ts at (e ∷ es) rest h = (at, h.0.place, omega arith, own_items epoch k c true zs ts (at + 1) es rest h.1)
+own_items epoch k c false (z ∷ zs) ts at (e ∷ es) rest h = lower at (at + 1) (list_map item_of (own_in k ts)) (omega arith) (own_items epoch k c false zs ts (at + 1) es rest h.1)
+
+-- the items of a client are recorded in its order
+rises : (epoch k : ℕ) (ts : List Turn) (at : ℕ) (es : List Entry) → AreRecorded epoch at (sent_in ts) es → AreRising at (list_map item_of (own_in k ts))
+rises epoch k [] at es h = tt
+rises epoch k (t ∷ ts) at es h = own_items epoch k t.client (t.client == k) t.items ts at es (rises epoch k ts) h
+
+place_in : (from at : ℕ) (xs : List items.Item) (x : items.Item) → AreRising from xs → IsIn x xs → x.place ≡ Some at → from ≤ at
+place_in from at [] x h i is = absurd i
+place_in from at (y ∷ xs) x h (inl e) is =
+    let (p, there, low, rest) = h in
+    let same : p ≡ at = place_same p at (sym there ∙ ap (λ (z : items.Item). z.place) (sym e) ∙ is) in
+    omega (arith, low, same)
+place_in from at (y ∷ xs) x h (inr i) is = let (p, there, low, rest) = h in let up : p + 1 ≤ at = place_in (p + 1) at xs x rest i is in omega (arith, low, up)
+
+-- no item before one of a client's own has its number
+own_number : (k from low : ℕ) (xs : List items.Item) (x y : items.Item) (q r : items.Sent) (here there : ℕ) → AreNumbered k from xs → AreRising low xs → IsIn x xs → IsIn y xs → IsOwn x.mark → x.sent ≡ Some q → y.sent ≡ Some r
+    → x.place ≡ Some here → y.place ≡ Some there → there < here → q.number ≡ r.number → ⊥
+own_number k from low [] x y q r here there n h i j own is too at to less same = absurd i
+own_number k from low (z ∷ xs) x y q r here there n h (inl a) (inl b) own is too at to less same =
+    let one : here ≡ there = place_same here there (sym at ∙ ap (λ (u : items.Item). u.place) (a ∙ sym b) ∙ to) in
+    omega (arith, one, less)
+own_number k from low (z ∷ xs) x y q r here there n h (inl a) (inr j) own is too at to less same =
+    let (p, stands, up, rest) = h in
+    let one : p ≡ here = place_same p here (sym stands ∙ ap (λ (u : items.Item). u.place) (sym a) ∙ at) in
+    let later : p + 1 ≤ there = place_in (p + 1) there xs y rest j to in
+    omega (arith, one, later, less)
+own_number k from low (z ∷ xs) x y q r here there n h (inr i) (inl b) own is too at to less same =
+    let (s, said, whose, turn, rest) = n in
+    let mine : s ≡ r = sent_same s r (sym said ∙ ap (λ (u : items.Item). u.sent) (sym b) ∙ too) in
+    let one : s.number ≡ r.number = ap (λ (t : items.Sent). t.number) mine in
+    let up : max from s.number < q.number = above k (max from s.number) xs x q rest i own is in
+    omega (arith, up, le-max_right from s.number, one, same)
+own_number k from low (z ∷ xs) x y q r here there n h (inr i) (inr j) own is too at to less same =
+    let (s, said, whose, turn, rest) = n in
+    let (p, stands, up, more) = h in
+    own_number k (max from s.number) (p + 1) xs x y q r here there rest more i j own is too at to less same
 
 in_all : (P : items.Item → Type 0) (xs : List items.Item) (x : items.Item) → AllByRecursion P xs → IsIn x xs → P x
 in_all P [] x h i = absurd i
@@ -183,9 +232,10 @@ run_of log items.Raw o f = tt
 pub record IsSaid (s : ServerLog) (h : Handed) (turns : List Turn) (calls ends : List Entry) (client_of : ℕ → Client) : Type 0 where
   pub server : s.opening.server ≡ 1
   pub journal : s.journal ≡ calls ++ ends
+  pub epoch : ℕ
   pub quiet : (i client epoch number : ℕ) (c : Call) (e : Entry) → slice_get ends i ≡ Some e → e.event ≡ event.Call client epoch number c → ⊥
   pub handed : (k : ℕ) → h k ≡ list_map item_of (own_in k turns)
-  pub recorded : AreRecorded 0 (sent_in turns) calls
+  pub recorded : AreRecorded epoch 0 (sent_in turns) calls
   pub said : (k : ℕ) → HasSaid k (client_of k) (list_map item_of (own_in k turns))
 
 get_left : (xs ys : List Entry) (i : ℕ) (e : Entry) → slice_get xs i ≡ Some e → slice_get (xs ++ ys) i ≡ Some e
@@ -213,15 +263,14 @@ module _ (s : ServerLog) (h : Handed) (turns : List Turn) (calls ends : List Ent
     at : ℕ
     place : x.place ≡ Some at
     of_entry : IsOfEntry log x at
-    own : x.mark ≡ Own
 
   put : (k : ℕ) (x : items.Item) → IsIn x (h k) → IsPut k x
   put k x i =
       let (y, there, is) = member k x i in
-      let e = entered 0 (k, y) (sent_in turns) calls g.recorded (own_sent k y turns there) in
+      let e = entered g.epoch 0 (k, y) (sent_in turns) calls g.recorded (own_sent k y turns there) in
       let r = e.records in
-      let made : item_of y ≡ record { server = 1; mark = Own; sent = Some (record { client = k; epoch = r.epoch; number = r.number; call = r.call }); reply = e.entry.reply; place = Some e.place } =
-      (λ j. record { server = r.server j; mark = own_mark y.mark r.mark j; sent = sent_as y k r.epoch r.number r.call r.sent j; reply = sym r.reply j; place = (r.place ∙ ap Some (let at : 0 + e.place ≡ e.place = omega arith in at)) j }) in
+      let made : item_of y ≡ record { server = 1; mark = mark_of y.mark; sent = Some (record { client = k; epoch = r.epoch; number = r.number; call = r.call }); reply = e.entry.reply; place = Some e.place } =
+      (λ j. record { server = r.server j; mark = mark_of y.mark; sent = sent_as y k r.epoch r.number r.call r.sent j; reply = sym r.reply j; place = (r.place ∙ ap Some (let at : 0 + e.place ≡ e.place = omega arith in at)) j }) in
       subst (IsPut k) is (subst (IsPut k) (sym made) (record {
         at = e.place;
         place = refl;
@@ -233,12 +282,8 @@ module _ (s : ServerLog) (h : Handed) (turns : List Turn) (calls ends : List Ent
           called = r.event;
           handed = refl;
         };
-        own = refl;
       }))
     where
-      own_mark : (m : Mark) → m ≡ mark.Own → (item_of (record { line = 0; server = 0; mark = m; sent = sent.Bytes []; reply = None; place = None })).mark ≡ Own
-      own_mark m e = ap (λ (n : Mark). (item_of (record { line = 0; server = 0; mark = n; sent = sent.Bytes []; reply = None; place = None })).mark) e
-
       sent_as : (y : Item) (k epoch number : ℕ) (c : Call) → y.sent ≡ sent.Call k epoch number c → (item_of y).sent ≡ Some (record { client = k; epoch = epoch; number = number; call = c })
       sent_as y k epoch number c e = ap (λ q. (item_of (record { line = 0; server = 0; mark = mark.Own; sent = q; reply = None; place = None })).sent) e
 
@@ -255,7 +300,7 @@ module _ (s : ServerLog) (h : Handed) (turns : List Turn) (calls ends : List Ent
     g.server,
     elim (get_either calls ends i e (ap (λ (es : List Entry). slice_get es i) (sym g.journal) ∙ at)) [
       | inl there ↦
-          let q = sent_there 0 i e (sent_in turns) calls g.recorded there in
+          let q = sent_there g.epoch 0 i e (sent_in turns) calls g.recorded there in
           let k : ℕ = q.item.0 in
           let y : Item = q.item.1 in (
             k,
@@ -278,20 +323,22 @@ module _ (s : ServerLog) (h : Handed) (turns : List Turn) (calls ends : List Ent
   numbered : (k : ℕ) → AreNumbered k 0 (h k)
   numbered k = subst (AreNumbered k 0) (sym (g.handed k)) (g.said k).numbered
 
-  no_repeat : (client owner : ℕ) (x y : items.Item) → IsIn x (h client) → IsIn y (h owner) → IsBefore x y → ⊥
-  no_repeat client owner x y i j before =
-      let mine : before.later.client ≡ client = (above client 0 (h client) x before.later (numbered client) i before.later_sent).0 in
-      let other : before.earlier.client ≡ owner = (above owner 0 (h owner) y before.earlier (numbered owner) j before.earlier_sent).0 in
+  rising : (k : ℕ) → AreRising 0 (h k)
+  rising k = subst (AreRising 0) (sym (g.handed k)) (rises g.epoch k turns 0 calls g.recorded)
+
+  no_earlier : (client owner : ℕ) (x y : items.Item) → IsIn x (h client) → IsIn y (h owner) → IsOwn x.mark → IsBefore x y → ⊥
+  no_earlier client owner x y i j own before =
+      let mine : before.later.client ≡ client = client_in client 0 (h client) x before.later (numbered client) i before.later_sent in
+      let other : before.earlier.client ≡ owner = client_in owner 0 (h owner) y before.earlier (numbered owner) j before.earlier_sent in
       let whose : owner ≡ client = sym other ∙ before.client ∙ mine in
-      let same : x ≡ y = one_number client 0 (h client) x y before.later before.earlier (numbered client) i (subst (λ (k : ℕ). IsIn y (h k)) whose j) before.later_sent before.earlier_sent (sym before.number) in
-      let at : before.here ≡ before.there = place_same before.here before.there (sym before.later_place ∙ ap (λ (z : items.Item). z.place) same ∙ before.earlier_place) in
-      omega (arith, at, before.order)
+      own_number client 0 0 (h client) x y before.later before.earlier before.here before.there (numbered client) (rising client) i (subst (λ (k : ℕ). IsIn y (h k)) whose j) own before.later_sent before.earlier_sent
+      before.later_place before.earlier_place before.order (sym before.number)
 
   pub of_clients : AreOfClients log
   of_clients = record {
     replies = λ client x i. (let p = put client x i in placed x p.at p.place p.of_entry);
     whole = whole;
-    fresh = λ client owner x y i j own before. absurd (no_repeat client owner x y i j before);
+    fresh = λ client owner x y i j own before. absurd (no_earlier client owner x y i j own before);
     seen = λ client. subst (HaveSeen []) (sym (g.handed client)) (g.said client).seen;
     outcomes = λ client x i. run_of log x.mark x.sent (in_all AsksNoOutcome (h client) x (subst (AllByRecursion AsksNoOutcome) (sym (g.handed client)) (g.said client).outcomes) i);
   }

@@ -3,11 +3,11 @@ use Rattle.std.specs.Prelude.{◌==◌, true, false, Bool, Option, None, Some, I
 use Rattle.std.specs.FinMap as map
 use Rattle.std.specs.FinMap.{get-empty}
 use Rattle.std.proofs.lemmas.Bool.Decides.{eqb_tells}
-use Rattle.std.proofs.Common.{inl, inr, ◌⊎◌, ◌≡◌, ◌≢◌, ℕ, ◌+◌, ◌*◌, List, [], refl, sym, ◌∙◌, ap, subst}
+use Rattle.std.proofs.Common.{inl, inr, ◌⊎◌, ◌≡◌, ◌≢◌, ℕ, ◌+◌, ◌*◌, ◌≤◌, List, [], length, refl, sym, ◌∙◌, ap, subst, arith}
 use Rattle.alp_base.specs.Causes.{Rose}
 use Rattle.alp_base.specs.Crashes.{Only, NoMore}
 use Rattle.alp_base.specs.Faults.{HasFaultCause, IsCountKept, IsOfVolume}
-use Rattle.alp_base.specs.Notes.{text_cmp}
+use Rattle.alp_base.specs.Notes.{Notes, text_cmp}
 use Rattle.alp_base.specs.declared.allowance.Allowance.{Allowance}
 use Rattle.alp_base.specs.declared.allowance.Allowance.TheVariants.{Free, Spent}
 use Rattle.alp_base.specs.declared.faults.Sizes.{Sizes}
@@ -35,21 +35,24 @@ use Rattle.alp_vault.specs.Volumes.{AreServerNotes}
 use Rattle.alp_files.specs.Apart.{AreSized}
 use Rattle.alp_files.specs.Sound.{AreSound}
 use Rattle.alp_journal.specs.declared.entry.Entry.{Entry}
+use Rattle.alp_journal.specs.Answered.{entries_limit}
+use Rattle.alp_journal.specs.State.{State}
 use Rattle.alp_journal.specs.Opening.{Start, start_at}
 use Rattle.alp_node.specs.Durable.{said_of}
 use Rattle.alp_node.specs.NodeStates.{NodeState}
 use Rattle.alp_node.specs.Nodes as node
 use Rattle.alp_node.specs.Nodes.{start_in}
-use Rattle.alp_node.specs.declared.opened.Opened.{Opened}
 use Rattle.alp_node.proofs.StartLemmas.{volume_sized}
 use Rattle.alp_vault.specs.Volumes.{IsVolumeOf}
 use Rattle.alp_vault.specs.declared.vault.Vault.{Ghosts as VaultGhosts}
-use Rattle.alp_top.specs.Logs.{ServerOfLog, openings, start_of}
-use Rattle.alp_top.specs.Reports.{end_of}
+use Rattle.alp_top.specs.Logs.{ServerOfLog, start_of}
+use Rattle.alp_script.specs.declared.numbered.NumberedLine.{NumberedLine}
 use Rattle.alp_top.specs.Servers.{IsOn}
+use Rattle.alp_top.specs.Runs.{HasFilledUp}
+use Rattle.alp_top.proofs.FillLemmas.{promised_so_far}
 use Rattle.alp_top.proofs.StepLemmas.{kept_epoch, kept_clock}
 use Rattle.alp_top.specs.Faults.{of_vault, of_start, played}
-use Rattle.alp_top.specs.Volumes.{HasDiskCause, IsDiskFault, IsOfDisk, IsLeftAlone, IsOpenedNew, IsOpenedOn, IsStored}
+use Rattle.alp_top.specs.Volumes.{HasDiskCause, IsDiskFault, IsOfDisk, IsLeftAlone, IsOpenedNew, IsOpenedOn, IsStored, HasFilled}
 use Rattle.alp_top.specs.declared.fault.PlayFault.{PlayFault}
 use Rattle.alp_top.specs.declared.fault.PlayFault.TheVariants as play_fault
 
@@ -110,7 +113,7 @@ on_ok P r x is h = subst (λ q. OnOk q P) is h
 
 -- ---- why a run does not begin
 
-module _ {D : Type 0} (g : Ghosts D) (sizes : Sizes) (d e : D) where
+module _ {D : Type 0} (g : Ghosts D) (sizes : Sizes) (lines : List NumberedLine) (d e : D) where
   abbrev IsNewDisk : Type 0
   IsNewDisk = IsNew sizes (g.size d) (g.seen d)
 
@@ -127,7 +130,7 @@ module _ {D : Type 0} (g : Ghosts D) (sizes : Sizes) (d e : D) where
 
   -- the store did not start
   pub not_opened : (f : VaultFault) → HasFaultCause (g.faults d) (g.faults e) (g.allowance e) f → IsCountKept (g.faults d) (g.faults e) f → g.allowance e ≡ Free → (IsNewDisk → IsOfVolume f)
-      → ((IsNewDisk → ⊥) → WhyNotStarted 1 1 (g.size d) (g.seen d) f) → ReadsOn → HasDiskCause g sizes (of_vault f) d e
+      → ((IsNewDisk → ⊥) → WhyNotStarted 1 1 (g.size d) (g.seen d) f) → ReadsOn → HasDiskCause g sizes lines (of_vault f) d e
   not_opened vault_fault.Failed cause kept free new why on = cause.failed refl
   not_opened vault_fault.Stopped cause kept free new why on = absurd (spent_free (sym free ∙ cause.stopped refl))
   not_opened vault_fault.OutOfMemory cause kept free new why on = kept
@@ -137,10 +140,10 @@ module _ {D : Type 0} (g : Ghosts D) (sizes : Sizes) (d e : D) where
   -- the store did, and the server on it did not
   pub not_started : (held : Contents) (f : StartFault) (between : ℕ) (allowance : Allowance) (home : ℕ) → HasStartCause 1 1 held between (g.faults e) allowance f → allowance ≡ Free → between ≡ g.faults d → AreServerNotes 1 1 held.notes
       → (f ≡ start_fault.Vault vault_fault.OutOfMemory → g.faults e ≡ between) → (f ≡ start_fault.EpochEnd → g.faults e ≡ between)
-      → (IsNewDisk → held ≡ nothing) → ((IsNewDisk → ⊥) → Holds 1 1 (g.size d) home (g.seen d) held) → ((IsNewDisk → ⊥) → StartedOnOwn 1 1 held) → (f ≡ start_fault.EpochEnd → ReadsOn) → HasDiskCause g sizes (of_start f) d e
+      → (IsNewDisk → held ≡ nothing) → ((IsNewDisk → ⊥) → Holds 1 1 (g.size d) home (g.seen d) held) → ((IsNewDisk → ⊥) → StartedOnOwn 1 1 held) → (f ≡ start_fault.EpochEnd → ReadsOn) → HasDiskCause g sizes lines (of_start f) d e
   not_started held (start_fault.Vault f) between allowance home cause free kept notes memory last_epoch new holds own on = go f cause memory
     where
-      go : (f : VaultFault) → HasStartCause 1 1 held between (g.faults e) allowance (start_fault.Vault f) → (start_fault.Vault f ≡ start_fault.Vault vault_fault.OutOfMemory → g.faults e ≡ between) → HasDiskCause g sizes (of_vault f) d e
+      go : (f : VaultFault) → HasStartCause 1 1 held between (g.faults e) allowance (start_fault.Vault f) → (start_fault.Vault f ≡ start_fault.Vault vault_fault.OutOfMemory → g.faults e ≡ between) → HasDiskCause g sizes lines (of_vault f) d e
       go vault_fault.Failed h memory = subst (λ (n : ℕ). Rose n (g.faults e)) kept (h.0.failed refl)
       go vault_fault.Stopped h memory = absurd (spent_free (sym free ∙ h.0.stopped refl))
       go vault_fault.OutOfMemory h memory = memory refl ∙ kept
@@ -154,9 +157,10 @@ module _ {D : Type 0} (g : Ghosts D) (sizes : Sizes) (d e : D) where
       )
 
 -- a run on it was not played to its end
-pub not_played : {D : Type 0} (g : Ghosts D) (sizes : Sizes) (d e : D) (f : PlayFault) → (f ≡ play_fault.Device → Rose (g.faults d) (g.faults e)) → (f ≡ play_fault.OutOfMemory → g.faults e ≡ g.faults d) → HasDiskCause g sizes (played f) d e
-not_played g sizes d e play_fault.Device rose kept = rose refl
-not_played g sizes d e play_fault.OutOfMemory rose kept = kept refl
+pub not_played : {D : Type 0} (g : Ghosts D) (sizes : Sizes) (lines : List NumberedLine) (d e : D) (f : PlayFault) → (f ≡ play_fault.Device → Rose (g.faults d) (g.faults e)) → (f ≡ play_fault.OutOfMemory → g.faults e ≡ g.faults d) → (f ≡ play_fault.JournalFull → HasFilled g sizes lines d e) → HasDiskCause g sizes lines (played f) d e
+not_played g sizes lines d e play_fault.Device rose kept filled = rose refl
+not_played g sizes lines d e play_fault.OutOfMemory rose kept filled = kept refl
+not_played g sizes lines d e play_fault.JournalFull rose kept filled = filled refl
 
 -- none of these is a fault of the bay
 pub of_vault_own : (f : VaultFault) → IsOfDisk (of_vault f)
@@ -174,6 +178,7 @@ of_start_own start_fault.EpochEnd = tt
 pub played_own : (f : PlayFault) → IsOfDisk (played f)
 played_own play_fault.Device = tt
 played_own play_fault.OutOfMemory = tt
+played_own play_fault.JournalFull = tt
 
 -- ---- the count of faults of any disk
 
@@ -199,15 +204,13 @@ started_counted server servers before between now held allowance start_fault.Epo
 
 -- ---- what a run leaves on its disk
 
-module _ {V D : Type 0} (G : VaultGhosts V) (g : Ghosts D) (sizes : Sizes) (x : ServerOfLog V) (n : NodeState V) (before : Contents) (vol : Sizes) (d e : D)
-    (number : x.server ≡ 1) (opening : x.opening ≡ n.opening) (on : IsOn G n) (told : IsTrue (G.tells n.kept.vault)) (idle : n.journal ≡ []) (at_once : n.opening.vault.value ≡ n.kept.vault) (volume : G.volume n.kept.vault ≡ vol)
+-- what a server of a log was started on
+pub opened_as : {V : Type 0} (G : VaultGhosts V) (x : ServerOfLog V) (n : NodeState V) → x.server ≡ 1 → x.opening ≡ n.opening → IsOn G n → start_of G x ≡ start_in G n
+opened_as G x n number opening on = (λ i. start_at ((number ∙ sym on.first) i) (sym on.alone i) (G.volume (opening i).vault.value) (G.held (opening i).vault.value).cells (G.held (opening i).vault.value).notes)
+
+module _ {V D : Type 0} (G : VaultGhosts V) (g : Ghosts D) (sizes : Sizes) (o : Start) (notes : Notes) (last : State) (n : NodeState V) (before : Contents) (vol : Sizes) (d e : D) (as_opened : o ≡ start_in G n)
+    (as_noted : notes ≡ (G.held n.opening.vault.value).notes) (on : IsOn G n) (told : IsTrue (G.tells n.kept.vault)) (idle : n.journal ≡ []) (at_once : n.opening.vault.value ≡ n.kept.vault) (volume : G.volume n.kept.vault ≡ vol)
     (rose : HasRaised (G.tells n.kept.vault) 1 1 before (G.held n.kept.vault) (record { epoch = n.kept.epoch; clock = n.kept.clock })) where
-  abbrev o : Start
-  o = start_of G x
-
-  as_opened : o ≡ start_in G n
-  as_opened = (λ i. start_at ((number ∙ sym on.first) i) (sym on.alone i) (G.volume (opening i).vault.value) (G.held (opening i).vault.value).cells (G.held (opening i).vault.value).notes)
-
   sizes_are : o.sizes ≡ vol
   sizes_are = ap (λ (p : Start). p.sizes) as_opened ∙ ap G.volume at_once ∙ volume
 
@@ -223,12 +226,12 @@ module _ {V D : Type 0} (G : VaultGhosts V) (g : Ghosts D) (sizes : Sizes) (x : 
   cells_are : o.cells ≡ before.cells
   cells_are = ap (λ (p : Start). p.cells) as_opened ∙ ap (λ (v : V). (G.held v).cells) at_once ∙ rose.cells told
 
-  noted : (openings G).notes x.opening ≡ map.insert before.notes clock_name (clock_form.spell (record { epoch = o.epoch; clock = o.clock }))
+  noted : notes ≡ map.insert before.notes clock_name (clock_form.spell (record { epoch = o.epoch; clock = o.clock }))
   noted =
-      ap (λ (p : Opened V). (G.held p.vault.value).notes) opening ∙ ap (λ (v : V). (G.held v).notes) at_once ∙ rose.notes
+      as_noted ∙ ap (λ (v : V). (G.held v).notes) at_once ∙ rose.notes
       ∙ ap (λ (c : ClockNote). map.insert before.notes clock_name (clock_form.spell c)) (sym note_is)
 
-  opened_new : before ≡ nothing → vol ≡ sizes → IsOpenedNew sizes o ((openings G).notes x.opening)
+  opened_new : before ≡ nothing → vol ≡ sizes → IsOpenedNew sizes o notes
   opened_new none same =
       let first : ◌≡◌ {A = ClockNote} (record { epoch = o.epoch; clock = o.clock }) (record { epoch = 1; clock = 0 }) = note_is ∙ first_clock before (record { epoch = n.kept.epoch; clock = n.kept.clock }) none rose.next in
       record {
@@ -239,7 +242,7 @@ module _ {V D : Type 0} (G : VaultGhosts V) (g : Ghosts D) (sizes : Sizes) (x : 
         noted = noted ∙ (λ i. map.insert (none i).notes clock_name (clock_form.spell (first i)));
       }
 
-  opened_on : (a : Anchor) → Counts (g.size d) (g.seen d) a → (a.server ≡ 1) × (a.servers ≡ 1) → vol ≡ a.sizes → Holds 1 1 (g.size d) vol.home (g.seen d) before → StartedOnOwn 1 1 before → IsOpenedOn (g.size d) (g.seen d) o ((openings G).notes x.opening)
+  opened_on : (a : Anchor) → Counts (g.size d) (g.seen d) a → (a.server ≡ 1) × (a.servers ≡ 1) → vol ≡ a.sizes → Holds 1 1 (g.size d) vol.home (g.seen d) before → StartedOnOwn 1 1 before → IsOpenedOn (g.size d) (g.seen d) o notes
   opened_on a counts named same holds own = record {
     anchor = a;
     counts = counts;
@@ -253,15 +256,15 @@ module _ {V D : Type 0} (G : VaultGhosts V) (g : Ghosts D) (sizes : Sizes) (x : 
     noted = noted;
   }
 
-  pub stored : (held : Contents) → held ≡ said_of (end_of G 1 x) → IsVolumeOf vol held.cells → (IsNew sizes (g.size d) (g.seen d) → before ≡ nothing) → (IsNew sizes (g.size d) (g.seen d) → vol ≡ sizes)
+  pub stored : (held : Contents) → held ≡ said_of last → IsVolumeOf vol held.cells → (IsNew sizes (g.size d) (g.seen d) → before ≡ nothing) → (IsNew sizes (g.size d) (g.seen d) → vol ≡ sizes)
       → (a : Anchor) → (a.server ≡ 1) × (a.servers ≡ 1) → vol ≡ a.sizes → ((IsNew sizes (g.size d) (g.seen d) → ⊥) → Counts (g.size d) (g.seen d) a)
       → ((IsNew sizes (g.size d) (g.seen d) → ⊥) → Holds 1 1 (g.size d) vol.home (g.seen d) before) → ((IsNew sizes (g.size d) (g.seen d) → ⊥) → StartedOnOwn 1 1 before)
       → Holds 1 1 (g.size e) vol.home (g.seen e) held → Only (g.seen e) (g.may_leave e) → g.faults e ≡ g.faults d
-      → IsStored g sizes o ((openings G).notes x.opening) (end_of G 1 x) d e
+      → IsStored g sizes o notes last d e
   stored held said fits none same a named as_anchor counts holds own finish durable unfailed = record {
     new = λ is. opened_new (none is) (same is);
     found = λ is. opened_on a (counts is) named as_anchor (holds is) (own is);
-    finish = subst (λ (s : Sizes). Holds 1 1 (g.size e) s.home (g.seen e) (said_of (end_of G 1 x))) (sym sizes_are) (subst (λ (c : Contents). Holds 1 1 (g.size e) vol.home (g.seen e) c) said finish);
+    finish = subst (λ (s : Sizes). Holds 1 1 (g.size e) s.home (g.seen e) (said_of last)) (sym sizes_are) (subst (λ (c : Contents). Holds 1 1 (g.size e) vol.home (g.seen e) c) said finish);
     durable = durable;
     sound = record {
       files = subst (λ (c : Contents). AreSound c.cells) said fits.sound;
@@ -269,3 +272,25 @@ module _ {V D : Type 0} (G : VaultGhosts V) (g : Ghosts D) (sizes : Sizes) (x : 
     };
     unfailed = unfailed;
   }
+
+-- a server whose journal is full left its disk as that says
+pub left_full : {V D : Type 0} (G : VaultGhosts V) (g : Ghosts D) (sizes : Sizes) (lines : List NumberedLine) (first m : NodeState V) (d e : D) (o : Start) (notes : Notes) → o ≡ start_in G m → (G.held m.opening.vault.value).notes ≡ notes → HasFilledUp G lines first m
+    → IsTrue (G.tells m.kept.vault) → IsStored g sizes o notes (node.state_of o m.journal) d e → HasFilled g sizes lines d e
+left_full G g sizes lines first m d e o notes same noted filled told left =
+    let right = filled.on.kept.right told in
+    let promised = promised_so_far G lines first m filled told in
+    record {
+      opening = start_in G m;
+      notes = notes;
+      started = (let v = m.opening.vault.value in (λ i. start_at (filled.on.first i) (filled.on.alone i) (G.volume v) (G.held v).cells (noted i)));
+      journal = m.journal;
+      full = (let most : length m.journal ≤ entries_limit = filled.on.short in let least : entries_limit ≤ length m.journal = filled.full in omega (arith, most, least));
+      lawful = right.lawful;
+      caused = filled.on.answered told;
+      stored = subst (λ (p : Start). IsStored g sizes p notes (node.state_of p m.journal) d e) same left;
+      turns = filled.turns;
+      stopped = filled.stopped told;
+      serial = promised.serial;
+      whole = promised.whole;
+      kept = promised.kept;
+    }

@@ -2,7 +2,7 @@
 use Rattle.std.specs.Prelude.{Option, Some, Vec, sum, flat_map, map as list_map, IsTrue}
 use Rattle.std.specs.Global.{Global}
 use Rattle.std.proofs.lemmas.List.{map-append}
-use Rattle.std.proofs.Common.{◌≡◌, arith, ℕ, zero, suc, ◌+◌, ◌-◌, List, [], ◌∷◌, ◌++◌, length, length-append, refl, sym, ◌∙◌, ap, subst, append_assoc, append-nil, slice_get}
+use Rattle.std.proofs.Common.{◌≡◌, arith, ℕ, zero, suc, ◌+◌, ◌-◌, ◌≤◌, List, [], ◌∷◌, ◌++◌, length, length-append, refl, sym, ◌∙◌, ap, subst, append_assoc, append-nil, slice_get}
 use Rattle.alp_base.specs.declared.ids.TransId.{TransId}
 use Rattle.alp_files.specs.declared.reply.Reply.{Reply}
 use Rattle.alp_files.specs.declared.call.Call.{Call}
@@ -12,6 +12,7 @@ use Rattle.alp_journal.specs.declared.event.Event.TheVariants as event
 use Rattle.alp_journal.specs.declared.log.Item.{Item}
 use Rattle.alp_journal.specs.Along.{Along, state_after}
 use Rattle.alp_journal.specs.Alone.{alone, AreOwnEvents}
+use Rattle.alp_journal.specs.Answered.{entries_limit}
 use Rattle.alp_journal.specs.Laws.{IsLawful}
 use Rattle.alp_journal.specs.Moves.{next}
 use Rattle.alp_journal.specs.Opening.{Start}
@@ -32,8 +33,8 @@ use Rattle.alp_history.specs.RunLogs.{item_of}
 use Rattle.alp_report.specs.Reports.{count_text, summary_text}
 use Rattle.alp_script.specs.declared.numbered.NumberedLine.{NumberedLine}
 use Rattle.alp_script.specs.Accepted.{RisesFrom}
-use Rattle.alp_client.specs.Crowd.{Crowd}
-use Rattle.alp_client.specs.Crowds.{client_at, new_crowd}
+use Rattle.alp_session.specs.Crowd.{Crowd}
+use Rattle.alp_session.specs.Crowds.{client_at, new_crowd}
 use Rattle.alp_node.specs.Nodes as node
 use Rattle.alp_node.specs.Nodes.{AreLive, start_in}
 use Rattle.alp_node.specs.ServerState.{trans_to}
@@ -43,11 +44,13 @@ use Rattle.alp_top.specs.Plays.{AreRecorded, Plays, ranks_from}
 use Rattle.alp_vault.specs.declared.vault.Vault.{Ghosts}
 use Rattle.alp_node.specs.Durable.{said_of}
 use Rattle.alp_node.specs.NodeStates.{NodeState}
-use Rattle.alp_top.specs.Endings.{IsServerLog, IsEnded}
+use Rattle.alp_top.specs.Endings.{IsServerLog, IsSummaryOf, IsEnded}
 use Rattle.alp_top.specs.Servers.{IsOn, IsDone, HasStepped, state_of}
 use Rattle.alp_top.specs.Runs.{HasPlayed, HasPlayedOut, HasTimedOut, IsAtEnd}
-use Rattle.alp_top.specs.Reports.{report_of, ending_text, end_of, holding_text, begun_at, counts_text}
-use Rattle.alp_top.specs.Headline.{IsRun}
+use Rattle.alp_top.specs.Reports.{report_of, ending_text, end_of, files_text_of, owners_text_of, begun_at, counts_text}
+use Rattle.alp_top.specs.Headline.{IsRun, IsOfScript}
+use Rattle.alp_top.specs.Anywhere.{IsPlayedThrough}
+use Rattle.alp_top.specs.declared.finish.Ending.{Ending}
 use Rattle.alp_top.proofs.RunLemmas.{turns_are}
 use Rattle.alp_top.proofs.SingleLemmas.{single, IsSingle, proper, decided_many}
 use Rattle.alp_top.proofs.ClientLemmas.{IsSaid, of_clients}
@@ -63,6 +66,7 @@ one_more_out G before calls live n m t r h went =
       on = went.on;
       opening = went.opening ∙ h.opening;
       start = went.start ∙ h.start;
+      epoch = went.epoch ∙ h.epoch;
       ends = h.ends ++ e ∷ [];
       journal = went.journal ∙ ap (λ (js : List Entry). js ++ e ∷ []) h.journal ∙ append_assoc calls h.ends (e ∷ []);
       ended =
@@ -74,7 +78,7 @@ pub one_longer : (xs ys : List Entry) (e : Entry) → ys ≡ xs ++ e ∷ [] → 
 one_longer xs ys e is = ap (λ (js : List Entry). length js) is ∙ length-append xs (e ∷ [])
 
 -- no call stands among them
-no_call : (es : List Entry) (ts : List TransId) → list_map (λ (e : Entry). e.event) es ≡ list_map event.Timeout ts
+pub no_call : (es : List Entry) (ts : List TransId) → list_map (λ (e : Entry). e.event) es ≡ list_map event.Timeout ts
     → (i client epoch number : ℕ) (c : Call) (e : Entry) → slice_get es i ≡ Some e → e.event ≡ event.Call client epoch number c → ⊥
 no_call [] ts h i client epoch number c e at is = cc
 no_call (x ∷ es) [] h i client epoch number c e at is = cc
@@ -128,20 +132,24 @@ module _ {V : Type 0} (G : Ghosts V) where
       → length (decided (log_of G log)) ≡ length s.holder.applied → turns_text (turns_of lines (lists_of G log)) ++ ending_text s ≡ report_of G lines log
   unfolding ending_text
   report_is lines log x s many one same none as_many =
-      let held : List ℕ = holding_text s in
+      let files : List ℕ = files_text_of s in
+      let owners : List ℕ = owners_text_of s in
+      let turns : List ℕ = turns_text (turns_of lines (lists_of G log)) in
+      let ends : List ℕ = count_text (length s.holder.applied) (length s.begun - length s.holder.applied) in
       let begun : sum (list_map (begun_at G (length log.servers.items)) log.servers.items) ≡ length s.begun =
       ap (λ (xs : List (ServerOfLog V)). sum (list_map (begun_at G (length xs)) xs)) one
       ∙ (λ i. sum ((length (same i).begun - length (none i)) ∷ [])) ∙ omega arith in
-      let texts : flat_map (λ (y : ServerOfLog V). holding_text (end_of G (length log.servers.items) y)) log.servers.items ≡ held =
-      ap (λ (xs : List (ServerOfLog V)). flat_map (λ (y : ServerOfLog V). holding_text (end_of G (length xs) y)) xs) one ∙ append-nil (holding_text (end_of G 1 x)) ∙ ap holding_text same in
-      let counts : counts_text G log ≡ count_text (length s.holder.applied) (length s.begun - length s.holder.applied) = (λ i. count_text (as_many i) (begun i - as_many i)) in
-      sym (append_assoc (turns_text (turns_of lines (lists_of G log))) held (count_text (length s.holder.applied) (length s.begun - length s.holder.applied)))
-      ∙ sym (λ i. turns_text (turns_of lines (lists_of G log)) ++ texts i ++ counts i)
+      let texts : (f : State → List ℕ) → flat_map (λ (y : ServerOfLog V). f (end_of G (length log.servers.items) y)) log.servers.items ≡ f s =
+      (λ f. ap (λ (xs : List (ServerOfLog V)). flat_map (λ (y : ServerOfLog V). f (end_of G (length xs) y)) xs) one ∙ append-nil (f (end_of G 1 x)) ∙ ap f same) in
+      let counts : counts_text G log ≡ ends = (λ i. count_text (as_many i) (begun i - as_many i)) in
+      sym (append_assoc turns (files ++ owners) ends)
+      ∙ ap (λ (ts : List ℕ). ts ++ ends) (sym (append_assoc turns files owners))
+      ∙ sym (λ i. turns ++ texts files_text_of i ++ texts owners_text_of i ++ counts i)
 
 -- ---- a run that is over
 
 module _ {V : Type 0} (G : Ghosts V) (lines : List NumberedLine) (first n : NodeState V) (c : Crowd) (vs : List (Vec Item Global)) (text : List ℕ) (log : Log V) (server : ℕ) (rises : RisesFrom 1 lines)
-    (out : HasPlayedOut G lines first n c vs text) (number : server ≡ n.kept.server) (servers : IsServerLog server n.opening n.journal log.servers.items) (lists : log.clients.items ≡ vs) (told : IsTrue (G.tells n.kept.vault)) where
+    (out : HasPlayedOut G lines first n c vs text) (number : server ≡ n.kept.server) (servers : IsServerLog server n.opening n.journal log.servers.items) (lists : log.clients.items ≡ vs) where
   abbrev calls : List Entry
   calls = out.before.journal
 
@@ -159,9 +167,6 @@ module _ {V : Type 0} (G : Ghosts V) (lines : List NumberedLine) (first n : Node
 
   on : IsOn G n
   on = end.ended.on
-
-  right : node.IsRight (start_in G n) (G.held n.kept.vault) n
-  right = on.kept.right told
 
   x_number : x.server ≡ n.kept.server
   x_number = servers.number ∙ number
@@ -184,75 +189,107 @@ module _ {V : Type 0} (G : Ghosts V) (lines : List NumberedLine) (first n : Node
   journal : x.journal ≡ n.journal
   journal = servers.entries
 
-  is_single : IsSingle as_read
-  is_single = record {
-    few = (let servers : (start_of G x).servers ≡ 1 = refl in omega (arith, servers));
-    files = subst (λ (o : Start). AreSound o.cells) (sym same) right.opening.files;
-    sizes = subst (λ (o : Start). AreSized (map.get o.cells)) (sym same) right.opening.sizes;
-    ready = refl;
-    decisions = refl;
-    lawful = subst (λ (o : Start). IsLawful o x.journal) (sym same) (subst (IsLawful (start_in G n)) (sym journal) right.lawful);
-    own = subst AreOwnEvents (sym journal) right.own;
-    ranks = servers.ranks ∙ ap (ranks_from 1) (sym journal);
-    state = right.state;
-    says = ends_at ∙ right.says;
-  }
+  epoch_is : out.before.kept.epoch ≡ (start_of G x).epoch
+  epoch_is = out.epoch ∙ sym (ap (λ (o : Start). o.epoch) same)
 
-  is_said : IsSaid as_read (runs.handed_of (lists_of G log)) turns calls end.ended.ends (client_at c)
-  is_said = record {
-    server = x_number ∙ on.first;
+  -- what was sent and handed, whatever the vault tells
+  of_script : IsOfScript G lines log x
+  of_script = record {
+    clients = c;
+    calls = calls;
+    ends = end.ended.ends;
+    live = end.live;
+    plays = subst (λ (ts : List Turn). Plays new_crowd lines ts c) turns_same h.plays;
+    all = λ k. lists_are k ∙ ap (own_in k) turns_same;
+    many = ap (λ (ws : List (Vec Item Global)). length ws) lists ∙ h.places;
     journal = journal ∙ end.ended.journal;
-    quiet = no_call end.ended.ends end.live end.ended.ended;
-    handed = λ k. ap (list_map item_of) (lists_are k);
-    recorded = h.recorded;
-    said = h.said;
+    recorded =
+        subst (λ (here : ℕ). AreRecorded here 0 (sent_in (turns_of lines (lists_of G log))) calls) epoch_is
+        (subst (λ (ts : List Turn). AreRecorded out.before.kept.epoch 0 (sent_in ts) calls) turns_same h.recorded);
+    short = (let long : length x.journal ≡ length n.journal = ap (λ (js : List Entry). length js) journal in let most : length n.journal ≤ entries_limit = on.short in omega (arith, long, most));
+    ended = end.ended.ended;
+    ranks = servers.ranks ∙ ap (ranks_from 1) (sym journal);
   }
 
-  log_single : log_of G log ≡ single as_read (runs.handed_of (lists_of G log))
-  log_single = log_is G log x servers.one
-
-  run : IsRun G lines log
-  run =
-      let proper_log : IsProper (log_of G log) = subst IsProper (sym log_single) (proper as_read (runs.handed_of (lists_of G log)) is_single) in
-      let clients : AreOfClients (log_of G log) = subst AreOfClients (sym log_single) (of_clients as_read (runs.handed_of (lists_of G log)) turns calls end.ended.ends (client_at c) is_said) in
-      record {
-        server = x;
-        one = servers.one;
-        number = x_number ∙ on.first;
-        faithful = record {
-          clients = c;
-          calls = calls;
-          ends = end.ended.ends;
-          live = end.live;
-          plays = subst (λ (ts : List Turn). Plays new_crowd lines ts c) turns_same h.plays;
-          all = λ k. lists_are k ∙ ap (own_in k) turns_same;
-          many = ap (λ (ws : List (Vec Item Global)). length ws) lists ∙ h.places;
-          journal = journal ∙ end.ended.journal;
-          recorded = subst (λ (ts : List Turn). AreRecorded 0 (sent_in ts) calls) turns_same h.recorded;
-          lawful = is_single.lawful;
-          left = subst (λ (o : Start). AreLive (state_after next (opened o) calls) end.live) (sym (same ∙ end.ended.start)) (end.left told);
-          ended = end.ended.ended;
-          ranks = is_single.ranks;
-        };
-        caused = subst (λ (o : Start). Along next IsDone (opened o) x.journal) (sym same) (subst (λ (js : List Entry). Along next IsDone (opened (start_in G n)) js) (sym journal) (on.answered told));
-        serial = history (log_of G log) proper_log;
-        whole = wholeness (log_of G log) proper_log;
-        kept = promises (log_of G log) proper_log clients;
-      }
-
-  report : text ++ ending_text (state_of G n) ≡ report_of G lines log
-  report =
-      let many : length (decided (log_of G log)) ≡ length (state_of G n).holder.applied =
-      ap (λ (l : logs.Log). length (decided l)) log_single ∙ decided_many as_read (runs.handed_of (lists_of G log)) is_single ∙ ap (λ (s : State). length s.holder.applied) ends_at in
-      ap (λ (ts : List ℕ). ts ++ ending_text (state_of G n)) (h.text ∙ ap turns_text turns_same) ∙ report_is G lines log x (state_of G n) (length (decided (log_of G log))) servers.one ends_at refl many
-
-  -- what is printed is the report, and the vault holds what the journal says
-  pub run_over : (v : V) (printed : List ℕ) → printed ≡ text ++ ending_text (state_of G n) → IsTrue (G.serves v) → G.held v ≡ G.held n.kept.vault → IsEnded G lines first v log printed
-  unfolding run
-  run_over v printed is serves held = record {
-    run = run;
-    report = is ∙ report;
-    opening = servers.opened ∙ out.opening;
-    serves = serves;
-    held = held ∙ held_is G n on told ∙ ap said_of (sym ends_at);
+  -- and what is printed of it
+  pub played_through : (e : Ending) (more printed : List ℕ) → e.server ≡ server → e.epoch ≡ n.kept.epoch → IsSummaryOf e more → printed ≡ text ++ more → IsPlayedThrough G lines log printed
+  unfolding of_script
+  played_through e more printed is_server is_epoch s is = record {
+    server = x;
+    one = servers.one;
+    number = x_number ∙ on.first;
+    script = of_script;
+    summary = s.summary;
+    of_server = s.server ∙ is_server ∙ number ∙ on.first;
+    epoch = s.epoch ∙ is_epoch ∙ end.ended.epoch ∙ epoch_is;
+    report = is ∙ (λ i. (h.text ∙ ap turns_text turns_same) i ++ s.text_is i);
   }
+
+  module _ (told : IsTrue (G.tells n.kept.vault)) where
+    right : node.IsRight (start_in G n) (G.held n.kept.vault) n
+    right = on.kept.right told
+
+    is_single : IsSingle as_read
+    is_single = record {
+      few = (let servers : (start_of G x).servers ≡ 1 = refl in omega (arith, servers));
+      files = subst (λ (o : Start). AreSound o.cells) (sym same) right.opening.files;
+      sizes = subst (λ (o : Start). AreSized (map.get o.cells)) (sym same) right.opening.sizes;
+      ready = refl;
+      decisions = refl;
+      lawful = subst (λ (o : Start). IsLawful o x.journal) (sym same) (subst (IsLawful (start_in G n)) (sym journal) right.lawful);
+      own = subst AreOwnEvents (sym journal) right.own;
+      ranks = servers.ranks ∙ ap (ranks_from 1) (sym journal);
+      state = right.state;
+      says = ends_at ∙ right.says;
+    }
+
+    is_said : IsSaid as_read (runs.handed_of (lists_of G log)) turns calls end.ended.ends (client_at c)
+    is_said = record {
+      server = x_number ∙ on.first;
+      journal = journal ∙ end.ended.journal;
+      epoch = out.before.kept.epoch;
+      quiet = no_call end.ended.ends end.live end.ended.ended;
+      handed = λ k. ap (list_map item_of) (lists_are k);
+      recorded = h.recorded;
+      said = h.said;
+    }
+
+    log_single : log_of G log ≡ single as_read (runs.handed_of (lists_of G log))
+    log_single = log_is G log x servers.one
+
+    run : IsRun G lines log
+    unfolding of_script
+    run =
+        let proper_log : IsProper (log_of G log) = subst IsProper (sym log_single) (proper as_read (runs.handed_of (lists_of G log)) is_single) in
+        let clients : AreOfClients (log_of G log) = subst AreOfClients (sym log_single) (of_clients as_read (runs.handed_of (lists_of G log)) turns calls end.ended.ends (client_at c) is_said) in
+        record {
+          server = x;
+          one = servers.one;
+          number = x_number ∙ on.first;
+          faithful = record {
+            script = of_script;
+            lawful = is_single.lawful;
+            left = subst (λ (o : Start). AreLive (state_after next (opened o) calls) end.live) (sym (same ∙ end.ended.start)) (end.left told);
+          };
+          caused = subst (λ (o : Start). Along next IsDone (opened o) x.journal) (sym same) (subst (λ (js : List Entry). Along next IsDone (opened (start_in G n)) js) (sym journal) (on.answered told));
+          serial = history (log_of G log) proper_log;
+          whole = wholeness (log_of G log) proper_log;
+          kept = promises (log_of G log) proper_log clients;
+        }
+
+    report : text ++ ending_text (state_of G n) ≡ report_of G lines log
+    report =
+        let many : length (decided (log_of G log)) ≡ length (state_of G n).holder.applied =
+        ap (λ (l : logs.Log). length (decided l)) log_single ∙ decided_many as_read (runs.handed_of (lists_of G log)) is_single ∙ ap (λ (s : State). length s.holder.applied) ends_at in
+        ap (λ (ts : List ℕ). ts ++ ending_text (state_of G n)) (h.text ∙ ap turns_text turns_same) ∙ report_is G lines log x (state_of G n) (length (decided (log_of G log))) servers.one ends_at refl many
+
+    -- what is printed is the report, and the vault holds what the journal says
+    pub run_over : (v : V) (printed : List ℕ) → printed ≡ text ++ ending_text (state_of G n) → IsTrue (G.serves v) → G.held v ≡ G.held n.kept.vault → IsEnded G lines first v log printed
+    unfolding run
+    run_over v printed is serves held = record {
+      run = run;
+      report = is ∙ report;
+      opening = servers.opened ∙ out.opening;
+      serves = serves;
+      held = held ∙ held_is G n on told ∙ ap said_of (sym ends_at);
+    }

@@ -9,9 +9,11 @@ pub mod GoneLemmas
 pub mod SingleLemmas
 pub mod ClientLemmas
 pub mod EndLemmas
+pub mod FillLemmas
 pub mod DiskLemmas
 pub mod BayLemmas
 pub mod PlayedLemmas
 pub mod SummaryLemmas
 pub mod OwnerLemmas
 pub mod StreamLemmas
+mod ReplyLemmas

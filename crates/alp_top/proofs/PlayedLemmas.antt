@@ -17,9 +17,11 @@ use Rattle.alp_vault.specs.declared.vault.Vault.{Ghosts as VaultGhosts}
 use Rattle.alp_words.specs.Words.{folder_named, IsNamedBy}
 use Rattle.alp_words.specs.declared.command.Command.{Command}
 use Rattle.alp_words.specs.declared.command.Command.TheVariants as command
+use Rattle.alp_top.specs.Anywhere.{IsPlayedThrough, HasReported}
 use Rattle.alp_top.specs.Headline.{IsRunOf, IsPlayed, IsCutOff}
 use Rattle.alp_top.specs.Logs.{Log}
-use Rattle.alp_top.specs.Statuses.{Kept, OnDone, OnWriteFault, OnCutShort, ended_by, folder_in, IsFolderTold, OnDiskFault, IsHandedOver, IsPlayedOrMemory}
+use Rattle.alp_top.specs.Statuses.{IsLimit, OnTooLong, OnBadDisk, OnUntaken, OnFlaw, Kept, OnDone, OnWriteFault, OnCutShort, ended_by, folder_in, IsFolderTold, OnDiskFault, IsHandedOver, IsPlayedOrMemory}
+use Rattle.alp_script.specs.declared.fault.ScriptFault.{ScriptFault}
 use Rattle.alp_top.specs.Volumes.{pages_of, IsReturned, HasRunCause, IsFolderLeft, IsDiskFault, OnTakenFor, IsStartable, StartsOn}
 use Rattle.alp_top.specs.declared.fault.RunFault.{RunFault}
 use Rattle.alp_top.specs.declared.fault.RunFault.TheVariants as fault
@@ -48,6 +50,17 @@ module _ {V D : Type 0} (G : VaultGhosts V) (g : Ghosts D) (old new wrote writte
     count = count;
     output = subst (λ (bytes : List ℕ). Appends wrote written (take count bytes)) x.left.report out;
   })
+
+-- what was written of any run
+module _ {V : Type 0} (G : VaultGhosts V) (old new : Option (List ℕ)) (lines : List NumberedLine) (log : Log V) (text : List ℕ) (script : GaveScript old new lines) (through : IsPlayedThrough G lines log text) where
+  pub has_reported : (wrote written : Option (List ℕ)) (l : Log V) → l ≡ log → Appends wrote written text → HasReported G old new (λ ts. Appends wrote written ts) l
+  has_reported wrote written l same out =
+      subst (λ (l : Log V). HasReported G old new (λ ts. Appends wrote written ts) l) (sym same) (record { lines = lines; script = script; text = text; through = through; output = out })
+
+  pub has_reported_part : (wrote written : Option (List ℕ)) (l : Log V) → l ≡ log → (count : ℕ) → Appends wrote written (take count text) → HasReported G old new (λ ts. (count : ℕ) × Appends wrote written (take count ts)) l
+  has_reported_part wrote written l same count out =
+      subst (λ (l : Log V). HasReported G old new (λ ts. (count : ℕ) × Appends wrote written (take count ts)) l) (sym same)
+      (record { lines = lines; script = script; text = text; through = through; output = (count, out) })
 
 module _ {D : Type 0} {g : Ghosts D} where
   pub done_then : (s : Status D g) (P Q : Log (Kept D g) → Type 0) → ((log : Log (Kept D g)) → P log → Q log) → OnDone s P → OnDone s Q
@@ -83,9 +96,100 @@ module _ {D : Type 0} {g : Ghosts D} where
       go fault.Bay p = inl (refl, p)
       go fault.Disk p = inr (refl, p)
       go fault.OutOfMemory p = inr p
-      go fault.EpochEnd p = (refl, p)
+      go fault.JournalFull p = inr (inl (refl, p))
+      go fault.EpochEnd p = inr (inr (refl, p))
       go (fault.NotAVolume found) p = (refl, p)
       go (fault.Damaged place) p = (refl, p)
+
+  -- nothing is wrong with the script then, and no limit is that of its lines
+  pub not_flawed : (s : Status D g) (f : RunFault) (P : ScriptFault → Type 0) → s ≡ ended_by f → OnFlaw s P
+  not_flawed s f P is = subst (λ (q : Status D g). OnFlaw q P) (sym is) (go f)
+    where
+      go : (f : RunFault) → OnFlaw (ended_by {D = D} {g = g} f) P
+      go fault.JournalFull = λ e. absurd (omega (arith, e))
+      go fault.EpochEnd = λ e. absurd (omega (arith, e))
+      go f = tt
+
+  -- the run is not over then, a limit is that of a journal or the last epoch, and a disk is that of server 1
+  pub not_done : (s : Status D g) (f : RunFault) (P : Log (Kept D g) → Type 0) → s ≡ ended_by f → OnDone s P
+  not_done s f P is = subst (λ (q : Status D g). OnDone q P) (sym is) (go f)
+    where
+      go : (f : RunFault) → OnDone (ended_by {D = D} {g = g} f) P
+      go fault.Bay = tt
+      go fault.Disk = tt
+      go fault.OutOfMemory = tt
+      go fault.JournalFull = tt
+      go fault.EpochEnd = tt
+      go (fault.NotAVolume found) = tt
+      go (fault.Damaged place) = tt
+
+  pub not_cut : (s : Status D g) (f : RunFault) (P : Log (Kept D g) → Type 0) → s ≡ ended_by f → OnWriteFault s P
+  not_cut s f P is = subst (λ (q : Status D g). OnWriteFault q P) (sym is) (go f)
+    where
+      go : (f : RunFault) → OnWriteFault (ended_by {D = D} {g = g} f) P
+      go fault.Bay = tt
+      go fault.Disk = tt
+      go fault.OutOfMemory = tt
+      go fault.JournalFull = tt
+      go fault.EpochEnd = tt
+      go (fault.NotAVolume found) = tt
+      go (fault.Damaged place) = tt
+
+  pub limited : (s : Status D g) (f : RunFault) → s ≡ ended_by f → OnTooLong s IsLimit
+  limited s f is = subst (λ (q : Status D g). OnTooLong q IsLimit) (sym is) (go f)
+    where
+      go : (f : RunFault) → OnTooLong (ended_by {D = D} {g = g} f) IsLimit
+      go fault.Bay = tt
+      go fault.Disk = tt
+      go fault.OutOfMemory = tt
+      go fault.JournalFull = inr (inl refl)
+      go fault.EpochEnd = inr (inr refl)
+      go (fault.NotAVolume found) = tt
+      go (fault.Damaged place) = tt
+
+  pub of_first : (s : Status D g) (f : RunFault) → s ≡ ended_by f → OnBadDisk s (λ server. server ≡ 1)
+  of_first s f is = subst (λ (q : Status D g). OnBadDisk q (λ server. server ≡ 1)) (sym is) (go f)
+    where
+      go : (f : RunFault) → OnBadDisk (ended_by {D = D} {g = g} f) (λ server. server ≡ 1)
+      go fault.Bay = tt
+      go fault.Disk = tt
+      go fault.OutOfMemory = tt
+      go fault.JournalFull = tt
+      go fault.EpochEnd = tt
+      go (fault.NotAVolume found) = refl
+      go (fault.Damaged place) = refl
+
+  pub handed_limits : (s : Status D g) (P : ℕ → Type 0) → IsHandedOver s → OnTooLong s P
+  handed_limits (status.Done log) P h = tt
+  handed_limits (status.WriteFault log) P h = tt
+  handed_limits status.BadWords P h = tt
+  handed_limits (status.BadScript line) P h = tt
+  handed_limits status.ReadFault P h = tt
+  handed_limits (status.DiskFault server) P h = tt
+  handed_limits status.OutOfMemory P h = tt
+  handed_limits (status.TooLong limit) P h = absurd h
+  handed_limits (status.NotAVolume server found) P h = tt
+  handed_limits (status.Damaged server place) P h = tt
+
+  pub handed_disk : (s : Status D g) (P : ℕ → Type 0) → IsHandedOver s → OnBadDisk s P
+  handed_disk (status.Done log) P h = tt
+  handed_disk (status.WriteFault log) P h = tt
+  handed_disk status.BadWords P h = tt
+  handed_disk (status.BadScript line) P h = tt
+  handed_disk status.ReadFault P h = tt
+  handed_disk (status.DiskFault server) P h = tt
+  handed_disk status.OutOfMemory P h = tt
+  handed_disk (status.TooLong limit) P h = tt
+  handed_disk (status.NotAVolume server found) P h = absurd h
+  handed_disk (status.Damaged server place) P h = absurd h
+
+  pub not_untaken : (s : Status D g) (f : RunFault) (P : Type 0) → s ≡ ended_by f → OnUntaken s P
+  not_untaken s f P is = subst (λ (q : Status D g). OnUntaken q P) (sym is) (go f)
+    where
+      go : (f : RunFault) → OnUntaken (ended_by {D = D} {g = g} f) P
+      go fault.JournalFull = λ e. absurd (omega (arith, e))
+      go fault.EpochEnd = λ e. absurd (omega (arith, e))
+      go f = tt
 
   -- which folder the bay is left with
   pub folder_left : (s : Status D g) (f : RunFault) (before now named : Option (List ℕ)) → s ≡ ended_by f → IsFolderLeft f before now named → IsFolderTold s before now named
@@ -95,7 +199,8 @@ module _ {D : Type 0} {g : Ghosts D} where
       go fault.Bay h = elim h [ inl chosen ↦ inl chosen | inr kept ↦ inr (refl, kept) ]
       go fault.Disk h = inl h
       go fault.OutOfMemory h = h
-      go fault.EpochEnd h = h
+      go fault.JournalFull h = inr h
+      go fault.EpochEnd h = inr h
       go (fault.NotAVolume found) h = h
       go (fault.Damaged place) h = h
 
@@ -120,6 +225,7 @@ module _ {D : Type 0} {g : Ghosts D} where
       go fault.Bay h = inl refl
       go fault.Disk h = inr h
       go fault.OutOfMemory h = tt
+      go fault.JournalFull h = tt
       go fault.EpochEnd h = tt
       go (fault.NotAVolume found) h = tt
       go (fault.Damaged place) h = tt
@@ -170,16 +276,17 @@ module _ {D : Type 0} {g : Ghosts D} (sizes : Sizes) (before after : ℕ → Opt
       record { volume = λ found why. blank; whole = λ place why. blank; epoch = λ none. blank }
   startable d (Some s) is same = subst (λ (q : D). IsStartable sizes (g.size q) (g.seen q)) (sym same) (starts.startable s is)
 
-  pub plays_on : (s : Status D g) (f : RunFault) (bay_before bay_after : ℕ) → s ≡ ended_by f → HasRunCause g sizes before after bay_before bay_after f → (Rose bay_before bay_after → ⊥) → IsPlayedOrMemory s
-  plays_on s f bay_before bay_after is cause still = subst (λ (q : Status D g). IsPlayedOrMemory q) (sym is) (go f cause)
+  pub plays_on : (lines : List NumberedLine) (s : Status D g) (f : RunFault) (bay_before bay_after : ℕ) → s ≡ ended_by f → HasRunCause g sizes lines before after bay_before bay_after f → (Rose bay_before bay_after → ⊥) → IsPlayedOrMemory s
+  plays_on lines s f bay_before bay_after is cause still = subst (λ (q : Status D g). IsPlayedOrMemory q) (sym is) (go f cause)
     where
       on : (x : D) → IsTaken g (before 1) (pages_of sizes) x → IsStartable sizes (g.size x) (g.seen x)
       on x was = startable x (before 1) refl was
 
-      go : (f : RunFault) → HasRunCause g sizes before after bay_before bay_after f → IsPlayedOrMemory (ended_by {D = D} {g = g} f)
+      go : (f : RunFault) → HasRunCause g sizes lines before after bay_before bay_after f → IsPlayedOrMemory (ended_by {D = D} {g = g} f)
       go fault.Bay x = absurd (still x.1)
       go fault.Disk x = absurd (starts.unfailed x.taken x.given x.was x.now x.left)
       go fault.OutOfMemory x = tt
+      go fault.JournalFull x = refl
       go fault.EpochEnd x = absurd (x.left.0.old ((on x.taken x.was).epoch x.left.1))
       go (fault.NotAVolume found) x = absurd (x.left.0.old ((on x.taken x.was).volume found x.left.1))
       go (fault.Damaged place) x = absurd (x.left.0.old ((on x.taken x.was).whole place x.left.1))

@@ -1,8 +1,8 @@
 -- a run that goes on by one line, and what it is in the end
-use Rattle.std.specs.Prelude.{◌==◌, true, false, Bool, cond, filter, map as list_map, Option, None, Some, Vec}
+use Rattle.std.specs.Prelude.{◌==◌, true, false, Bool, cond, filter, map as list_map, Option, None, Some, IfSome, Vec}
 use Rattle.std.specs.Global.{Global}
 use Rattle.std.specs.List.{AllByRecursion}
-use Rattle.std.proofs.Common.{inl, inr, ◌≡◌, ℕ, zero, suc, ◌+◌, ◌<◌, ◌≤◌, List, [], ◌∷◌, ◌++◌, length, take, get_or, refl, sym, ◌∙◌, ap, subst, arith, append_assoc, append-nil, length-append}
+use Rattle.std.proofs.Common.{inl, inr, ◌≡◌, ℕ, zero, suc, ◌+◌, ◌<◌, ◌≤◌, List, [], ◌∷◌, ◌++◌, length, take, get_or, refl, sym, ◌∙◌, ap, subst, arith, append_assoc, append-nil}
 use Rattle.std.proofs.lemmas.List.{take_more, map-append}
 use Rattle.std.proofs.lemmas.Grind.{flat_map-append}
 use Rattle.std.proofs.lemmas.Bool.Decides.{eqb_tells}
@@ -10,26 +10,32 @@ use Rattle.std.proofs.lemmas.Bool.{ne_eqb}
 use Rattle.alp_journal.specs.declared.entry.Entry.{Entry}
 use Rattle.alp_journal.specs.declared.log.Item.{Item}
 use Rattle.alp_report.specs.Reports.{line_text}
+use Rattle.alp_rpc.specs.Replies.{IsSendable}
 use Rattle.alp_history.specs.RunLogs.{Lists, item_of}
 use Rattle.alp_script.specs.declared.numbered.NumberedLine.{NumberedLine}
-use Rattle.alp_script.specs.Named.{client_named}
+use Rattle.alp_lines.specs.Named.{client_named}
 use Rattle.alp_script.specs.Accepted.{RisesFrom}
-use Rattle.alp_client.specs.Crowd.{Crowd}
+use Rattle.alp_session.specs.Crowd.{Crowd}
 use Rattle.std.specs.Prelude.{replicate}
 use Rattle.std.proofs.lemmas.List.{length-replicate}
-use Rattle.alp_client.specs.Clients.{new_client}
-use Rattle.alp_client.specs.declared.client.Greeted.{Greeted}
+use Rattle.alp_session.specs.Clients.{new_client, no_frames}
+use Rattle.alp_session.specs.Frames.{IsRequestOf, KeepsRequests}
+use Rattle.alp_session.specs.declared.client.Client.{Client}
+use Rattle.alp_session.specs.declared.frames.Frames.{Frames}
+use Rattle.alp_session.specs.declared.client.Greeted.{Greeted}
 use Rattle.alp_node.specs.Sessions.{session_at}
 use Rattle.alp_journal.specs.Desk.{Session}
 use Rattle.alp_node.specs.declared.sessions.Sessions.{Sessions}
 use Rattle.alp_node.proofs.StartLemmas.{no_session}
-use Rattle.alp_client.specs.Crowds.{new_crowd, client_at}
+use Rattle.alp_session.specs.Crowds.{new_crowd, client_at}
 use Rattle.alp_top.specs.Turns.{Turn, lists_in, own_in, sent_in, turn_of, turns_of, turns_text}
 use Rattle.alp_top.specs.Plays.{PlaysLine, Plays, AreRecorded}
 use Rattle.alp_vault.specs.declared.vault.Vault.{Ghosts}
+use Rattle.alp_fields.specs.ClockNote.{clock_kept}
+use Rattle.alp_node.specs.Nodes.{start_in}
 use Rattle.alp_node.specs.NodeStates.{NodeState}
 use Rattle.alp_top.specs.Servers.{IsOn, IsIdle}
-use Rattle.alp_top.specs.Steps.{Adds, HasSaid, HasLast, SameSession}
+use Rattle.alp_top.specs.Steps.{SpellsPast, KeepsPast, Adds, HasSaid, HasLast, SameSession}
 use Rattle.alp_top.specs.Runs.{HasPlayed}
 
 Plays-push : (c mid d : Crowd) (ls : List NumberedLine) (l : NumberedLine) (turns own : List Turn) → Plays c ls turns mid → PlaysLine mid l (client_named l.line) own d → Plays c (ls ++ l ∷ []) (turns ++ own) d
@@ -40,14 +46,14 @@ Plays-push c mid d (x ∷ ls) l turns own h k =
     let (first, others, after_first, is, plays, rest) = h in
     (first, others ++ own, after_first, ap (λ (xs : List Turn). xs ++ own) is ∙ append_assoc first others own, plays, Plays-push after_first mid d ls l others own rest k)
 
-AreRecorded-append : (at : ℕ) (xs ys : List (ℕ × Item)) (es fs : List Entry) → AreRecorded at xs es → AreRecorded (at + length es) ys fs → AreRecorded at (xs ++ ys) (es ++ fs)
-AreRecorded-append at [] ys [] fs h k = subst (λ (n : ℕ). AreRecorded n ys fs) (let e : at + length {A = Entry} [] ≡ at = omega arith in e) k
-AreRecorded-append at [] ys (e ∷ es) fs h k = absurd h
-AreRecorded-append at (x ∷ xs) ys [] fs h k = absurd h
-AreRecorded-append at (x ∷ xs) ys (e ∷ es) fs h k =
-    (h.0, AreRecorded-append (at + 1) xs ys es fs h.1 (subst (λ (n : ℕ). AreRecorded n ys fs) (let e2 : at + length (e ∷ es) ≡ at + 1 + length es = omega arith in e2) k))
+pub AreRecorded-append : (here at : ℕ) (xs ys : List (ℕ × Item)) (es fs : List Entry) → AreRecorded here at xs es → AreRecorded here (at + length es) ys fs → AreRecorded here at (xs ++ ys) (es ++ fs)
+AreRecorded-append here at [] ys [] fs h k = subst (λ (n : ℕ). AreRecorded here n ys fs) (let e : at + length {A = Entry} [] ≡ at = omega arith in e) k
+AreRecorded-append here at [] ys (e ∷ es) fs h k = absurd h
+AreRecorded-append here at (x ∷ xs) ys [] fs h k = absurd h
+AreRecorded-append here at (x ∷ xs) ys (e ∷ es) fs h k =
+    (h.0, AreRecorded-append here (at + 1) xs ys es fs h.1 (subst (λ (n : ℕ). AreRecorded here n ys fs) (let e2 : at + length (e ∷ es) ≡ at + 1 + length es = omega arith in e2) k))
 
-own_append : (k : ℕ) (ts us : List Turn) → own_in k (ts ++ us) ≡ own_in k ts ++ own_in k us
+pub own_append : (k : ℕ) (ts us : List Turn) → own_in k (ts ++ us) ≡ own_in k ts ++ own_in k us
 own_append k [] us = refl
 own_append k (t ∷ ts) us =
     ap (λ (xs : List Item). cond (t.client == k) t.items [] ++ xs) (own_append k ts us) ∙ sym (append_assoc (cond (t.client == k) t.items []) (own_in k ts) (own_in k us))
@@ -64,11 +70,11 @@ played_more G ls l c d n m lists now text told h a = record {
   said = λ k. subst (HasSaid k (client_at d k)) (sym (map-append item_of (own_in k h.turns) (own_in k a.turns)) ∙ ap (list_map item_of) (sym (own_append k h.turns a.turns))) (a.said k (list_map item_of (own_in k h.turns)) (h.said k));
   text = a.text ∙ ap (λ (xs : List ℕ). xs ++ turns_text a.turns) h.text ∙ sym (flat_map-append (λ (t : Turn). line_text t.line t.items) h.turns a.turns);
   recorded =
-      subst (λ (js : List Entry). AreRecorded 0 (sent_in (h.turns ++ a.turns)) js) (sym a.journal)
-      (subst (λ (xs : List (ℕ × Item)). AreRecorded 0 xs (n.journal ++ a.entries)) (sym (flat_map-append (λ (t : Turn). list_map (λ (x : Item). (t.client, x)) t.items) h.turns a.turns))
-      (AreRecorded-append 0 (sent_in h.turns) (sent_in a.turns) n.journal a.entries h.recorded
-      (subst (λ (k : ℕ). AreRecorded k (sent_in a.turns) a.entries) (let e : length n.journal ≡ 0 + length n.journal = omega arith in e) a.recorded)));
-  few = omega (arith, ap (λ (js : List Entry). length js) a.journal, length-append n.journal a.entries, length-append ls (l ∷ []), h.few, a.few);
+      subst (λ (here : ℕ). AreRecorded here 0 (sent_in (h.turns ++ a.turns)) m.journal) (sym a.epoch)
+      (subst (λ (js : List Entry). AreRecorded n.kept.epoch 0 (sent_in (h.turns ++ a.turns)) js) (sym a.journal)
+      (subst (λ (xs : List (ℕ × Item)). AreRecorded n.kept.epoch 0 xs (n.journal ++ a.entries)) (sym (flat_map-append (λ (t : Turn). list_map (λ (x : Item). (t.client, x)) t.items) h.turns a.turns))
+      (AreRecorded-append n.kept.epoch 0 (sent_in h.turns) (sent_in a.turns) n.journal a.entries h.recorded
+      (subst (λ (k : ℕ). AreRecorded n.kept.epoch k (sent_in a.turns) a.entries) (let e : length n.journal ≡ 0 + length n.journal = omega arith in e) a.recorded))));
 }
 
 -- ---- the line at a place
@@ -210,22 +216,54 @@ new_told k = go 17 k
     go (suc n) zero = refl
     go (suc n) (suc k) = go n k
 
+-- and nobody sent a thing
+new_frames : (k : ℕ) → (client_at new_crowd k).frames ≡ no_frames
+new_frames k = go 17 k
+  where
+    go : (n k : ℕ) → (get_or (replicate n new_client) k new_client).frames ≡ no_frames
+    go zero k = refl
+    go (suc n) zero = refl
+    go (suc n) (suc k) = go n k
+
+new_kept : (k : ℕ) (c : Client) → c.frames ≡ no_frames → KeepsRequests k c
+new_kept k c is = record {
+  last = subst (λ (f : Frames). IfSome f.last (IsRequestOf k)) (sym is) tt;
+  before = subst (λ (f : Frames). IfSome f.before (IsRequestOf k)) (sym is) tt;
+}
+
+new_past : (c : Client) → c.frames ≡ no_frames → KeepsPast c
+new_past c is = record {
+  last = subst (λ (f : Frames). IfSome f.last (SpellsPast c.session)) (sym is) tt;
+  before = subst (λ (f : Frames). IfSome f.before (SpellsPast c.session)) (sym is) tt;
+}
+
 -- the server has no session either
 new_same : (epoch : ℕ) (o : Option Greeted) (w : Option Session) → o ≡ None → w ≡ None → SameSession epoch o w
 new_same epoch o w is none = subst (λ (x : Option Greeted). SameSession epoch x w) (sym is) (subst (SameSession epoch None) (sym none) tt)
 
+-- and keeps no reply
+none_kept : (w : Session) → None ≡ Some w → IsSendable w.reply
+none_kept w e = cc
+
 new_last : (o : Option Greeted) → o ≡ None → HasLast o []
 new_last o is = subst (λ (x : Option Greeted). HasLast x []) (sym is) refl
+
+-- the epoch that it was started in is its own
+pub epoch_noted : {V : Type 0} (G : Ghosts V) (n : NodeState V) → IsOn G n → IsIdle n → (start_in G n).epoch ≡ n.kept.epoch
+epoch_noted {V = V} G n on idle = ap (λ (v : V). (clock_kept (G.held v).notes).epoch) idle.opening ∙ on.kept.noted.1 on.up
 
 pub played_none : {V : Type 0} (G : Ghosts V) (c : Crowd) (n : NodeState V) (vs : List (Vec Item Global)) (text : List ℕ) → c ≡ new_crowd → IsOn G n → IsIdle n → length vs ≡ 17
     → AllByRecursion (λ (v : Vec Item Global). v.items ≡ []) vs → text ≡ [] → HasPlayed G [] c n vs text
 played_none G c n vs text is on idle many empty blank = subst (λ (d : Crowd). HasPlayed G [] d n vs text) (sym is) (record {
   step = record {
     on = on;
+    sendable = λ k w is. none_kept w (sym (ap (λ (s : Sessions). session_at s k) idle.sessions ∙ no_session k) ∙ is);
     places = length-replicate 17 new_client;
     each = λ k. record {
       session = new_same n.kept.epoch (client_at new_crowd k).session (session_at n.kept.sessions k) (new_session k) (ap (λ (s : Sessions). session_at s k) idle.sessions ∙ no_session k);
       told = (let low : (client_at new_crowd k).told.ts ≡ 0 = new_told k in omega (arith, low));
+      frames = new_kept k (client_at new_crowd k) (new_frames k);
+      past = new_past (client_at new_crowd k) (new_frames k);
     };
   };
   turns = [];
@@ -234,6 +272,5 @@ played_none G c n vs text is on idle many empty blank = subst (λ (d : Crowd). H
   lists = λ k. new_list vs k empty;
   said = λ k. record { numbered = tt; last = new_last (client_at new_crowd k).session (new_session k); told = tt; seen = tt; outcomes = tt };
   text = blank;
-  recorded = subst (AreRecorded 0 []) (sym idle.journal) tt;
-  few = (let short : length n.journal ≡ 0 = ap (λ (js : List Entry). length js) idle.journal in omega (arith, short));
+  recorded = subst (AreRecorded n.kept.epoch 0 []) (sym idle.journal) tt;
 })

@@ -1,15 +1,16 @@
 -- one item more in a client's list
-use Rattle.std.specs.Prelude.{Option, Some}
+use Rattle.std.specs.Prelude.{Option, Some, max}
 use Rattle.std.specs.List.{AllByRecursion}
-use Rattle.std.proofs.Common.{◌≡◌, ℕ, ◌<◌, ◌≤◌, ◌+◌, List, [], ◌∷◌, ◌++◌, refl, sym, ap, subst, arith}
+use Rattle.std.proofs.Common.{◌≡◌, ℕ, ◌≤◌, List, [], ◌∷◌, ◌++◌, refl, sym, ap, subst, arith}
+use Rattle.std.proofs.Math.Nat.{max-le}
 use Rattle.alp_base.specs.declared.ids.Stamp.{Stamp}
 use Rattle.alp_files.specs.declared.call.Call.{Call}
 use Rattle.alp_files.specs.declared.reply.Reply.{Reply}
-use Rattle.alp_client.specs.declared.client.Client.{Client}
-use Rattle.alp_client.specs.declared.client.Greeted.{Greeted}
-use Rattle.alp_history.specs.Items.{Item, Sent, Own, stamps_told, stamps_in}
-use Rattle.alp_history.specs.Handed.{HaveSeen, HasSeen, HasSeenBy}
-use Rattle.alp_top.specs.Steps.{AreNumbered, HasLast, HasSaid, AsksNoOutcome, IsNoOutcome}
+use Rattle.alp_session.specs.declared.client.Client.{Client}
+use Rattle.alp_session.specs.declared.client.Greeted.{Greeted}
+use Rattle.alp_history.specs.Items.{Item, Mark, Sent, stamps_told, stamps_by}
+use Rattle.alp_history.specs.Handed.{HaveSeen, HasSeen}
+use Rattle.alp_top.specs.Steps.{IsInTurn, AreNumbered, HasLast, HasSaid, AsksNoOutcome, IsNoOutcome}
 
 pub all_push : {A : Type 0} (P : A → Type 0) (xs : List A) (x : A) → AllByRecursion P xs → P x → AllByRecursion P (xs ++ x ∷ [])
 all_push P [] x h k = (k, tt)
@@ -30,11 +31,12 @@ same_sent s t e = cc
 abbrev AreUpTo : ℕ → List Item → Type 0
 AreUpTo last xs = AllByRecursion (λ (x : Item). (s : Sent) → x.sent ≡ Some s → s.number ≤ last) xs
 
-numbered_push : (k from last : ℕ) (xs : List Item) (x : Item) (s : Sent) → AreNumbered k from xs → AreUpTo last xs → from ≤ last → x.sent ≡ Some s → s.client ≡ k → last < s.number → AreNumbered k from (xs ++ x ∷ [])
-numbered_push k from last [] x s h up low is whose next = (s, is, whose, omega (arith, low, next), tt)
+numbered_push : (k from last : ℕ) (xs : List Item) (x : Item) (s : Sent) → AreNumbered k from xs → AreUpTo last xs → from ≤ last → x.sent ≡ Some s → s.client ≡ k → ((n : ℕ) → n ≤ last → IsInTurn x.mark n s.number) → AreNumbered k from (xs ++ x ∷ [])
+numbered_push k from last [] x s h up low is whose next = (s, is, whose, next from low, tt)
 numbered_push k from last (y ∷ xs) x s h up low is whose next =
     let (q, said, own, after, rest) = h in
-    (q, said, own, after, numbered_push k q.number last xs x s rest up.1 (up.0 q said) is whose next)
+    let here : q.number ≤ last = up.0 q said in
+    (q, said, own, after, numbered_push k (max from q.number) last xs x s rest up.1 (max-le low here) is whose next)
 
 seen_push : (before : List Stamp) (xs : List Item) (x : Item) (most : ℕ) → AllByRecursion (λ (s : Stamp). s.ts ≤ most) before → AllByRecursion (λ (y : Item). AllByRecursion (λ (s : Stamp). s.ts ≤ most) (stamps_told y)) xs → HaveSeen before xs
     → ((all : List Stamp) → AllByRecursion (λ (s : Stamp). s.ts ≤ most) all → HasSeen all x.mark x.sent) → HaveSeen before (xs ++ x ∷ [])
@@ -42,33 +44,37 @@ seen_push before [] x most low told h make = (make before low, tt)
 seen_push before (y ∷ xs) x most low told h make =
     (h.0, seen_push (before ++ stamps_told y) xs x most (all_append (λ (s : Stamp). s.ts ≤ most) before (stamps_told y) low told.0) told.1 h.1 make)
 
--- an item of the client's own call, with this reply
-abbrev pub own_item : ℕ → ℕ → ℕ → Call → Reply → Option ℕ → Item
-own_item k epoch number asked y place = record { server = 1; mark = Own; sent = Some (record { client = k; epoch = epoch; number = number; call = asked }); reply = Some y; place = place }
+-- an item of a client's call
+abbrev pub item_at : Mark → ℕ → ℕ → ℕ → Call → Option Reply → Option ℕ → Item
+item_at m k epoch number asked r place = record { server = 1; mark = m; sent = Some (record { client = k; epoch = epoch; number = number; call = asked }); reply = r; place = place }
 
--- the call has the number after the client's last one, its begins have seen what the client was told, and the client knows what it is told now
-pub record IsNextItem (k : ℕ) (c d : Client) (last epoch number : ℕ) (asked : Call) (y : Reply) : Type 0 where
+-- Behind calls with numbers up to that one it stands in its turn, it has seen what it had to, and the client knows what it is told
+-- now.
+pub record IsNextItem (m : Mark) (k : ℕ) (c d : Client) (last most epoch number : ℕ) (asked : Call) (r : Option Reply) : Type 0 where
   pub before : (xs : List Item) → HasLast c.session xs → AreUpTo last xs
-  pub next : number ≡ last + 1
-  pub after : (xs : List Item) → AreUpTo number xs → HasLast d.session xs
+  pub turn : (n : ℕ) → n ≤ last → IsInTurn m n number
+  pub grows : last ≤ most
+  pub within : number ≤ most
+  pub after : (xs : List Item) → AreUpTo most xs → HasLast d.session xs
   pub told : c.told.ts ≤ d.told.ts
-  pub stamps : AllByRecursion (λ (s : Stamp). s.ts ≤ d.told.ts) (stamps_in y)
-  pub seen : (all : List Stamp) → AllByRecursion (λ (s : Stamp). s.ts ≤ c.told.ts) all → HasSeenBy all asked
+  pub stamps : AllByRecursion (λ (s : Stamp). s.ts ≤ d.told.ts) (stamps_by m r)
+  pub seen : (all : List Stamp) → AllByRecursion (λ (s : Stamp). s.ts ≤ c.told.ts) all → HasSeen all m (Some (record { client = k; epoch = epoch; number = number; call = asked }))
   pub outcome : IsNoOutcome asked
 
-pub said_more : (k : ℕ) (c d : Client) (last epoch number : ℕ) (asked : Call) (y : Reply) (place : Option ℕ) (xs : List Item) → IsNextItem k c d last epoch number asked y → HasSaid k c xs
-    → HasSaid k d (xs ++ own_item k epoch number asked y place ∷ [])
-said_more k c d last epoch number asked y place xs n h =
-    let x : Item = own_item k epoch number asked y place in
+pub said_more : (m : Mark) (k : ℕ) (c d : Client) (last most epoch number : ℕ) (asked : Call) (r : Option Reply) (place : Option ℕ) (xs : List Item) → IsNextItem m k c d last most epoch number asked r → HasSaid k c xs
+    → HasSaid k d (xs ++ item_at m k epoch number asked r place ∷ [])
+said_more m k c d last most epoch number asked r place xs n h =
+    let x : Item = item_at m k epoch number asked r place in
     let s : Sent = record { client = k; epoch = epoch; number = number; call = asked } in
     let up : AreUpTo last xs = n.before xs h.last in
-    let next : number ≡ last + 1 = n.next in
+    let grows : last ≤ most = n.grows in
+    let within : number ≤ most = n.within in
     record {
-      numbered = numbered_push k 0 last xs x s h.numbered up (omega arith) refl refl (omega (arith, next));
+      numbered = numbered_push k 0 last xs x s h.numbered up (omega arith) refl refl n.turn;
       last = n.after (xs ++ x ∷ [])
-          (all_push (λ (y : Item). (q : Sent) → y.sent ≡ Some q → q.number ≤ number) xs x
-          (all_map (λ (y : Item). (q : Sent) → y.sent ≡ Some q → q.number ≤ last) (λ (y : Item). (q : Sent) → y.sent ≡ Some q → q.number ≤ number) (λ y f q is. (let low : q.number ≤ last = f q is in omega (arith, low, next))) xs up)
-          (λ q is. (let same : number ≡ q.number = ap (λ (z : Sent). z.number) (same_sent s q is) in omega (arith, same))));
+          (all_push (λ (y : Item). (q : Sent) → y.sent ≡ Some q → q.number ≤ most) xs x
+          (all_map (λ (y : Item). (q : Sent) → y.sent ≡ Some q → q.number ≤ last) (λ (y : Item). (q : Sent) → y.sent ≡ Some q → q.number ≤ most) (λ y f q is. (let low : q.number ≤ last = f q is in omega (arith, low, grows))) xs up)
+          (λ q is. (let same : number ≡ q.number = ap (λ (z : Sent). z.number) (same_sent s q is) in omega (arith, same, within))));
       told = all_push (λ (y : Item). AllByRecursion (λ (z : Stamp). z.ts ≤ d.told.ts) (stamps_told y)) xs x
           (all_map (λ (y : Item). AllByRecursion (λ (z : Stamp). z.ts ≤ c.told.ts) (stamps_told y)) (λ (y : Item). AllByRecursion (λ (z : Stamp). z.ts ≤ d.told.ts) (stamps_told y))
           (λ y all. all_map (λ (z : Stamp). z.ts ≤ c.told.ts) (λ (z : Stamp). z.ts ≤ d.told.ts) (λ z low. (let le : c.told.ts ≤ d.told.ts = n.told in omega (arith, low, le))) (stamps_told y) all) xs h.told)

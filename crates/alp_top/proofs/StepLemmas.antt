@@ -1,10 +1,11 @@
 -- the clients stay in step with their server through a call
-use Rattle.std.specs.Prelude.{true, false, Bool, cond, Option, None, Some}
+use Rattle.std.specs.Prelude.{◌==◌, ◌&&◌, true, false, Bool, cond, Option, None, Some, IfSome}
 use Rattle.std.specs.Option.{option_map}
 use Rattle.std.specs.Prelude.{IsTrue}
 use Rattle.std.specs.List.{AllByRecursion}
 use Rattle.std.specs.Ordering.{is_lt, ordering_reverse}
-use Rattle.std.proofs.Common.{inl, inr, ◌<◌, ◌^◌, ◌≡◌, ℕ, ◌+◌, ◌≤◌, List, [], ◌∷◌, ◌++◌, length, refl, sym, ◌∙◌, ap, subst, arith}
+use Rattle.std.proofs.lemmas.Bool.{ne_eqb}
+use Rattle.std.proofs.Common.{inl, inr, ◌⊎◌, eq-eqb, ◌^◌, ◌≡◌, ℕ, ◌+◌, ◌≤◌, List, [], ◌∷◌, ◌++◌, length, refl, sym, ◌∙◌, ap, subst, arith}
 use Rattle.std.proofs.lemmas.Bool.Decides.{leb_tells}
 use Rattle.alp_base.specs.declared.ids.FileId.{FileId}
 use Rattle.alp_base.specs.declared.ids.Stamp.{Stamp}
@@ -15,10 +16,10 @@ use Rattle.alp_files.specs.declared.reply.Reply.TheVariants as reply
 use Rattle.alp_files.specs.declared.reply.Ended.{Ended}
 use Rattle.alp_files.specs.declared.reply.Ended.TheVariants as ended
 use Rattle.alp_files.specs.declared.refusal.Refusal.TheVariants as refusal
-use Rattle.alp_script.specs.declared.line.Line.{Line}
-use Rattle.alp_script.specs.Forms.{IsForm, servers, volume, client, begin, owner, create, open_read, open_change, write, read, commit, abort}
+use Rattle.alp_lines.specs.declared.line.Line.{Line}
+use Rattle.alp_lines.specs.declared.line.Line.TheVariants as line
+use Rattle.alp_lines.specs.Forms.{IsForm}
 use Rattle.alp_journal.specs.declared.entry.Entry.{Entry}
-use Rattle.alp_journal.specs.declared.event.Event.TheVariants as event
 use Rattle.alp_journal.specs.Along.{Along, state_after}
 use Rattle.alp_journal.specs.Desk.{Session}
 use Rattle.alp_journal.specs.Ids.{stamp_cmp}
@@ -27,15 +28,22 @@ use Rattle.alp_journal.specs.State.{State, opened}
 use Rattle.alp_journal.specs.Moves.{next}
 use Rattle.alp_journal.proofs.StampLemmas.{stamps_total, stamp_cmp-later}
 use Rattle.alp_history.specs.Items.{stamps_in}
-use Rattle.alp_client.specs.Maps.{WordMap}
-use Rattle.alp_client.specs.Props.{later}
-use Rattle.alp_client.specs.declared.client.Client.{Client}
-use Rattle.alp_client.specs.declared.client.NumberedCall.{NumberedCall}
-use Rattle.alp_client.specs.declared.client.Greeted.{Greeted}
-use Rattle.alp_client.specs.Clients.{call_by, frame_in, learned_reply, left, created, opened as opened_said, told_end, HasNext}
-use Rattle.alp_client.specs.Crowd.{Crowd}
-use Rattle.alp_client.specs.Crowds.{client_at, asks}
-use Rattle.alp_node.specs.Served.{IsServed, IsTurnCall}
+use Rattle.alp_session.specs.Maps.{WordMap}
+use Rattle.alp_session.specs.Props.{later}
+use Rattle.alp_session.specs.declared.client.Client.{Client}
+use Rattle.alp_session.specs.declared.client.Greeted.{Greeted}
+use Rattle.alp_session.specs.Calls.{call_by}
+use Rattle.alp_session.specs.Frames.{request_in, request_of, frame_of, mark_of, HasNext, IsReady, IsRequestOf, KeepsRequests}
+use Rattle.alp_session.specs.Heard.{learned_reply, left, created, opened as opened_said, told_end, told_refusal, heard, heard_own, heard_again, keeps}
+use Rattle.alp_session.proofs.FrameLemmas.{request_read}
+use Rattle.alp_fields.specs.Forms.{whole}
+use Rattle.alp_rpc.specs.Frames.{request}
+use Rattle.alp_rpc.specs.declared.frame.Request.{Request}
+use Rattle.alp_journal.specs.declared.log.Mark.TheVariants as mark
+use Rattle.alp_files.specs.declared.refusal.Refusal.{Refusal}
+use Rattle.alp_session.specs.Crowd.{Crowd}
+use Rattle.alp_session.specs.Crowds.{client_at, asks}
+use Rattle.alp_node.specs.Served.{IsServed, IsAskable, IsTurnCall}
 use Rattle.alp_node.specs.Orders.{order_in, order_of}
 use Rattle.alp_node.specs.declared.sessions.CallOrder.{CallOrder}
 use Rattle.alp_node.specs.declared.sessions.CallOrder.TheVariants as order
@@ -47,8 +55,9 @@ use Rattle.alp_node.specs.declared.server_state.ServerState.{ServerState}
 use Rattle.alp_node.specs.NodeStates.{NodeState}
 use Rattle.alp_node.specs.Nodes as node
 use Rattle.alp_node.specs.Nodes.{start_in}
-use Rattle.alp_top.specs.Servers.{IsOn, state_of, is_due}
-use Rattle.alp_top.specs.Steps.{SameSession, InStep}
+use Rattle.alp_top.specs.Exchanges.{event_of}
+use Rattle.alp_top.specs.Servers.{IsOn, state_of}
+use Rattle.alp_top.specs.Steps.{SameSession, IsOfEpoch, IsPast, SpellsPast, KeepsPast, InStep}
 use Rattle.alp_top.proofs.AskLemmas.{line_call}
 use Rattle.alp_node.specs.Turns.{IsInSession}
 
@@ -69,22 +78,72 @@ module _ {V : Type 0} (G : Ghosts V) (n : NodeState V) (on : IsOn G n) (told : I
 
 -- ---- what a client asks
 
--- the frame of a call
-pub frame_there : (c : Client) (o : Option Greeted) (asked : Option Call) (frame : NumberedCall) → option_map (frame_in c o) asked ≡ Some frame → (x : Call) × (asked ≡ Some x) × (frame ≡ frame_in c o x)
-frame_there c o None frame e = cc
-frame_there c o (Some x) frame e = (x, refl, (let same : frame_in c o x ≡ frame = cc in sym same))
+same_bytes : (a b : List ℕ) → Some a ≡ Some b → a ≡ b
+same_bytes a b e = cc
+
+-- the client's own line sends the frame of its next request
+pub record IsOwn (words : WordMap) (k : ℕ) (d : Client) (l : Line) (frame : List ℕ) : Type 0 where
+  pub call : Call
+  pub is : call_by words d l ≡ Some call
+  pub spelled : whole request frame ≡ Some (request_in k d d.session call)
+  pub asked : IsRequestOf k frame
+  pub mark : mark_of l ≡ mark.Own
+  pub hears : (r : Option Reply) → heard words d l frame r ≡ (keeps (heard_own words d d.session l r).0 frame, (heard_own words d d.session l r).1)
+
+-- or it sends one again
+pub record IsAgain (words : WordMap) (k : ℕ) (d : Client) (l : Line) (frame : List ℕ) : Type 0 where
+  pub again : Request
+  pub client : again.client ≡ k
+  pub spelled : whole request frame ≡ Some again
+  pub asked : IsRequestOf k frame
+  pub past : IsPast d.session again
+  pub mark : mark_of l ≡ mark.Repeated
+  pub hears : (r : Option Reply) → heard words d l frame r ≡ (heard_again d r, true)
+
+pub own_asked : (k : ℕ) (d : Client) (o : Option Greeted) (x : Call) → (request_in k d o x).client ≡ k
+own_asked k d None x = refl
+own_asked k d (Some g) x = refl
+
+module _ (words : WordMap) (k : ℕ) (d : Client) (l : Line) (frame : List ℕ) where
+  as_own : (o : Option Call) → call_by words d l ≡ o → option_map request.spell (option_map (request_in k d d.session) o) ≡ Some frame → IfSome (option_map (request_in k d d.session) o) request.Fits
+      → mark_of l ≡ mark.Own → ((r : Option Reply) → heard words d l frame r ≡ (keeps (heard_own words d d.session l r).0 frame, (heard_own words d d.session l r).1)) → IsOwn words k d l frame
+  as_own None is e fits m h = cc
+  as_own (Some x) is e fits m h =
+      let q : Request = request_in k d d.session x in
+      let same : request.spell q ≡ frame = same_bytes (request.spell q) frame e in
+      record {
+        call = x;
+        is = is;
+        spelled = ap (λ (b : List ℕ). whole request b) (sym same) ∙ request_read q fits;
+        asked = record { asked = q; client = own_asked k d d.session x; spelled = sym same; fits = fits };
+        mark = m;
+        hears = h;
+      }
+
+  as_again : (o : Option (List ℕ)) → IfSome o (IsRequestOf k) → IfSome o (SpellsPast d.session) → o ≡ Some frame → mark_of l ≡ mark.Repeated → ((r : Option Reply) → heard words d l frame r ≡ (heard_again d r, true))
+      → IsAgain words k d l frame
+  as_again None asked past e m h = cc
+  as_again (Some b) asked past e m h =
+      let same : b ≡ frame = same_bytes b frame e in
+      let of : IsRequestOf k frame = subst (IsRequestOf k) same asked in
+      let spells : SpellsPast d.session frame = subst (SpellsPast d.session) same past in
+      let spelled : whole request frame ≡ Some of.asked = ap (λ (z : List ℕ). whole request z) of.spelled ∙ request_read of.asked of.fits in
+      record { again = of.asked; client = of.client; spelled = spelled; asked = of; past = spells of.asked spelled; mark = m; hears = h }
+
+-- what a client's frame is
+pub asked_as : (words : WordMap) (k : ℕ) (d : Client) (l : Line) (frame : List ℕ) → KeepsRequests k d → KeepsPast d → frame_of words k d l ≡ Some frame → IfSome (request_of words k d l) request.Fits
+    → IsOwn words k d l frame ⊎ IsAgain words k d l frame
+asked_as words k d (line.Repeat c) frame kept past e fits = inr (as_again words k d (line.Repeat c) frame d.frames.last kept.last past.last e refl (λ r. refl))
+asked_as words k d (line.Old c) frame kept past e fits = inr (as_again words k d (line.Old c) frame d.frames.before kept.before past.before e refl (λ r. refl))
+asked_as words k d l frame kept past e fits = inl (as_own words k d l frame (call_by words d l) refl e fits refl (λ r. refl))
 
 -- what it is among the calls of a client that knows its session: a greeting begins one, and any other call is the next
 abbrev pub sent_as : Option Greeted → CallOrder
 sent_as None = order.First
 sent_as (Some g) = order.Next
 
-sent_due : (o : Option Greeted) → is_due (Some (sent_as o)) ≡ true
-sent_due None = refl
-sent_due (Some g) = refl
-
 pub sent_order : {V : Type 0} (s : ServerState V) (d : Client) (k : ℕ) (x : Call) (o : Option Greeted) (w : Option Session) → IsTurnCall x → SameSession s.epoch o w → session_at s.sessions k ≡ w
-    → order_in s (event.Call k (frame_in d o x).epoch (frame_in d o x).number (frame_in d o x).call) ≡ Some (sent_as o)
+    → order_in s (event_of (request_in k d o x)) ≡ Some (sent_as o)
 sent_order s d k x None None turn h is = ap (λ (w : Option Session). Some (order_of s.epoch 0 1 (call.Hello d.name) w)) is
 sent_order s d k x None (Some w) turn h is = absurd h
 sent_order s d k x (Some g) None turn h is = absurd h
@@ -92,39 +151,64 @@ sent_order s d k x (Some g) (Some w) turn h is =
     ap (λ (v : Option Session). Some (order_of s.epoch g.epoch (g.last + 1) x v)) is
     ∙ ap (λ (y : CallOrder). Some y) (is_next s.epoch g.epoch (g.last + 1) x w (turn_no_greeting x turn) h.0 (ap (λ (m : ℕ). m + 1) (sym h.1)))
 
+-- a call that its session has come to is the last one of it, or is not answered
+pub past_order : (here epoch number : ℕ) (c : Call) (w : Session) → number ≤ w.last → IsOfEpoch here epoch c → (order_of here epoch number c (Some w) ≡ order.Repeat) ⊎ (order_of here epoch number c (Some w) ≡ order.Astray)
+past_order here epoch number (call.Hello name) w low of = go (epoch == 0 && number == 1 && w.last == 1)
+  where
+    go : (b : Bool) → (cond {A = CallOrder} b order.Repeat order.Astray ≡ order.Repeat) ⊎ (cond {A = CallOrder} b order.Repeat order.Astray ≡ order.Astray)
+    go true = inl refl
+    go false = inr refl
+past_order here epoch number c w low of = go (epoch == here) (number == w.last) (number == w.last + 1) (eq-eqb epoch here of) (ne_eqb number (w.last + 1) (λ e. omega (arith, low, e)))
+  where
+    go : (a b n : Bool) → a ≡ true → n ≡ false → (cond {A = CallOrder} a (cond {A = CallOrder} b order.Repeat (cond {A = CallOrder} n order.Next order.Astray)) order.Stale ≡ order.Repeat)
+        ⊎ (cond {A = CallOrder} a (cond {A = CallOrder} b order.Repeat (cond {A = CallOrder} n order.Next order.Astray)) order.Stale ≡ order.Astray)
+    go true true n same other = inl refl
+    go true false false same other = inr refl
+    go true false true same other = cc
+    go false b n same other = cc
+
+past_askable : (o : Option Greeted) (r : Request) → IsPast o r → IsAskable r.call
+past_askable None r h = absurd h
+past_askable (Some g) r h = h.2
+
 module _ {V : Type 0} (G : Ghosts V) (c : Crowd) (n : NodeState V) (k : ℕ) (step : InStep G c n) where
   -- no client was told of a time that clocks do not show
   pub told_low : (client_at c k).told.ts ≤ 2 ^ 62
   told_low = omega (arith, (step.each k).told, step.on.kept.ready.clock)
 
-  -- what a client asks for its line is served, and due
-  pub served : (l : Line) (frame : NumberedCall) → k ≤ 16 → IsForm l → asks c k l false ≡ Some frame → IsServed (event.Call k frame.epoch frame.number frame.call)
-  served l frame small form e =
-      let d : Client = client_at c k in
-      let (x, is, same) = frame_there d d.session (call_by c.words d l) frame e in
-      subst (λ (f : NumberedCall). IsServed (event.Call k f.epoch f.number f.call)) (sym same) (go d x (line_call c.words d l x told_low form is) d.session)
-    where
-      go : (d : Client) (x : Call) → IsTurnCall x → (o : Option Greeted) → IsServed (event.Call k (frame_in d o x).epoch (frame_in d o x).number (frame_in d o x).call)
-      go d x turn None = (small, tt)
-      go d x turn (Some g) = (small, turn_askable x turn)
-
-  pub due : (l : Line) (frame : NumberedCall) → IsForm l → asks c k l false ≡ Some frame → is_due (order_in n.kept (event.Call k frame.epoch frame.number frame.call)) ≡ true
-  due l frame form e =
-      let d : Client = client_at c k in
-      let (x, is, same) = frame_there d d.session (call_by c.words d l) frame e in
-      subst (λ (f : NumberedCall). is_due (order_in n.kept (event.Call k f.epoch f.number f.call)) ≡ true) (sym same)
-      (ap is_due (sent_order n.kept d k x d.session (session_at n.kept.sessions k) (line_call c.words d l x told_low form is) (step.each k).session refl) ∙ sent_due d.session)
-
   -- its number has its four bytes
-  pub has_next : length n.journal < 65536 → HasNext (client_at c k).session
-  has_next room = go (client_at c k).session (session_at n.kept.sessions k) (step.each k).session refl
+  pub has_next : HasNext (client_at c k).session
+  has_next = go (client_at c k).session (session_at n.kept.sessions k) (step.each k).session refl
     where
       go : (o : Option Greeted) (w : Option Session) → SameSession n.kept.epoch o w → session_at n.kept.sessions k ≡ w → HasNext o
       go None w h is = tt
       go (Some g) None h is = absurd h
       go (Some g) (Some w) h is =
           let low : w.last ≤ length n.journal = step.on.kept.ready.calls k w is in
-          omega (arith, low, room, h.1)
+          omega (arith, low, step.on.short, h.1)
+
+  -- its next request has a frame
+  pub is_ready : 1 ≤ k → k ≤ 16 → IsReady k (client_at c k)
+  is_ready some small = record { from_one = some; to_last = small; next = has_next; told = told_low }
+
+  -- what a client's frame is
+  pub asked_here : (l : Line) (frame : List ℕ) → asks c k l false ≡ Some frame → IfSome (request_of c.words k (client_at c k) l) request.Fits → IsOwn c.words k (client_at c k) l frame ⊎ IsAgain c.words k (client_at c k) l frame
+  asked_here l frame e fits = asked_as c.words k (client_at c k) l frame (step.each k).frames (step.each k).past e fits
+
+  own_served : (d : Client) (x : Call) (o : Option Greeted) → k ≤ 16 → IsTurnCall x → IsServed (event_of (request_in k d o x))
+  own_served d x None small turn = (small, tt)
+  own_served d x (Some g) small turn = (small, turn_askable x turn)
+
+  -- what it spells is served
+  pub served : (l : Line) (frame : List ℕ) → k ≤ 16 → IsForm l → asks c k l false ≡ Some frame → IfSome (request_of c.words k (client_at c k) l) request.Fits → IfSome (whole request frame) (λ r. IsServed (event_of r))
+  served l frame small form e fits = elim (asked_here l frame e fits) [
+    | inl own ↦
+        subst (λ (o : Option Request). IfSome o (λ r. IsServed (event_of r))) (sym own.spelled)
+        (own_served (client_at c k) own.call (client_at c k).session small (line_call c.words (client_at c k) l own.call told_low form own.is))
+    | inr old ↦
+        subst (λ (o : Option Request). IfSome o (λ r. IsServed (event_of r))) (sym old.spelled)
+        (subst (λ (j : ℕ). j ≤ 16) (sym old.client) small, past_askable (client_at c k).session old.again old.past)
+  ]
 
 -- ---- an entry more
 
@@ -153,55 +237,27 @@ module _ {V : Type 0} (G : Ghosts V) (n m : NodeState V) (e : Entry) (same : sta
 
 -- ---- what the client makes of an answer
 
--- a session and a clock stay where nothing is said of them
+-- session, clock and frames stay where nothing is said of them
 pub record SameKnown (c d : Client) : Type 0 where
   pub session : d.session ≡ c.session
   pub told : d.told ≡ c.told
+  pub frames : d.frames ≡ c.frames
 
 pub same_known : (c : Client) → SameKnown c c
-same_known c = record { session = refl; told = refl }
+same_known c = record { session = refl; told = refl; frames = refl }
 
-left_known : (c : Client) (l : Line) → IsForm l → SameKnown c (left c l)
-left_known c l (servers count) = same_known c
-left_known c l (volume server home area small) = same_known c
-left_known c l (client k name) = same_known c
-left_known c l (begin k server) = same_known c
-left_known c l (owner k server name quota) = same_known c
-left_known c l (create k server word name size small) = same_known c
-left_known c l (open_read k file) = same_known c
-left_known c l (open_change k file) = same_known c
-left_known c l (write k file run text some short) = same_known c
-left_known c l (read k file run some) = same_known c
-left_known c l (commit k) = record { session = refl; told = refl }
-left_known c l (abort k) = record { session = refl; told = refl }
+left_known : (c : Client) (l : Line) → SameKnown c (left c l)
+left_known c (line.Commit k) = record { session = refl; told = refl; frames = refl }
+left_known c (line.Abort k) = record { session = refl; told = refl; frames = refl }
+left_known c l = same_known c
 
-created_known : (c : Client) (l : Line) (f : FileId) (n : ℕ) → IsForm l → SameKnown c (created c l f n)
-created_known c l f n (servers count) = same_known c
-created_known c l f n (volume server home area small) = same_known c
-created_known c l f n (client k name) = same_known c
-created_known c l f n (begin k server) = same_known c
-created_known c l f n (owner k server name quota) = same_known c
-created_known c l f n (create k server word name size small) = record { session = refl; told = refl }
-created_known c l f n (open_read k file) = same_known c
-created_known c l f n (open_change k file) = same_known c
-created_known c l f n (write k file run text some short) = same_known c
-created_known c l f n (read k file run some) = same_known c
-created_known c l f n (commit k) = same_known c
-created_known c l f n (abort k) = same_known c
+created_known : (c : Client) (l : Line) (f : FileId) (n : ℕ) → SameKnown c (created c l f n)
+created_known c (line.Create k server word name size read modify choice) f n = record { session = refl; told = refl; frames = refl }
+created_known c l f n = same_known c
 
-opened_known : (words : WordMap) (c : Client) (l : Line) (n : ℕ) → IsForm l → SameKnown c (opened_said words c l n)
-opened_known words c l n (servers count) = same_known c
-opened_known words c l n (volume server home area small) = same_known c
-opened_known words c l n (client k name) = same_known c
-opened_known words c l n (begin k server) = same_known c
-opened_known words c l n (owner k server name quota) = same_known c
-opened_known words c l n (create k server word name size small) = same_known c
-opened_known words c l n (open_read k file) = record { session = refl; told = refl }
-opened_known words c l n (open_change k file) = record { session = refl; told = refl }
-opened_known words c l n (write k file run text some short) = same_known c
-opened_known words c l n (read k file run some) = same_known c
-opened_known words c l n (commit k) = same_known c
-opened_known words c l n (abort k) = same_known c
+opened_known : (words : WordMap) (c : Client) (l : Line) (n : ℕ) → SameKnown c (opened_said words c l n)
+opened_known words c (line.OpenFile k file access mode choice) n = record { session = refl; told = refl; frames = refl }
+opened_known words c l n = same_known c
 
 -- the greater of two stamps has neither's time behind it
 pub record IsLater (told s now : Stamp) : Type 0 where
@@ -264,37 +320,28 @@ ended_knows c ended.Running = knows_same c c (reply.Ended ended.Running) refl (s
 ended_knows c ended.Aborted = knows_same c c (reply.Ended ended.Aborted) refl (same_known c)
 ended_knows c ended.Unknown = knows_same c c (reply.Ended ended.Unknown) refl (same_known c)
 
-pub told_knows : (words : WordMap) (c : Client) (l : Line) (r : Reply) → IsForm l → IsInSession r → Knows c (learned_reply words c l r) r
-told_knows words c l (reply.Begun t) form h = knows_same c (record c { trans = Some t }) (reply.Begun t) refl (record { session = refl; told = refl })
-told_knows words c l (reply.Created f n) form h = knows_same c (created c l f n) (reply.Created f n) refl (created_known c l f n form)
-told_knows words c l (reply.Opened n) form h = knows_same c (opened_said words c l n) (reply.Opened n) refl (opened_known words c l n form)
-told_knows words c l (reply.Committed s) form h = knows_later c (record (left c l) { told = later c.told s }) s (reply.Committed s) refl (left_known c l form).session refl
-told_knows words c l (reply.Refused refusal.UnknownTrans) form h = knows_same c (left c l) (reply.Refused refusal.UnknownTrans) refl (left_known c l form)
-told_knows words c l (reply.Refused (refusal.Aborted cause)) form h = knows_same c (left c l) (reply.Refused (refusal.Aborted cause)) refl (left_known c l form)
-told_knows words c l (reply.Refused (refusal.StaleSession epoch)) form h = absurd h
-told_knows words c l (reply.Refused refusal.BadFrame) form h = knows_same c c (reply.Refused refusal.BadFrame) refl (same_known c)
-told_knows words c l (reply.Refused refusal.Finishing) form h = knows_same c c (reply.Refused refusal.Finishing) refl (same_known c)
-told_knows words c l (reply.Refused refusal.UnknownOpen) form h = knows_same c c (reply.Refused refusal.UnknownOpen) refl (same_known c)
-told_knows words c l (reply.Refused refusal.UnknownFile) form h = knows_same c c (reply.Refused refusal.UnknownFile) refl (same_known c)
-told_knows words c l (reply.Refused refusal.UnknownOwner) form h = knows_same c c (reply.Refused refusal.UnknownOwner) refl (same_known c)
-told_knows words c l (reply.Refused refusal.OwnerExists) form h = knows_same c c (reply.Refused refusal.OwnerExists) refl (same_known c)
-told_knows words c l (reply.Refused refusal.ReadOnlyOpen) form h = knows_same c c (reply.Refused refusal.ReadOnlyOpen) refl (same_known c)
-told_knows words c l (reply.Refused (refusal.AccessDenied list)) form h = knows_same c c (reply.Refused (refusal.AccessDenied list)) refl (same_known c)
-told_knows words c l (reply.Refused (refusal.NoSuchPage size)) form h = knows_same c c (reply.Refused (refusal.NoSuchPage size)) refl (same_known c)
-told_knows words c l (reply.Refused (refusal.QuotaExceeded charge asked quota)) form h = knows_same c c (reply.Refused (refusal.QuotaExceeded charge asked quota)) refl (same_known c)
-told_knows words c l (reply.Refused (refusal.VolumeFull room asked)) form h = knows_same c c (reply.Refused (refusal.VolumeFull room asked)) refl (same_known c)
-told_knows words c l (reply.Refused (refusal.LogFull room asked)) form h = knows_same c c (reply.Refused (refusal.LogFull room asked)) refl (same_known c)
-told_knows words c l (reply.Refused (refusal.TooMany what limit)) form h = knows_same c c (reply.Refused (refusal.TooMany what limit)) refl (same_known c)
-told_knows words c l (reply.Refused (refusal.LockConflict holder)) form h = knows_same c c (reply.Refused (refusal.LockConflict holder)) refl (same_known c)
-told_knows words c l (reply.Refused refusal.NotYet) form h = knows_same c c (reply.Refused refusal.NotYet) refl (same_known c)
-told_knows words c l (reply.Refused refusal.ReadFault) form h = knows_same c c (reply.Refused refusal.ReadFault) refl (same_known c)
-told_knows words c l (reply.Refused refusal.Down) form h = knows_same c c (reply.Refused refusal.Down) refl (same_known c)
-told_knows words c l (reply.Refused refusal.OutOfMemory) form h = knows_same c c (reply.Refused refusal.OutOfMemory) refl (same_known c)
-told_knows words c l (reply.Refused refusal.JournalFull) form h = knows_same c c (reply.Refused refusal.JournalFull) refl (same_known c)
-told_knows words c l (reply.Welcome epoch) form h = knows_same c c (reply.Welcome epoch) refl (same_known c)
-told_knows words c l reply.Joined form h = knows_same c c reply.Joined refl (same_known c)
-told_knows words c l reply.Plain form h = knows_same c c reply.Plain refl (same_known c)
-told_knows words c l (reply.Pages pages) form h = knows_same c c (reply.Pages pages) refl (same_known c)
-told_knows words c l (reply.Props p) form h = knows_same c c (reply.Props p) refl (same_known c)
-told_knows words c l (reply.Owner o) form h = knows_same c c (reply.Owner o) refl (same_known c)
-told_knows words c l (reply.Ended e) form h = ended_knows c e
+refused_knows : (c : Client) (l : Line) (f : Refusal) → IsInSession (reply.Refused f) → Knows c (told_refusal c l f) (reply.Refused f)
+refused_knows c l refusal.UnknownTrans h = knows_same c (left c l) (reply.Refused refusal.UnknownTrans) refl (left_known c l)
+refused_knows c l (refusal.Aborted cause) h = knows_same c (left c l) (reply.Refused (refusal.Aborted cause)) refl (left_known c l)
+refused_knows c l (refusal.StaleSession epoch) h = absurd h
+refused_knows c l f h = knows_same c c (reply.Refused f) refl (same_known c)
+
+pub told_knows : (words : WordMap) (c : Client) (l : Line) (r : Reply) → IsInSession r → Knows c (learned_reply words c l r) r
+told_knows words c l (reply.Begun t) h = knows_same c (record c { trans = Some t }) (reply.Begun t) refl (record { session = refl; told = refl; frames = refl })
+told_knows words c l (reply.Created f n) h = knows_same c (created c l f n) (reply.Created f n) refl (created_known c l f n)
+told_knows words c l (reply.Opened n) h = knows_same c (opened_said words c l n) (reply.Opened n) refl (opened_known words c l n)
+told_knows words c l (reply.Committed s) h = knows_later c (record (left c l) { told = later c.told s }) s (reply.Committed s) refl (left_known c l).session refl
+told_knows words c l (reply.Refused f) h = refused_knows c l f h
+told_knows words c l (reply.Ended e) h = ended_knows c e
+told_knows words c l r h = knows_same c c r refl (same_known c)
+
+-- and what it makes of a reply to a frame that was sent again
+refused_again : (c : Client) (f : Refusal) → IsInSession (reply.Refused f) → Knows c (heard_again c (Some (reply.Refused f))) (reply.Refused f)
+refused_again c (refusal.StaleSession epoch) h = absurd h
+refused_again c f h = knows_same c c (reply.Refused f) refl (same_known c)
+
+pub again_knows : (c : Client) (r : Reply) → IsInSession r → Knows c (heard_again c (Some r)) r
+again_knows c (reply.Committed s) h = knows_later c (record c { told = later c.told s }) s (reply.Committed s) refl refl refl
+again_knows c (reply.Refused f) h = refused_again c f h
+again_knows c (reply.Ended e) h = ended_knows c e
+again_knows c r h = knows_same c c r refl (same_known c)

@@ -4,6 +4,8 @@ use Rattle.alp_journal.specs.declared.entry.Entry.{Entry}
 use Rattle.alp_node.specs.Durable.{said_of}
 use Rattle.alp_node.specs.NodeStates.{NodeState}
 use Rattle.alp_node.specs.declared.opened.Opened.{Opened}
+use Rattle.alp_report.specs.Sections.{printed}
+use Rattle.alp_report.specs.declared.summary.Summary.{Summary}
 use Rattle.alp_script.specs.declared.numbered.NumberedLine.{NumberedLine}
 use Rattle.alp_vault.specs.declared.vault.Vault.{Ghosts}
 use Rattle.alp_top.specs.Headline.{IsRun}
@@ -19,6 +21,16 @@ pub record IsEnding {V : Type 0} (n : NodeState V) (e : Ending) : Type 0 where
   pub clock : e.clock ≡ n.kept.clock
   pub committed : e.committed ≡ n.kept.committed
   pub aborted : e.aborted ≡ n.kept.drawn - n.kept.committed
+
+-- the text of a summary of these numbers, of some files and owners
+pub record IsSummaryOf (e : Ending) (text : List ℕ) : Type 0 where
+  pub summary : Summary
+  pub server : summary.server ≡ e.server
+  pub epoch : summary.epoch ≡ e.epoch
+  pub clock : summary.clock ≡ e.clock
+  pub committed : summary.committed ≡ e.committed
+  pub aborted : summary.aborted ≡ e.aborted
+  pub text_is : text ≡ printed summary
 
 -- the log of one server, with this opening and journal
 pub record IsServerLog {V : Type 0} (server : ℕ) (opening : Opened V) (journal : List Entry) (xs : List (ServerOfLog V)) : Type 0 where

@@ -13,6 +13,7 @@ use Rattle.alp_top.specs.declared.fault.RunFault.TheVariants as fault
 abbrev pub played : PlayFault → RunFault
 played play_fault.Device = fault.Disk
 played play_fault.OutOfMemory = fault.OutOfMemory
+played play_fault.JournalFull = fault.JournalFull
 
 abbrev pub of_bay : BayFault → RunFault
 of_bay bay_fault.Failed = fault.Bay

@@ -1,10 +1,11 @@
 -- What holds of a run: the promise that the top call makes.
-use Rattle.std.specs.Prelude.{◌≡◌, ℕ, List, [], ◌∷◌, ◌++◌, length, take, map as list_map, Option}
+use Rattle.std.specs.Prelude.{◌≡◌, ◌≤◌, ℕ, List, [], ◌∷◌, ◌++◌, length, take, map as list_map, Option}
 use Rattle.std.specs.Io.KnownBytes.{Appends}
 use Rattle.alp_base.specs.declared.ids.TransId.{TransId}
 use Rattle.alp_journal.specs.declared.entry.Entry.{Entry}
 use Rattle.alp_journal.specs.declared.event.Event.TheVariants as event
 use Rattle.alp_journal.specs.Along.{Along, state_after}
+use Rattle.alp_journal.specs.Answered.{entries_limit}
 use Rattle.alp_journal.specs.State.{opened}
 use Rattle.alp_journal.specs.Moves.{next}
 use Rattle.alp_journal.specs.Laws.{IsLawful}
@@ -13,8 +14,8 @@ use Rattle.alp_history.specs.Theorems.{IsOneThread, AreWhole}
 use Rattle.alp_script.specs.declared.numbered.NumberedLine.{NumberedLine}
 use Rattle.alp_script.specs.Reading.{GaveScript}
 use Rattle.alp_node.specs.Nodes.{AreLive}
-use Rattle.alp_client.specs.Crowd.{Crowd}
-use Rattle.alp_client.specs.Crowds.{new_crowd}
+use Rattle.alp_session.specs.Crowd.{Crowd}
+use Rattle.alp_session.specs.Crowds.{new_crowd}
 use Rattle.alp_base.specs.declared.faults.Sizes.{Sizes}
 use Rattle.alp_disk.specs.declared.disk.Disk.{Ghosts as DiskGhosts}
 use Rattle.alp_vault.specs.declared.vault.Vault.{Ghosts}
@@ -27,9 +28,9 @@ use Rattle.alp_top.specs.Servers.{IsDone}
 use Rattle.alp_top.specs.Volumes.{IsStored, IsReturned, HasRunCause, StartsOn}
 use Rattle.alp_top.specs.declared.fault.RunFault.{RunFault}
 
--- The calls are the script's, the replies are those given, and no other event stands in the journal but that each
--- transaction that is live behind the last line times out.
-pub record IsFaithful {V : Type 0} (G : Ghosts V) (lines : List NumberedLine) (log : Log V) (x : ServerOfLog V) : Type 0 where
+-- The calls are the script's, the replies are those given, and no other event stands in the journal but timeouts behind the last
+-- line.
+pub record IsOfScript {V : Type 0} (G : Ghosts V) (lines : List NumberedLine) (log : Log V) (x : ServerOfLog V) : Type 0 where
   pub clients : Crowd
   pub calls : List Entry
   pub ends : List Entry
@@ -40,11 +41,16 @@ pub record IsFaithful {V : Type 0} (G : Ghosts V) (lines : List NumberedLine) (l
   -- there is a list for each number of a client, and one that is empty at 0
   pub many : length log.clients.items ≡ 17
   pub journal : x.journal ≡ calls ++ ends
-  pub recorded : AreRecorded 0 (sent_in (turns_of lines (lists_of G log))) calls
-  pub lawful : IsLawful (start_of G x) x.journal
-  pub left : AreLive (state_after next (opened (start_of G x)) calls) live
+  pub recorded : AreRecorded (start_of G x).epoch 0 (sent_in (turns_of lines (lists_of G log))) calls
+  pub short : length x.journal ≤ entries_limit
   pub ended : list_map (λ e. e.event) ends ≡ list_map event.Timeout live
   pub ranks : x.ranks.items ≡ ranks_from 1 x.journal
+
+-- The journal is lawful, and the transactions that time out are those that are live behind the last line.
+pub record IsFaithful {V : Type 0} (G : Ghosts V) (lines : List NumberedLine) (log : Log V) (x : ServerOfLog V) : Type 0 where
+  pub script : IsOfScript G lines log x
+  pub lawful : IsLawful (start_of G x) x.journal
+  pub left : AreLive (state_after next (opened (start_of G x)) script.calls) script.live
 
 -- what the disk holds is what the journal of the server says
 abbrev pub IsStoredBy : {V D : Type 0} → Ghosts V → DiskGhosts D → Sizes → ServerOfLog V → D → D → Type 0
@@ -97,7 +103,7 @@ pub record IsCutOff {V D : Type 0} (G : Ghosts V) (g : DiskGhosts D) (old new : 
 pub record HasCause {D : Type 0} (g : DiskGhosts D) (old new : Option (List ℕ)) (before after : ℕ → Option D) (bay_before bay_after : ℕ) (f : RunFault) : Type 0 where
   pub lines : List NumberedLine
   pub script : GaveScript old new lines
-  pub cause : HasRunCause g (sizes_said lines 1) before after bay_before bay_after f
+  pub cause : HasRunCause g (sizes_said lines 1) lines before after bay_before bay_after f
 
 -- the disk is one that a run of the script starts on, and did not fail
 abbrev pub StartsHere : {D : Type 0} → DiskGhosts D → (old new : Option (List ℕ)) → (before after : ℕ → Option D) → Type 0

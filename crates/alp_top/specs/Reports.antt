@@ -16,9 +16,12 @@ use Rattle.alp_top.specs.Turns.{turns_of, turns_text}
 abbrev pub end_of : {V : Type 0} → Ghosts V → ℕ → ServerOfLog V → State
 end_of G servers x = state_after next (opened (start_in (openings G) servers x)) x.journal
 
--- what a server holds then
-abbrev pub holding_text : State → List ℕ
-holding_text s = server_text s.holder.server s.ids.epoch s.holder.clock s.holder.cells ++ owners_text s.holder.server (owners_of s.holder.cells)
+-- what a server holds then: how many files and pages, and what its owners are charged
+abbrev pub files_text_of : State → List ℕ
+files_text_of s = server_text s.holder.server s.ids.epoch s.holder.clock s.holder.cells
+
+abbrev pub owners_text_of : State → List ℕ
+owners_text_of s = owners_text s.holder.server (owners_of s.holder.cells)
 
 -- the transactions that it began in the run, all but those that earlier runs decided
 abbrev pub begun_at : {V : Type 0} → Ghosts V → ℕ → ServerOfLog V → ℕ
@@ -30,11 +33,11 @@ counts_text G log =
     count_text (length (decided (log_of G log)))
     (sum (list_map (begun_at G (length log.servers.items)) log.servers.items) - length (decided (log_of G log)))
 
--- the lines of the clients, what each server holds, and how the transactions ended
+-- the lines of the clients, the files of each server, then the owners of each, and how the transactions ended
 abbrev pub report_of : {V : Type 0} → Ghosts V → List NumberedLine → Log V → List ℕ
 report_of G lines log =
-    turns_text (turns_of lines (lists_of G log)) ++ flat_map (λ x. holding_text (end_of G (length log.servers.items) x)) log.servers.items
-    ++ counts_text G log
+    turns_text (turns_of lines (lists_of G log)) ++ flat_map (λ x. files_text_of (end_of G (length log.servers.items) x)) log.servers.items
+    ++ flat_map (λ x. owners_text_of (end_of G (length log.servers.items) x)) log.servers.items ++ counts_text G log
 
 -- ---- by what a server's journal says
 

@@ -3,6 +3,10 @@ use Rattle.std.specs.Prelude.{◌≡◌, ◌⊎◌, ℕ, Bool, true, false, IsTr
 use Rattle.std.specs.Option.{option_map}
 use Rattle.std.specs.Fmt.{decimal}
 use Rattle.alp_base.specs.Causes.{Rose}
+use Rattle.alp_journal.specs.Answered.{entries_limit}
+use Rattle.alp_script.specs.declared.fault.ScriptFault.{ScriptFault}
+use Rattle.alp_script.specs.declared.fault.ScriptFault.TheVariants as flaw
+use Rattle.alp_script.specs.declared.numbered.TheConstants.{SCRIPT_LINES_MOST}
 use Rattle.alp_disk.specs.declared.disk.Disk.{Ghosts}
 use Rattle.alp_disk.specs.declared.fuse.Fuse.{Fuse}
 use Rattle.alp_store.specs.StoreStates.{StoreOf}
@@ -49,6 +53,7 @@ module _ {D : Type 0} {g : Ghosts D} where
   ended_by fault.Bay = status.DiskFault 0
   ended_by fault.Disk = status.DiskFault 1
   ended_by fault.OutOfMemory = status.OutOfMemory
+  ended_by fault.JournalFull = status.TooLong entries_limit
   ended_by fault.EpochEnd = status.TooLong 4294967295
   ended_by (fault.NotAVolume found) = status.NotAVolume 1 found
   ended_by (fault.Damaged place) = status.Damaged 1 place
@@ -75,9 +80,11 @@ module _ {D : Type 0} {g : Ghosts D} where
   OnBadWords status.BadWords P = P
   OnBadWords _ P = Unit {0}
 
-  abbrev pub OnBadScript : Status D g → (ℕ → Type 0) → Type 0
-  OnBadScript (status.BadScript line) P = P line
-  OnBadScript _ P = Unit {0}
+  -- what is wrong with the script, where that ended the run: a line, or that there are too many
+  abbrev pub OnFlaw : Status D g → (ScriptFault → Type 0) → Type 0
+  OnFlaw (status.BadScript line) P = P (flaw.Bad line)
+  OnFlaw (status.TooLong limit) P = limit ≡ SCRIPT_LINES_MOST → P flaw.TooLong
+  OnFlaw _ P = Unit {0}
 
   abbrev pub OnReadFault : Status D g → Type 0 → Type 0
   OnReadFault status.ReadFault P = P
@@ -94,13 +101,15 @@ module _ {D : Type 0} {g : Ghosts D} where
   OnUntaken status.BadWords P = P
   OnUntaken (status.BadScript line) P = P
   OnUntaken status.ReadFault P = P
+  OnUntaken (status.TooLong limit) P = limit ≡ SCRIPT_LINES_MOST → P
   OnUntaken _ P = Unit {0}
 
   -- Where the run was cut short: the bay or the disk of server 1 ended it, of the fault, or memory was wanting, before a disk was
-  -- asked for or behind that. Server 0 is the bay, and the limit of an epoch is its last.
+  -- asked for or behind that. Server 0 is the bay, and a limit is that of the lines of a script, that of the entries of a journal, or
+  -- the last epoch.
   abbrev pub OnCutShort : Status D g → Type 0 → (RunFault → Type 0) → Type 0
   OnCutShort (status.DiskFault server) U P = ((server ≡ 0) × P fault.Bay) ⊎ ((server ≡ 1) × P fault.Disk)
-  OnCutShort (status.TooLong limit) U P = (limit ≡ 4294967295) × P fault.EpochEnd
+  OnCutShort (status.TooLong limit) U P = ((limit ≡ SCRIPT_LINES_MOST) × U) ⊎ ((limit ≡ entries_limit) × P fault.JournalFull) ⊎ ((limit ≡ 4294967295) × P fault.EpochEnd)
   OnCutShort (status.NotAVolume server found) U P = (server ≡ 1) × P (fault.NotAVolume found)
   OnCutShort (status.Damaged server place) U P = (server ≡ 1) × P (fault.Damaged place)
   OnCutShort status.OutOfMemory U P = U ⊎ P fault.OutOfMemory
@@ -111,7 +120,7 @@ module _ {D : Type 0} {g : Ghosts D} where
   OnTaken (status.Done log) P = P
   OnTaken (status.WriteFault log) P = P
   OnTaken (status.DiskFault server) P = (server ≡ 0) ⊎ P
-  OnTaken (status.TooLong limit) P = P
+  OnTaken (status.TooLong limit) P = (limit ≡ SCRIPT_LINES_MOST) ⊎ P
   OnTaken (status.NotAVolume server found) P = P
   OnTaken (status.Damaged server place) P = P
   OnTaken _ P = Unit {0}
@@ -126,6 +135,17 @@ module _ {D : Type 0} {g : Ghosts D} where
   abbrev pub OnDiskFault : Status D g → Type 0 → Type 0
   OnDiskFault (status.DiskFault server) P = (server ≡ 0) ⊎ P
   OnDiskFault _ P = Unit {0}
+
+  -- where something is too long, of its limit
+  abbrev pub OnTooLong : Status D g → (ℕ → Type 0) → Type 0
+  OnTooLong (status.TooLong limit) P = P limit
+  OnTooLong _ P = Unit {0}
+
+  -- where a disk is none to start on, of its server
+  abbrev pub OnBadDisk : Status D g → (ℕ → Type 0) → Type 0
+  OnBadDisk (status.NotAVolume server found) P = P server
+  OnBadDisk (status.Damaged server place) P = P server
+  OnBadDisk _ P = Unit {0}
 
   -- the bay's count of faults rose where its fault is told, and stayed in every other case
   abbrev pub IsBayFaultTold : Status D g → ℕ → ℕ → Type 0
@@ -148,11 +168,16 @@ module _ {D : Type 0} {g : Ghosts D} where
   IsHandedOver (status.WriteFault log) = Unit {0}
   IsHandedOver _ = ⊥
 
-  -- the report is written, or there was no memory
+  -- the report is written, or there was no memory, or the journal was full
   abbrev pub IsPlayedOrMemory : Status D g → Type 0
   IsPlayedOrMemory (status.Done log) = Unit {0}
   IsPlayedOrMemory status.OutOfMemory = Unit {0}
+  IsPlayedOrMemory (status.TooLong limit) = limit ≡ entries_limit
   IsPlayedOrMemory _ = ⊥
+
+-- the limit of the lines of a script, that of the entries of a journal, or the last epoch
+abbrev pub IsLimit : ℕ → Type 0
+IsLimit limit = (limit ≡ SCRIPT_LINES_MOST) ⊎ (limit ≡ entries_limit) ⊎ (limit ≡ 4294967295)
 
 -- the folder of a command
 abbrev pub folder_in : Command → Option (List ℕ)

@@ -3,7 +3,7 @@ use Rattle.std.specs.Prelude.{ℕ, ◌==◌, List, [], ◌∷◌, ◌++◌, filt
 use Rattle.std.specs.Global.{Global}
 use Rattle.alp_journal.specs.declared.log.Item.{Item}
 use Rattle.alp_script.specs.declared.numbered.NumberedLine.{NumberedLine}
-use Rattle.alp_script.specs.Named.{client_named}
+use Rattle.alp_lines.specs.Named.{client_named}
 use Rattle.alp_report.specs.Reports.{line_text}
 use Rattle.alp_history.specs.RunLogs.{Lists}
 

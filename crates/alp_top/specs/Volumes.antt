@@ -1,5 +1,5 @@
 -- The disk of the run's server: what the server opened on, and what the disk holds when it is given back.
-use Rattle.std.specs.Prelude.{◌≡◌, ◌≢◌, ◌⊎◌, ◌≤◌, ℕ, ◌+◌, ◌*◌, List, Option, Some, Result, Ok, Err}
+use Rattle.std.specs.Prelude.{◌≡◌, ◌≢◌, ◌⊎◌, ◌≤◌, ℕ, ◌+◌, ◌*◌, List, length, Option, Some, Result, Ok, Err}
 use Rattle.std.specs.FinMap as map
 use Rattle.alp_base.specs.Causes.{Rose}
 use Rattle.alp_base.specs.Crashes.{Only, NoMore}
@@ -13,7 +13,12 @@ use Rattle.alp_disk.specs.Disk.{Image}
 use Rattle.alp_disk.specs.declared.disk.Disk.{Ghosts}
 use Rattle.alp_fields.specs.ClockNote.{clock_name, clock_form}
 use Rattle.alp_journal.specs.Opening.{Start, start_at}
-use Rattle.alp_journal.specs.State.{State}
+use Rattle.alp_journal.specs.Along.{Along, state_after}
+use Rattle.alp_journal.specs.Answered.{entries_limit}
+use Rattle.alp_journal.specs.Laws.{IsLawful}
+use Rattle.alp_journal.specs.Moves.{next}
+use Rattle.alp_journal.specs.State.{State, opened}
+use Rattle.alp_journal.specs.declared.entry.Entry.{Entry}
 use Rattle.alp_node.specs.Durable.{said_of}
 use Rattle.alp_node.specs.Nodes.{IsSoundStart}
 use Rattle.alp_node.specs.Starts.{raised}
@@ -21,6 +26,12 @@ use Rattle.alp_node.specs.declared.start.StartFault.TheVariants.{EpochEnd}
 use Rattle.alp_store.specs.Holding.{Holds}
 use Rattle.alp_store.specs.Starts.{AreOfServer, IsNew, WhyNotStarted}
 use Rattle.alp_vault.specs.Contents.{Contents}
+use Rattle.alp_script.specs.declared.numbered.NumberedLine.{NumberedLine}
+use Rattle.alp_history.specs.Handed.{ArePromisesKept}
+use Rattle.alp_history.specs.Theorems.{IsOneThread, AreWhole}
+use Rattle.alp_top.specs.Fills.{HasStopped, log_so_far}
+use Rattle.alp_top.specs.Turns.{Turn}
+use Rattle.alp_top.specs.Servers.{IsDone}
 use Rattle.alp_top.specs.declared.fault.RunFault.{RunFault}
 use Rattle.alp_top.specs.declared.fault.RunFault.TheVariants as fault
 
@@ -95,17 +106,38 @@ pub record HasNoEpoch (n : ℕ) (image : Image) : Type 0 where
   pub own : AreOfServer 1 1 held
   pub last : raised held ≡ Err EpochEnd
 
--- The disk failed, or it holds no volume of the server, or a damaged one, or one without a further epoch. Where memory was wanting
--- it did not fail.
-abbrev pub HasDiskCause : {D : Type 0} → Ghosts D → Sizes → RunFault → D → D → Type 0
-HasDiskCause g sizes fault.Disk taken given = Rose (g.faults taken) (g.faults given)
-HasDiskCause g sizes (fault.NotAVolume found) taken given =
+-- The journal of the server that was started on the disk was full where another event of the run of these lines was to come: a line
+-- had a frame more to send, or a transaction that was left was to time out. Its entries are those of the calls that the lines sent by
+-- then, each with the reply that was handed, and behind them timeouts (`stopped`). It is lawful, each entry is as its event then calls
+-- for (`caused`), and what the decided transactions and the clients are promised holds of all this. The disk holds what the journal
+-- says, and did not fail.
+pub record HasFilled {D : Type 0} (g : Ghosts D) (sizes : Sizes) (lines : List NumberedLine) (taken given : D) : Type 0 where
+  pub opening : Start
+  pub notes : Notes
+  pub started : opening ≡ start_at 1 1 opening.sizes opening.cells notes
+  pub journal : List Entry
+  pub full : length journal ≡ entries_limit
+  pub lawful : IsLawful opening journal
+  pub caused : Along next IsDone (opened opening) journal
+  pub stored : IsStored g sizes opening notes (state_after next (opened opening) journal) taken given
+  pub turns : List Turn
+  pub stopped : HasStopped lines opening journal turns
+  pub serial : IsOneThread (log_so_far opening journal turns)
+  pub whole : AreWhole (log_so_far opening journal turns)
+  pub kept : ArePromisesKept (log_so_far opening journal turns)
+
+-- The disk failed, or it holds no volume of the server, or a damaged one, or one without a further epoch, or the server's journal is
+-- full. Where memory was wanting it did not fail.
+abbrev pub HasDiskCause : {D : Type 0} → Ghosts D → Sizes → List NumberedLine → RunFault → D → D → Type 0
+HasDiskCause g sizes lines fault.Disk taken given = Rose (g.faults taken) (g.faults given)
+HasDiskCause g sizes lines (fault.NotAVolume found) taken given =
     IsLeftAlone g sizes taken given × WhyNotStarted 1 1 (g.size taken) (g.seen taken) (vault_fault.NotAVolume found)
-HasDiskCause g sizes (fault.Damaged place) taken given =
+HasDiskCause g sizes lines (fault.Damaged place) taken given =
     IsLeftAlone g sizes taken given × WhyNotStarted 1 1 (g.size taken) (g.seen taken) (vault_fault.Damaged place)
-HasDiskCause g sizes fault.EpochEnd taken given = IsLeftAlone g sizes taken given × HasNoEpoch (g.size taken) (g.seen taken)
-HasDiskCause g sizes fault.Bay taken given = ⊥
-HasDiskCause g sizes fault.OutOfMemory taken given = g.faults given ≡ g.faults taken
+HasDiskCause g sizes lines fault.JournalFull taken given = HasFilled g sizes lines taken given
+HasDiskCause g sizes lines fault.EpochEnd taken given = IsLeftAlone g sizes taken given × HasNoEpoch (g.size taken) (g.seen taken)
+HasDiskCause g sizes lines fault.Bay taken given = ⊥
+HasDiskCause g sizes lines fault.OutOfMemory taken given = g.faults given ≡ g.faults taken
 
 -- it is no fault of the bay
 abbrev pub IsOfDisk : RunFault → Type 0
@@ -113,10 +145,10 @@ IsOfDisk fault.Bay = ⊥
 IsOfDisk f = Unit {0}
 
 -- How the bay stands then: where the bay failed nothing was taken. Where memory was wanting nothing was, or the disk is given back.
-abbrev pub HasRunCause : {D : Type 0} → Ghosts D → Sizes → (before after : ℕ → Option D) → (bay_before bay_after : ℕ) → RunFault → Type 0
-HasRunCause g sizes before after bay_before bay_after fault.Bay = (after ≡ before) × Rose bay_before bay_after
-HasRunCause g sizes before after bay_before bay_after fault.OutOfMemory = (after ≡ before) ⊎ IsReturned g sizes before after (HasDiskCause g sizes fault.OutOfMemory)
-HasRunCause g sizes before after bay_before bay_after f = IsReturned g sizes before after (HasDiskCause g sizes f)
+abbrev pub HasRunCause : {D : Type 0} → Ghosts D → Sizes → List NumberedLine → (before after : ℕ → Option D) → (bay_before bay_after : ℕ) → RunFault → Type 0
+HasRunCause g sizes lines before after bay_before bay_after fault.Bay = (after ≡ before) × Rose bay_before bay_after
+HasRunCause g sizes lines before after bay_before bay_after fault.OutOfMemory = (after ≡ before) ⊎ IsReturned g sizes before after (HasDiskCause g sizes lines fault.OutOfMemory)
+HasRunCause g sizes lines before after bay_before bay_after f = IsReturned g sizes before after (HasDiskCause g sizes lines f)
 
 -- ---- which disks a run starts on
 

@@ -3,6 +3,7 @@ ghost use Rattle.std.specs.Prelude.{◌≡◌, ◌⊎◌, None, IsTrue, IfOk, If
 ghost use Rattle.std.specs.Option.{option_map};
 ghost use Rattle.alp_script.specs.Accepted.{IsAccepted};
 ghost use Rattle.alp_script.specs.Volumes.{sizes_said};
+ghost use Rattle.alp_top.specs.Anywhere.{IsPlayedThrough};
 ghost use Rattle.alp_top.specs.Headline.{IsRunOf};
 ghost use Rattle.alp_top.specs.Volumes.{HasRunCause, IsBayTold, IsReturned, IsFolderChosen, IsDiskTold, OnTakenBy, pages_of as pages_of_said};
 ghost use Rattle.alp_vault.specs.Vault.{AreSizes};
@@ -37,7 +38,8 @@ pub fn run_bay<B: Bay>(
 ) -> Result<Ended<Store<Fuse<B::Device>>>, RunFault>
     requires accepted { IsAccepted lines.now }
     ensures ran { (folder.entry ≡ None) ⊎ IsTrue (B.tells bay.new) → IfOk result (λ e. IsReturned B.Device.Disk (sizes_said lines.now 1) (B.at bay.old) (B.at bay.new) (IsRunOf ⟦<Store<Fuse<B::Device>> as Vault>⟧ B.Device.Disk (sizes_said lines.now 1) lines.now e.log e.text.items)) }
-    ensures cause { (folder.entry ≡ None) ⊎ IsTrue (B.tells bay.new) → IfErr result (HasRunCause B.Device.Disk (sizes_said lines.now 1) (B.at bay.old) (B.at bay.new) (B.faults bay.old) (B.faults bay.new)) }
+    ensures through { IfOk result (λ e. IsPlayedThrough ⟦<Store<Fuse<B::Device>> as Vault>⟧ lines.now e.log e.text.items) }
+    ensures cause { (folder.entry ≡ None) ⊎ IsTrue (B.tells bay.new) → IfErr result (HasRunCause B.Device.Disk (sizes_said lines.now 1) lines.now (B.at bay.old) (B.at bay.new) (B.faults bay.old) (B.faults bay.new)) }
     ensures chosen { IsFolderChosen result (B.chosen bay.old) (B.chosen bay.new) (option_map (λ name. name.now) folder.entry) }
     ensures counted { OnTakenBy result ((taken : B.Device) × (given : B.Device) × IsDiskTold result (B.Device.faults taken) (B.Device.faults given)) }
     ensures bay { IsBayTold result (B.faults bay.old) (B.faults bay.new) }

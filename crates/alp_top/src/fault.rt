@@ -18,6 +18,9 @@ pub enum PlayFault {
     Device,
     #[error("out of memory")]
     OutOfMemory,
+    /// The server's journal has no room for another entry.
+    #[error("the journal is full")]
+    JournalFull,
 }
 
 impl From<OutOfMemory> for PlayFault {
@@ -53,6 +56,9 @@ pub enum RunFault {
     Disk,
     #[error("out of memory")]
     OutOfMemory,
+    /// The journal of the server has no room for another entry.
+    #[error("the journal is full")]
+    JournalFull,
     /// The volume's epochs are used up.
     #[error("no epoch is left")]
     EpochEnd,
@@ -77,6 +83,7 @@ impl From<PlayFault> for RunFault {
         match fault {
             PlayFault::Device => RunFault::Disk,
             PlayFault::OutOfMemory => RunFault::OutOfMemory,
+            PlayFault::JournalFull => RunFault::JournalFull,
         }
     }
 }

@@ -1,13 +1,15 @@
 //! The end of a run: its log and its report.
-ghost use Rattle.std.specs.Prelude.{◌≡◌, ◌-◌, ◌+◌, ◌++◌, ◌∷◌, [], ◌≤◌, length, IsTrue, IfOk, OnOk};
+ghost use Rattle.std.specs.Prelude.{◌≡◌, ◌++◌, ℕ, List, IsTrue, IfOk, OnOk};
 ghost use Rattle.alp_base.specs.declared.allowance.Allowance.TheVariants.{Free};
 ghost use Rattle.alp_files.specs.Sound.{AreSound};
 ghost use Rattle.alp_report.specs.Reports.{summary_text};
 ghost use Rattle.alp_script.specs.Accepted.{IsAccepted};
-ghost use Rattle.alp_top.specs.Endings.{IsEnding, IsServerLog, IsEnded};
+ghost use Rattle.alp_top.specs.Anywhere.{IsPlayedThrough};
+ghost use Rattle.alp_top.specs.Endings.{IsEnding, IsServerLog, IsSummaryOf, IsEnded};
 ghost use Rattle.alp_top.specs.Plays.{ranks_from};
-ghost use Rattle.alp_top.specs.Runs.{HasPlayed, HasPlayedOut};
-ghost use Rattle.alp_top.specs.Servers.{IsOn, IsIdle, HasGone, HasLooked};
+ghost use Rattle.alp_top.specs.Runs.{HasPlayedOut, HasFilledUp};
+ghost use Rattle.alp_top.specs.Servers.{IsOn, IsIdle, HasGone, HasLooked, OnFull};
+ghost use Rattle.alp_node.specs.NodeStates.{NodeState};
 
 use crate::fault::PlayFault;
 use crate::owners::owner_records;
@@ -74,6 +76,7 @@ fn put_ending<V: Vault>(
     requires free { V.allowance vault.old ≡ Free }
     ensures gone { HasGone V.Vault vault.old vault.new result }
     ensures looked { HasLooked V.Vault vault.old vault.new result }
+    ensures printed { OnOk result ((more : List ℕ) × (text.new.items ≡ text.old.items ++ more) × IsSummaryOf ending more) }
     ensures text { IsTrue (V.tells vault.old) → OnOk result (text.new.items ≡ text.old.items ++ summary_text ending.server ending.epoch ending.clock (V.held vault.old).cells ending.committed ending.aborted) }
 {
     let owners = owner_records(alloc, vault)?;
@@ -121,6 +124,7 @@ fn play_out<V: Vault>(
     requires on { IsOn V.Vault node.old }
     requires idle { IsIdle node.old }
     ensures gone { HasGone V.Vault node.old.kept.vault node.new.kept.vault result }
+    ensures filled { OnFull result (HasFilledUp V.Vault lines.now node.old node.new) }
     ensures played { IfOk result (λ run. HasPlayedOut V.Vault lines.now node.old node.new run.clients run.lists.items run.text.items) }
 {
     let run = play(alloc, lines, node)?;
@@ -139,6 +143,8 @@ pub fn run_node<V: Vault>(
     requires on { IsOn V.Vault node }
     requires idle { IsIdle node }
     ensures gone { HasGone V.Vault node.kept.vault result.0 result.1 }
+    ensures filled { OnFull result.1 ((n : NodeState V) × HasFilledUp V.Vault lines.now node n × (n.kept.vault ≡ result.0)) }
+    ensures through { IfOk result.1 (λ e. IsPlayedThrough V.Vault lines.now e.log e.text.items) }
     ensures ended { IsTrue (V.tells node.kept.vault) → IfOk result.1 (λ e. IsEnded V.Vault lines.now node result.0 e.log e.text.items) }
 {
     let mut node = node;

@@ -3,6 +3,7 @@
 #![tactic(auto)]
 
 mod bay;
+mod exchange;
 mod fault;
 mod finish;
 mod owners;

@@ -3,9 +3,10 @@ ghost use Rattle.std.specs.Prelude.{◌≡◌, ℕ, false, take, map, string_byt
 ghost use Rattle.std.specs.Io.KnownBytes.{Appends};
 ghost use Rattle.std.specs.Option.{option_map};
 ghost use Rattle.alp_base.specs.Causes.{Rose};
-ghost use Rattle.alp_script.specs.Reading.{GaveBadLine, GaveGoodLines, SaysScript};
+ghost use Rattle.alp_script.specs.Reading.{GaveFlaw, GaveGoodLines, SaysScript};
+ghost use Rattle.alp_top.specs.Anywhere.{IsToldAnywhere};
 ghost use Rattle.alp_top.specs.Headline.{IsPlayed, IsCutOff, HasCause, StartsHere};
-ghost use Rattle.alp_top.specs.Statuses.{AreWordsTold, IsTold, OnDone, OnBadWords, OnBadScript, OnReadFault, OnWriteFault, OnCutShort, OnUntaken, folder_in, IsReadFaultTold, IsWriteFaultTold, IsBayFaultTold, IsFolderTold, OnDiskFault, OnUnwritten, IsPlayedOrMemory, IsHandedOver};
+ghost use Rattle.alp_top.specs.Statuses.{AreWordsTold, IsTold, OnDone, OnBadWords, OnFlaw, OnReadFault, OnWriteFault, OnCutShort, OnUntaken, folder_in, IsReadFaultTold, IsWriteFaultTold, IsBayFaultTold, IsFolderTold, OnUnwritten, IsPlayedOrMemory, IsHandedOver};
 ghost use Rattle.alp_words.specs.Words.{are_bad, folder_named};
 
 use crate::bay::run_bay;
@@ -15,7 +16,7 @@ use crate::write_all::write_all;
 use alp_base::{Sink, Source};
 use alp_bay::Bay;
 use alp_disk::{Disk, Fuse};
-use alp_script::{ScriptFault, accepted_lines, read_script};
+use alp_script::{SCRIPT_LINES_MOST, ScriptFault, accepted_lines, read_script};
 use alp_store::Store;
 use alp_vault::Vault;
 use alp_words::{Command, WordsFault, read_command};
@@ -64,21 +65,23 @@ pub fn run_alpine<S: Source, K: Sink, B: Bay>(
     ensures cut_off { IsTold (map string_bytes words.now) (B.tells bay.new) → OnWriteFault result (IsCutOff ⟦<Store<Fuse<B::Device>> as Vault>⟧ B.Device.Disk (S.left script.old) (S.left script.new) (K.written out.old) (K.written out.new) (B.at bay.old) (B.at bay.new)) }
     // The words are told bad just where the program's command line has no such words, and then nothing is read.
     ensures words { AreWordsTold (are_bad (map string_bytes words.now)) result × OnBadWords result (script.new ≡ script.old) }
-    // That line of what the source gave is the first outside the language.
-    ensures bad_script { OnBadScript result (GaveBadLine (S.left script.old) (S.left script.new)) }
+    // That line of what the source gave is the first outside the language, or the lines are too many.
+    ensures flaw { OnFlaw result (GaveFlaw (S.left script.old) (S.left script.new)) }
     // A source that fails behind a line outside the language is not asked that far.
     ensures good_lines { OnReadFault result (GaveGoodLines (S.left script.old) (S.left script.new)) }
     // A fault of a stream or of the bay is told just where it came in this call.
     ensures faults { IsReadFaultTold result (S.faults script.old) (S.faults script.new) × IsWriteFaultTold result (K.faults out.old) (K.faults out.new) × IsBayFaultTold result (B.faults bay.old) (B.faults bay.new) }
     // The bay or the disk ended the run: it failed in this call, or the disk is not one of the server's. Or memory was wanting.
     ensures disk { IsTold (map string_bytes words.now) (B.tells bay.new) → OnCutShort result (bay.new ≡ bay.old) (HasCause B.Device.Disk (S.left script.old) (S.left script.new) (B.at bay.old) (B.at bay.new) (B.faults bay.old) (B.faults bay.new)) }
-    // A fault of a disk is told only of one that failed in this call, whether it tells what it holds or not.
-    ensures counted { OnDiskFault result ((taken : B.Device) × (given : B.Device) × Rose (B.Device.faults taken) (B.Device.faults given)) }
+    // Of any bay, also of one that does not tell what stands in it: what is written is the report of a run of the script, limits and
+    // servers are what they may be, and a fault of a disk is told only of one that failed in this call.
+    ensures any_bay { IsToldAnywhere ⟦<Store<Fuse<B::Device>> as Vault>⟧ (S.left script.old) (S.left script.new) (K.written out.old) (K.written out.new) result }
     // The disk is one of the folder that the words name, or in memory where they name none.
     ensures folder { IsFolderTold result (B.chosen bay.old) (B.chosen bay.new) (folder_named (map string_bytes words.now)) }
     // No disk is asked for before the script is read.
     ensures untaken { OnUntaken result (bay.new ≡ bay.old) }
-    // A script of the language is played to its end on a disk that is new or the server's, where nothing fails.
+    // A script of the language is played to its end on a disk that is new or the server's, where nothing fails, unless memory is
+    // wanting or the journal is full.
     ensures complete { are_bad (map string_bytes words.now) ≡ false → SaysScript (S.left script.old) → (Rose (S.faults script.old) (S.faults script.new) → ⊥) → (Rose (K.faults out.old) (K.faults out.new) → ⊥)
         → (Rose (B.faults bay.old) (B.faults bay.new) → ⊥) → IsTold (map string_bytes words.now) (B.tells bay.new) → StartsHere B.Device.Disk (S.left script.old) (S.left script.new) (B.at bay.old) (B.at bay.new) → IsPlayedOrMemory result }
     // Nothing is written but the report.
@@ -92,6 +95,11 @@ pub fn run_alpine<S: Source, K: Sink, B: Bay>(
     let lines = match read_script(alloc, script) {
         Ok(lines) => lines,
         Err(ScriptFault::Bad { line }) => return Status::BadScript { line },
+        Err(ScriptFault::TooLong) => {
+            return Status::TooLong {
+                limit: SCRIPT_LINES_MOST,
+            };
+        }
         Err(ScriptFault::ReadFault) => return Status::ReadFault,
         Err(ScriptFault::OutOfMemory) => return Status::OutOfMemory,
     };

@@ -5,6 +5,7 @@ ghost use Rattle.alp_top.specs.Statuses.{code_of, status_said, ended_by as ended
 
 use crate::fault::RunFault;
 use crate::play::SERVER;
+use crate::step::JOURNAL_ENTRIES_MOST;
 use alp_base::OutOfMemory;
 use alp_disk::{Disk, Fuse};
 use alp_journal::RunLog;
@@ -33,7 +34,8 @@ pub enum Status<D: Disk> {
     /// The disk of this server failed, or with 0 the bay of disks.
     DiskFault { server: u8 },
     OutOfMemory,
-    /// No epoch is left behind the last one, which is the limit.
+    /// The script has more lines than the limit, or a server's journal has as many entries, or no epoch is left behind the last
+    /// one, which is the limit.
     TooLong { limit: u32 },
     /// The disk of this server is not new and holds no volume of it; its first page begins so.
     NotAVolume { server: u8, found: [u8; 24] },
@@ -75,6 +77,9 @@ pub fn ended_by<D: Disk>(fault: RunFault) -> Status<D>
         RunFault::Bay => Status::DiskFault { server: 0 },
         RunFault::Disk => Status::DiskFault { server: SERVER },
         RunFault::OutOfMemory => Status::OutOfMemory,
+        RunFault::JournalFull => Status::TooLong {
+            limit: JOURNAL_ENTRIES_MOST as u32,
+        },
         RunFault::EpochEnd => Status::TooLong { limit: u32::MAX },
         RunFault::NotAVolume { found } => Status::NotAVolume {
             server: SERVER,

@@ -2,6 +2,7 @@
 ghost use Rattle.std.specs.Prelude.{◌≡◌, ◌≤◌, IsTrue, IfOk, IfErr};
 ghost use Rattle.alp_base.specs.declared.allowance.Allowance.TheVariants.{Free};
 ghost use Rattle.alp_script.specs.Accepted.{IsAccepted};
+ghost use Rattle.alp_top.specs.Anywhere.{IsPlayedThrough};
 ghost use Rattle.alp_top.specs.Headline.{IsRunOf};
 ghost use Rattle.alp_top.specs.Volumes.{HasDiskCause, IsDiskTold, IsOfDisk};
 ghost use Rattle.alp_vault.specs.Vault.{AreSizes};
@@ -32,9 +33,10 @@ pub fn run_disk<D: Disk>(
     ensures tells { D.tells result.0 ≡ D.tells disk }
     ensures later { D.faults disk ≤ D.faults result.0 }
     ensures ran { IsTrue (D.tells disk) → IfOk result.1 (λ e. IsRunOf ⟦<Store<D> as Vault>⟧ D.Disk sizes lines.now e.log e.text.items disk result.0) }
+    ensures through { IfOk result.1 (λ e. IsPlayedThrough ⟦<Store<D> as Vault>⟧ lines.now e.log e.text.items) }
     ensures own { IfErr result.1 IsOfDisk }
     ensures counted { IsDiskTold result.1 (D.faults disk) (D.faults result.0) }
-    ensures cause { IsTrue (D.tells disk) → IfErr result.1 (λ f. HasDiskCause D.Disk sizes f disk result.0) }
+    ensures cause { IsTrue (D.tells disk) → IfErr result.1 (λ f. HasDiskCause D.Disk sizes lines.now f disk result.0) }
 {
     let store = match Store::start(alloc, disk, SERVER, 1, sizes) {
         Ok(store) => store,

@@ -1,7 +1,7 @@
 //! What is counted of a part.
 ghost use Rattle.std.specs.Prelude.{◌≡◌, ◌<◌, ◌≤◌};
 ghost use Rattle.alp_files.specs.Counts.{places_at, files_at};
-ghost use Rattle.alp_trans.specs.Counting.{no_counts, counts_with, with_new as with_new_said, owners_at, AreFew};
+ghost use Rattle.alp_trans.specs.Counting.{no_counts, counts_with, with_cell as with_cell_said, owners_at, exchanged, AreFew};
 
 use alp_base::Key;
 
@@ -23,6 +23,8 @@ pub enum Sight {
     Stands,
     /// No cell, where the key is a page's and its block has no page.
     First,
+    /// No cell, where one stood that goes.
+    Again,
     /// No cell otherwise.
     Beside,
 }
@@ -54,38 +56,69 @@ impl Counts {
         }
     }
 
+    /// Of so many cells that are nothing besides.
+    pub fn of_cells(cells: u32) -> Counts
+        ensures { result ≡ record no_counts { cells = cells } }
+    {
+        Counts {
+            cells,
+            places: 0,
+            files: 0,
+            owners: 0,
+        }
+    }
+
     /// Those of the part with one put more.
     pub fn with(self, key: &Key, sight: Sight) -> Counts
         requires few { AreFew self }
         requires room { self.cells < 65536 }
         ensures { result ≡ counts_with self key.now sight }
     {
+        let (places, files, owners) = adds(key);
         match sight {
             Sight::Put => self,
-            Sight::Stands => Counts {
-                cells: self.cells + 1,
-                places: self.places,
-                files: self.files,
-                owners: self.owners,
-            },
-            Sight::First => self.with_new(key, 1),
-            Sight::Beside => self.with_new(key, 0),
+            Sight::Stands => self.with_cell(0, 0, 0),
+            Sight::First => self.with_cell(places + 1, files, owners),
+            Sight::Again => self.with_cell(places, 0, 0),
+            Sight::Beside => self.with_cell(places, files, owners),
         }
     }
 
-    // Those with a cell more where none is, whose block takes so many places.
-    fn with_new(self, key: &Key, block: u32) -> Counts
+    // Those with a cell more, which takes so many places, and is so many files and owners.
+    fn with_cell(self, places: u32, files: u32, owners: u32) -> Counts
         requires few { AreFew self }
         requires room { self.cells < 65536 }
-        requires block { block ≤ 1 }
-        ensures { result ≡ with_new_said self key.now block }
+        requires places { places ≤ 2 }
+        requires files { files ≤ 1 }
+        requires owners { owners ≤ 1 }
+        ensures { result ≡ with_cell_said self places files owners }
     {
-        let (places, files, owners) = adds(key);
         Counts {
             cells: self.cells + 1,
-            places: self.places + (places + block),
+            places: self.places + places,
             files: self.files + files,
             owners: self.owners + owners,
+        }
+    }
+
+    /// Those with what a file comes to now in place of what it came to before.
+    pub fn exchange(self, before: Counts, now: Counts) -> Counts
+        requires few { AreFew self }
+        requires now { AreFew now }
+        requires part { before.cells ≤ self.cells }
+        requires room { self.cells < 65536 }
+        requires fits { now.cells < 65536 }
+        ensures { result ≡ exchanged self before now }
+    {
+        let cells = self.cells - before.cells + now.cells;
+        let places = self.places.saturating_sub(before.places) + now.places;
+        let files = self.files.saturating_sub(before.files) + now.files;
+        let owners = self.owners.saturating_sub(before.owners) + now.owners;
+        Counts {
+            cells,
+            places: places.min(2 * cells),
+            files: files.min(cells),
+            owners: owners.min(cells),
         }
     }
 }

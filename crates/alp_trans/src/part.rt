@@ -1,20 +1,20 @@
 //! A transaction's part at one server: its intents and its opens.
 ghost use Rattle.std.specs.Prelude.{◌≡◌, IfOk};
-ghost use Rattle.std.specs.FinMap as map;
 ghost use Rattle.alp_files.specs.Act.{no_opens, open_at};
+ghost use Rattle.alp_files.specs.Needs.{no_intents};
 ghost use Rattle.alp_trans.specs.Counting.{no_counts};
 ghost use Rattle.alp_trans.specs.Parts.{own_of, change_of};
 
-use crate::Counts;
+use crate::{Counts, Intents};
 use alp_base::OutOfMemory;
-use alp_files::{CellMap, Change, CutList, FileList, Open, PutList};
+use alp_files::{Change, Open};
 use std::alloc::Global;
 
 /// What a transaction intends at one server, what it has opened there, and what is counted of it, which is kept as it changes.
 #[derive(Drop)]
 pub struct Part {
-    /// Cells that it puts when it commits.
-    pub intents: CellMap,
+    /// What its commit makes of the cells.
+    pub intents: Intents,
     /// The last open number.
     pub last: u32,
     pub opens: Vec<Open>,
@@ -25,11 +25,11 @@ impl Part {
     /// A part that did nothing yet.
     pub fn new(alloc: Global) -> Part
         ensures own { own_of result ≡ no_opens }
-        ensures intents { result.intents ≡ map.empty }
+        ensures intents { result.intents ≡ no_intents }
         ensures counts { result.counts ≡ no_counts }
     {
         Part {
-            intents: CellMap::new(alloc),
+            intents: Intents::new(alloc),
             last: 0,
             opens: Vec::new(alloc),
             counts: Counts::none(),
@@ -50,10 +50,6 @@ impl Part {
     pub fn change(&self, alloc: Global) -> Result<Change, OutOfMemory>
         ensures { IfOk result (λ c. c ≡ change_of self.now.intents) }
     {
-        Ok(Change {
-            drops: FileList::new(Vec::new(alloc)),
-            cuts: CutList::new(Vec::new(alloc)),
-            puts: PutList::new(self.intents.copies(alloc)?),
-        })
+        self.intents.to_change(alloc)
     }
 }

@@ -1,51 +1,40 @@
-use Rattle.std.specs.Prelude.{None, true, Bool}
-use Rattle.std.proofs.Common.{◌≡◌, ◌+◌, List, ◌∷◌, drop, refl, sym, ap, ◌∙◌, subst}
-use Rattle.std.proofs.lemmas.List.{at_drop_more}
-use Rattle.alp_base.specs.declared.key.Key.{Key}
-use Rattle.alp_files.specs.declared.cell.Cell.{Cell}
+use Rattle.std.specs.Prelude.{Bool, IfOk, Result, Ok, Err}
+use Rattle.std.proofs.Common.{◌≡◌, List, ◌++◌, ◌∙◌, ap, subst}
 use Rattle.alp_files.specs.Cells.{Cells}
 use Rattle.alp_files.specs.Edits.{Edit}
+use Rattle.alp_files.specs.Needs.{Intents, intents_from, intents_of}
 use Rattle.alp_files.specs.Undo.{puts_of}
-use Rattle.alp_trans.specs.declared.counts.Sight.{Sight}
-use Rattle.alp_calls.specs.Sights.{IsSight}
-use Rattle.alp_vault.specs.Contents.{Contents}
-use Rattle.alp_vault.specs.Volumes.{fit_keys}
-use Rattle.alp_calls.proofs.CountingLemmas.{Counting, counting_begins, counting_goes_on}
-use Rattle.alp_calls.proofs.LookLemmas.{left_same, looks_then}
-use Rattle.alp_calls.proofs.FitLemmas.{one_fits}
+use Rattle.alp_trans.specs.Counting.{AreCountsOf}
+use Rattle.alp_trans.specs.Parts.{ahead_of, gone_edits}
+use Rattle.alp_trans.specs.declared.counts.Counts.{Counts}
+use Rattle.alp_calls.specs.Sights.{IsRaised}
+use Rattle.alp_calls.specs.declared.fault.CallFault.{CallFault}
+use Rattle.alp_calls.proofs.CountLaws.{counted_after, counts_from}
+use Rattle.alp_calls.proofs.LookLemmas.{looked_at}
 use Rattle.alp_calls.proofs.counting.counts_after.Goals as goal
 
-pub loop-put-init : goal.loop-put-init
-loop-put-init g c = record {
-  left = (left_same g.V.Vault c.args.vault.now, c.requires.serving, refl);
-  fit = c.requires.puts.fit;
-  counting = counting_begins (g.V.Vault.tells c.args.vault.now) (g.V.Vault.held c.args.vault.now).cells c.args.part.now.intents c.new-more.result c.args.part.now.counts (puts_of c.args.puts.now) c.new-more.ensures
-      c.requires.part.cells c.requires.part.few;
-}
+-- what is so of counts that were found
+if_counted : (r : Result Counts CallFault) (P Q : Counts → Type 0) → IfOk r P → ((n : Counts) → P n → Q n) → IfOk r Q
+if_counted (Ok n) P Q h so = so n h
+if_counted (Err f) P Q h so = tt
 
-pub loop-put-preserved : goal.loop-put-preserved
-loop-put-preserved g c =
-    let left = c.loop-put.invariant.left in
-    let rest : List (Key × Cell) = drop (c.loop-put.put-index + 1) c.args.puts.now in
-    let held : Cells = (g.V.Vault.held c.args.vault.now).cells in
-    let intents : Cells = c.args.part.now.intents in
+pub returns-clause-counts : goal.returns-clause-counts
+returns-clause-counts g c = λ told.
+    let i : Intents = c.args.part.now.intents in
     let tells : Bool = g.V.Vault.tells c.args.vault.now in
-    let all : List Edit = puts_of c.args.puts.now in
-    let item : Key × Cell = c.put-item.result in
-    let fits : fit_keys (item ∷ rest) ≡ true =
-    ap (λ (x : Key × Cell). fit_keys (x ∷ rest)) c.put-item.is
-    ∙ sym (at_drop_more fit_keys c.args.puts.now c.loop-put.put-index item c.loop-put-test.true) ∙ c.loop-put.invariant.fit in
-    let before : Counting tells held intents c.loop-put.more c.args.part.now.counts c.loop-put.counts all (puts_of (item ∷ rest)) =
-    subst (λ (xs : List (Key × Cell)). Counting tells held intents c.loop-put.more c.args.part.now.counts c.loop-put.counts all (puts_of xs))
-    (at_drop_more (λ (xs : List (Key × Cell)). xs) c.args.puts.now c.loop-put.put-index item c.loop-put-test.true
-    ∙ ap (λ (x : Key × Cell). x ∷ rest) (sym c.put-item.is)) c.loop-put.invariant.counting in
-    let s : Sight = c.in_ok-counts.ensures.counted.0 in
-    let seen : IsSight tells c.loop-put.more intents held item.0 s =
-    subst (λ (b : Bool). IsSight b c.loop-put.more intents held item.0 s) left.0.same.telling
-    (subst (λ (x : Contents). IsSight (g.V.Vault.tells c.loop-put.vault) c.loop-put.more intents x.cells item.0 s) left.0.contents c.in_ok-counts.ensures.counted.1) in
-    record {
-      left = looks_then g.V.Vault c.args.vault.now c.loop-put.vault c.count_put.new.vault None left c.in_ok-counts.ensures.looked;
-      fit = (one_fits item rest fits).1;
-      counting = counting_goes_on tells held intents c.loop-put.more c.count_put.new.more c.args.part.now.counts c.loop-put.counts all (puts_of rest) item.0 item.1 s c.in_ok-counts.counts
-          before seen c.in_ok-counts.ensures.counted.2 c.in_ok-counts.ensures.more;
-    }
+    let held : Cells = (g.V.Vault.held c.args.vault.now).cells in
+    let gone : List Edit = gone_edits c.args.gone in
+    let puts : List Edit = puts_of c.args.puts.now in
+    let start : Counts = c.args.part.now.counts in
+    let mid : Counts = c.in_ok-counts.counts in
+    let ahead : c.new-ahead.result ≡ intents_from i gone = c.new-ahead.ensures ∙ ap (ahead_of i c.args.gone) c.puts.ensures in
+    if_counted c.count_puts.result
+    (λ n. IsRaised (g.V.Vault.tells c.counts_without.new.vault) (g.V.Vault.held c.counts_without.new.vault).cells c.new-ahead.result (intents_from c.new-ahead.result puts) mid n)
+    (λ n. (es : List Edit) → i ≡ intents_of es → AreCountsOf held es start → AreCountsOf held (es ++ (gone ++ puts)) n)
+    c.count_puts.ensures.counted
+    (λ n h es is are. counts_from tells held i es (gone ++ puts) start n
+    (counted_after tells held i gone puts start mid n c.in_ok-counts.ensures.counted
+    (subst (λ (a : Intents). IsRaised tells held a (intents_from a puts) mid n) ahead
+    (looked_at g.V.Vault c.args.vault.now c.counts_without.new.vault c.in_ok-counts.ensures.looked.0
+    (λ (b : Bool) (m : Cells). IsRaised b m c.new-ahead.result (intents_from c.new-ahead.result puts) mid n) h)))
+    told is are)

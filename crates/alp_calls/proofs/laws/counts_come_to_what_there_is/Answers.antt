@@ -1,6 +1,4 @@
-use Rattle.alp_calls.proofs.ChangedLemmas.{changed_len}
-use Rattle.alp_calls.proofs.CountLaws.{files_after, owners_after}
-use Rattle.alp_calls.proofs.NeedLemmas.{used_after}
+use Rattle.alp_calls.proofs.CountLaws.{changed_after, used_after, files_after, owners_after}
 use Rattle.alp_calls.proofs.laws.counts_come_to_what_there_is.Goals as goal
 
 pub returns-clause-places : goal.returns-clause-places
@@ -13,4 +11,4 @@ pub returns-clause-owners : goal.returns-clause-owners
 returns-clause-owners c = owners_after
 
 pub returns-clause-cells : goal.returns-clause-cells
-returns-clause-cells c = changed_len
+returns-clause-cells c = changed_after

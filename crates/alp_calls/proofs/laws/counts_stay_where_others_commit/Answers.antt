@@ -4,4 +4,4 @@ use Rattle.alp_calls.proofs.FrameLemmas.{apart_agrees}
 use Rattle.alp_calls.proofs.laws.counts_stay_where_others_commit.Goals as goal
 
 pub returns : goal.returns
-returns c = λ m es others n alone theirs apart are. counts_stay m (edits_map others m) es n alone (apart_agrees m es others theirs apart) are
+returns c = λ m es others n apart are. counts_stay m (edits_map others m) es n (apart_agrees m es others apart) are

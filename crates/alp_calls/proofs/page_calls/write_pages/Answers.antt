@@ -1,16 +1,21 @@
-use Rattle.std.proofs.Common.{◌≡◌, ◌+◌, List, ◌++◌, ap, ◌∙◌, sym, rules}
-use Rattle.std.proofs.lemmas.Bool.{le-ltb}
-use Rattle.alp_files.specs.Act.{mark_put, page_puts}
-use Rattle.alp_files.specs.Edits.{Edit}
-use Rattle.alp_files.specs.Undo.{puts_of}
-use Rattle.alp_calls.proofs.PartLemmas.{pages_written}
+use Rattle.std.specs.Prelude.{None}
+use Rattle.std.proofs.Common.{ℕ, ◌≤◌, List, [], ◌∷◌, length, refl, ap, arith}
+use Rattle.alp_base.specs.declared.key.Key.{Key}
+use Rattle.alp_files.specs.declared.cell.Cell.{Cell}
+use Rattle.alp_files.specs.declared.reply.Reply.TheVariants as reply
+use Rattle.alp_trans.specs.Parts.{AreBeside}
+use Rattle.alp_calls.specs.declared.said.OpenChange.TheVariants.{Stay}
+use Rattle.alp_calls.proofs.ProperLemmas.{done_proper}
 use Rattle.alp_calls.proofs.page_calls.write_pages.Goals as goal
 
-pub returns-clause-right : goal.returns-clause-right
-returns-clause-right g c = λ told.
-    let puts : puts_of c.raise_mark.new.puts.items ≡ page_puts c.in-Some.open.file c.args.run.first c.args.pages.now ++ mark_put c.in-Some.open.file c.in-Some-2.props (c.args.run.first + c.args.run.count) =
-    c.in_ok-raise_mark.ensures.puts
-    ∙ ap (λ (xs : List Edit). xs ++ mark_put c.in-Some.open.file c.in-Some-2.props (c.args.run.first + c.args.run.count))
-    (c.in_ok-puts.ensures.puts ∙ ap (page_puts c.in-Some.open.file c.args.run.first) c.pages.ensures) in
-    pages_written (g.V.Vault.held c.args.vault.now).cells c.args.part.now c.args.open_no c.args.run c.args.pages.now c.in-Some.open c.in-Some-2.props c.raise_mark.new.puts.items
-    (sym c.in-Some.ensures) (search rules) (sym (c.in_ok-props.ensures.props told) ∙ c.in-Some-2.is) (le-ltb _ _ c.if-props-run.false) puts
+none_taken : (puts : List (Key × Cell)) → AreBeside None puts
+none_taken [] = refl
+none_taken (p ∷ ps) = none_taken ps
+
+pub returns-clause-proper : goal.returns-clause-proper
+returns-clause-proper g c =
+    let few : length c.raise_mark.new.puts.items ≤ 256 =
+    omega (arith, c.in_ok-raise_mark.ensures.few, c.in_ok-puts.ensures.all, ap (λ (xs : List (List ℕ)). length xs) c.pages.ensures, c.requires.whole) in
+    done_proper c.args.part.now reply.Plain (record { gone = None; puts = c.raise_mark.new.puts; opens = Stay }) refl (tt, refl) refl tt
+    (record { fit = c.in_ok-raise_mark.ensures.fit c.in_ok-puts.ensures.fit; few = few })
+    (none_taken c.raise_mark.new.puts.items)

@@ -16,6 +16,6 @@ returns-clause-answered g c =
     (λ r. Answered tells held c.args.part.now c.settle.new.part c.args.who c.args.id c.args.call.now c.args.room r)
     c.settle.ensures.settled
     (λ r h. answered_so tells held c.args.part.now c.settle.new.part c.args.who c.args.id c.args.call.now c.args.room c.in_ok-said.said r
-    c.in_ok-said.ensures.right c.in_ok-said.ensures.id c.in_ok-said.ensures.own c.in_ok-said.ensures.kind
+    c.in_ok-said.ensures.right c.in_ok-said.ensures.id c.in_ok-said.ensures.proper c.in_ok-said.ensures.opens c.in_ok-said.ensures.pages
     (subst (λ (b : Bool). Settled b held c.args.part.now c.settle.new.part c.args.room c.in_ok-said.said r) left.same.telling
     (subst (λ (x : Contents). Settled (g.V.Vault.tells c.say.new.vault) x.cells c.args.part.now c.settle.new.part c.args.room c.in_ok-said.said r) left.contents h)))

@@ -82,15 +82,15 @@ returns-clause-cause g c asked =
     IfErr-weaker c.run_disk-disk.result.1 _ _
     (λ f x.
     run_cause fuse h S c.new.result c.run_disk-disk.result.0 c.in_ok-device.device c.stop_after.new.self taken given (g.B.Bay.at c.args.bay.now) (g.B.Bay.at c.give.new.self) was filled.here others c.run_disk-disk.ensures.size
-    c.run_disk-disk.ensures.later (g.B.Bay.faults c.args.bay.now) (g.B.Bay.faults c.give.new.self) f
-    (subst (λ (z : Sizes). HasDiskCause fuse z f c.new.result c.run_disk-disk.result.0) c.sizes_of-sizes.ensures x))
+    c.run_disk-disk.ensures.later c.args.lines.now (g.B.Bay.faults c.args.bay.now) (g.B.Bay.faults c.give.new.self) f
+    (subst (λ (z : Sizes). HasDiskCause fuse z c.args.lines.now f c.new.result c.run_disk-disk.result.0) c.sizes_of-sizes.ensures x))
     (c.run_disk-disk.ensures.cause fused)
 
 -- ---- the bay ended it
 
 pub returns-in_err-choose-clause-cause : goal.returns-in_err-choose-clause-cause
 returns-in_err-choose-clause-cause g c asked =
-    bay_cause _ _ c.in_err-choose.field-0.0 c.in_err-choose.ensures.cause c.from_residual.result c.from_residual.ensures.0 c.from_residual.ensures.1 g.B.Device.Disk (sizes_said c.args.lines.now 1) _ _
+    bay_cause _ _ c.in_err-choose.field-0.0 c.in_err-choose.ensures.cause c.from_residual.result c.from_residual.ensures.0 c.from_residual.ensures.1 g.B.Device.Disk (sizes_said c.args.lines.now 1) c.args.lines.now _ _
     c.choose.ensures.places
 
 pub returns-in_err-choose-clause-chosen : goal.returns-in_err-choose-clause-chosen

@@ -1,12 +1,18 @@
 use Rattle.std.specs.Prelude.{IsTrue}
-use Rattle.std.proofs.Common.{ℕ, List, ◌++◌, sym, ◌∙◌, ap, subst}
+use Rattle.std.proofs.Common.{ℕ, List, ◌++◌, refl, sym, ◌∙◌, ap, subst}
 use Rattle.alp_files.specs.Counts.{file_count_of}
 use Rattle.alp_files.specs.Cells.{Cells}
 use Rattle.alp_files.specs.Sound.{AreSound}
+use Rattle.alp_report.specs.Sections.{printed}
 use Rattle.alp_report.specs.declared.summary.Summary.{Summary}
 use Rattle.alp_vault.specs.Contents.{Contents}
 use Rattle.alp_top.proofs.SummaryLemmas.{printed_is}
 use Rattle.alp_top.proofs.finish.put_ending.Goals as goal
+
+pub returns-clause-printed : goal.returns-clause-printed
+returns-clause-printed g c =
+    let s : Summary = record { server = c.args.ending.server; epoch = c.args.ending.epoch; clock = c.args.ending.clock; files = c.file_count.result; owners = c.deref.result; committed = c.args.ending.committed; aborted = c.args.ending.aborted } in
+    (printed s, c.in_ok-put_summary.ensures, record { summary = s; server = refl; epoch = refl; clock = refl; committed = refl; aborted = refl; text_is = refl })
 
 pub returns-clause-text : goal.returns-clause-text
 returns-clause-text g c tells =

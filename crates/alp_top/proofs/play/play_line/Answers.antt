@@ -2,10 +2,11 @@ use Rattle.std.specs.Prelude.{Some, None}
 use Rattle.std.proofs.Common.{◌≡◌, ◌≤◌, List, ◌++◌, sym, ◌∙◌, ap, subst, arith}
 use Rattle.std.proofs.lemmas.Result.{on_ok_weaker}
 use Rattle.alp_journal.specs.declared.log.Item.{Item}
-use Rattle.alp_script.specs.Named.{client_named}
+use Rattle.alp_lines.specs.Named.{client_named}
 use Rattle.alp_script.proofs.OrderLemmas.{ours-client}
-use Rattle.alp_client.specs.Crowd.{Crowd}
-use Rattle.alp_top.specs.Steps.{InStep, Did, Adds}
+use Rattle.alp_session.specs.Crowd.{Crowd}
+use Rattle.alp_top.specs.Steps.{InStep, Did, Adds, DidSome}
+use Rattle.alp_top.proofs.FillLemmas.{adds_some}
 use Rattle.alp_top.proofs.LineLemmas.{at_step, adds_item, adds_nothing, list_there}
 use Rattle.alp_top.proofs.play.play_line.Goals as goal
 
@@ -13,7 +14,7 @@ pub returns-in_default-clause-adds : goal.returns-in_default-clause-adds
 returns-in_default-clause-adds g c =
     let none : client_named c.args.line.now.line ≡ None = sym c.client.ensures ∙ c.in_default.is in
     subst (λ (x : Crowd). Adds g.V.Vault c.args.clients.now x c.args.node.now c.args.node.now c.args.line.now c.args.lists.now.items c.args.lists.now.items c.args.text.now.items c.args.text.now.items) (sym c.declares.ensures)
-    (adds_nothing g.V.Vault c.args.clients.now c.args.node.now c.args.line.now c.args.lists.now.items c.args.text.now.items c.requires.step c.requires.form none)
+    (adds_nothing g.V.Vault c.args.clients.now c.args.node.now c.args.line.now c.args.lists.now.items c.args.text.now.items c.requires.step none)
 
 pub at_line-requires : goal.at_line-requires
 at_line-requires g c = (ours-client c.args.line.now.line c.in-Some.client c.requires.ours (sym c.client.ensures ∙ c.in-Some.is)).1
@@ -24,13 +25,13 @@ index_mut-requires g c =
     omega (arith, small, c.requires.places, c.args.lists.now.ok)
 
 pub play_own-requires-clause-client : goal.play_own-requires-clause-client
-play_own-requires-clause-client g c = (ours-client c.args.line.now.line c.in-Some.client c.requires.ours (sym c.client.ensures ∙ c.in-Some.is)).1
+play_own-requires-clause-client g c = ours-client c.args.line.now.line c.in-Some.client c.requires.ours (sym c.client.ensures ∙ c.in-Some.is)
 
 pub play_own-requires-clause-step : goal.play_own-requires-clause-step
 play_own-requires-clause-step g c =
     let named : client_named c.args.line.now.line ≡ Some c.in-Some.client = sym c.client.ensures ∙ c.in-Some.is in
     subst (λ (x : Crowd). InStep g.V.Vault x c.args.node.now) (sym c.in_ok-at_line.ensures.ok)
-    (at_step g.V.Vault c.args.clients.now c.args.node.now c.in-Some.client c.args.line.now.line (ours-client c.args.line.now.line c.in-Some.client c.requires.ours named).1 c.requires.form c.requires.step)
+    (at_step g.V.Vault c.args.clients.now c.args.node.now c.in-Some.client c.args.line.now.line (ours-client c.args.line.now.line c.in-Some.client c.requires.ours named).1 c.requires.step)
 
 pub returns-clause-adds : goal.returns-clause-adds
 returns-clause-adds g c =
@@ -39,8 +40,18 @@ returns-clause-adds g c =
     on_ok_weaker c.play_own.result
     (λ own.
     adds_item g.V.Vault c.args.clients.now c.play_own.new.clients c.args.node.now c.play_own.new.node c.args.line.now c.in-Some.client own.0 c.args.lists.now.items c.play_own.new.items c.args.text.now.items c.play_own.new.text.items
-    named small c.requires.step.places c.requires.form c.requires.places
+    named small c.requires.step.places c.requires.places
     (own.1 ∙ ap (λ (xs : List Item). xs ++ own.0) (sym (list_there c.args.lists.now.items c.in-Some.client c.index_mut.result.now c.index_mut.result.now (omega (arith, small, c.requires.places)) c.index_mut.ensures.value)))
     own.2
-    (subst (λ (x : Crowd). Did g.V.Vault x c.play_own.new.clients c.args.node.now c.play_own.new.node c.in-Some.client c.args.line.now 2 own.0) c.in_ok-at_line.ensures.ok own.3))
+    (subst (λ (x : Crowd). Did g.V.Vault x c.play_own.new.clients c.args.node.now c.play_own.new.node c.in-Some.client c.args.line.now own.0) c.in_ok-at_line.ensures.ok own.3))
     c.play_own.ensures.did
+
+pub returns-clause-filled : goal.returns-clause-filled
+returns-clause-filled g c full =
+    let named : client_named c.args.line.now.line ≡ Some c.in-Some.client = sym c.client.ensures ∙ c.in-Some.is in
+    let small : c.in-Some.client ≤ 16 = (ours-client c.args.line.now.line c.in-Some.client c.requires.ours named).1 in
+    let (xs, known, some) = c.play_own.ensures.filled full in (
+      known,
+      adds_some g.V.Vault c.args.clients.now known c.args.node.now c.play_own.new.node c.args.line.now c.in-Some.client xs named small c.requires.step.places
+          (subst (λ (x : Crowd). DidSome g.V.Vault x known c.args.node.now c.play_own.new.node c.in-Some.client c.args.line.now xs) c.in_ok-at_line.ensures.ok some),
+    )

@@ -7,7 +7,7 @@ use Rattle.alp_script.specs.declared.numbered.NumberedLine.{NumberedLine}
 use Rattle.alp_words.specs.Words.{folder_named}
 use Rattle.alp_top.specs.Headline.{HasCause}
 use Rattle.alp_top.specs.Volumes.{IsFolderLeft}
-use Rattle.alp_top.proofs.PlayedLemmas.{is_played, is_cut_off, done_then, cut_then, caused, folder_left, handed_folder, disk_counted, handed_counted, named_folder, folder_told, plays_on}
+use Rattle.alp_top.proofs.PlayedLemmas.{is_played, is_cut_off, done_then, cut_then, caused, folder_left, handed_folder, disk_counted, handed_counted, has_reported, has_reported_part, handed_limits, handed_disk, not_done, not_cut, limited, of_first, named_folder, folder_told, plays_on, not_flawed, not_untaken}
 use Rattle.alp_top.proofs.run.run_alpine.Goals as goal
 
 pub run_bay-requires-clause-accepted : goal.run_bay-requires-clause-accepted
@@ -33,14 +33,30 @@ returns-in-Ok-run_bay-clause-cut_off g c told =
     (λ log h. is_cut_off _ g.B.Device.Disk _ _ _ _ _ _ lines c.in-Ok-run_bay.ended.log c.in-Ok-run_bay.ended.text.items script (c.in-Ok-run_bay.ensures.ran asked) log h.0 h.1 h.2)
     c.hand_over.ensures.cut_off
 
-pub returns-in-Ok-run_bay-clause-counted : goal.returns-in-Ok-run_bay-clause-counted
-returns-in-Ok-run_bay-clause-counted g c = handed_counted c.hand_over.result _ c.hand_over.ensures.played
+pub returns-in-Ok-run_bay-clause-any_bay : goal.returns-in-Ok-run_bay-clause-any_bay
+returns-in-Ok-run_bay-clause-any_bay g c =
+    let lines : List NumberedLine = c.deref.result.now in
+    let script : GaveScript (g.S.Source.left c.args.script.now) (g.S.Source.left c.read_script.new.source) lines = subst (GaveScript _ _) (sym c.deref.ensures.value) c.in-Ok-read_script.ensures.script in
+    let ended = c.in-Ok-run_bay.ended in
+    record {
+      played = done_then c.hand_over.result _ _ (λ log h. has_reported _ _ _ lines ended.log ended.text.items script c.in-Ok-run_bay.ensures.through _ _ log h.0 h.1) c.hand_over.ensures.done;
+      cut_off = cut_then c.hand_over.result _ _ (λ log h. has_reported_part _ _ _ lines ended.log ended.text.items script c.in-Ok-run_bay.ensures.through _ _ log h.0 h.1 h.2) c.hand_over.ensures.cut_off;
+      limits = handed_limits c.hand_over.result _ c.hand_over.ensures.played;
+      server = handed_disk c.hand_over.result _ c.hand_over.ensures.played;
+      counted = handed_counted c.hand_over.result _ c.hand_over.ensures.played;
+    }
 
 pub returns-in-Ok-run_bay-clause-folder : goal.returns-in-Ok-run_bay-clause-folder
 returns-in-Ok-run_bay-clause-folder g c = handed_folder c.hand_over.result _ _ _ c.hand_over.ensures.played (c.in-Ok-run_bay.ensures.chosen ∙ c.folder_of.ensures ∙ named_folder _ c.in-Ok.command c.in-Ok.ensures.named)
 
-pub returns-clause-counted : goal.returns-clause-counted
-returns-clause-counted g c = disk_counted g.B.Device.Disk.faults c.ended_by.result c.in-Err.fault c.ended_by.ensures c.in-Err.ensures.counted
+pub returns-clause-any_bay : goal.returns-clause-any_bay
+returns-clause-any_bay g c = record {
+  played = not_done c.ended_by.result c.in-Err.fault _ c.ended_by.ensures;
+  cut_off = not_cut c.ended_by.result c.in-Err.fault _ c.ended_by.ensures;
+  limits = limited c.ended_by.result c.in-Err.fault c.ended_by.ensures;
+  server = of_first c.ended_by.result c.in-Err.fault c.ended_by.ensures;
+  counted = disk_counted g.B.Device.Disk.faults c.ended_by.result c.in-Err.fault c.ended_by.ensures c.in-Err.ensures.counted;
+}
 
 pub returns-clause-folder : goal.returns-clause-folder
 returns-clause-folder g c =
@@ -58,4 +74,10 @@ pub returns-clause-complete : goal.returns-clause-complete
 returns-clause-complete g c good says source sink bay told starts =
     let script : GaveScript (g.S.Source.left c.args.script.now) (g.S.Source.left c.read_script.new.source) c.deref.result.now = subst (GaveScript _ _) (sym c.deref.ensures.value) c.in-Ok-read_script.ensures.script in
     let asked = folder_told (λ name. name.now) c.folder_of.result _ _ (c.folder_of.ensures ∙ named_folder _ c.in-Ok.command c.in-Ok.ensures.named) told in
-    plays_on (sizes_said c.deref.result.now 1) _ _ (starts c.deref.result.now script) c.ended_by.result c.in-Err.fault _ _ c.ended_by.ensures (c.in-Err.ensures.cause asked) bay
+    plays_on (sizes_said c.deref.result.now 1) _ _ (starts c.deref.result.now script) c.deref.result.now c.ended_by.result c.in-Err.fault _ _ c.ended_by.ensures (c.in-Err.ensures.cause asked) bay
+
+pub returns-clause-flaw : goal.returns-clause-flaw
+returns-clause-flaw g c = not_flawed c.ended_by.result c.in-Err.fault _ c.ended_by.ensures
+
+pub returns-clause-untaken : goal.returns-clause-untaken
+returns-clause-untaken g c = not_untaken c.ended_by.result c.in-Err.fault _ c.ended_by.ensures

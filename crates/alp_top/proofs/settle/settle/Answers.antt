@@ -17,3 +17,12 @@ returns-clause-ended g c =
       ended = timed;
     })
     c.time_out.ensures.timed
+
+pub returns-clause-filled : goal.returns-clause-filled
+returns-clause-filled g c full = record {
+  live = c.deref.result.now;
+  left = λ told.
+      subst (λ (ts : List TransId). AreLive (state_of g.V.Vault c.args.node.now) ts) (sym c.deref.ensures.value)
+      (c.in_ok-live.ensures.live (subst IsTrue c.time_out.ensures.gone.same.telling told));
+  ended = c.time_out.ensures.filled full;
+}

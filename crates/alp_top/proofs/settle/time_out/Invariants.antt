@@ -1,5 +1,5 @@
 use Rattle.std.specs.Prelude.{Ok}
-use Rattle.std.proofs.Common.{ℕ, ◌+◌, ◌≤◌, length, take}
+use Rattle.std.proofs.Common.{ℕ, take}
 use Rattle.alp_top.specs.Runs.{HasTimedOut}
 use Rattle.alp_top.specs.Servers.{HasGone}
 use Rattle.alp_top.proofs.settle.time_out.Given as goal
@@ -8,5 +8,4 @@ abbrev pub invariant-loop-trans : goal.invariant-loop-trans
 invariant-loop-trans g l = record {
   timed : HasTimedOut g.V.Vault l.fn.node l.fn.node.journal (take l.trans-index l.live) l.node;
   gone : HasGone {T = ℕ} g.V.Vault l.fn.node.kept.vault l.node.kept.vault (Ok 0);
-  short : length l.node.journal ≤ length l.fn.node.journal + l.trans-index;
 }

@@ -1,5 +1,5 @@
-use Rattle.std.specs.Prelude.{IsTrue}
-use Rattle.std.proofs.Common.{◌≡◌, ℕ, List, refl, sym, ◌∙◌, ap, subst}
+use Rattle.std.specs.Prelude.{IsTrue, None, Some}
+use Rattle.std.proofs.Common.{◌≡◌, ℕ, List, length, arith, refl, sym, ◌∙◌, ap, subst}
 use Rattle.alp_base.specs.declared.faults.Sizes.{Sizes}
 use Rattle.alp_anchor.specs.declared.anchor.Anchor.{Anchor}
 use Rattle.std.specs.Prelude.{Bool}
@@ -17,19 +17,35 @@ use Rattle.alp_store.specs.Starts.{AreOfServer as StoredOfServer}
 use Rattle.alp_store.specs.Told.{contents_of}
 use Rattle.alp_wal.specs.Wal.{disk_of, anchor_of}
 use Rattle.alp_store.specs.contracts.store.StoreVault.TheImpl as store_vault
+use Rattle.alp_top.specs.Logs.{openings, start_of}
+use Rattle.alp_top.specs.Reports.{end_of}
+use Rattle.std.specs.Prelude.{Err}
+use Rattle.alp_base.specs.Causes.{Rose}
+use Rattle.alp_node.specs.Durable.{said_of}
+use Rattle.alp_node.specs.Nodes.{state_of as state_by}
+use Rattle.alp_top.specs.Servers.{state_of}
+use Rattle.alp_top.proofs.EndLemmas.{held_is}
 use Rattle.alp_top.specs.Faults.{of_start}
-use Rattle.alp_top.specs.Servers.{IsOn, IsDone}
+use Rattle.alp_node.specs.NodeStates.{NodeState}
+use Rattle.alp_node.specs.Sessions.{no_sessions, session_at}
+use Rattle.alp_node.specs.declared.sessions.Sessions.{Sessions}
+use Rattle.alp_node.proofs.StartLemmas.{no_session}
+use Rattle.alp_top.specs.Servers.{AreCalm, IsOn, IsDone}
 use Rattle.alp_top.specs.declared.fault.RunFault.{RunFault}
 use Rattle.alp_top.specs.Volumes.{HasDiskCause, IsDiskFault, IsOfDisk}
 use Rattle.alp_top.proofs.GoneLemmas.{stays_free}
-use Rattle.alp_top.proofs.DiskLemmas.{not_opened, not_started, of_vault_own, of_start_own, of_server, stored, holds_one, if_ok, on_ok, opened_counted, started_counted}
+use Rattle.alp_top.proofs.DiskLemmas.{not_opened, not_started, of_vault_own, of_start_own, of_server, opened_as, stored, left_full, not_played, holds_one, if_ok, on_ok, opened_counted, started_counted}
 use Rattle.alp_top.proofs.volume.run_disk.Goals as goal
+
+-- nobody has a session
+calm_new : {V : Type 0} (n : NodeState V) → n.kept.sessions ≡ no_sessions → AreCalm n.kept.server n.kept.sessions
+calm_new n is client w at = let wrong : None ≡ Some w = sym (ap (λ (s : Sessions). session_at s client) is ∙ no_session client) ∙ at in cc
 
 pub returns-in-Err-clause-cause : goal.returns-in-Err-clause-cause
 returns-in-Err-clause-cause g c told =
     let h = c.in-Err.ensures in
-    subst (λ (f : RunFault). HasDiskCause g.D.Disk c.args.sizes f c.args.disk c.in-Err.disk) (sym c.of_vault.ensures)
-    (not_opened g.D.Disk c.args.sizes c.args.disk c.in-Err.disk c.in-Err.fault h.cause.cause h.cause.still (stays_free _ _ h.below.allowance c.requires.free) (λ is. (h.new told is).volume) (λ old. h.why_not told old)
+    subst (λ (f : RunFault). HasDiskCause g.D.Disk c.args.sizes c.args.lines.now f c.args.disk c.in-Err.disk) (sym c.of_vault.ensures)
+    (not_opened g.D.Disk c.args.sizes c.args.lines.now c.args.disk c.in-Err.disk c.in-Err.fault h.cause.cause h.cause.still (stays_free _ _ h.below.allowance c.requires.free) (λ is. (h.new told is).volume) (λ old. h.why_not told old)
     (record { seen = λ old. (h.looked told old).seen; crash = λ old. (h.looked told old).crash }))
 
 pub returns-in-Err-clause-own : goal.returns-in-Err-clause-own
@@ -60,9 +76,9 @@ returns-in-Err-start-clause-cause g c told =
     let cause : HasStartCause 1 1 (contents_of G s) (G.faults (disk_of s)) (G.faults e) (G.allowance e) f =
     subst (λ (b : ℕ). HasStartCause 1 b (contents_of G s) (G.faults (disk_of s)) (G.faults e) (G.allowance e) f) h.named.1
     (subst (λ (a : ℕ). HasStartCause a (anchor_of s).servers (contents_of G s) (G.faults (disk_of s)) (G.faults e) (G.allowance e) f) h.named.0 k.cause) in
-    subst (λ (q : RunFault). HasDiskCause G c.args.sizes q d c.into_disk.result) (sym c.of_start.ensures)
-    (subst (λ (q : g.row.D.Denot). HasDiskCause G c.args.sizes (of_start f) d q) (sym c.into_disk.ensures.disk)
-    (not_started G c.args.sizes d e (contents_of G s) f (G.faults (disk_of s)) (G.allowance e) (anchor_of s).sizes.home cause (stays_free _ _ k.allowance (stays_free _ _ h.below.allowance c.requires.free)) h.cause.still h.notes
+    subst (λ (q : RunFault). HasDiskCause G c.args.sizes c.args.lines.now q d c.into_disk.result) (sym c.of_start.ensures)
+    (subst (λ (q : g.row.D.Denot). HasDiskCause G c.args.sizes c.args.lines.now (of_start f) d q) (sym c.into_disk.ensures.disk)
+    (not_started G c.args.sizes c.args.lines.now d e (contents_of G s) f (G.faults (disk_of s)) (G.allowance e) (anchor_of s).sizes.home cause (stays_free _ _ k.allowance (stays_free _ _ h.below.allowance c.requires.free)) h.cause.still h.notes
     (λ is. (k.memory is).0.faults)
     (λ is. ap (λ v. G.faults (disk_of v.log)) (k.untouched (subst IsNoteFault (sym is) tt)))
     (λ is. (h.new told is).empty)
@@ -113,6 +129,8 @@ returns-in-Ok-ended-clause-ran g c given =
       free = stays_free _ _ k.allowance (stays_free _ _ h.below.allowance c.requires.free);
       first = k.new.number;
       alone = ap V.servers k.new.opening ∙ k.same.of_all ∙ h.named.1;
+      short = (let none : length n.journal ≡ 0 = ap (λ (js : List Entry). length js) k.new.journal in omega (arith, none));
+      calm = calm_new n k.new.sessions;
       answered = λ _. subst (λ (js : List Entry). Along next IsDone (opened (start_in V n)) js) (sym k.new.journal) tt;
     } in
     let rose : HasRaised (V.tells n.kept.vault) 1 1 (contents_of G s) (V.held n.kept.vault) (record { epoch = n.kept.epoch; clock = n.kept.clock }) =
@@ -127,7 +145,8 @@ returns-in-Ok-ended-clause-ran g c given =
       run = w.run;
       report = w.report;
       stored =
-          stored V G c.args.sizes w.run.server n (contents_of G s) vol d e w.run.number w.opening on tells k.new.journal k.new.opening k.same.sizes rose held w.held fits (λ is. (h.new given is).empty)
+          stored V G c.args.sizes (start_of V w.run.server) ((openings V).notes w.run.server.opening) (end_of V 1 w.run.server) n (contents_of G s) vol d e (opened_as V w.run.server n w.run.number w.opening on)
+          (ap (λ p. (V.held p.vault.value).notes) w.opening) on tells k.new.journal k.new.opening k.same.sizes rose held w.held fits (λ is. (h.new given is).empty)
           (λ is. ap (λ (a : Anchor). a.sizes) (h.new given is).anchor) (anchor_of s) h.named refl (λ old. (h.mounted given old).counts)
           (λ old. holds_one _ _ _ _ _ _ (G.seen d) (contents_of G s) h.named.0 h.named.1 (h.looked given old).size refl (h.mounted given old).holds)
           (λ old. subst (λ (b : ℕ). StoredOfServer 1 b (contents_of G s)) h.named.1 (subst (λ (a : ℕ). StoredOfServer a (anchor_of s).servers (contents_of G s)) h.named.0 (h.mounted given old).own))
@@ -136,3 +155,64 @@ returns-in-Ok-ended-clause-ran g c given =
           (last.left here w.serves)
           (ap G.faults last.disk ∙ on_ok _ c.run_node-store.result.1 c.in-Ok-ended.ended c.in-Ok-ended.is r.gone.still ∙ k.counted ∙ h.cause.still);
     }
+
+pub returns-in-Ok-ended-clause-through : goal.returns-in-Ok-ended-clause-through
+returns-in-Ok-ended-clause-through g c = if_ok _ c.run_node-store.result.1 c.in-Ok-ended.ended c.in-Ok-ended.is c.run_node-store.ensures.through
+
+pub returns-in-Err-ended-clause-cause : goal.returns-in-Err-ended-clause-cause
+returns-in-Err-ended-clause-cause g c given =
+    let G = g.D.Disk in
+    let V = store_vault.ghosts g.row.D g.D.Disk g.D.Disk-dict g.D.Destruct-dict in
+    let d = c.args.disk in
+    let s = c.in-Ok.store.log in
+    let h = c.in-Ok.ensures in
+    let n = c.in-Ok-start.node in
+    let k = c.in-Ok-start.ensures in
+    let r = c.run_node-store.ensures in
+    let s2 = c.run_node-store.result.0 in
+    let e = c.into_disk-disk.result in
+    let vol : Sizes = (anchor_of s).sizes in
+    let held : Contents = contents_of G s2.log in
+    let tells = subst IsTrue (sym (k.same.telling ∙ h.below.tells)) given in
+    let told = subst IsTrue (sym r.gone.same.telling) tells in
+    let on : IsOn V n = record {
+      kept = c.knows.ensures;
+      up = k.new.up;
+      free = stays_free _ _ k.allowance (stays_free _ _ h.below.allowance c.requires.free);
+      first = k.new.number;
+      alone = ap V.servers k.new.opening ∙ k.same.of_all ∙ h.named.1;
+      short = (let none : length n.journal ≡ 0 = ap (λ (js : List Entry). length js) k.new.journal in omega (arith, none));
+      calm = calm_new n k.new.sessions;
+      answered = λ _. subst (λ (js : List Entry). Along next IsDone (opened (start_in V n)) js) (sym k.new.journal) tt;
+    } in
+    let rose : HasRaised (V.tells n.kept.vault) 1 1 (contents_of G s) (V.held n.kept.vault) (record { epoch = n.kept.epoch; clock = n.kept.clock }) =
+    subst (λ (t : Bool). HasRaised t 1 1 (contents_of G s) (V.held n.kept.vault) (record { epoch = n.kept.epoch; clock = n.kept.clock })) (sym k.same.telling)
+    (subst (λ (b : ℕ). HasRaised (G.tells (disk_of s)) 1 b (contents_of G s) (V.held n.kept.vault) (record { epoch = n.kept.epoch; clock = n.kept.clock })) h.named.1
+    (subst (λ (a : ℕ). HasRaised (G.tells (disk_of s)) a (anchor_of s).servers (contents_of G s) (V.held n.kept.vault) (record { epoch = n.kept.epoch; clock = n.kept.clock })) h.named.0 k.raised)) in
+    let last = c.into_disk-disk.ensures in
+    let here = subst IsTrue (ap G.tells (sym last.disk)) told in
+    let volume : (anchor_of s2.log).sizes ≡ vol = r.gone.same.sizes ∙ k.same.sizes in
+    let start_faults : G.faults (disk_of c.in-Ok-start.node.kept.vault.log) ≡ G.faults d = k.counted ∙ h.cause.still in
+    subst (λ (f : RunFault). HasDiskCause G c.args.sizes c.args.lines.now f d e) (sym c.from.ensures)
+    (not_played G c.args.sizes c.args.lines.now d e c.in-Err-ended.fault
+    (λ is. subst (λ (q : ℕ). Rose q (G.faults e)) start_faults (subst (λ (q : ℕ). Rose (G.faults (disk_of c.in-Ok-start.node.kept.vault.log)) q) (ap G.faults (sym last.disk)) (r.gone.failed (c.in-Err-ended.is ∙ ap Err is))))
+    (λ is. ap G.faults last.disk ∙ r.gone.memory (c.in-Err-ended.is ∙ ap Err is) ∙ start_faults)
+    (λ is. (
+    let (m, full, vault) = r.filled (c.in-Err-ended.is ∙ ap Err is) in
+    let now : IsTrue (V.tells m.kept.vault) = subst (λ v. IsTrue (V.tells v)) (sym vault) told in
+    let serves : IsTrue (V.serves s2) = subst (λ v. IsTrue (V.serves v)) vault (full.on.kept.ready.serving full.on.up) in
+    let fits : IsVolumeOf vol held.cells = subst (λ (z : Sizes). IsVolumeOf z held.cells) volume (c.knows-2.ensures.fitting held told (c.knows-2.ensures.as_held told serves)) in
+    let o = start_in V n in
+    let said : held ≡ said_of (state_of V m) = ap V.held (sym vault) ∙ held_is V m full.on now in
+    left_full V G c.args.sizes c.args.lines.now n m d e o (V.held n.opening.vault.value).notes (sym full.start)
+    (ap (λ p. (V.held p.vault.value).notes) full.opening) full now
+    (stored V G c.args.sizes o (V.held n.opening.vault.value).notes (state_by o m.journal) n (contents_of G s) vol d e refl refl on tells k.new.journal k.new.opening k.same.sizes rose held
+    (said ∙ ap (λ p. said_of (state_by p m.journal)) full.start) fits (λ is. (h.new given is).empty)
+    (λ is. ap (λ (a : Anchor). a.sizes) (h.new given is).anchor) (anchor_of s) h.named refl (λ old. (h.mounted given old).counts)
+    (λ old. holds_one _ _ _ _ _ _ (G.seen d) (contents_of G s) h.named.0 h.named.1 (h.looked given old).size refl (h.mounted given old).holds)
+    (λ old. subst (λ (b : ℕ). StoredOfServer 1 b (contents_of G s)) h.named.1 (subst (λ (a : ℕ). StoredOfServer a (anchor_of s).servers (contents_of G s)) h.named.0 (h.mounted given old).own))
+    (holds_one _ _ _ _ _ _ (G.seen e) held (r.gone.same.number ∙ k.same.number ∙ h.named.0) (r.gone.same.of_all ∙ k.same.of_all ∙ h.named.1) (ap G.size (sym last.disk)) (ap (λ (z : Sizes). z.home) volume)
+    (last.holds here serves))
+    (last.left here serves)
+    (ap G.faults last.disk ∙ r.gone.full (c.in-Err-ended.is ∙ ap Err is) ∙ start_faults))
+    )))

@@ -106,7 +106,7 @@ returns g c =
     (begin_ready n serves k turn t l c.max-self.result c.requires.turn refl c.new-2.ensures.own (new_within k.sizes turn.client turn.who c.new-2.result c.new-2.ensures.intents c.new-2.ensures.counts h.sized) few (omega (arith, c.max-self.ensures)) (omega (arith, c.max-self.ensures, h.clock, c.requires.time)) h)))))
     (λ on. subst (λ (y : Answer). HasTurned (Some order.Next) k (record k { clock = c.max-self.result; drawn = k.drawn + 1; sessions = c.count.new.self; dead = c.bury-2.new.self; lives = c.add.new.self; locks = c.enter.new.self }) e y.kept) (sym is)
     (counts_on k (record k { clock = c.max-self.result; drawn = k.drawn + 1; sessions = c.count.new.self; dead = c.bury-2.new.self; lives = c.add.new.self; locks = c.enter.new.self }) turn c.requires.turn
-    (call.Begin c.args.seen) (reply.Begun t) tt (omega (arith, c.max-self.ensures)) tt c.count.ensures))
+    (call.Begin c.args.seen) (reply.Begun t) tt (omega (arith, c.max-self.ensures)) tt tt c.count.ensures))
 
 pub returns-then-len-ge-MOST_TRANSACTIONS : goal.returns-then-len-ge-MOST_TRANSACTIONS
 returns-then-len-ge-MOST_TRANSACTIONS g c =

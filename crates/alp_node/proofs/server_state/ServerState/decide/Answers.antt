@@ -180,7 +180,7 @@ returns g c =
       turned = λ up.
           subst (λ (y : ServerState _). HasTurned (Some order.Next) k (record y { clock = k.clock + 1; committed = y.committed + 1; sessions = c.count.new.self }) e x.kept) (sym c.forget.ensures)
           (subst (λ (y : Answer). HasTurned (Some order.Next) k (record (without_trans k t) { clock = k.clock + 1; committed = k.committed + 1; sessions = c.count.new.self; vault = v }) e y.kept) (sym so)
-          (counts_on k (record (without_trans k t) { clock = k.clock + 1; committed = k.committed + 1; sessions = c.count.new.self; vault = v }) turn c.requires.turn (call.Finish t true) (reply.Committed stamp) tt (omega arith) (omega arith) counts));
+          (counts_on k (record (without_trans k t) { clock = k.clock + 1; committed = k.committed + 1; sessions = c.count.new.self; vault = v }) turn c.requires.turn (call.Finish t true) (reply.Committed stamp) tt (omega arith) (omega arith) tt counts));
       leaves = λ told a h.
           subst (λ (y : ServerState _). Leaves G k.vault y.vault (Besides G k.vault (λ z. z ≡ said_by (alone a) (entry_of e x)))) (sym c.forget.ensures)
           (write_leaves a (G.held k.vault) k turn t same h c.requires.turn c.requires.up (sym c.in-Some.ensures) (subst (IsOf turn.client) (sym c.in-Some.ensures) c.requires.own) (reply.Committed stamp) refl G v x

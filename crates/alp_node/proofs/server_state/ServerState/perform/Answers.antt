@@ -4,7 +4,7 @@ use Rattle.std.proofs.Common.{◌≡◌, sym, ap, subst, ◌∙◌}
 use Rattle.alp_node.specs.Totals.{LiveMap, totals_of, AreFewTotals}
 use Rattle.alp_node.specs.declared.lives.Live.{Live}
 use Rattle.alp_node.proofs.MapLemmas.{put_there}
-use Rattle.alp_node.proofs.CallLemmas.{performed_so}
+use Rattle.alp_node.proofs.CallLemmas.{performed_so, looked_answer}
 use Rattle.alp_node.proofs.TotalLemmas.{blank_few}
 use Rattle.alp_node.proofs.server_state.ServerState.perform.Goals as goal
 
@@ -14,8 +14,8 @@ swap-requires-clause-there g c none =
     let wrong : None ≡ Some blank = sym none ∙ ap (λ (m : LiveMap). map.get m c.args.trans) c.swap-live.ensures.after ∙ put_there c.args.self.now.lives c.args.trans blank in
     cc
 
-pub perform-result-requires-clause-ready : goal.perform-result-requires-clause-ready
-perform-result-requires-clause-ready g c = c.requires.ready c.swap-live.result c.swap-live.ensures.before
+pub perform-given-requires-clause-ready : goal.perform-given-requires-clause-ready
+perform-given-requires-clause-ready g c = c.requires.ready c.swap-live.result c.swap-live.ensures.before
 
 pub swap-requires-clause-few : goal.swap-requires-clause-few
 swap-requires-clause-few g c =
@@ -26,6 +26,10 @@ pub returns-clause-performed : goal.returns-clause-performed
 returns-clause-performed g c l there =
     let k = c.args.self.now in
     let blank : Live = record { client = c.in-Some.found.now.client; who = c.in-Some.found.now.who; part = c.new.result; locks = c.in-Some.found.now.locks } in
-    performed_so (g.V.Vault.tells k.vault) (g.V.Vault.held k.vault).cells k c.perform-result.new.vault c.args.trans l c.swap-live.result blank c.perform-result.new.part c.args.call.now c.args.locks c.room-room.result c.locks_given.result
-    c.perform-result.result c.swap-live.new.self c.swap.new.self c.next_file-id.result c.next_file-id.ensures c.room-room.ensures c.perform-result.ensures.part c.locks_given.ensures there c.swap-live.ensures.before c.swap-live.ensures.after
-    c.swap.ensures.after c.perform-result.ensures.answered c.perform-result.ensures.err
+    performed_so (g.V.Vault.tells k.vault) (g.V.Vault.held k.vault).cells k c.perform-given.new.vault c.args.trans l c.swap-live.result blank c.perform-given.new.part c.args.call.now c.args.locks c.room-room.result c.locks_given.result
+    c.args.acts c.perform-given.result c.with_answer-result.result c.swap-live.new.self c.swap.new.self c.next_file-id.result c.next_file-id.ensures c.room-room.ensures c.perform-given.ensures.part c.locks_given.ensures there
+    c.swap-live.ensures.before c.swap-live.ensures.after c.swap.ensures.after c.perform-given.ensures.answered c.perform-given.ensures.err c.with_answer-result.ensures
+
+pub returns-clause-looked : goal.returns-clause-looked
+returns-clause-looked g c =
+    looked_answer g.V.Vault c.args.self.now.vault c.perform-given.new.vault c.args.acts c.perform-given.result c.with_answer-result.result c.with_answer-result.ensures c.perform-given.ensures.looked

@@ -1,0 +1,226 @@
+-- the lines that the grammar takes are of the language's forms
+use Rattle.std.specs.Prelude.{Option, None, Some, IfSome, codes}
+use Rattle.std.proofs.Common.{◌≡◌, ℕ, List, [], ◌∷◌, subst}
+use Rattle.std.specs.Option.{option_map}
+use Rattle.alp_tokens.specs.Words.{◌>>=◌, says, is_line, words_of}
+use Rattle.alp_tokens.specs.Numbers.{within, word32_of}
+use Rattle.alp_tokens.specs.Names.{name_of, list_of, text_of}
+use Rattle.alp_lines.specs.FileWords.{file_word_of, new_word_of}
+use Rattle.alp_lines.specs.Operands.{server_of, client_of, run_of, change_of}
+use Rattle.alp_lines.specs.ClientLines.{begin_line, bare_line, make_owner_line, read_owner_line, quota_line, file_line, create_line, open_line, close_line, delete_line, write_line, read_line, size_line, props_line, change_line, line_on_file, line_by_verb}
+use Rattle.alp_lines.specs.Grammar.{servers_line, volume_line, client_line, patience_line, line_of_client, line_by, line_of, is_skipped, line_said, text_said}
+use Rattle.alp_lines.specs.Forms.{IsRunOfPages, IsText, IsChange, IsForm}
+use Rattle.alp_lines.specs.Forms as form
+use Rattle.alp_lines.specs.declared.limits.TheConstants.{PATIENCE_MOST, HOME_LEAST, HOME_MOST, AREA_LEAST, AREA_MOST}
+use Rattle.alp_lines.specs.declared.line.Line.{Line}
+use Rattle.alp_lines.specs.declared.line.Line.TheVariants as line
+use Rattle.alp_lines.proofs.OperandLemmas.{IsFew, IsSmall, IsWithin, then, then_of, either, word32_small, within_range, run_formed, text_formed, list_few, chosen, admitted, opened, change_formed}
+
+-- a line, if any, of a form
+abbrev IsFormed : Option Line → Type 0
+IsFormed said = IfSome said IsForm
+
+-- ---- declarations
+
+servers_form : (args : List (List ℕ)) → IsFormed (servers_line args)
+unfolding servers_line
+servers_form [] = tt
+servers_form (a ∷ []) = then IsForm (server_of a) _ form.servers
+servers_form (a ∷ b ∷ more) = tt
+
+volume_form : (args : List (List ℕ)) → IsFormed (volume_line args)
+unfolding volume_line
+volume_form [] = tt
+volume_form (a ∷ []) = tt
+volume_form (a ∷ b ∷ []) = tt
+volume_form (a ∷ b ∷ c ∷ []) =
+    then IsForm (server_of a) _ (λ s.
+    then_of (IsWithin HOME_LEAST HOME_MOST) IsForm (within HOME_LEAST HOME_MOST b) _ (within_range HOME_LEAST HOME_MOST b) (λ h home.
+    then_of (IsWithin AREA_LEAST AREA_MOST) IsForm (within AREA_LEAST AREA_MOST c) _ (within_range AREA_LEAST AREA_MOST c) (λ a area.
+    form.volume s h a (record { home_least = home.least; home_most = home.most; area_least = area.least; area_most = area.most }))))
+volume_form (a ∷ b ∷ c ∷ d ∷ more) = tt
+
+client_form : (args : List (List ℕ)) → IsFormed (client_line args)
+unfolding client_line
+client_form [] = tt
+client_form (a ∷ []) = tt
+client_form (a ∷ b ∷ []) = then IsForm (client_of a) _ (λ c. then IsForm (name_of b) _ (λ n. form.client c n))
+client_form (a ∷ b ∷ c ∷ more) = tt
+
+patience_form : (args : List (List ℕ)) → IsFormed (patience_line args)
+unfolding patience_line
+patience_form [] = tt
+patience_form (a ∷ []) = then_of (IsWithin 1 PATIENCE_MOST) IsForm (within 1 PATIENCE_MOST a) _ (within_range 1 PATIENCE_MOST a) (λ n h. form.patience n h.least h.most)
+patience_form (a ∷ b ∷ more) = tt
+
+-- ---- transactions
+
+begin_form : (client : ℕ) (args : List (List ℕ)) → IsFormed (begin_line client args)
+unfolding begin_line
+begin_form client [] = tt
+begin_form client (a ∷ []) = then IsForm (server_of a) _ (λ s. form.begin client s)
+begin_form client (a ∷ b ∷ more) = tt
+
+bare_form : (l : Line) (args : List (List ℕ)) → IsForm l → IsFormed (bare_line l args)
+unfolding bare_line
+bare_form l [] formed = formed
+bare_form l (a ∷ more) formed = tt
+
+-- ---- owners
+
+make_owner_form : (client : ℕ) (args : List (List ℕ)) → IsFormed (make_owner_line client args)
+unfolding make_owner_line
+make_owner_form client [] = tt
+make_owner_form client (a ∷ []) = tt
+make_owner_form client (a ∷ b ∷ []) = tt
+make_owner_form client (a ∷ b ∷ c ∷ []) = tt
+make_owner_form client (a ∷ b ∷ c ∷ d ∷ end) =
+    then IsForm (server_of a) _ (λ s. then IsForm (name_of b) _ (λ n. then IsForm (word32_of c) _ (λ q. then_of IsFew IsForm (list_of d) _ (list_few d) (λ l few. chosen IsForm end _ (form.owner client s n q l few)))))
+
+read_owner_form : (client : ℕ) (args : List (List ℕ)) → IsFormed (read_owner_line client args)
+unfolding read_owner_line
+read_owner_form client [] = tt
+read_owner_form client (a ∷ []) = tt
+read_owner_form client (a ∷ b ∷ end) = then IsForm (server_of a) _ (λ s. then IsForm (name_of b) _ (λ n. chosen IsForm end _ (form.read_owner client s n)))
+
+quota_form : (client : ℕ) (args : List (List ℕ)) → IsFormed (quota_line client args)
+unfolding quota_line
+quota_form client [] = tt
+quota_form client (a ∷ []) = tt
+quota_form client (a ∷ b ∷ []) = tt
+quota_form client (a ∷ b ∷ c ∷ end) = then IsForm (server_of a) _ (λ s. then IsForm (name_of b) _ (λ n. then IsForm (word32_of c) _ (λ q. chosen IsForm end _ (form.quota client s n q))))
+
+-- ---- files
+
+file_form : (client server : ℕ) (args : List (List ℕ)) → IsFormed (file_line client server args)
+unfolding file_line
+file_form client server [] = tt
+file_form client server (a ∷ []) = tt
+file_form client server (a ∷ b ∷ []) = tt
+file_form client server (a ∷ b ∷ c ∷ end) =
+    then IsForm (new_word_of a) _ (λ w. then IsForm (name_of b) _ (λ n. then_of IsSmall IsForm (word32_of c) _ (word32_small c) (λ size small. admitted IsForm end _ (λ read modify few_read few_modify. form.create client server w n size read modify small few_read few_modify))))
+
+create_form : (client : ℕ) (args : List (List ℕ)) → IsFormed (create_line client args)
+unfolding create_line
+create_form client [] = tt
+create_form client (a ∷ args) = then IsForm (server_of a) _ (λ s. file_form client s args)
+
+open_form : (client : ℕ) (args : List (List ℕ)) → IsFormed (open_line client args)
+unfolding open_line
+open_form client [] = tt
+open_form client (a ∷ []) = tt
+open_form client (a ∷ b ∷ []) = tt
+open_form client (a ∷ b ∷ c ∷ end) =
+    then IsForm (file_word_of a) _ (λ f. opened IsForm b c _ (chosen IsForm end _ (form.open_read client f)) (chosen IsForm end _ (form.open_change client f)))
+
+close_form : (client : ℕ) (args : List (List ℕ)) → IsFormed (close_line client args)
+unfolding close_line
+close_form client [] = tt
+close_form client (a ∷ []) = then IsForm (file_word_of a) _ (λ f. form.close client f)
+close_form client (a ∷ b ∷ more) = tt
+
+delete_form : (client : ℕ) (args : List (List ℕ)) → IsFormed (delete_line client args)
+unfolding delete_line
+delete_form client [] = tt
+delete_form client (a ∷ end) = then IsForm (file_word_of a) _ (λ f. chosen IsForm end _ (form.delete client f))
+
+write_form : (client : ℕ) (args : List (List ℕ)) → IsFormed (write_line client args)
+unfolding write_line
+write_form client [] = tt
+write_form client (a ∷ []) = tt
+write_form client (a ∷ b ∷ []) = tt
+write_form client (a ∷ b ∷ c ∷ []) = tt
+write_form client (a ∷ b ∷ c ∷ d ∷ end) =
+    then IsForm (file_word_of a) _ (λ f. then_of IsRunOfPages IsForm (run_of b c) _ (run_formed b c) (λ r run. then_of IsText IsForm (text_of d) _ (text_formed d) (λ t text. chosen IsForm end _ (form.write client f r t run text))))
+
+read_form : (client : ℕ) (args : List (List ℕ)) → IsFormed (read_line client args)
+unfolding read_line
+read_form client [] = tt
+read_form client (a ∷ []) = tt
+read_form client (a ∷ b ∷ []) = tt
+read_form client (a ∷ b ∷ c ∷ end) = then IsForm (file_word_of a) _ (λ f. then_of IsRunOfPages IsForm (run_of b c) _ (run_formed b c) (λ r run. chosen IsForm end _ (form.read client f r run)))
+
+size_form : (client : ℕ) (args : List (List ℕ)) → IsFormed (size_line client args)
+unfolding size_line
+size_form client [] = tt
+size_form client (a ∷ []) = tt
+size_form client (a ∷ b ∷ end) = then IsForm (file_word_of a) _ (λ f. then_of IsSmall IsForm (word32_of b) _ (word32_small b) (λ n small. chosen IsForm end _ (form.size client f n small)))
+
+-- ---- properties
+
+props_form : (client : ℕ) (args : List (List ℕ)) → IsFormed (props_line client args)
+unfolding props_line
+props_form client [] = tt
+props_form client (a ∷ []) = then IsForm (file_word_of a) _ (λ f. form.props client f)
+props_form client (a ∷ b ∷ more) = tt
+
+change_form : (client : ℕ) (args : List (List ℕ)) → IsFormed (change_line client args)
+unfolding change_line
+change_form client [] = tt
+change_form client (a ∷ []) = tt
+change_form client (a ∷ b ∷ []) = tt
+change_form client (a ∷ b ∷ c ∷ end) =
+    then IsForm (file_word_of a) _ (λ f. then_of IsChange IsForm (change_of b c) _ (change_formed b c) (λ p formed. chosen IsForm end _ (form.change client f p formed)))
+
+-- ---- lines
+
+on_file_form : (client : ℕ) (verb : List ℕ) (args : List (List ℕ)) → IsFormed (line_on_file client verb args)
+unfolding line_on_file
+on_file_form client verb args =
+    either IsForm (says verb (codes "open")) _ _ (open_form client args)
+    (either IsForm (says verb (codes "close")) _ _ (close_form client args)
+    (either IsForm (says verb (codes "delete")) _ _ (delete_form client args)
+    (either IsForm (says verb (codes "read")) _ _ (read_form client args)
+    (either IsForm (says verb (codes "write")) _ _ (write_form client args)
+    (either IsForm (says verb (codes "size")) _ _ (size_form client args)
+    (either IsForm (says verb (codes "props")) _ _ (props_form client args)
+    (either IsForm (says verb (codes "change")) _ None (change_form client args) tt)))))))
+
+verb_form : (client : ℕ) (verb : List ℕ) (args : List (List ℕ)) → IsFormed (line_by_verb client verb args)
+unfolding line_by_verb
+verb_form client verb args =
+    either IsForm (says verb (codes "begin")) _ _ (begin_form client args)
+    (either IsForm (says verb (codes "commit")) _ _ (bare_form (line.Commit client) args (form.commit client))
+    (either IsForm (says verb (codes "abort")) _ _ (bare_form (line.Abort client) args (form.abort client))
+    (either IsForm (says verb (codes "repeat")) _ _ (bare_form (line.Repeat client) args (form.repeat client))
+    (either IsForm (says verb (codes "old")) _ _ (bare_form (line.Old client) args (form.old client))
+    (either IsForm (says verb (codes "mkowner")) _ _ (make_owner_form client args)
+    (either IsForm (says verb (codes "owner")) _ _ (read_owner_form client args)
+    (either IsForm (says verb (codes "quota")) _ _ (quota_form client args)
+    (either IsForm (says verb (codes "create")) _ _ (create_form client args)
+    (on_file_form client verb args)))))))))
+
+of_client_form : (client : List ℕ) (args : List (List ℕ)) → IsFormed (line_of_client client args)
+unfolding line_of_client
+of_client_form client [] = tt
+of_client_form client (verb ∷ args) = then IsForm (client_of client) _ (λ c. verb_form c verb args)
+
+by_form : (first : List ℕ) (args : List (List ℕ)) → IsFormed (line_by first args)
+unfolding line_by
+by_form first args =
+    either IsForm (says first (codes "servers")) _ _ (servers_form args)
+    (either IsForm (says first (codes "volume")) _ _ (volume_form args)
+    (either IsForm (says first (codes "client")) _ _ (client_form args)
+    (either IsForm (says first (codes "patience")) _ _ (patience_form args)
+    (of_client_form first args))))
+
+all_form : (words : List (List ℕ)) → IsFormed (line_of words)
+all_form [] = tt
+all_form (first ∷ args) = by_form first args
+
+-- what a text says, if it says a line
+abbrev IsSaid : Option Line → Type 0
+IsSaid said = IfSome said IsForm
+
+line_said-form : (line : Option Line) → IsFormed line → IfSome (option_map Some line) IsSaid
+line_said-form None formed = tt
+line_said-form (Some l) formed = formed
+
+text_form : (text : List ℕ) → IfSome (text_said text) IsSaid
+unfolding text_said line_said
+text_form text =
+    either IsSaid (is_line text) _ None
+    (either IsSaid (is_skipped text) (Some None) _ tt (line_said-form (words_of text >>= line_of) (then IsForm (words_of text) line_of all_form))) tt
+
+pub text_said-form : (text : List ℕ) (said : Option Line) → text_said text ≡ Some said → IfSome said IsForm
+text_said-form text said h = subst (λ (o : Option (Option Line)). IfSome o IsSaid) h (text_form text)

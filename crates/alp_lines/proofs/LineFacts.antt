@@ -1,0 +1,121 @@
+-- lines that are computed: what the definitions say of each form
+use Rattle.std.specs.Prelude.{codes, None, Some}
+use Rattle.std.proofs.Common.{◌≡◌, ℕ, List, [], ◌∷◌, refl}
+use Rattle.alp_base.specs.declared.choices.Choice.TheVariants as choice
+use Rattle.alp_base.specs.declared.ids.FileId.{FileId}
+use Rattle.alp_files.specs.declared.call.PropChange.{PropChange}
+use Rattle.alp_files.specs.declared.call.PropChange.TheVariants as prop
+use Rattle.alp_tokens.specs.Words.{words_of}
+use Rattle.alp_tokens.specs.Numbers.{number_of, within}
+use Rattle.alp_tokens.specs.Names.{name_of, names_of, list_of}
+use Rattle.alp_lines.specs.FileWords.{id_of, file_word_of, new_word_of}
+use Rattle.alp_lines.specs.Operands.{choice_of, access_of, change_of}
+use Rattle.alp_lines.specs.ClientLines.{bare_line, make_owner_line, read_owner_line, quota_line, file_line, create_line, close_line, delete_line, size_line, props_line, change_line, line_on_file, line_by_verb}
+use Rattle.alp_lines.specs.Grammar.{text_said, line_of_client, line_by, line_said}
+use Rattle.alp_lines.specs.declared.line.FileWord.TheVariants as file_word
+use Rattle.alp_lines.specs.declared.line.Line.{Line}
+use Rattle.alp_lines.specs.declared.line.Line.TheVariants as line
+
+-- the text says just this line
+abbrev Says : List ℕ → Line → Type 0
+Says text l = text_said text ≡ Some (Some l)
+
+-- and this one is outside
+abbrev IsOutside : List ℕ → Type 0
+IsOutside text = text_said text ≡ None
+
+file : FileId
+file = record { server = 1; epoch = 2; counter = 3 }
+
+-- ---- new files
+
+without_lists : Says (codes "1 create 1 A ann 70000") (line.Create 1 1 (codes "A") (codes "ann") 70000 (codes "World" ∷ []) (codes "Owner" ∷ []) choice.Fail)
+unfolding text_said line_said words_of line_by line_of_client line_by_verb create_line file_line access_of choice_of within number_of name_of file_word_of new_word_of
+without_lists = refl
+
+with_lists : Says (codes "1 create 1 A ann 1 - eve,Owner fail") (line.Create 1 1 (codes "A") (codes "ann") 1 [] (codes "eve" ∷ codes "Owner" ∷ []) choice.Fail)
+unfolding text_said line_said words_of line_by line_of_client line_by_verb create_line file_line access_of list_of names_of choice_of within number_of name_of file_word_of new_word_of
+with_lists = refl
+
+one_list : IsOutside (codes "1 create 1 A ann 1 World")
+unfolding text_said line_said words_of line_by line_of_client line_by_verb create_line file_line access_of choice_of within number_of name_of file_word_of new_word_of
+one_list = refl
+
+-- ---- files
+
+close : Says (codes "1 close A") (line.CloseFile 1 (file_word.Word (codes "A")))
+unfolding text_said line_said words_of line_by line_of_client line_by_verb line_on_file close_line within number_of name_of file_word_of
+close = refl
+
+delete : Says (codes "1 delete 1.2.3 fail") (line.DeleteFile 1 (file_word.Id file) choice.Fail)
+unfolding file text_said line_said words_of line_by line_of_client line_by_verb line_on_file delete_line choice_of within number_of id_of file_word_of
+delete = refl
+
+size : Says (codes "1 size A 4294967295") (line.SetSize 1 (file_word.Word (codes "A")) 4294967295 choice.Fail)
+unfolding text_said line_said words_of line_by line_of_client line_by_verb line_on_file size_line choice_of within number_of name_of file_word_of
+size = refl
+
+props : Says (codes "1 props A") (line.ReadProps 1 (file_word.Word (codes "A")))
+unfolding text_said line_said words_of line_by line_of_client line_by_verb line_on_file props_line within number_of name_of file_word_of
+props = refl
+
+-- ---- properties
+
+abbrev changes : PropChange → Line
+changes change = line.WriteProps 2 (file_word.Word (codes "A")) change choice.Fail
+
+owner : Says (codes "2 change A owner eve") (changes (prop.Owner (codes "eve")))
+unfolding text_said line_said words_of line_by line_of_client line_by_verb line_on_file change_line change_of choice_of within number_of name_of file_word_of
+owner = refl
+
+name : Says (codes "2 change A name a.txt fail") (changes (prop.Name (codes "a.txt")))
+unfolding text_said line_said words_of line_by line_of_client line_by_verb line_on_file change_line change_of choice_of within number_of name_of file_word_of
+name = refl
+
+type_no : Says (codes "2 change A type 65535") (changes (prop.TypeNo 65535))
+unfolding text_said line_said words_of line_by line_of_client line_by_verb line_on_file change_line change_of choice_of within number_of name_of file_word_of
+type_no = refl
+
+byte_length : Says (codes "2 change A bytes 18446744073709551615") (changes (prop.ByteLength 18446744073709551615))
+unfolding text_said line_said words_of line_by line_of_client line_by_verb line_on_file change_line change_of choice_of within number_of name_of file_word_of
+byte_length = refl
+
+nobody : Says (codes "2 change A read -") (changes (prop.Read []))
+unfolding text_said line_said words_of line_by line_of_client line_by_verb line_on_file change_line change_of list_of choice_of within number_of name_of file_word_of
+nobody = refl
+
+two_names : Says (codes "2 change A modify World,ann") (changes (prop.Modify (codes "World" ∷ codes "ann" ∷ [])))
+unfolding text_said line_said words_of line_by line_of_client line_by_verb line_on_file change_line change_of list_of names_of choice_of within number_of name_of file_word_of
+two_names = refl
+
+-- ---- owners
+
+four_names : Says (codes "3 mkowner 1 ann 10 ann,eve,World,Owner") (line.MakeOwner 3 1 (codes "ann") 10 (codes "ann" ∷ codes "eve" ∷ codes "World" ∷ codes "Owner" ∷ []) choice.Fail)
+unfolding text_said line_said words_of line_by line_of_client line_by_verb make_owner_line list_of names_of choice_of within number_of name_of
+four_names = refl
+
+five_names : IsOutside (codes "3 mkowner 1 ann 10 a,b,c,d,e")
+unfolding text_said line_said words_of line_by line_of_client line_by_verb make_owner_line list_of names_of within number_of name_of
+five_names = refl
+
+read_owner : Says (codes "3 owner 1 ann fail") (line.ReadOwner 3 1 (codes "ann") choice.Fail)
+unfolding text_said line_said words_of line_by line_of_client line_by_verb read_owner_line choice_of within number_of name_of
+read_owner = refl
+
+quota : Says (codes "3 quota 1 ann 0") (line.SetQuota 3 1 (codes "ann") 0 choice.Fail)
+unfolding text_said line_said words_of line_by line_of_client line_by_verb quota_line choice_of within number_of name_of
+quota = refl
+
+-- ---- frames sent again
+
+repeat : Says (codes "3 repeat") (line.Repeat 3)
+unfolding text_said line_said words_of line_by line_of_client line_by_verb bare_line within number_of
+repeat = refl
+
+old : Says (codes "16  old") (line.Old 16)
+unfolding text_said line_said words_of line_by line_of_client line_by_verb bare_line within number_of
+old = refl
+
+repeat_number : IsOutside (codes "3 repeat 1")
+unfolding text_said line_said words_of line_by line_of_client line_by_verb bare_line within number_of
+repeat_number = refl

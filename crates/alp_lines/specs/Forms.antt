@@ -1,0 +1,61 @@
+-- the lines that the language has so far, and what is known of their parts
+use Rattle.std.specs.Prelude.{ℕ, ◌<◌, ◌≤◌, ◌^◌, List, length}
+use Rattle.alp_base.specs.declared.choices.Access.TheVariants as access
+use Rattle.alp_base.specs.declared.choices.Choice.TheVariants as choice
+use Rattle.alp_base.specs.declared.faults.Sizes.{Sizes}
+use Rattle.alp_base.specs.declared.ids.Run.{Run}
+use Rattle.alp_base.specs.declared.lists.TheConstants.{NAMES_PER_LIST}
+use Rattle.alp_modes.specs.declared.Mode.TheVariants as mode
+use Rattle.alp_files.specs.declared.call.PropChange.{PropChange}
+use Rattle.alp_files.specs.declared.call.PropChange.TheVariants as prop
+use Rattle.alp_lines.specs.declared.limits.TheConstants.{PATIENCE_MOST, RUN_MOST, HOME_LEAST, HOME_MOST, AREA_LEAST, AREA_MOST}
+use Rattle.alp_lines.specs.declared.line.FileWord.{FileWord}
+use Rattle.alp_lines.specs.declared.line.Line.{Line}
+use Rattle.alp_lines.specs.declared.line.Line.TheVariants as line
+use Rattle.alp_tokens.specs.declared.names.TheConstants.{TEXT_BYTES}
+
+pub record IsRunOfPages (run : Run) : Type 0 where
+  pub some : 0 < run.count
+  pub few : run.count ≤ RUN_MOST
+
+pub record IsText (text : List ℕ) : Type 0 where
+  pub some : 0 < length text
+  pub short : length text ≤ TEXT_BYTES
+
+-- the sizes are within the limits of a volume
+pub record AreInLimits (s : Sizes) : Type 0 where
+  pub home_least : HOME_LEAST ≤ s.home
+  pub home_most : s.home ≤ HOME_MOST
+  pub area_least : AREA_LEAST ≤ s.area
+  pub area_most : s.area ≤ AREA_MOST
+
+-- a new value of a property; a list that is one has not too many names
+abbrev pub IsChange : PropChange → Type 0
+IsChange (prop.Read names) = length names ≤ NAMES_PER_LIST
+IsChange (prop.Modify names) = length names ≤ NAMES_PER_LIST
+IsChange _ = Unit {0}
+
+pub data IsForm : Line → Type 0 where
+  servers : (count : ℕ) → IsForm (line.Servers count)
+  volume : (server home area : ℕ) → AreInLimits (record { home = home; area = area }) → IsForm (line.Volume server home area)
+  client : (number : ℕ) (name : List ℕ) → IsForm (line.Client number name)
+  patience : (count : ℕ) → 0 < count → count ≤ PATIENCE_MOST → IsForm (line.Patience count)
+  begin : (number server : ℕ) → IsForm (line.Begin number server)
+  commit : (number : ℕ) → IsForm (line.Commit number)
+  abort : (number : ℕ) → IsForm (line.Abort number)
+  repeat : (number : ℕ) → IsForm (line.Repeat number)
+  old : (number : ℕ) → IsForm (line.Old number)
+  owner : (number server : ℕ) (name : List ℕ) (quota : ℕ) (create : List (List ℕ)) → length create ≤ NAMES_PER_LIST → IsForm (line.MakeOwner number server name quota create choice.Fail)
+  read_owner : (number server : ℕ) (name : List ℕ) → IsForm (line.ReadOwner number server name choice.Fail)
+  quota : (number server : ℕ) (name : List ℕ) (quota : ℕ) → IsForm (line.SetQuota number server name quota choice.Fail)
+  create : (number server : ℕ) (word name : List ℕ) (size : ℕ) (read modify : List (List ℕ)) → size < 2 ^ 32 → length read ≤ NAMES_PER_LIST → length modify ≤ NAMES_PER_LIST
+      → IsForm (line.Create number server word name size read modify choice.Fail)
+  open_read : (number : ℕ) (file : FileWord) → IsForm (line.OpenFile number file access.ReadOnly mode.Read choice.Fail)
+  open_change : (number : ℕ) (file : FileWord) → IsForm (line.OpenFile number file access.Change mode.Write choice.Fail)
+  close : (number : ℕ) (file : FileWord) → IsForm (line.CloseFile number file)
+  delete : (number : ℕ) (file : FileWord) → IsForm (line.DeleteFile number file choice.Fail)
+  write : (number : ℕ) (file : FileWord) (run : Run) (text : List ℕ) → IsRunOfPages run → IsText text → IsForm (line.WritePages number file run text choice.Fail)
+  read : (number : ℕ) (file : FileWord) (run : Run) → IsRunOfPages run → IsForm (line.ReadPages number file run mode.Read choice.Fail)
+  size : (number : ℕ) (file : FileWord) (size : ℕ) → size < 2 ^ 32 → IsForm (line.SetSize number file size choice.Fail)
+  props : (number : ℕ) (file : FileWord) → IsForm (line.ReadProps number file)
+  change : (number : ℕ) (file : FileWord) (change : PropChange) → IsChange change → IsForm (line.WriteProps number file change choice.Fail)

@@ -1,9 +1,0 @@
-use Rattle.std.proofs.Common.{◌≡◌, ◌≤◌, drop}
-use Rattle.alp_script.specs.Words.{value_from}
-use Rattle.alp_script.proofs.words.number.Given as goal
-
-abbrev pub invariant-loop-b : goal.invariant-loop-b
-invariant-loop-b l = record {
-  small : l.n ≤ l.most;
-  value : value_from l.n (drop l.b-index l.word) ≡ value_from 0 l.word;
-}

@@ -1,0 +1,93 @@
+-- the calls of lines have frames
+use Rattle.std.specs.Prelude.{Option, None, Some, IfSome}
+use Rattle.std.proofs.Common.{ℕ, ◌≤◌, ◌^◌, refl, sym, arith}
+use Rattle.std.proofs.lemmas.List.{length-replicate}
+use Rattle.alp_base.specs.declared.ids.TransId.{TransId}
+use Rattle.alp_base.specs.Pages.{page_of}
+use Rattle.alp_files.specs.declared.call.Call.{Call}
+use Rattle.alp_lines.specs.declared.line.Line.{Line}
+use Rattle.alp_lines.specs.declared.line.Line.TheVariants as line
+use Rattle.alp_lines.specs.Forms.{IsForm}
+use Rattle.alp_lines.specs.Forms as form
+use Rattle.alp_rpc.specs.Calls.{IsSendable}
+use Rattle.alp_rpc.specs.Frames as frames
+use Rattle.alp_session.specs.Maps.{WordMap}
+use Rattle.alp_session.specs.Calls.{owner_call, making_call, props_call, file_call, page_call, call_in, call_with, call_by, IsAskable}
+use Rattle.alp_session.specs.Frames.{request_in}
+use Rattle.alp_session.specs.declared.client.Client.{Client}
+use Rattle.alp_session.specs.declared.client.Greeted.{Greeted}
+
+-- a call, if any, that has a frame
+abbrev Sendable : Option Call → Type 0
+Sendable asked = IfSome asked IsSendable
+
+of_owner : (t : TransId) (l : Line) → Sendable (owner_call t l)
+of_owner t (line.ReadOwner client server owner choice) = tt
+of_owner t (line.SetQuota client server owner quota choice) = tt
+of_owner t l = tt
+
+making : (t : TransId) (l : Line) → Sendable (making_call t l)
+making t (line.MakeOwner client server owner quota create choice) = tt
+making t (line.Create client server word owner size read modify choice) = tt
+making t l = of_owner t l
+
+of_props : (words : WordMap) (c : Client) (t : TransId) (l : Line) → Sendable (props_call words c t l)
+of_props words c t (line.ReadProps client file) = tt
+of_props words c t (line.WriteProps client file change choice) = tt
+of_props words c t l = making t l
+
+of_file : (words : WordMap) (c : Client) (t : TransId) (l : Line) → Sendable (file_call words c t l)
+of_file words c t (line.CloseFile client file) = tt
+of_file words c t (line.DeleteFile client file choice) = tt
+of_file words c t (line.SetSize client file size choice) = tt
+of_file words c t l = of_props words c t l
+
+of_pages : (words : WordMap) (c : Client) (t : TransId) (l : Line) → IsAskable l → Sendable (page_call words c t l)
+of_pages words c t (line.WritePages client file run text choice) h = (h.0, sym (length-replicate run.count (page_of text)))
+of_pages words c t (line.ReadPages client file run mode choice) h = h
+of_pages words c t l h = of_file words c t l
+
+in_trans : (words : WordMap) (c : Client) (t : TransId) (l : Line) → IsAskable l → Sendable (call_in words c t l)
+in_trans words c t (line.OpenFile client file access mode choice) h = tt
+in_trans words c t (line.Commit client) h = tt
+in_trans words c t (line.Abort client) h = tt
+in_trans words c t l h = of_pages words c t l h
+
+with_trans : (words : WordMap) (c : Client) (o : Option TransId) (l : Line) → IsAskable l → Sendable (call_with words c o l)
+with_trans words c None l h = tt
+with_trans words c (Some t) l h = in_trans words c t l h
+
+pub call_sendable : (words : WordMap) (c : Client) (l : Line) → c.told.ts ≤ 2 ^ 62 → IsAskable l → Sendable (call_by words c l)
+call_sendable words c (line.Begin client server) told h = told
+call_sendable words c l told h = with_trans words c c.trans l h
+
+-- and so have the requests of clients
+
+pub request_sendable : (k : ℕ) (c : Client) (o : Option Greeted) (asked : Call) → 1 ≤ k → k ≤ 16 → IsSendable asked → frames.IsSendable (request_in k c o asked)
+request_sendable k c None asked from_one to_last h = (record { from_one = from_one; to_last = to_last; counted = omega arith }, tt)
+request_sendable k c (Some g) asked from_one to_last h = (record { from_one = from_one; to_last = to_last; counted = omega arith }, h)
+
+-- the lines of the language have frames
+pub form_askable : (l : Line) → IsForm l → IsAskable l
+form_askable l (form.servers count) = tt
+form_askable l (form.volume server home area limits) = tt
+form_askable l (form.client number name) = tt
+form_askable l (form.patience count some few) = tt
+form_askable l (form.begin number server) = tt
+form_askable l (form.commit number) = tt
+form_askable l (form.abort number) = tt
+form_askable l (form.repeat number) = tt
+form_askable l (form.old number) = tt
+form_askable l (form.owner number server name quota create few) = tt
+form_askable l (form.read_owner number server name) = tt
+form_askable l (form.quota number server name quota) = tt
+form_askable l (form.create number server word name size read modify small few_read few_modify) = tt
+form_askable l (form.open_read number file) = tt
+form_askable l (form.open_change number file) = tt
+form_askable l (form.close number file) = tt
+form_askable l (form.delete number file) = tt
+form_askable l (form.write number file run text run_formed text_formed) = (omega (arith, run_formed.some), omega (arith, text_formed.short))
+form_askable l (form.read number file run formed) = (omega (arith, formed.some), refl)
+form_askable l (form.size number file size small) = tt
+form_askable l (form.props number file) = tt
+form_askable l (form.change number file change formed) = tt

@@ -1,0 +1,124 @@
+-- what is spelled is read so, and the frames of a client stay requests of its own
+use Rattle.std.specs.Prelude.{Option, None, Some, IfSome}
+use Rattle.std.specs.Option.{option_map}
+use Rattle.std.proofs.Common.{◌≡◌, ℕ, ◌+◌, List, [], refl, sym, ◌∙◌, ap, subst, append-nil}
+use Rattle.alp_base.specs.declared.ids.FileId.{FileId}
+use Rattle.alp_fields.specs.Forms.{Form, IsForm, ended, whole}
+use Rattle.alp_files.specs.declared.call.Call.{Call}
+use Rattle.alp_files.specs.declared.reply.Reply.{Reply}
+use Rattle.alp_files.specs.declared.reply.Reply.TheVariants as reply
+use Rattle.alp_files.specs.declared.reply.Ended.{Ended}
+use Rattle.alp_files.specs.declared.reply.Ended.TheVariants as ended_as
+use Rattle.alp_files.specs.declared.refusal.Refusal.{Refusal}
+use Rattle.alp_files.specs.declared.refusal.Refusal.TheVariants as refusal
+use Rattle.alp_journal.specs.declared.log.Sent.TheVariants as sent
+use Rattle.alp_lines.specs.declared.line.Line.{Line}
+use Rattle.alp_lines.specs.declared.line.Line.TheVariants as line
+use Rattle.alp_rpc.specs.Frames.{request, reply_frame}
+use Rattle.alp_rpc.specs.declared.frame.Request.{Request}
+use Rattle.alp_rpc.specs.declared.frame.ReplyFrame.{ReplyFrame}
+use Rattle.alp_rpc.proofs.FrameLaws.{request_law, reply_frame_law}
+use Rattle.alp_session.specs.Maps.{WordMap}
+use Rattle.alp_session.specs.Calls.{call_by}
+use Rattle.alp_session.specs.Frames.{request_in, request_of, frame_of, told_by, read_as, sent_by, IsRequestOf, KeepsRequests}
+use Rattle.alp_session.specs.Heard.{left, told_refusal, created, opened, told_end, learned, greeted, heard_own, heard_again, keeps, heard}
+use Rattle.alp_session.specs.declared.client.Client.{Client}
+use Rattle.alp_session.specs.declared.client.Greeted.{Greeted}
+use Rattle.alp_session.specs.declared.frames.Frames.{Frames}
+
+-- all bytes of a spelling are read as what they spell
+whole_back : {T : Type 0} (form : Form T) → IsForm form → (v : T) → form.Fits v → whole form (form.spell v) ≡ Some v
+whole_back form law v fits = ap (λ (bytes : List ℕ). whole form bytes) (sym (append-nil (form.spell v))) ∙ ap ended (law.back v [] fits)
+
+pub request_read : (r : Request) → request.Fits r → whole request (request.spell r) ≡ Some r
+request_read r fits = whole_back request request_law r fits
+
+-- whoever reads the frame of a request reads its call
+pub sent_call : (r : Request) → request.Fits r → sent_by (request.spell r) ≡ sent.Call r.client r.epoch r.number r.call
+sent_call r fits = ap (read_as (request.spell r)) (request_read r fits)
+
+-- and a client that is handed a reply's frame is told the reply
+pub told_reply : (f : ReplyFrame) → reply_frame.Fits f → told_by (Some (reply_frame.spell f)) ≡ Some f.reply
+told_reply f fits = ap (λ (o : Option ReplyFrame). option_map (λ (x : ReplyFrame). x.reply) o) (whole_back reply_frame reply_frame_law f fits)
+
+-- ---- the frames that a client sends are requests of its own
+
+asked_client : (k : ℕ) (c : Client) (o : Option Greeted) (asked : Call) → (request_in k c o asked).client ≡ k
+asked_client k c None asked = refl
+asked_client k c (Some g) asked = refl
+
+spelled_request : (k : ℕ) (c : Client) (o : Option Call) → IfSome (option_map (request_in k c c.session) o) request.Fits
+    → IfSome (option_map request.spell (option_map (request_in k c c.session) o)) (IsRequestOf k)
+spelled_request k c None fits = tt
+spelled_request k c (Some asked) fits = record { asked = request_in k c c.session asked; client = asked_client k c c.session asked; spelled = refl; fits = fits }
+
+pub frames_are_requests : (words : WordMap) (k : ℕ) (c : Client) (l : Line) → KeepsRequests k c → IfSome (request_of words k c l) request.Fits → IfSome (frame_of words k c l) (IsRequestOf k)
+frames_are_requests words k c (line.Repeat client) kept fits = kept.last
+frames_are_requests words k c (line.Old client) kept fits = kept.before
+frames_are_requests words k c l kept fits = spelled_request k c (call_by words c l) fits
+
+-- ---- and what it hears keeps them so
+
+end_stays : (c : Client) (e : Ended) → (told_end c e).frames ≡ c.frames
+end_stays c (ended_as.Committed s) = refl
+end_stays c e = refl
+
+refusal_again : (c : Client) (f : Refusal) → (heard_again c (Some (reply.Refused f))).frames ≡ c.frames
+refusal_again c (refusal.StaleSession epoch) = refl
+refusal_again c f = refl
+
+pub again_stays : (c : Client) (r : Option Reply) → (heard_again c r).frames ≡ c.frames
+again_stays c None = refl
+again_stays c (Some (reply.Ended e)) = end_stays c e
+again_stays c (Some (reply.Refused f)) = refusal_again c f
+again_stays c (Some r) = refl
+
+left_stays : (c : Client) (l : Line) → (left c l).frames ≡ c.frames
+left_stays c (line.Commit client) = refl
+left_stays c (line.Abort client) = refl
+left_stays c l = refl
+
+refusal_stays : (c : Client) (l : Line) (f : Refusal) → (told_refusal c l f).frames ≡ c.frames
+refusal_stays c l refusal.UnknownTrans = left_stays c l
+refusal_stays c l (refusal.Aborted cause) = left_stays c l
+refusal_stays c l f = refl
+
+created_stays : (c : Client) (l : Line) (f : FileId) (n : ℕ) → (created c l f n).frames ≡ c.frames
+created_stays c (line.Create client server word owner size read modify choice) f n = refl
+created_stays c l f n = refl
+
+opened_stays : (words : WordMap) (c : Client) (l : Line) (n : ℕ) → (opened words c l n).frames ≡ c.frames
+opened_stays words c (line.OpenFile client file access mode choice) n = refl
+opened_stays words c l n = refl
+
+learned_stays : (words : WordMap) (c : Client) (l : Line) (r : Option Reply) → (learned words c l r).frames ≡ c.frames
+learned_stays words c l None = refl
+learned_stays words c l (Some (reply.Created f n)) = created_stays c l f n
+learned_stays words c l (Some (reply.Opened n)) = opened_stays words c l n
+learned_stays words c l (Some (reply.Committed s)) = left_stays c l
+learned_stays words c l (Some (reply.Ended e)) = end_stays c e
+learned_stays words c l (Some (reply.Refused f)) = refusal_stays c l f
+learned_stays words c l (Some r) = refl
+
+greeted_stays : (c : Client) (r : Option Reply) → (greeted c r).0.frames ≡ c.frames
+greeted_stays c None = refl
+greeted_stays c (Some (reply.Welcome epoch)) = refl
+greeted_stays c (Some r) = refl
+
+pub own_stays : (words : WordMap) (c : Client) (o : Option Greeted) (l : Line) (r : Option Reply) → (heard_own words c o l r).0.frames ≡ c.frames
+own_stays words c None l r = greeted_stays c r
+own_stays words c (Some g) l r = learned_stays words (record c { session = Some (record g { last = g.last + 1 }) }) l r
+
+pub kept_as : (k : ℕ) (c d : Client) → d.frames ≡ c.frames → KeepsRequests k c → KeepsRequests k d
+kept_as k c d same kept = record {
+  last = subst (λ (f : Frames). IfSome f.last (IsRequestOf k)) (sym same) kept.last;
+  before = subst (λ (f : Frames). IfSome f.before (IsRequestOf k)) (sym same) kept.before;
+}
+
+pub kept_more : (k : ℕ) (c d : Client) (frame : List ℕ) → d.frames ≡ c.frames → KeepsRequests k c → IsRequestOf k frame → KeepsRequests k (keeps d frame)
+kept_more k c d frame same kept asked = record { last = asked; before = subst (λ (f : Frames). IfSome f.last (IsRequestOf k)) (sym same) kept.last }
+
+pub keeps_requests : (words : WordMap) (k : ℕ) (c : Client) (l : Line) (frame : List ℕ) (r : Option Reply) → KeepsRequests k c → IsRequestOf k frame → KeepsRequests k (heard words c l frame r).0
+keeps_requests words k c (line.Repeat client) frame r kept asked = kept_as k c (heard_again c r) (again_stays c r) kept
+keeps_requests words k c (line.Old client) frame r kept asked = kept_as k c (heard_again c r) (again_stays c r) kept
+keeps_requests words k c l frame r kept asked = kept_more k c (heard_own words c c.session l r).0 frame (own_stays words c c.session l r) kept asked

@@ -1,0 +1,4 @@
+pub mod MapLemmas
+pub mod CrowdLemmas
+pub mod CallLemmas
+pub mod FrameLemmas

@@ -1,0 +1,95 @@
+-- The frames of a client: what it sends for a line, as bytes, and what the bytes that it is handed tell it.
+use Rattle.std.specs.Prelude.{◌≡◌, ℕ, ◌+◌, ◌<◌, ◌≤◌, ◌^◌, List, Option, None, Some, IfSome}
+use Rattle.std.specs.Option.{option_map}
+use Rattle.alp_fields.specs.Forms.{whole}
+use Rattle.alp_files.specs.declared.call.Call.{Call}
+use Rattle.alp_files.specs.declared.call.Call.TheVariants as call
+use Rattle.alp_files.specs.declared.reply.Reply.{Reply}
+use Rattle.alp_journal.specs.declared.log.Item.{Item}
+use Rattle.alp_journal.specs.declared.log.Mark.{Mark}
+use Rattle.alp_journal.specs.declared.log.Mark.TheVariants as mark
+use Rattle.alp_journal.specs.declared.log.Sent.{Sent}
+use Rattle.alp_journal.specs.declared.log.Sent.TheVariants as sent
+use Rattle.alp_lines.specs.declared.line.Line.{Line}
+use Rattle.alp_lines.specs.declared.line.Line.TheVariants as line
+use Rattle.alp_rpc.specs.Frames.{request, reply_frame}
+use Rattle.alp_rpc.specs.declared.frame.Request.{Request}
+use Rattle.alp_session.specs.Maps.{WordMap}
+use Rattle.alp_session.specs.Calls.{call_by}
+use Rattle.alp_session.specs.declared.client.Client.{Client}
+use Rattle.alp_session.specs.declared.client.Greeted.{Greeted}
+
+-- a client says `Hello` before its first call
+abbrev pub request_in : ℕ → Client → Option Greeted → Call → Request
+request_in k c None asked = record { client = k; epoch = 0; number = 1; call = call.Hello c.name }
+request_in k c (Some g) asked = record { client = k; epoch = g.epoch; number = g.last + 1; call = asked }
+
+-- what the client with that number asks next, if its line is for a call
+abbrev pub request_for : WordMap → ℕ → Client → Line → Option Request
+request_for words k c l = option_map (request_in k c c.session) (call_by words c l)
+
+-- what it asks anew for a line that is not over: lines that send a frame again ask nothing anew
+abbrev pub request_of : WordMap → ℕ → Client → Line → Option Request
+request_of words k c (line.Repeat client) = None
+request_of words k c (line.Old client) = None
+request_of words k c l = request_for words k c l
+
+-- its frame: the spelling of that, or one of the last two frames
+abbrev pub frame_of : WordMap → ℕ → Client → Line → Option (List ℕ)
+frame_of words k c (line.Repeat client) = c.frames.last
+frame_of words k c (line.Old client) = c.frames.before
+frame_of words k c l = option_map request.spell (request_for words k c l)
+
+-- the reply that a client is told: the one that the bytes spell, if they spell one; silence and other bytes tell none
+abbrev pub told_by : Option (List ℕ) → Option Reply
+told_by None = None
+told_by (Some bytes) = option_map (λ f. f.reply) (whole reply_frame bytes)
+
+-- ---- an item of a client's line
+
+-- what the bytes of a frame say to whoever reads them: the call that they spell, or nothing but themselves
+abbrev pub read_as : List ℕ → Option Request → Sent
+read_as bytes None = sent.Bytes bytes
+read_as bytes (Some r) = sent.Call r.client r.epoch r.number r.call
+
+abbrev pub sent_by : List ℕ → Sent
+sent_by bytes = read_as bytes (whole request bytes)
+
+-- whether a line sends a frame of its own, or one again
+abbrev pub mark_of : Line → Mark
+mark_of (line.Repeat client) = mark.Repeated
+mark_of (line.Old client) = mark.Repeated
+mark_of l = mark.Own
+
+-- the item of a line that sent the frame to server 1
+pub record IsOfFrame (l : Line) (frame : List ℕ) (x : Item) : Type 0 where
+  pub server : x.server ≡ 1
+  pub mark : x.mark ≡ mark_of l
+  pub sent : x.sent ≡ sent_by frame
+
+-- ---- what is known of frames
+
+-- these bytes spell a request of the client with that number
+pub record IsRequestOf (k : ℕ) (bytes : List ℕ) : Type 0 where
+  pub asked : Request
+  pub client : asked.client ≡ k
+  pub spelled : bytes ≡ request.spell asked
+  pub fits : request.Fits asked
+
+-- the frames that a client may send again are requests of its own
+pub record KeepsRequests (k : ℕ) (c : Client) : Type 0 where
+  pub last : IfSome c.frames.last (IsRequestOf k)
+  pub before : IfSome c.frames.before (IsRequestOf k)
+
+-- the number of the next call has its four bytes
+abbrev pub HasNext : Option Greeted → Type 0
+HasNext None = Unit {0}
+HasNext (Some g) = g.last + 1 < 2 ^ 32
+
+-- what a client has to know for its next call to have a frame: its number is one of the run's, the number of the call has its
+-- bytes, and the stamp that it was told last is one that clocks may show
+pub record IsReady (k : ℕ) (c : Client) : Type 0 where
+  pub from_one : 1 ≤ k
+  pub to_last : k ≤ 16
+  pub next : HasNext c.session
+  pub told : c.told.ts ≤ 2 ^ 62

@@ -1,0 +1,106 @@
+//! The clients of a script: the words that all of them know, and what each of them knows.
+ghost use Rattle.std.specs.Prelude.{◌≡◌, ◌≤◌, OnOk, OnErr, IfOk, IfSome, false, replicate};
+ghost use Rattle.alp_rpc.specs.Frames.{request};
+ghost use Rattle.alp_session.specs.Clients.{new_client};
+ghost use Rattle.alp_session.specs.Calls.{IsAskable};
+ghost use Rattle.alp_session.specs.Frames.{request_of, told_by, HasNext, IsReady};
+ghost use Rattle.alp_session.specs.Crowds.{new_crowd, client_at, asks as asks_said, hears as heard, at_line as at_said, declares as declared};
+
+use crate::{Client, Words};
+use alp_base::{Bytes, CLIENTS, OutOfMemory};
+use alp_lines::Line;
+use std::alloc::Global;
+use std::marker::Model;
+
+/// The clients of a script, each at its number, and the words of the script.
+#[derive(Drop)]
+pub struct Clients {
+    words: Words,
+    places: Vec<Client>,
+}
+
+impl Model for Clients {
+    ghost use Rattle.std.specs.Prelude.{◌≡◌, length};
+    ghost use Rattle.alp_session.specs.Crowd.{Crowd, crowd_code};
+
+    ghost Value = { Crowd };
+
+    ghost coded = { crowd_code };
+
+    ghost view = { λ c. record { words = c.words; places = c.places.items } };
+
+    ghost invariant = { λ c. length c.places.items ≡ 17 };
+}
+
+fn new_places(alloc: Global) -> Result<Vec<Client>, OutOfMemory>
+    ensures { IfOk result (λ v. v.items ≡ replicate 17 new_client) }
+{
+    let mut places = Vec::new(alloc);
+    for _place in 0..CLIENTS + 1 {
+        places.push(Client::new(alloc))?;
+    }
+    Ok(places)
+}
+
+impl Clients {
+    /// Clients that know nothing yet, of the principal `Admin`.
+    pub fn new(alloc: Global) -> Result<Clients, OutOfMemory>
+        ensures { IfOk result (λ c. c ≡ new_crowd) }
+    {
+        Ok(Clients {
+            words: Words::new(alloc),
+            places: new_places(alloc)?,
+        })
+    }
+
+    /// The frame that the client sends next for a line that is not over, or nothing.
+    pub fn asks(&self, alloc: Global, number: u8, line: &Line) -> Result<Option<Bytes>, OutOfMemory>
+        requires line { IsAskable line.now }
+        requires ready { IsReady number (client_at self.now number) }
+        ensures frame { IfOk result (λ frame. frame ≡ asks_said self.now number line.now false) }
+        ensures fits { OnOk result (IfSome (request_of self.now.words number (client_at self.now number) line.now) request.Fits) }
+    {
+        self.places[number as usize].asks(alloc, number, &self.words, line)
+    }
+
+    /// What the client makes of the bytes that it is handed for a frame that it sent for a line, where none is silence. Gives
+    /// whether the line is over.
+    pub fn hears(
+        &mut self,
+        alloc: Global,
+        number: u8,
+        line: &Line,
+        frame: Bytes,
+        handed: &Option<Bytes>,
+    ) -> Result<bool, OutOfMemory>
+        requires client { number ≤ 16 }
+        requires next { HasNext (client_at self.old number).session }
+        ensures ok { IfOk result (λ over. (self.new, over) ≡ heard self.old number line.now frame (told_by handed.now)) }
+        ensures err { OnErr result (self.new ≡ self.old) }
+    {
+        self.places[number as usize].hears(alloc, &mut self.words, line, frame, handed)
+    }
+
+    /// The client comes to a line: a `create` binds its word, and a `begin` leaves the transaction before.
+    pub fn at_line(&mut self, number: u8, line: &Line) -> Result<(), OutOfMemory>
+        requires { number ≤ 16 }
+        ensures ok { OnOk result (self.new ≡ at_said self.old number line.now) }
+        ensures err { OnErr result (self.new ≡ self.old) }
+    {
+        self.words.at_line(line)?;
+        self.places[number as usize].begins(line);
+        Ok(())
+    }
+
+    /// A declaration names the principal of its client.
+    pub fn declares(&mut self, line: &Line)
+        ensures { self.new ≡ declared self.old line.now }
+    {
+        let Line::Client { client, name } = line else {
+            return;
+        };
+        if let Some(place) = self.places.get_mut(*client as usize) {
+            place.name = *name;
+        }
+    }
+}

@@ -1,0 +1,32 @@
+//! The frames that a client sent last.
+ghost use Rattle.std.specs.Prelude.{◌≡◌, Some};
+ghost use Rattle.alp_session.specs.Clients.{no_frames};
+
+use alp_base::Bytes;
+
+/// The last two frames of a client's own lines, for lines that send one of them again.
+#[derive(Drop)]
+pub struct Frames {
+    pub last: Option<Bytes>,
+    /// The one before the last.
+    pub before: Option<Bytes>,
+}
+
+impl Frames {
+    pub fn new() -> Frames
+        ensures { result ≡ no_frames }
+    {
+        Frames {
+            last: None,
+            before: None,
+        }
+    }
+
+    /// The frame is the last one from here on.
+    pub fn keep(&mut self, frame: Bytes)
+        ensures { self.new ≡ record { last = Some frame; before = self.old.last } }
+    {
+        self.before = self.last.take();
+        self.last = Some(frame);
+    }
+}

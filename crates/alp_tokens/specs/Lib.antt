@@ -1,0 +1,4 @@
+pub mod Telling
+pub mod Words
+pub mod Numbers
+pub mod Names

@@ -1,0 +1,3 @@
+pub mod FileSets
+pub mod ChangeLemmas
+pub mod AheadLemmas
