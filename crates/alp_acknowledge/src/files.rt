@@ -8,7 +8,7 @@ use crate::caller::Caller;
 use alp_base::{
     Access, AccessList, Choice, FileId, Name, OutOfMemory, Page, PageList, PageRef, Run, TransId,
 };
-use alp_files::{Call, Props, Refusal, Reply};
+use alp_files::{Call, HeldProps, Props, Refusal, Reply};
 use alp_modes::Mode;
 use alp_vault::Vault;
 use std::alloc::Global;
@@ -80,7 +80,8 @@ pub(crate) fn create<V: Vault>(
     requires size { size ≤ PAGES_PER_FILE }
     ensures { OnOk result (InStep caller.new) }
 {
-    let start = new_props(caller.alloc, size)?;
+    let props = new_props(caller.alloc, size)?;
+    let start = HeldProps::new(caller.alloc, props)?;
     match caller.ask(Call::CreateFile {
         trans,
         start,

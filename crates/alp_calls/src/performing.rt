@@ -46,7 +46,9 @@ fn say<V: Vault>(
     ensures looked { Looks V.Vault vault.old vault.new (fault_in result) }
 {
     match call {
-        Call::CreateFile { start, .. } => create_file(alloc, vault, part, who, id, start),
+        Call::CreateFile { start, .. } => {
+            create_file(alloc, vault, part, who, id, start.props())
+        }
         Call::OpenFile { file, access, .. } => {
             open_file(alloc, vault, part, who, *file, *access)
         }
@@ -66,7 +68,7 @@ fn say<V: Vault>(
             ..
         } => lock_pages(vault, part, *open_no, *run, *mode),
         Call::SetSize { open_no, size, .. } => set_size(alloc, vault, part, *open_no, *size),
-        Call::ReadProps { open_no, .. } => read_props(vault, part, *open_no),
+        Call::ReadProps { open_no, .. } => read_props(alloc, vault, part, *open_no),
         Call::WriteProps {
             open_no,
             change,

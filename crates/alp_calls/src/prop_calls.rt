@@ -18,12 +18,13 @@ use crate::look::owner_at;
 use crate::putting::put_leader;
 use crate::said::{Effect, OpenChange, Said};
 use alp_base::{Access, Key, Name, OutOfMemory};
-use alp_files::{Cell, PropChange, Props, Refusal, Reply};
+use alp_files::{Cell, HeldProps, PropChange, Props, Refusal, Reply};
 use alp_trans::Part;
 use alp_vault::Vault;
 use std::alloc::Global;
 
 pub(super) fn read_props<V: Vault>(
+    alloc: Global,
     vault: &mut V,
     part: &Part,
     open_no: u32,
@@ -38,7 +39,10 @@ pub(super) fn read_props<V: Vault>(
     ensures looked { Looks V.Vault vault.old vault.new (fault_in result) }
 {
     match opened_file(vault, part, open_no, Access::ReadOnly)? {
-        Ok(found) => Ok(Said::Told(Reply::Props(found.props))),
+        Ok(found) => {
+            let props = HeldProps::new(alloc, found.props)?;
+            Ok(Said::Told(Reply::Props(props)))
+        }
         Err(refusal) => Ok(Said::Told(Reply::Refused(refusal))),
     }
 }

@@ -1,5 +1,5 @@
 //! Calls of a client.
-use crate::Props;
+use crate::HeldProps;
 use alp_base::{Access, AccessList, Choice, FileId, Name, PageList, Run, Stamp, TransId};
 use alp_modes::Mode;
 
@@ -33,7 +33,7 @@ pub enum Call {
     },
     CreateFile {
         trans: TransId,
-        start: Props,
+        start: HeldProps,
         choice: Choice,
     },
     OpenFile {

@@ -1,5 +1,5 @@
 //! Replies of a server.
-use crate::{OwnerRecord, Props, Refusal};
+use crate::{HeldProps, OwnerRecord, Refusal};
 use alp_base::{FileId, PageList, Stamp, TransId};
 
 /// How a transaction stands.
@@ -21,7 +21,7 @@ pub enum Reply {
     Opened { open_no: u32 },
     Plain,
     Pages(PageList),
-    Props(Props),
+    Props(HeldProps),
     Owner(OwnerRecord),
     Committed { stamp: Stamp },
     Ended(Ended),

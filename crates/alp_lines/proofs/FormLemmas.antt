@@ -6,15 +6,15 @@ use Rattle.alp_tokens.specs.Words.{◌>>=◌, says, is_line, words_of}
 use Rattle.alp_tokens.specs.Numbers.{within, word32_of}
 use Rattle.alp_tokens.specs.Names.{name_of, list_of, text_of}
 use Rattle.alp_lines.specs.FileWords.{file_word_of, new_word_of}
-use Rattle.alp_lines.specs.Operands.{server_of, client_of, run_of, change_of}
-use Rattle.alp_lines.specs.ClientLines.{begin_line, bare_line, make_owner_line, read_owner_line, quota_line, file_line, create_line, open_line, close_line, delete_line, write_line, read_line, size_line, props_line, change_line, line_on_file, line_by_verb}
+use Rattle.alp_lines.specs.Operands.{server_of, client_of, run_of, purpose_of, mode_of, page_mode_of, change_of}
+use Rattle.alp_lines.specs.ClientLines.{begin_line, bare_line, make_owner_line, read_owner_line, quota_line, file_line, create_line, open_line, close_line, delete_line, write_line, read_line, lock_line, size_line, props_line, change_line, line_on_file, line_by_verb}
 use Rattle.alp_lines.specs.Grammar.{servers_line, volume_line, client_line, patience_line, line_of_client, line_by, line_of, is_skipped, line_said, text_said}
-use Rattle.alp_lines.specs.Forms.{IsRunOfPages, IsText, IsChange, IsForm}
+use Rattle.alp_lines.specs.Forms.{IsRunOfPages, IsPageMode, IsText, IsChange, IsForm}
 use Rattle.alp_lines.specs.Forms as form
 use Rattle.alp_lines.specs.declared.limits.TheConstants.{PATIENCE_MOST, HOME_LEAST, HOME_MOST, AREA_LEAST, AREA_MOST}
 use Rattle.alp_lines.specs.declared.line.Line.{Line}
 use Rattle.alp_lines.specs.declared.line.Line.TheVariants as line
-use Rattle.alp_lines.proofs.OperandLemmas.{IsFew, IsSmall, IsWithin, then, then_of, either, word32_small, within_range, run_formed, text_formed, list_few, chosen, admitted, opened, change_formed}
+use Rattle.alp_lines.proofs.OperandLemmas.{IsFew, IsSmall, IsWithin, then, then_of, either, word32_small, within_range, run_formed, text_formed, list_few, chosen, admitted, page_mode_formed, read_so, change_formed}
 
 -- a line, if any, of a form
 abbrev IsFormed : Option Line → Type 0
@@ -111,7 +111,7 @@ open_form client [] = tt
 open_form client (a ∷ []) = tt
 open_form client (a ∷ b ∷ []) = tt
 open_form client (a ∷ b ∷ c ∷ end) =
-    then IsForm (file_word_of a) _ (λ f. opened IsForm b c _ (chosen IsForm end _ (form.open_read client f)) (chosen IsForm end _ (form.open_change client f)))
+    then IsForm (file_word_of a) _ (λ f. then IsForm (purpose_of b) _ (λ p. then IsForm (mode_of c) _ (λ m. chosen IsForm end _ (form.open_file client f p m))))
 
 close_form : (client : ℕ) (args : List (List ℕ)) → IsFormed (close_line client args)
 unfolding close_line
@@ -138,7 +138,17 @@ unfolding read_line
 read_form client [] = tt
 read_form client (a ∷ []) = tt
 read_form client (a ∷ b ∷ []) = tt
-read_form client (a ∷ b ∷ c ∷ end) = then IsForm (file_word_of a) _ (λ f. then_of IsRunOfPages IsForm (run_of b c) _ (run_formed b c) (λ r run. chosen IsForm end _ (form.read client f r run)))
+read_form client (a ∷ b ∷ c ∷ end) =
+    then IsForm (file_word_of a) _ (λ f. then_of IsRunOfPages IsForm (run_of b c) _ (run_formed b c) (λ r run. read_so IsForm end _ (λ m fit. form.read client f r m run fit)))
+
+lock_form : (client : ℕ) (args : List (List ℕ)) → IsFormed (lock_line client args)
+unfolding lock_line
+lock_form client [] = tt
+lock_form client (a ∷ []) = tt
+lock_form client (a ∷ b ∷ []) = tt
+lock_form client (a ∷ b ∷ c ∷ []) = tt
+lock_form client (a ∷ b ∷ c ∷ d ∷ end) =
+    then IsForm (file_word_of a) _ (λ f. then_of IsRunOfPages IsForm (run_of b c) _ (run_formed b c) (λ r run. then_of IsPageMode IsForm (page_mode_of d) _ (page_mode_formed d) (λ m fit. chosen IsForm end _ (form.lock client f r m run fit))))
 
 size_form : (client : ℕ) (args : List (List ℕ)) → IsFormed (size_line client args)
 unfolding size_line
@@ -172,9 +182,10 @@ on_file_form client verb args =
     (either IsForm (says verb (codes "delete")) _ _ (delete_form client args)
     (either IsForm (says verb (codes "read")) _ _ (read_form client args)
     (either IsForm (says verb (codes "write")) _ _ (write_form client args)
+    (either IsForm (says verb (codes "lock")) _ _ (lock_form client args)
     (either IsForm (says verb (codes "size")) _ _ (size_form client args)
     (either IsForm (says verb (codes "props")) _ _ (props_form client args)
-    (either IsForm (says verb (codes "change")) _ None (change_form client args) tt)))))))
+    (either IsForm (says verb (codes "change")) _ None (change_form client args) tt))))))))
 
 verb_form : (client : ℕ) (verb : List ℕ) (args : List (List ℕ)) → IsFormed (line_by_verb client verb args)
 unfolding line_by_verb

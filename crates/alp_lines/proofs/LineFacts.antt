@@ -1,16 +1,18 @@
 -- lines that are computed: what the definitions say of each form
 use Rattle.std.specs.Prelude.{codes, None, Some}
 use Rattle.std.proofs.Common.{◌≡◌, ℕ, List, [], ◌∷◌, refl}
+use Rattle.alp_base.specs.declared.choices.Access.TheVariants as access
 use Rattle.alp_base.specs.declared.choices.Choice.TheVariants as choice
 use Rattle.alp_base.specs.declared.ids.FileId.{FileId}
+use Rattle.alp_modes.specs.declared.Mode.TheVariants as mode
 use Rattle.alp_files.specs.declared.call.PropChange.{PropChange}
 use Rattle.alp_files.specs.declared.call.PropChange.TheVariants as prop
 use Rattle.alp_tokens.specs.Words.{words_of}
 use Rattle.alp_tokens.specs.Numbers.{number_of, within}
 use Rattle.alp_tokens.specs.Names.{name_of, names_of, list_of}
 use Rattle.alp_lines.specs.FileWords.{id_of, file_word_of, new_word_of}
-use Rattle.alp_lines.specs.Operands.{choice_of, access_of, change_of}
-use Rattle.alp_lines.specs.ClientLines.{bare_line, make_owner_line, read_owner_line, quota_line, file_line, create_line, close_line, delete_line, size_line, props_line, change_line, line_on_file, line_by_verb}
+use Rattle.alp_lines.specs.Operands.{run_of, choice_of, access_of, purpose_of, mode_of, page_mode_of, reading_of, change_of}
+use Rattle.alp_lines.specs.ClientLines.{bare_line, make_owner_line, read_owner_line, quota_line, file_line, create_line, open_line, close_line, delete_line, read_line, lock_line, size_line, props_line, change_line, line_on_file, line_by_verb}
 use Rattle.alp_lines.specs.Grammar.{text_said, line_of_client, line_by, line_said}
 use Rattle.alp_lines.specs.declared.line.FileWord.TheVariants as file_word
 use Rattle.alp_lines.specs.declared.line.Line.{Line}
@@ -58,6 +60,32 @@ size = refl
 props : Says (codes "1 props A") (line.ReadProps 1 (file_word.Word (codes "A")))
 unfolding text_said line_said words_of line_by line_of_client line_by_verb line_on_file props_line within number_of name_of file_word_of
 props = refl
+
+-- ---- locks
+
+intends : Says (codes "1 open A change iw fail") (line.OpenFile 1 (file_word.Word (codes "A")) access.Change mode.IntendWrite choice.Fail)
+unfolding text_said line_said words_of line_by line_of_client line_by_verb line_on_file open_line purpose_of mode_of choice_of within number_of name_of file_word_of
+intends = refl
+
+reads : Says (codes "1 read A 7 255") (line.ReadPages 1 (file_word.Word (codes "A")) (record { first = 7; count = 255 }) mode.Read choice.Fail)
+unfolding text_said line_said words_of line_by line_of_client line_by_verb line_on_file read_line reading_of run_of choice_of within number_of name_of file_word_of
+reads = refl
+
+updates : Says (codes "1 read A 7 255 u fail") (line.ReadPages 1 (file_word.Word (codes "A")) (record { first = 7; count = 255 }) mode.Update choice.Fail)
+unfolding text_said line_said words_of line_by line_of_client line_by_verb line_on_file read_line page_mode_of reading_of run_of choice_of within number_of name_of file_word_of
+updates = refl
+
+locks : Says (codes "1 lock A 0 1 w") (line.LockPages 1 (file_word.Word (codes "A")) (record { first = 0; count = 1 }) mode.Write choice.Fail)
+unfolding text_said line_said words_of line_by line_of_client line_by_verb line_on_file lock_line page_mode_of run_of choice_of within number_of name_of file_word_of
+locks = refl
+
+long_run : IsOutside (codes "1 lock A 0 256 r")
+unfolding text_said line_said words_of line_by line_of_client line_by_verb line_on_file lock_line page_mode_of run_of within number_of name_of file_word_of
+long_run = refl
+
+intention_on_pages : IsOutside (codes "1 lock A 0 1 iw")
+unfolding text_said line_said words_of line_by line_of_client line_by_verb line_on_file lock_line page_mode_of run_of within number_of name_of file_word_of
+intention_on_pages = refl
 
 -- ---- properties
 

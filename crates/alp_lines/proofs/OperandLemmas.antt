@@ -4,8 +4,6 @@ use Rattle.std.specs.List.{list_all}
 use Rattle.std.proofs.Common.{◌≡◌, ℕ, ◌-◌, ◌<◌, ◌≤◌, ◌^◌, List, [], ◌∷◌, length, true, false, refl, sym, subst, arith}
 use Rattle.std.proofs.lemmas.Bool.{leb-true, and_parts}
 use Rattle.alp_base.specs.Names.{is_between, is_name}
-use Rattle.alp_base.specs.declared.choices.Access.{Access}
-use Rattle.alp_base.specs.declared.choices.Access.TheVariants as access
 use Rattle.alp_base.specs.declared.choices.Choice.{Choice}
 use Rattle.alp_base.specs.declared.choices.Choice.TheVariants as choice
 use Rattle.alp_base.specs.declared.lists.TheConstants.{NAMES_PER_LIST}
@@ -15,8 +13,8 @@ use Rattle.alp_tokens.specs.Words.{◌>>=◌, when, says, parts_at}
 use Rattle.alp_tokens.specs.Numbers.{is_numeral, value_from, number_of, within, word16_of, word32_of, word64_of}
 use Rattle.alp_tokens.specs.Names.{name_of, names_of, list_of, text_of}
 use Rattle.alp_tokens.specs.declared.names.TheConstants.{TEXT_BYTES}
-use Rattle.alp_lines.specs.Operands.{run_of, choice_of, everyone, its_owner, access_of, opening_of, change_of}
-use Rattle.alp_lines.specs.Forms.{IsRunOfPages, IsText, IsChange}
+use Rattle.alp_lines.specs.Operands.{run_of, choice_of, everyone, its_owner, access_of, is_page_mode, page_mode_of, reading_of, change_of}
+use Rattle.alp_lines.specs.Forms.{IsRunOfPages, IsPageMode, IsText, IsChange}
 use Rattle.alp_lines.specs.declared.limits.TheConstants.{RUN_MOST}
 
 -- ---- what holds of a value, where there is one
@@ -120,16 +118,22 @@ admitted P (a ∷ b ∷ end) f h =
     in_turn P (list_of b) _ f (then_of IsFew P (list_of b) _ (list_few b) (λ m modify.
     in_turn P (choice_of end) _ f (chosen P end _ (h r m read modify))))))
 
--- what a file is opened for goes with one lock so far
-pub opened : {B : Type 0} (P : B → Type 0) (purpose lock : List ℕ) (f : Access × Mode → Option B) → IfSome (f (access.ReadOnly, mode.Read)) P → IfSome (f (access.Change, mode.Write)) P
-    → IfSome (opening_of purpose lock >>= f) P
-unfolding opening_of
-opened P purpose lock f read change = go (says purpose (codes "read") && says lock (codes "r")) (says purpose (codes "change") && says lock (codes "w"))
+pub page_mode_formed : (w : List ℕ) → IfSome (page_mode_of w) IsPageMode
+unfolding page_mode_of
+page_mode_formed w =
+    either IsPageMode (says w (codes "r")) _ _ tt
+    (either IsPageMode (says w (codes "u")) _ _ tt
+    (either IsPageMode (says w (codes "w")) _ None tt tt))
+
+-- what hangs on a mode of pages and a choice
+pub read_so : {B : Type 0} (P : B → Type 0) (end : List (List ℕ)) (f : Mode × Choice → Option B) → ((m : Mode) → IsPageMode m → IfSome (f (m, choice.Fail)) P) → IfSome (reading_of end >>= f) P
+unfolding reading_of
+read_so P [] f h = in_turn P (choice_of []) _ f (chosen P [] _ (h mode.Read tt))
+read_so P (w ∷ end) f h = go (is_page_mode w)
   where
-    go : (b c : Bool) → IfSome (cond b (Some (access.ReadOnly, mode.Read)) (cond c (Some (access.Change, mode.Write)) None) >>= f) P
-    go true c = read
-    go false true = change
-    go false false = tt
+    go : (b : Bool) → IfSome (cond b (page_mode_of w >>= λ m. choice_of end >>= λ c. Some (m, c)) (choice_of (w ∷ end) >>= λ c. Some (mode.Read, c)) >>= f) P
+    go true = in_turn P (page_mode_of w) _ f (then_of IsPageMode P (page_mode_of w) _ (page_mode_formed w) (λ m fit. in_turn P (choice_of end) _ f (chosen P end _ (h m fit))))
+    go false = in_turn P (choice_of (w ∷ end)) _ f (chosen P (w ∷ end) _ (h mode.Read tt))
 
 pub change_formed : (property value : List ℕ) → IfSome (change_of property value) IsChange
 unfolding change_of

@@ -1,11 +1,10 @@
 -- what the words of a client's line say, behind the client's number
 use Rattle.std.specs.Prelude.{ℕ, List, [], ◌∷◌, codes, Option, None, Some, if◌then◌else◌}
-use Rattle.alp_modes.specs.declared.Mode.TheVariants as mode
 use Rattle.alp_tokens.specs.Words.{◌>>=◌, says}
 use Rattle.alp_tokens.specs.Numbers.{word32_of}
 use Rattle.alp_tokens.specs.Names.{name_of, list_of, text_of}
 use Rattle.alp_lines.specs.FileWords.{file_word_of, new_word_of}
-use Rattle.alp_lines.specs.Operands.{server_of, run_of, choice_of, access_of, opening_of, change_of}
+use Rattle.alp_lines.specs.Operands.{server_of, run_of, choice_of, access_of, purpose_of, mode_of, page_mode_of, reading_of, change_of}
 use Rattle.alp_lines.specs.declared.line.Line.{Line}
 use Rattle.alp_lines.specs.declared.line.Line.TheVariants as line
 
@@ -72,9 +71,10 @@ create_line client [] = None
 unfoldable pub open_line : ℕ → List (List ℕ) → Option Line
 open_line client (file ∷ purpose ∷ lock ∷ end) = do
   f ← file_word_of file
-  o ← opening_of purpose lock
+  a ← purpose_of purpose
+  m ← mode_of lock
   c ← choice_of end
-  Some (line.OpenFile client f o.0 o.1 c)
+  Some (line.OpenFile client f a m c)
 open_line client _ = None
 
 unfoldable pub close_line : ℕ → List (List ℕ) → Option Line
@@ -103,9 +103,18 @@ unfoldable pub read_line : ℕ → List (List ℕ) → Option Line
 read_line client (file ∷ first ∷ count ∷ end) = do
   f ← file_word_of file
   run ← run_of first count
-  c ← choice_of end
-  Some (line.ReadPages client f run mode.Read c)
+  m ← reading_of end
+  Some (line.ReadPages client f run m.0 m.1)
 read_line client _ = None
+
+unfoldable pub lock_line : ℕ → List (List ℕ) → Option Line
+lock_line client (file ∷ first ∷ count ∷ lock ∷ end) = do
+  f ← file_word_of file
+  run ← run_of first count
+  m ← page_mode_of lock
+  c ← choice_of end
+  Some (line.LockPages client f run m c)
+lock_line client _ = None
 
 unfoldable pub size_line : ℕ → List (List ℕ) → Option Line
 size_line client (file ∷ size ∷ end) = do
@@ -141,6 +150,7 @@ line_on_file client verb args =
     else if says verb (codes "delete") then delete_line client args
     else if says verb (codes "read") then read_line client args
     else if says verb (codes "write") then write_line client args
+    else if says verb (codes "lock") then lock_line client args
     else if says verb (codes "size") then size_line client args
     else if says verb (codes "props") then props_line client args
     else if says verb (codes "change") then change_line client args

@@ -1,10 +1,11 @@
 -- the lines that the language has so far, and what is known of their parts
 use Rattle.std.specs.Prelude.{ℕ, ◌<◌, ◌≤◌, ◌^◌, List, length}
-use Rattle.alp_base.specs.declared.choices.Access.TheVariants as access
+use Rattle.alp_base.specs.declared.choices.Access.{Access}
 use Rattle.alp_base.specs.declared.choices.Choice.TheVariants as choice
 use Rattle.alp_base.specs.declared.faults.Sizes.{Sizes}
 use Rattle.alp_base.specs.declared.ids.Run.{Run}
 use Rattle.alp_base.specs.declared.lists.TheConstants.{NAMES_PER_LIST}
+use Rattle.alp_modes.specs.declared.Mode.{Mode}
 use Rattle.alp_modes.specs.declared.Mode.TheVariants as mode
 use Rattle.alp_files.specs.declared.call.PropChange.{PropChange}
 use Rattle.alp_files.specs.declared.call.PropChange.TheVariants as prop
@@ -17,6 +18,15 @@ use Rattle.alp_tokens.specs.declared.names.TheConstants.{TEXT_BYTES}
 pub record IsRunOfPages (run : Run) : Type 0 where
   pub some : 0 < run.count
   pub few : run.count ≤ RUN_MOST
+
+-- pages are locked in a mode that is no intention
+abbrev pub IsPageMode : Mode → Type 0
+IsPageMode mode.IntendRead = ⊥
+IsPageMode mode.IntendWrite = ⊥
+IsPageMode mode.Read = Unit {0}
+IsPageMode mode.Update = Unit {0}
+IsPageMode mode.ReadIntendWrite = ⊥
+IsPageMode mode.Write = Unit {0}
 
 pub record IsText (text : List ℕ) : Type 0 where
   pub some : 0 < length text
@@ -50,12 +60,12 @@ pub data IsForm : Line → Type 0 where
   quota : (number server : ℕ) (name : List ℕ) (quota : ℕ) → IsForm (line.SetQuota number server name quota choice.Fail)
   create : (number server : ℕ) (word name : List ℕ) (size : ℕ) (read modify : List (List ℕ)) → size < 2 ^ 32 → length read ≤ NAMES_PER_LIST → length modify ≤ NAMES_PER_LIST
       → IsForm (line.Create number server word name size read modify choice.Fail)
-  open_read : (number : ℕ) (file : FileWord) → IsForm (line.OpenFile number file access.ReadOnly mode.Read choice.Fail)
-  open_change : (number : ℕ) (file : FileWord) → IsForm (line.OpenFile number file access.Change mode.Write choice.Fail)
+  open_file : (number : ℕ) (file : FileWord) (purpose : Access) (lock : Mode) → IsForm (line.OpenFile number file purpose lock choice.Fail)
   close : (number : ℕ) (file : FileWord) → IsForm (line.CloseFile number file)
   delete : (number : ℕ) (file : FileWord) → IsForm (line.DeleteFile number file choice.Fail)
   write : (number : ℕ) (file : FileWord) (run : Run) (text : List ℕ) → IsRunOfPages run → IsText text → IsForm (line.WritePages number file run text choice.Fail)
-  read : (number : ℕ) (file : FileWord) (run : Run) → IsRunOfPages run → IsForm (line.ReadPages number file run mode.Read choice.Fail)
+  read : (number : ℕ) (file : FileWord) (run : Run) (lock : Mode) → IsRunOfPages run → IsPageMode lock → IsForm (line.ReadPages number file run lock choice.Fail)
+  lock : (number : ℕ) (file : FileWord) (run : Run) (lock : Mode) → IsRunOfPages run → IsPageMode lock → IsForm (line.LockPages number file run lock choice.Fail)
   size : (number : ℕ) (file : FileWord) (size : ℕ) → size < 2 ^ 32 → IsForm (line.SetSize number file size choice.Fail)
   props : (number : ℕ) (file : FileWord) → IsForm (line.ReadProps number file)
   change : (number : ℕ) (file : FileWord) (change : PropChange) → IsChange change → IsForm (line.WriteProps number file change choice.Fail)

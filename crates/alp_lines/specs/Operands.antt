@@ -1,5 +1,5 @@
 -- what the operands of a line say
-use Rattle.std.specs.Prelude.{◌&&◌, ℕ, List, [], ◌∷◌, codes, Option, None, Some, if◌then◌else◌}
+use Rattle.std.specs.Prelude.{Bool, ◌||◌, ℕ, List, [], ◌∷◌, codes, Option, None, Some, if◌then◌else◌}
 use Rattle.alp_base.specs.declared.choices.Access.{Access}
 use Rattle.alp_base.specs.declared.choices.Access.TheVariants as access
 use Rattle.alp_base.specs.declared.choices.Choice.{Choice}
@@ -54,12 +54,44 @@ access_of end = do
   c ← choice_of end
   Some (everyone, its_owner, c)
 
--- what a file is opened for, and the lock on all of it: `read r` or `change w`
-unfoldable pub opening_of : List ℕ → List ℕ → Option (Access × Mode)
-opening_of purpose lock =
-    if says purpose (codes "read") && says lock (codes "r") then Some (access.ReadOnly, mode.Read)
-    else if says purpose (codes "change") && says lock (codes "w") then Some (access.Change, mode.Write)
+-- what a file is opened for
+unfoldable pub purpose_of : List ℕ → Option Access
+purpose_of w =
+    if says w (codes "read") then Some access.ReadOnly
+    else if says w (codes "change") then Some access.Change
     else None
+
+-- a lock, by the first letters of its name
+unfoldable pub mode_of : List ℕ → Option Mode
+mode_of w =
+    if says w (codes "ir") then Some mode.IntendRead
+    else if says w (codes "iw") then Some mode.IntendWrite
+    else if says w (codes "r") then Some mode.Read
+    else if says w (codes "u") then Some mode.Update
+    else if says w (codes "riw") then Some mode.ReadIntendWrite
+    else if says w (codes "w") then Some mode.Write
+    else None
+
+-- the word says a lock on pages
+abbrev pub is_page_mode : List ℕ → Bool
+is_page_mode w = says w (codes "r") || says w (codes "u") || says w (codes "w")
+
+-- a lock on pages, which is no intention
+unfoldable pub page_mode_of : List ℕ → Option Mode
+page_mode_of w =
+    if says w (codes "r") then Some mode.Read
+    else if says w (codes "u") then Some mode.Update
+    else if says w (codes "w") then Some mode.Write
+    else None
+
+-- the end of a line that reads pages: the lock on them, `r` where that is left out, and then the choice
+unfoldable pub reading_of : List (List ℕ) → Option (Mode × Choice)
+reading_of [] = do
+  c ← choice_of []
+  Some (mode.Read, c)
+reading_of (w ∷ end) =
+    if is_page_mode w then (page_mode_of w >>= λ m. choice_of end >>= λ c. Some (m, c))
+    else (choice_of (w ∷ end) >>= λ c. Some (mode.Read, c))
 
 -- a property of a file and its new value
 unfoldable pub change_of : List ℕ → List ℕ → Option PropChange

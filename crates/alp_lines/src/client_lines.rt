@@ -2,12 +2,11 @@
 ghost use Rattle.std.specs.Prelude.{◌≡◌};
 ghost use Rattle.alp_tokens.specs.Telling.{Tells};
 ghost use Rattle.alp_tokens.specs.Words.{shown};
-ghost use Rattle.alp_lines.specs.ClientLines.{begin_line as begin_said, bare_line as bare_said, make_owner_line as make_owner_said, read_owner_line as read_owner_said, quota_line as quota_said, file_line as file_said, create_line as create_said, open_line as open_said, close_line as close_said, delete_line as delete_said, write_line as write_said, read_line as read_said, size_line as size_said, props_line as props_said, change_line as change_said, line_on_file as said_on_file, line_by_verb as said_by_verb};
+ghost use Rattle.alp_lines.specs.ClientLines.{begin_line as begin_said, bare_line as bare_said, make_owner_line as make_owner_said, read_owner_line as read_owner_said, quota_line as quota_said, file_line as file_said, create_line as create_said, open_line as open_said, close_line as close_said, delete_line as delete_said, write_line as write_said, read_line as read_said, lock_line as lock_said, size_line as size_said, props_line as props_said, change_line as change_said, line_on_file as said_on_file, line_by_verb as said_by_verb};
 
 use crate::Line;
 use crate::file_words::{file_word, new_word};
-use crate::operands::{access, change, choice, opening, run, server};
-use alp_modes::Mode;
+use crate::operands::{access, change, choice, mode, page_mode, purpose, reading, run, server};
 use alp_tokens::{LineFault, list, name, says, text, word32};
 use std::alloc::Global;
 
@@ -145,9 +144,10 @@ fn open_line(alloc: Global, client: u8, args: &[&[u8]]) -> Result<Line, LineFaul
     ensures { Tells result (open_said client (shown args.now)) }
 {
     match args {
-        [file, purpose, lock, end @ ..] => {
+        [file, purposed, lock, end @ ..] => {
             let file = file_word(alloc, file)?;
-            let (access, mode) = opening(purpose, lock)?;
+            let access = purpose(purposed)?;
+            let mode = mode(lock)?;
             let choice = choice(end)?;
             Ok(Line::OpenFile {
                 client,
@@ -222,12 +222,34 @@ fn read_line(alloc: Global, client: u8, args: &[&[u8]]) -> Result<Line, LineFaul
         [file, first, count, end @ ..] => {
             let file = file_word(alloc, file)?;
             let run = run(first, count)?;
-            let choice = choice(end)?;
+            let (mode, choice) = reading(end)?;
             Ok(Line::ReadPages {
                 client,
                 file,
                 run,
-                mode: Mode::Read,
+                mode,
+                choice,
+            })
+        }
+        _ => Err(LineFault::Outside),
+    }
+}
+
+#[tactic(auto, unfolding(crate::specs::ClientLines::lock_line))]
+fn lock_line(alloc: Global, client: u8, args: &[&[u8]]) -> Result<Line, LineFault>
+    ensures { Tells result (lock_said client (shown args.now)) }
+{
+    match args {
+        [file, first, count, lock, end @ ..] => {
+            let file = file_word(alloc, file)?;
+            let run = run(first, count)?;
+            let mode = page_mode(lock)?;
+            let choice = choice(end)?;
+            Ok(Line::LockPages {
+                client,
+                file,
+                run,
+                mode,
                 choice,
             })
         }
@@ -303,6 +325,8 @@ fn line_on_file(alloc: Global, client: u8, verb: &[u8], args: &[&[u8]]) -> Resul
         read_line(alloc, client, args)
     } else if says(verb, b"write") {
         write_line(alloc, client, args)
+    } else if says(verb, b"lock") {
+        lock_line(alloc, client, args)
     } else if says(verb, b"size") {
         size_line(alloc, client, args)
     } else if says(verb, b"props") {

@@ -1,7 +1,7 @@
 //! How much a line may ask for.
 
-/// The most pages in a row that one line reads or writes.
-pub const RUN_MOST: u32 = 16;
+/// The most pages in a row that one line reads, writes or locks. The server's own limit is smaller.
+pub const RUN_MOST: u32 = 255;
 
 /// The most that a line of patience says.
 pub const PATIENCE_MOST: u32 = 1000;

@@ -2,7 +2,7 @@
 ghost use Rattle.std.specs.Prelude.{◌≡◌, ◌∷◌, [], Some};
 ghost use Rattle.alp_tokens.specs.Telling.{Tells};
 ghost use Rattle.alp_tokens.specs.Words.{shown};
-ghost use Rattle.alp_lines.specs.Operands.{server_of, client_of, run_of, choice_of, access_of, opening_of, change_of};
+ghost use Rattle.alp_lines.specs.Operands.{server_of, client_of, run_of, choice_of, access_of, purpose_of, mode_of, is_page_mode as is_page_mode_said, page_mode_of, reading_of, change_of};
 
 use crate::limits::RUN_MOST;
 use alp_base::{Access, AccessList, CLIENTS, Choice, Name, Run, SERVERS};
@@ -82,17 +82,80 @@ pub(crate) fn access(
     }
 }
 
-// What a file is opened for, and the lock on all of it.
-#[tactic(auto, unfolding(crate::specs::Operands::opening_of))]
-pub(crate) fn opening(purpose: &[u8], lock: &[u8]) -> Result<(Access, Mode), LineFault>
-    ensures { Tells result (opening_of purpose.now lock.now) }
+// What a file is opened for.
+#[tactic(auto, unfolding(crate::specs::Operands::purpose_of))]
+pub(crate) fn purpose(word: &[u8]) -> Result<Access, LineFault>
+    ensures { Tells result (purpose_of word.now) }
 {
-    if says(purpose, b"read") && says(lock, b"r") {
-        Ok((Access::ReadOnly, Mode::Read))
-    } else if says(purpose, b"change") && says(lock, b"w") {
-        Ok((Access::Change, Mode::Write))
+    if says(word, b"read") {
+        Ok(Access::ReadOnly)
+    } else if says(word, b"change") {
+        Ok(Access::Change)
     } else {
         Err(LineFault::Outside)
+    }
+}
+
+// The lock on all of a file.
+#[tactic(auto, unfolding(crate::specs::Operands::mode_of))]
+pub(crate) fn mode(word: &[u8]) -> Result<Mode, LineFault>
+    ensures { Tells result (mode_of word.now) }
+{
+    if says(word, b"ir") {
+        Ok(Mode::IntendRead)
+    } else if says(word, b"iw") {
+        Ok(Mode::IntendWrite)
+    } else if says(word, b"r") {
+        Ok(Mode::Read)
+    } else if says(word, b"u") {
+        Ok(Mode::Update)
+    } else if says(word, b"riw") {
+        Ok(Mode::ReadIntendWrite)
+    } else if says(word, b"w") {
+        Ok(Mode::Write)
+    } else {
+        Err(LineFault::Outside)
+    }
+}
+
+// Whether the word says a lock on pages.
+fn is_page_mode(word: &[u8]) -> bool
+    ensures { result ≡ is_page_mode_said word.now }
+{
+    says(word, b"r") || says(word, b"u") || says(word, b"w")
+}
+
+// The lock on pages, which is no intention.
+#[tactic(auto, unfolding(crate::specs::Operands::page_mode_of))]
+pub(crate) fn page_mode(word: &[u8]) -> Result<Mode, LineFault>
+    ensures { Tells result (page_mode_of word.now) }
+{
+    if says(word, b"r") {
+        Ok(Mode::Read)
+    } else if says(word, b"u") {
+        Ok(Mode::Update)
+    } else if says(word, b"w") {
+        Ok(Mode::Write)
+    } else {
+        Err(LineFault::Outside)
+    }
+}
+
+// How pages are read, and what is to be done where a lock is in the way.
+#[tactic(auto, unfolding(crate::specs::Operands::reading_of))]
+pub(crate) fn reading(end: &[&[u8]]) -> Result<(Mode, Choice), LineFault>
+    ensures { Tells result (reading_of (shown end.now)) }
+{
+    match end {
+        [word, end @ ..] if is_page_mode(word) => {
+            let mode = page_mode(word)?;
+            let choice = choice(end)?;
+            Ok((mode, choice))
+        }
+        _ => {
+            let choice = choice(end)?;
+            Ok((Mode::Read, choice))
+        }
     }
 }
 

@@ -1,6 +1,7 @@
 use crate::*;
-use alp_base::{AccessList, Choice, NAMES_PER_LIST, Name};
+use alp_base::{Access, AccessList, Choice, NAMES_PER_LIST, Name, Run};
 use alp_files::PropChange;
+use alp_modes::Mode;
 use alp_tokens::LineFault;
 use std::alloc::Global;
 use std::test::Fail;
@@ -37,8 +38,8 @@ fn reads_lines_on_files(rt: HostRuntime) -> Result<(), Fail> {
         b"1 change F bytes 18446744073709551615",
         b"1 change F read -",
         b"1 change F modify ann,eve,Owner,World fail",
-        b"1 write F 4294967295 16 - fail",
-        b"1 read F 0 1 fail",
+        b"1 write F 4294967295 255 - fail",
+        b"1 read F 0 255 fail",
     ];
     assert!(rt; are_lines(alloc, &texts)?);
     Ok(())
@@ -173,5 +174,100 @@ fn says_what_changes(rt: HostRuntime) -> Result<(), Fail> {
     assert!(rt; changes(alloc, b"1 change F read -", &nobody)?);
     assert!(rt; changes(alloc, b"1 change F type 9", &PropChange::TypeNo(9))?);
     assert!(rt; changes(alloc, b"1 change F bytes 10", &PropChange::ByteLength(10))?);
+    Ok(())
+}
+
+#[test]
+fn opens_in_each_mode(rt: HostRuntime) -> Result<(), Fail> {
+    let alloc = rt.alloc();
+    let texts: [(&[u8], Access, Mode); 7] = [
+        (b"1 open F read ir", Access::ReadOnly, Mode::IntendRead),
+        (
+            b"1 open F change iw fail",
+            Access::Change,
+            Mode::IntendWrite,
+        ),
+        (b"1 open F read r fail", Access::ReadOnly, Mode::Read),
+        (b"1 open F change u", Access::Change, Mode::Update),
+        (
+            b"1 open F change riw",
+            Access::Change,
+            Mode::ReadIntendWrite,
+        ),
+        (b"1 open 1.1.1 change w", Access::Change, Mode::Write),
+        (b"1 open F read w", Access::ReadOnly, Mode::Write),
+    ];
+    for (text, purpose, lock) in texts {
+        let said = text_in(alloc, text)?;
+        assert!(rt;
+            matches!(said, Some(Line::OpenFile { access, mode, choice: Choice::Fail, .. }) if access == purpose && mode == lock)
+        );
+    }
+    Ok(())
+}
+
+#[test]
+fn reads_pages_in_three_modes(rt: HostRuntime) -> Result<(), Fail> {
+    let alloc = rt.alloc();
+    let texts: [(&[u8], Mode); 6] = [
+        (b"1 read F 7 255", Mode::Read),
+        (b"1 read F 7 255 fail", Mode::Read),
+        (b"1 read F 7 255 r", Mode::Read),
+        (b"1 read F 7 255 u", Mode::Update),
+        (b"1 read F 7 255 u fail", Mode::Update),
+        (b"1 read F 7 255 w fail", Mode::Write),
+    ];
+    for (text, lock) in texts {
+        let said = text_in(alloc, text)?;
+        assert!(rt;
+            matches!(said, Some(Line::ReadPages { run: Run { first: 7, count: 255 }, mode, choice: Choice::Fail, .. }) if mode == lock)
+        );
+    }
+    Ok(())
+}
+
+#[test]
+fn locks_pages_in_three_modes(rt: HostRuntime) -> Result<(), Fail> {
+    let alloc = rt.alloc();
+    let texts: [(&[u8], Mode); 3] = [
+        (b"1 lock F 0 1 r", Mode::Read),
+        (b"1 lock F 0 1 u fail", Mode::Update),
+        (b"1 lock F 0 1 w", Mode::Write),
+    ];
+    for (text, lock) in texts {
+        let said = text_in(alloc, text)?;
+        assert!(rt;
+            matches!(said, Some(Line::LockPages { run: Run { first: 0, count: 1 }, mode, choice: Choice::Fail, .. }) if mode == lock)
+        );
+    }
+    Ok(())
+}
+
+#[test]
+fn refuses_wrong_locks(rt: HostRuntime) -> Result<(), Fail> {
+    let alloc = rt.alloc();
+    let texts: [&[u8]; 18] = [
+        b"1 open F read",
+        b"1 open F write w",
+        b"1 open F read rw",
+        b"1 open F ir read",
+        b"1 open F change w w",
+        b"1 read F 0 0",
+        b"1 read F 0 256",
+        b"1 read F 0 1 ir",
+        b"1 read F 0 1 riw",
+        b"1 read F 0 1 fail u",
+        b"1 read F 0 1 u u",
+        b"1 write F 0 256 x",
+        b"1 write F 0 1 x w",
+        b"1 lock F 0 1",
+        b"1 lock F 0 1 iw",
+        b"1 lock F 0 256 r",
+        b"1 lock F 0 1 fail",
+        b"1 lock F 0 1 w wait",
+    ];
+    for text in texts {
+        assert!(rt; matches!(text_in(alloc, text), Err(LineFault::Outside)));
+    }
     Ok(())
 }

@@ -4,23 +4,21 @@ use Rattle.std.specs.FinMap as map
 use Rattle.std.proofs.Common.{◌≡◌, ℕ, ◌+◌, ◌<◌, ◌≤◌, List, [], ◌∷◌, ◌++◌, length, refl, sym, ◌∙◌, ap, subst, arith}
 use Rattle.alp_base.specs.declared.ids.FileId.{FileId}
 use Rattle.alp_base.specs.declared.ids.TransId.{TransId}
-use Rattle.std.specs.List.{AllByRecursion}
 use Rattle.std.specs.Option.{option_to_list}
 use Rattle.alp_base.specs.declared.key.Resource.{Resource}
 use Rattle.alp_base.specs.declared.key.Key.{Key}
 use Rattle.alp_base.specs.declared.key.Key.TheVariants.{Leader}
-use Rattle.alp_base.specs.declared.key.Resource.TheVariants.{Whole}
-use Rattle.alp_files.specs.Holdings.{Holding}
-use Rattle.alp_files.specs.declared.open.Open.{Open}
+use Rattle.alp_files.specs.Apart.{IsWithin, OpensRead}
+use Rattle.alp_files.specs.Holdings.{Holding, IsIntended}
 use Rattle.alp_files.specs.Act.{Own, Answer, answer, id_in}
 use Rattle.alp_files.specs.Born.{count_after, IsUnborn}
 use Rattle.alp_files.proofs.BornLemmas.{unborn_kept, unborn_more}
 use Rattle.alp_files.proofs.EditLemmas.{edits_at-append}
 use Rattle.alp_files.proofs.IntentLemmas.{through_of, intents_from-append}
 use Rattle.alp_files.proofs.FilesLemmas.{same-some}
-use Rattle.alp_files.specs.Edits.{edits_at, after}
+use Rattle.alp_files.specs.Edits.{Edit, edits_at, after}
 use Rattle.alp_files.specs.Needs.{Intents, no_intents, intents_from, through}
-use Rattle.alp_files.specs.Locks.{IsMore, with_made}
+use Rattle.alp_files.specs.Locks.{Reads, Writes, with_made}
 use Rattle.alp_files.proofs.HistoryLemmas.{get-edits_map}
 use Rattle.alp_locks.specs.Tables.{Table, holding}
 use Rattle.alp_vault.specs.Contents.{Contents}
@@ -49,12 +47,12 @@ use Rattle.alp_vault.specs.declared.vault.Vault.{Ghosts}
 use Rattle.alp_journal.specs.declared.act.Act.{Act}
 use Rattle.alp_node.specs.Calls.{given_of, IsAnswerTo, Outcome, Performed, next_file}
 use Rattle.alp_node.specs.declared.answer.Given.{Given}
-use Rattle.alp_node.specs.Covers.{AreCovered, AreHeld}
+use Rattle.alp_node.specs.Covers.{AreHeld, AreSizedEdits}
 use Rattle.alp_node.specs.Rooms.{IsRoomOf, locks_given}
 use Rattle.alp_node.specs.Totals.{LiveMap, totals_of}
 use Rattle.alp_node.specs.declared.lock_counts.LockCounts.{LockCounts}
 use Rattle.alp_node.proofs.TotalLemmas.{AreRoomed, same_room, swapped_room}
-use Rattle.alp_node.specs.ServerState.{IsLife, IsAlike, IsAs, IsLocked, mode_for, PutNoneBeyond, ids_to}
+use Rattle.alp_node.specs.ServerState.{IsLife, IsAlike, IsAs, PutNoneBeyond, ids_to}
 use Rattle.alp_node.specs.Steps.{IsTurn, counted_in}
 use Rattle.alp_node.specs.declared.sessions.Turn.{Turn}
 use Rattle.alp_node.specs.declared.server_state.ServerState.{ServerState}
@@ -134,6 +132,7 @@ module _ {V : Type 0} (a : Alone) (held : Contents) (k : ServerState V) where
         epoch = h.epoch;
         clock = h.clock;
         cells = h.cells;
+        sized = h.sized;
         notes = h.notes;
         places = h.places;
         sessions = h.sessions;
@@ -166,17 +165,21 @@ module _ {V : Type 0} (a : Alone) (held : Contents) (k : ServerState V) where
             held = x.alike.held;
             opens = x.alike.opens;
             counts = subst (AreCountsOf a.holder.cells x.life.edits) (sym before.2) x.alike.counts;
-            covered = x.alike.covered;
+            within = x.alike.within;
+            intended = x.alike.intended;
+            sized = x.alike.sized;
             count = locks ∙ x.alike.count;
             known = x.alike.known;
           })
 
 -- ---- a call that a part performed
 
--- every lock covers what it did, and more
-pub locked_more : (a b : Holding) → IsMore a b → (os : List Open) → AllByRecursion (IsLocked a) os → AllByRecursion (IsLocked b) os
-locked_more a b more [] h = tt
-locked_more a b more (x ∷ os) h = (more (Whole x.file) (mode_for x.access) h.0, locked_more a b more os h.1)
+-- all of it is within the locks
+pub record IsUnder (held : Holding) (w : Own) (es : List Edit) : Type 0 where
+  pub opens : OpensRead (Reads held) w.opens
+  pub within : IsWithin (Writes held) es
+  pub intended : IsIntended held
+  pub sized : AreSizedEdits es
 
 -- ---- what the counts come to
 
@@ -263,10 +266,10 @@ module _ {V : Type 0} (a : Alone) (held : Contents) (k : ServerState V) (turn : 
     pub done_as : (then : Contents) (h : IsAs a held k) → then ≡ held → (is : IsTurn k.sessions turn) → k.is_down ≡ false → map.get k.lives t ≡ Some l → a.holder.lives t ≡ Some life → IsLife a.holder.cells k.locks.held (a.locked t) t l life → GivesOnly (next_file k) r
         → Performs l.part p gave r → ((q : Resource) → with_made under (id_in r) q ≡ holding locks.held t q)
         → ((u : TransId) (q : Resource) → same_trans u t ≡ false → holding locks.held u q ≡ holding k.locks.held u q)
-        → AllByRecursion (IsLocked (with_made under (id_in r))) gave.own.opens → AreCountsOf a.holder.cells (life.edits ++ gave.edits) p.counts → AreCovered (with_made under (id_in r)) (life.edits ++ gave.edits)
+        → IsUnder (with_made under (id_in r)) gave.own (life.edits ++ gave.edits) → AreCountsOf a.holder.cells (life.edits ++ gave.edits) p.counts
         → n ≡ length (with_resources (needs_made (id_in r)) rs) → AreHeld (with_made under (id_in r)) (with_resources (needs_made (id_in r)) rs) → AreRoomed k.sizes a.holder.cells (totals_of k.lives) l.part.counts p.counts
         → IsQuiet (after_call (session_of turn is)) → IsAs (after_call (session_of turn is)) then done_kept
-    done_as then h same is up there live mine only done holds others opens counts covered count known roomed quiet =
+    done_as then h same is up there live mine only done holds others kept counts count known roomed quiet =
         let w : Session = session_of turn is in
         let new : Life = life_after a turn.client turn.number w t life c r under in
         let now : List Resource = with_resources (needs_made (id_in r)) rs in
@@ -276,6 +279,7 @@ module _ {V : Type 0} (a : Alone) (held : Contents) (k : ServerState V) (turn : 
           epoch = h.epoch;
           clock = h.clock;
           cells = h.cells;
+          sized = h.sized;
           notes = h.notes;
           places = places_set k.sessions turn.client (session_then turn r) h.places;
           sessions = sessions_as a.sessions k.sessions turn.client (session_then turn r) h.sessions h.places is.client;
@@ -287,9 +291,11 @@ module _ {V : Type 0} (a : Alone) (held : Contents) (k : ServerState V) (turn : 
                 intents = done.view ∙ ap (λ (i : Intents). intents_from i gave.edits) mine.intents ∙ sym (intents_from-append no_intents life.edits gave.edits);
                 own = done.own;
                 held = holds;
-                opens = opens;
+                opens = kept.opens;
                 counts = counts;
-                covered = covered;
+                within = kept.within;
+                intended = kept.intended;
+                sized = kept.sized;
                 count = count;
                 known = known;
               }) u);

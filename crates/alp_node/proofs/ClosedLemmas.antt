@@ -15,7 +15,7 @@ use Rattle.alp_files.specs.declared.refusal.Refusal.{Refusal}
 use Rattle.alp_files.specs.declared.refusal.Refusal.TheVariants as refusal
 use Rattle.alp_files.specs.Cells.{View, same_name, props_in}
 use Rattle.alp_files.specs.Edits.{Put}
-use Rattle.alp_files.specs.Act.{Own, Answer, Look, Ask, Say, run, unless, refused, replied, on_open, on_props, on_change, if_change, owner_of, is_over, quota_exceeded, charge_put, close_file, page_past, page_puts, mark_put, read_pages, ask_pages, write_pages, put_props, cut_file, grow_file, set_size, move_tests, move_file, write_props}
+use Rattle.alp_files.specs.Act.{Own, Answer, Look, Ask, Say, run, unless, refused, replied, on_open, on_props, on_change, if_change, owner_of, is_over, quota_exceeded, charge_put, close_file, page_past, page_puts, mark_put, read_pages, ask_pages, write_pages, lock_pages, put_props, cut_file, grow_file, set_size, move_tests, move_file, write_props}
 use Rattle.alp_files.specs.Locks.{Need, needs_there, needs_on_open, needs_on_change, needs_if_change}
 use Rattle.alp_journal.specs.Answers.{open_reply}
 use Rattle.alp_node.proofs.AnswerLemmas.{by_tests, by_pages}
@@ -61,6 +61,12 @@ module _ (m : View) (w : Own) where
       go : (a : Access) → EitherOpen w (needs_there (props_in (m (Leader o.file))) (λ p. needs_if_change a (needs o p))) (run m (if_change w a (Ask (Leader o.file) (λ lc. on_props w (props_in lc) (next o)))))
       go ReadOnly = inr (record { refusal = refusal.ReadOnlyOpen; is = refl; shows = refl; none = no_needs (props_in (m (Leader o.file))) })
       go Change = there (props_in (m (Leader o.file)))
+
+  -- pages are locked on an open for change where they are to be changed
+  pub lock_open : (r : Run) (b : Bool) (x : Option Open) (needs : Open → Props → List Need)
+      → EitherOpen w (cond {A = List Need} b (needs_on_change m x needs) (needs_on_open m x needs)) (run m (cond {A = Look} b (on_change w x (lock_pages w r)) (on_open w x (lock_pages w r))))
+  lock_open r true x needs = either_change x needs (lock_pages w r) (λ o p. by_tests IsOnOpen w (page_past r p) (replied w reply.Plain []) (refl, tt) refl)
+  lock_open r false x needs = either_open x needs (lock_pages w r) (λ o p. by_tests IsOnOpen w (page_past r p) (replied w reply.Plain []) (refl, tt) refl)
 
   pub close_open : (n : ℕ) (x : Option Open) → EitherOpen w [] (run m (close_file w n x))
   close_open n None = inr (unknown [] refl)

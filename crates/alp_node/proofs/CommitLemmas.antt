@@ -6,12 +6,16 @@ use Rattle.std.proofs.lemmas.Bool.{ne_eqb, ltb-true}
 use Rattle.alp_base.specs.Causes.{Rose}
 use Rattle.alp_base.specs.declared.ids.Stamp.{Stamp}
 use Rattle.alp_base.specs.declared.ids.TransId.{TransId}
+use Rattle.alp_base.specs.declared.key.Key.{Key}
 use Rattle.alp_base.specs.declared.key.Key.TheVariants.{Leader}
+use Rattle.alp_base.specs.declared.key.Resource.{Resource}
 use Rattle.alp_base.specs.Notes.{Notes}
 use Rattle.alp_fields.specs.ClockNote.{clock_name, clock_form}
-use Rattle.alp_files.specs.Cells.{View}
+use Rattle.alp_files.specs.Cells.{Cells, View}
 use Rattle.alp_files.specs.Changes.{edits_of}
 use Rattle.alp_files.specs.Edits.{Edit, edits_at, edits_map}
+use Rattle.alp_files.specs.Needs.{Intents, intents_of}
+use Rattle.alp_locks.specs.Releases.{released}
 use Rattle.alp_files.proofs.HistoryLemmas.{get-edits_map}
 use Rattle.alp_files.specs.History.{Decided}
 use Rattle.alp_files.specs.declared.call.Call.{Call}
@@ -30,6 +34,8 @@ use Rattle.alp_journal.specs.declared.act.Act.TheVariants as act
 use Rattle.alp_journal.specs.declared.event.Event.TheVariants as event
 use Rattle.alp_journal.specs.declared.entry.Entry.{Entry}
 use Rattle.alp_journal.specs.Along.{state_after}
+use Rattle.alp_journal.specs.Counts.{lock_set}
+use Rattle.alp_journal.specs.Ids.{same_trans}
 use Rattle.alp_journal.specs.Deeds.{Deed, Finishes, Decides, Releases}
 use Rattle.alp_journal.specs.Holder.{Holder, Life, commits, holder_after}
 use Rattle.alp_journal.specs.Moves.{tried, act_deeds, finishes, ends_by}
@@ -45,7 +51,9 @@ use Rattle.alp_journal.proofs.AloneLemmas.{call_entry, call_tried}
 use Rattle.alp_journal.proofs.AloneEnds.{with_commit, commit_leads, with_halt, commit_halt_leads, file_halt_leads}
 use Rattle.alp_node.specs.Dead.{is_dead}
 use Rattle.alp_node.specs.Durable.{clock_notes, stored_by, said_by, MightBring, Leaves, Besides, IsWritten}
-use Rattle.alp_node.specs.ServerState.{IsAs}
+use Rattle.alp_node.specs.Eases.{new_blocks, eased}
+use Rattle.alp_node.specs.ServerState.{IsAs, IsAlike}
+use Rattle.alp_node.specs.Totals.{totals_of, HaveRoom}
 use Rattle.alp_node.specs.Standings.{standing_of}
 use Rattle.alp_node.specs.Steps.{Stepped, IsTurn, counted_in, without_trans, seen_in, told_answer, refused_answer, entry_of}
 use Rattle.alp_node.specs.declared.answer.Answer.{Answer}
@@ -62,6 +70,7 @@ use Rattle.alp_node.proofs.MapLemmas.{places_set}
 use Rattle.alp_node.proofs.NoteLemmas.{put_again}
 use Rattle.alp_node.proofs.SeatLemmas.{leaves_as}
 use Rattle.alp_node.proofs.StandingLemmas.{part_of, part_is}
+use Rattle.alp_node.proofs.UnderLemmas.{edits_sized}
 
 -- ---- this server's own vote
 
@@ -155,14 +164,15 @@ module _ {V : Type 0} (a : Alone) (before now : ℕ) (held then : Contents) (k :
   abbrev pub stamp_at : Stamp
   stamp_at = record { ts = k.clock + 1; trans = t }
 
-  abbrev pub committed_kept : ServerState V
-  committed_kept = record (without_trans k t) { sessions = counted_in k.sessions turn (reply.Committed stamp_at); clock = k.clock + 1; committed = k.committed + 1; vault = v }
+  -- the other parts need no place for these blocks any more
+  abbrev pub committed_kept : List Key → ServerState V
+  committed_kept blocks = record (without_trans k t) { lives = eased blocks (map.remove k.lives t) (map.keys k.lives); sessions = counted_in k.sessions turn (reply.Committed stamp_at); clock = k.clock + 1; committed = k.committed + 1; vault = v }
 
-  pub commit_stepped : (x : Answer) → IsAs a held k → IsTurn k.sessions turn → k.is_down ≡ false → k.locks.waiting ≡ [] → k.clock < 2 ^ 62 → t.server ≡ k.server → map.get k.lives t ≡ Some l → l.client ≡ turn.client
+  pub commit_stepped : (x : Answer) (blocks : List Key) → blocks ≡ new_blocks held.cells l.part.intents.puts → IsAs a held k → IsTurn k.sessions turn → k.is_down ≡ false → k.locks.waiting ≡ [] → k.clock < 2 ^ 62 → t.server ≡ k.server → map.get k.lives t ≡ Some l → l.client ≡ turn.client
       → IsWithin k.sizes l → then.cells ≡ edits_map (edits_of (change_of l.part.intents)) held.cells → then.notes ≡ map.insert held.notes clock_name (clock_form.spell (record { epoch = k.epoch; clock = k.clock + 1 }))
       → x ≡ told_answer (Some (reply.Committed stamp_at)) (act.Decided stamp_at [] ∷ act.Released t ∷ [])
-      → Stepped a before now then committed_kept (event.Call turn.client k.epoch turn.number (call.Finish t true)) x
-  commit_stepped x h is up alone early here live own room cells notes so =
+      → Stepped a before now then (committed_kept blocks) (event.Call turn.client k.epoch turn.number (call.Finish t true)) x
+  commit_stepped x blocks opened h is up alone early here live own room cells notes so =
       let w : Session = session_of turn is in
       let y : IsLive a.holder.cells k.locks.held (a.locked t) t l (a.holder.lives t) = live_there a.holder.cells k.locks.held (a.locked t) t (map.get k.lives t) (a.holder.lives t) l live (h.lives t) in
       let es : List Edit = y.life.edits in
@@ -176,7 +186,8 @@ module _ {V : Type 0} (a : Alone) (before now : ℕ) (held then : Contents) (k :
       let clock : max a.holder.clock (a.holder.clock + 1) ≡ k.clock + 1 = omega (arith, h.clock) in
       let same : then.cells ≡ edits_map es a.holder.cells =
       cells ∙ same_change held.cells l.part es y.alike.intents ∙ ap (edits_map es) (h.cells up) in
-      stepped_so a before now held then k committed_kept turn.client turn.number w (call.Finish t true) false (reply.Committed stamp) (act.Decided stamp [] ∷ act.Released t ∷ []) m x
+      let same_blocks : blocks ≡ new_blocks a.holder.cells (intents_of es).puts = opened ∙ ap (λ (i : Intents). new_blocks held.cells i.puts) y.alike.intents ∙ ap (λ (m : Cells). new_blocks m (intents_of es).puts) (h.cells up) in
+      stepped_so a before now held then k (committed_kept blocks) turn.client turn.number w (call.Finish t true) false (reply.Committed stamp) (act.Decided stamp [] ∷ act.Released t ∷ []) m x
       (so ∙ ap (λ (z : Stamp). told_answer (Some (reply.Committed z)) (act.Decided z [] ∷ act.Released t ∷ [])) same_stamp) h leads
       (record {
         server = h.server;
@@ -184,13 +195,15 @@ module _ {V : Type 0} (a : Alone) (before now : ℕ) (held then : Contents) (k :
         epoch = h.epoch;
         clock = clock;
         cells = λ _. same;
+        sized = edits_sized a.holder.cells es h.sized y.alike.sized;
         notes = λ _. notes ∙ put_more a held k (k.clock + 1) h up ∙ (λ i. clock_notes (record { epoch = sym h.epoch i; clock = sym clock i }));
         places = places_set k.sessions turn.client (session_then turn (reply.Committed stamp_at)) h.places;
         sessions = subst (λ (z : Stamp). (c : ℕ) → cond {A = Option Session} (c == turn.client) (Some (session_then turn (reply.Committed z))) (a.sessions c) ≡ session_at (counted_in k.sessions turn (reply.Committed stamp_at)) c) same_stamp
             (sessions_as a.sessions k.sessions turn.client (session_then turn (reply.Committed stamp_at)) h.sessions h.places is.client);
         dead = h.dead;
-        lives = commit_alike a held k h t l live y.life y.is y.alike alone;
-        room = commit_room a held k h t l live y.life y.is y.alike;
+        lives = subst (λ (bs : List Key). (u : TransId) → IsAlike (edits_map es a.holder.cells) (released k.locks t).held (lock_set a.locked t [] u) u (map.get (eased bs (map.remove k.lives t) (map.keys k.lives)) u) (cond {A = Option Life} (same_trans u t) None (a.holder.lives u))) (sym same_blocks)
+            (commit_alike a held k h t l live y.life y.is y.alike alone);
+        room = subst (λ (bs : List Key). HaveRoom k.sizes (edits_map es a.holder.cells) (totals_of (eased bs (map.remove k.lives t) (map.keys k.lives)))) (sym same_blocks) (commit_room a held k h t l live y.life y.is y.alike);
         unborn = gone_unborn a held k t h;
         drawn = h.drawn;
         begun = h.begun;
@@ -215,7 +228,7 @@ module _ {V : Type 0} (a : Alone) (before now : ℕ) (held then : Contents) (k :
   commit_might none h is up idle early here live own room w =
       let acts : List Act = act.Decided stamp_at [] ∷ act.Released t ∷ [] in
       let x : Answer = told_answer (Some (reply.Committed stamp_at)) acts in
-      let s = commit_stepped x h is up idle early here live own room w.cells w.notes refl in
+      let s = commit_stepped x (new_blocks held.cells l.part.intents.puts) refl h is up idle early here live own room w.cells w.notes refl in
       record {
         entry = entry_of (event.Call turn.client k.epoch turn.number (call.Finish t true)) x;
         event = refl;
@@ -243,6 +256,7 @@ halted_as a m held then k v ds is h =
       epoch = h.epoch;
       clock = h.clock;
       cells = λ e. absurd (never e);
+      sized = h.sized;
       notes = λ e. absurd (never e);
       places = h.places;
       sessions = h.sessions;

@@ -82,6 +82,7 @@ hello_stepped a before now held k client name x h le up first is =
         epoch = h.epoch;
         clock = h.clock;
         cells = h.cells;
+        sized = h.sized;
         notes = h.notes;
         places = places_set k.sessions client w h.places;
         sessions = subst (λ (n : ℕ). (c : ℕ) → cond {A = Option Session} (c == client) (Some (record { who = name; last = 1; reply = reply.Welcome n })) (a.sessions c) ≡ session_at (with_session k.sessions client w) c) (sym h.epoch)
@@ -167,6 +168,7 @@ module _ {V : Type 0} (a : Alone) (held : Contents) (k : ServerState V) (client 
         epoch = h.epoch;
         clock = h.clock;
         cells = h.cells;
+        sized = h.sized;
         notes = h.notes;
         places = places_set k.sessions client counted h.places;
         sessions = sessions_as a.sessions k.sessions client counted h.sessions h.places le;
@@ -220,7 +222,9 @@ module _ {V : Type 0} (a : Alone) (held : Contents) (k : ServerState V) (client 
         held = λ r. sym (same begun_trans r ∙ none_held a.holder.cells k.locks.held (a.locked begun_trans) begun_trans (map.get k.lives begun_trans) (a.holder.lives begun_trans) new (h.lives begun_trans) r);
         opens = tt;
         counts = subst (AreCountsOf a.holder.cells []) (sym idle) (counts_begin a.holder.cells);
-        covered = tt;
+        within = tt;
+        intended = λ q f m in_file is. (let wrong : None ≡ Some m = is in cc);
+        sized = tt;
         count = refl;
         known = λ r. refl;
       }) u)
@@ -277,6 +281,7 @@ module _ {V : Type 0} (a : Alone) (held : Contents) (k : ServerState V) (client 
         epoch = h.epoch;
         clock = ap (λ (n : ℕ). max n seen.ts) h.clock;
         cells = h.cells;
+        sized = h.sized;
         notes = h.notes;
         places = places_set k.sessions client counted h.places;
         sessions = subst (λ (t : TransId). (c : ℕ) → cond {A = Option Session} (c == client) (Some (record w { last = number; reply = reply.Begun t })) (a.sessions c) ≡ session_at (with_session k.sessions client counted) c) (sym next)

@@ -92,6 +92,7 @@ module _ {V : Type 0} (a : Alone) (held : Contents) (k : ServerState V) where
     epoch = h.epoch;
     clock = h.clock;
     cells = h.cells;
+    sized = h.sized;
     notes = h.notes;
     places = places_set k.sessions turn.client (session_then turn r) h.places;
     sessions = sessions_as a.sessions k.sessions turn.client (session_then turn r) h.sessions h.places is.client;
@@ -142,6 +143,7 @@ module _ {V : Type 0} (a : Alone) (before now : ℕ) (held : Contents) (k : Serv
     epoch = h.epoch;
     clock = h.clock;
     cells = h.cells;
+    sized = h.sized;
     notes = h.notes;
     places = places_set k.sessions turn.client (session_then turn (reply.Refused (refusal.Aborted c))) h.places;
     sessions = sessions_as a.sessions k.sessions turn.client (session_then turn (reply.Refused (refusal.Aborted c))) h.sessions h.places is.client;
@@ -257,6 +259,7 @@ module _ {V : Type 0} (a : Alone) (before now : ℕ) (held : Contents) (k : Serv
         epoch = h.epoch;
         clock = h.clock;
         cells = h.cells;
+        sized = h.sized;
         notes = h.notes;
         places = now_as.places;
         sessions = now_as.sessions;
@@ -296,6 +299,7 @@ module _ {V : Type 0} (a : Alone) (before now : ℕ) (held : Contents) (k : Serv
           epoch = h.epoch;
           clock = h.clock;
           cells = h.cells;
+          sized = h.sized;
           notes = h.notes;
           places = h.places;
           sessions = h.sessions;
@@ -331,6 +335,7 @@ module _ {V : Type 0} (a : Alone) (before now : ℕ) (held : Contents) (k : Serv
       epoch = h.epoch;
       clock = h.clock;
       cells = h.cells;
+      sized = h.sized;
       notes = h.notes;
       places = h.places;
       sessions = h.sessions;

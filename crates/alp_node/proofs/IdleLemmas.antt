@@ -203,6 +203,7 @@ idle_stepped a before now held k client epoch number c x h up idle so =
         epoch = h.epoch;
         clock = h.clock;
         cells = h.cells;
+        sized = h.sized;
         notes = h.notes;
         places = h.places;
         sessions = h.sessions;

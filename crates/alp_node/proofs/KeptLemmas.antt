@@ -36,7 +36,7 @@ use Rattle.alp_node.proofs.MapLemmas.{session_kept}
 pub alike_under : (cells : Cells) (locks new : Holders) (rs : List Resource) (t : TransId) (l : Option Live) (life : Option Life) → ((r : Resource) → holding new t r ≡ holding locks t r) → IsAlike cells locks rs t l life → IsAlike cells new rs t l life
 alike_under cells locks new rs t None None same h = λ r. same r ∙ h r
 alike_under cells locks new rs t (Some l) (Some life) same h =
-    record { client = h.client; who = h.who; intents = h.intents; own = h.own; held = λ r. h.held r ∙ sym (same r); opens = h.opens; counts = h.counts; covered = h.covered; count = h.count; known = h.known }
+    record { client = h.client; who = h.who; intents = h.intents; own = h.own; held = λ r. h.held r ∙ sym (same r); opens = h.opens; counts = h.counts; within = h.within; intended = h.intended; sized = h.sized; count = h.count; known = h.known }
 alike_under cells locks new rs t None (Some life) same h = absurd h
 alike_under cells locks new rs t (Some l) None same h = absurd h
 
@@ -123,6 +123,7 @@ as_under a held k locks same h = record {
   epoch = h.epoch;
   clock = h.clock;
   cells = h.cells;
+  sized = h.sized;
   notes = h.notes;
   places = h.places;
   sessions = h.sessions;
@@ -150,6 +151,7 @@ as_with a held then k v same h = subst (λ (x : Contents). IsAs a x (record k { 
   epoch = h.epoch;
   clock = h.clock;
   cells = h.cells;
+  sized = h.sized;
   notes = h.notes;
   places = h.places;
   sessions = h.sessions;

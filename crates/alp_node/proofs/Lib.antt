@@ -1,3 +1,4 @@
+pub mod BlockSets
 pub mod MapLemmas
 pub mod ReadyLemmas
 pub mod SeatLemmas
@@ -11,6 +12,13 @@ pub mod KeptLemmas
 pub mod EndLemmas
 pub mod StandingLemmas
 pub mod FinishLemmas
+pub mod KeysOnce
+pub mod EaseLemmas
+pub mod EasedKeys
+pub mod EaseCount
+pub mod EaseAlong
+pub mod EaseBlocks
+pub mod EaseLaw
 pub mod SpaceLemmas
 pub mod LiveSums
 pub mod WithinLemmas
@@ -22,10 +30,10 @@ pub mod StepLemmas
 pub mod IdleLemmas
 pub mod CommitLemmas
 pub mod CallLemmas
+pub mod UnderLemmas
 pub mod IdLemmas
 pub mod ServedLemmas
 pub mod ApartLemmas
-pub mod FileLockLemmas
 pub mod OpenLemmas
 pub mod BehindLemmas
 pub mod AnswerLemmas
@@ -33,6 +41,8 @@ pub mod MadeLemmas
 pub mod ClosedLemmas
 pub mod LookLemmas
 pub mod LockLemmas
+pub mod PageLemmas
+pub mod RequestLemmas
 pub mod AskLemmas
 pub mod ConflictLemmas
 pub mod GrantLemmas

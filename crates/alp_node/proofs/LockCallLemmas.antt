@@ -50,7 +50,6 @@ use Rattle.alp_node.specs.declared.lock_counts.LockCounts.{LockCounts}
 use Rattle.alp_node.specs.declared.server_state.ServerState.{ServerState}
 use Rattle.alp_node.specs.declared.served.Standing.TheVariants as standing
 use Rattle.alp_node.specs.declared.sessions.Turn.{Turn}
-use Rattle.alp_node.proofs.AskLemmas.{asks_right}
 use Rattle.alp_node.proofs.CallLemmas.{sees}
 use Rattle.alp_node.proofs.ConflictLemmas.{least_holder, none_risen, rises_as}
 use Rattle.alp_node.proofs.CountedLemmas.{IsCountRefusal}
@@ -77,20 +76,21 @@ acts_caused before now allowance t ns = go (length ns == 0)
     go false = tt
 
 -- a call that asks for locks waits for none
-pub asks_choice : (m : View) (own : Own) (c : Call) → IsServedCall c → (choice_of c ≡ Some choice.Fail) ⊎ (asks_of m own c ≡ [])
-asks_choice m own (call.CreateFile t start x) is = inl (ap (λ y. Some y) is)
-asks_choice m own (call.OpenFile t f a mode x) is = inl (ap (λ y. Some y) is.1)
-asks_choice m own (call.CloseFile t n) is = inr refl
-asks_choice m own (call.DeleteFile t n x) is = inl (ap (λ y. Some y) is)
-asks_choice m own (call.ReadPages t n r mode x) is = inl (ap (λ y. Some y) is.1)
-asks_choice m own (call.WritePages t n r pages x) is = inl (ap (λ y. Some y) is.1)
-asks_choice m own (call.SetSize t n size x) is = inl (ap (λ y. Some y) is)
-asks_choice m own (call.ReadProps t n) is = inr refl
-asks_choice m own (call.WriteProps t n change x) is = inl (ap (λ y. Some y) is)
-asks_choice m own (call.ReadOwner t name x) is = inl (ap (λ y. Some y) is)
-asks_choice m own (call.MakeOwner t name quota create x) is = inl (ap (λ y. Some y) is)
-asks_choice m own (call.SetQuota t name quota x) is = inl (ap (λ y. Some y) is)
-asks_choice m own c is = absurd is
+pub asks_choice : (held : Holding) (m : View) (own : Own) (c : Call) → IsServedCall c → (choice_of c ≡ Some choice.Fail) ⊎ (asks_of held m own c ≡ [])
+asks_choice held m own (call.CreateFile t start x) is = inl (ap (λ y. Some y) is)
+asks_choice held m own (call.OpenFile t f a mode x) is = inl (ap (λ y. Some y) is)
+asks_choice held m own (call.CloseFile t n) is = inr refl
+asks_choice held m own (call.DeleteFile t n x) is = inl (ap (λ y. Some y) is)
+asks_choice held m own (call.ReadPages t n r mode x) is = inl (ap (λ y. Some y) is)
+asks_choice held m own (call.WritePages t n r pages x) is = inl (ap (λ y. Some y) is.1)
+asks_choice held m own (call.LockPages t n r mode x) is = inl (ap (λ y. Some y) is)
+asks_choice held m own (call.SetSize t n size x) is = inl (ap (λ y. Some y) is)
+asks_choice held m own (call.ReadProps t n) is = inr refl
+asks_choice held m own (call.WriteProps t n change x) is = inl (ap (λ y. Some y) is)
+asks_choice held m own (call.ReadOwner t name x) is = inl (ap (λ y. Some y) is)
+asks_choice held m own (call.MakeOwner t name quota create x) is = inl (ap (λ y. Some y) is)
+asks_choice held m own (call.SetQuota t name quota x) is = inl (ap (λ y. Some y) is)
+asks_choice held m own c is = absurd is
 
 -- nobody is in the way of nothing
 none_asked_free : (locks : Holders) (t : TransId) (holder : TransId) → blocker locks t (risen (held_of locks t) []) ≡ Some holder → ⊥
@@ -102,7 +102,7 @@ none_asked_free locks t holder e =
 -- ---- what it asks
 
 module _ {V : Type 0} (a : Alone) (held : Contents) (k : ServerState V) (t : TransId) (l : Live) (c : Call) (ns : List Need) (life : Life) (h : IsAs a held k) (up : k.is_down ≡ false) (mine : IsLife a.holder.cells k.locks.held (a.locked t) t l life)
-    (served : IsServedCall c) (told : ns ≡ asks_of (seen held.cells l.part) (own_of l.part) c) where
+    (served : IsServedCall c) (told : ns ≡ asks_of (holding k.locks.held t) (seen held.cells l.part) (own_of l.part) c) where
   -- how many resources it has locked then
   abbrev pub counts : LockCounts
   counts = counts_then l.locks (holding k.locks.held t) ns c
@@ -110,20 +110,17 @@ module _ {V : Type 0} (a : Alone) (held : Contents) (k : ServerState V) (t : Tra
   abbrev pub locked_then : List Resource
   locked_then = with_resources (request_in a.holder c (Some life)) (a.locked t)
 
-  told_so : asks_of (view_in a.holder life) life.own c ≡ ns
-  told_so = (λ i. asks_of (sym (sees a held k t (a.locked t) l life h up mine) i) (sym mine.own i) c) ∙ sym told
-
   -- what the journal's laws ask is what is asked of the table
   pub lock_request : request_in a.holder c (Some life) ≡ ns
-  lock_request = asks_right life.held (view_in a.holder life) life.own c served mine.opens ∙ told_so
+  lock_request = (λ i. asks_of (λ q. mine.held q i) (sym (sees a held k t (a.locked t) l life h up mine) i) (sym mine.own i) c) ∙ sym told
 
   -- and it waits for none of it
   pub lock_choice : (choice_of c ≡ Some choice.Fail) ⊎ (ns ≡ [])
-  lock_choice = go (asks_choice (view_in a.holder life) life.own c served)
+  lock_choice = go (asks_choice life.held (view_in a.holder life) life.own c served)
     where
-      go : (choice_of c ≡ Some choice.Fail) ⊎ (asks_of (view_in a.holder life) life.own c ≡ []) → (choice_of c ≡ Some choice.Fail) ⊎ (ns ≡ [])
+      go : (choice_of c ≡ Some choice.Fail) ⊎ (asks_of life.held (view_in a.holder life) life.own c ≡ []) → (choice_of c ≡ Some choice.Fail) ⊎ (ns ≡ [])
       go (inl fails) = inl fails
-      go (inr none) = inr (sym told_so ∙ none)
+      go (inr none) = inr (sym lock_request ∙ none)
 
   pub lock_asks : asks a.holder life c ≡ not (length (risen (held_of k.locks.held t) ns) == 0)
   lock_asks =
@@ -173,7 +170,7 @@ module _ {V : Type 0} (a : Alone) (before now : ℕ) (held : Contents) (k : Serv
 
   -- it would leave too many locks
   pub locks_stepped : (f : Refusal) (x : Handed) → IsAs a held k → 0 < k.epoch → IsTurn k.sessions turn → k.is_down ≡ false → map.get k.lives t ≡ Some l → l.client ≡ turn.client → IsWithin k.sizes l → IsServedCall c
-      → ns ≡ asks_of (seen held.cells l.part) (own_of l.part) c → shape_of k.server k.epoch k.given (length l.part.opens.items) c ≡ None → too_locked k.sizes.area l.part.counts.cells then_counts.made ≡ Some f → file_trans c ≡ Some t
+      → ns ≡ asks_of (holding k.locks.held t) (seen held.cells l.part) (own_of l.part) c → shape_of k.server k.epoch k.given (length l.part.opens.items) c ≡ None → too_locked k.sizes.area l.part.counts.cells then_counts.made ≡ Some f → file_trans c ≡ Some t
       → x ≡ refused_answer f []
       → Stepped a before now held (record k { sessions = counted_in k.sessions turn (reply.Refused f) }) (event.Call turn.client k.epoch turn.number c) x
   locks_stepped f x h raised is up there own within served told shape many of so =
@@ -189,7 +186,7 @@ module _ {V : Type 0} (a : Alone) (before now : ℕ) (held : Contents) (k : Serv
 
   -- another is in its way
   pub conflict_stepped : (holder : TransId) (x : Handed) → IsAs a held k → 0 < k.epoch → IsTurn k.sessions turn → k.is_down ≡ false → map.get k.lives t ≡ Some l → l.client ≡ turn.client → IsServedCall c
-      → ns ≡ asks_of (seen held.cells l.part) (own_of l.part) c → shape_of k.server k.epoch k.given (length l.part.opens.items) c ≡ None → too_locked k.sizes.area l.part.counts.cells then_counts.made ≡ None → file_trans c ≡ Some t → IsSound k.locks
+      → ns ≡ asks_of (holding k.locks.held t) (seen held.cells l.part) (own_of l.part) c → shape_of k.server k.epoch k.given (length l.part.opens.items) c ≡ None → too_locked k.sizes.area l.part.counts.cells then_counts.made ≡ None → file_trans c ≡ Some t → IsSound k.locks
       → blocker k.locks.held t (plan_of k.locks t ns).rises ≡ Some holder
       → x ≡ refused_answer (refusal.LockConflict holder) []
       → Stepped a before now held (record k { sessions = counted_in k.sessions turn (reply.Refused (refusal.LockConflict holder)) }) (event.Call turn.client k.epoch turn.number c) x

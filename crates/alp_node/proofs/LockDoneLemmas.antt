@@ -14,7 +14,7 @@ use Rattle.alp_modes.specs.declared.Mode.TheVariants.{Write}
 use Rattle.alp_base.specs.Orders.{resource_cmp}
 use Rattle.alp_files.specs.Holdings.{Holding, join_held, covers_held, held_by, DoAgree}
 use Rattle.alp_files.proofs.HoldingLemmas.{join_held-assoc, held_by-append, agree-turned}
-use Rattle.alp_files.proofs.CoverLemmas.{granted-holds, joined-more, holds-each-more}
+use Rattle.alp_files.proofs.CoverLemmas.{granted-holds, granted-intended, joined-more}
 use Rattle.alp_files.specs.declared.call.Call.{Call}
 use Rattle.alp_files.specs.declared.call.Call.TheVariants as call
 use Rattle.alp_files.specs.declared.reply.Reply.{Reply}
@@ -55,13 +55,13 @@ use Rattle.alp_journal.proofs.AloneCalls.{PerformOwes, performed_leads, granted_
 use Rattle.alp_journal.specs.Moves.{is_stop}
 use Rattle.alp_node.specs.Asks.{is_of_given, AreGiven, asks_of, asks_given, makes_file, plan_of, with_plan, acts_of}
 use Rattle.alp_node.specs.Calls.{IsServedCall, given_of, next_file}
-use Rattle.alp_node.specs.Covers.{AreCovered, AreHeld}
+use Rattle.alp_node.specs.Covers.{AreHeld}
 use Rattle.alp_node.specs.Rooms.{IsRoomOf, locks_given}
 use Rattle.alp_node.specs.Shapes.{shape_of, counts_then, too_locked}
 use Rattle.alp_node.specs.Totals.{totals_of}
 use Rattle.alp_node.specs.declared.lock_counts.LockCounts.{LockCounts}
 use Rattle.alp_node.specs.Dead.{is_dead}
-use Rattle.alp_node.specs.ServerState.{IsAs, IsReady, IsAlike, IsLife, IsLocked as IsOpenLocked}
+use Rattle.alp_node.specs.ServerState.{IsAs, IsReady, IsAlike, IsLife}
 use Rattle.alp_node.specs.Standings.{standing_of}
 use Rattle.alp_node.specs.Steps.{Stepped, IsTurn, IsOf, counted_in, seen_in, told_answer}
 use Rattle.alp_node.specs.declared.answer.Answer.{Answer as Handed}
@@ -69,14 +69,13 @@ use Rattle.alp_node.specs.declared.lives.Live.{Live}
 use Rattle.alp_node.specs.declared.server_state.ServerState.{ServerState}
 use Rattle.alp_node.specs.declared.served.Standing.TheVariants as standing
 use Rattle.alp_node.specs.declared.sessions.Turn.{Turn}
-use Rattle.alp_node.proofs.AnswerLemmas.{Keeps, call_keeps}
-use Rattle.alp_node.proofs.ApartLemmas.{covered_both, covered_more}
+use Rattle.alp_node.proofs.UnderLemmas.{under_more, under_call, edits_sized}
 use Rattle.alp_node.proofs.CountedLemmas.{IsCountRefusal, refused_is, same_counts, same_passes}
 use Rattle.alp_node.proofs.LockCountLemmas.{held_then, count_made, none_more}
 use Rattle.alp_node.proofs.RoomLemmas.{refusal_same, allowed_room}
 use Rattle.alp_node.proofs.ShapeLemmas.{shape_given, IsShut, shape_cases, may_lock}
 use Rattle.alp_node.proofs.TotalLemmas.{AreRoomed}
-use Rattle.alp_node.proofs.CallLemmas.{right_as, after_call, locked_more, done_as}
+use Rattle.alp_node.proofs.CallLemmas.{IsUnder, right_as, after_call, done_as}
 use Rattle.alp_node.proofs.ConflictLemmas.{held_elsewhere, would_hold, none_risen, not_empty}
 use Rattle.alp_node.proofs.FinishLemmas.{turn_session}
 use Rattle.alp_node.proofs.GrantLemmas.{free_given, kept_beside, made_locked, asked_below, of_given, next_told, id_given}
@@ -160,7 +159,7 @@ module _ {V : Type 0} (a : Alone) (before now : ℕ) (held : Contents) (k : Serv
   lock_left g = record k { sessions = counted_in k.sessions turn g; given = count_after k.given g; lives = map.insert k.lives t (record l { part = p; locks = locks_given l.locks locks_now (Ok (given_of g [])) }); locks = table_then g; vault = v }
 
   module _ (m : ℕ) (on : Bool) (ready : IsReady m on k) (life : Life) (h : IsAs a held k) (up : k.is_down ≡ false) (is : IsTurn k.sessions turn) (there : map.get k.lives t ≡ Some l) (own : l.client ≡ turn.client) (live : a.holder.lives t ≡ Some life)
-      (mine : IsLife a.holder.cells k.locks.held (a.locked t) t l life) (served : IsServedCall c) (files : AreGiven k.server k.epoch k.given ns) (from : ns ≡ asks_of (seen held.cells l.part) (own_of l.part) c)
+      (mine : IsLife a.holder.cells k.locks.held (a.locked t) t l life) (served : IsServedCall c) (files : AreGiven k.server k.epoch k.given ns) (from : ns ≡ asks_of (holding k.locks.held t) (seen held.cells l.part) (own_of l.part) c)
       (given : Answered true held.cells l.part p l.who (next_file k) c room r) (of : IsRoomOf true held.cells k locks_now.made room)
       (shape : shape_of k.server k.epoch k.given (length l.part.opens.items) c ≡ None) (few : too_locked k.sizes.area l.part.counts.cells locks_now.made ≡ None) (free : blocker k.locks.held t asked.rises ≡ None) where
     abbrev g : Reply
@@ -348,18 +347,12 @@ module _ {V : Type 0} (a : Alone) (before now : ℕ) (held : Contents) (k : Serv
         grants = subst (λ (y : Reply). GrantsFor false (alone a) turn.client c y ts (Some t)) as_given grants;
       }
 
-      more_then : IsMore life.held (with_made under (id_in g))
-      more_then q x covered = joined-more under (needs_made (id_in g)) q x (joined-more life.held (request_in a.holder c (Some life)) q x covered)
-
-      -- each open is locked, and what it changed
-      lock_keeps : Keeps (with_made under (id_in g)) did
-      lock_keeps =
-          call_keeps a.holder.server [] (with_made under (id_in g)) (view_in a.holder life) life.own life.who c g served (locked_more life.held (with_made under (id_in g)) more_then life.own.opens mine.opens)
-          (holds-each-more under (with_made under (id_in g)) (joined-more under (needs_made (id_in g))) (needs_of (view_in a.holder life) life.own c) (granted-holds life.held (needs_of (view_in a.holder life) life.own c)))
-          (λ f e. subst (λ (x : Option FileId). covers_held (with_made under x (Whole f)) Write ≡ true) (sym e) (made_locked under f))
-
-      lock_puts : AreCovered (with_made under (id_in g)) (life.edits ++ did.edits)
-      lock_puts = covered_both (with_made under (id_in g)) life.edits did.edits (covered_more life.held (with_made under (id_in g)) more_then life.edits mine.covered) lock_keeps.covered
+      -- all that it did is under its locks
+      lock_under : IsFormed c → IsUnder (with_made under (id_in g)) did.own (life.edits ++ did.edits)
+      lock_under formed =
+          under_call a.holder.server [] under (view_in a.holder life) life.own life.who c g life.edits (edits_sized a.holder.cells life.edits h.sized mine.sized) formed (granted-holds life.held (needs_of (view_in a.holder life) life.own c))
+          (under_more life.held under (joined-more life.held (request_in a.holder c (Some life))) (granted-intended life.held (needs_of (view_in a.holder life) life.own c) mine.intended) life.own life.edits
+          (record { opens = mine.opens; within = mine.within; intended = mine.intended; sized = mine.sized }))
 
       -- nobody held the new file
       new_free : (f : FileId) → id_in g ≡ Some f → under (Whole f) ≡ None
@@ -377,15 +370,14 @@ module _ {V : Type 0} (a : Alone) (before now : ℕ) (held : Contents) (k : Serv
           let counted : length (with_resources (needs_made (Some f)) rs) ≡ length rs + 1 = count_made under f rs known (new_free f e) in
           omega (arith, counted, count, one)
 
-      lock_as : (then : Contents) → then ≡ held → (x : Holding) → under ≡ x → (rs : List Resource) → length rs ≡ locks_now.asked → AreHeld under rs → IsQuiet (with_call a turn.client turn.number told t life c g x rs)
+      lock_as : IsFormed c → (then : Contents) → then ≡ held → (x : Holding) → under ≡ x → (rs : List Resource) → length rs ≡ locks_now.asked → AreHeld under rs → IsQuiet (with_call a turn.client turn.number told t life c g x rs)
           → IsAs (after_call a held k turn t l p c g (locks_given l.locks locks_now (Ok (given_of g []))) (table_then g) v life x rs told) then (lock_left g)
-      lock_as then same x so rs count known quiet =
+      lock_as formed then same x so rs count known quiet =
           let counts : p.counts ≡ given.after = subst (StandsAfter l.part p given.after) passes given.stands in
           done_as a held k turn t l p c g (locks_given l.locks locks_now (Ok (given_of g []))) (table_then g) v life x rs then h same is up there live mine given.ids lock_done
           (λ q. ap (λ (y : Holding). with_made y (id_in g) q) (sym so) ∙ then_holds q) (λ u q away. taken_other k.locks (plan g) refl u q away)
-          (subst (λ (y : Holding). AllByRecursion (IsOpenLocked (with_made y (id_in g))) did.own.opens) so lock_keeps.opens)
+          (subst (λ (y : Holding). IsUnder (with_made y (id_in g)) did.own (life.edits ++ did.edits)) so (lock_under formed))
           (subst (AreCountsOf a.holder.cells (life.edits ++ did.edits)) (sym counts) lock_after)
-          (subst (λ (y : Holding). AreCovered (with_made y (id_in g)) (life.edits ++ did.edits)) so lock_puts)
           (kept_count l.locks locks_now g rs count (made_count rs count known))
           (subst (λ (y : Holding). AreHeld (with_made y (id_in g)) (with_resources (needs_made (id_in g)) rs)) so (held_then under (needs_made (id_in g)) rs known))
           (subst (AreRoomed k.sizes a.holder.cells (totals_of k.lives) l.part.counts) (sym counts) (allowed_room a held k h up locks_now.made room of t l given.after there passes)) quiet
@@ -399,7 +391,7 @@ module _ {V : Type 0} (a : Alone) (before now : ℕ) (held : Contents) (k : Serv
           let leads : Leads false a (call_entry a turn.client turn.number told c g []) (with_call a turn.client turn.number told t life c g life.held (a.locked t)) =
           performed_leads a turn.client turn.number told t life c g false (lock_owes of_trans formed life.held still [] (grants_none none)) in
           stepped_so a before now held then k (lock_left g) turn.client turn.number told c false g [] (with_call a turn.client turn.number told t life c g life.held (a.locked t)) x so h leads
-          (lock_as then same life.held still (a.locked t) (ap (λ (rs : List Resource). length rs) (sym (still_locked still)) ∙ count_then) (subst (AreHeld under) (still_locked still) known_then) leads.quiet) (λ e. cc)
+          (lock_as formed then same life.held still (a.locked t) (ap (λ (rs : List Resource). length rs) (sym (still_locked still)) ∙ count_then) (subst (AreHeld under) (still_locked still) known_then) leads.quiet) (λ e. cc)
           (stands_timely a.holder.clock (seen_in (event.Call turn.client k.epoch turn.number c)) k.clock h.clock)
 
       granted_steps : (x : Handed) (then : Contents) → then ≡ held → file_trans c ≡ Some t → IsFormed c → (n : Need) (more : List Need) → asked.rises ≡ n ∷ more
@@ -409,7 +401,7 @@ module _ {V : Type 0} (a : Alone) (before now : ℕ) (held : Contents) (k : Serv
           let leads : Leads false a (call_entry a turn.client turn.number told c g (act.Granted t ∷ [])) (with_call a turn.client turn.number told t life c g under rs) =
           granted_leads a turn.client turn.number told t life c g false lock_free (lock_owes of_trans formed under refl (t ∷ []) (grants_some n more some)) in
           stepped_so a before now held then k (lock_left g) turn.client turn.number told c false g (act.Granted t ∷ []) (with_call a turn.client turn.number told t life c g under rs) x so h leads
-          (lock_as then same under refl rs count_then known_then leads.quiet) (λ e. cc) (stands_timely a.holder.clock (seen_in (event.Call turn.client k.epoch turn.number c)) k.clock h.clock)
+          (lock_as formed then same under refl rs count_then known_then leads.quiet) (λ e. cc) (stands_timely a.holder.clock (seen_in (event.Call turn.client k.epoch turn.number c)) k.clock h.clock)
 
       lock_steps : (x : Handed) (then : Contents) → then ≡ held → file_trans c ≡ Some t → IsFormed c → x ≡ told_answer (Some g) (acts_of t asked.rises) → Steps then x
       lock_steps x then same of_trans formed so = go asked.rises refl

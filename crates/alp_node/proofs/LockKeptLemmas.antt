@@ -1,19 +1,18 @@
 -- a file call that has the locks that it asked, and that the counts refuse: its part keeps the locks, and nothing else comes about
 use Rattle.std.specs.Prelude.{cond, Bool, true, false, ◌==◌, Option, None, Some}
-use Rattle.std.specs.List.{AllByRecursion}
 use Rattle.std.specs.FinMap as map
 use Rattle.std.proofs.Common.{◌≡◌, ℕ, List, [], ◌∷◌, length, refl, sym, ◌∙◌, ap, subst}
 use Rattle.alp_base.specs.declared.ids.TransId.{TransId}
 use Rattle.alp_base.specs.declared.key.Resource.{Resource}
 use Rattle.alp_files.specs.Holdings.{Holding}
-use Rattle.alp_files.proofs.CoverLemmas.{joined-more}
+use Rattle.alp_files.proofs.CoverLemmas.{joined-more, granted-intended}
 use Rattle.alp_files.specs.declared.call.Call.{Call}
 use Rattle.alp_files.specs.declared.reply.Reply.{Reply}
 use Rattle.alp_files.specs.declared.reply.Reply.TheVariants as reply
 use Rattle.alp_files.specs.declared.refusal.Refusal.{Refusal}
-use Rattle.alp_files.specs.Locks.{Need, IsMore, IsFormed}
+use Rattle.alp_files.specs.Locks.{Need, IsMore, IsFormed, needs_of}
 use Rattle.alp_queue.specs.declared.waiter.Waiter.{Waiter}
-use Rattle.alp_locks.specs.Tables.{Table}
+use Rattle.alp_locks.specs.Tables.{Table, holding}
 use Rattle.alp_locks.specs.Asks.{blocker}
 use Rattle.alp_trans.specs.declared.part.Part.{Part}
 use Rattle.alp_trans.specs.Counting.{AreCountsOf}
@@ -30,25 +29,25 @@ use Rattle.alp_journal.specs.Counts.{lock_set, request_in}
 use Rattle.alp_journal.proofs.AloneEntries.{counted_as}
 use Rattle.alp_journal.specs.Desk.{Session}
 use Rattle.alp_journal.specs.Desk.{file_trans}
-use Rattle.alp_journal.specs.Holder.{Life, held_for}
+use Rattle.alp_journal.specs.Holder.{Life, view_in, held_for}
 use Rattle.alp_journal.specs.Answers.{IsFileOf, unless_counts}
 use Rattle.alp_journal.specs.Answered.{GrantsFor}
 use Rattle.alp_journal.specs.Alone.{Alone, alone, IsQuiet, Leads}
 use Rattle.alp_journal.proofs.AloneLemmas.{call_entry}
 use Rattle.alp_node.specs.Asks.{AreGiven, asks_of, with_plan, acts_of}
 use Rattle.alp_node.specs.Calls.{IsServedCall, next_file}
-use Rattle.alp_node.specs.Covers.{AreCovered, AreHeld}
+use Rattle.alp_node.specs.Covers.{AreHeld}
 use Rattle.alp_node.specs.Rooms.{IsRoomOf}
 use Rattle.alp_node.specs.Shapes.{shape_of, too_locked}
 use Rattle.alp_node.specs.declared.lock_counts.LockCounts.{LockCounts}
-use Rattle.alp_node.specs.ServerState.{IsAs, IsReady, IsAlike, IsLife, PutNoneBeyond, IsLocked as IsOpenLocked}
+use Rattle.alp_node.specs.ServerState.{IsAs, IsReady, IsAlike, IsLife, PutNoneBeyond}
 use Rattle.alp_node.specs.Steps.{Stepped, IsTurn, counted_in, seen_in, told_answer, refused_answer}
 use Rattle.alp_node.specs.declared.answer.Answer.{Answer as Handed}
 use Rattle.alp_node.specs.declared.lives.Live.{Live}
 use Rattle.alp_node.specs.declared.server_state.ServerState.{ServerState}
 use Rattle.alp_node.specs.declared.sessions.Turn.{Turn}
-use Rattle.alp_node.proofs.ApartLemmas.{covered_more}
-use Rattle.alp_node.proofs.CallLemmas.{locked_more}
+use Rattle.alp_node.proofs.CallLemmas.{IsUnder}
+use Rattle.alp_node.proofs.UnderLemmas.{under_more}
 use Rattle.alp_node.proofs.CountedLemmas.{IsCountRefusal, refused_is}
 use Rattle.alp_node.proofs.ShapeLemmas.{count_none_done}
 use Rattle.alp_node.proofs.TotalLemmas.{same_room}
@@ -85,7 +84,7 @@ module _ {V : Type 0} (a : Alone) (before now : ℕ) (held : Contents) (k : Serv
   left = lock_left a before now held k turn t l p c ns room r v
 
   module _ (m : ℕ) (on : Bool) (ready : IsReady m on k) (life : Life) (h : IsAs a held k) (up : k.is_down ≡ false) (is : IsTurn k.sessions turn) (there : map.get k.lives t ≡ Some l) (own : l.client ≡ turn.client) (live : a.holder.lives t ≡ Some life)
-      (mine : IsLife a.holder.cells k.locks.held (a.locked t) t l life) (served : IsServedCall c) (files : AreGiven k.server k.epoch k.given ns) (from : ns ≡ asks_of (seen held.cells l.part) (own_of l.part) c) (given : Answered true held.cells l.part p l.who (next_file k) c room r) (of : IsRoomOf true held.cells k locks_asked.made room)
+      (mine : IsLife a.holder.cells k.locks.held (a.locked t) t l life) (served : IsServedCall c) (files : AreGiven k.server k.epoch k.given ns) (from : ns ≡ asks_of (holding k.locks.held t) (seen held.cells l.part) (own_of l.part) c) (given : Answered true held.cells l.part p l.who (next_file k) c room r) (of : IsRoomOf true held.cells k locks_asked.made room)
       (shape : shape_of k.server k.epoch k.given (length l.part.opens.items) c ≡ None) (few : too_locked k.sizes.area l.part.counts.cells locks_asked.made ≡ None) (free : blocker k.locks.held t wanted.rises ≡ None)
       (f : Refusal) (full : refused_for room l.part.counts given.after ≡ Some f) where
     abbrev would : Holding
@@ -118,6 +117,13 @@ module _ {V : Type 0} (a : Alone) (before now : ℕ) (held : Contents) (k : Serv
     count : length resources ≡ locks_asked.asked
     count = count_then a before now held k turn t l p c ns room r v m on ready life h up is there own live mine served files from given of shape few free
 
+    -- what it did is under them too
+    under_as : (x : Holding) → would ≡ x → IsUnder x life.own life.edits
+    under_as x so =
+        subst (λ (y : Holding). IsUnder y life.own life.edits) so
+        (under_more life.held would more (granted-intended life.held (needs_of (view_in a.holder life) life.own c) mine.intended) life.own life.edits
+        (record { opens = mine.opens; within = mine.within; intended = mine.intended; sized = mine.sized }))
+
     -- the part with the locks
     life_kept : (x : Holding) → would ≡ x → (rs : List Resource) → length rs ≡ locks_asked.asked → AreHeld would rs → IsLife a.holder.cells with_asked.held rs t live_now (record life { held = x })
     life_kept x so rs many all = record {
@@ -126,9 +132,11 @@ module _ {V : Type 0} (a : Alone) (before now : ℕ) (held : Contents) (k : Serv
       intents = stands.0 ∙ mine.intents;
       own = stands.1 ∙ mine.own;
       held = λ q. ap (λ (y : Holding). y q) (sym so) ∙ first_held a before now held k turn t l p c ns room r v m on ready life h up is there own live mine served files from given of shape few free q;
-      opens = subst (λ (y : Holding). AllByRecursion (IsOpenLocked y) life.own.opens) so (locked_more life.held would more life.own.opens mine.opens);
+      opens = (under_as x so).opens;
       counts = subst (AreCountsOf a.holder.cells life.edits) (sym stands.2) mine.counts;
-      covered = subst (λ (y : Holding). AreCovered y life.edits) so (covered_more life.held would more life.edits mine.covered);
+      within = (under_as x so).within;
+      intended = (under_as x so).intended;
+      sized = mine.sized;
       count = sym many;
       known = subst (λ (y : Holding). AreHeld y rs) so all;
     }
@@ -142,6 +150,7 @@ module _ {V : Type 0} (a : Alone) (before now : ℕ) (held : Contents) (k : Serv
       epoch = h.epoch;
       clock = h.clock;
       cells = h.cells;
+      sized = h.sized;
       notes = h.notes;
       places = h.places;
       sessions = h.sessions;
@@ -188,6 +197,7 @@ module _ {V : Type 0} (a : Alone) (before now : ℕ) (held : Contents) (k : Serv
           epoch = h.epoch;
           clock = h.clock;
           cells = h.cells;
+          sized = h.sized;
           notes = h.notes;
           places = s.places;
           sessions = s.sessions;
@@ -236,7 +246,7 @@ module _ {V : Type 0} (a : Alone) (before now : ℕ) (held : Contents) (k : Serv
 
   -- ---- either
 
-  pub lock_stepped : (m : ℕ) (on : Bool) (x : Handed) (then : Contents) → IsReady m on k → IsAs a held k → k.is_down ≡ false → then ≡ held → IsTurn k.sessions turn → map.get k.lives t ≡ Some l → l.client ≡ turn.client → IsServedCall c → AreGiven k.server k.epoch k.given ns → ns ≡ asks_of (seen held.cells l.part) (own_of l.part) c
+  pub lock_stepped : (m : ℕ) (on : Bool) (x : Handed) (then : Contents) → IsReady m on k → IsAs a held k → k.is_down ≡ false → then ≡ held → IsTurn k.sessions turn → map.get k.lives t ≡ Some l → l.client ≡ turn.client → IsServedCall c → AreGiven k.server k.epoch k.given ns → ns ≡ asks_of (holding k.locks.held t) (seen held.cells l.part) (own_of l.part) c
       → shape_of k.server k.epoch k.given (length l.part.opens.items) c ≡ None → too_locked k.sizes.area l.part.counts.cells locks_asked.made ≡ None → file_trans c ≡ Some t → IsFormed c
       → Answered true held.cells l.part p l.who (next_file k) c room r → IsRoomOf true held.cells k locks_asked.made room → x ≡ told_answer (Some r) (acts_of t wanted.rises) → blocker k.locks.held t wanted.rises ≡ None
       → Stepped a before now then (left r) (event.Call turn.client k.epoch turn.number c) x

@@ -19,7 +19,7 @@ use Rattle.alp_files.specs.declared.refusal.Refusal.TheVariants as refusal
 use Rattle.alp_files.specs.declared.refusal.ListName.TheVariants as lists
 use Rattle.alp_files.specs.Cells.{View, same_name, owner_in, props_in}
 use Rattle.alp_files.specs.Edits.{Put}
-use Rattle.alp_files.specs.Act.{Own, Answer, Look, Ask, Say, run, answer, id_in, open_at, opened, unless, refused, replied, on_open, on_change, owner_of, props_of, is_admin, is_over, quota_exceeded, charge_put, access_tests, close_file, delete_file, page_past, page_puts, mark_put, read_pages, ask_pages, write_pages, put_props, cut_file, grow_file, set_size, move_tests, move_file, write_props}
+use Rattle.alp_files.specs.Act.{Own, Answer, Look, Ask, Say, run, answer, id_in, open_at, opened, unless, refused, replied, on_open, on_change, owner_of, props_of, is_admin, is_over, quota_exceeded, charge_put, access_tests, close_file, delete_file, page_past, page_puts, mark_put, read_pages, ask_pages, write_pages, lock_pages, is_changing, put_props, cut_file, grow_file, set_size, move_tests, move_file, write_props}
 use Rattle.alp_node.specs.Asks.{makes_file}
 use Rattle.alp_node.specs.Calls.{IsServedCall}
 use Rattle.alp_node.proofs.AnswerLemmas.{by_tests, by_open, by_change, by_pages}
@@ -61,6 +61,10 @@ module _ (m : View) (w : Own) where
 
   write_none : (r : Run) (ps : List (List ℕ)) (o : Open) (p : Props) → MakesNone (run m (write_pages w r ps o p))
   write_none r ps o p = none_tested (page_past r p) (replied w reply.Plain (page_puts o.file r.first ps ++ mark_put o.file p (r.first + r.count))) (none_given reply.Plain refl)
+
+  lock_none : (r : Run) (b : Bool) (x : Option Open) → MakesNone (run m (cond {A = Look} b (on_change w x (lock_pages w r)) (on_open w x (lock_pages w r))))
+  lock_none r true x = none_change x (lock_pages w r) (λ o p. none_tested (page_past r p) (replied w reply.Plain []) (none_given reply.Plain refl))
+  lock_none r false x = none_open x (lock_pages w r) (λ o p. none_tested (page_past r p) (replied w reply.Plain []) (none_given reply.Plain refl))
 
   grow_none : (size : ℕ) (o : Open) (p : Props) → MakesNone (run m (grow_file w size o p))
   grow_none size o p =
@@ -107,6 +111,7 @@ makes_only server made m w who (call.CloseFile t n) r is none = close_none m w n
 makes_only server made m w who (call.DeleteFile t n choice) r is none = none_change m w (open_at w.opens n) (delete_file w) (λ o p. none_given reply.Plain refl) r
 makes_only server made m w who (call.ReadPages t n run mode choice) r is none = none_open m w (open_at w.opens n) (read_pages w run) (read_none m w run) r
 makes_only server made m w who (call.WritePages t n run pages choice) r is none = none_change m w (open_at w.opens n) (write_pages w run pages) (write_none m w run pages) r
+makes_only server made m w who (call.LockPages t n run mode choice) r is none = lock_none m w run (is_changing mode) (open_at w.opens n) r
 makes_only server made m w who (call.SetSize t n size choice) r is none = none_change m w (open_at w.opens n) (set_size w size) (size_none m w size) r
 makes_only server made m w who (call.ReadProps t n) r is none = none_open m w (open_at w.opens n) (λ o p. Say (replied w (reply.Props p) [])) (λ o p. none_given (reply.Props p) refl) r
 makes_only server made m w who (call.WriteProps t n change choice) r is none = none_change m w (open_at w.opens n) (write_props w who change) (props_none m w who change) r

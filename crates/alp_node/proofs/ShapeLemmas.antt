@@ -7,7 +7,7 @@ use Rattle.std.proofs.Common.{inl, inr, ◌⊎◌, ◌≡◌, ℕ, ◌+◌, ◌<
 use Rattle.alp_base.specs.declared.faults.Sizes.{Sizes}
 use Rattle.alp_base.specs.declared.ids.FileId.{FileId}
 use Rattle.alp_base.specs.declared.ids.TransId.{TransId}
-use Rattle.alp_files.specs.Act.{Own, Answer as Answered, Say, run, open_at, on_open, refused, replied, delete_file, read_pages, write_pages, set_size, write_props}
+use Rattle.alp_files.specs.Act.{Own, Answer as Answered, Say, run, open_at, on_open, is_changing, refused, replied, delete_file, read_pages, write_pages, set_size, write_props}
 use Rattle.alp_files.specs.Locks.{Need, needs_of, needs_on_open, page_needs, mark_needs, size_needs, change_needs}
 use Rattle.alp_files.specs.declared.cell.Props.{Props}
 use Rattle.alp_files.specs.declared.open.Open.{Open}
@@ -53,7 +53,7 @@ use Rattle.alp_node.specs.declared.server_state.ServerState.{ServerState}
 use Rattle.alp_node.specs.declared.served.Standing.TheVariants as standing
 use Rattle.alp_node.specs.declared.sessions.Turn.{Turn}
 use Rattle.alp_node.proofs.CountedLemmas.{IsCountRefusal, over_is, either_is, too_many_is, log_is}
-use Rattle.alp_node.proofs.ClosedLemmas.{EitherOpen, either_open, either_change, close_open, read_on, write_on, size_on, props_on}
+use Rattle.alp_node.proofs.ClosedLemmas.{EitherOpen, either_open, either_change, close_open, lock_open, read_on, write_on, size_on, props_on}
 use Rattle.alp_node.proofs.IdLemmas.{known_file, unknown_file}
 use Rattle.alp_node.proofs.KeptLemmas.{IsLive, live_there}
 use Rattle.alp_node.proofs.ServedLemmas.{first_stepped}
@@ -100,6 +100,7 @@ shape_is server epoch given opens (call.OpenFile t g access mode choice) f e = g
     go false is e = inr (same_refusal f refusal.UnknownFile e, is)
 shape_is server epoch given opens (call.ReadPages t n r mode choice) f e = inl (over_is (nat_lt 16 r.count) (refusal.TooMany what.Run 16) (too_many_is what.Run 16) f e)
 shape_is server epoch given opens (call.WritePages t n r pages choice) f e = inl (over_is (nat_lt 16 r.count) (refusal.TooMany what.Run 16) (too_many_is what.Run 16) f e)
+shape_is server epoch given opens (call.LockPages t n r mode choice) f e = inl (over_is (nat_lt 16 r.count) (refusal.TooMany what.Run 16) (too_many_is what.Run 16) f e)
 shape_is server epoch given opens (call.SetSize t n size choice) f e = inl (over_is (nat_lt 4096 size) (refusal.TooMany what.Pages 4096) (too_many_is what.Pages 4096) f e)
 shape_is server epoch given opens c f e = cc
 
@@ -159,6 +160,7 @@ module _ {V : Type 0} (a : Alone) (held : Contents) (k : ServerState V) (h : IsA
   shape_told (call.OpenFile u g access mode choice) f rest is e = ap (λ (x : Option Refusal). option_or x rest) (open_shape u g access mode choice ∙ e)
   shape_told (call.ReadPages u n r mode choice) f rest is e = first_is (no_run r) _ rest f e
   shape_told (call.WritePages u n r pages choice) f rest is e = first_is (no_run r) _ rest f e
+  shape_told (call.LockPages u n r mode choice) f rest is e = first_is (no_run r) _ rest f e
   shape_told (call.SetSize u n size choice) f rest is e = first_is (no_size size) _ rest f e
   shape_told c f rest is e = cc
 
@@ -196,6 +198,9 @@ module _ {V : Type 0} (a : Alone) (held : Contents) (k : ServerState V) (h : IsA
   shape_cases (call.WritePages u n r pages choice) is e =
       by_open (call.WritePages u n r pages choice) refl (ap (λ (x : Option Refusal). option_or x (open_refusal (alone a) life (call.WritePages u n r pages choice))) e) (λ r. refl)
       (either_change (view_in a.holder life) life.own (open_at life.own.opens n) (λ o p. mark_needs o.file p (r.first + r.count) ++ page_needs o.file r.first r.count Write) (write_pages life.own r pages) (write_on (view_in a.holder life) life.own r pages))
+  shape_cases (call.LockPages u n r mode choice) is e =
+      by_open (call.LockPages u n r mode choice) refl (ap (λ (x : Option Refusal). option_or x (open_refusal (alone a) life (call.LockPages u n r mode choice))) e) (λ r. refl)
+      (lock_open (view_in a.holder life) life.own r (is_changing mode) (open_at life.own.opens n) (λ o p. page_needs o.file r.first r.count mode))
   shape_cases (call.SetSize u n size choice) is e =
       by_open (call.SetSize u n size choice) refl (ap (λ (x : Option Refusal). option_or x (open_refusal (alone a) life (call.SetSize u n size choice))) e) (λ r. refl)
       (either_change (view_in a.holder life) life.own (open_at life.own.opens n) (size_needs size) (set_size life.own size) (size_on (view_in a.holder life) life.own size))

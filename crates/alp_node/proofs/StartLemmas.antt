@@ -192,6 +192,15 @@ alike_none cells t = subst (λ (x : Option Live). IsAlike cells map.empty [] t x
 new_room : (s : Sizes) (m : Cells) → IsVolumeOf s m → HaveRoom s m (totals_of no_lives)
 new_room s m is = subst (HaveRoom s m) (sym empty_totals) (record { places = omega (arith, is.fits.places); files = omega (arith, is.fits.files); owners = omega (arith, is.fits.owners) })
 
+-- the sizes of a volume's files are numbers of pages
+pub volume_sized : (s : Sizes) (m : Cells) → IsVolumeOf s m → AreSized (map.get m)
+unfolding page_limit
+volume_sized s m h (Leader f) (cell.Leader p) there = (let low : p.size ≤ 4096 = h.fits.sizes f p there in omega (arith, low))
+volume_sized s m h (PageOf f n) (cell.Leader p) there = absurd (h.sound.0.kinds (PageOf f n) (cell.Leader p) there)
+volume_sized s m h (OwnerOf o) (cell.Leader p) there = absurd (h.sound.0.kinds (OwnerOf o) (cell.Leader p) there)
+volume_sized s m h k (cell.Page bytes) there = tt
+volume_sized s m h k (cell.Owner o) there = tt
+
 pub new_as : {V : Type 0} (old : ServerState V) (server servers last : ℕ) (sizes : Sizes) (c : ClockNote) (held : Contents)
     → ((f : FileId) (x : Cell) → map.get held.cells (Leader f) ≡ Some x → (f.server ≡ server) × (f.epoch ≤ last)) → last < c.epoch → clock_kept held.notes ≡ c → held.notes ≡ clock_notes c → IsVolumeOf sizes held.cells
     → IsAs (new_alone (start_at server servers sizes held.cells held.notes)) held (new_kept old server sizes c)
@@ -203,6 +212,7 @@ new_as old server servers last sizes c held ids later kept alone volume =
       epoch = epoch;
       clock = ap (λ (x : ClockNote). x.clock) kept;
       cells = λ _. refl;
+      sized = volume_sized sizes held.cells volume;
       notes = λ _. alone ∙ ap clock_notes (sym kept);
       places = refl;
       sessions = λ client. sym (no_session client);
@@ -270,15 +280,6 @@ new_right n o held empty says sound sized h = record {
   says = ap (state_of o) empty ∙ says;
   kept = h;
 }
-
--- the sizes of a volume's files are numbers of pages
-pub volume_sized : (s : Sizes) (m : Cells) → IsVolumeOf s m → AreSized (map.get m)
-unfolding page_limit
-volume_sized s m h (Leader f) (cell.Leader p) there = (let low : p.size ≤ 4096 = h.fits.sizes f p there in omega (arith, low))
-volume_sized s m h (PageOf f n) (cell.Leader p) there = absurd (h.sound.0.kinds (PageOf f n) (cell.Leader p) there)
-volume_sized s m h (OwnerOf o) (cell.Leader p) there = absurd (h.sound.0.kinds (OwnerOf o) (cell.Leader p) there)
-volume_sized s m h k (cell.Page bytes) there = tt
-volume_sized s m h k (cell.Owner o) there = tt
 
 -- ---- what a crash leaves of a start
 

@@ -1,21 +1,20 @@
--- What a call asks of the lock table. The pages and the leader of a file are given by the file's lock, which the open has.
+-- What a call asks of the lock table: what it needs, but for what a file's lock gives.
 use Rattle.std.specs.Prelude.{◌≡◌, List, [], ◌∷◌, ◌++◌, Bool, true, false, nat_lt, nat_le, ◌&&◌, ◌||◌, ◌==◌, ◌+◌, if◌then◌else◌, ℕ, length, IsTrue, Option, None, Some, IfSome, Result, Ok, Err}
 use Rattle.std.specs.List.{AllByRecursion}
 use Rattle.alp_base.specs.declared.ids.FileId.{FileId}
 use Rattle.alp_base.specs.declared.ids.TransId.{TransId}
-use Rattle.alp_base.specs.declared.choices.Access.TheVariants.{Change}
-use Rattle.alp_base.specs.declared.key.Key.TheVariants.{OwnerOf}
+use Rattle.alp_base.specs.declared.choices.Access.{Access}
+use Rattle.alp_base.specs.declared.choices.Access.TheVariants.{ReadOnly, Change}
+use Rattle.alp_base.specs.declared.key.Key.TheVariants.{Leader, OwnerOf}
 use Rattle.alp_base.specs.declared.key.Resource.{Resource}
 use Rattle.alp_base.specs.declared.key.Resource.TheVariants.{Whole, Leaf}
-use Rattle.alp_modes.specs.declared.Mode.{Mode}
 use Rattle.alp_modes.specs.declared.Mode.TheVariants.{Read, Write}
 use Rattle.alp_files.specs.Act.{Own, open_at}
 use Rattle.alp_files.specs.Cells.{Cells, View}
-use Rattle.alp_files.specs.Locks.{Need}
+use Rattle.alp_files.specs.Holdings.{Holding}
+use Rattle.alp_files.specs.Locks.{Need, page_needs, mark_needs, size_needs, change_needs, needs_of, request_of}
 use Rattle.alp_files.specs.declared.call.Call.{Call}
 use Rattle.alp_files.specs.declared.call.Call.TheVariants as call
-use Rattle.alp_files.specs.declared.call.PropChange.{PropChange}
-use Rattle.alp_files.specs.declared.call.PropChange.TheVariants as prop
 use Rattle.alp_files.specs.declared.cell.Props.{Props}
 use Rattle.alp_files.specs.declared.open.Open.{Open}
 use Rattle.alp_files.specs.declared.refusal.Refusal.{Refusal}
@@ -26,77 +25,73 @@ use Rattle.alp_journal.specs.declared.act.Act.TheVariants as act
 use Rattle.alp_queue.specs.declared.waiter.Waiter.{Waiter}
 use Rattle.alp_locks.specs.Tables.{Table, held_of}
 use Rattle.alp_locks.specs.Asks.{waiter_of, with_granted}
-use Rattle.alp_calls.specs.Finds.{found_on}
+use Rattle.alp_calls.specs.Finds.{found_on, access_for}
 use Rattle.alp_calls.specs.Parts.{seen}
 use Rattle.alp_calls.specs.declared.finding.OpenedFile.{OpenedFile}
 use Rattle.alp_trans.specs.Parts.{own_of}
 use Rattle.alp_trans.specs.declared.part.Part.{Part}
 
--- ---- what is asked
+-- ---- what is needed
 
-abbrev pub owner_asks : List ℕ → Mode → List Need
-owner_asks name m = (Leaf (OwnerOf name), m) ∷ []
-
--- a smaller size cuts pages off, and so locks the file; the owner is charged where the size differs
-abbrev pub size_asks : ℕ → Open → Props → List Need
-size_asks size o p =
-    if size == p.size then [] else if nat_lt size p.size then (Whole o.file, Write) ∷ owner_asks p.owner Write else owner_asks p.owner Write
-
--- a charge goes from one owner to the other
-abbrev pub change_asks : PropChange → Open → Props → List Need
-change_asks (prop.Owner n) o p = (Leaf (OwnerOf p.owner), Write) ∷ owner_asks n Write
-change_asks _ o p = []
-
--- of a call on an open for change, whose file is there
-abbrev pub changing_asks : Call → Open → Props → List Need
-changing_asks (call.DeleteFile t n choice) o p = (Whole o.file, Write) ∷ owner_asks p.owner Write
-changing_asks (call.SetSize t n size choice) o p = size_asks size o p
-changing_asks (call.WriteProps t n change choice) o p = change_asks change o p
-changing_asks _ o p = []
-
-abbrev pub on_opened : Option OpenedFile → (Open → Props → List Need) → List Need
-on_opened None next = []
-on_opened (Some x) next = next x.opened x.props
-
--- what is asked where such an open of the call is found; whoever performs the call keeps it, whatever the reply
-abbrev pub asks_on : Option OpenedFile → Call → List Need
-asks_on x (call.CreateFile t start choice) = owner_asks start.owner Write
-asks_on x (call.OpenFile t file access mode choice) = (Whole file, mode) ∷ []
-asks_on x (call.ReadOwner t name choice) = owner_asks name Read
-asks_on x (call.MakeOwner t name quota create choice) = owner_asks name Write
-asks_on x (call.SetQuota t name quota choice) = owner_asks name Write
-asks_on x c = on_opened x (changing_asks c)
-
--- the open that is looked for before that is known
-abbrev pub looks_at : Call → Option ℕ
-looks_at (call.DeleteFile t n choice) = Some n
-looks_at (call.SetSize t n size choice) = Some n
-looks_at (call.WriteProps t n (prop.Owner name) choice) = Some n
+-- the open that a call names whose locks depend on the open and its file, and the access that the call has to have
+abbrev pub looks_at : Call → Option (ℕ × Access)
+looks_at (call.DeleteFile t n choice) = Some (n, Change)
+looks_at (call.ReadPages t n r mode choice) = Some (n, ReadOnly)
+looks_at (call.WritePages t n r pages choice) = Some (n, Change)
+looks_at (call.LockPages t n r mode choice) = Some (n, access_for mode)
+looks_at (call.SetSize t n size choice) = Some (n, Change)
+looks_at (call.WriteProps t n change choice) = Some (n, Change)
 looks_at _ = None
 
 abbrev pub if_found : Result OpenedFile Refusal → Option OpenedFile
 if_found (Ok x) = Some x
 if_found (Err f) = None
 
-abbrev pub found_in : View → List Open → Option ℕ → Option OpenedFile
+abbrev pub found_in : View → List Open → Option (ℕ × Access) → Option OpenedFile
 found_in m opens None = None
-found_in m opens (Some n) = if_found (found_on Change m (open_at opens n))
+found_in m opens (Some l) = if_found (found_on l.1 m (open_at opens l.0))
 
--- what a part that sees this asks
-abbrev pub asks_of : View → Own → Call → List Need
-asks_of m own c = asks_on (found_in m own.opens (looks_at c)) c
+-- of a call on such an open, whose file is there
+abbrev pub open_needs : Call → Open → Props → List Need
+open_needs (call.DeleteFile t n choice) o p = (Whole o.file, Write) ∷ (Leaf (OwnerOf p.owner), Write) ∷ []
+open_needs (call.ReadPages t n r mode choice) o p = page_needs o.file r.first r.count mode
+open_needs (call.WritePages t n r pages choice) o p = mark_needs o.file p (r.first + r.count) ++ page_needs o.file r.first r.count Write
+open_needs (call.LockPages t n r mode choice) o p = page_needs o.file r.first r.count mode
+open_needs (call.SetSize t n size choice) o p = size_needs size o p
+open_needs (call.WriteProps t n change choice) o p = change_needs change o p
+open_needs _ o p = []
+
+abbrev pub on_opened : Option OpenedFile → (Open → Props → List Need) → List Need
+on_opened None next = []
+on_opened (Some x) next = next x.opened x.props
+
+-- what a call needs where such an open of it is found
+abbrev pub needs_on : Option OpenedFile → Call → List Need
+needs_on x (call.CreateFile t start choice) = (Leaf (OwnerOf start.owner), Write) ∷ []
+needs_on x (call.OpenFile t file access mode choice) = (Whole file, mode) ∷ (Leaf (Leader file), Read) ∷ []
+needs_on x (call.ReadOwner t name choice) = (Leaf (OwnerOf name), Read) ∷ []
+needs_on x (call.MakeOwner t name quota create choice) = (Leaf (OwnerOf name), Write) ∷ []
+needs_on x (call.SetQuota t name quota choice) = (Leaf (OwnerOf name), Write) ∷ []
+needs_on x c = on_opened x (open_needs c)
+
+-- ---- what is asked
+
+-- what a part asks that holds this and sees so
+abbrev pub asks_of : Holding → View → Own → Call → List Need
+asks_of held m own c = request_of held (needs_of m own c)
 
 -- it is an open of these
 abbrev pub IsOneOf : List Open → OpenedFile → Type 0
 IsOneOf opens x = (n : ℕ) × (open_at opens n ≡ Some x.opened)
 
--- These are asked for the call of a part. Whatever the vault tells, a file among them is one that the call names, or one that
--- the part has open.
-pub record IsAsked (tells : Bool) (cells : Cells) (p : Part) (c : Call) (ns : List Need) : Type 0 where
+-- These are asked for the call of a part that holds this: what it needs, but for the leaves that a file's lock gives. What it
+-- needs is what the journal says that it does; and whatever the vault tells, a file among that is one that the call names, or
+-- one that the part has open. Whoever performs the call keeps what was asked, whatever the reply.
+pub record IsAsked (tells : Bool) (cells : Cells) (held : Holding) (p : Part) (c : Call) (ns : List Need) : Type 0 where
   pub found : Option OpenedFile
   pub stands : IfSome found (IsOneOf p.opens.items)
-  pub is : ns ≡ asks_on found c
-  pub told : IsTrue tells → ns ≡ asks_of (seen cells p) (own_of p) c
+  pub is : ns ≡ request_of held (needs_on found c)
+  pub told : IsTrue tells → needs_on found c ≡ needs_of (seen cells p) (own_of p) c
 
 -- and the lock on a file with this id, where it is made
 abbrev pub asks_made : FileId → List Need → List Need

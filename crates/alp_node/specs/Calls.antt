@@ -2,7 +2,6 @@
 use Rattle.std.specs.Prelude.{◌≡◌, ◌+◌, List, length, Bool, true, Some, Result, Ok, Err}
 use Rattle.std.specs.FinMap as map
 use Rattle.alp_base.specs.declared.choices.Choice.TheVariants.{Fail}
-use Rattle.alp_modes.specs.declared.Mode.TheVariants.{Read}
 use Rattle.alp_files.specs.declared.call.Call.{Call}
 use Rattle.alp_files.specs.declared.call.Call.TheVariants as call
 use Rattle.alp_base.specs.declared.ids.FileId.{FileId}
@@ -20,18 +19,17 @@ use Rattle.alp_node.specs.declared.server_state.ServerState.{ServerState}
 use Rattle.alp_node.specs.declared.lives.Live.{Live}
 use Rattle.alp_node.specs.declared.lock_counts.LockCounts.{LockCounts}
 use Rattle.alp_node.specs.Rooms.{IsRoomOf, locks_given}
-use Rattle.alp_node.specs.ServerState.{mode_for}
 use Rattle.alp_node.specs.Steps.{told_answer}
 
--- file calls that are performed so far: opens lock their files in their access's mode, reads are in Read, a write has as
--- many pages as its run, and nobody waits for locks
+-- file calls that are performed so far: all of them, where a write has as many pages as its run, and nobody waits for locks
 abbrev pub IsServedCall : Call → Type 0
 IsServedCall (call.CreateFile t start choice) = choice ≡ Fail
-IsServedCall (call.OpenFile t file access mode choice) = (mode ≡ mode_for access) × (choice ≡ Fail)
+IsServedCall (call.OpenFile t file access mode choice) = choice ≡ Fail
 IsServedCall (call.CloseFile t n) = Unit {0}
 IsServedCall (call.DeleteFile t n choice) = choice ≡ Fail
-IsServedCall (call.ReadPages t n r mode choice) = (mode ≡ Read) × (choice ≡ Fail)
+IsServedCall (call.ReadPages t n r mode choice) = choice ≡ Fail
 IsServedCall (call.WritePages t n r pages choice) = (length pages ≡ r.count) × (choice ≡ Fail)
+IsServedCall (call.LockPages t n r mode choice) = choice ≡ Fail
 IsServedCall (call.SetSize t n size choice) = choice ≡ Fail
 IsServedCall (call.ReadProps t n) = Unit {0}
 IsServedCall (call.WriteProps t n change choice) = choice ≡ Fail

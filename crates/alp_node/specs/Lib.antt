@@ -6,6 +6,8 @@ pub mod Asks
 pub mod Shapes
 pub mod Covers
 pub mod Totals
+pub mod BlockSets
+pub mod Eases
 pub mod Halts
 pub mod Dead
 pub mod Standings

@@ -17,7 +17,7 @@ use Rattle.alp_node.specs.declared.server_state.ServerState.{ServerState}
 use Rattle.alp_node.specs.Calls.{IsServedCall}
 
 -- What the server asks of an event so far. Each line says what it leaves out, and which of the coming stages ends that: "every
--- call of a client", "six modes, runs and waits", "restart", or "several servers".
+-- call of a client", "waits", "restart", or "several servers".
 
 -- a call that may be asked
 abbrev pub IsAskable : Call → Type 0
@@ -27,10 +27,9 @@ IsAskable (call.Hello name) = Unit {0}
 IsAskable (call.Begin seen) = seen.ts ≤ 2 ^ 62
 -- a commit or an abort, of whatever transaction: nothing is left out
 IsAskable (call.Finish t commit) = Unit {0}
--- A file call of the grammar of frames, which stays, and one of those that `IsServedCall` names. Left out are an open in
--- another mode than its access has, a read in another mode than Read, and calls that lock pages, collect or may wait ("six
--- modes, runs and waits"); the question how a transaction ended, and a join where there is one server ("restart"); and all
--- other joins ("several servers").
+-- A file call of the grammar of frames, which stays, and one of those that `IsServedCall` names, in any mode and of any run. Left
+-- out are calls that may wait for their locks, and collects ("waits"); the question how a transaction ended, and a join where
+-- there is one server ("restart"); and all other joins ("several servers").
 IsAskable c = IsServedCall c × IsFormed c
 
 -- a call of a session that stands

@@ -7,20 +7,17 @@
 -- the counts: each live part has its own, and beside the cells there is room for what all of them come to;
 -- the ids: the counts of transactions and of files.
 use Rattle.std.specs.Prelude.{◌≡◌, ℕ, zero, suc, ◌+◌, ◌^◌, ◌<◌, ◌≤◌, ◌==◌, ◌&&◌, not, nat_lt, nat_le, Bool, true, false, IsTrue, List, [], ◌∷◌, ◌++◌, length, Option, None, Some, is_some}
-use Rattle.std.specs.List.{AllByRecursion, list_all}
+use Rattle.std.specs.List.{list_all}
 use Rattle.std.specs.FinMap as map
 use Rattle.alp_base.specs.declared.ids.FileId.{FileId}
 use Rattle.alp_base.specs.declared.ids.TransId.{TransId}
 use Rattle.alp_base.specs.declared.key.Key.TheVariants.{Leader}
 use Rattle.alp_base.specs.declared.key.Resource.{Resource}
 use Rattle.alp_base.specs.declared.key.Resource.TheVariants.{Whole}
-use Rattle.alp_base.specs.declared.choices.Access.{Access}
-use Rattle.alp_base.specs.declared.choices.Access.TheVariants.{ReadOnly, Change}
-use Rattle.alp_modes.specs.declared.Mode.{Mode}
-use Rattle.alp_modes.specs.declared.Mode.TheVariants.{Read, Write}
-use Rattle.alp_files.specs.Holdings.{Holding, covers_held}
+use Rattle.alp_files.specs.Holdings.{IsIntended}
+use Rattle.alp_files.specs.Locks.{Reads, Writes}
+use Rattle.alp_files.specs.Apart.{AreSized, IsWithin as AreWithin, OpensRead}
 use Rattle.alp_files.specs.Cells.{Cells}
-use Rattle.alp_files.specs.declared.open.Open.{Open}
 use Rattle.alp_files.specs.Born.{IsUnborn}
 use Rattle.alp_files.specs.Edits.{Edit, edits_at}
 use Rattle.alp_files.specs.Needs.{intents_of}
@@ -34,7 +31,7 @@ use Rattle.alp_journal.specs.Holder.{Life}
 use Rattle.alp_journal.specs.Desk.{Session}
 use Rattle.alp_journal.specs.Alone.{Alone, IsQuiet, AreEarlier}
 use Rattle.alp_node.specs.Asks.{is_given}
-use Rattle.alp_node.specs.Covers.{AreCovered, AreHeld}
+use Rattle.alp_node.specs.Covers.{AreHeld, AreSizedEdits}
 use Rattle.alp_node.specs.Dead.{dead_in}
 use Rattle.alp_node.specs.Durable.{clock_notes}
 use Rattle.alp_node.specs.Rooms.{IsWithin}
@@ -46,26 +43,20 @@ use Rattle.alp_node.specs.declared.server_state.ServerState.{ServerState}
 
 -- ---- live transactions
 
--- the lock that an open has on its file gives all its leaves
-abbrev pub mode_for : Access → Mode
-mode_for ReadOnly = Read
-mode_for Change = Write
-
-abbrev pub IsLocked : Holding → Open → Type 0
-IsLocked held o = IsTrue (covers_held (held (Whole o.file)) (mode_for o.access))
-
--- A live part is kept as the journal tells it: its intents are what its edits come to, the table has its locks, of which there
--- are as many as it counts, each of its opens has its file locked, and so has what it changes. Its counts are those of its edits
--- over the cells.
+-- A live part is kept as the journal tells it: its intents are what its edits come to, and the table has its locks, of which
+-- there are as many as it counts. Under them it may read the leader of each open's file, and write what it changes; and beside
+-- each lock on a leaf it has the intention on the file. Its counts are those of its edits over the cells.
 pub record IsLife (cells : Cells) (locks : Holders) (locked : List Resource) (t : TransId) (l : Live) (life : Life) : Type 0 where
   pub client : life.client ≡ l.client
   pub who : life.who ≡ l.who
   pub intents : l.part.intents ≡ intents_of life.edits
   pub own : own_of l.part ≡ life.own
   pub held : (r : Resource) → life.held r ≡ holding locks t r
-  pub opens : AllByRecursion (IsLocked life.held) life.own.opens
+  pub opens : OpensRead (Reads life.held) life.own.opens
   pub counts : AreCountsOf cells life.edits l.part.counts
-  pub covered : AreCovered life.held life.edits
+  pub within : AreWithin (Writes life.held) life.edits
+  pub intended : IsIntended life.held
+  pub sized : AreSizedEdits life.edits
   pub count : l.locks ≡ length locked
   pub known : AreHeld life.held locked
 
@@ -106,6 +97,7 @@ pub record IsAs {V : Type 0} (a : Alone) (held : Contents) (k : ServerState V) :
   pub epoch : a.ids.epoch ≡ k.epoch
   pub clock : a.holder.clock ≡ k.clock
   pub cells : k.is_down ≡ false → held.cells ≡ a.holder.cells
+  pub sized : AreSized (map.get a.holder.cells)
   pub notes : k.is_down ≡ false → held.notes ≡ clock_notes (record { epoch = a.ids.epoch; clock = a.holder.kept })
   pub places : length k.sessions.places ≡ 17
   pub sessions : (client : ℕ) → a.sessions client ≡ session_at k.sessions client

@@ -32,6 +32,7 @@ shape_of server epoch given opens (call.CreateFile t start choice) = option_or (
 shape_of server epoch given opens (call.OpenFile t f access mode choice) = option_or (if_over (not (is_given server epoch given f)) refusal.UnknownFile) (no_open opens)
 shape_of server epoch given opens (call.ReadPages t n r mode choice) = no_run r
 shape_of server epoch given opens (call.WritePages t n r pages choice) = no_run r
+shape_of server epoch given opens (call.LockPages t n r mode choice) = no_run r
 shape_of server epoch given opens (call.SetSize t n size choice) = no_size size
 shape_of server epoch given opens c = None
 

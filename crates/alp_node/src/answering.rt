@@ -202,6 +202,7 @@ fn trans_of(call: &Call) -> Option<TransId>
         Call::DeleteFile { trans, .. } => Some(*trans),
         Call::ReadPages { trans, .. } => Some(*trans),
         Call::WritePages { trans, .. } => Some(*trans),
+        Call::LockPages { trans, .. } => Some(*trans),
         Call::SetSize { trans, .. } => Some(*trans),
         Call::ReadProps { trans, .. } => Some(*trans),
         Call::WriteProps { trans, .. } => Some(*trans),

@@ -1,95 +1,163 @@
-//! What a call asks of the lock table.
-ghost use Rattle.std.specs.Prelude.{◌≡◌, IfOk};
-ghost use Rattle.alp_node.specs.Asks.{owner_asks, changing_asks, on_opened, asks_on, looks_at as looked_at, asks_made as asks_made_of};
+//! What is asked of the lock table for what a call needs.
+ghost use Rattle.std.specs.Prelude.{◌≡◌, ◌∷◌, ◌++◌, Some, None, IfOk, OnOk, if◌then◌else◌};
+ghost use Rattle.std.specs.Ordering.{eq_by_cmp};
+ghost use Rattle.alp_base.specs.Orders.{resource_cmp};
+ghost use Rattle.alp_files.specs.Holdings.{join_held as join_held_said, covers_held, held_by, file_of as file_of_said, given_to, intention_of as intention_of_said};
+ghost use Rattle.alp_files.specs.Locks.{joined, wholes_of, intention_on, asked_on, request_of};
+ghost use Rattle.alp_base.specs.declared.key.Resource.TheVariants.{Leaf};
+ghost use Rattle.alp_locks.specs.Tables.{holding};
+ghost use Rattle.alp_node.specs.Asks.{asks_made as asks_made_of};
 
-use alp_base::{FileId, Key, Name, OutOfMemory, Resource};
-use alp_calls::OpenedFile;
-use alp_files::{Call, Open, PropChange, Props};
-use alp_modes::Mode;
+use crate::server_state::ServerState;
+use alp_base::{FileId, Key, OutOfMemory, Resource, TransId};
+use alp_modes::{Mode, covers, join, leaf_of};
 use alp_queue::Needs;
+use alp_vault::Vault;
 use std::alloc::Global;
 
-/// The open that a call names whose locks depend on the open and its file.
-pub fn looks_at(call: &Call) -> Option<u32>
-    ensures { result ≡ looked_at call.now }
-{
-    match call {
-        Call::DeleteFile { open_no, .. } => Some(*open_no),
-        Call::SetSize { open_no, .. } => Some(*open_no),
-        Call::WriteProps {
-            open_no,
-            change: PropChange::Owner(_),
-            ..
-        } => Some(*open_no),
-        _ => None,
+impl<V: Vault> ServerState<V> {
+    /// What is asked for these needs of a transaction: a leaf is not asked that the lock on its file gives, be it held or asked here.
+    pub fn request(&self, trans: TransId, needs: &[(Resource, Mode)]) -> Result<Needs, OutOfMemory>
+        ensures { IfOk result (λ ns. ns ≡ request_of (holding self.now.locks.held trans) needs.now) }
+    {
+        let wholes = wholes_in(self.alloc, needs)?;
+        let mut asked = Vec::new(self.alloc);
+        for (resource, mode) in needs {
+            self.push_asked(&mut asked, trans, wholes.as_slice(), resource, *mode)?;
+        }
+        Ok(Needs::new(asked))
     }
-}
 
-/// What is asked for the call where such an open of it is found, and kept whatever its reply. The lock on a file gives its leaves, so
-/// most calls on opens ask nothing.
-pub fn asks(alloc: Global, found: &Option<OpenedFile>, call: &Call) -> Result<Needs, OutOfMemory>
-    ensures { IfOk result (λ n. n ≡ asks_on found.now call.now) }
-{
-    let needs = match call {
-        Call::CreateFile { start, .. } => owner(alloc, start.owner, Mode::Write)?,
-        Call::OpenFile { file, mode, .. } => vec![in alloc; (Resource::Whole(*file), *mode)]?,
-        Call::ReadOwner { owner: name, .. } => owner(alloc, *name, Mode::Read)?,
-        Call::MakeOwner { owner: name, .. } => owner(alloc, *name, Mode::Write)?,
-        Call::SetQuota { owner: name, .. } => owner(alloc, *name, Mode::Write)?,
-        _ => asks_of_open(alloc, found, call)?,
-    };
-    Ok(Needs::new(needs))
-}
-
-fn owner(alloc: Global, name: Name, mode: Mode) -> Result<Vec<(Resource, Mode)>, OutOfMemory>
-    ensures { IfOk result (λ v. v.items ≡ owner_asks name mode) }
-{
-    let needs = vec![in alloc; (Resource::Leaf(Key::OwnerOf(name)), mode)]?;
-    Ok(needs)
-}
-
-// What a call on an open asks, where it is one for change and its file is there.
-fn asks_of_open(
-    alloc: Global,
-    found: &Option<OpenedFile>,
-    call: &Call,
-) -> Result<Vec<(Resource, Mode)>, OutOfMemory>
-    ensures { IfOk result (λ v. v.items ≡ on_opened found.now (changing_asks call.now)) }
-{
-    match found {
-        Some(file) => asks_to_change(alloc, &file.opened, &file.props, call),
-        None => Ok(Vec::new(alloc)),
-    }
-}
-
-fn asks_to_change(
-    alloc: Global,
-    opened: &Open,
-    props: &Props,
-    call: &Call,
-) -> Result<Vec<(Resource, Mode)>, OutOfMemory>
-    ensures { IfOk result (λ v. v.items ≡ changing_asks call.now opened.now props.now) }
-{
-    let file = (Resource::Whole(opened.file), Mode::Write);
-    let charged = (Resource::Leaf(Key::OwnerOf(props.owner)), Mode::Write);
-    let needs = match call {
-        Call::DeleteFile { .. } => vec![in alloc; file, charged]?,
-        Call::SetSize { size, .. } => {
-            if *size == props.size {
-                Vec::new(alloc)
-            } else if *size < props.size {
-                vec![in alloc; file, charged]?
-            } else {
-                vec![in alloc; charged]?
+    // What is asked for one need more, beside whole files.
+    fn push_asked(
+        &self,
+        asked: &mut Vec<(Resource, Mode)>,
+        trans: TransId,
+        wholes: &[(Resource, Mode)],
+        resource: &Resource,
+        mode: Mode,
+    ) -> Result<(), OutOfMemory>
+        ensures { OnOk result (asked.new.items ≡ asked.old.items ++ asked_on (joined (holding self.now.locks.held trans) wholes.now) resource.now mode) }
+    {
+        match resource {
+            Resource::Whole(_) => {
+                asked.push((*resource, mode))?;
+                Ok(())
+            }
+            Resource::Leaf(key) => {
+                if self.gives(trans, wholes, key, mode) {
+                    return Ok(());
+                }
+                push_leaf(asked, key, mode)
             }
         }
-        Call::WriteProps {
-            change: PropChange::Owner(name),
-            ..
-        } => vec![in alloc; charged, (Resource::Leaf(Key::OwnerOf(*name)), Mode::Write)]?,
-        _ => Vec::new(alloc),
-    };
-    Ok(needs)
+    }
+
+    // Whether the lock on the leaf's file gives that.
+    fn gives(&self, trans: TransId, wholes: &[(Resource, Mode)], key: &Key, mode: Mode) -> bool
+        ensures { result ≡ covers_held (given_to (joined (holding self.now.locks.held trans) wholes.now) key.now) mode }
+    {
+        match self.given(trans, wholes, key) {
+            Some(given) => covers(given, mode),
+            None => false,
+        }
+    }
+
+    // What it gives.
+    fn given(&self, trans: TransId, wholes: &[(Resource, Mode)], key: &Key) -> Option<Mode>
+        ensures { result ≡ given_to (joined (holding self.now.locks.held trans) wholes.now) key.now }
+    {
+        let Some(file) = file_of(key) else {
+            return None;
+        };
+        let whole = Resource::Whole(file);
+        let asked = mode_in(wholes, &whole);
+        match join_held(self.locks.mode_of(trans, &whole), asked) {
+            Some(mode) => leaf_of(mode),
+            None => None,
+        }
+    }
+}
+
+// What two modes come to, either of which may be missing.
+fn join_held(one: Option<Mode>, other: Option<Mode>) -> Option<Mode>
+    ensures { result ≡ join_held_said one other }
+{
+    match (one, other) {
+        (Some(a), Some(b)) => Some(join(a, b)),
+        (Some(a), None) => Some(a),
+        (None, b) => b,
+    }
+}
+
+// The mode of a need, where it is one on the resource.
+fn mode_at(need: &(Resource, Mode), at: &Resource) -> Option<Mode>
+    ensures { result ≡ if eq_by_cmp resource_cmp at.now need.now.0 then Some need.now.1 else None }
+{
+    if at.cmp(&need.0).is_eq() {
+        return Some(need.1);
+    }
+    None
+}
+
+// What a list comes to on a resource.
+fn mode_in(needs: &[(Resource, Mode)], at: &Resource) -> Option<Mode>
+    ensures { result ≡ held_by needs.now at.now }
+{
+    let mut mode = None;
+    for need in needs {
+        mode = join_held(mode, mode_at(need, at));
+    }
+    mode
+}
+
+// The whole files among the needs.
+fn wholes_in(
+    alloc: Global,
+    needs: &[(Resource, Mode)],
+) -> Result<Vec<(Resource, Mode)>, OutOfMemory>
+    ensures { IfOk result (λ v. v.items ≡ wholes_of needs.now) }
+{
+    let mut wholes = Vec::new(alloc);
+    for need in needs {
+        if let Resource::Whole(_) = need.0 {
+            wholes.push(*need)?;
+        }
+    }
+    Ok(wholes)
+}
+
+// The file that a leaf is in.
+fn file_of(key: &Key) -> Option<FileId>
+    ensures { result ≡ file_of_said key.now }
+{
+    match key {
+        Key::Leader(file) => Some(*file),
+        Key::PageOf(file, _) => Some(*file),
+        Key::OwnerOf(_) => None,
+    }
+}
+
+// The least mode to hold on a file beside a lock on a leaf of it.
+#[tactic(auto, unfolding(alp_files::specs::Holdings::intention_of))]
+fn intention_of(mode: Mode) -> Mode
+    ensures { result ≡ intention_of_said mode }
+{
+    match mode {
+        Mode::IntendRead | Mode::Read => Mode::IntendRead,
+        _ => Mode::IntendWrite,
+    }
+}
+
+// A leaf, and with it the intention on its file.
+fn push_leaf(asked: &mut Vec<(Resource, Mode)>, key: &Key, mode: Mode) -> Result<(), OutOfMemory>
+    ensures { OnOk result (asked.new.items ≡ asked.old.items ++ (Leaf key.now, mode) ∷ intention_on (file_of_said key.now) mode) }
+{
+    asked.push((Resource::Leaf(*key), mode))?;
+    if let Some(file) = file_of(key) {
+        asked.push((Resource::Whole(file), intention_of(mode)))?;
+    }
+    Ok(())
 }
 
 /// The same needs with the lock on the file that a call makes, which gets this id.

@@ -6,17 +6,18 @@ ghost use Rattle.alp_files.specs.Files.{AreFiles};
 ghost use Rattle.alp_calls.specs.Looks.{Looks, fault_in};
 ghost use Rattle.alp_calls.specs.Parts.{AllFit, CanPerform, IsPart, seen};
 ghost use Rattle.alp_node.specs.declared.lives.Live.{Live as ALive};
+ghost use Rattle.alp_locks.specs.Tables.{holding};
 ghost use Rattle.alp_node.specs.Asks.{IsAsked, IsOneOf, found_in, looks_at as looked_at};
 ghost use Rattle.alp_node.specs.Calls.{next_file as next_file_of, IsAnswerTo, Performed};
 ghost use Rattle.alp_node.specs.Totals.{totals_of, AreFewTotals};
 
 use crate::answer::Given;
-use crate::asks::{asks, looks_at};
 use crate::lives::Live;
 use crate::lock_counts::LockCounts;
+use crate::needs::{looks_at, needs};
 use crate::room::locks_given;
 use crate::server_state::ServerState;
-use alp_base::{Access, FileId, TransId};
+use alp_base::{FileId, TransId};
 use alp_calls::{CallFault, OpenedFile, opened_file, perform};
 use alp_files::{Call, Reply};
 use alp_journal::Acts;
@@ -42,7 +43,7 @@ impl<V: Vault> ServerState<V> {
         requires live { map.get self.old.lives trans ≢ None }
         requires serving { IsTrue (V.serves self.old.vault) }
         requires part { (l : ALive) → map.get self.old.lives trans ≡ Some l → IsPart l.part }
-        ensures asked { (l : ALive) → map.get self.old.lives trans ≡ Some l → IfOk result (IsAsked (V.tells self.old.vault) (V.held self.old.vault).cells l.part call.now) }
+        ensures asked { (l : ALive) → map.get self.old.lives trans ≡ Some l → IfOk result (IsAsked (V.tells self.old.vault) (V.held self.old.vault).cells (holding self.old.locks.held trans) l.part call.now) }
         ensures kept { self.new ≡ record self.old { vault = self.new.vault } }
         ensures looked { Looks V.Vault self.old.vault self.new.vault (fault_in result) }
     {
@@ -50,8 +51,9 @@ impl<V: Vault> ServerState<V> {
             unreachable!()
         };
         let found = found_open(&mut self.vault, &live.part, call)?;
-        let needs = asks(self.alloc, &found, call)?;
-        Ok(needs)
+        let needs = needs(self.alloc, &found, call)?;
+        let asked = self.request(trans, needs.as_slice())?;
+        Ok(asked)
     }
 
     // The live transaction performs the call on what it sees. Where it is answered, that came about, and it has as many resources
@@ -102,7 +104,8 @@ impl<V: Vault> ServerState<V> {
     }
 }
 
-// The open for change on which the locks of the call depend, if they do, with its file.
+// The open on which the locks of the call depend, if they do, with its file; nothing where it has not the access that the call has
+// to have, or its file is not there.
 fn found_open<V: Vault>(
     vault: &mut V,
     part: &Part,
@@ -114,10 +117,10 @@ fn found_open<V: Vault>(
     ensures found { IsTrue (V.tells vault.old) → IfOk result (λ x. x ≡ found_in (seen (V.held vault.old).cells part.now) part.now.opens.items (looked_at call.now)) }
     ensures looked { Looks V.Vault vault.old vault.new (fault_in result) }
 {
-    let Some(open_no) = looks_at(call) else {
+    let Some((open_no, wanted)) = looks_at(call) else {
         return Ok(None);
     };
-    match opened_file(vault, part, open_no, Access::Change)? {
+    match opened_file(vault, part, open_no, wanted)? {
         Ok(found) => Ok(Some(found)),
         Err(_) => Ok(None),
     }

@@ -151,6 +151,8 @@ impl<V: Vault> ServerState<V> {
         requires sound { IsTrue (V.tells self.old.vault) → (l : ALive) → map.get self.old.lives trans ≡ Some l → AreSound (edits_map (edits_of (change_of l.part.intents)) (V.held self.old.vault).cells) }
         ensures { IsStep V.Vault self.old self.new (event.Call turn.now.client self.old.epoch turn.now.number (call.Finish trans true)) result }
     {
+        let others = self.lives.ids(self.alloc)?;
+        let blocks = self.blocks_of(trans)?;
         let stamp = Stamp {
             ts: self.clock + 1,
             trans,
@@ -176,6 +178,7 @@ impl<V: Vault> ServerState<V> {
             Err(StoreFault::OutOfMemory) => return Err(OutOfMemory),
         }
         self.forget(trans);
+        self.ease_all(others.as_slice(), blocks.as_slice());
         self.clock = stamp.ts;
         self.committed += 1;
         self.sessions.count(turn, reply);

@@ -1,5 +1,5 @@
 //! How many resources a part has locked.
-ghost use Rattle.std.specs.Prelude.{◌≡◌, ◌≤◌, length, is_some, not};
+ghost use Rattle.std.specs.Prelude.{◌≡◌, ◌≤◌, length, is_some, not, if◌then◌else◌};
 ghost use Rattle.std.specs.List.{list_any};
 ghost use Rattle.std.specs.Ordering.{eq_by_cmp};
 ghost use Rattle.alp_base.specs.Orders.{resource_cmp};
@@ -28,7 +28,7 @@ impl<V: Vault> ServerState<V> {
     /// How many the live transaction has locked behind the call, which asks these and has so many locked now.
     pub fn lock_counts(&self, trans: TransId, locks: u32, needs: &Needs, call: &Call) -> LockCounts
         requires locks { locks ≤ 1024 }
-        requires few { length needs.now ≤ 2 }
+        requires few { length needs.now ≤ 64 }
         ensures { result ≡ counts_then locks (holding self.now.locks.held trans) needs.now call.now }
     {
         let asked = locks + self.fresh(trans, needs.as_slice());
@@ -41,15 +41,13 @@ impl<V: Vault> ServerState<V> {
 
     // How many of the resources are not held yet, each once.
     fn fresh(&self, trans: TransId, needs: &[(Resource, Mode)]) -> u32
-        requires { length needs.now ≤ 2 }
+        requires { length needs.now ≤ 64 }
         ensures count { result ≡ fresh_on (holding self.now.locks.held trans) needs.now }
-        ensures few { result ≤ 2 }
+        ensures few { result ≤ 64 }
     {
         let mut count = 0;
         for (i, need) in needs.iter().enumerate() {
-            if self.is_fresh(trans, &need.0, &needs[..i]) {
-                count += 1;
-            }
+            count += one_if(self.is_fresh(trans, &need.0, &needs[..i]));
         }
         count
     }
@@ -63,6 +61,12 @@ impl<V: Vault> ServerState<V> {
         }
         !is_among(at, before)
     }
+}
+
+fn one_if(counts: bool) -> u32
+    ensures { result ≡ if counts then 1 else 0 }
+{
+    if counts { 1 } else { 0 }
 }
 
 fn is_among(at: &Resource, needs: &[(Resource, Mode)]) -> bool

@@ -3,6 +3,7 @@ ghost use Rattle.std.specs.Prelude.{◌≡◌, ◌+◌, ◌<◌, ◌^◌, [], Is
 ghost use Rattle.std.specs.FinMap as map;
 ghost use Rattle.alp_files.specs.Locks.{IsFormed};
 ghost use Rattle.alp_locks.specs.Sound.{IsPrepared};
+ghost use Rattle.alp_locks.specs.Tables.{holding};
 ghost use Rattle.alp_journal.specs.declared.event.Event.TheVariants as event;
 ghost use Rattle.alp_journal.specs.Desk.{file_trans};
 ghost use Rattle.alp_node.specs.Asks.{IsAsked, asks_made as asks_made_of, makes_file, plan_of, plan_if, plan_for, count_made, with_plan, acts_of};
@@ -47,7 +48,7 @@ impl<V: Vault> ServerState<V> {
         requires known { IsTrue (V.tells self.old.vault) → IsOfJournal (V.held self.old.vault) self.old }
         requires sound { IsTrue (V.tells self.old.vault) → AreLivesSound (V.held self.old.vault) self.old }
         requires shape { (l : ALive) → map.get self.old.lives trans ≡ Some l → shape_of self.old.server self.old.epoch self.old.given (length l.part.opens.items) call.now ≡ None }
-        requires asked { (l : ALive) → map.get self.old.lives trans ≡ Some l → IsAsked (V.tells self.old.vault) (V.held self.old.vault).cells l.part call.now needs }
+        requires asked { (l : ALive) → map.get self.old.lives trans ≡ Some l → IsAsked (V.tells self.old.vault) (V.held self.old.vault).cells (holding self.old.locks.held trans) l.part call.now needs }
         requires none { (halted.items ≡ []) × (0 < vec_capacity halted) }
         ensures { IsStep V.Vault self.old self.new (event.Call turn.now.client self.old.epoch turn.now.number call.now) result }
     {

@@ -29,7 +29,7 @@ impl<V: Vault> ServerState<V> {
         ensures { result ≡ shape_of self.now.server self.now.epoch self.now.given opens call.now }
     {
         match call {
-            Call::CreateFile { start, .. } => match no_size(start.size) {
+            Call::CreateFile { start, .. } => match no_size(start.props().size) {
                 Some(refusal) => Some(refusal),
                 None => no_open(opens),
             },
@@ -41,6 +41,7 @@ impl<V: Vault> ServerState<V> {
             }
             Call::ReadPages { run, .. } => no_run(run),
             Call::WritePages { run, .. } => no_run(run),
+            Call::LockPages { run, .. } => no_run(run),
             Call::SetSize { size, .. } => no_size(*size),
             _ => None,
         }

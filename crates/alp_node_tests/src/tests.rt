@@ -1,7 +1,9 @@
 //! A server and its clients' sessions.
-ghost use Rattle.std.specs.Prelude.{◌≡◌, IfOk, IsTrue, false};
+ghost use Rattle.std.specs.Prelude.{◌≡◌, ◌≤◌, IfOk, IsTrue, false};
+ghost use Rattle.alp_vault.specs.Vault.{AreSizes};
 
 mod files;
+mod pages;
 
 use alp_base::{Name, Sizes, Stamp, TransId};
 use alp_disk::MemDisk;
@@ -41,14 +43,33 @@ const FIRST: TransId = TransId {
     counter: 1,
 };
 
+// One with a greater log, in which a part may change many cells: two areas of 2,048 pages.
+const ROOMY: Sizes = Sizes {
+    home: 512,
+    area: 2048,
+};
+
+const ROOMY_PAGES: u32 = 4610;
+
 fn store(alloc: Global) -> Result<Store<Silent>, Fail>
     ensures serves { IfOk result (λ s. IsTrue (⟦<Store<Silent> as Vault>⟧.serves s)) }
     ensures silent { IfOk result (λ s. ⟦<Store<Silent> as Vault>⟧.tells s ≡ false) }
     ensures number { IfOk result (λ s. ⟦<Store<Silent> as Vault>⟧.server s ≡ 1) }
     ensures one { IfOk result (λ s. ⟦<Store<Silent> as Vault>⟧.servers s ≡ 1) }
 {
-    let disk = MemDisk::new(alloc, PAGES, Vec::new(alloc))?;
-    match Store::start(alloc, Silent { disk }, 1, 1, SIZES) {
+    store_of(alloc, PAGES, SIZES)
+}
+
+fn store_of(alloc: Global, pages: u32, sizes: Sizes) -> Result<Store<Silent>, Fail>
+    requires pages { 2 ≤ pages }
+    requires sizes { AreSizes sizes }
+    ensures serves { IfOk result (λ s. IsTrue (⟦<Store<Silent> as Vault>⟧.serves s)) }
+    ensures silent { IfOk result (λ s. ⟦<Store<Silent> as Vault>⟧.tells s ≡ false) }
+    ensures number { IfOk result (λ s. ⟦<Store<Silent> as Vault>⟧.server s ≡ 1) }
+    ensures one { IfOk result (λ s. ⟦<Store<Silent> as Vault>⟧.servers s ≡ 1) }
+{
+    let disk = MemDisk::new(alloc, pages, Vec::new(alloc))?;
+    match Store::start(alloc, Silent { disk }, 1, 1, sizes) {
         Ok(store) => Ok(store),
         Err(_) => Err("a store".into()),
     }
@@ -57,6 +78,14 @@ fn store(alloc: Global) -> Result<Store<Silent>, Fail>
 // A server in its first epoch.
 fn server(alloc: Global) -> Result<Node<Store<Silent>>, Fail> {
     match Node::start(alloc, 1, 1, store(alloc)?) {
+        Ok(node) => Ok(node),
+        Err(_) => Err("a server".into()),
+    }
+}
+
+// One with a greater log.
+fn roomy(alloc: Global) -> Result<Node<Store<Silent>>, Fail> {
+    match Node::start(alloc, 1, 1, store_of(alloc, ROOMY_PAGES, ROOMY)?) {
         Ok(node) => Ok(node),
         Err(_) => Err("a server".into()),
     }

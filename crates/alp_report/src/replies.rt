@@ -119,7 +119,7 @@ pub(crate) fn put_reply(out: &mut Vec<u8>, reply: &Reply) -> io::Result<()>
         }
         Reply::Props(props) => {
             write!(out, "ok props ")?;
-            put_props(out, props)
+            put_props(out, props.props())
         }
         Reply::Owner(owner) => {
             write!(out, "ok owner ")?;

@@ -1,7 +1,9 @@
 use crate::replies::put_reply;
 use crate::*;
 use alp_base::{AccessList, FileId, Name, Page, PageList, PageRef, Stamp, TransId};
-use alp_files::{Call, Cause, Ended, ListName, OwnerRecord, Props, Refusal, Reply, What, Why};
+use alp_files::{
+    Call, Cause, Ended, HeldProps, ListName, OwnerRecord, Props, Refusal, Reply, What, Why,
+};
 use alp_journal::{Item, Mark, Sent};
 use std::alloc::Global;
 use std::test::Fail;
@@ -113,7 +115,7 @@ fn outcomes(rt: HostRuntime) -> Result<(), Fail> {
 #[test]
 fn properties_and_owners(rt: HostRuntime) -> Result<(), Fail> {
     let alloc = rt.alloc();
-    let file = Reply::Props(props(alloc)?);
+    let file = Reply::Props(HeldProps::new(alloc, props(alloc)?)?);
     let want =
         "ok props owner ann name a.txt type 7 time 18446744073709551615 bytes 1000 size 4 high 2 read ann,World modify -";
     assert!(rt; prints(alloc, &file, want)?);

@@ -7,7 +7,7 @@ ghost use Rattle.alp_rpc.specs.Calls.{is_run_mode as covers_pages, run_mode, fil
 use crate::read_change::read_change;
 use alp_base::{OutOfMemory, PageList, Run, TransId};
 use alp_fields::FieldReader;
-use alp_files::Call;
+use alp_files::{Call, HeldProps};
 use alp_forms::{read_mode, read_props as read_props_field};
 use alp_modes::Mode;
 use std::alloc::Global;
@@ -68,6 +68,7 @@ fn take_create_file(alloc: Global, reader: &mut FieldReader) -> Result<Option<Ca
     let Some(choice) = reader.choice() else {
         return Ok(None);
     };
+    let start = HeldProps::new(alloc, start)?;
     Ok(Some(Call::CreateFile {
         trans,
         start,

@@ -1,14 +1,15 @@
 //! Replies read from frames: a function for the fields of each.
 ghost use Rattle.std.specs.Prelude.{IfOk};
 ghost use Rattle.alp_fields.specs.Forms.{IsRead};
+ghost use Rattle.alp_forms.specs.PropsField.{props};
 ghost use Rattle.alp_forms.specs.Variants.{AreFieldsRead};
 ghost use Rattle.alp_rpc.specs.Endings.{ended};
 ghost use Rattle.alp_rpc.specs.Replies.{owner_field, created, reply};
 
 use alp_base::OutOfMemory;
 use alp_fields::FieldReader;
-use alp_files::{Ended, OwnerRecord, Reply};
-use alp_forms::{read_props, read_refusal};
+use alp_files::{Ended, HeldProps, OwnerRecord, Reply};
+use alp_forms::{read_props as read_props_field, read_refusal};
 use std::alloc::Global;
 
 fn take_created(reader: &mut FieldReader) -> Option<Reply>
@@ -17,6 +18,16 @@ fn take_created(reader: &mut FieldReader) -> Option<Reply>
     let file = reader.file_id()?;
     let open_no = reader.u32()?;
     Some(Reply::Created { file, open_no })
+}
+
+fn read_props(alloc: Global, reader: &mut FieldReader) -> Result<Option<HeldProps>, OutOfMemory>
+    ensures { IfOk result (IsRead props reader.old reader.new) }
+{
+    let Some(found) = read_props_field(alloc, reader)? else {
+        return Ok(None);
+    };
+    let held = HeldProps::new(alloc, found)?;
+    Ok(Some(held))
 }
 
 #[tactic(auto, unfolding(crate::specs::Replies::owner_field))]

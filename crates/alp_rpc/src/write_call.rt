@@ -290,7 +290,7 @@ pub(super) fn put_call(out: &mut Vec<u8>, given: &Call) -> Result<(), OutOfMemor
         Call::Hello { name } => put_hello(out, name),
         Call::Begin { seen } => put_begin(out, *seen),
         Call::Join { trans } => put_join(out, *trans),
-        Call::CreateFile { trans, start, choice } => put_create_file(out, *trans, start, *choice),
+        Call::CreateFile { trans, start, choice } => put_create_file(out, *trans, start.props(), *choice),
         Call::OpenFile { trans, file, access, mode, choice } => put_open_file(out, *trans, *file, *access, *mode, *choice),
         Call::CloseFile { trans, open_no } => put_close_file(out, *trans, *open_no),
         Call::DeleteFile { trans, open_no, choice } => put_delete_file(out, *trans, *open_no, *choice),

@@ -128,7 +128,7 @@ pub(super) fn put_reply(out: &mut Vec<u8>, given: &Reply) -> Result<(), OutOfMem
         Reply::Opened { open_no } => put_opened(out, *open_no),
         Reply::Plain => put_u8(out, 6),
         Reply::Pages(pages) => put_some_pages(out, pages),
-        Reply::Props(props) => put_some_props(out, props),
+        Reply::Props(props) => put_some_props(out, props.props()),
         Reply::Owner(owner) => put_owner(out, owner),
         Reply::Committed { stamp } => put_committed(out, *stamp),
         Reply::Ended(how) => put_ended(out, *how),

@@ -8,7 +8,7 @@ use Rattle.alp_tokens.specs.Words.{words_of}
 use Rattle.alp_tokens.specs.Numbers.{number_of, within}
 use Rattle.alp_tokens.specs.Names.{name_of, names_of, list_of, text_of}
 use Rattle.alp_lines.specs.FileWords.{id_of, file_word_of, new_word_of}
-use Rattle.alp_lines.specs.Operands.{run_of, choice_of, access_of, opening_of}
+use Rattle.alp_lines.specs.Operands.{run_of, choice_of, access_of, purpose_of, mode_of, reading_of}
 use Rattle.alp_lines.specs.ClientLines.{begin_line, bare_line, make_owner_line, file_line, create_line, open_line, write_line, read_line, line_on_file, line_by_verb}
 use Rattle.alp_lines.specs.Grammar.{text_said, servers_line, client_line, patience_line, line_of_client, line_by, line_said}
 use Rattle.alp_lines.specs.Named.{client_named, server_named}
@@ -65,7 +65,7 @@ whole_path : script (codes "servers 1" ++ line_end ++ codes "client 1 Admin" ++ 
     ∷ numbered 8 (line.Commit 1)
     ∷ []
     )
-unfolding script read_at text_said line_said words_of line_by servers_line client_line line_of_client line_by_verb begin_line make_owner_line create_line file_line line_on_file write_line read_line bare_line access_of list_of names_of choice_of run_of within number_of name_of text_of id_of file_word_of new_word_of next is_declared names_ours client_named server_named after after_servers after_client after_file
+unfolding script read_at text_said line_said words_of line_by servers_line client_line line_of_client line_by_verb begin_line make_owner_line create_line file_line line_on_file write_line read_line bare_line access_of reading_of list_of names_of choice_of run_of within number_of name_of text_of id_of file_word_of new_word_of next is_declared names_ours client_named server_named after after_servers after_client after_file
 whole_path = refl
 
 -- patience, and a principal of another name
@@ -88,7 +88,7 @@ two_clients : script (codes "servers 1" ++ line_end ++ codes "client 16 Admin" +
     ∷ numbered 7 (line.Abort 16)
     ∷ []
     )
-unfolding script read_at text_said line_said words_of line_by servers_line client_line line_of_client line_by_verb create_line file_line line_on_file opening_of open_line bare_line access_of list_of names_of choice_of within number_of name_of id_of file_word_of new_word_of next is_declared names_ours client_named server_named after after_servers after_client after_file
+unfolding script read_at text_said line_said words_of line_by servers_line client_line line_of_client line_by_verb create_line file_line line_on_file purpose_of mode_of open_line bare_line access_of list_of names_of choice_of within number_of name_of id_of file_word_of new_word_of next is_declared names_ours client_named server_named after after_servers after_client after_file
 two_clients = refl
 
 late_declaration : script (codes "servers 1" ++ line_end ++ codes "client 1 Admin" ++ line_end ++ codes "1 begin 1" ++ line_end ++ codes "client 2 Admin" ++ line_end) ≡ Err (fault.Bad 4)

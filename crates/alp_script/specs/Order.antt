@@ -92,6 +92,7 @@ after k (line.CloseFile client file) = after_file k file
 after k (line.DeleteFile client file choice) = after_file k file
 after k (line.ReadPages client file run mode choice) = after_file k file
 after k (line.WritePages client file run text choice) = after_file k file
+after k (line.LockPages client file run mode choice) = after_file k file
 after k (line.SetSize client file size choice) = after_file k file
 after k (line.ReadProps client file) = after_file k file
 after k (line.WriteProps client file change choice) = after_file k file

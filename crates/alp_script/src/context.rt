@@ -182,6 +182,7 @@ impl Context {
             Line::DeleteFile { file, .. } => self.take_file(file),
             Line::ReadPages { file, .. } => self.take_file(file),
             Line::WritePages { file, .. } => self.take_file(file),
+            Line::LockPages { file, .. } => self.take_file(file),
             Line::SetSize { file, .. } => self.take_file(file),
             Line::ReadProps { file, .. } => self.take_file(file),
             Line::WriteProps { file, .. } => self.take_file(file),

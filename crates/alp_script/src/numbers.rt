@@ -13,6 +13,6 @@ pub fn numbers_are_fixed()
     ensures home { (home_least ≡ 512) × (home_most ≡ 65536) }
     ensures area { (area_least ≡ 64) × (area_most ≡ 4096) }
     ensures lines { (script_lines_most ≡ 200000) × (line_bytes ≡ 1024) }
-    ensures words { (text_bytes ≡ 64) × (run_most ≡ 16) }
+    ensures words { (text_bytes ≡ 64) × (run_most ≡ 255) }
     ensures patience { patience_most ≡ 1000 }
 {}

@@ -115,18 +115,19 @@ fn refuses_wrong_clients(rt: HostRuntime) -> Result<(), Fail> {
 #[test]
 fn refuses_wrong_file_lines(rt: HostRuntime) -> Result<(), Fail> {
     let alloc = rt.alloc();
-    let cases: [&[u8]; 11] = [
+    let cases: [&[u8]; 12] = [
         b"1 open A read r",
         b"1 open B read r",
         b"1 open 2.1.1 read r",
         b"1 write A 0 1 x",
         b"1 read A 0 1",
-        b"1 open F read w",
-        b"1 open F change r",
-        b"1 open F change iw",
+        b"1 lock A 0 1 r",
+        b"1 lock 2.1.1 0 1 r",
+        b"1 open F read x",
         b"1 open F read",
         b"1 open F read r wait",
-        b"1 read F 0 17",
+        b"1 read F 0 256",
+        b"1 lock F 0 1 iw",
     ];
     for line in cases {
         let mut text = Vec::from_slice(
@@ -228,6 +229,16 @@ fn reads_lines_of_two_clients(rt: HostRuntime) -> Result<(), Fail> {
         )
     );
     assert!(rt; matches!(lines[6].line, Line::Abort { client: 1 }));
+    Ok(())
+}
+
+// Each line on a file that is bound may stand, in each of its modes and with the longest run.
+#[test]
+fn reads_lines_with_locks(rt: HostRuntime) -> Result<(), Fail> {
+    let alloc = rt.alloc();
+    let text =
+        b"servers 1\nclient 1 ann\n1 create 1 F ann 1\n1 open F change riw\n1 open F read ir fail\n1 read F 0 255 u\n1 lock F 4294967295 255 w fail\n1 lock 1.1.1 0 1 r\n";
+    assert_eq!(rt; count(alloc, text), Ok(8));
     Ok(())
 }
 

@@ -1,15 +1,17 @@
 -- the calls of lines have frames
 use Rattle.std.specs.Prelude.{Option, None, Some, IfSome}
-use Rattle.std.proofs.Common.{ℕ, ◌≤◌, ◌^◌, refl, sym, arith}
+use Rattle.std.proofs.Common.{◌≡◌, ℕ, ◌≤◌, ◌^◌, true, refl, sym, arith}
 use Rattle.std.proofs.lemmas.List.{length-replicate}
 use Rattle.alp_base.specs.declared.ids.TransId.{TransId}
 use Rattle.alp_base.specs.Pages.{page_of}
 use Rattle.alp_files.specs.declared.call.Call.{Call}
 use Rattle.alp_lines.specs.declared.line.Line.{Line}
 use Rattle.alp_lines.specs.declared.line.Line.TheVariants as line
-use Rattle.alp_lines.specs.Forms.{IsForm}
+use Rattle.alp_lines.specs.Forms.{IsPageMode, IsForm}
 use Rattle.alp_lines.specs.Forms as form
-use Rattle.alp_rpc.specs.Calls.{IsSendable}
+use Rattle.alp_modes.specs.declared.Mode.{Mode}
+use Rattle.alp_modes.specs.declared.Mode.TheVariants as mode
+use Rattle.alp_rpc.specs.Calls.{is_run_mode, IsSendable}
 use Rattle.alp_rpc.specs.Frames as frames
 use Rattle.alp_session.specs.Maps.{WordMap}
 use Rattle.alp_session.specs.Calls.{owner_call, making_call, props_call, file_call, page_call, call_in, call_with, call_by, IsAskable}
@@ -45,6 +47,7 @@ of_file words c t l = of_props words c t l
 of_pages : (words : WordMap) (c : Client) (t : TransId) (l : Line) → IsAskable l → Sendable (page_call words c t l)
 of_pages words c t (line.WritePages client file run text choice) h = (h.0, sym (length-replicate run.count (page_of text)))
 of_pages words c t (line.ReadPages client file run mode choice) h = h
+of_pages words c t (line.LockPages client file run mode choice) h = h
 of_pages words c t l h = of_file words c t l
 
 in_trans : (words : WordMap) (c : Client) (t : TransId) (l : Line) → IsAskable l → Sendable (call_in words c t l)
@@ -67,6 +70,15 @@ pub request_sendable : (k : ℕ) (c : Client) (o : Option Greeted) (asked : Call
 request_sendable k c None asked from_one to_last h = (record { from_one = from_one; to_last = to_last; counted = omega arith }, tt)
 request_sendable k c (Some g) asked from_one to_last h = (record { from_one = from_one; to_last = to_last; counted = omega arith }, h)
 
+-- pages are locked in modes that have a spelling there
+of_page_mode : (lock : Mode) → IsPageMode lock → is_run_mode lock ≡ true
+of_page_mode mode.IntendRead fit = absurd fit
+of_page_mode mode.IntendWrite fit = absurd fit
+of_page_mode mode.Read fit = refl
+of_page_mode mode.Update fit = refl
+of_page_mode mode.ReadIntendWrite fit = absurd fit
+of_page_mode mode.Write fit = refl
+
 -- the lines of the language have frames
 pub form_askable : (l : Line) → IsForm l → IsAskable l
 form_askable l (form.servers count) = tt
@@ -82,12 +94,12 @@ form_askable l (form.owner number server name quota create few) = tt
 form_askable l (form.read_owner number server name) = tt
 form_askable l (form.quota number server name quota) = tt
 form_askable l (form.create number server word name size read modify small few_read few_modify) = tt
-form_askable l (form.open_read number file) = tt
-form_askable l (form.open_change number file) = tt
+form_askable l (form.open_file number file purpose lock) = tt
 form_askable l (form.close number file) = tt
 form_askable l (form.delete number file) = tt
 form_askable l (form.write number file run text run_formed text_formed) = (omega (arith, run_formed.some), omega (arith, text_formed.short))
-form_askable l (form.read number file run formed) = (omega (arith, formed.some), refl)
+form_askable l (form.read number file run lock formed fit) = (omega (arith, formed.some), of_page_mode lock fit)
+form_askable l (form.lock number file run lock formed fit) = (omega (arith, formed.some), of_page_mode lock fit)
 form_askable l (form.size number file size small) = tt
 form_askable l (form.props number file) = tt
 form_askable l (form.change number file change formed) = tt

@@ -37,10 +37,11 @@ file_call words c t (line.DeleteFile client file choice) = Some (call.DeleteFile
 file_call words c t (line.SetSize client file size choice) = Some (call.SetSize t (open_at words c file) size choice)
 file_call words c t l = props_call words c t l
 
--- or one that reads or writes pages
+-- or one that reads, writes or locks pages
 abbrev pub page_call : WordMap → Client → TransId → Line → Option Call
 page_call words c t (line.WritePages client file run text choice) = Some (call.WritePages t (open_at words c file) run (replicate run.count (page_of text)) choice)
 page_call words c t (line.ReadPages client file run mode choice) = Some (call.ReadPages t (open_at words c file) run mode choice)
+page_call words c t (line.LockPages client file run mode choice) = Some (call.LockPages t (open_at words c file) run mode choice)
 page_call words c t l = file_call words c t l
 
 -- the call of a line in the client's transaction
@@ -59,9 +60,10 @@ abbrev pub call_by : WordMap → Client → Line → Option Call
 call_by words c (line.Begin client server) = Some (call.Begin c.told)
 call_by words c l = call_with words c c.trans l
 
--- What a line has to be for its call to have a frame: a run is not empty, a text fits a page, and pages are read in a mode that
--- is no intention.
+-- What a line has to be for its call to have a frame: a run is not empty, a text fits a page, and pages are read and locked
+-- in a mode that is no intention.
 abbrev pub IsAskable : Line → Type 0
 IsAskable (line.WritePages client file run text choice) = (1 ≤ run.count) × (length text ≤ 512)
 IsAskable (line.ReadPages client file run mode choice) = (1 ≤ run.count) × (is_run_mode mode ≡ true)
+IsAskable (line.LockPages client file run mode choice) = (1 ≤ run.count) × (is_run_mode mode ≡ true)
 IsAskable _ = Unit {0}

@@ -8,7 +8,7 @@ use crate::{Client, Words};
 use alp_base::{
     AccessList, Bytes, FileId, Name, OutOfMemory, Page, PageList, PageRef, Run, TransId,
 };
-use alp_files::{Call, Props};
+use alp_files::{Call, HeldProps, Props};
 use alp_lines::{FileWord, Line};
 use std::alloc::Global;
 
@@ -74,7 +74,7 @@ fn owner_call(trans: TransId, line: &Line) -> Option<Call>
 }
 
 // The call of a line that makes an owner or a file, or of one on an owner.
-fn making_call(trans: TransId, line: &Line) -> Result<Option<Call>, OutOfMemory>
+fn making_call(alloc: Global, trans: TransId, line: &Line) -> Result<Option<Call>, OutOfMemory>
     ensures { IfOk result (λ call. call ≡ making_call_said trans line.now) }
 {
     let call = match line {
@@ -99,11 +99,14 @@ fn making_call(trans: TransId, line: &Line) -> Result<Option<Call>, OutOfMemory>
             modify,
             choice,
             ..
-        } => Call::CreateFile {
-            trans,
-            start: new_props(*word, *owner, *size, read.clone()?, modify.clone()?),
-            choice: *choice,
-        },
+        } => {
+            let start = new_props(*word, *owner, *size, read.clone()?, modify.clone()?);
+            Call::CreateFile {
+                trans,
+                start: HeldProps::new(alloc, start)?,
+                choice: *choice,
+            }
+        }
         _ => return Ok(owner_call(trans, line)),
     };
     Ok(Some(call))
@@ -130,6 +133,7 @@ impl Client {
     // The call of a line on the properties of a file, or on no file that is open.
     fn props_call(
         &self,
+        alloc: Global,
         words: &Words,
         trans: TransId,
         line: &Line,
@@ -152,7 +156,7 @@ impl Client {
                 change: change.clone()?,
                 choice: *choice,
             },
-            _ => return making_call(trans, line),
+            _ => return making_call(alloc, trans, line),
         };
         Ok(Some(call))
     }
@@ -160,6 +164,7 @@ impl Client {
     // The call of a line on all of a file, or on no pages.
     fn file_call(
         &self,
+        alloc: Global,
         words: &Words,
         trans: TransId,
         line: &Line,
@@ -187,12 +192,12 @@ impl Client {
                 size: *size,
                 choice: *choice,
             },
-            _ => return self.props_call(words, trans, line),
+            _ => return self.props_call(alloc, words, trans, line),
         };
         Ok(Some(call))
     }
 
-    // The call of a line that reads or writes pages, or of another but an open.
+    // The call of a line that reads, writes or locks pages, or of another but an open.
     fn page_call(
         &self,
         alloc: Global,
@@ -230,7 +235,20 @@ impl Client {
                 mode: *mode,
                 choice: *choice,
             },
-            _ => return self.file_call(words, trans, line),
+            Line::LockPages {
+                file,
+                run,
+                mode,
+                choice,
+                ..
+            } => Call::LockPages {
+                trans,
+                open_no: self.open_at(words, file),
+                run: *run,
+                mode: *mode,
+                choice: *choice,
+            },
+            _ => return self.file_call(alloc, words, trans, line),
         };
         Ok(Some(call))
     }

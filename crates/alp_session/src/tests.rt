@@ -7,6 +7,7 @@ use crate::*;
 use alp_base::{AccessList, Bytes, Choice, FileId, Name, OutOfMemory, Run, Stamp, TransId};
 use alp_files::{Call, PropChange, Refusal, Reply};
 use alp_lines::{FileWord, Line};
+use alp_modes::Mode;
 use alp_rpc::{ReplyFrame, Request, decode_request, encode_reply};
 use std::alloc::Global;
 use std::test::Fail;
@@ -110,6 +111,48 @@ fn calls_on_files(rt: HostRuntime) -> Result<(), Fail> {
         file: FileWord::Word(name(b"G")?),
     };
     assert!(rt; sends(alloc, &never_opened, &Call::ReadProps { trans, open_no: 0 })?);
+    Ok(())
+}
+
+#[test]
+fn calls_on_pages(rt: HostRuntime) -> Result<(), Fail> {
+    let alloc = rt.alloc();
+    let (trans, choice, open_no) = (TRANS, Choice::Fail, 7);
+    let (client, file) = (1, FileWord::Id(FILE));
+    let run = Run {
+        first: u32::MAX,
+        count: 255,
+    };
+    let reads = Line::ReadPages {
+        client,
+        file,
+        run,
+        mode: Mode::Update,
+        choice,
+    };
+    let read = Call::ReadPages {
+        trans,
+        open_no,
+        run,
+        mode: Mode::Update,
+        choice,
+    };
+    assert!(rt; sends(alloc, &reads, &read)?);
+    let locks = Line::LockPages {
+        client,
+        file,
+        run,
+        mode: Mode::Write,
+        choice,
+    };
+    let lock = Call::LockPages {
+        trans,
+        open_no,
+        run,
+        mode: Mode::Write,
+        choice,
+    };
+    assert!(rt; sends(alloc, &locks, &lock)?);
     Ok(())
 }
 
@@ -373,7 +416,7 @@ fn leaves_a_stale_session(rt: HostRuntime) -> Result<(), Fail> {
     Ok(())
 }
 
-// The pages of a write stand in its frame, each once.
+// The pages of a write stand in its frame, each once, also of the longest run.
 #[test]
 fn spells_pages(rt: HostRuntime) -> Result<(), Fail> {
     let alloc = rt.alloc();
@@ -382,14 +425,16 @@ fn spells_pages(rt: HostRuntime) -> Result<(), Fail> {
         file: FileWord::Id(FILE),
         run: Run {
             first: 3,
-            count: 16,
+            count: 255,
         },
         text: Bytes::new(Vec::from_slice(alloc, b"hello")?),
         choice: Choice::Fail,
     };
     let frame = sent(alloc, &client(alloc)?, &Words::new(alloc), &line)?.ok_or("a frame")?;
-    assert_eq!(rt; frame.as_slice().len(), 11 + 9 + 4 + 5 + 1 + 16 * 512 + 1);
+    assert_eq!(rt; frame.as_slice().len(), 11 + 9 + 4 + 5 + 1 + 255 * 512 + 1);
     let asked = request(alloc, &line)?;
-    assert!(rt; matches!(&asked.call, Call::WritePages { pages, .. } if pages.pages().len() == 16));
+    assert!(rt;
+        matches!(&asked.call, Call::WritePages { pages, .. } if pages.pages().len() == 255)
+    );
     Ok(())
 }

@@ -1,5 +1,5 @@
 -- what a client asks is served
-use Rattle.std.specs.Prelude.{Option, None, Some}
+use Rattle.std.specs.Prelude.{Option, None, Some, IsTrue}
 use Rattle.std.proofs.Common.{◌<◌, ◌^◌, ◌≡◌, ℕ, ◌≤◌, List, refl, subst}
 use Rattle.std.proofs.lemmas.List.{length-replicate}
 use Rattle.std.specs.List.{AllByRecursion}
@@ -8,9 +8,11 @@ use Rattle.alp_base.specs.declared.ids.TransId.{TransId}
 use Rattle.alp_files.specs.declared.call.Call.{Call}
 use Rattle.alp_files.specs.declared.call.Call.TheVariants as call
 use Rattle.alp_files.specs.Locks.{page_limit}
-use Rattle.alp_files.proofs.HeldLemmas.{reads-all}
+use Rattle.alp_modes.specs.declared.Mode.{Mode}
+use Rattle.alp_modes.specs.declared.Mode.TheVariants as mode
+use Rattle.alp_modes.specs.Modes.{covers_of}
 use Rattle.alp_lines.specs.declared.line.Line.{Line}
-use Rattle.alp_lines.specs.Forms.{IsForm}
+use Rattle.alp_lines.specs.Forms.{IsPageMode, IsForm}
 use Rattle.alp_lines.specs.Forms as form
 use Rattle.alp_session.specs.Maps.{WordMap}
 use Rattle.alp_session.specs.declared.client.Client.{Client}
@@ -38,6 +40,16 @@ small_size : (size : ℕ) → size < 2 ^ 32 → size < page_limit
 unfolding page_limit
 small_size size h = h
 
+-- pages are read under locks that let them be read
+reads : (lock : Mode) → IsPageMode lock → IsTrue (covers_of lock mode.Read)
+unfolding covers_of
+reads mode.IntendRead fit = absurd fit
+reads mode.IntendWrite fit = absurd fit
+reads mode.Read fit = refl
+reads mode.Update fit = refl
+reads mode.ReadIntendWrite fit = absurd fit
+reads mode.Write fit = refl
+
 -- the call of a line is one that the server answers
 pub line_call : (words : WordMap) (c : Client) (l : Line) (asked : Call) → c.told.ts ≤ 2 ^ 62 → IsForm l → call_by words c l ≡ Some asked → IsTurnCall asked
 line_call words c l asked low (form.servers count) e = in_trans words c l c.trans asked IsTurnCall e (λ t x own. no_call x IsTurnCall own)
@@ -53,12 +65,12 @@ line_call words c l asked low (form.owner k server name quota list few) e = in_t
 line_call words c l asked low (form.read_owner k server name) e = in_trans words c l c.trans asked IsTurnCall e (λ t x own. is_asked _ x IsTurnCall own (refl, (tt, tt, tt)))
 line_call words c l asked low (form.quota k server name quota) e = in_trans words c l c.trans asked IsTurnCall e (λ t x own. is_asked _ x IsTurnCall own (refl, (tt, tt, tt)))
 line_call words c l asked low (form.create k server word name size read modify small few many) e = in_trans words c l c.trans asked IsTurnCall e (λ t x own. is_asked _ x IsTurnCall own (refl, (tt, small_size size small, tt)))
-line_call words c l asked low (form.open_read k file) e = in_trans words c l c.trans asked IsTurnCall e (λ t x own. is_asked _ x IsTurnCall own ((refl, refl), (tt, tt, tt)))
-line_call words c l asked low (form.open_change k file) e = in_trans words c l c.trans asked IsTurnCall e (λ t x own. is_asked _ x IsTurnCall own ((refl, refl), (tt, tt, tt)))
+line_call words c l asked low (form.open_file k file purpose lock) e = in_trans words c l c.trans asked IsTurnCall e (λ t x own. is_asked _ x IsTurnCall own (refl, (tt, tt, tt)))
 line_call words c l asked low (form.close k file) e = in_trans words c l c.trans asked IsTurnCall e (λ t x own. is_asked _ x IsTurnCall own (tt, (tt, tt, tt)))
 line_call words c l asked low (form.delete k file) e = in_trans words c l c.trans asked IsTurnCall e (λ t x own. is_asked _ x IsTurnCall own (refl, (tt, tt, tt)))
 line_call words c l asked low (form.write k file run text some short) e = in_trans words c l c.trans asked IsTurnCall e (λ t x own. is_asked _ x IsTurnCall own ((length-replicate run.count _, refl), (length-replicate run.count _, tt, tt)))
-line_call words c l asked low (form.read k file run some) e = in_trans words c l c.trans asked IsTurnCall e (λ t x own. is_asked _ x IsTurnCall own ((refl, refl), (tt, tt, reads-all)))
+line_call words c l asked low (form.read k file run lock some fit) e = in_trans words c l c.trans asked IsTurnCall e (λ t x own. is_asked _ x IsTurnCall own (refl, (tt, tt, reads lock fit)))
+line_call words c l asked low (form.lock k file run lock some fit) e = in_trans words c l c.trans asked IsTurnCall e (λ t x own. is_asked _ x IsTurnCall own (refl, (tt, tt, tt)))
 line_call words c l asked low (form.size k file size small) e = in_trans words c l c.trans asked IsTurnCall e (λ t x own. is_asked _ x IsTurnCall own (refl, (tt, small_size size small, tt)))
 line_call words c l asked low (form.props k file) e = in_trans words c l c.trans asked IsTurnCall e (λ t x own. is_asked _ x IsTurnCall own (tt, (tt, tt, tt)))
 line_call words c l asked low (form.change k file change right) e = in_trans words c l c.trans asked IsTurnCall e (λ t x own. is_asked _ x IsTurnCall own (refl, (tt, tt, tt)))
@@ -84,12 +96,12 @@ line_has_seen words c l asked before made e low = go l made e
     go l (form.read_owner k server name) e = in_trans words c l c.trans asked P e (λ t x own. is_asked _ x P own tt)
     go l (form.quota k server name quota) e = in_trans words c l c.trans asked P e (λ t x own. is_asked _ x P own tt)
     go l (form.create k server word name size read modify small few many) e = in_trans words c l c.trans asked P e (λ t x own. is_asked _ x P own tt)
-    go l (form.open_read k file) e = in_trans words c l c.trans asked P e (λ t x own. is_asked _ x P own tt)
-    go l (form.open_change k file) e = in_trans words c l c.trans asked P e (λ t x own. is_asked _ x P own tt)
+    go l (form.open_file k file purpose lock) e = in_trans words c l c.trans asked P e (λ t x own. is_asked _ x P own tt)
     go l (form.close k file) e = in_trans words c l c.trans asked P e (λ t x own. is_asked _ x P own tt)
     go l (form.delete k file) e = in_trans words c l c.trans asked P e (λ t x own. is_asked _ x P own tt)
     go l (form.write k file run text some short) e = in_trans words c l c.trans asked P e (λ t x own. is_asked _ x P own tt)
-    go l (form.read k file run some) e = in_trans words c l c.trans asked P e (λ t x own. is_asked _ x P own tt)
+    go l (form.read k file run lock some fit) e = in_trans words c l c.trans asked P e (λ t x own. is_asked _ x P own tt)
+    go l (form.lock k file run lock some fit) e = in_trans words c l c.trans asked P e (λ t x own. is_asked _ x P own tt)
     go l (form.size k file size small) e = in_trans words c l c.trans asked P e (λ t x own. is_asked _ x P own tt)
     go l (form.props k file) e = in_trans words c l c.trans asked P e (λ t x own. is_asked _ x P own tt)
     go l (form.change k file change right) e = in_trans words c l c.trans asked P e (λ t x own. is_asked _ x P own tt)

@@ -560,10 +560,16 @@ const PAGES_LIMIT: [&[u8]; 2] = [
     b"15 ok trans 1.1.3\n16 refused 15 Pages 4096\nserver 1 epoch 1 clock 2 files 1 pages 4\nowner 1 ann charge 4 quota 10\ncommitted 2 aborted 1\n",
 ];
 
+// Two clients lock some of a file's pages each, a third meets both, and a run is locked whole or not at all.
+const LOCKS: [&[u8]; 2] = [
+    b"2 begin 1\n3 begin 1\n2 open A change iw\n3 open A change iw\n2 write A 0 2 two\n3 read A 0 1 u\n3 lock A 1 3 r\n3 lock A 2 2 u\n2 read A 2 1\n2 read A 2 1 w\n2 lock A 0 17 r\n2 write A 0 255 x\n4 begin 1\n4 open A read riw\n4 open A read ir\n4 lock A 3 1 w\n4 read A 0 4\n3 commit\n2 commit\n4 read A 0 4\n4 commit\n",
+    b"15 ok trans 1.1.3\n16 ok trans 1.1.4\n17 ok open 1\n18 ok open 1\n19 ok\n20 refused 16 holder 1.1.3\n21 refused 16 holder 1.1.3\n22 ok\n23 ok hello\n24 refused 16 holder 1.1.4\n25 refused 15 Run 16\n26 refused 15 Run 16\n27 ok trans 1.1.5\n28 refused 16 holder 1.1.3\n29 ok open 1\n30 refused 9\n31 refused 16 holder 1.1.3\n32 ok stamp 3 1.1.4\n33 ok stamp 4 1.1.3\n34 ok two two hello hello\n35 ok stamp 5 1.1.5\nserver 1 epoch 1 clock 5 files 1 pages 4\nowner 1 ann charge 4 quota 10\ncommitted 5 aborted 0\n",
+];
+
 #[test]
-fn plays_what_owners_are_charged_for(rt: HostRuntime) -> Result<(), Fail> {
+fn plays_charges_and_locks(rt: HostRuntime) -> Result<(), Fail> {
     let alloc = rt.alloc();
-    for [lines, answers] in [SIZES, CHARGES, DELETIONS, DENIALS, PAGES_LIMIT] {
+    for [lines, answers] in [SIZES, CHARGES, DELETIONS, DENIALS, PAGES_LIMIT, LOCKS] {
         let mut script = Vec::from_slice(alloc, SET_UP)?;
         script.extend_from_slice(lines)?;
         let mut report = Vec::from_slice(alloc, SET_UP_TOLD)?;

@@ -5,7 +5,7 @@ ghost use Rattle.alp_node.specs.Served.{IsAskable};
 
 use super::{FIRST, NO_STAMP, server};
 use alp_base::{Access, AccessList, CLIENTS, Choice, FileId, Name, OutOfMemory, TransId};
-use alp_files::{Call, ListName, PropChange, Props, Refusal, Reply, What};
+use alp_files::{Call, HeldProps, ListName, PropChange, Props, Refusal, Reply, What};
 use alp_journal::Event;
 use alp_modes::Mode;
 use alp_node::Node;
@@ -14,7 +14,7 @@ use std::alloc::Global;
 use std::test::*;
 
 // The second transaction of the server.
-const SECOND: TransId = TransId {
+pub(super) const SECOND: TransId = TransId {
     server: 1,
     epoch: 1,
     counter: 2,
@@ -22,18 +22,18 @@ const SECOND: TransId = TransId {
 
 // A client, and the number of its last call.
 #[derive(Clone, Copy)]
-struct Client {
+pub(super) struct Client {
     number: u8,
     last: u32,
 }
 
 // ---- calls of the first transaction
 
-fn ann() -> Name {
+pub(super) fn ann() -> Name {
     Name::spelled(b"ann")
 }
 
-fn bob() -> Name {
+pub(super) fn bob() -> Name {
     Name::spelled(b"bob")
 }
 
@@ -43,24 +43,24 @@ fn everyone(alloc: Global) -> Result<AccessList, OutOfMemory> {
     Ok(AccessList::new(names))
 }
 
-// An owner whose files may have 20 pages.
-fn new_owner(alloc: Global, owner: Name) -> Result<Call, OutOfMemory>
+// An owner whose files may have so many pages.
+pub(super) fn new_owner(alloc: Global, owner: Name, quota: u32) -> Result<Call, OutOfMemory>
     ensures { IfOk result IsAskable }
 {
     Ok(Call::MakeOwner {
         trans: FIRST,
         owner,
-        quota: 20,
+        quota,
         create: everyone(alloc)?,
         choice: Choice::Fail,
     })
 }
 
 #[tactic(auto, unfolding(alp_files::specs::Locks::page_limit))]
-fn new_file(alloc: Global, size: u32) -> Result<Call, OutOfMemory>
+pub(super) fn new_file(alloc: Global, size: u32) -> Result<Call, OutOfMemory>
     ensures { IfOk result IsAskable }
 {
-    let start = Props {
+    let props = Props {
         owner: ann(),
         name: ann(),
         type_no: 0,
@@ -73,7 +73,7 @@ fn new_file(alloc: Global, size: u32) -> Result<Call, OutOfMemory>
     };
     Ok(Call::CreateFile {
         trans: FIRST,
-        start,
+        start: HeldProps::new(alloc, props)?,
         choice: Choice::Fail,
     })
 }
@@ -160,7 +160,7 @@ fn close() -> Call
     }
 }
 
-fn commit() -> Call
+pub(super) fn commit() -> Call
     ensures { IsAskable result }
 {
     Call::Finish {
@@ -195,7 +195,7 @@ fn set_quota(trans: TransId, quota: u32) -> Call
 // ---- what clients are answered
 
 // A client that greeted.
-fn greeted<V: Vault>(node: &mut Node<V>, number: u8, name: Name) -> Result<Client, Fail>
+pub(super) fn greeted<V: Vault>(node: &mut Node<V>, number: u8, name: Name) -> Result<Client, Fail>
     requires { number ≤ CLIENTS }
 {
     let greeting = Event::Call {
@@ -209,7 +209,11 @@ fn greeted<V: Vault>(node: &mut Node<V>, number: u8, name: Name) -> Result<Clien
 }
 
 // What the client is answered to its next call.
-fn ask<V: Vault>(node: &mut Node<V>, client: &mut Client, call: Call) -> Result<Reply, Fail>
+pub(super) fn ask<V: Vault>(
+    node: &mut Node<V>,
+    client: &mut Client,
+    call: Call,
+) -> Result<Reply, Fail>
     requires { IsAskable call }
 {
     if client.number > CLIENTS {
@@ -229,14 +233,18 @@ fn ask<V: Vault>(node: &mut Node<V>, client: &mut Client, call: Call) -> Result<
 }
 
 // Whether the call is done.
-fn is_done<V: Vault>(node: &mut Node<V>, client: &mut Client, call: Call) -> Result<bool, Fail>
+pub(super) fn is_done<V: Vault>(
+    node: &mut Node<V>,
+    client: &mut Client,
+    call: Call,
+) -> Result<bool, Fail>
     requires { IsAskable call }
 {
     Ok(matches!(ask(node, client, call)?, Reply::Plain))
 }
 
 // Whether the call is refused so.
-fn is_refused<V: Vault>(
+pub(super) fn is_refused<V: Vault>(
     node: &mut Node<V>,
     client: &mut Client,
     call: Call,
@@ -275,7 +283,10 @@ fn is_owned<V: Vault>(
         open_no: 1,
     };
     match ask(node, client, read)? {
-        Reply::Props(props) => Ok(props.owner == owner && props.size == size),
+        Reply::Props(held) => {
+            let props = held.props();
+            Ok(props.owner == owner && props.size == size)
+        }
         _ => Ok(false),
     }
 }
@@ -284,7 +295,7 @@ fn is_owned<V: Vault>(
 fn with_owner<V: Vault>(alloc: Global, node: &mut Node<V>) -> Result<Client, Fail> {
     let mut admin = greeted(node, 1, Name::spelled(b"Admin"))?;
     let _ = ask(node, &mut admin, Call::Begin { seen: NO_STAMP })?;
-    let _ = ask(node, &mut admin, new_owner(alloc, ann())?)?;
+    let _ = ask(node, &mut admin, new_owner(alloc, ann(), 20)?)?;
     Ok(admin)
 }
 
@@ -344,7 +355,10 @@ fn is_named<V: Vault>(
         open_no: 1,
     };
     match ask(node, client, read)? {
-        Reply::Props(props) => Ok(props.name == name && props.byte_length == bytes),
+        Reply::Props(held) => {
+            let props = held.props();
+            Ok(props.name == name && props.byte_length == bytes)
+        }
         _ => Ok(false),
     }
 }
@@ -375,7 +389,7 @@ fn goes_over<V: Vault>(node: &mut Node<V>, client: &mut Client) -> Result<bool, 
 // Whether it does so to an owner who was just made.
 fn is_moved<V: Vault>(alloc: Global, node: &mut Node<V>) -> Result<bool, Fail> {
     let mut admin = with_file(alloc, node)?;
-    let made = is_done(node, &mut admin, new_owner(alloc, bob())?)?;
+    let made = is_done(node, &mut admin, new_owner(alloc, bob(), 20)?)?;
     Ok(made && goes_over(node, &mut admin)?)
 }
 

@@ -1,4 +1,4 @@
-use Rattle.std.specs.Prelude.{Err, Some}
+use Rattle.std.specs.Prelude.{Err, Option, None, Some, Bool, false, cond}
 use Rattle.std.specs.FinMap as map
 use Rattle.std.proofs.Common.{◌≡◌, ◌+◌, ◌*◌, ◌≤◌, List, [], ◌∷◌, ◌++◌, inl, inr, true, refl, sym, ap, ◌∙◌, subst, arith}
 use Rattle.alp_files.specs.declared.call.Call.TheVariants as call
@@ -8,6 +8,7 @@ use Rattle.alp_base.specs.Allowances.{Spends}
 use Rattle.alp_files.specs.declared.reply.Reply.TheVariants as reply
 use Rattle.alp_journal.specs.declared.event.Event.TheVariants as event
 use Rattle.alp_node.specs.ServerState.{IsReady}
+use Rattle.alp_node.specs.Eases.{eased}
 use Rattle.alp_node.specs.Steps.{Stepped, IsOf, told_answer, refused_answer, counted_in, without_trans, entry_of}
 use Rattle.alp_node.specs.declared.sessions.CallOrder.TheVariants as order
 use Rattle.alp_node.specs.declared.lives.Live.{Live}
@@ -19,6 +20,12 @@ use Rattle.alp_node.proofs.TurnLemmas.{counts_on}
 use Rattle.alp_node.proofs.GivenLemmas.{counts_none, reply_given}
 use Rattle.alp_node.proofs.ReadyLemmas.{ready_with, commit_ready}
 use Rattle.alp_base.specs.declared.ids.Stamp.{Stamp}
+use Rattle.alp_base.specs.declared.ids.TransId.{TransId}
+use Rattle.alp_base.specs.declared.key.Key.{Key}
+use Rattle.alp_node.proofs.EaseLemmas.{eased_ready}
+use Rattle.alp_journal.specs.Ids.{same_trans}
+use Rattle.alp_node.specs.Totals.{LiveMap}
+use Rattle.alp_node.proofs.MapLemmas.{gone_length, get_gone}
 use Rattle.alp_journal.specs.declared.act.Act.{Act}
 use Rattle.alp_fields.specs.ClockNote.{clock_kept}
 use Rattle.alp_fields.specs.declared.clock_note.ClockNote.{ClockNote}
@@ -37,6 +44,30 @@ use Rattle.alp_node.proofs.CommitLemmas.{commit_stepped, commit_might, commit_ha
 use Rattle.alp_node.proofs.KeptLemmas.{IsLive, live_there, of_client, as_with}
 use Rattle.alp_node.proofs.StepLemmas.{down_step}
 use Rattle.alp_node.proofs.server_state.ServerState.decide.Goals as goal
+
+-- the server without the transaction, where the others need no place for these blocks any more
+abbrev eased_away : {V : Type 0} → ServerState V → TransId → List Key → ServerState V
+eased_away k t blocks = record (without_trans k t) { lives = eased blocks (map.remove k.lives t) (map.keys k.lives) }
+
+pub blocks_of-requires-clause-part : goal.blocks_of-requires-clause-part
+blocks_of-requires-clause-part g c l there = (c.requires.ready.2.within c.args.trans l there).part
+
+pub ease_all-requires-clause-most : goal.ease_all-requires-clause-most
+ease_all-requires-clause-most g c =
+    let k = c.args.self.now in
+    let fewer : map.len (map.remove k.lives c.args.trans) ≤ map.len k.lives = gone_length k.lives c.args.trans in
+    let lives : c.forget.new.self.lives ≡ map.remove k.lives c.args.trans = ap (λ (y : ServerState _). y.lives) c.forget.ensures in
+    subst (λ (m : LiveMap). map.len m ≤ 64) (sym lives) (omega (arith, fewer, c.requires.ready.2.most))
+
+pub ease_all-requires-clause-part : goal.ease_all-requires-clause-part
+ease_all-requires-clause-part g c u l there =
+    let k = c.args.self.now in
+    let lives : c.forget.new.self.lives ≡ map.remove k.lives c.args.trans = ap (λ (y : ServerState _). y.lives) c.forget.ensures in
+    go (same_trans u c.args.trans) (sym (get_gone k.lives c.args.trans u) ∙ sym (ap (λ (m : LiveMap). map.get m u) lives) ∙ there) (λ at. (c.requires.ready.2.within u l at).part)
+  where
+    go : {A : Option Live} {l : Live} {Q : Type 0} (b : Bool) → cond {A = Option Live} b None A ≡ Some l → (A ≡ Some l → Q) → Q
+    go true is rest = cc
+    go false is rest = rest is
 
 pub store-requires-clause-part : goal.store-requires-clause-part
 store-requires-clause-part g c = (c.requires.ready.2.within c.args.trans c.in-Some.live.now (sym c.in-Some.ensures)).part
@@ -145,7 +176,11 @@ returns g c =
     let mine = of_client turn.client (map.get k.lives t) c.requires.own in
     let stamp : Stamp = record { ts = k.clock + 1; trans = t } in
     let e = event.Call turn.client k.epoch turn.number (call.Finish t true) in
-    let counts : c.count.new.self ≡ counted_in k.sessions turn (reply.Committed stamp) = c.count.ensures ∙ ap (λ (y : ServerState _). counted_in y.sessions turn (reply.Committed stamp)) c.forget.ensures in
+    let blocks : List Key = c.in_ok-blocks.blocks.items in
+    let whole : c.ease_all.new.self ≡ record (eased_away k t blocks) { vault = v } =
+    c.ease_all.ensures ∙ ap (λ (y : ServerState _). record y { lives = eased c.as_slice-2.result.now y.lives c.as_slice.result.now }) c.forget.ensures
+    ∙ (λ i. record (without_trans k t) { lives = eased (c.as_slice-2.ensures.value i) (map.remove k.lives t) ((c.as_slice.ensures.value ∙ c.in_ok-others.ensures.ids) i); vault = v }) in
+    let counts : c.count.new.self ≡ counted_in k.sessions turn (reply.Committed stamp) = c.count.ensures ∙ ap (λ (y : ServerState _). counted_in y.sessions turn (reply.Committed stamp)) whole in
     let so : x ≡ told_answer (Some (reply.Committed stamp)) (act.Decided stamp [] ∷ act.Released t ∷ []) =
     c.in_ok-answer.ensures.ok
     ∙ ap (told_answer (Some (reply.Committed stamp)))
@@ -153,36 +188,37 @@ returns g c =
     let same : Live = c.in-Some.live.now in
     record {
       stepped = λ told a h.
-          subst (λ (y : ServerState _). Stepped a (G.faults k.vault) (G.faults y.vault) (G.held y.vault) (record y { clock = k.clock + 1; committed = y.committed + 1; sessions = c.count.new.self }) e x) (sym c.forget.ensures)
-          (subst (λ (y : Sessions). Stepped a (G.faults k.vault) (G.faults v) (G.held v) (record (without_trans k t) { clock = k.clock + 1; committed = k.committed + 1; sessions = y; vault = v }) e x) (sym counts)
-          (commit_stepped a (G.faults k.vault) (G.faults v) (G.held k.vault) (G.held v) k turn t same v x h c.requires.turn c.requires.up c.requires.ready.2.alone c.requires.clock c.requires.here (sym c.in-Some.ensures)
+          subst (λ (y : ServerState _). Stepped a (G.faults k.vault) (G.faults y.vault) (G.held y.vault) (record y { clock = k.clock + 1; committed = y.committed + 1; sessions = c.count.new.self }) e x) (sym whole)
+          (subst (λ (y : Sessions). Stepped a (G.faults k.vault) (G.faults v) (G.held v) (record (eased_away k t blocks) { clock = k.clock + 1; committed = k.committed + 1; sessions = y; vault = v }) e x) (sym counts)
+          (commit_stepped a (G.faults k.vault) (G.faults v) (G.held k.vault) (G.held v) k turn t same v x blocks (c.in_ok-blocks.ensures told same (sym c.in-Some.ensures)) h c.requires.turn c.requires.up c.requires.ready.2.alone c.requires.clock c.requires.here (sym c.in-Some.ensures)
           (subst (IsOf turn.client) (sym c.in-Some.ensures) c.requires.own) (c.requires.ready.2.within t same (sym c.in-Some.ensures)) (stored.cells told) stored.notes so));
       given =
-          reply_given k.server (G.faults k.vault) (G.faults c.forget.new.self.vault) (G.allowance c.forget.new.self.vault) c.forget.new.self.is_down
+          reply_given k.server (G.faults k.vault) (G.faults c.ease_all.new.self.vault) (G.allowance c.ease_all.new.self.vault) c.ease_all.new.self.is_down
           (reply.Committed stamp) (act.Decided stamp [] ∷ act.Released t ∷ []) x so
-          (counts_none k.server (G.faults k.vault) (G.faults c.forget.new.self.vault) c.forget.new.self.is_down (Some (reply.Committed stamp)) refl (ap (λ (y : ServerState _). G.faults y.vault) c.forget.ensures ∙ stored.ended.1) (ap (λ (y : ServerState _). y.is_down) c.forget.ensures ∙ c.requires.up)) (ap (λ (y : ServerState _). y.is_down) c.forget.ensures ∙ c.requires.up) tt;
+          (counts_none k.server (G.faults k.vault) (G.faults c.ease_all.new.self.vault) c.ease_all.new.self.is_down (Some (reply.Committed stamp)) refl (ap (λ (y : ServerState _). G.faults y.vault) whole ∙ stored.ended.1) (ap (λ (y : ServerState _). y.is_down) whole ∙ c.requires.up)) (ap (λ (y : ServerState _). y.is_down) whole ∙ c.requires.up) tt;
       ready = λ n h.
-          subst (λ (y : ServerState _). IsReady (n + 1) (G.serves y.vault) (record y { clock = k.clock + 1; committed = y.committed + 1; sessions = c.count.new.self })) (sym c.forget.ensures)
-          (subst (λ (y : Sessions). IsReady (n + 1) (G.serves v) (record (without_trans k t) { clock = k.clock + 1; committed = k.committed + 1; sessions = y; vault = v })) (sym counts)
-          (commit_ready n (G.serves k.vault) (G.serves v) k v turn t stored.ended.0 c.requires.up c.requires.turn c.requires.clock h));
+          subst (λ (y : ServerState _). IsReady (n + 1) (G.serves y.vault) (record y { clock = k.clock + 1; committed = y.committed + 1; sessions = c.count.new.self })) (sym whole)
+          (subst (λ (y : Sessions). IsReady (n + 1) (G.serves v) (record (eased_away k t blocks) { clock = k.clock + 1; committed = k.committed + 1; sessions = y; vault = v })) (sym counts)
+          (eased_ready (n + 1) (G.serves v) (record (without_trans k t) { sessions = counted_in k.sessions turn (reply.Committed stamp); clock = k.clock + 1; committed = k.committed + 1; vault = v }) blocks (map.keys k.lives)
+          (commit_ready n (G.serves k.vault) (G.serves v) k v turn t stored.ended.0 c.requires.up c.requires.turn c.requires.clock h)));
       noted = λ h. (
-        (λ e. subst (λ (y : ServerState _). AreServerNotes (G.server y.vault) (G.servers y.vault) (G.held y.vault).notes) (sym c.forget.ensures) stored.format),
-        (λ e. ap (λ (y : ServerState _). (clock_kept (G.held y.vault).notes).epoch) c.forget.ensures ∙ ap (λ (n : ClockNote). n.epoch) stored.clock ∙ sym (ap (λ (y : ServerState _). y.epoch) c.forget.ensures)),
+        (λ e. subst (λ (y : ServerState _). AreServerNotes (G.server y.vault) (G.servers y.vault) (G.held y.vault).notes) (sym whole) stored.format),
+        (λ e. ap (λ (y : ServerState _). (clock_kept (G.held y.vault).notes).epoch) whole ∙ ap (λ (n : ClockNote). n.epoch) stored.clock ∙ sym (ap (λ (y : ServerState _). y.epoch) whole)),
       );
       still = tt;
       seat = record {
-        server = ap (λ (y : ServerState _). y.server) c.forget.ensures;
-        sizes = ap (λ (y : ServerState _). y.sizes) c.forget.ensures;
-        epoch = ap (λ (y : ServerState _). y.epoch) c.forget.ensures;
-        same = subst (λ (y : ServerState _). IsSameVault G.tells G.volume G.server G.servers k.vault y.vault) (sym c.forget.ensures) stored.kept;
-        spends = subst (λ (y : ServerState _). Spends (G.allowance k.vault) (G.allowance y.vault)) (sym c.forget.ensures) stored.allowance;
+        server = ap (λ (y : ServerState _). y.server) whole;
+        sizes = ap (λ (y : ServerState _). y.sizes) whole;
+        epoch = ap (λ (y : ServerState _). y.epoch) whole;
+        same = subst (λ (y : ServerState _). IsSameVault G.tells G.volume G.server G.servers k.vault y.vault) (sym whole) stored.kept;
+        spends = subst (λ (y : ServerState _). Spends (G.allowance k.vault) (G.allowance y.vault)) (sym whole) stored.allowance;
       };
       turned = λ up.
-          subst (λ (y : ServerState _). HasTurned (Some order.Next) k (record y { clock = k.clock + 1; committed = y.committed + 1; sessions = c.count.new.self }) e x.kept) (sym c.forget.ensures)
-          (subst (λ (y : Answer). HasTurned (Some order.Next) k (record (without_trans k t) { clock = k.clock + 1; committed = k.committed + 1; sessions = c.count.new.self; vault = v }) e y.kept) (sym so)
-          (counts_on k (record (without_trans k t) { clock = k.clock + 1; committed = k.committed + 1; sessions = c.count.new.self; vault = v }) turn c.requires.turn (call.Finish t true) (reply.Committed stamp) tt (omega arith) (omega arith) tt counts));
+          subst (λ (y : ServerState _). HasTurned (Some order.Next) k (record y { clock = k.clock + 1; committed = y.committed + 1; sessions = c.count.new.self }) e x.kept) (sym whole)
+          (subst (λ (y : Answer). HasTurned (Some order.Next) k (record (eased_away k t blocks) { clock = k.clock + 1; committed = k.committed + 1; sessions = c.count.new.self; vault = v }) e y.kept) (sym so)
+          (counts_on k (record (eased_away k t blocks) { clock = k.clock + 1; committed = k.committed + 1; sessions = c.count.new.self; vault = v }) turn c.requires.turn (call.Finish t true) (reply.Committed stamp) tt (omega arith) (omega arith) tt counts));
       leaves = λ told a h.
-          subst (λ (y : ServerState _). Leaves G k.vault y.vault (Besides G k.vault (λ z. z ≡ said_by (alone a) (entry_of e x)))) (sym c.forget.ensures)
+          subst (λ (y : ServerState _). Leaves G k.vault y.vault (Besides G k.vault (λ z. z ≡ said_by (alone a) (entry_of e x)))) (sym whole)
           (write_leaves a (G.held k.vault) k turn t same h c.requires.turn c.requires.up (sym c.in-Some.ensures) (subst (IsOf turn.client) (sym c.in-Some.ensures) c.requires.own) (reply.Committed stamp) refl G v x
           (act.Decided stamp [] ∷ act.Released t ∷ []) (Releases t ∷ []) refl so refl (λ o. refl) (stored.leaves told));
     }

@@ -5,6 +5,7 @@ use Rattle.alp_journal.specs.declared.event.Event.TheVariants as event
 use Rattle.alp_vault.specs.Contents.{Contents}
 use Rattle.alp_node.specs.Asks.{IsAsked}
 use Rattle.alp_node.specs.ServerState.{IsAs, IsReady}
+use Rattle.alp_locks.specs.Tables.{holding}
 use Rattle.alp_node.specs.Served.{AreLivesSound}
 use Rattle.alp_node.specs.Steps.{IsStep, IsTurn, IsOf}
 use Rattle.alp_node.specs.declared.server_state.ServerState.{ServerState}
@@ -117,8 +118,10 @@ lock_call-requires-clause-asked g c m now =
     let N = c.asks.new.self in
     let left = c.in-Ok.ensures.looked.0 in
     let there : map.get k.lives c.args.trans ≡ Some m = sym (ap (λ (y : ServerState _). map.get y.lives c.args.trans) c.in-Ok.ensures.kept) ∙ now in
-    subst (λ (b : Bool). IsAsked b (G.held N.vault).cells m.part c.args.call.now c.in-Ok.needs) (sym left.same.telling)
-    (subst (λ (x : Contents). IsAsked (G.tells k.vault) x.cells m.part c.args.call.now c.in-Ok.needs) (sym left.contents) (c.in-Ok.ensures.asked m there))
+    let t = c.args.trans in
+    subst (λ (y : ServerState _). IsAsked (G.tells N.vault) (G.held N.vault).cells (holding y.locks.held t) m.part c.args.call.now c.in-Ok.needs) (sym c.in-Ok.ensures.kept)
+    (subst (λ (b : Bool). IsAsked b (G.held N.vault).cells (holding k.locks.held t) m.part c.args.call.now c.in-Ok.needs) (sym left.same.telling)
+    (subst (λ (x : Contents). IsAsked (G.tells k.vault) x.cells (holding k.locks.held t) m.part c.args.call.now c.in-Ok.needs) (sym left.contents) (c.in-Ok.ensures.asked m there)))
 
 pub returns-in-Ok : goal.returns-in-Ok
 returns-in-Ok g c =

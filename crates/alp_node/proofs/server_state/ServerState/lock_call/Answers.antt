@@ -29,7 +29,7 @@ use Rattle.alp_node.specs.declared.lives.Live.{Live}
 use Rattle.alp_node.specs.declared.server_state.ServerState.{ServerState}
 use Rattle.alp_node.specs.declared.sessions.CallOrder.TheVariants as order
 use Rattle.alp_node.specs.declared.sessions.Sessions.{Sessions}
-use Rattle.alp_node.proofs.AskLemmas.{asked_few, asked_given}
+use Rattle.alp_node.proofs.AskLemmas.{asked_few, asked_given, asked_told}
 use Rattle.alp_node.proofs.CallLemmas.{unseen, count_grows}
 use Rattle.alp_node.proofs.CountedLemmas.{answered_quiet, IsCountRefusal, answered_keeps}
 use Rattle.alp_node.proofs.GivenLemmas.{counts_none, reply_given}
@@ -77,7 +77,8 @@ lock_counts-counts-requires-clause-few g c =
     let G = g.V.Vault in
     let k = c.args.self.now in
     let l : Live = c.in-Some.live.now in
-    asked_few (G.tells k.vault) (G.held k.vault).cells l.part c.args.call.now c.args.needs (c.requires.asked l (sym c.in-Some.ensures))
+    let there : map.get k.lives c.args.trans ≡ Some l = sym c.in-Some.ensures in
+    asked_few k.server k.epoch k.given (length l.part.opens.items) (G.tells k.vault) (G.held k.vault).cells (holding k.locks.held c.args.trans) l.part c.args.call.now c.args.needs (c.requires.asked l there) (c.requires.shape l there)
 
 pub too_locked-requires : goal.too_locked-requires
 too_locked-requires g c = (c.requires.ready.2.within c.args.trans c.in-Some.live.now (sym c.in-Some.ensures)).part.most
@@ -131,7 +132,7 @@ returns-in-Some-too_locked g c =
     let refuse = c.refuse in
     refused_step G k refuse.new.self turn call refuse.result f (counted.quiet k.server) c.requires.turn c.requires.up refuse.ensures.kept refuse.ensures.answer
     (λ told a h. locks_stepped a (G.faults k.vault) (G.faults k.vault) (G.held k.vault) k turn t l call c.args.needs f refuse.result h c.requires.ready.2.raised c.requires.turn c.requires.up there own (c.requires.ready.2.within t l there)
-    c.requires.served ((c.requires.asked l there).told told) (c.requires.shape l there) many c.requires.named refuse.ensures.answer)
+    c.requires.served (asked_told (G.tells k.vault) (G.held k.vault).cells (holding k.locks.held t) l.part call c.args.needs (c.requires.asked l there) told) (c.requires.shape l there) many c.requires.named refuse.ensures.answer)
     counted.inside
 
 pub returns-in-Some-in_way_of : goal.returns-in-Some-in_way_of
@@ -150,7 +151,7 @@ returns-in-Some-in_way_of g c =
     let refuse = c.refuse-in-Some-in_way_of in
     refused_step G k refuse.new.self turn call refuse.result (refusal.LockConflict c.in-Some-in_way_of.holder) refl c.requires.turn c.requires.up refuse.ensures.kept refuse.ensures.answer
     (λ told a h. conflict_stepped a (G.faults k.vault) (G.faults k.vault) (G.held k.vault) k turn t l call c.args.needs c.in-Some-in_way_of.holder refuse.result h c.requires.ready.2.raised c.requires.turn c.requires.up there own c.requires.served
-    ((c.requires.asked l there).told told) (c.requires.shape l there) few c.requires.named c.requires.ready.2.sound named refuse.ensures.answer)
+    (asked_told (G.tells k.vault) (G.held k.vault).cells (holding k.locks.held t) l.part call c.args.needs (c.requires.asked l there) told) (c.requires.shape l there) few c.requires.named c.requires.ready.2.sound named refuse.ensures.answer)
     tt
 
 pub returns-in-Ok : goal.returns-in-Ok
@@ -169,7 +170,7 @@ returns-in-Ok g c =
     let l : Live = c.in-Some.live.now in
     let there : map.get k.lives t ≡ Some l = sym c.in-Some.ensures in
     let own : l.client ≡ turn.client = subst (IsOf turn.client) there c.requires.own in
-    let asked : IsAsked (G.tells k.vault) (G.held k.vault).cells l.part call ns = c.requires.asked l there in
+    let asked : IsAsked (G.tells k.vault) (G.held k.vault).cells (holding k.locks.held t) l.part call ns = c.requires.asked l there in
     let n : LockCounts = counts_then l.locks (holding k.locks.held t) ns call in
     let n_is : c.lock_counts-counts.result ≡ n = c.lock_counts-counts.ensures in
     let few : too_locked k.sizes.area l.part.counts.cells n.made ≡ None = ap (λ (y : LockCounts). too_locked k.sizes.area l.part.counts.cells y.made) (sym n_is) ∙ sym c.too_locked.ensures ∙ c.in_default-too_locked.is in
@@ -185,7 +186,7 @@ returns-in-Ok g c =
     let left = c.in-Ok.ensures.looked.0 in
     let shape = c.requires.shape l there in
     let of_file = shape_given k.server k.epoch k.given (length l.part.opens.items) call shape in
-    let files : AreGiven k.server k.epoch k.given ns = asked_given k.server k.epoch k.given (G.tells k.vault) (G.held k.vault).cells l.part call ns asked (c.requires.ready.2.opened t l there) of_file in
+    let files : AreGiven k.server k.epoch k.given ns = asked_given k.server k.epoch k.given (G.tells k.vault) (G.held k.vault).cells (holding k.locks.held t) l.part call ns asked (c.requires.ready.2.opened t l there) of_file in
     let keeps : IsKeepable k.clock r = answered_keeps k.clock (G.tells k.vault) (G.held k.vault).cells l.part did.part l.who (next_file k) call did.room r given in
     let made_is : c.is_made.result ≡ is_made r = c.is_made.ensures in
     let taken : plan_for c.is_made.result c.in_ok-asked.asked c.in_ok-made.made ≡ plan_of k.locks t (asks_given (next_file k) call ns r) =
@@ -208,7 +209,7 @@ returns-in-Ok g c =
     subst (λ (y : Sessions). Stepped a (G.faults k.vault) (G.faults M.vault) (G.held M.vault) (record M { sessions = y }) e x) (sym c.count.ensures)
     (subst (λ (y : ServerState _). Stepped a (G.faults k.vault) (G.faults y.vault) (G.held y.vault) (record y { sessions = counted_in y.sessions turn r }) e x) (sym kept_is)
     (lock_stepped a (G.faults k.vault) (G.faults N.vault) (G.held k.vault) k turn t l did.part call ns did.room r N.vault c.requires.ready.0 (G.serves k.vault) x (G.held N.vault) c.requires.ready.2 h c.requires.up left.contents c.requires.turn there own
-    c.requires.served files (asked.told told) shape few c.requires.named c.requires.formed given_told of is free_asked))
+    c.requires.served files (asked_told (G.tells k.vault) (G.held k.vault).cells (holding k.locks.held t) l.part call ns asked told) shape few c.requires.named c.requires.formed given_told of is free_asked))
     ))
     (reply_given k.server (G.faults k.vault) (G.faults M.vault) (G.allowance M.vault) M.is_down r (acts_of t rises) x is
     (counts_none k.server (G.faults k.vault) (G.faults M.vault) M.is_down (Some r)

@@ -1,0 +1,37 @@
+-- the parts that are eased are all that are live
+use Rattle.std.specs.Prelude.{cond, Bool, true, false, is_some, Option, None, Some}
+use Rattle.std.specs.Option.{option_map}
+use Rattle.std.specs.List.{list_any}
+use Rattle.std.specs.FinMap as map
+use Rattle.std.specs.FinMap.{contains_key-keys}
+use Rattle.std.specs.Ordering.{eq_by_cmp}
+use Rattle.std.proofs.Common.{◌≡◌, List, refl, sym, ◌∙◌, ap, subst}
+use Rattle.alp_base.specs.Orders.{trans_cmp}
+use Rattle.alp_base.specs.declared.ids.TransId.{TransId}
+use Rattle.alp_base.specs.declared.key.Key.{Key}
+use Rattle.alp_journal.specs.Ids.{same_trans}
+use Rattle.alp_node.specs.Eases.{eased_live, eased}
+use Rattle.alp_node.specs.Totals.{LiveMap}
+use Rattle.alp_node.specs.declared.lives.Live.{Live}
+use Rattle.alp_node.proofs.EaseLemmas.{eased_get}
+use Rattle.alp_node.proofs.KeysOnce.{AreOnce, keys_once}
+use Rattle.alp_node.proofs.MapLemmas.{tied_same, get_gone}
+
+as_same : eq_by_cmp trans_cmp ≡ same_trans
+as_same = λ i t u. tied_same t u i
+
+among_keys : (m : LiveMap) (u : TransId) → list_any (same_trans u) (map.keys m) ≡ is_some (map.get m u)
+among_keys m u = ap (λ (same : TransId → TransId → Bool). list_any (same u) (map.keys m)) (sym as_same) ∙ sym (contains_key-keys m u)
+
+pub others_eased : (blocks : List Key) (m : LiveMap) (t u : TransId) → map.get (eased blocks (map.remove m t) (map.keys m)) u ≡ option_map (eased_live blocks) (map.get (map.remove m t) u)
+others_eased blocks m t u =
+    eased_get blocks (map.remove m t) (map.keys m) u (subst (λ (same : TransId → TransId → Bool). AreOnce same (map.keys m)) as_same (keys_once trans_cmp m))
+    ∙ ap (λ (b : Bool). cond {A = Option Live} b (option_map (eased_live blocks) (map.get (map.remove m t) u)) (map.get (map.remove m t) u)) (among_keys m u)
+    ∙ ap (λ (x : Option Live). cond {A = Option Live} (is_some (map.get m u)) (option_map (eased_live blocks) x) x) (get_gone m t u) ∙ go (same_trans u t) (map.get m u)
+    ∙ ap (option_map (eased_live blocks)) (sym (get_gone m t u))
+  where
+    go : (b : Bool) (x : Option Live) → cond {A = Option Live} (is_some x) (option_map (eased_live blocks) (cond {A = Option Live} b None x)) (cond {A = Option Live} b None x) ≡ option_map (eased_live blocks) (cond {A = Option Live} b None x)
+    go true None = refl
+    go true (Some l) = refl
+    go false None = refl
+    go false (Some l) = refl
