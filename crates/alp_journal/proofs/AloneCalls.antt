@@ -1,17 +1,19 @@
 -- file calls that a server which runs alone performs
-use Rattle.std.specs.Prelude.{cond, Bool, true, false, ◌&&◌, ◌||◌, Option, None, Some, length}
-use Rattle.std.specs.Option.{option_to_list}
+use Rattle.std.specs.Prelude.{cond, Bool, true, false, ◌&&◌, ◌||◌, is_some, Option, None, Some, length}
+use Rattle.std.specs.List.{AllByRecursion}
+use Rattle.std.specs.Option.{option_to_list, option_or}
 use Rattle.std.proofs.lemmas.List.{append-nil}
-use Rattle.std.proofs.Common.{inl, ◌≡◌, ℕ, ◌+◌, List, [], ◌∷◌, ◌++◌, refl, sym, ◌∙◌, ap, subst, eq-eqb}
+use Rattle.std.proofs.Common.{inl, ◌≡◌, ℕ, ◌+◌, List, [], ◌∷◌, ◌++◌, refl, sym, ◌∙◌, ap, subst, eq-eqb, arith}
 use Rattle.alp_base.specs.declared.ids.FileId.{FileId}
 use Rattle.alp_base.specs.declared.ids.TransId.{TransId}
 use Rattle.alp_base.specs.declared.key.Resource.{Resource}
 use Rattle.alp_files.specs.Holdings.{Holding, DoAgree}
 use Rattle.alp_files.proofs.HoldingLemmas.{agree-turned}
+use Rattle.alp_files.proofs.CoverLemmas.{granted-more, joined-more}
 use Rattle.alp_files.proofs.FilesLemmas.{same-some}
 use Rattle.alp_files.specs.Act.{id_in}
 use Rattle.alp_files.specs.History.{PerformedCall}
-use Rattle.alp_files.specs.Locks.{needs_of, needs_made, with_made, HoldsEach, IsFormed}
+use Rattle.alp_files.specs.Locks.{needs_of, needs_made, with_made, HoldsEach, IsFormed, IsMore}
 use Rattle.alp_files.specs.Passing.{is_passing, is_passing_refusal, IsFileReply}
 use Rattle.alp_files.specs.declared.call.Call.{Call}
 use Rattle.alp_files.specs.declared.reply.Reply.{Reply}
@@ -23,19 +25,22 @@ use Rattle.alp_journal.specs.declared.event.Event.{Event}
 use Rattle.alp_journal.specs.declared.event.Event.TheVariants as event
 use Rattle.alp_journal.specs.Ids.{same_trans}
 use Rattle.alp_journal.specs.Deeds.{Deed, Grants, Performs}
-use Rattle.alp_journal.specs.Coordinator.{Fate, is_running}
+use Rattle.alp_journal.specs.Coordinator.{is_running}
 use Rattle.alp_journal.specs.Holder.{Holder, Life, with_life, view_in, answer_in, held_for, after_done, grants, performs}
-use Rattle.alp_journal.specs.Desk.{Session, file_trans, is_of, is_not_yet, begins_if, with_session}
+use Rattle.alp_journal.specs.Desk.{Session, Waiting, file_trans, waiting_of, is_of, is_not_yet, begins_if, with_session}
 use Rattle.alp_journal.specs.Counts.{Locked, lock_set, with_resources, request_in}
 use Rattle.alp_journal.specs.State.{State, state_deed, has_part}
-use Rattle.alp_journal.specs.Moves.{next_file, act_deeds, grants_to, asks_for, is_of_no_file, answered, done_by, done_of}
-use Rattle.alp_journal.specs.Laws.{IsFree, IsOpenPart, DoLivesAgree, TellsIn, begun_in}
-use Rattle.alp_journal.specs.Answers.{IsFileOf}
+use Rattle.alp_journal.specs.Moves.{next_file, act_deeds, grants_to, ungranted, call_now, asks_for, is_of_no_file, answered, done_by, done_of}
+use Rattle.alp_journal.specs.Laws.{client_of, IsLawfulDeed, IsFree, IsOpenPart, DoLivesAgree, TellsIn, begun_in}
+use Rattle.alp_journal.specs.Answers.{Part, NoPart, AtJoining, AtWork, AtFinish, AtReady, AtEnd, part_at, at_part, First, OrFault, IsFileOf, IsFileAnswer}
 use Rattle.alp_journal.specs.Answered.{GrantsFor}
-use Rattle.alp_journal.specs.Alone.{Alone, alone, IsQuiet, IsPaired, Leads}
-use Rattle.alp_journal.proofs.IdLemmas.{same_trans-true, same_trans-itself}
+use Rattle.alp_journal.specs.Alone.{Alone, alone, IsQuiet, IsPaired, is_on_trans, Leads}
+use Rattle.alp_journal.proofs.IdLemmas.{same_trans-itself}
+use Rattle.alp_journal.proofs.WaitLemmas.{none-granted}
+use Rattle.alp_journal.proofs.TurnLemmas.{turns-set}
+use Rattle.alp_journal.proofs.QuietLemmas.{agree_set, paired_kept, parts-kept, none-on, came_on, later-come}
 use Rattle.alp_journal.proofs.AloneLemmas.{call_entry, new_call, call_leads}
-use Rattle.alp_journal.proofs.AloneEntries.{agree_set, counted_as, IsFileCall, file_call}
+use Rattle.alp_journal.proofs.AloneEntries.{counted_as, IsFileCall, file_call}
 
 -- ---- what a thread is answered
 
@@ -83,17 +88,6 @@ own_reply reply.Joined h = absurd h
 own_reply (reply.Committed k) h = absurd h
 own_reply (reply.Ended k) h = absurd h
 
--- ---- lives where one goes on
-
--- each is paired as it was, where one goes on as its transaction runs
-pub paired_kept : (lives : TransId → Option Life) (fates : TransId → Fate) (t : TransId) (life : Option Life) → ((u : TransId) → IsPaired (lives u) (fates u)) → IsPaired life (fates t)
-    → (u : TransId) → IsPaired (cond {A = Option Life} (same_trans u t) life (lives u)) (fates u)
-paired_kept lives fates t life all this u = go (same_trans u t) refl
-  where
-    go : (b : Bool) → same_trans u t ≡ b → IsPaired (cond {A = Option Life} b life (lives u)) (fates u)
-    go true e = subst (λ (v : TransId). IsPaired life (fates v)) (sym (same_trans-true u t e)) this
-    go false e = all u
-
 twice : {A : Type 0} (b : Bool) (x y z : A) → cond {A = A} b x (cond {A = A} b y z) ≡ cond {A = A} b x z
 twice true x y z = refl
 twice false x y z = refl
@@ -135,23 +129,68 @@ module _ (a : Alone) (client number : ℕ) (w : Session) (t : TransId) (l : Life
     pub grants : GrantsFor failed (alone a) client c r granted (Some t)
 
   pair_of : IsQuiet a → a.holder.lives t ≡ Some l → IsPaired (Some l) (a.fates t)
-  pair_of q live = subst (λ (x : Option Life). IsPaired x (a.fates t)) live (q.paired t)
+  pair_of q live = subst (λ (x : Option Life). IsPaired x (a.fates t)) live (q.settled.paired t)
 
   runs_open : (s : State) → s.fates t ≡ a.fates t → IsPaired (Some l) (a.fates t) → IsOpenPart s t
   runs_open s same pair = inl (ap is_running (same ∙ pair.0))
 
-  call_quiet : (under : Holding) (locks : List Resource) → IsQuiet a → a.holder.lives t ≡ Some l → ((u : TransId) (k : Life) → a.holder.lives u ≡ Some k → same_trans u t ≡ false → DoAgree (with_made under (id_in r)) k.held)
-      → IsQuiet (with_call under locks)
-  call_quiet under locks q live agrees = record {
-    agree = agree_set a.holder.lives t (Some (life_after under)) q.agree (λ x is u k away there. subst (λ (y : Life). DoAgree y.held k.held) (same-some (life_after under) x is) (agrees u k there away));
-    paired = paired_kept a.holder.lives a.fates t (Some (life_after under)) q.paired (pair_of q live);
+  -- others are quiet beside the call, whichever of those that waited wait on
+  pub call_quiet : (under : Holding) (locks : List Resource) (ws : List Waiting) → IsQuiet (record a { waits = ws }) → AllByRecursion (λ v. is_on_trans t v ≡ false) ws → a.sessions client ≡ Some w → number ≡ w.last + 1
+      → a.holder.lives t ≡ Some l → IsMore l.held under → ((u : TransId) (k : Life) → a.holder.lives u ≡ Some k → same_trans u t ≡ false → DoAgree (with_made under (id_in r)) k.held)
+      → IsQuiet (record (with_call under locks) { waits = ws })
+  call_quiet under locks ws q off there turn live above agrees = record {
+    settled = record {
+      agree = agree_set a.holder.lives t (Some (life_after under)) q.settled.agree (λ x is u k away at. subst (λ (y : Life). DoAgree y.held k.held) (same-some (life_after under) x is) (agrees u k at away));
+      paired = paired_kept a.holder.lives a.fates t (Some (life_after under)) q.settled.paired (subst (λ (x : Option Life). IsPaired x (a.fates t)) live (q.settled.paired t));
+      ended = q.settled.ended;
+      parts = parts-kept a.holder.lives a.dead t l (life_after under) live refl ws q.settled.parts;
+      came = came_on a.sessions client (record w { last = number; reply = r }) (later-come a.sessions client w (record w { last = number; reply = r }) there (omega (arith, turn))) ws q.settled.came;
+      apart = q.settled.apart;
+    };
+    turns = turns-set (alone (record a { waits = ws })) (alone (record (with_call under locks) { waits = ws })) t (life_after under) refl (λ u. refl)
+        (λ k at. subst (λ (y : Life). IsMore y.held (with_made under (id_in r))) (same-some l k (sym live ∙ at)) (λ q m c. joined-more under (needs_made (id_in r)) q m (above q m c))) ws off q.turns;
   }
+
+  -- a part whose call waits is answered that, and nothing else
+  idle_of : (failed : Bool) → IsFileOf failed (alone a) client c r (Some t) → is_passing r ≡ false → waiting_of (alone a).desk client t ≡ None
+  idle_of failed why passes = go (waiting_of (alone a).desk client t) refl
+    where
+      busy : (p : Part) → First (at_part true p) r (OrFault failed r (IsFileAnswer (alone a) t c r (a.holder.lives t))) → ⊥
+      busy NoPart is = let wrong : true ≡ false = sym (ap is_passing is) ∙ passes in cc
+      busy AtJoining is = let wrong : true ≡ false = sym (ap is_passing is) ∙ passes in cc
+      busy AtWork is = let wrong : true ≡ false = sym (ap is_passing is) ∙ passes in cc
+      busy AtFinish is = let wrong : true ≡ false = sym (ap is_passing is) ∙ passes in cc
+      busy AtReady is = let wrong : true ≡ false = sym (ap is_passing is) ∙ passes in cc
+      busy (AtEnd d) is = let wrong : true ≡ false = sym (ap is_passing is) ∙ passes in cc
+
+      go : (x : Option Waiting) → waiting_of (alone a).desk client t ≡ x → waiting_of (alone a).desk client t ≡ None
+      go None e = e
+      go (Some v) e = absurd (busy (part_at (alone a) client t) (subst (λ (x : Option Waiting). First (at_part (is_some x) (part_at (alone a) client t)) r (OrFault failed r (IsFileAnswer (alone a) t c r (a.holder.lives t)))) e why))
+
+  -- no call of its transaction waits
+  off_of : {failed : Bool} {under : Holding} {granted : List TransId} → PerformOwes failed under granted → AllByRecursion (λ v. is_on_trans t v ≡ false) a.waits
+  off_of {failed} o = none-on a.holder.lives a.dead client t l o.live o.own a.waits o.quiet.settled.parts (idle_of failed o.why o.passes)
 
   -- what it performs
   performed_deeds : file_trans c ≡ Some t → is_passing r ≡ false → is_of_no_file (alone a) c r ≡ false → done_of (alone a) r (answered (alone a) client c) ≡ Performs t done ∷ []
   performed_deeds named passes given =
       ap (done_of (alone a) r) (IsFileCall.own (file_call a client number w t c r named)) ∙ ap (done_by (alone a) c r) named
       ∙ (λ i. cond {A = List Deed} (passes i || given i) [] (Performs t done ∷ []))
+
+  -- under the locks that it holds
+  pub performs_lawful : (e : Event) → client_of e ≡ Some l.client → IsPaired (Some l) (a.fates t) → a.holder.lives t ≡ Some l → IsFormed c → (answer_in a.holder l done).reply ≡ Some r
+      → ((f : FileId) → id_in r ≡ Some f → f ≡ next_file (alone a)) → HoldsEach l.held (needs_of (view_in a.holder l) l.own c) → DoLivesAgree (with_call l.held (a.locked t)).holder.lives → IsLawfulDeed e (alone a) (Performs t done)
+  performs_lawful e own pair live formed right next_id held agree = record {
+    counts = next_id;
+    view = (l, live, record { client = own; active = pair.1; formed = formed; right = right; locked = held });
+    locks = subst (λ (x : Option Life). DoLivesAgree (performs a.holder t done x).lives) (sym live) agree;
+    running = runs_open (alone a) refl pair;
+    registration = tt;
+    vote = tt;
+    decision = tt;
+    application = tt;
+    forgetting = tt;
+  }
 
   -- ---- without a lock that rises
 
@@ -162,6 +201,7 @@ module _ (a : Alone) (client number : ℕ) (w : Session) (t : TransId) (l : Life
       let reply_is : IsOwnReply r = own_reply r o.kind in
       let pair : IsPaired (Some l) (a.fates t) = pair_of o.quiet o.live in
       let m : Alone = with_call l.held (a.locked t) in
+      let then_quiet : IsQuiet m = call_quiet l.held (a.locked t) a.waits o.quiet (off_of o) o.there o.turn o.live (λ q x h. h) o.agree in
       call_leads a client number w failed c r [] (Performs t done ∷ []) m o.there o.turn (record {
         plain = is.plain;
         greets = is.greets;
@@ -178,26 +218,13 @@ module _ (a : Alone) (client number : ℕ) (w : Session) (t : TransId) (l : Life
             ∙ (λ i. record (state_deed s (Performs t done)) { desk = begins_if (reply_is.now i) (with_session s.desk client (Some (record w { last = number; reply = r }))) client number c; is_down = false; pending = [] })
             ∙ (λ i. alone (record m { holder = performs a.holder t done (o.live i); begun = append-nil a.begun i }));
         drawn = reply_is.none;
-        deeds = (
-          record {
-            counts = o.next_id;
-            view = (l, o.live, record { client = ap (λ (n : ℕ). Some n) (sym o.own); active = pair.1; formed = o.formed; right = o.right; locked = o.locked });
-            locks = subst (λ (x : Option Life). DoLivesAgree (performs a.holder t done x).lives) (sym o.live) (IsQuiet.agree (call_quiet l.held (a.locked t) o.quiet o.live o.agree));
-            running = runs_open s refl pair;
-            registration = tt;
-            vote = tt;
-            decision = tt;
-            application = tt;
-            forgetting = tt;
-          },
-          tt,
-        );
+        deeds = (performs_lawful (event.Call client a.ids.epoch number c) (ap (λ (n : ℕ). Some n) (sym o.own)) pair o.live o.formed o.right o.next_id o.locked then_quiet.settled.agree, tt);
         released = refl;
         granted = refl;
         said = tt;
         tells = reply_is.tells (alone m) c;
         regained = refl;
-        quiet = call_quiet l.held (a.locked t) o.quiet o.live o.agree;
+        quiet = then_quiet;
         answer = is.answer failed (subst (IsFileOf failed s client c r) (sym o.named) o.why);
         mail = (is.mail, refl);
         turns = tt;
@@ -242,9 +269,13 @@ module _ (a : Alone) (client number : ℕ) (w : Session) (t : TransId) (l : Life
       let reply_is : IsOwnReply r = own_reply r o.kind in
       let pair : IsPaired (Some l) (a.fates t) = pair_of o.quiet o.live in
       let m : Alone = with_call under_grant locks_granted in
+      let off : AllByRecursion (λ v. is_on_trans t v ≡ false) a.waits = off_of o in
+      let idle : waiting_of s.desk client t ≡ None = idle_of failed o.why o.passes in
+      let then_quiet : IsQuiet m = call_quiet under_grant locks_granted a.waits o.quiet off o.there o.turn o.live (granted-more l.held (needs_of (view_in a.holder l) l.own c)) o.agree in
       let ev : Event = event.Call client a.ids.epoch number c in
       let asked : act_deeds s ev (act.Granted t) ≡ Grants t c ∷ [] =
       ap (λ (x : Option Life). grants_to t (asks_for s ev t x)) o.live
+      ∙ ap (λ (x : Option Waiting). grants_to t (option_or (ungranted x) (call_now ev t l.client))) (ap (λ (n : ℕ). waiting_of s.desk n t) o.own ∙ idle)
       ∙ ap (λ (b : Bool). grants_to t (cond {A = Option Call} (b && is_of t (file_trans c)) (Some c) None)) (eq-eqb client l.client (sym o.own))
       ∙ ap (λ (x : Option TransId). grants_to t (cond {A = Option Call} (is_of t x) (Some c) None)) o.named
       ∙ ap (λ (b : Bool). grants_to t (cond {A = Option Call} b (Some c) None)) (same_trans-itself t) in
@@ -252,7 +283,7 @@ module _ (a : Alone) (client number : ℕ) (w : Session) (t : TransId) (l : Life
       let lives_then : granting.holder.lives t ≡ Some (record l { held = under_grant }) =
       ap (λ (x : Option Life). (grants a.holder t c x).lives t) o.live ∙ ap (λ (b : Bool). cond {A = Option Life} b (Some (record l { held = under_grant })) (a.holder.lives t)) (same_trans-itself t) in
       let agree_granted : DoLivesAgree lives_granted =
-      agree_set a.holder.lives t (Some (record l { held = under_grant })) o.quiet.agree
+      agree_set a.holder.lives t (Some (record l { held = under_grant })) o.quiet.settled.agree
       (λ x is u k away there. subst (λ (y : Life). DoAgree y.held k.held) (same-some (record l { held = under_grant }) x is) (λ q. agree-turned (under_grant q) (k.held q) ∙ free u k there away q)) in
       call_leads a client number w failed c r (act.Granted t ∷ []) (Grants t c ∷ Performs t done ∷ []) m o.there o.turn (record {
         plain = is.plain;
@@ -264,12 +295,12 @@ module _ (a : Alone) (client number : ℕ) (w : Session) (t : TransId) (l : Life
         new = new_call a client number w o.there o.turn;
         there = o.there;
         left = (λ i. record after {
-          desk = is.leaves (with_session s.desk client (Some (record w { last = number; reply = r }))) (has_part after client) i;
+          desk = is.leaves (with_session after.desk client (Some (record w { last = number; reply = r }))) (has_part after client) i;
           is_down = false;
           pending = [];
         })
-            ∙ (λ i. record after { desk = begins_if (reply_is.now i) (with_session s.desk client (Some (record w { last = number; reply = r }))) client number c; is_down = false; pending = [] })
-            ∙ (λ i. alone (record m { holder = granted_holder o.live i; locked = granted_locked o.live i; begun = (append-nil (a.begun ++ []) ∙ append-nil a.begun) i }));
+            ∙ (λ i. record after { desk = begins_if (reply_is.now i) (with_session after.desk client (Some (record w { last = number; reply = r }))) client number c; is_down = false; pending = [] })
+            ∙ (λ i. alone (record m { holder = granted_holder o.live i; waits = none-granted t a.waits off i; locked = granted_locked o.live i; begun = (append-nil (a.begun ++ []) ∙ append-nil a.begun) i }));
         drawn = reply_is.none;
         deeds = (
           record {
@@ -287,7 +318,7 @@ module _ (a : Alone) (client number : ℕ) (w : Session) (t : TransId) (l : Life
             record {
               counts = λ f e. o.next_id f e ∙ ap (λ (x : Option Life). file_of (grants a.holder t c x).server) (sym o.live);
               view = (record l { held = under_grant }, lives_then, record { client = ap (λ (n : ℕ). Some n) (sym o.own); active = pair.1; formed = o.formed; right = grant_right o.live o.right; locked = grant_locked o.live o.locked });
-              locks = subst (λ (h : Holder). DoLivesAgree h.lives) (sym (granted_holder o.live)) (IsQuiet.agree (call_quiet under_grant locks_granted o.quiet o.live o.agree));
+              locks = subst (λ (h : Holder). DoLivesAgree h.lives) (sym (granted_holder o.live)) (then_quiet.settled.agree);
               running = runs_open granting refl pair;
               registration = tt;
               vote = tt;
@@ -303,7 +334,7 @@ module _ (a : Alone) (client number : ℕ) (w : Session) (t : TransId) (l : Life
         said = (tt, tt);
         tells = reply_is.tells (alone m) c;
         regained = refl;
-        quiet = call_quiet under_grant locks_granted o.quiet o.live o.agree;
+        quiet = then_quiet;
         answer = is.answer failed (subst (IsFileOf failed s client c r) (sym o.named) o.why);
         mail = (is.mail, refl);
         turns = tt;

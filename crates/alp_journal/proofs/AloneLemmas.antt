@@ -19,12 +19,12 @@ use Rattle.alp_journal.specs.Desk.{Desk, Session, file_trans, waits_after, with_
 use Rattle.alp_journal.specs.State.{State, state_deed, has_part}
 use Rattle.alp_journal.specs.Moves.{is_new, tried, told, halted, call_deeds, act_deeds, answered, done_of, is_stop, stops, next, counted, desk_told}
 use Rattle.alp_journal.specs.Coordinator.{Fate, Undrawn, Running, Finishing, Committed, Forgotten, Ended, has_votes}
-use Rattle.alp_journal.specs.Holder.{Holder, Life}
+use Rattle.alp_journal.specs.Holder.{Life}
 use Rattle.alp_journal.specs.Halts.{HaltsRight}
 use Rattle.alp_journal.specs.Laws.{IsLawfulDeed, DoLivesAgree, ReleasesEnded, WaitsInTurn, IsStopped, TellsStop, Repeats, stale, KeepsSessions, CallsOn, drawn_by, begun_in, released_by, granted_by, grants_of, ended_by, sends_last, SaysRight, TellsIn, regained_by}
 use Rattle.alp_journal.specs.Messages.{Mail, on_call, sent_by, due}
 use Rattle.alp_journal.specs.Answers.{IsAnswer, AnswersCall}
-use Rattle.alp_journal.specs.Answered.{is_release, is_all_done, CountsVotes, ForgetsDone, IsWalk, at_release, GrantsFor, GrantsAtOnce}
+use Rattle.alp_journal.specs.Answered.{is_all_done, CountsVotes, ForgetsDone, GivesOn, GrantsFor, GrantsAtOnce}
 use Rattle.alp_journal.specs.Alone.{Alone, alone, IsQuiet, IsPaired, Leads}
 
 -- ---- what a quiet state has
@@ -49,19 +49,10 @@ none_done None (Forgotten stamp joins) h = refl
 none_done None (Ended c) h = refl
 
 pub quiet_votes : (m : Alone) → IsQuiet m → CountsVotes (alone m)
-quiet_votes m q t = no_votes (m.holder.lives t) (m.fates t) (q.paired t)
+quiet_votes m q t = no_votes (m.holder.lives t) (m.fates t) (q.settled.paired t)
 
 pub quiet_forgets : (m : Alone) → IsQuiet m → ForgetsDone (alone m)
-quiet_forgets m q t = none_done (m.holder.lives t) (m.fates t) (q.paired t)
-
--- nobody waits, so nobody is given what is let go
-pub gives_none : (h : Holder) (acts : List Act) → Where (list_any is_release acts) (flat_map granted_by acts ≡ []) (Unit {0})
-    → Where (list_any is_release acts) (IsWalk h [] (flat_map granted_by acts)) (Unit {0})
-gives_none h acts none = go (list_any is_release acts) none
-  where
-    go : (b : Bool) → Where b (flat_map granted_by acts ≡ []) (Unit {0}) → Where b (IsWalk h [] (flat_map granted_by acts)) (Unit {0})
-    go true n = subst (IsWalk h []) (sym n) (IsWalk.ends h)
-    go false n = tt
+quiet_forgets m q t = none_done (m.holder.lives t) (m.fates t) (q.settled.paired t)
 
 -- where nothing is sent, no message comes before what takes effect
 pub silent_last : (acts : List Act) → flat_map sent_by acts ≡ [] → sends_last acts ≡ true
@@ -143,7 +134,7 @@ module _ (a : Alone) (client number : ℕ) (w : Session) where
     pub quiet : IsQuiet m
     pub answer : IsAnswer failed (alone a) client c r
     pub mail : (on_call (alone a) client c r ≡ []) × (flat_map sent_by acts ≡ [])
-    pub turns : Where (list_any is_release acts) (flat_map granted_by acts ≡ []) (Unit {0})
+    pub turns : GivesOn (alone a) (call_entry c r acts)
     pub grants : GrantsFor failed (alone a) client c r (flat_map granted_by acts) (file_trans c)
 
   -- the session goes on
@@ -169,9 +160,9 @@ module _ (a : Alone) (client number : ℕ) (w : Session) where
           drawn = o.drawn ∙ ap (λ (b : Bool). cond {A = List TransId} b (begun_in (Some r)) []) (sym new);
           sessions = o.greets e (calls_on c r acts there turn);
           deeds = subst (Along state_deed (IsLawfulDeed ev) s) (sym done) o.deeds;
-          agree = subst (λ (x : State). DoLivesAgree x.holder.lives) (sym leaves) o.quiet.agree;
+          agree = subst (λ (x : State). DoLivesAgree x.holder.lives) (sym leaves) o.quiet.settled.agree;
           released = subst (λ (b : Bool). Where b (Unit {0}) (ReleasesEnded s e × WaitsInTurn (next s e))) (sym o.up)
-              ((o.released ∙ ap (flat_map (ended_by s)) (sym done), o.granted ∙ ap (flat_map grants_of) (sym done)), subst WaitsInTurn (sym leaves) tt);
+              ((o.released ∙ ap (flat_map (ended_by s)) (sym done), o.granted ∙ ap (flat_map grants_of) (sym done)), subst WaitsInTurn (sym leaves) o.quiet.turns);
           sent = silent_last acts o.mail.1;
           said = subst (λ (x : State). AllByRecursion (SaysRight ev x) acts) (sym leaves) o.said;
           told = subst (λ (x : State). Where (is_new s client a.ids.epoch number) (TellsIn x c r) (Unit {0})) (sym leaves)
@@ -187,7 +178,7 @@ module _ (a : Alone) (client number : ℕ) (w : Session) where
           applied = subst (λ (b : Bool). Where b (Unit {0}) (Unit {0})) (sym o.up) tt;
           votes = subst (λ (b : Bool). Where b (Unit {0}) (CountsVotes (next s e))) (sym o.up) (subst CountsVotes (sym leaves) (quiet_votes m o.quiet));
           forgets = subst (λ (b : Bool). Where b (Unit {0}) (ForgetsDone (next s e))) (sym o.up) (subst ForgetsDone (sym leaves) (quiet_forgets m o.quiet));
-          turns = gives_none (at_release s e) acts o.turns;
+          turns = o.turns;
           grants = subst (λ (b : Bool). Where b (Unit {0}) (GrantsAtOnce failed s e ev (Some r))) (sym o.up)
               (subst (λ (b : Bool). Where b (GrantsFor failed s client c r (flat_map granted_by acts) (file_trans c)) (Unit {0})) (sym new) o.grants);
           halted = subst (λ (b : Bool). Where b (HaltsRight s e) (Unit {0})) (sym o.up) tt;

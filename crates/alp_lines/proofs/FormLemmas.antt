@@ -1,20 +1,21 @@
 -- the lines that the grammar takes are of the language's forms
 use Rattle.std.specs.Prelude.{Option, None, Some, IfSome, codes}
-use Rattle.std.proofs.Common.{◌≡◌, ℕ, List, [], ◌∷◌, subst}
+use Rattle.std.proofs.Common.{◌≡◌, ℕ, List, [], ◌∷◌, true, false, subst}
 use Rattle.std.specs.Option.{option_map}
 use Rattle.alp_tokens.specs.Words.{◌>>=◌, says, is_line, words_of}
 use Rattle.alp_tokens.specs.Numbers.{within, word32_of}
 use Rattle.alp_tokens.specs.Names.{name_of, list_of, text_of}
 use Rattle.alp_lines.specs.FileWords.{file_word_of, new_word_of}
-use Rattle.alp_lines.specs.Operands.{server_of, client_of, run_of, purpose_of, mode_of, page_mode_of, change_of}
+use Rattle.alp_lines.specs.Operands.{server_of, client_of, run_of, choice_of, purpose_of, mode_of, page_mode_of, change_of}
 use Rattle.alp_lines.specs.ClientLines.{begin_line, bare_line, make_owner_line, read_owner_line, quota_line, file_line, create_line, open_line, close_line, delete_line, write_line, read_line, lock_line, size_line, props_line, change_line, line_on_file, line_by_verb}
-use Rattle.alp_lines.specs.Grammar.{servers_line, volume_line, client_line, patience_line, line_of_client, line_by, line_of, is_skipped, line_said, text_said}
+use Rattle.alp_lines.specs.Grammar.{servers_line, volume_line, client_line, patience_line, auto_line, timeout_line, line_of_client, line_by, line_of, is_skipped, line_said, text_said}
 use Rattle.alp_lines.specs.Forms.{IsRunOfPages, IsPageMode, IsText, IsChange, IsForm}
 use Rattle.alp_lines.specs.Forms as form
+use Rattle.alp_base.specs.declared.limits.TheConstants.{CLIENTS}
 use Rattle.alp_lines.specs.declared.limits.TheConstants.{PATIENCE_MOST, HOME_LEAST, HOME_MOST, AREA_LEAST, AREA_MOST}
 use Rattle.alp_lines.specs.declared.line.Line.{Line}
 use Rattle.alp_lines.specs.declared.line.Line.TheVariants as line
-use Rattle.alp_lines.proofs.OperandLemmas.{IsFew, IsSmall, IsWithin, then, then_of, either, word32_small, within_range, run_formed, text_formed, list_few, chosen, admitted, page_mode_formed, read_so, change_formed}
+use Rattle.alp_lines.proofs.OperandLemmas.{IsFew, IsSmall, IsWithin, then, then_of, either, where_true, word32_small, within_range, run_formed, text_formed, list_few, admitted, page_mode_formed, read_so, change_formed}
 
 -- a line, if any, of a form
 abbrev IsFormed : Option Line → Type 0
@@ -53,6 +54,19 @@ patience_form [] = tt
 patience_form (a ∷ []) = then_of (IsWithin 1 PATIENCE_MOST) IsForm (within 1 PATIENCE_MOST a) _ (within_range 1 PATIENCE_MOST a) (λ n h. form.patience n h.least h.most)
 patience_form (a ∷ b ∷ more) = tt
 
+auto_form : (args : List (List ℕ)) → IsFormed (auto_line args)
+unfolding auto_line
+auto_form [] = tt
+auto_form (a ∷ []) = either IsForm (says a (codes "on")) _ _ (form.auto_said true) (where_true IsForm (says a (codes "off")) (line.Auto false) (λ _. form.auto_said false))
+auto_form (a ∷ b ∷ more) = tt
+
+timeout_form : (args : List (List ℕ)) → IsFormed (timeout_line args)
+unfolding timeout_line
+timeout_form [] = tt
+timeout_form (a ∷ []) = tt
+timeout_form (a ∷ b ∷ []) = then IsForm (server_of a) _ (λ s. then_of (IsWithin 1 CLIENTS) IsForm (client_of b) _ (within_range 1 CLIENTS b) (λ c h. form.timeout s c h.most))
+timeout_form (a ∷ b ∷ c ∷ more) = tt
+
 -- ---- transactions
 
 begin_form : (client : ℕ) (args : List (List ℕ)) → IsFormed (begin_line client args)
@@ -75,20 +89,20 @@ make_owner_form client (a ∷ []) = tt
 make_owner_form client (a ∷ b ∷ []) = tt
 make_owner_form client (a ∷ b ∷ c ∷ []) = tt
 make_owner_form client (a ∷ b ∷ c ∷ d ∷ end) =
-    then IsForm (server_of a) _ (λ s. then IsForm (name_of b) _ (λ n. then IsForm (word32_of c) _ (λ q. then_of IsFew IsForm (list_of d) _ (list_few d) (λ l few. chosen IsForm end _ (form.owner client s n q l few)))))
+    then IsForm (server_of a) _ (λ s. then IsForm (name_of b) _ (λ n. then IsForm (word32_of c) _ (λ q. then_of IsFew IsForm (list_of d) _ (list_few d) (λ l few. then IsForm (choice_of end) _ (λ wish. form.owner client s n q l wish few)))))
 
 read_owner_form : (client : ℕ) (args : List (List ℕ)) → IsFormed (read_owner_line client args)
 unfolding read_owner_line
 read_owner_form client [] = tt
 read_owner_form client (a ∷ []) = tt
-read_owner_form client (a ∷ b ∷ end) = then IsForm (server_of a) _ (λ s. then IsForm (name_of b) _ (λ n. chosen IsForm end _ (form.read_owner client s n)))
+read_owner_form client (a ∷ b ∷ end) = then IsForm (server_of a) _ (λ s. then IsForm (name_of b) _ (λ n. then IsForm (choice_of end) _ (λ wish. form.read_owner client s n wish)))
 
 quota_form : (client : ℕ) (args : List (List ℕ)) → IsFormed (quota_line client args)
 unfolding quota_line
 quota_form client [] = tt
 quota_form client (a ∷ []) = tt
 quota_form client (a ∷ b ∷ []) = tt
-quota_form client (a ∷ b ∷ c ∷ end) = then IsForm (server_of a) _ (λ s. then IsForm (name_of b) _ (λ n. then IsForm (word32_of c) _ (λ q. chosen IsForm end _ (form.quota client s n q))))
+quota_form client (a ∷ b ∷ c ∷ end) = then IsForm (server_of a) _ (λ s. then IsForm (name_of b) _ (λ n. then IsForm (word32_of c) _ (λ q. then IsForm (choice_of end) _ (λ wish. form.quota client s n q wish))))
 
 -- ---- files
 
@@ -98,7 +112,7 @@ file_form client server [] = tt
 file_form client server (a ∷ []) = tt
 file_form client server (a ∷ b ∷ []) = tt
 file_form client server (a ∷ b ∷ c ∷ end) =
-    then IsForm (new_word_of a) _ (λ w. then IsForm (name_of b) _ (λ n. then_of IsSmall IsForm (word32_of c) _ (word32_small c) (λ size small. admitted IsForm end _ (λ read modify few_read few_modify. form.create client server w n size read modify small few_read few_modify))))
+    then IsForm (new_word_of a) _ (λ w. then IsForm (name_of b) _ (λ n. then_of IsSmall IsForm (word32_of c) _ (word32_small c) (λ size small. admitted IsForm end _ (λ read modify wish few_read few_modify. form.create client server w n size read modify wish small few_read few_modify))))
 
 create_form : (client : ℕ) (args : List (List ℕ)) → IsFormed (create_line client args)
 unfolding create_line
@@ -111,7 +125,7 @@ open_form client [] = tt
 open_form client (a ∷ []) = tt
 open_form client (a ∷ b ∷ []) = tt
 open_form client (a ∷ b ∷ c ∷ end) =
-    then IsForm (file_word_of a) _ (λ f. then IsForm (purpose_of b) _ (λ p. then IsForm (mode_of c) _ (λ m. chosen IsForm end _ (form.open_file client f p m))))
+    then IsForm (file_word_of a) _ (λ f. then IsForm (purpose_of b) _ (λ p. then IsForm (mode_of c) _ (λ m. then IsForm (choice_of end) _ (λ wish. form.open_file client f p m wish))))
 
 close_form : (client : ℕ) (args : List (List ℕ)) → IsFormed (close_line client args)
 unfolding close_line
@@ -122,7 +136,7 @@ close_form client (a ∷ b ∷ more) = tt
 delete_form : (client : ℕ) (args : List (List ℕ)) → IsFormed (delete_line client args)
 unfolding delete_line
 delete_form client [] = tt
-delete_form client (a ∷ end) = then IsForm (file_word_of a) _ (λ f. chosen IsForm end _ (form.delete client f))
+delete_form client (a ∷ end) = then IsForm (file_word_of a) _ (λ f. then IsForm (choice_of end) _ (λ wish. form.delete client f wish))
 
 write_form : (client : ℕ) (args : List (List ℕ)) → IsFormed (write_line client args)
 unfolding write_line
@@ -131,7 +145,7 @@ write_form client (a ∷ []) = tt
 write_form client (a ∷ b ∷ []) = tt
 write_form client (a ∷ b ∷ c ∷ []) = tt
 write_form client (a ∷ b ∷ c ∷ d ∷ end) =
-    then IsForm (file_word_of a) _ (λ f. then_of IsRunOfPages IsForm (run_of b c) _ (run_formed b c) (λ r run. then_of IsText IsForm (text_of d) _ (text_formed d) (λ t text. chosen IsForm end _ (form.write client f r t run text))))
+    then IsForm (file_word_of a) _ (λ f. then_of IsRunOfPages IsForm (run_of b c) _ (run_formed b c) (λ r run. then_of IsText IsForm (text_of d) _ (text_formed d) (λ t text. then IsForm (choice_of end) _ (λ wish. form.write client f r t wish run text))))
 
 read_form : (client : ℕ) (args : List (List ℕ)) → IsFormed (read_line client args)
 unfolding read_line
@@ -139,7 +153,7 @@ read_form client [] = tt
 read_form client (a ∷ []) = tt
 read_form client (a ∷ b ∷ []) = tt
 read_form client (a ∷ b ∷ c ∷ end) =
-    then IsForm (file_word_of a) _ (λ f. then_of IsRunOfPages IsForm (run_of b c) _ (run_formed b c) (λ r run. read_so IsForm end _ (λ m fit. form.read client f r m run fit)))
+    then IsForm (file_word_of a) _ (λ f. then_of IsRunOfPages IsForm (run_of b c) _ (run_formed b c) (λ r run. read_so IsForm end _ (λ m wish fit. form.read client f r m wish run fit)))
 
 lock_form : (client : ℕ) (args : List (List ℕ)) → IsFormed (lock_line client args)
 unfolding lock_line
@@ -148,13 +162,13 @@ lock_form client (a ∷ []) = tt
 lock_form client (a ∷ b ∷ []) = tt
 lock_form client (a ∷ b ∷ c ∷ []) = tt
 lock_form client (a ∷ b ∷ c ∷ d ∷ end) =
-    then IsForm (file_word_of a) _ (λ f. then_of IsRunOfPages IsForm (run_of b c) _ (run_formed b c) (λ r run. then_of IsPageMode IsForm (page_mode_of d) _ (page_mode_formed d) (λ m fit. chosen IsForm end _ (form.lock client f r m run fit))))
+    then IsForm (file_word_of a) _ (λ f. then_of IsRunOfPages IsForm (run_of b c) _ (run_formed b c) (λ r run. then_of IsPageMode IsForm (page_mode_of d) _ (page_mode_formed d) (λ m fit. then IsForm (choice_of end) _ (λ wish. form.lock client f r m wish run fit))))
 
 size_form : (client : ℕ) (args : List (List ℕ)) → IsFormed (size_line client args)
 unfolding size_line
 size_form client [] = tt
 size_form client (a ∷ []) = tt
-size_form client (a ∷ b ∷ end) = then IsForm (file_word_of a) _ (λ f. then_of IsSmall IsForm (word32_of b) _ (word32_small b) (λ n small. chosen IsForm end _ (form.size client f n small)))
+size_form client (a ∷ b ∷ end) = then IsForm (file_word_of a) _ (λ f. then_of IsSmall IsForm (word32_of b) _ (word32_small b) (λ n small. then IsForm (choice_of end) _ (λ wish. form.size client f n wish small)))
 
 -- ---- properties
 
@@ -170,7 +184,7 @@ change_form client [] = tt
 change_form client (a ∷ []) = tt
 change_form client (a ∷ b ∷ []) = tt
 change_form client (a ∷ b ∷ c ∷ end) =
-    then IsForm (file_word_of a) _ (λ f. then_of IsChange IsForm (change_of b c) _ (change_formed b c) (λ p formed. chosen IsForm end _ (form.change client f p formed)))
+    then IsForm (file_word_of a) _ (λ f. then_of IsChange IsForm (change_of b c) _ (change_formed b c) (λ p formed. then IsForm (choice_of end) _ (λ wish. form.change client f p wish formed)))
 
 -- ---- lines
 
@@ -193,13 +207,14 @@ verb_form client verb args =
     either IsForm (says verb (codes "begin")) _ _ (begin_form client args)
     (either IsForm (says verb (codes "commit")) _ _ (bare_form (line.Commit client) args (form.commit client))
     (either IsForm (says verb (codes "abort")) _ _ (bare_form (line.Abort client) args (form.abort client))
+    (either IsForm (says verb (codes "collect")) _ _ (bare_form (line.Collect client) args (form.collect client))
     (either IsForm (says verb (codes "repeat")) _ _ (bare_form (line.Repeat client) args (form.repeat client))
     (either IsForm (says verb (codes "old")) _ _ (bare_form (line.Old client) args (form.old client))
     (either IsForm (says verb (codes "mkowner")) _ _ (make_owner_form client args)
     (either IsForm (says verb (codes "owner")) _ _ (read_owner_form client args)
     (either IsForm (says verb (codes "quota")) _ _ (quota_form client args)
     (either IsForm (says verb (codes "create")) _ _ (create_form client args)
-    (on_file_form client verb args)))))))))
+    (on_file_form client verb args))))))))))
 
 of_client_form : (client : List ℕ) (args : List (List ℕ)) → IsFormed (line_of_client client args)
 unfolding line_of_client
@@ -213,7 +228,9 @@ by_form first args =
     (either IsForm (says first (codes "volume")) _ _ (volume_form args)
     (either IsForm (says first (codes "client")) _ _ (client_form args)
     (either IsForm (says first (codes "patience")) _ _ (patience_form args)
-    (of_client_form first args))))
+    (either IsForm (says first (codes "auto")) _ _ (auto_form args)
+    (either IsForm (says first (codes "timeout")) _ _ (timeout_form args)
+    (of_client_form first args))))))
 
 all_form : (words : List (List ℕ)) → IsFormed (line_of words)
 all_form [] = tt

@@ -1,6 +1,6 @@
 -- lines that are computed: what the definitions say of each form
 use Rattle.std.specs.Prelude.{codes, None, Some}
-use Rattle.std.proofs.Common.{◌≡◌, ℕ, List, [], ◌∷◌, refl}
+use Rattle.std.proofs.Common.{◌≡◌, ℕ, List, [], ◌∷◌, false, refl}
 use Rattle.alp_base.specs.declared.choices.Access.TheVariants as access
 use Rattle.alp_base.specs.declared.choices.Choice.TheVariants as choice
 use Rattle.alp_base.specs.declared.ids.FileId.{FileId}
@@ -13,7 +13,7 @@ use Rattle.alp_tokens.specs.Names.{name_of, names_of, list_of}
 use Rattle.alp_lines.specs.FileWords.{id_of, file_word_of, new_word_of}
 use Rattle.alp_lines.specs.Operands.{run_of, choice_of, access_of, purpose_of, mode_of, page_mode_of, reading_of, change_of}
 use Rattle.alp_lines.specs.ClientLines.{bare_line, make_owner_line, read_owner_line, quota_line, file_line, create_line, open_line, close_line, delete_line, read_line, lock_line, size_line, props_line, change_line, line_on_file, line_by_verb}
-use Rattle.alp_lines.specs.Grammar.{text_said, line_of_client, line_by, line_said}
+use Rattle.alp_lines.specs.Grammar.{text_said, auto_line, timeout_line, line_of_client, line_by, line_said}
 use Rattle.alp_lines.specs.declared.line.FileWord.TheVariants as file_word
 use Rattle.alp_lines.specs.declared.line.Line.{Line}
 use Rattle.alp_lines.specs.declared.line.Line.TheVariants as line
@@ -133,6 +133,24 @@ read_owner = refl
 quota : Says (codes "3 quota 1 ann 0") (line.SetQuota 3 1 (codes "ann") 0 choice.Fail)
 unfolding text_said line_said words_of line_by line_of_client line_by_verb quota_line choice_of within number_of name_of
 quota = refl
+
+-- ---- waiting
+
+waits : Says (codes "1 read A 7 1 w wait") (line.ReadPages 1 (file_word.Word (codes "A")) (record { first = 7; count = 1 }) mode.Write choice.Wait)
+unfolding text_said line_said words_of line_by line_of_client line_by_verb line_on_file read_line page_mode_of reading_of run_of choice_of within number_of name_of file_word_of
+waits = refl
+
+collect : Says (codes "3 collect") (line.Collect 3)
+unfolding text_said line_said words_of line_by line_of_client line_by_verb bare_line within number_of
+collect = refl
+
+timeout : Says (codes "timeout 1 3") (line.Timeout 1 3)
+unfolding text_said line_said words_of line_by timeout_line within number_of
+timeout = refl
+
+auto_off : Says (codes "auto off") (line.Auto false)
+unfolding text_said line_said words_of line_by auto_line
+auto_off = refl
 
 -- ---- frames sent again
 

@@ -5,7 +5,6 @@ use Rattle.std.proofs.Common.{◌≡◌, ℕ, ◌-◌, ◌<◌, ◌≤◌, ◌^�
 use Rattle.std.proofs.lemmas.Bool.{leb-true, and_parts}
 use Rattle.alp_base.specs.Names.{is_between, is_name}
 use Rattle.alp_base.specs.declared.choices.Choice.{Choice}
-use Rattle.alp_base.specs.declared.choices.Choice.TheVariants as choice
 use Rattle.alp_base.specs.declared.lists.TheConstants.{NAMES_PER_LIST}
 use Rattle.alp_modes.specs.declared.Mode.{Mode}
 use Rattle.alp_modes.specs.declared.Mode.TheVariants as mode
@@ -94,29 +93,16 @@ pub list_few : (w : List ℕ) → IfSome (list_of w) IsFew
 unfolding list_of
 list_few w = either IsFew (says w (codes "-")) (Some []) (names_of (parts_at 44 w)) (omega arith) (few_names (parts_at 44 w))
 
-abbrev IsFail : Choice → Type 0
-IsFail c = c ≡ choice.Fail
-
-choice_fails : (end : List (List ℕ)) → IfSome (choice_of end) IsFail
-unfolding choice_of
-choice_fails [] = refl
-choice_fails (w ∷ []) = where_true IsFail (says w (codes "fail")) choice.Fail (λ _. refl)
-choice_fails (w ∷ v ∷ more) = tt
-
--- what hangs on the choice is so far that of a call that does not wait
-pub chosen : {B : Type 0} (P : B → Type 0) (end : List (List ℕ)) (f : Choice → Option B) → IfSome (f choice.Fail) P → IfSome (choice_of end >>= f) P
-chosen P end f h = then_of IsFail P (choice_of end) f (choice_fails end) (λ c e. subst (λ (c : Choice). IfSome (f c) P) (sym e) h)
-
--- and what hangs on lists and a choice
+-- what hangs on lists and a choice
 pub admitted : {B : Type 0} (P : B → Type 0) (end : List (List ℕ)) (f : List (List ℕ) × List (List ℕ) × Choice → Option B)
-    → ((read modify : List (List ℕ)) → IsFew read → IsFew modify → IfSome (f (read, modify, choice.Fail)) P) → IfSome (access_of end >>= f) P
+    → ((read modify : List (List ℕ)) (wish : Choice) → IsFew read → IsFew modify → IfSome (f (read, modify, wish)) P) → IfSome (access_of end >>= f) P
 unfolding access_of
-admitted P [] f h = in_turn P (choice_of []) _ f (chosen P [] _ (h everyone its_owner (omega arith) (omega arith)))
-admitted P (w ∷ []) f h = in_turn P (choice_of (w ∷ [])) _ f (chosen P (w ∷ []) _ (h everyone its_owner (omega arith) (omega arith)))
+admitted P [] f h = in_turn P (choice_of []) _ f (then P (choice_of []) _ (λ wish. h everyone its_owner wish (omega arith) (omega arith)))
+admitted P (w ∷ []) f h = in_turn P (choice_of (w ∷ [])) _ f (then P (choice_of (w ∷ [])) _ (λ wish. h everyone its_owner wish (omega arith) (omega arith)))
 admitted P (a ∷ b ∷ end) f h =
     in_turn P (list_of a) _ f (then_of IsFew P (list_of a) _ (list_few a) (λ r read.
     in_turn P (list_of b) _ f (then_of IsFew P (list_of b) _ (list_few b) (λ m modify.
-    in_turn P (choice_of end) _ f (chosen P end _ (h r m read modify))))))
+    in_turn P (choice_of end) _ f (then P (choice_of end) _ (λ wish. h r m wish read modify))))))
 
 pub page_mode_formed : (w : List ℕ) → IfSome (page_mode_of w) IsPageMode
 unfolding page_mode_of
@@ -126,14 +112,14 @@ page_mode_formed w =
     (either IsPageMode (says w (codes "w")) _ None tt tt))
 
 -- what hangs on a mode of pages and a choice
-pub read_so : {B : Type 0} (P : B → Type 0) (end : List (List ℕ)) (f : Mode × Choice → Option B) → ((m : Mode) → IsPageMode m → IfSome (f (m, choice.Fail)) P) → IfSome (reading_of end >>= f) P
+pub read_so : {B : Type 0} (P : B → Type 0) (end : List (List ℕ)) (f : Mode × Choice → Option B) → ((m : Mode) (wish : Choice) → IsPageMode m → IfSome (f (m, wish)) P) → IfSome (reading_of end >>= f) P
 unfolding reading_of
-read_so P [] f h = in_turn P (choice_of []) _ f (chosen P [] _ (h mode.Read tt))
+read_so P [] f h = in_turn P (choice_of []) _ f (then P (choice_of []) _ (λ wish. h mode.Read wish tt))
 read_so P (w ∷ end) f h = go (is_page_mode w)
   where
     go : (b : Bool) → IfSome (cond b (page_mode_of w >>= λ m. choice_of end >>= λ c. Some (m, c)) (choice_of (w ∷ end) >>= λ c. Some (mode.Read, c)) >>= f) P
-    go true = in_turn P (page_mode_of w) _ f (then_of IsPageMode P (page_mode_of w) _ (page_mode_formed w) (λ m fit. in_turn P (choice_of end) _ f (chosen P end _ (h m fit))))
-    go false = in_turn P (choice_of (w ∷ end)) _ f (chosen P (w ∷ end) _ (h mode.Read tt))
+    go true = in_turn P (page_mode_of w) _ f (then_of IsPageMode P (page_mode_of w) _ (page_mode_formed w) (λ m fit. in_turn P (choice_of end) _ f (then P (choice_of end) _ (λ wish. h m wish fit))))
+    go false = in_turn P (choice_of (w ∷ end)) _ f (then P (choice_of (w ∷ end)) _ (λ wish. h mode.Read wish tt))
 
 pub change_formed : (property value : List ℕ) → IfSome (change_of property value) IsChange
 unfolding change_of

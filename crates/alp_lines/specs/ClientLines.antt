@@ -162,6 +162,7 @@ line_by_verb client verb args =
     if says verb (codes "begin") then begin_line client args
     else if says verb (codes "commit") then bare_line (line.Commit client) args
     else if says verb (codes "abort") then bare_line (line.Abort client) args
+    else if says verb (codes "collect") then bare_line (line.Collect client) args
     else if says verb (codes "repeat") then bare_line (line.Repeat client) args
     else if says verb (codes "old") then bare_line (line.Old client) args
     else if says verb (codes "mkowner") then make_owner_line client args

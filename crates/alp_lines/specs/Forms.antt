@@ -1,9 +1,10 @@
 -- the lines that the language has so far, and what is known of their parts
-use Rattle.std.specs.Prelude.{ℕ, ◌<◌, ◌≤◌, ◌^◌, List, length}
+use Rattle.std.specs.Prelude.{Bool, ℕ, ◌<◌, ◌≤◌, ◌^◌, List, length}
 use Rattle.alp_base.specs.declared.choices.Access.{Access}
-use Rattle.alp_base.specs.declared.choices.Choice.TheVariants as choice
+use Rattle.alp_base.specs.declared.choices.Choice.{Choice}
 use Rattle.alp_base.specs.declared.faults.Sizes.{Sizes}
 use Rattle.alp_base.specs.declared.ids.Run.{Run}
+use Rattle.alp_base.specs.declared.limits.TheConstants.{CLIENTS}
 use Rattle.alp_base.specs.declared.lists.TheConstants.{NAMES_PER_LIST}
 use Rattle.alp_modes.specs.declared.Mode.{Mode}
 use Rattle.alp_modes.specs.declared.Mode.TheVariants as mode
@@ -49,23 +50,26 @@ pub data IsForm : Line → Type 0 where
   servers : (count : ℕ) → IsForm (line.Servers count)
   volume : (server home area : ℕ) → AreInLimits (record { home = home; area = area }) → IsForm (line.Volume server home area)
   client : (number : ℕ) (name : List ℕ) → IsForm (line.Client number name)
+  auto_said : (on : Bool) → IsForm (line.Auto on)
+  timeout : (server number : ℕ) → number ≤ CLIENTS → IsForm (line.Timeout server number)
   patience : (count : ℕ) → 0 < count → count ≤ PATIENCE_MOST → IsForm (line.Patience count)
   begin : (number server : ℕ) → IsForm (line.Begin number server)
   commit : (number : ℕ) → IsForm (line.Commit number)
   abort : (number : ℕ) → IsForm (line.Abort number)
+  collect : (number : ℕ) → IsForm (line.Collect number)
   repeat : (number : ℕ) → IsForm (line.Repeat number)
   old : (number : ℕ) → IsForm (line.Old number)
-  owner : (number server : ℕ) (name : List ℕ) (quota : ℕ) (create : List (List ℕ)) → length create ≤ NAMES_PER_LIST → IsForm (line.MakeOwner number server name quota create choice.Fail)
-  read_owner : (number server : ℕ) (name : List ℕ) → IsForm (line.ReadOwner number server name choice.Fail)
-  quota : (number server : ℕ) (name : List ℕ) (quota : ℕ) → IsForm (line.SetQuota number server name quota choice.Fail)
-  create : (number server : ℕ) (word name : List ℕ) (size : ℕ) (read modify : List (List ℕ)) → size < 2 ^ 32 → length read ≤ NAMES_PER_LIST → length modify ≤ NAMES_PER_LIST
-      → IsForm (line.Create number server word name size read modify choice.Fail)
-  open_file : (number : ℕ) (file : FileWord) (purpose : Access) (lock : Mode) → IsForm (line.OpenFile number file purpose lock choice.Fail)
+  owner : (number server : ℕ) (name : List ℕ) (quota : ℕ) (create : List (List ℕ)) (wish : Choice) → length create ≤ NAMES_PER_LIST → IsForm (line.MakeOwner number server name quota create wish)
+  read_owner : (number server : ℕ) (name : List ℕ) (wish : Choice) → IsForm (line.ReadOwner number server name wish)
+  quota : (number server : ℕ) (name : List ℕ) (quota : ℕ) (wish : Choice) → IsForm (line.SetQuota number server name quota wish)
+  create : (number server : ℕ) (word name : List ℕ) (size : ℕ) (read modify : List (List ℕ)) (wish : Choice) → size < 2 ^ 32 → length read ≤ NAMES_PER_LIST → length modify ≤ NAMES_PER_LIST
+      → IsForm (line.Create number server word name size read modify wish)
+  open_file : (number : ℕ) (file : FileWord) (purpose : Access) (lock : Mode) (wish : Choice) → IsForm (line.OpenFile number file purpose lock wish)
   close : (number : ℕ) (file : FileWord) → IsForm (line.CloseFile number file)
-  delete : (number : ℕ) (file : FileWord) → IsForm (line.DeleteFile number file choice.Fail)
-  write : (number : ℕ) (file : FileWord) (run : Run) (text : List ℕ) → IsRunOfPages run → IsText text → IsForm (line.WritePages number file run text choice.Fail)
-  read : (number : ℕ) (file : FileWord) (run : Run) (lock : Mode) → IsRunOfPages run → IsPageMode lock → IsForm (line.ReadPages number file run lock choice.Fail)
-  lock : (number : ℕ) (file : FileWord) (run : Run) (lock : Mode) → IsRunOfPages run → IsPageMode lock → IsForm (line.LockPages number file run lock choice.Fail)
-  size : (number : ℕ) (file : FileWord) (size : ℕ) → size < 2 ^ 32 → IsForm (line.SetSize number file size choice.Fail)
+  delete : (number : ℕ) (file : FileWord) (wish : Choice) → IsForm (line.DeleteFile number file wish)
+  write : (number : ℕ) (file : FileWord) (run : Run) (text : List ℕ) (wish : Choice) → IsRunOfPages run → IsText text → IsForm (line.WritePages number file run text wish)
+  read : (number : ℕ) (file : FileWord) (run : Run) (lock : Mode) (wish : Choice) → IsRunOfPages run → IsPageMode lock → IsForm (line.ReadPages number file run lock wish)
+  lock : (number : ℕ) (file : FileWord) (run : Run) (lock : Mode) (wish : Choice) → IsRunOfPages run → IsPageMode lock → IsForm (line.LockPages number file run lock wish)
+  size : (number : ℕ) (file : FileWord) (size : ℕ) (wish : Choice) → size < 2 ^ 32 → IsForm (line.SetSize number file size wish)
   props : (number : ℕ) (file : FileWord) → IsForm (line.ReadProps number file)
-  change : (number : ℕ) (file : FileWord) (change : PropChange) → IsChange change → IsForm (line.WriteProps number file change choice.Fail)
+  change : (number : ℕ) (file : FileWord) (change : PropChange) (wish : Choice) → IsChange change → IsForm (line.WriteProps number file change wish)

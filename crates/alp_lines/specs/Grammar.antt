@@ -1,7 +1,7 @@
 -- what the words of a line say
-use Rattle.std.specs.Prelude.{Bool, true, ◌==◌, ℕ, List, [], ◌∷◌, codes, Option, None, Some, if◌then◌else◌}
+use Rattle.std.specs.Prelude.{Bool, true, false, ◌==◌, ℕ, List, [], ◌∷◌, codes, Option, None, Some, if◌then◌else◌}
 use Rattle.std.specs.Option.{option_map}
-use Rattle.alp_tokens.specs.Words.{◌>>=◌, says, is_line, words_of}
+use Rattle.alp_tokens.specs.Words.{◌>>=◌, when, says, is_line, words_of}
 use Rattle.alp_tokens.specs.Numbers.{within}
 use Rattle.alp_tokens.specs.Names.{name_of}
 use Rattle.alp_lines.specs.Operands.{server_of, client_of}
@@ -39,6 +39,19 @@ patience_line (count ∷ []) = do
   Some (line.Patience n)
 patience_line _ = None
 
+-- whether messages and collects go by themselves
+unfoldable pub auto_line : List (List ℕ) → Option Line
+auto_line (word ∷ []) = if says word (codes "on") then Some (line.Auto true) else when (says word (codes "off")) (line.Auto false)
+auto_line _ = None
+
+-- the transaction of a client times out at a server
+unfoldable pub timeout_line : List (List ℕ) → Option Line
+timeout_line (server ∷ client ∷ []) = do
+  s ← server_of server
+  c ← client_of client
+  Some (line.Timeout s c)
+timeout_line _ = None
+
 -- a line that begins with a client's number
 unfoldable pub line_of_client : List ℕ → List (List ℕ) → Option Line
 line_of_client client (verb ∷ args) = do
@@ -53,6 +66,8 @@ line_by first args =
     else if says first (codes "volume") then volume_line args
     else if says first (codes "client") then client_line args
     else if says first (codes "patience") then patience_line args
+    else if says first (codes "auto") then auto_line args
+    else if says first (codes "timeout") then timeout_line args
     else line_of_client first args
 
 -- what the words of a line say

@@ -28,10 +28,10 @@ run_of first count = do
   n ← within 1 RUN_MOST count
   Some (record { first = f; count = n })
 
--- what the end of a line says is to be done where a lock is in the way: `fail`, as where it says nothing
+-- what the end of a line says is to be done where a lock is in the way: `fail`, as where it says nothing, or `wait`
 unfoldable pub choice_of : List (List ℕ) → Option Choice
 choice_of [] = Some choice.Fail
-choice_of (w ∷ []) = when (says w (codes "fail")) choice.Fail
+choice_of (w ∷ []) = if says w (codes "fail") then Some choice.Fail else when (says w (codes "wait")) choice.Wait
 choice_of (w ∷ v ∷ more) = None
 
 -- the access list that lets everyone in

@@ -354,6 +354,8 @@ pub(crate) fn line_by_verb(
         bare_line(Line::Commit { client }, args)
     } else if says(verb, b"abort") {
         bare_line(Line::Abort { client }, args)
+    } else if says(verb, b"collect") {
+        bare_line(Line::Collect { client }, args)
     } else if says(verb, b"repeat") {
         bare_line(Line::Repeat { client }, args)
     } else if says(verb, b"old") {

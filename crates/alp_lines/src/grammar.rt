@@ -2,7 +2,7 @@
 ghost use Rattle.std.specs.Prelude.{◌≡◌};
 ghost use Rattle.alp_tokens.specs.Telling.{Tells};
 ghost use Rattle.alp_tokens.specs.Words.{shown};
-ghost use Rattle.alp_lines.specs.Grammar.{servers_line as servers_said, volume_line as volume_said, client_line as client_said, patience_line as patience_said, line_of_client as said_of_client, line_by as said_by, line_of as said_of, is_skipped as is_skipped_said, line_said, text_said};
+ghost use Rattle.alp_lines.specs.Grammar.{servers_line as servers_said, volume_line as volume_said, client_line as client_said, patience_line as patience_said, auto_line as auto_said, timeout_line as timeout_said, line_of_client as said_of_client, line_by as said_by, line_of as said_of, is_skipped as is_skipped_said, line_said, text_said};
 
 use crate::Line;
 use crate::client_lines::line_by_verb;
@@ -66,6 +66,31 @@ fn patience_line(args: &[&[u8]]) -> Result<Line, LineFault>
     }
 }
 
+#[tactic(auto, unfolding(crate::specs::Grammar::auto_line))]
+fn auto_line(args: &[&[u8]]) -> Result<Line, LineFault>
+    ensures { Tells result (auto_said (shown args.now)) }
+{
+    match args {
+        [word] if says(word, b"on") => Ok(Line::Auto { on: true }),
+        [word] if says(word, b"off") => Ok(Line::Auto { on: false }),
+        _ => Err(LineFault::Outside),
+    }
+}
+
+#[tactic(auto, unfolding(crate::specs::Grammar::timeout_line))]
+fn timeout_line(args: &[&[u8]]) -> Result<Line, LineFault>
+    ensures { Tells result (timeout_said (shown args.now)) }
+{
+    match args {
+        [at, number] => {
+            let server = server(at)?;
+            let client = client(number)?;
+            Ok(Line::Timeout { server, client })
+        }
+        _ => Err(LineFault::Outside),
+    }
+}
+
 #[tactic(auto, unfolding(crate::specs::Grammar::line_of_client))]
 fn line_of_client(alloc: Global, number: &[u8], args: &[&[u8]]) -> Result<Line, LineFault>
     ensures { Tells result (said_of_client number.now (shown args.now)) }
@@ -91,6 +116,10 @@ fn line_by(alloc: Global, first: &[u8], args: &[&[u8]]) -> Result<Line, LineFaul
         client_line(args)
     } else if says(first, b"patience") {
         patience_line(args)
+    } else if says(first, b"auto") {
+        auto_line(args)
+    } else if says(first, b"timeout") {
+        timeout_line(args)
     } else {
         line_of_client(alloc, first, args)
     }

@@ -45,6 +45,7 @@ pub(crate) fn choice(end: &[&[u8]]) -> Result<Choice, LineFault>
     match end {
         [] => Ok(Choice::Fail),
         [word] if says(word, b"fail") => Ok(Choice::Fail),
+        [word] if says(word, b"wait") => Ok(Choice::Wait),
         _ => Err(LineFault::Outside),
     }
 }

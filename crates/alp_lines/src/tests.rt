@@ -81,7 +81,7 @@ fn refuses_wrong_lines(rt: HostRuntime) -> Result<(), Fail> {
         b"1 create 1 G ann 1 World a,b,c,d,e",
         b"1 create 1 G ann 1 World World fail fail",
         b"1 create 1 1.1.1 ann 1",
-        b"1 create 1 G ann 1 wait",
+        b"1 create 1 G ann 1 World World wait wait",
         b"1 close F fail",
         b"1 close",
         b"1 delete F World",
@@ -244,6 +244,69 @@ fn locks_pages_in_three_modes(rt: HostRuntime) -> Result<(), Fail> {
 }
 
 #[test]
+fn reads_lines_that_wait(rt: HostRuntime) -> Result<(), Fail> {
+    let alloc = rt.alloc();
+    let texts: [&[u8]; 12] = [
+        b"1 create 1 G ann 1 wait",
+        b"1 create 1 G ann 1 World - wait",
+        b"1 open F change iw wait",
+        b"1 delete F wait",
+        b"1 read F 0 1 wait",
+        b"1 read F 0 1 u wait",
+        b"1 write F 0 1 wait wait",
+        b"1 lock F 0 1 w wait",
+        b"1 change F type 7 wait",
+        b"1 quota 1 ann 4 wait",
+        b"auto on",
+        b"auto off",
+    ];
+    assert!(rt; are_lines(alloc, &texts)?);
+    let collects = text_in(alloc, b"7 collect")?;
+    assert!(rt; matches!(collects, Some(Line::Collect { client: 7 })));
+    let ends = text_in(alloc, b"timeout 1 7")?;
+    assert!(rt;
+        matches!(
+            ends,
+            Some(Line::Timeout {
+                server: 1,
+                client: 7
+            })
+        )
+    );
+    let waits = text_in(alloc, b"7 owner 1 ann wait")?;
+    assert!(rt;
+        matches!(
+            waits,
+            Some(Line::ReadOwner {
+                choice: Choice::Wait,
+                ..
+            })
+        )
+    );
+    Ok(())
+}
+
+#[test]
+fn refuses_wrong_waits(rt: HostRuntime) -> Result<(), Fail> {
+    let alloc = rt.alloc();
+    let texts: [&[u8]; 9] = [
+        b"1 close F wait",
+        b"1 props F wait",
+        b"1 collect 1",
+        b"collect 1",
+        b"auto",
+        b"auto on off",
+        b"timeout 1",
+        b"timeout 1 17",
+        b"timeout 0 1",
+    ];
+    for text in texts {
+        assert!(rt; matches!(text_in(alloc, text), Err(LineFault::Outside)));
+    }
+    Ok(())
+}
+
+#[test]
 fn refuses_wrong_locks(rt: HostRuntime) -> Result<(), Fail> {
     let alloc = rt.alloc();
     let texts: [&[u8]; 18] = [
@@ -264,7 +327,7 @@ fn refuses_wrong_locks(rt: HostRuntime) -> Result<(), Fail> {
         b"1 lock F 0 1 iw",
         b"1 lock F 0 256 r",
         b"1 lock F 0 1 fail",
-        b"1 lock F 0 1 w wait",
+        b"1 lock F 0 1 wait w",
     ];
     for text in texts {
         assert!(rt; matches!(text_in(alloc, text), Err(LineFault::Outside)));

@@ -8,3 +8,4 @@ pub mod RiseLemmas
 pub mod HolderLemmas
 pub mod ReleaseLemmas
 pub mod PlanLemmas
+pub mod WakeLemmas

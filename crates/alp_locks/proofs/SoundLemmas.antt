@@ -42,7 +42,7 @@ pub each-middle : {X : Type 0} (P : X → Type 0) (xs : List X) (y : X) (zs : Li
 each-middle P [] y zs h = h
 each-middle P (x ∷ xs) y zs h = let rest = each-middle P xs y zs h.1 in (rest.0, (h.0, rest.1))
 
-each-placed : (P : Waiter → Type 0) (ws : List Waiter) (w : Waiter) → AllByRecursion P ws → P w → AllByRecursion P (placed ws w)
+pub each-placed : (P : Waiter → Type 0) (ws : List Waiter) (w : Waiter) → AllByRecursion P ws → P w → AllByRecursion P (placed ws w)
 each-placed P [] w h k = (k, tt)
 each-placed P (x ∷ xs) w h k = go (w.converts && not x.converts) (each-placed P xs w h.1 k)
   where

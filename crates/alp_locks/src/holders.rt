@@ -10,7 +10,7 @@ ghost use Rattle.alp_locks.specs.Tables.{held_of};
 ghost use Rattle.alp_locks.specs.Asks.{disagrees as disagreeing, holder_on as holder_said};
 
 use alp_base::{OutOfMemory, Resource, TransId};
-use alp_modes::{Mode, agrees};
+use alp_modes::Mode;
 use alp_queue::Locks;
 use std::alloc::Global;
 use std::collections::BTreeMap;
@@ -101,10 +101,7 @@ impl Holders {
 fn disagrees(locks: &Locks, resource: &Resource, mode: Mode) -> bool
     ensures { result ≡ not (agree_held (map.get locks.now resource.now) (Some mode)) }
 {
-    match locks.get(resource) {
-        Some(held) => !agrees(held, mode),
-        None => false,
-    }
+    locks.disagrees_on(resource, mode)
 }
 
 fn holder_in(

@@ -1,5 +1,5 @@
 //! The table.
-ghost use Rattle.std.specs.Prelude.{◌≡◌, ◌+◌, ◌≤◌, List, [], length, true, false, not, is_some, None, drop, slice_get, IfOk, OnOk, OnErr};
+ghost use Rattle.std.specs.Prelude.{◌≡◌, ◌+◌, ◌≤◌, ◌<◌, ◌^◌, List, [], length, true, false, not, is_some, None, drop, slice_get, IfOk, OnOk, OnErr};
 ghost use Rattle.std.specs.FinMap as map;
 ghost use Rattle.alp_queue.specs.Order.{waits, placed};
 ghost use Rattle.alp_locks.specs.Tables.{held_of, holding};
@@ -129,6 +129,28 @@ impl LockTable {
         self.holders.replace(waiter.trans, waiter.after);
     }
 
+    /// The request of a plan waits from now on, behind those of its kind: also where nobody stands in its way, which is the
+    /// caller's to see.
+    /// Its grant will take no memory.
+    pub fn wait(&mut self, plan: Plan) -> Result<(), OutOfMemory>
+        requires prepared { IsPrepared self.old.held plan }
+        requires idle { waits self.old.waiting plan.trans ≡ false }
+        ensures after { OnOk result (self.new ≡ with_waiter self.old plan) }
+        ensures sound { IsSound self.old → IsSound self.new }
+        ensures err { OnErr result (self.new ≡ self.old) }
+    {
+        let Plan { waiter: request } = plan;
+        self.let_in(request)
+    }
+
+    /// How many requests wait.
+    pub fn waiters(&self) -> usize
+        ensures count { result ≡ length self.now.waiting }
+        ensures fits { result < 2 ^ 63 }
+    {
+        self.queue.waiters().len()
+    }
+
     /// Asks for all the needs of a transaction that does not wait: a plan of them is taken where
     /// nobody stands in its way.
     ///
@@ -206,6 +228,7 @@ impl LockTable {
     pub fn release_all(&mut self, trans: TransId)
         ensures after { self.new ≡ released self.old trans }
         ensures sound { IsSound self.old → IsSound self.new }
+        ensures few { length self.new.waiting + length self.new.woken ≤ length self.old.waiting + length self.old.woken }
     {
         self.holders.remove(&trans);
         self.queue.withdraw(&trans);

@@ -20,7 +20,10 @@ use Rattle.alp_node.specs.declared.server_state.ServerState.{ServerState}
 use Rattle.alp_node.specs.declared.sessions.CallOrder.TheVariants as order
 use Rattle.alp_node.proofs.KeptLemmas.{as_with}
 use Rattle.alp_node.proofs.ReadyLemmas.{ready_with}
-use Rattle.alp_node.proofs.SeatLemmas.{left_noted}
+use Rattle.alp_node.proofs.GivenLemmas.{wanting}
+use Rattle.alp_node.proofs.SeatLemmas.{left_noted, left_seated}
+use Rattle.alp_calls.proofs.LookLemmas.{left_same}
+use Rattle.std.specs.Result.{IsErr}
 
 module _ {V : Type 0} (G : Ghosts V) (k new : ServerState V) (v : V) (left : IsLeft G k.vault v) (on : IsTrue (G.serves v)) (faults : G.faults v ≡ G.faults k.vault) (up : k.is_down ≡ false) where
   abbrev mid : ServerState V
@@ -91,3 +94,13 @@ module _ {V : Type 0} (G : Ghosts V) (k new : ServerState V) (v : V) (left : IsL
     turned = λ now. tt;
     leaves = λ told a h. leaves_behind (MightBring (alone a) e) (s.leaves (told_then told) a (as_then a h));
   }
+
+-- without memory a server that is as before is a step of nothing
+pub same_without : {V : Type 0} (G : Ghosts V) (k new : ServerState V) (e : Event) (r : Result Answer OutOfMemory) → new ≡ k → IsErr r → IsStep G k new e r
+same_without G k new e r same err =
+    subst (λ (y : ServerState _). IsStep G k y e r) (sym same)
+    (wanting G k k e r err (record { kept = λ a h. h; ready = λ n h. h; up = refl; sessions = refl; clock = refl; vault = record { held = refl; faults = refl; allowance = refl } }) (λ h. h)
+    (left_seated G k k refl refl refl (left_same G k.vault)) (left_same G k.vault))
+
+pub same_err : {V : Type 0} (G : Ghosts V) (k new : ServerState V) (e : Event) (f : OutOfMemory) → new ≡ k → IsStep G k new e (Err f)
+same_err G k new e f same = same_without G k new e (Err f) same refl

@@ -1,5 +1,6 @@
 -- what a call of a live part comes to
 use Rattle.std.specs.Prelude.{suc, cond, Bool, true, false, Option, None, Some, Result, Ok, Err, IfOk, OnErr}
+use Rattle.std.specs.List.{AllByRecursion}
 use Rattle.std.specs.FinMap as map
 use Rattle.std.proofs.Common.{◌≡◌, ℕ, ◌+◌, ◌<◌, ◌≤◌, List, [], ◌∷◌, ◌++◌, length, refl, sym, ◌∙◌, ap, subst, arith}
 use Rattle.alp_base.specs.declared.ids.FileId.{FileId}
@@ -20,13 +21,13 @@ use Rattle.alp_files.specs.Edits.{Edit, edits_at, after}
 use Rattle.alp_files.specs.Needs.{Intents, no_intents, intents_from, through}
 use Rattle.alp_files.specs.Locks.{Reads, Writes, with_made}
 use Rattle.alp_files.proofs.HistoryLemmas.{get-edits_map}
-use Rattle.alp_locks.specs.Tables.{Table, holding}
+use Rattle.alp_locks.specs.Tables.{Table, held_of, holding}
 use Rattle.alp_vault.specs.Contents.{Contents}
 use Rattle.alp_files.specs.Locks.{needs_made}
 use Rattle.alp_journal.specs.Ids.{same_trans}
 use Rattle.alp_journal.specs.Holder.{Life, view_in, answer_in}
 use Rattle.alp_journal.specs.Counts.{lock_set, with_resources}
-use Rattle.alp_journal.specs.Desk.{Session}
+use Rattle.alp_journal.specs.Desk.{Session, Waiting, file_trans, is_of}
 use Rattle.alp_journal.specs.Alone.{Alone, IsQuiet}
 use Rattle.alp_journal.proofs.IdLemmas.{same_trans-true}
 use Rattle.alp_journal.proofs.AloneCalls.{with_call, life_after}
@@ -57,6 +58,7 @@ use Rattle.alp_node.specs.Steps.{IsTurn, counted_in}
 use Rattle.alp_node.specs.declared.sessions.Turn.{Turn}
 use Rattle.alp_node.specs.declared.server_state.ServerState.{ServerState}
 use Rattle.alp_node.specs.declared.lives.Live.{Live}
+use Rattle.alp_node.proofs.BesideLemmas.{AreNamed, AreOthers, others_told, queue_beside, asked_beside}
 use Rattle.alp_node.proofs.MapLemmas.{put_twice, get_put, places_set}
 use Rattle.alp_node.proofs.KeptLemmas.{IsLive, session_of, session_then, live_there, same_live, alike_set, each_set, sessions_as}
 
@@ -148,6 +150,9 @@ module _ {V : Type 0} (a : Alone) (held : Contents) (k : ServerState V) where
         born = h.born;
         earlier = h.earlier;
         committed = h.committed;
+        waits = h.waits;
+        queue = h.queue;
+        asked = h.asked;
         quiet = h.quiet;
         down = h.down;
       })
@@ -268,8 +273,9 @@ module _ {V : Type 0} (a : Alone) (held : Contents) (k : ServerState V) (turn : 
         → ((u : TransId) (q : Resource) → same_trans u t ≡ false → holding locks.held u q ≡ holding k.locks.held u q)
         → IsUnder (with_made under (id_in r)) gave.own (life.edits ++ gave.edits) → AreCountsOf a.holder.cells (life.edits ++ gave.edits) p.counts
         → n ≡ length (with_resources (needs_made (id_in r)) rs) → AreHeld (with_made under (id_in r)) (with_resources (needs_made (id_in r)) rs) → AreRoomed k.sizes a.holder.cells (totals_of k.lives) l.part.counts p.counts
+        → AreNamed k.waits → AreOthers t k.waits → locks.waiting ≡ k.locks.waiting → ((u : TransId) → same_trans u t ≡ false → held_of locks.held u ≡ held_of k.locks.held u)
         → IsQuiet (after_call (session_of turn is)) → IsAs (after_call (session_of turn is)) then done_kept
-    done_as then h same is up there live mine only done holds others kept counts count known roomed quiet =
+    done_as then h same is up there live mine only done holds others kept counts count known roomed named away waiting beside quiet =
         let w : Session = session_of turn is in
         let new : Life = life_after a turn.client turn.number w t life c r under in
         let now : List Resource = with_resources (needs_made (id_in r)) rs in
@@ -311,6 +317,11 @@ module _ {V : Type 0} (a : Alone) (held : Contents) (k : ServerState V) (turn : 
           born = unborn_more a.holder.server a.ids.epoch k.given (count_after k.given r) (map.get a.holder.cells) (count_grows k.given r) h.born;
           earlier = h.earlier;
           committed = h.committed;
+          waits = h.waits;
+          queue = waiting ∙ h.queue ∙ sym (queue_beside a.holder (after_call w).holder k.locks.held locks.held t refl (λ u apart. ap (λ (b : Bool). cond {A = Option Life} b (Some new) (a.holder.lives u)) apart) beside a.waits
+              (subst (AllByRecursion (λ (x : Waiting). is_of t (file_trans x.call) ≡ false)) (sym h.waits) (others_told t k.waits named away)));
+          asked = asked_beside a.holder (after_call w).holder k.locks.held locks.held t refl (λ u apart. ap (λ (b : Bool). cond {A = Option Life} b (Some new) (a.holder.lives u)) apart) beside a.locked (lock_set a.locked t now)
+              (λ u apart. ap (λ (b : Bool). cond {A = List Resource} b now (a.locked u)) apart) k.waits away h.asked;
           quiet = quiet;
           down = sym up;
         })

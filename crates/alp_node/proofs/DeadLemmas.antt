@@ -7,7 +7,7 @@ use Rattle.alp_files.specs.declared.refusal.Cause.{Cause}
 use Rattle.alp_files.specs.declared.refusal.Cause.TheVariants as cause
 use Rattle.alp_journal.specs.Ids.{same_trans}
 use Rattle.alp_journal.proofs.IdLemmas.{same_trans-true}
-use Rattle.alp_journal.proofs.AloneEntries.{turned}
+use Rattle.alp_journal.proofs.WaitLemmas.{turned}
 use Rattle.alp_node.specs.Dead.{is_dead, dead_in, without_client, without_part}
 use Rattle.alp_node.specs.declared.dead.DeadPart.{DeadPart}
 

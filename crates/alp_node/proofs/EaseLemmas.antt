@@ -1,7 +1,7 @@
 -- parts that need no place for some blocks any more stand as they did besides
 use Rattle.std.specs.Prelude.{cond, Bool, true, false, ◌||◌, is_some, Option, None, Some, length}
 use Rattle.std.specs.Option.{option_map}
-use Rattle.std.specs.List.{list_any, list_all}
+use Rattle.std.specs.List.{list_any, list_all, AllByRecursion}
 use Rattle.std.specs.FinMap as map
 use Rattle.std.proofs.Common.{◌≡◌, ℕ, ◌+◌, ◌-◌, ◌≤◌, List, [], ◌∷◌, le_refl, refl, sym, ◌∙◌, ap, subst, arith}
 use Rattle.alp_base.specs.declared.faults.Sizes.{Sizes}
@@ -18,6 +18,8 @@ use Rattle.alp_node.specs.ServerState.{IsReady}
 use Rattle.alp_node.specs.declared.server_state.ServerState.{ServerState}
 use Rattle.alp_node.specs.Totals.{LiveMap, totals_of, HaveRoom}
 use Rattle.alp_node.specs.declared.lives.Live.{Live}
+use Rattle.alp_node.specs.declared.waits.WaitingCall.{WaitingCall}
+use Rattle.alp_node.proofs.WaitLemmas.{IsLikePart, like_itself, waiting_parts}
 use Rattle.alp_node.proofs.KeysOnce.{AreOnce}
 use Rattle.alp_node.proofs.KeptLemmas.{same_live}
 use Rattle.alp_node.proofs.MapLemmas.{get_put, put_length}
@@ -72,6 +74,19 @@ module _ (blocks : List Key) where
     each_eased m [] u all l is = all l is
     each_eased m (t ∷ ts) u all l is = each_eased (eased_if blocks m t (map.get m t)) ts u (each_if m t u all) l is
 
+  if_live : (m : LiveMap) (t u : TransId) → is_some (map.get m u) ≡ true → is_some (map.get (eased_if blocks m t (map.get m t)) u) ≡ true
+  if_live m t u live = ap is_some (if_get m t (map.get m t) u refl) ∙ go (same_trans u t) (map.get m u) live
+    where
+      go : (b : Bool) (x : Option Live) → is_some x ≡ true → is_some (cond {A = Option Live} b (option_map (eased_live blocks) x) x) ≡ true
+      go false x e = e
+      go true None e = e
+      go true (Some l) e = refl
+
+  -- whoever was live is so still
+  pub eased_live_still : (m : LiveMap) (ts : List TransId) (u : TransId) → is_some (map.get m u) ≡ true → is_some (map.get (eased blocks m ts) u) ≡ true
+  eased_live_still m [] u live = live
+  eased_live_still m (t ∷ ts) u live = eased_live_still (eased_if blocks m t (map.get m t)) ts u (if_live m t u live)
+
   pub if_length : (m : LiveMap) (t : TransId) (x : Option Live) → map.get m t ≡ x → map.len (eased_if blocks m t x) ≡ map.len m
   if_length m t None is = refl
   if_length m t (Some l) is = put_length m t (eased_live blocks l) (ap is_some is)
@@ -116,7 +131,9 @@ eased_ready n serves k blocks ts h = record {
   serving = h.serving;
   halted = h.halted;
   sound = h.sound;
-  alone = h.alone;
+  taken = h.taken;
+  waits = waiting_parts k.server k.epoch k.given k.given (le_refl k.given) k.drawn k.sizes k.lives (eased blocks k.lives ts) k.waits k.locks.waiting
+      (eased_like k.waits) (λ t live. eased_live_still blocks k.lives ts t live) h.waits;
   known = λ t l is. each_eased blocks (λ x. is_some (map.get k.locks.held t) ≡ true) (λ x so. so) k.lives ts t (h.known t) l is;
   begun = λ t l is. each_eased blocks (λ x. t.counter ≤ k.drawn) (λ x so. so) k.lives ts t (h.begun t) l is;
   opens = λ t l is. each_eased blocks (λ x. x.part.last ≤ n) (λ x so. so) k.lives ts t (h.opens t) l is;
@@ -135,3 +152,7 @@ eased_ready n serves k blocks ts h = record {
   raised = h.raised;
   unheld = h.unheld;
 }
+  where
+    eased_like : (ws : List WaitingCall) → AllByRecursion (λ (w : WaitingCall). (l : Live) → map.get (eased blocks k.lives ts) w.trans ≡ Some l → (x : Live) × (map.get k.lives w.trans ≡ Some x) × IsLikePart x l) ws
+    eased_like [] = tt
+    eased_like (w ∷ ws) = (λ l is. each_eased blocks (λ y. (x : Live) × (map.get k.lives w.trans ≡ Some x) × IsLikePart x y) (λ y so. (so.0, so.1, record { client = so.2.client; opens = so.2.opens; cells = so.2.cells })) k.lives ts w.trans (λ y there. (y, there, like_itself y)) l is, eased_like ws)

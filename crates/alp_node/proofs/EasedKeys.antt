@@ -15,7 +15,7 @@ use Rattle.alp_node.specs.Totals.{LiveMap}
 use Rattle.alp_node.specs.declared.lives.Live.{Live}
 use Rattle.alp_node.proofs.EaseLemmas.{eased_get}
 use Rattle.alp_node.proofs.KeysOnce.{AreOnce, keys_once}
-use Rattle.alp_node.proofs.MapLemmas.{tied_same, get_gone}
+use Rattle.alp_node.proofs.MapLemmas.{tied_same}
 
 as_same : eq_by_cmp trans_cmp ≡ same_trans
 as_same = λ i t u. tied_same t u i
@@ -23,15 +23,10 @@ as_same = λ i t u. tied_same t u i
 among_keys : (m : LiveMap) (u : TransId) → list_any (same_trans u) (map.keys m) ≡ is_some (map.get m u)
 among_keys m u = ap (λ (same : TransId → TransId → Bool). list_any (same u) (map.keys m)) (sym as_same) ∙ sym (contains_key-keys m u)
 
-pub others_eased : (blocks : List Key) (m : LiveMap) (t u : TransId) → map.get (eased blocks (map.remove m t) (map.keys m)) u ≡ option_map (eased_live blocks) (map.get (map.remove m t) u)
-others_eased blocks m t u =
-    eased_get blocks (map.remove m t) (map.keys m) u (subst (λ (same : TransId → TransId → Bool). AreOnce same (map.keys m)) as_same (keys_once trans_cmp m))
-    ∙ ap (λ (b : Bool). cond {A = Option Live} b (option_map (eased_live blocks) (map.get (map.remove m t) u)) (map.get (map.remove m t) u)) (among_keys m u)
-    ∙ ap (λ (x : Option Live). cond {A = Option Live} (is_some (map.get m u)) (option_map (eased_live blocks) x) x) (get_gone m t u) ∙ go (same_trans u t) (map.get m u)
-    ∙ ap (option_map (eased_live blocks)) (sym (get_gone m t u))
-  where
-    go : (b : Bool) (x : Option Live) → cond {A = Option Live} (is_some x) (option_map (eased_live blocks) (cond {A = Option Live} b None x)) (cond {A = Option Live} b None x) ≡ option_map (eased_live blocks) (cond {A = Option Live} b None x)
-    go true None = refl
-    go true (Some l) = refl
-    go false None = refl
-    go false (Some l) = refl
+-- of other parts just those are eased that were live before
+pub eased_at : (blocks : List Key) (m lives : LiveMap) (u : TransId) (o : Option Live) → map.get lives u ≡ o
+    → map.get (eased blocks lives (map.keys m)) u ≡ cond {A = Option Live} (is_some (map.get m u)) (option_map (eased_live blocks) o) o
+eased_at blocks m lives u o at =
+    eased_get blocks lives (map.keys m) u (subst (λ (same : TransId → TransId → Bool). AreOnce same (map.keys m)) as_same (keys_once trans_cmp m))
+    ∙ ap (λ (b : Bool). cond {A = Option Live} b (option_map (eased_live blocks) (map.get lives u)) (map.get lives u)) (among_keys m u)
+    ∙ ap (λ (x : Option Live). cond {A = Option Live} (is_some (map.get m u)) (option_map (eased_live blocks) x) x) at

@@ -1,5 +1,6 @@
 -- greetings and begins, as the server keeps them
-use Rattle.std.specs.Prelude.{cond, Bool, true, false, ◌==◌, ◌&&◌, not, max, filter, Option, None, Some, is_some, nat_lt, nat_le}
+use Rattle.std.specs.Prelude.{cond, Bool, true, false, ◌==◌, ◌&&◌, ◌||◌, not, max, filter, Option, None, Some, is_some, IsSome, nat_lt, nat_le}
+use Rattle.std.specs.List.{AllByRecursion}
 use Rattle.std.specs.FinMap as map
 use Rattle.std.proofs.Common.{◌≡◌, ℕ, suc, ◌+◌, ◌<◌, ◌≤◌, List, [], ◌∷◌, ◌++◌, length, refl, sym, ◌∙◌, ap, subst, arith, eq-eqb}
 use Rattle.std.proofs.lemmas.Bool.{le-leb, leb-true, eqb-true}
@@ -22,7 +23,10 @@ use Rattle.alp_files.specs.declared.refusal.Refusal.TheVariants as refusal
 use Rattle.alp_files.specs.declared.refusal.What.TheVariants as what
 use Rattle.alp_files.specs.declared.refusal.Cause.{Cause}
 use Rattle.alp_files.specs.declared.refusal.Cause.TheVariants as cause
-use Rattle.alp_locks.specs.Tables.{Holders, Table, holding}
+use Rattle.alp_locks.specs.Tables.{Holders, Table, held_of, holding}
+use Rattle.alp_locks.proofs.SoundLemmas.{each-more, each-filter}
+use Rattle.alp_turns.specs.Queues.{request_for, request_at, queue_of}
+use Rattle.alp_turns.proofs.MoveLemmas.{GoesIdle, queue_without}
 use Rattle.alp_vault.specs.Contents.{Contents}
 use Rattle.alp_journal.specs.declared.act.Act.TheVariants as act
 use Rattle.alp_journal.specs.declared.event.Event.TheVariants as event
@@ -33,22 +37,24 @@ use Rattle.alp_journal.specs.Holder.{Life, new_life}
 use Rattle.alp_journal.specs.Counts.{lock_set}
 use Rattle.alp_journal.specs.Moves.{next_trans}
 use Rattle.alp_journal.specs.Answers.{too_many, is_counted, count_of_transactions, if_over}
-use Rattle.alp_journal.specs.Alone.{Alone, alone, IsPaired, Leads}
+use Rattle.alp_journal.specs.Alone.{Alone, alone, IsPaired, IsPartOf, IsOfPart, Leads}
 use Rattle.alp_journal.proofs.IdLemmas.{same_trans-true}
-use Rattle.alp_journal.proofs.AloneEnds.{hello_entry, with_hello, hello_leads}
-use Rattle.alp_journal.proofs.AloneEntries.{with_begun, begin_leads}
+use Rattle.alp_journal.proofs.AloneBegins.{hello_entry, with_hello, hello_leads, with_begun, begin_leads, is_buried, unburied, with_buried, begin_refused_leads}
+use Rattle.alp_journal.proofs.AloneCollects.{none_dead}
 use Rattle.alp_node.specs.Dead.{dead_in, without_client}
 use Rattle.alp_node.specs.Sessions.{session_at, with_session}
-use Rattle.alp_node.specs.ServerState.{IsAs, IsAlike, PutNoneBeyond, trans_to, is_beyond}
+use Rattle.alp_node.specs.ServerState.{IsAs, IsAlike, IsWaitingAs, PutNoneBeyond, trans_to, is_beyond}
 use Rattle.alp_node.specs.Steps.{Stepped, told_answer, refused_answer, entry_of}
 use Rattle.alp_node.specs.declared.answer.Answer.{Answer}
 use Rattle.alp_node.specs.declared.dead.DeadPart.{DeadPart}
 use Rattle.alp_node.specs.declared.lives.Live.{Live}
+use Rattle.alp_node.specs.Waits.{waiting, waiting_calls, stays, live_calls}
 use Rattle.alp_node.specs.declared.server_state.ServerState.{ServerState}
-use Rattle.alp_journal.specs.Desk.{Session}
+use Rattle.alp_node.specs.declared.waits.WaitingCall.{WaitingCall}
+use Rattle.alp_node.proofs.BesideLemmas.{AreNamed, AreOthers, others_told, part_named, filter_told, queue_beside, asked_beside}
+use Rattle.alp_journal.specs.Desk.{Session, Waiting, file_trans, part_trans, is_of, is_on}
 use Rattle.alp_node.proofs.CountLemmas.{count_pass}
 use Rattle.alp_node.proofs.LiveSums.{up_to_drawn, not_reached}
-use Rattle.alp_node.proofs.RefusalLemmas.{with_buried, begin_refused_leads}
 use Rattle.alp_node.proofs.TotalLemmas.{added_room}
 use Rattle.alp_calls.proofs.CountLaws.{counts_begin}
 use Rattle.alp_node.proofs.DeadLemmas.{none_left, others_left}
@@ -99,6 +105,9 @@ hello_stepped a before now held k client name x h le up first is =
         born = h.born;
         earlier = h.earlier;
         committed = h.committed;
+        waits = h.waits;
+        queue = h.queue;
+        asked = h.asked;
         quiet = leads.quiet;
         down = sym up;
       };
@@ -130,7 +139,7 @@ count_live a held k h =
     let count : length (filter (λ t. is_counted (a.fates t)) a.begun) ≡ map.len k.lives =
     ap (λ (ts : List TransId). length (filter (λ t. is_counted (a.fates t)) ts)) h.begun
     ∙ count_pass (λ t. is_counted (a.fates t)) a.holder.server a.ids.epoch k.drawn k.lives (up_to_drawn a held k h)
-    (λ t. counted_live (a.holder.lives t) (a.fates t) (h.quiet.paired t) ∙ kept_live a.holder.cells k.locks.held (a.locked t) t (map.get k.lives t) (a.holder.lives t) (h.lives t)) in
+    (λ t. counted_live (a.holder.lives t) (a.fates t) (h.quiet.settled.paired t) ∙ kept_live a.holder.cells k.locks.held (a.locked t) t (map.get k.lives t) (a.holder.lives t) (h.lives t)) in
     omega (arith, count)
 
 -- fewer than 64 are live
@@ -143,6 +152,72 @@ many_live : {V : Type 0} (a : Alone) (held : Contents) (k : ServerState V) → I
 many_live a held k h many =
     ap (λ (b : Bool). if_over b (refusal.TooMany what.Transactions 64)) (ap (nat_le 64) (count_live a held k h) ∙ le-leb 64 (map.len k.lives) many)
 
+-- ---- calls of dead parts go
+
+module _ {V : Type 0} (a : Alone) (held : Contents) (k : ServerState V) (client : ℕ) (h : IsAs a held k) where
+  -- what the journal says of the part of each call
+  abbrev IsPartHere : WaitingCall → Type 0
+  IsPartHere v = (file_trans v.call ≡ Some v.trans) × IsPartOf v.client (a.holder.lives v.trans) (a.dead v.client v.trans)
+
+  parts_here : AreNamed k.waits → AllByRecursion IsPartHere k.waits
+  parts_here named = each k.waits named (subst (AllByRecursion (λ (v : Waiting). IsOfPart a.holder.lives a.dead v (file_trans v.call))) h.waits h.quiet.settled.parts)
+    where
+      each : (ws : List WaitingCall) → AreNamed ws → AllByRecursion (λ (v : Waiting). IsOfPart a.holder.lives a.dead v (file_trans v.call)) (waiting_calls ws) → AllByRecursion IsPartHere ws
+      each [] n p = tt
+      each (v ∷ vs) n p = ((n.0, subst (IsOfPart a.holder.lives a.dead (waiting v)) n.0 p.0), each vs n.1 p.1)
+
+  live_alike : (t : TransId) → is_some (a.holder.lives t) ≡ is_some (map.get k.lives t)
+  live_alike t = kept_live a.holder.cells k.locks.held (a.locked t) t (map.get k.lives t) (a.holder.lives t) (h.lives t)
+
+  -- a dead part is not live, and the client's part that is not live is dead
+  dead_or_live : (v : WaitingCall) → IsPartHere v → v.client ≡ client → not (is_some (a.dead client v.trans)) ≡ is_some (map.get k.lives v.trans)
+  dead_or_live v here own = go (a.holder.lives v.trans) refl here.1 ∙ live_alike v.trans
+    where
+      dead_some : (x : Option Cause) → IsSome x → not (is_some x) ≡ false
+      dead_some None e = (let wrong : false ≡ true = e in cc)
+      dead_some (Some c) e = refl
+
+      go : (x : Option Life) → a.holder.lives v.trans ≡ x → IsPartOf v.client x (a.dead v.client v.trans) → not (is_some (a.dead client v.trans)) ≡ is_some x
+      go (Some life) e p = ap (λ (y : Option Cause). not (is_some y)) (none_dead a v.trans life h.quiet.settled e client)
+      go None e p = ap (λ (n : ℕ). not (is_some (a.dead n v.trans))) (sym own) ∙ dead_some (a.dead v.client v.trans) p
+
+  -- the same calls go
+  goes_alike : (v : WaitingCall) → IsPartHere v → not (is_buried a client (waiting v)) ≡ stays client k.lives v
+  goes_alike v here = go (v.client == client) refl
+    where
+      go : (b : Bool) → (v.client == client) ≡ b → not (b && is_on (λ t. is_some (a.dead client t)) (part_trans v.call)) ≡ (not b || is_some (map.get k.lives v.trans))
+      go false e = refl
+      go true e = ap (λ (x : Option TransId). not (is_on (λ t. is_some (a.dead client t)) x)) (part_named v.call v.trans here.0) ∙ dead_or_live v here (eqb-true v.client client e)
+
+  pub waits_left : AreNamed k.waits → unburied a client ≡ waiting_calls (live_calls client k.lives k.waits)
+  waits_left named =
+      ap (filter (λ v. not (is_buried a client v))) h.waits
+      ∙ filter_told (λ v. not (is_buried a client v)) (stays client k.lives) k.waits (each-more IsPartHere (λ v. not (is_buried a client (waiting v)) ≡ stays client k.lives v) goes_alike k.waits (parts_here named))
+
+  -- and they ask for nothing
+  goes_idle : (v : WaitingCall) → IsPartHere v → GoesIdle a.holder k.locks.held (is_buried a client) (waiting v)
+  goes_idle v here gone =
+      ap (request_at a.holder k.locks.held (waiting v)) here.0
+      ∙ ap (request_for a.holder k.locks.held (waiting v) v.trans) (none (a.holder.lives v.trans) refl)
+    where
+      right : (b c : Bool) → (b && c) ≡ true → c ≡ true
+      right true c e = e
+      right false c e = let wrong : false ≡ true = e in cc
+
+      is_dead_there : is_some (a.dead client v.trans) ≡ true
+      is_dead_there = sym (ap (is_on (λ t. is_some (a.dead client t))) (part_named v.call v.trans here.0)) ∙ right (v.client == client) (is_on (λ t. is_some (a.dead client t)) (part_trans v.call)) gone
+
+      none : (x : Option Life) → a.holder.lives v.trans ≡ x → x ≡ None
+      none None e = refl
+      none (Some life) e = let wrong : false ≡ true = sym (ap (λ (y : Option Cause). is_some y) (none_dead a v.trans life h.quiet.settled e client)) ∙ is_dead_there in cc
+
+  pub queue_left : AreNamed k.waits → queue_of a.holder k.locks.held (unburied a client) ≡ queue_of a.holder k.locks.held a.waits
+  queue_left named = queue_without a.holder k.locks.held (is_buried a client) a.waits (subst (AllByRecursion (GoesIdle a.holder k.locks.held (is_buried a client))) (sym h.waits) (each k.waits (parts_here named)))
+    where
+      each : (ws : List WaitingCall) → AllByRecursion IsPartHere ws → AllByRecursion (GoesIdle a.holder k.locks.held (is_buried a client)) (waiting_calls ws)
+      each [] p = tt
+      each (v ∷ vs) p = (goes_idle v p.0, each vs p.1)
+
 module _ {V : Type 0} (a : Alone) (held : Contents) (k : ServerState V) (client number : ℕ) (w : Session) (seen : Stamp) where
   -- nobody's dead part of the client is left
   buried : (ds : List DeadPart) (d : ℕ) (u : TransId) → cond {A = Option Cause} (d == client) None (dead_in ds d u) ≡ dead_in (without_client client ds) d u
@@ -153,14 +228,14 @@ module _ {V : Type 0} (a : Alone) (held : Contents) (k : ServerState V) (client 
       go false e = ap (λ (b : Bool). cond {A = Option Cause} b (Some cause.TimedOut) None) (sym (others_left ds d client u e))
 
   -- as many are live as may be: the begin is refused, and the client's dead parts go
-  pub begin_refused_stepped : (before now : ℕ) (x : Answer) → IsAs a held k → client ≤ 16 → k.is_down ≡ false → session_at k.sessions client ≡ Some w → number ≡ w.last + 1 → 64 ≤ map.len k.lives
+  pub begin_refused_stepped : (before now : ℕ) (x : Answer) → IsAs a held k → client ≤ 16 → k.is_down ≡ false → session_at k.sessions client ≡ Some w → number ≡ w.last + 1 → 64 ≤ map.len k.lives → AreNamed k.waits
       → x ≡ refused_answer (refusal.TooMany what.Transactions 64) []
-      → Stepped a before now held (record k { sessions = with_session k.sessions client (record w { last = number; reply = reply.Refused (refusal.TooMany what.Transactions 64) }); dead = without_client client k.dead }) (event.Call client k.epoch number (call.Begin seen)) x
-  begin_refused_stepped before now x h le up there turn many is =
+      → Stepped a before now held (record k { sessions = with_session k.sessions client (record w { last = number; reply = reply.Refused (refusal.TooMany what.Transactions 64) }); dead = without_client client k.dead; waits = live_calls client k.lives k.waits }) (event.Call client k.epoch number (call.Begin seen)) x
+  begin_refused_stepped before now x h le up there turn many named is =
       let f : Refusal = refusal.TooMany what.Transactions 64 in
       let counted : Session = record w { last = number; reply = reply.Refused f } in
       let leads = begin_refused_leads a client number w seen f h.quiet (h.down ∙ up) (h.sessions client ∙ there) turn (many_live a held k h many) in
-      stepped_so a before now held held k (record k { sessions = with_session k.sessions client counted; dead = without_client client k.dead }) client number w (call.Begin seen) false (reply.Refused f) []
+      stepped_so a before now held held k (record k { sessions = with_session k.sessions client counted; dead = without_client client k.dead; waits = live_calls client k.lives k.waits }) client number w (call.Begin seen) false (reply.Refused f) []
       (with_buried a client number w f) x is h leads
       (record {
         server = h.server;
@@ -184,6 +259,9 @@ module _ {V : Type 0} (a : Alone) (held : Contents) (k : ServerState V) (client 
         born = h.born;
         earlier = h.earlier;
         committed = h.committed;
+        waits = waits_left a held k client h named;
+        queue = h.queue ∙ sym (queue_left a held k client h named);
+        asked = each-filter (IsWaitingAs a.holder a.locked) (stays client k.lives) k.waits h.asked;
         quiet = leads.quiet;
         down = sym up;
       })
@@ -203,6 +281,7 @@ module _ {V : Type 0} (a : Alone) (held : Contents) (k : ServerState V) (client 
     drawn = k.drawn + 1;
     dead = without_client client k.dead;
     lives = map.insert k.lives begun_trans begun_live;
+    waits = live_calls client (map.insert k.lives begun_trans begun_live) k.waits;
     locks = locks;
   }
 
@@ -265,15 +344,25 @@ module _ {V : Type 0} (a : Alone) (held : Contents) (k : ServerState V) (client 
           farther true true true h e = e
           farther true false true h e = let wrong : false ≡ true = h refl in cc
 
+  -- of other transactions just the same are live
+  stays_alike : (ws : List WaitingCall) → AreOthers begun_trans ws → live_calls client k.lives ws ≡ live_calls client (map.insert k.lives begun_trans begun_live) ws
+  stays_alike [] away = refl
+  stays_alike (v ∷ vs) away = (λ i. cond {A = List WaitingCall} (not (v.client == client) || is_some (same v away.0 i)) (v ∷ stays_alike vs away.1 i) (stays_alike vs away.1 i))
+    where
+      same : (x : WaitingCall) → same_trans x.trans begun_trans ≡ false → map.get k.lives x.trans ≡ map.get (map.insert k.lives begun_trans begun_live) x.trans
+      same x apart = sym (get_put k.lives begun_trans begun_live x.trans ∙ ap (λ (b : Bool). cond {A = Option Live} b (Some begun_live) (map.get k.lives x.trans)) apart)
+
   pub begin_stepped : (before now : ℕ) (x : Answer) (locks : Table) → IsAs a held k → client ≤ 16 → k.is_down ≡ false → session_at k.sessions client ≡ Some w → number ≡ w.last + 1 → map.len k.lives < 64 → map.get k.lives begun_trans ≡ None
       → ((u : TransId) (r : Resource) → holding locks.held u r ≡ holding k.locks.held u r) → own_of p ≡ no_opens → p.intents ≡ no_intents → p.counts ≡ no_counts
+      → AreNamed k.waits → AreOthers begun_trans k.waits → locks.waiting ≡ k.locks.waiting → ((u : TransId) → held_of locks.held u ≡ held_of k.locks.held u)
       → x ≡ told_answer (Some (reply.Begun begun_trans)) (act.Drawn begun_trans ∷ [])
       → Stepped a before now held (with_begun_kept locks) (event.Call client k.epoch number (call.Begin seen)) x
-  begin_stepped before now x locks h le up there turn few new same opens none idle is =
+  begin_stepped before now x locks h le up there turn few new same opens none idle named away waiting beside is =
       let next : next_trans (alone a) ≡ begun_trans = trans_same h in
       let undrawn : a.fates (next_trans (alone a)) ≡ Undrawn = h.undrawn (next_trans (alone a)) (subst (λ (n : ℕ). is_beyond a.holder.server a.ids.epoch n (next_trans (alone a)) ≡ true) h.drawn (beyond_next a.holder.server a.ids.epoch a.ids.transactions)) in
       let leads = begin_leads a client number w seen h.quiet (h.down ∙ up) (h.sessions client ∙ there) turn undrawn (few_live a held k h few) in
       let m : Alone = with_begun a client number w seen in
+      let away_next : AreOthers (next_trans (alone a)) k.waits = subst (λ (t : TransId). AreOthers t k.waits) (sym next) away in
       let counted : Session = record w { last = number; reply = reply.Begun begun_trans } in
       let kept : IsAs m held (with_begun_kept locks) = record {
         server = h.server;
@@ -302,6 +391,15 @@ module _ {V : Type 0} (a : Alone) (held : Contents) (k : ServerState V) (client 
         born = h.born;
         earlier = earlier_more a.holder.clock (max a.holder.clock seen.ts) a.holder.applied (omega arith) h.earlier;
         committed = h.committed;
+        waits = waits_left a held k client h named ∙ ap waiting_calls (stays_alike k.waits away);
+        queue = waiting ∙ h.queue ∙ sym (queue_left a held k client h named)
+            ∙ sym (queue_beside a.holder m.holder k.locks.held locks.held (next_trans (alone a)) refl (λ u apart. ap (λ (b : Bool). cond {A = Option Life} b (Some (new_life None client w.who)) (a.holder.lives u)) apart) (λ u apart. beside u) (unburied a client)
+            (each-filter (λ (v : Waiting). is_of (next_trans (alone a)) (file_trans v.call) ≡ false) (λ v. not (is_buried a client v)) a.waits
+            (subst (AllByRecursion (λ (v : Waiting). is_of (next_trans (alone a)) (file_trans v.call) ≡ false)) (sym h.waits) (others_told (next_trans (alone a)) k.waits named away_next))));
+        asked = asked_beside a.holder m.holder k.locks.held locks.held (next_trans (alone a)) refl (λ u apart. ap (λ (b : Bool). cond {A = Option Life} b (Some (new_life None client w.who)) (a.holder.lives u)) apart) (λ u apart. beside u)
+            a.locked (lock_set a.locked (next_trans (alone a)) []) (λ u apart. ap (λ (b : Bool). cond {A = List Resource} b [] (a.locked u)) apart) (live_calls client (map.insert k.lives begun_trans begun_live) k.waits)
+            (each-filter (λ (v : WaitingCall). same_trans v.trans (next_trans (alone a)) ≡ false) (stays client (map.insert k.lives begun_trans begun_live)) k.waits away_next)
+            (each-filter (IsWaitingAs a.holder a.locked) (stays client (map.insert k.lives begun_trans begun_live)) k.waits h.asked);
         quiet = leads.quiet;
         down = sym up;
       } in

@@ -1,7 +1,8 @@
 -- refusals and ends, as the server keeps them
-use Rattle.std.specs.Prelude.{cond, Bool, true, false, ◌==◌, ◌&&◌, not, Option, None, Some, nat_lt, nat_le}
+use Rattle.std.specs.Prelude.{cond, Bool, true, false, ◌==◌, ◌&&◌, ◌||◌, not, Option, None, Some, is_some, find, nat_lt, nat_le}
+use Rattle.std.specs.List.{AllByRecursion}
 use Rattle.std.specs.FinMap as map
-use Rattle.std.proofs.Common.{◌≡◌, ℕ, [], ◌∷◌, ◌++◌, refl, sym, ◌∙◌, ap, subst, eq-eqb}
+use Rattle.std.proofs.Common.{◌≡◌, ℕ, List, [], ◌∷◌, ◌++◌, refl, sym, ◌∙◌, ap, subst, eq-eqb, arith}
 use Rattle.std.proofs.lemmas.Bool.{eqb-true, ne_eqb, leb-true, ltb-true}
 use Rattle.alp_base.specs.Causes.{Rose}
 use Rattle.alp_base.specs.declared.ids.TransId.{TransId}
@@ -13,9 +14,6 @@ use Rattle.alp_files.specs.declared.refusal.Refusal.TheVariants as refusal
 use Rattle.alp_files.specs.declared.refusal.Cause.{Cause}
 use Rattle.alp_files.specs.declared.refusal.Cause.TheVariants as cause
 use Rattle.alp_files.specs.declared.refusal.Why.{Why}
-use Rattle.alp_locks.specs.Tables.{holding}
-use Rattle.alp_locks.specs.Releases.{released}
-use Rattle.alp_locks.proofs.PlanLemmas.{release-holds}
 use Rattle.alp_vault.specs.Contents.{Contents}
 use Rattle.alp_journal.specs.declared.act.Act.TheVariants as act
 use Rattle.alp_journal.specs.declared.event.Event.TheVariants as event
@@ -23,18 +21,23 @@ use Rattle.alp_journal.specs.Along.{Where}
 use Rattle.alp_journal.specs.Ids.{same_trans}
 use Rattle.alp_journal.specs.Coordinator.{Fate, Undrawn, Running, Finishing, Committed, Forgotten, Ended}
 use Rattle.alp_journal.specs.Coordinator as fate
-use Rattle.alp_journal.specs.Desk.{Session}
+use Rattle.alp_journal.specs.Desk.{Session, Waiting, file_trans, is_of as is_of_trans, is_of_part, waiting_of, without}
 use Rattle.alp_journal.specs.Holder.{Life}
 use Rattle.alp_journal.specs.Counts.{lock_set}
 use Rattle.alp_journal.specs.Messages.{why_not_own}
 use Rattle.alp_journal.specs.Answers.{Part, NoPart, AtEnd, part_at, at_part, First, IsFinishAnswer, finish_reply}
-use Rattle.alp_journal.specs.Alone.{Alone, alone, IsPaired, Leads}
+use Rattle.alp_journal.specs.Alone.{Alone, alone, IsPaired, IsQuiet, Leads}
 use Rattle.alp_journal.proofs.IdLemmas.{same_trans-itself}
-use Rattle.alp_journal.proofs.AloneEntries.{counted_as, without_dead, with_end, ended_quiet, abort_leads, against_leads, unknown_finish_leads, dead_finish_leads}
-use Rattle.alp_journal.proofs.AloneEnds.{timeout_entry, with_timeout, timeout_leads, as_it_was, idle_leads}
+use Rattle.alp_journal.proofs.AloneEntries.{counted_as, without_dead, unknown_finish_leads, dead_finish_leads}
+use Rattle.alp_journal.proofs.AloneTimeouts.{as_it_was, idle_leads}
+use Rattle.alp_journal.proofs.QuietLemmas.{quiet_told, quiet_down, quiet_forgotten}
+use Rattle.alp_turns.proofs.MoveLemmas.{GoesIdle, queue_without}
 use Rattle.alp_node.specs.Dead.{dead_in, is_dead, without_part}
-use Rattle.alp_node.specs.ServerState.{IsAs, IsAlike, PutNoneBeyond, is_beyond}
-use Rattle.alp_node.specs.Steps.{Stepped, IsTurn, entry_of, counted_in, without_trans, ended, told_answer, refused_answer}
+use Rattle.alp_node.specs.ServerState.{IsAs, IsReady, IsWaitingAs, is_beyond}
+use Rattle.alp_node.specs.Steps.{Stepped, IsTurn, entry_of, counted_in, told_answer, refused_answer}
+use Rattle.alp_node.specs.Waits.{waiting, waiting_calls, has_waiting, is_of, without_calls_of}
+use Rattle.alp_node.specs.declared.waits.WaitingCall.{WaitingCall}
+use Rattle.alp_node.proofs.GoneLemmas.{part_of_file, named_each, calls_gone, each_left, idle_calls}
 use Rattle.alp_node.specs.declared.answer.Answer.{Answer}
 use Rattle.alp_node.specs.declared.lives.Live.{Live}
 use Rattle.alp_node.specs.declared.server_state.ServerState.{ServerState}
@@ -44,8 +47,9 @@ use Rattle.alp_node.proofs.DeadLemmas.{part_left, dead_then}
 use Rattle.alp_node.proofs.TotalLemmas.{gone_room}
 use Rattle.alp_node.proofs.KeptLemmas.{sessions_as, session_of, session_then, stands_timely, alike_set, each_set, IsLive, live_there, none_live, stepped_so}
 use Rattle.alp_node.specs.Standings.{standing_of}
+use Rattle.alp_node.specs.declared.served.Standing.{Standing}
 use Rattle.alp_node.specs.declared.served.Standing.TheVariants as standing
-use Rattle.alp_node.proofs.StandingLemmas.{part_of, EndsNone, none_running, part_is, finish_none, undrawn_elsewhere}
+use Rattle.alp_node.proofs.StandingLemmas.{part_of, EndsNone, none_running, part_is, finish_none, undrawn_elsewhere, dead_gone}
 use Rattle.alp_node.proofs.MapLemmas.{places_set, get_gone, tied_same}
 
 -- four tests that hold
@@ -67,21 +71,13 @@ still_undrawn server epoch count fates t move still before u far = go (same_tran
     go false = before u far
 
 module _ {V : Type 0} (a : Alone) (held : Contents) (k : ServerState V) where
-  -- just where a part is gone it is kept no more
-  pub gone_alike : (t : TransId) → k.locks.waiting ≡ [] → IsAs a held k
-      → (u : TransId) → IsAlike a.holder.cells (released k.locks t).held (lock_set a.locked t [] u) u (map.get (map.remove k.lives t) u) (cond {A = Option Life} (same_trans u t) None (a.holder.lives u))
-  gone_alike t alone h u =
-      subst (λ (x : Option Live). IsAlike a.holder.cells (released k.locks t).held (lock_set a.locked t [] u) u x (cond {A = Option Life} (same_trans u t) None (a.holder.lives u))) (sym (get_gone k.lives t u))
-      (alike_set a.holder.cells k.locks.held (released k.locks t).held a.locked t None None [] (map.get k.lives) a.holder.lives h.lives
-      (λ v r away. release-holds k.locks t v r alone ∙ ap (λ (b : Bool). cond {A = Option Mode} b None (holding k.locks.held v r)) (tied_same v t ∙ away))
-      (λ r. release-holds k.locks t t r alone ∙ ap (λ (b : Bool). cond {A = Option Mode} b None (holding k.locks.held t r)) (tied_same t t ∙ same_trans-itself t)) u)
-
-  pub gone_unborn : (t : TransId) → IsAs a held k → (u : TransId) (l : Life) → cond {A = Option Life} (same_trans u t) None (a.holder.lives u) ≡ Some l → PutNoneBeyond a.holder.server a.ids.epoch k.given l.edits
-  gone_unborn t h = each_set (λ l. PutNoneBeyond a.holder.server a.ids.epoch k.given l.edits) t None a.holder.lives h.unborn (λ l is. let wrong : None ≡ Some l = is in cc)
-
   -- the session of a turn is the journal's
   pub turn_session : (turn : Turn) → IsAs a held k → (is : IsTurn k.sessions turn) → a.sessions turn.client ≡ Some (session_of turn is)
   turn_session turn h is = h.sessions turn.client ∙ is.session
+
+  -- that goes on
+  pub turn_quiet : (turn : Turn) (r : Reply) (h : IsAs a held k) (is : IsTurn k.sessions turn) → IsQuiet (counted_as a turn.client turn.number (session_of turn is) r)
+  turn_quiet turn r h is = quiet_told a turn.client (session_of turn is) (record (session_of turn is) { last = turn.number; reply = r }) (turn_session turn h is) (omega (arith, is.number)) h.quiet
 
   -- a state in which only the session counts on is that of a server in which it does
   pub counts_as : (turn : Turn) (r : Reply) (h : IsAs a held k) (is : IsTurn k.sessions turn) → k.is_down ≡ false
@@ -97,6 +93,9 @@ module _ {V : Type 0} (a : Alone) (held : Contents) (k : ServerState V) where
     places = places_set k.sessions turn.client (session_then turn r) h.places;
     sessions = sessions_as a.sessions k.sessions turn.client (session_then turn r) h.sessions h.places is.client;
     dead = h.dead;
+    waits = h.waits;
+    queue = h.queue;
+    asked = h.asked;
     lives = h.lives;
     room = h.room;
     unborn = h.unborn;
@@ -108,7 +107,7 @@ module _ {V : Type 0} (a : Alone) (held : Contents) (k : ServerState V) where
     born = h.born;
     earlier = h.earlier;
     committed = h.committed;
-    quiet = record { agree = h.quiet.agree; paired = h.quiet.paired };
+    quiet = turn_quiet turn r h is;
     down = sym up;
   }
 
@@ -125,69 +124,12 @@ module _ {V : Type 0} (a : Alone) (held : Contents) (k : ServerState V) where
 
       go : (b : Bool) → is_beyond a.holder.server a.ids.epoch k.drawn t ≡ b → IsUpTo a.holder.server a.ids.epoch k.drawn t
       go true e =
-          let pair : IsPaired (Some life) (a.fates t) = subst (λ (x : Option Life). IsPaired x (a.fates t)) live (h.quiet.paired t) in
+          let pair : IsPaired (Some life) (a.fates t) = subst (λ (x : Option Life). IsPaired x (a.fates t)) live (h.quiet.settled.paired t) in
           let wrong : Undrawn ≡ Running life.client [] = sym (h.undrawn t e) ∙ pair.0 in
           cc
       go false e =
           let is = parts (t.server == a.holder.server) (t.epoch == a.ids.epoch) (nat_lt 0 t.counter) (nat_le t.counter k.drawn) e in
           record { here = eqb-true t.server a.holder.server is.first; now = eqb-true t.epoch a.ids.epoch is.second; some = ltb-true 0 t.counter is.third; low = leb-true t.counter k.drawn is.fourth }
-
--- ---- a live part ends without effect
-
-module _ {V : Type 0} (a : Alone) (before now : ℕ) (held : Contents) (k : ServerState V) (turn : Turn) (t : TransId) (l : Live) where
-  ended_as : (life : Life) (c : Cause) (h : IsAs a held k) (is : IsTurn k.sessions turn) → k.is_down ≡ false → k.locks.waiting ≡ [] → a.fates t ≡ Running life.client []
-      → IsAs (with_end a turn.client turn.number (session_of turn is) t life c) held (ended k turn t (reply.Refused (refusal.Aborted c)))
-  ended_as life c h is up alone runs = record {
-    server = h.server;
-    sizes = h.sizes;
-    epoch = h.epoch;
-    clock = h.clock;
-    cells = h.cells;
-    sized = h.sized;
-    notes = h.notes;
-    places = places_set k.sessions turn.client (session_then turn (reply.Refused (refusal.Aborted c))) h.places;
-    sessions = sessions_as a.sessions k.sessions turn.client (session_then turn (reply.Refused (refusal.Aborted c))) h.sessions h.places is.client;
-    dead = λ d u. ap (cond {A = Option Cause} (d == turn.client && same_trans u t) None) (h.dead d u) ∙ part_left k.dead turn.client t d u;
-    lives = gone_alike a held k t alone h;
-    room = gone_room k.sizes a.holder.cells k.lives t h.room;
-    unborn = gone_unborn a held k t h;
-    drawn = h.drawn;
-    begun = h.begun;
-    undrawn = still_undrawn a.holder.server a.ids.epoch k.drawn a.fates t (fate.ended c) refl h.undrawn;
-    files = h.files;
-    made = h.made;
-    born = h.born;
-    earlier = h.earlier;
-    committed = h.committed;
-    quiet = ended_quiet a turn.client turn.number (session_of turn is) t life c h.quiet runs;
-    down = sym up;
-  }
-
-  pub abort_stepped : (x : Answer) → IsAs a held k → IsTurn k.sessions turn → k.is_down ≡ false → k.locks.waiting ≡ [] → t.server ≡ k.server → map.get k.lives t ≡ Some l → l.client ≡ turn.client
-      → x ≡ refused_answer (refusal.Aborted cause.Asked) (act.Released t ∷ [])
-      → Stepped a before now held (ended k turn t (reply.Refused (refusal.Aborted cause.Asked))) (event.Call turn.client k.epoch turn.number (call.Finish t false)) x
-  abort_stepped x h is up alone here live own so =
-      let w : Session = session_of turn is in
-      let y : IsLive a.holder.cells k.locks.held (a.locked t) t l (a.holder.lives t) = live_there a.holder.cells k.locks.held (a.locked t) t (map.get k.lives t) (a.holder.lives t) l live (h.lives t) in
-      let pair : IsPaired (Some y.life) (a.fates t) = subst (λ (z : Option Life). IsPaired z (a.fates t)) y.is (h.quiet.paired t) in
-      stepped_so a before now held held k (ended k turn t (reply.Refused (refusal.Aborted cause.Asked))) turn.client turn.number w (call.Finish t false) false (reply.Refused (refusal.Aborted cause.Asked)) (act.Released t ∷ [])
-      (with_end a turn.client turn.number w t y.life cause.Asked) x so h
-      (abort_leads a turn.client turn.number w t y.life cause.Asked refl h.quiet (h.down ∙ up) (turn_session a held k turn h is) is.number (here ∙ sym h.server) y.is (y.alike.client ∙ own))
-      (ended_as y.life cause.Asked h is up alone pair.0) (λ e. cc) (stands_timely a.holder.clock 0 k.clock h.clock)
-
-  pub against_stepped : (failed : Bool) (why : Why) (x : Answer) → IsAs a held k → IsTurn k.sessions turn → k.is_down ≡ false → k.locks.waiting ≡ [] → t.server ≡ k.server → map.get k.lives t ≡ Some l → l.client ≡ turn.client
-      → (failed ≡ true → Rose before now) → why_not_own failed (alone a) t ≡ Some why
-      → x ≡ refused_answer (refusal.Aborted (cause.Voted k.server why)) (act.Released t ∷ [])
-      → Stepped a before now held (ended k turn t (reply.Refused (refusal.Aborted (cause.Voted k.server why)))) (event.Call turn.client k.epoch turn.number (call.Finish t true)) x
-  against_stepped failed why x h is up alone here live own rose not so =
-      let w : Session = session_of turn is in
-      let y : IsLive a.holder.cells k.locks.held (a.locked t) t l (a.holder.lives t) = live_there a.holder.cells k.locks.held (a.locked t) t (map.get k.lives t) (a.holder.lives t) l live (h.lives t) in
-      let pair : IsPaired (Some y.life) (a.fates t) = subst (λ (z : Option Life). IsPaired z (a.fates t)) y.is (h.quiet.paired t) in
-      stepped_so a before now held held k (ended k turn t (reply.Refused (refusal.Aborted (cause.Voted k.server why)))) turn.client turn.number w (call.Finish t true) failed (reply.Refused (refusal.Aborted (cause.Voted k.server why))) (act.Released t ∷ [])
-      (with_end a turn.client turn.number w t y.life (cause.Voted k.server why)) x so h
-      (against_leads a turn.client turn.number w t y.life (cause.Voted k.server why) failed why (ap (λ (n : ℕ). cause.Voted n why) (sym h.server)) h.quiet (h.down ∙ up) (turn_session a held k turn h is) is.number (here ∙ sym h.server) y.is
-      (y.alike.client ∙ own) not)
-      (ended_as y.life (cause.Voted k.server why) h is up alone pair.0) rose (stands_timely a.holder.clock 0 k.clock h.clock)
 
 -- ---- a Finish that ends nothing
 
@@ -199,16 +141,16 @@ module _ {V : Type 0} (a : Alone) (before now : ℕ) (held : Contents) (k : Serv
       part : part_at (alone a) turn.client t ≡ NoPart
       part = part_is a held k turn.client t h ∙ ap part_of unknown
 
-      go : (b : Bool) → Where b (First (at_part (commit && false) (part_at (alone a) turn.client t)) (reply.Refused refusal.UnknownTrans)
+      go : (b : Bool) → Where b (First (at_part (commit && is_some (waiting_of (alone a).desk turn.client t)) (part_at (alone a) turn.client t)) (reply.Refused refusal.UnknownTrans)
           (reply.Refused refusal.UnknownTrans ≡ cond {A = Reply} commit (finish_reply false (alone a) t (a.fates t)) (reply.Refused (refusal.Aborted cause.Asked))))
           (reply.Refused refusal.UnknownTrans ≡ reply.Refused refusal.UnknownTrans)
-      go true = subst (λ (p : Part). First (at_part (commit && false) p) (reply.Refused refusal.UnknownTrans)
+      go true = subst (λ (p : Part). First (at_part (commit && is_some (waiting_of (alone a).desk turn.client t)) p) (reply.Refused refusal.UnknownTrans)
           (reply.Refused refusal.UnknownTrans ≡ cond {A = Reply} commit (finish_reply false (alone a) t (a.fates t)) (reply.Refused (refusal.Aborted cause.Asked)))) (sym part) refl
       go false = refl
 
   -- another server's transaction is none of this one's
   elsewhere_answer : (t.server == a.holder.server) ≡ false → IsFinishAnswer false (alone a) turn.client t commit (reply.Refused refusal.UnknownTrans)
-  elsewhere_answer away = subst (λ (b : Bool). Where b (First (at_part (commit && false) (part_at (alone a) turn.client t)) (reply.Refused refusal.UnknownTrans)
+  elsewhere_answer away = subst (λ (b : Bool). Where b (First (at_part (commit && is_some (waiting_of (alone a).desk turn.client t)) (part_at (alone a) turn.client t)) (reply.Refused refusal.UnknownTrans)
       (reply.Refused refusal.UnknownTrans ≡ cond {A = Reply} commit (finish_reply false (alone a) t (a.fates t)) (reply.Refused (refusal.Aborted cause.Asked))))
       (reply.Refused refusal.UnknownTrans ≡ reply.Refused refusal.UnknownTrans)) (sym away) refl
 
@@ -237,20 +179,22 @@ module _ {V : Type 0} (a : Alone) (before now : ℕ) (held : Contents) (k : Serv
       (elsewhere_answer far) so
 
   -- it timed out, and its client is told
-  pub dead_stepped : (x : Answer) → IsAs a held k → IsTurn k.sessions turn → k.is_down ≡ false → t.server ≡ k.server → standing_of turn.client (map.get k.lives t) (is_dead turn.client t k.dead) ≡ standing.Dead
+  pub dead_stepped : (m : ℕ) (on : Bool) (x : Answer) → IsAs a held k → IsReady m on k → IsTurn k.sessions turn → k.is_down ≡ false → t.server ≡ k.server → standing_of turn.client (map.get k.lives t) (is_dead turn.client t k.dead) ≡ standing.Dead
       → x ≡ refused_answer (refusal.Aborted cause.TimedOut) []
-      → Stepped a before now held (record k { sessions = counted_in k.sessions turn (reply.Refused (refusal.Aborted cause.TimedOut)); dead = without_part turn.client t k.dead }) (event.Call turn.client k.epoch turn.number (call.Finish t commit)) x
-  dead_stepped x h is up here dead so =
+      → Stepped a before now held (record k { sessions = counted_in k.sessions turn (reply.Refused (refusal.Aborted cause.TimedOut)); dead = without_part turn.client t k.dead; waits = without_calls_of turn.client t k.waits }) (event.Call turn.client k.epoch turn.number (call.Finish t commit)) x
+  dead_stepped m on x h ready is up here dead so =
       let w : Session = session_of turn is in
+      let named : AllByRecursion (λ (v : WaitingCall). file_trans v.call ≡ Some v.trans) k.waits = named_each k.server k.epoch k.given k.drawn k.sizes k.lives k.waits ready.waits.calls in
+      let gone : a.holder.lives t ≡ None = none_live a.holder.cells k.locks.held (a.locked t) t (map.get k.lives t) (a.holder.lives t) (dead_gone turn.client (map.get k.lives t) (is_dead turn.client t k.dead) dead) (h.lives t) in
       let r : Reply = reply.Refused (refusal.Aborted cause.TimedOut) in
       let none : EndsNone turn.client t commit (alone a).desk r (a.fates t) = finish_none a held k turn.client t commit r h (λ own. let wrong : standing.Dead ≡ standing.Own = sym dead ∙ own in cc) in
       let part : part_at (alone a) turn.client t ≡ AtEnd cause.TimedOut = part_is a held k turn.client t h ∙ ap part_of dead in
-      let why : IsFinishAnswer false (alone a) turn.client t commit r = subst (λ (b : Bool). Where b (First (at_part (commit && false) (part_at (alone a) turn.client t)) r
+      let why : IsFinishAnswer false (alone a) turn.client t commit r = subst (λ (b : Bool). Where b (First (at_part (commit && is_some (waiting_of (alone a).desk turn.client t)) (part_at (alone a) turn.client t)) r
       (r ≡ cond {A = Reply} commit (finish_reply false (alone a) t (a.fates t)) (reply.Refused (refusal.Aborted cause.Asked))))
       (r ≡ reply.Refused refusal.UnknownTrans)) (sym (eq-eqb t.server a.holder.server (here ∙ sym h.server)))
-      (subst (λ (p : Part). First (at_part (commit && false) p) r (r ≡ cond {A = Reply} commit (finish_reply false (alone a) t (a.fates t)) (reply.Refused (refusal.Aborted cause.Asked)))) (sym part) refl) in
+      (subst (λ (p : Part). First (at_part (commit && is_some (waiting_of (alone a).desk turn.client t)) p) r (r ≡ cond {A = Reply} commit (finish_reply false (alone a) t (a.fates t)) (reply.Refused (refusal.Aborted cause.Asked)))) (sym part) refl) in
       let now_as : IsAs (counted_as a turn.client turn.number w r) held (record k { sessions = counted_in k.sessions turn r }) = counts_as a held k turn r h is up in
-      stepped_so a before now held held k (record k { sessions = counted_in k.sessions turn (reply.Refused (refusal.Aborted cause.TimedOut)); dead = without_part turn.client t k.dead }) turn.client turn.number w (call.Finish t commit) false r []
+      stepped_so a before now held held k (record k { sessions = counted_in k.sessions turn (reply.Refused (refusal.Aborted cause.TimedOut)); dead = without_part turn.client t k.dead; waits = without_calls_of turn.client t k.waits }) turn.client turn.number w (call.Finish t commit) false r []
       (without_dead a turn.client turn.number w t (counted_as a turn.client turn.number w r)) x so h
       (dead_finish_leads a turn.client turn.number w t commit cause.TimedOut h.quiet (h.down ∙ up) (turn_session a held k turn h is) is.number none.deeds none.mail why)
       (record {
@@ -264,6 +208,9 @@ module _ {V : Type 0} (a : Alone) (before now : ℕ) (held : Contents) (k : Serv
         places = now_as.places;
         sessions = now_as.sessions;
         dead = λ d u. ap (cond {A = Option Cause} (d == turn.client && same_trans u t) None) (h.dead d u) ∙ part_left k.dead turn.client t d u;
+        waits = ap (without (is_of_part turn.client t)) h.waits ∙ calls_gone turn.client t k.waits named;
+        queue = h.queue ∙ sym (queue_without a.holder k.locks.held (is_of_part turn.client t) a.waits (subst (AllByRecursion (GoesIdle a.holder k.locks.held (is_of_part turn.client t))) (sym h.waits) (idle_calls a.holder k.locks.held turn.client t gone k.waits named)));
+        asked = each_left (IsWaitingAs a.holder a.locked) (λ (v : WaitingCall). not (is_of turn.client t v)) k.waits h.asked;
         lives = h.lives;
         room = h.room;
         unborn = h.unborn;
@@ -275,53 +222,14 @@ module _ {V : Type 0} (a : Alone) (before now : ℕ) (held : Contents) (k : Serv
         born = h.born;
         earlier = h.earlier;
         committed = h.committed;
-        quiet = record { agree = h.quiet.agree; paired = h.quiet.paired };
+        quiet = quiet_forgotten turn.client t (counted_as a turn.client turn.number w r) now_as.quiet;
         down = sym up;
       })
       (λ e. cc) (stands_timely a.holder.clock 0 k.clock h.clock)
 
--- ---- time runs out
+-- ---- time runs out for none that is live
 
 module _ {V : Type 0} (a : Alone) (before now : ℕ) (held : Contents) (k : ServerState V) (t : TransId) where
-  pub timeout_stepped : (l : Live) (x : Answer) → IsAs a held k → k.is_down ≡ false → k.locks.waiting ≡ [] → map.get k.lives t ≡ Some l → x ≡ told_answer None (act.Released t ∷ [])
-      → Stepped a before now held (record (without_trans k t) { dead = k.dead ++ (record { client = l.client; trans = t }) ∷ [] }) (event.Timeout t) x
-  timeout_stepped l x h up alone live so =
-      let y : IsLive a.holder.cells k.locks.held (a.locked t) t l (a.holder.lives t) = live_there a.holder.cells k.locks.held (a.locked t) t (map.get k.lives t) (a.holder.lives t) l live (h.lives t) in
-      let leads : Leads false a (timeout_entry a t (act.Released t ∷ [])) (with_timeout a t y.life) = timeout_leads a t y.life h.quiet (h.down ∙ up) y.is in
-      record {
-        failed = false;
-        next = with_timeout a t y.life;
-        leads = subst (λ (z : Answer). Leads false a (entry_of (event.Timeout t) z) (with_timeout a t y.life)) (sym so) leads;
-        rose = λ e. cc;
-        kept = record {
-          server = h.server;
-          sizes = h.sizes;
-          epoch = h.epoch;
-          clock = h.clock;
-          cells = h.cells;
-          sized = h.sized;
-          notes = h.notes;
-          places = h.places;
-          sessions = h.sessions;
-          dead = λ d u. ap (cond {A = Option Cause} (d == y.life.client && same_trans u t) (Some cause.TimedOut)) (h.dead d u)
-              ∙ ap (λ (n : ℕ). cond {A = Option Cause} (d == n && same_trans u t) (Some cause.TimedOut) (dead_in k.dead d u)) y.alike.client ∙ dead_then k.dead l.client t d u;
-          lives = gone_alike a held k t alone h;
-          room = gone_room k.sizes a.holder.cells k.lives t h.room;
-          unborn = gone_unborn a held k t h;
-          drawn = h.drawn;
-          begun = h.begun;
-          undrawn = still_undrawn a.holder.server a.ids.epoch k.drawn a.fates t (fate.ended cause.TimedOut) refl h.undrawn;
-          files = h.files;
-          made = h.made;
-          born = h.born;
-          earlier = h.earlier;
-          committed = h.committed;
-          quiet = leads.quiet;
-          down = sym up;
-        };
-        clock = stands_timely a.holder.clock 0 k.clock h.clock;
-      }
-
   pub idle_stepped : (x : Answer) → IsAs a held k → k.is_down ≡ false → map.get k.lives t ≡ None → x ≡ told_answer None [] → Stepped a before now held k (event.Timeout t) x
   idle_stepped x h up none so = record {
     failed = false;
@@ -340,6 +248,9 @@ module _ {V : Type 0} (a : Alone) (before now : ℕ) (held : Contents) (k : Serv
       places = h.places;
       sessions = h.sessions;
       dead = h.dead;
+      waits = h.waits;
+      queue = h.queue;
+      asked = h.asked;
       lives = h.lives;
       room = h.room;
       unborn = h.unborn;
@@ -351,7 +262,7 @@ module _ {V : Type 0} (a : Alone) (before now : ℕ) (held : Contents) (k : Serv
       born = h.born;
       earlier = h.earlier;
       committed = h.committed;
-      quiet = record { agree = h.quiet.agree; paired = h.quiet.paired };
+      quiet = quiet_down a false [] h.quiet;
       down = sym up;
     };
     clock = stands_timely a.holder.clock 0 k.clock h.clock;

@@ -29,7 +29,7 @@ use Rattle.alp_locks.specs.Asks.{blocker}
 use Rattle.alp_locks.specs.Sound.{IsPrepared}
 use Rattle.alp_locks.proofs.HeldLemmas.{tied}
 use Rattle.alp_locks.proofs.LawLemmas.{all-of-plan}
-use Rattle.alp_locks.proofs.PlanLemmas.{granted-waiting, granted-knows}
+use Rattle.alp_locks.proofs.PlanLemmas.{granted-waiting, granted-woken, granted-knows}
 use Rattle.alp_locks.proofs.SoundLemmas.{grant-sound}
 use Rattle.alp_calls.specs.Parts.{GivesOnly}
 use Rattle.alp_vault.specs.Contents.{Contents}
@@ -39,12 +39,14 @@ use Rattle.alp_journal.specs.Alone.{Alone, alone}
 use Rattle.alp_node.specs.Asks.{is_of_given, is_given, IsGivenOn, AreGiven, asks_made, asks_given, makes_file, is_made, plan_if, plan_for, count_made, plan_of, with_plan}
 use Rattle.alp_node.specs.Calls.{next_file}
 use Rattle.alp_node.specs.ServerState.{IsAs, IsReady}
+use Rattle.alp_node.specs.Waits.{AreWaiting}
 use Rattle.alp_node.specs.declared.server_state.ServerState.{ServerState}
 use Rattle.alp_node.proofs.ConflictLemmas.{made_free}
 use Rattle.alp_node.proofs.IdLemmas.{known_file}
 use Rattle.alp_node.proofs.LockLemmas.{itself, write_covers}
 use Rattle.alp_node.proofs.OpenLemmas.{opens_later}
 use Rattle.alp_node.proofs.ReadyLemmas.{numbered}
+use Rattle.alp_node.proofs.WaitLemmas.{waiting_later}
 
 -- ---- what is kept
 
@@ -173,13 +175,14 @@ joined_none true x y e f = (λ i. join_held (e i) (f i))
 joined_none false x y e f = e
 
 -- with a plan taken that nobody stood in the way of, and a count that grew by one at most
-pub granted_ready : {V : Type 0} (m : ℕ) (serves : Bool) (k : ServerState V) (w : Waiter) (count : ℕ) → k.given ≤ count → count ≤ m → IsPrepared k.locks.held w → blocker k.locks.held w.trans w.rises ≡ None
+pub granted_ready : {V : Type 0} (m : ℕ) (serves : Bool) (k : ServerState V) (w : Waiter) (count : ℕ) → k.given ≤ count → count ≤ m → IsPrepared k.locks.held w → blocker k.locks.held w.trans w.rises ≡ None → waits k.locks.waiting w.trans ≡ false
     → ((n : ℕ) → count < n → held_by w.needs (numbered k n) ≡ None) → IsReady m serves k → IsReady m serves (record k { given = count; locks = with_plan k.locks w })
-granted_ready m serves k w count more low prepared free others h = record {
+granted_ready m serves k w count more low prepared free idle others h = record {
   serving = h.serving;
   halted = h.halted;
-  sound = grant-sound k.locks w prepared h.sound free (ap (λ (ws : List Waiter). waits ws w.trans) h.alone);
-  alone = granted-waiting k.locks w.trans w.rises w.after ∙ h.alone;
+  sound = grant-sound k.locks w prepared h.sound free idle;
+  taken = granted-woken k.locks w.trans w.rises w.after ∙ h.taken;
+  waits = subst (AreWaiting k.server k.epoch count k.drawn k.sizes k.lives k.waits) (sym (granted-waiting k.locks w.trans w.rises w.after)) (waiting_later k.server k.epoch k.given count more k.drawn k.sizes k.lives k.waits k.locks.waiting h.waits);
   known = λ u l is. granted-knows k.locks w.trans w.rises w.after u (h.known u l is);
   begun = h.begun;
   opens = h.opens;

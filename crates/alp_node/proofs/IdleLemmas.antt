@@ -26,6 +26,7 @@ use Rattle.alp_journal.specs.Answers.{IsAnswer, AnswersCall}
 use Rattle.alp_journal.specs.Answered.{CountsVotes, ForgetsDone, GrantsFor, GrantsAtOnce}
 use Rattle.alp_journal.specs.Alone.{Alone, alone, IsQuiet, Leads}
 use Rattle.alp_journal.proofs.AloneLemmas.{quiet_votes, quiet_forgets}
+use Rattle.alp_journal.proofs.QuietLemmas.{quiet_down}
 use Rattle.alp_calls.proofs.LookLemmas.{left_same}
 use Rattle.alp_node.specs.Halts.{says_shut}
 use Rattle.alp_node.specs.Orders.{greeting_order, session_order, order_of, idle_reply, is_answered, is_fault_now}
@@ -132,8 +133,8 @@ module _ (a : Alone) (client epoch number : ℕ) (c : Call) (r : Option Reply) w
           drawn = o.drawn;
           sessions = o.keeps;
           deeds = subst (Along state_deed (IsLawfulDeed asked) s) (sym o.tries) tt;
-          agree = subst (λ (x : State). DoLivesAgree x.holder.lives) (sym leaves) q.agree;
-          released = ((ap (flat_map (ended_by s)) (sym o.tries), ap (flat_map grants_of) (sym o.tries)), subst WaitsInTurn (sym leaves) tt);
+          agree = subst (λ (x : State). DoLivesAgree x.holder.lives) (sym leaves) q.settled.agree;
+          released = ((ap (flat_map (ended_by s)) (sym o.tries), ap (flat_map grants_of) (sym o.tries)), subst WaitsInTurn (sym leaves) (quiet_down a false [] q).turns);
           sent = refl;
           said = tt;
           told = subst (λ (x : State). TellsDecided s x asked r) (sym leaves) o.tells;
@@ -145,13 +146,13 @@ module _ (a : Alone) (client epoch number : ℕ) (c : Call) (r : Option Reply) w
           sent = subst (λ (x : State). IsPermutation (due false s x asked r) []) (sym leaves) (subst (λ (x : List Mail). IsPermutation x []) (sym o.mail) (IsPermutation-refl []));
           ticks = tt;
           applied = tt;
-          votes = subst CountsVotes (sym leaves) (quiet_votes unmoved (record { agree = q.agree; paired = q.paired }));
-          forgets = subst ForgetsDone (sym leaves) (quiet_forgets unmoved (record { agree = q.agree; paired = q.paired }));
+          votes = subst CountsVotes (sym leaves) (quiet_votes unmoved (quiet_down a false [] q));
+          forgets = subst ForgetsDone (sym leaves) (quiet_forgets unmoved (quiet_down a false [] q));
           turns = tt;
           grants = o.grants;
           halted = tt;
         };
-        quiet = record { agree = q.agree; paired = q.paired };
+        quiet = quiet_down a false [] q;
       }
 
 -- it is lawful and has its cause, and leaves all as it was
@@ -219,7 +220,10 @@ idle_stepped a before now held k client epoch number c x h up idle so =
         born = h.born;
         earlier = h.earlier;
         committed = h.committed;
-        quiet = record { agree = h.quiet.agree; paired = h.quiet.paired };
+        waits = h.waits;
+        queue = h.queue;
+        asked = h.asked;
+        quiet = quiet_down a false [] h.quiet;
         down = sym up;
       };
       clock = stands_timely a.holder.clock (seen_in (event.Call client epoch number c)) k.clock h.clock;
@@ -292,7 +296,7 @@ module _ {V : Type 0} (G : Ghosts V) (k : ServerState V) (client epoch number : 
   idle_counted order.Stale idle = (refl, refl)
   idle_counted order.Astray idle = (refl, refl)
 
-  idle_pages : (o : CallOrder) → IsIdle o → IsToldItsPages (Some o) this_call (idle_reply o k.epoch here_now)
+  idle_pages : (o : CallOrder) → IsIdle o → IsToldItsPages k.waits (Some o) this_call (idle_reply o k.epoch here_now)
   idle_pages order.First idle = tt
   idle_pages order.Next idle = absurd idle
   idle_pages order.Repeat idle = tt

@@ -114,36 +114,7 @@ sessions_as sessions kept client w all full le c = ap (cond {A = Option Session}
 
 -- ---- all of it
 
--- the same under locks that come to the same
-pub as_under : {V : Type 0} (a : Alone) (held : Contents) (k : ServerState V) (locks : Table) → ((u : TransId) (r : Resource) → holding locks.held u r ≡ holding k.locks.held u r) → IsAs a held k
-    → IsAs a held (record k { locks = locks })
-as_under a held k locks same h = record {
-  server = h.server;
-  sizes = h.sizes;
-  epoch = h.epoch;
-  clock = h.clock;
-  cells = h.cells;
-  sized = h.sized;
-  notes = h.notes;
-  places = h.places;
-  sessions = h.sessions;
-  dead = h.dead;
-  lives = λ t. alike_under a.holder.cells k.locks.held locks.held (a.locked t) t (map.get k.lives t) (a.holder.lives t) (same t) (h.lives t);
-  room = h.room;
-  unborn = h.unborn;
-  drawn = h.drawn;
-  begun = h.begun;
-  undrawn = h.undrawn;
-  files = h.files;
-  made = h.made;
-  born = h.born;
-  earlier = h.earlier;
-  committed = h.committed;
-  quiet = h.quiet;
-  down = h.down;
-}
-
--- and with another vault that holds the same
+-- with another vault that holds the same
 pub as_with : {V : Type 0} (a : Alone) (held then : Contents) (k : ServerState V) (v : V) → then ≡ held → IsAs a held k → IsAs a then (record k { vault = v })
 as_with a held then k v same h = subst (λ (x : Contents). IsAs a x (record k { vault = v })) (sym same) (record {
   server = h.server;
@@ -167,6 +138,9 @@ as_with a held then k v same h = subst (λ (x : Contents). IsAs a x (record k { 
   born = h.born;
   earlier = h.earlier;
   committed = h.committed;
+  waits = h.waits;
+  queue = h.queue;
+  asked = h.asked;
   quiet = h.quiet;
   down = h.down;
 })

@@ -56,7 +56,7 @@ module _ {V : Type 0} (a : Alone) (held : Contents) (k : ServerState V) (h : IsA
       let last : sum_list at (filter runs a.begun ++ []) ≡ sum_list at (filter runs a.begun) + 0 = sum_append at (filter runs a.begun) [] in
       let all : sum_list at (filter runs a.begun) ≡ all_in g k.lives =
       ap (λ (ts : List TransId). sum_list at (filter runs ts)) h.begun
-      ∙ sum_there g at runs a.holder.server a.ids.epoch k.drawn k.lives up_to_drawn (λ t off. ap f (not_live (a.holder.lives t) (a.fates t) (h.quiet.paired t) off) ∙ none)
+      ∙ sum_there g at runs a.holder.server a.ids.epoch k.drawn k.lives up_to_drawn (λ t off. ap f (not_live (a.holder.lives t) (a.fates t) (h.quiet.settled.paired t) off) ∙ none)
       (λ t. same t (map.get k.lives t) (a.holder.lives t) (h.lives t)) in
       omega (arith, last, all)
 

@@ -27,12 +27,13 @@ use Rattle.alp_journal.specs.declared.act.Act.{Act}
 use Rattle.alp_journal.specs.declared.act.Act.TheVariants as act
 use Rattle.alp_journal.specs.declared.event.Event.TheVariants as event
 use Rattle.alp_journal.specs.Counts.{request_in, with_resources}
-use Rattle.alp_journal.specs.Desk.{file_trans}
+use Rattle.alp_journal.specs.Desk.{file_trans, waiting_of}
 use Rattle.alp_journal.specs.Holder.{Life, view_in}
 use Rattle.alp_journal.specs.Moves.{is_stop}
 use Rattle.alp_journal.specs.Answers.{First, IsLocked, shape_refusal, lock_refusal, locks_then, more_locks, choice_of}
 use Rattle.alp_journal.specs.Answered.{asks, rises_on}
 use Rattle.alp_journal.specs.Alone.{Alone, alone}
+use Rattle.alp_base.specs.declared.choices.Choice.{Choice}
 use Rattle.alp_base.specs.declared.choices.Choice.TheVariants as choice
 use Rattle.alp_node.specs.Halts.{HaveCauses}
 use Rattle.alp_node.specs.Asks.{asks_of, plan_of, acts_of}
@@ -40,7 +41,7 @@ use Rattle.alp_node.specs.Calls.{IsServedCall}
 use Rattle.alp_node.specs.Covers.{AreHeld}
 use Rattle.alp_node.specs.Dead.{is_dead}
 use Rattle.alp_node.specs.Rooms.{IsWithin}
-use Rattle.alp_node.specs.Shapes.{shape_of, fresh_on, counts_then, too_locked}
+use Rattle.alp_node.specs.Shapes.{shape_of, fresh_on, counts_then, too_locked, is_wait, may_wait}
 use Rattle.alp_node.specs.ServerState.{IsAs, IsLife}
 use Rattle.alp_node.specs.Standings.{standing_of}
 use Rattle.alp_node.specs.Steps.{Stepped, IsTurn, IsOf, counted_in, refused_answer}
@@ -75,25 +76,32 @@ acts_caused before now allowance t ns = go (length ns == 0)
     go true = tt
     go false = tt
 
--- a call that asks for locks waits for none
-pub asks_choice : (held : Holding) (m : View) (own : Own) (c : Call) → IsServedCall c → (choice_of c ≡ Some choice.Fail) ⊎ (asks_of held m own c ≡ [])
-asks_choice held m own (call.CreateFile t start x) is = inl (ap (λ y. Some y) is)
-asks_choice held m own (call.OpenFile t f a mode x) is = inl (ap (λ y. Some y) is)
+-- a call that asks for locks chooses what to do where another is in its way
+pub asks_choice : (held : Holding) (m : View) (own : Own) (c : Call) → IsServedCall c → ((x : Choice) × (choice_of c ≡ Some x)) ⊎ (asks_of held m own c ≡ [])
+asks_choice held m own (call.CreateFile t start x) is = inl (x, refl)
+asks_choice held m own (call.OpenFile t f a mode x) is = inl (x, refl)
 asks_choice held m own (call.CloseFile t n) is = inr refl
-asks_choice held m own (call.DeleteFile t n x) is = inl (ap (λ y. Some y) is)
-asks_choice held m own (call.ReadPages t n r mode x) is = inl (ap (λ y. Some y) is)
-asks_choice held m own (call.WritePages t n r pages x) is = inl (ap (λ y. Some y) is.1)
-asks_choice held m own (call.LockPages t n r mode x) is = inl (ap (λ y. Some y) is)
-asks_choice held m own (call.SetSize t n size x) is = inl (ap (λ y. Some y) is)
+asks_choice held m own (call.DeleteFile t n x) is = inl (x, refl)
+asks_choice held m own (call.ReadPages t n r mode x) is = inl (x, refl)
+asks_choice held m own (call.WritePages t n r pages x) is = inl (x, refl)
+asks_choice held m own (call.LockPages t n r mode x) is = inl (x, refl)
+asks_choice held m own (call.SetSize t n size x) is = inl (x, refl)
 asks_choice held m own (call.ReadProps t n) is = inr refl
-asks_choice held m own (call.WriteProps t n change x) is = inl (ap (λ y. Some y) is)
-asks_choice held m own (call.ReadOwner t name x) is = inl (ap (λ y. Some y) is)
-asks_choice held m own (call.MakeOwner t name quota create x) is = inl (ap (λ y. Some y) is)
-asks_choice held m own (call.SetQuota t name quota x) is = inl (ap (λ y. Some y) is)
-asks_choice held m own c is = absurd is
+asks_choice held m own (call.WriteProps t n change x) is = inl (x, refl)
+asks_choice held m own (call.ReadOwner t name x) is = inl (x, refl)
+asks_choice held m own (call.MakeOwner t name quota create x) is = inl (x, refl)
+asks_choice held m own (call.SetQuota t name quota x) is = inl (x, refl)
+asks_choice held m own c is = (let wrong : false ≡ true = is in cc)
+
+-- it fails, or it waits
+pub chosen : (c : Call) (b : Bool) (x : Choice) → choice_of c ≡ Some x → may_wait c ≡ b → choice_of c ≡ Some (cond {A = Choice} b choice.Wait choice.Fail)
+chosen c true choice.Wait is may = is
+chosen c true choice.Fail is may = let wrong : false ≡ true = sym (ap is_wait is) ∙ may in cc
+chosen c false choice.Wait is may = let wrong : true ≡ false = sym (ap is_wait is) ∙ may in cc
+chosen c false choice.Fail is may = is
 
 -- nobody is in the way of nothing
-none_asked_free : (locks : Holders) (t : TransId) (holder : TransId) → blocker locks t (risen (held_of locks t) []) ≡ Some holder → ⊥
+pub none_asked_free : (locks : Holders) (t : TransId) (holder : TransId) → blocker locks t (risen (held_of locks t) []) ≡ Some holder → ⊥
 none_asked_free locks t holder e =
     let none : risen (held_of locks t) [] ≡ [] = none_risen (held_of locks t) [] tt (risen (held_of locks t) []) refl in
     let wrong : None ≡ Some holder = sym (ap (blocker locks t) none) ∙ e in
@@ -114,12 +122,12 @@ module _ {V : Type 0} (a : Alone) (held : Contents) (k : ServerState V) (t : Tra
   pub lock_request : request_in a.holder c (Some life) ≡ ns
   lock_request = (λ i. asks_of (λ q. mine.held q i) (sym (sees a held k t (a.locked t) l life h up mine) i) (sym mine.own i) c) ∙ sym told
 
-  -- and it waits for none of it
-  pub lock_choice : (choice_of c ≡ Some choice.Fail) ⊎ (ns ≡ [])
+  -- it asks for nothing, or has a choice
+  pub lock_choice : ((x : Choice) × (choice_of c ≡ Some x)) ⊎ (ns ≡ [])
   lock_choice = go (asks_choice life.held (view_in a.holder life) life.own c served)
     where
-      go : (choice_of c ≡ Some choice.Fail) ⊎ (asks_of life.held (view_in a.holder life) life.own c ≡ []) → (choice_of c ≡ Some choice.Fail) ⊎ (ns ≡ [])
-      go (inl fails) = inl fails
+      go : ((x : Choice) × (choice_of c ≡ Some x)) ⊎ (asks_of life.held (view_in a.holder life) life.own c ≡ []) → ((x : Choice) × (choice_of c ≡ Some x)) ⊎ (ns ≡ [])
+      go (inl chooses) = inl chooses
       go (inr none) = inr (sym lock_request ∙ none)
 
   pub lock_asks : asks a.holder life c ≡ not (length (risen (held_of k.locks.held t) ns) == 0)
@@ -169,14 +177,14 @@ module _ {V : Type 0} (a : Alone) (before now : ℕ) (held : Contents) (k : Serv
   then_counts = counts_then l.locks (holding k.locks.held t) ns c
 
   -- it would leave too many locks
-  pub locks_stepped : (f : Refusal) (x : Handed) → IsAs a held k → 0 < k.epoch → IsTurn k.sessions turn → k.is_down ≡ false → map.get k.lives t ≡ Some l → l.client ≡ turn.client → IsWithin k.sizes l → IsServedCall c
+  pub locks_stepped : (f : Refusal) (x : Handed) → IsAs a held k → 0 < k.epoch → IsTurn k.sessions turn → k.is_down ≡ false → map.get k.lives t ≡ Some l → l.client ≡ turn.client → waiting_of (alone a).desk turn.client t ≡ None → IsWithin k.sizes l → IsServedCall c
       → ns ≡ asks_of (holding k.locks.held t) (seen held.cells l.part) (own_of l.part) c → shape_of k.server k.epoch k.given (length l.part.opens.items) c ≡ None → too_locked k.sizes.area l.part.counts.cells then_counts.made ≡ Some f → file_trans c ≡ Some t
       → x ≡ refused_answer f []
       → Stepped a before now held (record k { sessions = counted_in k.sessions turn (reply.Refused f) }) (event.Call turn.client k.epoch turn.number c) x
-  locks_stepped f x h raised is up there own within served told shape many of so =
+  locks_stepped f x h raised is up there own idle within served told shape many of so =
       let y : IsLive a.holder.cells k.locks.held (a.locked t) t l (a.holder.lives t) = live_there a.holder.cells k.locks.held (a.locked t) t (map.get k.lives t) (a.holder.lives t) l there (h.lives t) in
       let counted : IsCountRefusal f = too_locked_is k.sizes.area l.part.counts.cells then_counts.made f many in
-      first_stepped a before now held k turn t c f y.life x h is up of (own_standing turn.client (map.get k.lives t) (is_dead turn.client t k.dead) (subst (IsOf turn.client) (sym there) own)) y.is
+      first_stepped a before now held k turn t c f y.life x h is up of (own_standing turn.client (map.get k.lives t) (is_dead turn.client t k.dead) (subst (IsOf turn.client) (sym there) own)) idle y.is
       (go y.life y.alike (shape_cases a held k h raised t l y.life y.alike c served shape)) counted.now (count_none_done a t c f counted) so
     where
       go : (life : Life) (mine : IsLife a.holder.cells k.locks.held (a.locked t) t l life) → (shape_refusal (alone a) life c ≡ None) ⊎ IsShut a held k h raised t l life mine c
@@ -185,22 +193,22 @@ module _ {V : Type 0} (a : Alone) (before now : ℕ) (held : Contents) (k : Serv
       go life mine (inr shut) = (let wrong : None ≡ Some f = sym (shut_few a held k t l c ns life h up mine served told raised shut within) ∙ many in cc)
 
   -- another is in its way
-  pub conflict_stepped : (holder : TransId) (x : Handed) → IsAs a held k → 0 < k.epoch → IsTurn k.sessions turn → k.is_down ≡ false → map.get k.lives t ≡ Some l → l.client ≡ turn.client → IsServedCall c
+  pub conflict_stepped : (holder : TransId) (x : Handed) → IsAs a held k → 0 < k.epoch → IsTurn k.sessions turn → k.is_down ≡ false → map.get k.lives t ≡ Some l → l.client ≡ turn.client → waiting_of (alone a).desk turn.client t ≡ None → may_wait c ≡ false → IsServedCall c
       → ns ≡ asks_of (holding k.locks.held t) (seen held.cells l.part) (own_of l.part) c → shape_of k.server k.epoch k.given (length l.part.opens.items) c ≡ None → too_locked k.sizes.area l.part.counts.cells then_counts.made ≡ None → file_trans c ≡ Some t → IsSound k.locks
       → blocker k.locks.held t (plan_of k.locks t ns).rises ≡ Some holder
       → x ≡ refused_answer (refusal.LockConflict holder) []
       → Stepped a before now held (record k { sessions = counted_in k.sessions turn (reply.Refused (refusal.LockConflict holder)) }) (event.Call turn.client k.epoch turn.number c) x
-  conflict_stepped holder x h raised is up there own served told shape few of sound named so =
+  conflict_stepped holder x h raised is up there own idle never served told shape few of sound named so =
       let y : IsLive a.holder.cells k.locks.held (a.locked t) t l (a.holder.lives t) = live_there a.holder.cells k.locks.held (a.locked t) t (map.get k.lives t) (a.holder.lives t) l there (h.lives t) in
       let r : Reply = reply.Refused (refusal.LockConflict holder) in
       let mine : standing_of turn.client (map.get k.lives t) (is_dead turn.client t k.dead) ≡ standing.Own = own_standing turn.client (map.get k.lives t) (is_dead turn.client t k.dead) (subst (IsOf turn.client) (sym there) own) in
       let none : option_or (shape_refusal (alone a) y.life c) (lock_refusal (alone a) t y.life c) ≡ None =
       not_refused a held k t l c ns y.life h up y.alike served told (open_there y.life y.alike (shape_cases a held k h raised t l y.life y.alike c served shape)) few in
       refused_stepped a before now held k turn t c false (refusal.LockConflict holder) x h is up (λ e. cc) of refl refl
-      (work_why a before now held k turn t c false r y.life h mine y.is
+      (work_why a before now held k turn t c false r y.life h mine idle y.is
       (inr (subst (λ (z : Option Refusal). First z r (IsLocked (alone a) t y.life c r)) (sym none)
       (IsLocked.conflict holder (fails (lock_choice a held k t l c ns y.life h up y.alike served told)) (least_holder a held k t l y.life c ns h y.alike (lock_request a held k t l c ns y.life h up y.alike served told) sound.agreeing holder named)))))
-      (work_grants a before now held k turn t c false r y.life [] h mine y.is (sym (one_or_none (is_some (option_or (shape_refusal (alone a) y.life c) (lock_refusal (alone a) t y.life c))) [] refl))) so
+      (work_grants a before now held k turn t c false r y.life [] h mine idle y.is (sym (one_or_none (is_some (option_or (shape_refusal (alone a) y.life c) (lock_refusal (alone a) t y.life c))) [] refl))) so
     where
       no_need : ns ≡ [] → ⊥
       no_need none = none_asked_free k.locks.held t holder (subst (λ (ms : List Need). blocker k.locks.held t (plan_of k.locks t ms).rises ≡ Some holder) none named)
@@ -209,8 +217,8 @@ module _ {V : Type 0} (a : Alone) (before now : ℕ) (held : Contents) (k : Serv
       open_there life mine (inl passes) = passes
       open_there life mine (inr shut) = absurd (no_need (shut_none a held k t l c ns life h up mine served told raised shut))
 
-      fails : (choice_of c ≡ Some choice.Fail) ⊎ (ns ≡ []) → choice_of c ≡ Some choice.Fail
-      fails (inl is_fail) = is_fail
+      fails : ((x : Choice) × (choice_of c ≡ Some x)) ⊎ (ns ≡ []) → choice_of c ≡ Some choice.Fail
+      fails (inl chooses) = chosen c false chooses.0 chooses.1 never
       fails (inr none) = absurd (no_need none)
 
       one_or_none : (b : Bool) (ts : List TransId) → ts ≡ [] → cond {A = List TransId} b [] ts ≡ []

@@ -43,7 +43,7 @@ use Rattle.alp_journal.specs.declared.event.Event.TheVariants as event
 use Rattle.alp_journal.specs.Ids.{same_trans}
 use Rattle.alp_journal.specs.Counts.{request_in, with_resources, log_need}
 use Rattle.alp_journal.specs.Desk.{Session}
-use Rattle.alp_journal.specs.Desk.{file_trans}
+use Rattle.alp_journal.specs.Desk.{file_trans, waiting_of}
 use Rattle.alp_journal.specs.Holder.{Life, view_in, answer_in, held_for}
 use Rattle.alp_journal.specs.Moves as journal
 use Rattle.alp_journal.specs.Laws.{IsFree}
@@ -80,7 +80,9 @@ use Rattle.alp_node.proofs.ConflictLemmas.{held_elsewhere, would_hold, none_rise
 use Rattle.alp_node.proofs.FinishLemmas.{turn_session}
 use Rattle.alp_node.proofs.GrantLemmas.{free_given, kept_beside, made_locked, asked_below, of_given, next_told, id_given}
 use Rattle.alp_node.proofs.KeptLemmas.{session_of, stands_timely, stepped_so}
-use Rattle.alp_node.proofs.LockLemmas.{itself, taken_own, taken_other, taken_agrees}
+use Rattle.alp_node.proofs.LockLemmas.{itself, taken_own, taken_other, taken_agrees, taken_beside, taken_waiting}
+use Rattle.alp_node.proofs.BesideLemmas.{AreNamed, AreOthers, idle_told}
+use Rattle.alp_node.proofs.WaitLemmas.{named_all, asks_none, idle_in}
 use Rattle.alp_node.proofs.LockCallLemmas.{locked_then, lock_request, lock_asks, lock_known, asked_locks, made_locks, not_refused, shut_none, shut_first}
 use Rattle.alp_node.proofs.MadeLemmas.{makes_only}
 use Rattle.alp_node.proofs.ServedLemmas.{work_why, work_grants}
@@ -161,7 +163,8 @@ module _ {V : Type 0} (a : Alone) (before now : ℕ) (held : Contents) (k : Serv
   module _ (m : ℕ) (on : Bool) (ready : IsReady m on k) (life : Life) (h : IsAs a held k) (up : k.is_down ≡ false) (is : IsTurn k.sessions turn) (there : map.get k.lives t ≡ Some l) (own : l.client ≡ turn.client) (live : a.holder.lives t ≡ Some life)
       (mine : IsLife a.holder.cells k.locks.held (a.locked t) t l life) (served : IsServedCall c) (files : AreGiven k.server k.epoch k.given ns) (from : ns ≡ asks_of (holding k.locks.held t) (seen held.cells l.part) (own_of l.part) c)
       (given : Answered true held.cells l.part p l.who (next_file k) c room r) (of : IsRoomOf true held.cells k locks_now.made room)
-      (shape : shape_of k.server k.epoch k.given (length l.part.opens.items) c ≡ None) (few : too_locked k.sizes.area l.part.counts.cells locks_now.made ≡ None) (free : blocker k.locks.held t asked.rises ≡ None) where
+      (shape : shape_of k.server k.epoch k.given (length l.part.opens.items) c ≡ None) (few : too_locked k.sizes.area l.part.counts.cells locks_now.made ≡ None) (free : blocker k.locks.held t asked.rises ≡ None)
+      (away : AreOthers t k.waits) where
     abbrev g : Reply
     g = given.given
 
@@ -211,8 +214,14 @@ module _ {V : Type 0} (a : Alone) (before now : ℕ) (held : Contents) (k : Serv
     others_held : (u : TransId) (o : Life) → a.holder.lives u ≡ Some o → (q : Resource) → o.held q ≡ holding k.locks.held u q
     others_held u o at q = held_elsewhere a.holder.cells k.locks.held (a.locked u) u (map.get k.lives u) o (subst (λ (y : Option Life). IsAlike a.holder.cells k.locks.held (a.locked u) u (map.get k.lives u) y) at (h.lives u)) q
 
+    named : AreNamed k.waits
+    named = named_all k.server k.epoch k.given k.drawn k.sizes k.lives k.waits ready.waits.calls
+
     idle : waits k.locks.waiting t ≡ false
-    idle = ap (λ (ws : List Waiter). waits ws t) ready.alone
+    idle = idle_in k.server k.epoch k.given k.lives k.waits t k.locks.waiting (asks_none t k.waits away) ready.waits.queued
+
+    idle_so : waiting_of (alone a).desk turn.client t ≡ None
+    idle_so = idle_told a turn.client t k.waits h.waits named away
 
     pub lock_free : IsFree a.holder t life c
     lock_free u o at away q =
@@ -268,7 +277,7 @@ module _ {V : Type 0} (a : Alone) (before now : ℕ) (held : Contents) (k : Serv
     my_standing = own_standing turn.client (map.get k.lives t) (is_dead turn.client t k.dead) (subst (IsOf turn.client) (sym there) own)
 
     pub lock_why : IsFileOf false (alone a) turn.client c r (Some t)
-    lock_why = work_why a before now held k turn t c false r life h my_standing live (inr lock_answer)
+    lock_why = work_why a before now held k turn t c false r life h my_standing idle_so live (inr lock_answer)
 
     grants_of : (o : Option Refusal) → refused ≡ o → grants_by true t r ≡ t ∷ []
     grants_of None e = subst (λ (y : Reply). grants_by true t y ≡ t ∷ []) (sym (given.said ∙ ap (unless_counts g) e)) (grants_asked t g given.own)
@@ -279,7 +288,7 @@ module _ {V : Type 0} (a : Alone) (before now : ℕ) (held : Contents) (k : Serv
 
     -- it is granted where something rises
     lock_grants : GrantsFor false (alone a) turn.client c r (cond {A = List TransId} (length asked.rises == 0) [] (t ∷ [])) (Some t)
-    lock_grants = work_grants a before now held k turn t c false r life (cond {A = List TransId} (length asked.rises == 0) [] (t ∷ [])) h my_standing live (go cases)
+    lock_grants = work_grants a before now held k turn t c false r life (cond {A = List TransId} (length asked.rises == 0) [] (t ∷ [])) h my_standing idle_so live (go cases)
       where
         by_first : Option Refusal → List TransId
         by_first x = cond {A = List TransId} (is_some x) [] (grants_by (asks a.holder life c) t r)
@@ -380,7 +389,8 @@ module _ {V : Type 0} (a : Alone) (before now : ℕ) (held : Contents) (k : Serv
           (subst (AreCountsOf a.holder.cells (life.edits ++ did.edits)) (sym counts) lock_after)
           (kept_count l.locks locks_now g rs count (made_count rs count known))
           (subst (λ (y : Holding). AreHeld (with_made y (id_in g)) (with_resources (needs_made (id_in g)) rs)) so (held_then under (needs_made (id_in g)) rs known))
-          (subst (AreRoomed k.sizes a.holder.cells (totals_of k.lives) l.part.counts) (sym counts) (allowed_room a held k h up locks_now.made room of t l given.after there passes)) quiet
+          (subst (AreRoomed k.sizes a.holder.cells (totals_of k.lives) l.part.counts) (sym counts) (allowed_room a held k h up locks_now.made room of t l given.after there passes))
+          named away (taken_waiting k.locks (plan g)) (λ u apart. taken_beside k.locks (plan g) u apart) quiet
 
       abbrev Steps : Contents → Handed → Type 0
       Steps then x = Stepped a before now then (lock_left g) (event.Call turn.client k.epoch turn.number c) x

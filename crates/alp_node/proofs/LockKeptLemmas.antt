@@ -1,5 +1,6 @@
 -- a file call that has the locks that it asked, and that the counts refuse: its part keeps the locks, and nothing else comes about
 use Rattle.std.specs.Prelude.{cond, Bool, true, false, ◌==◌, Option, None, Some}
+use Rattle.std.specs.List.{AllByRecursion}
 use Rattle.std.specs.FinMap as map
 use Rattle.std.proofs.Common.{◌≡◌, ℕ, List, [], ◌∷◌, length, refl, sym, ◌∙◌, ap, subst}
 use Rattle.alp_base.specs.declared.ids.TransId.{TransId}
@@ -28,7 +29,7 @@ use Rattle.alp_journal.specs.Ids.{same_trans}
 use Rattle.alp_journal.specs.Counts.{lock_set, request_in}
 use Rattle.alp_journal.proofs.AloneEntries.{counted_as}
 use Rattle.alp_journal.specs.Desk.{Session}
-use Rattle.alp_journal.specs.Desk.{file_trans}
+use Rattle.alp_journal.specs.Desk.{Waiting, file_trans, is_of}
 use Rattle.alp_journal.specs.Holder.{Life, view_in, held_for}
 use Rattle.alp_journal.specs.Answers.{IsFileOf, unless_counts}
 use Rattle.alp_journal.specs.Answered.{GrantsFor}
@@ -54,10 +55,12 @@ use Rattle.alp_node.proofs.TotalLemmas.{same_room}
 use Rattle.alp_node.proofs.ConflictLemmas.{not_empty}
 use Rattle.alp_node.proofs.FinishLemmas.{turn_session, counts_as}
 use Rattle.alp_node.proofs.KeptLemmas.{session_of, IsLive, live_there, alike_under, alike_set, each_set, stands_timely, stepped_so}
-use Rattle.alp_node.proofs.LockLemmas.{taken_other}
+use Rattle.alp_node.proofs.LockLemmas.{taken_other, taken_beside, taken_waiting}
 use Rattle.alp_node.proofs.LockCallLemmas.{locked_then}
 use Rattle.alp_node.proofs.LockDoneLemmas.{locks_now, asked, lock_left, first_held, lock_free, lock_why, grants_none, grants_some, under_held, still_locked, known_then, count_then, lock_performed}
-use Rattle.alp_node.proofs.RefusalLemmas.{with_locks, refused_granted_leads}
+use Rattle.alp_journal.proofs.AloneRefusals.{with_locks, refused_granted_leads}
+use Rattle.alp_node.proofs.BesideLemmas.{AreNamed, AreOthers, others_told, idle_told, queue_beside, asked_beside}
+use Rattle.alp_node.proofs.WaitLemmas.{named_all}
 use Rattle.alp_node.proofs.MapLemmas.{get_put}
 use Rattle.alp_files.proofs.FilesLemmas.{same-some}
 use Rattle.alp_journal.proofs.IdLemmas.{same_trans-true}
@@ -85,7 +88,7 @@ module _ {V : Type 0} (a : Alone) (before now : ℕ) (held : Contents) (k : Serv
 
   module _ (m : ℕ) (on : Bool) (ready : IsReady m on k) (life : Life) (h : IsAs a held k) (up : k.is_down ≡ false) (is : IsTurn k.sessions turn) (there : map.get k.lives t ≡ Some l) (own : l.client ≡ turn.client) (live : a.holder.lives t ≡ Some life)
       (mine : IsLife a.holder.cells k.locks.held (a.locked t) t l life) (served : IsServedCall c) (files : AreGiven k.server k.epoch k.given ns) (from : ns ≡ asks_of (holding k.locks.held t) (seen held.cells l.part) (own_of l.part) c) (given : Answered true held.cells l.part p l.who (next_file k) c room r) (of : IsRoomOf true held.cells k locks_asked.made room)
-      (shape : shape_of k.server k.epoch k.given (length l.part.opens.items) c ≡ None) (few : too_locked k.sizes.area l.part.counts.cells locks_asked.made ≡ None) (free : blocker k.locks.held t wanted.rises ≡ None)
+      (shape : shape_of k.server k.epoch k.given (length l.part.opens.items) c ≡ None) (few : too_locked k.sizes.area l.part.counts.cells locks_asked.made ≡ None) (free : blocker k.locks.held t wanted.rises ≡ None) (away : AreOthers t k.waits)
       (f : Refusal) (full : refused_for room l.part.counts given.after ≡ Some f) where
     abbrev would : Holding
     would = held_for a.holder life c
@@ -95,6 +98,12 @@ module _ {V : Type 0} (a : Alone) (before now : ℕ) (held : Contents) (k : Serv
 
     abbrev w : Session
     w = session_of turn is
+
+    named : AreNamed k.waits
+    named = named_all k.server k.epoch k.given k.drawn k.sizes k.lives k.waits ready.waits.calls
+
+    others_asked : AllByRecursion (λ (x : Waiting). is_of t (file_trans x.call) ≡ false) a.waits
+    others_asked = subst (AllByRecursion (λ (x : Waiting). is_of t (file_trans x.call) ≡ false)) (sym h.waits) (others_told t k.waits named away)
 
     counted : IsCountRefusal f
     counted = refused_is room l.part.counts given.after f full
@@ -106,16 +115,16 @@ module _ {V : Type 0} (a : Alone) (before now : ℕ) (held : Contents) (k : Serv
     stands = subst (StandsAfter l.part p given.after) full given.stands
 
     why : IsFileOf false (alone a) turn.client c (reply.Refused f) (Some t)
-    why = subst (λ (y : Reply). IsFileOf false (alone a) turn.client c y (Some t)) as_refused (lock_why a before now held k turn t l p c ns room r v m on ready life h up is there own live mine served files from given of shape few free)
+    why = subst (λ (y : Reply). IsFileOf false (alone a) turn.client c y (Some t)) as_refused (lock_why a before now held k turn t l p c ns room r v m on ready life h up is there own live mine served files from given of shape few free away)
 
     more : IsMore life.held would
     more = joined-more life.held (request_in a.holder c (Some life))
 
     known : AreHeld would resources
-    known = known_then a before now held k turn t l p c ns room r v m on ready life h up is there own live mine served files from given of shape few free
+    known = known_then a before now held k turn t l p c ns room r v m on ready life h up is there own live mine served files from given of shape few free away
 
     count : length resources ≡ locks_asked.asked
-    count = count_then a before now held k turn t l p c ns room r v m on ready life h up is there own live mine served files from given of shape few free
+    count = count_then a before now held k turn t l p c ns room r v m on ready life h up is there own live mine served files from given of shape few free away
 
     -- what it did is under them too
     under_as : (x : Holding) → would ≡ x → IsUnder x life.own life.edits
@@ -131,7 +140,7 @@ module _ {V : Type 0} (a : Alone) (before now : ℕ) (held : Contents) (k : Serv
       who = mine.who;
       intents = stands.0 ∙ mine.intents;
       own = stands.1 ∙ mine.own;
-      held = λ q. ap (λ (y : Holding). y q) (sym so) ∙ first_held a before now held k turn t l p c ns room r v m on ready life h up is there own live mine served files from given of shape few free q;
+      held = λ q. ap (λ (y : Holding). y q) (sym so) ∙ first_held a before now held k turn t l p c ns room r v m on ready life h up is there own live mine served files from given of shape few free away q;
       opens = (under_as x so).opens;
       counts = subst (AreCountsOf a.holder.cells life.edits) (sym stands.2) mine.counts;
       within = (under_as x so).within;
@@ -166,6 +175,9 @@ module _ {V : Type 0} (a : Alone) (before now : ℕ) (held : Contents) (k : Serv
       born = h.born;
       earlier = h.earlier;
       committed = h.committed;
+      waits = h.waits;
+      queue = taken_waiting k.locks wanted ∙ h.queue ∙ sym (queue_beside a.holder a.holder k.locks.held with_asked.held t refl (λ u apart. refl) (λ u apart. taken_beside k.locks wanted u apart) a.waits others_asked);
+      asked = h.asked;
       quiet = h.quiet;
       down = h.down;
     })
@@ -180,10 +192,10 @@ module _ {V : Type 0} (a : Alone) (before now : ℕ) (held : Contents) (k : Serv
     held_refused : (x : Handed) (then : Contents) → then ≡ held → file_trans c ≡ Some t → wanted.rises ≡ [] → x ≡ refused_answer f []
         → Stepped a before now then (left (reply.Refused f)) (event.Call turn.client k.epoch turn.number c) x
     held_refused x then same of_trans none so =
-        let still : would ≡ life.held = under_held a before now held k turn t l p c ns room r v m on ready life h up is there own live mine served files from given of shape few free none in
-        let rs : resources ≡ a.locked t = still_locked a before now held k turn t l p c ns room r v m on ready life h up is there own live mine served files from given of shape few free still in
+        let still : would ≡ life.held = under_held a before now held k turn t l p c ns room r v m on ready life h up is there own live mine served files from given of shape few free away none in
+        let rs : resources ≡ a.locked t = still_locked a before now held k turn t l p c ns room r v m on ready life h up is there own live mine served files from given of shape few free away still in
         refused_stepped a before now then server_now turn t c false f x (held_as then same still rs) is up (λ e. cc) of_trans counted.now (count_none_done a t c f counted) why
-        (subst (λ (y : Reply). GrantsFor false (alone a) turn.client c y [] (Some t)) as_refused (grants_none a before now held k turn t l p c ns room r v m on ready life h up is there own live mine served files from given of shape few free none)) so
+        (subst (λ (y : Reply). GrantsFor false (alone a) turn.client c y [] (Some t)) as_refused (grants_none a before now held k turn t l p c ns room r v m on ready life h up is there own live mine served files from given of shape few free away none)) so
 
     -- ---- it is granted
 
@@ -216,6 +228,11 @@ module _ {V : Type 0} (a : Alone) (before now : ℕ) (held : Contents) (k : Serv
           born = h.born;
           earlier = h.earlier;
           committed = h.committed;
+          waits = h.waits;
+          queue = taken_waiting k.locks wanted ∙ h.queue ∙ sym (queue_beside a.holder (with_locks a turn.client turn.number w t life c f).holder k.locks.held with_asked.held t refl (λ u apart. ap (λ (b : Bool). cond {A = Option Life} b (Some new) (a.holder.lives u)) apart)
+              (λ u apart. taken_beside k.locks wanted u apart) a.waits others_asked);
+          asked = asked_beside a.holder (with_locks a turn.client turn.number w t life c f).holder k.locks.held with_asked.held t refl (λ u apart. ap (λ (b : Bool). cond {A = Option Life} b (Some new) (a.holder.lives u)) apart) (λ u apart. taken_beside k.locks wanted u apart)
+              a.locked (lock_set a.locked t resources) (λ u apart. ap (λ (b : Bool). cond {A = List Resource} b resources (a.locked u)) apart) k.waits away h.asked;
           quiet = quiet;
           down = s.down;
         })
@@ -224,9 +241,9 @@ module _ {V : Type 0} (a : Alone) (before now : ℕ) (held : Contents) (k : Serv
         → x ≡ refused_answer f (act.Granted t ∷ []) → Stepped a before now then (left (reply.Refused f)) (event.Call turn.client k.epoch turn.number c) x
     granted_refused x then same of_trans n others some so =
         let leads : Leads false a (call_entry a turn.client turn.number w c (reply.Refused f) (act.Granted t ∷ [])) (with_locks a turn.client turn.number w t life c f) =
-        refused_granted_leads a turn.client turn.number w t life c f false h.quiet (h.down ∙ up) (turn_session a held k turn h is) is.number live (mine.client ∙ own) of_trans counted.passes counted.now
-        (lock_free a before now held k turn t l p c ns room r v m on ready life h up is there own live mine served files from given of shape few free) why
-        (subst (λ (y : Reply). GrantsFor false (alone a) turn.client c y (t ∷ []) (Some t)) as_refused (grants_some a before now held k turn t l p c ns room r v m on ready life h up is there own live mine served files from given of shape few free n others some)) in
+        refused_granted_leads a turn.client turn.number w t life c f false h.quiet (h.down ∙ up) (turn_session a held k turn h is) is.number live (mine.client ∙ own) of_trans (idle_told a turn.client t k.waits h.waits named away) counted.passes counted.now
+        (lock_free a before now held k turn t l p c ns room r v m on ready life h up is there own live mine served files from given of shape few free away) why
+        (subst (λ (y : Reply). GrantsFor false (alone a) turn.client c y (t ∷ []) (Some t)) as_refused (grants_some a before now held k turn t l p c ns room r v m on ready life h up is there own live mine served files from given of shape few free away n others some)) in
         stepped_so a before now held then k (left (reply.Refused f)) turn.client turn.number w c false (reply.Refused f) (act.Granted t ∷ []) (with_locks a turn.client turn.number w t life c f) x so h leads (granted_as then same leads.quiet) (λ e. cc)
         (stands_timely a.holder.clock (seen_in (event.Call turn.client k.epoch turn.number c)) k.clock h.clock)
 
@@ -248,12 +265,12 @@ module _ {V : Type 0} (a : Alone) (before now : ℕ) (held : Contents) (k : Serv
 
   pub lock_stepped : (m : ℕ) (on : Bool) (x : Handed) (then : Contents) → IsReady m on k → IsAs a held k → k.is_down ≡ false → then ≡ held → IsTurn k.sessions turn → map.get k.lives t ≡ Some l → l.client ≡ turn.client → IsServedCall c → AreGiven k.server k.epoch k.given ns → ns ≡ asks_of (holding k.locks.held t) (seen held.cells l.part) (own_of l.part) c
       → shape_of k.server k.epoch k.given (length l.part.opens.items) c ≡ None → too_locked k.sizes.area l.part.counts.cells locks_asked.made ≡ None → file_trans c ≡ Some t → IsFormed c
-      → Answered true held.cells l.part p l.who (next_file k) c room r → IsRoomOf true held.cells k locks_asked.made room → x ≡ told_answer (Some r) (acts_of t wanted.rises) → blocker k.locks.held t wanted.rises ≡ None
+      → Answered true held.cells l.part p l.who (next_file k) c room r → IsRoomOf true held.cells k locks_asked.made room → x ≡ told_answer (Some r) (acts_of t wanted.rises) → blocker k.locks.held t wanted.rises ≡ None → AreOthers t k.waits
       → Stepped a before now then (left r) (event.Call turn.client k.epoch turn.number c) x
-  lock_stepped m on x then ready h up same is there own served files from shape few of_trans formed given of so free =
+  lock_stepped m on x then ready h up same is there own served files from shape few of_trans formed given of so free away =
       let y : IsLive a.holder.cells k.locks.held (a.locked t) t l (a.holder.lives t) = live_there a.holder.cells k.locks.held (a.locked t) t (map.get k.lives t) (a.holder.lives t) l there (h.lives t) in
       go y (refused_for room l.part.counts given.after) refl
     where
       go : (y : IsLive a.holder.cells k.locks.held (a.locked t) t l (a.holder.lives t)) → (o : Option Refusal) → refused_for room l.part.counts given.after ≡ o → Stepped a before now then (left r) (event.Call turn.client k.epoch turn.number c) x
-      go y None e = lock_performed a before now held k turn t l p c ns room r v m on ready y.life h up is there own y.is y.alike served files from given of shape few free e x then same of_trans formed so
-      go y (Some f) e = lock_refused m on ready y.life h up is there own y.is y.alike served files from given of shape few free f e x then same of_trans so
+      go y None e = lock_performed a before now held k turn t l p c ns room r v m on ready y.life h up is there own y.is y.alike served files from given of shape few free away e x then same of_trans formed so
+      go y (Some f) e = lock_refused m on ready y.life h up is there own y.is y.alike served files from given of shape few free away f e x then same of_trans so

@@ -1,9 +1,9 @@
 -- file calls that only looked, and those that their vault did not answer
-use Rattle.std.specs.Prelude.{cond, Bool, true, false, IsTrue, is_some, Option, Some, Result, Ok}
-use Rattle.std.specs.List.{list_all}
+use Rattle.std.specs.Prelude.{cond, Bool, true, false, IsTrue, is_some, Option, None, Some, Result, Ok}
+use Rattle.std.specs.List.{list_all, AllByRecursion}
 use Rattle.std.specs.Result.{IsErr}
 use Rattle.std.specs.FinMap as map
-use Rattle.std.proofs.Common.{◌≡◌, ℕ, ◌+◌, ◌≤◌, [], ◌∷◌, refl, sym, ◌∙◌, ap, subst, arith, le_refl}
+use Rattle.std.proofs.Common.{◌≡◌, ℕ, ◌+◌, ◌≤◌, List, [], ◌∷◌, length, refl, sym, ◌∙◌, ap, subst, arith, le_refl}
 use Rattle.alp_base.specs.Causes.{Rose}
 use Rattle.alp_base.specs.declared.allowance.Allowance.TheVariants.{Spent}
 use Rattle.alp_base.specs.declared.ids.FileId.{FileId}
@@ -23,11 +23,12 @@ use Rattle.alp_calls.specs.Parts.{IsAsBefore, IsPart, Answered}
 use Rattle.alp_calls.specs.declared.fault.CallFault.{CallFault}
 use Rattle.alp_calls.specs.declared.fault.CallFault.TheVariants as call_fault
 use Rattle.alp_trans.specs.declared.part.Part.{Part}
+use Rattle.alp_trans.specs.declared.counts.Counts.{Counts}
 use Rattle.alp_journal.specs.Ids.{same_trans}
-use Rattle.alp_journal.specs.Desk.{file_trans}
+use Rattle.alp_journal.specs.Desk.{file_trans, waiting_of}
 use Rattle.alp_journal.specs.declared.act.Act.TheVariants as act
 use Rattle.alp_journal.specs.declared.event.Event.TheVariants as event
-use Rattle.alp_journal.specs.Alone.{Alone}
+use Rattle.alp_journal.specs.Alone.{Alone, alone}
 use Rattle.alp_journal.proofs.IdLemmas.{same_trans-true}
 use Rattle.alp_calls.specs.declared.limits.Room.{Room}
 use Rattle.alp_node.specs.Asks.{is_given}
@@ -40,6 +41,8 @@ use Rattle.alp_node.specs.Standings.{standing_of}
 use Rattle.alp_node.specs.Steps.{IsStep, IsRefused, IsDown, IsTurn, IsOf, counted_in, refused_answer}
 use Rattle.alp_node.specs.declared.answer.Answer.{Answer}
 use Rattle.alp_node.specs.declared.lives.Live.{Live}
+use Rattle.alp_node.specs.declared.waits.WaitingCall.{WaitingCall}
+use Rattle.alp_node.proofs.WaitLemmas.{IsLikePart, like_itself, waiting_parts, each_so}
 use Rattle.alp_node.specs.declared.server_state.ServerState.{ServerState}
 use Rattle.alp_node.specs.declared.sessions.Turn.{Turn}
 use Rattle.alp_node.specs.declared.served.Standing.TheVariants as standing
@@ -74,12 +77,13 @@ module _ {V : Type 0} (n : ℕ) (before serves : Bool) (k : ServerState V) (t : 
 
   -- a part that is another now
   pub part_ready : (m : ℕ) → IsTrue serves → k.is_down ≡ false → map.get k.lives t ≡ Some l → p.last ≤ m → n ≤ m → list_all (λ (o : Open). is_given k.server k.epoch k.given o.file) p.opens.items ≡ true
-      → IsWithin k.sizes (record l { part = p; locks = b }) → IsReady n before k → IsReady m serves part_kept
-  part_ready m on up there low le given fresh h = record {
+      → IsWithin k.sizes (record l { part = p; locks = b }) → AllByRecursion (λ (w : WaitingCall). same_trans w.trans t ≡ true → IsLikePart l (record l { part = p; locks = b })) k.waits → IsReady n before k → IsReady m serves part_kept
+  part_ready m on up there low le given fresh like h = record {
     serving = λ _. on;
     halted = λ down. (let wrong : false ≡ true = sym up ∙ down in cc);
     sound = h.sound;
-    alone = h.alone;
+    taken = h.taken;
+    waits = waiting_parts k.server k.epoch k.given k.given (le_refl k.given) k.drawn k.sizes k.lives (map.insert k.lives t (record l { part = p; locks = b })) k.waits k.locks.waiting (all_like k.waits like) live_so h.waits;
     known = λ u x is. known_so u (same_trans u t) refl x (sym (get_put k.lives t (record l { part = p; locks = b }) u) ∙ is);
     begun = λ u x is. begun_so u (same_trans u t) refl x (sym (get_put k.lives t (record l { part = p; locks = b }) u) ∙ is);
     opens = λ u x is. opens_so u (same_trans u t) x (sym (get_put k.lives t (record l { part = p; locks = b }) u) ∙ is);
@@ -99,6 +103,22 @@ module _ {V : Type 0} (n : ℕ) (before serves : Bool) (k : ServerState V) (t : 
     unheld = h.unheld;
   }
     where
+      all_like : (ws : List WaitingCall) → AllByRecursion (λ (w : WaitingCall). same_trans w.trans t ≡ true → IsLikePart l (record l { part = p; locks = b })) ws
+          → AllByRecursion (λ (w : WaitingCall). (x : Live) → map.get (map.insert k.lives t (record l { part = p; locks = b })) w.trans ≡ Some x → (y : Live) × (map.get k.lives w.trans ≡ Some y) × IsLikePart y x) ws
+      all_like [] each = tt
+      all_like (w ∷ ws) each = ((λ x is. was (same_trans w.trans t) refl x (sym (get_put k.lives t (record l { part = p; locks = b }) w.trans) ∙ is)), all_like ws each.1)
+        where
+          was : (e : Bool) → same_trans w.trans t ≡ e → (x : Live) → cond {A = Option Live} e (Some (record l { part = p; locks = b })) (map.get k.lives w.trans) ≡ Some x → (y : Live) × (map.get k.lives w.trans ≡ Some y) × IsLikePart y x
+          was true e x is = (l, ap (map.get k.lives) (same_trans-true w.trans t e) ∙ there, subst (IsLikePart l) (same_live (record l { part = p; locks = b }) x is) (each.0 e))
+          was false e x is = (x, is, like_itself x)
+
+      live_so : (u : TransId) → is_some (map.get k.lives u) ≡ true → is_some (map.get (map.insert k.lives t (record l { part = p; locks = b })) u) ≡ true
+      live_so u live = ap is_some (get_put k.lives t (record l { part = p; locks = b }) u) ∙ either_live (same_trans u t) live
+        where
+          either_live : (e : Bool) → is_some (map.get k.lives u) ≡ true → is_some (cond {A = Option Live} e (Some (record l { part = p; locks = b })) (map.get k.lives u)) ≡ true
+          either_live true f = refl
+          either_live false f = f
+
       at_t : (u : TransId) → same_trans u t ≡ true → map.get k.lives u ≡ Some l
       at_t u e = ap (map.get k.lives) (same_trans-true u t e) ∙ there
 
@@ -137,7 +157,7 @@ module _ {V : Type 0} (G : Ghosts V) (k : ServerState V) (m : LiveMap) (v : V) w
     pub kept : (a : Alone) → IsAs a (G.held k.vault) k → IsAs a (G.held v) looked
     pub ready : (n : ℕ) (on : Bool) → IsTrue on → IsReady n (G.serves k.vault) k → IsReady n on looked
 
-  module _ (turn : Turn) (t : TransId) (c : Call) (unseen : IsUnseen turn t) (left : IsLeft G k.vault v) (is : IsTurn k.sessions turn) (up : k.is_down ≡ false) (named : file_trans c ≡ Some t) where
+  module _ (turn : Turn) (t : TransId) (c : Call) (unseen : IsUnseen turn t) (left : IsLeft G k.vault v) (is : IsTurn k.sessions turn) (up : k.is_down ≡ false) (named : file_trans c ≡ Some t) (calm : (a : Alone) → IsAs a (G.held k.vault) k → waiting_of (alone a).desk turn.client t ≡ None) where
     own_there : standing_of turn.client (map.get m t) (is_dead turn.client t k.dead) ≡ standing.Own
     own_there = own_standing turn.client (map.get m t) (is_dead turn.client t k.dead) (subst (IsOf turn.client) (sym unseen.there) unseen.own)
 
@@ -149,7 +169,7 @@ module _ {V : Type 0} (G : Ghosts V) (k : ServerState V) (m : LiveMap) (v : V) w
         (λ told a h. (
         let then : IsAs a (G.held v) looked = unseen.kept a h in
         let y : IsLive a.holder.cells k.locks.held (a.locked t) t unseen.part (a.holder.lives t) = live_there a.holder.cells k.locks.held (a.locked t) t (map.get m t) (a.holder.lives t) unseen.part unseen.there (then.lives t) in
-        fault_stepped a (G.faults k.vault) (G.faults v) (G.held v) looked turn t c y.life (refused_answer refusal.ReadFault []) then is up rose named own_there y.is refl))
+        fault_stepped a (G.faults k.vault) (G.faults v) (G.held v) looked turn t c y.life (refused_answer refusal.ReadFault []) then is up rose named own_there (calm a h) y.is refl))
         (reply_given k.server (G.faults k.vault) (G.faults v) (G.allowance v) k.is_down (reply.Refused refusal.ReadFault) [] (refused_answer refusal.ReadFault []) refl
         (subst (λ (b : Bool). IsCounted k.server (G.faults k.vault) (G.faults v) b (Some (reply.Refused refusal.ReadFault))) (sym up) (counts_fault k.server (G.faults k.vault) (G.faults v) (Some (reply.Refused refusal.ReadFault)) refl refl left.later rose)) up tt)
         (λ n h. counted_ready n (G.serves v) looked turn (reply.Refused refusal.ReadFault) is (record { inside = tt; times = tt }) (unseen.ready n (G.serves v) on h))
@@ -159,7 +179,7 @@ module _ {V : Type 0} (G : Ghosts V) (k : ServerState V) (m : LiveMap) (v : V) w
     stopped_step : G.serves v ≡ false → G.allowance v ≡ Spent → IsStep G k (record looked { is_down = true }) (event.Call turn.client k.epoch turn.number c) (Ok (refused_answer refusal.Down (act.Stopped ∷ [])))
     stopped_step off spent =
         left_step G k (record looked { is_down = true }) refl refl refl left (event.Call turn.client k.epoch turn.number c) (refused_answer refusal.Down (act.Stopped ∷ [])) up
-        (λ told a h. file_halt_stepped a (G.faults k.vault) (G.faults v) (G.held v) (G.held v) looked turn t v c (refused_answer refusal.Down (act.Stopped ∷ [])) (unseen.kept a h) is up named own_there refl)
+        (λ told a h. file_halt_stepped a (G.faults k.vault) (G.faults v) (G.held v) (G.held v) looked turn t v c (refused_answer refusal.Down (act.Stopped ∷ [])) (unseen.kept a h) is up named own_there (calm a h) refl)
         (reply_given k.server (G.faults k.vault) (G.faults v) (G.allowance v) true (reply.Refused refusal.Down) (act.Stopped ∷ []) (refused_answer refusal.Down (act.Stopped ∷ [])) refl
         (counts_down k.server (G.faults k.vault) (G.faults v) left.later) refl (spent, tt))
         (λ n h. down_ready n true (G.serves v) looked v off (unseen.ready n true refl h))
@@ -173,22 +193,22 @@ module _ {V : Type 0} (G : Ghosts V) (k : ServerState V) (m : LiveMap) (v : V) w
         (left_noted G k looked refl refl refl left up) (left_seated G k looked refl refl refl left) left
 
   -- whatever the fault was
-  pub without_step : (N new : ServerState V) (turn : Turn) (t : TransId) (c : Call) (fault : CallFault) (r : Result Answer OutOfMemory) → N ≡ looked → Looks G k.vault v (Some fault) → IsTurn k.sessions turn → k.is_down ≡ false → file_trans c ≡ Some t → IsUnseen turn t
+  pub without_step : (N new : ServerState V) (turn : Turn) (t : TransId) (c : Call) (fault : CallFault) (r : Result Answer OutOfMemory) → N ≡ looked → Looks G k.vault v (Some fault) → IsTurn k.sessions turn → k.is_down ≡ false → file_trans c ≡ Some t → ((a : Alone) → IsAs a (G.held k.vault) k → waiting_of (alone a).desk turn.client t ≡ None) → IsUnseen turn t
       → (fault ≡ call_fault.Failed → IsRefused N new turn refusal.ReadFault r) → (fault ≡ call_fault.Stopped → IsDown N new (act.Stopped ∷ []) r) → (fault ≡ call_fault.OutOfMemory → (new ≡ N) × IsErr r)
       → IsStep G k new (event.Call turn.client k.epoch turn.number c) r
-  without_step N new turn t c call_fault.Failed r is_looked look is up named unseen failed stopped memory =
+  without_step N new turn t c call_fault.Failed r is_looked look is up named calm unseen failed stopped memory =
       let x : IsRefused N new turn refusal.ReadFault r = failed refl in
       let is_new : new ≡ record looked { sessions = counted_in k.sessions turn (reply.Refused refusal.ReadFault) } = x.kept ∙ ap (λ (y : ServerState V). record y { sessions = counted_in y.sessions turn (reply.Refused refusal.ReadFault) }) is_looked in
       subst (λ (y : ServerState V). IsStep G k y (event.Call turn.client k.epoch turn.number c) r) (sym is_new)
-      (subst (IsStep G k (record looked { sessions = counted_in k.sessions turn (reply.Refused refusal.ReadFault) }) (event.Call turn.client k.epoch turn.number c)) (sym x.answer) (failed_step turn t c unseen look.0 is up named look.1 look.2))
-  without_step N new turn t c call_fault.Stopped r is_looked look is up named unseen failed stopped memory =
+      (subst (IsStep G k (record looked { sessions = counted_in k.sessions turn (reply.Refused refusal.ReadFault) }) (event.Call turn.client k.epoch turn.number c)) (sym x.answer) (failed_step turn t c unseen look.0 is up named calm look.1 look.2))
+  without_step N new turn t c call_fault.Stopped r is_looked look is up named calm unseen failed stopped memory =
       let x : IsDown N new (act.Stopped ∷ []) r = stopped refl in
       let is_new : new ≡ record looked { is_down = true } = x.kept ∙ ap (λ (y : ServerState V). record y { is_down = true }) is_looked in
       subst (λ (y : ServerState V). IsStep G k y (event.Call turn.client k.epoch turn.number c) r) (sym is_new)
-      (subst (IsStep G k (record looked { is_down = true }) (event.Call turn.client k.epoch turn.number c)) (sym x.answer) (stopped_step turn t c unseen look.0 is up named look.1 look.2))
-  without_step N new turn t c call_fault.OutOfMemory r is_looked look is up named unseen failed stopped memory =
+      (subst (IsStep G k (record looked { is_down = true }) (event.Call turn.client k.epoch turn.number c)) (sym x.answer) (stopped_step turn t c unseen look.0 is up named calm look.1 look.2))
+  without_step N new turn t c call_fault.OutOfMemory r is_looked look is up named calm unseen failed stopped memory =
       let x = memory refl in
-      subst (λ (y : ServerState V). IsStep G k y (event.Call turn.client k.epoch turn.number c) r) (sym (x.0 ∙ is_looked)) (wanting_step turn t c unseen look.0 is up named r x.1 look.1 look.2)
+      subst (λ (y : ServerState V). IsStep G k y (event.Call turn.client k.epoch turn.number c) r) (sym (x.0 ∙ is_looked)) (wanting_step turn t c unseen look.0 is up named calm r x.1 look.1 look.2)
 
 -- ---- looks that show nothing
 
@@ -214,7 +234,8 @@ module _ {V : Type 0} (G : Ghosts V) (k : ServerState V) (turn : Turn) (t : Tran
         let last = ap (λ (w : Own). w.last) same.1 in
         let low : p.last ≤ n = (let was : l.part.last ≤ n = h.opens t l there in omega (arith, last)) in
         part_ready n (G.serves k.vault) on k t l p l.locks v n serving up there low (le_refl n)
-        (ap (λ (w : Own). list_all (λ (o : Open). is_given k.server k.epoch k.given o.file) w.opens) same.1 ∙ h.opened t l there) (within_same k.sizes l p sound same (h.within t l there)) h);
+        (ap (λ (w : Own). list_all (λ (o : Open). is_given k.server k.epoch k.given o.file) w.opens) same.1 ∙ h.opened t l there) (within_same k.sizes l p sound same (h.within t l there))
+        (each_so (λ (w : WaitingCall). same_trans w.trans t ≡ true → IsLikePart l (record l { part = p; locks = l.locks })) (λ w e. record { client = refl; opens = ap (λ (w : Own). length w.opens) same.1; cells = ap (λ (n : Counts). n.cells) same.2 }) k.waits) h);
   }
 
 -- a look that brought no answer leaves the vault too

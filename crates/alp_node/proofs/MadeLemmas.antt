@@ -123,4 +123,4 @@ makes_only server made m w who (call.MakeOwner t name quota create choice) r is 
 makes_only server made m w who (call.SetQuota t name quota choice) r is none =
     none_tested m w ((not (is_some (owner_in (m (OwnerOf name)))), refusal.UnknownOwner) ∷ (not (is_admin who), refusal.AccessDenied lists.Admin) ∷ [])
     (replied w reply.Plain (Put (OwnerOf name) (cell.Owner (record (owner_of (m (OwnerOf name))) { quota = quota })) ∷ [])) (none_given reply.Plain refl) r
-makes_only server made m w who c r is none = absurd is
+makes_only server made m w who c r is none = (let wrong : false ≡ true = is in cc)

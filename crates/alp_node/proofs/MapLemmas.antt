@@ -89,6 +89,14 @@ pub put_twice : {X : Type 0} (m : map.FinMap trans_cmp X) (t : TransId) (x y : X
 put_twice m t x y = same_map transactions_total exact_transactions _ _ (λ u.
     get_put (map.insert m t x) t y u ∙ ap (cond {A = Option _} (same_trans u t) (Some y)) (get_put m t x u) ∙ cond_twice {A = Option _} (same_trans u t) (Some y) (Some x) (map.get m u) ∙ sym (get_put m t y u))
 
+-- what was new goes without a trace
+pub put_gone : {X : Type 0} (m : map.FinMap trans_cmp X) (t : TransId) (x : X) → map.get m t ≡ None → map.remove (map.insert m t x) t ≡ m
+put_gone m t x none = same_map transactions_total exact_transactions _ _ (λ u. get_gone (map.insert m t x) t u ∙ go u (same_trans u t) refl)
+  where
+    go : (u : TransId) (b : Bool) → same_trans u t ≡ b → cond {A = Option _} b None (map.get (map.insert m t x) u) ≡ map.get m u
+    go u true e = sym (ap (map.get m) (same_trans-true u t e) ∙ none)
+    go u false e = get_put m t x u ∙ ap (λ (b : Bool). cond {A = Option _} b (Some x) (map.get m u)) e
+
 pub put_there : {X : Type 0} (m : map.FinMap trans_cmp X) (t : TransId) (x : X) → map.get (map.insert m t x) t ≡ Some x
 put_there m t x = get_put m t x t ∙ ap (λ (b : Bool). cond {A = Option _} b (Some x) (map.get m t)) (same_trans-itself t)
 

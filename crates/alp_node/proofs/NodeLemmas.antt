@@ -97,7 +97,7 @@ right_sound G n held r up t l there =
     let first : Stands AreSound (opened (start_in G n)) = opened_stands k.server (G.servers v) (G.volume v) (G.held v).cells (G.held v).notes r.opening.files r.opening.sizes in
     let now : Stands AreSound (alone a) = subst (Stands AreSound) r.says (journal_stands AreSound (opened (start_in G n)) n.journal r.own r.lawful first) in
     let y : IsLive a.holder.cells k.locks.held (a.locked t) t l (a.holder.lives t) = live_there a.holder.cells k.locks.held (a.locked t) t (map.get k.lives t) (a.holder.lives t) l there (r.kept.lives t) in
-    let pair : IsPaired (Some y.life) (a.fates t) = subst (λ (x : Option Life). IsPaired x (a.fates t)) y.is (r.kept.quiet.paired t) in
+    let pair : IsPaired (Some y.life) (a.fates t) = subst (λ (x : Option Life). IsPaired x (a.fates t)) y.is (r.kept.quiet.settled.paired t) in
     let es : List Edit = y.life.edits in
     let same : edits_map (edits_of (change_of l.part.intents)) held.cells ≡ edits_map es a.holder.cells =
     same_change held.cells l.part es y.alike.intents ∙ ap (edits_map es) (r.kept.cells up) in

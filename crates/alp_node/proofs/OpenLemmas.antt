@@ -36,7 +36,7 @@ at_most m n le = go (nat_le m n) refl
     go false e = (let wrong : n < m = leb-false m n e in absurd (omega (arith, le, wrong)))
 
 -- what was given stays so
-given_later : (server epoch m n : ℕ) → m ≤ n → (f : FileId) → is_given server epoch m f ≡ true → is_given server epoch n f ≡ true
+pub given_later : (server epoch m n : ℕ) → m ≤ n → (f : FileId) → is_given server epoch m f ≡ true → is_given server epoch n f ≡ true
 given_later server epoch m n le f e =
     both (f.server == server && nat_lt 0 f.epoch && nat_lt 0 f.counter) (nat_lt f.epoch epoch || (f.epoch == epoch && nat_le f.counter n))
     (and_left (f.server == server && nat_lt 0 f.epoch && nat_lt 0 f.counter) (nat_lt f.epoch epoch || (f.epoch == epoch && nat_le f.counter m)) e)

@@ -1,7 +1,7 @@
 -- a server stays ready, step by step
-use Rattle.std.specs.Prelude.{cond, Bool, true, false, ◌==◌, IsTrue, Option, None, Some, is_some}
+use Rattle.std.specs.Prelude.{cond, Bool, true, false, not, ◌==◌, IsTrue, Option, None, Some, is_some}
 use Rattle.std.specs.FinMap as map
-use Rattle.std.specs.List.{list_all}
+use Rattle.std.specs.List.{list_all, AllByRecursion}
 use Rattle.std.specs.Ordering.{eq_by_cmp}
 use Rattle.std.proofs.Common.{◌≡◌, ℕ, ◌+◌, ◌^◌, ◌<◌, ◌≤◌, List, [], length, refl, sym, ◌∙◌, ap, subst, arith, le_refl}
 use Rattle.alp_base.specs.declared.ids.TransId.{TransId}
@@ -20,8 +20,10 @@ use Rattle.alp_locks.specs.Asks.{entered}
 use Rattle.alp_locks.specs.Releases.{released}
 use Rattle.alp_locks.proofs.HeldLemmas.{insert-keeps, insert-knows}
 use Rattle.alp_locks.proofs.LawLemmas.{entering-keeps-held}
-use Rattle.alp_locks.proofs.PlanLemmas.{release-holds, release-waiting, release-knows}
-use Rattle.alp_locks.proofs.SoundLemmas.{released-sound, entered-sound}
+use Rattle.alp_locks.proofs.SoundLemmas.{released-sound, entered-sound, each-more, each-both, each-filter, not-true}
+use Rattle.alp_locks.proofs.WakeLemmas.{taken-sound, released-each, released-knows, released-none, LocksNone}
+use Rattle.alp_queue.specs.Order.{is_of as is_waiter_of}
+use Rattle.alp_queue.specs.declared.waiter.Waiter.{Waiter}
 use Rattle.alp_journal.specs.Ids.{same_trans}
 use Rattle.alp_journal.proofs.IdLemmas.{same_trans-itself, same_trans-true}
 use Rattle.alp_node.specs.Asks.{is_given}
@@ -29,11 +31,15 @@ use Rattle.alp_node.specs.Dead.{without_client}
 use Rattle.alp_node.specs.Rooms.{IsWithin}
 use Rattle.alp_node.specs.Sessions.{session_at, with_session}
 use Rattle.alp_node.specs.ServerState.{IsReady}
-use Rattle.alp_node.specs.Steps.{IsTurn, counted_in, without_trans}
+use Rattle.alp_node.specs.Releases.{buried}
+use Rattle.alp_node.specs.Steps.{IsTurn, counted_in}
 use Rattle.alp_node.specs.Turns.{TellsUpTo, IsKeepable}
 use Rattle.alp_node.specs.declared.server_state.ServerState.{ServerState}
 use Rattle.alp_node.specs.declared.dead.DeadPart.{DeadPart}
+use Rattle.alp_node.specs.Waits.{is_of, without_calls_of, stays, live_calls, IsWaitingCall, IsOfCalls, AreWaiting, asks_for}
 use Rattle.alp_node.specs.declared.lives.Live.{Live}
+use Rattle.alp_node.specs.declared.waits.WaitingCall.{WaitingCall}
+use Rattle.alp_node.proofs.WaitLemmas.{call_later, like_itself, filter_apart, asks_live, asks_other}
 use Rattle.alp_journal.specs.Desk.{Session}
 use Rattle.alp_node.specs.declared.sessions.Sessions.{Sessions}
 use Rattle.alp_node.specs.declared.sessions.Turn.{Turn}
@@ -91,15 +97,6 @@ replies_set sessions client w m n full small le all new c x is = go (c == client
 
 -- ---- locks
 
--- who enters and is released again leaves the others as they were
-pub undone_holds : (t : Table) (u v : TransId) (r : Resource) → t.waiting ≡ [] → ((q : Resource) → holding t.held u q ≡ None) → holding (released (entered t u) u).held v r ≡ holding t.held v r
-undone_holds t u v r alone none =
-    release-holds (entered t u) u v r alone ∙ ap (λ (b : Bool). cond {A = Option Mode} b None (holding (entered t u).held v r)) (tied_same v u) ∙ go (same_trans v u) refl
-  where
-    go : (b : Bool) → same_trans v u ≡ b → cond {A = Option Mode} b None (holding (entered t u).held v r) ≡ holding t.held v r
-    go true e = sym (ap (λ (x : TransId). holding t.held x r) (same_trans-true v u e) ∙ none r)
-    go false e = ap (λ h. map.get h r) (entering-keeps-held t u v)
-
 away : (t u : TransId) (m : map.FinMap trans_cmp Live) (l : Live) → map.get m u ≡ None → map.get m t ≡ Some l → same_trans u t ≡ false
 away t u m l none there = go (same_trans u t) refl
   where
@@ -118,15 +115,6 @@ turned u t e = go (same_trans t u) refl
 abbrev pub numbered : {V : Type 0} → ServerState V → ℕ → Resource
 numbered k m = Whole (record { server = k.server; epoch = k.epoch; counter = m })
 
--- neither of two holds anything
-none_either : (b : Bool) (x : Option Mode) → x ≡ None → cond {A = Option Mode} b None x ≡ None
-none_either true x e = refl
-none_either false x e = e
-
--- nobody holds after a release what nobody held before
-released_unheld : (t : Table) (u v : TransId) (r : Resource) → t.waiting ≡ [] → holding t.held v r ≡ None → holding (released t u).held v r ≡ None
-released_unheld t u v r alone none = release-holds t u v r alone ∙ none_either (eq_by_cmp trans_cmp v u) (holding t.held v r) none
-
 entered_unheld : (t : Table) (u v : TransId) (r : Resource) → holding t.held v r ≡ None → holding (entered t u).held v r ≡ None
 entered_unheld t u v r none = ap (λ h. map.get h r) (entering-keeps-held t u v) ∙ none
 
@@ -137,7 +125,8 @@ module _ {V : Type 0} (n : ℕ) (serves : Bool) (k : ServerState V) where
     serving = h.serving;
     halted = h.halted;
     sound = h.sound;
-    alone = h.alone;
+    taken = h.taken;
+    waits = h.waits;
     known = h.known;
     begun = h.begun;
     opens = λ t l is. (let low : l.part.last ≤ n = h.opens t l is in omega arith);
@@ -163,7 +152,8 @@ module _ {V : Type 0} (n : ℕ) (serves : Bool) (k : ServerState V) where
     serving = h.serving;
     halted = h.halted;
     sound = h.sound;
-    alone = h.alone;
+    taken = h.taken;
+    waits = h.waits;
     known = h.known;
     begun = h.begun;
     opens = λ t l there. (let low : l.part.last ≤ n = h.opens t l there in omega arith);
@@ -189,7 +179,8 @@ module _ {V : Type 0} (n : ℕ) (serves : Bool) (k : ServerState V) where
     serving = h.serving;
     halted = h.halted;
     sound = h.sound;
-    alone = h.alone;
+    taken = h.taken;
+    waits = h.waits;
     known = h.known;
     begun = h.begun;
     opens = λ t l is. (let low : l.part.last ≤ n = h.opens t l is in omega arith);
@@ -209,17 +200,29 @@ module _ {V : Type 0} (n : ℕ) (serves : Bool) (k : ServerState V) where
     unheld = h.unheld;
   }
 
-  -- a transaction ends
-  pub gone_ready : (t : TransId) → IsReady n serves k → IsReady n serves (without_trans k t)
+  -- a transaction is gone and its locks go, but nobody is woken yet
+  abbrev pub gone_kept : TransId → ServerState V
+  gone_kept t = record k { lives = map.remove k.lives t; locks = record (released k.locks t) { woken = [] } }
+
+  pub gone_ready : (t : TransId) → IsReady n serves k → IsReady n serves (gone_kept t)
   gone_ready t h = record {
     serving = h.serving;
     halted = h.halted;
-    sound = released-sound k.locks t h.sound;
-    alone = release-waiting k.locks t h.alone;
+    sound = taken-sound (released k.locks t) (released-sound k.locks t h.sound);
+    taken = refl;
+    waits = record {
+      calls = each-more (IsWaitingCall k.server k.epoch k.given k.drawn k.sizes k.lives) (IsWaitingCall k.server k.epoch k.given k.drawn k.sizes (map.remove k.lives t))
+          (λ w. call_later k.server k.epoch k.given k.given (le_refl k.given) k.sizes k.drawn k.drawn (le_refl k.drawn) k.lives (map.remove k.lives t) w
+          (λ o l is. (l, kept w.trans (same_trans w.trans t) l (λ there. there) (sym (get_gone k.lives t w.trans) ∙ is), like_itself l))) k.waits h.waits.calls;
+      apart = h.waits.apart;
+      queued = each-more (λ (x : Waiter). IsOfCalls k.server k.epoch k.given k.lives k.waits x × (not (is_waiter_of t x) ≡ true)) (IsOfCalls k.server k.epoch k.given (map.remove k.lives t) k.waits)
+          (λ x o. record { live = stays_live x.trans (turned t x.trans (sym (tied_same t x.trans) ∙ not-true (is_waiter_of t x) o.1)) o.0.live; asks = o.0.asks; beyond = o.0.beyond })
+          (released k.locks t).waiting (released-each (IsOfCalls k.server k.epoch k.given k.lives k.waits) k.locks t h.waits.queued);
+    };
     known = λ u l is. go u (same_trans u t) refl l (sym (get_gone k.lives t u) ∙ is);
-    begun = λ u l is. kept u (same_trans u t) l (λ x. x.part.last ≤ x.part.last) (λ there. h.begun u l there) (sym (get_gone k.lives t u) ∙ is);
-    opens = λ u l is. kept u (same_trans u t) l (λ x. x.part.last ≤ n) (λ there. h.opens u l there) (sym (get_gone k.lives t u) ∙ is);
-    opened = λ u l is. kept u (same_trans u t) l (λ x. x.part.last ≤ x.part.last) (λ there. h.opened u l there) (sym (get_gone k.lives t u) ∙ is);
+    begun = λ u l is. kept u (same_trans u t) l (λ there. h.begun u l there) (sym (get_gone k.lives t u) ∙ is);
+    opens = λ u l is. kept u (same_trans u t) l (λ there. h.opens u l there) (sym (get_gone k.lives t u) ∙ is);
+    opened = λ u l is. kept u (same_trans u t) l (λ there. h.opened u l there) (sym (get_gone k.lives t u) ∙ is);
     places = h.places;
     calls = h.calls;
     replies = h.replies;
@@ -228,20 +231,24 @@ module _ {V : Type 0} (n : ℕ) (serves : Bool) (k : ServerState V) where
     committed = h.committed;
     few = (let fewer : map.len (map.remove k.lives t) ≤ map.len k.lives = gone_length k.lives t in omega (arith, fewer, h.few));
     most = (let fewer : map.len (map.remove k.lives t) ≤ map.len k.lives = gone_length k.lives t in omega (arith, fewer, h.most));
-    within = λ u l is. kept u (same_trans u t) l (λ x. x.part.last ≤ x.part.last) (λ there. h.within u l there) (sym (get_gone k.lives t u) ∙ is);
+    within = λ u l is. kept u (same_trans u t) l (λ there. h.within u l there) (sym (get_gone k.lives t u) ∙ is);
     sized = h.sized;
     clock = h.clock;
     raised = h.raised;
-    unheld = λ u m high. released_unheld k.locks t u (numbered k m) h.alone (h.unheld u m high);
+    unheld = λ u m high. released-none (numbered k m) k.locks t (λ v. h.unheld v m high)
+        (each-more (IsOfCalls k.server k.epoch k.given k.lives k.waits) (LocksNone (numbered k m)) (λ x o. o.beyond m high) k.locks.waiting h.waits.queued) u;
   }
     where
       go : (u : TransId) (b : Bool) → same_trans u t ≡ b → (l : Live) → cond {A = Option Live} b None (map.get k.lives u) ≡ Some l → is_some (map.get (released k.locks t).held u) ≡ true
       go u true e l is = let wrong : None ≡ Some l = is in cc
-      go u false e l is = release-knows k.locks t u h.alone (tied_same t u ∙ turned u t e) (h.known u l is)
+      go u false e l is = released-knows k.locks t u (tied_same t u ∙ turned u t e) (h.known u l is)
 
-      kept : (u : TransId) (b : Bool) (l : Live) (P : Live → Type 0) {Q : Type 0} → (map.get k.lives u ≡ Some l → Q) → cond {A = Option Live} b None (map.get k.lives u) ≡ Some l → Q
-      kept u true l P f is = let wrong : None ≡ Some l = is in cc
-      kept u false l P f is = f is
+      kept : (u : TransId) (b : Bool) (l : Live) {Q : Type 0} → (map.get k.lives u ≡ Some l → Q) → cond {A = Option Live} b None (map.get k.lives u) ≡ Some l → Q
+      kept u true l f is = let wrong : None ≡ Some l = is in cc
+      kept u false l f is = f is
+
+      stays_live : (u : TransId) → same_trans u t ≡ false → is_some (map.get k.lives u) ≡ true → is_some (map.get (map.remove k.lives t) u) ≡ true
+      stays_live u e there = ap is_some (get_gone k.lives t u ∙ ap (λ (x : Bool). cond {A = Option Live} x None (map.get k.lives u)) e) ∙ there
 
   -- the id of the next transaction is new
   pub next_new : IsReady n serves k → map.get k.lives (record { server = k.server; epoch = k.epoch; counter = k.drawn + 1 }) ≡ None
@@ -254,14 +261,27 @@ module _ {V : Type 0} (n : ℕ) (serves : Bool) (k : ServerState V) where
   -- a transaction begins
   module _ (turn : Turn) (t : TransId) (l : Live) (clock : ℕ) where
     abbrev pub begun_kept : ServerState V
-    begun_kept = record k { sessions = counted_in k.sessions turn (reply.Begun t); clock = clock; drawn = k.drawn + 1; dead = without_client turn.client k.dead; lives = map.insert k.lives t l; locks = entered k.locks t }
+    begun_kept = record k { sessions = counted_in k.sessions turn (reply.Begun t); clock = clock; drawn = k.drawn + 1; dead = without_client turn.client k.dead; lives = map.insert k.lives t l; waits = live_calls turn.client (map.insert k.lives t l) k.waits; locks = entered k.locks t }
 
     pub begin_ready : IsTurn k.sessions turn → t.counter ≡ k.drawn + 1 → own_of l.part ≡ no_opens → IsWithin k.sizes l → map.len k.lives < 64 → k.clock ≤ clock → clock ≤ 2 ^ 62 → IsReady n serves k → IsReady (n + 1) serves begun_kept
     begin_ready is next none fresh less later low h = record {
       serving = h.serving;
       halted = h.halted;
       sound = entered-sound k.locks t h.sound;
-      alone = h.alone;
+      taken = h.taken;
+      waits = record {
+        calls = each-more (IsWaitingCall k.server k.epoch k.given k.drawn k.sizes k.lives) (IsWaitingCall k.server k.epoch k.given (k.drawn + 1) k.sizes (map.insert k.lives t l))
+            (λ w. call_later k.server k.epoch k.given k.given (le_refl k.given) k.sizes k.drawn (k.drawn + 1) (omega arith) k.lives (map.insert k.lives t l) w
+            (λ o x there. (x, older w.trans (same_trans w.trans t) refl o.begun x (sym (get_put k.lives t l w.trans) ∙ there), like_itself x)))
+            (live_calls turn.client (map.insert k.lives t l) k.waits) (each-filter (IsWaitingCall k.server k.epoch k.given k.drawn k.sizes k.lives) (stays turn.client (map.insert k.lives t l)) k.waits h.waits.calls);
+        apart = filter_apart (stays turn.client (map.insert k.lives t l)) k.waits h.waits.apart;
+        queued = each-more (IsOfCalls k.server k.epoch k.given k.lives k.waits) (IsOfCalls k.server k.epoch k.given (map.insert k.lives t l) (live_calls turn.client (map.insert k.lives t l) k.waits))
+            (λ x o. record {
+              live = live_then x.trans o.live;
+              asks = asks_live turn.client (map.insert k.lives t l) k.waits x.trans (live_then x.trans o.live) o.asks;
+              beyond = o.beyond;
+            }) k.locks.waiting h.waits.queued;
+      };
       known = λ u x there. known_so u (same_trans u t) refl x (sym (get_put k.lives t l u) ∙ there);
       begun = λ u x there. begun_so u (same_trans u t) refl x (sym (get_put k.lives t l u) ∙ there);
       opens = λ u x there. opens_so u (same_trans u t) x (sym (get_put k.lives t l u) ∙ there);
@@ -281,6 +301,17 @@ module _ {V : Type 0} (n : ℕ) (serves : Bool) (k : ServerState V) where
       unheld = λ u m high. entered_unheld k.locks t u (numbered k m) (h.unheld u m high);
     }
       where
+        older : (u : TransId) (b : Bool) → same_trans u t ≡ b → u.counter ≤ k.drawn → (x : Live) → cond {A = Option Live} b (Some l) (map.get k.lives u) ≡ Some x → map.get k.lives u ≡ Some x
+        older u true e before x there = (let counter : u.counter ≡ t.counter = ap (λ (v : TransId). v.counter) (same_trans-true u t e) in absurd (omega (arith, counter, next, before)))
+        older u false e before x there = there
+
+        live_then : (u : TransId) → is_some (map.get k.lives u) ≡ true → is_some (map.get (map.insert k.lives t l) u) ≡ true
+        live_then u there = ap is_some (get_put k.lives t l u) ∙ either_live (same_trans u t) there
+          where
+            either_live : (b : Bool) → is_some (map.get k.lives u) ≡ true → is_some (cond {A = Option Live} b (Some l) (map.get k.lives u)) ≡ true
+            either_live true e = refl
+            either_live false e = e
+
         known_so : (u : TransId) (b : Bool) → same_trans u t ≡ b → (x : Live) → cond {A = Option Live} b (Some l) (map.get k.lives u) ≡ Some x → is_some (map.get (entered k.locks t).held u) ≡ true
         known_so u true e x there = ap (λ (v : TransId). is_some (map.get (entered k.locks t).held v)) (same_trans-true u t e) ∙ insert-knows k.locks.held t (held_of k.locks.held t)
         known_so u false e x there = insert-keeps k.locks.held t (held_of k.locks.held t) u (h.known u x there)
@@ -303,14 +334,15 @@ module _ {V : Type 0} (n : ℕ) (serves : Bool) (k : ServerState V) where
         opened_so u true x there = ap (λ (y : Live). list_all (λ (o : Open). is_given k.server k.epoch k.given o.file) y.part.opens.items) (sym (same_live l x there)) ∙ ap (λ (w : Own). list_all (λ (o : Open). is_given k.server k.epoch k.given o.file) w.opens) none
         opened_so u false x there = h.opened u x there
 
-  -- who entered and was released again changes nothing
-  pub undone_ready : (t : TransId) → map.get k.lives t ≡ None → IsReady n serves k → IsReady n serves (record k { locks = released (entered k.locks t) t })
-  undone_ready t none h = record {
+  -- what becomes of the calls that wait does not matter to the rest
+  pub waits_ready : (ws : List WaitingCall) → AreWaiting k.server k.epoch k.given k.drawn k.sizes k.lives ws k.locks.waiting → IsReady n serves k → IsReady n serves (record k { waits = ws })
+  waits_ready ws all h = record {
     serving = h.serving;
     halted = h.halted;
-    sound = released-sound (entered k.locks t) t (entered-sound k.locks t h.sound);
-    alone = release-waiting (entered k.locks t) t h.alone;
-    known = λ u l is. release-knows (entered k.locks t) t u h.alone (tied_same t u ∙ away u t k.lives l none is) (insert-keeps k.locks.held t (held_of k.locks.held t) u (h.known u l is));
+    sound = h.sound;
+    taken = h.taken;
+    waits = all;
+    known = h.known;
     begun = h.begun;
     opens = h.opens;
     opened = h.opened;
@@ -326,8 +358,42 @@ module _ {V : Type 0} (n : ℕ) (serves : Bool) (k : ServerState V) where
     sized = h.sized;
     clock = h.clock;
     raised = h.raised;
-    unheld = λ u m high. released_unheld (entered k.locks t) t u (numbered k m) h.alone (entered_unheld k.locks t u (numbered k m) (h.unheld u m high));
+    unheld = h.unheld;
   }
+
+  -- the calls of a part go of which nobody waits in the table
+  pub without_ready : (client : ℕ) (t : TransId) → AllByRecursion (λ (x : Waiter). same_trans x.trans t ≡ false) k.locks.waiting → IsReady n serves k → IsReady n serves (record k { waits = without_calls_of client t k.waits })
+  without_ready client t others h = waits_ready (without_calls_of client t k.waits) (record {
+    calls = each-filter (IsWaitingCall k.server k.epoch k.given k.drawn k.sizes k.lives) (λ w. not (is_of client t w)) k.waits h.waits.calls;
+    apart = filter_apart (λ w. not (is_of client t w)) k.waits h.waits.apart;
+    queued = each-both (λ (x : Waiter). same_trans x.trans t ≡ false) (IsOfCalls k.server k.epoch k.given k.lives k.waits) (IsOfCalls k.server k.epoch k.given k.lives (without_calls_of client t k.waits))
+        (λ x e o. record { live = o.live; asks = asks_other client t k.waits x.trans e o.asks; beyond = o.beyond }) k.locks.waiting others h.waits.queued;
+  }) h
+
+  -- who waits in the table is live
+  pub live_others : (t : TransId) → map.get k.lives t ≡ None → IsReady n serves k → AllByRecursion (λ (x : Waiter). same_trans x.trans t ≡ false) k.locks.waiting
+  live_others t none h = each-more (IsOfCalls k.server k.epoch k.given k.lives k.waits) (λ (x : Waiter). same_trans x.trans t ≡ false) (λ x o. go x (same_trans x.trans t) refl o.live) k.locks.waiting h.waits.queued
+    where
+      go : (x : Waiter) (b : Bool) → same_trans x.trans t ≡ b → is_some (map.get k.lives x.trans) ≡ true → b ≡ false
+      go x false e live = refl
+      go x true e live = let wrong : false ≡ true = sym (ap (λ (u : TransId). is_some (map.get k.lives u)) (same_trans-true x.trans t e) ∙ ap is_some none) ∙ live in cc
+
+  -- and has a call that asks
+  pub asking_others : (t : TransId) → asks_for k.waits t ≡ false → IsReady n serves k → AllByRecursion (λ (x : Waiter). same_trans x.trans t ≡ false) k.locks.waiting
+  asking_others t none h = each-more (IsOfCalls k.server k.epoch k.given k.lives k.waits) (λ (x : Waiter). same_trans x.trans t ≡ false) (λ x o. go x (same_trans x.trans t) refl o.asks) k.locks.waiting h.waits.queued
+    where
+      go : (x : Waiter) (b : Bool) → same_trans x.trans t ≡ b → asks_for k.waits x.trans ≡ true → b ≡ false
+      go x false e asks = refl
+      go x true e asks = let wrong : false ≡ true = sym (ap (asks_for k.waits) (same_trans-true x.trans t e) ∙ none) ∙ asks in cc
+
+  -- of a client's calls those of live transactions are left
+  pub live_calls_ready : (client : ℕ) → IsReady n serves k → IsReady n serves (record k { waits = live_calls client k.lives k.waits })
+  live_calls_ready client h = waits_ready (live_calls client k.lives k.waits) (record {
+    calls = each-filter (IsWaitingCall k.server k.epoch k.given k.drawn k.sizes k.lives) (stays client k.lives) k.waits h.waits.calls;
+    apart = filter_apart (stays client k.lives) k.waits h.waits.apart;
+    queued = each-more (IsOfCalls k.server k.epoch k.given k.lives k.waits) (IsOfCalls k.server k.epoch k.given k.lives (live_calls client k.lives k.waits))
+        (λ x o. record { live = o.live; asks = asks_live client k.lives k.waits x.trans o.live o.asks; beyond = o.beyond }) k.locks.waiting h.waits.queued;
+  }) h
 
   -- whom it remembers as dead does not matter
   pub buried_ready : (ds : List DeadPart) → IsReady n serves k → IsReady n serves (record k { dead = ds })
@@ -335,7 +401,8 @@ module _ {V : Type 0} (n : ℕ) (serves : Bool) (k : ServerState V) where
     serving = h.serving;
     halted = h.halted;
     sound = h.sound;
-    alone = h.alone;
+    taken = h.taken;
+    waits = h.waits;
     known = h.known;
     begun = h.begun;
     opens = h.opens;
@@ -364,7 +431,8 @@ ready_with n before serves k v on up h = record {
   serving = λ _. on;
   halted = λ down. absurd (not_both k.is_down up down);
   sound = h.sound;
-  alone = h.alone;
+  taken = h.taken;
+  waits = h.waits;
   known = h.known;
   begun = h.begun;
   opens = h.opens;
@@ -393,7 +461,8 @@ down_ready n before serves k v off h =
       serving = λ e. absurd (never e);
       halted = λ _. off;
       sound = c.sound;
-      alone = c.alone;
+      taken = c.taken;
+      waits = c.waits;
       known = c.known;
       begun = c.begun;
       opens = c.opens;
@@ -413,17 +482,18 @@ down_ready n before serves k v off h =
       unheld = c.unheld;
     }
 
--- a commit leaves it ready
+-- a commit is counted, and the clock comes to its time
 pub commit_ready : {V : Type 0} (n : ℕ) (before serves : Bool) (k : ServerState V) (v : V) (turn : Turn) (t : TransId) → IsTrue serves → k.is_down ≡ false → IsTurn k.sessions turn → k.clock < 2 ^ 62 → IsReady n before k
-    → IsReady (n + 1) serves (record (without_trans k t) { sessions = counted_in k.sessions turn (reply.Committed (record { ts = k.clock + 1; trans = t })); clock = k.clock + 1; committed = k.committed + 1; vault = v })
+    → IsReady (n + 1) serves (record k { sessions = counted_in k.sessions turn (reply.Committed (record { ts = k.clock + 1; trans = t })); clock = k.clock + 1; committed = k.committed + 1; vault = v })
 commit_ready n before serves k v turn t on up is early h =
-    let c = stepped_ready n before (without_trans k t) (gone_ready n before k t h) in
+    let c = stepped_ready n before k h in
     let w : Session = record { who = turn.who; last = turn.number; reply = reply.Committed (record { ts = k.clock + 1; trans = t }) } in
     record {
       serving = λ _. on;
       halted = λ down. absurd (not_both k.is_down up down);
       sound = c.sound;
-      alone = c.alone;
+      taken = c.taken;
+      waits = c.waits;
       known = c.known;
       begun = c.begun;
       opens = c.opens;
@@ -444,6 +514,8 @@ commit_ready n before serves k v turn t on up is early h =
     }
 
 -- the dead parts of a client whose begin is refused go
-pub refused_ready : {V : Type 0} (n : ℕ) (serves : Bool) (k : ServerState V) (turn : Turn) (r : Reply) (ds : List DeadPart) → IsTurn k.sessions turn → IsKeepable k.clock r → IsReady n serves k
-    → IsReady (n + 1) serves (record k { sessions = counted_in k.sessions turn r; dead = ds })
-refused_ready n serves k turn r ds is keeps h = buried_ready (n + 1) serves (record k { sessions = counted_in k.sessions turn r }) ds (counted_ready n serves k turn r is keeps h)
+pub refused_ready : {V : Type 0} (n : ℕ) (serves : Bool) (k : ServerState V) (turn : Turn) (r : Reply) → IsTurn k.sessions turn → IsKeepable k.clock r → IsReady n serves k
+    → IsReady (n + 1) serves (record (buried k turn.client) { sessions = counted_in k.sessions turn r })
+refused_ready n serves k turn r is keeps h =
+    buried_ready (n + 1) serves (record k { sessions = counted_in k.sessions turn r; waits = live_calls turn.client k.lives k.waits }) (without_client turn.client k.dead)
+    (counted_ready n serves (record k { waits = live_calls turn.client k.lives k.waits }) turn r is keeps (live_calls_ready n serves k turn.client h))

@@ -29,7 +29,7 @@ use Rattle.alp_vault.specs.Contents.{Contents}
 use Rattle.alp_calls.specs.Parts.{IsShaped}
 use Rattle.alp_journal.specs.Counts.{log_need}
 use Rattle.alp_journal.specs.Deeds.{Deed, Performs}
-use Rattle.alp_journal.specs.Desk.{file_trans, is_not_yet}
+use Rattle.alp_journal.specs.Desk.{file_trans, is_not_yet, waiting_of}
 use Rattle.alp_journal.specs.Holder.{Life, view_in, answer_in}
 use Rattle.alp_journal.specs.Moves.{done_by, is_of_no_file}
 use Rattle.alp_journal.specs.State.{is_file_drawn}
@@ -219,7 +219,7 @@ module _ {V : Type 0} (a : Alone) (held : Contents) (k : ServerState V) (h : IsA
   shape_cases (call.ReadOwner u name choice) is e = inl refl
   shape_cases (call.MakeOwner u name quota create choice) is e = inl refl
   shape_cases (call.SetQuota u name quota choice) is e = inl refl
-  shape_cases c is e = absurd is
+  shape_cases c is e = (let wrong : false ≡ true = is in cc)
 
   -- and nothing is done
   pub shape_none : (c : Call) (f : Refusal) → IsServedCall c → shape_of k.server k.epoch k.given (length l.part.opens.items) c ≡ Some f → done_by (alone a) c (reply.Refused f) (Some t) ≡ []
@@ -235,12 +235,12 @@ module _ {V : Type 0} (a : Alone) (held : Contents) (k : ServerState V) (h : IsA
 
 -- a file call is refused for its shape
 pub shape_stepped : {V : Type 0} (a : Alone) (before now : ℕ) (held : Contents) (k : ServerState V) (turn : Turn) (t : TransId) (c : Call) (f : Refusal) (x : Answer) → IsAs a held k → 0 < k.epoch → IsTurn k.sessions turn → k.is_down ≡ false
-    → file_trans c ≡ Some t → IsServedCall c → standing_of turn.client (map.get k.lives t) (is_dead turn.client t k.dead) ≡ standing.Own → (l : Live) → map.get k.lives t ≡ Some l
+    → file_trans c ≡ Some t → IsServedCall c → standing_of turn.client (map.get k.lives t) (is_dead turn.client t k.dead) ≡ standing.Own → waiting_of (alone a).desk turn.client t ≡ None → (l : Live) → map.get k.lives t ≡ Some l
     → shape_of k.server k.epoch k.given (length l.part.opens.items) c ≡ Some f → x ≡ refused_answer f []
     → Stepped a before now held (record k { sessions = counted_in k.sessions turn (reply.Refused f) }) (event.Call turn.client k.epoch turn.number c) x
-shape_stepped a before now held k turn t c f x h raised is up named served own l there e so =
+shape_stepped a before now held k turn t c f x h raised is up named served own idle l there e so =
     let y : IsLive a.holder.cells k.locks.held (a.locked t) t l (a.holder.lives t) = live_there a.holder.cells k.locks.held (a.locked t) t (map.get k.lives t) (a.holder.lives t) l there (h.lives t) in
-    first_stepped a before now held k turn t c f y.life x h is up named own y.is (shape_told a held k h raised t l y.life y.alike c f (lock_refusal (alone a) t y.life c) served e)
+    first_stepped a before now held k turn t c f y.life x h is up named own idle y.is (shape_told a held k h raised t l y.life y.alike c f (lock_refusal (alone a) t y.life c) served e)
     (shape_now k.server k.epoch k.given (length l.part.opens.items) c f e) (shape_none a held k h raised t l y.life y.alike c f served e) so
 
 -- ---- its locks

@@ -100,7 +100,7 @@ module _ {V : Type 0} (a : Alone) (held : Contents) (k : ServerState V) (client 
   undrawn_elsewhere h away = h.undrawn t (ap (λ (b : Bool). not (b && t.epoch == a.ids.epoch && nat_lt 0 t.counter && nat_le t.counter k.drawn)) away)
 
   pub part_is : IsAs a held k → part_at (alone a) client t ≡ part_of (standing_of client (map.get k.lives t) (is_dead client t k.dead))
-  part_is h = go (t.server == a.holder.server) refl ∙ own_part_is client a.holder.cells k.locks.held (a.locked t) t (map.get k.lives t) (a.holder.lives t) (a.fates t) (a.dead client t) (is_dead client t k.dead) (h.lives t) (h.quiet.paired t) (h.dead client t)
+  part_is h = go (t.server == a.holder.server) refl ∙ own_part_is client a.holder.cells k.locks.held (a.locked t) t (map.get k.lives t) (a.holder.lives t) (a.fates t) (a.dead client t) (is_dead client t k.dead) (h.lives t) (h.quiet.settled.paired t) (h.dead client t)
     where
       go : (b : Bool) → (t.server == a.holder.server) ≡ b → part_at (alone a) client t ≡ own_part client (a.dead client t) (a.fates t)
       go true e = ap (λ (b : Bool). cond {A = Part} b (own_part client (a.dead client t) (a.fates t)) (ended_part (a.dead client t))) e
@@ -108,7 +108,7 @@ module _ {V : Type 0} (a : Alone) (held : Contents) (k : ServerState V) (client 
           ∙ sym (ap (own_part client (a.dead client t)) (undrawn_elsewhere h e))
 
   pub finish_none : (commit : Bool) (r : Reply) → IsAs a held k → (standing_of client (map.get k.lives t) (is_dead client t k.dead) ≡ standing.Own → ⊥) → EndsNone client t commit (alone a).desk r (a.fates t)
-  finish_none commit r h = ends_none client a.holder.cells k.locks.held (a.locked t) t (map.get k.lives t) (a.holder.lives t) (a.fates t) (is_dead client t k.dead) commit (alone a).desk r (h.lives t) (h.quiet.paired t)
+  finish_none commit r h = ends_none client a.holder.cells k.locks.held (a.locked t) t (map.get k.lives t) (a.holder.lives t) (a.fates t) (is_dead client t k.dead) commit (alone a).desk r (h.lives t) (h.quiet.settled.paired t)
 
 -- the client's own is live
 pub own_standing : (client : ℕ) (o : Option Live) (b : Bool) → IsOf client o → standing_of client o b ≡ standing.Own
@@ -123,3 +123,12 @@ standing_own client (Some l) b e = go (l.client == client) refl e
     go : (x : Bool) → (l.client == client) ≡ x → cond {A = Standing} x standing.Own standing.Unknown ≡ standing.Own → l.client ≡ client
     go true is e = eqb-true l.client client is
     go false is e = cc
+
+-- a dead part is not live
+pub dead_gone : (client : ℕ) (o : Option Live) (b : Bool) → standing_of client o b ≡ standing.Dead → o ≡ None
+dead_gone client None b e = refl
+dead_gone client (Some l) b e = go (l.client == client) e
+  where
+    go : (x : Bool) → cond {A = Standing} x standing.Own standing.Unknown ≡ standing.Dead → Some l ≡ None
+    go true f = cc
+    go false f = cc

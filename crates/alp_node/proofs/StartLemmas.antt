@@ -162,6 +162,7 @@ new_kept old server sizes c = record old {
   sessions = no_sessions;
   lives = map.empty;
   dead = [];
+  waits = [];
   locks = record { held = map.empty; waiting = []; woken = [] };
   is_down = false;
 }
@@ -175,6 +176,7 @@ new_alone o = record {
   holder = holder_opened o;
   fates = λ t. Undrawn;
   sessions = λ client. None;
+  waits = [];
   dead = λ client t. None;
   locked = λ t. [];
   begun = [];
@@ -228,7 +230,20 @@ new_as old server servers last sizes c held ids later kept alone volume =
       born = subst (λ (n : ℕ). IsUnborn server n (map.get held.cells) 0) (sym epoch) (none_born server c.epoch last held.cells ids later);
       earlier = tt;
       committed = refl;
-      quiet = record { agree = λ t u k l a b away. (let wrong : None ≡ Some k = a in cc); paired = λ t. tt };
+      waits = refl;
+      queue = refl;
+      asked = tt;
+      quiet = record {
+        settled = record {
+          agree = λ t u k l a b away. (let wrong : None ≡ Some k = a in cc);
+          paired = λ t. tt;
+          ended = λ client t why is. (let wrong : None ≡ Some why = is in cc);
+          parts = tt;
+          came = tt;
+          apart = tt;
+        };
+        turns = tt;
+      };
       down = refl;
     }
 
@@ -247,7 +262,8 @@ new_ready old server sizes c serves up within later area sound = record {
   serving = λ _. up;
   halted = λ down. (let wrong : false ≡ true = down in cc);
   sound = sound;
-  alone = refl;
+  taken = refl;
+  waits = record { calls = tt; apart = tt; queued = tt };
   known = λ t l is. (let wrong : None ≡ Some l = sym (none_live t) ∙ is in cc);
   begun = λ t l is. (let wrong : None ≡ Some l = sym (none_live t) ∙ is in cc);
   opens = λ t l is. (let wrong : None ≡ Some l = sym (none_live t) ∙ is in cc);

@@ -16,7 +16,6 @@ use Rattle.alp_journal.specs.declared.act.Act.TheVariants as act
 use Rattle.alp_journal.specs.Moves.{is_stop}
 use Rattle.alp_journal.specs.Answered.{is_fault_reply}
 use Rattle.alp_vault.specs.Vault.{IsSameVault}
-use Rattle.alp_calls.specs.Looks.{IsLeft}
 use Rattle.alp_node.specs.Durable.{said_by, Leaves, Besides}
 use Rattle.alp_node.specs.Halts.{HaveCauses, says_shut}
 use Rattle.alp_node.proofs.SeatLemmas.{left_alone, left_step_as, left_step}
@@ -24,50 +23,17 @@ use Rattle.alp_journal.specs.declared.event.Event.TheVariants as event
 use Rattle.alp_journal.specs.Alone.{Alone, alone}
 use Rattle.alp_vault.specs.declared.vault.Vault.{Ghosts}
 use Rattle.alp_node.specs.ServerState.{IsAs, IsReady}
-use Rattle.alp_node.specs.Steps.{Stepped, IsStepAs, IsStep, IsTurn, counted_in, without_trans, ended, told_answer, refused_answer, entry_of}
+use Rattle.alp_node.specs.Steps.{Stepped, IsStepAs, IsStep, IsTurn, counted_in, ended, told_answer, refused_answer, entry_of}
 use Rattle.alp_node.specs.Turns.{IsInSession, IsKeepable, HasTurned}
 use Rattle.alp_node.specs.declared.answer.Answer.{Answer}
 use Rattle.alp_node.specs.declared.server_state.ServerState.{ServerState}
 use Rattle.alp_node.specs.declared.sessions.CallOrder.TheVariants as order
 use Rattle.alp_node.specs.declared.sessions.Turn.{Turn}
 use Rattle.alp_node.proofs.GivenLemmas.{IsCounted, counts_none, counts_down, reply_given, calm_given}
-use Rattle.alp_node.proofs.KeptLemmas.{as_with}
-use Rattle.alp_node.proofs.ReadyLemmas.{gone_ready, counted_ready, buried_ready, ready_with, down_ready}
+use Rattle.alp_node.proofs.ReadyLemmas.{counted_ready, down_ready}
+use Rattle.alp_node.proofs.ReleaseLemmas.{ended_ready, ended_as, grants_go_on, grants_caused}
+use Rattle.alp_node.specs.Releases.{grant_acts}
 use Rattle.alp_node.proofs.TurnLemmas.{counts_refused}
-use Rattle.alp_node.specs.Dead.{without_part}
-
-pub ended_ready : {V : Type 0} (n : ℕ) (serves : Bool) (k : ServerState V) (turn : Turn) (t : TransId) (r : Reply) → IsTurn k.sessions turn → IsKeepable k.clock r → IsReady n serves k → IsReady (n + 1) serves (ended k turn t r)
-ended_ready n serves k turn t r is keeps h =
-    buried_ready (n + 1) serves (record (without_trans k t) { sessions = counted_in k.sessions turn r }) (without_part turn.client t k.dead) (counted_ready n serves (without_trans k t) turn r is keeps (gone_ready n serves k t h))
-
-module _ {V : Type 0} (G : Ghosts V) (k : ServerState V) (v : V) where
-  abbrev pub mid : ServerState V
-  mid = record k { vault = v }
-
-  -- a part ends without effect, behind a look into the vault
-  pub ended_step : (turn : Turn) (t : TransId) (c : Call) (cause : Cause) (x : Answer) (new : ServerState V) → IsLeft G k.vault v → IsTrue (G.serves v)
-      → IsCounted k.server (G.faults k.vault) (G.faults v) k.is_down (Some (reply.Refused (refusal.Aborted cause))) → IsTurn k.sessions turn → k.is_down ≡ false
-      → new ≡ ended mid turn t (reply.Refused (refusal.Aborted cause)) → x ≡ refused_answer (refusal.Aborted cause) (act.Released t ∷ [])
-      → (IsTrue (G.tells k.vault) → (a : Alone) → IsAs a (G.held k.vault) k
-      → Stepped a (G.faults k.vault) (G.faults v) (G.held k.vault) (ended k turn t (reply.Refused (refusal.Aborted cause))) (event.Call turn.client k.epoch turn.number c) x)
-      → IsStep G k new (event.Call turn.client k.epoch turn.number c) (Ok x)
-  ended_step turn t c cause x new left on counted is up done so steps =
-      let r : Reply = reply.Refused (refusal.Aborted cause) in
-      subst (λ (y : ServerState V). IsStep G k y (event.Call turn.client k.epoch turn.number c) (Ok x)) (sym done)
-      (left_step G k (ended mid turn t r) refl refl refl left (event.Call turn.client k.epoch turn.number c) x up
-      (λ told a h. (
-      let s : Stepped a (G.faults k.vault) (G.faults v) (G.held k.vault) (ended k turn t r) (event.Call turn.client k.epoch turn.number c) x = steps told a h in
-      record {
-        failed = s.failed;
-        next = s.next;
-        leads = s.leads;
-        rose = s.rose;
-        kept = as_with s.next (G.held k.vault) (G.held v) (ended k turn t r) v left.contents s.kept;
-        clock = s.clock;
-      }))
-      (reply_given k.server (G.faults k.vault) (G.faults v) (G.allowance v) k.is_down (reply.Refused (refusal.Aborted cause)) (act.Released t ∷ []) x so counted up tt)
-      (λ n h. ended_ready n (G.serves v) mid turn t r is (record { inside = tt; times = tt }) (ready_with n (G.serves k.vault) (G.serves v) k v on up h))
-      (λ on. subst (λ (y : Answer). HasTurned (Some order.Next) k (ended mid turn t r) (event.Call turn.client k.epoch turn.number c) y.kept) (sym so) (counts_refused k (ended mid turn t r) turn is c (refusal.Aborted cause) tt refl refl)))
 
 -- a step in which the vault was stopped, or failed in its commit
 module _ {V : Type 0} (G : Ghosts V) (k new : ServerState V) (v : V) where
@@ -129,3 +95,18 @@ module _ {V : Type 0} (G : Ghosts V) (k new : ServerState V) where
       (calm_given k.server (G.faults k.vault) (G.faults new.vault) (G.allowance new.vault) new.is_down None None acts x so refl refl refl (ap G.faults vault) up (up ∙ sym none) (causes (G.faults k.vault) (G.faults new.vault) (G.allowance new.vault)))
       (λ n h. subst (λ (v : V). IsReady (n + 1) (G.serves v) new) (sym vault) (ready n h))
       (λ on. subst (λ (y : Answer). HasTurned None k new (event.Timeout t) y.kept) (sym so) (record { later = omega (arith, clock); times = tt; sessions = sessions; pages = tt }))
+
+  -- a part ends without effect, and others have its locks
+  pub ended_step : (turn : Turn) (t : TransId) (ts : List TransId) (c : Call) (cause : Cause) (x : Answer) → (is_fault_reply k.server (Some (reply.Refused (refusal.Aborted cause))) || false) ≡ false → IsTurn k.sessions turn → k.is_down ≡ false
+      → new ≡ ended k turn t (reply.Refused (refusal.Aborted cause)) → x ≡ refused_answer (refusal.Aborted cause) (act.Released t ∷ grant_acts ts)
+      → (IsTrue (G.tells k.vault) → (a : Alone) → IsAs a (G.held k.vault) k
+      → Stepped a (G.faults k.vault) (G.faults k.vault) (G.held k.vault) (ended k turn t (reply.Refused (refusal.Aborted cause))) (event.Call turn.client k.epoch turn.number c) x)
+      → IsStep G k new (event.Call turn.client k.epoch turn.number c) (Ok x)
+  ended_step turn t ts c cause x quiet is up done so steps =
+      let r : Reply = reply.Refused (refusal.Aborted cause) in
+      plain_step turn c x r (act.Released t ∷ grant_acts ts) (ap (λ (y : ServerState V). y.vault) done ∙ ended_as k turn t r (λ (y : ServerState V). y.vault)) (ap (λ (y : ServerState V). y.server) done ∙ ended_as k turn t r (λ (y : ServerState V). y.server))
+      (ap (λ (y : ServerState V). y.sizes) done ∙ ended_as k turn t r (λ (y : ServerState V). y.sizes)) (ap (λ (y : ServerState V). y.epoch) done ∙ ended_as k turn t r (λ (y : ServerState V). y.epoch)) up
+      (ap (λ (y : ServerState V). y.is_down) done ∙ ended_as k turn t r (λ (y : ServerState V). y.is_down) ∙ up) quiet so (grants_go_on ts) (λ m n b. grants_caused m n b ts)
+      (λ n h. subst (λ (y : ServerState V). IsReady (n + 1) (G.serves k.vault) y) (sym done) (ended_ready n k turn t (G.serves k.vault) r is (record { inside = tt; times = tt }) h))
+      (λ told a h. subst (λ (y : ServerState V). Stepped a (G.faults k.vault) (G.faults k.vault) (G.held k.vault) y (event.Call turn.client k.epoch turn.number c) x) (sym done) (steps told a h))
+      (counts_refused k new turn is c (refusal.Aborted cause) tt (ap (λ (y : ServerState V). y.clock) done ∙ ended_as k turn t r (λ (y : ServerState V). y.clock)) (ap (λ (y : ServerState V). y.sessions) done))

@@ -41,7 +41,7 @@ locks_most locks n (Ok x) was asked = go (is_made x.reply)
     go false = asked
 locks_most locks n (Err e) was asked = was
 
-log_most : (cells locks more area : ℕ) → locks ≤ more → log_need cells more ≤ area → log_need cells locks ≤ area
+pub log_most : (cells locks more area : ℕ) → locks ≤ more → log_need cells more ≤ area → log_need cells locks ≤ area
 log_most cells locks more area le fits = omega (arith, le, fits)
 
 -- the log has room for it as it stands then

@@ -149,6 +149,14 @@ plan_of locks t ns = waiter_of (held_of locks.held t) t ns
 abbrev pub with_plan : Table → Waiter → Table
 with_plan locks w = with_granted locks w.trans w.rises w.after
 
+-- the table where that of a file that was made is taken, if there is one
+abbrev pub with_if : Table → Option Waiter → Table
+with_if locks None = locks
+with_if locks (Some w) = with_plan locks w
+
+abbrev pub with_made : Bool → Table → Option Waiter → Table
+with_made has_made locks made = if has_made then with_if locks made else locks
+
 -- a grant stands where a mode rises
 abbrev pub acts_of : TransId → List Need → List Act
 acts_of t ns = if length ns == 0 then [] else act.Granted t ∷ []

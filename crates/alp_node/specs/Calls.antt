@@ -1,9 +1,7 @@
 -- The calls that a server answers so far, and what its answers rest on.
-use Rattle.std.specs.Prelude.{◌≡◌, ◌+◌, List, length, Bool, true, Some, Result, Ok, Err}
+use Rattle.std.specs.Prelude.{◌≡◌, ◌+◌, List, Bool, true, Some, IsSome, Result, Ok, Err}
 use Rattle.std.specs.FinMap as map
-use Rattle.alp_base.specs.declared.choices.Choice.TheVariants.{Fail}
 use Rattle.alp_files.specs.declared.call.Call.{Call}
-use Rattle.alp_files.specs.declared.call.Call.TheVariants as call
 use Rattle.alp_base.specs.declared.ids.FileId.{FileId}
 use Rattle.alp_base.specs.declared.ids.TransId.{TransId}
 use Rattle.alp_files.specs.declared.reply.Reply.{Reply}
@@ -12,6 +10,7 @@ use Rattle.alp_calls.specs.declared.fault.CallFault.{CallFault}
 use Rattle.alp_calls.specs.declared.fault.CallFault.TheVariants as fault
 use Rattle.alp_calls.specs.declared.limits.Room.{Room}
 use Rattle.alp_journal.specs.declared.act.Act.{Act}
+use Rattle.alp_journal.specs.Desk.{file_trans}
 use Rattle.alp_trans.specs.declared.part.Part.{Part}
 use Rattle.alp_calls.specs.Parts.{IsPart, Answered, IsAsBefore, has_contents}
 use Rattle.alp_node.specs.declared.answer.Given.{Given}
@@ -21,22 +20,9 @@ use Rattle.alp_node.specs.declared.lock_counts.LockCounts.{LockCounts}
 use Rattle.alp_node.specs.Rooms.{IsRoomOf, locks_given}
 use Rattle.alp_node.specs.Steps.{told_answer}
 
--- file calls that are performed so far: all of them, where a write has as many pages as its run, and nobody waits for locks
+-- file calls, which are all served
 abbrev pub IsServedCall : Call → Type 0
-IsServedCall (call.CreateFile t start choice) = choice ≡ Fail
-IsServedCall (call.OpenFile t file access mode choice) = choice ≡ Fail
-IsServedCall (call.CloseFile t n) = Unit {0}
-IsServedCall (call.DeleteFile t n choice) = choice ≡ Fail
-IsServedCall (call.ReadPages t n r mode choice) = choice ≡ Fail
-IsServedCall (call.WritePages t n r pages choice) = (length pages ≡ r.count) × (choice ≡ Fail)
-IsServedCall (call.LockPages t n r mode choice) = choice ≡ Fail
-IsServedCall (call.SetSize t n size choice) = choice ≡ Fail
-IsServedCall (call.ReadProps t n) = Unit {0}
-IsServedCall (call.WriteProps t n change choice) = choice ≡ Fail
-IsServedCall (call.ReadOwner t name choice) = choice ≡ Fail
-IsServedCall (call.MakeOwner t name quota create choice) = choice ≡ Fail
-IsServedCall (call.SetQuota t name quota choice) = choice ≡ Fail
-IsServedCall _ = ⊥
+IsServedCall c = IsSome (file_trans c)
 
 -- the id that the next file gets
 abbrev pub next_file : {V : Type 0} → ServerState V → FileId

@@ -6,12 +6,14 @@ pub mod Asks
 pub mod Shapes
 pub mod Covers
 pub mod Totals
+pub mod Waits
 pub mod BlockSets
 pub mod Eases
 pub mod Halts
 pub mod Dead
 pub mod Standings
 pub mod Rooms
+pub mod Releases
 pub mod Calls
 pub mod Turns
 pub mod Steps

@@ -82,6 +82,7 @@ pub record IsNew {V : Type 0} (volume : V → Sizes) (server : ℕ) (n : NodeSta
   pub sessions : n.kept.sessions ≡ no_sessions
   pub lives : n.kept.lives ≡ map.empty
   pub dead : n.kept.dead ≡ []
+  pub waits : n.kept.waits ≡ []
   pub locks : n.kept.locks ≡ record { held = map.empty; waiting = []; woken = [] }
   pub up : n.kept.is_down ≡ false
 

@@ -15,9 +15,10 @@ use Rattle.alp_journal.specs.declared.event.Event.{Event}
 use Rattle.alp_journal.specs.declared.event.Event.TheVariants as event
 use Rattle.alp_node.specs.declared.server_state.ServerState.{ServerState}
 use Rattle.alp_node.specs.Calls.{IsServedCall}
+use Rattle.alp_node.specs.Shapes.{ReadsSome}
 
--- What the server asks of an event so far. Each line says what it leaves out, and which of the coming stages ends that: "every
--- call of a client", "waits", "restart", or "several servers".
+-- What the server asks of an event so far. Each line says what it leaves out, and which of the coming stages ends that:
+-- "restart", or "several servers".
 
 -- a call that may be asked
 abbrev pub IsAskable : Call → Type 0
@@ -27,10 +28,12 @@ IsAskable (call.Hello name) = Unit {0}
 IsAskable (call.Begin seen) = seen.ts ≤ 2 ^ 62
 -- a commit or an abort, of whatever transaction: nothing is left out
 IsAskable (call.Finish t commit) = Unit {0}
--- A file call of the grammar of frames, which stays, and one of those that `IsServedCall` names, in any mode and of any run. Left
--- out are calls that may wait for their locks, and collects ("waits"); the question how a transaction ended, and a join where
--- there is one server ("restart"); and all other joins ("several servers").
-IsAskable c = IsServedCall c × IsFormed c
+-- a collect of whatever number: nothing is left out
+IsAskable (call.Collect number) = Unit {0}
+-- A file call of the grammar of frames, which stays, in any mode, of any run that is not empty and with either choice. Left out
+-- are the question how a transaction ended, and a join where there is one server ("restart"); and all other joins ("several
+-- servers").
+IsAskable c = IsServedCall c × IsFormed c × ReadsSome c
 
 -- a call of a session that stands
 abbrev pub IsTurnCall : Call → Type 0

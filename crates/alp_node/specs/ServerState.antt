@@ -2,12 +2,12 @@
 -- the coordinator: the live transactions are just those that run, and no id beyond the count was drawn;
 -- the participant: no join was drawn, as `Alone` says;
 -- the holder: the vault has the cells, and one note, of the epoch and the kept clock; each live part has its intents, opens and locks;
--- the desk: the sessions are just those, each with its principal, its last number and the reply to that; no call waits, and the
--- parts that timed out are those of the list;
+-- the desk: the sessions are just those, each with its principal, its last number and the reply to that; the calls that wait and
+-- the parts that timed out are those of the lists, and the table's queue is that of the calls that have not their locks;
 -- the counts: each live part has its own, and beside the cells there is room for what all of them come to;
 -- the ids: the counts of transactions and of files.
 use Rattle.std.specs.Prelude.{◌≡◌, ℕ, zero, suc, ◌+◌, ◌^◌, ◌<◌, ◌≤◌, ◌==◌, ◌&&◌, not, nat_lt, nat_le, Bool, true, false, IsTrue, List, [], ◌∷◌, ◌++◌, length, Option, None, Some, is_some}
-use Rattle.std.specs.List.{list_all}
+use Rattle.std.specs.List.{list_all, AllByRecursion}
 use Rattle.std.specs.FinMap as map
 use Rattle.alp_base.specs.declared.ids.FileId.{FileId}
 use Rattle.alp_base.specs.declared.ids.TransId.{TransId}
@@ -15,7 +15,7 @@ use Rattle.alp_base.specs.declared.key.Key.TheVariants.{Leader}
 use Rattle.alp_base.specs.declared.key.Resource.{Resource}
 use Rattle.alp_base.specs.declared.key.Resource.TheVariants.{Whole}
 use Rattle.alp_files.specs.Holdings.{IsIntended}
-use Rattle.alp_files.specs.Locks.{Reads, Writes}
+use Rattle.alp_files.specs.Locks.{Reads, Writes, HoldsEach, needs_of}
 use Rattle.alp_files.specs.Apart.{AreSized, IsWithin as AreWithin, OpensRead}
 use Rattle.alp_files.specs.Cells.{Cells}
 use Rattle.alp_files.specs.Born.{IsUnborn}
@@ -27,7 +27,9 @@ use Rattle.alp_vault.specs.Contents.{Contents}
 use Rattle.alp_trans.specs.Parts.{own_of}
 use Rattle.alp_trans.specs.Counting.{AreCountsOf}
 use Rattle.alp_journal.specs.Coordinator.{Undrawn}
-use Rattle.alp_journal.specs.Holder.{Life}
+use Rattle.alp_journal.specs.Answers.{more_locks}
+use Rattle.alp_journal.specs.Counts.{Locked, with_resources, request_in}
+use Rattle.alp_journal.specs.Holder.{Holder, Life, view_in}
 use Rattle.alp_journal.specs.Desk.{Session}
 use Rattle.alp_journal.specs.Alone.{Alone, IsQuiet, AreEarlier}
 use Rattle.alp_node.specs.Asks.{is_given}
@@ -38,8 +40,11 @@ use Rattle.alp_node.specs.Rooms.{IsWithin}
 use Rattle.alp_node.specs.Sessions.{session_at}
 use Rattle.alp_node.specs.Totals.{totals_of, HaveRoom}
 use Rattle.alp_node.specs.Turns.{IsKeepable}
+use Rattle.alp_node.specs.Waits.{waiting_calls, AreWaiting}
+use Rattle.alp_turns.specs.Queues.{queue_of}
 use Rattle.alp_node.specs.declared.lives.Live.{Live}
 use Rattle.alp_node.specs.declared.server_state.ServerState.{ServerState}
+use Rattle.alp_node.specs.declared.waits.WaitingCall.{WaitingCall}
 
 -- ---- live transactions
 
@@ -87,6 +92,19 @@ trans_to server epoch (suc n) = trans_to server epoch n ++ (record { server = se
 abbrev pub is_beyond : ℕ → ℕ → ℕ → TransId → Bool
 is_beyond server epoch count t = not (t.server == server && t.epoch == epoch && nat_lt 0 t.counter && nat_le t.counter count)
 
+-- ---- calls that wait
+
+-- The part of the call will have as many resources locked as it counts, where the call makes no file and where it makes one; and
+-- what it holds covers the call once its locks are granted.
+pub record IsAskedAs (h : Holder) (locked : Locked) (w : WaitingCall) (l : Life) : Type 0 where
+  pub asked : w.counts.asked ≡ length (with_resources (request_in h w.call (Some l)) (locked w.trans))
+  pub made : w.counts.made ≡ w.counts.asked + more_locks w.call
+  pub covered : w.is_granted ≡ true → HoldsEach l.held (needs_of (view_in h l) l.own w.call)
+
+-- as long as the part lives
+abbrev pub IsWaitingAs : Holder → Locked → WaitingCall → Type 0
+IsWaitingAs h locked w = (l : Life) → h.lives w.trans ≡ Some l → IsAskedAs h locked w l
+
 -- ---- all of it
 
 -- The server keeps what this state says, with this in its vault, which counts while it is not down; and it is down just
@@ -102,6 +120,9 @@ pub record IsAs {V : Type 0} (a : Alone) (held : Contents) (k : ServerState V) :
   pub places : length k.sessions.places ≡ 17
   pub sessions : (client : ℕ) → a.sessions client ≡ session_at k.sessions client
   pub dead : (client : ℕ) (t : TransId) → a.dead client t ≡ dead_in k.dead client t
+  pub waits : a.waits ≡ waiting_calls k.waits
+  pub queue : k.locks.waiting ≡ queue_of a.holder k.locks.held a.waits
+  pub asked : AllByRecursion (IsWaitingAs a.holder a.locked) k.waits
   pub lives : (t : TransId) → IsAlike a.holder.cells k.locks.held (a.locked t) t (map.get k.lives t) (a.holder.lives t)
   pub room : HaveRoom k.sizes a.holder.cells (totals_of k.lives)
   pub unborn : (t : TransId) (l : Life) → a.holder.lives t ≡ Some l → PutNoneBeyond a.holder.server a.ids.epoch k.given l.edits
@@ -116,14 +137,16 @@ pub record IsAs {V : Type 0} (a : Alone) (held : Contents) (k : ServerState V) :
   pub quiet : IsQuiet a
   pub down : a.is_down ≡ k.is_down
 
--- Whatever its vault tells: its vault serves just while it is up, the table's locks agree, nobody waits, it knows each live
+-- Whatever its vault tells: its vault serves just while it is up, the table's locks agree, nobody is woken and not taken, those who
+-- wait in it do so for calls that the server keeps, and these may be performed once they have their locks. The table knows each live
 -- transaction, each live part is within its limits, as many as there may be, nobody has a file open or holds a lock on one that
 -- was not made yet, each session keeps what it may, and no count went further than so many steps.
 pub record IsReady {V : Type 0} (steps : ℕ) (serves : Bool) (k : ServerState V) : Type 0 where
   pub serving : k.is_down ≡ false → IsTrue serves
   pub halted : k.is_down ≡ true → serves ≡ false
   pub sound : IsSound k.locks
-  pub alone : k.locks.waiting ≡ []
+  pub taken : k.locks.woken ≡ []
+  pub waits : AreWaiting k.server k.epoch k.given k.drawn k.sizes k.lives k.waits k.locks.waiting
   pub known : (t : TransId) (l : Live) → map.get k.lives t ≡ Some l → is_some (map.get k.locks.held t) ≡ true
   pub begun : (t : TransId) (l : Live) → map.get k.lives t ≡ Some l → t.counter ≤ k.drawn
   pub opens : (t : TransId) (l : Live) → map.get k.lives t ≡ Some l → l.part.last ≤ steps

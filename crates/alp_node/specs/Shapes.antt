@@ -1,6 +1,8 @@
 -- What a call is refused for before its locks are looked at: its shape, and how many locks it would leave.
-use Rattle.std.specs.Prelude.{ℕ, ◌+◌, not, nat_lt, nat_le, List, [], ◌∷◌, Option, None, is_some, if◌then◌else◌}
+use Rattle.std.specs.Prelude.{ℕ, ◌+◌, ◌≤◌, Bool, true, false, not, nat_lt, nat_le, List, [], ◌∷◌, Option, None, Some, is_some, if◌then◌else◌}
 use Rattle.std.specs.Option.{option_or}
+use Rattle.alp_base.specs.declared.choices.Choice.{Choice}
+use Rattle.alp_base.specs.declared.choices.Choice.TheVariants as choice
 use Rattle.alp_base.specs.declared.ids.Run.{Run}
 use Rattle.alp_files.specs.Holdings.{Holding}
 use Rattle.alp_files.specs.Locks.{Need, joined}
@@ -10,7 +12,7 @@ use Rattle.alp_files.specs.declared.refusal.Refusal.{Refusal}
 use Rattle.alp_files.specs.declared.refusal.Refusal.TheVariants as refusal
 use Rattle.alp_files.specs.declared.refusal.What.TheVariants as what
 use Rattle.alp_journal.specs.Counts.{log_need}
-use Rattle.alp_journal.specs.Answers.{if_over, more_locks}
+use Rattle.alp_journal.specs.Answers.{if_over, more_locks, choice_of}
 use Rattle.alp_node.specs.Asks.{is_given}
 use Rattle.alp_node.specs.declared.lock_counts.LockCounts.{LockCounts}
 
@@ -25,6 +27,11 @@ no_run r = if_over (nat_lt 16 r.count) (refusal.TooMany what.Run 16)
 abbrev pub no_size : ℕ → Option Refusal
 no_size size = if_over (nat_lt 4096 size) (refusal.TooMany what.Pages 4096)
 
+-- a run that is read is not empty
+abbrev pub ReadsSome : Call → Type 0
+ReadsSome (call.ReadPages t n r mode choice) = 1 ≤ r.count
+ReadsSome c = Unit {0}
+
 -- where the server and its epoch gave ids to so many files, and the part has so many opens; what is wrong with an open that a
 -- call names is seen as the call is performed, and then it asks for no lock
 abbrev pub shape_of : (server epoch given opens : ℕ) → Call → Option Refusal
@@ -37,6 +44,14 @@ shape_of server epoch given opens (call.SetSize t n size choice) = no_size size
 shape_of server epoch given opens c = None
 
 -- ---- locks
+
+-- whether the call waits where another is in its way
+abbrev pub is_wait : Option Choice → Bool
+is_wait (Some choice.Wait) = true
+is_wait x = false
+
+abbrev pub may_wait : Call → Bool
+may_wait c = is_wait (choice_of c)
 
 -- of the resources that are asked for those that are not held yet, each once
 abbrev pub fresh_on : Holding → List Need → ℕ

@@ -1,13 +1,11 @@
 -- One step of a server.
 use Rattle.std.specs.Prelude.{◌≡◌, ℕ, ◌+◌, ◌≤◌, ◌||◌, max, Bool, true, false, List, [], ◌∷◌, ◌++◌, Option, None, Some, is_some, IsTrue, Result, Ok, Err, IfOk, OnOk, OnErr, MatchResult}
 use Rattle.std.specs.List.{list_any}
-use Rattle.std.specs.FinMap as map
 use Rattle.alp_base.specs.Allowances.{Spends}
 use Rattle.alp_base.specs.Causes.{Rose}
 use Rattle.alp_base.specs.declared.allowance.Allowance.{Allowance}
 use Rattle.alp_base.specs.declared.ids.TransId.{TransId}
 use Rattle.alp_base.specs.declared.memory.OutOfMemory.{OutOfMemory}
-use Rattle.alp_locks.specs.Releases.{released}
 use Rattle.alp_files.specs.declared.call.Call.TheVariants as call
 use Rattle.alp_files.specs.declared.refusal.Refusal.{Refusal}
 use Rattle.alp_files.specs.declared.refusal.Refusal.TheVariants as refusal
@@ -35,6 +33,8 @@ use Rattle.alp_node.specs.Dead.{without_part}
 use Rattle.alp_node.specs.Durable.{said_by, MightBring, Leaves, Besides}
 use Rattle.alp_node.specs.Halts.{HaveCauses, IsUncounted, says_shut}
 use Rattle.alp_node.specs.Orders.{is_answered, is_fault_now}
+use Rattle.alp_node.specs.Releases.{let_go}
+use Rattle.alp_node.specs.Waits.{without_calls_of}
 use Rattle.alp_node.specs.Sessions.{session_at, with_session}
 use Rattle.alp_node.specs.ServerState.{IsAs, IsReady}
 use Rattle.alp_node.specs.Turns.{HasTurned}
@@ -142,13 +142,14 @@ abbrev pub IsOf : ℕ → Option Live → Type 0
 IsOf client None = ⊥
 IsOf client (Some l) = l.client ≡ client
 
--- the server where the transaction is live no more, and its locks are gone
-abbrev pub without_trans : {V : Type 0} → ServerState V → TransId → ServerState V
-without_trans k t = record k { lives = map.remove k.lives t; locks = released k.locks t }
-
--- and where nothing of it is to be told to the client any more, whose call is answered so
+-- The server where the transaction is live no more, and others have its locks: nothing of it is to be told to the client any more,
+-- whose call is answered so, and no call of its part waits.
 abbrev pub ended : {V : Type 0} → ServerState V → Turn → TransId → Reply → ServerState V
-ended k turn t r = record (without_trans k t) { sessions = counted_in k.sessions turn r; dead = without_part turn.client t k.dead }
+ended k turn t r = record (let_go k t) {
+  waits = without_calls_of turn.client t (let_go k t).waits;
+  sessions = counted_in k.sessions turn r;
+  dead = without_part turn.client t k.dead;
+}
 
 -- an answer with this reply, or with none
 abbrev pub told_answer : Option Reply → List Act → Answer

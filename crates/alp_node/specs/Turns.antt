@@ -1,21 +1,23 @@
 -- How sessions and the clock go on in a step, whatever the vault tells.
-use Rattle.std.specs.Prelude.{◌≡◌, ℕ, ◌≤◌, Bool, true, false, Option, None, Some, IfSome, length}
+use Rattle.std.specs.Prelude.{◌≡◌, ℕ, ◌≤◌, Bool, true, false, List, Option, None, Some, IfSome, length}
+use Rattle.alp_files.specs.Reading.{asked_pages, TellsPages}
 use Rattle.alp_files.specs.declared.call.Call.{Call}
 use Rattle.alp_files.specs.declared.call.Call.TheVariants as call
 use Rattle.alp_files.specs.declared.refusal.Refusal.TheVariants as refusal
 use Rattle.alp_files.specs.declared.reply.Ended.TheVariants as ended
 use Rattle.alp_files.specs.declared.reply.Reply.{Reply}
 use Rattle.alp_files.specs.declared.reply.Reply.TheVariants as reply
-use Rattle.alp_files.specs.Reading.{asked_pages, TellsPages}
 use Rattle.alp_journal.specs.declared.event.Event.{Event}
 use Rattle.alp_journal.specs.declared.event.Event.TheVariants as event
 use Rattle.alp_journal.specs.Desk.{Session}
 use Rattle.alp_node.specs.Orders.{idle_reply}
 use Rattle.alp_node.specs.Sessions.{session_at, with_session}
+use Rattle.alp_node.specs.Waits.{call_at}
 use Rattle.alp_node.specs.declared.server_state.ServerState.{ServerState}
 use Rattle.alp_node.specs.declared.sessions.CallOrder.{CallOrder}
 use Rattle.alp_node.specs.declared.sessions.CallOrder.TheVariants as order
 use Rattle.alp_node.specs.declared.sessions.Sessions.{Sessions}
+use Rattle.alp_node.specs.declared.waits.WaitingCall.{WaitingCall}
 
 -- no time that the reply tells is later than this one
 abbrev pub TellsUpTo : ℕ → Reply → Type 0
@@ -61,15 +63,25 @@ AreTurned None old new e r = new.sessions ≡ old.sessions
 AreTurned (Some o) old new (event.Call client epoch number c) r = HasCounted o old new client number c r
 AreTurned (Some o) old new e r = ⊥
 
--- where it tells pages, so many were asked, and no more than a run may have
+-- where it tells pages, so many were asked, and as many as a run may have
 abbrev pub TellsRun : Option ℕ → Reply → Type 0
-TellsRun asked (reply.Pages pages) = TellsPages asked (reply.Pages pages) × (length pages ≤ 16)
+TellsRun asked (reply.Pages pages) = TellsPages asked (reply.Pages pages) × (1 ≤ length pages) × (length pages ≤ 16)
 TellsRun asked r = Unit {0}
 
+-- how many pages a call asks for that waits, if one does
+abbrev pub asked_waiting : Option WaitingCall → Option ℕ
+asked_waiting None = None
+asked_waiting (Some w) = asked_pages w.call
+
+-- and a call that comes: a collect asks for those of the call that it collects
+abbrev pub asked_in : List WaitingCall → ℕ → Call → Option ℕ
+asked_in waits client (call.Collect n) = asked_waiting (call_at client n waits)
+asked_in waits client c = asked_pages c
+
 -- the next call of a session is told no pages but those that it asks for
-abbrev pub IsToldItsPages : Option CallOrder → Event → Option Reply → Type 0
-IsToldItsPages (Some order.Next) (event.Call client epoch number c) r = IfSome r (TellsRun (asked_pages c))
-IsToldItsPages o e r = Unit {0}
+abbrev pub IsToldItsPages : List WaitingCall → Option CallOrder → Event → Option Reply → Type 0
+IsToldItsPages waits (Some order.Next) (event.Call client epoch number c) r = IfSome r (TellsRun (asked_in waits client c))
+IsToldItsPages waits o e r = Unit {0}
 
 -- The event, which is this among the calls of its client, was answered by a server that goes on: its clock does not fall back, and
 -- is not behind what the reply tells. The next call of a session is told its pages; a repeat is told what was kept.
@@ -77,4 +89,4 @@ pub record HasTurned {V : Type 0} (o : Option CallOrder) (old new : ServerState 
   pub later : old.clock ≤ new.clock
   pub times : IfSome r (TellsUpTo new.clock)
   pub sessions : AreTurned o old new e r
-  pub pages : IsToldItsPages o e r
+  pub pages : IsToldItsPages old.waits o e r

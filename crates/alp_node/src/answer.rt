@@ -1,11 +1,12 @@
 //! What an event comes to.
 ghost use Rattle.std.specs.Prelude.{◌≡◌, None, Some, IfOk, OnErr, true};
 ghost use Rattle.alp_calls.specs.Parts.{has_contents};
+ghost use Rattle.alp_files.specs.declared.reply.Reply.TheVariants as reply;
 ghost use Rattle.alp_node.specs.Asks.{is_made as is_made_said};
 ghost use Rattle.alp_node.specs.Calls.{given_of};
 ghost use Rattle.alp_node.specs.Steps.{told_answer, refused_answer};
 
-use alp_base::OutOfMemory;
+use alp_base::{OutOfMemory, Stamp};
 use alp_files::{Refusal, Reply};
 use alp_journal::Acts;
 
@@ -38,6 +39,16 @@ impl Answer {
         Answer {
             kept: None,
             handed: None,
+            acts,
+        }
+    }
+
+    pub fn committed(stamp: Stamp, acts: Acts) -> Answer
+        ensures { result ≡ told_answer (Some (reply.Committed stamp)) acts }
+    {
+        Answer {
+            kept: Some(Reply::Committed { stamp }),
+            handed: Some(Reply::Committed { stamp }),
             acts,
         }
     }

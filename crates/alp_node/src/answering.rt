@@ -41,10 +41,13 @@ impl<V: Vault> ServerState<V> {
         requires sound { IsTrue (V.tells self.old.vault) → AreLivesSound (V.held self.old.vault) self.old }
         ensures { IsStep V.Vault self.old self.new (event.Call turn.now.client self.old.epoch turn.now.number (call.Finish trans commit)) result }
     {
-        if commit {
-            return self.commit(turn, trans);
+        if !commit {
+            return self.abort(turn, trans);
         }
-        self.abort(turn, trans)
+        if self.waits.has(turn.client, &trans) {
+            return Ok(self.refuse(turn, Refusal::NotYet));
+        }
+        self.commit(turn, trans)
     }
 
     // A transaction ends as its client asks, where the client has a part of it here.
@@ -85,6 +88,9 @@ impl<V: Vault> ServerState<V> {
         }
         if let Call::Finish { trans, commit } = call {
             return self.finish(turn, *trans, *commit);
+        }
+        if let Call::Collect { number } = call {
+            return self.collect(turn, *number);
         }
         let Some(trans) = trans_of(call) else {
             unreachable!()

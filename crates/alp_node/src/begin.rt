@@ -2,6 +2,7 @@
 ghost use Rattle.std.specs.Prelude.{◌≡◌, ◌+◌, ◌<◌, ◌≤◌, ◌^◌, None, Some, false};
 ghost use Rattle.alp_files.specs.declared.call.Call.TheVariants as call;
 ghost use Rattle.alp_journal.specs.declared.event.Event.TheVariants as event;
+ghost use Rattle.alp_node.specs.Releases.{buried};
 ghost use Rattle.alp_node.specs.Sessions.{session_at};
 ghost use Rattle.alp_node.specs.ServerState.{IsReadyForMore};
 ghost use Rattle.alp_node.specs.Steps.{IsStep, IsStepAs, IsTurn};
@@ -49,7 +50,7 @@ impl<V: Vault> ServerState<V> {
         ensures { IsStep V.Vault self.old self.new (event.Call turn.now.client self.old.epoch turn.now.number (call.Begin seen)) result }
     {
         if self.lives.len() >= MOST_TRANSACTIONS {
-            self.dead.bury(turn.client);
+            self.bury(turn.client);
             return Ok(self.refuse(
                 turn,
                 Refusal::TooMany {
@@ -66,21 +67,29 @@ impl<V: Vault> ServerState<V> {
         let acts = Acts::new(vec![in self.alloc; Act::Drawn { trans }]?);
         let reply = Reply::Begun { trans };
         let answer = Answer::new(&reply, acts)?;
-        self.locks.enter(trans)?;
         let live = Live {
             client: turn.client,
             who: turn.who,
             part: Part::new(self.alloc),
             locks: 0,
         };
-        if self.lives.add(trans, live).is_err() {
-            self.locks.release_all(trans);
+        self.lives.add(trans, live)?;
+        if self.locks.enter(trans).is_err() {
+            self.lives.remove(&trans);
             return Err(OutOfMemory);
         }
         self.drawn += 1;
         self.clock = self.clock.max(seen.ts);
-        self.dead.bury(turn.client);
+        self.bury(turn.client);
         self.sessions.count(turn, reply);
         Ok(answer)
+    }
+
+    // The client asks for no dead part any more, and for no call of one.
+    fn bury(&mut self, client: u8)
+        ensures { self.new ≡ buried self.old client }
+    {
+        self.waits.bury(client, &self.lives);
+        self.dead.bury(client);
     }
 }

@@ -72,8 +72,12 @@ impl Dead {
 fn is_part(part: &DeadPart, client: u8, trans: &TransId) -> bool
     ensures { result ≡ (part.now.client == client && same_trans part.now.trans trans.now) }
 {
-    let is_same = part.trans.server == trans.server
-        && part.trans.epoch == trans.epoch
-        && part.trans.counter == trans.counter;
-    part.client == client && is_same
+    part.client == client && is_same(&part.trans, trans)
+}
+
+/// Whether two ids are those of one transaction.
+pub fn is_same(one: &TransId, other: &TransId) -> bool
+    ensures { result ≡ same_trans one.now other.now }
+{
+    one.server == other.server && one.epoch == other.epoch && one.counter == other.counter
 }

@@ -18,7 +18,10 @@ ghost use Rattle.alp_files.specs.declared.reply.Reply.TheVariants as reply;
 ghost use Rattle.std.specs.Result.{IsErr};
 ghost use Rattle.alp_files.specs.declared.refusal.Refusal.TheVariants as refusal;
 ghost use Rattle.alp_files.specs.declared.refusal.Cause.TheVariants as cause;
-ghost use Rattle.alp_node.specs.Steps.{IsStep, IsStepAs, IsNoted, IsTurn, IsOf, IsRefused, IsDown, counted_in, without_trans, ended, refused_answer};
+ghost use Rattle.alp_calls.specs.Parts.{IsPart};
+ghost use Rattle.alp_node.specs.Releases.{grant_acts, granted_behind};
+ghost use Rattle.alp_node.specs.Waits.{has_waiting};
+ghost use Rattle.alp_node.specs.Steps.{IsStep, IsStepAs, IsNoted, IsTurn, IsOf, IsRefused, IsDown, counted_in, ended, refused_answer};
 
 use crate::answer::Answer;
 use crate::server_state::ServerState;
@@ -45,34 +48,23 @@ fn decision(alloc: Global, stamp: Stamp) -> Act
     }
 }
 
-// The act by which a part is gone.
-fn released(alloc: Global, trans: TransId) -> Result<Acts, OutOfMemory>
-    ensures { IfOk result (λ acts. acts ≡ act.Released trans ∷ []) }
-{
-    let acts = vec![in alloc; Act::Released { trans }]?;
-    Ok(Acts::new(acts))
-}
-
 impl<V: Vault> ServerState<V> {
-    // The transaction is live no more, and its locks go.
-    fn forget(&mut self, trans: TransId)
-        ensures { self.new ≡ without_trans self.old trans }
-    {
-        self.lives.remove(&trans);
-        self.locks.release_all(trans);
-    }
-
     // The part ends without effect, its client is told why, and nothing of it is to be told any more.
-    fn end(&mut self, turn: &Turn, trans: TransId, cause: Cause, acts: Acts) -> Answer
+    fn end(&mut self, turn: &Turn, trans: TransId, cause: Cause, mut acts: Vec<Act>) -> Answer
         requires client { turn.now.client ≤ 16 }
+        requires room { length acts.items + length self.old.locks.waiting ≤ vec_capacity acts }
+        requires none { self.old.locks.woken ≡ [] }
+        requires most { map.len self.old.lives ≤ 64 }
+        requires part { (t : TransId) (l : ALive) → map.get self.old.lives t ≡ Some l → IsPart l.part }
         ensures kept { self.new ≡ ended self.old turn.now trans (reply.Refused (refusal.Aborted cause)) }
-        ensures answer { result ≡ refused_answer (refusal.Aborted cause) acts }
+        ensures answer { result ≡ refused_answer (refusal.Aborted cause) (acts.items ++ grant_acts (granted_behind self.old trans)) }
     {
-        self.forget(trans);
+        self.release(trans, &mut acts);
+        self.waits.remove_of(turn.client, &trans);
         self.dead.remove(turn.client, trans);
         let refusal = Refusal::Aborted { cause };
         self.sessions.count(turn, Reply::Refused(refusal));
-        Answer::refused(refusal, acts)
+        Answer::refused(refusal, Acts::new(acts))
     }
 
     /// A live transaction of the client ends without effect, as its client asked.
@@ -84,7 +76,7 @@ impl<V: Vault> ServerState<V> {
         requires ready { IsReadyForMore (V.serves self.old.vault) self.old }
         ensures { IsStep V.Vault self.old self.new (event.Call turn.now.client self.old.epoch turn.now.number (call.Finish trans false)) result }
     {
-        let acts = released(self.alloc, trans)?;
+        let acts = self.released(trans)?;
         Ok(self.end(turn, trans, Cause::Asked, acts))
     }
 
@@ -94,8 +86,10 @@ impl<V: Vault> ServerState<V> {
         requires dead { standing_of turn.now.client (map.get self.old.lives trans) (is_dead turn.now.client trans self.old.dead) ≡ standing.Dead }
         requires here { trans.server ≡ self.old.server }
         requires up { self.old.is_down ≡ false }
+        requires ready { IsReadyForMore (V.serves self.old.vault) self.old }
         ensures { IsStep V.Vault self.old self.new (event.Call turn.now.client self.old.epoch turn.now.number (call.Finish trans commit)) (Ok result) }
     {
+        self.waits.remove_of(turn.client, &trans);
         self.dead.remove(turn.client, trans);
         let cause = Cause::TimedOut;
         self.refuse(turn, Refusal::Aborted { cause })
@@ -104,23 +98,24 @@ impl<V: Vault> ServerState<V> {
     /// Time runs out for a transaction: where it is live it ends without effect, and its client is to be told.
     pub fn time_out(&mut self, trans: TransId) -> Result<Answer, OutOfMemory>
         requires up { self.old.is_down ≡ false }
-        requires alone { self.old.locks.waiting ≡ [] }
+        requires ready { IsReadyForMore (V.serves self.old.vault) self.old }
         ensures { IsStepAs V.Vault None self.old self.new (event.Timeout trans) result }
     {
         let Some(live) = self.lives.get(&trans) else {
             return Ok(Answer::silence(Acts::new(Vec::new(self.alloc))));
         };
         let client = live.client;
-        let acts = Acts::new(vec![in self.alloc; Act::Released { trans }]?);
+        let mut acts = self.released(trans)?;
         self.dead.add(client, trans)?;
-        self.forget(trans);
-        Ok(Answer::silence(acts))
+        self.release(trans, &mut acts);
+        Ok(Answer::silence(Acts::new(acts)))
     }
 
     /// A live transaction of the client is committed, or this server's own vote is against it at the end of the clock.
     pub fn commit(&mut self, turn: &Turn, trans: TransId) -> Result<Answer, OutOfMemory>
         requires turn { IsTurn self.old.sessions turn.now }
         requires own { IsOf turn.now.client (map.get self.old.lives trans) }
+        requires idle { has_waiting turn.now.client trans self.old.waits ≡ false }
         requires here { trans.server ≡ self.old.server }
         requires up { self.old.is_down ≡ false }
         requires ready { IsReadyForMore (V.serves self.old.vault) self.old }
@@ -131,7 +126,7 @@ impl<V: Vault> ServerState<V> {
         ensures { IsStep V.Vault self.old self.new (event.Call turn.now.client self.old.epoch turn.now.number (call.Finish trans true)) result }
     {
         if self.clock >= CLOCK_END {
-            let acts = released(self.alloc, trans)?;
+            let acts = self.released(trans)?;
             return Ok(self.end(turn, trans, against(self.server, Why::ClockEnd), acts));
         }
         self.decide(turn, trans)
@@ -141,6 +136,7 @@ impl<V: Vault> ServerState<V> {
     fn decide(&mut self, turn: &Turn, trans: TransId) -> Result<Answer, OutOfMemory>
         requires turn { IsTurn self.old.sessions turn.now }
         requires own { IsOf turn.now.client (map.get self.old.lives trans) }
+        requires idle { has_waiting turn.now.client trans self.old.waits ≡ false }
         requires here { trans.server ≡ self.old.server }
         requires up { self.old.is_down ≡ false }
         requires ready { IsReadyForMore (V.serves self.old.vault) self.old }
@@ -157,12 +153,11 @@ impl<V: Vault> ServerState<V> {
             ts: self.clock + 1,
             trans,
         };
-        let decided = decision(self.alloc, stamp);
-        let acts = Acts::new(vec![in self.alloc; decided, Act::Released { trans }]?);
+        let mut acts = Vec::with_capacity(self.alloc, self.locks.waiters() + 2)?;
+        acts.push_reserved(decision(self.alloc, stamp));
+        acts.push_reserved(Act::Released { trans });
         let mut halted = Vec::with_capacity(self.alloc, 2)?;
         halted.push_reserved(decision(self.alloc, stamp));
-        let reply = Reply::Committed { stamp };
-        let answer = Answer::new(&reply, acts)?;
         let Some(live) = self.lives.get(&trans) else {
             unreachable!()
         };
@@ -177,12 +172,12 @@ impl<V: Vault> ServerState<V> {
             Err(StoreFault::Stopped) => return Ok(self.halt(Act::Stopped, halted)),
             Err(StoreFault::OutOfMemory) => return Err(OutOfMemory),
         }
-        self.forget(trans);
+        self.release(trans, &mut acts);
         self.ease_all(others.as_slice(), blocks.as_slice());
         self.clock = stamp.ts;
         self.committed += 1;
-        self.sessions.count(turn, reply);
-        Ok(answer)
+        self.sessions.count(turn, Reply::Committed { stamp });
+        Ok(Answer::committed(stamp, Acts::new(acts)))
     }
 
     /// The vault gave no answer in a file call: a read failed, and the server goes on, or the vault was stopped, and the server is

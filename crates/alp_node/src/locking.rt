@@ -3,6 +3,7 @@ ghost use Rattle.std.specs.Prelude.{◌≡◌, ◌+◌, ◌<◌, ◌^◌, [], Is
 ghost use Rattle.std.specs.FinMap as map;
 ghost use Rattle.alp_files.specs.Locks.{IsFormed};
 ghost use Rattle.alp_locks.specs.Sound.{IsPrepared};
+ghost use Rattle.alp_locks.specs.Asks.{blocker as blocking};
 ghost use Rattle.alp_locks.specs.Tables.{holding};
 ghost use Rattle.alp_journal.specs.declared.event.Event.TheVariants as event;
 ghost use Rattle.alp_journal.specs.Desk.{file_trans};
@@ -12,14 +13,16 @@ ghost use Rattle.alp_node.specs.Served.{AreLivesSound};
 ghost use Rattle.alp_node.specs.Steps.{IsStep, IsTurn, IsOf};
 ghost use Rattle.alp_node.specs.declared.lives.Live.{Live as ALive};
 ghost use Rattle.alp_node.specs.Calls.{IsServedCall, next_file};
-ghost use Rattle.alp_node.specs.Shapes.{shape_of};
+ghost use Rattle.alp_node.specs.Shapes.{shape_of, counts_then, too_locked as too_locked_said, may_wait as may_wait_of, ReadsSome};
+ghost use Rattle.alp_node.specs.Waits.{has_waiting};
 
 use crate::answer::Answer;
 use crate::asks::asks_made;
-use crate::lock_counts::too_locked;
+use crate::lock_counts::{LockCounts, too_locked};
 use crate::server_state::ServerState;
 use crate::sessions::Turn;
-use alp_base::{OutOfMemory, TransId};
+use crate::waits::{WaitingCall, copy_of};
+use alp_base::{Choice, OutOfMemory, TransId};
 use alp_files::{Call, Refusal};
 use alp_journal::{Act, Acts};
 use alp_locks::Plan;
@@ -40,11 +43,13 @@ impl<V: Vault> ServerState<V> {
     ) -> Result<Answer, OutOfMemory>
         requires turn { IsTurn self.old.sessions turn.now }
         requires own { IsOf turn.now.client (map.get self.old.lives trans) }
+        requires idle { has_waiting turn.now.client trans self.old.waits ≡ false }
         requires up { self.old.is_down ≡ false }
         requires ready { IsReadyForMore (V.serves self.old.vault) self.old }
         requires served { IsServedCall call.now }
         requires named { file_trans call.now ≡ Some trans }
         requires formed { IsFormed call.now }
+        requires some { ReadsSome call.now }
         requires known { IsTrue (V.tells self.old.vault) → IsOfJournal (V.held self.old.vault) self.old }
         requires sound { IsTrue (V.tells self.old.vault) → AreLivesSound (V.held self.old.vault) self.old }
         requires shape { (l : ALive) → map.get self.old.lives trans ≡ Some l → shape_of self.old.server self.old.epoch self.old.given (length l.part.opens.items) call.now ≡ None }
@@ -62,7 +67,7 @@ impl<V: Vault> ServerState<V> {
         }
         let asked = self.locks.plan(trans, needs)?;
         if let Some(holder) = self.locks.in_way_of(&asked) {
-            return Ok(self.refuse(turn, Refusal::LockConflict { holder }));
+            return self.block(turn, trans, call, (counts, asked), holder);
         }
         let acts = granted(self.alloc, trans, &asked)?;
         match self.perform(trans, call, counts, acts) {
@@ -75,8 +80,52 @@ impl<V: Vault> ServerState<V> {
         }
     }
 
+    // Another stands in the way of the call, which waits or is refused, as it chose.
+    fn block(
+        &mut self,
+        turn: &Turn,
+        trans: TransId,
+        call: &Call,
+        asked: (LockCounts, Plan),
+        holder: TransId,
+    ) -> Result<Answer, OutOfMemory>
+        requires turn { IsTurn self.old.sessions turn.now }
+        requires own { IsOf turn.now.client (map.get self.old.lives trans) }
+        requires idle { has_waiting turn.now.client trans self.old.waits ≡ false }
+        requires up { self.old.is_down ≡ false }
+        requires ready { IsReadyForMore (V.serves self.old.vault) self.old }
+        requires named { file_trans call.now ≡ Some trans }
+        requires formed { IsFormed call.now }
+        requires some { ReadsSome call.now }
+        requires shape { (l : ALive) → map.get self.old.lives trans ≡ Some l → shape_of self.old.server self.old.epoch self.old.given (length l.part.opens.items) call.now ≡ None }
+        requires asked { (l : ALive) → map.get self.old.lives trans ≡ Some l → IsAsked (V.tells self.old.vault) (V.held self.old.vault).cells (holding self.old.locks.held trans) l.part call.now asked.1.needs }
+        requires counts { (l : ALive) → map.get self.old.lives trans ≡ Some l → asked.0 ≡ counts_then l.locks (holding self.old.locks.held trans) asked.1.needs call.now }
+        requires few { (l : ALive) → map.get self.old.lives trans ≡ Some l → too_locked_said self.old.sizes.area l.part.counts.cells asked.0.made ≡ None }
+        requires plan { asked.1 ≡ plan_of self.old.locks trans asked.1.needs }
+        requires blocked { blocking self.old.locks.held trans asked.1.rises ≡ Some holder }
+        ensures { IsStep V.Vault self.old self.new (event.Call turn.now.client self.old.epoch turn.now.number call.now) result }
+    {
+        if !may_wait(call) {
+            return Ok(self.refuse(turn, Refusal::LockConflict { holder }));
+        }
+        let waiting = WaitingCall {
+            client: turn.client,
+            number: turn.number,
+            trans,
+            call: copy_of(call)?,
+            counts: asked.0,
+            is_granted: false,
+        };
+        self.waits.push(waiting)?;
+        if self.locks.wait(asked.1).is_err() {
+            self.waits.take_back();
+            return Err(OutOfMemory);
+        }
+        Ok(self.refuse(turn, Refusal::NotYet))
+    }
+
     // The plan of what is asked with the lock on the file that the call makes, if it makes one.
-    fn plan_made(
+    pub(super) fn plan_made(
         &self,
         trans: TransId,
         call: &Call,
@@ -109,6 +158,26 @@ impl<V: Vault> ServerState<V> {
             Some(made) => self.locks.take(made),
             None => self.locks.take(asked),
         }
+    }
+}
+
+// Whether the call waits where another is in its way.
+fn may_wait(call: &Call) -> bool
+    ensures { result ≡ may_wait_of call.now }
+{
+    match call {
+        Call::CreateFile { choice, .. }
+        | Call::OpenFile { choice, .. }
+        | Call::DeleteFile { choice, .. }
+        | Call::ReadPages { choice, .. }
+        | Call::WritePages { choice, .. }
+        | Call::LockPages { choice, .. }
+        | Call::SetSize { choice, .. }
+        | Call::WriteProps { choice, .. }
+        | Call::ReadOwner { choice, .. }
+        | Call::MakeOwner { choice, .. }
+        | Call::SetQuota { choice, .. } => *choice == Choice::Wait,
+        _ => false,
     }
 }
 

@@ -5,6 +5,7 @@ ghost use Rattle.alp_files.specs.Locks.{IsFormed};
 ghost use Rattle.alp_journal.specs.declared.event.Event.TheVariants as event;
 ghost use Rattle.alp_journal.specs.Desk.{file_trans};
 ghost use Rattle.alp_node.specs.Calls.{IsServedCall};
+ghost use Rattle.alp_node.specs.Shapes.{ReadsSome};
 ghost use Rattle.alp_node.specs.ServerState.{IsReadyForMore, IsOfJournal};
 ghost use Rattle.alp_node.specs.Dead.{is_dead};
 ghost use Rattle.alp_node.specs.Standings.{standing_of};
@@ -55,6 +56,7 @@ impl<V: Vault> ServerState<V> {
         requires served { IsServedCall call.now }
         requires named { file_trans call.now ≡ Some trans }
         requires formed { IsFormed call.now }
+        requires some { ReadsSome call.now }
         requires ready { IsReadyForMore (V.serves self.old.vault) self.old }
         requires known { IsTrue (V.tells self.old.vault) → IsOfJournal (V.held self.old.vault) self.old }
         requires sound { IsTrue (V.tells self.old.vault) → AreLivesSound (V.held self.old.vault) self.old }
@@ -71,6 +73,9 @@ impl<V: Vault> ServerState<V> {
                 ));
             }
             Standing::Unknown => return Ok(self.refuse(turn, Refusal::UnknownTrans)),
+        }
+        if self.waits.has(turn.client, &trans) {
+            return Ok(self.refuse(turn, Refusal::NotYet));
         }
         let Some(live) = self.lives.get(&trans) else {
             unreachable!()

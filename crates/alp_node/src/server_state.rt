@@ -2,6 +2,7 @@
 use crate::dead::Dead;
 use crate::lives::Lives;
 use crate::sessions::Sessions;
+use crate::waits::Waits;
 use alp_base::Sizes;
 use alp_locks::LockTable;
 use alp_vault::Vault;
@@ -22,8 +23,10 @@ pub struct ServerState<V: Vault> {
     pub committed: u32,
     pub sessions: Sessions,
     pub lives: Lives,
-    /// Parts that timed out, and whose clients do not know yet.
+    /// Parts that timed out, each up to its client's `Finish` of it or next `Begin`.
     pub dead: Dead,
+    /// Calls that wait for their locks, or have them and are not collected.
+    pub waits: Waits,
     pub locks: LockTable,
     pub vault: V,
     /// Whether the vault was stopped in a step, or failed in the commit of one.

@@ -21,6 +21,7 @@ use crate::opened::Opened;
 use crate::server_state::ServerState;
 use crate::sessions::Sessions;
 use crate::stored::{StoreFault, store};
+use crate::waits::Waits;
 use alp_base::VaultFault;
 use alp_calls::are_server_notes;
 use alp_fields::{ClockNote, clock_note_name, read_clock};
@@ -143,6 +144,7 @@ impl<V: Vault> Node<V> {
             sessions: Sessions::new(),
             lives: Lives::new(alloc),
             dead: Dead::new(alloc),
+            waits: Waits::new(alloc),
             locks: LockTable::new(alloc),
             vault,
             is_down: false,

@@ -6,11 +6,12 @@ ghost use Rattle.std.specs.FinMap.{find};
 ghost use Rattle.alp_base.specs.Orders.{resource_cmp};
 ghost use Rattle.alp_queue.specs.Rises.{wanted_of};
 ghost use Rattle.alp_queue.specs.Trees.{AreRising};
+ghost use Rattle.alp_queue.specs.Reach.{reach_of, disagrees_with};
 
 use crate::tree::{Tree, get, look_up, put_all, share};
 use crate::{Modes, Wanted};
 use alp_base::{OutOfMemory, Resource};
-use alp_modes::Mode;
+use alp_modes::{Mode, agrees, join};
 use std::alloc::Global;
 use std::marker::Model;
 
@@ -20,6 +21,8 @@ use std::marker::Model;
 pub struct Locks {
     alloc: Global,
     tree: Tree,
+    // Covers each mode that is here.
+    reach: Option<Mode>,
 }
 
 impl Model for Locks {
@@ -28,7 +31,9 @@ impl Model for Locks {
     ghost use Rattle.alp_modes.specs.declared.Mode.{Mode as TheMode};
     ghost use Rattle.alp_base.specs.contracts.key.Resource as resource_type;
     ghost use Rattle.alp_modes.specs.contracts.Mode as mode_type;
+    ghost use Rattle.std.specs.FinMap.{find};
     ghost use Rattle.alp_queue.specs.Trees.{entries, AreRising};
+    ghost use Rattle.alp_queue.specs.Reach.{IsReach};
 
     ghost Value = { map.FinMap resource_cmp TheMode };
 
@@ -36,7 +41,7 @@ impl Model for Locks {
 
     ghost view = { λ l. map.from_sorted (entries l.tree) };
 
-    ghost invariant = { λ l. AreRising (entries l.tree) };
+    ghost invariant = { λ l. AreRising (entries l.tree) × IsReach l.reach (λ r. find resource_cmp r (entries l.tree)) };
 }
 
 impl Locks {
@@ -47,6 +52,7 @@ impl Locks {
         Locks {
             alloc,
             tree: Tree::Empty,
+            reach: None,
         }
     }
 
@@ -57,6 +63,17 @@ impl Locks {
         get(&self.tree, resource)
     }
 
+    /// Whether a mode is here on that resource that does not agree with this one. It is not looked up where all that is here
+    /// agrees with it.
+    pub fn disagrees_on(&self, resource: &Resource, mode: Mode) -> bool
+        ensures { result ≡ disagrees_with mode (map.get self.now resource.now) }
+    {
+        if !disagrees(self.reach, mode) {
+            return false;
+        }
+        disagrees(self.get(resource), mode)
+    }
+
     /// The same locks once more, which copies none of them.
     pub fn share(&self) -> Result<Locks, OutOfMemory>
         ensures { IfOk result (λ l. l ≡ self.now) }
@@ -65,6 +82,7 @@ impl Locks {
         Ok(Locks {
             alloc: self.alloc,
             tree,
+            reach: self.reach,
         })
     }
 
@@ -88,6 +106,32 @@ impl Locks {
         Ok(Locks {
             alloc: self.alloc,
             tree,
+            reach: reached(self.reach, modes),
         })
     }
+}
+
+// Whether there is a mode that does not agree with this one.
+fn disagrees(held: Option<Mode>, mode: Mode) -> bool
+    ensures { result ≡ disagrees_with mode held }
+{
+    match held {
+        Some(held) => !agrees(held, mode),
+        None => false,
+    }
+}
+
+// The mode that covers all of these, and what that one covers.
+fn reached(reach: Option<Mode>, modes: &[(Resource, Mode)]) -> Option<Mode>
+    ensures { result ≡ reach_of reach modes.now }
+{
+    let mut reach = reach;
+    for (_, mode) in modes {
+        let most = match reach {
+            Some(before) => join(before, *mode),
+            None => *mode,
+        };
+        reach = Some(most);
+    }
+    reach
 }

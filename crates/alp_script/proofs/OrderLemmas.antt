@@ -7,7 +7,7 @@ use Rattle.std.proofs.lemmas.Map.Views.{Contains-from_any}
 use Rattle.std.proofs.lemmas.Option.{same_Some}
 use Rattle.alp_lines.specs.Named.{client_named, server_named}
 use Rattle.alp_script.specs.Known.{Known}
-use Rattle.alp_script.specs.Order.{is_one, is_client, names_ours, is_among, is_known, is_declared, after_servers, after_setting, after_volume, after_client, after_file, after, next}
+use Rattle.alp_script.specs.Order.{is_one, is_client, names_ours, is_among, is_known, is_declared, after_servers, after_setting, after_timeout, after_volume, after_client, after_file, after, next}
 use Rattle.alp_lines.specs.Forms.{IsForm}
 use Rattle.alp_lines.specs.Forms as form
 use Rattle.alp_script.specs.Accepted.{declared_by}
@@ -65,26 +65,29 @@ same_clients k x t more e same = same ∙ ap (λ (y : Known). y.clients) e
 
 -- the declared clients are those of before and the one that the line declares
 pub clients_after : (k t : Known) (l : Line) → IsForm l → after k l ≡ Some t → k.clients ++ declared_by l ≡ t.clients
-unfolding after after_servers after_setting after_volume after_client after_file
+unfolding after after_servers after_setting after_timeout after_volume after_client after_file
 clients_after k t l (form.servers count) h = same_clients k _ t [] ((tested _ _ t h).1) (append-nil k.clients)
 clients_after k t l (form.volume server home area limits) h = same_clients k _ t [] ((tested _ _ t h).1) (append-nil k.clients)
 clients_after k t l (form.client number name) h = same_clients k _ t (number ∷ []) ((tested _ _ t h).1) refl
 clients_after k t l (form.patience count some few) h = same_clients k _ t [] ((tested _ _ t h).1) (append-nil k.clients)
+clients_after k t l (form.auto_said on) h = same_clients k _ t [] ((tested _ _ t h).1) (append-nil k.clients)
+clients_after k t l (form.timeout server number most) h = same_clients k _ t [] ((tested _ _ t h).1) (append-nil k.clients)
 clients_after k t l (form.begin number server) h = same_clients k _ t [] (same_Some _ t h) (append-nil k.clients)
 clients_after k t l (form.commit number) h = same_clients k _ t [] (same_Some _ t h) (append-nil k.clients)
 clients_after k t l (form.abort number) h = same_clients k _ t [] (same_Some _ t h) (append-nil k.clients)
+clients_after k t l (form.collect number) h = same_clients k _ t [] (same_Some _ t h) (append-nil k.clients)
 clients_after k t l (form.repeat number) h = same_clients k _ t [] (same_Some _ t h) (append-nil k.clients)
 clients_after k t l (form.old number) h = same_clients k _ t [] (same_Some _ t h) (append-nil k.clients)
-clients_after k t l (form.owner number server name quota create few) h = same_clients k _ t [] (same_Some _ t h) (append-nil k.clients)
-clients_after k t l (form.read_owner number server name) h = same_clients k _ t [] (same_Some _ t h) (append-nil k.clients)
-clients_after k t l (form.quota number server name quota) h = same_clients k _ t [] (same_Some _ t h) (append-nil k.clients)
-clients_after k t l (form.create number server word name size read modify small few_read few_modify) h = same_clients k _ t [] (same_Some _ t h) (append-nil k.clients)
-clients_after k t l (form.open_file number file purpose lock) h = same_clients k _ t [] ((tested _ _ t h).1) (append-nil k.clients)
+clients_after k t l (form.owner number server name quota create wish few) h = same_clients k _ t [] (same_Some _ t h) (append-nil k.clients)
+clients_after k t l (form.read_owner number server name wish) h = same_clients k _ t [] (same_Some _ t h) (append-nil k.clients)
+clients_after k t l (form.quota number server name quota wish) h = same_clients k _ t [] (same_Some _ t h) (append-nil k.clients)
+clients_after k t l (form.create number server word name size read modify wish small few_read few_modify) h = same_clients k _ t [] (same_Some _ t h) (append-nil k.clients)
+clients_after k t l (form.open_file number file purpose lock wish) h = same_clients k _ t [] ((tested _ _ t h).1) (append-nil k.clients)
 clients_after k t l (form.close number file) h = same_clients k _ t [] ((tested _ _ t h).1) (append-nil k.clients)
-clients_after k t l (form.delete number file) h = same_clients k _ t [] ((tested _ _ t h).1) (append-nil k.clients)
-clients_after k t l (form.write number file run text few short) h = same_clients k _ t [] ((tested _ _ t h).1) (append-nil k.clients)
-clients_after k t l (form.read number file run lock few fit) h = same_clients k _ t [] ((tested _ _ t h).1) (append-nil k.clients)
-clients_after k t l (form.lock number file run lock few fit) h = same_clients k _ t [] ((tested _ _ t h).1) (append-nil k.clients)
-clients_after k t l (form.size number file size small) h = same_clients k _ t [] ((tested _ _ t h).1) (append-nil k.clients)
+clients_after k t l (form.delete number file wish) h = same_clients k _ t [] ((tested _ _ t h).1) (append-nil k.clients)
+clients_after k t l (form.write number file run text wish few short) h = same_clients k _ t [] ((tested _ _ t h).1) (append-nil k.clients)
+clients_after k t l (form.read number file run lock wish few fit) h = same_clients k _ t [] ((tested _ _ t h).1) (append-nil k.clients)
+clients_after k t l (form.lock number file run lock wish few fit) h = same_clients k _ t [] ((tested _ _ t h).1) (append-nil k.clients)
+clients_after k t l (form.size number file size wish small) h = same_clients k _ t [] ((tested _ _ t h).1) (append-nil k.clients)
 clients_after k t l (form.props number file) h = same_clients k _ t [] ((tested _ _ t h).1) (append-nil k.clients)
-clients_after k t l (form.change number file change formed) h = same_clients k _ t [] ((tested _ _ t h).1) (append-nil k.clients)
+clients_after k t l (form.change number file change wish formed) h = same_clients k _ t [] ((tested _ _ t h).1) (append-nil k.clients)

@@ -25,24 +25,27 @@ form_fits server l (form.servers count) = tt
 form_fits server l (form.volume number home area limits) = when_fits (number == server) (record { home = home; area = area }) limits
 form_fits server l (form.client number name) = tt
 form_fits server l (form.patience count some few) = tt
+form_fits server l (form.auto_said on) = tt
+form_fits server l (form.timeout number client most) = tt
 form_fits server l (form.begin number at) = tt
 form_fits server l (form.commit number) = tt
 form_fits server l (form.abort number) = tt
+form_fits server l (form.collect number) = tt
 form_fits server l (form.repeat number) = tt
 form_fits server l (form.old number) = tt
-form_fits server l (form.owner number at name quota create few) = tt
-form_fits server l (form.read_owner number at name) = tt
-form_fits server l (form.quota number at name quota) = tt
-form_fits server l (form.create number at word name size read modify small few_read few_modify) = tt
-form_fits server l (form.open_file number file purpose lock) = tt
+form_fits server l (form.owner number at name quota create wish few) = tt
+form_fits server l (form.read_owner number at name wish) = tt
+form_fits server l (form.quota number at name quota wish) = tt
+form_fits server l (form.create number at word name size read modify wish small few_read few_modify) = tt
+form_fits server l (form.open_file number file purpose lock wish) = tt
 form_fits server l (form.close number file) = tt
-form_fits server l (form.delete number file) = tt
-form_fits server l (form.write number file run text few short) = tt
-form_fits server l (form.read number file run lock few fit) = tt
-form_fits server l (form.lock number file run lock few fit) = tt
-form_fits server l (form.size number file size small) = tt
+form_fits server l (form.delete number file wish) = tt
+form_fits server l (form.write number file run text wish few short) = tt
+form_fits server l (form.read number file run lock wish few fit) = tt
+form_fits server l (form.lock number file run lock wish few fit) = tt
+form_fits server l (form.size number file size wish small) = tt
 form_fits server l (form.props number file) = tt
-form_fits server l (form.change number file change formed) = tt
+form_fits server l (form.change number file change wish formed) = tt
 
 or_new : (said : Option Sizes) → Fits said → AreInLimits (unwrap_or said new_sizes)
 or_new None fits = record { home_least = omega arith; home_most = omega arith; area_least = omega arith; area_most = omega arith }

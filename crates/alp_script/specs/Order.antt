@@ -56,6 +56,10 @@ after_servers k count = when (not k.servers && count == 1) (record k { servers =
 unfoldable pub after_setting : Known → Option Known
 after_setting k = when k.servers k
 
+-- a client of the run may time out at the one server, wherever both are declared
+unfoldable pub after_timeout : Known → ℕ → ℕ → Option Known
+after_timeout k server client = when (k.servers && server == 1 && is_among k.clients client) k
+
 -- a client, of whatever principal, is declared once and before the first line of a client
 unfoldable pub after_client : Known → ℕ → Option Known
 after_client k client = when (k.servers && not k.begun && not (is_among k.clients client)) (record k { clients = k.clients ++ client ∷ [] })
@@ -81,9 +85,12 @@ after k (line.Servers count) = after_servers k count
 after k (line.Volume server home area) = after_volume k
 after k (line.Client client name) = after_client k client
 after k (line.Patience count) = after_setting k
+after k (line.Auto on) = after_setting k
+after k (line.Timeout server client) = after_timeout k server client
 after k (line.Begin client server) = Some (after_call k)
 after k (line.Commit client) = Some (after_call k)
 after k (line.Abort client) = Some (after_call k)
+after k (line.Collect client) = Some (after_call k)
 after k (line.Repeat client) = Some (after_call k)
 after k (line.Old client) = Some (after_call k)
 after k (line.Create client server word owner size read modify choice) = Some (after_create k word)

@@ -2,7 +2,7 @@
 ghost use Rattle.std.specs.Prelude.{◌≡◌, Some};
 ghost use Rattle.alp_tokens.specs.Telling.{TellsBy};
 ghost use Rattle.alp_script.specs.Known.{nothing_known};
-ghost use Rattle.alp_script.specs.Order.{is_one as is_one_said, is_client as is_client_said, names_ours as names_ours_said, is_known as is_known_said, is_declared as is_declared_said, is_bound as is_bound_said, after_servers, after_setting, after_volume, after_client, after_call, after_create, after_file, after, next as next_said};
+ghost use Rattle.alp_script.specs.Order.{is_one as is_one_said, is_client as is_client_said, names_ours as names_ours_said, is_known as is_known_said, is_declared as is_declared_said, is_bound as is_bound_said, after_servers, after_setting, after_timeout, after_volume, after_client, after_call, after_create, after_file, after, next as next_said};
 
 use alp_base::{CLIENTS, Name};
 use alp_lines::{FileWord, Line};
@@ -117,6 +117,17 @@ impl Context {
         Ok(())
     }
 
+    #[tactic(auto, unfolding(crate::specs::Order::after_timeout))]
+    fn take_timeout(&mut self, server: u8, client: u8) -> Result<(), LineFault>
+        ensures { TellsBy (λ _. self.new) result (after_timeout self.old server client) }
+    {
+        let declared = self.clients.contains(&client);
+        if !self.servers || server != 1 || !declared {
+            return Err(LineFault::Outside);
+        }
+        Ok(())
+    }
+
     #[tactic(auto, unfolding(crate::specs::Order::after_volume))]
     fn take_volume(&mut self) -> Result<(), LineFault>
         ensures { TellsBy (λ _. self.new) result (after_volume self.old) }
@@ -173,9 +184,10 @@ impl Context {
             Line::Servers { count } => self.take_servers(*count),
             Line::Volume { .. } => self.take_volume(),
             Line::Client { client, .. } => self.take_client(*client),
-            Line::Patience { .. } => self.take_setting(),
+            Line::Patience { .. } | Line::Auto { .. } => self.take_setting(),
+            Line::Timeout { server, client } => self.take_timeout(*server, *client),
             Line::Begin { .. } | Line::Commit { .. } | Line::Abort { .. } => self.take_call(),
-            Line::Repeat { .. } | Line::Old { .. } => self.take_call(),
+            Line::Collect { .. } | Line::Repeat { .. } | Line::Old { .. } => self.take_call(),
             Line::Create { word, .. } => self.take_create(word),
             Line::OpenFile { file, .. } => self.take_file(file),
             Line::CloseFile { file, .. } => self.take_file(file),

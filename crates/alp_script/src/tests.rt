@@ -125,7 +125,7 @@ fn refuses_wrong_file_lines(rt: HostRuntime) -> Result<(), Fail> {
         b"1 lock 2.1.1 0 1 r",
         b"1 open F read x",
         b"1 open F read",
-        b"1 open F read r wait",
+        b"1 open F read r wait wait",
         b"1 read F 0 256",
         b"1 lock F 0 1 iw",
     ];
@@ -151,6 +151,25 @@ fn patience_stands_behind_the_servers(rt: HostRuntime) -> Result<(), Fail> {
     let often =
         b"servers 1\npatience 3\nclient 1 bob\npatience 1\nclient 2 ann\n2 begin 1\npatience 2\n";
     assert_eq!(rt; count(alloc, often), Ok(7usize));
+    Ok(())
+}
+
+// A line that ends a transaction names a client and the server that were declared, and is no line of a client.
+#[test]
+fn timeouts_stand_behind_their_clients(rt: HostRuntime) -> Result<(), Fail> {
+    let alloc = rt.alloc();
+    let text =
+        b"servers 1\nauto off\nclient 1 bob\ntimeout 1 1\nclient 2 ann\n2 begin 1\n2 collect\nauto on\ntimeout 1 2\n";
+    assert_eq!(rt; count(alloc, text), Ok(9usize));
+    let cases: [(&[u8], u32); 4] = [
+        (b"auto on\nservers 1\n", 1),
+        (b"servers 1\ntimeout 1 1\nclient 1 bob\n", 2),
+        (b"servers 1\nclient 1 bob\ntimeout 2 1\n", 3),
+        (b"servers 1\nclient 1 bob\n1 collect\nclient 2 ann\n", 4),
+    ];
+    for (text, line) in cases {
+        assert_eq!(rt; count(alloc, text), Err(ScriptFault::Bad { line }));
+    }
     Ok(())
 }
 

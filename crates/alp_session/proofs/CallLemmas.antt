@@ -14,10 +14,11 @@ use Rattle.alp_modes.specs.declared.Mode.TheVariants as mode
 use Rattle.alp_rpc.specs.Calls.{is_run_mode, IsSendable}
 use Rattle.alp_rpc.specs.Frames as frames
 use Rattle.alp_session.specs.Maps.{WordMap}
-use Rattle.alp_session.specs.Calls.{owner_call, making_call, props_call, file_call, page_call, call_in, call_with, call_by, IsAskable}
+use Rattle.alp_session.specs.Calls.{owner_call, making_call, props_call, file_call, page_call, call_in, call_with, collect_of, call_by, IsAskable}
 use Rattle.alp_session.specs.Frames.{request_in}
 use Rattle.alp_session.specs.declared.client.Client.{Client}
 use Rattle.alp_session.specs.declared.client.Greeted.{Greeted}
+use Rattle.alp_session.specs.declared.waiting.Waiting.{Waiting}
 
 -- a call, if any, that has a frame
 abbrev Sendable : Option Call → Type 0
@@ -60,8 +61,13 @@ with_trans : (words : WordMap) (c : Client) (o : Option TransId) (l : Line) → 
 with_trans words c None l h = tt
 with_trans words c (Some t) l h = in_trans words c t l h
 
+collect_sendable : (o : Option Waiting) → Sendable (collect_of o)
+collect_sendable None = tt
+collect_sendable (Some w) = tt
+
 pub call_sendable : (words : WordMap) (c : Client) (l : Line) → c.told.ts ≤ 2 ^ 62 → IsAskable l → Sendable (call_by words c l)
 call_sendable words c (line.Begin client server) told h = told
+call_sendable words c (line.Collect client) told h = collect_sendable c.waiting
 call_sendable words c l told h = with_trans words c c.trans l h
 
 -- and so have the requests of clients
@@ -85,21 +91,24 @@ form_askable l (form.servers count) = tt
 form_askable l (form.volume server home area limits) = tt
 form_askable l (form.client number name) = tt
 form_askable l (form.patience count some few) = tt
+form_askable l (form.auto_said on) = tt
+form_askable l (form.timeout server number most) = tt
 form_askable l (form.begin number server) = tt
 form_askable l (form.commit number) = tt
 form_askable l (form.abort number) = tt
+form_askable l (form.collect number) = tt
 form_askable l (form.repeat number) = tt
 form_askable l (form.old number) = tt
-form_askable l (form.owner number server name quota create few) = tt
-form_askable l (form.read_owner number server name) = tt
-form_askable l (form.quota number server name quota) = tt
-form_askable l (form.create number server word name size read modify small few_read few_modify) = tt
-form_askable l (form.open_file number file purpose lock) = tt
+form_askable l (form.owner number server name quota create wish few) = tt
+form_askable l (form.read_owner number server name wish) = tt
+form_askable l (form.quota number server name quota wish) = tt
+form_askable l (form.create number server word name size read modify wish small few_read few_modify) = tt
+form_askable l (form.open_file number file purpose lock wish) = tt
 form_askable l (form.close number file) = tt
-form_askable l (form.delete number file) = tt
-form_askable l (form.write number file run text run_formed text_formed) = (omega (arith, run_formed.some), omega (arith, text_formed.short))
-form_askable l (form.read number file run lock formed fit) = (omega (arith, formed.some), of_page_mode lock fit)
-form_askable l (form.lock number file run lock formed fit) = (omega (arith, formed.some), of_page_mode lock fit)
-form_askable l (form.size number file size small) = tt
+form_askable l (form.delete number file wish) = tt
+form_askable l (form.write number file run text wish run_formed text_formed) = (omega (arith, run_formed.some), omega (arith, text_formed.short))
+form_askable l (form.read number file run lock wish formed fit) = (omega (arith, formed.some), of_page_mode lock fit)
+form_askable l (form.lock number file run lock wish formed fit) = (omega (arith, formed.some), of_page_mode lock fit)
+form_askable l (form.size number file size wish small) = tt
 form_askable l (form.props number file) = tt
-form_askable l (form.change number file change formed) = tt
+form_askable l (form.change number file change wish formed) = tt

@@ -1,5 +1,5 @@
 -- what is spelled is read so, and the frames of a client stay requests of its own
-use Rattle.std.specs.Prelude.{Option, None, Some, IfSome}
+use Rattle.std.specs.Prelude.{Bool, true, false, Option, None, Some, IfSome}
 use Rattle.std.specs.Option.{option_map}
 use Rattle.std.proofs.Common.{◌≡◌, ℕ, ◌+◌, List, [], refl, sym, ◌∙◌, ap, subst, append-nil}
 use Rattle.alp_base.specs.declared.ids.FileId.{FileId}
@@ -21,10 +21,15 @@ use Rattle.alp_rpc.proofs.FrameLaws.{request_law, reply_frame_law}
 use Rattle.alp_session.specs.Maps.{WordMap}
 use Rattle.alp_session.specs.Calls.{call_by}
 use Rattle.alp_session.specs.Frames.{request_in, request_of, frame_of, told_by, read_as, sent_by, IsRequestOf, KeepsRequests}
-use Rattle.alp_session.specs.Heard.{left, told_refusal, created, opened, told_end, learned, greeted, heard_own, heard_again, keeps, heard}
+use Rattle.alp_session.specs.Heard.{left, told_refusal, created, opened, told_end, learned_reply, greeted, awaiting, called, opened_late, collected_reply, purpose_in, waits_on, collected, is_collect, answered, heard_own, heard_again, keeps, heard}
 use Rattle.alp_session.specs.declared.client.Client.{Client}
 use Rattle.alp_session.specs.declared.client.Greeted.{Greeted}
 use Rattle.alp_session.specs.declared.frames.Frames.{Frames}
+use Rattle.alp_session.specs.declared.waiting.Next.{Next}
+use Rattle.alp_session.specs.declared.waiting.Purpose.{Purpose}
+use Rattle.alp_session.specs.declared.waiting.Purpose.TheVariants as purpose
+use Rattle.alp_session.specs.declared.waiting.Settings.{Settings}
+use Rattle.alp_session.specs.declared.waiting.Waiting.{Waiting}
 
 -- all bytes of a spelling are read as what they spell
 whole_back : {T : Type 0} (form : Form T) → IsForm form → (v : T) → form.Fits v → whole form (form.spell v) ≡ Some v
@@ -91,23 +96,55 @@ opened_stays : (words : WordMap) (c : Client) (l : Line) (n : ℕ) → (opened w
 opened_stays words c (line.OpenFile client file access mode choice) n = refl
 opened_stays words c l n = refl
 
-learned_stays : (words : WordMap) (c : Client) (l : Line) (r : Option Reply) → (learned words c l r).frames ≡ c.frames
-learned_stays words c l None = refl
-learned_stays words c l (Some (reply.Created f n)) = created_stays c l f n
-learned_stays words c l (Some (reply.Opened n)) = opened_stays words c l n
-learned_stays words c l (Some (reply.Committed s)) = left_stays c l
-learned_stays words c l (Some (reply.Ended e)) = end_stays c e
-learned_stays words c l (Some (reply.Refused f)) = refusal_stays c l f
-learned_stays words c l (Some r) = refl
+learned_stays : (words : WordMap) (c : Client) (l : Line) (r : Reply) → (learned_reply words c l r).frames ≡ c.frames
+learned_stays words c l (reply.Created f n) = created_stays c l f n
+learned_stays words c l (reply.Opened n) = opened_stays words c l n
+learned_stays words c l (reply.Committed s) = left_stays c l
+learned_stays words c l (reply.Ended e) = end_stays c e
+learned_stays words c l (reply.Refused f) = refusal_stays c l f
+learned_stays words c l r = refl
 
 greeted_stays : (c : Client) (r : Option Reply) → (greeted c r).0.frames ≡ c.frames
 greeted_stays c None = refl
 greeted_stays c (Some (reply.Welcome epoch)) = refl
 greeted_stays c (Some r) = refl
 
-pub own_stays : (words : WordMap) (c : Client) (o : Option Greeted) (l : Line) (r : Option Reply) → (heard_own words c o l r).0.frames ≡ c.frames
-own_stays words c None l r = greeted_stays c r
-own_stays words c (Some g) l r = learned_stays words (record c { session = Some (record g { last = g.last + 1 }) }) l r
+awaiting_stays : (words : WordMap) (s : Settings) (c : Client) (number : ℕ) (l : Line) (o : Option Waiting) → (awaiting words s c number l o).0.frames ≡ c.frames
+awaiting_stays words s c number l None = refl
+awaiting_stays words s c number l (Some w) = refl
+
+called_stays : (words : WordMap) (s : Settings) (c : Client) (number : ℕ) (l : Line) (r : Reply) → (called words s c number l r).0.frames ≡ c.frames
+called_stays words s c number l (reply.Refused refusal.NotYet) = awaiting_stays words s c number l c.waiting
+called_stays words s c number l r = learned_stays words c l r
+
+opened_late_stays : (c : Client) (p : Purpose) (n : ℕ) → (opened_late c p n).frames ≡ c.frames
+opened_late_stays c (purpose.Open f) n = refl
+opened_late_stays c p n = refl
+
+late_stays : (c : Client) (p : Purpose) (l : Line) (r : Reply) → (collected_reply c p l r).frames ≡ c.frames
+late_stays c p l (reply.Created f n) = refl
+late_stays c p l (reply.Opened n) = opened_late_stays c p n
+late_stays c p l (reply.Committed s) = left_stays c l
+late_stays c p l (reply.Ended e) = end_stays c e
+late_stays c p l (reply.Refused f) = refusal_stays c l f
+late_stays c p l r = refl
+
+waits_on_stays : (s : Settings) (c : Client) (o : Option Waiting) → (waits_on s c o).0.frames ≡ c.frames
+waits_on_stays s c None = refl
+waits_on_stays s c (Some w) = refl
+
+collected_stays : (s : Settings) (c : Client) (l : Line) (r : Reply) → (collected s c l r).0.frames ≡ c.frames
+collected_stays s c l (reply.Refused refusal.NotYet) = waits_on_stays s c c.waiting
+collected_stays s c l r = late_stays c (purpose_in c.waiting) l r
+
+answered_stays : (words : WordMap) (s : Settings) (c : Client) (number : ℕ) (l : Line) (b : Bool) (r : Option Reply) → (answered words s c number l b r).0.frames ≡ c.frames
+answered_stays words s c number l b None = refl
+answered_stays words s c number l true (Some r) = collected_stays s c l r
+answered_stays words s c number l false (Some r) = called_stays words s c number l r
+
+pub own_stays : (words : WordMap) (s : Settings) (c : Client) (o : Option Greeted) (l : Line) (n : Next) (r : Option Reply) → (heard_own words s c o l n r).0.frames ≡ c.frames
+own_stays words s c None l n r = greeted_stays c r
+own_stays words s c (Some g) l n r = answered_stays words s (record c { session = Some (record g { last = g.last + 1 }) }) (g.last + 1) l (is_collect l n) r
 
 pub kept_as : (k : ℕ) (c d : Client) → d.frames ≡ c.frames → KeepsRequests k c → KeepsRequests k d
 kept_as k c d same kept = record {
@@ -118,7 +155,8 @@ kept_as k c d same kept = record {
 pub kept_more : (k : ℕ) (c d : Client) (frame : List ℕ) → d.frames ≡ c.frames → KeepsRequests k c → IsRequestOf k frame → KeepsRequests k (keeps d frame)
 kept_more k c d frame same kept asked = record { last = asked; before = subst (λ (f : Frames). IfSome f.last (IsRequestOf k)) (sym same) kept.last }
 
-pub keeps_requests : (words : WordMap) (k : ℕ) (c : Client) (l : Line) (frame : List ℕ) (r : Option Reply) → KeepsRequests k c → IsRequestOf k frame → KeepsRequests k (heard words c l frame r).0
-keeps_requests words k c (line.Repeat client) frame r kept asked = kept_as k c (heard_again c r) (again_stays c r) kept
-keeps_requests words k c (line.Old client) frame r kept asked = kept_as k c (heard_again c r) (again_stays c r) kept
-keeps_requests words k c l frame r kept asked = kept_more k c (heard_own words c c.session l r).0 frame (own_stays words c c.session l r) kept asked
+pub keeps_requests : (words : WordMap) (s : Settings) (k : ℕ) (c : Client) (l : Line) (n : Next) (frame : List ℕ) (r : Option Reply) → KeepsRequests k c → IsRequestOf k frame
+    → KeepsRequests k (heard words s c l n frame r).0
+keeps_requests words s k c (line.Repeat client) n frame r kept asked = kept_as k c (heard_again c r) (again_stays c r) kept
+keeps_requests words s k c (line.Old client) n frame r kept asked = kept_as k c (heard_again c r) (again_stays c r) kept
+keeps_requests words s k c l n frame r kept asked = kept_more k c (heard_own words s c c.session l n r).0 frame (own_stays words s c c.session l n r) kept asked

@@ -9,10 +9,10 @@ use Rattle.std.specs.FinMap as map
 use Rattle.std.specs.FinMap.{get-insert, get-remove, same_map}
 use Rattle.std.proofs.Common.{◌≡◌, ℕ, List, refl, sym, ◌∙◌, ap}
 use Rattle.std.proofs.lemmas.Map.Lookups.{CmpEqualImpliesEq, exact_bytes as bytes_exact}
-use Rattle.alp_base.specs.declared.ids.FileId.{FileId}
 use Rattle.alp_base.specs.contracts.ids.FileIdOrd.TheImpl.Laws as id_laws
 use Rattle.alp_base.specs.KeyLaws.{file_cmp, exact_files as ids_exact}
 use Rattle.alp_session.specs.Maps.{name_cmp, WordMap}
+use Rattle.alp_session.specs.declared.meaning.Meaning.{Meaning}
 
 pub nat_list_cmp_total : IsTotalOrder name_cmp
 nat_list_cmp_total = bytes_total
@@ -26,13 +26,13 @@ files_total = id_laws.total-law
 pub exact_files : CmpEqualImpliesEq file_cmp
 exact_files = ids_exact
 
--- ---- a word bound, and its id put back
+-- ---- a word bound, and what it stood for put back
 
 cond_twice : {A : Type 0} (b : Bool) (x y z : A) → cond b x (cond b y z) ≡ cond b x z
 cond_twice true x y z = refl
 cond_twice false x y z = refl
 
-bound_twice : (m : WordMap) (k : List ℕ) (c d : FileId) → map.insert (map.insert m k c) k d ≡ map.insert m k d
+bound_twice : (m : WordMap) (k : List ℕ) (c d : Meaning) → map.insert (map.insert m k c) k d ≡ map.insert m k d
 bound_twice m k c d = same_map nat_list_cmp_total exact_bytes _ _ (λ q.
     get-insert nat_list_cmp_total (map.insert m k c) k d q
     ∙ ap (cond (eq_by_cmp name_cmp q k) (Some d)) (get-insert nat_list_cmp_total m k c q)
@@ -42,7 +42,7 @@ bound_twice m k c d = same_map nat_list_cmp_total exact_bytes _ _ (λ q.
 at_itself : (k : List ℕ) → eq_by_cmp name_cmp k k ≡ true
 at_itself k = (eq_by_cmp_equiv nat_list_cmp_total).refl k
 
-bound_same : (m : WordMap) (k : List ℕ) (d : FileId) → Some d ≡ map.get m k → map.insert m k d ≡ m
+bound_same : (m : WordMap) (k : List ℕ) (d : Meaning) → Some d ≡ map.get m k → map.insert m k d ≡ m
 bound_same m k d h = same_map nat_list_cmp_total exact_bytes _ _ (λ q. get-insert nat_list_cmp_total m k d q ∙ go q (name_cmp q k) refl)
   where
     go : (q : List ℕ) (o : Ordering) → name_cmp q k ≡ o → cond (is_eq o) (Some d) (map.get m q) ≡ map.get m q
@@ -50,9 +50,9 @@ bound_same m k d h = same_map nat_list_cmp_total exact_bytes _ _ (λ q. get-inse
     go q Less e = refl
     go q Greater e = refl
 
--- the id that a word stood for, bound again
-pub bound_back : (m now new : WordMap) (k : List ℕ) (c d : FileId) → Some d ≡ map.get m k → now ≡ map.insert m k c
-    → {E : Type 0} (r : Result (Option FileId) E) → OnOk r (new ≡ map.insert now k d) → OnErr r (map.get now k ≡ None) → new ≡ m
+-- what a word stood for, bound again
+pub bound_back : (m now new : WordMap) (k : List ℕ) (c d : Meaning) → Some d ≡ map.get m k → now ≡ map.insert m k c
+    → {E : Type 0} (r : Result (Option Meaning) E) → OnOk r (new ≡ map.insert now k d) → OnErr r (map.get now k ≡ None) → new ≡ m
 bound_back m now new k c d stood put (Ok x) ok absent = ok ∙ ap (λ (x : WordMap). map.insert x k d) put ∙ bound_twice m k c d ∙ bound_same m k d stood
 bound_back m now new k c d stood put (Err e) ok absent =
     let there : map.get now k ≡ Some c = ap (λ (x : WordMap). map.get x k) put ∙ get-insert nat_list_cmp_total m k c k ∙ ap (λ (b : Bool). cond b (Some c) (map.get m k)) (at_itself k) in
@@ -60,7 +60,7 @@ bound_back m now new k c d stood put (Err e) ok absent =
     cc
 
 -- a word that stood for nothing, unbound
-pub unbound : (m : WordMap) (k : List ℕ) (c : FileId) → None ≡ map.get m k → map.remove (map.insert m k c) k ≡ m
+pub unbound : (m : WordMap) (k : List ℕ) (c : Meaning) → None ≡ map.get m k → map.remove (map.insert m k c) k ≡ m
 unbound m k c none = same_map nat_list_cmp_total exact_bytes _ _ (λ q.
     get-remove nat_list_cmp_total (map.insert m k c) k q
     ∙ ap (cond (eq_by_cmp name_cmp q k) None) (get-insert nat_list_cmp_total m k c q)

@@ -11,6 +11,7 @@ use Rattle.alp_session.specs.Maps.{WordMap}
 use Rattle.alp_session.specs.Props.{new_props}
 use Rattle.alp_session.specs.Clients.{file_of, open_at}
 use Rattle.alp_session.specs.declared.client.Client.{Client}
+use Rattle.alp_session.specs.declared.waiting.Waiting.{Waiting}
 
 -- a line on an owner that is there
 abbrev pub owner_call : TransId → Line → Option Call
@@ -55,9 +56,15 @@ abbrev pub call_with : WordMap → Client → Option TransId → Line → Option
 call_with words c None l = None
 call_with words c (Some t) l = call_in words c t l
 
+-- the collect of a call that waits, if one does
+abbrev pub collect_of : Option Waiting → Option Call
+collect_of None = None
+collect_of (Some w) = Some (call.Collect w.number)
+
 -- the call that a line of the client is for, if there is a transaction where it needs one
 abbrev pub call_by : WordMap → Client → Line → Option Call
 call_by words c (line.Begin client server) = Some (call.Begin c.told)
+call_by words c (line.Collect client) = collect_of c.waiting
 call_by words c l = call_with words c c.trans l
 
 -- What a line has to be for its call to have a frame: a run is not empty, a text fits a page, and pages are read and locked

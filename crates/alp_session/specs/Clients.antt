@@ -1,12 +1,16 @@
 -- What one client knows, and what the words of the script stand for.
-use Rattle.std.specs.Prelude.{ℕ, codes, None, unwrap_or}
+use Rattle.std.specs.Prelude.{ℕ, Bool, true, false, codes, Option, None, Some, unwrap_or}
 use Rattle.std.specs.FinMap as map
 use Rattle.alp_base.specs.declared.ids.FileId.{FileId}
 use Rattle.alp_base.specs.declared.ids.TransId.{TransId}
 use Rattle.alp_base.specs.declared.ids.Stamp.{Stamp}
 use Rattle.alp_lines.specs.declared.line.FileWord.{FileWord}
 use Rattle.alp_lines.specs.declared.line.FileWord.TheVariants as file_word
+use Rattle.alp_journal.specs.Ids.{same_trans}
 use Rattle.alp_session.specs.Maps.{WordMap}
+use Rattle.alp_session.specs.declared.meaning.Meaning.{Meaning}
+use Rattle.alp_session.specs.declared.meaning.Meaning.TheVariants as meaning
+use Rattle.alp_session.specs.declared.waiting.Settings.{Settings}
 use Rattle.alp_session.specs.declared.client.Client.{Client}
 use Rattle.alp_session.specs.declared.frames.Frames.{Frames}
 
@@ -26,10 +30,24 @@ abbrev pub no_frames : Frames
 no_frames = record { last = None; before = None }
 
 abbrev pub new_client : Client
-new_client = record { name = codes "Admin"; session = None; trans = None; told = no_stamp; opens = map.empty; frames = no_frames }
+new_client = record { name = codes "Admin"; session = None; trans = None; told = no_stamp; opens = map.empty; waiting = None; frames = no_frames }
+
+-- messages and collects go by themselves, and a client's patience is that of a hundred collects
+abbrev pub first_settings : Settings
+first_settings = record { collects = true; patience = 100 }
+
+-- the id that a word stands for, if it stands for something
+abbrev pub meant : Option Meaning → FileId
+meant (Some (meaning.File id)) = id
+meant _ = no_file
+
+-- what a word stands for is created by a call of this transaction that waits
+abbrev pub is_awaited : Option Meaning → Option TransId → Bool
+is_awaited (Some (meaning.Awaited by)) (Some t) = same_trans by t
+is_awaited _ _ = false
 
 abbrev pub file_of : WordMap → FileWord → FileId
-file_of words (file_word.Word name) = unwrap_or (map.get words name) no_file
+file_of words (file_word.Word name) = meant (map.get words name)
 file_of words (file_word.Id id) = id
 
 -- the open number last given to the client for the file, or 0

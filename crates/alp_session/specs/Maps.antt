@@ -1,4 +1,4 @@
--- What clients remember of files: the ids that words stand for, and the opens of ids.
+-- What clients remember of files: what words stand for, and the opens of ids.
 use Rattle.std.specs.Prelude.{ℕ, List}
 use Rattle.std.specs.FinMap.{FinMap}
 use Rattle.std.specs.Ordering.{nat_cmp}
@@ -6,12 +6,13 @@ use Rattle.std.specs.Cmp.Lexicographic.{slice_cmp}
 use Rattle.std.specs.declared.cmp.Ordering.{Ordering}
 use Rattle.alp_base.specs.declared.ids.FileId.{FileId}
 use Rattle.alp_base.specs.KeyLaws.{file_cmp}
+use Rattle.alp_session.specs.declared.meaning.Meaning.{Meaning}
 
 abbrev pub name_cmp : List ℕ → List ℕ → Ordering
 name_cmp = slice_cmp nat_cmp
 
 abbrev pub WordMap : Type 0
-WordMap = FinMap name_cmp FileId
+WordMap = FinMap name_cmp Meaning
 
 abbrev pub OpenMap : Type 0
 OpenMap = FinMap file_cmp ℕ

@@ -114,7 +114,7 @@ fn making_call(alloc: Global, trans: TransId, line: &Line) -> Result<Option<Call
 
 impl Client {
     ghost use Rattle.alp_session.specs.Clients.{open_of as open_said, open_at as open_at_said};
-    ghost use Rattle.alp_session.specs.Calls.{props_call as props_call_said, file_call as file_call_said, page_call as page_call_said, call_in as call_in_said, call_by as call_said, IsAskable};
+    ghost use Rattle.alp_session.specs.Calls.{props_call as props_call_said, file_call as file_call_said, page_call as page_call_said, call_in as call_in_said, collect_of as collect_said, call_by as call_said, IsAskable};
 
     // The open number last given to the client for the file, or 0.
     fn open_of(&self, file: &FileId) -> u32
@@ -291,6 +291,18 @@ impl Client {
         Ok(Some(call))
     }
 
+    // The collect of the call that waits, if one does.
+    fn collect(&self) -> Option<Call>
+        ensures { result ≡ collect_said self.now.waiting }
+    {
+        match &self.waiting {
+            Some(waiting) => Some(Call::Collect {
+                number: waiting.number,
+            }),
+            None => None,
+        }
+    }
+
     /// The call that a line of the client is for, if there is a transaction where it needs one.
     pub(crate) fn call_of(
         &self,
@@ -303,6 +315,9 @@ impl Client {
     {
         if let Line::Begin { .. } = line {
             return Ok(Some(Call::Begin { seen: self.told }));
+        }
+        if let Line::Collect { .. } = line {
+            return Ok(self.collect());
         }
         match self.trans {
             Some(trans) => self.call_in(alloc, words, trans, line),

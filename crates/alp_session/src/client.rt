@@ -1,12 +1,15 @@
 //! A client of the script: what it was told, what it sends for a line, and what it makes of a reply.
-ghost use Rattle.std.specs.Prelude.{◌≡◌, ◌+◌, ◌<◌, ◌^◌, OnOk, OnErr, IfOk, IfSome, Some};
+ghost use Rattle.std.specs.Prelude.{◌≡◌, false, OnOk, OnErr, IfOk, IfSome, Some};
 ghost use Rattle.std.specs.Option.{option_map};
 ghost use Rattle.alp_rpc.specs.Frames.{request, IsSendable};
 ghost use Rattle.alp_session.specs.Props.{later as later_said};
+ghost use Rattle.std.specs.FinMap as map;
 ghost use Rattle.alp_session.specs.Frames.{told_by as told_said};
+ghost use Rattle.alp_session.specs.Heard.{is_not_yet as is_not_yet_said, is_collect as is_collect_said, purpose_of as purpose_said, purpose_in as purpose_in_said, patient as patient_said};
+ghost use Rattle.alp_session.specs.declared.meaning.Meaning.TheVariants as meaning;
 
 use crate::frames::Frames;
-use crate::{Opens, Words};
+use crate::{Meaning, Next, Opens, Purpose, Settings, Waiting, Words};
 use alp_base::{Bytes, FileId, Name, OutOfMemory, Stamp, TransId};
 use alp_files::{Call, Ended, Refusal, Reply};
 use alp_lines::Line;
@@ -30,6 +33,8 @@ pub struct Client {
     /// The greatest stamp that it was told.
     pub told: Stamp,
     pub opens: Opens,
+    /// The call that was answered that it waits, as long as no collect of it is answered otherwise.
+    pub waiting: Option<Waiting>,
     pub frames: Frames,
 }
 
@@ -56,7 +61,7 @@ impl Client {
     ghost use Rattle.alp_session.specs.Clients.{new_client};
     ghost use Rattle.alp_session.specs.Calls.{IsAskable};
     ghost use Rattle.alp_session.specs.Frames.{request_in, request_for, request_of, frame_of, HasNext, IsReady};
-    ghost use Rattle.alp_session.specs.Heard.{begins as begins_said, learned as learned_said, words_told, learned_reply, created as created_said, opened as opened_said, bound, told_refusal, told_end as told_end_said, left as left_said, greeted as greeted_said, heard_own, heard_again as again_said, heard, words_heard};
+    ghost use Rattle.alp_session.specs.Heard.{begins as begins_said, learned_reply, created as created_said, opened as opened_said, bound, told_refusal, told_end as told_end_said, left as left_said, greeted as greeted_said, awaiting, is_not_yet, called as called_said, opened_late as opened_late_said, collected_reply, purpose_in, waits_on as waits_on_said, collected as collected_said, answered as answered_said, heard_own, heard_again as again_said, heard, words_awaiting, words_called, words_late, words_late_told, words_answered, words_in_session, words_heard};
 
     pub fn new(alloc: Global) -> Client
         ensures { result ≡ new_client }
@@ -70,6 +75,7 @@ impl Client {
                 trans: NO_TRANS,
             },
             opens: Opens::new(alloc),
+            waiting: None,
             frames: Frames::new(),
         }
     }
@@ -134,8 +140,8 @@ impl Client {
         Ok(Some(frame))
     }
 
-    /// The frame that the client with that number sends next for a line, or nothing where it sends nothing: that of its next
-    /// request, or one of the last two again.
+    /// The frame that the client with that number sends for a line, or nothing where it sends nothing: that of its next request,
+    /// or one of the last two again.
     pub fn asks(
         &self,
         alloc: Global,
@@ -155,14 +161,36 @@ impl Client {
         }
     }
 
-    /// The client comes to a line: a `begin` leaves the transaction before.
+    /// The client comes to a line: a `begin` leaves the transaction before, and its call that waits.
     pub fn begins(&mut self, line: &Line)
         ensures { self.new ≡ begins_said self.old line.now }
     {
         if let Line::Begin { .. } = line {
             self.trans = None;
             self.opens.clear();
+            self.waiting = None;
         }
+    }
+
+    // The word stands for the file, whose open number is kept.
+    fn binds(
+        &mut self,
+        words: &mut Words,
+        word: &Name,
+        file: FileId,
+        open_no: u32,
+    ) -> Result<(), OutOfMemory>
+        ensures client { OnOk result (self.new ≡ record self.old { opens = map.insert self.old.opens file open_no }) }
+        ensures words { OnOk result (words.new ≡ map.insert words.old word.now (meaning.File file)) }
+        ensures err { OnErr result (self.new ≡ self.old) }
+        ensures words_err { OnErr result (words.new ≡ words.old) }
+    {
+        let stood = words.bind(*word, Meaning::File(file))?;
+        if self.opens.give(file, open_no).is_err() {
+            words.restore(*word, stood);
+            return Err(OutOfMemory);
+        }
+        Ok(())
     }
 
     // The created file's id is bound to the word of the line, and its open number is kept.
@@ -174,16 +202,12 @@ impl Client {
         open_no: u32,
     ) -> Result<(), OutOfMemory>
         ensures client { OnOk result (self.new ≡ created_said self.old line.now file open_no) }
-        ensures words { OnOk result (words.new ≡ bound words.old line.now file) }
+        ensures words { OnOk result (words.new ≡ bound words.old line.now (meaning.File file)) }
         ensures err { OnErr result (self.new ≡ self.old) }
         ensures words_err { OnErr result (words.new ≡ words.old) }
     {
         if let Line::Create { word, .. } = line {
-            let stood = words.bind(*word, file)?;
-            if self.opens.give(file, open_no).is_err() {
-                words.restore(*word, stood);
-                return Err(OutOfMemory);
-            }
+            self.binds(words, word, file, open_no)?;
         }
         Ok(())
     }
@@ -223,17 +247,17 @@ impl Client {
     fn left(&mut self, line: &Line)
         ensures { self.new ≡ left_said self.old line.now }
     {
-        match line {
-            Line::Commit { .. } => self.trans = None,
-            Line::Abort { .. } => self.trans = None,
-            _ => {}
+        if let Line::Commit { .. } | Line::Abort { .. } = line {
+            self.trans = None;
+            self.waiting = None;
         }
     }
 
-    // What the client makes of the reply to the call of a line.
+    // What the client makes of the reply to the call of a line, where it is not to wait.
     fn learn(&mut self, words: &mut Words, line: &Line, reply: &Reply) -> Result<(), OutOfMemory>
+        requires { is_not_yet reply.now ≡ false }
         ensures client { OnOk result (self.new ≡ learned_reply words.old self.old line.now reply.now) }
-        ensures words { OnOk result (words.new ≡ words_told words.old line.now (Some reply.now)) }
+        ensures words { OnOk result (words.new ≡ words_called words.old self.old line.now reply.now) }
         ensures err { OnErr result (self.new ≡ self.old) }
         ensures words_err { OnErr result (words.new ≡ words.old) }
     {
@@ -255,46 +279,189 @@ impl Client {
     }
 
     // The reply to a greeting: it begins a session, or ends the line.
-    fn greeted(&mut self, reply: &Option<Reply>) -> bool
+    fn greeted(&mut self, reply: &Option<Reply>) -> Next
         ensures { (self.new, result) ≡ greeted_said self.old reply.now }
     {
         let Some(Reply::Welcome { epoch }) = reply else {
-            return true;
+            return Next::Over;
         };
         self.session = Some(Greeted {
             epoch: *epoch,
             last: 1,
         });
-        false
+        Next::Call
     }
 
-    // The reply to the call of a line, in a session.
-    fn answered(
+    // The call of a line is to wait, and becomes the one that waits where there is none.
+    fn waits(
         &mut self,
         words: &mut Words,
-        greeted: Greeted,
+        settings: Settings,
+        number: u32,
         line: &Line,
-        reply: &Option<Reply>,
-    ) -> Result<(), OutOfMemory>
-        requires next { greeted.last + 1 < 2 ^ 32 }
-        requires session { self.old.session ≡ Some greeted }
-        ensures client { OnOk result (self.new ≡ learned_said words.old (record self.old { session = Some (record greeted { last = greeted.last + 1 }) }) line.now reply.now) }
-        ensures words { OnOk result (words.new ≡ words_told words.old line.now reply.now) }
+    ) -> Result<Next, OutOfMemory>
+        ensures client { IfOk result (λ next. (self.new, next) ≡ awaiting words.old settings self.old number line.now self.old.waiting) }
+        ensures words { OnOk result (words.new ≡ words_awaiting words.old line.now self.old.waiting self.old.trans) }
         ensures err { OnErr result (self.new ≡ self.old) }
         ensures words_err { OnErr result (words.new ≡ words.old) }
     {
-        self.session = Some(Greeted {
-            epoch: greeted.epoch,
-            last: greeted.last + 1,
+        if self.waiting.is_some() {
+            return Ok(Next::Over);
+        }
+        let purpose = purpose_of(words, line);
+        words.awaiting(line, self.trans)?;
+        self.waiting = Some(Waiting {
+            number,
+            purpose,
+            asked: 0,
         });
-        let Some(reply) = reply else {
-            return Ok(());
-        };
-        if self.learn(words, line, reply).is_err() {
-            self.session = Some(greeted);
-            return Err(OutOfMemory);
+        Ok(if settings.collects {
+            Next::Collect
+        } else {
+            Next::Over
+        })
+    }
+
+    // The reply to the call of a line.
+    fn called(
+        &mut self,
+        words: &mut Words,
+        settings: Settings,
+        number: u32,
+        line: &Line,
+        reply: &Reply,
+    ) -> Result<Next, OutOfMemory>
+        ensures client { IfOk result (λ next. (self.new, next) ≡ called_said words.old settings self.old number line.now reply.now) }
+        ensures words { OnOk result (words.new ≡ words_called words.old self.old line.now reply.now) }
+        ensures err { OnErr result (self.new ≡ self.old) }
+        ensures words_err { OnErr result (words.new ≡ words.old) }
+    {
+        if is_not_yet(reply) {
+            return self.waits(words, settings, number, line);
+        }
+        self.learn(words, line, reply)?;
+        Ok(Next::Over)
+    }
+
+    // A file that a call created which waited: its id is bound to the word that awaits it, and its open number is kept.
+    fn created_late(
+        &mut self,
+        words: &mut Words,
+        purpose: &Purpose,
+        file: FileId,
+        open_no: u32,
+    ) -> Result<(), OutOfMemory>
+        ensures client { OnOk result (self.new ≡ record self.old { opens = map.insert self.old.opens file open_no }) }
+        ensures words { OnOk result (words.new ≡ words_late words.old self.old.trans purpose.now file) }
+        ensures err { OnErr result (self.new ≡ self.old) }
+        ensures words_err { OnErr result (words.new ≡ words.old) }
+    {
+        if let Purpose::Word(word) = purpose {
+            if words.awaits(word, self.trans) {
+                return self.binds(words, word, file, open_no);
+            }
+        }
+        self.opens.give(file, open_no)
+    }
+
+    // The open number of a file that a call opened which waited is kept.
+    fn opened_late(&mut self, purpose: &Purpose, open_no: u32) -> Result<(), OutOfMemory>
+        ensures ok { OnOk result (self.new ≡ opened_late_said self.old purpose.now open_no) }
+        ensures err { OnErr result (self.new ≡ self.old) }
+    {
+        if let Purpose::Open(file) = purpose {
+            self.opens.give(*file, open_no)?;
         }
         Ok(())
+    }
+
+    // What the reply of a call that waited tells, which is collected in this line.
+    fn learn_late(
+        &mut self,
+        words: &mut Words,
+        purpose: &Purpose,
+        line: &Line,
+        reply: &Reply,
+    ) -> Result<(), OutOfMemory>
+        ensures client { OnOk result (self.new ≡ collected_reply self.old purpose.now line.now reply.now) }
+        ensures words { OnOk result (words.new ≡ words_late_told words.old self.old.trans purpose.now reply.now) }
+        ensures err { OnErr result (self.new ≡ self.old) }
+        ensures words_err { OnErr result (words.new ≡ words.old) }
+    {
+        match reply {
+            Reply::Created { file, open_no } => {
+                return self.created_late(words, purpose, *file, *open_no);
+            }
+            Reply::Opened { open_no } => return self.opened_late(purpose, *open_no),
+            Reply::Committed { stamp } => {
+                self.left(line);
+                self.told = later(self.told, *stamp);
+            }
+            Reply::Ended(end) => self.told_end(end),
+            Reply::Refused(refusal) => self.refused(line, refusal),
+            _ => {}
+        }
+        Ok(())
+    }
+
+    // The call waits on.
+    fn waits_on(&mut self, settings: Settings) -> Next
+        ensures { (self.new, result) ≡ waits_on_said settings self.old self.old.waiting }
+    {
+        match &mut self.waiting {
+            Some(waiting) => {
+                waiting.asked = waiting.asked.saturating_add(1);
+                patient(settings, waiting.asked)
+            }
+            None => Next::Over,
+        }
+    }
+
+    // The answer to a collect: the call waits on, or it waits no more.
+    fn collected(
+        &mut self,
+        words: &mut Words,
+        settings: Settings,
+        line: &Line,
+        reply: &Reply,
+    ) -> Result<Next, OutOfMemory>
+        ensures client { IfOk result (λ next. (self.new, next) ≡ collected_said settings self.old line.now reply.now) }
+        ensures words { OnOk result (words.new ≡ words_late_told words.old self.old.trans (purpose_in self.old.waiting) reply.now) }
+        ensures err { OnErr result (self.new ≡ self.old) }
+        ensures words_err { OnErr result (words.new ≡ words.old) }
+    {
+        if is_not_yet(reply) {
+            return Ok(self.waits_on(settings));
+        }
+        let purpose = purpose_in(&self.waiting);
+        self.learn_late(words, &purpose, line, reply)?;
+        self.waiting = None;
+        Ok(Next::Over)
+    }
+
+    // The reply to a call or a collect of a line, in a session.
+    fn answered(
+        &mut self,
+        words: &mut Words,
+        settings: Settings,
+        number: u32,
+        line: &Line,
+        collects: bool,
+        told: &Option<Reply>,
+    ) -> Result<Next, OutOfMemory>
+        ensures client { IfOk result (λ next. (self.new, next) ≡ answered_said words.old settings self.old number line.now collects told.now) }
+        ensures words { OnOk result (words.new ≡ words_answered words.old self.old line.now collects told.now) }
+        ensures err { OnErr result (self.new ≡ self.old) }
+        ensures words_err { OnErr result (words.new ≡ words.old) }
+    {
+        let Some(reply) = told else {
+            return Ok(Next::Over);
+        };
+        if collects {
+            self.collected(words, settings, line, reply)
+        } else {
+            self.called(words, settings, number, line, reply)
+        }
     }
 
     // The reply to a frame that was sent again.
@@ -313,34 +480,49 @@ impl Client {
     fn hears_own(
         &mut self,
         words: &mut Words,
+        settings: Settings,
         line: &Line,
+        next: Next,
         told: &Option<Reply>,
-    ) -> Result<bool, OutOfMemory>
+    ) -> Result<Next, OutOfMemory>
         requires { HasNext self.old.session }
-        ensures client { IfOk result (λ over. (self.new, over) ≡ heard_own words.old self.old self.old.session line.now told.now) }
-        ensures words { OnOk result (words.new ≡ words_heard words.old self.old.session line.now told.now) }
+        ensures client { IfOk result (λ after. (self.new, after) ≡ heard_own words.old settings self.old self.old.session line.now next told.now) }
+        ensures words { OnOk result (words.new ≡ words_in_session words.old self.old self.old.session line.now next told.now) }
         ensures err { OnErr result (self.new ≡ self.old) }
         ensures words_err { OnErr result (words.new ≡ words.old) }
     {
         let Some(greeted) = self.session else {
             return Ok(self.greeted(told));
         };
-        self.answered(words, greeted, line, told)?;
-        Ok(true)
+        let number = greeted.last + 1;
+        self.session = Some(Greeted {
+            epoch: greeted.epoch,
+            last: number,
+        });
+        let collects = is_collect(line, next);
+        match self.answered(words, settings, number, line, collects, told) {
+            Ok(after) => Ok(after),
+            Err(OutOfMemory) => {
+                self.session = Some(greeted);
+                Err(OutOfMemory)
+            }
+        }
     }
 
-    /// What the client makes of the bytes that it is handed for a frame that it sent for a line. Gives whether the line is over.
+    /// What the client makes of the bytes that it is handed for a frame that it sent for a line. Gives what it does next for it.
     pub fn hears(
         &mut self,
         alloc: Global,
         words: &mut Words,
+        settings: Settings,
         line: &Line,
+        next: Next,
         frame: Bytes,
         handed: &Option<Bytes>,
-    ) -> Result<bool, OutOfMemory>
+    ) -> Result<Next, OutOfMemory>
         requires { HasNext self.old.session }
-        ensures client { IfOk result (λ over. (self.new, over) ≡ heard words.old self.old line.now frame (told_said handed.now)) }
-        ensures words { OnOk result (words.new ≡ words_heard words.old self.old.session line.now (told_said handed.now)) }
+        ensures client { IfOk result (λ after. (self.new, after) ≡ heard words.old settings self.old line.now next frame (told_said handed.now)) }
+        ensures words { OnOk result (words.new ≡ words_heard words.old self.old line.now next (told_said handed.now)) }
         ensures err { OnErr result (self.new ≡ self.old) }
         ensures words_err { OnErr result (words.new ≡ words.old) }
     {
@@ -348,14 +530,74 @@ impl Client {
         match line {
             Line::Repeat { .. } | Line::Old { .. } => {
                 self.hears_again(&told);
-                Ok(true)
+                Ok(Next::Over)
             }
             _ => {
-                let is_over = self.hears_own(words, line, &told)?;
+                let after = self.hears_own(words, settings, line, next, &told)?;
                 self.frames.keep(frame);
-                Ok(is_over)
+                Ok(after)
             }
         }
+    }
+}
+
+// Whether a call is answered that it waits.
+fn is_not_yet(reply: &Reply) -> bool
+    ensures { result ≡ is_not_yet_said reply.now }
+{
+    matches!(reply, Reply::Refused(Refusal::NotYet))
+}
+
+// Whether a line collects, or has come to its collect.
+fn is_collect(line: &Line, next: Next) -> bool
+    ensures { result ≡ is_collect_said line.now next }
+{
+    match (line, next) {
+        (_, Next::Collect) => true,
+        (Line::Collect { .. }, _) => true,
+        _ => false,
+    }
+}
+
+// What the answer to the call of a line is good for.
+fn purpose_of(words: &Words, line: &Line) -> Purpose
+    ensures { result ≡ purpose_said words.now line.now }
+{
+    match line {
+        Line::Create { word, .. } => Purpose::Word(*word),
+        Line::OpenFile { file, .. } => Purpose::Open(words.file_of(file)),
+        _ => Purpose::Nothing,
+    }
+}
+
+// What the answer to a call that waits is good for.
+fn purpose_in(waiting: &Option<Waiting>) -> Purpose
+    ensures { result ≡ purpose_in_said waiting.now }
+{
+    match waiting {
+        Some(waiting) => copied(&waiting.purpose),
+        None => Purpose::Nothing,
+    }
+}
+
+fn copied(purpose: &Purpose) -> Purpose
+    ensures { result ≡ purpose.now }
+{
+    match purpose {
+        Purpose::Word(word) => Purpose::Word(*word),
+        Purpose::Open(file) => Purpose::Open(*file),
+        Purpose::Nothing => Purpose::Nothing,
+    }
+}
+
+// What a client does behind so many collects of one call.
+fn patient(settings: Settings, asked: u32) -> Next
+    ensures { result ≡ patient_said settings asked }
+{
+    if asked >= settings.patience {
+        Next::TimeOut
+    } else {
+        Next::Over
     }
 }
 

@@ -1,22 +1,26 @@
 //! The clients of a script: the words that all of them know, and what each of them knows.
-ghost use Rattle.std.specs.Prelude.{◌≡◌, ◌≤◌, OnOk, OnErr, IfOk, IfSome, false, replicate};
+ghost use Rattle.std.specs.Prelude.{◌≡◌, ◌≤◌, OnOk, OnErr, IfOk, IfSome, replicate};
 ghost use Rattle.alp_rpc.specs.Frames.{request};
 ghost use Rattle.alp_session.specs.Clients.{new_client};
 ghost use Rattle.alp_session.specs.Calls.{IsAskable};
-ghost use Rattle.alp_session.specs.Frames.{request_of, told_by, HasNext, IsReady};
-ghost use Rattle.alp_session.specs.Crowds.{new_crowd, client_at, asks as asks_said, hears as heard, at_line as at_said, declares as declared};
+ghost use Rattle.alp_session.specs.Frames.{request_of, frame_of, told_by, HasNext, IsReady};
+ghost use Rattle.alp_session.specs.Crowds.{new_crowd, client_at, request_next, times_out, asks as asks_said, hears as heard, at_line as at_said, declares as declared};
 
-use crate::{Client, Words};
-use alp_base::{Bytes, CLIENTS, OutOfMemory};
+use crate::{Client, Next, Settings, Words};
+use alp_base::{Bytes, CLIENTS, OutOfMemory, TransId};
 use alp_lines::Line;
 use std::alloc::Global;
 use std::marker::Model;
+
+/// After so many collects of one call its transaction times out, until a line says otherwise.
+const PATIENCE_FIRST: u32 = 100;
 
 /// The clients of a script, each at its number, and the words of the script.
 #[derive(Drop)]
 pub struct Clients {
     words: Words,
     places: Vec<Client>,
+    settings: Settings,
 }
 
 impl Model for Clients {
@@ -27,7 +31,7 @@ impl Model for Clients {
 
     ghost coded = { crowd_code };
 
-    ghost view = { λ c. record { words = c.words; places = c.places.items } };
+    ghost view = { λ c. record { words = c.words; places = c.places.items; settings = c.settings } };
 
     ghost invariant = { λ c. length c.places.items ≡ 17 };
 }
@@ -50,35 +54,87 @@ impl Clients {
         Ok(Clients {
             words: Words::new(alloc),
             places: new_places(alloc)?,
+            settings: Settings {
+                collects: true,
+                patience: PATIENCE_FIRST,
+            },
         })
     }
 
-    /// The frame that the client sends next for a line that is not over, or nothing.
-    pub fn asks(&self, alloc: Global, number: u8, line: &Line) -> Result<Option<Bytes>, OutOfMemory>
+    // The frame of the call or of the collect of a line.
+    fn frame(&self, alloc: Global, number: u8, line: &Line) -> Result<Option<Bytes>, OutOfMemory>
         requires line { IsAskable line.now }
         requires ready { IsReady number (client_at self.now number) }
-        ensures frame { IfOk result (λ frame. frame ≡ asks_said self.now number line.now false) }
+        ensures frame { IfOk result (λ frame. frame ≡ frame_of self.now.words number (client_at self.now number) line.now) }
         ensures fits { OnOk result (IfSome (request_of self.now.words number (client_at self.now number) line.now) request.Fits) }
     {
         self.places[number as usize].asks(alloc, number, &self.words, line)
     }
 
+    /// The frame that the client sends next for a line, or nothing.
+    pub fn asks(
+        &self,
+        alloc: Global,
+        number: u8,
+        line: &Line,
+        next: Next,
+    ) -> Result<Option<Bytes>, OutOfMemory>
+        requires line { IsAskable line.now }
+        requires ready { IsReady number (client_at self.now number) }
+        ensures frame { IfOk result (λ frame. frame ≡ asks_said self.now number line.now next) }
+        ensures fits { OnOk result (IfSome (request_next self.now number line.now next) request.Fits) }
+    {
+        match next {
+            Next::Call => self.frame(alloc, number, line),
+            Next::Collect => self.frame(alloc, number, &Line::Collect { client: number }),
+            _ => Ok(None),
+        }
+    }
+
     /// What the client makes of the bytes that it is handed for a frame that it sent for a line, where none is silence. Gives
-    /// whether the line is over.
+    /// what it does next for the line.
     pub fn hears(
         &mut self,
         alloc: Global,
         number: u8,
         line: &Line,
+        next: Next,
         frame: Bytes,
         handed: &Option<Bytes>,
-    ) -> Result<bool, OutOfMemory>
+    ) -> Result<Next, OutOfMemory>
         requires client { number ≤ 16 }
         requires next { HasNext (client_at self.old number).session }
-        ensures ok { IfOk result (λ over. (self.new, over) ≡ heard self.old number line.now frame (told_by handed.now)) }
+        ensures ok { IfOk result (λ after. (self.new, after) ≡ heard self.old number line.now next frame (told_by handed.now)) }
         ensures err { OnErr result (self.new ≡ self.old) }
     {
-        self.places[number as usize].hears(alloc, &mut self.words, line, frame, handed)
+        self.places[number as usize].hears(
+            alloc,
+            &mut self.words,
+            self.settings,
+            line,
+            next,
+            frame,
+            handed,
+        )
+    }
+
+    /// The transaction that times out where this is what the client does next.
+    pub fn due(&self, number: u8, next: Next) -> Option<TransId>
+        requires { number ≤ 16 }
+        ensures { result ≡ times_out self.now number next }
+    {
+        match next {
+            Next::TimeOut => self.trans_of(number),
+            _ => None,
+        }
+    }
+
+    /// The transaction of the client, if it has one.
+    pub fn trans_of(&self, number: u8) -> Option<TransId>
+        requires { number ≤ 16 }
+        ensures { result ≡ (client_at self.now number).trans }
+    {
+        self.places[number as usize].trans
     }
 
     /// The client comes to a line: a `create` binds its word, and a `begin` leaves the transaction before.
@@ -92,15 +148,19 @@ impl Clients {
         Ok(())
     }
 
-    /// A declaration names the principal of its client.
+    /// A declaration names the principal of its client, and other lines set something for all of them.
     pub fn declares(&mut self, line: &Line)
         ensures { self.new ≡ declared self.old line.now }
     {
-        let Line::Client { client, name } = line else {
-            return;
-        };
-        if let Some(place) = self.places.get_mut(*client as usize) {
-            place.name = *name;
+        match line {
+            Line::Client { client, name } => {
+                if let Some(place) = self.places.get_mut(*client as usize) {
+                    place.name = *name;
+                }
+            }
+            Line::Patience { count } => self.settings.patience = *count,
+            Line::Auto { on } => self.settings.collects = *on,
+            _ => {}
         }
     }
 }

@@ -5,12 +5,16 @@ mod calls;
 mod client;
 mod clients;
 mod frames;
+mod meaning;
 mod memory;
+mod waiting;
 
 pub use client::{Client, Greeted};
 pub use clients::Clients;
 pub use frames::Frames;
+pub use meaning::Meaning;
 pub use memory::{Opens, Words};
+pub use waiting::{Next, Purpose, Settings, Waiting};
 
 #[cfg(test)]
 mod tests;

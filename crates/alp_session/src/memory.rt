@@ -1,13 +1,14 @@
-//! What is remembered of files: the ids that words stand for, and a client's opens of ids.
+//! What is remembered of files: what words stand for, and a client's opens of ids.
 ghost use Rattle.std.specs.Prelude.{◌≡◌, IfOk, OnOk, OnErr, None};
 ghost use Rattle.std.specs.FinMap as map;
 ghost use Rattle.std.specs.Option.{option_copied as copied};
-ghost use Rattle.alp_base.specs.declared.ids.FileId.{FileId as AnId};
-ghost use Rattle.alp_session.specs.Clients.{no_file, file_of as file_said};
-ghost use Rattle.alp_session.specs.Heard.{bound as bound_said, words_at};
+ghost use Rattle.alp_session.specs.Clients.{no_file, meant as meant_said, is_awaited, file_of as file_said};
+ghost use Rattle.alp_session.specs.Heard.{words_at, words_awaiting};
 ghost use Rattle.alp_session.specs.Maps.{WordMap as AWordMap};
+ghost use Rattle.alp_session.specs.declared.meaning.Meaning.{Meaning as AMeaning};
 
-use alp_base::{FileId, Name, OutOfMemory};
+use crate::Meaning;
+use alp_base::{FileId, Name, OutOfMemory, TransId};
 use alp_lines::{FileWord, Line};
 use std::alloc::Global;
 use std::collections::BTreeMap;
@@ -20,23 +21,43 @@ const NO_FILE: FileId = FileId {
     counter: 0,
 };
 
-/// The ids that words of the script stand for.
+/// What the words of the script stand for.
 #[derive(Drop)]
 pub struct Words {
-    ids: BTreeMap<Name, FileId>,
+    meanings: BTreeMap<Name, Meaning>,
 }
 
 impl Model for Words {
     ghost use Rattle.std.specs.FinMap as map;
     ghost use Rattle.alp_session.specs.Maps.{WordMap};
     ghost use Rattle.alp_base.specs.contracts.name.Name as name_type;
-    ghost use Rattle.alp_base.specs.contracts.ids.FileId as id_type;
+    ghost use Rattle.alp_session.specs.contracts.meaning.Meaning as meaning_type;
 
     ghost Value = { WordMap };
 
-    ghost coded = { map.code name_type.the_row.coded id_type.the_row.coded };
+    ghost coded = { map.code name_type.the_row.coded meaning_type.the_row.coded };
 
-    ghost view = { λ w. map.from_entries w.ids.entries };
+    ghost view = { λ w. map.from_entries w.meanings.entries };
+}
+
+// The id that a word stands for, if it stands for something.
+fn meant(meaning: Option<Meaning>) -> FileId
+    ensures { result ≡ meant_said meaning }
+{
+    match meaning {
+        Some(Meaning::File(id)) => id,
+        _ => NO_FILE,
+    }
+}
+
+// Whether what a word stands for is created by a call of this transaction that waits.
+fn is_by(meaning: Option<Meaning>, trans: Option<TransId>) -> bool
+    ensures { result ≡ is_awaited meaning trans }
+{
+    match (meaning, trans) {
+        (Some(Meaning::Awaited(by)), Some(trans)) => by == trans,
+        _ => false,
+    }
 }
 
 impl Words {
@@ -44,14 +65,14 @@ impl Words {
         ensures { result ≡ map.empty }
     {
         Words {
-            ids: BTreeMap::new(alloc),
+            meanings: BTreeMap::new(alloc),
         }
     }
 
-    pub fn get(&self, word: &Name) -> Option<&FileId>
+    pub fn get(&self, word: &Name) -> Option<&Meaning>
         ensures { copied result ≡ map.get self.now word.now }
     {
-        self.ids.get(word)
+        self.meanings.get(word)
     }
 
     /// The id that a line's file word stands for.
@@ -59,7 +80,7 @@ impl Words {
         ensures { result ≡ file_said self.now file.now }
     {
         match file {
-            FileWord::Word(word) => self.get(word).copied().unwrap_or(NO_FILE),
+            FileWord::Word(word) => meant(self.get(word).copied()),
             FileWord::Id(id) => *id,
         }
     }
@@ -70,32 +91,53 @@ impl Words {
         ensures err { OnErr result (self.new ≡ self.old) }
     {
         if let Line::Create { word, .. } = line {
-            self.bind(*word, NO_FILE)?;
+            self.bind(*word, Meaning::File(NO_FILE))?;
         }
         Ok(())
     }
 
-    /// The word stands for the id from now on. Gives what it stood for.
-    pub fn bind(&mut self, word: Name, id: FileId) -> Result<Option<FileId>, OutOfMemory>
-        ensures ok { OnOk result (self.new ≡ map.insert self.old word id) }
+    /// What the call of a line creates is awaited by its word, where the call is of this transaction.
+    pub fn awaiting(&mut self, line: &Line, trans: Option<TransId>) -> Result<(), OutOfMemory>
+        ensures ok { OnOk result (self.new ≡ words_awaiting self.old line.now None trans) }
+        ensures err { OnErr result (self.new ≡ self.old) }
+    {
+        let Some(trans) = trans else {
+            return Ok(());
+        };
+        if let Line::Create { word, .. } = line {
+            self.bind(*word, Meaning::Awaited(trans))?;
+        }
+        Ok(())
+    }
+
+    /// Whether the word stands for what a call of this transaction creates that waits.
+    pub fn awaits(&self, word: &Name, trans: Option<TransId>) -> bool
+        ensures { result ≡ is_awaited (map.get self.now word.now) trans }
+    {
+        is_by(self.get(word).copied(), trans)
+    }
+
+    /// The word stands for that from now on. Gives what it stood for.
+    pub fn bind(&mut self, word: Name, meaning: Meaning) -> Result<Option<Meaning>, OutOfMemory>
+        ensures ok { OnOk result (self.new ≡ map.insert self.old word meaning) }
         ensures stood { IfOk result (λ stood. stood ≡ map.get self.old word) }
         ensures err { OnErr result (self.new ≡ self.old) }
         ensures absent { OnErr result (map.get self.old word ≡ None) }
     {
-        let stood = self.ids.insert(word, id)?;
+        let stood = self.meanings.insert(word, meaning)?;
         Ok(stood)
     }
 
     /// The word stands again for what it stood for before it was bound.
-    pub fn restore(&mut self, word: Name, stood: Option<FileId>)
-        ensures { (m : AWordMap) → (id : AnId) → stood ≡ map.get m word → self.old ≡ map.insert m word id → self.new ≡ m }
+    pub fn restore(&mut self, word: Name, stood: Option<Meaning>)
+        ensures { (m : AWordMap) → (meaning : AMeaning) → stood ≡ map.get m word → self.old ≡ map.insert m word meaning → self.new ≡ m }
     {
         match stood {
-            Some(id) => {
-                let _ = self.bind(word, id);
+            Some(meaning) => {
+                let _ = self.bind(word, meaning);
             }
             None => {
-                self.ids.remove(&word);
+                self.meanings.remove(&word);
             }
         }
     }

@@ -1,11 +1,11 @@
-ghost use Rattle.std.specs.Prelude.{◌≡◌, IsTrue, true};
+ghost use Rattle.std.specs.Prelude.{◌≡◌, IfOk, IsTrue, true};
 ghost use Rattle.alp_rpc.specs.Replies.{IsSendable};
 ghost use Rattle.alp_session.specs.Calls.{IsAskable};
 ghost use Rattle.alp_session.specs.Frames.{IsReady};
 
 use crate::*;
 use alp_base::{AccessList, Bytes, Choice, FileId, Name, OutOfMemory, Run, Stamp, TransId};
-use alp_files::{Call, PropChange, Refusal, Reply};
+use alp_files::{Call, Cause, PropChange, Refusal, Reply};
 use alp_lines::{FileWord, Line};
 use alp_modes::Mode;
 use alp_rpc::{ReplyFrame, Request, decode_request, encode_reply};
@@ -36,7 +36,7 @@ fn client(alloc: Global) -> Result<Client, OutOfMemory> {
 // The word stands for the file.
 fn words(alloc: Global, word: Name) -> Result<Words, OutOfMemory> {
     let mut words = Words::new(alloc);
-    words.bind(word, FILE)?;
+    words.bind(word, Meaning::File(FILE))?;
     Ok(words)
 }
 
@@ -278,6 +278,12 @@ fn frame(alloc: Global, client: &Client, line: &Line) -> Result<Option<Bytes>, F
     Ok(client.asks(alloc, 2, &Words::new(alloc), line)?)
 }
 
+// A call that is to wait is collected in its line, and the second collect is one too many.
+const SETTINGS: Settings = Settings {
+    collects: true,
+    patience: 2,
+};
+
 // It sends a frame for the line and is handed the bytes. Gives whether the line is over.
 fn is_over(
     alloc: Global,
@@ -291,7 +297,9 @@ fn is_over(
     if !is_ready(client) {
         return Err("a call to come".into());
     }
-    Ok(client.hears(alloc, &mut Words::new(alloc), line, sent, &handed)?)
+    let mut words = Words::new(alloc);
+    let next = client.hears(alloc, &mut words, SETTINGS, line, Next::Call, sent, &handed)?;
+    Ok(next == Next::Over)
 }
 
 // The frame of a reply to client 2.
@@ -436,5 +444,159 @@ fn spells_pages(rt: HostRuntime) -> Result<(), Fail> {
     assert!(rt;
         matches!(&asked.call, Call::WritePages { pages, .. } if pages.pages().len() == 255)
     );
+    Ok(())
+}
+
+// What client 2 does next behind the reply to a frame of its line.
+fn next_by(
+    alloc: Global,
+    client: &mut Client,
+    words: &mut Words,
+    line: &Line,
+    next: Next,
+    told: Reply,
+) -> Result<Next, Fail>
+    requires line { IsAskable line.now }
+    requires told { IsSendable told }
+{
+    let asked = if next == Next::Collect {
+        frame(alloc, client, &COLLECT)?
+    } else {
+        frame(alloc, client, line)?
+    };
+    let sent = asked.ok_or("a frame")?;
+    let handed = reply(alloc, told)?;
+    if !is_ready(client) {
+        return Err("a call to come".into());
+    }
+    Ok(client.hears(alloc, words, SETTINGS, line, next, sent, &handed)?)
+}
+
+const COLLECT: Line = Line::Collect { client: 2 };
+
+const NOT_YET: Reply = Reply::Refused(Refusal::NotYet);
+
+// The line by which client 2 creates a file of no pages.
+fn creates(alloc: Global) -> Result<Line, Fail>
+    ensures { IfOk result IsAskable }
+{
+    Ok(Line::Create {
+        client: 2,
+        server: 1,
+        word: name(b"F")?,
+        owner: name(b"ann")?,
+        size: 0,
+        read: AccessList::new(Vec::new(alloc)),
+        modify: AccessList::new(Vec::new(alloc)),
+        choice: Choice::Wait,
+    })
+}
+
+// Client 2 with a call that waits, and the words behind its line.
+fn waiting(alloc: Global) -> Result<(Client, Words), Fail> {
+    let mut client = begun(alloc)?;
+    let (mut words, line) = (Words::new(alloc), creates(alloc)?);
+    words.at_line(&line)?;
+    let waits = next_by(alloc, &mut client, &mut words, &line, Next::Call, NOT_YET)?;
+    if waits != Next::Collect {
+        return Err("a call to collect".into());
+    }
+    Ok((client, words))
+}
+
+// A call that waits is collected by its number.
+#[test]
+fn collects_a_call_that_waits(rt: HostRuntime) -> Result<(), Fail> {
+    let alloc = rt.alloc();
+    let idle = begun(alloc)?;
+    assert!(rt; frame(alloc, &idle, &COLLECT)?.is_none());
+    let (client, _) = waiting(alloc)?;
+    let collect = frame(alloc, &client, &COLLECT)?.ok_or("a frame")?;
+    let asked = decode_request(alloc, collect.as_slice())?.ok_or("a request")?;
+    assert!(rt; asked.number == 4 && asked.call == Call::Collect { number: 3 });
+    Ok(())
+}
+
+// It is collected in its line and by lines of its own; the second collect ends the client's patience.
+#[test]
+fn loses_its_patience(rt: HostRuntime) -> Result<(), Fail> {
+    let alloc = rt.alloc();
+    let (mut client, mut words) = waiting(alloc)?;
+    let line = creates(alloc)?;
+    let collect = Next::Collect;
+    let again = next_by(alloc, &mut client, &mut words, &line, collect, NOT_YET)?;
+    assert!(rt; again == Next::Over);
+    let call = Next::Call;
+    let late = next_by(alloc, &mut client, &mut words, &COLLECT, call, NOT_YET)?;
+    assert!(rt; late == Next::TimeOut);
+    Ok(())
+}
+
+// What it created is known behind its collect, and no sooner.
+#[test]
+fn knows_what_a_collect_tells(rt: HostRuntime) -> Result<(), Fail> {
+    let alloc = rt.alloc();
+    let (mut client, mut words) = waiting(alloc)?;
+    let file = FileWord::Word(name(b"F")?);
+    assert!(rt; words.file_of(&file).counter == 0);
+    let created = Reply::Created {
+        file: FILE,
+        open_no: 7,
+    };
+    let call = Next::Call;
+    let over = next_by(alloc, &mut client, &mut words, &COLLECT, call, created)?;
+    assert!(rt; over == Next::Over && client.waiting.is_none());
+    assert!(rt; words.file_of(&file) == FILE);
+    assert!(rt; client.opens.get(&FILE) == Some(&7));
+    Ok(())
+}
+
+// A word that was bound again does not stand for what an older line creates.
+#[test]
+fn binds_no_word_that_was_bound_again(rt: HostRuntime) -> Result<(), Fail> {
+    let alloc = rt.alloc();
+    let mut client = begun(alloc)?;
+    let (mut words, line) = (Words::new(alloc), creates(alloc)?);
+    words.at_line(&line)?;
+    next_by(alloc, &mut client, &mut words, &line, Next::Call, NOT_YET)?;
+    words.at_line(&line)?;
+    let other = next_by(alloc, &mut client, &mut words, &line, Next::Call, NOT_YET)?;
+    assert!(rt; other == Next::Over);
+    let created = Reply::Created {
+        file: FILE,
+        open_no: 7,
+    };
+    next_by(
+        alloc,
+        &mut client,
+        &mut words,
+        &COLLECT,
+        Next::Call,
+        created,
+    )?;
+    assert!(rt; words.file_of(&FileWord::Word(name(b"F")?)).counter == 0);
+    assert!(rt; client.opens.get(&FILE) == Some(&7));
+    Ok(())
+}
+
+// A collect that tells of a dead transaction ends the call that waits and not the transaction; an abort ends both.
+#[test]
+fn keeps_its_transaction_behind_a_collect(rt: HostRuntime) -> Result<(), Fail> {
+    let alloc = rt.alloc();
+    let mut client = begun(alloc)?;
+    let (mut words, line) = (Words::new(alloc), creates(alloc)?);
+    next_by(alloc, &mut client, &mut words, &line, Next::Call, NOT_YET)?;
+    let dead = Reply::Refused(Refusal::Aborted {
+        cause: Cause::TimedOut,
+    });
+    next_by(alloc, &mut client, &mut words, &COLLECT, Next::Call, dead)?;
+    assert!(rt; client.waiting.is_none() && client.trans.is_some());
+    next_by(alloc, &mut client, &mut words, &line, Next::Call, NOT_YET)?;
+    let abort = Line::Abort { client: 2 };
+    let asked = Reply::Refused(Refusal::Aborted {
+        cause: Cause::Asked,
+    });
+    next_by(alloc, &mut client, &mut words, &abort, Next::Call, asked)?;
+    assert!(rt; client.waiting.is_none() && client.trans.is_none());
     Ok(())
 }

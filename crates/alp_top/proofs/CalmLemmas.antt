@@ -13,6 +13,7 @@ use Rattle.alp_files.specs.declared.refusal.Refusal.{Refusal}
 use Rattle.alp_files.specs.declared.refusal.Refusal.TheVariants as refusal
 use Rattle.alp_files.specs.declared.refusal.Why.{Why}
 use Rattle.alp_files.specs.declared.refusal.Why.TheVariants as why
+use Rattle.alp_files.specs.declared.refusal.Cause.{Cause}
 use Rattle.alp_files.specs.declared.refusal.Cause.TheVariants as cause
 use Rattle.alp_journal.specs.declared.act.Act.{Act}
 use Rattle.alp_journal.specs.declared.act.Act.TheVariants as act
@@ -20,12 +21,13 @@ use Rattle.alp_journal.specs.declared.event.Event.{Event}
 use Rattle.alp_journal.specs.declared.event.Event.TheVariants as event
 use Rattle.alp_journal.specs.Along.{Where}
 use Rattle.alp_journal.specs.Coordinator.{Fate, Running, Finishing, Undrawn, Committed, Forgotten, Ended}
-use Rattle.alp_journal.specs.Desk.{Session, file_trans}
+use Rattle.alp_journal.specs.Desk.{Session, Waiting, file_trans, waiting_at}
+use Rattle.alp_journal.specs.Holder.{Life}
 use Rattle.alp_journal.specs.State.{State}
 use Rattle.alp_journal.specs.Moves.{is_new, is_stop, stops}
 use Rattle.alp_journal.specs.Laws.{granted_by}
 use Rattle.alp_journal.specs.Messages.{first_why}
-use Rattle.alp_journal.specs.Answers.{First, OrFault, IsAnswer, IsFileOf, IsFileAnswer, part_refusal, finish_reply, voted_reply}
+use Rattle.alp_journal.specs.Answers.{First, OrFault, IsAnswer, IsFileOf, IsFileAnswer, IsThreads, IsFileCollected, IsFileCollectedOf, IsCollectedOf, IsCollected, part_refusal, finish_reply, voted_reply}
 use Rattle.alp_journal.specs.Answered.{IsAnsweredEntry, GrantsFor, is_fault_reply}
 use Rattle.alp_node.specs.Halts.{HaveCauses}
 use Rattle.alp_node.specs.Served.{IsServed, IsAskable}
@@ -87,12 +89,30 @@ module _ (failed : Bool) (s : State) (y : Reply) (quiet : is_fault_reply s.holde
   file_calm client c None h = h
   file_calm client c (Some t) h = first_map (part_refusal s client t) y _ _ (or_calm (IsFileAnswer s t c y (s.holder.lives t))) h
 
+  collected_here : (w : Waiting) (t : TransId) (dead : Option Cause) (l : Option Life) → IsFileCollected failed s t w y dead l → IsFileCollected false s t w y dead l
+  collected_here w t (Some c) l h = h
+  collected_here w t None None h = h
+  collected_here w t None (Some l) h = where_map w.is_granted _ _ _ (or_calm (IsThreads s t l w.call y)) h
+
+  collected_file : (client : ℕ) (w : Waiting) (o : Option TransId) → IsFileCollectedOf failed s client w y o → IsFileCollectedOf false s client w y o
+  collected_file client w None h = h
+  collected_file client w (Some t) h = collected_here w t (s.desk.dead client t) (s.holder.lives t) h
+
+  collected_call : (client : ℕ) (w : Waiting) (c : Call) → IsCollectedOf failed s client w y c → IsCollectedOf false s client w y c
+  collected_call client w (call.Finish t commit) h = h
+  collected_call client w (call.Join t) h = h
+  collected_call client w c h = collected_file client w (file_trans c) h
+
+  collect_calm : (client : ℕ) (o : Option Waiting) → IsCollected failed s client y o → IsCollected false s client y o
+  collect_calm client None h = h
+  collect_calm client (Some w) h = collected_call client w w.call h
+
   answer_calm : (client : ℕ) (c : Call) → IsAskable c → IsAnswer failed s client c y → IsAnswer false s client c y
   answer_calm client (call.Hello name) served h = h
   answer_calm client (call.Begin seen) served h = h
   answer_calm client (call.Join t) served h = h
   answer_calm client (call.Outcome t) served h = h
-  answer_calm client (call.Collect n) served h = absurd served.0
+  answer_calm client (call.Collect n) served h = collect_calm client (waiting_at s.desk client n) h
   answer_calm client (call.Finish t commit) served h =
       where_map (t.server == s.holder.server) _ _ _
       (first_map _ y _ _ (commit_calm t commit (reply.Refused (refusal.Aborted cause.Asked)))) h

@@ -4,6 +4,7 @@ use Rattle.std.specs.List.{AllByRecursion}
 use Rattle.std.proofs.Common.{inl, inr, ◌⊎◌, ◌≡◌, ℕ, zero, suc, ◌+◌, ◌<◌, ◌≤◌, List, [], ◌∷◌, ◌++◌, refl, sym, ◌∙◌, ap, subst, arith}
 use Rattle.std.proofs.Math.Nat.{le-max_left, le-max_right}
 use Rattle.std.proofs.lemmas.Bool.Decides.{eqb_tells}
+use Rattle.alp_base.specs.declared.ids.TransId.{TransId}
 use Rattle.alp_files.specs.declared.call.Call.{Call}
 use Rattle.alp_files.specs.declared.call.Call.TheVariants as call
 use Rattle.alp_journal.specs.declared.entry.Entry.{Entry}
@@ -21,7 +22,8 @@ use Rattle.alp_history.proofs.Linked.{in-left, in-right}
 use Rattle.alp_history.proofs.Logs.{opening-server}
 use Rattle.alp_session.specs.declared.client.Client.{Client}
 use Rattle.alp_top.specs.Turns.{Turn, own_in, sent_in}
-use Rattle.alp_top.specs.Plays.{Records, AreRecorded}
+use Rattle.alp_top.specs.Plays.{Happening, sent_of, Records, AreRecorded}
+use Rattle.alp_top.specs.Plays as happening
 use Rattle.alp_top.specs.Steps.{IsInTurn, AreNumbered, AsksNoOutcome, IsNoOutcome, HasSaid}
 use Rattle.alp_top.proofs.SingleLemmas.{single, of_self, by_server}
 
@@ -34,17 +36,20 @@ pub record IsEntered (epoch at : ℕ) (x : ℕ × Item) (es : List Entry) : Type
   pub stands : slice_get es place ≡ Some entry
   pub records : Records epoch (at + place) x entry
 
-entered : (epoch at : ℕ) (x : ℕ × Item) (xs : List (ℕ × Item)) (es : List Entry) → AreRecorded epoch at xs es → IsIn x xs → IsEntered epoch at x es
+entered : (epoch at : ℕ) (x : ℕ × Item) (hs : List Happening) (es : List Entry) → AreRecorded epoch at hs es → IsIn x (sent_of hs) → IsEntered epoch at x es
 entered epoch at x [] es h i = absurd i
-entered epoch at x (y ∷ xs) [] h i = absurd h
-entered epoch at x (y ∷ xs) (e ∷ es) h (inl is) = record {
+entered epoch at x (y ∷ hs) [] h i = absurd h
+entered epoch at x (happening.sent_it k y ∷ hs) (e ∷ es) h (inl is) = record {
   place = 0;
   entry = e;
   stands = refl;
   records = subst (λ (n : ℕ). Records epoch n x e) (let same : at ≡ at + 0 = omega arith in same) (subst (λ (z : ℕ × Item). Records epoch at z e) (sym is) h.0);
 }
-entered epoch at x (y ∷ xs) (e ∷ es) h (inr i) =
-    let rest = entered epoch (at + 1) x xs es h.1 i in
+entered epoch at x (happening.sent_it k y ∷ hs) (e ∷ es) h (inr i) =
+    let rest = entered epoch (at + 1) x hs es h.1 i in
+    record { place = suc rest.place; entry = rest.entry; stands = rest.stands; records = subst (λ (n : ℕ). Records epoch n x rest.entry) (omega arith) rest.records }
+entered epoch at x (happening.timed_out t ∷ hs) (e ∷ es) h i =
+    let rest = entered epoch (at + 1) x hs es h.1 i in
     record { place = suc rest.place; entry = rest.entry; stands = rest.stands; records = subst (λ (n : ℕ). Records epoch n x rest.entry) (omega arith) rest.records }
 
 -- an entry of a call that is recorded has its item
@@ -53,16 +58,29 @@ pub record IsSent (epoch i : ℕ) (xs : List (ℕ × Item)) (e : Entry) : Type 0
   pub among : IsIn item xs
   pub records : Records epoch i item e
 
-sent_there : (epoch at i : ℕ) (e : Entry) (xs : List (ℕ × Item)) (es : List Entry) → AreRecorded epoch at xs es → slice_get es i ≡ Some e → IsSent epoch (at + i) xs e
-sent_there epoch at i e [] [] h is = cc
-sent_there epoch at i e [] (f ∷ es) h is = absurd h
-sent_there epoch at i e (x ∷ xs) [] h is = absurd h
-sent_there epoch at zero e (x ∷ xs) (f ∷ es) h is =
+-- the entry is of a call
+abbrev IsCall : Entry → Type 0
+IsCall e = (client : ℕ) × (epoch : ℕ) × (number : ℕ) × (c : Call) × (e.event ≡ event.Call client epoch number c)
+
+no_timeout : (e : Entry) (t : TransId) → e.event ≡ event.Timeout t → IsCall e → ⊥
+no_timeout e t is call = let (client, epoch, number, c, calls) = call in cc
+
+sent_there : (epoch at i : ℕ) (e : Entry) (hs : List Happening) (es : List Entry) → AreRecorded epoch at hs es → slice_get es i ≡ Some e → IsCall e → IsSent epoch (at + i) (sent_of hs) e
+sent_there epoch at i e [] [] h is call = cc
+sent_there epoch at i e [] (f ∷ es) h is call = absurd h
+sent_there epoch at i e (x ∷ hs) [] h is call = absurd h
+sent_there epoch at zero e (happening.sent_it k x ∷ hs) (f ∷ es) h is call =
     let same : f ≡ e = cc in
-    record { item = x; among = inl refl; records = subst (λ (n : ℕ). Records epoch n x e) (let alike : at ≡ at + 0 = omega arith in alike) (subst (Records epoch at x) same h.0) }
-sent_there epoch at (suc i) e (x ∷ xs) (f ∷ es) h is =
-    let rest = sent_there epoch (at + 1) i e xs es h.1 is in
+    record { item = (k, x); among = inl refl; records = subst (λ (n : ℕ). Records epoch n (k, x) e) (let alike : at ≡ at + 0 = omega arith in alike) (subst (Records epoch at (k, x)) same h.0) }
+sent_there epoch at zero e (happening.timed_out t ∷ hs) (f ∷ es) h is call =
+    let same : f ≡ e = cc in
+    absurd (no_timeout e t (subst (λ (x : Entry). x.event ≡ event.Timeout t) same h.0) call)
+sent_there epoch at (suc i) e (happening.sent_it k x ∷ hs) (f ∷ es) h is call =
+    let rest = sent_there epoch (at + 1) i e hs es h.1 is call in
     record { item = rest.item; among = inr rest.among; records = subst (λ (n : ℕ). Records epoch n rest.item e) (omega arith) rest.records }
+sent_there epoch at (suc i) e (happening.timed_out t ∷ hs) (f ∷ es) h is call =
+    let rest = sent_there epoch (at + 1) i e hs es h.1 is call in
+    record { item = rest.item; among = rest.among; records = subst (λ (n : ℕ). Records epoch n rest.item e) (omega arith) rest.records }
 
 -- ---- turns and lists
 
@@ -147,18 +165,32 @@ lower : (a b : ℕ) (xs : List items.Item) → a ≤ b → AreRising b xs → Ar
 lower a b [] le h = tt
 lower a b (x ∷ xs) le h = let (p, at, low, rest) = h in (p, at, omega (arith, le, low), rest)
 
-own_items : (epoch k c : ℕ) (b : Bool) (zs : List Item) (ts : List Turn) (at : ℕ) (es : List Entry) → ((a : ℕ) (fs : List Entry) → AreRecorded epoch a (sent_in ts) fs → AreRising a (list_map item_of (own_in k ts)))
-    → AreRecorded epoch at (list_map (λ (x : Item). (c, x)) zs ++ sent_in ts) es → AreRising at (list_map item_of (cond b zs [] ++ own_in k ts))
-own_items epoch k c true [] ts at es rest h = rest at es h
-own_items epoch k c false [] ts at es rest h = rest at es h
-own_items epoch k c b (z ∷ zs) ts at [] rest h = absurd h
-own_items epoch k c true (z ∷ zs) ts at (e ∷ es) rest h = (at, h.0.place, omega arith, own_items epoch k c true zs ts (at + 1) es rest h.1)
-own_items epoch k c false (z ∷ zs) ts at (e ∷ es) rest h = lower at (at + 1) (list_map item_of (own_in k ts)) (omega arith) (own_items epoch k c false zs ts (at + 1) es rest h.1)
+-- and so do those of all that was sent
+abbrev AreSentRising : ℕ → List (ℕ × Item) → Type 0
+AreSentRising from [] = Unit {0}
+AreSentRising from (x ∷ xs) = (p : ℕ) × (x.1.place ≡ Some p) × (from ≤ p) × AreSentRising (p + 1) xs
+
+lower_sent : (a b : ℕ) (xs : List (ℕ × Item)) → a ≤ b → AreSentRising b xs → AreSentRising a xs
+lower_sent a b [] le h = tt
+lower_sent a b (x ∷ xs) le h = let (p, at, low, rest) = h in (p, at, omega (arith, le, low), rest)
+
+sent_rises : (epoch at : ℕ) (hs : List Happening) (es : List Entry) → AreRecorded epoch at hs es → AreSentRising at (sent_of hs)
+sent_rises epoch at [] es h = tt
+sent_rises epoch at (x ∷ hs) [] h = absurd h
+sent_rises epoch at (happening.sent_it k x ∷ hs) (e ∷ es) h = (at, h.0.place, omega arith, sent_rises epoch (at + 1) hs es h.1)
+sent_rises epoch at (happening.timed_out t ∷ hs) (e ∷ es) h = lower_sent at (at + 1) (sent_of hs) (omega arith) (sent_rises epoch (at + 1) hs es h.1)
+
+own_items : (k c : ℕ) (b : Bool) (zs : List Item) (ts : List Turn) (at : ℕ) → ((a : ℕ) → AreSentRising a (sent_in ts) → AreRising a (list_map item_of (own_in k ts)))
+    → AreSentRising at (list_map (λ (x : Item). (c, x)) zs ++ sent_in ts) → AreRising at (list_map item_of (cond b zs [] ++ own_in k ts))
+own_items k c true [] ts at rest h = rest at h
+own_items k c false [] ts at rest h = rest at h
+own_items k c true (z ∷ zs) ts at rest h = let (p, there, low, more) = h in (p, there, low, own_items k c true zs ts (p + 1) rest more)
+own_items k c false (z ∷ zs) ts at rest h = let (p, there, low, more) = h in lower at (p + 1) (list_map item_of (own_in k ts)) (omega (arith, low)) (own_items k c false zs ts (p + 1) rest more)
 
 -- the items of a client are recorded in its order
-rises : (epoch k : ℕ) (ts : List Turn) (at : ℕ) (es : List Entry) → AreRecorded epoch at (sent_in ts) es → AreRising at (list_map item_of (own_in k ts))
-rises epoch k [] at es h = tt
-rises epoch k (t ∷ ts) at es h = own_items epoch k t.client (t.client == k) t.items ts at es (rises epoch k ts) h
+rises : (k : ℕ) (ts : List Turn) (at : ℕ) → AreSentRising at (sent_in ts) → AreRising at (list_map item_of (own_in k ts))
+rises k [] at h = tt
+rises k (t ∷ ts) at h = own_items k t.client (t.client == k) t.items ts at (rises k ts) h
 
 place_in : (from at : ℕ) (xs : List items.Item) (x : items.Item) → AreRising from xs → IsIn x xs → x.place ≡ Some at → from ≤ at
 place_in from at [] x h i is = absurd i
@@ -235,7 +267,9 @@ pub record IsSaid (s : ServerLog) (h : Handed) (turns : List Turn) (calls ends :
   pub epoch : ℕ
   pub quiet : (i client epoch number : ℕ) (c : Call) (e : Entry) → slice_get ends i ≡ Some e → e.event ≡ event.Call client epoch number c → ⊥
   pub handed : (k : ℕ) → h k ≡ list_map item_of (own_in k turns)
-  pub recorded : AreRecorded epoch 0 (sent_in turns) calls
+  pub happened : List Happening
+  pub sent : sent_of happened ≡ sent_in turns
+  pub recorded : AreRecorded epoch 0 happened calls
   pub said : (k : ℕ) → HasSaid k (client_of k) (list_map item_of (own_in k turns))
 
 get_left : (xs ys : List Entry) (i : ℕ) (e : Entry) → slice_get xs i ≡ Some e → slice_get (xs ++ ys) i ≡ Some e
@@ -267,7 +301,7 @@ module _ (s : ServerLog) (h : Handed) (turns : List Turn) (calls ends : List Ent
   put : (k : ℕ) (x : items.Item) → IsIn x (h k) → IsPut k x
   put k x i =
       let (y, there, is) = member k x i in
-      let e = entered g.epoch 0 (k, y) (sent_in turns) calls g.recorded (own_sent k y turns there) in
+      let e = entered g.epoch 0 (k, y) g.happened calls g.recorded (subst (IsIn {A = ℕ × Item} (k, y)) (sym g.sent) (own_sent k y turns there)) in
       let r = e.records in
       let made : item_of y ≡ record { server = 1; mark = mark_of y.mark; sent = Some (record { client = k; epoch = r.epoch; number = r.number; call = r.call }); reply = e.entry.reply; place = Some e.place } =
       (λ j. record { server = r.server j; mark = mark_of y.mark; sent = sent_as y k r.epoch r.number r.call r.sent j; reply = sym r.reply j; place = (r.place ∙ ap Some (let at : 0 + e.place ≡ e.place = omega arith in at)) j }) in
@@ -300,12 +334,12 @@ module _ (s : ServerLog) (h : Handed) (turns : List Turn) (calls ends : List Ent
     g.server,
     elim (get_either calls ends i e (ap (λ (es : List Entry). slice_get es i) (sym g.journal) ∙ at)) [
       | inl there ↦
-          let q = sent_there g.epoch 0 i e (sent_in turns) calls g.recorded there in
+          let q = sent_there g.epoch 0 i e g.happened calls g.recorded there (client, epoch, number, c, is) in
           let k : ℕ = q.item.0 in
           let y : Item = q.item.1 in (
             k,
             item_of y,
-            subst (IsIn (item_of y)) (sym (g.handed k)) (in-map item_of y (own_in k turns) (sent_own k y turns q.among)),
+            subst (IsIn (item_of y)) (sym (g.handed k)) (in-map item_of y (own_in k turns) (sent_own k y turns (subst (IsIn {A = ℕ × Item} q.item) g.sent q.among))),
             q.records.server,
             q.records.place ∙ ap Some (let at : 0 + i ≡ i = omega arith in at),
           )
@@ -324,7 +358,7 @@ module _ (s : ServerLog) (h : Handed) (turns : List Turn) (calls ends : List Ent
   numbered k = subst (AreNumbered k 0) (sym (g.handed k)) (g.said k).numbered
 
   rising : (k : ℕ) → AreRising 0 (h k)
-  rising k = subst (AreRising 0) (sym (g.handed k)) (rises g.epoch k turns 0 calls g.recorded)
+  rising k = subst (AreRising 0) (sym (g.handed k)) (rises k turns 0 (subst (AreSentRising 0) g.sent (sent_rises g.epoch 0 g.happened calls g.recorded)))
 
   no_earlier : (client owner : ℕ) (x y : items.Item) → IsIn x (h client) → IsIn y (h owner) → IsOwn x.mark → IsBefore x y → ⊥
   no_earlier client owner x y i j own before =

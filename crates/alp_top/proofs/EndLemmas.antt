@@ -39,7 +39,7 @@ use Rattle.alp_node.specs.Nodes as node
 use Rattle.alp_node.specs.Nodes.{AreLive, start_in}
 use Rattle.alp_node.specs.ServerState.{trans_to}
 use Rattle.alp_top.specs.Logs.{Log, ServerOfLog, openings, start_of, log_of, lists_of}
-use Rattle.alp_top.specs.Turns.{Turn, lists_in, own_in, sent_in, turns_of, turns_text}
+use Rattle.alp_top.specs.Turns.{Turn, lists_in, own_in, turns_of, turns_text}
 use Rattle.alp_top.specs.Plays.{AreRecorded, Plays, ranks_from}
 use Rattle.alp_vault.specs.declared.vault.Vault.{Ghosts}
 use Rattle.alp_node.specs.Durable.{said_of}
@@ -51,7 +51,7 @@ use Rattle.alp_top.specs.Reports.{report_of, ending_text, end_of, files_text_of,
 use Rattle.alp_top.specs.Headline.{IsRun, IsOfScript}
 use Rattle.alp_top.specs.Anywhere.{IsPlayedThrough}
 use Rattle.alp_top.specs.declared.finish.Ending.{Ending}
-use Rattle.alp_top.proofs.RunLemmas.{turns_are}
+use Rattle.alp_top.proofs.RunLemmas.{turns_are, plays_sent}
 use Rattle.alp_top.proofs.SingleLemmas.{single, IsSingle, proper, decided_many}
 use Rattle.alp_top.proofs.ClientLemmas.{IsSaid, of_clients}
 
@@ -178,7 +178,7 @@ module _ {V : Type 0} (G : Ghosts V) (lines : List NumberedLine) (first n : Node
   lists_are k = ap (λ (ws : List (Vec Item Global)). lists_in ws k) lists ∙ h.lists k
 
   turns_same : turns ≡ turns_of lines (lists_of G log)
-  turns_same = turns_are new_crowd c lines turns (lists_of G log) rises h.plays lists_are
+  turns_same = turns_are new_crowd c lines turns h.happened (lists_of G log) rises h.plays lists_are
 
   ends_at : end_of G 1 x ≡ state_of G n
   ends_at = (λ i. state_after next (opened (same i)) (servers.entries i))
@@ -199,13 +199,12 @@ module _ {V : Type 0} (G : Ghosts V) (lines : List NumberedLine) (first n : Node
     calls = calls;
     ends = end.ended.ends;
     live = end.live;
-    plays = subst (λ (ts : List Turn). Plays new_crowd lines ts c) turns_same h.plays;
+    happened = h.happened;
+    plays = subst (λ (ts : List Turn). Plays new_crowd lines ts h.happened c) turns_same h.plays;
     all = λ k. lists_are k ∙ ap (own_in k) turns_same;
     many = ap (λ (ws : List (Vec Item Global)). length ws) lists ∙ h.places;
     journal = journal ∙ end.ended.journal;
-    recorded =
-        subst (λ (here : ℕ). AreRecorded here 0 (sent_in (turns_of lines (lists_of G log))) calls) epoch_is
-        (subst (λ (ts : List Turn). AreRecorded out.before.kept.epoch 0 (sent_in ts) calls) turns_same h.recorded);
+    recorded = subst (λ (here : ℕ). AreRecorded here 0 h.happened calls) epoch_is h.recorded;
     short = (let long : length x.journal ≡ length n.journal = ap (λ (js : List Entry). length js) journal in let most : length n.journal ≤ entries_limit = on.short in omega (arith, long, most));
     ended = end.ended.ended;
     ranks = servers.ranks ∙ ap (ranks_from 1) (sym journal);
@@ -250,6 +249,8 @@ module _ {V : Type 0} (G : Ghosts V) (lines : List NumberedLine) (first n : Node
       epoch = out.before.kept.epoch;
       quiet = no_call end.ended.ends end.live end.ended.ended;
       handed = λ k. ap (list_map item_of) (lists_are k);
+      happened = h.happened;
+      sent = plays_sent new_crowd c lines turns h.happened h.plays;
       recorded = h.recorded;
       said = h.said;
     }

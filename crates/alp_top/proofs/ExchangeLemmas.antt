@@ -27,11 +27,13 @@ use Rattle.alp_session.specs.Maps.{WordMap}
 use Rattle.alp_session.specs.declared.client.Client.{Client}
 use Rattle.alp_session.specs.declared.client.Greeted.{Greeted}
 use Rattle.alp_session.specs.declared.frames.Frames.{Frames}
+use Rattle.alp_session.specs.declared.waiting.Next.{Next}
+use Rattle.alp_session.specs.declared.waiting.Settings.{Settings}
 use Rattle.alp_session.specs.Calls.{call_by}
-use Rattle.alp_session.specs.Frames.{request_in, request_of, mark_of, read_as, told_by, IsRequestOf, KeepsRequests}
-use Rattle.alp_session.specs.Heard.{greeted, heard, heard_own, heard_again, keeps, learned_reply, words_heard}
+use Rattle.alp_session.specs.Frames.{request_in, mark_of, read_as, told_by, IsRequestOf, KeepsRequests}
+use Rattle.alp_session.specs.Heard.{greeted, is_collect, answered, heard, heard_own, heard_again, keeps, words_heard}
 use Rattle.alp_session.specs.Crowd.{Crowd}
-use Rattle.alp_session.specs.Crowds.{client_at, with_client, asks, hears}
+use Rattle.alp_session.specs.Crowds.{client_at, with_client, request_next, asks, hears}
 use Rattle.alp_session.proofs.CrowdLemmas.{at_same, at_other, as_many}
 use Rattle.alp_session.proofs.FrameLemmas.{again_stays, own_stays, kept_as, kept_more}
 use Rattle.alp_node.specs.Served.{IsTurnCall}
@@ -49,10 +51,10 @@ use Rattle.alp_vault.specs.declared.vault.Vault.{Ghosts}
 use Rattle.alp_node.specs.NodeStates.{NodeState}
 use Rattle.alp_top.specs.Exchanges.{event_of, IsAsked, IsHanded}
 use Rattle.alp_top.specs.Plays.{IsOfLine, handed_for}
-use Rattle.alp_top.specs.Steps.{SameSession, IsOfEpoch, IsPast, SpellsPast, KeepsPast, IsInStep, InStep, HasSaid, HasLast, Exchanged}
+use Rattle.alp_top.specs.Steps.{SameSession, IsOfEpoch, IsPast, SpellsPast, KeepsPast, IsOwnNext, IsInStep, InStep, HasSaid, HasLast, Exchanged}
 use Rattle.alp_top.specs.declared.exchange.Handed.{Handed}
 use Rattle.alp_top.proofs.AskLemmas.{line_call, line_has_seen, no_outcome}
-use Rattle.alp_top.proofs.StepLemmas.{IsOwn, IsAgain, own_asked, asked_here, told_low, told_knows, again_knows, sent_as, sent_order, past_order}
+use Rattle.alp_top.proofs.StepLemmas.{asked_line, asked_form, IsOwn, IsAgain, own_asked, asked_here, told_low, answered_knows, again_knows, sent_as, sent_order, past_order}
 use Rattle.alp_top.proofs.SaidLemmas.{said_more, item_at}
 
 -- ---- the stamps of an answer
@@ -142,7 +144,8 @@ pub record IsMore {V : Type 0} (old new : ServerState V) (m : items.Mark) (k : �
 
 -- ---- to its own frame
 
-module _ {V : Type 0} (old new : ServerState V) (k : ℕ) (l : Line) (words : WordMap) (d : Client) (x : Call) (y : Reply) (frame : List ℕ) (form : IsForm l) (small : k ≤ 16) (full : length old.sessions.places ≡ 17) (asked : call_by words d l ≡ Some x)
+module _ {V : Type 0} (old new : ServerState V) (k : ℕ) (l : Line) (now : Next) (words : WordMap) (s : Settings) (d : Client) (x : Call) (y : Reply) (frame : List ℕ) (form : IsForm l) (small : k ≤ 16) (full : length old.sessions.places ≡ 17)
+    (asked : call_by words d (asked_line k l now) ≡ Some x)
     (own : IsRequestOf k frame) (kept : KeepsRequests k d) (past : KeepsPast d) where
   -- the session of a client is the one that was counted, or as it was
   session_now : (w : Session) (j : ℕ) → new.sessions ≡ with_session old.sessions k w → session_at new.sessions j ≡ cond {A = Option Session} (j == k) (Some w) (session_at old.sessions j)
@@ -193,23 +196,23 @@ module _ {V : Type 0} (old new : ServerState V) (k : ℕ) (l : Line) (words : Wo
       })
 
   turn : (g : Greeted) → d.session ≡ Some g → whole request frame ≡ Some (request_in k d (Some g) x) → g.epoch ≡ old.epoch → d.told.ts ≤ old.clock → IsTurnCall x → HasTurned (Some order.Next) old new (event_of (request_in k d (Some g) x)) (Some y)
-      → IsMore old new items.Own k d (keeps (learned_reply words (record d { session = Some (record g { last = g.last + 1 }) }) l y) frame) g.epoch (g.last + 1) x (Some y)
+      → IsMore old new items.Own k d (keeps (answered words s (record d { session = Some (record g { last = g.last + 1 }) }) (g.last + 1) l (is_collect l now) (Some y)).0 frame) g.epoch (g.last + 1) x (Some y)
   turn g has spelled epoch low served turned =
       let (z, is, on) = turned.sessions in
       let (inside_z, stood, stood_there, counted) = on in
       let inside : IsInSession y = subst IsInSession (sym (same_reply y z is)) inside_z in
-      let now : Session = record stood { last = g.last + 1; reply = z } in
+      let counts : Session = record stood { last = g.last + 1; reply = z } in
       let h2 : Greeted = record g { last = g.last + 1 } in
       let d2 : Client = record d { session = Some h2 } in
-      let d3 : Client = learned_reply words d2 l y in
-      let knows = told_knows words d2 l y inside in
-      let frames : d3.frames ≡ d.frames = own_stays words d (Some g) l (Some y) in
+      let d3 : Client = (answered words s d2 (g.last + 1) l (is_collect l now) (Some y)).0 in
+      let knows = answered_knows words s d2 (g.last + 1) l (is_collect l now) y inside in
+      let frames : d3.frames ≡ d.frames = own_stays words s d (Some g) l now (Some y) in
       let up : (r : Request) → IsPast d.session r → IsPast d3.session r =
       (λ r h. subst (λ (o : Option Greeted). IsPast o r) (sym knows.session) (let before : IsPast (Some g) r = subst (λ (o : Option Greeted). IsPast o r) has h in (omega (arith, before.0), before.1, before.2))) in
       record {
         counts = record {
-          mine = subst (λ (o : Option Session). SameSession old.epoch d3.session o) (sym (mine_now now counted)) (subst (λ (o : Option Greeted). SameSession old.epoch o (Some now)) (sym knows.session) (epoch, refl));
-          others = other_now now counted;
+          mine = subst (λ (o : Option Session). SameSession old.epoch d3.session o) (sym (mine_now counts counted)) (subst (λ (o : Option Greeted). SameSession old.epoch o (Some counts)) (sym knows.session) (epoch, refl));
+          others = other_now counts counted;
           told = knows.within new.clock (omega (arith, low, turned.later)) (told_within new.clock y turned.times);
           frames = kept_more k d d3 frame frames kept own;
           past = past_kept d d3 frame frames up
@@ -225,7 +228,7 @@ module _ {V : Type 0} (old new : ServerState V) (k : ℕ) (l : Line) (words : Wo
               after = λ zs up. subst (λ (o : Option Greeted). HasLast o zs) (sym knows.session) up;
               told = knows.before;
               stamps = knows.stamps;
-              seen = λ all up. line_has_seen words d l x all form asked up;
+              seen = λ all up. line_has_seen words d (asked_line k l now) x all (asked_form k l now form) asked up;
               outcome = no_outcome x (turn_askable x served);
             })
             h;
@@ -233,7 +236,7 @@ module _ {V : Type 0} (old new : ServerState V) (k : ℕ) (l : Line) (words : Wo
 
   pub own_more : (o : Option Greeted) (w : Option Session) → d.session ≡ o → whole request frame ≡ Some (request_in k d o x) → SameSession old.epoch o w → d.told.ts ≤ old.clock → IsTurnCall x
       → HasTurned (Some (sent_as o)) old new (event_of (request_in k d o x)) (Some y)
-      → IsMore old new items.Own k d (keeps (heard_own words d o l (Some y)).0 frame) (request_in k d o x).epoch (request_in k d o x).number (request_in k d o x).call (Some y)
+      → IsMore old new items.Own k d (keeps (heard_own words s d o l now (Some y)).0 frame) (request_in k d o x).epoch (request_in k d o x).number (request_in k d o x).call (Some y)
   own_more None None has spelled h low served turned = greeting has spelled low turned
   own_more None (Some w) has spelled h low served turned = absurd h
   own_more (Some g) None has spelled h low served turned = absurd h
@@ -317,7 +320,7 @@ there_is None e = cc
 there_is (Some y) e = (y, refl)
 
 -- what comes of a frame of the client: the request that it spells, and how the client and its list go on
-record Comes {V : Type 0} (G : Ghosts V) (c : Crowd) (n m : NodeState V) (k : ℕ) (l : Line) (frame : List ℕ) (h : Handed) : Type 0 where
+record Comes {V : Type 0} (G : Ghosts V) (c : Crowd) (n m : NodeState V) (k : ℕ) (l : Line) (now : Next) (frame : List ℕ) (h : Handed) : Type 0 where
   asked : Request
   client : asked.client ≡ k
   spelled : whole request frame ≡ Some asked
@@ -325,27 +328,27 @@ record Comes {V : Type 0} (G : Ghosts V) (c : Crowd) (n m : NodeState V) (k : �
   marked : runs.mark_of (mark_of l) ≡ mark
   of_line : IsOfLine (mark_of l)
   stepped : IsAsked G n m asked h
-  more : IsMore n.kept m.kept mark k (client_at c k) (heard c.words (client_at c k) l frame h.reply).0 asked.epoch asked.number asked.call h.reply
+  more : IsMore n.kept m.kept mark k (client_at c k) (heard c.words c.settings (client_at c k) l now frame h.reply).0 asked.epoch asked.number asked.call h.reply
 
-module _ {V : Type 0} (G : Ghosts V) (c : Crowd) (n m : NodeState V) (k : ℕ) (l : NumberedLine) (frame : List ℕ) (h : Handed) (step : InStep G c n) (small : k ≤ 16) (form : IsForm l.line) (asks_it : asks c k l.line false ≡ Some frame)
-    (fits : IfSome (request_of c.words k (client_at c k) l.line) request.Fits) (handed : IsHanded G n m k frame (whole request frame) h) where
+module _ {V : Type 0} (G : Ghosts V) (c : Crowd) (n m : NodeState V) (k : ℕ) (l : NumberedLine) (now : Next) (frame : List ℕ) (h : Handed) (step : InStep G c n) (small : k ≤ 16) (form : IsForm l.line) (asks_it : asks c k l.line now ≡ Some frame)
+    (fits : IfSome (request_next c k l.line now) request.Fits) (owns : IsOwnNext l.line now) (handed : IsHanded G n m k frame (whole request frame) h) where
   abbrev d : Client
   d = client_at c k
 
   stepped_by : (asked : Request) → whole request frame ≡ Some asked → IsAsked G n m asked h
   stepped_by asked is = subst (λ (o : Option Request). IsHanded G n m k frame o h) is handed
 
-  comes_own : IsOwn c.words k d l.line frame → Comes G c n m k l.line frame h
+  comes_own : IsOwn c.words c.settings k d l.line now frame → Comes G c n m k l.line now frame h
   comes_own own =
       let x : Call = own.call in
       let q : Request = request_in k d d.session x in
       let went = stepped_by q own.spelled in
-      let served : IsTurnCall x = line_call c.words d l.line x (told_low G c n k step) form own.is in
+      let served : IsTurnCall x = line_call c.words d (asked_line k l.line now) x (told_low G c n k step) (asked_form k l.line now form) own.is in
       let at : order_in n.kept (event_of q) ≡ Some (sent_as d.session) = sent_order n.kept d k x d.session (session_at n.kept.sessions k) served (step.each k).session refl in
       let (y, is) = there_is h.reply (went.stepped.replies ∙ ap is_answered at ∙ sent_answered d.session) in
       let turned : HasTurned (Some (sent_as d.session)) n.kept m.kept (event_of q) (Some y) =
       subst (λ (o : Option Reply). HasTurned (Some (sent_as d.session)) n.kept m.kept (event_of q) o) is (subst (λ (o : Option CallOrder). HasTurned o n.kept m.kept (event_of q) h.reply) at went.stepped.turned) in
-      let more = own_more n.kept m.kept k l.line c.words d x y frame form small step.on.kept.ready.places own.is own.asked (step.each k).frames (step.each k).past d.session (session_at n.kept.sessions k) refl own.spelled (step.each k).session (step.each k).told served turned in
+      let more = own_more n.kept m.kept k l.line now c.words c.settings d x y frame form small step.on.kept.ready.places own.is own.asked (step.each k).frames (step.each k).past d.session (session_at n.kept.sessions k) refl own.spelled (step.each k).session (step.each k).told served turned in
       record {
         asked = q;
         client = own_asked k d d.session x;
@@ -354,14 +357,14 @@ module _ {V : Type 0} (G : Ghosts V) (c : Crowd) (n m : NodeState V) (k : ℕ) (
         marked = ap runs.mark_of own.mark;
         of_line = subst IsOfLine (sym own.mark) tt;
         stepped = went;
-        more = subst (λ (z : Client). IsMore n.kept m.kept items.Own k d z q.epoch q.number q.call h.reply) (sym (ap (λ (p : Client × Bool). p.0) (own.hears h.reply)))
-            (subst (λ (o : Option Reply). IsMore n.kept m.kept items.Own k d (keeps (heard_own c.words d d.session l.line o).0 frame) q.epoch q.number q.call o) (sym is) more);
+        more = subst (λ (z : Client). IsMore n.kept m.kept items.Own k d z q.epoch q.number q.call h.reply) (sym (ap (λ (p : Client × Next). p.0) (own.hears h.reply)))
+            (subst (λ (o : Option Reply). IsMore n.kept m.kept items.Own k d (keeps (heard_own c.words c.settings d d.session l.line now o).0 frame) q.epoch q.number q.call o) (sym is) more);
       }
 
-  comes_again : IsAgain c.words k d l.line frame → Comes G c n m k l.line frame h
+  comes_again : IsAgain c.words c.settings k d l.line now frame → Comes G c n m k l.line now frame h
   comes_again old = go d.session (session_at n.kept.sessions k) refl refl (step.each k).session old.past
     where
-      go : (o : Option Greeted) (w : Option Session) → d.session ≡ o → session_at n.kept.sessions k ≡ w → SameSession n.kept.epoch o w → IsPast o old.again → Comes G c n m k l.line frame h
+      go : (o : Option Greeted) (w : Option Session) → d.session ≡ o → session_at n.kept.sessions k ≡ w → SameSession n.kept.epoch o w → IsPast o old.again → Comes G c n m k l.line now frame h
       go None w has stands same past = absurd past
       go (Some g) None has stands same past = absurd same
       go (Some g) (Some w) has stands same past =
@@ -374,26 +377,26 @@ module _ {V : Type 0} (G : Ghosts V) (c : Crowd) (n m : NodeState V) (k : ℕ) (
             marked = ap runs.mark_of old.mark;
             of_line = subst IsOfLine (sym old.mark) tt;
             stepped = went;
-            more = subst (λ (z : Client). IsMore n.kept m.kept items.Repeated k d z old.again.epoch old.again.number old.again.call h.reply) (sym (ap (λ (p : Client × Bool). p.0) (old.hears h.reply)))
+            more = subst (λ (z : Client). IsMore n.kept m.kept items.Repeated k d z old.again.epoch old.again.number old.again.call h.reply) (sym (ap (λ (p : Client × Next). p.0) (old.hears h.reply)))
                 (past_more n.kept m.kept k d old.again h.reply g w has stands same (step.on.kept.ready.replies k w stands) (step.each k).told (step.each k).frames (step.each k).past old.client past went.stepped.turned);
           }
 
-  comes : Comes G c n m k l.line frame h
-  comes = elim (asked_here G c n k step l.line frame asks_it fits) [ inl own ↦ comes_own own | inr old ↦ comes_again old ]
+  comes : Comes G c n m k l.line now frame h
+  comes = elim (asked_here G c n k step l.line now frame asks_it fits owns) [ inl own ↦ comes_own own | inr old ↦ comes_again old ]
 
   -- the item of it, by how its line is marked
   abbrev item : Mark → Item
   item w = record { line = l.number; server = 1; mark = w; sent = h.sent; reply = h.reply; place = h.place }
 
-  pub exchanged : (new : Crowd) (over : Bool) (w : Mark) → (new, over) ≡ hears c k l.line frame (told_by h.bytes) → w ≡ mark_of l.line → Exchanged G c new n m k l frame over (item w)
-  exchanged new over w knows marks =
+  pub exchanged : (new : Crowd) (behind : Next) (w : Mark) → (new, behind) ≡ hears c k l.line now frame (told_by h.bytes) → w ≡ mark_of l.line → Exchanged G c new n m k l now frame behind (item w)
+  exchanged new behind w knows marks =
       let it = comes in
       let went = it.stepped in
       let q : Request = it.asked in
-      let knows_reply : (new, over) ≡ hears c k l.line frame h.reply = knows ∙ ap (hears c k l.line frame) went.told in
-      let words : WordMap = words_heard c.words d.session l.line h.reply in
-      let d2 : Client = (heard c.words d l.line frame h.reply).0 in
-      let left : new ≡ with_client c words k d2 = ap (λ (p : Crowd × Bool). p.0) knows_reply in
+      let knows_reply : (new, behind) ≡ hears c k l.line now frame h.reply = knows ∙ ap (hears c k l.line now frame) went.told in
+      let words : WordMap = words_heard c.words d l.line now h.reply in
+      let d2 : Client = (heard c.words c.settings d l.line now frame h.reply).0 in
+      let left : new ≡ with_client c words k d2 = ap (λ (p : Crowd × Next). p.0) knows_reply in
       let here : k < length c.places = omega (arith, step.places, small) in
       let mine : client_at new k ≡ d2 = ap (λ (z : Crowd). client_at z k) left ∙ at_same c words k d2 here in
       let sent_k : h.sent ≡ sent.Call k q.epoch q.number q.call = went.sent ∙ ap (λ (j : ℕ). sent.Call j q.epoch q.number q.call) it.client in

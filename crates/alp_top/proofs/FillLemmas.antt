@@ -1,16 +1,15 @@
 -- a run that ends where the journal of its server has no room
-use Rattle.std.specs.Prelude.{Bool, false, Option, Some, IsSome, IsTrue, map as list_map, slice_get, Vec}
+use Rattle.std.specs.Prelude.{◌⊎◌, Option, None, Some, IsSome, IsTrue, map as list_map, slice_get, Vec}
 use Rattle.std.specs.Global.{Global}
 use Rattle.std.proofs.Common.{inl, inr, ◌≡◌, ℕ, ◌+◌, ◌<◌, ◌≤◌, List, [], ◌∷◌, ◌++◌, length, take, drop, get_or, refl, sym, ◌∙◌, ap, subst, arith, append_assoc, append-nil, length-append}
 use Rattle.std.proofs.lemmas.List.{map-append, take_more, take-append-drop}
-use Rattle.std.proofs.lemmas.Grind.{flat_map-append}
 use Rattle.alp_base.specs.declared.ids.TransId.{TransId}
 use Rattle.alp_files.specs.declared.call.Call.{Call}
 use Rattle.alp_journal.specs.declared.entry.Entry.{Entry}
 use Rattle.alp_journal.specs.declared.event.Event.TheVariants as event
 use Rattle.alp_journal.specs.declared.log.Item.{Item}
 use Rattle.alp_journal.specs.Along.{state_after}
-use Rattle.alp_journal.specs.Moves.{next}
+use Rattle.alp_journal.specs.Moves.{next as next_state}
 use Rattle.alp_journal.specs.Opening.{Start}
 use Rattle.alp_journal.specs.State.{opened}
 use Rattle.alp_history.specs.Handed.{ArePromisesKept}
@@ -24,36 +23,39 @@ use Rattle.alp_history.proofs.Wholes.{wholeness}
 use Rattle.alp_lines.specs.Named.{client_named}
 use Rattle.alp_script.specs.declared.numbered.NumberedLine.{NumberedLine}
 use Rattle.alp_session.specs.Crowd.{Crowd}
-use Rattle.alp_session.specs.Crowds.{client_at, asks, at_line}
+use Rattle.alp_session.specs.Crowds.{new_crowd}
+use Rattle.alp_session.specs.Crowds.{client_at, asks, at_line, declares, times_out}
+use Rattle.alp_session.specs.declared.waiting.Next.{Next}
+use Rattle.alp_session.specs.declared.waiting.Next.TheVariants as next
 use Rattle.alp_session.specs.declared.client.Client.{Client}
 use Rattle.alp_node.specs.Nodes as node
 use Rattle.alp_node.specs.Nodes.{AreLive, IsFull, start_in}
 use Rattle.alp_node.specs.NodeStates.{NodeState}
 use Rattle.alp_vault.specs.declared.vault.Vault.{Ghosts}
 use Rattle.alp_top.specs.Fills.{HasStopped, log_so_far}
-use Rattle.alp_top.specs.Plays.{SendsMore, AreRecorded, ranks_from}
+use Rattle.alp_top.specs.Plays.{Happening, happened, sent_turns, timeout_by, SendsMore, BeginsLine, AreRecorded, ranks_from}
 use Rattle.alp_top.specs.Runs.{HasPlayed, HasTimedOut, TimedOutSome, IsNearEnd, HasFilledUp}
 use Rattle.alp_top.specs.Servers.{HasNoRoom}
 use Rattle.alp_top.specs.Steps.{InStep, HasSaid, Exchanged, DidSome, AddsSome}
-use Rattle.alp_top.specs.Turns.{Turn, own_in, sent_in}
+use Rattle.alp_top.specs.Turns.{Turn, own_in}
 use Rattle.alp_top.proofs.ClientLemmas.{IsSaid, of_clients}
 use Rattle.alp_top.proofs.EndLemmas.{no_call}
-use Rattle.alp_top.proofs.LineLemmas.{others_stay, said_at_line, said_turn, turn_at}
-use Rattle.alp_top.proofs.RunLemmas.{AreRecorded-append, own_append}
+use Rattle.alp_top.proofs.LineLemmas.{others_stay, said_at_line, said_declared, said_turn, turn_at}
+use Rattle.alp_top.proofs.RunLemmas.{AreRecorded-append, own_append, sent_before, plays_sent}
 use Rattle.alp_top.proofs.SingleLemmas.{single, IsSingle, proper}
 
 -- ---- a line that is not over
 
--- the first frame of it has no room
-pub none_some : {V : Type 0} (G : Ghosts V) (c : Crowd) (n m : NodeState V) (k : ℕ) (l : NumberedLine) (frame : List ℕ) → InStep G c n → HasNoRoom n m → asks c k l.line false ≡ Some frame → DidSome G c c n m k l []
-none_some G c n m k l frame step room asked = subst (λ (z : NodeState _). DidSome G c c n z k l []) (sym room.same) (record {
+-- what it has to do next has no room: a frame to send, or a transaction that is to time out
+pub none_some : {V : Type 0} (G : Ghosts V) (c : Crowd) (n m : NodeState V) (k : ℕ) (l : NumberedLine) (now : Next) → InStep G c n → HasNoRoom n m → IsSome (asks c k l.line now) ⊎ IsSome (times_out c k now) → DidSome G c c n m k l now []
+none_some G c n m k l now step room more = subst (λ (z : NodeState _). DidSome G c c n z k l now []) (sym room.same) (record {
   on = step.on;
   full = room.full;
   opening = refl;
   start = refl;
   epoch = refl;
   number = tt;
-  sends = (subst (λ (o : Option (List ℕ)). IsSome o) (sym asked) refl, refl);
+  sends = (more, refl);
   said = λ front said. subst (HasSaid k (client_at c k)) (sym (append-nil front)) said;
   others = λ j front away said. said;
   entries = [];
@@ -61,29 +63,33 @@ none_some G c n m k l frame step room asked = subst (λ (z : NodeState _). DidSo
   recorded = tt;
 })
 
--- a greeting had room, and not all that came behind it
-pub greeted_some : {V : Type 0} (G : Ghosts V) (c d e : Crowd) (n m z : NodeState V) (k : ℕ) (l : NumberedLine) (frame : List ℕ) (x : Item) (xs : List Item) → asks c k l.line false ≡ Some frame → Exchanged G c d n m k l frame false x
-    → DidSome G d e m z k l xs → DidSome G c e n z k l (x ∷ xs)
-greeted_some G c d e n m z k l frame x xs asked h rest = record {
+-- a frame to send
+pub frame_some : {V : Type 0} (G : Ghosts V) (c : Crowd) (n m : NodeState V) (k : ℕ) (l : NumberedLine) (now : Next) (frame : List ℕ) → InStep G c n → HasNoRoom n m → asks c k l.line now ≡ Some frame → DidSome G c c n m k l now []
+frame_some G c n m k l now frame step room asked = none_some G c n m k l now step room (inl (subst (λ (o : Option (List ℕ)). IsSome o) (sym asked) refl))
+
+-- a frame had room, and not all that came behind it
+pub more_some : {V : Type 0} (G : Ghosts V) (c d e : Crowd) (n m z : NodeState V) (k : ℕ) (l : NumberedLine) (now : Next) (frame : List ℕ) (behind : Next) (x : Item) (xs : List Item) → asks c k l.line now ≡ Some frame
+    → Exchanged G c d n m k l now frame behind x → DidSome G d e m z k l behind xs → DidSome G c e n z k l now (x ∷ xs)
+more_some G c d e n m z k l now frame behind x xs asked h rest = record {
   on = rest.on;
   full = rest.full;
   opening = rest.opening ∙ h.opening;
   start = rest.start ∙ h.start;
   epoch = rest.epoch ∙ h.epoch;
   number = (h.number, rest.number);
-  sends = (frame, asked, h.sent, subst (λ (q : Crowd × Bool). SendsMore q.0 k l.line q.1 xs e) (sym h.heard) rest.sends);
+  sends = (frame, asked, h.sent, subst (λ (q : Crowd × Next). SendsMore q.0 k l.line q.1 xs e) (sym h.heard) rest.sends);
   said = λ front said. subst (HasSaid k (client_at e k)) (append_assoc front (item_of x ∷ []) (list_map item_of xs)) (rest.said (front ++ item_of x ∷ []) (h.said front said));
-  others = λ j front away said. rest.others j front away (subst (λ (u : Client). HasSaid j u front) (sym (others_stay c d k l.line frame x.reply false h.heard j away)) said);
+  others = λ j front away said. rest.others j front away (subst (λ (u : Client). HasSaid j u front) (sym (others_stay c d k l.line now frame x.reply behind h.heard j away)) said);
   entries = h.entry ∷ rest.entries;
   journal = rest.journal ∙ ap (λ (js : List Entry). js ++ rest.entries) h.journal ∙ append_assoc n.journal (h.entry ∷ []) rest.entries;
   recorded = (
     h.recorded,
-    subst (λ (at : ℕ). AreRecorded n.kept.epoch at (list_map (λ (y : Item). (k, y)) xs) rest.entries) (ap (λ (js : List Entry). length js) h.journal ∙ omega (arith, length-append n.journal (h.entry ∷ [])))
-        (subst (λ (here : ℕ). AreRecorded here (length m.journal) (list_map (λ (y : Item). (k, y)) xs) rest.entries) h.epoch rest.recorded),
+    subst (λ (at : ℕ). AreRecorded n.kept.epoch at (happened k xs None) rest.entries) (ap (λ (js : List Entry). length js) h.journal ∙ omega (arith, length-append n.journal (h.entry ∷ [])))
+        (subst (λ (here : ℕ). AreRecorded here (length m.journal) (happened k xs None) rest.entries) h.epoch rest.recorded),
   );
 }
 
-pub adds_some : {V : Type 0} (G : Ghosts V) (c d : Crowd) (n m : NodeState V) (l : NumberedLine) (k : ℕ) (xs : List Item) → client_named l.line ≡ Some k → k ≤ 16 → length c.places ≡ 17 → DidSome G (at_line c k l.line) d n m k l xs
+pub adds_some : {V : Type 0} (G : Ghosts V) (c d : Crowd) (n m : NodeState V) (l : NumberedLine) (k : ℕ) (xs : List Item) → client_named l.line ≡ Some k → k ≤ 16 → length c.places ≡ 17 → DidSome G (at_line c k l.line) d n m k l next.Call xs
     → AddsSome G c d n m l
 adds_some G c d n m l k xs named small places did = record {
   on = did.on;
@@ -91,13 +97,29 @@ adds_some G c d n m l k xs named small places did = record {
   opening = did.opening;
   start = did.start;
   epoch = did.epoch;
-  turn = turn_at l k xs;
-  begins = record { client = named; line = refl; number = did.number; sends = did.sends };
+  turns = turn_at l k xs ∷ [];
+  begins = subst (λ (o : Option ℕ). BeginsLine c l o (turn_at l k xs ∷ []) d) (sym named) (xs, refl, did.number, did.sends);
   said = λ j front said. said_turn (at_line c k l.line) d l k xs did.said did.others j front (said_at_line c k l.line places small j front said);
   entries = did.entries;
   journal = did.journal;
-  recorded = subst (λ (ys : List (ℕ × Item)). AreRecorded n.kept.epoch (length n.journal) ys did.entries) (sym (append-nil (list_map (λ (x : Item). (k, x)) xs))) did.recorded;
+  recorded = subst (λ (hs : List Happening). AreRecorded n.kept.epoch (length n.journal) hs did.entries) (sym (append-nil (happened k xs None))) did.recorded;
 }
+
+-- a line by which a transaction was to time out
+pub other_some : {V : Type 0} (G : Ghosts V) (c : Crowd) (n m : NodeState V) (l : NumberedLine) → InStep G c n → HasNoRoom n m → client_named l.line ≡ None → IsSome (timeout_by c l.line) → AddsSome G c (declares c l.line) n m l
+other_some G c n m l step room named due = subst (λ (z : NodeState _). AddsSome G c (declares c l.line) n z l) (sym room.same) (record {
+  on = step.on;
+  full = room.full;
+  opening = refl;
+  start = refl;
+  epoch = refl;
+  turns = [];
+  begins = subst (λ (o : Option ℕ). BeginsLine c l o [] (declares c l.line)) (sym named) (refl, due, refl);
+  said = λ k front said. subst (HasSaid k (client_at (declares c l.line) k)) (sym (append-nil front)) (said_declared c l.line k front said);
+  entries = [];
+  journal = sym (append-nil n.journal);
+  recorded = tt;
+})
 
 -- ---- among the lines, or behind them
 
@@ -108,7 +130,7 @@ split_at {A = A} xs i x is = sym (take-append-drop (i + 1) xs) ∙ ap (λ (ys : 
 pub line_filled : {V : Type 0} (G : Ghosts V) (ls : List NumberedLine) (i : ℕ) (l : NumberedLine) (c d : Crowd) (first n m : NodeState V) (lists : List (Vec Item Global)) (text : List ℕ) → take (i + 1) ls ≡ take i ls ++ l ∷ []
     → HasPlayed G (take i ls) c n lists text → n.opening ≡ first.opening → start_in G n ≡ start_in G first → n.kept.epoch ≡ first.kept.epoch → (start_in G first).epoch ≡ first.kept.epoch → AddsSome G c d n m l → HasFilledUp G ls first m
 line_filled G ls i l c d first n m lists text is h opening start epoch noted a =
-    let last : List Turn = a.turn ∷ [] in
+    let last : List Turn = a.turns in
     record {
       on = a.on;
       full = a.full;
@@ -121,21 +143,24 @@ line_filled G ls i l c d first n m lists text is h opening start epoch noted a =
         calls = n.journal ++ a.entries;
         ends = [];
         journal_is = a.journal ∙ sym (append-nil (n.journal ++ a.entries));
+        happened_all = h.happened ++ sent_turns last;
+        sent = sent_before new_crowd c (take i ls) h.turns last h.happened h.plays;
         recorded =
-            subst (λ (here : ℕ). AreRecorded here 0 (sent_in (h.turns ++ last)) (n.journal ++ a.entries)) (epoch ∙ sym noted ∙ sym (ap (λ (o : Start). o.epoch) (a.start ∙ start)))
-            (subst (λ (xs : List (ℕ × Item)). AreRecorded n.kept.epoch 0 xs (n.journal ++ a.entries)) (sym (flat_map-append (λ (t : Turn). list_map (λ (x : Item). (t.client, x)) t.items) h.turns last))
-            (AreRecorded-append n.kept.epoch 0 (sent_in h.turns) (sent_in last) n.journal a.entries h.recorded
-            (subst (λ (k : ℕ). AreRecorded n.kept.epoch k (sent_in last) a.entries) (let e : length n.journal ≡ 0 + length n.journal = omega arith in e) a.recorded)));
+            subst (λ (here : ℕ). AreRecorded here 0 (h.happened ++ sent_turns last) (n.journal ++ a.entries)) (epoch ∙ sym noted ∙ sym (ap (λ (o : Start). o.epoch) (a.start ∙ start)))
+            (AreRecorded-append n.kept.epoch 0 h.happened (sent_turns last) n.journal a.entries h.recorded
+            (subst (λ (k : ℕ). AreRecorded n.kept.epoch k (sent_turns last) a.entries) (let e : length n.journal ≡ 0 + length n.journal = omega arith in e) a.recorded));
         next_was = inl (record {
           before = take i ls;
           line = l;
           later = drop (i + 1) ls;
           are = split_at ls i l is;
           whole = h.turns;
-          turn = a.turn;
+          happened_before = h.happened;
+          own = last;
           clients = c;
           known = d;
           turns_are = refl;
+          happened_are = refl;
           plays = h.plays;
           begins = a.begins;
           none = refl;
@@ -172,15 +197,17 @@ end_filled G ls c first before now lists text h opening start epoch noted e =
         calls = before.journal;
         ends = out.ends;
         journal_is = out.journal;
-        recorded = subst (λ (here : ℕ). AreRecorded here 0 (sent_in h.turns) before.journal) (epoch ∙ sym noted ∙ sym (ap (λ (o : Start). o.epoch) (out.start ∙ start))) h.recorded;
+        happened_all = h.happened;
+        sent = plays_sent new_crowd c ls h.turns h.happened h.plays;
+        recorded = subst (λ (here : ℕ). AreRecorded here 0 h.happened before.journal) (epoch ∙ sym noted ∙ sym (ap (λ (o : Start). o.epoch) (out.start ∙ start))) h.recorded;
         next_was = inr (record {
           clients = c;
           over = some.over;
           due = some.due;
           later = some.later;
           plays = h.plays;
-          live = subst (λ (ts : List TransId). AreLive (state_after next (opened (start_in G now)) before.journal) ts) some.are
-              (subst (λ (o : Start). AreLive (state_after next (opened o) before.journal) e.live) (sym out.start) (e.left told));
+          live = subst (λ (ts : List TransId). AreLive (state_after next_state (opened (start_in G now)) before.journal) ts) some.are
+              (subst (λ (o : Start). AreLive (state_after next_state (opened o) before.journal) e.live) (sym out.start) (e.left told));
           ended = out.ended;
         });
       };
@@ -227,6 +254,8 @@ promised_so_far G lines first n h told =
       epoch = o.epoch;
       quiet = quiet lines o n.journal h.turns s;
       handed = λ k. refl;
+      happened = s.happened_all;
+      sent = s.sent;
       recorded = s.recorded;
       said = h.said;
     } in

@@ -1,7 +1,6 @@
 -- what sessions keep, and that the replies of a server have frames
 use Rattle.std.specs.Prelude.{◌==◌, true, false, Bool, cond, Option, None, Some, IfSome, length}
 use Rattle.std.proofs.Common.{◌≡◌, ℕ, ◌≤◌, ◌^◌, refl, sym, ◌∙◌, ap, subst, arith}
-use Rattle.alp_files.specs.Reading.{asked_pages}
 use Rattle.alp_files.specs.declared.call.Call.{Call}
 use Rattle.alp_files.specs.declared.call.Call.TheVariants as call
 use Rattle.alp_files.specs.declared.reply.Reply.{Reply}
@@ -11,7 +10,7 @@ use Rattle.alp_journal.specs.Desk.{Session}
 use Rattle.alp_journal.specs.declared.event.Event.TheVariants as event
 use Rattle.alp_node.specs.Orders.{idle_reply}
 use Rattle.alp_node.specs.Sessions.{session_at, with_session}
-use Rattle.alp_node.specs.Turns.{HasGreeted, HasCounted, HasTurned, TellsRun, TellsUpTo}
+use Rattle.alp_node.specs.Turns.{HasGreeted, HasCounted, HasTurned, TellsRun, TellsUpTo, asked_in}
 use Rattle.alp_node.specs.declared.server_state.ServerState.{ServerState}
 use Rattle.alp_node.specs.declared.sessions.CallOrder.{CallOrder}
 use Rattle.alp_node.specs.declared.sessions.CallOrder.TheVariants as order
@@ -71,22 +70,17 @@ module _ {V : Type 0} (P : Reply → Type 0) (old new : ServerState V) (places :
 
 -- ---- the replies of a server have frames
 
--- a call that a frame spells asks for at least one page, if it asks for pages
-pages_asked : (c : Call) (n : ℕ) → calls.IsSendable c → asked_pages c ≡ Some n → 1 ≤ n
-pages_asked (call.ReadPages trans open_no run mode choice) n h is = let same : run.count ≡ n = cc in omega (arith, same, h.0)
-pages_asked c n h is = cc
+-- its times are within a clock that clocks may show, and its pages are a run
+fresh_sendable : (clock : ℕ) (asked : Option ℕ) (r : Reply) → clock ≤ 2 ^ 62 → TellsUpTo clock r → TellsRun asked r → IsSendable r
+fresh_sendable clock asked (reply.Pages pages) low times told = (told.1, omega (arith, told.2))
+fresh_sendable clock asked (reply.Committed s) low times told = omega (arith, low, times)
+fresh_sendable clock asked (reply.Ended (ended.Committed s)) low times told = omega (arith, low, times)
+fresh_sendable clock asked (reply.Ended e) low times told = tt
+fresh_sendable clock asked r low times told = tt
 
--- its times are within a clock that clocks may show, and it tells the pages that were asked
-fresh_sendable : (clock : ℕ) (c : Call) (r : Reply) → clock ≤ 2 ^ 62 → calls.IsSendable c → TellsUpTo clock r → TellsRun (asked_pages c) r → IsSendable r
-fresh_sendable clock c (reply.Pages pages) low asked times told = (pages_asked c (length pages) asked told.0, omega (arith, told.1))
-fresh_sendable clock c (reply.Committed s) low asked times told = omega (arith, low, times)
-fresh_sendable clock c (reply.Ended (ended.Committed s)) low asked times told = omega (arith, low, times)
-fresh_sendable clock c (reply.Ended e) low asked times told = tt
-fresh_sendable clock c r low asked times told = tt
-
-next_sendable : (clock : ℕ) (c : Call) (r : Option Reply) → clock ≤ 2 ^ 62 → calls.IsSendable c → IfSome r (TellsUpTo clock) → IfSome r (TellsRun (asked_pages c)) → IfSome r IsSendable
-next_sendable clock c None low asked times told = tt
-next_sendable clock c (Some r) low asked times told = fresh_sendable clock c r low asked times told
+next_sendable : (clock : ℕ) (asked : Option ℕ) (r : Option Reply) → clock ≤ 2 ^ 62 → IfSome r (TellsUpTo clock) → IfSome r (TellsRun asked) → IfSome r IsSendable
+next_sendable clock asked None low times told = tt
+next_sendable clock asked (Some r) low times told = fresh_sendable clock asked r low times told
 
 module _ {V : Type 0} (old new : ServerState V) (low : new.clock ≤ 2 ^ 62) (before : AreSendable old.sessions) where
   again_sendable : (client : ℕ) (w : Option Session) → session_at old.sessions client ≡ w → IfSome (idle_reply order.Repeat old.epoch w) IsSendable
@@ -96,7 +90,7 @@ module _ {V : Type 0} (old new : ServerState V) (low : new.clock ≤ 2 ^ 62) (be
   -- the answer to a call that a frame spelled
   pub told_sendable : (o : CallOrder) (client epoch number : ℕ) (c : Call) (r : Option Reply) → calls.IsSendable c → HasTurned (Some o) old new (event.Call client epoch number c) r → IfSome r IsSendable
   told_sendable order.First client epoch number c r asked turned = subst (λ (x : Option Reply). IfSome x IsSendable) (sym (welcomes old new client c r turned.sessions).told) tt
-  told_sendable order.Next client epoch number c r asked turned = next_sendable new.clock c r low asked turned.times turned.pages
+  told_sendable order.Next client epoch number c r asked turned = next_sendable new.clock (asked_in old.waits client c) r low turned.times turned.pages
   told_sendable order.Repeat client epoch number c r asked turned = subst (λ (x : Option Reply). IfSome x IsSendable) (sym turned.sessions.0) (again_sendable client (session_at old.sessions client) refl)
   told_sendable order.Stale client epoch number c r asked turned = subst (λ (x : Option Reply). IfSome x IsSendable) (sym turned.sessions.0) tt
   told_sendable order.Astray client epoch number c r asked turned = subst (λ (x : Option Reply). IfSome x IsSendable) (sym turned.sessions.0) tt

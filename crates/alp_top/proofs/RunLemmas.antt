@@ -7,6 +7,7 @@ use Rattle.std.proofs.lemmas.List.{take_more, map-append}
 use Rattle.std.proofs.lemmas.Grind.{flat_map-append}
 use Rattle.std.proofs.lemmas.Bool.Decides.{eqb_tells}
 use Rattle.std.proofs.lemmas.Bool.{ne_eqb}
+use Rattle.alp_base.specs.declared.ids.TransId.{TransId}
 use Rattle.alp_journal.specs.declared.entry.Entry.{Entry}
 use Rattle.alp_journal.specs.declared.log.Item.{Item}
 use Rattle.alp_report.specs.Reports.{line_text}
@@ -29,7 +30,8 @@ use Rattle.alp_node.specs.declared.sessions.Sessions.{Sessions}
 use Rattle.alp_node.proofs.StartLemmas.{no_session}
 use Rattle.alp_session.specs.Crowds.{new_crowd, client_at}
 use Rattle.alp_top.specs.Turns.{Turn, lists_in, own_in, sent_in, turn_of, turns_of, turns_text}
-use Rattle.alp_top.specs.Plays.{PlaysLine, Plays, AreRecorded}
+use Rattle.alp_top.specs.Plays.{Happening, timeouts_in, happened, sent_of, timeout_by, sent_turns, PlaysLine, Plays, AreRecorded}
+use Rattle.alp_top.specs.Plays as happening
 use Rattle.alp_vault.specs.declared.vault.Vault.{Ghosts}
 use Rattle.alp_fields.specs.ClockNote.{clock_kept}
 use Rattle.alp_node.specs.Nodes.{start_in}
@@ -38,20 +40,67 @@ use Rattle.alp_top.specs.Servers.{IsOn, IsIdle}
 use Rattle.alp_top.specs.Steps.{SpellsPast, KeepsPast, Adds, HasSaid, HasLast, SameSession}
 use Rattle.alp_top.specs.Runs.{HasPlayed}
 
-Plays-push : (c mid d : Crowd) (ls : List NumberedLine) (l : NumberedLine) (turns own : List Turn) → Plays c ls turns mid → PlaysLine mid l (client_named l.line) own d → Plays c (ls ++ l ∷ []) (turns ++ own) d
-Plays-push c mid d [] l turns own h k =
-    let here : PlaysLine c l (client_named l.line) own d = subst (λ (x : Crowd). PlaysLine x l (client_named l.line) own d) h.1 k in
-    (own, [], d, ap (λ (xs : List Turn). xs ++ own) h.0 ∙ sym (append-nil own), here, (refl, refl))
-Plays-push c mid d (x ∷ ls) l turns own h k =
-    let (first, others, after_first, is, plays, rest) = h in
-    (first, others ++ own, after_first, ap (λ (xs : List Turn). xs ++ own) is ∙ append_assoc first others own, plays, Plays-push after_first mid d ls l others own rest k)
+Plays-push : (c mid d : Crowd) (ls : List NumberedLine) (l : NumberedLine) (turns own : List Turn) (hs mine : List Happening) → Plays c ls turns hs mid → PlaysLine mid l (client_named l.line) own mine d
+    → Plays c (ls ++ l ∷ []) (turns ++ own) (hs ++ mine) d
+Plays-push c mid d [] l turns own hs mine h k =
+    let here : PlaysLine c l (client_named l.line) own mine d = subst (λ (x : Crowd). PlaysLine x l (client_named l.line) own mine d) h.2 k in
+    (own, [], mine, [], d, ap (λ (xs : List Turn). xs ++ own) h.0 ∙ sym (append-nil own), ap (λ (xs : List Happening). xs ++ mine) h.1 ∙ sym (append-nil mine), here, (refl, refl, refl))
+Plays-push c mid d (x ∷ ls) l turns own hs mine h k =
+    let (first, others, here, there, after_first, is, are, plays, rest) = h in (
+      first,
+      others ++ own,
+      here,
+      there ++ mine,
+      after_first,
+      ap (λ (xs : List Turn). xs ++ own) is ∙ append_assoc first others own,
+      ap (λ (xs : List Happening). xs ++ mine) are ∙ append_assoc here there mine,
+      plays,
+      Plays-push after_first mid d ls l others own there mine rest k,
+    )
 
-pub AreRecorded-append : (here at : ℕ) (xs ys : List (ℕ × Item)) (es fs : List Entry) → AreRecorded here at xs es → AreRecorded here (at + length es) ys fs → AreRecorded here at (xs ++ ys) (es ++ fs)
+pub AreRecorded-append : (here at : ℕ) (xs ys : List Happening) (es fs : List Entry) → AreRecorded here at xs es → AreRecorded here (at + length es) ys fs → AreRecorded here at (xs ++ ys) (es ++ fs)
 AreRecorded-append here at [] ys [] fs h k = subst (λ (n : ℕ). AreRecorded here n ys fs) (let e : at + length {A = Entry} [] ≡ at = omega arith in e) k
 AreRecorded-append here at [] ys (e ∷ es) fs h k = absurd h
 AreRecorded-append here at (x ∷ xs) ys [] fs h k = absurd h
 AreRecorded-append here at (x ∷ xs) ys (e ∷ es) fs h k =
     (h.0, AreRecorded-append here (at + 1) xs ys es fs h.1 (subst (λ (n : ℕ). AreRecorded here n ys fs) (let e2 : at + length (e ∷ es) ≡ at + 1 + length es = omega arith in e2) k))
+
+-- ---- what was sent of all that happened
+
+sent_append : (hs js : List Happening) → sent_of (hs ++ js) ≡ sent_of hs ++ sent_of js
+sent_append [] js = refl
+sent_append (happening.sent_it k x ∷ hs) js = ap (λ (xs : List (ℕ × Item)). (k, x) ∷ xs) (sent_append hs js)
+sent_append (happening.timed_out t ∷ hs) js = sent_append hs js
+
+no_sent : (t : Option TransId) → sent_of (timeouts_in t) ≡ []
+no_sent None = refl
+no_sent (Some t) = refl
+
+line_sent : (k : ℕ) (xs : List Item) (t : Option TransId) → sent_of (happened k xs t) ≡ list_map (λ (x : Item). (k, x)) xs
+line_sent k [] t = no_sent t
+line_sent k (x ∷ xs) t = ap (λ (ys : List (ℕ × Item)). (k, x) ∷ ys) (line_sent k xs t)
+
+in_line_sent : (c d : Crowd) (l : NumberedLine) (o : Option ℕ) (own : List Turn) (mine : List Happening) → PlaysLine c l o own mine d → sent_of mine ≡ sent_in own
+in_line_sent c d l None own mine h = ap sent_of h.1 ∙ no_sent (timeout_by c l.line) ∙ ap sent_in (sym h.0)
+in_line_sent c d l (Some client) own mine h =
+    let (xs, t, is, are, at, sends) = h in
+    ap sent_of are ∙ line_sent client xs t ∙ sym (append-nil (list_map (λ (x : Item). (client, x)) xs)) ∙ ap sent_in (sym is)
+
+sent_in-append : (ts us : List Turn) → sent_in (ts ++ us) ≡ sent_in ts ++ sent_in us
+sent_in-append ts us = flat_map-append (λ (t : Turn). list_map (λ (x : Item). (t.client, x)) t.items) ts us
+
+pub plays_sent : (c d : Crowd) (ls : List NumberedLine) (turns : List Turn) (hs : List Happening) → Plays c ls turns hs d → sent_of hs ≡ sent_in turns
+plays_sent c d [] turns hs h = ap sent_of h.1 ∙ ap sent_in (sym h.0)
+plays_sent c d (l ∷ ls) turns hs h =
+    let (own, others, mine, theirs, mid, is, are, one, rest) = h in
+    ap sent_of are ∙ sent_append mine theirs ∙ (λ i. in_line_sent c mid l (client_named l.line) own mine one i ++ plays_sent mid d ls others theirs rest i) ∙ sym (sent_in-append own others) ∙ ap sent_in (sym is)
+
+turns_sent : (ts : List Turn) → sent_of (sent_turns ts) ≡ sent_in ts
+turns_sent [] = refl
+turns_sent (t ∷ ts) = sent_append (happened t.client t.items None) (sent_turns ts) ∙ (λ i. line_sent t.client t.items None i ++ turns_sent ts i)
+
+pub sent_before : (c d : Crowd) (ls : List NumberedLine) (turns own : List Turn) (hs : List Happening) → Plays c ls turns hs d → sent_of (hs ++ sent_turns own) ≡ sent_in (turns ++ own)
+sent_before c d ls turns own hs h = sent_append hs (sent_turns own) ∙ (λ i. plays_sent c d ls turns hs h i ++ turns_sent own i) ∙ sym (sent_in-append turns own)
 
 pub own_append : (k : ℕ) (ts us : List Turn) → own_in k (ts ++ us) ≡ own_in k ts ++ own_in k us
 own_append k [] us = refl
@@ -64,17 +113,17 @@ pub played_more : {V : Type 0} (G : Ghosts V) (ls : List NumberedLine) (l : Numb
 played_more G ls l c d n m lists now text told h a = record {
   step = a.step;
   turns = h.turns ++ a.turns;
-  plays = Plays-push new_crowd c d ls l h.turns a.turns h.plays a.plays;
+  happened = h.happened ++ a.happened_now;
+  plays = Plays-push new_crowd c d ls l h.turns a.turns h.happened a.happened_now h.plays a.plays;
   places = a.places ∙ h.places;
   lists = λ k. a.lists k ∙ ap (λ (xs : List Item). xs ++ own_in k a.turns) (h.lists k) ∙ sym (own_append k h.turns a.turns);
   said = λ k. subst (HasSaid k (client_at d k)) (sym (map-append item_of (own_in k h.turns) (own_in k a.turns)) ∙ ap (list_map item_of) (sym (own_append k h.turns a.turns))) (a.said k (list_map item_of (own_in k h.turns)) (h.said k));
   text = a.text ∙ ap (λ (xs : List ℕ). xs ++ turns_text a.turns) h.text ∙ sym (flat_map-append (λ (t : Turn). line_text t.line t.items) h.turns a.turns);
   recorded =
-      subst (λ (here : ℕ). AreRecorded here 0 (sent_in (h.turns ++ a.turns)) m.journal) (sym a.epoch)
-      (subst (λ (js : List Entry). AreRecorded n.kept.epoch 0 (sent_in (h.turns ++ a.turns)) js) (sym a.journal)
-      (subst (λ (xs : List (ℕ × Item)). AreRecorded n.kept.epoch 0 xs (n.journal ++ a.entries)) (sym (flat_map-append (λ (t : Turn). list_map (λ (x : Item). (t.client, x)) t.items) h.turns a.turns))
-      (AreRecorded-append n.kept.epoch 0 (sent_in h.turns) (sent_in a.turns) n.journal a.entries h.recorded
-      (subst (λ (k : ℕ). AreRecorded n.kept.epoch k (sent_in a.turns) a.entries) (let e : length n.journal ≡ 0 + length n.journal = omega arith in e) a.recorded))));
+      subst (λ (here : ℕ). AreRecorded here 0 (h.happened ++ a.happened_now) m.journal) (sym a.epoch)
+      (subst (λ (js : List Entry). AreRecorded n.kept.epoch 0 (h.happened ++ a.happened_now) js) (sym a.journal)
+      (AreRecorded-append n.kept.epoch 0 h.happened a.happened_now n.journal a.entries h.recorded
+      (subst (λ (k : ℕ). AreRecorded n.kept.epoch k a.happened_now a.entries) (let e : length n.journal ≡ 0 + length n.journal = omega arith in e) a.recorded)));
 }
 
 -- ---- the line at a place
@@ -142,28 +191,28 @@ between n front own rest before at from =
     ∙ (λ i. filter_none n front (all_map (λ (x : Item). x.line < n) (λ (x : Item). x.line ≡ n → ⊥) (λ x h is. absurd (omega (arith, h, is))) front before) i ++ filter_all n own at i)
 
 -- the items of a line's turn
-line_from : (c d : Crowd) (l : NumberedLine) (o : Option ℕ) (own : List Turn) (k : ℕ) → PlaysLine c l o own d → AreAt l.number (own_in k own)
-line_from c d l None own k h = subst (λ (ts : List Turn). AreAt l.number (own_in k ts)) (sym h.0) tt
-line_from c d l (Some client) own k h =
-    let (xs, is, at, sends) = h in
+line_from : (c d : Crowd) (l : NumberedLine) (o : Option ℕ) (own : List Turn) (mine : List Happening) (k : ℕ) → PlaysLine c l o own mine d → AreAt l.number (own_in k own)
+line_from c d l None own mine k h = subst (λ (ts : List Turn). AreAt l.number (own_in k ts)) (sym h.0) tt
+line_from c d l (Some client) own mine k h =
+    let (xs, t, is, are, at, sends) = h in
     subst (λ (ts : List Turn). AreAt l.number (own_in k ts)) (sym is)
     (all_append (λ (x : Item). x.line ≡ l.number) (cond (client == k) xs []) [] (elim (client == k) as (λ b. AreAt l.number (cond b xs [])) [ true ↦ at | false ↦ tt ]) tt)
 
 -- those of all turns have the numbers of their lines
-turns_from : (n : ℕ) (c d : Crowd) (ls : List NumberedLine) (turns : List Turn) (k : ℕ) → RisesFrom n ls → Plays c ls turns d → AreFrom n (own_in k turns)
-turns_from n c d [] turns k rises plays = subst (λ (ts : List Turn). AreFrom n (own_in k ts)) (sym plays.0) tt
-turns_from n c d (l ∷ ls) turns k rises plays =
-    let (own, others, mid, is, one, rest) = plays in
-    let here : AreFrom n (own_in k own) = all_map (λ (x : Item). x.line ≡ l.number) (λ (x : Item). n ≤ x.line) (λ x e. (let low : n ≤ l.number = rises.0 in omega (arith, low, e))) (own_in k own) (line_from c mid l (client_named l.line) own k one) in
-    let later : AreFrom n (own_in k others) = all_map (λ (x : Item). l.number + 1 ≤ x.line) (λ (x : Item). n ≤ x.line) (λ x e. (let low : n ≤ l.number = rises.0 in omega (arith, low, e))) (own_in k others) (turns_from (l.number + 1) mid d ls others k rises.2 rest) in
+turns_from : (n : ℕ) (c d : Crowd) (ls : List NumberedLine) (turns : List Turn) (hs : List Happening) (k : ℕ) → RisesFrom n ls → Plays c ls turns hs d → AreFrom n (own_in k turns)
+turns_from n c d [] turns hs k rises plays = subst (λ (ts : List Turn). AreFrom n (own_in k ts)) (sym plays.0) tt
+turns_from n c d (l ∷ ls) turns hs k rises plays =
+    let (own, others, mine, theirs, mid, is, are, one, rest) = plays in
+    let here : AreFrom n (own_in k own) = all_map (λ (x : Item). x.line ≡ l.number) (λ (x : Item). n ≤ x.line) (λ x e. (let low : n ≤ l.number = rises.0 in omega (arith, low, e))) (own_in k own) (line_from c mid l (client_named l.line) own mine k one) in
+    let later : AreFrom n (own_in k others) = all_map (λ (x : Item). l.number + 1 ≤ x.line) (λ (x : Item). n ≤ x.line) (λ x e. (let low : n ≤ l.number = rises.0 in omega (arith, low, e))) (own_in k others) (turns_from (l.number + 1) mid d ls others theirs k rises.2 rest) in
     subst (λ (ts : List Turn). AreFrom n (own_in k ts)) (sym is) (subst (AreFrom n) (sym (own_append k own others)) (all_append (λ (x : Item). n ≤ x.line) (own_in k own) (own_in k others) here later))
 
 -- a line's turn is read off the lists, in which it stands behind earlier ones and before later ones
-turn_is : (c d : Crowd) (l : NumberedLine) (o : Option ℕ) (own others : List Turn) (lists front : Lists) → PlaysLine c l o own d → ((k : ℕ) → AreBefore l.number (front k)) → ((k : ℕ) → AreFrom (l.number + 1) (own_in k others))
+turn_is : (c d : Crowd) (l : NumberedLine) (o : Option ℕ) (own others : List Turn) (mine : List Happening) (lists front : Lists) → PlaysLine c l o own mine d → ((k : ℕ) → AreBefore l.number (front k)) → ((k : ℕ) → AreFrom (l.number + 1) (own_in k others))
     → ((k : ℕ) → lists k ≡ front k ++ own_in k (own ++ others)) → own ≡ turn_of l.number o lists
-turn_is c d l None own others lists front h before from is = h.0
-turn_is c d l (Some client) own others lists front h before from is =
-    let (xs, one, at, sends) = h in
+turn_is c d l None own others mine lists front h before from is = h.0
+turn_is c d l (Some client) own others mine lists front h before from is =
+    let (xs, t, one, are, at, sends) = h in
     let own_is : own_in client own ≡ xs = ap (own_in client) one ∙ elim (eqb_tells client client) [
       | inl e ↦ ap (λ (b : Bool). cond b xs [] ++ []) e.0 ∙ append-nil xs
       | inr away ↦ absurd (away.1 refl)
@@ -173,24 +222,24 @@ turn_is c d l (Some client) own others lists front h before from is =
     one ∙ ap (λ (ys : List Item). record { line = l.number; client = client; items = ys } ∷ [])
     (sym (ap (filter (λ (x : Item). x.line == l.number)) all ∙ between l.number (front client) xs (own_in client others) (before client) at (from client)))
 
-turns_are_from : (n : ℕ) (c d : Crowd) (ls : List NumberedLine) (turns : List Turn) (lists front : Lists) → RisesFrom n ls → Plays c ls turns d → ((k : ℕ) → AreBefore n (front k)) → ((k : ℕ) → lists k ≡ front k ++ own_in k turns)
+turns_are_from : (n : ℕ) (c d : Crowd) (ls : List NumberedLine) (turns : List Turn) (hs : List Happening) (lists front : Lists) → RisesFrom n ls → Plays c ls turns hs d → ((k : ℕ) → AreBefore n (front k)) → ((k : ℕ) → lists k ≡ front k ++ own_in k turns)
     → turns ≡ turns_of ls lists
-turns_are_from n c d [] turns lists front rises plays before is = plays.0
-turns_are_from n c d (l ∷ ls) turns lists front rises plays before is =
-    let (own, others, mid, split, one, rest) = plays in
+turns_are_from n c d [] turns hs lists front rises plays before is = plays.0
+turns_are_from n c d (l ∷ ls) turns hs lists front rises plays before is =
+    let (own, others, mine, theirs, mid, split, are, one, rest) = plays in
     let low : n ≤ l.number = rises.0 in
     let up : (k : ℕ) → AreBefore l.number (front k) = (λ k. all_map (λ (x : Item). x.line < n) (λ (x : Item). x.line < l.number) (λ x e. omega (arith, e, low)) (front k) (before k)) in
     let here : own ≡ turn_of l.number (client_named l.line) lists =
-    turn_is c mid l (client_named l.line) own others lists front one up (λ k. turns_from (l.number + 1) mid d ls others k rises.2 rest) (λ k. is k ∙ ap (λ (ts : List Turn). front k ++ own_in k ts) split) in
+    turn_is c mid l (client_named l.line) own others mine lists front one up (λ k. turns_from (l.number + 1) mid d ls others theirs k rises.2 rest) (λ k. is k ∙ ap (λ (ts : List Turn). front k ++ own_in k ts) split) in
     let later : others ≡ turns_of ls lists =
-    turns_are_from (l.number + 1) mid d ls others lists (λ k. front k ++ own_in k own) rises.2 rest
+    turns_are_from (l.number + 1) mid d ls others theirs lists (λ k. front k ++ own_in k own) rises.2 rest
     (λ k. all_append (λ (x : Item). x.line < l.number + 1) (front k) (own_in k own) (all_map (λ (x : Item). x.line < l.number) (λ (x : Item). x.line < l.number + 1) (λ x e. omega (arith, e)) (front k) (up k))
-    (all_map (λ (x : Item). x.line ≡ l.number) (λ (x : Item). x.line < l.number + 1) (λ x e. omega (arith, e)) (own_in k own) (line_from c mid l (client_named l.line) own k one)))
+    (all_map (λ (x : Item). x.line ≡ l.number) (λ (x : Item). x.line < l.number + 1) (λ x e. omega (arith, e)) (own_in k own) (line_from c mid l (client_named l.line) own mine k one)))
     (λ k. is k ∙ ap (λ (ts : List Turn). front k ++ own_in k ts) split ∙ ap (λ (ys : List Item). front k ++ ys) (own_append k own others) ∙ sym (append_assoc (front k) (own_in k own) (own_in k others))) in
     split ∙ (λ i. here i ++ later i)
 
-pub turns_are : (c d : Crowd) (ls : List NumberedLine) (turns : List Turn) (lists : Lists) → RisesFrom 1 ls → Plays c ls turns d → ((k : ℕ) → lists k ≡ own_in k turns) → turns ≡ turns_of ls lists
-turns_are c d ls turns lists rises plays is = turns_are_from 1 c d ls turns lists (λ k. []) rises plays (λ k. tt) is
+pub turns_are : (c d : Crowd) (ls : List NumberedLine) (turns : List Turn) (hs : List Happening) (lists : Lists) → RisesFrom 1 ls → Plays c ls turns hs d → ((k : ℕ) → lists k ≡ own_in k turns) → turns ≡ turns_of ls lists
+turns_are c d ls turns hs lists rises plays is = turns_are_from 1 c d ls turns hs lists (λ k. []) rises plays (λ k. tt) is
 
 -- ---- before the first line
 
@@ -267,7 +316,8 @@ played_none G c n vs text is on idle many empty blank = subst (λ (d : Crowd). H
     };
   };
   turns = [];
-  plays = (refl, refl);
+  happened = [];
+  plays = (refl, refl, refl);
   places = many;
   lists = λ k. new_list vs k empty;
   said = λ k. record { numbered = tt; last = new_last (client_at new_crowd k).session (new_session k); told = tt; seen = tt; outcomes = tt };

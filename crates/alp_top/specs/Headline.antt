@@ -21,32 +21,33 @@ use Rattle.alp_disk.specs.declared.disk.Disk.{Ghosts as DiskGhosts}
 use Rattle.alp_vault.specs.declared.vault.Vault.{Ghosts}
 use Rattle.alp_script.specs.Volumes.{sizes_said}
 use Rattle.alp_top.specs.Logs.{Log, ServerOfLog, openings, start_of, log_of, lists_of}
-use Rattle.alp_top.specs.Turns.{turns_of, own_in, sent_in}
-use Rattle.alp_top.specs.Plays.{Plays, AreRecorded, ranks_from}
+use Rattle.alp_top.specs.Turns.{turns_of, own_in}
+use Rattle.alp_top.specs.Plays.{Happening, Plays, AreRecorded, ranks_from}
 use Rattle.alp_top.specs.Reports.{end_of, report_of}
 use Rattle.alp_top.specs.Servers.{IsDone}
 use Rattle.alp_top.specs.Volumes.{IsStored, IsReturned, HasRunCause, StartsOn}
 use Rattle.alp_top.specs.declared.fault.RunFault.{RunFault}
 
--- The calls are the script's, the replies are those given, and no other event stands in the journal but timeouts behind the last
--- line.
+-- The calls are the script's, the replies are those given, and no other event stands in the journal but timeouts: those that lines
+-- say and those of clients whose patience was at an end, each in its place, and those behind the last line.
 pub record IsOfScript {V : Type 0} (G : Ghosts V) (lines : List NumberedLine) (log : Log V) (x : ServerOfLog V) : Type 0 where
   pub clients : Crowd
   pub calls : List Entry
   pub ends : List Entry
   pub live : List TransId
-  pub plays : Plays new_crowd lines (turns_of lines (lists_of G log)) clients
+  pub happened : List Happening
+  pub plays : Plays new_crowd lines (turns_of lines (lists_of G log)) happened clients
   -- the clients sent nothing else
   pub all : (k : ℕ) → lists_of G log k ≡ own_in k (turns_of lines (lists_of G log))
   -- there is a list for each number of a client, and one that is empty at 0
   pub many : length log.clients.items ≡ 17
   pub journal : x.journal ≡ calls ++ ends
-  pub recorded : AreRecorded (start_of G x).epoch 0 (sent_in (turns_of lines (lists_of G log))) calls
+  pub recorded : AreRecorded (start_of G x).epoch 0 happened calls
   pub short : length x.journal ≤ entries_limit
   pub ended : list_map (λ e. e.event) ends ≡ list_map event.Timeout live
   pub ranks : x.ranks.items ≡ ranks_from 1 x.journal
 
--- The journal is lawful, and the transactions that time out are those that are live behind the last line.
+-- The journal is lawful, and the transactions that time out behind the last line are those that are live there.
 pub record IsFaithful {V : Type 0} (G : Ghosts V) (lines : List NumberedLine) (log : Log V) (x : ServerOfLog V) : Type 0 where
   pub script : IsOfScript G lines log x
   pub lawful : IsLawful (start_of G x) x.journal

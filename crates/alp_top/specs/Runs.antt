@@ -10,8 +10,8 @@ use Rattle.alp_script.specs.declared.numbered.NumberedLine.{NumberedLine}
 use Rattle.alp_session.specs.Crowd.{Crowd}
 use Rattle.alp_session.specs.Crowds.{new_crowd, client_at}
 use Rattle.alp_history.specs.RunLogs.{item_of}
-use Rattle.alp_top.specs.Turns.{Turn, lists_in, own_in, sent_in, turns_text}
-use Rattle.alp_top.specs.Plays.{Plays, AreRecorded}
+use Rattle.alp_top.specs.Turns.{Turn, lists_in, own_in, turns_text}
+use Rattle.alp_top.specs.Plays.{Happening, Plays, AreRecorded}
 use Rattle.alp_top.specs.Fills.{HasStopped}
 use Rattle.alp_vault.specs.declared.vault.Vault.{Ghosts}
 use Rattle.alp_node.specs.NodeStates.{NodeState}
@@ -22,12 +22,13 @@ use Rattle.alp_top.specs.Steps.{InStep, HasSaid}
 pub record HasPlayed {V : Type 0} (G : Ghosts V) (lines : List NumberedLine) (c : Crowd) (n : NodeState V) (vs : List (Vec Item Global)) (printed : List ℕ) : Type 0 where
   pub step : InStep G c n
   pub turns : List Turn
-  pub plays : Plays new_crowd lines turns c
+  pub happened : List Happening
+  pub plays : Plays new_crowd lines turns happened c
   pub places : length vs ≡ 17
   pub lists : (k : ℕ) → lists_in vs k ≡ own_in k turns
   pub said : (k : ℕ) → HasSaid k (client_at c k) (list_map item_of (own_in k turns))
   pub text : printed ≡ turns_text turns
-  pub recorded : AreRecorded n.kept.epoch 0 (sent_in turns) n.journal
+  pub recorded : AreRecorded n.kept.epoch 0 happened n.journal
 
 -- the same server, behind whose entries of before each of these transactions times out
 pub record HasTimedOut {V : Type 0} (G : Ghosts V) (before : NodeState V) (calls : List Entry) (live : List TransId) (n : NodeState V) : Type 0 where

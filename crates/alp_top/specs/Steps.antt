@@ -1,8 +1,9 @@
 -- The clients and their server in step: what each knows of the other, and what a line does to them.
-use Rattle.std.specs.Prelude.{◌≡◌, ℕ, ◌<◌, ◌≤◌, max, Bool, false, List, ◌∷◌, [], ◌++◌, length, map as list_map, Option, None, Some, IfSome, Vec}
+use Rattle.std.specs.Prelude.{◌≡◌, ℕ, ◌<◌, ◌≤◌, max, List, ◌∷◌, [], ◌++◌, length, map as list_map, Option, None, Some, IfSome, IsSome, Vec}
 use Rattle.std.specs.Global.{Global}
 use Rattle.std.specs.List.{AllByRecursion}
 use Rattle.alp_base.specs.declared.ids.Stamp.{Stamp}
+use Rattle.alp_base.specs.declared.ids.TransId.{TransId}
 use Rattle.alp_files.specs.declared.call.Call.{Call}
 use Rattle.alp_files.specs.declared.call.Call.TheVariants as call
 use Rattle.alp_journal.specs.declared.entry.Entry.{Entry}
@@ -18,11 +19,18 @@ use Rattle.alp_script.specs.declared.numbered.NumberedLine.{NumberedLine}
 use Rattle.alp_lines.specs.Named.{client_named}
 use Rattle.alp_session.specs.declared.client.Client.{Client}
 use Rattle.alp_session.specs.declared.client.Greeted.{Greeted}
-use Rattle.alp_session.specs.Frames.{IsOfFrame, KeepsRequests}
+use Rattle.alp_session.specs.Frames.{mark_of, IsOfFrame, KeepsRequests}
 use Rattle.alp_session.specs.Crowd.{Crowd}
+use Rattle.alp_session.specs.declared.waiting.Next.{Next}
+use Rattle.alp_session.specs.declared.waiting.Next.TheVariants as next
+use Rattle.alp_journal.specs.declared.log.Mark.TheVariants as mark
+use Rattle.alp_lines.specs.declared.line.Line.{Line}
+use Rattle.alp_lines.specs.declared.line.Line.TheVariants as line
+use Rattle.alp_files.specs.declared.reply.Reply.{Reply}
+use Rattle.alp_journal.specs.declared.event.Event.TheVariants as event
 use Rattle.alp_session.specs.Crowds.{client_at, hears, Sends}
-use Rattle.alp_top.specs.Turns.{Turn, lists_in, own_in, sent_in, turns_text}
-use Rattle.alp_top.specs.Plays.{Records, AreRecorded, PlaysLine, SendsMore, BeginsLine}
+use Rattle.alp_top.specs.Turns.{Turn, lists_in, own_in, turns_text}
+use Rattle.alp_top.specs.Plays.{Happening, happened, sent_turns, Records, AreRecorded, PlaysLine, SendsMore, BeginsLine}
 use Rattle.alp_vault.specs.declared.vault.Vault.{Ghosts}
 use Rattle.alp_node.specs.NodeStates.{NodeState}
 use Rattle.alp_node.specs.Nodes.{IsFull, start_in}
@@ -30,7 +38,7 @@ use Rattle.alp_node.specs.Served.{IsAskable}
 use Rattle.alp_node.specs.Sessions.{session_at}
 use Rattle.alp_node.specs.declared.server_state.ServerState.{ServerState}
 use Rattle.alp_journal.specs.Desk.{Session}
-use Rattle.alp_top.specs.Servers.{IsOn, AreSendable}
+use Rattle.alp_top.specs.Servers.{IsOn, AreSendable, HasStepped}
 
 -- client and server know the session, or neither does
 abbrev pub SameSession : ℕ → Option Greeted → Option Session → Type 0
@@ -108,48 +116,82 @@ pub record HasSaid (k : ℕ) (c : Client) (xs : List items.Item) : Type 0 where
 
 -- ---- what a line does
 
+-- only a line that sends a frame of its own comes to a collect
+abbrev pub IsOwnNext : Line → Next → Type 0
+IsOwnNext l next.Collect = mark_of l ≡ mark.Own
+IsOwnNext l n = Unit {0}
+
+-- nothing more is sent
+abbrev pub IsLast : Next → Type 0
+IsLast next.Call = ⊥
+IsLast next.Collect = ⊥
+IsLast n = Unit {0}
+
+-- the call of the line was sent
+abbrev pub IsNoCall : Next → Type 0
+IsNoCall next.Call = ⊥
+IsNoCall n = Unit {0}
+
+-- what is known of a line behind a frame of it: the client has a session where it sends another, and a collect is of a line with a
+-- frame of its own
+abbrev pub GoesOn : Line → Option Greeted → Next → Type 0
+GoesOn l o next.Call = IsSome o
+GoesOn l o next.Collect = (mark_of l ≡ mark.Own) × IsSome o
+GoesOn l o n = Unit {0}
+
+-- whose transaction is said to time out has a place
+abbrev pub TimesOutClient : Line → Type 0
+TimesOutClient (line.Timeout server client) = client ≤ 16
+TimesOutClient l = Unit {0}
+
+-- the server took the step of a timeout, if there was a transaction
+abbrev pub HasTimed : {V : Type 0} → Ghosts V → (old new : NodeState V) → Option TransId → Type 0
+HasTimed G old new None = new ≡ old
+HasTimed G old new (Some t) = (r : Option Reply) × HasStepped G old new (event.Timeout t) r
+
 -- one item of a client: the frame went out, its entry stands last in the journal, and the client heard what it was handed
-pub record Exchanged {V : Type 0} (G : Ghosts V) (old new : Crowd) (before after : NodeState V) (k : ℕ) (l : NumberedLine) (frame : List ℕ) (over : Bool) (x : Item) : Type 0 where
+pub record Exchanged {V : Type 0} (G : Ghosts V) (old new : Crowd) (before after : NodeState V) (k : ℕ) (l : NumberedLine) (now : Next) (frame : List ℕ) (behind : Next) (x : Item) : Type 0 where
   pub step : InStep G new after
   pub opening : after.opening ≡ before.opening
   pub start : start_in G after ≡ start_in G before
   pub epoch : after.kept.epoch ≡ before.kept.epoch
   pub number : x.line ≡ l.number
   pub sent : IsOfFrame l.line frame x
-  pub heard : hears old k l.line frame x.reply ≡ (new, over)
+  pub heard : hears old k l.line now frame x.reply ≡ (new, behind)
   pub said : (xs : List items.Item) → HasSaid k (client_at old k) xs → HasSaid k (client_at new k) (xs ++ item_of x ∷ [])
   pub entry : Entry
   pub journal : after.journal ≡ before.journal ++ entry ∷ []
   pub recorded : Records before.kept.epoch (length before.journal) (k, x) entry
 
--- a line's items, each with an entry of its own behind those before
-pub record Did {V : Type 0} (G : Ghosts V) (old new : Crowd) (before after : NodeState V) (k : ℕ) (l : NumberedLine) (xs : List Item) : Type 0 where
+-- A line's items, each with an entry of its own behind those before; and behind them its client's transaction may time out. `now` is
+-- what the client does first.
+pub record Did {V : Type 0} (G : Ghosts V) (old new : Crowd) (before after : NodeState V) (k : ℕ) (l : NumberedLine) (now : Next) (xs : List Item) (t : Option TransId) : Type 0 where
   pub step : InStep G new after
   pub opening : after.opening ≡ before.opening
   pub start : start_in G after ≡ start_in G before
   pub epoch : after.kept.epoch ≡ before.kept.epoch
   pub number : AllByRecursion (λ (x : Item). x.line ≡ l.number) xs
-  pub sends : Sends old k l.line false xs new
+  pub sends : Sends old k l.line now xs t new
   pub said : (front : List items.Item) → HasSaid k (client_at old k) front → HasSaid k (client_at new k) (front ++ list_map item_of xs)
   pub others : (j : ℕ) (front : List items.Item) → (j ≡ k → ⊥) → HasSaid j (client_at old j) front → HasSaid j (client_at new j) front
   pub entries : List Entry
   pub journal : after.journal ≡ before.journal ++ entries
-  pub recorded : AreRecorded before.kept.epoch (length before.journal) (list_map (λ x. (k, x)) xs) entries
+  pub recorded : AreRecorded before.kept.epoch (length before.journal) (happened k xs t) entries
 
--- a line's first items, each with an entry of its own, and a frame more for which the journal has no room
-pub record DidSome {V : Type 0} (G : Ghosts V) (old new : Crowd) (before after : NodeState V) (k : ℕ) (l : NumberedLine) (xs : List Item) : Type 0 where
+-- a line's first items, each with an entry of its own, and more to do for which the journal has no room
+pub record DidSome {V : Type 0} (G : Ghosts V) (old new : Crowd) (before after : NodeState V) (k : ℕ) (l : NumberedLine) (now : Next) (xs : List Item) : Type 0 where
   pub on : IsOn G after
   pub full : IsFull after
   pub opening : after.opening ≡ before.opening
   pub start : start_in G after ≡ start_in G before
   pub epoch : after.kept.epoch ≡ before.kept.epoch
   pub number : AllByRecursion (λ (x : Item). x.line ≡ l.number) xs
-  pub sends : SendsMore old k l.line false xs new
+  pub sends : SendsMore old k l.line now xs new
   pub said : (front : List items.Item) → HasSaid k (client_at old k) front → HasSaid k (client_at new k) (front ++ list_map item_of xs)
   pub others : (j : ℕ) (front : List items.Item) → (j ≡ k → ⊥) → HasSaid j (client_at old j) front → HasSaid j (client_at new j) front
   pub entries : List Entry
   pub journal : after.journal ≡ before.journal ++ entries
-  pub recorded : AreRecorded before.kept.epoch (length before.journal) (list_map (λ x. (k, x)) xs) entries
+  pub recorded : AreRecorded before.kept.epoch (length before.journal) (happened k xs None) entries
 
 -- what a line adds to the lists of the clients, to the report and to the journal
 pub record Adds {V : Type 0} (G : Ghosts V) (old new : Crowd) (before after : NodeState V) (l : NumberedLine) (lists_before lists_after : List (Vec Item Global)) (text_before text_after : List ℕ) : Type 0 where
@@ -158,14 +200,15 @@ pub record Adds {V : Type 0} (G : Ghosts V) (old new : Crowd) (before after : No
   pub start : start_in G after ≡ start_in G before
   pub epoch : after.kept.epoch ≡ before.kept.epoch
   pub turns : List Turn
-  pub plays : PlaysLine old l (client_named l.line) turns new
+  pub happened_now : List Happening
+  pub plays : PlaysLine old l (client_named l.line) turns happened_now new
   pub places : length lists_after ≡ length lists_before
   pub lists : (k : ℕ) → lists_in lists_after k ≡ lists_in lists_before k ++ own_in k turns
   pub said : (k : ℕ) (front : List items.Item) → HasSaid k (client_at old k) front → HasSaid k (client_at new k) (front ++ list_map item_of (own_in k turns))
   pub text : text_after ≡ text_before ++ turns_text turns
   pub entries : List Entry
   pub journal : after.journal ≡ before.journal ++ entries
-  pub recorded : AreRecorded before.kept.epoch (length before.journal) (sent_in turns) entries
+  pub recorded : AreRecorded before.kept.epoch (length before.journal) happened_now entries
 
 -- what a line added to the journal that has no room for the rest of it
 pub record AddsSome {V : Type 0} (G : Ghosts V) (old new : Crowd) (before after : NodeState V) (l : NumberedLine) : Type 0 where
@@ -174,9 +217,9 @@ pub record AddsSome {V : Type 0} (G : Ghosts V) (old new : Crowd) (before after 
   pub opening : after.opening ≡ before.opening
   pub start : start_in G after ≡ start_in G before
   pub epoch : after.kept.epoch ≡ before.kept.epoch
-  pub turn : Turn
-  pub begins : BeginsLine old l turn new
-  pub said : (k : ℕ) (front : List items.Item) → HasSaid k (client_at old k) front → HasSaid k (client_at new k) (front ++ list_map item_of (own_in k (turn ∷ [])))
+  pub turns : List Turn
+  pub begins : BeginsLine old l (client_named l.line) turns new
+  pub said : (k : ℕ) (front : List items.Item) → HasSaid k (client_at old k) front → HasSaid k (client_at new k) (front ++ list_map item_of (own_in k turns))
   pub entries : List Entry
   pub journal : after.journal ≡ before.journal ++ entries
-  pub recorded : AreRecorded before.kept.epoch (length before.journal) (sent_in (turn ∷ [])) entries
+  pub recorded : AreRecorded before.kept.epoch (length before.journal) (sent_turns turns) entries

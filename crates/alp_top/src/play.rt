@@ -1,11 +1,11 @@
 //! Plays the lines of a script: the clients' calls, what the server answers, and the lines of the report.
-ghost use Rattle.std.specs.Prelude.{◌≡◌, ◌≤◌, [], ◌∷◌, ◌++◌, List, OnOk, IfOk, IfSome, IsSome, length, Some, true, false};
+ghost use Rattle.std.specs.Prelude.{◌≡◌, ◌≤◌, [], ◌∷◌, ◌++◌, List, OnOk, IfOk, IfSome, IsSome, length, Option, None, Some, true};
 ghost use Rattle.std.specs.List.{AllByRecursion};
 ghost use Rattle.alp_session.specs.Crowd.{Crowd};
-ghost use Rattle.alp_session.specs.Crowds.{client_at, asks};
+ghost use Rattle.alp_session.specs.Crowds.{client_at, request_next, times_out, asks};
 ghost use Rattle.alp_journal.specs.declared.log.Item.{Item as AnItem};
 ghost use Rattle.alp_rpc.specs.Frames.{request};
-ghost use Rattle.alp_session.specs.Frames.{request_of, mark_of as mark_said};
+ghost use Rattle.alp_session.specs.Frames.{mark_of as mark_said};
 ghost use Rattle.alp_lines.specs.Forms.{IsForm};
 ghost use Rattle.alp_node.specs.Nodes.{start_in};
 ghost use Rattle.alp_script.specs.Order.{names_ours};
@@ -13,17 +13,21 @@ ghost use Rattle.alp_script.specs.Accepted.{RisesFrom};
 ghost use Rattle.alp_top.specs.Turns.{Turn, lists_in, own_in, turns_text};
 ghost use Rattle.alp_top.specs.Runs.{HasPlayed, HasFilledUp};
 ghost use Rattle.alp_top.specs.Servers.{IsOn, IsIdle, HasGone, HasNoRoom, OnFull};
-ghost use Rattle.alp_top.specs.Steps.{InStep, Exchanged, Did, Adds, DidSome, AddsSome};
+ghost use Rattle.alp_base.specs.declared.ids.TransId.{TransId as ATrans};
+ghost use Rattle.alp_session.specs.declared.waiting.Next.TheVariants as next;
+ghost use Rattle.alp_top.specs.Plays.{timeout_by as timeout_said};
+ghost use Rattle.alp_top.specs.Steps.{InStep, IsOwnNext, IsNoCall, GoesOn, TimesOutClient, HasTimed, Exchanged, Did, Adds, DidSome, AddsSome};
 
 use crate::exchange::hand;
 use crate::fault::PlayFault;
-use alp_base::{Bytes, OutOfMemory};
-use alp_journal::{Item, Mark};
+use crate::step::step;
+use alp_base::{Bytes, OutOfMemory, TransId};
+use alp_journal::{Event, Item, Mark};
 use alp_lines::Line;
 use alp_node::Node;
 use alp_report::put_line;
 use alp_script::NumberedLine;
-use alp_session::Clients;
+use alp_session::{Clients, Next};
 use alp_vault::Vault;
 use std::alloc::Global;
 
@@ -43,7 +47,7 @@ fn mark_of(line: &Line) -> Mark
     }
 }
 
-// A client sends the frame of its line, and hears the reply: one item more. Gives whether the line is over.
+// A client sends a frame for its line, and hears the reply: one item more. Gives what it does next for the line.
 fn send<V: Vault>(
     alloc: Global,
     clients: &mut Clients,
@@ -51,47 +55,110 @@ fn send<V: Vault>(
     items: &mut Vec<Item>,
     client: u8,
     line: &NumberedLine,
+    next: Next,
     frame: Bytes,
-) -> Result<bool, PlayFault>
+) -> Result<Next, PlayFault>
     requires client { (1 ≤ client) × (client ≤ 16) }
     requires step { InStep V.Vault clients.old node.old }
     requires form { IsForm line.now.line }
-    requires asked { asks clients.old client line.now.line false ≡ Some frame }
-    requires fits { IfSome (request_of clients.old.words client (client_at clients.old client) line.now.line) request.Fits }
+    requires asked { asks clients.old client line.now.line next ≡ Some frame }
+    requires fits { IfSome (request_next clients.old client line.now.line next) request.Fits }
+    requires own { IsOwnNext line.now.line next }
     ensures gone { HasGone V.Vault node.old.kept.vault node.new.kept.vault result }
     ensures filled { OnFull result (HasNoRoom node.old node.new) }
-    ensures sent { IfOk result (λ over. (x : AnItem) × (items.new.items ≡ items.old.items ++ x ∷ []) × Exchanged V.Vault clients.old clients.new node.old node.new client line.now frame over x) }
+    ensures sent { IfOk result (λ behind. (x : AnItem) × (items.new.items ≡ items.old.items ++ x ∷ []) × Exchanged V.Vault clients.old clients.new node.old node.new client line.now next frame behind x) }
 {
     let handed = hand(alloc, node, client, frame.as_slice())?;
-    let is_over = clients.hears(alloc, client, &line.line, frame, &handed.bytes)?;
+    let behind = clients.hears(alloc, client, &line.line, next, frame, &handed.bytes)?;
     items.push(handed.item(line.number, mark_of(&line.line)))?;
-    Ok(is_over)
+    Ok(behind)
 }
 
-// What a client sends for a line whose greeting was answered.
-fn send_greeted<V: Vault>(
+// The transaction times out, if it is one.
+fn time_out<V: Vault>(node: &mut Node<V>, trans: Option<TransId>) -> Result<(), PlayFault>
+    requires on { IsOn V.Vault node.old }
+    ensures gone { HasGone V.Vault node.old.kept.vault node.new.kept.vault result }
+    ensures filled { OnFull result (IsSome trans × HasNoRoom node.old node.new) }
+    ensures timed { OnOk result (HasTimed V.Vault node.old node.new trans) }
+{
+    let Some(trans) = trans else {
+        return Ok(());
+    };
+    step(node, Event::Timeout { trans })?;
+    Ok(())
+}
+
+// Behind the last frame of a line: where its client's patience is at an end, its transaction times out.
+fn end_line<V: Vault>(
+    clients: &Clients,
+    node: &mut Node<V>,
+    client: u8,
+    line: &NumberedLine,
+    next: Next,
+) -> Result<(), PlayFault>
+    requires client { (1 ≤ client) × (client ≤ 16) }
+    requires step { InStep V.Vault clients.now node.old }
+    requires last { asks clients.now client line.now.line next ≡ None }
+    ensures gone { HasGone V.Vault node.old.kept.vault node.new.kept.vault result }
+    ensures filled { OnFull result (DidSome V.Vault clients.now clients.now node.old node.new client line.now next []) }
+    ensures did { OnOk result (Did V.Vault clients.now clients.now node.old node.new client line.now next [] (times_out clients.now client next)) }
+{
+    time_out(node, clients.due(client, next))
+}
+
+// What a client sends for a line behind two frames, or behind its call: maybe the collect of a call that is to wait.
+fn send_last<V: Vault>(
     alloc: Global,
     clients: &mut Clients,
     node: &mut Node<V>,
     items: &mut Vec<Item>,
     client: u8,
     line: &NumberedLine,
+    next: Next,
 ) -> Result<(), PlayFault>
     requires client { (1 ≤ client) × (client ≤ 16) }
     requires step { InStep V.Vault clients.old node.old }
     requires form { IsForm line.now.line }
-    requires greeted { IsSome (client_at clients.old client).session }
+    requires goes { GoesOn line.now.line (client_at clients.old client).session next }
+    requires called { IsNoCall next }
     ensures gone { HasGone V.Vault node.old.kept.vault node.new.kept.vault result }
-    ensures filled { OnFull result ((xs : List AnItem) × (known : Crowd) × DidSome V.Vault clients.old known node.old node.new client line.now xs) }
-    ensures did { OnOk result ((xs : List AnItem) × (items.new.items ≡ items.old.items ++ xs) × Did V.Vault clients.old clients.new node.old node.new client line.now xs) }
+    ensures filled { OnFull result ((xs : List AnItem) × (known : Crowd) × DidSome V.Vault clients.old known node.old node.new client line.now next xs) }
+    ensures did { OnOk result ((xs : List AnItem) × (t : Option ATrans) × (items.new.items ≡ items.old.items ++ xs) × Did V.Vault clients.old clients.new node.old node.new client line.now next xs t) }
 {
-    if let Some(frame) = clients.asks(alloc, client, &line.line)? {
-        send(alloc, clients, node, items, client, line, frame)?;
-    }
-    Ok(())
+    let Some(frame) = clients.asks(alloc, client, &line.line, next)? else {
+        return end_line(clients, node, client, line, next);
+    };
+    let behind = send(alloc, clients, node, items, client, line, next, frame)?;
+    end_line(clients, node, client, line, behind)
 }
 
-// What a client sends for a line, and is handed.
+// What a client sends for a line behind its first frame: its call behind a greeting, or the collect of a call that is to wait.
+fn send_more<V: Vault>(
+    alloc: Global,
+    clients: &mut Clients,
+    node: &mut Node<V>,
+    items: &mut Vec<Item>,
+    client: u8,
+    line: &NumberedLine,
+    next: Next,
+) -> Result<(), PlayFault>
+    requires client { (1 ≤ client) × (client ≤ 16) }
+    requires step { InStep V.Vault clients.old node.old }
+    requires form { IsForm line.now.line }
+    requires goes { GoesOn line.now.line (client_at clients.old client).session next }
+    ensures gone { HasGone V.Vault node.old.kept.vault node.new.kept.vault result }
+    ensures filled { OnFull result ((xs : List AnItem) × (known : Crowd) × DidSome V.Vault clients.old known node.old node.new client line.now next xs) }
+    ensures did { OnOk result ((xs : List AnItem) × (t : Option ATrans) × (items.new.items ≡ items.old.items ++ xs) × Did V.Vault clients.old clients.new node.old node.new client line.now next xs t) }
+{
+    let Some(frame) = clients.asks(alloc, client, &line.line, next)? else {
+        return end_line(clients, node, client, line, next);
+    };
+    let behind = send(alloc, clients, node, items, client, line, next, frame)?;
+    send_last(alloc, clients, node, items, client, line, behind)
+}
+
+// What a client sends for a line, and is handed: a greeting maybe, its call, and the collect of that; and where its patience is at
+// an end its transaction times out.
 fn send_line<V: Vault>(
     alloc: Global,
     clients: &mut Clients,
@@ -104,16 +171,14 @@ fn send_line<V: Vault>(
     requires step { InStep V.Vault clients.old node.old }
     requires form { IsForm line.now.line }
     ensures gone { HasGone V.Vault node.old.kept.vault node.new.kept.vault result }
-    ensures filled { OnFull result ((xs : List AnItem) × (known : Crowd) × DidSome V.Vault clients.old known node.old node.new client line.now xs) }
-    ensures did { OnOk result ((xs : List AnItem) × (items.new.items ≡ items.old.items ++ xs) × Did V.Vault clients.old clients.new node.old node.new client line.now xs) }
+    ensures filled { OnFull result ((xs : List AnItem) × (known : Crowd) × DidSome V.Vault clients.old known node.old node.new client line.now next.Call xs) }
+    ensures did { OnOk result ((xs : List AnItem) × (t : Option ATrans) × (items.new.items ≡ items.old.items ++ xs) × Did V.Vault clients.old clients.new node.old node.new client line.now next.Call xs t) }
 {
-    let Some(frame) = clients.asks(alloc, client, &line.line)? else {
+    let Some(frame) = clients.asks(alloc, client, &line.line, Next::Call)? else {
         return Ok(());
     };
-    if send(alloc, clients, node, items, client, line, frame)? {
-        return Ok(());
-    }
-    send_greeted(alloc, clients, node, items, client, line)
+    let behind = send(alloc, clients, node, items, client, line, Next::Call, frame)?;
+    send_more(alloc, clients, node, items, client, line, behind)
 }
 
 // The line of a client, with its line of the report.
@@ -130,8 +195,8 @@ fn play_own<V: Vault>(
     requires step { InStep V.Vault clients.old node.old }
     requires form { IsForm line.now.line }
     ensures gone { HasGone V.Vault node.old.kept.vault node.new.kept.vault result }
-    ensures filled { OnFull result ((xs : List AnItem) × (known : Crowd) × DidSome V.Vault clients.old known node.old node.new client line.now xs) }
-    ensures did { OnOk result ((xs : List AnItem) × (items.new.items ≡ items.old.items ++ xs) × (text.new.items ≡ text.old.items ++ turns_text (record { line = line.now.number; client = client; items = xs } ∷ [])) × Did V.Vault clients.old clients.new node.old node.new client line.now xs) }
+    ensures filled { OnFull result ((xs : List AnItem) × (known : Crowd) × DidSome V.Vault clients.old known node.old node.new client line.now next.Call xs) }
+    ensures did { OnOk result ((xs : List AnItem) × (t : Option ATrans) × (items.new.items ≡ items.old.items ++ xs) × (text.new.items ≡ text.old.items ++ turns_text (record { line = line.now.number; client = client; items = xs } ∷ [])) × Did V.Vault clients.old clients.new node.old node.new client line.now next.Call xs t) }
 {
     let before = items.len();
     send_line(alloc, clients, node, items, client, line)?;
@@ -139,7 +204,18 @@ fn play_own<V: Vault>(
     Ok(())
 }
 
-// A line, which adds nothing where it is a declaration.
+// The transaction that a line says times out, if its client has one.
+fn timeout_by(clients: &Clients, line: &Line) -> Option<TransId>
+    requires { TimesOutClient line.now }
+    ensures { result ≡ timeout_said clients.now line.now }
+{
+    match line {
+        Line::Timeout { client, .. } => clients.trans_of(*client),
+        _ => None,
+    }
+}
+
+// A line. One that is no client's sends nothing; where it says a timeout, its client's transaction times out, if there is one.
 fn play_line<V: Vault>(
     alloc: Global,
     clients: &mut Clients,
@@ -157,8 +233,9 @@ fn play_line<V: Vault>(
     ensures adds { OnOk result (Adds V.Vault clients.old clients.new node.old node.new line.now lists.old.items lists.new.items text.old.items text.new.items) }
 {
     let Some(client) = line.line.client() else {
+        let trans = timeout_by(clients, &line.line);
         clients.declares(&line.line);
-        return Ok(());
+        return time_out(node, trans);
     };
     clients.at_line(client, &line.line)?;
     play_own(

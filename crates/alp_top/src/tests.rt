@@ -1,6 +1,8 @@
 ghost use Rattle.std.specs.Prelude.{◌≡◌, ◌≤◌, length, IfOk};
 ghost use Rattle.alp_base.specs.declared.allowance.Allowance.TheVariants.{Free};
 
+mod rows;
+
 use crate::*;
 use alp_base::{MemSink, MemSource};
 use alp_bay::{Bay, HostBay, MemBay};
@@ -520,64 +522,6 @@ fn tells_each_failing_write(rt: HostRuntime) -> Result<(), Fail> {
     let told = run(alloc, &["play"], REFUSALS, &narrow)?;
     assert_eq!(rt; told.code, 4);
     assert_eq!(rt; told.written.len(), 0);
-    Ok(())
-}
-
-// An owner with ten pages who alone makes files of hers, one of which has four pages.
-const SET_UP: &[u8] =
-    b"servers 1\npatience 3\nclient 1 Admin\nclient 2 ann\nclient 3 ann\nclient 4 ann\nclient 5 bob\n1 begin 1\n1 mkowner 1 ann 10 Owner\n1 commit\n2 begin 1\n2 create 1 A ann 4\n2 write A 0 4 hello\n2 commit\n";
-
-const SET_UP_TOLD: &[u8] =
-    b"8 ok trans 1.1.1\n9 ok\n10 ok stamp 1 1.1.1\n11 ok trans 1.1.2\n12 ok file 1.1.1 open 1\n13 ok\n14 ok stamp 2 1.1.2\n";
-
-// Sizes within the quota: what is cut off is gone, and what grows is zeros.
-const SIZES: [&[u8]; 2] = [
-    b"2 begin 1\n2 create 1 B ann 4\n2 write B 0 1 b\n2 read B 3 1\n2 read B 4 1\n2 size B 6\n2 write B 5 1 f\n2 size B 1\n2 size B 6\n2 read B 5 1\n2 props B\n2 commit\n",
-    b"15 ok trans 1.1.3\n16 ok file 1.1.2 open 1\n17 ok\n18 ok -\n19 refused 11 size 4\n20 ok\n21 ok\n22 ok\n23 ok\n24 ok -\n25 ok props owner ann name B type 0 time 0 bytes 0 size 6 high 1 read World modify Owner\n26 ok stamp 3 1.1.3\nserver 1 epoch 1 clock 3 files 2 pages 10\nowner 1 ann charge 10 quota 10\ncommitted 3 aborted 0\n",
-];
-
-// What the quota leaves, and a deletion that is aborted, and one that is committed.
-const CHARGES: [&[u8]; 2] = [
-    b"2 begin 1\n2 create 1 B ann 2\n2 create 1 C ann 5\n2 create 1 D ann 4\n2 commit\n2 begin 1\n2 open D change w\n2 delete D\n2 abort\n2 begin 1\n2 owner 1 ann\n2 open D change w\n2 delete D\n2 commit\n",
-    b"15 ok trans 1.1.3\n16 ok file 1.1.2 open 1\n17 refused 12 charge 6 asked 5 quota 10\n18 ok file 1.1.3 open 2\n19 ok stamp 3 1.1.3\n20 ok trans 1.1.4\n21 ok open 1\n22 ok\n23 refused 17 Asked\n24 ok trans 1.1.5\n25 ok owner ann charge 10 quota 10 create Owner\n26 ok open 1\n27 ok\n28 ok stamp 4 1.1.5\nserver 1 epoch 1 clock 4 files 2 pages 6\nowner 1 ann charge 6 quota 10\ncommitted 4 aborted 1\n",
-];
-
-// A file that is deleted is open no more, and gone behind the commit.
-const DELETIONS: [&[u8]; 2] = [
-    b"2 begin 1\n2 open A change w\n2 delete A\n2 open A read r\n2 read A 0 1\n2 abort\n2 begin 1\n2 open A change w\n2 delete A\n2 commit\n3 begin 1\n3 open A read r\n3 commit\n",
-    b"15 ok trans 1.1.3\n16 ok open 1\n17 ok\n18 refused 6\n19 refused 5\n20 refused 17 Asked\n21 ok trans 1.1.4\n22 ok open 1\n23 ok\n24 ok stamp 3 1.1.4\n25 ok trans 1.1.5\n26 refused 6\n27 ok stamp 4 1.1.5\nserver 1 epoch 1 clock 4 files 0 pages 0\nowner 1 ann charge 0 quota 10\ncommitted 4 aborted 1\n",
-];
-
-// An owner is made once, and by the administrator alone.
-const DENIALS: [&[u8]; 2] = [
-    b"1 begin 1\n1 mkowner 1 ann 5 World\n5 begin 1\n5 mkowner 1 eve 5 World\n",
-    b"15 ok trans 1.1.3\n16 refused 8\n17 ok trans 1.1.4\n18 refused 10 admin\nserver 1 epoch 1 clock 2 files 1 pages 4\nowner 1 ann charge 4 quota 10\ncommitted 2 aborted 2\n",
-];
-
-// No file has more than 4,096 pages.
-const PAGES_LIMIT: [&[u8]; 2] = [
-    b"2 begin 1\n2 create 1 B ann 70000\n",
-    b"15 ok trans 1.1.3\n16 refused 15 Pages 4096\nserver 1 epoch 1 clock 2 files 1 pages 4\nowner 1 ann charge 4 quota 10\ncommitted 2 aborted 1\n",
-];
-
-// Two clients lock some of a file's pages each, a third meets both, and a run is locked whole or not at all.
-const LOCKS: [&[u8]; 2] = [
-    b"2 begin 1\n3 begin 1\n2 open A change iw\n3 open A change iw\n2 write A 0 2 two\n3 read A 0 1 u\n3 lock A 1 3 r\n3 lock A 2 2 u\n2 read A 2 1\n2 read A 2 1 w\n2 lock A 0 17 r\n2 write A 0 255 x\n4 begin 1\n4 open A read riw\n4 open A read ir\n4 lock A 3 1 w\n4 read A 0 4\n3 commit\n2 commit\n4 read A 0 4\n4 commit\n",
-    b"15 ok trans 1.1.3\n16 ok trans 1.1.4\n17 ok open 1\n18 ok open 1\n19 ok\n20 refused 16 holder 1.1.3\n21 refused 16 holder 1.1.3\n22 ok\n23 ok hello\n24 refused 16 holder 1.1.4\n25 refused 15 Run 16\n26 refused 15 Run 16\n27 ok trans 1.1.5\n28 refused 16 holder 1.1.3\n29 ok open 1\n30 refused 9\n31 refused 16 holder 1.1.3\n32 ok stamp 3 1.1.4\n33 ok stamp 4 1.1.3\n34 ok two two hello hello\n35 ok stamp 5 1.1.5\nserver 1 epoch 1 clock 5 files 1 pages 4\nowner 1 ann charge 4 quota 10\ncommitted 5 aborted 0\n",
-];
-
-#[test]
-fn plays_charges_and_locks(rt: HostRuntime) -> Result<(), Fail> {
-    let alloc = rt.alloc();
-    for [lines, answers] in [SIZES, CHARGES, DELETIONS, DENIALS, PAGES_LIMIT, LOCKS] {
-        let mut script = Vec::from_slice(alloc, SET_UP)?;
-        script.extend_from_slice(lines)?;
-        let mut report = Vec::from_slice(alloc, SET_UP_TOLD)?;
-        report.extend_from_slice(answers)?;
-        let told = run(alloc, &["play"], script.as_slice(), &SOUND)?;
-        assert_eq!(rt; told.code, 0);
-        assert_eq!(rt; told.written.as_slice(), report.as_slice());
-    }
     Ok(())
 }
 

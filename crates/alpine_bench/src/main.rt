@@ -3,12 +3,14 @@
 #![tactic(auto)]
 
 mod acknowledge;
+mod desk;
 mod failed;
 mod frames;
 mod locks;
 mod monitor;
 mod nodes;
 mod server;
+mod waiting;
 mod words;
 
 use alp_measures::rates::Trouble;
@@ -52,6 +54,13 @@ fn run<R: Runtime + Files<File = File> + Threads + Wait + Sync>(
             for held in locks::SIZES {
                 let rates = locks::measure(rt, alloc, held)?;
                 print!(rt; "{rates}")?;
+            }
+            Ok(())
+        }
+        Some(Command::Waiting) => {
+            for held in waiting::SIZES {
+                let times = waiting::measure(rt, alloc, held)?;
+                print!(rt; "{times}")?;
             }
             Ok(())
         }

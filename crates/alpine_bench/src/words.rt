@@ -8,6 +8,8 @@ usage: alpine_bench COMMAND
   monitor THREADS  turns a second of 1 to 16 threads at one monitor, and at a Mutex
   locks            asks and releases a second beside 16, 256 and 1024 held resources, and the
                    nanoseconds of an ask of 16 by their holder
+  waiting          the nanoseconds of an ask that waits, of a release for each that it wakes, and of a
+                   collect, at a server of 64 transactions, 63 of which have 16, 256 and 1008 locks
   frames           encodes and decodes a second of a request to write 16 pages
   checkpoint       the nanoseconds of a checkpoint of 16 images alone, on a disk in memory with 512
                    home pages and with 65536
@@ -50,6 +52,7 @@ pub(crate) enum Command<'a> {
     Usage,
     Monitor { threads: u32 },
     Locks,
+    Waiting,
     Frames,
     Checkpoint,
     Volume,
@@ -71,6 +74,7 @@ pub(crate) fn read_words<'a>(words: &[&'a str]) -> Option<Command<'a>> {
             Some(Command::Monitor { threads })
         }
         ["locks"] => Some(Command::Locks),
+        ["waiting"] => Some(Command::Waiting),
         ["frames"] => Some(Command::Frames),
         ["checkpoint"] => Some(Command::Checkpoint),
         ["volume"] => Some(Command::Volume),

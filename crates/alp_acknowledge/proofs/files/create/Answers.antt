@@ -6,4 +6,4 @@ use Rattle.alp_acknowledge.proofs.files.create.Goals as goal
 
 pub ask-requires-clause-call : goal.ask-requires-clause-call
 ask-requires-clause-call g c =
-    (refl, (tt, subst (λ (n : ℕ). n < page_limit) (sym c.in_ok-props.ensures ∙ ap (λ (p : Props). p.size) (sym c.in_ok-start.ensures)) (small_size c.args.size c.requires.size), tt))
+    (refl, (tt, subst (λ (n : ℕ). n < page_limit) (sym c.in_ok-props.ensures ∙ ap (λ (p : Props). p.size) (sym c.in_ok-start.ensures)) (small_size c.args.size c.requires.size), tt), tt)

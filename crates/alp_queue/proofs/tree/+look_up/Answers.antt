@@ -5,7 +5,6 @@ use Rattle.alp_base.specs.declared.key.Resource.{Resource}
 use Rattle.alp_modes.specs.declared.Mode.{Mode}
 use Rattle.alp_base.specs.Orders.{resources_total, exact_resources}
 use Rattle.alp_queue.specs.Trees.{entries, entries_of, AreRising, lesser_in, first_tied}
-use Rattle.alp_queue.specs.declared.tree.Tree.{Tree}
 use Rattle.alp_queue.specs.declared.tree.Node.{Node}
 use Rattle.alp_queue.specs.declared.wanted.Wanted.{Wanted}
 use Rattle.alp_queue.proofs.SortedLemmas.{left-sorted, right-sorted, take-sorted, drop-sorted, looks, looks-around, looks-in-place}

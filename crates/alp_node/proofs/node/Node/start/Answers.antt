@@ -65,14 +65,15 @@ invariant_of-result g c =
       sessions = c.new-2.result;
       lives = c.new-3.result;
       dead = c.new-4.result;
-      locks = c.new-5.result;
+      waits = c.new-5.result;
+      locks = c.new-6.result;
       vault = v;
       is_down = false;
     } in
-    let n : NodeState g.row.V.Denot = record { opening = record { vault = c.of.result }; kept = k; journal = c.new-6.result } in
+    let n : NodeState g.row.V.Denot = record { opening = record { vault = c.of.result }; kept = k; journal = c.new-7.result } in
     let new : ServerState g.row.V.Denot = new_kept k c.args.server (G.volume v) c.in-Ok.clock in
     let same : new ≡ k =
-    (λ i. record k { sizes = (c.store.ensures.kept.sizes ∙ sym c.sizes-sizes.ensures) i; sessions = sym c.new-2.ensures i; lives = sym c.new-3.ensures i; dead = sym c.new-4.ensures i; locks = sym c.new-5.ensures.empty i }) in
+    (λ i. record k { sizes = (c.store.ensures.kept.sizes ∙ sym c.sizes-sizes.ensures) i; sessions = sym c.new-2.ensures i; lives = sym c.new-3.ensures i; dead = sym c.new-4.ensures i; waits = sym c.new-5.ensures i; locks = sym c.new-6.ensures.empty i }) in
     let right : IsTrue (G.tells v) → IsRight (start_by G c.args.server c.of.result.value) held n =
     λ tells. (
     let told : IsTrue (G.tells c.args.vault) = subst IsTrue c.store.ensures.kept.telling tells in
@@ -82,7 +83,7 @@ invariant_of-result g c =
     let o : Start = start_by G c.args.server v in
     let opening : o ≡ start_by G c.args.server c.of.result.value = ap (start_by G c.args.server) (sym c.of.ensures) in
     subst (λ (x : Start). IsRight x held n) opening
-    (new_right n o held c.new-6.ensures (new_says c.args.server (G.servers v) (G.volume v) held.cells held.notes) sound (subst (λ (m : Cells). AreSized (map.get m)) (sym cells) (volume_sized (G.volume c.args.vault) before.cells volume))
+    (new_right n o held c.new-7.ensures (new_says c.args.server (G.servers v) (G.volume v) held.cells held.notes) sound (subst (λ (m : Cells). AreSized (map.get m)) (sym cells) (volume_sized (G.volume c.args.vault) before.cells volume))
     (subst (IsAs (new_alone o) held) same
     (new_as k c.args.server (G.servers v) (clock_kept before.notes).epoch (G.volume v) c.in-Ok.clock held (λ f x there. c.requires.given told f x (sym (ap (λ (m : Cells). map.get m (Leader f)) cells) ∙ there))
     (raised_later before c.in-Ok.clock c.in-Ok.ensures.clock) c.in_default.ensures.clock
@@ -94,11 +95,11 @@ invariant_of-result g c =
       sizes = sym (c.store.ensures.kept.sizes ∙ sym c.sizes-sizes.ensures);
       noted = (λ _. c.in_default.ensures.format, λ _. ap (λ (x : ClockNote). x.epoch) c.in_default.ensures.clock);
       durable = λ tells. up_durable (start_by G c.args.server c.of.result.value) held n (G.may_leave v) (right tells) refl (c.knows-2.ensures.settled tells c.in_default.ensures.ended.0);
-      ready = subst (λ (m : ℕ). IsReady m (G.serves v) k) (sym (ap length c.new-6.ensures))
+      ready = subst (λ (m : ℕ). IsReady m (G.serves v) k) (sym (ap length c.new-7.ensures))
           (subst (IsReady 0 (G.serves v)) same
           (new_ready k c.args.server (G.volume v) c.in-Ok.clock (G.serves v) c.in_default.ensures.ended.0 (raised_within before c.in-Ok.clock c.in-Ok.ensures.clock) (raised_some before c.in-Ok.clock c.in-Ok.ensures.clock)
           (subst (λ (s : Sizes). 64 ≤ s.area) (sym c.store.ensures.kept.sizes) c.knows.ensures.limits.area_least)
-          (subst IsSound c.new-5.ensures.empty c.new-5.ensures.sound)));
+          (subst IsSound c.new-6.ensures.empty c.new-6.ensures.sound)));
       right = right;
     }
 

@@ -22,7 +22,7 @@ use Rattle.alp_node.specs.Shapes.{counts_then, too_locked}
 use Rattle.alp_node.specs.declared.lock_counts.LockCounts.{LockCounts}
 use Rattle.alp_node.specs.ServerState.{IsReady}
 use Rattle.alp_node.specs.Steps.{Stepped, IsOf, counted_in, told_answer}
-use Rattle.alp_node.specs.Turns.{TellsUpTo, IsKeepable, HasTurned}
+use Rattle.alp_node.specs.Turns.{TellsUpTo, IsKeepable, TellsRun, HasTurned}
 use Rattle.alp_node.specs.declared.answer.Answer.{Answer}
 use Rattle.alp_node.specs.declared.answer.Given.{Given}
 use Rattle.alp_node.specs.declared.lives.Live.{Live}
@@ -34,7 +34,10 @@ use Rattle.alp_node.proofs.CallLemmas.{unseen, count_grows}
 use Rattle.alp_node.proofs.CountedLemmas.{answered_quiet, IsCountRefusal, answered_keeps}
 use Rattle.alp_node.proofs.GivenLemmas.{counts_none, reply_given}
 use Rattle.alp_node.proofs.GrantLemmas.{plan_given, plan_is, count_given, free_given, given_below, granted_ready}
-use Rattle.alp_node.proofs.LockCallLemmas.{locks_stepped, conflict_stepped, acts_up, acts_caused}
+use Rattle.alp_node.proofs.LockCallLemmas.{locks_stepped, acts_up, acts_caused}
+use Rattle.alp_node.proofs.BesideLemmas.{AreNamed, AreOthers, idle_told}
+use Rattle.alp_node.proofs.KeptLemmas.{same_live}
+use Rattle.alp_node.proofs.WaitLemmas.{named_all, none_waiting, asks_none, idle_in, not_like}
 use Rattle.alp_node.proofs.LockKeptLemmas.{lock_stepped}
 use Rattle.alp_node.proofs.LookLemmas.{count_same, answered_told, room_told, part_ready, without_step, part_unseen, looks_left}
 use Rattle.alp_node.proofs.OpenLemmas.{unless_only, opens_then}
@@ -43,7 +46,7 @@ use Rattle.alp_node.proofs.SeatLemmas.{left_step}
 use Rattle.alp_node.proofs.ShapeLemmas.{shape_given, shape_shaped, too_locked_is, may_lock}
 use Rattle.alp_node.proofs.StepLemmas.{refused_step}
 use Rattle.alp_node.proofs.TotalLemmas.{few_totals}
-use Rattle.alp_node.proofs.TurnLemmas.{counts_on, run_told}
+use Rattle.alp_node.proofs.TurnLemmas.{counts_on, run_told, asks_its_own}
 use Rattle.alp_node.proofs.WithinLemmas.{MayLock, within_then}
 use Rattle.alp_node.proofs.server_state.ServerState.lock_call.Goals as goal
 
@@ -126,33 +129,44 @@ returns-in-Some-too_locked g c =
     let there : map.get k.lives t ≡ Some l = sym c.in-Some.ensures in
     let own : l.client ≡ turn.client = subst (IsOf turn.client) there c.requires.own in
     let n : LockCounts = counts_then l.locks (holding k.locks.held t) c.args.needs call in
+    let named : AreNamed k.waits = named_all k.server k.epoch k.given k.drawn k.sizes k.lives k.waits c.requires.ready.2.waits.calls in
+    let away : AreOthers t k.waits = none_waiting k.server k.epoch k.given k.drawn k.sizes k.lives turn.client t l k.waits there own c.requires.idle c.requires.ready.2.waits.calls in
     let f = c.in-Some-too_locked.refusal in
     let many : too_locked k.sizes.area l.part.counts.cells n.made ≡ Some f = ap (λ (y : LockCounts). too_locked k.sizes.area l.part.counts.cells y.made) (sym c.lock_counts-counts.ensures) ∙ sym c.too_locked.ensures ∙ c.in-Some-too_locked.is in
     let counted : IsCountRefusal f = too_locked_is k.sizes.area l.part.counts.cells n.made f many in
     let refuse = c.refuse in
     refused_step G k refuse.new.self turn call refuse.result f (counted.quiet k.server) c.requires.turn c.requires.up refuse.ensures.kept refuse.ensures.answer
-    (λ told a h. locks_stepped a (G.faults k.vault) (G.faults k.vault) (G.held k.vault) k turn t l call c.args.needs f refuse.result h c.requires.ready.2.raised c.requires.turn c.requires.up there own (c.requires.ready.2.within t l there)
+    (λ told a h. locks_stepped a (G.faults k.vault) (G.faults k.vault) (G.held k.vault) k turn t l call c.args.needs f refuse.result h c.requires.ready.2.raised c.requires.turn c.requires.up there own (idle_told a turn.client t k.waits h.waits named away) (c.requires.ready.2.within t l there)
     c.requires.served (asked_told (G.tells k.vault) (G.held k.vault).cells (holding k.locks.held t) l.part call c.args.needs (c.requires.asked l there) told) (c.requires.shape l there) many c.requires.named refuse.ensures.answer)
     counted.inside
 
-pub returns-in-Some-in_way_of : goal.returns-in-Some-in_way_of
-returns-in-Some-in_way_of g c =
+pub block-requires-clause-asked : goal.block-requires-clause-asked
+block-requires-clause-asked g c m there =
     let G = g.V.Vault in
     let k = c.args.self.now in
-    let turn = c.args.turn.now in
-    let t = c.args.trans in
-    let call = c.args.call.now in
+    subst (λ (w : Waiter). IsAsked (G.tells k.vault) (G.held k.vault).cells (holding k.locks.held c.args.trans) m.part c.args.call.now w.needs) (sym c.in_ok-asked.ensures) (c.requires.asked m there)
+
+pub block-requires-clause-counts : goal.block-requires-clause-counts
+block-requires-clause-counts g c m there =
+    let k = c.args.self.now in
     let l : Live = c.in-Some.live.now in
-    let there : map.get k.lives t ≡ Some l = sym c.in-Some.ensures in
-    let own : l.client ≡ turn.client = subst (IsOf turn.client) there c.requires.own in
-    let n : LockCounts = counts_then l.locks (holding k.locks.held t) c.args.needs call in
-    let few : too_locked k.sizes.area l.part.counts.cells n.made ≡ None = ap (λ (y : LockCounts). too_locked k.sizes.area l.part.counts.cells y.made) (sym c.lock_counts-counts.ensures) ∙ sym c.too_locked.ensures ∙ c.in_default-too_locked.is in
-    let named = ap (λ (w : Waiter). blocker k.locks.held w.trans w.rises) (sym c.in_ok-asked.ensures) ∙ sym c.in_way_of.ensures ∙ c.in-Some-in_way_of.is in
-    let refuse = c.refuse-in-Some-in_way_of in
-    refused_step G k refuse.new.self turn call refuse.result (refusal.LockConflict c.in-Some-in_way_of.holder) refl c.requires.turn c.requires.up refuse.ensures.kept refuse.ensures.answer
-    (λ told a h. conflict_stepped a (G.faults k.vault) (G.faults k.vault) (G.held k.vault) k turn t l call c.args.needs c.in-Some-in_way_of.holder refuse.result h c.requires.ready.2.raised c.requires.turn c.requires.up there own c.requires.served
-    (asked_told (G.tells k.vault) (G.held k.vault).cells (holding k.locks.held t) l.part call c.args.needs (c.requires.asked l there) told) (c.requires.shape l there) few c.requires.named c.requires.ready.2.sound named refuse.ensures.answer)
-    tt
+    let same : l ≡ m = same_live l m (c.in-Some.ensures ∙ there) in
+    c.lock_counts-counts.ensures ∙ ap (λ (y : Live). counts_then y.locks (holding k.locks.held c.args.trans) c.args.needs c.args.call.now) same
+    ∙ ap (λ (w : Waiter). counts_then m.locks (holding k.locks.held c.args.trans) w.needs c.args.call.now) (sym c.in_ok-asked.ensures)
+
+pub block-requires-clause-few : goal.block-requires-clause-few
+block-requires-clause-few g c m there =
+    let k = c.args.self.now in
+    let l : Live = c.in-Some.live.now in
+    let same : l ≡ m = same_live l m (c.in-Some.ensures ∙ there) in
+    ap (λ (y : Live). too_locked k.sizes.area y.part.counts.cells c.lock_counts-counts.result.made) (sym same) ∙ sym c.too_locked.ensures ∙ c.in_default-too_locked.is
+
+pub block-requires-clause-plan : goal.block-requires-clause-plan
+block-requires-clause-plan g c = c.in_ok-asked.ensures ∙ ap (λ (w : Waiter). plan_of c.args.self.now.locks c.args.trans w.needs) (sym c.in_ok-asked.ensures)
+
+pub block-requires-clause-blocked : goal.block-requires-clause-blocked
+block-requires-clause-blocked g c =
+    ap (λ (u : TransId). blocker c.args.self.now.locks.held u c.in_ok-asked.asked.rises) (sym (ap (λ (w : Waiter). w.trans) c.in_ok-asked.ensures)) ∙ sym c.in_way_of.ensures ∙ c.in-Some-in_way_of.is
 
 pub returns-in-Ok : goal.returns-in-Ok
 returns-in-Ok g c =
@@ -170,6 +184,7 @@ returns-in-Ok g c =
     let l : Live = c.in-Some.live.now in
     let there : map.get k.lives t ≡ Some l = sym c.in-Some.ensures in
     let own : l.client ≡ turn.client = subst (IsOf turn.client) there c.requires.own in
+    let away : AreOthers t k.waits = none_waiting k.server k.epoch k.given k.drawn k.sizes k.lives turn.client t l k.waits there own c.requires.idle c.requires.ready.2.waits.calls in
     let asked : IsAsked (G.tells k.vault) (G.held k.vault).cells (holding k.locks.held t) l.part call ns = c.requires.asked l there in
     let n : LockCounts = counts_then l.locks (holding k.locks.held t) ns call in
     let n_is : c.lock_counts-counts.result ≡ n = c.lock_counts-counts.ensures in
@@ -209,7 +224,7 @@ returns-in-Ok g c =
     subst (λ (y : Sessions). Stepped a (G.faults k.vault) (G.faults M.vault) (G.held M.vault) (record M { sessions = y }) e x) (sym c.count.ensures)
     (subst (λ (y : ServerState _). Stepped a (G.faults k.vault) (G.faults y.vault) (G.held y.vault) (record y { sessions = counted_in y.sessions turn r }) e x) (sym kept_is)
     (lock_stepped a (G.faults k.vault) (G.faults N.vault) (G.held k.vault) k turn t l did.part call ns did.room r N.vault c.requires.ready.0 (G.serves k.vault) x (G.held N.vault) c.requires.ready.2 h c.requires.up left.contents c.requires.turn there own
-    c.requires.served files (asked_told (G.tells k.vault) (G.held k.vault).cells (holding k.locks.held t) l.part call ns asked told) shape few c.requires.named c.requires.formed given_told of is free_asked))
+    c.requires.served files (asked_told (G.tells k.vault) (G.held k.vault).cells (holding k.locks.held t) l.part call ns asked told) shape few c.requires.named c.requires.formed given_told of is free_asked away))
     ))
     (reply_given k.server (G.faults k.vault) (G.faults M.vault) (G.allowance M.vault) M.is_down r (acts_of t rises) x is
     (counts_none k.server (G.faults k.vault) (G.faults M.vault) M.is_down (Some r)
@@ -224,17 +239,18 @@ returns-in-Ok g c =
     let only : GivesOnly (next_file k) r = subst (GivesOnly (next_file k)) (sym given.said) (unless_only (next_file k) given.given (refused_for did.room l.part.counts given.after) given.ids) in
     let opens = opens_then k.server k.epoch k.given h.raised call r of_file only l.part.opens.items did.part.opens.items given.opens (h.opened t l there) in
     let granted = granted_ready (m + 1) (G.serves k.vault) (record k { sessions = counted_in k.sessions turn r }) (plan_of k.locks t (asks_given (next_file k) call ns r)) (count_after k.given r)
-    (count_grows k.given r) fewer refl (free_given m (G.serves k.vault) k t call ns r h free_asked) (λ high_id high. given_below k.server k.epoch k.given high_id call ns r files high) (counted_ready m (G.serves k.vault) k turn r c.requires.turn keeps h) in
+    (count_grows k.given r) fewer refl (free_given m (G.serves k.vault) k t call ns r h free_asked)
+    (idle_in k.server k.epoch k.given k.lives k.waits t k.locks.waiting (asks_none t k.waits away) h.waits.queued) (λ high_id high. given_below k.server k.epoch k.given high_id call ns r files high) (counted_ready m (G.serves k.vault) k turn r c.requires.turn keeps h) in
     subst (λ (y : Sessions). IsReady (m + 1) (G.serves M.vault) (record M { sessions = y })) (sym c.count.ensures)
     (subst (λ (y : ServerState _). IsReady (m + 1) (G.serves y.vault) (record y { sessions = counted_in y.sessions turn r })) (sym kept_is)
     (part_ready (m + 1) (G.serves k.vault) serves (record k { sessions = counted_in k.sessions turn r; given = count_after k.given r; locks = with_plan k.locks (plan_of k.locks t (asks_given (next_file k) call ns r)) })
-    t l did.part b N.vault (m + 1) c.in-Ok.ensures.looked.1 c.requires.up there low (le_refl (m + 1)) opens within granted))
+    t l did.part b N.vault (m + 1) c.in-Ok.ensures.looked.1 c.requires.up there low (le_refl (m + 1)) opens within (not_like t l now k.waits away) granted))
     ))
     (λ on. subst (λ (y : Answer). HasTurned (Some order.Next) k (record M { sessions = c.count.new.self }) (event.Call turn.client k.epoch turn.number call) y.kept) (sym is)
     (counts_on k (record M { sessions = c.count.new.self }) turn c.requires.turn call r keeps.inside
     (let clock : M.clock ≡ k.clock = ap (λ (y : ServerState _). y.clock) kept_is in omega (arith, clock))
     (subst (λ (y : ServerState _). TellsUpTo y.clock r) (sym kept_is) keeps.times)
-    (run_told k.server k.epoch k.given (length l.part.opens.items) call shape r given.pages)
+    (subst (λ (m : Option ℕ). TellsRun m r) (asks_its_own k.waits turn.client call t c.requires.named) (run_told k.server k.epoch k.given (length l.part.opens.items) call c.requires.some shape r given.pages))
     (c.count.ensures ∙ ap (λ (y : ServerState _). counted_in y.sessions turn r) kept_is)))
 
 pub returns-in-Err : goal.returns-in-Err
@@ -247,8 +263,10 @@ returns-in-Err g c =
     let l : Live = c.in-Some.live.now in
     let there : map.get k.lives t ≡ Some l = sym c.in-Some.ensures in
     let own : l.client ≡ turn.client = subst (IsOf turn.client) there c.requires.own in
+    let named : AreNamed k.waits = named_all k.server k.epoch k.given k.drawn k.sizes k.lives k.waits c.requires.ready.2.waits.calls in
+    let away : AreOthers t k.waits = none_waiting k.server k.epoch k.given k.drawn k.sizes k.lives turn.client t l k.waits there own c.requires.idle c.requires.ready.2.waits.calls in
     let did = c.in-Err.ensures.performed l there in
     let look = c.in-Err.ensures.looked in
     let w = c.without_answer in
-    without_step G k (map.insert k.lives t (record l { part = did.part; locks = l.locks })) N.vault N w.new.self turn t c.args.call.now c.in-Err.fault w.result did.kept look c.requires.turn c.requires.up c.requires.named
+    without_step G k (map.insert k.lives t (record l { part = did.part; locks = l.locks })) N.vault N w.new.self turn t c.args.call.now c.in-Err.fault w.result did.kept look c.requires.turn c.requires.up c.requires.named (λ a h. idle_told a turn.client t k.waits h.waits named away)
     (part_unseen G k turn t l N.vault there own (looks_left G k.vault N.vault c.in-Err.fault look) c.requires.up did.part did.sound did.outcome) w.ensures.failed w.ensures.stopped w.ensures.memory

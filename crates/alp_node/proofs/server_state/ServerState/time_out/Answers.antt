@@ -1,14 +1,18 @@
 use Rattle.std.specs.Prelude.{None}
 use Rattle.std.proofs.Common.{◌≡◌, ◌+◌, List, [], ◌∷◌, ◌++◌, refl, sym, ap, ◌∙◌, subst}
 use Rattle.std.specs.Option.{option_copied}
+use Rattle.alp_journal.specs.declared.act.Act.{Act}
 use Rattle.alp_journal.specs.declared.act.Act.TheVariants as act
 use Rattle.alp_journal.specs.declared.event.Event.TheVariants as event
+use Rattle.alp_node.specs.Releases.{grant_acts, granted_behind, let_go}
 use Rattle.alp_node.specs.ServerState.{IsReady}
-use Rattle.alp_node.specs.Steps.{Stepped, without_trans, told_answer}
+use Rattle.alp_node.specs.Steps.{Stepped, told_answer}
 use Rattle.alp_node.specs.declared.dead.DeadPart.{DeadPart}
 use Rattle.alp_node.specs.declared.server_state.ServerState.{ServerState}
-use Rattle.alp_node.proofs.FinishLemmas.{timeout_stepped, idle_stepped}
-use Rattle.alp_node.proofs.ReadyLemmas.{gone_ready, buried_ready, stepped_ready}
+use Rattle.alp_node.proofs.EndingLemmas.{timeout_stepped, let_go_aside}
+use Rattle.alp_node.proofs.FinishLemmas.{idle_stepped}
+use Rattle.alp_node.proofs.ReadyLemmas.{buried_ready, stepped_ready}
+use Rattle.alp_node.proofs.ReleaseLemmas.{let_go_of, let_go_ready, grants_go_on, grants_caused}
 use Rattle.alp_node.proofs.StepLemmas.{silent_step}
 use Rattle.alp_node.proofs.server_state.ServerState.time_out.Goals as goal
 
@@ -20,6 +24,9 @@ returns-in_default g c =
     silent_step G k k c.args.trans c.silence.result [] refl refl refl refl c.requires.up c.requires.up so refl (λ m n b. tt) (λ n h. stepped_ready n (G.serves k.vault) k h)
     (λ a h. idle_stepped a (G.faults k.vault) (G.faults k.vault) (G.held k.vault) k c.args.trans c.silence.result h c.requires.up (sym c.get.ensures ∙ ap option_copied c.in_default.is) so) refl refl
 
+pub release-requires-clause-part : goal.release-requires-clause-part
+release-requires-clause-part g c t l there = (c.requires.ready.2.within t l there).part
+
 pub returns : goal.returns
 returns g c =
     let k = c.args.self.now in
@@ -28,13 +35,14 @@ returns g c =
     let t = c.args.trans in
     let l = c.in-Some.live.now in
     let dead : List DeadPart = k.dead ++ (record { client = l.client; trans = t }) ∷ [] in
-    let after : ServerState g.row.V.Denot = record (without_trans k t) { dead = dead } in
-    let same : c.forget.new.self ≡ after = c.forget.ensures ∙ ap (λ (ds : List DeadPart). record (without_trans k t) { dead = ds }) c.in_ok-add.ensures.ok in
-    let so : c.silence-2.result ≡ told_answer None (act.Released t ∷ []) = c.silence-2.ensures ∙ ap (told_answer None) (c.new-acts.ensures ∙ c.in_ok-vec.ensures.items) in
-    silent_step G k c.forget.new.self t c.silence-2.result (act.Released t ∷ []) (ap (λ (y : ServerState _). y.vault) same) (ap (λ (y : ServerState _). y.server) same) (ap (λ (y : ServerState _). y.sizes) same) (ap (λ (y : ServerState _). y.epoch) same)
-    c.requires.up (ap (λ (y : ServerState _). y.is_down) same ∙ c.requires.up) so refl (λ m n b. tt)
-    (λ n h. subst (λ (y : ServerState _). IsReady (n + 1) (G.serves k.vault) y) (sym same)
-    (buried_ready (n + 1) (G.serves k.vault) (without_trans k t) dead (stepped_ready n (G.serves k.vault) (without_trans k t) (gone_ready n (G.serves k.vault) k t h))))
+    let after : ServerState g.row.V.Denot = record (let_go k t) { dead = dead } in
+    let same : c.release.new.self ≡ after = c.release.ensures.after ∙ ap (λ (ds : List DeadPart). let_go (record k { dead = ds }) t) c.in_ok-add.ensures.ok ∙ let_go_aside k t dead in
+    let so : c.silence-2.result ≡ told_answer None (act.Released t ∷ grant_acts (granted_behind k t)) =
+    c.silence-2.ensures ∙ ap (told_answer None) (c.new-2.ensures ∙ c.release.ensures.acts ∙ ap (λ (acts : List Act). acts ++ grant_acts (granted_behind k t)) c.in_ok-acts.ensures.acts) in
+    silent_step G k c.release.new.self t c.silence-2.result (act.Released t ∷ grant_acts (granted_behind k t)) (ap (λ (y : ServerState _). y.vault) same ∙ ap (λ (y : ServerState _). y.vault) (let_go_of k t)) (ap (λ (y : ServerState _). y.server) same ∙ ap (λ (y : ServerState _). y.server) (let_go_of k t))
+    (ap (λ (y : ServerState _). y.sizes) same ∙ ap (λ (y : ServerState _). y.sizes) (let_go_of k t)) (ap (λ (y : ServerState _). y.epoch) same ∙ ap (λ (y : ServerState _). y.epoch) (let_go_of k t)) c.requires.up
+    (ap (λ (y : ServerState _). y.is_down) same ∙ ap (λ (y : ServerState _). y.is_down) (let_go_of k t) ∙ c.requires.up) so (grants_go_on (granted_behind k t)) (λ m n b. grants_caused m n b (granted_behind k t))
+    (λ n h. subst (λ (y : ServerState _). IsReady (n + 1) (G.serves k.vault) y) (sym same) (stepped_ready n (G.serves k.vault) after (buried_ready n (G.serves k.vault) (let_go k t) dead (let_go_ready n (G.serves k.vault) k t h))))
     (λ a h. subst (λ (y : ServerState _). Stepped a faults faults (G.held k.vault) y (event.Timeout t) c.silence-2.result) (sym same)
-    (timeout_stepped a faults faults (G.held k.vault) k t l c.silence-2.result h c.requires.up c.requires.alone (sym c.in-Some.ensures) so))
-    (ap (λ (y : ServerState _). y.clock) same) (ap (λ (y : ServerState _). y.sessions) same)
+    (timeout_stepped a faults faults (G.held k.vault) k t c.requires.ready.0 (G.serves k.vault) h c.requires.ready.2 l c.silence-2.result c.requires.up (sym c.in-Some.ensures) so))
+    (ap (λ (y : ServerState _). y.clock) same ∙ ap (λ (y : ServerState _). y.clock) (let_go_of k t)) (ap (λ (y : ServerState _). y.sessions) same ∙ ap (λ (y : ServerState _). y.sessions) (let_go_of k t))

@@ -7,5 +7,5 @@ use Rattle.alp_queue.proofs.locks.Locks.get.Goals as goal
 
 pub returns : goal.returns
 returns c =
-    c.get.ensures c.self.invariant ∙ sym (get-from_sorted resource_cmp (entries c.self.inside.tree) c.args.resource.now c.self.invariant)
+    c.get.ensures c.self.invariant.0 ∙ sym (get-from_sorted resource_cmp (entries c.self.inside.tree) c.args.resource.now c.self.invariant.0)
     ∙ ap (λ m. map.get m c.args.resource.now) c.self.view_is

@@ -6,4 +6,4 @@ use Rattle.alp_session.proofs.MapLemmas.{nat_list_cmp_total, exact_bytes}
 use Rattle.alp_session.proofs.memory.Words.get.Goals as goal
 
 pub returns : goal.returns
-returns c = c.get.ensures.value ∙ sym (get_at nat_list_cmp_total exact_bytes c.self.inside.ids.entries c.args.word.now) ∙ ap (λ (m : WordMap). map.get m c.args.word.now) c.self.view_is
+returns c = c.get.ensures.value ∙ sym (get_at nat_list_cmp_total exact_bytes c.self.inside.meanings.entries c.args.word.now) ∙ ap (λ (m : WordMap). map.get m c.args.word.now) c.self.view_is

@@ -1,0 +1,227 @@
+-- what a part lets go is given on: the grants of the walk are lawful and leave a quiet state
+use Rattle.std.specs.Prelude.{cond, Bool, true, false, ◌||◌, is_none, flat_map, Option, None, Some, map as list_map}
+use Rattle.std.specs.Option.{option_or}
+use Rattle.std.specs.List.{list_any, AllByRecursion}
+use Rattle.std.proofs.lemmas.List.{append-nil}
+use Rattle.std.proofs.Common.{inl, ◌≡◌, ℕ, List, [], ◌∷◌, ◌++◌, refl, sym, ◌∙◌, ap, subst}
+use Rattle.alp_base.specs.declared.ids.TransId.{TransId}
+use Rattle.alp_files.specs.Holdings.{DoAgree}
+use Rattle.alp_files.proofs.HoldingLemmas.{agree-turned}
+use Rattle.alp_files.proofs.FilesLemmas.{same-some}
+use Rattle.alp_files.specs.declared.call.Call.{Call}
+use Rattle.alp_journal.specs.declared.act.Act.{Act}
+use Rattle.alp_journal.specs.declared.act.Act.TheVariants as act
+use Rattle.alp_journal.specs.declared.event.Event.{Event}
+use Rattle.alp_journal.specs.Along.{Along, state_after}
+use Rattle.alp_journal.specs.Ids.{same_trans}
+use Rattle.alp_journal.specs.Deeds.{Deed, Grants}
+use Rattle.alp_journal.specs.Coordinator.{is_running}
+use Rattle.alp_journal.specs.Holder.{Holder, Life, held_for, grants}
+use Rattle.alp_journal.specs.Desk.{Waiting, file_trans, waiting_of}
+use Rattle.alp_journal.specs.State.{State, state_deed}
+use Rattle.alp_journal.specs.Moves.{ungranted, call_now, asks_for, grants_to, act_deeds}
+use Rattle.alp_journal.specs.Laws.{IsLawfulDeed, IsFree, IsBlocked, DoLivesAgree, WaitsInTurn, ended_by, granted_by, grants_of, SaysRight}
+use Rattle.alp_journal.specs.Answered.{IsWalk, in_turn, is_conversion}
+use Rattle.alp_journal.specs.Alone.{Alone, alone, IsPaired, IsSettled, IsQuiet, IsPartOf, IsOfPart, HasCome, granted_calls, holder_granted, waits_granted, with_granted, grant_acts, grant_deeds}
+use Rattle.alp_journal.proofs.IdLemmas.{same_trans-true}
+use Rattle.alp_journal.proofs.MadeIds.{all-map}
+use Rattle.alp_journal.proofs.WaitLemmas.{IsOnly, each-only, all-turned, all-turned-back, all-granted, apart-granted}
+use Rattle.alp_journal.proofs.TurnLemmas.{IsPassed, its-call, calls-first, walk-blocks, walk-firsts, left-blocked, blocked-at}
+use Rattle.alp_journal.proofs.QuietLemmas.{agree_set, paired_kept, AreOfParts, parts-kept}
+
+-- ---- acts and deeds that are grants
+
+pub none-by-grants : {B : Type 0} (f : Act → List B) → ((t : TransId) → f (act.Granted t) ≡ []) → (ts : List TransId) → flat_map f (grant_acts ts) ≡ []
+none-by-grants f none [] = refl
+none-by-grants f none (t ∷ ts) = ap (λ bs. bs ++ flat_map f (grant_acts ts)) (none t) ∙ none-by-grants f none ts
+
+pub no-grant-is : (p : Act → Bool) → ((t : TransId) → p (act.Granted t) ≡ false) → (ts : List TransId) → list_any p (grant_acts ts) ≡ false
+no-grant-is p none [] = refl
+no-grant-is p none (t ∷ ts) = ap (λ (b : Bool). b || list_any p (grant_acts ts)) (none t) ∙ no-grant-is p none ts
+
+pub acts-grant : (ts : List TransId) → flat_map granted_by (grant_acts ts) ≡ ts
+acts-grant [] = refl
+acts-grant (t ∷ ts) = ap (λ us. t ∷ us) (acts-grant ts)
+
+pub deeds-grant : (xs : List (TransId × Call)) → flat_map grants_of (grant_deeds xs) ≡ list_map (λ (x : TransId × Call). x.0) xs
+deeds-grant [] = refl
+deeds-grant (x ∷ xs) = ap (λ us. x.0 ∷ us) (deeds-grant xs)
+
+pub grants-end-none : (s : State) (xs : List (TransId × Call)) → flat_map (ended_by s) (grant_deeds xs) ≡ []
+grants-end-none s [] = refl
+grants-end-none s (x ∷ xs) = grants-end-none s xs
+
+pub grants-say : (e : Event) (m : State) (ts : List TransId) → AllByRecursion (SaysRight e m) (grant_acts ts)
+grants-say e m [] = tt
+grants-say e m (t ∷ ts) = (tt, grants-say e m ts)
+
+-- ---- each is free as it is granted
+
+pub record IsFreeNow (h : Holder) (x : TransId × Call) : Type 0 where
+  pub life : Life
+  pub live : h.lives x.0 ≡ Some life
+  pub free : IsFree h x.0 life x.1
+
+abbrev pub AreFree : Holder → List (TransId × Call) → Type 0
+AreFree h [] = Unit {0}
+AreFree h (x ∷ xs) = IsFreeNow h x × AreFree (grants h x.0 x.1 (h.lives x.0)) xs
+
+pub walk-free : (all : List Waiting) (h : Holder) (ws : List Waiting) (ts : List TransId) → IsWalk h ws ts → AllByRecursion (IsOnly all) ws → AreFree h (granted_calls all ts)
+walk-free all h [] [] (IsWalk.ends _) only = tt
+walk-free all h [] (u ∷ ts) walk only = elim walk [ ]
+walk-free all h (w ∷ ws) ts (IsWalk.passes _ _ _ _ blocked rest) only = walk-free all h ws ts rest only.1
+walk-free all h (w ∷ ws) (u ∷ ts) (IsWalk.takes _ _ _ _ _ k waits free rest) only =
+    subst (AreFree h) (sym (calls-first all u w.call ts (its-call all w u only.0 waits.call)))
+    (record { life = k; live = waits.live; free = free }, walk-free all (grants h u w.call (h.lives u)) ws ts rest only.1)
+
+-- ---- one grant
+
+pub agree-granted : (h : Holder) (t : TransId) (l : Life) (c : Call) → h.lives t ≡ Some l → IsFree h t l c → DoLivesAgree h.lives → DoLivesAgree (grants h t c (h.lives t)).lives
+agree-granted h t l c live free agree =
+    subst (λ (x : Option Life). DoLivesAgree (grants h t c x).lives) (sym live)
+    (agree_set h.lives t (Some (record l { held = held_for h l c })) agree
+    (λ x is u k away there. subst (λ (y : Life). DoAgree y.held k.held) (same-some (record l { held = held_for h l c }) x is) (λ r. agree-turned (held_for h l c r) (k.held r) ∙ free u k there away r)))
+
+module _ (m : Alone) (x : TransId × Call) where
+  pair_of : IsSettled m → (l : Life) → m.holder.lives x.0 ≡ Some l → IsPaired (Some l) (m.fates x.0)
+  pair_of q l live = subst (λ (y : Option Life). IsPaired y (m.fates x.0)) live (q.paired x.0)
+
+  pub settled-granted : IsSettled m → IsFreeNow m.holder x → IsSettled (with_granted m (x ∷ []))
+  settled-granted q now =
+      let l : Life = now.life in
+      let under : Life = record l { held = held_for m.holder l x.1 } in
+      record {
+        agree = agree-granted m.holder x.0 l x.1 now.live now.free q.agree;
+        paired = subst (λ (y : Option Life). (u : TransId) → IsPaired ((grants m.holder x.0 x.1 y).lives u) (m.fates u)) (sym now.live) (paired_kept m.holder.lives m.fates x.0 (Some under) q.paired (pair_of q l now.live));
+        ended = q.ended;
+        parts = all-granted (λ (w : Waiting). IsOfPart (grants m.holder x.0 x.1 (m.holder.lives x.0)).lives m.dead w (file_trans w.call)) (λ w b h. part-granted w b (file_trans w.call) h) x.0 m.waits
+            (subst (λ (y : Option Life). AreOfParts (grants m.holder x.0 x.1 y).lives m.dead m.waits) (sym now.live) (parts-kept m.holder.lives m.dead x.0 l under now.live refl m.waits q.parts));
+        came = all-granted (λ (w : Waiting). HasCome w.number (m.sessions w.client)) (λ w b h. h) x.0 m.waits q.came;
+        apart = apart-granted x.0 m.waits q.apart;
+      }
+    where
+      part-granted : (w : Waiting) (b : Bool) (y : Option TransId) → IsOfPart (grants m.holder x.0 x.1 (m.holder.lives x.0)).lives m.dead w y
+          → IsOfPart (grants m.holder x.0 x.1 (m.holder.lives x.0)).lives m.dead (record w { is_granted = b }) y
+      part-granted w b None h = h
+      part-granted w b (Some u) h = h
+
+  state-granted : state_deed (alone m) (Grants x.0 x.1) ≡ alone (with_granted m (x ∷ []))
+  state-granted = λ i. alone (record (with_granted m (x ∷ [])) { begun = append-nil m.begun i })
+
+  lawful-granted : (e : Event) → IsSettled m → IsFreeNow m.holder x → IsLawfulDeed e (alone m) (Grants x.0 x.1)
+  lawful-granted e q now =
+      let pair : IsPaired (Some now.life) (m.fates x.0) = pair_of q now.life now.live in
+      record {
+        counts = tt;
+        view = tt;
+        locks = (λ l at. subst (λ (y : Life). y.vote ≡ None) (same-some now.life l (sym now.live ∙ at)) pair.1, agree-granted m.holder x.0 now.life x.1 now.live now.free q.agree);
+        running = inl (ap is_running pair.0);
+        registration = tt;
+        vote = tt;
+        decision = tt;
+        application = tt;
+        forgetting = tt;
+      }
+
+-- ---- all of them
+
+pub settled-given : (xs : List (TransId × Call)) (m : Alone) → IsSettled m → AreFree m.holder xs → IsSettled (with_granted m xs)
+settled-given [] m q free = q
+settled-given (x ∷ xs) m q free = settled-given xs (with_granted m (x ∷ [])) (settled-granted m x q free.0) free.1
+
+pub state-given : (xs : List (TransId × Call)) (m : Alone) → state_after state_deed (alone m) (grant_deeds xs) ≡ alone (with_granted m xs)
+state-given [] m = refl
+state-given (x ∷ xs) m = ap (λ (s : State). state_after state_deed s (grant_deeds xs)) (state-granted m x) ∙ state-given xs (with_granted m (x ∷ []))
+
+pub lawful-given : (e : Event) (xs : List (TransId × Call)) (m : Alone) → IsSettled m → AreFree m.holder xs → Along state_deed (IsLawfulDeed e) (alone m) (grant_deeds xs)
+lawful-given e [] m q free = tt
+lawful-given e (x ∷ xs) m q free = (
+  lawful-granted m x e q free.0,
+  subst (λ (s : State). Along state_deed (IsLawfulDeed e) s (grant_deeds xs)) (sym (state-granted m x)) (lawful-given e xs (with_granted m (x ∷ [])) (settled-granted m x q free.0) free.1),
+)
+
+-- one more after those
+pub given-last : (xs : List (TransId × Call)) (x : TransId × Call) (m : Alone) → with_granted m (xs ++ x ∷ []) ≡ with_granted (with_granted m xs) (x ∷ [])
+given-last [] x m = refl
+given-last (y ∷ ys) x m = given-last ys x (with_granted m (y ∷ []))
+
+-- ---- a walk
+
+module _ (m : Alone) (ts : List TransId) (q : IsSettled m) (walk : IsWalk m.holder (in_turn m.holder m.waits) ts) where
+  abbrev given : List (TransId × Call)
+  given = granted_calls m.waits ts
+
+  each_only : AllByRecursion (IsOnly m.waits) m.waits
+  each_only = each-only m.holder.lives m.dead m.waits q.parts q.apart
+
+  abbrev converts : Waiting → Bool
+  converts w = is_conversion m.holder w (file_trans w.call)
+
+  only_in_turn : AllByRecursion (IsOnly m.waits) (in_turn m.holder m.waits)
+  only_in_turn = all-turned (IsOnly m.waits) converts m.waits each_only
+
+  pub walk-is-free : AreFree m.holder given
+  walk-is-free = walk-free m.waits m.holder (in_turn m.holder m.waits) ts walk only_in_turn
+
+  pub walk-grants : list_map (λ (x : TransId × Call). x.0) given ≡ ts
+  walk-grants = walk-firsts m.waits m.holder (in_turn m.holder m.waits) ts walk only_in_turn
+
+  -- nobody is left waiting whose way is free
+  turns-given : WaitsInTurn (alone (with_granted m given))
+  turns-given = all-map (IsPassed (holder_granted m.holder given) []) (λ (w : Waiting). IsBlocked (alone (with_granted m given)) w (file_trans w.call)) (λ w p. blocked-at (alone (with_granted m given)) w p) (waits_granted m.waits given)
+      (left-blocked (holder_granted m.holder given) given m.waits
+      (subst (λ (us : List TransId). AllByRecursion (IsPassed (holder_granted m.holder given) us) m.waits) (sym walk-grants)
+      (all-turned-back (IsPassed (holder_granted m.holder given) ts) converts m.waits (walk-blocks m.waits m.holder (in_turn m.holder m.waits) ts walk only_in_turn))))
+
+  pub quiet-given : IsQuiet (with_granted m given)
+  quiet-given = record { settled = settled-given given m q walk-is-free; turns = turns-given }
+
+  pub lawful-walk : (e : Event) → Along state_deed (IsLawfulDeed e) (alone m) (grant_deeds given)
+  lawful-walk e = lawful-given e given m q walk-is-free
+
+  -- what its acts say
+  pub granted-all : flat_map granted_by (grant_acts ts) ≡ flat_map grants_of (grant_deeds given)
+  granted-all = acts-grant ts ∙ sym walk-grants ∙ sym (deeds-grant given)
+
+-- ---- which calls the acts grant
+
+-- who lives then lived before
+abbrev pub LivedBefore : Holder → Holder → Type 0
+LivedBefore before h = (u : TransId) (k : Life) → h.lives u ≡ Some k → (j : Life) × (before.lives u ≡ Some j)
+
+lived-granted : (before h : Holder) (t : TransId) (c : Call) (l : Life) → h.lives t ≡ Some l → LivedBefore before h → LivedBefore before (grants h t c (h.lives t))
+lived-granted before h t c l live was = subst (λ (x : Option Life). LivedBefore before (grants h t c x)) (sym live) (λ u k is. go u k (same_trans u t) refl is)
+  where
+    go : (u : TransId) (k : Life) (b : Bool) → same_trans u t ≡ b → cond {A = Option Life} b (Some (record l { held = held_for h l c })) (h.lives u) ≡ Some k → (j : Life) × (before.lives u ≡ Some j)
+    go u k true e is = was u l (ap h.lives (same_trans-true u t e) ∙ live)
+    go u k false e is = was u k is
+
+module _ (a : Alone) (e : Event) (no_call : (t : TransId) (owner : ℕ) → call_now e t owner ≡ None) where
+  asked-one : (w : Waiting) (u : TransId) (j : Life) → IsOnly a.waits w → file_trans w.call ≡ Some u → w.is_granted ≡ false → w.client ≡ j.client → a.holder.lives u ≡ Some j → act_deeds (alone a) e (act.Granted u) ≡ Grants u w.call ∷ []
+  asked-one w u j only of wait own is =
+      ap (λ (x : Option Life). grants_to u (asks_for (alone a) e u x)) is
+      ∙ ap (λ (x : Option Call). grants_to u (option_or (ungranted (waiting_of (alone a).desk j.client u)) x)) (no_call u j.client)
+      ∙ ap (λ (x : Option Waiting). grants_to u (option_or (ungranted x) None)) (ap (λ (n : ℕ). waiting_of (alone a).desk n u) (sym own) ∙ only.by_part u of)
+      ∙ ap (λ (b : Bool). grants_to u (option_or (cond {A = Option Call} (b || is_none (file_trans w.call)) None (Some w.call)) None)) wait
+      ∙ ap (λ (x : Option TransId). grants_to u (option_or (cond {A = Option Call} (is_none x) None (Some w.call)) None)) of
+
+  part-of : (w : Waiting) (u : TransId) (j : Life) → IsOfPart a.holder.lives a.dead w (file_trans w.call) → file_trans w.call ≡ Some u → a.holder.lives u ≡ Some j → w.client ≡ j.client
+  part-of w u j part of is = subst (λ (x : Option Life). IsPartOf w.client x (a.dead w.client u)) is (subst (IsOfPart a.holder.lives a.dead w) of part)
+
+  asked-walk : (h : Holder) (ws : List Waiting) (ts : List TransId) → LivedBefore a.holder h → IsWalk h ws ts → AllByRecursion (IsOnly a.waits) ws → AreOfParts a.holder.lives a.dead ws
+      → flat_map (act_deeds (alone a) e) (grant_acts ts) ≡ grant_deeds (granted_calls a.waits ts)
+  asked-walk h [] [] was (IsWalk.ends _) only parts = refl
+  asked-walk h [] (u ∷ ts) was walk only parts = elim walk [ ]
+  asked-walk h (w ∷ ws) ts was (IsWalk.passes _ _ _ _ blocked rest) only parts = asked-walk h ws ts was rest only.1 parts.1
+  asked-walk h (w ∷ ws) (u ∷ ts) was (IsWalk.takes _ _ _ _ _ k waits free rest) only parts =
+      let (j, is) = was u k waits.live in
+      ap (λ (ds : List Deed). ds ++ flat_map (act_deeds (alone a) e) (grant_acts ts)) (asked-one w u j only.0 waits.call waits.ungranted (part-of w u j parts.0 waits.call is) is)
+      ∙ ap (λ (ds : List Deed). Grants u w.call ∷ ds) (asked-walk (grants h u w.call (h.lives u)) ws ts (lived-granted a.holder h u w.call k waits.live was) rest only.1 parts.1)
+      ∙ ap grant_deeds (sym (calls-first a.waits u w.call ts (its-call a.waits w u only.0 waits.call)))
+
+  -- the grants of a walk are of the calls that waited before the entry
+  pub asked-given : (h : Holder) (ts : List TransId) → IsSettled a → LivedBefore a.holder h → IsWalk h (in_turn h a.waits) ts → flat_map (act_deeds (alone a) e) (grant_acts ts) ≡ grant_deeds (granted_calls a.waits ts)
+  asked-given h ts q was walk =
+      asked-walk h (in_turn h a.waits) ts was walk
+      (all-turned (IsOnly a.waits) (λ w. is_conversion h w (file_trans w.call)) a.waits (each-only a.holder.lives a.dead a.waits q.parts q.apart))
+      (all-turned (λ (w : Waiting). IsOfPart a.holder.lives a.dead w (file_trans w.call)) (λ w. is_conversion h w (file_trans w.call)) a.waits q.parts)

@@ -1,0 +1,217 @@
+-- a server stays ready where locks go and others get them
+use Rattle.std.specs.Prelude.{cond, Bool, true, false, ◌==◌, find, IsTrue, Option, None, Some, is_some}
+use Rattle.std.specs.FinMap as map
+use Rattle.std.specs.List.{list_all, list_any, AllByRecursion}
+use Rattle.std.proofs.Common.{◌≡◌, ℕ, ◌+◌, ◌^◌, ◌<◌, ◌≤◌, List, [], ◌∷◌, refl, sym, ◌∙◌, ap, subst, arith, le_refl}
+use Rattle.alp_base.specs.declared.allowance.Allowance.{Allowance}
+use Rattle.alp_base.specs.declared.ids.TransId.{TransId}
+use Rattle.alp_files.specs.declared.open.Open.{Open}
+use Rattle.alp_files.specs.declared.reply.Reply.{Reply}
+use Rattle.alp_files.specs.declared.reply.Reply.TheVariants as reply
+use Rattle.alp_journal.specs.Counts.{log_need}
+use Rattle.alp_journal.specs.Ids.{same_trans}
+use Rattle.alp_journal.specs.Moves.{is_stop}
+use Rattle.alp_journal.proofs.IdLemmas.{same_trans-itself, same_trans-true}
+use Rattle.alp_locks.specs.Releases.{released}
+use Rattle.alp_locks.proofs.SoundLemmas.{each-more, each-both}
+use Rattle.alp_locks.proofs.WakeLemmas.{IsNoneOf, released-others}
+use Rattle.alp_queue.specs.Order.{is_of as is_waiter_of}
+use Rattle.alp_queue.specs.declared.waiter.Waiter.{Waiter}
+use Rattle.alp_node.specs.Asks.{is_given}
+use Rattle.alp_node.specs.Dead.{without_part}
+use Rattle.alp_node.specs.Halts.{HaveCauses}
+use Rattle.alp_node.specs.Releases.{grant_acts, with_locks, granted_if, granted_one, granted_all, let_go}
+use Rattle.alp_node.specs.Rooms.{IsWithin}
+use Rattle.alp_node.specs.ServerState.{IsReady}
+use Rattle.alp_node.specs.Steps.{IsTurn, counted_in, ended}
+use Rattle.alp_node.specs.Totals.{LiveMap}
+use Rattle.alp_node.specs.Turns.{IsKeepable}
+use Rattle.alp_node.specs.Waits.{locks_in, locks_of, grant_of, without_calls_of, IsWithinLimits, IsWaitingCall, IsOfCalls}
+use Rattle.alp_node.specs.declared.lives.Live.{Live}
+use Rattle.alp_node.specs.declared.server_state.ServerState.{ServerState}
+use Rattle.alp_node.specs.declared.sessions.Turn.{Turn}
+use Rattle.alp_node.specs.declared.waits.WaitingCall.{WaitingCall}
+use Rattle.alp_node.proofs.LockedLemmas.{locked_each, locked_length, locked_live, locked_none, granted_locks}
+use Rattle.alp_node.proofs.MapLemmas.{get_gone, tied_same}
+use Rattle.alp_node.proofs.ReadyLemmas.{gone_kept, gone_ready, counted_ready, buried_ready, without_ready, live_others, commit_ready, turned}
+use Rattle.alp_node.proofs.WaitLemmas.{find_each, call_later, IsLikePart, like_itself, grant_call, grant_apart, grant_asks}
+use Rattle.alp_node.proofs.WithinLemmas.{log_most}
+
+-- ---- one grant
+
+-- the call that is granted is one of those that wait
+abbrev pub IsGrant : List WaitingCall → TransId → ℕ → (WaitingCall → Type 0) → Type 0
+IsGrant ws t n P = (w : WaitingCall) × P w × (same_trans w.trans t ≡ true) × (w.counts.asked ≡ n)
+
+pub grant_found : (P : WaitingCall → Type 0) (ws : List WaitingCall) (t : TransId) (n : ℕ) → locks_of t ws ≡ Some n → AllByRecursion P ws → IsGrant ws t n P
+grant_found P ws t n is h = go (find (λ w. same_trans w.trans t) ws) refl is
+  where
+    same_count : (a b : ℕ) → Some a ≡ Some b → a ≡ b
+    same_count a b e = cc
+
+    go : (x : Option WaitingCall) → find (λ w. same_trans w.trans t) ws ≡ x → locks_in x ≡ Some n → IsGrant ws t n P
+    go None e f = let wrong : None ≡ Some n = f in cc
+    go (Some w) e f = let found = find_each P (λ w. same_trans w.trans t) ws w e h in (w, found.0, found.1, same_count w.counts.asked n f)
+
+module _ {V : Type 0} (n : ℕ) (serves : Bool) (k : ServerState V) (t : TransId) where
+  granted_ready_so : (m : ℕ) → locks_of t k.waits ≡ Some m → AllByRecursion (λ (x : Waiter). is_waiter_of t x ≡ false) k.locks.waiting → IsReady n serves k → IsReady n serves (granted_if k t (Some m))
+  granted_ready_so m found others h = record {
+    serving = h.serving;
+    halted = h.halted;
+    sound = h.sound;
+    taken = h.taken;
+    waits = record {
+      calls = grant_call (IsWaitingCall k.server k.epoch k.given k.drawn k.sizes now) t (λ w o. record { named = o.named; formed = o.formed; some = o.some; begun = o.begun; limits = λ l is. (let x = o.limits l is in record { its = x.its; shape = x.shape; fewer = x.fewer; locks = x.locks; log = x.log }) }) k.waits
+          (each-more (IsWaitingCall k.server k.epoch k.given k.drawn k.sizes k.lives) (IsWaitingCall k.server k.epoch k.given k.drawn k.sizes now)
+          (λ w. call_later k.server k.epoch k.given k.given (le_refl k.given) k.sizes k.drawn k.drawn (le_refl k.drawn) k.lives now w (λ o l is. was w.trans l is)) k.waits h.waits.calls);
+      apart = grant_apart t k.waits h.waits.apart;
+      queued = each-both (λ (x : Waiter). is_waiter_of t x ≡ false) (IsOfCalls k.server k.epoch k.given k.lives k.waits) (IsOfCalls k.server k.epoch k.given now (grant_of t k.waits))
+          (λ x e o. record { live = locked_live k.lives t m x.trans o.live; asks = grant_asks t x.trans k.waits (turned t x.trans (sym (tied_same t x.trans) ∙ e)) ∙ o.asks; beyond = o.beyond }) k.locks.waiting others h.waits.queued;
+    };
+    known = locked_each k.lives t m (λ u l. is_some (map.get k.locks.held u) ≡ true) h.known (λ l there. h.known t l there);
+    begun = locked_each k.lives t m (λ u l. u.counter ≤ k.drawn) h.begun (λ l there. h.begun t l there);
+    opens = locked_each k.lives t m (λ u l. l.part.last ≤ n) h.opens (λ l there. h.opens t l there);
+    opened = locked_each k.lives t m (λ u l. list_all (λ (o : Open). is_given k.server k.epoch k.given o.file) l.part.opens.items ≡ true) h.opened (λ l there. h.opened t l there);
+    places = h.places;
+    calls = h.calls;
+    replies = h.replies;
+    drawn = h.drawn;
+    given = h.given;
+    committed = h.committed;
+    few = (let same : map.len now ≡ map.len k.lives = locked_length k.lives t m in omega (arith, same, h.few));
+    most = (let same : map.len now ≡ map.len k.lives = locked_length k.lives t m in omega (arith, same, h.most));
+    within = locked_each k.lives t m (λ u l. IsWithin k.sizes l) h.within fits;
+    sized = h.sized;
+    clock = h.clock;
+    raised = h.raised;
+    unheld = h.unheld;
+  }
+    where
+      now : LiveMap
+      now = with_locks k.lives t m
+
+      was : (u : TransId) (l : Live) → map.get now u ≡ Some l → (x : Live) × (map.get k.lives u ≡ Some x) × IsLikePart x l
+      was u l is = locked_each k.lives t m (λ v y. (x : Live) × (map.get k.lives v ≡ Some x) × IsLikePart x y) (λ v y there. (y, there, like_itself y)) (λ y there. (y, there, record { client = refl; opens = refl; cells = refl })) u l is
+
+      fits : (l : Live) → map.get k.lives t ≡ Some l → IsWithin k.sizes (record l { locks = m })
+      fits l there =
+          let g = grant_found (IsWaitingCall k.server k.epoch k.given k.drawn k.sizes k.lives) k.waits t m found h.waits.calls in
+          let limits : IsWithinLimits k.server k.epoch k.given k.sizes g.0 l = g.1.limits l (ap (map.get k.lives) (same_trans-true g.0.trans t g.2) ∙ there) in
+          record {
+            part = (h.within t l there).part;
+            locks = omega (arith, limits.fewer, limits.locks, g.3);
+            log = subst (λ (x : ℕ). log_need l.part.counts.cells x ≤ k.sizes.area) g.3 (log_most l.part.counts.cells g.0.counts.asked g.0.counts.made k.sizes.area limits.fewer limits.log);
+          }
+
+  -- the call of a transaction that waits in the table no more has its locks
+  pub granted_one_ready : AllByRecursion (λ (x : Waiter). is_waiter_of t x ≡ false) k.locks.waiting → IsReady n serves k → IsReady n serves (granted_one k t)
+  granted_one_ready others h = go (locks_of t k.waits) refl
+    where
+      go : (x : Option ℕ) → locks_of t k.waits ≡ x → IsReady n serves (granted_if k t x)
+      go None e = h
+      go (Some m) e = granted_ready_so m e others h
+
+-- ---- all of them
+
+one_of : (t : TransId) (ts : List TransId) (ws : List Waiter) → AllByRecursion (IsNoneOf (t ∷ ts)) ws → AllByRecursion (λ (x : Waiter). is_waiter_of t x ≡ false) ws × AllByRecursion (IsNoneOf ts) ws
+one_of t ts [] h = (tt, tt)
+one_of t ts (w ∷ ws) h = let rest = one_of t ts ws h.1 in ((h.0.0, rest.0), (h.0.1, rest.1))
+
+pub granted_all_ready : {V : Type 0} (n : ℕ) (serves : Bool) (k : ServerState V) (ts : List TransId) → AllByRecursion (IsNoneOf ts) k.locks.waiting → IsReady n serves k → IsReady n serves (granted_all k ts)
+granted_all_ready n serves k [] others h = h
+granted_all_ready n serves k (t ∷ ts) others h =
+    let parts = one_of t ts k.locks.waiting others in
+    granted_all_ready n serves (granted_one k t) ts (subst (λ (x : List Waiter). AllByRecursion (IsNoneOf ts) x) (ap (λ x. x.waiting) (sym (granted_locks k t))) parts.1) (granted_one_ready n serves k t parts.0 h)
+
+-- a transaction ends, and others have its locks
+pub let_go_ready : {V : Type 0} (n : ℕ) (serves : Bool) (k : ServerState V) (t : TransId) → IsReady n serves k → IsReady n serves (let_go k t)
+let_go_ready n serves k t h = granted_all_ready n serves (gone_kept n serves k t) (released k.locks t).woken (released-others k.locks t h.taken h.sound.apart) (gone_ready n serves k t h)
+
+-- ---- what a grant leaves of a server
+
+-- it changes the waiting calls and the counts of locks alone
+abbrev pub IsGrantOf : {V : Type 0} → ServerState V → ServerState V → Type 0
+IsGrantOf k now = now ≡ record k { waits = now.waits; lives = now.lives }
+
+granted_one_of : {V : Type 0} (k : ServerState V) (t : TransId) → IsGrantOf k (granted_one k t)
+granted_one_of k t = go (locks_of t k.waits)
+  where
+    go : (x : Option ℕ) → IsGrantOf k (granted_if k t x)
+    go None = refl
+    go (Some m) = refl
+
+pub granted_of : {V : Type 0} (k : ServerState V) (ts : List TransId) → IsGrantOf k (granted_all k ts)
+granted_of k [] = refl
+granted_of k (t ∷ ts) = granted_of (granted_one k t) ts ∙ ap (λ (y : ServerState _). record y { waits = (granted_all (granted_one k t) ts).waits; lives = (granted_all (granted_one k t) ts).lives }) (granted_one_of k t)
+
+pub granted_none : {V : Type 0} (k : ServerState V) (ts : List TransId) (u : TransId) → map.get k.lives u ≡ None → map.get (granted_all k ts).lives u ≡ None
+granted_none k [] u none = none
+granted_none k (t ∷ ts) u none = granted_none (granted_one k t) ts u (go (locks_of t k.waits))
+  where
+    go : (x : Option ℕ) → map.get (granted_if k t x).lives u ≡ None
+    go None = none
+    go (Some m) = locked_none k.lives t m u none
+
+-- the transaction is gone
+pub let_go_none : {V : Type 0} (k : ServerState V) (t : TransId) → map.get (let_go k t).lives t ≡ None
+let_go_none k t = granted_none (record k { lives = map.remove k.lives t; locks = record (released k.locks t) { woken = [] } }) (released k.locks t).woken t (get_gone k.lives t t ∙ ap (λ (b : Bool). cond {A = Option Live} b None (map.get k.lives t)) (same_trans-itself t))
+
+-- a server that let a transaction go is the one before, but for these
+pub let_go_of : {V : Type 0} (k : ServerState V) (t : TransId) → let_go k t ≡ record k { waits = (let_go k t).waits; lives = (let_go k t).lives; locks = record (released k.locks t) { woken = [] } }
+let_go_of k t = granted_of (record k { lives = map.remove k.lives t; locks = record (released k.locks t) { woken = [] } }) (released k.locks t).woken
+
+-- ---- steps that let a transaction go
+
+module _ {V : Type 0} (n : ℕ) (k : ServerState V) (turn : Turn) (t : TransId) where
+  abbrev gone : ServerState V
+  gone = record k { waits = (let_go k t).waits; lives = (let_go k t).lives; locks = record (released k.locks t) { woken = [] } }
+
+  gone_so : (serves : Bool) → IsReady n serves k → IsReady n serves gone
+  gone_so serves h = subst (λ (y : ServerState V). IsReady n serves y) (let_go_of k t) (let_go_ready n serves k t h)
+
+  -- its calls go, and its client is told
+  pub ended_ready : (serves : Bool) (r : Reply) → IsTurn k.sessions turn → IsKeepable k.clock r → IsReady n serves k → IsReady (n + 1) serves (ended k turn t r)
+  ended_ready serves r is keeps h =
+      subst (λ (y : ServerState V). IsReady (n + 1) serves y)
+      (ap (λ (y : ServerState V). record y { waits = without_calls_of turn.client t (let_go k t).waits; sessions = counted_in k.sessions turn r; dead = without_part turn.client t k.dead }) (sym (let_go_of k t)))
+      (buried_ready (n + 1) serves (record gone { waits = without_calls_of turn.client t (let_go k t).waits; sessions = counted_in k.sessions turn r }) (without_part turn.client t k.dead)
+      (counted_ready n serves (record gone { waits = without_calls_of turn.client t (let_go k t).waits }) turn r is keeps
+      (without_ready n serves gone turn.client t (live_others n serves gone t (let_go_none k t) (gone_so serves h)) (gone_so serves h))))
+
+  -- it is committed
+  pub committed_ready : (before serves : Bool) (v : V) → IsTrue serves → k.is_down ≡ false → IsTurn k.sessions turn → k.clock < 2 ^ 62 → IsReady n before k
+      → IsReady (n + 1) serves (record (let_go k t) { sessions = counted_in k.sessions turn (reply.Committed (record { ts = k.clock + 1; trans = t })); clock = k.clock + 1; committed = k.committed + 1; vault = v })
+  committed_ready before serves v on up is early h =
+      subst (λ (y : ServerState V). IsReady (n + 1) serves y)
+      (ap (λ (y : ServerState V). record y { sessions = counted_in k.sessions turn (reply.Committed (record { ts = k.clock + 1; trans = t })); clock = k.clock + 1; committed = k.committed + 1; vault = v }) (sym (let_go_of k t)))
+      (commit_ready n before serves gone v turn t on up is early (gone_so before h))
+
+-- it is the server before, but for what ends with the part
+pub ended_of : {V : Type 0} (k : ServerState V) (turn : Turn) (t : TransId) (r : Reply) → ended k turn t r ≡ record k {
+  waits = without_calls_of turn.client t (let_go k t).waits;
+  lives = (let_go k t).lives;
+  locks = record (released k.locks t) { woken = [] };
+  sessions = counted_in k.sessions turn r;
+  dead = without_part turn.client t k.dead;
+}
+ended_of k turn t r = ap (λ (y : ServerState _). record y { waits = without_calls_of turn.client t (let_go k t).waits; sessions = counted_in k.sessions turn r; dead = without_part turn.client t k.dead }) (let_go_of k t)
+
+pub ended_as : {V X : Type 0} (k : ServerState V) (turn : Turn) (t : TransId) (r : Reply) (f : ServerState V → X) → f (ended k turn t r) ≡ f (record k {
+  waits = without_calls_of turn.client t (let_go k t).waits;
+  lives = (let_go k t).lives;
+  locks = record (released k.locks t) { woken = [] };
+  sessions = counted_in k.sessions turn r;
+  dead = without_part turn.client t k.dead;
+})
+ended_as k turn t r f = ap f (ended_of k turn t r)
+
+-- ---- the acts of grants
+
+-- no device stops by them
+pub grants_go_on : (ts : List TransId) → list_any is_stop (grant_acts ts) ≡ false
+grants_go_on [] = refl
+grants_go_on (t ∷ ts) = grants_go_on ts
+
+pub grants_caused : (before now : ℕ) (allowance : Allowance) (ts : List TransId) → HaveCauses before now allowance (grant_acts ts)
+grants_caused before now allowance [] = tt
+grants_caused before now allowance (t ∷ ts) = grants_caused before now allowance ts

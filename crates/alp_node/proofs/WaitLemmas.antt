@@ -1,0 +1,330 @@
+-- calls that wait, as the parts that they are of go on
+use Rattle.std.specs.Prelude.{cond, Bool, true, false, not, ◌&&◌, ◌||◌, ◌==◌, find, filter, Option, None, Some, is_some, map as list_map}
+use Rattle.std.specs.List.{list_any, AllByRecursion}
+use Rattle.std.specs.Option.{option_or}
+use Rattle.std.specs.FinMap as map
+use Rattle.std.proofs.Common.{◌≡◌, ℕ, zero, suc, ◌+◌, ◌<◌, ◌≤◌, List, [], ◌∷◌, ◌++◌, length, take, drop, get_or, slice_set, refl, sym, ◌∙◌, ap, subst, arith, eq-eqb, le_refl}
+use Rattle.alp_base.specs.declared.faults.Sizes.{Sizes}
+use Rattle.alp_base.specs.declared.ids.TransId.{TransId}
+use Rattle.alp_base.specs.declared.ids.FileId.{FileId}
+use Rattle.alp_files.specs.declared.call.Call.{Call}
+use Rattle.alp_files.specs.declared.call.Call.TheVariants as call
+use Rattle.alp_files.specs.declared.refusal.Refusal.{Refusal}
+use Rattle.alp_files.specs.declared.refusal.Refusal.TheVariants as refusal
+use Rattle.alp_journal.specs.Answers.{if_over}
+use Rattle.alp_journal.specs.Counts.{log_need}
+use Rattle.alp_journal.specs.Desk.{file_trans}
+use Rattle.alp_journal.specs.Ids.{same_trans}
+use Rattle.alp_journal.proofs.IdLemmas.{same_trans-itself, same_trans-true}
+use Rattle.alp_locks.proofs.SoundLemmas.{each-more, each-both, each-filter}
+use Rattle.alp_queue.specs.Order.{is_of as is_waiter_of, waits}
+use Rattle.alp_queue.specs.declared.waiter.Waiter.{Waiter}
+use Rattle.alp_node.specs.Asks.{is_given}
+use Rattle.alp_node.specs.Shapes.{shape_of, no_open}
+use Rattle.alp_node.specs.Totals.{LiveMap}
+use Rattle.alp_node.specs.Waits.{is_of, has_waiting, locks_in, locks_of, grant_one, grant_of, stays, live_calls, IsWithinLimits, IsWaitingCall, IsOfOther, AreApart, is_asking, asks_for, IsOfCalls, AreWaiting}
+use Rattle.alp_node.specs.declared.lives.Live.{Live}
+use Rattle.alp_node.specs.declared.waits.WaitingCall.{WaitingCall}
+use Rattle.alp_node.proofs.MapLemmas.{tied_same}
+use Rattle.alp_node.proofs.OpenLemmas.{given_later}
+
+-- ---- lists
+
+pub find_each : {X : Type 0} (P : X → Type 0) (p : X → Bool) (xs : List X) (x : X) → find p xs ≡ Some x → AllByRecursion P xs → P x × (p x ≡ true)
+find_each P p [] x is h = let wrong : None ≡ Some x = is in cc
+find_each P p (y ∷ ys) x is h = go (p y) refl is (λ f. find_each P p ys x f h.1)
+  where
+    same_one : {A : Type 0} (a b : A) → Some a ≡ Some b → a ≡ b
+    same_one a b e = cc
+
+    go : (b : Bool) → p y ≡ b → cond b (Some y) (find p ys) ≡ Some x → (find p ys ≡ Some x → P x × (p x ≡ true)) → P x × (p x ≡ true)
+    go true e f rest = subst (λ z. P z × (p z ≡ true)) (same_one y x f) (h.0, e)
+    go false e f rest = rest f
+
+pub each_so : {X : Type 0} (P : X → Type 0) → ((x : X) → P x) → (xs : List X) → AllByRecursion P xs
+each_so P h [] = tt
+each_so P h (x ∷ xs) = (h x, each_so P h xs)
+
+pub any_filter : {X : Type 0} (p q : X → Bool) (xs : List X) → ((x : X) → q x ≡ true → p x ≡ true) → list_any q xs ≡ true → list_any q (filter p xs) ≡ true
+any_filter p q [] keeps h = h
+any_filter p q (x ∷ xs) keeps h = go (q x) (p x) refl refl h (any_filter p q xs keeps)
+  where
+    go : (a b : Bool) → q x ≡ a → p x ≡ b → (a || list_any q xs) ≡ true → (list_any q xs ≡ true → list_any q (filter p xs) ≡ true) → list_any q (cond b (x ∷ filter p xs) (filter p xs)) ≡ true
+    go true true e f g rest = ap (λ (c : Bool). c || list_any q (filter p xs)) e
+    go true false e f g rest = let wrong : true ≡ false = sym (keeps x e) ∙ f in cc
+    go false true e f g rest = ap (λ (c : Bool). c || list_any q (filter p xs)) e ∙ rest g
+    go false false e f g rest = rest g
+
+-- ---- shapes
+
+over_later : (b c : Bool) (f : Refusal) (o : Option Refusal) → (b ≡ true → c ≡ true) → option_or (if_over (not b) f) o ≡ None → option_or (if_over (not c) f) o ≡ None
+over_later true true f o keeps h = h
+over_later true false f o keeps h = let wrong : false ≡ true = keeps refl in cc
+over_later false c f o keeps h = let wrong : Some f ≡ None = h in cc
+
+-- a call has its shape still where more files were given ids
+pub shape_later : (server epoch m n opens : ℕ) → m ≤ n → (c : Call) → shape_of server epoch m opens c ≡ None → shape_of server epoch n opens c ≡ None
+shape_later server epoch m n opens le (call.OpenFile t f access mode choice) h =
+    over_later (is_given server epoch m f) (is_given server epoch n f) refusal.UnknownFile (no_open opens) (given_later server epoch m n le f) h
+shape_later server epoch m n opens le c h = h
+
+-- ---- one call
+
+-- a part counts as many cells, has as many opens and the same client
+pub record IsLikePart (l now : Live) : Type 0 where
+  pub client : now.client ≡ l.client
+  pub opens : length now.part.opens.items ≡ length l.part.opens.items
+  pub cells : now.part.counts.cells ≡ l.part.counts.cells
+
+pub like_itself : (l : Live) → IsLikePart l l
+like_itself l = record { client = refl; opens = refl; cells = refl }
+
+module _ (server epoch m n : ℕ) (more : m ≤ n) (sizes : Sizes) where
+  pub limits_later : (w : WaitingCall) (l now : Live) → IsLikePart l now → IsWithinLimits server epoch m sizes w l → IsWithinLimits server epoch n sizes w now
+  limits_later w l now like h = record {
+    its = h.its ∙ sym like.client;
+    shape = subst (λ (k : ℕ). shape_of server epoch n k w.call ≡ None) (sym like.opens) (shape_later server epoch m n (length l.part.opens.items) more w.call h.shape);
+    fewer = h.fewer;
+    locks = h.locks;
+    log = subst (λ (k : ℕ). log_need k w.counts.made ≤ sizes.area) (sym like.cells) h.log;
+  }
+
+  -- whoever is live then was a like part before, where the call is of its transaction
+  pub call_later : (drawn drawn_then : ℕ) → drawn ≤ drawn_then → (lives now : LiveMap) (w : WaitingCall)
+      → (IsWaitingCall server epoch m drawn sizes lives w → (l : Live) → map.get now w.trans ≡ Some l → (x : Live) × (map.get lives w.trans ≡ Some x) × IsLikePart x l)
+      → IsWaitingCall server epoch m drawn sizes lives w → IsWaitingCall server epoch n drawn_then sizes now w
+  call_later drawn drawn_then low lives now w was h = record {
+    named = h.named;
+    formed = h.formed;
+    some = h.some;
+    begun = omega (arith, low, h.begun);
+    limits = λ l is. let x = was h l is in limits_later w x.0 l x.2 (h.limits x.0 x.1);
+  }
+
+-- ---- a grant
+
+granted_like : (t : TransId) (w : WaitingCall) → (b : Bool) → same_trans (cond {A = WaitingCall} b (record w { is_granted = true }) w).trans t ≡ same_trans w.trans t
+granted_like t w true = refl
+granted_like t w false = refl
+
+pub grant_call : (P : WaitingCall → Type 0) (t : TransId) → ((w : WaitingCall) → P w → P (record w { is_granted = true })) → (ws : List WaitingCall) → AllByRecursion P ws → AllByRecursion P (grant_of t ws)
+grant_call P t keeps [] h = tt
+grant_call P t keeps (w ∷ ws) h = (go (same_trans w.trans t), grant_call P t keeps ws h.1)
+  where
+    go : (b : Bool) → P (cond {A = WaitingCall} b (record w { is_granted = true }) w)
+    go true = keeps w h.0
+    go false = h.0
+
+pub grant_apart : (t : TransId) (ws : List WaitingCall) → AreApart ws → AreApart (grant_of t ws)
+grant_apart t [] h = tt
+grant_apart t (w ∷ ws) h = (go (same_trans w.trans t), grant_apart t ws h.1)
+  where
+    go : (b : Bool) → AllByRecursion (IsOfOther (cond {A = WaitingCall} b (record w { is_granted = true }) w)) (grant_of t ws)
+    go true = grant_call (IsOfOther w) t (λ v e. e) ws h.0
+    go false = grant_call (IsOfOther w) t (λ v e. e) ws h.0
+
+asking_one : (t u : TransId) (w : WaitingCall) → same_trans u t ≡ false → is_asking u (grant_one t w) ≡ is_asking u w
+asking_one t u w apart = go (same_trans w.trans t) refl
+  where
+    go : (b : Bool) → same_trans w.trans t ≡ b → is_asking u (cond {A = WaitingCall} b (record w { is_granted = true }) w) ≡ is_asking u w
+    go false e = refl
+    go true e = none (same_trans w.trans u) refl
+      where
+        none : (c : Bool) → same_trans w.trans u ≡ c → (c && false) ≡ (c && not w.is_granted)
+        none false f = refl
+        none true f =
+            let wrong : true ≡ false = sym e ∙ ap (λ (x : TransId). same_trans x t) (same_trans-true w.trans u f) ∙ apart in
+            cc
+
+-- others go on asking
+pub grant_asks : (t u : TransId) (ws : List WaitingCall) → same_trans u t ≡ false → asks_for (grant_of t ws) u ≡ asks_for ws u
+grant_asks t u [] apart = refl
+grant_asks t u (w ∷ ws) apart = λ i. asking_one t u w apart i || grant_asks t u ws apart i
+
+-- ---- calls that go
+
+pub filter_apart : (p : WaitingCall → Bool) (ws : List WaitingCall) → AreApart ws → AreApart (filter p ws)
+filter_apart p [] h = tt
+filter_apart p (w ∷ ws) h = go (p w) (filter_apart p ws h.1)
+  where
+    go : (b : Bool) → AreApart (filter p ws) → AreApart (cond b (w ∷ filter p ws) (filter p ws))
+    go true rest = (each-filter (IsOfOther w) p ws h.0, rest)
+    go false rest = rest
+
+-- an asking call is of its transaction
+asking_is : (t : TransId) (w : WaitingCall) → is_asking t w ≡ true → w.trans ≡ t
+asking_is t w e = go (same_trans w.trans t) refl e
+  where
+    go : (b : Bool) → same_trans w.trans t ≡ b → (b && not w.is_granted) ≡ true → w.trans ≡ t
+    go true f g = same_trans-true w.trans t f
+    go false f g = let wrong : false ≡ true = g in cc
+
+-- whoever is live goes on asking where calls of dead parts go, and calls of another
+pub asks_live : (client : ℕ) (lives : LiveMap) (ws : List WaitingCall) (t : TransId) → is_some (map.get lives t) ≡ true → asks_for ws t ≡ true → asks_for (live_calls client lives ws) t ≡ true
+asks_live client lives ws t live asks = any_filter (stays client lives) (is_asking t) ws (λ w e. go w (not (w.client == client)) (ap (λ (u : TransId). is_some (map.get lives u)) (asking_is t w e) ∙ live)) asks
+  where
+    go : (w : WaitingCall) (b : Bool) → is_some (map.get lives w.trans) ≡ true → (b || is_some (map.get lives w.trans)) ≡ true
+    go w true e = refl
+    go w false e = e
+
+pub asks_other : (client : ℕ) (t : TransId) (ws : List WaitingCall) (u : TransId) → same_trans u t ≡ false → asks_for ws u ≡ true → asks_for (filter (λ w. not (is_of client t w)) ws) u ≡ true
+asks_other client t ws u apart asks = any_filter (λ w. not (is_of client t w)) (is_asking u) ws (λ w e. go w (w.client == client) (ap (λ (x : TransId). same_trans x t) (asking_is u w e) ∙ apart)) asks
+  where
+    go : (w : WaitingCall) (b : Bool) → same_trans w.trans t ≡ false → not (b && same_trans w.trans t) ≡ true
+    go w true e = ap not e
+    go w false e = refl
+
+-- ---- a call that comes
+
+each_last : {X : Type 0} (P : X → Type 0) (xs : List X) (x : X) → AllByRecursion P xs → P x → AllByRecursion P (xs ++ x ∷ [])
+each_last P [] x h k = (k, tt)
+each_last P (y ∷ ys) x h k = (h.0, each_last P ys x h.1 k)
+
+pub pushed_each : (P : WaitingCall → Type 0) (ws : List WaitingCall) (w : WaitingCall) → AllByRecursion P ws → P w → AllByRecursion P (ws ++ w ∷ [])
+pushed_each P ws w h k = each_last P ws w h k
+
+pub pushed_apart : (ws : List WaitingCall) (w : WaitingCall) → AreApart ws → AllByRecursion (λ v. same_trans w.trans v.trans ≡ false) ws → AreApart (ws ++ w ∷ [])
+pushed_apart [] w h k = (tt, tt)
+pushed_apart (v ∷ vs) w h k = (each_last (IsOfOther v) vs w h.0 k.0, pushed_apart vs w h.1 k.1)
+
+pub pushed_asks : (ws : List WaitingCall) (w : WaitingCall) (t : TransId) → asks_for ws t ≡ true → asks_for (ws ++ w ∷ []) t ≡ true
+pushed_asks [] w t h = let wrong : false ≡ true = h in cc
+pushed_asks (v ∷ vs) w t h = go (is_asking t v) h (pushed_asks vs w t)
+  where
+    go : (b : Bool) → (b || asks_for vs t) ≡ true → (asks_for vs t ≡ true → asks_for (vs ++ w ∷ []) t ≡ true) → (b || asks_for (vs ++ w ∷ []) t) ≡ true
+    go true e rest = refl
+    go false e rest = rest e
+
+pub asks_last : (ws : List WaitingCall) (w : WaitingCall) → w.is_granted ≡ false → asks_for (ws ++ w ∷ []) w.trans ≡ true
+asks_last [] w new = (λ i. (same_trans-itself w.trans i && not (new i)) || false)
+asks_last (v ∷ vs) w new = go (is_asking w.trans v) (asks_last vs w new)
+  where
+    go : (b : Bool) → asks_for (vs ++ w ∷ []) w.trans ≡ true → (b || asks_for (vs ++ w ∷ []) w.trans) ≡ true
+    go true rest = refl
+    go false rest = rest
+
+-- ---- who does not wait
+
+-- of a live part of which no call waits none of its transaction does
+pub none_waiting : (server epoch given drawn : ℕ) (sizes : Sizes) (lives : LiveMap) (client : ℕ) (t : TransId) (l : Live) (ws : List WaitingCall) → map.get lives t ≡ Some l → l.client ≡ client → has_waiting client t ws ≡ false
+    → AllByRecursion (IsWaitingCall server epoch given drawn sizes lives) ws → AllByRecursion (λ (w : WaitingCall). same_trans w.trans t ≡ false) ws
+none_waiting server epoch given drawn sizes lives client t l [] live own idle h = tt
+none_waiting server epoch given drawn sizes lives client t l (w ∷ ws) live own idle h =
+    (go (same_trans w.trans t) refl idle, none_waiting server epoch given drawn sizes lives client t l ws live own (right (w.client == client && same_trans w.trans t) (has_waiting client t ws) idle) h.1)
+  where
+    right : (a b : Bool) → (a || b) ≡ false → b ≡ false
+    right true b e = let wrong : true ≡ false = e in cc
+    right false b e = e
+
+    go : (b : Bool) → same_trans w.trans t ≡ b → ((w.client == client && b) || has_waiting client t ws) ≡ false → b ≡ false
+    go false e f = refl
+    go true e f =
+        let there : map.get lives w.trans ≡ Some l = ap (map.get lives) (same_trans-true w.trans t e) ∙ live in
+        let its : w.client ≡ client = (h.0.limits l there).its ∙ own in
+        let wrong : true ≡ false = sym (ap (λ (x : Bool). (x && true) || has_waiting client t ws) (eq-eqb w.client client its)) ∙ f in
+        cc
+
+pub asks_none : (t : TransId) (ws : List WaitingCall) → AllByRecursion (λ (w : WaitingCall). same_trans w.trans t ≡ false) ws → asks_for ws t ≡ false
+asks_none t [] h = refl
+asks_none t (w ∷ ws) h = λ i. (h.0 i && not w.is_granted) || asks_none t ws h.1 i
+
+-- who has no call that asks does not wait in the table
+pub idle_in : (server epoch given : ℕ) (lives : LiveMap) (ws : List WaitingCall) (t : TransId) (queue : List Waiter) → asks_for ws t ≡ false → AllByRecursion (IsOfCalls server epoch given lives ws) queue → waits queue t ≡ false
+idle_in server epoch given lives ws t [] none h = refl
+idle_in server epoch given lives ws t (x ∷ xs) none h = go (is_waiter_of t x) refl (idle_in server epoch given lives ws t xs none h.1)
+  where
+    go : (b : Bool) → is_waiter_of t x ≡ b → waits xs t ≡ false → (b || waits xs t) ≡ false
+    go false e rest = rest
+    go true e rest =
+        let is : same_trans t x.trans ≡ true = sym (tied_same t x.trans) ∙ e in
+        let wrong : false ≡ true = sym none ∙ ap (asks_for ws) (same_trans-true t x.trans is) ∙ h.0.asks in
+        cc
+
+-- ---- a walk along the calls that marks those of a transaction
+
+marked : (t : TransId) (ws : List WaitingCall) (i : ℕ) (x : WaitingCall) → i < length ws → x ≡ get_or (grant_of t (take i ws) ++ drop i ws) i x
+    → slice_set (grant_of t (take i ws) ++ drop i ws) i (grant_one t x) ≡ grant_of t (take (suc i) ws) ++ drop (suc i) ws
+marked t [] zero x lt is = absurd (omega (arith, lt))
+marked t [] (suc i) x lt is = absurd (omega (arith, lt))
+marked t (w ∷ ws) zero x lt is = ap (λ (v : WaitingCall). grant_one t v ∷ ws) is
+marked t (w ∷ ws) (suc i) x lt is = ap (λ (vs : List WaitingCall). grant_one t w ∷ vs) (marked t ws i x (omega (arith, lt)) is)
+
+passed : (t : TransId) (ws : List WaitingCall) (i : ℕ) (x : WaitingCall) → i < length ws → x ≡ get_or (grant_of t (take i ws) ++ drop i ws) i x → grant_one t x ≡ x
+    → grant_of t (take i ws) ++ drop i ws ≡ grant_of t (take (suc i) ws) ++ drop (suc i) ws
+passed t [] zero x lt is same = absurd (omega (arith, lt))
+passed t [] (suc i) x lt is same = absurd (omega (arith, lt))
+passed t (w ∷ ws) zero x lt is same = ap (λ (v : WaitingCall). v ∷ ws) (sym is ∙ sym same ∙ ap (grant_one t) is)
+passed t (w ∷ ws) (suc i) x lt is same = ap (λ (vs : List WaitingCall). grant_one t w ∷ vs) (passed t ws i x (omega (arith, lt)) is same)
+
+-- what is put back changes nothing
+set_itself : (ws : List WaitingCall) (i : ℕ) (x : WaitingCall) → slice_set ws i (get_or ws i x) ≡ ws
+set_itself [] zero x = refl
+set_itself [] (suc i) x = refl
+set_itself (w ∷ ws) zero x = refl
+set_itself (w ∷ ws) (suc i) x = ap (λ (vs : List WaitingCall). w ∷ vs) (set_itself ws i x)
+
+module _ (t : TransId) (ws items now : List WaitingCall) (i : ℕ) (x : WaitingCall) (lt : i < length ws) (before : items ≡ grant_of t (take i ws) ++ drop i ws) (is : x ≡ get_or items i x) where
+  abbrev then_marked : ℕ → List WaitingCall
+  then_marked n = grant_of t (take n ws) ++ drop n ws
+
+  one : suc i ≡ i + 1
+  one = omega arith
+
+  pub marked_step : same_trans x.trans t ≡ true → now ≡ slice_set items i (record x { is_granted = true }) → now ≡ then_marked (i + 1)
+  marked_step same so =
+      so
+      ∙ ap (λ (vs : List WaitingCall). slice_set vs i (record x { is_granted = true })) before
+      ∙ ap (λ (b : Bool). slice_set (then_marked i) i (cond {A = WaitingCall} b (record x { is_granted = true }) x)) (sym same)
+      ∙ marked t ws i x lt (is ∙ ap (λ (vs : List WaitingCall). get_or vs i x) before)
+      ∙ ap then_marked one
+
+  pub passed_step : same_trans x.trans t ≡ false → now ≡ slice_set items i (get_or items i x) → now ≡ then_marked (i + 1)
+  passed_step other so =
+      so
+      ∙ set_itself items i x
+      ∙ before
+      ∙ passed t ws i x lt (is ∙ ap (λ (vs : List WaitingCall). get_or vs i x) before) (ap (λ (b : Bool). cond {A = WaitingCall} b (record x { is_granted = true }) x) other)
+      ∙ ap then_marked one
+
+-- ---- all that waits, where the server goes on
+
+module _ (server epoch m n : ℕ) (more : m ≤ n) (drawn : ℕ) (sizes : Sizes) (lives now : LiveMap) (ws : List WaitingCall) (queue : List Waiter) where
+  -- each part of a call was live before and counted as many cells, and none that waits has gone
+  pub waiting_parts : AllByRecursion (λ (w : WaitingCall). (l : Live) → map.get now w.trans ≡ Some l → (x : Live) × (map.get lives w.trans ≡ Some x) × IsLikePart x l) ws
+      → ((t : TransId) → is_some (map.get lives t) ≡ true → is_some (map.get now t) ≡ true)
+      → AreWaiting server epoch m drawn sizes lives ws queue → AreWaiting server epoch n drawn sizes now ws queue
+  waiting_parts was stays_live h = record {
+    calls = each-both (λ (w : WaitingCall). (l : Live) → map.get now w.trans ≡ Some l → (x : Live) × (map.get lives w.trans ≡ Some x) × IsLikePart x l) (IsWaitingCall server epoch m drawn sizes lives) (IsWaitingCall server epoch n drawn sizes now)
+        (λ w from o. call_later server epoch m n more sizes drawn drawn (le_refl drawn) lives now w (λ _. from) o) ws was h.calls;
+    apart = h.apart;
+    queued = each-more (IsOfCalls server epoch m lives ws) (IsOfCalls server epoch n now ws) (λ x o. record { live = stays_live x.trans o.live; asks = o.asks; beyond = λ k high. o.beyond k (omega (arith, more, high)) }) queue h.queued;
+  }
+
+all_like : (lives : LiveMap) (ws : List WaitingCall) → AllByRecursion (λ (w : WaitingCall). (l : Live) → map.get lives w.trans ≡ Some l → (x : Live) × (map.get lives w.trans ≡ Some x) × IsLikePart x l) ws
+all_like lives [] = tt
+all_like lives (w ∷ ws) = ((λ l is. (l, is, like_itself l)), all_like lives ws)
+
+-- more files were made
+pub waiting_later : (server epoch m n : ℕ) → m ≤ n → (drawn : ℕ) (sizes : Sizes) (lives : LiveMap) (ws : List WaitingCall) (queue : List Waiter) → AreWaiting server epoch m drawn sizes lives ws queue → AreWaiting server epoch n drawn sizes lives ws queue
+waiting_later server epoch m n more drawn sizes lives ws queue h = waiting_parts server epoch m n more drawn sizes lives lives ws queue (all_like lives ws) (λ t live. live) h
+
+-- each call is one of its transaction
+pub named_all : (server epoch given drawn : ℕ) (sizes : Sizes) (lives : LiveMap) (ws : List WaitingCall) → AllByRecursion (IsWaitingCall server epoch given drawn sizes lives) ws → AllByRecursion (λ (w : WaitingCall). file_trans w.call ≡ Some w.trans) ws
+named_all server epoch given drawn sizes lives ws h = each-more (IsWaitingCall server epoch given drawn sizes lives) (λ (w : WaitingCall). file_trans w.call ≡ Some w.trans) (λ w o. o.named) ws h
+
+-- where none is of the transaction nothing is asked of its part
+pub not_like : (t : TransId) (l now : Live) (ws : List WaitingCall) → AllByRecursion (λ (w : WaitingCall). same_trans w.trans t ≡ false) ws → AllByRecursion (λ (w : WaitingCall). same_trans w.trans t ≡ true → IsLikePart l now) ws
+not_like t l now [] away = tt
+not_like t l now (w ∷ ws) away = ((λ e. let wrong : false ≡ true = sym away.0 ∙ e in cc), not_like t l now ws away.1)
+
+-- and an id beyond the count has none
+pub none_newer : (server epoch given drawn : ℕ) (sizes : Sizes) (lives : LiveMap) (t : TransId) (ws : List WaitingCall) → drawn < t.counter → AllByRecursion (IsWaitingCall server epoch given drawn sizes lives) ws → AllByRecursion (λ (w : WaitingCall). same_trans w.trans t ≡ false) ws
+none_newer server epoch given drawn sizes lives t [] high h = tt
+none_newer server epoch given drawn sizes lives t (w ∷ ws) high h = (go (same_trans w.trans t) refl, none_newer server epoch given drawn sizes lives t ws high h.1)
+  where
+    go : (b : Bool) → same_trans w.trans t ≡ b → b ≡ false
+    go false e = refl
+    go true e =
+        let counter : w.trans.counter ≡ t.counter = ap (λ (u : TransId). u.counter) (same_trans-true w.trans t e) in
+        let low : w.trans.counter ≤ drawn = h.0.begun in
+        absurd (omega (arith, counter, low, high))

@@ -1,0 +1,111 @@
+-- Calls that wait for their locks, or have them and are not collected.
+use Rattle.std.specs.Prelude.{◌≡◌, ℕ, ◌<◌, ◌≤◌, Bool, true, false, not, ◌==◌, ◌&&◌, ◌||◌, List, [], ◌∷◌, filter, find, length, Option, None, Some, is_some, if◌then◌else◌, map as list_map}
+use Rattle.std.specs.List.{list_any, AllByRecursion}
+use Rattle.std.specs.FinMap as map
+use Rattle.alp_base.specs.declared.ids.TransId.{TransId}
+use Rattle.alp_base.specs.declared.faults.Sizes.{Sizes}
+use Rattle.alp_base.specs.declared.key.Resource.TheVariants.{Whole}
+use Rattle.alp_files.specs.Locks.{IsFormed}
+use Rattle.alp_journal.specs.Counts.{log_need}
+use Rattle.alp_journal.specs.Desk.{Waiting, file_trans}
+use Rattle.alp_journal.specs.Ids.{same_trans}
+use Rattle.alp_queue.specs.declared.waiter.Waiter.{Waiter}
+use Rattle.alp_node.specs.Shapes.{shape_of, ReadsSome}
+use Rattle.alp_node.specs.Totals.{LiveMap}
+use Rattle.alp_node.specs.declared.lives.Live.{Live}
+use Rattle.alp_node.specs.declared.waits.WaitingCall.{WaitingCall}
+
+-- as the journal tells it
+abbrev pub waiting : WaitingCall → Waiting
+waiting w = record { client = w.client; number = w.number; call = w.call; is_granted = w.is_granted }
+
+abbrev pub waiting_calls : List WaitingCall → List Waiting
+waiting_calls ws = list_map waiting ws
+
+-- ---- one of them
+
+-- it is of this client's part of the transaction
+abbrev pub is_of : ℕ → TransId → WaitingCall → Bool
+is_of client t w = w.client == client && same_trans w.trans t
+
+abbrev pub is_at : ℕ → ℕ → WaitingCall → Bool
+is_at client number w = w.client == client && w.number == number
+
+abbrev pub has_waiting : ℕ → TransId → List WaitingCall → Bool
+has_waiting client t ws = list_any (is_of client t) ws
+
+abbrev pub call_at : ℕ → ℕ → List WaitingCall → Option WaitingCall
+call_at client number ws = find (is_at client number) ws
+
+-- how many resources the transaction has locked once its call has its locks
+abbrev pub locks_in : Option WaitingCall → Option ℕ
+locks_in None = None
+locks_in (Some w) = Some w.counts.asked
+
+abbrev pub locks_of : TransId → List WaitingCall → Option ℕ
+locks_of t ws = locks_in (find (λ w. same_trans w.trans t) ws)
+
+-- ---- what becomes of them
+
+-- the call of the transaction has its locks
+abbrev pub grant_one : TransId → WaitingCall → WaitingCall
+grant_one t w = if same_trans w.trans t then record w { is_granted = true } else w
+
+abbrev pub grant_of : TransId → List WaitingCall → List WaitingCall
+grant_of t ws = list_map (grant_one t) ws
+
+abbrev pub without_calls_of : ℕ → TransId → List WaitingCall → List WaitingCall
+without_calls_of client t ws = filter (λ w. not (is_of client t w)) ws
+
+-- of a client's calls those that are of a live transaction, and all of the others'
+abbrev pub stays : ℕ → LiveMap → WaitingCall → Bool
+stays client lives w = not (w.client == client) || is_some (map.get lives w.trans)
+
+abbrev pub live_calls : ℕ → LiveMap → List WaitingCall → List WaitingCall
+live_calls client lives ws = filter (stays client lives) ws
+
+-- ---- what is so of them between two steps, whatever the vault tells
+
+-- The call of a live part is its client's. It has the shape that it may have, and the part is within its limits with the locks of
+-- the call, and with that of a file that it makes.
+pub record IsWithinLimits (server epoch given : ℕ) (sizes : Sizes) (w : WaitingCall) (l : Live) : Type 0 where
+  pub its : w.client ≡ l.client
+  pub shape : shape_of server epoch given (length l.part.opens.items) w.call ≡ None
+  pub fewer : w.counts.asked ≤ w.counts.made
+  pub locks : w.counts.made ≤ 1024
+  pub log : log_need l.part.counts.cells w.counts.made ≤ sizes.area
+
+-- it is a file call of the grammar, of a transaction that was begun, and within the limits of its part as long as that is live
+pub record IsWaitingCall (server epoch given drawn : ℕ) (sizes : Sizes) (lives : LiveMap) (w : WaitingCall) : Type 0 where
+  pub named : file_trans w.call ≡ Some w.trans
+  pub formed : IsFormed w.call
+  pub some : ReadsSome w.call
+  pub begun : w.trans.counter ≤ drawn
+  pub limits : (l : Live) → map.get lives w.trans ≡ Some l → IsWithinLimits server epoch given sizes w l
+
+-- no two are of one transaction
+abbrev pub IsOfOther : WaitingCall → WaitingCall → Type 0
+IsOfOther w v = same_trans v.trans w.trans ≡ false
+
+abbrev pub AreApart : List WaitingCall → Type 0
+AreApart [] = Unit {0}
+AreApart (w ∷ ws) = AllByRecursion (IsOfOther w) ws × AreApart ws
+
+-- a call of the transaction has not its locks yet
+abbrev pub is_asking : TransId → WaitingCall → Bool
+is_asking t w = same_trans w.trans t && not w.is_granted
+
+abbrev pub asks_for : List WaitingCall → TransId → Bool
+asks_for ws t = list_any (is_asking t) ws
+
+-- who waits in the table is live, has a call here that waits for its locks, and would lock no file that was not made yet
+pub record IsOfCalls (server epoch given : ℕ) (lives : LiveMap) (ws : List WaitingCall) (x : Waiter) : Type 0 where
+  pub live : is_some (map.get lives x.trans) ≡ true
+  pub asks : asks_for ws x.trans ≡ true
+  pub beyond : (n : ℕ) → given < n → map.get x.after (Whole (record { server = server; epoch = epoch; counter = n })) ≡ None
+
+-- each of them is so, and so is the table's queue
+pub record AreWaiting (server epoch given drawn : ℕ) (sizes : Sizes) (lives : LiveMap) (ws : List WaitingCall) (queue : List Waiter) : Type 0 where
+  pub calls : AllByRecursion (IsWaitingCall server epoch given drawn sizes lives) ws
+  pub apart : AreApart ws
+  pub queued : AllByRecursion (IsOfCalls server epoch given lives ws) queue

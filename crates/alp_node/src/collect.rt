@@ -1,0 +1,124 @@
+//! Calls that waited are collected.
+ghost use Rattle.std.specs.Prelude.{◌≡◌, ◌+◌, ◌<◌, ◌^◌, [], IsTrue, Some, true, false, is_some, IfSome};
+ghost use Rattle.std.specs.FinMap as map;
+ghost use Rattle.alp_files.specs.declared.call.Call.TheVariants as calls;
+ghost use Rattle.alp_journal.specs.declared.event.Event.TheVariants as event;
+ghost use Rattle.alp_locks.specs.Sound.{IsPrepared};
+ghost use Rattle.alp_node.specs.Asks.{count_made, with_made};
+ghost use Rattle.alp_node.specs.ServerState.{IsReadyForMore, IsOfJournal};
+ghost use Rattle.alp_node.specs.Served.{AreLivesSound};
+ghost use Rattle.alp_node.specs.Steps.{IsStep, IsTurn, IsOf};
+ghost use Rattle.alp_node.specs.Waits.{call_at};
+
+use crate::answer::Answer;
+use crate::lock_counts::LockCounts;
+use crate::server_state::ServerState;
+use crate::sessions::Turn;
+use crate::waits::copy_of;
+use alp_base::{OutOfMemory, TransId};
+use alp_calls::CallFault;
+use alp_files::{Call, Cause, Refusal};
+use alp_journal::Acts;
+use alp_locks::Plan;
+use alp_queue::Needs;
+use alp_vault::Vault;
+use std::alloc::Global;
+
+impl<V: Vault> ServerState<V> {
+    /// The reply to the client's call with this number, if it waits: where it has its locks it is performed, and known no more.
+    /// That of a part that timed out is told so, and stays known as long as the part.
+    pub fn collect(&mut self, turn: &Turn, number: u32) -> Result<Answer, OutOfMemory>
+        requires turn { IsTurn self.old.sessions turn.now }
+        requires up { self.old.is_down ≡ false }
+        requires ready { IsReadyForMore (V.serves self.old.vault) self.old }
+        requires known { IsTrue (V.tells self.old.vault) → IsOfJournal (V.held self.old.vault) self.old }
+        requires sound { IsTrue (V.tells self.old.vault) → AreLivesSound (V.held self.old.vault) self.old }
+        ensures { IsStep V.Vault self.old self.new (event.Call turn.now.client self.old.epoch turn.now.number (calls.Collect number)) result }
+    {
+        let Some(waiting) = self.waits.get(turn.client, number) else {
+            return Ok(self.refuse(turn, Refusal::UnknownTrans));
+        };
+        let trans = waiting.trans;
+        let counts = waiting.counts;
+        if self.lives.get(&trans).is_none() {
+            return Ok(self.refuse(
+                turn,
+                Refusal::Aborted {
+                    cause: Cause::TimedOut,
+                },
+            ));
+        }
+        if !waiting.is_granted {
+            return Ok(self.refuse(turn, Refusal::NotYet));
+        }
+        let call = copy_of(&waiting.call)?;
+        self.collect_granted(turn, number, trans, &call, counts)
+    }
+
+    // The call is performed under the locks that its part has, and waits no more.
+    fn collect_granted(
+        &mut self,
+        turn: &Turn,
+        number: u32,
+        trans: TransId,
+        call: &Call,
+        counts: LockCounts,
+    ) -> Result<Answer, OutOfMemory>
+        requires turn { IsTurn self.old.sessions turn.now }
+        requires own { IsOf turn.now.client (map.get self.old.lives trans) }
+        requires waiting { call_at turn.now.client number self.old.waits ≡ Some (record { client = turn.now.client; number = number; trans = trans; call = call.now; counts = counts; is_granted = true }) }
+        requires up { self.old.is_down ≡ false }
+        requires ready { IsReadyForMore (V.serves self.old.vault) self.old }
+        requires known { IsTrue (V.tells self.old.vault) → IsOfJournal (V.held self.old.vault) self.old }
+        requires sound { IsTrue (V.tells self.old.vault) → AreLivesSound (V.held self.old.vault) self.old }
+        ensures { IsStep V.Vault self.old self.new (event.Call turn.now.client self.old.epoch turn.now.number (calls.Collect number)) result }
+    {
+        let halted = Vec::with_capacity(self.alloc, 1)?;
+        let needs = no_needs(self.alloc);
+        let made = self.plan_made(trans, call, &needs)?;
+        match self.perform(trans, call, counts, no_acts(self.alloc)) {
+            Ok(given) => {
+                self.waits.remove_of(turn.client, &trans);
+                self.keep_made(given.is_made(), made);
+                self.sessions.count(turn, given.reply);
+                Ok(given.answer)
+            }
+            Err(CallFault::Failed) => {
+                self.waits.remove_of(turn.client, &trans);
+                Ok(self.refuse(turn, Refusal::ReadFault))
+            }
+            Err(CallFault::Stopped) => self.without_answer(turn, CallFault::Stopped, halted),
+            Err(CallFault::OutOfMemory) => Err(OutOfMemory),
+        }
+    }
+
+    // The part keeps the lock of a file that it made.
+    fn keep_made(&mut self, has_made: bool, made: Option<Plan>)
+        requires room { self.old.given + 1 < 2 ^ 32 }
+        requires entered { IfSome made (λ w. is_some (map.get self.old.locks.held w.trans) ≡ true) }
+        requires prepared { IfSome made (λ w. IsPrepared self.old.locks.held w) }
+        ensures kept { self.new ≡ record self.old { given = count_made self.old.given has_made; locks = with_made has_made self.old.locks made } }
+    {
+        if !has_made {
+            return;
+        }
+        self.given += 1;
+        if let Some(made) = made {
+            self.locks.take(made);
+        }
+    }
+}
+
+// What a call asks for that has its locks: nothing.
+fn no_needs(alloc: Global) -> Needs
+    ensures { result ≡ [] }
+{
+    Needs::new(Vec::new(alloc))
+}
+
+// What is granted to it then: nothing.
+fn no_acts(alloc: Global) -> Acts
+    ensures { result ≡ [] }
+{
+    Acts::new(Vec::new(alloc))
+}

@@ -1,0 +1,133 @@
+//! Calls that wait for their locks, or have them and are not collected.
+ghost use Rattle.std.specs.Prelude.{◌≡◌, ◌++◌, ◌∷◌, [], IfOk, OnOk, OnErr, List};
+ghost use Rattle.std.specs.Option.{option_copied as copied};
+ghost use Rattle.alp_node.specs.Waits.{is_of as is_of_said, has_waiting, call_at, locks_of as locks_of_said, grant_of, without_calls_of, live_calls};
+ghost use Rattle.alp_node.specs.declared.waits.WaitingCall.{WaitingCall as ACall};
+
+use crate::dead::is_same;
+use crate::lives::Lives;
+use crate::lock_counts::LockCounts;
+use alp_base::{OutOfMemory, TransId};
+use alp_files::Call;
+use std::alloc::Global;
+use std::marker::Model;
+
+/// A file call that waits: whose it is, its number, the transaction of its part, and how many resources the part has locked
+/// once it has the locks of the call.
+#[derive(Drop)]
+pub struct WaitingCall {
+    pub client: u8,
+    pub number: u32,
+    pub trans: TransId,
+    pub call: Call,
+    pub counts: LockCounts,
+    pub is_granted: bool,
+}
+
+/// A call that shares the pages of the other.
+pub fn copy_of(call: &Call) -> Result<Call, OutOfMemory>
+    ensures { IfOk result (λ copy. copy ≡ call.now) }
+{
+    let copy = call.clone()?;
+    Ok(copy)
+}
+
+/// The calls that wait, in the order in which they came, at most one of each part.
+#[derive(Drop)]
+pub struct Waits {
+    calls: Vec<WaitingCall>,
+}
+
+impl Model for Waits {
+    ghost use Rattle.std.specs.Prelude.{List};
+    ghost use Rattle.alp_node.specs.declared.waits.WaitingCall.{WaitingCall};
+
+    ghost Value = { List WaitingCall };
+
+    ghost view = { λ w. w.calls.items };
+}
+
+impl Waits {
+    pub fn new(alloc: Global) -> Waits
+        ensures { result ≡ [] }
+    {
+        Waits {
+            calls: Vec::new(alloc),
+        }
+    }
+
+    /// Whether a call of the client's part of the transaction waits.
+    pub fn has(&self, client: u8, trans: &TransId) -> bool
+        ensures { result ≡ has_waiting client trans.now self.now }
+    {
+        self.calls.iter().any(|call| is_of(call, client, trans))
+    }
+
+    /// The client's call with this number, if it waits.
+    pub fn get(&self, client: u8, number: u32) -> Option<&WaitingCall>
+        ensures { copied result ≡ call_at client number self.now }
+    {
+        self.calls
+            .iter()
+            .find(|call| call.client == client && call.number == number)
+    }
+
+    /// How many resources the transaction has locked once its call has its locks.
+    pub fn locks_of(&self, trans: &TransId) -> Option<u32>
+        ensures { result ≡ locks_of_said trans.now self.now }
+    {
+        let found = self.calls.iter().find(|call| is_same(&call.trans, trans));
+        match found {
+            Some(call) => Some(call.counts.asked),
+            None => None,
+        }
+    }
+
+    /// A call waits from now on.
+    pub fn push(&mut self, call: WaitingCall) -> Result<(), OutOfMemory>
+        ensures ok { OnOk result (self.new ≡ self.old ++ call ∷ []) }
+        ensures err { OnErr result (self.new ≡ self.old) }
+    {
+        self.calls.push(call)?;
+        Ok(())
+    }
+
+    /// Takes the last push back.
+    pub fn take_back(&mut self)
+        ensures { (before : List ACall) (last : ACall) → self.old ≡ before ++ last ∷ [] → self.new ≡ before }
+    {
+        let _ = self.calls.pop();
+    }
+
+    /// The call of the transaction has its locks.
+    pub fn grant(&mut self, trans: &TransId)
+        ensures { self.new ≡ grant_of trans.now self.old }
+    {
+        for call in self.calls.iter_mut() {
+            if is_same(&call.trans, trans) {
+                call.is_granted = true;
+            }
+        }
+    }
+
+    /// No call of the client's part waits any more.
+    pub fn remove_of(&mut self, client: u8, trans: &TransId)
+        ensures { self.new ≡ without_calls_of client trans.now self.old }
+    {
+        self.calls.retain(|call| !is_of(call, client, trans));
+    }
+
+    /// Of the client's calls those alone wait on whose transactions are live.
+    pub fn bury(&mut self, client: u8, lives: &Lives)
+        ensures { self.new ≡ live_calls client lives.now self.old }
+    {
+        self.calls.retain(|call| call.client != client || lives.get(&call.trans).is_some());
+    }
+}
+
+// Whether it is a call of the client's part of the transaction.
+fn is_of(call: &WaitingCall, client: u8, trans: &TransId) -> bool
+    ensures { result ≡ is_of_said client trans.now call.now }
+{
+    call.client == client && is_same(&call.trans, trans)
+}

@@ -1,0 +1,41 @@
+//! Calls that wait, and what a client does next for a line.
+use alp_base::{FileId, Name};
+
+/// What the answer to a call that waits is good for: a word that it binds, a file that it opens, or nothing more.
+#[derive(Drop)]
+pub enum Purpose {
+    Word(Name),
+    Open(FileId),
+    Nothing,
+}
+
+/// A call that was answered that it waits.
+#[derive(Drop)]
+pub struct Waiting {
+    pub number: u32,
+    pub purpose: Purpose,
+    /// How many collects of it were answered so too.
+    pub asked: u32,
+}
+
+/// What a client does next for its line.
+#[derive(Clone, Copy, PartialEq, Eq)]
+pub enum Next {
+    /// It sends the frame of the line.
+    Call,
+    /// It collects the call that waits.
+    Collect,
+    /// Its patience is at an end, and its transaction times out.
+    TimeOut,
+    /// Nothing: the line is over.
+    Over,
+}
+
+/// What lines set for all clients.
+#[derive(Clone, Copy)]
+pub struct Settings {
+    /// A call that is to wait is collected once in its line.
+    pub collects: bool,
+    /// After so many collects of one call that were answered that it waits, its transaction times out.
+    pub patience: u32,
+}
