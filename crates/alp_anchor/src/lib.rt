@@ -19,6 +19,3 @@ pub use laws::one_anchor_counts;
 pub use read::read_anchor;
 pub use spelling::anchor_page;
 pub use switch::switch_anchor;
-
-#[cfg(test)]
-mod tests;

@@ -16,6 +16,3 @@ pub use batch::{Batch, Images, NoteChanges, PageImage, share_images};
 pub use code::{decode, encode, encode_values};
 pub use laws::batches_are_forms;
 pub use length::{encoded_length, values_length};
-
-#[cfg(test)]
-mod tests;

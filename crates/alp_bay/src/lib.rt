@@ -12,6 +12,3 @@ pub use bay::{Bay, BayFault};
 pub use host_bay::HostBay;
 pub use host_disk::HostDisk;
 pub use mem_bay::MemBay;
-
-#[cfg(test)]
-mod tests;

@@ -19,6 +19,3 @@ pub use fuse::Fuse;
 pub use gate::OPEN_GATE;
 pub use mem_disk::MemDisk;
 pub use runs::{write_span, write_synced};
-
-#[cfg(test)]
-mod tests;

@@ -33,6 +33,3 @@ pub use places::{
 };
 pub use reader::FieldReader;
 pub use rows::{U32_BYTES, set_u32s};
-
-#[cfg(test)]
-mod tests;

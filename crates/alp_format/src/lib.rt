@@ -4,6 +4,3 @@
 mod formatting;
 
 pub use formatting::format;
-
-#[cfg(test)]
-mod tests;

@@ -1,5 +1,5 @@
 -- the journal of server 1 with a decision that is cut off, and found not made is lawful
-use Rattle.std.specs.Prelude.{unwrap_or, slice_get, drop}
+use Rattle.std.specs.Prelude.{unwrap_or, slice_get, drop, take}
 use Rattle.std.proofs.Common.{ℕ, List, [], ◌∷◌, refl}
 use Rattle.alp_base.specs.declared.ids.JoinNo.{JoinNo}
 use Rattle.alp_base.specs.declared.ids.TransId.{TransId}
@@ -92,3 +92,7 @@ entry_8 = by_laws at_8 (entry 8) refl refl refl tt
 
 pub lawful : IsLawful (new 1) cut_one
 lawful = finish_then (drop 5 cut_one) (entry_5, (entry_6, (entry_7, (entry_8, tt))))
+
+-- up to the restart
+pub up_to_restart : IsLawful (new 1) (take 7 cut_one)
+up_to_restart = finish_then (drop 5 (take 7 cut_one)) (entry_5, (entry_6, tt))

@@ -1,5 +1,5 @@
 -- the journal of server 1 with a decision that is cut off, and found made at the restart is lawful
-use Rattle.std.specs.Prelude.{unwrap_or, slice_get, drop}
+use Rattle.std.specs.Prelude.{unwrap_or, slice_get, drop, take}
 use Rattle.std.proofs.Common.{ℕ, List, [], ◌∷◌, refl}
 use Rattle.alp_base.specs.declared.ids.JoinNo.{JoinNo}
 use Rattle.alp_base.specs.declared.ids.TransId.{TransId}
@@ -106,3 +106,7 @@ entry_9 = by_laws at_9 (entry 9) refl refl refl (
 
 pub lawful : IsLawful (new 1) found_one
 lawful = finish_then (drop 5 found_one) (entry_5, (entry_6, (entry_7, (entry_8, (entry_9, tt)))))
+
+-- up to the restart
+pub up_to_restart : IsLawful (new 1) (take 7 found_one)
+up_to_restart = finish_then (drop 5 (take 7 found_one)) (entry_5, (entry_6, tt))

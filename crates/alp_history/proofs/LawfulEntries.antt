@@ -67,7 +67,7 @@ abbrev pub held_in : Option Life → Holding
 held_in None = no_locks
 held_in (Some l) = l.held
 
-agree_none : (a b : Option Mode) → b ≡ None → agree_held a b ≡ true
+pub agree_none : (a b : Option Mode) → b ≡ None → agree_held a b ≡ true
 agree_none None b h = refl
 agree_none (Some m) b h = ap (agree_held (Some m)) h
 

@@ -40,6 +40,7 @@ pub mod Named
 pub mod LawfulDeeds
 pub mod Quotas
 pub mod NamedEnds
+pub mod NamedPairs
 pub mod Steps
 pub mod LinkLemmas
 pub mod RightOne
@@ -64,6 +65,11 @@ pub mod FoundTwo
 pub mod CutOne
 pub mod CutTwo
 pub mod WaitsOne
+pub mod WaitsTwo
+pub mod HoldLists
+pub mod CallsDone
+pub mod PageCalls
+pub mod WaitsPage
 pub mod BroughtOne
 pub mod CreatesOne
 pub mod RightJournals

@@ -217,7 +217,7 @@ module _ (ts : List TransId) (js : List JoinNo) where
     | inr more ↦ alone_at t s vs (and_parts (same_trans t v || is_none (s.holder.lives v)) _ n).1 u l more e
   ]
 
-  lives_named : (s : State) → Only s → (u : TransId) (l : Life) → s.holder.lives u ≡ Some l → has_trans u ts ≡ true
+  pub lives_named : (s : State) → Only s → (u : TransId) (l : Life) → s.holder.lives u ≡ Some l → has_trans u ts ≡ true
   lives_named s h u l e = go (has_trans u ts) refl
     where
       go : (b : Bool) → has_trans u ts ≡ b → b ≡ true

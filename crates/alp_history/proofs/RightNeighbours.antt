@@ -5,18 +5,20 @@ use Rattle.alp_base.specs.declared.ids.JoinNo.{JoinNo}
 use Rattle.alp_base.specs.declared.ids.TransId.{TransId}
 use Rattle.alp_files.specs.declared.call.Call.TheVariants as call
 use Rattle.alp_files.specs.declared.reply.Reply.TheVariants as reply
+use Rattle.alp_files.specs.declared.reply.Ended.TheVariants as ending
+use Rattle.alp_files.specs.declared.refusal.Cause.TheVariants as cause
 use Rattle.alp_files.specs.declared.refusal.Refusal.TheVariants as refusal
 use Rattle.alp_journal.specs.declared.act.Act.TheVariants as act
 use Rattle.alp_journal.specs.declared.message.Message.TheVariants as msg
 use Rattle.alp_journal.specs.declared.entry.Entry.{Entry}
-use Rattle.alp_journal.specs.Deeds.{Applies, Hears, Finishes, Decides}
+use Rattle.alp_journal.specs.Deeds.{Applies, Ends, Hears, Finishes, Decides}
 use Rattle.alp_journal.specs.Desk.{waiting_of}
 use Rattle.alp_journal.specs.State.{State, opened, state_deed}
 use Rattle.alp_journal.specs.Moves.{next}
 use Rattle.alp_journal.specs.Laws.{IsLawful, IsLawfulEntry}
 use Rattle.alp_history.specs.Examples.{trans, join, stamp, new, calls, first_up, vote, worker_up, restarts}
 use Rattle.alp_history.specs.RightLog.{opening, ticks}
-use Rattle.alp_history.specs.WrongJournals.{hello, begins_as, begun, first_file, creates, at_time, votes_and_decides, third_join, of_three, two_joins, votes, decides_both, one_voted, all_voted, second_join, one_registered, registers_again, committed, acknowledged, inquires, votes_for, hears_commit, voted, reads_bob, made, one_waits, ends, second_trans, comes_again, started_again, goes_on, applies, says_done, committed_alone, hears_done}
+use Rattle.alp_history.specs.WrongJournals.{hello, begins_as, begun, first_file, creates, at_time, votes_and_decides, third_join, of_three, two_joins, votes, decides_both, one_voted, all_voted, second_join, one_registered, registers_again, committed, acknowledged, inquires, votes_for, hears_commit, voted, reads_bob, made, one_waits, ends, second_trans, comes_again, started_again, goes_on, applies, says_done, committed_alone, hears_done, greets_again, cut_off, cut_alone, asks_how, ended_alone, greeted_again}
 use Rattle.alp_history.proofs.Worked.{life_at}
 use Rattle.alp_history.proofs.Steps.{lives_there}
 use Rattle.alp_history.proofs.Named.{Only, only_deed, only_next, alone}
@@ -28,6 +30,8 @@ use Rattle.alp_history.proofs.FirstUp as up
 use Rattle.alp_history.proofs.WorkerUp as worker
 use Rattle.alp_history.proofs.CreatesOne as creating
 use Rattle.alp_history.proofs.WaitsOne as waits
+use Rattle.alp_history.proofs.FoundOne as found
+use Rattle.alp_history.proofs.CutOne as cut
 
 abbrev ts : List TransId
 ts = trans ∷ []
@@ -334,6 +338,144 @@ finds_no_session = by_laws restarted stale refl refl (refl, refl) tt
 
 pub ends_the_session : IsLawful (new 1) (started_again ++ stale ∷ [])
 ends_the_session = (up.entry_0, (up.entry_1, (starts_empty, (finds_no_session, tt))))
+
+abbrev greeted : State
+greeted = next restarted (greets_again 2)
+
+known_greeted : Only ts here greeted
+known_greeted = only_next ts here restarted (greets_again 2) refl known_restarted
+
+greets : IsLawfulEntry restarted (greets_again 2)
+greets = by_laws restarted (greets_again 2) refl refl refl tt
+    (alone ts here trans greeted known_greeted refl)
+    ((refl, refl), tt) tt tt (refl, refl) tt
+
+pub begins_a_session : IsLawful (new 1) (started_again ++ greets_again 2 ∷ [])
+begins_a_session = (up.entry_0, (up.entry_1, (starts_empty, (greets, tt))))
+
+-- ---- a restart behind a stop
+
+pub names_what_stands : IsLawful (new 1) (cut_off ++ restarts 2 1 [] (stamp ∷ []) ∷ [])
+names_what_stands = found.up_to_restart
+
+pub names_none_lost : IsLawful (new 1) (cut_off ++ restarts 2 0 [] [] ∷ [])
+names_none_lost = cut.up_to_restart
+
+abbrev stops_alone : Entry
+stops_alone = unwrap_or (slice_get cut_alone 2) hello
+
+abbrev stopped : State
+stopped = next up.at_2 stops_alone
+
+known_stopped : Only ts here stopped
+known_stopped = only_next ts here up.at_2 stops_alone refl known_2
+
+is_cut_off : IsLawfulEntry up.at_2 stops_alone
+is_cut_off = by_laws up.at_2 stops_alone refl refl refl (
+  finishes stops_alone.event up.at_2 trans,
+  (
+    decides stops_alone.event finished_alone stamp []
+        (record { client = 1; votes = []; asked = refl; own = refl; now = refl; finishing = refl; voted = refl; time = refl; idle = no_file_call (waiting_of finished_alone.desk 1 trans) refl; live = (life_at finished_alone trans, lives_there finished_alone trans refl, refl) }),
+    tt,
+  ),
+)
+    (alone ts here trans stopped known_stopped refl)
+    tt (tt, (tt, tt)) tt (refl, refl) ((refl, refl), refl)
+
+-- what is found made of it
+abbrev found_finished : State
+found_finished = state_deed stopped (Finishes trans)
+
+known_found_finished : Only ts here found_finished
+known_found_finished = only_deed ts here stopped known_stopped (Finishes trans) refl
+
+abbrev found_decided : State
+found_decided = state_deed found_finished (Decides stamp [])
+
+known_found_decided : Only ts here found_decided
+known_found_decided = only_deed ts here found_finished known_found_finished (Decides stamp []) refl
+
+abbrev starts_made : Entry
+starts_made = restarts 2 1 [] []
+
+finds_it_made : IsLawfulEntry stopped starts_made
+finds_it_made = by_laws stopped starts_made refl refl refl tt
+    (alone ts here trans (next stopped starts_made) (only_next ts here stopped starts_made refl known_stopped) refl)
+    tt (tt, tt) tt ((refl, record { clock = refl; once = refl; ready = ready_found ts here found_decided known_found_decided [] refl tt; decided = stamps_found ts here found_decided known_found_decided [] refl ((λ n. refl), tt) }), refl) tt
+
+pub names_no_joinless : IsLawful (new 1) (cut_alone ++ starts_made ∷ [])
+names_no_joinless = (up.entry_0, (up.entry_1, (is_cut_off, (finds_it_made, tt))))
+
+abbrev starts_unmade : Entry
+starts_unmade = restarts 2 0 [] []
+
+finds_it_lost : IsLawfulEntry stopped starts_unmade
+finds_it_lost = by_laws stopped starts_unmade refl refl refl tt
+    (alone ts here trans (next stopped starts_unmade) (only_next ts here stopped starts_unmade refl known_stopped) refl)
+    tt (tt, tt) tt ((refl, record { clock = refl; once = refl; ready = ready_found ts here found_finished known_found_finished [] refl tt; decided = stamps_found ts here found_finished known_found_finished [] refl ((λ n. refl), tt) }), refl) tt
+
+pub finds_the_old_clock : IsLawful (new 1) (cut_alone ++ starts_unmade ∷ [])
+finds_the_old_clock = (up.entry_0, (up.entry_1, (is_cut_off, (finds_it_lost, tt))))
+
+-- ---- how a transaction ended
+
+abbrev told_committed : Entry
+told_committed = asks_how 1 4 (ending.Committed stamp)
+
+tells_commit : IsLawfulEntry decided_alone told_committed
+tells_commit = by_laws decided_alone told_committed refl refl refl tt
+    (alone ts here trans (next decided_alone told_committed) (only_next ts here decided_alone told_committed refl known_alone) refl)
+    ((refl, refl), tt) tt (refl, refl) (refl, refl) tt
+
+pub tells_the_commit : IsLawful (new 1) (committed_alone ++ told_committed ∷ [])
+tells_the_commit = (up.entry_0, (up.entry_1, (decides_alone, (tells_commit, tt))))
+
+abbrev aborts : Entry
+aborts = unwrap_or (slice_get ended_alone 2) hello
+
+abbrev ended : State
+ended = next up.at_2 aborts
+
+known_ended : Only ts here ended
+known_ended = only_next ts here up.at_2 aborts refl known_2
+
+is_aborted : IsLawfulEntry up.at_2 aborts
+is_aborted = by_laws up.at_2 aborts refl refl refl (then_released ts here up.at_2 known_2 aborts.event (Ends trans 1 cause.Asked) trans refl refl refl tt (deeds.ends aborts.event up.at_2 trans 1 cause.Asked))
+    (alone ts here trans ended known_ended refl)
+    ((refl, refl), tt) (tt, tt) tt (refl, refl) tt
+
+abbrev told_aborted : Entry
+told_aborted = asks_how 1 4 ending.Aborted
+
+tells_abort : IsLawfulEntry ended told_aborted
+tells_abort = by_laws ended told_aborted refl refl refl tt
+    (alone ts here trans (next ended told_aborted) (only_next ts here ended told_aborted refl known_ended) refl)
+    ((refl, refl), tt) tt (refl, refl) (refl, refl) tt
+
+pub tells_the_abort : IsLawful (new 1) (ended_alone ++ told_aborted ∷ [])
+tells_the_abort = (up.entry_0, (up.entry_1, (is_aborted, (tells_abort, tt))))
+
+abbrev told_running : Entry
+told_running = asks_how 1 3 ending.Running
+
+tells_running : IsLawfulEntry up.at_2 told_running
+tells_running = by_laws up.at_2 told_running refl refl refl tt
+    (alone ts here trans (next up.at_2 told_running) (only_next ts here up.at_2 told_running refl known_2) refl)
+    ((refl, refl), tt) tt (refl, refl) (refl, refl) tt
+
+pub tells_that_it_runs : IsLawful (new 1) (begun ++ told_running ∷ [])
+tells_that_it_runs = (up.entry_0, (up.entry_1, (tells_running, tt)))
+
+abbrev told_unknown : Entry
+told_unknown = asks_how 2 2 ending.Unknown
+
+tells_unknown : IsLawfulEntry greeted told_unknown
+tells_unknown = by_laws greeted told_unknown refl refl refl tt
+    (alone ts here trans (next greeted told_unknown) (only_next ts here greeted told_unknown refl known_greeted) refl)
+    ((refl, refl), tt) tt (refl, refl) (refl, refl) tt
+
+pub tells_nothing_known : IsLawful (new 1) (greeted_again ++ told_unknown ∷ [])
+tells_nothing_known = (up.entry_0, (up.entry_1, (starts_empty, (greets, (tells_unknown, tt)))))
 
 -- ---- the worker
 

@@ -35,7 +35,7 @@ performed s t d l a = record s {
 abbrev pub closed : Entry → State → State
 closed e s = record s { desk = desk_told s e.event e.reply; is_down = false; pending = [] }
 
-performs_by : (s : State) (t : TransId) (d : PerformedCall) (l : Life) (a : Answer) → s.holder.lives t ≡ Some l → answer_in s.holder l d ≡ a → state_deed s (Performs t d) ≡ performed s t d l a
+pub performs_by : (s : State) (t : TransId) (d : PerformedCall) (l : Life) (a : Answer) → s.holder.lives t ≡ Some l → answer_in s.holder l d ≡ a → state_deed s (Performs t d) ≡ performed s t d l a
 performs_by s t d l a h k =
     ap (λ (o : Option Life). record s { ids = ids_after s.ids (Performs t d); holder = performs s.holder t d o; locked = locked_after s.holder s.locked (Performs t d); begun = s.begun ++ []; joined = s.joined ++ [] }) h
     ∙ ap (λ (x : Answer). record (performed s t d l x) { begun = s.begun ++ []; joined = s.joined ++ [] }) k
@@ -45,7 +45,7 @@ performs_by s t d l a h k =
     empty [] = refl
     empty (x ∷ xs) = ap (λ ys. x ∷ ys) (empty xs)
 
-next_by : (s : State) (e : Entry) (ds : List Deed) → stops e ≡ false → tried s e ≡ ds → next s e ≡ closed e (state_after state_deed s ds)
+pub next_by : (s : State) (e : Entry) (ds : List Deed) → stops e ≡ false → tried s e ≡ ds → next s e ≡ closed e (state_after state_deed s ds)
 next_by s e ds h k =
     ap (λ b. cond b (halted s e) (told s e)) h
     ∙ ap (λ (xs : List Deed). closed e (state_after state_deed s xs)) k

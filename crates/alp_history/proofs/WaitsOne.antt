@@ -51,29 +51,29 @@ event_of i = (entry i).event
 known_3 : Only ts js at_3
 known_3 = first_known (waiting ∷ []) js
 
-abbrev at_4 : State
+abbrev pub at_4 : State
 at_4 = next at_3 (entry 3)
 
 known_4 : Only ts js at_4
 known_4 = only_next ts js at_3 (entry 3) refl known_3
 
-entry_3 : IsLawfulEntry at_3 (entry 3)
+pub entry_3 : IsLawfulEntry at_3 (entry 3)
 entry_3 = by_laws at_3 (entry 3) refl refl refl tt
     (alone ts js trans at_4 known_4 refl)
     ((refl, refl), tt) tt tt (refl, refl) tt
 
-abbrev at_5 : State
+abbrev pub at_5 : State
 at_5 = next at_4 (entry 4)
 
 known_5 : Only ts js at_5
 known_5 = only_next ts js at_4 (entry 4) refl known_4
 
-entry_4 : IsLawfulEntry at_4 (entry 4)
+pub entry_4 : IsLawfulEntry at_4 (entry 4)
 entry_4 = by_laws at_4 (entry 4) refl refl refl (begins (event_of 4) at_4 waiting 2 (codes "Admin") 0 refl, tt)
     (second_bare ts js trans waiting at_5 known_5 refl refl)
     ((refl, refl), tt) (tt, tt) tt (refl, refl) tt
 
-abbrev at_6 : State
+abbrev pub at_6 : State
 at_6 = next at_5 (entry 5)
 
 known_6 : Only ts js at_6
@@ -89,7 +89,7 @@ blocked_5 g l h its free =
     disagree_5 (subst (λ (x : Life). IsFree at_6.holder waiting x waits_for) (some-same l (life_at at_6 waiting) (sym h ∙ lives_there at_6 waiting refl)) free
     trans (life_at at_6 trans) (lives_there at_6 trans refl) refl (Leaf (OwnerOf (codes "ann"))))
 
-entry_5 : IsLawfulEntry at_5 (entry 5)
+pub entry_5 : IsLawfulEntry at_5 (entry 5)
 entry_5 = by_laws at_5 (entry 5) refl refl refl tt
     (second_bare ts js trans waiting at_6 known_6 refl refl)
     ((refl, refl), (blocked_5, tt)) tt tt (refl, refl) tt

@@ -1,9 +1,10 @@
 -- what each wrong journal breaks
-use Rattle.std.specs.Prelude.{ℕ, true, false, None, Some}
+use Rattle.std.specs.Prelude.{ℕ, true, false, Option, None, Some}
 use Rattle.std.proofs.Common.{◌≡◌, List, [], ◌∷◌, ◌++◌, drop, refl, sym, ap, ◌∙◌, arith, inl, inr}
 use Rattle.alp_base.specs.declared.ids.FileId.{FileId}
 use Rattle.alp_base.specs.declared.ids.JoinNo.{JoinNo}
 use Rattle.alp_base.specs.declared.ids.TransId.{TransId}
+use Rattle.alp_files.specs.declared.reply.Reply.{Reply}
 use Rattle.alp_files.specs.declared.reply.Reply.TheVariants as reply
 use Rattle.alp_files.specs.declared.reply.Ended.TheVariants as ending
 use Rattle.alp_files.specs.declared.refusal.Refusal.TheVariants as refusal
@@ -23,8 +24,10 @@ use Rattle.alp_history.specs.Examples.{trans, join, new, first_up, worker_up, re
 use Rattle.alp_history.proofs.Worked.{life_at}
 use Rattle.alp_history.proofs.Named.{Only, only_after, alone_other}
 use Rattle.alp_history.proofs.Steps.{lives_there}
-use Rattle.alp_history.specs.WrongJournals.{AreRefused, hello, begun, second_trans, later_file, begins_as, creates, votes_and_decides, of_three, two_joins, votes, decides_both, one_voted, all_voted, second_join, one_registered, registers_again, committed, acknowledged, inquires, decides_at, votes_for, hears_commit, voted, reads_bob, made, one_waits, ends, comes_again, started_again, goes_on, decides_for, applies, says_done, committed_alone, hears_done, stops_idly}
+use Rattle.alp_history.specs.WrongJournals.{AreRefused, hello, begun, second_trans, later_file, begins_as, creates, votes_and_decides, of_three, two_joins, votes, decides_both, one_voted, all_voted, second_join, one_registered, registers_again, committed, acknowledged, inquires, decides_at, votes_for, hears_commit, voted, reads_bob, made, one_waits, ends, comes_again, started_again, goes_on, decides_for, applies, says_done, committed_alone, hears_done, greets_again, cut_off, cut_alone, asks_how, ended_alone, greeted_again, third_trans, two_wait, of_client, with_file, page_waits, gives_page, stops_idly}
 use Rattle.alp_history.proofs.RightNeighbours as right
+use Rattle.alp_history.proofs.WaitsTwo as turns
+use Rattle.alp_history.proofs.WaitsPage as pages
 
 -- the last entry of a lawful journal is lawful in the state before it
 last : (s : State) (es : List Entry) (e : Entry) → Along next IsLawfulEntry s (es ++ e ∷ []) → IsLawfulEntry (state_after next s es) e
@@ -134,6 +137,37 @@ repeat_reply h = let wrong : Some (reply.Refused refusal.OwnerExists) ≡ Some r
 session : IsLawful (new 1) (started_again ++ goes_on (reply.Ended ending.Unknown) ∷ []) → ⊥
 session h = let wrong : Some (reply.Ended ending.Unknown) ≡ Some (reply.Refused (refusal.StaleSession 2)) = (last _ started_again _ h).sessions.0 in cc
 
+greeted : IsLawful (new 1) (started_again ++ greets_again 1 ∷ []) → ⊥
+greeted h = let wrong : Some (reply.Welcome 1) ≡ Some (reply.Welcome 2) = (last _ started_again _ h).sessions in let no : 1 ≡ 2 = ap welcomed wrong in omega (arith, no)
+  where
+    welcomed : Option Reply → ℕ
+    welcomed (Some (reply.Welcome n)) = n
+    welcomed r = 0
+
+unnamed : IsLawful (new 1) (cut_off ++ restarts 2 1 [] [] ∷ []) → ⊥
+unnamed h = let wrong : false ≡ true = (last _ cut_off _ h).restart.0.1.decided stamp in cc
+
+unmade : IsLawful (new 1) (cut_off ++ restarts 2 0 [] (stamp ∷ []) ∷ []) → ⊥
+unmade h = let wrong : true ≡ false = (last _ cut_off _ h).restart.0.1.decided stamp in cc
+
+named_alone : IsLawful (new 1) (cut_alone ++ restarts 2 1 [] (stamp ∷ []) ∷ []) → ⊥
+named_alone h = let wrong : true ≡ false = (last _ cut_alone _ h).restart.0.1.decided stamp in cc
+
+no_clock : IsLawful (new 1) (cut_alone ++ restarts 2 2 [] [] ∷ []) → ⊥
+no_clock h = let wrong : 2 ≡ 1 = (last _ cut_alone _ h).restart.0.1.clock in omega (arith, wrong)
+
+committed_so : IsLawful (new 1) (committed_alone ++ asks_how 1 4 ending.Aborted ∷ []) → ⊥
+committed_so h = let wrong : ending.Aborted ≡ ending.Committed stamp = (last _ committed_alone _ h).told.1 in cc
+
+aborted_so : IsLawful (new 1) (ended_alone ++ asks_how 1 4 ending.Unknown ∷ []) → ⊥
+aborted_so h = let wrong : ending.Unknown ≡ ending.Aborted = (last _ ended_alone _ h).told.1 in cc
+
+running_so : IsLawful (new 1) (begun ++ asks_how 1 3 ending.Unknown ∷ []) → ⊥
+running_so h = let wrong : ending.Unknown ≡ ending.Running = (last _ begun _ h).told.1 in cc
+
+unknown_so : IsLawful (new 1) (greeted_again ++ asks_how 2 2 ending.Aborted ∷ []) → ⊥
+unknown_so h = let wrong : ending.Aborted ≡ ending.Unknown = (last _ greeted_again _ h).told.1 in cc
+
 lost : IsLawful (new 2) (voted ++ restarts 2 0 [] [] ∷ []) → ⊥
 lost h = let wrong : false ≡ true = (last _ voted _ h).restart.0.1.ready join in cc
 
@@ -144,6 +178,12 @@ named_twice h = let wrong : false ≡ true = (last _ voted _ h).restart.0.1.once
 last_caused : (s : State) (es : List Entry) (e : Entry) → Along next IsAnsweredSo s (es ++ e ∷ []) → IsAnsweredSo (state_after next s es) e
 last_caused s [] e h = h.0
 last_caused s (x ∷ es) e h = last_caused (next s x) es e h.1
+
+arrivals : IsAnswered (new 1) (two_wait ++ ends (act.Released trans ∷ act.Granted third_trans ∷ act.Granted second_trans ∷ []) ∷ []) → ⊥
+arrivals h = turns.ungiven (last_caused _ two_wait _ h.0).1.turns
+
+conversions : IsAnswered with_file (page_waits ++ gives_page (of_client 3) ∷ []) → ⊥
+conversions h = pages.ungiven (last_caused _ page_waits _ h.0).1.turns
 
 idle_stop : IsAnswered (new 1) (begun ++ stops_idly ∷ []) → ⊥
 idle_stop h = elim (last_caused _ begun _ h.0).1.halted [ inl e ↦ (let wrong : false ≡ true = e.reaches in cc) | inr e ↦ (let wrong : false ≡ true = e.reaches in cc) ]
@@ -168,9 +208,20 @@ refused = record {
   late_grant = record { lawful = right.grants_nothing_more; unlawful = late_grant };
   early_release = record { lawful = right.keeps_what_lives; unlawful = early_release };
   waiter = record { lawful = right.grants_the_waiter; unlawful = waiter };
+  arrivals = record { lawful = turns.lawful; given = turns.given; lawful_too = turns.lawful_too; ungiven = arrivals };
+  conversions = record { lawful = pages.lawful; given = pages.given_so; lawful_too = pages.lawful_too; ungiven = conversions };
   repeat_grant = record { lawful = right.repeats_the_reply; unlawful = repeat_grant };
   repeat_reply = record { lawful = right.repeats_the_reply; unlawful = repeat_reply };
   session = record { lawful = right.ends_the_session; unlawful = session };
+  greeted = record { lawful = right.begins_a_session; unlawful = greeted };
+  unnamed = record { lawful = right.names_what_stands; unlawful = unnamed };
+  unmade = record { lawful = right.names_none_lost; unlawful = unmade };
+  named_alone = record { lawful = right.names_no_joinless; unlawful = named_alone };
+  no_clock = record { lawful = right.finds_the_old_clock; unlawful = no_clock };
+  committed_so = record { lawful = right.tells_the_commit; unlawful = committed_so };
+  aborted_so = record { lawful = right.tells_the_abort; unlawful = aborted_so };
+  running_so = record { lawful = right.tells_that_it_runs; unlawful = running_so };
+  unknown_so = record { lawful = right.tells_nothing_known; unlawful = unknown_so };
   lost = record { lawful = right.finds_the_ready; unlawful = lost };
   named_twice = record { lawful = right.finds_the_ready; unlawful = named_twice };
   idle_stop = idle_stop;

@@ -1,15 +1,24 @@
 -- Pairs of journals that differ in their last entry alone: the one keeps the laws, and the other does not.
-use Rattle.std.specs.Prelude.{ℕ, codes, true, false, List, [], ◌∷◌, ◌++◌, Some}
+use Rattle.std.specs.Prelude.{ℕ, codes, true, false, List, [], ◌∷◌, ◌++◌, Some, take}
+use Rattle.std.specs.FinMap as map
 use Rattle.alp_base.specs.declared.ids.FileId.{FileId}
 use Rattle.alp_base.specs.declared.ids.TransId.{TransId}
 use Rattle.alp_base.specs.declared.ids.JoinNo.{JoinNo}
 use Rattle.alp_base.specs.declared.ids.Stamp.{Stamp}
+use Rattle.alp_base.specs.declared.key.Key.TheVariants.{Leader, OwnerOf}
+use Rattle.alp_base.specs.declared.choices.Access.TheVariants as access
+use Rattle.alp_base.specs.declared.choices.Choice.{Choice}
 use Rattle.alp_base.specs.declared.choices.Choice.TheVariants as choice
+use Rattle.alp_modes.specs.declared.Mode.{Mode}
+use Rattle.alp_modes.specs.declared.Mode.TheVariants as mode
+use Rattle.alp_files.specs.Cells.{Cells}
+use Rattle.alp_files.specs.declared.cell.Cell.TheVariants as cell
 use Rattle.alp_files.specs.declared.cell.Props.{Props}
 use Rattle.alp_files.specs.declared.call.Call.{Call}
 use Rattle.alp_files.specs.declared.call.Call.TheVariants as call
 use Rattle.alp_files.specs.declared.reply.Reply.{Reply}
 use Rattle.alp_files.specs.declared.reply.Reply.TheVariants as reply
+use Rattle.alp_files.specs.declared.reply.Ended.{Ended as Ending}
 use Rattle.alp_files.specs.declared.reply.Ended.TheVariants as ending
 use Rattle.alp_files.specs.declared.refusal.Refusal.TheVariants as refusal
 use Rattle.alp_files.specs.declared.refusal.Cause.TheVariants as cause
@@ -19,16 +28,27 @@ use Rattle.alp_journal.specs.declared.event.Event.TheVariants as event
 use Rattle.alp_journal.specs.declared.message.Message.{Message}
 use Rattle.alp_journal.specs.declared.message.Message.TheVariants as msg
 use Rattle.alp_journal.specs.declared.entry.Entry.{Entry}
+use Rattle.alp_journal.specs.Along.{state_after}
 use Rattle.alp_journal.specs.Opening.{Start}
+use Rattle.alp_journal.specs.State.{opened}
+use Rattle.alp_journal.specs.Moves.{next}
 use Rattle.alp_journal.specs.Laws.{IsLawful}
-use Rattle.alp_journal.specs.Answered.{IsAnswered}
+use Rattle.alp_journal.specs.Answered.{IsAnswered, GivesOn}
 use Rattle.alp_history.specs.Examples.{trans, join, nothing_seen, stamp, new, calls, arrives, owner, first_up, vote, worker_up, ask, restarts}
-use Rattle.alp_history.specs.RightLog.{opening, ticks}
+use Rattle.alp_history.specs.RightLog.{opening, owner_with, ticks}
+use Rattle.alp_history.specs.RightJournals.{found_one, called}
 
 -- behind these entries the one is lawful, and the other is not
 pub record AreToldApart (o : Start) (before : List Entry) (right wrong : Entry) : Type 0 where
   pub lawful : IsLawful o (before ++ right ∷ [])
   pub unlawful : IsLawful o (before ++ wrong ∷ []) → ⊥
+
+-- behind these entries both are lawful; the one gives on what is let go in turn, and the other does not
+pub record AreTurnedApart (o : Start) (before : List Entry) (right wrong : Entry) : Type 0 where
+  pub lawful : IsLawful o (before ++ right ∷ [])
+  pub given : GivesOn (state_after next (opened o) before) right
+  pub lawful_too : IsLawful o (before ++ wrong ∷ [])
+  pub ungiven : IsAnswered o (before ++ wrong ∷ []) → ⊥
 
 abbrev pub hello : Entry
 hello = calls 0 1 (call.Hello (codes "Admin")) (reply.Welcome 1) []
@@ -168,9 +188,62 @@ one_waits =
     ∷ of_another 1 2 (call.Begin nothing_seen) (reply.Begun second_trans) (act.Drawn second_trans ∷ [])
     ∷ of_another 1 3 (call.ReadOwner second_trans (codes "ann") choice.Wait) (reply.Refused refusal.NotYet) [] ∷ []
 
+-- and so does that of a third client, behind it
+abbrev pub third_trans : TransId
+third_trans = record { server = 1; epoch = 1; counter = 3 }
+
+abbrev pub two_wait : List Entry
+two_wait =
+    one_waits
+    ++ called 3 0 1 (call.Hello (codes "Admin")) (reply.Welcome 1) []
+    ∷ called 3 1 2 (call.Begin nothing_seen) (reply.Begun third_trans) (act.Drawn third_trans ∷ [])
+    ∷ called 3 1 3 (call.ReadOwner third_trans (codes "ann") choice.Wait) (reply.Refused refusal.NotYet) [] ∷ []
+
 -- the first part ends
 abbrev pub ends : List Act → Entry
 ends acts = calls 1 4 (call.Finish trans false) (reply.Refused (refusal.Aborted cause.Asked)) acts
+
+-- ---- a page that three parts lock
+
+-- server 1 in its second epoch, with a file that an earlier run made
+abbrev pub kept_props : Props
+kept_props = record start { modify = codes "World" ∷ [] }
+
+abbrev pub with_owner : Cells
+with_owner = map.insert map.empty (OwnerOf (codes "ann")) (cell.Owner (record (owner_with 9) { charge = 2 }))
+
+abbrev pub with_file : Start
+with_file = record (new 1) { epoch = 2; cells = map.insert with_owner (Leader first_file) (cell.Leader kept_props) }
+
+-- the transaction of this client
+abbrev pub of_client : ℕ → TransId
+of_client n = record { server = 1; epoch = 2; counter = n }
+
+abbrev pub opens_file : TransId → Call
+opens_file t = call.OpenFile t first_file access.Change mode.IntendWrite choice.Fail
+
+abbrev pub locks_page : TransId → Mode → Choice → Call
+locks_page t m c = call.LockPages t 1 (record { first = 0; count = 1 }) m c
+
+-- a client opens the file
+abbrev pub has_opened : ℕ → List Entry
+has_opened n =
+    called n 0 1 (call.Hello (codes "Admin")) (reply.Welcome 2) []
+    ∷ called n 2 2 (call.Begin nothing_seen) (reply.Begun (of_client n)) (act.Drawn (of_client n) ∷ [])
+    ∷ called n 2 3 (opens_file (of_client n)) (reply.Opened 1) (act.Granted (of_client n) ∷ []) ∷ []
+
+-- One holds the page for update and another to read. A third one waits to hold it for update, and then so does the one that
+-- reads it: its request raises a mode that it holds.
+abbrev pub page_waits : List Entry
+page_waits =
+    has_opened 1 ++ called 1 2 4 (locks_page (of_client 1) mode.Update choice.Fail) reply.Plain (act.Granted (of_client 1) ∷ [])
+    ∷ has_opened 2 ++ called 2 2 4 (locks_page (of_client 2) mode.Read choice.Fail) reply.Plain (act.Granted (of_client 2) ∷ [])
+    ∷ has_opened 3 ++ called 3 2 4 (locks_page (of_client 3) mode.Update choice.Wait) (reply.Refused refusal.NotYet) []
+    ∷ called 2 2 5 (locks_page (of_client 2) mode.Update choice.Wait) (reply.Refused refusal.NotYet) [] ∷ []
+
+-- the part that holds the page for update ends, and another one gets it
+abbrev pub gives_page : TransId → Entry
+gives_page t = called 1 2 5 (call.Finish (of_client 1) false) (reply.Refused (refusal.Aborted cause.Asked)) (act.Released (of_client 1) ∷ act.Granted t ∷ [])
 
 -- ---- sessions
 
@@ -184,6 +257,36 @@ started_again = begun ++ restarts 2 0 [] [] ∷ []
 
 abbrev pub goes_on : Reply → Entry
 goes_on r = calls 2 3 (call.Outcome trans) r []
+
+-- the client greets the server that started again
+abbrev pub greets_again : ℕ → Entry
+greets_again n = calls 0 1 (call.Hello (codes "Admin")) (reply.Welcome n) []
+
+-- ---- restarts
+
+-- the device stopped inside the write of a decision with a join
+abbrev pub cut_off : List Entry
+cut_off = take 6 found_one
+
+-- and inside that of one without joins
+abbrev pub cut_alone : List Entry
+cut_alone =
+    begun
+    ++ record { event = event.Call 1 1 3 (call.Finish trans true); reply = Some (reply.Refused refusal.Down); acts = act.Decided stamp [] ∷ act.Stopped ∷ [] } ∷ []
+
+-- ---- what is told of how a transaction ended
+
+-- the client asks how its transaction ended
+abbrev pub asks_how : (epoch number : ℕ) → Ending → Entry
+asks_how epoch number x = calls epoch number (call.Outcome trans) (reply.Ended x) []
+
+-- it ended in abort, in this epoch
+abbrev pub ended_alone : List Entry
+ended_alone = begun ++ calls 1 3 (call.Finish trans false) (reply.Refused (refusal.Aborted cause.Asked)) (act.Released trans ∷ []) ∷ []
+
+-- it is of the epoch before this one, and nothing tells how it ended
+abbrev pub greeted_again : List Entry
+greeted_again = started_again ++ greets_again 2 ∷ []
 
 -- a tick in which the device stops
 abbrev pub stops_idly : Entry
@@ -224,11 +327,28 @@ pub record AreRefused : Type 0 where
   pub early_release : AreToldApart (new 1) made (ticks []) (ticks (act.Released trans ∷ []))
   -- who waits gets what is let go
   pub waiter : AreToldApart (new 1) one_waits (ends (act.Released trans ∷ act.Granted second_trans ∷ [])) (ends (act.Released trans ∷ []))
+  -- and of two of them who came first gets it first
+  pub arrivals : AreTurnedApart (new 1) two_wait (ends (act.Released trans ∷ act.Granted second_trans ∷ act.Granted third_trans ∷ [])) (ends (act.Released trans ∷ act.Granted third_trans ∷ act.Granted second_trans ∷ []))
+  -- but before one that came first goes one that holds the page already
+  pub conversions : AreTurnedApart with_file page_waits (gives_page (of_client 2)) (gives_page (of_client 3))
   -- a call that comes again brings nothing about, and gets the same reply
   pub repeat_grant : AreToldApart (new 1) made (comes_again reply.Plain []) (comes_again reply.Plain (act.Granted trans ∷ []))
   pub repeat_reply : AreToldApart (new 1) made (comes_again reply.Plain []) (comes_again (reply.Refused refusal.OwnerExists) [])
   -- no session goes on behind a restart
   pub session : AreToldApart (new 1) started_again (goes_on (reply.Refused (refusal.StaleSession 2))) (goes_on (reply.Ended ending.Unknown))
+  -- and who greets the server then begins a new one
+  pub greeted : AreToldApart (new 1) started_again (greets_again 2) (greets_again 1)
+  -- a decision that the clock shows is named, and none whose time is above the clock
+  pub unnamed : AreToldApart (new 1) cut_off (restarts 2 1 [] (stamp ∷ [])) (restarts 2 1 [] [])
+  pub unmade : AreToldApart (new 1) cut_off (restarts 2 0 [] []) (restarts 2 0 [] (stamp ∷ []))
+  -- one without joins is not named, and the clock is that of before or that of the decision
+  pub named_alone : AreToldApart (new 1) cut_alone (restarts 2 1 [] []) (restarts 2 1 [] (stamp ∷ []))
+  pub no_clock : AreToldApart (new 1) cut_alone (restarts 2 0 [] []) (restarts 2 2 [] [])
+  -- a commit is told as one, and so is an abort; of this epoch all is known, and of an older one nothing but what notes say
+  pub committed_so : AreToldApart (new 1) committed_alone (asks_how 1 4 (ending.Committed stamp)) (asks_how 1 4 ending.Aborted)
+  pub aborted_so : AreToldApart (new 1) ended_alone (asks_how 1 4 ending.Aborted) (asks_how 1 4 ending.Unknown)
+  pub running_so : AreToldApart (new 1) begun (asks_how 1 3 ending.Running) (asks_how 1 3 ending.Unknown)
+  pub unknown_so : AreToldApart (new 1) greeted_again (asks_how 2 2 ending.Unknown) (asks_how 2 2 ending.Aborted)
   -- a ready part is found again
   pub lost : AreToldApart (new 2) voted (restarts 2 0 (join ∷ []) []) (restarts 2 0 [] [])
   -- and named once

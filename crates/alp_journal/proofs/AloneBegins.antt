@@ -4,12 +4,13 @@ use Rattle.std.specs.List.{AllByRecursion}
 use Rattle.std.specs.List.Sorted.{IsPermutation}
 use Rattle.std.proofs.lemmas.Bool.{eqb-true, not-true}
 use Rattle.std.proofs.lemmas.List.Sorted.{IsPermutation-refl}
-use Rattle.std.proofs.Common.{◌≡◌, ℕ, ◌+◌, List, [], ◌∷◌, ◌++◌, refl, sym, ◌∙◌, ap, subst, eq-eqb, arith}
+use Rattle.std.proofs.Common.{inl, ◌≡◌, ℕ, ◌+◌, ◌≤◌, List, [], ◌∷◌, ◌++◌, refl, sym, ◌∙◌, ap, subst, eq-eqb, arith}
 use Rattle.alp_base.specs.declared.ids.TransId.{TransId}
 use Rattle.alp_base.specs.declared.ids.Stamp.{Stamp}
 use Rattle.alp_files.specs.Holdings.{DoAgree}
 use Rattle.alp_files.proofs.FilesLemmas.{same-some}
 use Rattle.alp_files.specs.declared.call.Call.TheVariants as call
+use Rattle.alp_files.specs.declared.reply.Reply.{Reply}
 use Rattle.alp_files.specs.declared.reply.Reply.TheVariants as reply
 use Rattle.alp_files.specs.declared.refusal.Refusal.{Refusal}
 use Rattle.alp_files.specs.declared.refusal.Cause.{Cause}
@@ -45,11 +46,11 @@ use Rattle.alp_journal.proofs.AloneEntries.{counted_as}
 runs_of : (l : Life) (f : Fate) → IsPaired (Some l) f → f ≡ Running l.client []
 runs_of l f h = h.0
 
-has_part_running : (m : State) (t : TransId) {client : ℕ} → m.fates t ≡ Running client [] → has_part m client t ≡ true
+pub has_part_running : (m : State) (t : TransId) {client : ℕ} → m.fates t ≡ Running client [] → has_part m client t ≡ true
 has_part_running m t {client} runs = ap (λ (f : Fate). is_this client (client_of f) || is_some (join_for m client t)) runs ∙ ap (λ (b : Bool). b || is_some (join_for m client t)) (eq-eqb client client refl)
 
 module _ (a : Alone) where
-  runs_live : IsSettled a → (t : TransId) (l : Life) → a.holder.lives t ≡ Some l → a.fates t ≡ Running l.client []
+  pub runs_live : IsSettled a → (t : TransId) (l : Life) → a.holder.lives t ≡ Some l → a.fates t ≡ Running l.client []
   runs_live q t l live = runs_of l (a.fates t) (subst (λ (x : Option Life). IsPaired x (a.fates t)) live (q.paired t))
 
   -- no part lives of a transaction that was not drawn, nor waits a call of it
@@ -164,7 +165,9 @@ module _ (a : Alone) (client number : ℕ) (w : Session) where
           came = came_on a.sessions client (record w { last = number; reply = reply.Begun t }) (later-come a.sessions client w (record w { last = number; reply = reply.Begun t }) there (omega (arith, turn)))
               (unburied a client) (all-filter (λ (v : Waiting). HasCome v.number (a.sessions v.client)) (λ v. not (is_buried a client v)) a.waits q.settled.came);
           apart = apart-filter (λ v. not (is_buried a client v)) a.waits q.settled.apart;
+          order = (let low : a.holder.kept ≤ a.holder.clock = q.settled.order in omega (arith, low));
         };
+        tried = inl refl;
         turns = turns-set (alone a) (alone (with_begun seen)) t fresh refl (λ u. refl) (λ k live. absurd (none_lives a q.settled t new k live)) (unburied a client) off
             (all-filter (λ (v : Waiting). IsBlocked (alone a) v (file_trans v.call)) (λ v. not (is_buried a client v)) a.waits q.turns);
       }
@@ -199,22 +202,28 @@ module _ (a : Alone) (client number : ℕ) (w : Session) where
 
   -- ---- too many transactions are live
 
-  -- the begin is refused, and the client's dead parts go
-  abbrev pub with_buried : Refusal → Alone
-  with_buried f = record (counted_as a client number w (reply.Refused f)) { dead = λ d u. if d == client then None else a.dead d u; waits = unburied a client }
+  -- the client's dead parts go as it is answered
+  abbrev pub with_buried_as : Reply → Alone
+  with_buried_as r = record (counted_as a client number w r) { dead = λ d u. if d == client then None else a.dead d u; waits = unburied a client }
 
-  buried_quiet : (f : Refusal) → IsQuiet a → a.sessions client ≡ Some w → number ≡ w.last + 1 → IsQuiet (with_buried f)
-  buried_quiet f q there turn = record {
+  -- the begin is refused, and they go
+  abbrev pub with_buried : Refusal → Alone
+  with_buried f = with_buried_as (reply.Refused f)
+
+  pub buried_quiet : (r : Reply) → IsQuiet a → a.sessions client ≡ Some w → number ≡ w.last + 1 → IsQuiet (with_buried_as r)
+  buried_quiet r q there turn = record {
     settled = record {
       agree = q.settled.agree;
       paired = q.settled.paired;
       ended = ended_fewer a.dead (λ d u. cond {A = Option Cause} (d == client) None (a.dead d u)) a.fates (λ d u c is. fewer-where (d == client) (a.dead d u) c is) q.settled.ended;
       parts = parts_unburied a client q.settled;
-      came = came_on a.sessions client (record w { last = number; reply = reply.Refused f }) (later-come a.sessions client w (record w { last = number; reply = reply.Refused f }) there (omega (arith, turn)))
+      came = came_on a.sessions client (record w { last = number; reply = r }) (later-come a.sessions client w (record w { last = number; reply = r }) there (omega (arith, turn)))
           (unburied a client) (all-filter (λ (v : Waiting). HasCome v.number (a.sessions v.client)) (λ v. not (is_buried a client v)) a.waits q.settled.came);
       apart = apart-filter (λ v. not (is_buried a client v)) a.waits q.settled.apart;
+      order = q.settled.order;
     };
-    turns = turns-without (is_buried a client) (alone a) (alone (with_buried f)) refl refl q.turns;
+    turns = turns-without (is_buried a client) (alone a) (alone (with_buried_as r)) refl refl q.turns;
+    tried = inl refl;
   }
 
   pub begin_refused_leads : (seen : Stamp) (f : Refusal) → IsQuiet a → a.is_down ≡ false → a.sessions client ≡ Some w → number ≡ w.last + 1 → too_many (alone a) ≡ Some f
@@ -236,7 +245,7 @@ module _ (a : Alone) (client number : ℕ) (w : Session) where
         said = tt;
         tells = tt;
         regained = refl;
-        quiet = buried_quiet f q there turn;
+        quiet = buried_quiet (reply.Refused f) q there turn;
         answer = subst (λ (x : Option Refusal). First x (reply.Refused f) (reply.Refused f ≡ reply.Begun (next_trans (alone a)))) (sym many) refl;
         mail = (refl, refl);
         turns = tt;

@@ -146,7 +146,9 @@ module _ (a : Alone) (client number : ℕ) (w : Session) (t : TransId) (l : Life
       parts = parts-kept a.holder.lives a.dead t l (life_after under) live refl ws q.settled.parts;
       came = came_on a.sessions client (record w { last = number; reply = r }) (later-come a.sessions client w (record w { last = number; reply = r }) there (omega (arith, turn))) ws q.settled.came;
       apart = q.settled.apart;
+      order = q.settled.order;
     };
+    tried = inl refl;
     turns = turns-set (alone (record a { waits = ws })) (alone (record (with_call under locks) { waits = ws })) t (life_after under) refl (λ u. refl)
         (λ k at. subst (λ (y : Life). IsMore y.held (with_made under (id_in r))) (same-some l k (sym live ∙ at)) (λ q m c. joined-more under (needs_made (id_in r)) q m (above q m c))) ws off q.turns;
   }

@@ -6,7 +6,7 @@ use Rattle.std.specs.FinMap.Entries.{put, find-put}
 use Rattle.std.specs.Ordering.{is_eq}
 use Rattle.std.specs.declared.cmp.Ordering.{Ordering}
 use Rattle.std.proofs.lemmas.List.{append-nil}
-use Rattle.std.proofs.Common.{◌≡◌, ℕ, ◌+◌, List, [], ◌∷◌, ◌++◌, refl, sym, ◌∙◌, ap, subst, eq-eqb, arith}
+use Rattle.std.proofs.Common.{◌≡◌, ℕ, ◌+◌, List, [], ◌∷◌, ◌++◌, refl, sym, ◌∙◌, ap, subst, eq-eqb, arith, le_refl}
 use Rattle.alp_base.specs.declared.ids.TransId.{TransId}
 use Rattle.alp_base.specs.declared.ids.Stamp.{Stamp}
 use Rattle.alp_files.specs.Edits.{Edit, edits_map}
@@ -37,7 +37,7 @@ use Rattle.alp_journal.specs.Alone.{Alone, alone, IsSettled, IsQuiet, IsPaired, 
 use Rattle.alp_journal.proofs.IdLemmas.{same_trans-itself}
 use Rattle.alp_journal.proofs.StampLemmas.{stamps_total, itself}
 use Rattle.alp_journal.proofs.TurnLemmas.{given-frame}
-use Rattle.alp_journal.proofs.QuietLemmas.{agree_without, paired_set, has_ended, ended_moved, parts-gone, none-on, quiet_told}
+use Rattle.alp_journal.proofs.QuietLemmas.{none_tried, agree_without, paired_set, has_ended, ended_moved, parts-gone, none-on, quiet_told}
 use Rattle.alp_journal.proofs.AloneLemmas.{call_entry}
 use Rattle.alp_journal.proofs.AloneEntries.{own_at_work, counted_as}
 use Rattle.alp_journal.proofs.LetGoLemmas.{let_go, GoesOn, let_go_quiet, no_file_call, finish_leads}
@@ -110,6 +110,7 @@ module _ (a : Alone) (client number : ℕ) (w : Session) (t : TransId) (l : Life
     parts = parts-gone a.holder.lives a.dead t None a.waits off q.parts;
     came = q.came;
     apart = q.apart;
+    order = le_refl (max a.holder.clock (a.holder.clock + 1));
   }
 
   -- at its turn the fate is that of a transaction that its client finished
@@ -195,6 +196,7 @@ module _ (a : Alone) (client number : ℕ) (w : Session) (t : TransId) (l : Life
       let back : List Deed = Finishes t ∷ Decides commit_stamp [] ∷ Releases t ∷ [] in
       let goes : GoesOn a committed.holder committed.fates committed.dead committed.locked ev front back ts = record {
         before = q.settled;
+        none_tried = none_tried a q up;
         settled = settled_committed q.settled runs (none-on a.holder.lives a.dead client t l live own a.waits q.settled.parts idle);
         was = lived_on a.holder t;
         walk = walk;

@@ -32,7 +32,7 @@ use Rattle.alp_journal.specs.Answers.{Part, part_at, at_part, finish_reply, vote
 use Rattle.alp_journal.specs.Alone.{Alone, alone, IsSettled, IsQuiet, IsPaired, granted_calls, with_granted, grant_acts, Leads}
 use Rattle.alp_journal.proofs.IdLemmas.{same_trans-itself}
 use Rattle.alp_journal.proofs.WaitLemmas.{without-given}
-use Rattle.alp_journal.proofs.QuietLemmas.{agree_without, paired_set, has_ended, ended_moved, ended_told, AreOfParts, parts-told, with_session_of, quiet_told, forgotten_part, quiet_forgotten}
+use Rattle.alp_journal.proofs.QuietLemmas.{none_tried, agree_without, paired_set, has_ended, ended_moved, ended_told, AreOfParts, parts-told, with_session_of, quiet_told, forgotten_part, quiet_forgotten}
 use Rattle.alp_journal.proofs.GivenLemmas.{LivedBefore}
 use Rattle.alp_journal.proofs.AloneLemmas.{call_entry}
 use Rattle.alp_journal.proofs.AloneEntries.{own_at_work, counted_as, without_dead}
@@ -71,6 +71,7 @@ module _ (a : Alone) (owner : ℕ) (t : TransId) (l : Life) (c : Cause) where
         parts = subst (λ (n : ℕ). AreOfParts part_ended.holder.lives (λ d u. cond {A = Option Cause} (d == n && same_trans u t) (Some c) (a.dead d u)) a.waits) own (parts-told a.holder.lives a.dead t l c live a.waits q.parts);
         came = q.came;
         apart = q.apart;
+        order = q.order;
       }
 
   -- nothing but the part's end comes of it
@@ -151,6 +152,7 @@ module _ (a : Alone) (client number : ℕ) (w : Session) (t : TransId) (l : Life
       let ev : Event = finish_event a ended.holder ended.fates ended.dead ended.locked client number w t false told in
       let goes : GoesOn a ended.holder ended.fates ended.dead ended.locked ev front back ts = record {
         before = q.settled;
+        none_tried = none_tried a q up;
         settled = settled_ended a client t l c q.settled live own;
         was = lived_on a.holder t;
         walk = walk;
@@ -194,6 +196,7 @@ module _ (a : Alone) (client number : ℕ) (w : Session) (t : TransId) (l : Life
       let ev : Event = finish_event a ended.holder ended.fates ended.dead ended.locked client number w t true told in
       let goes : GoesOn a ended.holder ended.fates ended.dead ended.locked ev front back ts = record {
         before = q.settled;
+        none_tried = none_tried a q up;
         settled = settled_ended a client t l c q.settled live own;
         was = lived_on a.holder t;
         walk = walk;

@@ -1,5 +1,5 @@
 -- entries of a server that runs alone whose device stopped or failed
-use Rattle.std.specs.Prelude.{cond, Bool, true, false, is_none, ◌&&◌, ◌||◌, flat_map, Option, None, Some}
+use Rattle.std.specs.Prelude.{cond, Bool, true, false, is_none, ◌&&◌, ◌||◌, ◌==◌, flat_map, Option, None, Some}
 use Rattle.std.specs.List.{list_any, AllByRecursion}
 use Rattle.std.specs.List.Sorted.{IsPermutation}
 use Rattle.std.proofs.Common.{inl, inr, ◌≡◌, ◌⊎◌, ℕ, ◌+◌, List, [], ◌∷◌, ◌++◌, refl, sym, ◌∙◌, ap, subst, eq-eqb}
@@ -11,6 +11,8 @@ use Rattle.alp_files.specs.declared.reply.Reply.{Reply}
 use Rattle.alp_files.specs.declared.reply.Reply.TheVariants as reply
 use Rattle.alp_files.specs.declared.refusal.Refusal.{Refusal}
 use Rattle.alp_files.specs.declared.refusal.Refusal.TheVariants as refusal
+use Rattle.alp_files.specs.declared.refusal.Why.{Why}
+use Rattle.alp_files.specs.declared.refusal.Why.TheVariants as why
 use Rattle.alp_files.specs.declared.refusal.Cause.{Cause}
 use Rattle.alp_journal.specs.declared.act.Act.{Act}
 use Rattle.alp_journal.specs.declared.act.Act.TheVariants as act
@@ -22,14 +24,15 @@ use Rattle.alp_journal.specs.Deeds.{Deed, Finishes, Decides}
 use Rattle.alp_journal.specs.Coordinator.{Fate, Running}
 use Rattle.alp_journal.specs.Holder.{Life}
 use Rattle.alp_journal.specs.Desk.{Session, Waiting, file_trans, waiting_of, waiting_at}
+use Rattle.alp_journal.specs.Counts.{ready_sum}
 use Rattle.alp_journal.specs.State.{State, state_deed}
 use Rattle.alp_journal.specs.Halts.{HaltsRight, written, by_call, by_finish, decides, is_some_act, writes, may_read, may_read_for, is_part_alive, is_part_at_work, is_performed_now}
 use Rattle.alp_journal.specs.Moves.{call_of, finishes, is_new, is_stop, tried, told, halted, next, call_deeds, answered, done_of, done_by}
 use Rattle.alp_journal.specs.Laws.{IsLawfulDeed, KeepsSessions, CallsOn, DoLivesAgree, ReleasesEnded, WaitsInTurn, IsStopped, TellsStop, SaysRight, drawn_by, granted_by, regained_by, sends_last}
-use Rattle.alp_journal.specs.Messages.{why_not_own, due, sent_by}
+use Rattle.alp_journal.specs.Messages.{clock_end, no_room, first_why, weights, all_ready, applying, why_not_own, due, sent_by}
 use Rattle.alp_journal.specs.Answered.{is_release, CountsVotes, ForgetsDone, IsWalk, in_turn, at_release, GrantsAtOnce}
 use Rattle.alp_journal.specs.Answers.{part_refusal, AnswersCall}
-use Rattle.alp_journal.specs.Alone.{Alone, alone, IsQuiet, IsPaired, Leads}
+use Rattle.alp_journal.specs.Alone.{Alone, alone, IsQuiet, HasTried, IsPaired, Leads}
 use Rattle.alp_journal.proofs.QuietLemmas.{quiet_down}
 use Rattle.alp_journal.proofs.AloneLemmas.{call_entry, new_call, call_tried, calls_on}
 use Rattle.alp_journal.proofs.AloneEntries.{IsFileCall, file_call}
@@ -38,6 +41,14 @@ use Rattle.alp_journal.proofs.AloneCommits.{commit_stamp, decides_lawful, finish
 cond_same : {A : Type 0} (b : Bool) (x : A) → cond {A = A} b x x ≡ x
 cond_same true x = refl
 cond_same false x = refl
+
+-- who votes for a commit has a clock that is not at its end
+vote_within : (s : State) (t : TransId) → why_not_own false s t ≡ None → (s.holder.clock == clock_end) ≡ false
+vote_within s t may = go (s.holder.clock == clock_end) (no_room s.sizes.area (ready_sum (weights s (all_ready s)) 0) (ready_sum (weights s (all_ready s)) (applying s t))) may
+  where
+    go : (b : Bool) (full : Option Why) → first_why false false b full ≡ None → b ≡ false
+    go true full is = let wrong : Some why.ClockEnd ≡ None = is in cc
+    go false full is = refl
 
 module _ (a : Alone) (client number : ℕ) (w : Session) where
   -- the server is down, and what was tried is to be seen at the restart
@@ -56,6 +67,7 @@ module _ (a : Alone) (client number : ℕ) (w : Session) where
     pub stopped : IsStopped acts
     pub released : list_any is_release acts ≡ false
     pub halted : HaltsRight (alone a) (call_entry a client number w c (reply.Refused refusal.Down) acts)
+    pub tried : HasTried a.holder a.ids.epoch true (tried (alone a) (call_entry a client number w c (reply.Refused refusal.Down) acts))
 
   pub halt_leads : (c : Call) (acts : List Act) → IsQuiet a → a.is_down ≡ false → a.sessions client ≡ Some w → number ≡ w.last + 1 → HaltOwes c acts
       → Leads false a (call_entry a client number w c (reply.Refused refusal.Down) acts) (with_halt (call_entry a client number w c (reply.Refused refusal.Down) acts))
@@ -90,7 +102,7 @@ module _ (a : Alone) (client number : ℕ) (w : Session) where
           grants = subst (λ (b : Bool). Where b (Unit {0}) (GrantsAtOnce false s e ev (Some r))) (sym o.stops) tt;
           halted = subst (λ (b : Bool). Where b (HaltsRight s e) (Unit {0})) (sym o.stops) o.halted;
         };
-        quiet = quiet_down a true (tried s e) q;
+        quiet = quiet_down a true (tried s e) q o.tried;
       }
     where
       either : (b : Bool) → Where b (Unit {0}) (Unit {0})
@@ -110,6 +122,7 @@ module _ (a : Alone) (client number : ℕ) (w : Session) where
         stops = refl;
         drawn = refl;
         deeds = subst (Along state_deed (IsLawfulDeed ev) (alone a)) (sym (call_tried a client number w c (reply.Refused refusal.Down) (act.Stopped ∷ []) there turn ∙ none)) tt;
+        tried = inl (call_tried a client number w c (reply.Refused refusal.Down) (act.Stopped ∷ []) there turn ∙ none);
         sent = refl;
         said = λ m. (tt, tt);
         regained = refl;
@@ -147,6 +160,7 @@ module _ (a : Alone) (client number : ℕ) (w : Session) where
         stops = refl;
         drawn = refl;
         deeds = subst (Along state_deed (IsLawfulDeed ev) (alone a)) (sym (call_tried a client number w (call.Collect n) (reply.Refused refusal.Down) (act.Stopped ∷ []) there turn ∙ none)) tt;
+        tried = inl (call_tried a client number w (call.Collect n) (reply.Refused refusal.Down) (act.Stopped ∷ []) there turn ∙ none);
         sent = refl;
         said = λ m. (tt, tt);
         regained = refl;
@@ -209,6 +223,10 @@ module _ (a : Alone) (client number : ℕ) (w : Session) where
         lawful y is = subst (Along state_deed (IsLawfulDeed (event.Call client a.ids.epoch number (call.Finish t true))) (alone a)) (sym is)
             (finishes_lawful a client number w t l, (decides_lawful a client number w t l runs here now live pair.1 idle, tt))
 
+        as_tried : (y : Act) → tried (alone a) (call_entry a client number w (call.Finish t true) (reply.Refused refusal.Down) (act.Decided (commit_stamp a client number w t l) [] ∷ y ∷ [])) ≡ Finishes t ∷ Decides (commit_stamp a client number w t l) [] ∷ []
+            → HasTried a.holder a.ids.epoch true (tried (alone a) (call_entry a client number w (call.Finish t true) (reply.Refused refusal.Down) (act.Decided (commit_stamp a client number w t l) [] ∷ y ∷ [])))
+        as_tried y is = inr (record { stamp = stamp; life = l; tried = is; down = refl; time = refl; within = vote_within (alone a) t may; own = here; now = now; live = live })
+
         go : (x : Act) → IsStop x → Leads false a (call_entry a client number w (call.Finish t true) (reply.Refused refusal.Down) (act.Decided (commit_stamp a client number w t l) [] ∷ x ∷ []))
             (with_halt (call_entry a client number w (call.Finish t true) (reply.Refused refusal.Down) (act.Decided (commit_stamp a client number w t l) [] ∷ x ∷ [])))
         go x (inl e) = subst (λ (y : Act). Leads false a (call_entry a client number w (call.Finish t true) (reply.Refused refusal.Down) (act.Decided (commit_stamp a client number w t l) [] ∷ y ∷ []))
@@ -217,6 +235,7 @@ module _ (a : Alone) (client number : ℕ) (w : Session) where
               greets = λ n h. h;
               stops = refl;
               drawn = refl;
+              tried = as_tried act.Stopped (call_tried a client number w (call.Finish t true) (reply.Refused refusal.Down) (act.Decided (commit_stamp a client number w t l) [] ∷ act.Stopped ∷ []) there turn ∙ commit_brought runs idle);
               deeds = lawful act.Stopped (call_tried a client number w (call.Finish t true) (reply.Refused refusal.Down) (act.Decided (commit_stamp a client number w t l) [] ∷ act.Stopped ∷ []) there turn ∙ commit_brought runs idle);
               sent = refl;
               said = λ m. (tt, (tt, tt));
@@ -234,6 +253,7 @@ module _ (a : Alone) (client number : ℕ) (w : Session) where
               greets = λ n h. h;
               stops = refl;
               drawn = refl;
+              tried = as_tried act.Failed (call_tried a client number w (call.Finish t true) (reply.Refused refusal.Down) (act.Decided (commit_stamp a client number w t l) [] ∷ act.Failed ∷ []) there turn ∙ commit_brought runs idle);
               deeds = lawful act.Failed (call_tried a client number w (call.Finish t true) (reply.Refused refusal.Down) (act.Decided (commit_stamp a client number w t l) [] ∷ act.Failed ∷ []) there turn ∙ commit_brought runs idle);
               sent = refl;
               said = λ m. (tt, (tt, tt));

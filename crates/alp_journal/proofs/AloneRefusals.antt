@@ -55,7 +55,9 @@ module _ (a : Alone) (client number : ℕ) (w : Session) (t : TransId) (l : Life
       parts = parts-kept a.holder.lives a.dead t l under live refl a.waits q.settled.parts;
       came = came_on a.sessions client (record w { last = number; reply = reply.Refused f }) (later-come a.sessions client w (record w { last = number; reply = reply.Refused f }) there (omega (arith, turn))) a.waits q.settled.came;
       apart = q.settled.apart;
+      order = q.settled.order;
     };
+    tried = inl refl;
     turns = turns-set (alone a) (alone with_locks) t under refl (λ u. refl)
         (λ k at. subst (λ (y : Life). IsMore y.held under.held) (same-some l k (sym live ∙ at)) (granted-more l.held (needs_of (view_in a.holder l) l.own c))) a.waits off q.turns;
   }

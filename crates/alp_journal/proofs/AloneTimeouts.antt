@@ -29,7 +29,7 @@ use Rattle.alp_journal.specs.Laws.{IsLawfulDeed, DoLivesAgree, ReleasesEnded, Wa
 use Rattle.alp_journal.specs.Messages.{Mail, on_timeout, due, sent_by}
 use Rattle.alp_journal.specs.Answered.{CountsVotes, ForgetsDone, IsWalk, GivesOn, in_turn}
 use Rattle.alp_journal.specs.Alone.{Alone, alone, IsQuiet, IsPaired, granted_calls, with_granted, grant_acts, grant_deeds, Leads}
-use Rattle.alp_journal.proofs.QuietLemmas.{quiet_down}
+use Rattle.alp_journal.proofs.QuietLemmas.{quiet_up, none_tried}
 use Rattle.alp_journal.proofs.AloneLemmas.{silent_last, quiet_votes, quiet_forgets}
 use Rattle.alp_journal.proofs.LetGoLemmas.{none-behind, no-one-behind, GoesOn, let_go_quiet, let_go_reached, let_go_lawful, let_go_brought, let_go_released, let_go_granted, let_go_said, let_go_turns}
 use Rattle.alp_journal.proofs.AloneEnds.{lived_on, part_ended, runs_as, fate_ended, settled_ended, ends_lawful, releases_lawful}
@@ -100,7 +100,7 @@ module _ (a : Alone) (t : TransId) where
   pub idle_leads : IsQuiet a → a.is_down ≡ false → a.holder.lives t ≡ None → Leads false a (timeout_entry []) as_it_was
   idle_leads q up none =
       let over = not_running (a.holder.lives t) (a.fates t) none (q.settled.paired t) in
-      timeout_so [] [] as_it_was refl up refl (ap (λ (x : Option ℕ). times_out_here t x ++ [] ++ [] ++ []) over.0) refl tt refl refl (λ x. tt) refl (quiet_down a false [] q) over.1 refl tt
+      timeout_so [] [] as_it_was refl up refl (ap (λ (x : Option ℕ). times_out_here t x ++ [] ++ [] ++ []) over.0) refl tt refl refl (λ x. tt) refl (quiet_up a q) over.1 refl tt
 
   -- else its part ends, and its client is to be told
   module _ (l : Life) where
@@ -133,6 +133,7 @@ module _ (a : Alone) (t : TransId) where
         let ev : Event = event.Timeout t in
         let goes : GoesOn a ended.holder ended.fates ended.dead ended.locked ev front back ts = record {
           before = q.settled;
+          none_tried = none_tried a q up;
           settled = settled_ended a l.client t l cause.TimedOut q.settled live refl;
           was = lived_on a.holder t;
           walk = walk;
@@ -161,6 +162,6 @@ module _ (a : Alone) (t : TransId) where
         (let_go_granted a ended.holder ended.fates ended.dead ended.locked ev front back ts goes)
         (let_go_said a ended.holder ended.fates ended.dead ended.locked ev front back ts goes)
         (no-one-behind regained_by front ts (λ u. refl) refl)
-        (quiet_down (with_granted ended (granted_calls a.waits ts)) false [] (let_go_quiet a ended.holder ended.fates ended.dead ended.locked ev front back ts goes))
+        (quiet_up (with_granted ended (granted_calls a.waits ts)) (let_go_quiet a ended.holder ended.fates ended.dead ended.locked ev front back ts goes))
         (ap (on_timeout t) runs) (none-behind sent_by front ts [] (λ u. refl) refl)
         (let_go_turns a ended.holder ended.fates ended.dead ended.locked ev front back ts goes (timeout_entry (front ++ grant_acts ts)) refl refl own)

@@ -2,7 +2,7 @@
 use Rattle.std.specs.Prelude.{cond, Bool, true, false, ◌&&◌, ◌==◌, is_some, is_none, Option, None, Some}
 use Rattle.std.specs.Option.{option_or}
 use Rattle.std.proofs.lemmas.Bool.{eqb-true, ne_eqb}
-use Rattle.std.proofs.Common.{inr, ◌≡◌, ℕ, ◌+◌, ◌≤◌, List, [], ◌∷◌, ◌++◌, refl, sym, ◌∙◌, ap, subst, eq-eqb, arith, le_refl}
+use Rattle.std.proofs.Common.{inl, inr, ◌≡◌, ℕ, ◌+◌, ◌≤◌, List, [], ◌∷◌, ◌++◌, refl, sym, ◌∙◌, ap, subst, eq-eqb, arith, le_refl}
 use Rattle.alp_base.specs.declared.ids.TransId.{TransId}
 use Rattle.alp_base.specs.declared.choices.Choice.TheVariants as choice
 use Rattle.alp_files.proofs.FilesLemmas.{same-some}
@@ -73,7 +73,9 @@ module _ (a : Alone) (client number : ℕ) (w : Session) (t : TransId) (l : Life
         apart = apart-last a.waits waiter q.settled.apart
             (all-both (λ v. is_on_trans t v ≡ false) (λ (v : Waiting). HasCome v.number (a.sessions v.client)) (λ v. AreTwo v waiter) (λ v o h. two v o h) a.waits
             (none-on a.holder.lives a.dead client t l live own a.waits q.settled.parts idle) q.settled.came);
+        order = q.settled.order;
       };
+      tried = inl refl;
       turns = all-append (λ (v : Waiting). IsBlocked (alone with_wait) v (file_trans v.call)) a.waits (waiter ∷ [])
           (all-map (λ (v : Waiting). IsBlocked (alone a) v (file_trans v.call)) (λ (v : Waiting). IsBlocked (alone with_wait) v (file_trans v.call)) (λ v b. blocked-as (alone a) (alone with_wait) v (file_trans v.call) refl b) a.waits q.turns)
           (subst (IsBlocked (alone with_wait) waiter) (sym named) (λ wait k at its free. taken (subst (λ (y : Life). IsFree a.holder t y c) (same-some k l (sym at ∙ live)) free)), tt);

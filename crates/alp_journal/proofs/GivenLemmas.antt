@@ -3,7 +3,7 @@ use Rattle.std.specs.Prelude.{cond, Bool, true, false, ◌||◌, is_none, flat_m
 use Rattle.std.specs.Option.{option_or}
 use Rattle.std.specs.List.{list_any, AllByRecursion}
 use Rattle.std.proofs.lemmas.List.{append-nil}
-use Rattle.std.proofs.Common.{inl, ◌≡◌, ℕ, List, [], ◌∷◌, ◌++◌, refl, sym, ◌∙◌, ap, subst}
+use Rattle.std.proofs.Common.{inl, ◌≡◌, ℕ, ◌≤◌, List, [], ◌∷◌, ◌++◌, refl, sym, ◌∙◌, ap, subst}
 use Rattle.alp_base.specs.declared.ids.TransId.{TransId}
 use Rattle.alp_files.specs.Holdings.{DoAgree}
 use Rattle.alp_files.proofs.HoldingLemmas.{agree-turned}
@@ -98,6 +98,7 @@ module _ (m : Alone) (x : TransId × Call) where
             (subst (λ (y : Option Life). AreOfParts (grants m.holder x.0 x.1 y).lives m.dead m.waits) (sym now.live) (parts-kept m.holder.lives m.dead x.0 l under now.live refl m.waits q.parts));
         came = all-granted (λ (w : Waiting). HasCome w.number (m.sessions w.client)) (λ w b h. h) x.0 m.waits q.came;
         apart = apart-granted x.0 m.waits q.apart;
+        order = subst (λ (y : Option Life). (grants m.holder x.0 x.1 y).kept ≤ (grants m.holder x.0 x.1 y).clock) (sym now.live) q.order;
       }
     where
       part-granted : (w : Waiting) (b : Bool) (y : Option TransId) → IsOfPart (grants m.holder x.0 x.1 (m.holder.lives x.0)).lives m.dead w y
@@ -173,8 +174,8 @@ module _ (m : Alone) (ts : List TransId) (q : IsSettled m) (walk : IsWalk m.hold
       (subst (λ (us : List TransId). AllByRecursion (IsPassed (holder_granted m.holder given) us) m.waits) (sym walk-grants)
       (all-turned-back (IsPassed (holder_granted m.holder given) ts) converts m.waits (walk-blocks m.waits m.holder (in_turn m.holder m.waits) ts walk only_in_turn))))
 
-  pub quiet-given : IsQuiet (with_granted m given)
-  quiet-given = record { settled = settled-given given m q walk-is-free; turns = turns-given }
+  pub quiet-given : m.pending ≡ [] → IsQuiet (with_granted m given)
+  quiet-given none = record { settled = settled-given given m q walk-is-free; turns = turns-given; tried = inl none }
 
   pub lawful-walk : (e : Event) → Along state_deed (IsLawfulDeed e) (alone m) (grant_deeds given)
   lawful-walk e = lawful-given e given m q walk-is-free

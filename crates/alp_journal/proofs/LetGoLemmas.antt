@@ -81,6 +81,7 @@ module _ (a : Alone) (h : Holder) (fates : TransId → Fate) (dead : ℕ → Tra
 
   pub record GoesOn (e : Event) (front : List Act) (back : List Deed) (ts : List TransId) : Type 0 where
     pub before : IsSettled a
+    pub none_tried : a.pending ≡ []
     pub settled : IsSettled let_go
     pub was : LivedBefore a.holder h
     pub walk : IsWalk h (in_turn h a.waits) ts
@@ -101,7 +102,7 @@ module _ (a : Alone) (h : Holder) (fates : TransId → Fate) (dead : ℕ → Tra
     given_deeds = grant_deeds (granted_calls a.waits ts)
 
     pub let_go_quiet : IsQuiet (given_on ts)
-    let_go_quiet = quiet-given let_go ts o.settled o.walk
+    let_go_quiet = quiet-given let_go ts o.settled o.walk o.none_tried
 
     pub let_go_reached : state_after state_deed (alone a) (back ++ given_deeds) ≡ alone (given_on ts)
     let_go_reached = state-append back given_deeds (alone a) ∙ ap (λ (s : State). state_after state_deed s given_deeds) o.reached ∙ state-given (granted_calls a.waits ts) let_go

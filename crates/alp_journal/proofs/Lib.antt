@@ -16,12 +16,17 @@ pub mod AloneEnds
 pub mod AloneTimeouts
 pub mod AloneCommits
 pub mod AloneHalts
+pub mod AloneRestarts
+pub mod AloneTicks
+pub mod AloneOutcomes
+pub mod AloneJoins
 pub mod LeftBehind
 pub mod HistoryOrder
 pub mod LifeLemmas
 pub mod OneServer
 pub mod Origins
 pub mod MadeIds
+pub mod FoundLemmas
 pub mod HeldLemmas
 pub mod ReachedLemmas
 pub mod RefusedLemmas

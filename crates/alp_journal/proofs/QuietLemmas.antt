@@ -2,7 +2,7 @@
 use Rattle.std.specs.Prelude.{cond, Bool, true, false, not, ◌&&◌, ◌==◌, find, Option, None, Some, IsSome, if◌then◌else◌}
 use Rattle.std.specs.List.{AllByRecursion}
 use Rattle.std.proofs.lemmas.Bool.{eqb-true, not-true}
-use Rattle.std.proofs.Common.{◌≡◌, ℕ, ◌≤◌, List, [], refl, sym, ◌∙◌, ap, subst, eq-eqb, arith}
+use Rattle.std.proofs.Common.{inl, inr, ◌≡◌, ℕ, ◌≤◌, List, [], refl, sym, ◌∙◌, ap, subst, eq-eqb, arith}
 use Rattle.alp_base.specs.declared.ids.JoinNo.{JoinNo}
 use Rattle.alp_base.specs.declared.ids.TransId.{TransId}
 use Rattle.alp_files.specs.Holdings.{DoAgree}
@@ -17,7 +17,7 @@ use Rattle.alp_journal.specs.Holder.{Life}
 use Rattle.alp_journal.specs.Desk.{Session, Waiting, file_trans, is_of_part, without}
 use Rattle.alp_journal.specs.State.{State}
 use Rattle.alp_journal.specs.Laws.{DoLivesAgree, HasEnded, IsHolding, IsBlocked, WaitsInTurn}
-use Rattle.alp_journal.specs.Alone.{Alone, alone, IsPaired, IsSettled, IsQuiet, IsPartOf, IsOfPart, HasCome, is_on_trans}
+use Rattle.alp_journal.specs.Alone.{Alone, alone, IsPaired, IsSettled, IsQuiet, HasTried, IsPartOf, IsOfPart, HasCome, is_on_trans}
 use Rattle.alp_journal.proofs.IdLemmas.{same_trans-true, same_trans-itself, all-filter}
 use Rattle.alp_journal.proofs.MadeIds.{all-map}
 use Rattle.alp_journal.proofs.WaitLemmas.{turned, passing, none-found, all-both, on-is, on_own, of_part_on, of_own_part, apart-filter}
@@ -201,12 +201,23 @@ turns-as s m same list h =
 
 -- ---- the whole
 
--- it is up or down
-pub quiet_down : (a : Alone) (b : Bool) (ds : List Deed) → IsQuiet a → IsQuiet (record a { is_down = b; pending = ds })
-quiet_down a b ds q = record {
-  settled = record { agree = q.settled.agree; paired = q.settled.paired; ended = q.settled.ended; parts = q.settled.parts; came = q.settled.came; apart = q.settled.apart };
+-- it is up, or down with what it tried
+pub quiet_down : (a : Alone) (b : Bool) (ds : List Deed) → IsQuiet a → HasTried a.holder a.ids.epoch b ds → IsQuiet (record a { is_down = b; pending = ds })
+quiet_down a b ds q tried = record {
+  settled = record { agree = q.settled.agree; paired = q.settled.paired; ended = q.settled.ended; parts = q.settled.parts; came = q.settled.came; apart = q.settled.apart; order = q.settled.order };
   turns = turns-as (alone a) (alone (record a { is_down = b; pending = ds })) refl refl q.turns;
+  tried = tried;
 }
+
+pub quiet_up : (a : Alone) → IsQuiet a → IsQuiet (record a { is_down = false; pending = [] })
+quiet_up a q = quiet_down a false [] q (inl refl)
+
+-- nothing is to be seen at a restart of a server that is up
+pub none_tried : (a : Alone) → IsQuiet a → a.is_down ≡ false → a.pending ≡ []
+none_tried a q up = elim q.tried [
+  | inl none ↦ none
+  | inr c ↦ absurd (let wrong : false ≡ true = sym up ∙ c.down in cc)
+]
 
 abbrev pub with_session_of : Alone → ℕ → Session → Alone
 with_session_of a client v = record a { sessions = λ c. if c == client then Some v else a.sessions c; is_down = false; pending = [] }
@@ -224,10 +235,10 @@ came_on sessions client v keeps ws h = all-map (λ (w : Waiting). HasCome w.numb
         go false e = p
 
 settled_session : (a : Alone) (client : ℕ) (v : Session) → ((n : ℕ) → HasCome n (a.sessions client) → n ≤ v.last) → IsSettled a → IsSettled (with_session_of a client v)
-settled_session a client v keeps q = record { agree = q.agree; paired = q.paired; ended = q.ended; parts = q.parts; came = came_on a.sessions client v keeps a.waits q.came; apart = q.apart }
+settled_session a client v keeps q = record { agree = q.agree; paired = q.paired; ended = q.ended; parts = q.parts; came = came_on a.sessions client v keeps a.waits q.came; apart = q.apart; order = q.order }
 
 pub quiet_session : (a : Alone) (client : ℕ) (v : Session) → ((n : ℕ) → HasCome n (a.sessions client) → n ≤ v.last) → IsQuiet a → IsQuiet (with_session_of a client v)
-quiet_session a client v keeps q = record { settled = settled_session a client v keeps q.settled; turns = turns-as (alone a) (alone (with_session_of a client v)) refl refl q.turns }
+quiet_session a client v keeps q = record { settled = settled_session a client v keeps q.settled; turns = turns-as (alone a) (alone (with_session_of a client v)) refl refl q.turns; tried = inl refl }
 
 -- the session goes on to a later call
 pub later-come : (sessions : ℕ → Option Session) (client : ℕ) (w v : Session) → sessions client ≡ Some w → w.last ≤ v.last → (n : ℕ) → HasCome n (sessions client) → n ≤ v.last
@@ -245,6 +256,7 @@ settled_without p a q = record {
   parts = all-filter (λ (w : Waiting). IsOfPart a.holder.lives a.dead w (file_trans w.call)) (λ w. not (p w)) a.waits q.parts;
   came = all-filter (λ (w : Waiting). HasCome w.number (a.sessions w.client)) (λ w. not (p w)) a.waits q.came;
   apart = apart-filter (λ w. not (p w)) a.waits q.apart;
+  order = q.order;
 }
 
 pub turns-without : (p : Waiting → Bool) (s m : State) → m.holder ≡ s.holder → m.desk.waits ≡ without p s.desk.waits → WaitsInTurn s → WaitsInTurn m
@@ -254,7 +266,7 @@ turns-without p s m same list h = turns-as (record s { desk = record s.desk { wa
     (all-filter (λ (w : Waiting). IsBlocked s w (file_trans w.call)) (λ w. not (p w)) s.desk.waits h))
 
 pub quiet_without : (p : Waiting → Bool) (a : Alone) → IsQuiet a → IsQuiet (record a { waits = without p a.waits })
-quiet_without p a q = record { settled = settled_without p a q.settled; turns = turns-without p (alone a) (alone (record a { waits = without p a.waits })) refl refl q.turns }
+quiet_without p a q = record { settled = settled_without p a q.settled; turns = turns-without p (alone a) (alone (record a { waits = without p a.waits })) refl refl q.turns; tried = q.tried }
 
 -- a client's part that ended is not known any more
 abbrev pub forgotten_part : ℕ → TransId → Alone → Alone
@@ -271,6 +283,8 @@ quiet_forgotten client t a q =
         parts = parts-forgotten a.holder.lives a.dead client t a.waits q.settled.parts;
         came = fewer.came;
         apart = fewer.apart;
+        order = q.settled.order;
       };
       turns = turns-without (is_of_part client t) (alone a) (alone (forgotten_part client t a)) refl refl q.turns;
+      tried = q.tried;
     }

@@ -1,5 +1,5 @@
 -- The states of a server that runs alone: no other server has a part of its transactions or it of theirs.
-use Rattle.std.specs.Prelude.{◌≡◌, ℕ, ◌≤◌, Bool, false, ◌==◌, ◌&&◌, List, [], ◌∷◌, find, flat_map, Option, None, Some, IsSome, map as list_map}
+use Rattle.std.specs.Prelude.{◌≡◌, ℕ, ◌+◌, ◌≤◌, ◌⊎◌, Bool, true, false, ◌==◌, ◌&&◌, List, [], ◌∷◌, find, flat_map, Option, None, Some, IsSome, map as list_map}
 use Rattle.alp_base.specs.declared.ids.Stamp.{Stamp}
 use Rattle.alp_base.specs.declared.ids.TransId.{TransId}
 use Rattle.alp_base.specs.declared.faults.Sizes.{Sizes}
@@ -12,7 +12,7 @@ use Rattle.alp_journal.specs.declared.act.Act.TheVariants as act
 use Rattle.alp_journal.specs.declared.entry.Entry.{Entry}
 use Rattle.alp_journal.specs.declared.event.Event.{Event}
 use Rattle.alp_journal.specs.declared.event.Event.TheVariants as event
-use Rattle.alp_journal.specs.Deeds.{Deed, Grants}
+use Rattle.alp_journal.specs.Deeds.{Deed, Grants, Finishes, Decides}
 use Rattle.alp_journal.specs.Coordinator.{Fate, Undrawn, Running, Finishing, Committed, Forgotten, Ended}
 use Rattle.alp_journal.specs.Participant.{Unseen}
 use Rattle.alp_journal.specs.Holder.{Holder, Life, grants}
@@ -21,6 +21,7 @@ use Rattle.alp_journal.specs.Counts.{Locked, lock_set, with_resources, request_i
 use Rattle.alp_journal.specs.State.{State, Ids}
 use Rattle.alp_journal.specs.Moves.{call_of, next}
 use Rattle.alp_journal.specs.Laws.{DoLivesAgree, WaitsInTurn, IsLawfulEntry}
+use Rattle.alp_journal.specs.Messages.{clock_end}
 use Rattle.alp_journal.specs.Answered.{IsAnsweredEntry}
 
 -- what is known of it then
@@ -98,7 +99,7 @@ AreApart (w ∷ ws) = AllByRecursion (AreTwo w) ws × AreApart ws
 -- ---- between two entries
 
 -- The locks of live parts agree, and no transaction is in the middle of its end. What ended and is to be told did not commit.
--- At most one call of each part waits or is not collected.
+-- At most one call of each part waits or is not collected. The clock that a restart finds is no later than the clock.
 pub record IsSettled (a : Alone) : Type 0 where
   pub agree : DoLivesAgree a.holder.lives
   pub paired : (t : TransId) → IsPaired (a.holder.lives t) (a.fates t)
@@ -106,11 +107,30 @@ pub record IsSettled (a : Alone) : Type 0 where
   pub parts : AllByRecursion (λ (w : Waiting). IsOfPart a.holder.lives a.dead w (file_trans w.call)) a.waits
   pub came : AllByRecursion (λ (w : Waiting). HasCome w.number (a.sessions w.client)) a.waits
   pub apart : AreApart a.waits
+  pub order : a.holder.kept ≤ a.holder.clock
+
+-- The commit of a live part that a server went down in, with all by which it may be made: it is for the time after the clock,
+-- which was not at its end.
+pub record IsTriedCommit (h : Holder) (epoch : ℕ) (is_down : Bool) (ds : List Deed) : Type 0 where
+  pub stamp : Stamp
+  pub life : Life
+  pub tried : ds ≡ Finishes stamp.trans ∷ Decides stamp [] ∷ []
+  pub down : is_down ≡ true
+  pub time : stamp.ts ≡ h.clock + 1
+  pub within : (h.clock == clock_end) ≡ false
+  pub own : stamp.trans.server ≡ h.server
+  pub now : stamp.trans.epoch ≡ epoch
+  pub live : h.lives stamp.trans ≡ Some life
+
+-- what is to be seen at a restart: nothing where the server is up or went down in a read, else the commit
+abbrev pub HasTried : Holder → (epoch : ℕ) → (is_down : Bool) → List Deed → Type 0
+HasTried h epoch is_down ds = (ds ≡ []) ⊎ IsTriedCommit h epoch is_down ds
 
 -- and nobody is left waiting whose way is free
 pub record IsQuiet (a : Alone) : Type 0 where
   pub settled : IsSettled a
   pub turns : WaitsInTurn (alone a)
+  pub tried : HasTried a.holder a.ids.epoch a.is_down a.pending
 
 -- ---- what is given on as a part lets go
 
@@ -161,11 +181,10 @@ abbrev pub AreEarlier : ℕ → List (Stamp × Decided) → Type 0
 AreEarlier clock [] = Unit {0}
 AreEarlier clock (d ∷ ds) = (d.0.ts ≤ clock) × AreEarlier clock ds
 
--- the events of such a server: calls and timeouts
+-- the events of such a server: all but messages
 abbrev pub IsOwnEvent : Event → Type 0
-IsOwnEvent (event.Call client epoch number c) = Unit {0}
-IsOwnEvent (event.Timeout t) = Unit {0}
-IsOwnEvent e = ⊥
+IsOwnEvent (event.Arrive from m) = ⊥
+IsOwnEvent e = Unit {0}
 
 abbrev pub AreOwnEvents : List Entry → Type 0
 AreOwnEvents es = AllByRecursion (λ (e : Entry). IsOwnEvent e.event) es

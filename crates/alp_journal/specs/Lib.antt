@@ -15,5 +15,6 @@ pub mod Answers
 pub mod Halts
 pub mod Answered
 pub mod Alone
+pub mod Restarts
 pub mod Holding
 pub mod Refused

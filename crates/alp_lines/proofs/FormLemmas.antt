@@ -3,19 +3,21 @@ use Rattle.std.specs.Prelude.{Option, None, Some, IfSome, codes}
 use Rattle.std.proofs.Common.{◌≡◌, ℕ, List, [], ◌∷◌, true, false, subst}
 use Rattle.std.specs.Option.{option_map}
 use Rattle.alp_tokens.specs.Words.{◌>>=◌, says, is_line, words_of}
-use Rattle.alp_tokens.specs.Numbers.{within, word32_of}
+use Rattle.alp_tokens.specs.Numbers.{within, word32_of, word64_of}
 use Rattle.alp_tokens.specs.Names.{name_of, list_of, text_of}
 use Rattle.alp_lines.specs.FileWords.{file_word_of, new_word_of}
 use Rattle.alp_lines.specs.Operands.{server_of, client_of, run_of, choice_of, purpose_of, mode_of, page_mode_of, change_of}
-use Rattle.alp_lines.specs.ClientLines.{begin_line, bare_line, make_owner_line, read_owner_line, quota_line, file_line, create_line, open_line, close_line, delete_line, write_line, read_line, lock_line, size_line, props_line, change_line, line_on_file, line_by_verb}
-use Rattle.alp_lines.specs.Grammar.{servers_line, volume_line, client_line, patience_line, auto_line, timeout_line, line_of_client, line_by, line_of, is_skipped, line_said, text_said}
+use Rattle.alp_lines.specs.ClientLines.{begin_line, bare_line, raw_line, make_owner_line, read_owner_line, quota_line, file_line, create_line, open_line, close_line, delete_line, write_line, read_line, lock_line, size_line, props_line, change_line, line_on_file, line_by_verb}
+use Rattle.alp_lines.specs.Hex.{hex_of}
+use Rattle.alp_lines.specs.EventLines.{one_server, two_servers, tick_line, force_line, timeout_line, stop_line, restart_line, carry_line, lose_line, again_line}
+use Rattle.alp_lines.specs.Grammar.{servers_line, volume_line, client_line, patience_line, auto_line, line_of_client, event_by, line_by, line_of, is_skipped, line_said, text_said}
 use Rattle.alp_lines.specs.Forms.{IsRunOfPages, IsPageMode, IsText, IsChange, IsForm}
 use Rattle.alp_lines.specs.Forms as form
 use Rattle.alp_base.specs.declared.limits.TheConstants.{CLIENTS}
 use Rattle.alp_lines.specs.declared.limits.TheConstants.{PATIENCE_MOST, HOME_LEAST, HOME_MOST, AREA_LEAST, AREA_MOST}
 use Rattle.alp_lines.specs.declared.line.Line.{Line}
 use Rattle.alp_lines.specs.declared.line.Line.TheVariants as line
-use Rattle.alp_lines.proofs.OperandLemmas.{IsFew, IsSmall, IsWithin, then, then_of, either, where_true, word32_small, within_range, run_formed, text_formed, list_few, admitted, page_mode_formed, read_so, change_formed}
+use Rattle.alp_lines.proofs.OperandLemmas.{IsFew, IsSmall, IsPick, IsBytes, IsWithin, then, then_of, either, where_true, word32_small, word64_small, hex_some, within_range, run_formed, text_formed, list_few, admitted, page_mode_formed, read_so, change_formed}
 
 -- a line, if any, of a form
 abbrev IsFormed : Option Line → Type 0
@@ -67,6 +69,42 @@ timeout_form (a ∷ []) = tt
 timeout_form (a ∷ b ∷ []) = then IsForm (server_of a) _ (λ s. then_of (IsWithin 1 CLIENTS) IsForm (client_of b) _ (within_range 1 CLIENTS b) (λ c h. form.timeout s c h.most))
 timeout_form (a ∷ b ∷ c ∷ more) = tt
 
+-- ---- what happens at servers
+
+tick_form : (args : List (List ℕ)) → IsFormed (tick_line args)
+unfolding tick_line
+tick_form args = then IsForm (one_server args) _ form.tick
+
+force_form : (args : List (List ℕ)) → IsFormed (force_line args)
+unfolding force_line
+force_form args = then IsForm (one_server args) _ form.force
+
+stop_form : (args : List (List ℕ)) → IsFormed (stop_line args)
+unfolding stop_line
+stop_form [] = tt
+stop_form (a ∷ []) = tt
+stop_form (a ∷ b ∷ []) = then IsForm (server_of a) _ (λ s. then_of IsSmall IsForm (word32_of b) _ (word32_small b) (λ n small. form.stop s n small))
+stop_form (a ∷ b ∷ c ∷ more) = tt
+
+restart_form : (args : List (List ℕ)) → IsFormed (restart_line args)
+unfolding restart_line
+restart_form [] = tt
+restart_form (a ∷ []) = tt
+restart_form (a ∷ b ∷ []) = then IsForm (server_of a) _ (λ s. then_of IsPick IsForm (word64_of b) _ (word64_small b) (λ p small. form.restart s p small))
+restart_form (a ∷ b ∷ c ∷ more) = tt
+
+carry_form : (args : List (List ℕ)) → IsFormed (carry_line args)
+unfolding carry_line
+carry_form args = then IsForm (two_servers args) _ (λ p. form.carry p.0 p.1)
+
+lose_form : (args : List (List ℕ)) → IsFormed (lose_line args)
+unfolding lose_line
+lose_form args = then IsForm (two_servers args) _ (λ p. form.lose p.0 p.1)
+
+again_form : (args : List (List ℕ)) → IsFormed (again_line args)
+unfolding again_line
+again_form args = then IsForm (two_servers args) _ (λ p. form.again p.0 p.1)
+
 -- ---- transactions
 
 begin_form : (client : ℕ) (args : List (List ℕ)) → IsFormed (begin_line client args)
@@ -79,6 +117,13 @@ bare_form : (l : Line) (args : List (List ℕ)) → IsForm l → IsFormed (bare_
 unfolding bare_line
 bare_form l [] formed = formed
 bare_form l (a ∷ more) formed = tt
+
+raw_form : (client : ℕ) (args : List (List ℕ)) → IsFormed (raw_line client args)
+unfolding raw_line
+raw_form client [] = tt
+raw_form client (a ∷ []) = tt
+raw_form client (a ∷ b ∷ []) = then IsForm (server_of a) _ (λ s. then_of IsBytes IsForm (hex_of b) _ (hex_some b) (λ bytes some. form.raw client s bytes some))
+raw_form client (a ∷ b ∷ c ∷ more) = tt
 
 -- ---- owners
 
@@ -207,19 +252,35 @@ verb_form client verb args =
     either IsForm (says verb (codes "begin")) _ _ (begin_form client args)
     (either IsForm (says verb (codes "commit")) _ _ (bare_form (line.Commit client) args (form.commit client))
     (either IsForm (says verb (codes "abort")) _ _ (bare_form (line.Abort client) args (form.abort client))
+    (either IsForm (says verb (codes "outcome")) _ _ (bare_form (line.Outcome client) args (form.outcome client))
     (either IsForm (says verb (codes "collect")) _ _ (bare_form (line.Collect client) args (form.collect client))
     (either IsForm (says verb (codes "repeat")) _ _ (bare_form (line.Repeat client) args (form.repeat client))
     (either IsForm (says verb (codes "old")) _ _ (bare_form (line.Old client) args (form.old client))
+    (either IsForm (says verb (codes "raw")) _ _ (raw_form client args)
     (either IsForm (says verb (codes "mkowner")) _ _ (make_owner_form client args)
     (either IsForm (says verb (codes "owner")) _ _ (read_owner_form client args)
     (either IsForm (says verb (codes "quota")) _ _ (quota_form client args)
     (either IsForm (says verb (codes "create")) _ _ (create_form client args)
-    (on_file_form client verb args))))))))))
+    (on_file_form client verb args))))))))))))
 
 of_client_form : (client : List ℕ) (args : List (List ℕ)) → IsFormed (line_of_client client args)
 unfolding line_of_client
 of_client_form client [] = tt
 of_client_form client (verb ∷ args) = then IsForm (client_of client) _ (λ c. verb_form c verb args)
+
+event_form : (first : List ℕ) (args : List (List ℕ)) → IsFormed (event_by first args)
+unfolding event_by
+event_form first args =
+    either IsForm (says first (codes "timeout")) _ _ (timeout_form args)
+    (either IsForm (says first (codes "tick")) _ _ (tick_form args)
+    (either IsForm (says first (codes "force")) _ _ (force_form args)
+    (either IsForm (says first (codes "stop")) _ _ (stop_form args)
+    (either IsForm (says first (codes "restart")) _ _ (restart_form args)
+    (either IsForm (says first (codes "settle")) _ _ (bare_form line.Settle args form.settle)
+    (either IsForm (says first (codes "carry")) _ _ (carry_form args)
+    (either IsForm (says first (codes "lose")) _ _ (lose_form args)
+    (either IsForm (says first (codes "again")) _ _ (again_form args)
+    (of_client_form first args)))))))))
 
 by_form : (first : List ℕ) (args : List (List ℕ)) → IsFormed (line_by first args)
 unfolding line_by
@@ -229,8 +290,7 @@ by_form first args =
     (either IsForm (says first (codes "client")) _ _ (client_form args)
     (either IsForm (says first (codes "patience")) _ _ (patience_form args)
     (either IsForm (says first (codes "auto")) _ _ (auto_form args)
-    (either IsForm (says first (codes "timeout")) _ _ (timeout_form args)
-    (of_client_form first args))))))
+    (event_form first args)))))
 
 all_form : (words : List (List ℕ)) → IsFormed (line_of words)
 all_form [] = tt

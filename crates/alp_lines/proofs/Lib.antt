@@ -1,3 +1,4 @@
 pub mod OperandLemmas
 pub mod FormLemmas
+mod HexLemmas
 mod LineFacts

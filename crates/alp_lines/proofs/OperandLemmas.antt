@@ -1,5 +1,5 @@
 -- what is known of the operands of a line
-use Rattle.std.specs.Prelude.{nat_le, ◌&&◌, Bool, Option, None, Some, IfSome, cond, codes}
+use Rattle.std.specs.Prelude.{nat_le, ◌==◌, ◌%◌, ◌&&◌, Bool, Option, None, Some, IfSome, cond, codes}
 use Rattle.std.specs.List.{list_all}
 use Rattle.std.proofs.Common.{◌≡◌, ℕ, ◌-◌, ◌<◌, ◌≤◌, ◌^◌, List, [], ◌∷◌, length, true, false, refl, sym, subst, arith}
 use Rattle.std.proofs.lemmas.Bool.{leb-true, and_parts}
@@ -12,6 +12,7 @@ use Rattle.alp_tokens.specs.Words.{◌>>=◌, when, says, parts_at}
 use Rattle.alp_tokens.specs.Numbers.{is_numeral, value_from, number_of, within, word16_of, word32_of, word64_of}
 use Rattle.alp_tokens.specs.Names.{name_of, names_of, list_of, text_of}
 use Rattle.alp_tokens.specs.declared.names.TheConstants.{TEXT_BYTES}
+use Rattle.alp_lines.specs.Hex.{is_hex_digit, pairs_of, hex_of}
 use Rattle.alp_lines.specs.Operands.{run_of, choice_of, everyone, its_owner, access_of, is_page_mode, page_mode_of, reading_of, change_of}
 use Rattle.alp_lines.specs.Forms.{IsRunOfPages, IsPageMode, IsText, IsChange}
 use Rattle.alp_lines.specs.declared.limits.TheConstants.{RUN_MOST}
@@ -60,6 +61,17 @@ word32_small w = go (word32_of w) (number_small (2 ^ 32 - 1) w)
     go None h = tt
     go (Some n) h = omega arith
 
+-- and one of 64 bits
+abbrev pub IsPick : ℕ → Type 0
+IsPick n = n < 2 ^ 64
+
+pub word64_small : (w : List ℕ) → IfSome (word64_of w) IsPick
+word64_small w = go (word64_of w) (number_small (2 ^ 64 - 1) w)
+  where
+    go : (o : Option ℕ) → IfSome o (λ n. n ≤ 2 ^ 64 - 1) → IfSome o IsPick
+    go None h = tt
+    go (Some n) h = omega arith
+
 -- a number of a range
 pub record IsWithin (low high n : ℕ) : Type 0 where
   pub least : low ≤ n
@@ -80,6 +92,22 @@ text_formed w = where_true IsText (nat_le 1 (length w) && nat_le (length w) TEXT
     let both = and_parts (nat_le 1 (length w) && nat_le (length w) TEXT_BYTES) _ h in
     let ends = and_parts (nat_le 1 (length w)) _ both.0 in
     record { some = leb-true _ _ ends.0; short = leb-true _ _ ends.1 })
+
+-- bytes of which there are some
+abbrev pub IsBytes : List ℕ → Type 0
+IsBytes bytes = 0 < length bytes
+
+pairs_some : (w : List ℕ) → 2 ≤ length w → IsBytes (pairs_of w)
+pairs_some [] h = omega (arith, h)
+pairs_some (a ∷ []) h = omega (arith, h)
+pairs_some (a ∷ b ∷ more) h = omega arith
+
+pub hex_some : (w : List ℕ) → IfSome (hex_of w) IsBytes
+unfolding hex_of
+hex_some w = where_true IsBytes (nat_le 2 (length w) && length w % 2 == 0 && list_all is_hex_digit w) (pairs_of w) (λ h.
+    let both = and_parts (nat_le 2 (length w) && length w % 2 == 0) _ h in
+    let ends = and_parts (nat_le 2 (length w)) _ both.0 in
+    pairs_some w (leb-true _ _ ends.0))
 
 -- a list has not too many names
 abbrev pub IsFew : List (List ℕ) → Type 0

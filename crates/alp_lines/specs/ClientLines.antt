@@ -4,6 +4,7 @@ use Rattle.alp_tokens.specs.Words.{◌>>=◌, says}
 use Rattle.alp_tokens.specs.Numbers.{word32_of}
 use Rattle.alp_tokens.specs.Names.{name_of, list_of, text_of}
 use Rattle.alp_lines.specs.FileWords.{file_word_of, new_word_of}
+use Rattle.alp_lines.specs.Hex.{hex_of}
 use Rattle.alp_lines.specs.Operands.{server_of, run_of, choice_of, access_of, purpose_of, mode_of, page_mode_of, reading_of, change_of}
 use Rattle.alp_lines.specs.declared.line.Line.{Line}
 use Rattle.alp_lines.specs.declared.line.Line.TheVariants as line
@@ -20,6 +21,14 @@ begin_line client _ = None
 unfoldable pub bare_line : Line → List (List ℕ) → Option Line
 bare_line l [] = Some l
 bare_line l (w ∷ ws) = None
+
+-- bytes that go to a server as they are
+unfoldable pub raw_line : ℕ → List (List ℕ) → Option Line
+raw_line client (server ∷ digits ∷ []) = do
+  s ← server_of server
+  b ← hex_of digits
+  Some (line.Raw client s b)
+raw_line client _ = None
 
 -- ---- owners
 
@@ -162,9 +171,11 @@ line_by_verb client verb args =
     if says verb (codes "begin") then begin_line client args
     else if says verb (codes "commit") then bare_line (line.Commit client) args
     else if says verb (codes "abort") then bare_line (line.Abort client) args
+    else if says verb (codes "outcome") then bare_line (line.Outcome client) args
     else if says verb (codes "collect") then bare_line (line.Collect client) args
     else if says verb (codes "repeat") then bare_line (line.Repeat client) args
     else if says verb (codes "old") then bare_line (line.Old client) args
+    else if says verb (codes "raw") then raw_line client args
     else if says verb (codes "mkowner") then make_owner_line client args
     else if says verb (codes "owner") then read_owner_line client args
     else if says verb (codes "quota") then quota_line client args

@@ -1,4 +1,4 @@
--- the lines that the language has so far, and what is known of their parts
+-- the lines that the language has, and what is known of their parts
 use Rattle.std.specs.Prelude.{Bool, ℕ, ◌<◌, ◌≤◌, ◌^◌, List, length}
 use Rattle.alp_base.specs.declared.choices.Access.{Access}
 use Rattle.alp_base.specs.declared.choices.Choice.{Choice}
@@ -52,13 +52,23 @@ pub data IsForm : Line → Type 0 where
   client : (number : ℕ) (name : List ℕ) → IsForm (line.Client number name)
   auto_said : (on : Bool) → IsForm (line.Auto on)
   timeout : (server number : ℕ) → number ≤ CLIENTS → IsForm (line.Timeout server number)
+  tick : (server : ℕ) → IsForm (line.Tick server)
+  force : (server : ℕ) → IsForm (line.Force server)
+  stop : (server calls : ℕ) → calls < 2 ^ 32 → IsForm (line.Stop server calls)
+  restart : (server pick : ℕ) → pick < 2 ^ 64 → IsForm (line.Restart server pick)
+  settle : IsForm line.Settle
+  carry : (from to : ℕ) → IsForm (line.Carry from to)
+  lose : (from to : ℕ) → IsForm (line.Lose from to)
+  again : (from to : ℕ) → IsForm (line.Again from to)
   patience : (count : ℕ) → 0 < count → count ≤ PATIENCE_MOST → IsForm (line.Patience count)
   begin : (number server : ℕ) → IsForm (line.Begin number server)
   commit : (number : ℕ) → IsForm (line.Commit number)
   abort : (number : ℕ) → IsForm (line.Abort number)
+  outcome : (number : ℕ) → IsForm (line.Outcome number)
   collect : (number : ℕ) → IsForm (line.Collect number)
   repeat : (number : ℕ) → IsForm (line.Repeat number)
   old : (number : ℕ) → IsForm (line.Old number)
+  raw : (number server : ℕ) (bytes : List ℕ) → 0 < length bytes → IsForm (line.Raw number server bytes)
   owner : (number server : ℕ) (name : List ℕ) (quota : ℕ) (create : List (List ℕ)) (wish : Choice) → length create ≤ NAMES_PER_LIST → IsForm (line.MakeOwner number server name quota create wish)
   read_owner : (number server : ℕ) (name : List ℕ) (wish : Choice) → IsForm (line.ReadOwner number server name wish)
   quota : (number server : ℕ) (name : List ℕ) (quota : ℕ) (wish : Choice) → IsForm (line.SetQuota number server name quota wish)

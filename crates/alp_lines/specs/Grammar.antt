@@ -5,7 +5,8 @@ use Rattle.alp_tokens.specs.Words.{◌>>=◌, when, says, is_line, words_of}
 use Rattle.alp_tokens.specs.Numbers.{within}
 use Rattle.alp_tokens.specs.Names.{name_of}
 use Rattle.alp_lines.specs.Operands.{server_of, client_of}
-use Rattle.alp_lines.specs.ClientLines.{line_by_verb}
+use Rattle.alp_lines.specs.ClientLines.{bare_line, line_by_verb}
+use Rattle.alp_lines.specs.EventLines.{tick_line, force_line, timeout_line, stop_line, restart_line, carry_line, lose_line, again_line}
 use Rattle.alp_lines.specs.declared.limits.TheConstants.{PATIENCE_MOST, HOME_LEAST, HOME_MOST, AREA_LEAST, AREA_MOST}
 use Rattle.alp_lines.specs.declared.line.Line.{Line}
 use Rattle.alp_lines.specs.declared.line.Line.TheVariants as line
@@ -44,20 +45,26 @@ unfoldable pub auto_line : List (List ℕ) → Option Line
 auto_line (word ∷ []) = if says word (codes "on") then Some (line.Auto true) else when (says word (codes "off")) (line.Auto false)
 auto_line _ = None
 
--- the transaction of a client times out at a server
-unfoldable pub timeout_line : List (List ℕ) → Option Line
-timeout_line (server ∷ client ∷ []) = do
-  s ← server_of server
-  c ← client_of client
-  Some (line.Timeout s c)
-timeout_line _ = None
-
 -- a line that begins with a client's number
 unfoldable pub line_of_client : List ℕ → List (List ℕ) → Option Line
 line_of_client client (verb ∷ args) = do
   c ← client_of client
   line_by_verb c verb args
 line_of_client client [] = None
+
+-- a line by its first word, where that declares and sets nothing
+unfoldable pub event_by : List ℕ → List (List ℕ) → Option Line
+event_by first args =
+    if says first (codes "timeout") then timeout_line args
+    else if says first (codes "tick") then tick_line args
+    else if says first (codes "force") then force_line args
+    else if says first (codes "stop") then stop_line args
+    else if says first (codes "restart") then restart_line args
+    else if says first (codes "settle") then bare_line line.Settle args
+    else if says first (codes "carry") then carry_line args
+    else if says first (codes "lose") then lose_line args
+    else if says first (codes "again") then again_line args
+    else line_of_client first args
 
 -- a line, by its first word
 unfoldable pub line_by : List ℕ → List (List ℕ) → Option Line
@@ -67,8 +74,7 @@ line_by first args =
     else if says first (codes "client") then client_line args
     else if says first (codes "patience") then patience_line args
     else if says first (codes "auto") then auto_line args
-    else if says first (codes "timeout") then timeout_line args
-    else line_of_client first args
+    else event_by first args
 
 -- what the words of a line say
 abbrev pub line_of : List (List ℕ) → Option Line

@@ -28,9 +28,17 @@ client_named (line.Old client) = Some client
 client_named (line.Raw client server bytes) = Some client
 client_named _ = None
 
--- the server that a line of a client names, or the line of a volume
+-- the server that a line names: of a message, the one that sends it
 unfoldable pub server_named : Line → Option ℕ
 server_named (line.Volume server home area) = Some server
+server_named (line.Carry from to) = Some from
+server_named (line.Lose from to) = Some from
+server_named (line.Again from to) = Some from
+server_named (line.Tick server) = Some server
+server_named (line.Force server) = Some server
+server_named (line.Timeout server client) = Some server
+server_named (line.Stop server calls) = Some server
+server_named (line.Restart server pick) = Some server
 server_named (line.Begin client server) = Some server
 server_named (line.Create client server word owner size read modify choice) = Some server
 server_named (line.ReadOwner client server owner choice) = Some server
@@ -38,3 +46,10 @@ server_named (line.MakeOwner client server owner quota create choice) = Some ser
 server_named (line.SetQuota client server owner quota choice) = Some server
 server_named (line.Raw client server bytes) = Some server
 server_named _ = None
+
+-- the server that a message of the line goes to
+unfoldable pub receiver_named : Line → Option ℕ
+receiver_named (line.Carry from to) = Some to
+receiver_named (line.Lose from to) = Some to
+receiver_named (line.Again from to) = Some to
+receiver_named _ = None

@@ -2,10 +2,11 @@
 ghost use Rattle.std.specs.Prelude.{◌≡◌};
 ghost use Rattle.alp_tokens.specs.Telling.{Tells};
 ghost use Rattle.alp_tokens.specs.Words.{shown};
-ghost use Rattle.alp_lines.specs.ClientLines.{begin_line as begin_said, bare_line as bare_said, make_owner_line as make_owner_said, read_owner_line as read_owner_said, quota_line as quota_said, file_line as file_said, create_line as create_said, open_line as open_said, close_line as close_said, delete_line as delete_said, write_line as write_said, read_line as read_said, lock_line as lock_said, size_line as size_said, props_line as props_said, change_line as change_said, line_on_file as said_on_file, line_by_verb as said_by_verb};
+ghost use Rattle.alp_lines.specs.ClientLines.{begin_line as begin_said, bare_line as bare_said, raw_line as raw_said, make_owner_line as make_owner_said, read_owner_line as read_owner_said, quota_line as quota_said, file_line as file_said, create_line as create_said, open_line as open_said, close_line as close_said, delete_line as delete_said, write_line as write_said, read_line as read_said, lock_line as lock_said, size_line as size_said, props_line as props_said, change_line as change_said, line_on_file as said_on_file, line_by_verb as said_by_verb};
 
 use crate::Line;
 use crate::file_words::{file_word, new_word};
+use crate::hex::hex;
 use crate::operands::{access, change, choice, mode, page_mode, purpose, reading, run, server};
 use alp_tokens::{LineFault, list, name, says, text, word32};
 use std::alloc::Global;
@@ -23,15 +24,33 @@ fn begin_line(client: u8, args: &[&[u8]]) -> Result<Line, LineFault>
     }
 }
 
-// The line, where no words stand behind its verb.
+/// The line, where no words stand behind its verb.
 #[tactic(auto, unfolding(crate::specs::ClientLines::bare_line))]
-fn bare_line(line: Line, args: &[&[u8]]) -> Result<Line, LineFault>
+pub(crate) fn bare_line(line: Line, args: &[&[u8]]) -> Result<Line, LineFault>
     ensures { Tells result (bare_said line (shown args.now)) }
 {
     if args.is_empty() {
         Ok(line)
     } else {
         Err(LineFault::Outside)
+    }
+}
+
+#[tactic(auto, unfolding(crate::specs::ClientLines::raw_line))]
+fn raw_line(alloc: Global, client: u8, args: &[&[u8]]) -> Result<Line, LineFault>
+    ensures { Tells result (raw_said client (shown args.now)) }
+{
+    match args {
+        [at, digits] => {
+            let server = server(at)?;
+            let bytes = hex(alloc, digits)?;
+            Ok(Line::Raw {
+                client,
+                server,
+                bytes,
+            })
+        }
+        _ => Err(LineFault::Outside),
     }
 }
 
@@ -354,12 +373,16 @@ pub(crate) fn line_by_verb(
         bare_line(Line::Commit { client }, args)
     } else if says(verb, b"abort") {
         bare_line(Line::Abort { client }, args)
+    } else if says(verb, b"outcome") {
+        bare_line(Line::Outcome { client }, args)
     } else if says(verb, b"collect") {
         bare_line(Line::Collect { client }, args)
     } else if says(verb, b"repeat") {
         bare_line(Line::Repeat { client }, args)
     } else if says(verb, b"old") {
         bare_line(Line::Old { client }, args)
+    } else if says(verb, b"raw") {
+        raw_line(alloc, client, args)
     } else if says(verb, b"mkowner") {
         make_owner_line(alloc, client, args)
     } else if says(verb, b"owner") {

@@ -2,10 +2,13 @@
 ghost use Rattle.std.specs.Prelude.{◌≡◌};
 ghost use Rattle.alp_tokens.specs.Telling.{Tells};
 ghost use Rattle.alp_tokens.specs.Words.{shown};
-ghost use Rattle.alp_lines.specs.Grammar.{servers_line as servers_said, volume_line as volume_said, client_line as client_said, patience_line as patience_said, auto_line as auto_said, timeout_line as timeout_said, line_of_client as said_of_client, line_by as said_by, line_of as said_of, is_skipped as is_skipped_said, line_said, text_said};
+ghost use Rattle.alp_lines.specs.Grammar.{servers_line as servers_said, volume_line as volume_said, client_line as client_said, patience_line as patience_said, auto_line as auto_said, event_by as event_said_by, line_of_client as said_of_client, line_by as said_by, line_of as said_of, is_skipped as is_skipped_said, line_said, text_said};
 
 use crate::Line;
-use crate::client_lines::line_by_verb;
+use crate::client_lines::{bare_line, line_by_verb};
+use crate::event_lines::{
+    again_line, carry_line, force_line, lose_line, restart_line, stop_line, tick_line, timeout_line,
+};
 use crate::limits::{AREA_LEAST, AREA_MOST, HOME_LEAST, HOME_MOST, PATIENCE_MOST};
 use crate::operands::{client, server};
 use alp_tokens::{LineFault, is_line, name, says, within, words_in};
@@ -77,20 +80,6 @@ fn auto_line(args: &[&[u8]]) -> Result<Line, LineFault>
     }
 }
 
-#[tactic(auto, unfolding(crate::specs::Grammar::timeout_line))]
-fn timeout_line(args: &[&[u8]]) -> Result<Line, LineFault>
-    ensures { Tells result (timeout_said (shown args.now)) }
-{
-    match args {
-        [at, number] => {
-            let server = server(at)?;
-            let client = client(number)?;
-            Ok(Line::Timeout { server, client })
-        }
-        _ => Err(LineFault::Outside),
-    }
-}
-
 #[tactic(auto, unfolding(crate::specs::Grammar::line_of_client))]
 fn line_of_client(alloc: Global, number: &[u8], args: &[&[u8]]) -> Result<Line, LineFault>
     ensures { Tells result (said_of_client number.now (shown args.now)) }
@@ -101,6 +90,34 @@ fn line_of_client(alloc: Global, number: &[u8], args: &[&[u8]]) -> Result<Line, 
             line_by_verb(alloc, client, verb, args)
         }
         [] => Err(LineFault::Outside),
+    }
+}
+
+// A line by its first word, where that declares and sets nothing.
+#[tactic(auto, unfolding(crate::specs::Grammar::event_by))]
+fn event_by(alloc: Global, first: &[u8], args: &[&[u8]]) -> Result<Line, LineFault>
+    ensures { Tells result (event_said_by first.now (shown args.now)) }
+{
+    if says(first, b"timeout") {
+        timeout_line(args)
+    } else if says(first, b"tick") {
+        tick_line(args)
+    } else if says(first, b"force") {
+        force_line(args)
+    } else if says(first, b"stop") {
+        stop_line(args)
+    } else if says(first, b"restart") {
+        restart_line(args)
+    } else if says(first, b"settle") {
+        bare_line(Line::Settle, args)
+    } else if says(first, b"carry") {
+        carry_line(args)
+    } else if says(first, b"lose") {
+        lose_line(args)
+    } else if says(first, b"again") {
+        again_line(args)
+    } else {
+        line_of_client(alloc, first, args)
     }
 }
 
@@ -118,10 +135,8 @@ fn line_by(alloc: Global, first: &[u8], args: &[&[u8]]) -> Result<Line, LineFaul
         patience_line(args)
     } else if says(first, b"auto") {
         auto_line(args)
-    } else if says(first, b"timeout") {
-        timeout_line(args)
     } else {
-        line_of_client(alloc, first, args)
+        event_by(alloc, first, args)
     }
 }
 

@@ -1,6 +1,6 @@
 //! One line of a script.
 ghost use Rattle.std.specs.Prelude.{◌≡◌};
-ghost use Rattle.alp_lines.specs.Named.{client_named, server_named};
+ghost use Rattle.alp_lines.specs.Named.{client_named, server_named, receiver_named};
 
 use alp_base::{Access, AccessList, Bytes, Choice, FileId, Name, Run};
 use alp_files::PropChange;
@@ -210,19 +210,40 @@ impl Line {
         }
     }
 
-    /// The server that a line of a client names, or the line of a volume.
+    /// The server that a line names: of a message, the one that sends it.
     #[tactic(auto, unfolding(crate::specs::Named::server_named))]
     pub fn server(&self) -> Option<u8>
         ensures { result ≡ server_named self.now }
     {
         match self {
             Line::Volume { server, .. } => Some(*server),
+            Line::Carry { from, .. } => Some(*from),
+            Line::Lose { from, .. } => Some(*from),
+            Line::Again { from, .. } => Some(*from),
+            Line::Tick { server } => Some(*server),
+            Line::Force { server } => Some(*server),
+            Line::Timeout { server, .. } => Some(*server),
+            Line::Stop { server, .. } => Some(*server),
+            Line::Restart { server, .. } => Some(*server),
             Line::Begin { server, .. } => Some(*server),
             Line::Create { server, .. } => Some(*server),
             Line::ReadOwner { server, .. } => Some(*server),
             Line::MakeOwner { server, .. } => Some(*server),
             Line::SetQuota { server, .. } => Some(*server),
             Line::Raw { server, .. } => Some(*server),
+            _ => None,
+        }
+    }
+
+    /// The server that a message of the line goes to.
+    #[tactic(auto, unfolding(crate::specs::Named::receiver_named))]
+    pub fn receiver(&self) -> Option<u8>
+        ensures { result ≡ receiver_named self.now }
+    {
+        match self {
+            Line::Carry { to, .. } => Some(*to),
+            Line::Lose { to, .. } => Some(*to),
+            Line::Again { to, .. } => Some(*to),
             _ => None,
         }
     }

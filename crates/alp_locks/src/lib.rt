@@ -19,6 +19,3 @@ pub use laws::{
 pub use plan::Plan;
 pub use request::{Grant, Request};
 pub use table::LockTable;
-
-#[cfg(test)]
-mod tests;

@@ -11,7 +11,7 @@ use Rattle.alp_files.specs.declared.reply.Reply.{Reply}
 use Rattle.alp_journal.specs.declared.event.Event.{Event}
 use Rattle.alp_journal.specs.declared.event.Event.TheVariants as event
 use Rattle.alp_journal.specs.Alone.{Alone, alone}
-use Rattle.alp_node.specs.Durable.{said_by, MightBring, Leaves, Besides}
+use Rattle.alp_node.specs.Durable.{said_by, Leaves, Besides, NoOther}
 use Rattle.alp_node.specs.ServerState.{IsAs, IsReady}
 use Rattle.alp_node.specs.Steps.{Stepped, IsGiven, IsSeated, IsStill, IsStep, entry_of}
 use Rattle.alp_node.specs.Turns.{AreTurned, HasTurned}
@@ -92,7 +92,7 @@ module _ {V : Type 0} (G : Ghosts V) (k new : ServerState V) (v : V) (left : IsL
     still = still_behind s.still;
     seat = seat_behind s.seat;
     turned = λ now. tt;
-    leaves = λ told a h. leaves_behind (MightBring (alone a) e) (s.leaves (told_then told) a (as_then a h));
+    leaves = λ told a h. leaves_behind NoOther (s.leaves (told_then told) a (as_then a h));
   }
 
 -- without memory a server that is as before is a step of nothing

@@ -149,7 +149,7 @@ module _ {V : Type 0} (k : ServerState V) (turn : Turn) (t : TransId) (l : Live)
       named = named;
       formed = formed;
       some = some;
-      begun = h.begun t l there;
+      begun = (h.begun t l there).1;
       limits = λ x at. subst (IsWithinLimits k.server k.epoch k.given k.sizes new_call) (same_live l x (sym there ∙ at)) (record { its = sym own; shape = shape; fewer = may.asked; locks = may.few; log = may.log });
     }
 
@@ -179,14 +179,15 @@ module _ {V : Type 0} (k : ServerState V) (turn : Turn) (t : TransId) (l : Live)
       replies = h.replies;
       drawn = h.drawn;
       given = h.given;
-      committed = h.committed;
       few = h.few;
       most = h.most;
       within = h.within;
       sized = h.sized;
       clock = h.clock;
       raised = h.raised;
+      last = h.last;
       unheld = h.unheld;
+      decisions = h.decisions;
     }
 
     pub blocked_ready : IsReady n serves k → IsReady (n + 1) serves blocked_kept
@@ -268,14 +269,16 @@ module _ {V : Type 0} (k : ServerState V) (turn : Turn) (t : TransId) (l : Live)
       lives = h.lives;
       room = h.room;
       unborn = h.unborn;
+      current = h.current;
       drawn = h.drawn;
       begun = h.begun;
       undrawn = h.undrawn;
+      ends = h.ends;
+      lone = h.lone;
       files = h.files;
       made = h.made;
       born = h.born;
       earlier = h.earlier;
-      committed = h.committed;
       waits = ap (λ (ws : List Waiting). ws ++ wait_here ∷ []) h.waits ∙ sym (told_last k.waits new_call);
       queue = ap (λ (qs : List Waiter). placed qs plan) h.queue ∙ ap (λ (ms : List Need). placed (queue_of a.holder k.locks.held a.waits) (plan_of k.locks t ms)) (sym asked_is)
           ∙ sym (queue_with a.holder k.locks.held (held_alike a held k h) a.waits wait_here t life waiting_for requested);

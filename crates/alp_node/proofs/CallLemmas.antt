@@ -2,7 +2,7 @@
 use Rattle.std.specs.Prelude.{suc, cond, Bool, true, false, Option, None, Some, Result, Ok, Err, IfOk, OnErr}
 use Rattle.std.specs.List.{AllByRecursion}
 use Rattle.std.specs.FinMap as map
-use Rattle.std.proofs.Common.{◌≡◌, ℕ, ◌+◌, ◌<◌, ◌≤◌, List, [], ◌∷◌, ◌++◌, length, refl, sym, ◌∙◌, ap, subst, arith}
+use Rattle.std.proofs.Common.{◌≡◌, ℕ, ◌+◌, ◌<◌, ◌≤◌, List, [], ◌∷◌, ◌++◌, length, append_assoc, refl, sym, ◌∙◌, ap, subst, arith}
 use Rattle.alp_base.specs.declared.ids.FileId.{FileId}
 use Rattle.alp_base.specs.declared.ids.TransId.{TransId}
 use Rattle.std.specs.Option.{option_to_list}
@@ -12,8 +12,7 @@ use Rattle.alp_base.specs.declared.key.Key.TheVariants.{Leader}
 use Rattle.alp_files.specs.Apart.{IsWithin, OpensRead}
 use Rattle.alp_files.specs.Holdings.{Holding, IsIntended}
 use Rattle.alp_files.specs.Act.{Own, Answer, answer, id_in}
-use Rattle.alp_files.specs.Born.{count_after, IsUnborn}
-use Rattle.alp_files.proofs.BornLemmas.{unborn_kept, unborn_more}
+use Rattle.alp_files.specs.Born.{count_after}
 use Rattle.alp_files.proofs.EditLemmas.{edits_at-append}
 use Rattle.alp_files.proofs.IntentLemmas.{through_of, intents_from-append}
 use Rattle.alp_files.proofs.FilesLemmas.{same-some}
@@ -53,14 +52,15 @@ use Rattle.alp_node.specs.Rooms.{IsRoomOf, locks_given}
 use Rattle.alp_node.specs.Totals.{LiveMap, totals_of}
 use Rattle.alp_node.specs.declared.lock_counts.LockCounts.{LockCounts}
 use Rattle.alp_node.proofs.TotalLemmas.{AreRoomed, same_room, swapped_room}
-use Rattle.alp_node.specs.ServerState.{IsLife, IsAlike, IsAs, PutNoneBeyond, ids_to}
+use Rattle.alp_node.specs.ServerState.{IsLife, IsAlike, IsAs, IsToCome, SeesNoneToCome, PutNoneBeyond, AreMade, ids_to}
+use Rattle.alp_node.proofs.ToComeLemmas.{next_to_come, comes_later, to_come_kept}
 use Rattle.alp_node.specs.Steps.{IsTurn, counted_in}
 use Rattle.alp_node.specs.declared.sessions.Turn.{Turn}
 use Rattle.alp_node.specs.declared.server_state.ServerState.{ServerState}
 use Rattle.alp_node.specs.declared.lives.Live.{Live}
 use Rattle.alp_node.proofs.BesideLemmas.{AreNamed, AreOthers, others_told, queue_beside, asked_beside}
 use Rattle.alp_node.proofs.MapLemmas.{put_twice, get_put, places_set}
-use Rattle.alp_node.proofs.KeptLemmas.{IsLive, session_of, session_then, live_there, same_live, alike_set, each_set, sessions_as}
+use Rattle.alp_node.proofs.KeptLemmas.{IsLive, session_of, session_then, live_there, same_live, alike_set, each_set, each_set_at, sessions_as}
 
 outcome_of : (tells : Bool) (cells : Cells) (id : FileId) (l : Live) (p : Part) (c : Call) (room : Room) (acts : List Act) (given : Result Reply CallFault) (r : Result Given CallFault) → IfOk given (Answered tells cells l.part p l.who id c room) → OnErr given (IsAsBefore l.part p)
     → IsAnswerTo given acts r → Outcome tells cells id l p c room acts r
@@ -121,8 +121,8 @@ module _ {V : Type 0} (a : Alone) (held : Contents) (k : ServerState V) where
       let next : Leader (next_file k) ≡ at a.holder.server a.ids.epoch = λ i. at (sym h.server i) (sym h.epoch i) in
       ap (seen held.cells l.part) next
       ∙ ap (λ (v : View). v (at a.holder.server a.ids.epoch)) (sees t (a.locked t) l x.life h up x.alike ∙ get-edits_map x.life.edits a.holder.cells)
-      ∙ ap (edits_at x.life.edits (at a.holder.server a.ids.epoch)) (h.born (k.given + 1) (omega arith))
-      ∙ h.unborn t x.life x.is (k.given + 1) (omega arith)
+      ∙ ap (edits_at x.life.edits (at a.holder.server a.ids.epoch)) (h.born (record { server = a.holder.server; epoch = a.ids.epoch; counter = k.given + 1 }) (next_to_come a.holder.server a.ids.epoch k.given))
+      ∙ h.unborn t x.life x.is (record { server = a.holder.server; epoch = a.ids.epoch; counter = k.given + 1 }) (next_to_come a.holder.server a.ids.epoch k.given)
 
   -- a part that stands as before, in a server that does
   pub part_still : (t : TransId) (l : Live) (p : Part) (n : ℕ) (v : V) (then : Contents) → IsAs a held k → then ≡ held → map.get k.lives t ≡ Some l → IsAsBefore l.part p → n ≡ l.locks
@@ -142,14 +142,16 @@ module _ {V : Type 0} (a : Alone) (held : Contents) (k : ServerState V) where
         lives = λ u. subst (λ (x : Option Live). IsAlike a.holder.cells k.locks.held (a.locked u) u x (a.holder.lives u)) (sym (get_put k.lives t (record l { part = p; locks = n }) u)) (go u (same_trans u t) refl);
         room = same_room k.sizes a.holder.cells k.lives t l (record l { part = p; locks = n }) there before.2 h.room;
         unborn = h.unborn;
+        current = h.current;
         drawn = h.drawn;
         begun = h.begun;
         undrawn = h.undrawn;
+        ends = h.ends;
+        lone = h.lone;
         files = h.files;
         made = h.made;
         born = h.born;
         earlier = h.earlier;
-        committed = h.committed;
         waits = h.waits;
         queue = h.queue;
         asked = h.asked;
@@ -206,22 +208,31 @@ suc-is : (n : ℕ) → suc n ≡ n + 1
 suc-is n = omega arith
 
 -- the next id is given to the file that was made
-made_now : (server epoch count : ℕ) (r : Reply) → GivesOnly (record { server = server; epoch = epoch; counter = count + 1 }) r
+made_ids : (server epoch count : ℕ) (r : Reply) → GivesOnly (record { server = server; epoch = epoch; counter = count + 1 }) r
     → option_to_list (id_in r) ++ ids_to server epoch count ≡ ids_to server epoch (count_after count r)
-made_now server epoch count (reply.Created f n) only =
+made_ids server epoch count (reply.Created f n) only =
     ap (λ (g : FileId). g ∷ ids_to server epoch count) (only f n refl)
     ∙ ap (λ (m : ℕ). (record { server = server; epoch = epoch; counter = m }) ∷ ids_to server epoch count) (sym (suc-is count)) ∙ ap (ids_to server epoch) (suc-is count)
-made_now server epoch count (reply.Welcome e) only = refl
-made_now server epoch count (reply.Begun u) only = refl
-made_now server epoch count reply.Joined only = refl
-made_now server epoch count (reply.Opened n) only = refl
-made_now server epoch count reply.Plain only = refl
-made_now server epoch count (reply.Pages ps) only = refl
-made_now server epoch count (reply.Props x) only = refl
-made_now server epoch count (reply.Owner x) only = refl
-made_now server epoch count (reply.Committed x) only = refl
-made_now server epoch count (reply.Ended e) only = refl
-made_now server epoch count (reply.Refused f) only = refl
+made_ids server epoch count (reply.Welcome e) only = refl
+made_ids server epoch count (reply.Begun u) only = refl
+made_ids server epoch count reply.Joined only = refl
+made_ids server epoch count (reply.Opened n) only = refl
+made_ids server epoch count reply.Plain only = refl
+made_ids server epoch count (reply.Pages ps) only = refl
+made_ids server epoch count (reply.Props x) only = refl
+made_ids server epoch count (reply.Owner x) only = refl
+made_ids server epoch count (reply.Committed x) only = refl
+made_ids server epoch count (reply.Ended e) only = refl
+made_ids server epoch count (reply.Refused f) only = refl
+
+made_now : (server epoch count : ℕ) (r : Reply) (made : List FileId) → GivesOnly (record { server = server; epoch = epoch; counter = count + 1 }) r → AreMade server epoch count made
+    → AreMade server epoch (count_after count r) (option_to_list (id_in r) ++ made)
+made_now server epoch count r made only h = record {
+  early = h.early;
+  old = h.old;
+  all = ap (λ (fs : List FileId). option_to_list (id_in r) ++ fs) h.all ∙ sym (append_assoc (option_to_list (id_in r)) (ids_to server epoch count) h.early)
+      ∙ ap (λ (fs : List FileId). fs ++ h.early) (made_ids server epoch count r only);
+}
 
 -- and counted
 pub files_now : (count : ℕ) (r : Reply) → count + length (option_to_list (id_in r)) ≡ count_after count r
@@ -248,21 +259,20 @@ module _ {V : Type 0} (a : Alone) (held : Contents) (k : ServerState V) (turn : 
   next_same : IsAs a held k → next_file k ≡ record { server = a.holder.server; epoch = a.ids.epoch; counter = k.given + 1 }
   next_same h = λ i. record { server = sym h.server i; epoch = sym h.epoch i; counter = k.given + 1 }
 
-  -- no id beyond the count is in what the part saw
-  view_unborn : IsAs a held k → a.holder.lives t ≡ Some life → IsUnborn a.holder.server a.ids.epoch (view_in a.holder life) k.given
-  view_unborn h is m high =
-      ap (λ (x : View). x (Leader (record { server = a.holder.server; epoch = a.ids.epoch; counter = m }))) (get-edits_map life.edits a.holder.cells)
-      ∙ ap (edits_at life.edits (Leader (record { server = a.holder.server; epoch = a.ids.epoch; counter = m }))) (h.born m high) ∙ h.unborn t life is m high
+  -- no file that is to come is in what the part saw
+  view_unborn : IsAs a held k → a.holder.lives t ≡ Some life → SeesNoneToCome a.holder.server a.ids.epoch k.given (view_in a.holder life)
+  view_unborn h is f comes =
+      ap (λ (x : View). x (Leader f)) (get-edits_map life.edits a.holder.cells) ∙ ap (edits_at life.edits (Leader f)) (h.born f comes) ∙ h.unborn t life is f comes
 
   -- nor do its edits put one
   gave_unborn : IsAs a held k → a.holder.lives t ≡ Some life → GivesOnly (next_file k) r → PutNoneBeyond a.holder.server a.ids.epoch (count_after k.given r) (life.edits ++ gave.edits)
-  gave_unborn h is only m high =
-      let q : Key = Leader (record { server = a.holder.server; epoch = a.ids.epoch; counter = m }) in
-      let low : k.given < m = omega (arith, count_grows k.given r, high) in
-      let seen_none : view_in a.holder life q ≡ None = view_unborn h is m low in
-      let only_so : GivesOnly (record { server = a.holder.server; epoch = a.ids.epoch; counter = k.given + 1 }) r = subst (λ (f : FileId). GivesOnly f r) (next_same h) only in
-      edits_at-append life.edits gave.edits q None ∙ ap (edits_at gave.edits q) (h.unborn t life is m low) ∙ ap (edits_at gave.edits q) (sym seen_none)
-      ∙ unborn_kept a.holder.server a.ids.epoch k.given [] (view_in a.holder life) life.who life.own c r (view_unborn h is) only_so m high
+  gave_unborn h is only f comes =
+      let q : Key = Leader f in
+      let before : IsToCome a.holder.server a.ids.epoch k.given f = comes_later a.holder.server a.ids.epoch k.given (count_after k.given r) f (count_grows k.given r) comes in
+      let seen_none : view_in a.holder life q ≡ None = view_unborn h is f before in
+      let only_so : GivesOnly (record { server = a.holder.server; epoch = a.ids.epoch; counter = k.given + 1 }) r = subst (λ (g : FileId). GivesOnly g r) (next_same h) only in
+      edits_at-append life.edits gave.edits q None ∙ ap (edits_at gave.edits q) (h.unborn t life is f before) ∙ ap (edits_at gave.edits q) (sym seen_none)
+      ∙ to_come_kept a.holder.server a.ids.epoch k.given [] (view_in a.holder life) life.who life.own c r (view_unborn h is) only_so f comes
 
   module _ (under : Holding) (rs : List Resource) where
     abbrev pub after_call : Session → Alone
@@ -307,16 +317,18 @@ module _ {V : Type 0} (a : Alone) (held : Contents) (k : ServerState V) (turn : 
               }) u);
           room = swapped_room k.sizes a.holder.cells k.lives t l (record l { part = p; locks = n }) there roomed;
           unborn = each_set (λ x. PutNoneBeyond a.holder.server a.ids.epoch (count_after k.given r) x.edits) t (Some new) a.holder.lives
-              (λ u x at m high. h.unborn u x at m (omega (arith, count_grows k.given r, high)))
+              (λ u x at f comes. h.unborn u x at f (comes_later a.holder.server a.ids.epoch k.given (count_after k.given r) f (count_grows k.given r) comes))
               (λ x at. subst (λ (y : Life). PutNoneBeyond a.holder.server a.ids.epoch (count_after k.given r) y.edits) (same-some new x at) (gave_unborn h live only));
+          current = each_set_at (λ u x. u.epoch ≡ a.ids.epoch) t (Some new) a.holder.lives h.current (λ x at. h.current t life live);
           drawn = h.drawn;
           begun = h.begun;
           undrawn = h.undrawn;
+          ends = h.ends;
+          lone = h.lone;
           files = ap (λ (m : ℕ). m + length (option_to_list (id_in r))) h.files ∙ files_now k.given r;
-          made = ap (λ (fs : List FileId). option_to_list (id_in r) ++ fs) h.made ∙ made_now a.holder.server a.ids.epoch k.given r (subst (λ (f : FileId). GivesOnly f r) (next_same h) only);
-          born = unborn_more a.holder.server a.ids.epoch k.given (count_after k.given r) (map.get a.holder.cells) (count_grows k.given r) h.born;
+          made = made_now a.holder.server a.ids.epoch k.given r a.holder.made (subst (λ (f : FileId). GivesOnly f r) (next_same h) only) h.made;
+          born = λ f comes. h.born f (comes_later a.holder.server a.ids.epoch k.given (count_after k.given r) f (count_grows k.given r) comes);
           earlier = h.earlier;
-          committed = h.committed;
           waits = h.waits;
           queue = waiting ∙ h.queue ∙ sym (queue_beside a.holder (after_call w).holder k.locks.held locks.held t refl (λ u apart. ap (λ (b : Bool). cond {A = Option Life} b (Some new) (a.holder.lives u)) apart) beside a.waits
               (subst (AllByRecursion (λ (x : Waiting). is_of t (file_trans x.call) ≡ false)) (sym h.waits) (others_told t k.waits named away)));

@@ -255,14 +255,16 @@ module _ {V : Type 0} (a : Alone) (held : Contents) (k : ServerState V) (client 
     lives = h.lives;
     room = h.room;
     unborn = h.unborn;
+    current = h.current;
     drawn = h.drawn;
     begun = h.begun;
     undrawn = h.undrawn;
+    ends = h.ends;
+    lone = h.lone;
     files = h.files;
     made = h.made;
     born = h.born;
     earlier = h.earlier;
-    committed = h.committed;
     quiet = quiet_without is_it a h.quiet;
     down = h.down;
   }
@@ -309,10 +311,10 @@ module _ {V : Type 0} (a : Alone) (before now : ℕ) (held : Contents) (k : Serv
     collect_halt_stepped then v l x h is up there granted so =
         let s : Session = session_of turn is in
         let e : Entry = call_entry a turn.client turn.number s (call.Collect n) (reply.Refused refusal.Down) (act.Stopped ∷ []) in
+        let leads = collect_halt_leads a turn.client turn.number s n (waiting w) w.trans h.quiet (h.down ∙ up) (turn_session a held k turn h is) is.number (found_here a held k turn.client n w m on ready found h)
+        (call_is k turn.client n w m on ready found).named granted (none_ended a held k turn.client n w m on ready found h l there) in
         stepped_so a before now held then k (record k { is_down = true; vault = v }) turn.client turn.number s (call.Collect n) false (reply.Refused refusal.Down) (act.Stopped ∷ []) (with_halt a turn.client turn.number s e) x so h
-        (collect_halt_leads a turn.client turn.number s n (waiting w) w.trans h.quiet (h.down ∙ up) (turn_session a held k turn h is) is.number (found_here a held k turn.client n w m on ready found h)
-        (call_is k turn.client n w m on ready found).named granted (none_ended a held k turn.client n w m on ready found h l there))
-        (halted_as a (with_halt a turn.client turn.number s e) held then k v (tried (alone a) e) refl h) (λ q. cc) (stands_timely a.holder.clock 0 k.clock h.clock)
+        leads (halted_as a (with_halt a turn.client turn.number s e) held then k v (tried (alone a) e) refl leads.quiet h) (λ q. cc) (stands_timely a.holder.clock 0 k.clock h.clock)
 
     -- a read of it failed, and it waits no more
     pub collect_fault_stepped : (l : Live) (x : Answer) → IsAs a held k → IsTurn k.sessions turn → k.is_down ≡ false → Rose before now → map.get k.lives w.trans ≡ Some l → w.is_granted ≡ true → x ≡ refused_answer refusal.ReadFault []

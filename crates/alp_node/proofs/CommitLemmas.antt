@@ -5,7 +5,6 @@ use Rattle.std.specs.FinMap.Entries.{put}
 use Rattle.std.specs.FinMap as map
 use Rattle.std.proofs.Common.{◌⊎◌, ◌≡◌, ℕ, ◌+◌, ◌-◌, ◌*◌, ◌^◌, ◌<◌, ◌≤◌, List, [], ◌∷◌, ◌++◌, length, length-append, append-nil, refl, sym, ◌∙◌, ap, subst, arith, eq-eqb}
 use Rattle.std.proofs.lemmas.Bool.{ne_eqb, ltb-true}
-use Rattle.alp_base.specs.Causes.{Rose}
 use Rattle.alp_base.specs.declared.ids.Stamp.{Stamp}
 use Rattle.alp_base.specs.declared.ids.TransId.{TransId}
 use Rattle.alp_base.specs.declared.key.Key.{Key}
@@ -39,25 +38,24 @@ use Rattle.alp_journal.specs.Along.{state_after}
 use Rattle.alp_journal.specs.Ids.{same_trans, stamp_cmp}
 use Rattle.alp_journal.specs.Deeds.{Deed, Finishes, Decides, Releases}
 use Rattle.alp_journal.specs.Holder.{Holder, Life, commits, holder_after, grants, with_life}
-use Rattle.alp_journal.specs.Moves.{tried, act_deeds, finishes, ends_by, grants_to, asks_for, is_stop}
+use Rattle.alp_journal.specs.Moves.{tried, act_deeds, finishes, ends_by, grants_to, asks_for}
 use Rattle.alp_journal.specs.State.{State}
 use Rattle.alp_journal.specs.Coordinator.{Fate, Undrawn, Running}
 use Rattle.alp_journal.specs.Coordinator as fate
 use Rattle.alp_journal.specs.Desk.{Session, Waiting, file_trans, waiting_of}
 use Rattle.alp_journal.specs.Messages.{why_not_own, first_why, full_or, no_room, clock_end, part_cells}
 use Rattle.alp_journal.specs.Answers.{at_part, part_at, part_refusal}
-use Rattle.alp_journal.specs.Answered.{IsAnsweredEntry, IsWalk, in_turn}
+use Rattle.alp_journal.specs.Answered.{IsWalk, in_turn}
 use Rattle.alp_journal.specs.Alone.{Alone, alone, AreEarlier, IsPaired, IsQuiet, with_granted, granted_calls, holder_granted, grant_acts}
 use Rattle.alp_journal.proofs.StampLemmas.{put-last, AreEarlier-push}
 use Rattle.alp_journal.proofs.AloneLemmas.{call_entry, call_tried}
 use Rattle.alp_journal.proofs.AloneCommits.{with_commit, with_commit_given, commit_leads}
 use Rattle.alp_journal.proofs.AloneHalts.{with_halt, commit_halt_leads, file_halt_leads}
-use Rattle.alp_journal.proofs.GivenLemmas.{no-grant-is}
-use Rattle.alp_journal.proofs.QuietLemmas.{quiet_down}
 use Rattle.alp_turns.specs.Laws.{trans_in}
 use Rattle.alp_turns.specs.Queues.{queue_of}
 use Rattle.alp_node.specs.Dead.{is_dead}
-use Rattle.alp_node.specs.Durable.{clock_notes, stored_by, said_by, MightBring, Leaves, Besides, IsWritten}
+use Rattle.alp_node.specs.Decisions.{with_time, HaveEnds}
+use Rattle.alp_node.specs.Durable.{clock_notes, stored_by, said_by, Leaves, Besides, IsWritten}
 use Rattle.alp_node.specs.Eases.{new_blocks, eased}
 use Rattle.alp_node.specs.Releases.{granted_if, granted_one, granted_all, granted_behind, let_go}
 use Rattle.alp_node.specs.Waits.{has_waiting, locks_of}
@@ -74,12 +72,14 @@ use Rattle.alp_node.specs.Rooms.{IsWithin}
 use Rattle.alp_node.specs.Sessions.{session_at}
 use Rattle.alp_node.specs.declared.waits.WaitingCall.{WaitingCall}
 use Rattle.alp_node.proofs.BesideLemmas.{idle_told}
+use Rattle.alp_node.proofs.CountLemmas.{IsUpTo}
+use Rattle.alp_node.proofs.DecisionLemmas.{ends_decided}
 use Rattle.alp_node.proofs.EaseLemmas.{eased_room}
 use Rattle.alp_node.proofs.GiveOnLemmas.{IsAlikeApart}
 use Rattle.alp_node.proofs.GoneLemmas.{HasLetGo, has_let_go, state_gone, gone_of, granted_rest, holder_rest, lives_then}
 use Rattle.alp_node.proofs.SpaceLemmas.{blocks_then, StandsBeside, stands_beside, needs_beside, room_beside, eased_alike}
 use Rattle.alp_node.proofs.FinishLemmas.{still_undrawn, turn_session, drawn_live}
-use Rattle.alp_node.proofs.KeptLemmas.{sessions_as, session_of, session_then, stands_timely, IsLive, live_there, stepped_so}
+use Rattle.alp_node.proofs.KeptLemmas.{sessions_as, session_of, session_then, stands_timely, IsLive, live_there, earlier_more, stepped_so}
 use Rattle.alp_node.proofs.MapLemmas.{places_set}
 use Rattle.alp_node.proofs.NoteLemmas.{put_again}
 use Rattle.alp_node.proofs.SeatLemmas.{leaves_as}
@@ -221,7 +221,7 @@ module _ {V : Type 0} (a : Alone) (before now : ℕ) (held then : Contents) (k :
     lives = eased blocks (let_go k t).lives (map.keys k.lives);
     sessions = counted_in k.sessions turn (reply.Committed stamp_at);
     clock = k.clock + 1;
-    committed = k.committed + 1;
+    decisions = with_time k.decisions t.counter (k.clock + 1);
     vault = v;
   }
 
@@ -292,8 +292,8 @@ module _ {V : Type 0} (a : Alone) (before now : ℕ) (held then : Contents) (k :
           (stands_beside a held k h t l live y.life y.is y.alike) (room_beside a held k h t l live y.life y.is y.alike) g u)
 
       unborn_then : (u : TransId) (z : Life) (o : Option Live) → map.get server_commit.lives u ≡ o → state_commit.holder.lives u ≡ Some z → IsAlikeApart a.holder.cells (state_commit.locked u) o (state_commit.holder.lives u)
-          → PutNoneBeyond a.holder.server a.ids.epoch k.given z.edits
-      unborn_then u z (Some x) at lives alike = (g.all.parts u x z at lives).0
+          → PutNoneBeyond a.holder.server a.ids.epoch k.given z.edits × (u.epoch ≡ a.ids.epoch)
+      unborn_then u z (Some x) at lives alike = ((g.all.parts u x z at lives).0, (g.all.parts u x z at lives).3)
       unborn_then u z None at lives alike = absurd (subst (IsAlikeApart a.holder.cells (state_commit.locked u) None) lives alike)
 
       abbrev kept_with : LiveMap → List WaitingCall → List Key → ServerState V
@@ -303,18 +303,29 @@ module _ {V : Type 0} (a : Alone) (before now : ℕ) (held then : Contents) (k :
         locks = record (released k.locks t) { woken = [] };
         sessions = counted_in k.sessions turn (reply.Committed stamp_at);
         clock = k.clock + 1;
-        committed = k.committed + 1;
+        decisions = with_time k.decisions t.counter (k.clock + 1);
         vault = v;
       }
 
       same_stamp : stamp_at ≡ stamp
       same_stamp = λ i. record { ts = sym h.clock i + 1; trans = t }
 
+      before_now : AreEarlier a.holder.clock a.holder.applied
+      before_now = earlier_more a.holder.kept a.holder.clock a.holder.applied h.quiet.settled.order h.earlier
+
       last : applied_now ≡ a.holder.applied ++ (stamp, record { stamp = stamp; who = y.life.who; calls = y.life.calls }) ∷ []
-      last = put-last a.holder.applied stamp (record { stamp = stamp; who = y.life.who; calls = y.life.calls }) a.holder.clock h.earlier (omega arith)
+      last = put-last a.holder.applied stamp (record { stamp = stamp; who = y.life.who; calls = y.life.calls }) a.holder.clock before_now (omega arith)
 
       clock_is : clock_now ≡ k.clock + 1
       clock_is = omega (arith, h.clock)
+
+      began : IsUpTo a.holder.server a.ids.epoch k.drawn t
+      began = drawn_live a held k t y.life h y.is
+
+      runs : a.fates t ≡ Running turn.client []
+      runs =
+          let pair : IsPaired (Some y.life) (a.fates t) = subst (λ (x : Option Life). IsPaired x (a.fates t)) y.is (h.quiet.settled.paired t) in
+          pair.0 ∙ ap (λ (n : ℕ). Running n []) (y.alike.client ∙ own)
 
       commit_as : then.cells ≡ cells_now → then.notes ≡ map.insert held.notes clock_name (clock_form.spell (record { epoch = k.epoch; clock = k.clock + 1 }))
           → IsQuiet (with_commit_given a turn.client turn.number w t y.life (granted_behind k t))
@@ -339,18 +350,20 @@ module _ {V : Type 0} (a : Alone) (before now : ℕ) (held then : Contents) (k :
             asked = subst (λ (x : Holder). AllByRecursion (IsWaitingAs x state_commit.locked) server_commit.waits) rest g.all.asked;
             lives = each_then;
             room = eased_room (blocks_then a held k h t l live y.life y.is y.alike) k.sizes cells_now server_commit.lives (map.keys k.lives) g.all.fits;
-            unborn = λ u z lives. unborn_then u z (map.get server_commit.lives u) refl lives (g.all.lives u);
+            unborn = λ u z lives. (unborn_then u z (map.get server_commit.lives u) refl lives (g.all.lives u)).0;
+            current = λ u z lives. (unborn_then u z (map.get server_commit.lives u) refl lives (g.all.lives u)).1;
             drawn = h.drawn;
             begun = h.begun;
             undrawn = still_undrawn a.holder.server a.ids.epoch k.drawn a.fates t (λ f. fate.decided stamp [] (fate.finishing f)) refl h.undrawn;
+            ends = subst (λ (n : ℕ). HaveEnds a.holder.server a.ids.epoch k.drawn (with_time k.decisions t.counter (n + 1)) told.fates) h.clock
+                (ends_decided a.holder.server a.ids.epoch k.drawn k.decisions a.fates t turn.client (a.holder.clock + 1) began.here began.now began.some (omega (arith, began.low, ready.decisions.all)) (omega arith) runs h.ends);
+            lone = h.lone;
             files = h.files;
             made = h.made;
-            born = λ n high. ap (λ (view : View). view (Leader (record { server = a.holder.server; epoch = a.ids.epoch; counter = n }))) (get-edits_map es a.holder.cells)
-                ∙ ap (edits_at es (Leader (record { server = a.holder.server; epoch = a.ids.epoch; counter = n }))) (h.born n high) ∙ h.unborn t y.life y.is n high;
+            born = λ f comes. ap (λ (view : View). view (Leader f)) (get-edits_map es a.holder.cells) ∙ ap (edits_at es (Leader f)) (h.born f comes) ∙ h.unborn t y.life y.is f comes;
             earlier = subst (AreEarlier clock_now) (sym last)
                 (subst (λ (n : ℕ). AreEarlier n (a.holder.applied ++ (stamp, record { stamp = stamp; who = y.life.who; calls = y.life.calls }) ∷ [])) (omega arith)
-                (AreEarlier-push a.holder.applied stamp (record { stamp = stamp; who = y.life.who; calls = y.life.calls }) a.holder.clock h.earlier (omega arith)));
-            committed = ap (λ (xs : List (Stamp × Decided)). length xs) last ∙ length-append a.holder.applied ((stamp, record { stamp = stamp; who = y.life.who; calls = y.life.calls }) ∷ []) ∙ ap (λ (n : ℕ). n + 1) h.committed;
+                (AreEarlier-push a.holder.applied stamp (record { stamp = stamp; who = y.life.who; calls = y.life.calls }) a.holder.clock before_now (omega arith)));
             quiet = subst (λ (x : Holder). IsQuiet (record told { holder = x })) rest (subst IsQuiet (sym state_is) quiet);
             down = sym up;
           }))
@@ -374,7 +387,7 @@ module _ {V : Type 0} (a : Alone) (before now : ℕ) (held then : Contents) (k :
               lives = eased (blocks_then a held k h t l live y.life y.is y.alike) z.lives (map.keys k.lives);
               sessions = counted_in k.sessions turn (reply.Committed stamp_at);
               clock = k.clock + 1;
-              committed = k.committed + 1;
+              decisions = with_time k.decisions t.counter (k.clock + 1);
               vault = v;
             }) (let_go_commit g) in
             subst (λ (z : ServerState V). Stepped a before now then z (event.Call turn.client k.epoch turn.number (call.Finish t true)) x) (sym kept_is)
@@ -384,33 +397,11 @@ module _ {V : Type 0} (a : Alone) (before now : ℕ) (held then : Contents) (k :
             (commit_as g same notes leads.quiet)
             (λ e. cc) (omega (arith, h.clock)))
 
-    -- what the one write of it would leave is what its answer would bring about
-    pub commit_might : (Rose before now → ⊥) → IsWritten l.part.intents (record { epoch = k.epoch; clock = k.clock + 1 }) held then → MightBring (alone a) (event.Call turn.client k.epoch turn.number (call.Finish t true)) then
-    commit_might none written =
-        let x : Answer = told_answer (Some (reply.Committed stamp_at)) commit_acts in
-        let ev : Event = event.Call turn.client a.ids.epoch turn.number (call.Finish t true) in
-        let s = commit_stepped x (new_blocks held.cells l.part.intents.puts) refl written.cells written.notes refl in
-        record {
-          entry = entry_of (event.Call turn.client k.epoch turn.number (call.Finish t true)) x;
-          event = refl;
-          lawful = s.leads.lawful;
-          answered = subst (λ (b : Bool). IsAnsweredEntry b (alone a) (entry_of (event.Call turn.client k.epoch turn.number (call.Finish t true)) x)) (unfailed s.failed s.rose) s.leads.answered;
-          unstopped = no-grant-is is_stop (λ u. refl) (granted_behind k t);
-          said = write_said a held k turn t l h is up live own idle (reply.Committed stamp_at) refl commit_acts (Releases t ∷ flat_map (act_deeds (alone a) ev) (grant_acts (granted_behind k t))) then refl
-              (λ o. still_stored a.ids.epoch (alone a) ev (granted_behind k t) (with_life o t None)) written
-              ∙ ap (λ (n : ℕ). said_by (alone a) (record { event = event.Call turn.client n turn.number (call.Finish t true); reply = Some (reply.Committed stamp_at); acts = commit_acts })) h.epoch;
-        }
-      where
-        -- where the count of faults stood no read failed
-        unfailed : (b : Bool) → (b ≡ true → Rose before now) → b ≡ false
-        unfailed true rose = absurd (none (rose refl))
-        unfailed false rose = refl
-
 -- ---- the vault was stopped or failed
 
 -- a server that is down keeps all but what its vault has
-pub halted_as : {V : Type 0} (a m : Alone) (held then : Contents) (k : ServerState V) (v : V) (ds : List Deed) → m ≡ record a { is_down = true; pending = ds } → IsAs a held k → IsAs m then (record k { is_down = true; vault = v })
-halted_as a m held then k v ds is h =
+pub halted_as : {V : Type 0} (a m : Alone) (held then : Contents) (k : ServerState V) (v : V) (ds : List Deed) → m ≡ record a { is_down = true; pending = ds } → IsQuiet m → IsAs a held k → IsAs m then (record k { is_down = true; vault = v })
+halted_as a m held then k v ds is quiet h =
     let never : true ≡ false → ⊥ = λ e. cc in
     subst (λ (x : Alone). IsAs x then (record k { is_down = true; vault = v })) (sym is) (record {
       server = h.server;
@@ -429,15 +420,17 @@ halted_as a m held then k v ds is h =
       lives = h.lives;
       room = h.room;
       unborn = h.unborn;
+      current = h.current;
       drawn = h.drawn;
       begun = h.begun;
       undrawn = h.undrawn;
+      ends = h.ends;
+      lone = h.lone;
       files = h.files;
       made = h.made;
       born = h.born;
       earlier = h.earlier;
-      committed = h.committed;
-      quiet = quiet_down a true ds h.quiet;
+      quiet = subst IsQuiet is quiet;
       down = refl;
     })
 
@@ -450,9 +443,9 @@ module _ {V : Type 0} (a : Alone) (before now : ℕ) (held then : Contents) (k :
       let w : Session = session_of turn is in
       let e : Entry = call_entry a turn.client turn.number w c (reply.Refused refusal.Down) (act.Stopped ∷ []) in
       let works : part_refusal (alone a) turn.client t ≡ None = ap (λ (x : Option Waiting). at_part (is_some x) (part_at (alone a) turn.client t)) idle ∙ ap (at_part false) (part_is a held k turn.client t h ∙ ap part_of own) in
+      let leads = file_halt_leads a turn.client turn.number w t c h.quiet (h.down ∙ up) (turn_session a held k turn h is) is.number named works in
       stepped_so a before now held then k (record k { is_down = true; vault = v }) turn.client turn.number w c false (reply.Refused refusal.Down) (act.Stopped ∷ []) (with_halt a turn.client turn.number w e) x so h
-      (file_halt_leads a turn.client turn.number w t c h.quiet (h.down ∙ up) (turn_session a held k turn h is) is.number named works)
-      (halted_as a (with_halt a turn.client turn.number w e) held then k v (tried (alone a) e) refl h) (λ w. cc) (stands_timely a.holder.clock (seen_in (event.Call turn.client k.epoch turn.number c)) k.clock h.clock)
+      leads (halted_as a (with_halt a turn.client turn.number w e) held then k v (tried (alone a) e) refl leads.quiet h) (λ w. cc) (stands_timely a.holder.clock (seen_in (event.Call turn.client k.epoch turn.number c)) k.clock h.clock)
 
 module _ {V : Type 0} (a : Alone) (before now : ℕ) (held then : Contents) (k : ServerState V) (turn : Turn) (t : TransId) (v : V) (z : Act) where
   abbrev pub IsStopAct : Type 0
@@ -467,8 +460,8 @@ module _ {V : Type 0} (a : Alone) (before now : ℕ) (held then : Contents) (k :
       let y : IsLive a.holder.cells k.locks.held (a.locked t) t l (a.holder.lives t) = live_there a.holder.cells k.locks.held (a.locked t) t (map.get k.lives t) (a.holder.lives t) l live (h.lives t) in
       let acts : List Act = act.Decided (record { ts = a.holder.clock + 1; trans = t }) [] ∷ z ∷ [] in
       let e : Entry = call_entry a turn.client turn.number w (call.Finish t true) (reply.Refused refusal.Down) acts in
+      let leads = commit_halt_leads a turn.client turn.number w t y.life z stop h.quiet (h.down ∙ up) (turn_session a held k turn h is) is.number (here ∙ sym h.server) (drawn_live a held k t y.life h y.is).now y.is (y.alike.client ∙ own) idle
+      (votes_for a held k t l h early live room) in
       stepped_so a before now held then k (record k { is_down = true; vault = v }) turn.client turn.number w (call.Finish t true) false (reply.Refused refusal.Down) acts (with_halt a turn.client turn.number w e) x
       (so ∙ ap (λ (n : ℕ). refused_answer refusal.Down (act.Decided (record { ts = n + 1; trans = t }) [] ∷ z ∷ [])) (sym h.clock)) h
-      (commit_halt_leads a turn.client turn.number w t y.life z stop h.quiet (h.down ∙ up) (turn_session a held k turn h is) is.number (here ∙ sym h.server) (drawn_live a held k t y.life h y.is).now y.is (y.alike.client ∙ own) idle
-      (votes_for a held k t l h early live room))
-      (halted_as a (with_halt a turn.client turn.number w e) held then k v (tried (alone a) e) refl h) (λ w. cc) (stands_timely a.holder.clock 0 k.clock h.clock)
+      leads (halted_as a (with_halt a turn.client turn.number w e) held then k v (tried (alone a) e) refl leads.quiet h) (λ w. cc) (stands_timely a.holder.clock 0 k.clock h.clock)

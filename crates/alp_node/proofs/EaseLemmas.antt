@@ -14,7 +14,7 @@ use Rattle.alp_journal.proofs.IdLemmas.{same_trans-true}
 use Rattle.alp_node.specs.Eases.{shared_in, eased_live, eased_if, eased}
 use Rattle.alp_node.specs.Asks.{is_given}
 use Rattle.alp_node.specs.Rooms.{IsWithin}
-use Rattle.alp_node.specs.ServerState.{IsReady}
+use Rattle.alp_node.specs.ServerState.{IsReady, IsNumbered}
 use Rattle.alp_node.specs.declared.server_state.ServerState.{ServerState}
 use Rattle.alp_node.specs.Totals.{LiveMap, totals_of, HaveRoom}
 use Rattle.alp_node.specs.declared.lives.Live.{Live}
@@ -135,7 +135,7 @@ eased_ready n serves k blocks ts h = record {
   waits = waiting_parts k.server k.epoch k.given k.given (le_refl k.given) k.drawn k.sizes k.lives (eased blocks k.lives ts) k.waits k.locks.waiting
       (eased_like k.waits) (λ t live. eased_live_still blocks k.lives ts t live) h.waits;
   known = λ t l is. each_eased blocks (λ x. is_some (map.get k.locks.held t) ≡ true) (λ x so. so) k.lives ts t (h.known t) l is;
-  begun = λ t l is. each_eased blocks (λ x. t.counter ≤ k.drawn) (λ x so. so) k.lives ts t (h.begun t) l is;
+  begun = λ t l is. each_eased blocks (λ x. IsNumbered k.drawn t) (λ x so. so) k.lives ts t (h.begun t) l is;
   opens = λ t l is. each_eased blocks (λ x. x.part.last ≤ n) (λ x so. so) k.lives ts t (h.opens t) l is;
   opened = λ t l is. each_eased blocks (λ x. list_all (λ o. is_given k.server k.epoch k.given o.file) x.part.opens.items ≡ true) (λ x so. so) k.lives ts t (h.opened t) l is;
   places = h.places;
@@ -143,14 +143,15 @@ eased_ready n serves k blocks ts h = record {
   replies = h.replies;
   drawn = h.drawn;
   given = h.given;
-  committed = h.committed;
   few = (let same : map.len (eased blocks k.lives ts) ≡ map.len k.lives = eased_length blocks k.lives ts in omega (arith, same, h.few));
   most = (let same : map.len (eased blocks k.lives ts) ≡ map.len k.lives = eased_length blocks k.lives ts in omega (arith, same, h.most));
   within = λ t l is. each_eased blocks (IsWithin k.sizes) (eased_within k.sizes blocks) k.lives ts t (h.within t) l is;
   sized = h.sized;
   clock = h.clock;
   raised = h.raised;
+  last = h.last;
   unheld = h.unheld;
+  decisions = h.decisions;
 }
   where
     eased_like : (ws : List WaitingCall) → AllByRecursion (λ (w : WaitingCall). (l : Live) → map.get (eased blocks k.lives ts) w.trans ≡ Some l → (x : Live) × (map.get k.lives w.trans ≡ Some x) × IsLikePart x l) ws

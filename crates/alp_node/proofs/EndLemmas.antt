@@ -2,8 +2,8 @@
 use Rattle.std.specs.Prelude.{cond, Bool, true, false, ◌==◌, ◌&&◌, ◌||◌, not, max, filter, Option, None, Some, is_some, IsSome, nat_lt, nat_le}
 use Rattle.std.specs.List.{AllByRecursion}
 use Rattle.std.specs.FinMap as map
-use Rattle.std.proofs.Common.{◌≡◌, ℕ, suc, ◌+◌, ◌<◌, ◌≤◌, List, [], ◌∷◌, ◌++◌, length, refl, sym, ◌∙◌, ap, subst, arith, eq-eqb}
-use Rattle.std.proofs.lemmas.Bool.{le-leb, leb-true, eqb-true}
+use Rattle.std.proofs.Common.{◌≡◌, ℕ, suc, ◌+◌, ◌<◌, ◌≤◌, List, [], ◌∷◌, ◌++◌, length, append_assoc, refl, sym, ◌∙◌, ap, subst, arith, eq-eqb}
+use Rattle.std.proofs.lemmas.Bool.{le-leb, leb-true, ltb-true, eqb-true}
 use Rattle.alp_base.specs.declared.ids.Stamp.{Stamp}
 use Rattle.alp_base.specs.declared.ids.TransId.{TransId}
 use Rattle.alp_base.specs.declared.key.Key.TheVariants.{Leader}
@@ -17,6 +17,7 @@ use Rattle.alp_files.specs.Edits.{edits_at}
 use Rattle.alp_files.specs.Needs.{no_intents}
 use Rattle.alp_files.proofs.FilesLemmas.{same-some}
 use Rattle.alp_files.specs.declared.call.Call.TheVariants as call
+use Rattle.alp_files.specs.declared.reply.Reply.{Reply}
 use Rattle.alp_files.specs.declared.reply.Reply.TheVariants as reply
 use Rattle.alp_files.specs.declared.refusal.Refusal.{Refusal}
 use Rattle.alp_files.specs.declared.refusal.Refusal.TheVariants as refusal
@@ -37,11 +38,12 @@ use Rattle.alp_journal.specs.Holder.{Life, new_life}
 use Rattle.alp_journal.specs.Counts.{lock_set}
 use Rattle.alp_journal.specs.Moves.{next_trans}
 use Rattle.alp_journal.specs.Answers.{too_many, is_counted, count_of_transactions, if_over}
-use Rattle.alp_journal.specs.Alone.{Alone, alone, IsPaired, IsPartOf, IsOfPart, Leads}
+use Rattle.alp_journal.specs.Alone.{Alone, alone, IsQuiet, IsPaired, IsPartOf, IsOfPart, Leads}
 use Rattle.alp_journal.proofs.IdLemmas.{same_trans-true}
-use Rattle.alp_journal.proofs.AloneBegins.{hello_entry, with_hello, hello_leads, with_begun, begin_leads, is_buried, unburied, with_buried, begin_refused_leads}
+use Rattle.alp_journal.proofs.AloneBegins.{hello_entry, with_hello, hello_leads, with_begun, begin_leads, is_buried, unburied, with_buried_as, with_buried, begin_refused_leads}
 use Rattle.alp_journal.proofs.AloneCollects.{none_dead}
 use Rattle.alp_node.specs.Dead.{dead_in, without_client}
+use Rattle.alp_node.specs.Decisions.{HaveEnds}
 use Rattle.alp_node.specs.Sessions.{session_at, with_session}
 use Rattle.alp_node.specs.ServerState.{IsAs, IsAlike, IsWaitingAs, PutNoneBeyond, trans_to, is_beyond}
 use Rattle.alp_node.specs.Steps.{Stepped, told_answer, refused_answer, entry_of}
@@ -54,11 +56,12 @@ use Rattle.alp_node.specs.declared.waits.WaitingCall.{WaitingCall}
 use Rattle.alp_node.proofs.BesideLemmas.{AreNamed, AreOthers, others_told, part_named, filter_told, queue_beside, asked_beside}
 use Rattle.alp_journal.specs.Desk.{Session, Waiting, file_trans, part_trans, is_of, is_on}
 use Rattle.alp_node.proofs.CountLemmas.{count_pass}
-use Rattle.alp_node.proofs.LiveSums.{up_to_drawn, not_reached}
+use Rattle.alp_node.proofs.LiveSums.{up_to_drawn, begun_now, not_reached}
 use Rattle.alp_node.proofs.TotalLemmas.{added_room}
 use Rattle.alp_calls.proofs.CountLaws.{counts_begin}
 use Rattle.alp_node.proofs.DeadLemmas.{none_left, others_left}
-use Rattle.alp_node.proofs.KeptLemmas.{sessions_as, stands_timely, alike_set, each_set, none_held, earlier_more, stepped_so}
+use Rattle.alp_node.proofs.DecisionLemmas.{ends_begin}
+use Rattle.alp_node.proofs.KeptLemmas.{sessions_as, stands_timely, alike_set, each_set, each_set_at, none_held, stepped_so}
 use Rattle.alp_node.proofs.MapLemmas.{places_set, get_put}
 
 -- the ids up to a counter, and the next
@@ -97,14 +100,16 @@ hello_stepped a before now held k client name x h le up first is =
         lives = h.lives;
         room = h.room;
         unborn = h.unborn;
+        current = h.current;
         drawn = h.drawn;
         begun = h.begun;
         undrawn = h.undrawn;
+        ends = h.ends;
+        lone = h.lone;
         files = h.files;
         made = h.made;
         born = h.born;
         earlier = h.earlier;
-        committed = h.committed;
         waits = h.waits;
         queue = h.queue;
         asked = h.asked;
@@ -137,7 +142,7 @@ kept_live cells locks rs t (Some l) None h = absurd h
 pub count_live : {V : Type 0} (a : Alone) (held : Contents) (k : ServerState V) → IsAs a held k → count_of_transactions (alone a) ≡ map.len k.lives
 count_live a held k h =
     let count : length (filter (λ t. is_counted (a.fates t)) a.begun) ≡ map.len k.lives =
-    ap (λ (ts : List TransId). length (filter (λ t. is_counted (a.fates t)) ts)) h.begun
+    ap (λ (ts : List TransId). length ts) (begun_now a held k h (λ t. is_counted (a.fates t)) (λ t gone. counted_live (a.holder.lives t) (a.fates t) (h.quiet.settled.paired t) ∙ ap (λ (x : Option Life). is_some x) gone))
     ∙ count_pass (λ t. is_counted (a.fates t)) a.holder.server a.ids.epoch k.drawn k.lives (up_to_drawn a held k h)
     (λ t. counted_live (a.holder.lives t) (a.fates t) (h.quiet.settled.paired t) ∙ kept_live a.holder.cells k.locks.held (a.locked t) t (map.get k.lives t) (a.holder.lives t) (h.lives t)) in
     omega (arith, count)
@@ -218,54 +223,61 @@ module _ {V : Type 0} (a : Alone) (held : Contents) (k : ServerState V) (client 
       each [] p = tt
       each (v ∷ vs) p = (goes_idle v p.0, each vs p.1)
 
-module _ {V : Type 0} (a : Alone) (held : Contents) (k : ServerState V) (client number : ℕ) (w : Session) (seen : Stamp) where
-  -- nobody's dead part of the client is left
-  buried : (ds : List DeadPart) (d : ℕ) (u : TransId) → cond {A = Option Cause} (d == client) None (dead_in ds d u) ≡ dead_in (without_client client ds) d u
-  buried ds d u = go (d == client) refl
-    where
-      go : (b : Bool) → (d == client) ≡ b → cond {A = Option Cause} b None (dead_in ds d u) ≡ dead_in (without_client client ds) d u
-      go true e = ap (λ (b : Bool). cond {A = Option Cause} b (Some cause.TimedOut) None) (sym (none_left ds d client u (eqb-true d client e)))
-      go false e = ap (λ (b : Bool). cond {A = Option Cause} b (Some cause.TimedOut) None) (sym (others_left ds d client u e))
+-- nobody's dead part of the client is left
+dead_buried : (client : ℕ) (ds : List DeadPart) (d : ℕ) (u : TransId) → cond {A = Option Cause} (d == client) None (dead_in ds d u) ≡ dead_in (without_client client ds) d u
+dead_buried client ds d u = go (d == client) refl
+  where
+    go : (b : Bool) → (d == client) ≡ b → cond {A = Option Cause} b None (dead_in ds d u) ≡ dead_in (without_client client ds) d u
+    go true e = ap (λ (b : Bool). cond {A = Option Cause} b (Some cause.TimedOut) None) (sym (none_left ds d client u (eqb-true d client e)))
+    go false e = ap (λ (b : Bool). cond {A = Option Cause} b (Some cause.TimedOut) None) (sym (others_left ds d client u e))
 
+module _ {V : Type 0} (a : Alone) (held : Contents) (k : ServerState V) (client number : ℕ) (w : Session) (r : Reply) where
+  -- the client's dead parts go as it is answered
+  abbrev pub buried_kept : ServerState V
+  buried_kept = record k { sessions = with_session k.sessions client (record w { last = number; reply = r }); dead = without_client client k.dead; waits = live_calls client k.lives k.waits }
+
+  pub buried_as : IsAs a held k → client ≤ 16 → k.is_down ≡ false → AreNamed k.waits → IsQuiet (with_buried_as a client number w r) → IsAs (with_buried_as a client number w r) held buried_kept
+  buried_as h le up named quiet = record {
+    server = h.server;
+    sizes = h.sizes;
+    epoch = h.epoch;
+    clock = h.clock;
+    cells = h.cells;
+    sized = h.sized;
+    notes = h.notes;
+    places = places_set k.sessions client (record w { last = number; reply = r }) h.places;
+    sessions = sessions_as a.sessions k.sessions client (record w { last = number; reply = r }) h.sessions h.places le;
+    dead = λ d u. ap (cond {A = Option Cause} (d == client) None) (h.dead d u) ∙ dead_buried client k.dead d u;
+    lives = h.lives;
+    room = h.room;
+    unborn = h.unborn;
+    current = h.current;
+    drawn = h.drawn;
+    begun = h.begun;
+    undrawn = h.undrawn;
+    ends = h.ends;
+    lone = h.lone;
+    files = h.files;
+    made = h.made;
+    born = h.born;
+    earlier = h.earlier;
+    waits = waits_left a held k client h named;
+    queue = h.queue ∙ sym (queue_left a held k client h named);
+    asked = each-filter (IsWaitingAs a.holder a.locked) (stays client k.lives) k.waits h.asked;
+    quiet = quiet;
+    down = sym up;
+  }
+
+module _ {V : Type 0} (a : Alone) (held : Contents) (k : ServerState V) (client number : ℕ) (w : Session) (seen : Stamp) where
   -- as many are live as may be: the begin is refused, and the client's dead parts go
   pub begin_refused_stepped : (before now : ℕ) (x : Answer) → IsAs a held k → client ≤ 16 → k.is_down ≡ false → session_at k.sessions client ≡ Some w → number ≡ w.last + 1 → 64 ≤ map.len k.lives → AreNamed k.waits
       → x ≡ refused_answer (refusal.TooMany what.Transactions 64) []
-      → Stepped a before now held (record k { sessions = with_session k.sessions client (record w { last = number; reply = reply.Refused (refusal.TooMany what.Transactions 64) }); dead = without_client client k.dead; waits = live_calls client k.lives k.waits }) (event.Call client k.epoch number (call.Begin seen)) x
+      → Stepped a before now held (buried_kept a held k client number w (reply.Refused (refusal.TooMany what.Transactions 64))) (event.Call client k.epoch number (call.Begin seen)) x
   begin_refused_stepped before now x h le up there turn many named is =
       let f : Refusal = refusal.TooMany what.Transactions 64 in
-      let counted : Session = record w { last = number; reply = reply.Refused f } in
       let leads = begin_refused_leads a client number w seen f h.quiet (h.down ∙ up) (h.sessions client ∙ there) turn (many_live a held k h many) in
-      stepped_so a before now held held k (record k { sessions = with_session k.sessions client counted; dead = without_client client k.dead; waits = live_calls client k.lives k.waits }) client number w (call.Begin seen) false (reply.Refused f) []
-      (with_buried a client number w f) x is h leads
-      (record {
-        server = h.server;
-        sizes = h.sizes;
-        epoch = h.epoch;
-        clock = h.clock;
-        cells = h.cells;
-        sized = h.sized;
-        notes = h.notes;
-        places = places_set k.sessions client counted h.places;
-        sessions = sessions_as a.sessions k.sessions client counted h.sessions h.places le;
-        dead = λ d u. ap (cond {A = Option Cause} (d == client) None) (h.dead d u) ∙ buried k.dead d u;
-        lives = h.lives;
-        room = h.room;
-        unborn = h.unborn;
-        drawn = h.drawn;
-        begun = h.begun;
-        undrawn = h.undrawn;
-        files = h.files;
-        made = h.made;
-        born = h.born;
-        earlier = h.earlier;
-        committed = h.committed;
-        waits = waits_left a held k client h named;
-        queue = h.queue ∙ sym (queue_left a held k client h named);
-        asked = each-filter (IsWaitingAs a.holder a.locked) (stays client k.lives) k.waits h.asked;
-        quiet = leads.quiet;
-        down = sym up;
-      })
-      (λ e. cc) (omega (arith, h.clock))
+      stepped_so a before now held held k (buried_kept a held k client number w (reply.Refused f)) client number w (call.Begin seen) false (reply.Refused f) [] (with_buried a client number w f) x is h leads
+      (buried_as a held k client number w (reply.Refused f) h le up named leads.quiet) (λ e. cc) (omega (arith, h.clock))
 
 module _ {V : Type 0} (a : Alone) (held : Contents) (k : ServerState V) (client number : ℕ) (w : Session) (seen : Stamp) (p : Part) where
   abbrev pub begun_trans : TransId
@@ -279,6 +291,7 @@ module _ {V : Type 0} (a : Alone) (held : Contents) (k : ServerState V) (client 
     sessions = with_session k.sessions client (record w { last = number; reply = reply.Begun begun_trans });
     clock = max k.clock seen.ts;
     drawn = k.drawn + 1;
+    decisions = k.decisions ++ 0 ∷ [];
     dead = without_client client k.dead;
     lives = map.insert k.lives begun_trans begun_live;
     waits = live_calls client (map.insert k.lives begun_trans begun_live) k.waits;
@@ -310,11 +323,14 @@ module _ {V : Type 0} (a : Alone) (held : Contents) (k : ServerState V) (client 
 
   -- the next id was not drawn
   beyond_next : (server epoch count : ℕ) → is_beyond server epoch count (record { server = server; epoch = epoch; counter = count + 1 }) ≡ true
-  beyond_next server epoch count = ap not ((λ i. eq-eqb server server refl i && eq-eqb epoch epoch refl i && nat_lt 0 (count + 1) && not_le i) ∙ none (nat_lt 0 (count + 1)))
+  beyond_next server epoch count = ap not ((λ i. eq-eqb server server refl i && le-leb 1 (count + 1) (omega arith) i && (not_less i || (eq-eqb epoch epoch refl i && not_le i))))
     where
-      none : (b : Bool) → (b && false) ≡ false
-      none true = refl
-      none false = refl
+      not_less : nat_lt epoch epoch ≡ false
+      not_less = go (nat_lt epoch epoch) refl
+        where
+          go : (b : Bool) → nat_lt epoch epoch ≡ b → b ≡ false
+          go false e = refl
+          go true e = (let wrong : epoch < epoch = ltb-true epoch epoch e in absurd (omega (arith, wrong)))
 
       not_le : nat_le (count + 1) count ≡ false
       not_le = go (nat_le (count + 1) count) refl
@@ -331,18 +347,24 @@ module _ {V : Type 0} (a : Alone) (held : Contents) (k : ServerState V) (client 
       next : TransId
       next = record { server = server; epoch = epoch; counter = count + 1 }
 
+      either : (b : Bool) → (b || true) ≡ true
+      either true = refl
+      either false = refl
+
       go : (b : Bool) → same_trans next t ≡ b → cond {A = Fate} b (fate.begun client (fates t)) (fates t) ≡ Undrawn
       go true e =
-          let near : is_beyond server epoch (count + 1) t ≡ false = ap (is_beyond server epoch (count + 1)) (sym (same_trans-true next t e)) ∙ ap not (λ i. eq-eqb server server refl i && eq-eqb epoch epoch refl i && le-leb 1 (count + 1) (omega arith) i && le-leb (count + 1) (count + 1) (omega arith) i) in
+          let near : is_beyond server epoch (count + 1) t ≡ false = ap (is_beyond server epoch (count + 1)) (sym (same_trans-true next t e)) ∙ ap not ((λ i. eq-eqb server server refl i && le-leb 1 (count + 1) (omega arith) i && (nat_lt epoch epoch || (eq-eqb epoch epoch refl i && le-leb (count + 1) (count + 1) (omega arith) i))) ∙ either (nat_lt epoch epoch)) in
           let wrong : true ≡ false = sym far ∙ near in
           cc
-      go false e = before t (farther (t.server == server && t.epoch == epoch && nat_lt 0 t.counter) (nat_le t.counter (count + 1)) (nat_le t.counter count) (λ le. le-leb t.counter (count + 1) (let low : t.counter ≤ count = leb-true t.counter count le in omega (arith, low))) far)
+      go false e = before t (farther (t.server == server && nat_lt 0 t.counter) (nat_lt t.epoch epoch) (t.epoch == epoch) (nat_le t.counter (count + 1)) (nat_le t.counter count) (λ le. le-leb t.counter (count + 1) (let low : t.counter ≤ count = leb-true t.counter count le in omega (arith, low))) far)
         where
-          farther : (x y z : Bool) → (z ≡ true → y ≡ true) → not (x && y) ≡ true → not (x && z) ≡ true
-          farther false y z h e = refl
-          farther true y false h e = refl
-          farther true true true h e = e
-          farther true false true h e = let wrong : false ≡ true = h refl in cc
+          farther : (x o n y z : Bool) → (z ≡ true → y ≡ true) → not (x && (o || (n && y))) ≡ true → not (x && (o || (n && z))) ≡ true
+          farther false o n y z h e = refl
+          farther true true n y z h e = e
+          farther true false false y z h e = refl
+          farther true false true y false h e = refl
+          farther true false true true true h e = e
+          farther true false true false true h e = let wrong : false ≡ true = h refl in cc
 
   -- of other transactions just the same are live
   stays_alike : (ws : List WaitingCall) → AreOthers begun_trans ws → live_calls client k.lives ws ≡ live_calls client (map.insert k.lives begun_trans begun_live) ws
@@ -354,10 +376,10 @@ module _ {V : Type 0} (a : Alone) (held : Contents) (k : ServerState V) (client 
 
   pub begin_stepped : (before now : ℕ) (x : Answer) (locks : Table) → IsAs a held k → client ≤ 16 → k.is_down ≡ false → session_at k.sessions client ≡ Some w → number ≡ w.last + 1 → map.len k.lives < 64 → map.get k.lives begun_trans ≡ None
       → ((u : TransId) (r : Resource) → holding locks.held u r ≡ holding k.locks.held u r) → own_of p ≡ no_opens → p.intents ≡ no_intents → p.counts ≡ no_counts
-      → AreNamed k.waits → AreOthers begun_trans k.waits → locks.waiting ≡ k.locks.waiting → ((u : TransId) → held_of locks.held u ≡ held_of k.locks.held u)
+      → length k.decisions ≡ k.drawn → AreNamed k.waits → AreOthers begun_trans k.waits → locks.waiting ≡ k.locks.waiting → ((u : TransId) → held_of locks.held u ≡ held_of k.locks.held u)
       → x ≡ told_answer (Some (reply.Begun begun_trans)) (act.Drawn begun_trans ∷ [])
       → Stepped a before now held (with_begun_kept locks) (event.Call client k.epoch number (call.Begin seen)) x
-  begin_stepped before now x locks h le up there turn few new same opens none idle named away waiting beside is =
+  begin_stepped before now x locks h le up there turn few new same opens none idle long named away waiting beside is =
       let next : next_trans (alone a) ≡ begun_trans = trans_same h in
       let undrawn : a.fates (next_trans (alone a)) ≡ Undrawn = h.undrawn (next_trans (alone a)) (subst (λ (n : ℕ). is_beyond a.holder.server a.ids.epoch n (next_trans (alone a)) ≡ true) h.drawn (beyond_next a.holder.server a.ids.epoch a.ids.transactions)) in
       let leads = begin_leads a client number w seen h.quiet (h.down ∙ up) (h.sessions client ∙ there) turn undrawn (few_live a held k h few) in
@@ -375,22 +397,31 @@ module _ {V : Type 0} (a : Alone) (held : Contents) (k : ServerState V) (client 
         places = places_set k.sessions client counted h.places;
         sessions = subst (λ (t : TransId). (c : ℕ) → cond {A = Option Session} (c == client) (Some (record w { last = number; reply = reply.Begun t })) (a.sessions c) ≡ session_at (with_session k.sessions client counted) c) (sym next)
             (sessions_as a.sessions k.sessions client counted h.sessions h.places le);
-        dead = λ d u. ap (cond {A = Option Cause} (d == client) None) (h.dead d u) ∙ buried a held k client number w seen k.dead d u;
+        dead = λ d u. ap (cond {A = Option Cause} (d == client) None) (h.dead d u) ∙ dead_buried client k.dead d u;
         lives = subst (λ (t : TransId). (u : TransId) → IsAlike a.holder.cells locks.held (lock_set a.locked t [] u) u (map.get (map.insert k.lives begun_trans begun_live) u) (cond {A = Option Life} (same_trans u t) (Some (new_life None client w.who)) (a.holder.lives u))) (sym next)
             (begun_alike locks.held new same opens none idle h);
         room = added_room k.sizes a.holder.cells k.lives begun_trans begun_live new idle h.room;
         unborn = each_set (λ l. PutNoneBeyond a.holder.server a.ids.epoch k.given l.edits) (next_trans (alone a)) (Some (new_life None client w.who)) a.holder.lives h.unborn
-            (λ l at n high. ap (λ (y : Life). edits_at y.edits (Leader (record { server = a.holder.server; epoch = a.ids.epoch; counter = n })) None) (sym (same-some (new_life None client w.who) l at)));
+            (λ l at f comes. ap (λ (y : Life). edits_at y.edits (Leader f) None) (sym (same-some (new_life None client w.who) l at)));
+        current = each_set_at (λ u l. u.epoch ≡ a.ids.epoch) (next_trans (alone a)) (Some (new_life None client w.who)) a.holder.lives h.current (λ l at. refl);
         drawn = ap (λ (n : ℕ). n + 1) h.drawn;
-        begun = (λ i. h.begun i ++ (record { server = a.holder.server; epoch = a.ids.epoch; counter = h.drawn i + 1 }) ∷ []) ∙ one_more a.holder.server a.ids.epoch k.drawn;
+        begun = record {
+          early = h.begun.early;
+          old = h.begun.old;
+          all = (λ i. h.begun.all i ++ (record { server = a.holder.server; epoch = a.ids.epoch; counter = h.drawn i + 1 }) ∷ [])
+              ∙ append_assoc h.begun.early (trans_to a.holder.server a.ids.epoch k.drawn) ((record { server = a.holder.server; epoch = a.ids.epoch; counter = k.drawn + 1 }) ∷ [])
+              ∙ ap (λ (ts : List TransId). h.begun.early ++ ts) (one_more a.holder.server a.ids.epoch k.drawn);
+        };
         undrawn = subst (λ (n : ℕ). (t : TransId) → is_beyond a.holder.server a.ids.epoch (n + 1) t ≡ true
             → cond {A = Fate} (same_trans (next_trans (alone a)) t) (fate.begun client (a.fates t)) (a.fates t) ≡ Undrawn) h.drawn
             (undrawn_then a.holder.server a.ids.epoch a.ids.transactions a.fates (subst (λ (n : ℕ). (t : TransId) → is_beyond a.holder.server a.ids.epoch n t ≡ true → a.fates t ≡ Undrawn) (sym h.drawn) h.undrawn));
+        ends = subst (λ (n : ℕ). HaveEnds a.holder.server a.ids.epoch (n + 1) (k.decisions ++ 0 ∷ []) m.fates) h.drawn
+            (ends_begin a.holder.server a.ids.epoch a.ids.transactions k.decisions a.fates client (long ∙ sym h.drawn) undrawn (subst (λ (n : ℕ). HaveEnds a.holder.server a.ids.epoch n k.decisions a.fates) (sym h.drawn) h.ends));
+        lone = h.lone;
         files = h.files;
         made = h.made;
         born = h.born;
-        earlier = earlier_more a.holder.clock (max a.holder.clock seen.ts) a.holder.applied (omega arith) h.earlier;
-        committed = h.committed;
+        earlier = h.earlier;
         waits = waits_left a held k client h named ∙ ap waiting_calls (stays_alike k.waits away);
         queue = waiting ∙ h.queue ∙ sym (queue_left a held k client h named)
             ∙ sym (queue_beside a.holder m.holder k.locks.held locks.held (next_trans (alone a)) refl (λ u apart. ap (λ (b : Bool). cond {A = Option Life} b (Some (new_life None client w.who)) (a.holder.lives u)) apart) (λ u apart. beside u) (unburied a client)

@@ -39,6 +39,7 @@ use Rattle.alp_node.specs.declared.lives.Live.{Live}
 use Rattle.alp_node.specs.declared.server_state.ServerState.{ServerState}
 use Rattle.alp_node.specs.declared.sessions.Turn.{Turn}
 use Rattle.alp_node.proofs.DeadLemmas.{part_left, dead_then}
+use Rattle.alp_node.proofs.DecisionLemmas.{ends_moved, ended_still}
 use Rattle.alp_node.proofs.FinishLemmas.{still_undrawn, turn_session}
 use Rattle.alp_node.proofs.GoneLemmas.{Gone, gone, state_then, server_then, state_told, server_told, let_go_is, gone_as, waits_left, calls_left, waits_as, asked_left, queue_left}
 use Rattle.alp_node.proofs.KeptLemmas.{sessions_as, session_of, session_then, stands_timely, IsLive, live_there, stepped_so}
@@ -87,6 +88,7 @@ module _ {V : Type 0} (a : Alone) (before now : ℕ) (held : Contents) (k : Serv
         (subst (λ (x : Alone). IsAs x held (server_told a held k t m on h ready g fates told_sessions told_dead (waits_left a held k t m on h ready g turn.client) (counted_in k.sessions turn told) (without_part turn.client t k.dead) (calls_left a held k t m on h ready g turn.client))) state_is
         (gone_as a held k t m on h ready g fates told_sessions told_dead (waits_left a held k t m on h ready g turn.client) (counted_in k.sessions turn told) (without_part turn.client t k.dead) (calls_left a held k t m on h ready g turn.client) up
         (still_undrawn a.holder.server a.ids.epoch k.drawn a.fates t (fate.ended c) refl h.undrawn)
+        (ends_moved a.holder.server a.ids.epoch k.drawn k.decisions a.fates t (fate.ended c) (ended_still c) h.ends)
         (places_set k.sessions turn.client (session_then turn told) h.places)
         (sessions_as a.sessions k.sessions turn.client (session_then turn told) h.sessions h.places is.client)
         (λ d u. ap (cond {A = Option Cause} (d == turn.client && same_trans u t) None) (h.dead d u) ∙ part_left k.dead turn.client t d u)
@@ -148,7 +150,8 @@ module _ {V : Type 0} (a : Alone) (before now : ℕ) (held : Contents) (k : Serv
         subst (λ (z : ServerState V). IsAs (with_timeout_given a t life (granted_behind k t)) held z) (sym (ap (λ (z : ServerState V). record z { dead = k.dead ++ (record { client = l.client; trans = t }) ∷ [] }) (let_go_is a held k t m on h ready g)))
         (subst (λ (x : Alone). IsAs x held (server_told a held k t m on h ready g late_fates a.sessions late_dead (state_then a held k t m on h ready g).waits k.sessions (k.dead ++ (record { client = l.client; trans = t }) ∷ []) (server_then a held k t m on h ready g).waits)) late_state
         (gone_as a held k t m on h ready g late_fates a.sessions late_dead (state_then a held k t m on h ready g).waits k.sessions (k.dead ++ (record { client = l.client; trans = t }) ∷ []) (server_then a held k t m on h ready g).waits up
-        (still_undrawn a.holder.server a.ids.epoch k.drawn a.fates t (fate.ended cause.TimedOut) refl h.undrawn) h.places h.sessions
+        (still_undrawn a.holder.server a.ids.epoch k.drawn a.fates t (fate.ended cause.TimedOut) refl h.undrawn)
+        (ends_moved a.holder.server a.ids.epoch k.drawn k.decisions a.fates t (fate.ended cause.TimedOut) (ended_still cause.TimedOut) h.ends) h.places h.sessions
         (λ d u. ap (cond {A = Option Cause} (d == life.client && same_trans u t) (Some cause.TimedOut)) (h.dead d u)
         ∙ ap (λ (n : ℕ). cond {A = Option Cause} (d == n && same_trans u t) (Some cause.TimedOut) (dead_in k.dead d u)) its ∙ dead_then k.dead l.client t d u)
         g.all.waits g.all.asked g.queue (subst IsQuiet (sym late_state) quiet)))

@@ -2,8 +2,9 @@
 use Rattle.std.specs.Prelude.{cond, Bool, true, false, ◌==◌, ◌&&◌, ◌||◌, not, Option, None, Some, is_some, find, nat_lt, nat_le}
 use Rattle.std.specs.List.{AllByRecursion}
 use Rattle.std.specs.FinMap as map
-use Rattle.std.proofs.Common.{◌≡◌, ℕ, List, [], ◌∷◌, ◌++◌, refl, sym, ◌∙◌, ap, subst, eq-eqb, arith}
+use Rattle.std.proofs.Common.{◌≡◌, ℕ, ◌<◌, List, [], ◌∷◌, ◌++◌, refl, sym, ◌∙◌, ap, subst, eq-eqb, arith}
 use Rattle.std.proofs.lemmas.Bool.{eqb-true, ne_eqb, leb-true, ltb-true}
+use Rattle.alp_base.proofs.NameLemmas.{and_right}
 use Rattle.alp_base.specs.Causes.{Rose}
 use Rattle.alp_base.specs.declared.ids.TransId.{TransId}
 use Rattle.alp_modes.specs.declared.Mode.{Mode}
@@ -16,6 +17,7 @@ use Rattle.alp_files.specs.declared.refusal.Cause.TheVariants as cause
 use Rattle.alp_files.specs.declared.refusal.Why.{Why}
 use Rattle.alp_vault.specs.Contents.{Contents}
 use Rattle.alp_journal.specs.declared.act.Act.TheVariants as act
+use Rattle.alp_journal.specs.declared.event.Event.{Event}
 use Rattle.alp_journal.specs.declared.event.Event.TheVariants as event
 use Rattle.alp_journal.specs.Along.{Where}
 use Rattle.alp_journal.specs.Ids.{same_trans}
@@ -29,12 +31,13 @@ use Rattle.alp_journal.specs.Answers.{Part, NoPart, AtEnd, part_at, at_part, Fir
 use Rattle.alp_journal.specs.Alone.{Alone, alone, IsPaired, IsQuiet, Leads}
 use Rattle.alp_journal.proofs.IdLemmas.{same_trans-itself}
 use Rattle.alp_journal.proofs.AloneEntries.{counted_as, without_dead, unknown_finish_leads, dead_finish_leads}
+use Rattle.alp_journal.proofs.AloneTicks.{tick_leads, force_leads}
 use Rattle.alp_journal.proofs.AloneTimeouts.{as_it_was, idle_leads}
-use Rattle.alp_journal.proofs.QuietLemmas.{quiet_told, quiet_down, quiet_forgotten}
+use Rattle.alp_journal.proofs.QuietLemmas.{quiet_told, quiet_up, quiet_forgotten}
 use Rattle.alp_turns.proofs.MoveLemmas.{GoesIdle, queue_without}
 use Rattle.alp_node.specs.Dead.{dead_in, is_dead, without_part}
 use Rattle.alp_node.specs.ServerState.{IsAs, IsReady, IsWaitingAs, is_beyond}
-use Rattle.alp_node.specs.Steps.{Stepped, IsTurn, entry_of, counted_in, told_answer, refused_answer}
+use Rattle.alp_node.specs.Steps.{Stepped, IsTimely, IsTurn, entry_of, counted_in, told_answer, refused_answer}
 use Rattle.alp_node.specs.Waits.{waiting, waiting_calls, has_waiting, is_of, without_calls_of}
 use Rattle.alp_node.specs.declared.waits.WaitingCall.{WaitingCall}
 use Rattle.alp_node.proofs.GoneLemmas.{part_of_file, named_each, calls_gone, each_left, idle_calls}
@@ -46,18 +49,18 @@ use Rattle.alp_node.proofs.CountLemmas.{IsUpTo}
 use Rattle.alp_node.proofs.DeadLemmas.{part_left, dead_then}
 use Rattle.alp_node.proofs.TotalLemmas.{gone_room}
 use Rattle.alp_node.proofs.KeptLemmas.{sessions_as, session_of, session_then, stands_timely, alike_set, each_set, IsLive, live_there, none_live, stepped_so}
+use Rattle.alp_node.specs.Served.{IsIdleEvent}
 use Rattle.alp_node.specs.Standings.{standing_of}
 use Rattle.alp_node.specs.declared.served.Standing.{Standing}
 use Rattle.alp_node.specs.declared.served.Standing.TheVariants as standing
 use Rattle.alp_node.proofs.StandingLemmas.{part_of, EndsNone, none_running, part_is, finish_none, undrawn_elsewhere, dead_gone}
 use Rattle.alp_node.proofs.MapLemmas.{places_set, get_gone, tied_same}
 
--- four tests that hold
-record AllTrue (w x y z : Bool) : Type 0 where
+-- three tests that hold
+record AllTrue (w x y : Bool) : Type 0 where
   first : w ≡ true
   second : x ≡ true
   third : y ≡ true
-  fourth : z ≡ true
 
 -- ---- what stays
 
@@ -99,14 +102,16 @@ module _ {V : Type 0} (a : Alone) (held : Contents) (k : ServerState V) where
     lives = h.lives;
     room = h.room;
     unborn = h.unborn;
+    current = h.current;
     drawn = h.drawn;
     begun = h.begun;
     undrawn = h.undrawn;
+    ends = h.ends;
+    lone = h.lone;
     files = h.files;
     made = h.made;
     born = h.born;
     earlier = h.earlier;
-    committed = h.committed;
     quiet = turn_quiet turn r h is;
     down = sym up;
   }
@@ -115,12 +120,22 @@ module _ {V : Type 0} (a : Alone) (held : Contents) (k : ServerState V) where
   pub drawn_live : (t : TransId) (life : Life) → IsAs a held k → a.holder.lives t ≡ Some life → IsUpTo a.holder.server a.ids.epoch k.drawn t
   drawn_live t life h live = go (is_beyond a.holder.server a.ids.epoch k.drawn t) refl
     where
-      parts : (w x y z : Bool) → not (w && x && y && z) ≡ false → AllTrue w x y z
-      parts true true true true e = record { first = refl; second = refl; third = refl; fourth = refl }
-      parts true true true false e = cc
-      parts true true false z e = cc
-      parts true false y z e = cc
-      parts false x y z e = cc
+      now : t.epoch ≡ a.ids.epoch
+      now = h.current t life live
+
+      parts : (w x y z : Bool) → not (w && x && (y || z)) ≡ false → y ≡ false → AllTrue w x z
+      parts true true false true e f = record { first = refl; second = refl; third = refl }
+      parts true true false false e f = cc
+      parts true true true z e f = cc
+      parts true false y z e f = cc
+      parts false x y z e f = cc
+
+      not_older : nat_lt t.epoch a.ids.epoch ≡ false
+      not_older = go (nat_lt t.epoch a.ids.epoch) refl
+        where
+          go : (b : Bool) → nat_lt t.epoch a.ids.epoch ≡ b → b ≡ false
+          go false e = refl
+          go true e = (let wrong : t.epoch < a.ids.epoch = ltb-true t.epoch a.ids.epoch e in absurd (omega (arith, wrong, now)))
 
       go : (b : Bool) → is_beyond a.holder.server a.ids.epoch k.drawn t ≡ b → IsUpTo a.holder.server a.ids.epoch k.drawn t
       go true e =
@@ -128,8 +143,8 @@ module _ {V : Type 0} (a : Alone) (held : Contents) (k : ServerState V) where
           let wrong : Undrawn ≡ Running life.client [] = sym (h.undrawn t e) ∙ pair.0 in
           cc
       go false e =
-          let is = parts (t.server == a.holder.server) (t.epoch == a.ids.epoch) (nat_lt 0 t.counter) (nat_le t.counter k.drawn) e in
-          record { here = eqb-true t.server a.holder.server is.first; now = eqb-true t.epoch a.ids.epoch is.second; some = ltb-true 0 t.counter is.third; low = leb-true t.counter k.drawn is.fourth }
+          let is = parts (t.server == a.holder.server) (nat_lt 0 t.counter) (nat_lt t.epoch a.ids.epoch) (t.epoch == a.ids.epoch && nat_le t.counter k.drawn) e not_older in
+          record { here = eqb-true t.server a.holder.server is.first; now = now; some = ltb-true 0 t.counter is.second; low = leb-true t.counter k.drawn (and_right (t.epoch == a.ids.epoch) (nat_le t.counter k.drawn) is.third) }
 
 -- ---- a Finish that ends nothing
 
@@ -214,14 +229,16 @@ module _ {V : Type 0} (a : Alone) (before now : ℕ) (held : Contents) (k : Serv
         lives = h.lives;
         room = h.room;
         unborn = h.unborn;
+        current = h.current;
         drawn = h.drawn;
         begun = h.begun;
         undrawn = h.undrawn;
+        ends = h.ends;
+        lone = h.lone;
         files = h.files;
         made = h.made;
         born = h.born;
         earlier = h.earlier;
-        committed = h.committed;
         quiet = quiet_forgotten turn.client t (counted_as a turn.client turn.number w r) now_as.quiet;
         down = sym up;
       })
@@ -254,16 +271,40 @@ module _ {V : Type 0} (a : Alone) (before now : ℕ) (held : Contents) (k : Serv
       lives = h.lives;
       room = h.room;
       unborn = h.unborn;
+      current = h.current;
       drawn = h.drawn;
       begun = h.begun;
       undrawn = h.undrawn;
+      ends = h.ends;
+      lone = h.lone;
       files = h.files;
       made = h.made;
       born = h.born;
       earlier = h.earlier;
-      committed = h.committed;
-      quiet = quiet_down a false [] h.quiet;
+      quiet = quiet_up a h.quiet;
       down = sym up;
     };
     clock = stands_timely a.holder.clock 0 k.clock h.clock;
   }
+
+-- ---- a tick, and a force
+
+-- nothing comes about
+pub bare_stepped : {V : Type 0} (a : Alone) (faults : ℕ) (held : Contents) (k : ServerState V) (e : Event) (x : Answer) → IsAs a held k → k.is_down ≡ false → IsIdleEvent e → x ≡ told_answer None []
+    → Stepped a faults faults held k e x
+bare_stepped {V} a faults held k e x h up idle so = go e idle
+  where
+    step : (e : Event) → Leads false a (record { event = e; reply = None; acts = [] }) a → IsTimely a.holder.clock e k.clock → Stepped a faults faults held k e x
+    step e leads timely = record {
+      failed = false;
+      next = a;
+      leads = subst (λ (y : Answer). Leads false a (entry_of e y) a) (sym so) leads;
+      rose = λ w. cc;
+      kept = h;
+      clock = timely;
+    }
+
+    go : (e : Event) → IsIdleEvent e → Stepped a faults faults held k e x
+    go event.Tick is = step event.Tick (tick_leads a h.quiet (h.down ∙ up)) (stands_timely a.holder.clock 0 k.clock h.clock)
+    go event.Force is = step event.Force (force_leads a h.quiet (h.down ∙ up)) (stands_timely a.holder.clock 0 k.clock h.clock)
+    go e is = absurd is

@@ -20,7 +20,7 @@ use Rattle.alp_vault.specs.declared.vault.Vault.{Ghosts}
 use Rattle.alp_journal.specs.Alone.{alone}
 use Rattle.alp_calls.specs.Looks.{IsLeft}
 use Rattle.alp_calls.specs.Parts.{is_full}
-use Rattle.alp_node.specs.Durable.{said_by, MightBring, Leaves, Besides}
+use Rattle.alp_node.specs.Durable.{said_by, Leaves, Besides, NoOther}
 use Rattle.alp_node.proofs.SeatLemmas.{left_leaves}
 use Rattle.alp_node.specs.Halts.{HaveCauses, says_shut}
 use Rattle.alp_node.specs.ServerState.{IsReady}
@@ -123,8 +123,7 @@ module _ {V : Type 0} (G : Ghosts V) (old new : ServerState V) where
     seat = seat;
     turned = λ up. IfOk-from_err r (λ x. HasTurned o old new e x.kept) err;
     leaves = λ told a h.
-        match_err r (λ x. Leaves G old.vault new.vault (Besides G old.vault (λ c. c ≡ said_by (alone a) (entry_of e x)))) (λ _. Leaves G old.vault new.vault (Besides G old.vault (MightBring (alone a) e))) err
-        (λ _. left_leaves G old.vault new.vault (MightBring (alone a) e) left);
+        match_err r (λ x. Leaves G old.vault new.vault (Besides G old.vault (λ c. c ≡ said_by (alone a) (entry_of e x)))) (λ _. Leaves G old.vault new.vault (Besides G old.vault NoOther)) err (λ _. left_leaves G old.vault new.vault NoOther left);
   }
 
   -- that of a session's next call

@@ -41,6 +41,7 @@ use Rattle.alp_turns.specs.Queues.{AreHeldAlike, AreCallsApart, IsOnOther, reque
 use Rattle.alp_turns.proofs.MoveLemmas.{GoesIdle, IsGone, StandsStill, queue_gone, queue_without}
 use Rattle.alp_turns.proofs.QueueLemmas.{gives_on}
 use Rattle.alp_turns.proofs.RequestLemmas.{tied_same}
+use Rattle.alp_node.specs.Decisions.{HaveEnds}
 use Rattle.alp_node.specs.Dead.{dead_in}
 use Rattle.alp_node.specs.Releases.{granted_if, granted_one, granted_all, granted_behind, let_go}
 use Rattle.alp_node.specs.Sessions.{session_at}
@@ -366,7 +367,7 @@ module _ {V : Type 0} (a : Alone) (held : Contents) (k : ServerState V) (t : Tra
 
 module _ {V : Type 0} (a : Alone) (held : Contents) (k : ServerState V) (t : TransId) where
   abbrev none_beyond : TransId → Part → List Edit → Type 0
-  none_beyond u p es = PutNoneBeyond a.holder.server a.ids.epoch k.given es
+  none_beyond u p es = PutNoneBeyond a.holder.server a.ids.epoch k.given es × (u.epoch ≡ a.ids.epoch)
 
   abbrev pub Gone : Type 0
   Gone = HasLetGo a held k t a.holder.cells a.holder.clock a.holder.kept a.holder.applied a.holder.left none_beyond a.holder.cells
@@ -374,7 +375,7 @@ module _ {V : Type 0} (a : Alone) (held : Contents) (k : ServerState V) (t : Tra
   module _ (m : ℕ) (on : Bool) (h : IsAs a held k) (ready : IsReady m on k) where
     -- what its locks left to others
     pub gone : Gone
-    gone = has_let_go a held k t a.holder.cells a.holder.clock a.holder.kept a.holder.applied a.holder.left none_beyond a.holder.cells m on h ready (λ u l c live away. refl) (λ u l life there live away. h.unborn u life live)
+    gone = has_let_go a held k t a.holder.cells a.holder.clock a.holder.kept a.holder.applied a.holder.left none_beyond a.holder.cells m on h ready (λ u l c live away. refl) (λ u l life there live away. (h.unborn u life live, h.current u life live))
         (gone_room k.sizes a.holder.cells k.lives t h.room)
 
     module _ (g : Gone) where
@@ -395,11 +396,11 @@ module _ {V : Type 0} (a : Alone) (held : Contents) (k : ServerState V) (t : Tra
         abbrev pub server_told : ServerState V
         server_told = record k { lives = server_then.lives; locks = record (released k.locks t) { woken = [] }; sessions = kept_sessions; dead = kept_dead; waits = kept_waits }
 
-        pub gone_as : k.is_down ≡ false → ((u : TransId) → is_beyond a.holder.server a.ids.epoch k.drawn u ≡ true → fates u ≡ Undrawn)
+        pub gone_as : k.is_down ≡ false → ((u : TransId) → is_beyond a.holder.server a.ids.epoch k.drawn u ≡ true → fates u ≡ Undrawn) → HaveEnds a.holder.server a.ids.epoch k.drawn k.decisions fates
             → length kept_sessions.places ≡ 17 → ((client : ℕ) → sessions client ≡ session_at kept_sessions client) → ((client : ℕ) (u : TransId) → dead client u ≡ dead_in kept_dead client u)
             → waits ≡ waiting_calls kept_waits → AllByRecursion (IsWaitingAs state_then.holder state_then.locked) kept_waits → (released k.locks t).waiting ≡ queue_of state_then.holder (released k.locks t).held waits
             → IsQuiet state_told → IsAs state_told held server_told
-        gone_as up undrawn places same_sessions same_dead same_waits asked queue quiet = subst (λ (x : Holder). IsAs (record state_told { holder = x }) held server_told) (sym rest) (record {
+        gone_as up undrawn ends places same_sessions same_dead same_waits asked queue quiet = subst (λ (x : Holder). IsAs (record state_told { holder = x }) held server_told) (sym rest) (record {
           server = h.server;
           sizes = h.sizes;
           epoch = h.epoch;
@@ -413,18 +414,20 @@ module _ {V : Type 0} (a : Alone) (held : Contents) (k : ServerState V) (t : Tra
           waits = same_waits;
           queue = subst (λ (x : Holder). (released k.locks t).waiting ≡ queue_of x (released k.locks t).held waits) rest queue;
           asked = subst (λ (x : Holder). AllByRecursion (IsWaitingAs x state_told.locked) kept_waits) rest asked;
-          lives = lives_then a held k t a.holder.cells a.holder.clock a.holder.kept a.holder.applied a.holder.left none_beyond a.holder.cells m on h ready (λ u l c live away. refl) (λ u l life there live away. h.unborn u life live)
+          lives = lives_then a held k t a.holder.cells a.holder.clock a.holder.kept a.holder.applied a.holder.left none_beyond a.holder.cells m on h ready (λ u l c live away. refl) (λ u l life there live away. (h.unborn u life live, h.current u life live))
               (gone_room k.sizes a.holder.cells k.lives t h.room) g;
           room = g.all.fits;
-          unborn = λ u l is. unborn_then u l (map.get server_then.lives u) refl is (g.all.lives u);
+          unborn = λ u l is. (unborn_then u l (map.get server_then.lives u) refl is (g.all.lives u)).0;
+          current = λ u l is. (unborn_then u l (map.get server_then.lives u) refl is (g.all.lives u)).1;
           drawn = h.drawn;
           begun = h.begun;
           undrawn = undrawn;
+          ends = ends;
+          lone = h.lone;
           files = h.files;
           made = h.made;
           born = h.born;
           earlier = h.earlier;
-          committed = h.committed;
           quiet = subst (λ (x : Holder). IsQuiet (record state_told { holder = x })) rest quiet;
           down = sym up;
         })
@@ -433,7 +436,7 @@ module _ {V : Type 0} (a : Alone) (held : Contents) (k : ServerState V) (t : Tra
             first = with_life a.holder t None
 
             unborn_then : (u : TransId) (l : Life) (o : Option Live) → map.get server_then.lives u ≡ o → state_then.holder.lives u ≡ Some l → IsAlikeApart a.holder.cells (state_then.locked u) o (state_then.holder.lives u)
-                → PutNoneBeyond a.holder.server a.ids.epoch k.given l.edits
+                → PutNoneBeyond a.holder.server a.ids.epoch k.given l.edits × (u.epoch ≡ a.ids.epoch)
             unborn_then u l (Some z) at is alike = g.all.parts u z l at is
             unborn_then u l None at is alike = absurd (subst (IsAlikeApart a.holder.cells (state_then.locked u) None) is alike)
 

@@ -192,13 +192,14 @@ granted_ready m serves k w count more low prepared free idle others h = record {
   replies = h.replies;
   drawn = h.drawn;
   given = low;
-  committed = h.committed;
   few = h.few;
   most = h.most;
   within = h.within;
   sized = h.sized;
   clock = h.clock;
   raised = h.raised;
+  last = h.last;
+  decisions = h.decisions;
   unheld = λ u n high. all-of-plan k.locks w u (numbered k n) prepared
       ∙ joined_none (eq_by_cmp trans_cmp u w.trans) (holding k.locks.held u (numbered k n)) (held_by w.needs (numbered k n)) (h.unheld u n (omega (arith, more, high))) (others n high);
 }

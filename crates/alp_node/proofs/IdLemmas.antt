@@ -1,6 +1,7 @@
 -- which files were given an id
 use Rattle.std.specs.Prelude.{suc, zero, Bool, true, false, ◌&&◌, ◌||◌, ◌==◌, nat_lt, nat_le}
-use Rattle.std.proofs.Common.{inl, inr, ◌⊎◌, ◌≡◌, ℕ, ◌<◌, ◌≤◌, refl, sym, ◌∙◌, ap, arith, eq-eqb}
+use Rattle.std.specs.List.{AllByRecursion}
+use Rattle.std.proofs.Common.{inl, inr, ◌⊎◌, ◌≡◌, ℕ, ◌<◌, ◌≤◌, List, [], ◌∷◌, ◌++◌, subst, refl, sym, ◌∙◌, ap, arith, eq-eqb}
 use Rattle.std.proofs.lemmas.Bool.{eqb-true, leb-true, le-leb}
 use Rattle.alp_base.proofs.NameLemmas.{and_left, and_right}
 use Rattle.std.proofs.lemmas.Bool.Decides.{leb_tells}
@@ -126,9 +127,37 @@ module _ (server epoch count : ℕ) (f : FileId) where
           ((λ i. has_file (record { server = at i; epoch = eqb-true f.epoch epoch (and_left _ _ e) i; counter = f.counter }) (ids_to server epoch count))
           ∙ one_of_ids server epoch count f.counter some (leb-true f.counter count (and_right _ _ e)))
 
+-- what was made in older epochs is told as drawn anyway
+module _ (server epoch : ℕ) (f : FileId) where
+  found_drawn : (early : List FileId) → AllByRecursion (λ (g : FileId). is_drawn server epoch 0 g.server g.epoch g.counter ≡ true) early → has_file f early ≡ true → is_drawn server epoch 0 f.server f.epoch f.counter ≡ true
+  found_drawn [] old e = let wrong : false ≡ true = e in cc
+  found_drawn (g ∷ gs) old e = go (same_file g f) refl e (found_drawn gs old.1)
+    where
+      go : (b : Bool) → same_file g f ≡ b → (b || has_file f gs) ≡ true → (has_file f gs ≡ true → is_drawn server epoch 0 f.server f.epoch f.counter ≡ true) → is_drawn server epoch 0 f.server f.epoch f.counter ≡ true
+      go true is e rest = subst (λ (x : FileId). is_drawn server epoch 0 x.server x.epoch x.counter ≡ true) (same_file-true g f is) old.0
+      go false is e rest = rest e
+
+  pub early_drawn : (fs early : List FileId) → AllByRecursion (λ (g : FileId). is_drawn server epoch 0 g.server g.epoch g.counter ≡ true) early
+      → (is_drawn server epoch 0 f.server f.epoch f.counter || has_file f (fs ++ early)) ≡ (is_drawn server epoch 0 f.server f.epoch f.counter || has_file f fs)
+  early_drawn [] early old = go (is_drawn server epoch 0 f.server f.epoch f.counter) refl (has_file f early) refl
+    where
+      go : (b : Bool) → is_drawn server epoch 0 f.server f.epoch f.counter ≡ b → (c : Bool) → has_file f early ≡ c → (b || c) ≡ (b || false)
+      go true e c is = refl
+      go false e false is = refl
+      go false e true is = let wrong : true ≡ false = sym (found_drawn early old is) ∙ e in cc
+  early_drawn (g ∷ gs) early old = go (is_drawn server epoch 0 f.server f.epoch f.counter) (same_file g f) (early_drawn gs early old)
+    where
+      go : (b c : Bool) → (b || has_file f (gs ++ early)) ≡ (b || has_file f gs) → (b || (c || has_file f (gs ++ early))) ≡ (b || (c || has_file f gs))
+      go true c h = refl
+      go false true h = refl
+      go false false h = h
+
 module _ {V : Type 0} (a : Alone) (held : Contents) (k : ServerState V) (f : FileId) where
   told_as : IsAs a held k → is_file_drawn (alone a) f ≡ (is_drawn k.server k.epoch 0 f.server f.epoch f.counter || has_file f (ids_to k.server k.epoch k.given))
-  told_as h = (λ i. is_drawn (h.server i) (h.epoch i) 0 f.server f.epoch f.counter || has_file f (h.made i)) ∙ (λ i. is_drawn k.server k.epoch 0 f.server f.epoch f.counter || has_file f (ids_to (h.server i) (h.epoch i) k.given))
+  told_as h =
+      ap (λ (fs : List FileId). is_drawn a.holder.server a.ids.epoch 0 f.server f.epoch f.counter || has_file f fs) h.made.all
+      ∙ early_drawn a.holder.server a.ids.epoch f (ids_to a.holder.server a.ids.epoch k.given) h.made.early h.made.old
+      ∙ (λ i. is_drawn (h.server i) (h.epoch i) 0 f.server f.epoch f.counter || has_file f (ids_to (h.server i) (h.epoch i) k.given))
 
   -- an id that was never given was not drawn
   pub unknown_file : IsAs a held k → 0 < k.epoch → is_given k.server k.epoch k.given f ≡ false → is_file_drawn (alone a) f ≡ false

@@ -26,7 +26,7 @@ use Rattle.alp_journal.specs.Answers.{IsAnswer, AnswersCall}
 use Rattle.alp_journal.specs.Answered.{CountsVotes, ForgetsDone, GrantsFor, GrantsAtOnce}
 use Rattle.alp_journal.specs.Alone.{Alone, alone, IsQuiet, Leads}
 use Rattle.alp_journal.proofs.AloneLemmas.{quiet_votes, quiet_forgets}
-use Rattle.alp_journal.proofs.QuietLemmas.{quiet_down}
+use Rattle.alp_journal.proofs.QuietLemmas.{quiet_up}
 use Rattle.alp_calls.proofs.LookLemmas.{left_same}
 use Rattle.alp_node.specs.Halts.{says_shut}
 use Rattle.alp_node.specs.Orders.{greeting_order, session_order, order_of, idle_reply, is_answered, is_fault_now}
@@ -134,7 +134,7 @@ module _ (a : Alone) (client epoch number : ℕ) (c : Call) (r : Option Reply) w
           sessions = o.keeps;
           deeds = subst (Along state_deed (IsLawfulDeed asked) s) (sym o.tries) tt;
           agree = subst (λ (x : State). DoLivesAgree x.holder.lives) (sym leaves) q.settled.agree;
-          released = ((ap (flat_map (ended_by s)) (sym o.tries), ap (flat_map grants_of) (sym o.tries)), subst WaitsInTurn (sym leaves) (quiet_down a false [] q).turns);
+          released = ((ap (flat_map (ended_by s)) (sym o.tries), ap (flat_map grants_of) (sym o.tries)), subst WaitsInTurn (sym leaves) (quiet_up a q).turns);
           sent = refl;
           said = tt;
           told = subst (λ (x : State). TellsDecided s x asked r) (sym leaves) o.tells;
@@ -146,13 +146,13 @@ module _ (a : Alone) (client epoch number : ℕ) (c : Call) (r : Option Reply) w
           sent = subst (λ (x : State). IsPermutation (due false s x asked r) []) (sym leaves) (subst (λ (x : List Mail). IsPermutation x []) (sym o.mail) (IsPermutation-refl []));
           ticks = tt;
           applied = tt;
-          votes = subst CountsVotes (sym leaves) (quiet_votes unmoved (quiet_down a false [] q));
-          forgets = subst ForgetsDone (sym leaves) (quiet_forgets unmoved (quiet_down a false [] q));
+          votes = subst CountsVotes (sym leaves) (quiet_votes unmoved (quiet_up a q));
+          forgets = subst ForgetsDone (sym leaves) (quiet_forgets unmoved (quiet_up a q));
           turns = tt;
           grants = o.grants;
           halted = tt;
         };
-        quiet = quiet_down a false [] q;
+        quiet = quiet_up a q;
       }
 
 -- it is lawful and has its cause, and leaves all as it was
@@ -212,18 +212,20 @@ idle_stepped a before now held k client epoch number c x h up idle so =
         lives = h.lives;
         room = h.room;
         unborn = h.unborn;
+        current = h.current;
         drawn = h.drawn;
         begun = h.begun;
         undrawn = h.undrawn;
+        ends = h.ends;
+        lone = h.lone;
         files = h.files;
         made = h.made;
         born = h.born;
         earlier = h.earlier;
-        committed = h.committed;
         waits = h.waits;
         queue = h.queue;
         asked = h.asked;
-        quiet = quiet_down a false [] h.quiet;
+        quiet = quiet_up a h.quiet;
         down = sym up;
       };
       clock = stands_timely a.holder.clock (seen_in (event.Call client epoch number c)) k.clock h.clock;

@@ -1,5 +1,7 @@
 pub mod BlockSets
 pub mod MapLemmas
+pub mod ClockLaws
+pub mod DecisionLemmas
 pub mod ReadyLemmas
 pub mod SeatLemmas
 pub mod GivenLemmas
@@ -8,6 +10,7 @@ pub mod TotalLemmas
 pub mod LockCountLemmas
 pub mod DeadLemmas
 pub mod KeptLemmas
+pub mod ToComeLemmas
 pub mod EndLemmas
 pub mod StandingLemmas
 pub mod FinishLemmas
@@ -58,6 +61,10 @@ pub mod CollectLemmas
 pub mod CollectedLemmas
 pub mod CollectStepLemmas
 pub mod NodeLemmas
+pub mod StopLemmas
+pub mod PastLemmas
+pub mod DownLemmas
+pub mod RaiseLemmas
 pub mod LiveLemmas
 pub mod NoteLemmas
 pub mod StoreLemmas
@@ -65,3 +72,5 @@ pub mod StartLemmas
 pub mod GiveOnLemmas
 pub mod GoneLemmas
 pub mod EndingLemmas
+pub mod OutcomeLemmas
+pub mod JoinLemmas

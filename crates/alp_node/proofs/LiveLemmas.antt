@@ -1,14 +1,14 @@
 -- the transactions that are live, by their ids
-use Rattle.std.specs.Prelude.{Option, None, Some, IsSome, ◌↔◌, Vec, IfOk, Result, Ok, Err, IsTrue}
+use Rattle.std.specs.Prelude.{Bool, true, Option, None, Some, is_none, IsSome, ◌↔◌, slice_get, Vec, IfOk, Result, Ok, Err, IsTrue}
 use Rattle.std.specs.List.{Contains}
 use Rattle.std.specs.List.Sorted.{IsStrictlySortedBy}
 use Rattle.std.specs.Cmp.{eq_by_cmp_equiv}
 use Rattle.std.specs.Global.{Global}
 use Rattle.std.specs.FinMap as map
-use Rattle.std.specs.FinMap.{contains_key-keys, len-entries}
+use Rattle.std.specs.FinMap.{contains_key-keys, len-entries, empty_of_len, len-empty}
 use Rattle.std.proofs.lemmas.Map.Entries.{length-keys_of}
 use Rattle.std.proofs.lemmas.Map.Views.{Contains-from_any, list_any-from_Contains}
-use Rattle.std.proofs.Common.{◌≡◌, ◌≤◌, List, length, refl, sym, ◌∙◌, ap, subst, arith}
+use Rattle.std.proofs.Common.{◌≡◌, ◌≤◌, List, [], ◌∷◌, length, refl, sym, ◌∙◌, ap, subst, arith}
 use Rattle.alp_base.specs.declared.ids.TransId.{TransId}
 use Rattle.alp_base.specs.declared.key.Resource.{Resource}
 use Rattle.alp_base.specs.declared.memory.OutOfMemory.{OutOfMemory}
@@ -39,6 +39,19 @@ key_there m t = (
 )
 
 module _ {V : Type 0} (G : Ghosts V) (n : NodeState V) where
+  -- those that are kept are just those that are live
+  pub keys_live : IsConsistent G n → IsStrictlySortedBy trans_cmp (map.keys n.kept.lives) → IsTrue (G.tells n.kept.vault) → AreLive (state_of (start_in G n) n.journal) (map.keys n.kept.lives)
+  keys_live h rising tells =
+      let r : IsRight (start_in G n) (G.held n.kept.vault) n = h.right tells in
+      subst (λ (s : State). AreLive s (map.keys n.kept.lives)) (sym r.says) (record {
+        rise = rising;
+        live = λ t. (
+            let there = key_there n.kept.lives t in
+            let same = alike_some r.state.holder.cells n.kept.locks.held (r.state.locked t) t (map.get n.kept.lives t) (r.state.holder.lives t) (r.kept.lives t) in
+            ((λ c. same.0 (there.0 c)), (λ some. there.1 (same.1 some)))
+            );
+      })
+
   pub ids_live : (r : Result (Vec TransId Global) OutOfMemory) → IsConsistent G n → IfOk r (λ v. v.items ≡ map.keys n.kept.lives) → IfOk r (λ v. IsStrictlySortedBy trans_cmp v.items)
       → IsTrue (G.tells n.kept.vault) → IfOk r (λ v. AreLive (state_of (start_in G n) n.journal) v.items)
   ids_live (Err e) h ids rising tells = tt
@@ -60,3 +73,22 @@ module _ {V : Type 0} (G : Ghosts V) (n : NodeState V) where
   ids_few (Ok v) h ids =
       let all : length v.items ≡ map.len n.kept.lives = ap length ids ∙ length-keys_of (map.entries n.kept.lives) ∙ sym (len-entries n.kept.lives) in
       omega (arith, all, h.ready.few)
+
+-- ---- whether none is live
+
+none_first : {A : Type 0} (xs : List A) → is_none (slice_get xs 0) ≡ true → length xs ≡ 0
+none_first [] e = refl
+none_first (x ∷ xs) e = cc
+
+first_none : {A : Type 0} (xs : List A) → length xs ≡ 0 → is_none (slice_get xs 0) ≡ true
+first_none [] e = refl
+first_none (x ∷ xs) e = absurd (omega (arith, e))
+
+-- a server has no least of those that it keeps just where it keeps none
+pub settled_kept : (m : LiveMap) (first : Option TransId) (b : Bool) → first ≡ slice_get (map.keys m) 0 → b ≡ is_none first → (b ≡ true) ↔ (m ≡ map.empty)
+settled_kept m first b least is =
+    let same : b ≡ is_none (slice_get (map.keys m) 0) = is ∙ ap is_none least in
+    let all : length (map.keys m) ≡ map.len m = length-keys_of (map.entries m) ∙ sym (len-entries m) in (
+      (λ settled. empty_of_len m (sym all ∙ none_first (map.keys m) (sym same ∙ settled))),
+      (λ none. same ∙ first_none (map.keys m) (all ∙ ap map.len none ∙ len-empty trans_cmp Live)),
+    )

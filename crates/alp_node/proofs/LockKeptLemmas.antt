@@ -54,7 +54,7 @@ use Rattle.alp_node.proofs.ShapeLemmas.{count_none_done}
 use Rattle.alp_node.proofs.TotalLemmas.{same_room}
 use Rattle.alp_node.proofs.ConflictLemmas.{not_empty}
 use Rattle.alp_node.proofs.FinishLemmas.{turn_session, counts_as}
-use Rattle.alp_node.proofs.KeptLemmas.{session_of, IsLive, live_there, alike_under, alike_set, each_set, stands_timely, stepped_so}
+use Rattle.alp_node.proofs.KeptLemmas.{session_of, IsLive, live_there, alike_under, alike_set, each_set, each_set_at, stands_timely, stepped_so}
 use Rattle.alp_node.proofs.LockLemmas.{taken_other, taken_beside, taken_waiting}
 use Rattle.alp_node.proofs.LockCallLemmas.{locked_then}
 use Rattle.alp_node.proofs.LockDoneLemmas.{locks_now, asked, lock_left, first_held, lock_free, lock_why, grants_none, grants_some, under_held, still_locked, known_then, count_then, lock_performed}
@@ -167,14 +167,16 @@ module _ {V : Type 0} (a : Alone) (before now : ℕ) (held : Contents) (k : Serv
       lives = λ u. subst (λ (x : Option Live). IsAlike a.holder.cells with_asked.held (a.locked u) u x (a.holder.lives u)) (sym (get_put k.lives t live_now u)) (go u (same_trans u t) refl);
       room = same_room k.sizes a.holder.cells k.lives t l live_now there stands.2 h.room;
       unborn = h.unborn;
+      current = h.current;
       drawn = h.drawn;
       begun = h.begun;
       undrawn = h.undrawn;
+      ends = h.ends;
+      lone = h.lone;
       files = h.files;
       made = h.made;
       born = h.born;
       earlier = h.earlier;
-      committed = h.committed;
       waits = h.waits;
       queue = taken_waiting k.locks wanted ∙ h.queue ∙ sym (queue_beside a.holder a.holder k.locks.held with_asked.held t refl (λ u apart. refl) (λ u apart. taken_beside k.locks wanted u apart) a.waits others_asked);
       asked = h.asked;
@@ -220,14 +222,16 @@ module _ {V : Type 0} (a : Alone) (before now : ℕ) (held : Contents) (k : Serv
           room = same_room k.sizes a.holder.cells k.lives t l live_now there stands.2 h.room;
           unborn = each_set (λ x. PutNoneBeyond a.holder.server a.ids.epoch k.given x.edits) t (Some new) a.holder.lives h.unborn
               (λ x at. subst (λ (y : Life). PutNoneBeyond a.holder.server a.ids.epoch k.given y.edits) (same-some new x at) (h.unborn t life live));
+          current = each_set_at (λ u x. u.epoch ≡ a.ids.epoch) t (Some new) a.holder.lives h.current (λ x at. h.current t life live);
           drawn = h.drawn;
           begun = h.begun;
           undrawn = h.undrawn;
+          ends = h.ends;
+          lone = h.lone;
           files = h.files;
           made = h.made;
           born = h.born;
           earlier = h.earlier;
-          committed = h.committed;
           waits = h.waits;
           queue = taken_waiting k.locks wanted ∙ h.queue ∙ sym (queue_beside a.holder (with_locks a turn.client turn.number w t life c f).holder k.locks.held with_asked.held t refl (λ u apart. ap (λ (b : Bool). cond {A = Option Life} b (Some new) (a.holder.lives u)) apart)
               (λ u apart. taken_beside k.locks wanted u apart) a.waits others_asked);

@@ -36,7 +36,7 @@ use Rattle.alp_node.specs.Rooms.{IsRoomOf, IsWithin}
 use Rattle.alp_node.specs.Totals.{LiveMap}
 use Rattle.alp_node.proofs.WithinLemmas.{within_same}
 use Rattle.alp_node.specs.Dead.{is_dead}
-use Rattle.alp_node.specs.ServerState.{IsAs, IsReady}
+use Rattle.alp_node.specs.ServerState.{IsAs, IsReady, IsNumbered}
 use Rattle.alp_node.specs.Standings.{standing_of}
 use Rattle.alp_node.specs.Steps.{IsStep, IsRefused, IsDown, IsTurn, IsOf, counted_in, refused_answer}
 use Rattle.alp_node.specs.declared.answer.Answer.{Answer}
@@ -93,14 +93,15 @@ module _ {V : Type 0} (n : ℕ) (before serves : Bool) (k : ServerState V) (t : 
     replies = h.replies;
     drawn = omega (arith, h.drawn, le);
     given = omega (arith, h.given, le);
-    committed = omega (arith, h.committed, le);
     few = (let same : map.len (map.insert k.lives t (record l { part = p; locks = b })) ≡ map.len k.lives = put_length k.lives t (record l { part = p; locks = b }) (ap is_some there) in omega (arith, same, h.few, le));
     most = (let same : map.len (map.insert k.lives t (record l { part = p; locks = b })) ≡ map.len k.lives = put_length k.lives t (record l { part = p; locks = b }) (ap is_some there) in omega (arith, same, h.most));
     within = λ u x is. within_so u (same_trans u t) x (sym (get_put k.lives t (record l { part = p; locks = b }) u) ∙ is);
     sized = h.sized;
     clock = h.clock;
     raised = h.raised;
+    last = h.last;
     unheld = h.unheld;
+    decisions = h.decisions;
   }
     where
       all_like : (ws : List WaitingCall) → AllByRecursion (λ (w : WaitingCall). same_trans w.trans t ≡ true → IsLikePart l (record l { part = p; locks = b })) ws
@@ -126,7 +127,7 @@ module _ {V : Type 0} (n : ℕ) (before serves : Bool) (k : ServerState V) (t : 
       known_so u true e x is = h.known u l (at_t u e)
       known_so u false e x is = h.known u x is
 
-      begun_so : (u : TransId) (e : Bool) → same_trans u t ≡ e → (x : Live) → cond {A = Option Live} e (Some (record l { part = p; locks = b })) (map.get k.lives u) ≡ Some x → u.counter ≤ k.drawn
+      begun_so : (u : TransId) (e : Bool) → same_trans u t ≡ e → (x : Live) → cond {A = Option Live} e (Some (record l { part = p; locks = b })) (map.get k.lives u) ≡ Some x → IsNumbered k.drawn u
       begun_so u true e x is = h.begun u l (at_t u e)
       begun_so u false e x is = h.begun u x is
 

@@ -19,12 +19,12 @@ use Rattle.alp_node.specs.declared.sessions.Sessions.{Sessions}
 -- ---- sessions
 
 -- what stands at a place of a list in which one is set
-at_same : {X : Type 0} (xs : List X) (i : ℕ) (y : X) → i < length xs → slice_get (slice_set xs i y) i ≡ Some y
+pub at_same : {X : Type 0} (xs : List X) (i : ℕ) (y : X) → i < length xs → slice_get (slice_set xs i y) i ≡ Some y
 at_same [] i y h = absurd (omega arith)
 at_same (x ∷ xs) zero y h = refl
 at_same (x ∷ xs) (suc i) y h = at_same xs i y (omega arith)
 
-at_other : {X : Type 0} (xs : List X) (i j : ℕ) (y : X) → (j ≡ i → ⊥) → slice_get (slice_set xs i y) j ≡ slice_get xs j
+pub at_other : {X : Type 0} (xs : List X) (i j : ℕ) (y : X) → (j ≡ i → ⊥) → slice_get (slice_set xs i y) j ≡ slice_get xs j
 at_other [] zero j y away = refl
 at_other [] (suc i) j y away = refl
 at_other (x ∷ xs) zero zero y away = absurd (away refl)
@@ -47,7 +47,7 @@ pub session_kept : (s : Sessions) (client : ℕ) (w : Session) (c : ℕ) → len
 session_kept s client w c full le =
     ap (option_and_then (λ z. z)) (at_set s.places client c (Some w) (omega (arith, full, le))) ∙ at_cond (c == client) w (slice_get s.places c)
 
-length_set : {X : Type 0} (xs : List X) (i : ℕ) (y : X) → length (slice_set xs i y) ≡ length xs
+pub length_set : {X : Type 0} (xs : List X) (i : ℕ) (y : X) → length (slice_set xs i y) ≡ length xs
 length_set [] zero y = refl
 length_set [] (suc i) y = refl
 length_set (x ∷ xs) zero y = refl

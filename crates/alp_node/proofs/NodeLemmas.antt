@@ -1,9 +1,11 @@
 -- a server and its journal, one step more
-use Rattle.std.specs.Prelude.{cond, Bool, IsTrue, true, false, Option, Some, Result, Ok, Err, IfOk, OnErr, MatchResult}
+use Rattle.std.specs.Prelude.{cond, Bool, IsTrue, true, false, flat_map, Option, Some, Result, Ok, Err, IfOk, OnErr, MatchResult}
 use Rattle.std.specs.FinMap as map
 use Rattle.std.proofs.lemmas.Option.{slice_get_within}
+use Rattle.std.proofs.lemmas.Grind.{flat_map-append}
 use Rattle.std.proofs.Common.{◌≡◌, ◌<◌, ℕ, ◌+◌, List, [], ◌∷◌, ◌++◌, length, length-append, refl, sym, ◌∙◌, ap, subst, inl, inr, ⊎_elim, arith}
 use Rattle.alp_base.specs.Crashes.{Only, Either}
+use Rattle.alp_base.specs.declared.allowance.Allowance.{Allowance}
 use Rattle.alp_base.specs.declared.memory.OutOfMemory.{OutOfMemory}
 use Rattle.alp_files.specs.declared.reply.Reply.{Reply}
 use Rattle.alp_files.specs.Edits.{Edit, edits_map}
@@ -13,6 +15,8 @@ use Rattle.alp_calls.proofs.PartLaws.{same_change}
 use Rattle.alp_trans.specs.Parts.{change_of}
 use Rattle.alp_vault.specs.Contents.{Contents}
 use Rattle.alp_vault.specs.declared.vault.Vault.{Ghosts}
+use Rattle.alp_journal.specs.declared.act.Act.{Act}
+use Rattle.alp_journal.specs.declared.act.Act.TheVariants as act
 use Rattle.alp_journal.specs.declared.entry.Entry.{Entry}
 use Rattle.alp_journal.specs.declared.event.Event.{Event}
 use Rattle.alp_journal.specs.declared.event.Event.TheVariants as event
@@ -30,8 +34,9 @@ use Rattle.alp_journal.specs.Alone.{Alone, alone, IsPaired, IsOwnEvent, AreOwnEv
 use Rattle.alp_node.specs.declared.answer.Answer.{Answer}
 use Rattle.alp_node.specs.NodeStates.{NodeState}
 use Rattle.alp_node.specs.ServerState.{IsAs, IsReady}
-use Rattle.alp_node.specs.Durable.{IsDurable, IsSettled, IsKeptOrBrought, MightBring, Leaves, Besides, said_of, said_by, said_then, stored_by}
-use Rattle.alp_node.specs.Nodes.{IsConsistent, IsRight, Answered, HasCause, HasNoEntry, HasRoom, state_of, start_by, start_in}
+use Rattle.alp_node.specs.Durable.{IsDurable, IsSettled, Leaves, Besides, NoOther, said_of, said_by, said_then, stored_by}
+use Rattle.alp_node.specs.Nodes.{IsConsistent, IsRight, Answered, HasCause, HasNoEntry, HasRoom, state_of, start_by, start_in, sent_by, sent_in}
+use Rattle.alp_node.specs.Halts.{HaveCauses}
 use Rattle.alp_node.specs.Steps.{Stepped, IsStepAs, IsEntered, entry_of}
 use Rattle.alp_node.specs.Turns.{HasTurned}
 use Rattle.alp_node.specs.Served.{IsServed, AreLivesSound}
@@ -52,10 +57,12 @@ pub caused_so : {V : Type 0} (o : Start) (held then : Contents) (old new : NodeS
     → HasCause before now (state_of o old.journal) (entry_of e x)
 caused_so o held then old new before now e x h s = (s.failed, subst (λ (z : State). IsAnsweredEntry s.failed z (entry_of e x)) (sym h.says) s.leads.answered, s.rose)
 
--- what is served is a call or a timeout
+-- what is served is no message
 pub served_own : (e : Event) → IsServed e → IsOwnEvent e
 served_own (event.Call client epoch number c) served = tt
 served_own (event.Timeout t) served = tt
+served_own event.Tick served = tt
+served_own event.Force served = tt
 served_own e served = absurd served
 
 -- a journal that had room holds no entry too many
@@ -105,6 +112,28 @@ right_sound G n held r up t l there =
 
 pub counted_pushed : (es fs : List Entry) (e : Entry) → fs ≡ es ++ e ∷ [] → length fs ≡ length es + 1
 counted_pushed es fs e is = ap length is ∙ length-append es (e ∷ [])
+
+-- ---- what is sent
+
+-- acts with causes send nothing
+pub none_sent : (before now : ℕ) (allowance : Allowance) (acts : List Act) → HaveCauses before now allowance acts → flat_map sent_by acts ≡ []
+none_sent before now allowance [] h = refl
+none_sent before now allowance (act.Sent to message ∷ more) h = absurd h
+none_sent before now allowance (act.Granted t ∷ more) h = none_sent before now allowance more h
+none_sent before now allowance (act.Drawn t ∷ more) h = none_sent before now allowance more h
+none_sent before now allowance (act.Registered t join ∷ more) h = none_sent before now allowance more h
+none_sent before now allowance (act.Readied t join ts ∷ more) h = none_sent before now allowance more h
+none_sent before now allowance (act.Decided stamp parts ∷ more) h = none_sent before now allowance more h
+none_sent before now allowance (act.Applied join stamp ∷ more) h = none_sent before now allowance more h
+none_sent before now allowance (act.Released t ∷ more) h = none_sent before now allowance more h
+none_sent before now allowance (act.Forgot t ∷ more) h = none_sent before now allowance more h
+none_sent before now allowance (act.Regained epoch clock ready stamps ∷ more) h = none_sent before now allowance more h
+none_sent before now allowance (act.Stopped ∷ more) h = none_sent before now allowance more h.1
+none_sent before now allowance (act.Failed ∷ more) h = none_sent before now allowance more h.1
+
+-- one entry more that sends nothing
+pub sent_pushed : (es fs : List Entry) (e : Entry) → fs ≡ es ++ e ∷ [] → sent_in es ≡ [] → flat_map sent_by e.acts ≡ [] → sent_in fs ≡ []
+sent_pushed es fs e is none own = ap sent_in is ∙ flat_map-append (λ (x : Entry). flat_map sent_by x.acts) es (e ∷ []) ∙ (λ i. none i ++ (own i ++ []))
 
 -- ---- what its vault holds
 
@@ -219,9 +248,11 @@ module _ {V : Type 0} (G : Ghosts V) (old : NodeState V) (kept : ServerState V) 
       step_kept : IsConsistent G node_then
       step_kept = record {
         number = s.seat.same.number ∙ h.number ∙ sym s.seat.server;
+        all = s.seat.same.of_all ∙ h.all;
         sizes = s.seat.sizes ∙ h.sizes ∙ sym s.seat.same.sizes;
         ready = ready_then;
         noted = s.noted h.noted;
+        mute = sent_pushed old.journal journal (entry_of e x) is h.mute (none_sent (G.faults old.kept.vault) (G.faults kept.vault) (G.allowance kept.vault) x.acts s.given.causes);
         right = λ told. subst (λ (o : Start). IsRight o (G.held kept.vault) node_then) (start_then s.seat.server) (right_then (told_before s.seat.same.telling told));
         durable = λ told. subst (λ (o : Start). IsDurable (state_of o journal) (G.may_leave kept.vault)) (start_then s.seat.server) (durable_then (told_before s.seat.same.telling told));
       }
@@ -242,9 +273,11 @@ module _ {V : Type 0} (G : Ghosts V) (old : NodeState V) (kept : ServerState V) 
       still_kept : IsConsistent G node_then
       still_kept = record {
         number = s.seat.same.number ∙ h.number ∙ sym s.seat.server;
+        all = s.seat.same.of_all ∙ h.all;
         sizes = s.seat.sizes ∙ h.sizes ∙ sym s.seat.same.sizes;
         ready = still_ready;
         noted = s.noted h.noted;
+        mute = ap sent_in is ∙ h.mute;
         right = λ told. subst (λ (o : Start). IsRight o (G.held kept.vault) node_then) (start_then s.seat.server) (right_still (told_before s.seat.same.telling told));
         durable = λ told. subst (λ (o : Start). IsDurable (state_of o journal) (G.may_leave kept.vault)) (start_then s.seat.server) (durable_still (told_before s.seat.same.telling told));
       }
@@ -254,7 +287,7 @@ module _ {V : Type 0} (G : Ghosts V) (old : NodeState V) (kept : ServerState V) 
     entered_kept (Err f) room own (s, is) = still_kept f s is
 
     leaves_still : (f : OutOfMemory) → IsStepAs G o old.kept kept e (Err f) → IsTrue (G.tells old.kept.vault)
-        → Leaves G old.kept.vault kept.vault (IsKeptOrBrought (G.held old.kept.vault) (state_of (start_in G old) old.journal) e)
+        → Leaves G old.kept.vault kept.vault (λ c. c ≡ G.held old.kept.vault)
     leaves_still f s told = record {
       crash = λ c here. kept_or c (then.crash c here);
       time = record { each = λ start c was. ⊎_elim (λ first. inl first) (λ now. inr (kept_or c now)) (then.time.each start c was) };
@@ -263,17 +296,17 @@ module _ {V : Type 0} (G : Ghosts V) (old : NodeState V) (kept : ServerState V) 
         r : IsRight (start_in G old) (G.held old.kept.vault) old
         r = h.right told
 
-        then : Leaves G old.kept.vault kept.vault (Besides G old.kept.vault (MightBring (alone r.state) e))
+        then : Leaves G old.kept.vault kept.vault (Besides G old.kept.vault NoOther)
         then = s.leaves told r.state r.kept
 
-        kept_or : (c : Contents) → Besides G old.kept.vault (MightBring (alone r.state) e) c → IsKeptOrBrought (G.held old.kept.vault) (state_of (start_in G old) old.journal) e c
-        kept_or c (inl first) = inl (only_before told c first)
-        kept_or c (inr (inl same)) = inl same
-        kept_or c (inr (inr might)) = inr (subst (λ (z : State). MightBring z e c) (sym r.says) might)
+        kept_or : (c : Contents) → Besides G old.kept.vault NoOther c → c ≡ G.held old.kept.vault
+        kept_or c (inl first) = only_before told c first
+        kept_or c (inr (inl same)) = same
+        kept_or c (inr (inr other)) = absurd other
 
     pub entered_durable : (r : Result (Option Reply) OutOfMemory) → HasRoom old → IsOwnEvent e → IsEntered G o old.kept kept old.journal journal e r → IsTrue (G.tells old.kept.vault)
         → MatchResult r (λ _. Leaves G old.kept.vault kept.vault (Either (G.held old.kept.vault) (said_then (state_of (start_in G node_then) journal))))
-        (λ _. Leaves G old.kept.vault kept.vault (IsKeptOrBrought (G.held old.kept.vault) (state_of (start_in G old) old.journal) e))
+        (λ _. Leaves G old.kept.vault kept.vault (λ c. c ≡ G.held old.kept.vault))
     entered_durable (Ok y) room own (x, s, handed, is) told =
         subst (λ (o : Start). Leaves G old.kept.vault kept.vault (Either (G.held old.kept.vault) (said_then (state_of o journal)))) (start_then s.seat.server) (leaves_then x room own s is told)
     entered_durable (Err f) room own (s, is) told = leaves_still f s told

@@ -5,7 +5,7 @@ use Rattle.std.specs.FinMap.{get-insert, get-empty, same_map}
 use Rattle.std.specs.Cmp.Lexicographic.{nat_list_cmp_total}
 use Rattle.std.specs.Ordering.{eq_by_cmp}
 use Rattle.std.proofs.lemmas.Map.Lookups.{exact_bytes}
-use Rattle.std.proofs.Common.{◌≡◌, ℕ, List, refl, sym, ◌∙◌, ap}
+use Rattle.std.proofs.Common.{◌≡◌, ℕ, List, [], ◌∷◌, refl, sym, ◌∙◌, ap}
 use Rattle.alp_base.specs.Notes.{Notes, text_cmp}
 use Rattle.alp_fields.specs.Forms.{whole}
 use Rattle.alp_fields.specs.ClockNote.{clock_name, clock_form, clock_in, clock_kept}
@@ -13,10 +13,18 @@ use Rattle.alp_fields.specs.declared.clock_note.ClockNote.{ClockNote}
 use Rattle.alp_files.specs.Cells.{same_name}
 use Rattle.alp_files.proofs.SameLemmas.{same_name-true}
 use Rattle.alp_vault.specs.Volumes.{AreServerNotes}
+use Rattle.alp_vault.proofs.VolumeLemmas.{changed_notes}
 use Rattle.alp_node.specs.Durable.{clock_notes}
 
 abbrev no_notes : Notes
 no_notes = map.empty
+
+-- by itself it is in the format
+pub noted_alone : (server servers : ℕ) (c : ClockNote) → clock_form.Fits c → AreServerNotes server servers (clock_notes c)
+noted_alone server servers c fits = changed_notes server servers no_notes ((record { name = clock_name; value = Some (clock_form.spell c) }) ∷ []) none (record { name = refl; clock = c; fits = fits; value = refl })
+  where
+    none : AreServerNotes server servers no_notes
+    none name value there = let wrong : None ≡ Some value = sym (get-empty text_cmp name) ∙ there in cc
 
 -- the note that was put is kept
 pub put_kept : (notes : Notes) (c : ClockNote) → clock_kept (map.insert notes clock_name (clock_form.spell c)) ≡ clock_in (Some (clock_form.spell c))

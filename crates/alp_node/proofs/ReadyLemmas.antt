@@ -3,7 +3,7 @@ use Rattle.std.specs.Prelude.{cond, Bool, true, false, not, ◌==◌, IsTrue, Op
 use Rattle.std.specs.FinMap as map
 use Rattle.std.specs.List.{list_all, AllByRecursion}
 use Rattle.std.specs.Ordering.{eq_by_cmp}
-use Rattle.std.proofs.Common.{◌≡◌, ℕ, ◌+◌, ◌^◌, ◌<◌, ◌≤◌, List, [], length, refl, sym, ◌∙◌, ap, subst, arith, le_refl}
+use Rattle.std.proofs.Common.{◌≡◌, ℕ, ◌+◌, ◌^◌, ◌<◌, ◌≤◌, List, [], ◌∷◌, ◌++◌, length, refl, sym, ◌∙◌, ap, subst, arith, le_refl}
 use Rattle.alp_base.specs.declared.ids.TransId.{TransId}
 use Rattle.alp_base.specs.declared.key.Resource.{Resource}
 use Rattle.alp_base.specs.declared.key.Resource.TheVariants.{Whole}
@@ -30,7 +30,8 @@ use Rattle.alp_node.specs.Asks.{is_given}
 use Rattle.alp_node.specs.Dead.{without_client}
 use Rattle.alp_node.specs.Rooms.{IsWithin}
 use Rattle.alp_node.specs.Sessions.{session_at, with_session}
-use Rattle.alp_node.specs.ServerState.{IsReady}
+use Rattle.alp_node.specs.Decisions.{with_time}
+use Rattle.alp_node.specs.ServerState.{IsReady, IsNumbered}
 use Rattle.alp_node.specs.Releases.{buried}
 use Rattle.alp_node.specs.Steps.{IsTurn, counted_in}
 use Rattle.alp_node.specs.Turns.{TellsUpTo, IsKeepable}
@@ -39,6 +40,7 @@ use Rattle.alp_node.specs.declared.dead.DeadPart.{DeadPart}
 use Rattle.alp_node.specs.Waits.{is_of, without_calls_of, stays, live_calls, IsWaitingCall, IsOfCalls, AreWaiting, asks_for}
 use Rattle.alp_node.specs.declared.lives.Live.{Live}
 use Rattle.alp_node.specs.declared.waits.WaitingCall.{WaitingCall}
+use Rattle.alp_node.proofs.DecisionLemmas.{times_begin, times_decide}
 use Rattle.alp_node.proofs.WaitLemmas.{call_later, like_itself, filter_apart, asks_live, asks_other}
 use Rattle.alp_journal.specs.Desk.{Session}
 use Rattle.alp_node.specs.declared.sessions.Sessions.{Sessions}
@@ -136,14 +138,15 @@ module _ {V : Type 0} (n : ℕ) (serves : Bool) (k : ServerState V) where
     replies = replies_set k.sessions client (record { who = name; last = 1; reply = reply.Welcome k.epoch }) k.clock k.clock h.places le (le_refl k.clock) h.replies (record { inside = tt; times = tt });
     drawn = omega (arith, h.drawn);
     given = omega (arith, h.given);
-    committed = omega (arith, h.committed);
     few = omega (arith, h.few);
     most = h.most;
     within = h.within;
     sized = h.sized;
     clock = h.clock;
     raised = h.raised;
+    last = h.last;
     unheld = h.unheld;
+    decisions = h.decisions;
   }
 
   -- the session counts on, and keeps the reply
@@ -163,14 +166,15 @@ module _ {V : Type 0} (n : ℕ) (serves : Bool) (k : ServerState V) where
     replies = replies_set k.sessions turn.client (record { who = turn.who; last = turn.number; reply = r }) k.clock k.clock h.places is.client (le_refl k.clock) h.replies keeps;
     drawn = omega (arith, h.drawn);
     given = omega (arith, h.given);
-    committed = omega (arith, h.committed);
     few = omega (arith, h.few);
     most = h.most;
     within = h.within;
     sized = h.sized;
     clock = h.clock;
     raised = h.raised;
+    last = h.last;
     unheld = h.unheld;
+    decisions = h.decisions;
   }
 
   -- one step more
@@ -190,14 +194,15 @@ module _ {V : Type 0} (n : ℕ) (serves : Bool) (k : ServerState V) where
     replies = h.replies;
     drawn = omega (arith, h.drawn);
     given = omega (arith, h.given);
-    committed = omega (arith, h.committed);
     few = omega (arith, h.few);
     most = h.most;
     within = h.within;
     sized = h.sized;
     clock = h.clock;
     raised = h.raised;
+    last = h.last;
     unheld = h.unheld;
+    decisions = h.decisions;
   }
 
   -- a transaction is gone and its locks go, but nobody is woken yet
@@ -228,13 +233,14 @@ module _ {V : Type 0} (n : ℕ) (serves : Bool) (k : ServerState V) where
     replies = h.replies;
     drawn = h.drawn;
     given = h.given;
-    committed = h.committed;
     few = (let fewer : map.len (map.remove k.lives t) ≤ map.len k.lives = gone_length k.lives t in omega (arith, fewer, h.few));
     most = (let fewer : map.len (map.remove k.lives t) ≤ map.len k.lives = gone_length k.lives t in omega (arith, fewer, h.most));
     within = λ u l is. kept u (same_trans u t) l (λ there. h.within u l there) (sym (get_gone k.lives t u) ∙ is);
     sized = h.sized;
     clock = h.clock;
     raised = h.raised;
+    last = h.last;
+    decisions = h.decisions;
     unheld = λ u m high. released-none (numbered k m) k.locks t (λ v. h.unheld v m high)
         (each-more (IsOfCalls k.server k.epoch k.given k.lives k.waits) (LocksNone (numbered k m)) (λ x o. o.beyond m high) k.locks.waiting h.waits.queued) u;
   }
@@ -256,12 +262,12 @@ module _ {V : Type 0} (n : ℕ) (serves : Bool) (k : ServerState V) where
     where
       go : (x : Option Live) → map.get k.lives (record { server = k.server; epoch = k.epoch; counter = k.drawn + 1 }) ≡ x → x ≡ None
       go None e = refl
-      go (Some l) e = (let low : k.drawn + 1 ≤ k.drawn = h.begun (record { server = k.server; epoch = k.epoch; counter = k.drawn + 1 }) l e in absurd (omega (arith, low)))
+      go (Some l) e = (let low : k.drawn + 1 ≤ k.drawn = (h.begun (record { server = k.server; epoch = k.epoch; counter = k.drawn + 1 }) l e).1 in absurd (omega (arith, low)))
 
   -- a transaction begins
   module _ (turn : Turn) (t : TransId) (l : Live) (clock : ℕ) where
     abbrev pub begun_kept : ServerState V
-    begun_kept = record k { sessions = counted_in k.sessions turn (reply.Begun t); clock = clock; drawn = k.drawn + 1; dead = without_client turn.client k.dead; lives = map.insert k.lives t l; waits = live_calls turn.client (map.insert k.lives t l) k.waits; locks = entered k.locks t }
+    begun_kept = record k { sessions = counted_in k.sessions turn (reply.Begun t); clock = clock; drawn = k.drawn + 1; decisions = k.decisions ++ 0 ∷ []; dead = without_client turn.client k.dead; lives = map.insert k.lives t l; waits = live_calls turn.client (map.insert k.lives t l) k.waits; locks = entered k.locks t }
 
     pub begin_ready : IsTurn k.sessions turn → t.counter ≡ k.drawn + 1 → own_of l.part ≡ no_opens → IsWithin k.sizes l → map.len k.lives < 64 → k.clock ≤ clock → clock ≤ 2 ^ 62 → IsReady n serves k → IsReady (n + 1) serves begun_kept
     begin_ready is next none fresh less later low h = record {
@@ -291,13 +297,14 @@ module _ {V : Type 0} (n : ℕ) (serves : Bool) (k : ServerState V) where
       replies = replies_set k.sessions turn.client (record { who = turn.who; last = turn.number; reply = reply.Begun t }) k.clock clock h.places is.client later h.replies (record { inside = tt; times = tt });
       drawn = omega (arith, h.drawn);
       given = omega (arith, h.given);
-      committed = omega (arith, h.committed);
       few = (let more : map.len (map.insert k.lives t l) ≤ map.len k.lives + 1 = put_most k.lives t l in omega (arith, more, h.few));
       most = (let more : map.len (map.insert k.lives t l) ≤ map.len k.lives + 1 = put_most k.lives t l in omega (arith, more, less));
       within = λ u x there. within_so u (same_trans u t) x (sym (get_put k.lives t l u) ∙ there);
       sized = h.sized;
       clock = low;
       raised = h.raised;
+      last = h.last;
+      decisions = times_begin k.drawn k.clock clock k.decisions later h.decisions;
       unheld = λ u m high. entered_unheld k.locks t u (numbered k m) (h.unheld u m high);
     }
       where
@@ -316,9 +323,9 @@ module _ {V : Type 0} (n : ℕ) (serves : Bool) (k : ServerState V) where
         known_so u true e x there = ap (λ (v : TransId). is_some (map.get (entered k.locks t).held v)) (same_trans-true u t e) ∙ insert-knows k.locks.held t (held_of k.locks.held t)
         known_so u false e x there = insert-keeps k.locks.held t (held_of k.locks.held t) u (h.known u x there)
 
-        begun_so : (u : TransId) (b : Bool) → same_trans u t ≡ b → (x : Live) → cond {A = Option Live} b (Some l) (map.get k.lives u) ≡ Some x → u.counter ≤ k.drawn + 1
-        begun_so u true e x there = (let counter : u.counter ≡ t.counter = ap (λ (v : TransId). v.counter) (same_trans-true u t e) in omega (arith, next))
-        begun_so u false e x there = (let low : u.counter ≤ k.drawn = h.begun u x there in omega arith)
+        begun_so : (u : TransId) (b : Bool) → same_trans u t ≡ b → (x : Live) → cond {A = Option Live} b (Some l) (map.get k.lives u) ≡ Some x → IsNumbered (k.drawn + 1) u
+        begun_so u true e x there = (let counter : u.counter ≡ t.counter = ap (λ (v : TransId). v.counter) (same_trans-true u t e) in (omega (arith, counter, next), omega (arith, counter, next)))
+        begun_so u false e x there = (let low : u.counter ≤ k.drawn = (h.begun u x there).1 in ((h.begun u x there).0, omega (arith, low)))
 
         within_so : (u : TransId) (b : Bool) (x : Live) → cond {A = Option Live} b (Some l) (map.get k.lives u) ≡ Some x → IsWithin k.sizes x
         within_so u true x there = subst (IsWithin k.sizes) (same_live l x there) fresh
@@ -351,14 +358,15 @@ module _ {V : Type 0} (n : ℕ) (serves : Bool) (k : ServerState V) where
     replies = h.replies;
     drawn = h.drawn;
     given = h.given;
-    committed = h.committed;
     few = h.few;
     most = h.most;
     within = h.within;
     sized = h.sized;
     clock = h.clock;
     raised = h.raised;
+    last = h.last;
     unheld = h.unheld;
+    decisions = h.decisions;
   }
 
   -- the calls of a part go of which nobody waits in the table
@@ -412,14 +420,15 @@ module _ {V : Type 0} (n : ℕ) (serves : Bool) (k : ServerState V) where
     replies = h.replies;
     drawn = h.drawn;
     given = h.given;
-    committed = h.committed;
     few = h.few;
     most = h.most;
     within = h.within;
     sized = h.sized;
     clock = h.clock;
     raised = h.raised;
+    last = h.last;
     unheld = h.unheld;
+    decisions = h.decisions;
   }
 
 not_both : (b : Bool) → b ≡ false → b ≡ true → ⊥
@@ -442,14 +451,15 @@ ready_with n before serves k v on up h = record {
   replies = h.replies;
   drawn = h.drawn;
   given = h.given;
-  committed = h.committed;
   few = h.few;
   most = h.most;
   within = h.within;
   sized = h.sized;
   clock = h.clock;
   raised = h.raised;
+  last = h.last;
   unheld = h.unheld;
+  decisions = h.decisions;
 }
 
 -- whoever is down does not serve
@@ -472,19 +482,20 @@ down_ready n before serves k v off h =
       replies = c.replies;
       drawn = c.drawn;
       given = c.given;
-      committed = c.committed;
       few = c.few;
       most = c.most;
       within = c.within;
       sized = c.sized;
       clock = c.clock;
       raised = c.raised;
+      last = c.last;
       unheld = c.unheld;
+      decisions = c.decisions;
     }
 
 -- a commit is counted, and the clock comes to its time
 pub commit_ready : {V : Type 0} (n : ℕ) (before serves : Bool) (k : ServerState V) (v : V) (turn : Turn) (t : TransId) → IsTrue serves → k.is_down ≡ false → IsTurn k.sessions turn → k.clock < 2 ^ 62 → IsReady n before k
-    → IsReady (n + 1) serves (record k { sessions = counted_in k.sessions turn (reply.Committed (record { ts = k.clock + 1; trans = t })); clock = k.clock + 1; committed = k.committed + 1; vault = v })
+    → IsReady (n + 1) serves (record k { sessions = counted_in k.sessions turn (reply.Committed (record { ts = k.clock + 1; trans = t })); clock = k.clock + 1; decisions = with_time k.decisions t.counter (k.clock + 1); vault = v })
 commit_ready n before serves k v turn t on up is early h =
     let c = stepped_ready n before k h in
     let w : Session = record { who = turn.who; last = turn.number; reply = reply.Committed (record { ts = k.clock + 1; trans = t }) } in
@@ -503,14 +514,15 @@ commit_ready n before serves k v turn t on up is early h =
       replies = replies_set k.sessions turn.client w k.clock (k.clock + 1) h.places is.client (omega arith) h.replies (record { inside = tt; times = le_refl (k.clock + 1) });
       drawn = c.drawn;
       given = c.given;
-      committed = omega (arith, h.committed);
       few = c.few;
       most = c.most;
       within = c.within;
       sized = c.sized;
       clock = omega (arith, early);
       raised = c.raised;
+      last = c.last;
       unheld = c.unheld;
+      decisions = times_decide k.drawn k.clock t.counter k.decisions h.decisions;
     }
 
 -- the dead parts of a client whose begin is refused go

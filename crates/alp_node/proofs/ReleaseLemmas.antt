@@ -22,7 +22,8 @@ use Rattle.alp_node.specs.Dead.{without_part}
 use Rattle.alp_node.specs.Halts.{HaveCauses}
 use Rattle.alp_node.specs.Releases.{grant_acts, with_locks, granted_if, granted_one, granted_all, let_go}
 use Rattle.alp_node.specs.Rooms.{IsWithin}
-use Rattle.alp_node.specs.ServerState.{IsReady}
+use Rattle.alp_node.specs.Decisions.{with_time}
+use Rattle.alp_node.specs.ServerState.{IsReady, IsNumbered}
 use Rattle.alp_node.specs.Steps.{IsTurn, counted_in, ended}
 use Rattle.alp_node.specs.Totals.{LiveMap}
 use Rattle.alp_node.specs.Turns.{IsKeepable}
@@ -69,7 +70,7 @@ module _ {V : Type 0} (n : ℕ) (serves : Bool) (k : ServerState V) (t : TransId
           (λ x e o. record { live = locked_live k.lives t m x.trans o.live; asks = grant_asks t x.trans k.waits (turned t x.trans (sym (tied_same t x.trans) ∙ e)) ∙ o.asks; beyond = o.beyond }) k.locks.waiting others h.waits.queued;
     };
     known = locked_each k.lives t m (λ u l. is_some (map.get k.locks.held u) ≡ true) h.known (λ l there. h.known t l there);
-    begun = locked_each k.lives t m (λ u l. u.counter ≤ k.drawn) h.begun (λ l there. h.begun t l there);
+    begun = locked_each k.lives t m (λ u l. IsNumbered k.drawn u) h.begun (λ l there. h.begun t l there);
     opens = locked_each k.lives t m (λ u l. l.part.last ≤ n) h.opens (λ l there. h.opens t l there);
     opened = locked_each k.lives t m (λ u l. list_all (λ (o : Open). is_given k.server k.epoch k.given o.file) l.part.opens.items ≡ true) h.opened (λ l there. h.opened t l there);
     places = h.places;
@@ -77,14 +78,15 @@ module _ {V : Type 0} (n : ℕ) (serves : Bool) (k : ServerState V) (t : TransId
     replies = h.replies;
     drawn = h.drawn;
     given = h.given;
-    committed = h.committed;
     few = (let same : map.len now ≡ map.len k.lives = locked_length k.lives t m in omega (arith, same, h.few));
     most = (let same : map.len now ≡ map.len k.lives = locked_length k.lives t m in omega (arith, same, h.most));
     within = locked_each k.lives t m (λ u l. IsWithin k.sizes l) h.within fits;
     sized = h.sized;
     clock = h.clock;
     raised = h.raised;
+    last = h.last;
     unheld = h.unheld;
+    decisions = h.decisions;
   }
     where
       now : LiveMap
@@ -180,10 +182,10 @@ module _ {V : Type 0} (n : ℕ) (k : ServerState V) (turn : Turn) (t : TransId) 
 
   -- it is committed
   pub committed_ready : (before serves : Bool) (v : V) → IsTrue serves → k.is_down ≡ false → IsTurn k.sessions turn → k.clock < 2 ^ 62 → IsReady n before k
-      → IsReady (n + 1) serves (record (let_go k t) { sessions = counted_in k.sessions turn (reply.Committed (record { ts = k.clock + 1; trans = t })); clock = k.clock + 1; committed = k.committed + 1; vault = v })
+      → IsReady (n + 1) serves (record (let_go k t) { sessions = counted_in k.sessions turn (reply.Committed (record { ts = k.clock + 1; trans = t })); clock = k.clock + 1; decisions = with_time k.decisions t.counter (k.clock + 1); vault = v })
   committed_ready before serves v on up is early h =
       subst (λ (y : ServerState V). IsReady (n + 1) serves y)
-      (ap (λ (y : ServerState V). record y { sessions = counted_in k.sessions turn (reply.Committed (record { ts = k.clock + 1; trans = t })); clock = k.clock + 1; committed = k.committed + 1; vault = v }) (sym (let_go_of k t)))
+      (ap (λ (y : ServerState V). record y { sessions = counted_in k.sessions turn (reply.Committed (record { ts = k.clock + 1; trans = t })); clock = k.clock + 1; decisions = with_time k.decisions t.counter (k.clock + 1); vault = v }) (sym (let_go_of k t)))
       (commit_ready n before serves gone v turn t on up is early (gone_so before h))
 
 -- it is the server before, but for what ends with the part

@@ -1,10 +1,11 @@
 -- the epoch and the clock that a server starts with, and what it keeps then
-use Rattle.std.specs.Prelude.{slice_get, zero, suc, cond, Bool, true, false, IsTrue, ◌==◌, Option, None, Some, is_some, unwrap_or, Result, Ok, Err, IfErr, replicate}
+use Rattle.std.specs.Prelude.{slice_get, zero, suc, cond, Bool, true, false, IsTrue, ◌==◌, ◌&&◌, not, nat_lt, Option, None, Some, is_some, unwrap_or, Result, Ok, Err, IfErr, replicate}
 use Rattle.std.specs.Option.{option_and_then}
 use Rattle.std.specs.FinMap as map
 use Rattle.std.specs.FinMap.{get-empty, len-empty}
 use Rattle.std.proofs.lemmas.Option.{slice_get_within}
-use Rattle.std.proofs.Common.{◌≡◌, ℕ, ◌+◌, ◌<◌, ◌≤◌, ◌^◌, List, [], refl, sym, ◌∙◌, ap, subst, inl, inr, ⊎_elim, arith, le_refl}
+use Rattle.std.proofs.Common.{◌≡◌, ◌⊎◌, ℕ, ◌+◌, ◌<◌, ◌≤◌, ◌^◌, List, [], refl, sym, ◌∙◌, ap, subst, inl, inr, ⊎_elim, arith, le_refl, eq-eqb}
+use Rattle.std.proofs.lemmas.Bool.{ltb-true}
 use Rattle.alp_base.specs.Notes.{Notes}
 use Rattle.alp_base.specs.declared.ids.FileId.{FileId}
 use Rattle.alp_base.specs.declared.ids.TransId.{TransId}
@@ -15,7 +16,7 @@ use Rattle.alp_fields.specs.Forms.{whole}
 use Rattle.alp_fields.specs.ClockNote.{clock_name, clock_form, clock_in, clock_kept}
 use Rattle.alp_fields.specs.declared.clock_note.ClockNote.{ClockNote}
 use Rattle.alp_fields.proofs.ClockLemmas.{clock_within}
-use Rattle.alp_files.specs.Born.{IsUnborn}
+use Rattle.alp_node.proofs.ClockLaws.{clock_epoch, not_last}
 use Rattle.alp_files.specs.declared.cell.Cell.{Cell}
 use Rattle.alp_files.specs.declared.cell.Cell.TheVariants as cell
 use Rattle.alp_files.specs.Locks.{page_limit}
@@ -52,8 +53,9 @@ use Rattle.alp_node.specs.NodeStates.{NodeState}
 use Rattle.alp_journal.specs.Desk.{Session}
 use Rattle.alp_node.specs.declared.start.StartFault.{StartFault}
 use Rattle.alp_node.specs.declared.start.StartFault.TheVariants as start_fault
-use Rattle.alp_node.specs.ServerState.{IsAs, IsReady, IsAlike}
+use Rattle.alp_node.specs.ServerState.{IsAs, IsReady, IsAlike, IsToCome, SeesNoneToCome}
 use Rattle.alp_node.specs.Totals.{LiveMap, totals_of, HaveRoom}
+use Rattle.alp_node.proofs.DecisionLemmas.{ends_none}
 use Rattle.alp_node.proofs.TotalLemmas.{empty_totals}
 use Rattle.alp_node.specs.Nodes.{IsRight, state_of}
 use Rattle.alp_node.specs.Sessions.{no_sessions, session_at}
@@ -67,26 +69,29 @@ ok_same x y e = cc
 record IsLater (value : Option (List ℕ)) (c : ClockNote) : Type 0 where
   later : (clock_in value).epoch < c.epoch
   within : c.clock ≤ 2 ^ 62
+  last : c.epoch < 2 ^ 32
 
 after_value : (value : List ℕ) (c : ClockNote) (found : Option ClockNote) → whole clock_form value ≡ found → after_clock found ≡ Ok c → IsLater (Some value) c
 after_value value c None is e = cc
-after_value value c (Some k) is e = go (k.epoch == 4294967295) e
+after_value value c (Some k) is e = go (k.epoch == 4294967295) refl e
   where
-    go : (b : Bool) → cond {A = Result ClockNote StartFault} b (Err start_fault.EpochEnd) (Ok (record k { epoch = k.epoch + 1 })) ≡ Ok c → IsLater (Some value) c
-    go true e = cc
-    go false e =
+    go : (b : Bool) → (k.epoch == 4294967295) ≡ b → cond {A = Result ClockNote StartFault} b (Err start_fault.EpochEnd) (Ok (record k { epoch = k.epoch + 1 })) ≡ Ok c → IsLater (Some value) c
+    go true at e = cc
+    go false at e =
         let same : record k { epoch = k.epoch + 1 } ≡ c = ok_same (record k { epoch = k.epoch + 1 }) c e in
         let kept : (clock_in (Some value)).epoch ≡ k.epoch = ap (λ (x : Option ClockNote). (unwrap_or x (record { epoch = 0; clock = 0 })).epoch) is in
         let epoch : k.epoch + 1 ≡ c.epoch = ap (λ (x : ClockNote). x.epoch) same in
         let clock : k.clock ≡ c.clock = ap (λ (x : ClockNote). x.clock) same in
-        record { later = omega (arith, kept, epoch); within = omega (arith, clock, clock_within value k is) }
+        let low : k.epoch < 4294967296 = clock_epoch value k is in
+        let more : k.epoch + 1 < 4294967296 = not_last k.epoch low at in
+        record { later = omega (arith, kept, epoch); within = omega (arith, clock, clock_within value k is); last = omega (arith, epoch, more) }
 
 after_any : (value : Option (List ℕ)) (c : ClockNote) → after_note value ≡ Ok c → IsLater value c
 after_any None c e =
     let same : record { epoch = 1; clock = 0 } ≡ c = ok_same (record { epoch = 1; clock = 0 }) c e in
     let epoch : 1 ≡ c.epoch = ap (λ (x : ClockNote). x.epoch) same in
     let clock : 0 ≡ c.clock = ap (λ (x : ClockNote). x.clock) same in
-    record { later = omega (arith, epoch); within = omega (arith, clock) }
+    record { later = omega (arith, epoch); within = omega (arith, clock); last = omega (arith, epoch) }
 after_any (Some value) c e = after_value value c (whole clock_form value) refl e
 
 pub raised_later : (held : Contents) (c : ClockNote) → raised held ≡ Ok c → (clock_kept held.notes).epoch < c.epoch
@@ -128,7 +133,7 @@ nobody_there (suc n) (suc client) = nobody_there n client
 pub no_session : (client : ℕ) → session_at no_sessions client ≡ None
 no_session client = nobody_there 17 client
 
-abbrev no_lives : LiveMap
+abbrev pub no_lives : LiveMap
 no_lives = map.empty
 
 none_live : (t : TransId) → map.get no_lives t ≡ None
@@ -137,17 +142,18 @@ none_live t = get-empty trans_cmp t
 none_locked : (t : TransId) (r : Resource) → holding map.empty t r ≡ None
 none_locked t r = ap (λ (x : Option Held). map.get (unwrap_or x map.empty) r) (get-empty trans_cmp t) ∙ get-empty resource_cmp r
 
--- no file of the epoch stands yet
+-- no file of the epoch or a later one stands yet
 none_born : (server epoch last : ℕ) (held : Cells) → ((f : FileId) (c : Cell) → map.get held (Leader f) ≡ Some c → (f.server ≡ server) × (f.epoch ≤ last)) → last < epoch
-    → IsUnborn server epoch (map.get held) 0
-none_born server epoch last held old later n high = go (map.get held (Leader f)) refl
+    → SeesNoneToCome server epoch 0 (map.get held)
+none_born server epoch last held old later f comes = go (map.get held (Leader f)) refl
   where
-    f : FileId
-    f = record { server = server; epoch = epoch; counter = n }
+    no_older : ((epoch < f.epoch) × (0 < f.counter)) ⊎ ((f.epoch ≡ epoch) × (0 < f.counter)) → epoch ≤ f.epoch
+    no_older (inl after) = (let high : epoch < f.epoch = after.0 in omega (arith, high))
+    no_older (inr now) = (let at : f.epoch ≡ epoch = now.0 in omega (arith, at))
 
     go : (x : Option Cell) → map.get held (Leader f) ≡ x → x ≡ None
     go None e = refl
-    go (Some c) e = let young : epoch ≤ last = (old f c e).1 in absurd (omega (arith, young, later))
+    go (Some c) e = (let young : f.epoch ≤ last = (old f c e).1 in let high : epoch ≤ f.epoch = no_older comes.1 in absurd (omega (arith, young, later, high)))
 
 -- a server that did nothing yet
 abbrev pub new_kept : {V : Type 0} (old : ServerState V) (server : ℕ) (sizes : Sizes) (c : ClockNote) → ServerState V
@@ -157,8 +163,8 @@ new_kept old server sizes c = record old {
   epoch = c.epoch;
   clock = c.clock;
   drawn = 0;
+  decisions = [];
   given = 0;
-  committed = 0;
   sessions = no_sessions;
   lives = map.empty;
   dead = [];
@@ -187,11 +193,11 @@ new_alone o = record {
 pub new_says : (server servers : ℕ) (sizes : Sizes) (cells : Cells) (notes : Notes) → opened (start_at server servers sizes cells notes) ≡ alone (new_alone (start_at server servers sizes cells notes))
 new_says server servers sizes cells notes = refl
 
-alike_none : (cells : Cells) (t : TransId) → IsAlike cells map.empty [] t (map.get no_lives t) None
+pub alike_none : (cells : Cells) (t : TransId) → IsAlike cells map.empty [] t (map.get no_lives t) None
 alike_none cells t = subst (λ (x : Option Live). IsAlike cells map.empty [] t x None) (sym (none_live t)) (none_locked t)
 
 -- there is room for no parts
-new_room : (s : Sizes) (m : Cells) → IsVolumeOf s m → HaveRoom s m (totals_of no_lives)
+pub new_room : (s : Sizes) (m : Cells) → IsVolumeOf s m → HaveRoom s m (totals_of no_lives)
 new_room s m is = subst (HaveRoom s m) (sym empty_totals) (record { places = omega (arith, is.fits.places); files = omega (arith, is.fits.files); owners = omega (arith, is.fits.owners) })
 
 -- the sizes of a volume's files are numbers of pages
@@ -203,10 +209,22 @@ volume_sized s m h (OwnerOf o) (cell.Leader p) there = absurd (h.sound.0.kinds (
 volume_sized s m h k (cell.Page bytes) there = tt
 volume_sized s m h k (cell.Owner o) there = tt
 
+-- where there is one server, no other is of the run
+alone_there : (server servers : ℕ) → servers ≡ 1 → server ≡ 1 → (n : ℕ) → (nat_lt 0 n && nat_lt n (servers + 1) && not (n == server)) ≡ false
+alone_there server servers few first n = go (nat_lt 0 n) (nat_lt n (servers + 1)) refl refl
+  where
+    go : (b d : Bool) → nat_lt 0 n ≡ b → nat_lt n (servers + 1) ≡ d → (b && d && not (n == server)) ≡ false
+    go false d e f = refl
+    go true false e f = refl
+    go true true e f =
+        let low : 0 < n = ltb-true 0 n e in
+        let high : n < servers + 1 = ltb-true n (servers + 1) f in
+        ap not (eq-eqb n server (omega (arith, low, high, few, first)))
+
 pub new_as : {V : Type 0} (old : ServerState V) (server servers last : ℕ) (sizes : Sizes) (c : ClockNote) (held : Contents)
     → ((f : FileId) (x : Cell) → map.get held.cells (Leader f) ≡ Some x → (f.server ≡ server) × (f.epoch ≤ last)) → last < c.epoch → clock_kept held.notes ≡ c → held.notes ≡ clock_notes c → IsVolumeOf sizes held.cells
-    → IsAs (new_alone (start_at server servers sizes held.cells held.notes)) held (new_kept old server sizes c)
-new_as old server servers last sizes c held ids later kept alone volume =
+    → servers ≡ 1 → server ≡ 1 → IsAs (new_alone (start_at server servers sizes held.cells held.notes)) held (new_kept old server sizes c)
+new_as old server servers last sizes c held ids later kept alone volume few first =
     let epoch : (clock_kept held.notes).epoch ≡ c.epoch = ap (λ (x : ClockNote). x.epoch) kept in
     record {
       server = refl;
@@ -222,14 +240,16 @@ new_as old server servers last sizes c held ids later kept alone volume =
       lives = alike_none held.cells;
       room = new_room sizes held.cells volume;
       unborn = λ t l is. (let wrong : None ≡ Some l = is in cc);
+      current = λ t l is. (let wrong : None ≡ Some l = is in cc);
       drawn = refl;
-      begun = refl;
+      begun = record { early = []; old = tt; all = refl };
       undrawn = λ t beyond. refl;
+      ends = ends_none server (clock_kept held.notes).epoch [] (λ t. Undrawn);
+      lone = alone_there server servers few first;
       files = refl;
-      made = refl;
-      born = subst (λ (n : ℕ). IsUnborn server n (map.get held.cells) 0) (sym epoch) (none_born server c.epoch last held.cells ids later);
+      made = record { early = []; old = tt; all = refl };
+      born = subst (λ (n : ℕ). SeesNoneToCome server n 0 (map.get held.cells)) (sym epoch) (none_born server c.epoch last held.cells ids later);
       earlier = tt;
-      committed = refl;
       waits = refl;
       queue = refl;
       asked = tt;
@@ -241,14 +261,16 @@ new_as old server servers last sizes c held ids later kept alone volume =
           parts = tt;
           came = tt;
           apart = tt;
+          order = le_refl (clock_kept held.notes).clock;
         };
         turns = tt;
+        tried = inl refl;
       };
       down = refl;
     }
 
-le_of : {n : ℕ} → n ≡ 0 → n ≤ 0
-le_of is = omega (arith, is)
+le_of : {n : ℕ} (m : ℕ) → n ≡ 0 → n ≤ m
+le_of m is = omega (arith, is)
 
 few_of : {n : ℕ} → n ≡ 0 → n ≤ 64
 few_of is = omega (arith, is)
@@ -256,9 +278,9 @@ few_of is = omega (arith, is)
 some_epoch : (m n : ℕ) → m < n → 0 < n
 some_epoch m n later = omega (arith, later)
 
-pub new_ready : {V : Type 0} (old : ServerState V) (server : ℕ) (sizes : Sizes) (c : ClockNote) (serves : Bool) → IsTrue serves → c.clock ≤ 2 ^ 62 → 0 < c.epoch → 64 ≤ sizes.area → IsSound (new_kept old server sizes c).locks
-    → IsReady 0 serves (new_kept old server sizes c)
-new_ready old server sizes c serves up within later area sound = record {
+pub new_ready : {V : Type 0} (steps : ℕ) (old : ServerState V) (server : ℕ) (sizes : Sizes) (c : ClockNote) (serves : Bool) → IsTrue serves → c.clock ≤ 2 ^ 62 → 0 < c.epoch → c.epoch < 2 ^ 32 → 64 ≤ sizes.area → IsSound (new_kept old server sizes c).locks
+    → IsReady steps serves (new_kept old server sizes c)
+new_ready steps old server sizes c serves up within later last area sound = record {
   serving = λ _. up;
   halted = λ down. (let wrong : false ≡ true = down in cc);
   sound = sound;
@@ -271,17 +293,21 @@ new_ready old server sizes c serves up within later area sound = record {
   places = refl;
   calls = λ client w is. (let wrong : None ≡ Some w = sym (no_session client) ∙ is in cc);
   replies = λ client w is. (let wrong : None ≡ Some w = sym (no_session client) ∙ is in cc);
-  drawn = le_refl 0;
-  given = le_refl 0;
-  committed = le_refl 0;
-  few = le_of (len-empty trans_cmp Live);
+  drawn = omega arith;
+  given = omega arith;
+  few = le_of steps (len-empty trans_cmp Live);
   most = few_of (len-empty trans_cmp Live);
   within = λ t l is. (let wrong : None ≡ Some l = sym (none_live t) ∙ is in cc);
   sized = area;
   clock = within;
   raised = later;
+  last = last;
+  decisions = record { all = refl; past = tt };
   unheld = λ t n high. none_locked t (Whole (record { server = server; epoch = c.epoch; counter = n }));
 }
+
+pub raised_last : (held : Contents) (c : ClockNote) → raised held ≡ Ok c → c.epoch < 2 ^ 32
+raised_last held c e = (after_any (map.get held.notes clock_name) c e).last
 
 pub raised_some : (held : Contents) (c : ClockNote) → raised held ≡ Ok c → 0 < c.epoch
 raised_some held c e = some_epoch (clock_kept held.notes).epoch c.epoch (raised_later held c e)

@@ -19,6 +19,7 @@ use Rattle.alp_vault.specs.Vault.{IsSameVault}
 use Rattle.alp_node.specs.Durable.{said_by, Leaves, Besides}
 use Rattle.alp_node.specs.Halts.{HaveCauses, says_shut}
 use Rattle.alp_node.proofs.SeatLemmas.{left_alone, left_step_as, left_step}
+use Rattle.alp_journal.specs.declared.event.Event.{Event}
 use Rattle.alp_journal.specs.declared.event.Event.TheVariants as event
 use Rattle.alp_journal.specs.Alone.{Alone, alone}
 use Rattle.alp_vault.specs.declared.vault.Vault.{Ghosts}
@@ -84,17 +85,17 @@ module _ {V : Type 0} (G : Ghosts V) (k new : ServerState V) where
       (counts_refused k new turn is c f inside (ap (λ (y : ServerState V). y.clock) same) (ap (λ (y : ServerState V). y.sessions) same))
 
   -- an event that is met with silence
-  pub silent_step : (t : TransId) (x : Answer) (acts : List Act) → new.vault ≡ k.vault → new.server ≡ k.server → new.sizes ≡ k.sizes → new.epoch ≡ k.epoch → k.is_down ≡ false → new.is_down ≡ false
+  pub silent_step : (e : Event) (x : Answer) (acts : List Act) → new.vault ≡ k.vault → new.server ≡ k.server → new.sizes ≡ k.sizes → new.epoch ≡ k.epoch → k.is_down ≡ false → new.is_down ≡ false
       → x ≡ told_answer None acts
       → list_any is_stop acts ≡ false → ((before now : ℕ) (allowance : Allowance) → HaveCauses before now allowance acts) → ((n : ℕ) → IsReady n (G.serves k.vault) k → IsReady (n + 1) (G.serves k.vault) new)
-      → ((a : Alone) → IsAs a (G.held k.vault) k → Stepped a (G.faults k.vault) (G.faults k.vault) (G.held k.vault) new (event.Timeout t) x)
-      → new.clock ≡ k.clock → new.sessions ≡ k.sessions → IsStepAs G None k new (event.Timeout t) (Ok x)
-  silent_step t x acts vault server sizes epoch was up so none causes ready steps clock sessions =
-      left_step_as G k new server sizes epoch (left_alone G k.vault new.vault vault) None (event.Timeout t) x was
-      (λ told a h. subst (λ (v : V). Stepped a (G.faults k.vault) (G.faults v) (G.held v) new (event.Timeout t) x) (sym vault) (steps a h))
+      → ((a : Alone) → IsAs a (G.held k.vault) k → Stepped a (G.faults k.vault) (G.faults k.vault) (G.held k.vault) new e x)
+      → new.clock ≡ k.clock → new.sessions ≡ k.sessions → IsStepAs G None k new e (Ok x)
+  silent_step e x acts vault server sizes epoch was up so none causes ready steps clock sessions =
+      left_step_as G k new server sizes epoch (left_alone G k.vault new.vault vault) None e x was
+      (λ told a h. subst (λ (v : V). Stepped a (G.faults k.vault) (G.faults v) (G.held v) new e x) (sym vault) (steps a h))
       (calm_given k.server (G.faults k.vault) (G.faults new.vault) (G.allowance new.vault) new.is_down None None acts x so refl refl refl (ap G.faults vault) up (up ∙ sym none) (causes (G.faults k.vault) (G.faults new.vault) (G.allowance new.vault)))
       (λ n h. subst (λ (v : V). IsReady (n + 1) (G.serves v) new) (sym vault) (ready n h))
-      (λ on. subst (λ (y : Answer). HasTurned None k new (event.Timeout t) y.kept) (sym so) (record { later = omega (arith, clock); times = tt; sessions = sessions; pages = tt }))
+      (λ on. subst (λ (y : Answer). HasTurned None k new e y.kept) (sym so) (record { later = omega (arith, clock); times = tt; sessions = sessions; pages = tt }))
 
   -- a part ends without effect, and others have its locks
   pub ended_step : (turn : Turn) (t : TransId) (ts : List TransId) (c : Call) (cause : Cause) (x : Answer) → (is_fault_reply k.server (Some (reply.Refused (refusal.Aborted cause))) || false) ≡ false → IsTurn k.sessions turn → k.is_down ≡ false

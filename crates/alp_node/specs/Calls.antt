@@ -1,4 +1,4 @@
--- The calls that a server answers so far, and what its answers rest on.
+-- File calls, which a server answers, and what its answers rest on.
 use Rattle.std.specs.Prelude.{◌≡◌, ◌+◌, List, Bool, true, Some, IsSome, Result, Ok, Err}
 use Rattle.std.specs.FinMap as map
 use Rattle.alp_files.specs.declared.call.Call.{Call}

@@ -11,14 +11,11 @@ use Rattle.alp_files.specs.Edits.{edits_map}
 use Rattle.alp_trans.specs.Parts.{change_of}
 use Rattle.alp_vault.specs.Contents.{Contents}
 use Rattle.alp_vault.specs.declared.vault.Vault.{Ghosts}
-use Rattle.alp_journal.specs.declared.event.Event.{Event}
 use Rattle.alp_journal.specs.declared.entry.Entry.{Entry}
-use Rattle.alp_journal.specs.Laws.{IsLawfulEntry}
-use Rattle.alp_journal.specs.Answered.{IsAnsweredEntry}
 use Rattle.alp_journal.specs.Along.{state_after}
 use Rattle.alp_journal.specs.Deeds.{Deed}
 use Rattle.alp_journal.specs.Holder.{Holder, holder_after}
-use Rattle.alp_journal.specs.Moves.{tried, stops}
+use Rattle.alp_journal.specs.Moves.{tried}
 use Rattle.alp_journal.specs.State.{State}
 
 -- ---- what is held
@@ -42,19 +39,6 @@ said_with s ds = stored_by s.ids.epoch (state_after holder_after s.holder ds)
 -- what the vault would hold with all that an entry was to bring about
 abbrev pub said_by : State → Entry → Contents
 said_by s e = said_with s (tried s e)
-
--- it is what some lawful entry for the event would bring about, which has its cause, and in which no read fails and nothing stops
-pub record MightBring (s : State) (e : Event) (c : Contents) : Type 0 where
-  pub entry : Entry
-  pub event : entry.event ≡ e
-  pub lawful : IsLawfulEntry s entry
-  pub answered : IsAnsweredEntry false s entry
-  pub unstopped : stops entry ≡ false
-  pub said : c ≡ said_by s entry
-
--- it is what was held, or that
-abbrev pub IsKeptOrBrought : Contents → State → Event → Contents → Type 0
-IsKeptOrBrought held s e c = (c ≡ held) ⊎ MightBring s e c
 
 -- and with all that a stopped server tried last
 abbrev pub said_then : State → Contents
@@ -80,6 +64,10 @@ pub record Leaves {V : Type 0} (G : Ghosts V) (old new : V) (P : Contents → Ty
 -- what a crash may have left before a step, or what is held there, or what has P
 abbrev pub Besides : {V : Type 0} → Ghosts V → V → (Contents → Type 0) → Contents → Type 0
 Besides G v P c = G.may_leave v c ⊎ (c ≡ G.held v) ⊎ P c
+
+-- nothing besides
+abbrev pub NoOther : Contents → Type 0
+NoOther c = ⊥
 
 -- what was held, with these intents and this clock
 pub record IsWritten (intents : Intents) (clock : ClockNote) (before c : Contents) : Type 0 where

@@ -32,9 +32,10 @@ says_shut (Some (reply.Refused refusal.Down)) = true
 says_shut (Some (reply.Refused refusal.JournalFull)) = true
 says_shut r = false
 
--- the vault failed or was stopped where the acts say so
+-- the vault failed or was stopped where the acts say so, and nothing is said to another server
 abbrev pub HaveCauses : ℕ → ℕ → Allowance → List Act → Type 0
 HaveCauses before now allowance [] = Unit {0}
 HaveCauses before now allowance (act.Failed ∷ more) = Rose before now × HaveCauses before now allowance more
 HaveCauses before now allowance (act.Stopped ∷ more) = (allowance ≡ Spent) × HaveCauses before now allowance more
+HaveCauses before now allowance (act.Sent to message ∷ more) = ⊥
 HaveCauses before now allowance (_ ∷ more) = HaveCauses before now allowance more

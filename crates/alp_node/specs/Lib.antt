@@ -1,6 +1,7 @@
 pub mod Sessions
 pub mod Orders
 pub mod Durable
+pub mod Decisions
 pub mod ServerState
 pub mod Asks
 pub mod Shapes
@@ -18,6 +19,9 @@ pub mod Calls
 pub mod Turns
 pub mod Steps
 pub mod Served
+pub mod Endings
 pub mod Starts
 pub mod NodeStates
 pub mod Nodes
+pub mod DownStates
+pub mod Downs

@@ -1,5 +1,5 @@
 -- A server and its journal.
-use Rattle.std.specs.Prelude.{◌≡◌, ℕ, ◌<◌, ◌≤◌, ◌||◌, Bool, true, false, IsTrue, List, [], ◌∷◌, ◌++◌, length, Option, Some, is_some, IsSome, ◌↔◌}
+use Rattle.std.specs.Prelude.{◌≡◌, ℕ, ◌<◌, ◌≤◌, ◌||◌, slice_get, Bool, true, false, IsTrue, List, [], ◌∷◌, ◌++◌, length, flat_map, Option, Some, is_some, is_none, IsSome, ◌↔◌}
 use Rattle.std.specs.FinMap as map
 use Rattle.std.specs.List.{list_any, Contains}
 use Rattle.std.specs.List.Sorted.{IsStrictlySortedBy}
@@ -16,6 +16,8 @@ use Rattle.alp_files.specs.declared.refusal.Refusal.TheVariants as refusal
 use Rattle.alp_vault.specs.Contents.{Contents}
 use Rattle.alp_vault.specs.declared.vault.Vault.{Ghosts}
 use Rattle.alp_journal.specs.declared.act.Act.{Act}
+use Rattle.alp_journal.specs.declared.act.Act.TheVariants as act
+use Rattle.alp_journal.specs.declared.message.Envelope.{Envelope}
 use Rattle.alp_journal.specs.declared.event.Event.{Event}
 use Rattle.alp_journal.specs.declared.entry.Entry.{Entry}
 use Rattle.alp_journal.specs.Along.{state_after}
@@ -62,13 +64,28 @@ pub record IsRight {V : Type 0} (o : Start) (held : Contents) (n : NodeState V) 
   pub says : state_of o n.journal ≡ alone state
   pub kept : IsAs state held n.kept
 
+-- ---- what is sent
+
+abbrev pub sent_by : Act → List Envelope
+sent_by (act.Sent to message) = (record { to = to; message = message }) ∷ []
+sent_by a = []
+
+-- the messages that the entries of a journal send, in turn
+abbrev pub sent_in : List Entry → List Envelope
+sent_in journal = flat_map (λ (e : Entry). flat_map sent_by e.acts) journal
+
+-- ---- what holds of a server
+
 -- What holds of each server that the calls make, by what its vault shows: the vault is of this server and these sizes, the note
--- has its epoch, and where the vault tells what it holds, all is as the journal says, after a crash too.
+-- has its epoch, nothing was said to another server, and where the vault tells what it holds, all is as the journal says, after a
+-- crash too.
 pub record IsConsistent {V : Type 0} (G : Ghosts V) (n : NodeState V) : Type 0 where
   pub number : G.server n.kept.vault ≡ n.kept.server
+  pub all : G.servers n.kept.vault ≡ n.servers
   pub sizes : n.kept.sizes ≡ G.volume n.kept.vault
   pub ready : IsReady (length n.journal) (G.serves n.kept.vault) n.kept
   pub noted : IsNoted G n.kept
+  pub mute : sent_in n.journal ≡ []
   pub right : IsTrue (G.tells n.kept.vault) → IsRight (start_in G n) (G.held n.kept.vault) n
   pub durable : IsTrue (G.tells n.kept.vault) → IsDurable (state_of (start_in G n) n.journal) (G.may_leave n.kept.vault)
 
@@ -91,7 +108,7 @@ abbrev pub HasCause : ℕ → ℕ → State → Entry → Type 0
 HasCause before now s e = (failed : Bool) × IsAnsweredEntry failed s e × (failed ≡ true → Rose before now)
 
 -- One entry more: this event, which is this among the calls of its client, this reply, and what came about, with its cause where
--- the vault tells. Each call that is not astray has a reply, each event by which the server goes down, and nothing else. A
+-- the vault tells. Nothing is said to another server. Each call that is not astray has a reply, each event by which the server goes down, and nothing else. A
 -- vault that failed or was stopped has its cause, and just then the server is down; only then it says so, and it does not say that
 -- its journal is full. It goes down only in the next call of a session, and then the reply says nothing else. Of any vault the
 -- count of faults never falls; it rises where the reply shows that a read failed, and else it stays, but where the server goes
@@ -129,3 +146,13 @@ IsFull n = entries_limit ≤ length n.journal
 pub record AreLive (s : State) (ts : List TransId) : Type 0 where
   pub rise : IsStrictlySortedBy trans_cmp ts
   pub live : (t : TransId) → Contains ts t ↔ IsSome (s.holder.lives t)
+
+-- the first of those that are live, if one is
+pub record IsLeastLive (s : State) (x : Option TransId) : Type 0 where
+  pub all : List TransId
+  pub live : AreLive s all
+  pub first : x ≡ slice_get all 0
+
+-- it tells whether none is live
+abbrev pub IsNoneLive : Bool → State → Type 0
+IsNoneLive none s = (x : Option TransId) × IsLeastLive s x × (none ≡ is_none x)

@@ -1,4 +1,4 @@
--- The events that a server answers so far.
+-- The events that a server that runs alone answers.
 use Rattle.std.specs.Prelude.{◌≡◌, ◌^◌, ◌≤◌, Some}
 use Rattle.std.specs.FinMap as map
 use Rattle.alp_base.specs.declared.ids.TransId.{TransId}
@@ -17,8 +17,7 @@ use Rattle.alp_node.specs.declared.server_state.ServerState.{ServerState}
 use Rattle.alp_node.specs.Calls.{IsServedCall}
 use Rattle.alp_node.specs.Shapes.{ReadsSome}
 
--- What the server asks of an event so far. Each line says what it leaves out, and which of the coming stages ends that:
--- "restart", or "several servers".
+-- What a server that runs alone asks of an event. Each line says what it leaves out, and what of that ends with several servers.
 
 -- a call that may be asked
 abbrev pub IsAskable : Call → Type 0
@@ -30,9 +29,11 @@ IsAskable (call.Begin seen) = seen.ts ≤ 2 ^ 62
 IsAskable (call.Finish t commit) = Unit {0}
 -- a collect of whatever number: nothing is left out
 IsAskable (call.Collect number) = Unit {0}
--- A file call of the grammar of frames, which stays, in any mode, of any run that is not empty and with either choice. Left out
--- are the question how a transaction ended, and a join where there is one server ("restart"); and all other joins ("several
--- servers").
+-- the question how a transaction stands, whichever it is: nothing is left out
+IsAskable (call.Outcome t) = Unit {0}
+-- a join of whatever transaction: nothing is left out
+IsAskable (call.Join t) = Unit {0}
+-- A file call of the grammar of frames, which stays, in any mode, of any run that is not empty and with either choice.
 IsAskable c = IsServedCall c × IsFormed c × ReadsSome c
 
 -- a call of a session that stands
@@ -49,9 +50,18 @@ abbrev pub IsServed : Event → Type 0
 IsServed (event.Call client epoch number c) = (client ≤ 16) × IsAskable c
 -- a timeout, of whatever transaction: nothing is left out
 IsServed (event.Timeout t) = Unit {0}
--- left out are the events Tick and Force ("restart"), and the message of another server ("several servers"); a restart is no
--- event of a server that is up, and stays out
+-- a tick, and a force: nothing is left out
+IsServed event.Tick = Unit {0}
+IsServed event.Force = Unit {0}
+-- left out is the message of another server, which ends with several servers; a restart is no event of a server that is up, and stays
+-- out
 IsServed e = ⊥
+
+-- events at which a server that runs alone has nothing to do
+abbrev pub IsIdleEvent : Event → Type 0
+IsIdleEvent event.Tick = Unit {0}
+IsIdleEvent event.Force = Unit {0}
+IsIdleEvent e = ⊥
 
 -- what each live part intends leaves well-formed files
 abbrev pub AreLivesSound : {V : Type 0} → Contents → ServerState V → Type 0

@@ -5,8 +5,9 @@
 -- the desk: the sessions are just those, each with its principal, its last number and the reply to that; the calls that wait and
 -- the parts that timed out are those of the lists, and the table's queue is that of the calls that have not their locks;
 -- the counts: each live part has its own, and beside the cells there is room for what all of them come to;
--- the ids: the counts of transactions and of files.
-use Rattle.std.specs.Prelude.{◌≡◌, ℕ, zero, suc, ◌+◌, ◌^◌, ◌<◌, ◌≤◌, ◌==◌, ◌&&◌, not, nat_lt, nat_le, Bool, true, false, IsTrue, List, [], ◌∷◌, ◌++◌, length, Option, None, Some, is_some}
+-- the ids: the counts of transactions and of files in this epoch, and when each of the transactions was decided, if it was. What
+-- older epochs of this server left may stand in what began, was made and was decided; each live transaction is of this epoch.
+use Rattle.std.specs.Prelude.{◌≡◌, ◌⊎◌, ◌||◌, ℕ, zero, suc, ◌+◌, ◌^◌, ◌<◌, ◌≤◌, ◌==◌, ◌&&◌, not, nat_lt, nat_le, Bool, true, false, IsTrue, List, [], ◌∷◌, ◌++◌, length, Option, None, Some, is_some}
 use Rattle.std.specs.List.{list_all, AllByRecursion}
 use Rattle.std.specs.FinMap as map
 use Rattle.alp_base.specs.declared.ids.FileId.{FileId}
@@ -17,8 +18,7 @@ use Rattle.alp_base.specs.declared.key.Resource.TheVariants.{Whole}
 use Rattle.alp_files.specs.Holdings.{IsIntended}
 use Rattle.alp_files.specs.Locks.{Reads, Writes, HoldsEach, needs_of}
 use Rattle.alp_files.specs.Apart.{AreSized, IsWithin as AreWithin, OpensRead}
-use Rattle.alp_files.specs.Cells.{Cells}
-use Rattle.alp_files.specs.Born.{IsUnborn}
+use Rattle.alp_files.specs.Cells.{Cells, View}
 use Rattle.alp_files.specs.Edits.{Edit, edits_at}
 use Rattle.alp_files.specs.Needs.{intents_of}
 use Rattle.alp_locks.specs.Tables.{Holders, holding}
@@ -31,10 +31,13 @@ use Rattle.alp_journal.specs.Answers.{more_locks}
 use Rattle.alp_journal.specs.Counts.{Locked, with_resources, request_in}
 use Rattle.alp_journal.specs.Holder.{Holder, Life, view_in}
 use Rattle.alp_journal.specs.Desk.{Session}
-use Rattle.alp_journal.specs.Alone.{Alone, IsQuiet, AreEarlier}
+use Rattle.alp_journal.specs.Ids.{is_drawn}
+use Rattle.alp_journal.specs.State.{is_other_server}
+use Rattle.alp_journal.specs.Alone.{Alone, alone, IsQuiet, AreEarlier}
 use Rattle.alp_node.specs.Asks.{is_given}
 use Rattle.alp_node.specs.Covers.{AreHeld, AreSizedEdits}
 use Rattle.alp_node.specs.Dead.{dead_in}
+use Rattle.alp_node.specs.Decisions.{AreTimes, HaveEnds}
 use Rattle.alp_node.specs.Durable.{clock_notes}
 use Rattle.alp_node.specs.Rooms.{IsWithin}
 use Rattle.alp_node.specs.Sessions.{session_at}
@@ -72,11 +75,19 @@ IsAlike cells locks locked t (Some l) (Some life) = IsLife cells locks locked t 
 IsAlike cells locks locked t None (Some life) = ⊥
 IsAlike cells locks locked t (Some l) None = ⊥
 
--- these edits put no leader with an id of this server and epoch beyond the count
-abbrev pub PutNoneBeyond : ℕ → ℕ → ℕ → List Edit → Type 0
-PutNoneBeyond server epoch count es = (n : ℕ) → count < n → edits_at es (Leader (record { server = server; epoch = epoch; counter = n })) None ≡ None
-
 -- ---- ids
+
+-- an id of a file that is to come: of a later epoch of this server, or of this one beyond the count
+abbrev pub IsToCome : ℕ → ℕ → ℕ → FileId → Type 0
+IsToCome server epoch count f = (f.server ≡ server) × (((epoch < f.epoch) × (0 < f.counter)) ⊎ ((f.epoch ≡ epoch) × (count < f.counter)))
+
+-- no leader of a file that is to come is seen
+abbrev pub SeesNoneToCome : ℕ → ℕ → ℕ → View → Type 0
+SeesNoneToCome server epoch count m = (f : FileId) → IsToCome server epoch count f → m (Leader f) ≡ None
+
+-- these edits put none
+abbrev pub PutNoneBeyond : ℕ → ℕ → ℕ → List Edit → Type 0
+PutNoneBeyond server epoch count es = (f : FileId) → IsToCome server epoch count f → edits_at es (Leader f) None ≡ None
 
 -- the ids of files of this server and epoch up to a counter, the last first
 abbrev pub ids_to : ℕ → ℕ → ℕ → List FileId
@@ -88,9 +99,25 @@ abbrev pub trans_to : ℕ → ℕ → ℕ → List TransId
 trans_to server epoch zero = []
 trans_to server epoch (suc n) = trans_to server epoch n ++ (record { server = server; epoch = epoch; counter = suc n }) ∷ []
 
--- an id that was not drawn here in this epoch
+-- the files that were made: those of this epoch up to a counter, and before them some of older epochs of this server
+pub record AreMade (server epoch count : ℕ) (made : List FileId) : Type 0 where
+  pub early : List FileId
+  pub old : AllByRecursion (λ (f : FileId). is_drawn server epoch 0 f.server f.epoch f.counter ≡ true) early
+  pub all : made ≡ ids_to server epoch count ++ early
+
+-- the transactions that began: some of older epochs, and those of this one up to a counter
+pub record HaveBegun (server epoch count : ℕ) (begun : List TransId) : Type 0 where
+  pub early : List TransId
+  pub old : AllByRecursion (λ (t : TransId). t.epoch < epoch) early
+  pub all : begun ≡ early ++ trans_to server epoch count
+
+-- an id that was not drawn here, in this epoch or an older one
 abbrev pub is_beyond : ℕ → ℕ → ℕ → TransId → Bool
-is_beyond server epoch count t = not (t.server == server && t.epoch == epoch && nat_lt 0 t.counter && nat_le t.counter count)
+is_beyond server epoch count t = not (t.server == server && nat_lt 0 t.counter && (nat_lt t.epoch epoch || (t.epoch == epoch && nat_le t.counter count)))
+
+-- a live transaction has one of the counters that were given
+abbrev pub IsNumbered : ℕ → TransId → Type 0
+IsNumbered drawn t = (0 < t.counter) × (t.counter ≤ drawn)
 
 -- ---- calls that wait
 
@@ -108,9 +135,10 @@ IsWaitingAs h locked w = (l : Life) → h.lives w.trans ≡ Some l → IsAskedAs
 -- ---- all of it
 
 -- The server keeps what this state says, with this in its vault, which counts while it is not down; and it is down just
--- where the vault was stopped, or failed in a commit.
+-- where the vault was stopped, or failed in a commit. No other server is of the run.
 pub record IsAs {V : Type 0} (a : Alone) (held : Contents) (k : ServerState V) : Type 0 where
   pub server : a.holder.server ≡ k.server
+  pub lone : (n : ℕ) → is_other_server (alone a) n ≡ false
   pub sizes : a.sizes ≡ k.sizes
   pub epoch : a.ids.epoch ≡ k.epoch
   pub clock : a.holder.clock ≡ k.clock
@@ -126,21 +154,23 @@ pub record IsAs {V : Type 0} (a : Alone) (held : Contents) (k : ServerState V) :
   pub lives : (t : TransId) → IsAlike a.holder.cells k.locks.held (a.locked t) t (map.get k.lives t) (a.holder.lives t)
   pub room : HaveRoom k.sizes a.holder.cells (totals_of k.lives)
   pub unborn : (t : TransId) (l : Life) → a.holder.lives t ≡ Some l → PutNoneBeyond a.holder.server a.ids.epoch k.given l.edits
+  pub current : (t : TransId) (l : Life) → a.holder.lives t ≡ Some l → t.epoch ≡ a.ids.epoch
   pub drawn : a.ids.transactions ≡ k.drawn
-  pub begun : a.begun ≡ trans_to a.holder.server a.ids.epoch k.drawn
+  pub begun : HaveBegun a.holder.server a.ids.epoch k.drawn a.begun
   pub undrawn : (t : TransId) → is_beyond a.holder.server a.ids.epoch k.drawn t ≡ true → a.fates t ≡ Undrawn
+  pub ends : HaveEnds a.holder.server a.ids.epoch k.drawn k.decisions a.fates
   pub files : a.ids.files ≡ k.given
-  pub made : a.holder.made ≡ ids_to a.holder.server a.ids.epoch k.given
-  pub born : IsUnborn a.holder.server a.ids.epoch (map.get a.holder.cells) k.given
-  pub earlier : AreEarlier a.holder.clock a.holder.applied
-  pub committed : length a.holder.applied ≡ k.committed
+  pub made : AreMade a.holder.server a.ids.epoch k.given a.holder.made
+  pub born : SeesNoneToCome a.holder.server a.ids.epoch k.given (map.get a.holder.cells)
+  pub earlier : AreEarlier a.holder.kept a.holder.applied
   pub quiet : IsQuiet a
   pub down : a.is_down ≡ k.is_down
 
 -- Whatever its vault tells: its vault serves just while it is up, the table's locks agree, nobody is woken and not taken, those who
 -- wait in it do so for calls that the server keeps, and these may be performed once they have their locks. The table knows each live
 -- transaction, each live part is within its limits, as many as there may be, nobody has a file open or holds a lock on one that
--- was not made yet, each session keeps what it may, and no count went further than so many steps.
+-- was not made yet, each session keeps what it may, no transaction was decided later than the clock, and no count went further than so
+-- many steps.
 pub record IsReady {V : Type 0} (steps : ℕ) (serves : Bool) (k : ServerState V) : Type 0 where
   pub serving : k.is_down ≡ false → IsTrue serves
   pub halted : k.is_down ≡ true → serves ≡ false
@@ -148,21 +178,22 @@ pub record IsReady {V : Type 0} (steps : ℕ) (serves : Bool) (k : ServerState V
   pub taken : k.locks.woken ≡ []
   pub waits : AreWaiting k.server k.epoch k.given k.drawn k.sizes k.lives k.waits k.locks.waiting
   pub known : (t : TransId) (l : Live) → map.get k.lives t ≡ Some l → is_some (map.get k.locks.held t) ≡ true
-  pub begun : (t : TransId) (l : Live) → map.get k.lives t ≡ Some l → t.counter ≤ k.drawn
+  pub begun : (t : TransId) (l : Live) → map.get k.lives t ≡ Some l → IsNumbered k.drawn t
   pub opens : (t : TransId) (l : Live) → map.get k.lives t ≡ Some l → l.part.last ≤ steps
   pub opened : (t : TransId) (l : Live) → map.get k.lives t ≡ Some l → list_all (λ o. is_given k.server k.epoch k.given o.file) l.part.opens.items ≡ true
   pub places : length k.sessions.places ≡ 17
   pub calls : (client : ℕ) (w : Session) → session_at k.sessions client ≡ Some w → w.last ≤ steps
   pub replies : (client : ℕ) (w : Session) → session_at k.sessions client ≡ Some w → IsKeepable k.clock w.reply
   pub drawn : k.drawn ≤ steps
+  pub decisions : AreTimes k.drawn k.clock k.decisions
   pub given : k.given ≤ steps
-  pub committed : k.committed ≤ steps
   pub few : map.len k.lives ≤ steps
   pub most : map.len k.lives ≤ 64
   pub within : (t : TransId) (l : Live) → map.get k.lives t ≡ Some l → IsWithin k.sizes l
   pub sized : 64 ≤ k.sizes.area
   pub clock : k.clock ≤ 2 ^ 62
   pub raised : 0 < k.epoch
+  pub last : k.epoch < 2 ^ 32
   pub unheld : (t : TransId) (n : ℕ) → k.given < n → holding k.locks.held t (Whole (record { server = k.server; epoch = k.epoch; counter = n })) ≡ None
 
 -- it is ready, and its counts have room for one step more

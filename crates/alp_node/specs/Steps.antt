@@ -30,7 +30,7 @@ use Rattle.alp_node.specs.declared.sessions.CallOrder.TheVariants as order
 use Rattle.alp_node.specs.declared.sessions.Turn.{Turn}
 use Rattle.alp_node.specs.declared.sessions.Sessions.{Sessions}
 use Rattle.alp_node.specs.Dead.{without_part}
-use Rattle.alp_node.specs.Durable.{said_by, MightBring, Leaves, Besides}
+use Rattle.alp_node.specs.Durable.{said_by, Leaves, Besides, NoOther}
 use Rattle.alp_node.specs.Halts.{HaveCauses, IsUncounted, says_shut}
 use Rattle.alp_node.specs.Orders.{is_answered, is_fault_now}
 use Rattle.alp_node.specs.Releases.{let_go}
@@ -112,9 +112,10 @@ pub record IsStepAs {V : Type 0} (G : Ghosts V) (o : Option CallOrder) (old new 
   pub still : OnErr r (IsStill G old new)
   pub seat : IsSeated G old new
   pub turned : new.is_down ≡ false → IfOk r (λ x. HasTurned o old new e x.kept)
-  -- through the step a crash leaves what it might have left before, or all that the entry was to bring about
+  -- through the step a crash leaves what it might have left before, or all that the entry was to bring about, and nothing else where
+  -- memory was wanting
   pub leaves : IsTrue (G.tells old.vault) → (a : Alone) → IsAs a (G.held old.vault) old
-      → MatchResult r (λ x. Leaves G old.vault new.vault (Besides G old.vault (λ c. c ≡ said_by (alone a) (entry_of e x)))) (λ _. Leaves G old.vault new.vault (Besides G old.vault (MightBring (alone a) e)))
+      → MatchResult r (λ x. Leaves G old.vault new.vault (Besides G old.vault (λ c. c ≡ said_by (alone a) (entry_of e x)))) (λ _. Leaves G old.vault new.vault (Besides G old.vault NoOther))
 
 -- what the next call of a session comes to
 abbrev pub IsStep : {V : Type 0} → Ghosts V → (old new : ServerState V) → Event → Result Answer OutOfMemory → Type 0

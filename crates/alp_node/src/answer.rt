@@ -7,7 +7,7 @@ ghost use Rattle.alp_node.specs.Calls.{given_of};
 ghost use Rattle.alp_node.specs.Steps.{told_answer, refused_answer};
 
 use alp_base::{OutOfMemory, Stamp};
-use alp_files::{Refusal, Reply};
+use alp_files::{Ended, Refusal, Reply};
 use alp_journal::Acts;
 
 /// A reply, once for the journal and once for the caller, and what took effect. No reply is silence.
@@ -49,6 +49,26 @@ impl Answer {
         Answer {
             kept: Some(Reply::Committed { stamp }),
             handed: Some(Reply::Committed { stamp }),
+            acts,
+        }
+    }
+
+    pub fn ended(ended: Ended, acts: Acts) -> Answer
+        ensures { result ≡ told_answer (Some (reply.Ended ended)) acts }
+    {
+        Answer {
+            kept: Some(Reply::Ended(ended)),
+            handed: Some(Reply::Ended(ended)),
+            acts,
+        }
+    }
+
+    pub fn joined(acts: Acts) -> Answer
+        ensures { result ≡ told_answer (Some reply.Joined) acts }
+    {
+        Answer {
+            kept: Some(Reply::Joined),
+            handed: Some(Reply::Joined),
             acts,
         }
     }

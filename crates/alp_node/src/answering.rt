@@ -1,5 +1,5 @@
 //! The answer to an event, whatever it is.
-ghost use Rattle.std.specs.Prelude.{◌≡◌, ◌≢◌, ◌≤◌, IsTrue, IfOk, IfSome, None, Some, false, []};
+ghost use Rattle.std.specs.Prelude.{◌≡◌, ◌≢◌, ◌≤◌, IsTrue, IfOk, IfSome, None, Ok, Some, false, []};
 ghost use Rattle.std.specs.FinMap as map;
 ghost use Rattle.alp_files.specs.declared.call.Call.TheVariants as call;
 ghost use Rattle.alp_journal.specs.declared.event.Event.TheVariants as event;
@@ -8,7 +8,7 @@ ghost use Rattle.alp_files.specs.declared.refusal.Refusal.TheVariants as refusal
 ghost use Rattle.alp_node.specs.Calls.{IsServedCall};
 ghost use Rattle.alp_node.specs.Orders.{order_of, order_in};
 ghost use Rattle.alp_node.specs.ServerState.{IsReadyForMore, IsOfJournal};
-ghost use Rattle.alp_node.specs.Served.{IsServed, IsAskable, IsTurnCall, AreLivesSound};
+ghost use Rattle.alp_node.specs.Served.{IsServed, IsIdleEvent, IsAskable, IsTurnCall, AreLivesSound};
 ghost use Rattle.alp_node.specs.Sessions.{session_at};
 ghost use Rattle.alp_node.specs.Steps.{IsStep, IsStepAs, IsNoted, IsTurn, IsOf, told_answer, refused_answer};
 ghost use Rattle.alp_node.specs.declared.sessions.CallOrder.TheVariants as order;
@@ -92,6 +92,12 @@ impl<V: Vault> ServerState<V> {
         if let Call::Collect { number } = call {
             return self.collect(turn, *number);
         }
+        if let Call::Outcome { trans } = call {
+            return Ok(self.outcome(turn, *trans));
+        }
+        if let Call::Join { trans } = call {
+            return Ok(self.join(turn, *trans));
+        }
         let Some(trans) = trans_of(call) else {
             unreachable!()
         };
@@ -173,6 +179,17 @@ impl<V: Vault> ServerState<V> {
         }
     }
 
+    // An event at which there is nothing to do: a server that runs alone has sent nothing that it might say again, and each of its
+    // commits is forced.
+    fn idle(&mut self, event: &Event) -> Answer
+        requires idle { IsIdleEvent event.now }
+        requires up { self.old.is_down ≡ false }
+        ensures { IsStepAs V.Vault None self.old self.new event.now (Ok result) }
+    {
+        let _ = event;
+        Answer::silence(Acts::new(Vec::new(self.alloc)))
+    }
+
     /// The answer to an event that is served.
     pub fn answer(&mut self, event: &Event) -> Result<Answer, OutOfMemory>
         requires served { IsServed event.now }
@@ -192,6 +209,8 @@ impl<V: Vault> ServerState<V> {
                 call,
             } => self.call(*client, *epoch, *number, call),
             Event::Timeout { trans } => self.time_out(*trans),
+            Event::Tick => Ok(self.idle(event)),
+            Event::Force => Ok(self.idle(event)),
             _ => unreachable!(),
         }
     }

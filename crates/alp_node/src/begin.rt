@@ -1,8 +1,10 @@
 //! Sessions and transactions begin.
-ghost use Rattle.std.specs.Prelude.{◌≡◌, ◌+◌, ◌<◌, ◌≤◌, ◌^◌, None, Some, false};
+ghost use Rattle.std.specs.Prelude.{◌≡◌, ◌+◌, ◌<◌, ◌≤◌, ◌^◌, None, Some, false, OnOk, OnErr};
+ghost use Rattle.std.specs.FinMap as map;
 ghost use Rattle.alp_files.specs.declared.call.Call.TheVariants as call;
 ghost use Rattle.alp_journal.specs.declared.event.Event.TheVariants as event;
-ghost use Rattle.alp_node.specs.Releases.{buried};
+ghost use Rattle.alp_trans.specs.Counting.{no_counts};
+ghost use Rattle.alp_node.specs.Releases.{buried, with_trans};
 ghost use Rattle.alp_node.specs.Sessions.{session_at};
 ghost use Rattle.alp_node.specs.ServerState.{IsReadyForMore};
 ghost use Rattle.alp_node.specs.Steps.{IsStep, IsStepAs, IsTurn};
@@ -59,10 +61,12 @@ impl<V: Vault> ServerState<V> {
                 },
             ));
         }
+        let counter = self.drawn + 1;
+        let clock = self.clock.max(seen.ts);
         let trans = TransId {
             server: self.server,
             epoch: self.epoch,
-            counter: self.drawn + 1,
+            counter,
         };
         let acts = Acts::new(vec![in self.alloc; Act::Drawn { trans }]?);
         let reply = Reply::Begun { trans };
@@ -73,20 +77,36 @@ impl<V: Vault> ServerState<V> {
             part: Part::new(self.alloc),
             locks: 0,
         };
-        self.lives.add(trans, live)?;
-        if self.locks.enter(trans).is_err() {
-            self.lives.remove(&trans);
-            return Err(OutOfMemory);
-        }
-        self.drawn += 1;
-        self.clock = self.clock.max(seen.ts);
+        self.enter(trans, live)?;
+        self.drawn = counter;
+        self.clock = clock;
         self.bury(turn.client);
         self.sessions.count(turn, reply);
         Ok(answer)
     }
 
-    // The client asks for no dead part any more, and for no call of one.
-    fn bury(&mut self, client: u8)
+    // The transaction is live from now on. It holds no lock, and is not decided.
+    fn enter(&mut self, trans: TransId, live: Live) -> Result<(), OutOfMemory>
+        requires new { map.get self.old.lives trans ≡ None }
+        requires idle { live.part.counts ≡ no_counts }
+        ensures ok { OnOk result (self.new ≡ with_trans self.old trans live) }
+        ensures err { OnErr result (self.new ≡ self.old) }
+    {
+        self.decisions.begin()?;
+        if self.lives.add(trans, live).is_err() {
+            self.decisions.take_back();
+            return Err(OutOfMemory);
+        }
+        if self.locks.enter(trans).is_err() {
+            self.lives.remove(&trans);
+            self.decisions.take_back();
+            return Err(OutOfMemory);
+        }
+        Ok(())
+    }
+
+    /// The client asks for no dead part any more, and for no call of one.
+    pub fn bury(&mut self, client: u8)
         ensures { self.new ≡ buried self.old client }
     {
         self.waits.bury(client, &self.lives);

@@ -175,7 +175,7 @@ impl<V: Vault> ServerState<V> {
         self.release(trans, &mut acts);
         self.ease_all(others.as_slice(), blocks.as_slice());
         self.clock = stamp.ts;
-        self.committed += 1;
+        self.decisions.decide(trans.counter, stamp.ts);
         self.sessions.count(turn, Reply::Committed { stamp });
         Ok(Answer::committed(stamp, Acts::new(acts)))
     }

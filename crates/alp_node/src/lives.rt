@@ -1,5 +1,5 @@
 //! Transactions that are live at a server.
-ghost use Rattle.std.specs.Prelude.{◌≡◌, ◌≢◌, ◌≤◌, IfOk, OnOk, OnErr, None, Some};
+ghost use Rattle.std.specs.Prelude.{◌≡◌, ◌≢◌, ◌≤◌, IfOk, OnOk, OnErr, None, Some, slice_get};
 ghost use Rattle.std.specs.FinMap as map;
 ghost use Rattle.std.specs.Option.{option_copied as copied};
 ghost use Rattle.std.specs.BTreeMap.{keys, IsOrdered};
@@ -116,6 +116,20 @@ impl Lives {
     {
         let ids = ids_in(alloc, &self.lives)?;
         Ok(ids)
+    }
+
+    /// The least id, if there is one.
+    pub fn least(&self) -> Option<TransId>
+        ensures least { result ≡ slice_get (map.keys self.now) 0 }
+        ensures rising { IsStrictlySortedBy trans_cmp (map.keys self.now) }
+    {
+        if self.lives.len() == 0 {
+            return None;
+        }
+        let Some((trans, _)) = self.lives.first_key_value() else {
+            unreachable!()
+        };
+        Some(*trans)
     }
 
     /// A transaction is live no more.

@@ -1,13 +1,19 @@
 //! A server with its journal.
-ghost use Rattle.std.specs.Prelude.{◌≡◌, ◌+◌, ◌≤◌, max, IsTrue, List, [], ◌∷◌, ◌++◌, IfOk, OnErr, MatchResult, Ok, Some, true, false, length};
+ghost use Rattle.std.specs.Prelude.{◌≡◌, ◌+◌, ◌≤◌, max, IsTrue, List, [], ◌∷◌, ◌++◌, IfOk, OnErr, MatchResult, Ok, Some, ◌↔◌, true, false, length, slice_get};
+ghost use Rattle.std.specs.FinMap as map;
+ghost use Rattle.std.specs.List.Sorted.{IsStrictlySortedBy};
+ghost use Rattle.alp_base.specs.Orders.{trans_cmp};
 ghost use Rattle.alp_files.specs.declared.refusal.Refusal.TheVariants as refusal;
 ghost use Rattle.alp_files.specs.declared.reply.Reply.TheVariants as reply;
 ghost use Rattle.alp_journal.specs.declared.entry.Entry.{Entry as AnEntry};
 ghost use Rattle.alp_journal.specs.Alone.{Alone};
 ghost use Rattle.alp_node.specs.ServerState.{IsAs, IsReadyForMore, IsOfJournal};
-ghost use Rattle.alp_base.specs.Crashes.{Either};
-ghost use Rattle.alp_node.specs.Durable.{Leaves, IsSettled, IsKeptOrBrought, said_then};
-ghost use Rattle.alp_node.specs.Nodes.{IsConsistent, Answered, AreLive, HasNoEntry, HasRoom, IsFull, state_of, start_in};
+ghost use Rattle.alp_base.specs.Allowances.{Sets};
+ghost use Rattle.alp_base.specs.Crashes.{Either, SameOutcomes, Adds};
+ghost use Rattle.alp_vault.specs.Vault.{IsSameVault};
+ghost use Rattle.alp_node.specs.Durable.{Leaves, IsSettled, said_then};
+ghost use Rattle.std.specs.Option.{option_copied as copied};
+ghost use Rattle.alp_node.specs.Nodes.{sent_in, IsConsistent, Answered, AreLive, IsLeastLive, IsNoneLive, HasNoEntry, HasRoom, IsFull, state_of, start_in};
 ghost use Rattle.alp_node.specs.Orders.{order_in};
 ghost use Rattle.alp_node.specs.Served.{IsServed, AreLivesSound};
 ghost use Rattle.alp_node.specs.Steps.{IsEntered, IsNoted, IsSeated, seen_in};
@@ -18,12 +24,12 @@ use crate::opened::Opened;
 use crate::server_state::ServerState;
 use alp_base::{OutOfMemory, TransId};
 use alp_files::{Refusal, Reply};
-use alp_journal::{Entry, Event, Journal};
+use alp_journal::{Entry, Envelope, Event, Journal};
 use alp_vault::Vault;
 use std::alloc::Global;
 use std::marker::Model;
 
-/// So many entries a journal has at most.
+/// So many entries the steps of a server make at most. A restart adds its entry at any count.
 const MOST_ENTRIES: usize = 65_536;
 
 /// A server: what it was started on, what it keeps, and what it did. Its journal is lawful, each entry has its cause, and its
@@ -33,6 +39,8 @@ pub struct Node<V: Vault> {
     pub(super) opening: Opened<V>,
     pub(super) kept: ServerState<V>,
     pub(super) journal: Journal,
+    /// How many servers there are.
+    pub(super) servers: u8,
 }
 
 impl<V: Vault> Model for Node<V> {
@@ -47,9 +55,9 @@ impl<V: Vault> Model for Node<V> {
 
     ghost use Rattle.alp_node.specs.Nodes.{IsConsistent};
 
-    ghost view = { λ n. record { opening = n.opening; kept = n.kept; journal = n.journal } };
+    ghost view = { λ n. record { opening = n.opening; kept = n.kept; journal = n.journal; servers = n.servers } };
 
-    ghost invariant = { λ n. IsConsistent V.Vault (record { opening = n.opening; kept = n.kept; journal = n.journal }) };
+    ghost invariant = { λ n. IsConsistent V.Vault (record { opening = n.opening; kept = n.kept; journal = n.journal; servers = n.servers }) };
 }
 
 impl<V: Vault> Node<V> {
@@ -70,12 +78,13 @@ impl<V: Vault> Node<V> {
         ensures err { OnErr result (HasNoEntry V.Vault self.old self.new) }
         ensures still { (a : Alone) → IsAs a (V.held self.old.kept.vault) self.old.kept → OnErr result (IsAs a (V.held self.new.kept.vault) self.new.kept) }
         ensures opening { self.new.opening ≡ self.old.opening }
+        ensures servers { self.new.servers ≡ self.old.servers }
         ensures seat { IsSeated V.Vault self.old.kept self.new.kept }
         ensures turned { HasRoom self.old → self.new.kept.is_down ≡ false → IfOk result (λ r. HasTurned (order_in self.old.kept event) self.old.kept self.new.kept event r) }
         ensures clock { IsTrue (V.tells self.old.kept.vault) → self.new.kept.clock ≤ max self.old.kept.clock (seen_in event) + 1 }
         // Through the step a crash leaves what the vault held before it, or all that its one write makes of that; where memory was
-        // wanting, what another lawful answer would have made of it.
-        ensures durable { IsTrue (V.tells self.old.kept.vault) → self.old.kept.is_down ≡ false → HasRoom self.old → MatchResult result (λ _. Leaves V.Vault self.old.kept.vault self.new.kept.vault (Either (V.held self.old.kept.vault) (said_then (state_of (start_in V.Vault self.new) self.new.journal)))) (λ _. Leaves V.Vault self.old.kept.vault self.new.kept.vault (IsKeptOrBrought (V.held self.old.kept.vault) (state_of (start_in V.Vault self.old) self.old.journal) event)) }
+        // wanting, just what the vault held.
+        ensures durable { IsTrue (V.tells self.old.kept.vault) → self.old.kept.is_down ≡ false → HasRoom self.old → MatchResult result (λ _. Leaves V.Vault self.old.kept.vault self.new.kept.vault (Either (V.held self.old.kept.vault) (said_then (state_of (start_in V.Vault self.new) self.new.journal)))) (λ _. Leaves V.Vault self.old.kept.vault self.new.kept.vault (λ c. c ≡ V.held self.old.kept.vault)) }
     {
         if self.kept.is_down {
             return Ok(Some(Reply::Refused(Refusal::Down)));
@@ -127,26 +136,61 @@ impl<V: Vault> Node<V> {
         self.kept.clock
     }
 
-    /// How many transactions began here since it was started.
+    /// How many transactions began here since it was started, or started again.
     pub fn begun(&self) -> u32
         ensures { result ≡ self.now.kept.drawn }
     {
         self.kept.drawn
     }
 
-    /// And how many of them were committed.
-    pub fn committed(&self) -> u32
-        ensures { result ≡ self.now.kept.committed }
-    {
-        self.kept.committed
-    }
-
     /// The transactions that are live, least id first.
     pub fn live(&self, alloc: Global) -> Result<Vec<TransId>, OutOfMemory>
         ensures live { IsTrue (V.tells self.now.kept.vault) → IfOk result (λ v. AreLive (state_of (start_in V.Vault self.now) self.now.journal) v.items) }
         ensures few { IfOk result (λ v. length v.items ≤ length self.now.journal) }
+        ensures kept { IfOk result (λ v. v.items ≡ map.keys self.now.kept.lives) }
+        ensures rising { IfOk result (λ v. IsStrictlySortedBy trans_cmp v.items) }
     {
         self.kept.lives.ids(alloc)
+    }
+
+    /// The least transaction that is live, if there is one.
+    pub fn open_part(&self) -> Option<TransId>
+        ensures live { IsTrue (V.tells self.now.kept.vault) → IsLeastLive (state_of (start_in V.Vault self.now) self.now.journal) result }
+        ensures kept { result ≡ slice_get (map.keys self.now.kept.lives) 0 }
+        ensures rising { IsStrictlySortedBy trans_cmp (map.keys self.now.kept.lives) }
+    {
+        self.kept.lives.least()
+    }
+
+    /// Whether no transaction is live. A server that runs alone has no ready notes and no decision notes.
+    pub fn is_settled(&self) -> bool
+        ensures live { IsTrue (V.tells self.now.kept.vault) → IsNoneLive result (state_of (start_in V.Vault self.now) self.now.journal) }
+        ensures kept { (result ≡ true) ↔ (self.now.kept.lives ≡ map.empty) }
+    {
+        self.kept.lives.least().is_none()
+    }
+
+    /// The message at this place, from 0 on, among all that its entries send, if there are so many. A server that runs alone sends none.
+    pub fn emitted(&self, place: u32) -> Option<&Envelope>
+        ensures { copied result ≡ slice_get (sent_in self.now.journal) place }
+    {
+        let _ = &self.journal;
+        let _ = place;
+        None
+    }
+
+    /// Lets so many further changing calls of its vault pass, or all of them.
+    pub fn stop_after(&mut self, calls: Option<u32>)
+        ensures kept { self.new ≡ record (self.old) { kept = record (self.old.kept) { vault = self.new.kept.vault } } }
+        ensures same { IsSameVault V.tells V.volume V.server V.servers self.old.kept.vault self.new.kept.vault }
+        ensures serves { V.serves self.new.kept.vault ≡ V.serves self.old.kept.vault }
+        ensures held { V.held self.new.kept.vault ≡ V.held self.old.kept.vault }
+        ensures crash { SameOutcomes (V.may_leave self.old.kept.vault) (V.may_leave self.new.kept.vault) }
+        ensures time { Adds V.left_since self.old.kept.vault self.new.kept.vault (V.may_leave self.new.kept.vault) }
+        ensures faults { V.faults self.new.kept.vault ≡ V.faults self.old.kept.vault }
+        ensures allowance { Sets calls (V.allowance self.old.kept.vault) (V.allowance self.new.kept.vault) }
+    {
+        self.kept.vault.stop_after(calls);
     }
 
     pub fn vault(&self) -> &V
@@ -163,6 +207,7 @@ impl<V: Vault> Node<V> {
             opening,
             kept,
             journal,
+            ..
         } = self;
         let ServerState { vault, .. } = kept;
         (opening, vault, journal)

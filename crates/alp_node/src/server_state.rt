@@ -1,5 +1,6 @@
 //! What a server keeps beside its journal.
 use crate::dead::Dead;
+use crate::decisions::Decisions;
 use crate::lives::Lives;
 use crate::sessions::Sessions;
 use crate::waits::Waits;
@@ -20,7 +21,8 @@ pub struct ServerState<V: Vault> {
     /// How many transactions began in this epoch, and how many files were created.
     pub drawn: u32,
     pub given: u32,
-    pub committed: u32,
+    /// When each of those transactions was decided, if it was.
+    pub decisions: Decisions,
     pub sessions: Sessions,
     pub lives: Lives,
     /// Parts that timed out, each up to its client's `Finish` of it or next `Begin`.

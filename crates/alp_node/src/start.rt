@@ -15,6 +15,7 @@ ghost use Rattle.alp_node.specs.Nodes.{IsNew};
 ghost use Rattle.alp_node.specs.Starts.{AreOfServer, HasRaised, IsKeptOrRaised, after_clock, raised, HasStartCause, IsNoteFault};
 
 use crate::dead::Dead;
+use crate::decisions::Decisions;
 use crate::lives::Lives;
 use crate::node::Node;
 use crate::opened::Opened;
@@ -42,7 +43,7 @@ pub enum StartFault {
     /// A note is not in its format.
     #[error("a note is not in its format")]
     BadNote,
-    /// The note has the last epoch there is.
+    /// No epoch is left: the note has the last one there is, or, of a server that starts again, its last epoch is that one.
     #[error("no epoch is left")]
     EpochEnd,
 }
@@ -108,6 +109,8 @@ impl<V: Vault> Node<V> {
     ) -> Result<Node<V>, (V, StartFault)>
         requires serving { IsTrue (V.serves vault) }
         requires server { (V.server vault ≡ server) × (V.servers vault ≡ servers) }
+        // So far a server runs alone. What it says to others comes with several servers.
+        requires alone { servers ≡ 1 }
         requires given { IsTrue (V.tells vault) → AreOfServer server (V.held vault) }
         ensures raised { IfOk result (λ n. HasRaised (V.tells vault) (V.server vault) (V.servers vault) (V.held vault) (V.held n.kept.vault) (record { epoch = n.kept.epoch; clock = n.kept.clock })) }
         ensures new { IfOk result (IsNew V.volume server) }
@@ -120,7 +123,6 @@ impl<V: Vault> Node<V> {
         // Through the whole call a crash leaves what was held, or that with the raised note.
         ensures crash { IsTrue (V.tells vault) → MatchResult result (λ n. Leaves V.Vault vault n.kept.vault (IsKeptOrRaised (V.held vault))) (λ e. Leaves V.Vault vault e.0 (IsKeptOrRaised (V.held vault))) }
     {
-        let _ = servers;
         let mut vault = vault;
         vault.knows();
         let sizes = vault.sizes();
@@ -140,12 +142,12 @@ impl<V: Vault> Node<V> {
             clock: clock.clock,
             drawn: 0,
             given: 0,
-            committed: 0,
             sessions: Sessions::new(),
             lives: Lives::new(alloc),
             dead: Dead::new(alloc),
             waits: Waits::new(alloc),
             locks: LockTable::new(alloc),
+            decisions: Decisions::new(alloc),
             vault,
             is_down: false,
         };
@@ -155,6 +157,7 @@ impl<V: Vault> Node<V> {
             },
             kept,
             journal: Journal::new(alloc),
+            servers,
         })
     }
 }

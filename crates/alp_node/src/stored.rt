@@ -1,10 +1,10 @@
 //! Commits of a server's vault: what a transaction intends, with the note of the epoch and the clock.
-ghost use Rattle.std.specs.Prelude.{◌≡◌, ◌+◌, ◌*◌, ◌≤◌, ◌^◌, IsTrue, OnOk};
+ghost use Rattle.std.specs.Prelude.{◌≡◌, ◌+◌, ◌*◌, ◌≤◌, ◌^◌, IsTrue, IsErrOf, OnOk};
 ghost use Rattle.std.specs.FinMap as map;
 ghost use Rattle.alp_base.specs.Allowances.{Spends};
 ghost use Rattle.alp_base.specs.Crashes.{Either};
 ghost use Rattle.alp_node.specs.declared.stored.StoreFault.TheVariants.{OutOfMemory as NoMemory};
-ghost use Rattle.alp_node.specs.Durable.{Leaves, Besides, IsWritten};
+ghost use Rattle.alp_node.specs.Durable.{Leaves, Besides, NoOther, IsWritten};
 ghost use Rattle.alp_node.specs.Halts.{Ends};
 ghost use Rattle.alp_fields.specs.ClockNote.{clock_name, clock_form, clock_kept};
 ghost use Rattle.alp_calls.specs.Parts.{IsPart};
@@ -70,6 +70,7 @@ fn commit_change<V: Vault>(
     ensures cells { IsTrue (V.tells vault.old) → OnOk result ((V.held vault.new).cells ≡ edits_map (edits_of change.now) (V.held vault.old).cells) }
     ensures notes { OnOk result ((V.held vault.new).notes ≡ notes_after notes.now (V.held vault.old).notes) }
     ensures leaves { IsTrue (V.tells vault.old) → Leaves V.Vault vault.old vault.new (Either (V.held vault.old) (made change.now notes.now (V.held vault.old))) }
+    ensures memory { IsTrue (V.tells vault.old) → IsErrOf result NoMemory → Leaves V.Vault vault.old vault.new (Besides V.Vault vault.old NoOther) }
     ensures allowance { Spends (V.allowance vault.old) (V.allowance vault.new) }
     ensures ended { Ends V.Vault vault.old vault.new result }
 {
@@ -101,6 +102,8 @@ pub fn store<V: Vault>(
     ensures format { OnOk result (AreServerNotes (V.server vault.new) (V.servers vault.new) (V.held vault.new).notes) }
     // Through the whole call a crash leaves what was held, or that with the one write.
     ensures leaves { IsTrue (V.tells vault.old) → Leaves V.Vault vault.old vault.new (Besides V.Vault vault.old (IsWritten part.now.intents clock (V.held vault.old))) }
+    // Where memory was wanting there was no write.
+    ensures memory { IsTrue (V.tells vault.old) → IsErrOf result NoMemory → Leaves V.Vault vault.old vault.new (Besides V.Vault vault.old NoOther) }
     ensures allowance { Spends (V.allowance vault.old) (V.allowance vault.new) }
     ensures ended { Ends V.Vault vault.old vault.new result }
 {

@@ -6,6 +6,3 @@ mod place;
 mod rows;
 
 pub use notes::{Notes, copies_of};
-
-#[cfg(test)]
-mod tests;

@@ -18,6 +18,3 @@ pub use fault::RecordFault;
 pub use header::header_page;
 pub use laws::records_are_read_one_way;
 pub use read::read_record;
-
-#[cfg(test)]
-mod tests;

@@ -1,6 +1,6 @@
 use crate::replies::put_reply;
 use crate::*;
-use alp_base::{AccessList, FileId, Name, Page, PageList, PageRef, Stamp, TransId};
+use alp_base::{AccessList, Bytes, FileId, Name, Page, PageList, PageRef, Stamp, TransId};
 use alp_files::{
     Call, Cause, Ended, HeldProps, ListName, OwnerRecord, Props, Refusal, Reply, What, Why,
 };
@@ -352,6 +352,31 @@ fn a_run(rt: HostRuntime) -> Result<(), Fail> {
     put_summary(&mut text, &summary)?;
     let want =
         "3 ok trans 1.2.34\n4 silent\n10 none\nserver 1 epoch 2 clock 567 files 1 pages 4\nowner 1 ann charge 4 quota 10\ncommitted 8 aborted 9\n";
+    assert!(rt; text.as_slice() == want.as_bytes());
+    Ok(())
+}
+
+// What a raw line is answered is printed as any reply: also where its bytes spell no request.
+#[test]
+fn raw_lines(rt: HostRuntime) -> Result<(), Fail> {
+    let alloc = rt.alloc();
+    let mut text = Vec::new(alloc);
+    let wrong = Item {
+        line: 5,
+        server: 1,
+        mark: Mark::Raw,
+        sent: Sent::Bytes(Bytes::new(Vec::from_slice(alloc, b"\x00\x00")?)),
+        reply: Some(Reply::Refused(Refusal::BadFrame)),
+        place: None,
+    };
+    put_line(&mut text, 5, &vec![in alloc; wrong]?)?;
+    let mut committed = item(Some(Reply::Ended(Ended::Committed { stamp: STAMP })));
+    committed.mark = Mark::Raw;
+    put_line(&mut text, 6, &vec![in alloc; committed]?)?;
+    let mut silent = item(None);
+    silent.mark = Mark::Raw;
+    put_line(&mut text, 7, &vec![in alloc; silent]?)?;
+    let want = "5 refused 1\n6 ok committed 567 1.2.34\n7 silent\n";
     assert!(rt; text.as_slice() == want.as_bytes());
     Ok(())
 }

@@ -20,6 +20,3 @@ pub use frame::{REPLY_MARK, REQUEST_MARK, ReplyFrame, Request};
 pub use laws::frames_are_forms;
 pub use reply::{decode_reply, encode_reply};
 pub use request::{decode_request, encode_request};
-
-#[cfg(test)]
-mod tests;

@@ -1,11 +1,11 @@
 -- what is known of a line that may come next
-use Rattle.std.specs.Prelude.{nat_le, ◌==◌, Bool, Option, None, Some, IfSome, cond}
+use Rattle.std.specs.Prelude.{nat_le, ◌==◌, ◌&&◌, Bool, Option, None, Some, IfSome, cond}
 use Rattle.std.specs.List.{Contains}
 use Rattle.std.proofs.Common.{◌≡◌, ℕ, ◌≤◌, List, [], ◌∷◌, ◌++◌, true, false, refl, sym, ◌∙◌, ap, subst, append-nil}
 use Rattle.std.proofs.lemmas.Bool.{leb-true, and_parts, eqb-true}
 use Rattle.std.proofs.lemmas.Map.Views.{Contains-from_any}
 use Rattle.std.proofs.lemmas.Option.{same_Some}
-use Rattle.alp_lines.specs.Named.{client_named, server_named}
+use Rattle.alp_lines.specs.Named.{client_named, server_named, receiver_named}
 use Rattle.alp_script.specs.Known.{Known}
 use Rattle.alp_script.specs.Order.{is_one, is_client, names_ours, is_among, is_known, is_declared, after_servers, after_setting, after_timeout, after_volume, after_client, after_file, after, next}
 use Rattle.alp_lines.specs.Forms.{IsForm}
@@ -28,12 +28,17 @@ one_named (Some n) s h e = sym (same_Some n s e) ∙ eqb-true n 1 h
 -- the client that a line names is one of the run
 pub ours-client : (l : Line) (k : ℕ) → names_ours l ≡ true → client_named l ≡ Some k → (1 ≤ k) × (k ≤ CLIENTS)
 unfolding names_ours
-ours-client l k h e = client_bounds (client_named l) k (and_parts (is_client (client_named l)) _ h).0 e
+ours-client l k h e = client_bounds (client_named l) k (and_parts (is_client (client_named l)) _ (and_parts (is_client (client_named l) && is_one (server_named l)) _ h).0).0 e
 
--- and so is the server
+-- so is the server
 pub ours-server : (l : Line) (s : ℕ) → names_ours l ≡ true → server_named l ≡ Some s → s ≡ 1
 unfolding names_ours
-ours-server l s h e = one_named (server_named l) s (and_parts (is_client (client_named l)) _ h).1 e
+ours-server l s h e = one_named (server_named l) s (and_parts (is_client (client_named l)) _ (and_parts (is_client (client_named l) && is_one (server_named l)) _ h).0).1 e
+
+-- and so is the one that its messages go to
+pub ours-receiver : (l : Line) (s : ℕ) → names_ours l ≡ true → receiver_named l ≡ Some s → s ≡ 1
+unfolding names_ours
+ours-receiver l s h e = one_named (receiver_named l) s (and_parts (is_client (client_named l) && is_one (server_named l)) _ h).1 e
 
 guarded : (b : Bool) (said : Option Known) (t : Known) → cond b said None ≡ Some t → (b ≡ true) × (said ≡ Some t)
 guarded true said t h = (refl, h)
@@ -72,12 +77,22 @@ clients_after k t l (form.client number name) h = same_clients k _ t (number ∷
 clients_after k t l (form.patience count some few) h = same_clients k _ t [] ((tested _ _ t h).1) (append-nil k.clients)
 clients_after k t l (form.auto_said on) h = same_clients k _ t [] ((tested _ _ t h).1) (append-nil k.clients)
 clients_after k t l (form.timeout server number most) h = same_clients k _ t [] ((tested _ _ t h).1) (append-nil k.clients)
+clients_after k t l (form.tick server) h = same_clients k _ t [] ((tested _ _ t h).1) (append-nil k.clients)
+clients_after k t l (form.force server) h = same_clients k _ t [] ((tested _ _ t h).1) (append-nil k.clients)
+clients_after k t l (form.stop server calls small) h = same_clients k _ t [] ((tested _ _ t h).1) (append-nil k.clients)
+clients_after k t l (form.restart server pick small) h = same_clients k _ t [] ((tested _ _ t h).1) (append-nil k.clients)
+clients_after k t l form.settle h = same_clients k _ t [] ((tested _ _ t h).1) (append-nil k.clients)
+clients_after k t l (form.carry from to) h = same_clients k _ t [] ((tested _ _ t h).1) (append-nil k.clients)
+clients_after k t l (form.lose from to) h = same_clients k _ t [] ((tested _ _ t h).1) (append-nil k.clients)
+clients_after k t l (form.again from to) h = same_clients k _ t [] ((tested _ _ t h).1) (append-nil k.clients)
 clients_after k t l (form.begin number server) h = same_clients k _ t [] (same_Some _ t h) (append-nil k.clients)
 clients_after k t l (form.commit number) h = same_clients k _ t [] (same_Some _ t h) (append-nil k.clients)
 clients_after k t l (form.abort number) h = same_clients k _ t [] (same_Some _ t h) (append-nil k.clients)
+clients_after k t l (form.outcome number) h = same_clients k _ t [] (same_Some _ t h) (append-nil k.clients)
 clients_after k t l (form.collect number) h = same_clients k _ t [] (same_Some _ t h) (append-nil k.clients)
 clients_after k t l (form.repeat number) h = same_clients k _ t [] (same_Some _ t h) (append-nil k.clients)
 clients_after k t l (form.old number) h = same_clients k _ t [] (same_Some _ t h) (append-nil k.clients)
+clients_after k t l (form.raw number server bytes some) h = same_clients k _ t [] (same_Some _ t h) (append-nil k.clients)
 clients_after k t l (form.owner number server name quota create wish few) h = same_clients k _ t [] (same_Some _ t h) (append-nil k.clients)
 clients_after k t l (form.read_owner number server name wish) h = same_clients k _ t [] (same_Some _ t h) (append-nil k.clients)
 clients_after k t l (form.quota number server name quota wish) h = same_clients k _ t [] (same_Some _ t h) (append-nil k.clients)

@@ -10,8 +10,8 @@ use Rattle.alp_tokens.specs.Names.{name_of, names_of, list_of, text_of}
 use Rattle.alp_lines.specs.FileWords.{id_of, file_word_of, new_word_of}
 use Rattle.alp_lines.specs.Operands.{run_of, choice_of, access_of, purpose_of, mode_of, reading_of}
 use Rattle.alp_lines.specs.ClientLines.{begin_line, bare_line, make_owner_line, file_line, create_line, open_line, write_line, read_line, line_on_file, line_by_verb}
-use Rattle.alp_lines.specs.Grammar.{text_said, servers_line, client_line, patience_line, line_of_client, line_by, line_said}
-use Rattle.alp_lines.specs.Named.{client_named, server_named}
+use Rattle.alp_lines.specs.Grammar.{text_said, servers_line, client_line, patience_line, line_of_client, event_by, line_by, line_said}
+use Rattle.alp_lines.specs.Named.{client_named, server_named, receiver_named}
 use Rattle.alp_script.specs.Order.{after_servers, after_setting, after_client, after_file, after, names_ours, is_declared, next}
 use Rattle.alp_script.specs.Script.{flaw_at, read_at, script}
 use Rattle.alp_lines.specs.declared.line.FileWord.TheVariants as file_word
@@ -24,7 +24,7 @@ abbrev line_end : List ℕ
 line_end = 10 ∷ []
 
 one_line : script (codes "servers 1") ≡ Ok (record { number = 1; line = line.Servers 1 } ∷ [])
-unfolding script read_at text_said line_said words_of line_by servers_line within number_of next is_declared names_ours client_named server_named after after_servers
+unfolding script read_at text_said line_said words_of line_by servers_line within number_of next is_declared names_ours client_named server_named receiver_named after after_servers
 one_line = refl
 
 no_line : script [] ≡ Err (fault.Bad 1)
@@ -32,12 +32,12 @@ unfolding script
 no_line = refl
 
 second_servers : script (codes "servers 1" ++ line_end ++ codes "servers 1" ++ line_end) ≡ Err (fault.Bad 2)
-unfolding script flaw_at read_at text_said line_said words_of line_by servers_line within number_of next is_declared names_ours client_named server_named after after_servers
+unfolding script flaw_at read_at text_said line_said words_of line_by servers_line within number_of next is_declared names_ours client_named server_named receiver_named after after_servers
 second_servers = refl
 
 -- an empty line and a comment say nothing
 skipped_lines : script (line_end ++ codes "# servers 2" ++ line_end ++ codes "servers 1") ≡ Ok (record { number = 3; line = line.Servers 1 } ∷ [])
-unfolding script read_at text_said line_said words_of line_by servers_line within number_of next is_declared names_ours client_named server_named after after_servers
+unfolding script read_at text_said line_said words_of line_by servers_line within number_of next is_declared names_ours client_named server_named receiver_named after after_servers
 skipped_lines = refl
 
 leading_zero : script (codes "servers 01" ++ line_end) ≡ Err (fault.Bad 1)
@@ -65,13 +65,13 @@ whole_path : script (codes "servers 1" ++ line_end ++ codes "client 1 Admin" ++ 
     ∷ numbered 8 (line.Commit 1)
     ∷ []
     )
-unfolding script read_at text_said line_said words_of line_by servers_line client_line line_of_client line_by_verb begin_line make_owner_line create_line file_line line_on_file write_line read_line bare_line access_of reading_of list_of names_of choice_of run_of within number_of name_of text_of id_of file_word_of new_word_of next is_declared names_ours client_named server_named after after_servers after_client after_file
+unfolding script read_at text_said line_said words_of line_by servers_line client_line event_by line_of_client line_by_verb begin_line make_owner_line create_line file_line line_on_file write_line read_line bare_line access_of reading_of list_of names_of choice_of run_of within number_of name_of text_of id_of file_word_of new_word_of next is_declared names_ours client_named server_named receiver_named after after_servers after_client after_file
 whole_path = refl
 
 -- patience, and a principal of another name
 patience : script (codes "servers 1" ++ line_end ++ codes "client 2 ann" ++ line_end ++ codes "2 begin 1" ++ line_end ++ codes "patience 3")
     ≡ Ok (numbered 1 (line.Servers 1) ∷ numbered 2 (line.Client 2 (codes "ann")) ∷ numbered 3 (line.Begin 2 1) ∷ numbered 4 (line.Patience 3) ∷ [])
-unfolding script read_at text_said line_said words_of line_by servers_line client_line patience_line line_of_client line_by_verb begin_line within number_of name_of next is_declared names_ours client_named server_named after after_servers after_setting after_client
+unfolding script read_at text_said line_said words_of line_by servers_line client_line patience_line event_by line_of_client line_by_verb begin_line within number_of name_of next is_declared names_ours client_named server_named receiver_named after after_servers after_setting after_client
 patience = refl
 
 -- lines of two clients, of which one opens the file that the other made
@@ -88,13 +88,13 @@ two_clients : script (codes "servers 1" ++ line_end ++ codes "client 16 Admin" +
     ∷ numbered 7 (line.Abort 16)
     ∷ []
     )
-unfolding script read_at text_said line_said words_of line_by servers_line client_line line_of_client line_by_verb create_line file_line line_on_file purpose_of mode_of open_line bare_line access_of list_of names_of choice_of within number_of name_of id_of file_word_of new_word_of next is_declared names_ours client_named server_named after after_servers after_client after_file
+unfolding script read_at text_said line_said words_of line_by servers_line client_line event_by line_of_client line_by_verb create_line file_line line_on_file purpose_of mode_of open_line bare_line access_of list_of names_of choice_of within number_of name_of id_of file_word_of new_word_of next is_declared names_ours client_named server_named receiver_named after after_servers after_client after_file
 two_clients = refl
 
 late_declaration : script (codes "servers 1" ++ line_end ++ codes "client 1 Admin" ++ line_end ++ codes "1 begin 1" ++ line_end ++ codes "client 2 Admin" ++ line_end) ≡ Err (fault.Bad 4)
-unfolding script flaw_at read_at text_said line_said words_of line_by servers_line client_line line_of_client line_by_verb begin_line within number_of name_of next is_declared names_ours client_named server_named after after_servers after_client
+unfolding script flaw_at read_at text_said line_said words_of line_by servers_line client_line event_by line_of_client line_by_verb begin_line within number_of name_of next is_declared names_ours client_named server_named receiver_named after after_servers after_client
 late_declaration = refl
 
 undeclared_client : script (codes "servers 1" ++ line_end ++ codes "client 1 Admin" ++ line_end ++ codes "2 begin 1") ≡ Err (fault.Bad 3)
-unfolding script flaw_at read_at text_said line_said words_of line_by servers_line client_line line_of_client line_by_verb begin_line within number_of name_of next is_declared names_ours client_named server_named after after_servers after_client
+unfolding script flaw_at read_at text_said line_said words_of line_by servers_line client_line event_by line_of_client line_by_verb begin_line within number_of name_of next is_declared names_ours client_named server_named receiver_named after after_servers after_client
 undeclared_client = refl

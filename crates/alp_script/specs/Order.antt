@@ -7,7 +7,7 @@ use Rattle.std.specs.declared.cmp.Ordering.{Ordering}
 use Rattle.std.specs.BTreeMap.{is_at}
 use Rattle.std.specs.BTreeSet.{insert_key}
 use Rattle.alp_tokens.specs.Words.{when}
-use Rattle.alp_lines.specs.Named.{client_named, server_named}
+use Rattle.alp_lines.specs.Named.{client_named, server_named, receiver_named}
 use Rattle.alp_script.specs.Known.{Known}
 use Rattle.alp_base.specs.declared.limits.TheConstants.{CLIENTS}
 use Rattle.alp_lines.specs.declared.line.FileWord.{FileWord}
@@ -23,9 +23,9 @@ abbrev pub is_client : Option ℕ → Bool
 is_client None = true
 is_client (Some n) = nat_le 1 n && nat_le n CLIENTS
 
--- whom the line names is of the run: a client from 1 to the most, and server 1
+-- whom the line names is of the run: a client from 1 to the most, and server 1, from which and to which its messages go
 unfoldable pub names_ours : Line → Bool
-names_ours l = is_client (client_named l) && is_one (server_named l)
+names_ours l = is_client (client_named l) && is_one (server_named l) && is_one (receiver_named l)
 
 -- the number is one of these
 abbrev pub is_among : List ℕ → ℕ → Bool
@@ -52,13 +52,13 @@ is_bound words (file_word.Id id) = id.server == 1
 unfoldable pub after_servers : Known → ℕ → Option Known
 after_servers k count = when (not k.servers && count == 1) (record k { servers = true })
 
--- a setting stands anywhere behind the servers
+-- a setting, or what happens at a server, stands anywhere behind the servers
 unfoldable pub after_setting : Known → Option Known
 after_setting k = when k.servers k
 
--- a client of the run may time out at the one server, wherever both are declared
-unfoldable pub after_timeout : Known → ℕ → ℕ → Option Known
-after_timeout k server client = when (k.servers && server == 1 && is_among k.clients client) k
+-- a client may time out at the one server, wherever both are declared
+unfoldable pub after_timeout : Known → ℕ → Option Known
+after_timeout k client = when (k.servers && is_among k.clients client) k
 
 -- a client, of whatever principal, is declared once and before the first line of a client
 unfoldable pub after_client : Known → ℕ → Option Known
@@ -86,13 +86,23 @@ after k (line.Volume server home area) = after_volume k
 after k (line.Client client name) = after_client k client
 after k (line.Patience count) = after_setting k
 after k (line.Auto on) = after_setting k
-after k (line.Timeout server client) = after_timeout k server client
+after k (line.Carry from to) = after_setting k
+after k (line.Lose from to) = after_setting k
+after k (line.Again from to) = after_setting k
+after k (line.Tick server) = after_setting k
+after k (line.Force server) = after_setting k
+after k (line.Timeout server client) = after_timeout k client
+after k (line.Stop server calls) = after_setting k
+after k (line.Restart server pick) = after_setting k
+after k line.Settle = after_setting k
 after k (line.Begin client server) = Some (after_call k)
 after k (line.Commit client) = Some (after_call k)
 after k (line.Abort client) = Some (after_call k)
+after k (line.Outcome client) = Some (after_call k)
 after k (line.Collect client) = Some (after_call k)
 after k (line.Repeat client) = Some (after_call k)
 after k (line.Old client) = Some (after_call k)
+after k (line.Raw client server bytes) = Some (after_call k)
 after k (line.Create client server word owner size read modify choice) = Some (after_create k word)
 after k (line.OpenFile client file access mode choice) = after_file k file
 after k (line.CloseFile client file) = after_file k file
@@ -106,7 +116,6 @@ after k (line.WriteProps client file change choice) = after_file k file
 after k (line.ReadOwner client server owner choice) = Some (after_call k)
 after k (line.MakeOwner client server owner quota create choice) = Some (after_call k)
 after k (line.SetQuota client server owner quota choice) = Some (after_call k)
-after k _ = None
 
 -- what is known after a line, where the line may stand
 unfoldable pub next : Known → Line → Option Known

@@ -50,7 +50,7 @@ fn is_client(number: Option<u8>) -> bool
 fn names_ours(line: &Line) -> bool
     ensures { result ≡ names_ours_said line.now }
 {
-    is_client(line.client()) && is_one(line.server())
+    is_client(line.client()) && is_one(line.server()) && is_one(line.receiver())
 }
 
 fn is_known(clients: &[u8], client: Option<u8>) -> bool
@@ -118,11 +118,11 @@ impl Context {
     }
 
     #[tactic(auto, unfolding(crate::specs::Order::after_timeout))]
-    fn take_timeout(&mut self, server: u8, client: u8) -> Result<(), LineFault>
-        ensures { TellsBy (λ _. self.new) result (after_timeout self.old server client) }
+    fn take_timeout(&mut self, client: u8) -> Result<(), LineFault>
+        ensures { TellsBy (λ _. self.new) result (after_timeout self.old client) }
     {
         let declared = self.clients.contains(&client);
-        if !self.servers || server != 1 || !declared {
+        if !self.servers || !declared {
             return Err(LineFault::Outside);
         }
         Ok(())
@@ -185,9 +185,13 @@ impl Context {
             Line::Volume { .. } => self.take_volume(),
             Line::Client { client, .. } => self.take_client(*client),
             Line::Patience { .. } | Line::Auto { .. } => self.take_setting(),
-            Line::Timeout { server, client } => self.take_timeout(*server, *client),
+            Line::Carry { .. } | Line::Lose { .. } | Line::Again { .. } => self.take_setting(),
+            Line::Tick { .. } | Line::Force { .. } | Line::Stop { .. } => self.take_setting(),
+            Line::Restart { .. } | Line::Settle => self.take_setting(),
+            Line::Timeout { client, .. } => self.take_timeout(*client),
             Line::Begin { .. } | Line::Commit { .. } | Line::Abort { .. } => self.take_call(),
             Line::Collect { .. } | Line::Repeat { .. } | Line::Old { .. } => self.take_call(),
+            Line::Outcome { .. } | Line::Raw { .. } => self.take_call(),
             Line::Create { word, .. } => self.take_create(word),
             Line::OpenFile { file, .. } => self.take_file(file),
             Line::CloseFile { file, .. } => self.take_file(file),
@@ -201,7 +205,6 @@ impl Context {
             Line::ReadOwner { .. } | Line::MakeOwner { .. } | Line::SetQuota { .. } => {
                 self.take_call()
             }
-            _ => Err(LineFault::Outside),
         }
     }
 

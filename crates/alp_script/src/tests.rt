@@ -403,3 +403,56 @@ fn tells_a_read_fault(rt: HostRuntime) -> Result<(), Fail> {
     assert!(rt; matches!(result, Err(ScriptFault::ReadFault)));
     Ok(())
 }
+
+// What happens at the server may stand before its clients are declared, and a line of a client may not.
+#[test]
+fn events_stand_behind_the_servers(rt: HostRuntime) -> Result<(), Fail> {
+    let alloc = rt.alloc();
+    let text =
+        b"servers 1\nstop 1 3\ntick 1\nclient 1 bob\nforce 1\nrestart 1 7\nsettle\ncarry 1 1\nclient 2 ann\n1 outcome\n1 raw 1 00\nlose 1 1\nagain 1 1\nstop 1 0\n";
+    assert_eq!(rt; count(alloc, text), Ok(14usize));
+    let cases: [(&[u8], u32); 9] = [
+        (b"tick 1\nservers 1\n", 1),
+        (b"stop 1 0\nservers 1\n", 1),
+        (b"restart 1 0\nservers 1\n", 1),
+        (b"settle\nservers 1\n", 1),
+        (b"carry 1 1\nservers 1\n", 1),
+        (b"force 1\nservers 1\n", 1),
+        (b"again 1 1\nservers 1\n", 1),
+        (b"servers 1\nclient 1 bob\n1 outcome\nclient 2 ann\n", 4),
+        (b"servers 1\nclient 1 bob\n1 raw 1 00\nvolume 1 512 64\n", 4),
+    ];
+    for (text, line) in cases {
+        assert_eq!(rt; count(alloc, text), Err(ScriptFault::Bad { line }));
+    }
+    Ok(())
+}
+
+// Each server that a line names is declared, and so is its client.
+#[test]
+fn refuses_undeclared_servers(rt: HostRuntime) -> Result<(), Fail> {
+    let alloc = rt.alloc();
+    let cases: [&[u8]; 12] = [
+        b"tick 2",
+        b"force 2",
+        b"stop 2 0",
+        b"restart 2 0",
+        b"carry 2 1",
+        b"carry 1 2",
+        b"lose 1 2",
+        b"lose 2 1",
+        b"again 1 8",
+        b"1 raw 2 00",
+        b"2 raw 1 00",
+        b"2 outcome",
+    ];
+    for line in cases {
+        let mut text = Vec::from_slice(alloc, b"servers 1\nclient 1 Admin\n")?;
+        text.extend_from_slice(line)?;
+        assert_eq!(rt;
+            count(alloc, text.as_slice()),
+            Err(ScriptFault::Bad { line: 3 })
+        );
+    }
+    Ok(())
+}

@@ -1,6 +1,7 @@
 -- the calls of lines have frames
 use Rattle.std.specs.Prelude.{Option, None, Some, IfSome}
 use Rattle.std.proofs.Common.{◌≡◌, ℕ, ◌≤◌, ◌^◌, true, refl, sym, arith}
+use Rattle.std.proofs.Math.Nat.{le-min}
 use Rattle.std.proofs.lemmas.List.{length-replicate}
 use Rattle.alp_base.specs.declared.ids.TransId.{TransId}
 use Rattle.alp_base.specs.Pages.{page_of}
@@ -14,8 +15,8 @@ use Rattle.alp_modes.specs.declared.Mode.TheVariants as mode
 use Rattle.alp_rpc.specs.Calls.{is_run_mode, IsSendable}
 use Rattle.alp_rpc.specs.Frames as frames
 use Rattle.alp_session.specs.Maps.{WordMap}
-use Rattle.alp_session.specs.Calls.{owner_call, making_call, props_call, file_call, page_call, call_in, call_with, collect_of, call_by, IsAskable}
-use Rattle.alp_session.specs.Frames.{request_in}
+use Rattle.alp_session.specs.Calls.{owner_call, making_call, props_call, file_call, page_call, call_in, call_with, collect_of, outcome_of, call_by, IsAskable}
+use Rattle.alp_session.specs.Frames.{number_after, request_in}
 use Rattle.alp_session.specs.declared.client.Client.{Client}
 use Rattle.alp_session.specs.declared.client.Greeted.{Greeted}
 use Rattle.alp_session.specs.declared.waiting.Waiting.{Waiting}
@@ -65,16 +66,24 @@ collect_sendable : (o : Option Waiting) → Sendable (collect_of o)
 collect_sendable None = tt
 collect_sendable (Some w) = tt
 
+outcome_sendable : (o : Option TransId) → Sendable (outcome_of o)
+outcome_sendable None = tt
+outcome_sendable (Some t) = tt
+
 pub call_sendable : (words : WordMap) (c : Client) (l : Line) → c.told.ts ≤ 2 ^ 62 → IsAskable l → Sendable (call_by words c l)
 call_sendable words c (line.Begin client server) told h = told
+call_sendable words c (line.Outcome client) told h = outcome_sendable c.begun
 call_sendable words c (line.Collect client) told h = collect_sendable c.waiting
 call_sendable words c l told h = with_trans words c c.trans l h
 
 -- and so have the requests of clients
 
+counts : (n : ℕ) → 1 ≤ number_after n
+counts n = le-min (omega arith) (omega arith)
+
 pub request_sendable : (k : ℕ) (c : Client) (o : Option Greeted) (asked : Call) → 1 ≤ k → k ≤ 16 → IsSendable asked → frames.IsSendable (request_in k c o asked)
 request_sendable k c None asked from_one to_last h = (record { from_one = from_one; to_last = to_last; counted = omega arith }, tt)
-request_sendable k c (Some g) asked from_one to_last h = (record { from_one = from_one; to_last = to_last; counted = omega arith }, h)
+request_sendable k c (Some g) asked from_one to_last h = (record { from_one = from_one; to_last = to_last; counted = counts g.last }, h)
 
 -- pages are locked in modes that have a spelling there
 of_page_mode : (lock : Mode) → IsPageMode lock → is_run_mode lock ≡ true
@@ -93,12 +102,22 @@ form_askable l (form.client number name) = tt
 form_askable l (form.patience count some few) = tt
 form_askable l (form.auto_said on) = tt
 form_askable l (form.timeout server number most) = tt
+form_askable l (form.tick server) = tt
+form_askable l (form.force server) = tt
+form_askable l (form.stop server calls small) = tt
+form_askable l (form.restart server pick small) = tt
+form_askable l form.settle = tt
+form_askable l (form.carry from to) = tt
+form_askable l (form.lose from to) = tt
+form_askable l (form.again from to) = tt
 form_askable l (form.begin number server) = tt
 form_askable l (form.commit number) = tt
 form_askable l (form.abort number) = tt
+form_askable l (form.outcome number) = tt
 form_askable l (form.collect number) = tt
 form_askable l (form.repeat number) = tt
 form_askable l (form.old number) = tt
+form_askable l (form.raw number server bytes some) = tt
 form_askable l (form.owner number server name quota create wish few) = tt
 form_askable l (form.read_owner number server name wish) = tt
 form_askable l (form.quota number server name quota wish) = tt

@@ -1,7 +1,9 @@
 -- what is spelled is read so, and the frames of a client stay requests of its own
 use Rattle.std.specs.Prelude.{Bool, true, false, Option, None, Some, IfSome}
 use Rattle.std.specs.Option.{option_map}
-use Rattle.std.proofs.Common.{◌≡◌, ℕ, ◌+◌, List, [], refl, sym, ◌∙◌, ap, subst, append-nil}
+use Rattle.std.proofs.Common.{◌≡◌, ℕ, ◌+◌, ◌<◌, ◌^◌, List, [], refl, sym, ◌∙◌, ap, subst, append-nil, arith}
+use Rattle.std.proofs.Math.Nat.{min-eq_left}
+use Rattle.alp_base.specs.declared.ids.TransId.{TransId}
 use Rattle.alp_base.specs.declared.ids.FileId.{FileId}
 use Rattle.alp_fields.specs.Forms.{Form, IsForm, ended, whole}
 use Rattle.alp_files.specs.declared.call.Call.{Call}
@@ -11,6 +13,7 @@ use Rattle.alp_files.specs.declared.reply.Ended.{Ended}
 use Rattle.alp_files.specs.declared.reply.Ended.TheVariants as ended_as
 use Rattle.alp_files.specs.declared.refusal.Refusal.{Refusal}
 use Rattle.alp_files.specs.declared.refusal.Refusal.TheVariants as refusal
+use Rattle.alp_journal.specs.declared.log.Mark.TheVariants as mark
 use Rattle.alp_journal.specs.declared.log.Sent.TheVariants as sent
 use Rattle.alp_lines.specs.declared.line.Line.{Line}
 use Rattle.alp_lines.specs.declared.line.Line.TheVariants as line
@@ -20,8 +23,8 @@ use Rattle.alp_rpc.specs.declared.frame.ReplyFrame.{ReplyFrame}
 use Rattle.alp_rpc.proofs.FrameLaws.{request_law, reply_frame_law}
 use Rattle.alp_session.specs.Maps.{WordMap}
 use Rattle.alp_session.specs.Calls.{call_by}
-use Rattle.alp_session.specs.Frames.{request_in, request_of, frame_of, told_by, read_as, sent_by, IsRequestOf, KeepsRequests}
-use Rattle.alp_session.specs.Heard.{left, told_refusal, created, opened, told_end, learned_reply, greeted, awaiting, called, opened_late, collected_reply, purpose_in, waits_on, collected, is_collect, answered, heard_own, heard_again, keeps, heard}
+use Rattle.alp_session.specs.Frames.{number_after, request_in, request_of, frame_of, mark_of, told_by, read_as, sent_by, IsRequestOf, KeepsRequests}
+use Rattle.alp_session.specs.Heard.{left, told_refusal, started, created, opened, told_end, learned_reply, greeted, awaiting, called, opened_late, collected_reply, purpose_in, waits_on, collected, is_collect, answered, heard_own, heard_again, keeps, heard}
 use Rattle.alp_session.specs.declared.client.Client.{Client}
 use Rattle.alp_session.specs.declared.client.Greeted.{Greeted}
 use Rattle.alp_session.specs.declared.frames.Frames.{Frames}
@@ -46,7 +49,11 @@ sent_call r fits = ap (read_as (request.spell r)) (request_read r fits)
 pub told_reply : (f : ReplyFrame) → reply_frame.Fits f → told_by (Some (reply_frame.spell f)) ≡ Some f.reply
 told_reply f fits = ap (λ (o : Option ReplyFrame). option_map (λ (x : ReplyFrame). x.reply) o) (whole_back reply_frame reply_frame_law f fits)
 
--- ---- the frames that a client sends are requests of its own
+-- the number behind one that is not the last is the next
+pub number_next : (n : ℕ) → n + 1 < 2 ^ 32 → number_after n ≡ n + 1
+number_next n h = min-eq_left (omega (arith, h))
+
+-- ---- the frames that a client sends are requests of its own, but for raw bytes
 
 asked_client : (k : ℕ) (c : Client) (o : Option Greeted) (asked : Call) → (request_in k c o asked).client ≡ k
 asked_client k c None asked = refl
@@ -57,10 +64,12 @@ spelled_request : (k : ℕ) (c : Client) (o : Option Call) → IfSome (option_ma
 spelled_request k c None fits = tt
 spelled_request k c (Some asked) fits = record { asked = request_in k c c.session asked; client = asked_client k c c.session asked; spelled = refl; fits = fits }
 
-pub frames_are_requests : (words : WordMap) (k : ℕ) (c : Client) (l : Line) → KeepsRequests k c → IfSome (request_of words k c l) request.Fits → IfSome (frame_of words k c l) (IsRequestOf k)
-frames_are_requests words k c (line.Repeat client) kept fits = kept.last
-frames_are_requests words k c (line.Old client) kept fits = kept.before
-frames_are_requests words k c l kept fits = spelled_request k c (call_by words c l) fits
+pub frames_are_requests : (words : WordMap) (k : ℕ) (c : Client) (l : Line) → KeepsRequests k c → IfSome (request_of words k c l) request.Fits → (mark_of l ≡ mark.Raw → ⊥)
+    → IfSome (frame_of words k c l) (IsRequestOf k)
+frames_are_requests words k c (line.Repeat client) kept fits own = kept.last
+frames_are_requests words k c (line.Old client) kept fits own = kept.before
+frames_are_requests words k c (line.Raw client server bytes) kept fits own = absurd (own refl)
+frames_are_requests words k c l kept fits own = spelled_request k c (call_by words c l) fits
 
 -- ---- and what it hears keeps them so
 
@@ -96,7 +105,12 @@ opened_stays : (words : WordMap) (c : Client) (l : Line) (n : ℕ) → (opened w
 opened_stays words c (line.OpenFile client file access mode choice) n = refl
 opened_stays words c l n = refl
 
+started_stays : (c : Client) (l : Line) (t : TransId) → (started c l t).frames ≡ c.frames
+started_stays c (line.Begin client server) t = refl
+started_stays c l t = refl
+
 learned_stays : (words : WordMap) (c : Client) (l : Line) (r : Reply) → (learned_reply words c l r).frames ≡ c.frames
+learned_stays words c l (reply.Begun t) = started_stays c l t
 learned_stays words c l (reply.Created f n) = created_stays c l f n
 learned_stays words c l (reply.Opened n) = opened_stays words c l n
 learned_stays words c l (reply.Committed s) = left_stays c l
@@ -144,7 +158,7 @@ answered_stays words s c number l false (Some r) = called_stays words s c number
 
 pub own_stays : (words : WordMap) (s : Settings) (c : Client) (o : Option Greeted) (l : Line) (n : Next) (r : Option Reply) → (heard_own words s c o l n r).0.frames ≡ c.frames
 own_stays words s c None l n r = greeted_stays c r
-own_stays words s c (Some g) l n r = answered_stays words s (record c { session = Some (record g { last = g.last + 1 }) }) (g.last + 1) l (is_collect l n) r
+own_stays words s c (Some g) l n r = answered_stays words s (record c { session = Some (record g { last = number_after g.last }) }) (number_after g.last) l (is_collect l n) r
 
 pub kept_as : (k : ℕ) (c d : Client) → d.frames ≡ c.frames → KeepsRequests k c → KeepsRequests k d
 kept_as k c d same kept = record {
@@ -155,8 +169,10 @@ kept_as k c d same kept = record {
 pub kept_more : (k : ℕ) (c d : Client) (frame : List ℕ) → d.frames ≡ c.frames → KeepsRequests k c → IsRequestOf k frame → KeepsRequests k (keeps d frame)
 kept_more k c d frame same kept asked = record { last = asked; before = subst (λ (f : Frames). IfSome f.last (IsRequestOf k)) (sym same) kept.last }
 
+-- also behind a line that sends one of them again, or raw bytes
 pub keeps_requests : (words : WordMap) (s : Settings) (k : ℕ) (c : Client) (l : Line) (n : Next) (frame : List ℕ) (r : Option Reply) → KeepsRequests k c → IsRequestOf k frame
     → KeepsRequests k (heard words s c l n frame r).0
 keeps_requests words s k c (line.Repeat client) n frame r kept asked = kept_as k c (heard_again c r) (again_stays c r) kept
 keeps_requests words s k c (line.Old client) n frame r kept asked = kept_as k c (heard_again c r) (again_stays c r) kept
+keeps_requests words s k c (line.Raw client server bytes) n frame r kept asked = kept
 keeps_requests words s k c l n frame r kept asked = kept_more k c (heard_own words s c c.session l n r).0 frame (own_stays words s c c.session l n r) kept asked

@@ -61,9 +61,15 @@ abbrev pub collect_of : Option Waiting → Option Call
 collect_of None = None
 collect_of (Some w) = Some (call.Collect w.number)
 
+-- what asks how a transaction ended, if there is one
+abbrev pub outcome_of : Option TransId → Option Call
+outcome_of None = None
+outcome_of (Some t) = Some (call.Outcome t)
+
 -- the call that a line of the client is for, if there is a transaction where it needs one
 abbrev pub call_by : WordMap → Client → Line → Option Call
 call_by words c (line.Begin client server) = Some (call.Begin c.told)
+call_by words c (line.Outcome client) = outcome_of c.begun
 call_by words c (line.Collect client) = collect_of c.waiting
 call_by words c l = call_with words c c.trans l
 

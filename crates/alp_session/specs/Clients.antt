@@ -30,7 +30,7 @@ abbrev pub no_frames : Frames
 no_frames = record { last = None; before = None }
 
 abbrev pub new_client : Client
-new_client = record { name = codes "Admin"; session = None; trans = None; told = no_stamp; opens = map.empty; waiting = None; frames = no_frames }
+new_client = record { name = codes "Admin"; session = None; trans = None; begun = None; told = no_stamp; opens = map.empty; waiting = None; frames = no_frames }
 
 -- messages and collects go by themselves, and a client's patience is that of a hundred collects
 abbrev pub first_settings : Settings

@@ -1,5 +1,5 @@
 -- The frames of a client: what it sends for a line, as bytes, and what the bytes that it is handed tell it.
-use Rattle.std.specs.Prelude.{◌≡◌, ℕ, ◌+◌, ◌<◌, ◌≤◌, ◌^◌, List, Option, None, Some, IfSome}
+use Rattle.std.specs.Prelude.{◌≡◌, ℕ, ◌+◌, ◌-◌, ◌≤◌, ◌^◌, min, List, Option, None, Some, IfSome}
 use Rattle.std.specs.Option.{option_map}
 use Rattle.alp_fields.specs.Forms.{whole}
 use Rattle.alp_files.specs.declared.call.Call.{Call}
@@ -19,25 +19,31 @@ use Rattle.alp_session.specs.Calls.{call_by}
 use Rattle.alp_session.specs.declared.client.Client.{Client}
 use Rattle.alp_session.specs.declared.client.Greeted.{Greeted}
 
+-- the number of the call behind that one; it has four bytes, and a script has too few lines for a client to come to the last
+abbrev pub number_after : ℕ → ℕ
+number_after last = min (last + 1) (2 ^ 32 - 1)
+
 -- a client says `Hello` before its first call
 abbrev pub request_in : ℕ → Client → Option Greeted → Call → Request
 request_in k c None asked = record { client = k; epoch = 0; number = 1; call = call.Hello c.name }
-request_in k c (Some g) asked = record { client = k; epoch = g.epoch; number = g.last + 1; call = asked }
+request_in k c (Some g) asked = record { client = k; epoch = g.epoch; number = number_after g.last; call = asked }
 
 -- what the client with that number asks next, if its line is for a call
 abbrev pub request_for : WordMap → ℕ → Client → Line → Option Request
 request_for words k c l = option_map (request_in k c c.session) (call_by words c l)
 
--- what it asks anew for a line that is not over: lines that send a frame again ask nothing anew
+-- what it asks anew for a line that is not over: lines that send a frame again, or bytes as they are, ask nothing anew
 abbrev pub request_of : WordMap → ℕ → Client → Line → Option Request
 request_of words k c (line.Repeat client) = None
 request_of words k c (line.Old client) = None
+request_of words k c (line.Raw client server bytes) = None
 request_of words k c l = request_for words k c l
 
--- its frame: the spelling of that, or one of the last two frames
+-- its frame: the spelling of that, one of the last two frames, or the bytes of the line
 abbrev pub frame_of : WordMap → ℕ → Client → Line → Option (List ℕ)
 frame_of words k c (line.Repeat client) = c.frames.last
 frame_of words k c (line.Old client) = c.frames.before
+frame_of words k c (line.Raw client server bytes) = Some bytes
 frame_of words k c l = option_map request.spell (request_for words k c l)
 
 -- the reply that a client is told: the one that the bytes spell, if they spell one; silence and other bytes tell none
@@ -55,10 +61,11 @@ read_as bytes (Some r) = sent.Call r.client r.epoch r.number r.call
 abbrev pub sent_by : List ℕ → Sent
 sent_by bytes = read_as bytes (whole request bytes)
 
--- whether a line sends a frame of its own, or one again
+-- whether a line sends a frame of its own, one again, or bytes as they are
 abbrev pub mark_of : Line → Mark
 mark_of (line.Repeat client) = mark.Repeated
 mark_of (line.Old client) = mark.Repeated
+mark_of (line.Raw client server bytes) = mark.Raw
 mark_of l = mark.Own
 
 -- the item of a line that sent the frame to server 1
@@ -81,15 +88,9 @@ pub record KeepsRequests (k : ℕ) (c : Client) : Type 0 where
   pub last : IfSome c.frames.last (IsRequestOf k)
   pub before : IfSome c.frames.before (IsRequestOf k)
 
--- the number of the next call has its four bytes
-abbrev pub HasNext : Option Greeted → Type 0
-HasNext None = Unit {0}
-HasNext (Some g) = g.last + 1 < 2 ^ 32
-
--- what a client has to know for its next call to have a frame: its number is one of the run's, the number of the call has its
--- bytes, and the stamp that it was told last is one that clocks may show
+-- what a client has to know for its next call to have a frame: its number is one of the run's, and the stamp that it was told
+-- last is one that clocks may show
 pub record IsReady (k : ℕ) (c : Client) : Type 0 where
   pub from_one : 1 ≤ k
   pub to_last : k ≤ 16
-  pub next : HasNext c.session
   pub told : c.told.ts ≤ 2 ^ 62

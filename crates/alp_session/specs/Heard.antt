@@ -14,6 +14,7 @@ use Rattle.alp_lines.specs.declared.line.Line.TheVariants as line
 use Rattle.alp_session.specs.Maps.{WordMap}
 use Rattle.alp_session.specs.Props.{later}
 use Rattle.alp_session.specs.Clients.{no_file, is_awaited, file_of}
+use Rattle.alp_session.specs.Frames.{number_after}
 use Rattle.alp_session.specs.declared.client.Client.{Client}
 use Rattle.alp_session.specs.declared.client.Greeted.{Greeted}
 use Rattle.alp_session.specs.declared.meaning.Meaning.{Meaning}
@@ -31,7 +32,8 @@ left c (line.Commit client) = record c { trans = None; waiting = None }
 left c (line.Abort client) = record c { trans = None; waiting = None }
 left c l = c
 
--- a stale session is no session
+-- A stale session is no session, and the client greets anew before its next call. What it has at the server goes with it: with one
+-- server that is its part of its own transaction, which no restart leaves.
 abbrev pub told_refusal : Client → Line → Refusal → Client
 told_refusal c l (refusal.StaleSession epoch) = record c { session = None }
 told_refusal c l refusal.UnknownTrans = left c l
@@ -53,8 +55,14 @@ abbrev pub told_end : Client → Ended → Client
 told_end c (ended.Committed s) = record c { told = later c.told s }
 told_end c e = c
 
+-- a `begin` that is answered so has begun a transaction; another line that is answered so, which comes of a frame that a raw line
+-- sent before it, has not
+abbrev pub started : Client → Line → TransId → Client
+started c (line.Begin client server) t = record c { trans = Some t; begun = Some t }
+started c l t = c
+
 abbrev pub learned_reply : WordMap → Client → Line → Reply → Client
-learned_reply words c l (reply.Begun t) = record c { trans = Some t }
+learned_reply words c l (reply.Begun t) = started c l t
 learned_reply words c l (reply.Created f n) = created c l f n
 learned_reply words c l (reply.Opened n) = opened words c l n
 learned_reply words c l (reply.Committed s) = record (left c l) { told = later c.told s }
@@ -144,7 +152,7 @@ answered words s c number l false (Some r) = called words s c number l r
 -- what the client knows after the reply to the frame of its own line, and what it does next
 abbrev pub heard_own : WordMap → Settings → Client → Option Greeted → Line → Next → Option Reply → Client × Next
 heard_own words s c None l n r = greeted c r
-heard_own words s c (Some g) l n r = answered words s (record c { session = Some (record g { last = g.last + 1 }) }) (g.last + 1) l (is_collect l n) r
+heard_own words s c (Some g) l n r = answered words s (record c { session = Some (record g { last = number_after g.last }) }) (number_after g.last) l (is_collect l n) r
 
 -- of the reply to a frame that was sent again only the stamps are taken in, and that the session is stale
 abbrev pub heard_again : Client → Option Reply → Client
@@ -157,10 +165,12 @@ heard_again c _ = c
 abbrev pub keeps : Client → List ℕ → Client
 keeps c frame = record c { frames = record { last = Some frame; before = c.frames.last } }
 
--- what the client knows after it sent the frame for a line and was told a reply or nothing, and what it does next
+-- What the client knows after it sent the frame for a line and was told a reply or nothing, and what it does next. What the bytes
+-- of a raw line are answered changes nothing of it.
 abbrev pub heard : WordMap → Settings → Client → Line → Next → List ℕ → Option Reply → Client × Next
 heard words s c (line.Repeat client) n frame r = (heard_again c r, next.Over)
 heard words s c (line.Old client) n frame r = (heard_again c r, next.Over)
+heard words s c (line.Raw client server bytes) n frame r = (c, next.Over)
 heard words s c l n frame r = (keeps (heard_own words s c c.session l n r).0 frame, (heard_own words s c c.session l n r).1)
 
 -- a `begin` leaves the transaction before, and its call that waits
@@ -199,7 +209,7 @@ words_answered words c l b None = words
 words_answered words c l true (Some r) = words_late_told words c.trans (purpose_in c.waiting) r
 words_answered words c l false (Some r) = words_called words c l r
 
--- no word is bound before a session began, or by a frame that is sent again
+-- no word is bound before a session began, by a frame that is sent again, or by a raw line
 abbrev pub words_in_session : WordMap → Client → Option Greeted → Line → Next → Option Reply → WordMap
 words_in_session words c None l n r = words
 words_in_session words c (Some g) l n r = words_answered words c l (is_collect l n) r
@@ -207,6 +217,7 @@ words_in_session words c (Some g) l n r = words_answered words c l (is_collect l
 abbrev pub words_heard : WordMap → Client → Line → Next → Option Reply → WordMap
 words_heard words c (line.Repeat client) n r = words
 words_heard words c (line.Old client) n r = words
+words_heard words c (line.Raw client server bytes) n r = words
 words_heard words c l n r = words_in_session words c c.session l n r
 
 -- a `create` binds its word at the line, to no file

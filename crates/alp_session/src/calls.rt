@@ -114,7 +114,7 @@ fn making_call(alloc: Global, trans: TransId, line: &Line) -> Result<Option<Call
 
 impl Client {
     ghost use Rattle.alp_session.specs.Clients.{open_of as open_said, open_at as open_at_said};
-    ghost use Rattle.alp_session.specs.Calls.{props_call as props_call_said, file_call as file_call_said, page_call as page_call_said, call_in as call_in_said, collect_of as collect_said, call_by as call_said, IsAskable};
+    ghost use Rattle.alp_session.specs.Calls.{props_call as props_call_said, file_call as file_call_said, page_call as page_call_said, call_in as call_in_said, collect_of as collect_said, outcome_of as outcome_said, call_by as call_said, IsAskable};
 
     // The open number last given to the client for the file, or 0.
     fn open_of(&self, file: &FileId) -> u32
@@ -303,6 +303,16 @@ impl Client {
         }
     }
 
+    // What asks how the last transaction that it begun ended, if it begun one.
+    fn outcome(&self) -> Option<Call>
+        ensures { result ≡ outcome_said self.now.begun }
+    {
+        match self.begun {
+            Some(trans) => Some(Call::Outcome { trans }),
+            None => None,
+        }
+    }
+
     /// The call that a line of the client is for, if there is a transaction where it needs one.
     pub(crate) fn call_of(
         &self,
@@ -315,6 +325,9 @@ impl Client {
     {
         if let Line::Begin { .. } = line {
             return Ok(Some(Call::Begin { seen: self.told }));
+        }
+        if let Line::Outcome { .. } = line {
+            return Ok(self.outcome());
         }
         if let Line::Collect { .. } = line {
             return Ok(self.collect());

@@ -30,6 +30,8 @@ pub struct Client {
     pub name: Name,
     pub session: Option<Greeted>,
     pub trans: Option<TransId>,
+    /// The last transaction that it begun, whether it has it still or not.
+    pub begun: Option<TransId>,
     /// The greatest stamp that it was told.
     pub told: Stamp,
     pub opens: Opens,
@@ -60,8 +62,8 @@ fn told_by(alloc: Global, handed: &Option<Bytes>) -> Result<Option<Reply>, OutOf
 impl Client {
     ghost use Rattle.alp_session.specs.Clients.{new_client};
     ghost use Rattle.alp_session.specs.Calls.{IsAskable};
-    ghost use Rattle.alp_session.specs.Frames.{request_in, request_for, request_of, frame_of, HasNext, IsReady};
-    ghost use Rattle.alp_session.specs.Heard.{begins as begins_said, learned_reply, created as created_said, opened as opened_said, bound, told_refusal, told_end as told_end_said, left as left_said, greeted as greeted_said, awaiting, is_not_yet, called as called_said, opened_late as opened_late_said, collected_reply, purpose_in, waits_on as waits_on_said, collected as collected_said, answered as answered_said, heard_own, heard_again as again_said, heard, words_awaiting, words_called, words_late, words_late_told, words_answered, words_in_session, words_heard};
+    ghost use Rattle.alp_session.specs.Frames.{request_in, request_for, request_of, frame_of, IsReady};
+    ghost use Rattle.alp_session.specs.Heard.{begins as begins_said, started as started_said, learned_reply, created as created_said, opened as opened_said, bound, told_refusal, told_end as told_end_said, left as left_said, greeted as greeted_said, awaiting, is_not_yet, called as called_said, opened_late as opened_late_said, collected_reply, purpose_in, waits_on as waits_on_said, collected as collected_said, answered as answered_said, heard_own, heard_again as again_said, heard, words_awaiting, words_called, words_late, words_late_told, words_answered, words_in_session, words_heard};
 
     pub fn new(alloc: Global) -> Client
         ensures { result ≡ new_client }
@@ -70,6 +72,7 @@ impl Client {
             name: Name::spelled(b"Admin"),
             session: None,
             trans: None,
+            begun: None,
             told: Stamp {
                 ts: 0,
                 trans: NO_TRANS,
@@ -82,7 +85,6 @@ impl Client {
 
     // The request for a call, or for a greeting where the client has no session.
     fn request(&self, number: u8, call: Call) -> Request
-        requires { HasNext self.now.session }
         ensures { result ≡ request_in number self.now self.now.session call }
     {
         let Some(greeted) = self.session else {
@@ -96,7 +98,7 @@ impl Client {
         Request {
             client: number,
             epoch: greeted.epoch,
-            number: greeted.last + 1,
+            number: greeted.last.saturating_add(1),
             call,
         }
     }
@@ -141,7 +143,7 @@ impl Client {
     }
 
     /// The frame that the client with that number sends for a line, or nothing where it sends nothing: that of its next request,
-    /// or one of the last two again.
+    /// one of the last two again, or the bytes of a raw line.
     pub fn asks(
         &self,
         alloc: Global,
@@ -157,6 +159,7 @@ impl Client {
         match line {
             Line::Repeat { .. } => Ok(self.frames.last.clone()?),
             Line::Old { .. } => Ok(self.frames.before.clone()?),
+            Line::Raw { bytes, .. } => Ok(Some(bytes.clone()?)),
             _ => self.sends_for(alloc, number, words, line),
         }
     }
@@ -223,6 +226,16 @@ impl Client {
         Ok(())
     }
 
+    // The transaction that a `begin` begun.
+    fn started(&mut self, line: &Line, trans: TransId)
+        ensures { self.new ≡ started_said self.old line.now trans }
+    {
+        if matches!(line, Line::Begin { .. }) {
+            self.trans = Some(trans);
+            self.begun = Some(trans);
+        }
+    }
+
     fn refused(&mut self, line: &Line, refusal: &Refusal)
         ensures { self.new ≡ told_refusal self.old line.now refusal.now }
     {
@@ -262,7 +275,7 @@ impl Client {
         ensures words_err { OnErr result (words.new ≡ words.old) }
     {
         match reply {
-            Reply::Begun { trans } => self.trans = Some(*trans),
+            Reply::Begun { trans } => self.started(line, *trans),
             Reply::Created { file, open_no } => {
                 return self.created(words, line, *file, *open_no);
             }
@@ -485,7 +498,6 @@ impl Client {
         next: Next,
         told: &Option<Reply>,
     ) -> Result<Next, OutOfMemory>
-        requires { HasNext self.old.session }
         ensures client { IfOk result (λ after. (self.new, after) ≡ heard_own words.old settings self.old self.old.session line.now next told.now) }
         ensures words { OnOk result (words.new ≡ words_in_session words.old self.old self.old.session line.now next told.now) }
         ensures err { OnErr result (self.new ≡ self.old) }
@@ -494,7 +506,7 @@ impl Client {
         let Some(greeted) = self.session else {
             return Ok(self.greeted(told));
         };
-        let number = greeted.last + 1;
+        let number = greeted.last.saturating_add(1);
         self.session = Some(Greeted {
             epoch: greeted.epoch,
             last: number,
@@ -520,7 +532,6 @@ impl Client {
         frame: Bytes,
         handed: &Option<Bytes>,
     ) -> Result<Next, OutOfMemory>
-        requires { HasNext self.old.session }
         ensures client { IfOk result (λ after. (self.new, after) ≡ heard words.old settings self.old line.now next frame (told_said handed.now)) }
         ensures words { OnOk result (words.new ≡ words_heard words.old self.old line.now next (told_said handed.now)) }
         ensures err { OnErr result (self.new ≡ self.old) }
@@ -532,6 +543,7 @@ impl Client {
                 self.hears_again(&told);
                 Ok(Next::Over)
             }
+            Line::Raw { .. } => Ok(Next::Over),
             _ => {
                 let after = self.hears_own(words, settings, line, next, &told)?;
                 self.frames.keep(frame);

@@ -3,7 +3,7 @@ ghost use Rattle.std.specs.Prelude.{◌≡◌, ◌≤◌, OnOk, OnErr, IfOk, IfS
 ghost use Rattle.alp_rpc.specs.Frames.{request};
 ghost use Rattle.alp_session.specs.Clients.{new_client};
 ghost use Rattle.alp_session.specs.Calls.{IsAskable};
-ghost use Rattle.alp_session.specs.Frames.{request_of, frame_of, told_by, HasNext, IsReady};
+ghost use Rattle.alp_session.specs.Frames.{request_of, frame_of, told_by, IsReady};
 ghost use Rattle.alp_session.specs.Crowds.{new_crowd, client_at, request_next, times_out, asks as asks_said, hears as heard, at_line as at_said, declares as declared};
 
 use crate::{Client, Next, Settings, Words};
@@ -103,7 +103,6 @@ impl Clients {
         handed: &Option<Bytes>,
     ) -> Result<Next, OutOfMemory>
         requires client { number ≤ 16 }
-        requires next { HasNext (client_at self.old number).session }
         ensures ok { IfOk result (λ after. (self.new, after) ≡ heard self.old number line.now next frame (told_by handed.now)) }
         ensures err { OnErr result (self.new ≡ self.old) }
     {

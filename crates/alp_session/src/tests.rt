@@ -5,9 +5,8 @@ ghost use Rattle.alp_session.specs.Frames.{IsReady};
 
 use crate::*;
 use alp_base::{AccessList, Bytes, Choice, FileId, Name, OutOfMemory, Run, Stamp, TransId};
-use alp_files::{Call, Cause, PropChange, Refusal, Reply};
+use alp_files::{Call, Cause, Ended, Refusal, Reply, What};
 use alp_lines::{FileWord, Line};
-use alp_modes::Mode;
 use alp_rpc::{ReplyFrame, Request, decode_request, encode_reply};
 use std::alloc::Global;
 use std::test::Fail;
@@ -44,16 +43,12 @@ fn name(text: &[u8]) -> Result<Name, Fail> {
     Ok(Name::parse(text).ok_or("a name")?)
 }
 
-// Whether the next call of the client has a number, and the stamp that it tells is one of a clock.
+// Whether the stamp that the client was told is one of a clock.
 fn is_ready(client: &Client) -> bool
     ensures one { IsTrue result → IsReady 1 client.now }
     ensures two { IsTrue result → IsReady 2 client.now }
 {
-    let told = client.told.ts <= 1 << 62;
-    match client.session {
-        Some(greeted) => told && greeted.last < u32::MAX,
-        None => told,
-    }
+    client.told.ts <= 1 << 62
 }
 
 // The frame that client 1 sends for the line, which is a call.
@@ -61,7 +56,7 @@ fn sent(alloc: Global, client: &Client, words: &Words, line: &Line) -> Result<Op
     requires { IsAskable line.now }
 {
     if !is_ready(client) {
-        return Err("a call to come".into());
+        return Err("a stamp of a clock".into());
     }
     Ok(client.asks(alloc, 1, words, line)?)
 }
@@ -73,177 +68,6 @@ fn request(alloc: Global, line: &Line) -> Result<Request, Fail>
     let frame = sent(alloc, &client(alloc)?, &words(alloc, name(b"F")?)?, line)?;
     let bytes = frame.ok_or("a frame")?;
     Ok(decode_request(alloc, bytes.as_slice())?.ok_or("a request")?)
-}
-
-// Whether this is what the client sends for the line.
-fn sends(alloc: Global, line: &Line, call: &Call) -> Result<bool, Fail>
-    requires { IsAskable line.now }
-{
-    let asked = request(alloc, line)?;
-    Ok(asked.client == 1 && asked.epoch == 2 && asked.number == 6 && asked.call == *call)
-}
-
-#[test]
-fn calls_on_files(rt: HostRuntime) -> Result<(), Fail> {
-    let alloc = rt.alloc();
-    let (trans, choice) = (TRANS, Choice::Fail);
-    let file = FileWord::Word(name(b"F")?);
-    let close = Line::CloseFile { client: 1, file };
-    assert!(rt; sends(alloc, &close, &Call::CloseFile { trans, open_no: 7 })?);
-    let delete = Line::DeleteFile {
-        client: 1,
-        file,
-        choice,
-    };
-    let deletes = Call::DeleteFile {
-        trans,
-        open_no: 7,
-        choice,
-    };
-    assert!(rt; sends(alloc, &delete, &deletes)?);
-    let props = Line::ReadProps {
-        client: 1,
-        file: FileWord::Id(FILE),
-    };
-    assert!(rt; sends(alloc, &props, &Call::ReadProps { trans, open_no: 7 })?);
-    let never_opened = Line::ReadProps {
-        client: 1,
-        file: FileWord::Word(name(b"G")?),
-    };
-    assert!(rt; sends(alloc, &never_opened, &Call::ReadProps { trans, open_no: 0 })?);
-    Ok(())
-}
-
-#[test]
-fn calls_on_pages(rt: HostRuntime) -> Result<(), Fail> {
-    let alloc = rt.alloc();
-    let (trans, choice, open_no) = (TRANS, Choice::Fail, 7);
-    let (client, file) = (1, FileWord::Id(FILE));
-    let run = Run {
-        first: u32::MAX,
-        count: 255,
-    };
-    let reads = Line::ReadPages {
-        client,
-        file,
-        run,
-        mode: Mode::Update,
-        choice,
-    };
-    let read = Call::ReadPages {
-        trans,
-        open_no,
-        run,
-        mode: Mode::Update,
-        choice,
-    };
-    assert!(rt; sends(alloc, &reads, &read)?);
-    let locks = Line::LockPages {
-        client,
-        file,
-        run,
-        mode: Mode::Write,
-        choice,
-    };
-    let lock = Call::LockPages {
-        trans,
-        open_no,
-        run,
-        mode: Mode::Write,
-        choice,
-    };
-    assert!(rt; sends(alloc, &locks, &lock)?);
-    Ok(())
-}
-
-#[test]
-fn changes_of_files(rt: HostRuntime) -> Result<(), Fail> {
-    let alloc = rt.alloc();
-    let (trans, choice) = (TRANS, Choice::Fail);
-    let file = FileWord::Word(name(b"F")?);
-    let size = Line::SetSize {
-        client: 1,
-        file,
-        size: 70000,
-        choice,
-    };
-    let sizes = Call::SetSize {
-        trans,
-        open_no: 7,
-        size: 70000,
-        choice,
-    };
-    assert!(rt; sends(alloc, &size, &sizes)?);
-    let change = PropChange::Modify(AccessList::new(Vec::new(alloc)));
-    let line = Line::WriteProps {
-        client: 1,
-        file,
-        change: change.clone()?,
-        choice,
-    };
-    let call = Call::WriteProps {
-        trans,
-        open_no: 7,
-        change,
-        choice,
-    };
-    assert!(rt; sends(alloc, &line, &call)?);
-    Ok(())
-}
-
-#[test]
-fn calls_on_owners(rt: HostRuntime) -> Result<(), Fail> {
-    let alloc = rt.alloc();
-    let (trans, choice, owner) = (TRANS, Choice::Fail, name(b"ann")?);
-    let asks = Line::ReadOwner {
-        client: 1,
-        server: 1,
-        owner,
-        choice,
-    };
-    let asked = Call::ReadOwner {
-        trans,
-        owner,
-        choice,
-    };
-    assert!(rt; sends(alloc, &asks, &asked)?);
-    let sets = Line::SetQuota {
-        client: 1,
-        server: 1,
-        owner,
-        quota: 10,
-        choice,
-    };
-    let set = Call::SetQuota {
-        trans,
-        owner,
-        quota: 10,
-        choice,
-    };
-    assert!(rt; sends(alloc, &sets, &set)?);
-    Ok(())
-}
-
-// Without a transaction nothing is sent.
-#[test]
-fn nothing_without_a_transaction(rt: HostRuntime) -> Result<(), Fail> {
-    let alloc = rt.alloc();
-    let mut client = client(alloc)?;
-    client.trans = None;
-    let words = words(alloc, name(b"F")?)?;
-    let close = Line::CloseFile {
-        client: 1,
-        file: FileWord::Id(FILE),
-    };
-    assert!(rt; sent(alloc, &client, &words, &close)?.is_none());
-    let owner = Line::ReadOwner {
-        client: 1,
-        server: 1,
-        owner: name(b"ann")?,
-        choice: Choice::Fail,
-    };
-    assert!(rt; sent(alloc, &client, &words, &owner)?.is_none());
-    Ok(())
 }
 
 const BEGIN: Line = Line::Begin {
@@ -273,7 +97,7 @@ fn frame(alloc: Global, client: &Client, line: &Line) -> Result<Option<Bytes>, F
     requires { IsAskable line.now }
 {
     if !is_ready(client) {
-        return Err("a call to come".into());
+        return Err("a stamp of a clock".into());
     }
     Ok(client.asks(alloc, 2, &Words::new(alloc), line)?)
 }
@@ -294,9 +118,6 @@ fn is_over(
     requires { IsAskable line.now }
 {
     let sent = frame(alloc, client, line)?.ok_or("a frame")?;
-    if !is_ready(client) {
-        return Err("a call to come".into());
-    }
     let mut words = Words::new(alloc);
     let next = client.hears(alloc, &mut words, SETTINGS, line, Next::Call, sent, &handed)?;
     Ok(next == Next::Over)
@@ -466,9 +287,6 @@ fn next_by(
     };
     let sent = asked.ok_or("a frame")?;
     let handed = reply(alloc, told)?;
-    if !is_ready(client) {
-        return Err("a call to come".into());
-    }
     Ok(client.hears(alloc, words, SETTINGS, line, next, sent, &handed)?)
 }
 
@@ -598,5 +416,224 @@ fn keeps_its_transaction_behind_a_collect(rt: HostRuntime) -> Result<(), Fail> {
     });
     next_by(alloc, &mut client, &mut words, &abort, Next::Call, asked)?;
     assert!(rt; client.waiting.is_none() && client.trans.is_none());
+    Ok(())
+}
+
+// What client 2 asks for by the line, if it sends a request.
+fn asked(alloc: Global, client: &Client, line: &Line) -> Result<Request, Fail>
+    requires { IsAskable line.now }
+{
+    let bytes = frame(alloc, client, line)?.ok_or("a frame")?;
+    Ok(decode_request(alloc, bytes.as_slice())?.ok_or("a request")?)
+}
+
+const OUTCOME: Line = Line::Outcome { client: 2 };
+
+const COMMIT: Line = Line::Commit { client: 2 };
+
+// It asks about the last transaction that was begun, also behind its end, and about none before.
+#[test]
+fn asks_how_its_transaction_ended(rt: HostRuntime) -> Result<(), Fail> {
+    let alloc = rt.alloc();
+    assert!(rt; frame(alloc, &ann(alloc)?, &OUTCOME)?.is_none());
+    let mut client = begun(alloc)?;
+    let running = asked(alloc, &client, &OUTCOME)?;
+    assert!(rt; running.number == 3 && running.call == Call::Outcome { trans: TRANS });
+    let stamp = Stamp {
+        ts: 7,
+        trans: TRANS,
+    };
+    let mut words = Words::new(alloc);
+    let ends = Reply::Committed { stamp };
+    next_by(alloc, &mut client, &mut words, &COMMIT, Next::Call, ends)?;
+    assert!(rt; client.trans.is_none());
+    let ended = asked(alloc, &client, &OUTCOME)?;
+    assert!(rt; ended.number == 4 && ended.call == Call::Outcome { trans: TRANS });
+    let later = Stamp {
+        ts: 9,
+        trans: TRANS,
+    };
+    let told = Reply::Ended(Ended::Committed { stamp: later });
+    next_by(alloc, &mut client, &mut words, &OUTCOME, Next::Call, told)?;
+    assert!(rt; client.told == later);
+    Ok(())
+}
+
+// A begin that is refused leaves no transaction, and it asks about the one before.
+#[test]
+fn asks_about_none_that_was_refused(rt: HostRuntime) -> Result<(), Fail> {
+    let alloc = rt.alloc();
+    let mut client = begun(alloc)?;
+    let mut words = Words::new(alloc);
+    client.begins(&BEGIN);
+    let full = Reply::Refused(Refusal::TooMany {
+        what: What::Transactions,
+        limit: 64,
+    });
+    next_by(alloc, &mut client, &mut words, &BEGIN, Next::Call, full)?;
+    assert!(rt; client.trans.is_none());
+    let before = asked(alloc, &client, &OUTCOME)?;
+    assert!(rt; before.call == Call::Outcome { trans: TRANS });
+    Ok(())
+}
+
+// A session that went with a restart: the call is answered so, and the next line greets before it asks, whatever it asks.
+#[test]
+fn greets_behind_a_stale_session(rt: HostRuntime) -> Result<(), Fail> {
+    let alloc = rt.alloc();
+    let mut client = begun(alloc)?;
+    let mut words = Words::new(alloc);
+    let stale = Reply::Refused(Refusal::StaleSession { epoch: 2 });
+    let over = next_by(alloc, &mut client, &mut words, &OUTCOME, Next::Call, stale)?;
+    assert!(rt; over == Next::Over && client.session.is_none());
+    assert!(rt; client.trans == Some(TRANS));
+    assert_eq!(rt;
+        frame(alloc, &client, &OUTCOME)?
+            .ok_or("a frame")?
+            .as_slice(),
+        HELLO
+    );
+    let welcome = Reply::Welcome { epoch: 2 };
+    let call = next_by(
+        alloc,
+        &mut client,
+        &mut words,
+        &OUTCOME,
+        Next::Call,
+        welcome,
+    )?;
+    assert!(rt; call == Next::Call);
+    let again = asked(alloc, &client, &OUTCOME)?;
+    assert!(rt;
+        again.epoch == 2 && again.number == 2 && again.call == Call::Outcome { trans: TRANS }
+    );
+    Ok(())
+}
+
+// The bytes of a frame, as a raw line of client 2 has them.
+fn raw(alloc: Global, bytes: &[u8]) -> Result<Line, OutOfMemory>
+    ensures { IfOk result IsAskable }
+{
+    Ok(Line::Raw {
+        client: 2,
+        server: 1,
+        bytes: Bytes::new(Vec::from_slice(alloc, bytes)?),
+    })
+}
+
+// It sends the bytes of a raw line as they are, and they are no frame of its own.
+#[test]
+fn sends_raw_bytes_aside(rt: HostRuntime) -> Result<(), Fail> {
+    let alloc = rt.alloc();
+    let mut client = begun(alloc)?;
+    let last = frame(alloc, &client, &REPEAT)?.ok_or("a frame")?;
+    for bytes in [b"\x00".as_slice(), WELCOME, HELLO] {
+        let line = raw(alloc, bytes)?;
+        assert_eq!(rt;
+            frame(alloc, &client, &line)?.ok_or("a frame")?.as_slice(),
+            bytes
+        );
+        assert!(rt; is_over(alloc, &mut client, &line, None)?);
+    }
+    assert_eq!(rt;
+        frame(alloc, &client, &REPEAT)?.ok_or("a frame")?.as_slice(),
+        last.as_slice()
+    );
+    assert_eq!(rt;
+        frame(alloc, &client, &OLD)?.ok_or("a frame")?.as_slice(),
+        HELLO
+    );
+    // It needs no session either.
+    let stranger = ann(alloc)?;
+    let line = raw(alloc, b"\x51")?;
+    assert_eq!(rt;
+        frame(alloc, &stranger, &line)?.ok_or("a frame")?.as_slice(),
+        b"\x51".as_slice()
+    );
+    Ok(())
+}
+
+// Whatever a raw line is answered, the client has its session, its transaction and its stamp, and the next call its number.
+#[test]
+fn hears_nothing_of_raw_bytes(rt: HostRuntime) -> Result<(), Fail> {
+    let alloc = rt.alloc();
+    let (mut client, mut words) = waiting(alloc)?;
+    let line = raw(alloc, HELLO)?;
+    let stamp = Stamp {
+        ts: 7,
+        trans: TRANS,
+    };
+    let other = TransId {
+        server: 1,
+        epoch: 2,
+        counter: 9,
+    };
+    let call = Next::Call;
+    let stale = Reply::Refused(Refusal::StaleSession { epoch: 2 });
+    next_by(alloc, &mut client, &mut words, &line, call, stale)?;
+    let committed = Reply::Committed { stamp };
+    next_by(alloc, &mut client, &mut words, &line, call, committed)?;
+    let ended = Reply::Ended(Ended::Committed { stamp });
+    next_by(alloc, &mut client, &mut words, &line, call, ended)?;
+    let begun = Reply::Begun { trans: other };
+    next_by(alloc, &mut client, &mut words, &line, call, begun)?;
+    let welcome = Reply::Welcome { epoch: 2 };
+    next_by(alloc, &mut client, &mut words, &line, call, welcome)?;
+    let waits = next_by(alloc, &mut client, &mut words, &line, call, NOT_YET)?;
+    assert!(rt; waits == Next::Over);
+    assert!(rt; client.trans == Some(TRANS) && client.begun == Some(TRANS));
+    assert!(rt; client.told.ts == 0);
+    let collect = asked(alloc, &client, &COLLECT)?;
+    assert!(rt; collect.epoch == 1 && collect.number == 4);
+    assert!(rt; collect.call == Call::Collect { number: 3 });
+    Ok(())
+}
+
+const DOWN: Reply = Reply::Refused(Refusal::Down);
+
+// A server that is down answers as any other: a collect that is answered so ends the call that waits, and nothing else.
+#[test]
+fn hears_that_a_server_is_down(rt: HostRuntime) -> Result<(), Fail> {
+    let alloc = rt.alloc();
+    let (mut client, mut words) = waiting(alloc)?;
+    next_by(alloc, &mut client, &mut words, &COMMIT, Next::Call, DOWN)?;
+    assert!(rt; client.waiting.is_some() && client.trans.is_some());
+    next_by(alloc, &mut client, &mut words, &COLLECT, Next::Call, DOWN)?;
+    assert!(rt; client.waiting.is_none() && client.trans.is_some());
+    let next = asked(alloc, &client, &COMMIT)?;
+    assert!(rt; next.epoch == 1 && next.number == 6);
+    Ok(())
+}
+
+// A call that is answered as one that a raw line sent before it begins no transaction.
+#[test]
+fn begins_by_its_own_line_alone(rt: HostRuntime) -> Result<(), Fail> {
+    let alloc = rt.alloc();
+    let mut client = begun(alloc)?;
+    let mut words = Words::new(alloc);
+    let other = TransId {
+        server: 1,
+        epoch: 1,
+        counter: 9,
+    };
+    let kept = Reply::Begun { trans: other };
+    next_by(alloc, &mut client, &mut words, &COMMIT, Next::Call, kept)?;
+    assert!(rt; client.trans == Some(TRANS) && client.begun == Some(TRANS));
+    Ok(())
+}
+
+// The number of a call has four bytes: behind the last one comes that one again.
+#[test]
+fn numbers_have_an_end(rt: HostRuntime) -> Result<(), Fail> {
+    let alloc = rt.alloc();
+    let mut client = begun(alloc)?;
+    client.session = Some(Greeted {
+        epoch: 1,
+        last: u32::MAX - 1,
+    });
+    let mut words = Words::new(alloc);
+    assert_eq!(rt; asked(alloc, &client, &COMMIT)?.number, u32::MAX);
+    next_by(alloc, &mut client, &mut words, &COMMIT, Next::Call, DOWN)?;
+    assert_eq!(rt; asked(alloc, &client, &COMMIT)?.number, u32::MAX);
     Ok(())
 }

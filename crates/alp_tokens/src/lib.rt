@@ -10,6 +10,3 @@ pub use fault::LineFault;
 pub use names::{TEXT_BYTES, list, name, text};
 pub use numbers::{are_numerals, byte, within, word16, word32, word64};
 pub use words::{LINE_BYTES, is_line, parts, says, words_in};
-
-#[cfg(test)]
-mod tests;

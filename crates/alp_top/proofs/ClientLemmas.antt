@@ -1,86 +1,273 @@
 -- the items of a run are as its clients' machine and the servers leave them
-use Rattle.std.specs.Prelude.{◌==◌, max, true, false, Bool, cond, Option, None, Some, slice_get, map as list_map}
+use Rattle.std.specs.Prelude.{◌==◌, true, false, Bool, cond, Option, None, Some, slice_get, map as list_map}
 use Rattle.std.specs.List.{AllByRecursion}
-use Rattle.std.proofs.Common.{inl, inr, ◌⊎◌, ◌≡◌, ℕ, zero, suc, ◌+◌, ◌<◌, ◌≤◌, List, [], ◌∷◌, ◌++◌, refl, sym, ◌∙◌, ap, subst, arith}
-use Rattle.std.proofs.Math.Nat.{le-max_left, le-max_right}
+use Rattle.std.proofs.Common.{inl, inr, ◌⊎◌, ◌≡◌, ℕ, zero, suc, ◌+◌, ◌<◌, ◌≤◌, List, [], ◌∷◌, ◌++◌, length, length-append, refl, sym, ◌∙◌, ap, subst, arith}
 use Rattle.std.proofs.lemmas.Bool.Decides.{eqb_tells}
 use Rattle.alp_base.specs.declared.ids.TransId.{TransId}
 use Rattle.alp_files.specs.declared.call.Call.{Call}
 use Rattle.alp_files.specs.declared.call.Call.TheVariants as call
+use Rattle.alp_files.specs.declared.refusal.Refusal.TheVariants as refusal
+use Rattle.alp_files.specs.declared.reply.Reply.{Reply}
+use Rattle.alp_files.specs.declared.reply.Reply.TheVariants as reply
 use Rattle.alp_journal.specs.declared.entry.Entry.{Entry}
+use Rattle.alp_journal.specs.declared.event.Event.{Event}
 use Rattle.alp_journal.specs.declared.event.Event.TheVariants as event
 use Rattle.alp_journal.specs.declared.log.Item.{Item}
 use Rattle.alp_journal.specs.declared.log.Mark.TheVariants as mark
+use Rattle.alp_journal.specs.declared.log.Sent.{Sent}
 use Rattle.alp_journal.specs.declared.log.Sent.TheVariants as sent
 use Rattle.alp_history.specs.Items as items
-use Rattle.alp_history.specs.Items.{Handed, IsOwn}
-use Rattle.alp_history.specs.Handed.{AreOfClients, IsOfPlace, IsOfEntry, IsBefore, IsOfRun, IsOfRunBy, HaveSeen}
-use Rattle.alp_history.specs.Log.{Log, ServerLog, journal_of, IsIn}
-use Rattle.alp_history.specs.RunLogs.{item_of, mark_of}
+use Rattle.alp_history.specs.Items.{Handed, IsOwn, IsRaw}
+use Rattle.alp_history.specs.Handed.{AreOfClients, IsOfPlace, IsOfEntry, IsOfNone, IsNoGreeting, IsBefore, IsOfRun, IsOfRunBy, HaveSeen}
+use Rattle.alp_history.specs.Log.{Log, ServerLog, journal_of, opening_of, IsIn}
+use Rattle.alp_history.specs.RunLogs.{item_of}
 use Rattle.alp_history.proofs.Decisions.{map-in, in-map}
 use Rattle.alp_history.proofs.Linked.{in-left, in-right}
 use Rattle.alp_history.proofs.Logs.{opening-server}
 use Rattle.alp_session.specs.declared.client.Client.{Client}
-use Rattle.alp_top.specs.Turns.{Turn, own_in, sent_in}
-use Rattle.alp_top.specs.Plays.{Happening, sent_of, Records, AreRecorded}
-use Rattle.alp_top.specs.Plays as happening
-use Rattle.alp_top.specs.Steps.{IsInTurn, AreNumbered, AsksNoOutcome, IsNoOutcome, HasSaid}
+use Rattle.alp_node.specs.declared.server_state.ServerState.{ServerState}
+use Rattle.alp_cluster.specs.Come.{Come, none_come, IsUpTo, IsBelow, further}
+use Rattle.alp_cluster.specs.Happens.{Happening, sent_it, timed_out, ticked, forced, stop_set, restarted, lifts, finds, Stand, IsEntryOf, IsNone, ComesTo, Takes, Happens, AreRecorded}
+use Rattle.alp_cluster.specs.Plays.{sent_of}
+use Rattle.alp_cluster.specs.Steps.{come_of, come_by, come_with, IsOwnTurn, IsAgainTurn, IsInTurn, IsSentBy, AreNumbered, IsToldOf, AsksOfTold, SentOfTold, HasSaid}
+use Rattle.alp_cluster.specs.Turns.{Turn, own_in, sent_in}
+use Rattle.alp_cluster.proofs.ComeLemmas.{up_to_left, up_to_right, up_to_self, below_after}
 use Rattle.alp_top.proofs.SingleLemmas.{single, of_self, by_server}
+
+-- ---- how the entries of a run follow
+
+-- behind one thing that happened
+none_place : (w : Stand) (es : List Entry) (v : Stand) → IsNone w es v → v.place ≡ w.place + length es
+none_place w es v h = (let long : length es ≡ 0 = ap (λ (js : List Entry). length js) h.0 in let same : v.place ≡ w.place = ap (λ (z : Stand). z.place) h.1 in omega (arith, long, same))
+
+entry_place : (w : Stand) (x : Event) (es : List Entry) (v : Stand) → IsEntryOf w x es v → v.place ≡ w.place + length es
+entry_place w x es v h = (let long : length es ≡ 1 = ap (λ (js : List Entry). length js) h.one in let next : v.place ≡ w.place + 1 = ap (λ (z : Stand). z.place) h.behind in omega (arith, long, next))
+
+comes_place : (w : Stand) (b : Bool) (x : Event) (es : List Entry) (v : Stand) → ComesTo w b x es v → v.place ≡ w.place + length es
+comes_place w true x es v h = none_place w es v h
+comes_place w false x es v h = entry_place w x es v h
+
+takes_place : (w : Stand) (k : ℕ) (x : Item) (b : Bool) (s : Sent) (es : List Entry) (v : Stand) → Takes w k x b s es v → v.place ≡ w.place + length es
+takes_place w k x b (sent.Bytes bytes) es v h = none_place w es v h.none
+takes_place w k x true (sent.Call client epoch number c) es v h = none_place w es v h.none
+takes_place w k x false (sent.Call client epoch number c) es v h = entry_place w (event.Call client epoch number c) es v h.made
+
+happens_place : (tells : Bool) (w : Stand) (h : Happening) (es : List Entry) (v : Stand) → Happens tells w h es v → v.place ≡ w.place + length es
+happens_place tells w (sent_it k x) es v h = takes_place w k x w.is_down x.sent es v h.1
+happens_place tells w (timed_out t) es v h = comes_place w w.is_down (event.Timeout t) es v h
+happens_place tells w ticked es v h = comes_place w w.is_down event.Tick es v h
+happens_place tells w forced es v h = comes_place w w.is_down event.Force es v h
+happens_place tells w (stop_set calls) es v h = (let long : length es ≡ 0 = ap (λ (js : List Entry). length js) h.0 in let same : v.place ≡ w.place = ap (λ (z : Stand). z.place) h.1 in omega (arith, long, same))
+happens_place tells w (restarted pick) es v h = (let long : length es ≡ 1 = ap (λ (js : List Entry). length js) h.one in let next : v.place ≡ w.place + 1 = ap (λ (z : Stand). z.place) h.behind in omega (arith, long, next))
+happens_place tells w (lifts is_down) es v h = (let long : length es ≡ 0 = ap (λ (js : List Entry). length js) h.1 in let same : v.place ≡ w.place = ap (λ (z : Stand). z.place) h.2 in omega (arith, long, same))
+happens_place tells w (finds live) es v h = none_place w es v h.1
+
+-- and behind all
+pub recorded_place : (tells : Bool) (w : Stand) (hs : List Happening) (es : List Entry) (v : Stand) → AreRecorded tells w hs es v → v.place ≡ w.place + length es
+recorded_place tells w [] es v h = none_place w es v h
+recorded_place tells w (x ∷ hs) es v (own, others, mid, are, happens, rest) =
+    let all : length es ≡ length own + length others = ap (λ (js : List Entry). length js) are ∙ length-append own others in
+    let one : mid.place ≡ w.place + length own = happens_place tells w x own mid happens in
+    let more : v.place ≡ mid.place + length others = recorded_place tells mid hs others v rest in
+    omega (arith, all, one, more)
 
 -- ---- an item and its entry
 
--- an item of a list that is recorded has its entry
-pub record IsEntered (epoch at : ℕ) (x : ℕ × Item) (es : List Entry) : Type 0 where
-  pub place : ℕ
+get_left : (xs ys : List Entry) (i : ℕ) (e : Entry) → slice_get xs i ≡ Some e → slice_get (xs ++ ys) i ≡ Some e
+get_left [] ys i e is = cc
+get_left (x ∷ xs) ys zero e is = is
+get_left (x ∷ xs) ys (suc i) e is = get_left xs ys i e is
+
+get_right : (xs ys : List Entry) (i : ℕ) (e : Entry) → slice_get ys i ≡ Some e → slice_get (xs ++ ys) (length xs + i) ≡ Some e
+get_right [] ys i e is = ap (λ (n : ℕ). slice_get ys n) (let same : length {A = Entry} [] + i ≡ i = omega arith in same) ∙ is
+get_right (x ∷ xs) ys i e is = ap (λ (n : ℕ). slice_get (x ∷ (xs ++ ys)) n) (let same : length (x ∷ xs) + i ≡ suc (length xs + i) = omega arith in same) ∙ get_right xs ys i e is
+
+-- what stands at a place of two lists stands in one of them
+record IsBehind (xs ys : List Entry) (i : ℕ) (e : Entry) : Type 0 where
+  at : ℕ
+  place : i ≡ length xs + at
+  stands : slice_get ys at ≡ Some e
+
+get_either : (xs ys : List Entry) (i : ℕ) (e : Entry) → slice_get (xs ++ ys) i ≡ Some e → (slice_get xs i ≡ Some e) ⊎ IsBehind xs ys i e
+get_either [] ys i e is = inr (record { at = i; place = omega arith; stands = is })
+get_either (x ∷ xs) ys zero e is = inl is
+get_either (x ∷ xs) ys (suc i) e is = elim (get_either xs ys i e is) [
+  | inl h ↦ inl h
+  | inr h ↦ inr (let same : i ≡ length xs + h.at = h.place in record { at = h.at; place = omega (arith, same); stands = h.stands })
+]
+
+-- an item without an entry
+pub record IsAside (x : Item) : Type 0 where
+  pub server : x.server ≡ 1
+  pub place : x.place ≡ None
+  pub none : IsOfNone x.reply
+
+-- and one with its entry among these, which begin at this place
+pub record IsEntered (from : ℕ) (x : Item) (es : List Entry) : Type 0 where
+  pub at : ℕ
   pub entry : Entry
-  pub stands : slice_get es place ≡ Some entry
-  pub records : Records epoch (at + place) x entry
+  pub client : ℕ
+  pub epoch : ℕ
+  pub number : ℕ
+  pub asked : Call
+  pub stands : slice_get es at ≡ Some entry
+  pub server : x.server ≡ 1
+  pub place : x.place ≡ Some (from + at)
+  pub sent_is : x.sent ≡ sent.Call client epoch number asked
+  pub event_is : entry.event ≡ event.Call client epoch number asked
+  pub reply_is : entry.reply ≡ x.reply
 
-entered : (epoch at : ℕ) (x : ℕ × Item) (hs : List Happening) (es : List Entry) → AreRecorded epoch at hs es → IsIn x (sent_of hs) → IsEntered epoch at x es
-entered epoch at x [] es h i = absurd i
-entered epoch at x (y ∷ hs) [] h i = absurd h
-entered epoch at x (happening.sent_it k y ∷ hs) (e ∷ es) h (inl is) = record {
-  place = 0;
-  entry = e;
-  stands = refl;
-  records = subst (λ (n : ℕ). Records epoch n x e) (let same : at ≡ at + 0 = omega arith in same) (subst (λ (z : ℕ × Item). Records epoch at z e) (sym is) h.0);
+taken_entered : (w : Stand) (k : ℕ) (x : Item) (b : Bool) (s : Sent) (es : List Entry) (v : Stand) → x.server ≡ 1 → x.sent ≡ s → Takes w k x b s es v → IsAside x ⊎ IsEntered w.place x es
+taken_entered w k x b (sent.Bytes bytes) es v one is h = inl (record { server = one; place = h.place; none = inl h.reply })
+taken_entered w k x true (sent.Call client epoch number c) es v one is h = inl (record { server = one; place = h.place; none = inr h.reply })
+taken_entered w k x false (sent.Call client epoch number c) es v one is h = inr (record {
+  at = 0;
+  entry = h.made.entry;
+  client = client;
+  epoch = epoch;
+  number = number;
+  asked = c;
+  stands = ap (λ (js : List Entry). slice_get js 0) h.made.one;
+  server = one;
+  place = h.place ∙ ap Some (let same : w.place ≡ w.place + 0 = omega arith in same);
+  sent_is = is;
+  event_is = h.made.event;
+  reply_is = h.reply;
+})
+
+-- among more entries
+entered_front : (from : ℕ) (x : Item) (own others : List Entry) → IsEntered from x own → IsEntered from x (own ++ others)
+entered_front from x own others h = record {
+  at = h.at;
+  entry = h.entry;
+  client = h.client;
+  epoch = h.epoch;
+  number = h.number;
+  asked = h.asked;
+  stands = get_left own others h.at h.entry h.stands;
+  server = h.server;
+  place = h.place;
+  sent_is = h.sent_is;
+  event_is = h.event_is;
+  reply_is = h.reply_is;
 }
-entered epoch at x (happening.sent_it k y ∷ hs) (e ∷ es) h (inr i) =
-    let rest = entered epoch (at + 1) x hs es h.1 i in
-    record { place = suc rest.place; entry = rest.entry; stands = rest.stands; records = subst (λ (n : ℕ). Records epoch n x rest.entry) (omega arith) rest.records }
-entered epoch at x (happening.timed_out t ∷ hs) (e ∷ es) h i =
-    let rest = entered epoch (at + 1) x hs es h.1 i in
-    record { place = suc rest.place; entry = rest.entry; stands = rest.stands; records = subst (λ (n : ℕ). Records epoch n x rest.entry) (omega arith) rest.records }
 
--- an entry of a call that is recorded has its item
-pub record IsSent (epoch i : ℕ) (xs : List (ℕ × Item)) (e : Entry) : Type 0 where
+entered_back : (from mid : ℕ) (x : Item) (own others : List Entry) → mid ≡ from + length own → IsEntered mid x others → IsEntered from x (own ++ others)
+entered_back from mid x own others is h = record {
+  at = length own + h.at;
+  entry = h.entry;
+  client = h.client;
+  epoch = h.epoch;
+  number = h.number;
+  asked = h.asked;
+  stands = get_right own others h.at h.entry h.stands;
+  server = h.server;
+  place = h.place ∙ ap Some (let same : mid + h.at ≡ from + (length own + h.at) = omega (arith, is) in same);
+  sent_is = h.sent_is;
+  event_is = h.event_is;
+  reply_is = h.reply_is;
+}
+
+-- an item of what was sent
+entered : (tells : Bool) (w : Stand) (hs : List Happening) (es : List Entry) (v : Stand) (x : ℕ × Item) → AreRecorded tells w hs es v → IsIn x (sent_of hs) → IsAside x.1 ⊎ IsEntered w.place x.1 es
+entered tells w [] es v x h i = absurd i
+entered tells w (z ∷ hs) es v x (own, others, mid, are, happens, rest) i =
+    subst (λ (js : List Entry). IsAside x.1 ⊎ IsEntered w.place x.1 js) (sym are) (go (entered tells mid hs others v x rest) z happens i)
+  where
+    later : (IsIn x (sent_of hs) → IsAside x.1 ⊎ IsEntered mid.place x.1 others) → IsIn x (sent_of hs) → IsAside x.1 ⊎ IsEntered w.place x.1 (own ++ others)
+    later more j = elim (more j) [
+      | inl a ↦ inl a
+      | inr b ↦ inr (entered_back w.place mid.place x.1 own others (happens_place tells w z own mid happens) b)
+    ]
+
+    first : (k : ℕ) (y : Item) → Happens tells w (sent_it k y) own mid → IsAside y ⊎ IsEntered w.place y (own ++ others)
+    first k y one = elim (taken_entered w k y w.is_down y.sent own mid one.0 refl one.1) [ inl a ↦ inl a | inr b ↦ inr (entered_front w.place y own others b) ]
+
+    go : (IsIn x (sent_of hs) → IsAside x.1 ⊎ IsEntered mid.place x.1 others) → (z : Happening) → Happens tells w z own mid → IsIn x (sent_of (z ∷ hs)) → IsAside x.1 ⊎ IsEntered w.place x.1 (own ++ others)
+    go more (sent_it k y) one (inl is) = subst (λ (q : ℕ × Item). IsAside q.1 ⊎ IsEntered w.place q.1 (own ++ others)) (sym is) (first k y one)
+    go more (sent_it k y) one (inr j) = later more j
+    go more (timed_out t) one j = later more j
+    go more ticked one j = later more j
+    go more forced one j = later more j
+    go more (stop_set calls) one j = later more j
+    go more (restarted pick) one j = later more j
+    go more (lifts is_down) one j = later more j
+    go more (finds live) one j = later more j
+
+-- an entry of a call has its item among what was sent
+pub record IsSent (i : ℕ) (xs : List (ℕ × Item)) : Type 0 where
   pub item : ℕ × Item
   pub among : IsIn item xs
-  pub records : Records epoch i item e
+  pub server : item.1.server ≡ 1
+  pub place : item.1.place ≡ Some i
 
 -- the entry is of a call
 abbrev IsCall : Entry → Type 0
 IsCall e = (client : ℕ) × (epoch : ℕ) × (number : ℕ) × (c : Call) × (e.event ≡ event.Call client epoch number c)
 
-no_timeout : (e : Entry) (t : TransId) → e.event ≡ event.Timeout t → IsCall e → ⊥
-no_timeout e t is call = let (client, epoch, number, c, calls) = call in cc
+-- none of these is
+no_entry : (es : List Entry) (i : ℕ) (e : Entry) → es ≡ [] → slice_get es i ≡ Some e → ⊥
+no_entry es i e none at = (let wrong : slice_get [] i ≡ Some e = ap (λ (js : List Entry). slice_get js i) (sym none) ∙ at in apart i e wrong)
+  where
+    apart : (i : ℕ) (e : Entry) → slice_get [] i ≡ Some e → ⊥
+    apart i e wrong = cc
 
-sent_there : (epoch at i : ℕ) (e : Entry) (hs : List Happening) (es : List Entry) → AreRecorded epoch at hs es → slice_get es i ≡ Some e → IsCall e → IsSent epoch (at + i) (sent_of hs) e
-sent_there epoch at i e [] [] h is call = cc
-sent_there epoch at i e [] (f ∷ es) h is call = absurd h
-sent_there epoch at i e (x ∷ hs) [] h is call = absurd h
-sent_there epoch at zero e (happening.sent_it k x ∷ hs) (f ∷ es) h is call =
-    let same : f ≡ e = cc in
-    record { item = (k, x); among = inl refl; records = subst (λ (n : ℕ). Records epoch n (k, x) e) (let alike : at ≡ at + 0 = omega arith in alike) (subst (Records epoch at (k, x)) same h.0) }
-sent_there epoch at zero e (happening.timed_out t ∷ hs) (f ∷ es) h is call =
-    let same : f ≡ e = cc in
-    absurd (no_timeout e t (subst (λ (x : Entry). x.event ≡ event.Timeout t) same h.0) call)
-sent_there epoch at (suc i) e (happening.sent_it k x ∷ hs) (f ∷ es) h is call =
-    let rest = sent_there epoch (at + 1) i e hs es h.1 is call in
-    record { item = rest.item; among = inr rest.among; records = subst (λ (n : ℕ). Records epoch n rest.item e) (omega arith) rest.records }
-sent_there epoch at (suc i) e (happening.timed_out t ∷ hs) (f ∷ es) h is call =
-    let rest = sent_there epoch (at + 1) i e hs es h.1 is call in
-    record { item = rest.item; among = rest.among; records = subst (λ (n : ℕ). Records epoch n rest.item e) (omega arith) rest.records }
+-- the only one is this
+only_entry : (es : List Entry) (i : ℕ) (e f : Entry) → es ≡ f ∷ [] → slice_get es i ≡ Some e → (i ≡ 0) × (f ≡ e)
+only_entry es i e f one at = go i (ap (λ (js : List Entry). slice_get js i) (sym one) ∙ at)
+  where
+    go : (i : ℕ) → slice_get (f ∷ []) i ≡ Some e → (i ≡ 0) × (f ≡ e)
+    go zero is = (refl, (let same : f ≡ e = cc in same))
+    go (suc i) is = absurd (no_entry [] i e refl is)
+
+sent_by : (w : Stand) (k : ℕ) (x : Item) (b : Bool) (s : Sent) (es : List Entry) (v : Stand) (i : ℕ) (e : Entry) → Takes w k x b s es v → slice_get es i ≡ Some e → x.place ≡ Some (w.place + i)
+sent_by w k x b (sent.Bytes bytes) es v i e h at = absurd (no_entry es i e h.none.0 at)
+sent_by w k x true (sent.Call client epoch number c) es v i e h at = absurd (no_entry es i e h.none.0 at)
+sent_by w k x false (sent.Call client epoch number c) es v i e h at = (let zero_is : i ≡ 0 = (only_entry es i e h.made.entry h.made.one at).0 in h.place ∙ ap Some (let same : w.place ≡ w.place + i = omega (arith, zero_is) in same))
+
+-- an event that is no call makes no entry of one
+abbrev IsNoCall : Event → Type 0
+IsNoCall (event.Call client epoch number c) = ⊥
+IsNoCall x = Unit {0}
+
+no_call : (e f : Entry) (x : Event) → IsNoCall x → f.event ≡ x → f ≡ e → IsCall e → ⊥
+no_call e f x none is same (client, epoch, number, c, called) = subst IsNoCall (sym is ∙ ap (λ (z : Entry). z.event) same ∙ called) none
+
+comes_none : (w : Stand) (b : Bool) (x : Event) (es : List Entry) (v : Stand) (i : ℕ) (e : Entry) → IsNoCall x → ComesTo w b x es v → slice_get es i ≡ Some e → IsCall e → ⊥
+comes_none w true x es v i e none h at called = no_entry es i e h.0 at
+comes_none w false x es v i e none h at called = no_call e h.entry x none h.event (only_entry es i e h.entry h.one at).1 called
+
+sent_there : (tells : Bool) (w : Stand) (hs : List Happening) (es : List Entry) (v : Stand) (i : ℕ) (e : Entry) → AreRecorded tells w hs es v → slice_get es i ≡ Some e → IsCall e → IsSent (w.place + i) (sent_of hs)
+sent_there tells w [] es v i e h at called = absurd (no_entry es i e h.0 at)
+sent_there tells w (z ∷ hs) es v i e (own, others, mid, are, happens, rest) at called =
+    elim (get_either own others i e (ap (λ (js : List Entry). slice_get js i) (sym are) ∙ at)) [
+      | inl here ↦ go z happens here
+      | inr there ↦
+          let more : IsSent (mid.place + there.at) (sent_of hs) = sent_there tells mid hs others v there.at e rest there.stands called in
+          let one : mid.place ≡ w.place + length own = happens_place tells w z own mid happens in
+          let two : i ≡ length own + there.at = there.place in
+          behind z (subst (λ (n : ℕ). IsSent n (sent_of hs)) (let same : mid.place + there.at ≡ w.place + i = omega (arith, one, two) in same) more)
+    ]
+  where
+    behind : (z : Happening) → IsSent (w.place + i) (sent_of hs) → IsSent (w.place + i) (sent_of (z ∷ hs))
+    behind (sent_it k y) s = record { item = s.item; among = inr s.among; server = s.server; place = s.place }
+    behind (timed_out t) s = s
+    behind ticked s = s
+    behind forced s = s
+    behind (stop_set calls) s = s
+    behind (restarted pick) s = s
+    behind (lifts is_down) s = s
+    behind (finds live) s = s
+
+    go : (z : Happening) → Happens tells w z own mid → slice_get own i ≡ Some e → IsSent (w.place + i) (sent_of (z ∷ hs))
+    go (sent_it k y) one here = record { item = (k, y); among = inl refl; server = one.0; place = sent_by w k y w.is_down y.sent own mid i e one.1 here }
+    go (timed_out t) one here = absurd (comes_none w w.is_down (event.Timeout t) own mid i e tt one here called)
+    go ticked one here = absurd (comes_none w w.is_down event.Tick own mid i e tt one here called)
+    go forced one here = absurd (comes_none w w.is_down event.Force own mid i e tt one here called)
+    go (stop_set calls) one here = absurd (no_entry own i e one.0 here)
+    go (restarted pick) one here = absurd (no_call e one.entry event.Restart tt (ap (λ (f : Entry). f.event) one.is) (only_entry own i e one.entry one.one here).1 called)
+    go (lifts is_down) one here = absurd (no_entry own i e one.1 here)
+    go (finds live) one here = absurd (no_entry own i e one.1.0 here)
 
 -- ---- turns and lists
 
@@ -130,62 +317,179 @@ sent_same s t e = cc
 place_same : (i j : ℕ) → ◌≡◌ {A = Option ℕ} (Some i) (Some j) → i ≡ j
 place_same i j e = cc
 
--- the client of an item is the list's
-client_in : (k from : ℕ) (xs : List items.Item) (x : items.Item) (q : items.Sent) → AreNumbered k from xs → IsIn x xs → x.sent ≡ Some q → q.client ≡ k
-client_in k from [] x q h i is = absurd i
-client_in k from (y ∷ xs) x q h (inl e) is =
-    let (s, said, whose, turn, rest) = h in
-    let same : s ≡ q = sent_same s q (sym said ∙ ap (λ (z : items.Item). z.sent) (sym e) ∙ is) in
-    subst (λ (t : items.Sent). t.client ≡ k) same whose
-client_in k from (y ∷ xs) x q h (inr i) is = let (s, said, whose, turn, rest) = h in client_in k (max from s.number) xs x q rest i is
+-- a mark that is not a raw line's
+abbrev IsCounted : items.Mark → Type 0
+IsCounted items.Raw = ⊥
+IsCounted m = Unit {0}
 
-own_turn : (m : items.Mark) (from number : ℕ) → IsOwn m → IsInTurn m from number → from < number
-own_turn items.Own from number own h = h
-own_turn items.Repeated from number own h = absurd own
-own_turn items.Raw from number own h = absurd own
+raw_or : (m : items.Mark) → IsRaw m ⊎ IsCounted m
+raw_or items.Own = inr tt
+raw_or items.Repeated = inr tt
+raw_or items.Raw = inl tt
 
--- the number of a client's own item is above the one that its list begins from
-above : (k from : ℕ) (xs : List items.Item) (x : items.Item) (q : items.Sent) → AreNumbered k from xs → IsIn x xs → IsOwn x.mark → x.sent ≡ Some q → from < q.number
-above k from [] x q h i own is = absurd i
-above k from (y ∷ xs) x q h (inl e) own is =
-    let (s, said, whose, turn, rest) = h in
-    let same : s ≡ q = sent_same s q (sym said ∙ ap (λ (z : items.Item). z.sent) (sym e) ∙ is) in
-    subst (λ (t : items.Sent). from < t.number) same (own_turn y.mark from s.number (subst (λ (z : items.Item). IsOwn z.mark) e own) turn)
-above k from (y ∷ xs) x q h (inr i) own is =
-    let (s, said, whose, turn, rest) = h in
-    let later : max from s.number < q.number = above k (max from s.number) xs x q rest i own is in
-    omega (arith, later, le-max_left from s.number)
+own_counted : (m : items.Mark) → IsOwn m → IsCounted m
+own_counted items.Own h = tt
+own_counted items.Repeated h = absurd h
+own_counted items.Raw h = absurd h
+
+-- what such an item sent: the client is the list's, and it is in turn
+record IsOwnSent (k : ℕ) (a : Come) (m : items.Mark) (q : items.Sent) : Type 0 where
+  client : q.client ≡ k
+  turn : IsInTurn a m q
+
+sent_turn : (k : ℕ) (a : Come) (m : items.Mark) (o : Option items.Sent) (q : items.Sent) → IsCounted m → o ≡ Some q → IsSentBy k a m o → IsOwnSent k a m q
+sent_turn k a items.Raw o q m is h = absurd m
+sent_turn k a items.Own None q m is h = absurd h
+sent_turn k a items.Own (Some s) q m is h = subst (IsOwnSent k a items.Own) (sent_same s q is) (record { client = h.0; turn = h.1 })
+sent_turn k a items.Repeated None q m is h = absurd h
+sent_turn k a items.Repeated (Some s) q m is h = subst (IsOwnSent k a items.Repeated) (sent_same s q is) (record { client = h.0; turn = h.1 })
+
+-- the client of an item is the list's, but a raw line's may be any
+client_in : (k : ℕ) (a : Come) (xs : List items.Item) (x : items.Item) (q : items.Sent) → AreNumbered k a xs → IsIn x xs → IsCounted x.mark → x.sent ≡ Some q → q.client ≡ k
+client_in k a [] x q h i m is = absurd i
+client_in k a (y ∷ xs) x q h (inl e) m is =
+    (sent_turn k a y.mark y.sent q (subst (λ (z : items.Item). IsCounted z.mark) e m) (ap (λ (z : items.Item). z.sent) (sym e) ∙ is) h.0).client
+client_in k a (y ∷ xs) x q h (inr i) m is = client_in k (come_with a y.mark y.sent) xs x q h.1 i m is
+
+-- ---- how far the calls have come
+
+-- by what one item sent it does not fall back
+come_rises : (a : Come) (m : items.Mark) (o : Option items.Sent) → IsUpTo a (come_with a m o)
+come_rises a items.Raw o = up_to_self a
+come_rises a items.Own None = up_to_self a
+come_rises a items.Own (Some s) = by_call s.call
+  where
+    by_call : (c : Call) → IsUpTo a (come_by a c (come_of s))
+    by_call (call.Hello name) = up_to_self a
+    by_call c = up_to_left a (come_of s)
+come_rises a items.Repeated None = up_to_self a
+come_rises a items.Repeated (Some s) = by_call s.call
+  where
+    by_call : (c : Call) → IsUpTo a (come_by a c (come_of s))
+    by_call (call.Hello name) = up_to_self a
+    by_call c = up_to_left a (come_of s)
+
+by_further : (a b : Come) (c : Call) → IsNoGreeting c → come_by a c b ≡ further a b
+by_further a b (call.Hello name) none = absurd none
+by_further a b c none = refl
+
+-- and it comes to what a call was that is no greeting
+come_has : (a : Come) (m : items.Mark) (o : Option items.Sent) (s : items.Sent) → IsCounted m → o ≡ Some s → IsNoGreeting s.call → IsUpTo (come_of s) (come_with a m o)
+come_has a items.Raw o s m is none = absurd m
+come_has a items.Own o s m is none = subst (λ (x : Option items.Sent). IsUpTo (come_of s) (come_with a items.Own x)) (sym is) (subst (IsUpTo (come_of s)) (sym (by_further a (come_of s) s.call none)) (up_to_right a (come_of s)))
+come_has a items.Repeated o s m is none = subst (λ (x : Option items.Sent). IsUpTo (come_of s) (come_with a items.Repeated x)) (sym is) (subst (IsUpTo (come_of s)) (sym (by_further a (come_of s) s.call none)) (up_to_right a (come_of s)))
+
+-- a call that is no greeting has an epoch
+turn_epoch : (a : Come) (m : items.Mark) (s : items.Sent) → IsCounted m → IsNoGreeting s.call → IsInTurn a m s → 0 < s.epoch
+turn_epoch a items.Raw s m none h = absurd m
+turn_epoch a items.Own s m none h = by_call s.call none h
+  where
+    by_call : (c : Call) → IsNoGreeting c → IsOwnTurn a (come_of s) c → 0 < s.epoch
+    by_call (call.Hello name) none h = absurd none
+    by_call c none h = h.0
+turn_epoch a items.Repeated s m none h = by_call s.call none h
+  where
+    by_call : (c : Call) → IsNoGreeting c → IsAgainTurn (come_of s) c → 0 < s.epoch
+    by_call (call.Hello name) none h = absurd none
+    by_call c none h = h
+
+-- a call of its own is a greeting of epoch 0, or behind all before
+own_or : (a : Come) (m : items.Mark) (s : items.Sent) → IsOwn m → IsInTurn a m s → (s.epoch ≡ 0) ⊎ IsBelow a (come_of s)
+own_or a items.Raw s m h = absurd m
+own_or a items.Repeated s m h = absurd m
+own_or a items.Own s m h = by_call s.call h
+  where
+    by_call : (c : Call) → IsOwnTurn a (come_of s) c → (s.epoch ≡ 0) ⊎ IsBelow a (come_of s)
+    by_call (call.Hello name) h = inl h
+    by_call c h = inr h.1
+
+above : (k : ℕ) (a : Come) (xs : List items.Item) (x : items.Item) (q : items.Sent) → AreNumbered k a xs → IsIn x xs → IsOwn x.mark → x.sent ≡ Some q → (q.epoch ≡ 0) ⊎ IsBelow a (come_of q)
+above k a [] x q h i own is = absurd i
+above k a (y ∷ xs) x q h (inl e) own is =
+    let mine : IsOwn y.mark = subst (λ (z : items.Item). IsOwn z.mark) e own in
+    own_or a y.mark q mine (sent_turn k a y.mark y.sent q (own_counted y.mark mine) (ap (λ (z : items.Item). z.sent) (sym e) ∙ is) h.0).turn
+above k a (y ∷ xs) x q h (inr i) own is = elim (above k (come_with a y.mark y.sent) xs x q h.1 i own is) [
+  | inl greets ↦ inl greets
+  | inr below ↦ inr (below_after a (come_with a y.mark y.sent) (come_of q) (come_rises a y.mark y.sent) below)
+]
+
+-- ---- places
+
+-- it is not before this one; and the next one
+abbrev IsFrom : ℕ → Option ℕ → Type 0
+IsFrom from None = Unit {0}
+IsFrom from (Some p) = from ≤ p
+
+abbrev behind : ℕ → Option ℕ → ℕ
+behind from None = from
+behind from (Some p) = p + 1
+
+behind_up : (from : ℕ) (o : Option ℕ) → IsFrom from o → from ≤ behind from o
+behind_up from None h = omega arith
+behind_up from (Some p) h = omega (arith, h)
 
 -- places that rise from this one on
 abbrev AreRising : ℕ → List items.Item → Type 0
 AreRising from [] = Unit {0}
-AreRising from (x ∷ xs) = (p : ℕ) × (x.place ≡ Some p) × (from ≤ p) × AreRising (p + 1) xs
+AreRising from (x ∷ xs) = IsFrom from x.place × AreRising (behind from x.place) xs
 
 lower : (a b : ℕ) (xs : List items.Item) → a ≤ b → AreRising b xs → AreRising a xs
 lower a b [] le h = tt
-lower a b (x ∷ xs) le h = let (p, at, low, rest) = h in (p, at, omega (arith, le, low), rest)
+lower a b (x ∷ xs) le h = go (lower a b xs le) x.place h.0 h.1
+  where
+    go : (AreRising b xs → AreRising a xs) → (o : Option ℕ) → IsFrom b o → AreRising (behind b o) xs → IsFrom a o × AreRising (behind a o) xs
+    go more None from rest = (tt, more rest)
+    go more (Some p) from rest = (omega (arith, le, from), rest)
 
 -- and so do those of all that was sent
 abbrev AreSentRising : ℕ → List (ℕ × Item) → Type 0
 AreSentRising from [] = Unit {0}
-AreSentRising from (x ∷ xs) = (p : ℕ) × (x.1.place ≡ Some p) × (from ≤ p) × AreSentRising (p + 1) xs
+AreSentRising from (x ∷ xs) = IsFrom from x.1.place × AreSentRising (behind from x.1.place) xs
 
 lower_sent : (a b : ℕ) (xs : List (ℕ × Item)) → a ≤ b → AreSentRising b xs → AreSentRising a xs
 lower_sent a b [] le h = tt
-lower_sent a b (x ∷ xs) le h = let (p, at, low, rest) = h in (p, at, omega (arith, le, low), rest)
+lower_sent a b (x ∷ xs) le h = go (lower_sent a b xs le) x.1.place h.0 h.1
+  where
+    go : (AreSentRising b xs → AreSentRising a xs) → (o : Option ℕ) → IsFrom b o → AreSentRising (behind b o) xs → IsFrom a o × AreSentRising (behind a o) xs
+    go more None from rest = (tt, more rest)
+    go more (Some p) from rest = (omega (arith, le, from), rest)
 
-sent_rises : (epoch at : ℕ) (hs : List Happening) (es : List Entry) → AreRecorded epoch at hs es → AreSentRising at (sent_of hs)
-sent_rises epoch at [] es h = tt
-sent_rises epoch at (x ∷ hs) [] h = absurd h
-sent_rises epoch at (happening.sent_it k x ∷ hs) (e ∷ es) h = (at, h.0.place, omega arith, sent_rises epoch (at + 1) hs es h.1)
-sent_rises epoch at (happening.timed_out t ∷ hs) (e ∷ es) h = lower_sent at (at + 1) (sent_of hs) (omega arith) (sent_rises epoch (at + 1) hs es h.1)
+-- what is sent has its place where the run stands, or none
+taken_from : (w : Stand) (k : ℕ) (x : Item) (b : Bool) (s : Sent) (es : List Entry) (v : Stand) → Takes w k x b s es v → IsFrom w.place x.place × (behind w.place x.place ≤ v.place)
+taken_from w k x b (sent.Bytes bytes) es v h = aside w x es v h.place h.none
+  where
+    aside : (w : Stand) (x : Item) (es : List Entry) (v : Stand) → x.place ≡ None → IsNone w es v → IsFrom w.place x.place × (behind w.place x.place ≤ v.place)
+    aside w x es v is none = subst (λ (o : Option ℕ). IsFrom w.place o × (behind w.place o ≤ v.place)) (sym is) (tt, (let same : v.place ≡ w.place = ap (λ (z : Stand). z.place) none.1 in omega (arith, same)))
+taken_from w k x true (sent.Call client epoch number c) es v h = aside w x es v h.place h.none
+  where
+    aside : (w : Stand) (x : Item) (es : List Entry) (v : Stand) → x.place ≡ None → IsNone w es v → IsFrom w.place x.place × (behind w.place x.place ≤ v.place)
+    aside w x es v is none = subst (λ (o : Option ℕ). IsFrom w.place o × (behind w.place o ≤ v.place)) (sym is) (tt, (let same : v.place ≡ w.place = ap (λ (z : Stand). z.place) none.1 in omega (arith, same)))
+taken_from w k x false (sent.Call client epoch number c) es v h =
+    subst (λ (o : Option ℕ). IsFrom w.place o × (behind w.place o ≤ v.place)) (sym h.place) (omega arith, (let next : v.place ≡ w.place + 1 = ap (λ (z : Stand). z.place) h.made.behind in omega (arith, next)))
+
+sent_rises : (tells : Bool) (w : Stand) (hs : List Happening) (es : List Entry) (v : Stand) → AreRecorded tells w hs es v → AreSentRising w.place (sent_of hs)
+sent_rises tells w [] es v h = tt
+sent_rises tells w (z ∷ hs) es v (own, others, mid, are, happens, rest) = go (sent_rises tells mid hs others v rest) z happens
+  where
+    skip : AreSentRising mid.place (sent_of hs) → AreSentRising w.place (sent_of hs)
+    skip more = (let one : mid.place ≡ w.place + length own = happens_place tells w z own mid happens in lower_sent w.place mid.place (sent_of hs) (omega (arith, one)) more)
+
+    go : AreSentRising mid.place (sent_of hs) → (z : Happening) → Happens tells w z own mid → AreSentRising w.place (sent_of (z ∷ hs))
+    go more (sent_it k x) one = (let at : IsFrom w.place x.place × (behind w.place x.place ≤ mid.place) = taken_from w k x w.is_down x.sent own mid one.1 in (at.0, lower_sent (behind w.place x.place) mid.place (sent_of hs) at.1 more))
+    go more (timed_out t) one = skip more
+    go more ticked one = skip more
+    go more forced one = skip more
+    go more (stop_set calls) one = skip more
+    go more (restarted pick) one = skip more
+    go more (lifts is_down) one = skip more
+    go more (finds live) one = skip more
 
 own_items : (k c : ℕ) (b : Bool) (zs : List Item) (ts : List Turn) (at : ℕ) → ((a : ℕ) → AreSentRising a (sent_in ts) → AreRising a (list_map item_of (own_in k ts)))
     → AreSentRising at (list_map (λ (x : Item). (c, x)) zs ++ sent_in ts) → AreRising at (list_map item_of (cond b zs [] ++ own_in k ts))
 own_items k c true [] ts at rest h = rest at h
 own_items k c false [] ts at rest h = rest at h
-own_items k c true (z ∷ zs) ts at rest h = let (p, there, low, more) = h in (p, there, low, own_items k c true zs ts (p + 1) rest more)
-own_items k c false (z ∷ zs) ts at rest h = let (p, there, low, more) = h in lower at (p + 1) (list_map item_of (own_in k ts)) (omega (arith, low)) (own_items k c false zs ts (p + 1) rest more)
+own_items k c true (z ∷ zs) ts at rest h = (h.0, own_items k c true zs ts (behind at z.place) rest h.1)
+own_items k c false (z ∷ zs) ts at rest h = lower at (behind at z.place) (list_map item_of (own_in k ts)) (behind_up at z.place h.0) (own_items k c false zs ts (behind at z.place) rest h.1)
 
 -- the items of a client are recorded in its order
 rises : (k : ℕ) (ts : List Turn) (at : ℕ) → AreSentRising at (sent_in ts) → AreRising at (list_map item_of (own_in k ts))
@@ -194,34 +498,34 @@ rises k (t ∷ ts) at h = own_items k t.client (t.client == k) t.items ts at (ri
 
 place_in : (from at : ℕ) (xs : List items.Item) (x : items.Item) → AreRising from xs → IsIn x xs → x.place ≡ Some at → from ≤ at
 place_in from at [] x h i is = absurd i
-place_in from at (y ∷ xs) x h (inl e) is =
-    let (p, there, low, rest) = h in
-    let same : p ≡ at = place_same p at (sym there ∙ ap (λ (z : items.Item). z.place) (sym e) ∙ is) in
-    omega (arith, low, same)
-place_in from at (y ∷ xs) x h (inr i) is = let (p, there, low, rest) = h in let up : p + 1 ≤ at = place_in (p + 1) at xs x rest i is in omega (arith, low, up)
+place_in from at (y ∷ xs) x h (inl e) is = subst (IsFrom from) (ap (λ (z : items.Item). z.place) (sym e) ∙ is) h.0
+place_in from at (y ∷ xs) x h (inr i) is = (let up : behind from y.place ≤ at = place_in (behind from y.place) at xs x h.1 i is in let low : from ≤ behind from y.place = behind_up from y.place h.0 in omega (arith, up, low))
 
--- no item before one of a client's own has its number
-own_number : (k from low : ℕ) (xs : List items.Item) (x y : items.Item) (q r : items.Sent) (here there : ℕ) → AreNumbered k from xs → AreRising low xs → IsIn x xs → IsIn y xs → IsOwn x.mark → x.sent ≡ Some q → y.sent ≡ Some r
-    → x.place ≡ Some here → y.place ≡ Some there → there < here → q.number ≡ r.number → ⊥
-own_number k from low [] x y q r here there n h i j own is too at to less same = absurd i
-own_number k from low (z ∷ xs) x y q r here there n h (inl a) (inl b) own is too at to less same =
-    let one : here ≡ there = place_same here there (sym at ∙ ap (λ (u : items.Item). u.place) (a ∙ sym b) ∙ to) in
+-- no item before one of a client's own has its epoch and number, but a raw line's or a greeting
+own_number : (k : ℕ) (a : Come) (low : ℕ) (xs : List items.Item) (x y : items.Item) (q r : items.Sent) (here there : ℕ) → AreNumbered k a xs → AreRising low xs → IsIn x xs → IsIn y xs → IsOwn x.mark → IsCounted y.mark
+    → x.sent ≡ Some q → y.sent ≡ Some r → x.place ≡ Some here → y.place ≡ Some there → there < here → r.epoch ≡ q.epoch → r.number ≡ q.number → IsNoGreeting r.call → ⊥
+own_number k a low [] x y q r here there n h i j own kept is too at to less epoch same none = absurd i
+own_number k a low (z ∷ xs) x y q r here there n h (inl e) (inl f) own kept is too at to less epoch same none =
+    let one : here ≡ there = place_same here there (sym at ∙ ap (λ (u : items.Item). u.place) (e ∙ sym f) ∙ to) in
     omega (arith, one, less)
-own_number k from low (z ∷ xs) x y q r here there n h (inl a) (inr j) own is too at to less same =
-    let (p, stands, up, rest) = h in
-    let one : p ≡ here = place_same p here (sym stands ∙ ap (λ (u : items.Item). u.place) (sym a) ∙ at) in
-    let later : p + 1 ≤ there = place_in (p + 1) there xs y rest j to in
-    omega (arith, one, later, less)
-own_number k from low (z ∷ xs) x y q r here there n h (inr i) (inl b) own is too at to less same =
-    let (s, said, whose, turn, rest) = n in
-    let mine : s ≡ r = sent_same s r (sym said ∙ ap (λ (u : items.Item). u.sent) (sym b) ∙ too) in
-    let one : s.number ≡ r.number = ap (λ (t : items.Sent). t.number) mine in
-    let up : max from s.number < q.number = above k (max from s.number) xs x q rest i own is in
-    omega (arith, up, le-max_right from s.number, one, same)
-own_number k from low (z ∷ xs) x y q r here there n h (inr i) (inr j) own is too at to less same =
-    let (s, said, whose, turn, rest) = n in
-    let (p, stands, up, more) = h in
-    own_number k (max from s.number) (p + 1) xs x y q r here there rest more i j own is too at to less same
+own_number k a low (z ∷ xs) x y q r here there n h (inl e) (inr j) own kept is too at to less epoch same none =
+    let stands : z.place ≡ Some here = ap (λ (u : items.Item). u.place) (sym e) ∙ at in
+    let later : here + 1 ≤ there = place_in (here + 1) there xs y (subst (λ (o : Option ℕ). AreRising (behind low o) xs) stands h.1) j to in
+    omega (arith, later, less)
+own_number k a low (z ∷ xs) x y q r here there n h (inr i) (inl f) own kept is too at to less epoch same none =
+    let counted : IsCounted z.mark = subst (λ (u : items.Item). IsCounted u.mark) f kept in
+    let said : z.sent ≡ Some r = ap (λ (u : items.Item). u.sent) (sym f) ∙ too in
+    let some : 0 < r.epoch = turn_epoch a z.mark r counted none (sent_turn k a z.mark z.sent r counted said n.0).turn in
+    elim (above k (come_with a z.mark z.sent) xs x q n.1 i own is) [
+      | inl greets ↦ omega (arith, some, epoch, greets)
+      | inr below ↦ not_below (below_after (come_of r) (come_with a z.mark z.sent) (come_of q) (come_has a z.mark z.sent r counted said none) below)
+    ]
+  where
+    not_below : IsBelow (come_of r) (come_of q) → ⊥
+    not_below (inl older) = omega (arith, older, epoch)
+    not_below (inr lower_one) = (let less : r.number < q.number = lower_one.1 in omega (arith, less, same))
+own_number k a low (z ∷ xs) x y q r here there n h (inr i) (inr j) own kept is too at to less epoch same none =
+    own_number k (come_with a z.mark z.sent) (behind low z.place) xs x y q r here there n.1 h.1 i j own kept is too at to less epoch same none
 
 in_all : (P : items.Item → Type 0) (xs : List items.Item) (x : items.Item) → AllByRecursion P xs → IsIn x xs → P x
 in_all P [] x h i = absurd i
@@ -230,99 +534,97 @@ in_all P (y ∷ xs) x h (inr i) = in_all P xs x h.1 i
 
 -- ---- outcomes
 
-run_by : (log : Log) (c : Call) → IsNoOutcome c → IsOfRunBy log c
-run_by log (call.Hello name) h = tt
-run_by log (call.Begin seen) h = tt
-run_by log (call.Join t) h = tt
-run_by log (call.CreateFile t start choice) h = tt
-run_by log (call.OpenFile t file access mode choice) h = tt
-run_by log (call.CloseFile t n) h = tt
-run_by log (call.DeleteFile t n choice) h = tt
-run_by log (call.ReadPages t n r mode choice) h = tt
-run_by log (call.WritePages t n r pages choice) h = tt
-run_by log (call.LockPages t n r mode choice) h = tt
-run_by log (call.SetSize t n size choice) h = tt
-run_by log (call.ReadProps t n) h = tt
-run_by log (call.WriteProps t n change choice) h = tt
-run_by log (call.ReadOwner t name choice) h = tt
-run_by log (call.MakeOwner t name quota list choice) h = tt
-run_by log (call.SetQuota t name quota choice) h = tt
-run_by log (call.Finish t keep) h = tt
-run_by log (call.Outcome t) h = absurd h
-run_by log (call.Collect n) h = tt
+-- an item by which a client was told that the transaction began
+record IsTelling (t : TransId) (xs : List items.Item) : Type 0 where
+  item : items.Item
+  among : IsIn item xs
+  begun : item.reply ≡ Some (reply.Begun t)
 
-run_of : (log : Log) (m : items.Mark) (o : Option items.Sent) → ((s : items.Sent) → o ≡ Some s → IsNoOutcome s.call) → IsOfRun log m o
-run_of log items.Own None f = tt
-run_of log items.Own (Some s) f = run_by log s.call (f s refl)
-run_of log items.Repeated None f = tt
-run_of log items.Repeated (Some s) f = run_by log s.call (f s refl)
-run_of log items.Raw o f = tt
+telling : (t : TransId) (xs : List items.Item) → IsToldOf t xs → IsTelling t xs
+telling t [] h = absurd h
+telling t (x ∷ xs) (inl is) = record { item = x; among = inl refl; begun = is }
+telling t (x ∷ xs) (inr h) = (let more = telling t xs h in record { item = more.item; among = inr more.among; begun = more.begun })
+
+-- transactions that it was told of are of this run
+run_by : (log : Log) (xs : List items.Item) (c : Call) → ((t : TransId) → IsToldOf t xs → (opening_of log t.server).epoch ≤ t.epoch) → AsksOfTold xs c → IsOfRunBy log c
+run_by log xs (call.Outcome t) all h = all t h
+run_by log xs c all h = tt
+
+run_of : (log : Log) (xs : List items.Item) (m : items.Mark) (o : Option items.Sent) → ((t : TransId) → IsToldOf t xs → (opening_of log t.server).epoch ≤ t.epoch) → SentOfTold xs m o → IsOfRun log m o
+run_of log xs items.Own None all h = tt
+run_of log xs items.Own (Some s) all h = run_by log xs s.call all h
+run_of log xs items.Repeated None all h = tt
+run_of log xs items.Repeated (Some s) all h = run_by log xs s.call all h
+run_of log xs items.Raw o all h = tt
+
+-- what is refused tells of no transaction
+not_begun : (r : Option Reply) (t : TransId) → IsOfNone r → r ≡ Some (reply.Begun t) → ⊥
+not_begun r t (inl is) begun = (let wrong : ◌≡◌ {A = Option Reply} (Some (reply.Refused refusal.BadFrame)) (Some (reply.Begun t)) = sym is ∙ begun in cc)
+not_begun r t (inr is) begun = (let wrong : ◌≡◌ {A = Option Reply} (Some (reply.Refused refusal.Down)) (Some (reply.Begun t)) = sym is ∙ begun in cc)
 
 -- ---- all of it
 
--- each list of a client has what it sent, each call of the journal is one of them, behind them all come timeouts
-pub record IsSaid (s : ServerLog) (h : Handed) (turns : List Turn) (calls ends : List Entry) (client_of : ℕ → Client) : Type 0 where
+-- An entry that tells that a transaction began names one of this run.
+abbrev pub TellsOfRun : ServerLog → Type 0
+TellsOfRun s = (i : ℕ) (e : Entry) (t : TransId) → slice_get s.journal i ≡ Some e → e.reply ≡ Some (reply.Begun t) → (t.server ≡ s.opening.server) × (s.opening.epoch ≤ t.epoch)
+
+-- each list of a client has what it sent, and each call of the journal is one of them
+pub record IsSaid {V : Type 0} (s : ServerLog) (h : Handed) (turns : List Turn) (k : ServerState V) (client_of : ℕ → Client) : Type 0 where
   pub server : s.opening.server ≡ 1
-  pub journal : s.journal ≡ calls ++ ends
-  pub epoch : ℕ
-  pub quiet : (i client epoch number : ℕ) (c : Call) (e : Entry) → slice_get ends i ≡ Some e → e.event ≡ event.Call client epoch number c → ⊥
-  pub handed : (k : ℕ) → h k ≡ list_map item_of (own_in k turns)
+  pub handed : (j : ℕ) → h j ≡ list_map item_of (own_in j turns)
+  pub tells : Bool
+  pub first : Stand
+  pub at_first : first.place ≡ 0
   pub happened : List Happening
+  pub last : Stand
   pub sent : sent_of happened ≡ sent_in turns
-  pub recorded : AreRecorded epoch 0 happened calls
-  pub said : (k : ℕ) → HasSaid k (client_of k) (list_map item_of (own_in k turns))
+  pub recorded : AreRecorded tells first happened s.journal last
+  pub begun : TellsOfRun s
+  pub said : (j : ℕ) → HasSaid k j (client_of j) (list_map item_of (own_in j turns))
 
-get_left : (xs ys : List Entry) (i : ℕ) (e : Entry) → slice_get xs i ≡ Some e → slice_get (xs ++ ys) i ≡ Some e
-get_left [] ys i e is = cc
-get_left (x ∷ xs) ys zero e is = is
-get_left (x ∷ xs) ys (suc i) e is = get_left xs ys i e is
-
-get_either : (xs ys : List Entry) (i : ℕ) (e : Entry) → slice_get (xs ++ ys) i ≡ Some e → (slice_get xs i ≡ Some e) ⊎ ((j : ℕ) × (slice_get ys j ≡ Some e))
-get_either [] ys i e is = inr (i, is)
-get_either (x ∷ xs) ys zero e is = inl is
-get_either (x ∷ xs) ys (suc i) e is = get_either xs ys i e is
-
-module _ (s : ServerLog) (h : Handed) (turns : List Turn) (calls ends : List Entry) (client_of : ℕ → Client) (g : IsSaid s h turns calls ends client_of) where
+module _ {V : Type 0} (s : ServerLog) (h : Handed) (turns : List Turn) (state : ServerState V) (client_of : ℕ → Client) (g : IsSaid s h turns state client_of) where
   abbrev log : Log
   log = single s h
 
   journal_is : journal_of log 1 ≡ s.journal
   journal_is = ap (λ (n : ℕ). journal_of log n) (sym g.server) ∙ ap (λ (y : ServerLog). y.journal) (of_self s h)
 
+  opening_is : (n : ℕ) → n ≡ s.opening.server → opening_of log n ≡ s.opening
+  opening_is n is = ap (λ (m : ℕ). opening_of log m) is ∙ ap (λ (y : ServerLog). y.opening) (of_self s h)
+
   member : (k : ℕ) (x : items.Item) → IsIn x (h k) → (y : Item) × IsIn y (own_in k turns) × (item_of y ≡ x)
   member k x i = map-in item_of x (own_in k turns) (subst (IsIn x) (g.handed k) i)
 
-  -- an item of a client, its place and what it sent
-  record IsPut (k : ℕ) (x : items.Item) : Type 0 where
-    at : ℕ
-    place : x.place ≡ Some at
-    of_entry : IsOfEntry log x at
+  -- an item of a client has no entry, or its own
+  abbrev IsPut : items.Item → Type 0
+  IsPut x = ((x.place ≡ None) × IsOfNone x.reply) ⊎ ((at : ℕ) × (x.place ≡ Some at) × IsOfEntry log x at)
 
-  put : (k : ℕ) (x : items.Item) → IsIn x (h k) → IsPut k x
+  call_sent : (y : Item) (client epoch number : ℕ) (c : Call) → y.sent ≡ sent.Call client epoch number c → (item_of y).sent ≡ Some (record { client = client; epoch = epoch; number = number; call = c })
+  call_sent y client epoch number c e = ap (λ (q : Sent). (item_of (record { line = 0; server = 0; mark = mark.Own; sent = q; reply = None; place = None })).sent) e
+
+  placed_item : (y : Item) → IsAside y ⊎ IsEntered g.first.place y s.journal → IsPut (item_of y)
+  placed_item y (inl a) = inl (a.place, a.none)
+  placed_item y (inr e) = inr (
+    e.at,
+    e.place ∙ ap Some (let zero_is : g.first.place ≡ 0 = g.at_first in let same : g.first.place + e.at ≡ e.at = omega (arith, zero_is) in same),
+    record {
+      entry = e.entry;
+      sent = record { client = e.client; epoch = e.epoch; number = e.number; call = e.asked };
+      stands = ap (λ (n : ℕ). slice_get (journal_of log n) e.at) e.server ∙ ap (λ (es : List Entry). slice_get es e.at) journal_is ∙ e.stands;
+      said = call_sent y e.client e.epoch e.number e.asked e.sent_is;
+      called = e.event_is;
+      handed = sym e.reply_is;
+    },
+  )
+
+  put : (k : ℕ) (x : items.Item) → IsIn x (h k) → IsPut x
   put k x i =
       let (y, there, is) = member k x i in
-      let e = entered g.epoch 0 (k, y) g.happened calls g.recorded (subst (IsIn {A = ℕ × Item} (k, y)) (sym g.sent) (own_sent k y turns there)) in
-      let r = e.records in
-      let made : item_of y ≡ record { server = 1; mark = mark_of y.mark; sent = Some (record { client = k; epoch = r.epoch; number = r.number; call = r.call }); reply = e.entry.reply; place = Some e.place } =
-      (λ j. record { server = r.server j; mark = mark_of y.mark; sent = sent_as y k r.epoch r.number r.call r.sent j; reply = sym r.reply j; place = (r.place ∙ ap Some (let at : 0 + e.place ≡ e.place = omega arith in at)) j }) in
-      subst (IsPut k) is (subst (IsPut k) (sym made) (record {
-        at = e.place;
-        place = refl;
-        of_entry = record {
-          entry = e.entry;
-          sent = record { client = k; epoch = r.epoch; number = r.number; call = r.call };
-          stands = ap (λ (es : List Entry). slice_get es e.place) (journal_is ∙ g.journal) ∙ get_left calls ends e.place e.entry e.stands;
-          said = refl;
-          called = r.event;
-          handed = refl;
-        };
-      }))
-    where
-      sent_as : (y : Item) (k epoch number : ℕ) (c : Call) → y.sent ≡ sent.Call k epoch number c → (item_of y).sent ≡ Some (record { client = k; epoch = epoch; number = number; call = c })
-      sent_as y k epoch number c e = ap (λ q. (item_of (record { line = 0; server = 0; mark = mark.Own; sent = q; reply = None; place = None })).sent) e
+      subst IsPut is (placed_item y (entered g.tells g.first g.happened s.journal g.last (k, y) g.recorded (subst (IsIn {A = ℕ × Item} (k, y)) (sym g.sent) (own_sent k y turns there))))
 
-  placed : (x : items.Item) (at : ℕ) → x.place ≡ Some at → IsOfEntry log x at → IsOfPlace log x x.place
-  placed x at is h = subst (IsOfPlace log x) (sym is) h
+  placed : (x : items.Item) → IsPut x → IsOfPlace log x x.place
+  placed x (inl (is, none)) = subst (IsOfPlace log x) (sym is) none
+  placed x (inr (at, is, e)) = subst (IsOfPlace log x) (sym is) e
 
   -- the entry of a call, on server 1, and the item of it
   abbrev HasItem : ServerLog → Type 0
@@ -330,22 +632,20 @@ module _ (s : ServerLog) (h : Handed) (turns : List Turn) (calls ends : List Ent
       → (y.opening.server ≡ 1) × ((owner : ℕ) × (x : items.Item) × IsIn x (h owner) × (x.server ≡ 1) × (x.place ≡ Some i))
 
   here : HasItem s
-  here client i epoch number c e at is = (
-    g.server,
-    elim (get_either calls ends i e (ap (λ (es : List Entry). slice_get es i) (sym g.journal) ∙ at)) [
-      | inl there ↦
-          let q = sent_there g.epoch 0 i e g.happened calls g.recorded there (client, epoch, number, c, is) in
-          let k : ℕ = q.item.0 in
-          let y : Item = q.item.1 in (
-            k,
-            item_of y,
-            subst (IsIn (item_of y)) (sym (g.handed k)) (in-map item_of y (own_in k turns) (sent_own k y turns (subst (IsIn {A = ℕ × Item} q.item) g.sent q.among))),
-            q.records.server,
-            q.records.place ∙ ap Some (let at : 0 + i ≡ i = omega arith in at),
-          )
-      | inr late ↦ absurd (g.quiet late.0 client epoch number c e late.1 is)
-    ],
-  )
+  here client i epoch number c e at is =
+      let q = sent_there g.tells g.first g.happened s.journal g.last i e g.recorded at (client, epoch, number, c, is) in
+      let k : ℕ = q.item.0 in
+      let y : Item = q.item.1 in
+      let zero_is : g.first.place ≡ 0 = g.at_first in (
+        g.server,
+        (
+          k,
+          item_of y,
+          subst (IsIn (item_of y)) (sym (g.handed k)) (in-map item_of y (own_in k turns) (sent_own k y turns (subst (IsIn {A = ℕ × Item} q.item) g.sent q.among))),
+          q.server,
+          q.place ∙ ap Some (let same : g.first.place + i ≡ i = omega (arith, zero_is) in same),
+        ),
+      )
 
   whole : (client n i epoch number : ℕ) (c : Call) (e : Entry) → slice_get (journal_of log n) i ≡ Some e → e.event ≡ event.Call client epoch number c
       → (owner : ℕ) × (x : items.Item) × IsIn x (log.handed owner) × (x.server ≡ n) × (x.place ≡ Some i)
@@ -354,25 +654,60 @@ module _ (s : ServerLog) (h : Handed) (turns : List Turn) (calls ends : List Ent
       let (owner, x, among, server, place) = item in
       (owner, x, among, server ∙ sym one ∙ opening-server log n, place)
 
-  numbered : (k : ℕ) → AreNumbered k 0 (h k)
-  numbered k = subst (AreNumbered k 0) (sym (g.handed k)) (g.said k).numbered
+  numbered : (k : ℕ) → AreNumbered k none_come (h k)
+  numbered k = subst (AreNumbered k none_come) (sym (g.handed k)) (g.said k).numbered
 
   rising : (k : ℕ) → AreRising 0 (h k)
-  rising k = subst (AreRising 0) (sym (g.handed k)) (rises k turns 0 (subst (AreSentRising 0) g.sent (sent_rises g.epoch 0 g.happened calls g.recorded)))
+  rising k = subst (AreRising 0) (sym (g.handed k)) (rises k turns 0 (subst (λ (n : ℕ). AreSentRising n (sent_in turns)) g.at_first (subst (AreSentRising g.first.place) g.sent (sent_rises g.tells g.first g.happened s.journal g.last g.recorded))))
 
-  no_earlier : (client owner : ℕ) (x y : items.Item) → IsIn x (h client) → IsIn y (h owner) → IsOwn x.mark → IsBefore x y → ⊥
-  no_earlier client owner x y i j own before =
-      let mine : before.later.client ≡ client = client_in client 0 (h client) x before.later (numbered client) i before.later_sent in
-      let other : before.earlier.client ≡ owner = client_in owner 0 (h owner) y before.earlier (numbered owner) j before.earlier_sent in
-      let whose : owner ≡ client = sym other ∙ before.client ∙ mine in
-      own_number client 0 0 (h client) x y before.later before.earlier before.here before.there (numbered client) (rising client) i (subst (λ (k : ℕ). IsIn y (h k)) whose j) own before.later_sent before.earlier_sent
-      before.later_place before.earlier_place before.order (sym before.number)
+  fresh : (client owner : ℕ) (x y : items.Item) → IsIn x (h client) → IsIn y (h owner) → IsOwn x.mark → IsBefore x y → IsRaw y.mark
+  fresh client owner x y i j own before = elim (raw_or y.mark) [
+    | inl raw ↦ raw
+    | inr counted ↦
+        let mine : before.later.client ≡ client = client_in client none_come (h client) x before.later (numbered client) i (own_counted x.mark own) before.later_sent in
+        let other : before.earlier.client ≡ owner = client_in owner none_come (h owner) y before.earlier (numbered owner) j counted before.earlier_sent in
+        let whose : owner ≡ client = sym other ∙ before.client ∙ mine in
+        absurd (own_number client none_come 0 (h client) x y before.later before.earlier before.here before.there (numbered client) (rising client) i (subst (λ (k : ℕ). IsIn y (h k)) whose j) own counted before.later_sent before.earlier_sent
+        before.later_place before.earlier_place before.order before.epoch before.number before.no_greeting)
+  ]
+
+  -- a transaction that a client was told of is of this run
+  of_run : (client : ℕ) (t : TransId) → IsToldOf t (list_map item_of (own_in client turns)) → (opening_of log t.server).epoch ≤ t.epoch
+  of_run client t told = go (put client tells_it.item (subst (IsIn tells_it.item) (sym (g.handed client)) tells_it.among))
+    where
+      tells_it : IsTelling t (list_map item_of (own_in client turns))
+      tells_it = telling t (list_map item_of (own_in client turns)) told
+
+      of_item : (y : Item) → IsAside y ⊎ IsEntered g.first.place y s.journal → y.server ≡ 1
+      of_item y (inl a) = a.server
+      of_item y (inr b) = b.server
+
+      the_server : (k : ℕ) (x : items.Item) → IsIn x (h k) → x.server ≡ 1
+      the_server k x i =
+          let (y, there, is) = member k x i in
+          sym (ap (λ (z : items.Item). z.server) is)
+          ∙ of_item y (entered g.tells g.first g.happened s.journal g.last (k, y) g.recorded (subst (IsIn {A = ℕ × Item} (k, y)) (sym g.sent) (own_sent k y turns there)))
+
+      go : IsPut tells_it.item → (opening_of log t.server).epoch ≤ t.epoch
+      go (inl (is, none)) = absurd (not_begun tells_it.item.reply t none tells_it.begun)
+      go (inr (at, is, e)) = by_entry at e
+        where
+          by_entry : (at : ℕ) → IsOfEntry log tells_it.item at → (opening_of log t.server).epoch ≤ t.epoch
+          by_entry at e =
+              let server : tells_it.item.server ≡ 1 = the_server client tells_it.item (subst (IsIn tells_it.item) (sym (g.handed client)) tells_it.among) in
+              let stands : slice_get s.journal at ≡ Some e.entry = ap (λ (es : List Entry). slice_get es at) (sym (ap (λ (n : ℕ). journal_of log n) server ∙ journal_is)) ∙ e.stands in
+              let young : (t.server ≡ s.opening.server) × (s.opening.epoch ≤ t.epoch) = g.begun at e.entry t stands (sym e.handed ∙ tells_it.begun) in
+              let epoch : (opening_of log t.server).epoch ≡ s.opening.epoch = ap (λ o. o.epoch) (opening_is t.server young.0) in
+              let low : s.opening.epoch ≤ t.epoch = young.1 in
+              omega (arith, epoch, low)
 
   pub of_clients : AreOfClients log
   of_clients = record {
-    replies = λ client x i. (let p = put client x i in placed x p.at p.place p.of_entry);
+    replies = λ client x i. placed x (put client x i);
     whole = whole;
-    fresh = λ client owner x y i j own before. absurd (no_earlier client owner x y i j own before);
+    fresh = fresh;
     seen = λ client. subst (HaveSeen []) (sym (g.handed client)) (g.said client).seen;
-    outcomes = λ client x i. run_of log x.mark x.sent (in_all AsksNoOutcome (h client) x (subst (AllByRecursion AsksNoOutcome) (sym (g.handed client)) (g.said client).outcomes) i);
+    outcomes = λ client x i.
+        run_of log (list_map item_of (own_in client turns)) x.mark x.sent (of_run client)
+        (in_all (λ (y : items.Item). SentOfTold (list_map item_of (own_in client turns)) y.mark y.sent) (list_map item_of (own_in client turns)) x (g.said client).outcomes (subst (IsIn x) (g.handed client) i));
   }

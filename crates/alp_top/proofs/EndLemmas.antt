@@ -1,26 +1,19 @@
 -- a run that is over: what it holds, and what it printed
-use Rattle.std.specs.Prelude.{Option, Some, Vec, sum, flat_map, map as list_map, IsTrue}
+use Rattle.std.specs.Prelude.{Vec, true, false, Bool, sum, flat_map, map as list_map, IsTrue, IfOk, Result, Ok, Err, Option, None, Some}
 use Rattle.std.specs.Global.{Global}
-use Rattle.std.proofs.lemmas.List.{map-append}
-use Rattle.std.proofs.Common.{◌≡◌, arith, ℕ, zero, suc, ◌+◌, ◌-◌, ◌≤◌, List, [], ◌∷◌, ◌++◌, length, length-append, refl, sym, ◌∙◌, ap, subst, append_assoc, append-nil, slice_get}
-use Rattle.alp_base.specs.declared.ids.TransId.{TransId}
-use Rattle.alp_files.specs.declared.reply.Reply.{Reply}
-use Rattle.alp_files.specs.declared.call.Call.{Call}
-use Rattle.alp_journal.specs.declared.entry.Entry.{Entry}
-use Rattle.alp_journal.specs.declared.event.Event.{Event}
-use Rattle.alp_journal.specs.declared.event.Event.TheVariants as event
-use Rattle.alp_journal.specs.declared.log.Item.{Item}
+use Rattle.std.proofs.Common.{◌≡◌, arith, ℕ, ◌-◌, List, [], ◌∷◌, ◌++◌, length, refl, sym, ◌∙◌, ap, subst, append_assoc, append-nil}
+use Rattle.std.specs.FinMap as map
+use Rattle.alp_files.specs.Apart.{AreSized}
+use Rattle.alp_files.specs.Sound.{AreSound}
 use Rattle.alp_journal.specs.Along.{Along, state_after}
 use Rattle.alp_journal.specs.Alone.{alone, AreOwnEvents}
-use Rattle.alp_journal.specs.Answered.{entries_limit}
 use Rattle.alp_journal.specs.Laws.{IsLawful}
 use Rattle.alp_journal.specs.Moves.{next}
 use Rattle.alp_journal.specs.Opening.{Start}
 use Rattle.alp_journal.specs.Opening as node_opening
-use Rattle.alp_files.specs.Sound.{AreSound}
-use Rattle.alp_files.specs.Apart.{AreSized}
-use Rattle.std.specs.FinMap as map
 use Rattle.alp_journal.specs.State.{State, opened}
+use Rattle.alp_journal.specs.declared.entry.Entry.{Entry}
+use Rattle.alp_journal.specs.declared.log.Item.{Item}
 use Rattle.alp_history.specs.Log as logs
 use Rattle.alp_history.specs.Log.{decided}
 use Rattle.alp_history.specs.Theorems.{IsProper}
@@ -33,92 +26,70 @@ use Rattle.alp_history.specs.RunLogs.{item_of}
 use Rattle.alp_report.specs.Reports.{count_text, summary_text}
 use Rattle.alp_script.specs.declared.numbered.NumberedLine.{NumberedLine}
 use Rattle.alp_script.specs.Accepted.{RisesFrom}
-use Rattle.alp_session.specs.Crowd.{Crowd}
 use Rattle.alp_session.specs.Crowds.{client_at, new_crowd}
-use Rattle.alp_node.specs.Nodes as node
-use Rattle.alp_node.specs.Nodes.{AreLive, start_in}
-use Rattle.alp_node.specs.ServerState.{trans_to}
-use Rattle.alp_top.specs.Logs.{Log, ServerOfLog, openings, start_of, log_of, lists_of}
-use Rattle.alp_top.specs.Turns.{Turn, lists_in, own_in, turns_of, turns_text}
-use Rattle.alp_top.specs.Plays.{AreRecorded, Plays, ranks_from}
-use Rattle.alp_vault.specs.declared.vault.Vault.{Ghosts}
+use Rattle.alp_node.specs.Downs.{IsLeftOf, start_of as start_down}
 use Rattle.alp_node.specs.Durable.{said_of}
+use Rattle.alp_node.specs.Nodes as node
+use Rattle.alp_node.specs.Nodes.{start_in}
+use Rattle.alp_node.specs.DownStates.{DownState}
 use Rattle.alp_node.specs.NodeStates.{NodeState}
-use Rattle.alp_top.specs.Endings.{IsServerLog, IsSummaryOf, IsEnded}
-use Rattle.alp_top.specs.Servers.{IsOn, IsDone, HasStepped, state_of}
-use Rattle.alp_top.specs.Runs.{HasPlayed, HasPlayedOut, HasTimedOut, IsAtEnd}
-use Rattle.alp_top.specs.Reports.{report_of, ending_text, end_of, files_text_of, owners_text_of, begun_at, counts_text}
-use Rattle.alp_top.specs.Headline.{IsRun, IsOfScript}
+use Rattle.alp_node.specs.declared.start.StartFault.TheVariants as start_fault
+use Rattle.alp_vault.specs.Contents.{Contents}
+use Rattle.alp_vault.specs.declared.vault.Vault.{Ghosts}
+use Rattle.alp_cluster.specs.Ends.{IsServerOf}
+use Rattle.alp_cluster.specs.Happens.{first_stand, AreRecorded}
+use Rattle.alp_cluster.specs.Standings.{playing, HasVault, EndsAt}
+use Rattle.alp_cluster.specs.declared.cluster.Server.{Server}
+use Rattle.alp_cluster.specs.declared.cluster.Server.TheVariants.{Up, Fallen}
+use Rattle.alp_cluster.specs.declared.fault.RunFault.{RunFault}
+use Rattle.alp_cluster.specs.declared.fault.RunFault.TheVariants as fault
+use Rattle.alp_cluster.specs.declared.parties.Parties.{Parties}
+use Rattle.alp_cluster.specs.declared.standing.Standing.{Standing}
+use Rattle.alp_cluster.specs.declared.standing.Standing.TheVariants as standing
+use Rattle.alp_cluster.specs.declared.standing.Standing.TheVariants.{Playing}
+use Rattle.alp_cluster.specs.Plays.{ArePlayed, ranks_from}
+use Rattle.alp_cluster.specs.Runs.{HasPlayedOut}
+use Rattle.alp_cluster.specs.Servers.{IsOn, IsDone, StaysDown, state_of, stand_of}
+use Rattle.alp_cluster.specs.Turns.{Turn, lists_in, own_in, turns_of, turns_text}
+use Rattle.alp_cluster.proofs.RunLemmas.{turns_are, played_sent}
 use Rattle.alp_top.specs.Anywhere.{IsPlayedThrough}
+use Rattle.alp_top.specs.Endings.{IsEnding, IsServerLog, IsReported, IsEnded, IsVaultOf, IsVaultAt}
+use Rattle.alp_top.specs.Looks.{HasLooked}
+use Rattle.alp_top.specs.Headline.{IsRun, IsOfScript}
+use Rattle.alp_top.specs.Logs.{Log, ServerOfLog, openings, start_of, log_of, lists_of}
+use Rattle.alp_top.specs.Reports.{report_of, ending_text, end_of, files_text_of, owners_text_of, begun_at, counts_text}
+use Rattle.alp_top.specs.Tallies.{tally_in}
 use Rattle.alp_top.specs.declared.finish.Ending.{Ending}
-use Rattle.alp_top.proofs.RunLemmas.{turns_are, plays_sent}
-use Rattle.alp_top.proofs.SingleLemmas.{single, IsSingle, proper, decided_many}
+use Rattle.alp_top.proofs.BegunLemmas.{begun_of_run}
 use Rattle.alp_top.proofs.ClientLemmas.{IsSaid, of_clients}
-
--- ---- timeouts
-
--- one transaction more took too long
-pub one_more_out : {V : Type 0} (G : Ghosts V) (before : NodeState V) (calls : List Entry) (live : List TransId) (n m : NodeState V) (t : TransId) (r : Option Reply) → HasTimedOut G before calls live n → HasStepped G n m (event.Timeout t) r
-    → HasTimedOut G before calls (live ++ t ∷ []) m
-one_more_out G before calls live n m t r h went =
-    let e : Entry = record { event = event.Timeout t; reply = r; acts = went.acts } in
-    record {
-      on = went.on;
-      opening = went.opening ∙ h.opening;
-      start = went.start ∙ h.start;
-      epoch = went.epoch ∙ h.epoch;
-      ends = h.ends ++ e ∷ [];
-      journal = went.journal ∙ ap (λ (js : List Entry). js ++ e ∷ []) h.journal ∙ append_assoc calls h.ends (e ∷ []);
-      ended =
-          map-append (λ (x : Entry). x.event) h.ends (e ∷ []) ∙ ap (λ (vs : List Event). vs ++ event.Timeout t ∷ []) h.ended
-          ∙ sym (map-append event.Timeout live (t ∷ []));
-    }
-
-pub one_longer : (xs ys : List Entry) (e : Entry) → ys ≡ xs ++ e ∷ [] → length ys ≡ length xs + 1
-one_longer xs ys e is = ap (λ (js : List Entry). length js) is ∙ length-append xs (e ∷ [])
-
--- no call stands among them
-pub no_call : (es : List Entry) (ts : List TransId) → list_map (λ (e : Entry). e.event) es ≡ list_map event.Timeout ts
-    → (i client epoch number : ℕ) (c : Call) (e : Entry) → slice_get es i ≡ Some e → e.event ≡ event.Call client epoch number c → ⊥
-no_call [] ts h i client epoch number c e at is = cc
-no_call (x ∷ es) [] h i client epoch number c e at is = cc
-no_call (x ∷ es) (t ∷ ts) h zero client epoch number c e at is =
-    let over : x.event ≡ event.Timeout t = cc in
-    let same : x ≡ e = cc in
-    let wrong : event.Timeout t ≡ event.Call client epoch number c = sym over ∙ ap (λ (y : Entry). y.event) same ∙ is in cc
-no_call (x ∷ es) (t ∷ ts) h (suc i) client epoch number c e at is =
-    let rest : list_map (λ (y : Entry). y.event) es ≡ list_map event.Timeout ts = cc in
-    no_call es ts rest i client epoch number c e at is
+use Rattle.alp_top.proofs.SingleLemmas.{single, IsSingle, proper, decided_many}
+use Rattle.alp_top.proofs.TallyLemmas.{tally_is}
 
 -- ---- the summary
 
-trans_long : (server epoch n : ℕ) → length (trans_to server epoch n) ≡ n
-trans_long server epoch zero = refl
-trans_long server epoch (suc n) =
-    let rest : length (trans_to server epoch n) ≡ n = trans_long server epoch n in
-    length-append (trans_to server epoch n) ((record { server = server; epoch = epoch; counter = suc n }) ∷ []) ∙ omega (arith, rest)
-
-module _ {V : Type 0} (G : Ghosts V) (n : NodeState V) (on : IsOn G n) (told : IsTrue (G.tells n.kept.vault)) where
+module _ {V : Type 0} (G : Ghosts V) (n : NodeState V) (on : IsOn G n) (up : n.kept.is_down ≡ false) (told : IsTrue (G.tells n.kept.vault)) where
   of_journal : node.IsRight (start_in G n) (G.held n.kept.vault) n
   of_journal = on.kept.right told
 
   -- what the server keeps is what is printed of its journal's state
-  pub ending_is : summary_text n.kept.server n.kept.epoch n.kept.clock (G.held n.kept.vault).cells n.kept.committed (n.kept.drawn - n.kept.committed) ≡ ending_text (state_of G n)
+  pub ending_is : (e : Ending) → IsEnding n e → summary_text e.server e.epoch e.clock (G.held n.kept.vault).cells e.committed e.aborted ≡ ending_text (state_of G n)
   unfolding ending_text
-  ending_is =
+  ending_is e is =
       let r = of_journal in
       let k = r.kept in
       let s : State = alone r.state in
-      let committed : n.kept.committed ≡ length s.holder.applied = sym k.committed in
-      let begun : n.kept.drawn ≡ length s.begun = sym (ap (length {A = TransId}) k.begun ∙ trans_long r.state.holder.server r.state.ids.epoch n.kept.drawn) in
-      (λ i. summary_text (sym k.server i) (sym k.epoch i) (sym k.clock i) (k.cells on.up i) (committed i) (begun i - committed i))
+      let counts = tally_is (start_in G n) n.journal refl refl r.lawful r.own r.caused.1 in
+      let begun : (tally_in n.journal).begun ≡ length s.begun = counts.0 ∙ ap (λ (z : State). length z.begun) r.says in
+      let committed : (tally_in n.journal).committed ≡ length s.holder.applied = counts.1 ∙ ap (λ (z : State). length z.holder.applied) r.says in
+      (λ i. summary_text ((is.server ∙ sym k.server) i) ((is.epoch ∙ sym k.epoch) i) ((is.clock ∙ sym k.clock) i) (k.cells up i) ((is.committed ∙ committed) i)
+      ((is.aborted ∙ (λ j. begun j - committed j)) i))
       ∙ ap (λ (z : State). summary_text z.holder.server z.ids.epoch z.holder.clock z.holder.cells (length z.holder.applied) (length z.begun - length z.holder.applied)) (sym r.says)
 
   -- its vault holds what its journal says
   pub held_is : G.held n.kept.vault ≡ said_of (state_of G n)
   held_is =
       let k = of_journal.kept in
-      (λ i. record { cells = k.cells on.up i; notes = k.notes on.up i }) ∙ ap said_of (sym of_journal.says)
+      (λ i. record { cells = k.cells up i; notes = k.notes up i }) ∙ ap said_of (sym of_journal.says)
 
 -- ---- the log
 
@@ -148,37 +119,24 @@ module _ {V : Type 0} (G : Ghosts V) where
 
 -- ---- a run that is over
 
-module _ {V : Type 0} (G : Ghosts V) (lines : List NumberedLine) (first n : NodeState V) (c : Crowd) (vs : List (Vec Item Global)) (text : List ℕ) (log : Log V) (server : ℕ) (rises : RisesFrom 1 lines)
-    (out : HasPlayedOut G lines first n c vs text) (number : server ≡ n.kept.server) (servers : IsServerLog server n.opening n.journal log.servers.items) (lists : log.clients.items ≡ vs) where
-  abbrev calls : List Entry
-  calls = out.before.journal
-
-  abbrev h : HasPlayed G lines c out.before vs text
-  h = out.played
-
-  abbrev end : IsAtEnd G out.before n
-  end = out.ended
+module _ {V : Type 0} (G : Ghosts V) (lines : List NumberedLine) (n : NodeState V) (vs : List (Vec Item Global)) (text printed : List ℕ) (log : Log V) (rises : RisesFrom 1 lines) (out : HasPlayedOut G lines n vs text) (is : IsReported G n vs text log printed) where
+  abbrev servers : IsServerLog is.ending.server n.opening n.journal log.servers.items
+  servers = is.servers
 
   abbrev x : ServerOfLog V
-  x = servers.log
-
-  abbrev turns : List Turn
-  turns = h.turns
-
-  on : IsOn G n
-  on = end.ended.on
+  x = is.servers.log
 
   x_number : x.server ≡ n.kept.server
-  x_number = servers.number ∙ number
+  x_number = servers.number ∙ is.is.server
 
   same : start_of G x ≡ start_in G n
-  same = (λ i. node_opening.start_at (x_number i) (sym on.alone i) (G.volume (servers.opened i).vault.value) (G.held (servers.opened i).vault.value).cells (G.held (servers.opened i).vault.value).notes)
+  same = (λ i. node_opening.start_at (x_number i) (sym out.on.alone i) (G.volume (servers.opened i).vault.value) (G.held (servers.opened i).vault.value).cells (G.held (servers.opened i).vault.value).notes)
 
-  lists_are : (k : ℕ) → lists_of G log k ≡ own_in k turns
-  lists_are k = ap (λ (ws : List (Vec Item Global)). lists_in ws k) lists ∙ h.lists k
+  lists_are : (k : ℕ) → lists_of G log k ≡ own_in k out.turns
+  lists_are k = ap (λ (ws : List (Vec Item Global)). lists_in ws k) is.lists_are ∙ out.lists k
 
-  turns_same : turns ≡ turns_of lines (lists_of G log)
-  turns_same = turns_are new_crowd c lines turns h.happened (lists_of G log) rises h.plays lists_are
+  turns_same : out.turns ≡ turns_of lines (lists_of G log)
+  turns_same = turns_are new_crowd out.played.clients lines out.turns out.played.by_lines (lists_of G log) rises out.played.plays lists_are
 
   ends_at : end_of G 1 x ≡ state_of G n
   ends_at = (λ i. state_after next (opened (same i)) (servers.entries i))
@@ -186,93 +144,89 @@ module _ {V : Type 0} (G : Ghosts V) (lines : List NumberedLine) (first n : Node
   abbrev as_read : logs.ServerLog
   as_read = runs.server_log (openings G) 1 x
 
-  journal : x.journal ≡ n.journal
-  journal = servers.entries
-
-  epoch_is : out.before.kept.epoch ≡ (start_of G x).epoch
-  epoch_is = out.epoch ∙ sym (ap (λ (o : Start). o.epoch) same)
-
   -- what was sent and handed, whatever the vault tells
-  of_script : IsOfScript G lines log x
-  of_script = record {
-    clients = c;
-    calls = calls;
-    ends = end.ended.ends;
-    live = end.live;
-    happened = h.happened;
-    plays = subst (λ (ts : List Turn). Plays new_crowd lines ts h.happened c) turns_same h.plays;
+  of_script_by : (b : Bool) → G.tells n.kept.vault ≡ b → IsOfScript G b lines log x
+  of_script_by b tells = record {
+    happened = out.hs;
+    played = subst (λ (ts : List Turn). ArePlayed lines ts out.hs) turns_same out.played;
     all = λ k. lists_are k ∙ ap (own_in k) turns_same;
-    many = ap (λ (ws : List (Vec Item Global)). length ws) lists ∙ h.places;
-    journal = journal ∙ end.ended.journal;
-    recorded = subst (λ (here : ℕ). AreRecorded here 0 h.happened calls) epoch_is h.recorded;
-    short = (let long : length x.journal ≡ length n.journal = ap (λ (js : List Entry). length js) journal in let most : length n.journal ≤ entries_limit = on.short in omega (arith, long, most));
-    ended = end.ended.ended;
-    ranks = servers.ranks ∙ ap (ranks_from 1) (sym journal);
+    many = ap (λ (ws : List (Vec Item Global)). length ws) is.lists_are ∙ out.places;
+    last = stand_of G false n;
+    recorded =
+        subst (λ (c : Bool). AreRecorded c (first_stand (start_of G x)) out.hs x.journal (stand_of G false n)) tells
+        (subst (λ (o : Start). AreRecorded (G.tells n.kept.vault) (first_stand o) out.hs x.journal (stand_of G false n)) (sym same)
+        (subst (λ (js : List Entry). AreRecorded (G.tells n.kept.vault) (first_stand (start_in G n)) out.hs js (stand_of G false n)) (sym servers.entries) out.recorded));
+    up = out.up;
+    ranks = servers.ranks ∙ ap (ranks_from 1) (sym servers.entries);
   }
 
   -- and what is printed of it
-  pub played_through : (e : Ending) (more printed : List ℕ) → e.server ≡ server → e.epoch ≡ n.kept.epoch → IsSummaryOf e more → printed ≡ text ++ more → IsPlayedThrough G lines log printed
-  unfolding of_script
-  played_through e more printed is_server is_epoch s is = record {
+  pub played_through : IsPlayedThrough G lines log printed
+  unfolding of_script_by
+  played_through = record {
     server = x;
     one = servers.one;
-    number = x_number ∙ on.first;
-    script = of_script;
-    summary = s.summary;
-    of_server = s.server ∙ is_server ∙ number ∙ on.first;
-    epoch = s.epoch ∙ is_epoch ∙ end.ended.epoch ∙ epoch_is;
-    report = is ∙ (λ i. (h.text ∙ ap turns_text turns_same) i ++ s.text_is i);
+    number = x_number ∙ out.on.first;
+    tells = G.tells n.kept.vault;
+    script = of_script_by (G.tells n.kept.vault) refl;
+    summary = is.summary.summary;
+    of_server = is.summary.server ∙ is.is.server ∙ out.on.first;
+    epoch = is.summary.epoch ∙ is.is.epoch;
+    committed = is.summary.committed ∙ is.is.committed ∙ ap (λ (js : List Entry). (tally_in js).committed) (sym servers.entries);
+    aborted = is.summary.aborted ∙ is.is.aborted ∙ ap (λ (js : List Entry). (tally_in js).begun - (tally_in js).committed) (sym servers.entries);
+    report = is.printed ∙ (λ i. (out.text ∙ ap turns_text turns_same) i ++ is.summary.text_is i);
   }
 
   module _ (told : IsTrue (G.tells n.kept.vault)) where
     right : node.IsRight (start_in G n) (G.held n.kept.vault) n
-    right = on.kept.right told
+    right = out.on.kept.right told
 
     is_single : IsSingle as_read
     is_single = record {
-      few = (let servers : (start_of G x).servers ≡ 1 = refl in omega (arith, servers));
+      few = (let one : (start_of G x).servers ≡ 1 = refl in omega (arith, one));
       files = subst (λ (o : Start). AreSound o.cells) (sym same) right.opening.files;
       sizes = subst (λ (o : Start). AreSized (map.get o.cells)) (sym same) right.opening.sizes;
       ready = refl;
       decisions = refl;
-      lawful = subst (λ (o : Start). IsLawful o x.journal) (sym same) (subst (IsLawful (start_in G n)) (sym journal) right.lawful);
-      own = subst AreOwnEvents (sym journal) right.own;
-      ranks = servers.ranks ∙ ap (ranks_from 1) (sym journal);
+      lawful = subst (λ (o : Start). IsLawful o x.journal) (sym same) (subst (IsLawful (start_in G n)) (sym servers.entries) right.lawful);
+      own = subst AreOwnEvents (sym servers.entries) right.own;
+      ranks = servers.ranks ∙ ap (ranks_from 1) (sym servers.entries);
       state = right.state;
       says = ends_at ∙ right.says;
     }
 
-    is_said : IsSaid as_read (runs.handed_of (lists_of G log)) turns calls end.ended.ends (client_at c)
+    is_said : IsSaid as_read (runs.handed_of (lists_of G log)) out.turns n.kept (client_at out.played.clients)
     is_said = record {
-      server = x_number ∙ on.first;
-      journal = journal ∙ end.ended.journal;
-      epoch = out.before.kept.epoch;
-      quiet = no_call end.ended.ends end.live end.ended.ended;
+      server = x_number ∙ out.on.first;
       handed = λ k. ap (list_map item_of) (lists_are k);
-      happened = h.happened;
-      sent = plays_sent new_crowd c lines turns h.happened h.plays;
-      recorded = h.recorded;
-      said = h.said;
+      tells = G.tells n.kept.vault;
+      first = first_stand (start_in G n);
+      at_first = refl;
+      happened = out.hs;
+      last = stand_of G false n;
+      sent = played_sent lines out.turns out.hs out.played;
+      recorded = subst (λ (js : List Entry). AreRecorded (G.tells n.kept.vault) (first_stand (start_in G n)) out.hs js (stand_of G false n)) (sym servers.entries) out.recorded;
+      begun = begun_of_run as_read.opening as_read.journal is_single.lawful;
+      said = out.said;
     }
 
     log_single : log_of G log ≡ single as_read (runs.handed_of (lists_of G log))
     log_single = log_is G log x servers.one
 
     run : IsRun G lines log
-    unfolding of_script
     run =
         let proper_log : IsProper (log_of G log) = subst IsProper (sym log_single) (proper as_read (runs.handed_of (lists_of G log)) is_single) in
-        let clients : AreOfClients (log_of G log) = subst AreOfClients (sym log_single) (of_clients as_read (runs.handed_of (lists_of G log)) turns calls end.ended.ends (client_at c) is_said) in
+        let clients : AreOfClients (log_of G log) = subst AreOfClients (sym log_single) (of_clients as_read (runs.handed_of (lists_of G log)) out.turns n.kept (client_at out.played.clients) is_said) in
         record {
           server = x;
           one = servers.one;
-          number = x_number ∙ on.first;
+          number = x_number ∙ out.on.first;
           faithful = record {
-            script = of_script;
+            script = of_script_by true told;
             lawful = is_single.lawful;
-            left = subst (λ (o : Start). AreLive (state_after next (opened o) calls) end.live) (sym (same ∙ end.ended.start)) (end.left told);
+            caused = subst (λ (o : Start). Along next IsDone (opened o) x.journal) (sym same) (subst (λ (js : List Entry). Along next IsDone (opened (start_in G n)) js) (sym servers.entries) (out.on.answered told));
+            rests = λ t. ap (λ (s : State). s.holder.lives t) ends_at ∙ out.rests told t;
           };
-          caused = subst (λ (o : Start). Along next IsDone (opened o) x.journal) (sym same) (subst (λ (js : List Entry). Along next IsDone (opened (start_in G n)) js) (sym journal) (on.answered told));
           serial = history (log_of G log) proper_log;
           whole = wholeness (log_of G log) proper_log;
           kept = promises (log_of G log) proper_log clients;
@@ -282,15 +236,87 @@ module _ {V : Type 0} (G : Ghosts V) (lines : List NumberedLine) (first n : Node
     report =
         let many : length (decided (log_of G log)) ≡ length (state_of G n).holder.applied =
         ap (λ (l : logs.Log). length (decided l)) log_single ∙ decided_many as_read (runs.handed_of (lists_of G log)) is_single ∙ ap (λ (s : State). length s.holder.applied) ends_at in
-        ap (λ (ts : List ℕ). ts ++ ending_text (state_of G n)) (h.text ∙ ap turns_text turns_same) ∙ report_is G lines log x (state_of G n) (length (decided (log_of G log))) servers.one ends_at refl many
+        ap (λ (ts : List ℕ). ts ++ ending_text (state_of G n)) (out.text ∙ ap turns_text turns_same) ∙ report_is G lines log x (state_of G n) (length (decided (log_of G log))) servers.one ends_at refl many
 
     -- what is printed is the report, and the vault holds what the journal says
-    pub run_over : (v : V) (printed : List ℕ) → printed ≡ text ++ ending_text (state_of G n) → IsTrue (G.serves v) → G.held v ≡ G.held n.kept.vault → IsEnded G lines first v log printed
+    pub run_over : (first : NodeState V) → n.opening ≡ first.opening → (v : V) → IsTrue (G.serves v) → G.held v ≡ G.held n.kept.vault → IsEnded G lines first v log printed
     unfolding run
-    run_over v printed is serves held = record {
+    run_over first opening v serves held = record {
       run = run;
-      report = is ∙ report;
-      opening = servers.opened ∙ out.opening;
+      report = is.told told ∙ ap (λ (ts : List ℕ). text ++ ts) (ending_is G n out.on out.up told is.ending is.is) ∙ report;
+      opening = servers.opened ∙ opening;
       serves = serves;
-      held = held ∙ held_is G n on told ∙ ap said_of (sym ends_at);
+      held = held ∙ held_is G n out.on out.up told ∙ ap said_of (sym ends_at);
     }
+
+-- ---- the end of a run, whatever it came to
+
+module _ {V E : Type 0} (G : Ghosts V) (lines : List NumberedLine) (n : NodeState V) (vs : List (Vec Item Global)) (text : List ℕ) (log_in : E → Log V) (text_in : E → List ℕ) (rises : RisesFrom 1 lines) (out : HasPlayedOut G lines n vs text) where
+  pub through_all : (r : Result E RunFault) → IfOk r (λ e. IsReported G n vs text (log_in e) (text_in e)) → IfOk r (λ e. IsPlayedThrough G lines (log_in e) (text_in e))
+  through_all (Ok e) is = played_through G lines n vs text (text_in e) (log_in e) rises out is
+  through_all (Err f) is = tt
+
+  pub ended_all : (first : NodeState V) (v : V) (r : Result E RunFault) → IsTrue (G.tells n.kept.vault) → n.opening ≡ first.opening → HasLooked G n.kept.vault v r → IfOk r (λ e. IsReported G n vs text (log_in e) (text_in e))
+      → IfOk r (λ e. IsEnded G lines first v (log_in e) (text_in e))
+  ended_all first v (Ok e) told opening looked is = run_over G lines n vs text (text_in e) (log_in e) rises out is told first opening v looked.serves looked.held
+  ended_all first v (Err f) told opening looked is = tt
+
+-- ---- the vault of a cluster's server
+
+pub vault_same : {V : Type 0} (s : Option (Standing V)) (x : Server V) (v w : V) → IsServerOf s x → HasVault s v → IsVaultOf x w → w ≡ v
+vault_same (Some (Playing p)) (Up n) v w of has is = is ∙ ap (λ (m : NodeState _). m.kept.vault) of ∙ sym has
+vault_same (Some (Playing p)) (Fallen d) v w of has is = absurd of
+vault_same (Some (standing.Fallen d)) (Up n) v w of has is = absurd of
+vault_same (Some (standing.Fallen d)) (Fallen e) v w of has is = is ∙ ap (λ (m : DownState _). m.vault) of ∙ sym has
+vault_same None x v w of has is = absurd of
+
+-- the parties play, so their server is up
+pub up_server : {V : Type 0} (s : Option (Standing V)) (q : Parties V) (x : Server V) → s ≡ playing q → IsServerOf s x → x ≡ Up q.node
+up_server s q x is of = go x (subst (λ (z : Option (Standing _)). IsServerOf z x) is of)
+  where
+    go : (y : Server _) → IsServerOf (playing q) y → y ≡ Up q.node
+    go (Up n) e = ap Up e
+    go (Fallen d) e = absurd e
+
+node_in : {V : Type 0} → NodeState V → Server V → NodeState V
+node_in d (Up n) = n
+node_in d (Fallen e) = d
+
+-- and is this one
+pub node_same : {V : Type 0} (s : Option (Standing V)) (q : Parties V) (x : Server V) (n : NodeState V) → s ≡ playing q → IsServerOf s x → x ≡ Up n → q.node ≡ n
+unfolding node_in
+node_same s q x n at of is = ap (node_in n) (sym (up_server s q x at of) ∙ is)
+
+vault_up : {V : Type 0} (q : Parties V) (x : Server V) (w : V) → x ≡ Up q.node → IsVaultOf x w → w ≡ q.node.kept.vault
+vault_up q x w is of = subst (λ (y : Server _). IsVaultOf y w) is of
+
+-- it fell
+down_server : {V : Type 0} (s : Option (Standing V)) (d : DownState V) (x : Server V) → s ≡ Some (standing.Fallen d) → IsServerOf s x → x ≡ Fallen d
+down_server s d x is of = go x (subst (λ (z : Option (Standing _)). IsServerOf z x) is of)
+  where
+    go : (y : Server _) → IsServerOf (Some (standing.Fallen d)) y → y ≡ Fallen d
+    go (Up n) e = absurd e
+    go (Fallen e) same = ap Fallen same
+
+vault_down : {V : Type 0} (d : DownState V) (x : Server V) (w : V) → x ≡ Fallen d → IsVaultOf x w → w ≡ d.vault
+vault_down d x w is of = subst (λ (y : Server _). IsVaultOf y w) is of
+
+module _ {V : Type 0} (G : Ghosts V) where
+  -- what a crash leaves of a server that has come to its last epoch
+  left_down : (n : NodeState V) (d : DownState V) (pick : ℕ) → StaysDown G pick n d start_fault.EpochEnd → IsTrue (G.tells d.vault) → (c : Contents) → G.may_leave d.vault c → IsLeftOf (state_of G n) c
+  left_down n d pick h told c may =
+      let same : d.vault ≡ h.fallen.vault = h.stays.cause.1 in
+      let began : start_down G h.fallen ≡ start_in G n = (λ i. node.start_by G (h.falls.server i) (h.falls.opening i).vault.value) in
+      subst (λ (s : State). IsLeftOf s c) (λ i. node.state_of (began i) (h.falls.journal i)) (h.stood.left (subst (λ (v : V). IsTrue (G.tells v)) same told) c (subst (λ (v : V). G.may_leave v c) same may))
+
+  -- where a run ended
+  pub vault_at : (s : Option (Standing V)) (x : Server V) (w : V) (f : RunFault) (n : NodeState V) → IsServerOf s x → IsVaultOf x w → EndsAt G s f n → IsVaultAt G f n w
+  vault_at s x w (fault.DiskFault server) n of is ends = tt
+  vault_at s x w fault.OutOfMemory n of is ends = tt
+  vault_at s x w fault.JournalFull n of is ends = (let (q, at, same) = ends in vault_up q x w (up_server s q x at of) is ∙ ap (λ (m : NodeState V). m.kept.vault) same)
+  vault_at s x w (fault.Start server (start_fault.Vault f)) n of is ends = tt
+  vault_at s x w (fault.Start server start_fault.BadNote) n of is ends = tt
+  vault_at s x w (fault.Start server start_fault.EpochEnd) n of is ends = λ told c may.
+      let (d, pick, at, stays) = ends in
+      let here : w ≡ d.vault = vault_down d x w (down_server s d x at of) is in
+      left_down n d pick stays (subst (λ (v : V). IsTrue (G.tells v)) here told) c (subst (λ (v : V). G.may_leave v c) here may)

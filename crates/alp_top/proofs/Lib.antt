@@ -1,19 +1,13 @@
-pub mod AskLemmas
-pub mod StepLemmas
-pub mod SaidLemmas
-pub mod ExchangeLemmas
-pub mod LineLemmas
-pub mod RunLemmas
-pub mod CalmLemmas
-pub mod GoneLemmas
 pub mod SingleLemmas
 pub mod ClientLemmas
+pub mod BegunLemmas
+pub mod TallyLemmas
 pub mod EndLemmas
-pub mod FillLemmas
+pub mod PromisedLemmas
 pub mod DiskLemmas
 pub mod BayLemmas
 pub mod PlayedLemmas
 pub mod SummaryLemmas
 pub mod OwnerLemmas
+pub mod LookLemmas
 pub mod StreamLemmas
-mod ReplyLemmas

@@ -18,38 +18,41 @@ use Rattle.alp_words.specs.Words.{folder_named, IsNamedBy}
 use Rattle.alp_words.specs.declared.command.Command.{Command}
 use Rattle.alp_words.specs.declared.command.Command.TheVariants as command
 use Rattle.alp_top.specs.Anywhere.{IsPlayedThrough, HasReported}
-use Rattle.alp_top.specs.Headline.{IsRunOf, IsPlayed, IsCutOff}
+use Rattle.alp_top.specs.Headline.{IsRunOf, IsPromised, IsPlayed, IsCutOff}
 use Rattle.alp_top.specs.Logs.{Log}
 use Rattle.alp_top.specs.Statuses.{IsLimit, OnTooLong, OnBadDisk, OnUntaken, OnFlaw, Kept, OnDone, OnWriteFault, OnCutShort, ended_by, folder_in, IsFolderTold, OnDiskFault, IsHandedOver, IsPlayedOrMemory}
 use Rattle.alp_script.specs.declared.fault.ScriptFault.{ScriptFault}
 use Rattle.alp_top.specs.Volumes.{pages_of, IsReturned, HasRunCause, IsFolderLeft, IsDiskFault, OnTakenFor, IsStartable, StartsOn}
-use Rattle.alp_top.specs.declared.fault.RunFault.{RunFault}
-use Rattle.alp_top.specs.declared.fault.RunFault.TheVariants as fault
+use Rattle.alp_top.specs.declared.fault.NoReport.{NoReport}
+use Rattle.alp_top.specs.declared.fault.NoReport.TheVariants as fault
 use Rattle.alp_top.specs.declared.status.Status.{Status}
 use Rattle.alp_top.specs.declared.status.Status.TheVariants as status
 
 -- ---- the report is written, or a part of it
 
-module _ {V D : Type 0} (G : VaultGhosts V) (g : Ghosts D) (old new wrote written : Option (List ℕ)) (before after : ℕ → Option D) (lines : List NumberedLine) (log : Log V) (text : List ℕ) (script : GaveScript old new lines)
+module _ {V D : Type 0} (G : VaultGhosts V) (g : Ghosts D) (old new : Option (List ℕ)) (before after : ℕ → Option D) (lines : List NumberedLine) (log : Log V) (text : List ℕ) (script : GaveScript old new lines)
     (x : IsReturned g (sizes_said lines 1) before after (IsRunOf G g (sizes_said lines 1) lines log text)) where
-  pub is_played : (l : Log V) → l ≡ log → Appends wrote written text → IsPlayed G g old new wrote written before after l
-  is_played l same out = subst (λ (l : Log V). IsPlayed G g old new wrote written before after l) (sym same) (record {
+  -- the six points, where this was written of the text
+  promised : (Written : List ℕ → Type 0) → Written text → IsPromised G g old new Written before after log
+  promised Written out = record {
     lines = lines;
     script = script;
-    run = x.left.run;
+    server = x.left.run.server;
+    one = x.left.run.one;
+    number = x.left.run.number;
+    output = subst Written x.left.report out;
+    faithful = x.left.run.faithful;
+    serial = record { replies = x.left.run.serial.replies; files = x.left.run.serial.files };
     stored = record { taken = x.taken; was = x.was; given = x.given; now = x.now; others = x.others; size = x.size; later = x.later; left = x.left.stored };
-    output = subst (λ (bytes : List ℕ). Appends wrote written bytes) x.left.report out;
-  })
+    kept = record { told = x.left.run.kept; whole = x.left.run.whole };
+    charged = record { each = x.left.run.serial.charged; last = x.left.run.serial.charged_last };
+  }
 
-  pub is_cut_off : (l : Log V) → l ≡ log → (count : ℕ) → Appends wrote written (take count text) → IsCutOff G g old new wrote written before after l
-  is_cut_off l same count out = subst (λ (l : Log V). IsCutOff G g old new wrote written before after l) (sym same) (record {
-    lines = lines;
-    script = script;
-    run = x.left.run;
-    stored = record { taken = x.taken; was = x.was; given = x.given; now = x.now; others = x.others; size = x.size; later = x.later; left = x.left.stored };
-    count = count;
-    output = subst (λ (bytes : List ℕ). Appends wrote written (take count bytes)) x.left.report out;
-  })
+  pub is_played : (wrote written : Option (List ℕ)) (l : Log V) → l ≡ log → Appends wrote written text → IsPlayed G g old new wrote written before after l
+  is_played wrote written l same out = subst (λ (l : Log V). IsPlayed G g old new wrote written before after l) (sym same) (promised (λ bytes. Appends wrote written bytes) out)
+
+  pub is_cut_off : (wrote written : Option (List ℕ)) (l : Log V) → l ≡ log → (count : ℕ) → Appends wrote written (take count text) → IsCutOff G g old new wrote written before after l
+  is_cut_off wrote written l same count out = subst (λ (l : Log V). IsCutOff G g old new wrote written before after l) (sym same) (promised (λ bytes. (count : ℕ) × Appends wrote written (take count bytes)) (count, out))
 
 -- what was written of any run
 module _ {V : Type 0} (G : VaultGhosts V) (old new : Option (List ℕ)) (lines : List NumberedLine) (log : Log V) (text : List ℕ) (script : GaveScript old new lines) (through : IsPlayedThrough G lines log text) where
@@ -89,10 +92,10 @@ module _ {D : Type 0} {g : Ghosts D} where
 
   -- ---- the bay or the disk ended the run
 
-  pub caused : (s : Status D g) (f : RunFault) (U : Type 0) (P : RunFault → Type 0) → s ≡ ended_by f → P f → OnCutShort s U P
+  pub caused : (s : Status D g) (f : NoReport) (U : Type 0) (P : NoReport → Type 0) → s ≡ ended_by f → P f → OnCutShort s U P
   caused s f U P is p = subst (λ (q : Status D g). OnCutShort q U P) (sym is) (go f p)
     where
-      go : (f : RunFault) → P f → OnCutShort (ended_by {D = D} {g = g} f) U P
+      go : (f : NoReport) → P f → OnCutShort (ended_by {D = D} {g = g} f) U P
       go fault.Bay p = inl (refl, p)
       go fault.Disk p = inr (refl, p)
       go fault.OutOfMemory p = inr p
@@ -102,19 +105,19 @@ module _ {D : Type 0} {g : Ghosts D} where
       go (fault.Damaged place) p = (refl, p)
 
   -- nothing is wrong with the script then, and no limit is that of its lines
-  pub not_flawed : (s : Status D g) (f : RunFault) (P : ScriptFault → Type 0) → s ≡ ended_by f → OnFlaw s P
+  pub not_flawed : (s : Status D g) (f : NoReport) (P : ScriptFault → Type 0) → s ≡ ended_by f → OnFlaw s P
   not_flawed s f P is = subst (λ (q : Status D g). OnFlaw q P) (sym is) (go f)
     where
-      go : (f : RunFault) → OnFlaw (ended_by {D = D} {g = g} f) P
+      go : (f : NoReport) → OnFlaw (ended_by {D = D} {g = g} f) P
       go fault.JournalFull = λ e. absurd (omega (arith, e))
       go fault.EpochEnd = λ e. absurd (omega (arith, e))
       go f = tt
 
   -- the run is not over then, a limit is that of a journal or the last epoch, and a disk is that of server 1
-  pub not_done : (s : Status D g) (f : RunFault) (P : Log (Kept D g) → Type 0) → s ≡ ended_by f → OnDone s P
+  pub not_done : (s : Status D g) (f : NoReport) (P : Log (Kept D g) → Type 0) → s ≡ ended_by f → OnDone s P
   not_done s f P is = subst (λ (q : Status D g). OnDone q P) (sym is) (go f)
     where
-      go : (f : RunFault) → OnDone (ended_by {D = D} {g = g} f) P
+      go : (f : NoReport) → OnDone (ended_by {D = D} {g = g} f) P
       go fault.Bay = tt
       go fault.Disk = tt
       go fault.OutOfMemory = tt
@@ -123,10 +126,10 @@ module _ {D : Type 0} {g : Ghosts D} where
       go (fault.NotAVolume found) = tt
       go (fault.Damaged place) = tt
 
-  pub not_cut : (s : Status D g) (f : RunFault) (P : Log (Kept D g) → Type 0) → s ≡ ended_by f → OnWriteFault s P
+  pub not_cut : (s : Status D g) (f : NoReport) (P : Log (Kept D g) → Type 0) → s ≡ ended_by f → OnWriteFault s P
   not_cut s f P is = subst (λ (q : Status D g). OnWriteFault q P) (sym is) (go f)
     where
-      go : (f : RunFault) → OnWriteFault (ended_by {D = D} {g = g} f) P
+      go : (f : NoReport) → OnWriteFault (ended_by {D = D} {g = g} f) P
       go fault.Bay = tt
       go fault.Disk = tt
       go fault.OutOfMemory = tt
@@ -135,10 +138,10 @@ module _ {D : Type 0} {g : Ghosts D} where
       go (fault.NotAVolume found) = tt
       go (fault.Damaged place) = tt
 
-  pub limited : (s : Status D g) (f : RunFault) → s ≡ ended_by f → OnTooLong s IsLimit
+  pub limited : (s : Status D g) (f : NoReport) → s ≡ ended_by f → OnTooLong s IsLimit
   limited s f is = subst (λ (q : Status D g). OnTooLong q IsLimit) (sym is) (go f)
     where
-      go : (f : RunFault) → OnTooLong (ended_by {D = D} {g = g} f) IsLimit
+      go : (f : NoReport) → OnTooLong (ended_by {D = D} {g = g} f) IsLimit
       go fault.Bay = tt
       go fault.Disk = tt
       go fault.OutOfMemory = tt
@@ -147,10 +150,10 @@ module _ {D : Type 0} {g : Ghosts D} where
       go (fault.NotAVolume found) = tt
       go (fault.Damaged place) = tt
 
-  pub of_first : (s : Status D g) (f : RunFault) → s ≡ ended_by f → OnBadDisk s (λ server. server ≡ 1)
+  pub of_first : (s : Status D g) (f : NoReport) → s ≡ ended_by f → OnBadDisk s (λ server. server ≡ 1)
   of_first s f is = subst (λ (q : Status D g). OnBadDisk q (λ server. server ≡ 1)) (sym is) (go f)
     where
-      go : (f : RunFault) → OnBadDisk (ended_by {D = D} {g = g} f) (λ server. server ≡ 1)
+      go : (f : NoReport) → OnBadDisk (ended_by {D = D} {g = g} f) (λ server. server ≡ 1)
       go fault.Bay = tt
       go fault.Disk = tt
       go fault.OutOfMemory = tt
@@ -183,19 +186,19 @@ module _ {D : Type 0} {g : Ghosts D} where
   handed_disk (status.NotAVolume server found) P h = absurd h
   handed_disk (status.Damaged server place) P h = absurd h
 
-  pub not_untaken : (s : Status D g) (f : RunFault) (P : Type 0) → s ≡ ended_by f → OnUntaken s P
+  pub not_untaken : (s : Status D g) (f : NoReport) (P : Type 0) → s ≡ ended_by f → OnUntaken s P
   not_untaken s f P is = subst (λ (q : Status D g). OnUntaken q P) (sym is) (go f)
     where
-      go : (f : RunFault) → OnUntaken (ended_by {D = D} {g = g} f) P
+      go : (f : NoReport) → OnUntaken (ended_by {D = D} {g = g} f) P
       go fault.JournalFull = λ e. absurd (omega (arith, e))
       go fault.EpochEnd = λ e. absurd (omega (arith, e))
       go f = tt
 
   -- which folder the bay is left with
-  pub folder_left : (s : Status D g) (f : RunFault) (before now named : Option (List ℕ)) → s ≡ ended_by f → IsFolderLeft f before now named → IsFolderTold s before now named
+  pub folder_left : (s : Status D g) (f : NoReport) (before now named : Option (List ℕ)) → s ≡ ended_by f → IsFolderLeft f before now named → IsFolderTold s before now named
   folder_left s f before now named is h = subst (λ (q : Status D g). IsFolderTold q before now named) (sym is) (go f h)
     where
-      go : (f : RunFault) → IsFolderLeft f before now named → IsFolderTold (ended_by {D = D} {g = g} f) before now named
+      go : (f : NoReport) → IsFolderLeft f before now named → IsFolderTold (ended_by {D = D} {g = g} f) before now named
       go fault.Bay h = elim h [ inl chosen ↦ inl chosen | inr kept ↦ inr (refl, kept) ]
       go fault.Disk h = inl h
       go fault.OutOfMemory h = h
@@ -217,11 +220,11 @@ module _ {D : Type 0} {g : Ghosts D} where
   handed_folder (status.Damaged server place) before now named h same = absurd h
 
   -- a fault of a disk is told where its count rose
-  pub disk_counted : {X : Type 0} (faults : X → ℕ) (s : Status D g) (f : RunFault) → s ≡ ended_by f → OnTakenFor f ((taken : X) × (given : X) × IsDiskFault f (faults taken) (faults given))
+  pub disk_counted : {X : Type 0} (P : Type 0) (faults : X → ℕ) (s : Status D g) (f : NoReport) → s ≡ ended_by f → OnTakenFor f ((taken : X) × (given : X) × IsDiskFault P f (faults taken) (faults given))
       → OnDiskFault s ((taken : X) × (given : X) × Rose (faults taken) (faults given))
-  disk_counted {X = X} faults s f is h = subst (λ (q : Status D g). OnDiskFault q ((taken : X) × (given : X) × Rose (faults taken) (faults given))) (sym is) (go f h)
+  disk_counted {X = X} P faults s f is h = subst (λ (q : Status D g). OnDiskFault q ((taken : X) × (given : X) × Rose (faults taken) (faults given))) (sym is) (go f h)
     where
-      go : (f : RunFault) → OnTakenFor f ((taken : X) × (given : X) × IsDiskFault f (faults taken) (faults given)) → OnDiskFault (ended_by {D = D} {g = g} f) ((taken : X) × (given : X) × Rose (faults taken) (faults given))
+      go : (f : NoReport) → OnTakenFor f ((taken : X) × (given : X) × IsDiskFault P f (faults taken) (faults given)) → OnDiskFault (ended_by {D = D} {g = g} f) ((taken : X) × (given : X) × Rose (faults taken) (faults given))
       go fault.Bay h = inl refl
       go fault.Disk h = inr h
       go fault.OutOfMemory h = tt
@@ -276,17 +279,17 @@ module _ {D : Type 0} {g : Ghosts D} (sizes : Sizes) (before after : ℕ → Opt
       record { volume = λ found why. blank; whole = λ place why. blank; epoch = λ none. blank }
   startable d (Some s) is same = subst (λ (q : D). IsStartable sizes (g.size q) (g.seen q)) (sym same) (starts.startable s is)
 
-  pub plays_on : (lines : List NumberedLine) (s : Status D g) (f : RunFault) (bay_before bay_after : ℕ) → s ≡ ended_by f → HasRunCause g sizes lines before after bay_before bay_after f → (Rose bay_before bay_after → ⊥) → IsPlayedOrMemory s
+  pub plays_on : (lines : List NumberedLine) (s : Status D g) (f : NoReport) (bay_before bay_after : ℕ) → s ≡ ended_by f → HasRunCause g sizes lines before after bay_before bay_after f → (Rose bay_before bay_after → ⊥) → IsPlayedOrMemory s
   plays_on lines s f bay_before bay_after is cause still = subst (λ (q : Status D g). IsPlayedOrMemory q) (sym is) (go f cause)
     where
       on : (x : D) → IsTaken g (before 1) (pages_of sizes) x → IsStartable sizes (g.size x) (g.seen x)
       on x was = startable x (before 1) refl was
 
-      go : (f : RunFault) → HasRunCause g sizes lines before after bay_before bay_after f → IsPlayedOrMemory (ended_by {D = D} {g = g} f)
+      go : (f : NoReport) → HasRunCause g sizes lines before after bay_before bay_after f → IsPlayedOrMemory (ended_by {D = D} {g = g} f)
       go fault.Bay x = absurd (still x.1)
       go fault.Disk x = absurd (starts.unfailed x.taken x.given x.was x.now x.left)
       go fault.OutOfMemory x = tt
-      go fault.JournalFull x = refl
-      go fault.EpochEnd x = absurd (x.left.0.old ((on x.taken x.was).epoch x.left.1))
+      go fault.JournalFull x = inl refl
+      go fault.EpochEnd x = elim x.left [ inl none ↦ absurd (none.0.old ((on x.taken x.was).epoch none.1)) | inr over ↦ inr refl ]
       go (fault.NotAVolume found) x = absurd (x.left.0.old ((on x.taken x.was).volume found x.left.1))
       go (fault.Damaged place) x = absurd (x.left.0.old ((on x.taken x.was).whole place x.left.1))

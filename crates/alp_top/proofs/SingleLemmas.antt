@@ -33,7 +33,7 @@ use Rattle.alp_history.specs.Items.{Handed}
 use Rattle.alp_history.specs.Log.{ServerLog, Log, Decision, nobody, of, journal_of, opening_of, rank_at, final, IsIn, AreDistinct, noted, held, is_noted, start_of, own_of, decisions_of, decided, all_put}
 use Rattle.alp_history.specs.Theorems.{IsProper}
 use Rattle.alp_history.proofs.Decisions.{linked-end, here-end, tied-end}
-use Rattle.alp_top.specs.Plays.{ranks_from}
+use Rattle.alp_cluster.specs.Plays.{ranks_from}
 
 -- ---- a log of one server
 

@@ -1,5 +1,5 @@
 -- What holds of a run on any bay and any vault, also on one that does not tell what it holds.
-use Rattle.std.specs.Prelude.{◌≡◌, ℕ, List, [], ◌∷◌, ◌++◌, take, Option}
+use Rattle.std.specs.Prelude.{◌≡◌, ◌-◌, Bool, ℕ, List, [], ◌∷◌, ◌++◌, take, Option}
 use Rattle.std.specs.Io.KnownBytes.{Appends}
 use Rattle.alp_base.specs.Causes.{Rose}
 use Rattle.alp_disk.specs.declared.disk.Disk.{Ghosts as DiskGhosts}
@@ -9,21 +9,26 @@ use Rattle.alp_script.specs.Reading.{GaveScript}
 use Rattle.alp_script.specs.declared.numbered.NumberedLine.{NumberedLine}
 use Rattle.alp_vault.specs.declared.vault.Vault.{Ghosts}
 use Rattle.alp_top.specs.Headline.{IsOfScript}
-use Rattle.alp_top.specs.Logs.{Log, ServerOfLog, start_of, lists_of}
+use Rattle.alp_top.specs.Logs.{Log, ServerOfLog, lists_of}
 use Rattle.alp_top.specs.Statuses.{Kept, OnDone, OnWriteFault, OnTooLong, OnBadDisk, OnDiskFault, IsLimit}
-use Rattle.alp_top.specs.Turns.{turns_of, turns_text}
+use Rattle.alp_cluster.specs.Turns.{turns_of, turns_text}
+use Rattle.alp_top.specs.Tallies.{tally_in}
 use Rattle.alp_top.specs.declared.status.Status.{Status}
 
 -- These lines were played on one server, number 1, and left this log. The text is a line for each line of a client, by what its
--- items say, and behind them a summary of the server in the epoch in which it was started.
+-- items say, and behind them a summary of the server in the epoch that it came to, with what its journal counts: how many transactions
+-- were committed, and how many of those that began were not.
 pub record IsPlayedThrough {V : Type 0} (G : Ghosts V) (lines : List NumberedLine) (log : Log V) (text : List ℕ) : Type 0 where
   pub server : ServerOfLog V
   pub one : log.servers.items ≡ server ∷ []
   pub number : server.server ≡ 1
-  pub script : IsOfScript G lines log server
+  pub tells : Bool
+  pub script : IsOfScript G tells lines log server
   pub summary : Summary
   pub of_server : summary.server ≡ 1
-  pub epoch : summary.epoch ≡ (start_of G server).epoch
+  pub epoch : summary.epoch ≡ script.last.epoch
+  pub committed : summary.committed ≡ (tally_in server.journal).committed
+  pub aborted : summary.aborted ≡ (tally_in server.journal).begun - (tally_in server.journal).committed
   pub report : text ≡ turns_text (turns_of lines (lists_of G log)) ++ printed summary
 
 -- the source gave a script, whose lines were played through, and this was written of the text

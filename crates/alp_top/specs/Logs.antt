@@ -1,5 +1,7 @@
 -- The log of a run, by what its openings mean.
+use Rattle.std.specs.Prelude.{List, [], ◌∷◌}
 use Rattle.alp_vault.specs.declared.vault.Vault.{Ghosts}
+use Rattle.alp_journal.specs.declared.entry.Entry.{Entry}
 use Rattle.alp_journal.specs.declared.log.RunLog.{RunLog}
 use Rattle.alp_journal.specs.declared.log.ServerLog.{ServerLog}
 use Rattle.alp_journal.specs.declared.opening.Opening.{Ghosts as Meanings}
@@ -7,6 +9,8 @@ use Rattle.alp_journal.specs.Opening.{Start}
 use Rattle.alp_node.specs.declared.opened.Opened.{Opened}
 use Rattle.alp_history.specs.RunLogs as runs
 use Rattle.alp_history.specs.Log as logs
+use Rattle.alp_cluster.specs.Plays.{ranks_from}
+use Rattle.alp_cluster.specs.Turns.{Turn, own_in}
 
 -- the log of servers on vaults
 abbrev pub Log : Type 0 → Type 0
@@ -33,3 +37,10 @@ log_of G log = runs.log_of (openings G) log
 
 abbrev pub lists_of : {V : Type 0} → Ghosts V → Log V → runs.Lists
 lists_of G log = runs.lists_of (openings G) log
+
+-- the log of one server, and of what these turns sent and were handed, as the theorems read it
+abbrev pub log_so_far : Start → List Entry → List Turn → logs.Log
+log_so_far o journal turns = record {
+  servers = record { opening = o; journal = journal; ranks = ranks_from 1 journal } ∷ [];
+  handed = runs.handed_of (λ k. own_in k turns);
+}

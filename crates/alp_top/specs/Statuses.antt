@@ -14,8 +14,8 @@ use Rattle.alp_words.specs.Words.{folder_named}
 use Rattle.alp_words.specs.declared.command.Command.{Command}
 use Rattle.alp_words.specs.declared.command.Command.TheVariants as command
 use Rattle.alp_top.specs.Logs.{Log}
-use Rattle.alp_top.specs.declared.fault.RunFault.{RunFault}
-use Rattle.alp_top.specs.declared.fault.RunFault.TheVariants as fault
+use Rattle.alp_top.specs.declared.fault.NoReport.{NoReport}
+use Rattle.alp_top.specs.declared.fault.NoReport.TheVariants as fault
 use Rattle.alp_top.specs.declared.status.Status.{Status}
 use Rattle.alp_top.specs.declared.status.Status.TheVariants as status
 
@@ -49,7 +49,7 @@ module _ {D : Type 0} {g : Ghosts D} where
   status_said (status.Damaged server place) = codes "alpine: damaged server " ++ decimal server ++ codes " place " ++ decimal place
 
   -- how a run ended that the bay or the disk of server 1 ended
-  abbrev pub ended_by : RunFault → Status D g
+  abbrev pub ended_by : NoReport → Status D g
   ended_by fault.Bay = status.DiskFault 0
   ended_by fault.Disk = status.DiskFault 1
   ended_by fault.OutOfMemory = status.OutOfMemory
@@ -107,7 +107,7 @@ module _ {D : Type 0} {g : Ghosts D} where
   -- Where the run was cut short: the bay or the disk of server 1 ended it, of the fault, or memory was wanting, before a disk was
   -- asked for or behind that. Server 0 is the bay, and a limit is that of the lines of a script, that of the entries of a journal, or
   -- the last epoch.
-  abbrev pub OnCutShort : Status D g → Type 0 → (RunFault → Type 0) → Type 0
+  abbrev pub OnCutShort : Status D g → Type 0 → (NoReport → Type 0) → Type 0
   OnCutShort (status.DiskFault server) U P = ((server ≡ 0) × P fault.Bay) ⊎ ((server ≡ 1) × P fault.Disk)
   OnCutShort (status.TooLong limit) U P = ((limit ≡ SCRIPT_LINES_MOST) × U) ⊎ ((limit ≡ entries_limit) × P fault.JournalFull) ⊎ ((limit ≡ 4294967295) × P fault.EpochEnd)
   OnCutShort (status.NotAVolume server found) U P = (server ≡ 1) × P (fault.NotAVolume found)
@@ -168,11 +168,11 @@ module _ {D : Type 0} {g : Ghosts D} where
   IsHandedOver (status.WriteFault log) = Unit {0}
   IsHandedOver _ = ⊥
 
-  -- the report is written, or there was no memory, or the journal was full
+  -- the report is written, or there was no memory, or the journal was full, or the server had come to the last epoch
   abbrev pub IsPlayedOrMemory : Status D g → Type 0
   IsPlayedOrMemory (status.Done log) = Unit {0}
   IsPlayedOrMemory status.OutOfMemory = Unit {0}
-  IsPlayedOrMemory (status.TooLong limit) = limit ≡ entries_limit
+  IsPlayedOrMemory (status.TooLong limit) = (limit ≡ entries_limit) ⊎ (limit ≡ 4294967295)
   IsPlayedOrMemory _ = ⊥
 
 -- the limit of the lines of a script, that of the entries of a journal, or the last epoch

@@ -1,6 +1,7 @@
 //! The disk of the run's server is taken from its bay and given back.
 ghost use Rattle.std.specs.Prelude.{◌≡◌, ◌⊎◌, None, IsTrue, IfOk, IfErr};
 ghost use Rattle.std.specs.Option.{option_map};
+ghost use Rattle.alp_cluster.specs.Runs.{StopNone};
 ghost use Rattle.alp_script.specs.Accepted.{IsAccepted};
 ghost use Rattle.alp_script.specs.Volumes.{sizes_said};
 ghost use Rattle.alp_top.specs.Anywhere.{IsPlayedThrough};
@@ -8,12 +9,12 @@ ghost use Rattle.alp_top.specs.Headline.{IsRunOf};
 ghost use Rattle.alp_top.specs.Volumes.{HasRunCause, IsBayTold, IsReturned, IsFolderChosen, IsDiskTold, OnTakenBy, pages_of as pages_of_said};
 ghost use Rattle.alp_vault.specs.Vault.{AreSizes};
 
-use crate::fault::RunFault;
+use crate::fault::NoReport;
 use crate::finish::Ended;
-use crate::play::SERVER;
 use crate::volume::run_disk;
 use alp_base::Sizes;
 use alp_bay::Bay;
+use alp_cluster::SERVER;
 use alp_disk::{Disk, Fuse};
 use alp_script::{NumberedLine, sizes_of};
 use alp_store::Store;
@@ -35,13 +36,13 @@ pub fn run_bay<B: Bay>(
     lines: &[NumberedLine],
     folder: Option<&str>,
     bay: &mut B,
-) -> Result<Ended<Store<Fuse<B::Device>>>, RunFault>
+) -> Result<Ended<Store<Fuse<B::Device>>>, NoReport>
     requires accepted { IsAccepted lines.now }
     ensures ran { (folder.entry ≡ None) ⊎ IsTrue (B.tells bay.new) → IfOk result (λ e. IsReturned B.Device.Disk (sizes_said lines.now 1) (B.at bay.old) (B.at bay.new) (IsRunOf ⟦<Store<Fuse<B::Device>> as Vault>⟧ B.Device.Disk (sizes_said lines.now 1) lines.now e.log e.text.items)) }
     ensures through { IfOk result (λ e. IsPlayedThrough ⟦<Store<Fuse<B::Device>> as Vault>⟧ lines.now e.log e.text.items) }
     ensures cause { (folder.entry ≡ None) ⊎ IsTrue (B.tells bay.new) → IfErr result (HasRunCause B.Device.Disk (sizes_said lines.now 1) lines.now (B.at bay.old) (B.at bay.new) (B.faults bay.old) (B.faults bay.new)) }
     ensures chosen { IsFolderChosen result (B.chosen bay.old) (B.chosen bay.new) (option_map (λ name. name.now) folder.entry) }
-    ensures counted { OnTakenBy result ((taken : B.Device) × (given : B.Device) × IsDiskTold result (B.Device.faults taken) (B.Device.faults given)) }
+    ensures counted { OnTakenBy result ((taken : B.Device) × (given : B.Device) × IsDiskTold (StopNone lines.now) result (B.Device.faults taken) (B.Device.faults given)) }
     ensures bay { IsBayTold result (B.faults bay.old) (B.faults bay.new) }
 {
     bay.choose(folder)?;

@@ -1,22 +1,22 @@
 //! The end of a run: its log and its report.
-ghost use Rattle.std.specs.Prelude.{◌≡◌, ◌++◌, ℕ, List, IsTrue, IfOk, OnOk};
+ghost use Rattle.std.specs.Prelude.{◌≡◌, ◌++◌, ℕ, List, IsTrue, IfOk, OnOk, false};
 ghost use Rattle.alp_base.specs.declared.allowance.Allowance.TheVariants.{Free};
 ghost use Rattle.alp_files.specs.Sound.{AreSound};
 ghost use Rattle.alp_report.specs.Reports.{summary_text};
 ghost use Rattle.alp_script.specs.Accepted.{IsAccepted};
 ghost use Rattle.alp_top.specs.Anywhere.{IsPlayedThrough};
-ghost use Rattle.alp_top.specs.Endings.{IsEnding, IsServerLog, IsSummaryOf, IsEnded};
-ghost use Rattle.alp_top.specs.Plays.{ranks_from};
-ghost use Rattle.alp_top.specs.Runs.{HasPlayedOut, HasFilledUp};
-ghost use Rattle.alp_top.specs.Servers.{IsOn, IsIdle, HasGone, HasLooked, OnFull};
+ghost use Rattle.alp_top.specs.Endings.{IsEnding, IsServerLog, IsSummaryOf, IsReported, IsEnded, IsVaultOf, IsVaultAt};
+ghost use Rattle.alp_cluster.specs.Fills.{OnEnd};
+ghost use Rattle.alp_cluster.specs.Runs.{HasEndedEarly, StopNone};
+ghost use Rattle.alp_cluster.specs.Servers.{IsOn, IsIdle, HasGone};
+ghost use Rattle.alp_top.specs.Looks.{HasLooked};
 ghost use Rattle.alp_node.specs.NodeStates.{NodeState};
 
-use crate::fault::PlayFault;
 use crate::owners::owner_records;
-use crate::play::{PlayedRun, play};
-use crate::settle::settle;
+use crate::tally::tally_of;
 use alp_base::OutOfMemory;
-use alp_journal::{Entry, Journal, RunLog, ServerLog};
+use alp_cluster::{Cluster, RunFault, Server, ranks};
+use alp_journal::{Item, Journal, RunLog, ServerLog};
 use alp_node::{Node, Opened};
 use alp_report::{Summary, put_summary};
 use alp_script::NumberedLine;
@@ -40,28 +40,16 @@ struct Ending {
     aborted: u32,
 }
 
-// The entries of one server follow each other.
-fn ranks(alloc: Global, entries: &[Entry]) -> Result<Vec<u64>, OutOfMemory>
-    ensures { IfOk result (λ v. v.items ≡ ranks_from 1 entries.now) }
-{
-    let mut ranks = Vec::new(alloc);
-    let mut rank = 0;
-    for _entry in entries {
-        rank += 1;
-        ranks.push(rank)?;
-    }
-    Ok(ranks)
-}
-
 fn ending_of<V: Vault>(node: &Node<V>) -> Ending
     ensures { IsEnding node.now result }
 {
+    let tally = tally_of(node.journal().entries());
     Ending {
         server: node.server(),
         epoch: node.epoch(),
         clock: node.clock(),
-        committed: node.committed(),
-        aborted: node.begun().saturating_sub(node.committed()),
+        committed: tally.committed,
+        aborted: tally.begun.saturating_sub(tally.committed),
     }
 }
 
@@ -71,10 +59,10 @@ fn put_ending<V: Vault>(
     text: &mut Vec<u8>,
     vault: &mut V,
     ending: Ending,
-) -> Result<(), PlayFault>
+) -> Result<(), RunFault>
     requires serving { IsTrue (V.serves vault.old) }
     requires free { V.allowance vault.old ≡ Free }
-    ensures gone { HasGone V.Vault vault.old vault.new result }
+    ensures gone { HasGone V.Vault (Unit {0}) vault.old vault.new result }
     ensures looked { HasLooked V.Vault vault.old vault.new result }
     ensures printed { OnOk result ((more : List ℕ) × (text.new.items ≡ text.old.items ++ more) × IsSummaryOf ending more) }
     ensures text { IsTrue (V.tells vault.old) → OnOk result (text.new.items ≡ text.old.items ++ summary_text ending.server ending.epoch ending.clock (V.held vault.old).cells ending.committed ending.aborted) }
@@ -114,54 +102,39 @@ fn server_logs<V: Vault>(
     Ok(servers)
 }
 
-// Plays all lines, and lets time run out for the transactions that are left.
-fn play_out<V: Vault>(
-    alloc: Global,
-    lines: &[NumberedLine],
-    node: &mut Node<V>,
-) -> Result<PlayedRun, PlayFault>
-    requires accepted { IsAccepted lines.now }
-    requires on { IsOn V.Vault node.old }
-    requires idle { IsIdle node.old }
-    ensures gone { HasGone V.Vault node.old.kept.vault node.new.kept.vault result }
-    ensures filled { OnFull result (HasFilledUp V.Vault lines.now node.old node.new) }
-    ensures played { IfOk result (λ run. HasPlayedOut V.Vault lines.now node.old node.new run.clients run.lists.items run.text.items) }
+// The vault of a server, up or not.
+fn vault_of<V: Vault>(server: Server<V>) -> V
+    ensures { IsVaultOf server result }
 {
-    let run = play(alloc, lines, node)?;
-    settle(alloc, node)?;
-    Ok(run)
+    match server {
+        Server::Up(node) => {
+            let (_, vault, _) = node.into_parts();
+            vault
+        }
+        Server::Fallen(down) => {
+            let (_, vault, _) = down.into_parts();
+            vault
+        }
+    }
 }
 
-/// Plays the lines on a server that did nothing yet, and ends it. Its vault comes back, and the log and the report where all
-/// was played.
-pub fn run_node<V: Vault>(
+// The log and the report of a server at rest, behind the lines of its clients. Its vault comes back.
+fn report<V: Vault>(
     alloc: Global,
-    lines: &[NumberedLine],
     node: Node<V>,
-) -> (V, Result<Ended<V>, PlayFault>)
-    requires accepted { IsAccepted lines.now }
+    lists: Vec<Vec<Item>>,
+    mut text: Vec<u8>,
+) -> (V, Result<Ended<V>, RunFault>)
     requires on { IsOn V.Vault node }
-    requires idle { IsIdle node }
-    ensures gone { HasGone V.Vault node.kept.vault result.0 result.1 }
-    ensures filled { OnFull result.1 ((n : NodeState V) × HasFilledUp V.Vault lines.now node n × (n.kept.vault ≡ result.0)) }
-    ensures through { IfOk result.1 (λ e. IsPlayedThrough V.Vault lines.now e.log e.text.items) }
-    ensures ended { IsTrue (V.tells node.kept.vault) → IfOk result.1 (λ e. IsEnded V.Vault lines.now node result.0 e.log e.text.items) }
+    requires up { node.kept.is_down ≡ false }
+    requires free { V.allowance node.kept.vault ≡ Free }
+    ensures gone { HasGone V.Vault (Unit {0}) node.kept.vault result.0 result.1 }
+    ensures looked { HasLooked V.Vault node.kept.vault result.0 result.1 }
+    ensures reported { IfOk result.1 (λ e. IsReported V.Vault node lists.items text.items e.log e.text.items) }
 {
-    let mut node = node;
-    let played = play_out(alloc, lines, &mut node);
     let ending = ending_of(&node);
     node.knows();
-    let (opening, vault, journal) = node.into_parts();
-    let mut vault = vault;
-    let run = match played {
-        Ok(run) => run,
-        Err(fault) => return (vault, Err(fault)),
-    };
-    let PlayedRun {
-        clients: _,
-        lists,
-        mut text,
-    } = run;
+    let (opening, mut vault, journal) = node.into_parts();
     if let Err(fault) = put_ending(alloc, &mut text, &mut vault, ending) {
         return (vault, Err(fault));
     }
@@ -173,6 +146,39 @@ pub fn run_node<V: Vault>(
             };
             (vault, Ok(Ended { log, text }))
         }
-        Err(OutOfMemory) => (vault, Err(PlayFault::OutOfMemory)),
+        Err(OutOfMemory) => (vault, Err(RunFault::OutOfMemory)),
     }
+}
+
+/// Plays the lines on a server that did nothing yet, and ends it. Its vault comes back, and the log and the report where all
+/// was played.
+pub fn run_node<V: Vault>(
+    alloc: Global,
+    lines: &[NumberedLine],
+    node: Node<V>,
+) -> (V, Result<Ended<V>, RunFault>)
+    requires accepted { IsAccepted lines.now }
+    requires on { IsOn V.Vault node }
+    requires idle { IsIdle V.Vault node }
+    ensures gone { HasGone V.Vault (StopNone lines.now) node.kept.vault result.0 result.1 }
+    ensures cut { OnEnd result.1 (λ f. (n : NodeState V) × (n.opening ≡ node.opening) × (V.tells n.kept.vault ≡ V.tells node.kept.vault) × HasEndedEarly V.Vault lines.now f n × IsVaultAt V.Vault f n result.0) }
+    ensures through { IfOk result.1 (λ e. IsPlayedThrough V.Vault lines.now e.log e.text.items) }
+    ensures ended { IsTrue (V.tells node.kept.vault) → IfOk result.1 (λ e. IsEnded V.Vault lines.now node result.0 e.log e.text.items) }
+{
+    let mut cluster = match Cluster::new(alloc, node) {
+        Ok(cluster) => cluster,
+        Err((node, OutOfMemory)) => {
+            let (_, vault, _) = node.into_parts();
+            return (vault, Err(RunFault::OutOfMemory));
+        }
+    };
+    if let Err(fault) = cluster.play_out(lines) {
+        let (server, _, _) = cluster.into_parts();
+        return (vault_of(server), Err(fault));
+    }
+    let (server, lists, text) = cluster.into_parts();
+    let Server::Up(node) = server else {
+        unreachable!()
+    };
+    report(alloc, node, lists, text)
 }

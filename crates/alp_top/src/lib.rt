@@ -3,20 +3,14 @@
 #![tactic(auto)]
 
 mod bay;
-mod exchange;
 mod fault;
 mod finish;
 mod owners;
-mod play;
 mod run;
-mod settle;
 mod status;
-mod step;
+mod tally;
 mod volume;
 mod write_all;
 
 pub use run::run_alpine;
 pub use status::{Kept, Status, status_text};
-
-#[cfg(test)]
-mod tests;

@@ -4,10 +4,11 @@ ghost use Rattle.std.specs.FinMap as map;
 ghost use Rattle.alp_base.specs.declared.allowance.Allowance.TheVariants.{Free};
 ghost use Rattle.alp_base.specs.declared.key.Key.TheVariants.{OwnerOf};
 ghost use Rattle.alp_files.specs.Cells.{owner_in, owners_of};
-ghost use Rattle.alp_top.specs.Servers.{HasGone, HasLooked};
+ghost use Rattle.alp_cluster.specs.Servers.{HasGone};
+ghost use Rattle.alp_top.specs.Looks.{HasLooked};
 
-use crate::fault::PlayFault;
 use alp_base::{Key, Name, OutOfMemory, VaultFault};
+use alp_cluster::{RunFault, SERVER};
 use alp_files::{Cell, OwnerRecord};
 use alp_vault::Vault;
 use std::alloc::Global;
@@ -21,26 +22,26 @@ fn copied(alloc: Global, names: &[Name]) -> Result<Vec<Name>, OutOfMemory>
 }
 
 // The record that stands at the owner's key.
-fn owner_record<V: Vault>(vault: &mut V, name: Name) -> Result<Option<OwnerRecord>, PlayFault>
+fn owner_record<V: Vault>(vault: &mut V, name: Name) -> Result<Option<OwnerRecord>, RunFault>
     requires serving { IsTrue (V.serves vault.old) }
     requires free { V.allowance vault.old ≡ Free }
-    ensures gone { HasGone V.Vault vault.old vault.new result }
+    ensures gone { HasGone V.Vault (Unit {0}) vault.old vault.new result }
     ensures looked { HasLooked V.Vault vault.old vault.new result }
     ensures record { IsTrue (V.tells vault.old) → IfOk result (λ o. o ≡ owner_in (map.get (V.held vault.old).cells (OwnerOf name))) }
 {
     match vault.fetch(&Key::OwnerOf(name)) {
         Ok(Some(Cell::Owner(record))) => Ok(Some(record)),
         Ok(_) => Ok(None),
-        Err(VaultFault::OutOfMemory) => Err(PlayFault::OutOfMemory),
-        Err(_) => Err(PlayFault::Device),
+        Err(VaultFault::OutOfMemory) => Err(RunFault::OutOfMemory),
+        Err(_) => Err(RunFault::DiskFault { server: SERVER }),
     }
 }
 
 /// The records of all owners, in rising order of their names.
-pub fn owner_records<V: Vault>(alloc: Global, vault: &mut V) -> Result<Vec<OwnerRecord>, PlayFault>
+pub fn owner_records<V: Vault>(alloc: Global, vault: &mut V) -> Result<Vec<OwnerRecord>, RunFault>
     requires serving { IsTrue (V.serves vault.old) }
     requires free { V.allowance vault.old ≡ Free }
-    ensures gone { HasGone V.Vault vault.old vault.new result }
+    ensures gone { HasGone V.Vault (Unit {0}) vault.old vault.new result }
     ensures looked { HasLooked V.Vault vault.old vault.new result }
     ensures owners { IsTrue (V.tells vault.old) → IfOk result (λ v. v.items ≡ owners_of (V.held vault.old).cells) }
 {

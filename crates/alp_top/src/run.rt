@@ -81,7 +81,7 @@ pub fn run_alpine<S: Source, K: Sink, B: Bay>(
     // No disk is asked for before the script is read.
     ensures untaken { OnUntaken result (bay.new ≡ bay.old) }
     // A script of the language is played to its end on a disk that is new or the server's, where nothing fails, unless memory is
-    // wanting or the journal is full.
+    // wanting, the journal is full or the server has come to the last epoch.
     ensures complete { are_bad (map string_bytes words.now) ≡ false → SaysScript (S.left script.old) → (Rose (S.faults script.old) (S.faults script.new) → ⊥) → (Rose (K.faults out.old) (K.faults out.new) → ⊥)
         → (Rose (B.faults bay.old) (B.faults bay.new) → ⊥) → IsTold (map string_bytes words.now) (B.tells bay.new) → StartsHere B.Device.Disk (S.left script.old) (S.left script.new) (B.at bay.old) (B.at bay.new) → IsPlayedOrMemory result }
     // Nothing is written but the report.

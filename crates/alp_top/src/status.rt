@@ -3,10 +3,9 @@ ghost use Rattle.std.specs.Prelude.{◌≡◌, ◌++◌, codes, IfOk, string_byt
 ghost use Rattle.std.specs.Fmt.{decimal};
 ghost use Rattle.alp_top.specs.Statuses.{code_of, status_said, ended_by as ended_by_said};
 
-use crate::fault::RunFault;
-use crate::play::SERVER;
-use crate::step::JOURNAL_ENTRIES_MOST;
+use crate::fault::NoReport;
 use alp_base::OutOfMemory;
+use alp_cluster::{JOURNAL_ENTRIES_MOST, SERVER};
 use alp_disk::{Disk, Fuse};
 use alp_journal::RunLog;
 use alp_node::Opened;
@@ -70,22 +69,22 @@ impl<D: Disk> Status<D> {
 }
 
 /// The disk of server 1, or the bay, ended a run.
-pub fn ended_by<D: Disk>(fault: RunFault) -> Status<D>
+pub fn ended_by<D: Disk>(fault: NoReport) -> Status<D>
     ensures { result ≡ ended_by_said fault }
 {
     match fault {
-        RunFault::Bay => Status::DiskFault { server: 0 },
-        RunFault::Disk => Status::DiskFault { server: SERVER },
-        RunFault::OutOfMemory => Status::OutOfMemory,
-        RunFault::JournalFull => Status::TooLong {
+        NoReport::Bay => Status::DiskFault { server: 0 },
+        NoReport::Disk => Status::DiskFault { server: SERVER },
+        NoReport::OutOfMemory => Status::OutOfMemory,
+        NoReport::JournalFull => Status::TooLong {
             limit: JOURNAL_ENTRIES_MOST as u32,
         },
-        RunFault::EpochEnd => Status::TooLong { limit: u32::MAX },
-        RunFault::NotAVolume { found } => Status::NotAVolume {
+        NoReport::EpochEnd => Status::TooLong { limit: u32::MAX },
+        NoReport::NotAVolume { found } => Status::NotAVolume {
             server: SERVER,
             found,
         },
-        RunFault::Damaged { place } => Status::Damaged {
+        NoReport::Damaged { place } => Status::Damaged {
             server: SERVER,
             place,
         },

@@ -1,16 +1,17 @@
 //! The volume of the run's server: it is started, played on, and given back.
 ghost use Rattle.std.specs.Prelude.{◌≡◌, ◌≤◌, IsTrue, IfOk, IfErr};
 ghost use Rattle.alp_base.specs.declared.allowance.Allowance.TheVariants.{Free};
+ghost use Rattle.alp_cluster.specs.Runs.{StopNone};
 ghost use Rattle.alp_script.specs.Accepted.{IsAccepted};
 ghost use Rattle.alp_top.specs.Anywhere.{IsPlayedThrough};
 ghost use Rattle.alp_top.specs.Headline.{IsRunOf};
 ghost use Rattle.alp_top.specs.Volumes.{HasDiskCause, IsDiskTold, IsOfDisk};
 ghost use Rattle.alp_vault.specs.Vault.{AreSizes};
 
-use crate::fault::{RunFault, of_start, of_vault};
+use crate::fault::{NoReport, of_start, of_vault};
 use crate::finish::{Ended, run_node};
-use crate::play::SERVER;
 use alp_base::Sizes;
+use alp_cluster::SERVER;
 use alp_disk::Disk;
 use alp_node::Node;
 use alp_script::NumberedLine;
@@ -24,7 +25,7 @@ pub fn run_disk<D: Disk>(
     lines: &[NumberedLine],
     disk: D,
     sizes: Sizes,
-) -> (D, Result<Ended<Store<D>>, RunFault>)
+) -> (D, Result<Ended<Store<D>>, NoReport>)
     requires accepted { IsAccepted lines.now }
     requires pages { 2 ≤ D.size disk }
     requires sizes { AreSizes sizes }
@@ -35,7 +36,7 @@ pub fn run_disk<D: Disk>(
     ensures ran { IsTrue (D.tells disk) → IfOk result.1 (λ e. IsRunOf ⟦<Store<D> as Vault>⟧ D.Disk sizes lines.now e.log e.text.items disk result.0) }
     ensures through { IfOk result.1 (λ e. IsPlayedThrough ⟦<Store<D> as Vault>⟧ lines.now e.log e.text.items) }
     ensures own { IfErr result.1 IsOfDisk }
-    ensures counted { IsDiskTold result.1 (D.faults disk) (D.faults result.0) }
+    ensures counted { IsDiskTold (StopNone lines.now) result.1 (D.faults disk) (D.faults result.0) }
     ensures cause { IsTrue (D.tells disk) → IfErr result.1 (λ f. HasDiskCause D.Disk sizes lines.now f disk result.0) }
 {
     let store = match Store::start(alloc, disk, SERVER, 1, sizes) {
@@ -52,6 +53,6 @@ pub fn run_disk<D: Disk>(
     let disk = store.into_disk();
     match ended {
         Ok(ended) => (disk, Ok(ended)),
-        Err(fault) => (disk, Err(RunFault::from(fault))),
+        Err(fault) => (disk, Err(NoReport::from(fault))),
     }
 }

@@ -17,6 +17,3 @@ pub use laws::counts_leave_log_room;
 pub use limits::{BLOCKS_PER_FILE, FILES_PER_SERVER, HEAD_PAGES, OWNERS_PER_SERVER};
 pub use mem_vault::MemVault;
 pub use vault::Vault;
-
-#[cfg(test)]
-mod tests;

@@ -9,6 +9,3 @@ mod read;
 pub use command::Command;
 pub use fault::WordsFault;
 pub use read::read_command;
-
-#[cfg(test)]
-mod tests;

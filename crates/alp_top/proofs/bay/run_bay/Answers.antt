@@ -113,7 +113,7 @@ returns-clause-counted g c =
     taken_by c.run_disk-disk.result.1 _ (
       c.in_ok-device.device,
       c.stop_after.new.self,
-      counted_alike c.run_disk-disk.result.1 _ _ (h.faults c.in_ok-device.device) (h.faults c.stop_after.new.self) c.new.ensures.faults (sym (c.stop_after.ensures.faults ∙ ap h.faults c.into_inner-device.ensures)) c.run_disk-disk.ensures.counted,
+      counted_alike _ c.run_disk-disk.result.1 _ _ (h.faults c.in_ok-device.device) (h.faults c.stop_after.new.self) c.new.ensures.faults (sym (c.stop_after.ensures.faults ∙ ap h.faults c.into_inner-device.ensures)) c.run_disk-disk.ensures.counted,
     )
 
 pub returns-clause-chosen : goal.returns-clause-chosen

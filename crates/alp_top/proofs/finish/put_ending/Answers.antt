@@ -6,8 +6,37 @@ use Rattle.alp_files.specs.Sound.{AreSound}
 use Rattle.alp_report.specs.Sections.{printed}
 use Rattle.alp_report.specs.declared.summary.Summary.{Summary}
 use Rattle.alp_vault.specs.Contents.{Contents}
+use Rattle.alp_cluster.specs.declared.fault.RunFault.TheVariants as fault
+use Rattle.alp_cluster.proofs.GoneLemmas.{gone_ok, gone_memory, gone_handed, handed_on}
+use Rattle.alp_top.proofs.LookLemmas.{looked_on, looked_wanting}
 use Rattle.alp_top.proofs.SummaryLemmas.{printed_is}
 use Rattle.alp_top.proofs.finish.put_ending.Goals as goal
+
+pub returns-in_err-owners-clause-gone : goal.returns-in_err-owners-clause-gone
+returns-in_err-owners-clause-gone g c =
+    gone_handed g.V.Vault (Unit {0}) c.args.vault.now c.owner_records.new.vault c.in_err-owners.field-0.0 c.from_residual.result c.in_err-owners.ensures.gone
+    (handed_on c.in_err-owners.field-0.0 c.from_residual.result c.from_residual.ensures.0 c.from_residual.ensures.1)
+
+pub returns-in_err-owners-clause-looked : goal.returns-in_err-owners-clause-looked
+returns-in_err-owners-clause-looked g c =
+    looked_on g.V.Vault c.args.vault.now c.args.vault.now c.owner_records.new.vault c.in_err-owners.field-0.0 c.from_residual.result refl refl c.in_err-owners.ensures.looked
+    (handed_on c.in_err-owners.field-0.0 c.from_residual.result c.from_residual.ensures.0 c.from_residual.ensures.1)
+
+pub returns-in_err-put_summary-clause-gone : goal.returns-in_err-put_summary-clause-gone
+returns-in_err-put_summary-clause-gone g c =
+    rw (handed_on fault.OutOfMemory c.from_residual-in_err-put_summary.result c.from_residual-in_err-put_summary.ensures.0 c.from_residual-in_err-put_summary.ensures.1)
+    (gone_memory g.V.Vault (Unit {0}) c.args.vault.now c.owner_records.new.vault c.in_ok-owners.owners c.in_ok-owners.ensures.gone)
+
+pub returns-in_err-put_summary-clause-looked : goal.returns-in_err-put_summary-clause-looked
+returns-in_err-put_summary-clause-looked g c =
+    looked_wanting g.V.Vault c.args.vault.now c.owner_records.new.vault c.from_residual-in_err-put_summary.result c.in_ok-owners.ensures.looked.held c.in_ok-owners.ensures.looked.allowance
+    (handed_on fault.OutOfMemory c.from_residual-in_err-put_summary.result c.from_residual-in_err-put_summary.ensures.0 c.from_residual-in_err-put_summary.ensures.1)
+
+pub returns-clause-gone : goal.returns-clause-gone
+returns-clause-gone g c = gone_ok g.V.Vault (Unit {0}) c.args.vault.now c.owner_records.new.vault c.in_ok-owners.owners tt c.in_ok-owners.ensures.gone
+
+pub returns-clause-looked : goal.returns-clause-looked
+returns-clause-looked g c = record { held = c.in_ok-owners.ensures.looked.held; allowance = c.in_ok-owners.ensures.looked.allowance; serves = c.in_ok-owners.ensures.looked.serves; room = tt }
 
 pub returns-clause-printed : goal.returns-clause-printed
 returns-clause-printed g c =

@@ -1,16 +1,68 @@
-use Rattle.std.specs.Prelude.{Ok, Option, IsTrue}
+use Rattle.std.specs.Prelude.{Ok, Err, Option, IsTrue}
 use Rattle.std.specs.List.{filter_map, cons_option}
-use Rattle.std.proofs.Common.{◌≡◌, [], ◌++◌, sym, ◌∙◌, ap, subst, append-nil}
+use Rattle.std.proofs.Common.{◌≡◌, ℕ, [], ◌++◌, refl, sym, ◌∙◌, ap, subst, append-nil}
 use Rattle.std.proofs.lemmas.List.{take_all}
 use Rattle.std.specs.FinMap as map
 use Rattle.alp_base.specs.declared.key.Key.TheVariants.{OwnerOf}
 use Rattle.alp_files.specs.Cells.{Cells, owner_in}
 use Rattle.alp_files.specs.declared.cell.OwnerRecord.{OwnerRecord}
 use Rattle.alp_vault.specs.Contents.{Contents}
-use Rattle.alp_top.proofs.GoneLemmas.{gone_then, gone_ok}
+use Rattle.alp_cluster.specs.declared.fault.RunFault.TheVariants as fault
+use Rattle.alp_cluster.proofs.GoneLemmas.{gone_nothing, gone_both, gone_ok, gone_on, gone_memory, handed_on}
+use Rattle.alp_top.proofs.LookLemmas.{looked_on, looked_wanting}
 use Rattle.alp_top.proofs.OwnerLemmas.{at_name, next_record, records_by_names}
 use Rattle.alp_top.proofs.owners.owner_records.Goals as goal
 use Rattle.alp_top.proofs.owners.owner_records.Goals.{in-Some+in_ok-push, in_default}
+
+-- ---- before the first name
+
+pub returns-in_err-names-clause-gone : goal.returns-in_err-names-clause-gone
+returns-in_err-names-clause-gone g c =
+    rw (handed_on fault.OutOfMemory c.from_residual.result c.from_residual.ensures.0 c.from_residual.ensures.1) (gone_nothing g.V.Vault (Unit {0}) c.args.vault.now (Err fault.OutOfMemory) tt tt refl)
+
+pub returns-in_err-names-clause-looked : goal.returns-in_err-names-clause-looked
+returns-in_err-names-clause-looked g c =
+    looked_wanting g.V.Vault c.args.vault.now c.args.vault.now c.from_residual.result refl refl (handed_on fault.OutOfMemory c.from_residual.result c.from_residual.ensures.0 c.from_residual.ensures.1)
+
+pub returns-in_err-records-clause-gone : goal.returns-in_err-records-clause-gone
+returns-in_err-records-clause-gone g c =
+    rw (handed_on fault.OutOfMemory c.from_residual-in_err-records.result c.from_residual-in_err-records.ensures.0 c.from_residual-in_err-records.ensures.1) (gone_nothing g.V.Vault (Unit {0}) c.args.vault.now (Err fault.OutOfMemory) tt tt refl)
+
+pub returns-in_err-records-clause-looked : goal.returns-in_err-records-clause-looked
+returns-in_err-records-clause-looked g c =
+    looked_wanting g.V.Vault c.args.vault.now c.args.vault.now c.from_residual-in_err-records.result refl refl (handed_on fault.OutOfMemory c.from_residual-in_err-records.result c.from_residual-in_err-records.ensures.0 c.from_residual-in_err-records.ensures.1)
+
+pub loop-name-init : goal.loop-name-init
+loop-name-init g c = record {
+  found = λ told. c.in_ok-records.ensures.items;
+  gone = gone_nothing g.V.Vault (Unit {0}) c.args.vault.now (Ok 0) tt tt refl;
+  held = refl;
+  allowance = refl;
+  serves = c.requires.serving;
+}
+
+-- ---- a name
+
+pub returns-in_err-record-clause-gone : goal.returns-in_err-record-clause-gone
+returns-in_err-record-clause-gone g c =
+    gone_on g.V.Vault (Unit {0}) c.args.vault.now c.loop-name.vault c.owner_record.new.vault 0 c.in_err-record.field-0.0 c.from_residual-in_err-record.result c.loop-name.invariant.gone c.in_err-record.ensures.gone
+    (handed_on c.in_err-record.field-0.0 c.from_residual-in_err-record.result c.from_residual-in_err-record.ensures.0 c.from_residual-in_err-record.ensures.1)
+
+pub returns-in_err-record-clause-looked : goal.returns-in_err-record-clause-looked
+returns-in_err-record-clause-looked g c =
+    looked_on g.V.Vault c.args.vault.now c.loop-name.vault c.owner_record.new.vault c.in_err-record.field-0.0 c.from_residual-in_err-record.result c.loop-name.invariant.held c.loop-name.invariant.allowance c.in_err-record.ensures.looked
+    (handed_on c.in_err-record.field-0.0 c.from_residual-in_err-record.result c.from_residual-in_err-record.ensures.0 c.from_residual-in_err-record.ensures.1)
+
+pub returns-in_err-push-clause-gone : goal.returns-in_err-push-clause-gone
+returns-in_err-push-clause-gone g c =
+    rw (handed_on fault.OutOfMemory c.from_residual-in_err-push.result c.from_residual-in_err-push.ensures.0 c.from_residual-in_err-push.ensures.1)
+    (gone_memory g.V.Vault {T = ℕ} (Unit {0}) c.args.vault.now c.owner_record.new.vault 0
+    (gone_both g.V.Vault (Unit {0}) c.args.vault.now c.loop-name.vault c.owner_record.new.vault 0 (Ok 0) c.loop-name.invariant.gone (gone_ok g.V.Vault (Unit {0}) c.loop-name.vault c.owner_record.new.vault _ 0 c.in_ok-record.ensures.gone)))
+
+pub returns-in_err-push-clause-looked : goal.returns-in_err-push-clause-looked
+returns-in_err-push-clause-looked g c =
+    looked_wanting g.V.Vault c.args.vault.now c.owner_record.new.vault c.from_residual-in_err-push.result (c.in_ok-record.ensures.looked.held ∙ c.loop-name.invariant.held) (c.in_ok-record.ensures.looked.allowance ∙ c.loop-name.invariant.allowance)
+    (handed_on fault.OutOfMemory c.from_residual-in_err-push.result c.from_residual-in_err-push.ensures.0 c.from_residual-in_err-push.ensures.1)
 
 pub loop-name-preserved : goal.loop-name-preserved
 loop-name-preserved g c =
@@ -26,11 +78,19 @@ loop-name-preserved g c =
           (before.found told)
           (one.record (subst IsTrue (sym before.gone.same.telling) told) ∙ ap (λ (x : Contents). owner_in (map.get x.cells (OwnerOf c.name-item.result))) before.held)
           more;
-      gone = gone_then g.V.Vault _ _ _ 0 (Ok 0) before.gone (gone_ok g.V.Vault _ _ _ 0 one.gone);
+      gone = gone_both g.V.Vault (Unit {0}) c.args.vault.now c.loop-name.vault c.owner_record.new.vault 0 (Ok 0) before.gone (gone_ok g.V.Vault (Unit {0}) c.loop-name.vault c.owner_record.new.vault _ 0 one.gone);
       held = one.looked.held ∙ before.held;
       allowance = one.looked.allowance ∙ before.allowance;
       serves = one.looked.serves;
     }
+
+-- ---- all names
+
+pub returns-clause-gone : goal.returns-clause-gone
+returns-clause-gone g c = gone_ok g.V.Vault (Unit {0}) c.args.vault.now c.loop-name.vault 0 _ c.loop-name.invariant.gone
+
+pub returns-clause-looked : goal.returns-clause-looked
+returns-clause-looked g c = record { held = c.loop-name.invariant.held; allowance = c.loop-name.invariant.allowance; serves = c.loop-name.invariant.serves; room = tt }
 
 pub returns-clause-owners : goal.returns-clause-owners
 returns-clause-owners g c told =

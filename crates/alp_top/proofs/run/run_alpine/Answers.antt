@@ -1,6 +1,7 @@
 use Rattle.std.specs.Prelude.{Option, map as list_map, string_bytes}
 use Rattle.std.proofs.Common.{ℕ, List, sym, ◌∙◌, subst}
 use Rattle.alp_script.specs.Accepted.{IsAccepted}
+use Rattle.alp_cluster.specs.Runs.{StopNone}
 use Rattle.alp_script.specs.Reading.{GaveScript}
 use Rattle.alp_script.specs.Volumes.{sizes_said}
 use Rattle.alp_script.specs.declared.numbered.NumberedLine.{NumberedLine}
@@ -21,7 +22,7 @@ returns-in-Ok-run_bay-clause-headline g c told =
     let script : GaveScript (g.S.Source.left c.args.script.now) (g.S.Source.left c.read_script.new.source) lines = subst (GaveScript _ _) (sym c.deref.ensures.value) c.in-Ok-read_script.ensures.script in
     let asked = folder_told (λ name. name.now) c.folder_of.result _ _ (c.folder_of.ensures ∙ named_folder _ c.in-Ok.command c.in-Ok.ensures.named) told in
     done_then c.hand_over.result _ _
-    (λ log h. is_played _ g.B.Device.Disk _ _ _ _ _ _ lines c.in-Ok-run_bay.ended.log c.in-Ok-run_bay.ended.text.items script (c.in-Ok-run_bay.ensures.ran asked) log h.0 h.1)
+    (λ log h. is_played _ g.B.Device.Disk _ _ _ _ lines c.in-Ok-run_bay.ended.log c.in-Ok-run_bay.ended.text.items script (c.in-Ok-run_bay.ensures.ran asked) _ _ log h.0 h.1)
     c.hand_over.ensures.done
 
 pub returns-in-Ok-run_bay-clause-cut_off : goal.returns-in-Ok-run_bay-clause-cut_off
@@ -30,7 +31,7 @@ returns-in-Ok-run_bay-clause-cut_off g c told =
     let script : GaveScript (g.S.Source.left c.args.script.now) (g.S.Source.left c.read_script.new.source) lines = subst (GaveScript _ _) (sym c.deref.ensures.value) c.in-Ok-read_script.ensures.script in
     let asked = folder_told (λ name. name.now) c.folder_of.result _ _ (c.folder_of.ensures ∙ named_folder _ c.in-Ok.command c.in-Ok.ensures.named) told in
     cut_then c.hand_over.result _ _
-    (λ log h. is_cut_off _ g.B.Device.Disk _ _ _ _ _ _ lines c.in-Ok-run_bay.ended.log c.in-Ok-run_bay.ended.text.items script (c.in-Ok-run_bay.ensures.ran asked) log h.0 h.1 h.2)
+    (λ log h. is_cut_off _ g.B.Device.Disk _ _ _ _ lines c.in-Ok-run_bay.ended.log c.in-Ok-run_bay.ended.text.items script (c.in-Ok-run_bay.ensures.ran asked) _ _ log h.0 h.1 h.2)
     c.hand_over.ensures.cut_off
 
 pub returns-in-Ok-run_bay-clause-any_bay : goal.returns-in-Ok-run_bay-clause-any_bay
@@ -55,7 +56,7 @@ returns-clause-any_bay g c = record {
   cut_off = not_cut c.ended_by.result c.in-Err.fault _ c.ended_by.ensures;
   limits = limited c.ended_by.result c.in-Err.fault c.ended_by.ensures;
   server = of_first c.ended_by.result c.in-Err.fault c.ended_by.ensures;
-  counted = disk_counted g.B.Device.Disk.faults c.ended_by.result c.in-Err.fault c.ended_by.ensures c.in-Err.ensures.counted;
+  counted = disk_counted (StopNone c.deref.result.now) g.B.Device.Disk.faults c.ended_by.result c.in-Err.fault c.ended_by.ensures c.in-Err.ensures.counted;
 }
 
 pub returns-clause-folder : goal.returns-clause-folder

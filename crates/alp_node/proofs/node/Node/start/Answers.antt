@@ -24,8 +24,8 @@ use Rattle.alp_node.proofs.NodeLemmas.{up_durable}
 use Rattle.alp_node.proofs.StoreLemmas.{ends_later}
 use Rattle.alp_node.proofs.NoteLemmas.{put_first}
 use Rattle.alp_node.specs.ServerState.{IsAs, IsReady}
-use Rattle.alp_node.specs.Nodes.{IsRight, start_by}
-use Rattle.alp_node.proofs.StartLemmas.{raised_later, raised_within, raised_some, no_change, new_kept, new_alone, new_says, new_as, new_ready, new_right, volume_sized, kept_leaves, raised_leaves, vault_same}
+use Rattle.alp_node.specs.Nodes.{IsRight, start_by, sent_in}
+use Rattle.alp_node.proofs.StartLemmas.{raised_later, raised_within, raised_some, raised_last, no_change, new_kept, new_alone, new_says, new_as, new_ready, new_right, volume_sized, kept_leaves, raised_leaves, vault_same}
 use Rattle.alp_node.proofs.node.Node.start.Goals as goal
 
 pub store-requires-clause-clock : goal.store-requires-clause-clock
@@ -61,19 +61,24 @@ invariant_of-result g c =
       clock = c.in-Ok.clock.clock;
       drawn = 0;
       given = 0;
-      committed = 0;
       sessions = c.new-2.result;
       lives = c.new-3.result;
       dead = c.new-4.result;
       waits = c.new-5.result;
       locks = c.new-6.result;
+      decisions = c.new-7.result;
       vault = v;
       is_down = false;
     } in
-    let n : NodeState g.row.V.Denot = record { opening = record { vault = c.of.result }; kept = k; journal = c.new-7.result } in
+    let n : NodeState g.row.V.Denot = record { opening = record { vault = c.of.result }; kept = k; journal = c.new-8.result; servers = c.args.servers } in
     let new : ServerState g.row.V.Denot = new_kept k c.args.server (G.volume v) c.in-Ok.clock in
+    let servers_one : G.servers v ≡ 1 = c.store.ensures.kept.of_all ∙ c.requires.server.1 ∙ c.requires.alone in
+    let server_one : c.args.server ≡ 1 =
+    (let first : 1 ≤ c.args.server = subst (λ (m : ℕ). 1 ≤ m) c.requires.server.0 c.knows.ensures.server.first in
+    let among : c.args.server ≤ 1 = subst (λ (m : ℕ). m ≤ 1) c.requires.server.0 (subst (λ (m : ℕ). G.server c.args.vault ≤ m) (c.requires.server.1 ∙ c.requires.alone) c.knows.ensures.server.among) in
+    omega (arith, first, among)) in
     let same : new ≡ k =
-    (λ i. record k { sizes = (c.store.ensures.kept.sizes ∙ sym c.sizes-sizes.ensures) i; sessions = sym c.new-2.ensures i; lives = sym c.new-3.ensures i; dead = sym c.new-4.ensures i; waits = sym c.new-5.ensures i; locks = sym c.new-6.ensures.empty i }) in
+    (λ i. record k { sizes = (c.store.ensures.kept.sizes ∙ sym c.sizes-sizes.ensures) i; sessions = sym c.new-2.ensures i; lives = sym c.new-3.ensures i; dead = sym c.new-4.ensures i; waits = sym c.new-5.ensures i; locks = sym c.new-6.ensures.empty i; decisions = sym c.new-7.ensures i }) in
     let right : IsTrue (G.tells v) → IsRight (start_by G c.args.server c.of.result.value) held n =
     λ tells. (
     let told : IsTrue (G.tells c.args.vault) = subst IsTrue c.store.ensures.kept.telling tells in
@@ -83,21 +88,23 @@ invariant_of-result g c =
     let o : Start = start_by G c.args.server v in
     let opening : o ≡ start_by G c.args.server c.of.result.value = ap (start_by G c.args.server) (sym c.of.ensures) in
     subst (λ (x : Start). IsRight x held n) opening
-    (new_right n o held c.new-7.ensures (new_says c.args.server (G.servers v) (G.volume v) held.cells held.notes) sound (subst (λ (m : Cells). AreSized (map.get m)) (sym cells) (volume_sized (G.volume c.args.vault) before.cells volume))
+    (new_right n o held c.new-8.ensures (new_says c.args.server (G.servers v) (G.volume v) held.cells held.notes) sound (subst (λ (m : Cells). AreSized (map.get m)) (sym cells) (volume_sized (G.volume c.args.vault) before.cells volume))
     (subst (IsAs (new_alone o) held) same
     (new_as k c.args.server (G.servers v) (clock_kept before.notes).epoch (G.volume v) c.in-Ok.clock held (λ f x there. c.requires.given told f x (sym (ap (λ (m : Cells). map.get m (Leader f)) cells) ∙ there))
     (raised_later before c.in-Ok.clock c.in-Ok.ensures.clock) c.in_default.ensures.clock
     (c.in_default.ensures.notes ∙ put_first (G.server c.args.vault) (G.servers c.args.vault) before.notes c.in-Ok.clock c.in-Ok.ensures.notes)
-    (subst (λ (s : Sizes). IsVolumeOf s held.cells) (sym c.store.ensures.kept.sizes) (subst (IsVolumeOf (G.volume c.args.vault)) (sym cells) volume)))))
+    (subst (λ (s : Sizes). IsVolumeOf s held.cells) (sym c.store.ensures.kept.sizes) (subst (IsVolumeOf (G.volume c.args.vault)) (sym cells) volume)) servers_one server_one)))
     ) in
     record {
       number = c.store.ensures.kept.number ∙ c.requires.server.0;
+      all = c.store.ensures.kept.of_all ∙ c.requires.server.1;
       sizes = sym (c.store.ensures.kept.sizes ∙ sym c.sizes-sizes.ensures);
       noted = (λ _. c.in_default.ensures.format, λ _. ap (λ (x : ClockNote). x.epoch) c.in_default.ensures.clock);
+      mute = ap sent_in c.new-8.ensures;
       durable = λ tells. up_durable (start_by G c.args.server c.of.result.value) held n (G.may_leave v) (right tells) refl (c.knows-2.ensures.settled tells c.in_default.ensures.ended.0);
-      ready = subst (λ (m : ℕ). IsReady m (G.serves v) k) (sym (ap length c.new-7.ensures))
+      ready = subst (λ (m : ℕ). IsReady m (G.serves v) k) (sym (ap length c.new-8.ensures))
           (subst (IsReady 0 (G.serves v)) same
-          (new_ready k c.args.server (G.volume v) c.in-Ok.clock (G.serves v) c.in_default.ensures.ended.0 (raised_within before c.in-Ok.clock c.in-Ok.ensures.clock) (raised_some before c.in-Ok.clock c.in-Ok.ensures.clock)
+          (new_ready 0 k c.args.server (G.volume v) c.in-Ok.clock (G.serves v) c.in_default.ensures.ended.0 (raised_within before c.in-Ok.clock c.in-Ok.ensures.clock) (raised_some before c.in-Ok.clock c.in-Ok.ensures.clock) (raised_last before c.in-Ok.clock c.in-Ok.ensures.clock)
           (subst (λ (s : Sizes). 64 ≤ s.area) (sym c.store.ensures.kept.sizes) c.knows.ensures.limits.area_least)
           (subst IsSound c.new-6.ensures.empty c.new-6.ensures.sound)));
       right = right;

@@ -1,6 +1,6 @@
 use Rattle.std.specs.Prelude.{Some, None, max, Ok}
 use Rattle.std.specs.FinMap as map
-use Rattle.std.proofs.Common.{◌≡◌, ℕ, ◌+◌, ◌<◌, ◌≤◌, List, [], ◌∷◌, sym, ap, ◌∙◌, subst, refl, arith}
+use Rattle.std.proofs.Common.{◌≡◌, ℕ, ◌+◌, ◌<◌, ◌≤◌, List, [], ◌∷◌, ◌++◌, sym, ap, ◌∙◌, subst, refl, arith}
 use Rattle.alp_base.specs.declared.ids.TransId.{TransId}
 use Rattle.alp_base.specs.declared.key.Resource.{Resource}
 use Rattle.alp_files.specs.declared.call.Call.TheVariants as call
@@ -8,7 +8,6 @@ use Rattle.alp_files.specs.declared.refusal.Refusal.TheVariants as refusal
 use Rattle.alp_files.specs.declared.refusal.What.TheVariants as what
 use Rattle.alp_files.specs.declared.reply.Reply.{Reply}
 use Rattle.alp_files.specs.declared.reply.Reply.TheVariants as reply
-use Rattle.alp_files.proofs.UndoLemmas.{when_ok, when_err}
 use Rattle.alp_locks.specs.Tables.{Table, holding}
 use Rattle.alp_locks.specs.Asks.{entered}
 use Rattle.alp_locks.proofs.LawLemmas.{entering-keeps-held}
@@ -29,27 +28,21 @@ use Rattle.alp_node.proofs.WithinLemmas.{new_within}
 use Rattle.alp_node.proofs.StepLemmas.{plain_step}
 use Rattle.alp_node.proofs.GivenLemmas.{counts_none, reply_given}
 use Rattle.alp_node.proofs.BesideLemmas.{AreNamed, AreOthers}
-use Rattle.alp_node.proofs.BehindLemmas.{same_without, same_err}
+use Rattle.alp_node.proofs.BehindLemmas.{same_without}
 use Rattle.alp_node.proofs.KeptLemmas.{session_of}
-use Rattle.alp_node.proofs.MapLemmas.{put_gone}
 use Rattle.alp_node.proofs.ReadyLemmas.{next_new, begin_ready, refused_ready}
 use Rattle.alp_node.proofs.WaitLemmas.{named_all, none_newer}
-use Rattle.alp_node.specs.Releases.{buried}
+use Rattle.alp_node.specs.Releases.{buried, with_trans}
 use Rattle.alp_node.specs.Waits.{live_calls}
 use Rattle.alp_calls.proofs.LookLemmas.{left_same}
 use Rattle.alp_node.proofs.SeatLemmas.{left_step}
 use Rattle.alp_node.proofs.server_state.ServerState.begin.Goals as goal
 
-pub returns-then-is_err : goal.returns-then-is_err
-returns-then-is_err g c =
-    let k = c.args.self.now in
-    let G = g.V.Vault in
-    let serves = G.serves k.vault in
-    let t : TransId = record { server = k.server; epoch = k.epoch; counter = k.drawn + 1 } in
-    let l : Live = record { client = c.args.turn.now.client; who = c.args.turn.now.who; part = c.new-2.result; locks = 0 } in
-    let lives : c.remove.new.self ≡ k.lives = c.remove.ensures ∙ ap (λ (m : LiveMap). map.remove m t) c.in_ok-add.ensures.ok ∙ put_gone k.lives t l (next_new c.requires.ready.0 serves k c.requires.ready.2) in
-    let locks : c.enter.new.self ≡ k.locks = when_err c.enter.result _ c.enter.ensures.err (sym c.if-is_err.ensures.value) in
-    same_err G k _ (event.Call c.args.turn.now.client k.epoch c.args.turn.now.number (call.Begin c.args.seen)) _ (λ i. record k { lives = lives i; locks = locks i })
+pub enter-requires-clause-new : goal.enter-requires-clause-new
+enter-requires-clause-new g c = (let k = c.args.self.now in next_new c.requires.ready.0 (g.V.Vault.serves k.vault) k c.requires.ready.2)
+
+pub enter-requires-clause-idle : goal.enter-requires-clause-idle
+enter-requires-clause-idle g c = c.new-2.ensures.counts
 
 pub returns : goal.returns
 returns g c =
@@ -65,42 +58,34 @@ returns g c =
     let e = event.Call turn.client k.epoch turn.number (call.Begin c.args.seen) in
     let x = c.in_ok-answer.answer in
     let ready = c.requires.ready.2 in
-    let lives : c.add.new.self ≡ map.insert k.lives t l = c.in_ok-add.ensures.ok in
-    let locks : c.enter.new.self ≡ entered k.locks t = when_ok c.enter.result _ c.enter.ensures.after (sym c.if-is_err.ensures.value) in
+    let begun : c.enter.new.self ≡ with_trans k t l = c.in_ok-enter.ensures.ok in
     let is : x ≡ told_answer (Some r) (act.Drawn t ∷ []) = c.in_ok-answer.ensures.ok ∙ ap (told_answer (Some r)) (c.new-acts.ensures ∙ c.in_ok-vec.ensures.items) in
     let few : map.len k.lives < 64 = omega (arith, c.if-len-ge-MOST_TRANSACTIONS.false, c.len.ensures) in
     let new = next_new c.requires.ready.0 serves k ready in
     let after : ServerState g.row.V.Denot = record k {
       sessions = counted_in k.sessions turn r;
-      clock = c.max-self.result;
+      clock = c.max-clock.result;
       drawn = k.drawn + 1;
+      decisions = k.decisions ++ 0 ∷ [];
       dead = without_client turn.client k.dead;
       lives = map.insert k.lives t l;
       waits = live_calls turn.client (map.insert k.lives t l) k.waits;
       locks = entered k.locks t;
     } in
-    let counted : c.count.new.self ≡ counted_in k.sessions turn r = c.count.ensures ∙ ap (λ (y : ServerState _). counted_in y.sessions turn r) c.bury-2.ensures in
-    let kept : record (c.bury-2.new.self) { sessions = c.count.new.self } ≡ after =
-    (λ i. record (c.bury-2.ensures i) { sessions = counted i })
-    ∙ (λ i. record k {
-      sessions = counted_in k.sessions turn r;
-      clock = c.max-self.result;
-      drawn = k.drawn + 1;
-      dead = without_client turn.client k.dead;
-      lives = lives i;
-      waits = live_calls turn.client (lives i) k.waits;
-      locks = locks i;
-    }) in
+    let on : record (c.enter.new.self) { drawn = k.drawn + 1; clock = c.max-clock.result } ≡ record (with_trans k t l) { drawn = k.drawn + 1; clock = c.max-clock.result } = (λ i. record (begun i) { drawn = k.drawn + 1; clock = c.max-clock.result }) in
+    let buried_now : c.bury-2.new.self ≡ buried (record (with_trans k t l) { drawn = k.drawn + 1; clock = c.max-clock.result }) turn.client = c.bury-2.ensures ∙ ap (λ (y : ServerState _). buried y turn.client) on in
+    let counted : c.count.new.self ≡ counted_in k.sessions turn r = c.count.ensures ∙ ap (λ (y : ServerState _). counted_in y.sessions turn r) buried_now in
+    let kept : record (c.bury-2.new.self) { sessions = c.count.new.self } ≡ after = (λ i. record (buried_now i) { sessions = counted i }) in
     let named : AreNamed k.waits = named_all k.server k.epoch k.given k.drawn k.sizes k.lives k.waits ready.waits.calls in
     let away : AreOthers t k.waits = none_newer k.server k.epoch k.given k.drawn k.sizes k.lives t k.waits (omega arith) ready.waits.calls in
     subst (λ (y : ServerState _). IsStep G k y e (Ok x)) (sym kept)
     (left_step G k after refl refl refl (left_same G k.vault) e x c.requires.up
-    (λ told a h. subst (λ (n : ℕ). Stepped a faults faults held (record after { clock = n }) e x) (sym c.max-self.ensures)
+    (λ told a h. subst (λ (n : ℕ). Stepped a faults faults held (record after { clock = n }) e x) (sym c.max-clock.ensures)
     (begin_stepped a held k turn.client turn.number (session_of turn c.requires.turn) c.args.seen c.new-2.result faults faults x (entered k.locks t) h c.requires.turn.client c.requires.up c.requires.turn.session c.requires.turn.number few new
-    (λ u q. ap (λ y. map.get y q) (entering-keeps-held k.locks t u)) c.new-2.ensures.own c.new-2.ensures.intents c.new-2.ensures.counts named away refl (entering-keeps-held k.locks t) is))
+    (λ u q. ap (λ y. map.get y q) (entering-keeps-held k.locks t u)) c.new-2.ensures.own c.new-2.ensures.intents c.new-2.ensures.counts ready.decisions.all named away refl (entering-keeps-held k.locks t) is))
     (reply_given k.server faults faults (G.allowance k.vault) k.is_down r (act.Drawn t ∷ []) x is (counts_none k.server faults faults k.is_down (Some r) refl refl c.requires.up) c.requires.up tt)
-    (λ n h. begin_ready n serves k turn t l c.max-self.result c.requires.turn refl c.new-2.ensures.own (new_within k.sizes turn.client turn.who c.new-2.result c.new-2.ensures.intents c.new-2.ensures.counts h.sized) few (omega (arith, c.max-self.ensures)) (omega (arith, c.max-self.ensures, h.clock, c.requires.time)) h)
-    (λ on. subst (λ (y : Answer). HasTurned (Some order.Next) k after e y.kept) (sym is) (counts_on k after turn c.requires.turn (call.Begin c.args.seen) r tt (omega (arith, c.max-self.ensures)) tt tt refl)))
+    (λ n h. begin_ready n serves k turn t l c.max-clock.result c.requires.turn refl c.new-2.ensures.own (new_within k.sizes turn.client turn.who c.new-2.result c.new-2.ensures.intents c.new-2.ensures.counts h.sized) few (omega (arith, c.max-clock.ensures)) (omega (arith, c.max-clock.ensures, h.clock, c.requires.time)) h)
+    (λ on. subst (λ (y : Answer). HasTurned (Some order.Next) k after e y.kept) (sym is) (counts_on k after turn c.requires.turn (call.Begin c.args.seen) r tt (omega (arith, c.max-clock.ensures)) tt tt refl)))
 
 pub returns-then-len-ge-MOST_TRANSACTIONS : goal.returns-then-len-ge-MOST_TRANSACTIONS
 returns-then-len-ge-MOST_TRANSACTIONS g c =
@@ -120,8 +105,8 @@ returns-then-len-ge-MOST_TRANSACTIONS g c =
     (named_all k.server k.epoch k.given k.drawn k.sizes k.lives k.waits c.requires.ready.2.waits.calls) c.refuse.ensures.answer))
     (counts_refused k c.refuse.new.self turn c.requires.turn (call.Begin c.args.seen) f tt (ap (λ (y : ServerState _). y.clock) kept) (ap (λ (y : ServerState _). y.sessions) kept))
 
--- there is no room for the part
-pub returns-in_err-add : goal.returns-in_err-add
-returns-in_err-add g c =
+-- there is no room for it
+pub returns-in_err-enter : goal.returns-in_err-enter
+returns-in_err-enter g c =
     let k = c.args.self.now in
-    same_without g.V.Vault k _ (event.Call c.args.turn.now.client k.epoch c.args.turn.now.number (call.Begin c.args.seen)) c.from_residual-in_err-add.result (ap (λ (m : LiveMap). record k { lives = m }) c.in_err-add.ensures.err) c.from_residual-in_err-add.ensures.0
+    same_without g.V.Vault k _ (event.Call c.args.turn.now.client k.epoch c.args.turn.now.number (call.Begin c.args.seen)) c.from_residual-in_err-enter.result c.in_err-enter.ensures.err c.from_residual-in_err-enter.ensures.0

@@ -1,6 +1,6 @@
 use Rattle.std.specs.Prelude.{Ok, Err, None, Some, flat_map}
 use Rattle.std.specs.FinMap as map
-use Rattle.std.proofs.Common.{◌≡◌, ◌+◌, ◌*◌, ◌≤◌, List, [], ◌∷◌, ◌++◌, inl, inr, true, refl, sym, ap, ◌∙◌, subst, arith}
+use Rattle.std.proofs.Common.{◌≡◌, ℕ, ◌+◌, ◌*◌, ◌≤◌, List, [], ◌∷◌, ◌++◌, length, inl, inr, true, refl, sym, ap, ◌∙◌, subst, arith}
 use Rattle.alp_files.specs.declared.call.Call.TheVariants as call
 use Rattle.alp_files.specs.declared.refusal.Refusal.TheVariants as refusal
 use Rattle.alp_journal.specs.declared.act.Act.TheVariants as act
@@ -8,6 +8,7 @@ use Rattle.alp_base.specs.Allowances.{Spends}
 use Rattle.alp_files.specs.declared.reply.Reply.TheVariants as reply
 use Rattle.alp_journal.specs.declared.event.Event.TheVariants as event
 use Rattle.alp_node.specs.ServerState.{IsAs, IsReady}
+use Rattle.alp_node.specs.Decisions.{with_time}
 use Rattle.alp_node.specs.Eases.{eased}
 use Rattle.alp_node.specs.Releases.{grant_acts, granted_behind, let_go}
 use Rattle.alp_node.specs.Steps.{IsOf, IsStep, told_answer, refused_answer, counted_in, entry_of}
@@ -36,13 +37,13 @@ use Rattle.alp_journal.specs.Desk.{waiting_of}
 use Rattle.alp_journal.specs.Holder.{with_life}
 use Rattle.alp_journal.specs.Moves.{act_deeds}
 use Rattle.alp_journal.specs.Deeds.{Releases}
-use Rattle.alp_node.specs.Durable.{said_by, MightBring, Leaves, Besides, IsWritten}
+use Rattle.alp_node.specs.Durable.{said_by, Leaves, Besides, IsWritten}
 use Rattle.alp_vault.specs.Contents.{Contents}
-use Rattle.alp_node.proofs.SeatLemmas.{leaves_as, same_format}
+use Rattle.alp_node.proofs.SeatLemmas.{same_format}
 use Rattle.alp_node.specs.Halts.{Ends}
 use Rattle.alp_node.specs.declared.stored.StoreFault.{StoreFault}
 use Rattle.alp_node.proofs.SpaceLemmas.{commit_fits}
-use Rattle.alp_node.proofs.CommitLemmas.{commit_stepped, commit_might, commit_halt_stepped, write_leaves, still_stored, let_go_vault, waits_none}
+use Rattle.alp_node.proofs.CommitLemmas.{commit_stepped, commit_halt_stepped, write_leaves, still_stored, let_go_vault, waits_none}
 use Rattle.alp_node.proofs.KeptLemmas.{IsLive, live_there, of_client, as_with}
 use Rattle.alp_node.proofs.StepLemmas.{down_step}
 use Rattle.alp_node.proofs.server_state.ServerState.decide.Goals as goal
@@ -67,12 +68,20 @@ ease_all-requires-clause-part g c u l there =
     let serving = ready_with c.requires.ready.0 (g.V.Vault.serves k.vault) (g.V.Vault.serves v) k v c.in-Ok.ensures.ended.0 c.requires.up c.requires.ready.2 in
     ((let_go_ready c.requires.ready.0 (g.V.Vault.serves v) (record k { vault = v }) c.args.trans serving).within u l (sym (ap (λ (y : ServerState _). map.get y.lives u) c.release.ensures.after) ∙ there)).part
 
-pub overflow_add-self : goal.overflow_add-self
-overflow_add-self g c =
+pub decide-requires-clause-some : goal.decide-requires-clause-some
+decide-requires-clause-some g c = (c.requires.ready.2.begun c.args.trans c.in-Some.live.now (sym c.in-Some.ensures)).0
+
+pub decide-requires-clause-begun : goal.decide-requires-clause-begun
+decide-requires-clause-begun g c =
     let k = c.args.self.now in
-    let same : c.ease_all.new.self.committed ≡ k.committed =
-    ap (λ (y : ServerState _). y.committed) c.ease_all.ensures ∙ ap (λ (y : ServerState _). y.committed) (c.release.ensures.after ∙ let_go_vault k c.store.new.vault c.args.trans) ∙ ap (λ (y : ServerState _). y.committed) (let_go_of k c.args.trans) in
-    omega (arith, same, c.requires.ready.2.committed, c.requires.ready.1)
+    let v = c.store.new.vault in
+    let t = c.args.trans in
+    let given : t.counter ≤ k.drawn = (c.requires.ready.2.begun t c.in-Some.live.now (sym c.in-Some.ensures)).1 in
+    let same : (c.ease_all.new.self).decisions ≡ k.decisions =
+    ap (λ (y : ServerState _). y.decisions) (c.ease_all.ensures ∙ ap (λ (y : ServerState _). record y { lives = eased c.as_slice-2.result.now y.lives c.as_slice.result.now }) (c.release.ensures.after ∙ let_go_vault k v t))
+    ∙ ap (λ (y : ServerState _). y.decisions) (let_go_of k t) in
+    let long : length (c.ease_all.new.self).decisions ≡ k.drawn = ap (λ (times : List ℕ). length times) same ∙ c.requires.ready.2.decisions.all in
+    omega (arith, given, long)
 
 pub store-requires-clause-part : goal.store-requires-clause-part
 store-requires-clause-part g c = (c.requires.ready.2.within c.args.trans c.in-Some.live.now (sym c.in-Some.ensures)).part
@@ -164,11 +173,7 @@ returns-in-Err-OutOfMemory g c =
       };
       seat = record { server = refl; sizes = refl; epoch = refl; same = c.store.ensures.kept; spends = c.store.ensures.allowance };
       turned = λ up. tt;
-      leaves = λ told a h.
-          leaves_as G k.vault v (IsWritten live.part.intents (record { epoch = k.epoch; clock = k.clock + 1 }) (G.held k.vault)) (MightBring (alone a) e)
-          (λ z w. commit_might a 0 0 (G.held k.vault) z k turn t live v c.requires.ready.0 (G.serves k.vault) h c.requires.ready.2 c.requires.turn c.requires.up c.requires.clock c.requires.here there
-          (subst (IsOf turn.client) there c.requires.own) (waits_none a (G.held k.vault) k turn.client t live c.requires.ready.0 (G.serves k.vault) h c.requires.ready.2 there (subst (IsOf turn.client) there c.requires.own) c.requires.idle) (c.requires.ready.2.within t live there) (λ rose. omega (arith, rose)) w)
-          (c.store.ensures.leaves told);
+      leaves = λ told a h. c.in-Err-OutOfMemory.ensures.memory told (ap Err c.in-Err-OutOfMemory.field-0-is);
     }
 
 pub returns : goal.returns
@@ -193,18 +198,19 @@ returns g c =
       lives = eased blocks (let_go k t).lives (map.keys k.lives);
       sessions = counted_in k.sessions turn (reply.Committed stamp);
       clock = k.clock + 1;
-      committed = k.committed + 1;
+      decisions = with_time k.decisions t.counter (k.clock + 1);
       vault = v;
     } in
     let gone : c.release.new.self ≡ record (let_go k t) { vault = v } = c.release.ensures.after ∙ let_go_vault k v t in
     let eased_now : c.ease_all.new.self ≡ record (let_go k t) { lives = eased blocks (let_go k t).lives (map.keys k.lives); vault = v } =
     c.ease_all.ensures ∙ ap (λ (y : ServerState _). record y { lives = eased c.as_slice-2.result.now y.lives c.as_slice.result.now }) gone
     ∙ (λ i. record (let_go k t) { lives = eased (c.as_slice-2.ensures.value i) (let_go k t).lives ((c.as_slice.ensures.value ∙ c.in_ok-others.ensures.ids) i); vault = v }) in
-    let committed : c.ease_all.new.self.committed ≡ k.committed = ap (λ (y : ServerState _). y.committed) eased_now ∙ ap (λ (y : ServerState _). y.committed) (let_go_of k t) in
     let sessions : c.count.new.self ≡ counted_in k.sessions turn (reply.Committed stamp) =
     c.count.ensures ∙ ap (λ (y : ServerState _). counted_in y.sessions turn (reply.Committed stamp)) (eased_now ∙ ap (λ (y : ServerState _). record y { lives = eased blocks (let_go k t).lives (map.keys k.lives); vault = v }) (let_go_of k t)) in
-    let kept : record (c.ease_all.new.self) { clock = k.clock + 1; committed = c.ease_all.new.self.committed + 1; sessions = c.count.new.self } ≡ after =
-    (λ i. record (eased_now i) { clock = k.clock + 1; committed = committed i + 1; sessions = sessions i }) in
+    let decisions : c.decide.new.self ≡ with_time k.decisions t.counter (k.clock + 1) =
+    c.decide.ensures ∙ ap (λ (times : List ℕ). with_time times t.counter (k.clock + 1)) (ap (λ (y : ServerState _). y.decisions) eased_now ∙ ap (λ (y : ServerState _). y.decisions) (let_go_of k t)) in
+    let kept : record (c.ease_all.new.self) { clock = k.clock + 1; decisions = c.decide.new.self; sessions = c.count.new.self } ≡ after =
+    (λ i. record (eased_now i) { clock = k.clock + 1; decisions = decisions i; sessions = sessions i }) in
     let so : x ≡ told_answer (Some (reply.Committed stamp)) acts =
     c.committed.ensures
     ∙ ap (told_answer (Some (reply.Committed stamp)))
@@ -218,7 +224,7 @@ returns g c =
           (counts_none k.server (G.faults k.vault) (G.faults v) (let_go k t).is_down (Some (reply.Committed stamp)) refl stored.ended.1 (ap (λ (y : ServerState _). y.is_down) (let_go_of k t) ∙ c.requires.up))
           (ap (λ (y : ServerState _). y.is_down) (let_go_of k t) ∙ c.requires.up ∙ sym (grants_go_on (granted_behind k t))) (grants_caused (G.faults k.vault) (G.faults v) (G.allowance v) (granted_behind k t));
       ready = λ n h.
-          eased_ready (n + 1) (G.serves v) (record (let_go k t) { sessions = counted_in k.sessions turn (reply.Committed stamp); clock = k.clock + 1; committed = k.committed + 1; vault = v }) blocks (map.keys k.lives)
+          eased_ready (n + 1) (G.serves v) (record (let_go k t) { sessions = counted_in k.sessions turn (reply.Committed stamp); clock = k.clock + 1; decisions = with_time k.decisions t.counter (k.clock + 1); vault = v }) blocks (map.keys k.lives)
           (committed_ready n k turn t (G.serves k.vault) (G.serves v) v stored.ended.0 c.requires.up c.requires.turn c.requires.clock h);
       noted = λ h. ((λ up. stored.format), (λ up. ap (λ (n : ClockNote). n.epoch) stored.clock ∙ sym (ap (λ (y : ServerState _). y.epoch) (let_go_of k t))));
       still = tt;

@@ -21,7 +21,7 @@ returns-in_default g c =
     let k = c.args.self.now in
     let G = g.V.Vault in
     let so : c.silence.result ≡ told_answer None [] = c.silence.ensures ∙ ap (told_answer None) (c.new-in_default.ensures ∙ c.new.ensures.items) in
-    silent_step G k k c.args.trans c.silence.result [] refl refl refl refl c.requires.up c.requires.up so refl (λ m n b. tt) (λ n h. stepped_ready n (G.serves k.vault) k h)
+    silent_step G k k (event.Timeout c.args.trans) c.silence.result [] refl refl refl refl c.requires.up c.requires.up so refl (λ m n b. tt) (λ n h. stepped_ready n (G.serves k.vault) k h)
     (λ a h. idle_stepped a (G.faults k.vault) (G.faults k.vault) (G.held k.vault) k c.args.trans c.silence.result h c.requires.up (sym c.get.ensures ∙ ap option_copied c.in_default.is) so) refl refl
 
 pub release-requires-clause-part : goal.release-requires-clause-part
@@ -39,7 +39,7 @@ returns g c =
     let same : c.release.new.self ≡ after = c.release.ensures.after ∙ ap (λ (ds : List DeadPart). let_go (record k { dead = ds }) t) c.in_ok-add.ensures.ok ∙ let_go_aside k t dead in
     let so : c.silence-2.result ≡ told_answer None (act.Released t ∷ grant_acts (granted_behind k t)) =
     c.silence-2.ensures ∙ ap (told_answer None) (c.new-2.ensures ∙ c.release.ensures.acts ∙ ap (λ (acts : List Act). acts ++ grant_acts (granted_behind k t)) c.in_ok-acts.ensures.acts) in
-    silent_step G k c.release.new.self t c.silence-2.result (act.Released t ∷ grant_acts (granted_behind k t)) (ap (λ (y : ServerState _). y.vault) same ∙ ap (λ (y : ServerState _). y.vault) (let_go_of k t)) (ap (λ (y : ServerState _). y.server) same ∙ ap (λ (y : ServerState _). y.server) (let_go_of k t))
+    silent_step G k c.release.new.self (event.Timeout t) c.silence-2.result (act.Released t ∷ grant_acts (granted_behind k t)) (ap (λ (y : ServerState _). y.vault) same ∙ ap (λ (y : ServerState _). y.vault) (let_go_of k t)) (ap (λ (y : ServerState _). y.server) same ∙ ap (λ (y : ServerState _). y.server) (let_go_of k t))
     (ap (λ (y : ServerState _). y.sizes) same ∙ ap (λ (y : ServerState _). y.sizes) (let_go_of k t)) (ap (λ (y : ServerState _). y.epoch) same ∙ ap (λ (y : ServerState _). y.epoch) (let_go_of k t)) c.requires.up
     (ap (λ (y : ServerState _). y.is_down) same ∙ ap (λ (y : ServerState _). y.is_down) (let_go_of k t) ∙ c.requires.up) so (grants_go_on (granted_behind k t)) (λ m n b. grants_caused m n b (granted_behind k t))
     (λ n h. subst (λ (y : ServerState _). IsReady (n + 1) (G.serves k.vault) y) (sym same) (stepped_ready n (G.serves k.vault) after (buried_ready n (G.serves k.vault) (let_go k t) dead (let_go_ready n (G.serves k.vault) k t h))))

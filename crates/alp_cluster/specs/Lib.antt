@@ -1,0 +1,13 @@
+pub mod Turns
+pub mod Come
+pub mod Happens
+pub mod Plays
+pub mod Fills
+pub mod Servers
+pub mod Exchanges
+pub mod Goes
+pub mod Rests
+pub mod Steps
+pub mod Standings
+pub mod Ends
+pub mod Runs

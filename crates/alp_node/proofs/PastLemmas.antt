@@ -1,0 +1,197 @@
+-- what stays of a server that fell, and what it keeps when it starts again
+use Rattle.std.specs.Prelude.{cond, Bool, true, false, not, ◌==◌, ◌&&◌, ◌||◌, nat_lt, nat_le, Option, None, Some}
+use Rattle.std.specs.List.{AllByRecursion}
+use Rattle.std.specs.FinMap as map
+use Rattle.std.proofs.Common.{◌≡◌, ◌⊎◌, inl, inr, ℕ, zero, suc, ◌+◌, ◌<◌, ◌≤◌, ◌^◌, List, [], ◌∷◌, ◌++◌, append-nil, refl, sym, ◌∙◌, ap, subst, arith, eq-eqb}
+use Rattle.std.proofs.lemmas.Bool.{le-leb, lt-ltb, ltb-true, eqb-true}
+use Rattle.alp_base.proofs.NameLemmas.{and_left, and_right}
+use Rattle.alp_base.specs.declared.faults.Sizes.{Sizes}
+use Rattle.alp_base.specs.declared.ids.FileId.{FileId}
+use Rattle.alp_base.specs.declared.ids.Stamp.{Stamp}
+use Rattle.alp_base.specs.declared.ids.TransId.{TransId}
+use Rattle.alp_base.specs.declared.key.Key.TheVariants.{Leader}
+use Rattle.alp_fields.specs.declared.clock_note.ClockNote.{ClockNote}
+use Rattle.alp_files.specs.Apart.{AreSized}
+use Rattle.alp_files.specs.Cells.{Cells, View}
+use Rattle.alp_files.specs.Edits.{Edit, edits_at, edits_map}
+use Rattle.alp_files.specs.History.{Decided}
+use Rattle.alp_files.proofs.HistoryLemmas.{get-edits_map}
+use Rattle.alp_locks.proofs.SoundLemmas.{each-more}
+use Rattle.alp_vault.specs.Contents.{Contents}
+use Rattle.alp_vault.specs.Volumes.{IsVolumeOf}
+use Rattle.alp_journal.specs.Ids.{is_drawn, same_trans}
+use Rattle.alp_journal.specs.Coordinator.{Fate, Undrawn, Running, Committed}
+use Rattle.alp_journal.specs.Coordinator as fate
+use Rattle.alp_journal.specs.Holder.{Life}
+use Rattle.alp_journal.specs.State.{is_other_server}
+use Rattle.alp_journal.specs.Alone.{Alone, alone, IsQuiet, IsPaired, IsTriedCommit, AreEarlier}
+use Rattle.alp_journal.specs.Restarts.{restarted_at, with_decided}
+use Rattle.alp_journal.proofs.IdLemmas.{all-append, same_trans-true}
+use Rattle.alp_journal.proofs.StampLemmas.{put-last, AreEarlier-push}
+use Rattle.alp_node.specs.Durable.{clock_notes}
+use Rattle.alp_node.specs.Downs.{IsPast}
+use Rattle.alp_node.specs.ServerState.{IsAs, IsReady, IsToCome, SeesNoneToCome, PutNoneBeyond, AreMade, HaveBegun, ids_to, trans_to, is_beyond}
+use Rattle.alp_node.specs.Totals.{totals_of, HaveRoom}
+use Rattle.alp_node.specs.declared.server_state.ServerState.{ServerState}
+use Rattle.alp_node.proofs.DecisionLemmas.{ends_none}
+use Rattle.alp_node.proofs.KeptLemmas.{earlier_more}
+use Rattle.alp_node.proofs.StartLemmas.{new_kept, new_room, alike_none, no_session, volume_sized}
+use Rattle.alp_node.proofs.ToComeLemmas.{comes_after}
+
+-- ---- what stays
+
+pub past_of : {V : Type 0} (n : ℕ) (serves : Bool) (a : Alone) (held : Contents) (k : ServerState V) (sizes : Sizes) → IsAs a held k → IsReady n serves k → k.sizes ≡ sizes → IsPast a k.server k.epoch sizes
+past_of n serves a held k sizes h ready same = record {
+  number = h.server;
+  lone = h.lone;
+  volume = h.sizes ∙ same;
+  now = h.epoch;
+  clock = omega (arith, h.clock, ready.clock);
+  unborn = λ t l live. subst (λ (m : ℕ). PutNoneBeyond a.holder.server a.ids.epoch m l.edits) (sym h.files) (h.unborn t l live);
+  begun = subst (λ (m : ℕ). HaveBegun a.holder.server a.ids.epoch m a.begun) (sym h.drawn) h.begun;
+  undrawn = subst (λ (m : ℕ). (t : TransId) → is_beyond a.holder.server a.ids.epoch m t ≡ true → a.fates t ≡ Undrawn) (sym h.drawn) h.undrawn;
+  made = subst (λ (m : ℕ). AreMade a.holder.server a.ids.epoch m a.holder.made) (sym h.files) h.made;
+  born = subst (λ (m : ℕ). SeesNoneToCome a.holder.server a.ids.epoch m (map.get a.holder.cells)) (sym h.files) h.born;
+  earlier = h.earlier;
+  quiet = h.quiet;
+}
+
+-- ---- ids of older epochs
+
+trans_old : (server epoch n : ℕ) → AllByRecursion (λ (t : TransId). t.epoch < epoch + 1) (trans_to server epoch n)
+trans_old server epoch zero = tt
+trans_old server epoch (suc n) = all-append (λ (t : TransId). t.epoch < epoch + 1) (trans_to server epoch n) ((record { server = server; epoch = epoch; counter = suc n }) ∷ []) (trans_old server epoch n) (omega arith, tt)
+
+pub begun_again : (server epoch n : ℕ) (begun : List TransId) → HaveBegun server epoch n begun → HaveBegun server (epoch + 1) 0 begun
+begun_again server epoch n begun h = record {
+  early = begun;
+  old = subst (AllByRecursion (λ (t : TransId). t.epoch < epoch + 1)) (sym h.all)
+      (all-append (λ (t : TransId). t.epoch < epoch + 1) h.early (trans_to server epoch n) (each-more (λ (t : TransId). t.epoch < epoch) (λ (t : TransId). t.epoch < epoch + 1) (λ t low. omega (arith, low)) h.early h.old) (trans_old server epoch n));
+  all = sym (append-nil begun);
+}
+
+ids_drawn : (server epoch n : ℕ) → 0 < epoch → AllByRecursion (λ (f : FileId). is_drawn server (epoch + 1) 0 f.server f.epoch f.counter ≡ true) (ids_to server epoch n)
+ids_drawn server epoch zero some = tt
+ids_drawn server epoch (suc n) some = (
+  (λ i. eq-eqb server server refl i && lt-ltb 0 epoch some i && lt-ltb 0 (suc n) (omega arith) i && (lt-ltb epoch (epoch + 1) (omega arith) i || (epoch == epoch + 1 && nat_le (suc n) 0))),
+  ids_drawn server epoch n some,
+)
+
+older_drawn : (server epoch : ℕ) (f : FileId) → is_drawn server epoch 0 f.server f.epoch f.counter ≡ true → is_drawn server (epoch + 1) 0 f.server f.epoch f.counter ≡ true
+older_drawn server epoch f h =
+    let low : f.epoch < epoch + 1 = near (nat_lt f.epoch epoch) refl (and_right (f.server == server && nat_lt 0 f.epoch && nat_lt 0 f.counter) (nat_lt f.epoch epoch || (f.epoch == epoch && nat_le f.counter 0)) h) in
+    λ i. and_left (f.server == server && nat_lt 0 f.epoch && nat_lt 0 f.counter) (nat_lt f.epoch epoch || (f.epoch == epoch && nat_le f.counter 0)) h i && (lt-ltb f.epoch (epoch + 1) low i || (f.epoch == epoch + 1 && nat_le f.counter 0))
+  where
+    near : (b : Bool) → nat_lt f.epoch epoch ≡ b → (b || (f.epoch == epoch && nat_le f.counter 0)) ≡ true → f.epoch < epoch + 1
+    near true e h = (let less : f.epoch < epoch = ltb-true f.epoch epoch e in omega (arith, less))
+    near false e h = (let same : f.epoch ≡ epoch = eqb-true f.epoch epoch (and_left (f.epoch == epoch) (nat_le f.counter 0) h) in omega (arith, same))
+
+pub made_again : (server epoch n : ℕ) (made : List FileId) → 0 < epoch → AreMade server epoch n made → AreMade server (epoch + 1) 0 made
+made_again server epoch n made some h = record {
+  early = made;
+  old = subst (AllByRecursion (λ (f : FileId). is_drawn server (epoch + 1) 0 f.server f.epoch f.counter ≡ true)) (sym h.all)
+      (all-append (λ (f : FileId). is_drawn server (epoch + 1) 0 f.server f.epoch f.counter ≡ true) (ids_to server epoch n) h.early (ids_drawn server epoch n some)
+      (each-more (λ (f : FileId). is_drawn server epoch 0 f.server f.epoch f.counter ≡ true) (λ (f : FileId). is_drawn server (epoch + 1) 0 f.server f.epoch f.counter ≡ true) (older_drawn server epoch) h.early h.old));
+  all = refl;
+}
+
+-- what is beyond the ids of the next epoch was beyond those of this one
+beyond_before : (server epoch n : ℕ) (t : TransId) → is_beyond server (epoch + 1) 0 t ≡ true → is_beyond server epoch n t ≡ true
+beyond_before server epoch n t far = farther (t.server == server && nat_lt 0 t.counter) (nat_lt t.epoch (epoch + 1) || (t.epoch == epoch + 1 && nat_le t.counter 0)) (nat_lt t.epoch epoch || (t.epoch == epoch && nat_le t.counter n)) nearer far
+  where
+    farther : (x y z : Bool) → (z ≡ true → y ≡ true) → not (x && y) ≡ true → not (x && z) ≡ true
+    farther false y z h e = refl
+    farther true y false h e = refl
+    farther true true true h e = e
+    farther true false true h e = let wrong : false ≡ true = h refl in cc
+
+    low : (b : Bool) → nat_lt t.epoch epoch ≡ b → (b || (t.epoch == epoch && nat_le t.counter n)) ≡ true → t.epoch < epoch + 1
+    low true e h = (let less : t.epoch < epoch = ltb-true t.epoch epoch e in omega (arith, less))
+    low false e h = (let same : t.epoch ≡ epoch = eqb-true t.epoch epoch (and_left (t.epoch == epoch) (nat_le t.counter n) h) in omega (arith, same))
+
+    nearer : (nat_lt t.epoch epoch || (t.epoch == epoch && nat_le t.counter n)) ≡ true → (nat_lt t.epoch (epoch + 1) || (t.epoch == epoch + 1 && nat_le t.counter 0)) ≡ true
+    nearer h = ap (λ (b : Bool). b || (t.epoch == epoch + 1 && nat_le t.counter 0)) (lt-ltb t.epoch (epoch + 1) (low (nat_lt t.epoch epoch) refl h))
+
+-- ---- a server that starts again
+
+-- in the epoch after its last one, with this clock, on these cells
+pub again_as : {V : Type 0} (old : ServerState V) (sizes : Sizes) (b : Alone) (c : ClockNote) (held : Contents)
+    → ((n : ℕ) → is_other_server (alone b) n ≡ false) → 0 < b.ids.epoch → b.sizes ≡ sizes → b.ids.epoch + 1 ≡ c.epoch → held.cells ≡ b.holder.cells → held.notes ≡ clock_notes c → IsVolumeOf sizes held.cells
+    → HaveBegun b.holder.server b.ids.epoch b.ids.transactions b.begun → ((t : TransId) → is_beyond b.holder.server b.ids.epoch b.ids.transactions t ≡ true → b.fates t ≡ Undrawn)
+    → AreMade b.holder.server b.ids.epoch b.ids.files b.holder.made → SeesNoneToCome b.holder.server b.ids.epoch b.ids.files (map.get b.holder.cells) → AreEarlier c.clock b.holder.applied
+    → IsQuiet (restarted_at b c.clock) → IsAs (restarted_at b c.clock) held (new_kept old b.holder.server sizes c)
+again_as old sizes b c held lone some same later cells notes volume begun undrawn made born earlier quiet = record {
+  server = refl;
+  lone = lone;
+  sizes = same;
+  epoch = later;
+  clock = refl;
+  cells = λ _. cells;
+  sized = subst (λ (m : Cells). AreSized (map.get m)) cells (volume_sized sizes held.cells volume);
+  notes = λ _. notes ∙ (λ i. clock_notes (record { epoch = sym later i; clock = c.clock }));
+  places = refl;
+  sessions = λ client. sym (no_session client);
+  dead = λ client t. refl;
+  lives = alike_none b.holder.cells;
+  room = subst (λ (m : Cells). HaveRoom sizes m (totals_of map.empty)) cells (new_room sizes held.cells volume);
+  unborn = λ t l is. (let wrong : None ≡ Some l = is in cc);
+  current = λ t l is. (let wrong : None ≡ Some l = is in cc);
+  drawn = refl;
+  begun = begun_again b.holder.server b.ids.epoch b.ids.transactions b.begun begun;
+  undrawn = λ t far. ap (fate.restarted (b.ids.epoch + 1)) (undrawn t (beyond_before b.holder.server b.ids.epoch b.ids.transactions t far));
+  ends = ends_none b.holder.server (b.ids.epoch + 1) [] (restarted_at b c.clock).fates;
+  files = refl;
+  made = made_again b.holder.server b.ids.epoch b.ids.files b.holder.made some made;
+  born = λ f comes. born f (comes_after b.holder.server b.ids.epoch b.ids.files f comes);
+  earlier = earlier;
+  waits = refl;
+  queue = refl;
+  asked = tt;
+  quiet = quiet;
+  down = refl;
+}
+
+module _ {V : Type 0} (old : ServerState V) (server epoch : ℕ) (sizes : Sizes) (a : Alone) (past : IsPast a server epoch sizes) (some : 0 < epoch) where
+  some_epoch : 0 < a.ids.epoch
+  some_epoch = subst (λ (n : ℕ). 0 < n) (sym past.now) some
+
+  -- nothing of what was tried last is found made
+  pub lost_as : (c : ClockNote) (held : Contents) → a.ids.epoch + 1 ≡ c.epoch → c.clock ≡ a.holder.kept → held.cells ≡ a.holder.cells → held.notes ≡ clock_notes c → IsVolumeOf sizes held.cells
+      → IsQuiet (restarted_at a a.holder.kept) → IsAs (restarted_at a c.clock) held (new_kept old a.holder.server sizes c)
+  lost_as c held later clock cells notes volume quiet =
+      again_as old sizes a c held past.lone some_epoch past.volume later cells notes volume past.begun past.undrawn past.made past.born
+      (subst (λ (n : ℕ). AreEarlier n a.holder.applied) (sym clock) past.earlier) (subst (λ (n : ℕ). IsQuiet (restarted_at a n)) (sym clock) quiet)
+
+  -- the commit that was tried is found made
+  module _ (c : IsTriedCommit a.holder a.ids.epoch a.is_down a.pending) where
+    abbrev decided : Alone
+    decided = with_decided a c.stamp c.life
+
+    its_running : a.fates c.stamp.trans ≡ Running c.life.client []
+    its_running = (let pair : IsPaired (Some c.life) (a.fates c.stamp.trans) = subst (λ (x : Option Life). IsPaired x (a.fates c.stamp.trans)) c.live (past.quiet.settled.paired c.stamp.trans) in pair.0)
+
+    decided_undrawn : (t : TransId) → is_beyond a.holder.server a.ids.epoch a.ids.transactions t ≡ true → decided.fates t ≡ Undrawn
+    decided_undrawn t far = go (same_trans c.stamp.trans t) refl
+      where
+        go : (b : Bool) → same_trans c.stamp.trans t ≡ b → cond {A = Fate} b (Committed c.stamp [] []) (a.fates t) ≡ Undrawn
+        go false e = past.undrawn t far
+        go true e =
+            let wrong : Undrawn ≡ Running c.life.client [] = sym (past.undrawn t far) ∙ ap a.fates (sym (same_trans-true c.stamp.trans t e)) ∙ its_running in
+            cc
+
+    decided_born : SeesNoneToCome a.holder.server a.ids.epoch a.ids.files (map.get decided.holder.cells)
+    decided_born f comes =
+        ap (λ (view : View). view (Leader f)) (get-edits_map c.life.edits a.holder.cells) ∙ ap (edits_at c.life.edits (Leader f)) (past.born f comes) ∙ past.unborn c.stamp.trans c.life c.live f comes
+
+    decided_earlier : AreEarlier c.stamp.ts decided.holder.applied
+    decided_earlier =
+        let d : Decided = record { stamp = c.stamp; who = c.life.who; calls = c.life.calls } in
+        let before : AreEarlier a.holder.clock a.holder.applied = earlier_more a.holder.kept a.holder.clock a.holder.applied past.quiet.settled.order past.earlier in
+        let late : a.holder.clock < c.stamp.ts = (let time : c.stamp.ts ≡ a.holder.clock + 1 = c.time in omega (arith, time)) in
+        subst (AreEarlier c.stamp.ts) (sym (put-last a.holder.applied c.stamp d a.holder.clock before late)) (AreEarlier-push a.holder.applied c.stamp d a.holder.clock before (omega (arith, late)))
+
+    pub made_as : (n : ClockNote) (held : Contents) → a.ids.epoch + 1 ≡ n.epoch → n.clock ≡ c.stamp.ts → held.cells ≡ edits_map c.life.edits a.holder.cells → held.notes ≡ clock_notes n → IsVolumeOf sizes held.cells
+        → IsQuiet (restarted_at decided c.stamp.ts) → IsAs (restarted_at decided n.clock) held (new_kept old a.holder.server sizes n)
+    made_as n held later clock cells notes volume quiet =
+        again_as old sizes decided n held past.lone some_epoch past.volume later cells notes volume past.begun decided_undrawn past.made decided_born
+        (subst (λ (m : ℕ). AreEarlier m decided.holder.applied) (sym clock) decided_earlier) (subst (λ (m : ℕ). IsQuiet (restarted_at decided m)) (sym clock) quiet)

@@ -1,0 +1,75 @@
+-- a server whose vault was told how many calls pass
+use Rattle.std.specs.Prelude.{Bool, IsTrue}
+use Rattle.std.proofs.Common.{◌≡◌, ℕ, ◌∙◌, length, refl, sym, ap, subst}
+use Rattle.alp_base.specs.Crashes.{SameOutcomes}
+use Rattle.alp_fields.specs.ClockNote.{clock_kept}
+use Rattle.alp_vault.specs.Contents.{Contents}
+use Rattle.alp_vault.specs.Vault.{IsSameVault}
+use Rattle.alp_vault.specs.Volumes.{AreServerNotes}
+use Rattle.alp_vault.specs.declared.vault.Vault.{Ghosts}
+use Rattle.alp_node.specs.Durable.{IsDurable}
+use Rattle.alp_node.specs.NodeStates.{NodeState}
+use Rattle.alp_node.specs.Nodes.{IsConsistent, IsRight, state_of, start_in}
+use Rattle.alp_node.specs.ServerState.{IsReady}
+use Rattle.alp_node.specs.declared.server_state.ServerState.{ServerState}
+use Rattle.alp_node.proofs.KeptLemmas.{as_with}
+use Rattle.alp_node.proofs.NodeLemmas.{still_right}
+
+-- with another vault that serves as the old one did
+ready_beside : {V : Type 0} (n : ℕ) (before serves : Bool) (k : ServerState V) (v : V) → serves ≡ before → IsReady n before k → IsReady n serves (record k { vault = v })
+ready_beside n before serves k v same h = record {
+  serving = λ up. subst IsTrue (sym same) (h.serving up);
+  halted = λ down. same ∙ h.halted down;
+  sound = h.sound;
+  taken = h.taken;
+  waits = h.waits;
+  known = h.known;
+  begun = h.begun;
+  opens = h.opens;
+  opened = h.opened;
+  places = h.places;
+  calls = h.calls;
+  replies = h.replies;
+  drawn = h.drawn;
+  given = h.given;
+  few = h.few;
+  most = h.most;
+  within = h.within;
+  sized = h.sized;
+  clock = h.clock;
+  raised = h.raised;
+  last = h.last;
+  unheld = h.unheld;
+  decisions = h.decisions;
+}
+
+module _ {V : Type 0} (G : Ghosts V) (old : NodeState V) (v : V) (h : IsConsistent G old) (same : IsSameVault G.tells G.volume G.server G.servers old.kept.vault v) (serves : G.serves v ≡ G.serves old.kept.vault)
+    (held : G.held v ≡ G.held old.kept.vault) (outcomes : SameOutcomes (G.may_leave old.kept.vault) (G.may_leave v)) where
+  abbrev moved : NodeState V
+  moved = record old { kept = record (old.kept) { vault = v } }
+
+  told_before : IsTrue (G.tells v) → IsTrue (G.tells old.kept.vault)
+  told_before told = subst IsTrue same.telling told
+
+  moved_notes : AreServerNotes (G.server old.kept.vault) (G.servers old.kept.vault) (G.held old.kept.vault).notes → AreServerNotes (G.server v) (G.servers v) (G.held v).notes
+  moved_notes are =
+      subst (λ (c : Contents). AreServerNotes (G.server v) (G.servers v) c.notes) (sym held)
+      (subst (λ (n : ℕ). AreServerNotes n (G.servers v) (G.held old.kept.vault).notes) (sym same.number) (subst (λ (n : ℕ). AreServerNotes (G.server old.kept.vault) n (G.held old.kept.vault).notes) (sym same.of_all) are))
+
+  pub stopped_kept : IsConsistent G moved
+  stopped_kept = record {
+    number = same.number ∙ h.number;
+    all = same.of_all ∙ h.all;
+    sizes = h.sizes ∙ sym same.sizes;
+    ready = ready_beside (length old.journal) (G.serves old.kept.vault) (G.serves v) old.kept v serves h.ready;
+    noted = ((λ up. moved_notes (h.noted.0 up)), (λ up. ap (λ (c : Contents). (clock_kept c.notes).epoch) held ∙ h.noted.1 up));
+    mute = h.mute;
+    right = λ told. (
+        let r : IsRight (start_in G old) (G.held old.kept.vault) old = h.right (told_before told) in
+        still_right (start_in G old) (G.held old.kept.vault) (G.held v) old moved r (as_with r.state (G.held old.kept.vault) (G.held v) old.kept v held r.kept) refl
+        );
+    durable = λ told. (
+        let d : IsDurable (state_of (start_in G old) old.journal) (G.may_leave old.kept.vault) = h.durable (told_before told) in
+        record { up = λ up c here. d.up up c (outcomes.no_more c here); down = λ c here. d.down c (outcomes.no_more c here) }
+        );
+  }

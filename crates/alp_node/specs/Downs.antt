@@ -1,0 +1,262 @@
+-- Servers that fell, and how they start again.
+use Rattle.std.specs.Prelude.{◌≡◌, ◌⊎◌, ℕ, ◌+◌, ◌<◌, ◌≤◌, ◌^◌, true, false, IsTrue, List, [], ◌∷◌, ◌++◌, None, Some}
+use Rattle.std.specs.FinMap as map
+use Rattle.alp_base.specs.Crashes.{Either, NoMore, Adds}
+use Rattle.alp_base.specs.Faults.{HasFaultCause, IsCountKept, IsOfVolume}
+use Rattle.alp_base.specs.declared.allowance.Allowance.TheVariants.{Free}
+use Rattle.alp_base.specs.declared.ids.TransId.{TransId}
+use Rattle.alp_base.specs.declared.faults.Sizes.{Sizes}
+use Rattle.alp_base.specs.declared.faults.VaultFault.{VaultFault}
+use Rattle.alp_base.specs.declared.faults.VaultFault.TheVariants as vault_fault
+use Rattle.alp_fields.specs.ClockNote.{clock_name, clock_form, clock_kept}
+use Rattle.alp_fields.specs.declared.clock_note.ClockNote.{ClockNote}
+use Rattle.alp_vault.specs.Contents.{Contents}
+use Rattle.alp_vault.specs.Vault.{IsSameVault, IsOneOf}
+use Rattle.alp_vault.specs.Volumes.{AreServerNotes}
+use Rattle.alp_vault.specs.declared.vault.Vault.{Ghosts}
+use Rattle.alp_journal.specs.declared.act.Act.TheVariants as act
+use Rattle.alp_journal.specs.declared.event.Event.TheVariants as event
+use Rattle.alp_journal.specs.declared.entry.Entry.{Entry}
+use Rattle.alp_journal.specs.Along.{state_after}
+use Rattle.alp_journal.specs.Coordinator.{Undrawn}
+use Rattle.alp_journal.specs.Holder.{Holder, Life, holder_after}
+use Rattle.alp_journal.specs.Opening.{Start}
+use Rattle.alp_journal.specs.State.{State, is_other_server}
+use Rattle.alp_journal.specs.Laws.{IsLawful}
+use Rattle.alp_journal.specs.Answered.{IsAnswered}
+use Rattle.alp_journal.specs.Alone.{Alone, alone, IsQuiet, AreEarlier, AreOwnEvents}
+use Rattle.alp_node.specs.DownStates.{DownState}
+use Rattle.alp_node.specs.NodeStates.{NodeState}
+use Rattle.alp_node.specs.Durable.{stored_by, Leaves}
+use Rattle.alp_node.specs.Nodes.{IsSoundStart, state_of, start_by, sent_in}
+use Rattle.alp_node.specs.ServerState.{SeesNoneToCome, PutNoneBeyond, AreMade, HaveBegun, is_beyond}
+use Rattle.alp_node.specs.Sessions.{no_sessions}
+use Rattle.alp_node.specs.declared.server_state.ServerState.{ServerState}
+use Rattle.alp_node.specs.declared.start.StartFault.{StartFault}
+use Rattle.alp_node.specs.declared.start.StartFault.TheVariants as fault
+
+-- ---- what a crash left
+
+-- what the holder has with all that was tried last
+abbrev pub holder_then : State → Holder
+holder_then s = state_after holder_after s.holder s.pending
+
+-- It is what the journal says that the vault holds, or that with the whole of what was tried last; and the note has the last epoch, or
+-- the one after it, if there is one, which a restart put that was refused then.
+pub record IsLeftOf (s : State) (c : Contents) : Type 0 where
+  pub epoch : ℕ
+  pub near : (epoch ≡ s.ids.epoch) ⊎ (epoch ≡ s.ids.epoch + 1)
+  pub last : epoch < 2 ^ 32
+  pub either : Either (stored_by epoch s.holder) (stored_by epoch (holder_then s)) c
+
+-- ---- a server that fell
+
+-- Of the state that a server fell in these stay: which it is, and that no other is of the run; the ids that it gave and those that it
+-- did not; what was applied; and that it was quiet.
+pub record IsPast (a : Alone) (server epoch : ℕ) (sizes : Sizes) : Type 0 where
+  pub number : a.holder.server ≡ server
+  pub lone : (n : ℕ) → is_other_server (alone a) n ≡ false
+  pub volume : a.sizes ≡ sizes
+  pub now : a.ids.epoch ≡ epoch
+  pub clock : a.holder.clock ≤ 2 ^ 62
+  pub unborn : (t : TransId) (l : Life) → a.holder.lives t ≡ Some l → PutNoneBeyond a.holder.server a.ids.epoch a.ids.files l.edits
+  pub begun : HaveBegun a.holder.server a.ids.epoch a.ids.transactions a.begun
+  pub undrawn : (t : TransId) → is_beyond a.holder.server a.ids.epoch a.ids.transactions t ≡ true → a.fates t ≡ Undrawn
+  pub made : AreMade a.holder.server a.ids.epoch a.ids.files a.holder.made
+  pub born : SeesNoneToCome a.holder.server a.ids.epoch a.ids.files (map.get a.holder.cells)
+  pub earlier : AreEarlier a.holder.kept a.holder.applied
+  pub quiet : IsQuiet a
+
+-- its journal is lawful, and each of its entries has its cause
+pub record IsPastRight {V : Type 0} (o : Start) (sizes : Sizes) (d : DownState V) : Type 0 where
+  pub opening : IsSoundStart o
+  pub lawful : IsLawful o d.journal
+  pub caused : IsAnswered o d.journal
+  pub own : AreOwnEvents d.journal
+  pub state : Alone
+  pub says : state_of o d.journal ≡ alone state
+  pub past : IsPast state d.server d.epoch sizes
+
+-- what it was started on
+abbrev pub start_of : {V : Type 0} → Ghosts V → DownState V → Start
+start_of G d = start_by G d.server d.opening.vault.value
+
+-- What holds of each server that fell: the vault is of this server, does not serve before it is recovered, and passes all calls; nothing
+-- was said to another server; and where the vault tells what it holds, the journal is as it should be, and a crash leaves what it says.
+pub record IsFallen {V : Type 0} (G : Ghosts V) (d : DownState V) : Type 0 where
+  pub number : G.server d.vault ≡ d.server
+  pub all : G.servers d.vault ≡ d.servers
+  pub raised : 0 < d.epoch
+  pub last : d.epoch < 2 ^ 32
+  pub rests : G.serves d.vault ≡ false
+  pub free : G.allowance d.vault ≡ Free
+  pub mute : sent_in d.journal ≡ []
+  pub right : IsTrue (G.tells d.vault) → IsPastRight (start_of G d) (G.volume d.vault) d
+  pub left : IsTrue (G.tells d.vault) → (c : Contents) → G.may_leave d.vault c → IsLeftOf (state_of (start_of G d) d.journal) c
+
+-- The server fell: its vault came back from a crash with that pick, and nothing else changed.
+pub record HasFallen {V : Type 0} (G : Ghosts V) (pick : ℕ) (n : NodeState V) (d : DownState V) : Type 0 where
+  pub opening : d.opening ≡ n.opening
+  pub journal : d.journal ≡ n.journal
+  pub server : d.server ≡ n.kept.server
+  pub servers : d.servers ≡ n.servers
+  pub epoch : d.epoch ≡ n.kept.epoch
+  pub crashed : G.crashed n.kept.vault pick d.vault
+  pub same : IsSameVault G.tells G.volume G.server G.servers n.kept.vault d.vault
+  pub faults : G.faults d.vault ≡ G.faults n.kept.vault
+
+-- ---- starting again
+
+-- the clock of the note that was found, in the epoch after the last one
+abbrev pub next_clock : ℕ → Contents → ClockNote
+next_clock last found = record { epoch = last + 1; clock = (clock_kept found.notes).clock }
+
+abbrev pub with_clock : Contents → ClockNote → Contents
+with_clock c clock = record c { notes = map.insert c.notes clock_name (clock_form.spell clock) }
+
+-- It is what a crash might have left before, or that with the note of the epoch after the last one, where there is one and its notes are in
+-- the format of this server, one of so many.
+abbrev pub IsLeftOrRaised : {V : Type 0} → Ghosts V → ℕ → V → Contents → Type 0
+IsLeftOrRaised G last v c = G.may_leave v c ⊎ (found : Contents) × (last < 4294967295) × G.may_leave v found × AreServerNotes (G.server v) (G.servers v) found.notes × (c ≡ with_clock found (next_clock last found))
+
+-- the vault holds what a crash left, with the note of the next epoch and the clock that was found
+pub record HasRegained {V : Type 0} (G : Ghosts V) (last : ℕ) (old new : V) (clock : ClockNote) : Type 0 where
+  pub found : Contents
+  pub left : G.may_leave old found
+  pub notes : AreServerNotes (G.server old) (G.servers old) found.notes
+  pub next : clock ≡ next_clock last found
+  pub held : G.held new ≡ with_clock found clock
+
+-- the entry of the restart
+abbrev pub entry_again : ClockNote → Entry
+entry_again clock = record { event = event.Restart; reply = None; acts = act.Regained clock.epoch clock.clock [] [] ∷ [] }
+
+-- nothing of a client is kept
+pub record KeepsNobody {V : Type 0} (k : ServerState V) : Type 0 where
+  pub drawn : k.drawn ≡ 0
+  pub decisions : k.decisions ≡ []
+  pub given : k.given ≡ 0
+  pub sessions : k.sessions ≡ no_sessions
+  pub lives : k.lives ≡ map.empty
+  pub dead : k.dead ≡ []
+  pub waits : k.waits ≡ []
+  pub locks : k.locks ≡ record { held = map.empty; waiting = []; woken = [] }
+  pub up : k.is_down ≡ false
+
+-- ---- a vault
+
+-- it serves again, with what a crash left
+pub record IsRecovered {V : Type 0} (G : Ghosts V) (old new : V) : Type 0 where
+  pub serving : IsTrue (G.serves new)
+  pub left : IsTrue (G.tells old) → G.may_leave old (G.held new)
+  pub no_more : NoMore (G.may_leave old) (G.may_leave new)
+  pub time : Adds G.left_since old new (G.may_leave new)
+  pub same : IsSameVault G.tells G.volume G.server G.servers old new
+  pub free : G.allowance new ≡ Free
+  pub counted : G.faults new ≡ G.faults old
+
+-- it does not, for that cause
+pub record IsUnrecovered {V : Type 0} (G : Ghosts V) (old new : V) (f : VaultFault) : Type 0 where
+  pub rests : G.serves new ≡ false
+  pub no_more : NoMore (G.may_leave old) (G.may_leave new)
+  pub time : Adds G.left_since old new (G.may_leave old)
+  pub same : IsSameVault G.tells G.volume G.server G.servers old new
+  pub free : G.allowance new ≡ Free
+  pub cause : HasFaultCause (G.faults old) (G.faults new) (G.allowance new) f
+  pub later : G.faults old ≤ G.faults new
+  pub still : IsCountKept (G.faults old) (G.faults new) f
+  pub volume : IsTrue (G.tells old) → IsOfVolume f
+
+-- why a vault has no note to begin the next epoch with: there was no memory, or its notes are not in the format
+abbrev pub HasNextCause : {V : Type 0} → Ghosts V → V → StartFault → Type 0
+HasNextCause G v (fault.Vault f) = f ≡ vault_fault.OutOfMemory
+HasNextCause G v fault.BadNote = AreServerNotes (G.server v) (G.servers v) (G.held v).notes → ⊥
+HasNextCause G v fault.EpochEnd = ⊥
+
+-- the note that it begins the next epoch with
+pub record IsNext {V : Type 0} (G : Ghosts V) (last : ℕ) (v : V) (clock : ClockNote) : Type 0 where
+  pub next : clock ≡ next_clock last (G.held v)
+  pub within : clock.clock ≤ 2 ^ 62
+  pub notes : AreServerNotes (G.server v) (G.servers v) (G.held v).notes
+
+-- Why a vault does not begin the epoch after the last one: it was refused, and what it tells is a volume in its format, or what a crash
+-- left of its notes is not in the format, or that epoch is the last there is. The count of faults never falls. It stays where memory was
+-- wanting and where the notes are at fault.
+abbrev pub HasRaiseCause : {V : Type 0} → Ghosts V → ℕ → V → V → StartFault → Type 0
+HasRaiseCause G last old new (fault.Vault f) =
+    HasFaultCause (G.faults old) (G.faults new) (G.allowance new) f × (IsTrue (G.tells old) → IsOfVolume f) × (G.faults old ≤ G.faults new) × (f ≡ vault_fault.OutOfMemory → G.faults new ≡ G.faults old)
+HasRaiseCause G last old new fault.BadNote = (G.faults new ≡ G.faults old) × (IsTrue (G.tells old) → (c : Contents) × G.may_leave old c × (AreServerNotes (G.server old) (G.servers old) c.notes → ⊥))
+HasRaiseCause G last old new fault.EpochEnd = (last ≡ 4294967295) × (new ≡ old)
+
+-- It serves in the epoch after the last one, at that clock. Through the whole step a crash leaves what it might have left before, or that
+-- with the note of the next epoch.
+pub record HasBegunEpoch {V : Type 0} (G : Ghosts V) (last : ℕ) (old new : V) (clock : ClockNote) : Type 0 where
+  pub serving : IsTrue (G.serves new)
+  pub epoch : clock.epoch ≡ last + 1
+  pub within : clock.clock ≤ 2 ^ 62
+  pub regained : IsTrue (G.tells old) → HasRegained G last old new clock
+  pub format : AreServerNotes (G.server new) (G.servers new) (G.held new).notes
+  pub note : clock_kept (G.held new).notes ≡ clock
+  pub same : IsSameVault G.tells G.volume G.server G.servers old new
+  pub free : G.allowance new ≡ Free
+  pub counted : G.faults new ≡ G.faults old
+  pub crash : IsTrue (G.tells old) → Leaves G old new (IsLeftOrRaised G last old)
+
+-- A vault was powered off with that pick, and comes back from the crash.
+pub record IsPoweredOff {V : Type 0} (G : Ghosts V) (pick : ℕ) (old new : V) : Type 0 where
+  pub crashed : G.crashed old pick new
+  pub left : IsTrue (G.tells old) → IsOneOf (G.may_leave old) (G.may_leave new)
+  pub rests : G.serves new ≡ false
+  pub same : IsSameVault G.tells G.volume G.server G.servers old new
+  pub faults : G.faults new ≡ G.faults old
+  pub free : G.allowance new ≡ Free
+
+-- A vault comes back from a call through which a crash leaves just what is so. Where it does not serve then, it comes back as it is.
+-- Where it serves, nothing of it is half made, and it is powered off with pick 0: what it holds stays.
+pub record IsHandedBack {V : Type 0} (G : Ghosts V) (old new : V) (P : Contents → Type 0) : Type 0 where
+  pub mid : V
+  pub same : IsSameVault G.tells G.volume G.server G.servers old mid
+  pub crash : IsTrue (G.tells old) → Leaves G old mid P
+  pub back : (new ≡ mid) ⊎ (IsTrue (G.serves mid) × IsPoweredOff G 0 mid new)
+
+-- it does not serve, for that cause
+pub record HasNotBegun {V : Type 0} (G : Ghosts V) (last : ℕ) (old new : V) (f : StartFault) : Type 0 where
+  pub rests : G.serves new ≡ false
+  pub same : IsSameVault G.tells G.volume G.server G.servers old new
+  pub free : G.allowance new ≡ Free
+  pub cause : HasRaiseCause G last old new f
+  pub back : IsHandedBack G old new (IsLeftOrRaised G last old)
+
+-- ---- a server
+
+-- The server is up again in the epoch after its last one, with one entry more. It keeps nothing of a client. The note of its vault has its
+-- epoch and its clock, of any vault. Through the whole call a crash leaves what it might have left before, or that with the note of the
+-- next epoch.
+pub record HasRestarted {V : Type 0} (G : Ghosts V) (d : DownState V) (n : NodeState V) : Type 0 where
+  pub low : d.epoch < 4294967295
+  pub opening : n.opening ≡ d.opening
+  pub server : n.kept.server ≡ d.server
+  pub servers : n.servers ≡ d.servers
+  pub epoch : n.kept.epoch ≡ d.epoch + 1
+  pub journal : n.journal ≡ d.journal ++ entry_again (record { epoch = n.kept.epoch; clock = n.kept.clock }) ∷ []
+  pub nobody : KeepsNobody n.kept
+  pub regained : IsTrue (G.tells d.vault) → HasRegained G d.epoch d.vault n.kept.vault (record { epoch = n.kept.epoch; clock = n.kept.clock })
+  pub same : IsSameVault G.tells G.volume G.server G.servers d.vault n.kept.vault
+  pub faults : G.faults n.kept.vault ≡ G.faults d.vault
+  pub allowance : G.allowance n.kept.vault ≡ Free
+  pub note : clock_kept (G.held n.kept.vault).notes ≡ record { epoch = n.kept.epoch; clock = n.kept.clock }
+  pub crash : IsTrue (G.tells d.vault) → Leaves G d.vault n.kept.vault (IsLeftOrRaised G d.epoch d.vault)
+
+-- It is the same server, which may be started again. Just where its last epoch is the last there is, that is the cause, whatever else is
+-- wanting. Where its vault tells what it holds, its notes are never at fault: what a crash leaves of them is in the format.
+pub record IsStillDown {V : Type 0} (G : Ghosts V) (old new : DownState V) (f : StartFault) : Type 0 where
+  pub opening : new.opening ≡ old.opening
+  pub journal : new.journal ≡ old.journal
+  pub server : new.server ≡ old.server
+  pub servers : new.servers ≡ old.servers
+  pub epoch : new.epoch ≡ old.epoch
+  pub same : IsSameVault G.tells G.volume G.server G.servers old.vault new.vault
+  pub cause : HasRaiseCause G old.epoch old.vault new.vault f
+  pub end : old.epoch ≡ 4294967295 → f ≡ fault.EpochEnd
+  pub sound : IsTrue (G.tells old.vault) → f ≡ fault.BadNote → ⊥
+  pub back : IsHandedBack G old.vault new.vault (IsLeftOrRaised G old.epoch old.vault)

@@ -1,0 +1,4 @@
+//! One module for each crate.
+mod lines;
+mod tokens;
+mod words;

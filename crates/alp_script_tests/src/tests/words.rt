@@ -1,0 +1,120 @@
+//! What command lines mean, as their language says it.
+
+use alp_words::{Command, WordsFault, read_command};
+use std::test::Fail;
+
+// What a command line asks for.
+#[derive(Clone, Copy, Debug, PartialEq, Eq)]
+enum Wanted {
+    // To play in memory.
+    InMemory,
+    // To play on the volumes of this folder.
+    In(&'static str),
+    // Nothing: its words are bad.
+    Bad,
+}
+
+use Wanted::{Bad, In, InMemory};
+
+static LINES: [(&[&str], Wanted); 58] = [
+    (&["play"], InMemory),
+    (&["play", "--folder", "DIR"], In("DIR")),
+    (&["play", "--folder=DIR"], In("DIR")),
+    // A folder may have any name: an empty one, one with spaces, one that is a word of the command.
+    (&["play", "--folder="], In("")),
+    (&["play", "--folder", ""], In("")),
+    (&["play", "--folder", "two words"], In("two words")),
+    (&["play", "--folder=two words"], In("two words")),
+    (&["play", "--folder=a=b"], In("a=b")),
+    (&["play", "--folder==b"], In("=b")),
+    (&["play", "--folder", "play"], In("play")),
+    (&["play", "--folder", "help"], In("help")),
+    (&["play", "--folder", "-"], In("-")),
+    (&["play", "--folder=--folder"], In("--folder")),
+    // A name that begins with a hyphen stands behind `=`.
+    (&["play", "--folder=-x"], In("-x")),
+    (&["play", "--folder=--"], In("--")),
+    (&["play", "--folder", "-x"], Bad),
+    (&["play", "--folder", "--x"], Bad),
+    (&["play", "--folder", "-h"], Bad),
+    (&["play", "--folder", "--help"], Bad),
+    // Nothing stands behind `--`.
+    (&["play", "--"], InMemory),
+    (&["play", "--folder", "DIR", "--"], In("DIR")),
+    (&["play", "--", "now"], Bad),
+    (&["play", "--", "--"], Bad),
+    (&["play", "--", "--folder", "DIR"], Bad),
+    // The option has a value, stands once, and has this name alone.
+    (&["play", "--folder"], Bad),
+    (&["play", "--folder", "--"], Bad),
+    (&["play", "--folder", "A", "--folder", "B"], Bad),
+    (&["play", "--folder=A", "--folder=A"], Bad),
+    (&["play", "--folder", "A", "--folder"], Bad),
+    (&["play", "--folder", "A", "B"], Bad),
+    (&["play", "--fold", "DIR"], Bad),
+    (&["play", "--folders", "DIR"], Bad),
+    (&["play", "--FOLDER", "DIR"], Bad),
+    (&["play", "-folder", "DIR"], Bad),
+    (&["play", "-f", "DIR"], Bad),
+    (&["play", "--seed", "7"], Bad),
+    (&["play", "-x"], Bad),
+    (&["play", "now"], Bad),
+    (&["play", ""], Bad),
+    (&["play", "-"], Bad),
+    (&["play", "play"], Bad),
+    // It is an option of `play`, and stands behind it.
+    (&["--folder", "DIR", "play"], Bad),
+    (&["--folder=DIR", "play"], Bad),
+    // There is one subcommand.
+    (&[], Bad),
+    (&[""], Bad),
+    (&["--"], Bad),
+    (&["--", "play"], Bad),
+    (&["pla"], Bad),
+    (&["Play"], Bad),
+    (&[" play"], Bad),
+    (&["storm"], Bad),
+    // Requests for help and for the version are no commands.
+    (&["--help"], Bad),
+    (&["-h"], Bad),
+    (&["help"], Bad),
+    (&["help", "play"], Bad),
+    (&["play", "--help"], Bad),
+    (&["--version"], Bad),
+    (&["play", "-V"], Bad),
+];
+
+fn meaning_of(rt: &HostRuntime, line: &[&str]) -> Result<Result<Command, WordsFault>, Fail> {
+    let mut words = Vec::new(rt.alloc());
+    for word in line {
+        let mut text = String::new(rt.alloc());
+        text.push_str(word)?;
+        words.push(text)?;
+    }
+    Ok(read_command(rt.alloc(), &words))
+}
+
+// Whether a command line means what is wanted of it.
+fn is_wanted(meaning: &Result<Command, WordsFault>, wanted: Wanted) -> bool {
+    match meaning {
+        Ok(Command::Play { folder: None }) => wanted == InMemory,
+        Ok(
+            Command::Play {
+                folder: Some(folder),
+            },
+        ) => match wanted {
+            In(name) => folder.as_str() == name,
+            _ => false,
+        },
+        Err(fault) => wanted == Bad && *fault == WordsFault::Bad,
+    }
+}
+
+#[test]
+fn command_lines_mean_what_their_language_says(rt: HostRuntime) -> Result<(), Fail> {
+    for (line, wanted) in LINES {
+        let meaning = meaning_of(&rt, line)?;
+        assert!(rt; is_wanted(&meaning, wanted), "at {line:?}: {meaning:?}");
+    }
+    Ok(())
+}

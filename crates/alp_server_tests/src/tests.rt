@@ -1,0 +1,7 @@
+//! One module for each crate.
+mod fields;
+mod locks;
+mod modes;
+mod owner;
+mod rpc;
+mod vault;

@@ -1,0 +1,6 @@
+//! Tests of the program's top call, on disks in memory and in a folder: whole scripts and what they print, calls of the disk, the
+//! source and the sink that fail, and stops at each call of a commit.
+#![tactic(auto)]
+
+#[cfg(test)]
+mod tests;
