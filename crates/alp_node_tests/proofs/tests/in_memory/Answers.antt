@@ -5,7 +5,7 @@ use Rattle.std.proofs.Common.{◌≡◌, sym, ap, ◌∙◌}
 use Rattle.alp_base.specs.Keys.{key_cmp}
 use Rattle.alp_base.specs.declared.key.Key.TheVariants.{Leader}
 use Rattle.alp_vault.specs.Contents.{Contents}
-use Rattle.alp_node_tests.proofs.tests.falls.in_memory.Goals as goal
+use Rattle.alp_node_tests.proofs.tests.in_memory.Goals as goal
 
 -- a new vault has no files
 pub start-requires-clause-given : goal.start-requires-clause-given
