@@ -5,3 +5,4 @@ mod modes;
 mod owner;
 mod rpc;
 mod vault;
+mod worker;
