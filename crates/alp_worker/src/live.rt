@@ -1,7 +1,8 @@
 //! Joins that are live.
 ghost use Rattle.std.specs.Prelude.{◌≡◌};
 ghost use Rattle.alp_journal.specs.Ids.{same_join, same_trans};
-ghost use Rattle.alp_worker.specs.Lives.{is_open as is_open_said, stage_after, staged_one, is_part as is_part_said, is_ready_in};
+ghost use Rattle.alp_worker.specs.declared.live.Step.TheVariants as step;
+ghost use Rattle.alp_worker.specs.Lives.{is_open as is_open_said, stage_after, staged_one, is_part as is_part_said, is_ready_in as is_ready_said};
 
 use alp_base::{JoinNo, Name, TransId};
 
@@ -47,13 +48,32 @@ impl Stage {
     }
 
     /// The stage behind a step; one that the step is not for stays as it is.
-    pub(super) fn after(&self, step: Step) -> Stage
-        ensures { result ≡ stage_after step self.now }
+    pub(super) fn after(&self, next: Step) -> Stage
+        ensures { result ≡ stage_after next self.now }
     {
-        match (step, self) {
-            (Step::Enter, Stage::Joining(who)) => Stage::Active(*who),
-            (Step::Vote(ts), Stage::Active(_)) => Stage::Ready(ts),
-            _ => *self,
+        match next {
+            Step::Enter => self.entered(),
+            Step::Vote(ts) => self.voted(ts),
+        }
+    }
+
+    fn entered(&self) -> Stage
+        ensures { result ≡ stage_after step.Enter self.now }
+    {
+        match self {
+            Stage::Joining(who) => Stage::Active(*who),
+            Stage::Active(who) => Stage::Active(*who),
+            Stage::Ready(ts) => Stage::Ready(*ts),
+        }
+    }
+
+    fn voted(&self, time: u64) -> Stage
+        ensures { result ≡ stage_after (step.Vote time) self.now }
+    {
+        match self {
+            Stage::Joining(who) => Stage::Joining(*who),
+            Stage::Active(_) => Stage::Ready(time),
+            Stage::Ready(before) => Stage::Ready(*before),
         }
     }
 }
@@ -67,19 +87,23 @@ impl LiveJoin {
     }
 
     /// It, a step further if this is its number.
-    pub(super) fn gone_on(&self, join: &JoinNo, step: Step) -> LiveJoin
-        ensures { result ≡ staged_one join.now (stage_after step) self.now }
+    pub(super) fn gone_on(&self, join: &JoinNo, next: Step) -> LiveJoin
+        ensures { result ≡ staged_one join.now (stage_after next) self.now }
     {
-        let mut live = *self;
-        if is_same_join(join, &live.join) {
-            live.stage = live.stage.after(step);
+        if !is_same_join(join, &self.join) {
+            return *self;
         }
-        live
+        LiveJoin {
+            join: self.join,
+            trans: self.trans,
+            client: self.client,
+            stage: self.stage.after(next),
+        }
     }
 
     /// Whether it voted, and its transaction is this one.
     pub(super) fn is_ready_in(&self, trans: &TransId) -> bool
-        ensures { result ≡ is_ready_in trans.now self.now }
+        ensures { result ≡ is_ready_said trans.now self.now }
     {
         is_same_trans(trans, &self.trans) && !self.stage.is_open()
     }
