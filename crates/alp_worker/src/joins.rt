@@ -55,12 +55,7 @@ impl Joins {
             epoch: self.epoch,
             counter: self.drawn + 1,
         };
-        self.lives.push(LiveJoin {
-            join,
-            trans,
-            client,
-            stage: Stage::Joining(who),
-        })?;
+        self.lives.push(join, trans, client, Stage::Joining(who))?;
         self.drawn += 1;
         Ok(join)
     }

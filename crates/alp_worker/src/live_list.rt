@@ -4,7 +4,7 @@ ghost use Rattle.std.specs.Option.{option_copied as copied};
 ghost use Rattle.alp_worker.specs.Lives.{join_at, part_of as part_said, staged, stage_after, quitted, aborted_of, applied_of};
 ghost use Rattle.alp_worker.specs.declared.live.LiveJoin.{LiveJoin as ALive};
 
-use crate::live::{LiveJoin, Step, is_same_join, is_same_trans};
+use crate::live::{LiveJoin, Stage, Step, is_same_join, is_same_trans};
 use alp_base::{JoinNo, OutOfMemory, TransId};
 use std::alloc::Global;
 use std::marker::Model;
@@ -62,11 +62,22 @@ impl LiveList {
     }
 
     /// A join is live from now on.
-    pub fn push(&mut self, live: LiveJoin) -> Result<(), OutOfMemory>
-        ensures ok { OnOk result (self.new ≡ self.old ++ live ∷ []) }
+    pub fn push(
+        &mut self,
+        join: JoinNo,
+        trans: TransId,
+        client: u8,
+        stage: Stage,
+    ) -> Result<(), OutOfMemory>
+        ensures ok { OnOk result (self.new ≡ self.old ++ (record { join = join; trans = trans; client = client; stage = stage }) ∷ []) }
         ensures err { OnErr result (self.new ≡ self.old) }
     {
-        self.lives.push(live)?;
+        self.lives.push(LiveJoin {
+            join,
+            trans,
+            client,
+            stage,
+        })?;
         Ok(())
     }
 

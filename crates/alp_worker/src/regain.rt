@@ -4,11 +4,11 @@ ghost use Rattle.alp_journal.specs.Deeds as deed;
 ghost use Rattle.alp_journal.specs.Opening.{Start};
 ghost use Rattle.alp_journal.specs.State.{State, state_deed, opened};
 ghost use Rattle.alp_worker.specs.Joins.{AreJoinsOf};
-ghost use Rattle.alp_worker.specs.Regained.{part_noted, live_noted, with_parts, joins_regained, AreNoted, DoNotesStand};
+ghost use Rattle.alp_worker.specs.Regained.{part_noted, with_parts, joins_regained, AreNoted, DoNotesStand};
 ghost use Rattle.alp_worker.specs.declared.joins.Joins.{Joins as AJoins};
 
 use crate::joins::Joins;
-use crate::live::{LiveJoin, Stage};
+use crate::live::Stage;
 use crate::live_list::LiveList;
 use alp_base::{JoinNo, OutOfMemory, TransId};
 use std::alloc::Global;
@@ -51,19 +51,8 @@ fn lives_of(alloc: Global, parts: &[ReadyPart]) -> Result<LiveList, OutOfMemory>
     let mut lives = LiveList::new(alloc);
     for part in parts {
         if lives.get(&part.join).is_none() {
-            lives.push(live_of(part))?;
+            lives.push(part.join, part.trans, part.client, Stage::Ready(part.ts))?;
         }
     }
     Ok(lives)
-}
-
-fn live_of(part: &ReadyPart) -> LiveJoin
-    ensures { result ≡ live_noted part.now }
-{
-    LiveJoin {
-        join: part.join,
-        trans: part.trans,
-        client: part.client,
-        stage: Stage::Ready(part.ts),
-    }
 }
