@@ -85,13 +85,12 @@ fn no_room(area: u32, before: u64, after: u64) -> Option<Why>
     requires few { after ≤ before + 2 ^ 31 }
     ensures { result ≡ no_room_said area before after }
 {
-    let pages = area as u64;
-    if pages < after {
-        let room = pages.saturating_sub(before) as u32;
-        let asked = (after - before) as u32;
-        return Some(Why::LogFull { room, asked });
+    if after <= area as u64 {
+        return None;
     }
-    None
+    let room = (area as u64).saturating_sub(before) as u32;
+    let asked = (after - before) as u32;
+    Some(Why::LogFull { room, asked })
 }
 
 /// The first reason against a commit: a call that waits, the end of the clock, no room, or a read that failed.
@@ -104,11 +103,9 @@ pub fn first_why(failed: bool, waits: bool, is_end: bool, full: Option<Why>) -> 
     if is_end {
         return Some(Why::ClockEnd);
     }
-    if let Some(why) = full {
-        return Some(why);
+    match full {
+        Some(why) => Some(why),
+        None if failed => Some(Why::ReadFault),
+        None => None,
     }
-    if failed {
-        return Some(Why::ReadFault);
-    }
-    None
 }
