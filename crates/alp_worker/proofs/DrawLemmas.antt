@@ -1,6 +1,6 @@
 -- a number that was not drawn before
-use Rattle.std.specs.Prelude.{cond, Bool, true, false, not, ◌&&◌, ◌||◌, ◌==◌, nat_lt, nat_le, filter, Option, None, Some, is_some}
-use Rattle.std.specs.List.{AllByRecursion, list_any}
+use Rattle.std.specs.Prelude.{cond, Bool, true, false, not, ◌&&◌, ◌||◌, ◌==◌, nat_lt, nat_le, Option, None, Some, is_some}
+use Rattle.std.specs.List.{AllByRecursion}
 use Rattle.std.specs.Option.{option_or}
 use Rattle.std.proofs.Common.{◌≡◌, ℕ, ◌+◌, ◌<◌, ◌≤◌, List, [], ◌∷◌, ◌++◌, refl, sym, ◌∙◌, ap, subst, arith, eq-eqb, inl, inr, ◌⊎◌}
 use Rattle.std.proofs.lemmas.Bool.{and_parts, and_from, eqb-true, ltb-true, leb-true, lt-ltb, le-leb, lt-leb, le-ltb, not_from_false, not-true, or_cases}
@@ -10,14 +10,14 @@ use Rattle.alp_journal.specs.Deeds.{Joins as JoinsOf}
 use Rattle.alp_journal.specs.Ids.{same_join, has_join, is_drawn}
 use Rattle.alp_journal.specs.Laws.{are_joins_apart}
 use Rattle.alp_journal.specs.Moves.{next_join}
-use Rattle.alp_journal.specs.Participant.{Phase, Unseen, live_in, drawn, Joining}
+use Rattle.alp_journal.specs.Participant.{Phase, Unseen, live_in, drawn}
 use Rattle.alp_journal.specs.State.{State, state_deed}
 use Rattle.alp_journal.proofs.IdLemmas.{same_join-true}
 use Rattle.alp_worker.specs.Joins.{AreJoins, AreJoinsOf, next_of, joining, with_drawn}
-use Rattle.alp_worker.specs.Lives.{live_at, join_at, part_of, AreOnce, AreSingle}
+use Rattle.alp_worker.specs.Lives.{live_at, join_at, part_of}
 use Rattle.alp_worker.specs.declared.joins.Joins.{Joins}
 use Rattle.alp_worker.specs.declared.live.LiveJoin.{LiveJoin}
-use Rattle.alp_worker.proofs.LiveLemmas.{same_join-itself, same_join-turned, at_pushed, once_pushed, single_pushed}
+use Rattle.alp_worker.proofs.LiveLemmas.{same_join-turned, at_pushed, once_pushed, single_pushed}
 
 -- ---- numbers
 

@@ -1,7 +1,7 @@
 -- what becomes of a join, of the kept joins and of the journal alike
 use Rattle.std.specs.Prelude.{cond, Bool, true, false, not, ◌&&◌, Option, None, Some, is_some}
 use Rattle.std.specs.Option.{option_map}
-use Rattle.std.proofs.Common.{◌≡◌, ℕ, ◌<◌, List, [], ◌∷◌, ◌++◌, refl, sym, ◌∙◌, ap, subst}
+use Rattle.std.proofs.Common.{◌≡◌, ℕ, List, [], ◌++◌, refl, sym, ◌∙◌, ap, subst}
 use Rattle.std.proofs.lemmas.List.{append-nil}
 use Rattle.alp_base.specs.declared.ids.JoinNo.{JoinNo}
 use Rattle.alp_base.specs.declared.ids.TransId.{TransId}
@@ -15,7 +15,7 @@ use Rattle.alp_journal.specs.Ids.{same_join, same_trans}
 use Rattle.alp_journal.specs.Participant.{Phase, Unseen, Joining, Active, Ready, Applied, Over, live_in, entered, readied, applied, quit, aborted, phase_after}
 use Rattle.alp_journal.specs.State.{State, state_deed, ids_after, joined_by}
 use Rattle.alp_worker.specs.Joins.{AreJoins, AreJoinsOf, is_move, joins_after, with_entered, with_readied, with_quit, with_aborted, with_applied}
-use Rattle.alp_worker.specs.Lives.{live_at, is_at, join_at, AreOnce, AreSingle, is_open, is_ready_in, stage_after, staged_one, staged, without, quitted, aborted_of, applied_of}
+use Rattle.alp_worker.specs.Lives.{live_at, is_at, join_at, AreOnce, AreSingle, is_open, is_ready_in, stage_after, staged_one, staged, without}
 use Rattle.alp_worker.specs.declared.joins.Joins.{Joins}
 use Rattle.alp_worker.specs.declared.live.LiveJoin.{LiveJoin}
 use Rattle.alp_worker.specs.declared.live.Stage.{Stage}

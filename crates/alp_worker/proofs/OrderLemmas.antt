@@ -1,20 +1,18 @@
 -- messages in the order of their transactions
-use Rattle.std.specs.Prelude.{cond, Bool, true, false, not, ◌&&◌, ◌||◌, ◌==◌, nat_lt, flat_map, Option, None, Some, map as list_map}
+use Rattle.std.specs.Prelude.{Bool, true, false, not, ◌&&◌, ◌==◌, nat_lt}
 use Rattle.std.specs.List.{All, AllByRecursion, list_all}
 use Rattle.std.specs.List.Sorted.{IsPermutation, IsSortedBy, IsSortedByKey}
-use Rattle.std.specs.Cmp.{IsStrictWeakOrder, IsTotalOrder}
+use Rattle.std.specs.Cmp.{IsStrictWeakOrder}
 use Rattle.std.specs.Ordering.{is_lt, is_gt, ordering_reverse}
 use Rattle.std.specs.declared.cmp.Ordering.{Ordering}
 use Rattle.std.specs.declared.cmp.Ordering.TheVariants.{Less, Equal, Greater}
-use Rattle.std.proofs.Common.{◌≡◌, ℕ, suc, ◌+◌, ◌<◌, ◌≤◌, List, [], ◌∷◌, ◌++◌, length, get_or, refl, sym, ◌∙◌, ap, subst, arith, eq-eqb}
+use Rattle.std.proofs.Common.{◌≡◌, ℕ, suc, ◌+◌, List, [], ◌∷◌, ◌++◌, get_or, refl, sym, ◌∙◌, ap, subst, arith, eq-eqb}
 use Rattle.std.proofs.lemmas.Bool.{and_from, or_right}
 use Rattle.std.proofs.lemmas.List.Elements.{All-from_recursion, recursion_from_All}
 use Rattle.std.proofs.lemmas.List.Sorted.{ranks_by, sorted_far, All-permutation}
 use Rattle.alp_base.specs.Orders.{trans_cmp, transactions_total}
-use Rattle.alp_base.specs.declared.ids.TransId.{TransId}
-use Rattle.alp_journal.specs.Messages.{Mail, kind_of, trans_in, is_before, are_in_order}
+use Rattle.alp_journal.specs.Messages.{kind_of, is_before, are_in_order}
 use Rattle.alp_journal.specs.declared.message.Envelope.{Envelope}
-use Rattle.alp_journal.specs.declared.message.Message.{Message}
 use Rattle.alp_worker.specs.Again.{mail, mails, trans_at, addressed, register_at, register_of, registers_in, inquiry_at, inquiry_of, inquiries_in, is_other}
 use Rattle.alp_worker.specs.declared.live.LiveJoin.{LiveJoin}
 use Rattle.alp_worker.specs.declared.live.Stage.{Stage}

@@ -1,5 +1,5 @@
 -- what notes tell of ready parts, and what a restart leaves
-use Rattle.std.specs.Prelude.{cond, Bool, true, false, not, ◌&&◌, ◌||◌, filter, flat_map, Option, None, Some, is_some, map as list_map}
+use Rattle.std.specs.Prelude.{cond, Bool, true, false, not, ◌||◌, filter, flat_map, Option, None, Some, is_some, map as list_map}
 use Rattle.std.specs.List.{AllByRecursion}
 use Rattle.std.specs.List.Sorted.{IsPermutation}
 use Rattle.std.specs.Option.{option_or}
@@ -7,24 +7,22 @@ use Rattle.std.proofs.Common.{◌≡◌, ℕ, ◌+◌, ◌<◌, ◌≤◌, List,
 use Rattle.std.proofs.lemmas.List.{append-nil}
 use Rattle.std.proofs.lemmas.List.Sorted.{length_permutation}
 use Rattle.alp_base.specs.declared.ids.JoinNo.{JoinNo}
-use Rattle.alp_base.specs.declared.ids.TransId.{TransId}
 use Rattle.alp_journal.specs.Deeds.{Restarts}
 use Rattle.alp_journal.specs.Ids.{same_join, has_join, is_drawn}
-use Rattle.alp_journal.specs.Laws.{are_joins_apart}
 use Rattle.alp_journal.specs.Opening.{ReadyNote, Start}
 use Rattle.alp_journal.specs.Participant.{Phase, Unseen, Joining, Active, Ready, Applied, Over, live_in, restarted, phase_noted}
 use Rattle.alp_journal.specs.State.{State, state_deed, opened}
 use Rattle.alp_journal.proofs.IdLemmas.{same_join-true}
 use Rattle.alp_worker.specs.Joins.{AreJoins, AreJoinsOf, no_joins}
-use Rattle.alp_worker.specs.Lives.{live_at, is_at, join_at, is_part, is_open, AreOnce, AreSingle}
+use Rattle.alp_worker.specs.Lives.{live_at, join_at, is_part, is_open, AreOnce, AreSingle}
 use Rattle.alp_worker.specs.Regained.{part_noted, live_noted, with_part, with_parts, joins_regained, phase_regained, AreNoted, DoNotesStand}
 use Rattle.alp_worker.specs.declared.joins.Joins.{Joins}
 use Rattle.alp_worker.specs.declared.live.LiveJoin.{LiveJoin}
 use Rattle.alp_worker.specs.declared.live.Stage.TheVariants as stage
 use Rattle.alp_worker.specs.declared.regain.ReadyPart.{ReadyPart}
 use Rattle.alp_worker.proofs.DrawLemmas.{drawn_past, all_drawn-past, not_known}
-use Rattle.alp_worker.proofs.ListLemmas.{some-apart, filter_walk, filter_pushed}
-use Rattle.alp_worker.proofs.LiveLemmas.{same_join-itself, same_join-turned, at_pushed, once_pushed, once_filter, same_walk, single_filter}
+use Rattle.alp_worker.proofs.ListLemmas.{filter_walk, filter_pushed}
+use Rattle.alp_worker.proofs.LiveLemmas.{same_join-turned, at_pushed, once_pushed, once_filter, same_walk, single_filter}
 
 -- ---- what is kept of the parts
 

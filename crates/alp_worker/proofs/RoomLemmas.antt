@@ -1,18 +1,17 @@
 -- the sum over ready parts, and what is in the way of a vote
-use Rattle.std.specs.Prelude.{Bool, true, false, ◌==◌, max, is_some, Option}
+use Rattle.std.specs.Prelude.{Bool, false, ◌==◌, max, is_some}
 use Rattle.std.specs.List.{sum_by}
 use Rattle.std.specs.List.Sorted.{IsPermutation}
-use Rattle.std.proofs.Common.{◌≡◌, ℕ, ◌+◌, ◌*◌, ◌<◌, ◌≤◌, List, [], ◌∷◌, length, get_or, refl, sym, ◌∙◌, ap, subst, arith}
+use Rattle.std.proofs.Common.{◌≡◌, ℕ, ◌+◌, ◌*◌, ◌≤◌, List, [], ◌∷◌, refl, sym, ◌∙◌, ap, arith}
 use Rattle.std.proofs.lemmas.List.Recursion.{is_sum_by, max_bounds, max_least}
 use Rattle.std.proofs.lemmas.List.Sorted.{sum_by-IsPermutation, All-permutation, IsPermutation-sym}
 use Rattle.alp_base.specs.declared.ids.TransId.{TransId}
 use Rattle.alp_journal.specs.Counts.{weight, ready_sum}
 use Rattle.alp_journal.specs.Desk.{waiting_of}
-use Rattle.alp_journal.specs.Messages.{part_cells, weight_of, weights, applying, greatest, all_ready, no_room, first_why, why_not, why_not_own, clock_end}
+use Rattle.alp_journal.specs.Messages.{weight_of, weights, applying, greatest, all_ready, no_room, first_why, why_not, why_not_own, clock_end}
 use Rattle.alp_journal.specs.State.{State}
-use Rattle.alp_worker.specs.Rooms.{applying_of, sum_with, sum_of, room_for, own_room, IsSizeOf, AreSizesOf}
+use Rattle.alp_worker.specs.Rooms.{applying_of, sum_of, room_for, own_room, IsSizeOf, AreSizesOf}
 use Rattle.alp_worker.specs.declared.room.PartSize.{PartSize}
-use Rattle.alp_worker.specs.declared.room.ReadySum.{ReadySum}
 
 -- ---- in whatever order
 

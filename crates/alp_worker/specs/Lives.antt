@@ -1,5 +1,5 @@
 -- Joins that are live, as the server keeps them, and what the journal's phases say of them.
-use Rattle.std.specs.Prelude.{◌≡◌, ◌≤◌, ℕ, Bool, true, false, not, ◌==◌, ◌&&◌, List, [], ◌∷◌, ◌++◌, find, filter, length, Option, None, Some, is_some, if◌then◌else◌, map as list_map}
+use Rattle.std.specs.Prelude.{◌≡◌, ◌≤◌, ℕ, Bool, true, false, not, ◌==◌, ◌&&◌, List, [], ◌∷◌, find, filter, length, Option, None, Some, if◌then◌else◌, map as list_map}
 use Rattle.alp_base.specs.declared.ids.JoinNo.{JoinNo}
 use Rattle.alp_base.specs.declared.ids.TransId.{TransId}
 use Rattle.alp_journal.specs.Ids.{same_trans, same_join}

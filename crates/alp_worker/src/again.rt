@@ -1,5 +1,5 @@
 //! What is said again at each tick until it is answered: the joins that ask to be let in register, and those that voted inquire.
-ghost use Rattle.std.specs.Prelude.{◌≡◌, ◌++◌, ◌+◌, ◌==◌, ◌&&◌, not, nat_lt, true, IfOk, OnOk, flat_map};
+ghost use Rattle.std.specs.Prelude.{◌≡◌, ◌++◌, ◌+◌, ◌&&◌, true, IfOk, OnOk, flat_map};
 ghost use Rattle.std.specs.List.Sorted.{IsPermutation, IsSortedByKey};
 ghost use Rattle.alp_base.specs.Orders.{trans_cmp};
 ghost use Rattle.alp_journal.specs.Messages.{register_again, inquire_again, to_others, trans_in, are_in_order};

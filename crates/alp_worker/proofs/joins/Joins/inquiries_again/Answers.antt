@@ -1,11 +1,11 @@
 use Rattle.std.specs.Prelude.{flat_map, ℕ}
 use Rattle.std.specs.List.Sorted.{IsPermutation}
-use Rattle.std.proofs.Common.{◌≡◌, List, ap, sym, subst, ◌∙◌}
+use Rattle.std.proofs.Common.{List, ap, sym, subst, ◌∙◌}
 use Rattle.std.proofs.lemmas.List.Sorted.{IsPermutation-trans, IsPermutation-map}
-use Rattle.alp_journal.specs.Messages.{Mail, inquire_again, to_others}
+use Rattle.alp_journal.specs.Messages.{inquire_again, to_others}
 use Rattle.alp_journal.specs.State.{is_other_server}
 use Rattle.alp_journal.specs.declared.message.Envelope.{Envelope}
-use Rattle.alp_worker.specs.Again.{mail, mails, inquiries_in, is_other}
+use Rattle.alp_worker.specs.Again.{mail, mails, inquiries_in}
 use Rattle.alp_worker.proofs.OrderLemmas.{inquiries_order}
 use Rattle.alp_worker.proofs.WalkLemmas.{inquiries}
 use Rattle.alp_worker.proofs.joins.Joins.inquiries_again.Goals as goal

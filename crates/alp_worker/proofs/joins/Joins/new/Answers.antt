@@ -1,7 +1,6 @@
 use Rattle.std.proofs.Common.{List, sym, subst}
 use Rattle.alp_journal.specs.State.{opened}
 use Rattle.alp_worker.specs.Joins.{AreJoinsOf}
-use Rattle.alp_worker.specs.declared.joins.Joins.{Joins}
 use Rattle.alp_worker.specs.declared.live.LiveJoin.{LiveJoin}
 use Rattle.alp_worker.proofs.RegainLemmas.{new_kept}
 use Rattle.alp_worker.proofs.joins.Joins.new.Goals as goal
