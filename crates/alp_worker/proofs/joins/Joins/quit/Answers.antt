@@ -1,0 +1,12 @@
+use Rattle.std.proofs.Common.{List, sym, subst}
+use Rattle.alp_journal.specs.Deeds.{Quits}
+use Rattle.alp_journal.specs.State.{state_deed}
+use Rattle.alp_worker.specs.Joins.{AreJoinsOf}
+use Rattle.alp_worker.specs.declared.live.LiveJoin.{LiveJoin}
+use Rattle.alp_worker.proofs.MoveLemmas.{quits_kept}
+use Rattle.alp_worker.proofs.joins.Joins.quit.Goals as goal
+
+pub returns-clause-deed : goal.returns-clause-deed
+returns-clause-deed c s t client cause h =
+    subst (λ (ls : List LiveJoin). AreJoinsOf (state_deed s (Quits c.args.join.now t client cause)) (record c.args.self.now { lives = ls })) (sym c.quit.ensures)
+    (quits_kept s c.args.self.now h c.args.join.now t client cause)
