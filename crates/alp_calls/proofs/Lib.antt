@@ -14,4 +14,5 @@ pub mod PartLaws
 pub mod PartLemmas
 pub mod ProperLemmas
 pub mod PutLemmas
+pub mod RegainLemmas
 pub mod SettleLemmas

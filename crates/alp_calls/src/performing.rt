@@ -86,8 +86,13 @@ fn say<V: Vault>(
     }
 }
 
-// The part changes so, and comes to these counts.
-fn change(part: &mut Part, alloc: Global, counts: Counts, effect: Effect) -> Result<(), OutOfMemory>
+/// The part changes so, and comes to these counts.
+pub(super) fn change(
+    part: &mut Part,
+    alloc: Global,
+    counts: Counts,
+    effect: Effect,
+) -> Result<(), OutOfMemory>
     requires { AreBeside effect.gone effect.puts.items }
     ensures intents { OnOk result (part.new.intents ≡ intents_from part.old.intents (edits_in effect)) }
     ensures own { OnOk result (own_of part.new ≡ own_with (own_of part.old) effect.opens) }

@@ -73,7 +73,7 @@ spread holders after t u ns r own other = go (eq_by_cmp trans_cmp u t) refl
     go true e = own e ∙ joined-holds ns (held_of holders t) r ∙ ap (λ (h : Held). join_held (map.get h r) (held_by ns r)) (same e)
     go false e = other e
 
-insert-spread : (holders : Holders) (t u : TransId) (ns : List (Resource × Mode)) (r : Resource)
+pub insert-spread : (holders : Holders) (t u : TransId) (ns : List (Resource × Mode)) (r : Resource)
     → holding (map.insert holders t (joined (held_of holders t) ns)) u r ≡ cond (eq_by_cmp trans_cmp u t) (join_held (holding holders u r) (held_by ns r)) (holding holders u r)
 insert-spread holders t u ns r =
     spread holders (map.insert holders t (joined (held_of holders t) ns)) t u ns r

@@ -9,3 +9,4 @@ pub mod HolderLemmas
 pub mod ReleaseLemmas
 pub mod PlanLemmas
 pub mod WakeLemmas
+pub mod RegainLemmas

@@ -96,3 +96,10 @@ answered t w (Some u) choice = refused t w choice
 
 abbrev pub asked : Table → Request → Table
 asked t q = answered t (waiter_of (held_of t.held q.trans) q.trans q.needs) (in_way_of t.held q.trans q.needs) q.choice
+
+-- ---- after a restart
+
+-- a transaction holds all of a list besides what it held where nobody stands in the way, and else the table stays
+abbrev pub with_regained : Table → TransId → List (Resource × Mode) → Option TransId → Table
+with_regained t u ns None = record t { held = map.insert t.held u (joined (held_of t.held u) ns) }
+with_regained t u ns (Some v) = t

@@ -1,5 +1,5 @@
 -- what grants and releases mean for what is held and who waits
-use Rattle.std.specs.Prelude.{◌≡◌, Bool, true, false, ◌&&◌, cond, ◌⊎◌, List, [], ◌∷◌, ◌++◌, map as list_map, Some, None}
+use Rattle.std.specs.Prelude.{◌≡◌, Bool, true, false, ◌&&◌, cond, ◌⊎◌, List, [], ◌∷◌, ◌++◌, map as list_map, Option, Some, None}
 use Rattle.std.specs.List.{AllByRecursion}
 use Rattle.std.specs.FinMap as map
 use Rattle.std.specs.declared.cmp.Ordering.TheVariants.{Less}
@@ -8,7 +8,7 @@ use Rattle.alp_base.specs.declared.ids.TransId.{TransId}
 use Rattle.alp_base.specs.declared.key.Resource.{Resource}
 use Rattle.alp_modes.specs.declared.Mode.{Mode}
 use Rattle.alp_base.specs.Orders.{trans_cmp}
-use Rattle.alp_files.specs.Holdings.{join_held, agree_held, held_by}
+use Rattle.alp_files.specs.Holdings.{DoAgree, join_held, agree_held, held_by}
 use Rattle.alp_queue.specs.declared.waiter.Waiter.{Waiter}
 use Rattle.alp_locks.specs.declared.request.Request.{Request}
 use Rattle.alp_locks.specs.declared.request.Grant.{Grant}
@@ -67,6 +67,14 @@ NamesFirst = (holders : Holders) (t : TransId) (ns : List (Resource × Mode)) (u
 
 abbrev pub NamesAny : Type 0
 NamesAny = (holders : Holders) (t : TransId) (ns : List (Resource × Mode)) → blocker holders t ns ≡ None → AllByRecursion (IsClear holders t) ns
+
+-- ---- after a restart
+
+-- Who stands in the way of a list of locks is another transaction, whose locks do not agree with it. Where nobody does, it agrees
+-- with what each other one holds.
+abbrev pub AgreesUnless : Holders → TransId → List (Resource × Mode) → Option TransId → Type 0
+AgreesUnless holders t ns None = (u : TransId) → eq_by_cmp trans_cmp t u ≡ false → DoAgree (held_by ns) (holding holders u)
+AgreesUnless holders t ns (Some u) = (eq_by_cmp trans_cmp t u ≡ false) × (DoAgree (held_by ns) (holding holders u) → ⊥)
 
 -- ---- releases
 

@@ -1,9 +1,15 @@
 //! The table.
-ghost use Rattle.std.specs.Prelude.{◌≡◌, ◌+◌, ◌≤◌, ◌<◌, ◌^◌, List, [], length, true, false, not, is_some, None, drop, slice_get, IfOk, OnOk, OnErr};
+ghost use Rattle.std.specs.Prelude.{◌≡◌, ◌+◌, ◌≤◌, ◌<◌, ◌^◌, ◌&&◌, List, [], length, true, false, not, is_some, is_none, if◌then◌else◌, None, drop, slice_get, IfOk, OnOk, OnErr};
 ghost use Rattle.std.specs.FinMap as map;
+ghost use Rattle.std.specs.Ordering.{eq_by_cmp};
+ghost use Rattle.alp_base.specs.Orders.{trans_cmp};
+ghost use Rattle.alp_base.specs.declared.ids.TransId.{TransId as ATransId};
+ghost use Rattle.alp_base.specs.declared.key.Resource.{Resource as AResource};
+ghost use Rattle.alp_files.specs.Holdings.{join_held, held_by};
 ghost use Rattle.alp_queue.specs.Order.{waits, placed};
 ghost use Rattle.alp_locks.specs.Tables.{held_of, holding};
-ghost use Rattle.alp_locks.specs.Asks.{risen, blocker as blocking, waiter_of, entered, grant_of, asked, with_granted, with_waiter, refusal, refused};
+ghost use Rattle.alp_locks.specs.Asks.{risen, blocker as blocking, waiter_of, entered, grant_of, asked, with_granted, with_regained, with_waiter, refusal, refused, in_way_of as in_way};
+ghost use Rattle.alp_locks.specs.Laws.{AgreesUnless};
 ghost use Rattle.alp_locks.specs.Releases.{released};
 ghost use Rattle.alp_locks.specs.Sound.{IsPrepared, IsSound};
 
@@ -176,6 +182,33 @@ impl LockTable {
             None => self.grant(plan),
             Some(holder) => self.refuse(plan.waiter, holder, choice),
         }
+    }
+
+    /// Gives all the locks of a list at once to a transaction that does not wait, as it held them before a restart; the table knows
+    /// it from then on. Modes that the list names on one resource are joined. The answer is who stands in the way: then nobody gets
+    /// anything.
+    pub fn regain(&mut self, trans: TransId, locks: Needs) -> Result<Option<TransId>, OutOfMemory>
+        requires { waits self.old.waiting trans ≡ false }
+        ensures answer { IfOk result (λ holder. holder ≡ in_way self.old.held trans locks) }
+        ensures after { IfOk result (λ holder. self.new ≡ with_regained self.old trans locks holder) }
+
+        // Each holds on each resource what it held, and the transaction what the list comes to besides.
+        ensures held { IfOk result (λ holder. (u : ATransId) → (r : AResource) → holding self.new.held u r ≡ if eq_by_cmp trans_cmp u trans && is_none holder then join_held (holding self.old.held u r) (held_by locks r) else holding self.old.held u r) }
+
+        // Where the transaction is new, who stands in the way holds locks that do not agree with the list, and nobody else does.
+        ensures agrees { is_some (map.get self.old.held trans) ≡ false → IfOk result (λ holder. AgreesUnless self.old.held trans locks holder) }
+
+        // Locks that agreed still do, whatever the answer. After want of memory the table is as before.
+        ensures sound { IsSound self.old → IsSound self.new }
+        ensures err { OnErr result (self.new ≡ self.old) }
+    {
+        let plan = self.plan(trans, locks)?;
+        if let Some(holder) = self.in_way_of(&plan) {
+            return Ok(Some(holder));
+        }
+        self.enter(trans)?;
+        self.take(plan);
+        Ok(None)
     }
 
     // The transaction has what it asked for.

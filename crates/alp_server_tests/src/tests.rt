@@ -3,5 +3,6 @@ mod fields;
 mod locks;
 mod modes;
 mod owner;
+mod parts;
 mod rpc;
 mod vault;

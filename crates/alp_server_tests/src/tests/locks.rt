@@ -175,6 +175,42 @@ fn a_plan_is_taken_where_nobody_is_in_its_way(rt: HostRuntime) -> Result<(), Fai
     Ok(())
 }
 
+// Who stands in the way of the locks that a transaction held before a restart, or the transaction itself where it waits.
+fn regain(
+    alloc: Global,
+    table: &mut LockTable,
+    by: u32,
+    list: &[(Resource, Mode)],
+) -> Result<Option<TransId>, OutOfMemory> {
+    let trans = trans(by);
+    if !table.is_granted(trans) {
+        return Ok(Some(trans));
+    }
+    let locks = needs_of(alloc, list)?;
+    table.regain(trans, locks)
+}
+
+#[test]
+fn locks_that_agree_are_regained(rt: HostRuntime) -> Result<(), Fail> {
+    let alloc = rt.alloc();
+    let mut table = LockTable::new(alloc);
+    let file = Resource::Whole(FILE);
+    let page = Resource::Leaf(Key::PageOf(FILE, 3));
+    let read = [(file, Mode::IntendRead), (page, Mode::Read)];
+    let write = [(page, Mode::Write), (file, Mode::IntendWrite)];
+    assert!(rt; regain(alloc, &mut table, 1, &read) == Ok(None));
+    assert!(rt; table.mode_of(trans(1), &page) == Some(Mode::Read));
+    assert!(rt; regain(alloc, &mut table, 2, &write) == Ok(Some(trans(1))));
+    assert!(rt; table.mode_of(trans(2), &file) == None);
+    assert!(rt; regain(alloc, &mut table, 3, &[(file, Mode::IntendWrite)]) == Ok(None));
+    assert!(rt; table.mode_of(trans(3), &file) == Some(Mode::IntendWrite));
+    assert!(rt; regain(alloc, &mut table, 4, &[]) == Ok(None));
+    table.release_all(trans(1));
+    assert!(rt; regain(alloc, &mut table, 2, &write) == Ok(None));
+    assert!(rt; table.mode_of(trans(2), &page) == Some(Mode::Write));
+    Ok(())
+}
+
 fn crosses<T: Send + Sync>() {}
 
 #[test]
