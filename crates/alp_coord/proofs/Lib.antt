@@ -1,0 +1,6 @@
+pub mod MemberLemmas
+pub mod MapLemmas
+pub mod FateLemmas
+pub mod FoundLemmas
+pub mod MoveLemmas
+pub mod WordLemmas

@@ -1,0 +1,5 @@
+pub mod Members
+pub mod Courses
+pub mod Begun
+pub mod Likeness
+pub mod Coordinators

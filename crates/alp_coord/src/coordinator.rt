@@ -1,0 +1,246 @@
+//! The transactions of a server.
+ghost use Rattle.std.specs.Prelude.{◌≡◌, ◌+◌, ◌^◌, ◌<◌, ◌==◌, ◌&&◌, nat_lt, not, Some, None, IfOk, OnOk, OnErr, if◌then◌else◌, ℕ, List, map as list_map};
+ghost use Rattle.std.specs.Option.{option_copied as copied, option_map};
+ghost use Rattle.std.specs.FinMap as map;
+ghost use Rattle.alp_base.specs.declared.ids.TransId.{TransId as ATransId};
+ghost use Rattle.alp_journal.specs.Ids.{same_trans};
+ghost use Rattle.alp_journal.specs.Coordinator.{Undrawn, fate_noted, client_of, joins_of};
+ghost use Rattle.alp_journal.specs.Deeds.{Begins};
+ghost use Rattle.alp_coord.specs.declared.begun.Settled.TheVariants as settled;
+ghost use Rattle.alp_coord.specs.Members.{joins};
+ghost use Rattle.alp_coord.specs.Coordinators.{IsOf, Comes, Finds, count_of, epoch_of, server_of, next_id, last_id, is_known, is_other, is_standing, if_standing, if_open, settled_in, course_in, fate_in, noted, noted_course, noted_courses, settle_in};
+
+use crate::begun::Begun;
+use crate::courses::Courses;
+use crate::{Course, Decision, Member, Members, Settled, Stage};
+use alp_base::{OutOfMemory, TransId};
+use std::alloc::Global;
+
+/// The transactions of a server: what became of those that began in this epoch, and the decisions of older epochs that
+/// parts on other servers are still to apply. What it does costs what it is about, and a tick costs what is not settled.
+#[derive(Drop)]
+pub struct Coordinator {
+    pub(crate) alloc: Global,
+    pub(crate) server: u8,
+    pub(crate) epoch: u32,
+    pub(crate) begun: Begun,
+    pub(crate) courses: Courses,
+}
+
+impl Coordinator {
+    /// None at all.
+    pub fn new(alloc: Global, server: u8, epoch: u32) -> Coordinator
+        ensures run { IsOf server epoch 0 result }
+        ensures none { (t : ATransId) → fate_in result t ≡ Undrawn }
+    {
+        Coordinator {
+            alloc,
+            server,
+            epoch,
+            begun: Begun::new(alloc),
+            courses: Courses::new(alloc),
+        }
+    }
+
+    /// What a start or a restart finds: decisions with joins that were not forgotten. Each join is to say anew that it has
+    /// applied the commit.
+    pub fn regained(
+        alloc: Global,
+        server: u8,
+        epoch: u32,
+        decisions: &[Decision],
+    ) -> Result<Coordinator, OutOfMemory>
+        ensures run { IfOk result (IsOf server epoch 0) }
+        ensures found { IfOk result (Finds (list_map noted decisions.now)) }
+    {
+        let courses = courses_of(alloc, decisions)?;
+        Ok(Coordinator {
+            alloc,
+            server,
+            epoch,
+            begun: Begun::new(alloc),
+            courses,
+        })
+    }
+
+    /// How many began in this epoch.
+    pub fn count(&self) -> usize
+        ensures { result ≡ count_of self.now }
+    {
+        self.begun.len()
+    }
+
+    /// A transaction begins for a client. After want of memory all is as before.
+    pub fn begin(&mut self, client: u8) -> Result<TransId, OutOfMemory>
+        requires few { count_of self.old + 1 < 2 ^ 32 }
+        ensures id { IfOk result (λ t. t ≡ next_id self.old) }
+        ensures one { OnOk result (IsOf (server_of self.old) (epoch_of self.old) (count_of self.old + 1) self.new) }
+        ensures begun { OnOk result ((who : List ℕ) (seen : ℕ) → Comes (Begins (next_id self.old) client who seen) self.old self.new) }
+        ensures err { OnErr result (self.new ≡ self.old) }
+    {
+        let trans = TransId {
+            server: self.server,
+            epoch: self.epoch,
+            counter: self.begun.len() as u32 + 1,
+        };
+        let course = Course {
+            client,
+            stage: Stage::Running,
+            members: Members::new(self.alloc),
+        };
+        self.begun.push(Settled::Open)?;
+        match self.courses.add(trans, course) {
+            Ok(()) => Ok(trans),
+            Err(refused) => {
+                self.begun.pop();
+                Err(refused)
+            }
+        }
+    }
+
+    /// Takes the last begin back.
+    pub fn take_back(&mut self)
+        requires { 0 < count_of self.old }
+        ensures { (t : ATransId) → fate_in self.new t ≡ (if same_trans (last_id self.old) t then Undrawn else fate_in self.old t) }
+    {
+        let trans = TransId {
+            server: self.server,
+            epoch: self.epoch,
+            counter: self.begun.len() as u32,
+        };
+        self.begun.pop();
+        let _ = self.courses.remove(&trans);
+    }
+
+    /// Whether the id was drawn here, in this epoch or an older one.
+    pub fn is_known(&self, trans: &TransId) -> bool
+        ensures { result ≡ is_known self.now trans.now }
+    {
+        if trans.server != self.server || trans.epoch == 0 || trans.counter == 0 {
+            return false;
+        }
+        trans.epoch < self.epoch
+            || trans.epoch == self.epoch && trans.counter as usize <= self.begun.len()
+    }
+
+    /// The client of a transaction that is running or finishing.
+    pub fn client(&self, trans: &TransId) -> Option<u8>
+        ensures { result ≡ client_of (fate_in self.now trans.now) }
+    {
+        let course = self.course(trans)?;
+        match course.stage {
+            Stage::Decided { .. } => None,
+            _ => Some(course.client),
+        }
+    }
+
+    /// The parts of a transaction on other servers, in the order in which they joined it, while it is known who they are.
+    pub fn members(&self, trans: &TransId) -> &[Member]
+        ensures { joins result.now ≡ joins_of (fate_in self.now trans.now) }
+    {
+        if let Some(course) = self.course(trans) {
+            return course.members.as_slice();
+        }
+        match self.settled(trans) {
+            Some(Settled::Forgotten { members, .. }) => members.as_slice(),
+            _ => &[],
+        }
+    }
+
+    // What became of it, if it began in this epoch.
+    pub(crate) fn settled(&self, trans: &TransId) -> Option<&Settled>
+        ensures { copied result ≡ settled_in self.now trans.now }
+    {
+        if trans.server == self.server && trans.epoch == self.epoch {
+            self.begun.get(trans.counter)
+        } else {
+            None
+        }
+    }
+
+    // Its course, if it is not settled.
+    pub(crate) fn course(&self, trans: &TransId) -> Option<&Course>
+        ensures { copied result ≡ course_in self.now trans.now }
+    {
+        if trans.epoch == self.epoch {
+            self.course_now(trans)
+        } else {
+            self.course_before(trans)
+        }
+    }
+
+    fn course_now(&self, trans: &TransId) -> Option<&Course>
+        ensures { copied result ≡ if_open (settled_in self.now trans.now) (map.get self.now.courses trans.now) }
+    {
+        match self.settled(trans) {
+            Some(Settled::Open) => self.courses.get(trans),
+            _ => None,
+        }
+    }
+
+    fn course_before(&self, trans: &TransId) -> Option<&Course>
+        ensures { copied result ≡ if_standing (map.get self.now.courses trans.now) }
+    {
+        let course = self.courses.get(trans)?;
+        if is_standing(course) {
+            Some(course)
+        } else {
+            None
+        }
+    }
+
+    // How far it is, if it is not settled.
+    pub(crate) fn stage(&self, trans: &TransId) -> Option<Stage>
+        ensures { result ≡ option_map (λ c. c.stage) (course_in self.now trans.now) }
+    {
+        let course = self.course(trans)?;
+        Some(course.stage)
+    }
+
+    // It is settled from now on. Takes no memory.
+    pub(crate) fn settle(&mut self, trans: &TransId, settled: Settled)
+        requires { settled_in self.old trans.now ≡ Some settled.Open }
+        ensures { self.new ≡ settle_in self.old trans.now settled }
+    {
+        let _ = self.courses.remove(trans);
+        self.begun.settle(trans.counter, settled);
+    }
+}
+
+// Whether it is a decision with joins.
+fn is_standing(course: &Course) -> bool
+    ensures { result ≡ is_standing course.now.stage course.now.members }
+{
+    match course.stage {
+        Stage::Decided { .. } => !course.members.as_slice().is_empty(),
+        _ => false,
+    }
+}
+
+// The courses of decisions, the first of each transaction.
+fn courses_of(alloc: Global, decisions: &[Decision]) -> Result<Courses, OutOfMemory>
+    ensures { IfOk result (λ m. m ≡ noted_courses map.empty decisions.now) }
+{
+    let mut courses = Courses::new(alloc);
+    for decision in decisions {
+        let trans = decision.stamp.trans;
+        if courses.get(&trans).is_none() {
+            let course = course_of(alloc, decision)?;
+            courses.add(trans, course)?;
+        }
+    }
+    Ok(courses)
+}
+
+fn course_of(alloc: Global, decision: &Decision) -> Result<Course, OutOfMemory>
+    ensures { IfOk result (λ c. c ≡ noted_course decision.now) }
+{
+    let members = Members::of(alloc, decision.joins.as_slice())?;
+    Ok(Course {
+        client: 0,
+        stage: Stage::Decided {
+            ts: decision.stamp.ts,
+        },
+        members,
+    })
+}

@@ -1,0 +1,243 @@
+//! What becomes of transactions.
+ghost use Rattle.std.specs.Prelude.{◌≡◌, ◌==◌, Some, IfOk, OnErr, if◌then◌else◌, ℕ, true};
+ghost use Rattle.alp_base.specs.declared.ids.TransId.{TransId as ATransId};
+ghost use Rattle.alp_journal.specs.Ids.{same_trans, has_join, has_server};
+ghost use Rattle.alp_journal.specs.Coordinator.{has_votes, joins_of, with_vote};
+ghost use Rattle.alp_journal.specs.Laws.{latest_vote};
+ghost use Rattle.alp_journal.specs.Deeds.{Registers, Finishes, Hears, Decides, Ends, Acknowledges};
+ghost use Rattle.alp_coord.specs.Members.{joins, votes};
+ghost use Rattle.alp_coord.specs.Courses.{fate_of};
+ghost use Rattle.alp_coord.specs.Coordinators.{AfterRegistration, IsAlong, Comes, ComesLike, epoch_of, fate_in, is_other, registration_in, registration_of, admitted, ballot_of, receipt_of, is_applied, forgotten_fate};
+
+use crate::members::{has_said, has_server, have_all_said, have_all_said_with, latest, takes_part};
+use crate::{Ballot, Coordinator, Course, Member, Receipt, Registration, Settled, Stage};
+use alp_base::{JoinNo, OutOfMemory, TransId};
+use alp_files::Cause;
+
+impl Coordinator {
+    /// What becomes of a part of this client on another server that asks to take part, in a run of so many servers: the
+    /// first of its server takes part, while the transaction is running and if it is that client's.
+    pub fn registration(
+        &self,
+        trans: &TransId,
+        join: &JoinNo,
+        client: u8,
+        servers: u8,
+    ) -> Registration
+        ensures { result ≡ registration_in self.now trans.now join.now client servers }
+    {
+        if !self.is_known(trans) {
+            return Registration::Silence;
+        }
+        match self.course(trans) {
+            Some(course) => {
+                let other = is_other(self.server, servers, join.server);
+                registration_of(course, join, client, other)
+            }
+            None => Registration::Refused,
+        }
+    }
+
+    /// A part asks to take part, and does from now on where it may. After want of memory all is as before.
+    pub fn register(
+        &mut self,
+        trans: &TransId,
+        join: JoinNo,
+        client: u8,
+        servers: u8,
+    ) -> Result<Registration, OutOfMemory>
+        ensures answer { IfOk result (λ r. r ≡ registration_in self.old trans.now join client servers) }
+        ensures after { IfOk result (λ r. AfterRegistration (Registers trans.now join) r self.old self.new) }
+        ensures err { OnErr result (self.new ≡ self.old) }
+    {
+        let answer = self.registration(trans, &join, client, servers);
+        if answer == Registration::Registered {
+            self.courses.enter(trans, join)?;
+        }
+        Ok(answer)
+    }
+
+    /// Its client asks for the commit of a running transaction. Takes no memory.
+    pub fn finish(&mut self, trans: &TransId)
+        ensures along { IsAlong self.old self.new }
+        ensures finished { Comes (Finishes trans.now) self.old self.new }
+    {
+        if let Some(Stage::Running) = self.stage(trans) {
+            self.courses.turn(trans, Stage::Finishing);
+        }
+    }
+
+    /// What a vote with that time comes to, which gives the latest time of all votes with the last: at least `least`.
+    pub fn ballot(&self, trans: &TransId, join: &JoinNo, time: u64, least: u64) -> Ballot
+        ensures { result ≡ ballot_of join.now time least (fate_in self.now trans.now) }
+    {
+        match self.course(trans) {
+            Some(course) => ballot_of(course, join, time, least),
+            None => Ballot::Dropped,
+        }
+    }
+
+    /// The vote of one of its parts is kept for a finishing transaction, unless it voted before. Takes no memory.
+    pub fn hear(&mut self, trans: &TransId, join: &JoinNo, time: u64)
+        requires { has_join join.now (joins_of (fate_in self.old trans.now)) ≡ true }
+        ensures along { IsAlong self.old self.new }
+        ensures heard { ComesLike (Hears trans.now join.now time) self.old self.new }
+    {
+        if let Some(Stage::Finishing) = self.stage(trans) {
+            self.courses.hear(trans, join, time);
+        }
+    }
+
+    /// A transaction for which all have voted is committed at that time. Takes no memory.
+    pub fn decide(&mut self, trans: &TransId, ts: u64)
+        requires { has_votes (fate_in self.old trans.now) ≡ true }
+        ensures along { IsAlong self.old self.new }
+        ensures decided { Comes (Decides (record { ts = ts; trans = trans.now }) (joins_of (fate_in self.old trans.now))) self.old self.new }
+    {
+        let is_alone = self.members(trans).is_empty();
+        if let Some(Stage::Finishing) = self.stage(trans) {
+            if is_alone {
+                self.settle(trans, Settled::Committed { ts });
+            } else {
+                self.courses.turn(trans, Stage::Decided { ts });
+            }
+        }
+    }
+
+    /// A transaction that is running or finishing ends in abort. Takes no memory.
+    pub fn end(&mut self, trans: &TransId, cause: Cause)
+        ensures along { IsAlong self.old self.new }
+        ensures ended { (client : ℕ) → Comes (Ends trans.now client cause) self.old self.new }
+    {
+        match self.stage(trans) {
+            None | Some(Stage::Decided { .. }) => {}
+            Some(_) => self.settle(trans, Settled::Ended { cause }),
+        }
+    }
+
+    /// What it comes to that a part has applied the commit.
+    pub fn receipt(&self, trans: &TransId, join: &JoinNo) -> Receipt
+        ensures { result ≡ receipt_of join.now (fate_in self.now trans.now) }
+    {
+        match self.course(trans) {
+            Some(course) => receipt_of(course, join),
+            None => Receipt::Dropped,
+        }
+    }
+
+    /// One of its parts has applied the commit. Takes no memory.
+    pub fn acknowledge(&mut self, trans: &TransId, join: &JoinNo)
+        requires { has_join join.now (joins_of (fate_in self.old trans.now)) ≡ true }
+        ensures along { IsAlong self.old self.new }
+        ensures kept { ComesLike (Acknowledges trans.now join.now) self.old self.new }
+    {
+        if let Some(Stage::Decided { .. }) = self.stage(trans) {
+            self.courses.hear(trans, join, 0);
+        }
+    }
+
+    /// A decision that all its parts have applied is forgotten; one of an older epoch leaves nothing. Takes no memory.
+    pub fn forget(&mut self, trans: &TransId)
+        requires { is_applied (fate_in self.old trans.now) ≡ true }
+        ensures along { IsAlong self.old self.new }
+        ensures forgotten { (t : ATransId) → fate_in self.new t ≡ (if same_trans trans.now t then forgotten_fate (t.epoch == epoch_of self.old) (fate_in self.old t) else fate_in self.old t) }
+    {
+        if trans.epoch == self.epoch {
+            self.forget_now(trans);
+        } else {
+            let _ = self.courses.remove(trans);
+        }
+    }
+
+    fn forget_now(&mut self, trans: &TransId)
+        requires applied { is_applied (fate_in self.old trans.now) ≡ true }
+        requires now { trans.now.epoch ≡ epoch_of self.old }
+        ensures along { IsAlong self.old self.new }
+        ensures forgotten { (t : ATransId) → fate_in self.new t ≡ (if same_trans trans.now t then forgotten_fate true (fate_in self.old t) else fate_in self.old t) }
+    {
+        let Some(course) = self.courses.remove(trans) else {
+            return;
+        };
+        if let Stage::Decided { ts } = course.stage {
+            let members = course.members;
+            self.begun
+                .settle(trans.counter, Settled::Forgotten { ts, members });
+        }
+    }
+}
+
+/// Whether it is another server of the run.
+pub fn is_other(server: u8, servers: u8, other: u8) -> bool
+    ensures { result ≡ is_other server servers other }
+{
+    0 < other && other <= servers && other != server
+}
+
+fn registration_of(course: &Course, join: &JoinNo, client: u8, other: bool) -> Registration
+    ensures { (t : ATransId) → result ≡ registration_of other join.now client (fate_of t course.now) }
+{
+    let Stage::Running = course.stage else {
+        return Registration::Refused;
+    };
+    if course.client != client || !other {
+        return Registration::Refused;
+    }
+    admitted(course.members.as_slice(), join)
+}
+
+fn admitted(members: &[Member], join: &JoinNo) -> Registration
+    ensures { result ≡ admitted (has_join join.now (joins members.now)) (has_server join.now.server (joins members.now)) }
+{
+    if takes_part(members, join) {
+        return Registration::Known;
+    }
+    if has_server(members, join.server) {
+        return Registration::Refused;
+    }
+    Registration::Registered
+}
+
+fn ballot_of(course: &Course, join: &JoinNo, time: u64, least: u64) -> Ballot
+    ensures { (t : ATransId) → result ≡ ballot_of join.now time least (fate_of t course.now) }
+{
+    let Stage::Finishing = course.stage else {
+        return Ballot::Dropped;
+    };
+    let members = course.members.as_slice();
+    if !takes_part(members, join) {
+        return Ballot::Dropped;
+    }
+    if !have_all_said_with(members, join) {
+        return Ballot::Kept;
+    }
+    Ballot::Last {
+        latest: latest_with(members, join, time, least),
+    }
+}
+
+// The latest time of all votes and of one more, if that join has not voted.
+fn latest_with(members: &[Member], join: &JoinNo, time: u64, least: u64) -> u64
+    ensures { result ≡ latest_vote least (with_vote join.now time (votes members.now)) }
+{
+    let latest = latest(members, least);
+    if has_said(members, join) {
+        return latest;
+    }
+    latest.max(time)
+}
+
+fn receipt_of(course: &Course, join: &JoinNo) -> Receipt
+    ensures { (t : ATransId) → result ≡ receipt_of join.now (fate_of t course.now) }
+{
+    let Stage::Decided { .. } = course.stage else {
+        return Receipt::Dropped;
+    };
+    let members = course.members.as_slice();
+    if !takes_part(members, join) {
+        return Receipt::Dropped;
+    }
+    if have_all_said(members) || !have_all_said_with(members, join) {
+        return Receipt::Kept;
+    }
+    Receipt::Last
+}

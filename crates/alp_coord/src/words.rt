@@ -1,0 +1,249 @@
+//! What is said of transactions, and said again.
+ghost use Rattle.std.specs.Prelude.{◌≡◌, ◌++◌, Some, None, OnOk, IfOk, if◌then◌else◌, map as list_map};
+ghost use Rattle.std.specs.List.Sorted.{IsStrictlySortedBy};
+ghost use Rattle.alp_base.specs.Orders.{trans_cmp};
+ghost use Rattle.alp_files.specs.declared.reply.Ended.TheVariants as ending;
+ghost use Rattle.alp_journal.specs.declared.message.Message.TheVariants as msg;
+ghost use Rattle.alp_journal.specs.Answers.{is_counted};
+ghost use Rattle.alp_journal.specs.Messages.{ask_again, commit_again};
+ghost use Rattle.alp_coord.specs.Members.{joins};
+ghost use Rattle.alp_coord.specs.Begun.{fate_settled};
+ghost use Rattle.alp_coord.specs.Coordinators.{is_known, epoch_of, server_of, fate_in, settled_in, inquiry_of, ending_at, enveloped, to_run, asks_of, commits_of, counted_of, open_ids, commit_for, inquiry_at, again_to};
+
+use crate::members::{has_said, takes_part};
+use crate::moves::is_other;
+use crate::{Coordinator, Course, Member, Settled, Stage};
+use alp_base::{JoinNo, OutOfMemory, Stamp, TransId};
+use alp_files::{Cause, Ended};
+use alp_journal::{Envelope, Message};
+
+impl Coordinator {
+    /// What a part is told that asks how the transaction ended: nothing while it is not decided, or was not drawn here.
+    pub fn inquire(&self, trans: &TransId, join: &JoinNo) -> Option<Message>
+        ensures { result ≡ (if is_known self.now trans.now then inquiry_of (epoch_of self.now) trans.now join.now (fate_in self.now trans.now) else None) }
+    {
+        if !self.is_known(trans) {
+            return None;
+        }
+        match self.course(trans) {
+            Some(course) => inquiry(course, trans, join),
+            None => self.inquire_settled(trans, join),
+        }
+    }
+
+    fn inquire_settled(&self, trans: &TransId, join: &JoinNo) -> Option<Message>
+        ensures { result ≡ inquiry_of (epoch_of self.now) trans.now join.now (fate_settled trans.now (settled_in self.now trans.now)) }
+    {
+        let lost = Cause::Lost { epoch: self.epoch };
+        match self.settled(trans) {
+            None | Some(Settled::Open) => Some(abort(trans, join, lost)),
+            Some(Settled::Committed { .. }) => None,
+            Some(Settled::Forgotten { ts, members }) => {
+                commit(trans, join, *ts, members.as_slice())
+            }
+            Some(Settled::Ended { cause }) => Some(abort(trans, join, *cause)),
+        }
+    }
+
+    /// How a transaction stands: decided, in this epoch or by a note; running; ended, if it is of this epoch; else nothing
+    /// is known of it. None where it was not drawn here.
+    pub fn outcome(&self, trans: &TransId) -> Option<Ended>
+        ensures { result ≡ (if is_known self.now trans.now then Some (ending_at (epoch_of self.now) trans.now (fate_in self.now trans.now)) else None) }
+    {
+        if !self.is_known(trans) {
+            return None;
+        }
+        match self.stage(trans) {
+            Some(Stage::Decided { ts }) => Some(committed(trans, ts)),
+            Some(_) => Some(Ended::Running),
+            None => Some(self.outcome_settled(trans)),
+        }
+    }
+
+    fn outcome_settled(&self, trans: &TransId) -> Ended
+        ensures { result ≡ ending_at (epoch_of self.now) trans.now (fate_settled trans.now (settled_in self.now trans.now)) }
+    {
+        match self.settled(trans) {
+            None | Some(Settled::Open) => Ended::Unknown,
+            Some(Settled::Committed { ts }) => committed(trans, *ts),
+            Some(Settled::Forgotten { ts, .. }) => committed(trans, *ts),
+            Some(Settled::Ended { .. }) => Ended::Aborted,
+        }
+    }
+
+    /// Asks for the votes that did not come, by transactions, in a run of so many servers.
+    pub fn asks_again(&self, servers: u8, out: &mut Vec<Envelope>) -> Result<(), OutOfMemory>
+        ensures said { OnOk result (out.new.items ≡ out.old.items ++ list_map enveloped (to_run (server_of self.now) servers (asks_of self.now))) }
+        ensures rising { OnOk result (IsStrictlySortedBy trans_cmp (open_ids self.now)) }
+    {
+        let ids = self.courses.ids(self.alloc)?;
+        for trans in ids.as_slice() {
+            self.ask_again(trans, servers, out)?;
+        }
+        Ok(())
+    }
+
+    fn ask_again(
+        &self,
+        trans: &TransId,
+        servers: u8,
+        out: &mut Vec<Envelope>,
+    ) -> Result<(), OutOfMemory>
+        ensures { OnOk result (out.new.items ≡ out.old.items ++ list_map enveloped (to_run (server_of self.now) servers (ask_again trans.now (fate_in self.now trans.now)))) }
+    {
+        if let Some(course) = self.course(trans) {
+            if let Stage::Finishing = course.stage {
+                let members = course.members.as_slice();
+                return ask_members(trans, members, self.server, servers, out);
+            }
+        }
+        Ok(())
+    }
+
+    /// Tells parts of decisions that have not applied them, by transactions, in a run of so many servers.
+    pub fn commits_again(&self, servers: u8, out: &mut Vec<Envelope>) -> Result<(), OutOfMemory>
+        ensures said { OnOk result (out.new.items ≡ out.old.items ++ list_map enveloped (to_run (server_of self.now) servers (commits_of self.now))) }
+        ensures rising { OnOk result (IsStrictlySortedBy trans_cmp (open_ids self.now)) }
+    {
+        let ids = self.courses.ids(self.alloc)?;
+        for trans in ids.as_slice() {
+            self.commit_again(trans, servers, out)?;
+        }
+        Ok(())
+    }
+
+    fn commit_again(
+        &self,
+        trans: &TransId,
+        servers: u8,
+        out: &mut Vec<Envelope>,
+    ) -> Result<(), OutOfMemory>
+        ensures { OnOk result (out.new.items ≡ out.old.items ++ list_map enveloped (to_run (server_of self.now) servers (commit_again trans.now (fate_in self.now trans.now)))) }
+    {
+        if let Some(course) = self.course(trans) {
+            if let Stage::Decided { ts } = course.stage {
+                let members = course.members.as_slice();
+                let stamp = Stamp { ts, trans: *trans };
+                return tell_members(stamp, members, self.server, servers, out);
+            }
+        }
+        Ok(())
+    }
+
+    /// How many count towards the transactions of a server: those that are running or finishing, and decisions with joins
+    /// that are not forgotten.
+    pub fn counted(&self) -> Result<usize, OutOfMemory>
+        ensures { IfOk result (λ n. n ≡ counted_of self.now) }
+    {
+        let ids = self.courses.ids(self.alloc)?;
+        let mut count = 0usize;
+        for trans in ids.as_slice() {
+            if self.counts(trans) {
+                count += 1;
+            }
+        }
+        Ok(count)
+    }
+
+    fn counts(&self, trans: &TransId) -> bool
+        ensures { result ≡ is_counted (fate_in self.now trans.now) }
+    {
+        match self.course(trans) {
+            Some(course) => match course.stage {
+                Stage::Decided { .. } => !course.members.as_slice().is_empty(),
+                _ => true,
+            },
+            None => false,
+        }
+    }
+}
+
+fn committed(trans: &TransId, ts: u64) -> Ended
+    ensures { result ≡ ending.Committed (record { ts = ts; trans = trans.now }) }
+{
+    Ended::Committed {
+        stamp: Stamp { ts, trans: *trans },
+    }
+}
+
+fn abort(trans: &TransId, join: &JoinNo, cause: Cause) -> Message
+    ensures { result ≡ msg.Abort trans.now join.now cause }
+{
+    Message::Abort {
+        trans: *trans,
+        join: *join,
+        cause,
+    }
+}
+
+// Only a part of it is told that it is committed.
+fn commit(trans: &TransId, join: &JoinNo, ts: u64, members: &[Member]) -> Option<Message>
+    ensures { result ≡ commit_for trans.now join.now (record { ts = ts; trans = trans.now }) (joins members.now) }
+{
+    if !takes_part(members, join) {
+        return None;
+    }
+    Some(Message::Commit {
+        trans: *trans,
+        join: *join,
+        stamp: Stamp { ts, trans: *trans },
+    })
+}
+
+fn inquiry(course: &Course, trans: &TransId, join: &JoinNo) -> Option<Message>
+    ensures { result ≡ inquiry_at trans.now join.now course.now.stage course.now.members }
+{
+    match course.stage {
+        Stage::Decided { ts } => commit(trans, join, ts, course.members.as_slice()),
+        _ => None,
+    }
+}
+
+// Asks those that have not voted.
+fn ask_members(
+    trans: &TransId,
+    members: &[Member],
+    server: u8,
+    servers: u8,
+    out: &mut Vec<Envelope>,
+) -> Result<(), OutOfMemory>
+    ensures { OnOk result (out.new.items ≡ out.old.items ++ again_to server servers (msg.Ask trans.now) members.now members.now) }
+{
+    for member in members {
+        if !has_said(members, &member.join) && is_other(server, servers, member.join.server) {
+            out.push(Envelope {
+                to: member.join.server,
+                message: Message::Ask {
+                    trans: *trans,
+                    join: member.join,
+                },
+            })?;
+        }
+    }
+    Ok(())
+}
+
+// Tells those that have not applied it.
+fn tell_members(
+    stamp: Stamp,
+    members: &[Member],
+    server: u8,
+    servers: u8,
+    out: &mut Vec<Envelope>,
+) -> Result<(), OutOfMemory>
+    ensures { OnOk result (out.new.items ≡ out.old.items ++ again_to server servers (λ j. msg.Commit stamp.trans j stamp) members.now members.now) }
+{
+    for member in members {
+        if !has_said(members, &member.join) && is_other(server, servers, member.join.server) {
+            out.push(Envelope {
+                to: member.join.server,
+                message: Message::Commit {
+                    trans: stamp.trans,
+                    join: member.join,
+                    stamp,
+                },
+            })?;
+        }
+    }
+    Ok(())
+}
