@@ -61,8 +61,8 @@ course_shows s t c is = go (t.epoch == s.epoch) refl is
 
 -- so does one that takes its place
 pub shows_course : (s : Coordinator) (t : TransId) (c d : Course) → Shows s t c → (is_standing c.stage c.members ≡ true → is_standing d.stage d.members ≡ true) → course_by s t (Some d) ≡ Some d
-shows_course s t c d (now e open) stands =
-    ap (λ (b : Bool). cond {A = Option Course} b (if_open (settled_in s t) (Some d)) (if_standing (Some d))) e ∙ ap (λ (x : Option Settled). if_open x (Some d)) open
+shows_course s t c d (now e opens) stands =
+    ap (λ (b : Bool). cond {A = Option Course} b (if_open (settled_in s t) (Some d)) (if_standing (Some d))) e ∙ ap (λ (x : Option Settled). if_open x (Some d)) opens
 shows_course s t c d (older e is) stands =
     ap (λ (b : Bool). cond {A = Option Course} b (if_open (settled_in s t) (Some d)) (if_standing (Some d))) e ∙ ap (λ (b : Bool). cond {A = Option Course} b (Some d) None) (stands is)
 
@@ -77,7 +77,7 @@ pub early_open : (s : Coordinator) (t : TransId) (c : Course) → course_in s t 
 early_open s t c is early = go (course_shows s t c is).0
   where
     go : Shows s t c → settled_in s t ≡ Some settled.Open
-    go (now e open) = open
+    go (now e opens) = opens
     go (older e stands) = let wrong : true ≡ false = sym stands ∙ early in cc
 
 -- ---- one course goes on

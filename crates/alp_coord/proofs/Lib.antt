@@ -4,3 +4,5 @@ pub mod FateLemmas
 pub mod FoundLemmas
 pub mod MoveLemmas
 pub mod WordLemmas
+pub mod LikeLemmas
+pub mod TieLemmas

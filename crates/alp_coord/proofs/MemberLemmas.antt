@@ -253,7 +253,7 @@ pub saying-at : (j : JoinNo) (ts : ℕ) (ms : List Member) (d : Member) → posi
 saying-at j ts [] d within = absurd (omega (arith, within))
 saying-at j ts (m ∷ ms) d within = go (same_join m.join j) within (saying-at j ts ms d)
   where
-    abbrev at : ℕ
+    at : ℕ
     at = position_or_len (λ (n : Member). same_join n.join j) ms
 
     go : (b : Bool) → cond (not b) (1 + at) 0 < suc (length ms)
@@ -268,7 +268,7 @@ pub nowhere-none : (j : JoinNo) (ms : List Member) → length ms ≤ position_or
 nowhere-none j [] high = refl
 nowhere-none j (m ∷ ms) high = go (same_join m.join j) high (nowhere-none j ms)
   where
-    abbrev at : ℕ
+    at : ℕ
     at = position_or_len (λ (n : Member). same_join n.join j) ms
 
     go : (b : Bool) → suc (length ms) ≤ cond (not b) (1 + at) 0 → (length ms ≤ at → takes_part j ms ≡ false) → (b || takes_part j ms) ≡ false

@@ -6,6 +6,7 @@ use Rattle.std.specs.FinMap as map
 use Rattle.std.proofs.Common.{◌≡◌, ℕ, ◌<◌, ◌≤◌, List, [], ◌∷◌, ◌++◌, length, refl, sym, ◌∙◌, ap, subst, arith, eq-eqb}
 use Rattle.alp_base.specs.declared.ids.JoinNo.{JoinNo}
 use Rattle.alp_base.specs.declared.ids.TransId.{TransId}
+use Rattle.alp_base.specs.declared.ids.Stamp.{Stamp}
 use Rattle.alp_files.specs.declared.refusal.Cause.{Cause}
 use Rattle.alp_journal.specs.Ids.{same_trans, has_join, has_server}
 use Rattle.alp_journal.specs.Coordinator.{Fate, Undrawn, Running, Finishing, Committed, Forgotten, Ended, Vote, voted, with_vote, has_votes, joins_of, has_all}
@@ -25,12 +26,12 @@ use Rattle.alp_coord.specs.declared.answers.Ballot.TheVariants as ballot
 use Rattle.alp_coord.specs.declared.answers.Receipt.{Receipt}
 use Rattle.alp_coord.specs.declared.answers.Receipt.TheVariants as receipt
 use Rattle.alp_coord.specs.declared.coordinator.Coordinator.{Coordinator}
-use Rattle.alp_coord.specs.Members.{joins, votes, dones, takes_part, has_said, having_said, hushed}
+use Rattle.alp_coord.specs.Members.{joins, votes, dones, takes_part, has_said, saying, having_said, hushed}
 use Rattle.alp_coord.specs.Begun.{fate_settled}
 use Rattle.alp_coord.specs.Courses.{changed_at, fate_at, fate_of, entered, turned, told}
 use Rattle.alp_coord.specs.Likeness.{AreLikeVotes, AreLikeDones, IsLike, same, finishing, committed}
-use Rattle.alp_coord.specs.Coordinators.{settled_in, course_in, is_standing, fate_known, fate_in, settle_in, Comes, ComesLike, registration_of, admitted, ballot_of, receipt_of, is_applied, forgotten_fate}
-use Rattle.alp_coord.proofs.MemberLemmas.{takes_part-joins, joins-append, joins-hushed, votes-hushed, dones-hushed, joins-having_said, voted-having_said, latest-having_said, done-having_said}
+use Rattle.alp_coord.specs.Coordinators.{settled_in, course_in, is_standing, fate_known, fate_in, settle_in, Comes, ComesLike, Keeps, registration_of, admitted, ballot_of, receipt_of, is_applied, forgotten_as, forgotten_fate}
+use Rattle.alp_coord.proofs.MemberLemmas.{takes_part-joins, joins-append, joins-hushed, votes-hushed, dones-hushed, joins-having_said, voted-having_said, latest-having_said, done-having_said, saying-nowhere}
 use Rattle.alp_coord.proofs.FateLemmas.{fate_course, fate_none, early_open, changed_fates, still_fates, settle_fates}
 
 abbrev pub stage_in : Coordinator → TransId → Option Stage
@@ -180,7 +181,7 @@ decide_fates s t ts a =
 
 -- one is settled, by a move
 pub settle_moves : (s : Coordinator) (t : TransId) (x : Settled) (move : Fate → Fate) → settled_in s t ≡ Some settled.Open → fate_settled t (Some x) ≡ move (fate_in s t) → (u : TransId) → fate_in (settle_in s t x) u ≡ cond {A = Fate} (same_trans t u) (move (fate_in s u)) (fate_in s u)
-settle_moves s t x move open moves u = settle_fates s t x open u ∙ go (same_trans t u) refl
+settle_moves s t x move opens moves u = settle_fates s t x opens u ∙ go (same_trans t u) refl
   where
     go : (b : Bool) → same_trans t u ≡ b → cond {A = Fate} b (fate_settled u (Some x)) (fate_in s u) ≡ cond {A = Fate} b (move (fate_in s u)) (fate_in s u)
     go true e = subst (λ (v : TransId). fate_settled v (Some x) ≡ move (fate_in s v)) (same_trans-true t u e) moves
@@ -197,25 +198,24 @@ alone_fates s t ts a none =
     settle_moves s t (settled.Committed ts) (journal.decided (record { ts = ts; trans = t }) (joins_of (fate_in s t))) (open_there s t stage.Finishing a refl)
     (alone_moves t ts (joins_of (fate_in s t)) (fate_in s t) a.course.client a.course.members (fate_there s t stage.Finishing a) none)
 
--- what all have voted for is finishing
-votes_settled : (t : TransId) (x : Option Settled) → has_votes (fate_settled t x) ≡ false
-votes_settled t None = refl
-votes_settled t (Some settled.Open) = refl
-votes_settled t (Some (settled.Committed ts)) = refl
-votes_settled t (Some (settled.Forgotten ts ms)) = refl
-votes_settled t (Some (settled.Ended e)) = refl
+-- and what is at no such stage stays
+decide_settled : (t : TransId) (x : Stamp) (js : List JoinNo) → StillSettled (journal.decided x js) t
+decide_settled t x js None = refl
+decide_settled t x js (Some settled.Open) = refl
+decide_settled t x js (Some (settled.Committed ts)) = refl
+decide_settled t x js (Some (settled.Forgotten ts ms)) = refl
+decide_settled t x js (Some (settled.Ended e)) = refl
 
-votes_stage : (t : TransId) (x : Stage) (client : ℕ) (ms : List Member) → has_votes (fate_at t x client ms) ≡ true → x ≡ stage.Finishing
-votes_stage t stage.Running client ms h = cc
-votes_stage t stage.Finishing client ms h = refl
-votes_stage t (stage.Decided ts) client ms h = cc
+decide_stage : (t : TransId) (stamp : Stamp) (js : List JoinNo) (x : Stage) (client : ℕ) (ms : List Member) → (x ≡ stage.Finishing → ⊥) → journal.decided stamp js (fate_at t x client ms) ≡ fate_at t x client ms
+decide_stage t stamp js stage.Running client ms away = refl
+decide_stage t stamp js stage.Finishing client ms away = absurd (away refl)
+decide_stage t stamp js (stage.Decided ts) client ms away = refl
 
-pub voted_stage : (s : Coordinator) (t : TransId) → has_votes (fate_in s t) ≡ true → stage_in s t ≡ Some stage.Finishing
-voted_stage s t h = go (course_in s t) h
-  where
-    go : (o : Option Course) → has_votes (fate_known t o (settled_in s t)) ≡ true → option_map (λ (c : Course). c.stage) o ≡ Some stage.Finishing
-    go None i = never (has_votes (fate_settled t (settled_in s t))) (votes_settled t (settled_in s t)) i
-    go (Some c) i = ap Some (votes_stage t c.stage c.client c.members i)
+pub decide_still : (s : Coordinator) (t : TransId) (ts : ℕ) (js : List JoinNo) → (stage_in s t ≡ Some stage.Finishing → ⊥) → Comes (Decides (record { ts = ts; trans = t }) js) s s
+decide_still s t ts js away =
+    still_fates (λ (f g : Fate). f ≡ g) (λ f. refl) s t (journal.decided (record { ts = ts; trans = t }) js)
+    (still (journal.decided (record { ts = ts; trans = t }) js) t s (decide_settled t (record { ts = ts; trans = t }) js)
+    (λ c is. decide_stage t (record { ts = ts; trans = t }) js c.stage c.client c.members (λ at. away (ap (option_map (λ (c : Course). c.stage)) is ∙ ap Some at))))
 
 -- ---- an end
 
@@ -318,5 +318,46 @@ applied_decided s t h = go (course_in s t) refl h
     go (Some c) e i = (let at = applied_stage t c.stage c.client c.members i in record { ts = at.0; there = record { course = c; stands = e; at = at.1 } })
 
 pub forget_fates : (s : Coordinator) (t : TransId) (ts : ℕ) (a : IsAt s t (stage.Decided ts)) → settled_in s t ≡ Some settled.Open → (u : TransId)
-    → fate_in (settle_in s t (settled.Forgotten ts a.course.members)) u ≡ cond {A = Fate} (same_trans t u) (forgotten_fate true (fate_in s u)) (fate_in s u)
-forget_fates s t ts a open = settle_moves s t (settled.Forgotten ts a.course.members) (forgotten_fate true) open (sym (ap (forgotten_fate true) (fate_there s t (stage.Decided ts) a)))
+    → fate_in (settle_in s t (settled.Forgotten ts a.course.members)) u ≡ cond {A = Fate} (same_trans t u) (forgotten_as true (fate_in s u)) (fate_in s u)
+forget_fates s t ts a opens = settle_moves s t (settled.Forgotten ts a.course.members) (forgotten_as true) opens (sym (ap (forgotten_as true) (fate_there s t (stage.Decided ts) a)))
+
+-- the one that is forgotten was applied
+pub forgotten_applied : (s : Coordinator) (t u : TransId) (f : Fate) (b : Bool) → is_applied (fate_in s t) ≡ true → (t.epoch == s.epoch) ≡ b
+    → f ≡ cond {A = Fate} (same_trans t u) (forgotten_as b (fate_in s u)) (fate_in s u) → f ≡ cond {A = Fate} (same_trans t u) (forgotten_fate (u.epoch == s.epoch) (fate_in s u)) (fate_in s u)
+forgotten_applied s t u f b applied at is = is ∙ go (same_trans t u) refl
+  where
+    go : (c : Bool) → same_trans t u ≡ c → cond {A = Fate} c (forgotten_as b (fate_in s u)) (fate_in s u) ≡ cond {A = Fate} c (forgotten_fate (u.epoch == s.epoch) (fate_in s u)) (fate_in s u)
+    go true e =
+        subst (λ (v : TransId). forgotten_as b (fate_in s v) ≡ forgotten_fate (v.epoch == s.epoch) (fate_in s v)) (same_trans-true t u e)
+        (ap (λ (c : Bool). forgotten_as c (fate_in s t)) (sym at) ∙ sym (ap (λ (c : Bool). cond {A = Fate} c (forgotten_as (t.epoch == s.epoch) (fate_in s t)) (fate_in s t)) applied))
+    go false e = refl
+
+-- one that was not applied stays
+pub not_applied : (s : Coordinator) (t : TransId) → is_applied (fate_in s t) ≡ false → (u : TransId) → fate_in s u ≡ cond {A = Fate} (same_trans t u) (forgotten_fate (u.epoch == s.epoch) (fate_in s u)) (fate_in s u)
+not_applied s t away u = go (same_trans t u) refl
+  where
+    go : (c : Bool) → same_trans t u ≡ c → fate_in s u ≡ cond {A = Fate} c (forgotten_fate (u.epoch == s.epoch) (fate_in s u)) (fate_in s u)
+    go true e =
+        subst (λ (v : TransId). fate_in s v ≡ forgotten_fate (v.epoch == s.epoch) (fate_in s v)) (same_trans-true t u e)
+        (sym (ap (λ (c : Bool). cond {A = Fate} c (forgotten_as (t.epoch == s.epoch) (fate_in s t)) (fate_in s t)) away))
+    go false e = refl
+
+-- ---- words of a join that takes no part
+
+told_none : (t : TransId) (j : JoinNo) (n : ℕ) (x : Stage) (client : ℕ) (ms : List Member) → has_join j (joins ms) ≡ false → fate_at t x client (having_said j n ms) ≡ fate_at t x client ms
+told_none t j n x client ms none = ap (fate_at t x client) (go (has_said j ms))
+  where
+    go : (b : Bool) → cond {A = List Member} b ms (saying j n ms) ≡ ms
+    go true = refl
+    go false = saying-nowhere j n ms (takes_part-joins j ms ∙ none)
+
+pub told_keeps : (s : Coordinator) (t : TransId) (j : JoinNo) (n : ℕ) (x : Stage) → IsAt s t x → has_join j (joins_of (fate_in s t)) ≡ false → Keeps s (record s { courses = changed_at (told j n) s.courses t })
+told_keeps s t j n x a none u =
+    changed_fates (λ (f g : Fate). f ≡ g) (λ f. refl) s t a.course (told j n) (λ f. f) a.stands
+    (stage_stands a.course.stage a.course.members (having_said j n a.course.members) (joins-having_said j n a.course.members))
+    (told_none t j n a.course.stage a.course.client a.course.members (sym (ap (has_join j) (joins_course s t a.course a.stands)) ∙ none)) u
+    ∙ cond_itself (same_trans t u) (fate_in s u)
+  where
+    cond_itself : (b : Bool) (f : Fate) → cond {A = Fate} b f f ≡ f
+    cond_itself true f = refl
+    cond_itself false f = refl

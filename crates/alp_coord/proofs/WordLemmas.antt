@@ -39,7 +39,7 @@ again-is server servers f p all same [] = refl
 again-is server servers f p all same (m ∷ ms) =
     go (has_said m.join all) ∙ ap (λ (b : Bool). list_map enveloped (to_run server servers (to_each f (cond {A = List JoinNo} (not b) (m.join ∷ rest) rest)))) (sym (same m.join))
   where
-    abbrev rest : List JoinNo
+    rest : List JoinNo
     rest = filter (λ j. not (p j)) (joins ms)
 
     ih : again_to server servers f all ms ≡ list_map enveloped (to_run server servers (to_each f rest))
@@ -123,7 +123,6 @@ envelopes-all server servers f (t ∷ ts) =
 
 -- ---- answers
 
-
 -- one with a place began in this epoch
 pub placed-now : (s : Coordinator) (t : TransId) (x : Settled) → settled_in s t ≡ Some x → (t.epoch == s.epoch) ≡ true
 placed-now s t x is = eq-eqb t.epoch s.epoch (settled_placed s t x is).epoch_is
@@ -149,7 +148,7 @@ pub early-now : (s : Coordinator) (t : TransId) (c : Course) → course_in s t �
 early-now s t c is early = go (course_shows s t c is).0
   where
     go : Shows s t c → (t.epoch == s.epoch) ≡ true
-    go (now e open) = e
+    go (now e opens) = e
     go (older e stands) = let wrong : true ≡ false = sym stands ∙ early in cc
 
 pub inquiry-course : (s : Coordinator) (t : TransId) (j : JoinNo) (c : Course) → course_in s t ≡ Some c → inquiry_of s.epoch t j (fate_in s t) ≡ inquiry_at t j c.stage c.members

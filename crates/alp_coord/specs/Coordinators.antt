@@ -117,6 +117,10 @@ Comes d before after = (t : TransId) → fate_in after t ≡ fate_after d t (fat
 abbrev pub ComesLike : Deed → Coordinator → Coordinator → Type 0
 ComesLike d before after = (t : TransId) → IsLike (fate_in after t) (fate_after d t (fate_in before t))
 
+-- or nothing comes about
+abbrev pub Keeps : Coordinator → Coordinator → Type 0
+Keeps before after = (t : TransId) → fate_in after t ≡ fate_in before t
+
 -- ---- decisions that were found
 
 abbrev pub noted : Decision → DecisionNote
@@ -185,10 +189,13 @@ is_applied (Committed stamp [] ds) = false
 is_applied (Committed stamp (j ∷ js) ds) = has_all ds (j ∷ js)
 is_applied f = false
 
--- what a forgotten transaction leaves
+-- what a forgotten transaction leaves, of this epoch and of an older one
+abbrev pub forgotten_as : Bool → Fate → Fate
+forgotten_as true (Committed stamp js ds) = Forgotten stamp js
+forgotten_as is_now f = Undrawn
+
 abbrev pub forgotten_fate : Bool → Fate → Fate
-forgotten_fate true (Committed stamp js ds) = Forgotten stamp js
-forgotten_fate is_now f = Undrawn
+forgotten_fate is_now f = if is_applied f then forgotten_as is_now f else f
 
 abbrev pub lost_or : ℕ → TransId → Cause → Cause
 lost_or epoch t c = if t.epoch == epoch then c else cause.Lost epoch

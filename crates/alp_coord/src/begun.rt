@@ -4,7 +4,7 @@ ghost use Rattle.std.specs.Option.{option_copied as copied};
 ghost use Rattle.alp_coord.specs.declared.begun.Settled.{Settled as ASettled};
 ghost use Rattle.alp_coord.specs.Begun.{settled_at, with_settled};
 
-use crate::Members;
+use crate::members::Members;
 use alp_base::OutOfMemory;
 use alp_files::Cause;
 use std::alloc::Global;

@@ -1,18 +1,20 @@
 //! The transactions of a server.
-ghost use Rattle.std.specs.Prelude.{◌≡◌, ◌+◌, ◌^◌, ◌<◌, ◌==◌, ◌&&◌, nat_lt, not, Some, None, IfOk, OnOk, OnErr, if◌then◌else◌, ℕ, List, map as list_map};
+ghost use Rattle.std.specs.Prelude.{◌≡◌, ◌+◌, ◌-◌, ◌^◌, ◌<◌, Some, IfOk, OnOk, OnErr, if◌then◌else◌, ℕ, List, map as list_map};
 ghost use Rattle.std.specs.Option.{option_copied as copied, option_map};
 ghost use Rattle.std.specs.FinMap as map;
 ghost use Rattle.alp_base.specs.declared.ids.TransId.{TransId as ATransId};
-ghost use Rattle.alp_journal.specs.Ids.{same_trans};
+ghost use Rattle.alp_journal.specs.Ids.{same_trans, is_drawn};
 ghost use Rattle.alp_journal.specs.Coordinator.{Undrawn, fate_noted, client_of, joins_of};
 ghost use Rattle.alp_journal.specs.Deeds.{Begins};
 ghost use Rattle.alp_coord.specs.declared.begun.Settled.TheVariants as settled;
 ghost use Rattle.alp_coord.specs.Members.{joins};
 ghost use Rattle.alp_coord.specs.Coordinators.{IsOf, Comes, Finds, count_of, epoch_of, server_of, next_id, last_id, is_known, is_other, is_standing, if_standing, if_open, settled_in, course_in, fate_in, noted, noted_course, noted_courses, settle_in};
 
-use crate::begun::Begun;
+use crate::begun::{Begun, Settled};
+use crate::course::{Course, Stage};
 use crate::courses::Courses;
-use crate::{Course, Decision, Member, Members, Settled, Stage};
+use crate::members::Members;
+use crate::{Decision, Member};
 use alp_base::{OutOfMemory, TransId};
 use std::alloc::Global;
 
@@ -70,18 +72,21 @@ impl Coordinator {
         self.begun.len()
     }
 
-    /// A transaction begins for a client. After want of memory all is as before.
+    /// A transaction begins for a client. After want of memory, or of a number for it, all is as
+    /// before.
     pub fn begin(&mut self, client: u8) -> Result<TransId, OutOfMemory>
-        requires few { count_of self.old + 1 < 2 ^ 32 }
         ensures id { IfOk result (λ t. t ≡ next_id self.old) }
         ensures one { OnOk result (IsOf (server_of self.old) (epoch_of self.old) (count_of self.old + 1) self.new) }
         ensures begun { OnOk result ((who : List ℕ) (seen : ℕ) → Comes (Begins (next_id self.old) client who seen) self.old self.new) }
         ensures err { OnErr result (self.new ≡ self.old) }
     {
+        let Ok(counter) = u32::try_from(self.begun.len() + 1) else {
+            return Err(OutOfMemory);
+        };
         let trans = TransId {
             server: self.server,
             epoch: self.epoch,
-            counter: self.begun.len() as u32 + 1,
+            counter,
         };
         let course = Course {
             client,
@@ -100,8 +105,10 @@ impl Coordinator {
 
     /// Takes the last begin back.
     pub fn take_back(&mut self)
-        requires { 0 < count_of self.old }
-        ensures { (t : ATransId) → fate_in self.new t ≡ (if same_trans (last_id self.old) t then Undrawn else fate_in self.old t) }
+        requires some { 0 < count_of self.old }
+        requires few { count_of self.old < 2 ^ 32 }
+        ensures run { IsOf (server_of self.old) (epoch_of self.old) (count_of self.old - 1) self.new }
+        ensures taken { (t : ATransId) → fate_in self.new t ≡ (if same_trans (last_id self.old) t then Undrawn else fate_in self.old t) }
     {
         let trans = TransId {
             server: self.server,
@@ -116,11 +123,7 @@ impl Coordinator {
     pub fn is_known(&self, trans: &TransId) -> bool
         ensures { result ≡ is_known self.now trans.now }
     {
-        if trans.server != self.server || trans.epoch == 0 || trans.counter == 0 {
-            return false;
-        }
-        trans.epoch < self.epoch
-            || trans.epoch == self.epoch && trans.counter as usize <= self.begun.len()
+        is_drawn(self.server, self.epoch, self.begun.len(), trans)
     }
 
     /// The client of a transaction that is running or finishing.
@@ -205,6 +208,16 @@ impl Coordinator {
         let _ = self.courses.remove(trans);
         self.begun.settle(trans.counter, settled);
     }
+}
+
+// Whether a server drew the id that drew so many in its epoch.
+fn is_drawn(here: u8, now: u32, last: usize, trans: &TransId) -> bool
+    ensures { result ≡ is_drawn here now last trans.now.server trans.now.epoch trans.now.counter }
+{
+    trans.server == here
+        && 0 < trans.epoch
+        && 0 < trans.counter
+        && (trans.epoch < now || (trans.epoch == now && trans.counter as usize <= last))
 }
 
 // Whether it is a decision with joins.

@@ -2,7 +2,7 @@
 ghost use Rattle.std.specs.Prelude.{◌≡◌};
 ghost use Rattle.alp_coord.specs.declared.members.Member.{Member as AMember};
 
-use crate::Members;
+use crate::members::Members;
 
 /// How far a transaction is that is not settled.
 #[derive(Clone, Copy, Drop)]

@@ -7,7 +7,7 @@ ghost use Rattle.std.specs.List.Sorted.{IsStrictlySortedBy};
 ghost use Rattle.alp_base.specs.Orders.{trans_cmp};
 ghost use Rattle.alp_coord.specs.Courses.{changed_at, entered, turned, told};
 
-use crate::{Course, Stage};
+use crate::course::{Course, Stage};
 use alp_base::{JoinNo, OutOfMemory, TransId};
 use std::alloc::Global;
 use std::collections::BTreeMap;
@@ -62,29 +62,31 @@ impl Courses {
         ensures ok { OnOk result (self.new ≡ changed_at (entered join) self.old trans.now) }
         ensures err { OnErr result (self.new ≡ self.old) }
     {
-        match self.courses.get_mut(trans) {
-            Some(course) => course.members.add(join),
-            None => Ok(()),
-        }
+        let Some(course) = self.courses.get_mut(trans) else {
+            return Ok(());
+        };
+        course.members.add(join)
     }
 
     /// The transaction comes to that stage, if it is here, at which its parts have said nothing so far. Takes no memory.
     pub fn turn(&mut self, trans: &TransId, stage: Stage)
         ensures { self.new ≡ changed_at (turned stage) self.old trans.now }
     {
-        if let Some(course) = self.courses.get_mut(trans) {
-            course.stage = stage;
-            course.members.hush();
-        }
+        let Some(course) = self.courses.get_mut(trans) else {
+            return;
+        };
+        course.stage = stage;
+        course.members.hush();
     }
 
     /// A part says this of the transaction, if it is here. Takes no memory.
     pub fn hear(&mut self, trans: &TransId, join: &JoinNo, time: u64)
         ensures { self.new ≡ changed_at (told join.now time) self.old trans.now }
     {
-        if let Some(course) = self.courses.get_mut(trans) {
-            course.members.hear(join, time);
-        }
+        let Some(course) = self.courses.get_mut(trans) else {
+            return;
+        };
+        course.members.hear(join, time);
     }
 
     /// What stood for the transaction goes.

@@ -2,10 +2,20 @@
 //! again.
 #![tactic(auto)]
 
+mod answers;
+mod begun;
+mod coordinator;
 mod course;
 mod courses;
+mod decision;
 mod members;
+mod moves;
+mod scratch;
+#[cfg(test)]
+mod tests;
+mod words;
 
-pub use course::{Course, Stage};
-pub use courses::Courses;
-pub use members::{Member, Members};
+pub use answers::{Ballot, Receipt, Registration};
+pub use coordinator::Coordinator;
+pub use decision::Decision;
+pub use members::Member;

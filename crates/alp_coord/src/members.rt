@@ -98,9 +98,10 @@ fn silent_members(alloc: Global, joins: &[JoinNo]) -> Result<Vec<Member>, OutOfM
 fn say(members: &mut Vec<Member>, join: &JoinNo, time: u64)
     ensures { members.new.items ≡ saying join.now time members.old.items }
 {
-    if let Some(place) = place_of(members.as_slice(), join) {
-        members[place].said = Some(time);
-    }
+    let Some(place) = place_of(members.as_slice(), join) else {
+        return;
+    };
+    members[place].said = Some(time);
 }
 
 // Where the first of that join stands.
@@ -146,27 +147,21 @@ pub fn has_server(members: &[Member], server: u8) -> bool
 pub fn has_said(members: &[Member], join: &JoinNo) -> bool
     ensures { result ≡ has_said join.now members.now }
 {
-    members
-        .iter()
-        .any(|member| member.said.is_some() && is_join(&member.join, join))
+    members.iter().any(|member| member.said.is_some() && is_join(&member.join, join))
 }
 
 /// Whether each has said something.
 pub fn have_all_said(members: &[Member]) -> bool
     ensures { result ≡ have_all_said members.now }
 {
-    members
-        .iter()
-        .all(|member| has_said(members, &member.join))
+    members.iter().all(|member| has_said(members, &member.join))
 }
 
 /// Whether each but that join has said something.
 pub fn have_all_said_with(members: &[Member], join: &JoinNo) -> bool
     ensures { result ≡ have_all_said_with join.now members.now }
 {
-    members
-        .iter()
-        .all(|member| is_join(join, &member.join) || has_said(members, &member.join))
+    members.iter().all(|member| is_join(join, &member.join) || has_said(members, &member.join))
 }
 
 /// The greatest of their votes and of that time.

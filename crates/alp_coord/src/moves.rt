@@ -1,16 +1,18 @@
 //! What becomes of transactions.
-ghost use Rattle.std.specs.Prelude.{◌≡◌, ◌==◌, Some, IfOk, OnErr, if◌then◌else◌, ℕ, true};
+ghost use Rattle.std.specs.Prelude.{◌≡◌, ◌==◌, Some, IfOk, OnErr, if◌then◌else◌, ℕ, true, false};
 ghost use Rattle.alp_base.specs.declared.ids.TransId.{TransId as ATransId};
 ghost use Rattle.alp_journal.specs.Ids.{same_trans, has_join, has_server};
-ghost use Rattle.alp_journal.specs.Coordinator.{has_votes, joins_of, with_vote};
+ghost use Rattle.alp_journal.specs.Coordinator.{joins_of, with_vote};
 ghost use Rattle.alp_journal.specs.Laws.{latest_vote};
 ghost use Rattle.alp_journal.specs.Deeds.{Registers, Finishes, Hears, Decides, Ends, Acknowledges};
 ghost use Rattle.alp_coord.specs.Members.{joins, votes};
 ghost use Rattle.alp_coord.specs.Courses.{fate_of};
-ghost use Rattle.alp_coord.specs.Coordinators.{AfterRegistration, IsAlong, Comes, ComesLike, epoch_of, fate_in, is_other, registration_in, registration_of, admitted, ballot_of, receipt_of, is_applied, forgotten_fate};
+ghost use Rattle.alp_coord.specs.Coordinators.{AfterRegistration, IsAlong, Comes, ComesLike, Keeps, epoch_of, fate_in, is_other, registration_in, registration_of, admitted, ballot_of, receipt_of, is_applied, forgotten_as, forgotten_fate};
 
+use crate::begun::Settled;
+use crate::course::{Course, Stage};
 use crate::members::{has_said, has_server, have_all_said, have_all_said_with, latest, takes_part};
-use crate::{Ballot, Coordinator, Course, Member, Receipt, Registration, Settled, Stage};
+use crate::{Ballot, Coordinator, Member, Receipt, Registration};
 use alp_base::{JoinNo, OutOfMemory, TransId};
 use alp_files::Cause;
 
@@ -51,10 +53,11 @@ impl Coordinator {
         ensures err { OnErr result (self.new ≡ self.old) }
     {
         let answer = self.registration(trans, &join, client, servers);
-        if answer == Registration::Registered {
-            self.courses.enter(trans, join)?;
-        }
-        Ok(answer)
+        let Registration::Registered = answer else {
+            return Ok(answer);
+        };
+        self.courses.enter(trans, join)?;
+        Ok(Registration::Registered)
     }
 
     /// Its client asks for the commit of a running transaction. Takes no memory.
@@ -62,9 +65,10 @@ impl Coordinator {
         ensures along { IsAlong self.old self.new }
         ensures finished { Comes (Finishes trans.now) self.old self.new }
     {
-        if let Some(Stage::Running) = self.stage(trans) {
-            self.courses.turn(trans, Stage::Finishing);
-        }
+        let Some(Stage::Running) = self.stage(trans) else {
+            return;
+        };
+        self.courses.turn(trans, Stage::Finishing);
     }
 
     /// What a vote with that time comes to, which gives the latest time of all votes with the last: at least `least`.
@@ -77,31 +81,32 @@ impl Coordinator {
         }
     }
 
-    /// The vote of one of its parts is kept for a finishing transaction, unless it voted before. Takes no memory.
+    /// The vote of one of its parts is kept for a finishing transaction, unless it voted before; that of another is not.
+    /// Takes no memory.
     pub fn hear(&mut self, trans: &TransId, join: &JoinNo, time: u64)
-        requires { has_join join.now (joins_of (fate_in self.old trans.now)) ≡ true }
         ensures along { IsAlong self.old self.new }
-        ensures heard { ComesLike (Hears trans.now join.now time) self.old self.new }
+        ensures heard { has_join join.now (joins_of (fate_in self.old trans.now)) ≡ true → ComesLike (Hears trans.now join.now time) self.old self.new }
+        ensures dropped { has_join join.now (joins_of (fate_in self.old trans.now)) ≡ false → Keeps self.old self.new }
     {
-        if let Some(Stage::Finishing) = self.stage(trans) {
-            self.courses.hear(trans, join, time);
-        }
+        let Some(Stage::Finishing) = self.stage(trans) else {
+            return;
+        };
+        self.courses.hear(trans, join, time);
     }
 
-    /// A transaction for which all have voted is committed at that time. Takes no memory.
+    /// A finishing transaction is committed at that time, with all its parts. Takes no memory.
     pub fn decide(&mut self, trans: &TransId, ts: u64)
-        requires { has_votes (fate_in self.old trans.now) ≡ true }
         ensures along { IsAlong self.old self.new }
         ensures decided { Comes (Decides (record { ts = ts; trans = trans.now }) (joins_of (fate_in self.old trans.now))) self.old self.new }
     {
-        let is_alone = self.members(trans).is_empty();
-        if let Some(Stage::Finishing) = self.stage(trans) {
-            if is_alone {
-                self.settle(trans, Settled::Committed { ts });
-            } else {
-                self.courses.turn(trans, Stage::Decided { ts });
-            }
+        let Some(Stage::Finishing) = self.stage(trans) else {
+            return;
+        };
+        if self.members(trans).is_empty() {
+            self.settle(trans, Settled::Committed { ts });
+            return;
         }
+        self.courses.turn(trans, Stage::Decided { ts });
     }
 
     /// A transaction that is running or finishing ends in abort. Takes no memory.
@@ -125,27 +130,40 @@ impl Coordinator {
         }
     }
 
-    /// One of its parts has applied the commit. Takes no memory.
+    /// One of its parts has applied the commit; of another it is not kept. Takes no memory.
     pub fn acknowledge(&mut self, trans: &TransId, join: &JoinNo)
-        requires { has_join join.now (joins_of (fate_in self.old trans.now)) ≡ true }
         ensures along { IsAlong self.old self.new }
-        ensures kept { ComesLike (Acknowledges trans.now join.now) self.old self.new }
+        ensures kept { has_join join.now (joins_of (fate_in self.old trans.now)) ≡ true → ComesLike (Acknowledges trans.now join.now) self.old self.new }
+        ensures dropped { has_join join.now (joins_of (fate_in self.old trans.now)) ≡ false → Keeps self.old self.new }
     {
-        if let Some(Stage::Decided { .. }) = self.stage(trans) {
-            self.courses.hear(trans, join, 0);
-        }
+        let Some(Stage::Decided { .. }) = self.stage(trans) else {
+            return;
+        };
+        self.courses.hear(trans, join, 0);
     }
 
     /// A decision that all its parts have applied is forgotten; one of an older epoch leaves nothing. Takes no memory.
     pub fn forget(&mut self, trans: &TransId)
-        requires { is_applied (fate_in self.old trans.now) ≡ true }
         ensures along { IsAlong self.old self.new }
         ensures forgotten { (t : ATransId) → fate_in self.new t ≡ (if same_trans trans.now t then forgotten_fate (t.epoch == epoch_of self.old) (fate_in self.old t) else fate_in self.old t) }
     {
+        if !self.is_applied(trans) {
+            return;
+        }
         if trans.epoch == self.epoch {
             self.forget_now(trans);
-        } else {
-            let _ = self.courses.remove(trans);
+            return;
+        }
+        let _ = self.courses.remove(trans);
+    }
+
+    // Whether it is a decision with joins that all have applied.
+    fn is_applied(&self, trans: &TransId) -> bool
+        ensures { result ≡ is_applied (fate_in self.now trans.now) }
+    {
+        match self.course(trans) {
+            Some(course) => is_applied(course),
+            None => false,
         }
     }
 
@@ -153,17 +171,28 @@ impl Coordinator {
         requires applied { is_applied (fate_in self.old trans.now) ≡ true }
         requires now { trans.now.epoch ≡ epoch_of self.old }
         ensures along { IsAlong self.old self.new }
-        ensures forgotten { (t : ATransId) → fate_in self.new t ≡ (if same_trans trans.now t then forgotten_fate true (fate_in self.old t) else fate_in self.old t) }
+        ensures forgotten { (t : ATransId) → fate_in self.new t ≡ (if same_trans trans.now t then forgotten_as true (fate_in self.old t) else fate_in self.old t) }
     {
         let Some(course) = self.courses.remove(trans) else {
             return;
         };
-        if let Stage::Decided { ts } = course.stage {
-            let members = course.members;
-            self.begun
-                .settle(trans.counter, Settled::Forgotten { ts, members });
-        }
+        let Stage::Decided { ts } = course.stage else {
+            return;
+        };
+        let members = course.members;
+        self.begun
+            .settle(trans.counter, Settled::Forgotten { ts, members });
     }
+}
+
+fn is_applied(course: &Course) -> bool
+    ensures { (t : ATransId) → result ≡ is_applied (fate_of t course.now) }
+{
+    let Stage::Decided { .. } = course.stage else {
+        return false;
+    };
+    let members = course.members.as_slice();
+    !members.is_empty() && have_all_said(members)
 }
 
 /// Whether it is another server of the run.

@@ -1,18 +1,20 @@
 //! What is said of transactions, and said again.
-ghost use Rattle.std.specs.Prelude.{◌≡◌, ◌++◌, Some, None, OnOk, IfOk, if◌then◌else◌, map as list_map};
+ghost use Rattle.std.specs.Prelude.{◌≡◌, ◌++◌, ◌&&◌, not, Some, None, OnOk, IfOk, if◌then◌else◌, map as list_map};
 ghost use Rattle.std.specs.List.Sorted.{IsStrictlySortedBy};
 ghost use Rattle.alp_base.specs.Orders.{trans_cmp};
 ghost use Rattle.alp_files.specs.declared.reply.Ended.TheVariants as ending;
 ghost use Rattle.alp_journal.specs.declared.message.Message.TheVariants as msg;
 ghost use Rattle.alp_journal.specs.Answers.{is_counted};
 ghost use Rattle.alp_journal.specs.Messages.{ask_again, commit_again};
-ghost use Rattle.alp_coord.specs.Members.{joins};
+ghost use Rattle.alp_coord.specs.Members.{joins, has_said};
 ghost use Rattle.alp_coord.specs.Begun.{fate_settled};
-ghost use Rattle.alp_coord.specs.Coordinators.{is_known, epoch_of, server_of, fate_in, settled_in, inquiry_of, ending_at, enveloped, to_run, asks_of, commits_of, counted_of, open_ids, commit_for, inquiry_at, again_to};
+ghost use Rattle.alp_coord.specs.Coordinators.{is_known, epoch_of, server_of, fate_in, settled_in, inquiry_of, ending_at, enveloped, to_run, asks_of, commits_of, counted_of, open_ids, commit_for, inquiry_at, again_to, is_other};
 
+use crate::begun::Settled;
+use crate::course::{Course, Stage};
 use crate::members::{has_said, takes_part};
 use crate::moves::is_other;
-use crate::{Coordinator, Course, Member, Settled, Stage};
+use crate::{Coordinator, Member};
 use alp_base::{JoinNo, OutOfMemory, Stamp, TransId};
 use alp_files::{Cause, Ended};
 use alp_journal::{Envelope, Message};
@@ -91,13 +93,14 @@ impl Coordinator {
     ) -> Result<(), OutOfMemory>
         ensures { OnOk result (out.new.items ≡ out.old.items ++ list_map enveloped (to_run (server_of self.now) servers (ask_again trans.now (fate_in self.now trans.now)))) }
     {
-        if let Some(course) = self.course(trans) {
-            if let Stage::Finishing = course.stage {
-                let members = course.members.as_slice();
-                return ask_members(trans, members, self.server, servers, out);
-            }
-        }
-        Ok(())
+        let Some(course) = self.course(trans) else {
+            return Ok(());
+        };
+        let Stage::Finishing = course.stage else {
+            return Ok(());
+        };
+        let members = course.members.as_slice();
+        ask_members(trans, members, self.server, servers, out)
     }
 
     /// Tells parts of decisions that have not applied them, by transactions, in a run of so many servers.
@@ -120,14 +123,15 @@ impl Coordinator {
     ) -> Result<(), OutOfMemory>
         ensures { OnOk result (out.new.items ≡ out.old.items ++ list_map enveloped (to_run (server_of self.now) servers (commit_again trans.now (fate_in self.now trans.now)))) }
     {
-        if let Some(course) = self.course(trans) {
-            if let Stage::Decided { ts } = course.stage {
-                let members = course.members.as_slice();
-                let stamp = Stamp { ts, trans: *trans };
-                return tell_members(stamp, members, self.server, servers, out);
-            }
-        }
-        Ok(())
+        let Some(course) = self.course(trans) else {
+            return Ok(());
+        };
+        let Stage::Decided { ts } = course.stage else {
+            return Ok(());
+        };
+        let members = course.members.as_slice();
+        let stamp = Stamp { ts, trans: *trans };
+        tell_members(stamp, members, self.server, servers, out)
     }
 
     /// How many count towards the transactions of a server: those that are running or finishing, and decisions with joins
@@ -199,6 +203,13 @@ fn inquiry(course: &Course, trans: &TransId, join: &JoinNo) -> Option<Message>
     }
 }
 
+// Whether it is on another server of the run, and has said nothing.
+fn is_due(member: &Member, members: &[Member], server: u8, servers: u8) -> bool
+    ensures { result ≡ (not (has_said member.now.join members.now) && is_other server servers member.now.join.server) }
+{
+    !has_said(members, &member.join) && is_other(server, servers, member.join.server)
+}
+
 // Asks those that have not voted.
 fn ask_members(
     trans: &TransId,
@@ -210,7 +221,7 @@ fn ask_members(
     ensures { OnOk result (out.new.items ≡ out.old.items ++ again_to server servers (msg.Ask trans.now) members.now members.now) }
 {
     for member in members {
-        if !has_said(members, &member.join) && is_other(server, servers, member.join.server) {
+        if is_due(member, members, server, servers) {
             out.push(Envelope {
                 to: member.join.server,
                 message: Message::Ask {
@@ -234,7 +245,7 @@ fn tell_members(
     ensures { OnOk result (out.new.items ≡ out.old.items ++ again_to server servers (λ j. msg.Commit stamp.trans j stamp) members.now members.now) }
 {
     for member in members {
-        if !has_said(members, &member.join) && is_other(server, servers, member.join.server) {
+        if is_due(member, members, server, servers) {
             out.push(Envelope {
                 to: member.join.server,
                 message: Message::Commit {
