@@ -6,3 +6,4 @@ pub mod MoveLemmas
 pub mod WordLemmas
 pub mod LikeLemmas
 pub mod TieLemmas
+pub mod TickLemmas

@@ -69,14 +69,14 @@ commits-decided s t c ts server servers is at =
     ∙ ap (λ (f : Fate). list_map enveloped (to_run server servers (commit_again t f))) (sym (fate_course s t c is ∙ ap (λ (x : Stage). fate_at t x c.client c.members) at))
 
 -- others say nothing
-settled_asks : (t : TransId) (x : Option Settled) → ask_again t (fate_settled t x) ≡ []
+pub settled_asks : (t : TransId) (x : Option Settled) → ask_again t (fate_settled t x) ≡ []
 settled_asks t None = refl
 settled_asks t (Some settled.Open) = refl
 settled_asks t (Some (settled.Committed ts)) = refl
 settled_asks t (Some (settled.Forgotten ts ms)) = refl
 settled_asks t (Some (settled.Ended e)) = refl
 
-settled_commits : (t : TransId) (x : Option Settled) → commit_again t (fate_settled t x) ≡ []
+pub settled_commits : (t : TransId) (x : Option Settled) → commit_again t (fate_settled t x) ≡ []
 settled_commits t None = refl
 settled_commits t (Some settled.Open) = refl
 settled_commits t (Some (settled.Committed ts)) = refl
@@ -198,7 +198,7 @@ decided_counts t ts client (m ∷ ms) = refl
 pub counts-decided : (s : Coordinator) (t : TransId) (c : Course) (ts : ℕ) → course_in s t ≡ Some c → c.stage ≡ stage.Decided ts → is_counted (fate_in s t) ≡ not (length c.members == 0)
 counts-decided s t c ts is at = ap is_counted (fate_course s t c is ∙ ap (λ (x : Stage). fate_at t x c.client c.members) at) ∙ decided_counts t ts c.client c.members
 
-settled_counts : (t : TransId) (x : Option Settled) → is_counted (fate_settled t x) ≡ false
+pub settled_counts : (t : TransId) (x : Option Settled) → is_counted (fate_settled t x) ≡ false
 settled_counts t None = refl
 settled_counts t (Some settled.Open) = refl
 settled_counts t (Some (settled.Committed ts)) = refl

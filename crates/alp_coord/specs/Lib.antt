@@ -3,3 +3,4 @@ pub mod Courses
 pub mod Begun
 pub mod Likeness
 pub mod Coordinators
+pub mod Ticks

@@ -36,14 +36,11 @@ fn messages_lost_and_repeated(rt: HostRuntime) -> Result<(), Fail> {
     let mut out = Vec::new(alloc);
     coordinator.asks_again(2, &mut out)?;
     coordinator.commits_again(2, &mut out)?;
-    let ask = Message::Ask { trans, join: JOIN };
-    assert!(rt;
-        out.as_slice()
-            == &[Envelope {
-                to: 2,
-                message: ask
-            }]
-    );
+    let ask = Envelope {
+        to: 2,
+        message: Message::Ask { trans, join: JOIN },
+    };
+    assert!(rt; out.as_slice() == [ask].as_slice());
     assert!(rt; coordinator.inquire(&trans, &JOIN) == None);
     assert!(rt; coordinator.outcome(&trans) == Some(Ended::Running));
     assert!(rt; coordinator.ballot(&trans, &JOIN, 1, 2) == Ballot::Last { latest: 2 });
@@ -64,7 +61,7 @@ fn messages_lost_and_repeated(rt: HostRuntime) -> Result<(), Fail> {
         to: 2,
         message: commit,
     };
-    assert!(rt; out.as_slice() == &[sent]);
+    assert!(rt; out.as_slice() == [sent].as_slice());
     assert!(rt; coordinator.receipt(&trans, &JOIN) == Receipt::Last);
     coordinator.acknowledge(&trans, &JOIN);
     coordinator.forget(&trans);
