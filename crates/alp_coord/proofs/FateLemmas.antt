@@ -19,8 +19,8 @@ use Rattle.alp_coord.specs.declared.begun.Settled.{Settled}
 use Rattle.alp_coord.specs.declared.begun.Settled.TheVariants as settled
 use Rattle.alp_coord.specs.declared.coordinator.Coordinator.{Coordinator}
 use Rattle.alp_coord.specs.Begun.{settled_at, with_settled, fate_settled}
-use Rattle.alp_coord.specs.Courses.{CourseMap, changed_at, fate_of, begun_course}
-use Rattle.alp_coord.specs.Coordinators.{settled_in, course_in, is_standing, if_standing, if_open, fate_known, fate_in, settle_in, next_id, last_id, id_at}
+use Rattle.alp_coord.specs.Courses.{CourseMap, changed_at, fate_of, begun_course, is_standing}
+use Rattle.alp_coord.specs.Coordinators.{settled_in, course_in, if_standing, is_open, if_open, fate_known, fate_in, settle_in, next_id, last_id, id_at}
 use Rattle.alp_coord.proofs.MapLemmas.{put-there, put-elsewhere, gone-there, gone-elsewhere, changed-there, changed-elsewhere, at_same, at_other, at_last, at_before, apart}
 
 -- ---- what a fate rests on
@@ -32,12 +32,19 @@ course_by s t c = cond {A = Option Course} (t.epoch == s.epoch) (if_open (settle
 abbrev pub fate_by : Coordinator → TransId → Option Course → Fate
 fate_by s t c = fate_known t (course_by s t c) (settled_in s t)
 
+open_is : (x : Settled) → is_open x ≡ true → x ≡ settled.Open
+open_is settled.Open is = refl
+open_is (settled.Committed ts) is = cc
+open_is (settled.Forgotten ts ms) is = cc
+open_is (settled.Ended e) is = cc
+
 open_there : (x : Option Settled) (o : Option Course) (c : Course) → if_open x o ≡ Some c → (x ≡ Some settled.Open) × (o ≡ Some c)
 open_there None o c is = cc
-open_there (Some settled.Open) o c is = (refl, is)
-open_there (Some (settled.Committed ts)) o c is = cc
-open_there (Some (settled.Forgotten ts ms)) o c is = cc
-open_there (Some (settled.Ended e)) o c is = cc
+open_there (Some x) o c is = go (is_open x) refl is
+  where
+    go : (b : Bool) → is_open x ≡ b → cond {A = Option Course} b o None ≡ Some c → (Some x ≡ Some settled.Open) × (o ≡ Some c)
+    go true e i = (ap Some (open_is x e), i)
+    go false e i = cc
 
 standing_there : (o : Option Course) (c : Course) → if_standing o ≡ Some c → (is_standing c.stage c.members ≡ true) × (o ≡ Some c)
 standing_there None c is = cc
@@ -176,10 +183,11 @@ settled_elsewhere s t x u p away = go (u.server == s.server && u.epoch == s.epoc
 
 open_none : (x : Option Settled) → if_open x None ≡ None
 open_none None = refl
-open_none (Some settled.Open) = refl
-open_none (Some (settled.Committed ts)) = refl
-open_none (Some (settled.Forgotten ts ms)) = refl
-open_none (Some (settled.Ended e)) = refl
+open_none (Some x) = go (is_open x)
+  where
+    go : (b : Bool) → cond {A = Option Course} b None None ≡ None
+    go true = refl
+    go false = refl
 
 -- without a course
 pub none_by : (s : Coordinator) (t : TransId) → fate_by s t None ≡ fate_settled t (settled_in s t)

@@ -1,6 +1,7 @@
 -- what parts have said, as a coordinator keeps it and as a journal tells it
-use Rattle.std.specs.Prelude.{cond, Bool, true, false, not, ◌==◌, ◌&&◌, ◌||◌, max, Option, None, Some, is_some, map as list_map}
-use Rattle.std.specs.List.{list_any, list_all, position_or_len}
+use Rattle.std.specs.Prelude.{cond, Bool, true, false, not, ◌==◌, ◌&&◌, ◌||◌, max, nat_lt, Option, None, Some, is_some, map as list_map}
+use Rattle.std.specs.List.{list_any, list_all, position, position_or_len}
+use Rattle.std.proofs.lemmas.Bool.{ltb-true, ltb-false}
 use Rattle.std.proofs.Common.{◌≡◌, ℕ, zero, suc, ◌+◌, ◌<◌, ◌≤◌, List, [], ◌∷◌, ◌++◌, length, take, drop, set, get_or, refl, sym, ◌∙◌, ap, subst, arith}
 use Rattle.std.proofs.lemmas.List.Folds.{list_any-append}
 use Rattle.alp_base.specs.declared.ids.JoinNo.{JoinNo}
@@ -9,7 +10,7 @@ use Rattle.alp_journal.specs.Coordinator.{Vote, voted, with_vote, has_all}
 use Rattle.alp_journal.specs.Laws.{latest_vote}
 use Rattle.alp_journal.proofs.IdLemmas.{same_join-true}
 use Rattle.alp_coord.specs.declared.members.Member.{Member}
-use Rattle.alp_coord.specs.Members.{joins, vote_in, votes, done_in, dones, takes_part, has_said, have_all_said, have_all_said_with, silent, saying, having_said, hushed}
+use Rattle.alp_coord.specs.Members.{joins, vote_in, votes, done_in, dones, are_none, later, latest_of, takes_part, has_said, have_all_said, have_all_said_with, silent, saying, having_said, hushed}
 
 -- ---- who takes part
 
@@ -130,6 +131,14 @@ max_turned a b c = omega arith
 pub latest-max : (n ts : ℕ) (vs : List Vote) → latest_vote (max n ts) vs ≡ max (latest_vote n vs) ts
 latest-max n ts [] = refl
 latest-max n ts (v ∷ vs) = ap (λ (x : ℕ). latest_vote x vs) (max_turned n ts v.1) ∙ latest-max (max n v.1) ts vs
+
+pub latest-votes : (n : ℕ) (ms : List Member) → latest_of n ms ≡ latest_vote n (votes ms)
+latest-votes n [] = refl
+latest-votes n (m ∷ ms) = go m.said
+  where
+    go : (said : Option ℕ) → latest_of (later n said) ms ≡ latest_vote n (vote_in m.join said ++ votes ms)
+    go None = latest-votes n ms
+    go (Some ts) = latest-votes (max n ts) ms
 
 -- with a vote more, by one that has not voted and by one that has
 pub latest-new : (j : JoinNo) (ts n : ℕ) (ms : List Member) → has_said j ms ≡ false → latest_vote n (with_vote j ts (votes ms)) ≡ max (latest_vote n (votes ms)) ts
@@ -274,6 +283,25 @@ nowhere-none j (m ∷ ms) high = go (same_join m.join j) high (nowhere-none j ms
     go : (b : Bool) → suc (length ms) ≤ cond (not b) (1 + at) 0 → (length ms ≤ at → takes_part j ms ≡ false) → (b || takes_part j ms) ≡ false
     go true low h = absurd (omega (arith, low))
     go false low h = h (omega (arith, low))
+
+-- where the first stands, if one does
+pub place_within : (p : Member → Bool) (ms : List Member) (i : ℕ) → position p ms ≡ Some i → (i ≡ position_or_len p ms) × (position_or_len p ms < length ms)
+place_within p ms i is = go (nat_lt (position_or_len p ms) (length ms)) refl is
+  where
+    go : (b : Bool) → nat_lt (position_or_len p ms) (length ms) ≡ b → cond {A = Option ℕ} b (Some (position_or_len p ms)) None ≡ Some i → (i ≡ position_or_len p ms) × (position_or_len p ms < length ms)
+    go true e k = (cc, ltb-true (position_or_len p ms) (length ms) e)
+    go false e k = cc
+
+pub place_none : (p : Member → Bool) (ms : List Member) → position p ms ≡ None → length ms ≤ position_or_len p ms
+place_none p ms is = go (nat_lt (position_or_len p ms) (length ms)) refl is
+  where
+    go : (b : Bool) → nat_lt (position_or_len p ms) (length ms) ≡ b → cond {A = Option ℕ} b (Some (position_or_len p ms)) None ≡ None → length ms ≤ position_or_len p ms
+    go true e k = cc
+    go false e k = ltb-false (position_or_len p ms) (length ms) e
+
+pub none-length : (ms : List Member) → (length ms == 0) ≡ are_none ms
+none-length [] = refl
+none-length (m ∷ ms) = refl
 
 -- ---- all are hushed, one by one
 

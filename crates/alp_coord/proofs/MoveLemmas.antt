@@ -1,5 +1,5 @@
 -- what becomes of transactions by each call of a coordinator
-use Rattle.std.specs.Prelude.{cond, Bool, true, false, not, ◌==◌, ◌&&◌, ◌||◌, Option, None, Some, map as list_map}
+use Rattle.std.specs.Prelude.{cond, Bool, true, false, not, ◌==◌, ◌&&◌, ◌||◌, max, Option, None, Some, is_some, map as list_map}
 use Rattle.std.specs.List.{list_any, list_all}
 use Rattle.std.specs.Option.{option_map}
 use Rattle.std.specs.FinMap as map
@@ -11,6 +11,7 @@ use Rattle.alp_files.specs.declared.refusal.Cause.{Cause}
 use Rattle.alp_journal.specs.Ids.{same_trans, has_join, has_server}
 use Rattle.alp_journal.specs.Coordinator.{Fate, Undrawn, Running, Finishing, Committed, Forgotten, Ended, Vote, voted, with_vote, has_votes, joins_of, has_all}
 use Rattle.alp_journal.specs.Coordinator as journal
+use Rattle.alp_journal.specs.Laws.{latest_vote}
 use Rattle.alp_journal.specs.Deeds.{Deed, Registers, Finishes, Hears, Decides, Ends, Acknowledges}
 use Rattle.alp_journal.proofs.IdLemmas.{same_trans-true}
 use Rattle.alp_coord.specs.declared.members.Member.{Member}
@@ -26,16 +27,13 @@ use Rattle.alp_coord.specs.declared.answers.Ballot.TheVariants as ballot
 use Rattle.alp_coord.specs.declared.answers.Receipt.{Receipt}
 use Rattle.alp_coord.specs.declared.answers.Receipt.TheVariants as receipt
 use Rattle.alp_coord.specs.declared.coordinator.Coordinator.{Coordinator}
-use Rattle.alp_coord.specs.Members.{joins, votes, dones, takes_part, has_said, saying, having_said, hushed}
+use Rattle.alp_coord.specs.Members.{joins, votes, dones, are_none, takes_part, has_said, have_all_said, have_all_said_with, saying, having_said, hushed}
 use Rattle.alp_coord.specs.Begun.{fate_settled}
-use Rattle.alp_coord.specs.Courses.{changed_at, fate_at, fate_of, entered, turned, told}
+use Rattle.alp_coord.specs.Courses.{CourseMap, changed_at, fate_at, fate_of, entered, turned, told, is_running_stage, is_finishing_stage, is_early_stage, is_decided_stage, is_standing, time_of}
 use Rattle.alp_coord.specs.Likeness.{AreLikeVotes, AreLikeDones, IsLike, same, finishing, committed}
-use Rattle.alp_coord.specs.Coordinators.{settled_in, course_in, is_standing, fate_known, fate_in, settle_in, Comes, ComesLike, Keeps, registration_of, admitted, ballot_of, receipt_of, is_applied, forgotten_as, forgotten_fate}
-use Rattle.alp_coord.proofs.MemberLemmas.{takes_part-joins, joins-append, joins-hushed, votes-hushed, dones-hushed, joins-having_said, voted-having_said, latest-having_said, done-having_said, saying-nowhere}
-use Rattle.alp_coord.proofs.FateLemmas.{fate_course, fate_none, early_open, changed_fates, still_fates, settle_fates}
-
-abbrev pub stage_in : Coordinator → TransId → Option Stage
-stage_in s t = option_map (λ (c : Course). c.stage) (course_in s t)
+use Rattle.alp_coord.specs.Coordinators.{settled_in, course_in, fate_known, fate_in, settle_in, Comes, ComesLike, Keeps, registration_of, admitted, ballot_of, receipt_of, is_known, is_other, registration_in, at_stage, is_applied, applied_time, forgotten_as, forgotten_fate}
+use Rattle.alp_coord.proofs.MemberLemmas.{takes_part-joins, all-voted_with, all-done, all-done_with, joins-append, joins-hushed, votes-hushed, dones-hushed, joins-having_said, voted-having_said, latest-having_said, done-having_said, saying-nowhere}
+use Rattle.alp_coord.proofs.FateLemmas.{Shows, now, older, course_shows, fate_course, fate_none, early_open, changed_fates, still_fates, settle_fates, gone_fates}
 
 -- a transaction at a stage has a course
 pub record IsAt (s : Coordinator) (t : TransId) (x : Stage) : Type 0 where
@@ -43,12 +41,57 @@ pub record IsAt (s : Coordinator) (t : TransId) (x : Stage) : Type 0 where
   pub stands : course_in s t ≡ Some course
   pub at : course.stage ≡ x
 
-pub stage_there : (s : Coordinator) (t : TransId) (x : Stage) → stage_in s t ≡ Some x → IsAt s t x
-stage_there s t x is = go (course_in s t) refl is
+pub record IsDecided (s : Coordinator) (t : TransId) : Type 0 where
+  pub ts : ℕ
+  pub there : IsAt s t (stage.Decided ts)
+
+pub record IsEarly (s : Coordinator) (t : TransId) : Type 0 where
+  pub place : Stage
+  pub there : IsAt s t place
+  pub early : is_early_stage place ≡ true
+
+running_is : (x : Stage) → is_running_stage x ≡ true → x ≡ stage.Running
+running_is stage.Running h = refl
+running_is stage.Finishing h = cc
+running_is (stage.Decided ts) h = cc
+
+finishing_is : (x : Stage) → is_finishing_stage x ≡ true → x ≡ stage.Finishing
+finishing_is stage.Running h = cc
+finishing_is stage.Finishing h = refl
+finishing_is (stage.Decided ts) h = cc
+
+decided_is : (x : Stage) → is_decided_stage x ≡ true → (ts : ℕ) × (x ≡ stage.Decided ts)
+decided_is stage.Running h = cc
+decided_is stage.Finishing h = cc
+decided_is (stage.Decided ts) h = (ts, refl)
+
+pub running_at : (s : Coordinator) (t : TransId) → at_stage is_running_stage (course_in s t) ≡ true → IsAt s t stage.Running
+running_at s t h = go (course_in s t) refl h
   where
-    go : (o : Option Course) → course_in s t ≡ o → option_map (λ (c : Course). c.stage) o ≡ Some x → IsAt s t x
+    go : (o : Option Course) → course_in s t ≡ o → at_stage is_running_stage o ≡ true → IsAt s t stage.Running
     go None e i = cc
-    go (Some c) e i = record { course = c; stands = e; at = cc }
+    go (Some c) e i = record { course = c; stands = e; at = running_is c.stage i }
+
+pub finishing_at : (s : Coordinator) (t : TransId) → at_stage is_finishing_stage (course_in s t) ≡ true → IsAt s t stage.Finishing
+finishing_at s t h = go (course_in s t) refl h
+  where
+    go : (o : Option Course) → course_in s t ≡ o → at_stage is_finishing_stage o ≡ true → IsAt s t stage.Finishing
+    go None e i = cc
+    go (Some c) e i = record { course = c; stands = e; at = finishing_is c.stage i }
+
+pub decided_at : (s : Coordinator) (t : TransId) → at_stage is_decided_stage (course_in s t) ≡ true → IsDecided s t
+decided_at s t h = go (course_in s t) refl h
+  where
+    go : (o : Option Course) → course_in s t ≡ o → at_stage is_decided_stage o ≡ true → IsDecided s t
+    go None e i = cc
+    go (Some c) e i = (let x = decided_is c.stage i in record { ts = x.0; there = record { course = c; stands = e; at = x.1 } })
+
+pub early_at : (s : Coordinator) (t : TransId) → at_stage is_early_stage (course_in s t) ≡ true → IsEarly s t
+early_at s t h = go (course_in s t) refl h
+  where
+    go : (o : Option Course) → course_in s t ≡ o → at_stage is_early_stage o ≡ true → IsEarly s t
+    go None e i = cc
+    go (Some c) e i = record { place = c.stage; there = record { course = c; stands = e; at = refl }; early = i }
 
 -- what is said of it there
 pub fate_there : (s : Coordinator) (t : TransId) (x : Stage) (a : IsAt s t x) → fate_in s t ≡ fate_at t x a.course.client a.course.members
@@ -112,15 +155,19 @@ finish_settled t (Some (settled.Committed ts)) = refl
 finish_settled t (Some (settled.Forgotten ts ms)) = refl
 finish_settled t (Some (settled.Ended e)) = refl
 
-finish_stage : (t : TransId) (x : Stage) (client : ℕ) (ms : List Member) → (x ≡ stage.Running → ⊥) → journal.finishing (fate_at t x client ms) ≡ fate_at t x client ms
-finish_stage t stage.Running client ms away = absurd (away refl)
+finish_stage : (t : TransId) (x : Stage) (client : ℕ) (ms : List Member) → is_running_stage x ≡ false → journal.finishing (fate_at t x client ms) ≡ fate_at t x client ms
+finish_stage t stage.Running client ms away = cc
 finish_stage t stage.Finishing client ms away = refl
 finish_stage t (stage.Decided ts) client ms away = refl
 
-pub finish_still : (s : Coordinator) (t : TransId) → (stage_in s t ≡ Some stage.Running → ⊥) → Comes (Finishes t) s s
+-- a course is at no such stage
+pub not_at : (p : Stage → Bool) (s : Coordinator) (t : TransId) (c : Course) → at_stage p (course_in s t) ≡ false → course_in s t ≡ Some c → p c.stage ≡ false
+not_at p s t c away is = sym (ap (at_stage p) is) ∙ away
+
+pub finish_still : (s : Coordinator) (t : TransId) → at_stage is_running_stage (course_in s t) ≡ false → Comes (Finishes t) s s
 finish_still s t away =
     still_fates (λ (f g : Fate). f ≡ g) (λ f. refl) s t journal.finishing
-    (still journal.finishing t s (finish_settled t) (λ c is. finish_stage t c.stage c.client c.members (λ at. away (ap (option_map (λ (c : Course). c.stage)) is ∙ ap Some at))))
+    (still journal.finishing t s (finish_settled t) (λ c is. finish_stage t c.stage c.client c.members (not_at is_running_stage s t c away is)))
 
 -- ---- a vote
 
@@ -156,15 +203,15 @@ hear_settled j ts t (Some (settled.Committed time)) = refl
 hear_settled j ts t (Some (settled.Forgotten time ms)) = refl
 hear_settled j ts t (Some (settled.Ended e)) = refl
 
-hear_stage : (t : TransId) (j : JoinNo) (ts : ℕ) (x : Stage) (client : ℕ) (ms : List Member) → (x ≡ stage.Finishing → ⊥) → journal.heard j ts (fate_at t x client ms) ≡ fate_at t x client ms
+hear_stage : (t : TransId) (j : JoinNo) (ts : ℕ) (x : Stage) (client : ℕ) (ms : List Member) → is_finishing_stage x ≡ false → journal.heard j ts (fate_at t x client ms) ≡ fate_at t x client ms
 hear_stage t j ts stage.Running client ms away = refl
-hear_stage t j ts stage.Finishing client ms away = absurd (away refl)
+hear_stage t j ts stage.Finishing client ms away = cc
 hear_stage t j ts (stage.Decided time) client ms away = refl
 
-pub hear_still : (s : Coordinator) (t : TransId) (j : JoinNo) (ts : ℕ) → (stage_in s t ≡ Some stage.Finishing → ⊥) → ComesLike (Hears t j ts) s s
+pub hear_still : (s : Coordinator) (t : TransId) (j : JoinNo) (ts : ℕ) → at_stage is_finishing_stage (course_in s t) ≡ false → ComesLike (Hears t j ts) s s
 hear_still s t j ts away =
     still_fates IsLike same s t (journal.heard j ts)
-    (still (journal.heard j ts) t s (hear_settled j ts t) (λ c is. hear_stage t j ts c.stage c.client c.members (λ at. away (ap (option_map (λ (c : Course). c.stage)) is ∙ ap Some at))))
+    (still (journal.heard j ts) t s (hear_settled j ts t) (λ c is. hear_stage t j ts c.stage c.client c.members (not_at is_finishing_stage s t c away is)))
 
 -- ---- a decision
 
@@ -206,29 +253,41 @@ decide_settled t x js (Some (settled.Committed ts)) = refl
 decide_settled t x js (Some (settled.Forgotten ts ms)) = refl
 decide_settled t x js (Some (settled.Ended e)) = refl
 
-decide_stage : (t : TransId) (stamp : Stamp) (js : List JoinNo) (x : Stage) (client : ℕ) (ms : List Member) → (x ≡ stage.Finishing → ⊥) → journal.decided stamp js (fate_at t x client ms) ≡ fate_at t x client ms
+decide_stage : (t : TransId) (stamp : Stamp) (js : List JoinNo) (x : Stage) (client : ℕ) (ms : List Member) → is_finishing_stage x ≡ false → journal.decided stamp js (fate_at t x client ms) ≡ fate_at t x client ms
 decide_stage t stamp js stage.Running client ms away = refl
-decide_stage t stamp js stage.Finishing client ms away = absurd (away refl)
+decide_stage t stamp js stage.Finishing client ms away = cc
 decide_stage t stamp js (stage.Decided ts) client ms away = refl
 
-pub decide_still : (s : Coordinator) (t : TransId) (ts : ℕ) (js : List JoinNo) → (stage_in s t ≡ Some stage.Finishing → ⊥) → Comes (Decides (record { ts = ts; trans = t }) js) s s
+pub decide_still : (s : Coordinator) (t : TransId) (ts : ℕ) (js : List JoinNo) → at_stage is_finishing_stage (course_in s t) ≡ false → Comes (Decides (record { ts = ts; trans = t }) js) s s
 decide_still s t ts js away =
     still_fates (λ (f g : Fate). f ≡ g) (λ f. refl) s t (journal.decided (record { ts = ts; trans = t }) js)
     (still (journal.decided (record { ts = ts; trans = t }) js) t s (decide_settled t (record { ts = ts; trans = t }) js)
-    (λ c is. decide_stage t (record { ts = ts; trans = t }) js c.stage c.client c.members (λ at. away (ap (option_map (λ (c : Course). c.stage)) is ∙ ap Some at))))
+    (λ c is. decide_stage t (record { ts = ts; trans = t }) js c.stage c.client c.members (not_at is_finishing_stage s t c away is)))
+
+-- a finishing transaction has parts or has none
+no_joins : (ms : List Member) → are_none ms ≡ true → joins ms ≡ []
+no_joins [] h = refl
+no_joins (m ∷ ms) h = cc
+
+pub no_joins_of : (f : Fate) (ms : List Member) → joins ms ≡ joins_of f → are_none ms ≡ true → joins_of f ≡ []
+no_joins_of f ms is none = sym is ∙ no_joins ms none
 
 -- ---- an end
 
-pub end_fates : (s : Coordinator) (t : TransId) (e : Cause) (client : ℕ) (x : Stage) (a : IsAt s t x) → ((ts : ℕ) → x ≡ stage.Decided ts → ⊥) → Comes (Ends t client e) s (settle_in s t (settled.Ended e))
-end_fates s t e client stage.Running a away = settle_moves s t (settled.Ended e) (journal.ended e) (open_there s t stage.Running a refl) (sym (ap (journal.ended e) (fate_there s t stage.Running a)))
-end_fates s t e client stage.Finishing a away = settle_moves s t (settled.Ended e) (journal.ended e) (open_there s t stage.Finishing a refl) (sym (ap (journal.ended e) (fate_there s t stage.Finishing a)))
-end_fates s t e client (stage.Decided ts) a away = absurd (away ts refl)
+pub end_open : (s : Coordinator) (t : TransId) (x : Stage) (a : IsAt s t x) → is_early_stage x ≡ true → settled_in s t ≡ Some settled.Open
+end_open s t stage.Running a early = open_there s t stage.Running a refl
+end_open s t stage.Finishing a early = open_there s t stage.Finishing a refl
+end_open s t (stage.Decided ts) a early = cc
 
--- one that can end is open
-pub end_open : (s : Coordinator) (t : TransId) (x : Stage) (a : IsAt s t x) → ((ts : ℕ) → x ≡ stage.Decided ts → ⊥) → settled_in s t ≡ Some settled.Open
-end_open s t stage.Running a away = open_there s t stage.Running a refl
-end_open s t stage.Finishing a away = open_there s t stage.Finishing a refl
-end_open s t (stage.Decided ts) a away = absurd (away ts refl)
+end_moves : (t : TransId) (e : Cause) (x : Stage) (client : ℕ) (ms : List Member) → is_early_stage x ≡ true → journal.ended e (fate_at t x client ms) ≡ Ended e
+end_moves t e stage.Running client ms early = refl
+end_moves t e stage.Finishing client ms early = refl
+end_moves t e (stage.Decided ts) client ms early = cc
+
+pub end_fates : (s : Coordinator) (t : TransId) (e : Cause) (client : ℕ) (a : IsEarly s t) → Comes (Ends t client e) s (settle_in s t (settled.Ended e))
+end_fates s t e client a =
+    settle_moves s t (settled.Ended e) (journal.ended e) (end_open s t a.place a.there a.early)
+    (sym (ap (journal.ended e) (fate_there s t a.place a.there) ∙ end_moves t e a.place a.there.course.client a.there.course.members a.early))
 
 end_settled : (e : Cause) (t : TransId) → StillSettled (journal.ended e) t
 end_settled e t None = refl
@@ -237,14 +296,15 @@ end_settled e t (Some (settled.Committed ts)) = refl
 end_settled e t (Some (settled.Forgotten ts ms)) = refl
 end_settled e t (Some (settled.Ended d)) = refl
 
-pub end_none : (s : Coordinator) (t : TransId) (e : Cause) (client : ℕ) → stage_in s t ≡ None → Comes (Ends t client e) s s
-end_none s t e client none =
-    still_fates (λ (f g : Fate). f ≡ g) (λ f. refl) s t (journal.ended e)
-    (still (journal.ended e) t s (end_settled e t) (λ c is. let wrong : Some c.stage ≡ None = sym (ap (option_map (λ (c : Course). c.stage)) is) ∙ none in cc))
+end_stage : (t : TransId) (e : Cause) (x : Stage) (client : ℕ) (ms : List Member) → is_early_stage x ≡ false → journal.ended e (fate_at t x client ms) ≡ fate_at t x client ms
+end_stage t e stage.Running client ms away = cc
+end_stage t e stage.Finishing client ms away = cc
+end_stage t e (stage.Decided ts) client ms away = refl
 
-pub end_decided : (s : Coordinator) (t : TransId) (e : Cause) (client ts : ℕ) → IsAt s t (stage.Decided ts) → Comes (Ends t client e) s s
-end_decided s t e client ts a =
-    still_fates (λ (f g : Fate). f ≡ g) (λ f. refl) s t (journal.ended e) (ap (journal.ended e) (fate_there s t (stage.Decided ts) a) ∙ sym (fate_there s t (stage.Decided ts) a))
+pub end_still : (s : Coordinator) (t : TransId) (e : Cause) (client : ℕ) → at_stage is_early_stage (course_in s t) ≡ false → Comes (Ends t client e) s s
+end_still s t e client away =
+    still_fates (λ (f g : Fate). f ≡ g) (λ f. refl) s t (journal.ended e)
+    (still (journal.ended e) t s (end_settled e t) (λ c is. end_stage t e c.stage c.client c.members (not_at is_early_stage s t c away is)))
 
 -- ---- a part has applied it
 
@@ -279,43 +339,91 @@ ack_settled j t (Some (settled.Committed ts)) its = cc
 ack_settled j t (Some (settled.Forgotten ts ms)) its = refl
 ack_settled j t (Some (settled.Ended e)) its = refl
 
-ack_stage : (t : TransId) (j : JoinNo) (x : Stage) (client : ℕ) (ms : List Member) → ((ts : ℕ) → x ≡ stage.Decided ts → ⊥) → journal.acknowledged j (fate_at t x client ms) ≡ fate_at t x client ms
+ack_stage : (t : TransId) (j : JoinNo) (x : Stage) (client : ℕ) (ms : List Member) → is_decided_stage x ≡ false → journal.acknowledged j (fate_at t x client ms) ≡ fate_at t x client ms
 ack_stage t j stage.Running client ms away = refl
 ack_stage t j stage.Finishing client ms away = refl
-ack_stage t j (stage.Decided ts) client ms away = absurd (away ts refl)
+ack_stage t j (stage.Decided ts) client ms away = cc
 
-pub ack_still : (s : Coordinator) (t : TransId) (j : JoinNo) → ((ts : ℕ) → stage_in s t ≡ Some (stage.Decided ts) → ⊥) → has_join j (joins_of (fate_in s t)) ≡ true → ComesLike (Acknowledges t j) s s
+pub ack_still : (s : Coordinator) (t : TransId) (j : JoinNo) → at_stage is_decided_stage (course_in s t) ≡ false → has_join j (joins_of (fate_in s t)) ≡ true → ComesLike (Acknowledges t j) s s
 ack_still s t j away its = still_fates IsLike same s t (journal.acknowledged j) (go (course_in s t) refl its)
   where
     go : (o : Option Course) → course_in s t ≡ o → has_join j (joins_of (fate_known t o (settled_in s t))) ≡ true → journal.acknowledged j (fate_known t o (settled_in s t)) ≡ fate_known t o (settled_in s t)
     go None e i = ack_settled j t (settled_in s t) i
-    go (Some c) e i = ack_stage t j c.stage c.client c.members (λ ts at. away ts (ap (option_map (λ (c : Course). c.stage)) e ∙ ap Some at))
+    go (Some c) e i = ack_stage t j c.stage c.client c.members (not_at is_decided_stage s t c away e)
 
 -- ---- one is forgotten
 
--- it is decided, with joins
-applied_settled : (t : TransId) (x : Option Settled) → is_applied (fate_settled t x) ≡ false
-applied_settled t None = refl
-applied_settled t (Some settled.Open) = refl
-applied_settled t (Some (settled.Committed ts)) = refl
-applied_settled t (Some (settled.Forgotten ts ms)) = refl
-applied_settled t (Some (settled.Ended e)) = refl
+-- it is decided, with joins, at that time
+pub time_settled : (t : TransId) (x : Option Settled) → applied_time (fate_settled t x) ≡ None
+time_settled t None = refl
+time_settled t (Some settled.Open) = refl
+time_settled t (Some (settled.Committed ts)) = refl
+time_settled t (Some (settled.Forgotten ts ms)) = refl
+time_settled t (Some (settled.Ended e)) = refl
 
-applied_stage : (t : TransId) (x : Stage) (client : ℕ) (ms : List Member) → is_applied (fate_at t x client ms) ≡ true → (ts : ℕ) × (x ≡ stage.Decided ts)
-applied_stage t stage.Running client ms h = cc
-applied_stage t stage.Finishing client ms h = cc
-applied_stage t (stage.Decided ts) client ms h = (ts, refl)
-
-pub record IsDecided (s : Coordinator) (t : TransId) : Type 0 where
-  pub ts : ℕ
-  pub there : IsAt s t (stage.Decided ts)
-
-pub applied_decided : (s : Coordinator) (t : TransId) → is_applied (fate_in s t) ≡ true → IsDecided s t
-applied_decided s t h = go (course_in s t) refl h
+time_stage : (t : TransId) (x : Stage) (client : ℕ) (ms : List Member) (ts : ℕ) → applied_time (fate_at t x client ms) ≡ Some ts → x ≡ stage.Decided ts
+time_stage t stage.Running client ms ts h = cc
+time_stage t stage.Finishing client ms ts h = cc
+time_stage t (stage.Decided time) client [] ts h = cc
+time_stage t (stage.Decided time) client (m ∷ ms) ts h = go (has_all (dones (m ∷ ms)) (joins (m ∷ ms))) h
   where
-    go : (o : Option Course) → course_in s t ≡ o → is_applied (fate_known t o (settled_in s t)) ≡ true → IsDecided s t
-    go None e i = never (is_applied (fate_settled t (settled_in s t))) (applied_settled t (settled_in s t)) i
-    go (Some c) e i = (let at = applied_stage t c.stage c.client c.members i in record { ts = at.0; there = record { course = c; stands = e; at = at.1 } })
+    go : (b : Bool) → cond {A = Option ℕ} b (Some time) None ≡ Some ts → stage.Decided time ≡ stage.Decided ts
+    go true i = (let same : time ≡ ts = cc in ap stage.Decided same)
+    go false i = cc
+
+pub applied_at : (s : Coordinator) (t : TransId) (ts : ℕ) → applied_time (fate_in s t) ≡ Some ts → IsAt s t (stage.Decided ts)
+applied_at s t ts h = go (course_in s t) refl h
+  where
+    go : (o : Option Course) → course_in s t ≡ o → applied_time (fate_known t o (settled_in s t)) ≡ Some ts → IsAt s t (stage.Decided ts)
+    go None e i = (let wrong : None ≡ Some ts = sym (time_settled t (settled_in s t)) ∙ i in cc)
+    go (Some c) e i = record { course = c; stands = e; at = time_stage t c.stage c.client c.members ts i }
+
+-- of one with a course
+pub time_early : (t : TransId) (c : Course) → time_of c.stage ≡ None → applied_time (fate_of t c) ≡ None
+time_early t c away = go c.stage away
+  where
+    go : (x : Stage) → time_of x ≡ None → applied_time (fate_at t x c.client c.members) ≡ None
+    go stage.Running h = refl
+    go stage.Finishing h = refl
+    go (stage.Decided time) h = cc
+
+pub time_there : (t : TransId) (c : Course) (ts : ℕ) (a b : Bool) → time_of c.stage ≡ Some ts → are_none c.members ≡ a → have_all_said c.members ≡ b → applied_time (fate_of t c) ≡ cond {A = Option ℕ} a None (cond {A = Option ℕ} b (Some ts) None)
+time_there t c ts a b at none all = go c.stage at c.members none all
+  where
+    go : (x : Stage) → time_of x ≡ Some ts → (ms : List Member) → are_none ms ≡ a → have_all_said ms ≡ b → applied_time (fate_at t x c.client ms) ≡ cond {A = Option ℕ} a None (cond {A = Option ℕ} b (Some ts) None)
+    go stage.Running h ms n k = cc
+    go stage.Finishing h ms n k = cc
+    go (stage.Decided time) h [] n k = ap (λ (x : Bool). cond {A = Option ℕ} x None (cond {A = Option ℕ} b (Some ts) None)) n
+    go (stage.Decided time) h (m ∷ ms) n k =
+        (λ i. cond {A = Option ℕ} ((all-done (m ∷ ms) ∙ k) i) (h i) None) ∙ ap (λ (x : Bool). cond {A = Option ℕ} x None (cond {A = Option ℕ} b (Some ts) None)) n
+
+-- a time is told just where it is applied
+time_applied : (f : Fate) → is_some (applied_time f) ≡ is_applied f
+time_applied Undrawn = refl
+time_applied (Running c js) = refl
+time_applied (Finishing c js vs) = refl
+time_applied (Committed stamp [] ds) = refl
+time_applied (Committed stamp (j ∷ js) ds) = go (has_all ds (j ∷ js))
+  where
+    go : (b : Bool) → is_some (cond {A = Option ℕ} b (Some stamp.ts) None) ≡ b
+    go true = refl
+    go false = refl
+time_applied (Forgotten stamp js) = refl
+time_applied (Ended e) = refl
+
+pub told_applied : (f : Fate) (ts : ℕ) → applied_time f ≡ Some ts → is_applied f ≡ true
+told_applied f ts is = sym (time_applied f) ∙ ap is_some is
+
+pub none_applied : (f : Fate) → applied_time f ≡ None → is_applied f ≡ false
+none_applied f is = sym (time_applied f) ∙ ap is_some is
+
+-- a decision of this epoch is open
+pub decided_open : (s : Coordinator) (t : TransId) (c : Course) → course_in s t ≡ Some c → (t.epoch == s.epoch) ≡ true → settled_in s t ≡ Some settled.Open
+decided_open s t c is at = go (course_shows s t c is).0
+  where
+    go : Shows s t c → settled_in s t ≡ Some settled.Open
+    go (now e opens) = opens
+    go (older e stands) = never (t.epoch == s.epoch) e at
 
 pub forget_fates : (s : Coordinator) (t : TransId) (ts : ℕ) (a : IsAt s t (stage.Decided ts)) → settled_in s t ≡ Some settled.Open → (u : TransId)
     → fate_in (settle_in s t (settled.Forgotten ts a.course.members)) u ≡ cond {A = Fate} (same_trans t u) (forgotten_as true (fate_in s u)) (fate_in s u)
@@ -361,3 +469,138 @@ told_keeps s t j n x a none u =
     cond_itself : (b : Bool) (f : Fate) → cond {A = Fate} b f f ≡ f
     cond_itself true f = refl
     cond_itself false f = refl
+
+-- a decision that is found and applied goes
+pub gone_forgotten : (s : Coordinator) (t : TransId) → (t.epoch == s.epoch) ≡ false → (u : TransId) → fate_in (record s { courses = map.remove s.courses t }) u ≡ cond {A = Fate} (same_trans t u) (forgotten_as false (fate_in s u)) (fate_in s u)
+gone_forgotten s t old u = gone_fates s t old u ∙ go (same_trans t u)
+  where
+    nothing_left : (f : Fate) → Undrawn ≡ forgotten_as false f
+    nothing_left Undrawn = refl
+    nothing_left (Running c js) = refl
+    nothing_left (Finishing c js vs) = refl
+    nothing_left (Committed stamp js ds) = refl
+    nothing_left (Forgotten stamp js) = refl
+    nothing_left (Ended e) = refl
+
+    go : (b : Bool) → cond {A = Fate} b Undrawn (fate_in s u) ≡ cond {A = Fate} b (forgotten_as false (fate_in s u)) (fate_in s u)
+    go true = nothing_left (fate_in s u)
+    go false = refl
+
+-- ---- answers
+
+none_ballot : (t : TransId) (j : JoinNo) (ts least : ℕ) (x : Option Settled) → ballot_of j ts least (fate_settled t x) ≡ ballot.Dropped
+none_ballot t j ts least None = refl
+none_ballot t j ts least (Some settled.Open) = refl
+none_ballot t j ts least (Some (settled.Committed time)) = refl
+none_ballot t j ts least (Some (settled.Forgotten time ms)) = refl
+none_ballot t j ts least (Some (settled.Ended e)) = refl
+
+pub ballot_none : (s : Coordinator) (t : TransId) (j : JoinNo) (ts least : ℕ) → course_in s t ≡ None → ballot_of j ts least (fate_in s t) ≡ ballot.Dropped
+ballot_none s t j ts least is = ap (ballot_of j ts least) (fate_none s t is) ∙ none_ballot t j ts least (settled_in s t)
+
+-- at another stage it is dropped
+pub ballot_early : (t : TransId) (j : JoinNo) (ts least : ℕ) (c : Course) → is_finishing_stage c.stage ≡ false → ballot_of j ts least (fate_of t c) ≡ ballot.Dropped
+ballot_early t j ts least c away = go c.stage away
+  where
+    go : (x : Stage) → is_finishing_stage x ≡ false → ballot_of j ts least (fate_at t x c.client c.members) ≡ ballot.Dropped
+    go stage.Running h = refl
+    go stage.Finishing h = cc
+    go (stage.Decided time) h = refl
+
+-- else it goes by who has voted
+pub ballot_there : (t : TransId) (j : JoinNo) (ts least : ℕ) (c : Course) (a b : Bool) → is_finishing_stage c.stage ≡ true → takes_part j c.members ≡ a → have_all_said_with j c.members ≡ b
+    → ballot_of j ts least (fate_of t c) ≡ cond {A = Ballot} a (cond {A = Ballot} b (ballot.Last (latest_vote least (with_vote j ts (votes c.members)))) ballot.Kept) ballot.Dropped
+ballot_there t j ts least c a b at its all = go c.stage at
+  where
+    go : (x : Stage) → is_finishing_stage x ≡ true → ballot_of j ts least (fate_at t x c.client c.members) ≡ cond {A = Ballot} a (cond {A = Ballot} b (ballot.Last (latest_vote least (with_vote j ts (votes c.members)))) ballot.Kept) ballot.Dropped
+    go stage.Running h = cc
+    go stage.Finishing h = λ i. cond {A = Ballot} ((sym (takes_part-joins j c.members) ∙ its) i) (cond {A = Ballot} ((all-voted_with j ts c.members ∙ all) i) (ballot.Last (latest_vote least (with_vote j ts (votes c.members)))) ballot.Kept) ballot.Dropped
+    go (stage.Decided time) h = cc
+
+none_receipt : (t : TransId) (j : JoinNo) (x : Option Settled) → receipt_of j (fate_settled t x) ≡ receipt.Dropped
+none_receipt t j None = refl
+none_receipt t j (Some settled.Open) = refl
+none_receipt t j (Some (settled.Committed time)) = refl
+none_receipt t j (Some (settled.Forgotten time ms)) = refl
+none_receipt t j (Some (settled.Ended e)) = refl
+
+pub receipt_none : (s : Coordinator) (t : TransId) (j : JoinNo) → course_in s t ≡ None → receipt_of j (fate_in s t) ≡ receipt.Dropped
+receipt_none s t j is = ap (receipt_of j) (fate_none s t is) ∙ none_receipt t j (settled_in s t)
+
+pub receipt_early : (t : TransId) (j : JoinNo) (c : Course) → is_decided_stage c.stage ≡ false → receipt_of j (fate_of t c) ≡ receipt.Dropped
+receipt_early t j c away = go c.stage away
+  where
+    go : (x : Stage) → is_decided_stage x ≡ false → receipt_of j (fate_at t x c.client c.members) ≡ receipt.Dropped
+    go stage.Running h = refl
+    go stage.Finishing h = refl
+    go (stage.Decided time) h = cc
+
+pub receipt_there : (t : TransId) (j : JoinNo) (c : Course) (a b d : Bool) → is_decided_stage c.stage ≡ true → takes_part j c.members ≡ a → have_all_said c.members ≡ b → have_all_said_with j c.members ≡ d
+    → receipt_of j (fate_of t c) ≡ cond {A = Receipt} a (cond {A = Receipt} (not b && d) receipt.Last receipt.Kept) receipt.Dropped
+receipt_there t j c a b d at its before after = go c.stage at
+  where
+    go : (x : Stage) → is_decided_stage x ≡ true → receipt_of j (fate_at t x c.client c.members) ≡ cond {A = Receipt} a (cond {A = Receipt} (not b && d) receipt.Last receipt.Kept) receipt.Dropped
+    go stage.Running h = cc
+    go stage.Finishing h = cc
+    go (stage.Decided time) h =
+        λ i. cond {A = Receipt} ((sym (takes_part-joins j c.members) ∙ its) i) (cond {A = Receipt} (not ((all-done c.members ∙ before) i) && (all-done_with j c.members ∙ after) i) receipt.Last receipt.Kept) receipt.Dropped
+
+none_registration : (t : TransId) (other : Bool) (j : JoinNo) (client : ℕ) (x : Option Settled) → registration_of other j client (fate_settled t x) ≡ registration.Refused
+none_registration t other j client None = refl
+none_registration t other j client (Some settled.Open) = refl
+none_registration t other j client (Some (settled.Committed time)) = refl
+none_registration t other j client (Some (settled.Forgotten time ms)) = refl
+none_registration t other j client (Some (settled.Ended e)) = refl
+
+pub registration_none : (s : Coordinator) (t : TransId) (other : Bool) (j : JoinNo) (client : ℕ) → course_in s t ≡ None → registration_of other j client (fate_in s t) ≡ registration.Refused
+registration_none s t other j client is = ap (registration_of other j client) (fate_none s t is) ∙ none_registration t other j client (settled_in s t)
+
+pub registration_late : (t : TransId) (other : Bool) (j : JoinNo) (client : ℕ) (c : Course) → is_running_stage c.stage ≡ false → registration_of other j client (fate_of t c) ≡ registration.Refused
+registration_late t other j client c away = go c.stage away
+  where
+    go : (x : Stage) → is_running_stage x ≡ false → registration_of other j client (fate_at t x c.client c.members) ≡ registration.Refused
+    go stage.Running h = cc
+    go stage.Finishing h = refl
+    go (stage.Decided time) h = refl
+
+pub registration_there : (t : TransId) (other : Bool) (j : JoinNo) (client : ℕ) (c : Course) (b : Bool) → is_running_stage c.stage ≡ true → (c.client == client && other) ≡ b
+    → registration_of other j client (fate_of t c) ≡ cond {A = Registration} b (admitted (has_join j (joins c.members)) (has_server j.server (joins c.members))) registration.Refused
+registration_there t other j client c b at its = go c.stage at
+  where
+    go : (x : Stage) → is_running_stage x ≡ true → registration_of other j client (fate_at t x c.client c.members) ≡ cond {A = Registration} b (admitted (has_join j (joins c.members)) (has_server j.server (joins c.members))) registration.Refused
+    go stage.Running h = ap (λ (x : Bool). cond {A = Registration} x (admitted (has_join j (joins c.members)) (has_server j.server (joins c.members))) registration.Refused) its
+    go stage.Finishing h = cc
+    go (stage.Decided time) h = cc
+
+-- one that is let in is running, and none of its server takes part
+pub record IsLetIn (s : Coordinator) (t : TransId) (j : JoinNo) : Type 0 where
+  pub there : IsAt s t stage.Running
+  pub new : has_server j.server (joins there.course.members) ≡ false
+
+admitted_new : (a b : Bool) → admitted a b ≡ registration.Registered → b ≡ false
+admitted_new true b h = cc
+admitted_new false true h = cc
+admitted_new false false h = refl
+
+pub let_in : (s : Coordinator) (t : TransId) (j : JoinNo) (client servers : ℕ) → registration_in s t j client servers ≡ registration.Registered → IsLetIn s t j
+let_in s t j client servers h = known (is_known s t) h
+  where
+    other : Bool
+    other = is_other s.server servers j.server
+
+    running : (c : Course) → course_in s t ≡ Some c → (x : Stage) → c.stage ≡ x → registration_of other j client (fate_at t x c.client c.members) ≡ registration.Registered → IsLetIn s t j
+    running c e stage.Running at i = at_last (c.client == client && other) i
+      where
+        at_last : (b : Bool) → cond {A = Registration} b (admitted (has_join j (joins c.members)) (has_server j.server (joins c.members))) registration.Refused ≡ registration.Registered → IsLetIn s t j
+        at_last true k = record { there = record { course = c; stands = e; at = at }; new = admitted_new (has_join j (joins c.members)) (has_server j.server (joins c.members)) k }
+        at_last false k = cc
+    running c e stage.Finishing at i = cc
+    running c e (stage.Decided ts) at i = cc
+
+    go : (o : Option Course) → course_in s t ≡ o → registration_of other j client (fate_known t o (settled_in s t)) ≡ registration.Registered → IsLetIn s t j
+    go None e i = (let wrong : registration.Refused ≡ registration.Registered = sym (none_registration t other j client (settled_in s t)) ∙ i in cc)
+    go (Some c) e i = running c e c.stage refl i
+
+    known : (b : Bool) → cond {A = Registration} b (registration_of other j client (fate_in s t)) registration.Silence ≡ registration.Registered → IsLetIn s t j
+    known true i = go (course_in s t) refl i
+    known false i = cc

@@ -3,6 +3,7 @@ use Rattle.std.specs.Prelude.{cond, Bool, true, false, not, ◌==◌, ◌&&◌, 
 use Rattle.std.specs.List.{list_any, list_all}
 use Rattle.std.specs.FinMap as map
 use Rattle.std.proofs.Common.{◌≡◌, ℕ, List, [], ◌∷◌, ◌++◌, length, refl, sym, ◌∙◌, ap, subst, eq-eqb}
+use Rattle.std.proofs.lemmas.List.{append-nil}
 use Rattle.alp_base.specs.declared.ids.JoinNo.{JoinNo}
 use Rattle.alp_base.specs.declared.ids.TransId.{TransId}
 use Rattle.alp_base.specs.declared.ids.Stamp.{Stamp}
@@ -14,7 +15,7 @@ use Rattle.alp_journal.specs.declared.message.Message.{Message}
 use Rattle.alp_journal.specs.declared.message.Message.TheVariants as msg
 use Rattle.alp_journal.specs.declared.message.Envelope.{Envelope}
 use Rattle.alp_journal.specs.Ids.{has_join}
-use Rattle.alp_journal.specs.Coordinator.{Fate, Undrawn, Running, Finishing, Committed, Forgotten, Ended, voted}
+use Rattle.alp_journal.specs.Coordinator.{Fate, Undrawn, Running, Finishing, Committed, Forgotten, Ended, voted, client_of}
 use Rattle.alp_journal.specs.Messages.{Mail, to_each, ask_again, commit_again}
 use Rattle.alp_journal.specs.Answers.{is_counted}
 use Rattle.alp_coord.specs.declared.members.Member.{Member}
@@ -26,8 +27,8 @@ use Rattle.alp_coord.specs.declared.begun.Settled.TheVariants as settled
 use Rattle.alp_coord.specs.declared.coordinator.Coordinator.{Coordinator}
 use Rattle.alp_coord.specs.Members.{joins, votes, dones, has_said}
 use Rattle.alp_coord.specs.Begun.{fate_settled}
-use Rattle.alp_coord.specs.Courses.{fate_at, fate_of}
-use Rattle.alp_coord.specs.Coordinators.{settled_in, course_in, is_standing, fate_known, fate_in, is_other, enveloped, to_run, again_to, commit_for, abort_for, inquiry_of, inquiry_at, ending_at}
+use Rattle.alp_coord.specs.Courses.{fate_at, fate_of, is_finishing_stage, is_standing, time_of, owner_at, counts_at}
+use Rattle.alp_coord.specs.Coordinators.{settled_in, course_in, fate_known, fate_in, is_other, enveloped, to_run, again_to, commit_for, abort_for, inquiry_of, inquiry_at, inquiry_placed, ending_at, ending_placed}
 use Rattle.alp_coord.proofs.MemberLemmas.{voted-votes, has_join-dones}
 use Rattle.alp_coord.proofs.FateLemmas.{Shows, now, older, course_shows, fate_course, fate_none, settled_placed}
 
@@ -55,18 +56,28 @@ again-is server servers f p all same (m ∷ ms) =
     go true = ih
     go false = here (is_other server servers m.join.server)
 
+finishing_is : (x : Stage) → is_finishing_stage x ≡ true → x ≡ stage.Finishing
+finishing_is stage.Running h = cc
+finishing_is stage.Finishing h = refl
+finishing_is (stage.Decided ts) h = cc
+
+decided_is : (x : Stage) (ts : ℕ) → time_of x ≡ Some ts → x ≡ stage.Decided ts
+decided_is stage.Running ts h = cc
+decided_is stage.Finishing ts h = cc
+decided_is (stage.Decided time) ts h = (let same : time ≡ ts = cc in ap stage.Decided same)
+
 -- a transaction that asks for votes, or tells of its commit
-pub asks-finishing : (s : Coordinator) (t : TransId) (c : Course) (server servers : ℕ) → course_in s t ≡ Some c → c.stage ≡ stage.Finishing
+pub asks-finishing : (s : Coordinator) (t : TransId) (c : Course) (server servers : ℕ) → course_in s t ≡ Some c → is_finishing_stage c.stage ≡ true
     → again_to server servers (msg.Ask t) c.members c.members ≡ list_map enveloped (to_run server servers (ask_again t (fate_in s t)))
 asks-finishing s t c server servers is at =
     again-is server servers (msg.Ask t) (λ j. voted j (votes c.members)) c.members (λ j. voted-votes j c.members) c.members
-    ∙ ap (λ (f : Fate). list_map enveloped (to_run server servers (ask_again t f))) (sym (fate_course s t c is ∙ ap (λ (x : Stage). fate_at t x c.client c.members) at))
+    ∙ ap (λ (f : Fate). list_map enveloped (to_run server servers (ask_again t f))) (sym (fate_course s t c is ∙ ap (λ (x : Stage). fate_at t x c.client c.members) (finishing_is c.stage at)))
 
-pub commits-decided : (s : Coordinator) (t : TransId) (c : Course) (ts server servers : ℕ) → course_in s t ≡ Some c → c.stage ≡ stage.Decided ts
+pub commits-decided : (s : Coordinator) (t : TransId) (c : Course) (ts server servers : ℕ) → course_in s t ≡ Some c → time_of c.stage ≡ Some ts
     → again_to server servers (λ j. msg.Commit t j (record { ts = ts; trans = t })) c.members c.members ≡ list_map enveloped (to_run server servers (commit_again t (fate_in s t)))
 commits-decided s t c ts server servers is at =
     again-is server servers (λ j. msg.Commit t j (record { ts = ts; trans = t })) (λ j. has_join j (dones c.members)) c.members (λ j. has_join-dones j c.members) c.members
-    ∙ ap (λ (f : Fate). list_map enveloped (to_run server servers (commit_again t f))) (sym (fate_course s t c is ∙ ap (λ (x : Stage). fate_at t x c.client c.members) at))
+    ∙ ap (λ (f : Fate). list_map enveloped (to_run server servers (commit_again t f))) (sym (fate_course s t c is ∙ ap (λ (x : Stage). fate_at t x c.client c.members) (decided_is c.stage ts at)))
 
 -- others say nothing
 pub settled_asks : (t : TransId) (x : Option Settled) → ask_again t (fate_settled t x) ≡ []
@@ -89,21 +100,25 @@ none-asks s t is = ap (ask_again t) (fate_none s t is) ∙ settled_asks t (settl
 pub none-commits : (s : Coordinator) (t : TransId) → course_in s t ≡ None → commit_again t (fate_in s t) ≡ []
 none-commits s t is = ap (commit_again t) (fate_none s t is) ∙ settled_commits t (settled_in s t)
 
-stage_asks : (t : TransId) (x : Stage) (client : ℕ) (ms : List Member) → (x ≡ stage.Finishing → ⊥) → ask_again t (fate_at t x client ms) ≡ []
+stage_asks : (t : TransId) (x : Stage) (client : ℕ) (ms : List Member) → is_finishing_stage x ≡ false → ask_again t (fate_at t x client ms) ≡ []
 stage_asks t stage.Running client ms away = refl
-stage_asks t stage.Finishing client ms away = absurd (away refl)
+stage_asks t stage.Finishing client ms away = cc
 stage_asks t (stage.Decided ts) client ms away = refl
 
-stage_commits : (t : TransId) (x : Stage) (client : ℕ) (ms : List Member) → ((ts : ℕ) → x ≡ stage.Decided ts → ⊥) → commit_again t (fate_at t x client ms) ≡ []
+stage_commits : (t : TransId) (x : Stage) (client : ℕ) (ms : List Member) → time_of x ≡ None → commit_again t (fate_at t x client ms) ≡ []
 stage_commits t stage.Running client ms away = refl
 stage_commits t stage.Finishing client ms away = refl
-stage_commits t (stage.Decided ts) client ms away = absurd (away ts refl)
+stage_commits t (stage.Decided ts) client ms away = cc
 
-pub other-asks : (s : Coordinator) (t : TransId) (c : Course) → course_in s t ≡ Some c → (c.stage ≡ stage.Finishing → ⊥) → ask_again t (fate_in s t) ≡ []
+pub other-asks : (s : Coordinator) (t : TransId) (c : Course) → course_in s t ≡ Some c → is_finishing_stage c.stage ≡ false → ask_again t (fate_in s t) ≡ []
 other-asks s t c is away = ap (ask_again t) (fate_course s t c is) ∙ stage_asks t c.stage c.client c.members away
 
-pub other-commits : (s : Coordinator) (t : TransId) (c : Course) → course_in s t ≡ Some c → ((ts : ℕ) → c.stage ≡ stage.Decided ts → ⊥) → commit_again t (fate_in s t) ≡ []
+pub other-commits : (s : Coordinator) (t : TransId) (c : Course) → course_in s t ≡ Some c → time_of c.stage ≡ None → commit_again t (fate_in s t) ≡ []
 other-commits s t c is away = ap (commit_again t) (fate_course s t c is) ∙ stage_commits t c.stage c.client c.members away
+
+-- where nothing is said nothing is added
+pub nothing-more : (server servers : ℕ) (es : List Envelope) (ms : List Mail) → ms ≡ [] → es ≡ es ++ list_map enveloped (to_run server servers ms)
+nothing-more server servers es ms none = sym (append-nil es) ∙ ap (λ (x : List Mail). es ++ list_map enveloped (to_run server servers x)) (sym none)
 
 -- ---- of all
 
@@ -127,14 +142,29 @@ envelopes-all server servers f (t ∷ ts) =
 pub placed-now : (s : Coordinator) (t : TransId) (x : Settled) → settled_in s t ≡ Some x → (t.epoch == s.epoch) ≡ true
 placed-now s t x is = eq-eqb t.epoch s.epoch (settled_placed s t x is).epoch_is
 
-pub inquiry-committed : (epoch : ℕ) (t : TransId) (j : JoinNo) (ts : ℕ) → (t.epoch == epoch) ≡ true → inquiry_of epoch t j (fate_settled t (Some (settled.Committed ts))) ≡ None
-inquiry-committed epoch t j ts now_ = ap (λ (b : Bool). cond {A = Option Message} b None (abort_for t j (cause.Lost epoch))) now_
+placed_inquiry : (epoch : ℕ) (t : TransId) (j : JoinNo) (x : Settled) → (t.epoch == epoch) ≡ true → inquiry_of epoch t j (fate_settled t (Some x)) ≡ inquiry_placed epoch t j x
+placed_inquiry epoch t j settled.Open at = refl
+placed_inquiry epoch t j (settled.Committed ts) at = ap (λ (b : Bool). cond {A = Option Message} b None (abort_for t j (cause.Lost epoch))) at
+placed_inquiry epoch t j (settled.Forgotten ts ms) at = ap (λ (b : Bool). cond {A = Option Message} b (commit_for t j (record { ts = ts; trans = t }) (joins ms)) (abort_for t j (cause.Lost epoch))) at
+placed_inquiry epoch t j (settled.Ended e) at = ap (λ (b : Bool). abort_for t j (cond {A = Cause} b e (cause.Lost epoch))) at
 
-pub inquiry-forgotten : (epoch : ℕ) (t : TransId) (j : JoinNo) (ts : ℕ) (ms : List Member) → (t.epoch == epoch) ≡ true → inquiry_of epoch t j (fate_settled t (Some (settled.Forgotten ts ms))) ≡ commit_for t j (record { ts = ts; trans = t }) (joins ms)
-inquiry-forgotten epoch t j ts ms now_ = ap (λ (b : Bool). cond {A = Option Message} b (commit_for t j (record { ts = ts; trans = t }) (joins ms)) (abort_for t j (cause.Lost epoch))) now_
+pub inquiry-placed : (s : Coordinator) (t : TransId) (j : JoinNo) (x : Settled) → settled_in s t ≡ Some x → inquiry_placed s.epoch t j x ≡ inquiry_of s.epoch t j (fate_settled t (settled_in s t))
+inquiry-placed s t j x is = sym (ap (λ (y : Option Settled). inquiry_of s.epoch t j (fate_settled t y)) is ∙ placed_inquiry s.epoch t j x (placed-now s t x is))
 
-pub inquiry-ended : (epoch : ℕ) (t : TransId) (j : JoinNo) (e : Cause) → (t.epoch == epoch) ≡ true → inquiry_of epoch t j (fate_settled t (Some (settled.Ended e))) ≡ abort_for t j e
-inquiry-ended epoch t j e now_ = ap (λ (b : Bool). abort_for t j (cond {A = Cause} b e (cause.Lost epoch))) now_
+pub inquiry-unplaced : (s : Coordinator) (t : TransId) (j : JoinNo) → settled_in s t ≡ None → abort_for t j (cause.Lost s.epoch) ≡ inquiry_of s.epoch t j (fate_settled t (settled_in s t))
+inquiry-unplaced s t j is = sym (ap (λ (y : Option Settled). inquiry_of s.epoch t j (fate_settled t y)) is)
+
+placed_ending : (epoch : ℕ) (t : TransId) (x : Settled) → (t.epoch == epoch) ≡ true → ending_at epoch t (fate_settled t (Some x)) ≡ ending_placed t x
+placed_ending epoch t settled.Open at = refl
+placed_ending epoch t (settled.Committed ts) at = ap (λ (b : Bool). cond {A = Ending} b (ending.Committed (record { ts = ts; trans = t })) ending.Unknown) at
+placed_ending epoch t (settled.Forgotten ts ms) at = ap (λ (b : Bool). cond {A = Ending} b (ending.Committed (record { ts = ts; trans = t })) ending.Unknown) at
+placed_ending epoch t (settled.Ended e) at = ap (λ (b : Bool). cond {A = Ending} b ending.Aborted ending.Unknown) at
+
+pub ending-placed : (s : Coordinator) (t : TransId) (x : Settled) → settled_in s t ≡ Some x → ending_placed t x ≡ ending_at s.epoch t (fate_settled t (settled_in s t))
+ending-placed s t x is = sym (ap (λ (y : Option Settled). ending_at s.epoch t (fate_settled t y)) is ∙ placed_ending s.epoch t x (placed-now s t x is))
+
+pub ending-unplaced : (s : Coordinator) (t : TransId) → settled_in s t ≡ None → ending.Unknown ≡ ending_at s.epoch t (fate_settled t (settled_in s t))
+ending-unplaced s t is = sym (ap (λ (y : Option Settled). ending_at s.epoch t (fate_settled t y)) is)
 
 -- of one with a course
 inquiry_of_stage : (epoch : ℕ) (t : TransId) (j : JoinNo) (x : Stage) (client : ℕ) (ms : List Member) → (is_standing x ms ≡ false → (t.epoch == epoch) ≡ true) → inquiry_of epoch t j (fate_at t x client ms) ≡ inquiry_at t j x ms
@@ -160,43 +190,29 @@ ending_of_decided : (epoch : ℕ) (t : TransId) (ts client : ℕ) (ms : List Mem
 ending_of_decided epoch t ts client [] now_ = ap (λ (b : Bool). cond {A = Ending} b (ending.Committed (record { ts = ts; trans = t })) ending.Unknown) (now_ refl)
 ending_of_decided epoch t ts client (m ∷ ms) now_ = refl
 
-pub ending-decided : (s : Coordinator) (t : TransId) (c : Course) (ts : ℕ) → course_in s t ≡ Some c → c.stage ≡ stage.Decided ts → ending_at s.epoch t (fate_in s t) ≡ ending.Committed (record { ts = ts; trans = t })
-ending-decided s t c ts is at =
+pub ending-decided : (s : Coordinator) (t : TransId) (c : Course) (ts : ℕ) → course_in s t ≡ Some c → time_of c.stage ≡ Some ts → ending_at s.epoch t (fate_in s t) ≡ ending.Committed (record { ts = ts; trans = t })
+ending-decided s t c ts is time =
+    let at : c.stage ≡ stage.Decided ts = decided_is c.stage ts time in
     ap (ending_at s.epoch t) (fate_course s t c is ∙ ap (λ (x : Stage). fate_at t x c.client c.members) at)
     ∙ ending_of_decided s.epoch t ts c.client c.members (λ early. early-now s t c is (ap (λ (x : Stage). is_standing x c.members) at ∙ early))
 
-running_of_stage : (epoch : ℕ) (t : TransId) (x : Stage) (client : ℕ) (ms : List Member) → ((ts : ℕ) → x ≡ stage.Decided ts → ⊥) → ending_at epoch t (fate_at t x client ms) ≡ ending.Running
+running_of_stage : (epoch : ℕ) (t : TransId) (x : Stage) (client : ℕ) (ms : List Member) → time_of x ≡ None → ending_at epoch t (fate_at t x client ms) ≡ ending.Running
 running_of_stage epoch t stage.Running client ms away = refl
 running_of_stage epoch t stage.Finishing client ms away = refl
-running_of_stage epoch t (stage.Decided ts) client ms away = absurd (away ts refl)
+running_of_stage epoch t (stage.Decided ts) client ms away = cc
 
-pub ending-running : (s : Coordinator) (t : TransId) (c : Course) → course_in s t ≡ Some c → ((ts : ℕ) → c.stage ≡ stage.Decided ts → ⊥) → ending_at s.epoch t (fate_in s t) ≡ ending.Running
+pub ending-running : (s : Coordinator) (t : TransId) (c : Course) → course_in s t ≡ Some c → time_of c.stage ≡ None → ending_at s.epoch t (fate_in s t) ≡ ending.Running
 ending-running s t c is away = ap (ending_at s.epoch t) (fate_course s t c is) ∙ running_of_stage s.epoch t c.stage c.client c.members away
 
-pub ending-committed : (epoch : ℕ) (t : TransId) (ts : ℕ) → (t.epoch == epoch) ≡ true → ending_at epoch t (fate_settled t (Some (settled.Committed ts))) ≡ ending.Committed (record { ts = ts; trans = t })
-ending-committed epoch t ts now_ = ap (λ (b : Bool). cond {A = Ending} b (ending.Committed (record { ts = ts; trans = t })) ending.Unknown) now_
-
-pub ending-forgotten : (epoch : ℕ) (t : TransId) (ts : ℕ) (ms : List Member) → (t.epoch == epoch) ≡ true → ending_at epoch t (fate_settled t (Some (settled.Forgotten ts ms))) ≡ ending.Committed (record { ts = ts; trans = t })
-ending-forgotten epoch t ts ms now_ = ap (λ (b : Bool). cond {A = Ending} b (ending.Committed (record { ts = ts; trans = t })) ending.Unknown) now_
-
-pub ending-ended : (epoch : ℕ) (t : TransId) (e : Cause) → (t.epoch == epoch) ≡ true → ending_at epoch t (fate_settled t (Some (settled.Ended e))) ≡ ending.Aborted
-ending-ended epoch t e now_ = ap (λ (b : Bool). cond {A = Ending} b ending.Aborted ending.Unknown) now_
-
 -- whether it counts
-stage_counts : (t : TransId) (x : Stage) (client : ℕ) (ms : List Member) → ((ts : ℕ) → x ≡ stage.Decided ts → ⊥) → is_counted (fate_at t x client ms) ≡ true
-stage_counts t stage.Running client ms away = refl
-stage_counts t stage.Finishing client ms away = refl
-stage_counts t (stage.Decided ts) client ms away = absurd (away ts refl)
+stage_counts : (t : TransId) (x : Stage) (client : ℕ) (ms : List Member) → is_counted (fate_at t x client ms) ≡ counts_at x ms
+stage_counts t stage.Running client ms = refl
+stage_counts t stage.Finishing client ms = refl
+stage_counts t (stage.Decided ts) client [] = refl
+stage_counts t (stage.Decided ts) client (m ∷ ms) = refl
 
-pub counts-early : (s : Coordinator) (t : TransId) (c : Course) → course_in s t ≡ Some c → ((ts : ℕ) → c.stage ≡ stage.Decided ts → ⊥) → is_counted (fate_in s t) ≡ true
-counts-early s t c is away = ap is_counted (fate_course s t c is) ∙ stage_counts t c.stage c.client c.members away
-
-decided_counts : (t : TransId) (ts client : ℕ) (ms : List Member) → is_counted (fate_at t (stage.Decided ts) client ms) ≡ not (length ms == 0)
-decided_counts t ts client [] = refl
-decided_counts t ts client (m ∷ ms) = refl
-
-pub counts-decided : (s : Coordinator) (t : TransId) (c : Course) (ts : ℕ) → course_in s t ≡ Some c → c.stage ≡ stage.Decided ts → is_counted (fate_in s t) ≡ not (length c.members == 0)
-counts-decided s t c ts is at = ap is_counted (fate_course s t c is ∙ ap (λ (x : Stage). fate_at t x c.client c.members) at) ∙ decided_counts t ts c.client c.members
+pub counts-course : (s : Coordinator) (t : TransId) (c : Course) → course_in s t ≡ Some c → is_counted (fate_in s t) ≡ counts_at c.stage c.members
+counts-course s t c is = ap is_counted (fate_course s t c is) ∙ stage_counts t c.stage c.client c.members
 
 pub settled_counts : (t : TransId) (x : Option Settled) → is_counted (fate_settled t x) ≡ false
 settled_counts t None = refl
@@ -207,3 +223,22 @@ settled_counts t (Some (settled.Ended e)) = refl
 
 pub counts-none : (s : Coordinator) (t : TransId) → course_in s t ≡ None → is_counted (fate_in s t) ≡ false
 counts-none s t is = ap is_counted (fate_none s t is) ∙ settled_counts t (settled_in s t)
+
+-- its client, and who takes part
+stage_client : (t : TransId) (x : Stage) (client : ℕ) (ms : List Member) → client_of (fate_at t x client ms) ≡ owner_at x client
+stage_client t stage.Running client ms = refl
+stage_client t stage.Finishing client ms = refl
+stage_client t (stage.Decided ts) client ms = refl
+
+pub client-course : (s : Coordinator) (t : TransId) (c : Course) → course_in s t ≡ Some c → client_of (fate_in s t) ≡ owner_at c.stage c.client
+client-course s t c is = ap client_of (fate_course s t c is) ∙ stage_client t c.stage c.client c.members
+
+settled_client : (t : TransId) (x : Option Settled) → client_of (fate_settled t x) ≡ None
+settled_client t None = refl
+settled_client t (Some settled.Open) = refl
+settled_client t (Some (settled.Committed ts)) = refl
+settled_client t (Some (settled.Forgotten ts ms)) = refl
+settled_client t (Some (settled.Ended e)) = refl
+
+pub client-none : (s : Coordinator) (t : TransId) → course_in s t ≡ None → client_of (fate_in s t) ≡ None
+client-none s t is = ap client_of (fate_none s t is) ∙ settled_client t (settled_in s t)

@@ -35,7 +35,7 @@ use Rattle.alp_coord.specs.declared.decision.Decision.{Decision}
 use Rattle.alp_coord.specs.declared.coordinator.Coordinator.{Coordinator}
 use Rattle.alp_coord.specs.Members.{silent, joins, has_said}
 use Rattle.alp_coord.specs.Begun.{settled_at, with_settled, fate_settled}
-use Rattle.alp_coord.specs.Courses.{CourseMap, fate_of}
+use Rattle.alp_coord.specs.Courses.{CourseMap, fate_of, is_standing}
 use Rattle.alp_coord.specs.Likeness.{IsLike}
 
 -- ---- what it is asked
@@ -67,20 +67,27 @@ abbrev pub settled_in : Coordinator → TransId → Option Settled
 settled_in s t = if t.server == s.server && t.epoch == s.epoch then settled_at s.begun t.counter else None
 
 -- of an older epoch only a decision with joins counts
-abbrev pub is_standing : Stage → List Member → Bool
-is_standing (stage.Decided ts) (m ∷ ms) = true
-is_standing s ms = false
-
 abbrev pub if_standing : Option Course → Option Course
 if_standing None = None
 if_standing (Some c) = if is_standing c.stage c.members then Some c else None
 
+abbrev pub is_open : Settled → Bool
+is_open settled.Open = true
+is_open (settled.Committed ts) = false
+is_open (settled.Forgotten ts ms) = false
+is_open (settled.Ended cause) = false
+
 abbrev pub if_open : Option Settled → Option Course → Option Course
-if_open (Some settled.Open) c = c
-if_open x c = None
+if_open None c = None
+if_open (Some x) c = if is_open x then c else None
 
 abbrev pub course_in : Coordinator → TransId → Option Course
 course_in s t = if t.epoch == s.epoch then if_open (settled_in s t) (map.get s.courses t) else if_standing (map.get s.courses t)
+
+-- it is at such a stage
+abbrev pub at_stage : (Stage → Bool) → Option Course → Bool
+at_stage p None = false
+at_stage p (Some c) = p c.stage
 
 abbrev pub fate_known : TransId → Option Course → Option Settled → Fate
 fate_known t (Some c) x = fate_of t c
@@ -189,6 +196,11 @@ is_applied (Committed stamp [] ds) = false
 is_applied (Committed stamp (j ∷ js) ds) = has_all ds (j ∷ js)
 is_applied f = false
 
+abbrev pub applied_time : Fate → Option ℕ
+applied_time (Committed stamp [] ds) = None
+applied_time (Committed stamp (j ∷ js) ds) = if has_all ds (j ∷ js) then Some stamp.ts else None
+applied_time f = None
+
 -- what a forgotten transaction leaves, of this epoch and of an older one
 abbrev pub forgotten_as : Bool → Fate → Fate
 forgotten_as true (Committed stamp js ds) = Forgotten stamp js
@@ -217,8 +229,22 @@ inquiry_of epoch t j (Ended c) = abort_for t j (lost_or epoch t c)
 inquiry_of epoch t j Undrawn = abort_for t j (cause.Lost epoch)
 
 abbrev pub inquiry_at : TransId → JoinNo → Stage → List Member → Option Message
+inquiry_at t j stage.Running ms = None
+inquiry_at t j stage.Finishing ms = None
 inquiry_at t j (stage.Decided ts) ms = commit_for t j (record { ts = ts; trans = t }) (joins ms)
-inquiry_at t j s ms = None
+
+-- of one that began in this epoch and has no course
+abbrev pub inquiry_placed : ℕ → TransId → JoinNo → Settled → Option Message
+inquiry_placed epoch t j settled.Open = abort_for t j (cause.Lost epoch)
+inquiry_placed epoch t j (settled.Committed ts) = None
+inquiry_placed epoch t j (settled.Forgotten ts ms) = commit_for t j (record { ts = ts; trans = t }) (joins ms)
+inquiry_placed epoch t j (settled.Ended c) = abort_for t j c
+
+abbrev pub ending_placed : TransId → Settled → Ending
+ending_placed t settled.Open = ending.Unknown
+ending_placed t (settled.Committed ts) = ending.Committed (record { ts = ts; trans = t })
+ending_placed t (settled.Forgotten ts ms) = ending.Committed (record { ts = ts; trans = t })
+ending_placed t (settled.Ended c) = ending.Aborted
 
 abbrev pub ending_at : ℕ → TransId → Fate → Ending
 ending_at epoch t (Committed stamp [] done) = if t.epoch == epoch then ending.Committed stamp else ending.Unknown

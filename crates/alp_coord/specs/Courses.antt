@@ -1,5 +1,5 @@
 -- How far transactions are that are not settled.
-use Rattle.std.specs.Prelude.{ℕ, List, [], ◌∷◌, ◌++◌, Option, None, Some}
+use Rattle.std.specs.Prelude.{ℕ, Bool, true, false, not, List, [], ◌∷◌, ◌++◌, Option, None, Some}
 use Rattle.std.specs.FinMap as map
 use Rattle.alp_base.specs.declared.ids.JoinNo.{JoinNo}
 use Rattle.alp_base.specs.declared.ids.TransId.{TransId}
@@ -9,7 +9,7 @@ use Rattle.alp_coord.specs.declared.members.Member.{Member}
 use Rattle.alp_coord.specs.declared.course.Course.{Course}
 use Rattle.alp_coord.specs.declared.course.Stage.{Stage}
 use Rattle.alp_coord.specs.declared.course.Stage.TheVariants as stage
-use Rattle.alp_coord.specs.Members.{joins, votes, dones, silent, having_said, hushed}
+use Rattle.alp_coord.specs.Members.{joins, votes, dones, are_none, silent, having_said, hushed}
 
 abbrev pub fate_at : TransId → Stage → ℕ → List Member → Fate
 fate_at t stage.Running client ms = Running client (joins ms)
@@ -19,6 +19,52 @@ fate_at t (stage.Decided ts) client ms = Committed (record { ts = ts; trans = t 
 -- what a journal says of a transaction with that course
 abbrev pub fate_of : TransId → Course → Fate
 fate_of t c = fate_at t c.stage c.client c.members
+
+-- ---- stages
+
+abbrev pub is_running_stage : Stage → Bool
+is_running_stage stage.Running = true
+is_running_stage stage.Finishing = false
+is_running_stage (stage.Decided ts) = false
+
+abbrev pub is_finishing_stage : Stage → Bool
+is_finishing_stage stage.Running = false
+is_finishing_stage stage.Finishing = true
+is_finishing_stage (stage.Decided ts) = false
+
+abbrev pub is_early_stage : Stage → Bool
+is_early_stage stage.Running = true
+is_early_stage stage.Finishing = true
+is_early_stage (stage.Decided ts) = false
+
+abbrev pub is_decided_stage : Stage → Bool
+is_decided_stage stage.Running = false
+is_decided_stage stage.Finishing = false
+is_decided_stage (stage.Decided ts) = true
+
+-- a decision with joins
+abbrev pub is_standing : Stage → List Member → Bool
+is_standing stage.Running ms = false
+is_standing stage.Finishing ms = false
+is_standing (stage.Decided ts) ms = not (are_none ms)
+
+-- when it was decided, if it was
+abbrev pub time_of : Stage → Option ℕ
+time_of stage.Running = None
+time_of stage.Finishing = None
+time_of (stage.Decided ts) = Some ts
+
+-- the client of one that is not decided
+abbrev pub owner_at : Stage → ℕ → Option ℕ
+owner_at stage.Running client = Some client
+owner_at stage.Finishing client = Some client
+owner_at (stage.Decided ts) client = None
+
+-- whether it counts towards the transactions of a server
+abbrev pub counts_at : Stage → List Member → Bool
+counts_at stage.Running ms = true
+counts_at stage.Finishing ms = true
+counts_at (stage.Decided ts) ms = not (are_none ms)
 
 -- ---- moves
 

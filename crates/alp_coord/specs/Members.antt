@@ -1,5 +1,5 @@
 -- Who takes part in a transaction on other servers, and what each has said of it.
-use Rattle.std.specs.Prelude.{ℕ, Bool, ◌&&◌, ◌||◌, max, List, [], ◌∷◌, ◌++◌, Option, None, Some, is_some, if◌then◌else◌, map as list_map}
+use Rattle.std.specs.Prelude.{ℕ, Bool, true, false, ◌&&◌, ◌||◌, max, List, [], ◌∷◌, ◌++◌, Option, None, Some, is_some, if◌then◌else◌, map as list_map}
 use Rattle.std.specs.List.{list_any, list_all}
 use Rattle.alp_base.specs.declared.ids.JoinNo.{JoinNo}
 use Rattle.alp_journal.specs.Ids.{same_join}
@@ -8,6 +8,10 @@ use Rattle.alp_coord.specs.declared.members.Member.{Member}
 
 abbrev pub joins : List Member → List JoinNo
 joins ms = list_map (λ (m : Member). m.join) ms
+
+abbrev pub are_none : List Member → Bool
+are_none [] = true
+are_none (m ∷ ms) = false
 
 -- ---- what is said, as a journal tells it
 
@@ -43,6 +47,15 @@ have_all_said_with j ms = list_all (λ (m : Member). same_join j m.join || has_s
 
 abbrev pub have_all_said : List Member → Bool
 have_all_said ms = list_all (λ (m : Member). has_said m.join ms) ms
+
+-- the greatest of what they have said and of that
+abbrev pub later : ℕ → Option ℕ → ℕ
+later n None = n
+later n (Some ts) = max n ts
+
+abbrev pub latest_of : ℕ → List Member → ℕ
+latest_of n [] = n
+latest_of n (m ∷ ms) = latest_of (later n m.said) ms
 
 -- ---- what they come to say
 

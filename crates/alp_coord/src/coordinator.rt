@@ -1,6 +1,6 @@
 //! The transactions of a server.
-ghost use Rattle.std.specs.Prelude.{◌≡◌, ◌+◌, ◌-◌, ◌^◌, ◌<◌, Some, IfOk, OnOk, OnErr, if◌then◌else◌, ℕ, List, map as list_map};
-ghost use Rattle.std.specs.Option.{option_copied as copied, option_map};
+ghost use Rattle.std.specs.Prelude.{◌≡◌, ◌==◌, ◌&&◌, ◌+◌, ◌-◌, ◌^◌, ◌<◌, Some, IfOk, OnOk, OnErr, if◌then◌else◌, ℕ, List, map as list_map};
+ghost use Rattle.std.specs.Option.{option_copied as copied};
 ghost use Rattle.std.specs.FinMap as map;
 ghost use Rattle.alp_base.specs.declared.ids.TransId.{TransId as ATransId};
 ghost use Rattle.alp_journal.specs.Ids.{same_trans, is_drawn};
@@ -8,7 +8,8 @@ ghost use Rattle.alp_journal.specs.Coordinator.{Undrawn, fate_noted, client_of, 
 ghost use Rattle.alp_journal.specs.Deeds.{Begins};
 ghost use Rattle.alp_coord.specs.declared.begun.Settled.TheVariants as settled;
 ghost use Rattle.alp_coord.specs.Members.{joins};
-ghost use Rattle.alp_coord.specs.Coordinators.{IsOf, Comes, Finds, count_of, epoch_of, server_of, next_id, last_id, is_known, is_other, is_standing, if_standing, if_open, settled_in, course_in, fate_in, noted, noted_course, noted_courses, settle_in};
+ghost use Rattle.alp_coord.specs.Begun.{fate_settled};
+ghost use Rattle.alp_coord.specs.Coordinators.{IsOf, Comes, Finds, count_of, epoch_of, server_of, next_id, last_id, is_known, is_open, if_standing, if_open, settled_in, course_in, fate_in, noted, noted_course, with_noted, noted_courses, settle_in};
 
 use crate::begun::{Begun, Settled};
 use crate::course::{Course, Stage};
@@ -17,6 +18,9 @@ use crate::members::Members;
 use crate::{Decision, Member};
 use alp_base::{OutOfMemory, TransId};
 use std::alloc::Global;
+
+// No counter is greater.
+const LAST_COUNTER: usize = 4_294_967_295;
 
 /// The transactions of a server: what became of those that began in this epoch, and the decisions of older epochs that
 /// parts on other servers are still to apply. What it does costs what it is about, and a tick costs what is not settled.
@@ -72,33 +76,33 @@ impl Coordinator {
         self.begun.len()
     }
 
-    /// A transaction begins for a client. After want of memory, or of a number for it, all is as
-    /// before.
+    /// A transaction begins for a client. After want of memory, or of a number for it, all is as before.
     pub fn begin(&mut self, client: u8) -> Result<TransId, OutOfMemory>
         ensures id { IfOk result (λ t. t ≡ next_id self.old) }
         ensures one { OnOk result (IsOf (server_of self.old) (epoch_of self.old) (count_of self.old + 1) self.new) }
         ensures begun { OnOk result ((who : List ℕ) (seen : ℕ) → Comes (Begins (next_id self.old) client who seen) self.old self.new) }
         ensures err { OnErr result (self.new ≡ self.old) }
     {
-        let Ok(counter) = u32::try_from(self.begun.len() + 1) else {
+        let count = self.begun.len();
+        if count >= LAST_COUNTER {
             return Err(OutOfMemory);
-        };
+        }
         let trans = TransId {
             server: self.server,
             epoch: self.epoch,
-            counter,
+            counter: count as u32 + 1,
         };
+        self.begun.push(Settled::Open)?;
         let course = Course {
             client,
             stage: Stage::Running,
             members: Members::new(self.alloc),
         };
-        self.begun.push(Settled::Open)?;
         match self.courses.add(trans, course) {
             Ok(()) => Ok(trans),
-            Err(refused) => {
+            Err(_) => {
                 self.begun.pop();
-                Err(refused)
+                Err(OutOfMemory)
             }
         }
     }
@@ -130,74 +134,87 @@ impl Coordinator {
     pub fn client(&self, trans: &TransId) -> Option<u8>
         ensures { result ≡ client_of (fate_in self.now trans.now) }
     {
-        let course = self.course(trans)?;
-        match course.stage {
-            Stage::Decided { .. } => None,
-            _ => Some(course.client),
+        match self.course(trans) {
+            Some(course) => course.owner(),
+            None => None,
         }
     }
 
-    /// The parts of a transaction on other servers, in the order in which they joined it, while it is known who they are.
+    /// The parts of a transaction on other servers, in the order in which they joined it; none where it ended, or where
+    /// none is known of it.
     pub fn members(&self, trans: &TransId) -> &[Member]
         ensures { joins result.now ≡ joins_of (fate_in self.now trans.now) }
     {
-        if let Some(course) = self.course(trans) {
-            return course.members.as_slice();
+        match self.course(trans) {
+            Some(course) => course.members.as_slice(),
+            None => self.settled_members(trans),
         }
+    }
+
+    fn settled_members(&self, trans: &TransId) -> &[Member]
+        ensures { joins result.now ≡ joins_of (fate_settled trans.now (settled_in self.now trans.now)) }
+    {
         match self.settled(trans) {
-            Some(Settled::Forgotten { members, .. }) => members.as_slice(),
-            _ => &[],
+            Some(settled) => members_of(settled),
+            None => &[],
         }
+    }
+
+    fn is_here(&self, trans: &TransId) -> bool
+        ensures { result ≡ (trans.now.server == self.now.server && trans.now.epoch == self.now.epoch) }
+    {
+        trans.server == self.server && trans.epoch == self.epoch
+    }
+
+    /// Whether it is an id of this epoch.
+    pub(crate) fn is_now(&self, trans: &TransId) -> bool
+        ensures { result ≡ (trans.now.epoch == self.now.epoch) }
+    {
+        trans.epoch == self.epoch
     }
 
     // What became of it, if it began in this epoch.
     pub(crate) fn settled(&self, trans: &TransId) -> Option<&Settled>
         ensures { copied result ≡ settled_in self.now trans.now }
     {
-        if trans.server == self.server && trans.epoch == self.epoch {
-            self.begun.get(trans.counter)
-        } else {
-            None
+        if !self.is_here(trans) {
+            return None;
         }
+        self.begun.get(trans.counter)
     }
 
     // Its course, if it is not settled.
     pub(crate) fn course(&self, trans: &TransId) -> Option<&Course>
         ensures { copied result ≡ course_in self.now trans.now }
     {
-        if trans.epoch == self.epoch {
-            self.course_now(trans)
-        } else {
-            self.course_before(trans)
+        if !self.is_now(trans) {
+            return self.course_before(trans);
         }
+        self.course_now(trans)
     }
 
     fn course_now(&self, trans: &TransId) -> Option<&Course>
         ensures { copied result ≡ if_open (settled_in self.now trans.now) (map.get self.now.courses trans.now) }
     {
-        match self.settled(trans) {
-            Some(Settled::Open) => self.courses.get(trans),
-            _ => None,
+        let Some(settled) = self.settled(trans) else {
+            return None;
+        };
+        if !is_open(settled) {
+            return None;
         }
+        self.courses.get(trans)
     }
 
     fn course_before(&self, trans: &TransId) -> Option<&Course>
         ensures { copied result ≡ if_standing (map.get self.now.courses trans.now) }
     {
-        let course = self.courses.get(trans)?;
-        if is_standing(course) {
-            Some(course)
-        } else {
-            None
+        let Some(course) = self.courses.get(trans) else {
+            return None;
+        };
+        if !course.is_standing() {
+            return None;
         }
-    }
-
-    // How far it is, if it is not settled.
-    pub(crate) fn stage(&self, trans: &TransId) -> Option<Stage>
-        ensures { result ≡ option_map (λ c. c.stage) (course_in self.now trans.now) }
-    {
-        let course = self.course(trans)?;
-        Some(course.stage)
+        Some(course)
     }
 
     // It is settled from now on. Takes no memory.
@@ -207,6 +224,28 @@ impl Coordinator {
     {
         let _ = self.courses.remove(trans);
         self.begun.settle(trans.counter, settled);
+    }
+}
+
+fn is_open(settled: &Settled) -> bool
+    ensures { result ≡ is_open settled.now }
+{
+    match settled {
+        Settled::Open => true,
+        Settled::Committed { .. } => false,
+        Settled::Forgotten { .. } => false,
+        Settled::Ended { .. } => false,
+    }
+}
+
+fn members_of(settled: &Settled) -> &[Member]
+    ensures { (t : ATransId) → joins result.now ≡ joins_of (fate_settled t (Some settled.now)) }
+{
+    match settled {
+        Settled::Open => &[],
+        Settled::Committed { .. } => &[],
+        Settled::Forgotten { members, .. } => members.as_slice(),
+        Settled::Ended { .. } => &[],
     }
 }
 
@@ -220,29 +259,26 @@ fn is_drawn(here: u8, now: u32, last: usize, trans: &TransId) -> bool
         && (trans.epoch < now || (trans.epoch == now && trans.counter as usize <= last))
 }
 
-// Whether it is a decision with joins.
-fn is_standing(course: &Course) -> bool
-    ensures { result ≡ is_standing course.now.stage course.now.members }
-{
-    match course.stage {
-        Stage::Decided { .. } => !course.members.as_slice().is_empty(),
-        _ => false,
-    }
-}
-
 // The courses of decisions, the first of each transaction.
 fn courses_of(alloc: Global, decisions: &[Decision]) -> Result<Courses, OutOfMemory>
     ensures { IfOk result (λ m. m ≡ noted_courses map.empty decisions.now) }
 {
     let mut courses = Courses::new(alloc);
     for decision in decisions {
-        let trans = decision.stamp.trans;
-        if courses.get(&trans).is_none() {
-            let course = course_of(alloc, decision)?;
-            courses.add(trans, course)?;
-        }
+        note(alloc, &mut courses, decision)?;
     }
     Ok(courses)
+}
+
+fn note(alloc: Global, courses: &mut Courses, decision: &Decision) -> Result<(), OutOfMemory>
+    ensures { OnOk result (courses.new ≡ with_noted decision.now courses.old (map.get courses.old decision.now.stamp.trans)) }
+{
+    let trans = decision.stamp.trans;
+    if courses.get(&trans).is_some() {
+        return Ok(());
+    }
+    let course = course_of(alloc, decision)?;
+    courses.add(trans, course)
 }
 
 fn course_of(alloc: Global, decision: &Decision) -> Result<Course, OutOfMemory>

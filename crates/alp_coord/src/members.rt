@@ -1,9 +1,8 @@
 //! Who takes part in a transaction on other servers.
-ghost use Rattle.std.specs.Prelude.{◌≡◌, ◌==◌, ◌∷◌, ◌++◌, ◌||◌, [], IfOk, IfSome, OnOk, OnErr, ◌<◌, length, position, map as list_map};
+ghost use Rattle.std.specs.Prelude.{◌≡◌, ◌==◌, ◌∷◌, ◌++◌, ◌||◌, [], IfOk, OnOk, OnErr, position, map as list_map};
 ghost use Rattle.std.specs.List.{list_any};
-ghost use Rattle.alp_journal.specs.Ids.{same_join, has_server};
-ghost use Rattle.alp_journal.specs.Laws.{latest_vote};
-ghost use Rattle.alp_coord.specs.Members.{joins, votes, takes_part, has_said, have_all_said_with, have_all_said, silent, saying, having_said, hushed};
+ghost use Rattle.alp_journal.specs.Ids.{same_join};
+ghost use Rattle.alp_coord.specs.Members.{are_none, latest_of, later, takes_part, has_said, have_all_said_with, have_all_said, silent, saying, having_said, hushed};
 
 use alp_base::{JoinNo, OutOfMemory};
 use std::alloc::Global;
@@ -71,7 +70,7 @@ impl Members {
         if has_said(self.members.as_slice(), join) {
             return;
         }
-        say(&mut self.members, join, time);
+        say(self.members.as_mut_slice(), join, time);
     }
 
     /// From now on none has said anything.
@@ -95,19 +94,22 @@ fn silent_members(alloc: Global, joins: &[JoinNo]) -> Result<Vec<Member>, OutOfM
     Ok(members)
 }
 
-fn say(members: &mut Vec<Member>, join: &JoinNo, time: u64)
-    ensures { members.new.items ≡ saying join.now time members.old.items }
+fn say(members: &mut [Member], join: &JoinNo, time: u64)
+    ensures { members.new ≡ saying join.now time members.old }
 {
-    let Some(place) = place_of(members.as_slice(), join) else {
+    let Some(place) = place_of(members, join) else {
         return;
     };
-    members[place].said = Some(time);
+    let join = members[place].join;
+    members[place] = Member {
+        join,
+        said: Some(time),
+    };
 }
 
 // Where the first of that join stands.
 fn place_of(members: &[Member], join: &JoinNo) -> Option<usize>
-    ensures place { result ≡ position (λ m. same_join m.join join.now) members.now }
-    ensures within { IfSome result (λ i. i < length members.now) }
+    ensures { result ≡ position (λ m. same_join m.join join.now) members.now }
 {
     members
         .iter()
@@ -127,6 +129,13 @@ pub fn is_join(one: &JoinNo, other: &JoinNo) -> bool
     ensures { result ≡ same_join one.now other.now }
 {
     one.server == other.server && one.epoch == other.epoch && one.counter == other.counter
+}
+
+/// Whether there are none.
+pub fn are_none(members: &[Member]) -> bool
+    ensures { result ≡ are_none members.now }
+{
+    members.is_empty()
 }
 
 /// Whether the join is one of them.
@@ -166,13 +175,20 @@ pub fn have_all_said_with(members: &[Member], join: &JoinNo) -> bool
 
 /// The greatest of their votes and of that time.
 pub fn latest(members: &[Member], least: u64) -> u64
-    ensures { result ≡ latest_vote least (votes members.now) }
+    ensures { result ≡ latest_of least members.now }
 {
     let mut latest = least;
     for member in members {
-        if let Some(time) = member.said {
-            latest = latest.max(time);
-        }
+        latest = later(latest, member.said);
     }
     latest
+}
+
+fn later(latest: u64, said: Option<u64>) -> u64
+    ensures { result ≡ later latest said }
+{
+    match said {
+        Some(time) => latest.max(time),
+        None => latest,
+    }
 }

@@ -1,17 +1,19 @@
 //! What becomes of transactions.
-ghost use Rattle.std.specs.Prelude.{◌≡◌, ◌==◌, Some, IfOk, OnErr, if◌then◌else◌, ℕ, true, false};
+ghost use Rattle.std.specs.Prelude.{◌≡◌, ◌==◌, ◌&&◌, IfOk, OnErr, if◌then◌else◌, ℕ, true, false};
 ghost use Rattle.alp_base.specs.declared.ids.TransId.{TransId as ATransId};
 ghost use Rattle.alp_journal.specs.Ids.{same_trans, has_join, has_server};
 ghost use Rattle.alp_journal.specs.Coordinator.{joins_of, with_vote};
 ghost use Rattle.alp_journal.specs.Laws.{latest_vote};
 ghost use Rattle.alp_journal.specs.Deeds.{Registers, Finishes, Hears, Decides, Ends, Acknowledges};
 ghost use Rattle.alp_coord.specs.Members.{joins, votes};
-ghost use Rattle.alp_coord.specs.Courses.{fate_of};
-ghost use Rattle.alp_coord.specs.Coordinators.{AfterRegistration, IsAlong, Comes, ComesLike, Keeps, epoch_of, fate_in, is_other, registration_in, registration_of, admitted, ballot_of, receipt_of, is_applied, forgotten_as, forgotten_fate};
+ghost use Rattle.alp_coord.specs.Courses.{fate_of, is_running_stage, is_finishing_stage, is_early_stage, is_decided_stage};
+ghost use Rattle.alp_coord.specs.Coordinators.{AfterRegistration, IsAlong, Comes, ComesLike, Keeps, epoch_of, course_in, at_stage, fate_in, is_other, registration_in, registration_of, admitted, ballot_of, receipt_of, applied_time, forgotten_fate};
 
 use crate::begun::Settled;
 use crate::course::{Course, Stage};
-use crate::members::{has_said, has_server, have_all_said, have_all_said_with, latest, takes_part};
+use crate::members::{
+    are_none, has_said, has_server, have_all_said, have_all_said_with, latest, takes_part,
+};
 use crate::{Ballot, Coordinator, Member, Receipt, Registration};
 use alp_base::{JoinNo, OutOfMemory, TransId};
 use alp_files::Cause;
@@ -53,9 +55,12 @@ impl Coordinator {
         ensures err { OnErr result (self.new ≡ self.old) }
     {
         let answer = self.registration(trans, &join, client, servers);
-        let Registration::Registered = answer else {
-            return Ok(answer);
-        };
+        match answer {
+            Registration::Registered => {}
+            Registration::Silence => return Ok(Registration::Silence),
+            Registration::Known => return Ok(Registration::Known),
+            Registration::Refused => return Ok(Registration::Refused),
+        }
         self.courses.enter(trans, join)?;
         Ok(Registration::Registered)
     }
@@ -65,9 +70,9 @@ impl Coordinator {
         ensures along { IsAlong self.old self.new }
         ensures finished { Comes (Finishes trans.now) self.old self.new }
     {
-        let Some(Stage::Running) = self.stage(trans) else {
+        if !self.runs(trans) {
             return;
-        };
+        }
         self.courses.turn(trans, Stage::Finishing);
     }
 
@@ -88,9 +93,9 @@ impl Coordinator {
         ensures heard { has_join join.now (joins_of (fate_in self.old trans.now)) ≡ true → ComesLike (Hears trans.now join.now time) self.old self.new }
         ensures dropped { has_join join.now (joins_of (fate_in self.old trans.now)) ≡ false → Keeps self.old self.new }
     {
-        let Some(Stage::Finishing) = self.stage(trans) else {
+        if !self.finishes(trans) {
             return;
-        };
+        }
         self.courses.hear(trans, join, time);
     }
 
@@ -99,10 +104,10 @@ impl Coordinator {
         ensures along { IsAlong self.old self.new }
         ensures decided { Comes (Decides (record { ts = ts; trans = trans.now }) (joins_of (fate_in self.old trans.now))) self.old self.new }
     {
-        let Some(Stage::Finishing) = self.stage(trans) else {
+        if !self.finishes(trans) {
             return;
-        };
-        if self.members(trans).is_empty() {
+        }
+        if are_none(self.members(trans)) {
             self.settle(trans, Settled::Committed { ts });
             return;
         }
@@ -114,10 +119,10 @@ impl Coordinator {
         ensures along { IsAlong self.old self.new }
         ensures ended { (client : ℕ) → Comes (Ends trans.now client cause) self.old self.new }
     {
-        match self.stage(trans) {
-            None | Some(Stage::Decided { .. }) => {}
-            Some(_) => self.settle(trans, Settled::Ended { cause }),
+        if !self.is_early(trans) {
+            return;
         }
+        self.settle(trans, Settled::Ended { cause });
     }
 
     /// What it comes to that a part has applied the commit.
@@ -136,9 +141,9 @@ impl Coordinator {
         ensures kept { has_join join.now (joins_of (fate_in self.old trans.now)) ≡ true → ComesLike (Acknowledges trans.now join.now) self.old self.new }
         ensures dropped { has_join join.now (joins_of (fate_in self.old trans.now)) ≡ false → Keeps self.old self.new }
     {
-        let Some(Stage::Decided { .. }) = self.stage(trans) else {
+        if !self.is_decided(trans) {
             return;
-        };
+        }
         self.courses.hear(trans, join, 0);
     }
 
@@ -147,52 +152,66 @@ impl Coordinator {
         ensures along { IsAlong self.old self.new }
         ensures forgotten { (t : ATransId) → fate_in self.new t ≡ (if same_trans trans.now t then forgotten_fate (t.epoch == epoch_of self.old) (fate_in self.old t) else fate_in self.old t) }
     {
-        if !self.is_applied(trans) {
-            return;
-        }
-        if trans.epoch == self.epoch {
-            self.forget_now(trans);
-            return;
-        }
-        let _ = self.courses.remove(trans);
-    }
-
-    // Whether it is a decision with joins that all have applied.
-    fn is_applied(&self, trans: &TransId) -> bool
-        ensures { result ≡ is_applied (fate_in self.now trans.now) }
-    {
-        match self.course(trans) {
-            Some(course) => is_applied(course),
-            None => false,
-        }
-    }
-
-    fn forget_now(&mut self, trans: &TransId)
-        requires applied { is_applied (fate_in self.old trans.now) ≡ true }
-        requires now { trans.now.epoch ≡ epoch_of self.old }
-        ensures along { IsAlong self.old self.new }
-        ensures forgotten { (t : ATransId) → fate_in self.new t ≡ (if same_trans trans.now t then forgotten_as true (fate_in self.old t) else fate_in self.old t) }
-    {
-        let Some(course) = self.courses.remove(trans) else {
+        let Some(ts) = self.applied(trans) else {
             return;
         };
-        let Stage::Decided { ts } = course.stage else {
+        if !self.is_now(trans) {
+            let _ = self.courses.remove(trans);
+            return;
+        }
+        let Some(course) = self.courses.remove(trans) else {
             return;
         };
         let members = course.members;
         self.begun
             .settle(trans.counter, Settled::Forgotten { ts, members });
     }
-}
 
-fn is_applied(course: &Course) -> bool
-    ensures { (t : ATransId) → result ≡ is_applied (fate_of t course.now) }
-{
-    let Stage::Decided { .. } = course.stage else {
-        return false;
-    };
-    let members = course.members.as_slice();
-    !members.is_empty() && have_all_said(members)
+    // When it was decided, if it is a decision with joins that all have applied.
+    fn applied(&self, trans: &TransId) -> Option<u64>
+        ensures { result ≡ applied_time (fate_in self.now trans.now) }
+    {
+        match self.course(trans) {
+            Some(course) => applied(course),
+            None => None,
+        }
+    }
+
+    fn runs(&self, trans: &TransId) -> bool
+        ensures { result ≡ at_stage is_running_stage (course_in self.now trans.now) }
+    {
+        match self.course(trans) {
+            Some(course) => course.is_running(),
+            None => false,
+        }
+    }
+
+    fn finishes(&self, trans: &TransId) -> bool
+        ensures { result ≡ at_stage is_finishing_stage (course_in self.now trans.now) }
+    {
+        match self.course(trans) {
+            Some(course) => course.is_finishing(),
+            None => false,
+        }
+    }
+
+    fn is_early(&self, trans: &TransId) -> bool
+        ensures { result ≡ at_stage is_early_stage (course_in self.now trans.now) }
+    {
+        match self.course(trans) {
+            Some(course) => course.is_early(),
+            None => false,
+        }
+    }
+
+    fn is_decided(&self, trans: &TransId) -> bool
+        ensures { result ≡ at_stage is_decided_stage (course_in self.now trans.now) }
+    {
+        match self.course(trans) {
+            Some(course) => course.is_decided(),
+            None => false,
+        }
+    }
 }
 
 /// Whether it is another server of the run.
@@ -205,13 +224,20 @@ pub fn is_other(server: u8, servers: u8, other: u8) -> bool
 fn registration_of(course: &Course, join: &JoinNo, client: u8, other: bool) -> Registration
     ensures { (t : ATransId) → result ≡ registration_of other join.now client (fate_of t course.now) }
 {
-    let Stage::Running = course.stage else {
+    if !course.is_running() {
         return Registration::Refused;
-    };
-    if course.client != client || !other {
+    }
+    if !is_owner(course, client, other) {
         return Registration::Refused;
     }
     admitted(course.members.as_slice(), join)
+}
+
+// Whether it is the client's, and a part of another server of the run asks.
+fn is_owner(course: &Course, client: u8, other: bool) -> bool
+    ensures { result ≡ (course.now.client == client && other) }
+{
+    course.client == client && other
 }
 
 fn admitted(members: &[Member], join: &JoinNo) -> Registration
@@ -229,9 +255,9 @@ fn admitted(members: &[Member], join: &JoinNo) -> Registration
 fn ballot_of(course: &Course, join: &JoinNo, time: u64, least: u64) -> Ballot
     ensures { (t : ATransId) → result ≡ ballot_of join.now time least (fate_of t course.now) }
 {
-    let Stage::Finishing = course.stage else {
+    if !course.is_finishing() {
         return Ballot::Dropped;
-    };
+    }
     let members = course.members.as_slice();
     if !takes_part(members, join) {
         return Ballot::Dropped;
@@ -258,15 +284,34 @@ fn latest_with(members: &[Member], join: &JoinNo, time: u64, least: u64) -> u64
 fn receipt_of(course: &Course, join: &JoinNo) -> Receipt
     ensures { (t : ATransId) → result ≡ receipt_of join.now (fate_of t course.now) }
 {
-    let Stage::Decided { .. } = course.stage else {
+    if !course.is_decided() {
         return Receipt::Dropped;
-    };
+    }
     let members = course.members.as_slice();
     if !takes_part(members, join) {
         return Receipt::Dropped;
     }
-    if have_all_said(members) || !have_all_said_with(members, join) {
+    if have_all_said(members) {
+        return Receipt::Kept;
+    }
+    if !have_all_said_with(members, join) {
         return Receipt::Kept;
     }
     Receipt::Last
+}
+
+fn applied(course: &Course) -> Option<u64>
+    ensures { (t : ATransId) → result ≡ applied_time (fate_of t course.now) }
+{
+    let Some(ts) = course.time() else {
+        return None;
+    };
+    let members = course.members.as_slice();
+    if are_none(members) {
+        return None;
+    }
+    if !have_all_said(members) {
+        return None;
+    }
+    Some(ts)
 }

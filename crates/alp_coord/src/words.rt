@@ -2,13 +2,14 @@
 ghost use Rattle.std.specs.Prelude.{◌≡◌, ◌++◌, ◌&&◌, not, Some, None, OnOk, IfOk, if◌then◌else◌, map as list_map};
 ghost use Rattle.std.specs.List.Sorted.{IsStrictlySortedBy};
 ghost use Rattle.alp_base.specs.Orders.{trans_cmp};
+ghost use Rattle.alp_files.specs.declared.refusal.Cause.TheVariants as cause;
 ghost use Rattle.alp_files.specs.declared.reply.Ended.TheVariants as ending;
 ghost use Rattle.alp_journal.specs.declared.message.Message.TheVariants as msg;
 ghost use Rattle.alp_journal.specs.Answers.{is_counted};
 ghost use Rattle.alp_journal.specs.Messages.{ask_again, commit_again};
 ghost use Rattle.alp_coord.specs.Members.{joins, has_said};
 ghost use Rattle.alp_coord.specs.Begun.{fate_settled};
-ghost use Rattle.alp_coord.specs.Coordinators.{is_known, epoch_of, server_of, fate_in, settled_in, inquiry_of, ending_at, enveloped, to_run, asks_of, commits_of, counted_of, open_ids, commit_for, inquiry_at, again_to, is_other};
+ghost use Rattle.alp_coord.specs.Coordinators.{is_known, epoch_of, server_of, fate_in, settled_in, inquiry_of, ending_at, enveloped, to_run, asks_of, commits_of, counted_of, open_ids, commit_for, inquiry_at, inquiry_placed, ending_placed, again_to, is_other};
 
 use crate::begun::Settled;
 use crate::course::{Course, Stage};
@@ -36,14 +37,9 @@ impl Coordinator {
     fn inquire_settled(&self, trans: &TransId, join: &JoinNo) -> Option<Message>
         ensures { result ≡ inquiry_of (epoch_of self.now) trans.now join.now (fate_settled trans.now (settled_in self.now trans.now)) }
     {
-        let lost = Cause::Lost { epoch: self.epoch };
         match self.settled(trans) {
-            None | Some(Settled::Open) => Some(abort(trans, join, lost)),
-            Some(Settled::Committed { .. }) => None,
-            Some(Settled::Forgotten { ts, members }) => {
-                commit(trans, join, *ts, members.as_slice())
-            }
-            Some(Settled::Ended { cause }) => Some(abort(trans, join, *cause)),
+            Some(settled) => inquiry_settled(settled, trans, join, self.epoch),
+            None => Some(lost(trans, join, self.epoch)),
         }
     }
 
@@ -55,21 +51,21 @@ impl Coordinator {
         if !self.is_known(trans) {
             return None;
         }
-        match self.stage(trans) {
-            Some(Stage::Decided { ts }) => Some(committed(trans, ts)),
-            Some(_) => Some(Ended::Running),
-            None => Some(self.outcome_settled(trans)),
-        }
+        let Some(course) = self.course(trans) else {
+            return Some(self.outcome_settled(trans));
+        };
+        let Some(ts) = course.time() else {
+            return Some(Ended::Running);
+        };
+        Some(committed(trans, ts))
     }
 
     fn outcome_settled(&self, trans: &TransId) -> Ended
         ensures { result ≡ ending_at (epoch_of self.now) trans.now (fate_settled trans.now (settled_in self.now trans.now)) }
     {
         match self.settled(trans) {
-            None | Some(Settled::Open) => Ended::Unknown,
-            Some(Settled::Committed { ts }) => committed(trans, *ts),
-            Some(Settled::Forgotten { ts, .. }) => committed(trans, *ts),
-            Some(Settled::Ended { .. }) => Ended::Aborted,
+            Some(settled) => ending_settled(settled, trans),
+            None => Ended::Unknown,
         }
     }
 
@@ -96,9 +92,9 @@ impl Coordinator {
         let Some(course) = self.course(trans) else {
             return Ok(());
         };
-        let Stage::Finishing = course.stage else {
+        if !course.is_finishing() {
             return Ok(());
-        };
+        }
         let members = course.members.as_slice();
         ask_members(trans, members, self.server, servers, out)
     }
@@ -126,7 +122,7 @@ impl Coordinator {
         let Some(course) = self.course(trans) else {
             return Ok(());
         };
-        let Stage::Decided { ts } = course.stage else {
+        let Some(ts) = course.time() else {
             return Ok(());
         };
         let members = course.members.as_slice();
@@ -153,10 +149,7 @@ impl Coordinator {
         ensures { result ≡ is_counted (fate_in self.now trans.now) }
     {
         match self.course(trans) {
-            Some(course) => match course.stage {
-                Stage::Decided { .. } => !course.members.as_slice().is_empty(),
-                _ => true,
-            },
+            Some(course) => course.counts(),
             None => false,
         }
     }
@@ -194,12 +187,42 @@ fn commit(trans: &TransId, join: &JoinNo, ts: u64, members: &[Member]) -> Option
     })
 }
 
+fn lost(trans: &TransId, join: &JoinNo, epoch: u32) -> Message
+    ensures { result ≡ msg.Abort trans.now join.now (cause.Lost epoch) }
+{
+    abort(trans, join, Cause::Lost { epoch })
+}
+
+// Of one that began in this epoch.
+fn inquiry_settled(settled: &Settled, trans: &TransId, join: &JoinNo, epoch: u32) -> Option<Message>
+    ensures { result ≡ inquiry_placed epoch trans.now join.now settled.now }
+{
+    match settled {
+        Settled::Open => Some(lost(trans, join, epoch)),
+        Settled::Committed { .. } => None,
+        Settled::Forgotten { ts, members } => commit(trans, join, *ts, members.as_slice()),
+        Settled::Ended { cause } => Some(abort(trans, join, *cause)),
+    }
+}
+
+fn ending_settled(settled: &Settled, trans: &TransId) -> Ended
+    ensures { result ≡ ending_placed trans.now settled.now }
+{
+    match settled {
+        Settled::Open => Ended::Unknown,
+        Settled::Committed { ts } => committed(trans, *ts),
+        Settled::Forgotten { ts, .. } => committed(trans, *ts),
+        Settled::Ended { .. } => Ended::Aborted,
+    }
+}
+
 fn inquiry(course: &Course, trans: &TransId, join: &JoinNo) -> Option<Message>
     ensures { result ≡ inquiry_at trans.now join.now course.now.stage course.now.members }
 {
     match course.stage {
+        Stage::Running => None,
+        Stage::Finishing => None,
         Stage::Decided { ts } => commit(trans, join, ts, course.members.as_slice()),
-        _ => None,
     }
 }
 

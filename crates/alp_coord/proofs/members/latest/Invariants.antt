@@ -1,7 +1,6 @@
 use Rattle.std.proofs.Common.{◌≡◌, drop}
-use Rattle.alp_journal.specs.Laws.{latest_vote}
-use Rattle.alp_coord.specs.Members.{votes}
+use Rattle.alp_coord.specs.Members.{latest_of}
 use Rattle.alp_coord.proofs.members.latest.Given as goal
 
 abbrev pub invariant-loop-member : goal.invariant-loop-member
-invariant-loop-member l = latest_vote l.latest (votes (drop l.member-index l.members)) ≡ latest_vote l.least (votes l.members)
+invariant-loop-member l = latest_of l.latest (drop l.member-index l.members) ≡ latest_of l.least l.members

@@ -1,0 +1,7 @@
+use Rattle.alp_coord.proofs.courses.Courses.hear.Goals as goal
+
+pub returns-in_default : goal.returns-in_default
+returns-in_default c = ?
+
+pub returns : goal.returns
+returns c = ?

@@ -1,0 +1,20 @@
+use Rattle.std.specs.Prelude.{Option, None, Some}
+use Rattle.std.specs.List.{position_or_len}
+use Rattle.std.proofs.Common.{◌≡◌, ◌<◌, length, ap, sym, ◌∙◌, arith}
+use Rattle.alp_journal.specs.Ids.{same_join}
+use Rattle.alp_coord.specs.declared.members.Member.{Member}
+use Rattle.alp_coord.proofs.MemberLemmas.{saying-nowhere, saying-at, nowhere-none, place_within, place_none}
+use Rattle.alp_coord.proofs.members.say.Goals as goal
+
+pub bounds-members-place : goal.bounds-members-place
+bounds-members-place c =
+    let at = place_within (λ (m : Member). same_join m.join c.args.join.now) c.args.members.now c.in-Some.place (sym c.place_of.ensures ∙ c.in-Some.is) in
+    omega (arith, at.0, at.1)
+
+pub returns-in_default : goal.returns-in_default
+returns-in_default c =
+    sym (saying-nowhere c.args.join.now c.args.time c.args.members.now
+    (nowhere-none c.args.join.now c.args.members.now (place_none (λ (m : Member). same_join m.join c.args.join.now) c.args.members.now (sym c.place_of.ensures ∙ c.in_default.is))))
+
+pub returns : goal.returns
+returns c = ?
