@@ -2,7 +2,7 @@
 use Rattle.std.specs.Prelude.{cond, Bool, true, false, ◌==◌, ◌&&◌, nat_lt, Option, None, Some, slice_get, slice_set, map as list_map}
 use Rattle.std.specs.Option.{option_map}
 use Rattle.std.specs.FinMap as map
-use Rattle.std.proofs.Common.{◌≡◌, ℕ, ◌+◌, ◌-◌, ◌<◌, ◌≤◌, List, [], ◌∷◌, ◌++◌, length, length-append, refl, sym, ◌∙◌, ap, subst, arith, eq-eqb}
+use Rattle.std.proofs.Common.{◌≡◌, ℕ, ◌+◌, ◌-◌, ◌<◌, ◌≤◌, List, [], ◌∷◌, ◌++◌, length, length-append, le_refl, refl, sym, ◌∙◌, ap, subst, arith, eq-eqb}
 use Rattle.std.proofs.lemmas.Bool.{eqb-true, and_parts, ltb-true, ltb-false}
 use Rattle.std.proofs.lemmas.Option.{slice_get_past, slice_get_within}
 use Rattle.alp_base.specs.declared.ids.TransId.{TransId}
@@ -236,7 +236,7 @@ next_placed s c = record {
   server_is = refl;
   epoch_is = refl;
   first = omega arith;
-  within = subst (λ (n : ℕ). length s.begun + 1 ≤ n) (sym (length-append s.begun (settled.Open ∷ []))) (omega arith);
+  within = subst (λ (n : ℕ). length s.begun + 1 ≤ n) (sym (length-append s.begun (settled.Open ∷ []))) (le_refl (length s.begun + 1));
 }
 
 minus_one : (n : ℕ) → n + 1 - 1 ≡ n

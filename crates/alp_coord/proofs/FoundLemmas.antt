@@ -80,12 +80,12 @@ decision_known d t (j ∷ js) same is =
 
 decisions_known : (ds : List Decision) (t : TransId) → fate_known t (if_standing (noted_get ds t)) None ≡ remembered (fate_noted (list_map noted ds) t)
 decisions_known [] t = refl
-decisions_known (d ∷ ds) t = go (same_trans d.stamp.trans t) refl
+decisions_known (d ∷ ds) t = go (same_trans d.stamp.trans t) refl (decisions_known ds t)
   where
-    go : (b : Bool) → same_trans d.stamp.trans t ≡ b → fate_known t (if_standing (cond {A = Option Course} b (Some (noted_course d)) (noted_get ds t))) None
+    go : (b : Bool) → same_trans d.stamp.trans t ≡ b → fate_known t (if_standing (noted_get ds t)) None ≡ remembered (fate_noted (list_map noted ds) t) → fate_known t (if_standing (cond {A = Option Course} b (Some (noted_course d)) (noted_get ds t))) None
         ≡ remembered (cond {A = Fate} b (Committed d.stamp d.joins.items []) (fate_noted (list_map noted ds) t))
-    go true e = decision_known d t d.joins.items (same_trans-true d.stamp.trans t e) refl
-    go false e = decisions_known ds t
+    go true e h = decision_known d t d.joins.items (same_trans-true d.stamp.trans t e) refl
+    go false e h = h
 
 pub found_known : (s : Coordinator) (ds : List Decision) → s.begun ≡ [] → s.courses ≡ noted_courses map.empty ds → Finds (list_map noted ds) s
 found_known s ds is courses t = go (t.epoch == s.epoch)

@@ -70,7 +70,7 @@ forgotten_alike true false e stamp js ds es h = cc
 forgotten_alike false true e stamp js ds es h = cc
 
 pub like-after : (d : Deed) (t : TransId) (f g : Fate) → IsLike f g → IsLike (fate_after d t f) (fate_after d t g)
-like-after d t f f (same f) = same (fate_after d t f)
+like-after d t f g (same h) = same (fate_after d t h)
 like-after (Begins u c who seen) t _ _ (finishing client js vs ws h) = like_if (same_trans u t) _ _ _ _ (finishing client js vs ws h) (finishing client js vs ws h)
 like-after (Registers u j) t _ _ (finishing client js vs ws h) = like_if (same_trans u t) _ _ _ _ (finishing client js vs ws h) (finishing client js vs ws h)
 like-after (Finishes u) t _ _ (finishing client js vs ws h) = like_if (same_trans u t) _ _ _ _ (finishing client js vs ws h) (finishing client js vs ws h)
@@ -79,7 +79,7 @@ like-after (Decides stamp ks) t _ _ (finishing client js vs ws h) = like_if (sam
 like-after (Ends u c e) t _ _ (finishing client js vs ws h) = like_if (same_trans u t) _ _ _ _ (same (Ended e)) (finishing client js vs ws h)
 like-after (Acknowledges u j) t _ _ (finishing client js vs ws h) = like_if (same_trans u t) _ _ _ _ (finishing client js vs ws h) (finishing client js vs ws h)
 like-after (Forgets u) t _ _ (finishing client js vs ws h) = like_if (same_trans u t) _ _ _ _ (finishing client js vs ws h) (finishing client js vs ws h)
-like-after (Restarts epoch clock) t f g (finishing client js vs ws h) = same (fate_after (Restarts epoch clock) t f)
+like-after (Restarts epoch clock) t _ _ (finishing client js vs ws h) = same (Ended (cause.Lost epoch))
 like-after (Joins j u c who) t _ _ (finishing client js vs ws h) = finishing client js vs ws h
 like-after (Enters j u c who) t _ _ (finishing client js vs ws h) = finishing client js vs ws h
 like-after (Quits j u c e) t _ _ (finishing client js vs ws h) = finishing client js vs ws h
@@ -111,63 +111,63 @@ like-after (Applies j x) t _ _ (committed stamp js ds es h) = committed stamp js
 -- ---- it is answered alike
 
 pub like-ballot : (j : JoinNo) (ts least : ℕ) (f g : Fate) → IsLike f g → ballot_of j ts least f ≡ ballot_of j ts least g
-like-ballot j ts least f f (same f) = refl
+like-ballot j ts least f g (same h) = refl
 like-ballot j ts least _ _ (finishing client js vs ws h) =
     let k = votes_with j ts vs ws h in
     λ i. cond {A = Ballot} (has_join j js) (cond {A = Ballot} (all_alike (λ x. voted x (with_vote j ts vs)) (λ x. voted x (with_vote j ts ws)) (λ x. k.who x) js i) (ballot.Last (k.latest least i)) ballot.Kept) ballot.Dropped
 like-ballot j ts least _ _ (committed stamp js ds es h) = refl
 
 pub like-receipt : (j : JoinNo) (f g : Fate) → IsLike f g → receipt_of j f ≡ receipt_of j g
-like-receipt j f f (same f) = refl
+like-receipt j f g (same h) = refl
 like-receipt j _ _ (finishing client js vs ws h) = refl
 like-receipt j _ _ (committed stamp js ds es h) =
     λ i. cond {A = Receipt} (has_join j js) (cond {A = Receipt} (not (all_done_alike js ds es h i) && all_done_alike js (j ∷ ds) (j ∷ es) (dones_with j ds es h) i) receipt.Last receipt.Kept) receipt.Dropped
 
 pub like-registration : (other : Bool) (j : JoinNo) (client : ℕ) (f g : Fate) → IsLike f g → registration_of other j client f ≡ registration_of other j client g
-like-registration other j client f f (same f) = refl
+like-registration other j client f g (same h) = refl
 like-registration other j client _ _ (finishing c js vs ws h) = refl
 like-registration other j client _ _ (committed stamp js ds es h) = refl
 
 pub like-votes : (f g : Fate) → IsLike f g → has_votes f ≡ has_votes g
-like-votes f f (same f) = refl
+like-votes f g (same h) = refl
 like-votes _ _ (finishing client js vs ws h) = all_alike (λ j. voted j vs) (λ j. voted j ws) (λ j. h.who j) js
 like-votes _ _ (committed stamp js ds es h) = refl
 
 pub like-joins : (f g : Fate) → IsLike f g → joins_of f ≡ joins_of g
-like-joins f f (same f) = refl
+like-joins f g (same h) = refl
 like-joins _ _ (finishing client js vs ws h) = refl
 like-joins _ _ (committed stamp js ds es h) = refl
 
 pub like-client : (f g : Fate) → IsLike f g → client_of f ≡ client_of g
-like-client f f (same f) = refl
+like-client f g (same h) = refl
 like-client _ _ (finishing client js vs ws h) = refl
 like-client _ _ (committed stamp js ds es h) = refl
 
 pub like-counted : (f g : Fate) → IsLike f g → is_counted f ≡ is_counted g
-like-counted f f (same f) = refl
+like-counted f g (same h) = refl
 like-counted _ _ (finishing client js vs ws h) = refl
 like-counted _ _ (committed stamp [] ds es h) = refl
 like-counted _ _ (committed stamp (j ∷ js) ds es h) = refl
 
 pub like-inquiry : (epoch : ℕ) (t : TransId) (j : JoinNo) (f g : Fate) → IsLike f g → inquiry_of epoch t j f ≡ inquiry_of epoch t j g
-like-inquiry epoch t j f f (same f) = refl
+like-inquiry epoch t j f g (same h) = refl
 like-inquiry epoch t j _ _ (finishing client js vs ws h) = refl
 like-inquiry epoch t j _ _ (committed stamp [] ds es h) = refl
 like-inquiry epoch t j _ _ (committed stamp (k ∷ js) ds es h) = refl
 
 pub like-ending : (epoch : ℕ) (t : TransId) (f g : Fate) → IsLike f g → ending_at epoch t f ≡ ending_at epoch t g
-like-ending epoch t f f (same f) = refl
+like-ending epoch t f g (same h) = refl
 like-ending epoch t _ _ (finishing client js vs ws h) = refl
 like-ending epoch t _ _ (committed stamp [] ds es h) = refl
 like-ending epoch t _ _ (committed stamp (k ∷ js) ds es h) = refl
 
 pub like-asks : (t : TransId) (f g : Fate) → IsLike f g → ask_again t f ≡ ask_again t g
-like-asks t f f (same f) = refl
+like-asks t f g (same h) = refl
 like-asks t _ _ (finishing client js vs ws h) = ap (to_each (msg.Ask t)) (filter_alike (λ j. not (voted j vs)) (λ j. not (voted j ws)) (λ j. ap not (h.who j)) js)
 like-asks t _ _ (committed stamp js ds es h) = refl
 
 pub like-commits : (t : TransId) (f g : Fate) → IsLike f g → commit_again t f ≡ commit_again t g
-like-commits t f f (same f) = refl
+like-commits t f g (same h) = refl
 like-commits t _ _ (finishing client js vs ws h) = refl
 like-commits t _ _ (committed stamp js ds es h) = ap (to_each (λ j. msg.Commit t j stamp)) (filter_alike (λ j. not (has_join j ds)) (λ j. not (has_join j es)) (λ j. ap not (h.who j)) js)
 
@@ -221,20 +221,20 @@ over_commits t (Ended e) over = refl
 
 pub old-inquiry : (epoch : ℕ) (t : TransId) (j : JoinNo) (f g : Fate) → (t.epoch == epoch) ≡ false → IsLikeOld f g → inquiry_of epoch t j f ≡ inquiry_of epoch t j g
 old-inquiry epoch t j _ _ old (standing stamp k js ds es h) = refl
-old-inquiry epoch t j Undrawn f old (nothing f over) = sym (over_inquiry epoch t j f old over)
+old-inquiry epoch t j _ _ old (nothing f over) = sym (over_inquiry epoch t j f old over)
 
 pub old-ending : (epoch : ℕ) (t : TransId) (f g : Fate) → (t.epoch == epoch) ≡ false → IsLikeOld f g → ending_at epoch t f ≡ ending_at epoch t g
 old-ending epoch t _ _ old (standing stamp k js ds es h) = refl
-old-ending epoch t Undrawn f old (nothing f over) = sym (over_ending epoch t f old over)
+old-ending epoch t _ _ old (nothing f over) = sym (over_ending epoch t f old over)
 
 pub old-counted : (f g : Fate) → IsLikeOld f g → is_counted f ≡ is_counted g
 old-counted _ _ (standing stamp k js ds es h) = refl
-old-counted Undrawn f (nothing f over) = sym (over_counted f over)
+old-counted _ _ (nothing f over) = sym (over_counted f over)
 
 pub old-asks : (t : TransId) (f g : Fate) → IsLikeOld f g → ask_again t f ≡ ask_again t g
 old-asks t _ _ (standing stamp k js ds es h) = refl
-old-asks t Undrawn f (nothing f over) = sym (over_asks t f over)
+old-asks t _ _ (nothing f over) = sym (over_asks t f over)
 
 pub old-commits : (t : TransId) (f g : Fate) → IsLikeOld f g → commit_again t f ≡ commit_again t g
 old-commits t _ _ (standing stamp k js ds es h) = ap (to_each (λ j. msg.Commit t j stamp)) (filter_alike (λ j. not (has_join j ds)) (λ j. not (has_join j es)) (λ j. ap not (h.who j)) (k ∷ js))
-old-commits t Undrawn f (nothing f over) = sym (over_commits t f over)
+old-commits t _ _ (nothing f over) = sym (over_commits t f over)

@@ -134,11 +134,11 @@ latest-max n ts (v ∷ vs) = ap (λ (x : ℕ). latest_vote x vs) (max_turned n t
 
 pub latest-votes : (n : ℕ) (ms : List Member) → latest_of n ms ≡ latest_vote n (votes ms)
 latest-votes n [] = refl
-latest-votes n (m ∷ ms) = go m.said
+latest-votes n (m ∷ ms) = go m.said (λ x. latest-votes x ms)
   where
-    go : (said : Option ℕ) → latest_of (later n said) ms ≡ latest_vote n (vote_in m.join said ++ votes ms)
-    go None = latest-votes n ms
-    go (Some ts) = latest-votes (max n ts) ms
+    go : (said : Option ℕ) → ((x : ℕ) → latest_of x ms ≡ latest_vote x (votes ms)) → latest_of (later n said) ms ≡ latest_vote n (vote_in m.join said ++ votes ms)
+    go None h = h n
+    go (Some ts) h = h (max n ts)
 
 -- with a vote more, by one that has not voted and by one that has
 pub latest-new : (j : JoinNo) (ts n : ℕ) (ms : List Member) → has_said j ms ≡ false → latest_vote n (with_vote j ts (votes ms)) ≡ max (latest_vote n (votes ms)) ts

@@ -37,11 +37,11 @@ never false e i = cc
 
 less_apart : (t : TransId) (ts : List TransId) → AllByRecursion (λ y. trans_cmp t y ≡ Less) ts → has_trans t ts ≡ false
 less_apart t [] h = refl
-less_apart t (u ∷ ts) h = go (same_trans u t) refl
+less_apart t (u ∷ ts) h = go (same_trans u t) refl (less_apart t ts h.1)
   where
-    go : (b : Bool) → same_trans u t ≡ b → (b || has_trans t ts) ≡ false
-    go false e = less_apart t ts h.1
-    go true e =
+    go : (b : Bool) → same_trans u t ≡ b → has_trans t ts ≡ false → (b || has_trans t ts) ≡ false
+    go false e k = k
+    go true e k =
         let itself : is_eq (trans_cmp t t) ≡ true = (eq_by_cmp_equiv transactions_total).refl t in
         let less : trans_cmp t t ≡ Less = subst (λ (v : TransId). trans_cmp t v ≡ Less) (same_trans-true u t e) h.0 in
         let wrong : false ≡ true = sym (ap is_eq less) ∙ itself in
@@ -59,46 +59,59 @@ without t ts = filter (λ u. not (same_trans u t)) ts
 
 without_none : (t : TransId) (ts : List TransId) → has_trans t ts ≡ false → without t ts ≡ ts
 without_none t [] h = refl
-without_none t (u ∷ ts) h = go (same_trans u t) h
+without_none t (u ∷ ts) h = go (same_trans u t) h (without_none t ts)
   where
-    go : (b : Bool) → (b || has_trans t ts) ≡ false → cond {A = List TransId} (not b) (u ∷ without t ts) (without t ts) ≡ u ∷ ts
-    go true i = cc
-    go false i = ap (λ (us : List TransId). u ∷ us) (without_none t ts i)
+    go : (b : Bool) → (b || has_trans t ts) ≡ false → (has_trans t ts ≡ false → without t ts ≡ ts) → cond {A = List TransId} (not b) (u ∷ without t ts) (without t ts) ≡ u ∷ ts
+    go true i k = cc
+    go false i k = ap (λ (us : List TransId). u ∷ us) (k i)
 
 -- whether one is left
 left_other : (t v : TransId) (ts : List TransId) → same_trans t v ≡ false → has_trans v (without t ts) ≡ has_trans v ts
 left_other t v [] away = refl
-left_other t v (u ∷ ts) away = go (same_trans u t) refl
+left_other t v (u ∷ ts) away = go (same_trans u t) refl (left_other t v ts away)
   where
-    go : (b : Bool) → same_trans u t ≡ b → has_trans v (cond {A = List TransId} (not b) (u ∷ without t ts) (without t ts)) ≡ (same_trans u v || has_trans v ts)
-    go false e = ap (λ (b : Bool). same_trans u v || b) (left_other t v ts away)
-    go true e =
+    go : (b : Bool) → same_trans u t ≡ b → has_trans v (without t ts) ≡ has_trans v ts → has_trans v (cond {A = List TransId} (not b) (u ∷ without t ts) (without t ts)) ≡ (same_trans u v || has_trans v ts)
+    go false e k = ap (λ (b : Bool). same_trans u v || b) k
+    go true e k =
         let gone : same_trans u v ≡ false = ap (λ (w : TransId). same_trans w v) (same_trans-true u t e) ∙ away in
-        left_other t v ts away ∙ ap (λ (b : Bool). b || has_trans v ts) (sym gone)
+        k ∙ ap (λ (b : Bool). b || has_trans v ts) (sym gone)
+
+second_false : (a b : Bool) → (a || b) ≡ false → b ≡ false
+second_false true b h = cc
+second_false false b h = h
 
 left_less : (t v : TransId) (ts : List TransId) → has_trans v ts ≡ false → has_trans v (without t ts) ≡ false
 left_less t v [] h = refl
-left_less t v (u ∷ ts) h = go (same_trans u t) (same_trans u v) h
+left_less t v (u ∷ ts) h = go (same_trans u t) (left_less t v ts (second_false (same_trans u v) (has_trans v ts) h))
   where
-    go : (b c : Bool) → (c || has_trans v ts) ≡ false → has_trans v (cond {A = List TransId} (not b) (u ∷ without t ts) (without t ts)) ≡ false
-    go true c i = left_less t v ts (rest c i)
-      where
-        rest : (c : Bool) → (c || has_trans v ts) ≡ false → has_trans v ts ≡ false
-        rest true i = cc
-        rest false i = i
-    go false c i = here (same_trans u v) h
-      where
-        here : (d : Bool) → (d || has_trans v ts) ≡ false → (d || has_trans v (without t ts)) ≡ false
-        here true j = cc
-        here false j = left_less t v ts j
+    here : (d : Bool) → (d || has_trans v ts) ≡ false → has_trans v (without t ts) ≡ false → (d || has_trans v (without t ts)) ≡ false
+    here true j k = cc
+    here false j k = k
+
+    go : (b : Bool) → has_trans v (without t ts) ≡ false → has_trans v (cond {A = List TransId} (not b) (u ∷ without t ts) (without t ts)) ≡ false
+    go true k = k
+    go false k = here (same_trans u v) h k
 
 left_once : (t : TransId) (ts : List TransId) → AreOnce ts → AreOnce (without t ts)
 left_once t [] h = tt
-left_once t (u ∷ ts) h = go (same_trans u t)
+left_once t (u ∷ ts) h = go (same_trans u t) (left_once t ts h.1)
   where
-    go : (b : Bool) → AreOnce (cond {A = List TransId} (not b) (u ∷ without t ts) (without t ts))
-    go true = left_once t ts h.1
-    go false = (left_less t u ts h.0, left_once t ts h.1)
+    go : (b : Bool) → AreOnce (without t ts) → AreOnce (cond {A = List TransId} (not b) (u ∷ without t ts) (without t ts))
+    go true k = k
+    go false k = (left_less t u ts h.0, k)
+
+-- itself it is not
+left_itself : (t : TransId) (ts : List TransId) → has_trans t (without t ts) ≡ false
+left_itself t [] = refl
+left_itself t (u ∷ ts) = go (same_trans u t) refl (left_itself t ts)
+  where
+    go : (b : Bool) → same_trans u t ≡ b → has_trans t (without t ts) ≡ false → has_trans t (cond {A = List TransId} (not b) (u ∷ without t ts) (without t ts)) ≡ false
+    go true e k = k
+    go false e k = ap (λ (b : Bool). b || has_trans t (without t ts)) e ∙ k
+
+later : (a b : Bool) → b ≡ true → (a || b) ≡ true
+later true b h = refl
+later false b h = h
 
 module _ {X : Type 0} (f : TransId → List X) where
   abbrev all : List TransId → List X
@@ -106,17 +119,18 @@ module _ {X : Type 0} (f : TransId → List X) where
 
   taken : (t : TransId) (ts : List TransId) → AreOnce ts → has_trans t ts ≡ true → IsPermutation (all ts) (f t ++ all (without t ts))
   taken t [] once there = cc
-  taken t (u ∷ ts) once there = go (same_trans u t) refl there
+  taken t (u ∷ ts) once there = go (same_trans u t) refl there (taken t ts once.1)
     where
-      go : (b : Bool) → same_trans u t ≡ b → (b || has_trans t ts) ≡ true → IsPermutation (f u ++ all ts) (f t ++ all (cond {A = List TransId} (not b) (u ∷ without t ts) (without t ts)))
-      go true e i =
-          let same : u ≡ t = same_trans-true u t e in
-          let none : has_trans t ts ≡ false = ap (λ (v : TransId). has_trans v ts) (sym same) ∙ once.0 in
-          subst (λ (ys : List X). IsPermutation (f u ++ all ts) ys) (λ k. f (same k) ++ all (without_none t ts none (~ k))) (IsPermutation-refl (f u ++ all ts))
-      go false e i =
-          let rest : IsPermutation (all ts) (f t ++ all (without t ts)) = taken t ts once.1 i in
+      go : (b : Bool) → same_trans u t ≡ b → (b || has_trans t ts) ≡ true → (has_trans t ts ≡ true → IsPermutation (all ts) (f t ++ all (without t ts)))
+          → IsPermutation (f u ++ all ts) (f t ++ all (cond {A = List TransId} (not b) (u ∷ without t ts) (without t ts)))
+      go true e i k =
+          let one : u ≡ t = same_trans-true u t e in
+          let none : has_trans t ts ≡ false = ap (λ (v : TransId). has_trans v ts) (sym one) ∙ once.0 in
+          let alike : f u ++ all ts ≡ f t ++ all (without t ts) = ap (λ (v : TransId). f v ++ all ts) one ∙ ap (λ (us : List TransId). f t ++ all us) (sym (without_none t ts none)) in
+          subst (λ (ys : List X). IsPermutation (f u ++ all ts) ys) alike (IsPermutation-refl (f u ++ all ts))
+      go false e i k =
           IsPermutation-trans (f u ++ all ts) (f u ++ (f t ++ all (without t ts))) (f t ++ (f u ++ all (without t ts)))
-          (IsPermutation-append_right (f u) (all ts) (f t ++ all (without t ts)) rest)
+          (IsPermutation-append_right (f u) (all ts) (f t ++ all (without t ts)) (k i))
           (subst (λ (xs : List X). IsPermutation xs (f t ++ (f u ++ all (without t ts)))) (append_assoc (f u) (f t) (all (without t ts)))
           (subst (λ (ys : List X). IsPermutation ((f u ++ f t) ++ all (without t ts)) ys) (append_assoc (f t) (f u) (all (without t ts)))
           (IsPermutation-append_left (all (without t ts)) (f u ++ f t) (f t ++ f u) (IsPermutation-append_comm (f u) (f t)))))
@@ -124,68 +138,54 @@ module _ {X : Type 0} (f : TransId → List X) where
   none_said : (ts : List TransId) → ((t : TransId) → has_trans t ts ≡ true → f t ≡ []) → all ts ≡ []
   none_said [] none = refl
   none_said (t ∷ ts) none =
-      (λ i. none t (ap (λ (b : Bool). b || has_trans t ts) (same_trans-itself t)) i ++ all ts)
+      ap (λ (xs : List X). xs ++ all ts) (none t (ap (λ (b : Bool). b || has_trans t ts) (same_trans-itself t)))
       ∙ none_said ts (λ u h. none u (later (same_trans t u) (has_trans u ts) h))
-    where
-      later : (a b : Bool) → b ≡ true → (a || b) ≡ true
-      later true b h = refl
-      later false b h = h
 
   -- two lists of ids, each once, that differ only in those of which nothing is said
   pub same_said : (ts os : List TransId) → AreOnce ts → AreOnce os → ((t : TransId) → has_trans t os ≡ true → has_trans t ts ≡ false → f t ≡ []) → ((t : TransId) → has_trans t ts ≡ true → has_trans t os ≡ false → f t ≡ []) → IsPermutation (all ts) (all os)
   same_said [] os once other here there = subst (λ (ys : List X). IsPermutation [] ys) (sym (none_said os (λ t h. here t h refl))) (IsPermutation-refl [])
-  same_said (t ∷ ts) os once other here there = go (has_trans t os) refl
+  same_said (t ∷ ts) os once other here there = go (has_trans t os) refl (same_said ts)
     where
-      later : (a b : Bool) → b ≡ true → (a || b) ≡ true
-      later true b h = refl
-      later false b h = h
-
       apart : (u : TransId) → has_trans u ts ≡ true → same_trans t u ≡ false
-      apart u h = go (same_trans t u) refl
+      apart u h = at (same_trans t u) refl
         where
-          go : (b : Bool) → same_trans t u ≡ b → b ≡ false
-          go false e = refl
-          go true e = never (has_trans t ts) once.0 (ap (λ (v : TransId). has_trans v ts) (same_trans-true t u e) ∙ h)
+          at : (b : Bool) → same_trans t u ≡ b → b ≡ false
+          at false e = refl
+          at true e = never (has_trans t ts) once.0 (ap (λ (v : TransId). has_trans v ts) (same_trans-true t u e) ∙ h)
 
       -- of those left in the other list, none is the first
-      left : (u : TransId) → has_trans u (without t os) ≡ true → (same_trans t u ≡ false) × (has_trans u os ≡ true)
-      left u h = go (same_trans t u) refl
+      left : (u : TransId) → has_trans u (without t os) ≡ true → same_trans t u ≡ false
+      left u h = at (same_trans t u) refl
         where
-          go : (b : Bool) → same_trans t u ≡ b → (b ≡ false) × (has_trans u os ≡ true)
-          go false e = (refl, sym (left_other t u os e) ∙ h)
-          go true e = never (has_trans u (without t os)) (ap (λ (v : TransId). has_trans v (without t os)) (sym (same_trans-true t u e)) ∙ gone os) h
-            where
-              gone : (us : List TransId) → has_trans t (without t us) ≡ false
-              gone [] = refl
-              gone (v ∷ us) = at (same_trans v t) refl
-                where
-                  at : (b : Bool) → same_trans v t ≡ b → has_trans t (cond {A = List TransId} (not b) (v ∷ without t us) (without t us)) ≡ false
-                  at true e = gone us
-                  at false e = ap (λ (b : Bool). b || has_trans t (without t us)) e ∙ gone us
+          at : (b : Bool) → same_trans t u ≡ b → b ≡ false
+          at false e = refl
+          at true e = never (has_trans t (without t os)) (left_itself t os) (ap (λ (v : TransId). has_trans v (without t os)) (same_trans-true t u e) ∙ h)
 
-      go : (b : Bool) → has_trans t os ≡ b → IsPermutation (f t ++ all ts) (all os)
-      go true e =
+      away : (u : TransId) → has_trans u os ≡ true → has_trans t os ≡ false → same_trans t u ≡ false
+      away u h none = at (same_trans t u) refl
+        where
+          at : (b : Bool) → same_trans t u ≡ b → b ≡ false
+          at false e = refl
+          at true e = never (has_trans t os) none (ap (λ (v : TransId). has_trans v os) (same_trans-true t u e) ∙ h)
+
+      go : (b : Bool) → has_trans t os ≡ b
+          → ((xs : List TransId) → AreOnce ts → AreOnce xs → ((v : TransId) → has_trans v xs ≡ true → has_trans v ts ≡ false → f v ≡ []) → ((v : TransId) → has_trans v ts ≡ true → has_trans v xs ≡ false → f v ≡ []) → IsPermutation (all ts) (all xs))
+          → IsPermutation (f t ++ all ts) (all os)
+      go true e more =
           let rest : IsPermutation (all ts) (all (without t os)) =
-          same_said ts (without t os) once.1 (left_once t os other)
-          (λ u h k. here u (left u h).1 (ap (λ (b : Bool). b || has_trans u ts) (left u h).0 ∙ k))
+          more (without t os) once.1 (left_once t os other)
+          (λ u h k. here u (sym (left_other t u os (left u h)) ∙ h) (ap (λ (b : Bool). b || has_trans u ts) (left u h) ∙ k))
           (λ u h k. there u (later (same_trans t u) (has_trans u ts) h) (sym (left_other t u os (apart u h)) ∙ k)) in
           IsPermutation-trans (f t ++ all ts) (f t ++ all (without t os)) (all os)
           (IsPermutation-append_right (f t) (all ts) (all (without t os)) rest)
           (IsPermutation-sym (all os) (f t ++ all (without t os)) (taken t os other e))
-      go false e =
+      go false e more =
           let first : f t ≡ [] = there t (ap (λ (b : Bool). b || has_trans t ts) (same_trans-itself t)) e in
           let rest : IsPermutation (all ts) (all os) =
-          same_said ts os once.1 other
+          more os once.1 other
           (λ u h k. here u h (ap (λ (b : Bool). b || has_trans u ts) (away u h e) ∙ k))
           (λ u h k. there u (later (same_trans t u) (has_trans u ts) h) k) in
           subst (λ (xs : List X). IsPermutation (xs ++ all ts) (all os)) (sym first) rest
-        where
-          away : (u : TransId) → has_trans u os ≡ true → has_trans t os ≡ false → same_trans t u ≡ false
-          away u h none = at (same_trans t u) refl
-            where
-              at : (b : Bool) → same_trans t u ≡ b → b ≡ false
-              at false i = refl
-              at true i = never (has_trans t os) none (ap (λ (v : TransId). has_trans v os) (same_trans-true t u i) ∙ h)
 
 -- ---- of a coordinator
 
@@ -206,11 +206,15 @@ closed_fate s t h = ap (fate_by s t) (closed s t h) ∙ none_by s t
 
 filtered : {X : Type 0} (p : X → Bool) (xs : List X) → filter p xs ≡ flat_map (λ x. cond {A = List X} (p x) (x ∷ []) []) xs
 filtered p [] = refl
-filtered {X} p (x ∷ xs) = go (p x)
+filtered {X} p (x ∷ xs) = go (p x) (filtered p xs)
   where
-    go : (b : Bool) → cond {A = List X} b (x ∷ filter p xs) (filter p xs) ≡ cond {A = List X} b (x ∷ []) [] ++ flat_map (λ y. cond {A = List X} (p y) (y ∷ []) []) xs
-    go true = ap (λ (ys : List X). x ∷ ys) (filtered p xs)
-    go false = filtered p xs
+    go : (b : Bool) → filter p xs ≡ flat_map (λ y. cond {A = List X} (p y) (y ∷ []) []) xs → cond {A = List X} b (x ∷ filter p xs) (filter p xs) ≡ cond {A = List X} b (x ∷ []) [] ++ flat_map (λ y. cond {A = List X} (p y) (y ∷ []) []) xs
+    go true h = ap (λ (ys : List X). x ∷ ys) h
+    go false h = h
+
+-- itself, if it counts
+abbrev one_counted : Coordinator → TransId → List TransId
+one_counted s t = cond {A = List TransId} (is_counted (fate_in s t)) (t ∷ []) []
 
 pub says_all : (s : Coordinator) (ts : List TransId) → IsStrictlySortedBy trans_cmp (open_ids s) → AreAll s ts → SaysAll s ts
 says_all s ts rising a = record {
@@ -218,14 +222,11 @@ says_all s ts rising a = record {
   commits = same_said (λ t. commit_again t (fate_in s t)) ts (open_ids s) a.once once (λ t h k. ap (commit_again t) (a.all t k)) (λ t h k. ap (commit_again t) (closed_fate s t k) ∙ settled_commits t (settled_in s t));
   counted =
       ap (λ (us : List TransId). length us) (filtered (λ t. is_counted (fate_in s t)) ts)
-      ∙ sym (length_permutation (flat_map one ts) (flat_map one (open_ids s))
-      (same_said one ts (open_ids s) a.once once (λ t h k. ap (λ (f : Fate). cond {A = List TransId} (is_counted f) (t ∷ []) []) (a.all t k))
+      ∙ sym (length_permutation (flat_map (one_counted s) ts) (flat_map (one_counted s) (open_ids s))
+      (same_said (one_counted s) ts (open_ids s) a.once once (λ t h k. ap (λ (f : Fate). cond {A = List TransId} (is_counted f) (t ∷ []) []) (a.all t k))
       (λ t h k. ap (λ (b : Bool). cond {A = List TransId} b (t ∷ []) []) (ap is_counted (closed_fate s t k) ∙ settled_counts t (settled_in s t)))))
       ∙ sym (ap (λ (us : List TransId). length us) (filtered (λ t. is_counted (fate_in s t)) (open_ids s)));
 }
   where
     once : AreOnce (open_ids s)
     once = rising_once (open_ids s) rising
-
-    one : TransId → List TransId
-    one t = cond {A = List TransId} (is_counted (fate_in s t)) (t ∷ []) []

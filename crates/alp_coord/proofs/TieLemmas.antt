@@ -122,8 +122,8 @@ ready-mail s m t j ts least w (Ended e) = refl
 -- ---- what is known of a transaction stays so
 
 like-trans : (f g h : Fate) → IsLike f g → IsLike g h → IsLike f h
-like-trans f f h (same f) k = k
-like-trans f g g h (same g) = h
+like-trans f g h (same x) k = k
+like-trans f g h l (same x) = l
 like-trans _ _ _ (finishing client js vs ws h) (finishing _ _ _ xs k) = finishing client js vs xs (record { who = λ j. h.who j ∙ k.who j; latest = λ n. h.latest n ∙ k.latest n })
 like-trans _ _ _ (committed stamp js ds es h) (committed _ _ _ fs k) = committed stamp js ds fs (record { who = λ j. h.who j ∙ k.who j })
 
@@ -182,7 +182,7 @@ over_registration other j client (Ended e) over = refl
 
 old_registration : (other : Bool) (j : JoinNo) (client : ℕ) (f g : Fate) → IsLikeOld f g → registration_of other j client f ≡ registration_of other j client g
 old_registration other j client _ _ (standing stamp k js ds es h) = refl
-old_registration other j client Undrawn f (nothing f over) = sym (over_registration other j client f over)
+old_registration other j client _ _ (nothing f over) = sym (over_registration other j client f over)
 
 pub known-registration : (epoch : ℕ) (t : TransId) (other : Bool) (j : JoinNo) (client : ℕ) (known fate : Fate) → IsFateOf epoch t known fate → registration_of other j client known ≡ registration_of other j client fate
 known-registration epoch t other j client known fate h = go (t.epoch == epoch) h
@@ -201,7 +201,7 @@ over_ballot j ts least (Ended e) over = refl
 
 old_ballot : (j : JoinNo) (ts least : ℕ) (f g : Fate) → IsLikeOld f g → ballot_of j ts least f ≡ ballot_of j ts least g
 old_ballot j ts least _ _ (standing stamp k js ds es h) = refl
-old_ballot j ts least Undrawn f (nothing f over) = sym (over_ballot j ts least f over)
+old_ballot j ts least _ _ (nothing f over) = sym (over_ballot j ts least f over)
 
 pub known-ballot : (epoch : ℕ) (t : TransId) (j : JoinNo) (ts least : ℕ) (known fate : Fate) → IsFateOf epoch t known fate → ballot_of j ts least known ≡ ballot_of j ts least fate
 known-ballot epoch t j ts least known fate h = go (t.epoch == epoch) h
@@ -213,7 +213,7 @@ known-ballot epoch t j ts least known fate h = go (t.epoch == epoch) h
 -- ---- and stays so by each deed
 
 like_old : (f g h : Fate) → IsLike f g → IsLikeOld g h → IsLikeOld f h
-like_old f f h (same f) k = k
+like_old f g h (same x) k = k
 like_old _ _ _ (committed stamp _ ds _ h) (standing _ j js es fs k) = standing stamp j js ds fs (record { who = λ x. h.who x ∙ k.who x })
 
 old_if : (b : Bool) (f g x y : Fate) → IsLikeOld f g → IsLikeOld x y → IsLikeOld (cond {A = Fate} b f x) (cond {A = Fate} b g y)
@@ -284,19 +284,19 @@ old-after (Begins u c who seen) t f g plain h = cc
 old-after (Forgets u) t f g plain h = cc
 old-after (Restarts epoch clock) t f g plain h = cc
 old-after (Registers u j) t _ _ plain (standing stamp k js ds es h) = stays u t stamp k js ds es h
-old-after (Registers u j) t Undrawn f plain (nothing f over) = rests u t (registered j f) f (over_registered j f over) over
+old-after (Registers u j) t _ _ plain (nothing f over) = rests u t (registered j f) f (over_registered j f over) over
 old-after (Finishes u) t _ _ plain (standing stamp k js ds es h) = stays u t stamp k js ds es h
-old-after (Finishes u) t Undrawn f plain (nothing f over) = rests u t (finishes f) f (over_finishing f over) over
+old-after (Finishes u) t _ _ plain (nothing f over) = rests u t (finishes f) f (over_finishing f over) over
 old-after (Hears u j ts) t _ _ plain (standing stamp k js ds es h) = stays u t stamp k js ds es h
-old-after (Hears u j ts) t Undrawn f plain (nothing f over) = rests u t (heard j ts f) f (over_heard j ts f over) over
+old-after (Hears u j ts) t _ _ plain (nothing f over) = rests u t (heard j ts f) f (over_heard j ts f over) over
 old-after (Decides x ks) t _ _ plain (standing stamp k js ds es h) = stays x.trans t stamp k js ds es h
-old-after (Decides x ks) t Undrawn f plain (nothing f over) = rests x.trans t (decided x ks f) f (over_decided x ks f over) over
+old-after (Decides x ks) t _ _ plain (nothing f over) = rests x.trans t (decided x ks f) f (over_decided x ks f over) over
 old-after (Ends u c e) t _ _ plain (standing stamp k js ds es h) = stays u t stamp k js ds es h
-old-after (Ends u c e) t Undrawn f plain (nothing f over) = rests u t (ended e f) f (over_ended e f over) over
+old-after (Ends u c e) t _ _ plain (nothing f over) = rests u t (ended e f) f (over_ended e f over) over
 old-after (Acknowledges u j) t _ _ plain (standing stamp k js ds es h) =
     old_if (same_trans u t) (Committed stamp (k ∷ js) (j ∷ ds)) (Committed stamp (k ∷ js) (j ∷ es)) (Committed stamp (k ∷ js) ds) (Committed stamp (k ∷ js) es)
     (standing stamp k js (j ∷ ds) (j ∷ es) (record { who = λ x. ap (λ (b : Bool). same_join j x || b) (h.who x) })) (standing stamp k js ds es h)
-old-after (Acknowledges u j) t Undrawn f plain (nothing f over) = rests u t (acknowledged j f) f (over_acknowledged j f over) over
+old-after (Acknowledges u j) t _ _ plain (nothing f over) = rests u t (acknowledged j f) f (over_acknowledged j f over) over
 old-after (Joins j u c who) t f g plain h = h
 old-after (Enters j u c who) t f g plain h = h
 old-after (Quits j u c e) t f g plain h = h
@@ -330,7 +330,7 @@ forgotten_now (Ended e) fate applied h = cc
 forgotten_old : (known fate : Fate) → is_applied known ≡ true → IsLikeOld known fate → IsLikeOld (forgotten_as false known) (journal.forgotten fate)
 forgotten_old _ _ applied (standing stamp j js ds es h) =
     subst (λ (b : Bool). IsLikeOld Undrawn (cond {A = Fate} b (Forgotten stamp (j ∷ js)) (Committed stamp (j ∷ js) es))) (sym applied ∙ all_done_alike (j ∷ js) ds es h) (nothing (Forgotten stamp (j ∷ js)) refl)
-forgotten_old Undrawn f applied (nothing f over) = cc
+forgotten_old _ _ applied (nothing f over) = cc
 
 pub known-forgotten : (epoch : ℕ) (u t : TransId) (known fate : Fate) → (same_trans u t ≡ true → is_applied known ≡ true) → IsFateOf epoch t known fate
     → IsFateOf epoch t (cond {A = Fate} (same_trans u t) (forgotten_fate (t.epoch == epoch) known) known) (fate_after (Forgets u) t fate)

@@ -38,23 +38,22 @@ pub again-is : (server servers : ℕ) (f : JoinNo → Message) (p : JoinNo → B
     → again_to server servers f all ms ≡ list_map enveloped (to_run server servers (to_each f (filter (λ j. not (p j)) (joins ms))))
 again-is server servers f p all same [] = refl
 again-is server servers f p all same (m ∷ ms) =
-    go (has_said m.join all) ∙ ap (λ (b : Bool). list_map enveloped (to_run server servers (to_each f (cond {A = List JoinNo} (not b) (m.join ∷ rest) rest)))) (sym (same m.join))
+    go (has_said m.join all) (again-is server servers f p all same ms) ∙ ap (λ (b : Bool). list_map enveloped (to_run server servers (to_each f (cond {A = List JoinNo} (not b) (m.join ∷ rest) rest)))) (sym (same m.join))
   where
     rest : List JoinNo
     rest = filter (λ j. not (p j)) (joins ms)
 
-    ih : again_to server servers f all ms ≡ list_map enveloped (to_run server servers (to_each f rest))
-    ih = again-is server servers f p all same ms
-
-    here : (o : Bool) → cond {A = List Envelope} o ((record { to = m.join.server; message = f m.join }) ∷ again_to server servers f all ms) (again_to server servers f all ms)
+    here : (o : Bool) → again_to server servers f all ms ≡ list_map enveloped (to_run server servers (to_each f rest))
+        → cond {A = List Envelope} o ((record { to = m.join.server; message = f m.join }) ∷ again_to server servers f all ms) (again_to server servers f all ms)
         ≡ list_map enveloped (cond {A = List Mail} o ((m.join.server, f m.join) ∷ to_run server servers (to_each f rest)) (to_run server servers (to_each f rest)))
-    here true = ap (λ (es : List Envelope). (record { to = m.join.server; message = f m.join }) ∷ es) ih
-    here false = ih
+    here true h = ap (λ (es : List Envelope). (record { to = m.join.server; message = f m.join }) ∷ es) h
+    here false h = h
 
-    go : (b : Bool) → cond {A = List Envelope} (not b && is_other server servers m.join.server) ((record { to = m.join.server; message = f m.join }) ∷ again_to server servers f all ms) (again_to server servers f all ms)
+    go : (b : Bool) → again_to server servers f all ms ≡ list_map enveloped (to_run server servers (to_each f rest))
+        → cond {A = List Envelope} (not b && is_other server servers m.join.server) ((record { to = m.join.server; message = f m.join }) ∷ again_to server servers f all ms) (again_to server servers f all ms)
         ≡ list_map enveloped (to_run server servers (to_each f (cond {A = List JoinNo} (not b) (m.join ∷ rest) rest)))
-    go true = ih
-    go false = here (is_other server servers m.join.server)
+    go true h = h
+    go false h = here (is_other server servers m.join.server) h
 
 finishing_is : (x : Stage) → is_finishing_stage x ≡ true → x ≡ stage.Finishing
 finishing_is stage.Running h = cc
@@ -124,12 +123,13 @@ nothing-more server servers es ms none = sym (append-nil es) ∙ ap (λ (x : Lis
 
 pub envelopes-append : (server servers : ℕ) (xs ys : List Mail) → list_map enveloped (to_run server servers (xs ++ ys)) ≡ list_map enveloped (to_run server servers xs) ++ list_map enveloped (to_run server servers ys)
 envelopes-append server servers [] ys = refl
-envelopes-append server servers (x ∷ xs) ys = go (is_other server servers x.0)
+envelopes-append server servers (x ∷ xs) ys = go (is_other server servers x.0) (envelopes-append server servers xs ys)
   where
-    go : (b : Bool) → list_map enveloped (cond {A = List Mail} b (x ∷ to_run server servers (xs ++ ys)) (to_run server servers (xs ++ ys)))
+    go : (b : Bool) → list_map enveloped (to_run server servers (xs ++ ys)) ≡ list_map enveloped (to_run server servers xs) ++ list_map enveloped (to_run server servers ys)
+        → list_map enveloped (cond {A = List Mail} b (x ∷ to_run server servers (xs ++ ys)) (to_run server servers (xs ++ ys)))
         ≡ list_map enveloped (cond {A = List Mail} b (x ∷ to_run server servers xs) (to_run server servers xs)) ++ list_map enveloped (to_run server servers ys)
-    go true = ap (λ (es : List Envelope). enveloped x ∷ es) (envelopes-append server servers xs ys)
-    go false = envelopes-append server servers xs ys
+    go true h = ap (λ (es : List Envelope). enveloped x ∷ es) h
+    go false h = h
 
 pub envelopes-all : (server servers : ℕ) (f : TransId → List Mail) (ts : List TransId) → flat_map (λ t. list_map enveloped (to_run server servers (f t))) ts ≡ list_map enveloped (to_run server servers (flat_map f ts))
 envelopes-all server servers f [] = refl
