@@ -1,5 +1,5 @@
 -- what decisions that were found come to
-use Rattle.std.specs.Prelude.{cond, Bool, true, false, ◌==◌, ◌&&◌, nat_lt, Option, None, Some, slice_get, map as list_map}
+use Rattle.std.specs.Prelude.{cond, Bool, true, false, ◌==◌, ◌&&◌, nat_lt, Option, None, Some, is_some, slice_get, map as list_map}
 use Rattle.std.specs.FinMap as map
 use Rattle.std.specs.FinMap.{get-empty}
 use Rattle.std.proofs.Common.{◌≡◌, ℕ, ◌-◌, List, [], ◌∷◌, length, refl, sym, ◌∙◌, ap, subst}
@@ -98,3 +98,18 @@ found_known s ds is courses t = go (t.epoch == s.epoch)
     go false =
         ap (λ (x : Option Settled). fate_known t (if_standing (map.get s.courses t)) x) (none_settled s t is)
         ∙ ap (λ (o : Option Course). fate_known t (if_standing o) None) there ∙ decisions_known ds t
+
+-- one decision is noted, or was before
+pub noted_before : (d : Decision) (m : CourseMap) → is_some (map.get m d.stamp.trans) ≡ true → m ≡ with_noted d m (map.get m d.stamp.trans)
+noted_before d m h = go (map.get m d.stamp.trans) h
+  where
+    go : (x : Option Course) → is_some x ≡ true → m ≡ with_noted d m x
+    go None i = cc
+    go (Some c) i = refl
+
+pub noted_now : (d : Decision) (m : CourseMap) → is_some (map.get m d.stamp.trans) ≡ false → map.insert m d.stamp.trans (noted_course d) ≡ with_noted d m (map.get m d.stamp.trans)
+noted_now d m h = go (map.get m d.stamp.trans) h
+  where
+    go : (x : Option Course) → is_some x ≡ false → map.insert m d.stamp.trans (noted_course d) ≡ with_noted d m x
+    go None i = refl
+    go (Some c) i = cc

@@ -274,11 +274,12 @@ fn note(alloc: Global, courses: &mut Courses, decision: &Decision) -> Result<(),
     ensures { OnOk result (courses.new ≡ with_noted decision.now courses.old (map.get courses.old decision.now.stamp.trans)) }
 {
     let trans = decision.stamp.trans;
-    if courses.get(&trans).is_some() {
+    if courses.has(&trans) {
         return Ok(());
     }
     let course = course_of(alloc, decision)?;
-    courses.add(trans, course)
+    courses.add(trans, course)?;
+    Ok(())
 }
 
 fn course_of(alloc: Global, decision: &Decision) -> Result<Course, OutOfMemory>

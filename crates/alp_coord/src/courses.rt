@@ -1,5 +1,5 @@
 //! Transactions that are not settled.
-ghost use Rattle.std.specs.Prelude.{◌≡◌, IfOk, OnOk, OnErr};
+ghost use Rattle.std.specs.Prelude.{◌≡◌, is_some, IfOk, OnOk, OnErr};
 ghost use Rattle.std.specs.FinMap as map;
 ghost use Rattle.std.specs.Option.{option_copied as copied};
 ghost use Rattle.std.specs.BTreeMap.{keys, IsOrdered};
@@ -46,6 +46,13 @@ impl Courses {
         ensures { copied result ≡ map.get self.now trans.now }
     {
         self.courses.get(trans)
+    }
+
+    /// Whether the transaction is here.
+    pub fn has(&self, trans: &TransId) -> bool
+        ensures { result ≡ is_some (map.get self.now trans.now) }
+    {
+        self.courses.contains_key(trans)
     }
 
     /// This is the transaction's course from now on.
