@@ -7,3 +7,4 @@ pub mod WordLemmas
 pub mod LikeLemmas
 pub mod TieLemmas
 pub mod TickLemmas
+pub mod WriteLemmas

@@ -72,7 +72,8 @@ impl Courses {
         let Some(course) = self.courses.get_mut(trans) else {
             return Ok(());
         };
-        course.members.add(join)
+        course.members.add(join)?;
+        Ok(())
     }
 
     /// The transaction comes to that stage, if it is here, at which its parts have said nothing so far. Takes no memory.
