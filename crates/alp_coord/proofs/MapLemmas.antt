@@ -101,6 +101,20 @@ module _ {X : Type 0} where
   at_before (x ∷ xs) y zero away = refl
   at_before (x ∷ xs) y (suc i) away = at_before xs y i (λ e. away (ap suc e))
 
+-- the last of some
+pub record IsSplit {X : Type 0} (xs : List X) : Type 0 where
+  pub before : List X
+  pub last : X
+  pub is : xs ≡ before ++ last ∷ []
+  pub count : length before ≡ length xs - 1
+
+pub split_last : {X : Type 0} (xs : List X) → 0 < length xs → IsSplit xs
+split_last [] h = absurd (omega (arith, h))
+split_last {X} (x ∷ []) h = record { before = []; last = x; is = refl; count = refl }
+split_last {X} (x ∷ y ∷ ys) h =
+    let r = split_last (y ∷ ys) (omega arith) in
+    record { before = x ∷ r.before; last = r.last; is = ap (λ (zs : List X). x ∷ zs) r.is; count = omega (arith, r.count) }
+
 -- two ids of one server and epoch are told apart by their counters
 pub apart : (t u : TransId) → t.server ≡ u.server → t.epoch ≡ u.epoch → same_trans t u ≡ false → u.counter ≡ t.counter → ⊥
 apart t u server epoch away same =

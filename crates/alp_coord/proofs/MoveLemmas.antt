@@ -470,6 +470,28 @@ told_keeps s t j n x a none u =
     cond_itself true f = refl
     cond_itself false f = refl
 
+-- a decision that all have applied, as it is forgotten
+pub record IsForgetting (s : Coordinator) (t : TransId) (ts : ℕ) : Type 0 where
+  pub there : IsAt s t (stage.Decided ts)
+  pub applied : is_applied (fate_in s t) ≡ true
+
+pub forgetting : (s : Coordinator) (t : TransId) (ts : ℕ) → applied_time (fate_in s t) ≡ Some ts → IsForgetting s t ts
+forgetting s t ts h = record { there = applied_at s t ts h; applied = told_applied (fate_in s t) ts h }
+
+-- its course stands in the map
+pub forgetting_course : (s : Coordinator) (t : TransId) (ts : ℕ) (f : IsForgetting s t ts) → map.get s.courses t ≡ Some f.there.course
+forgetting_course s t ts f = (course_shows s t f.there.course f.there.stands).1
+
+pub forgetting_open : (s : Coordinator) (t : TransId) (ts : ℕ) → IsForgetting s t ts → (t.epoch == s.epoch) ≡ true → settled_in s t ≡ Some settled.Open
+forgetting_open s t ts f at = decided_open s t f.there.course f.there.stands at
+
+pub forgetting_now : (s : Coordinator) (t : TransId) (ts : ℕ) (f : IsForgetting s t ts) (c : Course) → (t.epoch == s.epoch) ≡ true → map.get s.courses t ≡ Some c → (k : Coordinator) → k ≡ settle_in s t (settled.Forgotten ts c.members)
+    → (u : TransId) → fate_in k u ≡ cond {A = Fate} (same_trans t u) (forgotten_fate (u.epoch == s.epoch) (fate_in s u)) (fate_in s u)
+forgetting_now s t ts f c at is k same_ u =
+    let one : c ≡ f.there.course = (let both : Some c ≡ Some f.there.course = sym is ∙ forgetting_course s t ts f in cc) in
+    forgotten_applied s t u (fate_in k u) true f.applied at
+    (ap (λ (x : Coordinator). fate_in x u) (same_ ∙ ap (λ (d : Course). settle_in s t (settled.Forgotten ts d.members)) one) ∙ forget_fates s t ts f.there (forgetting_open s t ts f at) u)
+
 -- a decision that is found and applied goes
 pub gone_forgotten : (s : Coordinator) (t : TransId) → (t.epoch == s.epoch) ≡ false → (u : TransId) → fate_in (record s { courses = map.remove s.courses t }) u ≡ cond {A = Fate} (same_trans t u) (forgotten_as false (fate_in s u)) (fate_in s u)
 gone_forgotten s t old u = gone_fates s t old u ∙ go (same_trans t u)
@@ -604,3 +626,8 @@ let_in s t j client servers h = known (is_known s t) h
     known : (b : Bool) → cond {A = Registration} b (registration_of other j client (fate_in s t)) registration.Silence ≡ registration.Registered → IsLetIn s t j
     known true i = go (course_in s t) refl i
     known false i = cc
+
+pub forgetting_old : (s : Coordinator) (t : TransId) (ts : ℕ) (f : IsForgetting s t ts) → (t.epoch == s.epoch) ≡ false → (m : CourseMap) → m ≡ map.remove s.courses t
+    → (u : TransId) → fate_in (record s { courses = m }) u ≡ cond {A = Fate} (same_trans t u) (forgotten_fate (u.epoch == s.epoch) (fate_in s u)) (fate_in s u)
+forgetting_old s t ts f at m is u =
+    forgotten_applied s t u (fate_in (record s { courses = m }) u) false f.applied at (ap (λ (x : CourseMap). fate_in (record s { courses = x }) u) is ∙ gone_forgotten s t at u)

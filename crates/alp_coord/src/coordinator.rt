@@ -1,5 +1,5 @@
 //! The transactions of a server.
-ghost use Rattle.std.specs.Prelude.{◌≡◌, ◌==◌, ◌&&◌, ◌+◌, ◌-◌, ◌^◌, ◌<◌, Some, IfOk, OnOk, OnErr, if◌then◌else◌, ℕ, List, map as list_map};
+ghost use Rattle.std.specs.Prelude.{◌≡◌, ◌==◌, ◌&&◌, ◌∷◌, ◌++◌, [], ◌+◌, ◌-◌, ◌^◌, ◌<◌, Some, IfOk, OnOk, OnErr, if◌then◌else◌, ℕ, List, map as list_map};
 ghost use Rattle.std.specs.Option.{option_copied as copied};
 ghost use Rattle.std.specs.FinMap as map;
 ghost use Rattle.alp_base.specs.declared.ids.TransId.{TransId as ATransId};
@@ -39,12 +39,14 @@ impl Coordinator {
         ensures run { IsOf server epoch 0 result }
         ensures none { (t : ATransId) → fate_in result t ≡ Undrawn }
     {
+        let begun = Begun::new(alloc);
+        let courses = Courses::new(alloc);
         Coordinator {
             alloc,
             server,
             epoch,
-            begun: Begun::new(alloc),
-            courses: Courses::new(alloc),
+            begun,
+            courses,
         }
     }
 
@@ -60,11 +62,12 @@ impl Coordinator {
         ensures found { IfOk result (Finds (list_map noted decisions.now)) }
     {
         let courses = courses_of(alloc, decisions)?;
+        let begun = Begun::new(alloc);
         Ok(Coordinator {
             alloc,
             server,
             epoch,
-            begun: Begun::new(alloc),
+            begun,
             courses,
         })
     }
@@ -92,19 +95,26 @@ impl Coordinator {
             epoch: self.epoch,
             counter: count as u32 + 1,
         };
-        self.begun.push(Settled::Open)?;
         let course = Course {
             client,
             stage: Stage::Running,
             members: Members::new(self.alloc),
         };
-        match self.courses.add(trans, course) {
-            Ok(()) => Ok(trans),
-            Err(_) => {
-                self.begun.pop();
-                Err(OutOfMemory)
-            }
+        self.enter(trans, course)?;
+        Ok(trans)
+    }
+
+    // One more that is not settled, with its course.
+    fn enter(&mut self, trans: TransId, course: Course) -> Result<(), OutOfMemory>
+        ensures ok { OnOk result (self.new ≡ record self.old { begun = self.old.begun ++ settled.Open ∷ []; courses = map.insert self.old.courses trans course }) }
+        ensures err { OnErr result (self.new ≡ self.old) }
+    {
+        self.begun.push(Settled::Open)?;
+        if self.courses.add(trans, course).is_err() {
+            self.begun.pop();
+            return Err(OutOfMemory);
         }
+        Ok(())
     }
 
     /// Takes the last begin back.
@@ -114,10 +124,11 @@ impl Coordinator {
         ensures run { IsOf (server_of self.old) (epoch_of self.old) (count_of self.old - 1) self.new }
         ensures taken { (t : ATransId) → fate_in self.new t ≡ (if same_trans (last_id self.old) t then Undrawn else fate_in self.old t) }
     {
+        let count = self.begun.len();
         let trans = TransId {
             server: self.server,
             epoch: self.epoch,
-            counter: self.begun.len() as u32,
+            counter: count as u32,
         };
         self.begun.pop();
         let _ = self.courses.remove(&trans);

@@ -1,5 +1,5 @@
 //! What is said of transactions, and said again.
-ghost use Rattle.std.specs.Prelude.{◌≡◌, ◌++◌, ◌&&◌, not, Some, None, OnOk, IfOk, if◌then◌else◌, map as list_map};
+ghost use Rattle.std.specs.Prelude.{◌≡◌, ◌++◌, ◌&&◌, not, Some, None, OnOk, IfOk, if◌then◌else◌, length, filter, flat_map, map as list_map};
 ghost use Rattle.std.specs.List.Sorted.{IsStrictlySortedBy};
 ghost use Rattle.alp_base.specs.Orders.{trans_cmp};
 ghost use Rattle.alp_files.specs.declared.refusal.Cause.TheVariants as cause;
@@ -75,7 +75,19 @@ impl Coordinator {
         ensures rising { OnOk result (IsStrictlySortedBy trans_cmp (open_ids self.now)) }
     {
         let ids = self.courses.ids(self.alloc)?;
-        for trans in ids.as_slice() {
+        self.ask_all(ids.as_slice(), servers, out)?;
+        Ok(())
+    }
+
+    fn ask_all(
+        &self,
+        ids: &[TransId],
+        servers: u8,
+        out: &mut Vec<Envelope>,
+    ) -> Result<(), OutOfMemory>
+        ensures { OnOk result (out.new.items ≡ out.old.items ++ flat_map (λ t. list_map enveloped (to_run (server_of self.now) servers (ask_again t (fate_in self.now t)))) ids.now) }
+    {
+        for trans in ids {
             self.ask_again(trans, servers, out)?;
         }
         Ok(())
@@ -105,7 +117,19 @@ impl Coordinator {
         ensures rising { OnOk result (IsStrictlySortedBy trans_cmp (open_ids self.now)) }
     {
         let ids = self.courses.ids(self.alloc)?;
-        for trans in ids.as_slice() {
+        self.commit_all(ids.as_slice(), servers, out)?;
+        Ok(())
+    }
+
+    fn commit_all(
+        &self,
+        ids: &[TransId],
+        servers: u8,
+        out: &mut Vec<Envelope>,
+    ) -> Result<(), OutOfMemory>
+        ensures { OnOk result (out.new.items ≡ out.old.items ++ flat_map (λ t. list_map enveloped (to_run (server_of self.now) servers (commit_again t (fate_in self.now t)))) ids.now) }
+    {
+        for trans in ids {
             self.commit_again(trans, servers, out)?;
         }
         Ok(())
@@ -136,13 +160,19 @@ impl Coordinator {
         ensures { IfOk result (λ n. n ≡ counted_of self.now) }
     {
         let ids = self.courses.ids(self.alloc)?;
+        Ok(self.count_all(ids.as_slice()))
+    }
+
+    fn count_all(&self, ids: &[TransId]) -> usize
+        ensures { result ≡ length (filter (λ t. is_counted (fate_in self.now t)) ids.now) }
+    {
         let mut count = 0usize;
-        for trans in ids.as_slice() {
+        for trans in ids {
             if self.counts(trans) {
                 count += 1;
             }
         }
-        Ok(count)
+        count
     }
 
     fn counts(&self, trans: &TransId) -> bool

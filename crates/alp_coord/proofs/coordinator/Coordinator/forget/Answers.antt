@@ -6,22 +6,35 @@ use Rattle.alp_base.specs.declared.ids.TransId.{TransId}
 use Rattle.alp_coord.specs.declared.course.Course.{Course}
 use Rattle.alp_coord.specs.declared.begun.Settled.{Settled}
 use Rattle.alp_coord.specs.declared.coordinator.Coordinator.{Coordinator}
+use Rattle.std.proofs.Common.{length}
 use Rattle.alp_coord.specs.declared.begun.Settled.TheVariants as settled
-use Rattle.alp_coord.specs.declared.course.Stage.TheVariants as stage
 use Rattle.alp_coord.specs.Coordinators.{fate_in, settle_in}
 use Rattle.alp_coord.proofs.MapLemmas.{length_set}
-use Rattle.alp_coord.proofs.FateLemmas.{settled_placed, course_shows}
-use Rattle.alp_coord.proofs.MoveLemmas.{applied_at, told_applied, none_applied, not_applied, forgotten_applied, gone_forgotten, decided_open, forget_fates}
+use Rattle.alp_coord.proofs.FateLemmas.{settled_placed}
+use Rattle.alp_coord.proofs.MoveLemmas.{none_applied, not_applied, forgetting, forgetting_course, forgetting_open, forgetting_now, forgetting_old}
 use Rattle.alp_coord.proofs.coordinator.Coordinator.forget.Goals as goal
 
 pub returns-in_default-clause-forgotten : goal.returns-in_default-clause-forgotten
 returns-in_default-clause-forgotten c = not_applied c.args.self.now c.args.trans.now (none_applied (fate_in c.args.self.now c.args.trans.now) (sym c.applied.ensures ∙ c.in_default.is))
 
 pub returns-then-not-is_now-clause-forgotten : goal.returns-then-not-is_now-clause-forgotten
-returns-then-not-is_now-clause-forgotten c u = ?
+returns-then-not-is_now-clause-forgotten c =
+    let k = c.args.self.now in
+    let t = c.args.trans.now in
+    let f = forgetting k t c.in-Some.ts (sym c.applied.ensures ∙ c.in-Some.is) in
+    forgetting_old k t c.in-Some.ts f (sym c.is_now.ensures ∙ c.if-not-is_now.true) c.remove.new.self c.remove.ensures.after
 
 pub returns-in_default-2-clause-forgotten : goal.returns-in_default-2-clause-forgotten
 returns-in_default-2-clause-forgotten c u = ?
 
+pub settle-requires-clause-some : goal.settle-requires-clause-some
+settle-requires-clause-some c = ?
+
+pub settle-requires-clause-begun : goal.settle-requires-clause-begun
+settle-requires-clause-begun c = ?
+
+pub returns-clause-along : goal.returns-clause-along
+returns-clause-along c = ?
+
 pub returns-clause-forgotten : goal.returns-clause-forgotten
-returns-clause-forgotten c u = ?
+returns-clause-forgotten c = ?
