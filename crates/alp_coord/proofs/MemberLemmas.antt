@@ -1,5 +1,5 @@
 -- what parts have said, as a coordinator keeps it and as a journal tells it
-use Rattle.std.specs.Prelude.{cond, Bool, true, false, not, ◌==◌, ◌&&◌, ◌||◌, max, nat_lt, Option, None, Some, is_some, map as list_map}
+use Rattle.std.specs.Prelude.{cond, Bool, true, false, not, ◌==◌, ◌&&◌, ◌||◌, max, nat_lt, slice_set, Option, None, Some, is_some, map as list_map}
 use Rattle.std.specs.List.{list_any, list_all, position, position_or_len}
 use Rattle.std.proofs.lemmas.Bool.{ltb-true, ltb-false}
 use Rattle.std.proofs.Common.{◌≡◌, ℕ, zero, suc, ◌+◌, ◌<◌, ◌≤◌, List, [], ◌∷◌, ◌++◌, length, take, drop, set, get_or, refl, sym, ◌∙◌, ap, subst, arith}
@@ -257,20 +257,17 @@ saying-nowhere j ts (m ∷ ms) none =
     let parts = or_parts (same_join m.join j) (takes_part j ms) none in
     ap (λ (b : Bool). cond {A = List Member} b (record m { said = Some ts } ∷ ms) (m ∷ saying j ts ms)) parts.0 ∙ ap (λ (ns : List Member). m ∷ ns) (saying-nowhere j ts ms parts.1)
 
-pub saying-at : (j : JoinNo) (ts : ℕ) (ms : List Member) (d : Member) → position_or_len (λ (m : Member). same_join m.join j) ms < length ms
-    → saying j ts ms ≡ set ms (position_or_len (λ (m : Member). same_join m.join j) ms) (record { join = (get_or ms (position_or_len (λ (m : Member). same_join m.join j) ms) d).join; said = Some ts })
-saying-at j ts [] d within = absurd (omega (arith, within))
-saying-at j ts (m ∷ ms) d within = go (same_join m.join j) within (saying-at j ts ms d)
+pub saying-at : (j : JoinNo) (ts : ℕ) (ms : List Member) → position_or_len (λ (m : Member). same_join m.join j) ms < length ms → saying j ts ms ≡ slice_set ms (position_or_len (λ (m : Member). same_join m.join j) ms) (record { join = j; said = Some ts })
+saying-at j ts [] within = absurd (omega (arith, within))
+saying-at j ts (m ∷ ms) within = go (same_join m.join j) refl within (saying-at j ts ms)
   where
     at : ℕ
     at = position_or_len (λ (n : Member). same_join n.join j) ms
 
-    go : (b : Bool) → cond (not b) (1 + at) 0 < suc (length ms)
-        → (at < length ms → saying j ts ms ≡ set ms at (record { join = (get_or ms at d).join; said = Some ts }))
-        → cond {A = List Member} b (record m { said = Some ts } ∷ ms) (m ∷ saying j ts ms)
-        ≡ set (m ∷ ms) (cond (not b) (1 + at) 0) (record { join = (get_or (m ∷ ms) (cond (not b) (1 + at) 0) d).join; said = Some ts })
-    go true low h = refl
-    go false low h = ap (λ (ns : List Member). m ∷ ns) (h (omega (arith, low)))
+    go : (b : Bool) → same_join m.join j ≡ b → cond {A = ℕ} (not b) (1 + at) 0 < suc (length ms) → (at < length ms → saying j ts ms ≡ slice_set ms at (record { join = j; said = Some ts }))
+        → cond {A = List Member} b (record m { said = Some ts } ∷ ms) (m ∷ saying j ts ms) ≡ slice_set (m ∷ ms) (cond {A = ℕ} (not b) (1 + at) 0) (record { join = j; said = Some ts })
+    go true e low h = λ i. (record { join = same_join-true m.join j e i; said = Some ts }) ∷ ms
+    go false e low h = ap (λ (ns : List Member). m ∷ ns) (h (omega (arith, low)))
 
 -- where none stands, none takes part
 pub nowhere-none : (j : JoinNo) (ms : List Member) → length ms ≤ position_or_len (λ (m : Member). same_join m.join j) ms → takes_part j ms ≡ false
@@ -280,7 +277,7 @@ nowhere-none j (m ∷ ms) high = go (same_join m.join j) high (nowhere-none j ms
     at : ℕ
     at = position_or_len (λ (n : Member). same_join n.join j) ms
 
-    go : (b : Bool) → suc (length ms) ≤ cond (not b) (1 + at) 0 → (length ms ≤ at → takes_part j ms ≡ false) → (b || takes_part j ms) ≡ false
+    go : (b : Bool) → suc (length ms) ≤ cond {A = ℕ} (not b) (1 + at) 0 → (length ms ≤ at → takes_part j ms ≡ false) → (b || takes_part j ms) ≡ false
     go true low h = absurd (omega (arith, low))
     go false low h = h (omega (arith, low))
 

@@ -67,10 +67,7 @@ impl Members {
     pub fn hear(&mut self, join: &JoinNo, time: u64)
         ensures { self.new ≡ having_said join.now time self.old }
     {
-        if has_said(self.members.as_slice(), join) {
-            return;
-        }
-        say(self.members.as_mut_slice(), join, time);
+        hear(self.members.as_mut_slice(), join, time);
     }
 
     /// From now on none has said anything.
@@ -94,15 +91,23 @@ fn silent_members(alloc: Global, joins: &[JoinNo]) -> Result<Vec<Member>, OutOfM
     Ok(members)
 }
 
+fn hear(members: &mut [Member], join: &JoinNo, time: u64)
+    ensures { members.new ≡ having_said join.now time members.old }
+{
+    if has_said(members, join) {
+        return;
+    }
+    say(members, join, time);
+}
+
 fn say(members: &mut [Member], join: &JoinNo, time: u64)
     ensures { members.new ≡ saying join.now time members.old }
 {
     let Some(place) = place_of(members, join) else {
         return;
     };
-    let join = members[place].join;
     members[place] = Member {
-        join,
+        join: *join,
         said: Some(time),
     };
 }
