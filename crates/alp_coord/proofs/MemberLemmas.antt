@@ -1,7 +1,7 @@
 -- what parts have said, as a coordinator keeps it and as a journal tells it
 use Rattle.std.specs.Prelude.{cond, Bool, true, false, not, ◌==◌, ◌&&◌, ◌||◌, max, nat_lt, slice_set, Option, None, Some, is_some, map as list_map}
 use Rattle.std.specs.List.{list_any, list_all, position, position_or_len}
-use Rattle.std.proofs.lemmas.Bool.{ltb-true, ltb-false}
+use Rattle.std.proofs.lemmas.Bool.{eqb-true, ltb-true, ltb-false}
 use Rattle.std.proofs.Common.{◌≡◌, ℕ, zero, suc, ◌+◌, ◌<◌, ◌≤◌, List, [], ◌∷◌, ◌++◌, length, take, drop, set, get_or, refl, sym, ◌∙◌, ap, subst, arith}
 use Rattle.std.proofs.lemmas.List.Folds.{list_any-append}
 use Rattle.alp_base.specs.declared.ids.JoinNo.{JoinNo}
@@ -267,7 +267,9 @@ saying-at j ts (m ∷ ms) within = go (same_join m.join j) refl within (saying-a
     go : (b : Bool) → same_join m.join j ≡ b → cond {A = ℕ} (not b) (1 + at) 0 < suc (length ms) → (at < length ms → saying j ts ms ≡ slice_set ms at (record { join = j; said = Some ts }))
         → cond {A = List Member} b (record m { said = Some ts } ∷ ms) (m ∷ saying j ts ms) ≡ slice_set (m ∷ ms) (cond {A = ℕ} (not b) (1 + at) 0) (record { join = j; said = Some ts })
     go true e low h = λ i. (record { join = same_join-true m.join j e i; said = Some ts }) ∷ ms
-    go false e low h = ap (λ (ns : List Member). m ∷ ns) (h (omega (arith, low)))
+    go false e low h =
+        let one : suc at ≡ 1 + at = omega arith in
+        subst (λ (n : ℕ). m ∷ saying j ts ms ≡ slice_set (m ∷ ms) n (record { join = j; said = Some ts })) one (ap (λ (ns : List Member). m ∷ ns) (h (omega (arith, low))))
 
 -- where none stands, none takes part
 pub nowhere-none : (j : JoinNo) (ms : List Member) → length ms ≤ position_or_len (λ (m : Member). same_join m.join j) ms → takes_part j ms ≡ false
@@ -298,11 +300,18 @@ place_none p ms is = go (nat_lt (position_or_len p ms) (length ms)) refl is
 
 pub none-length : (ms : List Member) → (length ms == 0) ≡ are_none ms
 none-length [] = refl
-none-length (m ∷ ms) = refl
+none-length (m ∷ ms) = go (length (m ∷ ms) == 0) refl
+  where
+    go : (b : Bool) → (length (m ∷ ms) == 0) ≡ b → b ≡ false
+    go true e = (let none : length (m ∷ ms) ≡ 0 = eqb-true (length (m ∷ ms)) 0 e in absurd (omega (arith, none)))
+    go false e = refl
 
 -- ---- all are hushed, one by one
 
 pub hushed-step : (ms : List Member) (i : ℕ) (d : Member) → i < length ms → set (hushed (take i ms) ++ drop i ms) i (record { join = (get_or (hushed (take i ms) ++ drop i ms) i d).join; said = None }) ≡ hushed (take (i + 1) ms) ++ drop (i + 1) ms
 hushed-step [] i d low = absurd (omega (arith, low))
 hushed-step (m ∷ ms) zero d low = refl
-hushed-step (m ∷ ms) (suc i) d low = ap (λ (ns : List Member). silent m.join ∷ ns) (hushed-step ms i d (omega (arith, low)))
+hushed-step (m ∷ ms) (suc i) d low =
+    let one : suc (i + 1) ≡ suc i + 1 = omega arith in
+    subst (λ (n : ℕ). set (hushed (take (suc i) (m ∷ ms)) ++ drop (suc i) (m ∷ ms)) (suc i) (record { join = (get_or (hushed (take (suc i) (m ∷ ms)) ++ drop (suc i) (m ∷ ms)) (suc i) d).join; said = None }) ≡ hushed (take n (m ∷ ms)) ++ drop n (m ∷ ms)) one
+    (ap (λ (ns : List Member). silent m.join ∷ ns) (hushed-step ms i d (omega (arith, low))))

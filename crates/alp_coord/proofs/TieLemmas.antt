@@ -214,6 +214,7 @@ known-ballot epoch t j ts least known fate h = go (t.epoch == epoch) h
 
 like_old : (f g h : Fate) → IsLike f g → IsLikeOld g h → IsLikeOld f h
 like_old f g h (same x) k = k
+like_old _ _ h (finishing client js vs ws _) k = elim k [ ]
 like_old _ _ _ (committed stamp _ ds _ h) (standing _ j js es fs k) = standing stamp j js ds fs (record { who = λ x. h.who x ∙ k.who x })
 
 old_if : (b : Bool) (f g x y : Fate) → IsLikeOld f g → IsLikeOld x y → IsLikeOld (cond {A = Fate} b f x) (cond {A = Fate} b g y)

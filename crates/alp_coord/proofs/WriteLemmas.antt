@@ -1,5 +1,5 @@
 -- what a tree of courses is after one was written in place
-use Rattle.std.specs.Prelude.{cond, Bool, true, false, Option, None, Some, IsSome, is_some}
+use Rattle.std.specs.Prelude.{cond, Bool, true, false, Option, None, Some, IsSome, is_some, Result, Ok, Err, OnErr}
 use Rattle.std.specs.FinMap as map
 use Rattle.std.specs.FinMap.{same_map}
 use Rattle.std.specs.BTreeMap.{is_at}
@@ -48,3 +48,8 @@ missing es m t f view none = sym (ap (put_changed f m t) (stands es m t None vie
 
 pub some_is : {A : Type 0} (o : Option A) (x : A) → o ≡ Some x → IsSome o
 some_is o x is = ap is_some is
+
+-- at the exit with an error
+pub on_err : {T E P : Type 0} (r : Result T E) → P → OnErr r P
+on_err (Ok x) p = tt
+on_err (Err e) p = p

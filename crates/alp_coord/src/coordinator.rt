@@ -229,12 +229,12 @@ impl Coordinator {
     }
 
     // It is settled from now on. Takes no memory.
-    pub(crate) fn settle(&mut self, trans: &TransId, settled: Settled)
+    pub(crate) fn settle(&mut self, trans: &TransId, end: Settled)
         requires { settled_in self.old trans.now ≡ Some settled.Open }
-        ensures { self.new ≡ settle_in self.old trans.now settled }
+        ensures { self.new ≡ settle_in self.old trans.now end }
     {
         let _ = self.courses.remove(trans);
-        self.begun.settle(trans.counter, settled);
+        self.begun.settle(trans.counter, end);
     }
 }
 

@@ -11,7 +11,6 @@ mod decision;
 mod laws;
 mod members;
 mod moves;
-mod scratch;
 #[cfg(test)]
 mod tests;
 mod words;

@@ -9,8 +9,9 @@ use Rattle.alp_coord.specs.declared.coordinator.Coordinator.{Coordinator}
 use Rattle.alp_journal.specs.declared.message.Envelope.{Envelope}
 use Rattle.alp_journal.specs.declared.message.Message.TheVariants as msg
 use Rattle.alp_journal.specs.Messages.{commit_again}
+use Rattle.std.proofs.lemmas.Result.{on_ok_weaker}
 use Rattle.alp_coord.specs.declared.members.Member.{Member}
-use Rattle.alp_coord.specs.Coordinators.{fate_in, again_to}
+use Rattle.alp_coord.specs.Coordinators.{course_in, fate_in, again_to}
 use Rattle.alp_coord.proofs.WordLemmas.{commits-decided, none-commits, other-commits, nothing-more}
 use Rattle.alp_coord.proofs.coordinator.Coordinator.commit_again.Goals as goal
 
@@ -20,12 +21,20 @@ returns-in_default c =
     let t = c.args.trans.now in
     nothing-more s.server c.args.servers c.args.out.now.items (commit_again t (fate_in s t)) (none-commits s t (sym c.course.ensures ∙ ap option_copied c.in_default.is))
 
-pub returns-in_default-2 : goal.returns-in_default-2
-returns-in_default-2 c =
+pub returns-in_default-time : goal.returns-in_default-time
+returns-in_default-time c =
     let s = c.args.self.now in
     let t = c.args.trans.now in
     nothing-more s.server c.args.servers c.args.out.now.items (commit_again t (fate_in s t))
-    (other-commits s t c.in-Some.course.now (sym c.course.ensures ∙ ap option_copied c.in-Some.is) (sym c.time.ensures ∙ c.in_default-2.is))
+    (other-commits s t c.in-Some.course.now (sym c.course.ensures ∙ ap option_copied c.in-Some.is) (sym c.time.ensures ∙ c.in_default-time.is))
 
 pub returns : goal.returns
-returns c = ?
+returns c =
+    let s = c.args.self.now in
+    let t = c.args.trans.now in
+    let d = c.in-Some.course.now in
+    let is : course_in s t ≡ Some d = sym c.course.ensures ∙ ap option_copied c.in-Some.is in
+    on_ok_weaker c.tell_members.result
+    (λ e. e ∙ ap (λ (es : List Envelope). c.args.out.now.items ++ es)
+    (ap (λ (ms : List Member). again_to s.server c.args.servers (λ j. msg.Commit t j (record { ts = c.in-Some-time.ts; trans = t })) ms ms) c.as_slice-members.ensures ∙ commits-decided s t d c.in-Some-time.ts s.server c.args.servers is (sym c.time.ensures ∙ c.in-Some-time.is)))
+    c.tell_members.ensures

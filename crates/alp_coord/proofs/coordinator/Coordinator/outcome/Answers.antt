@@ -25,16 +25,16 @@ returns-in_default c =
     ap (λ (e : Ending). Some e) (c.outcome_settled.ensures ∙ sym (ap (ending_at s.epoch t) (fate_none s t (sym c.course.ensures ∙ ap option_copied c.in_default.is))))
     ∙ sym (ap (λ (b : Bool). cond {A = Option Ending} b (Some (ending_at s.epoch t (fate_in s t))) None) (sym c.is_known.ensures ∙ c.if-not-is_known.false))
 
-pub returns-in_default-2 : goal.returns-in_default-2
-returns-in_default-2 c =
+pub returns-in_default-time : goal.returns-in_default-time
+returns-in_default-time c =
     let s = c.args.self.now in
     let t = c.args.trans.now in
-    ap (λ (e : Ending). Some e) (sym (ending-running s t c.in-Some.course.now (sym c.course.ensures ∙ ap option_copied c.in-Some.is) (sym c.time.ensures ∙ c.in_default-2.is)))
+    ap (λ (e : Ending). Some e) (sym (ending-running s t c.in-Some.course.now (sym c.course.ensures ∙ ap option_copied c.in-Some.is) (sym c.time.ensures ∙ c.in_default-time.is)))
     ∙ sym (ap (λ (b : Bool). cond {A = Option Ending} b (Some (ending_at s.epoch t (fate_in s t))) None) (sym c.is_known.ensures ∙ c.if-not-is_known.false))
 
 pub returns : goal.returns
 returns c =
     let s = c.args.self.now in
     let t = c.args.trans.now in
-    ap (λ (e : Ending). Some e) (c.committed.ensures ∙ sym (ending-decided s t c.in-Some.course.now c.in-Some-2.ts (sym c.course.ensures ∙ ap option_copied c.in-Some.is) (sym c.time.ensures ∙ c.in-Some-2.is)))
+    ap (λ (e : Ending). Some e) (c.committed.ensures ∙ sym (ending-decided s t c.in-Some.course.now c.in-Some-time.ts (sym c.course.ensures ∙ ap option_copied c.in-Some.is) (sym c.time.ensures ∙ c.in-Some-time.is)))
     ∙ sym (ap (λ (b : Bool). cond {A = Option Ending} b (Some (ending_at s.epoch t (fate_in s t))) None) (sym c.is_known.ensures ∙ c.if-not-is_known.false))
