@@ -1,7 +1,7 @@
 use Rattle.std.specs.Prelude.{cond, Bool, true, false, ◌==◌, ◌&&◌, Option, None, Some}
 use Rattle.std.specs.Option.{option_copied}
 use Rattle.std.specs.FinMap as map
-use Rattle.std.proofs.Common.{◌≡◌, ℕ, List, [], ◌∷◌, ◌++◌, refl, ap, sym, subst, ◌∙◌}
+use Rattle.std.proofs.Common.{◌≡◌, ℕ, ◌-◌, List, [], ◌∷◌, ◌++◌, refl, ap, sym, subst, ◌∙◌}
 use Rattle.alp_base.specs.declared.ids.TransId.{TransId}
 use Rattle.alp_coord.specs.declared.course.Course.{Course}
 use Rattle.alp_coord.specs.declared.begun.Settled.{Settled}
@@ -37,7 +37,7 @@ pub returns-then-are_none-clause-along : goal.returns-then-are_none-clause-along
 returns-then-are_none-clause-along c =
     let s = c.args.self.now in
     let t = c.args.trans.now in
-    subst (λ (k : Coordinator). IsAlong s k) (sym c.settle.ensures) (record { server_same = refl; epoch_same = refl; count_same = length_set s.begun _ _ })
+    subst (λ (k : Coordinator). IsAlong s k) (sym c.settle.ensures) (record { server_same = refl; epoch_same = refl; count_same = length_set s.begun (t.counter - 1) (settled.Committed c.args.ts) })
 
 pub returns-clause-decided : goal.returns-clause-decided
 returns-clause-decided c =

@@ -1,12 +1,13 @@
 use Rattle.std.specs.Prelude.{cond, Bool, true, false, ◌==◌, ◌&&◌, Option, None, Some}
 use Rattle.std.specs.Option.{option_copied}
 use Rattle.std.specs.FinMap as map
-use Rattle.std.proofs.Common.{◌≡◌, ℕ, List, [], ◌∷◌, ◌++◌, refl, ap, sym, subst, ◌∙◌}
+use Rattle.std.proofs.Common.{◌≡◌, ℕ, ◌-◌, List, [], ◌∷◌, ◌++◌, refl, ap, sym, subst, ◌∙◌}
 use Rattle.alp_base.specs.declared.ids.TransId.{TransId}
 use Rattle.alp_coord.specs.declared.course.Course.{Course}
 use Rattle.alp_coord.specs.declared.begun.Settled.{Settled}
 use Rattle.alp_coord.specs.declared.coordinator.Coordinator.{Coordinator}
 use Rattle.alp_journal.specs.Deeds.{Ends}
+use Rattle.alp_coord.specs.declared.begun.Settled.TheVariants as settled
 use Rattle.alp_coord.specs.Coordinators.{Comes, IsAlong}
 use Rattle.alp_coord.proofs.MapLemmas.{length_set}
 use Rattle.alp_coord.proofs.MoveLemmas.{early_at, end_open, end_fates, end_still}
@@ -25,7 +26,8 @@ returns-then-not-is_early-clause-ended c client = end_still c.args.self.now c.ar
 pub returns-clause-along : goal.returns-clause-along
 returns-clause-along c =
     let s = c.args.self.now in
-    subst (λ (k : Coordinator). IsAlong s k) (sym c.settle.ensures) (record { server_same = refl; epoch_same = refl; count_same = length_set s.begun _ _ })
+    let t = c.args.trans.now in
+    subst (λ (k : Coordinator). IsAlong s k) (sym c.settle.ensures) (record { server_same = refl; epoch_same = refl; count_same = length_set s.begun (t.counter - 1) (settled.Ended c.args.cause) })
 
 pub returns-clause-ended : goal.returns-clause-ended
 returns-clause-ended c client =
