@@ -35,6 +35,6 @@ returns c =
     let d = c.in-Some.course.now in
     let is : course_in s t ≡ Some d = sym c.course.ensures ∙ ap option_copied c.in-Some.is in
     on_ok_weaker c.ask_members.result
-    (λ e. e ∙ ap (λ (es : List Envelope). c.args.out.now.items ++ es)
+    (λ (e : c.ask_members.new.out.items ≡ c.args.out.now.items ++ again_to s.server c.args.servers (msg.Ask t) c.as_slice-members.result.now c.as_slice-members.result.now). e ∙ ap (λ (es : List Envelope). c.args.out.now.items ++ es)
     (ap (λ (ms : List Member). again_to s.server c.args.servers (msg.Ask t) ms ms) c.as_slice-members.ensures ∙ asks-finishing s t d s.server c.args.servers is (sym c.is_finishing.ensures ∙ c.if-not-is_finishing.false)))
     c.ask_members.ensures

@@ -35,6 +35,6 @@ returns c =
     let d = c.in-Some.course.now in
     let is : course_in s t ≡ Some d = sym c.course.ensures ∙ ap option_copied c.in-Some.is in
     on_ok_weaker c.tell_members.result
-    (λ e. e ∙ ap (λ (es : List Envelope). c.args.out.now.items ++ es)
+    (λ (e : c.tell_members.new.out.items ≡ c.args.out.now.items ++ again_to s.server c.args.servers (λ j. msg.Commit t j (record { ts = c.in-Some-time.ts; trans = t })) c.as_slice-members.result.now c.as_slice-members.result.now). e ∙ ap (λ (es : List Envelope). c.args.out.now.items ++ es)
     (ap (λ (ms : List Member). again_to s.server c.args.servers (λ j. msg.Commit t j (record { ts = c.in-Some-time.ts; trans = t })) ms ms) c.as_slice-members.ensures ∙ commits-decided s t d c.in-Some-time.ts s.server c.args.servers is (sym c.time.ensures ∙ c.in-Some-time.is)))
     c.tell_members.ensures
