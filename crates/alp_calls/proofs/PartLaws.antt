@@ -24,9 +24,9 @@ use Rattle.alp_base.specs.declared.ids.FileId.{FileId}
 use Rattle.alp_base.specs.declared.key.Key.{Key}
 use Rattle.alp_base.specs.declared.key.Key.TheVariants.{Leader}
 use Rattle.alp_base.specs.declared.lists.TheConstants.{PAGES_PER_FILE}
-use Rattle.alp_files.specs.declared.cell.Cell.{Cell}
-use Rattle.alp_files.specs.declared.cell.Cell.TheVariants as cell
-use Rattle.alp_files.specs.declared.cell.Props.{Props}
+use Rattle.alp_base.specs.declared.cell.Cell.{Cell}
+use Rattle.alp_base.specs.declared.cell.Cell.TheVariants as cell
+use Rattle.alp_base.specs.declared.cell.Props.{Props}
 use Rattle.alp_files.specs.declared.refusal.Refusal.{Refusal}
 use Rattle.alp_files.specs.Cells.{Cells, View}
 use Rattle.alp_files.specs.Changes.{edits_of, ArePutOnce}

@@ -2,7 +2,7 @@
 use Rattle.std.specs.Prelude.{ℕ, List}
 use Rattle.alp_fields.specs.Forms.{Form, pair, mapped, u16, u32, u64}
 use Rattle.alp_fields.specs.Fields.{name, list}
-use Rattle.alp_files.specs.declared.cell.Props.{Props}
+use Rattle.alp_base.specs.declared.cell.Props.{Props}
 
 -- type, create time, length in bytes, size and high-water mark
 abbrev pub Numbers : Type 0

@@ -3,9 +3,8 @@ ghost use Rattle.std.specs.Prelude.{◌≡◌, OnOk, OnErr, IfOk, option_map};
 ghost use Rattle.alp_fields.specs.Forms.{IsForm, IsRead, IsWritten, Extends};
 ghost use Rattle.alp_forms.specs.PropsField.{numbers, numbers_of, props};
 
-use alp_base::OutOfMemory;
+use alp_base::{OutOfMemory, Props};
 use alp_fields::{FieldReader, put_list, put_name, put_u16, put_u32, put_u64};
-use alp_files::Props;
 use std::alloc::Global;
 
 #[tactic(auto, unfolding(crate::specs::PropsField::numbers))]

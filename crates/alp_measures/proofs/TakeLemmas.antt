@@ -5,7 +5,7 @@ use Rattle.alp_base.specs.Notes.{Notes}
 use Rattle.alp_base.specs.declared.bytes.NoteChange.{NoteChange}
 use Rattle.alp_base.specs.declared.faults.Sizes.{Sizes}
 use Rattle.alp_fields.specs.ClockNote.{IsClockNote}
-use Rattle.alp_files.specs.declared.change.Change.{Change}
+use Rattle.alp_base.specs.declared.change.Change.{Change}
 use Rattle.alp_files.specs.Changes.{ArePutOnce}
 use Rattle.alp_vault.specs.Volumes.{IsCommit, AreServerNotes, AreNoteChanges, changed_cells, fit_keys}
 use Rattle.alp_vault.proofs.VolumeLemmas.{changed_notes, log_room}

@@ -17,8 +17,8 @@ use Rattle.alp_fields.specs.ClockNote.{clock_name, clock_form, clock_in, clock_k
 use Rattle.alp_fields.specs.declared.clock_note.ClockNote.{ClockNote}
 use Rattle.alp_fields.proofs.ClockLemmas.{clock_within}
 use Rattle.alp_node.proofs.ClockLaws.{clock_epoch, not_last}
-use Rattle.alp_files.specs.declared.cell.Cell.{Cell}
-use Rattle.alp_files.specs.declared.cell.Cell.TheVariants as cell
+use Rattle.alp_base.specs.declared.cell.Cell.{Cell}
+use Rattle.alp_base.specs.declared.cell.Cell.TheVariants as cell
 use Rattle.alp_files.specs.Locks.{page_limit}
 use Rattle.alp_files.specs.Cells.{Cells}
 use Rattle.alp_files.specs.Edits.{edits_map}

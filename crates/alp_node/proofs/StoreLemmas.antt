@@ -7,7 +7,7 @@ use Rattle.alp_base.specs.declared.bytes.NoteChange.{NoteChange}
 use Rattle.alp_base.specs.Notes.{Notes, noted, notes_after}
 use Rattle.alp_fields.specs.ClockNote.{clock_name, clock_form, clock_in, clock_kept, IsClockNote, IsClockAtMost}
 use Rattle.alp_fields.specs.declared.clock_note.ClockNote.{ClockNote}
-use Rattle.alp_files.specs.declared.change.Change.{Change}
+use Rattle.alp_base.specs.declared.change.Change.{Change}
 use Rattle.alp_files.specs.Needs.{Intents}
 use Rattle.alp_files.proofs.UndoLemmas.{on_ok}
 use Rattle.alp_trans.specs.Parts.{change_of}

@@ -7,7 +7,7 @@ use Rattle.alp_base.specs.declared.key.Key.TheVariants.{Leader}
 use Rattle.alp_fields.specs.Forms.{whole}
 use Rattle.alp_fields.specs.ClockNote.{clock_name, clock_form, clock_kept}
 use Rattle.alp_fields.specs.declared.clock_note.ClockNote.{ClockNote}
-use Rattle.alp_files.specs.declared.cell.Cell.{Cell}
+use Rattle.alp_base.specs.declared.cell.Cell.{Cell}
 use Rattle.alp_vault.specs.Contents.{Contents}
 use Rattle.alp_base.specs.Faults.{HasFaultCause, IsOfVolume}
 use Rattle.alp_vault.specs.Volumes.{AreServerNotes}

@@ -16,9 +16,8 @@ ghost use Rattle.alp_vault.specs.Vault.{IsSameVault};
 ghost use Rattle.alp_trans.specs.Parts.{change_of};
 ghost use Rattle.alp_vault.specs.Volumes.{IsCommit, IsVolumeOf, AreServerNotes};
 
-use alp_base::{NoteChange, OutOfMemory, VaultFault};
+use alp_base::{Change, NoteChange, OutOfMemory, VaultFault};
 use alp_fields::{ClockNote, clock_change};
-use alp_files::Change;
 use alp_trans::Part;
 use alp_vault::Vault;
 use std::alloc::{AllocError, AllocFailed, Global};

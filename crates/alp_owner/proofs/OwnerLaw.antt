@@ -10,7 +10,7 @@ use Rattle.alp_fields.proofs.FormLaws.{pair_law, mapped_law, zeros_behind_law, w
 use Rattle.alp_fields.proofs.FieldLaws.{u32_law}
 use Rattle.alp_fields.proofs.FixedLaws.{named_field_law, list_field_law, u32_length, named_field_length, list_field_length}
 use Rattle.alp_fields.proofs.PlaceLemmas.{set_pair, set_mapped, set_zeros_behind}
-use Rattle.alp_files.specs.declared.cell.OwnerRecord.{OwnerRecord}
+use Rattle.alp_base.specs.declared.cell.OwnerRecord.{OwnerRecord}
 use Rattle.alp_owner.specs.declared.form.TheConstants.{OWNER_BYTES}
 use Rattle.alp_owner.specs.Owner.{owner_of, parts_of, owner_fields, owner_fields_bytes, owner_record, unused_record}
 

@@ -3,7 +3,7 @@ use Rattle.std.specs.Prelude.{ℕ, ◌+◌, ◌-◌, List, replicate}
 use Rattle.alp_fields.specs.Forms.{Form, pair, mapped, zeros_behind, u32}
 use Rattle.alp_fields.specs.Fields.{named_field, name_field_bytes, list_field, list_field_bytes}
 use Rattle.alp_fields.specs.declared.rows.TheConstants.{U32_BYTES}
-use Rattle.alp_files.specs.declared.cell.OwnerRecord.{OwnerRecord}
+use Rattle.alp_base.specs.declared.cell.OwnerRecord.{OwnerRecord}
 use Rattle.alp_owner.specs.declared.form.TheConstants.{OWNER_BYTES}
 
 -- name, quota, charge, and who may create files

@@ -1,15 +1,14 @@
 //! An owner's record in 256 bytes: its fields one behind the other, and zeros to the end.
 ghost use Rattle.std.specs.Prelude.{◌≡◌, IfOk, IfSome, Some, None, length};
 ghost use Rattle.alp_fields.specs.Forms.{IsForm, HasLength, IsRead, IsSet, whole};
-ghost use Rattle.alp_files.specs.declared.cell.OwnerRecord.{OwnerRecord as Owner};
+ghost use Rattle.alp_base.specs.declared.cell.OwnerRecord.{OwnerRecord as Owner};
 ghost use Rattle.alp_owner.specs.Owner.{owner_fields, owner_record, unused_record};
 
-use alp_base::OutOfMemory;
+use alp_base::{OutOfMemory, OwnerRecord};
 use alp_fields::{
     FieldReader, LIST_FIELD_BYTES, NAME_FIELD_BYTES, U32_BYTES, set_list_field, set_named_field,
     set_u32, set_zeros,
 };
-use alp_files::OwnerRecord;
 use std::alloc::Global;
 
 /// The bytes of an owner's record.

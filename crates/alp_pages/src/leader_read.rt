@@ -6,9 +6,8 @@ ghost use Rattle.alp_pages.specs.Leader.{head, sized_numbers, tail, leader_field
 
 use crate::leader_form::UNUSED_BYTES;
 use crate::{INDEX_PLACES, Leader, Places};
-use alp_base::{AccessList, FileId, Name, OutOfMemory, PAGES_PER_FILE, Page};
+use alp_base::{AccessList, FileId, Name, OutOfMemory, PAGES_PER_FILE, Page, Props};
 use alp_fields::FieldReader;
-use alp_files::Props;
 use std::alloc::Global;
 
 #[tactic(auto, unfolding(crate::specs::Leader::head))]

@@ -1,6 +1,6 @@
 -- Replies on the wire: the tag of each, and its fields in order.
 use Rattle.std.specs.Prelude.{ℕ, ◌<◌, ◌≤◌, ◌^◌, List, [], ◌∷◌, length}
-use Rattle.alp_files.specs.declared.cell.OwnerRecord.{OwnerRecord}
+use Rattle.alp_base.specs.declared.cell.OwnerRecord.{OwnerRecord}
 use Rattle.alp_files.specs.declared.reply.Ended.{Ended as Ending}
 use Rattle.alp_files.specs.declared.reply.Ended.TheVariants.{Committed as CommittedAt}
 use Rattle.alp_files.specs.declared.reply.Reply.{Reply}

@@ -6,9 +6,9 @@ ghost use Rattle.alp_forms.specs.Variants.{AreFieldsRead};
 ghost use Rattle.alp_rpc.specs.Endings.{ended};
 ghost use Rattle.alp_rpc.specs.Replies.{owner_field, created, reply};
 
-use alp_base::OutOfMemory;
+use alp_base::{OutOfMemory, OwnerRecord};
 use alp_fields::FieldReader;
-use alp_files::{Ended, HeldProps, OwnerRecord, Reply};
+use alp_files::{Ended, HeldProps, Reply};
 use alp_forms::{read_props as read_props_field, read_refusal};
 use std::alloc::Global;
 

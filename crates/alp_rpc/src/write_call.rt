@@ -8,13 +8,13 @@ ghost use Rattle.alp_rpc.specs.Calls.{is_run_mode, run_mode, filled_run, open_fo
 
 use crate::write_change::put_change;
 use alp_base::{
-    Access, AccessList, Choice, FileId, Name, OutOfMemory, PageList, Run, Stamp, TransId,
+    Access, AccessList, Choice, FileId, Name, OutOfMemory, PageList, Props, Run, Stamp, TransId,
 };
 use alp_fields::{
     put_access, put_choice, put_file_id, put_flag, put_list, put_name, put_pages, put_run,
     put_stamp, put_trans_id, put_u8, put_u32,
 };
-use alp_files::{Call, PropChange, Props};
+use alp_files::{Call, PropChange};
 use alp_forms::{put_mode, put_props};
 use alp_modes::Mode;
 

@@ -11,7 +11,7 @@ use Rattle.alp_base.specs.declared.faults.VaultFault.TheVariants.{OutOfMemory, D
 use Rattle.alp_base.specs.declared.ids.FileId.{FileId}
 use Rattle.alp_base.specs.declared.key.Key.TheVariants.{Leader}
 use Rattle.alp_fields.specs.ClockNote.{clock_kept}
-use Rattle.alp_files.specs.declared.cell.Cell.{Cell}
+use Rattle.alp_base.specs.declared.cell.Cell.{Cell}
 use Rattle.alp_batch.specs.declared.batch.Batch.{Batch}
 use Rattle.alp_disk.specs.Disk.{Image, page}
 use Rattle.alp_disk.specs.declared.disk.Disk.{Ghosts}

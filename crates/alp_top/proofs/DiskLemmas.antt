@@ -16,7 +16,7 @@ use Rattle.alp_base.specs.declared.faults.VaultFault.TheVariants as vault_fault
 use Rattle.alp_base.specs.Pages.{zero_page}
 use Rattle.alp_base.specs.declared.key.Key.TheVariants.{Leader}
 use Rattle.alp_files.specs.Cells.{same_name}
-use Rattle.alp_files.specs.declared.cell.Cell.{Cell}
+use Rattle.alp_base.specs.declared.cell.Cell.{Cell}
 use Rattle.alp_files.proofs.CellMapLemmas.{get_cell}
 use Rattle.alp_files.proofs.SameLemmas.{same_name-true, same_name-false}
 use Rattle.alp_anchor.specs.Anchor.{Counts}

@@ -24,9 +24,9 @@ use Rattle.alp_fields.specs.declared.clock_note.ClockNote.{ClockNote}
 use Rattle.alp_fields.proofs.FormLaws.{pair_law, mapped_law, checked_law, whole_back, whole_spelled}
 use Rattle.alp_fields.proofs.FieldLaws.{u32_law, u64_law}
 use Rattle.alp_fields.proofs.FixedLaws.{u32_length, u64_length}
-use Rattle.alp_files.specs.declared.cell.Cell.{Cell}
-use Rattle.alp_files.specs.declared.cell.Cell.TheVariants as cell
-use Rattle.alp_files.specs.declared.change.Change.{Change}
+use Rattle.alp_base.specs.declared.cell.Cell.{Cell}
+use Rattle.alp_base.specs.declared.cell.Cell.TheVariants as cell
+use Rattle.alp_base.specs.declared.change.Change.{Change}
 use Rattle.alp_files.specs.Cells.{Cells, same_name}
 use Rattle.alp_files.specs.Counts.{name_at, owner_names_of}
 use Rattle.alp_files.proofs.SameLemmas.{same_name-true, same_name-itself}

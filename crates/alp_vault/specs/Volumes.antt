@@ -12,14 +12,14 @@ use Rattle.alp_base.specs.declared.key.Key.TheVariants.{Leader, PageOf, OwnerOf}
 use Rattle.alp_base.specs.declared.lists.TheConstants.{PAGES_PER_FILE}
 use Rattle.alp_fields.specs.Forms.{whole}
 use Rattle.alp_fields.specs.ClockNote.{clock_name, clock_form, IsClockAtMost}
-use Rattle.alp_files.specs.declared.cell.Cell.{Cell}
-use Rattle.alp_files.specs.declared.cell.Cell.TheVariants as cell
-use Rattle.alp_files.specs.declared.cell.Props.{Props}
-use Rattle.alp_files.specs.declared.change.Change.{Change}
+use Rattle.alp_base.specs.declared.cell.Cell.{Cell}
+use Rattle.alp_base.specs.declared.cell.Cell.TheVariants as cell
+use Rattle.alp_base.specs.declared.cell.Props.{Props}
+use Rattle.alp_base.specs.declared.change.Change.{Change}
 use Rattle.alp_files.specs.Cells.{Cells, same_name}
 use Rattle.alp_files.specs.Changes.{ArePutOnce}
 use Rattle.alp_files.specs.Counts.{used_of, file_count_of, owner_count_of, blocks_of}
-use Rattle.alp_files.specs.declared.cell.TheConstants.{BLOCK_PAGES}
+use Rattle.alp_base.specs.declared.cell.TheConstants.{BLOCK_PAGES}
 use Rattle.alp_files.specs.Sound.{AreSound}
 use Rattle.alp_files.specs.SoundLaws.{AreSound-prop}
 use Rattle.alp_vault.specs.declared.limits.TheConstants.{FILES_PER_SERVER, OWNERS_PER_SERVER, HEAD_PAGES}

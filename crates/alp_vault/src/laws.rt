@@ -2,7 +2,7 @@
 ghost use Rattle.std.specs.Prelude.{◌+◌, ◌*◌, ◌≤◌, ℕ, List};
 ghost use Rattle.alp_base.specs.Notes.{Notes};
 ghost use Rattle.alp_base.specs.declared.bytes.NoteChange.{NoteChange as ANoteChange};
-ghost use Rattle.alp_files.specs.declared.change.Change.{Change as AChange};
+ghost use Rattle.alp_base.specs.declared.change.Change.{Change as AChange};
 ghost use Rattle.alp_vault.specs.Volumes.{AreNoteChanges, FitsLog, changed_cells};
 
 /// The log has room for a commit wherever six pages for each cell that it changes, so many pages for its part's locks, and
