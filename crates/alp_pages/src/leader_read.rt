@@ -20,7 +20,7 @@ fn read_head(reader: &mut FieldReader) -> Option<(FileId, Name, Name)>
     Some((file, owner, name))
 }
 
-#[tactic(auto, unfolding(crate::specs::Leader::sized_numbers, alp_forms::specs::PropsField::numbers))]
+#[tactic(auto, unfolding(crate::specs::Leader::sized_numbers, alp_fields::specs::PropsField::numbers))]
 fn read_numbers(reader: &mut FieldReader) -> Option<(u16, u64, u64, u32, u32)>
     ensures { IsRead sized_numbers reader.old reader.new (option_map (λ x. (x.0, (x.1, (x.2, (x.3, x.4))))) result) }
 {

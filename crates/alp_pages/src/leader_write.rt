@@ -2,7 +2,7 @@
 ghost use Rattle.std.specs.Prelude.{◌≡◌, ◌≤◌, length};
 ghost use Rattle.alp_fields.specs.Forms.{IsSet};
 ghost use Rattle.alp_base.specs.Pages.{page_bytes};
-ghost use Rattle.alp_forms.specs.PropsField.{numbers_of};
+ghost use Rattle.alp_fields.specs.PropsField.{numbers_of};
 ghost use Rattle.alp_pages.specs.Leader.{head, head_of, sized_numbers, tail, tail_of, leader_body, leader_page};
 
 use crate::Leader;

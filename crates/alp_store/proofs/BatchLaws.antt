@@ -14,7 +14,7 @@ use Rattle.std.proofs.lemmas.List.Sums.{sum_by-cons}
 use Rattle.alp_base.specs.Notes.{Notes, notes_after}
 use Rattle.alp_base.specs.declared.bytes.NoteChange.{NoteChange}
 use Rattle.alp_batch.specs.Batch.{IsBatch, IsShort, IsShortValue, note_length, notes_length, batch_length, page_below, name_below}
-use Rattle.alp_batch.specs.Rising.{rises_from, is_rising}
+use Rattle.alp_fields.specs.Rising.{rises_from, is_rising}
 use Rattle.alp_fields.specs.ClockNote.{IsClockAtMost}
 use Rattle.alp_base.specs.declared.change.Change.{Change}
 use Rattle.alp_vault.specs.Volumes.{changed_cells, live_bytes, put_bytes, noted_bytes, commit_bytes}
