@@ -1,15 +1,17 @@
 -- the laws of the notes of decisions
-use Rattle.std.proofs.Common.{◌≡◌, ℕ, ◌≤◌, ◌^◌, List, length, Option, Some, None, refl, sym, ap, ◌∙◌, arith}
+use Rattle.std.proofs.Common.{◌≡◌, ℕ, suc, ◌≤◌, ◌^◌, List, length, Option, Some, None, refl, sym, ap, ◌∙◌, arith}
 use Rattle.std.specs.Prelude.{IfOk, IfSome, Result, Ok, Err, nat_le}
 use Rattle.std.proofs.lemmas.Bool.{leb-true}
 use Rattle.alp_base.specs.declared.ids.TransId.{TransId}
 use Rattle.alp_fields.specs.Forms.{IsForm, pair, checked, repeated, whole, u8, u64}
+use Rattle.alp_fields.specs.ClockNote.{clock_name}
 use Rattle.alp_fields.specs.Fields.{is_time, trans_id, join_no}
 use Rattle.alp_fields.specs.DecisionNote.{decision_name, is_part_count, part_count, joins, decision_form, IsDecision, decision_with, decision_in}
 use Rattle.alp_fields.specs.declared.decision_note.Decision.{Decision}
 use Rattle.alp_fields.specs.declared.decision_note.TheConstants.{DECISION_LETTER, MOST_PARTS}
 use Rattle.alp_fields.proofs.FormLaws.{pair_law, mapped_law, checked_law, sized_law, repeated_law, repeated_size, and_parts, whole_back, whole_spelled}
 use Rattle.alp_fields.proofs.FieldLaws.{u8_law, u64_law, trans_id_law, join_no_law, marked_law}
+use Rattle.alp_fields.proofs.FixedLaws.{id_parts_length}
 
 pub decision_name_law : IsForm decision_name
 unfolding decision_name
@@ -44,3 +46,13 @@ pub decision_back : (t : TransId) (d : Decision) → decision_name.Fits t → de
 decision_back t d named fits =
     ap (λ (x : Option TransId). decision_with x (whole decision_form (decision_form.spell d))) (whole_back decision_name decision_name_law t named)
     ∙ ap (decision_with (Some t)) (whole_back decision_form decision_law d fits)
+
+-- a name has ten bytes
+pub decision_name_length : (t : TransId) → length (decision_name.spell t) ≡ 10
+unfolding decision_name trans_id
+decision_name_length t = ap suc (id_parts_length (t.server, (t.epoch, t.counter)))
+
+-- the note of a clock keeps no decision
+pub clock_no_decision : (value : List ℕ) → decision_in clock_name value ≡ None
+unfolding decision_name u8
+clock_no_decision value = refl

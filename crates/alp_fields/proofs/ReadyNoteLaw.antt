@@ -1,9 +1,10 @@
 -- the laws of the notes of ready parts
-use Rattle.std.proofs.Common.{◌≡◌, ℕ, ◌<◌, ◌≤◌, ◌^◌, List, length, Option, Some, None, refl, sym, ap, ◌∙◌, arith}
+use Rattle.std.proofs.Common.{◌≡◌, ℕ, suc, ◌<◌, ◌≤◌, ◌^◌, List, length, Option, Some, None, refl, sym, ap, ◌∙◌, arith}
 use Rattle.std.specs.Prelude.{IfOk, IfSome, Result, Ok, Err}
 use Rattle.std.proofs.lemmas.Bool.{leb-true}
 use Rattle.alp_base.specs.declared.ids.JoinNo.{JoinNo}
 use Rattle.alp_fields.specs.Forms.{IsForm, pair, checked, whole, u8, u16, u64}
+use Rattle.alp_fields.specs.ClockNote.{clock_name}
 use Rattle.alp_fields.specs.Fields.{is_time, trans_id, join_no, resource}
 use Rattle.alp_fields.specs.ModeField.{mode}
 use Rattle.alp_fields.specs.Rising.{rising}
@@ -14,6 +15,7 @@ use Rattle.alp_fields.specs.declared.ready_note.TheConstants.{READY_LETTER}
 use Rattle.alp_fields.proofs.FormLaws.{pair_law, mapped_law, checked_law, whole_back, whole_spelled}
 use Rattle.alp_fields.proofs.FieldLaws.{u8_law, u64_law, trans_id_law, join_no_law, resource_law, marked_law}
 use Rattle.alp_fields.proofs.ModeFieldLaw.{mode_law}
+use Rattle.alp_fields.proofs.FixedLaws.{id_parts_length}
 use Rattle.alp_fields.proofs.ItemLemmas.{rising_law}
 use Rattle.alp_fields.proofs.ChangeFieldLaw.{change_law, change_fits}
 
@@ -54,3 +56,13 @@ pub ready_back : (j : JoinNo) (p : ReadyPart) → ready_name.Fits j → ready_fo
 ready_back j p named fits =
     ap (λ (x : Option JoinNo). ready_with x (whole ready_form (ready_form.spell p))) (whole_back ready_name ready_name_law j named)
     ∙ ap (ready_with (Some j)) (whole_back ready_form ready_law p fits)
+
+-- a name has ten bytes
+pub ready_name_length : (j : JoinNo) → length (ready_name.spell j) ≡ 10
+unfolding ready_name join_no
+ready_name_length j = ap suc (id_parts_length (j.server, (j.epoch, j.counter)))
+
+-- the note of a clock keeps no part
+pub clock_no_ready : (value : List ℕ) → ready_in clock_name value ≡ None
+unfolding ready_name u8
+clock_no_ready value = refl
