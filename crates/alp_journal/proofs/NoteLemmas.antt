@@ -8,6 +8,7 @@ use Rattle.std.specs.Cmp.Lexicographic.{nat_list_cmp_total, pointwise}
 use Rattle.std.proofs.Common.{◌≡◌, ℕ, ◌+◌, List, [], ◌∷◌, refl, sym, ◌∙◌, ap, arith}
 use Rattle.std.proofs.lemmas.List.Sums.{sum_by-cons}
 use Rattle.std.proofs.lemmas.Map.Lookups.{exact_bytes}
+use Rattle.std.proofs.lemmas.Map.Views.{tells_apart}
 use Rattle.alp_base.specs.Notes.{Notes, text_cmp}
 use Rattle.alp_base.specs.declared.faults.Sizes.{Sizes}
 use Rattle.alp_base.specs.declared.ids.JoinNo.{JoinNo}
@@ -23,7 +24,7 @@ use Rattle.alp_fields.proofs.ReadyNoteLaw.{clock_no_ready}
 use Rattle.alp_fields.proofs.DecisionNoteLaw.{clock_no_decision}
 use Rattle.alp_files.specs.Cells.{Cells}
 use Rattle.alp_files.proofs.SameLemmas.{same_name-true}
-use Rattle.alp_files.proofs.SumLemmas.{tells_apart, sum_of-nothing}
+use Rattle.alp_files.proofs.SumLemmas.{sum_of-nothing}
 use Rattle.alp_journal.specs.Opening.{Start, ReadyNote, DecisionNote, ready_noted, decision_noted, ready_kept, decisions_kept, start_at}
 
 -- one where there is something
