@@ -1,5 +1,5 @@
 //! Lists in notes: how many items, and the items in the rising order of their bytes.
-ghost use Rattle.std.specs.Prelude.{◌≡◌, ◌<◌, ◌≤◌, ◌-◌, ◌^◌, true, length, take, option_map, IfOk, IfSome, OnOk};
+ghost use Rattle.std.specs.Prelude.{◌≡◌, ◌<◌, ◌≤◌, ◌-◌, ◌^◌, ◌&&◌, true, length, take, option_map, IfOk, IfSome, OnOk};
 ghost use Rattle.std.specs.List.{AllByRecursion};
 ghost use Rattle.alp_fields.specs.Forms.{Form, IsForm, IsRead, IsWritten, repeated};
 ghost use Rattle.alp_fields.specs.Rising.{text_below, rise, rising};
@@ -27,18 +27,19 @@ pub(super) trait Item: Drop + Sized {
         ensures { OnOk result (IsWritten form self.now out.old.items out.new.items) };
 }
 
-// The bytes in front of the rest of them.
-fn front<'a>(bytes: &'a [u8], rest: &[u8]) -> &'a [u8]
-    requires { length rest.now ≤ length bytes.now }
-    ensures { result.now ≡ take (length bytes.now - length rest.now) bytes.now }
+// The bytes that were taken, of which the reader has what is left.
+fn taken<'a>(bytes: &'a [u8], reader: &FieldReader) -> &'a [u8]
+    requires { length reader.now ≤ length bytes.now }
+    ensures { result.now ≡ take (length bytes.now - length reader.now) bytes.now }
 {
-    &bytes[..bytes.len() - rest.len()]
+    let left = reader.rest().len();
+    &bytes[..bytes.len() - left]
 }
 
-fn lies_below(bytes: &[u8], others: &[u8]) -> bool
-    ensures { result ≡ text_below bytes.now others.now }
+fn rise_on(rises: bool, last: &[u8], bytes: &[u8]) -> bool
+    ensures { result ≡ (rises && text_below last.now bytes.now) }
 {
-    bytes.cmp(others).is_lt()
+    rises && last.cmp(bytes).is_lt()
 }
 
 /// So many items, and whether their bytes rise.
@@ -49,7 +50,7 @@ pub(super) fn read_items<T: Item>(
 ) -> Result<Option<(Vec<T>, bool)>, OutOfMemory>
     requires { IsForm T.form }
     ensures read { IfOk result (λ found. IsRead (repeated T.form count) reader.old reader.new (option_map (λ x. x.0.items) found)) }
-    ensures rise { IfOk result (λ found. IfSome found (λ x. x.1 ≡ rise T.form x.0.items)) }
+    ensures rises { IfOk result (λ found. IfSome found (λ x. x.1 ≡ rise T.form x.0.items)) }
     ensures all { IfOk result (λ found. IfSome found (λ x. length x.0.items ≡ count)) }
 {
     let mut items = Vec::new(alloc);
@@ -60,9 +61,8 @@ pub(super) fn read_items<T: Item>(
         let Some(next) = T::read(alloc, reader)? else {
             return Ok(None);
         };
-        let bytes = front(before, reader.rest());
-        let above = lies_below(last, bytes);
-        rises = rises && above;
+        let bytes = taken(before, reader);
+        rises = rise_on(rises, last, bytes);
         last = bytes;
         items.push(next)?;
     }
@@ -103,7 +103,7 @@ pub(super) fn put_items<T: Item>(out: &mut Vec<u8>, items: &[T]) -> Result<(), O
 /// Writes the list behind what stands there.
 pub(super) fn put_rising<T: Item>(out: &mut Vec<u8>, items: &[T]) -> Result<(), OutOfMemory>
     requires few { length items.now < 2 ^ 16 }
-    requires rise { rise T.form items.now ≡ true }
+    requires rises { rise T.form items.now ≡ true }
     requires each { AllByRecursion T.can_put items.now }
     ensures { OnOk result (IsWritten (rising T.form) items.now out.old.items out.new.items) }
 {

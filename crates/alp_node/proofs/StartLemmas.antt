@@ -313,9 +313,9 @@ raised_last held c e = (after_any (map.get held.notes clock_name) c e).last
 pub raised_some : (held : Contents) (c : ClockNote) → raised held ≡ Ok c → 0 < c.epoch
 raised_some held c e = some_epoch (clock_kept held.notes).epoch c.epoch (raised_later held c e)
 
-pub new_right : {V : Type 0} (n : NodeState V) (o : Start) (held : Contents) → n.journal ≡ [] → opened o ≡ alone (new_alone o) → o.ready ≡ [] → AreSound o.cells → AreSized (map.get o.cells) → IsAs (new_alone o) held n.kept → IsRight o held n
-new_right n o held empty says none sound sized h = record {
-  opening = record { files = sound; sizes = sized; ready = none };
+pub new_right : {V : Type 0} (n : NodeState V) (o : Start) (held : Contents) → n.journal ≡ [] → opened o ≡ alone (new_alone o) → o.ready ≡ [] → o.decisions ≡ [] → AreSound o.cells → AreSized (map.get o.cells) → IsAs (new_alone o) held n.kept → IsRight o held n
+new_right n o held empty says ready decided sound sized h = record {
+  opening = record { files = sound; sizes = sized; ready = ready; decisions = decided };
   lawful = subst (IsLawful o) (sym empty) tt;
   caused = subst (IsAnswered o) (sym empty) (tt, λ i e at. inr (let within : i < 0 = slice_get_within [] i e at in omega (arith, within)));
   own = subst AreOwnEvents (sym empty) tt;

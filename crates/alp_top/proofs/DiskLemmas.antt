@@ -37,7 +37,7 @@ use Rattle.alp_files.specs.Sound.{AreSound}
 use Rattle.alp_journal.specs.declared.entry.Entry.{Entry}
 use Rattle.alp_journal.specs.State.{State}
 use Rattle.alp_journal.specs.Opening.{Start, start_at}
-use Rattle.alp_journal.proofs.NoteLemmas.{named_ready, only_clock}
+use Rattle.alp_journal.proofs.NoteLemmas.{named_ready, named_decided, only_clock}
 use Rattle.alp_node.specs.Downs.{IsLeftOf}
 use Rattle.alp_node.specs.Durable.{said_of}
 use Rattle.alp_node.specs.NodeStates.{NodeState}
@@ -330,6 +330,7 @@ module _ {V D : Type 0} (G : VaultGhosts V) (g : Ghosts D) (sizes : Sizes) (o : 
       files = subst (λ (c : Contents). AreSound c.cells) said fits.sound;
       sizes = subst (λ (c : Contents). AreSized (map.get c.cells)) said (volume_sized vol held.cells fits);
       ready = named_ready (said_of last).notes (only_clock (clock_form.spell (record { epoch = last.ids.epoch; clock = last.holder.kept })));
+      decisions = named_decided (said_of last).notes (only_clock (clock_form.spell (record { epoch = last.ids.epoch; clock = last.holder.kept })));
     };
     unfailed = unfailed;
   }
