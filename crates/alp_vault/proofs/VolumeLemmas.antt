@@ -260,36 +260,36 @@ decision_ten name t e =
     let same : length name ≡ length (decision_name.spell t) = ap (λ (bs : List ℕ). length bs) (whole_spelled decision_name decision_name_law name t e).0 in
     omega (arith, same, decision_name_length t)
 
+short_end : (server : ℕ) (name : List ℕ) (o : Option JoinNo) (p : Option TransId) → whole ready_name name ≡ o → whole decision_name name ≡ p → (is_join_on server o || is_trans_of server p) ≡ true → length name ≤ 10
+short_end server name (Some j) p e f g = ready_ten name j e
+short_end server name None (Some t) e f g = decision_ten name t f
+short_end server name None None e f g = absurd cc
+
+short_put : (server servers : ℕ) (name v : List ℕ) (c : Bool) (o : Option JoinNo) (p : Option TransId) → is_clock_note name v ≡ c → whole ready_name name ≡ o → whole decision_name name ≡ p
+    → (c || (is_ready_on server servers (ready_with o (whole ready_form v)) || is_decision_of server servers (decision_with p (whole decision_form v)))) ≡ true → length name ≤ 10
+short_put server servers name v true o p c e f g =
+    let same : length name ≡ length clock_name = ap (λ (bs : List ℕ). length bs) (clock_alone name v c).0 in
+    omega (arith, same)
+short_put server servers name v false (Some j) p c e f g = ready_ten name j e
+short_put server servers name v false None (Some t) c e f g = decision_ten name t f
+short_put server servers name v false None None c e f g = absurd cc
+
 -- the name of a note that changes is short
 pub short_name : (server servers : ℕ) (name : List ℕ) (value : Option (List ℕ)) → is_note_change server servers name value ≡ true → length name ≤ 10
-short_name server servers name None h = go (whole ready_name name) (whole decision_name name) refl refl h
-  where
-    go : (o : Option JoinNo) (p : Option TransId) → whole ready_name name ≡ o → whole decision_name name ≡ p → (is_join_on server o || is_trans_of server p) ≡ true → length name ≤ 10
-    go (Some j) p e f g = ready_ten name j e
-    go None (Some t) e f g = decision_ten name t f
-    go None None e f g = absurd cc
-short_name server servers name (Some v) h = go (is_clock_note name v) (whole ready_name name) (whole decision_name name) refl refl refl h
-  where
-    go : (c : Bool) (o : Option JoinNo) (p : Option TransId) → is_clock_note name v ≡ c → whole ready_name name ≡ o → whole decision_name name ≡ p
-        → (c || (is_ready_on server servers (ready_with o (whole ready_form v)) || is_decision_of server servers (decision_with p (whole decision_form v)))) ≡ true → length name ≤ 10
-    go true o p c e f g =
-        let same : length name ≡ length clock_name = ap (λ (bs : List ℕ). length bs) (clock_alone name v c).0 in
-        omega (arith, same)
-    go false (Some j) p c e f g = ready_ten name j e
-    go false None (Some t) c e f g = decision_ten name t f
-    go false None None c e f g = absurd cc
+short_name server servers name None h = short_end server name (whole ready_name name) (whole decision_name name) refl refl h
+short_name server servers name (Some v) h = short_put server servers name v (is_clock_note name v) (whole ready_name name) (whole decision_name name) refl refl refl h
+
+removed_len : (name : List ℕ) (live : Notes) (b : Bool) → map.len (map.remove live name) ≡ cond b (map.len live - 1) (map.len live) → map.len (map.remove live name) ≤ map.len live + 1
+removed_len name live true e = omega (arith, e)
+removed_len name live false e = omega (arith, e)
+
+inserted_len : (name v : List ℕ) (live : Notes) (b : Bool) → map.len (map.insert live name v) ≡ cond b (map.len live) (map.len live + 1) → map.len (map.insert live name v) ≤ map.len live + 1
+inserted_len name v live true e = omega (arith, e)
+inserted_len name v live false e = omega (arith, e)
 
 noted_len : (name : List ℕ) (value : Option (List ℕ)) (live : Notes) → map.len (noted name value live) ≤ map.len live + 1
-noted_len name None live = go (map.contains_key live name) (len-remove nat_list_cmp_total live name)
-  where
-    go : (b : Bool) → map.len (map.remove live name) ≡ cond b (map.len live - 1) (map.len live) → map.len (map.remove live name) ≤ map.len live + 1
-    go true e = omega (arith, e)
-    go false e = omega (arith, e)
-noted_len name (Some v) live = go (map.contains_key live name) (len-insert nat_list_cmp_total live name v)
-  where
-    go : (b : Bool) → map.len (map.insert live name v) ≡ cond b (map.len live) (map.len live + 1) → map.len (map.insert live name v) ≤ map.len live + 1
-    go true e = omega (arith, e)
-    go false e = omega (arith, e)
+noted_len name None live = removed_len name live (map.contains_key live name) (len-remove nat_list_cmp_total live name)
+noted_len name (Some v) live = inserted_len name v live (map.contains_key live name) (len-insert nat_list_cmp_total live name v)
 
 -- a change adds a note at most
 pub notes_len : (ns : List NoteChange) (live : Notes) → map.len (notes_after ns live) ≤ length ns + map.len live
