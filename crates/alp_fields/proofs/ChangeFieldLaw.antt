@@ -1,5 +1,6 @@
 -- the laws of cells and changes in notes
 use Rattle.std.proofs.Common.{◌≡◌, ℕ, ◌<◌, ◌^◌, List, [], ◌∷◌, ◌++◌, length, Option, Some, None, true, refl, sym, ap, subst, ◌∙◌, append_assoc, arith}
+use Rattle.std.specs.Prelude.{Result, Ok, Err, OnOk}
 use Rattle.std.specs.List.{AllByRecursion}
 use Rattle.alp_base.specs.declared.ids.FileId.{FileId}
 use Rattle.alp_base.specs.declared.key.Key.{Key}
@@ -65,6 +66,10 @@ placed_law = record {
 }
 
 -- ---- cells that are written
+
+pub on_ok : {T E : Type 0} (r : Result T E) (P Q : Type 0) → (P → Q) → OnOk r P → OnOk r Q
+on_ok (Ok x) P Q f p = f p
+on_ok (Err e) P Q f p = tt
 
 pub leader_written : (k : Key) (p : Props) (old new : List ℕ) → is_cell_of k (cell.Leader p) ≡ true → IsWritten props p old new → IsWritten (cell_at k) (cell.Leader p) old new
 leader_written (Leader f) p old new is done = record { appended = done.appended; fits = done.fits }
