@@ -1,6 +1,7 @@
 //! The note of a transaction that is decided, which keeps it until its parts on other servers know.
 ghost use Rattle.std.specs.Prelude.{◌≡◌, ◌≤◌, length, IfOk, IfSome, OnOk, Some};
 ghost use Rattle.alp_fields.specs.Forms.{IsForm, IsRead, IsWritten, whole};
+ghost use Rattle.alp_fields.specs.Fields.{join_no};
 ghost use Rattle.alp_fields.specs.declared.decision_note.Decision.{Decision as Decided};
 ghost use Rattle.alp_fields.specs.DecisionNote.{decision_name, part_count, joins as joins_form, decision_form, IsDecision, decision_in, decision_noted, decision_ended};
 
