@@ -6,9 +6,10 @@ ghost use Rattle.alp_acknowledge.specs.Turns.{InStep};
 use crate::ServeFault;
 use crate::caller::Caller;
 use alp_base::{
-    Access, AccessList, Choice, FileId, Name, OutOfMemory, Page, PageList, PageRef, Run, TransId,
+    Access, AccessList, Choice, FileId, Name, OutOfMemory, Page, PageList, PageRef, Props, Run,
+    TransId,
 };
-use alp_files::{Call, HeldProps, Props, Refusal, Reply};
+use alp_files::{Call, HeldProps, Refusal, Reply};
 use alp_modes::Mode;
 use alp_vault::Vault;
 use std::alloc::Global;

@@ -9,7 +9,7 @@ use Rattle.alp_fields.specs.Fields.{page}
 use Rattle.alp_fields.proofs.FormLaws.{pair_law, mapped_law, checked_law, sized_law, repeated_law, repeated_size, bytes_law, bytes_size}
 use Rattle.alp_fields.proofs.FieldLaws.{u8_law, u16_law, u32_law, page_law, variant_reads, variant_back, tag_back, tagged_law}
 use Rattle.alp_fields.proofs.FixedLaws.{u8_length, u16_length, u32_length, repeated_length}
-use Rattle.alp_batch.specs.Rising.{is_rising}
+use Rattle.alp_fields.specs.Rising.{is_rising}
 use Rattle.alp_batch.specs.declared.batch.PageImage.{PageImage}
 use Rattle.alp_batch.specs.declared.batch.Batch.{Batch}
 use Rattle.alp_batch.specs.Batch.{image, page_below, images, note_name, note_value, ends_note, puts_note, spell_valued, FitsValued, note_readers, note, name_below, notes, batch, IsShortValue, IsShort, IsBatch, valued_length, note_length, notes_length, batch_length}

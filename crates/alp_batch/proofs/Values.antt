@@ -5,7 +5,7 @@ use Rattle.std.specs.List.{flat_map, AllByRecursion}
 use Rattle.std.proofs.lemmas.List.{take_more, append-nil}
 use Rattle.alp_base.specs.declared.bytes.NoteChange.{NoteChange}
 use Rattle.alp_fields.specs.Forms.{Form, IsWritten, repeated, u16}
-use Rattle.alp_batch.specs.Rising.{is_rising}
+use Rattle.alp_fields.specs.Rising.{is_rising}
 use Rattle.alp_batch.specs.Batch.{puts_note, note, notes, name_below}
 use Rattle.alp_batch.specs.Values.{puts}
 

@@ -4,7 +4,7 @@ use Rattle.std.specs.List.{AllByRecursion}
 use Rattle.alp_base.specs.declared.bytes.NoteChange.{NoteChange}
 use Rattle.alp_fields.specs.Forms.{Form, pair, mapped, checked, sized, repeated, bytes_of, Readers, variant, tagged, u8, u16, u32}
 use Rattle.alp_fields.specs.Fields.{page}
-use Rattle.alp_batch.specs.Rising.{is_rising, text_below}
+use Rattle.alp_fields.specs.Rising.{is_rising, text_below}
 use Rattle.alp_batch.specs.declared.batch.PageImage.{PageImage}
 use Rattle.alp_batch.specs.declared.batch.Batch.{Batch}
 

@@ -1,7 +1,7 @@
 //! Images as bytes, and bytes as images.
 ghost use Rattle.std.specs.Prelude.{◌≡◌, ◌<◌, ◌^◌, IfOk, OnOk, length, true, option_map};
 ghost use Rattle.alp_fields.specs.Forms.{IsRead, IsWritten, repeated};
-ghost use Rattle.alp_batch.specs.Rising.{is_rising};
+ghost use Rattle.alp_fields.specs.Rising.{is_rising};
 ghost use Rattle.alp_batch.specs.Batch.{image, images as images_form, page_below};
 
 use crate::rising::pages_rise;

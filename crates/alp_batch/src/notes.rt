@@ -2,7 +2,7 @@
 ghost use Rattle.std.specs.Prelude.{◌≡◌, ◌<◌, ◌^◌, IfOk, OnOk, length, true, option_map, zip};
 ghost use Rattle.std.specs.List.{AllByRecursion};
 ghost use Rattle.alp_fields.specs.Forms.{IsRead, IsWritten, repeated};
-ghost use Rattle.alp_batch.specs.Rising.{is_rising};
+ghost use Rattle.alp_fields.specs.Rising.{is_rising};
 ghost use Rattle.alp_batch.specs.Batch.{note, note_name, note_value, notes as notes_form, name_below, puts_note, IsShort};
 ghost use Rattle.alp_batch.specs.Values.{puts};
 

@@ -1,6 +1,6 @@
 //! Whether pages and names rise.
 ghost use Rattle.std.specs.Prelude.{◌≡◌};
-ghost use Rattle.alp_batch.specs.Rising.{is_rising, rises_from, text_below};
+ghost use Rattle.alp_fields.specs.Rising.{is_rising, rises_from, text_below};
 ghost use Rattle.alp_batch.specs.Batch.{page_below, name_below};
 
 use crate::PageImage;

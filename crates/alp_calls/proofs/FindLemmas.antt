@@ -4,9 +4,9 @@ use Rattle.std.proofs.Common.{◌≡◌, ℕ, ◌+◌, List, [], ◌∷◌, refl
 use Rattle.alp_base.specs.declared.choices.Access.{Access}
 use Rattle.alp_base.specs.declared.choices.Access.TheVariants.{ReadOnly, Change}
 use Rattle.alp_base.specs.declared.key.Key.TheVariants.{Leader}
-use Rattle.alp_files.specs.declared.cell.Cell.{Cell}
-use Rattle.alp_files.specs.declared.cell.OwnerRecord.{OwnerRecord}
-use Rattle.alp_files.specs.declared.cell.Props.{Props}
+use Rattle.alp_base.specs.declared.cell.Cell.{Cell}
+use Rattle.alp_base.specs.declared.cell.OwnerRecord.{OwnerRecord}
+use Rattle.alp_base.specs.declared.cell.Props.{Props}
 use Rattle.alp_files.specs.declared.open.Open.{Open}
 use Rattle.alp_files.specs.declared.refusal.ListName.TheVariants as lists
 use Rattle.alp_files.specs.declared.refusal.Refusal.{Refusal}

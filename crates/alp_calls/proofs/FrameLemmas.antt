@@ -10,7 +10,7 @@ use Rattle.alp_base.specs.declared.key.Key.{Key}
 use Rattle.alp_base.specs.declared.key.Key.TheVariants.{Leader, PageOf, OwnerOf}
 use Rattle.alp_base.specs.Keys.{key_cmp}
 use Rattle.alp_base.specs.KeyLaws.{keys_total}
-use Rattle.alp_files.specs.declared.cell.Cell.{Cell}
+use Rattle.alp_base.specs.declared.cell.Cell.{Cell}
 use Rattle.alp_files.specs.Cells.{Cells, same_file}
 use Rattle.alp_files.specs.Counts.{used_of, block_of, APageStands}
 use Rattle.alp_files.specs.Edits.{Edit, Drop, Cut, Put, is_in_file, is_past, edit_map, edits_map}

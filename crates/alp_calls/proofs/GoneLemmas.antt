@@ -11,7 +11,7 @@ use Rattle.alp_base.specs.declared.key.Key.TheVariants.{Leader, PageOf, OwnerOf}
 use Rattle.alp_base.specs.Keys.{key_cmp}
 use Rattle.alp_base.specs.KeyLaws.{file_cmp, keys_total, exact_keys}
 use Rattle.alp_base.proofs.NameLemmas.{and_left, and_right}
-use Rattle.alp_files.specs.declared.cell.Cell.{Cell}
+use Rattle.alp_base.specs.declared.cell.Cell.{Cell}
 use Rattle.alp_files.specs.Cells.{Cells, same_file}
 use Rattle.alp_files.specs.Counts.{used_of}
 use Rattle.alp_files.specs.Edits.{Edit, Drop, Cut, is_in_file, is_past, edits_map}

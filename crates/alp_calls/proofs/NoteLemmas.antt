@@ -9,7 +9,7 @@ use Rattle.std.specs.declared.cmp.Ordering.TheVariants.{Less, Equal, Greater}
 use Rattle.std.proofs.Common.{◌≡◌, ℕ, List, [], ◌∷◌, refl, sym, ◌∙◌, ap}
 use Rattle.std.proofs.lemmas.Map.Lookups.{exact_bytes}
 use Rattle.alp_base.specs.Notes.{Notes, text_cmp}
-use Rattle.alp_vault.specs.Volumes.{AreServerNotes}
+use Rattle.alp_vault.specs.Volumes.{AreNotesSoFar}
 use Rattle.alp_calls.specs.ServerNotes.{is_good}
 
 both : (a b : Bool) → a && b ≡ true → (a ≡ true) × (b ≡ true)
@@ -41,19 +41,19 @@ named notes name (n ∷ ns) all any = go (eq_by_cmp text_cmp name n) refl any (n
     go false e h rest = rest h
 
 -- all names are good, so all notes are in the format
-pub good_notes : (server servers : ℕ) (notes : Notes) → all_good notes (map.keys notes) ≡ true → AreServerNotes server servers notes
+pub good_notes : (server servers : ℕ) (notes : Notes) → all_good notes (map.keys notes) ≡ true → AreNotesSoFar server servers notes
 good_notes server servers notes all name value there =
     ap (is_good name) (sym there) ∙ named notes name (map.keys notes) all (sym (contains_key-keys notes name) ∙ ap is_some there)
 
-good_one : (server servers : ℕ) (notes : Notes) (name : List ℕ) → AreServerNotes server servers notes → (o : Option (List ℕ)) → map.get notes name ≡ o → is_good name o ≡ true
+good_one : (server servers : ℕ) (notes : Notes) (name : List ℕ) → AreNotesSoFar server servers notes → (o : Option (List ℕ)) → map.get notes name ≡ o → is_good name o ≡ true
 good_one server servers notes name are None e = refl
 good_one server servers notes name are (Some value) e = are name value e
 
-are_good : (server servers : ℕ) (notes : Notes) (names : List (List ℕ)) → AreServerNotes server servers notes → all_good notes names ≡ true
+are_good : (server servers : ℕ) (notes : Notes) (names : List (List ℕ)) → AreNotesSoFar server servers notes → all_good notes names ≡ true
 are_good server servers notes [] are = refl
 are_good server servers notes (n ∷ ns) are =
     ap (λ (b : Bool). b && all_good notes ns) (good_one server servers notes n are (map.get notes n) refl) ∙ are_good server servers notes ns are
 
 -- one is not, so the notes are not
-pub bad_notes : (server servers : ℕ) (notes : Notes) → all_good notes (map.keys notes) ≡ false → AreServerNotes server servers notes → ⊥
+pub bad_notes : (server servers : ℕ) (notes : Notes) → all_good notes (map.keys notes) ≡ false → AreNotesSoFar server servers notes → ⊥
 bad_notes server servers notes bad are = let wrong : true ≡ false = sym (are_good server servers notes (map.keys notes) are) ∙ bad in cc

@@ -24,9 +24,9 @@ use Rattle.alp_base.specs.declared.ids.FileId.{FileId}
 use Rattle.alp_base.specs.declared.key.Key.{Key}
 use Rattle.alp_base.specs.declared.key.Key.TheVariants.{Leader}
 use Rattle.alp_base.specs.declared.lists.TheConstants.{PAGES_PER_FILE}
-use Rattle.alp_files.specs.declared.cell.Cell.{Cell}
-use Rattle.alp_files.specs.declared.cell.Cell.TheVariants as cell
-use Rattle.alp_files.specs.declared.cell.Props.{Props}
+use Rattle.alp_base.specs.declared.cell.Cell.{Cell}
+use Rattle.alp_base.specs.declared.cell.Cell.TheVariants as cell
+use Rattle.alp_base.specs.declared.cell.Props.{Props}
 use Rattle.alp_files.specs.declared.refusal.Refusal.{Refusal}
 use Rattle.alp_files.specs.Cells.{Cells, View}
 use Rattle.alp_files.specs.Changes.{edits_of, ArePutOnce}
@@ -36,9 +36,9 @@ use Rattle.alp_files.specs.Files.{AreFiles}
 use Rattle.alp_files.specs.Needs.{Intents, no_intents, intents_of, is_gone, changed_by}
 use Rattle.alp_files.specs.Sound.{AreSound}
 use Rattle.alp_files.proofs.SumLemmas.{sum_of-nothing}
-use Rattle.alp_vault.specs.Volumes.{IsVolumeOf, IsCommit, AreNoteChanges, changed_cells, fits_key, fit_keys}
+use Rattle.alp_vault.specs.Volumes.{IsVolumeOf, IsCommit, AreChangesSoFar, changed_cells, fits_key, fit_keys}
 use Rattle.alp_vault.specs.declared.limits.TheConstants.{FILES_PER_SERVER, OWNERS_PER_SERVER, HEAD_PAGES}
-use Rattle.alp_vault.proofs.VolumeLemmas.{log_room}
+use Rattle.alp_vault.proofs.VolumeLemmas.{log_room, changes_so_far}
 use Rattle.alp_trans.specs.Counting.{AreCountsOf, no_counts}
 use Rattle.alp_trans.specs.Parts.{change_of}
 use Rattle.alp_trans.specs.declared.counts.Counts.{Counts}
@@ -153,12 +153,12 @@ change_fits i fit = none_misfits (map.entries i.puts) (sum_of-nothing keys_total
 
 -- ---- what a commit asks
 
-pub part_commits : (s : Sizes) (server servers locks : ℕ) (live : Notes) (p : Part) (changes : List NoteChange) → IsPart p → AreNoteChanges server servers live changes
+pub part_commits : (s : Sizes) (server servers locks : ℕ) (live : Notes) (p : Part) (changes : List NoteChange) → IsPart p → AreChangesSoFar server servers live changes
     → 6 * p.counts.cells + locks + 30 ≤ s.area → IsCommit s server servers live (change_of p.intents) changes
 part_commits s server servers locks live p changes is noted room = record {
   once = change_once p.intents;
   puts = change_fits p.intents is.fit;
-  noted = noted;
+  noted = changes_so_far server servers live changes noted;
   log = log_room server servers s.area locks live (change_of p.intents) changes noted (omega (arith, is.cells, cells, room));
 }
   where

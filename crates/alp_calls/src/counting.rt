@@ -16,8 +16,8 @@ ghost use Rattle.alp_calls.specs.Sights.{IsSight, IsRaised, IsTurned, is_own, is
 
 use crate::CallFault;
 use crate::look::fetched;
-use alp_base::{FileId, Key, PAGES_PER_FILE};
-use alp_files::{BLOCK_PAGES, Cell, CellMap};
+use alp_base::{BLOCK_PAGES, Cell, FileId, Key, PAGES_PER_FILE};
+use alp_files::CellMap;
 use alp_trans::{Ahead, Counts, Gone, Intents, Part, Sight, takes};
 use alp_vault::Vault;
 use std::alloc::Global;

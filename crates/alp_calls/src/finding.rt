@@ -10,8 +10,8 @@ ghost use Rattle.alp_calls.specs.Parts.{AllFit, IsPartRefusal, seen};
 
 use crate::CallFault;
 use crate::look::{owner_at, props_at};
-use alp_base::{Access, Name};
-use alp_files::{ListName, Open, OwnerRecord, Props, Refusal, admits};
+use alp_base::{Access, Name, OwnerRecord, Props};
+use alp_files::{ListName, Open, Refusal, admits};
 use alp_modes::Mode;
 use alp_trans::Part;
 use alp_vault::Vault;

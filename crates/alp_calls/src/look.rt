@@ -12,8 +12,7 @@ ghost use Rattle.alp_files.specs.Cells.{pages_at};
 
 use crate::CallFault;
 use crate::fault::fault_of;
-use alp_base::{FileId, Key, Name, Page, PageList, PageRef, Run};
-use alp_files::{Cell, OwnerRecord, Props};
+use alp_base::{Cell, FileId, Key, Name, OwnerRecord, Page, PageList, PageRef, Props, Run};
 use alp_trans::Intents;
 use alp_vault::Vault;
 use std::alloc::Global;

@@ -9,8 +9,8 @@ ghost use Rattle.alp_calls.specs.Parts.{AllFit, Says, GivesNone, IsProper, reply
 use crate::CallFault;
 use crate::look::owner_at;
 use crate::said::{Effect, OpenChange, Said};
-use alp_base::{AccessList, Key, Name};
-use alp_files::{Cell, ListName, OwnerRecord, Refusal, Reply};
+use alp_base::{AccessList, Cell, Key, Name, OwnerRecord};
+use alp_files::{ListName, Refusal, Reply};
 use alp_trans::Part;
 use alp_vault::Vault;
 use std::alloc::Global;

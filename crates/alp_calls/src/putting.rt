@@ -2,7 +2,7 @@
 ghost use Rattle.std.specs.Prelude.{◌≡◌, ◌≤◌, [], ◌∷◌, IfOk, None};
 ghost use Rattle.alp_base.specs.declared.key.Key.TheVariants as key;
 ghost use Rattle.alp_base.specs.declared.lists.TheConstants.{PAGES_PER_FILE};
-ghost use Rattle.alp_files.specs.declared.cell.Cell.TheVariants as cell;
+ghost use Rattle.alp_base.specs.declared.cell.Cell.TheVariants as cell;
 ghost use Rattle.alp_files.specs.declared.reply.Reply.TheVariants as reply;
 ghost use Rattle.alp_files.specs.Act.{Own, replied, id_in};
 ghost use Rattle.alp_files.specs.Edits.{Put};
@@ -12,8 +12,8 @@ ghost use Rattle.alp_calls.specs.Parts.{GivesNone, IsProper, answer_of, reply_of
 ghost use Rattle.alp_trans.specs.declared.part.Part.{Part as APart};
 
 use crate::said::{Effect, OpenChange, Said};
-use alp_base::{FileId, Key, OutOfMemory};
-use alp_files::{Cell, Props, Reply};
+use alp_base::{Cell, FileId, Key, OutOfMemory, Props};
+use alp_files::Reply;
 use std::alloc::Global;
 
 /// The leader of a file is put, and nothing else.

@@ -1,7 +1,7 @@
 //! What a call comes to, before the part changes.
 
-use alp_base::{FileId, Key};
-use alp_files::{Cell, Open, Reply};
+use alp_base::{Cell, FileId, Key};
+use alp_files::{Open, Reply};
 use alp_trans::Gone;
 
 /// What a call does to the opens of its part.

@@ -1,16 +1,16 @@
-//! Notes in the format of a server.
-ghost use Rattle.std.specs.Prelude.{◌≡◌, IsTrue, true, false, ℕ};
+//! Notes of a server so far: none but that of its epoch and clock.
+ghost use Rattle.std.specs.Prelude.{◌≡◌, IsTrue, true, false};
 ghost use Rattle.std.specs.FinMap as map;
 ghost use Rattle.alp_calls.specs.ServerNotes.{is_good as is_good_said};
-ghost use Rattle.alp_vault.specs.Volumes.{is_server_note as is_server_note_said, AreServerNotes};
+ghost use Rattle.alp_fields.specs.ClockNote.{is_clock_note as is_clock_note_said};
+ghost use Rattle.alp_vault.specs.Volumes.{AreNotesSoFar};
 
 use alp_base::Bytes;
 use alp_fields::{is_clock_name, read_clock};
 use alp_vault::Vault;
 
-// So far one note is in the format: that of the epoch and the clock.
-fn is_server_note(name: &Bytes, value: &Bytes) -> bool
-    ensures { (server servers : ℕ) → result ≡ is_server_note_said server servers name.now value.now }
+fn is_clock_note(name: &Bytes, value: &Bytes) -> bool
+    ensures { result ≡ is_clock_note_said name.now value.now }
 {
     is_clock_name(name.as_slice()) && read_clock(value.as_slice()).is_some()
 }
@@ -21,16 +21,16 @@ fn is_good<V: Vault>(vault: &V, name: &Bytes) -> bool
     ensures { result ≡ is_good_said name.now (map.get (V.held vault.now).notes name.now) }
 {
     match vault.note(name) {
-        Some(value) => is_server_note(name, value),
+        Some(value) => is_clock_note(name, value),
         None => true,
     }
 }
 
-/// Whether all notes are in the format of the vault's server.
+/// Whether no note stands but that of the epoch and the clock.
 pub fn are_server_notes<V: Vault>(vault: &V) -> bool
     requires { IsTrue (V.serves vault.now) }
-    ensures good { result ≡ true → AreServerNotes (V.server vault.now) (V.servers vault.now) (V.held vault.now).notes }
-    ensures bad { result ≡ false → AreServerNotes (V.server vault.now) (V.servers vault.now) (V.held vault.now).notes → ⊥ }
+    ensures good { result ≡ true → AreNotesSoFar (V.server vault.now) (V.servers vault.now) (V.held vault.now).notes }
+    ensures bad { result ≡ false → AreNotesSoFar (V.server vault.now) (V.servers vault.now) (V.held vault.now).notes → ⊥ }
 {
     let names = vault.note_names();
     for name in names {

@@ -7,7 +7,7 @@ use Rattle.alp_files.specs.declared.call.Call.TheVariants as call
 use Rattle.alp_files.specs.Locks.{page_limit}
 use Rattle.alp_fields.specs.Forms.{u32}
 use Rattle.alp_fields.specs.Fields.{stamp, run, some_count}
-use Rattle.alp_forms.specs.PropsField.{props, numbers}
+use Rattle.alp_fields.specs.PropsField.{props, numbers}
 use Rattle.alp_modes.specs.declared.Mode.{Mode}
 use Rattle.alp_modes.specs.declared.Mode.TheVariants as mode
 use Rattle.alp_modes.specs.Modes.{covers_of}

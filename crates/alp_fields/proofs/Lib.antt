@@ -4,3 +4,10 @@ pub mod FieldLaws
 pub mod FixedLaws
 pub mod PlaceLemmas
 pub mod ClockLemmas
+pub mod ModeFieldLaw
+pub mod PropsFieldLaw
+pub mod OwnerFieldLaw
+pub mod ItemLemmas
+pub mod ChangeFieldLaw
+pub mod ReadyNoteLaw
+pub mod DecisionNoteLaw

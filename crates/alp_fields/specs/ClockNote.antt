@@ -1,5 +1,6 @@
 -- The note that keeps a server's epoch and clock.
-use Rattle.std.specs.Prelude.{◌≡◌, ℕ, List, [], ◌∷◌, Option, None, Some, unwrap_or}
+use Rattle.std.specs.Prelude.{◌≡◌, ℕ, Bool, true, ◌&&◌, nat_eq, List, [], ◌∷◌, Option, None, Some, is_some, unwrap_or}
+use Rattle.std.specs.Cmp.Lexicographic.{pointwise}
 use Rattle.std.specs.FinMap as map
 use Rattle.alp_base.specs.Notes.{Notes}
 use Rattle.alp_base.specs.declared.bytes.NoteChange.{NoteChange}
@@ -28,6 +29,14 @@ abbrev pub IsClockAtMost : List NoteChange → Type 0
 IsClockAtMost [] = Unit {0}
 IsClockAtMost (n ∷ []) = IsClockNote n
 IsClockAtMost (n ∷ m ∷ ns) = ⊥
+
+-- whether a note of that name with that value keeps an epoch and a clock
+abbrev pub is_clock_note : List ℕ → List ℕ → Bool
+is_clock_note name value = pointwise nat_eq name clock_name && is_some (whole clock_form value)
+
+-- no other note stands
+abbrev pub AreClockNotes : Notes → Type 0
+AreClockNotes notes = (name value : List ℕ) → map.get notes name ≡ Some value → is_clock_note name value ≡ true
 
 -- the clock of a server that keeps none
 abbrev pub no_clock : ClockNote

@@ -1,3 +1,10 @@
 pub mod Forms
 pub mod Fields
 pub mod ClockNote
+pub mod Rising
+pub mod ModeField
+pub mod PropsField
+pub mod OwnerField
+pub mod ChangeField
+pub mod ReadyNote
+pub mod DecisionNote

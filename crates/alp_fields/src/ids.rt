@@ -1,7 +1,7 @@
 //! Ids, stamps and runs.
 ghost use Rattle.std.specs.Prelude.{◌≡◌, ◌<◌, ◌≤◌, ◌^◌, OnOk, OnErr};
-ghost use Rattle.alp_fields.specs.Forms.{IsRead, IsWritten, Extends};
-ghost use Rattle.alp_fields.specs.Fields.{id_parts, file_id, trans_id, join_no, stamp, run};
+ghost use Rattle.alp_fields.specs.Forms.{IsRead, IsWritten, Extends, checked, u64 as long};
+ghost use Rattle.alp_fields.specs.Fields.{id_parts, file_id, trans_id, join_no, is_time, stamp, run};
 
 use crate::FieldReader;
 use crate::numbers::{put_u8, put_u32, put_u64};
@@ -51,6 +51,17 @@ impl<'a> FieldReader<'a> {
             epoch,
             counter,
         })
+    }
+
+    /// A time that clocks may show.
+    pub(super) fn time(&mut self) -> Option<u64>
+        ensures { IsRead (checked is_time long) self.old self.new result }
+    {
+        let ts = self.u64()?;
+        if ts > GREATEST_TIME {
+            return None;
+        }
+        Some(ts)
     }
 
     #[tactic(auto, unfolding(crate::specs::Fields::stamp))]
@@ -121,6 +132,14 @@ pub fn put_join_no(out: &mut Vec<u8>, id: JoinNo) -> Result<(), OutOfMemory>
     ensures err { OnErr result (out.new.items ≡ out.old.items) }
 {
     put_parts(out, id.server, id.epoch, id.counter)
+}
+
+/// Writes a time that clocks may show.
+pub(super) fn put_time(out: &mut Vec<u8>, ts: u64) -> Result<(), OutOfMemory>
+    requires { ts ≤ 2 ^ 62 }
+    ensures { OnOk result (IsWritten (checked is_time long) ts out.old.items out.new.items) }
+{
+    put_u64(out, ts)
 }
 
 #[tactic(auto, unfolding(crate::specs::Fields::stamp))]

@@ -43,7 +43,7 @@ impl<'a> FieldReader<'a> {
     }
 
     /// What is left.
-    pub fn rest(&self) -> &[u8]
+    pub fn rest(&self) -> &'a [u8]
         ensures { result.now ≡ self.now }
     {
         self.rest

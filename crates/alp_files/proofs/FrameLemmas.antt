@@ -12,8 +12,8 @@ use Rattle.alp_base.specs.declared.key.Key.TheVariants.{Leader, PageOf, OwnerOf}
 use Rattle.alp_base.specs.Keys.{key_cmp}
 use Rattle.alp_base.proofs.NameLemmas.{and_left}
 use Rattle.alp_files.specs.Holdings.{Holding, file_of, DoAgreeOnLeaves}
-use Rattle.alp_files.specs.declared.cell.Cell.{Cell}
-use Rattle.alp_files.specs.declared.cell.Props.{Props}
+use Rattle.alp_base.specs.declared.cell.Cell.{Cell}
+use Rattle.alp_base.specs.declared.cell.Props.{Props}
 use Rattle.alp_files.specs.declared.call.Call.{Call}
 use Rattle.alp_files.specs.declared.call.Call.TheVariants as call
 use Rattle.alp_files.specs.declared.open.Open.{Open}

@@ -16,7 +16,7 @@ use Rattle.alp_base.specs.declared.key.Key.{Key}
 use Rattle.alp_base.specs.Keys.{key_cmp}
 use Rattle.alp_base.specs.KeyLaws.{file_cmp, keys_total, exact_keys, exact_files}
 use Rattle.alp_base.proofs.NameLemmas.{and_left, and_right}
-use Rattle.alp_files.specs.declared.cell.Cell.{Cell}
+use Rattle.alp_base.specs.declared.cell.Cell.{Cell}
 use Rattle.alp_files.specs.Cells.{Cells, View, same_file}
 use Rattle.alp_files.specs.Edits.{Edit, Drop, Cut, Put, is_in_file, is_past, edit_at, edits_at, after, edits_map}
 use Rattle.alp_files.specs.Needs.{Intents, CutFiles, no_intents, intend, intents_from, intents_of, cut_from, is_put, is_cut, is_gone, through, with_puts}

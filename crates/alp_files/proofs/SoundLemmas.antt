@@ -12,10 +12,10 @@ use Rattle.alp_base.specs.declared.key.Key.TheVariants.{Leader, PageOf, OwnerOf}
 use Rattle.alp_base.specs.declared.choices.Access.TheVariants.{ReadOnly, Change}
 use Rattle.alp_base.specs.Keys.{key_cmp}
 use Rattle.alp_base.proofs.NameLemmas.{and_left, and_right}
-use Rattle.alp_files.specs.declared.cell.Cell.{Cell}
-use Rattle.alp_files.specs.declared.cell.Cell.TheVariants as cell
-use Rattle.alp_files.specs.declared.cell.Props.{Props}
-use Rattle.alp_files.specs.declared.cell.OwnerRecord.{OwnerRecord}
+use Rattle.alp_base.specs.declared.cell.Cell.{Cell}
+use Rattle.alp_base.specs.declared.cell.Cell.TheVariants as cell
+use Rattle.alp_base.specs.declared.cell.Props.{Props}
+use Rattle.alp_base.specs.declared.cell.OwnerRecord.{OwnerRecord}
 use Rattle.alp_files.specs.declared.call.Call.{Call}
 use Rattle.alp_files.specs.declared.call.Call.TheVariants as call
 use Rattle.alp_files.specs.declared.call.PropChange.{PropChange}

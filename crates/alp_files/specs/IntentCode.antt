@@ -5,7 +5,7 @@ use Rattle.std.specs.FinMap as map
 use Rattle.std.specs.FinSet as set
 use Rattle.alp_base.specs.contracts.ids.FileId as id_type
 use Rattle.alp_base.specs.contracts.key.Key as key_type
-use Rattle.alp_files.specs.contracts.cell.Cell as cell_type
+use Rattle.alp_base.specs.contracts.cell.Cell as cell_type
 use Rattle.alp_files.specs.Cells.{Cells}
 use Rattle.alp_files.specs.Needs.{Intents, Files, CutFiles}
 

@@ -14,7 +14,7 @@ use Rattle.alp_modes.specs.declared.Mode.{Mode}
 use Rattle.alp_modes.specs.declared.Mode.TheVariants.{Read, Write}
 use Rattle.alp_modes.specs.Modes.{covers_of}
 use Rattle.alp_files.specs.Holdings.{Holding, join_held, covers_held, held_by, file_of, given_to, mode_on, intention_of}
-use Rattle.alp_files.specs.declared.cell.Props.{Props}
+use Rattle.alp_base.specs.declared.cell.Props.{Props}
 use Rattle.alp_files.specs.declared.call.Call.{Call}
 use Rattle.alp_files.specs.declared.call.Call.TheVariants as call
 use Rattle.alp_files.specs.declared.call.PropChange.{PropChange}

@@ -7,7 +7,7 @@ ghost use Rattle.std.specs.BTreeMap.Range.{IsLeBy};
 ghost use Rattle.alp_base.specs.declared.key.Key.{Key as AKey};
 ghost use Rattle.alp_base.specs.declared.key.Key.TheVariants.{PageOf};
 ghost use Rattle.alp_base.specs.Keys.{key_cmp};
-ghost use Rattle.alp_files.specs.declared.cell.Cell.{Cell as ACell};
+ghost use Rattle.alp_base.specs.declared.cell.Cell.{Cell as ACell};
 ghost use Rattle.alp_files.specs.Undo.{puts_of, LedBy};
 ghost use Rattle.alp_files.specs.Cells.{Cells, View, size_in, sizes_of, owner_in, owners_of};
 ghost use Rattle.alp_files.specs.Edits.{over, edits_map, is_in_file as is_in_file_said, is_past as is_past_said};
@@ -15,8 +15,7 @@ ghost use Rattle.alp_files.specs.Counts.{APageStands, page_up_to};
 ghost use Rattle.std.specs.FinMap as map;
 ghost use Rattle.std.specs.Option.{option_copied as copied};
 
-use crate::{Cell, OwnerRecord};
-use alp_base::{FileId, Key, OutOfMemory};
+use alp_base::{Cell, FileId, Key, OutOfMemory, OwnerRecord};
 use std::alloc::Global;
 use std::collections::BTreeMap;
 use std::marker::Model;
@@ -30,9 +29,9 @@ pub struct CellMap {
 impl Model for CellMap {
     ghost use Rattle.std.specs.FinMap as map;
     ghost use Rattle.alp_base.specs.Keys.{key_cmp};
-    ghost use Rattle.alp_files.specs.declared.cell.Cell.{Cell};
+    ghost use Rattle.alp_base.specs.declared.cell.Cell.{Cell};
     ghost use Rattle.alp_base.specs.contracts.key.Key as key_type;
-    ghost use Rattle.alp_files.specs.contracts.cell.Cell as cell_type;
+    ghost use Rattle.alp_base.specs.contracts.cell.Cell as cell_type;
 
     ghost Value = { map.FinMap key_cmp Cell };
 

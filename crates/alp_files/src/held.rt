@@ -1,11 +1,10 @@
 //! Properties on the heap.
 ghost use Rattle.std.specs.Prelude.{◌≡◌, IfOk};
-ghost use Rattle.alp_files.specs.contracts.cell.PropsPartialEq.TheImpl as props_eq;
-ghost use Rattle.alp_files.specs.contracts.cell.PropsPartialEq.TheImpl.Laws.{laws-law};
-ghost use Rattle.alp_files.specs.contracts.cell.PropsEq.TheImpl.Laws as props_equiv;
+ghost use Rattle.alp_base.specs.contracts.cell.PropsPartialEq.TheImpl as props_eq;
+ghost use Rattle.alp_base.specs.contracts.cell.PropsPartialEq.TheImpl.Laws.{laws-law};
+ghost use Rattle.alp_base.specs.contracts.cell.PropsEq.TheImpl.Laws as props_equiv;
 
-use crate::Props;
-use alp_base::OutOfMemory;
+use alp_base::{OutOfMemory, Props};
 use std::alloc::{AllocError, Global};
 use std::marker::Model;
 
@@ -16,7 +15,7 @@ pub struct HeldProps {
 }
 
 impl Model for HeldProps {
-    ghost use Rattle.alp_files.specs.declared.cell.Props.{Props};
+    ghost use Rattle.alp_base.specs.declared.cell.Props.{Props};
 
     ghost Value = { Props };
 

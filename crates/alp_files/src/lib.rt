@@ -3,9 +3,7 @@
 
 mod admission;
 mod call;
-mod cell;
 mod cell_map;
-mod change;
 mod held;
 mod laws;
 mod leaves;
@@ -15,9 +13,7 @@ mod reply;
 
 pub use admission::admits;
 pub use call::{Call, PropChange};
-pub use cell::{BLOCK_PAGES, Cell, OwnerRecord, Props};
 pub use cell_map::{CellMap, is_in_file, is_past};
-pub use change::{Change, CutList, FileList, PutList};
 pub use held::HeldProps;
 pub use laws::{
     acts_keep_files_sound, acts_keep_sizes, agreeing_parts_commute, calls_keep_to_their_locks,

@@ -1,6 +1,6 @@
 //! Replies of a server.
-use crate::{HeldProps, OwnerRecord, Refusal};
-use alp_base::{FileId, PageList, Stamp, TransId};
+use crate::{HeldProps, Refusal};
+use alp_base::{FileId, OwnerRecord, PageList, Stamp, TransId};
 
 /// How a transaction stands.
 #[derive(Clone, Copy, PartialEq, Eq)]

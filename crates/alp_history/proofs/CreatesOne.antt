@@ -11,8 +11,8 @@ use Rattle.alp_base.specs.declared.key.Key.TheVariants.{Leader, OwnerOf}
 use Rattle.alp_base.specs.declared.key.Resource.TheVariants.{Leaf}
 use Rattle.alp_base.specs.declared.choices.Choice.TheVariants as choice
 use Rattle.alp_modes.specs.declared.Mode.TheVariants.{Write}
-use Rattle.alp_files.specs.declared.cell.Cell.{Cell}
-use Rattle.alp_files.specs.declared.cell.Cell.TheVariants as cell
+use Rattle.alp_base.specs.declared.cell.Cell.{Cell}
+use Rattle.alp_base.specs.declared.cell.Cell.TheVariants as cell
 use Rattle.alp_files.specs.declared.call.Call.{Call}
 use Rattle.alp_files.specs.declared.call.Call.TheVariants as call
 use Rattle.alp_files.specs.declared.reply.Reply.TheVariants as reply

@@ -30,7 +30,7 @@ use Rattle.alp_history.proofs.Steps.{lives_there, performed, closed, call_next}
 use Rattle.alp_history.proofs.Named.{Only, only_next, alone}
 use Rattle.alp_history.proofs.LawfulDeeds.{begins, registers, finishes}
 use Rattle.alp_history.proofs.LawfulEntries.{by_laws, call_alone}
-use Rattle.alp_files.specs.declared.cell.Cell.TheVariants as cell
+use Rattle.alp_base.specs.declared.cell.Cell.TheVariants as cell
 use Rattle.alp_files.specs.declared.reply.Reply.TheVariants as reply
 
 abbrev entry : ℕ → Entry

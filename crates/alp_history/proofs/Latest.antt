@@ -6,7 +6,7 @@ use Rattle.std.specs.Ordering.{is_lt, ordering_reverse}
 use Rattle.std.proofs.Common.{◌≡◌, ℕ, List, [], ◌∷◌, ◌++◌, refl, sym, ap, subst, ◌∙◌, inl, inr}
 use Rattle.alp_base.specs.declared.ids.Stamp.{Stamp}
 use Rattle.alp_base.specs.declared.key.Key.{Key}
-use Rattle.alp_files.specs.declared.cell.Cell.{Cell}
+use Rattle.alp_base.specs.declared.cell.Cell.{Cell}
 use Rattle.alp_files.specs.Cells.{View}
 use Rattle.alp_files.specs.Edits.{Edit, Drop, Cut, Put, edits_at, after}
 use Rattle.alp_files.specs.Apart.{changes}

@@ -17,7 +17,7 @@ use Rattle.alp_base.specs.KeyLaws.{keys_total}
 use Rattle.alp_files.specs.Holdings.{DoAgree, DoAgreeOnLeaves, IsIntended}
 use Rattle.alp_files.proofs.HoldingLemmas.{agreement-of-leaves}
 use Rattle.alp_files.specs.declared.call.Call.{Call}
-use Rattle.alp_files.specs.declared.cell.Cell.{Cell}
+use Rattle.alp_base.specs.declared.cell.Cell.{Cell}
 use Rattle.alp_files.specs.Cells.{Cells, View}
 use Rattle.alp_files.specs.Edits.{Edit, edits_map}
 use Rattle.alp_files.specs.Act.{no_opens}

@@ -11,7 +11,7 @@ use Rattle.alp_base.specs.declared.key.Key.{Key}
 use Rattle.alp_files.specs.Holdings.{Holding, held_by, DoAgree, DoAgreeOnLeaves}
 use Rattle.alp_files.proofs.HoldingLemmas.{agreement-of-leaves}
 use Rattle.alp_files.specs.Cells.{Cells, View}
-use Rattle.alp_files.specs.declared.cell.Cell.{Cell}
+use Rattle.alp_base.specs.declared.cell.Cell.{Cell}
 use Rattle.alp_files.specs.Edits.{Edit, edits_map}
 use Rattle.alp_files.specs.Act.{no_opens}
 use Rattle.alp_files.specs.History.{Standing, Decided, starting, begun}

@@ -17,8 +17,8 @@ use Rattle.alp_modes.specs.declared.Mode.TheVariants.{IntendRead, IntendWrite, R
 use Rattle.alp_modes.specs.Modes.{agree, covers_of, join_of, leaf_of}
 use Rattle.alp_files.specs.Holdings.{Holding, held_by, intention_of}
 use Rattle.alp_files.specs.Cells.{props_in}
-use Rattle.alp_files.specs.declared.cell.Cell.{Cell}
-use Rattle.alp_files.specs.declared.cell.Cell.TheVariants as cell
+use Rattle.alp_base.specs.declared.cell.Cell.{Cell}
+use Rattle.alp_base.specs.declared.cell.Cell.TheVariants as cell
 use Rattle.alp_files.specs.declared.open.Open.{Open}
 use Rattle.alp_files.specs.declared.reply.Reply.TheVariants as reply
 use Rattle.alp_files.specs.declared.refusal.Refusal.TheVariants as refusal

@@ -32,7 +32,7 @@ use Rattle.alp_history.proofs.Named.{Only, only_deed, only_next, alone, apart, a
 use Rattle.alp_history.proofs.NamedEnds.{no_file_call}
 use Rattle.alp_history.proofs.LawfulDeeds.{begins, applies, finishes, decides}
 use Rattle.alp_history.proofs.LawfulEntries.{by_laws, call_alone, then_released}
-use Rattle.alp_files.specs.declared.cell.Cell.TheVariants as cell
+use Rattle.alp_base.specs.declared.cell.Cell.TheVariants as cell
 use Rattle.alp_files.specs.declared.reply.Reply.TheVariants as reply
 
 abbrev ts : List TransId

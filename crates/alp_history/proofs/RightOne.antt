@@ -31,7 +31,7 @@ use Rattle.alp_history.proofs.NamedEnds.{ready_found, stamps_found, or_false, an
 use Rattle.alp_journal.specs.Desk.{waiting_of}
 use Rattle.alp_history.proofs.LawfulDeeds.{begins, joins, enters, readies, applies, registers, finishes, hears, decides, acknowledges, forgets}
 use Rattle.alp_history.proofs.LawfulEntries.{by_laws, call_alone, then_released}
-use Rattle.alp_files.specs.declared.cell.Cell.TheVariants as cell
+use Rattle.alp_base.specs.declared.cell.Cell.TheVariants as cell
 use Rattle.alp_files.specs.declared.reply.Reply.TheVariants as reply
 
 abbrev ts : List TransId

@@ -12,7 +12,7 @@ use Rattle.alp_modes.specs.Modes.{agree, covers_of, join_of, leaf_of}
 use Rattle.alp_files.specs.Holdings.{Holding, DoAgree, agree_held, held_by, intention_of}
 use Rattle.alp_files.specs.Act.{replied}
 use Rattle.alp_files.specs.Locks.{Need, request_of}
-use Rattle.alp_files.specs.declared.cell.Cell.TheVariants as cell
+use Rattle.alp_base.specs.declared.cell.Cell.TheVariants as cell
 use Rattle.alp_files.specs.declared.call.Call.{Call}
 use Rattle.alp_files.specs.declared.reply.Reply.{Reply}
 use Rattle.alp_files.specs.declared.reply.Reply.TheVariants as reply

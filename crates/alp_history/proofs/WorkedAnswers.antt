@@ -46,7 +46,7 @@ use Rattle.alp_history.proofs.Places.{in-list}
 use Rattle.std.specs.FinMap.{len-empty}
 use Rattle.alp_base.specs.KeyLaws.{file_cmp}
 use Rattle.alp_base.specs.Keys.{key_cmp}
-use Rattle.alp_files.specs.declared.cell.Cell.{Cell}
+use Rattle.alp_base.specs.declared.cell.Cell.{Cell}
 use Rattle.alp_files.specs.Needs.{changed}
 use Rattle.alp_journal.specs.Halts.{written}
 

@@ -10,7 +10,7 @@ use Rattle.alp_base.specs.declared.key.Key.{Key}
 use Rattle.alp_base.specs.Keys.{key_cmp}
 use Rattle.std.specs.Ordering.{eq_by_cmp, is_lt}
 use Rattle.alp_files.specs.Holdings.{held_by, IsIntended, DoAgree}
-use Rattle.alp_files.specs.declared.cell.Cell.{Cell}
+use Rattle.alp_base.specs.declared.cell.Cell.{Cell}
 use Rattle.alp_files.specs.Cells.{Cells}
 use Rattle.alp_files.specs.Edits.{Edit, Drop, Cut, Put, edits_map, is_in_file, is_past}
 use Rattle.alp_files.specs.Locks.{Writes}

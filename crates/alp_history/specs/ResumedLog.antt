@@ -6,7 +6,7 @@ use Rattle.alp_base.specs.declared.key.Key.TheVariants.{OwnerOf}
 use Rattle.alp_base.specs.declared.key.Resource.TheVariants.{Leaf}
 use Rattle.alp_modes.specs.declared.Mode.TheVariants.{Write}
 use Rattle.alp_files.specs.Edits.{Put}
-use Rattle.alp_files.specs.declared.cell.Cell.TheVariants as cell
+use Rattle.alp_base.specs.declared.cell.Cell.TheVariants as cell
 use Rattle.alp_files.specs.declared.call.Call.TheVariants as call
 use Rattle.alp_files.specs.declared.reply.Reply.TheVariants as reply
 use Rattle.alp_journal.specs.declared.act.Act.TheVariants as act

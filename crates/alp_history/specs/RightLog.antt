@@ -9,8 +9,8 @@ use Rattle.alp_base.specs.declared.key.Key.TheVariants.{OwnerOf}
 use Rattle.alp_base.specs.declared.choices.Choice.TheVariants as choice
 use Rattle.alp_files.specs.Cells.{Cells}
 use Rattle.alp_files.specs.History.{PerformedCall, Decided}
-use Rattle.alp_files.specs.declared.cell.Cell.TheVariants as cell
-use Rattle.alp_files.specs.declared.cell.OwnerRecord.{OwnerRecord}
+use Rattle.alp_base.specs.declared.cell.Cell.TheVariants as cell
+use Rattle.alp_base.specs.declared.cell.OwnerRecord.{OwnerRecord}
 use Rattle.alp_files.specs.declared.call.Call.{Call}
 use Rattle.alp_files.specs.declared.call.Call.TheVariants as call
 use Rattle.alp_files.specs.declared.reply.Reply.TheVariants as reply

@@ -4,12 +4,10 @@ use Rattle.std.specs.List.{list_any, AllByRecursion}
 use Rattle.std.specs.FinMap as map
 use Rattle.std.proofs.lemmas.List.{append-nil, append_assoc}
 use Rattle.std.proofs.Common.{inl, inr, ◌≡◌, ℕ, ◌+◌, ◌<◌, ◌≤◌, List, [], ◌∷◌, ◌++◌, refl, sym, ap, subst, ◌∙◌, arith, le_refl}
-use Rattle.alp_base.specs.declared.faults.Sizes.{Sizes}
 use Rattle.alp_base.specs.declared.ids.FileId.{FileId}
 use Rattle.alp_base.specs.declared.ids.JoinNo.{JoinNo}
 use Rattle.alp_base.specs.declared.ids.TransId.{TransId}
 use Rattle.alp_base.specs.declared.ids.Stamp.{Stamp}
-use Rattle.alp_base.specs.Notes.{Notes}
 use Rattle.alp_files.specs.Act.{id_in}
 use Rattle.alp_files.specs.Apart.{AreSized, AreFormed, after_part}
 use Rattle.alp_files.specs.Cells.{Cells}
@@ -27,9 +25,9 @@ use Rattle.alp_journal.specs.declared.event.Event.{Event}
 use Rattle.alp_journal.specs.declared.event.Event.TheVariants as event
 use Rattle.alp_journal.specs.Along.{Along, Where, state_after}
 use Rattle.alp_journal.specs.Coordinator.{Vote}
-use Rattle.alp_journal.specs.Opening.{start_at}
+use Rattle.alp_journal.specs.Opening.{Start, ReadyNote}
 use Rattle.alp_journal.specs.Deeds.{Deed, Begins, Joins, Enters, Quits, Aborts, Grants, Performs, Releases, Readies, Applies, Registers, Finishes, Hears, Decides, Ends, Acknowledges, Forgets, Restarts}
-use Rattle.alp_journal.specs.Holder.{Holder, Life, holder_after}
+use Rattle.alp_journal.specs.Holder.{Holder, Life, holder_after, lives_noted}
 use Rattle.alp_journal.specs.Holding.{HasNotVoted, MayDo}
 use Rattle.alp_journal.specs.State.{State, state_deed, ids_after, opened}
 use Rattle.alp_journal.specs.Moves.{next_file, is_effective, resolved, event_deeds, act_deeds, done_deeds, is_stop, stops, tried, did, told, halted, next}
@@ -232,16 +230,20 @@ journal_stands o s (e ∷ es) own law h = journal_stands o (next s e) es own.1 l
 
 -- ---- at the start
 
-pub opened_stands : (server servers : ℕ) (sizes : Sizes) (cells : Cells) (notes : Notes) → AreSound cells → AreSized (map.get cells) → Stands AreSound (opened (start_at server servers sizes cells notes))
-opened_stands server servers sizes cells notes sound sized = record {
-  held = opened_held;
+-- of a server that keeps no part that is ready
+pub opened_stands : (o : Start) → o.ready ≡ [] → AreSound o.cells → AreSized (map.get o.cells) → Stands AreSound (opened o)
+opened_stands o none sound sized = record {
+  held = subst HeldWith (sym none) opened_held;
   made = tt;
-  found = λ ready clock stamps. opened_held;
+  found = λ ready clock stamps. subst HeldWith (sym none) opened_held;
 }
   where
-    opened_held : IsHeld AreSound (opened (start_at server servers sizes cells notes)).holder
+    HeldWith : List ReadyNote → Type 0
+    HeldWith rs = IsHeld AreSound (record { server = o.server; clock = o.clock; kept = o.clock; cells = o.cells; lives = lives_noted rs; made = []; applied = []; left = [] })
+
+    opened_held : HeldWith []
     opened_held = record {
-      base = cells;
+      base = o.cells;
       from = sound;
       base_sized = sized;
       parts = [];

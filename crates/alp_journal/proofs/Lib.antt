@@ -1,3 +1,4 @@
+pub mod NoteLemmas
 pub mod IdLemmas
 pub mod StampLemmas
 pub mod WaitLemmas

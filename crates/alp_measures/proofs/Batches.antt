@@ -3,7 +3,7 @@ use Rattle.std.proofs.Common.{◌≡◌, ◌<◌, ◌≤◌, ℕ, Bool, true, fa
 use Rattle.std.specs.List.{AllByRecursion}
 use Rattle.std.proofs.lemmas.Bool.Decides.{nat_tests}
 use Rattle.alp_batch.specs.Batch.{page_below}
-use Rattle.alp_batch.specs.Rising.{rises_from, is_rising}
+use Rattle.alp_fields.specs.Rising.{rises_from, is_rising}
 use Rattle.alp_batch.specs.declared.batch.PageImage.{PageImage}
 use Rattle.alp_wal.specs.State.{IsBelow}
 

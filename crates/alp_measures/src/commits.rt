@@ -2,7 +2,7 @@
 ghost use Rattle.std.specs.Prelude.{◌≡◌, ◌≤◌, true, false, [], length, IfOk, IsTrue};
 ghost use Rattle.std.specs.List.{AllByRecursion};
 ghost use Rattle.alp_batch.specs.Batch.{IsBatch, page_below};
-ghost use Rattle.alp_batch.specs.Rising.{is_rising};
+ghost use Rattle.alp_fields.specs.Rising.{is_rising};
 ghost use Rattle.alp_wal.specs.State.{IsBelow};
 ghost use Rattle.alp_wal.specs.Wal.{disk_of, is_dead, IsLog, IsKnown};
 

@@ -9,11 +9,12 @@ use crate::commits::{append_often, new_file};
 use crate::rates::{Trouble, hundredths, rate_since};
 use crate::takes::can_take;
 use alp_base::{
-    AccessList, FileId, Key, Name, NoteChange, OutOfMemory, Page, PageRef, Sizes, VaultFault,
+    AccessList, Cell, Change, CutList, FileId, FileList, Key, Name, NoteChange, OutOfMemory,
+    OwnerRecord, Page, PageRef, Props, PutList, Sizes, VaultFault,
 };
 use alp_disk::{Disk, FileDisk};
 use alp_fields::{ClockNote, clock_change};
-use alp_files::{Cell, CellMap, Change, CutList, FileList, OwnerRecord, Props, PutList};
+use alp_files::CellMap;
 use alp_store::Store;
 use alp_vault::Vault;
 use std::alloc::Global;

@@ -5,9 +5,8 @@ ghost use Rattle.alp_fields.specs.ClockNote.{IsClockNote};
 ghost use Rattle.alp_files.specs.Changes.{ArePutOnce};
 ghost use Rattle.alp_vault.specs.Volumes.{IsCommit, changed_cells, fits_key as fits_key_said, fit_keys as fit_keys_said};
 
-use alp_base::{Key, NoteChange, PAGES_PER_FILE};
+use alp_base::{Cell, Change, Key, NoteChange, PAGES_PER_FILE};
 use alp_calls::are_server_notes;
-use alp_files::{Cell, Change};
 use alp_vault::Vault;
 
 // A cell is of its key's kind, and within the limits of a file.

@@ -11,9 +11,9 @@ ghost use Rattle.alp_volume.specs.Known.{IsCatalog};
 
 use crate::rates::{Trouble, rate_since};
 use alp_base::{
-    AccessList, FileId, Key, Name, OutOfMemory, PAGES_PER_FILE, Page, PageRef, Sequence, VaultFault,
+    AccessList, Cell, Change, FileId, Key, Name, OutOfMemory, OwnerRecord, PAGES_PER_FILE, Page,
+    PageRef, Props, Sequence, VaultFault,
 };
-use alp_files::{Cell, Change, OwnerRecord, Props};
 use alp_pages::{PageReader, fetch_page, new_header};
 use alp_volume::{Catalog, plan_change, read_volume};
 use std::alloc::Global;

@@ -17,7 +17,7 @@ use Rattle.alp_files.specs.Edits.{edits_map}
 use Rattle.alp_locks.specs.Sound.{IsSound}
 use Rattle.alp_vault.specs.Contents.{Contents}
 use Rattle.alp_vault.specs.Vault.{IsOneOf, IsSameVault}
-use Rattle.alp_vault.specs.Volumes.{AreServerNotes, IsVolumeOf}
+use Rattle.alp_vault.specs.Volumes.{AreNotesSoFar, IsVolumeOf}
 use Rattle.alp_vault.specs.declared.vault.Vault.{Ghosts}
 use Rattle.alp_journal.specs.declared.entry.Entry.{Entry}
 use Rattle.alp_journal.specs.declared.event.Event.TheVariants as event
@@ -101,7 +101,7 @@ abbrev none_noted : Notes
 none_noted = map.empty
 
 -- of notes in the format of a server it keeps what was spelled, where those are numbers of the note
-pub note_found : (server servers : ℕ) (notes : Notes) (c : ClockNote) → notes ≡ clock_notes c → AreServerNotes server servers notes → c.epoch < 2 ^ 32 → c.clock < 2 ^ 64 → clock_kept notes ≡ c
+pub note_found : (server servers : ℕ) (notes : Notes) (c : ClockNote) → notes ≡ clock_notes c → AreNotesSoFar server servers notes → c.epoch < 2 ^ 32 → c.clock < 2 ^ 64 → clock_kept notes ≡ c
 note_found server servers notes c is are epoch clock = ap clock_in there ∙ go (whole clock_form (clock_form.spell c)) refl
   where
     there : map.get notes clock_name ≡ Some (clock_form.spell c)
@@ -116,7 +116,7 @@ note_found server servers notes c is are epoch clock = ap clock_in there ∙ go 
 
 -- ---- what a crash leaves then
 
-module _ (server servers last : ℕ) (s : State) (found : Contents) (notes : AreServerNotes server servers found.notes) (at : s.ids.epoch ≡ last) (low : last < 4294967295) where
+module _ (server servers last : ℕ) (s : State) (found : Contents) (notes : AreNotesSoFar server servers found.notes) (at : s.ids.epoch ≡ last) (low : last < 4294967295) where
   -- the clock of what is found, where the holder keeps this one
   found_clock : (epoch : ℕ) (h : Holder) → (epoch ≡ s.ids.epoch) ⊎ (epoch ≡ s.ids.epoch + 1) → h.kept < 2 ^ 64 → found ≡ stored_by epoch h → (clock_kept found.notes).clock ≡ h.kept
   found_clock epoch h near clock is = ap (λ (c : ClockNote). c.clock) (note_found server servers found.notes (record { epoch = epoch; clock = h.kept }) (ap (λ (c : Contents). c.notes) is) notes (fits near) clock)
@@ -171,16 +171,16 @@ module _ (a : Alone) (server epoch : ℕ) (sizes : Sizes) (past : IsPast a serve
 -- ---- the notes are in the format
 
 module _ (server servers : ℕ) (s : State) (c : Contents) (l : IsLeftOf s c) where
-  noted_by : (h : Holder) → h.kept ≤ 2 ^ 62 → c ≡ stored_by l.epoch h → AreServerNotes server servers c.notes
+  noted_by : (h : Holder) → h.kept ≤ 2 ^ 62 → c ≡ stored_by l.epoch h → AreNotesSoFar server servers c.notes
   noted_by h time is =
       let k : ClockNote = record { epoch = l.epoch; clock = h.kept } in
-      subst (λ (x : Contents). AreServerNotes server servers x.notes) (sym is) (noted_alone server servers k (time_fits k l.last time))
+      subst (λ (x : Contents). AreNotesSoFar server servers x.notes) (sym is) (noted_alone server servers k (time_fits k l.last time))
 
-  left_noted : s.holder.kept ≤ 2 ^ 62 → (holder_then s).kept ≤ 2 ^ 62 → AreServerNotes server servers c.notes
+  left_noted : s.holder.kept ≤ 2 ^ 62 → (holder_then s).kept ≤ 2 ^ 62 → AreNotesSoFar server servers c.notes
   left_noted kept then = ⊎_elim (λ e. noted_by s.holder kept e) (λ e. noted_by (holder_then s) then e) l.either
 
 -- whatever a crash leaves of a server that tells
-pub notes_left : {V : Type 0} (G : Ghosts V) (d : DownState V) → IsFallen G d → IsTrue (G.tells d.vault) → (c : Contents) → G.may_leave d.vault c → AreServerNotes (G.server d.vault) (G.servers d.vault) c.notes
+pub notes_left : {V : Type 0} (G : Ghosts V) (d : DownState V) → IsFallen G d → IsTrue (G.tells d.vault) → (c : Contents) → G.may_leave d.vault c → AreNotesSoFar (G.server d.vault) (G.servers d.vault) c.notes
 notes_left G d h told c here =
     let r : IsPastRight (start_of G d) (G.volume d.vault) d = h.right told in
     left_noted (G.server d.vault) (G.servers d.vault) (state_of (start_of G d) d.journal) c (h.left told c here)
@@ -222,7 +222,7 @@ record LeadsTo {V : Type 0} (a : Alone) (e : Entry) (held : Contents) (k : Serve
   kept : IsAs next held k
 
 module _ {V : Type 0} (old : ServerState V) (server servers epoch : ℕ) (sizes : Sizes) (a : Alone) (past : IsPast a server epoch sizes) (some : 0 < epoch) (low : epoch < 4294967295)
-    (found held : Contents) (notes : AreServerNotes server servers found.notes) (is : held ≡ with_clock found (next_clock epoch found)) (volume : IsVolumeOf sizes held.cells) where
+    (found held : Contents) (notes : AreNotesSoFar server servers found.notes) (is : held ≡ with_clock found (next_clock epoch found)) (volume : IsVolumeOf sizes held.cells) where
   abbrev clock : ClockNote
   clock = next_clock epoch found
 
@@ -265,7 +265,7 @@ module _ {V : Type 0} (old : ServerState V) (server servers epoch : ℕ) (sizes 
 -- a server that starts again keeps what its journal says
 pub again_right : {V : Type 0} (G : Ghosts V) (d : DownState V) (n : NodeState V) (held : Contents) (clock : ClockNote) → IsFallen G d → IsTrue (G.tells d.vault) → d.epoch < 4294967295
     → n.opening ≡ d.opening → n.journal ≡ d.journal ++ entry_again clock ∷ [] → n.kept ≡ new_kept n.kept d.server (G.volume d.vault) clock
-    → (found : Contents) → G.may_leave d.vault found → AreServerNotes (G.server d.vault) (G.servers d.vault) found.notes → clock ≡ next_clock d.epoch found → held ≡ with_clock found clock → IsVolumeOf (G.volume d.vault) held.cells
+    → (found : Contents) → G.may_leave d.vault found → AreNotesSoFar (G.server d.vault) (G.servers d.vault) found.notes → clock ≡ next_clock d.epoch found → held ≡ with_clock found clock → IsVolumeOf (G.volume d.vault) held.cells
     → IsRight (start_in G n) held n
 again_right G d n held clock h told low opening is kept found left notes next_is held_is volume =
     let r : IsPastRight (start_of G d) (G.volume d.vault) d = h.right told in
@@ -274,7 +274,7 @@ again_right G d n held clock h told low opening is kept found left notes next_is
     let same_start : o ≡ start_in G n = (λ i. start_by G (sym (ap (λ (k : ServerState _). k.server) kept) i) (sym opening i).vault.value) in
     let l : IsLeftOf (alone a) found = subst (λ (z : State). IsLeftOf z found) r.says (h.left told found left) in
     let to : LeadsTo a (entry_again (next_clock d.epoch found)) held (new_kept n.kept a.holder.server (G.volume d.vault) (next_clock d.epoch found)) =
-    again n.kept d.server (G.servers d.vault) d.epoch (G.volume d.vault) a r.past h.raised low found held (subst (λ (m : ℕ). AreServerNotes m (G.servers d.vault) found.notes) h.number notes) (held_is ∙ ap (with_clock found) next_is) volume l in
+    again n.kept d.server (G.servers d.vault) d.epoch (G.volume d.vault) a r.past h.raised low found held (subst (λ (m : ℕ). AreNotesSoFar m (G.servers d.vault) found.notes) h.number notes) (held_is ∙ ap (with_clock found) next_is) volume l in
     let e : Entry = entry_again clock in
     let leads : Leads false a e to.next = subst (λ (c : ClockNote). Leads false a (entry_again c) to.next) (sym next_is) to.leads in
     subst (λ (x : Start). IsRight x held n) same_start (record {

@@ -99,9 +99,8 @@ still_right o held then old new h as_is is = record {
 pub right_sound : {V : Type 0} (G : Ghosts V) (n : NodeState V) (held : Contents) → IsRight (start_in G n) held n → n.kept.is_down ≡ false → AreLivesSound held n.kept
 right_sound G n held r up t l there =
     let a : Alone = r.state in
-    let v = n.opening.vault.value in
     let k = n.kept in
-    let first : Stands AreSound (opened (start_in G n)) = opened_stands k.server (G.servers v) (G.volume v) (G.held v).cells (G.held v).notes r.opening.files r.opening.sizes in
+    let first : Stands AreSound (opened (start_in G n)) = opened_stands (start_in G n) r.opening.ready r.opening.files r.opening.sizes in
     let now : Stands AreSound (alone a) = subst (Stands AreSound) r.says (journal_stands AreSound (opened (start_in G n)) n.journal r.own r.lawful first) in
     let y : IsLive a.holder.cells k.locks.held (a.locked t) t l (a.holder.lives t) = live_there a.holder.cells k.locks.held (a.locked t) t (map.get k.lives t) (a.holder.lives t) l there (r.kept.lives t) in
     let pair : IsPaired (Some y.life) (a.fates t) = subst (λ (x : Option Life). IsPaired x (a.fates t)) y.is (r.kept.quiet.settled.paired t) in

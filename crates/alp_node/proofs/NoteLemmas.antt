@@ -12,7 +12,7 @@ use Rattle.alp_fields.specs.ClockNote.{clock_name, clock_form, clock_in, clock_k
 use Rattle.alp_fields.specs.declared.clock_note.ClockNote.{ClockNote}
 use Rattle.alp_files.specs.Cells.{same_name}
 use Rattle.alp_files.proofs.SameLemmas.{same_name-true}
-use Rattle.alp_vault.specs.Volumes.{AreServerNotes}
+use Rattle.alp_vault.specs.Volumes.{AreNotesSoFar}
 use Rattle.alp_vault.proofs.VolumeLemmas.{changed_notes}
 use Rattle.alp_node.specs.Durable.{clock_notes}
 
@@ -20,10 +20,10 @@ abbrev no_notes : Notes
 no_notes = map.empty
 
 -- by itself it is in the format
-pub noted_alone : (server servers : ℕ) (c : ClockNote) → clock_form.Fits c → AreServerNotes server servers (clock_notes c)
+pub noted_alone : (server servers : ℕ) (c : ClockNote) → clock_form.Fits c → AreNotesSoFar server servers (clock_notes c)
 noted_alone server servers c fits = changed_notes server servers no_notes ((record { name = clock_name; value = Some (clock_form.spell c) }) ∷ []) none (record { name = refl; clock = c; fits = fits; value = refl })
   where
-    none : AreServerNotes server servers no_notes
+    none : AreNotesSoFar server servers no_notes
     none name value there = let wrong : None ≡ Some value = sym (get-empty text_cmp name) ∙ there in cc
 
 -- the note that was put is kept
@@ -45,7 +45,7 @@ put_again old new = put_alone (clock_notes old) new (λ q e.
     get-insert nat_list_cmp_total no_notes clock_name (clock_form.spell old) q ∙ ap (λ (b : Bool). cond {A = Option (List ℕ)} b (Some (clock_form.spell old)) (map.get no_notes q)) e ∙ get-empty text_cmp q)
 
 -- notes in the format of a server have no other name
-pub put_first : (server servers : ℕ) (notes : Notes) (c : ClockNote) → AreServerNotes server servers notes → map.insert notes clock_name (clock_form.spell c) ≡ clock_notes c
+pub put_first : (server servers : ℕ) (notes : Notes) (c : ClockNote) → AreNotesSoFar server servers notes → map.insert notes clock_name (clock_form.spell c) ≡ clock_notes c
 put_first server servers notes c are = put_alone notes c (λ q e. go q e (map.get notes q) refl)
   where
     first : (a b : Bool) → a && b ≡ true → a ≡ true

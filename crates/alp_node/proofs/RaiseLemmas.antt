@@ -20,7 +20,7 @@ use Rattle.alp_trans.specs.Parts.{change_of}
 use Rattle.alp_trans.specs.declared.part.Part.{Part}
 use Rattle.alp_vault.specs.Contents.{Contents}
 use Rattle.alp_vault.specs.Vault.{IsSameVault}
-use Rattle.alp_vault.specs.Volumes.{AreServerNotes}
+use Rattle.alp_vault.specs.Volumes.{AreNotesSoFar}
 use Rattle.alp_vault.specs.declared.vault.Vault.{Ghosts}
 use Rattle.alp_node.specs.Downs.{IsLeftOrRaised, HasRegained, IsNext, HasNextCause, HasRaiseCause, IsRecovered, IsUnrecovered, IsPoweredOff, HasBegunEpoch, HasNotBegun, next_clock, with_clock}
 use Rattle.alp_node.specs.Durable.{Leaves, Besides, IsWritten}
@@ -39,11 +39,11 @@ still_free old new is spends = subst (λ (a : Allowance). Spends a new) is spend
 -- ---- the note that is found
 
 -- a note that cannot be read is not in the format
-pub unreadable : {V : Type 0} (G : Ghosts V) (v : V) (value : List ℕ) → map.get (G.held v).notes clock_name ≡ Some value → whole clock_form value ≡ None → AreServerNotes (G.server v) (G.servers v) (G.held v).notes → ⊥
+pub unreadable : {V : Type 0} (G : Ghosts V) (v : V) (value : List ℕ) → map.get (G.held v).notes clock_name ≡ Some value → whole clock_form value ≡ None → AreNotesSoFar (G.server v) (G.servers v) (G.held v).notes → ⊥
 unreadable G v value there none are = let wrong : false ≡ true = ap (λ (o : Option ClockNote). is_some o) (sym none) ∙ are clock_name value there in cc
 
 -- and one that is read has the clock
-pub next_noted : {V : Type 0} (G : Ghosts V) (last : ℕ) (v : V) (value : List ℕ) (kept : ClockNote) → AreServerNotes (G.server v) (G.servers v) (G.held v).notes → map.get (G.held v).notes clock_name ≡ Some value → whole clock_form value ≡ Some kept
+pub next_noted : {V : Type 0} (G : Ghosts V) (last : ℕ) (v : V) (value : List ℕ) (kept : ClockNote) → AreNotesSoFar (G.server v) (G.servers v) (G.held v).notes → map.get (G.held v).notes clock_name ≡ Some value → whole clock_form value ≡ Some kept
     → IsNext G last v (record { epoch = last + 1; clock = kept.clock })
 next_noted G last v value kept are there is =
     let same : clock_kept (G.held v).notes ≡ kept = ap clock_in there ∙ ap (λ (o : Option ClockNote). unwrap_or o no_clock) is in
@@ -57,7 +57,7 @@ module _ {V : Type 0} (G : Ghosts V) (last : ℕ) (old : V) where
   idle_leaves = record { crash = λ c here. inl here; time = record { each = λ start c was. inl was } }
 
   -- one that was written once
-  pub written_leaves : (new : V) (p : Part) (k : ClockNote) → last < 4294967295 → G.may_leave old (G.held old) → p.intents ≡ no_intents → k ≡ next_clock last (G.held old) → AreServerNotes (G.server old) (G.servers old) (G.held old).notes
+  pub written_leaves : (new : V) (p : Part) (k : ClockNote) → last < 4294967295 → G.may_leave old (G.held old) → p.intents ≡ no_intents → k ≡ next_clock last (G.held old) → AreNotesSoFar (G.server old) (G.servers old) (G.held old).notes
       → Leaves G old new (Besides G old (IsWritten p.intents k (G.held old))) → Leaves G old new (IsLeftOrRaised G last old)
   written_leaves new p k low as_held none next notes h = record {
     crash = λ c here. seen c (h.crash c here);
@@ -75,11 +75,11 @@ module _ {V : Type 0} (G : Ghosts V) (last : ℕ) (old : V) where
 -- ---- a recovery, and the write
 
 module _ {V : Type 0} (G : Ghosts V) (last : ℕ) (old mid : V) (same : IsSameVault G.tells G.volume G.server G.servers old mid) (no_more : NoMore (G.may_leave old) (G.may_leave mid)) where
-  pub notes_before : (c : Contents) → AreServerNotes (G.server mid) (G.servers mid) c.notes → AreServerNotes (G.server old) (G.servers old) c.notes
-  notes_before c are = subst (λ (m : ℕ). AreServerNotes m (G.servers old) c.notes) same.number (subst (λ (m : ℕ). AreServerNotes (G.server mid) m c.notes) same.of_all are)
+  pub notes_before : (c : Contents) → AreNotesSoFar (G.server mid) (G.servers mid) c.notes → AreNotesSoFar (G.server old) (G.servers old) c.notes
+  notes_before c are = subst (λ (m : ℕ). AreNotesSoFar m (G.servers old) c.notes) same.number (subst (λ (m : ℕ). AreNotesSoFar (G.server mid) m c.notes) same.of_all are)
 
-  notes_after : (c : Contents) → AreServerNotes (G.server old) (G.servers old) c.notes → AreServerNotes (G.server mid) (G.servers mid) c.notes
-  notes_after c are = subst (λ (m : ℕ). AreServerNotes m (G.servers mid) c.notes) (sym same.number) (subst (λ (m : ℕ). AreServerNotes (G.server old) m c.notes) (sym same.of_all) are)
+  notes_after : (c : Contents) → AreNotesSoFar (G.server old) (G.servers old) c.notes → AreNotesSoFar (G.server mid) (G.servers mid) c.notes
+  notes_after c are = subst (λ (m : ℕ). AreNotesSoFar m (G.servers mid) c.notes) (sym same.number) (subst (λ (m : ℕ). AreNotesSoFar (G.server old) m c.notes) (sym same.of_all) are)
 
   widen : (c : Contents) → IsLeftOrRaised G last mid c → IsLeftOrRaised G last old c
   widen c (inl before) = inl (no_more c before)
@@ -161,7 +161,7 @@ no_next G last old new f serving as_held off why = record {
 pub raised_whole : {V : Type 0} (G : Ghosts V) (last : ℕ) (old new : V) (p : Part) (clock : ClockNote) → last < 4294967295 → IsNext G last old clock → (IsTrue (G.tells old) → G.may_leave old (G.held old)) → p.intents ≡ no_intents
     → IsTrue (G.serves new) → IsSameVault G.tells G.volume G.server G.servers old new → G.allowance new ≡ Free → G.faults new ≡ G.faults old
     → (IsTrue (G.tells old) → (G.held new).cells ≡ edits_map (edits_of (change_of p.intents)) (G.held old).cells) → (G.held new).notes ≡ map.insert (G.held old).notes clock_name (clock_form.spell clock)
-    → AreServerNotes (G.server new) (G.servers new) (G.held new).notes → clock_kept (G.held new).notes ≡ clock
+    → AreNotesSoFar (G.server new) (G.servers new) (G.held new).notes → clock_kept (G.held new).notes ≡ clock
     → (IsTrue (G.tells old) → Leaves G old new (Besides G old (IsWritten p.intents clock (G.held old)))) → HasBegunEpoch G last old new clock
 raised_whole G last old new p clock low next as_held none serving same free counted cells notes format note leaves = record {
   serving = serving;

@@ -7,7 +7,7 @@ use Rattle.alp_base.specs.declared.allowance.Allowance.TheVariants.{Free, Left, 
 use Rattle.alp_fields.specs.ClockNote.{clock_kept}
 use Rattle.alp_vault.specs.Contents.{Contents}
 use Rattle.alp_vault.specs.Vault.{IsSameVault}
-use Rattle.alp_vault.specs.Volumes.{AreServerNotes}
+use Rattle.alp_vault.specs.Volumes.{AreNotesSoFar}
 use Rattle.alp_vault.specs.declared.vault.Vault.{Ghosts}
 use Rattle.alp_calls.specs.Looks.{IsLeft}
 use Rattle.alp_calls.proofs.LookLemmas.{left_same}
@@ -37,11 +37,11 @@ module _ {V : Type 0} (G : Ghosts V) where
   left_alone old new is = subst (IsLeft G old) (sym is) (left_same G old)
 
   -- notes that stay are in the format that they were in
-  pub same_format : (old new : V) → IsSameVault G.tells G.volume G.server G.servers old new → (G.held new).notes ≡ (G.held old).notes → AreServerNotes (G.server old) (G.servers old) (G.held old).notes
-      → AreServerNotes (G.server new) (G.servers new) (G.held new).notes
+  pub same_format : (old new : V) → IsSameVault G.tells G.volume G.server G.servers old new → (G.held new).notes ≡ (G.held old).notes → AreNotesSoFar (G.server old) (G.servers old) (G.held old).notes
+      → AreNotesSoFar (G.server new) (G.servers new) (G.held new).notes
   same_format old new same notes h =
-      subst (λ (n : ℕ). AreServerNotes n (G.servers new) (G.held new).notes) (sym same.number)
-      (subst (λ (n : ℕ). AreServerNotes (G.server old) n (G.held new).notes) (sym same.of_all) (subst (AreServerNotes (G.server old) (G.servers old)) (sym notes) h))
+      subst (λ (n : ℕ). AreNotesSoFar n (G.servers new) (G.held new).notes) (sym same.number)
+      (subst (λ (n : ℕ). AreNotesSoFar (G.server old) n (G.held new).notes) (sym same.of_all) (subst (AreNotesSoFar (G.server old) (G.servers old)) (sym notes) h))
 
   -- after a look a crash leaves what it might have left before
   pub left_leaves : (old new : V) (P : Contents → Type 0) → IsLeft G old new → Leaves G old new (Besides G old P)

@@ -9,7 +9,7 @@ use Rattle.alp_base.specs.declared.ids.FileId.{FileId}
 use Rattle.alp_base.specs.declared.ids.TransId.{TransId}
 use Rattle.alp_files.specs.Act.{Own, Answer as Answered, Say, run, open_at, on_open, is_changing, refused, replied, delete_file, read_pages, write_pages, set_size, write_props}
 use Rattle.alp_files.specs.Locks.{Need, needs_of, needs_on_open, page_needs, mark_needs, size_needs, change_needs}
-use Rattle.alp_files.specs.declared.cell.Props.{Props}
+use Rattle.alp_base.specs.declared.cell.Props.{Props}
 use Rattle.alp_files.specs.declared.open.Open.{Open}
 use Rattle.alp_base.specs.declared.key.Key.TheVariants.{OwnerOf}
 use Rattle.alp_base.specs.declared.key.Resource.TheVariants.{Whole, Leaf}

@@ -13,12 +13,12 @@ use Rattle.alp_base.specs.declared.key.Key.TheVariants.{Leader, PageOf, OwnerOf}
 use Rattle.alp_base.specs.declared.key.Resource.{Resource}
 use Rattle.alp_base.specs.declared.key.Resource.TheVariants.{Whole}
 use Rattle.alp_fields.specs.Forms.{whole}
-use Rattle.alp_fields.specs.ClockNote.{clock_name, clock_form, clock_in, clock_kept}
+use Rattle.alp_fields.specs.ClockNote.{clock_name, clock_form, clock_in, clock_kept, AreClockNotes}
 use Rattle.alp_fields.specs.declared.clock_note.ClockNote.{ClockNote}
 use Rattle.alp_fields.proofs.ClockLemmas.{clock_within}
 use Rattle.alp_node.proofs.ClockLaws.{clock_epoch, not_last}
-use Rattle.alp_files.specs.declared.cell.Cell.{Cell}
-use Rattle.alp_files.specs.declared.cell.Cell.TheVariants as cell
+use Rattle.alp_base.specs.declared.cell.Cell.{Cell}
+use Rattle.alp_base.specs.declared.cell.Cell.TheVariants as cell
 use Rattle.alp_files.specs.Locks.{page_limit}
 use Rattle.alp_files.specs.Cells.{Cells}
 use Rattle.alp_files.specs.Edits.{edits_map}
@@ -38,9 +38,10 @@ use Rattle.alp_base.specs.declared.faults.VaultFault.{VaultFault}
 use Rattle.alp_base.specs.Crashes.{Only}
 use Rattle.alp_vault.specs.Contents.{Contents}
 use Rattle.alp_vault.specs.declared.vault.Vault.{Ghosts}
-use Rattle.alp_vault.specs.Volumes.{IsVolumeOf, AreServerNotes}
+use Rattle.alp_vault.specs.Volumes.{IsVolumeOf, AreNotesSoFar}
 use Rattle.alp_base.specs.declared.faults.Sizes.{Sizes}
 use Rattle.alp_journal.specs.Opening.{Start, start_at}
+use Rattle.alp_journal.proofs.NoteLemmas.{started_plain}
 use Rattle.alp_journal.specs.Coordinator.{Undrawn}
 use Rattle.alp_journal.specs.Holder.{holder_opened}
 use Rattle.alp_journal.specs.State.{opened}
@@ -101,7 +102,7 @@ pub raised_within : (held : Contents) (c : ClockNote) → raised held ≡ Ok c �
 raised_within held c e = (after_any (map.get held.notes clock_name) c e).within
 
 -- why a server does not start on notes that are in their format
-pub start_cause : (server servers : ℕ) (held : Contents) (before : ℕ) (a : Allowance) (value : List ℕ) (r : Result ClockNote StartFault) → AreServerNotes server servers held.notes
+pub start_cause : (server servers : ℕ) (held : Contents) (before : ℕ) (a : Allowance) (value : List ℕ) (r : Result ClockNote StartFault) → AreNotesSoFar server servers held.notes
     → map.get held.notes clock_name ≡ Some value → r ≡ after_clock (whole clock_form value) → IfErr r (HasStartCause server servers held before before a)
 start_cause server servers held before a value r are there is =
     subst (λ (x : Result ClockNote StartFault). IfErr x (HasStartCause server servers held before before a)) (sym is) (go (whole clock_form value) refl)
@@ -190,8 +191,8 @@ new_alone o = record {
   pending = [];
 }
 
-pub new_says : (server servers : ℕ) (sizes : Sizes) (cells : Cells) (notes : Notes) → opened (start_at server servers sizes cells notes) ≡ alone (new_alone (start_at server servers sizes cells notes))
-new_says server servers sizes cells notes = refl
+pub new_says : (server servers : ℕ) (sizes : Sizes) (cells : Cells) (notes : Notes) → AreClockNotes notes → opened (start_at server servers sizes cells notes) ≡ alone (new_alone (start_at server servers sizes cells notes))
+new_says server servers sizes cells notes are = ap opened (started_plain server servers sizes cells notes are)
 
 pub alike_none : (cells : Cells) (t : TransId) → IsAlike cells map.empty [] t (map.get no_lives t) None
 alike_none cells t = subst (λ (x : Option Live). IsAlike cells map.empty [] t x None) (sym (none_live t)) (none_locked t)
@@ -312,9 +313,9 @@ raised_last held c e = (after_any (map.get held.notes clock_name) c e).last
 pub raised_some : (held : Contents) (c : ClockNote) → raised held ≡ Ok c → 0 < c.epoch
 raised_some held c e = some_epoch (clock_kept held.notes).epoch c.epoch (raised_later held c e)
 
-pub new_right : {V : Type 0} (n : NodeState V) (o : Start) (held : Contents) → n.journal ≡ [] → opened o ≡ alone (new_alone o) → AreSound o.cells → AreSized (map.get o.cells) → IsAs (new_alone o) held n.kept → IsRight o held n
-new_right n o held empty says sound sized h = record {
-  opening = record { files = sound; sizes = sized };
+pub new_right : {V : Type 0} (n : NodeState V) (o : Start) (held : Contents) → n.journal ≡ [] → opened o ≡ alone (new_alone o) → o.ready ≡ [] → o.decisions ≡ [] → AreSound o.cells → AreSized (map.get o.cells) → IsAs (new_alone o) held n.kept → IsRight o held n
+new_right n o held empty says ready decided sound sized h = record {
+  opening = record { files = sound; sizes = sized; ready = ready; decisions = decided };
   lawful = subst (IsLawful o) (sym empty) tt;
   caused = subst (IsAnswered o) (sym empty) (tt, λ i e at. inr (let within : i < 0 = slice_get_within [] i e at in omega (arith, within)));
   own = subst AreOwnEvents (sym empty) tt;

@@ -5,7 +5,7 @@ use Rattle.alp_base.specs.Crashes.{SameOutcomes}
 use Rattle.alp_fields.specs.ClockNote.{clock_kept}
 use Rattle.alp_vault.specs.Contents.{Contents}
 use Rattle.alp_vault.specs.Vault.{IsSameVault}
-use Rattle.alp_vault.specs.Volumes.{AreServerNotes}
+use Rattle.alp_vault.specs.Volumes.{AreNotesSoFar}
 use Rattle.alp_vault.specs.declared.vault.Vault.{Ghosts}
 use Rattle.alp_node.specs.Durable.{IsDurable}
 use Rattle.alp_node.specs.NodeStates.{NodeState}
@@ -51,10 +51,10 @@ module _ {V : Type 0} (G : Ghosts V) (old : NodeState V) (v : V) (h : IsConsiste
   told_before : IsTrue (G.tells v) → IsTrue (G.tells old.kept.vault)
   told_before told = subst IsTrue same.telling told
 
-  moved_notes : AreServerNotes (G.server old.kept.vault) (G.servers old.kept.vault) (G.held old.kept.vault).notes → AreServerNotes (G.server v) (G.servers v) (G.held v).notes
+  moved_notes : AreNotesSoFar (G.server old.kept.vault) (G.servers old.kept.vault) (G.held old.kept.vault).notes → AreNotesSoFar (G.server v) (G.servers v) (G.held v).notes
   moved_notes are =
-      subst (λ (c : Contents). AreServerNotes (G.server v) (G.servers v) c.notes) (sym held)
-      (subst (λ (n : ℕ). AreServerNotes n (G.servers v) (G.held old.kept.vault).notes) (sym same.number) (subst (λ (n : ℕ). AreServerNotes (G.server old.kept.vault) n (G.held old.kept.vault).notes) (sym same.of_all) are))
+      subst (λ (c : Contents). AreNotesSoFar (G.server v) (G.servers v) c.notes) (sym held)
+      (subst (λ (n : ℕ). AreNotesSoFar n (G.servers v) (G.held old.kept.vault).notes) (sym same.number) (subst (λ (n : ℕ). AreNotesSoFar (G.server old.kept.vault) n (G.held old.kept.vault).notes) (sym same.of_all) are))
 
   pub stopped_kept : IsConsistent G moved
   stopped_kept = record {

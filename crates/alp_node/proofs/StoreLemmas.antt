@@ -7,13 +7,13 @@ use Rattle.alp_base.specs.declared.bytes.NoteChange.{NoteChange}
 use Rattle.alp_base.specs.Notes.{Notes, noted, notes_after}
 use Rattle.alp_fields.specs.ClockNote.{clock_name, clock_form, clock_in, clock_kept, IsClockNote, IsClockAtMost}
 use Rattle.alp_fields.specs.declared.clock_note.ClockNote.{ClockNote}
-use Rattle.alp_files.specs.declared.change.Change.{Change}
+use Rattle.alp_base.specs.declared.change.Change.{Change}
 use Rattle.alp_files.specs.Needs.{Intents}
 use Rattle.alp_files.proofs.UndoLemmas.{on_ok}
 use Rattle.alp_trans.specs.Parts.{change_of}
 use Rattle.alp_vault.specs.Contents.{Contents, made}
 use Rattle.alp_vault.specs.Vault.{IsSameVault}
-use Rattle.alp_vault.specs.Volumes.{AreServerNotes, AreNoteChanges}
+use Rattle.alp_vault.specs.Volumes.{AreNotesSoFar, AreChangesSoFar}
 use Rattle.alp_vault.specs.declared.vault.Vault.{Ghosts}
 use Rattle.alp_vault.proofs.VolumeLemmas.{changed_notes}
 use Rattle.alp_node.specs.Durable.{Leaves, Besides, IsWritten}
@@ -29,7 +29,7 @@ module _ (n : NoteChange) (changes : List NoteChange) (one : changes ≡ n ∷ [
   at_most_clock is = subst IsClockAtMost (sym one) is
 
   -- it is in the format of a server's notes
-  pub note_changes : (server servers : ℕ) (live : Notes) → AreServerNotes server servers live → IsClockNote n → AreNoteChanges server servers live changes
+  pub note_changes : (server servers : ℕ) (live : Notes) → AreNotesSoFar server servers live → IsClockNote n → AreChangesSoFar server servers live changes
   note_changes server servers live are is = record { before = are; after = changed_notes server servers live changes are (at_most_clock is); each = at_most_clock is }
 
   -- the note of the clock is the one that was put
@@ -47,12 +47,12 @@ module _ (n : NoteChange) (changes : List NoteChange) (one : changes ≡ n ∷ [
 
 -- and so are all notes then
 pub stored_format : {V E : Type 0} (G : Ghosts V) (r : Result (Unit {0}) E) (old new : V) (n : NoteChange) (changes : List NoteChange) → changes ≡ n ∷ [] → IsClockNote n → IsSameVault G.tells G.volume G.server G.servers old new
-    → AreServerNotes (G.server old) (G.servers old) (G.held old).notes → OnOk r ((G.held new).notes ≡ notes_after changes (G.held old).notes) → OnOk r (AreServerNotes (G.server new) (G.servers new) (G.held new).notes)
+    → AreNotesSoFar (G.server old) (G.servers old) (G.held old).notes → OnOk r ((G.held new).notes ≡ notes_after changes (G.held old).notes) → OnOk r (AreNotesSoFar (G.server new) (G.servers new) (G.held new).notes)
 stored_format G r old new n changes one is same are made =
-    on_ok r ((G.held new).notes ≡ notes_after changes (G.held old).notes) (AreServerNotes (G.server new) (G.servers new) (G.held new).notes) made
-    (λ e. subst (λ (x : ℕ). AreServerNotes x (G.servers new) (G.held new).notes) (sym same.number)
-    (subst (λ (x : ℕ). AreServerNotes (G.server old) x (G.held new).notes) (sym same.of_all)
-    (subst (AreServerNotes (G.server old) (G.servers old)) (sym e) (note_changes n changes one (G.server old) (G.servers old) (G.held old).notes are is).after)))
+    on_ok r ((G.held new).notes ≡ notes_after changes (G.held old).notes) (AreNotesSoFar (G.server new) (G.servers new) (G.held new).notes) made
+    (λ e. subst (λ (x : ℕ). AreNotesSoFar x (G.servers new) (G.held new).notes) (sym same.number)
+    (subst (λ (x : ℕ). AreNotesSoFar (G.server old) x (G.held new).notes) (sym same.of_all)
+    (subst (AreNotesSoFar (G.server old) (G.servers old)) (sym e) (note_changes n changes one (G.server old) (G.servers old) (G.held old).notes are is).after)))
 
 -- ---- how it ends
 

@@ -15,7 +15,7 @@ use Rattle.alp_files.specs.Holdings.{Holding}
 use Rattle.alp_files.specs.Locks.{Need, page_needs, mark_needs, size_needs, change_needs, needs_of, request_of}
 use Rattle.alp_files.specs.declared.call.Call.{Call}
 use Rattle.alp_files.specs.declared.call.Call.TheVariants as call
-use Rattle.alp_files.specs.declared.cell.Props.{Props}
+use Rattle.alp_base.specs.declared.cell.Props.{Props}
 use Rattle.alp_files.specs.declared.open.Open.{Open}
 use Rattle.alp_files.specs.declared.refusal.Refusal.{Refusal}
 use Rattle.alp_files.specs.declared.reply.Reply.{Reply}

@@ -12,7 +12,7 @@ use Rattle.alp_fields.specs.ClockNote.{clock_name, clock_form, clock_kept}
 use Rattle.alp_fields.specs.declared.clock_note.ClockNote.{ClockNote}
 use Rattle.alp_vault.specs.Contents.{Contents}
 use Rattle.alp_vault.specs.Vault.{IsSameVault, IsOneOf}
-use Rattle.alp_vault.specs.Volumes.{AreServerNotes}
+use Rattle.alp_vault.specs.Volumes.{AreNotesSoFar}
 use Rattle.alp_vault.specs.declared.vault.Vault.{Ghosts}
 use Rattle.alp_journal.specs.declared.act.Act.TheVariants as act
 use Rattle.alp_journal.specs.declared.event.Event.TheVariants as event
@@ -117,13 +117,13 @@ with_clock c clock = record c { notes = map.insert c.notes clock_name (clock_for
 -- It is what a crash might have left before, or that with the note of the epoch after the last one, where there is one and its notes are in
 -- the format of this server, one of so many.
 abbrev pub IsLeftOrRaised : {V : Type 0} → Ghosts V → ℕ → V → Contents → Type 0
-IsLeftOrRaised G last v c = G.may_leave v c ⊎ (found : Contents) × (last < 4294967295) × G.may_leave v found × AreServerNotes (G.server v) (G.servers v) found.notes × (c ≡ with_clock found (next_clock last found))
+IsLeftOrRaised G last v c = G.may_leave v c ⊎ (found : Contents) × (last < 4294967295) × G.may_leave v found × AreNotesSoFar (G.server v) (G.servers v) found.notes × (c ≡ with_clock found (next_clock last found))
 
 -- the vault holds what a crash left, with the note of the next epoch and the clock that was found
 pub record HasRegained {V : Type 0} (G : Ghosts V) (last : ℕ) (old new : V) (clock : ClockNote) : Type 0 where
   pub found : Contents
   pub left : G.may_leave old found
-  pub notes : AreServerNotes (G.server old) (G.servers old) found.notes
+  pub notes : AreNotesSoFar (G.server old) (G.servers old) found.notes
   pub next : clock ≡ next_clock last found
   pub held : G.held new ≡ with_clock found clock
 
@@ -170,14 +170,14 @@ pub record IsUnrecovered {V : Type 0} (G : Ghosts V) (old new : V) (f : VaultFau
 -- why a vault has no note to begin the next epoch with: there was no memory, or its notes are not in the format
 abbrev pub HasNextCause : {V : Type 0} → Ghosts V → V → StartFault → Type 0
 HasNextCause G v (fault.Vault f) = f ≡ vault_fault.OutOfMemory
-HasNextCause G v fault.BadNote = AreServerNotes (G.server v) (G.servers v) (G.held v).notes → ⊥
+HasNextCause G v fault.BadNote = AreNotesSoFar (G.server v) (G.servers v) (G.held v).notes → ⊥
 HasNextCause G v fault.EpochEnd = ⊥
 
 -- the note that it begins the next epoch with
 pub record IsNext {V : Type 0} (G : Ghosts V) (last : ℕ) (v : V) (clock : ClockNote) : Type 0 where
   pub next : clock ≡ next_clock last (G.held v)
   pub within : clock.clock ≤ 2 ^ 62
-  pub notes : AreServerNotes (G.server v) (G.servers v) (G.held v).notes
+  pub notes : AreNotesSoFar (G.server v) (G.servers v) (G.held v).notes
 
 -- Why a vault does not begin the epoch after the last one: it was refused, and what it tells is a volume in its format, or what a crash
 -- left of its notes is not in the format, or that epoch is the last there is. The count of faults never falls. It stays where memory was
@@ -185,7 +185,7 @@ pub record IsNext {V : Type 0} (G : Ghosts V) (last : ℕ) (v : V) (clock : Cloc
 abbrev pub HasRaiseCause : {V : Type 0} → Ghosts V → ℕ → V → V → StartFault → Type 0
 HasRaiseCause G last old new (fault.Vault f) =
     HasFaultCause (G.faults old) (G.faults new) (G.allowance new) f × (IsTrue (G.tells old) → IsOfVolume f) × (G.faults old ≤ G.faults new) × (f ≡ vault_fault.OutOfMemory → G.faults new ≡ G.faults old)
-HasRaiseCause G last old new fault.BadNote = (G.faults new ≡ G.faults old) × (IsTrue (G.tells old) → (c : Contents) × G.may_leave old c × (AreServerNotes (G.server old) (G.servers old) c.notes → ⊥))
+HasRaiseCause G last old new fault.BadNote = (G.faults new ≡ G.faults old) × (IsTrue (G.tells old) → (c : Contents) × G.may_leave old c × (AreNotesSoFar (G.server old) (G.servers old) c.notes → ⊥))
 HasRaiseCause G last old new fault.EpochEnd = (last ≡ 4294967295) × (new ≡ old)
 
 -- It serves in the epoch after the last one, at that clock. Through the whole step a crash leaves what it might have left before, or that
@@ -195,7 +195,7 @@ pub record HasBegunEpoch {V : Type 0} (G : Ghosts V) (last : ℕ) (old new : V) 
   pub epoch : clock.epoch ≡ last + 1
   pub within : clock.clock ≤ 2 ^ 62
   pub regained : IsTrue (G.tells old) → HasRegained G last old new clock
-  pub format : AreServerNotes (G.server new) (G.servers new) (G.held new).notes
+  pub format : AreNotesSoFar (G.server new) (G.servers new) (G.held new).notes
   pub note : clock_kept (G.held new).notes ≡ clock
   pub same : IsSameVault G.tells G.volume G.server G.servers old new
   pub free : G.allowance new ≡ Free

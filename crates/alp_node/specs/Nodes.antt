@@ -48,10 +48,13 @@ start_by G server v = start_at server (G.servers v) (G.volume v) (G.held v).cell
 abbrev pub start_in : {V : Type 0} → Ghosts V → NodeState V → Start
 start_in G n = start_by G n.kept.server n.opening.vault.value
 
--- a server opens on well-formed files whose owners' records hold their charges; sizes are numbers of pages
+-- a server opens on well-formed files whose owners' records hold their charges; sizes are numbers of pages; and so far it has no part
+-- that is ready, and no decision with parts elsewhere
 pub record IsSoundStart (o : Start) : Type 0 where
   pub files : AreSound o.cells
   pub sizes : AreSized (map.get o.cells)
+  pub ready : o.ready ≡ []
+  pub decisions : o.decisions ≡ []
 
 -- The journal is lawful, each of its entries has its cause, and the server keeps what its state says, with this in its
 -- vault: a server that runs alone, and is given calls and timeouts. The files were sound when it was started.

@@ -7,10 +7,10 @@ use Rattle.alp_base.specs.declared.key.Key.TheVariants.{Leader}
 use Rattle.alp_fields.specs.Forms.{whole}
 use Rattle.alp_fields.specs.ClockNote.{clock_name, clock_form, clock_kept}
 use Rattle.alp_fields.specs.declared.clock_note.ClockNote.{ClockNote}
-use Rattle.alp_files.specs.declared.cell.Cell.{Cell}
+use Rattle.alp_base.specs.declared.cell.Cell.{Cell}
 use Rattle.alp_vault.specs.Contents.{Contents}
 use Rattle.alp_base.specs.Faults.{HasFaultCause, IsOfVolume}
-use Rattle.alp_vault.specs.Volumes.{AreServerNotes}
+use Rattle.alp_vault.specs.Volumes.{AreNotesSoFar}
 use Rattle.alp_node.specs.declared.start.StartFault.{StartFault}
 use Rattle.alp_node.specs.declared.start.StartFault.TheVariants as fault
 
@@ -33,7 +33,7 @@ raised held = after_note (map.get held.notes clock_name)
 -- A server started on what its vault held: notes in the format of the server, which is one of so many, and cells that stay. The
 -- epoch and the clock that it raised the note to stand in it.
 pub record HasRaised (tells : Bool) (server servers : ℕ) (before now : Contents) (clock : ClockNote) : Type 0 where
-  pub format : AreServerNotes server servers before.notes
+  pub format : AreNotesSoFar server servers before.notes
   pub next : raised before ≡ Ok clock
   pub cells : IsTrue tells → now.cells ≡ before.cells
   pub notes : now.notes ≡ map.insert before.notes clock_name (clock_form.spell clock)
@@ -52,5 +52,5 @@ IsNoteFault (fault.Vault f) = ⊥
 -- never falls. The notes are to be in the format of this server, one of so many.
 abbrev pub HasStartCause : ℕ → ℕ → Contents → ℕ → ℕ → Allowance → StartFault → Type 0
 HasStartCause server servers held before now allowance (fault.Vault f) = HasFaultCause before now allowance f × IsOfVolume f × (before ≤ now)
-HasStartCause server servers held before now allowance fault.BadNote = AreServerNotes server servers held.notes → ⊥
-HasStartCause server servers held before now allowance fault.EpochEnd = AreServerNotes server servers held.notes × (raised held ≡ Err fault.EpochEnd)
+HasStartCause server servers held before now allowance fault.BadNote = AreNotesSoFar server servers held.notes → ⊥
+HasStartCause server servers held before now allowance fault.EpochEnd = AreNotesSoFar server servers held.notes × (raised held ≡ Err fault.EpochEnd)

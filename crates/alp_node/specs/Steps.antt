@@ -19,7 +19,7 @@ use Rattle.alp_journal.specs.Moves.{is_stop}
 use Rattle.alp_journal.specs.Alone.{Alone, alone, Leads}
 use Rattle.alp_fields.specs.ClockNote.{clock_kept}
 use Rattle.alp_vault.specs.Vault.{IsSameVault}
-use Rattle.alp_vault.specs.Volumes.{AreServerNotes}
+use Rattle.alp_vault.specs.Volumes.{AreNotesSoFar}
 use Rattle.alp_vault.specs.Contents.{Contents}
 use Rattle.alp_vault.specs.declared.vault.Vault.{Ghosts}
 use Rattle.alp_node.specs.declared.answer.Answer.{Answer}
@@ -72,7 +72,7 @@ pub record IsSeated {V : Type 0} (G : Ghosts V) (old new : ServerState V) : Type
 
 -- while the server is up, the notes of its vault are in its format, and one has its epoch
 abbrev pub IsNoted : {V : Type 0} → Ghosts V → ServerState V → Type 0
-IsNoted G k = (k.is_down ≡ false → AreServerNotes (G.server k.vault) (G.servers k.vault) (G.held k.vault).notes) × (k.is_down ≡ false → (clock_kept (G.held k.vault).notes).epoch ≡ k.epoch)
+IsNoted G k = (k.is_down ≡ false → AreNotesSoFar (G.server k.vault) (G.servers k.vault) (G.held k.vault).notes) × (k.is_down ≡ false → (clock_kept (G.held k.vault).notes).epoch ≡ k.epoch)
 
 -- Of any vault: what is handed out is what the entry keeps, and each call that is not astray has a reply, each event by which the
 -- server goes down, and nothing else. A vault that failed or was stopped has its cause, and just then the server is down; only

@@ -6,8 +6,7 @@ ghost use Rattle.alp_base.specs.Keys.{key_cmp};
 ghost use Rattle.alp_base.specs.declared.key.Key.TheVariants.{PageOf};
 ghost use Rattle.alp_files.specs.Counts.{with_block};
 
-use alp_base::{FileId, Key, OutOfMemory};
-use alp_files::BLOCK_PAGES;
+use alp_base::{BLOCK_PAGES, FileId, Key, OutOfMemory};
 use std::alloc::Global;
 use std::collections::BTreeSet;
 use std::marker::Model;

@@ -7,9 +7,9 @@ ghost use Rattle.alp_files.specs.Locks.{page_needs, mark_needs, size_needs, chan
 ghost use Rattle.alp_calls.specs.Finds.{access_for as access_for_said};
 ghost use Rattle.alp_node.specs.Asks.{looks_at as looked_at, on_opened, open_needs, needs_on};
 
-use alp_base::{Access, FileId, Key, Name, OutOfMemory, Resource, Run};
+use alp_base::{Access, FileId, Key, Name, OutOfMemory, Props, Resource, Run};
 use alp_calls::OpenedFile;
-use alp_files::{Call, Open, PropChange, Props};
+use alp_files::{Call, Open, PropChange};
 use alp_modes::Mode;
 use std::alloc::Global;
 

@@ -8,7 +8,7 @@ ghost use Rattle.alp_fields.specs.Forms.{whole};
 ghost use Rattle.alp_fields.specs.ClockNote.{clock_name, clock_form};
 ghost use Rattle.alp_base.specs.Faults.{IsOfVolume};
 ghost use Rattle.alp_vault.specs.Vault.{IsSameVault};
-ghost use Rattle.alp_vault.specs.Volumes.{AreServerNotes};
+ghost use Rattle.alp_vault.specs.Volumes.{AreNotesSoFar};
 ghost use Rattle.alp_node.specs.Durable.{Leaves};
 ghost use Rattle.alp_node.specs.Halts.{IsUncounted};
 ghost use Rattle.alp_node.specs.Nodes.{IsNew};
@@ -68,7 +68,7 @@ fn next_epoch(value: &[u8]) -> Result<ClockNote, StartFault>
 fn next_clock<V: Vault>(alloc: Global, vault: &V) -> Result<ClockNote, StartFault>
     requires { IsTrue (V.serves vault.now) }
     ensures clock { IfOk result (λ c. raised (V.held vault.now) ≡ Ok c) }
-    ensures notes { IfOk result (λ _. AreServerNotes (V.server vault.now) (V.servers vault.now) (V.held vault.now).notes) }
+    ensures notes { IfOk result (λ _. AreNotesSoFar (V.server vault.now) (V.servers vault.now) (V.held vault.now).notes) }
     ensures cause { IfErr result (HasStartCause (V.server vault.now) (V.servers vault.now) (V.held vault.now) (V.faults vault.now) (V.faults vault.now) (V.allowance vault.now)) }
 {
     if !are_server_notes(vault) {

@@ -14,11 +14,10 @@ ghost use Rattle.alp_base.specs.Notes.{notes_after};
 ghost use Rattle.alp_vault.specs.Contents.{made};
 ghost use Rattle.alp_vault.specs.Vault.{IsSameVault};
 ghost use Rattle.alp_trans.specs.Parts.{change_of};
-ghost use Rattle.alp_vault.specs.Volumes.{IsCommit, IsVolumeOf, AreServerNotes};
+ghost use Rattle.alp_vault.specs.Volumes.{IsCommit, IsVolumeOf, AreNotesSoFar};
 
-use alp_base::{NoteChange, OutOfMemory, VaultFault};
+use alp_base::{Change, NoteChange, OutOfMemory, VaultFault};
 use alp_fields::{ClockNote, clock_change};
-use alp_files::Change;
 use alp_trans::Part;
 use alp_vault::Vault;
 use std::alloc::{AllocError, AllocFailed, Global};
@@ -93,13 +92,13 @@ pub fn store<V: Vault>(
     requires clock { clock.clock ≤ 2 ^ 62 }
     requires part { IsPart part.now }
     requires log { 6 * part.now.counts.cells + 30 ≤ (V.volume vault.old).area }
-    requires format { AreServerNotes (V.server vault.old) (V.servers vault.old) (V.held vault.old).notes }
+    requires format { AreNotesSoFar (V.server vault.old) (V.servers vault.old) (V.held vault.old).notes }
     requires room { IsTrue (V.tells vault.old) → IsVolumeOf (V.volume vault.old) (edits_map (edits_of (change_of part.now.intents)) (V.held vault.old).cells) }
     ensures kept { IsSameVault V.tells V.volume V.server V.servers vault.old vault.new }
     ensures cells { IsTrue (V.tells vault.old) → OnOk result ((V.held vault.new).cells ≡ edits_map (edits_of (change_of part.now.intents)) (V.held vault.old).cells) }
     ensures notes { OnOk result ((V.held vault.new).notes ≡ map.insert (V.held vault.old).notes clock_name (clock_form.spell clock)) }
     ensures clock { OnOk result (clock_kept (V.held vault.new).notes ≡ clock) }
-    ensures format { OnOk result (AreServerNotes (V.server vault.new) (V.servers vault.new) (V.held vault.new).notes) }
+    ensures format { OnOk result (AreNotesSoFar (V.server vault.new) (V.servers vault.new) (V.held vault.new).notes) }
     // Through the whole call a crash leaves what was held, or that with the one write.
     ensures leaves { IsTrue (V.tells vault.old) → Leaves V.Vault vault.old vault.new (Besides V.Vault vault.old (IsWritten part.now.intents clock (V.held vault.old))) }
     // Where memory was wanting there was no write.

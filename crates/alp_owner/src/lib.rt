@@ -3,5 +3,6 @@
 
 mod form;
 
+pub use alp_fields::{OWNER_BYTES, owner_records_are_a_form};
 pub use alp_files::admits;
-pub use form::{OWNER_BYTES, decode_owner, encode_owner, owner_records_are_a_form};
+pub use form::{decode_owner, encode_owner};

@@ -14,10 +14,10 @@ use Rattle.alp_base.specs.Keys.{key_cmp}
 use Rattle.alp_base.specs.KeyLaws.{keys_total}
 use Rattle.alp_fields.specs.Forms.{whole}
 use Rattle.alp_fields.proofs.FormLaws.{and_parts}
-use Rattle.alp_files.specs.declared.cell.Cell.{Cell}
-use Rattle.alp_files.specs.declared.cell.Cell.TheVariants as cell
-use Rattle.alp_files.specs.declared.cell.Props.{Props}
-use Rattle.alp_files.specs.declared.cell.OwnerRecord.{OwnerRecord}
+use Rattle.alp_base.specs.declared.cell.Cell.{Cell}
+use Rattle.alp_base.specs.declared.cell.Cell.TheVariants as cell
+use Rattle.alp_base.specs.declared.cell.Props.{Props}
+use Rattle.alp_base.specs.declared.cell.OwnerRecord.{OwnerRecord}
 use Rattle.alp_files.specs.Cells.{Cells, no_props, same_name}
 use Rattle.alp_files.specs.Files.{IsOfKind, cost, charge_of}
 use Rattle.alp_files.proofs.ChargeLemmas.{AreKinds, cost_in, charge-put, charge-owner, charge-page}

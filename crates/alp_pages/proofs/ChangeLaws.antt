@@ -9,8 +9,8 @@ use Rattle.alp_base.specs.declared.key.Key.{Key}
 use Rattle.alp_base.specs.declared.key.Key.TheVariants.{Leader, PageOf, OwnerOf}
 use Rattle.alp_base.specs.Keys.{key_cmp}
 use Rattle.alp_fields.specs.Forms.{whole}
-use Rattle.alp_files.specs.declared.cell.Cell.TheVariants as cell
-use Rattle.alp_files.specs.declared.cell.OwnerRecord.{OwnerRecord}
+use Rattle.alp_base.specs.declared.cell.Cell.TheVariants as cell
+use Rattle.alp_base.specs.declared.cell.OwnerRecord.{OwnerRecord}
 use Rattle.alp_files.specs.Cells.{View, same_file, same_name, owner_in}
 use Rattle.alp_files.specs.Edits.{Put, Drop, after}
 use Rattle.alp_files.proofs.SameLemmas.{same_file-true, same_file-itself, same_name-true, same_name-itself, same_key-true, same_key-itself, same_leader_key, same_page_key, same_owner_key}

@@ -9,8 +9,8 @@ use Rattle.alp_base.specs.declared.key.Key.{Key}
 use Rattle.alp_base.specs.declared.key.Key.TheVariants.{Leader, PageOf, OwnerOf}
 use Rattle.alp_base.specs.KeyLaws.{keys_total, exact_keys}
 use Rattle.alp_fields.specs.Forms.{whole}
-use Rattle.alp_files.specs.declared.cell.Cell.{Cell}
-use Rattle.alp_files.specs.declared.cell.Cell.TheVariants as cell
+use Rattle.alp_base.specs.declared.cell.Cell.{Cell}
+use Rattle.alp_base.specs.declared.cell.Cell.TheVariants as cell
 use Rattle.alp_files.specs.Cells.{Cells, same_file}
 use Rattle.alp_files.specs.Edits.{Drop, edit_map, is_in_file}
 use Rattle.alp_files.specs.Files.{cost, charge_of}

@@ -9,7 +9,7 @@ use Rattle.alp_fields.specs.Fields.{file_id, named_field, list_field}
 use Rattle.alp_fields.proofs.FormLaws.{pair_law, mapped_law, checked_law, sized_law, repeated_law, zeros_behind_law}
 use Rattle.alp_fields.proofs.FieldLaws.{u8_law, u16_law, u32_law, u64_law, file_id_law}
 use Rattle.alp_fields.proofs.FixedLaws.{named_field_law, list_field_law, u8_length, u16_length, u32_length, u64_length, file_id_length, named_field_length, list_field_length, repeated_length}
-use Rattle.alp_forms.specs.PropsField.{Numbers, numbers}
+use Rattle.alp_fields.specs.PropsField.{Numbers, numbers}
 use Rattle.alp_pages.specs.declared.leader.TheConstants.{INDEX_PLACES}
 use Rattle.alp_pages.specs.Leader.{format_of, is_format, format_no, has_format, head, head_bytes, is_size, sized_numbers, numbers_bytes, tail, tail_bytes, head_of, tail_of, leader_of, parts_of, leader_fields, leader_fields_bytes, leader_body, leader_page}
 

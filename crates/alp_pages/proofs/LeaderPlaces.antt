@@ -8,7 +8,7 @@ use Rattle.alp_base.specs.Pages.{overwritten}
 use Rattle.alp_fields.specs.Fields.{file_id, named_field, name_field_bytes, list_field, list_field_bytes}
 use Rattle.alp_fields.proofs.FixedLaws.{u8_length, u16_length, u32_length, u64_length, file_id_length, named_field_length, list_field_length}
 use Rattle.alp_fields.proofs.PlaceLemmas.{set_pair, set_mapped, set_zeros_behind}
-use Rattle.alp_forms.specs.PropsField.{Numbers, numbers, numbers_of}
+use Rattle.alp_fields.specs.PropsField.{Numbers, numbers, numbers_of}
 use Rattle.alp_pages.specs.declared.leader.Leader.{Leader}
 use Rattle.alp_pages.specs.declared.leader.TheConstants.{INDEX_PLACES}
 use Rattle.alp_pages.specs.Leader.{format_of, format_no, HeadParts, head, head_of, head_bytes, sized_numbers, numbers_bytes, TailParts, tail, tail_of, leader_of, parts_of, leader_fields, leader_fields_bytes, leader_body, leader_page}

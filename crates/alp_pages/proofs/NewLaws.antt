@@ -10,7 +10,7 @@ use Rattle.alp_base.specs.Keys.{key_cmp}
 use Rattle.alp_base.specs.Pages.{zero_page}
 use Rattle.alp_fields.specs.Forms.{whole, u8, u32}
 use Rattle.alp_fields.specs.Fields.{file_id}
-use Rattle.alp_files.specs.declared.cell.Cell.{Cell}
+use Rattle.alp_base.specs.declared.cell.Cell.{Cell}
 use Rattle.alp_files.proofs.SoundLemmas.{empty_sound}
 use Rattle.alp_pages.specs.Naming.{IsNaming, nameless}
 use Rattle.alp_pages.specs.Pages.{Pages, header_page, written, part_of, entry, entry_in, read_row, row_in}

@@ -17,7 +17,7 @@ use Rattle.alp_base.specs.declared.key.Key.{Key}
 use Rattle.alp_base.specs.declared.key.Key.TheVariants.{Leader, PageOf, OwnerOf}
 use Rattle.alp_base.specs.Keys.{key_cmp}
 use Rattle.alp_base.specs.KeyLaws.{keys_total}
-use Rattle.alp_files.specs.declared.cell.Cell.{Cell}
+use Rattle.alp_base.specs.declared.cell.Cell.{Cell}
 use Rattle.alp_files.specs.Cells.{Cells, same_file}
 use Rattle.alp_files.specs.Counts.{blocks_of, block_of, places_at, used_of}
 use Rattle.alp_files.proofs.SameLemmas.{same_file-itself, same_page_key, same_key-itself, same_key-true}

@@ -12,9 +12,9 @@ use Rattle.alp_fields.proofs.FormLaws.{whole_back, and_parts, pair_law, checked_
 use Rattle.alp_fields.proofs.FieldLaws.{file_id_law, u32_law}
 use Rattle.alp_fields.proofs.FixedLaws.{file_id_length, u32_length}
 use Rattle.alp_fields.proofs.PlaceLemmas.{set_pair}
-use Rattle.alp_files.specs.declared.cell.OwnerRecord.{OwnerRecord}
-use Rattle.alp_owner.specs.Owner.{owner_record, unused_record}
-use Rattle.alp_owner.proofs.OwnerLaw.{owner_record_law, owner_record_length, unused_is_none}
+use Rattle.alp_base.specs.declared.cell.OwnerRecord.{OwnerRecord}
+use Rattle.alp_fields.specs.OwnerField.{owner_record, unused_record}
+use Rattle.alp_fields.proofs.OwnerFieldLaw.{owner_record_law, owner_record_length, unused_is_none}
 use Rattle.alp_pages.specs.declared.entry.Entry.{Entry}
 use Rattle.alp_pages.specs.Pages.{part_of, entry, entry_of, entry_fields, is_entry, is_no_file, read_row}
 use Rattle.alp_pages.proofs.NamingLaws.{eqb_other}

@@ -3,7 +3,7 @@ use Rattle.std.specs.Prelude.{false, None, Some, option_map, ◌==◌}
 use Rattle.std.specs.FinMap as map
 use Rattle.std.proofs.Common.{◌≡◌, ℕ, ◌<◌, ◌≤◌, ◌+◌, ◌/◌, ◌%◌, List, refl, sym, ◌∙◌, ap, arith, eq-eqb}
 use Rattle.std.proofs.lemmas.Bool.{cond-true, cond-false}
-use Rattle.alp_files.specs.declared.cell.Cell.TheVariants as cell
+use Rattle.alp_base.specs.declared.cell.Cell.TheVariants as cell
 use Rattle.alp_files.specs.Cells.{View, Cells}
 use Rattle.alp_fields.specs.Forms.{whole}
 use Rattle.alp_pages.specs.Leader.{leader_page}

@@ -2,7 +2,7 @@
 use Rattle.std.specs.Prelude.{◌≡◌, ◌<◌, ◌≤◌, ℕ, Bool, true, false, is_some, ◌+◌, ◌/◌, ◌%◌, List, Option, None, Some, option_map, slice_index_or, slice_set, map as list_map}
 use Rattle.alp_base.specs.declared.ids.FileId.{FileId}
 use Rattle.alp_fields.specs.Forms.{whole}
-use Rattle.alp_files.specs.declared.cell.OwnerRecord.{OwnerRecord}
+use Rattle.alp_base.specs.declared.cell.OwnerRecord.{OwnerRecord}
 use Rattle.alp_pages.specs.declared.leader.Leader.{Leader as LeaderRecord}
 use Rattle.alp_pages.specs.Leader.{leader_page}
 use Rattle.alp_pages.specs.declared.entry.Entry.{Entry}

@@ -6,7 +6,7 @@ use Rattle.alp_base.specs.Pages.{page_bytes}
 use Rattle.alp_fields.specs.declared.rows.TheConstants.{U32_BYTES}
 use Rattle.alp_base.specs.declared.ids.FileId.{FileId}
 use Rattle.alp_base.specs.declared.lists.TheConstants.{PAGES_PER_FILE}
-use Rattle.alp_forms.specs.PropsField.{Numbers, numbers, numbers_of}
+use Rattle.alp_fields.specs.PropsField.{Numbers, numbers, numbers_of}
 use Rattle.alp_pages.specs.declared.leader.Leader.{Leader}
 use Rattle.alp_pages.specs.declared.leader.TheConstants.{INDEX_PLACES}
 

@@ -4,8 +4,8 @@ use Rattle.std.specs.List.{list_any, list_all}
 use Rattle.alp_base.specs.declared.ids.FileId.{FileId}
 use Rattle.alp_fields.specs.Forms.{Form, pair, mapped, checked, repeated, zeros_of, u32, whole}
 use Rattle.alp_fields.specs.Fields.{file_id}
-use Rattle.alp_files.specs.declared.cell.OwnerRecord.{OwnerRecord}
-use Rattle.alp_owner.specs.Owner.{owner_record}
+use Rattle.alp_base.specs.declared.cell.OwnerRecord.{OwnerRecord}
+use Rattle.alp_fields.specs.OwnerField.{owner_record}
 use Rattle.alp_pages.specs.declared.entry.Entry.{Entry}
 
 -- what each home place holds

@@ -3,8 +3,8 @@ ghost use Rattle.std.specs.Prelude.{◌≡◌, ◌<◌, ◌+◌, ◌/◌, ◌%�
 ghost use Rattle.alp_base.specs.declared.ids.FileId.{FileId as File};
 ghost use Rattle.alp_base.specs.declared.key.Key.TheVariants.{PageOf, Leader as LeaderKey, OwnerOf};
 ghost use Rattle.alp_fields.specs.Forms.{whole};
-ghost use Rattle.alp_files.specs.declared.cell.Cell.TheVariants.{Page as PageCell, Leader as LeaderCell, Owner as OwnerCell};
-ghost use Rattle.alp_files.specs.declared.cell.OwnerRecord.{OwnerRecord as Owner};
+ghost use Rattle.alp_base.specs.declared.cell.Cell.TheVariants.{Page as PageCell, Leader as LeaderCell, Owner as OwnerCell};
+ghost use Rattle.alp_base.specs.declared.cell.OwnerRecord.{OwnerRecord as Owner};
 ghost use Rattle.alp_files.specs.Cells.{View, same_name};
 ghost use Rattle.alp_files.specs.Edits.{Put, Drop, Cut, after};
 ghost use Rattle.alp_pages.specs.declared.leader.Leader.{Leader as LeaderValue};

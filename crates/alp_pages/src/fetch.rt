@@ -5,7 +5,7 @@ ghost use Rattle.alp_base.specs.declared.key.Key.TheVariants.{PageOf, Leader as 
 ghost use Rattle.alp_fields.specs.Forms.{whole};
 ghost use Rattle.std.specs.FinMap as map;
 ghost use Rattle.alp_files.specs.Cells.{Cells, View, owner_in};
-ghost use Rattle.alp_files.specs.declared.cell.Cell.TheVariants.{Page as PageCell, Leader as LeaderCell};
+ghost use Rattle.alp_base.specs.declared.cell.Cell.TheVariants.{Page as PageCell, Leader as LeaderCell};
 ghost use Rattle.alp_pages.specs.Leader.{leader_page};
 ghost use Rattle.alp_pages.specs.Nodes.{LeaderOf, IndexOf};
 ghost use Rattle.alp_pages.specs.Pages.{row_in};
@@ -18,8 +18,7 @@ use crate::index::decode_index;
 use crate::owners::{OwnerRow, owner_at};
 use crate::reader::PageReader;
 use crate::{Leader, decode_leader};
-use alp_base::{FileId, OutOfMemory, Page, PageRef, VaultFault};
-use alp_files::{OwnerRecord, Props};
+use alp_base::{FileId, OutOfMemory, OwnerRecord, Page, PageRef, Props, VaultFault};
 use std::alloc::Global;
 
 pub fn copy_of(page: &PageRef) -> Page

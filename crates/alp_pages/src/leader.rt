@@ -3,8 +3,7 @@ ghost use Rattle.std.specs.Prelude.{◌≡◌, ◌<◌, length, nat_eq, slice_in
 ghost use Rattle.std.specs.Cmp.{partial_equiv_from_equiv};
 ghost use Rattle.std.specs.Cmp.Lexicographic.{pointwise, nat_list_eq_equiv};
 
-use alp_base::FileId;
-use alp_files::Props;
+use alp_base::{FileId, Props};
 use std::marker::Model;
 
 /// How many index pages a leader names.

@@ -6,9 +6,8 @@ ghost use Rattle.alp_pages.specs.Leader.{head, sized_numbers, tail, leader_field
 
 use crate::leader_form::UNUSED_BYTES;
 use crate::{INDEX_PLACES, Leader, Places};
-use alp_base::{AccessList, FileId, Name, OutOfMemory, PAGES_PER_FILE, Page};
+use alp_base::{AccessList, FileId, Name, OutOfMemory, PAGES_PER_FILE, Page, Props};
 use alp_fields::FieldReader;
-use alp_files::Props;
 use std::alloc::Global;
 
 #[tactic(auto, unfolding(crate::specs::Leader::head))]
@@ -21,7 +20,7 @@ fn read_head(reader: &mut FieldReader) -> Option<(FileId, Name, Name)>
     Some((file, owner, name))
 }
 
-#[tactic(auto, unfolding(crate::specs::Leader::sized_numbers, alp_forms::specs::PropsField::numbers))]
+#[tactic(auto, unfolding(crate::specs::Leader::sized_numbers, alp_fields::specs::PropsField::numbers))]
 fn read_numbers(reader: &mut FieldReader) -> Option<(u16, u64, u64, u32, u32)>
     ensures { IsRead sized_numbers reader.old reader.new (option_map (λ x. (x.0, (x.1, (x.2, (x.3, x.4))))) result) }
 {

@@ -2,7 +2,7 @@
 ghost use Rattle.std.specs.Prelude.{◌≡◌, ◌≤◌, length};
 ghost use Rattle.alp_fields.specs.Forms.{IsSet};
 ghost use Rattle.alp_base.specs.Pages.{page_bytes};
-ghost use Rattle.alp_forms.specs.PropsField.{numbers_of};
+ghost use Rattle.alp_fields.specs.PropsField.{numbers_of};
 ghost use Rattle.alp_pages.specs.Leader.{head, head_of, sized_numbers, tail, tail_of, leader_body, leader_page};
 
 use crate::Leader;
@@ -10,12 +10,11 @@ use crate::leader_form::{
     BYTES_AT, FILE_AT, HIGH_WATER_AT, INDEX_AT, MODIFY_AT, NAME_AT, OWNER_AT, READ_AT, SIZE_AT,
     TIME_AT, TYPE_AT, UNUSED_BYTES, ZEROS_AT, format_of,
 };
-use alp_base::{PAGE_BYTES, PAGES_PER_FILE, Page};
+use alp_base::{PAGE_BYTES, PAGES_PER_FILE, Page, Props};
 use alp_fields::{
     set_file_id, set_list_field, set_named_field, set_u8, set_u16, set_u32, set_u32s, set_u64,
     set_zeros,
 };
-use alp_files::Props;
 
 fn set_head(out: &mut [u8], leader: &Leader)
     requires { length out.old ≡ page_bytes }

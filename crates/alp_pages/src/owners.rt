@@ -3,9 +3,8 @@ ghost use Rattle.std.specs.Prelude.{◌≡◌, ◌<◌, ◌==◌, ℕ, length, I
 ghost use Rattle.std.specs.List.{list_all};
 ghost use Rattle.alp_pages.specs.Pages.{read_row, part_of};
 
-use alp_base::OutOfMemory;
+use alp_base::{OutOfMemory, OwnerRecord};
 use alp_fields::set_bytes;
-use alp_files::OwnerRecord;
 use alp_owner::{OWNER_BYTES, decode_owner, encode_owner};
 use std::alloc::Global;
 

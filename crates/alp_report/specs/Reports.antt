@@ -1,7 +1,7 @@
 -- The texts of a report: that of a line of a client, and that of the summary.
 use Rattle.std.specs.Prelude.{ℕ, List, [], ◌∷◌, ◌++◌, codes, length, flat_map, sum, Option, None, Some}
 use Rattle.std.specs.Fmt.{decimal}
-use Rattle.alp_files.specs.declared.cell.OwnerRecord.{OwnerRecord}
+use Rattle.alp_base.specs.declared.cell.OwnerRecord.{OwnerRecord}
 use Rattle.alp_files.specs.declared.reply.Reply.{Reply}
 use Rattle.alp_files.specs.Cells.{Cells, sizes_of, owners_of}
 use Rattle.alp_journal.specs.declared.log.Item.{Item}

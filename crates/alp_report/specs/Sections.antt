@@ -1,8 +1,8 @@
 -- Sections of the texts, each written by one function.
 use Rattle.std.specs.Prelude.{ℕ, List, [], ◌∷◌, ◌++◌, codes, sum_by}
 use Rattle.std.specs.Fmt.{decimal}
-use Rattle.alp_files.specs.declared.cell.Props.{Props}
-use Rattle.alp_files.specs.declared.cell.OwnerRecord.{OwnerRecord}
+use Rattle.alp_base.specs.declared.cell.Props.{Props}
+use Rattle.alp_base.specs.declared.cell.OwnerRecord.{OwnerRecord}
 use Rattle.alp_report.specs.Replies.{names_text}
 use Rattle.alp_report.specs.Reports.{files_text, owners_text, count_text}
 use Rattle.alp_report.specs.declared.summary.Summary.{Summary}

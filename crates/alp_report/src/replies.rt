@@ -5,8 +5,8 @@ ghost use Rattle.alp_report.specs.Sections.{titles_text, numbers_text, access_te
 
 use crate::pages::put_pages;
 use crate::refusals::put_refusal;
-use alp_base::{AccessList, Name, Stamp};
-use alp_files::{Ended, OwnerRecord, Props, Reply};
+use alp_base::{AccessList, Name, OwnerRecord, Props, Stamp};
+use alp_files::{Ended, Reply};
 use std::io::{self, Write};
 
 fn put_stamp(out: &mut Vec<u8>, stamp: Stamp) -> io::Result<()>

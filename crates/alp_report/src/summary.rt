@@ -3,8 +3,7 @@ ghost use Rattle.std.specs.Prelude.{◌≡◌, ◌++◌, OnOk};
 ghost use Rattle.alp_report.specs.Reports.{files_text, owner_line, owners_text, count_text};
 ghost use Rattle.alp_report.specs.Sections.{charges_of, held_text, printed};
 
-use alp_base::OutOfMemory;
-use alp_files::OwnerRecord;
+use alp_base::{OutOfMemory, OwnerRecord};
 use std::io::{self, Write};
 
 /// What a server holds at the end of a run, and how many of its transactions ended how. Owners are charged for all pages of

@@ -1,9 +1,9 @@
 use crate::replies::put_reply;
 use crate::*;
-use alp_base::{AccessList, Bytes, FileId, Name, Page, PageList, PageRef, Stamp, TransId};
-use alp_files::{
-    Call, Cause, Ended, HeldProps, ListName, OwnerRecord, Props, Refusal, Reply, What, Why,
+use alp_base::{
+    AccessList, Bytes, FileId, Name, OwnerRecord, Page, PageList, PageRef, Props, Stamp, TransId,
 };
+use alp_files::{Call, Cause, Ended, HeldProps, ListName, Refusal, Reply, What, Why};
 use alp_journal::{Item, Mark, Sent};
 use std::alloc::Global;
 use std::test::Fail;

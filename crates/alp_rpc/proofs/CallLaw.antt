@@ -2,10 +2,10 @@
 use Rattle.std.proofs.Common.{◌≡◌, ℕ, List, ◌∷◌, ◌++◌, Some, refl, arith}
 use Rattle.alp_files.specs.declared.call.Call.{Call}
 use Rattle.alp_files.specs.declared.call.Call.TheVariants.{Hello, Begin, Join, CreateFile, OpenFile, CloseFile, DeleteFile, ReadPages, WritePages, LockPages, SetSize, ReadProps, WriteProps, ReadOwner, MakeOwner, SetQuota, Finish, Outcome, Collect}
-use Rattle.alp_forms.specs.PropsField.{props}
-use Rattle.alp_forms.proofs.PropsFieldLaw.{props_law}
-use Rattle.alp_forms.specs.ModeField.{mode}
-use Rattle.alp_forms.proofs.ModeFieldLaw.{mode_law}
+use Rattle.alp_fields.specs.PropsField.{props}
+use Rattle.alp_fields.proofs.PropsFieldLaw.{props_law}
+use Rattle.alp_fields.specs.ModeField.{mode}
+use Rattle.alp_fields.proofs.ModeFieldLaw.{mode_law}
 use Rattle.alp_fields.specs.Forms.{Form, IsForm, read_choice, pair, u32}
 use Rattle.alp_fields.specs.Fields.{file_id, trans_id, run, choice, access, flag, name, list, pages}
 use Rattle.alp_fields.proofs.FormLaws.{pair_law, checked_law}

@@ -2,7 +2,7 @@
 use Rattle.std.proofs.Common.{◌≡◌, ℕ, List, ◌∷◌, ◌++◌, Some, refl, arith}
 use Rattle.alp_files.specs.declared.reply.Reply.{Reply}
 use Rattle.alp_files.specs.declared.reply.Reply.TheVariants.{Welcome, Begun, Joined, Created, Opened, Plain, Pages, Props, Owner, Committed, Ended, Refused}
-use Rattle.alp_forms.proofs.PropsFieldLaw.{props_law}
+use Rattle.alp_fields.proofs.PropsFieldLaw.{props_law}
 use Rattle.alp_fields.specs.Forms.{IsForm, read_choice, u32}
 use Rattle.alp_fields.specs.Fields.{file_id, name, list}
 use Rattle.alp_fields.proofs.FormLaws.{pair_law, mapped_law}

@@ -4,10 +4,10 @@ use Rattle.alp_base.specs.declared.ids.TransId.{TransId}
 use Rattle.alp_base.specs.declared.ids.Run.{Run}
 use Rattle.alp_modes.specs.declared.Mode.{Mode}
 use Rattle.alp_modes.specs.declared.Mode.TheVariants.{IntendRead, IntendWrite, Read, Update, ReadIntendWrite, Write}
-use Rattle.alp_forms.specs.ModeField.{mode}
+use Rattle.alp_fields.specs.ModeField.{mode}
 use Rattle.alp_files.specs.declared.call.Call.{Call}
 use Rattle.alp_files.specs.declared.call.Call.TheVariants.{Hello, Begin, Join, CreateFile, OpenFile, CloseFile, DeleteFile, ReadPages, WritePages, LockPages, SetSize, ReadProps, WriteProps, ReadOwner, MakeOwner, SetQuota, Finish, Outcome, Collect}
-use Rattle.alp_forms.specs.PropsField.{props}
+use Rattle.alp_fields.specs.PropsField.{props}
 use Rattle.alp_fields.specs.Forms.{Form, Readers, pair, checked, u32}
 use Rattle.alp_fields.specs.Fields.{file_id, trans_id, stamp, run, choice, access, flag, name, list, pages}
 use Rattle.alp_forms.specs.Variants.{Variant, row, Sent, sent, by_tag, enum_of}

@@ -1,11 +1,11 @@
 -- Replies on the wire: the tag of each, and its fields in order.
 use Rattle.std.specs.Prelude.{ℕ, ◌<◌, ◌≤◌, ◌^◌, List, [], ◌∷◌, length}
-use Rattle.alp_files.specs.declared.cell.OwnerRecord.{OwnerRecord}
+use Rattle.alp_base.specs.declared.cell.OwnerRecord.{OwnerRecord}
 use Rattle.alp_files.specs.declared.reply.Ended.{Ended as Ending}
 use Rattle.alp_files.specs.declared.reply.Ended.TheVariants.{Committed as CommittedAt}
 use Rattle.alp_files.specs.declared.reply.Reply.{Reply}
 use Rattle.alp_files.specs.declared.reply.Reply.TheVariants.{Welcome, Begun, Joined, Created, Opened, Plain, Pages, Props, Owner, Committed, Ended, Refused}
-use Rattle.alp_forms.specs.PropsField.{props}
+use Rattle.alp_fields.specs.PropsField.{props}
 use Rattle.alp_fields.specs.Forms.{Form, Readers, pair, mapped, u32}
 use Rattle.alp_fields.specs.Fields.{file_id, trans_id, stamp, name, list, pages}
 use Rattle.alp_forms.specs.Variants.{Variant, row, bare, Sent, sent, by_tag, enum_of}

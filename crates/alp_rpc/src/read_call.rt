@@ -6,9 +6,8 @@ ghost use Rattle.alp_rpc.specs.Calls.{is_run_mode as covers_pages, run_mode, fil
 
 use crate::read_change::read_change;
 use alp_base::{OutOfMemory, PageList, Run, TransId};
-use alp_fields::FieldReader;
+use alp_fields::{FieldReader, read_mode, read_props as read_props_field};
 use alp_files::{Call, HeldProps};
-use alp_forms::{read_mode, read_props as read_props_field};
 use alp_modes::Mode;
 use std::alloc::Global;
 

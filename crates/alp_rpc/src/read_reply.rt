@@ -1,15 +1,15 @@
 //! Replies read from frames: a function for the fields of each.
 ghost use Rattle.std.specs.Prelude.{IfOk};
 ghost use Rattle.alp_fields.specs.Forms.{IsRead};
-ghost use Rattle.alp_forms.specs.PropsField.{props};
+ghost use Rattle.alp_fields.specs.PropsField.{props};
 ghost use Rattle.alp_forms.specs.Variants.{AreFieldsRead};
 ghost use Rattle.alp_rpc.specs.Endings.{ended};
 ghost use Rattle.alp_rpc.specs.Replies.{owner_field, created, reply};
 
-use alp_base::OutOfMemory;
-use alp_fields::FieldReader;
-use alp_files::{Ended, HeldProps, OwnerRecord, Reply};
-use alp_forms::{read_props as read_props_field, read_refusal};
+use alp_base::{OutOfMemory, OwnerRecord};
+use alp_fields::{FieldReader, read_props as read_props_field};
+use alp_files::{Ended, HeldProps, Reply};
+use alp_forms::read_refusal;
 use std::alloc::Global;
 
 fn take_created(reader: &mut FieldReader) -> Option<Reply>

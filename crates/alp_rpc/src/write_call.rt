@@ -8,14 +8,13 @@ ghost use Rattle.alp_rpc.specs.Calls.{is_run_mode, run_mode, filled_run, open_fo
 
 use crate::write_change::put_change;
 use alp_base::{
-    Access, AccessList, Choice, FileId, Name, OutOfMemory, PageList, Run, Stamp, TransId,
+    Access, AccessList, Choice, FileId, Name, OutOfMemory, PageList, Props, Run, Stamp, TransId,
 };
 use alp_fields::{
-    put_access, put_choice, put_file_id, put_flag, put_list, put_name, put_pages, put_run,
-    put_stamp, put_trans_id, put_u8, put_u32,
+    put_access, put_choice, put_file_id, put_flag, put_list, put_mode, put_name, put_pages,
+    put_props, put_run, put_stamp, put_trans_id, put_u8, put_u32,
 };
-use alp_files::{Call, PropChange, Props};
-use alp_forms::{put_mode, put_props};
+use alp_files::{Call, PropChange};
 use alp_modes::Mode;
 
 fn put_open(out: &mut Vec<u8>, trans: TransId, open_no: u32) -> Result<(), OutOfMemory>

@@ -7,12 +7,12 @@ ghost use Rattle.alp_files.specs.declared.reply.Reply.TheVariants.{Welcome, Begu
 ghost use Rattle.alp_rpc.specs.Endings.{ended};
 ghost use Rattle.alp_rpc.specs.Replies.{owner_field, reply, IsSendable, IsSendableEnding};
 
-use alp_base::{FileId, OutOfMemory, PageList, Stamp, TransId};
+use alp_base::{FileId, OutOfMemory, OwnerRecord, PageList, Props as FileProps, Stamp, TransId};
 use alp_fields::{
-    put_file_id, put_list, put_name, put_pages, put_stamp, put_trans_id, put_u8, put_u32,
+    put_file_id, put_list, put_name, put_pages, put_props, put_stamp, put_trans_id, put_u8, put_u32,
 };
-use alp_files::{Ended as Ending, OwnerRecord, Props as FileProps, Refusal, Reply};
-use alp_forms::{put_props, put_refusal};
+use alp_files::{Ended as Ending, Refusal, Reply};
+use alp_forms::put_refusal;
 
 fn put_welcome(out: &mut Vec<u8>, epoch: u32) -> Result<(), OutOfMemory>
     ensures { OnOk result (IsWritten reply (Welcome epoch) out.old.items out.new.items) }

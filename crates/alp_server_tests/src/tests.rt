@@ -2,6 +2,7 @@
 mod fields;
 mod locks;
 mod modes;
+mod notes;
 mod owner;
 mod parts;
 mod rpc;

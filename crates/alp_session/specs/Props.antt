@@ -3,7 +3,7 @@ use Rattle.std.specs.Prelude.{ℕ, List, if◌then◌else◌}
 use Rattle.std.specs.Ordering.{is_lt}
 use Rattle.alp_base.specs.declared.ids.Stamp.{Stamp}
 use Rattle.alp_journal.specs.Ids.{stamp_cmp}
-use Rattle.alp_files.specs.declared.cell.Props.{Props}
+use Rattle.alp_base.specs.declared.cell.Props.{Props}
 
 abbrev pub new_props : List ℕ → List ℕ → ℕ → List (List ℕ) → List (List ℕ) → Props
 new_props word owner size read modify = record {

@@ -6,9 +6,9 @@ ghost use Rattle.alp_session.specs.Calls.{making_call as making_call_said, owner
 
 use crate::{Client, Words};
 use alp_base::{
-    AccessList, Bytes, FileId, Name, OutOfMemory, Page, PageList, PageRef, Run, TransId,
+    AccessList, Bytes, FileId, Name, OutOfMemory, Page, PageList, PageRef, Props, Run, TransId,
 };
-use alp_files::{Call, HeldProps, Props};
+use alp_files::{Call, HeldProps};
 use alp_lines::{FileWord, Line};
 use std::alloc::Global;
 

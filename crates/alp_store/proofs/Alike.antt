@@ -3,7 +3,7 @@ use Rattle.std.specs.Prelude.{Some, option_map, ◌/◌, ◌%◌, ◌+◌}
 use Rattle.std.proofs.Common.{◌≡◌, ◌≤◌, ◌<◌, ℕ, List, sym, ◌∙◌, ap, subst, arith}
 use Rattle.alp_files.specs.Cells.{Cells}
 use Rattle.alp_fields.specs.Forms.{whole}
-use Rattle.alp_files.specs.declared.cell.Cell.TheVariants as cell
+use Rattle.alp_base.specs.declared.cell.Cell.TheVariants as cell
 use Rattle.alp_pages.specs.Leader.{leader_page}
 use Rattle.alp_pages.specs.Nodes.{Node, DataOf, LeaderOf}
 use Rattle.alp_pages.specs.Pages.{Pages, entry, part_of, read_row}

@@ -1,6 +1,6 @@
 -- The batch of a change is one that the log takes.
 use Rattle.std.specs.Prelude.{Bool, true, false, cond, ◌&&◌, ◌==◌, nat_lt, sum_by, Option, None, Some, map as list_map}
-use Rattle.std.specs.List.{AllByRecursion}
+use Rattle.std.specs.List.{AllByRecursion, list_all}
 use Rattle.std.specs.Ordering.{nat_cmp, is_lt}
 use Rattle.std.specs.declared.cmp.Ordering.TheVariants.{Less, Equal, Greater}
 use Rattle.std.specs.FinMap as map
@@ -14,11 +14,11 @@ use Rattle.std.proofs.lemmas.List.Sums.{sum_by-cons}
 use Rattle.alp_base.specs.Notes.{Notes, notes_after}
 use Rattle.alp_base.specs.declared.bytes.NoteChange.{NoteChange}
 use Rattle.alp_batch.specs.Batch.{IsBatch, IsShort, IsShortValue, note_length, notes_length, batch_length, page_below, name_below}
-use Rattle.alp_batch.specs.Rising.{rises_from, is_rising}
-use Rattle.alp_fields.specs.ClockNote.{IsClockAtMost}
-use Rattle.alp_files.specs.declared.change.Change.{Change}
-use Rattle.alp_vault.specs.Volumes.{changed_cells, live_bytes, put_bytes, noted_bytes, commit_bytes}
-use Rattle.alp_vault.proofs.VolumeLemmas.{clock_length, live_most}
+use Rattle.alp_fields.specs.Rising.{rises_from, is_rising}
+use Rattle.alp_base.specs.declared.change.Change.{Change}
+use Rattle.alp_fields.proofs.FormLaws.{and_parts}
+use Rattle.alp_vault.specs.Volumes.{is_note_change, changed_cells, live_bytes, put_bytes, noted_bytes, commit_bytes}
+use Rattle.alp_vault.proofs.VolumeLemmas.{short_name, notes_len}
 use Rattle.alp_wal.specs.Live.{BothFit, notes_batch, puts}
 use Rattle.alp_volume.specs.Drafts.{Changed}
 use Rattle.alp_store.specs.Batches.{image_of, batch_of, IsLoggable}
@@ -51,20 +51,20 @@ rising (e ∷ es) h = from e es (first _ _ h) (second _ _ h)
 
 -- ---- notes
 
-few_clocks : (ns : List NoteChange) → IsClockAtMost ns → length ns ≤ 1
-few_clocks [] h = omega arith
-few_clocks (n ∷ []) h = omega arith
-few_clocks (n ∷ m ∷ ns) h = absurd h
-
-names_rise : (ns : List NoteChange) → IsClockAtMost ns → is_rising name_below ns ≡ true
-names_rise [] h = refl
-names_rise (n ∷ []) h = refl
-names_rise (n ∷ m ∷ ns) h = absurd h
-
-short : (ns : List NoteChange) → IsClockAtMost ns → AllByRecursion IsShort ns
-short [] h = tt
-short (n ∷ []) h = ((let one : length n.name ≡ 1 = ap length h.name in omega (arith, one), subst IsShortValue (sym h.value) (omega (arith, clock_length h.clock))), tt)
-short (n ∷ m ∷ ns) h = absurd h
+-- each name is short, and each value no longer than all that is noted
+short : (server servers most : ℕ) (ns : List NoteChange) → list_all (λ (n : NoteChange). is_note_change server servers n.name n.value) ns ≡ true
+    → sum_by (λ (n : NoteChange). noted_bytes n.name n.value) ns ≤ most → most < 2 ^ 32 → AllByRecursion IsShort ns
+short server servers most [] each few low = tt
+short server servers most (n ∷ ns) each few low =
+    let parts = and_parts (is_note_change server servers n.name n.value) (list_all (λ (m : NoteChange). is_note_change server servers m.name m.value) ns) each in
+    let sum = sum_by-cons (λ (m : NoteChange). noted_bytes m.name m.value) n ns in (
+      (omega (arith, short_name server servers n.name n.value parts.0), value_short n.name n.value (omega (arith, sum, few, low))),
+      short server servers most ns parts.1 (omega (arith, sum, few)) low,
+    )
+  where
+    value_short : (name : List ℕ) (v : Option (List ℕ)) → noted_bytes name v < 2 ^ 32 → IsShortValue v
+    value_short name None h = tt
+    value_short name (Some v) h = omega (arith, h)
 
 puts_length : (es : List (List ℕ × List ℕ)) → notes_length (puts es) ≡ sum_by put_bytes es
 puts_length [] = refl
@@ -78,11 +78,6 @@ noted_length : (ns : List NoteChange) → notes_length ns ≡ sum_by (λ (n : No
 noted_length [] = refl
 noted_length (n ∷ ns) = omega (arith, one_noted n.name n.value, noted_length ns, sum_by-cons (λ (x : NoteChange). noted_bytes x.name x.value) n ns)
 
--- each note takes some bytes
-many_bytes : (es : List (List ℕ × List ℕ)) → 6 * length es ≤ sum_by put_bytes es
-many_bytes [] = omega arith
-many_bytes (e ∷ es) = omega (arith, many_bytes es, sum_by-cons put_bytes e es)
-
 -- ---- all of it
 
 module _ (server servers area : ℕ) (live : Notes) (change : Change) (pages : Changed) (notes : List NoteChange) (ok : IsLoggable server servers area live change pages notes) where
@@ -92,17 +87,21 @@ module _ (server servers area : ℕ) (live : Notes) (change : Change) (pages : C
   few_images : length (list_map image_of (map.entries pages)) < 2 ^ 16
   few_images = omega (arith, image_count, ok.few, ok.log, ok.area_most)
 
+  -- the record of a commit fits an area
+  few_bytes : commit_bytes (changed_cells change) notes < 2 ^ 32
+  few_bytes = omega (arith, ok.log, ok.area_most)
+
   pub is_batch : IsBatch (batch_of pages notes)
   is_batch = record {
     few_images = few_images;
     pages_rise = rising (map.entries pages) (entries_sorted pages);
-    few_notes = omega (arith, few_clocks notes ok.noted.each);
-    names_rise = names_rise notes ok.noted.each;
-    short = short notes ok.noted.each;
+    few_notes = omega (arith, ok.noted.few);
+    names_rise = ok.noted.rise;
+    short = short server servers (commit_bytes (changed_cells change) notes) notes ok.noted.each (omega arith) few_bytes;
   }
 
   pub few_after : map.len (notes_after notes live) ≤ 65535
-  few_after = omega (arith, len-entries (notes_after notes live), many_bytes (map.entries (notes_after notes live)), live_most server servers (notes_after notes live) ok.noted.after)
+  few_after = omega (arith, notes_len notes live, ok.noted.few)
 
   live_length : batch_length (notes_batch live) ≡ live_bytes live
   live_length = omega (arith, puts_length (map.entries live))

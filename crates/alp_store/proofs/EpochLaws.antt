@@ -14,7 +14,7 @@ use Rattle.std.specs.Cmp.{eq_by_cmp_equiv}
 use Rattle.std.specs.Cmp.Lexicographic.{nat_list_cmp_total}
 use Rattle.alp_files.specs.Cells.{same_name}
 use Rattle.alp_files.proofs.SameLemmas.{same_name-true}
-use Rattle.alp_vault.specs.Volumes.{AreServerNotes}
+use Rattle.alp_vault.specs.Volumes.{AreNotesSoFar}
 
 -- without notes there is none
 pub no_epoch : (notes : Notes) → map.keys notes ≡ [] → 0 ≡ (clock_kept notes).epoch
@@ -28,7 +28,7 @@ no_epoch notes none = go (map.get notes clock_name) refl
         cc
 
 -- the note that stands is that of the clock
-pub an_epoch : (notes : Notes) (name value : List ℕ) → AreServerNotes 1 1 notes → map.get notes name ≡ Some value → clock_kept notes ≡ clock_in (Some value)
+pub an_epoch : (notes : Notes) (name value : List ℕ) → AreNotesSoFar 1 1 notes → map.get notes name ≡ Some value → clock_kept notes ≡ clock_in (Some value)
 an_epoch notes name value are there =
     let same : name ≡ clock_name = same_name-true name clock_name (and_parts (same_name name clock_name) (is_some (whole clock_form value)) (are name value there)).0 in
     ap clock_in (ap (map.get notes) (sym same) ∙ there)
@@ -48,5 +48,5 @@ first_there notes name (n ∷ ns) are some first gone =
     cc
 
 -- the epoch of its clock, or 0
-pub epoch_read : (notes : Notes) (name value : List ℕ) (o : Option ClockNote) → AreServerNotes 1 1 notes → map.get notes name ≡ Some value → o ≡ whole clock_form value → (unwrap_or o no_clock).epoch ≡ (clock_kept notes).epoch
+pub epoch_read : (notes : Notes) (name value : List ℕ) (o : Option ClockNote) → AreNotesSoFar 1 1 notes → map.get notes name ≡ Some value → o ≡ whole clock_form value → (unwrap_or o no_clock).epoch ≡ (clock_kept notes).epoch
 epoch_read notes name value o are there read = ap (λ (x : Option ClockNote). (unwrap_or x no_clock).epoch) read ∙ ap (λ (c : ClockNote). c.epoch) (sym (an_epoch notes name value are there))

@@ -12,7 +12,7 @@ use Rattle.alp_base.specs.KeyLaws.{file_cmp, exact_files}
 use Rattle.alp_base.specs.declared.ids.FileId.{FileId}
 use Rattle.alp_base.specs.declared.key.Key.TheVariants.{Leader}
 use Rattle.alp_fields.proofs.FormLaws.{and_parts}
-use Rattle.alp_files.specs.declared.cell.Cell.{Cell}
+use Rattle.alp_base.specs.declared.cell.Cell.{Cell}
 use Rattle.alp_files.specs.Cells.{Cells}
 use Rattle.alp_pages.specs.Pages.{Pages}
 use Rattle.alp_pages.specs.Volume.{StandFor}

@@ -5,7 +5,7 @@ use Rattle.alp_anchor.specs.declared.anchor.Anchor.{Anchor}
 use Rattle.alp_base.specs.Crashes.{Adds, NoMore, Either, Only}
 use Rattle.alp_base.specs.declared.bytes.NoteChange.{NoteChange}
 use Rattle.alp_disk.specs.declared.disk.Disk.{Ghosts}
-use Rattle.alp_files.specs.declared.change.Change.{Change}
+use Rattle.alp_base.specs.declared.change.Change.{Change}
 use Rattle.alp_pool.specs.Pools.{log_of, device_of}
 use Rattle.alp_pool.specs.declared.pool.Pool.{Pool}
 use Rattle.alp_vault.specs.Contents.{Contents, made}

@@ -16,7 +16,7 @@ use Rattle.alp_disk.specs.declared.disk.Disk.{Ghosts}
 use Rattle.alp_files.specs.Cells.{Cells}
 use Rattle.alp_files.specs.Changes.{edits_of}
 use Rattle.alp_files.specs.Edits.{edits_map}
-use Rattle.alp_files.specs.declared.change.Change.{Change}
+use Rattle.alp_base.specs.declared.change.Change.{Change}
 use Rattle.alp_pages.specs.Pages.{Pages}
 use Rattle.alp_pool.specs.Pools.{log_of, device_of}
 use Rattle.alp_pool.specs.declared.pool.Pool.{Pool}

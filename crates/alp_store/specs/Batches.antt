@@ -6,7 +6,7 @@ use Rattle.alp_base.specs.Notes.{Notes}
 use Rattle.alp_base.specs.declared.bytes.NoteChange.{NoteChange}
 use Rattle.alp_batch.specs.declared.batch.Batch.{Batch}
 use Rattle.alp_batch.specs.declared.batch.PageImage.{PageImage}
-use Rattle.alp_files.specs.declared.change.Change.{Change}
+use Rattle.alp_base.specs.declared.change.Change.{Change}
 use Rattle.alp_vault.specs.Volumes.{AreNoteChanges, FitsLog, changed_cells}
 use Rattle.alp_volume.specs.Drafts.{Changed}
 use Rattle.alp_wal.specs.State.{IsBelow}

@@ -9,7 +9,7 @@ use Rattle.alp_base.specs.declared.faults.VaultFault.{VaultFault}
 use Rattle.alp_base.specs.declared.faults.VaultFault.TheVariants as fault
 use Rattle.alp_batch.specs.declared.batch.Batch.{Batch}
 use Rattle.alp_disk.specs.declared.disk.Disk.{Ghosts}
-use Rattle.alp_files.specs.declared.change.Change.{Change}
+use Rattle.alp_base.specs.declared.change.Change.{Change}
 use Rattle.alp_vault.specs.Contents.{made}
 use Rattle.alp_vault.specs.Vault.{serves_past_change}
 use Rattle.alp_wal.specs.State.{applied}

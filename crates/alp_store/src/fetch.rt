@@ -11,9 +11,8 @@ ghost use Rattle.alp_store.specs.Reads.{HasReadPages};
 ghost use Rattle.alp_store.specs.Shelves.{shelf_log, IsShelf};
 
 use crate::shelf::Shelf;
-use alp_base::{FileId, Key, Name, PAGES_PER_FILE, VaultFault};
+use alp_base::{Cell, FileId, Key, Name, PAGES_PER_FILE, VaultFault};
 use alp_disk::Disk;
-use alp_files::Cell;
 use alp_pages::{fetch_leader, fetch_owner, fetch_page};
 use std::alloc::Global;
 

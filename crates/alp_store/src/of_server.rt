@@ -4,7 +4,8 @@ ghost use Rattle.std.specs.List.{list_all};
 ghost use Rattle.std.specs.FinMap as map;
 ghost use Rattle.alp_fields.specs.ClockNote.{clock_kept};
 ghost use Rattle.alp_pool.specs.Pools.{log_of};
-ghost use Rattle.alp_vault.specs.Volumes.{is_server_note as is_server_note_said, AreServerNotes};
+ghost use Rattle.alp_fields.specs.ClockNote.{is_clock_note as is_clock_note_said};
+ghost use Rattle.alp_vault.specs.Volumes.{AreNotesSoFar};
 ghost use Rattle.alp_wal.specs.Wal.{disk_of, notes_of};
 ghost use Rattle.alp_store.specs.Notes.{is_good as is_good_said};
 ghost use Rattle.alp_store.specs.Shelves.{shelf_log, IsShelf};
@@ -17,9 +18,8 @@ use alp_base::{Bytes, FileId};
 use alp_disk::Disk;
 use alp_fields::{is_clock_name, read_clock};
 
-// So far one note is in the format: that of the epoch and the clock.
-fn is_server_note(name: &Bytes, value: &Bytes) -> bool
-    ensures { (server servers : ℕ) → result ≡ is_server_note_said server servers name.now value.now }
+fn is_clock_note(name: &Bytes, value: &Bytes) -> bool
+    ensures { result ≡ is_clock_note_said name.now value.now }
 {
     is_clock_name(name.as_slice()) && read_clock(value.as_slice()).is_some()
 }
@@ -29,15 +29,15 @@ fn is_good<D: Disk>(pages: &HomePages<D>, name: &Bytes) -> bool
     ensures { result ≡ is_good_said name.now (map.get (notes_of (log_of pages.now)) name.now) }
 {
     match pages.note(name) {
-        Some(value) => is_server_note(name, value),
+        Some(value) => is_clock_note(name, value),
         None => true,
     }
 }
 
-/// Whether all notes are in their format.
+/// Whether no note stands but that of the epoch and the clock.
 fn are_server_notes<D: Disk>(pages: &HomePages<D>) -> bool
-    ensures good { result ≡ true → (server servers : ℕ) → AreServerNotes server servers (notes_of (log_of pages.now)) }
-    ensures bad { result ≡ false → (server servers : ℕ) → AreServerNotes server servers (notes_of (log_of pages.now)) → ⊥ }
+    ensures good { result ≡ true → (server servers : ℕ) → AreNotesSoFar server servers (notes_of (log_of pages.now)) }
+    ensures bad { result ≡ false → (server servers : ℕ) → AreNotesSoFar server servers (notes_of (log_of pages.now)) → ⊥ }
 {
     let names = pages.note_names();
     for name in names {
@@ -50,7 +50,7 @@ fn are_server_notes<D: Disk>(pages: &HomePages<D>) -> bool
 
 /// The epoch that the notes keep, or 0.
 fn epoch_kept<D: Disk>(pages: &HomePages<D>) -> u32
-    requires { AreServerNotes 1 1 (notes_of (log_of pages.now)) }
+    requires { AreNotesSoFar 1 1 (notes_of (log_of pages.now)) }
     ensures { result ≡ (clock_kept (notes_of (log_of pages.now))).epoch }
 {
     let [name, ..] = pages.note_names() else {
@@ -78,7 +78,7 @@ impl<D: Disk> Shelf<D> {
         requires { IsShelf D.Disk self.now }
         ensures yes { IsTrue (D.tells (disk_of (shelf_log self.now))) → result ≡ true → (servers : ℕ) → AreOfServer server servers (contents_of D.Disk (shelf_log self.now)) }
         ensures other { IsTrue (D.tells (disk_of (shelf_log self.now))) → result ≡ false → (servers : ℕ) → AreOfServer server servers (contents_of D.Disk (shelf_log self.now)) → ⊥ }
-        ensures notes { result ≡ true → (servers : ℕ) → AreServerNotes server servers (notes_of (shelf_log self.now)) }
+        ensures notes { result ≡ true → (servers : ℕ) → AreNotesSoFar server servers (notes_of (shelf_log self.now)) }
     {
         if !are_server_notes(&self.pages) {
             return false;

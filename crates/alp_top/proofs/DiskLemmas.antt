@@ -16,7 +16,7 @@ use Rattle.alp_base.specs.declared.faults.VaultFault.TheVariants as vault_fault
 use Rattle.alp_base.specs.Pages.{zero_page}
 use Rattle.alp_base.specs.declared.key.Key.TheVariants.{Leader}
 use Rattle.alp_files.specs.Cells.{same_name}
-use Rattle.alp_files.specs.declared.cell.Cell.{Cell}
+use Rattle.alp_base.specs.declared.cell.Cell.{Cell}
 use Rattle.alp_files.proofs.CellMapLemmas.{get_cell}
 use Rattle.alp_files.proofs.SameLemmas.{same_name-true, same_name-false}
 use Rattle.alp_anchor.specs.Anchor.{Counts}
@@ -31,12 +31,13 @@ use Rattle.alp_node.specs.declared.start.StartFault.TheVariants as start_fault
 use Rattle.alp_store.specs.Holding.{Holds}
 use Rattle.alp_store.specs.Starts.{AreOfServer as StartedOnOwn, IsNew, WhyNotStarted}
 use Rattle.alp_vault.specs.Contents.{Contents}
-use Rattle.alp_vault.specs.Volumes.{AreServerNotes}
+use Rattle.alp_vault.specs.Volumes.{AreNotesSoFar}
 use Rattle.alp_files.specs.Apart.{AreSized}
 use Rattle.alp_files.specs.Sound.{AreSound}
 use Rattle.alp_journal.specs.declared.entry.Entry.{Entry}
 use Rattle.alp_journal.specs.State.{State}
 use Rattle.alp_journal.specs.Opening.{Start, start_at}
+use Rattle.alp_journal.proofs.NoteLemmas.{named_ready, named_decided, only_clock}
 use Rattle.alp_node.specs.Downs.{IsLeftOf}
 use Rattle.alp_node.specs.Durable.{said_of}
 use Rattle.alp_node.specs.NodeStates.{NodeState}
@@ -139,7 +140,7 @@ module _ {D : Type 0} (g : Ghosts D) (sizes : Sizes) (lines : List NumberedLine)
   not_opened (vault_fault.Damaged place) cause kept free new why on = (left_alone on new kept, why new)
 
   -- the store did, and the server on it did not
-  pub not_started : (held : Contents) (f : StartFault) (between : ℕ) (allowance : Allowance) (home : ℕ) → HasStartCause 1 1 held between (g.faults e) allowance f → allowance ≡ Free → between ≡ g.faults d → AreServerNotes 1 1 held.notes
+  pub not_started : (held : Contents) (f : StartFault) (between : ℕ) (allowance : Allowance) (home : ℕ) → HasStartCause 1 1 held between (g.faults e) allowance f → allowance ≡ Free → between ≡ g.faults d → AreNotesSoFar 1 1 held.notes
       → (f ≡ start_fault.Vault vault_fault.OutOfMemory → g.faults e ≡ between) → (f ≡ start_fault.EpochEnd → g.faults e ≡ between)
       → (IsNewDisk → held ≡ nothing) → ((IsNewDisk → ⊥) → Holds 1 1 (g.size d) home (g.seen d) held) → ((IsNewDisk → ⊥) → StartedOnOwn 1 1 held) → (f ≡ start_fault.EpochEnd → ReadsOn) → HasDiskCause g sizes lines (of_start f) d e
   not_started held (start_fault.Vault f) between allowance home cause free kept notes memory last_epoch new holds own on = go f cause memory
@@ -328,6 +329,8 @@ module _ {V D : Type 0} (G : VaultGhosts V) (g : Ghosts D) (sizes : Sizes) (o : 
     sound = record {
       files = subst (λ (c : Contents). AreSound c.cells) said fits.sound;
       sizes = subst (λ (c : Contents). AreSized (map.get c.cells)) said (volume_sized vol held.cells fits);
+      ready = named_ready (said_of last).notes (only_clock (clock_form.spell (record { epoch = last.ids.epoch; clock = last.holder.kept })));
+      decisions = named_decided (said_of last).notes (only_clock (clock_form.spell (record { epoch = last.ids.epoch; clock = last.holder.kept })));
     };
     unfailed = unfailed;
   }

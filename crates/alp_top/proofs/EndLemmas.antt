@@ -78,7 +78,7 @@ module _ {V : Type 0} (G : Ghosts V) (n : NodeState V) (on : IsOn G n) (up : n.k
       let r = of_journal in
       let k = r.kept in
       let s : State = alone r.state in
-      let counts = tally_is (start_in G n) n.journal refl refl r.lawful r.own r.caused.1 in
+      let counts = tally_is (start_in G n) n.journal r.opening.ready r.opening.decisions r.lawful r.own r.caused.1 in
       let begun : (tally_in n.journal).begun ≡ length s.begun = counts.0 ∙ ap (λ (z : State). length z.begun) r.says in
       let committed : (tally_in n.journal).committed ≡ length s.holder.applied = counts.1 ∙ ap (λ (z : State). length z.holder.applied) r.says in
       (λ i. summary_text ((is.server ∙ sym k.server) i) ((is.epoch ∙ sym k.epoch) i) ((is.clock ∙ sym k.clock) i) (k.cells up i) ((is.committed ∙ committed) i)
@@ -186,8 +186,8 @@ module _ {V : Type 0} (G : Ghosts V) (lines : List NumberedLine) (n : NodeState 
       few = (let one : (start_of G x).servers ≡ 1 = refl in omega (arith, one));
       files = subst (λ (o : Start). AreSound o.cells) (sym same) right.opening.files;
       sizes = subst (λ (o : Start). AreSized (map.get o.cells)) (sym same) right.opening.sizes;
-      ready = refl;
-      decisions = refl;
+      ready = subst (λ (o : Start). o.ready ≡ []) (sym same) right.opening.ready;
+      decisions = subst (λ (o : Start). o.decisions ≡ []) (sym same) right.opening.decisions;
       lawful = subst (λ (o : Start). IsLawful o x.journal) (sym same) (subst (IsLawful (start_in G n)) (sym servers.entries) right.lawful);
       own = subst AreOwnEvents (sym servers.entries) right.own;
       ranks = servers.ranks ∙ ap (ranks_from 1) (sym servers.entries);

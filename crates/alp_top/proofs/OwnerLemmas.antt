@@ -22,9 +22,9 @@ use Rattle.alp_files.specs.Cells.{Cells, owner_in, owners_of}
 use Rattle.alp_files.specs.Counts.{name_at, owner_names_of}
 use Rattle.alp_files.specs.Files.{IsOfKind}
 use Rattle.alp_files.specs.Sound.{AreSound}
-use Rattle.alp_files.specs.declared.cell.Cell.{Cell}
-use Rattle.alp_files.specs.declared.cell.Cell.TheVariants as cell
-use Rattle.alp_files.specs.declared.cell.OwnerRecord.{OwnerRecord}
+use Rattle.alp_base.specs.declared.cell.Cell.{Cell}
+use Rattle.alp_base.specs.declared.cell.Cell.TheVariants as cell
+use Rattle.alp_base.specs.declared.cell.OwnerRecord.{OwnerRecord}
 
 abbrev Entry : Type 0
 Entry = Key × Cell

@@ -40,8 +40,8 @@ module _ {V : Type 0} (G : Ghosts V) (lines : List NumberedLine) (f : RunFault) 
         few = (let one : o.servers ≡ 1 = h.on.alone in omega (arith, one));
         files = right.opening.files;
         sizes = right.opening.sizes;
-        ready = refl;
-        decisions = refl;
+        ready = right.opening.ready;
+        decisions = right.opening.decisions;
         lawful = right.lawful;
         own = right.own;
         ranks = refl;

@@ -14,10 +14,10 @@ use Rattle.alp_files.specs.Cells.{Cells, size_in, sizes_of, owner_in, owners_of,
 use Rattle.alp_files.specs.Counts.{files_at, file_count_of}
 use Rattle.alp_files.specs.Files.{IsOfKind, AreFiles, cost, charge_of}
 use Rattle.alp_files.specs.Sound.{AreSound}
-use Rattle.alp_files.specs.declared.cell.Cell.{Cell}
-use Rattle.alp_files.specs.declared.cell.Cell.TheVariants as cell
-use Rattle.alp_files.specs.declared.cell.OwnerRecord.{OwnerRecord}
-use Rattle.alp_files.specs.declared.cell.Props.{Props}
+use Rattle.alp_base.specs.declared.cell.Cell.{Cell}
+use Rattle.alp_base.specs.declared.cell.Cell.TheVariants as cell
+use Rattle.alp_base.specs.declared.cell.OwnerRecord.{OwnerRecord}
+use Rattle.alp_base.specs.declared.cell.Props.{Props}
 use Rattle.alp_files.proofs.SameLemmas.{same_name-itself, other_name, same_key-itself}
 use Rattle.alp_files.proofs.SumLemmas.{sum_of, weight_at, sum_of-nothing, sum_of-single}
 use Rattle.alp_report.specs.Reports.{files_text, owners_text, count_text, summary_text}

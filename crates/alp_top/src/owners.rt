@@ -7,9 +7,8 @@ ghost use Rattle.alp_files.specs.Cells.{owner_in, owners_of};
 ghost use Rattle.alp_cluster.specs.Servers.{HasGone};
 ghost use Rattle.alp_top.specs.Looks.{HasLooked};
 
-use alp_base::{Key, Name, OutOfMemory, VaultFault};
+use alp_base::{Cell, Key, Name, OutOfMemory, OwnerRecord, VaultFault};
 use alp_cluster::{RunFault, SERVER};
-use alp_files::{Cell, OwnerRecord};
 use alp_vault::Vault;
 use std::alloc::Global;
 

@@ -10,7 +10,7 @@ use Rattle.alp_base.specs.declared.ids.FileId.{FileId}
 use Rattle.alp_base.specs.declared.key.Key.{Key}
 use Rattle.alp_base.specs.declared.key.Key.TheVariants.{Leader, PageOf, OwnerOf}
 use Rattle.alp_base.specs.KeyLaws.{file_cmp}
-use Rattle.alp_files.specs.declared.cell.Cell.{Cell}
+use Rattle.alp_base.specs.declared.cell.Cell.{Cell}
 use Rattle.alp_files.specs.Cells.{Cells, same_file}
 use Rattle.alp_files.specs.Counts.{APageStands}
 use Rattle.alp_files.specs.Edits.{Drop, Cut, is_in_file, is_past}

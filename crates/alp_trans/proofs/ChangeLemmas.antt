@@ -16,7 +16,7 @@ use Rattle.alp_base.specs.declared.key.Key.{Key}
 use Rattle.alp_base.specs.declared.key.Key.TheVariants.{Leader, PageOf, OwnerOf}
 use Rattle.alp_base.specs.Keys.{key_cmp}
 use Rattle.alp_base.specs.KeyLaws.{file_cmp, keys_total}
-use Rattle.alp_files.specs.declared.cell.Cell.{Cell}
+use Rattle.alp_base.specs.declared.cell.Cell.{Cell}
 use Rattle.alp_files.specs.Cells.{Cells, View, same_file}
 use Rattle.alp_files.specs.Changes.{edits_of}
 use Rattle.alp_files.specs.Edits.{Edit, Drop, Cut, is_in_file, is_past, edits_at, after, edits_map}

@@ -11,8 +11,8 @@ ghost use Rattle.alp_trans.specs.declared.gone.Gone.TheVariants as gone_variant;
 use crate::cuts::Cuts;
 use crate::drops::Drops;
 use crate::gone::Gone;
-use alp_base::{FileId, Key, OutOfMemory};
-use alp_files::{Cell, CellMap, Change, CutList, FileList, PutList};
+use alp_base::{Cell, Change, CutList, FileId, FileList, Key, OutOfMemory, PutList};
+use alp_files::CellMap;
 use std::alloc::Global;
 use std::marker::Model;
 

@@ -6,8 +6,8 @@ ghost use Rattle.alp_trans.specs.Counting.{no_counts};
 ghost use Rattle.alp_trans.specs.Parts.{own_of, change_of};
 
 use crate::{Counts, Intents};
-use alp_base::OutOfMemory;
-use alp_files::{Change, Open};
+use alp_base::{Change, OutOfMemory};
+use alp_files::Open;
 use std::alloc::Global;
 
 /// What a transaction intends at one server, what it has opened there, and what is counted of it, which is kept as it changes.

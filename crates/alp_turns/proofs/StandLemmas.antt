@@ -12,7 +12,7 @@ use Rattle.alp_files.specs.Holdings.{Holding, DoAgree, IsIntended}
 use Rattle.alp_files.specs.Locks.{Need, Reads, Writes, needs_of, needs_there, needs_on_open, needs_if_change, page_needs}
 use Rattle.alp_files.specs.declared.call.Call.{Call}
 use Rattle.alp_files.specs.declared.call.Call.TheVariants as call
-use Rattle.alp_files.specs.declared.cell.Props.{Props}
+use Rattle.alp_base.specs.declared.cell.Props.{Props}
 use Rattle.alp_files.specs.declared.open.Open.{Open}
 use Rattle.alp_files.proofs.FrameLemmas.{apart-same}
 use Rattle.alp_files.proofs.HeldLemmas.{apart}

@@ -13,7 +13,7 @@ use Rattle.alp_base.specs.declared.key.Key.{Key}
 use Rattle.alp_base.specs.declared.key.Key.TheVariants.{Leader, PageOf, OwnerOf}
 use Rattle.alp_base.specs.Keys.{key_cmp}
 use Rattle.alp_base.specs.KeyLaws.{keys_total, exact_keys}
-use Rattle.alp_files.specs.declared.cell.Cell.{Cell}
+use Rattle.alp_base.specs.declared.cell.Cell.{Cell}
 use Rattle.alp_files.specs.Cells.{Cells}
 use Rattle.alp_files.specs.Counts.{Blocks, blocks_of, block_of, with_block, used_of, file_count_of, files_at, places_at, APageStands}
 use Rattle.alp_files.proofs.SumLemmas.{weight_at, sum-insert}

@@ -16,13 +16,13 @@ use Rattle.alp_base.specs.declared.key.Key.{Key}
 use Rattle.alp_base.specs.declared.key.Key.TheVariants.{Leader, PageOf, OwnerOf}
 use Rattle.alp_base.specs.Keys.{key_cmp}
 use Rattle.alp_base.specs.KeyLaws.{keys_total, exact_keys}
-use Rattle.alp_files.specs.declared.cell.Cell.{Cell}
+use Rattle.alp_base.specs.declared.cell.Cell.{Cell}
 use Rattle.alp_files.specs.Cells.{Cells}
 use Rattle.alp_files.specs.Counts.{name_at, owner_names_of}
 use Rattle.alp_files.specs.Edits.{Edit, Drop, Cut, is_in_file, is_past, edit_map, edits_map}
 use Rattle.alp_files.specs.Undo.{puts_of}
 use Rattle.alp_files.proofs.SumLemmas.{entries-retain_keys}
-use Rattle.alp_files.specs.declared.change.Change.{Change}
+use Rattle.alp_base.specs.declared.change.Change.{Change}
 use Rattle.alp_files.specs.Changes.{edits_of}
 use Rattle.alp_base.specs.Notes.{text_cmp}
 use Rattle.alp_notes.specs.Rows.{AreBelow, IsAt, IsPlace}

@@ -10,9 +10,9 @@ use Rattle.alp_base.specs.declared.faults.Sizes.{Sizes}
 use Rattle.alp_base.specs.declared.key.Key.TheVariants.{Leader, OwnerOf}
 use Rattle.alp_base.specs.Keys.{key_cmp}
 use Rattle.alp_base.specs.KeyLaws.{keys_total}
-use Rattle.alp_files.specs.declared.cell.Cell.{Cell}
-use Rattle.alp_files.specs.declared.cell.Cell.TheVariants as cell
-use Rattle.alp_files.specs.declared.cell.OwnerRecord.{OwnerRecord}
+use Rattle.alp_base.specs.declared.cell.Cell.{Cell}
+use Rattle.alp_base.specs.declared.cell.Cell.TheVariants as cell
+use Rattle.alp_base.specs.declared.cell.OwnerRecord.{OwnerRecord}
 use Rattle.alp_files.specs.Cells.{Cells}
 use Rattle.alp_files.specs.Edits.{Edit, Put, after, edits_map, edit_map}
 use Rattle.alp_files.specs.Files.{AreFiles, charge_of, cost}
@@ -28,7 +28,7 @@ use Rattle.alp_vault.specs.Owners.{with_owner}
 use Rattle.alp_vault.specs.Volumes.{IsVolumeOf}
 use Rattle.alp_vault.proofs.OwnerLemmas.{owners-put}
 use Rattle.alp_vault.proofs.VolumeLemmas.{no_owners}
-use Rattle.alp_files.specs.declared.change.Change.{Change}
+use Rattle.alp_base.specs.declared.change.Change.{Change}
 
 -- one edit of a map, seen at each key
 one : (e : Edit) (m : Cells) → map.get (edit_map e m) ≡ after (e ∷ []) (map.get m)

@@ -14,7 +14,7 @@ use Rattle.alp_base.specs.declared.key.Key.{Key}
 use Rattle.alp_base.specs.declared.key.Key.TheVariants.{Leader, PageOf, OwnerOf}
 use Rattle.alp_base.specs.Keys.{key_cmp}
 use Rattle.alp_base.specs.KeyLaws.{keys_total, exact_keys}
-use Rattle.alp_files.specs.declared.cell.Cell.{Cell}
+use Rattle.alp_base.specs.declared.cell.Cell.{Cell}
 use Rattle.alp_files.specs.Cells.{Cells, same_file, props_in}
 use Rattle.alp_files.specs.Files.{AreFiles}
 use Rattle.alp_files.specs.Edits.{Drop, Cut, is_in_file, is_past, edits_at, edits_map}
@@ -22,7 +22,7 @@ use Rattle.alp_files.specs.Undo.{puts_of}
 use Rattle.alp_files.proofs.EditLemmas.{edits_at-append}
 use Rattle.alp_files.proofs.HistoryLemmas.{get-edits_map}
 use Rattle.alp_files.proofs.SameLemmas.{same_key-true, same_key-itself, same_page_key, same_file-true, same_file-itself}
-use Rattle.alp_files.specs.declared.change.Change.{Change}
+use Rattle.alp_base.specs.declared.change.Change.{Change}
 use Rattle.alp_vault.specs.declared.sweep.Sweep.{Sweep}
 use Rattle.alp_files.specs.Changes.{edits_of}
 use Rattle.alp_vault.specs.Sweeps.{is_page_between, is_swept, is_swept_by, left_of, size_at, size_or_none, drop_sweep, cut_sweep, sweeps_of}

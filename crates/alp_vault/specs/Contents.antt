@@ -5,7 +5,7 @@ use Rattle.alp_base.specs.Notes.{Notes, notes_after}
 use Rattle.alp_files.specs.Cells.{Cells}
 use Rattle.alp_files.specs.Edits.{edits_map}
 use Rattle.alp_files.specs.Changes.{edits_of}
-use Rattle.alp_files.specs.declared.change.Change.{Change}
+use Rattle.alp_base.specs.declared.change.Change.{Change}
 
 pub record Contents : Type 0 where
   pub cells : Cells

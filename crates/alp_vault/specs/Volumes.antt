@@ -1,5 +1,5 @@
 -- What a volume has room for, and what a commit asks of its change.
-use Rattle.std.specs.Prelude.{◌≡◌, ◌≤◌, ℕ, ◌+◌, ◌*◌, ◌/◌, Bool, true, false, ◌&&◌, nat_le, nat_lt, sum_by, List, length, Option, None, Some, is_some}
+use Rattle.std.specs.Prelude.{◌≡◌, ◌≤◌, ◌<◌, ℕ, ◌+◌, ◌*◌, ◌^◌, ◌/◌, Bool, true, false, not, ◌&&◌, ◌||◌, ◌==◌, nat_le, nat_lt, sum_by, List, length, Option, None, Some}
 use Rattle.std.specs.Coded.{le_prop}
 use Rattle.std.specs.List.{list_all}
 use Rattle.std.specs.FinMap as map
@@ -10,16 +10,23 @@ use Rattle.alp_base.specs.declared.ids.FileId.{FileId}
 use Rattle.alp_base.specs.declared.key.Key.{Key}
 use Rattle.alp_base.specs.declared.key.Key.TheVariants.{Leader, PageOf, OwnerOf}
 use Rattle.alp_base.specs.declared.lists.TheConstants.{PAGES_PER_FILE}
+use Rattle.alp_base.specs.declared.ids.JoinNo.{JoinNo}
+use Rattle.alp_base.specs.declared.ids.TransId.{TransId}
 use Rattle.alp_fields.specs.Forms.{whole}
-use Rattle.alp_fields.specs.ClockNote.{clock_name, clock_form, IsClockAtMost}
-use Rattle.alp_files.specs.declared.cell.Cell.{Cell}
-use Rattle.alp_files.specs.declared.cell.Cell.TheVariants as cell
-use Rattle.alp_files.specs.declared.cell.Props.{Props}
-use Rattle.alp_files.specs.declared.change.Change.{Change}
+use Rattle.alp_fields.specs.Rising.{is_rising, text_below}
+use Rattle.alp_fields.specs.ClockNote.{is_clock_note, AreClockNotes, IsClockAtMost}
+use Rattle.alp_fields.specs.ReadyNote.{ready_name, ready_in}
+use Rattle.alp_fields.specs.DecisionNote.{decision_name, decision_in}
+use Rattle.alp_fields.specs.declared.ready_note.ReadyPart.{ReadyPart}
+use Rattle.alp_fields.specs.declared.decision_note.Decision.{Decision}
+use Rattle.alp_base.specs.declared.cell.Cell.{Cell}
+use Rattle.alp_base.specs.declared.cell.Cell.TheVariants as cell
+use Rattle.alp_base.specs.declared.cell.Props.{Props}
+use Rattle.alp_base.specs.declared.change.Change.{Change}
 use Rattle.alp_files.specs.Cells.{Cells, same_name}
 use Rattle.alp_files.specs.Changes.{ArePutOnce}
 use Rattle.alp_files.specs.Counts.{used_of, file_count_of, owner_count_of, blocks_of}
-use Rattle.alp_files.specs.declared.cell.TheConstants.{BLOCK_PAGES}
+use Rattle.alp_base.specs.declared.cell.TheConstants.{BLOCK_PAGES}
 use Rattle.alp_files.specs.Sound.{AreSound}
 use Rattle.alp_files.specs.SoundLaws.{AreSound-prop}
 use Rattle.alp_vault.specs.declared.limits.TheConstants.{FILES_PER_SERVER, OWNERS_PER_SERVER, HEAD_PAGES}
@@ -71,19 +78,68 @@ fit_keys puts = list_all (λ p. fits_key p.0 p.1) puts
 
 -- ---- notes
 
--- A note of that name with that value is in the format of a server, which is one of so many. So far there is one such
--- note, that of the epoch and the clock.
+-- whether there is such a server in a run of so many, and it is not this one
+abbrev pub is_another : ℕ → ℕ → ℕ → Bool
+is_another server servers n = nat_le 1 n && nat_le n servers && not (n == server)
+
+-- a part on the server, of a transaction of another server of the run
+abbrev pub is_ready_on : ℕ → ℕ → Option (JoinNo × ReadyPart) → Bool
+is_ready_on server servers None = false
+is_ready_on server servers (Some x) = x.0.server == server && is_another server servers x.1.trans.server
+
+-- a decision of the server, with parts on other servers of the run
+abbrev pub is_decision_of : ℕ → ℕ → Option (TransId × Decision) → Bool
+is_decision_of server servers None = false
+is_decision_of server servers (Some x) = x.0.server == server && list_all (λ j. is_another server servers j.server) x.1.joins
+
+-- A note of that name with that value is in the format of a server, which is one of so many: it keeps the epoch and the clock, or a
+-- part that voted for its commit, or a decision. What such notes say of one another and of the files is not asked yet.
 abbrev pub is_server_note : ℕ → ℕ → List ℕ → List ℕ → Bool
-is_server_note server servers name value = same_name name clock_name && is_some (whole clock_form value)
+is_server_note server servers name value = is_clock_note name value || (is_ready_on server servers (ready_in name value) || is_decision_of server servers (decision_in name value))
 
 -- all notes are
 abbrev pub AreServerNotes : ℕ → ℕ → Notes → Type 0
 AreServerNotes server servers notes = (name value : List ℕ) → map.get notes name ≡ Some value → is_server_note server servers name value ≡ true
 
--- the notes are in the format before the changes and after them, and so is each change
+-- a note of that name may end: one of a part on the server, or of a decision of it
+abbrev pub is_join_on : ℕ → Option JoinNo → Bool
+is_join_on server None = false
+is_join_on server (Some j) = j.server == server
+
+abbrev pub is_trans_of : ℕ → Option TransId → Bool
+is_trans_of server None = false
+is_trans_of server (Some t) = t.server == server
+
+abbrev pub may_end : ℕ → List ℕ → Bool
+may_end server name = is_join_on server (whole ready_name name) || is_trans_of server (whole decision_name name)
+
+-- a note gets a value in the format, or ends
+abbrev pub is_note_change : ℕ → ℕ → List ℕ → Option (List ℕ) → Bool
+is_note_change server servers name None = may_end server name
+is_note_change server servers name (Some value) = is_server_note server servers name value
+
+abbrev pub name_below : NoteChange → NoteChange → Bool
+name_below a b = text_below a.name b.name
+
+-- The notes are in the format before the changes and after them, and so is each change. The names of the changes rise, and changes
+-- and notes are no more than a log counts.
 pub record AreNoteChanges (server servers : ℕ) (live : Notes) (changes : List NoteChange) : Type 0 where
   pub before : AreServerNotes server servers live
   pub after : AreServerNotes server servers (notes_after changes live)
+  pub each : list_all (λ n. is_note_change server servers n.name n.value) changes ≡ true
+  pub rise : is_rising name_below changes ≡ true
+  pub few : length changes + map.len live < 2 ^ 16
+
+-- ---- what a server does with notes so far
+
+-- Of whichever server they are, it has no part that is ready and no decision with parts elsewhere, as each that is alone in its run.
+abbrev pub AreNotesSoFar : ℕ → ℕ → Notes → Type 0
+AreNotesSoFar server servers notes = AreClockNotes notes
+
+-- and at most the note of the clock is changed
+pub record AreChangesSoFar (server servers : ℕ) (live : Notes) (changes : List NoteChange) : Type 0 where
+  pub before : AreNotesSoFar server servers live
+  pub after : AreNotesSoFar server servers (notes_after changes live)
   pub each : IsClockAtMost changes
 
 -- ---- the log

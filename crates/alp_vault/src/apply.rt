@@ -8,8 +8,7 @@ ghost use Rattle.alp_files.specs.Changes.{edits_of};
 use crate::counted::CountedCells;
 use crate::puts::{kept_cells, put_all};
 use crate::sweep::{sweep_all, sweeps_in};
-use alp_base::OutOfMemory;
-use alp_files::Change;
+use alp_base::{Change, OutOfMemory};
 use std::alloc::Global;
 
 /// Makes the whole change, or none of it where there is no memory for all.

@@ -8,8 +8,8 @@ ghost use Rattle.alp_vault.specs.Counted.{AreCounts, places_with};
 ghost use Rattle.alp_vault.specs.Volumes.{has_block_in};
 
 use crate::limits::BLOCKS_PER_FILE;
-use alp_base::{FileId, Key, OutOfMemory};
-use alp_files::{BLOCK_PAGES, Cell, CellMap};
+use alp_base::{BLOCK_PAGES, Cell, FileId, Key, OutOfMemory};
+use alp_files::CellMap;
 use std::alloc::Global;
 use std::marker::Model;
 
@@ -24,9 +24,9 @@ pub struct CountedCells {
 impl Model for CountedCells {
     ghost use Rattle.std.specs.FinMap as map;
     ghost use Rattle.alp_base.specs.Keys.{key_cmp};
-    ghost use Rattle.alp_files.specs.declared.cell.Cell.{Cell};
+    ghost use Rattle.alp_base.specs.declared.cell.Cell.{Cell};
     ghost use Rattle.alp_base.specs.contracts.key.Key as key_type;
-    ghost use Rattle.alp_files.specs.contracts.cell.Cell as cell_type;
+    ghost use Rattle.alp_base.specs.contracts.cell.Cell as cell_type;
     ghost use Rattle.alp_vault.specs.Counted.{AreCounts};
 
     ghost Value = { map.FinMap key_cmp Cell };

@@ -8,8 +8,7 @@ ghost use Rattle.alp_vault.specs.Contents.{made};
 use crate::apply::apply;
 use crate::counted::CountedCells;
 use crate::owners::add_owners;
-use alp_base::{Name, NoteChange, OutOfMemory};
-use alp_files::Change;
+use alp_base::{Change, Name, NoteChange, OutOfMemory};
 use alp_notes::Notes;
 use std::alloc::Global;
 

@@ -13,7 +13,7 @@ mod stage;
 mod sweep;
 mod vault;
 
-pub use laws::counts_leave_log_room;
+pub use laws::{clocks_are_server_notes, counts_leave_log_room};
 pub use limits::{BLOCKS_PER_FILE, FILES_PER_SERVER, HEAD_PAGES, OWNERS_PER_SERVER};
 pub use mem_vault::MemVault;
 pub use vault::Vault;

@@ -20,8 +20,10 @@ ghost use Rattle.alp_vault.specs.Volumes.{IsVolumeOf, IsVolumeOf-prop, fits_key,
 use crate::Vault;
 use crate::held::Held;
 use crate::stage::{Pending, Stage};
-use alp_base::{Allowance, Bytes, FileId, Key, Name, NoteChange, OutOfMemory, Sizes, VaultFault};
-use alp_files::{Cell, CellMap, Change};
+use alp_base::{
+    Allowance, Bytes, Cell, Change, FileId, Key, Name, NoteChange, OutOfMemory, Sizes, VaultFault,
+};
+use alp_files::CellMap;
 use alp_notes::copies_of;
 use std::alloc::Global;
 

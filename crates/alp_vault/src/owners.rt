@@ -6,8 +6,7 @@ ghost use Rattle.alp_files.specs.Counts.{name_at};
 ghost use Rattle.alp_notes.specs.Rows.{IsAt, IsPlace};
 ghost use Rattle.alp_vault.specs.Owners.{with_name, with_owner, with_owners};
 
-use alp_base::{Key, Name};
-use alp_files::Cell;
+use alp_base::{Cell, Key, Name};
 
 // Where the name stands, or where it would.
 fn place_of(name: &Name, names: &[Name]) -> Result<usize, usize>

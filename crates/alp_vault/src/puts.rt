@@ -1,15 +1,15 @@
 //! Cells that are put together.
 ghost use Rattle.std.specs.Prelude.{◌≡◌, ◌<◌, ℕ, List, [], ◌∷◌, ◌++◌, length, IfOk, OnOk, OnErr};
 ghost use Rattle.std.specs.FinMap as map;
-ghost use Rattle.alp_files.specs.declared.cell.Cell.{Cell as ACell};
+ghost use Rattle.alp_base.specs.declared.cell.Cell.{Cell as ACell};
 ghost use Rattle.alp_files.specs.Cells.{Cells};
 ghost use Rattle.alp_files.specs.Edits.{edits_map};
 ghost use Rattle.alp_files.specs.Undo.{puts_of, LedBy};
 
 use crate::counted::CountedCells;
 use crate::sweep::Sweep;
-use alp_base::{Key, OutOfMemory};
-use alp_files::{Cell, CellMap};
+use alp_base::{Cell, Key, OutOfMemory};
+use alp_files::CellMap;
 use std::alloc::Global;
 
 // Puts a copy of the cell and notes what stood at its key. Pages are shared.

@@ -1,6 +1,5 @@
 //! What became of the commits of a vault in memory.
-use alp_base::NoteChange;
-use alp_files::Change;
+use alp_base::{Change, NoteChange};
 
 /// A commit that was stopped.
 #[derive(Drop)]

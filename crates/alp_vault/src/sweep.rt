@@ -7,8 +7,8 @@ ghost use Rattle.alp_base.specs.Keys.{key_cmp};
 ghost use Rattle.alp_vault.specs.Sweeps.{is_page_between, is_swept, is_swept_by, left_of, size_at, drop_sweep, cut_sweep, sweeps_of};
 
 use crate::counted::CountedCells;
-use alp_base::{FileId, Key, OutOfMemory};
-use alp_files::{Cell, CellMap, Change};
+use alp_base::{Cell, Change, FileId, Key, OutOfMemory};
+use alp_files::CellMap;
 use std::alloc::Global;
 
 /// The pages of a file from `first` on and below `end`, and its leader where the file goes.

@@ -20,8 +20,7 @@ ghost use Rattle.alp_vault.specs.Vault.{AreSizes, IsServer, HasEnded, HasSpent, 
 ghost use Rattle.alp_vault.specs.Volumes.{IsCommit, IsVolumeOf, fits_key, has_block_in};
 
 use crate::limits::{BLOCKS_PER_FILE, HEAD_PAGES};
-use alp_base::{Bytes, FileId, Key, Name, NoteChange, Sizes, VaultFault};
-use alp_files::{Cell, Change};
+use alp_base::{Bytes, Cell, Change, FileId, Key, Name, NoteChange, Sizes, VaultFault};
 
 /// Cells and notes that stand through crashes, and change by commits that are made whole or not at all.
 ///

@@ -7,7 +7,7 @@ use Rattle.std.proofs.lemmas.List.{get_or-set_same, get_or-set_other, length-set
 use Rattle.alp_base.specs.declared.ids.FileId.{FileId}
 use Rattle.alp_base.specs.declared.key.Key.TheVariants.{PageOf}
 use Rattle.alp_fields.specs.Forms.{whole}
-use Rattle.alp_files.specs.declared.cell.Cell.TheVariants as cell
+use Rattle.alp_base.specs.declared.cell.Cell.TheVariants as cell
 use Rattle.alp_files.specs.Cells.{View, same_file}
 use Rattle.alp_files.specs.Edits.{Put, after}
 use Rattle.alp_files.proofs.SameLemmas.{same_file-itself}

@@ -19,7 +19,7 @@ use Rattle.alp_base.specs.Keys.{key_cmp}
 use Rattle.alp_base.specs.declared.ids.FileId.{FileId}
 use Rattle.alp_base.specs.declared.key.Key.{Key}
 use Rattle.alp_base.specs.declared.key.Key.TheVariants.{Leader, PageOf, OwnerOf}
-use Rattle.alp_files.specs.declared.cell.Cell.{Cell}
+use Rattle.alp_base.specs.declared.cell.Cell.{Cell}
 use Rattle.alp_files.specs.Cells.{Cells}
 use Rattle.alp_files.specs.Counts.{file_count_of, files_at, name_at, owner_count_of, owner_names_of}
 use Rattle.alp_vault.specs.Volumes.{has_block_in}

@@ -3,7 +3,7 @@ ghost use Rattle.std.specs.Prelude.{◌≡◌, ◌≤◌, ◌<◌, ◌/◌, ◌%
 ghost use Rattle.std.specs.FinMap as map;
 ghost use Rattle.alp_base.specs.declared.key.Key.TheVariants.{Leader as LeaderKey, PageOf};
 ghost use Rattle.alp_fields.specs.Forms.{whole};
-ghost use Rattle.alp_files.specs.declared.cell.Cell.TheVariants.{Page as PageCell};
+ghost use Rattle.alp_base.specs.declared.cell.Cell.TheVariants.{Page as PageCell};
 ghost use Rattle.alp_files.specs.Cells.{View};
 ghost use Rattle.alp_files.specs.Edits.{Put, after};
 ghost use Rattle.alp_pages.specs.Leader.{leader_page};

@@ -3,7 +3,7 @@ ghost use Rattle.std.specs.Prelude.{◌≡◌, ◌≤◌, ◌<◌, ℕ, [], ◌�
 ghost use Rattle.std.specs.FinMap as map;
 ghost use Rattle.alp_base.specs.declared.faults.VaultFault.TheVariants as fault;
 ghost use Rattle.alp_base.specs.declared.key.Key.TheVariants.{Leader as LeaderKey, OwnerOf, PageOf};
-ghost use Rattle.alp_files.specs.declared.cell.Cell.TheVariants.{Leader as LeaderCell, Owner as OwnerCell};
+ghost use Rattle.alp_base.specs.declared.cell.Cell.TheVariants.{Leader as LeaderCell, Owner as OwnerCell};
 ghost use Rattle.alp_files.specs.Cells.{View};
 ghost use Rattle.alp_files.specs.Edits.{Put, after};
 ghost use Rattle.alp_vault.specs.Volumes.{fits_key};
@@ -19,8 +19,7 @@ use crate::put_block::put_page;
 use crate::put_file::put_new_leader;
 use crate::put_leader::put_known_leader;
 use crate::put_owner::{put_known_owner, put_new_owner};
-use alp_base::{FileId, Key, Name, PAGES_PER_FILE, PageRef, VaultFault};
-use alp_files::{Cell, OwnerRecord, Props};
+use alp_base::{Cell, FileId, Key, Name, OwnerRecord, PAGES_PER_FILE, PageRef, Props, VaultFault};
 use alp_pages::PageReader;
 use alp_vault::HEAD_PAGES;
 use std::alloc::Global;

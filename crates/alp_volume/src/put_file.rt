@@ -2,7 +2,7 @@
 ghost use Rattle.std.specs.Prelude.{◌≡◌, ◌≤◌, ◌<◌, ◌+◌, ◌/◌, ◌%◌, ℕ, List, [], ◌∷◌, IsTrue, IfOk, IfSome, OnOk, Some, None, true, false, slice_index_or};
 ghost use Rattle.std.specs.FinMap as map;
 ghost use Rattle.alp_base.specs.declared.key.Key.TheVariants.{Leader as LeaderKey, PageOf};
-ghost use Rattle.alp_files.specs.declared.cell.Cell.TheVariants.{Leader as LeaderCell};
+ghost use Rattle.alp_base.specs.declared.cell.Cell.TheVariants.{Leader as LeaderCell};
 ghost use Rattle.alp_files.specs.Cells.{View};
 ghost use Rattle.alp_files.specs.Edits.{Put, after};
 ghost use Rattle.alp_fields.specs.Forms.{whole};
@@ -16,8 +16,7 @@ ghost use Rattle.alp_volume.specs.Undone.{LeadsOn, with_file, with_place, with_s
 use crate::catalog::Catalog;
 use crate::draft::Draft;
 use crate::put_leader::leader_page_of;
-use alp_base::{FileId, OutOfMemory, PAGES_PER_FILE, Page, VaultFault};
-use alp_files::Props;
+use alp_base::{FileId, OutOfMemory, PAGES_PER_FILE, Page, Props, VaultFault};
 use alp_pages::{Entry, Leader, PageReader, Places, clear_entry, set_entry};
 use alp_vault::HEAD_PAGES;
 

@@ -4,7 +4,7 @@ ghost use Rattle.std.specs.FinMap as map;
 ghost use Rattle.alp_base.specs.declared.ids.FileId.{FileId as File};
 ghost use Rattle.alp_base.specs.declared.key.Key.TheVariants.{Leader as LeaderKey};
 ghost use Rattle.alp_fields.specs.Forms.{whole};
-ghost use Rattle.alp_files.specs.declared.cell.Cell.TheVariants.{Leader as LeaderCell};
+ghost use Rattle.alp_base.specs.declared.cell.Cell.TheVariants.{Leader as LeaderCell};
 ghost use Rattle.alp_files.specs.Cells.{View};
 ghost use Rattle.alp_files.specs.Edits.{Put, after};
 ghost use Rattle.alp_pages.specs.Leader.{leader_page};
@@ -14,8 +14,7 @@ ghost use Rattle.alp_pages.specs.Nodes.{LeaderOf};
 ghost use Rattle.alp_pages.specs.Reading.{HasRead};
 
 use crate::draft::Draft;
-use alp_base::{OutOfMemory, PAGES_PER_FILE, Page, VaultFault};
-use alp_files::Props;
+use alp_base::{OutOfMemory, PAGES_PER_FILE, Page, Props, VaultFault};
 use alp_pages::{Leader, PageReader, copy_of, decode_leader, encode_leader};
 use std::alloc::Global;
 

@@ -2,7 +2,7 @@
 ghost use Rattle.std.specs.Prelude.{◌≡◌, ◌≤◌, ◌<◌, ◌+◌, ◌/◌, ℕ, List, [], ◌∷◌, IsTrue, OnOk, Some, None};
 ghost use Rattle.std.specs.FinMap as map;
 ghost use Rattle.alp_base.specs.declared.key.Key.TheVariants.{OwnerOf};
-ghost use Rattle.alp_files.specs.declared.cell.Cell.TheVariants.{Owner as OwnerCell};
+ghost use Rattle.alp_base.specs.declared.cell.Cell.TheVariants.{Owner as OwnerCell};
 ghost use Rattle.alp_files.specs.Cells.{View};
 ghost use Rattle.alp_files.specs.Edits.{Put, after};
 ghost use Rattle.alp_volume.specs.declared.catalog.Catalog.{Catalog as ACatalog};
@@ -14,8 +14,7 @@ ghost use Rattle.alp_volume.specs.Undone.{LeadsOn};
 
 use crate::catalog::Catalog;
 use crate::draft::Draft;
-use alp_base::{OutOfMemory, Page, VaultFault};
-use alp_files::OwnerRecord;
+use alp_base::{OutOfMemory, OwnerRecord, Page, VaultFault};
 use alp_pages::{PageReader, set_owner};
 use alp_vault::HEAD_PAGES;
 

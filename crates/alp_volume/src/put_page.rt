@@ -4,7 +4,7 @@ ghost use Rattle.std.specs.FinMap as map;
 ghost use Rattle.alp_base.specs.declared.ids.FileId.{FileId as File};
 ghost use Rattle.alp_base.specs.declared.key.Key.TheVariants.{PageOf};
 ghost use Rattle.alp_fields.specs.Forms.{whole};
-ghost use Rattle.alp_files.specs.declared.cell.Cell.TheVariants.{Page as PageCell};
+ghost use Rattle.alp_base.specs.declared.cell.Cell.TheVariants.{Page as PageCell};
 ghost use Rattle.alp_files.specs.Cells.{View};
 ghost use Rattle.alp_files.specs.Edits.{Put, after};
 ghost use Rattle.alp_volume.specs.Drafts.{IsDraft, laid};

@@ -5,8 +5,10 @@ ghost use Rattle.alp_base.specs.declared.allowance.Allowance.TheVariants.{Free};
 mod plain;
 mod turns;
 
-use alp_base::{AccessList, FileId, Key, Name, OutOfMemory, Page, PageRef, Sequence, VaultFault};
-use alp_files::{Cell, Change, OwnerRecord, Props};
+use alp_base::{
+    AccessList, Cell, Change, FileId, Key, Name, OutOfMemory, OwnerRecord, Page, PageRef, Props,
+    Sequence, VaultFault,
+};
 use alp_pages::{
     Entry, Leader, PageReader, Places, clear_entry, decode_index, decode_leader, encode_leader,
     entry_at, fetch_block, fetch_leader, fetch_owner, fetch_page, new_header, owner_at, set_entry,

@@ -14,7 +14,7 @@ use Rattle.std.proofs.lemmas.List.{append-nil}
 use Rattle.alp_base.specs.Notes.{Notes, text_cmp, noted, notes_after}
 use Rattle.alp_base.specs.declared.bytes.NoteChange.{NoteChange}
 use Rattle.alp_batch.specs.declared.batch.Batch.{Batch}
-use Rattle.alp_batch.specs.Rising.{rises_from, is_rising}
+use Rattle.alp_fields.specs.Rising.{rises_from, is_rising}
 use Rattle.alp_batch.specs.Batch.{puts_note, IsBatch, IsShort, IsShortValue, name_below, valued_length, notes_length}
 use Rattle.alp_notes.proofs.RowLemmas.{entries-remove, entries-empty}
 use Rattle.alp_wal.specs.Live.{puts, notes_batch, batch_pages, notes_pages, AreLive, AreWithin, BothFit}

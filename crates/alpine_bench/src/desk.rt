@@ -4,9 +4,9 @@ ghost use Rattle.alp_node.specs.Served.{IsAskable};
 
 use alp_acknowledge::ServeFault;
 use alp_base::{
-    Access, AccessList, CLIENTS, Choice, FileId, Name, OutOfMemory, Run, Stamp, TransId,
+    Access, AccessList, CLIENTS, Choice, FileId, Name, OutOfMemory, Props, Run, Stamp, TransId,
 };
-use alp_files::{Call, HeldProps, Props, Reply};
+use alp_files::{Call, HeldProps, Reply};
 use alp_journal::Event;
 use alp_modes::Mode;
 use alp_node::Node;

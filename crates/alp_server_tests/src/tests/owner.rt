@@ -1,6 +1,5 @@
 //! Tests of alp_owner.
-use alp_base::{AccessList, Name, OutOfMemory};
-use alp_files::OwnerRecord;
+use alp_base::{AccessList, Name, OutOfMemory, OwnerRecord};
 use alp_owner::*;
 use std::alloc::Global;
 use std::test::*;

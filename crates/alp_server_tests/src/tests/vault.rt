@@ -8,9 +8,11 @@ ghost use Rattle.alp_vault.specs.Stages.{is_serving};
 ghost use Rattle.alp_vault.specs.Volumes.{IsVolumeOf};
 ghost use Rattle.alp_base.specs.declared.faults.Sizes.{Sizes as SizesOf};
 
-use alp_base::{AccessList, Bytes, FileId, Key, Name, OutOfMemory, Sizes, VaultFault};
+use alp_base::{
+    AccessList, Bytes, Cell, Change, CutList, FileId, FileList, Key, Name, OutOfMemory,
+    OwnerRecord, PutList, Sizes, VaultFault,
+};
 use alp_fields::{ClockNote, clock_change, read_clock};
-use alp_files::{Cell, Change, CutList, FileList, OwnerRecord, PutList};
 use alp_vault::{MemVault, Vault};
 use std::alloc::Global;
 use std::test::*;

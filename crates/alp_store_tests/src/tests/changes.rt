@@ -5,8 +5,11 @@ ghost use Rattle.alp_base.specs.declared.key.Key.TheVariants.{Leader, OwnerOf};
 ghost use Rattle.alp_store_tests.specs.FileChanges.{IsFileChange, IsSized, IsCharged};
 
 use super::fixtures::{ann, props_of};
-use alp_base::{AccessList, FileId, Key, Name, Page, PageRef};
-use alp_files::{Cell, CellMap, Change, CutList, FileList, OwnerRecord, Props, PutList};
+use alp_base::{
+    AccessList, Cell, Change, CutList, FileId, FileList, Key, Name, OwnerRecord, Page, PageRef,
+    Props, PutList,
+};
+use alp_files::CellMap;
 use std::alloc::{AllocError, Global};
 use std::test::Fail;
 

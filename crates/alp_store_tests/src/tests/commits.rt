@@ -3,9 +3,9 @@ ghost use Rattle.std.specs.Prelude.{◌≡◌, IsTrue, IfOk, OnOk, false};
 ghost use Rattle.alp_fields.specs.ClockNote.{IsClockNote};
 ghost use Rattle.alp_files.specs.Changes.{ArePutOnce};
 
-use alp_base::{NoteChange, OutOfMemory, VaultFault};
+use alp_base::{Change, CutList, FileList, NoteChange, OutOfMemory, PutList, VaultFault};
 use alp_fields::{ClockNote, clock_change, clock_note_name, read_clock};
-use alp_files::{CellMap, Change, CutList, FileList, PutList};
+use alp_files::CellMap;
 use alp_measures::can_take;
 use alp_vault::Vault;
 use std::alloc::Global;

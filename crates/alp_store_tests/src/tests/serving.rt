@@ -4,9 +4,8 @@ ghost use Rattle.alp_files.specs.Changes.{ArePutOnce};
 
 use super::commits::{commit, counts_of};
 use super::quiet_disk::QuietDisk;
-use alp_base::{Key, VaultFault};
+use alp_base::{Cell, Change, Key, VaultFault};
 use alp_disk::Disk;
-use alp_files::{Cell, Change};
 use alp_store::Store;
 use alp_vault::Vault;
 use std::alloc::Global;

@@ -1,6 +1,6 @@
 //! A random sequence of changes, beside a plain map.
 ghost use Rattle.std.specs.Prelude.{◌≡◌, ◌<◌};
-ghost use Rattle.alp_files.specs.declared.cell.Cell.TheVariants.{Leader as LeaderCell, Owner as OwnerCell, Page as PageCell};
+ghost use Rattle.alp_base.specs.declared.cell.Cell.TheVariants.{Leader as LeaderCell, Owner as OwnerCell, Page as PageCell};
 ghost use Rattle.alp_vault.specs.Volumes.{fit_keys, fits_key};
 ghost use Rattle.alp_volume.specs.Known.{IsCatalog};
 

@@ -1,6 +1,6 @@
 use Rattle.std.proofs.Common.{◌<◌, ℕ, refl, sym, ◌∙◌, ap, subst}
 use Rattle.alp_files.specs.Locks.{page_limit}
-use Rattle.alp_files.specs.declared.cell.Props.{Props}
+use Rattle.alp_base.specs.declared.cell.Props.{Props}
 use Rattle.alp_acknowledge.proofs.TurnLemmas.{small_size}
 use Rattle.alp_acknowledge.proofs.files.create.Goals as goal
 

@@ -1,5 +1,5 @@
 use Rattle.std.proofs.Common.{◌≡◌, drop}
-use Rattle.alp_batch.specs.Rising.{rises_from}
+use Rattle.alp_fields.specs.Rising.{rises_from}
 use Rattle.alp_batch.specs.Batch.{page_below}
 use Rattle.alp_batch.proofs.rising.pages_rise_from.Given as goal
 

@@ -1,7 +1,7 @@
 use Rattle.std.proofs.Common.{◌≡◌, [], ◌∷◌, ◌∙◌, sym, subst, rules}
 use Rattle.alp_base.specs.declared.key.Key.TheVariants.{Leader, OwnerOf}
-use Rattle.alp_files.specs.declared.cell.Cell.TheVariants as cell
-use Rattle.alp_files.specs.declared.cell.Props.{Props}
+use Rattle.alp_base.specs.declared.cell.Cell.TheVariants as cell
+use Rattle.alp_base.specs.declared.cell.Props.{Props}
 use Rattle.alp_files.specs.Edits.{Edit, Put}
 use Rattle.alp_files.specs.Undo.{puts_of}
 use Rattle.alp_trans.specs.Parts.{own_of}

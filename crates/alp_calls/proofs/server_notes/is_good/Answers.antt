@@ -7,4 +7,4 @@ use Rattle.alp_calls.proofs.server_notes.is_good.Goals as goal
 pub returns-in-Some : goal.returns-in-Some
 returns-in-Some g c =
     let there : Some c.in-Some.value.now ≡ map.get (g.V.Vault.held c.args.vault.now).notes c.args.name.now = search rules in
-    c.is_server_note.ensures 0 0 ∙ ap (is_good_said c.args.name.now) there
+    c.is_clock_note.ensures ∙ ap (is_good_said c.args.name.now) there

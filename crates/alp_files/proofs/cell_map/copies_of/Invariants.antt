@@ -1,7 +1,7 @@
 use Rattle.std.specs.Prelude.{filter}
 use Rattle.std.proofs.Common.{◌≡◌, ◌++◌}
 use Rattle.alp_base.specs.declared.key.Key.{Key}
-use Rattle.alp_files.specs.declared.cell.Cell.{Cell}
+use Rattle.alp_base.specs.declared.cell.Cell.{Cell}
 use Rattle.alp_files.specs.Edits.{is_in_file}
 use Rattle.alp_files.proofs.cell_map.copies_of.Given as goal
 

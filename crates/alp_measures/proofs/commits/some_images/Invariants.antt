@@ -1,7 +1,7 @@
 use Rattle.std.proofs.Common.{◌≡◌, true, length}
 use Rattle.std.specs.List.{AllByRecursion}
 use Rattle.alp_batch.specs.Batch.{page_below}
-use Rattle.alp_batch.specs.Rising.{is_rising}
+use Rattle.alp_fields.specs.Rising.{is_rising}
 use Rattle.alp_wal.specs.State.{IsBelow}
 use Rattle.alp_measures.proofs.commits.some_images.Given as goal
 

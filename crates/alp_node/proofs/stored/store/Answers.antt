@@ -1,5 +1,5 @@
 use Rattle.std.proofs.Common.{◌≡◌, [], ◌∷◌, sym, ◌∙◌, subst, arith}
-use Rattle.alp_files.specs.declared.change.Change.{Change}
+use Rattle.alp_base.specs.declared.change.Change.{Change}
 use Rattle.alp_calls.proofs.PartLaws.{part_commits}
 use Rattle.alp_vault.specs.Volumes.{IsCommit}
 use Rattle.alp_node.proofs.StoreLemmas.{note_changes, stored_clock, stored_format}

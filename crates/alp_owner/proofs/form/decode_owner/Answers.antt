@@ -1,6 +1,6 @@
 use Rattle.alp_fields.proofs.FormLaws.{found_unless, only_unless}
-use Rattle.alp_owner.specs.Owner.{owner_record}
-use Rattle.alp_owner.proofs.OwnerLaw.{owner_record_law, unused_is_none}
+use Rattle.alp_fields.specs.OwnerField.{owner_record}
+use Rattle.alp_fields.proofs.OwnerFieldLaw.{owner_record_law, unused_is_none}
 use Rattle.alp_owner.proofs.form.decode_owner.Goals as goal
 
 pub returns-clause-found : goal.returns-clause-found

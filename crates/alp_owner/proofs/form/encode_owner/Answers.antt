@@ -1,7 +1,7 @@
 use Rattle.std.proofs.Common.{arith}
 use Rattle.alp_fields.proofs.PlaceLemmas.{set_whole}
-use Rattle.alp_owner.specs.Owner.{owner_record}
-use Rattle.alp_owner.proofs.OwnerLaw.{owner_record_length}
+use Rattle.alp_fields.specs.OwnerField.{owner_record}
+use Rattle.alp_fields.proofs.OwnerFieldLaw.{owner_record_length}
 use Rattle.alp_owner.proofs.form.encode_owner.Goals as goal
 
 pub returns-clause-spelled : goal.returns-clause-spelled

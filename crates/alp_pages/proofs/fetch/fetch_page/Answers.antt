@@ -1,6 +1,6 @@
 use Rattle.std.specs.Prelude.{Some, Bool, IsTrue}
 use Rattle.std.proofs.Common.{◌≡◌, sym, ◌∙◌, ap, subst, arith, ◌/◌, ◌%◌, ℕ, List}
-use Rattle.alp_files.specs.declared.cell.Cell.TheVariants as cell
+use Rattle.alp_base.specs.declared.cell.Cell.TheVariants as cell
 use Rattle.alp_pages.specs.Nodes.{IndexOf}
 use Rattle.alp_pages.specs.Pages.{Pages}
 use Rattle.alp_pages.specs.Fetch.{named_by}

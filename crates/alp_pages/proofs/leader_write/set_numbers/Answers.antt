@@ -1,5 +1,5 @@
 use Rattle.std.proofs.Common.{arith}
-use Rattle.alp_forms.specs.PropsField.{numbers_of}
+use Rattle.alp_fields.specs.PropsField.{numbers_of}
 use Rattle.alp_pages.specs.declared.leader_form.TheConstants.{TYPE_AT}
 use Rattle.alp_pages.proofs.LeaderPlaces.{numbers_set}
 use Rattle.alp_pages.proofs.leader_write.set_numbers.Goals as goal

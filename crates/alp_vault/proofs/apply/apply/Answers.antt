@@ -1,7 +1,7 @@
 use Rattle.std.proofs.Common.{◌<◌, List, length, ◌∙◌, ap, sym, subst}
 use Rattle.std.specs.FinMap as map
 use Rattle.alp_base.specs.declared.key.Key.{Key}
-use Rattle.alp_files.specs.declared.cell.Cell.{Cell}
+use Rattle.alp_base.specs.declared.cell.Cell.{Cell}
 use Rattle.alp_files.specs.Edits.{edits_map}
 use Rattle.alp_files.specs.Undo.{puts_of}
 use Rattle.alp_vault.specs.declared.sweep.Sweep.{Sweep}

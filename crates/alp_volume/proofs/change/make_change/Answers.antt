@@ -1,7 +1,7 @@
 use Rattle.std.specs.Prelude.{Bool, IsTrue}
 use Rattle.std.proofs.Common.{◌≡◌, ◌∙◌, ◌++◌, List, ℕ, sym, ap, subst}
 use Rattle.alp_base.specs.declared.key.Key.{Key}
-use Rattle.alp_files.specs.declared.cell.Cell.{Cell}
+use Rattle.alp_base.specs.declared.cell.Cell.{Cell}
 use Rattle.alp_files.specs.Cells.{View}
 use Rattle.alp_files.specs.Changes.{edits_of}
 use Rattle.alp_files.specs.Edits.{after}

@@ -2,7 +2,7 @@ use Rattle.std.specs.Prelude.{Bool, IsTrue, Ok}
 use Rattle.std.proofs.Common.{◌≡◌, ◌∙◌, ◌≤◌, ◌<◌, ◌+◌, ◌-◌, ◌*◌, ◌∷◌, [], ℕ, refl, sym, ap, subst, arith}
 use Rattle.alp_files.specs.Cells.{View}
 use Rattle.alp_files.specs.Edits.{Cut, after}
-use Rattle.alp_files.specs.declared.cell.Props.{Props}
+use Rattle.alp_base.specs.declared.cell.Props.{Props}
 use Rattle.alp_volume.specs.Drafts.{HasNoneFrom, IsCutting, laid}
 use Rattle.alp_volume.specs.Known.{IsCatalog}
 use Rattle.alp_pages.specs.Pages.{Pages}

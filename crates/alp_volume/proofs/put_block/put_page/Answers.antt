@@ -3,7 +3,7 @@ use Rattle.std.specs.FinMap as map
 use Rattle.std.proofs.Common.{◌≡◌, ◌∙◌, ◌<◌, ◌/◌, ◌∷◌, [], ℕ, refl, sym, ap, subst, arith}
 use Rattle.alp_base.specs.declared.key.Key.TheVariants.{PageOf}
 use Rattle.alp_fields.specs.Forms.{whole}
-use Rattle.alp_files.specs.declared.cell.Cell.TheVariants as cell
+use Rattle.alp_base.specs.declared.cell.Cell.TheVariants as cell
 use Rattle.alp_files.specs.Edits.{Put, after}
 use Rattle.alp_pages.specs.Leader.{leader_page}
 use Rattle.alp_volume.specs.Drafts.{IsDraft, laid}

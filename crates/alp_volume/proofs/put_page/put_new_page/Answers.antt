@@ -4,7 +4,7 @@ use Rattle.std.proofs.lemmas.Result.{on_ok_weaker}
 use Rattle.std.specs.FinMap as map
 use Rattle.alp_base.specs.declared.key.Key.TheVariants.{PageOf}
 use Rattle.std.proofs.Common.{◌∷◌, []}
-use Rattle.alp_files.specs.declared.cell.Cell.TheVariants as cell
+use Rattle.alp_base.specs.declared.cell.Cell.TheVariants as cell
 use Rattle.alp_files.specs.Edits.{Put, after}
 use Rattle.alp_volume.specs.declared.catalog.Catalog.{Catalog}
 use Rattle.alp_volume.specs.Drafts.{Changed, IsDraft, laid}

@@ -2,7 +2,7 @@ use Rattle.std.specs.Prelude.{filter}
 use Rattle.std.specs.FinMap as map
 use Rattle.std.proofs.Common.{List, ap, sym, ◌∙◌}
 use Rattle.alp_base.specs.declared.key.Key.{Key}
-use Rattle.alp_files.specs.declared.cell.Cell.{Cell}
+use Rattle.alp_base.specs.declared.cell.Cell.{Cell}
 use Rattle.alp_files.specs.Edits.{is_in_file}
 use Rattle.alp_files.specs.Cells.{Cells}
 use Rattle.alp_files.proofs.CellMapLemmas.{entries_back}

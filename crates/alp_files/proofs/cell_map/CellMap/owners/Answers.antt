@@ -1,6 +1,6 @@
 use Rattle.std.specs.List.{filter_map}
 use Rattle.std.proofs.Common.{Some, ap, sym, ◌∙◌}
-use Rattle.alp_files.specs.declared.cell.Cell.{Cell}
+use Rattle.alp_base.specs.declared.cell.Cell.{Cell}
 use Rattle.alp_files.specs.Cells.{owner_in, owners_of}
 use Rattle.alp_files.proofs.CellMapLemmas.{values_back}
 use Rattle.alp_files.proofs.cell_map.CellMap.owners.Goals as goal

@@ -5,11 +5,12 @@ use Rattle.alp_base.specs.declared.faults.Sizes.{Sizes}
 use Rattle.alp_calls.proofs.PartLaws.{part_begins}
 use Rattle.alp_trans.specs.declared.counts.Counts.{Counts}
 use Rattle.alp_base.specs.declared.key.Key.TheVariants.{Leader}
-use Rattle.alp_fields.specs.ClockNote.{clock_kept}
+use Rattle.alp_fields.specs.ClockNote.{clock_kept, AreClockNotes}
 use Rattle.alp_files.specs.Apart.{AreSized}
 use Rattle.alp_files.specs.Cells.{Cells}
 use Rattle.alp_files.specs.Sound.{AreSound}
 use Rattle.alp_journal.specs.Opening.{Start}
+use Rattle.alp_journal.proofs.NoteLemmas.{none_ready, none_decided}
 use Rattle.alp_locks.specs.Sound.{IsSound}
 use Rattle.alp_vault.specs.Contents.{Contents}
 use Rattle.alp_vault.specs.Volumes.{IsVolumeOf}
@@ -85,10 +86,11 @@ invariant_of-result g c =
     let cells : held.cells ≡ before.cells = c.in_default.ensures.cells told ∙ no_change before.cells c.new.result c.new.ensures.intents in
     let volume : IsVolumeOf (G.volume c.args.vault) before.cells = c.knows.ensures.fitting before told (c.knows.ensures.as_held told c.requires.serving) in
     let sound : AreSound held.cells = subst AreSound (sym cells) volume.sound in
+    let are : AreClockNotes held.notes = c.in_default.ensures.format in
     let o : Start = start_by G c.args.server v in
     let opening : o ≡ start_by G c.args.server c.of.result.value = ap (start_by G c.args.server) (sym c.of.ensures) in
     subst (λ (x : Start). IsRight x held n) opening
-    (new_right n o held c.new-8.ensures (new_says c.args.server (G.servers v) (G.volume v) held.cells held.notes) sound (subst (λ (m : Cells). AreSized (map.get m)) (sym cells) (volume_sized (G.volume c.args.vault) before.cells volume))
+    (new_right n o held c.new-8.ensures (new_says c.args.server (G.servers v) (G.volume v) held.cells held.notes are) (none_ready held.notes are) (none_decided held.notes are) sound (subst (λ (m : Cells). AreSized (map.get m)) (sym cells) (volume_sized (G.volume c.args.vault) before.cells volume))
     (subst (IsAs (new_alone o) held) same
     (new_as k c.args.server (G.servers v) (clock_kept before.notes).epoch (G.volume v) c.in-Ok.clock held (λ f x there. c.requires.given told f x (sym (ap (λ (m : Cells). map.get m (Leader f)) cells) ∙ there))
     (raised_later before c.in-Ok.clock c.in-Ok.ensures.clock) c.in_default.ensures.clock

@@ -2,7 +2,7 @@ use Rattle.std.specs.FinMap as map
 use Rattle.std.specs.Prelude.{true}
 use Rattle.std.proofs.Common.{◌≡◌, List, ap, sym, subst, ◌∙◌}
 use Rattle.alp_base.specs.declared.key.Key.{Key}
-use Rattle.alp_files.specs.declared.cell.Cell.{Cell}
+use Rattle.alp_base.specs.declared.cell.Cell.{Cell}
 use Rattle.alp_vault.specs.Volumes.{fit_keys}
 use Rattle.alp_calls.proofs.FitLemmas.{fit_entries}
 use Rattle.alp_node.specs.Eases.{new_from}

@@ -31,7 +31,7 @@ use Rattle.alp_fields.specs.ClockNote.{clock_kept}
 use Rattle.alp_fields.specs.declared.clock_note.ClockNote.{ClockNote}
 use Rattle.alp_base.specs.declared.faults.Sizes.{Sizes}
 use Rattle.alp_vault.specs.Vault.{IsSameVault}
-use Rattle.alp_vault.specs.Volumes.{AreServerNotes}
+use Rattle.alp_vault.specs.Volumes.{AreNotesSoFar}
 use Rattle.alp_journal.specs.Alone.{Alone, alone}
 use Rattle.alp_journal.specs.Desk.{waiting_of}
 use Rattle.alp_journal.specs.Holder.{with_life}

@@ -2,7 +2,7 @@ use Rattle.std.specs.Prelude.{Some, option_map}
 use Rattle.std.specs.FinMap as map
 use Rattle.std.proofs.Common.{◌≡◌, sym, ◌∙◌, ap, arith}
 use Rattle.alp_base.specs.declared.key.Key.TheVariants.{Leader as LeaderKey}
-use Rattle.alp_files.specs.declared.cell.Cell.TheVariants as cell
+use Rattle.alp_base.specs.declared.cell.Cell.TheVariants as cell
 use Rattle.alp_wal.specs.Wal.{anchor_of}
 use Rattle.alp_volume.proofs.KnowsLaws.{leader_there}
 use Rattle.alp_store.specs.Shelves.{shelf_log}

@@ -2,7 +2,7 @@ use Rattle.std.specs.Prelude.{option_map, ℕ}
 use Rattle.std.specs.FinMap as map
 use Rattle.std.proofs.Common.{sym, ◌∙◌, ap, subst}
 use Rattle.alp_base.specs.declared.faults.Sizes.{Sizes}
-use Rattle.alp_files.specs.declared.cell.Cell.TheVariants as cell
+use Rattle.alp_base.specs.declared.cell.Cell.TheVariants as cell
 use Rattle.alp_pages.specs.Volume.{Spells}
 use Rattle.alp_wal.specs.Wal.{anchor_of}
 use Rattle.alp_volume.proofs.KnowsLaws.{leader_there}

@@ -2,7 +2,7 @@ use Rattle.std.proofs.Common.{List, ℕ, refl, sym, ◌∙◌, ap, arith, length
 use Rattle.std.specs.List.{filter_map}
 use Rattle.std.proofs.Common.{map as list_map}
 use Rattle.alp_base.specs.declared.key.Key.{Key}
-use Rattle.alp_files.specs.declared.cell.Cell.{Cell}
+use Rattle.alp_base.specs.declared.cell.Cell.{Cell}
 use Rattle.alp_files.specs.Counts.{name_at, owner_names_of}
 use Rattle.alp_vault.proofs.CountLemmas.{none_held}
 use Rattle.alp_vault.proofs.held.Held.new.Goals as goal

@@ -4,7 +4,7 @@ use Rattle.alp_vault.specs.Contents.{Contents}
 use Rattle.alp_files.specs.Changes.{edits_of}
 use Rattle.alp_vault.specs.MemVault.{kept_by}
 use Rattle.alp_vault.specs.Volumes.{IsVolumeOf}
-use Rattle.alp_files.specs.declared.change.Change.{Change}
+use Rattle.alp_base.specs.declared.change.Change.{Change}
 use Rattle.alp_vault.proofs.StageLemmas.{held-serving}
 use Rattle.alp_vault.proofs.mem_vault.MemVaultVault.commit.Goals as goal
 

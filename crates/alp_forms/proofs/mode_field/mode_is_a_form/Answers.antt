@@ -1,5 +1,0 @@
-use Rattle.alp_forms.proofs.ModeFieldLaw.{mode_law}
-use Rattle.alp_forms.proofs.mode_field.mode_is_a_form.Goals as goal
-
-pub returns : goal.returns
-returns c = mode_law
