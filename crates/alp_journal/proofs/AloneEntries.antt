@@ -1,6 +1,7 @@
 -- file calls that are refused, and Finishes of parts that are not live, at a server that runs alone
-use Rattle.std.specs.Prelude.{cond, Bool, true, false, ◌&&◌, ◌==◌, is_none, Some, if◌then◌else◌}
-use Rattle.std.proofs.Common.{◌≡◌, ℕ, ◌+◌, List, [], ◌++◌, refl, sym, ◌∙◌, ap, subst, eq-eqb, arith}
+use Rattle.std.specs.Prelude.{cond, Bool, true, false, ◌&&◌, ◌==◌, is_none, is_some, Some, if◌then◌else◌}
+use Rattle.std.proofs.lemmas.Bool.{eqb-true}
+use Rattle.std.proofs.Common.{◌≡◌, ℕ, ◌+◌, List, [], ◌++◌, refl, sym, ◌∙◌, ap, subst, arith}
 use Rattle.alp_base.specs.declared.ids.TransId.{TransId}
 use Rattle.alp_files.specs.declared.call.Call.{Call}
 use Rattle.alp_files.specs.declared.call.Call.TheVariants as call
@@ -9,6 +10,8 @@ use Rattle.alp_files.specs.declared.reply.Reply.TheVariants as reply
 use Rattle.alp_files.specs.declared.refusal.Refusal.{Refusal}
 use Rattle.alp_files.specs.declared.refusal.Refusal.TheVariants as refusal
 use Rattle.alp_files.specs.declared.refusal.Cause.{Cause}
+use Rattle.alp_files.specs.declared.refusal.Cause.TheVariants as cause
+use Rattle.alp_journal.specs.Along.{Where}
 use Rattle.alp_journal.specs.declared.event.Event.TheVariants as event
 use Rattle.alp_journal.specs.declared.entry.Entry.{Entry}
 use Rattle.alp_journal.specs.declared.message.Message.TheVariants as msg
@@ -21,16 +24,11 @@ use Rattle.alp_journal.specs.Laws.{CallsOn, KeepsSessions}
 use Rattle.alp_journal.specs.Messages.{Mail, on_call, on_finish, to_each}
 use Rattle.alp_journal.specs.Halts.{by_call, may_read_for, is_part_at_work}
 use Rattle.alp_journal.specs.Answered.{GrantsFor}
-use Rattle.alp_journal.specs.Answers.{Part, NoPart, AtWork, own_part, ended_part, part_at, IsFileOf, IsFinishAnswer, IsFileCollectedOf, IsCollectedOf, IsAnswer}
+use Rattle.alp_journal.specs.Answers.{part_at, at_part, finish_reply, First, IsFileOf, IsFinishAnswer, IsFileCollectedOf, IsCollectedOf, IsAnswer}
 use Rattle.alp_journal.specs.Alone.{Alone, alone, IsQuiet, Leads}
-use Rattle.alp_journal.proofs.AloneLemmas.{call_entry, new_call, IsCounted, call_leads}
+use Rattle.alp_journal.proofs.StandLemmas.{no_own_join}
+use Rattle.alp_journal.proofs.AloneLemmas.{no_mail, call_entry, new_call, IsCounted, call_leads}
 use Rattle.alp_journal.proofs.QuietLemmas.{quiet_told, forgotten_part, quiet_forgotten}
-
--- its client's part of a running transaction is at work
-pub own_at_work : (a : Alone) (t : TransId) (client : ℕ) → t.server ≡ a.holder.server → a.fates t ≡ Running client [] → part_at (alone a) client t ≡ AtWork
-own_at_work a t client here runs =
-    ap (λ (b : Bool). cond {A = Part} b (own_part client (a.dead client t) (a.fates t)) (ended_part (a.dead client t))) (eq-eqb t.server a.holder.server here)
-    ∙ ap (own_part client (a.dead client t)) runs ∙ ap (λ (b : Bool). cond {A = Part} b AtWork NoPart) (eq-eqb client client refl)
 
 -- nobody is asked for a vote where a call waits
 fewer_asked : (t : TransId) (commit : Bool) (client : ℕ) (b : Bool) (f : Fate) → on_finish t commit client true f ≡ [] → on_finish t commit client b f ≡ []
@@ -131,7 +129,7 @@ module _ (a : Alone) (client number : ℕ) (w : Session) where
         regained = refl;
         quiet = counted_quiet r q there turn;
         answer = is.answer failed (subst (IsFileOf failed (alone a) client c r) (sym of) why);
-        mail = (is.mail, refl);
+        mail = no_mail [] is.mail refl;
         turns = tt;
         grants = subst (GrantsFor failed (alone a) client c r []) (sym of) grants;
       })
@@ -170,7 +168,7 @@ module _ (a : Alone) (client number : ℕ) (w : Session) where
         regained = refl;
         quiet = after;
         answer = why;
-        mail = (fewer_asked t commit client (is_none (waiting_of (alone a).desk client t)) (a.fates t) mail, refl);
+        mail = no_mail [] (fewer_asked t commit client (is_none (waiting_of (alone a).desk client t)) (a.fates t) mail) refl;
         turns = tt;
         grants = tt;
       })
@@ -183,10 +181,20 @@ module _ (a : Alone) (client number : ℕ) (w : Session) where
   unknown_finish_leads t commit q up there turn deeds mail why =
       finish_owes t commit refusal.UnknownTrans (counted_as (reply.Refused refusal.UnknownTrans)) (counted_quiet (reply.Refused refusal.UnknownTrans) q there turn) up there turn deeds mail refl why refl
 
+  -- only the server of a transaction tells of its end
+  finish_here : (t : TransId) (commit : Bool) (c : Cause) → IsFinishAnswer false (alone a) client t commit (reply.Refused (refusal.Aborted c)) → t.server ≡ a.holder.server
+  finish_here t commit c why = go (t.server == a.holder.server) refl why
+    where
+      go : (b : Bool) → (t.server == a.holder.server) ≡ b
+          → Where b (First (at_part (commit && is_some (waiting_of (alone a).desk client t)) (part_at (alone a) client t)) (reply.Refused (refusal.Aborted c)) (reply.Refused (refusal.Aborted c) ≡ (if commit then finish_reply false (alone a) t (a.fates t) else reply.Refused (refusal.Aborted cause.Asked))))
+          (reply.Refused (refusal.Aborted c) ≡ reply.Refused refusal.UnknownTrans) → t.server ≡ a.holder.server
+      go true e h = eqb-true t.server a.holder.server e
+      go false e h = let wrong : reply.Refused (refusal.Aborted c) ≡ reply.Refused refusal.UnknownTrans = h in cc
+
   -- it ended before, and its client is told why
   pub dead_finish_leads : (t : TransId) (commit : Bool) (c : Cause) → IsQuiet a → a.is_down ≡ false → a.sessions client ≡ Some w → number ≡ w.last + 1
       → finishes (alone a).desk client t commit (reply.Refused (refusal.Aborted c)) (a.fates t) ≡ [] → on_finish t commit client true (a.fates t) ≡ []
       → IsFinishAnswer false (alone a) client t commit (reply.Refused (refusal.Aborted c))
       → Leads false a (call_entry a client number w (call.Finish t commit) (reply.Refused (refusal.Aborted c)) []) (without_dead t (counted_as (reply.Refused (refusal.Aborted c))))
   dead_finish_leads t commit c q up there turn deeds mail why =
-      finish_owes t commit (refusal.Aborted c) (without_dead t (counted_as (reply.Refused (refusal.Aborted c)))) (quiet_forgotten client t (counted_as (reply.Refused (refusal.Aborted c))) (counted_quiet (reply.Refused (refusal.Aborted c)) q there turn)) up there turn deeds mail refl why refl
+      finish_owes t commit (refusal.Aborted c) (without_dead t (counted_as (reply.Refused (refusal.Aborted c)))) (quiet_forgotten client t (counted_as (reply.Refused (refusal.Aborted c))) (no_own_join a q.settled.stands t (finish_here t commit c why) client) refl (counted_quiet (reply.Refused (refusal.Aborted c)) q there turn)) up there turn deeds mail refl why refl

@@ -14,6 +14,7 @@ use Rattle.alp_files.specs.declared.refusal.Refusal.TheVariants as refusal
 use Rattle.alp_files.specs.declared.refusal.Why.{Why}
 use Rattle.alp_files.specs.declared.refusal.Why.TheVariants as why
 use Rattle.alp_files.specs.declared.refusal.Cause.{Cause}
+use Rattle.alp_files.specs.declared.refusal.Cause.TheVariants as cause
 use Rattle.alp_journal.specs.declared.act.Act.{Act}
 use Rattle.alp_journal.specs.declared.act.Act.TheVariants as act
 use Rattle.alp_journal.specs.declared.event.Event.{Event}
@@ -32,10 +33,12 @@ use Rattle.alp_journal.specs.Laws.{IsLawfulDeed, KeepsSessions, CallsOn, DoLives
 use Rattle.alp_journal.specs.Messages.{clock_end, no_room, first_why, weights, all_ready, applying, why_not_own, due, sent_by}
 use Rattle.alp_journal.specs.Answered.{is_release, CountsVotes, ForgetsDone, IsWalk, in_turn, at_release, GrantsAtOnce}
 use Rattle.alp_journal.specs.Answers.{part_refusal, AnswersCall}
-use Rattle.alp_journal.specs.Alone.{Alone, alone, IsQuiet, HasTried, IsPaired, Leads}
+use Rattle.alp_journal.specs.Alone.{Alone, alone, IsQuiet, HasTried, Leads}
+use Rattle.alp_journal.proofs.StandLemmas.{own_pair}
 use Rattle.alp_journal.proofs.QuietLemmas.{quiet_down}
 use Rattle.alp_journal.proofs.AloneLemmas.{call_entry, new_call, call_tried, calls_on}
 use Rattle.alp_journal.proofs.AloneEntries.{IsFileCall, file_call}
+use Rattle.alp_journal.proofs.AloneEnds.{IsOwn, own_of, here_as, now_as}
 use Rattle.alp_journal.proofs.AloneCommits.{commit_stamp, decides_lawful, finishes_lawful}
 
 cond_same : {A : Type 0} (b : Bool) (x : A) → cond {A = A} b x x ≡ x
@@ -67,7 +70,7 @@ module _ (a : Alone) (client number : ℕ) (w : Session) where
     pub stopped : IsStopped acts
     pub released : list_any is_release acts ≡ false
     pub halted : HaltsRight (alone a) (call_entry a client number w c (reply.Refused refusal.Down) acts)
-    pub tried : HasTried a.holder a.ids.epoch true (tried (alone a) (call_entry a client number w c (reply.Refused refusal.Down) acts))
+    pub tried : HasTried (with_halt (call_entry a client number w c (reply.Refused refusal.Down) acts))
 
   pub halt_leads : (c : Call) (acts : List Act) → IsQuiet a → a.is_down ≡ false → a.sessions client ≡ Some w → number ≡ w.last + 1 → HaltOwes c acts
       → Leads false a (call_entry a client number w c (reply.Refused refusal.Down) acts) (with_halt (call_entry a client number w c (reply.Refused refusal.Down) acts))
@@ -83,7 +86,7 @@ module _ (a : Alone) (client number : ℕ) (w : Session) where
           drawn = o.drawn ∙ sym (cond_same {A = List TransId} (is_new s client a.ids.epoch number) []);
           sessions = o.greets e (calls_on a client number w c r acts there turn);
           deeds = o.deeds;
-          agree = subst (λ (x : State). DoLivesAgree x.holder.lives) (sym leaves) q.settled.agree;
+          agree = subst (λ (x : State). DoLivesAgree x.holder.lives) (sym leaves) q.settled.stands.agree;
           released = subst (λ (b : Bool). Where b (Unit {0}) (ReleasesEnded s e × WaitsInTurn (next s e))) (sym o.stops) tt;
           sent = o.sent;
           said = o.said (next s e);
@@ -122,7 +125,7 @@ module _ (a : Alone) (client number : ℕ) (w : Session) where
         stops = refl;
         drawn = refl;
         deeds = subst (Along state_deed (IsLawfulDeed ev) (alone a)) (sym (call_tried a client number w c (reply.Refused refusal.Down) (act.Stopped ∷ []) there turn ∙ none)) tt;
-        tried = inl (call_tried a client number w c (reply.Refused refusal.Down) (act.Stopped ∷ []) there turn ∙ none);
+        tried = HasTried.nothing (call_tried a client number w c (reply.Refused refusal.Down) (act.Stopped ∷ []) there turn ∙ none);
         sent = refl;
         said = λ m. (tt, tt);
         regained = refl;
@@ -160,7 +163,7 @@ module _ (a : Alone) (client number : ℕ) (w : Session) where
         stops = refl;
         drawn = refl;
         deeds = subst (Along state_deed (IsLawfulDeed ev) (alone a)) (sym (call_tried a client number w (call.Collect n) (reply.Refused refusal.Down) (act.Stopped ∷ []) there turn ∙ none)) tt;
-        tried = inl (call_tried a client number w (call.Collect n) (reply.Refused refusal.Down) (act.Stopped ∷ []) there turn ∙ none);
+        tried = HasTried.nothing (call_tried a client number w (call.Collect n) (reply.Refused refusal.Down) (act.Stopped ∷ []) there turn ∙ none);
         sent = refl;
         said = λ m. (tt, tt);
         regained = refl;
@@ -202,30 +205,36 @@ module _ (a : Alone) (client number : ℕ) (w : Session) where
         ∙ ap (λ (y : Option Waiting). cond {A = List Act} (is_none y) (decides t (a.holder.clock + 1) [] (why_not_own false (alone a) t)) []) idle
         ∙ ap (decides t (a.holder.clock + 1) []) may
 
-    pub commit_halt_leads : (x : Act) → IsStop x → IsQuiet a → a.is_down ≡ false → a.sessions client ≡ Some w → number ≡ w.last + 1 → t.server ≡ a.holder.server → t.epoch ≡ a.ids.epoch
-        → a.holder.lives t ≡ Some l → l.client ≡ client → waiting_of (alone a).desk client t ≡ None → why_not_own false (alone a) t ≡ None
+    pub commit_halt_leads : (x : Act) → IsStop x → IsQuiet a → a.is_down ≡ false → a.sessions client ≡ Some w → number ≡ w.last + 1
+        → a.holder.lives t ≡ Some l → a.fates t ≡ Running client [] → waiting_of (alone a).desk client t ≡ None → why_not_own false (alone a) t ≡ None
         → Leads false a (call_entry a client number w (call.Finish t true) (reply.Refused refusal.Down) (act.Decided (commit_stamp a client number w t l) [] ∷ x ∷ []))
         (with_halt (call_entry a client number w (call.Finish t true) (reply.Refused refusal.Down) (act.Decided (commit_stamp a client number w t l) [] ∷ x ∷ [])))
-    commit_halt_leads x which q up there turn here now live own idle may = go x which
+    commit_halt_leads x which q up there turn live runs idle may = go x which
       where
         stamp : Stamp
         stamp = commit_stamp a client number w t l
 
-        pair : IsPaired (Some l) (a.fates t)
-        pair = subst (λ (y : Option Life). IsPaired y (a.fates t)) live (q.settled.paired t)
+        mine : IsOwn a client t l cause.Asked
+        mine = own_of a client t l cause.Asked q.settled live runs
 
-        runs : a.fates t ≡ Running client []
-        runs = pair.0 ∙ ap (λ (n : ℕ). Running n []) own
+        unvoted : l.vote ≡ None
+        unvoted = (own_pair a q.settled.stands t l live mine.part).1
+
+        here : t.server ≡ a.holder.server
+        here = here_as a client t l cause.Asked mine
+
+        now : t.epoch ≡ a.ids.epoch
+        now = now_as a client t l cause.Asked mine
 
         lawful : (y : Act) → tried (alone a) (call_entry a client number w (call.Finish t true) (reply.Refused refusal.Down) (act.Decided (commit_stamp a client number w t l) [] ∷ y ∷ [])) ≡ Finishes t ∷ Decides (commit_stamp a client number w t l) [] ∷ []
             → Along state_deed (IsLawfulDeed (event.Call client a.ids.epoch number (call.Finish t true))) (alone a)
             (tried (alone a) (call_entry a client number w (call.Finish t true) (reply.Refused refusal.Down) (act.Decided (commit_stamp a client number w t l) [] ∷ y ∷ [])))
         lawful y is = subst (Along state_deed (IsLawfulDeed (event.Call client a.ids.epoch number (call.Finish t true))) (alone a)) (sym is)
-            (finishes_lawful a client number w t l, (decides_lawful a client number w t l runs here now live pair.1 idle, tt))
+            (finishes_lawful a client number w t l, (decides_lawful a client number w t l runs here now live unvoted idle, tt))
 
         as_tried : (y : Act) → tried (alone a) (call_entry a client number w (call.Finish t true) (reply.Refused refusal.Down) (act.Decided (commit_stamp a client number w t l) [] ∷ y ∷ [])) ≡ Finishes t ∷ Decides (commit_stamp a client number w t l) [] ∷ []
-            → HasTried a.holder a.ids.epoch true (tried (alone a) (call_entry a client number w (call.Finish t true) (reply.Refused refusal.Down) (act.Decided (commit_stamp a client number w t l) [] ∷ y ∷ [])))
-        as_tried y is = inr (record { stamp = stamp; life = l; tried = is; down = refl; time = refl; within = vote_within (alone a) t may; own = here; now = now; live = live })
+            → HasTried (with_halt (call_entry a client number w (call.Finish t true) (reply.Refused refusal.Down) (act.Decided (commit_stamp a client number w t l) [] ∷ y ∷ [])))
+        as_tried y is = HasTried.commit (record { stamp = stamp; life = l; tried = is; down = refl; time = refl; within = vote_within (alone a) t may; own = here; now = now; live = live; own_part = mine.part; runs = runs ∙ ap (λ (n : ℕ). Running n []) (sym mine.its) })
 
         go : (x : Act) → IsStop x → Leads false a (call_entry a client number w (call.Finish t true) (reply.Refused refusal.Down) (act.Decided (commit_stamp a client number w t l) [] ∷ x ∷ []))
             (with_halt (call_entry a client number w (call.Finish t true) (reply.Refused refusal.Down) (act.Decided (commit_stamp a client number w t l) [] ∷ x ∷ [])))

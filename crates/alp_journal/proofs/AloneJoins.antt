@@ -1,7 +1,8 @@
--- joins at a server that runs alone: its own transaction's client has its part already, and nobody else gets one
-use Rattle.std.specs.Prelude.{cond, Bool, true, false, not, ◌&&◌, ◌==◌, filter, find, flat_map, is_some, nat_lt, Option, None, Some}
+-- joins of a client that has a part of the transaction already, and those of a transaction of which nobody gets one here
+use Rattle.std.specs.Prelude.{cond, Bool, true, false, not, ◌&&◌, ◌==◌, filter, find, flat_map, is_some, nat_lt, Option, None, Some, IsSome}
 use Rattle.std.proofs.lemmas.Bool.{and_parts, eqb-true, ltb-true}
 use Rattle.std.proofs.Common.{◌≡◌, ℕ, ◌+◌, ◌<◌, List, [], ◌∷◌, ◌++◌, refl, sym, ◌∙◌, ap, subst, eq-eqb, arith}
+use Rattle.alp_base.specs.declared.ids.JoinNo.{JoinNo}
 use Rattle.alp_base.specs.declared.ids.TransId.{TransId}
 use Rattle.alp_files.specs.declared.call.Call.TheVariants as call
 use Rattle.alp_files.specs.declared.reply.Reply.{Reply}
@@ -9,31 +10,24 @@ use Rattle.alp_files.specs.declared.reply.Reply.TheVariants as reply
 use Rattle.alp_files.specs.declared.refusal.Refusal.TheVariants as refusal
 use Rattle.alp_files.specs.declared.refusal.Cause.{Cause}
 use Rattle.alp_journal.specs.Along.{Where}
+use Rattle.alp_journal.specs.Ids.{same_trans}
 use Rattle.alp_journal.specs.Deeds.{Deed, Joins}
-use Rattle.alp_journal.specs.Coordinator.{Fate, Undrawn, Running, Finishing, Committed, Forgotten, Ended}
+use Rattle.alp_journal.specs.Coordinator.{Fate, Undrawn, Running, Finishing, Committed, Forgotten, Ended, client_of, is_running}
 use Rattle.alp_journal.specs.Holder.{Life}
-use Rattle.alp_journal.specs.Desk.{Desk, Session, Waiting, part_trans, is_of, is_on, is_of_part, waiting_of, buried, with_session}
-use Rattle.alp_journal.specs.State.{State, has_part, is_other_server}
+use Rattle.alp_journal.specs.Desk.{Desk, Session, Waiting, part_trans, is_of, is_on, is_of_part, waiting_of, is_not_yet, is_unknown, begins_if, begins_waiting, buried, with_session}
+use Rattle.alp_journal.specs.State.{State, has_part, is_other_server, join_for}
 use Rattle.alp_journal.specs.Moves.{joins_here, next_join, principal}
+use Rattle.alp_journal.specs.Laws.{TellsIn, begun_in}
 use Rattle.alp_journal.specs.Messages.{asks_to_join}
-use Rattle.alp_journal.specs.Answers.{Part, NoPart, AtWork, own_part, ended_part, join_reply, is_no_part, part_at, too_many, First, IsJoinAnswer}
-use Rattle.alp_journal.specs.Alone.{Alone, alone, IsSettled, IsQuiet, IsPaired, Leads}
+use Rattle.alp_journal.specs.Answers.{Part, NoPart, AtJoining, AtWork, AtFinish, AtReady, AtEnd, own_part, ended_part, join_part, join_reply, is_no_part, part_at, too_many, First, IsJoinAnswer}
+use Rattle.alp_journal.specs.Alone.{Alone, alone, is_other, IsPartAs, IsPaired, Stands, IsSettled, IsQuiet, Leads}
 use Rattle.alp_journal.proofs.IdLemmas.{same_trans-true}
-use Rattle.alp_journal.proofs.AloneLemmas.{call_entry, new_call, call_leads}
-use Rattle.alp_journal.proofs.AloneEntries.{own_at_work, counted_as, counted_quiet}
-use Rattle.alp_journal.proofs.AloneBegins.{has_part_running, runs_live, is_buried, with_buried_as, buried_quiet}
-use Rattle.alp_journal.proofs.AloneCollects.{none_dead}
-
--- where none that is looked for goes, the same one is found
-find-kept : {A : Type 0} (p q : A → Bool) → ((x : A) → p x ≡ true → q x ≡ true) → (xs : List A) → find p (filter q xs) ≡ find p xs
-find-kept p q stay [] = refl
-find-kept p q stay (x ∷ xs) = go (p x) (q x) refl refl (find-kept p q stay xs)
-  where
-    go : (b d : Bool) → p x ≡ b → q x ≡ d → find p (filter q xs) ≡ find p xs → find p (cond d (x ∷ filter q xs) (filter q xs)) ≡ cond b (Some x) (find p xs)
-    go true true e f rest = ap (λ c. cond c (Some x) (find p (filter q xs))) e
-    go true false e f rest = let wrong : false ≡ true = sym f ∙ stay x e in cc
-    go false true e f rest = ap (λ c. cond c (Some x) (find p (filter q xs))) e ∙ rest
-    go false false e f rest = rest
+use Rattle.alp_journal.proofs.WaitLemmas.{find-kept, all-of}
+use Rattle.alp_journal.proofs.StandLemmas.{running_of, join_none}
+use Rattle.alp_journal.proofs.PartLemmas.{own_part_at, far_part_at, own_at_work, part_has, part_not_dead, no_near_join}
+use Rattle.alp_journal.proofs.AloneLemmas.{no_mail, call_entry, new_call, call_leads}
+use Rattle.alp_journal.proofs.AloneEntries.{counted_as, counted_quiet}
+use Rattle.alp_journal.proofs.AloneBegins.{is_buried, with_buried_as, buried_quiet}
 
 none_ended : (d : Option Cause) → is_no_part (ended_part d) ≡ true
 none_ended None = refl
@@ -44,25 +38,42 @@ module _ (a : Alone) (client : ℕ) (t : TransId) where
   abbrev pub HasNoLife : Type 0
   HasNoLife = (l : Life) → a.holder.lives t ≡ Some l → l.client ≡ client → ⊥
 
-  no_own : (x : Option Life) (f : Fate) → a.holder.lives t ≡ x → IsPaired x f → HasNoLife → is_no_part (own_part client (a.dead client t) f) ≡ true
-  no_own (Some l) f live pair none = ap (λ (g : Fate). is_no_part (own_part client (a.dead client t) g)) pair.0 ∙ go (l.client == client) refl
+  no_own : (f : Fate) → a.fates t ≡ f → Stands a → HasNoLife → is_no_part (own_part client (a.dead client t) f) ≡ true
+  no_own f is q none = by f is
     where
-      go : (b : Bool) → (l.client == client) ≡ b → is_no_part (cond {A = Part} b AtWork NoPart) ≡ true
-      go true e = absurd (none l live (eqb-true l.client client e))
-      go false e = refl
-  no_own None Undrawn live pair none = none_ended (a.dead client t)
-  no_own None (Running c js) live pair none = absurd pair
-  no_own None (Finishing c js vs) live pair none = absurd pair
-  no_own None (Committed stamp js ds) live pair none = none_ended (a.dead client t)
-  no_own None (Forgotten stamp js) live pair none = none_ended (a.dead client t)
-  no_own None (Ended c) live pair none = none_ended (a.dead client t)
+      -- whoever runs has its part
+      lives_on : (c : ℕ) → client_of (a.fates t) ≡ Some c → (c == client) ≡ true → ⊥
+      lives_on c runs e = go (a.holder.lives t) refl (q.paired t)
+        where
+          part : (l : Life) → a.holder.lives t ≡ Some l → (x : Option JoinNo) → IsPartAs t a.phases l (a.fates t) x → ⊥
+          part l live None h = none l live (some_same l.client c (sym h.0 ∙ runs) ∙ eqb-true c client e)
+            where
+              some_same : (m n : ℕ) → Some m ≡ Some n → m ≡ n
+              some_same m n e = cc
+          part l live (Some j) h = let wrong : true ≡ false = sym (running_of (a.fates t) c runs) ∙ h.1 in cc
 
-  no_part : IsSettled a → HasNoLife → is_no_part (part_at (alone a) client t) ≡ true
-  no_part q none = go (t.server == a.holder.server)
+          go : (x : Option Life) → a.holder.lives t ≡ x → IsPaired t a.phases x (a.fates t) → ⊥
+          go None e h = let wrong : true ≡ false = sym (running_of (a.fates t) c runs) ∙ h in cc
+          go (Some l) e h = part l e l.join h
+
+      at : (c : ℕ) (p : Part) → client_of (a.fates t) ≡ Some c → (b : Bool) → (c == client) ≡ b → is_no_part (cond {A = Part} b p NoPart) ≡ true
+      at c p runs true e = absurd (lives_on c runs e)
+      at c p runs false e = refl
+
+      by : (f : Fate) → a.fates t ≡ f → is_no_part (own_part client (a.dead client t) f) ≡ true
+      by Undrawn e = none_ended (a.dead client t)
+      by (Running c js) e = at c AtWork (ap client_of e) (c == client) refl
+      by (Finishing c js vs) e = at c AtFinish (ap client_of e) (c == client) refl
+      by (Committed stamp js ds) e = none_ended (a.dead client t)
+      by (Forgotten stamp js) e = none_ended (a.dead client t)
+      by (Ended c) e = none_ended (a.dead client t)
+
+  pub no_part : Stands a → HasNoLife → is_other a.servers a.holder.server t.server ≡ false → is_no_part (part_at (alone a) client t) ≡ true
+  no_part q none near = go (t.server == a.holder.server) refl
     where
-      go : (b : Bool) → is_no_part (cond {A = Part} b (own_part client (a.dead client t) (a.fates t)) (ended_part (a.dead client t))) ≡ true
-      go true = no_own (a.holder.lives t) (a.fates t) refl (q.paired t) none
-      go false = none_ended (a.dead client t)
+      go : (b : Bool) → (t.server == a.holder.server) ≡ b → is_no_part (part_at (alone a) client t) ≡ true
+      go true e = ap is_no_part (own_part_at a t client (eqb-true t.server a.holder.server e)) ∙ no_own (a.fates t) refl q none
+      go false e = ap is_no_part (far_part_at a t client e ∙ ap (join_part (alone a) (a.dead client t)) (join_none a q client t (no_near_join a q t near client))) ∙ none_ended (a.dead client t)
 
   -- where there is one server, no other is of the run
   pub no_other : (n : ℕ) → a.servers ≡ 1 → a.holder.server ≡ 1 → is_other_server (alone a) n ≡ false
@@ -76,8 +87,23 @@ module _ (a : Alone) (client : ℕ) (t : TransId) where
           let high : n < a.servers + 1 = ltb-true n (a.servers + 1) f in
           ap not (eq-eqb n a.holder.server (omega (arith, low, high, few, first)))
 
+-- what a Join is answered that makes no part
+pub record IsJoinReply (r : Reply) : Type 0 where
+  pub known : is_unknown r ≡ false
+  pub none : [] ≡ begun_in (Some r)
+  pub tells : (m : State) (t : TransId) → TellsIn m (call.Join t) r
+
+join_reply_is : (b : Bool) (p : Part) → IsJoinReply (join_reply b p)
+join_reply_is true AtWork = record { known = refl; none = refl; tells = λ m t. tt }
+join_reply_is false AtWork = record { known = refl; none = refl; tells = λ m t. tt }
+join_reply_is b AtFinish = record { known = refl; none = refl; tells = λ m t. tt }
+join_reply_is b AtReady = record { known = refl; none = refl; tells = λ m t. tt }
+join_reply_is b NoPart = record { known = refl; none = refl; tells = λ m t. tt }
+join_reply_is b AtJoining = record { known = refl; none = refl; tells = λ m t. tt }
+join_reply_is b (AtEnd c) = record { known = refl; none = refl; tells = λ m t. tt }
+
 module _ (a : Alone) (client number : ℕ) (w : Session) (t : TransId) where
-  -- ---- the client has no part of it here
+  -- ---- the client has no part of it here, and gets none
 
   pub join_unknown_leads : IsQuiet a → a.is_down ≡ false → a.sessions client ≡ Some w → number ≡ w.last + 1 → is_other_server (alone a) t.server ≡ false → HasNoLife a client t
       → Leads false a (call_entry a client number w (call.Join t) (reply.Refused refusal.UnknownTrans) []) (counted_as a client number w (reply.Refused refusal.UnknownTrans))
@@ -104,107 +130,98 @@ module _ (a : Alone) (client number : ℕ) (w : Session) (t : TransId) where
         quiet = counted_quiet a client number w r q there turn;
         answer = subst (λ (b : Bool). Where b (r ≡ reply.Refused refusal.UnknownTrans)
             (Where (is_no_part part) (First (too_many s) r (r ≡ reply.Refused refusal.NotYet)) (r ≡ join_reply (is_some (waiting_of s.desk client t)) part)))
-            (sym (λ i. no_part a client t q.settled none i && not (near i))) refl;
-        mail = (refl, refl);
+            (sym (λ i. no_part a client t q.settled.stands none near i && not (near i))) refl;
+        mail = no_mail [] refl refl;
         turns = tt;
         grants = tt;
       })
 
-  -- ---- the transaction is its own, and its part lives
+  -- ---- the client has a part of it here
 
-  module _ (l : Life) where
-    -- all that is known then
-    pub record JoinOwes : Type 0 where
-      pub quiet : IsQuiet a
-      pub up : a.is_down ≡ false
-      pub there : a.sessions client ≡ Some w
-      pub turn : number ≡ w.last + 1
-      pub here : t.server ≡ a.holder.server
-      pub live : a.holder.lives t ≡ Some l
-      pub own : l.client ≡ client
+  -- all that is known then
+  pub record JoinOwes : Type 0 where
+    pub quiet : IsQuiet a
+    pub up : a.is_down ≡ false
+    pub there : a.sessions client ≡ Some w
+    pub turn : number ≡ w.last + 1
+    pub part : is_no_part (part_at (alone a) client t) ≡ false
 
-    runs : JoinOwes → a.fates t ≡ Running client []
-    runs o = runs_live a o.quiet.settled t l o.live ∙ ap (λ (n : ℕ). Running n []) o.own
+  -- its waiting call is of no dead part
+  stays : JoinOwes → (v : Waiting) → is_of_part client t v ≡ true → not (is_buried a client v) ≡ true
+  stays o v of =
+      let both = and_parts (v.client == client) (is_of t (part_trans v.call)) of in
+      ap (λ (b : Bool). not (b && is_on (λ u. is_some (a.dead client u)) (part_trans v.call))) both.0 ∙ alive (part_trans v.call) both.1
+    where
+      alive : (x : Option TransId) → is_of t x ≡ true → not (is_on (λ u. is_some (a.dead client u)) x) ≡ true
+      alive None e = let wrong : false ≡ true = e in cc
+      alive (Some u) e = ap (λ (v : TransId). not (is_some (a.dead client v))) (same_trans-true u t e) ∙ ap not (part_not_dead a client t o.quiet.settled o.part)
 
-    answer_at_work : (r : Reply) → JoinOwes → r ≡ join_reply (is_some (waiting_of (alone a).desk client t)) AtWork → IsJoinAnswer (alone a) client t r
-    answer_at_work r o is =
-        subst (λ (p : Part). Where (is_no_part p && not (is_other_server (alone a) t.server)) (r ≡ reply.Refused refusal.UnknownTrans)
-        (Where (is_no_part p) (First (too_many (alone a)) r (r ≡ reply.Refused refusal.NotYet)) (r ≡ join_reply (is_some (waiting_of (alone a).desk client t)) p)))
-        (sym (own_at_work a t client o.here (runs o))) is
+  -- it is told how it stands with the part; where that is not yet, a call of the part waits
+  pub join_known_leads : JoinOwes → (r : Reply) → r ≡ join_reply (is_some (waiting_of (alone a).desk client t)) (part_at (alone a) client t) → (is_not_yet r ≡ true → IsSome (waiting_of (alone a).desk client t))
+      → Leads false a (call_entry a client number w (call.Join t) r []) (with_buried_as a client number w r)
+  join_known_leads o r is waits =
+      let s : State = alone a in
+      let has : has_part s client t ≡ true = part_has a client t o.part in
+      let none : joins_here s client t ≡ [] = ap (λ (b : Bool). cond {A = List Deed} b [] (Joins (next_join s) t client (principal s client) ∷ [])) has in
+      let brings : (b : Bool) → cond {A = List Deed} b (joins_here s client t) [] ≡ [] = λ b. go_none b (joins_here s client t) none in
+      let d : Desk = buried (with_session s.desk client (Some (record w { last = number; reply = r }))) client in
+      let of : IsJoinReply r = subst IsJoinReply (sym is) (join_reply_is (is_some (waiting_of s.desk client t)) (part_at s client t)) in
+      call_leads a client number w false (call.Join t) r [] [] (with_buried_as a client number w r) o.there o.turn (record {
+        plain = λ m. refl;
+        greets = λ e h. h;
+        up = refl;
+        running = o.up;
+        brought = ap (λ (ds : List Deed). ds ++ [] ++ []) (brings (is_not_yet r));
+        new = new_call a client number w o.there o.turn;
+        there = o.there;
+        left = ap (λ (b : Bool). record s {
+          desk = cond {A = Desk} b (with_session s.desk client (Some (record w { last = number; reply = r }))) (begins_if (is_not_yet r) d client number (call.Join t));
+          is_down = false;
+          pending = [];
+        }) of.known
+            ∙ ap (λ (x : Desk). record s { desk = x; is_down = false; pending = [] }) (still r o waits d refl (is_not_yet r) refl);
+        drawn = of.none;
+        deeds = tt;
+        released = refl;
+        granted = refl;
+        said = tt;
+        tells = of.tells (alone (with_buried_as a client number w r)) t;
+        regained = refl;
+        quiet = buried_quiet a client number w r o.quiet o.there o.turn;
+        answer = subst (λ (b : Bool). Where (b && not (is_other_server s t.server)) (r ≡ reply.Refused refusal.UnknownTrans)
+            (Where b (First (too_many s) r (r ≡ reply.Refused refusal.NotYet)) (r ≡ join_reply (is_some (waiting_of s.desk client t)) (part_at s client t)))) (sym o.part) is;
+        mail = no_mail [] (ap (flat_map asks_to_join) (brings (is_not_yet r))) refl;
+        turns = tt;
+        grants = tt;
+      })
+    where
+      go_none : (b : Bool) (ds : List Deed) → ds ≡ [] → cond {A = List Deed} b ds [] ≡ []
+      go_none true ds e = e
+      go_none false ds e = refl
 
-    -- its waiting call is of no dead part
-    stays : JoinOwes → (v : Waiting) → is_of_part client t v ≡ true → not (is_buried a client v) ≡ true
-    stays o v of =
-        let both = and_parts (v.client == client) (is_of t (part_trans v.call)) of in
-        ap (λ (b : Bool). not (b && is_on (λ u. is_some (a.dead client u)) (part_trans v.call))) both.0 ∙ alive (part_trans v.call) both.1
-      where
-        alive : (x : Option TransId) → is_of t x ≡ true → not (is_on (λ u. is_some (a.dead client u)) x) ≡ true
-        alive None e = let wrong : false ≡ true = e in cc
-        alive (Some u) e = ap (λ (v : TransId). not (is_some (a.dead client v))) (same_trans-true u t e) ∙ ap (λ (d : Option Cause). not (is_some d)) (none_dead a t l o.quiet.settled o.live client)
+      some_waits : (d : Desk) (x : Option Waiting) → IsSome x → cond {A = Desk} (is_some x) d (record d { waits = d.waits ++ (record { client = client; number = number; call = call.Join t; is_granted = false }) ∷ [] }) ≡ d
+      some_waits d None h = let wrong : false ≡ true = h in cc
+      some_waits d (Some v) h = refl
 
-    -- ---- a call of it waits, or is not collected
+      still : (r : Reply) → JoinOwes → (is_not_yet r ≡ true → IsSome (waiting_of (alone a).desk client t)) → (d : Desk) → d ≡ buried (with_session (alone a).desk client (Some (record w { last = number; reply = r }))) client
+          → (b : Bool) → is_not_yet r ≡ b → begins_if b d client number (call.Join t) ≡ d
+      still r o waits d same false e = refl
+      still r o waits d same true e = some_waits d (waiting_of d client t) (subst (λ (x : Option Waiting). IsSome x)
+          (sym (ap (λ (x : Desk). waiting_of x client t) same ∙ find-kept (is_of_part client t) (λ x. not (is_buried a client x)) a.waits (all-of (λ x. is_of_part client t x ≡ true → not (is_buried a client x) ≡ true) (stays o) a.waits))) (waits e))
 
-    pub join_busy_leads : (v : Waiting) → JoinOwes → waiting_of (alone a).desk client t ≡ Some v
-        → Leads false a (call_entry a client number w (call.Join t) (reply.Refused refusal.NotYet) []) (with_buried_as a client number w (reply.Refused refusal.NotYet))
-    join_busy_leads v o waits =
-        let s : State = alone a in
-        let r : Reply = reply.Refused refusal.NotYet in
-        let has : has_part s client t ≡ true = has_part_running s t (runs o) in
-        let none : joins_here s client t ≡ [] = ap (λ (b : Bool). cond {A = List Deed} b [] (Joins (next_join s) t client (principal s client) ∷ [])) has in
-        let d : Desk = buried (with_session s.desk client (Some (record w { last = number; reply = r }))) client in
-        let still : waiting_of d client t ≡ Some v = find-kept (is_of_part client t) (λ x. not (is_buried a client x)) (stays o) a.waits ∙ waits in
-        call_leads a client number w false (call.Join t) r [] [] (with_buried_as a client number w r) o.there o.turn (record {
-          plain = λ m. refl;
-          greets = λ e h. h;
-          up = refl;
-          running = o.up;
-          brought = ap (λ (ds : List Deed). ds ++ [] ++ []) none;
-          new = new_call a client number w o.there o.turn;
-          there = o.there;
-          left = ap (λ (x : Option Waiting). record s {
-            desk = cond {A = Desk} (is_some x) d (record d { waits = d.waits ++ (record { client = client; number = number; call = call.Join t; is_granted = false }) ∷ [] });
-            is_down = false;
-            pending = [];
-          }) still;
-          drawn = refl;
-          deeds = tt;
-          released = refl;
-          granted = refl;
-          said = tt;
-          tells = tt;
-          regained = refl;
-          quiet = buried_quiet a client number w r o.quiet o.there o.turn;
-          answer = answer_at_work r o (ap (λ (x : Option Waiting). join_reply (is_some x) AtWork) (sym waits));
-          mail = (ap (flat_map asks_to_join) none, refl);
-          turns = tt;
-          grants = tt;
-        })
+  -- ---- the transaction runs here for the client
 
-    -- ---- none does
+  own_owes : IsQuiet a → a.is_down ≡ false → a.sessions client ≡ Some w → number ≡ w.last + 1 → part_at (alone a) client t ≡ AtWork → JoinOwes
+  own_owes q up there turn works = record { quiet = q; up = up; there = there; turn = turn; part = ap is_no_part works }
 
-    pub join_leads : JoinOwes → waiting_of (alone a).desk client t ≡ None → Leads false a (call_entry a client number w (call.Join t) reply.Joined []) (with_buried_as a client number w reply.Joined)
-    join_leads o idle =
-        let s : State = alone a in
-        let r : Reply = reply.Joined in
-        call_leads a client number w false (call.Join t) r [] [] (with_buried_as a client number w r) o.there o.turn (record {
-          plain = λ m. refl;
-          greets = λ e h. h;
-          up = refl;
-          running = o.up;
-          brought = refl;
-          new = new_call a client number w o.there o.turn;
-          there = o.there;
-          left = refl;
-          drawn = refl;
-          deeds = tt;
-          released = refl;
-          granted = refl;
-          said = tt;
-          tells = tt;
-          regained = refl;
-          quiet = buried_quiet a client number w r o.quiet o.there o.turn;
-          answer = answer_at_work r o (ap (λ (x : Option Waiting). join_reply (is_some x) AtWork) (sym idle));
-          mail = (refl, refl);
-          turns = tt;
-          grants = tt;
-        })
+  -- a call of the part waits, or is not collected
+  pub join_busy_leads : (v : Waiting) → IsQuiet a → a.is_down ≡ false → a.sessions client ≡ Some w → number ≡ w.last + 1 → part_at (alone a) client t ≡ AtWork → waiting_of (alone a).desk client t ≡ Some v
+      → Leads false a (call_entry a client number w (call.Join t) (reply.Refused refusal.NotYet) []) (with_buried_as a client number w (reply.Refused refusal.NotYet))
+  join_busy_leads v q up there turn works waits =
+      join_known_leads (own_owes q up there turn works) (reply.Refused refusal.NotYet) (λ i. join_reply (is_some (sym waits i)) (sym works i)) (λ yet. subst (λ (x : Option Waiting). IsSome x) (sym waits) refl)
+
+  -- none does
+  pub join_leads : IsQuiet a → a.is_down ≡ false → a.sessions client ≡ Some w → number ≡ w.last + 1 → part_at (alone a) client t ≡ AtWork → waiting_of (alone a).desk client t ≡ None
+      → Leads false a (call_entry a client number w (call.Join t) reply.Joined []) (with_buried_as a client number w reply.Joined)
+  join_leads q up there turn works idle =
+      join_known_leads (own_owes q up there turn works) reply.Joined (λ i. join_reply (is_some (sym idle i)) (sym works i)) (λ yet. (let wrong : false ≡ true = yet in cc))

@@ -1,9 +1,10 @@
 -- entries of a server that runs alone
-use Rattle.std.specs.Prelude.{cond, Bool, true, false, not, ◌&&◌, ◌==◌, Option, None, Some, IsSome, flat_map}
-use Rattle.std.specs.List.{list_any, AllByRecursion}
+use Rattle.std.specs.Prelude.{cond, Bool, true, false, not, ◌&&◌, ◌||◌, ◌==◌, Option, None, Some, IsSome, flat_map}
+use Rattle.std.specs.List.{list_any, list_all, AllByRecursion}
 use Rattle.std.specs.List.Sorted.{IsPermutation}
 use Rattle.std.proofs.lemmas.List.Sorted.{IsPermutation-refl}
-use Rattle.std.proofs.lemmas.Bool.{ne_eqb}
+use Rattle.std.proofs.lemmas.Bool.{ne_eqb, and_parts, or_parts}
+use Rattle.std.proofs.lemmas.List.{append_assoc}
 use Rattle.std.proofs.Common.{◌≡◌, ℕ, ◌+◌, List, [], ◌∷◌, ◌++◌, refl, sym, ◌∙◌, ap, subst, eq-eqb, arith}
 use Rattle.alp_base.specs.declared.ids.TransId.{TransId}
 use Rattle.alp_files.specs.declared.call.Call.{Call}
@@ -18,41 +19,28 @@ use Rattle.alp_journal.specs.Deeds.{Deed}
 use Rattle.alp_journal.specs.Desk.{Desk, Session, file_trans, waits_after, with_session}
 use Rattle.alp_journal.specs.State.{State, state_deed, has_part}
 use Rattle.alp_journal.specs.Moves.{is_new, tried, told, halted, call_deeds, act_deeds, answered, done_of, is_stop, stops, next, counted, desk_told}
-use Rattle.alp_journal.specs.Coordinator.{Fate, Undrawn, Running, Finishing, Committed, Forgotten, Ended, has_votes}
-use Rattle.alp_journal.specs.Holder.{Life}
 use Rattle.alp_journal.specs.Halts.{HaltsRight}
-use Rattle.alp_journal.specs.Laws.{IsLawfulDeed, DoLivesAgree, ReleasesEnded, WaitsInTurn, IsStopped, TellsStop, Repeats, stale, KeepsSessions, CallsOn, drawn_by, begun_in, released_by, granted_by, grants_of, ended_by, sends_last, SaysRight, TellsIn, regained_by}
+use Rattle.alp_journal.specs.Laws.{IsLawfulDeed, DoLivesAgree, ReleasesEnded, WaitsInTurn, IsStopped, TellsStop, Repeats, stale, KeepsSessions, CallsOn, drawn_by, begun_in, released_by, granted_by, grants_of, ended_by, sends_last, is_message, is_addressed, is_for, SaysRight, TellsIn, regained_by}
 use Rattle.alp_journal.specs.Messages.{Mail, on_call, sent_by, due}
 use Rattle.alp_journal.specs.Answers.{IsAnswer, AnswersCall}
-use Rattle.alp_journal.specs.Answered.{is_all_done, CountsVotes, ForgetsDone, GivesOn, GrantsFor, GrantsAtOnce}
-use Rattle.alp_journal.specs.Alone.{Alone, alone, IsQuiet, IsPaired, Leads}
+use Rattle.alp_journal.specs.Answered.{CountsVotes, ForgetsDone, GivesOn, GrantsFor, GrantsAtOnce}
+use Rattle.alp_journal.specs.Alone.{Alone, alone, IsQuiet, sent_acts, Leads}
+
+-- ---- one list behind another
+
+pub flat-append : {A B : Type 0} (f : A → List B) (xs ys : List A) → flat_map f (xs ++ ys) ≡ flat_map f xs ++ flat_map f ys
+flat-append f [] ys = refl
+flat-append f (x ∷ xs) ys = ap (λ bs. f x ++ bs) (flat-append f xs ys) ∙ sym (append_assoc (f x) (flat_map f xs) (flat_map f ys))
 
 -- ---- what a quiet state has
 
-no_votes : (l : Option Life) (f : Fate) → IsPaired l f → has_votes f ≡ false
-no_votes (Some l) f h = ap has_votes h.0
-no_votes None Undrawn h = refl
-no_votes None (Running client joins) h = refl
-no_votes None (Finishing client joins votes) h = absurd h
-no_votes None (Committed stamp joins done) h = refl
-no_votes None (Forgotten stamp joins) h = refl
-no_votes None (Ended c) h = refl
-
-none_done : (l : Option Life) (f : Fate) → IsPaired l f → is_all_done f ≡ false
-none_done (Some l) f h = ap is_all_done h.0
-none_done None Undrawn h = refl
-none_done None (Running client joins) h = refl
-none_done None (Finishing client joins votes) h = refl
-none_done None (Committed stamp [] done) h = refl
-none_done None (Committed stamp (j ∷ joins) done) h = cc
-none_done None (Forgotten stamp joins) h = refl
-none_done None (Ended c) h = refl
-
 pub quiet_votes : (m : Alone) → IsQuiet m → CountsVotes (alone m)
-quiet_votes m q t = no_votes (m.holder.lives t) (m.fates t) (q.settled.paired t)
+quiet_votes m q t = q.settled.stands.votes t
 
 pub quiet_forgets : (m : Alone) → IsQuiet m → ForgetsDone (alone m)
-quiet_forgets m q t = none_done (m.holder.lives t) (m.fates t) (q.settled.paired t)
+quiet_forgets m q t = q.settled.stands.forgets t
+
+-- ---- messages
 
 -- where nothing is sent, no message comes before what takes effect
 pub silent_last : (acts : List Act) → flat_map sent_by acts ≡ [] → sends_last acts ≡ true
@@ -69,6 +57,59 @@ silent_last (act.Forgot t ∷ acts) none = silent_last acts none
 silent_last (act.Regained epoch clock ready decided ∷ acts) none = silent_last acts none
 silent_last (act.Stopped ∷ acts) none = silent_last acts none
 silent_last (act.Failed ∷ acts) none = silent_last acts none
+
+-- and none of them is one
+pub none_is_message : (acts : List Act) → flat_map sent_by acts ≡ [] → list_any is_message acts ≡ false
+none_is_message [] none = refl
+none_is_message (act.Sent to m ∷ acts) none = absurd (let wrong : (to, m) ∷ flat_map sent_by acts ≡ [] = none in cc)
+none_is_message (act.Granted t ∷ acts) none = none_is_message acts none
+none_is_message (act.Drawn t ∷ acts) none = none_is_message acts none
+none_is_message (act.Registered t j ∷ acts) none = none_is_message acts none
+none_is_message (act.Readied t j ts ∷ acts) none = none_is_message acts none
+none_is_message (act.Decided stamp parts ∷ acts) none = none_is_message acts none
+none_is_message (act.Applied j stamp ∷ acts) none = none_is_message acts none
+none_is_message (act.Released t ∷ acts) none = none_is_message acts none
+none_is_message (act.Forgot t ∷ acts) none = none_is_message acts none
+none_is_message (act.Regained epoch clock ready decided ∷ acts) none = none_is_message acts none
+none_is_message (act.Stopped ∷ acts) none = none_is_message acts none
+none_is_message (act.Failed ∷ acts) none = none_is_message acts none
+
+-- each goes to the server that it is for
+abbrev pub AreAddressed : List Mail → Type 0
+AreAddressed ms = list_all (λ (m : Mail). is_for m.0 m.1) ms ≡ true
+
+all-addressed : (ms : List Mail) → AreAddressed ms → list_all is_addressed (sent_acts ms) ≡ true
+all-addressed [] h = refl
+all-addressed (m ∷ ms) h =
+    let both = and_parts (is_for m.0 m.1) (list_all (λ (x : Mail). is_for x.0 x.1) ms) h in
+    (λ i. both.0 i && list_all is_addressed (sent_acts ms)) ∙ all-addressed ms both.1
+
+-- the messages come behind what takes effect
+pub sent-last : (acts : List Act) (ms : List Mail) → list_any is_message acts ≡ false → AreAddressed ms → sends_last (acts ++ sent_acts ms) ≡ true
+sent-last [] [] none h = refl
+sent-last [] (m ∷ ms) none h = all-addressed (m ∷ ms) h
+sent-last (a ∷ acts) ms none h =
+    let parts = or_parts (is_message a) (list_any is_message acts) none in
+    ap (λ (b : Bool). cond {A = Bool} b (list_all is_addressed (a ∷ (acts ++ sent_acts ms))) (sends_last (acts ++ sent_acts ms))) parts.0 ∙ sent-last acts ms parts.1 h
+
+pub mails-sent : (ms : List Mail) → flat_map sent_by (sent_acts ms) ≡ ms
+mails-sent [] = refl
+mails-sent (m ∷ ms) = ap (λ (xs : List Mail). m ∷ xs) (mails-sent ms)
+
+-- just what is due is sent, behind all else
+pub record IsMail (due : List Mail) (acts : List Act) : Type 0 where
+  pub last : sends_last acts ≡ true
+  pub all : IsPermutation due (flat_map sent_by acts)
+
+pub no_mail : {due : List Mail} (acts : List Act) → due ≡ [] → flat_map sent_by acts ≡ [] → IsMail due acts
+no_mail {due} acts none silent = record { last = silent_last acts silent; all = subst (λ (ms : List Mail). IsPermutation ms (flat_map sent_by acts)) (sym none) (subst (IsPermutation []) (sym silent) (IsPermutation-refl [])) }
+
+-- what is sent behind acts that are no messages
+pub mail_behind : (due : List Mail) (acts : List Act) (ms : List Mail) → flat_map sent_by acts ≡ [] → AreAddressed ms → IsPermutation due ms → IsMail due (acts ++ sent_acts ms)
+mail_behind due acts ms silent to all = record {
+  last = sent-last acts ms (none_is_message acts silent) to;
+  all = subst (IsPermutation due) (sym (flat-append sent_by acts (sent_acts ms) ∙ ap (λ (xs : List Mail). xs ++ flat_map sent_by (sent_acts ms)) silent ∙ mails-sent ms)) all;
+}
 
 -- ---- a new call of a session
 
@@ -133,7 +174,7 @@ module _ (a : Alone) (client number : ℕ) (w : Session) where
     pub regained : list_any regained_by acts ≡ false
     pub quiet : IsQuiet m
     pub answer : IsAnswer failed (alone a) client c r
-    pub mail : (on_call (alone a) client c r ≡ []) × (flat_map sent_by acts ≡ [])
+    pub mail : IsMail (on_call (alone a) client c r) acts
     pub turns : GivesOn (alone a) (call_entry c r acts)
     pub grants : GrantsFor failed (alone a) client c r (flat_map granted_by acts) (file_trans c)
 
@@ -160,10 +201,10 @@ module _ (a : Alone) (client number : ℕ) (w : Session) where
           drawn = o.drawn ∙ ap (λ (b : Bool). cond {A = List TransId} b (begun_in (Some r)) []) (sym new);
           sessions = o.greets e (calls_on c r acts there turn);
           deeds = subst (Along state_deed (IsLawfulDeed ev) s) (sym done) o.deeds;
-          agree = subst (λ (x : State). DoLivesAgree x.holder.lives) (sym leaves) o.quiet.settled.agree;
+          agree = subst (λ (x : State). DoLivesAgree x.holder.lives) (sym leaves) o.quiet.settled.stands.agree;
           released = subst (λ (b : Bool). Where b (Unit {0}) (ReleasesEnded s e × WaitsInTurn (next s e))) (sym o.up)
               ((o.released ∙ ap (flat_map (ended_by s)) (sym done), o.granted ∙ ap (flat_map grants_of) (sym done)), subst WaitsInTurn (sym leaves) o.quiet.turns);
-          sent = silent_last acts o.mail.1;
+          sent = o.mail.last;
           said = subst (λ (x : State). AllByRecursion (SaysRight ev x) acts) (sym leaves) o.said;
           told = subst (λ (x : State). Where (is_new s client a.ids.epoch number) (TellsIn x c r) (Unit {0})) (sym leaves)
               (subst (λ (b : Bool). Where b (TellsIn (alone m) c r) (Unit {0})) (sym new) o.tells);
@@ -173,7 +214,7 @@ module _ (a : Alone) (client number : ℕ) (w : Session) where
         answered = record {
           answered = subst (λ (b : Bool). Where b (Unit {0}) (AnswersCall failed s ev (Some r))) (sym o.up) (subst (λ (b : Bool). Where b (IsAnswer failed s client c r) (Unit {0})) (sym new) o.answer);
           sent = subst (λ (b : Bool). Where b (Unit {0}) (IsPermutation (due failed s (next s e) ev (Some r)) (flat_map sent_by acts))) (sym o.up)
-              (subst (λ (x : List Mail). IsPermutation x (flat_map sent_by acts)) (sym (ap (λ (b : Bool). cond {A = List Mail} b (on_call s client c r) []) new ∙ o.mail.0)) (subst (IsPermutation []) (sym o.mail.1) (IsPermutation-refl [])));
+              (subst (λ (x : List Mail). IsPermutation x (flat_map sent_by acts)) (sym (ap (λ (b : Bool). cond {A = List Mail} b (on_call s client c r) []) new)) o.mail.all);
           ticks = tt;
           applied = subst (λ (b : Bool). Where b (Unit {0}) (Unit {0})) (sym o.up) tt;
           votes = subst (λ (b : Bool). Where b (Unit {0}) (CountsVotes (next s e))) (sym o.up) (subst CountsVotes (sym leaves) (quiet_votes m o.quiet));

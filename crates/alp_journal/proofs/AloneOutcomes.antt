@@ -13,13 +13,12 @@ use Rattle.alp_files.specs.declared.reply.Ended.TheVariants as ending
 use Rattle.alp_files.specs.declared.refusal.Refusal.TheVariants as refusal
 use Rattle.alp_files.specs.declared.refusal.Cause.{Cause}
 use Rattle.alp_journal.specs.Along.{Where}
-use Rattle.alp_journal.specs.Coordinator.{Fate, Undrawn, Running, Finishing, Committed, Forgotten, Ended}
-use Rattle.alp_journal.specs.Holder.{Life}
+use Rattle.alp_journal.specs.Coordinator.{Fate, Undrawn, Running, Finishing, Committed, Forgotten, Ended, is_running}
 use Rattle.alp_journal.specs.Desk.{Session}
 use Rattle.alp_journal.specs.State.{is_trans_drawn}
 use Rattle.alp_journal.specs.Laws.{ending_of}
-use Rattle.alp_journal.specs.Alone.{Alone, alone, IsQuiet, IsPaired, Leads}
-use Rattle.alp_journal.proofs.AloneLemmas.{call_entry, new_call, call_leads}
+use Rattle.alp_journal.specs.Alone.{Alone, alone, IsQuiet, Leads}
+use Rattle.alp_journal.proofs.AloneLemmas.{no_mail, call_entry, new_call, call_leads}
 use Rattle.alp_journal.proofs.AloneEntries.{counted_as, counted_quiet}
 
 module _ (a : Alone) (client number : ℕ) (w : Session) (t : TransId) where
@@ -47,7 +46,7 @@ module _ (a : Alone) (client number : ℕ) (w : Session) (t : TransId) where
         regained = refl;
         quiet = counted_quiet a client number w r q there turn;
         answer = subst (λ (b : Bool). Where b (r ≡ reply.Ended (ending_of (alone a) t (a.fates t))) (r ≡ reply.Refused refusal.UnknownTrans)) (sym strange) refl;
-        mail = (refl, refl);
+        mail = no_mail [] refl refl;
         turns = tt;
         grants = tt;
       })
@@ -87,17 +86,34 @@ module _ (a : Alone) (client number : ℕ) (w : Session) (t : TransId) where
         regained = refl;
         quiet = counted_quiet a client number w r q there turn;
         answer = subst (λ (b : Bool). Where b (r ≡ reply.Ended (ending_of (alone a) t (a.fates t))) (r ≡ reply.Refused refusal.UnknownTrans)) (sym drawn) (ap (λ (y : Ending). reply.Ended y) (sym is));
-        mail = (refl, refl);
+        mail = no_mail [] refl refl;
         turns = tt;
         grants = tt;
       })
 
-  -- it runs while its part lives
-  pub outcome_running_leads : (l : Life) → IsQuiet a → a.is_down ≡ false → a.sessions client ≡ Some w → number ≡ w.last + 1 → is_trans_drawn (alone a) t ≡ true → a.holder.lives t ≡ Some l
+  -- it runs, or is finishing
+  pub outcome_running_leads : IsQuiet a → a.is_down ≡ false → a.sessions client ≡ Some w → number ≡ w.last + 1 → is_trans_drawn (alone a) t ≡ true → is_running (a.fates t) ≡ true
       → Leads false a (call_entry a client number w (call.Outcome t) (reply.Ended ending.Running) []) (counted_as a client number w (reply.Ended ending.Running))
-  outcome_running_leads l q up there turn drawn live =
-      let pair : IsPaired (Some l) (a.fates t) = subst (λ (y : Option Life). IsPaired y (a.fates t)) live (q.settled.paired t) in
-      outcome_leads ending.Running q up there turn drawn (ap (ending_of (alone a) t) pair.0)
+  outcome_running_leads q up there turn drawn runs = outcome_leads ending.Running q up there turn drawn (its (a.fates t) runs)
+    where
+      its : (f : Fate) → is_running f ≡ true → ending_of (alone a) t f ≡ ending.Running
+      its Undrawn h = let wrong : false ≡ true = h in cc
+      its (Running c js) h = refl
+      its (Finishing c js vs) h = refl
+      its (Committed stamp js ds) h = let wrong : false ≡ true = h in cc
+      its (Forgotten stamp js) h = let wrong : false ≡ true = h in cc
+      its (Ended c) h = let wrong : false ≡ true = h in cc
+
+  -- its decision stands for its joins, of this epoch or an older one
+  pub outcome_standing_leads : (stamp : Stamp) (j : JoinNo) (js ds : List JoinNo) → IsQuiet a → a.is_down ≡ false → a.sessions client ≡ Some w → number ≡ w.last + 1 → is_trans_drawn (alone a) t ≡ true → a.fates t ≡ Committed stamp (j ∷ js) ds
+      → Leads false a (call_entry a client number w (call.Outcome t) (reply.Ended (ending.Committed stamp)) []) (counted_as a client number w (reply.Ended (ending.Committed stamp)))
+  outcome_standing_leads stamp j js ds q up there turn drawn is = outcome_leads (ending.Committed stamp) q up there turn drawn (ap (ending_of (alone a) t) is)
+
+  -- it was decided in this epoch, and is forgotten
+  pub outcome_forgotten_leads : (stamp : Stamp) (js : List JoinNo) → IsQuiet a → a.is_down ≡ false → a.sessions client ≡ Some w → number ≡ w.last + 1 → is_trans_drawn (alone a) t ≡ true → t.epoch ≡ a.ids.epoch → a.fates t ≡ Forgotten stamp js
+      → Leads false a (call_entry a client number w (call.Outcome t) (reply.Ended (ending.Committed stamp)) []) (counted_as a client number w (reply.Ended (ending.Committed stamp)))
+  outcome_forgotten_leads stamp js q up there turn drawn now is =
+      outcome_leads (ending.Committed stamp) q up there turn drawn (ap (ending_of (alone a) t) is ∙ ap (λ (b : Bool). cond {A = Ending} b (ending.Committed stamp) ending.Unknown) (eq-eqb t.epoch a.ids.epoch now))
 
   -- it was decided in this epoch
   pub outcome_committed_leads : (stamp : Stamp) (js ds : List JoinNo) → IsQuiet a → a.is_down ≡ false → a.sessions client ≡ Some w → number ≡ w.last + 1 → is_trans_drawn (alone a) t ≡ true → t.epoch ≡ a.ids.epoch
@@ -115,21 +131,26 @@ module _ (a : Alone) (client number : ℕ) (w : Session) (t : TransId) where
   outcome_aborted_leads c q up there turn drawn now is =
       outcome_leads ending.Aborted q up there turn drawn (ap (ending_of (alone a) t) is ∙ ap (λ (b : Bool). cond {A = Ending} b ending.Aborted ending.Unknown) (eq-eqb t.epoch a.ids.epoch now))
 
-  -- of an older epoch nothing is known
-  pub outcome_older_leads : IsQuiet a → a.is_down ≡ false → a.sessions client ≡ Some w → number ≡ w.last + 1 → is_trans_drawn (alone a) t ≡ true → t.epoch < a.ids.epoch → a.holder.lives t ≡ None
+  -- of an older epoch nothing is known, unless its decision stands
+  abbrev pub IsPast : Fate → Type 0
+  IsPast (Committed stamp js ds) = js ≡ []
+  IsPast (Running c js) = ⊥
+  IsPast (Finishing c js vs) = ⊥
+  IsPast f = Unit {0}
+
+  pub outcome_older_leads : IsQuiet a → a.is_down ≡ false → a.sessions client ≡ Some w → number ≡ w.last + 1 → is_trans_drawn (alone a) t ≡ true → t.epoch < a.ids.epoch → IsPast (a.fates t)
       → Leads false a (call_entry a client number w (call.Outcome t) (reply.Ended ending.Unknown) []) (counted_as a client number w (reply.Ended ending.Unknown))
-  outcome_older_leads q up there turn drawn older none =
-      outcome_leads ending.Unknown q up there turn drawn (its (a.holder.lives t) (a.fates t) none (q.settled.paired t))
+  outcome_older_leads q up there turn drawn older past =
+      outcome_leads ending.Unknown q up there turn drawn (its (a.fates t) past)
     where
       away : (t.epoch == a.ids.epoch) ≡ false
       away = ne_eqb t.epoch a.ids.epoch (λ same. omega (arith, same, older))
 
-      its : (l : Option Life) (f : Fate) → l ≡ None → IsPaired l f → ending_of (alone a) t f ≡ ending.Unknown
-      its (Some l) f is h = let wrong : Some l ≡ None = is in cc
-      its None Undrawn is h = refl
-      its None (Running c js) is h = absurd h
-      its None (Finishing c js vs) is h = absurd h
-      its None (Committed stamp js ds) is h =
+      its : (f : Fate) → IsPast f → ending_of (alone a) t f ≡ ending.Unknown
+      its Undrawn h = refl
+      its (Running c js) h = absurd h
+      its (Finishing c js vs) h = absurd h
+      its (Committed stamp js ds) h =
           ap (λ (ks : List JoinNo). ending_of (alone a) t (Committed stamp ks ds)) h ∙ ap (λ (b : Bool). cond {A = Ending} b (ending.Committed stamp) ending.Unknown) away
-      its None (Forgotten stamp js) is h = absurd h
-      its None (Ended c) is h = ap (λ (b : Bool). cond {A = Ending} b ending.Aborted ending.Unknown) away
+      its (Forgotten stamp js) h = ap (λ (b : Bool). cond {A = Ending} b (ending.Committed stamp) ending.Unknown) away
+      its (Ended c) h = ap (λ (b : Bool). cond {A = Ending} b ending.Aborted ending.Unknown) away

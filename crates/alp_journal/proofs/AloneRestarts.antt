@@ -1,11 +1,13 @@
--- restarts of a server that runs alone: the clock that is found tells whether the commit that it went down in is made
-use Rattle.std.specs.Prelude.{cond, max, Bool, true, false, filter, is_some, nat_le, Option, None, Some}
+-- restarts: what is found tells whether what the server went down in is made, and what voted outlives it
+use Rattle.std.specs.Prelude.{cond, max, Bool, true, false, not, ◌&&◌, ◌||◌, ◌==◌, filter, is_some, nat_le, Option, None, Some}
+use Rattle.std.specs.List.{list_any}
 use Rattle.std.specs.FinMap.Entries.{put}
-use Rattle.std.proofs.lemmas.Bool.{le-leb, lt-leb}
+use Rattle.std.proofs.lemmas.Bool.{le-leb, lt-leb, and_parts, and_from, or_left, or_right, eqb-true}
 use Rattle.std.proofs.lemmas.List.{append-nil}
 use Rattle.std.proofs.lemmas.List.Sorted.{IsPermutation-refl}
-use Rattle.std.proofs.Common.{inl, inr, ◌≡◌, ℕ, ◌+◌, ◌<◌, ◌≤◌, List, [], ◌∷◌, ◌++◌, refl, sym, ◌∙◌, ap, subst, arith, le_refl}
+use Rattle.std.proofs.Common.{inl, inr, ◌≡◌, ℕ, ◌+◌, ◌<◌, ◌≤◌, List, [], ◌∷◌, ◌++◌, refl, sym, ◌∙◌, ap, subst, eq-eqb, arith, le_refl}
 use Rattle.alp_base.specs.declared.key.Resource.{Resource}
+use Rattle.alp_base.specs.declared.ids.JoinNo.{JoinNo}
 use Rattle.alp_base.specs.declared.ids.TransId.{TransId}
 use Rattle.alp_base.specs.declared.ids.Stamp.{Stamp}
 use Rattle.alp_files.specs.Edits.{Edit}
@@ -13,118 +15,190 @@ use Rattle.alp_files.specs.History.{Decided}
 use Rattle.alp_files.proofs.FilesLemmas.{same-some}
 use Rattle.alp_journal.specs.declared.entry.Entry.{Entry}
 use Rattle.alp_journal.specs.Along.{state_after}
-use Rattle.alp_journal.specs.Ids.{same_trans, stamp_cmp}
-use Rattle.alp_journal.specs.Deeds.{Deed, Finishes, Decides, Restarts}
-use Rattle.alp_journal.specs.Coordinator.{Fate, Undrawn, Running, Finishing, Committed, Forgotten, Ended}
+use Rattle.alp_journal.specs.Ids.{same_trans, same_join, has_join, has_stamp, same_stamp, stamp_cmp}
+use Rattle.alp_journal.specs.Deeds.{Deed, Finishes, Hears, Decides, Readies, Applies, Aborts, Acknowledges, Forgets, Restarts}
+use Rattle.alp_journal.specs.Coordinator.{Fate, Vote, Undrawn, Running, Finishing, Committed, Forgotten, Ended, is_running, has_votes, client_of, has_all}
 use Rattle.alp_journal.specs.Coordinator as fate
-use Rattle.alp_journal.specs.Holder.{Holder, Life, holder_after, commits, emptied, if_ready}
+use Rattle.alp_journal.specs.Participant.{Phase, Unseen, Joining, Active, Ready, Applied, Over, live_in, is_ready}
+use Rattle.alp_journal.specs.Participant as phase
+use Rattle.alp_journal.specs.Holder.{Holder, Life, holder_after, commits, emptied, if_ready, with_life}
 use Rattle.alp_journal.specs.Counts.{Locked, kept_locks}
 use Rattle.alp_journal.specs.State.{State, state_deed}
 use Rattle.alp_journal.specs.Moves.{is_effective, resolved, tried, next}
-use Rattle.alp_journal.specs.Laws.{DoLivesAgree, IsFound, is_standing}
-use Rattle.alp_journal.specs.Answered.{CountsVotes, ForgetsDone}
-use Rattle.alp_journal.specs.Alone.{Alone, alone, IsSettled, IsQuiet, IsPaired, IsTriedCommit, Leads}
-use Rattle.alp_journal.specs.Restarts.{restart_entry, restarted_at, restarted, with_decided, restarted_with}
-use Rattle.alp_journal.proofs.IdLemmas.{same_trans-true}
+use Rattle.alp_journal.specs.Laws.{DoLivesAgree, IsFound, IsHolding, is_standing, latest_vote, are_joins_apart, are_stamps_apart}
+use Rattle.alp_journal.specs.Answered.{is_all_done, CountsVotes, ForgetsDone}
+use Rattle.alp_journal.specs.Alone.{Alone, alone, IsJoined, IsPartAs, IsPaired, HasLife, IsKnown, IsFateOf, IsKnownJoin, IsPhaseOf, HasWaits, HasNoCall, Stands, IsSettled, IsQuiet, HasTried, IsTriedCommit, IsTriedDecision, IsTriedVote, IsTriedApplication, IsTriedEnd, IsTriedAbort, Leads}
+use Rattle.alp_journal.specs.Restarts.{restart_entry, restarted_at, restarted, with_decided, restarted_with, with_vote_of, restarted_ready, with_applied, restarted_applied, with_forgotten, restarted_forgotten, with_aborted, restarted_aborted}
+use Rattle.alp_journal.proofs.IdLemmas.{same_trans-true, same_trans-itself, same_join-true, or-true}
+use Rattle.alp_journal.proofs.StandLemmas.{drawn_older, holding_of, join_part_is, own_part_is, pair_of}
 use Rattle.alp_journal.proofs.AloneLemmas.{quiet_votes, quiet_forgets}
 
--- ---- what is left of a part that has not voted, and of its fate
+-- ---- what a restart leaves of a part, a fate and a join
 
--- no part has voted
-abbrev HaveNotVoted : (TransId → Option Life) → Type 0
-HaveNotVoted lives = (t : TransId) (l : Life) → lives t ≡ Some l → l.vote ≡ None
+ready_was : (x : Option Life) (k : Life) → if_ready x ≡ Some k → x ≡ Some k
+ready_was None k is = let wrong : None ≡ Some k = is in cc
+ready_was (Some l) k is = go (is_some l.vote) is
+  where
+    go : (b : Bool) → cond {A = Option Life} b (Some l) None ≡ Some k → Some l ≡ Some k
+    go true e = e
+    go false e = let wrong : None ≡ Some k = e in cc
 
-none_ready : (x : Option Life) → ((l : Life) → x ≡ Some l → l.vote ≡ None) → if_ready x ≡ None
-none_ready None free = refl
-none_ready (Some l) free = ap (λ (v : Option ℕ). cond {A = Option Life} (is_some v) (Some l) None) (free l refl)
+ready_kept : (x : Option Life) (k : Life) (ts : ℕ) → x ≡ Some k → k.vote ≡ Some ts → if_ready x ≡ Some k
+ready_kept x k ts is voted = ap if_ready is ∙ ap (λ (v : Option ℕ). cond {A = Option Life} (is_some v) (Some k) None) voted
 
-none_kept : (x : Option Life) (rs : List Resource) → ((l : Life) → x ≡ Some l → l.vote ≡ None) → kept_locks x rs ≡ []
-none_kept None rs free = refl
-none_kept (Some l) rs free = ap (λ (v : Option ℕ). cond {A = List Resource} (is_some v) rs []) (free l refl)
+over_then : (epoch : ℕ) (f : Fate) → is_running (fate.restarted epoch f) ≡ false
+over_then epoch Undrawn = refl
+over_then epoch (Running c js) = refl
+over_then epoch (Finishing c js vs) = refl
+over_then epoch (Committed stamp js ds) = refl
+over_then epoch (Forgotten stamp js) = refl
+over_then epoch (Ended c) = refl
 
--- a fate that is over before a restart or by it
-abbrev IsSingle : Fate → Type 0
-IsSingle Undrawn = Unit {0}
-IsSingle (Running client js) = Unit {0}
-IsSingle (Finishing client js vs) = Unit {0}
-IsSingle (Committed stamp js ds) = js ≡ []
-IsSingle (Forgotten stamp js) = ⊥
-IsSingle (Ended c) = Unit {0}
+votes_then : (epoch : ℕ) (f : Fate) → has_votes (fate.restarted epoch f) ≡ false
+votes_then epoch Undrawn = refl
+votes_then epoch (Running c js) = refl
+votes_then epoch (Finishing c js vs) = refl
+votes_then epoch (Committed stamp js ds) = refl
+votes_then epoch (Forgotten stamp js) = refl
+votes_then epoch (Ended c) = refl
 
-single_of : (l : Option Life) (f : Fate) → IsPaired l f → IsSingle f
-single_of (Some l) f h = subst IsSingle (sym h.0) tt
-single_of None Undrawn h = tt
-single_of None (Running client js) h = tt
-single_of None (Finishing client js vs) h = tt
-single_of None (Committed stamp js ds) h = h
-single_of None (Forgotten stamp js) h = h
-single_of None (Ended c) h = tt
+done_then : (epoch : ℕ) (f : Fate) → is_all_done (fate.restarted epoch f) ≡ false
+done_then epoch Undrawn = refl
+done_then epoch (Running c js) = refl
+done_then epoch (Finishing c js vs) = refl
+done_then epoch (Committed stamp [] ds) = refl
+done_then epoch (Committed stamp (j ∷ js) ds) = refl
+done_then epoch (Forgotten stamp js) = refl
+done_then epoch (Ended c) = refl
 
-single_paired : (epoch : ℕ) (f : Fate) → IsSingle f → IsPaired None (fate.restarted epoch f)
-single_paired epoch Undrawn h = tt
-single_paired epoch (Running client js) h = tt
-single_paired epoch (Finishing client js vs) h = tt
-single_paired epoch (Committed stamp js ds) h = h
-single_paired epoch (Forgotten stamp js) h = h
-single_paired epoch (Ended c) h = tt
+known_then : (server epoch count : ℕ) (begun : List TransId) (t : TransId) → IsKnown server epoch count begun t → IsKnown server (epoch + 1) 0 begun t
+known_then server epoch count begun t h = (drawn_older server epoch count t.server t.epoch t.counter h.0, h.1)
 
-none_standing : (x : Stamp) (f : Fate) → IsSingle f → false ≡ is_standing x f
-none_standing x Undrawn h = refl
-none_standing x (Running client js) h = refl
-none_standing x (Finishing client js vs) h = refl
-none_standing x (Committed stamp [] ds) h = refl
-none_standing x (Committed stamp (j ∷ js) ds) h = cc
-none_standing x (Forgotten stamp js) h = refl
-none_standing x (Ended c) h = refl
+fate_then : (servers server epoch count now : ℕ) (begun : List TransId) (t : TransId) (f : Fate) → IsFateOf servers server epoch count begun t f → IsFateOf servers server (epoch + 1) 0 begun t (fate.restarted now f)
+fate_then servers server epoch count now begun t Undrawn h = h
+fate_then servers server epoch count now begun t (Running c js) h = known_then server epoch count begun t h.0
+fate_then servers server epoch count now begun t (Finishing c js vs) h = known_then server epoch count begun t h.0
+fate_then servers server epoch count now begun t (Committed stamp js ds) h = (known_then server epoch count begun t h.0, h.1)
+fate_then servers server epoch count now begun t (Forgotten stamp js) h = (known_then server epoch count begun t h.0, h.1)
+fate_then servers server epoch count now begun t (Ended c) h = known_then server epoch count begun t h
 
--- what its client was finishing is lost as what ran
-finishing_single : (f : Fate) → IsSingle f → IsSingle (fate.finishing f)
-finishing_single (Running client js) h = tt
-finishing_single f h = h
+join_then : (server epoch count : ℕ) (joined : List JoinNo) (j : JoinNo) → IsKnownJoin server epoch count joined j → IsKnownJoin server (epoch + 1) 0 joined j
+join_then server epoch count joined j h = (drawn_older server epoch count j.server j.epoch j.counter h.0, h.1)
 
-finishing_lost : (epoch : ℕ) (f : Fate) → fate.restarted epoch (fate.finishing f) ≡ fate.restarted epoch f
-finishing_lost epoch (Running client js) = refl
-finishing_lost epoch f = refl
+phase_then : (servers server epoch count : ℕ) (joined : List JoinNo) (j : JoinNo) (p : Phase) → IsPhaseOf servers server epoch count joined j p → IsPhaseOf servers server (epoch + 1) 0 joined j (phase.restarted p)
+phase_then servers server epoch count joined j Unseen h = h
+phase_then servers server epoch count joined j (Joining t c who) h = join_then server epoch count joined j h.0
+phase_then servers server epoch count joined j (Active t c who) h = join_then server epoch count joined j h.0
+phase_then servers server epoch count joined j (Ready t c ts) h = (join_then server epoch count joined j h.0, h.1)
+phase_then servers server epoch count joined j (Applied t stamp) h = join_then server epoch count joined j h
+phase_then servers server epoch count joined j Over h = join_then server epoch count joined j h
 
-if_moved : (P : Fate → Type 0) (b : Bool) (f g : Fate) → P f → P g → P (cond {A = Fate} b f g)
-if_moved P true f g h k = h
-if_moved P false f g h k = k
+live_then : (p : Phase) (x : TransId × ℕ) → live_in (phase.restarted p) ≡ Some x → live_in p ≡ Some x
+live_then Unseen x is = is
+live_then (Joining t c who) x is = let wrong : None ≡ Some x = is in cc
+live_then (Active t c who) x is = let wrong : None ≡ Some x = is in cc
+live_then (Ready t c ts) x is = is
+live_then (Applied t stamp) x is = is
+live_then Over x is = is
+
+none_wait : (p : Phase) → HasWaits [] (phase.restarted p)
+none_wait Unseen = tt
+none_wait (Joining t c who) = tt
+none_wait (Active t c who) = tt
+none_wait (Ready t c ts) = tt
+none_wait (Applied t stamp) = tt
+none_wait Over = tt
+
+none_call : (t : TransId) (f : Fate) → HasNoCall [] t f
+none_call t Undrawn = tt
+none_call t (Running c js) = tt
+none_call t (Finishing c js vs) = tt
+none_call t (Committed stamp js ds) = tt
+none_call t (Forgotten stamp js) = tt
+none_call t (Ended c) = tt
+
+-- ---- what stands then
+
+module _ (b : Alone) (clock : ℕ) (q : Stands b) where
+  paired_then : (t : TransId) (x : Option Life) → b.holder.lives t ≡ x → IsPaired t b.phases x (b.fates t) → IsPaired t (λ j. phase.restarted (b.phases j)) (if_ready x) (fate.restarted (b.ids.epoch + 1) (b.fates t))
+  paired_then t None live h = over_then (b.ids.epoch + 1) (b.fates t)
+  paired_then t (Some l) live h = by l.vote refl
+    where
+      part : (ts : ℕ) → l.vote ≡ Some ts → (x : Option JoinNo) → IsPartAs t b.phases l (b.fates t) x → IsPartAs t (λ j. phase.restarted (b.phases j)) l (fate.restarted (b.ids.epoch + 1) (b.fates t)) x
+      part ts voted None h = let wrong : None ≡ Some ts = sym h.1 ∙ voted in cc
+      part ts voted (Some j) h = (elim h.0 [
+        | inl x ↦ absurd (let wrong : None ≡ Some ts = sym x.1 ∙ voted in cc)
+        | inr x ↦ inr (x.0, ap phase.restarted x.1, x.2)
+      ], over_then (b.ids.epoch + 1) (b.fates t))
+
+      by : (v : Option ℕ) → l.vote ≡ v → IsPaired t (λ j. phase.restarted (b.phases j)) (cond {A = Option Life} (is_some l.vote) (Some l) None) (fate.restarted (b.ids.epoch + 1) (b.fates t))
+      by None e = subst (λ (v : Option ℕ). IsPaired t (λ j. phase.restarted (b.phases j)) (cond {A = Option Life} (is_some v) (Some l) None) (fate.restarted (b.ids.epoch + 1) (b.fates t))) (sym e) (over_then (b.ids.epoch + 1) (b.fates t))
+      by (Some ts) e = subst (λ (v : Option ℕ). IsPaired t (λ j. phase.restarted (b.phases j)) (cond {A = Option Life} (is_some v) (Some l) None) (fate.restarted (b.ids.epoch + 1) (b.fates t))) (sym e) (part ts e l.join h)
+
+  held_then : (j : JoinNo) (p : Phase) → b.phases j ≡ p → HasLife b.holder.lives j p → HasLife (λ t. if_ready (b.holder.lives t)) j (phase.restarted p)
+  held_then j Unseen is h = tt
+  held_then j (Joining t c who) is h = tt
+  held_then j (Active t c who) is h = tt
+  held_then j (Ready t c ts) is h =
+      let pair = join_part_is t b.phases h.0 (b.fates t) j h.2 (pair_of b q t h.0 h.1) in
+      elim pair.0 [
+        | inl x ↦ absurd (let wrong : Ready t c ts ≡ Active t h.0.client h.0.who = sym is ∙ x.0 in cc)
+        | inr x ↦ (h.0, ready_kept (b.holder.lives t) h.0 x.0 h.1 x.2, h.2)
+      ]
+  held_then j (Applied t stamp) is h = tt
+  held_then j Over is h = tt
+
+  pub restarted_stands : Stands (restarted_at b clock)
+  restarted_stands = record {
+    agree = λ t u k l at to away. q.agree t u k l (ready_was (b.holder.lives t) k at) (ready_was (b.holder.lives u) l to) away;
+    paired = λ t. paired_then t (b.holder.lives t) refl (q.paired t);
+    held = λ j. held_then j (b.phases j) refl (q.held j);
+    votes = λ t. votes_then (b.ids.epoch + 1) (b.fates t);
+    forgets = λ t. done_then (b.ids.epoch + 1) (b.fates t);
+    fates = λ t. fate_then b.servers b.holder.server b.ids.epoch b.ids.transactions (b.ids.epoch + 1) b.begun t (b.fates t) (q.fates t);
+    begun = q.begun;
+    phases = λ j. phase_then b.servers b.holder.server b.ids.epoch b.ids.joins b.joined j (b.phases j) (q.phases j);
+    joined = q.joined;
+    single = λ j k x first second. q.single j k x (live_then (b.phases j) x first) (live_then (b.phases k) x second);
+    order = le_refl clock;
+  }
+
+  -- nobody waits, and nobody is to be told
+  pub restarted_quiet : IsQuiet (restarted_at b clock)
+  restarted_quiet = record {
+    settled = record {
+      stands = restarted_stands;
+      tells = record {
+        ended = λ client t c is. (let wrong : None ≡ Some c = is in cc);
+        parts = tt;
+        others = tt;
+        came = tt;
+        apart = tt;
+        joining = λ j. none_wait (b.phases j);
+        finishing = λ t. none_call t (fate.restarted (b.ids.epoch + 1) (b.fates t));
+      };
+    };
+    turns = tt;
+    tried = HasTried.nothing refl;
+  }
 
 -- ---- the entry
 
--- it is quiet where no decision has joins
-restarted_quiet : (a : Alone) (clock : ℕ) → ((t : TransId) → IsSingle (a.fates t)) → IsQuiet (restarted_at a clock)
-restarted_quiet a clock single = record {
-  settled = record {
-    agree = λ t u k l at to away. (let wrong : None ≡ Some k = at in cc);
-    paired = λ t. single_paired (a.ids.epoch + 1) (a.fates t) (single t);
-    ended = λ client t c is. (let wrong : None ≡ Some c = is in cc);
-    parts = tt;
-    came = tt;
-    apart = tt;
-    order = le_refl clock;
-  };
-  turns = tt;
-  tried = inl refl;
-}
+-- what the notes keep, where this stands: the joins that have voted, and the decisions with joins that are not forgotten
+pub record IsNoted (b : Alone) (ready : List JoinNo) (stamps : List Stamp) : Type 0 where
+  pub once : (are_joins_apart ready && are_stamps_apart stamps) ≡ true
+  pub ready : (j : JoinNo) → has_join j ready ≡ is_ready (b.phases j)
+  pub decided : (x : Stamp) → has_stamp x stamps ≡ is_standing x (b.fates x.trans)
 
-module _ (a : Alone) where
-  single_fates : IsSettled a → (t : TransId) → IsSingle (a.fates t)
-  single_fates q t = single_of (a.holder.lives t) (a.fates t) (q.paired t)
-
-  not_voted : IsSettled a → HaveNotVoted a.holder.lives
-  not_voted q t l live =
-      let pair : IsPaired (Some l) (a.fates t) = subst (λ (x : Option Life). IsPaired x (a.fates t)) live (q.paired t) in
-      pair.1
-
+module _ (a : Alone) (ready : List JoinNo) (stamps : List Stamp) where
   -- of what was tried it finds these deeds made
-  restart_so : (clock : ℕ) (ds : List Deed) (m : Alone) → resolved (alone a) [] clock [] ≡ ds → IsFound (state_after state_deed (alone a) ds) clock [] []
-      → record (state_after state_deed (alone a) ((ds ++ Restarts (a.ids.epoch + 1) clock ∷ []) ++ [])) { is_down = false; pending = [] } ≡ alone m → IsQuiet m → Leads false a (restart_entry a clock) m
+  restart_so : (clock : ℕ) (ds : List Deed) (m : Alone) → resolved (alone a) ready clock stamps ≡ ds → IsFound (state_after state_deed (alone a) ds) clock ready stamps
+      → record (state_after state_deed (alone a) ((ds ++ Restarts (a.ids.epoch + 1) clock ∷ []) ++ [])) { is_down = false; pending = [] } ≡ alone m → IsQuiet m → Leads false a (restart_entry a clock ready stamps) m
   restart_so clock ds m made found left quiet =
       let s : State = alone a in
-      let e : Entry = restart_entry a clock in
+      let e : Entry = restart_entry a clock ready stamps in
       let done : tried s e ≡ (ds ++ Restarts (a.ids.epoch + 1) clock ∷ []) ++ [] =
-      append-nil ((resolved s [] clock [] ++ Restarts (a.ids.epoch + 1) clock ∷ []) ++ []) ∙ ap (λ (xs : List Deed). (xs ++ Restarts (a.ids.epoch + 1) clock ∷ []) ++ []) made in
+      append-nil ((resolved s ready clock stamps ++ Restarts (a.ids.epoch + 1) clock ∷ []) ++ []) ∙ ap (λ (xs : List Deed). (xs ++ Restarts (a.ids.epoch + 1) clock ∷ []) ++ []) made in
       let leaves : next s e ≡ alone m = ap (λ (xs : List Deed). record (state_after state_deed s xs) { is_down = false; pending = [] }) done ∙ left in
       record {
         leaves = leaves;
@@ -132,12 +206,12 @@ module _ (a : Alone) where
           drawn = refl;
           sessions = refl;
           deeds = tt;
-          agree = subst (λ (x : State). DoLivesAgree x.holder.lives) (sym leaves) quiet.settled.agree;
+          agree = subst (λ (x : State). DoLivesAgree x.holder.lives) (sym leaves) quiet.settled.stands.agree;
           released = tt;
           sent = refl;
           said = (tt, tt);
           told = tt;
-          restart = ((refl, subst (λ (xs : List Deed). IsFound (state_after state_deed s xs) clock [] []) (sym made) found), refl);
+          restart = ((refl, subst (λ (xs : List Deed). IsFound (state_after state_deed s xs) clock ready stamps) (sym made) found), refl);
           stopped = tt;
         };
         answered = record {
@@ -156,147 +230,131 @@ module _ (a : Alone) where
 
   -- ---- nothing is found made
 
-  begun_one : a.begun ++ [] ≡ a.begun
-  begun_one = append-nil a.begun
+  -- none of what was tried counts
+  lost_so : IsQuiet a → IsNoted a ready stamps → resolved (alone a) ready a.holder.kept stamps ≡ [] → Leads false a (restart_entry a a.holder.kept ready stamps) (restarted a)
+  lost_so q notes none = restart_so a.holder.kept [] (restarted a) none (record { clock = refl; once = notes.once; ready = notes.ready; decided = notes.decided })
+      (λ i. alone (record (restarted a) { begun = append-nil a.begun i; joined = append-nil a.joined i })) (restarted_quiet a a.holder.kept q.settled.stands)
 
-  idle_restart : IsQuiet a → a.pending ≡ [] → Leads false a (restart_entry a a.holder.kept) (restarted a)
-  idle_restart q none =
-      restart_so a.holder.kept [] (restarted a) (ap (filter (is_effective [] a.holder.kept [])) none)
-      (record { clock = refl; once = refl; ready = λ j. refl; decided = λ x. none_standing x (a.fates x.trans) (single_fates q.settled x.trans) })
-      (λ i. alone (record (restarted a) {
-        holder = record a.holder { clock = a.holder.kept; kept = a.holder.kept; lives = λ t. none_ready (a.holder.lives t) (not_voted q.settled t) i };
-        locked = λ t. none_kept (a.holder.lives t) (a.locked t) (not_voted q.settled t) i;
-        begun = begun_one i;
-      })) (restarted_quiet a a.holder.kept (single_fates q.settled))
+  -- or just a deed that moves a fate which is lost, or whose joins are to be asked again, as it is
+  lost_after : IsQuiet a → IsNoted a ready stamps → (t : TransId) (d : Deed) (move : Fate → Fate) → state_deed (alone a) d ≡ record (alone a) { fates = λ u. cond {A = Fate} (same_trans t u) (move (a.fates u)) (a.fates u); begun = a.begun ++ []; joined = a.joined ++ [] }
+      → ((f : Fate) → fate.restarted (a.ids.epoch + 1) (move f) ≡ fate.restarted (a.ids.epoch + 1) f) → ((x : Stamp) (f : Fate) → is_standing x (move f) ≡ is_standing x f) → resolved (alone a) ready a.holder.kept stamps ≡ d ∷ []
+      → Leads false a (restart_entry a a.holder.kept ready stamps) (restarted a)
+  lost_after q notes t d move is same stands made = restart_so a.holder.kept (d ∷ []) (restarted a) made
+      (subst (λ (s : State). IsFound s a.holder.kept ready stamps) (sym is) (record {
+        clock = refl;
+        once = notes.once;
+        ready = notes.ready;
+        decided = λ x. notes.decided x ∙ sym (moved x (same_trans t x.trans) (a.fates x.trans));
+      }))
+      (ap (λ (s : State). record (state_after state_deed s (Restarts (a.ids.epoch + 1) a.holder.kept ∷ [])) { is_down = false; pending = [] }) is
+      ∙ (λ i. alone (record (restarted a) { fates = λ u. lost (same_trans t u) (a.fates u) i; begun = (append-nil (a.begun ++ []) ∙ append-nil a.begun) i; joined = (append-nil (a.joined ++ []) ∙ append-nil a.joined) i })))
+      (restarted_quiet a a.holder.kept q.settled.stands)
+    where
+      moved : (x : Stamp) (b : Bool) (f : Fate) → is_standing x (cond {A = Fate} b (move f) f) ≡ is_standing x f
+      moved x true f = stands x f
+      moved x false f = refl
 
-  -- ---- the commit was tried
+      lost : (b : Bool) (f : Fate) → fate.restarted (a.ids.epoch + 1) (cond {A = Fate} b (move f) f) ≡ fate.restarted (a.ids.epoch + 1) f
+      lost true f = same f
+      lost false f = refl
 
-  module _ (c : IsTriedCommit a.holder a.ids.epoch a.is_down a.pending) where
-    abbrev its : TransId
-    its = c.stamp.trans
+  finishing_lost : (f : Fate) → fate.restarted (a.ids.epoch + 1) (fate.finishing f) ≡ fate.restarted (a.ids.epoch + 1) f
+  finishing_lost Undrawn = refl
+  finishing_lost (Running c js) = refl
+  finishing_lost (Finishing c js vs) = refl
+  finishing_lost (Committed stamp js ds) = refl
+  finishing_lost (Forgotten stamp js) = refl
+  finishing_lost (Ended c) = refl
 
-    -- a restart that finds the clock of before finds it not made
-    pub tried_later : IsQuiet a → a.holder.kept < c.stamp.ts
-    tried_later q = let low : a.holder.kept ≤ a.holder.clock = q.settled.order in let time : c.stamp.ts ≡ a.holder.clock + 1 = c.time in omega (arith, low, time)
+  finishing_stands : (x : Stamp) (f : Fate) → is_standing x (fate.finishing f) ≡ is_standing x f
+  finishing_stands x Undrawn = refl
+  finishing_stands x (Running c js) = refl
+  finishing_stands x (Finishing c js vs) = refl
+  finishing_stands x (Committed stamp js ds) = refl
+  finishing_stands x (Forgotten stamp js) = refl
+  finishing_stands x (Ended c) = refl
 
-    pub not_found_before : IsQuiet a → nat_le c.stamp.ts a.holder.kept ≡ false
-    not_found_before q = lt-leb c.stamp.ts a.holder.kept (tried_later q)
+  module _ (j : JoinNo) (ts : ℕ) where
+    heard_lost : (f : Fate) → fate.restarted (a.ids.epoch + 1) (fate.heard j ts f) ≡ fate.restarted (a.ids.epoch + 1) f
+    heard_lost Undrawn = refl
+    heard_lost (Running c js) = refl
+    heard_lost (Finishing c js vs) = refl
+    heard_lost (Committed stamp js ds) = refl
+    heard_lost (Forgotten stamp js) = refl
+    heard_lost (Ended c) = refl
 
-    made_if : (clock : ℕ) (b : Bool) → nat_le c.stamp.ts clock ≡ b → resolved (alone a) [] clock [] ≡ Finishes its ∷ cond {A = List Deed} b (Decides c.stamp [] ∷ []) []
-    made_if clock b is = ap (filter (is_effective [] clock [])) c.tried ∙ ap (λ (d : Bool). Finishes its ∷ cond {A = List Deed} d (Decides c.stamp [] ∷ []) []) is
+    heard_stands : (x : Stamp) (f : Fate) → is_standing x (fate.heard j ts f) ≡ is_standing x f
+    heard_stands x Undrawn = refl
+    heard_stands x (Running c js) = refl
+    heard_stands x (Finishing c js vs) = refl
+    heard_stands x (Committed stamp js ds) = refl
+    heard_stands x (Forgotten stamp js) = refl
+    heard_stands x (Ended c) = refl
 
-    lost_restart : IsQuiet a → Leads false a (restart_entry a a.holder.kept) (restarted a)
-    lost_restart q =
-        restart_so a.holder.kept (Finishes its ∷ []) (restarted a) (made_if a.holder.kept false (not_found_before q))
-        (record {
-          clock = refl;
-          once = refl;
-          ready = λ j. refl;
-          decided = λ x. none_standing x (cond {A = Fate} (same_trans its x.trans) (fate.finishing (a.fates x.trans)) (a.fates x.trans))
-              (if_moved IsSingle (same_trans its x.trans) (fate.finishing (a.fates x.trans)) (a.fates x.trans) (finishing_single (a.fates x.trans) (single_fates q.settled x.trans)) (single_fates q.settled x.trans));
-        })
-        (λ i. alone (record (restarted a) {
-          holder = record a.holder { clock = a.holder.kept; kept = a.holder.kept; lives = λ t. none_ready (a.holder.lives t) (not_voted q.settled t) i };
-          fates = λ t. lost_if (same_trans its t) (a.fates t) i;
-          locked = λ t. none_kept (a.holder.lives t) (a.locked t) (not_voted q.settled t) i;
-          begun = (append-nil (a.begun ++ []) ∙ begun_one) i;
-        })) (restarted_quiet a a.holder.kept (single_fates q.settled))
-      where
-        lost_if : (b : Bool) (f : Fate) → fate.restarted (a.ids.epoch + 1) (cond {A = Fate} b (fate.finishing f) f) ≡ fate.restarted (a.ids.epoch + 1) f
-        lost_if true f = finishing_lost (a.ids.epoch + 1) f
-        lost_if false f = refl
+    done_lost : (f : Fate) → fate.restarted (a.ids.epoch + 1) (fate.acknowledged j f) ≡ fate.restarted (a.ids.epoch + 1) f
+    done_lost Undrawn = refl
+    done_lost (Running c js) = refl
+    done_lost (Finishing c js vs) = refl
+    done_lost (Committed stamp js ds) = refl
+    done_lost (Forgotten stamp js) = refl
+    done_lost (Ended c) = refl
 
-    -- ---- the commit is found made
+    done_stands : (x : Stamp) (f : Fate) → is_standing x (fate.acknowledged j f) ≡ is_standing x f
+    done_stands x Undrawn = refl
+    done_stands x (Running c js) = refl
+    done_stands x (Finishing c js vs) = refl
+    done_stands x (Committed stamp [] ds) = refl
+    done_stands x (Committed stamp (k ∷ js) ds) = refl
+    done_stands x (Forgotten stamp js) = refl
+    done_stands x (Ended c) = refl
 
-    abbrev old : Holder
-    old = a.holder
+  -- a time after the clock is not found where the clock of before is
+  not_before : IsQuiet a → (n : ℕ) → a.holder.clock < n → nat_le n a.holder.kept ≡ false
+  not_before q n later = lt-leb n a.holder.kept (let low : a.holder.kept ≤ a.holder.clock = q.settled.stands.order in omega (arith, low, later))
 
-    committed_holder : old.lives its ≡ Some c.life → c.life.is_early ≡ false → holder_after (commits old c.stamp (old.lives its)) (Restarts (a.ids.epoch + 1) c.stamp.ts)
-        ≡ record (restarted_with a c.stamp c.life).holder { lives = λ t. if_ready (cond {A = Option Life} (same_trans t its) (Some (emptied c.life)) (old.lives t)) }
-    committed_holder live own =
-        ap (λ (x : Option Life). holder_after (commits old c.stamp x) (Restarts (a.ids.epoch + 1) c.stamp.ts)) live
-        ∙ ap (λ (b : Bool). record (restarted_with a c.stamp c.life).holder {
-          applied = cond {A = List (Stamp × Decided)} b old.applied (put stamp_cmp c.stamp (record { stamp = c.stamp; who = c.life.who; calls = c.life.calls }) old.applied);
-          left = cond {A = List (Stamp × List Edit)} b old.left (put stamp_cmp c.stamp c.life.edits old.left);
-          lives = λ t. if_ready (cond {A = Option Life} (same_trans t its) (Some (emptied c.life)) (old.lives t));
-        }) own
+  -- a decision that stands is found among those
+  found_trans : (xs : List Stamp) (x : Stamp) (t : TransId) → x.trans ≡ t → has_stamp x xs ≡ true → list_any (λ (y : Stamp). same_trans y.trans t) xs ≡ true
+  found_trans [] x t of h = let wrong : false ≡ true = h in cc
+  found_trans (y ∷ ys) x t of h = elim (or-true (same_stamp y x) (has_stamp x ys) h) [
+    | inl same ↦ or_left (same_trans y.trans t) (list_any (λ (z : Stamp). same_trans z.trans t) ys) (ap (same_trans y.trans) (sym of) ∙ (and_parts (y.ts == x.ts) (same_trans y.trans x.trans) same).1)
+    | inr more ↦ or_right (same_trans y.trans t) (list_any (λ (z : Stamp). same_trans z.trans t) ys) (found_trans ys x t of more)
+  ]
 
-    -- what lives on has not voted
-    emptied_not_voted : IsSettled a → HaveNotVoted (λ t. cond {A = Option Life} (same_trans t its) (Some (emptied c.life)) (old.lives t))
-    emptied_not_voted q t l is = go (same_trans t its) is
-      where
-        go : (b : Bool) → cond {A = Option Life} b (Some (emptied c.life)) (old.lives t) ≡ Some l → l.vote ≡ None
-        go true e = ap (λ (x : Life). x.vote) (sym (same-some (emptied c.life) l e))
-        go false e = not_voted q t l e
+  -- where the clock of before is found, and all that was noted before, nothing was made of what was tried
+  pub restart_leads : IsQuiet a → IsNoted a ready stamps → Leads false a (restart_entry a a.holder.kept ready stamps) (restarted a)
+  restart_leads q notes = go q.tried
+    where
+      -- what is tried, as far as it counts
+      counts : (d : Deed) (e : Deed) → a.pending ≡ d ∷ e ∷ [] → is_effective ready a.holder.kept stamps d ≡ true → is_effective ready a.holder.kept stamps e ≡ false → resolved (alone a) ready a.holder.kept stamps ≡ d ∷ []
+      counts d e is first second =
+          ap (filter (is_effective ready a.holder.kept stamps)) is
+          ∙ (λ i. cond {A = List Deed} (first i) (d ∷ cond {A = List Deed} (second i) (e ∷ []) []) (cond {A = List Deed} (second i) (e ∷ []) []))
 
-    committed_locked : old.lives its ≡ Some c.life → ◌≡◌ {A = Locked} (λ t. kept_locks ((commits old c.stamp (old.lives its)).lives t) (a.locked t))
-        (λ t. kept_locks (cond {A = Option Life} (same_trans t its) (Some (emptied c.life)) (old.lives t)) (a.locked t))
-    committed_locked live = ap (λ (x : Option Life). λ t. kept_locks ((commits old c.stamp x).lives t) (a.locked t)) live
+      counts_none : (d : Deed) → a.pending ≡ d ∷ [] → is_effective ready a.holder.kept stamps d ≡ false → resolved (alone a) ready a.holder.kept stamps ≡ []
+      counts_none d is none = ap (filter (is_effective ready a.holder.kept stamps)) is ∙ ap (λ (b : Bool). cond {A = List Deed} b (d ∷ []) []) none
 
-    its_pair : IsSettled a → IsPaired (Some c.life) (a.fates its)
-    its_pair q = subst (λ (x : Option Life). IsPaired x (a.fates its)) c.live (q.paired its)
+      later_vote : (n : ℕ) (vs : List Vote) → n ≤ latest_vote n vs
+      later_vote n [] = le_refl n
+      later_vote n (v ∷ vs) = (let more : max n v.1 ≤ latest_vote (max n v.1) vs = later_vote (max n v.1) vs in omega (arith, more))
 
-    -- its fate is that of a decision, and the others are as they were
-    decided_fate : IsSettled a → (t : TransId) → fate.fate_after (Decides c.stamp []) t (fate.fate_after (Finishes its) t (a.fates t)) ≡ (with_decided a c.stamp c.life).fates t
-    decided_fate q t = go (same_trans its t) refl
-      where
-        go : (b : Bool) → same_trans its t ≡ b
-            → cond {A = Fate} b (fate.decided c.stamp [] (cond {A = Fate} b (fate.finishing (a.fates t)) (a.fates t))) (cond {A = Fate} b (fate.finishing (a.fates t)) (a.fates t)) ≡ cond {A = Fate} b (Committed c.stamp [] []) (a.fates t)
-        go true e = ap (λ (f : Fate). fate.decided c.stamp [] (fate.finishing f)) (ap a.fates (sym (same_trans-true its t e)) ∙ (its_pair q).0)
-        go false e = refl
+      standing : (stamp : Stamp) (joins done : List JoinNo) (j : JoinNo) → has_join j joins ≡ true → is_standing stamp (Committed stamp joins done) ≡ true
+      standing stamp [] done j h = let wrong : false ≡ true = h in cc
+      standing stamp (k ∷ joins) done j h = and_from (stamp.ts == stamp.ts) (same_trans stamp.trans stamp.trans) (eq-eqb stamp.ts stamp.ts refl) (same_trans-itself stamp.trans)
 
-    decided_single : IsSettled a → (t : TransId) → IsSingle ((with_decided a c.stamp c.life).fates t)
-    decided_single q t = if_moved IsSingle (same_trans its t) (Committed c.stamp [] []) (a.fates t) refl (single_fates q t)
+      own_stamp : (c : IsTriedEnd a) → c.stamp.trans ≡ c.trans
+      own_stamp c = (subst (IsFateOf a.servers a.holder.server a.ids.epoch a.ids.transactions a.begun c.trans) c.committed (q.settled.stands.fates c.trans)).1
 
-    commit_kept : c.stamp.ts ≡ (commits old c.stamp (old.lives its)).kept
-    commit_kept = (let time : c.stamp.ts ≡ old.clock + 1 = c.time in let late : c.stamp.ts ≡ max old.clock c.stamp.ts = omega (arith, time) in late) ∙ ap (λ (x : Option Life). (commits old c.stamp x).kept) (sym c.live)
-
-    pub made_restart : IsQuiet a → Leads false a (restart_entry a c.stamp.ts) (restarted_with a c.stamp c.life)
-    made_restart q =
-        let s : State = alone a in
-        let m : Alone = restarted_with a c.stamp c.life in
-        restart_so c.stamp.ts (Finishes its ∷ Decides c.stamp [] ∷ []) m (made_if c.stamp.ts true (le-leb c.stamp.ts c.stamp.ts (le_refl c.stamp.ts)))
-        (record {
-          clock = commit_kept;
-          once = refl;
-          ready = λ j. refl;
-          decided = λ x. none_standing x ((with_decided a c.stamp c.life).fates x.trans) (decided_single q.settled x.trans) ∙ ap (is_standing x) (sym (decided_fate q.settled x.trans));
-        })
-        ((λ i. alone (record m {
-          holder = committed_holder c.live (its_pair q.settled).3 i;
-          fates = λ t. fate.restarted (a.ids.epoch + 1) (decided_fate q.settled t i);
-          locked = committed_locked c.live i;
-          begun = (append-nil ((a.begun ++ []) ++ []) ∙ append-nil (a.begun ++ []) ∙ begun_one) i;
-        }))
-        ∙ (λ i. alone (record m {
-          holder = record m.holder { lives = λ t. none_ready (cond {A = Option Life} (same_trans t its) (Some (emptied c.life)) (old.lives t)) (emptied_not_voted q.settled t) i };
-          locked = λ t. none_kept (cond {A = Option Life} (same_trans t its) (Some (emptied c.life)) (old.lives t)) (a.locked t) (emptied_not_voted q.settled t) i;
-        }))) (restarted_quiet (with_decided a c.stamp c.life) c.stamp.ts (decided_single q.settled))
-
--- ---- each quiet state
-
--- where the clock of before is found, nothing was made of what was tried
-pub restart_leads : (a : Alone) → IsQuiet a → Leads false a (restart_entry a a.holder.kept) (restarted a)
-restart_leads a q = elim q.tried [
-  | inl none ↦ idle_restart a q none
-  | inr c ↦ lost_restart a c q
-]
-
--- where the time of the commit is found, it was made
-pub restart_made_leads : (a : Alone) (c : IsTriedCommit a.holder a.ids.epoch a.is_down a.pending) → IsQuiet a → Leads false a (restart_entry a c.stamp.ts) (restarted_with a c.stamp c.life)
-restart_made_leads a c q = made_restart a c q
-
--- ---- what the vault holds with all that was tried
-
-pub none_then : (a : Alone) → a.pending ≡ [] → state_after holder_after a.holder a.pending ≡ a.holder
-none_then a none = ap (state_after holder_after a.holder) none
-
-pub made_then : (a : Alone) (c : IsTriedCommit a.holder a.ids.epoch a.is_down a.pending) → state_after holder_after a.holder a.pending ≡ commits a.holder c.stamp (Some c.life)
-made_then a c = ap (state_after holder_after a.holder) c.tried ∙ ap (commits a.holder c.stamp) c.live
-
--- the cells and the clock are those that a restart leaves which finds it made
-pub cells_then : (a : Alone) (c : IsTriedCommit a.holder a.ids.epoch a.is_down a.pending) → (state_after holder_after a.holder a.pending).cells ≡ (restarted_with a c.stamp c.life).holder.cells
-cells_then a c = ap (λ (h : Holder). h.cells) (made_then a c)
-
-pub kept_then : (a : Alone) (c : IsTriedCommit a.holder a.ids.epoch a.is_down a.pending) → (state_after holder_after a.holder a.pending).kept ≡ (restarted_with a c.stamp c.life).holder.kept
-kept_then a c = ap (λ (h : Holder). h.kept) (made_then a c) ∙ (let time : c.stamp.ts ≡ a.holder.clock + 1 = c.time in let late : max a.holder.clock c.stamp.ts ≡ c.stamp.ts = omega (arith, time) in late)
+      go : HasTried a → Leads false a (restart_entry a a.holder.kept ready stamps) (restarted a)
+      go (HasTried.nothing none) = lost_so q notes (ap (filter (is_effective ready a.holder.kept stamps)) none)
+      go (HasTried.commit c) = lost_after q notes c.stamp.trans (Finishes c.stamp.trans) fate.finishing refl finishing_lost finishing_stands
+          (counts (Finishes c.stamp.trans) (Decides c.stamp []) c.tried refl (not_before q c.stamp.ts (let time : c.stamp.ts ≡ a.holder.clock + 1 = c.time in omega (arith, time))))
+      go (HasTried.decision c) = lost_after q notes c.stamp.trans (Hears c.stamp.trans c.join c.ts) (fate.heard c.join c.ts) refl (heard_lost c.join c.ts) (heard_stands c.join c.ts)
+          (counts (Hears c.stamp.trans c.join c.ts) (Decides c.stamp c.joins) c.tried refl
+          (not_before q c.stamp.ts (let time : c.stamp.ts ≡ latest_vote (a.holder.clock + 1) (fate.with_vote c.join c.ts c.votes) = c.time in let more : a.holder.clock + 1 ≤ latest_vote (a.holder.clock + 1) (fate.with_vote c.join c.ts c.votes) = later_vote (a.holder.clock + 1) (fate.with_vote c.join c.ts c.votes) in omega (arith, time, more))))
+      go (HasTried.vote c) = lost_so q notes (counts_none (Readies c.join c.trans (a.holder.clock + 1)) c.tried (notes.ready c.join ∙ ap is_ready c.active))
+      go (HasTried.application c) = lost_so q notes (counts_none (Applies c.join c.stamp) c.tried (ap not (notes.ready c.join ∙ ap is_ready c.ready)))
+      go (HasTried.end c) = lost_after q notes c.trans (Acknowledges c.trans c.join) (fate.acknowledged c.join) refl (done_lost c.join 0) (done_stands c.join 0)
+          (counts (Acknowledges c.trans c.join) (Forgets c.trans) c.tried refl
+          (ap not (found_trans stamps c.stamp c.trans (own_stamp c)
+          (notes.decided c.stamp ∙ ap (λ (t : TransId). is_standing c.stamp (a.fates t)) (own_stamp c) ∙ ap (is_standing c.stamp) c.committed ∙ standing c.stamp c.joins c.done c.join c.its))))
+      go (HasTried.abort c) = lost_so q notes (counts_none (Aborts c.join c.trans c.client c.cause) c.tried (ap not (notes.ready c.join ∙ ap is_ready c.ready)))

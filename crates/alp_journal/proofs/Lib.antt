@@ -2,7 +2,11 @@ pub mod IdLemmas
 pub mod StampLemmas
 pub mod WaitLemmas
 pub mod TurnLemmas
+pub mod StandLemmas
+pub mod PartLemmas
 pub mod QuietLemmas
+pub mod MoveLemmas
+pub mod DeskLemmas
 pub mod GivenLemmas
 pub mod AloneLemmas
 pub mod AloneEntries
@@ -12,7 +16,11 @@ pub mod AloneRefusals
 pub mod AloneWaits
 pub mod AloneCollects
 pub mod LetGoLemmas
+pub mod ArrivalLemmas
 pub mod AloneEnds
+pub mod FinishSteps
+pub mod JoinEnds
+pub mod DecisionSteps
 pub mod AloneTimeouts
 pub mod AloneCommits
 pub mod AloneHalts
@@ -20,6 +28,8 @@ pub mod AloneRestarts
 pub mod AloneTicks
 pub mod AloneOutcomes
 pub mod AloneJoins
+pub mod JoinSteps
+pub mod RegisterSteps
 pub mod LeftBehind
 pub mod HistoryOrder
 pub mod LifeLemmas
