@@ -96,7 +96,7 @@ module _ (b : Alone) (q : Tells b) (j : JoinNo) (move : Phase → Phase) where
   moved_phases = λ k. cond {A = Phase} (same_join j k) (move (b.phases k)) (b.phases k)
 
   -- who is over has no live join more
-  fewer : live_in (move (b.phases j)) ≡ None → (k : JoinNo) (client : ℕ) (t : TransId) → is_whose client t (live_in (b.phases k)) ≡ false → is_whose client t (live_in (moved_phases k)) ≡ false
+  pub fewer : live_in (move (b.phases j)) ≡ None → (k : JoinNo) (client : ℕ) (t : TransId) → is_whose client t (live_in (b.phases k)) ≡ false → is_whose client t (live_in (moved_phases k)) ≡ false
   fewer over k client t none = go (same_join j k) refl
     where
       go : (d : Bool) → same_join j k ≡ d → is_whose client t (live_in (cond {A = Phase} d (move (b.phases k)) (b.phases k))) ≡ false

@@ -20,6 +20,7 @@ pub mod ArrivalLemmas
 pub mod AloneEnds
 pub mod FinishSteps
 pub mod JoinEnds
+pub mod WorkerSteps
 pub mod DecisionSteps
 pub mod AloneTimeouts
 pub mod AloneCommits
