@@ -28,7 +28,7 @@ use Rattle.alp_journal.specs.Moves.{is_effective, resolved, tried, next}
 use Rattle.alp_journal.specs.Laws.{DoLivesAgree, IsFound, IsHolding, is_standing, latest_vote, are_joins_apart, are_stamps_apart}
 use Rattle.alp_journal.specs.Answered.{is_all_done, CountsVotes, ForgetsDone}
 use Rattle.alp_journal.specs.Alone.{Alone, alone, IsJoined, IsPartAs, IsPaired, HasLife, IsKnown, IsFateOf, IsKnownJoin, IsPhaseOf, HasWaits, HasNoCall, Stands, IsSettled, IsQuiet, HasTried, IsTriedCommit, IsTriedDecision, IsTriedVote, IsTriedApplication, IsTriedEnd, IsTriedAbort, Leads}
-use Rattle.alp_journal.specs.Restarts.{restart_entry, restarted_at, restarted, with_decided, restarted_with, with_vote_of, restarted_ready, with_applied, restarted_applied, with_forgotten, restarted_forgotten, with_aborted, restarted_aborted}
+use Rattle.alp_journal.specs.Restarts.{restart_entry, restarted_at, restarted}
 use Rattle.alp_journal.proofs.IdLemmas.{same_trans-true, same_trans-itself, same_join-true, or-true}
 use Rattle.alp_journal.proofs.StandLemmas.{drawn_older, holding_of, join_part_is, own_part_is, pair_of}
 use Rattle.alp_journal.proofs.AloneLemmas.{quiet_votes, quiet_forgets}
@@ -192,7 +192,7 @@ pub record IsNoted (b : Alone) (ready : List JoinNo) (stamps : List Stamp) : Typ
 
 module _ (a : Alone) (ready : List JoinNo) (stamps : List Stamp) where
   -- of what was tried it finds these deeds made
-  restart_so : (clock : ℕ) (ds : List Deed) (m : Alone) → resolved (alone a) ready clock stamps ≡ ds → IsFound (state_after state_deed (alone a) ds) clock ready stamps
+  pub restart_so : (clock : ℕ) (ds : List Deed) (m : Alone) → resolved (alone a) ready clock stamps ≡ ds → IsFound (state_after state_deed (alone a) ds) clock ready stamps
       → record (state_after state_deed (alone a) ((ds ++ Restarts (a.ids.epoch + 1) clock ∷ []) ++ [])) { is_down = false; pending = [] } ≡ alone m → IsQuiet m → Leads false a (restart_entry a clock ready stamps) m
   restart_so clock ds m made found left quiet =
       let s : State = alone a in

@@ -41,6 +41,7 @@ use Rattle.alp_journal.proofs.LetGoLemmas.{IsGivenOn, GoesOn}
 use Rattle.alp_journal.proofs.ArrivalLemmas.{arrive_entry, arriving, ArriveOwes, arrive_leads, SaysOwes, says_leads, LeavesOwes, leaves_leads, no_release}
 use Rattle.alp_journal.proofs.AloneEnds.{aborts-said, aborts-addressed, part_ended, IsOwn, runs_as, here_as, known_as, now_as, fate_ended, ends_goes, after_goes}
 use Rattle.alp_journal.proofs.RegisterSteps.{quiet_beside}
+use Rattle.alp_journal.proofs.DecideSteps.{others-each}
 
 -- ---- a part has applied a decision
 
@@ -58,7 +59,7 @@ module _ (a : Alone) (from : ℕ) (t : TransId) (j : JoinNo) where
     with_done = record a { fates = λ u. if same_trans t u then fate.acknowledged j (a.fates u) else a.fates u }
 
     -- a decision with joins is not to be forgotten while one of them has not done it
-    undone : (ks es : List JoinNo) → has_join j ks ≡ true → is_all_done (Committed stamp ks es) ≡ has_all es ks
+    pub undone : (ks es : List JoinNo) → has_join j ks ≡ true → is_all_done (Committed stamp ks es) ≡ has_all es ks
     undone [] es its = let wrong : false ≡ true = its in cc
     undone (k ∷ ks) es its = refl
 
@@ -247,9 +248,9 @@ module _ (a : Alone) (from : ℕ) (t : TransId) (j : JoinNo) (w : Why) where
     abbrev pub no_aborts : List Mail
     no_aborts = to_each (λ (k : JoinNo). msg.Abort t k (cause.Voted j.server w)) js
 
-    pub no_leads : IsQuiet a → a.is_down ≡ false → a.fates t ≡ Finishing client js vs → has_join j js ≡ true → a.holder.lives t ≡ Some l → l.join ≡ None → to_others (alone a) no_aborts ≡ no_aborts
+    pub no_leads : IsQuiet a → a.is_down ≡ false → a.fates t ≡ Finishing client js vs → has_join j js ≡ true → a.holder.lives t ≡ Some l → l.join ≡ None
         → (ts : List TransId) → IsWalk with_no.holder (in_turn with_no.holder a.waits) ts → Leads false a (arrive_entry a from (msg.No t j w) ((act.Released t ∷ grant_acts ts) ++ sent_acts no_aborts)) (with_no_given ts)
-    no_leads q up is its live part others ts walk =
+    no_leads q up is its live part ts walk =
         let ev : Event = event.Arrive from (msg.No t j w) in
         let ended : Alone = part_ended a client t l against in
         let own : IsOwn a client t l against = record { settled = q.settled; live = live; part = part; its = its_client q is live part } in
@@ -266,7 +267,7 @@ module _ (a : Alone) (from : ℕ) (t : TransId) (j : JoinNo) (w : Why) where
               (ap (λ (f : TransId → Fate). f t) g.fates ∙ fate_ended a client t l against own) (now_as a client t l against own ∙ ap (λ (i : Ids). i.epoch) (sym g.ids));
           addressed = aborts-addressed t against js;
           mail = subst (λ (ms : List Mail). IsPermutation ms no_aborts)
-              (sym (ap (λ (f : Fate). to_others (alone a) (on_no t j w f)) is ∙ ap (λ (b : Bool). to_others (alone a) (cond {A = List Mail} b no_aborts [])) its ∙ others)) (IsPermutation-refl no_aborts);
+              (sym (ap (λ (f : Fate). to_others (alone a) (on_no t j w f)) is ∙ ap (λ (b : Bool). to_others (alone a) (cond {A = List Mail} b no_aborts [])) its ∙ others-each a (λ (k : JoinNo). msg.Abort t k against) js (subst (IsFateOf a.servers a.holder.server a.ids.epoch a.ids.transactions a.begun t) is (q.settled.stands.fates t)).2.0)) (IsPermutation-refl no_aborts);
           applied = tt;
         })
       where

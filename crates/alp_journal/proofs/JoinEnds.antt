@@ -151,7 +151,7 @@ module _ (a : Alone) (j : JoinNo) (t : TransId) (client : ℕ) (move : Phase →
           go false e = refl
           go true e = absurd (far o (running_here a o.settled.stands t e))
 
-      unheld_then : IsEnding → IsHolding t (a.phases j) → (k : JoinNo) → IsHolding t (then_phases k) → ⊥
+      pub unheld_then : IsEnding → IsHolding t (a.phases j) → (k : JoinNo) → IsHolding t (then_phases k) → ⊥
       unheld_then o h k = moved_each (λ k p. IsHolding t p → ⊥) a.phases j move (λ i away held. other i away held) (o.spent.holds t) k
         where
           other : (i : JoinNo) → same_join j i ≡ false → IsHolding t (a.phases i) → ⊥

@@ -21,11 +21,15 @@ pub mod AloneEnds
 pub mod FinishSteps
 pub mod JoinEnds
 pub mod WorkerSteps
+pub mod VoteSteps
+pub mod DecideSteps
 pub mod DecisionSteps
 pub mod AloneTimeouts
 pub mod AloneCommits
 pub mod AloneHalts
+pub mod HaltSteps
 pub mod AloneRestarts
+pub mod RestartMade
 pub mod AloneTicks
 pub mod AloneOutcomes
 pub mod AloneJoins

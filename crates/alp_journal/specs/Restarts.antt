@@ -9,11 +9,10 @@ use Rattle.alp_journal.specs.declared.act.Act.TheVariants as act
 use Rattle.alp_journal.specs.declared.event.Event.TheVariants as event
 use Rattle.alp_journal.specs.declared.entry.Entry.{Entry}
 use Rattle.alp_journal.specs.Ids.{same_trans, same_join, stamp_cmp}
-use Rattle.alp_journal.specs.Coordinator.{Fate, Committed, Forgotten}
+use Rattle.alp_journal.specs.Coordinator.{Committed, Forgotten}
 use Rattle.alp_journal.specs.Coordinator as fate
-use Rattle.alp_journal.specs.Participant.{Phase, Ready, Applied, Over}
 use Rattle.alp_journal.specs.Participant as phase
-use Rattle.alp_journal.specs.Holder.{Holder, Life, commits, with_life, if_ready}
+use Rattle.alp_journal.specs.Holder.{Life, with_life, in_history, if_ready}
 use Rattle.alp_journal.specs.Counts.{kept_locks}
 use Rattle.alp_journal.specs.Alone.{Alone}
 
@@ -57,40 +56,46 @@ abbrev pub restarted_with : Alone → Stamp → Life → List JoinNo → Alone
 restarted_with a stamp l joins = restarted_at (with_decided a stamp l joins) stamp.ts
 
 -- the part of this join has voted for this time
-abbrev pub with_vote_of : Alone → JoinNo → TransId → (client ts : ℕ) → Life → Alone
-with_vote_of a j t client ts l = record a {
+abbrev pub with_vote_of : Alone → JoinNo → TransId → (ts : ℕ) → Life → Alone
+with_vote_of a j t ts l = record a {
   holder = with_life a.holder t (Some (record l { vote = Some ts }));
-  phases = λ k. if same_join j k then Ready t client ts else a.phases k;
+  phases = λ k. if same_join j k then phase.readied ts (a.phases k) else a.phases k;
 }
 
 -- where its vote is found made
-abbrev pub restarted_ready : Alone → JoinNo → TransId → (client ts : ℕ) → Life → Alone
-restarted_ready a j t client ts l = restarted_at (with_vote_of a j t client ts l) a.holder.kept
+abbrev pub restarted_ready : Alone → JoinNo → TransId → (ts : ℕ) → Life → Alone
+restarted_ready a j t ts l = restarted_at (with_vote_of a j t ts l) a.holder.kept
 
 -- the part of this join is applied at this stamp, and gone
 abbrev pub with_applied : Alone → JoinNo → Stamp → Life → Alone
 with_applied a j stamp l = record a {
-  holder = with_life (commits a.holder stamp (Some l)) stamp.trans None;
-  phases = λ k. if same_join j k then Applied stamp.trans stamp else a.phases k;
+  holder = with_life (record a.holder {
+    cells = edits_map l.edits a.holder.cells;
+    applied = in_history stamp l a.holder.applied;
+    left = if l.is_early then a.holder.left else put stamp_cmp stamp l.edits a.holder.left;
+  }) stamp.trans None;
+  phases = λ k. if same_join j k then phase.applied stamp (a.phases k) else a.phases k;
 }
 
 -- where it is found applied
 abbrev pub restarted_applied : Alone → JoinNo → Stamp → Life → Alone
 restarted_applied a j stamp l = restarted_at (with_applied a j stamp l) (max a.holder.clock stamp.ts)
 
--- where the decision is found forgotten
+-- the decision is forgotten
 abbrev pub with_forgotten : Alone → TransId → Stamp → List JoinNo → Alone
 with_forgotten a t stamp joins = record a { fates = λ u. if same_trans t u then Forgotten stamp joins else a.fates u }
 
+-- where it is found forgotten
 abbrev pub restarted_forgotten : Alone → TransId → Stamp → List JoinNo → Alone
 restarted_forgotten a t stamp joins = restarted_at (with_forgotten a t stamp joins) a.holder.kept
 
--- where the join that had voted is found ended
+-- the join that had voted is over, and its part gone
 abbrev pub with_aborted : Alone → JoinNo → TransId → Alone
 with_aborted a j t = record a {
   holder = with_life a.holder t None;
-  phases = λ k. if same_join j k then Over else a.phases k;
+  phases = λ k. if same_join j k then phase.aborted t (a.phases k) else a.phases k;
 }
 
+-- where it is found ended
 abbrev pub restarted_aborted : Alone → JoinNo → TransId → Alone
 restarted_aborted a j t = restarted_at (with_aborted a j t) a.holder.kept
