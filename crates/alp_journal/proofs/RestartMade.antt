@@ -224,20 +224,20 @@ module _ (a : Alone) (ready : List JoinNo) (stamps : List Stamp) (q : IsQuiet a)
       restart_so a ready stamps a.holder.kept (Aborts c.join t c.client c.cause ∷ []) (restarted_aborted a c.join t) (one_counts a.holder.kept (Aborts c.join t c.client c.cause) c.tried (ap not gone))
       (record { clock = refl; once = notes.once; ready = notes.ready; decided = notes.decided })
       (λ i. alone (record (restarted_aborted a c.join t) {
-        holder = record (restarted_aborted a c.join t).holder { lives = λ u. lapsed_ready c u (same_trans u t) refl i };
-        locked = λ u. lapsed_locks c u (same_trans u t) refl i;
+        holder = record (restarted_aborted a c.join t).holder { lives = λ u. lapsed_ready u (same_trans u t) refl i };
+        locked = λ u. lapsed_locks u (same_trans u t) refl i;
         begun = (append-nil (a.begun ++ []) ∙ append-nil a.begun) i;
         joined = (append-nil (a.joined ++ []) ∙ append-nil a.joined) i;
       }))
       (restarted_quiet m a.holder.kept stood)
     where
-      lapsed_is : (c : IsTriedAbort a) → lapsed c.join (a.holder.lives c.trans) ≡ Some (emptied l)
-      lapsed_is c = ap (lapsed c.join) live ∙ ap (λ (x : Option JoinNo). Some (cond {A = Life} (is_part c.join x) (emptied l) l)) mine ∙ ap (λ (b : Bool). Some (cond {A = Life} b (emptied l) l)) (same_join-itself c.join)
+      lapsed_is : lapsed c.join (a.holder.lives c.trans) ≡ Some (emptied l)
+      lapsed_is = ap (lapsed c.join) live ∙ ap (λ (x : Option JoinNo). Some (cond {A = Life} (is_part c.join x) (emptied l) l)) mine ∙ ap (λ (b : Bool). Some (cond {A = Life} b (emptied l) l)) (same_join-itself c.join)
 
-      lapsed_ready : (c : IsTriedAbort a) (u : TransId) (b : Bool) → same_trans u c.trans ≡ b → if_ready (cond {A = Option Life} b (lapsed c.join (a.holder.lives u)) (a.holder.lives u)) ≡ if_ready (cond {A = Option Life} b None (a.holder.lives u))
-      lapsed_ready c u false e = refl
-      lapsed_ready c u true e = ap (λ (t : TransId). if_ready (lapsed c.join (a.holder.lives t))) (same_trans-true u c.trans e) ∙ ap if_ready (lapsed_is c)
+      lapsed_ready : (u : TransId) (b : Bool) → same_trans u c.trans ≡ b → if_ready (cond {A = Option Life} b (lapsed c.join (a.holder.lives u)) (a.holder.lives u)) ≡ if_ready (cond {A = Option Life} b None (a.holder.lives u))
+      lapsed_ready u false e = refl
+      lapsed_ready u true e = ap (λ (t : TransId). if_ready (lapsed c.join (a.holder.lives t))) (same_trans-true u c.trans e) ∙ ap if_ready lapsed_is
 
-      lapsed_locks : (c : IsTriedAbort a) (u : TransId) (b : Bool) → same_trans u c.trans ≡ b → kept_locks (cond {A = Option Life} b (lapsed c.join (a.holder.lives u)) (a.holder.lives u)) (a.locked u) ≡ kept_locks (cond {A = Option Life} b None (a.holder.lives u)) (a.locked u)
-      lapsed_locks c u false e = refl
-      lapsed_locks c u true e = ap (λ (t : TransId). kept_locks (lapsed c.join (a.holder.lives t)) (a.locked u)) (same_trans-true u c.trans e) ∙ ap (λ (x : Option Life). kept_locks x (a.locked u)) (lapsed_is c)
+      lapsed_locks : (u : TransId) (b : Bool) → same_trans u c.trans ≡ b → kept_locks (cond {A = Option Life} b (lapsed c.join (a.holder.lives u)) (a.holder.lives u)) (a.locked u) ≡ kept_locks (cond {A = Option Life} b None (a.holder.lives u)) (a.locked u)
+      lapsed_locks u false e = refl
+      lapsed_locks u true e = ap (λ (t : TransId). kept_locks (lapsed c.join (a.holder.lives t)) (a.locked u)) (same_trans-true u c.trans e) ∙ ap (λ (x : Option Life). kept_locks x (a.locked u)) lapsed_is
