@@ -35,23 +35,23 @@ use Rattle.alp_journal.specs.Moves.{first_sent, abort_in, hears, ends_for}
 use Rattle.alp_journal.specs.Laws.{IsLawfulDeed, SaysRight, HasDecision, ended_by, latest_vote}
 use Rattle.alp_journal.specs.Messages.{Mail, to_each, to_others, on_ready, own_vote, on_votes, has_all_votes, why_not_own}
 use Rattle.alp_journal.specs.Answered.{is_all_done, IsWalk, in_turn}
-use Rattle.alp_journal.specs.Alone.{Alone, alone, is_other, AreVotes, IsFateOf, Stands, Tells, IsSettled, IsQuiet, IsFinishOf, HasNoCall, is_on_trans, granted_calls, with_granted, grant_acts, sent_acts, Leads}
+use Rattle.alp_journal.specs.Account.{Account, state_of, is_other, AreVotes, IsFateOf, Stands, Tells, IsSettled, IsQuiet, IsFinishOf, HasNoCall, is_on_trans, granted_calls, with_granted, grant_acts, sent_acts, Leads}
 use Rattle.alp_journal.proofs.IdLemmas.{same_trans-true, same_trans-itself, same_join-true, or-true}
 use Rattle.alp_journal.proofs.WaitLemmas.{found-is, file_part}
 use Rattle.alp_journal.proofs.StandLemmas.{same_join-itself, any-last, moved_fate, moved_all, own_pair, own_unheld}
 use Rattle.alp_journal.proofs.MoveLemmas.{stands_fated, stands_over}
 use Rattle.alp_journal.proofs.DeskLemmas.{tells_fated}
 use Rattle.alp_journal.proofs.QuietLemmas.{none_tried, parts-gone, has_ended, ended_moved, others-on, finish-moved}
-use Rattle.alp_journal.proofs.AloneLemmas.{AreAddressed, no_mail}
+use Rattle.alp_journal.proofs.CallLemmas.{AreAddressed, no_mail}
 use Rattle.alp_journal.proofs.LetGoLemmas.{IsGivenOn, GoesOn}
 use Rattle.alp_journal.proofs.ArrivalLemmas.{arrive_entry, ArriveOwes, arrive_leads, SaysOwes, says_leads, LeavesOwes, leaves_leads}
-use Rattle.alp_journal.proofs.AloneEnds.{each-addressed, aborts-said, aborts-addressed, lived_on, part_ended, IsOwn, here_as, known_as, now_as, fate_ended, after_goes}
+use Rattle.alp_journal.proofs.OwnEnds.{each-addressed, aborts-said, aborts-addressed, lived_on, part_ended, IsOwn, here_as, known_as, now_as, fate_ended, after_goes}
 use Rattle.alp_journal.proofs.RegisterSteps.{quiet_beside}
 
 -- ---- to each part
 
 -- all go to other servers of the run
-pub others-each : (a : Alone) (f : JoinNo → Message) (js : List JoinNo) → list_all (λ (j : JoinNo). is_other a.servers a.holder.server j.server) js ≡ true → to_others (alone a) (to_each f js) ≡ to_each f js
+pub others-each : (a : Account) (f : JoinNo → Message) (js : List JoinNo) → list_all (λ (j : JoinNo). is_other a.servers a.holder.server j.server) js ≡ true → to_others (state_of a) (to_each f js) ≡ to_each f js
 others-each a f [] h = refl
 others-each a f (j ∷ js) h =
     let both = and_parts (is_other a.servers a.holder.server j.server) (list_all (λ (k : JoinNo). is_other a.servers a.holder.server k.server) js) h in
@@ -79,18 +79,18 @@ commits-said e y t stamp all (j ∷ js) is of = (
   commits-said e y t stamp all js is (λ k h. of k (or_right (same_join j k) (has_join k js) h)),
 )
 
-module _ (a : Alone) (from : ℕ) (t : TransId) (j : JoinNo) (ts : ℕ) where
+module _ (a : Account) (from : ℕ) (t : TransId) (j : JoinNo) (ts : ℕ) where
   -- it is none of a transaction that is finishing
-  pub ready_passed_leads : IsQuiet a → a.is_down ≡ false → ((acts : List Act) → hears (alone a) acts t j ts (a.fates t) ≡ []) → on_ready (alone a) (alone a) t j ts (why_not_own false (alone a) t) (a.fates t) ≡ [] → Leads false a (arrive_entry a from (msg.Ready t j ts) []) a
+  pub ready_passed_leads : IsQuiet a → a.is_down ≡ false → ((acts : List Act) → hears (state_of a) acts t j ts (a.fates t) ≡ []) → on_ready (state_of a) (state_of a) t j ts (why_not_own false (state_of a) t) (a.fates t) ≡ [] → Leads false a (arrive_entry a from (msg.Ready t j ts) []) a
   ready_passed_leads q up none silent = says_leads a from (msg.Ready t j ts) false []
-      (record { quiet = q; up = up; brought = none []; said = tt; mail = subst (λ (ms : List Mail). IsPermutation (to_others (alone a) ms) []) (sym silent) (IsPermutation-refl []); addressed = refl; applied = tt })
+      (record { quiet = q; up = up; brought = none []; said = tt; mail = subst (λ (ms : List Mail). IsPermutation (to_others (state_of a) ms) []) (sym silent) (IsPermutation-refl []); addressed = refl; applied = tt })
 
   module _ (client : ℕ) (js : List JoinNo) (vs : List Vote) where
     heard_is : a.fates t ≡ Finishing client js vs → fate.heard j ts (a.fates t) ≡ Finishing client js (with_vote j ts vs)
     heard_is is = ap (fate.heard j ts) is
 
-    hears_is : (acts : List Act) (c : Option Cause) → a.fates t ≡ Finishing client js vs → has_join j js ≡ true → first_sent (abort_in t) acts ≡ c → hears (alone a) acts t j ts (a.fates t) ≡ Hears t j ts ∷ ends_for t client c
-    hears_is acts c is its first = ap (hears (alone a) acts t j ts) is ∙ ap (λ (b : Bool). cond {A = List Deed} b (Hears t j ts ∷ ends_for t client (first_sent (abort_in t) acts)) []) its ∙ ap (λ (x : Option Cause). Hears t j ts ∷ ends_for t client x) first
+    hears_is : (acts : List Act) (c : Option Cause) → a.fates t ≡ Finishing client js vs → has_join j js ≡ true → first_sent (abort_in t) acts ≡ c → hears (state_of a) acts t j ts (a.fates t) ≡ Hears t j ts ∷ ends_for t client c
+    hears_is acts c is its first = ap (hears (state_of a) acts t j ts) is ∙ ap (λ (b : Bool). cond {A = List Deed} b (Hears t j ts ∷ ends_for t client (first_sent (abort_in t) acts)) []) its ∙ ap (λ (x : Option Cause). Hears t j ts ∷ ends_for t client x) first
 
     known : IsSettled a → a.fates t ≡ Finishing client js vs → IsFateOf a.servers a.holder.server a.ids.epoch a.ids.transactions a.begun t (Finishing client js vs)
     known q is = subst (IsFateOf a.servers a.holder.server a.ids.epoch a.ids.transactions a.begun t) is (q.stands.fates t)
@@ -111,7 +111,7 @@ module _ (a : Alone) (from : ℕ) (t : TransId) (j : JoinNo) (ts : ℕ) where
 
     -- ---- it is kept
 
-    abbrev pub with_heard : Alone
+    abbrev pub with_heard : Account
     with_heard = record a { fates = λ u. if same_trans t u then fate.heard j ts (a.fates u) else a.fates u }
 
     not_all : has_join j js ≡ true → has_all_votes j ts js vs ≡ false → has_votes (Finishing client js (with_vote j ts vs)) ≡ false
@@ -125,7 +125,7 @@ module _ (a : Alone) (from : ℕ) (t : TransId) (j : JoinNo) (ts : ℕ) where
           up = refl;
           running = up;
           brought = ap (λ (ds : List Deed). ds ++ [] ++ []) (hears_is [] None is its refl);
-          left = λ i. alone (record with_heard { begun = append-nil a.begun i; joined = append-nil a.joined i; is_down = sym up i; pending = sym (none_tried a q up) i });
+          left = λ i. state_of (record with_heard { begun = append-nil a.begun i; joined = append-nil a.joined i; is_down = sym up i; pending = sym (none_tried a q up) i });
           drawn = refl;
           deeds = (record { counts = tt; view = tt; locks = tt; running = tt; registration = tt; vote = tt; decision = tt; application = tt; forgetting = tt }, tt);
           released = refl;
@@ -138,8 +138,8 @@ module _ (a : Alone) (from : ℕ) (t : TransId) (j : JoinNo) (ts : ℕ) where
             tells = tells_fated a q.settled.tells t (fate.heard j ts) (λ c. refl) (λ n h. subst (λ (f : Fate). IsFinishOf n f (a.dead n t)) (sym now) (subst (λ (f : Fate). IsFinishOf n f (a.dead n t)) is h))
                 (subst (HasNoCall a.waits t) (sym now) (subst (HasNoCall a.waits t) is (q.settled.tells.finishing t)));
           }) q;
-          mail = no_mail [] (ap (λ (f : Fate). to_others (alone a) (on_ready (alone a) (alone with_heard) t j ts (why_not_own false (alone a) t) f)) is
-              ∙ ap (λ (b : Bool). to_others (alone a) (cond {A = List Mail} b (own_vote (alone a) (alone with_heard) t js (why_not_own false (alone a) t)) [])) more) refl;
+          mail = no_mail [] (ap (λ (f : Fate). to_others (state_of a) (on_ready (state_of a) (state_of with_heard) t j ts (why_not_own false (state_of a) t) f)) is
+              ∙ ap (λ (b : Bool). to_others (state_of a) (cond {A = List Mail} b (own_vote (state_of a) (state_of with_heard) t js (why_not_own false (state_of a) t)) [])) more) refl;
           applied = tt;
           turns = tt;
         })
@@ -159,7 +159,7 @@ module _ (a : Alone) (from : ℕ) (t : TransId) (j : JoinNo) (ts : ℕ) where
       commit_mails = to_each (λ (k : JoinNo). msg.Commit t k decision_stamp) js
 
       -- its intents are cells, and it takes its place among the transactions
-      abbrev pub with_decision : Alone
+      abbrev pub with_decision : Account
       with_decision = record a {
         holder = with_life (record a.holder {
           cells = edits_map l.edits a.holder.cells;
@@ -174,10 +174,10 @@ module _ (a : Alone) (from : ℕ) (t : TransId) (j : JoinNo) (ts : ℕ) where
         pending = [];
       }
 
-      abbrev pub with_decision_given : List TransId → Alone
+      abbrev pub with_decision_given : List TransId → Account
       with_decision_given us = with_granted with_decision (granted_calls a.waits us)
 
-      abbrev deciding : Alone
+      abbrev deciding : Account
       deciding = record a { holder = with_decision.holder; fates = with_decision.fates; locked = with_decision.locked }
 
       decided_is : a.fates t ≡ Finishing client js vs → fate.decided decision_stamp js (fate.heard j ts (a.fates t)) ≡ Committed decision_stamp js []
@@ -241,13 +241,13 @@ module _ (a : Alone) (from : ℕ) (t : TransId) (j : JoinNo) (ts : ℕ) where
       joined_three = append-nil (a.joined ++ [] ++ []) ∙ append-nil (a.joined ++ []) ∙ append-nil a.joined
 
       abbrev hearing : State
-      hearing = state_deed (alone a) (Hears t j ts)
+      hearing = state_deed (state_of a) (Hears t j ts)
 
       pub hearing_fate : a.fates t ≡ Finishing client js vs → hearing.fates t ≡ Finishing client js (with_vote j ts vs)
       hearing_fate is = moved_fate a.fates t (fate.heard j ts) ∙ heard_is is
 
       -- no call on its files waits
-      pub idle_then : IsQuiet a → a.fates t ≡ Finishing client js vs → (w : Waiting) → waiting_of (alone a).desk client t ≡ Some w → file_trans w.call ≡ None
+      pub idle_then : IsQuiet a → a.fates t ≡ Finishing client js vs → (w : Waiting) → waiting_of (state_of a).desk client t ≡ Some w → file_trans w.call ≡ None
       idle_then q is w found = go (file_trans w.call) refl
         where
           it : (is_of_part client t w ≡ true) × (is_on_trans t w ≡ false)
@@ -260,7 +260,7 @@ module _ (a : Alone) (from : ℕ) (t : TransId) (j : JoinNo) (ts : ℕ) where
               let wrong : true ≡ false = sym mine ∙ ap (is_of t) (file_part w.call u e) ∙ ap (is_of t) (sym e) ∙ it.1 in
               cc
 
-      pub decide_leads : IsQuiet a → a.is_down ≡ false → a.fates t ≡ Finishing client js vs → has_all_votes j ts js vs ≡ true → a.holder.lives t ≡ Some l → l.join ≡ None → why_not_own false (alone a) t ≡ None
+      pub decide_leads : IsQuiet a → a.is_down ≡ false → a.fates t ≡ Finishing client js vs → has_all_votes j ts js vs ≡ true → a.holder.lives t ≡ Some l → l.join ≡ None → why_not_own false (state_of a) t ≡ None
           → (us : List TransId) → IsWalk with_decision.holder (in_turn with_decision.holder a.waits) us
           → Leads false a (arrive_entry a from (msg.Ready t j ts) (((act.Decided decision_stamp js ∷ act.Released t ∷ []) ++ grant_acts us) ++ sent_acts commit_mails)) (with_decision_given us)
       decide_leads q up is all live part may us walk =
@@ -283,7 +283,7 @@ module _ (a : Alone) (from : ℕ) (t : TransId) (j : JoinNo) (ts : ℕ) where
             waits = refl;
             walk = walk;
             no_call = λ u n. refl;
-            reached = λ i. alone (record deciding { holder = holder_then live pair.2 i; fates = λ u. twice_moved (same_trans t u) (a.fates u) i; begun = begun_three i; joined = joined_three i });
+            reached = λ i. state_of (record deciding { holder = holder_then live pair.2 i; fates = λ u. twice_moved (same_trans t u) (a.fates u) i; begun = begun_three i; joined = joined_three i });
             deeds = (
               record { counts = tt; view = tt; locks = tt; running = tt; registration = tt; vote = tt; decision = tt; application = tt; forgetting = tt },
               (
@@ -344,10 +344,10 @@ module _ (a : Alone) (from : ℕ) (t : TransId) (j : JoinNo) (ts : ℕ) where
             says = λ y g. commits-said ev y t decision_stamp js js (ap (λ (f : TransId → Fate). decision_in (f t)) g.fates ∙ ap decision_in now) (λ k h. h);
             addressed = each-addressed (λ (k : JoinNo). msg.Commit t k decision_stamp) (λ k. ap (λ (b : Bool). b && true) (eq-eqb k.server k.server refl)) js;
             mail = subst (λ (ms : List Mail). IsPermutation ms commit_mails)
-                (sym (ap (λ (f : Fate). to_others (alone a) (on_ready (alone a) (alone (with_decision_given us)) t j ts (why_not_own false (alone a) t) f)) is
-                ∙ ap (λ (b : Bool). to_others (alone a) (cond {A = List Mail} b (own_vote (alone a) (alone (with_decision_given us)) t js (why_not_own false (alone a) t)) [])) all
-                ∙ ap (λ (x : Option Why). to_others (alone a) (own_vote (alone a) (alone (with_decision_given us)) t js x)) may
-                ∙ ap (λ (f : Fate). to_others (alone a) (on_votes t f)) now ∙ others-each a (λ (k : JoinNo). msg.Commit t k decision_stamp) js of.2.0)) (IsPermutation-refl commit_mails);
+                (sym (ap (λ (f : Fate). to_others (state_of a) (on_ready (state_of a) (state_of (with_decision_given us)) t j ts (why_not_own false (state_of a) t) f)) is
+                ∙ ap (λ (b : Bool). to_others (state_of a) (cond {A = List Mail} b (own_vote (state_of a) (state_of (with_decision_given us)) t js (why_not_own false (state_of a) t)) [])) all
+                ∙ ap (λ (x : Option Why). to_others (state_of a) (own_vote (state_of a) (state_of (with_decision_given us)) t js x)) may
+                ∙ ap (λ (f : Fate). to_others (state_of a) (on_votes t f)) now ∙ others-each a (λ (k : JoinNo). msg.Commit t k decision_stamp) js of.2.0)) (IsPermutation-refl commit_mails);
             applied = tt;
           })
         where
@@ -361,10 +361,10 @@ module _ (a : Alone) (from : ℕ) (t : TransId) (j : JoinNo) (ts : ℕ) where
         own_cause = cause.Voted a.holder.server w
 
         -- the transaction ends, and its client is to be told
-        abbrev pub with_own_no : Alone
+        abbrev pub with_own_no : Account
         with_own_no = record (part_ended a client t l (cause.Voted a.holder.server w)) { is_down = false; pending = [] }
 
-        abbrev pub with_own_no_given : List TransId → Alone
+        abbrev pub with_own_no_given : List TransId → Account
         with_own_no_given us = with_granted with_own_no (granted_calls a.waits us)
 
         abbrev pub own_aborts : List Mail
@@ -378,7 +378,7 @@ module _ (a : Alone) (from : ℕ) (t : TransId) (j : JoinNo) (ts : ℕ) where
         heard_ended (Forgotten stamp ks) = refl
         heard_ended (Ended d) = refl
 
-        pub own_no_leads : IsQuiet a → a.is_down ≡ false → a.fates t ≡ Finishing client js vs → has_all_votes j ts js vs ≡ true → a.holder.lives t ≡ Some l → l.join ≡ None → why_not_own failed (alone a) t ≡ Some w
+        pub own_no_leads : IsQuiet a → a.is_down ≡ false → a.fates t ≡ Finishing client js vs → has_all_votes j ts js vs ≡ true → a.holder.lives t ≡ Some l → l.join ≡ None → why_not_own failed (state_of a) t ≡ Some w
             → (us : List TransId) → IsWalk with_own_no.holder (in_turn with_own_no.holder a.waits) us
             → Leads failed a (arrive_entry a from (msg.Ready t j ts) ((act.Released t ∷ grant_acts us) ++ sent_acts own_aborts)) (with_own_no_given us)
         own_no_leads q up is all live part not us walk =
@@ -386,7 +386,7 @@ module _ (a : Alone) (from : ℕ) (t : TransId) (j : JoinNo) (ts : ℕ) where
             let both = and_parts (has_join j js) (list_all (λ k. voted k (with_vote j ts vs)) js) all in
             let o : IsOwn a client t l own_cause = own q is live part in
             let of = known q.settled is in
-            let ended : Alone = part_ended a client t l own_cause in
+            let ended : Account = part_ended a client t l own_cause in
             let front : List Act = act.Released t ∷ [] in
             let back : List Deed = Hears t j ts ∷ Ends t client own_cause ∷ Releases t ∷ [] in
             let acts : List Act = (front ++ grant_acts us) ++ sent_acts own_aborts in
@@ -403,9 +403,9 @@ module _ (a : Alone) (from : ℕ) (t : TransId) (j : JoinNo) (ts : ℕ) where
                   (ap (λ (f : TransId → Fate). f t) g.fates ∙ fate_ended a client t l own_cause o) (now_as a client t l own_cause o ∙ ap (λ (i : Ids). i.epoch) (sym g.ids));
               addressed = aborts-addressed t own_cause js;
               mail = subst (λ (ms : List Mail). IsPermutation ms own_aborts)
-                  (sym (ap (λ (f : Fate). to_others (alone a) (on_ready (alone a) (alone (with_own_no_given us)) t j ts (why_not_own failed (alone a) t) f)) is
-                  ∙ ap (λ (b : Bool). to_others (alone a) (cond {A = List Mail} b (own_vote (alone a) (alone (with_own_no_given us)) t js (why_not_own failed (alone a) t)) [])) all
-                  ∙ ap (λ (x : Option Why). to_others (alone a) (own_vote (alone a) (alone (with_own_no_given us)) t js x)) not
+                  (sym (ap (λ (f : Fate). to_others (state_of a) (on_ready (state_of a) (state_of (with_own_no_given us)) t j ts (why_not_own failed (state_of a) t) f)) is
+                  ∙ ap (λ (b : Bool). to_others (state_of a) (cond {A = List Mail} b (own_vote (state_of a) (state_of (with_own_no_given us)) t js (why_not_own failed (state_of a) t)) [])) all
+                  ∙ ap (λ (x : Option Why). to_others (state_of a) (own_vote (state_of a) (state_of (with_own_no_given us)) t js x)) not
                   ∙ others-each a (λ (k : JoinNo). msg.Abort t k own_cause) js of.2.0)) (IsPermutation-refl own_aborts);
               applied = tt;
             })

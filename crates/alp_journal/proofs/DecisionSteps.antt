@@ -30,22 +30,22 @@ use Rattle.alp_journal.specs.Moves.{hears, refuses, acknowledges, ends_for, firs
 use Rattle.alp_journal.specs.Laws.{IsLawfulDeed, SaysRight, MaySay, MayAbort, HasDecision}
 use Rattle.alp_journal.specs.Messages.{Mail, to_each, to_others, on_inquire, on_ready, on_no, has_all_votes, why_not_own, lost_or, commit_to}
 use Rattle.alp_journal.specs.Answered.{is_all_done, IsWalk, in_turn}
-use Rattle.alp_journal.specs.Alone.{Alone, alone, AreVotes, IsKnown, IsFateOf, Stands, Tells, IsSettled, IsQuiet, IsFinishOf, HasNoCall, granted_calls, with_granted, grant_acts, sent_acts, Leads}
+use Rattle.alp_journal.specs.Account.{Account, state_of, AreVotes, IsKnown, IsFateOf, Stands, Tells, IsSettled, IsQuiet, IsFinishOf, HasNoCall, granted_calls, with_granted, grant_acts, sent_acts, Leads}
 use Rattle.alp_journal.proofs.IdLemmas.{same_trans-true, same_trans-itself, same_join-true, all-each}
 use Rattle.alp_journal.proofs.StandLemmas.{moved_fate, same_join-itself, own_pair}
 use Rattle.alp_journal.proofs.MoveLemmas.{stands_fated}
 use Rattle.alp_journal.proofs.DeskLemmas.{tells_fated}
 use Rattle.alp_journal.proofs.QuietLemmas.{none_tried}
-use Rattle.alp_journal.proofs.AloneLemmas.{AreAddressed, no_mail}
+use Rattle.alp_journal.proofs.CallLemmas.{AreAddressed, no_mail}
 use Rattle.alp_journal.proofs.LetGoLemmas.{IsGivenOn, GoesOn}
 use Rattle.alp_journal.proofs.ArrivalLemmas.{arrive_entry, arriving, ArriveOwes, arrive_leads, SaysOwes, says_leads, LeavesOwes, leaves_leads, no_release}
-use Rattle.alp_journal.proofs.AloneEnds.{aborts-said, aborts-addressed, part_ended, IsOwn, runs_as, here_as, known_as, now_as, fate_ended, ends_goes, after_goes}
+use Rattle.alp_journal.proofs.OwnEnds.{aborts-said, aborts-addressed, part_ended, IsOwn, runs_as, here_as, known_as, now_as, fate_ended, ends_goes, after_goes}
 use Rattle.alp_journal.proofs.RegisterSteps.{quiet_beside}
 use Rattle.alp_journal.proofs.DecideSteps.{others-each}
 
 -- ---- a part has applied a decision
 
-module _ (a : Alone) (from : ℕ) (t : TransId) (j : JoinNo) where
+module _ (a : Account) (from : ℕ) (t : TransId) (j : JoinNo) where
   -- it is none of a decision that stands
   pub done_passed_leads : IsQuiet a → a.is_down ≡ false → acknowledges t j (a.fates t) ≡ [] → Leads false a (arrive_entry a from (msg.Done t j) []) a
   done_passed_leads q up none = says_leads a from (msg.Done t j) false [] (record { quiet = q; up = up; brought = none; said = tt; mail = IsPermutation-refl []; addressed = refl; applied = tt })
@@ -55,7 +55,7 @@ module _ (a : Alone) (from : ℕ) (t : TransId) (j : JoinNo) where
     acknowledged_is is its = ap (acknowledges t j) is ∙ ap (λ (b : Bool). cond {A = List Deed} b (Acknowledges t j ∷ []) []) its
 
     -- it is kept who has done it
-    abbrev pub with_done : Alone
+    abbrev pub with_done : Account
     with_done = record a { fates = λ u. if same_trans t u then fate.acknowledged j (a.fates u) else a.fates u }
 
     -- a decision with joins is not to be forgotten while one of them has not done it
@@ -73,7 +73,7 @@ module _ (a : Alone) (from : ℕ) (t : TransId) (j : JoinNo) where
           up = refl;
           running = up;
           brought = ap (λ (xs : List Deed). xs ++ [] ++ []) (acknowledged_is is its);
-          left = λ i. alone (record with_done { begun = append-nil a.begun i; joined = append-nil a.joined i; is_down = sym up i; pending = sym (none_tried a q up) i });
+          left = λ i. state_of (record with_done { begun = append-nil a.begun i; joined = append-nil a.joined i; is_down = sym up i; pending = sym (none_tried a q up) i });
           drawn = refl;
           deeds = (record { counts = tt; view = tt; locks = tt; running = tt; registration = tt; vote = tt; decision = tt; application = tt; forgetting = tt }, tt);
           released = refl;
@@ -91,7 +91,7 @@ module _ (a : Alone) (from : ℕ) (t : TransId) (j : JoinNo) where
         })
 
     -- the last one: it is forgotten
-    abbrev pub with_forgotten_at : Alone
+    abbrev pub with_forgotten_at : Account
     with_forgotten_at = record a { fates = λ u. if same_trans t u then fate.forgotten (fate.acknowledged j (a.fates u)) else a.fates u }
 
     twice_moved : (b : Bool) (f : Fate) → cond {A = Fate} b (fate.forgotten (cond {A = Fate} b (fate.acknowledged j f) f)) (cond {A = Fate} b (fate.acknowledged j f) f) ≡ cond {A = Fate} b (fate.forgotten (fate.acknowledged j f)) f
@@ -104,12 +104,12 @@ module _ (a : Alone) (from : ℕ) (t : TransId) (j : JoinNo) where
     pub forget_leads : IsQuiet a → a.is_down ≡ false → a.fates t ≡ Committed stamp js ds → has_join j js ≡ true → has_all (j ∷ ds) js ≡ true → Leads false a (arrive_entry a from (msg.Done t j) (act.Forgot t ∷ [])) with_forgotten_at
     forget_leads q up is its all =
         let now : fate.forgotten (fate.acknowledged j (a.fates t)) ≡ Forgotten stamp js = forgot_is is all in
-        let mid : (state_deed (alone a) (Acknowledges t j)).fates t ≡ Committed stamp js (j ∷ ds) = moved_fate a.fates t (fate.acknowledged j) ∙ ap (fate.acknowledged j) is in
+        let mid : (state_deed (state_of a) (Acknowledges t j)).fates t ≡ Committed stamp js (j ∷ ds) = moved_fate a.fates t (fate.acknowledged j) ∙ ap (fate.acknowledged j) is in
         arrive_leads a from (msg.Done t j) false (act.Forgot t ∷ []) (Acknowledges t j ∷ Forgets t ∷ []) with_forgotten_at (record {
           up = refl;
           running = up;
           brought = ap (λ (xs : List Deed). xs ++ (Forgets t ∷ []) ++ []) (acknowledged_is is its);
-          left = λ i. alone (record with_forgotten_at {
+          left = λ i. state_of (record with_forgotten_at {
             fates = λ u. twice_moved (same_trans t u) (a.fates u) i;
             begun = (append-nil (a.begun ++ []) ∙ append-nil a.begun) i;
             joined = (append-nil (a.joined ++ []) ∙ append-nil a.joined) i;
@@ -161,9 +161,9 @@ module _ (a : Alone) (from : ℕ) (t : TransId) (j : JoinNo) where
 
 -- ---- how a transaction ended
 
-module _ (a : Alone) (from : ℕ) (t : TransId) (j : JoinNo) where
+module _ (a : Account) (from : ℕ) (t : TransId) (j : JoinNo) where
   -- nothing is known of it, or nothing that is for another server
-  pub inquire_silent_leads : IsQuiet a → a.is_down ≡ false → to_others (alone a) (cond {A = List Mail} (is_trans_drawn (alone a) t) (on_inquire (alone a) t j (a.fates t)) []) ≡ [] → Leads false a (arrive_entry a from (msg.Inquire t j) []) a
+  pub inquire_silent_leads : IsQuiet a → a.is_down ≡ false → to_others (state_of a) (cond {A = List Mail} (is_trans_drawn (state_of a) t) (on_inquire (state_of a) t j (a.fates t)) []) ≡ [] → Leads false a (arrive_entry a from (msg.Inquire t j) []) a
   inquire_silent_leads q up none = says_leads a from (msg.Inquire t j) false [] (record { quiet = q; up = up; brought = refl; said = tt; mail = subst (λ (ms : List Mail). IsPermutation ms []) (sym none) (IsPermutation-refl []); addressed = refl; applied = tt })
 
   same_mail : (x y : Message) → (j.server, x) ∷ [] ≡ (j.server, y) ∷ [] → x ≡ y
@@ -171,17 +171,17 @@ module _ (a : Alone) (from : ℕ) (t : TransId) (j : JoinNo) where
 
   -- what is said is so, and to the join
   pub record IsWord (m : Message) : Type 0 where
-    pub may : MaySay (event.Arrive from (msg.Inquire t j)) (alone a) m
+    pub may : MaySay (event.Arrive from (msg.Inquire t j)) (state_of a) m
     pub addressed : AreAddressed ((j.server, m) ∷ [])
 
   to_it : AreAddressed ((j.server, msg.Abort t j cause.Asked) ∷ [])
   to_it = ap (λ (b : Bool). b && true) (eq-eqb j.server j.server refl)
 
-  its_word : is_trans_drawn (alone a) t ≡ true → (a.fates t ≡ Undrawn → t.epoch < a.ids.epoch) → ((t.epoch == a.ids.epoch) ≡ false → t.epoch < a.ids.epoch) → (f : Fate) → a.fates t ≡ f → (m : Message) → on_inquire (alone a) t j f ≡ (j.server, m) ∷ [] → IsWord m
+  its_word : is_trans_drawn (state_of a) t ≡ true → (a.fates t ≡ Undrawn → t.epoch < a.ids.epoch) → ((t.epoch == a.ids.epoch) ≡ false → t.epoch < a.ids.epoch) → (f : Fate) → a.fates t ≡ f → (m : Message) → on_inquire (state_of a) t j f ≡ (j.server, m) ∷ [] → IsWord m
   its_word drawn past older f e m is = by f e is
     where
-      lost : (f : Fate) → a.fates t ≡ f → (t.epoch < a.ids.epoch → MayAbort (alone a) t (cause.Lost a.ids.epoch) f) → t.epoch < a.ids.epoch → (j.server, msg.Abort t j (cause.Lost a.ids.epoch)) ∷ [] ≡ (j.server, m) ∷ [] → IsWord m
-      lost f e may before is = subst IsWord (same_mail (msg.Abort t j (cause.Lost a.ids.epoch)) m is) (record { may = (drawn, subst (MayAbort (alone a) t (cause.Lost a.ids.epoch)) (sym e) (may before)); addressed = to_it })
+      lost : (f : Fate) → a.fates t ≡ f → (t.epoch < a.ids.epoch → MayAbort (state_of a) t (cause.Lost a.ids.epoch) f) → t.epoch < a.ids.epoch → (j.server, msg.Abort t j (cause.Lost a.ids.epoch)) ∷ [] ≡ (j.server, m) ∷ [] → IsWord m
+      lost f e may before is = subst IsWord (same_mail (msg.Abort t j (cause.Lost a.ids.epoch)) m is) (record { may = (drawn, subst (MayAbort (state_of a) t (cause.Lost a.ids.epoch)) (sym e) (may before)); addressed = to_it })
 
       none : [] ≡ (j.server, m) ∷ [] → IsWord m
       none is = absurd (let wrong : [] ≡ (j.server, m) ∷ [] = is in cc)
@@ -191,7 +191,7 @@ module _ (a : Alone) (from : ℕ) (t : TransId) (j : JoinNo) where
       commit f e stamp js has true g is = subst IsWord (same_mail (msg.Commit t j stamp) m is)
           (record { may = subst (λ (x : Option (Stamp × List JoinNo)). HasDecision stamp j x) (sym (ap decision_in e ∙ has)) (refl, g); addressed = to_it })
 
-      by : (f : Fate) → a.fates t ≡ f → on_inquire (alone a) t j f ≡ (j.server, m) ∷ [] → IsWord m
+      by : (f : Fate) → a.fates t ≡ f → on_inquire (state_of a) t j f ≡ (j.server, m) ∷ [] → IsWord m
       by Undrawn e is = lost Undrawn e (λ b. (b, refl)) (past e) is
       by (Running c js) e is = none is
       by (Finishing c js vs) e is = none is
@@ -206,11 +206,11 @@ module _ (a : Alone) (from : ℕ) (t : TransId) (j : JoinNo) where
           go : (b : Bool) → (t.epoch == a.ids.epoch) ≡ b → cond {A = List Mail} b (commit_to t j stamp js) ((j.server, msg.Abort t j (cause.Lost a.ids.epoch)) ∷ []) ≡ (j.server, m) ∷ [] → IsWord m
           go true g is = commit (Forgotten stamp js) e stamp js refl (has_join j js) refl is
           go false g is = lost (Forgotten stamp js) e (λ b. (b, refl)) (older g) is
-      by (Ended c) e is = subst IsWord (same_mail (msg.Abort t j (lost_or (alone a) t c)) m is) (record { may = (drawn, subst (MayAbort (alone a) t (lost_or (alone a) t c)) (sym e) refl); addressed = to_it })
+      by (Ended c) e is = subst IsWord (same_mail (msg.Abort t j (lost_or (state_of a) t c)) m is) (record { may = (drawn, subst (MayAbort (state_of a) t (lost_or (state_of a) t c)) (sym e) refl); addressed = to_it })
 
   -- it is told, where it ended
-  pub inquire_leads : (m : Message) → IsQuiet a → a.is_down ≡ false → is_trans_drawn (alone a) t ≡ true → is_other_server (alone a) j.server ≡ true → (a.fates t ≡ Undrawn → t.epoch < a.ids.epoch) → ((t.epoch == a.ids.epoch) ≡ false → t.epoch < a.ids.epoch)
-      → on_inquire (alone a) t j (a.fates t) ≡ (j.server, m) ∷ [] → Leads false a (arrive_entry a from (msg.Inquire t j) (act.Sent j.server m ∷ [])) a
+  pub inquire_leads : (m : Message) → IsQuiet a → a.is_down ≡ false → is_trans_drawn (state_of a) t ≡ true → is_other_server (state_of a) j.server ≡ true → (a.fates t ≡ Undrawn → t.epoch < a.ids.epoch) → ((t.epoch == a.ids.epoch) ≡ false → t.epoch < a.ids.epoch)
+      → on_inquire (state_of a) t j (a.fates t) ≡ (j.server, m) ∷ [] → Leads false a (arrive_entry a from (msg.Inquire t j) (act.Sent j.server m ∷ [])) a
   inquire_leads m q up drawn far past older is =
       let word : IsWord m = its_word drawn past older (a.fates t) refl m is in
       says_leads a from (msg.Inquire t j) false ((j.server, m) ∷ []) (record {
@@ -219,29 +219,29 @@ module _ (a : Alone) (from : ℕ) (t : TransId) (j : JoinNo) where
         brought = refl;
         said = (word.may, tt);
         mail = subst (λ (ms : List Mail). IsPermutation ms ((j.server, m) ∷ []))
-            (sym (ap (λ (b : Bool). to_others (alone a) (cond {A = List Mail} b (on_inquire (alone a) t j (a.fates t)) [])) drawn ∙ ap (to_others (alone a)) is ∙ ap (λ (b : Bool). cond {A = List Mail} b ((j.server, m) ∷ []) []) far)) (IsPermutation-refl ((j.server, m) ∷ []));
+            (sym (ap (λ (b : Bool). to_others (state_of a) (cond {A = List Mail} b (on_inquire (state_of a) t j (a.fates t)) [])) drawn ∙ ap (to_others (state_of a)) is ∙ ap (λ (b : Bool). cond {A = List Mail} b ((j.server, m) ∷ []) []) far)) (IsPermutation-refl ((j.server, m) ∷ []));
         addressed = word.addressed;
         applied = tt;
       })
 
 -- ---- a part votes against a commit
 
-module _ (a : Alone) (from : ℕ) (t : TransId) (j : JoinNo) (w : Why) where
+module _ (a : Account) (from : ℕ) (t : TransId) (j : JoinNo) (w : Why) where
   -- it is none of a transaction that is finishing
   pub no_passed_leads : IsQuiet a → a.is_down ≡ false → refuses t j (cause.Voted j.server w) (a.fates t) ≡ [] → on_no t j w (a.fates t) ≡ [] → Leads false a (arrive_entry a from (msg.No t j w) []) a
   no_passed_leads q up none silent = says_leads a from (msg.No t j w) false []
-      (record { quiet = q; up = up; brought = none; said = tt; mail = subst (λ (ms : List Mail). IsPermutation (to_others (alone a) ms) []) (sym silent) (IsPermutation-refl []); addressed = refl; applied = tt })
+      (record { quiet = q; up = up; brought = none; said = tt; mail = subst (λ (ms : List Mail). IsPermutation (to_others (state_of a) ms) []) (sym silent) (IsPermutation-refl []); addressed = refl; applied = tt })
 
   module _ (client : ℕ) (js : List JoinNo) (vs : List Vote) (l : Life) where
     abbrev against : Cause
     against = cause.Voted j.server w
 
     -- the transaction ends, and its client is to be told
-    abbrev pub with_no : Alone
+    abbrev pub with_no : Account
     with_no = record (part_ended a client t l (cause.Voted j.server w)) { is_down = false; pending = [] }
 
     -- and what it held is given on
-    abbrev pub with_no_given : List TransId → Alone
+    abbrev pub with_no_given : List TransId → Account
     with_no_given ts = with_granted with_no (granted_calls a.waits ts)
 
     -- the parts of other servers are told
@@ -252,7 +252,7 @@ module _ (a : Alone) (from : ℕ) (t : TransId) (j : JoinNo) (w : Why) where
         → (ts : List TransId) → IsWalk with_no.holder (in_turn with_no.holder a.waits) ts → Leads false a (arrive_entry a from (msg.No t j w) ((act.Released t ∷ grant_acts ts) ++ sent_acts no_aborts)) (with_no_given ts)
     no_leads q up is its live part ts walk =
         let ev : Event = event.Arrive from (msg.No t j w) in
-        let ended : Alone = part_ended a client t l against in
+        let ended : Account = part_ended a client t l against in
         let own : IsOwn a client t l against = record { settled = q.settled; live = live; part = part; its = its_client q is live part } in
         let front : List Act = act.Released t ∷ [] in
         let back : List Deed = Ends t client against ∷ Releases t ∷ [] in
@@ -267,7 +267,7 @@ module _ (a : Alone) (from : ℕ) (t : TransId) (j : JoinNo) (w : Why) where
               (ap (λ (f : TransId → Fate). f t) g.fates ∙ fate_ended a client t l against own) (now_as a client t l against own ∙ ap (λ (i : Ids). i.epoch) (sym g.ids));
           addressed = aborts-addressed t against js;
           mail = subst (λ (ms : List Mail). IsPermutation ms no_aborts)
-              (sym (ap (λ (f : Fate). to_others (alone a) (on_no t j w f)) is ∙ ap (λ (b : Bool). to_others (alone a) (cond {A = List Mail} b no_aborts [])) its ∙ others-each a (λ (k : JoinNo). msg.Abort t k against) js (subst (IsFateOf a.servers a.holder.server a.ids.epoch a.ids.transactions a.begun t) is (q.settled.stands.fates t)).2.0)) (IsPermutation-refl no_aborts);
+              (sym (ap (λ (f : Fate). to_others (state_of a) (on_no t j w f)) is ∙ ap (λ (b : Bool). to_others (state_of a) (cond {A = List Mail} b no_aborts [])) its ∙ others-each a (λ (k : JoinNo). msg.Abort t k against) js (subst (IsFateOf a.servers a.holder.server a.ids.epoch a.ids.transactions a.begun t) is (q.settled.stands.fates t)).2.0)) (IsPermutation-refl no_aborts);
           applied = tt;
         })
       where

@@ -14,7 +14,7 @@ use Rattle.alp_journal.specs.Participant.{Phase, Unseen, Joining, Active, Ready,
 use Rattle.alp_journal.specs.Holder.{Life}
 use Rattle.alp_journal.specs.Desk.{Session, Waiting, file_trans, part_trans, is_of, is_of_part, without}
 use Rattle.alp_journal.specs.State.{is_whose}
-use Rattle.alp_journal.specs.Alone.{Alone, alone, Stands, Tells, IsSettled, IsPartOf, IsOfPart, IsJoinOf, IsFinishOf, IsOther, HasCome, AreTwo, HasWaits, HasNoCall, HasNoJoin, is_on_trans}
+use Rattle.alp_journal.specs.Account.{Account, state_of, Stands, Tells, IsSettled, IsPartOf, IsOfPart, IsJoinOf, IsFinishOf, IsOther, HasCome, AreTwo, HasWaits, HasNoCall, HasNoJoin, is_on_trans}
 use Rattle.alp_journal.proofs.IdLemmas.{same_trans-true, same_trans-itself, same_join-true, all-append}
 use Rattle.alp_journal.proofs.MadeIds.{all-map}
 use Rattle.alp_journal.proofs.WaitLemmas.{turned, found-none, all-both, all-of, apart-last, file_part}
@@ -33,7 +33,7 @@ found-last p (y ∷ xs) x e = go (p y)
     go false = found-last p xs x e
 
 -- a Join or a Finish, of a part of which no call waits, that comes after all that wait
-pub record IsNext (b : Alone) (x : Waiting) : Type 0 where
+pub record IsNext (b : Account) (x : Waiting) : Type 0 where
   pub trans : TransId
   pub named : part_trans x.call ≡ Some trans
   pub files : file_trans x.call ≡ None
@@ -43,7 +43,7 @@ pub record IsNext (b : Alone) (x : Waiting) : Type 0 where
   pub other : IsOther b.fates b.phases b.dead x.client x.call
   pub unready : (j : JoinNo) (u : TransId) (d ts : ℕ) → b.phases j ≡ Ready u d ts → is_of_part d u x ≡ false
 
-pub tells_waiting : (b : Alone) (x : Waiting) → Tells b → IsNext b x → Tells (record b { waits = b.waits ++ x ∷ [] })
+pub tells_waiting : (b : Account) (x : Waiting) → Tells b → IsNext b x → Tells (record b { waits = b.waits ++ x ∷ [] })
 tells_waiting b x q n = record {
   ended = q.ended;
   parts = all-append (λ (v : Waiting). IsOfPart b.holder.lives b.dead v (file_trans v.call)) b.waits (x ∷ []) q.parts (subst (IsOfPart b.holder.lives b.dead x) (sym n.files) tt, tt);
@@ -77,7 +77,7 @@ came-before sessions client number w ws there turn came = all-map (λ (v : Waiti
 
 -- ---- a fate moves
 
-pub tells_fated : (b : Alone) → Tells b → (t : TransId) (move : Fate → Fate) → ((c : Cause) → move (Ended c) ≡ Ended c) → ((n : ℕ) → IsFinishOf n (b.fates t) (b.dead n t) → IsFinishOf n (move (b.fates t)) (b.dead n t)) → HasNoCall b.waits t (move (b.fates t))
+pub tells_fated : (b : Account) → Tells b → (t : TransId) (move : Fate → Fate) → ((c : Cause) → move (Ended c) ≡ Ended c) → ((n : ℕ) → IsFinishOf n (b.fates t) (b.dead n t) → IsFinishOf n (move (b.fates t)) (b.dead n t)) → HasNoCall b.waits t (move (b.fates t))
     → Tells (record b { fates = λ u. cond {A = Fate} (same_trans t u) (move (b.fates u)) (b.fates u) })
 tells_fated b q t move keeps waits none = record {
   ended = ended_moved b.holder.server b.dead b.fates b.phases t move q.ended keeps;
@@ -91,7 +91,7 @@ tells_fated b q t move keeps waits none = record {
 
 -- ---- a join moves
 
-module _ (b : Alone) (q : Tells b) (j : JoinNo) (move : Phase → Phase) where
+module _ (b : Account) (q : Tells b) (j : JoinNo) (move : Phase → Phase) where
   abbrev moved_phases : JoinNo → Phase
   moved_phases = λ k. cond {A = Phase} (same_join j k) (move (b.phases k)) (b.phases k)
 

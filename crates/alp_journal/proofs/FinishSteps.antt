@@ -32,7 +32,7 @@ use Rattle.alp_journal.specs.Laws.{IsBlocked, IsHolding, SaysRight, drawn_by, re
 use Rattle.alp_journal.specs.Messages.{Mail, to_each, on_finish}
 use Rattle.alp_journal.specs.Answered.{is_all_done, is_release}
 use Rattle.alp_journal.specs.Answers.{Part, part_at, at_part, finish_reply, First}
-use Rattle.alp_journal.specs.Alone.{Alone, alone, IsFateOf, Stands, Tells, IsSettled, IsQuiet, HasTried, IsFinishOf, HasCome, HasNoCall, is_on_trans, sent_acts, Leads}
+use Rattle.alp_journal.specs.Account.{Account, state_of, IsFateOf, Stands, Tells, IsSettled, IsQuiet, HasTried, IsFinishOf, HasCome, HasNoCall, is_on_trans, sent_acts, Leads}
 use Rattle.alp_journal.proofs.IdLemmas.{same_trans-true, same_trans-itself, all-append}
 use Rattle.alp_journal.proofs.MadeIds.{all-map}
 use Rattle.alp_journal.proofs.WaitLemmas.{none-found}
@@ -42,18 +42,18 @@ use Rattle.alp_journal.proofs.PartLemmas.{own_at_work}
 use Rattle.alp_journal.proofs.MoveLemmas.{stands_fated}
 use Rattle.alp_journal.proofs.DeskLemmas.{IsNext, tells_waiting, tells_fated, came-before}
 use Rattle.alp_journal.proofs.QuietLemmas.{none-on, stands_as}
-use Rattle.alp_journal.proofs.AloneLemmas.{AreAddressed, IsMail, mail_behind, call_entry, new_call, call_leads}
-use Rattle.alp_journal.proofs.AloneEntries.{counted_as, counted_quiet}
+use Rattle.alp_journal.proofs.CallLemmas.{AreAddressed, IsMail, mail_behind, call_entry, new_call, call_leads}
+use Rattle.alp_journal.proofs.RefusedCalls.{counted_as, counted_quiet}
 use Rattle.alp_journal.proofs.LetGoLemmas.{none-sent, no-mail-is}
 use Rattle.alp_journal.proofs.ArrivalLemmas.{no_release}
-use Rattle.alp_journal.proofs.AloneEnds.{each-addressed, IsOwn, own_of, here_as, known_as, now_as}
+use Rattle.alp_journal.proofs.OwnEnds.{each-addressed, IsOwn, own_of, here_as, known_as, now_as}
 
 -- nothing is said wrong by a question
 asks-said : (e : Event) (x : State) (t : TransId) (js : List JoinNo) → AllByRecursion (SaysRight e x) (sent_acts (to_each (msg.Ask t) js))
 asks-said e x t [] = tt
 asks-said e x t (j ∷ js) = (tt, asks-said e x t js)
 
-module _ (a : Alone) (client number : ℕ) (w : Session) (t : TransId) (l : Life) (j : JoinNo) (js : List JoinNo) where
+module _ (a : Account) (client number : ℕ) (w : Session) (t : TransId) (l : Life) (j : JoinNo) (js : List JoinNo) where
   abbrev not_yet : Reply
   not_yet = reply.Refused refusal.NotYet
 
@@ -68,7 +68,7 @@ module _ (a : Alone) (client number : ℕ) (w : Session) (t : TransId) (l : Life
   asks_each = to_each (msg.Ask t) (j ∷ js)
 
   -- the transaction is finishing, and the call waits
-  abbrev pub with_finish : Alone
+  abbrev pub with_finish : Account
   with_finish = record (counted_as a client number w (reply.Refused refusal.NotYet)) {
     fates = λ u. if same_trans t u then fate.finishing (a.fates u) else a.fates u;
     waits = a.waits ++ (record { client = client; number = number; call = call.Finish t true; is_granted = false }) ∷ [];
@@ -85,7 +85,7 @@ module _ (a : Alone) (client number : ℕ) (w : Session) (t : TransId) (l : Life
     pub turn : number ≡ w.last + 1
     pub live : a.holder.lives t ≡ Some l
     pub runs : a.fates t ≡ Running client (j ∷ js)
-    pub idle : waiting_of (alone a).desk client t ≡ None
+    pub idle : waiting_of (state_of a).desk client t ≡ None
 
   own : AsksOwes → IsOwn a client t l cause.Asked
   own o = own_of a client t l cause.Asked o.quiet.settled o.live o.runs
@@ -136,14 +136,14 @@ module _ (a : Alone) (client number : ℕ) (w : Session) (t : TransId) (l : Life
   finish_quiet : AsksOwes → IsQuiet with_finish
   finish_quiet o = record {
     settled = record { stands = stands_as (record a { fates = with_finish.fates }) with_finish.sessions with_finish.waits a.dead false [] (finish_stands o); tells = finish_tells o };
-    turns = all-append (λ (v : Waiting). IsBlocked (alone with_finish) v (file_trans v.call)) a.waits (finish_waiter ∷ [])
-        (all-map (λ (v : Waiting). IsBlocked (alone a) v (file_trans v.call)) (λ (v : Waiting). IsBlocked (alone with_finish) v (file_trans v.call)) (λ v b. blocked-as (alone a) (alone with_finish) v (file_trans v.call) refl b) a.waits o.quiet.turns) (tt, tt);
+    turns = all-append (λ (v : Waiting). IsBlocked (state_of with_finish) v (file_trans v.call)) a.waits (finish_waiter ∷ [])
+        (all-map (λ (v : Waiting). IsBlocked (state_of a) v (file_trans v.call)) (λ (v : Waiting). IsBlocked (state_of with_finish) v (file_trans v.call)) (λ v b. blocked-as (state_of a) (state_of with_finish) v (file_trans v.call) refl b) a.waits o.quiet.turns) (tt, tt);
     tried = HasTried.nothing refl;
   }
 
   pub finish_asks_leads : AsksOwes → Leads false a (call_entry a client number w (call.Finish t true) (reply.Refused refusal.NotYet) (sent_acts asks_each)) with_finish
   finish_asks_leads o =
-      let s : State = alone a in
+      let s : State = state_of a in
       let r : Reply = not_yet in
       let here : t.server ≡ a.holder.server = here_as a client t l cause.Asked (own o) in
       let mine : (client == client) ≡ true = eq-eqb client client refl in
@@ -171,12 +171,12 @@ module _ (a : Alone) (client number : ℕ) (w : Session) (t : TransId) (l : Life
           is_down = false;
           pending = [];
         }) o.idle
-            ∙ (λ i. alone (record with_finish { begun = append-nil a.begun i; joined = append-nil a.joined i }));
+            ∙ (λ i. state_of (record with_finish { begun = append-nil a.begun i; joined = append-nil a.joined i }));
         drawn = none-sent drawn_by [] asks_each (λ m. refl);
         deeds = (record { counts = tt; view = tt; locks = tt; running = tt; registration = tt; vote = tt; decision = tt; application = tt; forgetting = tt }, tt);
         released = none-sent released_by [] asks_each (λ m. refl);
         granted = none-sent granted_by [] asks_each (λ m. refl);
-        said = asks-said ev (alone with_finish) t (j ∷ js);
+        said = asks-said ev (state_of with_finish) t (j ∷ js);
         tells = tt;
         regained = no-mail-is regained_by (λ m. refl) asks_each;
         quiet = finish_quiet o;

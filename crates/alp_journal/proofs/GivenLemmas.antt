@@ -25,7 +25,7 @@ use Rattle.alp_journal.specs.State.{State, state_deed}
 use Rattle.alp_journal.specs.Moves.{ungranted, call_now, asks_for, grants_to, act_deeds}
 use Rattle.alp_journal.specs.Laws.{IsLawfulDeed, IsFree, IsBlocked, IsOpenPart, DoLivesAgree, WaitsInTurn, ended_by, granted_by, grants_of, SaysRight}
 use Rattle.alp_journal.specs.Answered.{IsWalk, in_turn, is_conversion}
-use Rattle.alp_journal.specs.Alone.{Alone, alone, IsJoined, IsPartAs, IsSettled, IsQuiet, HasTried, IsPartOf, IsOfPart, IsOther, HasCome, HasWaits, granted_calls, holder_granted, waits_granted, with_granted, grant_acts, grant_deeds}
+use Rattle.alp_journal.specs.Account.{Account, state_of, IsJoined, IsPartAs, IsSettled, IsQuiet, HasTried, IsPartOf, IsOfPart, IsOther, HasCome, HasWaits, granted_calls, holder_granted, waits_granted, with_granted, grant_acts, grant_deeds}
 use Rattle.alp_journal.proofs.IdLemmas.{same_trans-true}
 use Rattle.alp_journal.proofs.MadeIds.{all-map}
 use Rattle.alp_journal.proofs.WaitLemmas.{IsOnly, each-only, by_part, found-none, all-both, all-turned, all-turned-back, all-granted, apart-granted}
@@ -98,15 +98,15 @@ unvoted-granted h t l c live u all = subst (λ (x : Option Life). IsUnvoted (gra
     go k false e is = all k is
 
 -- and the transaction runs, or its join was let in
-abbrev pub IsOpenFor : Alone → TransId → Type 0
-IsOpenFor m t = IsOpenPart (alone m) t × IsUnvoted m.holder t
+abbrev pub IsOpenFor : Account → TransId → Type 0
+IsOpenFor m t = IsOpenPart (state_of m) t × IsUnvoted m.holder t
 
-abbrev pub AreOpen : Alone → List (TransId × Call) → Type 0
+abbrev pub AreOpen : Account → List (TransId × Call) → Type 0
 AreOpen m xs = AllByRecursion (λ (x : TransId × Call). IsOpenFor m x.0) xs
 
-module _ (m : Alone) (x : TransId × Call) where
+module _ (m : Account) (x : TransId × Call) where
   -- the part is granted it
-  abbrev granted_as_life : Option Life → Alone
+  abbrev granted_as_life : Option Life → Account
   granted_as_life y = record m { holder = grants m.holder x.0 x.1 y; locked = lock_set m.locked x.0 (with_resources (request_in m.holder x.1 y) (m.locked x.0)); waits = list_map (grant_in x.0) m.waits }
 
   pub settled-granted : IsSettled m → IsFreeNow m.holder x → IsSettled (with_granted m (x ∷ []))
@@ -146,10 +146,10 @@ module _ (m : Alone) (x : TransId × Call) where
       part-granted w b None h = h
       part-granted w b (Some u) h = h
 
-  state-granted : state_deed (alone m) (Grants x.0 x.1) ≡ alone (with_granted m (x ∷ []))
-  state-granted = λ i. alone (record (with_granted m (x ∷ [])) { begun = append-nil m.begun i; joined = append-nil m.joined i })
+  state-granted : state_deed (state_of m) (Grants x.0 x.1) ≡ state_of (with_granted m (x ∷ []))
+  state-granted = λ i. state_of (record (with_granted m (x ∷ [])) { begun = append-nil m.begun i; joined = append-nil m.joined i })
 
-  lawful-granted : (e : Event) → IsSettled m → IsFreeNow m.holder x → IsOpenFor m x.0 → IsLawfulDeed e (alone m) (Grants x.0 x.1)
+  lawful-granted : (e : Event) → IsSettled m → IsFreeNow m.holder x → IsOpenFor m x.0 → IsLawfulDeed e (state_of m) (Grants x.0 x.1)
   lawful-granted e q now opens = record {
     counts = tt;
     view = tt;
@@ -164,15 +164,15 @@ module _ (m : Alone) (x : TransId × Call) where
 
 -- ---- all of them
 
-pub settled-given : (xs : List (TransId × Call)) (m : Alone) → IsSettled m → AreFree m.holder xs → IsSettled (with_granted m xs)
+pub settled-given : (xs : List (TransId × Call)) (m : Account) → IsSettled m → AreFree m.holder xs → IsSettled (with_granted m xs)
 settled-given [] m q free = q
 settled-given (x ∷ xs) m q free = settled-given xs (with_granted m (x ∷ [])) (settled-granted m x q free.0) free.1
 
-pub state-given : (xs : List (TransId × Call)) (m : Alone) → state_after state_deed (alone m) (grant_deeds xs) ≡ alone (with_granted m xs)
+pub state-given : (xs : List (TransId × Call)) (m : Account) → state_after state_deed (state_of m) (grant_deeds xs) ≡ state_of (with_granted m xs)
 state-given [] m = refl
 state-given (x ∷ xs) m = ap (λ (s : State). state_after state_deed s (grant_deeds xs)) (state-granted m x) ∙ state-given xs (with_granted m (x ∷ []))
 
-pub lawful-given : (e : Event) (xs : List (TransId × Call)) (m : Alone) → IsSettled m → AreFree m.holder xs → AreOpen m xs → Along state_deed (IsLawfulDeed e) (alone m) (grant_deeds xs)
+pub lawful-given : (e : Event) (xs : List (TransId × Call)) (m : Account) → IsSettled m → AreFree m.holder xs → AreOpen m xs → Along state_deed (IsLawfulDeed e) (state_of m) (grant_deeds xs)
 lawful-given e [] m q free opens = tt
 lawful-given e (x ∷ xs) m q free opens = (
   lawful-granted m x e q free.0 opens.0,
@@ -181,7 +181,7 @@ lawful-given e (x ∷ xs) m q free opens = (
 )
 
 -- one more after those
-pub given-last : (xs : List (TransId × Call)) (x : TransId × Call) (m : Alone) → with_granted m (xs ++ x ∷ []) ≡ with_granted (with_granted m xs) (x ∷ [])
+pub given-last : (xs : List (TransId × Call)) (x : TransId × Call) (m : Account) → with_granted m (xs ++ x ∷ []) ≡ with_granted (with_granted m xs) (x ∷ [])
 given-last [] x m = refl
 given-last (y ∷ ys) x m = given-last ys x (with_granted m (y ∷ []))
 
@@ -201,10 +201,10 @@ lived-granted before h t c l live was = subst (λ (x : Option Life). LivedBefore
 -- ---- the part of a call that waits is open
 
 -- the part of this call, if it lives, is open
-abbrev pub IsOpenCall : Alone → Waiting → Type 0
+abbrev pub IsOpenCall : Account → Waiting → Type 0
 IsOpenCall m w = (u : TransId) (k : Life) → file_trans w.call ≡ Some u → m.holder.lives u ≡ Some k → IsOpenFor m u
 
-module _ (m : Alone) (q : IsSettled m) where
+module _ (m : Account) (q : IsSettled m) where
   open_call : (w : Waiting) → IsOnly m.waits w → IsOfPart m.holder.lives m.dead w (file_trans w.call) → IsOpenCall m w
   open_call w only part u k of live = by k.join refl (pair_of m q.stands u k live)
     where
@@ -231,7 +231,7 @@ module _ (m : Alone) (q : IsSettled m) where
   pub open_calls : AllByRecursion (IsOpenCall m) m.waits
   open_calls = all-both (IsOnly m.waits) (λ (w : Waiting). IsOfPart m.holder.lives m.dead w (file_trans w.call)) (IsOpenCall m) (λ w only part. open_call w only part) m.waits (each-only m.waits q.tells.apart) q.tells.parts
 
-walk-open : (m : Alone) (all : List Waiting) (h : Holder) (ws : List Waiting) (ts : List TransId) → LivedBefore m.holder h → IsWalk h ws ts → AllByRecursion (IsOnly all) ws → AllByRecursion (IsOpenCall m) ws → AreOpen m (granted_calls all ts)
+walk-open : (m : Account) (all : List Waiting) (h : Holder) (ws : List Waiting) (ts : List TransId) → LivedBefore m.holder h → IsWalk h ws ts → AllByRecursion (IsOnly all) ws → AllByRecursion (IsOpenCall m) ws → AreOpen m (granted_calls all ts)
 walk-open m all h [] [] was (IsWalk.ends _) only opens = tt
 walk-open m all h [] (u ∷ ts) was walk only opens = elim walk [ ]
 walk-open m all h (w ∷ ws) ts was (IsWalk.passes _ _ _ _ blocked rest) only opens = walk-open m all h ws ts was rest only.1 opens.1
@@ -242,7 +242,7 @@ walk-open m all h (w ∷ ws) (u ∷ ts) was (IsWalk.takes _ _ _ _ _ k waits free
 
 -- ---- a walk
 
-module _ (m : Alone) (ts : List TransId) (q : IsSettled m) (walk : IsWalk m.holder (in_turn m.holder m.waits) ts) where
+module _ (m : Account) (ts : List TransId) (q : IsSettled m) (walk : IsWalk m.holder (in_turn m.holder m.waits) ts) where
   abbrev given : List (TransId × Call)
   given = granted_calls m.waits ts
 
@@ -265,8 +265,8 @@ module _ (m : Alone) (ts : List TransId) (q : IsSettled m) (walk : IsWalk m.hold
   walk-grants = walk-firsts m.waits m.holder (in_turn m.holder m.waits) ts walk only_in_turn
 
   -- nobody is left waiting whose way is free
-  turns-given : WaitsInTurn (alone (with_granted m given))
-  turns-given = all-map (IsPassed (holder_granted m.holder given) []) (λ (w : Waiting). IsBlocked (alone (with_granted m given)) w (file_trans w.call)) (λ w p. blocked-at (alone (with_granted m given)) w p) (waits_granted m.waits given)
+  turns-given : WaitsInTurn (state_of (with_granted m given))
+  turns-given = all-map (IsPassed (holder_granted m.holder given) []) (λ (w : Waiting). IsBlocked (state_of (with_granted m given)) w (file_trans w.call)) (λ w p. blocked-at (state_of (with_granted m given)) w p) (waits_granted m.waits given)
       (left-blocked (holder_granted m.holder given) given m.waits
       (subst (λ (us : List TransId). AllByRecursion (IsPassed (holder_granted m.holder given) us) m.waits) (sym walk-grants)
       (all-turned-back (IsPassed (holder_granted m.holder given) ts) converts m.waits (walk-blocks m.waits m.holder (in_turn m.holder m.waits) ts walk only_in_turn))))
@@ -274,7 +274,7 @@ module _ (m : Alone) (ts : List TransId) (q : IsSettled m) (walk : IsWalk m.hold
   pub quiet-given : m.pending ≡ [] → IsQuiet (with_granted m given)
   quiet-given none = record { settled = settled-given given m q walk-is-free; turns = turns-given; tried = HasTried.nothing none }
 
-  pub lawful-walk : (e : Event) → Along state_deed (IsLawfulDeed e) (alone m) (grant_deeds given)
+  pub lawful-walk : (e : Event) → Along state_deed (IsLawfulDeed e) (state_of m) (grant_deeds given)
   lawful-walk e = lawful-given e given m q walk-is-free walk-is-open
 
   -- what its acts say
@@ -283,12 +283,12 @@ module _ (m : Alone) (ts : List TransId) (q : IsSettled m) (walk : IsWalk m.hold
 
 -- ---- which calls the acts grant
 
-module _ (a : Alone) (e : Event) (no_call : (t : TransId) (owner : ℕ) → call_now e t owner ≡ None) where
-  asked-one : (w : Waiting) (u : TransId) (j : Life) → IsOnly a.waits w → file_trans w.call ≡ Some u → w.is_granted ≡ false → w.client ≡ j.client → a.holder.lives u ≡ Some j → act_deeds (alone a) e (act.Granted u) ≡ Grants u w.call ∷ []
+module _ (a : Account) (e : Event) (no_call : (t : TransId) (owner : ℕ) → call_now e t owner ≡ None) where
+  asked-one : (w : Waiting) (u : TransId) (j : Life) → IsOnly a.waits w → file_trans w.call ≡ Some u → w.is_granted ≡ false → w.client ≡ j.client → a.holder.lives u ≡ Some j → act_deeds (state_of a) e (act.Granted u) ≡ Grants u w.call ∷ []
   asked-one w u j only of wait own is =
-      ap (λ (x : Option Life). grants_to u (asks_for (alone a) e u x)) is
-      ∙ ap (λ (x : Option Call). grants_to u (option_or (ungranted (waiting_of (alone a).desk j.client u)) x)) (no_call u j.client)
-      ∙ ap (λ (x : Option Waiting). grants_to u (option_or (ungranted x) None)) (ap (λ (n : ℕ). waiting_of (alone a).desk n u) (sym own) ∙ by_part a.waits w only u of)
+      ap (λ (x : Option Life). grants_to u (asks_for (state_of a) e u x)) is
+      ∙ ap (λ (x : Option Call). grants_to u (option_or (ungranted (waiting_of (state_of a).desk j.client u)) x)) (no_call u j.client)
+      ∙ ap (λ (x : Option Waiting). grants_to u (option_or (ungranted x) None)) (ap (λ (n : ℕ). waiting_of (state_of a).desk n u) (sym own) ∙ by_part a.waits w only u of)
       ∙ ap (λ (b : Bool). grants_to u (option_or (cond {A = Option Call} (b || is_none (file_trans w.call)) None (Some w.call)) None)) wait
       ∙ ap (λ (x : Option TransId). grants_to u (option_or (cond {A = Option Call} (is_none x) None (Some w.call)) None)) of
 
@@ -296,18 +296,18 @@ module _ (a : Alone) (e : Event) (no_call : (t : TransId) (owner : ℕ) → call
   part-of w u j part of is = subst (λ (x : Option Life). IsPartOf w.client x (a.dead w.client u)) is (subst (IsOfPart a.holder.lives a.dead w) of part)
 
   asked-walk : (h : Holder) (ws : List Waiting) (ts : List TransId) → LivedBefore a.holder h → IsWalk h ws ts → AllByRecursion (IsOnly a.waits) ws → AreOfParts a.holder.lives a.dead ws
-      → flat_map (act_deeds (alone a) e) (grant_acts ts) ≡ grant_deeds (granted_calls a.waits ts)
+      → flat_map (act_deeds (state_of a) e) (grant_acts ts) ≡ grant_deeds (granted_calls a.waits ts)
   asked-walk h [] [] was (IsWalk.ends _) only parts = refl
   asked-walk h [] (u ∷ ts) was walk only parts = elim walk [ ]
   asked-walk h (w ∷ ws) ts was (IsWalk.passes _ _ _ _ blocked rest) only parts = asked-walk h ws ts was rest only.1 parts.1
   asked-walk h (w ∷ ws) (u ∷ ts) was (IsWalk.takes _ _ _ _ _ k waits free rest) only parts =
       let (j, is) = was u k waits.live in
-      ap (λ (ds : List Deed). ds ++ flat_map (act_deeds (alone a) e) (grant_acts ts)) (asked-one w u j only.0 waits.call waits.ungranted (part-of w u j parts.0 waits.call is) is)
+      ap (λ (ds : List Deed). ds ++ flat_map (act_deeds (state_of a) e) (grant_acts ts)) (asked-one w u j only.0 waits.call waits.ungranted (part-of w u j parts.0 waits.call is) is)
       ∙ ap (λ (ds : List Deed). Grants u w.call ∷ ds) (asked-walk (grants h u w.call (h.lives u)) ws ts (lived-granted a.holder h u w.call k waits.live was) rest only.1 parts.1)
       ∙ ap grant_deeds (sym (calls-first a.waits u w.call ts (its-call a.waits w u only.0 waits.call)))
 
   -- the grants of a walk are of the calls that waited before the entry
-  pub asked-given : (h : Holder) (ts : List TransId) → IsSettled a → LivedBefore a.holder h → IsWalk h (in_turn h a.waits) ts → flat_map (act_deeds (alone a) e) (grant_acts ts) ≡ grant_deeds (granted_calls a.waits ts)
+  pub asked-given : (h : Holder) (ts : List TransId) → IsSettled a → LivedBefore a.holder h → IsWalk h (in_turn h a.waits) ts → flat_map (act_deeds (state_of a) e) (grant_acts ts) ≡ grant_deeds (granted_calls a.waits ts)
   asked-given h ts q was walk =
       asked-walk h (in_turn h a.waits) ts was walk
       (all-turned (IsOnly a.waits) (λ w. is_conversion h w (file_trans w.call)) a.waits (each-only a.waits q.tells.apart))

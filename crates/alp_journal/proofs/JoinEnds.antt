@@ -21,14 +21,14 @@ use Rattle.alp_journal.specs.State.{State, state_deed, is_whose}
 use Rattle.alp_journal.specs.Moves.{call_now}
 use Rattle.alp_journal.specs.Laws.{IsLawfulDeed, IsHolding, ended_by, ended_join, grants_of}
 use Rattle.alp_journal.specs.Answered.{IsWalk, in_turn}
-use Rattle.alp_journal.specs.Alone.{Alone, alone, IsJoined, IsPhaseOf, Stands, Tells, IsSettled, IsJoinOf, IsFinishOf, IsOther, HasWaits, HasNoJoin}
+use Rattle.alp_journal.specs.Account.{Account, state_of, IsJoined, IsPhaseOf, Stands, Tells, IsSettled, IsJoinOf, IsFinishOf, IsOther, HasWaits, HasNoJoin}
 use Rattle.alp_journal.proofs.IdLemmas.{same_trans-true, same_trans-itself, same_join-true}
 use Rattle.alp_journal.proofs.StandLemmas.{moved_each, moved_phase, same_join-itself, whose, live_of_open, far_of_held, holding_of, join_part_is, pair_of, life_of, held_once, not_both_servers, running_here}
 use Rattle.alp_journal.proofs.MoveLemmas.{IsSpent, live_before, stands_gone}
 use Rattle.alp_journal.proofs.DeskLemmas.{fewer}
 use Rattle.alp_journal.proofs.QuietLemmas.{AreEnded, AreOthers, AreOfParts, ended_told, ended_joins, others-on, parts-told, has_ended}
 use Rattle.alp_journal.proofs.LetGoLemmas.{GoesOn}
-use Rattle.alp_journal.proofs.AloneEnds.{told-more, finish-more, lived_on}
+use Rattle.alp_journal.proofs.OwnEnds.{told-more, finish-more, lived_on}
 
 -- one that holds a part ends with it
 pub ended_holding : (t u : TransId) (p : Phase) → IsHolding t p → ended_join u p ≡ u ∷ []
@@ -39,7 +39,7 @@ ended_holding t u (Ready v c ts) h = refl
 ended_holding t u (Applied v stamp) h = absurd h
 ended_holding t u Over h = absurd h
 
-module _ (a : Alone) (j : JoinNo) (t : TransId) (client : ℕ) (move : Phase → Phase) where
+module _ (a : Account) (j : JoinNo) (t : TransId) (client : ℕ) (move : Phase → Phase) where
   abbrev then_phases : JoinNo → Phase
   then_phases = λ k. cond {A = Phase} (same_join j k) (move (a.phases k)) (a.phases k)
 
@@ -107,7 +107,7 @@ module _ (a : Alone) (j : JoinNo) (t : TransId) (client : ℕ) (move : Phase →
 
     module _ (l : Life) (d : Deed) (H : Holder) where
       -- its locks are let go, and its client is to be told
-      abbrev pub join_ended : Alone
+      abbrev pub join_ended : Account
       join_ended = record a {
         holder = with_life a.holder t None;
         phases = λ k. if same_join j k then move (a.phases k) else a.phases k;
@@ -117,11 +117,11 @@ module _ (a : Alone) (j : JoinNo) (t : TransId) (client : ℕ) (move : Phase →
 
       -- the deed moves the join, and leaves the part until its locks are released
       pub record IsEndedBy (ev : Event) : Type 0 where
-        pub first : state_deed (alone a) d ≡ record (alone a) { holder = H; phases = then_phases; desk = with_dead (alone a).desk client t (Some c); begun = a.begun ++ []; joined = a.joined ++ [] }
+        pub first : state_deed (state_of a) d ≡ record (state_of a) { holder = H; phases = then_phases; desk = with_dead (state_of a).desk client t (Some c); begun = a.begun ++ []; joined = a.joined ++ [] }
         pub gone : with_life H t None ≡ with_life a.holder t None
         pub there : IsSome (H.lives t)
-        pub lawful : IsLawfulDeed ev (alone a) d
-        pub ends : ended_by (alone a) d ≡ ended_join t (a.phases j)
+        pub lawful : IsLawfulDeed ev (state_of a) d
+        pub ends : ended_by (state_of a) d ≡ ended_join t (a.phases j)
         pub grants_none : grants_of d ≡ []
 
       stands_ended : IsEnding → IsHolding t (a.phases j) → Stands join_ended
@@ -169,7 +169,7 @@ module _ (a : Alone) (j : JoinNo) (t : TransId) (client : ℕ) (move : Phase →
       pub join_ended_goes : (ev : Event) → ((u : TransId) (n : ℕ) → call_now ev u n ≡ None) → IsEnding → IsEndedBy ev → IsHolding t (a.phases j) → a.holder.lives t ≡ Some l → l.client ≡ client → a.pending ≡ []
           → (ts : List TransId) → IsWalk join_ended.holder (in_turn join_ended.holder a.waits) ts → GoesOn a join_ended ev (act.Released t ∷ []) (d ∷ Releases t ∷ []) ts
       join_ended_goes ev no_call o by h live own none ts walk =
-          let mid : State = record (alone a) { holder = H; phases = then_phases; desk = with_dead (alone a).desk client t (Some c); begun = a.begun ++ []; joined = a.joined ++ [] } in
+          let mid : State = record (state_of a) { holder = H; phases = then_phases; desk = with_dead (state_of a).desk client t (Some c); begun = a.begun ++ []; joined = a.joined ++ [] } in
           record {
             before = o.settled;
             none_tried = none;
@@ -178,7 +178,7 @@ module _ (a : Alone) (j : JoinNo) (t : TransId) (client : ℕ) (move : Phase →
             waits = refl;
             walk = walk;
             no_call = no_call;
-            reached = ap (λ (s : State). state_deed s (Releases t)) by.first ∙ (λ i. alone (record join_ended { holder = by.gone i; begun = begun_two i; joined = joined_two i }));
+            reached = ap (λ (s : State). state_deed s (Releases t)) by.first ∙ (λ i. state_of (record join_ended { holder = by.gone i; begun = begun_two i; joined = joined_two i }));
             deeds = (by.lawful, (subst (λ (s : State). IsLawfulDeed ev s (Releases t)) (sym by.first) (record {
               counts = tt;
               view = tt;

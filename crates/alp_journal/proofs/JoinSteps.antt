@@ -30,7 +30,7 @@ use Rattle.alp_journal.specs.Moves.{who_is, joins_here, next_join, principal}
 use Rattle.alp_journal.specs.Laws.{IsLawfulDeed, IsBlocked}
 use Rattle.alp_journal.specs.Messages.{Mail, asks_to_join}
 use Rattle.alp_journal.specs.Answers.{Part, NoPart, is_no_part, phase_part, part_at, count_of_transactions, too_many, First, IsJoinAnswer, join_reply}
-use Rattle.alp_journal.specs.Alone.{Alone, alone, is_other, IsFateOf, IsPhaseOf, Stands, Tells, IsSettled, IsQuiet, HasTried, IsPartOf, IsOfPart, IsJoinOf, IsFinishOf, IsOther, HasCome, AreTwo, HasWaits, HasNoJoin, sent_acts, Leads}
+use Rattle.alp_journal.specs.Account.{Account, state_of, is_other, IsFateOf, IsPhaseOf, Stands, Tells, IsSettled, IsQuiet, HasTried, IsPartOf, IsOfPart, IsJoinOf, IsFinishOf, IsOther, HasCome, AreTwo, HasWaits, HasNoJoin, sent_acts, Leads}
 use Rattle.alp_journal.proofs.IdLemmas.{same_trans-true, same_trans-itself, same_join-true, all-append, all-filter}
 use Rattle.alp_journal.proofs.MadeIds.{all-map}
 use Rattle.alp_journal.proofs.WaitLemmas.{turned, passing, all-both, found-none, apart-last, file_part}
@@ -40,18 +40,18 @@ use Rattle.alp_journal.proofs.PartLemmas.{WaitsAs, each_waits, joined_part_at}
 use Rattle.alp_journal.proofs.MoveLemmas.{stands_drawn, live_still}
 use Rattle.alp_journal.proofs.DeskLemmas.{found-last, came-before}
 use Rattle.alp_journal.proofs.QuietLemmas.{other-on, came_on, later-come, stands_as, waits-last, calls-last}
-use Rattle.alp_journal.proofs.AloneLemmas.{IsMail, no_mail, mail_behind, call_entry, new_call, call_leads}
-use Rattle.alp_journal.proofs.AloneEntries.{counted_as}
-use Rattle.alp_journal.proofs.AloneBegins.{is_buried, unburied, not_dead, tells_unburied, with_buried_as, buried_quiet}
-use Rattle.alp_journal.proofs.AloneCollects.{its_join}
+use Rattle.alp_journal.proofs.CallLemmas.{IsMail, no_mail, mail_behind, call_entry, new_call, call_leads}
+use Rattle.alp_journal.proofs.RefusedCalls.{counted_as}
+use Rattle.alp_journal.proofs.BeginCalls.{is_buried, unburied, not_dead, tells_unburied, with_buried_as, buried_quiet}
+use Rattle.alp_journal.proofs.CollectCalls.{its_join}
 
 -- ---- a client that has no part of it
 
 -- the next join was not seen
-pub next_unseen : (a : Alone) → Stands a → a.phases (next_join (alone a)) ≡ Unseen
-next_unseen a q = go (a.phases (next_join (alone a))) (q.phases (next_join (alone a)))
+pub next_unseen : (a : Account) → Stands a → a.phases (next_join (state_of a)) ≡ Unseen
+next_unseen a q = go (a.phases (next_join (state_of a))) (q.phases (next_join (state_of a)))
   where
-    go : (p : Phase) → IsPhaseOf a.servers a.holder.server a.ids.epoch a.ids.joins a.joined (next_join (alone a)) p → p ≡ Unseen
+    go : (p : Phase) → IsPhaseOf a.servers a.holder.server a.ids.epoch a.ids.joins a.joined (next_join (state_of a)) p → p ≡ Unseen
     go Unseen h = refl
     go (Joining t c who) h = absurd (next_undrawn a.holder.server a.ids.epoch a.ids.joins h.0.0)
     go (Active t c who) h = absurd (next_undrawn a.holder.server a.ids.epoch a.ids.joins h.0.0)
@@ -68,7 +68,7 @@ live_part client t (Applied u stamp) h = let wrong : false ≡ true = h in cc
 live_part client t Over h = let wrong : false ≡ true = h in cc
 
 -- it has no live join either, where the transaction is of another server
-pub none_joined : (a : Alone) (client : ℕ) (t : TransId) → Stands a → is_other a.servers a.holder.server t.server ≡ true → is_no_part (part_at (alone a) client t) ≡ true → HasNoJoin a.phases client t
+pub none_joined : (a : Account) (client : ℕ) (t : TransId) → Stands a → is_other a.servers a.holder.server t.server ≡ true → is_no_part (part_at (state_of a) client t) ≡ true → HasNoJoin a.phases client t
 none_joined a client t q far none j = go (is_whose client t (live_in (a.phases j))) refl
   where
     go : (b : Bool) → is_whose client t (live_in (a.phases j)) ≡ b → b ≡ false
@@ -77,7 +77,7 @@ none_joined a client t q far none j = go (is_whose client t (live_in (a.phases j
         let wrong : true ≡ false = sym none ∙ ap is_no_part (joined_part_at a t client j q (not_own_server a.servers a.holder.server t.server far) e) ∙ live_part client t (a.phases j) e in
         cc
 
-module _ (a : Alone) (client number : ℕ) (w : Session) (t : TransId) where
+module _ (a : Account) (client number : ℕ) (w : Session) (t : TransId) where
   -- all that is known where one is drawn
   pub record DrawOwes : Type 0 where
     pub quiet : IsQuiet a
@@ -85,22 +85,22 @@ module _ (a : Alone) (client number : ℕ) (w : Session) (t : TransId) where
     pub there : a.sessions client ≡ Some w
     pub turn : number ≡ w.last + 1
     pub raised : 0 < a.ids.epoch
-    pub none : is_no_part (part_at (alone a) client t) ≡ true
-    pub far : is_other_server (alone a) t.server ≡ true
+    pub none : is_no_part (part_at (state_of a) client t) ≡ true
+    pub far : is_other_server (state_of a) t.server ≡ true
 
   abbrev join_waiter : Waiting
   join_waiter = record { client = client; number = number; call = call.Join t; is_granted = false }
 
   -- the transaction's server is asked
   abbrev pub register_mail : List Mail
-  register_mail = (t.server, msg.Register t (next_join (alone a)) client) ∷ []
+  register_mail = (t.server, msg.Register t (next_join (state_of a)) client) ∷ []
 
   -- the client's dead parts go, the join asks to be let in, and the call waits for it
-  abbrev pub with_join : Alone
+  abbrev pub with_join : Account
   with_join = record (with_buried_as a client number w (reply.Refused refusal.NotYet)) {
     ids = record a.ids { joins = a.ids.joins + 1 };
-    phases = λ k. if same_join (next_join (alone a)) k then phase.drawn t client w.who (a.phases k) else a.phases k;
-    joined = a.joined ++ next_join (alone a) ∷ [];
+    phases = λ k. if same_join (next_join (state_of a)) k then phase.drawn t client w.who (a.phases k) else a.phases k;
+    joined = a.joined ++ next_join (state_of a) ∷ [];
     waits = unburied a client ++ join_waiter ∷ [];
   }
 
@@ -169,7 +169,7 @@ module _ (a : Alone) (client number : ℕ) (w : Session) (t : TransId) where
   off_all o = all-both (λ v. not (is_buried a client v) ≡ true) (WaitsAs a) (λ v. is_of_part client t v ≡ false) (λ v n h. off_part o v (not-true (is_buried a client v) n) h) (unburied a client)
       (passing (λ v. not (is_buried a client v)) a.waits) (all-filter (WaitsAs a) (λ v. not (is_buried a client v)) a.waits (each_waits a o.quiet.settled.tells))
 
-  has_none : DrawOwes → has_part (alone a) client t ≡ false
+  has_none : DrawOwes → has_part (state_of a) client t ≡ false
   has_none o = (λ i. is_this client (client_of (a.fates t)) || is_some (join_none a o.quiet.settled.stands client t (unjoined o) i)) ∙ ap (λ (b : Bool). b || false) (nobody (a.fates t) (o.quiet.settled.stands.fates t))
     where
       away : t.server ≡ a.holder.server → is_this client (client_of (a.fates t)) ≡ false
@@ -188,7 +188,7 @@ module _ (a : Alone) (client number : ℕ) (w : Session) (t : TransId) where
   join_tells : DrawOwes → Tells with_join
   join_tells o =
       let q : IsSettled a = o.quiet.settled in
-      let j : JoinNo = next_join (alone a) in
+      let j : JoinNo = next_join (state_of a) in
       let new : a.phases j ≡ Unseen = next_unseen a q.stands in
       let told : Tells (record a { dead = with_join.dead; waits = unburied a client }) = tells_unburied a client q in
       let now : with_join.phases j ≡ Joining t client w.who = moved_phase a.phases j (phase.drawn t client w.who) ∙ ap (phase.drawn t client w.who) new in
@@ -216,10 +216,10 @@ module _ (a : Alone) (client number : ℕ) (w : Session) (t : TransId) where
       part v off u of true e =
           turned t u ∙ sym (ap (is_of t) of) ∙ ap (λ (b : Bool). b && is_of t (part_trans v.call)) (sym (eq-eqb v.client client (sym (eqb-true client v.client e)))) ∙ off
 
-      none_then : DrawOwes → (d : ℕ) (u : TransId) (c : Cause) → with_join.dead d u ≡ Some c → (k : JoinNo) (b : Bool) → same_join (next_join (alone a)) k ≡ b → is_whose d u (live_in (cond {A = Phase} b (phase.drawn t client w.who (a.phases k)) (a.phases k))) ≡ false
+      none_then : DrawOwes → (d : ℕ) (u : TransId) (c : Cause) → with_join.dead d u ≡ Some c → (k : JoinNo) (b : Bool) → same_join (next_join (state_of a)) k ≡ b → is_whose d u (live_in (cond {A = Phase} b (phase.drawn t client w.who (a.phases k)) (a.phases k))) ≡ false
       none_then o d u c is k false e = ((tells_unburied a client o.quiet.settled).ended d u c is).1 k
       none_then o d u c is k true e =
-          ap (λ (i : JoinNo). is_whose d u (live_in (phase.drawn t client w.who (a.phases i)))) (sym (same_join-true (next_join (alone a)) k e))
+          ap (λ (i : JoinNo). is_whose d u (live_in (phase.drawn t client w.who (a.phases i)))) (sym (same_join-true (next_join (state_of a)) k e))
           ∙ ap (λ (p : Phase). is_whose d u (live_in (phase.drawn t client w.who p))) (next_unseen a o.quiet.settled.stands) ∙ other (same_trans t u) (client == d) refl
         where
           other : (x y : Bool) → (client == d) ≡ y → (x && y) ≡ false
@@ -230,10 +230,10 @@ module _ (a : Alone) (client number : ℕ) (w : Session) (t : TransId) where
               let wrong : None ≡ Some c = gone in
               cc
 
-      still : DrawOwes → (n : ℕ) (u : TransId) (k : JoinNo) → is_whose n u (open_in (a.phases k)) ≡ true → (b : Bool) → same_join (next_join (alone a)) k ≡ b → is_whose n u (open_in (with_join.phases k)) ≡ true
+      still : DrawOwes → (n : ℕ) (u : TransId) (k : JoinNo) → is_whose n u (open_in (a.phases k)) ≡ true → (b : Bool) → same_join (next_join (state_of a)) k ≡ b → is_whose n u (open_in (with_join.phases k)) ≡ true
       still o n u k h false e = ap (λ (b : Bool). is_whose n u (open_in (cond {A = Phase} b (phase.drawn t client w.who (a.phases k)) (a.phases k)))) e ∙ h
       still o n u k h true e =
-          let wrong : false ≡ true = ap (λ (p : Phase). is_whose n u (open_in p)) (sym (next_unseen a o.quiet.settled.stands)) ∙ ap (λ (i : JoinNo). is_whose n u (open_in (a.phases i))) (same_join-true (next_join (alone a)) k e) ∙ h in
+          let wrong : false ≡ true = ap (λ (p : Phase). is_whose n u (open_in p)) (sym (next_unseen a o.quiet.settled.stands)) ∙ ap (λ (i : JoinNo). is_whose n u (open_in (a.phases i))) (same_join-true (next_join (state_of a)) k e) ∙ h in
           cc
 
       unready : DrawOwes → (k : JoinNo) (u : TransId) (d ts : ℕ) → a.phases k ≡ Ready u d ts → (x y : Bool) → (client == d) ≡ x → same_trans t u ≡ y → (x && y) ≡ false
@@ -250,18 +250,18 @@ module _ (a : Alone) (client number : ℕ) (w : Session) (t : TransId) where
           (stands_drawn a o.quiet.settled.stands o.raised t client w.who o.far (unjoined o) (next_unseen a o.quiet.settled.stands));
       tells = join_tells o;
     };
-    turns = all-append (λ (v : Waiting). IsBlocked (alone with_join) v (file_trans v.call)) (unburied a client) (join_waiter ∷ [])
-        (all-map (λ (v : Waiting). IsBlocked (alone a) v (file_trans v.call)) (λ (v : Waiting). IsBlocked (alone with_join) v (file_trans v.call)) (λ v b. blocked-as (alone a) (alone with_join) v (file_trans v.call) refl b) (unburied a client)
-        (all-filter (λ (v : Waiting). IsBlocked (alone a) v (file_trans v.call)) (λ v. not (is_buried a client v)) a.waits o.quiet.turns)) (tt, tt);
+    turns = all-append (λ (v : Waiting). IsBlocked (state_of with_join) v (file_trans v.call)) (unburied a client) (join_waiter ∷ [])
+        (all-map (λ (v : Waiting). IsBlocked (state_of a) v (file_trans v.call)) (λ (v : Waiting). IsBlocked (state_of with_join) v (file_trans v.call)) (λ v b. blocked-as (state_of a) (state_of with_join) v (file_trans v.call) refl b) (unburied a client)
+        (all-filter (λ (v : Waiting). IsBlocked (state_of a) v (file_trans v.call)) (λ v. not (is_buried a client v)) a.waits o.quiet.turns)) (tt, tt);
     tried = HasTried.nothing refl;
   }
 
   -- ---- the call
 
   -- a join is drawn, and its call waits
-  pub join_drawn_leads : DrawOwes → too_many (alone a) ≡ None → Leads false a (call_entry a client number w (call.Join t) (reply.Refused refusal.NotYet) (sent_acts register_mail)) with_join
+  pub join_drawn_leads : DrawOwes → too_many (state_of a) ≡ None → Leads false a (call_entry a client number w (call.Join t) (reply.Refused refusal.NotYet) (sent_acts register_mail)) with_join
   join_drawn_leads o few =
-      let s : State = alone a in
+      let s : State = state_of a in
       let r : Reply = reply.Refused refusal.NotYet in
       let j : JoinNo = next_join s in
       let ds : List Deed = Joins j t client w.who ∷ [] in
@@ -278,7 +278,7 @@ module _ (a : Alone) (client number : ℕ) (w : Session) (t : TransId) where
         new = new_call a client number w o.there o.turn;
         there = o.there;
         left = ap (λ (x : Option Waiting). record after { desk = cond {A = Desk} (is_some x) d (record d { waits = d.waits ++ join_waiter ∷ [] }); is_down = false; pending = [] }) idle
-            ∙ (λ i. alone (record with_join { begun = append-nil a.begun i }));
+            ∙ (λ i. state_of (record with_join { begun = append-nil a.begun i }));
         drawn = refl;
         deeds = (record { counts = (refl, o.far); view = tt; locks = tt; running = tt; registration = tt; vote = tt; decision = tt; application = tt; forgetting = tt }, tt);
         released = refl;
@@ -297,17 +297,17 @@ module _ (a : Alone) (client number : ℕ) (w : Session) (t : TransId) where
       })
 
   -- too many transactions are live: none is drawn, and the client's dead parts go
-  pub join_refused_leads : (f : Refusal) → DrawOwes → too_many (alone a) ≡ Some f → Leads false a (call_entry a client number w (call.Join t) (reply.Refused f) []) (with_buried_as a client number w (reply.Refused f))
+  pub join_refused_leads : (f : Refusal) → DrawOwes → too_many (state_of a) ≡ Some f → Leads false a (call_entry a client number w (call.Join t) (reply.Refused f) []) (with_buried_as a client number w (reply.Refused f))
   join_refused_leads f o many = go f many (many_is f many)
     where
-      many_is : (f : Refusal) → too_many (alone a) ≡ Some f → f ≡ refusal.TooMany what.Transactions 64
-      many_is f e = by (nat_le 64 (count_of_transactions (alone a))) e
+      many_is : (f : Refusal) → too_many (state_of a) ≡ Some f → f ≡ refusal.TooMany what.Transactions 64
+      many_is f e = by (nat_le 64 (count_of_transactions (state_of a))) e
         where
           by : (b : Bool) → cond {A = Option Refusal} b (Some (refusal.TooMany what.Transactions 64)) None ≡ Some f → f ≡ refusal.TooMany what.Transactions 64
           by true e = same-some f (refusal.TooMany what.Transactions 64) (sym e)
           by false e = let wrong : None ≡ Some f = e in cc
 
-      go : (f : Refusal) → too_many (alone a) ≡ Some f → f ≡ refusal.TooMany what.Transactions 64 → Leads false a (call_entry a client number w (call.Join t) (reply.Refused f) []) (with_buried_as a client number w (reply.Refused f))
+      go : (f : Refusal) → too_many (state_of a) ≡ Some f → f ≡ refusal.TooMany what.Transactions 64 → Leads false a (call_entry a client number w (call.Join t) (reply.Refused f) []) (with_buried_as a client number w (reply.Refused f))
       go f many is = subst (λ (g : Refusal). Leads false a (call_entry a client number w (call.Join t) (reply.Refused g) []) (with_buried_as a client number w (reply.Refused g))) (sym is)
           (call_leads a client number w false (call.Join t) (reply.Refused (refusal.TooMany what.Transactions 64)) [] [] (with_buried_as a client number w (reply.Refused (refusal.TooMany what.Transactions 64))) o.there o.turn (record {
             plain = λ m. refl;
@@ -326,9 +326,9 @@ module _ (a : Alone) (client number : ℕ) (w : Session) (t : TransId) where
             tells = tt;
             regained = refl;
             quiet = buried_quiet a client number w (reply.Refused (refusal.TooMany what.Transactions 64)) o.quiet o.there o.turn;
-            answer = subst (λ (b : Bool). Where (b && not (is_other_server (alone a) t.server)) (reply.Refused (refusal.TooMany what.Transactions 64) ≡ reply.Refused refusal.UnknownTrans)
-                (Where b (First (too_many (alone a)) (reply.Refused (refusal.TooMany what.Transactions 64)) (reply.Refused (refusal.TooMany what.Transactions 64) ≡ reply.Refused refusal.NotYet)) (reply.Refused (refusal.TooMany what.Transactions 64) ≡ join_reply (is_some (waiting_of (alone a).desk client t)) (part_at (alone a) client t)))) (sym o.none)
-                (subst (λ (b : Bool). Where (not b) (reply.Refused (refusal.TooMany what.Transactions 64) ≡ reply.Refused refusal.UnknownTrans) (First (too_many (alone a)) (reply.Refused (refusal.TooMany what.Transactions 64)) (reply.Refused (refusal.TooMany what.Transactions 64) ≡ reply.Refused refusal.NotYet))) (sym o.far)
+            answer = subst (λ (b : Bool). Where (b && not (is_other_server (state_of a) t.server)) (reply.Refused (refusal.TooMany what.Transactions 64) ≡ reply.Refused refusal.UnknownTrans)
+                (Where b (First (too_many (state_of a)) (reply.Refused (refusal.TooMany what.Transactions 64)) (reply.Refused (refusal.TooMany what.Transactions 64) ≡ reply.Refused refusal.NotYet)) (reply.Refused (refusal.TooMany what.Transactions 64) ≡ join_reply (is_some (waiting_of (state_of a).desk client t)) (part_at (state_of a) client t)))) (sym o.none)
+                (subst (λ (b : Bool). Where (not b) (reply.Refused (refusal.TooMany what.Transactions 64) ≡ reply.Refused refusal.UnknownTrans) (First (too_many (state_of a)) (reply.Refused (refusal.TooMany what.Transactions 64)) (reply.Refused (refusal.TooMany what.Transactions 64) ≡ reply.Refused refusal.NotYet))) (sym o.far)
                 (subst (λ (x : Option Refusal). First x (reply.Refused (refusal.TooMany what.Transactions 64)) (reply.Refused (refusal.TooMany what.Transactions 64) ≡ reply.Refused refusal.NotYet)) (sym (many ∙ ap Some is)) refl));
             mail = no_mail [] refl refl;
             turns = tt;

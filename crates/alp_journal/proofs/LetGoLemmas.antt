@@ -23,11 +23,11 @@ use Rattle.alp_journal.specs.Laws.{IsLawfulDeed, SaysRight, TellsIn, drawn_by, b
 use Rattle.alp_journal.specs.Messages.{Mail, on_call, sent_by}
 use Rattle.alp_journal.specs.Answers.{IsAnswer}
 use Rattle.alp_journal.specs.Answered.{is_release, to_release, at_release, in_turn, IsWalk, GivesOn}
-use Rattle.alp_journal.specs.Alone.{Alone, alone, IsSettled, IsQuiet, granted_calls, with_granted, grant_acts, grant_deeds, sent_acts, Leads}
+use Rattle.alp_journal.specs.Account.{Account, state_of, IsSettled, IsQuiet, granted_calls, with_granted, grant_acts, grant_deeds, sent_acts, Leads}
 use Rattle.alp_journal.proofs.IdLemmas.{all-append}
 use Rattle.alp_journal.proofs.TurnLemmas.{given-frame}
 use Rattle.alp_journal.proofs.GivenLemmas.{none-by-grants, no-grant-is, acts-grant, grants-end-none, grants-say, LivedBefore, asked-given, state-given, lawful-walk, quiet-given, granted-all}
-use Rattle.alp_journal.proofs.AloneLemmas.{flat-append, AreAddressed, IsMail, mail_behind, call_entry, new_call, after_call, call_leads}
+use Rattle.alp_journal.proofs.CallLemmas.{flat-append, AreAddressed, IsMail, mail_behind, call_entry, new_call, after_call, call_leads}
 
 -- ---- one list behind another
 
@@ -78,8 +78,8 @@ gives_on s e h ts release at granted walk =
 -- ---- the deeds of such an entry
 
 -- What its own deeds leave, what is granted then, and what is sent behind that.
-module _ (a b : Alone) where
-  abbrev pub given_on : List TransId → Alone
+module _ (a b : Account) where
+  abbrev pub given_on : List TransId → Account
   given_on ts = with_granted b (granted_calls a.waits ts)
 
   -- it is as that state, but for who holds what and who waits
@@ -97,12 +97,12 @@ module _ (a b : Alone) where
     pub waits : b.waits ≡ a.waits
     pub walk : IsWalk b.holder (in_turn b.holder a.waits) ts
     pub no_call : (u : TransId) (owner : ℕ) → call_now e u owner ≡ None
-    pub reached : state_after state_deed (alone a) back ≡ alone b
-    pub deeds : Along state_deed (IsLawfulDeed e) (alone a) back
+    pub reached : state_after state_deed (state_of a) back ≡ state_of b
+    pub deeds : Along state_deed (IsLawfulDeed e) (state_of a) back
     pub stops : list_any is_stop front ≡ false
     pub release : (rest : List Act) → list_any is_release (front ++ rest) ≡ true
     pub first : (rest : List Act) → to_release (front ++ rest) ≡ front
-    pub released : flat_map released_by front ≡ flat_map (ended_by (alone a)) back
+    pub released : flat_map released_by front ≡ flat_map (ended_by (state_of a)) back
     pub none_granted : (flat_map granted_by front ≡ []) × (flat_map grants_of back ≡ [])
     pub said : (x : State) → AllByRecursion (SaysRight e x) front
     pub regained : list_any regained_by front ≡ false
@@ -121,27 +121,27 @@ module _ (a b : Alone) where
     pub let_go_quiet : IsQuiet (given_on ts)
     let_go_quiet = subst (λ (ws : List Waiting). IsQuiet (with_granted b (granted_calls ws ts))) o.waits (quiet-given b ts o.settled walk_then o.none_tried)
 
-    pub let_go_reached : state_after state_deed (alone a) (back ++ given_deeds) ≡ alone (given_on ts)
-    let_go_reached = state-append back given_deeds (alone a) ∙ ap (λ (s : State). state_after state_deed s given_deeds) o.reached ∙ state-given (granted_calls a.waits ts) b
+    pub let_go_reached : state_after state_deed (state_of a) (back ++ given_deeds) ≡ state_of (given_on ts)
+    let_go_reached = state-append back given_deeds (state_of a) ∙ ap (λ (s : State). state_after state_deed s given_deeds) o.reached ∙ state-given (granted_calls a.waits ts) b
 
-    pub let_go_lawful : Along state_deed (IsLawfulDeed e) (alone a) (back ++ given_deeds)
-    let_go_lawful = along-append (IsLawfulDeed e) back given_deeds (alone a) o.deeds (subst (λ (s : State). Along state_deed (IsLawfulDeed e) s given_deeds) (sym o.reached)
-        (subst (λ (ws : List Waiting). Along state_deed (IsLawfulDeed e) (alone b) (grant_deeds (granted_calls ws ts))) o.waits (lawful-walk b ts o.settled walk_then e)))
+    pub let_go_lawful : Along state_deed (IsLawfulDeed e) (state_of a) (back ++ given_deeds)
+    let_go_lawful = along-append (IsLawfulDeed e) back given_deeds (state_of a) o.deeds (subst (λ (s : State). Along state_deed (IsLawfulDeed e) s given_deeds) (sym o.reached)
+        (subst (λ (ws : List Waiting). Along state_deed (IsLawfulDeed e) (state_of b) (grant_deeds (granted_calls ws ts))) o.waits (lawful-walk b ts o.settled walk_then e)))
 
     -- with what its event brings by itself
-    pub let_go_brought : (ds : List Deed) (ms : List Mail) → ds ++ flat_map (act_deeds (alone a) e) front ≡ back → ds ++ flat_map (act_deeds (alone a) e) (acts_with ms) ++ [] ≡ back ++ given_deeds
+    pub let_go_brought : (ds : List Deed) (ms : List Mail) → ds ++ flat_map (act_deeds (state_of a) e) front ≡ back → ds ++ flat_map (act_deeds (state_of a) e) (acts_with ms) ++ [] ≡ back ++ given_deeds
     let_go_brought ds ms is =
-        let own : List Deed = flat_map (act_deeds (alone a) e) front in
-        let on : List Deed = flat_map (act_deeds (alone a) e) (grant_acts ts) in
-        append-nil (ds ++ flat_map (act_deeds (alone a) e) (acts_with ms))
-        ∙ ap (λ (xs : List Deed). ds ++ xs) (flat-append (act_deeds (alone a) e) (front ++ grant_acts ts) (sent_acts ms) ∙ ap (λ (xs : List Deed). flat_map (act_deeds (alone a) e) (front ++ grant_acts ts) ++ xs) (none-by-mails (act_deeds (alone a) e) (λ m. refl) ms)
-        ∙ append-nil (flat_map (act_deeds (alone a) e) (front ++ grant_acts ts)) ∙ flat-append (act_deeds (alone a) e) front (grant_acts ts))
+        let own : List Deed = flat_map (act_deeds (state_of a) e) front in
+        let on : List Deed = flat_map (act_deeds (state_of a) e) (grant_acts ts) in
+        append-nil (ds ++ flat_map (act_deeds (state_of a) e) (acts_with ms))
+        ∙ ap (λ (xs : List Deed). ds ++ xs) (flat-append (act_deeds (state_of a) e) (front ++ grant_acts ts) (sent_acts ms) ∙ ap (λ (xs : List Deed). flat_map (act_deeds (state_of a) e) (front ++ grant_acts ts) ++ xs) (none-by-mails (act_deeds (state_of a) e) (λ m. refl) ms)
+        ∙ append-nil (flat_map (act_deeds (state_of a) e) (front ++ grant_acts ts)) ∙ flat-append (act_deeds (state_of a) e) front (grant_acts ts))
         ∙ sym (append_assoc ds own on) ∙ ap (λ (xs : List Deed). xs ++ on) is ∙ ap (λ (xs : List Deed). back ++ xs) (asked-given a e o.no_call b.holder ts o.before o.was o.walk)
 
-    pub let_go_released : (ms : List Mail) → flat_map released_by (acts_with ms) ≡ flat_map (ended_by (alone a)) (back ++ given_deeds)
+    pub let_go_released : (ms : List Mail) → flat_map released_by (acts_with ms) ≡ flat_map (ended_by (state_of a)) (back ++ given_deeds)
     let_go_released ms =
-        none-sent released_by (front ++ grant_acts ts) ms (λ m. refl) ∙ none-behind released_by front ts (flat_map (ended_by (alone a)) back) (λ u. refl) o.released
-        ∙ sym (flat-append (ended_by (alone a)) back given_deeds ∙ ap (λ us. flat_map (ended_by (alone a)) back ++ us) (grants-end-none (alone a) (granted_calls a.waits ts)) ∙ append-nil (flat_map (ended_by (alone a)) back))
+        none-sent released_by (front ++ grant_acts ts) ms (λ m. refl) ∙ none-behind released_by front ts (flat_map (ended_by (state_of a)) back) (λ u. refl) o.released
+        ∙ sym (flat-append (ended_by (state_of a)) back given_deeds ∙ ap (λ us. flat_map (ended_by (state_of a)) back ++ us) (grants-end-none (state_of a) (granted_calls a.waits ts)) ∙ append-nil (flat_map (ended_by (state_of a)) back))
 
     pub granted_then : (ms : List Mail) → flat_map granted_by (acts_with ms) ≡ ts
     granted_then ms = none-sent granted_by (front ++ grant_acts ts) ms (λ m. refl) ∙ granted-behind front ts o.none_granted.0
@@ -163,20 +163,20 @@ module _ (a b : Alone) where
     pub let_go_mail : (due ms : List Mail) → AreAddressed ms → IsPermutation due ms → IsMail due (acts_with ms)
     let_go_mail due ms to all = mail_behind due (front ++ grant_acts ts) ms (none-behind sent_by front ts [] (λ u. refl) o.sent) to all
 
-    pub let_go_turns : (entry : Entry) (ms : List Mail) → entry.acts ≡ acts_with ms → entry.event ≡ e → event_deeds (alone a) e entry.reply (acts_with ms) ++ flat_map (act_deeds (alone a) e) front ≡ back → GivesOn (alone a) entry
+    pub let_go_turns : (entry : Entry) (ms : List Mail) → entry.acts ≡ acts_with ms → entry.event ≡ e → event_deeds (state_of a) e entry.reply (acts_with ms) ++ flat_map (act_deeds (state_of a) e) front ≡ back → GivesOn (state_of a) entry
     let_go_turns entry ms acts ev is =
-        gives_on (alone a) entry b.holder ts (ap (list_any is_release) (acts ∙ assoc) ∙ o.release (grant_acts ts ++ sent_acts ms))
+        gives_on (state_of a) entry b.holder ts (ap (list_any is_release) (acts ∙ assoc) ∙ o.release (grant_acts ts ++ sent_acts ms))
         (
-        (λ i. (state_after state_deed (alone a) (event_deeds (alone a) (ev i) entry.reply (acts i) ++ flat_map (act_deeds (alone a) (ev i)) (to_release ((acts ∙ assoc) i)))).holder)
-        ∙ ap (λ (xs : List Act). (state_after state_deed (alone a) (event_deeds (alone a) e entry.reply (acts_with ms) ++ flat_map (act_deeds (alone a) e) xs)).holder) (o.first (grant_acts ts ++ sent_acts ms))
-        ∙ ap (λ (ds : List Deed). (state_after state_deed (alone a) ds).holder) is ∙ ap (λ (s : State). s.holder) o.reached)
+        (λ i. (state_after state_deed (state_of a) (event_deeds (state_of a) (ev i) entry.reply (acts i) ++ flat_map (act_deeds (state_of a) (ev i)) (to_release ((acts ∙ assoc) i)))).holder)
+        ∙ ap (λ (xs : List Act). (state_after state_deed (state_of a) (event_deeds (state_of a) e entry.reply (acts_with ms) ++ flat_map (act_deeds (state_of a) e) xs)).holder) (o.first (grant_acts ts ++ sent_acts ms))
+        ∙ ap (λ (ds : List Deed). (state_after state_deed (state_of a) ds).holder) is ∙ ap (λ (s : State). s.holder) o.reached)
         (ap (flat_map granted_by) acts ∙ granted_then ms) o.walk
       where
         assoc : acts_with ms ≡ front ++ (grant_acts ts ++ sent_acts ms)
         assoc = append_assoc front (grant_acts ts) (sent_acts ms)
 
     -- what is so for who is as the state then, is so then
-    pub given_then : IsGivenOn (alone (given_on ts))
+    pub given_then : IsGivenOn (state_of (given_on ts))
     given_then = record { server = ap (λ (h : Holder). h.server) (given-frame (granted_calls a.waits ts) b.holder); ids = refl; fates = refl; phases = refl }
 
   -- ---- a Finish
@@ -196,37 +196,37 @@ module _ (a b : Alone) where
         go false = refl
 
     -- what is owed beside
-    pub record FinishOwes (failed : Bool) (front : List Act) (back : List Deed) (ts : List TransId) (ms : List Mail) (m : Alone) : Type 0 where
+    pub record FinishOwes (failed : Bool) (front : List Act) (back : List Deed) (ts : List TransId) (ms : List Mail) (m : Account) : Type 0 where
       pub goes : GoesOn finish_event front back ts
       pub running : a.is_down ≡ false
       pub there : a.sessions client ≡ Some w
       pub turn : number ≡ w.last + 1
       pub sessions : b.sessions ≡ a.sessions
       pub now : b.ids.epoch ≡ a.ids.epoch
-      pub brings : call_deeds (alone a) client finish r ++ flat_map (act_deeds (alone a) finish_event) front ≡ back
+      pub brings : call_deeds (state_of a) client finish r ++ flat_map (act_deeds (state_of a) finish_event) front ≡ back
       pub drawn : flat_map drawn_by front ≡ begun_in (Some r)
-      pub left : after_call a client number w (alone (given_on ts)) finish r ≡ alone m
+      pub left : after_call a client number w (state_of (given_on ts)) finish r ≡ state_of m
       pub says : (x : State) → IsGivenOn x → AllByRecursion (SaysRight finish_event x) (sent_acts ms)
       pub addressed : AreAddressed ms
       pub quiet : IsQuiet m
-      pub tells : TellsIn (alone m) finish r
-      pub mail : IsPermutation (on_call (alone a) client finish r) ms
-      pub answer : IsAnswer failed (alone a) client finish r
+      pub tells : TellsIn (state_of m) finish r
+      pub mail : IsPermutation (on_call (state_of a) client finish r) ms
+      pub answer : IsAnswer failed (state_of a) client finish r
 
-    pub finish_leads : (failed : Bool) (front : List Act) (back : List Deed) (ts : List TransId) (ms : List Mail) (m : Alone) → FinishOwes failed front back ts ms m
+    pub finish_leads : (failed : Bool) (front : List Act) (back : List Deed) (ts : List TransId) (ms : List Mail) (m : Account) → FinishOwes failed front back ts ms m
         → Leads failed a (call_entry a client number w finish r ((front ++ grant_acts ts) ++ sent_acts ms)) m
     finish_leads failed front back ts ms m o =
         let g : GoesOn finish_event front back ts = o.goes in
         let ev : Event = finish_event in
         let acts : List Act = (front ++ grant_acts ts) ++ sent_acts ms in
-        let reached : state_after state_deed (alone a) (back ++ grant_deeds (granted_calls a.waits ts)) ≡ alone (given_on ts) = let_go_reached ev front back ts g in
-        let given : IsGivenOn (alone (given_on ts)) = given_then ev front back ts g in
+        let reached : state_after state_deed (state_of a) (back ++ grant_deeds (granted_calls a.waits ts)) ≡ state_of (given_on ts) = let_go_reached ev front back ts g in
+        let given : IsGivenOn (state_of (given_on ts)) = given_then ev front back ts g in
         call_leads a client number w failed finish r acts (back ++ grant_deeds (granted_calls a.waits ts)) m o.there o.turn (record {
           plain = λ x. refl;
           greets = λ e k. k;
           up = let_go_none ev front back ts g is_stop ms (λ u. refl) (λ x. refl) g.stops;
           running = o.running;
-          brought = let_go_brought ev front back ts g (call_deeds (alone a) client finish r) ms o.brings;
+          brought = let_go_brought ev front back ts g (call_deeds (state_of a) client finish r) ms o.brings;
           new = subst (λ (s : State). is_new s client a.ids.epoch number ≡ true) (sym reached) (new_then o.now (subst (λ (f : ℕ → Option Session). f client ≡ Some w) (sym o.sessions) o.there) o.turn);
           there = subst (λ (s : State). s.desk.sessions client ≡ Some w) (sym reached) (subst (λ (f : ℕ → Option Session). f client ≡ Some w) (sym o.sessions) o.there);
           left = ap (λ (s : State). after_call a client number w s finish r) reached ∙ o.left;
@@ -234,7 +234,7 @@ module _ (a b : Alone) where
           deeds = let_go_lawful ev front back ts g;
           released = let_go_released ev front back ts g ms;
           granted = let_go_granted ev front back ts g ms;
-          said = let_go_said ev front back ts g (alone m) ms (o.says (alone m) (record {
+          said = let_go_said ev front back ts g (state_of m) ms (o.says (state_of m) (record {
             server = ap (λ (s : State). s.holder.server) (sym o.left) ∙ given.server;
             ids = ap (λ (s : State). s.ids) (sym o.left);
             fates = ap (λ (s : State). s.fates) (sym o.left);
@@ -244,11 +244,11 @@ module _ (a b : Alone) where
           regained = let_go_none ev front back ts g regained_by ms (λ u. refl) (λ x. refl) g.regained;
           quiet = o.quiet;
           answer = o.answer;
-          mail = let_go_mail ev front back ts g (on_call (alone a) client finish r) ms o.addressed o.mail;
+          mail = let_go_mail ev front back ts g (on_call (state_of a) client finish r) ms o.addressed o.mail;
           turns = let_go_turns ev front back ts g (call_entry a client number w finish r acts) ms refl refl (
-              ap (λ (b : Bool). cond {A = List Deed} b (call_deeds (alone a) client finish r) [] ++ flat_map (act_deeds (alone a) finish_event) front) (new_call a client number w o.there o.turn) ∙ o.brings);
+              ap (λ (b : Bool). cond {A = List Deed} b (call_deeds (state_of a) client finish r) [] ++ flat_map (act_deeds (state_of a) finish_event) front) (new_call a client number w o.there o.turn) ∙ o.brings);
           grants = tt;
         })
       where
-        new_then : b.ids.epoch ≡ a.ids.epoch → (given_on ts).sessions client ≡ Some w → number ≡ w.last + 1 → is_new (alone (given_on ts)) client a.ids.epoch number ≡ true
-        new_then now there turn = ap (λ (n : ℕ). is_new (alone (given_on ts)) client n number) (sym now) ∙ new_call (given_on ts) client number w there turn
+        new_then : b.ids.epoch ≡ a.ids.epoch → (given_on ts).sessions client ≡ Some w → number ≡ w.last + 1 → is_new (state_of (given_on ts)) client a.ids.epoch number ≡ true
+        new_then now there turn = ap (λ (n : ℕ). is_new (state_of (given_on ts)) client n number) (sym now) ∙ new_call (given_on ts) client number w there turn

@@ -19,7 +19,7 @@ use Rattle.alp_journal.specs.State.{Ids, is_whose}
 use Rattle.alp_journal.specs.Moves.{next_join}
 use Rattle.alp_journal.specs.Laws.{IsHolding}
 use Rattle.alp_journal.specs.Answered.{is_all_done}
-use Rattle.alp_journal.specs.Alone.{Alone, alone, IsJoined, IsPartAs, IsPaired, HasLife, is_other, IsFateOf, IsKnownJoin, IsPhaseOf, HasNoJoin, Stands}
+use Rattle.alp_journal.specs.Account.{Account, state_of, IsJoined, IsPartAs, IsPaired, HasLife, is_other, IsFateOf, IsKnownJoin, IsPhaseOf, HasNoJoin, Stands}
 use Rattle.alp_journal.proofs.IdLemmas.{same_trans-true, same_trans-itself, same_join-true}
 use Rattle.alp_journal.proofs.WaitLemmas.{turned}
 use Rattle.alp_journal.proofs.StandLemmas.{same_join-itself, any-last, joins-last, drawn_next, moved_all, moved_each, moved_phase, join_more, phase_more, not_both_servers, far_of_held, one_held, holding_of, join_part_is, paired_set, paired_moved, paired_free, pair-fate, held_kept, held_set, own_unheld, running_here, pair_of, life_of, held_once, whose_own}
@@ -28,7 +28,7 @@ use Rattle.alp_journal.proofs.QuietLemmas.{agree_set, agree_without}
 -- ---- fates alone
 
 -- one moves that runs as it did, for the same client
-pub stands_fated : (a : Alone) → Stands a → (t : TransId) (move : Fate → Fate) → client_of (move (a.fates t)) ≡ client_of (a.fates t) → is_running (move (a.fates t)) ≡ is_running (a.fates t)
+pub stands_fated : (a : Account) → Stands a → (t : TransId) (move : Fate → Fate) → client_of (move (a.fates t)) ≡ client_of (a.fates t) → is_running (move (a.fates t)) ≡ is_running (a.fates t)
     → has_votes (move (a.fates t)) ≡ false → is_all_done (move (a.fates t)) ≡ false → IsFateOf a.servers a.holder.server a.ids.epoch a.ids.transactions a.begun t (move (a.fates t))
     → Stands (record a { fates = λ u. cond {A = Fate} (same_trans t u) (move (a.fates u)) (a.fates u) })
 stands_fated a q t move client runs votes done of = record {
@@ -93,7 +93,7 @@ none_alien t p h u away k =
 
 -- ---- a part goes
 
-module _ (a : Alone) (q : Stands a) (t : TransId) (cells : Cells) (clock kept : ℕ) (applied : List (Stamp × Decided)) (left : List (Stamp × List Edit)) (order : kept ≤ clock) where
+module _ (a : Account) (q : Stands a) (t : TransId) (cells : Cells) (clock kept : ℕ) (applied : List (Stamp × Decided)) (left : List (Stamp × List Edit)) (order : kept ≤ clock) where
   -- what is held without it
   abbrev pub gone : Holder
   gone = with_life (record a.holder { cells = cells; clock = clock; kept = kept; applied = applied; left = left }) t None
@@ -142,7 +142,7 @@ module _ (a : Alone) (q : Stands a) (t : TransId) (cells : Cells) (clock kept : 
 
 -- ---- a join that has no part
 
-module _ (a : Alone) (q : Stands a) (j : JoinNo) (t : TransId) (client : ℕ) (who : List ℕ) where
+module _ (a : Account) (q : Stands a) (j : JoinNo) (t : TransId) (client : ℕ) (who : List ℕ) where
   -- one that asked to be let in is over
   pub stands_quit : a.phases j ≡ Joining t client who → (move : Phase → Phase) → IsSpent (move (a.phases j)) → IsPhaseOf a.servers a.holder.server a.ids.epoch a.ids.joins a.joined j (move (a.phases j))
       → Stands (record a { phases = λ k. cond {A = Phase} (same_join j k) (move (a.phases k)) (a.phases k) })
@@ -215,7 +215,7 @@ module _ (a : Alone) (q : Stands a) (j : JoinNo) (t : TransId) (client : ℕ) (w
 
 -- ---- a join votes
 
-module _ (a : Alone) (q : Stands a) (j : JoinNo) (t : TransId) (client : ℕ) (who : List ℕ) (ts : ℕ) (l : Life) where
+module _ (a : Account) (q : Stands a) (j : JoinNo) (t : TransId) (client : ℕ) (who : List ℕ) (ts : ℕ) (l : Life) where
   live_readied : (p : Phase) → live_in (phase.readied ts p) ≡ live_in p
   live_readied Unseen = refl
   live_readied (Joining u c who) = refl
@@ -263,14 +263,14 @@ module _ (a : Alone) (q : Stands a) (j : JoinNo) (t : TransId) (client : ℕ) (w
 -- ---- a join is drawn
 
 -- the next one, of a transaction of another server of which the client has no live join
-pub stands_drawn : (a : Alone) → Stands a → 0 < a.ids.epoch → (t : TransId) (client : ℕ) (who : List ℕ) → is_other a.servers a.holder.server t.server ≡ true → HasNoJoin a.phases client t → a.phases (next_join (alone a)) ≡ Unseen
+pub stands_drawn : (a : Account) → Stands a → 0 < a.ids.epoch → (t : TransId) (client : ℕ) (who : List ℕ) → is_other a.servers a.holder.server t.server ≡ true → HasNoJoin a.phases client t → a.phases (next_join (state_of a)) ≡ Unseen
     → Stands (record a {
       ids = record a.ids { joins = a.ids.joins + 1 };
-      phases = λ k. cond {A = Phase} (same_join (next_join (alone a)) k) (phase.drawn t client who (a.phases k)) (a.phases k);
-      joined = a.joined ++ next_join (alone a) ∷ [];
+      phases = λ k. cond {A = Phase} (same_join (next_join (state_of a)) k) (phase.drawn t client who (a.phases k)) (a.phases k);
+      joined = a.joined ++ next_join (state_of a) ∷ [];
     })
 stands_drawn a q raised t client who far none new =
-    let j : JoinNo = next_join (alone a) in
+    let j : JoinNo = next_join (state_of a) in
     let unnamed : has_join j a.joined ≡ false = subst (IsPhaseOf a.servers a.holder.server a.ids.epoch a.ids.joins a.joined j) new (q.phases j) in
     let named : has_join j (a.joined ++ j ∷ []) ≡ true = any-last (λ k. same_join k j) a.joined j ∙ or_right (has_join j a.joined) (same_join j j) (same_join-itself j) in
     record {
@@ -294,15 +294,15 @@ stands_drawn a q raised t client who far none new =
     or_none false = refl
 
     -- the new one is the client's only one
-    no_other : (k : JoinNo) (x : TransId × ℕ) → live_in (phase.drawn t client who (a.phases (next_join (alone a)))) ≡ Some x → live_in (a.phases k) ≡ Some x → ⊥
+    no_other : (k : JoinNo) (x : TransId × ℕ) → live_in (phase.drawn t client who (a.phases (next_join (state_of a)))) ≡ Some x → live_in (a.phases k) ≡ Some x → ⊥
     no_other k x first second =
         let its : Some (t, client) ≡ Some x = ap (λ (p : Phase). live_in (phase.drawn t client who p)) (sym new) ∙ first in
         let wrong : false ≡ true = sym (none k) ∙ ap (is_whose client t) (second ∙ sym its) ∙ whose_own client t in
         cc
 
-    one : (i k : JoinNo) (x : TransId × ℕ) (b d : Bool) → same_join (next_join (alone a)) i ≡ b → same_join (next_join (alone a)) k ≡ d
+    one : (i k : JoinNo) (x : TransId × ℕ) (b d : Bool) → same_join (next_join (state_of a)) i ≡ b → same_join (next_join (state_of a)) k ≡ d
         → live_in (cond {A = Phase} b (phase.drawn t client who (a.phases i)) (a.phases i)) ≡ Some x → live_in (cond {A = Phase} d (phase.drawn t client who (a.phases k)) (a.phases k)) ≡ Some x → i ≡ k
-    one i k x true true e f first second = sym (same_join-true (next_join (alone a)) i e) ∙ same_join-true (next_join (alone a)) k f
-    one i k x true false e f first second = absurd (no_other k x (ap (λ (y : JoinNo). live_in (phase.drawn t client who (a.phases y))) (same_join-true (next_join (alone a)) i e) ∙ first) second)
-    one i k x false true e f first second = absurd (no_other i x (ap (λ (y : JoinNo). live_in (phase.drawn t client who (a.phases y))) (same_join-true (next_join (alone a)) k f) ∙ second) first)
+    one i k x true true e f first second = sym (same_join-true (next_join (state_of a)) i e) ∙ same_join-true (next_join (state_of a)) k f
+    one i k x true false e f first second = absurd (no_other k x (ap (λ (y : JoinNo). live_in (phase.drawn t client who (a.phases y))) (same_join-true (next_join (state_of a)) i e) ∙ first) second)
+    one i k x false true e f first second = absurd (no_other i x (ap (λ (y : JoinNo). live_in (phase.drawn t client who (a.phases y))) (same_join-true (next_join (state_of a)) k f) ∙ second) first)
     one i k x false false e f first second = q.single i k x first second

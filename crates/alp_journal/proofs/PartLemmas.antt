@@ -17,7 +17,7 @@ use Rattle.alp_journal.specs.Desk.{Waiting, file_trans, part_trans, is_of}
 use Rattle.alp_journal.specs.State.{State, is_whose, is_this, join_for, has_part}
 use Rattle.alp_journal.specs.Laws.{IsHolding, IsOpenPart}
 use Rattle.alp_journal.specs.Answers.{Part, NoPart, AtJoining, AtWork, AtFinish, AtReady, AtEnd, own_part, ended_part, phase_part, join_part, part_at, is_no_part}
-use Rattle.alp_journal.specs.Alone.{Alone, alone, is_other, IsJoined, IsPartAs, IsPartOf, IsOfPart, IsJoinOf, IsFinishOf, IsOther, HasNoJoin, Stands, Tells, IsSettled, is_on_trans}
+use Rattle.alp_journal.specs.Account.{Account, state_of, is_other, IsJoined, IsPartAs, IsPartOf, IsOfPart, IsJoinOf, IsFinishOf, IsOther, HasNoJoin, Stands, Tells, IsSettled, is_on_trans}
 use Rattle.alp_journal.proofs.IdLemmas.{same_trans-true, same_trans-itself}
 use Rattle.alp_journal.proofs.WaitLemmas.{all-both, found-passes, file_part}
 use Rattle.alp_journal.proofs.StandLemmas.{running_of, holding_of, one_held, join_part_is, own_part_is, pair_of, life_of, whose, whose_own, not_both_servers, far_of_held, far_of_live, live_of_open, join_live, join_none}
@@ -25,24 +25,24 @@ use Rattle.alp_journal.proofs.StandLemmas.{running_of, holding_of, one_held, joi
 -- ---- what a client has of a transaction
 
 -- the part of a transaction of this server, and of another's
-pub own_part_at : (a : Alone) (t : TransId) (client : ℕ) → t.server ≡ a.holder.server → part_at (alone a) client t ≡ own_part client (a.dead client t) (a.fates t)
+pub own_part_at : (a : Account) (t : TransId) (client : ℕ) → t.server ≡ a.holder.server → part_at (state_of a) client t ≡ own_part client (a.dead client t) (a.fates t)
 own_part_at a t client here =
-    ap (λ (b : Bool). cond {A = Part} b (own_part client (a.dead client t) (a.fates t)) (join_part (alone a) (a.dead client t) (join_for (alone a) client t))) (eq-eqb t.server a.holder.server here)
+    ap (λ (b : Bool). cond {A = Part} b (own_part client (a.dead client t) (a.fates t)) (join_part (state_of a) (a.dead client t) (join_for (state_of a) client t))) (eq-eqb t.server a.holder.server here)
 
-pub far_part_at : (a : Alone) (t : TransId) (client : ℕ) → (t.server == a.holder.server) ≡ false → part_at (alone a) client t ≡ join_part (alone a) (a.dead client t) (join_for (alone a) client t)
-far_part_at a t client far = ap (λ (b : Bool). cond {A = Part} b (own_part client (a.dead client t) (a.fates t)) (join_part (alone a) (a.dead client t) (join_for (alone a) client t))) far
+pub far_part_at : (a : Account) (t : TransId) (client : ℕ) → (t.server == a.holder.server) ≡ false → part_at (state_of a) client t ≡ join_part (state_of a) (a.dead client t) (join_for (state_of a) client t)
+far_part_at a t client far = ap (λ (b : Bool). cond {A = Part} b (own_part client (a.dead client t) (a.fates t)) (join_part (state_of a) (a.dead client t) (join_for (state_of a) client t))) far
 
 -- its client's part of a running transaction is at work
-pub own_at_work : (a : Alone) (t : TransId) (client : ℕ) {js : List JoinNo} → t.server ≡ a.holder.server → a.fates t ≡ Running client js → part_at (alone a) client t ≡ AtWork
+pub own_at_work : (a : Account) (t : TransId) (client : ℕ) {js : List JoinNo} → t.server ≡ a.holder.server → a.fates t ≡ Running client js → part_at (state_of a) client t ≡ AtWork
 own_at_work a t client here runs = own_part_at a t client here ∙ ap (own_part client (a.dead client t)) runs ∙ ap (λ (b : Bool). cond {A = Part} b AtWork NoPart) (eq-eqb client client refl)
 
 -- that of a live join is as its phase says
-pub joined_part_at : (a : Alone) (t : TransId) (client : ℕ) (j : JoinNo) → Stands a → (t.server == a.holder.server) ≡ false → is_whose client t (live_in (a.phases j)) ≡ true → part_at (alone a) client t ≡ phase_part (a.phases j)
-joined_part_at a t client j q far live = far_part_at a t client far ∙ ap (join_part (alone a) (a.dead client t)) (join_live a q client t j live)
+pub joined_part_at : (a : Account) (t : TransId) (client : ℕ) (j : JoinNo) → Stands a → (t.server == a.holder.server) ≡ false → is_whose client t (live_in (a.phases j)) ≡ true → part_at (state_of a) client t ≡ phase_part (a.phases j)
+joined_part_at a t client j q far live = far_part_at a t client far ∙ ap (join_part (state_of a) (a.dead client t)) (join_live a q client t j live)
 
 -- a part at work is open
-pub record IsAtWork (a : Alone) (t : TransId) (l : Life) : Type 0 where
-  pub opens : IsOpenPart (alone a) t
+pub record IsAtWork (a : Account) (t : TransId) (l : Life) : Type 0 where
+  pub opens : IsOpenPart (state_of a) t
   pub vote : l.vote ≡ None
   pub early : l.is_early ≡ false
 
@@ -73,7 +73,7 @@ phase_works client t (Ready u c ts) h is = let wrong : AtReady ≡ AtWork = is i
 phase_works client t (Applied u stamp) h is = let wrong : false ≡ true = h in cc
 phase_works client t Over h is = let wrong : false ≡ true = h in cc
 
-module _ (a : Alone) (q : Stands a) (t : TransId) (l : Life) (live : a.holder.lives t ≡ Some l) where
+module _ (a : Account) (q : Stands a) (t : TransId) (l : Life) (live : a.holder.lives t ≡ Some l) where
   -- the part of a transaction that runs did not vote, and is of no earlier run
   pub running_at_work : is_running (a.fates t) ≡ true → IsAtWork a t l
   running_at_work runs = go l.join refl
@@ -96,10 +96,10 @@ module _ (a : Alone) (q : Stands a) (t : TransId) (l : Life) (live : a.holder.li
         | inr x ↦ absurd (let wrong : Active t client who ≡ Ready t l.client x.0 = sym active ∙ x.1 in cc)
       ]
 
-  pub at_work_open : (client : ℕ) → part_at (alone a) client t ≡ AtWork → IsAtWork a t l
+  pub at_work_open : (client : ℕ) → part_at (state_of a) client t ≡ AtWork → IsAtWork a t l
   at_work_open client works = go (t.server == a.holder.server) refl
     where
-      by : (x : Option JoinNo) → join_for (alone a) client t ≡ x → join_part (alone a) (a.dead client t) x ≡ AtWork → IsAtWork a t l
+      by : (x : Option JoinNo) → join_for (state_of a) client t ≡ x → join_part (state_of a) (a.dead client t) x ≡ AtWork → IsAtWork a t l
       by None e is = absurd (none_at_work (a.dead client t) is)
       by (Some j) e is =
           let opens = phase_works client t (a.phases j) (found-passes (λ k. is_whose client t (live_in (a.phases k))) a.joined j e) is in
@@ -107,7 +107,7 @@ module _ (a : Alone) (q : Stands a) (t : TransId) (l : Life) (live : a.holder.li
 
       go : (b : Bool) → (t.server == a.holder.server) ≡ b → IsAtWork a t l
       go true e = running_at_work (own_works client (a.dead client t) (a.fates t) (sym (own_part_at a t client (eqb-true t.server a.holder.server e)) ∙ works))
-      go false e = by (join_for (alone a) client t) refl (sym (far_part_at a t client e) ∙ works)
+      go false e = by (join_for (state_of a) client t) refl (sym (far_part_at a t client e) ∙ works)
 
 -- whoever has a part here has a live one, and is not to be told of its end
 own_has : (client : ℕ) (d : Option Cause) (f : Fate) → is_no_part (own_part client d f) ≡ false → is_this client (client_of f) ≡ true
@@ -134,18 +134,18 @@ none_of_end : (d : Option Cause) → is_no_part (ended_part d) ≡ false → ⊥
 none_of_end None h = let wrong : true ≡ false = h in cc
 none_of_end (Some c) h = let wrong : true ≡ false = h in cc
 
-pub part_has : (a : Alone) (client : ℕ) (t : TransId) → is_no_part (part_at (alone a) client t) ≡ false → has_part (alone a) client t ≡ true
+pub part_has : (a : Account) (client : ℕ) (t : TransId) → is_no_part (part_at (state_of a) client t) ≡ false → has_part (state_of a) client t ≡ true
 part_has a client t h = go (t.server == a.holder.server) refl
   where
-    by : (x : Option JoinNo) → join_for (alone a) client t ≡ x → is_no_part (join_part (alone a) (a.dead client t) x) ≡ false → is_some (join_for (alone a) client t) ≡ true
+    by : (x : Option JoinNo) → join_for (state_of a) client t ≡ x → is_no_part (join_part (state_of a) (a.dead client t) x) ≡ false → is_some (join_for (state_of a) client t) ≡ true
     by None e k = absurd (none_of_end (a.dead client t) k)
     by (Some j) e k = ap (λ (x : Option JoinNo). is_some x) e
 
-    go : (b : Bool) → (t.server == a.holder.server) ≡ b → has_part (alone a) client t ≡ true
-    go true e = or_left (is_this client (client_of (a.fates t))) (is_some (join_for (alone a) client t)) (own_has client (a.dead client t) (a.fates t) (ap is_no_part (sym (own_part_at a t client (eqb-true t.server a.holder.server e))) ∙ h))
-    go false e = or_right (is_this client (client_of (a.fates t))) (is_some (join_for (alone a) client t)) (by (join_for (alone a) client t) refl (ap is_no_part (sym (far_part_at a t client e)) ∙ h))
+    go : (b : Bool) → (t.server == a.holder.server) ≡ b → has_part (state_of a) client t ≡ true
+    go true e = or_left (is_this client (client_of (a.fates t))) (is_some (join_for (state_of a) client t)) (own_has client (a.dead client t) (a.fates t) (ap is_no_part (sym (own_part_at a t client (eqb-true t.server a.holder.server e))) ∙ h))
+    go false e = or_right (is_this client (client_of (a.fates t))) (is_some (join_for (state_of a) client t)) (by (join_for (state_of a) client t) refl (ap is_no_part (sym (far_part_at a t client e)) ∙ h))
 
-pub part_not_dead : (a : Alone) (client : ℕ) (t : TransId) → IsSettled a → is_no_part (part_at (alone a) client t) ≡ false → is_some (a.dead client t) ≡ false
+pub part_not_dead : (a : Account) (client : ℕ) (t : TransId) → IsSettled a → is_no_part (part_at (state_of a) client t) ≡ false → is_some (a.dead client t) ≡ false
 part_not_dead a client t q h = go (a.dead client t) refl
   where
     over : (c : Cause) → a.dead client t ≡ Some c → (b : Bool) → (t.server == a.holder.server) ≡ b → ⊥
@@ -154,14 +154,14 @@ part_not_dead a client t q h = go (a.dead client t) refl
         let ended : a.fates t ≡ Ended c = (q.tells.ended client t c e).0 here in
         none_of_end (a.dead client t) (ap is_no_part (ap (own_part client (a.dead client t)) (sym ended) ∙ sym (own_part_at a t client here)) ∙ h)
     over c e false s =
-        none_of_end (a.dead client t) (ap is_no_part (ap (join_part (alone a) (a.dead client t)) (sym (join_none a q.stands client t (q.tells.ended client t c e).1)) ∙ sym (far_part_at a t client s)) ∙ h)
+        none_of_end (a.dead client t) (ap is_no_part (ap (join_part (state_of a) (a.dead client t)) (sym (join_none a q.stands client t (q.tells.ended client t c e).1)) ∙ sym (far_part_at a t client s)) ∙ h)
 
     go : (x : Option Cause) → a.dead client t ≡ x → is_some x ≡ false
     go None e = refl
     go (Some c) e = absurd (over c e (t.server == a.holder.server) refl)
 
 -- no live join is of a transaction of this server, or of one that is none of the run
-pub no_near_join : (a : Alone) → Stands a → (t : TransId) → is_other a.servers a.holder.server t.server ≡ false → (client : ℕ) → HasNoJoin a.phases client t
+pub no_near_join : (a : Account) → Stands a → (t : TransId) → is_other a.servers a.holder.server t.server ≡ false → (client : ℕ) → HasNoJoin a.phases client t
 no_near_join a q t near client j = go (is_whose client t (live_in (a.phases j))) refl
   where
     go : (b : Bool) → is_whose client t (live_in (a.phases j)) ≡ b → b ≡ false
@@ -171,12 +171,12 @@ no_near_join a q t near client j = go (is_whose client t (live_in (a.phases j)))
 -- ---- calls that wait
 
 -- a call on files, a Join and a Finish, and of what part it is
-pub data WaitsAs (a : Alone) (w : Waiting) : Type 0 where
+pub data WaitsAs (a : Account) (w : Waiting) : Type 0 where
   file : (t : TransId) → file_trans w.call ≡ Some t → IsPartOf w.client (a.holder.lives t) (a.dead w.client t) → WaitsAs a w
   join : (t : TransId) → part_trans w.call ≡ Some t → IsJoinOf a.phases w.client t (a.dead w.client t) → WaitsAs a w
   finish : (t : TransId) → part_trans w.call ≡ Some t → IsFinishOf w.client (a.fates t) (a.dead w.client t) → WaitsAs a w
 
-pub waits_as : (a : Alone) (w : Waiting) → IsOfPart a.holder.lives a.dead w (file_trans w.call) → IsOther a.fates a.phases a.dead w.client w.call → WaitsAs a w
+pub waits_as : (a : Account) (w : Waiting) → IsOfPart a.holder.lives a.dead w (file_trans w.call) → IsOther a.fates a.phases a.dead w.client w.call → WaitsAs a w
 waits_as a w p o = go w.call refl p o
   where
     on_files : (c : Call) → w.call ≡ c → (x : Option TransId) → file_trans c ≡ x → IsOfPart a.holder.lives a.dead w (file_trans c) → IsSome x → WaitsAs a w
@@ -188,7 +188,7 @@ waits_as a w p o = go w.call refl p o
     go (call.Finish t commit) e p o = WaitsAs.finish t (ap part_trans e) o
     go c e p o = on_files c e (file_trans c) refl p o
 
-pub each_waits : (a : Alone) → Tells a → AllByRecursion (WaitsAs a) a.waits
+pub each_waits : (a : Account) → Tells a → AllByRecursion (WaitsAs a) a.waits
 each_waits a q = all-both (λ (w : Waiting). IsOfPart a.holder.lives a.dead w (file_trans w.call)) (λ (w : Waiting). IsOther a.fates a.phases a.dead w.client w.call) (WaitsAs a) (λ w p o. waits_as a w p o) a.waits q.parts q.others
 
 -- where no call of a part waits none on its files does
@@ -199,7 +199,7 @@ off-files t w off = go (file_trans w.call) refl
     go None e = refl
     go (Some u) e = ap (is_of t) (sym (file_part w.call u e)) ∙ off
 
-module _ (a : Alone) (q : IsSettled a) where
+module _ (a : Account) (q : IsSettled a) where
   -- a part that ended has no live join, and no fate but its end
   dead_trans : (client : ℕ) (t : TransId) → t.server ≡ a.holder.server → IsSome (a.dead client t) → (c : Cause) × (a.fates t ≡ Ended c)
   dead_trans client t here h = go (a.dead client t) refl h

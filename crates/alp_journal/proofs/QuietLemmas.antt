@@ -19,7 +19,7 @@ use Rattle.alp_journal.specs.Holder.{Life}
 use Rattle.alp_journal.specs.Desk.{Session, Waiting, file_trans, part_trans, is_of, is_of_part, without, grant_in}
 use Rattle.alp_journal.specs.State.{State, is_whose}
 use Rattle.alp_journal.specs.Laws.{DoLivesAgree, HasEnded, IsHolding, IsBlocked, WaitsInTurn}
-use Rattle.alp_journal.specs.Alone.{Alone, alone, Stands, Tells, IsSettled, IsQuiet, HasTried, IsPartOf, IsOfPart, IsJoinOf, IsFinishOf, IsOther, HasCome, HasWaits, HasNoCall, HasNoJoin, is_on_trans}
+use Rattle.alp_journal.specs.Account.{Account, state_of, Stands, Tells, IsSettled, IsQuiet, HasTried, IsPartOf, IsOfPart, IsJoinOf, IsFinishOf, IsOther, HasCome, HasWaits, HasNoCall, HasNoJoin, is_on_trans}
 use Rattle.alp_journal.proofs.IdLemmas.{same_trans-true, same_trans-itself, all-append, all-filter}
 use Rattle.alp_journal.proofs.MadeIds.{all-map}
 use Rattle.alp_journal.proofs.WaitLemmas.{passing, none-found, find-kept, all-of, found-more, all-both, on-is, on_own, of_part_on, of_own_part, apart-filter, granted_as, all-granted}
@@ -305,7 +305,7 @@ turns-as s m same list h =
 -- ---- the whole
 
 -- nothing that stands hangs on the desk
-pub stands_as : (a : Alone) (sessions : ℕ → Option Session) (waits : List Waiting) (dead : ℕ → TransId → Option Cause) (b : Bool) (ds : List Deed) → Stands a
+pub stands_as : (a : Account) (sessions : ℕ → Option Session) (waits : List Waiting) (dead : ℕ → TransId → Option Cause) (b : Bool) (ds : List Deed) → Stands a
     → Stands (record a { sessions = sessions; waits = waits; dead = dead; is_down = b; pending = ds })
 stands_as a sessions waits dead b ds q = record {
   agree = q.agree;
@@ -321,25 +321,25 @@ stands_as a sessions waits dead b ds q = record {
   order = q.order;
 }
 
-settled_as : (a : Alone) (b : Bool) (ds : List Deed) → IsSettled a → IsSettled (record a { is_down = b; pending = ds })
+settled_as : (a : Account) (b : Bool) (ds : List Deed) → IsSettled a → IsSettled (record a { is_down = b; pending = ds })
 settled_as a b ds q = record {
   stands = stands_as a a.sessions a.waits a.dead b ds q.stands;
   tells = record { ended = q.tells.ended; parts = q.tells.parts; others = q.tells.others; came = q.tells.came; apart = q.tells.apart; joining = q.tells.joining; finishing = q.tells.finishing };
 }
 
 -- it is up, or down with what it tried
-pub quiet_down : (a : Alone) (b : Bool) (ds : List Deed) → IsQuiet a → HasTried (record a { is_down = b; pending = ds }) → IsQuiet (record a { is_down = b; pending = ds })
+pub quiet_down : (a : Account) (b : Bool) (ds : List Deed) → IsQuiet a → HasTried (record a { is_down = b; pending = ds }) → IsQuiet (record a { is_down = b; pending = ds })
 quiet_down a b ds q tried = record {
   settled = settled_as a b ds q.settled;
-  turns = turns-as (alone a) (alone (record a { is_down = b; pending = ds })) refl refl q.turns;
+  turns = turns-as (state_of a) (state_of (record a { is_down = b; pending = ds })) refl refl q.turns;
   tried = tried;
 }
 
-pub quiet_up : (a : Alone) → IsQuiet a → IsQuiet (record a { is_down = false; pending = [] })
+pub quiet_up : (a : Account) → IsQuiet a → IsQuiet (record a { is_down = false; pending = [] })
 quiet_up a q = quiet_down a false [] q (HasTried.nothing refl)
 
 -- nothing is to be seen at a restart of a server that is up
-pub none_tried : (a : Alone) → IsQuiet a → a.is_down ≡ false → a.pending ≡ []
+pub none_tried : (a : Account) → IsQuiet a → a.is_down ≡ false → a.pending ≡ []
 none_tried a q up = go q.tried
   where
     wrong : a.is_down ≡ true → a.pending ≡ []
@@ -354,7 +354,7 @@ none_tried a q up = go q.tried
     go (HasTried.end c) = wrong c.down
     go (HasTried.abort c) = wrong c.down
 
-abbrev pub with_session_of : Alone → ℕ → Session → Alone
+abbrev pub with_session_of : Account → ℕ → Session → Account
 with_session_of a client v = record a { sessions = λ c. if c == client then Some v else a.sessions c; is_down = false; pending = [] }
 
 -- all that came before came before the session's last call now
@@ -369,7 +369,7 @@ came_on sessions client v keeps ws h = all-map (λ (w : Waiting). HasCome w.numb
         go true e = keeps w.number (subst (λ (c : ℕ). HasCome w.number (sessions c)) (eqb-true w.client client e) p)
         go false e = p
 
-settled_session : (a : Alone) (client : ℕ) (v : Session) → ((n : ℕ) → HasCome n (a.sessions client) → n ≤ v.last) → IsSettled a → IsSettled (with_session_of a client v)
+settled_session : (a : Account) (client : ℕ) (v : Session) → ((n : ℕ) → HasCome n (a.sessions client) → n ≤ v.last) → IsSettled a → IsSettled (with_session_of a client v)
 settled_session a client v keeps q = record {
   stands = stands_as a (with_session_of a client v).sessions a.waits a.dead false [] q.stands;
   tells = record {
@@ -383,18 +383,18 @@ settled_session a client v keeps q = record {
   };
 }
 
-pub quiet_session : (a : Alone) (client : ℕ) (v : Session) → ((n : ℕ) → HasCome n (a.sessions client) → n ≤ v.last) → IsQuiet a → IsQuiet (with_session_of a client v)
-quiet_session a client v keeps q = record { settled = settled_session a client v keeps q.settled; turns = turns-as (alone a) (alone (with_session_of a client v)) refl refl q.turns; tried = HasTried.nothing refl }
+pub quiet_session : (a : Account) (client : ℕ) (v : Session) → ((n : ℕ) → HasCome n (a.sessions client) → n ≤ v.last) → IsQuiet a → IsQuiet (with_session_of a client v)
+quiet_session a client v keeps q = record { settled = settled_session a client v keeps q.settled; turns = turns-as (state_of a) (state_of (with_session_of a client v)) refl refl q.turns; tried = HasTried.nothing refl }
 
 -- the session goes on to a later call
 pub later-come : (sessions : ℕ → Option Session) (client : ℕ) (w v : Session) → sessions client ≡ Some w → w.last ≤ v.last → (n : ℕ) → HasCome n (sessions client) → n ≤ v.last
 later-come sessions client w v there on n h = let before : n ≤ w.last = subst (HasCome n) there h in omega (arith, before, on)
 
-pub quiet_told : (a : Alone) (client : ℕ) (w v : Session) → a.sessions client ≡ Some w → w.last ≤ v.last → IsQuiet a → IsQuiet (with_session_of a client v)
+pub quiet_told : (a : Account) (client : ℕ) (w v : Session) → a.sessions client ≡ Some w → w.last ≤ v.last → IsQuiet a → IsQuiet (with_session_of a client v)
 quiet_told a client w v there on q = quiet_session a client v (later-come a.sessions client w v there on) q
 
 -- calls go that are waited for no more
-pub tells_without : (p : Waiting → Bool) (a : Alone) → KeepsJoins a.phases p a.waits → Tells a → Tells (record a { waits = without p a.waits })
+pub tells_without : (p : Waiting → Bool) (a : Account) → KeepsJoins a.phases p a.waits → Tells a → Tells (record a { waits = without p a.waits })
 tells_without p a keeps q = record {
   ended = q.ended;
   parts = all-filter (λ (w : Waiting). IsOfPart a.holder.lives a.dead w (file_trans w.call)) (λ w. not (p w)) a.waits q.parts;
@@ -405,7 +405,7 @@ tells_without p a keeps q = record {
   finishing = λ t. calls-without p a.waits t (a.fates t) (q.finishing t);
 }
 
-settled_without : (p : Waiting → Bool) (a : Alone) → KeepsJoins a.phases p a.waits → IsSettled a → IsSettled (record a { waits = without p a.waits })
+settled_without : (p : Waiting → Bool) (a : Account) → KeepsJoins a.phases p a.waits → IsSettled a → IsSettled (record a { waits = without p a.waits })
 settled_without p a keeps q = record { stands = stands_as a a.sessions (without p a.waits) a.dead a.is_down a.pending q.stands; tells = tells_without p a keeps q.tells }
 
 pub turns-without : (p : Waiting → Bool) (s m : State) → m.holder ≡ s.holder → m.desk.waits ≡ without p s.desk.waits → WaitsInTurn s → WaitsInTurn m
@@ -415,11 +415,11 @@ turns-without p s m same list h = turns-as (record s { desk = record s.desk { wa
     (all-filter (λ (w : Waiting). IsBlocked s w (file_trans w.call)) (λ w. not (p w)) s.desk.waits h))
 
 -- what was tried hangs on no call, where nothing was
-pub quiet_without : (p : Waiting → Bool) (a : Alone) → KeepsJoins a.phases p a.waits → a.pending ≡ [] → IsQuiet a → IsQuiet (record a { waits = without p a.waits })
-quiet_without p a keeps none q = record { settled = settled_without p a keeps q.settled; turns = turns-without p (alone a) (alone (record a { waits = without p a.waits })) refl refl q.turns; tried = HasTried.nothing none }
+pub quiet_without : (p : Waiting → Bool) (a : Account) → KeepsJoins a.phases p a.waits → a.pending ≡ [] → IsQuiet a → IsQuiet (record a { waits = without p a.waits })
+quiet_without p a keeps none q = record { settled = settled_without p a keeps q.settled; turns = turns-without p (state_of a) (state_of (record a { waits = without p a.waits })) refl refl q.turns; tried = HasTried.nothing none }
 
 -- a client's part that ended is not known any more
-abbrev pub forgotten_part : ℕ → TransId → Alone → Alone
+abbrev pub forgotten_part : ℕ → TransId → Account → Account
 forgotten_part client t a = record a { dead = λ d u. if d == client && same_trans u t then None else a.dead d u; waits = without (is_of_part client t) a.waits }
 
 -- a call of a part of which no join is live keeps none
@@ -441,7 +441,7 @@ keeps_part phases client t ws none j u owner who is = all-of (λ w. is_of_part o
             let one : u ≡ t = sym (same_trans-true v u i) ∙ same_trans-true v t m in
             ap (λ (b : Bool). b && owner == client) (ap (λ (x : TransId). same_trans x t) one ∙ same_trans-itself t) ∙ eq-eqb owner client same
 
-pub quiet_forgotten : (client : ℕ) (t : TransId) (a : Alone) → HasNoJoin a.phases client t → a.pending ≡ [] → IsQuiet a → IsQuiet (forgotten_part client t a)
+pub quiet_forgotten : (client : ℕ) (t : TransId) (a : Account) → HasNoJoin a.phases client t → a.pending ≡ [] → IsQuiet a → IsQuiet (forgotten_part client t a)
 quiet_forgotten client t a unjoined none q =
     let fewer : Tells (record a { waits = without (is_of_part client t) a.waits }) = tells_without (is_of_part client t) a (keeps_part a.phases client t a.waits unjoined) q.settled.tells in
     record {
@@ -457,6 +457,6 @@ quiet_forgotten client t a unjoined none q =
           finishing = fewer.finishing;
         };
       };
-      turns = turns-without (is_of_part client t) (alone a) (alone (forgotten_part client t a)) refl refl q.turns;
+      turns = turns-without (is_of_part client t) (state_of a) (state_of (forgotten_part client t a)) refl refl q.turns;
       tried = HasTried.nothing none;
     }

@@ -27,7 +27,7 @@ use Rattle.alp_journal.specs.Moves.{enters, refused_join}
 use Rattle.alp_journal.specs.Laws.{IsLawfulDeed, ended_by, ended_join}
 use Rattle.alp_journal.specs.Messages.{Mail, may_join, on_register, to_others}
 use Rattle.alp_journal.specs.Answered.{is_all_done}
-use Rattle.alp_journal.specs.Alone.{Alone, alone, is_other, are_servers_apart, IsFateOf, IsPhaseOf, AreJoins, Stands, Tells, IsSettled, IsQuiet, HasTried, IsPartOf, IsOfPart, IsFinishOf, IsOther, HasCome, HasWaits, HasNoCall, is_on_trans, sent_acts, Leads}
+use Rattle.alp_journal.specs.Account.{Account, state_of, is_other, are_servers_apart, IsFateOf, IsPhaseOf, AreJoins, Stands, Tells, IsSettled, IsQuiet, HasTried, IsPartOf, IsOfPart, IsFinishOf, IsOther, HasCome, HasWaits, HasNoCall, is_on_trans, sent_acts, Leads}
 use Rattle.alp_journal.proofs.IdLemmas.{same_trans-true, same_trans-itself, same_join-true, all-filter}
 use Rattle.alp_journal.proofs.WaitLemmas.{all-of, all-both, passing, apart-filter}
 use Rattle.alp_journal.proofs.TurnLemmas.{turns-set}
@@ -35,7 +35,7 @@ use Rattle.alp_journal.proofs.StandLemmas.{any-last, moved_each, moved_fate, sam
 use Rattle.alp_journal.proofs.MoveLemmas.{stands_fated, stands_quit, stands_entered, IsSpent, spent_over, open_entered}
 use Rattle.alp_journal.proofs.DeskLemmas.{tells_fated, tells_moved, fewer}
 use Rattle.alp_journal.proofs.QuietLemmas.{none_tried, stands_as, turns-as, turns-without, parts-gone, ended_joins, other-on, waits-without, calls-without}
-use Rattle.alp_journal.proofs.AloneLemmas.{IsMail, no_mail, mail_behind}
+use Rattle.alp_journal.proofs.CallLemmas.{IsMail, no_mail, mail_behind}
 use Rattle.alp_journal.proofs.ArrivalLemmas.{arrive_entry, arriving, ArriveOwes, arrive_leads, SaysOwes, says_leads, no_release}
 
 -- ---- lists of joins
@@ -64,10 +64,10 @@ servers-last (k ∷ js) j h none =
 -- ---- where nothing but fates and joins move
 
 -- a state is quiet where it stands and tells so, with who holds what and who waits as before
-pub quiet_beside : (a m : Alone) → m.holder ≡ a.holder → m.waits ≡ a.waits → m.pending ≡ [] → IsSettled m → IsQuiet a → IsQuiet m
-quiet_beside a m holder waits none settled q = record { settled = settled; turns = turns-as (alone a) (alone m) holder waits q.turns; tried = HasTried.nothing none }
+pub quiet_beside : (a m : Account) → m.holder ≡ a.holder → m.waits ≡ a.waits → m.pending ≡ [] → IsSettled m → IsQuiet a → IsQuiet m
+quiet_beside a m holder waits none settled q = record { settled = settled; turns = turns-as (state_of a) (state_of m) holder waits q.turns; tried = HasTried.nothing none }
 
-module _ (a : Alone) (from : ℕ) (t : TransId) (j : JoinNo) (client : ℕ) where
+module _ (a : Account) (from : ℕ) (t : TransId) (j : JoinNo) (client : ℕ) where
   abbrev register : Message
   register = msg.Register t j client
 
@@ -78,70 +78,70 @@ module _ (a : Alone) (from : ℕ) (t : TransId) (j : JoinNo) (client : ℕ) wher
   refused_mail = (j.server, msg.JoinRefused t j) ∷ []
 
   -- what goes to another server of the run
-  one_other : (m : Message) → is_other_server (alone a) j.server ≡ true → to_others (alone a) ((j.server, m) ∷ []) ≡ (j.server, m) ∷ []
+  one_other : (m : Message) → is_other_server (state_of a) j.server ≡ true → to_others (state_of a) ((j.server, m) ∷ []) ≡ (j.server, m) ∷ []
   one_other m far = ap (λ (b : Bool). cond {A = List Mail} b ((j.server, m) ∷ []) []) far
 
   -- ---- a join asks to be let in
 
   -- the transaction was not drawn here: nothing is said
-  pub register_unknown_leads : IsQuiet a → a.is_down ≡ false → is_trans_drawn (alone a) t ≡ false → Leads false a (arrive_entry a from register []) a
+  pub register_unknown_leads : IsQuiet a → a.is_down ≡ false → is_trans_drawn (state_of a) t ≡ false → Leads false a (arrive_entry a from register []) a
   register_unknown_leads q up strange = says_leads a from register false [] (record {
     quiet = q;
     up = up;
     brought = refl;
     said = tt;
-    mail = subst (λ (ms : List Mail). IsPermutation (to_others (alone a) ms) []) (sym (ap (λ (b : Bool). cond {A = List Mail} (not b) [] (cond {A = List Mail} (may_join (alone a) j client (a.fates t)) joined_mail refused_mail)) strange)) (IsPermutation-refl []);
+    mail = subst (λ (ms : List Mail). IsPermutation (to_others (state_of a) ms) []) (sym (ap (λ (b : Bool). cond {A = List Mail} (not b) [] (cond {A = List Mail} (may_join (state_of a) j client (a.fates t)) joined_mail refused_mail)) strange)) (IsPermutation-refl []);
     addressed = refl;
     applied = tt;
   })
 
-  on_drawn : is_trans_drawn (alone a) t ≡ true → on_register (alone a) t j client ≡ cond {A = List Mail} (may_join (alone a) j client (a.fates t)) joined_mail refused_mail
-  on_drawn drawn = ap (λ (b : Bool). cond {A = List Mail} (not b) [] (cond {A = List Mail} (may_join (alone a) j client (a.fates t)) joined_mail refused_mail)) drawn
+  on_drawn : is_trans_drawn (state_of a) t ≡ true → on_register (state_of a) t j client ≡ cond {A = List Mail} (may_join (state_of a) j client (a.fates t)) joined_mail refused_mail
+  on_drawn drawn = ap (λ (b : Bool). cond {A = List Mail} (not b) [] (cond {A = List Mail} (may_join (state_of a) j client (a.fates t)) joined_mail refused_mail)) drawn
 
   -- it is not let in, and is told
-  pub register_refused_leads : IsQuiet a → a.is_down ≡ false → is_trans_drawn (alone a) t ≡ true → may_join (alone a) j client (a.fates t) ≡ false → is_other_server (alone a) j.server ≡ true
+  pub register_refused_leads : IsQuiet a → a.is_down ≡ false → is_trans_drawn (state_of a) t ≡ true → may_join (state_of a) j client (a.fates t) ≡ false → is_other_server (state_of a) j.server ≡ true
       → Leads false a (arrive_entry a from register (sent_acts refused_mail)) a
   register_refused_leads q up drawn no far = says_leads a from register false refused_mail (record {
     quiet = q;
     up = up;
     brought = refl;
     said = (tt, tt);
-    mail = subst (λ (ms : List Mail). IsPermutation (to_others (alone a) ms) refused_mail) (sym (on_drawn drawn ∙ ap (λ (b : Bool). cond {A = List Mail} b joined_mail refused_mail) no))
+    mail = subst (λ (ms : List Mail). IsPermutation (to_others (state_of a) ms) refused_mail) (sym (on_drawn drawn ∙ ap (λ (b : Bool). cond {A = List Mail} b joined_mail refused_mail) no))
         (subst (λ (ms : List Mail). IsPermutation ms refused_mail) (sym (one_other (msg.JoinRefused t j) far)) (IsPermutation-refl refused_mail));
     addressed = ap (λ (b : Bool). b && true) (eq-eqb j.server j.server refl);
     applied = tt;
   })
 
   -- and where it is of no other server of the run nothing is said
-  pub register_stray_leads : IsQuiet a → a.is_down ≡ false → is_other_server (alone a) j.server ≡ false → Leads false a (arrive_entry a from register []) a
+  pub register_stray_leads : IsQuiet a → a.is_down ≡ false → is_other_server (state_of a) j.server ≡ false → Leads false a (arrive_entry a from register []) a
   register_stray_leads q up near = says_leads a from register false [] (record {
     quiet = q;
     up = up;
     brought = refl;
     said = tt;
-    mail = subst (λ (ms : List Mail). IsPermutation ms []) (sym (nothing (is_trans_drawn (alone a) t) (may_join (alone a) j client (a.fates t)))) (IsPermutation-refl []);
+    mail = subst (λ (ms : List Mail). IsPermutation ms []) (sym (nothing (is_trans_drawn (state_of a) t) (may_join (state_of a) j client (a.fates t)))) (IsPermutation-refl []);
     addressed = refl;
     applied = tt;
   })
     where
-      nothing : (b d : Bool) → to_others (alone a) (cond {A = List Mail} (not b) [] (cond {A = List Mail} d joined_mail refused_mail)) ≡ []
+      nothing : (b d : Bool) → to_others (state_of a) (cond {A = List Mail} (not b) [] (cond {A = List Mail} d joined_mail refused_mail)) ≡ []
       nothing false d = refl
       nothing true true = ap (λ (b : Bool). cond {A = List Mail} b joined_mail []) near
       nothing true false = ap (λ (b : Bool). cond {A = List Mail} b refused_mail []) near
 
   module _ (js : List JoinNo) where
-    may : a.fates t ≡ Running client js → is_other_server (alone a) j.server ≡ true → (has_join j js || not (has_server j.server js)) ≡ true → may_join (alone a) j client (a.fates t) ≡ true
-    may runs far first = ap (may_join (alone a) j client) runs ∙ and_from (client == client && is_other_server (alone a) j.server) (has_join j js || not (has_server j.server js))
-        (and_from (client == client) (is_other_server (alone a) j.server) (eq-eqb client client refl) far) first
+    may : a.fates t ≡ Running client js → is_other_server (state_of a) j.server ≡ true → (has_join j js || not (has_server j.server js)) ≡ true → may_join (state_of a) j client (a.fates t) ≡ true
+    may runs far first = ap (may_join (state_of a) j client) runs ∙ and_from (client == client && is_other_server (state_of a) j.server) (has_join j js || not (has_server j.server js))
+        (and_from (client == client) (is_other_server (state_of a) j.server) (eq-eqb client client refl) far) first
 
-    drawn_here : IsQuiet a → a.fates t ≡ Running client js → is_trans_drawn (alone a) t ≡ true
+    drawn_here : IsQuiet a → a.fates t ≡ Running client js → is_trans_drawn (state_of a) t ≡ true
     drawn_here q runs = (subst (IsFateOf a.servers a.holder.server a.ids.epoch a.ids.transactions a.begun t) runs (q.settled.stands.fates t)).0.0
 
-    mail_joined : IsQuiet a → a.fates t ≡ Running client js → is_other_server (alone a) j.server ≡ true → (has_join j js || not (has_server j.server js)) ≡ true → to_others (alone a) (on_register (alone a) t j client) ≡ joined_mail
-    mail_joined q runs far first = ap (to_others (alone a)) (on_drawn (drawn_here q runs) ∙ ap (λ (b : Bool). cond {A = List Mail} b joined_mail refused_mail) (may runs far first)) ∙ one_other (msg.Joined t j) far
+    mail_joined : IsQuiet a → a.fates t ≡ Running client js → is_other_server (state_of a) j.server ≡ true → (has_join j js || not (has_server j.server js)) ≡ true → to_others (state_of a) (on_register (state_of a) t j client) ≡ joined_mail
+    mail_joined q runs far first = ap (to_others (state_of a)) (on_drawn (drawn_here q runs) ∙ ap (λ (b : Bool). cond {A = List Mail} b joined_mail refused_mail) (may runs far first)) ∙ one_other (msg.Joined t j) far
 
     -- it was let in before, and is told so again
-    pub register_again_leads : IsQuiet a → a.is_down ≡ false → a.fates t ≡ Running client js → is_other_server (alone a) j.server ≡ true → has_join j js ≡ true → Leads false a (arrive_entry a from register (sent_acts joined_mail)) a
+    pub register_again_leads : IsQuiet a → a.is_down ≡ false → a.fates t ≡ Running client js → is_other_server (state_of a) j.server ≡ true → has_join j js ≡ true → Leads false a (arrive_entry a from register (sent_acts joined_mail)) a
     register_again_leads q up runs far its = says_leads a from register false joined_mail (record {
       quiet = q;
       up = up;
@@ -153,13 +153,13 @@ module _ (a : Alone) (from : ℕ) (t : TransId) (j : JoinNo) (client : ℕ) wher
     })
 
     -- it is the first of its server: it is let in, and is told
-    abbrev pub with_registered : Alone
+    abbrev pub with_registered : Account
     with_registered = record a { fates = λ u. if same_trans t u then fate.registered j (a.fates u) else a.fates u }
 
     is_registered : a.fates t ≡ Running client js → has_server j.server js ≡ false → fate.registered j (a.fates t) ≡ Running client (js ++ j ∷ [])
     is_registered runs first = ap (fate.registered j) runs ∙ ap (λ (b : Bool). cond {A = Fate} b (Running client js) (Running client (js ++ j ∷ []))) first
 
-    registered_settled : IsSettled a → a.fates t ≡ Running client js → is_other_server (alone a) j.server ≡ true → has_server j.server js ≡ false → IsSettled with_registered
+    registered_settled : IsSettled a → a.fates t ≡ Running client js → is_other_server (state_of a) j.server ≡ true → has_server j.server js ≡ false → IsSettled with_registered
     registered_settled q runs far first =
         let now : fate.registered j (a.fates t) ≡ Running client (js ++ j ∷ []) = is_registered runs first in
         let of : IsFateOf a.servers a.holder.server a.ids.epoch a.ids.transactions a.begun t (Running client js) = subst (IsFateOf a.servers a.holder.server a.ids.epoch a.ids.transactions a.begun t) runs (q.stands.fates t) in
@@ -170,15 +170,15 @@ module _ (a : Alone) (from : ℕ) (t : TransId) (j : JoinNo) (client : ℕ) wher
           tells = tells_fated a q.tells t (fate.registered j) (λ c. refl) (λ n h. subst (λ (f : Fate). IsFinishOf n f (a.dead n t)) (sym now) (subst (λ (f : Fate). IsFinishOf n f (a.dead n t)) runs h)) (subst (HasNoCall a.waits t) (sym now) tt);
         }
 
-    pub register_leads : IsQuiet a → a.is_down ≡ false → a.fates t ≡ Running client js → is_other_server (alone a) j.server ≡ true → has_server j.server js ≡ false
+    pub register_leads : IsQuiet a → a.is_down ≡ false → a.fates t ≡ Running client js → is_other_server (state_of a) j.server ≡ true → has_server j.server js ≡ false
         → Leads false a (arrive_entry a from register (act.Registered t j ∷ sent_acts joined_mail)) with_registered
     register_leads q up runs far first =
-        let s : State = alone a in
+        let s : State = state_of a in
         arrive_leads a from register false (act.Registered t j ∷ sent_acts joined_mail) (Registers t j ∷ []) with_registered (record {
           up = refl;
           running = up;
           brought = refl;
-          left = λ i. alone (record with_registered { begun = append-nil a.begun i; joined = append-nil a.joined i; is_down = sym up i; pending = sym (none_tried a q up) i });
+          left = λ i. state_of (record with_registered { begun = append-nil a.begun i; joined = append-nil a.joined i; is_down = sym up i; pending = sym (none_tried a q up) i });
           drawn = refl;
           deeds = (
             record {
@@ -211,7 +211,7 @@ module _ (a : Alone) (from : ℕ) (t : TransId) (j : JoinNo) (client : ℕ) wher
 
 -- ---- a join hears that it was let in
 
-module _ (a : Alone) (from : ℕ) (t : TransId) (j : JoinNo) where
+module _ (a : Account) (from : ℕ) (t : TransId) (j : JoinNo) where
   -- it does not ask for this transaction, or a part of it is live: nothing comes of it
   pub joined_passed_leads : IsQuiet a → a.is_down ≡ false → enters j t (a.holder.lives t) (a.phases j) ≡ [] → Leads false a (arrive_entry a from (msg.Joined t j) []) a
   joined_passed_leads q up none = says_leads a from (msg.Joined t j) false [] (record { quiet = q; up = up; brought = none; said = tt; mail = IsPermutation-refl []; addressed = refl; applied = tt })
@@ -224,7 +224,7 @@ module _ (a : Alone) (from : ℕ) (t : TransId) (j : JoinNo) where
     fresh = new_life (Some j) client who
 
     -- its part is live
-    abbrev pub with_entered : Alone
+    abbrev pub with_entered : Account
     with_entered = record a {
       holder = with_life a.holder t (Some (new_life (Some j) client who));
       phases = λ k. if same_join j k then phase.entered (a.phases k) else a.phases k;
@@ -243,7 +243,7 @@ module _ (a : Alone) (from : ℕ) (t : TransId) (j : JoinNo) where
           up = refl;
           running = up;
           brought = ap (λ (ds : List Deed). ds ++ [] ++ []) enters_is;
-          left = λ i. alone (record with_entered { begun = append-nil a.begun i; joined = append-nil a.joined i; is_down = sym up i; pending = sym (none_tried a q up) i });
+          left = λ i. state_of (record with_entered { begun = append-nil a.begun i; joined = append-nil a.joined i; is_down = sym up i; pending = sym (none_tried a q up) i });
           drawn = refl;
           deeds = (record { counts = tt; view = tt; locks = tt; running = tt; registration = tt; vote = tt; decision = tt; application = tt; forgetting = tt }, tt);
           released = refl;
@@ -263,7 +263,7 @@ module _ (a : Alone) (from : ℕ) (t : TransId) (j : JoinNo) where
                 finishing = moved.finishing;
               };
             };
-            turns = turns-set (alone a) (alone with_entered) t fresh refl (λ u. refl) (λ k live. absurd (let wrong : None ≡ Some k = sym none ∙ live in cc)) a.waits off q.turns;
+            turns = turns-set (state_of a) (state_of with_entered) t fresh refl (λ u. refl) (λ k live. absurd (let wrong : None ≡ Some k = sym none ∙ live in cc)) a.waits off q.turns;
             tried = HasTried.nothing (none_tried a q up);
           };
           mail = no_mail [] refl refl;
@@ -276,7 +276,7 @@ module _ (a : Alone) (from : ℕ) (t : TransId) (j : JoinNo) where
         stands_located q = record { agree = q.agree; paired = q.paired; held = q.held; votes = q.votes; forgets = q.forgets; fates = q.fates; begun = q.begun; phases = q.phases; joined = q.joined; single = q.single; order = q.order }
 
     -- it was not let in: it is over, and its call goes
-    abbrev pub with_refused : Alone
+    abbrev pub with_refused : Account
     with_refused = record a {
       phases = λ k. if same_join j k then phase.quit (a.phases k) else a.phases k;
       waits = without (is_of_part client t) a.waits;
@@ -335,7 +335,7 @@ module _ (a : Alone) (from : ℕ) (t : TransId) (j : JoinNo) where
           up = refl;
           running = up;
           brought = ap (λ (ds : List Deed). ds ++ [] ++ []) (ap (refused_join j t) asks ∙ ap (λ (b : Bool). cond {A = List Deed} b (Quits j t client None ∷ []) []) (same_trans-itself t));
-          left = λ i. alone (record with_refused { begun = append-nil a.begun i; joined = append-nil a.joined i; is_down = sym up i; pending = sym (none_tried a q up) i });
+          left = λ i. state_of (record with_refused { begun = append-nil a.begun i; joined = append-nil a.joined i; is_down = sym up i; pending = sym (none_tried a q up) i });
           drawn = refl;
           deeds = (record { counts = tt; view = tt; locks = tt; running = tt; registration = tt; vote = tt; decision = tt; application = tt; forgetting = tt }, tt);
           released = sym (ap (λ (p : Phase). ended_join t p ++ []) asks);
@@ -344,7 +344,7 @@ module _ (a : Alone) (from : ℕ) (t : TransId) (j : JoinNo) where
           regained = refl;
           quiet = record {
             settled = record { stands = stands_as (record a { phases = with_refused.phases }) a.sessions with_refused.waits a.dead a.is_down a.pending stood; tells = refused_tells q.settled asks };
-            turns = turns-without (is_of_part client t) (alone a) (alone with_refused) refl refl q.turns;
+            turns = turns-without (is_of_part client t) (state_of a) (state_of with_refused) refl refl q.turns;
             tried = HasTried.nothing (none_tried a q up);
           };
           mail = no_mail [] refl refl;

@@ -25,12 +25,12 @@ use Rattle.alp_journal.specs.State.{State, state_deed}
 use Rattle.alp_journal.specs.Moves.{is_effective, resolved}
 use Rattle.alp_journal.specs.Laws.{IsFound, IsHolding, is_standing, latest_vote}
 use Rattle.alp_journal.specs.Answered.{is_all_done}
-use Rattle.alp_journal.specs.Alone.{Alone, alone, IsFateOf, IsPhaseOf, Stands, IsQuiet, IsTriedCommit, IsTriedDecision, IsTriedVote, IsTriedApplication, IsTriedEnd, IsTriedAbort, Leads}
+use Rattle.alp_journal.specs.Account.{Account, state_of, IsFateOf, IsPhaseOf, Stands, IsQuiet, IsTriedCommit, IsTriedDecision, IsTriedVote, IsTriedApplication, IsTriedEnd, IsTriedAbort, Leads}
 use Rattle.alp_journal.specs.Restarts.{restart_entry, restarted_at, with_decided, restarted_with, with_vote_of, restarted_ready, with_applied, restarted_applied, with_forgotten, restarted_forgotten, with_aborted, restarted_aborted}
 use Rattle.alp_journal.proofs.IdLemmas.{same_trans-true, same_trans-itself, same_join-true}
 use Rattle.alp_journal.proofs.StandLemmas.{same_join-itself, moved_phase, known_running, running_of, own_pair, own_here, life_of, pair_of}
 use Rattle.alp_journal.proofs.MoveLemmas.{IsSpent, spent_over, spent_applied, stands_fated, stands_over, stands_gone, stands_voted}
-use Rattle.alp_journal.proofs.AloneRestarts.{IsNoted, restarted_quiet, restart_so}
+use Rattle.alp_journal.proofs.RestartLemmas.{IsNoted, restarted_quiet, restart_so}
 
 -- ---- what is left of a part that goes
 
@@ -48,10 +48,10 @@ none_done stamp (j ∷ js) = refl
 
 -- ---- a decision
 
-module _ (a : Alone) (ready : List JoinNo) (stamps : List Stamp) (q : IsQuiet a) (stamp : Stamp) (l : Life) (joins : List JoinNo) (live : a.holder.lives stamp.trans ≡ Some l) (part : l.join ≡ None) (notes : IsNoted (with_decided a stamp l joins) ready stamps)
+module _ (a : Account) (ready : List JoinNo) (stamps : List Stamp) (q : IsQuiet a) (stamp : Stamp) (l : Life) (joins : List JoinNo) (live : a.holder.lives stamp.trans ≡ Some l) (part : l.join ≡ None) (notes : IsNoted (with_decided a stamp l joins) ready stamps)
     (late : a.holder.clock < stamp.ts) (d : Deed) (move : Fate → Fate)
-    (is : state_deed (alone a) d ≡ record (alone a) { fates = λ u. cond {A = Fate} (same_trans stamp.trans u) (move (a.fates u)) (a.fates u); begun = a.begun ++ []; joined = a.joined ++ [] })
-    (decides : fate.decided stamp joins (move (a.fates stamp.trans)) ≡ Committed stamp joins []) (made : resolved (alone a) ready stamp.ts stamps ≡ d ∷ Decides stamp joins ∷ []) where
+    (is : state_deed (state_of a) d ≡ record (state_of a) { fates = λ u. cond {A = Fate} (same_trans stamp.trans u) (move (a.fates u)) (a.fates u); begun = a.begun ++ []; joined = a.joined ++ [] })
+    (decides : fate.decided stamp joins (move (a.fates stamp.trans)) ≡ Committed stamp joins []) (made : resolved (state_of a) ready stamp.ts stamps ≡ d ∷ Decides stamp joins ∷ []) where
   abbrev its : TransId
   its = stamp.trans
 
@@ -100,23 +100,23 @@ module _ (a : Alone) (ready : List JoinNo) (stamps : List Stamp) (q : IsQuiet a)
         decided = λ x. notes.decided x ∙ ap (is_standing x) (sym (fate_then x.trans));
       }))
       (ap (λ (s : State). record (state_after state_deed s (Decides stamp joins ∷ Restarts (a.ids.epoch + 1) stamp.ts ∷ [])) { is_down = false; pending = [] }) is
-      ∙ (λ i. alone (record (restarted_with a stamp l joins) {
+      ∙ (λ i. state_of (record (restarted_with a stamp l joins) {
         holder = restarted_holder i;
         fates = λ t. fate.restarted (a.ids.epoch + 1) (fate_then t i);
         locked = λ t. kept_locks ((commits a.holder stamp (live i)).lives t) (a.locked t);
         begun = (append-nil ((a.begun ++ []) ++ []) ∙ append-nil (a.begun ++ []) ∙ append-nil a.begun) i;
         joined = (append-nil ((a.joined ++ []) ++ []) ∙ append-nil (a.joined ++ []) ∙ append-nil a.joined) i;
       }))
-      ∙ (λ i. alone (record (restarted_with a stamp l joins) { locked = λ t. gone_locks (same_trans t its) l (a.holder.lives t) (a.locked t) i })))
+      ∙ (λ i. state_of (record (restarted_with a stamp l joins) { locked = λ t. gone_locks (same_trans t its) l (a.holder.lives t) (a.locked t) i })))
       (restarted_quiet (with_decided a stamp l joins) stamp.ts decided_stands)
 
-module _ (a : Alone) (ready : List JoinNo) (stamps : List Stamp) (q : IsQuiet a) where
+module _ (a : Account) (ready : List JoinNo) (stamps : List Stamp) (q : IsQuiet a) where
   -- two deeds of which both count
-  both_count : (clock : ℕ) (d e : Deed) → a.pending ≡ d ∷ e ∷ [] → is_effective ready clock stamps d ≡ true → is_effective ready clock stamps e ≡ true → resolved (alone a) ready clock stamps ≡ d ∷ e ∷ []
+  both_count : (clock : ℕ) (d e : Deed) → a.pending ≡ d ∷ e ∷ [] → is_effective ready clock stamps d ≡ true → is_effective ready clock stamps e ≡ true → resolved (state_of a) ready clock stamps ≡ d ∷ e ∷ []
   both_count clock d e is first second = ap (filter (is_effective ready clock stamps)) is
       ∙ (λ i. cond {A = List Deed} (first i) (d ∷ cond {A = List Deed} (second i) (e ∷ []) []) (cond {A = List Deed} (second i) (e ∷ []) []))
 
-  one_counts : (clock : ℕ) (d : Deed) → a.pending ≡ d ∷ [] → is_effective ready clock stamps d ≡ true → resolved (alone a) ready clock stamps ≡ d ∷ []
+  one_counts : (clock : ℕ) (d : Deed) → a.pending ≡ d ∷ [] → is_effective ready clock stamps d ≡ true → resolved (state_of a) ready clock stamps ≡ d ∷ []
   one_counts clock d is it = ap (filter (is_effective ready clock stamps)) is ∙ ap (λ (b : Bool). cond {A = List Deed} b (d ∷ []) []) it
 
   later_vote : (n : ℕ) (vs : List Vote) → n ≤ latest_vote n vs
@@ -141,12 +141,12 @@ module _ (a : Alone) (ready : List JoinNo) (stamps : List Stamp) (q : IsQuiet a)
       → Leads false a (restart_entry a a.holder.kept ready stamps) (restarted_ready a c.join c.trans (a.holder.clock + 1) l)
   vote_made_leads c l live notes =
       let ts : ℕ = a.holder.clock + 1 in
-      let m : Alone = with_vote_of a c.join c.trans ts l in
+      let m : Account = with_vote_of a c.join c.trans ts l in
       let stood : Stands m = stands_voted a q.settled.stands c.join c.trans c.client c.who ts l c.active live in
       let found : has_join c.join ready ≡ true = notes.ready c.join ∙ ap is_ready (moved_phase a.phases c.join (phase.readied ts) ∙ ap (phase.readied ts) c.active) in
       restart_so a ready stamps a.holder.kept (Readies c.join c.trans ts ∷ []) (restarted_ready a c.join c.trans ts l) (one_counts a.holder.kept (Readies c.join c.trans ts) c.tried found)
       (record { clock = ap (λ (x : Option Life). (readies a.holder c.trans ts x).kept) (sym live); once = notes.once; ready = notes.ready; decided = notes.decided })
-      (λ i. alone (record (restarted_ready a c.join c.trans ts l) {
+      (λ i. state_of (record (restarted_ready a c.join c.trans ts l) {
         holder = holder_after (readies a.holder c.trans ts (live i)) (Restarts (a.ids.epoch + 1) a.holder.kept);
         locked = λ t. kept_locks ((readies a.holder c.trans ts (live i)).lives t) (a.locked t);
         begun = (append-nil (a.begun ++ []) ∙ append-nil a.begun) i;
@@ -161,7 +161,7 @@ module _ (a : Alone) (ready : List JoinNo) (stamps : List Stamp) (q : IsQuiet a)
   application_made_leads c l live notes =
       let t : TransId = c.stamp.trans in
       let clock : ℕ = max a.holder.clock c.stamp.ts in
-      let m : Alone = with_applied a c.join c.stamp l in
+      let m : Account = with_applied a c.join c.stamp l in
       let now : phase.applied c.stamp (a.phases c.join) ≡ Applied t c.stamp = ap (phase.applied c.stamp) c.ready ∙ ap (λ (b : Bool). cond {A = Phase} b (Applied t c.stamp) (Ready t c.client c.ts)) (same_trans-itself t) in
       let known : IsPhaseOf a.servers a.holder.server a.ids.epoch a.ids.joins a.joined c.join (Ready t c.client c.ts) = subst (IsPhaseOf a.servers a.holder.server a.ids.epoch a.ids.joins a.joined c.join) c.ready (q.settled.stands.phases c.join) in
       let stood : Stands m = stands_gone a q.settled.stands t (edits_map l.edits a.holder.cells) a.holder.clock a.holder.kept (in_history c.stamp l a.holder.applied)
@@ -170,13 +170,13 @@ module _ (a : Alone) (ready : List JoinNo) (stamps : List Stamp) (q : IsQuiet a)
       let gone : has_join c.join ready ≡ false = notes.ready c.join ∙ ap is_ready (moved_phase a.phases c.join (phase.applied c.stamp) ∙ now) in
       restart_so a ready stamps clock (Applies c.join c.stamp ∷ []) (restarted_applied a c.join c.stamp l) (one_counts clock (Applies c.join c.stamp) c.tried (ap not gone))
       (record { clock = ap (λ (x : Option Life). (commits a.holder c.stamp x).kept) (sym live); once = notes.once; ready = notes.ready; decided = notes.decided })
-      ((λ i. alone (record (restarted_applied a c.join c.stamp l) {
+      ((λ i. state_of (record (restarted_applied a c.join c.stamp l) {
         holder = holder_after (commits a.holder c.stamp (live i)) (Restarts (a.ids.epoch + 1) clock);
         locked = λ u. kept_locks ((commits a.holder c.stamp (live i)).lives u) (a.locked u);
         begun = (append-nil (a.begun ++ []) ∙ append-nil a.begun) i;
         joined = (append-nil (a.joined ++ []) ∙ append-nil a.joined) i;
       }))
-      ∙ (λ i. alone (record (restarted_applied a c.join c.stamp l) {
+      ∙ (λ i. state_of (record (restarted_applied a c.join c.stamp l) {
         holder = record (restarted_applied a c.join c.stamp l).holder { lives = λ u. gone_ready (same_trans u t) l (a.holder.lives u) i };
         locked = λ u. gone_locks (same_trans u t) l (a.holder.lives u) (a.locked u) i;
       })))
@@ -187,13 +187,13 @@ module _ (a : Alone) (ready : List JoinNo) (stamps : List Stamp) (q : IsQuiet a)
   pub end_made_leads : (c : IsTriedEnd a) → IsNoted (with_forgotten a c.trans c.stamp c.joins) ready stamps → list_any (λ (x : Stamp). same_trans x.trans c.trans) stamps ≡ false
       → Leads false a (restart_entry a a.holder.kept ready stamps) (restarted_forgotten a c.trans c.stamp c.joins)
   end_made_leads c notes gone =
-      let m : Alone = with_forgotten a c.trans c.stamp c.joins in
+      let m : Account = with_forgotten a c.trans c.stamp c.joins in
       let known : IsFateOf a.servers a.holder.server a.ids.epoch a.ids.transactions a.begun c.trans (Committed c.stamp c.joins c.done) = subst (IsFateOf a.servers a.holder.server a.ids.epoch a.ids.transactions a.begun c.trans) c.committed (q.settled.stands.fates c.trans) in
       let stood : Stands m = stands_fated a q.settled.stands c.trans (λ f. Forgotten c.stamp c.joins) (sym (ap client_of c.committed)) (sym (ap is_running c.committed)) refl refl known in
       restart_so a ready stamps a.holder.kept (Acknowledges c.trans c.join ∷ Forgets c.trans ∷ []) (restarted_forgotten a c.trans c.stamp c.joins)
       (both_count a.holder.kept (Acknowledges c.trans c.join) (Forgets c.trans) c.tried refl (ap not gone))
       (record { clock = refl; once = notes.once; ready = notes.ready; decided = λ x. notes.decided x ∙ ap (is_standing x) (sym (forgotten_then c x.trans)) })
-      (λ i. alone (record (restarted_forgotten a c.trans c.stamp c.joins) {
+      (λ i. state_of (record (restarted_forgotten a c.trans c.stamp c.joins) {
         fates = λ t. fate.restarted (a.ids.epoch + 1) (forgotten_then c t i);
         begun = (append-nil ((a.begun ++ []) ++ []) ∙ append-nil (a.begun ++ []) ∙ append-nil a.begun) i;
         joined = (append-nil ((a.joined ++ []) ++ []) ∙ append-nil (a.joined ++ []) ∙ append-nil a.joined) i;
@@ -215,7 +215,7 @@ module _ (a : Alone) (ready : List JoinNo) (stamps : List Stamp) (q : IsQuiet a)
       → Leads false a (restart_entry a a.holder.kept ready stamps) (restarted_aborted a c.join c.trans)
   abort_made_leads c l live mine notes =
       let t : TransId = c.trans in
-      let m : Alone = with_aborted a c.join t in
+      let m : Account = with_aborted a c.join t in
       let now : phase.aborted t (a.phases c.join) ≡ Over = ap (phase.aborted t) c.ready ∙ ap (λ (b : Bool). cond {A = Phase} b Over (Ready t c.client c.ts)) (same_trans-itself t) in
       let known : IsPhaseOf a.servers a.holder.server a.ids.epoch a.ids.joins a.joined c.join (Ready t c.client c.ts) = subst (IsPhaseOf a.servers a.holder.server a.ids.epoch a.ids.joins a.joined c.join) c.ready (q.settled.stands.phases c.join) in
       let stood : Stands m = stands_gone a q.settled.stands t a.holder.cells a.holder.clock a.holder.kept a.holder.applied a.holder.left q.settled.stands.order c.join (subst (IsHolding t) (sym c.ready) refl) (phase.aborted t)
@@ -223,7 +223,7 @@ module _ (a : Alone) (ready : List JoinNo) (stamps : List Stamp) (q : IsQuiet a)
       let gone : has_join c.join ready ≡ false = notes.ready c.join ∙ ap is_ready (moved_phase a.phases c.join (phase.aborted t) ∙ now) in
       restart_so a ready stamps a.holder.kept (Aborts c.join t c.client c.cause ∷ []) (restarted_aborted a c.join t) (one_counts a.holder.kept (Aborts c.join t c.client c.cause) c.tried (ap not gone))
       (record { clock = refl; once = notes.once; ready = notes.ready; decided = notes.decided })
-      (λ i. alone (record (restarted_aborted a c.join t) {
+      (λ i. state_of (record (restarted_aborted a c.join t) {
         holder = record (restarted_aborted a c.join t).holder { lives = λ u. lapsed_ready u (same_trans u t) refl i };
         locked = λ u. lapsed_locks u (same_trans u t) refl i;
         begun = (append-nil (a.begun ++ []) ∙ append-nil a.begun) i;

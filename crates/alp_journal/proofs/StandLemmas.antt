@@ -14,7 +14,7 @@ use Rattle.alp_journal.specs.Holder.{Life}
 use Rattle.alp_journal.specs.State.{is_whose, join_for}
 use Rattle.alp_journal.specs.Laws.{IsHolding, are_joins_apart}
 use Rattle.alp_journal.specs.Moves.{next_trans}
-use Rattle.alp_journal.specs.Alone.{Alone, alone, IsJoined, IsPartAs, IsPaired, HasLife, is_other, has_trans, are_trans_apart, IsKnown, IsFateOf, IsKnownJoin, IsPhaseOf, HasNoJoin, Stands}
+use Rattle.alp_journal.specs.Account.{Account, state_of, IsJoined, IsPartAs, IsPaired, HasLife, is_other, has_trans, are_trans_apart, IsKnown, IsFateOf, IsKnownJoin, IsPhaseOf, HasNoJoin, Stands}
 use Rattle.alp_journal.proofs.IdLemmas.{same_trans-true, same_trans-itself, same_join-true, or-true}
 use Rattle.alp_journal.proofs.WaitLemmas.{turned}
 
@@ -423,7 +423,7 @@ held_set lives t life j p none h = by p none h
 
 -- ---- of what stands
 
-module _ (a : Alone) (q : Stands a) where
+module _ (a : Account) (q : Stands a) where
   -- no live join is of a transaction of this server
   pub no_own_join : (t : TransId) → t.server ≡ a.holder.server → (client : ℕ) → HasNoJoin a.phases client t
   no_own_join t here client j = go (a.phases j) (q.phases j)
@@ -492,7 +492,7 @@ module _ (a : Alone) (q : Stands a) where
       same-some j k (sym of ∙ ap (λ (x : Life). x.join) (same-some l m (sym live ∙ there)) ∙ its)
 
   -- a client's live join is the one that is found
-  pub join_found : (client : ℕ) (t : TransId) (j : JoinNo) → live_in (a.phases j) ≡ Some (t, client) → has_join j a.joined ≡ true → join_for (alone a) client t ≡ Some j
+  pub join_found : (client : ℕ) (t : TransId) (j : JoinNo) → live_in (a.phases j) ≡ Some (t, client) → has_join j a.joined ≡ true → join_for (state_of a) client t ≡ Some j
   join_found client t j live there = go a.joined there
     where
       mine : is_whose client t (live_in (a.phases j)) ≡ true
@@ -533,11 +533,11 @@ module _ (a : Alone) (q : Stands a) where
       go Over h k = let wrong : None ≡ Some x = h in cc
 
   -- the client's live part of a join that is live
-  pub join_live : (client : ℕ) (t : TransId) (j : JoinNo) → is_whose client t (live_in (a.phases j)) ≡ true → join_for (alone a) client t ≡ Some j
+  pub join_live : (client : ℕ) (t : TransId) (j : JoinNo) → is_whose client t (live_in (a.phases j)) ≡ true → join_for (state_of a) client t ≡ Some j
   join_live client t j h = join_found client t j (whose client t (live_in (a.phases j)) h) (known_join j (t, client) (whose client t (live_in (a.phases j)) h))
 
   -- a client that has no live join has none that is found
-  pub join_none : (client : ℕ) (t : TransId) → HasNoJoin a.phases client t → join_for (alone a) client t ≡ None
+  pub join_none : (client : ℕ) (t : TransId) → HasNoJoin a.phases client t → join_for (state_of a) client t ≡ None
   join_none client t none = go a.joined
     where
       go : (ks : List JoinNo) → find (λ k. is_whose client t (live_in (a.phases k))) ks ≡ None
@@ -545,5 +545,5 @@ module _ (a : Alone) (q : Stands a) where
       go (k ∷ ks) = ap (λ (b : Bool). cond {A = Option JoinNo} b (Some k) (find (λ i. is_whose client t (live_in (a.phases i))) ks)) (none k) ∙ go ks
 
   -- the next transaction was not drawn
-  pub next_new : a.fates (next_trans (alone a)) ≡ Undrawn
-  next_new = undrawn_fate a.servers a.holder.server a.ids.epoch a.ids.transactions a.begun (next_trans (alone a)) (a.fates (next_trans (alone a))) (λ k. next_undrawn a.holder.server a.ids.epoch a.ids.transactions k.0) (q.fates (next_trans (alone a)))
+  pub next_new : a.fates (next_trans (state_of a)) ≡ Undrawn
+  next_new = undrawn_fate a.servers a.holder.server a.ids.epoch a.ids.transactions a.begun (next_trans (state_of a)) (a.fates (next_trans (state_of a))) (λ k. next_undrawn a.holder.server a.ids.epoch a.ids.transactions k.0) (q.fates (next_trans (state_of a)))

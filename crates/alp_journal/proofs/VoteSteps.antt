@@ -39,7 +39,7 @@ use Rattle.alp_journal.specs.Moves.{if_its, quits_for, first_sent, no_in, abort_
 use Rattle.alp_journal.specs.Laws.{IsHolding, IsLawfulDeed, SaysRight, HasDecision, ended_by, latest_vote}
 use Rattle.alp_journal.specs.Messages.{Mail, to_each, to_others, on_ask, unknown_join, vote_on, on_ready, own_vote, on_votes, on_commit, has_all_votes, clock_end, first_why, full_or, no_room, weights, greatest, all_ready, why_not, why_not_own}
 use Rattle.alp_journal.specs.Answered.{is_all_done, IsWalk, in_turn}
-use Rattle.alp_journal.specs.Alone.{Alone, alone, is_other, IsJoined, AreVotes, IsFateOf, IsPhaseOf, Stands, Tells, IsSettled, IsQuiet, HasTried, IsJoinOf, IsFinishOf, HasWaits, HasNoCall, is_on_trans, granted_calls, with_granted, grant_acts, sent_acts, Leads}
+use Rattle.alp_journal.specs.Account.{Account, state_of, is_other, IsJoined, AreVotes, IsFateOf, IsPhaseOf, Stands, Tells, IsSettled, IsQuiet, HasTried, IsJoinOf, IsFinishOf, HasWaits, HasNoCall, is_on_trans, granted_calls, with_granted, grant_acts, sent_acts, Leads}
 use Rattle.alp_journal.proofs.IdLemmas.{same_trans-true, same_trans-itself, same_join-true, or-true}
 use Rattle.alp_journal.proofs.WaitLemmas.{found-is, none-found, found-none, file_part}
 use Rattle.alp_journal.proofs.TurnLemmas.{turns-set}
@@ -48,10 +48,10 @@ use Rattle.alp_journal.proofs.PartLemmas.{IsAtWork, active_at_work}
 use Rattle.alp_journal.proofs.MoveLemmas.{IsSpent, spent_applied, stands_fated, stands_over, stands_gone, stands_voted}
 use Rattle.alp_journal.proofs.DeskLemmas.{tells_voted, tells_fated}
 use Rattle.alp_journal.proofs.QuietLemmas.{none_tried, parts-kept, parts-gone, none-on, has_ended, ended_moved, others-on, finish-moved}
-use Rattle.alp_journal.proofs.AloneLemmas.{AreAddressed, IsMail, no_mail, mail_behind}
+use Rattle.alp_journal.proofs.CallLemmas.{AreAddressed, IsMail, no_mail, mail_behind}
 use Rattle.alp_journal.proofs.LetGoLemmas.{IsGivenOn, GoesOn}
 use Rattle.alp_journal.proofs.ArrivalLemmas.{arrive_entry, ArriveOwes, arrive_leads, SaysOwes, says_leads, LeavesOwes, leaves_leads}
-use Rattle.alp_journal.proofs.AloneEnds.{each-addressed, aborts-said, aborts-addressed, lived_on, part_ended, IsOwn, here_as, known_as, now_as, fate_ended, after_goes}
+use Rattle.alp_journal.proofs.OwnEnds.{each-addressed, aborts-said, aborts-addressed, lived_on, part_ended, IsOwn, here_as, known_as, now_as, fate_ended, after_goes}
 use Rattle.alp_journal.proofs.RegisterSteps.{quiet_beside}
 use Rattle.alp_journal.proofs.JoinEnds.{IsEnding, fewer_ended, waits_then, ended_holding, unheld_then}
 
@@ -66,7 +66,7 @@ none_of : {A : Type 0} (x : Option A) → is_some x ≡ false → x ≡ None
 none_of None e = refl
 none_of (Some y) e = let wrong : true ≡ false = e in cc
 
-module _ (a : Alone) (from : ℕ) (t : TransId) (j : JoinNo) (client : ℕ) (who : List ℕ) (l : Life) where
+module _ (a : Account) (from : ℕ) (t : TransId) (j : JoinNo) (client : ℕ) (who : List ℕ) (l : Life) where
   abbrev ready_mail : List Mail
   ready_mail = (t.server, msg.Ready t j (a.holder.clock + 1)) ∷ []
 
@@ -74,22 +74,22 @@ module _ (a : Alone) (from : ℕ) (t : TransId) (j : JoinNo) (client : ℕ) (who
   voter = record l { vote = Some (a.holder.clock + 1) }
 
   -- the part has voted for the time after the clock
-  abbrev pub with_ready : Alone
+  abbrev pub with_ready : Account
   with_ready = record a {
     holder = with_life a.holder t (Some (record l { vote = Some (a.holder.clock + 1) }));
     phases = λ k. if same_join j k then phase.readied (a.holder.clock + 1) (a.phases k) else a.phases k;
   }
 
-  pub idle : why_not false (alone a) client t ≡ None → waiting_of (alone a).desk client t ≡ None
-  idle may = none_of (waiting_of (alone a).desk client t) (idle_by false (is_some (waiting_of (alone a).desk client t)) (a.holder.clock == clock_end)
-      (no_room a.sizes.area (ready_sum (weights (alone a) (all_ready (alone a))) (greatest (alone a) (all_ready (alone a)))) (ready_sum (weights (alone a) (t ∷ all_ready (alone a))) (greatest (alone a) (t ∷ all_ready (alone a))))) may)
+  pub idle : why_not false (state_of a) client t ≡ None → waiting_of (state_of a).desk client t ≡ None
+  idle may = none_of (waiting_of (state_of a).desk client t) (idle_by false (is_some (waiting_of (state_of a).desk client t)) (a.holder.clock == clock_end)
+      (no_room a.sizes.area (ready_sum (weights (state_of a) (all_ready (state_of a))) (greatest (state_of a) (all_ready (state_of a)))) (ready_sum (weights (state_of a) (t ∷ all_ready (state_of a))) (greatest (state_of a) (t ∷ all_ready (state_of a))))) may)
 
-  pub ask_votes_leads : IsQuiet a → a.is_down ≡ false → a.phases j ≡ Active t client who → a.holder.lives t ≡ Some l → l.client ≡ client → why_not false (alone a) client t ≡ None
+  pub ask_votes_leads : IsQuiet a → a.is_down ≡ false → a.phases j ≡ Active t client who → a.holder.lives t ≡ Some l → l.client ≡ client → why_not false (state_of a) client t ≡ None
       → Leads false a (arrive_entry a from (msg.Ask t j) (act.Readied t j (a.holder.clock + 1) ∷ sent_acts ready_mail)) with_ready
   ask_votes_leads q up active live own may =
       let ts : ℕ = a.holder.clock + 1 in
       let acts : List Act = act.Readied t j ts ∷ sent_acts ready_mail in
-      let far : is_other_server (alone a) t.server ≡ true = (subst (IsPhaseOf a.servers a.holder.server a.ids.epoch a.ids.joins a.joined j) active (q.settled.stands.phases j)).1 in
+      let far : is_other_server (state_of a) t.server ≡ true = (subst (IsPhaseOf a.servers a.holder.server a.ids.epoch a.ids.joins a.joined j) active (q.settled.stands.phases j)).1 in
       let works : IsAtWork a t l = active_at_work a q.settled.stands t l live j client who active in
       let now : phase.readied ts (a.phases j) ≡ Ready t client ts = ap (phase.readied ts) active in
       let off : AllByRecursion (λ w. is_of_part client t w ≡ false) a.waits = none-found (is_of_part client t) a.waits (idle may) in
@@ -99,7 +99,7 @@ module _ (a : Alone) (from : ℕ) (t : TransId) (j : JoinNo) (client : ℕ) (who
         up = refl;
         running = up;
         brought = ap (λ (p : Phase). if_its t (open_in p) (λ n. quits_for j t n None) ++ (Readies j t ts ∷ []) ++ []) active ∙ none_quits (same_trans t t);
-        left = λ i. alone (record with_ready { holder = readies a.holder t ts (live i); begun = append-nil a.begun i; joined = append-nil a.joined i; is_down = sym up i; pending = sym (none_tried a q up) i });
+        left = λ i. state_of (record with_ready { holder = readies a.holder t ts (live i); begun = append-nil a.begun i; joined = append-nil a.joined i; is_down = sym up i; pending = sym (none_tried a q up) i });
         drawn = refl;
         deeds = (
           record {
@@ -132,14 +132,14 @@ module _ (a : Alone) (from : ℕ) (t : TransId) (j : JoinNo) (client : ℕ) (who
               finishing = moved.finishing;
             };
           };
-          turns = turns-set (alone a) (alone with_ready) t voter refl (λ u. refl) (λ k at. subst (λ (y : Life). IsMore y.held l.held) (same-some l k (sym live ∙ at)) (λ r m i. i)) a.waits
+          turns = turns-set (state_of a) (state_of with_ready) t voter refl (λ u. refl) (λ k at. subst (λ (y : Life). IsMore y.held l.held) (same-some l k (sym live ∙ at)) (λ r m i. i)) a.waits
               (none-on a.holder.lives a.dead client t l live own a.waits q.settled.tells.parts (idle may)) q.turns;
           tried = HasTried.nothing (none_tried a q up);
         };
         mail = subst (λ (ms : List Mail). IsMail ms acts)
-            (sym (ap (λ (p : Phase). to_others (alone a) (on_ask false (alone a) t j p)) active
-            ∙ ap (λ (b : Bool). to_others (alone a) (cond {A = List Mail} b ((t.server, vote_on (alone a) t j client (why_not false (alone a) client t)) ∷ []) (unknown_join (alone a) t j))) (same_trans-itself t)
-            ∙ ap (λ (x : Option Why). to_others (alone a) ((t.server, vote_on (alone a) t j client x) ∷ [])) may ∙ ap (λ (b : Bool). cond {A = List Mail} b ready_mail []) far))
+            (sym (ap (λ (p : Phase). to_others (state_of a) (on_ask false (state_of a) t j p)) active
+            ∙ ap (λ (b : Bool). to_others (state_of a) (cond {A = List Mail} b ((t.server, vote_on (state_of a) t j client (why_not false (state_of a) client t)) ∷ []) (unknown_join (state_of a) t j))) (same_trans-itself t)
+            ∙ ap (λ (x : Option Why). to_others (state_of a) ((t.server, vote_on (state_of a) t j client x) ∷ [])) may ∙ ap (λ (b : Bool). cond {A = List Mail} b ready_mail []) far))
             (mail_behind ready_mail (act.Readied t j ts ∷ []) ready_mail refl (ap (λ (b : Bool). b && true) (eq-eqb t.server t.server refl)) (IsPermutation-refl ready_mail));
         applied = tt;
         turns = tt;
@@ -151,12 +151,12 @@ module _ (a : Alone) (from : ℕ) (t : TransId) (j : JoinNo) (client : ℕ) (who
 
 -- ---- a part is told to commit
 
-module _ (a : Alone) (from : ℕ) (t : TransId) (j : JoinNo) where
+module _ (a : Account) (from : ℕ) (t : TransId) (j : JoinNo) where
   abbrev done_mail : List Mail
   done_mail = (t.server, msg.Done t j) ∷ []
 
   -- it is not live any more: it is done
-  pub commit_done_leads : (stamp : Stamp) → IsQuiet a → a.is_down ≡ false → is_join_drawn (alone a) j ≡ true → live_in (a.phases j) ≡ None → is_other_server (alone a) t.server ≡ true
+  pub commit_done_leads : (stamp : Stamp) → IsQuiet a → a.is_down ≡ false → is_join_drawn (state_of a) j ≡ true → live_in (a.phases j) ≡ None → is_other_server (state_of a) t.server ≡ true
       → Leads false a (arrive_entry a from (msg.Commit t j stamp) (sent_acts done_mail)) a
   commit_done_leads stamp q up drawn over far = says_leads a from (msg.Commit t j stamp) false done_mail (record {
     quiet = q;
@@ -164,13 +164,13 @@ module _ (a : Alone) (from : ℕ) (t : TransId) (j : JoinNo) where
     brought = refl;
     said = ((from, stamp, refl, drawn, over), tt);
     mail = subst (λ (ms : List Mail). IsPermutation ms done_mail)
-        (sym ((λ i. to_others (alone a) (cond {A = List Mail} (drawn i && is_none (over i)) done_mail [])) ∙ ap (λ (b : Bool). cond {A = List Mail} b done_mail []) far)) (IsPermutation-refl done_mail);
+        (sym ((λ i. to_others (state_of a) (cond {A = List Mail} (drawn i && is_none (over i)) done_mail [])) ∙ ap (λ (b : Bool). cond {A = List Mail} b done_mail []) far)) (IsPermutation-refl done_mail);
     addressed = ap (λ (b : Bool). b && true) (eq-eqb t.server t.server refl);
     applied = λ client ts of ready. (let wrong : None ≡ Some (t, client) = sym over ∙ ap live_in ready in cc);
   })
 
   -- nothing is to be said, and no part of it is ready for that stamp
-  pub commit_passed_leads : (stamp : Stamp) → IsQuiet a → a.is_down ≡ false → to_others (alone a) (on_commit (alone a) (alone a) t j) ≡ [] → ((client ts : ℕ) → stamp.trans ≡ t → a.phases j ≡ Ready t client ts → ⊥)
+  pub commit_passed_leads : (stamp : Stamp) → IsQuiet a → a.is_down ≡ false → to_others (state_of a) (on_commit (state_of a) (state_of a) t j) ≡ [] → ((client ts : ℕ) → stamp.trans ≡ t → a.phases j ≡ Ready t client ts → ⊥)
       → Leads false a (arrive_entry a from (msg.Commit t j stamp) []) a
   commit_passed_leads stamp q up silent none = says_leads a from (msg.Commit t j stamp) false [] (record {
     quiet = q;
@@ -187,7 +187,7 @@ module _ (a : Alone) (from : ℕ) (t : TransId) (j : JoinNo) where
     apply_stamp = record { ts = time; trans = t }
 
     -- its intents are cells, it takes its place among the transactions, and is gone
-    abbrev pub with_apply : Alone
+    abbrev pub with_apply : Account
     with_apply = record a {
       holder = with_life (record a.holder {
         cells = edits_map l.edits a.holder.cells;
@@ -202,10 +202,10 @@ module _ (a : Alone) (from : ℕ) (t : TransId) (j : JoinNo) where
       pending = [];
     }
 
-    abbrev pub with_apply_given : List TransId → Alone
+    abbrev pub with_apply_given : List TransId → Account
     with_apply_given ts = with_granted with_apply (granted_calls a.waits ts)
 
-    abbrev applying : Alone
+    abbrev applying : Account
     applying = record a { holder = with_apply.holder; phases = with_apply.phases; locked = with_apply.locked }
 
     is_applied : a.phases j ≡ Ready t client ts → phase.applied apply_stamp (a.phases j) ≡ Applied t apply_stamp
@@ -295,10 +295,10 @@ module _ (a : Alone) (from : ℕ) (t : TransId) (j : JoinNo) where
         let front : List Act = act.Applied j apply_stamp ∷ act.Released t ∷ [] in
         let back : List Deed = Applies j apply_stamp ∷ Releases t ∷ [] in
         let known : IsPhaseOf a.servers a.holder.server a.ids.epoch a.ids.joins a.joined j (Ready t client ts) = subst (IsPhaseOf a.servers a.holder.server a.ids.epoch a.ids.joins a.joined j) ready (q.settled.stands.phases j) in
-        let far : is_other_server (alone a) t.server ≡ true = known.1 in
-        let drawn : is_join_drawn (alone a) j ≡ true = known.0.0 in
+        let far : is_other_server (state_of a) t.server ≡ true = known.1 in
+        let drawn : is_join_drawn (state_of a) j ≡ true = known.0.0 in
         let now : applying.phases j ≡ Applied t apply_stamp = moved_phase a.phases j (phase.applied apply_stamp) ∙ is_applied ready in
-        let mid : State = state_deed (alone a) (Applies j apply_stamp) in
+        let mid : State = state_deed (state_of a) (Applies j apply_stamp) in
         let goes : GoesOn a applying ev front back us = record {
           before = q.settled;
           none_tried = none_tried a q up;
@@ -307,7 +307,7 @@ module _ (a : Alone) (from : ℕ) (t : TransId) (j : JoinNo) where
           waits = refl;
           walk = walk;
           no_call = λ u n. refl;
-          reached = λ i. alone (record applying { holder = emptied_then live i; begun = begun_two i; joined = joined_two i });
+          reached = λ i. state_of (record applying { holder = emptied_then live i; begun = begun_two i; joined = joined_two i });
           deeds = (
             record {
               counts = tt;
@@ -353,7 +353,7 @@ module _ (a : Alone) (from : ℕ) (t : TransId) (j : JoinNo) where
           says = λ y g. ((from, apply_stamp, refl, (λ i. is_drawn (g.server i) (g.ids i).epoch (g.ids i).joins j.server j.epoch j.counter) ∙ drawn, ap (λ (f : JoinNo → Phase). live_in (f j)) g.phases ∙ ap live_in now), tt);
           addressed = ap (λ (b : Bool). b && true) (eq-eqb t.server t.server refl);
           mail = subst (λ (ms : List Mail). IsPermutation ms done_mail)
-              (sym ((λ i. to_others (alone a) (cond {A = List Mail} (drawn i && is_none (live_in (now i))) done_mail [])) ∙ ap (λ (b : Bool). cond {A = List Mail} b done_mail []) far)) (IsPermutation-refl done_mail);
+              (sym ((λ i. to_others (state_of a) (cond {A = List Mail} (drawn i && is_none (live_in (now i))) done_mail [])) ∙ ap (λ (b : Bool). cond {A = List Mail} b done_mail []) far)) (IsPermutation-refl done_mail);
           applied = λ n m of at. now;
         })
       where

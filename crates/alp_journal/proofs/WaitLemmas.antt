@@ -9,7 +9,7 @@ use Rattle.alp_files.specs.declared.call.Call.{Call}
 use Rattle.alp_files.specs.declared.call.Call.TheVariants as call
 use Rattle.alp_journal.specs.Ids.{same_trans}
 use Rattle.alp_journal.specs.Desk.{Waiting, file_trans, part_trans, is_of, is_of_part, without, grant_in}
-use Rattle.alp_journal.specs.Alone.{is_on_trans, AreTwo, AreApart, waits_granted}
+use Rattle.alp_journal.specs.Account.{is_on_trans, AreTwo, AreApart, waits_granted}
 use Rattle.alp_journal.proofs.IdLemmas.{same_trans-true, same_trans-itself, all-append, all-filter}
 
 -- ---- each of a list

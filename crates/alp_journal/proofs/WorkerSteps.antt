@@ -37,7 +37,7 @@ use Rattle.alp_journal.specs.Moves.{if_its, quits_for, first_sent, no_in, messag
 use Rattle.alp_journal.specs.Laws.{IsHolding, IsLawfulDeed, ended_join}
 use Rattle.alp_journal.specs.Messages.{Mail, to_others, on_ask, unknown_join, vote_on, on_commit, clock_end, first_why, no_room, weights, greatest, all_ready, why_not}
 use Rattle.alp_journal.specs.Answered.{IsWalk, in_turn}
-use Rattle.alp_journal.specs.Alone.{Alone, alone, is_other, IsPhaseOf, Stands, Tells, IsSettled, IsQuiet, HasTried, IsPartOf, IsOfPart, HasWaits, is_on_trans, granted_calls, with_granted, grant_acts, sent_acts, Leads}
+use Rattle.alp_journal.specs.Account.{Account, state_of, is_other, IsPhaseOf, Stands, Tells, IsSettled, IsQuiet, HasTried, IsPartOf, IsOfPart, HasWaits, is_on_trans, granted_calls, with_granted, grant_acts, sent_acts, Leads}
 use Rattle.alp_journal.proofs.IdLemmas.{same_trans-true, same_trans-itself, same_join-true}
 use Rattle.alp_journal.proofs.MadeIds.{all-map}
 use Rattle.alp_journal.proofs.WaitLemmas.{none-found, found-none}
@@ -47,10 +47,10 @@ use Rattle.alp_journal.proofs.PartLemmas.{IsAtWork, active_at_work}
 use Rattle.alp_journal.proofs.MoveLemmas.{IsSpent, spent_over, spent_applied, stands_quit, stands_gone, stands_voted, live_still}
 use Rattle.alp_journal.proofs.DeskLemmas.{tells_voted}
 use Rattle.alp_journal.proofs.QuietLemmas.{none_tried, AreOfParts, parts-kept, parts-gone, none-on, has_ended, ended_joins, others-on}
-use Rattle.alp_journal.proofs.AloneLemmas.{AreAddressed, IsMail, no_mail, mail_behind}
+use Rattle.alp_journal.proofs.CallLemmas.{AreAddressed, IsMail, no_mail, mail_behind}
 use Rattle.alp_journal.proofs.LetGoLemmas.{IsGivenOn, GoesOn}
 use Rattle.alp_journal.proofs.ArrivalLemmas.{arrive_entry, ArriveOwes, arrive_leads, SaysOwes, says_leads, LeavesOwes, leaves_leads}
-use Rattle.alp_journal.proofs.AloneEnds.{told-more, lived_on}
+use Rattle.alp_journal.proofs.OwnEnds.{told-more, lived_on}
 use Rattle.alp_journal.proofs.RegisterSteps.{quiet_beside}
 use Rattle.alp_journal.proofs.JoinEnds.{IsEnding, told_ended, told_others, waits_then, fewer_ended, join_ended, IsEndedBy, join_ended_goes, ended_holding}
 
@@ -73,9 +73,9 @@ first-behind : (f : Message → Option Cause) (ts : List TransId) (acts : List A
 first-behind f [] acts = refl
 first-behind f (t ∷ ts) acts = first-behind f ts acts
 
-module _ (a : Alone) (from : ℕ) (t : TransId) (j : JoinNo) where
+module _ (a : Account) (from : ℕ) (t : TransId) (j : JoinNo) where
   -- one to the server of the transaction
-  one_to : (m : Message) → is_other_server (alone a) t.server ≡ true → to_others (alone a) ((t.server, m) ∷ []) ≡ (t.server, m) ∷ []
+  one_to : (m : Message) → is_other_server (state_of a) t.server ≡ true → to_others (state_of a) ((t.server, m) ∷ []) ≡ (t.server, m) ∷ []
   one_to m far = ap (λ (b : Bool). cond {A = List Mail} b ((t.server, m) ∷ []) []) far
 
   addressed_to : (m : Message) → AreAddressed ((t.server, msg.Done t j) ∷ [])
@@ -106,21 +106,21 @@ module _ (a : Alone) (from : ℕ) (t : TransId) (j : JoinNo) where
       go None e = ap (λ (y : Option (TransId × ℕ)). if_its t y next) e
       go (Some x) e = ap (λ (y : Option (TransId × ℕ)). if_its t y next) e ∙ ap (λ (b : Bool). cond {A = List Deed} b (next x.1) []) (none x e)
 
-  not_asked : (failed : Bool) → IsNotIts → on_ask failed (alone a) t j (a.phases j) ≡ unknown_join (alone a) t j
+  not_asked : (failed : Bool) → IsNotIts → on_ask failed (state_of a) t j (a.phases j) ≡ unknown_join (state_of a) t j
   not_asked failed none = go (a.phases j) (λ x e. none x e)
     where
-      go : (p : Phase) → ((x : TransId × ℕ) → live_in p ≡ Some x → same_trans x.0 t ≡ false) → on_ask failed (alone a) t j p ≡ unknown_join (alone a) t j
+      go : (p : Phase) → ((x : TransId × ℕ) → live_in p ≡ Some x → same_trans x.0 t ≡ false) → on_ask failed (state_of a) t j p ≡ unknown_join (state_of a) t j
       go Unseen h = refl
-      go (Joining u c who) h = ap (λ (b : Bool). cond {A = List Mail} b ((t.server, msg.No t j why.Waiting) ∷ []) (unknown_join (alone a) t j)) (h (u, c) refl)
-      go (Active u c who) h = ap (λ (b : Bool). cond {A = List Mail} b ((t.server, vote_on (alone a) t j c (why_not failed (alone a) c t)) ∷ []) (unknown_join (alone a) t j)) (h (u, c) refl)
-      go (Ready u c ts) h = ap (λ (b : Bool). cond {A = List Mail} b ((t.server, msg.Ready t j ts) ∷ []) (unknown_join (alone a) t j)) (h (u, c) refl)
+      go (Joining u c who) h = ap (λ (b : Bool). cond {A = List Mail} b ((t.server, msg.No t j why.Waiting) ∷ []) (unknown_join (state_of a) t j)) (h (u, c) refl)
+      go (Active u c who) h = ap (λ (b : Bool). cond {A = List Mail} b ((t.server, vote_on (state_of a) t j c (why_not failed (state_of a) c t)) ∷ []) (unknown_join (state_of a) t j)) (h (u, c) refl)
+      go (Ready u c ts) h = ap (λ (b : Bool). cond {A = List Mail} b ((t.server, msg.Ready t j ts) ∷ []) (unknown_join (state_of a) t j)) (h (u, c) refl)
       go (Applied u stamp) h = refl
       go Over h = refl
 
   -- ---- asked for its vote
 
   -- the join is not here: it is against the commit, where it was drawn here
-  pub ask_unknown_leads : IsQuiet a → a.is_down ≡ false → IsNotIts → is_join_drawn (alone a) j ≡ true → is_other_server (alone a) t.server ≡ true
+  pub ask_unknown_leads : IsQuiet a → a.is_down ≡ false → IsNotIts → is_join_drawn (state_of a) j ≡ true → is_other_server (state_of a) t.server ≡ true
       → Leads false a (arrive_entry a from (msg.Ask t j) (act.Sent t.server (msg.No t j why.UnknownJoin) ∷ [])) a
   ask_unknown_leads q up none drawn far = says_leads a from (msg.Ask t j) false ((t.server, msg.No t j why.UnknownJoin) ∷ []) (record {
     quiet = q;
@@ -128,19 +128,19 @@ module _ (a : Alone) (from : ℕ) (t : TransId) (j : JoinNo) where
     brought = not_open none (λ client. quits_for j t client (first_sent (no_in a.holder.server j) (act.Sent t.server (msg.No t j why.UnknownJoin) ∷ [])));
     said = (tt, tt);
     mail = subst (λ (ms : List Mail). IsPermutation ms ((t.server, msg.No t j why.UnknownJoin) ∷ []))
-        (sym (ap (to_others (alone a)) (not_asked false none ∙ ap (λ (b : Bool). cond {A = List Mail} b ((t.server, msg.No t j why.UnknownJoin) ∷ []) []) drawn) ∙ one_to (msg.No t j why.UnknownJoin) far)) (IsPermutation-refl ((t.server, msg.No t j why.UnknownJoin) ∷ []));
+        (sym (ap (to_others (state_of a)) (not_asked false none ∙ ap (λ (b : Bool). cond {A = List Mail} b ((t.server, msg.No t j why.UnknownJoin) ∷ []) []) drawn) ∙ one_to (msg.No t j why.UnknownJoin) far)) (IsPermutation-refl ((t.server, msg.No t j why.UnknownJoin) ∷ []));
     addressed = addressed_to (msg.Done t j);
     applied = tt;
   })
 
   -- else nothing is said
-  pub ask_silent_leads : IsQuiet a → a.is_down ≡ false → IsNotIts → to_others (alone a) (unknown_join (alone a) t j) ≡ [] → Leads false a (arrive_entry a from (msg.Ask t j) []) a
+  pub ask_silent_leads : IsQuiet a → a.is_down ≡ false → IsNotIts → to_others (state_of a) (unknown_join (state_of a) t j) ≡ [] → Leads false a (arrive_entry a from (msg.Ask t j) []) a
   ask_silent_leads q up none silent = says_leads a from (msg.Ask t j) false [] (record {
     quiet = q;
     up = up;
     brought = not_open none (λ client. quits_for j t client None);
     said = tt;
-    mail = subst (λ (ms : List Mail). IsPermutation ms []) (sym (ap (to_others (alone a)) (not_asked false none) ∙ silent)) (IsPermutation-refl []);
+    mail = subst (λ (ms : List Mail). IsPermutation ms []) (sym (ap (to_others (state_of a)) (not_asked false none) ∙ silent)) (IsPermutation-refl []);
     addressed = refl;
     applied = tt;
   })
@@ -153,19 +153,19 @@ module _ (a : Alone) (from : ℕ) (t : TransId) (j : JoinNo) where
     brought = ap (λ (p : Phase). if_its t (open_in p) (λ client. quits_for j t client (first_sent (no_in a.holder.server j) (act.Sent t.server (msg.Ready t j ts) ∷ [])))) ready;
     said = ((client, ready), tt);
     mail = subst (λ (ms : List Mail). IsPermutation ms ((t.server, msg.Ready t j ts) ∷ []))
-        (sym (ap (λ (p : Phase). to_others (alone a) (on_ask false (alone a) t j p)) ready ∙ ap (λ (b : Bool). to_others (alone a) (cond {A = List Mail} b ((t.server, msg.Ready t j ts) ∷ []) (unknown_join (alone a) t j))) (same_trans-itself t) ∙ one_to (msg.Ready t j ts) far)) (IsPermutation-refl ((t.server, msg.Ready t j ts) ∷ []));
+        (sym (ap (λ (p : Phase). to_others (state_of a) (on_ask false (state_of a) t j p)) ready ∙ ap (λ (b : Bool). to_others (state_of a) (cond {A = List Mail} b ((t.server, msg.Ready t j ts) ∷ []) (unknown_join (state_of a) t j))) (same_trans-itself t) ∙ one_to (msg.Ready t j ts) far)) (IsPermutation-refl ((t.server, msg.Ready t j ts) ∷ []));
     addressed = addressed_to (msg.Done t j);
     applied = tt;
   })
     where
-      far : is_other_server (alone a) t.server ≡ true
+      far : is_other_server (state_of a) t.server ≡ true
       far = (subst (IsPhaseOf a.servers a.holder.server a.ids.epoch a.ids.joins a.joined j) ready (q.settled.stands.phases j)).1
 
   -- ---- one that asks to be let in is over
 
   module _ (client : ℕ) (who : List ℕ) (c : Cause) where
     -- it is over, and its client is to be told
-    abbrev pub with_quit : Alone
+    abbrev pub with_quit : Account
     with_quit = record a {
       phases = λ k. if same_join j k then phase.quit (a.phases k) else a.phases k;
       dead = λ d u. if d == client && same_trans u t then Some c else a.dead d u;
@@ -205,15 +205,15 @@ module _ (a : Alone) (from : ℕ) (t : TransId) (j : JoinNo) where
       → Leads false a (arrive_entry a from (msg.Ask t j) (act.Sent t.server (msg.No t j why.Waiting) ∷ [])) (with_quit client who (cause.Voted a.holder.server why.Waiting))
   ask_joining_leads client who q up asks =
       let acts : List Act = act.Sent t.server (msg.No t j why.Waiting) ∷ [] in
-      let m : Alone = with_quit client who waiting_cause in
-      let far : is_other_server (alone a) t.server ≡ true = (subst (IsPhaseOf a.servers a.holder.server a.ids.epoch a.ids.joins a.joined j) asks (q.settled.stands.phases j)).1 in
+      let m : Account = with_quit client who waiting_cause in
+      let far : is_other_server (state_of a) t.server ≡ true = (subst (IsPhaseOf a.servers a.holder.server a.ids.epoch a.ids.joins a.joined j) asks (q.settled.stands.phases j)).1 in
       arrive_leads a from (msg.Ask t j) false acts (Quits j t client (Some waiting_cause) ∷ []) m (record {
         up = refl;
         running = up;
         brought = ap (λ (p : Phase). if_its t (open_in p) (λ n. quits_for j t n (first_sent (no_in a.holder.server j) acts)) ++ [] ++ []) asks
             ∙ ap (λ (b : Bool). cond {A = List Deed} b (quits_for j t client (first_sent (no_in a.holder.server j) acts)) [] ++ [] ++ []) (same_trans-itself t)
             ∙ ap (λ (b : Bool). quits_for j t client (option_or (cond {A = Option Cause} b (Some waiting_cause) None) None) ++ [] ++ []) (same_join-itself j);
-        left = λ i. alone (record m { begun = append-nil a.begun i; joined = append-nil a.joined i; is_down = sym up i; pending = sym (none_tried a q up) i });
+        left = λ i. state_of (record m { begun = append-nil a.begun i; joined = append-nil a.joined i; is_down = sym up i; pending = sym (none_tried a q up) i });
         drawn = refl;
         deeds = (record { counts = tt; view = tt; locks = tt; running = tt; registration = tt; vote = tt; decision = tt; application = tt; forgetting = tt }, tt);
         released = sym (ap (λ (p : Phase). ended_join t p ++ []) asks);
@@ -222,7 +222,7 @@ module _ (a : Alone) (from : ℕ) (t : TransId) (j : JoinNo) where
         regained = refl;
         quiet = quiet_beside a m refl refl (none_tried a q up) (quit_settled client who waiting_cause q.settled asks) q;
         mail = subst (λ (ms : List Mail). IsMail ms acts)
-            (sym (ap (λ (p : Phase). to_others (alone a) (on_ask false (alone a) t j p)) asks ∙ ap (λ (b : Bool). to_others (alone a) (cond {A = List Mail} b ((t.server, msg.No t j why.Waiting) ∷ []) (unknown_join (alone a) t j))) (same_trans-itself t) ∙ one_to (msg.No t j why.Waiting) far))
+            (sym (ap (λ (p : Phase). to_others (state_of a) (on_ask false (state_of a) t j p)) asks ∙ ap (λ (b : Bool). to_others (state_of a) (cond {A = List Mail} b ((t.server, msg.No t j why.Waiting) ∷ []) (unknown_join (state_of a) t j))) (same_trans-itself t) ∙ one_to (msg.No t j why.Waiting) far))
             (mail_behind ((t.server, msg.No t j why.Waiting) ∷ []) [] ((t.server, msg.No t j why.Waiting) ∷ []) refl (addressed_to (msg.Done t j)) (IsPermutation-refl ((t.server, msg.No t j why.Waiting) ∷ [])));
         applied = tt;
         turns = tt;
@@ -238,12 +238,12 @@ module _ (a : Alone) (from : ℕ) (t : TransId) (j : JoinNo) where
   pub abort_joining_leads : (c : Cause) (client : ℕ) (who : List ℕ) → IsQuiet a → a.is_down ≡ false → a.phases j ≡ Joining t client who → a.holder.lives t ≡ None
       → Leads false a (arrive_entry a from (msg.Abort t j c) []) (with_quit client who c)
   abort_joining_leads c client who q up asks none =
-      let m : Alone = with_quit client who c in
+      let m : Account = with_quit client who c in
       arrive_leads a from (msg.Abort t j c) false [] (Aborts j t client c ∷ []) m (record {
         up = refl;
         running = up;
         brought = ap (λ (p : Phase). if_its t (live_in p) (λ n. Aborts j t n c ∷ []) ++ [] ++ []) asks ∙ ap (λ (b : Bool). cond {A = List Deed} b (Aborts j t client c ∷ []) [] ++ [] ++ []) (same_trans-itself t);
-        left = λ i. alone (record m {
+        left = λ i. state_of (record m {
           holder = record a.holder { lives = λ u. as_was none u (same_trans u t) refl i };
           phases = λ k. over_at k (same_join j k) refl i;
           begun = append-nil a.begun i;
@@ -277,10 +277,10 @@ module _ (a : Alone) (from : ℕ) (t : TransId) (j : JoinNo) where
 
   module _ (client : ℕ) (l : Life) (c : Cause) where
     -- of one that was let in, or has voted
-    abbrev pub with_abort : Alone
+    abbrev pub with_abort : Account
     with_abort = record (join_ended a j t client (phase.aborted t) c l (Aborts j t client c) (record a.holder { lives = λ u. if same_trans u t then lapsed j (a.holder.lives u) else a.holder.lives u })) { is_down = false; pending = [] }
 
-    abbrev pub with_abort_given : List TransId → Alone
+    abbrev pub with_abort_given : List TransId → Account
     with_abort_given ts = with_granted with_abort (granted_calls a.waits ts)
 
     abbrev lapsing : Holder
@@ -329,7 +329,7 @@ module _ (a : Alone) (from : ℕ) (t : TransId) (j : JoinNo) where
         → (ts : List TransId) → IsWalk with_abort.holder (in_turn with_abort.holder a.waits) ts → Leads false a (arrive_entry a from (msg.Abort t j c) ((act.Released t ∷ grant_acts ts) ++ [])) (with_abort_given ts)
     abort_leads q up its h live mine own ts walk =
         let ev : Event = event.Arrive from (msg.Abort t j c) in
-        let ended : Alone = join_ended a j t client (phase.aborted t) c l (Aborts j t client c) lapsing in
+        let ended : Account = join_ended a j t client (phase.aborted t) c l (Aborts j t client c) lapsing in
         let front : List Act = act.Released t ∷ [] in
         let back : List Deed = Aborts j t client c ∷ Releases t ∷ [] in
         let goes : GoesOn a ended ev front back ts = join_ended_goes a j t client (phase.aborted t) c l (Aborts j t client c) lapsing ev (λ u n. refl) (aborts q.settled its h) (ended_by_it ev live mine) h live own (none_tried a q up) ts walk in
@@ -348,10 +348,10 @@ module _ (a : Alone) (from : ℕ) (t : TransId) (j : JoinNo) where
     -- ---- it votes against the commit
 
     -- of one that was let in
-    abbrev pub with_against : Alone
+    abbrev pub with_against : Account
     with_against = record (join_ended a j t client phase.quit c l (Quits j t client (Some c)) a.holder) { is_down = false; pending = [] }
 
-    abbrev pub with_against_given : List TransId → Alone
+    abbrev pub with_against_given : List TransId → Account
     with_against_given ts = with_granted with_against (granted_calls a.waits ts)
 
     quits_active : (who : List ℕ) → IsSettled a → a.phases j ≡ Active t client who → IsEnding a j t client phase.quit
@@ -363,18 +363,18 @@ module _ (a : Alone) (from : ℕ) (t : TransId) (j : JoinNo) where
       waits = λ ws. subst (HasWaits ws) (sym (ap phase.quit active)) tt;
     }
 
-    pub ask_against_leads : (failed : Bool) (w : Why) (who : List ℕ) → c ≡ cause.Voted a.holder.server w → IsQuiet a → a.is_down ≡ false → a.phases j ≡ Active t client who → a.holder.lives t ≡ Some l → l.client ≡ client → why_not failed (alone a) client t ≡ Some w
+    pub ask_against_leads : (failed : Bool) (w : Why) (who : List ℕ) → c ≡ cause.Voted a.holder.server w → IsQuiet a → a.is_down ≡ false → a.phases j ≡ Active t client who → a.holder.lives t ≡ Some l → l.client ≡ client → why_not failed (state_of a) client t ≡ Some w
         → (ts : List TransId) → IsWalk with_against.holder (in_turn with_against.holder a.waits) ts
         → Leads failed a (arrive_entry a from (msg.Ask t j) ((act.Released t ∷ grant_acts ts) ++ sent_acts ((t.server, msg.No t j w) ∷ []))) (with_against_given ts)
     ask_against_leads failed w who voted q up active live own not ts walk =
         let ev : Event = event.Arrive from (msg.Ask t j) in
         let d : Deed = Quits j t client (Some c) in
-        let ended : Alone = join_ended a j t client phase.quit c l d a.holder in
+        let ended : Account = join_ended a j t client phase.quit c l d a.holder in
         let front : List Act = act.Released t ∷ [] in
         let back : List Deed = d ∷ Releases t ∷ [] in
         let ms : List Mail = (t.server, msg.No t j w) ∷ [] in
         let acts : List Act = (front ++ grant_acts ts) ++ sent_acts ms in
-        let far : is_other_server (alone a) t.server ≡ true = (subst (IsPhaseOf a.servers a.holder.server a.ids.epoch a.ids.joins a.joined j) active (q.settled.stands.phases j)).1 in
+        let far : is_other_server (state_of a) t.server ≡ true = (subst (IsPhaseOf a.servers a.holder.server a.ids.epoch a.ids.joins a.joined j) active (q.settled.stands.phases j)).1 in
         let holds : IsHolding t (a.phases j) = subst (IsHolding t) (sym active) refl in
         let goes : GoesOn a ended ev front back ts = join_ended_goes a j t client phase.quit c l d a.holder ev (λ u n. refl) (quits_active who q.settled active) (record {
           first = refl;
@@ -396,7 +396,7 @@ module _ (a : Alone) (from : ℕ) (t : TransId) (j : JoinNo) where
           says = λ y g. (tt, tt);
           addressed = addressed_to (msg.Done t j);
           mail = subst (λ (xs : List Mail). IsPermutation xs ms)
-              (sym (ap (λ (p : Phase). to_others (alone a) (on_ask failed (alone a) t j p)) active ∙ ap (λ (b : Bool). to_others (alone a) (cond {A = List Mail} b ((t.server, vote_on (alone a) t j client (why_not failed (alone a) client t)) ∷ []) (unknown_join (alone a) t j))) (same_trans-itself t)
-              ∙ ap (λ (x : Option Why). to_others (alone a) ((t.server, vote_on (alone a) t j client x) ∷ [])) not ∙ one_to (msg.No t j w) far)) (IsPermutation-refl ms);
+              (sym (ap (λ (p : Phase). to_others (state_of a) (on_ask failed (state_of a) t j p)) active ∙ ap (λ (b : Bool). to_others (state_of a) (cond {A = List Mail} b ((t.server, vote_on (state_of a) t j client (why_not failed (state_of a) client t)) ∷ []) (unknown_join (state_of a) t j))) (same_trans-itself t)
+              ∙ ap (λ (x : Option Why). to_others (state_of a) ((t.server, vote_on (state_of a) t j client x) ∷ [])) not ∙ one_to (msg.No t j w) far)) (IsPermutation-refl ms);
           applied = tt;
         })

@@ -1,4 +1,4 @@
--- commits of a server that runs alone
+-- commits of transactions without joins
 use Rattle.std.specs.Prelude.{cond, Bool, true, false, is_none, is_some, ◌&&◌, ◌==◌, max, Option, None, Some, IsSome, if◌then◌else◌}
 use Rattle.std.specs.List.{AllByRecursion}
 use Rattle.std.specs.List.Sorted.{IsPermutation}
@@ -37,28 +37,28 @@ use Rattle.alp_journal.specs.Laws.{IsLawfulDeed, IsHolding}
 use Rattle.alp_journal.specs.Messages.{Mail, on_finish, why_not_own}
 use Rattle.alp_journal.specs.Answered.{is_all_done, IsWalk, in_turn}
 use Rattle.alp_journal.specs.Answers.{Part, part_at, at_part, finish_reply, voted_reply, First}
-use Rattle.alp_journal.specs.Alone.{Alone, alone, IsFateOf, Stands, Tells, IsSettled, IsQuiet, IsFinishOf, HasNoCall, is_on_trans, granted_calls, with_granted, grant_acts, Leads}
+use Rattle.alp_journal.specs.Account.{Account, state_of, IsFateOf, Stands, Tells, IsSettled, IsQuiet, IsFinishOf, HasNoCall, is_on_trans, granted_calls, with_granted, grant_acts, Leads}
 use Rattle.alp_journal.proofs.IdLemmas.{same_trans-itself}
 use Rattle.alp_journal.proofs.StampLemmas.{stamps_total, itself}
 use Rattle.alp_journal.proofs.TurnLemmas.{given-frame}
 use Rattle.alp_journal.proofs.StandLemmas.{moved_all, paired_set, held_set, own_unheld, own_pair}
 use Rattle.alp_journal.proofs.PartLemmas.{own_at_work}
 use Rattle.alp_journal.proofs.QuietLemmas.{none_tried, agree_without, has_ended, ended_moved, parts-gone, others-on, finish-moved, none-on, quiet_told}
-use Rattle.alp_journal.proofs.AloneLemmas.{call_entry}
-use Rattle.alp_journal.proofs.AloneEntries.{counted_as}
+use Rattle.alp_journal.proofs.CallLemmas.{call_entry}
+use Rattle.alp_journal.proofs.RefusedCalls.{counted_as}
 use Rattle.alp_journal.proofs.LetGoLemmas.{GoesOn, let_go_quiet, finish_event, no_file_call, finish_leads}
-use Rattle.alp_journal.proofs.AloneEnds.{lived_on, IsOwn, own_of, here_as, known_as, now_as}
+use Rattle.alp_journal.proofs.OwnEnds.{lived_on, IsOwn, own_of, here_as, known_as, now_as}
 
 twice : {A : Type 0} (b : Bool) (x y z : A) → cond {A = A} b x (cond {A = A} b y z) ≡ cond {A = A} b x z
 twice true x y z = refl
 twice false x y z = refl
 
-module _ (a : Alone) (client number : ℕ) (w : Session) (t : TransId) (l : Life) where
+module _ (a : Account) (client number : ℕ) (w : Session) (t : TransId) (l : Life) where
   abbrev pub commit_stamp : Stamp
   commit_stamp = record { ts = a.holder.clock + 1; trans = t }
 
   -- its intents are cells and its place is that of its stamp; it holds nothing any more
-  abbrev pub with_commit : Alone
+  abbrev pub with_commit : Account
   with_commit = record (counted_as a client number w (reply.Committed commit_stamp)) {
     holder = with_life (record a.holder {
       cells = edits_map l.edits a.holder.cells;
@@ -74,7 +74,7 @@ module _ (a : Alone) (client number : ℕ) (w : Session) (t : TransId) (l : Life
   -- ---- what its deeds make of the state
 
   abbrev finishing_state : State
-  finishing_state = state_deed (alone a) (Finishes t)
+  finishing_state = state_deed (state_of a) (Finishes t)
 
   abbrev deciding_holder : Option Life → Holder
   deciding_holder x = commits a.holder commit_stamp x
@@ -104,7 +104,7 @@ module _ (a : Alone) (client number : ℕ) (w : Session) (t : TransId) (l : Life
       ∙ (λ i. record with_commit.holder { lives = λ u. twice {A = Option Life} (same_trans u t) None (Some (emptied l)) (a.holder.lives u) i })
 
   -- the state as it has let go
-  abbrev pub committed : Alone
+  abbrev pub committed : Account
   committed = record a { holder = with_commit.holder; fates = with_commit.fates; locked = with_commit.locked }
 
   over : a.fates t ≡ Running client [] → fate.decided commit_stamp [] (fate.finishing (a.fates t)) ≡ Committed commit_stamp [] []
@@ -154,7 +154,7 @@ module _ (a : Alone) (client number : ℕ) (w : Session) (t : TransId) (l : Life
   ev = event.Call client a.ids.epoch number (call.Finish t true)
 
   -- it may be decided
-  pub decides_lawful : a.fates t ≡ Running client [] → t.server ≡ a.holder.server → t.epoch ≡ a.ids.epoch → a.holder.lives t ≡ Some l → l.vote ≡ None → waiting_of (alone a).desk client t ≡ None
+  pub decides_lawful : a.fates t ≡ Running client [] → t.server ≡ a.holder.server → t.epoch ≡ a.ids.epoch → a.holder.lives t ≡ Some l → l.vote ≡ None → waiting_of (state_of a).desk client t ≡ None
       → IsLawfulDeed ev finishing_state (Decides commit_stamp [])
   decides_lawful runs here now live active none = record {
     counts = tt;
@@ -179,7 +179,7 @@ module _ (a : Alone) (client number : ℕ) (w : Session) (t : TransId) (l : Life
     forgetting = tt;
   }
 
-  pub finishes_lawful : IsLawfulDeed ev (alone a) (Finishes t)
+  pub finishes_lawful : IsLawfulDeed ev (state_of a) (Finishes t)
   finishes_lawful = record { counts = tt; view = tt; locks = tt; running = tt; registration = tt; vote = tt; decision = tt; application = tt; forgetting = tt }
 
   decided_fate : a.fates t ≡ Running client [] → (state_deed finishing_state (Decides commit_stamp [])).fates t ≡ Committed commit_stamp [] []
@@ -215,11 +215,11 @@ module _ (a : Alone) (client number : ℕ) (w : Session) (t : TransId) (l : Life
   -- ---- a commit
 
   -- what it held is given on
-  abbrev pub with_commit_given : List TransId → Alone
+  abbrev pub with_commit_given : List TransId → Account
   with_commit_given ts = with_granted with_commit (granted_calls a.waits ts)
 
   pub commit_leads : IsQuiet a → a.is_down ≡ false → a.sessions client ≡ Some w → number ≡ w.last + 1 → a.holder.lives t ≡ Some l → a.fates t ≡ Running client []
-      → waiting_of (alone a).desk client t ≡ None → why_not_own false (alone a) t ≡ None → (ts : List TransId) → IsWalk with_commit.holder (in_turn with_commit.holder a.waits) ts
+      → waiting_of (state_of a).desk client t ≡ None → why_not_own false (state_of a) t ≡ None → (ts : List TransId) → IsWalk with_commit.holder (in_turn with_commit.holder a.waits) ts
       → Leads false a (call_entry a client number w (call.Finish t true) (reply.Committed commit_stamp) ((act.Decided commit_stamp [] ∷ act.Released t ∷ grant_acts ts) ++ [])) (with_commit_given ts)
   commit_leads q up there turn live runs idle may ts walk =
       let r : Reply = reply.Committed commit_stamp in
@@ -241,7 +241,7 @@ module _ (a : Alone) (client number : ℕ) (w : Session) (t : TransId) (l : Life
         waits = refl;
         walk = walk;
         no_call = no_file_call a committed client number w t true r;
-        reached = λ i. alone (record committed { holder = holders i; fates = λ u. moved (same_trans t u) (a.fates u) i; begun = begun_same i; joined = joined_same i });
+        reached = λ i. state_of (record committed { holder = holders i; fates = λ u. moved (same_trans t u) (a.fates u) i; begun = begun_same i; joined = joined_same i });
         deeds = (finishes_lawful, (decides_lawful runs here now live pair.1 idle, (releases_lawful runs live (own_unheld a q.settled.stands t here), tt)));
         stops = refl;
         release = λ rest. refl;
@@ -259,8 +259,8 @@ module _ (a : Alone) (client number : ℕ) (w : Session) (t : TransId) (l : Life
         turn = turn;
         sessions = refl;
         now = refl;
-        brings = ap (λ (f : Fate). finishes (alone a).desk client t true r f ++ Decides commit_stamp [] ∷ Releases t ∷ []) runs
-            ∙ ap (λ (b : Bool). cond {A = List Deed} (b && is_none (waiting_of (alone a).desk client t)) (Finishes t ∷ []) [] ++ Decides commit_stamp [] ∷ Releases t ∷ []) mine
+        brings = ap (λ (f : Fate). finishes (state_of a).desk client t true r f ++ Decides commit_stamp [] ∷ Releases t ∷ []) runs
+            ∙ ap (λ (b : Bool). cond {A = List Deed} (b && is_none (waiting_of (state_of a).desk client t)) (Finishes t ∷ []) [] ++ Decides commit_stamp [] ∷ Releases t ∷ []) mine
             ∙ ap (λ (y : Option Waiting). cond {A = List Deed} (is_none y) (Finishes t ∷ []) [] ++ Decides commit_stamp [] ∷ Releases t ∷ []) idle;
         drawn = refl;
         left = refl;
@@ -277,11 +277,11 @@ module _ (a : Alone) (client number : ℕ) (w : Session) (t : TransId) (l : Life
                 ∙ ap (λ (o : Ordering). cond {A = Option Decided} (is_eq o) (Some x) (entries.find stamp_cmp commit_stamp a.holder.applied)) (itself commit_stamp),
           ),
         );
-        mail = subst (λ (ms : List Mail). IsPermutation ms []) (sym (ap (on_finish t true client (is_none (waiting_of (alone a).desk client t))) runs ∙ ap (λ (b : Bool). cond {A = List Mail} (b && is_none (waiting_of (alone a).desk client t)) [] []) mine
+        mail = subst (λ (ms : List Mail). IsPermutation ms []) (sym (ap (on_finish t true client (is_none (waiting_of (state_of a).desk client t))) runs ∙ ap (λ (b : Bool). cond {A = List Mail} (b && is_none (waiting_of (state_of a).desk client t)) [] []) mine
             ∙ ap (λ (y : Option Waiting). cond {A = List Mail} (is_none y) [] []) idle)) (IsPermutation-refl []);
-        answer = subst (λ (b : Bool). Where b (First (at_part (true && is_some (waiting_of (alone a).desk client t)) (part_at (alone a) client t)) r (r ≡ finish_reply false (alone a) t (a.fates t))) (r ≡ reply.Refused refusal.UnknownTrans))
+        answer = subst (λ (b : Bool). Where b (First (at_part (true && is_some (waiting_of (state_of a).desk client t)) (part_at (state_of a) client t)) r (r ≡ finish_reply false (state_of a) t (a.fates t))) (r ≡ reply.Refused refusal.UnknownTrans))
             (sym (eq-eqb t.server a.holder.server here))
-            (subst (λ (y : Option Waiting). First (at_part (true && is_some y) (part_at (alone a) client t)) r (r ≡ finish_reply false (alone a) t (a.fates t))) (sym idle)
-            (subst (λ (p : Part). First (at_part false p) r (r ≡ finish_reply false (alone a) t (a.fates t))) (sym (own_at_work a t client here runs))
-            (ap (voted_reply (alone a) t) (sym may) ∙ ap (finish_reply false (alone a) t) (sym runs))));
+            (subst (λ (y : Option Waiting). First (at_part (true && is_some y) (part_at (state_of a) client t)) r (r ≡ finish_reply false (state_of a) t (a.fates t))) (sym idle)
+            (subst (λ (p : Part). First (at_part false p) r (r ≡ finish_reply false (state_of a) t (a.fates t))) (sym (own_at_work a t client here runs))
+            (ap (voted_reply (state_of a) t) (sym may) ∙ ap (finish_reply false (state_of a) t) (sym runs))));
       })

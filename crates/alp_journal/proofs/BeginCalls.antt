@@ -1,4 +1,4 @@
--- greetings and begins at a server that runs alone
+-- greetings and begins
 use Rattle.std.specs.Prelude.{cond, Bool, true, false, not, ◌&&◌, ◌||◌, ◌==◌, max, find, is_some, flat_map, Option, None, Some, IsSome, if◌then◌else◌}
 use Rattle.std.specs.List.{AllByRecursion}
 use Rattle.std.specs.List.Sorted.{IsPermutation}
@@ -35,7 +35,7 @@ use Rattle.alp_journal.specs.Laws.{IsLawfulDeed, IsBlocked, DoLivesAgree, WaitsI
 use Rattle.alp_journal.specs.Messages.{Mail}
 use Rattle.alp_journal.specs.Answered.{is_all_done, CountsVotes, ForgetsDone}
 use Rattle.alp_journal.specs.Answers.{too_many, First, IsAnswer}
-use Rattle.alp_journal.specs.Alone.{Alone, alone, IsJoined, IsPartAs, is_other, has_trans, IsKnown, IsFateOf, Stands, Tells, IsSettled, IsQuiet, HasTried, IsPartOf, IsOfPart, IsFinishOf, IsOther, HasCome, HasNoCall, is_on_trans, Leads}
+use Rattle.alp_journal.specs.Account.{Account, state_of, IsJoined, IsPartAs, is_other, has_trans, IsKnown, IsFateOf, Stands, Tells, IsSettled, IsQuiet, HasTried, IsPartOf, IsOfPart, IsFinishOf, IsOther, HasCome, HasNoCall, is_on_trans, Leads}
 use Rattle.alp_journal.proofs.IdLemmas.{same_trans-true, same_trans-itself, all-filter}
 use Rattle.alp_journal.proofs.MadeIds.{all-map}
 use Rattle.alp_journal.proofs.WaitLemmas.{turned, all-both, all-of, passing, filter-same, file_part}
@@ -43,12 +43,12 @@ use Rattle.alp_journal.proofs.TurnLemmas.{blocked-as, turns-set}
 use Rattle.alp_journal.proofs.StandLemmas.{own_server, any-last, trans-last, drawn_next, moved_all, fate_more, undecided_far, far_of_live, live_of_open, whose_own, paired_set, held_set, no_own_join, own_unheld, pair_of, none_lives, live_undecided, join_live, join_none, next_new}
 use Rattle.alp_journal.proofs.PartLemmas.{WaitsAs, each_waits, off-files, none_waits}
 use Rattle.alp_journal.proofs.QuietLemmas.{agree_set, ended_moved, ended_fewer, fewer-where, parts-gone, other-on, KeepsJoins, came_on, stands_as, later-come, quiet_session, tells_without, turns-as}
-use Rattle.alp_journal.proofs.AloneLemmas.{no_mail, call_entry, new_call, call_leads, quiet_votes, quiet_forgets}
-use Rattle.alp_journal.proofs.AloneEntries.{counted_as}
+use Rattle.alp_journal.proofs.CallLemmas.{no_mail, call_entry, new_call, call_leads, quiet_votes, quiet_forgets}
+use Rattle.alp_journal.proofs.RefusedCalls.{counted_as}
 
 -- ---- a client's dead parts go, and their calls, and those of what was decided
 
-module _ (a : Alone) (client : ℕ) where
+module _ (a : Account) (client : ℕ) where
   abbrev pub is_buried : Waiting → Bool
   is_buried w = is_call_on (λ t. is_some (a.dead client t)) client w
 
@@ -82,17 +82,17 @@ module _ (a : Alone) (client : ℕ) where
 
   module _ (q : IsSettled a) where
     -- the client has a live part of it just where it is not decided
-    has_part_as : (new : TransId) (m : State) (u : TransId) → IsAsKnown new m → same_trans new u ≡ false → has_part m client u ≡ has_part (alone a) client u
+    has_part_as : (new : TransId) (m : State) (u : TransId) → IsAsKnown new m → same_trans new u ≡ false → has_part m client u ≡ has_part (state_of a) client u
     has_part_as new m u k away =
         (λ i. is_this client (client_of (k.fates u away i)) || is_some (find (λ j. is_whose client u (live_in (k.phases i j))) (k.joined i)))
 
-    own_has : (u : TransId) → client_of (a.fates u) ≡ Some client → has_part (alone a) client u ≡ true
-    own_has u is = ap (λ (x : Option ℕ). is_this client x || is_some (join_for (alone a) client u)) is ∙ ap (λ (b : Bool). b || is_some (join_for (alone a) client u)) (eq-eqb client client refl)
+    own_has : (u : TransId) → client_of (a.fates u) ≡ Some client → has_part (state_of a) client u ≡ true
+    own_has u is = ap (λ (x : Option ℕ). is_this client x || is_some (join_for (state_of a) client u)) is ∙ ap (λ (b : Bool). b || is_some (join_for (state_of a) client u)) (eq-eqb client client refl)
 
-    join_has : (u : TransId) (j : JoinNo) → is_whose client u (live_in (a.phases j)) ≡ true → has_part (alone a) client u ≡ true
-    join_has u j live = or_right (is_this client (client_of (a.fates u))) (is_some (join_for (alone a) client u)) (ap (λ (x : Option JoinNo). is_some x) (join_live a q.stands client u j live))
+    join_has : (u : TransId) (j : JoinNo) → is_whose client u (live_in (a.phases j)) ≡ true → has_part (state_of a) client u ≡ true
+    join_has u j live = or_right (is_this client (client_of (a.fates u))) (is_some (join_for (state_of a) client u)) (ap (λ (x : Option JoinNo). is_some x) (join_live a q.stands client u j live))
 
-    live_has : (u : TransId) (l : Life) → a.holder.lives u ≡ Some l → l.client ≡ client → has_part (alone a) client u ≡ true
+    live_has : (u : TransId) (l : Life) → a.holder.lives u ≡ Some l → l.client ≡ client → has_part (state_of a) client u ≡ true
     live_has u l live own = go l.join refl (pair_of a q.stands u l live)
       where
         its : (j : JoinNo) (p : Phase) → IsJoined u l p → is_whose client u (live_in p) ≡ true
@@ -101,12 +101,12 @@ module _ (a : Alone) (client : ℕ) where
           | inr x ↦ ap (λ (y : Phase). is_whose client u (live_in y)) x.1 ∙ ap (λ (n : ℕ). same_trans u u && n == client) own ∙ whose_own client u
         ]
 
-        go : (x : Option JoinNo) → l.join ≡ x → IsPartAs u a.phases l (a.fates u) x → has_part (alone a) client u ≡ true
+        go : (x : Option JoinNo) → l.join ≡ x → IsPartAs u a.phases l (a.fates u) x → has_part (state_of a) client u ≡ true
         go None e h = own_has u (h.0 ∙ ap Some own)
         go (Some j) e h = join_has u j (its j (a.phases j) h.0)
 
     -- what is decided has no live part
-    decided_none : (u : TransId) (f : Fate) → a.fates u ≡ f → is_running f ≡ false → IsKnown a.holder.server a.ids.epoch a.ids.transactions a.begun u → has_part (alone a) client u ≡ false
+    decided_none : (u : TransId) (f : Fate) → a.fates u ≡ f → is_running f ≡ false → IsKnown a.holder.server a.ids.epoch a.ids.transactions a.begun u → has_part (state_of a) client u ≡ false
     decided_none u f is over known =
         (λ i. is_this client (client_of (is i)) || is_some (join_none a q.stands client u (no_own_join a q.stands u (own_server a.holder.server a.ids.epoch a.ids.transactions u known.0) client) i)) ∙ ap (λ (b : Bool). b || false) (nobody f over)
       where
@@ -118,13 +118,13 @@ module _ (a : Alone) (client : ℕ) where
         nobody (Forgotten stamp js) h = refl
         nobody (Ended c) h = refl
 
-    as_decided : (w : Waiting) → is_buried w ≡ false → w.client ≡ client → (u : TransId) → part_trans w.call ≡ Some u → WaitsAs a w → not (has_part (alone a) client u) ≡ is_some (decision_in (a.fates u))
+    as_decided : (w : Waiting) → is_buried w ≡ false → w.client ≡ client → (u : TransId) → part_trans w.call ≡ Some u → WaitsAs a w → not (has_part (state_of a) client u) ≡ is_some (decision_in (a.fates u))
     as_decided w off own u of (WaitsAs.file t on p) = by (a.holder.lives t) refl p
       where
         same : t ≡ u
         same = same-some t u (sym (file_part w.call t on) ∙ of)
 
-        by : (x : Option Life) → a.holder.lives t ≡ x → IsPartOf w.client x (a.dead w.client t) → not (has_part (alone a) client u) ≡ is_some (decision_in (a.fates u))
+        by : (x : Option Life) → a.holder.lives t ≡ x → IsPartOf w.client x (a.dead w.client t) → not (has_part (state_of a) client u) ≡ is_some (decision_in (a.fates u))
         by None e p = absurd (not_dead w t (file_part w.call t on) off own p)
         by (Some l) e p =
             let live : a.holder.lives u ≡ Some l = ap a.holder.lives (sym same) ∙ e in
@@ -140,10 +140,10 @@ module _ (a : Alone) (client : ℕ) where
     ]
     as_decided w off own u of (WaitsAs.finish t on p) = by (a.fates u) refl (q.stands.fates u) (subst (λ (v : TransId). IsFinishOf w.client (a.fates v) (a.dead w.client v)) (same-some t u (sym on ∙ of)) p)
       where
-        told : IsSome (a.dead w.client u) → not (has_part (alone a) client u) ≡ is_some (decision_in (a.fates u))
+        told : IsSome (a.dead w.client u) → not (has_part (state_of a) client u) ≡ is_some (decision_in (a.fates u))
         told d = absurd (not_dead w u of off own d)
 
-        by : (f : Fate) → a.fates u ≡ f → IsFateOf a.servers a.holder.server a.ids.epoch a.ids.transactions a.begun u f → IsFinishOf w.client f (a.dead w.client u) → not (has_part (alone a) client u) ≡ is_some (decision_in (a.fates u))
+        by : (f : Fate) → a.fates u ≡ f → IsFateOf a.servers a.holder.server a.ids.epoch a.ids.transactions a.begun u f → IsFinishOf w.client f (a.dead w.client u) → not (has_part (state_of a) client u) ≡ is_some (decision_in (a.fates u))
         by Undrawn e k h = told h
         by (Running c js) e k h = told h
         by (Finishing c js vs) e k h = ap not (own_has u (ap client_of e ∙ ap Some (h ∙ own))) ∙ ap (λ (f : Fate). is_some (decision_in f)) (sym e)
@@ -271,22 +271,22 @@ module _ (a : Alone) (client : ℕ) where
 
 -- ---- a begin
 
-module _ (a : Alone) (client number : ℕ) (w : Session) where
-  abbrev pub with_begun : Stamp → Alone
-  with_begun seen = record (counted_as a client number w (reply.Begun (next_trans (alone a)))) {
+module _ (a : Account) (client number : ℕ) (w : Session) where
+  abbrev pub with_begun : Stamp → Account
+  with_begun seen = record (counted_as a client number w (reply.Begun (next_trans (state_of a)))) {
     ids = record a.ids { transactions = a.ids.transactions + 1 };
-    holder = with_life (record a.holder { clock = max a.holder.clock seen.ts }) (next_trans (alone a)) (Some (new_life None client w.who));
-    fates = λ u. if same_trans (next_trans (alone a)) u then fate.begun client (a.fates u) else a.fates u;
+    holder = with_life (record a.holder { clock = max a.holder.clock seen.ts }) (next_trans (state_of a)) (Some (new_life None client w.who));
+    fates = λ u. if same_trans (next_trans (state_of a)) u then fate.begun client (a.fates u) else a.fates u;
     dead = λ d u. if d == client then None else a.dead d u;
     waits = undecided a client;
-    locked = lock_set a.locked (next_trans (alone a)) [];
-    begun = a.begun ++ next_trans (alone a) ∷ [];
+    locked = lock_set a.locked (next_trans (state_of a)) [];
+    begun = a.begun ++ next_trans (state_of a) ∷ [];
   }
 
   -- it stands as before with the new part
   begun_stands : (seen : Stamp) → 0 < a.ids.epoch → Stands a → Stands (with_begun seen)
   begun_stands seen raised q =
-      let t : TransId = next_trans (alone a) in
+      let t : TransId = next_trans (state_of a) in
       let fresh : Life = new_life None client w.who in
       let new : a.fates t ≡ Undrawn = next_new a q in
       let unnamed : has_trans t a.begun ≡ false = subst (IsFateOf a.servers a.holder.server a.ids.epoch a.ids.transactions a.begun t) new (q.fates t) in
@@ -314,7 +314,7 @@ module _ (a : Alone) (client number : ℕ) (w : Session) where
   -- the new transaction has no call, and nothing else is told
   begun_tells : (seen : Stamp) → IsSettled a → a.sessions client ≡ Some w → number ≡ w.last + 1 → Tells (with_begun seen)
   begun_tells seen q there turn =
-      let t : TransId = next_trans (alone a) in
+      let t : TransId = next_trans (state_of a) in
       let fresh : Life = new_life None client w.who in
       let new : a.fates t ≡ Undrawn = next_new a q.stands in
       let told : Tells (record a { dead = λ d u. cond {A = Option Cause} (d == client) None (a.dead d u); waits = undecided a client }) = tells_undecided a client q in
@@ -331,43 +331,43 @@ module _ (a : Alone) (client number : ℕ) (w : Session) where
         finishing = moved_all (HasNoCall (undecided a client)) a.fates t (fate.begun client) (λ u away. told.finishing u) (subst (λ (f : Fate). HasNoCall (undecided a client) t (fate.begun client f)) (sym new) tt);
       }
     where
-      off_parts : (q : IsSettled a) → AllByRecursion (λ v. is_of (next_trans (alone a)) (part_trans v.call) ≡ false) (undecided a client)
-      off_parts q = all-filter (λ v. is_of (next_trans (alone a)) (part_trans v.call) ≡ false) (λ v. not (is_decided a client v)) (unburied a client)
-          (all-filter (λ v. is_of (next_trans (alone a)) (part_trans v.call) ≡ false) (λ v. not (is_buried a client v)) a.waits (none_waits a q (next_trans (alone a)) refl (next_new a q.stands)))
+      off_parts : (q : IsSettled a) → AllByRecursion (λ v. is_of (next_trans (state_of a)) (part_trans v.call) ≡ false) (undecided a client)
+      off_parts q = all-filter (λ v. is_of (next_trans (state_of a)) (part_trans v.call) ≡ false) (λ v. not (is_decided a client v)) (unburied a client)
+          (all-filter (λ v. is_of (next_trans (state_of a)) (part_trans v.call) ≡ false) (λ v. not (is_buried a client v)) a.waits (none_waits a q (next_trans (state_of a)) refl (next_new a q.stands)))
 
-      off_files : (q : IsSettled a) → AllByRecursion (λ v. is_on_trans (next_trans (alone a)) v ≡ false) (undecided a client)
-      off_files q = all-map (λ v. is_of (next_trans (alone a)) (part_trans v.call) ≡ false) (λ v. is_on_trans (next_trans (alone a)) v ≡ false) (λ v o. off-files (next_trans (alone a)) v o) (undecided a client) (off_parts q)
+      off_files : (q : IsSettled a) → AllByRecursion (λ v. is_on_trans (next_trans (state_of a)) v ≡ false) (undecided a client)
+      off_files q = all-map (λ v. is_of (next_trans (state_of a)) (part_trans v.call) ≡ false) (λ v. is_on_trans (next_trans (state_of a)) v ≡ false) (λ v o. off-files (next_trans (state_of a)) v o) (undecided a client) (off_parts q)
 
   begun_quiet : (seen : Stamp) → 0 < a.ids.epoch → IsQuiet a → a.sessions client ≡ Some w → number ≡ w.last + 1 → IsQuiet (with_begun seen)
   begun_quiet seen raised q there turn =
-      let t : TransId = next_trans (alone a) in
+      let t : TransId = next_trans (state_of a) in
       let fresh : Life = new_life None client w.who in
       record {
         settled = record { stands = begun_stands seen raised q.settled.stands; tells = begun_tells seen q.settled there turn };
         tried = HasTried.nothing refl;
-        turns = turns-set (alone a) (alone (with_begun seen)) t fresh refl (λ u. refl) (λ k live. absurd (let wrong : Some k ≡ None = sym live ∙ unlived q.settled.stands in cc)) (undecided a client) (off q.settled)
-            (all-filter (λ (v : Waiting). IsBlocked (alone a) v (file_trans v.call)) (λ v. not (is_decided a client v)) (unburied a client)
-            (all-filter (λ (v : Waiting). IsBlocked (alone a) v (file_trans v.call)) (λ v. not (is_buried a client v)) a.waits q.turns));
+        turns = turns-set (state_of a) (state_of (with_begun seen)) t fresh refl (λ u. refl) (λ k live. absurd (let wrong : Some k ≡ None = sym live ∙ unlived q.settled.stands in cc)) (undecided a client) (off q.settled)
+            (all-filter (λ (v : Waiting). IsBlocked (state_of a) v (file_trans v.call)) (λ v. not (is_decided a client v)) (unburied a client)
+            (all-filter (λ (v : Waiting). IsBlocked (state_of a) v (file_trans v.call)) (λ v. not (is_buried a client v)) a.waits q.turns));
       }
     where
-      unlived : Stands a → a.holder.lives (next_trans (alone a)) ≡ None
-      unlived q = none_lives a q (next_trans (alone a)) (ap is_running (next_new a q)) (own_unheld a q (next_trans (alone a)) refl)
+      unlived : Stands a → a.holder.lives (next_trans (state_of a)) ≡ None
+      unlived q = none_lives a q (next_trans (state_of a)) (ap is_running (next_new a q)) (own_unheld a q (next_trans (state_of a)) refl)
 
-      off : IsSettled a → AllByRecursion (λ v. is_on_trans (next_trans (alone a)) v ≡ false) (undecided a client)
-      off q = all-map (λ v. is_of (next_trans (alone a)) (part_trans v.call) ≡ false) (λ v. is_on_trans (next_trans (alone a)) v ≡ false) (λ v o. off-files (next_trans (alone a)) v o) (undecided a client)
-          (all-filter (λ v. is_of (next_trans (alone a)) (part_trans v.call) ≡ false) (λ v. not (is_decided a client v)) (unburied a client)
-          (all-filter (λ v. is_of (next_trans (alone a)) (part_trans v.call) ≡ false) (λ v. not (is_buried a client v)) a.waits (none_waits a q (next_trans (alone a)) refl (next_new a q.stands))))
+      off : IsSettled a → AllByRecursion (λ v. is_on_trans (next_trans (state_of a)) v ≡ false) (undecided a client)
+      off q = all-map (λ v. is_of (next_trans (state_of a)) (part_trans v.call) ≡ false) (λ v. is_on_trans (next_trans (state_of a)) v ≡ false) (λ v o. off-files (next_trans (state_of a)) v o) (undecided a client)
+          (all-filter (λ v. is_of (next_trans (state_of a)) (part_trans v.call) ≡ false) (λ v. not (is_decided a client v)) (unburied a client)
+          (all-filter (λ v. is_of (next_trans (state_of a)) (part_trans v.call) ≡ false) (λ v. not (is_buried a client v)) a.waits (none_waits a q (next_trans (state_of a)) refl (next_new a q.stands))))
 
   -- no fate is another but that of the new transaction
-  as_known : (m : State) → ((u : TransId) → same_trans (next_trans (alone a)) u ≡ false → m.fates u ≡ a.fates u) → m.phases ≡ a.phases → m.joined ≡ a.joined → IsSettled a → IsAsKnown a client (next_trans (alone a)) m
-  as_known m fates phases joined q = record { fates = fates; phases = phases; joined = joined; own = refl; off = none_waits a q (next_trans (alone a)) refl (next_new a q.stands) }
+  as_known : (m : State) → ((u : TransId) → same_trans (next_trans (state_of a)) u ≡ false → m.fates u ≡ a.fates u) → m.phases ≡ a.phases → m.joined ≡ a.joined → IsSettled a → IsAsKnown a client (next_trans (state_of a)) m
+  as_known m fates phases joined q = record { fates = fates; phases = phases; joined = joined; own = refl; off = none_waits a q (next_trans (state_of a)) refl (next_new a q.stands) }
 
-  pub begin_leads : (seen : Stamp) → 0 < a.ids.epoch → IsQuiet a → a.is_down ≡ false → a.sessions client ≡ Some w → number ≡ w.last + 1 → too_many (alone a) ≡ None
-      → Leads false a (call_entry a client number w (call.Begin seen) (reply.Begun (next_trans (alone a))) (act.Drawn (next_trans (alone a)) ∷ [])) (with_begun seen)
+  pub begin_leads : (seen : Stamp) → 0 < a.ids.epoch → IsQuiet a → a.is_down ≡ false → a.sessions client ≡ Some w → number ≡ w.last + 1 → too_many (state_of a) ≡ None
+      → Leads false a (call_entry a client number w (call.Begin seen) (reply.Begun (next_trans (state_of a))) (act.Drawn (next_trans (state_of a)) ∷ [])) (with_begun seen)
   begin_leads seen raised q up there turn few =
-      let t : TransId = next_trans (alone a) in
+      let t : TransId = next_trans (state_of a) in
       let ev : Event = event.Call client a.ids.epoch number (call.Begin seen) in
-      let did : State = state_deed (alone a) (Begins t client w.who seen.ts) in
+      let did : State = state_deed (state_of a) (Begins t client w.who seen.ts) in
       call_leads a client number w false (call.Begin seen) (reply.Begun t) (act.Drawn t ∷ []) (Begins t client w.who seen.ts ∷ []) (with_begun seen) there turn (record {
         plain = λ m. refl;
         greets = λ e h. h;
@@ -376,7 +376,7 @@ module _ (a : Alone) (client number : ℕ) (w : Session) where
         brought = ap (λ (x : Option Session). Begins t client (who_is x) seen.ts ∷ []) there;
         new = new_call a client number w there turn;
         there = there;
-        left = (λ i. alone (record (with_begun seen) {
+        left = (λ i. state_of (record (with_begun seen) {
           waits = live_stay a client q.settled t did (as_known did (λ u away. ap (λ (b : Bool). cond {A = Fate} b (fate.begun client (a.fates u)) (a.fates u)) away) refl (append-nil a.joined) q.settled) i;
           joined = append-nil a.joined i;
         }));
@@ -397,15 +397,15 @@ module _ (a : Alone) (client number : ℕ) (w : Session) where
   -- ---- too many transactions are live
 
   -- the client's dead parts go as it is answered
-  abbrev pub with_buried_as : Reply → Alone
+  abbrev pub with_buried_as : Reply → Account
   with_buried_as r = record (counted_as a client number w r) { dead = λ d u. if d == client then None else a.dead d u; waits = unburied a client }
 
   -- the begin is refused, and they go, and with them the calls of what was decided
-  abbrev pub with_buried : Refusal → Alone
+  abbrev pub with_buried : Refusal → Account
   with_buried f = record (with_buried_as (reply.Refused f)) { waits = undecided a client }
 
   -- with a desk that tells so it is quiet as the session goes on
-  desk_quiet : (r : Reply) (ws : List Waiting) (dead : ℕ → TransId → Option Cause) → IsQuiet a → Tells (record a { dead = dead; waits = ws }) → AllByRecursion (λ (v : Waiting). IsBlocked (alone a) v (file_trans v.call)) ws
+  desk_quiet : (r : Reply) (ws : List Waiting) (dead : ℕ → TransId → Option Cause) → IsQuiet a → Tells (record a { dead = dead; waits = ws }) → AllByRecursion (λ (v : Waiting). IsBlocked (state_of a) v (file_trans v.call)) ws
       → a.sessions client ≡ Some w → number ≡ w.last + 1 → IsQuiet (record (counted_as a client number w r) { dead = dead; waits = ws })
   desk_quiet r ws dead q told turns there turn = record {
     settled = record {
@@ -420,22 +420,22 @@ module _ (a : Alone) (client number : ℕ) (w : Session) where
         finishing = told.finishing;
       };
     };
-    turns = turns-as (record (alone a) { desk = record (alone a).desk { waits = ws } }) (alone (record (counted_as a client number w r) { dead = dead; waits = ws })) refl refl
-        (all-map (λ (v : Waiting). IsBlocked (alone a) v (file_trans v.call)) (λ (v : Waiting). IsBlocked (record (alone a) { desk = record (alone a).desk { waits = ws } }) v (file_trans v.call))
-        (λ v b. blocked-as (alone a) (record (alone a) { desk = record (alone a).desk { waits = ws } }) v (file_trans v.call) refl b) ws turns);
+    turns = turns-as (record (state_of a) { desk = record (state_of a).desk { waits = ws } }) (state_of (record (counted_as a client number w r) { dead = dead; waits = ws })) refl refl
+        (all-map (λ (v : Waiting). IsBlocked (state_of a) v (file_trans v.call)) (λ (v : Waiting). IsBlocked (record (state_of a) { desk = record (state_of a).desk { waits = ws } }) v (file_trans v.call))
+        (λ v b. blocked-as (state_of a) (record (state_of a) { desk = record (state_of a).desk { waits = ws } }) v (file_trans v.call) refl b) ws turns);
     tried = HasTried.nothing refl;
   }
 
   pub buried_quiet : (r : Reply) → IsQuiet a → a.sessions client ≡ Some w → number ≡ w.last + 1 → IsQuiet (with_buried_as r)
   buried_quiet r q there turn = desk_quiet r (unburied a client) (with_buried_as r).dead q (tells_unburied a client q.settled)
-      (all-filter (λ (v : Waiting). IsBlocked (alone a) v (file_trans v.call)) (λ v. not (is_buried a client v)) a.waits q.turns) there turn
+      (all-filter (λ (v : Waiting). IsBlocked (state_of a) v (file_trans v.call)) (λ v. not (is_buried a client v)) a.waits q.turns) there turn
 
   undecided_quiet : (f : Refusal) → IsQuiet a → a.sessions client ≡ Some w → number ≡ w.last + 1 → IsQuiet (with_buried f)
   undecided_quiet f q there turn = desk_quiet (reply.Refused f) (undecided a client) (with_buried f).dead q (tells_undecided a client q.settled)
-      (all-filter (λ (v : Waiting). IsBlocked (alone a) v (file_trans v.call)) (λ v. not (is_decided a client v)) (unburied a client)
-      (all-filter (λ (v : Waiting). IsBlocked (alone a) v (file_trans v.call)) (λ v. not (is_buried a client v)) a.waits q.turns)) there turn
+      (all-filter (λ (v : Waiting). IsBlocked (state_of a) v (file_trans v.call)) (λ v. not (is_decided a client v)) (unburied a client)
+      (all-filter (λ (v : Waiting). IsBlocked (state_of a) v (file_trans v.call)) (λ v. not (is_buried a client v)) a.waits q.turns)) there turn
 
-  pub begin_refused_leads : (seen : Stamp) (f : Refusal) → IsQuiet a → a.is_down ≡ false → a.sessions client ≡ Some w → number ≡ w.last + 1 → too_many (alone a) ≡ Some f
+  pub begin_refused_leads : (seen : Stamp) (f : Refusal) → IsQuiet a → a.is_down ≡ false → a.sessions client ≡ Some w → number ≡ w.last + 1 → too_many (state_of a) ≡ Some f
       → Leads false a (call_entry a client number w (call.Begin seen) (reply.Refused f) []) (with_buried f)
   begin_refused_leads seen f q up there turn many =
       call_leads a client number w false (call.Begin seen) (reply.Refused f) [] [] (with_buried f) there turn (record {
@@ -446,7 +446,7 @@ module _ (a : Alone) (client number : ℕ) (w : Session) where
         brought = refl;
         new = new_call a client number w there turn;
         there = there;
-        left = λ i. alone (record (with_buried f) { waits = live_stay a client q.settled (next_trans (alone a)) (alone a) (as_known (alone a) (λ u away. refl) refl refl q.settled) i });
+        left = λ i. state_of (record (with_buried f) { waits = live_stay a client q.settled (next_trans (state_of a)) (state_of a) (as_known (state_of a) (λ u away. refl) refl refl q.settled) i });
         drawn = refl;
         deeds = tt;
         released = refl;
@@ -455,7 +455,7 @@ module _ (a : Alone) (client number : ℕ) (w : Session) where
         tells = tt;
         regained = refl;
         quiet = undecided_quiet f q there turn;
-        answer = subst (λ (x : Option Refusal). First x (reply.Refused f) (reply.Refused f ≡ reply.Begun (next_trans (alone a)))) (sym many) refl;
+        answer = subst (λ (x : Option Refusal). First x (reply.Refused f) (reply.Refused f ≡ reply.Begun (next_trans (state_of a)))) (sym many) refl;
         mail = no_mail [] refl refl;
         turns = tt;
         grants = tt;
@@ -467,21 +467,21 @@ cond_same : {A : Type 0} (b : Bool) (x : A) → cond {A = A} b x x ≡ x
 cond_same true x = refl
 cond_same false x = refl
 
-module _ (a : Alone) (client : ℕ) (name : List ℕ) where
+module _ (a : Account) (client : ℕ) (name : List ℕ) where
   abbrev pub hello_entry : Entry
   hello_entry = record { event = event.Call client 0 1 (call.Hello name); reply = Some (reply.Welcome a.ids.epoch); acts = [] }
 
-  abbrev pub with_hello : Alone
+  abbrev pub with_hello : Account
   with_hello = record a { sessions = λ c. if c == client then Some (record { who = name; last = 1; reply = reply.Welcome a.ids.epoch }) else a.sessions c; is_down = false; pending = [] }
 
   pub hello_leads : IsQuiet a → a.is_down ≡ false → a.sessions client ≡ None → Leads false a hello_entry with_hello
   hello_leads q up first =
-      let s : State = alone a in
+      let s : State = state_of a in
       let ev : Event = event.Call client 0 1 (call.Hello name) in
       let quiet : IsQuiet with_hello = quiet_session a client (record { who = name; last = 1; reply = reply.Welcome a.ids.epoch }) (λ n h. absurd (subst (HasCome n) first h)) q in
       let new : is_new s client 0 1 ≡ false = ap (follows a.ids.epoch 0 1) first in
       let none : tried s hello_entry ≡ [] = ap (λ (b : Bool). cond {A = List Deed} b [] [] ++ [] ++ cond {A = List Deed} b [] []) new in
-      let leaves : next s hello_entry ≡ alone with_hello =
+      let leaves : next s hello_entry ≡ state_of with_hello =
       ap (λ (ds : List Deed). record (state_after state_deed s ds) { desk = greeted (state_after state_deed s ds).desk client 0 1 name (reply.Welcome a.ids.epoch) ((state_after state_deed s ds).desk.sessions client); is_down = false; pending = [] }) none
       ∙ ap (λ (x : Option Session). record s { desk = greeted s.desk client 0 1 name (reply.Welcome a.ids.epoch) x; is_down = false; pending = [] }) first in
       record {

@@ -28,7 +28,7 @@ use Rattle.alp_journal.specs.Messages.{Mail, clock_end, has_all_votes}
 use Rattle.alp_journal.specs.Answered.{IsAnsweredEntry, is_all_done}
 
 -- what is known of it then
-pub record Alone : Type 0 where
+pub record Account : Type 0 where
   pub servers : ℕ
   pub sizes : Sizes
   pub ids : Ids
@@ -45,8 +45,8 @@ pub record Alone : Type 0 where
   pub pending : List Deed
 
 -- the state of its journal
-abbrev pub alone : Alone → State
-alone a = record {
+abbrev pub state_of : Account → State
+state_of a = record {
   servers = a.servers;
   sizes = a.sizes;
   ids = a.ids;
@@ -139,7 +139,7 @@ IsPhaseOf servers server epoch count joined j Over = IsKnownJoin server epoch co
 -- The locks of live parts agree; each is paired with the fate of its transaction and with its join. Nothing that has its votes is
 -- still to be decided, and nothing that all have done to be forgotten. A client has at most one live join of a transaction. The
 -- clock that a restart finds is no later than the clock.
-pub record Stands (a : Alone) : Type 0 where
+pub record Stands (a : Account) : Type 0 where
   pub agree : DoLivesAgree a.holder.lives
   pub paired : (t : TransId) → IsPaired t a.phases (a.holder.lives t) (a.fates t)
   pub held : (j : JoinNo) → HasLife a.holder.lives j (a.phases j)
@@ -216,7 +216,7 @@ HasNoJoin phases client t = (j : JoinNo) → is_whose client t (live_in (phases 
 
 -- What ended and is to be told is over: one of this server's transactions by that cause. Each call that waits is of a part that is
 -- live or to be told of, and at most one of each part.
-pub record Tells (a : Alone) : Type 0 where
+pub record Tells (a : Account) : Type 0 where
   pub ended : (client : ℕ) (t : TransId) (c : Cause) → a.dead client t ≡ Some c → (t.server ≡ a.holder.server → a.fates t ≡ Ended c) × HasNoJoin a.phases client t
   pub parts : AllByRecursion (λ (w : Waiting). IsOfPart a.holder.lives a.dead w (file_trans w.call)) a.waits
   pub others : AllByRecursion (λ (w : Waiting). IsOther a.fates a.phases a.dead w.client w.call) a.waits
@@ -228,7 +228,7 @@ pub record Tells (a : Alone) : Type 0 where
 -- ---- between two entries
 
 -- what it holds and what it knows of its clients
-pub record IsSettled (a : Alone) : Type 0 where
+pub record IsSettled (a : Account) : Type 0 where
   pub stands : Stands a
   pub tells : Tells a
 
@@ -236,7 +236,7 @@ pub record IsSettled (a : Alone) : Type 0 where
 
 -- The commit of a live part without joins, with all by which it may be made: it is for the time after the clock, which was not at
 -- its end.
-pub record IsTriedCommit (a : Alone) : Type 0 where
+pub record IsTriedCommit (a : Account) : Type 0 where
   pub stamp : Stamp
   pub life : Life
   pub tried : a.pending ≡ Finishes stamp.trans ∷ Decides stamp [] ∷ []
@@ -250,7 +250,7 @@ pub record IsTriedCommit (a : Alone) : Type 0 where
   pub runs : a.fates stamp.trans ≡ Running life.client []
 
 -- that of a transaction of which the last vote has come
-pub record IsTriedDecision (a : Alone) : Type 0 where
+pub record IsTriedDecision (a : Account) : Type 0 where
   pub stamp : Stamp
   pub life : Life
   pub join : JoinNo
@@ -269,7 +269,7 @@ pub record IsTriedDecision (a : Alone) : Type 0 where
   pub voted : has_all_votes join ts joins votes ≡ true
 
 -- the vote of a join that was let in
-pub record IsTriedVote (a : Alone) : Type 0 where
+pub record IsTriedVote (a : Account) : Type 0 where
   pub join : JoinNo
   pub trans : TransId
   pub client : ℕ
@@ -281,7 +281,7 @@ pub record IsTriedVote (a : Alone) : Type 0 where
   pub idle : AllByRecursion (λ w. is_of_part client trans w ≡ false) a.waits
 
 -- the commit of a join that has voted
-pub record IsTriedApplication (a : Alone) : Type 0 where
+pub record IsTriedApplication (a : Account) : Type 0 where
   pub join : JoinNo
   pub stamp : Stamp
   pub client : ℕ
@@ -291,7 +291,7 @@ pub record IsTriedApplication (a : Alone) : Type 0 where
   pub ready : a.phases join ≡ Ready stamp.trans client ts
 
 -- the end of a decision as the last of its joins has done it
-pub record IsTriedEnd (a : Alone) : Type 0 where
+pub record IsTriedEnd (a : Account) : Type 0 where
   pub trans : TransId
   pub join : JoinNo
   pub stamp : Stamp
@@ -304,7 +304,7 @@ pub record IsTriedEnd (a : Alone) : Type 0 where
   pub all : has_all (join ∷ done) joins ≡ true
 
 -- the end of a join that has voted, by its coordinator's word
-pub record IsTriedAbort (a : Alone) : Type 0 where
+pub record IsTriedAbort (a : Account) : Type 0 where
   pub join : JoinNo
   pub trans : TransId
   pub client : ℕ
@@ -315,7 +315,7 @@ pub record IsTriedAbort (a : Alone) : Type 0 where
   pub ready : a.phases join ≡ Ready trans client ts
 
 -- what is to be seen at a restart: nothing where the server is up or went down in a read, else what the one write held
-pub data HasTried (a : Alone) : Type 0 where
+pub data HasTried (a : Account) : Type 0 where
   nothing : a.pending ≡ [] → HasTried a
   commit : IsTriedCommit a → HasTried a
   decision : IsTriedDecision a → HasTried a
@@ -325,9 +325,9 @@ pub data HasTried (a : Alone) : Type 0 where
   abort : IsTriedAbort a → HasTried a
 
 -- and nobody is left waiting whose way is free
-pub record IsQuiet (a : Alone) : Type 0 where
+pub record IsQuiet (a : Account) : Type 0 where
   pub settled : IsSettled a
-  pub turns : WaitsInTurn (alone a)
+  pub turns : WaitsInTurn (state_of a)
   pub tried : HasTried a
 
 -- ---- what is given on as a part lets go
@@ -360,7 +360,7 @@ waits_granted ws [] = ws
 waits_granted ws (x ∷ xs) = waits_granted (list_map (grant_in x.0) ws) xs
 
 -- the whole then
-abbrev pub with_granted : Alone → List (TransId × Call) → Alone
+abbrev pub with_granted : Account → List (TransId × Call) → Account
 with_granted a xs = record a {
   holder = holder_granted a.holder xs;
   locked = locked_granted a.holder a.locked xs;
@@ -392,8 +392,8 @@ abbrev pub AreOwnEvents : List Entry → Type 0
 AreOwnEvents es = AllByRecursion (λ (e : Entry). IsOwnEvent e.event) es
 
 -- an entry is lawful and has its cause, and leads from a quiet state to that one, which is quiet again
-pub record Leads (failed : Bool) (a : Alone) (e : Entry) (m : Alone) : Type 0 where
-  pub leaves : next (alone a) e ≡ alone m
-  pub lawful : IsLawfulEntry (alone a) e
-  pub answered : IsAnsweredEntry failed (alone a) e
+pub record Leads (failed : Bool) (a : Account) (e : Entry) (m : Account) : Type 0 where
+  pub leaves : next (state_of a) e ≡ state_of m
+  pub lawful : IsLawfulEntry (state_of a) e
+  pub answered : IsAnsweredEntry failed (state_of a) e
   pub quiet : IsQuiet m

@@ -1,4 +1,4 @@
--- calls of a server that runs alone that begin to wait, and calls of parts that wait
+-- calls that begin to wait, and calls of parts that wait
 use Rattle.std.specs.Prelude.{cond, Bool, true, false, ◌&&◌, ◌==◌, is_some, is_none, Option, None, Some, IsSome}
 use Rattle.std.specs.List.{AllByRecursion}
 use Rattle.std.specs.Option.{option_or}
@@ -28,7 +28,7 @@ use Rattle.alp_journal.specs.Laws.{IsFree, IsBlocked, IsHolding}
 use Rattle.alp_journal.specs.Messages.{Mail, on_finish, to_each}
 use Rattle.alp_journal.specs.Answers.{Part, NoPart, AtWork, AtFinish, own_part, part_at, at_part, part_refusal, First, OrFault, IsFileOf, IsFileAnswer, IsLocked, choice_of, finish_reply, shape_refusal, lock_refusal}
 use Rattle.alp_journal.specs.Answered.{GrantsFor, grants_now, grants_if, grants_by, asks}
-use Rattle.alp_journal.specs.Alone.{Alone, alone, Stands, IsQuiet, HasTried, IsPartOf, IsOfPart, IsOther, HasCome, AreTwo, is_on_trans, Leads}
+use Rattle.alp_journal.specs.Account.{Account, state_of, Stands, IsQuiet, HasTried, IsPartOf, IsOfPart, IsOther, HasCome, AreTwo, is_on_trans, Leads}
 use Rattle.alp_journal.proofs.IdLemmas.{same_trans-true, all-append}
 use Rattle.alp_journal.proofs.MadeIds.{all-map}
 use Rattle.alp_journal.proofs.WaitLemmas.{turned, none-found, all-both, file_part, apart-last}
@@ -36,8 +36,8 @@ use Rattle.alp_journal.proofs.TurnLemmas.{blocked-as}
 use Rattle.alp_journal.proofs.StandLemmas.{pair_of, life_of, join_part_is, running_here}
 use Rattle.alp_journal.proofs.PartLemmas.{own_part_at, own_at_work, IsAtWork, at_work_open}
 use Rattle.alp_journal.proofs.QuietLemmas.{waits-last, calls-last, none-on, stands_as, came_on, later-come}
-use Rattle.alp_journal.proofs.AloneLemmas.{no_mail, call_entry, new_call, call_leads}
-use Rattle.alp_journal.proofs.AloneEntries.{counted_as, counted_quiet, IsFileCall, file_call}
+use Rattle.alp_journal.proofs.CallLemmas.{no_mail, call_entry, new_call, call_leads}
+use Rattle.alp_journal.proofs.RefusedCalls.{counted_as, counted_quiet, IsFileCall, file_call}
 
 -- a call on files is none of the others
 file_other : {fates : TransId → Fate} {phases : JoinNo → Phase} {dead : ℕ → TransId → Option Cause} (client : ℕ) (c : Call) (t : TransId) → file_trans c ≡ Some t → IsOther fates phases dead client c
@@ -46,7 +46,7 @@ file_other client (call.Finish u commit) t of = let wrong : None ≡ Some t = of
 file_other client c t of = subst (λ (x : Option TransId). IsSome x) (sym of) refl
 
 -- a part that did not vote is of no join that did
-pub ready_idle : (a : Alone) (q : Stands a) (t : TransId) (l : Life) (j : JoinNo) (client ts : ℕ) → a.holder.lives t ≡ Some l → l.vote ≡ None → a.phases j ≡ Ready t client ts → ⊥
+pub ready_idle : (a : Account) (q : Stands a) (t : TransId) (l : Life) (j : JoinNo) (client ts : ℕ) → a.holder.lives t ≡ Some l → l.vote ≡ None → a.phases j ≡ Ready t client ts → ⊥
 ready_idle a q t l j client ts live unvoted ready =
     let (k, there, of) = life_of a q t j (subst (IsHolding t) (sym ready) refl) in
     let mine : l.join ≡ Some j = ap (λ (x : Life). x.join) (same-some l k (sym live ∙ there)) ∙ of in
@@ -57,21 +57,21 @@ ready_idle a q t l j client ts live unvoted ready =
     ]
 
 -- nor is one at work of a transaction that is finishing
-pub not_finishing : (a : Alone) (q : Stands a) (t : TransId) (client d : ℕ) (js : List JoinNo) (vs : List Vote) → part_at (alone a) client t ≡ AtWork → a.fates t ≡ Finishing d js vs → ⊥
+pub not_finishing : (a : Account) (q : Stands a) (t : TransId) (client d : ℕ) (js : List JoinNo) (vs : List Vote) → part_at (state_of a) client t ≡ AtWork → a.fates t ≡ Finishing d js vs → ⊥
 not_finishing a q t client d js vs works is =
-    let at : part_at (alone a) client t ≡ cond {A = Part} (d == client) AtFinish NoPart = own_part_at a t client (running_here a q t (ap is_running is)) ∙ ap (own_part client (a.dead client t)) is in
+    let at : part_at (state_of a) client t ≡ cond {A = Part} (d == client) AtFinish NoPart = own_part_at a t client (running_here a q t (ap is_running is)) ∙ ap (own_part client (a.dead client t)) is in
     go (d == client) (sym works ∙ at)
   where
     go : (b : Bool) → AtWork ≡ cond {A = Part} b AtFinish NoPart → ⊥
     go true e = let wrong : AtWork ≡ AtFinish = e in cc
     go false e = let wrong : AtWork ≡ NoPart = e in cc
 
-module _ (a : Alone) (client number : ℕ) (w : Session) (t : TransId) (l : Life) where
+module _ (a : Account) (client number : ℕ) (w : Session) (t : TransId) (l : Life) where
   abbrev not_yet : Reply
   not_yet = reply.Refused refusal.NotYet
 
-  pub idle_part : (x : Option Waiting) → waiting_of (alone a).desk client t ≡ x → part_at (alone a) client t ≡ AtWork → part_refusal (alone a) client t ≡ at_part (is_some x) AtWork
-  idle_part x is works = ap (λ (y : Option Waiting). at_part (is_some y) (part_at (alone a) client t)) is ∙ ap (at_part (is_some x)) works
+  pub idle_part : (x : Option Waiting) → waiting_of (state_of a).desk client t ≡ x → part_at (state_of a) client t ≡ AtWork → part_refusal (state_of a) client t ≡ at_part (is_some x) AtWork
+  idle_part x is works = ap (λ (y : Option Waiting). at_part (is_some y) (part_at (state_of a) client t)) is ∙ ap (at_part (is_some x)) works
 
   -- ---- a file call
 
@@ -80,10 +80,10 @@ module _ (a : Alone) (client number : ℕ) (w : Session) (t : TransId) (l : Life
     waiter = record { client = client; number = number; call = c; is_granted = false }
 
     -- it waits behind all others
-    abbrev pub with_wait : Alone
+    abbrev pub with_wait : Account
     with_wait = record (counted_as a client number w not_yet) { waits = a.waits ++ waiter ∷ [] }
 
-    wait_quiet : (q : IsQuiet a) → part_at (alone a) client t ≡ AtWork → a.sessions client ≡ Some w → number ≡ w.last + 1 → a.holder.lives t ≡ Some l → l.client ≡ client → file_trans c ≡ Some t → waiting_of (alone a).desk client t ≡ None
+    wait_quiet : (q : IsQuiet a) → part_at (state_of a) client t ≡ AtWork → a.sessions client ≡ Some w → number ≡ w.last + 1 → a.holder.lives t ≡ Some l → l.client ≡ client → file_trans c ≡ Some t → waiting_of (state_of a).desk client t ≡ None
         → (IsFree a.holder t l c → ⊥) → IsQuiet with_wait
     wait_quiet q at_work there turn live own named idle taken = record {
       settled = record {
@@ -105,9 +105,9 @@ module _ (a : Alone) (client number : ℕ) (w : Session) (t : TransId) (l : Life
         };
       };
       tried = HasTried.nothing refl;
-      turns = all-append (λ (v : Waiting). IsBlocked (alone with_wait) v (file_trans v.call)) a.waits (waiter ∷ [])
-          (all-map (λ (v : Waiting). IsBlocked (alone a) v (file_trans v.call)) (λ (v : Waiting). IsBlocked (alone with_wait) v (file_trans v.call)) (λ v b. blocked-as (alone a) (alone with_wait) v (file_trans v.call) refl b) a.waits q.turns)
-          (subst (IsBlocked (alone with_wait) waiter) (sym named) (λ wait k at its free. taken (subst (λ (y : Life). IsFree a.holder t y c) (same-some k l (sym at ∙ live)) free)), tt);
+      turns = all-append (λ (v : Waiting). IsBlocked (state_of with_wait) v (file_trans v.call)) a.waits (waiter ∷ [])
+          (all-map (λ (v : Waiting). IsBlocked (state_of a) v (file_trans v.call)) (λ (v : Waiting). IsBlocked (state_of with_wait) v (file_trans v.call)) (λ v b. blocked-as (state_of a) (state_of with_wait) v (file_trans v.call) refl b) a.waits q.turns)
+          (subst (IsBlocked (state_of with_wait) waiter) (sym named) (λ wait k at its free. taken (subst (λ (y : Life). IsFree a.holder t y c) (same-some k l (sym at ∙ live)) free)), tt);
     }
       where
         works : IsAtWork a t l
@@ -142,11 +142,11 @@ module _ (a : Alone) (client number : ℕ) (w : Session) (t : TransId) (l : Life
             let same : t ≡ u = same_trans-true t u (ap (is_of u) (sym named) ∙ e) in
             absurd (not_finishing a q.settled.stands t client d js vs at_work (ap a.fates same ∙ is))
 
-    pub waits_leads : IsQuiet a → a.is_down ≡ false → a.sessions client ≡ Some w → number ≡ w.last + 1 → part_at (alone a) client t ≡ AtWork → a.holder.lives t ≡ Some l → l.client ≡ client → file_trans c ≡ Some t
-        → waiting_of (alone a).desk client t ≡ None → option_or (shape_refusal (alone a) l c) (lock_refusal (alone a) t l c) ≡ None → choice_of c ≡ Some choice.Wait → (IsFree a.holder t l c → ⊥)
+    pub waits_leads : IsQuiet a → a.is_down ≡ false → a.sessions client ≡ Some w → number ≡ w.last + 1 → part_at (state_of a) client t ≡ AtWork → a.holder.lives t ≡ Some l → l.client ≡ client → file_trans c ≡ Some t
+        → waiting_of (state_of a).desk client t ≡ None → option_or (shape_refusal (state_of a) l c) (lock_refusal (state_of a) t l c) ≡ None → choice_of c ≡ Some choice.Wait → (IsFree a.holder t l c → ⊥)
         → Leads false a (call_entry a client number w c not_yet []) with_wait
     waits_leads q up there turn at_work live own named idle passed chosen taken =
-        let s : State = alone a in
+        let s : State = state_of a in
         let is : IsFileCall a client number w t c not_yet = file_call a client number w t c not_yet named in
         let d : Desk = with_session s.desk client (Some (record w { last = number; reply = not_yet })) in
         let works : part_refusal s client t ≡ None = idle_part None idle at_work in
@@ -183,10 +183,10 @@ module _ (a : Alone) (client number : ℕ) (w : Session) (t : TransId) (l : Life
 
     -- ---- a call of the part waits, or is not collected
 
-    pub busy_leads : (v : Waiting) → IsQuiet a → a.is_down ≡ false → a.sessions client ≡ Some w → number ≡ w.last + 1 → part_refusal (alone a) client t ≡ Some refusal.NotYet → file_trans c ≡ Some t
-        → waiting_of (alone a).desk client t ≡ Some v → Leads false a (call_entry a client number w c not_yet []) (counted_as a client number w not_yet)
+    pub busy_leads : (v : Waiting) → IsQuiet a → a.is_down ≡ false → a.sessions client ≡ Some w → number ≡ w.last + 1 → part_refusal (state_of a) client t ≡ Some refusal.NotYet → file_trans c ≡ Some t
+        → waiting_of (state_of a).desk client t ≡ Some v → Leads false a (call_entry a client number w c not_yet []) (counted_as a client number w not_yet)
     busy_leads v q up there turn works named waits =
-        let s : State = alone a in
+        let s : State = state_of a in
         let is : IsFileCall a client number w t c not_yet = file_call a client number w t c not_yet named in
         let d : Desk = with_session s.desk client (Some (record w { last = number; reply = not_yet })) in
         call_leads a client number w false c not_yet [] [] (counted_as a client number w not_yet) there turn (record {
@@ -222,9 +222,9 @@ module _ (a : Alone) (client number : ℕ) (w : Session) (t : TransId) (l : Life
   commit_call = call.Finish t true
 
   pub busy_finish_leads : (v : Waiting) → IsQuiet a → a.is_down ≡ false → a.sessions client ≡ Some w → number ≡ w.last + 1 → t.server ≡ a.holder.server → {js : List JoinNo} → a.fates t ≡ Running client js
-      → waiting_of (alone a).desk client t ≡ Some v → Leads false a (call_entry a client number w commit_call not_yet []) (counted_as a client number w not_yet)
+      → waiting_of (state_of a).desk client t ≡ Some v → Leads false a (call_entry a client number w commit_call not_yet []) (counted_as a client number w not_yet)
   busy_finish_leads v q up there turn here {js} runs waits =
-      let s : State = alone a in
+      let s : State = state_of a in
       let d : Desk = with_session s.desk client (Some (record w { last = number; reply = not_yet })) in
       let mine : (client == client) ≡ true = eq-eqb client client refl in
       call_leads a client number w false commit_call not_yet [] [] (counted_as a client number w not_yet) there turn (record {

@@ -33,30 +33,30 @@ use Rattle.alp_journal.specs.Moves.{is_stop, tried, told, halted, next, if_its, 
 use Rattle.alp_journal.specs.Laws.{IsLawfulDeed, DoLivesAgree, ReleasesEnded, WaitsInTurn, IsStopped, TellsStop, SaysRight, drawn_by, granted_by, released_by, ended_by, grants_of, regained_by}
 use Rattle.alp_journal.specs.Messages.{Mail, to_each, on_timeout, due, sent_by}
 use Rattle.alp_journal.specs.Answered.{CountsVotes, ForgetsDone, IsWalk, GivesOn, in_turn}
-use Rattle.alp_journal.specs.Alone.{Alone, alone, Stands, IsQuiet, granted_calls, with_granted, grant_acts, grant_deeds, sent_acts, Leads}
+use Rattle.alp_journal.specs.Account.{Account, state_of, Stands, IsQuiet, granted_calls, with_granted, grant_acts, grant_deeds, sent_acts, Leads}
 use Rattle.alp_journal.proofs.StandLemmas.{far_of_live, live_of_open, not_both_servers, whose_own}
 use Rattle.alp_journal.proofs.IdLemmas.{same_trans-true, same_trans-itself}
 use Rattle.alp_journal.proofs.QuietLemmas.{quiet_up, none_tried}
-use Rattle.alp_journal.proofs.AloneLemmas.{IsMail, no_mail, quiet_votes, quiet_forgets}
+use Rattle.alp_journal.proofs.CallLemmas.{IsMail, no_mail, quiet_votes, quiet_forgets}
 use Rattle.alp_journal.proofs.LetGoLemmas.{IsGivenOn, given_then, GoesOn, let_go_quiet, let_go_reached, let_go_lawful, let_go_brought, let_go_released, let_go_granted, let_go_said, let_go_none, let_go_drawn, let_go_mail, let_go_turns}
-use Rattle.alp_journal.proofs.AloneEnds.{aborts-said, aborts-addressed, part_ended, IsOwn, runs_as, here_as, known_as, now_as, fate_ended, ends_goes}
+use Rattle.alp_journal.proofs.OwnEnds.{aborts-said, aborts-addressed, part_ended, IsOwn, runs_as, here_as, known_as, now_as, fate_ended, ends_goes}
 
 -- ---- time runs out
 
-module _ (a : Alone) (t : TransId) where
+module _ (a : Account) (t : TransId) where
   abbrev pub timeout_entry : List Act → Entry
   timeout_entry acts = record { event = event.Timeout t; reply = None; acts = acts }
 
   -- a timeout's entry that brings these deeds
-  timeout_so : (acts : List Act) (ds : List Deed) (m : Alone) → list_any is_stop acts ≡ false → a.is_down ≡ false → flat_map drawn_by acts ≡ [] → tried (alone a) (timeout_entry acts) ≡ ds
-      → record (state_after state_deed (alone a) ds) { is_down = false; pending = [] } ≡ alone m → Along state_deed (IsLawfulDeed (event.Timeout t)) (alone a) ds
-      → flat_map released_by acts ≡ flat_map (ended_by (alone a)) ds → flat_map granted_by acts ≡ flat_map grants_of ds → AllByRecursion (SaysRight (event.Timeout t) (alone m)) acts
-      → list_any regained_by acts ≡ false → IsQuiet m → IsMail (on_timeout t (a.fates t)) acts → GivesOn (alone a) (timeout_entry acts) → Leads false a (timeout_entry acts) m
+  timeout_so : (acts : List Act) (ds : List Deed) (m : Account) → list_any is_stop acts ≡ false → a.is_down ≡ false → flat_map drawn_by acts ≡ [] → tried (state_of a) (timeout_entry acts) ≡ ds
+      → record (state_after state_deed (state_of a) ds) { is_down = false; pending = [] } ≡ state_of m → Along state_deed (IsLawfulDeed (event.Timeout t)) (state_of a) ds
+      → flat_map released_by acts ≡ flat_map (ended_by (state_of a)) ds → flat_map granted_by acts ≡ flat_map grants_of ds → AllByRecursion (SaysRight (event.Timeout t) (state_of m)) acts
+      → list_any regained_by acts ≡ false → IsQuiet m → IsMail (on_timeout t (a.fates t)) acts → GivesOn (state_of a) (timeout_entry acts) → Leads false a (timeout_entry acts) m
   timeout_so acts ds m up running drawn brought left lawful released granted said regained quiet mail turns =
-      let s : State = alone a in
+      let s : State = state_of a in
       let e : Entry = timeout_entry acts in
       let ev : Event = event.Timeout t in
-      let leaves : next s e ≡ alone m = ap (λ (b : Bool). cond {A = State} b (halted s e) (told s e)) up ∙ ap (λ (xs : List Deed). record (state_after state_deed s xs) { is_down = false; pending = [] }) brought ∙ left in
+      let leaves : next s e ≡ state_of m = ap (λ (b : Bool). cond {A = State} b (halted s e) (told s e)) up ∙ ap (λ (xs : List Deed). record (state_after state_deed s xs) { is_down = false; pending = [] }) brought ∙ left in
       record {
         leaves = leaves;
         lawful = record {
@@ -91,7 +91,7 @@ module _ (a : Alone) (t : TransId) where
       either false = tt
 
   -- where it does not run nothing comes of it
-  abbrev pub as_it_was : Alone
+  abbrev pub as_it_was : Account
   as_it_was = record a { is_down = false; pending = [] }
 
   not_running : (f : Fate) → is_running f ≡ false → (fate.client_of f ≡ None) × (on_timeout t f ≡ [])
@@ -106,11 +106,11 @@ module _ (a : Alone) (t : TransId) where
   abbrev pub HasNoOpen : Type 0
   HasNoOpen = (j : JoinNo) (x : TransId × ℕ) → open_in (a.phases j) ≡ Some x → same_trans x.0 t ≡ false
 
-  none_out : HasNoOpen → (js : List JoinNo) → flat_map (times_out_join (alone a) t) js ≡ []
+  none_out : HasNoOpen → (js : List JoinNo) → flat_map (times_out_join (state_of a) t) js ≡ []
   none_out none [] = refl
-  none_out none (j ∷ js) = ap (λ (ds : List Deed). ds ++ flat_map (times_out_join (alone a) t) js) (go (open_in (a.phases j)) refl) ∙ none_out none js
+  none_out none (j ∷ js) = ap (λ (ds : List Deed). ds ++ flat_map (times_out_join (state_of a) t) js) (go (open_in (a.phases j)) refl) ∙ none_out none js
     where
-      go : (x : Option (TransId × ℕ)) → open_in (a.phases j) ≡ x → times_out_join (alone a) t j ≡ []
+      go : (x : Option (TransId × ℕ)) → open_in (a.phases j) ≡ x → times_out_join (state_of a) t j ≡ []
       go None e = ap (λ (x : Option (TransId × ℕ)). if_its t x (λ client. Quits j t client (Some cause.TimedOut) ∷ [])) e
       go (Some x) e = ap (λ (y : Option (TransId × ℕ)). if_its t y (λ client. Quits j t client (Some cause.TimedOut) ∷ [])) e
           ∙ ap (λ (b : Bool). cond {A = List Deed} b (Quits j t x.1 (Some cause.TimedOut) ∷ []) []) (none j x e)
@@ -132,7 +132,7 @@ module _ (a : Alone) (t : TransId) where
 
   -- else its part ends, and its client is to be told
   module _ (l : Life) where
-    abbrev pub with_timeout : Alone
+    abbrev pub with_timeout : Account
     with_timeout = record a {
       holder = with_life a.holder t None;
       fates = λ u. if same_trans t u then fate.ended cause.TimedOut (a.fates u) else a.fates u;
@@ -143,10 +143,10 @@ module _ (a : Alone) (t : TransId) where
     }
 
     -- and what it held is given on
-    abbrev pub with_timeout_given : List TransId → Alone
+    abbrev pub with_timeout_given : List TransId → Account
     with_timeout_given ts = with_granted with_timeout (granted_calls a.waits ts)
 
-    abbrev ended : Alone
+    abbrev ended : Account
     ended = part_ended a l.client t l cause.TimedOut
 
     -- the parts of other servers are told
@@ -171,22 +171,22 @@ module _ (a : Alone) (t : TransId) where
         let ev : Event = event.Timeout t in
         let acts : List Act = (front ++ grant_acts ts) ++ sent_acts late_aborts in
         let goes : GoesOn a ended ev front back ts = ends_goes a l.client t l cause.TimedOut ev (λ u n. refl) own (none_tried a q up) ts walk in
-        let brings : event_deeds (alone a) ev None acts ++ flat_map (act_deeds (alone a) ev) front ≡ back =
+        let brings : event_deeds (state_of a) ev None acts ++ flat_map (act_deeds (state_of a) ev) front ≡ back =
         (λ i. (times_out_here t (runs i) ++ none_out (own_none_open q.settled.stands (here_as a l.client t l cause.TimedOut own)) a.joined i) ++ Releases t ∷ []) in
         timeout_so acts (back ++ grant_deeds (granted_calls a.waits ts)) (with_timeout_given ts)
         (let_go_none a ended ev front back ts goes is_stop late_aborts (λ u. refl) (λ x. refl) refl) up (let_go_drawn a ended ev front back ts goes late_aborts [] refl)
-        (let_go_brought a ended ev front back ts goes (event_deeds (alone a) ev None acts) late_aborts brings)
+        (let_go_brought a ended ev front back ts goes (event_deeds (state_of a) ev None acts) late_aborts brings)
         (ap (λ (s : State). record s { is_down = false; pending = [] }) (let_go_reached a ended ev front back ts goes))
         (let_go_lawful a ended ev front back ts goes)
         (let_go_released a ended ev front back ts goes late_aborts)
         (let_go_granted a ended ev front back ts goes late_aborts)
-        (let_go_said a ended ev front back ts goes (alone (with_timeout_given ts)) late_aborts (say own (given_then a ended ev front back ts goes)))
+        (let_go_said a ended ev front back ts goes (state_of (with_timeout_given ts)) late_aborts (say own (given_then a ended ev front back ts goes)))
         (let_go_none a ended ev front back ts goes regained_by late_aborts (λ u. refl) (λ x. refl) refl)
         (quiet_up (with_granted ended (granted_calls a.waits ts)) (let_go_quiet a ended ev front back ts goes))
         (let_go_mail a ended ev front back ts goes (on_timeout t (a.fates t)) late_aborts (aborts-addressed t cause.TimedOut (joins_of (a.fates t)))
         (subst (λ (ms : List Mail). IsPermutation ms late_aborts) (sym (on_late (a.fates t) runs)) (IsPermutation-refl late_aborts)))
         (let_go_turns a ended ev front back ts goes (timeout_entry acts) late_aborts refl refl brings)
       where
-        say : IsOwn a l.client t l cause.TimedOut → IsGivenOn a ended (alone (with_granted ended (granted_calls a.waits ts))) → AllByRecursion (SaysRight (event.Timeout t) (alone (with_timeout_given ts))) (sent_acts late_aborts)
-        say own g = aborts-said (event.Timeout t) (alone (with_timeout_given ts)) t cause.TimedOut (joins_of (a.fates t))
+        say : IsOwn a l.client t l cause.TimedOut → IsGivenOn a ended (state_of (with_granted ended (granted_calls a.waits ts))) → AllByRecursion (SaysRight (event.Timeout t) (state_of (with_timeout_given ts))) (sent_acts late_aborts)
+        say own g = aborts-said (event.Timeout t) (state_of (with_timeout_given ts)) t cause.TimedOut (joins_of (a.fates t))
             ((λ i. is_drawn (g.server i) a.ids.epoch a.ids.transactions t.server t.epoch t.counter) ∙ (known_as a l.client t l cause.TimedOut own).0) (fate_ended a l.client t l cause.TimedOut own) (now_as a l.client t l cause.TimedOut own)

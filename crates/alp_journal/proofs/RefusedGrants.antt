@@ -1,4 +1,4 @@
--- a file call of a server that runs alone has its locks, and is refused under them
+-- a file call has its locks, and is refused under them
 use Rattle.std.specs.Prelude.{cond, Bool, true, false, ◌&&◌, ◌||◌, Option, None, Some}
 use Rattle.std.specs.List.{AllByRecursion}
 use Rattle.std.specs.Option.{option_or}
@@ -25,7 +25,7 @@ use Rattle.alp_journal.specs.Moves.{act_deeds, grants_to, ungranted, call_now, a
 use Rattle.alp_journal.specs.Laws.{IsFree, DoLivesAgree}
 use Rattle.alp_journal.specs.Answers.{AtWork, part_at, IsFileOf}
 use Rattle.alp_journal.specs.Answered.{GrantsFor}
-use Rattle.alp_journal.specs.Alone.{Alone, alone, IsQuiet, HasTried, is_on_trans, Leads}
+use Rattle.alp_journal.specs.Account.{Account, state_of, IsQuiet, HasTried, is_on_trans, Leads}
 use Rattle.alp_journal.proofs.IdLemmas.{same_trans-itself}
 use Rattle.alp_journal.proofs.WaitLemmas.{none-granted}
 use Rattle.alp_journal.proofs.TurnLemmas.{turns-set}
@@ -33,15 +33,15 @@ use Rattle.alp_journal.proofs.StandLemmas.{part-like, paired_kept, held_kept, pa
 use Rattle.alp_journal.proofs.PartLemmas.{IsAtWork, at_work_open}
 use Rattle.alp_journal.proofs.QuietLemmas.{parts-kept, none-on, came_on, later-come}
 use Rattle.alp_journal.proofs.GivenLemmas.{agree-granted}
-use Rattle.alp_journal.proofs.AloneLemmas.{no_mail, call_entry, new_call, call_leads}
-use Rattle.alp_journal.proofs.AloneEntries.{counted_as, IsFileCall, file_call}
+use Rattle.alp_journal.proofs.CallLemmas.{no_mail, call_entry, new_call, call_leads}
+use Rattle.alp_journal.proofs.RefusedCalls.{counted_as, IsFileCall, file_call}
 
-module _ (a : Alone) (client number : ℕ) (w : Session) (t : TransId) (l : Life) (c : Call) (f : Refusal) where
+module _ (a : Account) (client number : ℕ) (w : Session) (t : TransId) (l : Life) (c : Call) (f : Refusal) where
   abbrev under : Life
   under = record l { held = held_for a.holder l c }
 
   -- the part keeps the locks, and nothing else comes about
-  abbrev pub with_locks : Alone
+  abbrev pub with_locks : Account
   with_locks = record (counted_as a client number w (reply.Refused f)) {
     holder = with_life a.holder t (Some under);
     locked = lock_set a.locked t (with_resources (request_in a.holder c (Some l)) (a.locked t));
@@ -74,15 +74,15 @@ module _ (a : Alone) (client number : ℕ) (w : Session) (t : TransId) (l : Life
       };
     };
     tried = HasTried.nothing refl;
-    turns = turns-set (alone a) (alone with_locks) t under refl (λ u. refl)
+    turns = turns-set (state_of a) (state_of with_locks) t under refl (λ u. refl)
         (λ k at. subst (λ (y : Life). IsMore y.held under.held) (same-some l k (sym live ∙ at)) (granted-more l.held (needs_of (view_in a.holder l) l.own c))) a.waits off q.turns;
   }
 
-  pub refused_granted_leads : (failed : Bool) → IsQuiet a → a.is_down ≡ false → a.sessions client ≡ Some w → number ≡ w.last + 1 → part_at (alone a) client t ≡ AtWork → a.holder.lives t ≡ Some l → l.client ≡ client → file_trans c ≡ Some t → waiting_of (alone a).desk client t ≡ None
-      → is_passing_refusal f ≡ true → is_not_yet (reply.Refused f) ≡ false → IsFree a.holder t l c → IsFileOf failed (alone a) client c (reply.Refused f) (Some t)
-      → GrantsFor failed (alone a) client c (reply.Refused f) (t ∷ []) (Some t) → Leads failed a (call_entry a client number w c (reply.Refused f) (act.Granted t ∷ [])) with_locks
+  pub refused_granted_leads : (failed : Bool) → IsQuiet a → a.is_down ≡ false → a.sessions client ≡ Some w → number ≡ w.last + 1 → part_at (state_of a) client t ≡ AtWork → a.holder.lives t ≡ Some l → l.client ≡ client → file_trans c ≡ Some t → waiting_of (state_of a).desk client t ≡ None
+      → is_passing_refusal f ≡ true → is_not_yet (reply.Refused f) ≡ false → IsFree a.holder t l c → IsFileOf failed (state_of a) client c (reply.Refused f) (Some t)
+      → GrantsFor failed (state_of a) client c (reply.Refused f) (t ∷ []) (Some t) → Leads failed a (call_entry a client number w c (reply.Refused f) (act.Granted t ∷ [])) with_locks
   refused_granted_leads failed q up there turn at_work live own named idle passes now free why grants_so =
-      let s : State = alone a in
+      let s : State = state_of a in
       let r : Reply = reply.Refused f in
       let is : IsFileCall a client number w t c r = file_call a client number w t c r named in
       let ev : Event = event.Call client a.ids.epoch number c in
@@ -112,7 +112,7 @@ module _ (a : Alone) (client number : ℕ) (w : Session) (t : TransId) (l : Life
           pending = [];
         })
             ∙ (λ i. record after { desk = begins_if (now i) (with_session after.desk client (Some (record w { last = number; reply = r }))) client number c; is_down = false; pending = [] })
-            ∙ (λ i. alone (record with_locks {
+            ∙ (λ i. state_of (record with_locks {
               holder = grants a.holder t c (live i);
               waits = none-granted t a.waits off i;
               locked = lock_set a.locked t (with_resources (request_in a.holder c (live i)) (a.locked t));

@@ -27,11 +27,11 @@ use Rattle.alp_journal.specs.State.{State, state_deed}
 use Rattle.alp_journal.specs.Moves.{is_effective, resolved, tried, next}
 use Rattle.alp_journal.specs.Laws.{DoLivesAgree, IsFound, IsHolding, is_standing, latest_vote, are_joins_apart, are_stamps_apart}
 use Rattle.alp_journal.specs.Answered.{is_all_done, CountsVotes, ForgetsDone}
-use Rattle.alp_journal.specs.Alone.{Alone, alone, IsJoined, IsPartAs, IsPaired, HasLife, IsKnown, IsFateOf, IsKnownJoin, IsPhaseOf, HasWaits, HasNoCall, Stands, IsSettled, IsQuiet, HasTried, IsTriedCommit, IsTriedDecision, IsTriedVote, IsTriedApplication, IsTriedEnd, IsTriedAbort, Leads}
+use Rattle.alp_journal.specs.Account.{Account, state_of, IsJoined, IsPartAs, IsPaired, HasLife, IsKnown, IsFateOf, IsKnownJoin, IsPhaseOf, HasWaits, HasNoCall, Stands, IsSettled, IsQuiet, HasTried, IsTriedCommit, IsTriedDecision, IsTriedVote, IsTriedApplication, IsTriedEnd, IsTriedAbort, Leads}
 use Rattle.alp_journal.specs.Restarts.{restart_entry, restarted_at, restarted}
 use Rattle.alp_journal.proofs.IdLemmas.{same_trans-true, same_trans-itself, same_join-true, or-true}
 use Rattle.alp_journal.proofs.StandLemmas.{drawn_older, holding_of, join_part_is, own_part_is, pair_of}
-use Rattle.alp_journal.proofs.AloneLemmas.{quiet_votes, quiet_forgets}
+use Rattle.alp_journal.proofs.CallLemmas.{quiet_votes, quiet_forgets}
 
 -- ---- what a restart leaves of a part, a fate and a join
 
@@ -119,7 +119,7 @@ none_call t (Ended c) = tt
 
 -- ---- what stands then
 
-module _ (b : Alone) (clock : ℕ) (q : Stands b) where
+module _ (b : Account) (clock : ℕ) (q : Stands b) where
   paired_then : (t : TransId) (x : Option Life) → b.holder.lives t ≡ x → IsPaired t b.phases x (b.fates t) → IsPaired t (λ j. phase.restarted (b.phases j)) (if_ready x) (fate.restarted (b.ids.epoch + 1) (b.fates t))
   paired_then t None live h = over_then (b.ids.epoch + 1) (b.fates t)
   paired_then t (Some l) live h = by l.vote refl
@@ -185,21 +185,21 @@ module _ (b : Alone) (clock : ℕ) (q : Stands b) where
 -- ---- the entry
 
 -- what the notes keep, where this stands: the joins that have voted, and the decisions with joins that are not forgotten
-pub record IsNoted (b : Alone) (ready : List JoinNo) (stamps : List Stamp) : Type 0 where
+pub record IsNoted (b : Account) (ready : List JoinNo) (stamps : List Stamp) : Type 0 where
   pub once : (are_joins_apart ready && are_stamps_apart stamps) ≡ true
   pub ready : (j : JoinNo) → has_join j ready ≡ is_ready (b.phases j)
   pub decided : (x : Stamp) → has_stamp x stamps ≡ is_standing x (b.fates x.trans)
 
-module _ (a : Alone) (ready : List JoinNo) (stamps : List Stamp) where
+module _ (a : Account) (ready : List JoinNo) (stamps : List Stamp) where
   -- of what was tried it finds these deeds made
-  pub restart_so : (clock : ℕ) (ds : List Deed) (m : Alone) → resolved (alone a) ready clock stamps ≡ ds → IsFound (state_after state_deed (alone a) ds) clock ready stamps
-      → record (state_after state_deed (alone a) ((ds ++ Restarts (a.ids.epoch + 1) clock ∷ []) ++ [])) { is_down = false; pending = [] } ≡ alone m → IsQuiet m → Leads false a (restart_entry a clock ready stamps) m
+  pub restart_so : (clock : ℕ) (ds : List Deed) (m : Account) → resolved (state_of a) ready clock stamps ≡ ds → IsFound (state_after state_deed (state_of a) ds) clock ready stamps
+      → record (state_after state_deed (state_of a) ((ds ++ Restarts (a.ids.epoch + 1) clock ∷ []) ++ [])) { is_down = false; pending = [] } ≡ state_of m → IsQuiet m → Leads false a (restart_entry a clock ready stamps) m
   restart_so clock ds m made found left quiet =
-      let s : State = alone a in
+      let s : State = state_of a in
       let e : Entry = restart_entry a clock ready stamps in
       let done : tried s e ≡ (ds ++ Restarts (a.ids.epoch + 1) clock ∷ []) ++ [] =
       append-nil ((resolved s ready clock stamps ++ Restarts (a.ids.epoch + 1) clock ∷ []) ++ []) ∙ ap (λ (xs : List Deed). (xs ++ Restarts (a.ids.epoch + 1) clock ∷ []) ++ []) made in
-      let leaves : next s e ≡ alone m = ap (λ (xs : List Deed). record (state_after state_deed s xs) { is_down = false; pending = [] }) done ∙ left in
+      let leaves : next s e ≡ state_of m = ap (λ (xs : List Deed). record (state_after state_deed s xs) { is_down = false; pending = [] }) done ∙ left in
       record {
         leaves = leaves;
         lawful = record {
@@ -231,13 +231,13 @@ module _ (a : Alone) (ready : List JoinNo) (stamps : List Stamp) where
   -- ---- nothing is found made
 
   -- none of what was tried counts
-  lost_so : IsQuiet a → IsNoted a ready stamps → resolved (alone a) ready a.holder.kept stamps ≡ [] → Leads false a (restart_entry a a.holder.kept ready stamps) (restarted a)
+  lost_so : IsQuiet a → IsNoted a ready stamps → resolved (state_of a) ready a.holder.kept stamps ≡ [] → Leads false a (restart_entry a a.holder.kept ready stamps) (restarted a)
   lost_so q notes none = restart_so a.holder.kept [] (restarted a) none (record { clock = refl; once = notes.once; ready = notes.ready; decided = notes.decided })
-      (λ i. alone (record (restarted a) { begun = append-nil a.begun i; joined = append-nil a.joined i })) (restarted_quiet a a.holder.kept q.settled.stands)
+      (λ i. state_of (record (restarted a) { begun = append-nil a.begun i; joined = append-nil a.joined i })) (restarted_quiet a a.holder.kept q.settled.stands)
 
   -- or just a deed that moves a fate which is lost, or whose joins are to be asked again, as it is
-  lost_after : IsQuiet a → IsNoted a ready stamps → (t : TransId) (d : Deed) (move : Fate → Fate) → state_deed (alone a) d ≡ record (alone a) { fates = λ u. cond {A = Fate} (same_trans t u) (move (a.fates u)) (a.fates u); begun = a.begun ++ []; joined = a.joined ++ [] }
-      → ((f : Fate) → fate.restarted (a.ids.epoch + 1) (move f) ≡ fate.restarted (a.ids.epoch + 1) f) → ((x : Stamp) (f : Fate) → is_standing x (move f) ≡ is_standing x f) → resolved (alone a) ready a.holder.kept stamps ≡ d ∷ []
+  lost_after : IsQuiet a → IsNoted a ready stamps → (t : TransId) (d : Deed) (move : Fate → Fate) → state_deed (state_of a) d ≡ record (state_of a) { fates = λ u. cond {A = Fate} (same_trans t u) (move (a.fates u)) (a.fates u); begun = a.begun ++ []; joined = a.joined ++ [] }
+      → ((f : Fate) → fate.restarted (a.ids.epoch + 1) (move f) ≡ fate.restarted (a.ids.epoch + 1) f) → ((x : Stamp) (f : Fate) → is_standing x (move f) ≡ is_standing x f) → resolved (state_of a) ready a.holder.kept stamps ≡ d ∷ []
       → Leads false a (restart_entry a a.holder.kept ready stamps) (restarted a)
   lost_after q notes t d move is same stands made = restart_so a.holder.kept (d ∷ []) (restarted a) made
       (subst (λ (s : State). IsFound s a.holder.kept ready stamps) (sym is) (record {
@@ -247,7 +247,7 @@ module _ (a : Alone) (ready : List JoinNo) (stamps : List Stamp) where
         decided = λ x. notes.decided x ∙ sym (moved x (same_trans t x.trans) (a.fates x.trans));
       }))
       (ap (λ (s : State). record (state_after state_deed s (Restarts (a.ids.epoch + 1) a.holder.kept ∷ [])) { is_down = false; pending = [] }) is
-      ∙ (λ i. alone (record (restarted a) { fates = λ u. lost (same_trans t u) (a.fates u) i; begun = (append-nil (a.begun ++ []) ∙ append-nil a.begun) i; joined = (append-nil (a.joined ++ []) ∙ append-nil a.joined) i })))
+      ∙ (λ i. state_of (record (restarted a) { fates = λ u. lost (same_trans t u) (a.fates u) i; begun = (append-nil (a.begun ++ []) ∙ append-nil a.begun) i; joined = (append-nil (a.joined ++ []) ∙ append-nil a.joined) i })))
       (restarted_quiet a a.holder.kept q.settled.stands)
     where
       moved : (x : Stamp) (b : Bool) (f : Fate) → is_standing x (cond {A = Fate} b (move f) f) ≡ is_standing x f
@@ -325,12 +325,12 @@ module _ (a : Alone) (ready : List JoinNo) (stamps : List Stamp) where
   restart_leads q notes = go q.tried
     where
       -- what is tried, as far as it counts
-      counts : (d : Deed) (e : Deed) → a.pending ≡ d ∷ e ∷ [] → is_effective ready a.holder.kept stamps d ≡ true → is_effective ready a.holder.kept stamps e ≡ false → resolved (alone a) ready a.holder.kept stamps ≡ d ∷ []
+      counts : (d : Deed) (e : Deed) → a.pending ≡ d ∷ e ∷ [] → is_effective ready a.holder.kept stamps d ≡ true → is_effective ready a.holder.kept stamps e ≡ false → resolved (state_of a) ready a.holder.kept stamps ≡ d ∷ []
       counts d e is first second =
           ap (filter (is_effective ready a.holder.kept stamps)) is
           ∙ (λ i. cond {A = List Deed} (first i) (d ∷ cond {A = List Deed} (second i) (e ∷ []) []) (cond {A = List Deed} (second i) (e ∷ []) []))
 
-      counts_none : (d : Deed) → a.pending ≡ d ∷ [] → is_effective ready a.holder.kept stamps d ≡ false → resolved (alone a) ready a.holder.kept stamps ≡ []
+      counts_none : (d : Deed) → a.pending ≡ d ∷ [] → is_effective ready a.holder.kept stamps d ≡ false → resolved (state_of a) ready a.holder.kept stamps ≡ []
       counts_none d is none = ap (filter (is_effective ready a.holder.kept stamps)) is ∙ ap (λ (b : Bool). cond {A = List Deed} b (d ∷ []) []) none
 
       later_vote : (n : ℕ) (vs : List Vote) → n ≤ latest_vote n vs

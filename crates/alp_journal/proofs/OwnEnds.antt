@@ -35,15 +35,15 @@ use Rattle.alp_journal.specs.Laws.{IsLawfulDeed, IsHolding, SaysRight, MayAbort,
 use Rattle.alp_journal.specs.Messages.{Mail, to_each, on_finish, why_not_own}
 use Rattle.alp_journal.specs.Answered.{is_all_done, IsWalk, in_turn}
 use Rattle.alp_journal.specs.Answers.{Part, part_at, at_part, finish_reply, voted_reply, First}
-use Rattle.alp_journal.specs.Alone.{Alone, alone, IsKnown, IsFateOf, Stands, Tells, IsSettled, IsQuiet, IsJoinOf, IsFinishOf, IsOther, HasNoCall, granted_calls, with_granted, grant_acts, sent_acts, Leads}
+use Rattle.alp_journal.specs.Account.{Account, state_of, IsKnown, IsFateOf, Stands, Tells, IsSettled, IsQuiet, IsJoinOf, IsFinishOf, IsOther, HasNoCall, granted_calls, with_granted, grant_acts, sent_acts, Leads}
 use Rattle.alp_journal.proofs.IdLemmas.{same_trans-true, same_trans-itself}
 use Rattle.alp_journal.proofs.WaitLemmas.{turned, without-given}
 use Rattle.alp_journal.proofs.StandLemmas.{moved_all, known_running, running_of, paired_set, held_set, no_own_join, own_unheld, own_here, own_pair, own_of_running, pair_of, running_here}
 use Rattle.alp_journal.proofs.PartLemmas.{own_at_work}
 use Rattle.alp_journal.proofs.QuietLemmas.{none_tried, agree_without, has_ended, ended_moved, ended_told, AreOfParts, parts-told, others-on, with_session_of, quiet_told, forgotten_part, quiet_forgotten}
 use Rattle.alp_journal.proofs.GivenLemmas.{LivedBefore}
-use Rattle.alp_journal.proofs.AloneLemmas.{AreAddressed, call_entry}
-use Rattle.alp_journal.proofs.AloneEntries.{counted_as, without_dead}
+use Rattle.alp_journal.proofs.CallLemmas.{AreAddressed, call_entry}
+use Rattle.alp_journal.proofs.RefusedCalls.{counted_as, without_dead}
 use Rattle.alp_journal.proofs.LetGoLemmas.{IsGivenOn, GoesOn, let_go_quiet, finish_event, no_file_call, finish_leads}
 
 -- ---- a message to each part
@@ -96,9 +96,9 @@ finish-more client (Committed stamp js ds) x y more h = tt
 finish-more client (Forgotten stamp js) x y more h = tt
 finish-more client (Ended c) x y more h = more h
 
-module _ (a : Alone) (owner : ℕ) (t : TransId) (l : Life) (c : Cause) where
+module _ (a : Account) (owner : ℕ) (t : TransId) (l : Life) (c : Cause) where
   -- its locks are let go, and its client is to be told
-  abbrev pub part_ended : Alone
+  abbrev pub part_ended : Account
   part_ended = record a {
     holder = with_life a.holder t None;
     fates = λ u. if same_trans t u then fate.ended c (a.fates u) else a.fates u;
@@ -237,8 +237,8 @@ module _ (a : Alone) (owner : ℕ) (t : TransId) (l : Life) (c : Cause) where
     waits = refl;
     walk = walk;
     no_call = no_call;
-    reached = λ i. alone (record part_ended { begun = begun_two i; joined = joined_two i });
-    deeds = (ends_lawful, (releases_lawful (state_deed (alone a) (Ends t owner c)) refl o.live (fate_ended o) (own_unheld a o.settled.stands t (here_as o)), tt));
+    reached = λ i. state_of (record part_ended { begun = begun_two i; joined = joined_two i });
+    deeds = (ends_lawful, (releases_lawful (state_deed (state_of a) (Ends t owner c)) refl o.live (fate_ended o) (own_unheld a o.settled.stands t (here_as o)), tt));
     stops = refl;
     release = λ rest. refl;
     first = λ rest. refl;
@@ -252,7 +252,7 @@ module _ (a : Alone) (owner : ℕ) (t : TransId) (l : Life) (c : Cause) where
   -- with a deed before it that moves just the fate, and where that does not count
   module _ (d : Deed) (move : Fate → Fate) where
     abbrev moved_first : State
-    moved_first = record (alone a) { fates = λ u. if same_trans t u then move (a.fates u) else a.fates u; begun = a.begun ++ []; joined = a.joined ++ [] }
+    moved_first = record (state_of a) { fates = λ u. if same_trans t u then move (a.fates u) else a.fates u; begun = a.begun ++ []; joined = a.joined ++ [] }
 
     begun_three : a.begun ++ [] ++ [] ++ [] ≡ a.begun
     begun_three = append-nil (a.begun ++ [] ++ []) ∙ begun_two
@@ -264,7 +264,7 @@ module _ (a : Alone) (owner : ℕ) (t : TransId) (l : Life) (c : Cause) where
     over_moved same true f = same f
     over_moved same false f = refl
 
-    pub after_goes : (ev : Event) → ((u : TransId) (n : ℕ) → call_now ev u n ≡ None) → state_deed (alone a) d ≡ moved_first → IsLawfulDeed ev (alone a) d → ended_by (alone a) d ≡ [] → grants_of d ≡ [] → ((f : Fate) → fate.ended c (move f) ≡ fate.ended c f)
+    pub after_goes : (ev : Event) → ((u : TransId) (n : ℕ) → call_now ev u n ≡ None) → state_deed (state_of a) d ≡ moved_first → IsLawfulDeed ev (state_of a) d → ended_by (state_of a) d ≡ [] → grants_of d ≡ [] → ((f : Fate) → fate.ended c (move f) ≡ fate.ended c f)
         → IsOwn → a.pending ≡ [] → (ts : List TransId) → IsWalk part_ended.holder (in_turn part_ended.holder a.waits) ts → GoesOn a part_ended ev (act.Released t ∷ []) (d ∷ Ends t owner c ∷ Releases t ∷ []) ts
     after_goes ev no_call first lawful no_end no_grant same o none ts walk = record {
       before = o.settled;
@@ -275,13 +275,13 @@ module _ (a : Alone) (owner : ℕ) (t : TransId) (l : Life) (c : Cause) where
       walk = walk;
       no_call = no_call;
       reached = ap (λ (s : State). state_deed (state_deed s (Ends t owner c)) (Releases t)) first
-          ∙ (λ i. alone (record part_ended { fates = λ u. over_moved same (same_trans t u) (a.fates u) i; begun = begun_three i; joined = joined_three i }));
+          ∙ (λ i. state_of (record part_ended { fates = λ u. over_moved same (same_trans t u) (a.fates u) i; begun = begun_three i; joined = joined_three i }));
       deeds = (
         lawful,
         (
           ends_lawful,
           (
-            releases_lawful (state_deed (state_deed (alone a) d) (Ends t owner c)) (ap (λ (s : State). (state_deed s (Ends t owner c)).holder) first) o.live
+            releases_lawful (state_deed (state_deed (state_of a) d) (Ends t owner c)) (ap (λ (s : State). (state_deed s (Ends t owner c)).holder) first) o.live
                 (ap (λ (s : State). (state_deed s (Ends t owner c)).fates t) first ∙ over_moved same (same_trans t t) (a.fates t) ∙ fate_ended o)
                 (subst (λ (s : State). (j : JoinNo) → IsHolding t ((state_deed s (Ends t owner c)).phases j) → ⊥) (sym first) (own_unheld a o.settled.stands t (here_as o))),
             tt,
@@ -300,12 +300,12 @@ module _ (a : Alone) (owner : ℕ) (t : TransId) (l : Life) (c : Cause) where
 
 -- ---- as its client asks, and by this server's own vote
 
-module _ (a : Alone) (client number : ℕ) (w : Session) (t : TransId) (l : Life) (c : Cause) where
+module _ (a : Account) (client number : ℕ) (w : Session) (t : TransId) (l : Life) (c : Cause) where
   abbrev told : Reply
   told = reply.Refused (refusal.Aborted c)
 
   -- it is gone, with its locks, and nothing of it is to be told
-  abbrev pub with_end : Alone
+  abbrev pub with_end : Account
   with_end = record (without_dead a client number w t (counted_as a client number w told)) {
     holder = with_life a.holder t None;
     fates = λ u. if same_trans t u then fate.ended c (a.fates u) else a.fates u;
@@ -313,16 +313,16 @@ module _ (a : Alone) (client number : ℕ) (w : Session) (t : TransId) (l : Life
   }
 
   -- and what it held is given on
-  abbrev pub with_end_given : List TransId → Alone
+  abbrev pub with_end_given : List TransId → Account
   with_end_given ts = with_granted with_end (granted_calls a.waits ts)
 
-  abbrev ended : Alone
+  abbrev ended : Account
   ended = part_ended a client t l c
 
-  abbrev ended_given : List TransId → Alone
+  abbrev ended_given : List TransId → Account
   ended_given ts = with_granted ended (granted_calls a.waits ts)
 
-  abbrev told_given : List TransId → Alone
+  abbrev told_given : List TransId → Account
   told_given ts = forgotten_part client t (with_session_of (ended_given ts) client (record w { last = number; reply = told }))
 
   -- its dead part is forgotten at once, and its waiting call
@@ -363,17 +363,17 @@ module _ (a : Alone) (client number : ℕ) (w : Session) (t : TransId) (l : Life
         turn = turn;
         sessions = refl;
         now = refl;
-        brings = ap (λ (f : Fate). finishes (alone a).desk client t false told f ++ Releases t ∷ []) runs ∙ ap (λ (b : Bool). cond {A = List Deed} b (Ends t client cause.Asked ∷ []) [] ++ Releases t ∷ []) mine
+        brings = ap (λ (f : Fate). finishes (state_of a).desk client t false told f ++ Releases t ∷ []) runs ∙ ap (λ (b : Bool). cond {A = List Deed} b (Ends t client cause.Asked ∷ []) [] ++ Releases t ∷ []) mine
             ∙ ap (λ (x : Cause). Ends t client x ∷ Releases t ∷ []) (sym asked);
         drawn = refl;
-        left = ap alone (forgets ts);
+        left = ap state_of (forgets ts);
         says = λ x g. subst (λ (y : Cause). AllByRecursion (SaysRight ev x) (sent_acts (to_each (λ (j : JoinNo). msg.Abort t j y) js))) asked
             (aborts-said ev x t c js (drawn_then x g own) (ap (λ (f : TransId → Fate). f t) g.fates ∙ fate_ended a client t l c own) (now_as a client t l c own ∙ ap (λ (i : Ids). i.epoch) (sym g.ids)));
         addressed = aborts-addressed t cause.Asked js;
         quiet = told_quiet ts own there turn (let_go_quiet a ended ev front back ts goes);
         tells = tt;
-        mail = subst (λ (ms : List Mail). IsPermutation ms (aborts js)) (sym (ap (on_finish t false client (is_none (waiting_of (alone a).desk client t))) runs ∙ ap (λ (b : Bool). cond {A = List Mail} b (aborts js) []) mine)) (IsPermutation-refl (aborts js));
-        answer = subst (λ (b : Bool). Where b (First (at_part false (part_at (alone a) client t)) told (told ≡ reply.Refused (refusal.Aborted cause.Asked))) (told ≡ reply.Refused refusal.UnknownTrans)) (sym (eq-eqb t.server a.holder.server here))
+        mail = subst (λ (ms : List Mail). IsPermutation ms (aborts js)) (sym (ap (on_finish t false client (is_none (waiting_of (state_of a).desk client t))) runs ∙ ap (λ (b : Bool). cond {A = List Mail} b (aborts js) []) mine)) (IsPermutation-refl (aborts js));
+        answer = subst (λ (b : Bool). Where b (First (at_part false (part_at (state_of a) client t)) told (told ≡ reply.Refused (refusal.Aborted cause.Asked))) (told ≡ reply.Refused refusal.UnknownTrans)) (sym (eq-eqb t.server a.holder.server here))
             (subst (λ (p : Part). First (at_part false p) told (told ≡ reply.Refused (refusal.Aborted cause.Asked))) (sym (own_at_work a t client here runs)) (ap (λ (x : Cause). reply.Refused (refusal.Aborted x)) asked));
       })
     where
@@ -381,7 +381,7 @@ module _ (a : Alone) (client number : ℕ) (w : Session) (t : TransId) (l : Life
       drawn_then x g own = (λ i. is_drawn (g.server i) (g.ids i).epoch (g.ids i).transactions t.server t.epoch t.counter) ∙ (known_as a client t l c own).0
 
   pub against_leads : (failed : Bool) (why : Why) → c ≡ cause.Voted a.holder.server why → IsQuiet a → a.is_down ≡ false → a.sessions client ≡ Some w → number ≡ w.last + 1
-      → a.holder.lives t ≡ Some l → a.fates t ≡ Running client [] → waiting_of (alone a).desk client t ≡ None → why_not_own failed (alone a) t ≡ Some why
+      → a.holder.lives t ≡ Some l → a.fates t ≡ Running client [] → waiting_of (state_of a).desk client t ≡ None → why_not_own failed (state_of a) t ≡ Some why
       → (ts : List TransId) → IsWalk with_end.holder (in_turn with_end.holder a.waits) ts
       → Leads failed a (call_entry a client number w (call.Finish t true) told ((act.Released t ∷ grant_acts ts) ++ [])) (with_end_given ts)
   against_leads failed why voted q up there turn live runs idle not ts walk =
@@ -400,22 +400,22 @@ module _ (a : Alone) (client number : ℕ) (w : Session) (t : TransId) (l : Life
         turn = turn;
         sessions = refl;
         now = refl;
-        brings = ap (λ (f : Fate). finishes (alone a).desk client t true told f ++ Releases t ∷ []) runs
-            ∙ ap (λ (b : Bool). cond {A = List Deed} (b && is_none (waiting_of (alone a).desk client t)) (Finishes t ∷ Ends t client c ∷ []) [] ++ Releases t ∷ []) mine
+        brings = ap (λ (f : Fate). finishes (state_of a).desk client t true told f ++ Releases t ∷ []) runs
+            ∙ ap (λ (b : Bool). cond {A = List Deed} (b && is_none (waiting_of (state_of a).desk client t)) (Finishes t ∷ Ends t client c ∷ []) [] ++ Releases t ∷ []) mine
             ∙ ap (λ (x : Option Waiting). cond {A = List Deed} (is_none x) (Finishes t ∷ Ends t client c ∷ []) [] ++ Releases t ∷ []) idle;
         drawn = refl;
-        left = ap alone (forgets ts);
+        left = ap state_of (forgets ts);
         says = λ x g. tt;
         addressed = refl;
         quiet = told_quiet ts own there turn (let_go_quiet a ended ev front back ts goes);
         tells = tt;
-        mail = subst (λ (ms : List Mail). IsPermutation ms []) (sym (ap (on_finish t true client (is_none (waiting_of (alone a).desk client t))) runs ∙ ap (λ (b : Bool). cond {A = List Mail} (b && is_none (waiting_of (alone a).desk client t)) [] []) mine
+        mail = subst (λ (ms : List Mail). IsPermutation ms []) (sym (ap (on_finish t true client (is_none (waiting_of (state_of a).desk client t))) runs ∙ ap (λ (b : Bool). cond {A = List Mail} (b && is_none (waiting_of (state_of a).desk client t)) [] []) mine
             ∙ ap (λ (x : Option Waiting). cond {A = List Mail} (is_none x) [] []) idle)) (IsPermutation-refl []);
-        answer = subst (λ (b : Bool). Where b (First (at_part (true && is_some (waiting_of (alone a).desk client t)) (part_at (alone a) client t)) told (told ≡ finish_reply failed (alone a) t (a.fates t))) (told ≡ reply.Refused refusal.UnknownTrans))
+        answer = subst (λ (b : Bool). Where b (First (at_part (true && is_some (waiting_of (state_of a).desk client t)) (part_at (state_of a) client t)) told (told ≡ finish_reply failed (state_of a) t (a.fates t))) (told ≡ reply.Refused refusal.UnknownTrans))
             (sym (eq-eqb t.server a.holder.server here))
-            (subst (λ (x : Option Waiting). First (at_part (true && is_some x) (part_at (alone a) client t)) told (told ≡ finish_reply failed (alone a) t (a.fates t))) (sym idle)
-            (subst (λ (p : Part). First (at_part false p) told (told ≡ finish_reply failed (alone a) t (a.fates t))) (sym (own_at_work a t client here runs))
-            (ap (λ (x : Cause). reply.Refused (refusal.Aborted x)) voted ∙ ap (voted_reply (alone a) t) (sym not) ∙ ap (finish_reply failed (alone a) t) (sym runs))));
+            (subst (λ (x : Option Waiting). First (at_part (true && is_some x) (part_at (state_of a) client t)) told (told ≡ finish_reply failed (state_of a) t (a.fates t))) (sym idle)
+            (subst (λ (p : Part). First (at_part false p) told (told ≡ finish_reply failed (state_of a) t (a.fates t))) (sym (own_at_work a t client here runs))
+            (ap (λ (x : Cause). reply.Refused (refusal.Aborted x)) voted ∙ ap (voted_reply (state_of a) t) (sym not) ∙ ap (finish_reply failed (state_of a) t) (sym runs))));
       })
     where
       finishing_ended : (f : Fate) → fate.ended c (fate.finishing f) ≡ fate.ended c f

@@ -1,4 +1,4 @@
--- entries of a server that runs alone
+-- entries of a new call: its session goes on, and what is sent stands behind all else
 use Rattle.std.specs.Prelude.{cond, Bool, true, false, not, ◌&&◌, ◌||◌, ◌==◌, Option, None, Some, IsSome, flat_map}
 use Rattle.std.specs.List.{list_any, list_all, AllByRecursion}
 use Rattle.std.specs.List.Sorted.{IsPermutation}
@@ -24,7 +24,7 @@ use Rattle.alp_journal.specs.Laws.{IsLawfulDeed, DoLivesAgree, ReleasesEnded, Wa
 use Rattle.alp_journal.specs.Messages.{Mail, on_call, sent_by, due}
 use Rattle.alp_journal.specs.Answers.{IsAnswer, AnswersCall}
 use Rattle.alp_journal.specs.Answered.{CountsVotes, ForgetsDone, GivesOn, GrantsFor, GrantsAtOnce}
-use Rattle.alp_journal.specs.Alone.{Alone, alone, IsQuiet, sent_acts, Leads}
+use Rattle.alp_journal.specs.Account.{Account, state_of, IsQuiet, sent_acts, Leads}
 
 -- ---- one list behind another
 
@@ -34,10 +34,10 @@ flat-append f (x ∷ xs) ys = ap (λ bs. f x ++ bs) (flat-append f xs ys) ∙ sy
 
 -- ---- what a quiet state has
 
-pub quiet_votes : (m : Alone) → IsQuiet m → CountsVotes (alone m)
+pub quiet_votes : (m : Account) → IsQuiet m → CountsVotes (state_of m)
 quiet_votes m q t = q.settled.stands.votes t
 
-pub quiet_forgets : (m : Alone) → IsQuiet m → ForgetsDone (alone m)
+pub quiet_forgets : (m : Account) → IsQuiet m → ForgetsDone (state_of m)
 quiet_forgets m q t = q.settled.stands.forgets t
 
 -- ---- messages
@@ -113,22 +113,22 @@ mail_behind due acts ms silent to all = record {
 
 -- ---- a new call of a session
 
-module _ (a : Alone) (client number : ℕ) (w : Session) where
+module _ (a : Account) (client number : ℕ) (w : Session) where
   -- its entry
   abbrev pub call_entry : Call → Reply → List Act → Entry
   call_entry c r acts = record { event = event.Call client a.ids.epoch number c; reply = Some r; acts = acts }
 
-  pub new_call : a.sessions client ≡ Some w → number ≡ w.last + 1 → is_new (alone a) client a.ids.epoch number ≡ true
+  pub new_call : a.sessions client ≡ Some w → number ≡ w.last + 1 → is_new (state_of a) client a.ids.epoch number ≡ true
   new_call there turn =
       ap (λ (x : Option Session). elim x [ None ↦ false | Some v ↦ a.ids.epoch == a.ids.epoch && number == v.last + 1 ]) there
       ∙ ap (λ (b : Bool). b && number == w.last + 1) (eq-eqb a.ids.epoch a.ids.epoch refl) ∙ eq-eqb number (w.last + 1) turn
 
   -- what a call brings about that is no greeting
   pub call_tried : (c : Call) (r : Reply) (acts : List Act) → a.sessions client ≡ Some w → number ≡ w.last + 1
-      → tried (alone a) (call_entry c r acts) ≡ call_deeds (alone a) client c r ++ flat_map (act_deeds (alone a) (event.Call client a.ids.epoch number c)) acts ++ done_of (alone a) r (answered (alone a) client c)
+      → tried (state_of a) (call_entry c r acts) ≡ call_deeds (state_of a) client c r ++ flat_map (act_deeds (state_of a) (event.Call client a.ids.epoch number c)) acts ++ done_of (state_of a) r (answered (state_of a) client c)
   call_tried c r acts there turn =
-      ap (λ (b : Bool). cond {A = List Deed} b (call_deeds (alone a) client c r) [] ++ flat_map (act_deeds (alone a) (event.Call client a.ids.epoch number c)) acts
-      ++ cond {A = List Deed} b (done_of (alone a) r (answered (alone a) client c)) []) (new_call there turn)
+      ap (λ (b : Bool). cond {A = List Deed} b (call_deeds (state_of a) client c r) [] ++ flat_map (act_deeds (state_of a) (event.Call client a.ids.epoch number c)) acts
+      ++ cond {A = List Deed} b (done_of (state_of a) r (answered (state_of a) client c)) []) (new_call there turn)
 
   -- what is known behind its answer
   abbrev pub after_call : State → Call → Reply → State
@@ -143,57 +143,57 @@ module _ (a : Alone) (client number : ℕ) (w : Session) where
   IsCounted c r = (m : State) → desk_told m (event.Call client a.ids.epoch number c) (Some r)
       ≡ cond {A = Desk} (is_new m client a.ids.epoch number) (counted m.desk (has_part m client) client number c r (m.desk.sessions client)) m.desk
 
-  pub call_next : (c : Call) (r : Reply) (acts : List Act) (ds : List Deed) → IsCounted c r → stops (call_entry c r acts) ≡ false → tried (alone a) (call_entry c r acts) ≡ ds
-      → is_new (state_after state_deed (alone a) ds) client a.ids.epoch number ≡ true → (state_after state_deed (alone a) ds).desk.sessions client ≡ Some w
-      → next (alone a) (call_entry c r acts) ≡ after_call (state_after state_deed (alone a) ds) c r
+  pub call_next : (c : Call) (r : Reply) (acts : List Act) (ds : List Deed) → IsCounted c r → stops (call_entry c r acts) ≡ false → tried (state_of a) (call_entry c r acts) ≡ ds
+      → is_new (state_after state_deed (state_of a) ds) client a.ids.epoch number ≡ true → (state_after state_deed (state_of a) ds).desk.sessions client ≡ Some w
+      → next (state_of a) (call_entry c r acts) ≡ after_call (state_after state_deed (state_of a) ds) c r
   call_next c r acts ds plain up brought new there =
       let e : Entry = call_entry c r acts in
-      let m : State = state_after state_deed (alone a) ds in
-      ap (λ (b : Bool). cond {A = State} b (halted (alone a) e) (told (alone a) e)) up
-      ∙ ap (λ (x : State). record x { desk = desk_told x (event.Call client a.ids.epoch number c) (Some r); is_down = false; pending = [] }) (ap (state_after state_deed (alone a)) brought)
+      let m : State = state_after state_deed (state_of a) ds in
+      ap (λ (b : Bool). cond {A = State} b (halted (state_of a) e) (told (state_of a) e)) up
+      ∙ ap (λ (x : State). record x { desk = desk_told x (event.Call client a.ids.epoch number c) (Some r); is_down = false; pending = [] }) (ap (state_after state_deed (state_of a)) brought)
       ∙ ap (λ (x : Desk). record m { desk = x; is_down = false; pending = [] })
       (plain m ∙ ap (λ (b : Bool). cond {A = Desk} b (counted m.desk (has_part m client) client number c r (m.desk.sessions client)) m.desk) new
       ∙ ap (λ (x : Option Session). counted m.desk (has_part m client) client number c r x) there)
 
   -- what is owed of a new call's entry that brings these deeds
-  pub record CallOwes (failed : Bool) (c : Call) (r : Reply) (acts : List Act) (ds : List Deed) (m : Alone) : Type 0 where
+  pub record CallOwes (failed : Bool) (c : Call) (r : Reply) (acts : List Act) (ds : List Deed) (m : Account) : Type 0 where
     pub plain : IsCounted c r
-    pub greets : (e : Entry) → CallsOn (alone a) a.ids.epoch number e (a.sessions client) → KeepsSessions (alone a) e (event.Call client a.ids.epoch number c)
+    pub greets : (e : Entry) → CallsOn (state_of a) a.ids.epoch number e (a.sessions client) → KeepsSessions (state_of a) e (event.Call client a.ids.epoch number c)
     pub up : list_any is_stop acts ≡ false
     pub running : a.is_down ≡ false
-    pub brought : call_deeds (alone a) client c r ++ flat_map (act_deeds (alone a) (event.Call client a.ids.epoch number c)) acts ++ done_of (alone a) r (answered (alone a) client c) ≡ ds
-    pub new : is_new (state_after state_deed (alone a) ds) client a.ids.epoch number ≡ true
-    pub there : (state_after state_deed (alone a) ds).desk.sessions client ≡ Some w
-    pub left : after_call (state_after state_deed (alone a) ds) c r ≡ alone m
+    pub brought : call_deeds (state_of a) client c r ++ flat_map (act_deeds (state_of a) (event.Call client a.ids.epoch number c)) acts ++ done_of (state_of a) r (answered (state_of a) client c) ≡ ds
+    pub new : is_new (state_after state_deed (state_of a) ds) client a.ids.epoch number ≡ true
+    pub there : (state_after state_deed (state_of a) ds).desk.sessions client ≡ Some w
+    pub left : after_call (state_after state_deed (state_of a) ds) c r ≡ state_of m
     pub drawn : flat_map drawn_by acts ≡ begun_in (Some r)
-    pub deeds : Along state_deed (IsLawfulDeed (event.Call client a.ids.epoch number c)) (alone a) ds
-    pub released : flat_map released_by acts ≡ flat_map (ended_by (alone a)) ds
+    pub deeds : Along state_deed (IsLawfulDeed (event.Call client a.ids.epoch number c)) (state_of a) ds
+    pub released : flat_map released_by acts ≡ flat_map (ended_by (state_of a)) ds
     pub granted : flat_map granted_by acts ≡ flat_map grants_of ds
-    pub said : AllByRecursion (SaysRight (event.Call client a.ids.epoch number c) (alone m)) acts
-    pub tells : TellsIn (alone m) c r
+    pub said : AllByRecursion (SaysRight (event.Call client a.ids.epoch number c) (state_of m)) acts
+    pub tells : TellsIn (state_of m) c r
     pub regained : list_any regained_by acts ≡ false
     pub quiet : IsQuiet m
-    pub answer : IsAnswer failed (alone a) client c r
-    pub mail : IsMail (on_call (alone a) client c r) acts
-    pub turns : GivesOn (alone a) (call_entry c r acts)
-    pub grants : GrantsFor failed (alone a) client c r (flat_map granted_by acts) (file_trans c)
+    pub answer : IsAnswer failed (state_of a) client c r
+    pub mail : IsMail (on_call (state_of a) client c r) acts
+    pub turns : GivesOn (state_of a) (call_entry c r acts)
+    pub grants : GrantsFor failed (state_of a) client c r (flat_map granted_by acts) (file_trans c)
 
   -- the session goes on
-  pub calls_on : (c : Call) (r : Reply) (acts : List Act) → a.sessions client ≡ Some w → number ≡ w.last + 1 → CallsOn (alone a) a.ids.epoch number (call_entry c r acts) (a.sessions client)
-  calls_on c r acts there turn = subst (CallsOn (alone a) a.ids.epoch number (call_entry c r acts)) (sym there)
-      (subst (λ (b : Bool). Where (not b) (Repeats (stale (alone a)) (call_entry c r acts)) (Where (number == w.last) (Repeats (Some w.reply) (call_entry c r acts)) (Where (number == w.last + 1) (IsSome (Some r)) (Repeats None (call_entry c r acts)))))
+  pub calls_on : (c : Call) (r : Reply) (acts : List Act) → a.sessions client ≡ Some w → number ≡ w.last + 1 → CallsOn (state_of a) a.ids.epoch number (call_entry c r acts) (a.sessions client)
+  calls_on c r acts there turn = subst (CallsOn (state_of a) a.ids.epoch number (call_entry c r acts)) (sym there)
+      (subst (λ (b : Bool). Where (not b) (Repeats (stale (state_of a)) (call_entry c r acts)) (Where (number == w.last) (Repeats (Some w.reply) (call_entry c r acts)) (Where (number == w.last + 1) (IsSome (Some r)) (Repeats None (call_entry c r acts)))))
       (sym (eq-eqb a.ids.epoch a.ids.epoch refl))
       (subst (λ (b : Bool). Where b (Repeats (Some w.reply) (call_entry c r acts)) (Where (number == w.last + 1) (IsSome (Some r)) (Repeats None (call_entry c r acts)))) (sym (ne_eqb number w.last (λ same. let wrong : w.last ≡ w.last + 1 = sym same ∙ turn in absurd (omega (arith, wrong)))))
       (subst (λ (b : Bool). Where b (IsSome (Some r)) (Repeats None (call_entry c r acts))) (sym (eq-eqb number (w.last + 1) turn)) refl)))
 
-  pub call_leads : (failed : Bool) (c : Call) (r : Reply) (acts : List Act) (ds : List Deed) (m : Alone) → a.sessions client ≡ Some w → number ≡ w.last + 1 → CallOwes failed c r acts ds m → Leads failed a (call_entry c r acts) m
+  pub call_leads : (failed : Bool) (c : Call) (r : Reply) (acts : List Act) (ds : List Deed) (m : Account) → a.sessions client ≡ Some w → number ≡ w.last + 1 → CallOwes failed c r acts ds m → Leads failed a (call_entry c r acts) m
   call_leads failed c r acts ds m there turn o =
-      let s : State = alone a in
+      let s : State = state_of a in
       let e : Entry = call_entry c r acts in
       let ev : Event = event.Call client a.ids.epoch number c in
       let new : is_new s client a.ids.epoch number ≡ true = new_call there turn in
       let done : tried s e ≡ ds = call_tried c r acts there turn ∙ o.brought in
-      let leaves : next s e ≡ alone m = call_next c r acts ds o.plain o.up done o.new o.there ∙ o.left in
+      let leaves : next s e ≡ state_of m = call_next c r acts ds o.plain o.up done o.new o.there ∙ o.left in
       let after : Where false (IsStopped acts × TellsStop ev (Some r)) (Unit {0}) = tt in
       record {
         leaves = leaves;
@@ -207,7 +207,7 @@ module _ (a : Alone) (client number : ℕ) (w : Session) where
           sent = o.mail.last;
           said = subst (λ (x : State). AllByRecursion (SaysRight ev x) acts) (sym leaves) o.said;
           told = subst (λ (x : State). Where (is_new s client a.ids.epoch number) (TellsIn x c r) (Unit {0})) (sym leaves)
-              (subst (λ (b : Bool). Where b (TellsIn (alone m) c r) (Unit {0})) (sym new) o.tells);
+              (subst (λ (b : Bool). Where b (TellsIn (state_of m) c r) (Unit {0})) (sym new) o.tells);
           restart = (o.regained, o.running);
           stopped = subst (λ (b : Bool). Where b (IsStopped acts × TellsStop ev (Some r)) (Unit {0})) (sym o.up) tt;
         };

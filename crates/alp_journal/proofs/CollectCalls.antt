@@ -1,4 +1,4 @@
--- calls of a server that runs alone that are collected
+-- calls that are collected
 use Rattle.std.specs.Prelude.{cond, Bool, true, false, not, ◌&&◌, ◌||◌, ◌==◌, find, is_some, Option, None, Some}
 use Rattle.std.specs.List.{AllByRecursion}
 use Rattle.std.proofs.lemmas.Bool.{and_parts, eqb-true, not-true}
@@ -30,26 +30,26 @@ use Rattle.alp_journal.specs.Desk.{Desk, Session, Waiting, file_trans, part_tran
 use Rattle.alp_journal.specs.State.{State, state_deed, is_whose}
 use Rattle.alp_journal.specs.Moves.{call_of, next_file, is_of_no_file, done_by, done_of}
 use Rattle.alp_journal.specs.Answers.{OrFault, IsThreads, IsFileCollected, IsFileCollectedOf, IsCollected}
-use Rattle.alp_journal.specs.Alone.{Alone, alone, IsJoined, Stands, IsSettled, IsQuiet, IsPartOf, IsOfPart, is_on_trans, Leads}
+use Rattle.alp_journal.specs.Account.{Account, state_of, IsJoined, Stands, IsSettled, IsQuiet, IsPartOf, IsOfPart, is_on_trans, Leads}
 use Rattle.alp_journal.proofs.IdLemmas.{same_trans-true, all-filter}
 use Rattle.alp_journal.proofs.MadeIds.{all-map}
 use Rattle.alp_journal.proofs.WaitLemmas.{all-both, passing, all-stay, found-is, none-found, file_part, on-is, IsOnly, each-only}
 use Rattle.alp_journal.proofs.StandLemmas.{running_of, join_part_is, pair_of, own_pair, own_here, whose, whose_own, far_of_live, not_both_servers}
 use Rattle.alp_journal.proofs.QuietLemmas.{KeepsJoins, none_tried, quiet_without}
 use Rattle.alp_journal.proofs.GivenLemmas.{IsOpenFor, IsOpenCall, open_calls}
-use Rattle.alp_journal.proofs.AloneLemmas.{no_mail, call_entry, new_call, call_leads}
-use Rattle.alp_journal.proofs.AloneEntries.{counted_as, counted_quiet, IsFileCall, file_call}
-use Rattle.alp_journal.proofs.AloneCalls.{IsOwnReply, own_reply, with_call, call_quiet, performs_lawful}
+use Rattle.alp_journal.proofs.CallLemmas.{no_mail, call_entry, new_call, call_leads}
+use Rattle.alp_journal.proofs.RefusedCalls.{counted_as, counted_quiet, IsFileCall, file_call}
+use Rattle.alp_journal.proofs.FileCalls.{IsOwnReply, own_reply, with_call, call_quiet, performs_lawful}
 
 -- a live part's client has its join, where it has one
-pub its_join : (a : Alone) (q : Stands a) (t : TransId) (l : Life) → a.holder.lives t ≡ Some l → (j : JoinNo) → l.join ≡ Some j → is_whose l.client t (live_in (a.phases j)) ≡ true
+pub its_join : (a : Account) (q : Stands a) (t : TransId) (l : Life) → a.holder.lives t ≡ Some l → (j : JoinNo) → l.join ≡ Some j → is_whose l.client t (live_in (a.phases j)) ≡ true
 its_join a q t l live j of = elim (join_part_is t a.phases l (a.fates t) j of (pair_of a q t l live)).0 [
   | inl x ↦ ap (λ (y : Phase). is_whose l.client t (live_in y)) x.0 ∙ whose_own l.client t
   | inr x ↦ ap (λ (y : Phase). is_whose l.client t (live_in y)) x.1 ∙ whose_own l.client t
 ]
 
 -- its client is not to be told of the end of a live part
-pub none_dead : (a : Alone) (t : TransId) (l : Life) → IsSettled a → a.holder.lives t ≡ Some l → (client : ℕ) → l.client ≡ client → a.dead client t ≡ None
+pub none_dead : (a : Account) (t : TransId) (l : Life) → IsSettled a → a.holder.lives t ≡ Some l → (client : ℕ) → l.client ≡ client → a.dead client t ≡ None
 none_dead a t l q live client own = go (a.dead client t) refl
   where
     over : (c : Cause) → a.dead client t ≡ Some c → (x : Option JoinNo) → l.join ≡ x → ⊥
@@ -66,7 +66,7 @@ none_dead a t l q live client own = go (a.dead client t) refl
     go (Some c) e = absurd (over c e l.join refl)
 
 -- nor does it ask to be let in
-pub not_joining : (a : Alone) (q : Stands a) (t : TransId) (l : Life) → a.holder.lives t ≡ Some l → (j : JoinNo) (client : ℕ) (who : List ℕ) → l.client ≡ client → a.phases j ≡ Joining t client who → ⊥
+pub not_joining : (a : Account) (q : Stands a) (t : TransId) (l : Life) → a.holder.lives t ≡ Some l → (j : JoinNo) (client : ℕ) (who : List ℕ) → l.client ≡ client → a.phases j ≡ Joining t client who → ⊥
 not_joining a q t l live j client who own is = go l.join refl
   where
     asks : is_whose client t (live_in (a.phases j)) ≡ true
@@ -84,7 +84,7 @@ not_joining a q t l live j client who own is = go l.join refl
         let mine : is_whose client t (live_in (a.phases k)) ≡ true = ap (λ (m : ℕ). is_whose m t (live_in (a.phases k))) (sym own) ∙ its_join a q t l live k of in
         none k (join_part_is t a.phases l (a.fates t) k of (pair_of a q t l live)).0 (q.single j k (t, client) (whose client t (live_in (a.phases j)) asks) (whose client t (live_in (a.phases k)) mine))
 
-module _ (a : Alone) (client number : ℕ) (w : Session) (n : ℕ) where
+module _ (a : Account) (client number : ℕ) (w : Session) (n : ℕ) where
   abbrev collect : Call
   collect = call.Collect n
 
@@ -96,14 +96,14 @@ module _ (a : Alone) (client number : ℕ) (w : Session) (n : ℕ) where
   uncollected = without is_it a.waits
 
   abbrev with_reply : Reply → Desk
-  with_reply r = with_session (alone a).desk client (Some (record w { last = number; reply = r }))
+  with_reply r = with_session (state_of a).desk client (Some (record w { last = number; reply = r }))
 
   -- ---- no call of that number waits
 
-  pub collect_none_leads : IsQuiet a → a.is_down ≡ false → a.sessions client ≡ Some w → number ≡ w.last + 1 → waiting_at (alone a).desk client n ≡ None
+  pub collect_none_leads : IsQuiet a → a.is_down ≡ false → a.sessions client ≡ Some w → number ≡ w.last + 1 → waiting_at (state_of a).desk client n ≡ None
       → Leads false a (call_entry a client number w collect (reply.Refused refusal.UnknownTrans) []) (counted_as a client number w (reply.Refused refusal.UnknownTrans))
   collect_none_leads q up there turn none =
-      let s : State = alone a in
+      let s : State = state_of a in
       let r : Reply = reply.Refused refusal.UnknownTrans in
       call_leads a client number w false collect r [] [] (counted_as a client number w r) there turn (record {
         plain = λ m. refl;
@@ -132,37 +132,37 @@ module _ (a : Alone) (client number : ℕ) (w : Session) (n : ℕ) where
   -- ---- one does
 
   module _ (v : Waiting) (t : TransId) where
-    its : waiting_at (alone a).desk client n ≡ Some v → v.client ≡ client
+    its : waiting_at (state_of a).desk client n ≡ Some v → v.client ≡ client
     its found = let is = found-is (λ u. Unit {0}) is_it a.waits v found (each_unit a.waits) in eqb-true v.client client (and_parts (v.client == client) (v.number == n) is.0).0
       where
         each_unit : (ws : List Waiting) → AllByRecursion (λ u. Unit {0}) ws
         each_unit [] = tt
         each_unit (u ∷ us) = (tt, each_unit us)
 
-    part_of : IsSettled a → waiting_at (alone a).desk client n ≡ Some v → file_trans v.call ≡ Some t → IsPartOf client (a.holder.lives t) (a.dead client t)
+    part_of : IsSettled a → waiting_at (state_of a).desk client n ≡ Some v → file_trans v.call ≡ Some t → IsPartOf client (a.holder.lives t) (a.dead client t)
     part_of q found named =
         let is = found-is (λ (u : Waiting). IsOfPart a.holder.lives a.dead u (file_trans u.call)) is_it a.waits v found q.tells.parts in
         subst (λ (m : ℕ). IsPartOf m (a.holder.lives t) (a.dead m t)) (its found) (subst (IsOfPart a.holder.lives a.dead v) named is.1)
 
     -- whether its part is dead
-    dead_call : (r : Reply) → waiting_at (alone a).desk client n ≡ Some v → file_trans v.call ≡ Some t → is_dead_call (with_reply r) client (waiting_at (alone a).desk client n) ≡ is_some (a.dead client t)
+    dead_call : (r : Reply) → waiting_at (state_of a).desk client n ≡ Some v → file_trans v.call ≡ Some t → is_dead_call (with_reply r) client (waiting_at (state_of a).desk client n) ≡ is_some (a.dead client t)
     dead_call r found named = ap (is_dead_call (with_reply r) client) found ∙ ap (is_on (is_dead (with_reply r) client)) (file_part v.call t named)
 
-    answer_so : (failed : Bool) (r : Reply) → waiting_at (alone a).desk client n ≡ Some v → file_trans v.call ≡ Some t → IsFileCollected failed (alone a) t v r (a.dead client t) (a.holder.lives t)
-        → IsCollected failed (alone a) client r (waiting_at (alone a).desk client n)
-    answer_so failed r found named is = subst (IsCollected failed (alone a) client r) (sym found)
-        (IsFileCall.collects (file_call a client number w t v.call r named) failed v r (subst (IsFileCollectedOf failed (alone a) client v r) (sym named) is))
+    answer_so : (failed : Bool) (r : Reply) → waiting_at (state_of a).desk client n ≡ Some v → file_trans v.call ≡ Some t → IsFileCollected failed (state_of a) t v r (a.dead client t) (a.holder.lives t)
+        → IsCollected failed (state_of a) client r (waiting_at (state_of a).desk client n)
+    answer_so failed r found named is = subst (IsCollected failed (state_of a) client r) (sym found)
+        (IsFileCall.collects (file_call a client number w t v.call r named) failed v r (subst (IsFileCollectedOf failed (state_of a) client v r) (sym named) is))
 
     -- what the collect brings
-    brings : (r : Reply) (ds : List Deed) → waiting_at (alone a).desk client n ≡ Some v → file_trans v.call ≡ Some t → done_by (alone a) v.call r (Some t) ≡ ds → done_of (alone a) r (call_of (waiting_at (alone a).desk client n)) ≡ ds
-    brings r ds found named is = ap (λ (x : Option Waiting). done_of (alone a) r (call_of x)) found ∙ ap (done_by (alone a) v.call r) named ∙ is
+    brings : (r : Reply) (ds : List Deed) → waiting_at (state_of a).desk client n ≡ Some v → file_trans v.call ≡ Some t → done_by (state_of a) v.call r (Some t) ≡ ds → done_of (state_of a) r (call_of (waiting_at (state_of a).desk client n)) ≡ ds
+    brings r ds found named is = ap (λ (x : Option Waiting). done_of (state_of a) r (call_of x)) found ∙ ap (done_by (state_of a) v.call r) named ∙ is
 
     -- ---- its locks are not granted
 
-    pub collect_waits_leads : IsQuiet a → a.is_down ≡ false → a.sessions client ≡ Some w → number ≡ w.last + 1 → waiting_at (alone a).desk client n ≡ Some v → file_trans v.call ≡ Some t → v.is_granted ≡ false → a.dead client t ≡ None
+    pub collect_waits_leads : IsQuiet a → a.is_down ≡ false → a.sessions client ≡ Some w → number ≡ w.last + 1 → waiting_at (state_of a).desk client n ≡ Some v → file_trans v.call ≡ Some t → v.is_granted ≡ false → a.dead client t ≡ None
         → Leads false a (call_entry a client number w collect (reply.Refused refusal.NotYet) []) (counted_as a client number w (reply.Refused refusal.NotYet))
     collect_waits_leads q up there turn found named wait alive =
-        let s : State = alone a in
+        let s : State = state_of a in
         let r : Reply = reply.Refused refusal.NotYet in
         call_leads a client number w false collect r [] [] (counted_as a client number w r) there turn (record {
           plain = λ m. refl;
@@ -188,17 +188,17 @@ module _ (a : Alone) (client number : ℕ) (w : Session) (n : ℕ) where
           grants = tt;
         })
       where
-        live : (x : Option Life) → IsPartOf client x None → IsFileCollected false (alone a) t v (reply.Refused refusal.NotYet) None x
+        live : (x : Option Life) → IsPartOf client x None → IsFileCollected false (state_of a) t v (reply.Refused refusal.NotYet) None x
         live None p = let wrong : false ≡ true = p in cc
         live (Some l) p =
-            subst (λ (b : Bool). Where b (OrFault false (reply.Refused refusal.NotYet) (IsThreads (alone a) t l v.call (reply.Refused refusal.NotYet))) (reply.Refused refusal.NotYet ≡ reply.Refused refusal.NotYet)) (sym wait) refl
+            subst (λ (b : Bool). Where b (OrFault false (reply.Refused refusal.NotYet) (IsThreads (state_of a) t l v.call (reply.Refused refusal.NotYet))) (reply.Refused refusal.NotYet ≡ reply.Refused refusal.NotYet)) (sym wait) refl
 
     -- ---- its part is dead
 
-    pub collect_dead_leads : (c : Cause) → IsQuiet a → a.is_down ≡ false → a.sessions client ≡ Some w → number ≡ w.last + 1 → waiting_at (alone a).desk client n ≡ Some v → file_trans v.call ≡ Some t → a.dead client t ≡ Some c
+    pub collect_dead_leads : (c : Cause) → IsQuiet a → a.is_down ≡ false → a.sessions client ≡ Some w → number ≡ w.last + 1 → waiting_at (state_of a).desk client n ≡ Some v → file_trans v.call ≡ Some t → a.dead client t ≡ Some c
         → Leads false a (call_entry a client number w collect (reply.Refused (refusal.Aborted c)) []) (counted_as a client number w (reply.Refused (refusal.Aborted c)))
     collect_dead_leads c q up there turn found named dead =
-        let s : State = alone a in
+        let s : State = state_of a in
         let r : Reply = reply.Refused (refusal.Aborted c) in
         call_leads a client number w false collect r [] [] (counted_as a client number w r) there turn (record {
           plain = λ m. refl;
@@ -227,21 +227,21 @@ module _ (a : Alone) (client number : ℕ) (w : Session) (n : ℕ) where
     -- ---- its locks are granted
 
     module _ (l : Life) where
-      own_client : IsSettled a → a.holder.lives t ≡ Some l → waiting_at (alone a).desk client n ≡ Some v → file_trans v.call ≡ Some t → l.client ≡ client
+      own_client : IsSettled a → a.holder.lives t ≡ Some l → waiting_at (state_of a).desk client n ≡ Some v → file_trans v.call ≡ Some t → l.client ≡ client
       own_client q live found named = sym (subst (λ (x : Option Life). IsPartOf client x (a.dead client t)) live (part_of q found named))
 
-      is_alive : (r : Reply) → IsSettled a → a.holder.lives t ≡ Some l → waiting_at (alone a).desk client n ≡ Some v → file_trans v.call ≡ Some t → is_dead_call (with_reply r) client (waiting_at (alone a).desk client n) ≡ false
+      is_alive : (r : Reply) → IsSettled a → a.holder.lives t ≡ Some l → waiting_at (state_of a).desk client n ≡ Some v → file_trans v.call ≡ Some t → is_dead_call (with_reply r) client (waiting_at (state_of a).desk client n) ≡ false
       is_alive r q live found named = dead_call r found named ∙ ap (λ (x : Option Cause). is_some x) (none_dead a t l q live client (own_client q live found named))
 
-      granted_answer : (failed : Bool) (r : Reply) → IsSettled a → a.holder.lives t ≡ Some l → waiting_at (alone a).desk client n ≡ Some v → file_trans v.call ≡ Some t → v.is_granted ≡ true
-          → OrFault failed r (IsThreads (alone a) t l v.call r) → IsCollected failed (alone a) client r (waiting_at (alone a).desk client n)
+      granted_answer : (failed : Bool) (r : Reply) → IsSettled a → a.holder.lives t ≡ Some l → waiting_at (state_of a).desk client n ≡ Some v → file_trans v.call ≡ Some t → v.is_granted ≡ true
+          → OrFault failed r (IsThreads (state_of a) t l v.call r) → IsCollected failed (state_of a) client r (waiting_at (state_of a).desk client n)
       granted_answer failed r q live found named granted why = answer_so failed r found named
-          (subst (λ (x : Option Cause). IsFileCollected failed (alone a) t v r x (a.holder.lives t)) (sym (none_dead a t l q live client (own_client q live found named)))
-          (subst (IsFileCollected failed (alone a) t v r None) (sym live)
-          (subst (λ (b : Bool). Where b (OrFault failed r (IsThreads (alone a) t l v.call r)) (r ≡ reply.Refused refusal.NotYet)) (sym granted) why)))
+          (subst (λ (x : Option Cause). IsFileCollected failed (state_of a) t v r x (a.holder.lives t)) (sym (none_dead a t l q live client (own_client q live found named)))
+          (subst (IsFileCollected failed (state_of a) t v r None) (sym live)
+          (subst (λ (b : Bool). Where b (OrFault failed r (IsThreads (state_of a) t l v.call r)) (r ≡ reply.Refused refusal.NotYet)) (sym granted) why)))
 
       -- no Join that is waited for goes as it is collected
-      keeps_others : IsSettled a → a.holder.lives t ≡ Some l → waiting_at (alone a).desk client n ≡ Some v → file_trans v.call ≡ Some t → KeepsJoins a.phases is_it a.waits
+      keeps_others : IsSettled a → a.holder.lives t ≡ Some l → waiting_at (state_of a).desk client n ≡ Some v → file_trans v.call ≡ Some t → KeepsJoins a.phases is_it a.waits
       keeps_others q live found named j u owner who is =
           all-map (IsOnly a.waits) (λ x. is_of_part owner u x ≡ true → is_it x ≡ false) (λ x only of. go x only of (is_it x) refl) a.waits (each-only a.waits q.tells.apart)
         where
@@ -256,11 +256,11 @@ module _ (a : Alone) (client number : ℕ) (w : Session) (n : ℕ) where
               (is ∙ (λ i. Joining (sym trans i) ((sym (eqb-true x.client owner its.0) ∙ eqb-true x.client client numbers.0) i) who)))
 
       -- the counts refuse it, or a read failed
-      pub collect_refused_leads : (failed : Bool) (f : Refusal) → IsQuiet a → a.is_down ≡ false → a.sessions client ≡ Some w → number ≡ w.last + 1 → waiting_at (alone a).desk client n ≡ Some v → file_trans v.call ≡ Some t
-          → v.is_granted ≡ true → a.holder.lives t ≡ Some l → is_not_yet (reply.Refused f) ≡ false → done_by (alone a) v.call (reply.Refused f) (Some t) ≡ [] → OrFault failed (reply.Refused f) (IsThreads (alone a) t l v.call (reply.Refused f))
+      pub collect_refused_leads : (failed : Bool) (f : Refusal) → IsQuiet a → a.is_down ≡ false → a.sessions client ≡ Some w → number ≡ w.last + 1 → waiting_at (state_of a).desk client n ≡ Some v → file_trans v.call ≡ Some t
+          → v.is_granted ≡ true → a.holder.lives t ≡ Some l → is_not_yet (reply.Refused f) ≡ false → done_by (state_of a) v.call (reply.Refused f) (Some t) ≡ [] → OrFault failed (reply.Refused f) (IsThreads (state_of a) t l v.call (reply.Refused f))
           → Leads failed a (call_entry a client number w collect (reply.Refused f) []) (record (counted_as a client number w (reply.Refused f)) { waits = uncollected })
       collect_refused_leads failed f q up there turn found named granted live now none why =
-          let s : State = alone a in
+          let s : State = state_of a in
           let r : Reply = reply.Refused f in
           call_leads a client number w failed collect r [] [] (record (counted_as a client number w r) { waits = uncollected }) there turn (record {
             plain = λ m. refl;
@@ -295,22 +295,22 @@ module _ (a : Alone) (client number : ℕ) (w : Session) (n : ℕ) where
           pub up : a.is_down ≡ false
           pub there : a.sessions client ≡ Some w
           pub turn : number ≡ w.last + 1
-          pub found : waiting_at (alone a).desk client n ≡ Some v
+          pub found : waiting_at (state_of a).desk client n ≡ Some v
           pub granted : v.is_granted ≡ true
           pub live : a.holder.lives t ≡ Some l
           pub named : file_trans v.call ≡ Some t
           pub formed : IsFormed v.call
           pub kind : IsFileReply r
           pub passes : is_passing r ≡ false
-          pub given : is_of_no_file (alone a) v.call r ≡ false
+          pub given : is_of_no_file (state_of a) v.call r ≡ false
           pub right : (answer_in a.holder l (record { call = v.call; reply = r })).reply ≡ Some r
-          pub next_id : (f : FileId) → id_in r ≡ Some f → f ≡ next_file (alone a)
+          pub next_id : (f : FileId) → id_in r ≡ Some f → f ≡ next_file (state_of a)
           pub locked : HoldsEach l.held (needs_of (view_in a.holder l) l.own v.call)
           pub agree : (u : TransId) (k : Life) → a.holder.lives u ≡ Some k → same_trans u t ≡ false → DoAgree (with_made l.held (id_in r)) k.held
-          pub why : OrFault failed r (IsThreads (alone a) t l v.call r)
+          pub why : OrFault failed r (IsThreads (state_of a) t l v.call r)
 
         -- no other call of its transaction waits
-        only_it : IsSettled a → waiting_at (alone a).desk client n ≡ Some v → file_trans v.call ≡ Some t → AllByRecursion (λ u. is_on_trans t u ≡ false) uncollected
+        only_it : IsSettled a → waiting_at (state_of a).desk client n ≡ Some v → file_trans v.call ≡ Some t → AllByRecursion (λ u. is_on_trans t u ≡ false) uncollected
         only_it q found named =
             all-both (λ u. not (is_it u) ≡ true) (IsOnly a.waits) (λ u. is_on_trans t u ≡ false) (λ u o only. go u (not-true (is_it u) o) only (is_on_trans t u) refl) uncollected
             (passing (λ u. not (is_it u)) a.waits) (all-filter (IsOnly a.waits) (λ u. not (is_it u)) a.waits all)
@@ -326,12 +326,12 @@ module _ (a : Alone) (client number : ℕ) (w : Session) (n : ℕ) where
                 let wrong : false ≡ true = sym o ∙ ap is_it same ∙ mine.0 in
                 cc
 
-        abbrev pub with_collected : Alone
+        abbrev pub with_collected : Account
         with_collected = record (with_call a client number w t l v.call r l.held (a.locked t)) { waits = uncollected }
 
         pub collected_leads : (failed : Bool) → CollectOwes failed → Leads failed a (call_entry a client number w collect r []) with_collected
         collected_leads failed o =
-            let s : State = alone a in
+            let s : State = state_of a in
             let deed : Deed = Performs t (record { call = v.call; reply = r }) in
             let after : State = state_deed s deed in
             let reply_is : IsOwnReply r = own_reply r o.kind in
@@ -349,7 +349,7 @@ module _ (a : Alone) (client number : ℕ) (w : Session) (n : ℕ) where
               there = o.there;
               left = ap (λ (b : Bool). record after { desk = cond {A = Desk} b (with_reply r) (collected (with_reply r) client n); is_down = false; pending = [] }) reply_is.now
                   ∙ ap (λ (b : Bool). record after { desk = cond {A = Desk} b (with_reply r) (record (with_reply r) { waits = uncollected }); is_down = false; pending = [] }) (is_alive r o.quiet.settled o.live o.found o.named)
-                  ∙ (λ i. alone (record with_collected { holder = performs a.holder t (record { call = v.call; reply = r }) (o.live i); begun = append-nil a.begun i; joined = append-nil a.joined i }));
+                  ∙ (λ i. state_of (record with_collected { holder = performs a.holder t (record { call = v.call; reply = r }) (o.live i); begun = append-nil a.begun i; joined = append-nil a.joined i }));
               drawn = reply_is.none;
               deeds = (
                 performs_lawful a client number w t l v.call r (event.Call client a.ids.epoch number collect) (ap (λ (m : ℕ). Some m) own) opens.0 (opens.1 l o.live) o.live o.formed o.right o.next_id o.locked then_quiet.settled.stands.agree,
@@ -358,7 +358,7 @@ module _ (a : Alone) (client number : ℕ) (w : Session) (n : ℕ) where
               released = refl;
               granted = refl;
               said = tt;
-              tells = reply_is.tells (alone with_collected) collect;
+              tells = reply_is.tells (state_of with_collected) collect;
               regained = refl;
               quiet = then_quiet;
               answer = granted_answer failed r o.quiet.settled o.live o.found o.named o.granted o.why;

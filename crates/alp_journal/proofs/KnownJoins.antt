@@ -20,20 +20,20 @@ use Rattle.alp_journal.specs.Moves.{joins_here, next_join, principal}
 use Rattle.alp_journal.specs.Laws.{TellsIn, begun_in}
 use Rattle.alp_journal.specs.Messages.{asks_to_join}
 use Rattle.alp_journal.specs.Answers.{Part, NoPart, AtJoining, AtWork, AtFinish, AtReady, AtEnd, own_part, ended_part, join_part, join_reply, is_no_part, part_at, too_many, First, IsJoinAnswer}
-use Rattle.alp_journal.specs.Alone.{Alone, alone, is_other, IsPartAs, IsPaired, Stands, IsSettled, IsQuiet, Leads}
+use Rattle.alp_journal.specs.Account.{Account, state_of, is_other, IsPartAs, IsPaired, Stands, IsSettled, IsQuiet, Leads}
 use Rattle.alp_journal.proofs.IdLemmas.{same_trans-true}
 use Rattle.alp_journal.proofs.WaitLemmas.{find-kept, all-of}
 use Rattle.alp_journal.proofs.StandLemmas.{running_of, join_none}
 use Rattle.alp_journal.proofs.PartLemmas.{own_part_at, far_part_at, own_at_work, part_has, part_not_dead, no_near_join}
-use Rattle.alp_journal.proofs.AloneLemmas.{no_mail, call_entry, new_call, call_leads}
-use Rattle.alp_journal.proofs.AloneEntries.{counted_as, counted_quiet}
-use Rattle.alp_journal.proofs.AloneBegins.{is_buried, with_buried_as, buried_quiet}
+use Rattle.alp_journal.proofs.CallLemmas.{no_mail, call_entry, new_call, call_leads}
+use Rattle.alp_journal.proofs.RefusedCalls.{counted_as, counted_quiet}
+use Rattle.alp_journal.proofs.BeginCalls.{is_buried, with_buried_as, buried_quiet}
 
 none_ended : (d : Option Cause) → is_no_part (ended_part d) ≡ true
 none_ended None = refl
 none_ended (Some c) = refl
 
-module _ (a : Alone) (client : ℕ) (t : TransId) where
+module _ (a : Account) (client : ℕ) (t : TransId) where
   -- the client has no live part of it here
   abbrev pub HasNoLife : Type 0
   HasNoLife = (l : Life) → a.holder.lives t ≡ Some l → l.client ≡ client → ⊥
@@ -68,15 +68,15 @@ module _ (a : Alone) (client : ℕ) (t : TransId) where
       by (Forgotten stamp js) e = none_ended (a.dead client t)
       by (Ended c) e = none_ended (a.dead client t)
 
-  pub no_part : Stands a → HasNoLife → is_other a.servers a.holder.server t.server ≡ false → is_no_part (part_at (alone a) client t) ≡ true
+  pub no_part : Stands a → HasNoLife → is_other a.servers a.holder.server t.server ≡ false → is_no_part (part_at (state_of a) client t) ≡ true
   no_part q none near = go (t.server == a.holder.server) refl
     where
-      go : (b : Bool) → (t.server == a.holder.server) ≡ b → is_no_part (part_at (alone a) client t) ≡ true
+      go : (b : Bool) → (t.server == a.holder.server) ≡ b → is_no_part (part_at (state_of a) client t) ≡ true
       go true e = ap is_no_part (own_part_at a t client (eqb-true t.server a.holder.server e)) ∙ no_own (a.fates t) refl q none
-      go false e = ap is_no_part (far_part_at a t client e ∙ ap (join_part (alone a) (a.dead client t)) (join_none a q client t (no_near_join a q t near client))) ∙ none_ended (a.dead client t)
+      go false e = ap is_no_part (far_part_at a t client e ∙ ap (join_part (state_of a) (a.dead client t)) (join_none a q client t (no_near_join a q t near client))) ∙ none_ended (a.dead client t)
 
   -- where there is one server, no other is of the run
-  pub no_other : (n : ℕ) → a.servers ≡ 1 → a.holder.server ≡ 1 → is_other_server (alone a) n ≡ false
+  pub no_other : (n : ℕ) → a.servers ≡ 1 → a.holder.server ≡ 1 → is_other_server (state_of a) n ≡ false
   no_other n few first = go (nat_lt 0 n) (nat_lt n (a.servers + 1)) refl refl
     where
       go : (b d : Bool) → nat_lt 0 n ≡ b → nat_lt n (a.servers + 1) ≡ d → (b && d && not (n == a.holder.server)) ≡ false
@@ -102,13 +102,13 @@ join_reply_is b NoPart = record { known = refl; none = refl; tells = λ m t. tt 
 join_reply_is b AtJoining = record { known = refl; none = refl; tells = λ m t. tt }
 join_reply_is b (AtEnd c) = record { known = refl; none = refl; tells = λ m t. tt }
 
-module _ (a : Alone) (client number : ℕ) (w : Session) (t : TransId) where
+module _ (a : Account) (client number : ℕ) (w : Session) (t : TransId) where
   -- ---- the client has no part of it here, and gets none
 
-  pub join_unknown_leads : IsQuiet a → a.is_down ≡ false → a.sessions client ≡ Some w → number ≡ w.last + 1 → is_other_server (alone a) t.server ≡ false → HasNoLife a client t
+  pub join_unknown_leads : IsQuiet a → a.is_down ≡ false → a.sessions client ≡ Some w → number ≡ w.last + 1 → is_other_server (state_of a) t.server ≡ false → HasNoLife a client t
       → Leads false a (call_entry a client number w (call.Join t) (reply.Refused refusal.UnknownTrans) []) (counted_as a client number w (reply.Refused refusal.UnknownTrans))
   join_unknown_leads q up there turn near none =
-      let s : State = alone a in
+      let s : State = state_of a in
       let r : Reply = reply.Refused refusal.UnknownTrans in
       let part : Part = part_at s client t in
       call_leads a client number w false (call.Join t) r [] [] (counted_as a client number w r) there turn (record {
@@ -144,7 +144,7 @@ module _ (a : Alone) (client number : ℕ) (w : Session) (t : TransId) where
     pub up : a.is_down ≡ false
     pub there : a.sessions client ≡ Some w
     pub turn : number ≡ w.last + 1
-    pub part : is_no_part (part_at (alone a) client t) ≡ false
+    pub part : is_no_part (part_at (state_of a) client t) ≡ false
 
   -- its waiting call is of no dead part
   stays : JoinOwes → (v : Waiting) → is_of_part client t v ≡ true → not (is_buried a client v) ≡ true
@@ -157,10 +157,10 @@ module _ (a : Alone) (client number : ℕ) (w : Session) (t : TransId) where
       alive (Some u) e = ap (λ (v : TransId). not (is_some (a.dead client v))) (same_trans-true u t e) ∙ ap not (part_not_dead a client t o.quiet.settled o.part)
 
   -- it is told how it stands with the part; where that is not yet, a call of the part waits
-  pub join_known_leads : JoinOwes → (r : Reply) → r ≡ join_reply (is_some (waiting_of (alone a).desk client t)) (part_at (alone a) client t) → (is_not_yet r ≡ true → IsSome (waiting_of (alone a).desk client t))
+  pub join_known_leads : JoinOwes → (r : Reply) → r ≡ join_reply (is_some (waiting_of (state_of a).desk client t)) (part_at (state_of a) client t) → (is_not_yet r ≡ true → IsSome (waiting_of (state_of a).desk client t))
       → Leads false a (call_entry a client number w (call.Join t) r []) (with_buried_as a client number w r)
   join_known_leads o r is waits =
-      let s : State = alone a in
+      let s : State = state_of a in
       let has : has_part s client t ≡ true = part_has a client t o.part in
       let none : joins_here s client t ≡ [] = ap (λ (b : Bool). cond {A = List Deed} b [] (Joins (next_join s) t client (principal s client) ∷ [])) has in
       let brings : (b : Bool) → cond {A = List Deed} b (joins_here s client t) [] ≡ [] = λ b. go_none b (joins_here s client t) none in
@@ -185,7 +185,7 @@ module _ (a : Alone) (client number : ℕ) (w : Session) (t : TransId) where
         released = refl;
         granted = refl;
         said = tt;
-        tells = of.tells (alone (with_buried_as a client number w r)) t;
+        tells = of.tells (state_of (with_buried_as a client number w r)) t;
         regained = refl;
         quiet = buried_quiet a client number w r o.quiet o.there o.turn;
         answer = subst (λ (b : Bool). Where (b && not (is_other_server s t.server)) (r ≡ reply.Refused refusal.UnknownTrans)
@@ -203,7 +203,7 @@ module _ (a : Alone) (client number : ℕ) (w : Session) (t : TransId) where
       some_waits d None h = let wrong : false ≡ true = h in cc
       some_waits d (Some v) h = refl
 
-      still : (r : Reply) → JoinOwes → (is_not_yet r ≡ true → IsSome (waiting_of (alone a).desk client t)) → (d : Desk) → d ≡ buried (with_session (alone a).desk client (Some (record w { last = number; reply = r }))) client
+      still : (r : Reply) → JoinOwes → (is_not_yet r ≡ true → IsSome (waiting_of (state_of a).desk client t)) → (d : Desk) → d ≡ buried (with_session (state_of a).desk client (Some (record w { last = number; reply = r }))) client
           → (b : Bool) → is_not_yet r ≡ b → begins_if b d client number (call.Join t) ≡ d
       still r o waits d same false e = refl
       still r o waits d same true e = some_waits d (waiting_of d client t) (subst (λ (x : Option Waiting). IsSome x)
@@ -211,17 +211,17 @@ module _ (a : Alone) (client number : ℕ) (w : Session) (t : TransId) where
 
   -- ---- the transaction runs here for the client
 
-  own_owes : IsQuiet a → a.is_down ≡ false → a.sessions client ≡ Some w → number ≡ w.last + 1 → part_at (alone a) client t ≡ AtWork → JoinOwes
+  own_owes : IsQuiet a → a.is_down ≡ false → a.sessions client ≡ Some w → number ≡ w.last + 1 → part_at (state_of a) client t ≡ AtWork → JoinOwes
   own_owes q up there turn works = record { quiet = q; up = up; there = there; turn = turn; part = ap is_no_part works }
 
   -- a call of the part waits, or is not collected
-  pub join_busy_leads : (v : Waiting) → IsQuiet a → a.is_down ≡ false → a.sessions client ≡ Some w → number ≡ w.last + 1 → part_at (alone a) client t ≡ AtWork → waiting_of (alone a).desk client t ≡ Some v
+  pub join_busy_leads : (v : Waiting) → IsQuiet a → a.is_down ≡ false → a.sessions client ≡ Some w → number ≡ w.last + 1 → part_at (state_of a) client t ≡ AtWork → waiting_of (state_of a).desk client t ≡ Some v
       → Leads false a (call_entry a client number w (call.Join t) (reply.Refused refusal.NotYet) []) (with_buried_as a client number w (reply.Refused refusal.NotYet))
   join_busy_leads v q up there turn works waits =
       join_known_leads (own_owes q up there turn works) (reply.Refused refusal.NotYet) (λ i. join_reply (is_some (sym waits i)) (sym works i)) (λ yet. subst (λ (x : Option Waiting). IsSome x) (sym waits) refl)
 
   -- none does
-  pub join_leads : IsQuiet a → a.is_down ≡ false → a.sessions client ≡ Some w → number ≡ w.last + 1 → part_at (alone a) client t ≡ AtWork → waiting_of (alone a).desk client t ≡ None
+  pub join_leads : IsQuiet a → a.is_down ≡ false → a.sessions client ≡ Some w → number ≡ w.last + 1 → part_at (state_of a) client t ≡ AtWork → waiting_of (state_of a).desk client t ≡ None
       → Leads false a (call_entry a client number w (call.Join t) reply.Joined []) (with_buried_as a client number w reply.Joined)
   join_leads q up there turn works idle =
       join_known_leads (own_owes q up there turn works) reply.Joined (λ i. join_reply (is_some (sym idle i)) (sym works i)) (λ yet. (let wrong : false ≡ true = yet in cc))

@@ -20,9 +20,9 @@ use Rattle.alp_journal.specs.Laws.{IsLawfulDeed, DoLivesAgree, ReleasesEnded, Wa
 use Rattle.alp_journal.specs.Messages.{Mail, on_tick, to_others, are_in_order, sent_by}
 use Rattle.alp_journal.specs.Halts.{HaltsRight}
 use Rattle.alp_journal.specs.Answered.{CountsVotes, ForgetsDone, is_release, at_release, in_turn, IsWalk}
-use Rattle.alp_journal.specs.Alone.{Alone, alone, IsQuiet, sent_acts, Leads}
+use Rattle.alp_journal.specs.Account.{Account, state_of, IsQuiet, sent_acts, Leads}
 use Rattle.alp_journal.proofs.QuietLemmas.{none_tried}
-use Rattle.alp_journal.proofs.AloneLemmas.{AreAddressed, IsMail, mail_behind, mails-sent, quiet_votes, quiet_forgets}
+use Rattle.alp_journal.proofs.CallLemmas.{AreAddressed, IsMail, mail_behind, mails-sent, quiet_votes, quiet_forgets}
 use Rattle.alp_journal.proofs.LetGoLemmas.{none-sent, no-mail-is}
 
 -- ---- the entries
@@ -31,9 +31,9 @@ use Rattle.alp_journal.proofs.LetGoLemmas.{none-sent, no-mail-is}
 abbrev pub bare_entry : Event → Entry
 bare_entry e = record { event = e; reply = None; acts = [] }
 
-module _ (a : Alone) where
-  as_before : IsQuiet a → a.is_down ≡ false → record (alone a) { is_down = false; pending = [] } ≡ alone a
-  as_before q up = λ i. alone (record a { is_down = sym up i; pending = sym (none_tried a q up) i })
+module _ (a : Account) where
+  as_before : IsQuiet a → a.is_down ≡ false → record (state_of a) { is_down = false; pending = [] } ≡ state_of a
+  as_before q up = λ i. state_of (record a { is_down = sym up i; pending = sym (none_tried a q up) i })
 
   -- of a tick that says these again
   abbrev pub tick_entry : List Mail → Entry
@@ -41,19 +41,19 @@ module _ (a : Alone) where
 
   -- messages that each say what is so, and go to the server that they are for
   abbrev pub AreSaid : List Mail → Type 0
-  AreSaid ms = AllByRecursion (λ (m : Mail). MaySay event.Tick (alone a) m.1) ms
+  AreSaid ms = AllByRecursion (λ (m : Mail). MaySay event.Tick (state_of a) m.1) ms
 
   none-by : {B : Type 0} (f : Act → List B) (ms : List Mail) → ((m : Mail) → f (act.Sent m.0 m.1) ≡ []) → flat_map f (sent_acts ms) ≡ []
   none-by f ms none = none-sent f [] ms none
 
-  say : (ms : List Mail) → AreSaid ms → AllByRecursion (SaysRight event.Tick (alone a)) (sent_acts ms)
+  say : (ms : List Mail) → AreSaid ms → AllByRecursion (SaysRight event.Tick (state_of a)) (sent_acts ms)
   say [] h = tt
   say (m ∷ ms) h = (h.0, say ms h.1)
 
   -- what was not answered is said again, in its order
-  pub tick_leads : IsQuiet a → a.is_down ≡ false → (ms : List Mail) → IsPermutation (to_others (alone a) (on_tick (alone a))) ms → are_in_order ms ≡ true → AreAddressed ms → AreSaid ms → Leads false a (tick_entry ms) a
+  pub tick_leads : IsQuiet a → a.is_down ≡ false → (ms : List Mail) → IsPermutation (to_others (state_of a) (on_tick (state_of a))) ms → are_in_order ms ≡ true → AreAddressed ms → AreSaid ms → Leads false a (tick_entry ms) a
   tick_leads q up ms due_all order to said =
-      let s : State = alone a in
+      let s : State = state_of a in
       let e : Entry = tick_entry ms in
       let quiet_now : list_any is_stop (sent_acts ms) ≡ false = no-mail-is is_stop (λ m. refl) ms in
       let none : tried s e ≡ [] = ap (λ (ds : List Deed). ds ++ []) (none-by (act_deeds s event.Tick) ms (λ m. refl)) in
@@ -94,7 +94,7 @@ module _ (a : Alone) where
 
   pub force_leads : IsQuiet a → a.is_down ≡ false → Leads false a (bare_entry event.Force) a
   force_leads q up =
-      let s : State = alone a in
+      let s : State = state_of a in
       let e : Entry = bare_entry event.Force in
       let leaves : next s e ≡ s = as_before q up in
       record {
