@@ -15,6 +15,7 @@ pub mod FileCalls
 pub mod RefusedGrants
 pub mod WaitingCalls
 pub mod CollectCalls
+pub mod CollectJoins
 pub mod LetGoLemmas
 pub mod ArrivalLemmas
 pub mod OwnEnds
@@ -25,6 +26,7 @@ pub mod VoteSteps
 pub mod DecideSteps
 pub mod DecisionSteps
 pub mod TimeoutLemmas
+pub mod TimeoutJoins
 pub mod CommitCalls
 pub mod HaltedCalls
 pub mod HaltSteps

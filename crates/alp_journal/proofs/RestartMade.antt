@@ -241,3 +241,31 @@ module _ (a : Account) (ready : List JoinNo) (stamps : List Stamp) (q : IsQuiet 
       lapsed_locks : (u : TransId) (b : Bool) → same_trans u c.trans ≡ b → kept_locks (cond {A = Option Life} b (lapsed c.join (a.holder.lives u)) (a.holder.lives u)) (a.locked u) ≡ kept_locks (cond {A = Option Life} b None (a.holder.lives u)) (a.locked u)
       lapsed_locks u false e = refl
       lapsed_locks u true e = ap (λ (t : TransId). kept_locks (lapsed c.join (a.holder.lives t)) (a.locked u)) (same_trans-true u c.trans e) ∙ ap (λ (x : Option Life). kept_locks x (a.locked u)) lapsed_is
+
+-- ---- what the vault holds with all that was tried
+
+pub none_then : (a : Account) → a.pending ≡ [] → state_after holder_after a.holder a.pending ≡ a.holder
+none_then a none = ap (state_after holder_after a.holder) none
+
+pub made_then : (a : Account) (c : IsTriedCommit a) → state_after holder_after a.holder a.pending ≡ commits a.holder c.stamp (Some c.life)
+made_then a c = ap (state_after holder_after a.holder) c.tried ∙ ap (commits a.holder c.stamp) c.live
+
+-- the cells and the clock are those that a restart leaves which finds it made
+pub cells_then : (a : Account) (c : IsTriedCommit a) → (state_after holder_after a.holder a.pending).cells ≡ (restarted_with a c.stamp c.life []).holder.cells
+cells_then a c = ap (λ (h : Holder). h.cells) (made_then a c)
+
+pub kept_then : (a : Account) (c : IsTriedCommit a) → (state_after holder_after a.holder a.pending).kept ≡ (restarted_with a c.stamp c.life []).holder.kept
+kept_then a c = ap (λ (h : Holder). h.kept) (made_then a c) ∙ (let time : c.stamp.ts ≡ a.holder.clock + 1 = c.time in let late : max a.holder.clock c.stamp.ts ≡ c.stamp.ts = omega (arith, time) in late)
+
+-- and of the other writes
+pub decision_then : (a : Account) (c : IsTriedDecision a) → state_after holder_after a.holder a.pending ≡ commits a.holder c.stamp (Some c.life)
+decision_then a c = ap (state_after holder_after a.holder) c.tried ∙ ap (commits a.holder c.stamp) c.live
+
+pub vote_then : (a : Account) (c : IsTriedVote a) (l : Life) → a.holder.lives c.trans ≡ Some l → state_after holder_after a.holder a.pending ≡ with_life a.holder c.trans (Some (record l { vote = Some (a.holder.clock + 1) }))
+vote_then a c l live = ap (state_after holder_after a.holder) c.tried ∙ ap (readies a.holder c.trans (a.holder.clock + 1)) live
+
+pub application_then : (a : Account) (c : IsTriedApplication a) (l : Life) → a.holder.lives c.stamp.trans ≡ Some l → state_after holder_after a.holder a.pending ≡ commits a.holder c.stamp (Some l)
+application_then a c l live = ap (state_after holder_after a.holder) c.tried ∙ ap (commits a.holder c.stamp) live
+
+pub end_then : (a : Account) (c : IsTriedEnd a) → state_after holder_after a.holder a.pending ≡ a.holder
+end_then a c = ap (state_after holder_after a.holder) c.tried

@@ -48,7 +48,7 @@ module _ (a : Account) (t : TransId) where
   timeout_entry acts = record { event = event.Timeout t; reply = None; acts = acts }
 
   -- a timeout's entry that brings these deeds
-  timeout_so : (acts : List Act) (ds : List Deed) (m : Account) → list_any is_stop acts ≡ false → a.is_down ≡ false → flat_map drawn_by acts ≡ [] → tried (state_of a) (timeout_entry acts) ≡ ds
+  pub timeout_so : (acts : List Act) (ds : List Deed) (m : Account) → list_any is_stop acts ≡ false → a.is_down ≡ false → flat_map drawn_by acts ≡ [] → tried (state_of a) (timeout_entry acts) ≡ ds
       → record (state_after state_deed (state_of a) ds) { is_down = false; pending = [] } ≡ state_of m → Along state_deed (IsLawfulDeed (event.Timeout t)) (state_of a) ds
       → flat_map released_by acts ≡ flat_map (ended_by (state_of a)) ds → flat_map granted_by acts ≡ flat_map grants_of ds → AllByRecursion (SaysRight (event.Timeout t) (state_of m)) acts
       → list_any regained_by acts ≡ false → IsQuiet m → IsMail (on_timeout t (a.fates t)) acts → GivesOn (state_of a) (timeout_entry acts) → Leads false a (timeout_entry acts) m
@@ -94,7 +94,7 @@ module _ (a : Account) (t : TransId) where
   abbrev pub as_it_was : Account
   as_it_was = record a { is_down = false; pending = [] }
 
-  not_running : (f : Fate) → is_running f ≡ false → (fate.client_of f ≡ None) × (on_timeout t f ≡ [])
+  pub not_running : (f : Fate) → is_running f ≡ false → (fate.client_of f ≡ None) × (on_timeout t f ≡ [])
   not_running Undrawn h = (refl, refl)
   not_running (Running client joins) h = let wrong : true ≡ false = h in cc
   not_running (Finishing client joins votes) h = let wrong : true ≡ false = h in cc

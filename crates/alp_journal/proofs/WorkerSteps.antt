@@ -180,7 +180,7 @@ module _ (a : Account) (from : ℕ) (t : TransId) (j : JoinNo) where
       waits = λ ws. subst (HasWaits ws) (sym (ap phase.quit asks)) tt;
     }
 
-    quit_settled : IsSettled a → a.phases j ≡ Joining t client who → IsSettled with_quit
+    pub quit_settled : IsSettled a → a.phases j ≡ Joining t client who → IsSettled with_quit
     quit_settled q asks =
         let o : IsEnding a j t client phase.quit = quits q asks in
         let s : Stands (record a { phases = with_quit.phases }) = stands_quit a q.stands j t client who asks phase.quit o.spent o.of in
@@ -354,7 +354,7 @@ module _ (a : Account) (from : ℕ) (t : TransId) (j : JoinNo) where
     abbrev pub with_against_given : List TransId → Account
     with_against_given ts = with_granted with_against (granted_calls a.waits ts)
 
-    quits_active : (who : List ℕ) → IsSettled a → a.phases j ≡ Active t client who → IsEnding a j t client phase.quit
+    pub quits_active : (who : List ℕ) → IsSettled a → a.phases j ≡ Active t client who → IsEnding a j t client phase.quit
     quits_active who q active = record {
       settled = q;
       its = ap live_in active;
