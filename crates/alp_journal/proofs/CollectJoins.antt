@@ -208,7 +208,7 @@ module _ (a : Account) (client number : ℕ) (w : Session) (n : ℕ) (v : Waitin
             let of = subst (IsFateOf a.servers a.holder.server a.ids.epoch a.ids.transactions a.begun t) e (q.stands.fates t) in
             let one : y ≡ stamp = ap (λ (z : Stamp × List JoinNo). z.0) (same-some (y, ks) (stamp, js) h) in
             decided (Forgotten y ks) e (ap (λ (z : Stamp). z.trans) (sym one) ∙ of.1) (own_server a.holder.server a.ids.epoch a.ids.transactions t of.0.0) (ap (λ (z : Stamp). reply.Committed z) one) (λ c g. (let wrong : Forgotten y ks ≡ Ended c = g in cc))
-        go Undrawn e h = let wrong : None ≡ Some (stamp, js) = h in cc
-        go (Running c ks) e h = let wrong : None ≡ Some (stamp, js) = h in cc
-        go (Finishing c ks vs) e h = let wrong : None ≡ Some (stamp, js) = h in cc
-        go (Ended c) e h = let wrong : None ≡ Some (stamp, js) = h in cc
+        go Undrawn e h = let wrong : ◌≡◌ {A = Option (Stamp × List JoinNo)} None (Some (stamp, js)) = h in cc
+        go (Running c ks) e h = let wrong : ◌≡◌ {A = Option (Stamp × List JoinNo)} None (Some (stamp, js)) = h in cc
+        go (Finishing c ks vs) e h = let wrong : ◌≡◌ {A = Option (Stamp × List JoinNo)} None (Some (stamp, js)) = h in cc
+        go (Ended c) e h = let wrong : ◌≡◌ {A = Option (Stamp × List JoinNo)} None (Some (stamp, js)) = h in cc

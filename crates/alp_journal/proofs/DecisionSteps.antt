@@ -166,8 +166,12 @@ module _ (a : Account) (from : ℕ) (t : TransId) (j : JoinNo) where
   pub inquire_silent_leads : IsQuiet a → a.is_down ≡ false → to_others (state_of a) (cond {A = List Mail} (is_trans_drawn (state_of a) t) (on_inquire (state_of a) t j (a.fates t)) []) ≡ [] → Leads false a (arrive_entry a from (msg.Inquire t j) []) a
   inquire_silent_leads q up none = says_leads a from (msg.Inquire t j) false [] (record { quiet = q; up = up; brought = refl; said = tt; mail = subst (λ (ms : List Mail). IsPermutation ms []) (sym none) (IsPermutation-refl []); addressed = refl; applied = tt })
 
-  same_mail : (x y : Message) → (j.server, x) ∷ [] ≡ (j.server, y) ∷ [] → x ≡ y
-  same_mail x y e = cc
+  first_of : Message → List Mail → Message
+  first_of x [] = x
+  first_of x (y ∷ ys) = y.1
+
+  same_mail : (x y : Message) → ◌≡◌ {A = List Mail} ((j.server, x) ∷ []) ((j.server, y) ∷ []) → x ≡ y
+  same_mail x y e = ap (first_of x) e
 
   -- what is said is so, and to the join
   pub record IsWord (m : Message) : Type 0 where
@@ -180,11 +184,11 @@ module _ (a : Account) (from : ℕ) (t : TransId) (j : JoinNo) where
   its_word : is_trans_drawn (state_of a) t ≡ true → (a.fates t ≡ Undrawn → t.epoch < a.ids.epoch) → ((t.epoch == a.ids.epoch) ≡ false → t.epoch < a.ids.epoch) → (f : Fate) → a.fates t ≡ f → (m : Message) → on_inquire (state_of a) t j f ≡ (j.server, m) ∷ [] → IsWord m
   its_word drawn past older f e m is = by f e is
     where
-      lost : (f : Fate) → a.fates t ≡ f → (t.epoch < a.ids.epoch → MayAbort (state_of a) t (cause.Lost a.ids.epoch) f) → t.epoch < a.ids.epoch → (j.server, msg.Abort t j (cause.Lost a.ids.epoch)) ∷ [] ≡ (j.server, m) ∷ [] → IsWord m
+      lost : (f : Fate) → a.fates t ≡ f → (t.epoch < a.ids.epoch → MayAbort (state_of a) t (cause.Lost a.ids.epoch) f) → t.epoch < a.ids.epoch → ◌≡◌ {A = List Mail} ((j.server, msg.Abort t j (cause.Lost a.ids.epoch)) ∷ []) ((j.server, m) ∷ []) → IsWord m
       lost f e may before is = subst IsWord (same_mail (msg.Abort t j (cause.Lost a.ids.epoch)) m is) (record { may = (drawn, subst (MayAbort (state_of a) t (cause.Lost a.ids.epoch)) (sym e) (may before)); addressed = to_it })
 
-      none : [] ≡ (j.server, m) ∷ [] → IsWord m
-      none is = absurd (let wrong : [] ≡ (j.server, m) ∷ [] = is in cc)
+      none : ◌≡◌ {A = List Mail} [] ((j.server, m) ∷ []) → IsWord m
+      none is = absurd (let wrong : ◌≡◌ {A = List Mail} [] ((j.server, m) ∷ []) = is in cc)
 
       commit : (f : Fate) → a.fates t ≡ f → (stamp : Stamp) (js : List JoinNo) → decision_in f ≡ Some (stamp, js) → (b : Bool) → has_join j js ≡ b → cond {A = List Mail} b ((j.server, msg.Commit t j stamp) ∷ []) [] ≡ (j.server, m) ∷ [] → IsWord m
       commit f e stamp js has false g is = none is

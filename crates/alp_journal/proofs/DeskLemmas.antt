@@ -26,11 +26,11 @@ use Rattle.alp_journal.proofs.QuietLemmas.{ended_moved, ended_told, ended_joins,
 
 pub found-last : {A : Type 0} (p : A → Bool) (xs : List A) (x : A) → p x ≡ true → IsSome (find p (xs ++ x ∷ []))
 found-last p [] x e = subst (λ (b : Bool). IsSome (cond b (Some x) None)) (sym e) refl
-found-last p (y ∷ xs) x e = go (p y)
+found-last p (y ∷ xs) x e = go (p y) (found-last p xs x e)
   where
-    go : (b : Bool) → IsSome (cond b (Some y) (find p (xs ++ x ∷ [])))
-    go true = refl
-    go false = found-last p xs x e
+    go : (b : Bool) → IsSome (find p (xs ++ x ∷ [])) → IsSome (cond b (Some y) (find p (xs ++ x ∷ [])))
+    go true h = refl
+    go false h = h
 
 -- a Join or a Finish, of a part of which no call waits, that comes after all that wait
 pub record IsNext (b : Account) (x : Waiting) : Type 0 where

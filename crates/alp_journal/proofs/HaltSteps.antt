@@ -124,10 +124,10 @@ module _ (a : Account) (from : ℕ) (t : TransId) (j : JoinNo) (client : ℕ) (w
   abbrev ask : Message
   ask = msg.Ask t j
 
-  abbrev ev : Event
-  ev = event.Arrive from (msg.Ask t j)
+  abbrev ask_ev : Event
+  ask_ev = event.Arrive from (msg.Ask t j)
 
-  asks_written : written (state_of a) ev ≡ act.Readied t j (a.holder.clock + 1) ∷ []
+  asks_written : written (state_of a) ask_ev ≡ act.Readied t j (a.holder.clock + 1) ∷ []
   asks_written = ap (by_ask (state_of a) t j) active ∙ ap (λ (b : Bool). cond {A = List Act} b (halts.readies (state_of a) t j (why_not false (state_of a) client t)) []) (same_trans-itself t) ∙ ap (halts.readies (state_of a) t j) may
 
   none_quits : (b : Bool) → cond {A = List Deed} b [] [] ++ (Readies j t (a.holder.clock + 1) ∷ []) ++ [] ≡ Readies j t (a.holder.clock + 1) ∷ []
@@ -144,25 +144,25 @@ module _ (a : Account) (from : ℕ) (t : TransId) (j : JoinNo) (client : ℕ) (w
   ask_owes true = record {
     stops = refl;
     drawn = refl;
-    deeds = subst (Along state_deed (IsLawfulDeed ev) (state_of a)) (sym (asks_deeds)) ((record { counts = tt; view = tt; locks = tt; running = tt; registration = tt; vote = record { from = from; client = client; who = who; asked = refl; active = active; idle = its_idle; time = refl; live = (l, live, (active_at_work a q.settled.stands t l live j client who active).vote) }; decision = tt; application = tt; forgetting = tt }, tt));
+    deeds = subst (Along state_deed (IsLawfulDeed ask_ev) (state_of a)) (sym (asks_deeds)) ((record { counts = tt; view = tt; locks = tt; running = tt; registration = tt; vote = record { from = from; client = client; who = who; asked = refl; active = active; idle = its_idle; time = refl; live = (l, live, (active_at_work a q.settled.stands t l live j client who active).vote) }; decision = tt; application = tt; forgetting = tt }, tt));
     sent = refl;
     said = λ m. (tt, (tt, tt));
     regained = refl;
     stopped = (refl, refl);
     released = refl;
-    halted = inl (record { reaches = (λ i. (is_some_act (asks_written i) || ends_note (state_of a) ev) || may_read (state_of a) ev); acts = ap (λ (ws : List Act). ws ++ act.Stopped ∷ []) (sym asks_written) });
+    halted = inl (record { reaches = (λ i. (is_some_act (asks_written i) || ends_note (state_of a) ask_ev) || may_read (state_of a) ask_ev); acts = ap (λ (ws : List Act). ws ++ act.Stopped ∷ []) (sym asks_written) });
     tried_so = HasTried.vote (record { join = j; trans = t; client = client; who = who; tried = (asks_deeds); down = refl; within = within_by false (is_some (waiting_of (state_of a).desk client t)) (a.holder.clock == clock_end) (no_room a.sizes.area (ready_sum (weights (state_of a) (all_ready (state_of a))) (greatest (state_of a) (all_ready (state_of a)))) (ready_sum (weights (state_of a) (t ∷ all_ready (state_of a))) (greatest (state_of a) (t ∷ all_ready (state_of a))))) may; active = active; idle = none-found (is_of_part client t) a.waits its_idle });
   }
   ask_owes false = record {
     stops = refl;
     drawn = refl;
-    deeds = subst (Along state_deed (IsLawfulDeed ev) (state_of a)) (sym (asks_deeds)) ((record { counts = tt; view = tt; locks = tt; running = tt; registration = tt; vote = record { from = from; client = client; who = who; asked = refl; active = active; idle = its_idle; time = refl; live = (l, live, (active_at_work a q.settled.stands t l live j client who active).vote) }; decision = tt; application = tt; forgetting = tt }, tt));
+    deeds = subst (Along state_deed (IsLawfulDeed ask_ev) (state_of a)) (sym (asks_deeds)) ((record { counts = tt; view = tt; locks = tt; running = tt; registration = tt; vote = record { from = from; client = client; who = who; asked = refl; active = active; idle = its_idle; time = refl; live = (l, live, (active_at_work a q.settled.stands t l live j client who active).vote) }; decision = tt; application = tt; forgetting = tt }, tt));
     sent = refl;
     said = λ m. (tt, (tt, tt));
     regained = refl;
     stopped = (refl, refl);
     released = refl;
-    halted = inr (record { reaches = (λ i. (is_some_act (asks_written i) || ends_note (state_of a) ev)); acts = ap (λ (ws : List Act). ws ++ act.Failed ∷ []) (sym asks_written) });
+    halted = inr (record { reaches = (λ i. (is_some_act (asks_written i) || ends_note (state_of a) ask_ev)); acts = ap (λ (ws : List Act). ws ++ act.Failed ∷ []) (sym asks_written) });
     tried_so = HasTried.vote (record { join = j; trans = t; client = client; who = who; tried = (asks_deeds); down = refl; within = within_by false (is_some (waiting_of (state_of a).desk client t)) (a.holder.clock == clock_end) (no_room a.sizes.area (ready_sum (weights (state_of a) (all_ready (state_of a))) (greatest (state_of a) (all_ready (state_of a)))) (ready_sum (weights (state_of a) (t ∷ all_ready (state_of a))) (greatest (state_of a) (t ∷ all_ready (state_of a))))) may; active = active; idle = none-found (is_of_part client t) a.waits its_idle });
   }
 
@@ -179,35 +179,35 @@ module _ (a : Account) (from : ℕ) (t : TransId) (j : JoinNo) (client ts : ℕ)
     abbrev stamp : Stamp
     stamp = record { ts = time; trans = t }
 
-    abbrev ev : Event
-    ev = event.Arrive from (msg.Commit t j (record { ts = time; trans = t }))
+    abbrev commit_ev : Event
+    commit_ev = event.Arrive from (msg.Commit t j (record { ts = time; trans = t }))
 
-    commit_written : written (state_of a) ev ≡ act.Applied j stamp ∷ []
+    commit_written : written (state_of a) commit_ev ≡ act.Applied j stamp ∷ []
     commit_written = ap (by_commit t j stamp) ready ∙ ap (λ (b : Bool). cond {A = List Act} (b && b) (act.Applied j stamp ∷ []) []) (same_trans-itself t)
 
     commit_owes : (b : Bool) → StopOwes a from (msg.Commit t j (record { ts = time; trans = t })) (act.Applied j (record { ts = time; trans = t }) ∷ stop_of b ∷ [])
     commit_owes true = record {
       stops = refl;
       drawn = refl;
-      deeds = subst (Along state_deed (IsLawfulDeed ev) (state_of a)) (sym (refl)) ((record { counts = tt; view = tt; locks = tt; running = tt; registration = tt; vote = tt; decision = tt; application = record { from = from; client = client; ts = ts; told = refl; ready = ready; elsewhere = known.1; live = (l, live, IsVoted.vote (voted_as a from t j client ts time l q.settled ready live)) }; forgetting = tt }, tt));
+      deeds = subst (Along state_deed (IsLawfulDeed commit_ev) (state_of a)) (sym (refl)) ((record { counts = tt; view = tt; locks = tt; running = tt; registration = tt; vote = tt; decision = tt; application = record { from = from; client = client; ts = ts; told = refl; ready = ready; elsewhere = known.1; live = (l, live, IsVoted.vote (voted_as a from t j client ts time l q.settled ready live)) }; forgetting = tt }, tt));
       sent = refl;
       said = λ m. (tt, (tt, tt));
       regained = refl;
       stopped = (refl, refl);
       released = refl;
-      halted = inl (record { reaches = (λ i. (is_some_act (commit_written i) || ends_note (state_of a) ev) || may_read (state_of a) ev); acts = ap (λ (ws : List Act). ws ++ act.Stopped ∷ []) (sym commit_written) });
+      halted = inl (record { reaches = (λ i. (is_some_act (commit_written i) || ends_note (state_of a) commit_ev) || may_read (state_of a) commit_ev); acts = ap (λ (ws : List Act). ws ++ act.Stopped ∷ []) (sym commit_written) });
       tried_so = HasTried.application (record { join = j; stamp = stamp; client = client; ts = ts; tried = (refl); down = refl; ready = ready });
     }
     commit_owes false = record {
       stops = refl;
       drawn = refl;
-      deeds = subst (Along state_deed (IsLawfulDeed ev) (state_of a)) (sym (refl)) ((record { counts = tt; view = tt; locks = tt; running = tt; registration = tt; vote = tt; decision = tt; application = record { from = from; client = client; ts = ts; told = refl; ready = ready; elsewhere = known.1; live = (l, live, IsVoted.vote (voted_as a from t j client ts time l q.settled ready live)) }; forgetting = tt }, tt));
+      deeds = subst (Along state_deed (IsLawfulDeed commit_ev) (state_of a)) (sym (refl)) ((record { counts = tt; view = tt; locks = tt; running = tt; registration = tt; vote = tt; decision = tt; application = record { from = from; client = client; ts = ts; told = refl; ready = ready; elsewhere = known.1; live = (l, live, IsVoted.vote (voted_as a from t j client ts time l q.settled ready live)) }; forgetting = tt }, tt));
       sent = refl;
       said = λ m. (tt, (tt, tt));
       regained = refl;
       stopped = (refl, refl);
       released = refl;
-      halted = inr (record { reaches = (λ i. (is_some_act (commit_written i) || ends_note (state_of a) ev)); acts = ap (λ (ws : List Act). ws ++ act.Failed ∷ []) (sym commit_written) });
+      halted = inr (record { reaches = (λ i. (is_some_act (commit_written i) || ends_note (state_of a) commit_ev)); acts = ap (λ (ws : List Act). ws ++ act.Failed ∷ []) (sym commit_written) });
       tried_so = HasTried.application (record { join = j; stamp = stamp; client = client; ts = ts; tried = (refl); down = refl; ready = ready });
     }
 
@@ -216,13 +216,13 @@ module _ (a : Account) (from : ℕ) (t : TransId) (j : JoinNo) (client ts : ℕ)
     commit_stop_leads b = stop_leads a from (msg.Commit t j (record { ts = time; trans = t })) (act.Applied j (record { ts = time; trans = t }) ∷ stop_of b ∷ []) q up (commit_owes b)
 
   module _ (c : Cause) where
-    abbrev ev : Event
-    ev = event.Arrive from (msg.Abort t j c)
+    abbrev abort_ev : Event
+    abort_ev = event.Arrive from (msg.Abort t j c)
 
-    abort_written : written (state_of a) ev ≡ []
+    abort_written : written (state_of a) abort_ev ≡ []
     abort_written = refl
 
-    abort_notes : ends_note (state_of a) ev ≡ true
+    abort_notes : ends_note (state_of a) abort_ev ≡ true
     abort_notes = ap (is_note_of t) ready ∙ same_trans-itself t
 
     abort_deeds : if_its t (live_in (a.phases j)) (λ n. Aborts j t n c ∷ []) ++ [] ++ [] ≡ Aborts j t client c ∷ []
@@ -232,19 +232,19 @@ module _ (a : Account) (from : ℕ) (t : TransId) (j : JoinNo) (client ts : ℕ)
     abort_owes true = record {
       stops = refl;
       drawn = refl;
-      deeds = subst (Along state_deed (IsLawfulDeed ev) (state_of a)) (sym (abort_deeds)) ((record { counts = tt; view = tt; locks = tt; running = tt; registration = tt; vote = tt; decision = tt; application = tt; forgetting = tt }, tt));
+      deeds = subst (Along state_deed (IsLawfulDeed abort_ev) (state_of a)) (sym (abort_deeds)) ((record { counts = tt; view = tt; locks = tt; running = tt; registration = tt; vote = tt; decision = tt; application = tt; forgetting = tt }, tt));
       sent = refl;
       said = λ m. (tt, tt);
       regained = refl;
       stopped = refl;
       released = refl;
-      halted = inl (record { reaches = (λ i. (is_some_act (abort_written i) || abort_notes i) || may_read (state_of a) ev); acts = ap (λ (ws : List Act). ws ++ act.Stopped ∷ []) (sym abort_written) });
+      halted = inl (record { reaches = (λ i. (is_some_act (abort_written i) || abort_notes i) || may_read (state_of a) abort_ev); acts = ap (λ (ws : List Act). ws ++ act.Stopped ∷ []) (sym abort_written) });
       tried_so = HasTried.abort (record { join = j; trans = t; client = client; ts = ts; cause = c; tried = (abort_deeds); down = refl; ready = ready });
     }
     abort_owes false = record {
       stops = refl;
       drawn = refl;
-      deeds = subst (Along state_deed (IsLawfulDeed ev) (state_of a)) (sym (abort_deeds)) ((record { counts = tt; view = tt; locks = tt; running = tt; registration = tt; vote = tt; decision = tt; application = tt; forgetting = tt }, tt));
+      deeds = subst (Along state_deed (IsLawfulDeed abort_ev) (state_of a)) (sym (abort_deeds)) ((record { counts = tt; view = tt; locks = tt; running = tt; registration = tt; vote = tt; decision = tt; application = tt; forgetting = tt }, tt));
       sent = refl;
       said = λ m. (tt, tt);
       regained = refl;
@@ -264,8 +264,8 @@ module _ (a : Account) (from : ℕ) (t : TransId) (j : JoinNo) (ts client : ℕ)
   abbrev last_stamp : Stamp
   last_stamp = decision_stamp a from t j ts client js vs l
 
-  abbrev ev : Event
-  ev = event.Arrive from (msg.Ready t j ts)
+  abbrev vote_ev : Event
+  vote_ev = event.Arrive from (msg.Ready t j ts)
 
   both : (has_join j js ≡ true) × (list_all (λ k. voted k (with_vote j ts vs)) js ≡ true)
   both = and_parts (has_join j js) (list_all (λ k. voted k (with_vote j ts vs)) js) all
@@ -273,7 +273,7 @@ module _ (a : Account) (from : ℕ) (t : TransId) (j : JoinNo) (ts client : ℕ)
   its_own : IsOwn a client t l cause.Asked
   its_own = own a from t j ts client js vs l q is live part
 
-  vote_written : written (state_of a) ev ≡ act.Decided last_stamp js ∷ []
+  vote_written : written (state_of a) vote_ev ≡ act.Decided last_stamp js ∷ []
   vote_written = ap (by_vote (state_of a) t j ts) is ∙ ap (λ (b : Bool). cond {A = List Act} b (decides t (latest_vote (a.holder.clock + 1) (with_vote j ts vs)) js (why_not_own false (state_of a) t)) []) all
       ∙ ap (decides t (latest_vote (a.holder.clock + 1) (with_vote j ts vs)) js) may
 
@@ -289,25 +289,25 @@ module _ (a : Account) (from : ℕ) (t : TransId) (j : JoinNo) (ts client : ℕ)
   vote_owes true = record {
     stops = refl;
     drawn = refl;
-    deeds = subst (Along state_deed (IsLawfulDeed ev) (state_of a)) (sym (vote_deeds (act.Decided last_stamp js ∷ act.Stopped ∷ []) refl)) ((record { counts = tt; view = tt; locks = tt; running = tt; registration = tt; vote = tt; decision = tt; application = tt; forgetting = tt }, (record { counts = tt; view = tt; locks = tt; running = tt; registration = tt; vote = tt; decision = record { client = client; votes = with_vote j ts vs; asked = refl; own = here_as a client t l cause.Asked its_own; now = now_as a client t l cause.Asked its_own; finishing = hearing_fate a from t j ts client js vs l is; voted = ap has_votes (hearing_fate a from t j ts client js vs l is) ∙ both.1; time = refl; idle = λ w found. idle_then a from t j ts client js vs l q is w found; live = (l, live, (own_pair a q.settled.stands t l live part).1) }; application = tt; forgetting = tt }, tt)));
+    deeds = subst (Along state_deed (IsLawfulDeed vote_ev) (state_of a)) (sym (vote_deeds (act.Decided last_stamp js ∷ act.Stopped ∷ []) refl)) ((record { counts = tt; view = tt; locks = tt; running = tt; registration = tt; vote = tt; decision = tt; application = tt; forgetting = tt }, (record { counts = tt; view = tt; locks = tt; running = tt; registration = tt; vote = tt; decision = record { client = client; votes = with_vote j ts vs; asked = refl; own = here_as a client t l cause.Asked its_own; now = now_as a client t l cause.Asked its_own; finishing = hearing_fate a from t j ts client js vs l is; voted = ap has_votes (hearing_fate a from t j ts client js vs l is) ∙ both.1; time = refl; idle = λ w found. idle_then a from t j ts client js vs l q is w found; live = (l, live, (own_pair a q.settled.stands t l live part).1) }; application = tt; forgetting = tt }, tt)));
     sent = refl;
     said = λ m. (tt, (tt, tt));
     regained = refl;
     stopped = (refl, refl);
     released = refl;
-    halted = inl (record { reaches = (λ i. (is_some_act (vote_written i) || ends_note (state_of a) ev) || may_read (state_of a) ev); acts = ap (λ (ws : List Act). ws ++ act.Stopped ∷ []) (sym vote_written) });
+    halted = inl (record { reaches = (λ i. (is_some_act (vote_written i) || ends_note (state_of a) vote_ev) || may_read (state_of a) vote_ev); acts = ap (λ (ws : List Act). ws ++ act.Stopped ∷ []) (sym vote_written) });
     tried_so = HasTried.decision (record { stamp = last_stamp; life = l; join = j; ts = ts; joins = js; votes = vs; tried = (vote_deeds (act.Decided last_stamp js ∷ act.Stopped ∷ []) refl); down = refl; time = refl; within = vote_within; own = here_as a client t l cause.Asked its_own; now = now_as a client t l cause.Asked its_own; live = live; own_part = part; finishing = is ∙ ap (λ (n : ℕ). Finishing n js vs) (sym its_own.its); voted = all });
   }
   vote_owes false = record {
     stops = refl;
     drawn = refl;
-    deeds = subst (Along state_deed (IsLawfulDeed ev) (state_of a)) (sym (vote_deeds (act.Decided last_stamp js ∷ act.Failed ∷ []) refl)) ((record { counts = tt; view = tt; locks = tt; running = tt; registration = tt; vote = tt; decision = tt; application = tt; forgetting = tt }, (record { counts = tt; view = tt; locks = tt; running = tt; registration = tt; vote = tt; decision = record { client = client; votes = with_vote j ts vs; asked = refl; own = here_as a client t l cause.Asked its_own; now = now_as a client t l cause.Asked its_own; finishing = hearing_fate a from t j ts client js vs l is; voted = ap has_votes (hearing_fate a from t j ts client js vs l is) ∙ both.1; time = refl; idle = λ w found. idle_then a from t j ts client js vs l q is w found; live = (l, live, (own_pair a q.settled.stands t l live part).1) }; application = tt; forgetting = tt }, tt)));
+    deeds = subst (Along state_deed (IsLawfulDeed vote_ev) (state_of a)) (sym (vote_deeds (act.Decided last_stamp js ∷ act.Failed ∷ []) refl)) ((record { counts = tt; view = tt; locks = tt; running = tt; registration = tt; vote = tt; decision = tt; application = tt; forgetting = tt }, (record { counts = tt; view = tt; locks = tt; running = tt; registration = tt; vote = tt; decision = record { client = client; votes = with_vote j ts vs; asked = refl; own = here_as a client t l cause.Asked its_own; now = now_as a client t l cause.Asked its_own; finishing = hearing_fate a from t j ts client js vs l is; voted = ap has_votes (hearing_fate a from t j ts client js vs l is) ∙ both.1; time = refl; idle = λ w found. idle_then a from t j ts client js vs l q is w found; live = (l, live, (own_pair a q.settled.stands t l live part).1) }; application = tt; forgetting = tt }, tt)));
     sent = refl;
     said = λ m. (tt, (tt, tt));
     regained = refl;
     stopped = (refl, refl);
     released = refl;
-    halted = inr (record { reaches = (λ i. (is_some_act (vote_written i) || ends_note (state_of a) ev)); acts = ap (λ (ws : List Act). ws ++ act.Failed ∷ []) (sym vote_written) });
+    halted = inr (record { reaches = (λ i. (is_some_act (vote_written i) || ends_note (state_of a) vote_ev)); acts = ap (λ (ws : List Act). ws ++ act.Failed ∷ []) (sym vote_written) });
     tried_so = HasTried.decision (record { stamp = last_stamp; life = l; join = j; ts = ts; joins = js; votes = vs; tried = (vote_deeds (act.Decided last_stamp js ∷ act.Failed ∷ []) refl); down = refl; time = refl; within = vote_within; own = here_as a client t l cause.Asked its_own; now = now_as a client t l cause.Asked its_own; live = live; own_part = part; finishing = is ∙ ap (λ (n : ℕ). Finishing n js vs) (sym its_own.its); voted = all });
   }
 
@@ -317,10 +317,10 @@ module _ (a : Account) (from : ℕ) (t : TransId) (j : JoinNo) (ts client : ℕ)
 -- ---- the last of the joins has applied a decision
 
 module _ (a : Account) (from : ℕ) (t : TransId) (j : JoinNo) (stamp : Stamp) (js ds : List JoinNo) (q : IsQuiet a) (up : a.is_down ≡ false) (is : a.fates t ≡ Committed stamp js ds) (its : has_join j js ≡ true) (all : has_all (j ∷ ds) js ≡ true) where
-  abbrev ev : Event
-  ev = event.Arrive from (msg.Done t j)
+  abbrev done_ev : Event
+  done_ev = event.Arrive from (msg.Done t j)
 
-  done_written : written (state_of a) ev ≡ act.Forgot t ∷ []
+  done_written : written (state_of a) done_ev ≡ act.Forgot t ∷ []
   done_written = ap (by_done t j) is ∙ (λ i. cond {A = List Act} (its i && all i) (act.Forgot t ∷ []) [])
 
   done_deeds : acknowledges t j (a.fates t) ++ (Forgets t ∷ []) ++ [] ≡ Acknowledges t j ∷ Forgets t ∷ []
@@ -330,25 +330,25 @@ module _ (a : Account) (from : ℕ) (t : TransId) (j : JoinNo) (stamp : Stamp) (
   done_owes true = record {
     stops = refl;
     drawn = refl;
-    deeds = subst (Along state_deed (IsLawfulDeed ev) (state_of a)) (sym (done_deeds)) ((record { counts = tt; view = tt; locks = tt; running = tt; registration = tt; vote = tt; decision = tt; application = tt; forgetting = tt }, (record { counts = tt; view = tt; locks = tt; running = tt; registration = tt; vote = tt; decision = tt; application = tt; forgetting = record { from = from; join = j; stamp = stamp; joins = js; before = ds; told = refl; committed = moved_fate a.fates t (fate.acknowledged j) ∙ ap (fate.acknowledged j) is; its = its; missing = sym (undone a from t j stamp js ds js ds its) ∙ ap is_all_done (sym is) ∙ q.settled.stands.forgets t; all = all } }, tt)));
+    deeds = subst (Along state_deed (IsLawfulDeed done_ev) (state_of a)) (sym (done_deeds)) ((record { counts = tt; view = tt; locks = tt; running = tt; registration = tt; vote = tt; decision = tt; application = tt; forgetting = tt }, (record { counts = tt; view = tt; locks = tt; running = tt; registration = tt; vote = tt; decision = tt; application = tt; forgetting = record { from = from; join = j; stamp = stamp; joins = js; before = ds; told = refl; committed = moved_fate a.fates t (fate.acknowledged j) ∙ ap (fate.acknowledged j) is; its = its; missing = sym (undone a from t j stamp js ds js ds its) ∙ ap is_all_done (sym is) ∙ q.settled.stands.forgets t; all = all } }, tt)));
     sent = refl;
     said = λ m. (tt, (tt, tt));
     regained = refl;
     stopped = (refl, refl);
     released = refl;
-    halted = inl (record { reaches = (λ i. (is_some_act (done_written i) || ends_note (state_of a) ev) || may_read (state_of a) ev); acts = ap (λ (ws : List Act). ws ++ act.Stopped ∷ []) (sym done_written) });
+    halted = inl (record { reaches = (λ i. (is_some_act (done_written i) || ends_note (state_of a) done_ev) || may_read (state_of a) done_ev); acts = ap (λ (ws : List Act). ws ++ act.Stopped ∷ []) (sym done_written) });
     tried_so = HasTried.end (record { trans = t; join = j; stamp = stamp; joins = js; done = ds; tried = (done_deeds); down = refl; committed = is; its = its; all = all });
   }
   done_owes false = record {
     stops = refl;
     drawn = refl;
-    deeds = subst (Along state_deed (IsLawfulDeed ev) (state_of a)) (sym (done_deeds)) ((record { counts = tt; view = tt; locks = tt; running = tt; registration = tt; vote = tt; decision = tt; application = tt; forgetting = tt }, (record { counts = tt; view = tt; locks = tt; running = tt; registration = tt; vote = tt; decision = tt; application = tt; forgetting = record { from = from; join = j; stamp = stamp; joins = js; before = ds; told = refl; committed = moved_fate a.fates t (fate.acknowledged j) ∙ ap (fate.acknowledged j) is; its = its; missing = sym (undone a from t j stamp js ds js ds its) ∙ ap is_all_done (sym is) ∙ q.settled.stands.forgets t; all = all } }, tt)));
+    deeds = subst (Along state_deed (IsLawfulDeed done_ev) (state_of a)) (sym (done_deeds)) ((record { counts = tt; view = tt; locks = tt; running = tt; registration = tt; vote = tt; decision = tt; application = tt; forgetting = tt }, (record { counts = tt; view = tt; locks = tt; running = tt; registration = tt; vote = tt; decision = tt; application = tt; forgetting = record { from = from; join = j; stamp = stamp; joins = js; before = ds; told = refl; committed = moved_fate a.fates t (fate.acknowledged j) ∙ ap (fate.acknowledged j) is; its = its; missing = sym (undone a from t j stamp js ds js ds its) ∙ ap is_all_done (sym is) ∙ q.settled.stands.forgets t; all = all } }, tt)));
     sent = refl;
     said = λ m. (tt, (tt, tt));
     regained = refl;
     stopped = (refl, refl);
     released = refl;
-    halted = inr (record { reaches = (λ i. (is_some_act (done_written i) || ends_note (state_of a) ev)); acts = ap (λ (ws : List Act). ws ++ act.Failed ∷ []) (sym done_written) });
+    halted = inr (record { reaches = (λ i. (is_some_act (done_written i) || ends_note (state_of a) done_ev)); acts = ap (λ (ws : List Act). ws ++ act.Failed ∷ []) (sym done_written) });
     tried_so = HasTried.end (record { trans = t; join = j; stamp = stamp; joins = js; done = ds; tried = (done_deeds); down = refl; committed = is; its = its; all = all });
   }
 

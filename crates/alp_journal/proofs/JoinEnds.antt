@@ -54,16 +54,16 @@ module _ (a : Account) (j : JoinNo) (t : TransId) (client : ℕ) (move : Phase �
   far : IsEnding → t.server ≡ a.holder.server → ⊥
   far o here = go (a.phases j) o.its (o.settled.stands.phases j)
     where
-      at : (v : TransId) (c : ℕ) → Some (v, c) ≡ Some (t, client) → v ≡ t
+      at : (v : TransId) (c : ℕ) → ◌≡◌ {A = Option (TransId × ℕ)} (Some (v, c)) (Some (t, client)) → v ≡ t
       at v c e = ap (λ (x : TransId × ℕ). x.0) (same-some (v, c) (t, client) e)
 
       go : (p : Phase) → live_in p ≡ Some (t, client) → IsPhaseOf a.servers a.holder.server a.ids.epoch a.ids.joins a.joined j p → ⊥
-      go Unseen e k = let wrong : None ≡ Some (t, client) = e in cc
+      go Unseen e k = let wrong : ◌≡◌ {A = Option (TransId × ℕ)} None (Some (t, client)) = e in cc
       go (Joining v c who) e k = not_both_servers a.servers a.holder.server v.server k.1 (ap (λ (x : TransId). x.server) (at v c e) ∙ here)
       go (Active v c who) e k = not_both_servers a.servers a.holder.server v.server k.1 (ap (λ (x : TransId). x.server) (at v c e) ∙ here)
       go (Ready v c ts) e k = not_both_servers a.servers a.holder.server v.server k.1 (ap (λ (x : TransId). x.server) (at v c e) ∙ here)
-      go (Applied v stamp) e k = let wrong : None ≡ Some (t, client) = e in cc
-      go Over e k = let wrong : None ≡ Some (t, client) = e in cc
+      go (Applied v stamp) e k = let wrong : ◌≡◌ {A = Option (TransId × ℕ)} None (Some (t, client)) = e in cc
+      go Over e k = let wrong : ◌≡◌ {A = Option (TransId × ℕ)} None (Some (t, client)) = e in cc
 
   -- the client has no live join of it then
   unjoined_then : IsEnding → HasNoJoin then_phases client t
@@ -74,7 +74,7 @@ module _ (a : Account) (j : JoinNo) (t : TransId) (client : ℕ) (move : Phase �
       go true e =
           let lives : live_in (then_phases k) ≡ Some (t, client) = whose client t (live_in (then_phases k)) e in
           let one : k ≡ j = o.settled.stands.single k j (t, client) (live_before a.phases j move o.spent.live k (t, client) lives) o.its in
-          let wrong : None ≡ Some (t, client) = sym (ap live_in (moved_phase a.phases j move) ∙ o.spent.live) ∙ ap (λ (i : JoinNo). live_in (then_phases i)) (sym one) ∙ lives in
+          let wrong : ◌≡◌ {A = Option (TransId × ℕ)} None (Some (t, client)) = sym (ap live_in (moved_phase a.phases j move) ∙ o.spent.live) ∙ ap (λ (i : JoinNo). live_in (then_phases i)) (sym one) ∙ lives in
           cc
 
   pub fewer_ended : IsEnding → AreEnded a.holder.server a.dead a.fates then_phases

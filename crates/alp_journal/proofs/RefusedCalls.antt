@@ -1,7 +1,8 @@
 -- file calls that are refused, and Finishes of parts that are not live
 use Rattle.std.specs.Prelude.{cond, Bool, true, false, ◌&&◌, ◌==◌, is_none, is_some, Some, if◌then◌else◌}
 use Rattle.std.proofs.lemmas.Bool.{eqb-true}
-use Rattle.std.proofs.Common.{◌≡◌, ℕ, ◌+◌, List, [], ◌++◌, refl, sym, ◌∙◌, ap, subst, arith}
+use Rattle.std.proofs.Common.{◌≡◌, ℕ, ◌+◌, List, [], ◌++◌, refl, sym, ◌∙◌, ap, subst, eq-eqb, arith}
+use Rattle.alp_base.specs.declared.ids.JoinNo.{JoinNo}
 use Rattle.alp_base.specs.declared.ids.TransId.{TransId}
 use Rattle.alp_files.specs.declared.call.Call.{Call}
 use Rattle.alp_files.specs.declared.call.Call.TheVariants as call
@@ -16,7 +17,7 @@ use Rattle.alp_journal.specs.declared.event.Event.TheVariants as event
 use Rattle.alp_journal.specs.declared.entry.Entry.{Entry}
 use Rattle.alp_journal.specs.declared.message.Message.TheVariants as msg
 use Rattle.alp_journal.specs.Deeds.{Deed}
-use Rattle.alp_journal.specs.Coordinator.{Fate, Undrawn, Running, Finishing, Committed, Forgotten, Ended}
+use Rattle.alp_journal.specs.Coordinator.{Fate, Vote, Undrawn, Running, Finishing, Committed, Forgotten, Ended}
 use Rattle.alp_journal.specs.Desk.{Desk, Session, Waiting, file_trans, waiting_of, is_not_yet, begins_if, finished, waits_after, with_session}
 use Rattle.alp_journal.specs.State.{has_part}
 use Rattle.alp_journal.specs.Moves.{call_deeds, finishes, answered, done_by, done_of}
@@ -24,9 +25,10 @@ use Rattle.alp_journal.specs.Laws.{CallsOn, KeepsSessions}
 use Rattle.alp_journal.specs.Messages.{Mail, on_call, on_finish, to_each}
 use Rattle.alp_journal.specs.Halts.{by_call, may_read_for, is_part_at_work}
 use Rattle.alp_journal.specs.Answered.{GrantsFor}
-use Rattle.alp_journal.specs.Answers.{part_at, at_part, finish_reply, First, IsFileOf, IsFinishAnswer, IsFileCollectedOf, IsCollectedOf, IsAnswer}
+use Rattle.alp_journal.specs.Answers.{Part, NoPart, AtFinish, own_part, part_at, at_part, finish_reply, First, IsFileOf, IsFinishAnswer, IsFileCollectedOf, IsCollectedOf, IsAnswer}
 use Rattle.alp_journal.specs.Account.{Account, state_of, IsQuiet, Leads}
 use Rattle.alp_journal.proofs.StandLemmas.{no_own_join}
+use Rattle.alp_journal.proofs.PartLemmas.{own_part_at}
 use Rattle.alp_journal.proofs.CallLemmas.{no_mail, call_entry, new_call, IsCounted, call_leads}
 use Rattle.alp_journal.proofs.QuietLemmas.{quiet_told, forgotten_part, quiet_forgotten}
 
@@ -198,3 +200,24 @@ module _ (a : Account) (client number : ℕ) (w : Session) where
       → Leads false a (call_entry a client number w (call.Finish t commit) (reply.Refused (refusal.Aborted c)) []) (without_dead t (counted_as (reply.Refused (refusal.Aborted c))))
   dead_finish_leads t commit c q up there turn deeds mail why =
       finish_owes t commit (refusal.Aborted c) (without_dead t (counted_as (reply.Refused (refusal.Aborted c)))) (quiet_forgotten client t (counted_as (reply.Refused (refusal.Aborted c))) (no_own_join a q.settled.stands t (finish_here t commit c why) client) refl (counted_quiet (reply.Refused (refusal.Aborted c)) q there turn)) up there turn deeds mail refl why refl
+
+  -- its client finishes it already, and waits for the votes
+  pub finishing_finish_leads : (t : TransId) (commit : Bool) (js : List JoinNo) (vs : List Vote) → IsQuiet a → a.is_down ≡ false → a.sessions client ≡ Some w → number ≡ w.last + 1
+      → t.server ≡ a.holder.server → a.fates t ≡ Finishing client js vs
+      → Leads false a (call_entry a client number w (call.Finish t commit) (reply.Refused refusal.Finishing) []) (counted_as (reply.Refused refusal.Finishing))
+  finishing_finish_leads t commit js vs q up there turn here is =
+      let r : Reply = reply.Refused refusal.Finishing in
+      finish_owes t commit refusal.Finishing (counted_as r) (counted_quiet r q there turn) up there turn
+      (ap (finishes (state_of a).desk client t commit r) is ∙ none commit) (ap (on_finish t commit client true) is ∙ silent commit) refl
+      (subst (λ (b : Bool). Where b (First (at_part (commit && is_some (waiting_of (state_of a).desk client t)) (part_at (state_of a) client t)) r (r ≡ (if commit then finish_reply false (state_of a) t (a.fates t) else reply.Refused (refusal.Aborted cause.Asked)))) (r ≡ reply.Refused refusal.UnknownTrans))
+      (sym (eq-eqb t.server a.holder.server here))
+      (subst (λ (p : Part). First (at_part (commit && is_some (waiting_of (state_of a).desk client t)) p) r (r ≡ (if commit then finish_reply false (state_of a) t (a.fates t) else reply.Refused (refusal.Aborted cause.Asked))))
+      (sym (own_part_at a t client here ∙ ap (own_part client (a.dead client t)) is ∙ ap (λ (b : Bool). cond {A = Part} b AtFinish NoPart) (eq-eqb client client refl))) refl)) refl
+    where
+      none : (b : Bool) → finishes (state_of a).desk client t b (reply.Refused refusal.Finishing) (Finishing client js vs) ≡ []
+      none true = refl
+      none false = refl
+
+      silent : (b : Bool) → on_finish t b client true (Finishing client js vs) ≡ []
+      silent true = refl
+      silent false = refl

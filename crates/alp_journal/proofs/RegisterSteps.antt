@@ -101,12 +101,12 @@ module _ (a : Account) (from : ℕ) (t : TransId) (j : JoinNo) (client : ℕ) wh
   -- it is not let in, and is told
   pub register_refused_leads : IsQuiet a → a.is_down ≡ false → is_trans_drawn (state_of a) t ≡ true → may_join (state_of a) j client (a.fates t) ≡ false → is_other_server (state_of a) j.server ≡ true
       → Leads false a (arrive_entry a from register (sent_acts refused_mail)) a
-  register_refused_leads q up drawn no far = says_leads a from register false refused_mail (record {
+  register_refused_leads q up drawn closed far = says_leads a from register false refused_mail (record {
     quiet = q;
     up = up;
     brought = refl;
     said = (tt, tt);
-    mail = subst (λ (ms : List Mail). IsPermutation (to_others (state_of a) ms) refused_mail) (sym (on_drawn drawn ∙ ap (λ (b : Bool). cond {A = List Mail} b joined_mail refused_mail) no))
+    mail = subst (λ (ms : List Mail). IsPermutation (to_others (state_of a) ms) refused_mail) (sym (on_drawn drawn ∙ ap (λ (b : Bool). cond {A = List Mail} b joined_mail refused_mail) closed))
         (subst (λ (ms : List Mail). IsPermutation ms refused_mail) (sym (one_other (msg.JoinRefused t j) far)) (IsPermutation-refl refused_mail));
     addressed = ap (λ (b : Bool). b && true) (eq-eqb j.server j.server refl);
     applied = tt;

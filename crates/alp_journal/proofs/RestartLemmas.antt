@@ -185,10 +185,10 @@ module _ (b : Account) (clock : ℕ) (q : Stands b) where
 -- ---- the entry
 
 -- what the notes keep, where this stands: the joins that have voted, and the decisions with joins that are not forgotten
-pub record IsNoted (b : Account) (ready : List JoinNo) (stamps : List Stamp) : Type 0 where
-  pub once : (are_joins_apart ready && are_stamps_apart stamps) ≡ true
-  pub ready : (j : JoinNo) → has_join j ready ≡ is_ready (b.phases j)
-  pub decided : (x : Stamp) → has_stamp x stamps ≡ is_standing x (b.fates x.trans)
+pub record IsNoted (b : Account) (noted : List JoinNo) (standing : List Stamp) : Type 0 where
+  pub once : (are_joins_apart noted && are_stamps_apart standing) ≡ true
+  pub ready : (j : JoinNo) → has_join j noted ≡ is_ready (b.phases j)
+  pub decided : (x : Stamp) → has_stamp x standing ≡ is_standing x (b.fates x.trans)
 
 module _ (a : Account) (ready : List JoinNo) (stamps : List Stamp) where
   -- of what was tried it finds these deeds made

@@ -40,7 +40,7 @@ use Rattle.alp_journal.proofs.WorkerSteps.{with_quit, quit_settled, quits_active
 -- where one of them brings something about, and is named once, just that comes of all
 flat-once : {B : Type 0} (f : JoinNo → List B) (j : JoinNo) (js : List JoinNo) → are_joins_apart js ≡ true → has_join j js ≡ true → ((k : JoinNo) → same_join k j ≡ false → f k ≡ []) → flat_map f js ≡ f j
 flat-once f j [] apart has others = let wrong : false ≡ true = has in cc
-flat-once {B} f j (k ∷ js) apart has others = go (same_join k j) refl
+flat-once {B} f j (k ∷ js) apart has others = go (same_join k j) refl (λ more. flat-once f j js (and_parts (not (has_join k js)) (are_joins_apart js) apart).1 more others)
   where
     both : (not (has_join k js) ≡ true) × (are_joins_apart js ≡ true)
     both = and_parts (not (has_join k js)) (are_joins_apart js) apart
@@ -51,14 +51,14 @@ flat-once {B} f j (k ∷ js) apart has others = go (same_join k j) refl
         let away = or_parts (same_join i j) (has_join j is) e in
         ap (λ (bs : List B). bs ++ flat_map f is) (others i away.0) ∙ none is away.1
 
-    go : (b : Bool) → same_join k j ≡ b → f k ++ flat_map f js ≡ f j
-    go true e =
+    go : (b : Bool) → same_join k j ≡ b → (has_join j js ≡ true → flat_map f js ≡ f j) → f k ++ flat_map f js ≡ f j
+    go true e rest =
         let one : k ≡ j = same_join-true k j e in
         ap (λ (bs : List B). f k ++ bs) (none js (ap (λ (i : JoinNo). has_join i js) (sym one) ∙ not-true (has_join k js) both.0)) ∙ append-nil (f k) ∙ ap f one
-    go false e = ap (λ (bs : List B). bs ++ flat_map f js) (others k e) ∙ flat-once f j js both.1 (elim (or-true (same_join k j) (has_join j js) has) [
+    go false e rest = ap (λ (bs : List B). bs ++ flat_map f js) (others k e) ∙ rest (elim (or-true (same_join k j) (has_join j js) has) [
       | inl same ↦ (let wrong : true ≡ false = sym same ∙ e in cc)
       | inr more ↦ more
-    ]) others
+    ])
 
 module _ (a : Account) (t : TransId) (j : JoinNo) (client : ℕ) (who : List ℕ) where
   -- no other join of it has not voted

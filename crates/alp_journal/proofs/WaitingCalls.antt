@@ -40,10 +40,10 @@ use Rattle.alp_journal.proofs.CallLemmas.{no_mail, call_entry, new_call, call_le
 use Rattle.alp_journal.proofs.RefusedCalls.{counted_as, counted_quiet, IsFileCall, file_call}
 
 -- a call on files is none of the others
-file_other : {fates : TransId → Fate} {phases : JoinNo → Phase} {dead : ℕ → TransId → Option Cause} (client : ℕ) (c : Call) (t : TransId) → file_trans c ≡ Some t → IsOther fates phases dead client c
-file_other client (call.Join u) t of = let wrong : None ≡ Some t = of in cc
-file_other client (call.Finish u commit) t of = let wrong : None ≡ Some t = of in cc
-file_other client c t of = subst (λ (x : Option TransId). IsSome x) (sym of) refl
+file_other : (fates : TransId → Fate) (phases : JoinNo → Phase) (dead : ℕ → TransId → Option Cause) (client : ℕ) (c : Call) (t : TransId) → file_trans c ≡ Some t → IsOther fates phases dead client c
+file_other fates phases dead client (call.Join u) t of = let wrong : None ≡ Some t = of in cc
+file_other fates phases dead client (call.Finish u commit) t of = let wrong : None ≡ Some t = of in cc
+file_other fates phases dead client c t of = subst (λ (x : Option TransId). IsSome x) (sym of) refl
 
 -- a part that did not vote is of no join that did
 pub ready_idle : (a : Account) (q : Stands a) (t : TransId) (l : Life) (j : JoinNo) (client ts : ℕ) → a.holder.lives t ≡ Some l → l.vote ≡ None → a.phases j ≡ Ready t client ts → ⊥
@@ -92,7 +92,7 @@ module _ (a : Account) (client number : ℕ) (w : Session) (t : TransId) (l : Li
           ended = q.settled.tells.ended;
           parts = all-append (λ (v : Waiting). IsOfPart a.holder.lives a.dead v (file_trans v.call)) a.waits (waiter ∷ []) q.settled.tells.parts
               (subst (IsOfPart a.holder.lives a.dead waiter) (sym named) (subst (λ (x : Option Life). IsPartOf client x (a.dead client t)) (sym live) (sym own)), tt);
-          others = all-append (λ (v : Waiting). IsOther a.fates a.phases a.dead v.client v.call) a.waits (waiter ∷ []) q.settled.tells.others (file_other client c t named, tt);
+          others = all-append (λ (v : Waiting). IsOther a.fates a.phases a.dead v.client v.call) a.waits (waiter ∷ []) q.settled.tells.others (file_other a.fates a.phases a.dead client c t named, tt);
           came = all-append (λ (v : Waiting). HasCome v.number (with_wait.sessions v.client)) a.waits (waiter ∷ [])
               (came_on a.sessions client (record w { last = number; reply = not_yet }) (later-come a.sessions client w (record w { last = number; reply = not_yet }) there (omega (arith, turn))) a.waits q.settled.tells.came)
               (subst (λ (b : Bool). HasCome number (cond {A = Option Session} b (Some (record w { last = number; reply = not_yet })) (a.sessions client))) (sym (eq-eqb client client refl)) (le_refl number), tt);

@@ -42,7 +42,7 @@ use Rattle.alp_journal.proofs.IdLemmas.{same_trans-true, same_trans-itself, same
 use Rattle.alp_journal.proofs.MadeIds.{all-map}
 use Rattle.alp_journal.proofs.WaitLemmas.{none-found, found-none}
 use Rattle.alp_journal.proofs.TurnLemmas.{turns-set}
-use Rattle.alp_journal.proofs.StandLemmas.{same_join-itself, moved_phase, life_of, pair_of, join_part_is}
+use Rattle.alp_journal.proofs.StandLemmas.{same_join-itself, moved_phase, life_of, pair_of, join_part_is, holding_of}
 use Rattle.alp_journal.proofs.PartLemmas.{IsAtWork, active_at_work}
 use Rattle.alp_journal.proofs.MoveLemmas.{IsSpent, spent_over, spent_applied, stands_quit, stands_gone, stands_voted, live_still}
 use Rattle.alp_journal.proofs.DeskLemmas.{tells_voted}
@@ -235,16 +235,16 @@ module _ (a : Account) (from : ℕ) (t : TransId) (j : JoinNo) where
   abort_passed_leads c q up none = says_leads a from (msg.Abort t j c) false [] (record { quiet = q; up = up; brought = not_live none (λ client. Aborts j t client c ∷ []); said = tt; mail = IsPermutation-refl []; addressed = refl; applied = tt })
 
   -- one that asks to be let in is over
-  pub abort_joining_leads : (c : Cause) (client : ℕ) (who : List ℕ) → IsQuiet a → a.is_down ≡ false → a.phases j ≡ Joining t client who → a.holder.lives t ≡ None
+  pub abort_joining_leads : (c : Cause) (client : ℕ) (who : List ℕ) → IsQuiet a → a.is_down ≡ false → a.phases j ≡ Joining t client who
       → Leads false a (arrive_entry a from (msg.Abort t j c) []) (with_quit client who c)
-  abort_joining_leads c client who q up asks none =
+  abort_joining_leads c client who q up asks =
       let m : Account = with_quit client who c in
       arrive_leads a from (msg.Abort t j c) false [] (Aborts j t client c ∷ []) m (record {
         up = refl;
         running = up;
         brought = ap (λ (p : Phase). if_its t (live_in p) (λ n. Aborts j t n c ∷ []) ++ [] ++ []) asks ∙ ap (λ (b : Bool). cond {A = List Deed} b (Aborts j t client c ∷ []) [] ++ [] ++ []) (same_trans-itself t);
         left = λ i. state_of (record m {
-          holder = record a.holder { lives = λ u. as_was none u (same_trans u t) refl i };
+          holder = record a.holder { lives = λ u. as_was q.settled asks u (same_trans u t) refl i };
           phases = λ k. over_at k (same_join j k) refl i;
           begun = append-nil a.begun i;
           joined = append-nil a.joined i;
@@ -263,9 +263,24 @@ module _ (a : Account) (from : ℕ) (t : TransId) (j : JoinNo) where
         turns = tt;
       })
     where
-      as_was : a.holder.lives t ≡ None → (u : TransId) (b : Bool) → same_trans u t ≡ b → cond {A = Option Life} b (lapsed j (a.holder.lives u)) (a.holder.lives u) ≡ a.holder.lives u
-      as_was none u false e = refl
-      as_was none u true e = (let gone : a.holder.lives u ≡ None = ap a.holder.lives (same_trans-true u t e) ∙ none in ap (lapsed j) gone ∙ sym gone)
+      -- another join's part stays
+      as_was : IsSettled a → a.phases j ≡ Joining t client who → (u : TransId) (b : Bool) → same_trans u t ≡ b → cond {A = Option Life} b (lapsed j (a.holder.lives u)) (a.holder.lives u) ≡ a.holder.lives u
+      as_was q asks u false e = refl
+      as_was q asks u true e = go (a.holder.lives u) refl
+        where
+          by : (l : Life) → a.holder.lives u ≡ Some l → (x : Option JoinNo) → l.join ≡ x → cond {A = Life} (is_part j x) (emptied l) l ≡ l
+          by l live None f = refl
+          by l live (Some k) f = its (same_join k j) refl
+            where
+              its : (d : Bool) → same_join k j ≡ d → cond {A = Life} d (emptied l) l ≡ l
+              its false g = refl
+              its true g =
+                  let holds : IsHolding u (a.phases k) = holding_of u l (a.phases k) (join_part_is u a.phases l (a.fates u) k f (pair_of a q.stands u l live)).0 in
+                  absurd (subst (IsHolding u) (ap a.phases (same_join-true k j g) ∙ asks) holds)
+
+          go : (x : Option Life) → a.holder.lives u ≡ x → lapsed j x ≡ x
+          go None f = refl
+          go (Some l) f = ap Some (by l f l.join refl)
 
       over_at : (k : JoinNo) (b : Bool) → same_join j k ≡ b → cond {A = Phase} b (phase.aborted t (a.phases k)) (a.phases k) ≡ cond {A = Phase} b (phase.quit (a.phases k)) (a.phases k)
       over_at k false e = refl
