@@ -202,11 +202,13 @@ module _ (a : Account) (client number : ℕ) (w : Session) (n : ℕ) (v : Waitin
             → Leads false a (call_entry a client number w collect (reply.Committed stamp) []) (record (counted_as a client number w (reply.Committed stamp)) { waits = uncollected a client number w n })
         go (Committed y ks ds) e h =
             let of = subst (IsFateOf a.servers a.holder.server a.ids.epoch a.ids.transactions a.begun t) e (q.stands.fates t) in
-            let one : y ≡ stamp = ap (λ (z : Stamp × List JoinNo). z.0) (same-some (y, ks) (stamp, js) h) in
+            let both : ◌≡◌ {A = Stamp × List JoinNo} (y, ks) (stamp, js) = same-some (y, ks) (stamp, js) h in
+            let one : y ≡ stamp = ap (λ (z : Stamp × List JoinNo). z.0) both in
             decided (Committed y ks ds) e (ap (λ (z : Stamp). z.trans) (sym one) ∙ of.1) (own_server a.holder.server a.ids.epoch a.ids.transactions t of.0.0) (ap (λ (z : Stamp). reply.Committed z) one) (λ c g. (let wrong : Committed y ks ds ≡ Ended c = g in cc))
         go (Forgotten y ks) e h =
             let of = subst (IsFateOf a.servers a.holder.server a.ids.epoch a.ids.transactions a.begun t) e (q.stands.fates t) in
-            let one : y ≡ stamp = ap (λ (z : Stamp × List JoinNo). z.0) (same-some (y, ks) (stamp, js) h) in
+            let both : ◌≡◌ {A = Stamp × List JoinNo} (y, ks) (stamp, js) = same-some (y, ks) (stamp, js) h in
+            let one : y ≡ stamp = ap (λ (z : Stamp × List JoinNo). z.0) both in
             decided (Forgotten y ks) e (ap (λ (z : Stamp). z.trans) (sym one) ∙ of.1) (own_server a.holder.server a.ids.epoch a.ids.transactions t of.0.0) (ap (λ (z : Stamp). reply.Committed z) one) (λ c g. (let wrong : Forgotten y ks ≡ Ended c = g in cc))
         go Undrawn e h = let wrong : ◌≡◌ {A = Option (Stamp × List JoinNo)} None (Some (stamp, js)) = h in cc
         go (Running c ks) e h = let wrong : ◌≡◌ {A = Option (Stamp × List JoinNo)} None (Some (stamp, js)) = h in cc

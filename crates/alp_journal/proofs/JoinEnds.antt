@@ -55,7 +55,7 @@ module _ (a : Account) (j : JoinNo) (t : TransId) (client : ℕ) (move : Phase �
   far o here = go (a.phases j) o.its (o.settled.stands.phases j)
     where
       at : (v : TransId) (c : ℕ) → ◌≡◌ {A = Option (TransId × ℕ)} (Some (v, c)) (Some (t, client)) → v ≡ t
-      at v c e = ap (λ (x : TransId × ℕ). x.0) (same-some (v, c) (t, client) e)
+      at v c e = let both : ◌≡◌ {A = TransId × ℕ} (v, c) (t, client) = same-some (v, c) (t, client) e in ap (λ (x : TransId × ℕ). x.0) both
 
       go : (p : Phase) → live_in p ≡ Some (t, client) → IsPhaseOf a.servers a.holder.server a.ids.epoch a.ids.joins a.joined j p → ⊥
       go Unseen e k = let wrong : ◌≡◌ {A = Option (TransId × ℕ)} None (Some (t, client)) = e in cc
