@@ -1,9 +1,8 @@
 -- entries of a message that arrives
-use Rattle.std.specs.Prelude.{cond, Bool, true, false, ◌&&◌, flat_map, filter, Option, None, Some}
+use Rattle.std.specs.Prelude.{cond, Bool, true, false, ◌&&◌, flat_map, Option, None, Some}
 use Rattle.std.specs.List.{list_any, AllByRecursion}
 use Rattle.std.specs.List.Sorted.{IsPermutation}
 use Rattle.std.proofs.lemmas.List.{append-nil}
-use Rattle.std.proofs.lemmas.List.Sorted.{IsPermutation-refl}
 use Rattle.std.proofs.Common.{◌≡◌, ℕ, List, [], ◌∷◌, ◌++◌, refl, sym, ◌∙◌, ap, subst}
 use Rattle.alp_base.specs.declared.ids.TransId.{TransId}
 use Rattle.alp_files.specs.declared.reply.Reply.{Reply}
@@ -16,9 +15,9 @@ use Rattle.alp_journal.specs.declared.message.Message.{Message}
 use Rattle.alp_journal.specs.declared.entry.Entry.{Entry}
 use Rattle.alp_journal.specs.Along.{Along, Where, state_after}
 use Rattle.alp_journal.specs.Deeds.{Deed}
-use Rattle.alp_journal.specs.State.{State, state_deed, is_other_server}
+use Rattle.alp_journal.specs.State.{State, state_deed}
 use Rattle.alp_journal.specs.Halts.{HaltsRight}
-use Rattle.alp_journal.specs.Moves.{is_stop, tried, told, halted, next, message_deeds, event_deeds, act_deeds}
+use Rattle.alp_journal.specs.Moves.{is_stop, tried, told, halted, next, message_deeds, act_deeds}
 use Rattle.alp_journal.specs.Laws.{IsLawfulDeed, DoLivesAgree, ReleasesEnded, WaitsInTurn, IsStopped, TellsStop, SaysRight, drawn_by, granted_by, released_by, ended_by, grants_of, regained_by}
 use Rattle.alp_journal.specs.Messages.{Mail, on_message, to_others, due, sent_by}
 use Rattle.alp_journal.specs.Answered.{AppliesTold, CountsVotes, ForgetsDone, is_release, at_release, in_turn, IsWalk, GivesOn}

@@ -25,7 +25,7 @@ use Rattle.alp_journal.specs.Ids.{same_trans}
 use Rattle.alp_journal.specs.Deeds.{Deed, Begins}
 use Rattle.alp_journal.specs.Coordinator.{Fate, Undrawn, Running, Finishing, Committed, Forgotten, Ended, client_of, is_running, decision_in, has_votes}
 use Rattle.alp_journal.specs.Coordinator as fate
-use Rattle.alp_journal.specs.Participant.{Phase, Joining, live_in}
+use Rattle.alp_journal.specs.Participant.{Phase, live_in}
 use Rattle.alp_journal.specs.Holder.{Life, new_life, with_life}
 use Rattle.alp_journal.specs.Desk.{Session, Waiting, file_trans, part_trans, is_of, is_of_part, is_on, is_call_on, without}
 use Rattle.alp_journal.specs.Counts.{lock_set}

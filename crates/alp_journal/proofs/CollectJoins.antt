@@ -1,9 +1,8 @@
 -- a Join or a Finish that waits is collected
-use Rattle.std.specs.Prelude.{cond, Bool, true, false, not, ◌&&◌, ◌||◌, ◌==◌, find, is_some, Option, None, Some, IsSome}
-use Rattle.std.specs.List.{AllByRecursion}
+use Rattle.std.specs.Prelude.{cond, Bool, true, false, ◌&&◌, ◌||◌, ◌==◌, find, is_some, Option, None, Some}
 use Rattle.std.specs.FinMap.Entries as entries
 use Rattle.std.proofs.lemmas.Bool.{and_parts, eqb-true}
-use Rattle.std.proofs.Common.{◌≡◌, ℕ, ◌+◌, List, [], ◌∷◌, ◌++◌, refl, sym, ◌∙◌, ap, subst, eq-eqb}
+use Rattle.std.proofs.Common.{◌≡◌, ℕ, ◌+◌, List, [], ◌∷◌, ◌++◌, refl, sym, ◌∙◌, ap, subst}
 use Rattle.alp_base.specs.declared.ids.JoinNo.{JoinNo}
 use Rattle.alp_base.specs.declared.ids.Stamp.{Stamp}
 use Rattle.alp_base.specs.declared.ids.TransId.{TransId}
@@ -16,14 +15,13 @@ use Rattle.alp_files.specs.declared.reply.Reply.TheVariants as reply
 use Rattle.alp_files.specs.declared.refusal.Refusal.TheVariants as refusal
 use Rattle.alp_files.specs.declared.refusal.Cause.{Cause}
 use Rattle.alp_journal.specs.Ids.{same_trans, stamp_cmp}
-use Rattle.alp_journal.specs.Deeds.{Deed}
 use Rattle.alp_journal.specs.Coordinator.{Fate, Undrawn, Running, Finishing, Committed, Forgotten, Ended, decision_in}
 use Rattle.alp_journal.specs.Participant.{Phase, Joining, live_in}
-use Rattle.alp_journal.specs.Desk.{Desk, Session, Waiting, file_trans, part_trans, is_of, is_of_part, is_on, is_dead, is_dead_call, waiting_at, without, is_not_yet, collected, with_session}
+use Rattle.alp_journal.specs.Desk.{Desk, Session, Waiting, file_trans, part_trans, is_of, is_of_part, is_on, is_dead, is_dead_call, waiting_at, is_not_yet, collected, with_session}
 use Rattle.alp_journal.specs.State.{State, is_whose}
 use Rattle.alp_journal.specs.Moves.{call_of, done_by, done_of}
 use Rattle.alp_journal.specs.Laws.{TellsIn, begun_in}
-use Rattle.alp_journal.specs.Answers.{Part, AtJoining, AtWork, AtFinish, AtReady, AtEnd, is_no_part, phase_part, join_part, own_part, ended_part, part_at, join_collected, finish_collected, IsCollectedOf, IsCollected}
+use Rattle.alp_journal.specs.Answers.{AtJoining, AtWork, AtEnd, is_no_part, phase_part, part_at, join_collected, finish_collected, IsCollectedOf, IsCollected}
 use Rattle.alp_journal.specs.Account.{Account, state_of, is_other, IsFateOf, Stands, IsSettled, IsQuiet, Leads}
 use Rattle.alp_journal.proofs.IdLemmas.{same_trans-true}
 use Rattle.alp_journal.proofs.MadeIds.{all-map}

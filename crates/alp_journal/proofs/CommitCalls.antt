@@ -46,7 +46,7 @@ use Rattle.alp_journal.proofs.PartLemmas.{own_at_work}
 use Rattle.alp_journal.proofs.QuietLemmas.{none_tried, agree_without, has_ended, ended_moved, parts-gone, others-on, finish-moved, none-on, quiet_told}
 use Rattle.alp_journal.proofs.CallLemmas.{call_entry}
 use Rattle.alp_journal.proofs.RefusedCalls.{counted_as}
-use Rattle.alp_journal.proofs.LetGoLemmas.{GoesOn, let_go_quiet, finish_event, no_file_call, finish_leads}
+use Rattle.alp_journal.proofs.LetGoLemmas.{GoesOn, let_go_quiet, no_file_call, finish_leads}
 use Rattle.alp_journal.proofs.OwnEnds.{lived_on, IsOwn, own_of, here_as, known_as, now_as}
 
 twice : {A : Type 0} (b : Bool) (x y z : A) → cond {A = A} b x (cond {A = A} b y z) ≡ cond {A = A} b x z

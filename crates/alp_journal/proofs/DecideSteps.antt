@@ -1,10 +1,10 @@
 -- votes that arrive at the server of a transaction: with the last one it is decided, or ends by this server's own
-use Rattle.std.specs.Prelude.{cond, Bool, true, false, not, ◌&&◌, ◌||◌, ◌==◌, max, filter, flat_map, find, Option, None, Some, IsSome, if◌then◌else◌}
+use Rattle.std.specs.Prelude.{cond, Bool, true, false, not, ◌&&◌, ◌||◌, ◌==◌, max, Option, None, Some, IsSome, if◌then◌else◌}
 use Rattle.std.specs.List.{list_all, AllByRecursion}
 use Rattle.std.specs.List.Sorted.{IsPermutation}
 use Rattle.std.specs.Option.{option_or}
 use Rattle.std.specs.FinMap.Entries.{put}
-use Rattle.std.proofs.lemmas.Bool.{and_parts, and_from, or_left, or_right}
+use Rattle.std.proofs.lemmas.Bool.{and_parts, or_left, or_right}
 use Rattle.std.proofs.lemmas.List.{append-nil}
 use Rattle.std.proofs.lemmas.List.Sorted.{IsPermutation-refl}
 use Rattle.std.proofs.Common.{◌≡◌, ℕ, ◌+◌, ◌≤◌, List, [], ◌∷◌, ◌++◌, refl, sym, ◌∙◌, ap, subst, eq-eqb, le_refl}
@@ -27,24 +27,24 @@ use Rattle.alp_journal.specs.Ids.{same_trans, same_join, has_join, stamp_cmp, is
 use Rattle.alp_journal.specs.Deeds.{Deed, Hears, Decides, Ends, Releases}
 use Rattle.alp_journal.specs.Coordinator.{Fate, Vote, Undrawn, Running, Finishing, Committed, Forgotten, Ended, client_of, is_running, has_votes, voted, with_vote, decision_in}
 use Rattle.alp_journal.specs.Coordinator as fate
-use Rattle.alp_journal.specs.Holder.{Holder, Life, with_life, emptied, commits}
+use Rattle.alp_journal.specs.Holder.{Life, with_life, emptied, commits}
 use Rattle.alp_journal.specs.Desk.{Waiting, file_trans, part_trans, is_of, is_of_part, waiting_of}
 use Rattle.alp_journal.specs.Counts.{lock_set}
-use Rattle.alp_journal.specs.State.{State, Ids, state_deed, is_trans_drawn, is_other_server}
+use Rattle.alp_journal.specs.State.{State, Ids, state_deed}
 use Rattle.alp_journal.specs.Moves.{first_sent, abort_in, hears, ends_for}
-use Rattle.alp_journal.specs.Laws.{IsLawfulDeed, SaysRight, HasDecision, ended_by, latest_vote}
+use Rattle.alp_journal.specs.Laws.{SaysRight, HasDecision, latest_vote}
 use Rattle.alp_journal.specs.Messages.{Mail, to_each, to_others, on_ready, own_vote, on_votes, has_all_votes, why_not_own}
 use Rattle.alp_journal.specs.Answered.{is_all_done, IsWalk, in_turn}
-use Rattle.alp_journal.specs.Account.{Account, state_of, is_other, AreVotes, IsFateOf, Stands, Tells, IsSettled, IsQuiet, IsFinishOf, HasNoCall, is_on_trans, granted_calls, with_granted, grant_acts, sent_acts, Leads}
-use Rattle.alp_journal.proofs.IdLemmas.{same_trans-true, same_trans-itself, same_join-true, or-true}
+use Rattle.alp_journal.specs.Account.{Account, state_of, is_other, AreVotes, IsFateOf, Stands, IsSettled, IsQuiet, IsFinishOf, HasNoCall, is_on_trans, granted_calls, with_granted, grant_acts, sent_acts, Leads}
+use Rattle.alp_journal.proofs.IdLemmas.{same_trans-itself}
 use Rattle.alp_journal.proofs.WaitLemmas.{found-is, file_part}
-use Rattle.alp_journal.proofs.StandLemmas.{same_join-itself, any-last, moved_fate, moved_all, own_pair, own_unheld}
+use Rattle.alp_journal.proofs.StandLemmas.{same_join-itself, moved_fate, moved_all, own_pair, own_unheld}
 use Rattle.alp_journal.proofs.MoveLemmas.{stands_fated, stands_over}
 use Rattle.alp_journal.proofs.DeskLemmas.{tells_fated}
 use Rattle.alp_journal.proofs.QuietLemmas.{none_tried, parts-gone, has_ended, ended_moved, others-on, finish-moved}
-use Rattle.alp_journal.proofs.CallLemmas.{AreAddressed, no_mail}
-use Rattle.alp_journal.proofs.LetGoLemmas.{IsGivenOn, GoesOn}
-use Rattle.alp_journal.proofs.ArrivalLemmas.{arrive_entry, ArriveOwes, arrive_leads, SaysOwes, says_leads, LeavesOwes, leaves_leads}
+use Rattle.alp_journal.proofs.CallLemmas.{no_mail}
+use Rattle.alp_journal.proofs.LetGoLemmas.{GoesOn}
+use Rattle.alp_journal.proofs.ArrivalLemmas.{arrive_entry, arrive_leads, says_leads, leaves_leads}
 use Rattle.alp_journal.proofs.OwnEnds.{each-addressed, aborts-said, aborts-addressed, lived_on, part_ended, IsOwn, here_as, known_as, now_as, fate_ended, after_goes}
 use Rattle.alp_journal.proofs.RegisterSteps.{quiet_beside}
 

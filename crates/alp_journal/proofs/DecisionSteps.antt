@@ -1,11 +1,9 @@
 -- votes and ends that arrive at the server of a transaction
-use Rattle.std.specs.Prelude.{cond, Bool, true, false, not, ◌&&◌, ◌||◌, ◌==◌, max, filter, flat_map, Option, None, Some, IsSome, if◌then◌else◌}
-use Rattle.std.specs.List.{list_all, AllByRecursion}
+use Rattle.std.specs.Prelude.{cond, Bool, true, false, ◌&&◌, ◌||◌, ◌==◌, Option, None, Some, if◌then◌else◌}
 use Rattle.std.specs.List.Sorted.{IsPermutation}
-use Rattle.std.proofs.lemmas.Bool.{and_parts, and_from, eqb-true}
 use Rattle.std.proofs.lemmas.List.{append-nil}
 use Rattle.std.proofs.lemmas.List.Sorted.{IsPermutation-refl}
-use Rattle.std.proofs.Common.{inl, inr, ◌≡◌, ℕ, ◌+◌, ◌<◌, ◌≤◌, List, [], ◌∷◌, ◌++◌, refl, sym, ◌∙◌, ap, subst, eq-eqb}
+use Rattle.std.proofs.Common.{◌≡◌, ℕ, ◌+◌, ◌<◌, ◌≤◌, List, [], ◌∷◌, ◌++◌, refl, sym, ◌∙◌, ap, subst, eq-eqb}
 use Rattle.alp_base.specs.declared.ids.JoinNo.{JoinNo}
 use Rattle.alp_base.specs.declared.ids.Stamp.{Stamp}
 use Rattle.alp_base.specs.declared.ids.TransId.{TransId}
@@ -19,27 +17,25 @@ use Rattle.alp_journal.specs.declared.event.Event.{Event}
 use Rattle.alp_journal.specs.declared.event.Event.TheVariants as event
 use Rattle.alp_journal.specs.declared.message.Message.{Message}
 use Rattle.alp_journal.specs.declared.message.Message.TheVariants as msg
-use Rattle.alp_journal.specs.Ids.{same_trans, same_join, has_join, is_drawn}
-use Rattle.alp_journal.specs.Deeds.{Deed, Acknowledges, Forgets, Ends, Hears, Releases}
-use Rattle.alp_journal.specs.Coordinator.{Fate, Vote, Undrawn, Running, Finishing, Committed, Forgotten, Ended, client_of, is_running, has_votes, has_all, voted, with_vote, decision_in}
+use Rattle.alp_journal.specs.Ids.{same_trans, has_join, is_drawn}
+use Rattle.alp_journal.specs.Deeds.{Deed, Acknowledges, Forgets, Ends, Releases}
+use Rattle.alp_journal.specs.Coordinator.{Fate, Vote, Undrawn, Running, Finishing, Committed, Forgotten, Ended, client_of, is_running, has_votes, has_all, decision_in}
 use Rattle.alp_journal.specs.Coordinator as fate
-use Rattle.alp_journal.specs.Holder.{Life, with_life}
-use Rattle.alp_journal.specs.Counts.{lock_set}
-use Rattle.alp_journal.specs.State.{State, Ids, state_deed, is_trans_drawn, is_other_server}
-use Rattle.alp_journal.specs.Moves.{hears, refuses, acknowledges, ends_for, first_sent, abort_in}
-use Rattle.alp_journal.specs.Laws.{IsLawfulDeed, SaysRight, MaySay, MayAbort, HasDecision}
-use Rattle.alp_journal.specs.Messages.{Mail, to_each, to_others, on_inquire, on_ready, on_no, has_all_votes, why_not_own, lost_or, commit_to}
+use Rattle.alp_journal.specs.Holder.{Life}
+use Rattle.alp_journal.specs.State.{Ids, state_deed, is_trans_drawn, is_other_server}
+use Rattle.alp_journal.specs.Moves.{refuses, acknowledges}
+use Rattle.alp_journal.specs.Laws.{MaySay, MayAbort, HasDecision}
+use Rattle.alp_journal.specs.Messages.{Mail, to_each, to_others, on_inquire, on_no, lost_or, commit_to}
 use Rattle.alp_journal.specs.Answered.{is_all_done, IsWalk, in_turn}
-use Rattle.alp_journal.specs.Account.{Account, state_of, AreVotes, IsKnown, IsFateOf, Stands, Tells, IsSettled, IsQuiet, IsFinishOf, HasNoCall, granted_calls, with_granted, grant_acts, sent_acts, Leads}
-use Rattle.alp_journal.proofs.IdLemmas.{same_trans-true, same_trans-itself, same_join-true, all-each}
-use Rattle.alp_journal.proofs.StandLemmas.{moved_fate, same_join-itself, own_pair}
+use Rattle.alp_journal.specs.Account.{Account, state_of, IsFateOf, IsSettled, IsQuiet, IsFinishOf, HasNoCall, granted_calls, with_granted, grant_acts, sent_acts, Leads}
+use Rattle.alp_journal.proofs.StandLemmas.{moved_fate, own_pair}
 use Rattle.alp_journal.proofs.MoveLemmas.{stands_fated}
 use Rattle.alp_journal.proofs.DeskLemmas.{tells_fated}
 use Rattle.alp_journal.proofs.QuietLemmas.{none_tried}
 use Rattle.alp_journal.proofs.CallLemmas.{AreAddressed, no_mail}
-use Rattle.alp_journal.proofs.LetGoLemmas.{IsGivenOn, GoesOn}
-use Rattle.alp_journal.proofs.ArrivalLemmas.{arrive_entry, arriving, ArriveOwes, arrive_leads, SaysOwes, says_leads, LeavesOwes, leaves_leads, no_release}
-use Rattle.alp_journal.proofs.OwnEnds.{aborts-said, aborts-addressed, part_ended, IsOwn, runs_as, here_as, known_as, now_as, fate_ended, ends_goes, after_goes}
+use Rattle.alp_journal.proofs.LetGoLemmas.{GoesOn}
+use Rattle.alp_journal.proofs.ArrivalLemmas.{arrive_entry, arrive_leads, says_leads, leaves_leads}
+use Rattle.alp_journal.proofs.OwnEnds.{aborts-said, aborts-addressed, part_ended, IsOwn, known_as, now_as, fate_ended, ends_goes}
 use Rattle.alp_journal.proofs.RegisterSteps.{quiet_beside}
 use Rattle.alp_journal.proofs.DecideSteps.{others-each}
 

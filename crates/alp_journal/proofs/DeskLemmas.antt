@@ -1,26 +1,23 @@
 -- what is told goes on as one more call waits, as a fate moves, and as a join moves
-use Rattle.std.specs.Prelude.{cond, Bool, true, false, not, ◌&&◌, ◌==◌, find, Option, None, Some, IsSome}
+use Rattle.std.specs.Prelude.{cond, Bool, true, false, ◌&&◌, ◌==◌, find, Option, None, Some, IsSome}
 use Rattle.std.specs.List.{AllByRecursion}
-use Rattle.std.proofs.lemmas.Bool.{and_parts, eqb-true, ne_eqb}
-use Rattle.std.proofs.Common.{inl, inr, ◌≡◌, ℕ, ◌+◌, ◌≤◌, List, [], ◌∷◌, ◌++◌, refl, sym, ◌∙◌, ap, subst, eq-eqb, arith, le_refl}
+use Rattle.std.proofs.lemmas.Bool.{eqb-true, ne_eqb}
+use Rattle.std.proofs.Common.{inl, inr, ◌≡◌, ℕ, ◌+◌, ◌≤◌, List, [], ◌∷◌, ◌++◌, refl, sym, ◌∙◌, ap, subst, eq-eqb, arith}
 use Rattle.alp_base.specs.declared.ids.JoinNo.{JoinNo}
 use Rattle.alp_base.specs.declared.ids.TransId.{TransId}
-use Rattle.alp_files.proofs.FilesLemmas.{same-some}
 use Rattle.alp_files.specs.declared.refusal.Cause.{Cause}
-use Rattle.alp_files.specs.declared.reply.Reply.{Reply}
 use Rattle.alp_journal.specs.Ids.{same_trans, same_join}
-use Rattle.alp_journal.specs.Coordinator.{Fate, Vote, Undrawn, Running, Finishing, Committed, Forgotten, Ended}
-use Rattle.alp_journal.specs.Participant.{Phase, Unseen, Joining, Active, Ready, Applied, Over, live_in, open_in}
-use Rattle.alp_journal.specs.Holder.{Life}
-use Rattle.alp_journal.specs.Desk.{Session, Waiting, file_trans, part_trans, is_of, is_of_part, without}
+use Rattle.alp_journal.specs.Coordinator.{Fate, Ended}
+use Rattle.alp_journal.specs.Participant.{Phase, Ready, live_in, open_in}
+use Rattle.alp_journal.specs.Desk.{Session, Waiting, file_trans, part_trans, is_of, is_of_part}
 use Rattle.alp_journal.specs.State.{is_whose}
-use Rattle.alp_journal.specs.Account.{Account, state_of, Stands, Tells, IsSettled, IsPartOf, IsOfPart, IsJoinOf, IsFinishOf, IsOther, HasCome, AreTwo, HasWaits, HasNoCall, HasNoJoin, is_on_trans}
-use Rattle.alp_journal.proofs.IdLemmas.{same_trans-true, same_trans-itself, same_join-true, all-append}
+use Rattle.alp_journal.specs.Account.{Account, Tells, IsOfPart, IsFinishOf, IsOther, HasCome, AreTwo, HasWaits, HasNoCall}
+use Rattle.alp_journal.proofs.IdLemmas.{same_join-true, all-append}
 use Rattle.alp_journal.proofs.MadeIds.{all-map}
-use Rattle.alp_journal.proofs.WaitLemmas.{turned, found-none, all-both, all-of, apart-last, file_part}
-use Rattle.alp_journal.proofs.StandLemmas.{moved_all, moved_each, moved_phase, whose, whose_own, live_of_open}
-use Rattle.alp_journal.proofs.MoveLemmas.{live_before, open_still, live_still}
-use Rattle.alp_journal.proofs.QuietLemmas.{ended_moved, ended_told, ended_joins, AreOfParts, parts-told, parts-gone, none-on, other-on, others-on, finish-moved, waits-last, calls-last, KeepsJoins, tells_without, keeps_part}
+use Rattle.alp_journal.proofs.WaitLemmas.{turned, all-both, apart-last}
+use Rattle.alp_journal.proofs.StandLemmas.{moved_all, moved_each}
+use Rattle.alp_journal.proofs.MoveLemmas.{open_still, live_still}
+use Rattle.alp_journal.proofs.QuietLemmas.{ended_moved, ended_joins, other-on, others-on, finish-moved, waits-last, calls-last}
 
 -- ---- one more call waits
 

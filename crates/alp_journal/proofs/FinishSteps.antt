@@ -25,28 +25,28 @@ use Rattle.alp_journal.specs.Coordinator.{Fate, Running, Finishing, Ended, clien
 use Rattle.alp_journal.specs.Coordinator as fate
 use Rattle.alp_journal.specs.Participant.{Ready}
 use Rattle.alp_journal.specs.Holder.{Life}
-use Rattle.alp_journal.specs.Desk.{Desk, Session, Waiting, file_trans, part_trans, is_of, is_of_part, waiting_of, finished, with_session}
+use Rattle.alp_journal.specs.Desk.{Desk, Session, Waiting, file_trans, is_of_part, waiting_of, finished, with_session}
 use Rattle.alp_journal.specs.State.{State, state_deed}
-use Rattle.alp_journal.specs.Moves.{finishes, ends_by, act_deeds, is_stop}
+use Rattle.alp_journal.specs.Moves.{finishes, act_deeds, is_stop}
 use Rattle.alp_journal.specs.Laws.{IsBlocked, IsHolding, SaysRight, drawn_by, released_by, granted_by, regained_by}
 use Rattle.alp_journal.specs.Messages.{Mail, to_each, on_finish}
 use Rattle.alp_journal.specs.Answered.{is_all_done, is_release}
 use Rattle.alp_journal.specs.Answers.{Part, part_at, at_part, finish_reply, First}
-use Rattle.alp_journal.specs.Account.{Account, state_of, IsFateOf, Stands, Tells, IsSettled, IsQuiet, HasTried, IsFinishOf, HasCome, HasNoCall, is_on_trans, sent_acts, Leads}
-use Rattle.alp_journal.proofs.IdLemmas.{same_trans-true, same_trans-itself, all-append}
+use Rattle.alp_journal.specs.Account.{Account, state_of, IsFateOf, Stands, Tells, IsQuiet, HasTried, IsFinishOf, HasCome, HasNoCall, sent_acts, Leads}
+use Rattle.alp_journal.proofs.IdLemmas.{same_trans-true, all-append}
 use Rattle.alp_journal.proofs.MadeIds.{all-map}
 use Rattle.alp_journal.proofs.WaitLemmas.{none-found}
 use Rattle.alp_journal.proofs.TurnLemmas.{blocked-as}
 use Rattle.alp_journal.proofs.StandLemmas.{moved_fate, own_unheld}
 use Rattle.alp_journal.proofs.PartLemmas.{own_at_work}
 use Rattle.alp_journal.proofs.MoveLemmas.{stands_fated}
-use Rattle.alp_journal.proofs.DeskLemmas.{IsNext, tells_waiting, tells_fated, came-before}
+use Rattle.alp_journal.proofs.DeskLemmas.{tells_waiting, tells_fated, came-before}
 use Rattle.alp_journal.proofs.QuietLemmas.{none-on, stands_as}
-use Rattle.alp_journal.proofs.CallLemmas.{AreAddressed, IsMail, mail_behind, call_entry, new_call, call_leads}
+use Rattle.alp_journal.proofs.CallLemmas.{IsMail, mail_behind, call_entry, new_call, call_leads}
 use Rattle.alp_journal.proofs.RefusedCalls.{counted_as, counted_quiet}
 use Rattle.alp_journal.proofs.LetGoLemmas.{none-sent, no-mail-is}
 use Rattle.alp_journal.proofs.ArrivalLemmas.{no_release}
-use Rattle.alp_journal.proofs.OwnEnds.{each-addressed, IsOwn, own_of, here_as, known_as, now_as}
+use Rattle.alp_journal.proofs.OwnEnds.{each-addressed, IsOwn, own_of, here_as}
 
 -- nothing is said wrong by a question
 asks-said : (e : Event) (x : State) (t : TransId) (js : List JoinNo) → AllByRecursion (SaysRight e x) (sent_acts (to_each (msg.Ask t) js))

@@ -16,8 +16,6 @@ use Rattle.alp_journal.specs.declared.event.Event.{Event}
 use Rattle.alp_journal.specs.Along.{Along, state_after}
 use Rattle.alp_journal.specs.Ids.{same_trans}
 use Rattle.alp_journal.specs.Deeds.{Deed, Grants}
-use Rattle.alp_journal.specs.Coordinator.{is_running}
-use Rattle.alp_journal.specs.Participant.{Phase, Active, Ready}
 use Rattle.alp_journal.specs.Holder.{Holder, Life, held_for, grants}
 use Rattle.alp_journal.specs.Counts.{lock_set, with_resources, request_in}
 use Rattle.alp_journal.specs.Desk.{Waiting, file_trans, is_of_part, waiting_of, grant_in}
@@ -25,7 +23,7 @@ use Rattle.alp_journal.specs.State.{State, state_deed}
 use Rattle.alp_journal.specs.Moves.{ungranted, call_now, asks_for, grants_to, act_deeds}
 use Rattle.alp_journal.specs.Laws.{IsLawfulDeed, IsFree, IsBlocked, IsOpenPart, DoLivesAgree, WaitsInTurn, ended_by, granted_by, grants_of, SaysRight}
 use Rattle.alp_journal.specs.Answered.{IsWalk, in_turn, is_conversion}
-use Rattle.alp_journal.specs.Account.{Account, state_of, IsJoined, IsPartAs, IsSettled, IsQuiet, HasTried, IsPartOf, IsOfPart, IsOther, HasCome, HasWaits, granted_calls, holder_granted, waits_granted, with_granted, grant_acts, grant_deeds}
+use Rattle.alp_journal.specs.Account.{Account, state_of, IsPartAs, IsSettled, IsQuiet, HasTried, IsPartOf, IsOfPart, IsOther, HasCome, HasWaits, granted_calls, holder_granted, waits_granted, with_granted, grant_acts, grant_deeds}
 use Rattle.alp_journal.proofs.IdLemmas.{same_trans-true}
 use Rattle.alp_journal.proofs.MadeIds.{all-map}
 use Rattle.alp_journal.proofs.WaitLemmas.{IsOnly, each-only, by_part, found-none, all-both, all-turned, all-turned-back, all-granted, apart-granted}

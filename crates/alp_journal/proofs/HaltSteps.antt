@@ -1,9 +1,9 @@
 -- messages at which the device of a server stopped or failed
-use Rattle.std.specs.Prelude.{cond, Bool, true, false, ◌&&◌, ◌||◌, ◌==◌, flat_map, is_some, is_none, Option, None, Some}
+use Rattle.std.specs.Prelude.{cond, Bool, true, false, ◌&&◌, ◌||◌, ◌==◌, flat_map, is_some, Option, None, Some}
 use Rattle.std.specs.List.{list_any, list_all, AllByRecursion}
 use Rattle.std.specs.List.Sorted.{IsPermutation}
 use Rattle.std.proofs.lemmas.Bool.{and_parts}
-use Rattle.std.proofs.Common.{inl, inr, ◌≡◌, ◌⊎◌, ℕ, ◌+◌, List, [], ◌∷◌, ◌++◌, refl, sym, ◌∙◌, ap, subst, eq-eqb}
+use Rattle.std.proofs.Common.{inl, inr, ◌≡◌, ◌⊎◌, ℕ, ◌+◌, List, [], ◌∷◌, ◌++◌, refl, sym, ◌∙◌, ap, subst}
 use Rattle.alp_base.specs.declared.ids.JoinNo.{JoinNo}
 use Rattle.alp_base.specs.declared.ids.Stamp.{Stamp}
 use Rattle.alp_base.specs.declared.ids.TransId.{TransId}
@@ -23,7 +23,7 @@ use Rattle.alp_journal.specs.declared.message.Message.TheVariants as msg
 use Rattle.alp_journal.specs.declared.entry.Entry.{Entry}
 use Rattle.alp_journal.specs.Along.{Along, Where}
 use Rattle.alp_journal.specs.Ids.{same_trans, has_join}
-use Rattle.alp_journal.specs.Deeds.{Deed, Readies, Applies, Aborts, Hears, Decides, Acknowledges, Forgets}
+use Rattle.alp_journal.specs.Deeds.{Deed, Readies, Aborts, Hears, Decides, Acknowledges, Forgets}
 use Rattle.alp_journal.specs.Coordinator.{Fate, Vote, Finishing, Committed, has_votes, has_all, voted, with_vote}
 use Rattle.alp_journal.specs.Coordinator as fate
 use Rattle.alp_journal.specs.Participant.{Phase, Active, Ready, live_in, open_in}
@@ -31,13 +31,13 @@ use Rattle.alp_journal.specs.Holder.{Life}
 use Rattle.alp_journal.specs.Desk.{is_of_part, waiting_of}
 use Rattle.alp_journal.specs.Counts.{ready_sum}
 use Rattle.alp_journal.specs.State.{State, state_deed}
-use Rattle.alp_journal.specs.Halts.{HaltsRight, written, by_vote, by_ask, by_commit, by_done, decides, is_some_act, is_note_of, ends_note, writes, may_read}
+use Rattle.alp_journal.specs.Halts.{HaltsRight, written, by_vote, by_ask, by_commit, by_done, decides, is_some_act, is_note_of, ends_note, may_read}
 use Rattle.alp_journal.specs.Halts as halts
 use Rattle.alp_journal.specs.Moves.{is_stop, tried, told, halted, next, if_its, quits_for, first_sent, abort_in, ends_for, hears, acknowledges}
 use Rattle.alp_journal.specs.Laws.{IsLawfulDeed, DoLivesAgree, ReleasesEnded, WaitsInTurn, IsStopped, TellsStop, SaysRight, drawn_by, granted_by, regained_by, sends_last, latest_vote}
 use Rattle.alp_journal.specs.Messages.{due, sent_by, has_all_votes, clock_end, first_why, no_room, weights, greatest, all_ready, applying, why_not, why_not_own}
 use Rattle.alp_journal.specs.Answered.{AppliesTold, is_all_done, is_release, at_release, in_turn, IsWalk, CountsVotes, ForgetsDone}
-use Rattle.alp_journal.specs.Account.{Account, state_of, IsFateOf, IsPhaseOf, IsQuiet, HasTried, Leads}
+use Rattle.alp_journal.specs.Account.{Account, state_of, IsPhaseOf, IsQuiet, HasTried, Leads}
 use Rattle.alp_journal.proofs.WaitLemmas.{none-found}
 use Rattle.alp_journal.proofs.IdLemmas.{same_trans-itself}
 use Rattle.alp_journal.proofs.StandLemmas.{moved_fate, own_pair}

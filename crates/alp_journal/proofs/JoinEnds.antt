@@ -1,7 +1,5 @@
 -- the part of a join ends: as its coordinator says, by this server's own vote, and as time runs out
-use Rattle.std.specs.Prelude.{cond, Bool, true, false, not, ◌&&◌, ◌==◌, flat_map, is_some, Option, None, Some, IsSome, if◌then◌else◌}
-use Rattle.std.specs.List.{AllByRecursion}
-use Rattle.std.proofs.lemmas.Bool.{and_parts, eqb-true}
+use Rattle.std.specs.Prelude.{cond, Bool, true, false, ◌&&◌, ◌==◌, is_some, Option, None, Some, IsSome, if◌then◌else◌}
 use Rattle.std.proofs.lemmas.List.{append-nil}
 use Rattle.std.proofs.Common.{inl, inr, ◌≡◌, ℕ, ◌≤◌, List, [], ◌∷◌, ◌++◌, refl, sym, ◌∙◌, ap, subst, eq-eqb}
 use Rattle.alp_base.specs.declared.ids.JoinNo.{JoinNo}
@@ -12,18 +10,18 @@ use Rattle.alp_journal.specs.declared.act.Act.TheVariants as act
 use Rattle.alp_journal.specs.declared.event.Event.{Event}
 use Rattle.alp_journal.specs.Ids.{same_trans, same_join}
 use Rattle.alp_journal.specs.Deeds.{Deed, Releases}
-use Rattle.alp_journal.specs.Coordinator.{Fate, is_running}
+use Rattle.alp_journal.specs.Coordinator.{is_running}
 use Rattle.alp_journal.specs.Participant.{Phase, Unseen, Joining, Active, Ready, Applied, Over, live_in, open_in}
 use Rattle.alp_journal.specs.Holder.{Holder, Life, with_life}
-use Rattle.alp_journal.specs.Desk.{Desk, Waiting, with_dead}
+use Rattle.alp_journal.specs.Desk.{Waiting, with_dead}
 use Rattle.alp_journal.specs.Counts.{lock_set}
 use Rattle.alp_journal.specs.State.{State, state_deed, is_whose}
 use Rattle.alp_journal.specs.Moves.{call_now}
 use Rattle.alp_journal.specs.Laws.{IsLawfulDeed, IsHolding, ended_by, ended_join, grants_of}
 use Rattle.alp_journal.specs.Answered.{IsWalk, in_turn}
-use Rattle.alp_journal.specs.Account.{Account, state_of, IsJoined, IsPhaseOf, Stands, Tells, IsSettled, IsJoinOf, IsFinishOf, IsOther, HasWaits, HasNoJoin}
-use Rattle.alp_journal.proofs.IdLemmas.{same_trans-true, same_trans-itself, same_join-true}
-use Rattle.alp_journal.proofs.StandLemmas.{moved_each, moved_phase, same_join-itself, whose, live_of_open, far_of_held, holding_of, join_part_is, pair_of, life_of, held_once, not_both_servers, running_here}
+use Rattle.alp_journal.specs.Account.{Account, state_of, IsPhaseOf, Stands, IsSettled, IsJoinOf, HasWaits, HasNoJoin}
+use Rattle.alp_journal.proofs.IdLemmas.{same_trans-itself, same_join-true}
+use Rattle.alp_journal.proofs.StandLemmas.{moved_each, moved_phase, same_join-itself, whose, live_of_open, held_once, not_both_servers, running_here}
 use Rattle.alp_journal.proofs.MoveLemmas.{IsSpent, live_before, stands_gone}
 use Rattle.alp_journal.proofs.DeskLemmas.{fewer}
 use Rattle.alp_journal.proofs.QuietLemmas.{AreEnded, AreOthers, AreOfParts, ended_told, ended_joins, others-on, parts-told, has_ended}

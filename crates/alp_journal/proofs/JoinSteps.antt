@@ -20,28 +20,27 @@ use Rattle.alp_journal.specs.declared.message.Message.TheVariants as msg
 use Rattle.alp_journal.specs.Along.{Where}
 use Rattle.alp_journal.specs.Ids.{same_trans, same_join}
 use Rattle.alp_journal.specs.Deeds.{Deed, Joins}
-use Rattle.alp_journal.specs.Coordinator.{Fate, Undrawn, Running, Finishing, Committed, Forgotten, Ended, client_of, is_running}
+use Rattle.alp_journal.specs.Coordinator.{Fate, Undrawn, Running, Finishing, Committed, Forgotten, Ended, client_of}
 use Rattle.alp_journal.specs.Participant.{Phase, Unseen, Joining, Active, Ready, Applied, Over, live_in, open_in}
 use Rattle.alp_journal.specs.Participant as phase
 use Rattle.alp_journal.specs.Holder.{Life}
-use Rattle.alp_journal.specs.Desk.{Desk, Session, Waiting, file_trans, part_trans, is_of, is_of_part, waiting_of, begins_waiting, buried, with_session}
-use Rattle.alp_journal.specs.State.{State, state_deed, has_part, is_this, is_whose, is_other_server, join_for}
+use Rattle.alp_journal.specs.Desk.{Desk, Session, Waiting, file_trans, part_trans, is_of, is_of_part, waiting_of, buried, with_session}
+use Rattle.alp_journal.specs.State.{State, state_deed, has_part, is_this, is_whose, is_other_server}
 use Rattle.alp_journal.specs.Moves.{who_is, joins_here, next_join, principal}
-use Rattle.alp_journal.specs.Laws.{IsLawfulDeed, IsBlocked}
+use Rattle.alp_journal.specs.Laws.{IsBlocked}
 use Rattle.alp_journal.specs.Messages.{Mail, asks_to_join}
-use Rattle.alp_journal.specs.Answers.{Part, NoPart, is_no_part, phase_part, part_at, count_of_transactions, too_many, First, IsJoinAnswer, join_reply}
-use Rattle.alp_journal.specs.Account.{Account, state_of, is_other, IsFateOf, IsPhaseOf, Stands, Tells, IsSettled, IsQuiet, HasTried, IsPartOf, IsOfPart, IsJoinOf, IsFinishOf, IsOther, HasCome, AreTwo, HasWaits, HasNoJoin, sent_acts, Leads}
+use Rattle.alp_journal.specs.Answers.{is_no_part, phase_part, part_at, count_of_transactions, too_many, First, join_reply}
+use Rattle.alp_journal.specs.Account.{Account, state_of, is_other, IsFateOf, IsPhaseOf, Stands, Tells, IsSettled, IsQuiet, HasTried, IsPartOf, IsOfPart, IsFinishOf, IsOther, HasCome, AreTwo, HasWaits, HasNoJoin, sent_acts, Leads}
 use Rattle.alp_journal.proofs.IdLemmas.{same_trans-true, same_trans-itself, same_join-true, all-append, all-filter}
 use Rattle.alp_journal.proofs.MadeIds.{all-map}
 use Rattle.alp_journal.proofs.WaitLemmas.{turned, passing, all-both, found-none, apart-last, file_part}
 use Rattle.alp_journal.proofs.TurnLemmas.{blocked-as}
-use Rattle.alp_journal.proofs.StandLemmas.{next_undrawn, moved_each, moved_phase, whose_own, live_of_open, not_own_server, not_both_servers, own_server, known_running, running_here, own_here, join_none}
+use Rattle.alp_journal.proofs.StandLemmas.{next_undrawn, moved_each, moved_phase, whose_own, live_of_open, not_own_server, not_both_servers, own_server, own_here, join_none}
 use Rattle.alp_journal.proofs.PartLemmas.{WaitsAs, each_waits, joined_part_at}
-use Rattle.alp_journal.proofs.MoveLemmas.{stands_drawn, live_still}
+use Rattle.alp_journal.proofs.MoveLemmas.{stands_drawn}
 use Rattle.alp_journal.proofs.DeskLemmas.{found-last, came-before}
 use Rattle.alp_journal.proofs.QuietLemmas.{other-on, came_on, later-come, stands_as, waits-last, calls-last}
 use Rattle.alp_journal.proofs.CallLemmas.{IsMail, no_mail, mail_behind, call_entry, new_call, call_leads}
-use Rattle.alp_journal.proofs.RefusedCalls.{counted_as}
 use Rattle.alp_journal.proofs.BeginCalls.{is_buried, unburied, not_dead, tells_unburied, with_buried_as, buried_quiet}
 use Rattle.alp_journal.proofs.CollectCalls.{its_join}
 

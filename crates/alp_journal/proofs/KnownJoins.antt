@@ -1,5 +1,5 @@
 -- joins of a client that has a part of the transaction already, and those of a transaction of which nobody gets one here
-use Rattle.std.specs.Prelude.{cond, Bool, true, false, not, ◌&&◌, ◌==◌, filter, find, flat_map, is_some, nat_lt, Option, None, Some, IsSome}
+use Rattle.std.specs.Prelude.{cond, Bool, true, false, not, ◌&&◌, ◌==◌, find, flat_map, is_some, nat_lt, Option, None, Some, IsSome}
 use Rattle.std.proofs.lemmas.Bool.{and_parts, eqb-true, ltb-true}
 use Rattle.std.proofs.Common.{◌≡◌, ℕ, ◌+◌, ◌<◌, List, [], ◌∷◌, ◌++◌, refl, sym, ◌∙◌, ap, subst, eq-eqb, arith}
 use Rattle.alp_base.specs.declared.ids.JoinNo.{JoinNo}
@@ -12,19 +12,19 @@ use Rattle.alp_files.specs.declared.refusal.Cause.{Cause}
 use Rattle.alp_journal.specs.Along.{Where}
 use Rattle.alp_journal.specs.Ids.{same_trans}
 use Rattle.alp_journal.specs.Deeds.{Deed, Joins}
-use Rattle.alp_journal.specs.Coordinator.{Fate, Undrawn, Running, Finishing, Committed, Forgotten, Ended, client_of, is_running}
+use Rattle.alp_journal.specs.Coordinator.{Fate, Undrawn, Running, Finishing, Committed, Forgotten, Ended, client_of}
 use Rattle.alp_journal.specs.Holder.{Life}
-use Rattle.alp_journal.specs.Desk.{Desk, Session, Waiting, part_trans, is_of, is_on, is_of_part, waiting_of, is_not_yet, is_unknown, begins_if, begins_waiting, buried, with_session}
-use Rattle.alp_journal.specs.State.{State, has_part, is_other_server, join_for}
+use Rattle.alp_journal.specs.Desk.{Desk, Session, Waiting, part_trans, is_of, is_on, is_of_part, waiting_of, is_not_yet, is_unknown, begins_if, buried, with_session}
+use Rattle.alp_journal.specs.State.{State, has_part, is_other_server}
 use Rattle.alp_journal.specs.Moves.{joins_here, next_join, principal}
 use Rattle.alp_journal.specs.Laws.{TellsIn, begun_in}
 use Rattle.alp_journal.specs.Messages.{asks_to_join}
-use Rattle.alp_journal.specs.Answers.{Part, NoPart, AtJoining, AtWork, AtFinish, AtReady, AtEnd, own_part, ended_part, join_part, join_reply, is_no_part, part_at, too_many, First, IsJoinAnswer}
-use Rattle.alp_journal.specs.Account.{Account, state_of, is_other, IsPartAs, IsPaired, Stands, IsSettled, IsQuiet, Leads}
+use Rattle.alp_journal.specs.Answers.{Part, NoPart, AtJoining, AtWork, AtFinish, AtReady, AtEnd, own_part, ended_part, join_part, join_reply, is_no_part, part_at, too_many, First}
+use Rattle.alp_journal.specs.Account.{Account, state_of, is_other, IsPartAs, IsPaired, Stands, IsQuiet, Leads}
 use Rattle.alp_journal.proofs.IdLemmas.{same_trans-true}
 use Rattle.alp_journal.proofs.WaitLemmas.{find-kept, all-of}
 use Rattle.alp_journal.proofs.StandLemmas.{running_of, join_none}
-use Rattle.alp_journal.proofs.PartLemmas.{own_part_at, far_part_at, own_at_work, part_has, part_not_dead, no_near_join}
+use Rattle.alp_journal.proofs.PartLemmas.{own_part_at, far_part_at, part_has, part_not_dead, no_near_join}
 use Rattle.alp_journal.proofs.CallLemmas.{no_mail, call_entry, new_call, call_leads}
 use Rattle.alp_journal.proofs.RefusedCalls.{counted_as, counted_quiet}
 use Rattle.alp_journal.proofs.BeginCalls.{is_buried, with_buried_as, buried_quiet}

@@ -1,5 +1,5 @@
 -- what stands goes on as a fate moves, as a part is over, and as a join is drawn, let in, votes, and is over
-use Rattle.std.specs.Prelude.{cond, Bool, true, false, not, ◌&&◌, ◌||◌, ◌==◌, Option, None, Some}
+use Rattle.std.specs.Prelude.{cond, Bool, true, false, ◌&&◌, ◌||◌, ◌==◌, Option, None, Some}
 use Rattle.std.proofs.lemmas.Bool.{or_right}
 use Rattle.std.proofs.Common.{inl, inr, ◌≡◌, ℕ, ◌+◌, ◌<◌, ◌≤◌, List, [], ◌∷◌, ◌++◌, refl, sym, ◌∙◌, ap, subst, arith}
 use Rattle.alp_base.specs.declared.ids.JoinNo.{JoinNo}
@@ -15,14 +15,14 @@ use Rattle.alp_journal.specs.Coordinator.{Fate, client_of, is_running, has_votes
 use Rattle.alp_journal.specs.Participant.{Phase, Unseen, Joining, Active, Ready, Applied, Over, live_in, open_in}
 use Rattle.alp_journal.specs.Participant as phase
 use Rattle.alp_journal.specs.Holder.{Holder, Life, new_life, with_life}
-use Rattle.alp_journal.specs.State.{Ids, is_whose}
+use Rattle.alp_journal.specs.State.{is_whose}
 use Rattle.alp_journal.specs.Moves.{next_join}
 use Rattle.alp_journal.specs.Laws.{IsHolding}
 use Rattle.alp_journal.specs.Answered.{is_all_done}
-use Rattle.alp_journal.specs.Account.{Account, state_of, IsJoined, IsPartAs, IsPaired, HasLife, is_other, IsFateOf, IsKnownJoin, IsPhaseOf, HasNoJoin, Stands}
-use Rattle.alp_journal.proofs.IdLemmas.{same_trans-true, same_trans-itself, same_join-true}
+use Rattle.alp_journal.specs.Account.{Account, state_of, IsJoined, IsPartAs, IsPaired, HasLife, is_other, IsFateOf, IsPhaseOf, HasNoJoin, Stands}
+use Rattle.alp_journal.proofs.IdLemmas.{same_trans-itself, same_join-true}
 use Rattle.alp_journal.proofs.WaitLemmas.{turned}
-use Rattle.alp_journal.proofs.StandLemmas.{same_join-itself, any-last, joins-last, drawn_next, moved_all, moved_each, moved_phase, join_more, phase_more, not_both_servers, far_of_held, one_held, holding_of, join_part_is, paired_set, paired_moved, paired_free, pair-fate, held_kept, held_set, own_unheld, running_here, pair_of, life_of, held_once, whose_own}
+use Rattle.alp_journal.proofs.StandLemmas.{same_join-itself, any-last, joins-last, drawn_next, moved_all, moved_each, moved_phase, phase_more, not_both_servers, one_held, join_part_is, paired_set, paired_moved, paired_free, pair-fate, held_kept, held_set, own_unheld, running_here, pair_of, life_of, held_once, whose_own}
 use Rattle.alp_journal.proofs.QuietLemmas.{agree_set, agree_without}
 
 -- ---- fates alone

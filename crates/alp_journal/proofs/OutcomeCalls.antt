@@ -1,5 +1,5 @@
 -- questions for the outcome of a transaction
-use Rattle.std.specs.Prelude.{cond, Bool, true, false, ◌==◌, Option, None, Some}
+use Rattle.std.specs.Prelude.{cond, Bool, true, false, ◌==◌, Some}
 use Rattle.std.proofs.lemmas.Bool.{ne_eqb}
 use Rattle.std.proofs.Common.{◌≡◌, ℕ, ◌+◌, ◌<◌, List, [], ◌∷◌, refl, sym, ◌∙◌, ap, subst, eq-eqb, arith}
 use Rattle.alp_base.specs.declared.ids.JoinNo.{JoinNo}

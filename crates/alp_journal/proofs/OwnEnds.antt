@@ -1,5 +1,5 @@
 -- parts of transactions of this server that end without effect: as their client asks, and by this server's own vote
-use Rattle.std.specs.Prelude.{cond, Bool, true, false, is_none, is_some, ◌&&◌, ◌==◌, flat_map, Option, None, Some, IsSome, if◌then◌else◌}
+use Rattle.std.specs.Prelude.{cond, Bool, true, false, is_none, is_some, ◌&&◌, ◌==◌, Option, None, Some, IsSome, if◌then◌else◌}
 use Rattle.std.specs.List.{AllByRecursion}
 use Rattle.std.specs.List.Sorted.{IsPermutation}
 use Rattle.std.proofs.lemmas.List.{append-nil}
@@ -8,7 +8,6 @@ use Rattle.std.proofs.Common.{inl, inr, ◌≡◌, ℕ, ◌+◌, List, [], ◌�
 use Rattle.alp_base.specs.declared.ids.JoinNo.{JoinNo}
 use Rattle.alp_base.specs.declared.ids.TransId.{TransId}
 use Rattle.alp_files.proofs.FilesLemmas.{same-some}
-use Rattle.alp_files.specs.declared.call.Call.{Call}
 use Rattle.alp_files.specs.declared.call.Call.TheVariants as call
 use Rattle.alp_files.specs.declared.reply.Reply.{Reply}
 use Rattle.alp_files.specs.declared.reply.Reply.TheVariants as reply
@@ -35,10 +34,10 @@ use Rattle.alp_journal.specs.Laws.{IsLawfulDeed, IsHolding, SaysRight, MayAbort,
 use Rattle.alp_journal.specs.Messages.{Mail, to_each, on_finish, why_not_own}
 use Rattle.alp_journal.specs.Answered.{is_all_done, IsWalk, in_turn}
 use Rattle.alp_journal.specs.Answers.{Part, part_at, at_part, finish_reply, voted_reply, First}
-use Rattle.alp_journal.specs.Account.{Account, state_of, IsKnown, IsFateOf, Stands, Tells, IsSettled, IsQuiet, IsJoinOf, IsFinishOf, IsOther, HasNoCall, granted_calls, with_granted, grant_acts, sent_acts, Leads}
+use Rattle.alp_journal.specs.Account.{Account, state_of, IsKnown, IsFateOf, Stands, Tells, IsSettled, IsQuiet, IsFinishOf, HasNoCall, granted_calls, with_granted, grant_acts, sent_acts, Leads}
 use Rattle.alp_journal.proofs.IdLemmas.{same_trans-true, same_trans-itself}
-use Rattle.alp_journal.proofs.WaitLemmas.{turned, without-given}
-use Rattle.alp_journal.proofs.StandLemmas.{moved_all, known_running, running_of, paired_set, held_set, no_own_join, own_unheld, own_here, own_pair, own_of_running, pair_of, running_here}
+use Rattle.alp_journal.proofs.WaitLemmas.{without-given}
+use Rattle.alp_journal.proofs.StandLemmas.{moved_all, known_running, running_of, paired_set, held_set, no_own_join, own_unheld, own_here, own_pair, own_of_running, pair_of}
 use Rattle.alp_journal.proofs.PartLemmas.{own_at_work}
 use Rattle.alp_journal.proofs.QuietLemmas.{none_tried, agree_without, has_ended, ended_moved, ended_told, AreOfParts, parts-told, others-on, with_session_of, quiet_told, forgotten_part, quiet_forgotten}
 use Rattle.alp_journal.proofs.GivenLemmas.{LivedBefore}

@@ -1,5 +1,5 @@
 -- what a client has of a transaction, and of what part each call that waits is
-use Rattle.std.specs.Prelude.{cond, Bool, true, false, ◌&&◌, ◌||◌, ◌==◌, find, Option, None, Some, IsSome, is_some}
+use Rattle.std.specs.Prelude.{cond, Bool, true, false, ◌&&◌, ◌||◌, ◌==◌, Option, None, Some, IsSome, is_some}
 use Rattle.std.specs.List.{AllByRecursion}
 use Rattle.std.proofs.lemmas.Bool.{eqb-true, and_parts, or_left, or_right}
 use Rattle.std.proofs.Common.{inl, inr, ◌⊎◌, ◌≡◌, ℕ, List, [], ◌∷◌, refl, sym, ◌∙◌, ap, subst, eq-eqb}
@@ -11,16 +11,16 @@ use Rattle.alp_files.specs.declared.call.Call.TheVariants as call
 use Rattle.alp_files.specs.declared.refusal.Cause.{Cause}
 use Rattle.alp_journal.specs.Ids.{same_trans}
 use Rattle.alp_journal.specs.Coordinator.{Fate, Undrawn, Running, Finishing, Committed, Forgotten, Ended, client_of, is_running}
-use Rattle.alp_journal.specs.Participant.{Phase, Unseen, Joining, Active, Ready, Applied, Over, live_in, open_in}
+use Rattle.alp_journal.specs.Participant.{Phase, Unseen, Joining, Active, Ready, Applied, Over, live_in}
 use Rattle.alp_journal.specs.Holder.{Life}
 use Rattle.alp_journal.specs.Desk.{Waiting, file_trans, part_trans, is_of}
-use Rattle.alp_journal.specs.State.{State, is_whose, is_this, join_for, has_part}
+use Rattle.alp_journal.specs.State.{is_whose, is_this, join_for, has_part}
 use Rattle.alp_journal.specs.Laws.{IsHolding, IsOpenPart}
 use Rattle.alp_journal.specs.Answers.{Part, NoPart, AtJoining, AtWork, AtFinish, AtReady, AtEnd, own_part, ended_part, phase_part, join_part, part_at, is_no_part}
 use Rattle.alp_journal.specs.Account.{Account, state_of, is_other, IsJoined, IsPartAs, IsPartOf, IsOfPart, IsJoinOf, IsFinishOf, IsOther, HasNoJoin, Stands, Tells, IsSettled, is_on_trans}
-use Rattle.alp_journal.proofs.IdLemmas.{same_trans-true, same_trans-itself}
+use Rattle.alp_journal.proofs.IdLemmas.{same_trans-true}
 use Rattle.alp_journal.proofs.WaitLemmas.{all-both, found-passes, file_part}
-use Rattle.alp_journal.proofs.StandLemmas.{running_of, holding_of, one_held, join_part_is, own_part_is, pair_of, life_of, whose, whose_own, not_both_servers, far_of_held, far_of_live, live_of_open, join_live, join_none}
+use Rattle.alp_journal.proofs.StandLemmas.{running_of, holding_of, join_part_is, own_part_is, pair_of, life_of, not_both_servers, far_of_held, far_of_live, live_of_open, join_live, join_none}
 
 -- ---- what a client has of a transaction
 

@@ -1,5 +1,5 @@
 -- a join asks to be let in by the server of its transaction, and hears of it
-use Rattle.std.specs.Prelude.{cond, Bool, true, false, not, ◌&&◌, ◌||◌, ◌==◌, filter, flat_map, find, Option, None, Some, IsSome, if◌then◌else◌}
+use Rattle.std.specs.Prelude.{cond, Bool, true, false, not, ◌&&◌, ◌||◌, ◌==◌, filter, Option, None, Some, if◌then◌else◌}
 use Rattle.std.specs.List.{list_all, AllByRecursion}
 use Rattle.std.specs.List.Sorted.{IsPermutation}
 use Rattle.std.proofs.lemmas.Bool.{and_parts, and_from, eqb-true, not-true, or_parts}
@@ -8,8 +8,6 @@ use Rattle.std.proofs.lemmas.List.Sorted.{IsPermutation-refl}
 use Rattle.std.proofs.Common.{inl, inr, ◌≡◌, ℕ, List, [], ◌∷◌, ◌++◌, refl, sym, ◌∙◌, ap, subst, eq-eqb}
 use Rattle.alp_base.specs.declared.ids.JoinNo.{JoinNo}
 use Rattle.alp_base.specs.declared.ids.TransId.{TransId}
-use Rattle.alp_files.proofs.FilesLemmas.{same-some}
-use Rattle.alp_journal.specs.declared.act.Act.{Act}
 use Rattle.alp_journal.specs.declared.act.Act.TheVariants as act
 use Rattle.alp_journal.specs.declared.message.Message.{Message}
 use Rattle.alp_journal.specs.declared.message.Message.TheVariants as msg
@@ -17,26 +15,26 @@ use Rattle.alp_journal.specs.Ids.{same_trans, same_join, has_join, has_server}
 use Rattle.alp_journal.specs.Deeds.{Deed, Registers, Enters, Quits}
 use Rattle.alp_journal.specs.Coordinator.{Fate, Running, client_of, is_running, has_votes, joins_of}
 use Rattle.alp_journal.specs.Coordinator as fate
-use Rattle.alp_journal.specs.Participant.{Phase, Unseen, Joining, Active, Ready, Applied, Over, live_in, open_in}
+use Rattle.alp_journal.specs.Participant.{Phase, Joining, Over, live_in, open_in}
 use Rattle.alp_journal.specs.Participant as phase
 use Rattle.alp_journal.specs.Holder.{Life, new_life, with_life}
 use Rattle.alp_journal.specs.Desk.{Waiting, file_trans, part_trans, is_of, is_of_part, without}
 use Rattle.alp_journal.specs.Counts.{lock_set}
-use Rattle.alp_journal.specs.State.{State, state_deed, is_trans_drawn, is_other_server, is_whose}
+use Rattle.alp_journal.specs.State.{State, is_trans_drawn, is_other_server, is_whose}
 use Rattle.alp_journal.specs.Moves.{enters, refused_join}
-use Rattle.alp_journal.specs.Laws.{IsLawfulDeed, ended_by, ended_join}
+use Rattle.alp_journal.specs.Laws.{ended_join}
 use Rattle.alp_journal.specs.Messages.{Mail, may_join, on_register, to_others}
 use Rattle.alp_journal.specs.Answered.{is_all_done}
-use Rattle.alp_journal.specs.Account.{Account, state_of, is_other, are_servers_apart, IsFateOf, IsPhaseOf, AreJoins, Stands, Tells, IsSettled, IsQuiet, HasTried, IsPartOf, IsOfPart, IsFinishOf, IsOther, HasCome, HasWaits, HasNoCall, is_on_trans, sent_acts, Leads}
+use Rattle.alp_journal.specs.Account.{Account, state_of, is_other, are_servers_apart, IsFateOf, IsPhaseOf, Stands, Tells, IsSettled, IsQuiet, HasTried, IsOfPart, IsFinishOf, IsOther, HasCome, HasWaits, HasNoCall, is_on_trans, sent_acts, Leads}
 use Rattle.alp_journal.proofs.IdLemmas.{same_trans-true, same_trans-itself, same_join-true, all-filter}
 use Rattle.alp_journal.proofs.WaitLemmas.{all-of, all-both, passing, apart-filter}
 use Rattle.alp_journal.proofs.TurnLemmas.{turns-set}
-use Rattle.alp_journal.proofs.StandLemmas.{any-last, moved_each, moved_fate, same_join-itself, own_server, whose, whose_own, live_of_open}
+use Rattle.alp_journal.proofs.StandLemmas.{any-last, moved_each, moved_fate, same_join-itself}
 use Rattle.alp_journal.proofs.MoveLemmas.{stands_fated, stands_quit, stands_entered, IsSpent, spent_over, open_entered}
 use Rattle.alp_journal.proofs.DeskLemmas.{tells_fated, tells_moved, fewer}
 use Rattle.alp_journal.proofs.QuietLemmas.{none_tried, stands_as, turns-as, turns-without, parts-gone, ended_joins, other-on, waits-without, calls-without}
 use Rattle.alp_journal.proofs.CallLemmas.{IsMail, no_mail, mail_behind}
-use Rattle.alp_journal.proofs.ArrivalLemmas.{arrive_entry, arriving, ArriveOwes, arrive_leads, SaysOwes, says_leads, no_release}
+use Rattle.alp_journal.proofs.ArrivalLemmas.{arrive_entry, arrive_leads, says_leads}
 
 -- ---- lists of joins
 

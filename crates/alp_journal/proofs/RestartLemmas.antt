@@ -1,36 +1,30 @@
 -- restarts: what is found tells whether what the server went down in is made, and what voted outlives it
 use Rattle.std.specs.Prelude.{cond, max, Bool, true, false, not, ◌&&◌, ◌||◌, ◌==◌, filter, is_some, nat_le, Option, None, Some}
 use Rattle.std.specs.List.{list_any}
-use Rattle.std.specs.FinMap.Entries.{put}
-use Rattle.std.proofs.lemmas.Bool.{le-leb, lt-leb, and_parts, and_from, or_left, or_right, eqb-true}
+use Rattle.std.proofs.lemmas.Bool.{lt-leb, and_parts, and_from, or_left, or_right}
 use Rattle.std.proofs.lemmas.List.{append-nil}
 use Rattle.std.proofs.lemmas.List.Sorted.{IsPermutation-refl}
 use Rattle.std.proofs.Common.{inl, inr, ◌≡◌, ℕ, ◌+◌, ◌<◌, ◌≤◌, List, [], ◌∷◌, ◌++◌, refl, sym, ◌∙◌, ap, subst, eq-eqb, arith, le_refl}
-use Rattle.alp_base.specs.declared.key.Resource.{Resource}
 use Rattle.alp_base.specs.declared.ids.JoinNo.{JoinNo}
 use Rattle.alp_base.specs.declared.ids.TransId.{TransId}
 use Rattle.alp_base.specs.declared.ids.Stamp.{Stamp}
-use Rattle.alp_files.specs.Edits.{Edit}
-use Rattle.alp_files.specs.History.{Decided}
-use Rattle.alp_files.proofs.FilesLemmas.{same-some}
 use Rattle.alp_journal.specs.declared.entry.Entry.{Entry}
 use Rattle.alp_journal.specs.Along.{state_after}
-use Rattle.alp_journal.specs.Ids.{same_trans, same_join, has_join, has_stamp, same_stamp, stamp_cmp}
+use Rattle.alp_journal.specs.Ids.{same_trans, has_join, has_stamp, same_stamp}
 use Rattle.alp_journal.specs.Deeds.{Deed, Finishes, Hears, Decides, Readies, Applies, Aborts, Acknowledges, Forgets, Restarts}
-use Rattle.alp_journal.specs.Coordinator.{Fate, Vote, Undrawn, Running, Finishing, Committed, Forgotten, Ended, is_running, has_votes, client_of, has_all}
+use Rattle.alp_journal.specs.Coordinator.{Fate, Vote, Undrawn, Running, Finishing, Committed, Forgotten, Ended, is_running, has_votes}
 use Rattle.alp_journal.specs.Coordinator as fate
 use Rattle.alp_journal.specs.Participant.{Phase, Unseen, Joining, Active, Ready, Applied, Over, live_in, is_ready}
 use Rattle.alp_journal.specs.Participant as phase
-use Rattle.alp_journal.specs.Holder.{Holder, Life, holder_after, commits, emptied, if_ready, with_life}
-use Rattle.alp_journal.specs.Counts.{Locked, kept_locks}
+use Rattle.alp_journal.specs.Holder.{Life, if_ready}
 use Rattle.alp_journal.specs.State.{State, state_deed}
 use Rattle.alp_journal.specs.Moves.{is_effective, resolved, tried, next}
-use Rattle.alp_journal.specs.Laws.{DoLivesAgree, IsFound, IsHolding, is_standing, latest_vote, are_joins_apart, are_stamps_apart}
+use Rattle.alp_journal.specs.Laws.{DoLivesAgree, IsFound, is_standing, latest_vote, are_joins_apart, are_stamps_apart}
 use Rattle.alp_journal.specs.Answered.{is_all_done, CountsVotes, ForgetsDone}
-use Rattle.alp_journal.specs.Account.{Account, state_of, IsJoined, IsPartAs, IsPaired, HasLife, IsKnown, IsFateOf, IsKnownJoin, IsPhaseOf, HasWaits, HasNoCall, Stands, IsSettled, IsQuiet, HasTried, IsTriedCommit, IsTriedDecision, IsTriedVote, IsTriedApplication, IsTriedEnd, IsTriedAbort, Leads}
+use Rattle.alp_journal.specs.Account.{Account, state_of, IsPartAs, IsPaired, HasLife, IsKnown, IsFateOf, IsKnownJoin, IsPhaseOf, HasWaits, HasNoCall, Stands, IsQuiet, HasTried, IsTriedEnd, Leads}
 use Rattle.alp_journal.specs.Restarts.{restart_entry, restarted_at, restarted}
-use Rattle.alp_journal.proofs.IdLemmas.{same_trans-true, same_trans-itself, same_join-true, or-true}
-use Rattle.alp_journal.proofs.StandLemmas.{drawn_older, holding_of, join_part_is, own_part_is, pair_of}
+use Rattle.alp_journal.proofs.IdLemmas.{same_trans-itself, or-true}
+use Rattle.alp_journal.proofs.StandLemmas.{drawn_older, join_part_is, pair_of}
 use Rattle.alp_journal.proofs.CallLemmas.{quiet_votes, quiet_forgets}
 
 -- ---- what a restart leaves of a part, a fate and a join

@@ -1,23 +1,22 @@
 -- restarts that find made what the server went down in
-use Rattle.std.specs.Prelude.{cond, max, Bool, true, false, not, ◌&&◌, ◌||◌, ◌==◌, filter, is_some, nat_le, Option, None, Some}
+use Rattle.std.specs.Prelude.{cond, max, Bool, true, false, not, ◌&&◌, ◌||◌, ◌==◌, filter, Option, None, Some}
 use Rattle.std.specs.List.{list_any}
 use Rattle.std.specs.FinMap.Entries.{put}
 use Rattle.std.proofs.lemmas.Bool.{le-leb}
 use Rattle.std.proofs.lemmas.List.{append-nil}
-use Rattle.std.proofs.Common.{inl, inr, ◌≡◌, ℕ, ◌+◌, ◌<◌, ◌≤◌, List, [], ◌∷◌, ◌++◌, refl, sym, ◌∙◌, ap, subst, arith, le_refl}
+use Rattle.std.proofs.Common.{◌≡◌, ℕ, ◌+◌, ◌<◌, ◌≤◌, List, [], ◌∷◌, ◌++◌, refl, sym, ◌∙◌, ap, subst, arith, le_refl}
 use Rattle.alp_base.specs.declared.key.Resource.{Resource}
 use Rattle.alp_base.specs.declared.ids.JoinNo.{JoinNo}
 use Rattle.alp_base.specs.declared.ids.TransId.{TransId}
 use Rattle.alp_base.specs.declared.ids.Stamp.{Stamp}
 use Rattle.alp_files.specs.Edits.{Edit, edits_map}
 use Rattle.alp_files.specs.History.{Decided}
-use Rattle.alp_files.proofs.FilesLemmas.{same-some}
 use Rattle.alp_journal.specs.Along.{state_after}
-use Rattle.alp_journal.specs.Ids.{same_trans, same_join, has_join, has_stamp, stamp_cmp}
+use Rattle.alp_journal.specs.Ids.{same_trans, same_join, has_join, stamp_cmp}
 use Rattle.alp_journal.specs.Deeds.{Deed, Finishes, Hears, Decides, Readies, Applies, Aborts, Acknowledges, Forgets, Restarts}
-use Rattle.alp_journal.specs.Coordinator.{Fate, Vote, Running, Finishing, Committed, Forgotten, client_of, is_running, has_votes, has_all}
+use Rattle.alp_journal.specs.Coordinator.{Fate, Vote, Committed, Forgotten, client_of, is_running}
 use Rattle.alp_journal.specs.Coordinator as fate
-use Rattle.alp_journal.specs.Participant.{Phase, Active, Ready, Applied, Over, live_in, is_ready}
+use Rattle.alp_journal.specs.Participant.{Phase, Ready, Applied, Over, is_ready}
 use Rattle.alp_journal.specs.Participant as phase
 use Rattle.alp_journal.specs.Holder.{Holder, Life, is_part, holder_after, commits, emptied, if_ready, with_life, readies, lapsed, in_history}
 use Rattle.alp_journal.specs.Counts.{kept_locks}
@@ -26,9 +25,9 @@ use Rattle.alp_journal.specs.Moves.{is_effective, resolved}
 use Rattle.alp_journal.specs.Laws.{IsFound, IsHolding, is_standing, latest_vote}
 use Rattle.alp_journal.specs.Answered.{is_all_done}
 use Rattle.alp_journal.specs.Account.{Account, state_of, IsFateOf, IsPhaseOf, Stands, IsQuiet, IsTriedCommit, IsTriedDecision, IsTriedVote, IsTriedApplication, IsTriedEnd, IsTriedAbort, Leads}
-use Rattle.alp_journal.specs.Restarts.{restart_entry, restarted_at, with_decided, restarted_with, with_vote_of, restarted_ready, with_applied, restarted_applied, with_forgotten, restarted_forgotten, with_aborted, restarted_aborted}
-use Rattle.alp_journal.proofs.IdLemmas.{same_trans-true, same_trans-itself, same_join-true}
-use Rattle.alp_journal.proofs.StandLemmas.{same_join-itself, moved_phase, known_running, running_of, own_pair, own_here, life_of, pair_of}
+use Rattle.alp_journal.specs.Restarts.{restart_entry, with_decided, restarted_with, with_vote_of, restarted_ready, with_applied, restarted_applied, with_forgotten, restarted_forgotten, with_aborted, restarted_aborted}
+use Rattle.alp_journal.proofs.IdLemmas.{same_trans-true, same_trans-itself}
+use Rattle.alp_journal.proofs.StandLemmas.{same_join-itself, moved_phase, known_running, running_of, own_pair, own_here}
 use Rattle.alp_journal.proofs.MoveLemmas.{IsSpent, spent_over, spent_applied, stands_fated, stands_over, stands_gone, stands_voted}
 use Rattle.alp_journal.proofs.RestartLemmas.{IsNoted, restarted_quiet, restart_so}
 

@@ -1,14 +1,13 @@
 -- what stands of a server's parts: facts of it, and how it goes on as a fate, a part or a join moves
-use Rattle.std.specs.Prelude.{cond, Bool, true, false, not, ◌&&◌, ◌||◌, ◌==◌, nat_lt, nat_le, find, Option, None, Some, is_some}
+use Rattle.std.specs.Prelude.{cond, Bool, true, false, not, ◌&&◌, ◌||◌, ◌==◌, nat_lt, nat_le, find, Option, None, Some}
 use Rattle.std.specs.List.{list_any}
 use Rattle.std.proofs.lemmas.Bool.{eqb-true, not-true, and_parts, and_from, or_left, or_right, or_parts, leb-true, ltb-true, le-leb, lt-ltb}
 use Rattle.std.proofs.Common.{inl, inr, ◌⊎◌, ◌≡◌, ℕ, ◌+◌, ◌<◌, ◌≤◌, List, [], ◌∷◌, ◌++◌, refl, sym, ◌∙◌, ap, subst, eq-eqb, arith, le_refl}
 use Rattle.alp_base.specs.declared.ids.JoinNo.{JoinNo}
-use Rattle.alp_base.specs.declared.ids.Stamp.{Stamp}
 use Rattle.alp_base.specs.declared.ids.TransId.{TransId}
 use Rattle.alp_files.proofs.FilesLemmas.{same-some}
 use Rattle.alp_journal.specs.Ids.{same_trans, same_join, has_join, is_drawn}
-use Rattle.alp_journal.specs.Coordinator.{Fate, Vote, Undrawn, Running, Finishing, Committed, Forgotten, Ended, client_of, is_running, decision_in}
+use Rattle.alp_journal.specs.Coordinator.{Fate, Undrawn, Running, Finishing, Committed, Forgotten, Ended, client_of, is_running, decision_in}
 use Rattle.alp_journal.specs.Participant.{Phase, Unseen, Joining, Active, Ready, Applied, Over, live_in, open_in}
 use Rattle.alp_journal.specs.Holder.{Life}
 use Rattle.alp_journal.specs.State.{is_whose, join_for}

@@ -15,26 +15,25 @@ use Rattle.alp_journal.specs.declared.event.Event.{Event}
 use Rattle.alp_journal.specs.declared.event.Event.TheVariants as event
 use Rattle.alp_journal.specs.Ids.{same_trans, same_join, has_join}
 use Rattle.alp_journal.specs.Deeds.{Deed, Quits, Releases}
-use Rattle.alp_journal.specs.Coordinator.{Fate, is_running}
-use Rattle.alp_journal.specs.Coordinator as fate
+use Rattle.alp_journal.specs.Coordinator.{is_running}
 use Rattle.alp_journal.specs.Participant.{Phase, Joining, Active, live_in, open_in}
 use Rattle.alp_journal.specs.Participant as phase
-use Rattle.alp_journal.specs.Holder.{Holder, Life}
-use Rattle.alp_journal.specs.State.{State, state_deed}
+use Rattle.alp_journal.specs.Holder.{Life}
+use Rattle.alp_journal.specs.State.{State}
 use Rattle.alp_journal.specs.Moves.{is_stop, if_its, times_out_here, times_out_join, event_deeds, act_deeds}
 use Rattle.alp_journal.specs.Laws.{IsHolding, are_joins_apart, ended_join, regained_by}
 use Rattle.alp_journal.specs.Messages.{Mail, on_timeout}
 use Rattle.alp_journal.specs.Answered.{IsWalk, in_turn}
-use Rattle.alp_journal.specs.Account.{Account, state_of, IsPhaseOf, Stands, IsSettled, IsQuiet, granted_calls, with_granted, grant_acts, grant_deeds, sent_acts, Leads}
+use Rattle.alp_journal.specs.Account.{Account, state_of, IsPhaseOf, Stands, IsQuiet, granted_calls, with_granted, grant_acts, grant_deeds, Leads}
 use Rattle.alp_journal.proofs.IdLemmas.{same_trans-itself, same_join-true, or-true}
-use Rattle.alp_journal.proofs.StandLemmas.{same_join-itself, known_join}
+use Rattle.alp_journal.proofs.StandLemmas.{known_join}
 use Rattle.alp_journal.proofs.MoveLemmas.{far_idle}
 use Rattle.alp_journal.proofs.QuietLemmas.{none_tried, quiet_up}
 use Rattle.alp_journal.proofs.CallLemmas.{no_mail}
 use Rattle.alp_journal.proofs.LetGoLemmas.{GoesOn, let_go_quiet, let_go_reached, let_go_lawful, let_go_brought, let_go_released, let_go_granted, let_go_said, let_go_none, let_go_drawn, let_go_mail, let_go_turns}
 use Rattle.alp_journal.proofs.TimeoutLemmas.{timeout_entry, timeout_so, not_running}
 use Rattle.alp_journal.proofs.RegisterSteps.{quiet_beside}
-use Rattle.alp_journal.proofs.JoinEnds.{join_ended, IsEndedBy, join_ended_goes}
+use Rattle.alp_journal.proofs.JoinEnds.{join_ended, join_ended_goes}
 use Rattle.alp_journal.proofs.WorkerSteps.{with_quit, quit_settled, quits_active}
 
 -- where one of them brings something about, and is named once, just that comes of all

@@ -2,8 +2,6 @@
 use Rattle.std.specs.Prelude.{cond, Bool, true, false, ◌&&◌, ◌==◌, flat_map, Option, None, Some, if◌then◌else◌}
 use Rattle.std.specs.List.{list_any, AllByRecursion}
 use Rattle.std.specs.List.Sorted.{IsPermutation}
-use Rattle.std.proofs.lemmas.Bool.{eqb-true}
-use Rattle.std.proofs.lemmas.List.{append-nil}
 use Rattle.std.proofs.lemmas.List.Sorted.{IsPermutation-refl}
 use Rattle.std.proofs.Common.{◌≡◌, ℕ, List, [], ◌∷◌, ◌++◌, refl, sym, ◌∙◌, ap, subst, eq-eqb}
 use Rattle.alp_base.specs.declared.ids.JoinNo.{JoinNo}
@@ -11,7 +9,6 @@ use Rattle.alp_base.specs.declared.ids.TransId.{TransId}
 use Rattle.alp_files.specs.declared.reply.Reply.{Reply}
 use Rattle.alp_files.specs.declared.reply.Reply.TheVariants as reply
 use Rattle.alp_files.specs.declared.refusal.Refusal.TheVariants as refusal
-use Rattle.alp_files.specs.declared.refusal.Cause.{Cause}
 use Rattle.alp_files.specs.declared.refusal.Cause.TheVariants as cause
 use Rattle.alp_journal.specs.declared.act.Act.{Act}
 use Rattle.alp_journal.specs.declared.act.Act.TheVariants as act
@@ -24,18 +21,17 @@ use Rattle.alp_journal.specs.Ids.{same_trans, is_drawn}
 use Rattle.alp_journal.specs.Deeds.{Deed, Ends, Quits, Releases}
 use Rattle.alp_journal.specs.Coordinator.{Fate, Undrawn, Running, Finishing, Committed, Forgotten, Ended, is_running, joins_of}
 use Rattle.alp_journal.specs.Coordinator as fate
-use Rattle.alp_journal.specs.Participant.{Phase, Unseen, Joining, Active, Ready, Applied, Over, live_in, open_in}
+use Rattle.alp_journal.specs.Participant.{open_in}
 use Rattle.alp_journal.specs.Holder.{Life, with_life}
 use Rattle.alp_journal.specs.Counts.{lock_set}
-use Rattle.alp_journal.specs.State.{State, Ids, state_deed, is_whose}
+use Rattle.alp_journal.specs.State.{State, state_deed, is_whose}
 use Rattle.alp_journal.specs.Halts.{HaltsRight}
 use Rattle.alp_journal.specs.Moves.{is_stop, tried, told, halted, next, if_its, times_out_here, times_out_join, event_deeds, act_deeds}
 use Rattle.alp_journal.specs.Laws.{IsLawfulDeed, DoLivesAgree, ReleasesEnded, WaitsInTurn, IsStopped, TellsStop, SaysRight, drawn_by, granted_by, released_by, ended_by, grants_of, regained_by}
 use Rattle.alp_journal.specs.Messages.{Mail, to_each, on_timeout, due, sent_by}
 use Rattle.alp_journal.specs.Answered.{CountsVotes, ForgetsDone, IsWalk, GivesOn, in_turn}
 use Rattle.alp_journal.specs.Account.{Account, state_of, Stands, IsQuiet, granted_calls, with_granted, grant_acts, grant_deeds, sent_acts, Leads}
-use Rattle.alp_journal.proofs.StandLemmas.{far_of_live, live_of_open, not_both_servers, whose_own}
-use Rattle.alp_journal.proofs.IdLemmas.{same_trans-true, same_trans-itself}
+use Rattle.alp_journal.proofs.StandLemmas.{far_of_live, live_of_open, not_both_servers}
 use Rattle.alp_journal.proofs.QuietLemmas.{quiet_up, none_tried}
 use Rattle.alp_journal.proofs.CallLemmas.{IsMail, no_mail, quiet_votes, quiet_forgets}
 use Rattle.alp_journal.proofs.LetGoLemmas.{IsGivenOn, given_then, GoesOn, let_go_quiet, let_go_reached, let_go_lawful, let_go_brought, let_go_released, let_go_granted, let_go_said, let_go_none, let_go_drawn, let_go_mail, let_go_turns}

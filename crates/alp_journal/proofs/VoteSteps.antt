@@ -1,10 +1,8 @@
 -- votes for a commit: that of a part, the last one at its server, and the part that is applied then
-use Rattle.std.specs.Prelude.{cond, Bool, true, false, not, ◌&&◌, ◌||◌, ◌==◌, max, filter, flat_map, find, is_some, is_none, Option, None, Some, IsSome, if◌then◌else◌}
-use Rattle.std.specs.List.{list_all, AllByRecursion}
+use Rattle.std.specs.Prelude.{cond, Bool, true, false, ◌&&◌, ◌||◌, ◌==◌, max, is_some, is_none, Option, None, Some, IsSome, if◌then◌else◌}
+use Rattle.std.specs.List.{AllByRecursion}
 use Rattle.std.specs.List.Sorted.{IsPermutation}
-use Rattle.std.specs.Option.{option_or}
 use Rattle.std.specs.FinMap.Entries.{put}
-use Rattle.std.proofs.lemmas.Bool.{and_parts, and_from, or_left, or_right}
 use Rattle.std.proofs.lemmas.List.{append-nil}
 use Rattle.std.proofs.lemmas.List.Sorted.{IsPermutation-refl}
 use Rattle.std.proofs.Common.{inl, inr, ◌≡◌, ℕ, ◌+◌, ◌≤◌, List, [], ◌∷◌, ◌++◌, refl, sym, ◌∙◌, ap, subst, eq-eqb, le_refl}
@@ -12,48 +10,43 @@ use Rattle.alp_base.specs.declared.ids.JoinNo.{JoinNo}
 use Rattle.alp_base.specs.declared.ids.Stamp.{Stamp}
 use Rattle.alp_base.specs.declared.ids.TransId.{TransId}
 use Rattle.alp_files.specs.Edits.{Edit, edits_map}
-use Rattle.alp_files.specs.History.{Decided}
 use Rattle.alp_files.specs.Locks.{IsMore}
 use Rattle.alp_files.proofs.FilesLemmas.{same-some}
 use Rattle.alp_files.specs.declared.refusal.Why.{Why}
 use Rattle.alp_files.specs.declared.refusal.Why.TheVariants as why
-use Rattle.alp_files.specs.declared.refusal.Cause.{Cause}
 use Rattle.alp_files.specs.declared.refusal.Cause.TheVariants as cause
 use Rattle.alp_journal.specs.declared.act.Act.{Act}
 use Rattle.alp_journal.specs.declared.act.Act.TheVariants as act
 use Rattle.alp_journal.specs.declared.event.Event.{Event}
 use Rattle.alp_journal.specs.declared.event.Event.TheVariants as event
-use Rattle.alp_journal.specs.declared.message.Message.{Message}
 use Rattle.alp_journal.specs.declared.message.Message.TheVariants as msg
-use Rattle.alp_journal.specs.Ids.{same_trans, same_join, has_join, stamp_cmp, is_drawn}
-use Rattle.alp_journal.specs.Deeds.{Deed, Readies, Applies, Hears, Decides, Ends, Releases}
-use Rattle.alp_journal.specs.Coordinator.{Fate, Vote, Undrawn, Running, Finishing, Committed, Forgotten, Ended, client_of, is_running, has_votes, voted, with_vote, decision_in}
-use Rattle.alp_journal.specs.Coordinator as fate
-use Rattle.alp_journal.specs.Participant.{Phase, Unseen, Joining, Active, Ready, Applied, Over, live_in, open_in}
+use Rattle.alp_journal.specs.Ids.{same_trans, same_join, stamp_cmp, is_drawn}
+use Rattle.alp_journal.specs.Deeds.{Deed, Readies, Applies, Releases}
+use Rattle.alp_journal.specs.Coordinator.{is_running, voted}
+use Rattle.alp_journal.specs.Participant.{Phase, Active, Ready, Applied, live_in, open_in}
 use Rattle.alp_journal.specs.Participant as phase
-use Rattle.alp_journal.specs.Holder.{Holder, Life, with_life, readies, emptied, commits, in_history}
-use Rattle.alp_journal.specs.Desk.{Waiting, file_trans, part_trans, is_of, is_of_part, waiting_of}
+use Rattle.alp_journal.specs.Holder.{Life, with_life, readies, emptied, commits, in_history}
+use Rattle.alp_journal.specs.Desk.{Waiting, is_of_part, waiting_of}
 use Rattle.alp_journal.specs.Counts.{lock_set, ready_sum}
-use Rattle.alp_journal.specs.State.{State, Ids, state_deed, is_join_drawn, is_other_server, is_whose}
-use Rattle.alp_journal.specs.Moves.{if_its, quits_for, first_sent, no_in, abort_in, hears, ends_for}
-use Rattle.alp_journal.specs.Laws.{IsHolding, IsLawfulDeed, SaysRight, HasDecision, ended_by, latest_vote}
-use Rattle.alp_journal.specs.Messages.{Mail, to_each, to_others, on_ask, unknown_join, vote_on, on_ready, own_vote, on_votes, on_commit, has_all_votes, clock_end, first_why, full_or, no_room, weights, greatest, all_ready, why_not, why_not_own}
-use Rattle.alp_journal.specs.Answered.{is_all_done, IsWalk, in_turn}
-use Rattle.alp_journal.specs.Account.{Account, state_of, is_other, IsJoined, AreVotes, IsFateOf, IsPhaseOf, Stands, Tells, IsSettled, IsQuiet, HasTried, IsJoinOf, IsFinishOf, HasWaits, HasNoCall, is_on_trans, granted_calls, with_granted, grant_acts, sent_acts, Leads}
-use Rattle.alp_journal.proofs.IdLemmas.{same_trans-true, same_trans-itself, same_join-true, or-true}
-use Rattle.alp_journal.proofs.WaitLemmas.{found-is, none-found, found-none, file_part}
+use Rattle.alp_journal.specs.State.{State, state_deed, is_join_drawn, is_other_server, is_whose}
+use Rattle.alp_journal.specs.Moves.{if_its, quits_for}
+use Rattle.alp_journal.specs.Laws.{IsHolding}
+use Rattle.alp_journal.specs.Messages.{Mail, to_others, on_ask, unknown_join, vote_on, on_commit, clock_end, first_why, no_room, weights, greatest, all_ready, why_not}
+use Rattle.alp_journal.specs.Answered.{IsWalk, in_turn}
+use Rattle.alp_journal.specs.Account.{Account, state_of, IsPhaseOf, Stands, Tells, IsSettled, IsQuiet, HasTried, HasWaits, is_on_trans, granted_calls, with_granted, grant_acts, sent_acts, Leads}
+use Rattle.alp_journal.proofs.IdLemmas.{same_trans-itself, same_join-true}
+use Rattle.alp_journal.proofs.WaitLemmas.{none-found, found-none}
 use Rattle.alp_journal.proofs.TurnLemmas.{turns-set}
-use Rattle.alp_journal.proofs.StandLemmas.{same_join-itself, moved_phase, moved_fate, moved_all, life_of, pair_of, own_pair, join_part_is, own_unheld, held_once}
+use Rattle.alp_journal.proofs.StandLemmas.{moved_phase, life_of, pair_of, join_part_is}
 use Rattle.alp_journal.proofs.PartLemmas.{IsAtWork, active_at_work}
-use Rattle.alp_journal.proofs.MoveLemmas.{IsSpent, spent_applied, stands_fated, stands_over, stands_gone, stands_voted}
-use Rattle.alp_journal.proofs.DeskLemmas.{tells_voted, tells_fated}
-use Rattle.alp_journal.proofs.QuietLemmas.{none_tried, parts-kept, parts-gone, none-on, has_ended, ended_moved, others-on, finish-moved}
-use Rattle.alp_journal.proofs.CallLemmas.{AreAddressed, IsMail, no_mail, mail_behind}
-use Rattle.alp_journal.proofs.LetGoLemmas.{IsGivenOn, GoesOn}
-use Rattle.alp_journal.proofs.ArrivalLemmas.{arrive_entry, ArriveOwes, arrive_leads, SaysOwes, says_leads, LeavesOwes, leaves_leads}
-use Rattle.alp_journal.proofs.OwnEnds.{each-addressed, aborts-said, aborts-addressed, lived_on, part_ended, IsOwn, here_as, known_as, now_as, fate_ended, after_goes}
-use Rattle.alp_journal.proofs.RegisterSteps.{quiet_beside}
-use Rattle.alp_journal.proofs.JoinEnds.{IsEnding, fewer_ended, waits_then, ended_holding, unheld_then}
+use Rattle.alp_journal.proofs.MoveLemmas.{IsSpent, spent_applied, stands_gone, stands_voted}
+use Rattle.alp_journal.proofs.DeskLemmas.{tells_voted}
+use Rattle.alp_journal.proofs.QuietLemmas.{none_tried, parts-kept, parts-gone, none-on, has_ended, others-on}
+use Rattle.alp_journal.proofs.CallLemmas.{IsMail, mail_behind}
+use Rattle.alp_journal.proofs.LetGoLemmas.{GoesOn}
+use Rattle.alp_journal.proofs.ArrivalLemmas.{arrive_entry, arrive_leads, says_leads, leaves_leads}
+use Rattle.alp_journal.proofs.OwnEnds.{lived_on}
+use Rattle.alp_journal.proofs.JoinEnds.{IsEnding, fewer_ended, waits_then, unheld_then}
 
 -- ---- who votes for a commit
 

@@ -1,6 +1,5 @@
 -- calls that begin to wait, and calls of parts that wait
 use Rattle.std.specs.Prelude.{cond, Bool, true, false, ◌&&◌, ◌==◌, is_some, is_none, Option, None, Some, IsSome}
-use Rattle.std.specs.List.{AllByRecursion}
 use Rattle.std.specs.Option.{option_or}
 use Rattle.std.proofs.lemmas.Bool.{eqb-true, ne_eqb, and_parts}
 use Rattle.std.proofs.Common.{inl, inr, ◌≡◌, ℕ, ◌+◌, ◌≤◌, List, [], ◌∷◌, ◌++◌, refl, sym, ◌∙◌, ap, subst, eq-eqb, arith, le_refl}

@@ -1,19 +1,12 @@
 -- a part at its worker is asked for its vote, and hears of the end
-use Rattle.std.specs.Prelude.{cond, Bool, true, false, not, ◌&&◌, ◌||◌, ◌==◌, max, flat_map, find, is_some, is_none, Option, None, Some, IsSome, if◌then◌else◌}
-use Rattle.std.specs.List.{AllByRecursion}
+use Rattle.std.specs.Prelude.{cond, Bool, true, false, not, ◌&&◌, ◌||◌, ◌==◌, Option, None, Some, IsSome, if◌then◌else◌}
 use Rattle.std.specs.List.Sorted.{IsPermutation}
 use Rattle.std.specs.Option.{option_or}
-use Rattle.std.specs.FinMap.Entries.{put}
-use Rattle.std.proofs.lemmas.Bool.{and_parts, eqb-true}
 use Rattle.std.proofs.lemmas.List.{append-nil}
 use Rattle.std.proofs.lemmas.List.Sorted.{IsPermutation-refl}
-use Rattle.std.proofs.Common.{inl, inr, ◌≡◌, ℕ, ◌+◌, ◌≤◌, List, [], ◌∷◌, ◌++◌, refl, sym, ◌∙◌, ap, subst, eq-eqb, le_refl}
+use Rattle.std.proofs.Common.{◌≡◌, ℕ, ◌+◌, ◌≤◌, List, [], ◌∷◌, ◌++◌, refl, sym, ◌∙◌, ap, subst, eq-eqb}
 use Rattle.alp_base.specs.declared.ids.JoinNo.{JoinNo}
-use Rattle.alp_base.specs.declared.ids.Stamp.{Stamp}
 use Rattle.alp_base.specs.declared.ids.TransId.{TransId}
-use Rattle.alp_files.specs.Edits.{Edit, edits_map}
-use Rattle.alp_files.specs.History.{Decided}
-use Rattle.alp_files.proofs.FilesLemmas.{same-some}
 use Rattle.alp_files.specs.declared.refusal.Why.{Why}
 use Rattle.alp_files.specs.declared.refusal.Why.TheVariants as why
 use Rattle.alp_files.specs.declared.refusal.Cause.{Cause}
@@ -24,35 +17,29 @@ use Rattle.alp_journal.specs.declared.event.Event.{Event}
 use Rattle.alp_journal.specs.declared.event.Event.TheVariants as event
 use Rattle.alp_journal.specs.declared.message.Message.{Message}
 use Rattle.alp_journal.specs.declared.message.Message.TheVariants as msg
-use Rattle.alp_journal.specs.Ids.{same_trans, same_join, stamp_cmp}
-use Rattle.alp_journal.specs.Deeds.{Deed, Quits, Aborts, Readies, Applies, Releases}
-use Rattle.alp_journal.specs.Coordinator.{is_running}
+use Rattle.alp_journal.specs.Ids.{same_trans, same_join}
+use Rattle.alp_journal.specs.Deeds.{Deed, Quits, Aborts, Releases}
 use Rattle.alp_journal.specs.Participant.{Phase, Unseen, Joining, Active, Ready, Applied, Over, live_in, open_in}
 use Rattle.alp_journal.specs.Participant as phase
-use Rattle.alp_journal.specs.Holder.{Holder, Life, with_life, is_part, lapsed, emptied, commits, in_history}
-use Rattle.alp_journal.specs.Desk.{Waiting, file_trans, is_of_part, waiting_of, with_dead}
-use Rattle.alp_journal.specs.Counts.{lock_set, ready_sum}
-use Rattle.alp_journal.specs.State.{State, state_deed, is_join_drawn, is_other_server}
-use Rattle.alp_journal.specs.Moves.{if_its, quits_for, first_sent, no_in, message_deeds}
-use Rattle.alp_journal.specs.Laws.{IsHolding, IsLawfulDeed, ended_join}
-use Rattle.alp_journal.specs.Messages.{Mail, to_others, on_ask, unknown_join, vote_on, on_commit, clock_end, first_why, no_room, weights, greatest, all_ready, why_not}
+use Rattle.alp_journal.specs.Holder.{Holder, Life, is_part, lapsed, emptied}
+use Rattle.alp_journal.specs.Desk.{Waiting, file_trans}
+use Rattle.alp_journal.specs.State.{is_join_drawn, is_other_server}
+use Rattle.alp_journal.specs.Moves.{if_its, quits_for, first_sent, no_in}
+use Rattle.alp_journal.specs.Laws.{IsHolding, ended_join}
+use Rattle.alp_journal.specs.Messages.{Mail, to_others, on_ask, unknown_join, vote_on, why_not}
 use Rattle.alp_journal.specs.Answered.{IsWalk, in_turn}
-use Rattle.alp_journal.specs.Account.{Account, state_of, is_other, IsPhaseOf, Stands, Tells, IsSettled, IsQuiet, HasTried, IsPartOf, IsOfPart, HasWaits, is_on_trans, granted_calls, with_granted, grant_acts, sent_acts, Leads}
-use Rattle.alp_journal.proofs.IdLemmas.{same_trans-true, same_trans-itself, same_join-true}
+use Rattle.alp_journal.specs.Account.{Account, state_of, IsPhaseOf, Stands, IsSettled, IsQuiet, IsPartOf, IsOfPart, HasWaits, granted_calls, with_granted, grant_acts, sent_acts, Leads}
+use Rattle.alp_journal.proofs.IdLemmas.{same_trans-itself, same_join-true}
 use Rattle.alp_journal.proofs.MadeIds.{all-map}
-use Rattle.alp_journal.proofs.WaitLemmas.{none-found, found-none}
-use Rattle.alp_journal.proofs.TurnLemmas.{turns-set}
-use Rattle.alp_journal.proofs.StandLemmas.{same_join-itself, moved_phase, life_of, pair_of, join_part_is, holding_of}
-use Rattle.alp_journal.proofs.PartLemmas.{IsAtWork, active_at_work}
-use Rattle.alp_journal.proofs.MoveLemmas.{IsSpent, spent_over, spent_applied, stands_quit, stands_gone, stands_voted, live_still}
-use Rattle.alp_journal.proofs.DeskLemmas.{tells_voted}
-use Rattle.alp_journal.proofs.QuietLemmas.{none_tried, AreOfParts, parts-kept, parts-gone, none-on, has_ended, ended_joins, others-on}
+use Rattle.alp_journal.proofs.StandLemmas.{same_join-itself, pair_of, join_part_is, holding_of}
+use Rattle.alp_journal.proofs.MoveLemmas.{IsSpent, spent_over, stands_quit}
+use Rattle.alp_journal.proofs.QuietLemmas.{none_tried, AreOfParts}
 use Rattle.alp_journal.proofs.CallLemmas.{AreAddressed, IsMail, no_mail, mail_behind}
-use Rattle.alp_journal.proofs.LetGoLemmas.{IsGivenOn, GoesOn}
-use Rattle.alp_journal.proofs.ArrivalLemmas.{arrive_entry, ArriveOwes, arrive_leads, SaysOwes, says_leads, LeavesOwes, leaves_leads}
-use Rattle.alp_journal.proofs.OwnEnds.{told-more, lived_on}
+use Rattle.alp_journal.proofs.LetGoLemmas.{GoesOn}
+use Rattle.alp_journal.proofs.ArrivalLemmas.{arrive_entry, arrive_leads, says_leads, leaves_leads}
+use Rattle.alp_journal.proofs.OwnEnds.{told-more}
 use Rattle.alp_journal.proofs.RegisterSteps.{quiet_beside}
-use Rattle.alp_journal.proofs.JoinEnds.{IsEnding, told_ended, told_others, waits_then, fewer_ended, join_ended, IsEndedBy, join_ended_goes, ended_holding}
+use Rattle.alp_journal.proofs.JoinEnds.{IsEnding, told_ended, told_others, waits_then, join_ended, IsEndedBy, join_ended_goes}
 
 -- ---- what is told of more, and what is said behind grants
 
