@@ -33,6 +33,8 @@ pub mod HaltSteps
 pub mod RestartLemmas
 pub mod RestartMade
 pub mod TickLemmas
+pub mod TickMails
+pub mod OpenedLemmas
 pub mod OutcomeCalls
 pub mod KnownJoins
 pub mod JoinSteps

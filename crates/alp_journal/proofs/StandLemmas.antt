@@ -94,7 +94,7 @@ trans-last (u ∷ ts) t h none =
     and_from (not (has_trans u (ts ++ t ∷ []))) (are_trans_apart (ts ++ t ∷ []))
     (ap not (any-last (λ v. same_trans v u) ts t ∙ (λ i. not-true (has_trans u ts) both.0 i || (turned t u ∙ away.0) i))) (trans-last ts t both.1 away.1)
 
-join_turned : (j k : JoinNo) → same_join j k ≡ same_join k j
+pub join_turned : (j k : JoinNo) → same_join j k ≡ same_join k j
 join_turned j k = go (same_join j k) (same_join k j) refl refl
   where
     go : (b d : Bool) → same_join j k ≡ b → same_join k j ≡ d → b ≡ d
