@@ -27,6 +27,7 @@ pub mod DecideSteps
 pub mod DecisionSteps
 pub mod TimeoutLemmas
 pub mod TimeoutJoins
+pub mod LateJoins
 pub mod CommitCalls
 pub mod HaltedCalls
 pub mod HaltSteps

@@ -37,7 +37,7 @@ use Rattle.alp_journal.proofs.JoinEnds.{join_ended, join_ended_goes}
 use Rattle.alp_journal.proofs.WorkerSteps.{with_quit, quit_settled, quits_active}
 
 -- where one of them brings something about, and is named once, just that comes of all
-flat-once : {B : Type 0} (f : JoinNo → List B) (j : JoinNo) (js : List JoinNo) → are_joins_apart js ≡ true → has_join j js ≡ true → ((k : JoinNo) → same_join k j ≡ false → f k ≡ []) → flat_map f js ≡ f j
+pub flat-once : {B : Type 0} (f : JoinNo → List B) (j : JoinNo) (js : List JoinNo) → are_joins_apart js ≡ true → has_join j js ≡ true → ((k : JoinNo) → same_join k j ≡ false → f k ≡ []) → flat_map f js ≡ f j
 flat-once f j [] apart has others = let wrong : false ≡ true = has in cc
 flat-once {B} f j (k ∷ js) apart has others = go (same_join k j) refl (λ more. flat-once f j js (and_parts (not (has_join k js)) (are_joins_apart js) apart).1 more others)
   where
