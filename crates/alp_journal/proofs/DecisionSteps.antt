@@ -162,7 +162,7 @@ module _ (a : Account) (from : ℕ) (t : TransId) (j : JoinNo) where
   pub inquire_silent_leads : IsQuiet a → a.is_down ≡ false → to_others (state_of a) (cond {A = List Mail} (is_trans_drawn (state_of a) t) (on_inquire (state_of a) t j (a.fates t)) []) ≡ [] → Leads false a (arrive_entry a from (msg.Inquire t j) []) a
   inquire_silent_leads q up none = says_leads a from (msg.Inquire t j) false [] (record { quiet = q; up = up; brought = refl; said = tt; mail = subst (λ (ms : List Mail). IsPermutation ms []) (sym none) (IsPermutation-refl []); addressed = refl; applied = tt })
 
-  first_of : Message → List Mail → Message
+  abbrev first_of : Message → List Mail → Message
   first_of x [] = x
   first_of x (y ∷ ys) = y.1
 

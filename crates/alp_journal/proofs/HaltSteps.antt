@@ -189,7 +189,7 @@ module _ (a : Account) (from : ℕ) (t : TransId) (j : JoinNo) (client ts : ℕ)
     commit_owes true = record {
       stops = refl;
       drawn = refl;
-      deeds = subst (Along state_deed (IsLawfulDeed commit_ev) (state_of a)) (sym (refl)) ((record { counts = tt; view = tt; locks = tt; running = tt; registration = tt; vote = tt; decision = tt; application = record { from = from; client = client; ts = ts; told = refl; ready = ready; elsewhere = known.1; live = (l, live, IsVoted.vote (voted_as a from t j client ts time l q.settled ready live)) }; forgetting = tt }, tt));
+      deeds = (record { counts = tt; view = tt; locks = tt; running = tt; registration = tt; vote = tt; decision = tt; application = record { from = from; client = client; ts = ts; told = refl; ready = ready; elsewhere = known.1; live = (l, live, IsVoted.vote (voted_as a from t j client ts time l q.settled ready live)) }; forgetting = tt }, tt);
       sent = refl;
       said = λ m. (tt, (tt, tt));
       regained = refl;
@@ -201,7 +201,7 @@ module _ (a : Account) (from : ℕ) (t : TransId) (j : JoinNo) (client ts : ℕ)
     commit_owes false = record {
       stops = refl;
       drawn = refl;
-      deeds = subst (Along state_deed (IsLawfulDeed commit_ev) (state_of a)) (sym (refl)) ((record { counts = tt; view = tt; locks = tt; running = tt; registration = tt; vote = tt; decision = tt; application = record { from = from; client = client; ts = ts; told = refl; ready = ready; elsewhere = known.1; live = (l, live, IsVoted.vote (voted_as a from t j client ts time l q.settled ready live)) }; forgetting = tt }, tt));
+      deeds = (record { counts = tt; view = tt; locks = tt; running = tt; registration = tt; vote = tt; decision = tt; application = record { from = from; client = client; ts = ts; told = refl; ready = ready; elsewhere = known.1; live = (l, live, IsVoted.vote (voted_as a from t j client ts time l q.settled ready live)) }; forgetting = tt }, tt);
       sent = refl;
       said = λ m. (tt, (tt, tt));
       regained = refl;
