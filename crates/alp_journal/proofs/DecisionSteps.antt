@@ -1,9 +1,10 @@
 -- votes and ends that arrive at the server of a transaction
-use Rattle.std.specs.Prelude.{cond, Bool, true, false, ◌&&◌, ◌||◌, ◌==◌, Option, None, Some, if◌then◌else◌}
+use Rattle.std.specs.Prelude.{cond, Bool, true, false, ◌&&◌, ◌||◌, ◌==◌, nat_lt, nat_le, Option, None, Some, if◌then◌else◌}
 use Rattle.std.specs.List.Sorted.{IsPermutation}
+use Rattle.std.proofs.lemmas.Bool.{and_parts, ltb-true}
 use Rattle.std.proofs.lemmas.List.{append-nil}
 use Rattle.std.proofs.lemmas.List.Sorted.{IsPermutation-refl}
-use Rattle.std.proofs.Common.{◌≡◌, ℕ, ◌+◌, ◌<◌, ◌≤◌, List, [], ◌∷◌, ◌++◌, refl, sym, ◌∙◌, ap, subst, eq-eqb}
+use Rattle.std.proofs.Common.{inl, inr, ◌⊎◌, ◌≡◌, ℕ, ◌+◌, ◌<◌, ◌≤◌, List, [], ◌∷◌, ◌++◌, refl, sym, ◌∙◌, ap, subst, eq-eqb}
 use Rattle.alp_base.specs.declared.ids.JoinNo.{JoinNo}
 use Rattle.alp_base.specs.declared.ids.Stamp.{Stamp}
 use Rattle.alp_base.specs.declared.ids.TransId.{TransId}
@@ -28,6 +29,7 @@ use Rattle.alp_journal.specs.Laws.{MaySay, MayAbort, HasDecision}
 use Rattle.alp_journal.specs.Messages.{Mail, to_each, to_others, on_inquire, on_no, lost_or, commit_to}
 use Rattle.alp_journal.specs.Answered.{is_all_done, IsWalk, in_turn}
 use Rattle.alp_journal.specs.Account.{Account, state_of, IsFateOf, IsSettled, IsQuiet, IsFinishOf, HasNoCall, granted_calls, with_granted, grant_acts, sent_acts, Leads}
+use Rattle.alp_journal.proofs.IdLemmas.{or-true}
 use Rattle.alp_journal.proofs.StandLemmas.{moved_fate, own_pair}
 use Rattle.alp_journal.proofs.MoveLemmas.{stands_fated}
 use Rattle.alp_journal.proofs.DeskLemmas.{tells_fated}
@@ -208,11 +210,20 @@ module _ (a : Account) (from : ℕ) (t : TransId) (j : JoinNo) where
           go false g is = lost (Forgotten stamp js) e (λ b. (b, refl)) (older g) is
       by (Ended c) e is = subst IsWord (same_mail (msg.Abort t j (lost_or (state_of a) t c)) m is) (record { may = (drawn, subst (MayAbort (state_of a) t (lost_or (state_of a) t c)) (sym e) refl); addressed = to_it })
 
+  -- what was drawn here in no other epoch than an older one
+  older_then : is_trans_drawn (state_of a) t ≡ true → (t.epoch == a.ids.epoch) ≡ false → t.epoch < a.ids.epoch
+  older_then drawn other =
+      let whole = and_parts (t.server == a.holder.server && nat_lt 0 t.epoch && nat_lt 0 t.counter) (nat_lt t.epoch a.ids.epoch || (t.epoch == a.ids.epoch && nat_le t.counter a.ids.transactions)) drawn in
+      elim (or-true (nat_lt t.epoch a.ids.epoch) (t.epoch == a.ids.epoch && nat_le t.counter a.ids.transactions) whole.1) [
+        | inl older ↦ ltb-true t.epoch a.ids.epoch older
+        | inr same ↦ absurd (let wrong : true ≡ false = sym (and_parts (t.epoch == a.ids.epoch) (nat_le t.counter a.ids.transactions) same).0 ∙ other in cc)
+      ]
+
   -- it is told, where it ended
-  pub inquire_leads : (m : Message) → IsQuiet a → a.is_down ≡ false → is_trans_drawn (state_of a) t ≡ true → is_other_server (state_of a) j.server ≡ true → (a.fates t ≡ Undrawn → t.epoch < a.ids.epoch) → ((t.epoch == a.ids.epoch) ≡ false → t.epoch < a.ids.epoch)
+  pub inquire_leads : (m : Message) → IsQuiet a → a.is_down ≡ false → is_trans_drawn (state_of a) t ≡ true → is_other_server (state_of a) j.server ≡ true → (a.fates t ≡ Undrawn → t.epoch < a.ids.epoch)
       → on_inquire (state_of a) t j (a.fates t) ≡ (j.server, m) ∷ [] → Leads false a (arrive_entry a from (msg.Inquire t j) (act.Sent j.server m ∷ [])) a
-  inquire_leads m q up drawn far past older is =
-      let word : IsWord m = its_word drawn past older (a.fates t) refl m is in
+  inquire_leads m q up drawn far past is =
+      let word : IsWord m = its_word drawn past (older_then drawn) (a.fates t) refl m is in
       says_leads a from (msg.Inquire t j) false ((j.server, m) ∷ []) (record {
         quiet = q;
         up = up;
