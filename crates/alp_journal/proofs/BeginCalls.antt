@@ -131,11 +131,11 @@ module _ (a : Account) (client : ℕ) where
             ap not (live_has u l live (sym p ∙ own)) ∙ sym (ap (λ (x : Option (Stamp × List JoinNo)). is_some x) (live_undecided a q.stands u l live))
     as_decided w off own u of (WaitsAs.join t on p) = elim p [
       | inl x ↦ (
-        let same : t ≡ u = same-some t u (sym on ∙ of) in
-        let live : is_whose client u (live_in (a.phases x.0)) ≡ true =
-        (λ i. is_whose (sym own i) (sym same i) (live_in (a.phases x.0))) ∙ live_of_open w.client t (a.phases x.0) x.1 in
-        ap not (join_has u x.0 live) ∙ sym (ap (λ (y : Option (Stamp × List JoinNo)). is_some y) (undecided_far a.servers a.holder.server a.ids.epoch a.ids.transactions a.begun u (a.fates u) (far_of_live a.servers a.holder.server a.ids.epoch a.ids.joins a.joined x.0 client u (a.phases x.0) live (q.stands.phases x.0)) (q.stands.fates u)))
-        )
+          let same : t ≡ u = same-some t u (sym on ∙ of) in
+          let live : is_whose client u (live_in (a.phases x.0)) ≡ true =
+          (λ i. is_whose (sym own i) (sym same i) (live_in (a.phases x.0))) ∙ live_of_open w.client t (a.phases x.0) x.1 in
+          ap not (join_has u x.0 live) ∙ sym (ap (λ (y : Option (Stamp × List JoinNo)). is_some y) (undecided_far a.servers a.holder.server a.ids.epoch a.ids.transactions a.begun u (a.fates u) (far_of_live a.servers a.holder.server a.ids.epoch a.ids.joins a.joined x.0 client u (a.phases x.0) live (q.stands.phases x.0)) (q.stands.fates u)))
+          )
       | inr d ↦ absurd (not_dead w t on off own d)
     ]
     as_decided w off own u of (WaitsAs.finish t on p) = by (a.fates u) refl (q.stands.fates u) (subst (λ (v : TransId). IsFinishOf w.client (a.fates v) (a.dead w.client v)) (same-some t u (sym on ∙ of)) p)

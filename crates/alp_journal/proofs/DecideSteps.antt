@@ -193,8 +193,8 @@ module _ (a : Account) (from : ℕ) (t : TransId) (j : JoinNo) (ts : ℕ) where
           let now : fate.decided decision_stamp js (fate.heard j ts (a.fates t)) ≡ Committed decision_stamp js [] = decided_is is in
           let s : Stands (record a { holder = with_decision.holder; fates = with_decision.fates }) =
           stands_over a q.settled.stands t (edits_map l.edits a.holder.cells) (max a.holder.clock decision_stamp.ts) (max a.holder.clock decision_stamp.ts) (put stamp_cmp decision_stamp (record { stamp = decision_stamp; who = l.who; calls = l.calls }) a.holder.applied)
-              (put stamp_cmp decision_stamp l.edits a.holder.left) (le_refl (max a.holder.clock decision_stamp.ts)) (here_as a client t l cause.Asked o) (λ f. fate.decided decision_stamp js (fate.heard j ts f))
-              (ap is_running now) (ap has_votes now) (ap is_all_done now ∙ stands_open js its) (subst (IsFateOf a.servers a.holder.server a.ids.epoch a.ids.transactions a.begun t) (sym now) (known_as a client t l cause.Asked o, refl)) in
+          (put stamp_cmp decision_stamp l.edits a.holder.left) (le_refl (max a.holder.clock decision_stamp.ts)) (here_as a client t l cause.Asked o) (λ f. fate.decided decision_stamp js (fate.heard j ts f))
+          (ap is_running now) (ap has_votes now) (ap is_all_done now ∙ stands_open js its) (subst (IsFateOf a.servers a.holder.server a.ids.epoch a.ids.transactions a.begun t) (sym now) (known_as a client t l cause.Asked o, refl)) in
           record {
             stands = record { agree = s.agree; paired = s.paired; held = s.held; votes = s.votes; forgets = s.forgets; fates = s.fates; begun = s.begun; phases = s.phases; joined = s.joined; single = s.single; order = s.order };
             tells = record {
@@ -309,20 +309,23 @@ module _ (a : Account) (from : ℕ) (t : TransId) (j : JoinNo) (ts : ℕ) where
                   application = tt;
                   forgetting = tt;
                 },
-                (record {
-                  counts = tt;
-                  view = tt;
-                  locks = (
-                    subst (λ (x : Option Life). IsSome ((commits a.holder decision_stamp x).lives t)) (sym live) (subst (λ (b : Bool). IsSome (cond {A = Option Life} b (Some (emptied l)) (a.holder.lives t))) (sym (same_trans-itself t)) refl),
-                    has_ended t mid (Committed decision_stamp js []) (twice_moved (same_trans t t) (a.fates t) ∙ now) refl (own_unheld a q.settled.stands t here),
-                  );
-                  running = tt;
-                  registration = tt;
-                  vote = tt;
-                  decision = tt;
-                  application = tt;
-                  forgetting = tt;
-                }, tt),
+                (
+                  record {
+                    counts = tt;
+                    view = tt;
+                    locks = (
+                      subst (λ (x : Option Life). IsSome ((commits a.holder decision_stamp x).lives t)) (sym live) (subst (λ (b : Bool). IsSome (cond {A = Option Life} b (Some (emptied l)) (a.holder.lives t))) (sym (same_trans-itself t)) refl),
+                      has_ended t mid (Committed decision_stamp js []) (twice_moved (same_trans t t) (a.fates t) ∙ now) refl (own_unheld a q.settled.stands t here),
+                    );
+                    running = tt;
+                    registration = tt;
+                    vote = tt;
+                    decision = tt;
+                    application = tt;
+                    forgetting = tt;
+                  },
+                  tt,
+                ),
               ),
             );
             stops = refl;
@@ -391,7 +394,7 @@ module _ (a : Account) (from : ℕ) (t : TransId) (j : JoinNo) (ts : ℕ) where
             let back : List Deed = Hears t j ts ∷ Ends t client own_cause ∷ Releases t ∷ [] in
             let acts : List Act = (front ++ grant_acts us) ++ sent_acts own_aborts in
             let goes : GoesOn a ended ev front back us = after_goes a client t l own_cause (Hears t j ts) (fate.heard j ts) ev (λ u n. refl) refl
-                (record { counts = tt; view = tt; locks = tt; running = tt; registration = tt; vote = tt; decision = tt; application = tt; forgetting = tt }) refl refl heard_ended o (none_tried a q up) us walk in
+            (record { counts = tt; view = tt; locks = tt; running = tt; registration = tt; vote = tt; decision = tt; application = tt; forgetting = tt }) refl refl heard_ended o (none_tried a q up) us walk in
             let first : first_sent (abort_in t) acts ≡ Some own_cause = first-behind (abort_in t) us (sent_acts own_aborts) ∙ an-abort t own_cause js j both.0 in
             leaves_leads a from (msg.Ready t j ts) failed ended (with_own_no_given us) front back us own_aborts (record {
               goes = goes;

@@ -175,7 +175,7 @@ lawful-given e [] m q free opens = tt
 lawful-given e (x ∷ xs) m q free opens = (
   lawful-granted m x e q free.0 opens.0,
   subst (λ (s : State). Along state_deed (IsLawfulDeed e) s (grant_deeds xs)) (sym (state-granted m x)) (lawful-given e xs (with_granted m (x ∷ [])) (settled-granted m x q free.0) free.1
-  (all-map (λ (y : TransId × Call). IsOpenFor m y.0) (λ (y : TransId × Call). IsOpenFor (with_granted m (x ∷ [])) y.0) (λ y o. (o.0, unvoted-granted m.holder x.0 free.0.life x.1 free.0.live y.0 o.1)) xs opens.1)),
+      (all-map (λ (y : TransId × Call). IsOpenFor m y.0) (λ (y : TransId × Call). IsOpenFor (with_granted m (x ∷ [])) y.0) (λ y o. (o.0, unvoted-granted m.holder x.0 free.0.life x.1 free.0.live y.0 o.1)) xs opens.1)),
 )
 
 -- one more after those
@@ -220,10 +220,10 @@ module _ (m : Account) (q : IsSettled m) where
       by (Some j) e h = elim h.0 [
         | inl active ↦ (inr (j, k.client, k.who, active.0), unvoted active.1)
         | inr ready ↦ absurd (
-          let none : find (is_of_part k.client u) m.waits ≡ None = found-none (is_of_part k.client u) m.waits (subst (HasWaits m.waits) ready.1 (q.tells.joining j)) in
-          let wrong : Some w ≡ None = sym found ∙ none in
-          cc
-          )
+            let none : find (is_of_part k.client u) m.waits ≡ None = found-none (is_of_part k.client u) m.waits (subst (HasWaits m.waits) ready.1 (q.tells.joining j)) in
+            let wrong : Some w ≡ None = sym found ∙ none in
+            cc
+            )
       ]
 
   pub open_calls : AllByRecursion (IsOpenCall m) m.waits

@@ -117,7 +117,6 @@ module _ (a : Account) (from : ℕ) (x : Message) where
       either true = tt
       either false = tt
 
-
 -- ---- a part votes
 
 module _ (a : Account) (from : ℕ) (t : TransId) (j : JoinNo) (client : ℕ) (who : List ℕ) (l : Life) (q : IsQuiet a) (up : a.is_down ≡ false) (active : a.phases j ≡ Active t client who) (live : a.holder.lives t ≡ Some l) (may : why_not false (state_of a) client t ≡ None) where

@@ -177,17 +177,23 @@ module _ (a : Account) (j : JoinNo) (t : TransId) (client : ℕ) (move : Phase �
             walk = walk;
             no_call = no_call;
             reached = ap (λ (s : State). state_deed s (Releases t)) by.first ∙ (λ i. state_of (record join_ended { holder = by.gone i; begun = begun_two i; joined = joined_two i }));
-            deeds = (by.lawful, (subst (λ (s : State). IsLawfulDeed ev s (Releases t)) (sym by.first) (record {
-              counts = tt;
-              view = tt;
-              locks = (by.there, has_ended t mid (a.fates t) refl (over_then o) (unheld_then o h));
-              running = tt;
-              registration = tt;
-              vote = tt;
-              decision = tt;
-              application = tt;
-              forgetting = tt;
-            }), tt));
+            deeds = (
+              by.lawful,
+              (
+                subst (λ (s : State). IsLawfulDeed ev s (Releases t)) (sym by.first) (record {
+                  counts = tt;
+                  view = tt;
+                  locks = (by.there, has_ended t mid (a.fates t) refl (over_then o) (unheld_then o h));
+                  running = tt;
+                  registration = tt;
+                  vote = tt;
+                  decision = tt;
+                  application = tt;
+                  forgetting = tt;
+                }),
+                tt,
+              ),
+            );
             stops = refl;
             release = λ rest. refl;
             first = λ rest. refl;

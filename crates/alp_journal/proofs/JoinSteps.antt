@@ -131,10 +131,10 @@ module _ (a : Account) (client number : ℕ) (w : Session) (t : TransId) where
           by (Some l) e p = part l (ap a.holder.lives (sym one) ∙ e) (sym p ∙ own) l.join refl
       wrong_one own u same (WaitsAs.join s of p) named = elim p [
         | inl x ↦ (
-          let one : s ≡ t = same-some s u (sym of ∙ named) ∙ same in
-          let wrong : false ≡ true = sym (unjoined o x.0) ∙ (λ i. is_whose (sym own i) (sym one i) (live_in (a.phases x.0))) ∙ live_of_open v.client s (a.phases x.0) x.1 in
-          cc
-          )
+            let one : s ≡ t = same-some s u (sym of ∙ named) ∙ same in
+            let wrong : false ≡ true = sym (unjoined o x.0) ∙ (λ i. is_whose (sym own i) (sym one i) (live_in (a.phases x.0))) ∙ live_of_open v.client s (a.phases x.0) x.1 in
+            cc
+            )
         | inr d ↦ not_dead a client v s of off own d
       ]
       wrong_one own u same (WaitsAs.finish s of p) named = by (a.fates s) refl (q.stands.fates s) p

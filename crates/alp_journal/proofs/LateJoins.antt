@@ -330,17 +330,20 @@ module _ (a : Account) (t : TransId) where
       reached = state-append (outs a.joined) (Releases t ∷ []) (state_of a) ∙ ap (λ (s : State). state_deed s (Releases t)) (outs_state a.joined a)
           ∙ (λ i. state_of (record ended_all { begun = append-nil a.begun i; joined = append-nil a.joined i }));
       deeds = along-append (IsLawfulDeed (event.Timeout t)) (outs a.joined) (Releases t ∷ []) (state_of a) (outs_lawful (event.Timeout t) a.joined (state_of a))
-          (subst (λ (s : State). Along state_deed (IsLawfulDeed (event.Timeout t)) s (Releases t ∷ [])) (sym (outs_state a.joined a)) (record {
-            counts = tt;
-            view = tt;
-            locks = (subst (λ (x : Option Life). IsSome x) (sym live) refl, has_ended t (state_of out_then) (a.fates t) refl over_all unheld_all);
-            running = tt;
-            registration = tt;
-            vote = tt;
-            decision = tt;
-            application = tt;
-            forgetting = tt;
-          }, tt));
+          (subst (λ (s : State). Along state_deed (IsLawfulDeed (event.Timeout t)) s (Releases t ∷ [])) (sym (outs_state a.joined a)) (
+            record {
+              counts = tt;
+              view = tt;
+              locks = (subst (λ (x : Option Life). IsSome x) (sym live) refl, has_ended t (state_of out_then) (a.fates t) refl over_all unheld_all);
+              running = tt;
+              registration = tt;
+              vote = tt;
+              decision = tt;
+              application = tt;
+              forgetting = tt;
+            },
+            tt,
+          ));
       stops = refl;
       release = λ rest. refl;
       first = λ rest. refl;

@@ -110,9 +110,9 @@ each_phase [] h = tt
 each_phase (n ∷ ns) h = (
   ap (λ (b : Bool). cond {A = Phase} b (Ready n.trans n.client n.ts) (phase_noted ns n.join)) (same_join-itself n.join),
   all-both (λ (m : ReadyNote). same_join n.join m.join ≡ false) (λ (m : ReadyNote). phase_noted ns m.join ≡ Ready m.trans m.client m.ts) (λ (m : ReadyNote). phase_noted (n ∷ ns) m.join ≡ Ready m.trans m.client m.ts)
-  (λ m away is. ap (λ (b : Bool). cond {A = Phase} b (Ready n.trans n.client n.ts) (phase_noted ns m.join)) away ∙ is) ns
-  (away_joins n.join ns (not-true (has_join n.join (ready_joins ns)) (and_parts (not (has_join n.join (ready_joins ns))) (are_joins_apart (ready_joins ns)) h).0))
-  (each_phase ns (and_parts (not (has_join n.join (ready_joins ns))) (are_joins_apart (ready_joins ns)) h).1),
+      (λ m away is. ap (λ (b : Bool). cond {A = Phase} b (Ready n.trans n.client n.ts) (phase_noted ns m.join)) away ∙ is) ns
+      (away_joins n.join ns (not-true (has_join n.join (ready_joins ns)) (and_parts (not (has_join n.join (ready_joins ns))) (are_joins_apart (ready_joins ns)) h).0))
+      (each_phase ns (and_parts (not (has_join n.join (ready_joins ns))) (are_joins_apart (ready_joins ns)) h).1),
 )
 
 each_life : (ns : List ReadyNote) → are_trans_apart (ready_trans ns) ≡ true → AllByRecursion (λ (n : ReadyNote). lives_noted ns n.trans ≡ Some (early_life n)) ns
@@ -120,9 +120,9 @@ each_life [] h = tt
 each_life (n ∷ ns) h = (
   ap (λ (b : Bool). cond {A = Option Life} b (Some (early_life n)) (lives_noted ns n.trans)) (same_trans-itself n.trans),
   all-both (λ (m : ReadyNote). same_trans n.trans m.trans ≡ false) (λ (m : ReadyNote). lives_noted ns m.trans ≡ Some (early_life m)) (λ (m : ReadyNote). lives_noted (n ∷ ns) m.trans ≡ Some (early_life m))
-  (λ m away is. ap (λ (b : Bool). cond {A = Option Life} b (Some (early_life n)) (lives_noted ns m.trans)) away ∙ is) ns
-  (away_trans n.trans ns (not-true (has_trans n.trans (ready_trans ns)) (and_parts (not (has_trans n.trans (ready_trans ns))) (are_trans_apart (ready_trans ns)) h).0))
-  (each_life ns (and_parts (not (has_trans n.trans (ready_trans ns))) (are_trans_apart (ready_trans ns)) h).1),
+      (λ m away is. ap (λ (b : Bool). cond {A = Option Life} b (Some (early_life n)) (lives_noted ns m.trans)) away ∙ is) ns
+      (away_trans n.trans ns (not-true (has_trans n.trans (ready_trans ns)) (and_parts (not (has_trans n.trans (ready_trans ns))) (are_trans_apart (ready_trans ns)) h).0))
+      (each_life ns (and_parts (not (has_trans n.trans (ready_trans ns))) (are_trans_apart (ready_trans ns)) h).1),
 )
 
 -- ---- the whole

@@ -391,7 +391,7 @@ module _ (a : Account) (client number : ℕ) (w : Session) (t : TransId) (l : Li
       let back : List Deed = Finishes t ∷ Ends t client c ∷ Releases t ∷ [] in
       let ev : Event = finish_event a ended client number w t true told in
       let goes : GoesOn a ended ev front back ts = after_goes a client t l c (Finishes t) fate.finishing ev (no_file_call a ended client number w t true told) refl
-          (record { counts = tt; view = tt; locks = tt; running = tt; registration = tt; vote = tt; decision = tt; application = tt; forgetting = tt }) refl refl finishing_ended own (none_tried a q up) ts walk in
+      (record { counts = tt; view = tt; locks = tt; running = tt; registration = tt; vote = tt; decision = tt; application = tt; forgetting = tt }) refl refl finishing_ended own (none_tried a q up) ts walk in
       finish_leads a ended client number w t true told failed front back ts [] (with_end_given ts) (record {
         goes = goes;
         running = up;

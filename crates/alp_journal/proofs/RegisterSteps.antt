@@ -234,7 +234,7 @@ module _ (a : Account) (from : ℕ) (t : TransId) (j : JoinNo) where
         → Leads false a (arrive_entry a from (msg.Joined t j) []) with_entered
     joined_leads q up asks none off =
         let moved : Tells (record a { phases = with_entered.phases }) = tells_moved a q.settled.tells j phase.entered (ap (λ (p : Phase). live_in (phase.entered p)) asks ∙ sym (ap live_in asks)) (open_entered a q.settled.stands j t client who (a.phases j))
-            (subst (λ (p : Phase). HasWaits a.waits (phase.entered p)) (sym asks) tt) in
+        (subst (λ (p : Phase). HasWaits a.waits (phase.entered p)) (sym asks) tt) in
         let enters_is : enters j t (a.holder.lives t) (a.phases j) ≡ Enters j t client who ∷ [] =
         (λ i. enters j t (none i) (asks i)) ∙ ap (λ (b : Bool). cond {A = List Deed} b (Enters j t client who ∷ []) []) (same_trans-itself t) in
         arrive_leads a from (msg.Joined t j) false [] (Enters j t client who ∷ []) with_entered (record {
@@ -328,7 +328,7 @@ module _ (a : Account) (from : ℕ) (t : TransId) (j : JoinNo) where
         let over : phase.quit (a.phases j) ≡ Over = ap phase.quit asks in
         let known : IsPhaseOf a.servers a.holder.server a.ids.epoch a.ids.joins a.joined j (Joining t client who) = subst (IsPhaseOf a.servers a.holder.server a.ids.epoch a.ids.joins a.joined j) asks (q.settled.stands.phases j) in
         let stood : Stands (record a { phases = with_refused.phases }) = stands_quit a q.settled.stands j t client who asks phase.quit (subst IsSpent (sym over) spent_over)
-            (subst (IsPhaseOf a.servers a.holder.server a.ids.epoch a.ids.joins a.joined j) (sym over) known.0) in
+        (subst (IsPhaseOf a.servers a.holder.server a.ids.epoch a.ids.joins a.joined j) (sym over) known.0) in
         arrive_leads a from (msg.JoinRefused t j) false [] (Quits j t client None ∷ []) with_refused (record {
           up = refl;
           running = up;

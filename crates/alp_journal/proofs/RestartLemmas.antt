@@ -120,10 +120,13 @@ module _ (b : Account) (clock : ℕ) (q : Stands b) where
     where
       part : (ts : ℕ) → l.vote ≡ Some ts → (x : Option JoinNo) → IsPartAs t b.phases l (b.fates t) x → IsPartAs t (λ j. phase.restarted (b.phases j)) l (fate.restarted (b.ids.epoch + 1) (b.fates t)) x
       part ts voted None h = let wrong : None ≡ Some ts = sym h.1 ∙ voted in cc
-      part ts voted (Some j) h = (elim h.0 [
-        | inl x ↦ absurd (let wrong : None ≡ Some ts = sym x.1 ∙ voted in cc)
-        | inr x ↦ inr (x.0, ap phase.restarted x.1, x.2)
-      ], over_then (b.ids.epoch + 1) (b.fates t))
+      part ts voted (Some j) h = (
+        elim h.0 [
+          | inl x ↦ absurd (let wrong : None ≡ Some ts = sym x.1 ∙ voted in cc)
+          | inr x ↦ inr (x.0, ap phase.restarted x.1, x.2)
+        ],
+        over_then (b.ids.epoch + 1) (b.fates t),
+      )
 
       by : (v : Option ℕ) → l.vote ≡ v → IsPaired t (λ j. phase.restarted (b.phases j)) (cond {A = Option Life} (is_some l.vote) (Some l) None) (fate.restarted (b.ids.epoch + 1) (b.fates t))
       by None e = subst (λ (v : Option ℕ). IsPaired t (λ j. phase.restarted (b.phases j)) (cond {A = Option Life} (is_some v) (Some l) None) (fate.restarted (b.ids.epoch + 1) (b.fates t))) (sym e) (over_then (b.ids.epoch + 1) (b.fates t))

@@ -58,8 +58,8 @@ module _ (a : Account) (ready : List JoinNo) (stamps : List Stamp) (q : IsQuiet 
   decided_stands =
       let s : Stands (record a { holder = (with_decided a stamp l joins).holder; fates = (with_decided a stamp l joins).fates }) =
       stands_over a q.settled.stands its (edits_map l.edits a.holder.cells) a.holder.clock a.holder.kept (put stamp_cmp stamp (record { stamp = stamp; who = l.who; calls = l.calls }) a.holder.applied) (put stamp_cmp stamp l.edits a.holder.left) q.settled.stands.order
-          (own_here a q.settled.stands its l live part) (λ f. Committed stamp joins []) refl refl (none_done stamp joins)
-          (known_running a.servers a.holder.server a.ids.epoch a.ids.transactions a.begun its (a.fates its) (running_of (a.fates its) l.client (own_pair a q.settled.stands its l live part).0) (q.settled.stands.fates its), refl) in
+      (own_here a q.settled.stands its l live part) (λ f. Committed stamp joins []) refl refl (none_done stamp joins)
+      (known_running a.servers a.holder.server a.ids.epoch a.ids.transactions a.begun its (a.fates its) (running_of (a.fates its) l.client (own_pair a q.settled.stands its l live part).0) (q.settled.stands.fates its), refl) in
       s
 
   -- each fate is that of the decision, or as it was
@@ -164,8 +164,8 @@ module _ (a : Account) (ready : List JoinNo) (stamps : List Stamp) (q : IsQuiet 
       let now : phase.applied c.stamp (a.phases c.join) ≡ Applied t c.stamp = ap (phase.applied c.stamp) c.ready ∙ ap (λ (b : Bool). cond {A = Phase} b (Applied t c.stamp) (Ready t c.client c.ts)) (same_trans-itself t) in
       let known : IsPhaseOf a.servers a.holder.server a.ids.epoch a.ids.joins a.joined c.join (Ready t c.client c.ts) = subst (IsPhaseOf a.servers a.holder.server a.ids.epoch a.ids.joins a.joined c.join) c.ready (q.settled.stands.phases c.join) in
       let stood : Stands m = stands_gone a q.settled.stands t (edits_map l.edits a.holder.cells) a.holder.clock a.holder.kept (in_history c.stamp l a.holder.applied)
-          (cond {A = List (Stamp × List Edit)} l.is_early a.holder.left (put stamp_cmp c.stamp l.edits a.holder.left)) q.settled.stands.order c.join (subst (IsHolding t) (sym c.ready) refl) (phase.applied c.stamp)
-          (subst IsSpent (sym now) (spent_applied t c.stamp)) (subst (IsPhaseOf a.servers a.holder.server a.ids.epoch a.ids.joins a.joined c.join) (sym now) known.0) in
+      (cond {A = List (Stamp × List Edit)} l.is_early a.holder.left (put stamp_cmp c.stamp l.edits a.holder.left)) q.settled.stands.order c.join (subst (IsHolding t) (sym c.ready) refl) (phase.applied c.stamp)
+      (subst IsSpent (sym now) (spent_applied t c.stamp)) (subst (IsPhaseOf a.servers a.holder.server a.ids.epoch a.ids.joins a.joined c.join) (sym now) known.0) in
       let gone : has_join c.join ready ≡ false = notes.ready c.join ∙ ap is_ready (moved_phase a.phases c.join (phase.applied c.stamp) ∙ now) in
       restart_so a ready stamps clock (Applies c.join c.stamp ∷ []) (restarted_applied a c.join c.stamp l) (one_counts clock (Applies c.join c.stamp) c.tried (ap not gone))
       (record { clock = ap (λ (x : Option Life). (commits a.holder c.stamp x).kept) (sym live); once = notes.once; ready = notes.ready; decided = notes.decided })
@@ -218,7 +218,7 @@ module _ (a : Account) (ready : List JoinNo) (stamps : List Stamp) (q : IsQuiet 
       let now : phase.aborted t (a.phases c.join) ≡ Over = ap (phase.aborted t) c.ready ∙ ap (λ (b : Bool). cond {A = Phase} b Over (Ready t c.client c.ts)) (same_trans-itself t) in
       let known : IsPhaseOf a.servers a.holder.server a.ids.epoch a.ids.joins a.joined c.join (Ready t c.client c.ts) = subst (IsPhaseOf a.servers a.holder.server a.ids.epoch a.ids.joins a.joined c.join) c.ready (q.settled.stands.phases c.join) in
       let stood : Stands m = stands_gone a q.settled.stands t a.holder.cells a.holder.clock a.holder.kept a.holder.applied a.holder.left q.settled.stands.order c.join (subst (IsHolding t) (sym c.ready) refl) (phase.aborted t)
-          (subst IsSpent (sym now) spent_over) (subst (IsPhaseOf a.servers a.holder.server a.ids.epoch a.ids.joins a.joined c.join) (sym now) known.0) in
+      (subst IsSpent (sym now) spent_over) (subst (IsPhaseOf a.servers a.holder.server a.ids.epoch a.ids.joins a.joined c.join) (sym now) known.0) in
       let gone : has_join c.join ready ≡ false = notes.ready c.join ∙ ap is_ready (moved_phase a.phases c.join (phase.aborted t) ∙ now) in
       restart_so a ready stamps a.holder.kept (Aborts c.join t c.client c.cause ∷ []) (restarted_aborted a c.join t) (one_counts a.holder.kept (Aborts c.join t c.client c.cause) c.tried (ap not gone))
       (record { clock = refl; once = notes.once; ready = notes.ready; decided = notes.decided })

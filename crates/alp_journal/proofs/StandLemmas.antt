@@ -40,10 +40,10 @@ drawn_more here now n m server epoch counter more e =
     (elim (or-true (nat_lt epoch now) (epoch == now && nat_le counter n) whole.1) [
       | inl older ↦ or_left (nat_lt epoch now) (epoch == now && nat_le counter m) older
       | inr last ↦ (
-        let both = and_parts (epoch == now) (nat_le counter n) last in
-        let low : counter ≤ n = leb-true counter n both.1 in
-        or_right (nat_lt epoch now) (epoch == now && nat_le counter m) (and_from (epoch == now) (nat_le counter m) both.0 (le-leb counter m (omega (arith, low, more))))
-        )
+          let both = and_parts (epoch == now) (nat_le counter n) last in
+          let low : counter ≤ n = leb-true counter n both.1 in
+          or_right (nat_lt epoch now) (epoch == now && nat_le counter m) (and_from (epoch == now) (nat_le counter m) both.0 (le-leb counter m (omega (arith, low, more))))
+          )
     ])
 
 -- and in the next epoch

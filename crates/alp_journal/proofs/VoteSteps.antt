@@ -247,7 +247,7 @@ module _ (a : Account) (from : ℕ) (t : TransId) (j : JoinNo) where
         let o : IsEnding a j t client (phase.applied apply_stamp) = applies q ready in
         let s : Stands (record a { holder = with_apply.holder; phases = with_apply.phases }) =
         stands_gone a q.stands t (edits_map l.edits a.holder.cells) (max a.holder.clock time) (max a.holder.clock time) (in_history apply_stamp l a.holder.applied) (cond {A = List (Stamp × List Edit)} l.is_early a.holder.left (put stamp_cmp apply_stamp l.edits a.holder.left))
-            (le_refl (max a.holder.clock time)) j (holds ready) (phase.applied apply_stamp) o.spent o.of in
+        (le_refl (max a.holder.clock time)) j (holds ready) (phase.applied apply_stamp) o.spent o.of in
         record {
           stands = record { agree = s.agree; paired = s.paired; held = s.held; votes = s.votes; forgets = s.forgets; fates = s.fates; begun = s.begun; phases = s.phases; joined = s.joined; single = s.single; order = s.order };
           tells = record {
@@ -313,20 +313,23 @@ module _ (a : Account) (from : ℕ) (t : TransId) (j : JoinNo) where
               application = record { from = from; client = client; ts = ts; told = refl; ready = ready; elsewhere = far; live = (l, live, IsVoted.vote (voted_as q.settled ready live)) };
               forgetting = tt;
             },
-            (record {
-              counts = tt;
-              view = tt;
-              locks = (
-                subst (λ (x : Option Life). IsSome ((commits a.holder apply_stamp x).lives t)) (sym live) (subst (λ (b : Bool). IsSome (cond {A = Option Life} b (Some (emptied l)) (a.holder.lives t))) (sym (same_trans-itself t)) refl),
-                has_ended t mid (a.fates t) refl (over q live) (unheld_then a j t client (phase.applied apply_stamp) cause.Asked l (Applies j apply_stamp) a.holder (applies q.settled ready) (holds ready)),
-              );
-              running = tt;
-              registration = tt;
-              vote = tt;
-              decision = tt;
-              application = tt;
-              forgetting = tt;
-            }, tt),
+            (
+              record {
+                counts = tt;
+                view = tt;
+                locks = (
+                  subst (λ (x : Option Life). IsSome ((commits a.holder apply_stamp x).lives t)) (sym live) (subst (λ (b : Bool). IsSome (cond {A = Option Life} b (Some (emptied l)) (a.holder.lives t))) (sym (same_trans-itself t)) refl),
+                  has_ended t mid (a.fates t) refl (over q live) (unheld_then a j t client (phase.applied apply_stamp) cause.Asked l (Applies j apply_stamp) a.holder (applies q.settled ready) (holds ready)),
+                );
+                running = tt;
+                registration = tt;
+                vote = tt;
+                decision = tt;
+                application = tt;
+                forgetting = tt;
+              },
+              tt,
+            ),
           );
           stops = refl;
           release = λ rest. refl;

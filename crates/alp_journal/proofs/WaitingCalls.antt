@@ -254,7 +254,7 @@ module _ (a : Account) (client number : ℕ) (w : Session) (t : TransId) (l : Li
             (subst (λ (x : Option Waiting). First (at_part (true && is_some x) (part_at s client t)) not_yet (not_yet ≡ finish_reply false s t (a.fates t))) (sym waits)
             (subst (λ (p : Part). First (at_part true p) not_yet (not_yet ≡ finish_reply false s t (a.fates t))) (sym (own_at_work a t client here runs)) refl));
         mail = no_mail [] (
-          ap (λ (x : Option Waiting). on_finish t true client (is_none x) (a.fates t)) waits ∙ ap (on_finish t true client false) runs ∙ ap (λ (b : Bool). cond {A = List Mail} (b && false) (to_each (msg.Ask t) js) []) mine) refl;
+            ap (λ (x : Option Waiting). on_finish t true client (is_none x) (a.fates t)) waits ∙ ap (on_finish t true client false) runs ∙ ap (λ (b : Bool). cond {A = List Mail} (b && false) (to_each (msg.Ask t) js) []) mine) refl;
         turns = tt;
         grants = tt;
       })
