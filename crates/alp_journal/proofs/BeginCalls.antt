@@ -40,7 +40,7 @@ use Rattle.alp_journal.proofs.IdLemmas.{same_trans-true, same_trans-itself, all-
 use Rattle.alp_journal.proofs.MadeIds.{all-map}
 use Rattle.alp_journal.proofs.WaitLemmas.{turned, all-both, all-of, passing, filter-same, file_part}
 use Rattle.alp_journal.proofs.TurnLemmas.{blocked-as, turns-set}
-use Rattle.alp_journal.proofs.StandLemmas.{own_server, any-last, trans-last, drawn_next, moved_all, fate_more, undecided_far, far_of_live, live_of_open, whose_own, paired_set, held_set, no_own_join, own_unheld, pair_of, none_lives, live_undecided, join_live, join_none, next_new}
+use Rattle.alp_journal.proofs.StandLemmas.{own_server, any-last, trans-last, known_next, drawn_next, moved_all, fate_more, undecided_far, far_of_live, live_of_open, whose_own, paired_set, held_set, no_own_join, own_unheld, pair_of, none_lives, live_undecided, join_live, join_none, next_new}
 use Rattle.alp_journal.proofs.PartLemmas.{WaitsAs, each_waits, off-files, none_waits}
 use Rattle.alp_journal.proofs.QuietLemmas.{agree_set, ended_moved, ended_fewer, fewer-where, parts-gone, other-on, KeepsJoins, came_on, stands_as, later-come, quiet_session, tells_without, turns-as}
 use Rattle.alp_journal.proofs.CallLemmas.{no_mail, call_entry, new_call, call_leads, quiet_votes, quiet_forgets}
@@ -301,6 +301,7 @@ module _ (a : Account) (client number : ℕ) (w : Session) where
             (λ u away. fate_more a.servers a.holder.server a.ids.epoch a.ids.transactions (a.ids.transactions + 1) a.begun (with_begun seen).begun u (a.fates u) (omega arith) (sym (any-last (λ v. same_trans v u) a.begun t ∙ (λ i. has_trans u a.begun || away i) ∙ or_none (has_trans u a.begun))) (q.fates u))
             (subst (λ (f : Fate). IsFateOf a.servers a.holder.server a.ids.epoch (a.ids.transactions + 1) (with_begun seen).begun t (fate.begun client f)) (sym new) ((drawn_next a.holder.server a.ids.epoch a.ids.transactions raised, named), refl, (refl, refl)));
         begun = trans-last a.begun t q.begun unnamed;
+        known = known_next a.holder.server a.ids.epoch a.ids.transactions a.begun q.known;
         phases = q.phases;
         joined = q.joined;
         single = q.single;

@@ -123,6 +123,7 @@ module _ (a : Account) (client number : ℕ) (w : Session) (t : TransId) (l : Li
         fates = moved_all (IsFateOf a.servers a.holder.server a.ids.epoch a.ids.transactions a.begun) a.fates t (λ f. fate.decided commit_stamp [] (fate.finishing f)) (λ u away. q.fates u)
             (subst (IsFateOf a.servers a.holder.server a.ids.epoch a.ids.transactions a.begun t) (sym (over runs)) (known_as a client t l cause.Asked o, refl));
         begun = q.begun;
+        known = q.known;
         phases = q.phases;
         joined = q.joined;
         single = q.single;

@@ -196,7 +196,7 @@ module _ (a : Account) (from : ℕ) (t : TransId) (j : JoinNo) (ts : ℕ) where
           (put stamp_cmp decision_stamp l.edits a.holder.left) (le_refl (max a.holder.clock decision_stamp.ts)) (here_as a client t l cause.Asked o) (λ f. fate.decided decision_stamp js (fate.heard j ts f))
           (ap is_running now) (ap has_votes now) (ap is_all_done now ∙ stands_open js its) (subst (IsFateOf a.servers a.holder.server a.ids.epoch a.ids.transactions a.begun t) (sym now) (known_as a client t l cause.Asked o, refl)) in
           record {
-            stands = record { agree = s.agree; paired = s.paired; held = s.held; votes = s.votes; forgets = s.forgets; fates = s.fates; begun = s.begun; phases = s.phases; joined = s.joined; single = s.single; order = s.order };
+            stands = record { agree = s.agree; paired = s.paired; held = s.held; votes = s.votes; forgets = s.forgets; fates = s.fates; begun = s.begun; known = s.known; phases = s.phases; joined = s.joined; single = s.single; order = s.order };
             tells = record {
               ended = ended_moved a.holder.server a.dead a.fates a.phases t (λ f. fate.decided decision_stamp js (fate.heard j ts f)) q.settled.tells.ended (λ c. refl);
               parts = parts-gone a.holder.lives a.dead t None a.waits (off_files q is) q.settled.tells.parts;

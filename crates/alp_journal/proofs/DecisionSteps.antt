@@ -30,7 +30,7 @@ use Rattle.alp_journal.specs.Messages.{Mail, to_each, to_others, on_inquire, on_
 use Rattle.alp_journal.specs.Answered.{is_all_done, IsWalk, in_turn}
 use Rattle.alp_journal.specs.Account.{Account, state_of, IsFateOf, IsSettled, IsQuiet, IsFinishOf, HasNoCall, granted_calls, with_granted, grant_acts, sent_acts, Leads}
 use Rattle.alp_journal.proofs.IdLemmas.{or-true}
-use Rattle.alp_journal.proofs.StandLemmas.{moved_fate, own_pair}
+use Rattle.alp_journal.proofs.StandLemmas.{undrawn_older, moved_fate, own_pair}
 use Rattle.alp_journal.proofs.MoveLemmas.{stands_fated}
 use Rattle.alp_journal.proofs.DeskLemmas.{tells_fated}
 use Rattle.alp_journal.proofs.QuietLemmas.{none_tried}
@@ -220,9 +220,10 @@ module _ (a : Account) (from : ℕ) (t : TransId) (j : JoinNo) where
       ]
 
   -- it is told, where it ended
-  pub inquire_leads : (m : Message) → IsQuiet a → a.is_down ≡ false → is_trans_drawn (state_of a) t ≡ true → is_other_server (state_of a) j.server ≡ true → (a.fates t ≡ Undrawn → t.epoch < a.ids.epoch)
+  pub inquire_leads : (m : Message) → IsQuiet a → a.is_down ≡ false → is_trans_drawn (state_of a) t ≡ true → is_other_server (state_of a) j.server ≡ true
       → on_inquire (state_of a) t j (a.fates t) ≡ (j.server, m) ∷ [] → Leads false a (arrive_entry a from (msg.Inquire t j) (act.Sent j.server m ∷ [])) a
-  inquire_leads m q up drawn far past is =
+  inquire_leads m q up drawn far is =
+      let past : a.fates t ≡ Undrawn → t.epoch < a.ids.epoch = λ new. undrawn_older a.servers a.holder.server a.ids.epoch a.ids.transactions a.begun t (a.fates t) q.settled.stands.known drawn new (q.settled.stands.fates t) in
       let word : IsWord m = its_word drawn past (older_then drawn) (a.fates t) refl m is in
       says_leads a from (msg.Inquire t j) false ((j.server, m) ∷ []) (record {
         quiet = q;

@@ -117,6 +117,7 @@ module _ (m : Account) (x : TransId × Call) where
       forgets = q.stands.forgets;
       fates = q.stands.fates;
       begun = q.stands.begun;
+      known = q.stands.known;
       phases = q.stands.phases;
       joined = q.stands.joined;
       single = q.stands.single;

@@ -126,7 +126,7 @@ module _ (a : Account) (j : JoinNo) (t : TransId) (client : ℕ) (move : Phase �
       stands_ended o h =
           let q : Stands (record a { holder = with_life a.holder t None; phases = then_phases }) =
           stands_gone a o.settled.stands t a.holder.cells a.holder.clock a.holder.kept a.holder.applied a.holder.left o.settled.stands.order j h move o.spent o.of in
-          record { agree = q.agree; paired = q.paired; held = q.held; votes = q.votes; forgets = q.forgets; fates = q.fates; begun = q.begun; phases = q.phases; joined = q.joined; single = q.single; order = q.order }
+          record { agree = q.agree; paired = q.paired; held = q.held; votes = q.votes; forgets = q.forgets; fates = q.fates; begun = q.begun; known = q.known; phases = q.phases; joined = q.joined; single = q.single; order = q.order }
 
       pub settled_join_ended : IsEnding → IsHolding t (a.phases j) → a.holder.lives t ≡ Some l → l.client ≡ client → IsSettled join_ended
       settled_join_ended o h live own = record {

@@ -39,6 +39,7 @@ stands_fated a q t move client runs votes done of = record {
   forgets = moved_all (λ u f. is_all_done f ≡ false) a.fates t move (λ u away. q.forgets u) done;
   fates = moved_all (IsFateOf a.servers a.holder.server a.ids.epoch a.ids.transactions a.begun) a.fates t move (λ u away. q.fates u) of;
   begun = q.begun;
+  known = q.known;
   phases = q.phases;
   joined = q.joined;
   single = q.single;
@@ -109,6 +110,7 @@ module _ (a : Account) (q : Stands a) (t : TransId) (cells : Cells) (clock kept 
     forgets = moved_all (λ u f. is_all_done f ≡ false) a.fates t move (λ u away. q.forgets u) done;
     fates = moved_all (IsFateOf a.servers a.holder.server a.ids.epoch a.ids.transactions a.begun) a.fates t move (λ u away. q.fates u) of;
     begun = q.begun;
+    known = q.known;
     phases = q.phases;
     joined = q.joined;
     single = q.single;
@@ -128,6 +130,7 @@ module _ (a : Account) (q : Stands a) (t : TransId) (cells : Cells) (clock kept 
         forgets = q.forgets;
         fates = q.fates;
         begun = q.begun;
+        known = q.known;
         phases = moved_each (IsPhaseOf a.servers a.holder.server a.ids.epoch a.ids.joins a.joined) a.phases j move (λ k away. q.phases k) of;
         joined = q.joined;
         single = λ i k x first second. q.single i k x (live_before a.phases j move spent.live i x first) (live_before a.phases j move spent.live k x second);
@@ -154,6 +157,7 @@ module _ (a : Account) (q : Stands a) (j : JoinNo) (t : TransId) (client : ℕ) 
     forgets = q.forgets;
     fates = q.fates;
     begun = q.begun;
+    known = q.known;
     phases = moved_each (IsPhaseOf a.servers a.holder.server a.ids.epoch a.ids.joins a.joined) a.phases j move (λ k away. q.phases k) of;
     joined = q.joined;
     single = λ i k x first second. q.single i k x (live_before a.phases j move spent.live i x first) (live_before a.phases j move spent.live k x second);
@@ -203,6 +207,7 @@ module _ (a : Account) (q : Stands a) (j : JoinNo) (t : TransId) (client : ℕ) 
         forgets = q.forgets;
         fates = q.fates;
         begun = q.begun;
+        known = q.known;
         phases = moved_each (IsPhaseOf a.servers a.holder.server a.ids.epoch a.ids.joins a.joined) a.phases j phase.entered (λ k away. q.phases k)
             (subst (IsPhaseOf a.servers a.holder.server a.ids.epoch a.ids.joins a.joined j) (sym (ap phase.entered asks)) (subst (IsPhaseOf a.servers a.holder.server a.ids.epoch a.ids.joins a.joined j) asks (q.phases j)));
         joined = q.joined;
@@ -244,6 +249,7 @@ module _ (a : Account) (q : Stands a) (j : JoinNo) (t : TransId) (client : ℕ) 
         forgets = q.forgets;
         fates = q.fates;
         begun = q.begun;
+        known = q.known;
         phases = moved_each (IsPhaseOf a.servers a.holder.server a.ids.epoch a.ids.joins a.joined) a.phases j (phase.readied ts) (λ k away. q.phases k)
             (subst (IsPhaseOf a.servers a.holder.server a.ids.epoch a.ids.joins a.joined j) (sym (ap (phase.readied ts) active)) (subst (IsPhaseOf a.servers a.holder.server a.ids.epoch a.ids.joins a.joined j) active (q.phases j)));
         joined = q.joined;
@@ -281,6 +287,7 @@ stands_drawn a q raised t client who far none new =
       forgets = q.forgets;
       fates = q.fates;
       begun = q.begun;
+      known = q.known;
       phases = moved_each (IsPhaseOf a.servers a.holder.server a.ids.epoch (a.ids.joins + 1) (a.joined ++ j ∷ [])) a.phases j (phase.drawn t client who)
           (λ k away. phase_more a.servers a.holder.server a.ids.epoch a.ids.joins (a.ids.joins + 1) a.joined (a.joined ++ j ∷ []) k (a.phases k) (omega arith) (sym (any-last (λ i. same_join i k) a.joined j ∙ (λ i. has_join k a.joined || away i) ∙ or_none (has_join k a.joined))) (q.phases k))
           (subst (λ (p : Phase). IsPhaseOf a.servers a.holder.server a.ids.epoch (a.ids.joins + 1) (a.joined ++ j ∷ []) j (phase.drawn t client who p)) (sym new) ((drawn_next a.holder.server a.ids.epoch a.ids.joins raised, named), far));

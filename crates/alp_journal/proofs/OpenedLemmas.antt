@@ -18,7 +18,7 @@ use Rattle.alp_journal.specs.Answered.{is_all_done}
 use Rattle.alp_journal.specs.Account.{Account, state_of, IsPaired, HasLife, has_trans, are_trans_apart, is_other, IsFateOf, IsPhaseOf, HasWaits, HasNoCall, Stands, IsQuiet, HasTried}
 use Rattle.alp_journal.proofs.IdLemmas.{same_trans-true, same_trans-itself, same_join-true}
 use Rattle.alp_journal.proofs.WaitLemmas.{turned, all-both}
-use Rattle.alp_journal.proofs.StandLemmas.{same_join-itself, join_turned, fate_more, phase_more}
+use Rattle.alp_journal.proofs.StandLemmas.{same_join-itself, join_turned, none_known, fate_more, phase_more}
 
 -- ---- what notes say
 
@@ -197,6 +197,7 @@ module _ (o : Start) (q : DoNotesAgree o) where
     forgets = λ t. fate-as (λ f. is_all_done f ≡ false) refl never_done o.decisions t;
     fates = λ t. fates_so o.decisions q.decisions t;
     begun = q.decided;
+    known = none_known o.server o.epoch (decided_trans o.decisions);
     phases = λ j. phases_so o.ready q.ready j;
     joined = q.joins;
     single = one_so;

@@ -155,6 +155,7 @@ module _ (a : Account) (owner : ℕ) (t : TransId) (l : Life) (c : Cause) where
         fates = moved_all (IsFateOf a.servers a.holder.server a.ids.epoch a.ids.transactions a.begun) a.fates t (fate.ended c) (λ u away. q.fates u)
             (subst (IsFateOf a.servers a.holder.server a.ids.epoch a.ids.transactions a.begun t) (sym over) (known_as o));
         begun = q.begun;
+        known = q.known;
         phases = q.phases;
         joined = q.joined;
         single = q.single;

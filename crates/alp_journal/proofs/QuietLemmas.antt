@@ -315,6 +315,7 @@ stands_as a sessions waits dead b ds q = record {
   forgets = q.forgets;
   fates = q.fates;
   begun = q.begun;
+  known = q.known;
   phases = q.phases;
   joined = q.joined;
   single = q.single;

@@ -58,6 +58,7 @@ module _ (a : Account) (client number : ℕ) (w : Session) (t : TransId) (l : Li
         forgets = q.settled.stands.forgets;
         fates = q.settled.stands.fates;
         begun = q.settled.stands.begun;
+        known = q.settled.stands.known;
         phases = q.settled.stands.phases;
         joined = q.settled.stands.joined;
         single = q.settled.stands.single;

@@ -271,7 +271,7 @@ module _ (a : Account) (from : ℕ) (t : TransId) (j : JoinNo) where
       where
         -- what is locked counts nothing
         stands_located : Stands (record a { holder = with_entered.holder; phases = with_entered.phases }) → Stands with_entered
-        stands_located q = record { agree = q.agree; paired = q.paired; held = q.held; votes = q.votes; forgets = q.forgets; fates = q.fates; begun = q.begun; phases = q.phases; joined = q.joined; single = q.single; order = q.order }
+        stands_located q = record { agree = q.agree; paired = q.paired; held = q.held; votes = q.votes; forgets = q.forgets; fates = q.fates; begun = q.begun; known = q.known; phases = q.phases; joined = q.joined; single = q.single; order = q.order }
 
     -- it was not let in: it is over, and its call goes
     abbrev pub with_refused : Account

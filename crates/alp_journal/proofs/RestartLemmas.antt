@@ -24,7 +24,7 @@ use Rattle.alp_journal.specs.Answered.{is_all_done, CountsVotes, ForgetsDone}
 use Rattle.alp_journal.specs.Account.{Account, state_of, IsPartAs, IsPaired, HasLife, IsKnown, IsFateOf, IsKnownJoin, IsPhaseOf, HasWaits, HasNoCall, Stands, IsQuiet, HasTried, IsTriedEnd, Leads}
 use Rattle.alp_journal.specs.Restarts.{restart_entry, restarted_at, restarted}
 use Rattle.alp_journal.proofs.IdLemmas.{same_trans-itself, or-true}
-use Rattle.alp_journal.proofs.StandLemmas.{drawn_older, join_part_is, pair_of}
+use Rattle.alp_journal.proofs.StandLemmas.{none_known, drawn_older, join_part_is, pair_of}
 use Rattle.alp_journal.proofs.CallLemmas.{quiet_votes, quiet_forgets}
 
 -- ---- what a restart leaves of a part, a fate and a join
@@ -154,6 +154,7 @@ module _ (b : Account) (clock : ℕ) (q : Stands b) where
     forgets = λ t. done_then (b.ids.epoch + 1) (b.fates t);
     fates = λ t. fate_then b.servers b.holder.server b.ids.epoch b.ids.transactions (b.ids.epoch + 1) b.begun t (b.fates t) (q.fates t);
     begun = q.begun;
+    known = none_known b.holder.server (b.ids.epoch + 1) b.begun;
     phases = λ j. phase_then b.servers b.holder.server b.ids.epoch b.ids.joins b.joined j (b.phases j) (q.phases j);
     joined = q.joined;
     single = λ j k x first second. q.single j k x (live_then (b.phases j) x first) (live_then (b.phases k) x second);

@@ -1,7 +1,7 @@
 -- what stands of a server's parts: facts of it, and how it goes on as a fate, a part or a join moves
 use Rattle.std.specs.Prelude.{cond, Bool, true, false, not, ◌&&◌, ◌||◌, ◌==◌, nat_lt, nat_le, find, Option, None, Some}
 use Rattle.std.specs.List.{list_any}
-use Rattle.std.proofs.lemmas.Bool.{eqb-true, not-true, and_parts, and_from, or_left, or_right, or_parts, leb-true, ltb-true, le-leb, lt-ltb}
+use Rattle.std.proofs.lemmas.Bool.{eqb-true, not-true, and_parts, and_from, or_left, or_right, or_parts, leb-true, leb-false, ltb-true, le-leb, lt-ltb}
 use Rattle.std.proofs.Common.{inl, inr, ◌⊎◌, ◌≡◌, ℕ, ◌+◌, ◌<◌, ◌≤◌, List, [], ◌∷◌, ◌++◌, refl, sym, ◌∙◌, ap, subst, eq-eqb, arith, le_refl}
 use Rattle.alp_base.specs.declared.ids.JoinNo.{JoinNo}
 use Rattle.alp_base.specs.declared.ids.TransId.{TransId}
@@ -13,7 +13,7 @@ use Rattle.alp_journal.specs.Holder.{Life}
 use Rattle.alp_journal.specs.State.{is_whose, join_for}
 use Rattle.alp_journal.specs.Laws.{IsHolding, are_joins_apart}
 use Rattle.alp_journal.specs.Moves.{next_trans}
-use Rattle.alp_journal.specs.Account.{Account, state_of, IsJoined, IsPartAs, IsPaired, HasLife, is_other, has_trans, are_trans_apart, IsKnown, IsFateOf, IsKnownJoin, IsPhaseOf, HasNoJoin, Stands}
+use Rattle.alp_journal.specs.Account.{Account, state_of, IsJoined, IsPartAs, IsPaired, HasLife, is_other, has_trans, are_trans_apart, IsKnown, AreKnown, IsFateOf, IsKnownJoin, IsPhaseOf, HasNoJoin, Stands}
 use Rattle.alp_journal.proofs.IdLemmas.{same_trans-true, same_trans-itself, same_join-true, or-true}
 use Rattle.alp_journal.proofs.WaitLemmas.{turned}
 
@@ -110,6 +110,55 @@ joins-last (k ∷ js) j h none =
     let away = or_parts (same_join k j) (has_join j js) none in
     and_from (not (has_join k (js ++ j ∷ []))) (are_joins_apart (js ++ j ∷ []))
     (ap not (any-last (λ i. same_join i k) js j ∙ (λ i. not-true (has_join k js) both.0 i || (join_turned j k ∙ away.0) i))) (joins-last js j both.1 away.1)
+
+-- one more is drawn, and named
+pub known_next : (here now n : ℕ) (begun : List TransId) → AreKnown here now n begun → AreKnown here now (n + 1) (begun ++ (record { server = here; epoch = now; counter = n + 1 }) ∷ [])
+known_next here now n begun all t same e = any-last (λ u. same_trans u t) begun (record { server = here; epoch = now; counter = n + 1 }) ∙ go (nat_le t.counter n) refl
+  where
+    whole : ((t.server == here && nat_lt 0 t.epoch && nat_lt 0 t.counter) ≡ true) × ((nat_lt t.epoch now || (t.epoch == now && nat_le t.counter (n + 1))) ≡ true)
+    whole = and_parts (t.server == here && nat_lt 0 t.epoch && nat_lt 0 t.counter) (nat_lt t.epoch now || (t.epoch == now && nat_le t.counter (n + 1))) e
+
+    own : t.server ≡ here
+    own = own_server here now (n + 1) t e
+
+    reached : t.counter ≤ n + 1
+    reached = elim (or-true (nat_lt t.epoch now) (t.epoch == now && nat_le t.counter (n + 1)) whole.1) [
+      | inl older ↦ (let wrong : t.epoch < now = ltb-true t.epoch now older in absurd (omega (arith, wrong, same)))
+      | inr last ↦ leb-true t.counter (n + 1) (and_parts (t.epoch == now) (nat_le t.counter (n + 1)) last).1
+    ]
+
+    go : (b : Bool) → nat_le t.counter n ≡ b → (has_trans t begun || same_trans (record { server = here; epoch = now; counter = n + 1 }) t) ≡ true
+    go true low = or_left (has_trans t begun) (same_trans (record { server = here; epoch = now; counter = n + 1 }) t)
+        (all t same (and_from (t.server == here && nat_lt 0 t.epoch && nat_lt 0 t.counter) (nat_lt t.epoch now || (t.epoch == now && nat_le t.counter n)) whole.0
+        (or_right (nat_lt t.epoch now) (t.epoch == now && nat_le t.counter n) (and_from (t.epoch == now) (nat_le t.counter n) (eq-eqb t.epoch now same) low))))
+    go false high =
+        let above : n < t.counter = leb-false t.counter n high in
+        let last : n + 1 ≡ t.counter = omega (arith, above, reached) in
+        or_right (has_trans t begun) (same_trans (record { server = here; epoch = now; counter = n + 1 }) t)
+        (and_from (here == t.server && now == t.epoch) (n + 1 == t.counter) (and_from (here == t.server) (now == t.epoch) (eq-eqb here t.server (sym own)) (eq-eqb now t.epoch (sym same))) (eq-eqb (n + 1) t.counter last))
+
+-- none is drawn as an epoch begins
+pub none_known : (here now : ℕ) (begun : List TransId) → AreKnown here now 0 begun
+none_known here now begun t same e =
+    let whole = and_parts (t.server == here && nat_lt 0 t.epoch && nat_lt 0 t.counter) (nat_lt t.epoch now || (t.epoch == now && nat_le t.counter 0)) e in
+    let first : 0 < t.counter = ltb-true 0 t.counter (and_parts (t.server == here && nat_lt 0 t.epoch) (nat_lt 0 t.counter) whole.0).1 in
+    elim (or-true (nat_lt t.epoch now) (t.epoch == now && nat_le t.counter 0) whole.1) [
+      | inl older ↦ (let wrong : t.epoch < now = ltb-true t.epoch now older in absurd (omega (arith, wrong, same)))
+      | inr last ↦ (let wrong : t.counter ≤ 0 = leb-true t.counter 0 (and_parts (t.epoch == now) (nat_le t.counter 0) last).1 in absurd (omega (arith, wrong, first)))
+    ]
+
+-- what was drawn here and has no fate is of an older epoch
+pub undrawn_older : (servers here now n : ℕ) (begun : List TransId) (t : TransId) (f : Fate) → AreKnown here now n begun → is_drawn here now n t.server t.epoch t.counter ≡ true → f ≡ Undrawn → IsFateOf servers here now n begun t f → t.epoch < now
+undrawn_older servers here now n begun t f all e new of =
+    let whole = and_parts (t.server == here && nat_lt 0 t.epoch && nat_lt 0 t.counter) (nat_lt t.epoch now || (t.epoch == now && nat_le t.counter n)) e in
+    elim (or-true (nat_lt t.epoch now) (t.epoch == now && nat_le t.counter n) whole.1) [
+      | inl older ↦ ltb-true t.epoch now older
+      | inr last ↦ (
+        let none : has_trans t begun ≡ false = subst (IsFateOf servers here now n begun t) new of in
+        let wrong : false ≡ true = sym none ∙ all t (eqb-true t.epoch now (and_parts (t.epoch == now) (nat_le t.counter n) last).0) e in
+        cc
+        )
+    ]
 
 -- another server is not this one
 pub not_own_server : (servers server n : ℕ) → is_other servers server n ≡ true → (n == server) ≡ false

@@ -249,7 +249,7 @@ module _ (a : Account) (from : ℕ) (t : TransId) (j : JoinNo) where
         stands_gone a q.stands t (edits_map l.edits a.holder.cells) (max a.holder.clock time) (max a.holder.clock time) (in_history apply_stamp l a.holder.applied) (cond {A = List (Stamp × List Edit)} l.is_early a.holder.left (put stamp_cmp apply_stamp l.edits a.holder.left))
         (le_refl (max a.holder.clock time)) j (holds ready) (phase.applied apply_stamp) o.spent o.of in
         record {
-          stands = record { agree = s.agree; paired = s.paired; held = s.held; votes = s.votes; forgets = s.forgets; fates = s.fates; begun = s.begun; phases = s.phases; joined = s.joined; single = s.single; order = s.order };
+          stands = record { agree = s.agree; paired = s.paired; held = s.held; votes = s.votes; forgets = s.forgets; fates = s.fates; begun = s.begun; known = s.known; phases = s.phases; joined = s.joined; single = s.single; order = s.order };
           tells = record {
             ended = fewer_ended a j t client (phase.applied apply_stamp) o;
             parts = parts-gone a.holder.lives a.dead t None a.waits (off_files q ready live) q.tells.parts;

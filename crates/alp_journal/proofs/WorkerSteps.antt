@@ -172,7 +172,7 @@ module _ (a : Account) (from : ℕ) (t : TransId) (j : JoinNo) where
         let o : IsEnding a j t client phase.quit = quits q asks in
         let s : Stands (record a { phases = with_quit.phases }) = stands_quit a q.stands j t client who asks phase.quit o.spent o.of in
         record {
-          stands = record { agree = s.agree; paired = s.paired; held = s.held; votes = s.votes; forgets = s.forgets; fates = s.fates; begun = s.begun; phases = s.phases; joined = s.joined; single = s.single; order = s.order };
+          stands = record { agree = s.agree; paired = s.paired; held = s.held; votes = s.votes; forgets = s.forgets; fates = s.fates; begun = s.begun; known = s.known; phases = s.phases; joined = s.joined; single = s.single; order = s.order };
           tells = record {
             ended = told_ended a j t client phase.quit c o;
             parts = parts-more a.holder.lives a.dead with_quit.dead (λ n u d. told-more (n == client && same_trans u t) c (a.dead n u) d) a.waits q.tells.parts;

@@ -124,6 +124,10 @@ IsFateOf servers server epoch count begun t (Committed stamp js ds) = IsKnown se
 IsFateOf servers server epoch count begun t (Forgotten stamp js) = IsKnown server epoch count begun t × (stamp.trans ≡ t)
 IsFateOf servers server epoch count begun t (Ended c) = IsKnown server epoch count begun t
 
+-- each that was drawn in this epoch is named
+abbrev pub AreKnown : (server epoch count : ℕ) → List TransId → Type 0
+AreKnown server epoch count begun = (t : TransId) → t.epoch ≡ epoch → is_drawn server epoch count t.server t.epoch t.counter ≡ true → has_trans t begun ≡ true
+
 abbrev pub IsKnownJoin : (server epoch count : ℕ) → List JoinNo → JoinNo → Type 0
 IsKnownJoin server epoch count joined j = (is_drawn server epoch count j.server j.epoch j.counter ≡ true) × (has_join j joined ≡ true)
 
@@ -147,6 +151,7 @@ pub record Stands (a : Account) : Type 0 where
   pub forgets : (t : TransId) → is_all_done (a.fates t) ≡ false
   pub fates : (t : TransId) → IsFateOf a.servers a.holder.server a.ids.epoch a.ids.transactions a.begun t (a.fates t)
   pub begun : are_trans_apart a.begun ≡ true
+  pub known : AreKnown a.holder.server a.ids.epoch a.ids.transactions a.begun
   pub phases : (j : JoinNo) → IsPhaseOf a.servers a.holder.server a.ids.epoch a.ids.joins a.joined j (a.phases j)
   pub joined : are_joins_apart a.joined ≡ true
   pub single : (j k : JoinNo) (x : TransId × ℕ) → live_in (a.phases j) ≡ Some x → live_in (a.phases k) ≡ Some x → j ≡ k
