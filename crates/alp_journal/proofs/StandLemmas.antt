@@ -154,10 +154,10 @@ undrawn_older servers here now n begun t f all e new of =
     elim (or-true (nat_lt t.epoch now) (t.epoch == now && nat_le t.counter n) whole.1) [
       | inl older ↦ ltb-true t.epoch now older
       | inr last ↦ (
-        let none : has_trans t begun ≡ false = subst (IsFateOf servers here now n begun t) new of in
-        let wrong : false ≡ true = sym none ∙ all t (eqb-true t.epoch now (and_parts (t.epoch == now) (nat_le t.counter n) last).0) e in
-        cc
-        )
+          let none : has_trans t begun ≡ false = subst (IsFateOf servers here now n begun t) new of in
+          let wrong : false ≡ true = sym none ∙ all t (eqb-true t.epoch now (and_parts (t.epoch == now) (nat_le t.counter n) last).0) e in
+          cc
+          )
     ]
 
 -- another server is not this one
