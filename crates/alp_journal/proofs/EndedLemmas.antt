@@ -29,7 +29,7 @@ use Rattle.alp_journal.specs.Moves.{is_new, finishes, event_deeds, asks_for, gra
 use Rattle.alp_journal.specs.Laws.{IsLawfulDeed, IsLawfulEntry, IsStopped, TellsStop, drawn_by, released_by, regained_by, ended_by}
 use Rattle.alp_journal.specs.Answers.{Part, NoPart, AtWork, AtFinish, own_part, join_part, at_part, First, IsAnswer, finish_reply}
 use Rattle.alp_journal.specs.Answered.{CountsVotes, IsAnsweredEntry}
-use Rattle.alp_journal.specs.Alone.{IsOwnEvent}
+use Rattle.alp_journal.specs.Account.{IsOwnEvent}
 use Rattle.alp_journal.specs.Refused.{LivesOn, IsAsBefore, IsReached}
 use Rattle.alp_journal.proofs.IdLemmas.{same_trans-true, same_trans-itself, all-append}
 use Rattle.alp_journal.proofs.ReachedLemmas.{reached_order}

@@ -27,7 +27,7 @@ use Rattle.alp_journal.specs.Desk.{file_trans, is_not_yet, waiting_of}
 use Rattle.alp_journal.specs.State.{State, state_deed, ids_after, has_part}
 use Rattle.alp_journal.specs.Moves.{is_new, is_effective, is_stop, joins_here, ends_by, finishes, call_deeds, if_its, times_out_here, times_out_join, event_deeds, act_deeds, answered, is_of_no_file, done_by, done_of, done_deeds, next_join, principal}
 use Rattle.alp_journal.specs.Laws.{is_written, IsStopped}
-use Rattle.alp_journal.specs.Alone.{IsOwnEvent}
+use Rattle.alp_journal.specs.Account.{IsOwnEvent}
 use Rattle.alp_journal.proofs.IdLemmas.{all-append}
 use Rattle.alp_journal.proofs.MadeIds.{WasMade, made-after}
 use Rattle.alp_journal.proofs.Origins.{all-cond, all-flat}

@@ -32,7 +32,7 @@ use Rattle.alp_journal.specs.Holding.{HasNotVoted, MayDo}
 use Rattle.alp_journal.specs.State.{State, state_deed, ids_after, opened}
 use Rattle.alp_journal.specs.Moves.{next_file, is_effective, resolved, event_deeds, act_deeds, done_deeds, is_stop, stops, tried, did, told, halted, next}
 use Rattle.alp_journal.specs.Laws.{latest_vote, CountsOn, DeedsAreLawful, StartsRight, MayApply, IsLawfulDeed, IsLawfulEntry, LivesUnvoted, Regains, IsStopped, TellsStop, regained_by}
-use Rattle.alp_journal.specs.Alone.{IsOwnEvent, AreOwnEvents}
+use Rattle.alp_journal.specs.Account.{IsOwnEvent, AreOwnEvents}
 use Rattle.alp_journal.proofs.HistoryOrder.{Item, AreGood, history_of}
 use Rattle.alp_journal.proofs.LifeLemmas.{part_of, now_at, IsGoodLife}
 use Rattle.alp_journal.proofs.MadeIds.{all-map, WasMade, made-fresh, made-after}

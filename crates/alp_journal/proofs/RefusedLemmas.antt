@@ -38,7 +38,7 @@ use Rattle.alp_journal.specs.Laws.{IsLawfulDeed, IsLawfulEntry, ReleasesEnded, W
 use Rattle.alp_journal.specs.Messages.{why_not_own}
 use Rattle.alp_journal.specs.Answers.{Part, NoPart, AtWork, own_part, join_part, at_part, First, IsAnswer, finish_reply, voted_reply}
 use Rattle.alp_journal.specs.Answered.{CountsVotes, IsAnsweredEntry}
-use Rattle.alp_journal.specs.Alone.{IsOwnEvent}
+use Rattle.alp_journal.specs.Account.{IsOwnEvent}
 use Rattle.alp_journal.specs.Refused.{LivesOn, IsAsBefore, IsReached, is_finish, is_turned_away}
 use Rattle.alp_journal.proofs.IdLemmas.{same_trans-true, all-append}
 use Rattle.alp_journal.proofs.Origins.{all-cond}

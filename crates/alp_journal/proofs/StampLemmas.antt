@@ -12,7 +12,7 @@ use Rattle.alp_base.specs.contracts.ids.StampOrd.TheImpl.Laws as stamp_laws
 use Rattle.alp_base.specs.contracts.ids.TransIdOrd.TheImpl as trans_ord
 use Rattle.alp_files.specs.History.{Decided}
 use Rattle.alp_journal.specs.Ids.{stamp_cmp}
-use Rattle.alp_journal.specs.Alone.{AreEarlier}
+use Rattle.alp_journal.specs.Account.{AreEarlier}
 
 pub stamps_total : IsTotalOrder stamp_cmp
 stamps_total = stamp_laws.total-law

@@ -20,7 +20,7 @@ use Rattle.alp_journal.specs.State.{State}
 use Rattle.alp_journal.specs.Moves.{call_of}
 use Rattle.alp_journal.specs.Laws.{IsFree, IsBlocked}
 use Rattle.alp_journal.specs.Answered.{IsWalk}
-use Rattle.alp_journal.specs.Alone.{is_on_trans, call_on, with_its, granted_calls, holder_granted, waits_granted}
+use Rattle.alp_journal.specs.Account.{is_on_trans, call_on, with_its, granted_calls, holder_granted, waits_granted}
 use Rattle.alp_journal.proofs.IdLemmas.{same_trans-true, same_trans-itself}
 use Rattle.alp_journal.proofs.MadeIds.{all-map}
 use Rattle.alp_journal.proofs.WaitLemmas.{IsOnly, all-both, all-mapped}

@@ -1,17 +1,15 @@
 -- lists of calls that wait: which one is found, which stay, and which are granted
-use Rattle.std.specs.Prelude.{cond, Bool, true, false, not, ◌&&◌, ◌==◌, filter, find, Option, None, Some, map as list_map}
+use Rattle.std.specs.Prelude.{cond, Bool, true, false, not, ◌&&◌, ◌==◌, filter, find, Option, None, Some, IsSome, map as list_map}
 use Rattle.std.specs.List.{AllByRecursion}
-use Rattle.std.proofs.lemmas.Bool.{eqb-true}
+use Rattle.std.proofs.lemmas.Bool.{eqb-true, and_right}
 use Rattle.std.proofs.Common.{◌≡◌, ℕ, List, [], ◌∷◌, ◌++◌, refl, sym, ◌∙◌, ap, subst, eq-eqb}
 use Rattle.alp_base.specs.declared.ids.TransId.{TransId}
 use Rattle.alp_files.proofs.FilesLemmas.{same-some}
 use Rattle.alp_files.specs.declared.call.Call.{Call}
 use Rattle.alp_files.specs.declared.call.Call.TheVariants as call
-use Rattle.alp_files.specs.declared.refusal.Cause.{Cause}
 use Rattle.alp_journal.specs.Ids.{same_trans}
-use Rattle.alp_journal.specs.Holder.{Life}
 use Rattle.alp_journal.specs.Desk.{Waiting, file_trans, part_trans, is_of, is_of_part, without, grant_in}
-use Rattle.alp_journal.specs.Alone.{is_on_trans, IsPartOf, IsOfPart, AreTwo, AreApart, waits_granted}
+use Rattle.alp_journal.specs.Account.{is_on_trans, AreTwo, AreApart, waits_granted}
 use Rattle.alp_journal.proofs.IdLemmas.{same_trans-true, same_trans-itself, all-append, all-filter}
 
 -- ---- each of a list
@@ -62,6 +60,14 @@ found-is P p (y ∷ ys) x is h = go (p y) refl is (found-is P p ys x)
     go true e f rest = subst (λ z. (p z ≡ true) × P z) (same-some y x f) (e, h.0)
     go false e f rest = rest f h.1
 
+pub found-passes : {A : Type 0} (p : A → Bool) (xs : List A) (x : A) → find p xs ≡ Some x → p x ≡ true
+found-passes p [] x is = let wrong : None ≡ Some x = is in cc
+found-passes p (y ∷ ys) x is = go (p y) refl is (found-passes p ys x)
+  where
+    go : (b : Bool) → p y ≡ b → cond b (Some y) (find p ys) ≡ Some x → (find p ys ≡ Some x → p x ≡ true) → p x ≡ true
+    go true e f rest = ap p (sym (same-some y x f)) ∙ e
+    go false e f rest = rest f
+
 pub none-found : {A : Type 0} (p : A → Bool) (xs : List A) → find p xs ≡ None → AllByRecursion (λ x. p x ≡ false) xs
 none-found p [] none = tt
 none-found p (x ∷ xs) none = go (p x) refl none (none-found p xs)
@@ -69,6 +75,40 @@ none-found p (x ∷ xs) none = go (p x) refl none (none-found p xs)
     go : (b : Bool) → p x ≡ b → cond b (Some x) (find p xs) ≡ None → (find p xs ≡ None → AllByRecursion (λ y. p y ≡ false) xs) → (p x ≡ false) × AllByRecursion (λ y. p y ≡ false) xs
     go true e f rest = let wrong : Some x ≡ None = f in cc
     go false e f rest = (e, rest f)
+
+-- where none of them passes none is found
+pub found-none : {A : Type 0} (p : A → Bool) (xs : List A) → AllByRecursion (λ x. p x ≡ false) xs → find p xs ≡ None
+found-none p [] h = refl
+found-none p (x ∷ xs) h = ap (λ (b : Bool). cond b (Some x) (find p xs)) h.0 ∙ found-none p xs h.1
+
+-- where none that is looked for goes, the same one is found
+pub find-kept : {A : Type 0} (p q : A → Bool) (xs : List A) → AllByRecursion (λ x. p x ≡ true → q x ≡ true) xs → find p (filter q xs) ≡ find p xs
+find-kept p q [] stay = refl
+find-kept p q (x ∷ xs) stay = go (p x) (q x) refl refl (find-kept p q xs stay.1)
+  where
+    go : (b d : Bool) → p x ≡ b → q x ≡ d → find p (filter q xs) ≡ find p xs → find p (cond d (x ∷ filter q xs) (filter q xs)) ≡ cond b (Some x) (find p xs)
+    go true true e f rest = ap (λ c. cond c (Some x) (find p (filter q xs))) e
+    go true false e f rest = let wrong : false ≡ true = sym f ∙ stay.0 e in cc
+    go false true e f rest = ap (λ c. cond c (Some x) (find p (filter q xs))) e ∙ rest
+    go false false e f rest = rest
+
+pub all-of : {A : Type 0} (P : A → Type 0) → ((x : A) → P x) → (xs : List A) → AllByRecursion P xs
+all-of P f [] = tt
+all-of P f (x ∷ xs) = (f x, all-of P f xs)
+
+-- one is found among more
+pub found-more : {A : Type 0} (p : A → Bool) (xs ys : List A) → IsSome (find p xs) → IsSome (find p (xs ++ ys))
+found-more p [] ys h = let wrong : false ≡ true = h in cc
+found-more p (x ∷ xs) ys h = go (p x) h (found-more p xs ys)
+  where
+    go : (b : Bool) → IsSome (cond b (Some x) (find p xs)) → (IsSome (find p xs) → IsSome (find p (xs ++ ys))) → IsSome (cond b (Some x) (find p (xs ++ ys)))
+    go true h rest = refl
+    go false h rest = rest h
+
+-- by tests that are the same the same ones stay
+pub filter-same : {A : Type 0} (p q : A → Bool) (xs : List A) → AllByRecursion (λ x. p x ≡ q x) xs → filter p xs ≡ filter q xs
+filter-same p q [] h = refl
+filter-same p q (x ∷ xs) h = (λ i. cond (h.0 i) (x ∷ filter-same p q xs h.1 i) (filter-same p q xs h.1 i))
 
 -- where none is to go all stay
 pub all-stay : {A : Type 0} (p : A → Bool) (xs : List A) → AllByRecursion (λ x. p x ≡ false) xs → filter (λ x. not (p x)) xs ≡ xs
@@ -108,22 +148,6 @@ of_part_on client t u w of = ap (λ (x : Option TransId). w.client == client && 
 pub of_own_part : (t : TransId) (w : Waiting) → file_trans w.call ≡ Some t → is_of_part w.client t w ≡ true
 of_own_part t w of = of_part_on w.client t t w of ∙ ap (λ (b : Bool). b && same_trans t t) (eq-eqb w.client w.client refl) ∙ same_trans-itself t
 
--- a call that waits is of a part
-pub record IsWaitOf (lives : TransId → Option Life) (dead : ℕ → TransId → Option Cause) (w : Waiting) : Type 0 where
-  pub trans : TransId
-  pub of : file_trans w.call ≡ Some trans
-  pub part : IsPartOf w.client (lives trans) (dead w.client trans)
-
-pub wait_of : (lives : TransId → Option Life) (dead : ℕ → TransId → Option Cause) (w : Waiting) → IsOfPart lives dead w (file_trans w.call) → IsWaitOf lives dead w
-wait_of lives dead w h = go (file_trans w.call) refl h
-  where
-    go : (x : Option TransId) → file_trans w.call ≡ x → IsOfPart lives dead w x → IsWaitOf lives dead w
-    go None e k = absurd k
-    go (Some t) e k = record { trans = t; of = e; part = k }
-
-pub is_wait_of : (lives : TransId → Option Life) (dead : ℕ → TransId → Option Cause) (w : Waiting) → IsWaitOf lives dead w → IsOfPart lives dead w (file_trans w.call)
-is_wait_of lives dead w h = subst (IsOfPart lives dead w) (sym h.of) h.part
-
 -- ---- calls apart
 
 eqb-turned : (m n : ℕ) → (m == n) ≡ (n == m)
@@ -136,8 +160,12 @@ eqb-turned m n = go (m == n) (n == m) refl refl
     go false true e f = let wrong : false ≡ true = sym e ∙ eq-eqb m n (sym (eqb-true n m f)) in cc
 
 pub two-turned : (w v : Waiting) → AreTwo w v → AreTwo v w
-two-turned w v h = (λ t of. go t of (file_trans w.call) refl, (λ i. eqb-turned w.client v.client i && eqb-turned w.number v.number i) ∙ h.1)
+two-turned w v h = (λ t of. go t of (file_trans w.call) refl, (λ i. eqb-turned w.client v.client i && eqb-turned w.number v.number i) ∙ h.1, λ t of. part t of (part_trans w.call) refl)
   where
+    part : (t : TransId) → part_trans v.call ≡ Some t → (x : Option TransId) → part_trans w.call ≡ x → (w.client == v.client && is_of t x) ≡ false
+    part t of None e = and_right (w.client == v.client) false refl
+    part t of (Some u) e = (λ i. eqb-turned w.client v.client i && turned u t i) ∙ ap (λ (x : Option TransId). v.client == w.client && is_of u x) (sym of) ∙ h.2 u e
+
     go : (t : TransId) → file_trans v.call ≡ Some t → (x : Option TransId) → file_trans w.call ≡ x → is_of t x ≡ false
     go t of None e = refl
     go t of (Some u) e = turned u t ∙ sym (ap (is_of u) of) ∙ h.0 u e
@@ -183,8 +211,11 @@ apart-last (v ∷ ws) w h k = (all-append (AreTwo v) ws (w ∷ []) h.0 (k.0, tt)
 -- it is found by its transaction, by its part and by its number
 pub record IsOnly (ws : List Waiting) (w : Waiting) : Type 0 where
   pub by_trans : (t : TransId) → file_trans w.call ≡ Some t → find (is_on_trans t) ws ≡ Some w
-  pub by_part : (t : TransId) → file_trans w.call ≡ Some t → find (is_of_part w.client t) ws ≡ Some w
+  pub by_own : (t : TransId) → part_trans w.call ≡ Some t → find (is_of_part w.client t) ws ≡ Some w
   pub by_number : find (λ (v : Waiting). v.client == w.client && v.number == w.number) ws ≡ Some w
+
+pub by_part : (ws : List Waiting) (w : Waiting) → IsOnly ws w → (t : TransId) → file_trans w.call ≡ Some t → find (is_of_part w.client t) ws ≡ Some w
+by_part ws w only t of = only.by_own t (file_part w.call t of)
 
 at-first : {A : Type 0} (p : A → Bool) (x : A) (xs : List A) → p x ≡ true → find p (x ∷ xs) ≡ Some x
 at-first p x xs e = ap (λ (b : Bool). cond b (Some x) (find p xs)) e
@@ -192,18 +223,19 @@ at-first p x xs e = ap (λ (b : Bool). cond b (Some x) (find p xs)) e
 at-later : {A : Type 0} (p : A → Bool) (x y : A) (xs : List A) → p x ≡ false → find p xs ≡ Some y → find p (x ∷ xs) ≡ Some y
 at-later p x y xs e is = ap (λ (b : Bool). cond b (Some x) (find p xs)) e ∙ is
 
-abbrev IsFile : Waiting → Type 0
-IsFile w = (t : TransId) × (file_trans w.call ≡ Some t)
+-- a call is one of its own part
+pub of_own : (t : TransId) (w : Waiting) → part_trans w.call ≡ Some t → is_of_part w.client t w ≡ true
+of_own t w of = ap (λ (x : Option TransId). w.client == w.client && is_of t x) of ∙ ap (λ (b : Bool). b && same_trans t t) (eq-eqb w.client w.client refl) ∙ same_trans-itself t
 
-only_all : (ws : List Waiting) → AllByRecursion IsFile ws → AreApart ws → AllByRecursion (IsOnly ws) ws
-only_all [] files h = tt
-only_all (v ∷ vs) files h = (
+pub each-only : (ws : List Waiting) → AreApart ws → AllByRecursion (IsOnly ws) ws
+each-only [] h = tt
+each-only (v ∷ vs) h = (
   record {
     by_trans = λ t of. at-first (is_on_trans t) v vs (on_own t v of);
-    by_part = λ t of. at-first (is_of_part v.client t) v vs (of_own_part t v of);
+    by_own = λ t of. at-first (is_of_part v.client t) v vs (of_own t v of);
     by_number = at-first (λ (u : Waiting). u.client == v.client && u.number == v.number) v vs ((λ i. eq-eqb v.client v.client refl i && v.number == v.number) ∙ eq-eqb v.number v.number refl);
   },
-  all-both (AreTwo v) (IsOnly vs) (IsOnly (v ∷ vs)) later vs h.0 (only_all vs files.1 h.1),
+  all-both (AreTwo v) (IsOnly vs) (IsOnly (v ∷ vs)) later vs h.0 (each-only vs h.1),
 )
   where
     later : (w : Waiting) → AreTwo v w → IsOnly vs w → IsOnly (v ∷ vs) w
@@ -211,18 +243,9 @@ only_all (v ∷ vs) files h = (
         let back : AreTwo w v = two-turned v w two in
         record {
           by_trans = λ t of. at-later (is_on_trans t) v w vs (back.0 t of) (only.by_trans t of);
-          by_part = λ t of. at-later (is_of_part w.client t) v w vs (
-              of_part_on w.client t files.0.0 v files.0.1 ∙ ap (λ (b : Bool). v.client == w.client && b) (sym (ap (is_of t) files.0.1) ∙ back.0 t of) ∙ and_none (v.client == w.client)) (only.by_part t of);
+          by_own = λ t of. at-later (is_of_part w.client t) v w vs (back.2 t of) (only.by_own t of);
           by_number = at-later (λ (u : Waiting). u.client == w.client && u.number == w.number) v w vs back.1 only.by_number;
         }
-      where
-        and_none : (b : Bool) → (b && false) ≡ false
-        and_none true = refl
-        and_none false = refl
-
-pub each-only : (lives : TransId → Option Life) (dead : ℕ → TransId → Option Cause) (ws : List Waiting) → AllByRecursion (λ (w : Waiting). IsOfPart lives dead w (file_trans w.call)) ws → AreApart ws → AllByRecursion (IsOnly ws) ws
-each-only lives dead ws parts apart = only_all ws
-    (all-both (λ (w : Waiting). IsOfPart lives dead w (file_trans w.call)) (λ (w : Waiting). IsOfPart lives dead w (file_trans w.call)) IsFile (λ w h k. (let is = wait_of lives dead w h in (is.trans, is.of))) ws parts parts) apart
 
 -- ---- grants, one after the other
 

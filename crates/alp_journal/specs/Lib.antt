@@ -14,7 +14,7 @@ pub mod Messages
 pub mod Answers
 pub mod Halts
 pub mod Answered
-pub mod Alone
+pub mod Account
 pub mod Restarts
 pub mod Holding
 pub mod Refused

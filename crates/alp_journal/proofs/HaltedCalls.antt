@@ -1,4 +1,4 @@
--- entries of a server that runs alone whose device stopped or failed
+-- calls at which the device of a server stopped or failed
 use Rattle.std.specs.Prelude.{cond, Bool, true, false, is_none, ◌&&◌, ◌||◌, ◌==◌, flat_map, Option, None, Some}
 use Rattle.std.specs.List.{list_any, AllByRecursion}
 use Rattle.std.specs.List.Sorted.{IsPermutation}
@@ -14,6 +14,7 @@ use Rattle.alp_files.specs.declared.refusal.Refusal.TheVariants as refusal
 use Rattle.alp_files.specs.declared.refusal.Why.{Why}
 use Rattle.alp_files.specs.declared.refusal.Why.TheVariants as why
 use Rattle.alp_files.specs.declared.refusal.Cause.{Cause}
+use Rattle.alp_files.specs.declared.refusal.Cause.TheVariants as cause
 use Rattle.alp_journal.specs.declared.act.Act.{Act}
 use Rattle.alp_journal.specs.declared.act.Act.TheVariants as act
 use Rattle.alp_journal.specs.declared.event.Event.{Event}
@@ -32,11 +33,13 @@ use Rattle.alp_journal.specs.Laws.{IsLawfulDeed, KeepsSessions, CallsOn, DoLives
 use Rattle.alp_journal.specs.Messages.{clock_end, no_room, first_why, weights, all_ready, applying, why_not_own, due, sent_by}
 use Rattle.alp_journal.specs.Answered.{is_release, CountsVotes, ForgetsDone, IsWalk, in_turn, at_release, GrantsAtOnce}
 use Rattle.alp_journal.specs.Answers.{part_refusal, AnswersCall}
-use Rattle.alp_journal.specs.Alone.{Alone, alone, IsQuiet, HasTried, IsPaired, Leads}
+use Rattle.alp_journal.specs.Account.{Account, state_of, IsQuiet, HasTried, Leads}
+use Rattle.alp_journal.proofs.StandLemmas.{own_pair}
 use Rattle.alp_journal.proofs.QuietLemmas.{quiet_down}
-use Rattle.alp_journal.proofs.AloneLemmas.{call_entry, new_call, call_tried, calls_on}
-use Rattle.alp_journal.proofs.AloneEntries.{IsFileCall, file_call}
-use Rattle.alp_journal.proofs.AloneCommits.{commit_stamp, decides_lawful, finishes_lawful}
+use Rattle.alp_journal.proofs.CallLemmas.{call_entry, new_call, call_tried, calls_on}
+use Rattle.alp_journal.proofs.RefusedCalls.{IsFileCall, file_call}
+use Rattle.alp_journal.proofs.OwnEnds.{IsOwn, own_of, here_as, now_as}
+use Rattle.alp_journal.proofs.CommitCalls.{commit_stamp, decides_lawful, finishes_lawful}
 
 cond_same : {A : Type 0} (b : Bool) (x : A) → cond {A = A} b x x ≡ x
 cond_same true x = refl
@@ -50,40 +53,40 @@ vote_within s t may = go (s.holder.clock == clock_end) (no_room s.sizes.area (re
     go true full is = let wrong : Some why.ClockEnd ≡ None = is in cc
     go false full is = refl
 
-module _ (a : Alone) (client number : ℕ) (w : Session) where
+module _ (a : Account) (client number : ℕ) (w : Session) where
   -- the server is down, and what was tried is to be seen at the restart
-  abbrev pub with_halt : Entry → Alone
-  with_halt e = record a { is_down = true; pending = tried (alone a) e }
+  abbrev pub with_halt : Entry → Account
+  with_halt e = record a { is_down = true; pending = tried (state_of a) e }
 
   -- what is owed of a halted call
   pub record HaltOwes (c : Call) (acts : List Act) : Type 0 where
-    pub greets : (e : Entry) → CallsOn (alone a) a.ids.epoch number e (a.sessions client) → KeepsSessions (alone a) e (event.Call client a.ids.epoch number c)
+    pub greets : (e : Entry) → CallsOn (state_of a) a.ids.epoch number e (a.sessions client) → KeepsSessions (state_of a) e (event.Call client a.ids.epoch number c)
     pub stops : list_any is_stop acts ≡ true
     pub drawn : flat_map drawn_by acts ≡ []
-    pub deeds : Along state_deed (IsLawfulDeed (event.Call client a.ids.epoch number c)) (alone a) (tried (alone a) (call_entry a client number w c (reply.Refused refusal.Down) acts))
+    pub deeds : Along state_deed (IsLawfulDeed (event.Call client a.ids.epoch number c)) (state_of a) (tried (state_of a) (call_entry a client number w c (reply.Refused refusal.Down) acts))
     pub sent : sends_last acts ≡ true
     pub said : (m : State) → AllByRecursion (SaysRight (event.Call client a.ids.epoch number c) m) acts
     pub regained : list_any regained_by acts ≡ false
     pub stopped : IsStopped acts
     pub released : list_any is_release acts ≡ false
-    pub halted : HaltsRight (alone a) (call_entry a client number w c (reply.Refused refusal.Down) acts)
-    pub tried : HasTried a.holder a.ids.epoch true (tried (alone a) (call_entry a client number w c (reply.Refused refusal.Down) acts))
+    pub halted : HaltsRight (state_of a) (call_entry a client number w c (reply.Refused refusal.Down) acts)
+    pub tried : HasTried (with_halt (call_entry a client number w c (reply.Refused refusal.Down) acts))
 
   pub halt_leads : (c : Call) (acts : List Act) → IsQuiet a → a.is_down ≡ false → a.sessions client ≡ Some w → number ≡ w.last + 1 → HaltOwes c acts
       → Leads false a (call_entry a client number w c (reply.Refused refusal.Down) acts) (with_halt (call_entry a client number w c (reply.Refused refusal.Down) acts))
   halt_leads c acts q up there turn o =
-      let s : State = alone a in
+      let s : State = state_of a in
       let r : Reply = reply.Refused refusal.Down in
       let e : Entry = call_entry a client number w c r acts in
       let ev : Event = event.Call client a.ids.epoch number c in
-      let leaves : next s e ≡ alone (with_halt e) = ap (λ (b : Bool). cond {A = State} b (halted s e) (told s e)) o.stops in
+      let leaves : next s e ≡ state_of (with_halt e) = ap (λ (b : Bool). cond {A = State} b (halted s e) (told s e)) o.stops in
       record {
         leaves = leaves;
         lawful = record {
           drawn = o.drawn ∙ sym (cond_same {A = List TransId} (is_new s client a.ids.epoch number) []);
           sessions = o.greets e (calls_on a client number w c r acts there turn);
           deeds = o.deeds;
-          agree = subst (λ (x : State). DoLivesAgree x.holder.lives) (sym leaves) q.settled.agree;
+          agree = subst (λ (x : State). DoLivesAgree x.holder.lives) (sym leaves) q.settled.stands.agree;
           released = subst (λ (b : Bool). Where b (Unit {0}) (ReleasesEnded s e × WaitsInTurn (next s e))) (sym o.stops) tt;
           sent = o.sent;
           said = o.said (next s e);
@@ -114,15 +117,15 @@ module _ (a : Alone) (client number : ℕ) (w : Session) where
   IsStop x = (x ≡ act.Stopped) ⊎ (x ≡ act.Failed)
 
   -- in a file call nothing would have been written; it is stopped as it reads
-  pub file_halt_leads : (t : TransId) (c : Call) → IsQuiet a → a.is_down ≡ false → a.sessions client ≡ Some w → number ≡ w.last + 1 → file_trans c ≡ Some t → part_refusal (alone a) client t ≡ None
+  pub file_halt_leads : (t : TransId) (c : Call) → IsQuiet a → a.is_down ≡ false → a.sessions client ≡ Some w → number ≡ w.last + 1 → file_trans c ≡ Some t → part_refusal (state_of a) client t ≡ None
       → Leads false a (call_entry a client number w c (reply.Refused refusal.Down) (act.Stopped ∷ [])) (with_halt (call_entry a client number w c (reply.Refused refusal.Down) (act.Stopped ∷ [])))
   file_halt_leads t c q up there turn of works =
       halt_leads c (act.Stopped ∷ []) q up there turn (record {
         greets = is.greets;
         stops = refl;
         drawn = refl;
-        deeds = subst (Along state_deed (IsLawfulDeed ev) (alone a)) (sym (call_tried a client number w c (reply.Refused refusal.Down) (act.Stopped ∷ []) there turn ∙ none)) tt;
-        tried = inl (call_tried a client number w c (reply.Refused refusal.Down) (act.Stopped ∷ []) there turn ∙ none);
+        deeds = subst (Along state_deed (IsLawfulDeed ev) (state_of a)) (sym (call_tried a client number w c (reply.Refused refusal.Down) (act.Stopped ∷ []) there turn ∙ none)) tt;
+        tried = HasTried.nothing (call_tried a client number w c (reply.Refused refusal.Down) (act.Stopped ∷ []) there turn ∙ none);
         sent = refl;
         said = λ m. (tt, tt);
         regained = refl;
@@ -137,21 +140,21 @@ module _ (a : Alone) (client number : ℕ) (w : Session) where
       is : IsFileCall a client number w t c (reply.Refused refusal.Down)
       is = file_call a client number w t c (reply.Refused refusal.Down) of
 
-      none : call_deeds (alone a) client c (reply.Refused refusal.Down) ++ [] ++ done_of (alone a) (reply.Refused refusal.Down) (answered (alone a) client c) ≡ []
-      none = ap (λ (ds : List Deed). ds ++ [] ++ done_of (alone a) (reply.Refused refusal.Down) (answered (alone a) client c)) is.deeds ∙ ap (done_of (alone a) (reply.Refused refusal.Down)) is.own
-          ∙ ap (done_by (alone a) c (reply.Refused refusal.Down)) of
+      none : call_deeds (state_of a) client c (reply.Refused refusal.Down) ++ [] ++ done_of (state_of a) (reply.Refused refusal.Down) (answered (state_of a) client c) ≡ []
+      none = ap (λ (ds : List Deed). ds ++ [] ++ done_of (state_of a) (reply.Refused refusal.Down) (answered (state_of a) client c)) is.deeds ∙ ap (done_of (state_of a) (reply.Refused refusal.Down)) is.own
+          ∙ ap (done_by (state_of a) c (reply.Refused refusal.Down)) of
 
-      no_write : written (alone a) (event.Call client a.ids.epoch number c) ≡ []
-      no_write = ap (λ (b : Bool). cond {A = List Act} b (by_call (alone a) client c) []) (new_call a client number w there turn) ∙ is.needs_none
+      no_write : written (state_of a) (event.Call client a.ids.epoch number c) ≡ []
+      no_write = ap (λ (b : Bool). cond {A = List Act} b (by_call (state_of a) client c) []) (new_call a client number w there turn) ∙ is.needs_none
 
-      reads : (writes (alone a) (event.Call client a.ids.epoch number c) || may_read (alone a) (event.Call client a.ids.epoch number c)) ≡ true
+      reads : (writes (state_of a) (event.Call client a.ids.epoch number c) || may_read (state_of a) (event.Call client a.ids.epoch number c)) ≡ true
       reads =
-          ap (λ (ws : List Act). (is_some_act ws || false) || (is_new (alone a) client a.ids.epoch number && may_read_for (alone a) client c)) no_write
-          ∙ ap (λ (b : Bool). b && may_read_for (alone a) client c) (new_call a client number w there turn)
-          ∙ is.reads ∙ ap (is_part_at_work (alone a) client) of ∙ ap (λ (x : Option Refusal). is_none x) works
+          ap (λ (ws : List Act). (is_some_act ws || false) || (is_new (state_of a) client a.ids.epoch number && may_read_for (state_of a) client c)) no_write
+          ∙ ap (λ (b : Bool). b && may_read_for (state_of a) client c) (new_call a client number w there turn)
+          ∙ is.reads ∙ ap (is_part_at_work (state_of a) client) of ∙ ap (λ (x : Option Refusal). is_none x) works
 
   -- and so is a collect of a call that is granted
-  pub collect_halt_leads : (n : ℕ) (v : Waiting) (t : TransId) → IsQuiet a → a.is_down ≡ false → a.sessions client ≡ Some w → number ≡ w.last + 1 → waiting_at (alone a).desk client n ≡ Some v → file_trans v.call ≡ Some t
+  pub collect_halt_leads : (n : ℕ) (v : Waiting) (t : TransId) → IsQuiet a → a.is_down ≡ false → a.sessions client ≡ Some w → number ≡ w.last + 1 → waiting_at (state_of a).desk client n ≡ Some v → file_trans v.call ≡ Some t
       → v.is_granted ≡ true → a.dead client t ≡ None
       → Leads false a (call_entry a client number w (call.Collect n) (reply.Refused refusal.Down) (act.Stopped ∷ [])) (with_halt (call_entry a client number w (call.Collect n) (reply.Refused refusal.Down) (act.Stopped ∷ [])))
   collect_halt_leads n v t q up there turn found named granted alive =
@@ -159,8 +162,8 @@ module _ (a : Alone) (client number : ℕ) (w : Session) where
         greets = λ e h. h;
         stops = refl;
         drawn = refl;
-        deeds = subst (Along state_deed (IsLawfulDeed ev) (alone a)) (sym (call_tried a client number w (call.Collect n) (reply.Refused refusal.Down) (act.Stopped ∷ []) there turn ∙ none)) tt;
-        tried = inl (call_tried a client number w (call.Collect n) (reply.Refused refusal.Down) (act.Stopped ∷ []) there turn ∙ none);
+        deeds = subst (Along state_deed (IsLawfulDeed ev) (state_of a)) (sym (call_tried a client number w (call.Collect n) (reply.Refused refusal.Down) (act.Stopped ∷ []) there turn ∙ none)) tt;
+        tried = HasTried.nothing (call_tried a client number w (call.Collect n) (reply.Refused refusal.Down) (act.Stopped ∷ []) there turn ∙ none);
         sent = refl;
         said = λ m. (tt, tt);
         regained = refl;
@@ -172,60 +175,66 @@ module _ (a : Alone) (client number : ℕ) (w : Session) where
       ev : Event
       ev = event.Call client a.ids.epoch number (call.Collect n)
 
-      none : done_of (alone a) (reply.Refused refusal.Down) (call_of (waiting_at (alone a).desk client n)) ≡ []
-      none = ap (λ (x : Option Waiting). done_of (alone a) (reply.Refused refusal.Down) (call_of x)) found ∙ ap (done_by (alone a) v.call (reply.Refused refusal.Down)) named
+      none : done_of (state_of a) (reply.Refused refusal.Down) (call_of (waiting_at (state_of a).desk client n)) ≡ []
+      none = ap (λ (x : Option Waiting). done_of (state_of a) (reply.Refused refusal.Down) (call_of x)) found ∙ ap (done_by (state_of a) v.call (reply.Refused refusal.Down)) named
 
-      no_write : written (alone a) ev ≡ []
-      no_write = cond_same {A = List Act} (is_new (alone a) client a.ids.epoch number) []
+      no_write : written (state_of a) ev ≡ []
+      no_write = cond_same {A = List Act} (is_new (state_of a) client a.ids.epoch number) []
 
-      reads : (writes (alone a) ev || may_read (alone a) ev) ≡ true
+      reads : (writes (state_of a) ev || may_read (state_of a) ev) ≡ true
       reads =
-          ap (λ (ws : List Act). (is_some_act ws || false) || (is_new (alone a) client a.ids.epoch number && is_performed_now (alone a) client (waiting_at (alone a).desk client n))) no_write
-          ∙ ap (λ (b : Bool). b && is_performed_now (alone a) client (waiting_at (alone a).desk client n)) (new_call a client number w there turn)
-          ∙ ap (is_performed_now (alone a) client) found ∙ ap (λ (b : Bool). b && is_part_alive (alone a) client (file_trans v.call)) granted
-          ∙ ap (is_part_alive (alone a) client) named ∙ ap (λ (x : Option Cause). is_none x) alive
+          ap (λ (ws : List Act). (is_some_act ws || false) || (is_new (state_of a) client a.ids.epoch number && is_performed_now (state_of a) client (waiting_at (state_of a).desk client n))) no_write
+          ∙ ap (λ (b : Bool). b && is_performed_now (state_of a) client (waiting_at (state_of a).desk client n)) (new_call a client number w there turn)
+          ∙ ap (is_performed_now (state_of a) client) found ∙ ap (λ (b : Bool). b && is_part_alive (state_of a) client (file_trans v.call)) granted
+          ∙ ap (is_part_alive (state_of a) client) named ∙ ap (λ (x : Option Cause). is_none x) alive
 
   -- in a commit the decision would
   module _ (t : TransId) (l : Life) where
-    commit_brought : a.fates t ≡ Running client [] → waiting_of (alone a).desk client t ≡ None
-        → finishes (alone a).desk client t true (reply.Refused refusal.Down) (a.fates t) ++ (Decides (commit_stamp a client number w t l) [] ∷ []) ++ [] ≡ Finishes t ∷ Decides (commit_stamp a client number w t l) [] ∷ []
-    commit_brought runs idle = ap (λ (f : Fate). finishes (alone a).desk client t true (reply.Refused refusal.Down) f ++ (Decides (commit_stamp a client number w t l) [] ∷ []) ++ []) runs
-        ∙ ap (λ (b : Bool). cond {A = List Deed} (b && is_none (waiting_of (alone a).desk client t)) (Finishes t ∷ []) [] ++ (Decides (commit_stamp a client number w t l) [] ∷ []) ++ []) (eq-eqb client client refl)
+    commit_brought : a.fates t ≡ Running client [] → waiting_of (state_of a).desk client t ≡ None
+        → finishes (state_of a).desk client t true (reply.Refused refusal.Down) (a.fates t) ++ (Decides (commit_stamp a client number w t l) [] ∷ []) ++ [] ≡ Finishes t ∷ Decides (commit_stamp a client number w t l) [] ∷ []
+    commit_brought runs idle = ap (λ (f : Fate). finishes (state_of a).desk client t true (reply.Refused refusal.Down) f ++ (Decides (commit_stamp a client number w t l) [] ∷ []) ++ []) runs
+        ∙ ap (λ (b : Bool). cond {A = List Deed} (b && is_none (waiting_of (state_of a).desk client t)) (Finishes t ∷ []) [] ++ (Decides (commit_stamp a client number w t l) [] ∷ []) ++ []) (eq-eqb client client refl)
         ∙ ap (λ (y : Option Waiting). cond {A = List Deed} (is_none y) (Finishes t ∷ []) [] ++ (Decides (commit_stamp a client number w t l) [] ∷ []) ++ []) idle
 
-    commit_written : a.sessions client ≡ Some w → number ≡ w.last + 1 → a.fates t ≡ Running client [] → waiting_of (alone a).desk client t ≡ None → why_not_own false (alone a) t ≡ None
-        → written (alone a) (event.Call client a.ids.epoch number (call.Finish t true)) ≡ act.Decided (commit_stamp a client number w t l) [] ∷ []
+    commit_written : a.sessions client ≡ Some w → number ≡ w.last + 1 → a.fates t ≡ Running client [] → waiting_of (state_of a).desk client t ≡ None → why_not_own false (state_of a) t ≡ None
+        → written (state_of a) (event.Call client a.ids.epoch number (call.Finish t true)) ≡ act.Decided (commit_stamp a client number w t l) [] ∷ []
     commit_written there turn runs idle may =
-        ap (λ (b : Bool). cond {A = List Act} b (by_finish (alone a) client t (a.fates t)) []) (new_call a client number w there turn)
-        ∙ ap (by_finish (alone a) client t) runs
-        ∙ ap (λ (b : Bool). cond {A = List Act} (b && is_none (waiting_of (alone a).desk client t)) (decides t (a.holder.clock + 1) [] (why_not_own false (alone a) t)) []) (eq-eqb client client refl)
-        ∙ ap (λ (y : Option Waiting). cond {A = List Act} (is_none y) (decides t (a.holder.clock + 1) [] (why_not_own false (alone a) t)) []) idle
+        ap (λ (b : Bool). cond {A = List Act} b (by_finish (state_of a) client t (a.fates t)) []) (new_call a client number w there turn)
+        ∙ ap (by_finish (state_of a) client t) runs
+        ∙ ap (λ (b : Bool). cond {A = List Act} (b && is_none (waiting_of (state_of a).desk client t)) (decides t (a.holder.clock + 1) [] (why_not_own false (state_of a) t)) []) (eq-eqb client client refl)
+        ∙ ap (λ (y : Option Waiting). cond {A = List Act} (is_none y) (decides t (a.holder.clock + 1) [] (why_not_own false (state_of a) t)) []) idle
         ∙ ap (decides t (a.holder.clock + 1) []) may
 
-    pub commit_halt_leads : (x : Act) → IsStop x → IsQuiet a → a.is_down ≡ false → a.sessions client ≡ Some w → number ≡ w.last + 1 → t.server ≡ a.holder.server → t.epoch ≡ a.ids.epoch
-        → a.holder.lives t ≡ Some l → l.client ≡ client → waiting_of (alone a).desk client t ≡ None → why_not_own false (alone a) t ≡ None
+    pub commit_halt_leads : (x : Act) → IsStop x → IsQuiet a → a.is_down ≡ false → a.sessions client ≡ Some w → number ≡ w.last + 1
+        → a.holder.lives t ≡ Some l → a.fates t ≡ Running client [] → waiting_of (state_of a).desk client t ≡ None → why_not_own false (state_of a) t ≡ None
         → Leads false a (call_entry a client number w (call.Finish t true) (reply.Refused refusal.Down) (act.Decided (commit_stamp a client number w t l) [] ∷ x ∷ []))
         (with_halt (call_entry a client number w (call.Finish t true) (reply.Refused refusal.Down) (act.Decided (commit_stamp a client number w t l) [] ∷ x ∷ [])))
-    commit_halt_leads x which q up there turn here now live own idle may = go x which
+    commit_halt_leads x which q up there turn live runs idle may = go x which
       where
         stamp : Stamp
         stamp = commit_stamp a client number w t l
 
-        pair : IsPaired (Some l) (a.fates t)
-        pair = subst (λ (y : Option Life). IsPaired y (a.fates t)) live (q.settled.paired t)
+        mine : IsOwn a client t l cause.Asked
+        mine = own_of a client t l cause.Asked q.settled live runs
 
-        runs : a.fates t ≡ Running client []
-        runs = pair.0 ∙ ap (λ (n : ℕ). Running n []) own
+        unvoted : l.vote ≡ None
+        unvoted = (own_pair a q.settled.stands t l live mine.part).1
 
-        lawful : (y : Act) → tried (alone a) (call_entry a client number w (call.Finish t true) (reply.Refused refusal.Down) (act.Decided (commit_stamp a client number w t l) [] ∷ y ∷ [])) ≡ Finishes t ∷ Decides (commit_stamp a client number w t l) [] ∷ []
-            → Along state_deed (IsLawfulDeed (event.Call client a.ids.epoch number (call.Finish t true))) (alone a)
-            (tried (alone a) (call_entry a client number w (call.Finish t true) (reply.Refused refusal.Down) (act.Decided (commit_stamp a client number w t l) [] ∷ y ∷ [])))
-        lawful y is = subst (Along state_deed (IsLawfulDeed (event.Call client a.ids.epoch number (call.Finish t true))) (alone a)) (sym is)
-            (finishes_lawful a client number w t l, (decides_lawful a client number w t l runs here now live pair.1 idle, tt))
+        here : t.server ≡ a.holder.server
+        here = here_as a client t l cause.Asked mine
 
-        as_tried : (y : Act) → tried (alone a) (call_entry a client number w (call.Finish t true) (reply.Refused refusal.Down) (act.Decided (commit_stamp a client number w t l) [] ∷ y ∷ [])) ≡ Finishes t ∷ Decides (commit_stamp a client number w t l) [] ∷ []
-            → HasTried a.holder a.ids.epoch true (tried (alone a) (call_entry a client number w (call.Finish t true) (reply.Refused refusal.Down) (act.Decided (commit_stamp a client number w t l) [] ∷ y ∷ [])))
-        as_tried y is = inr (record { stamp = stamp; life = l; tried = is; down = refl; time = refl; within = vote_within (alone a) t may; own = here; now = now; live = live })
+        now : t.epoch ≡ a.ids.epoch
+        now = now_as a client t l cause.Asked mine
+
+        lawful : (y : Act) → tried (state_of a) (call_entry a client number w (call.Finish t true) (reply.Refused refusal.Down) (act.Decided (commit_stamp a client number w t l) [] ∷ y ∷ [])) ≡ Finishes t ∷ Decides (commit_stamp a client number w t l) [] ∷ []
+            → Along state_deed (IsLawfulDeed (event.Call client a.ids.epoch number (call.Finish t true))) (state_of a)
+            (tried (state_of a) (call_entry a client number w (call.Finish t true) (reply.Refused refusal.Down) (act.Decided (commit_stamp a client number w t l) [] ∷ y ∷ [])))
+        lawful y is = subst (Along state_deed (IsLawfulDeed (event.Call client a.ids.epoch number (call.Finish t true))) (state_of a)) (sym is)
+            (finishes_lawful a client number w t l, (decides_lawful a client number w t l runs here now live unvoted idle, tt))
+
+        as_tried : (y : Act) → tried (state_of a) (call_entry a client number w (call.Finish t true) (reply.Refused refusal.Down) (act.Decided (commit_stamp a client number w t l) [] ∷ y ∷ [])) ≡ Finishes t ∷ Decides (commit_stamp a client number w t l) [] ∷ []
+            → HasTried (with_halt (call_entry a client number w (call.Finish t true) (reply.Refused refusal.Down) (act.Decided (commit_stamp a client number w t l) [] ∷ y ∷ [])))
+        as_tried y is = HasTried.commit (record { stamp = stamp; life = l; tried = is; down = refl; time = refl; within = vote_within (state_of a) t may; own = here; now = now; live = live; own_part = mine.part; runs = runs ∙ ap (λ (n : ℕ). Running n []) (sym mine.its) })
 
         go : (x : Act) → IsStop x → Leads false a (call_entry a client number w (call.Finish t true) (reply.Refused refusal.Down) (act.Decided (commit_stamp a client number w t l) [] ∷ x ∷ []))
             (with_halt (call_entry a client number w (call.Finish t true) (reply.Refused refusal.Down) (act.Decided (commit_stamp a client number w t l) [] ∷ x ∷ [])))
@@ -243,7 +252,7 @@ module _ (a : Alone) (client number : ℕ) (w : Session) where
               stopped = (refl, refl);
               released = refl;
               halted = inl (record {
-                reaches = ap (λ (ws : List Act). (is_some_act ws || false) || may_read (alone a) (event.Call client a.ids.epoch number (call.Finish t true))) (commit_written there turn runs idle may);
+                reaches = ap (λ (ws : List Act). (is_some_act ws || false) || may_read (state_of a) (event.Call client a.ids.epoch number (call.Finish t true))) (commit_written there turn runs idle may);
                 acts = ap (λ (ws : List Act). ws ++ act.Stopped ∷ []) (sym (commit_written there turn runs idle may));
               });
             }))

@@ -1,9 +1,9 @@
--- file calls that a server which runs alone performs
+-- file calls that are performed
 use Rattle.std.specs.Prelude.{cond, Bool, true, false, ◌&&◌, ◌||◌, is_some, Option, None, Some, length}
 use Rattle.std.specs.List.{AllByRecursion}
 use Rattle.std.specs.Option.{option_to_list, option_or}
 use Rattle.std.proofs.lemmas.List.{append-nil}
-use Rattle.std.proofs.Common.{inl, ◌≡◌, ℕ, ◌+◌, List, [], ◌∷◌, ◌++◌, refl, sym, ◌∙◌, ap, subst, eq-eqb, arith}
+use Rattle.std.proofs.Common.{◌≡◌, ℕ, ◌+◌, List, [], ◌∷◌, ◌++◌, refl, sym, ◌∙◌, ap, subst, eq-eqb, arith}
 use Rattle.alp_base.specs.declared.ids.FileId.{FileId}
 use Rattle.alp_base.specs.declared.ids.TransId.{TransId}
 use Rattle.alp_base.specs.declared.key.Resource.{Resource}
@@ -25,7 +25,6 @@ use Rattle.alp_journal.specs.declared.event.Event.{Event}
 use Rattle.alp_journal.specs.declared.event.Event.TheVariants as event
 use Rattle.alp_journal.specs.Ids.{same_trans}
 use Rattle.alp_journal.specs.Deeds.{Deed, Grants, Performs}
-use Rattle.alp_journal.specs.Coordinator.{is_running}
 use Rattle.alp_journal.specs.Holder.{Holder, Life, with_life, view_in, answer_in, held_for, after_done, grants, performs}
 use Rattle.alp_journal.specs.Desk.{Session, Waiting, file_trans, waiting_of, is_of, is_not_yet, begins_if, with_session}
 use Rattle.alp_journal.specs.Counts.{Locked, lock_set, with_resources, request_in}
@@ -34,13 +33,15 @@ use Rattle.alp_journal.specs.Moves.{next_file, act_deeds, grants_to, ungranted, 
 use Rattle.alp_journal.specs.Laws.{client_of, IsLawfulDeed, IsFree, IsOpenPart, DoLivesAgree, TellsIn, begun_in}
 use Rattle.alp_journal.specs.Answers.{Part, NoPart, AtJoining, AtWork, AtFinish, AtReady, AtEnd, part_at, at_part, First, OrFault, IsFileOf, IsFileAnswer}
 use Rattle.alp_journal.specs.Answered.{GrantsFor}
-use Rattle.alp_journal.specs.Alone.{Alone, alone, IsQuiet, IsPaired, is_on_trans, Leads}
+use Rattle.alp_journal.specs.Account.{Account, state_of, IsQuiet, HasTried, is_on_trans, Leads}
 use Rattle.alp_journal.proofs.IdLemmas.{same_trans-itself}
 use Rattle.alp_journal.proofs.WaitLemmas.{none-granted}
 use Rattle.alp_journal.proofs.TurnLemmas.{turns-set}
-use Rattle.alp_journal.proofs.QuietLemmas.{agree_set, paired_kept, parts-kept, none-on, came_on, later-come}
-use Rattle.alp_journal.proofs.AloneLemmas.{call_entry, new_call, call_leads}
-use Rattle.alp_journal.proofs.AloneEntries.{counted_as, IsFileCall, file_call}
+use Rattle.alp_journal.proofs.StandLemmas.{part-like, paired_kept, held_kept, pair_of}
+use Rattle.alp_journal.proofs.PartLemmas.{IsAtWork, at_work_open}
+use Rattle.alp_journal.proofs.QuietLemmas.{agree_set, parts-kept, none-on, came_on, later-come}
+use Rattle.alp_journal.proofs.CallLemmas.{no_mail, call_entry, new_call, call_leads}
+use Rattle.alp_journal.proofs.RefusedCalls.{counted_as, IsFileCall, file_call}
 
 -- ---- what a thread is answered
 
@@ -92,7 +93,7 @@ twice : {A : Type 0} (b : Bool) (x y z : A) → cond {A = A} b x (cond {A = A} b
 twice true x y z = refl
 twice false x y z = refl
 
-module _ (a : Alone) (client number : ℕ) (w : Session) (t : TransId) (l : Life) (c : Call) (r : Reply) where
+module _ (a : Account) (client number : ℕ) (w : Session) (t : TransId) (l : Life) (c : Call) (r : Reply) where
   abbrev pub done : PerformedCall
   done = record { call = c; reply = r }
 
@@ -101,7 +102,7 @@ module _ (a : Alone) (client number : ℕ) (w : Session) (t : TransId) (l : Life
   life_after under = after_done (record l { held = under }) done (answer_in a.holder l done)
 
   -- the call is performed under these locks, with these resources locked
-  abbrev pub with_call : Holding → List Resource → Alone
+  abbrev pub with_call : Holding → List Resource → Account
   with_call under locks = record (counted_as a client number w r) {
     ids = record a.ids { files = a.ids.files + length (option_to_list (id_in r)) };
     holder = with_life (record a.holder { made = option_to_list (id_in r) ++ a.holder.made }) t (Some (life_after under));
@@ -120,19 +121,13 @@ module _ (a : Alone) (client number : ℕ) (w : Session) (t : TransId) (l : Life
     pub formed : IsFormed c
     pub kind : IsFileReply r
     pub passes : is_passing r ≡ false
-    pub given : is_of_no_file (alone a) c r ≡ false
+    pub given : is_of_no_file (state_of a) c r ≡ false
     pub right : (answer_in a.holder l done).reply ≡ Some r
-    pub next_id : (f : FileId) → id_in r ≡ Some f → f ≡ next_file (alone a)
+    pub next_id : (f : FileId) → id_in r ≡ Some f → f ≡ next_file (state_of a)
     pub locked : HoldsEach under (needs_of (view_in a.holder l) l.own c)
     pub agree : (u : TransId) (k : Life) → a.holder.lives u ≡ Some k → same_trans u t ≡ false → DoAgree (with_made under (id_in r)) k.held
-    pub why : IsFileOf failed (alone a) client c r (Some t)
-    pub grants : GrantsFor failed (alone a) client c r granted (Some t)
-
-  pair_of : IsQuiet a → a.holder.lives t ≡ Some l → IsPaired (Some l) (a.fates t)
-  pair_of q live = subst (λ (x : Option Life). IsPaired x (a.fates t)) live (q.settled.paired t)
-
-  runs_open : (s : State) → s.fates t ≡ a.fates t → IsPaired (Some l) (a.fates t) → IsOpenPart s t
-  runs_open s same pair = inl (ap is_running (same ∙ pair.0))
+    pub why : IsFileOf failed (state_of a) client c r (Some t)
+    pub grants : GrantsFor failed (state_of a) client c r granted (Some t)
 
   -- others are quiet beside the call, whichever of those that waited wait on
   pub call_quiet : (under : Holding) (locks : List Resource) (ws : List Waiting) → IsQuiet (record a { waits = ws }) → AllByRecursion (λ v. is_on_trans t v ≡ false) ws → a.sessions client ≡ Some w → number ≡ w.last + 1
@@ -140,24 +135,56 @@ module _ (a : Alone) (client number : ℕ) (w : Session) (t : TransId) (l : Life
       → IsQuiet (record (with_call under locks) { waits = ws })
   call_quiet under locks ws q off there turn live above agrees = record {
     settled = record {
-      agree = agree_set a.holder.lives t (Some (life_after under)) q.settled.agree (λ x is u k away at. subst (λ (y : Life). DoAgree y.held k.held) (same-some (life_after under) x is) (agrees u k at away));
-      paired = paired_kept a.holder.lives a.fates t (Some (life_after under)) q.settled.paired (subst (λ (x : Option Life). IsPaired x (a.fates t)) live (q.settled.paired t));
-      ended = q.settled.ended;
-      parts = parts-kept a.holder.lives a.dead t l (life_after under) live refl ws q.settled.parts;
-      came = came_on a.sessions client (record w { last = number; reply = r }) (later-come a.sessions client w (record w { last = number; reply = r }) there (omega (arith, turn))) ws q.settled.came;
-      apart = q.settled.apart;
-      order = q.settled.order;
+      stands = record {
+        agree = agree_set a.holder.lives t (Some (life_after under)) q.settled.stands.agree (λ x is u k away at. subst (λ (y : Life). DoAgree y.held k.held) (same-some (life_after under) x is) (agrees u k at away));
+        paired = paired_kept a.phases a.holder.lives a.fates t (Some (life_after under)) q.settled.stands.paired
+            (part-like t a.phases l (life_after under) (a.fates t) refl refl refl refl refl (pair_of (record a { waits = ws }) q.settled.stands t l live));
+        held = λ j. held_kept a.holder.lives t l (life_after under) live refl j (a.phases j) (q.settled.stands.held j);
+        votes = q.settled.stands.votes;
+        forgets = q.settled.stands.forgets;
+        fates = q.settled.stands.fates;
+        begun = q.settled.stands.begun;
+        known = q.settled.stands.known;
+        phases = q.settled.stands.phases;
+        joined = q.settled.stands.joined;
+        single = q.settled.stands.single;
+        order = q.settled.stands.order;
+      };
+      tells = record {
+        ended = q.settled.tells.ended;
+        parts = parts-kept a.holder.lives a.dead t l (life_after under) live refl ws q.settled.tells.parts;
+        others = q.settled.tells.others;
+        came = came_on a.sessions client (record w { last = number; reply = r }) (later-come a.sessions client w (record w { last = number; reply = r }) there (omega (arith, turn))) ws q.settled.tells.came;
+        apart = q.settled.tells.apart;
+        joining = q.settled.tells.joining;
+        finishing = q.settled.tells.finishing;
+      };
     };
-    tried = inl refl;
-    turns = turns-set (alone (record a { waits = ws })) (alone (record (with_call under locks) { waits = ws })) t (life_after under) refl (λ u. refl)
+    tried = HasTried.nothing refl;
+    turns = turns-set (state_of (record a { waits = ws })) (state_of (record (with_call under locks) { waits = ws })) t (life_after under) refl (λ u. refl)
         (λ k at. subst (λ (y : Life). IsMore y.held (with_made under (id_in r))) (same-some l k (sym live ∙ at)) (λ q m c. joined-more under (needs_made (id_in r)) q m (above q m c))) ws off q.turns;
   }
 
-  -- a part whose call waits is answered that, and nothing else
-  idle_of : (failed : Bool) → IsFileOf failed (alone a) client c r (Some t) → is_passing r ≡ false → waiting_of (alone a).desk client t ≡ None
-  idle_of failed why passes = go (waiting_of (alone a).desk client t) refl
+  -- only a part at work is answered anything else than that it is not
+  works_of : (failed : Bool) → IsFileOf failed (state_of a) client c r (Some t) → is_passing r ≡ false → part_at (state_of a) client t ≡ AtWork
+  works_of failed why passes = go (is_some (waiting_of (state_of a).desk client t)) (part_at (state_of a) client t) refl why
     where
-      busy : (p : Part) → First (at_part true p) r (OrFault failed r (IsFileAnswer (alone a) t c r (a.holder.lives t))) → ⊥
+      passing : (f : Refusal) → r ≡ reply.Refused f → is_passing (reply.Refused f) ≡ true → ⊥
+      passing f is so = let wrong : true ≡ false = sym so ∙ sym (ap is_passing is) ∙ passes in cc
+
+      go : (b : Bool) (p : Part) → part_at (state_of a) client t ≡ p → First (at_part b p) r (OrFault failed r (IsFileAnswer (state_of a) t c r (a.holder.lives t))) → part_at (state_of a) client t ≡ AtWork
+      go b NoPart e is = absurd (passing refusal.UnknownTrans is refl)
+      go b AtJoining e is = absurd (passing refusal.NotYet is refl)
+      go b AtWork e is = e
+      go b AtFinish e is = absurd (passing refusal.Finishing is refl)
+      go b AtReady e is = absurd (passing refusal.Finishing is refl)
+      go b (AtEnd d) e is = absurd (passing (refusal.Aborted d) is refl)
+
+  -- a part whose call waits is answered that, and nothing else
+  idle_of : (failed : Bool) → IsFileOf failed (state_of a) client c r (Some t) → is_passing r ≡ false → waiting_of (state_of a).desk client t ≡ None
+  idle_of failed why passes = go (waiting_of (state_of a).desk client t) refl
+    where
+      busy : (p : Part) → First (at_part true p) r (OrFault failed r (IsFileAnswer (state_of a) t c r (a.holder.lives t))) → ⊥
       busy NoPart is = let wrong : true ≡ false = sym (ap is_passing is) ∙ passes in cc
       busy AtJoining is = let wrong : true ≡ false = sym (ap is_passing is) ∙ passes in cc
       busy AtWork is = let wrong : true ≡ false = sym (ap is_passing is) ∙ passes in cc
@@ -165,28 +192,28 @@ module _ (a : Alone) (client number : ℕ) (w : Session) (t : TransId) (l : Life
       busy AtReady is = let wrong : true ≡ false = sym (ap is_passing is) ∙ passes in cc
       busy (AtEnd d) is = let wrong : true ≡ false = sym (ap is_passing is) ∙ passes in cc
 
-      go : (x : Option Waiting) → waiting_of (alone a).desk client t ≡ x → waiting_of (alone a).desk client t ≡ None
+      go : (x : Option Waiting) → waiting_of (state_of a).desk client t ≡ x → waiting_of (state_of a).desk client t ≡ None
       go None e = e
-      go (Some v) e = absurd (busy (part_at (alone a) client t) (subst (λ (x : Option Waiting). First (at_part (is_some x) (part_at (alone a) client t)) r (OrFault failed r (IsFileAnswer (alone a) t c r (a.holder.lives t)))) e why))
+      go (Some v) e = absurd (busy (part_at (state_of a) client t) (subst (λ (x : Option Waiting). First (at_part (is_some x) (part_at (state_of a) client t)) r (OrFault failed r (IsFileAnswer (state_of a) t c r (a.holder.lives t)))) e why))
 
   -- no call of its transaction waits
   off_of : {failed : Bool} {under : Holding} {granted : List TransId} → PerformOwes failed under granted → AllByRecursion (λ v. is_on_trans t v ≡ false) a.waits
-  off_of {failed} o = none-on a.holder.lives a.dead client t l o.live o.own a.waits o.quiet.settled.parts (idle_of failed o.why o.passes)
+  off_of {failed} o = none-on a.holder.lives a.dead client t l o.live o.own a.waits o.quiet.settled.tells.parts (idle_of failed o.why o.passes)
 
   -- what it performs
-  performed_deeds : file_trans c ≡ Some t → is_passing r ≡ false → is_of_no_file (alone a) c r ≡ false → done_of (alone a) r (answered (alone a) client c) ≡ Performs t done ∷ []
+  performed_deeds : file_trans c ≡ Some t → is_passing r ≡ false → is_of_no_file (state_of a) c r ≡ false → done_of (state_of a) r (answered (state_of a) client c) ≡ Performs t done ∷ []
   performed_deeds named passes given =
-      ap (done_of (alone a) r) (IsFileCall.own (file_call a client number w t c r named)) ∙ ap (done_by (alone a) c r) named
+      ap (done_of (state_of a) r) (IsFileCall.own (file_call a client number w t c r named)) ∙ ap (done_by (state_of a) c r) named
       ∙ (λ i. cond {A = List Deed} (passes i || given i) [] (Performs t done ∷ []))
 
   -- under the locks that it holds
-  pub performs_lawful : (e : Event) → client_of e ≡ Some l.client → IsPaired (Some l) (a.fates t) → a.holder.lives t ≡ Some l → IsFormed c → (answer_in a.holder l done).reply ≡ Some r
-      → ((f : FileId) → id_in r ≡ Some f → f ≡ next_file (alone a)) → HoldsEach l.held (needs_of (view_in a.holder l) l.own c) → DoLivesAgree (with_call l.held (a.locked t)).holder.lives → IsLawfulDeed e (alone a) (Performs t done)
-  performs_lawful e own pair live formed right next_id held agree = record {
+  pub performs_lawful : (e : Event) → client_of e ≡ Some l.client → IsOpenPart (state_of a) t → l.vote ≡ None → a.holder.lives t ≡ Some l → IsFormed c → (answer_in a.holder l done).reply ≡ Some r
+      → ((f : FileId) → id_in r ≡ Some f → f ≡ next_file (state_of a)) → HoldsEach l.held (needs_of (view_in a.holder l) l.own c) → DoLivesAgree (with_call l.held (a.locked t)).holder.lives → IsLawfulDeed e (state_of a) (Performs t done)
+  performs_lawful e own opens unvoted live formed right next_id held agree = record {
     counts = next_id;
-    view = (l, live, record { client = own; active = pair.1; formed = formed; right = right; locked = held });
+    view = (l, live, record { client = own; active = unvoted; formed = formed; right = right; locked = held });
     locks = subst (λ (x : Option Life). DoLivesAgree (performs a.holder t done x).lives) (sym live) agree;
-    running = runs_open (alone a) refl pair;
+    running = opens;
     registration = tt;
     vote = tt;
     decision = tt;
@@ -198,11 +225,11 @@ module _ (a : Alone) (client number : ℕ) (w : Session) (t : TransId) (l : Life
 
   pub performed_leads : (failed : Bool) → PerformOwes failed l.held [] → Leads failed a (call_entry a client number w c r []) (with_call l.held (a.locked t))
   performed_leads failed o =
-      let s : State = alone a in
+      let s : State = state_of a in
       let is : IsFileCall a client number w t c r = file_call a client number w t c r o.named in
       let reply_is : IsOwnReply r = own_reply r o.kind in
-      let pair : IsPaired (Some l) (a.fates t) = pair_of o.quiet o.live in
-      let m : Alone = with_call l.held (a.locked t) in
+      let works : IsAtWork a t l = at_work_open a o.quiet.settled.stands t l o.live client (works_of failed o.why o.passes) in
+      let m : Account = with_call l.held (a.locked t) in
       let then_quiet : IsQuiet m = call_quiet l.held (a.locked t) a.waits o.quiet (off_of o) o.there o.turn o.live (λ q x h. h) o.agree in
       call_leads a client number w failed c r [] (Performs t done ∷ []) m o.there o.turn (record {
         plain = is.plain;
@@ -218,17 +245,17 @@ module _ (a : Alone) (client number : ℕ) (w : Session) (t : TransId) (l : Life
           pending = [];
         })
             ∙ (λ i. record (state_deed s (Performs t done)) { desk = begins_if (reply_is.now i) (with_session s.desk client (Some (record w { last = number; reply = r }))) client number c; is_down = false; pending = [] })
-            ∙ (λ i. alone (record m { holder = performs a.holder t done (o.live i); begun = append-nil a.begun i }));
+            ∙ (λ i. state_of (record m { holder = performs a.holder t done (o.live i); begun = append-nil a.begun i; joined = append-nil a.joined i }));
         drawn = reply_is.none;
-        deeds = (performs_lawful (event.Call client a.ids.epoch number c) (ap (λ (n : ℕ). Some n) (sym o.own)) pair o.live o.formed o.right o.next_id o.locked then_quiet.settled.agree, tt);
+        deeds = (performs_lawful (event.Call client a.ids.epoch number c) (ap (λ (n : ℕ). Some n) (sym o.own)) works.opens works.vote o.live o.formed o.right o.next_id o.locked then_quiet.settled.stands.agree, tt);
         released = refl;
         granted = refl;
         said = tt;
-        tells = reply_is.tells (alone m) c;
+        tells = reply_is.tells (state_of m) c;
         regained = refl;
         quiet = then_quiet;
         answer = is.answer failed (subst (IsFileOf failed s client c r) (sym o.named) o.why);
-        mail = (is.mail, refl);
+        mail = no_mail [] is.mail refl;
         turns = tt;
         grants = subst (GrantsFor failed s client c r []) (sym o.named) o.grants;
       })
@@ -242,7 +269,7 @@ module _ (a : Alone) (client number : ℕ) (w : Session) (t : TransId) (l : Life
   locks_granted = with_resources (request_in a.holder c (Some l)) (a.locked t)
 
   abbrev granting : State
-  granting = state_deed (alone a) (Grants t c)
+  granting = state_deed (state_of a) (Grants t c)
 
   -- the holder in its two steps
   abbrev lives_granted : TransId → Option Life
@@ -266,11 +293,11 @@ module _ (a : Alone) (client number : ℕ) (w : Session) (t : TransId) (l : Life
 
   pub granted_leads : (failed : Bool) → IsFree a.holder t l c → PerformOwes failed under_grant (t ∷ []) → Leads failed a (call_entry a client number w c r (act.Granted t ∷ [])) (with_call under_grant locks_granted)
   granted_leads failed free o =
-      let s : State = alone a in
+      let s : State = state_of a in
       let is : IsFileCall a client number w t c r = file_call a client number w t c r o.named in
       let reply_is : IsOwnReply r = own_reply r o.kind in
-      let pair : IsPaired (Some l) (a.fates t) = pair_of o.quiet o.live in
-      let m : Alone = with_call under_grant locks_granted in
+      let works : IsAtWork a t l = at_work_open a o.quiet.settled.stands t l o.live client (works_of failed o.why o.passes) in
+      let m : Account = with_call under_grant locks_granted in
       let off : AllByRecursion (λ v. is_on_trans t v ≡ false) a.waits = off_of o in
       let idle : waiting_of s.desk client t ≡ None = idle_of failed o.why o.passes in
       let then_quiet : IsQuiet m = call_quiet under_grant locks_granted a.waits o.quiet off o.there o.turn o.live (granted-more l.held (needs_of (view_in a.holder l) l.own c)) o.agree in
@@ -285,7 +312,7 @@ module _ (a : Alone) (client number : ℕ) (w : Session) (t : TransId) (l : Life
       let lives_then : granting.holder.lives t ≡ Some (record l { held = under_grant }) =
       ap (λ (x : Option Life). (grants a.holder t c x).lives t) o.live ∙ ap (λ (b : Bool). cond {A = Option Life} b (Some (record l { held = under_grant })) (a.holder.lives t)) (same_trans-itself t) in
       let agree_granted : DoLivesAgree lives_granted =
-      agree_set a.holder.lives t (Some (record l { held = under_grant })) o.quiet.settled.agree
+      agree_set a.holder.lives t (Some (record l { held = under_grant })) o.quiet.settled.stands.agree
       (λ x is u k away there. subst (λ (y : Life). DoAgree y.held k.held) (same-some (record l { held = under_grant }) x is) (λ q. agree-turned (under_grant q) (k.held q) ∙ free u k there away q)) in
       call_leads a client number w failed c r (act.Granted t ∷ []) (Grants t c ∷ Performs t done ∷ []) m o.there o.turn (record {
         plain = is.plain;
@@ -302,14 +329,14 @@ module _ (a : Alone) (client number : ℕ) (w : Session) (t : TransId) (l : Life
           pending = [];
         })
             ∙ (λ i. record after { desk = begins_if (reply_is.now i) (with_session after.desk client (Some (record w { last = number; reply = r }))) client number c; is_down = false; pending = [] })
-            ∙ (λ i. alone (record m { holder = granted_holder o.live i; waits = none-granted t a.waits off i; locked = granted_locked o.live i; begun = (append-nil (a.begun ++ []) ∙ append-nil a.begun) i }));
+            ∙ (λ i. state_of (record m { holder = granted_holder o.live i; waits = none-granted t a.waits off i; locked = granted_locked o.live i; begun = (append-nil (a.begun ++ []) ∙ append-nil a.begun) i; joined = (append-nil (a.joined ++ []) ∙ append-nil a.joined) i }));
         drawn = reply_is.none;
         deeds = (
           record {
             counts = tt;
             view = tt;
-            locks = (λ x at. subst (λ (y : Life). y.vote ≡ None) (same-some l x (sym o.live ∙ at)) pair.1, subst (λ (x : Option Life). DoLivesAgree (grants a.holder t c x).lives) (sym o.live) agree_granted);
-            running = runs_open s refl pair;
+            locks = (λ x at. subst (λ (y : Life). y.vote ≡ None) (same-some l x (sym o.live ∙ at)) works.vote, subst (λ (x : Option Life). DoLivesAgree (grants a.holder t c x).lives) (sym o.live) agree_granted);
+            running = works.opens;
             registration = tt;
             vote = tt;
             decision = tt;
@@ -319,9 +346,9 @@ module _ (a : Alone) (client number : ℕ) (w : Session) (t : TransId) (l : Life
           (
             record {
               counts = λ f e. o.next_id f e ∙ ap (λ (x : Option Life). file_of (grants a.holder t c x).server) (sym o.live);
-              view = (record l { held = under_grant }, lives_then, record { client = ap (λ (n : ℕ). Some n) (sym o.own); active = pair.1; formed = o.formed; right = grant_right o.live o.right; locked = grant_locked o.live o.locked });
-              locks = subst (λ (h : Holder). DoLivesAgree h.lives) (sym (granted_holder o.live)) (then_quiet.settled.agree);
-              running = runs_open granting refl pair;
+              view = (record l { held = under_grant }, lives_then, record { client = ap (λ (n : ℕ). Some n) (sym o.own); active = works.vote; formed = o.formed; right = grant_right o.live o.right; locked = grant_locked o.live o.locked });
+              locks = subst (λ (h : Holder). DoLivesAgree h.lives) (sym (granted_holder o.live)) (then_quiet.settled.stands.agree);
+              running = works.opens;
               registration = tt;
               vote = tt;
               decision = tt;
@@ -334,11 +361,11 @@ module _ (a : Alone) (client number : ℕ) (w : Session) (t : TransId) (l : Life
         released = refl;
         granted = refl;
         said = (tt, tt);
-        tells = reply_is.tells (alone m) c;
+        tells = reply_is.tells (state_of m) c;
         regained = refl;
         quiet = then_quiet;
         answer = is.answer failed (subst (IsFileOf failed s client c r) (sym o.named) o.why);
-        mail = (is.mail, refl);
+        mail = no_mail (act.Granted t ∷ []) is.mail refl;
         turns = tt;
         grants = subst (GrantsFor failed s client c r (t ∷ [])) (sym o.named) o.grants;
       })
