@@ -1,6 +1,6 @@
 -- the calls of lines have frames
 use Rattle.std.specs.Prelude.{Option, None, Some, IfSome}
-use Rattle.std.proofs.Common.{◌≡◌, ℕ, ◌≤◌, ◌^◌, true, refl, sym, arith}
+use Rattle.std.proofs.Common.{◌≡◌, ℕ, ◌≤◌, ◌^◌, List, [], ◌∷◌, true, refl, sym, arith}
 use Rattle.std.proofs.Math.Nat.{le-min}
 use Rattle.std.proofs.lemmas.List.{length-replicate}
 use Rattle.alp_base.specs.declared.ids.TransId.{TransId}
@@ -15,10 +15,13 @@ use Rattle.alp_modes.specs.declared.Mode.TheVariants as mode
 use Rattle.alp_rpc.specs.Calls.{is_run_mode, IsSendable}
 use Rattle.alp_rpc.specs.Frames as frames
 use Rattle.alp_session.specs.Maps.{WordMap}
-use Rattle.alp_session.specs.Calls.{owner_call, making_call, props_call, file_call, page_call, call_in, call_with, collect_of, outcome_of, call_by, IsAskable}
+use Rattle.alp_session.specs.Calls.{owner_call, making_call, props_call, file_call, page_call, call_in, call_with, collect_of, outcome_of, call_by, asking_for, call_asked, IsAskable}
 use Rattle.alp_session.specs.Frames.{number_after, request_in}
+use Rattle.alp_session.specs.declared.asking.Asking.{Asking}
+use Rattle.alp_session.specs.declared.asking.Asking.TheVariants as asking
 use Rattle.alp_session.specs.declared.client.Client.{Client}
-use Rattle.alp_session.specs.declared.client.Greeted.{Greeted}
+use Rattle.alp_session.specs.declared.greeted.Greeted.{Greeted}
+use Rattle.alp_session.specs.declared.waiting.Next.TheVariants as next
 use Rattle.alp_session.specs.declared.waiting.Waiting.{Waiting}
 
 -- a call, if any, that has a frame
@@ -62,9 +65,9 @@ with_trans : (words : WordMap) (c : Client) (o : Option TransId) (l : Line) → 
 with_trans words c None l h = tt
 with_trans words c (Some t) l h = in_trans words c t l h
 
-collect_sendable : (o : Option Waiting) → Sendable (collect_of o)
-collect_sendable None = tt
-collect_sendable (Some w) = tt
+collect_sendable : (ws : List Waiting) → Sendable (collect_of ws)
+collect_sendable [] = tt
+collect_sendable (w ∷ ws) = tt
 
 outcome_sendable : (o : Option TransId) → Sendable (outcome_of o)
 outcome_sendable None = tt
@@ -81,9 +84,15 @@ call_sendable words c l told h = with_trans words c c.trans l h
 counts : (n : ℕ) → 1 ≤ number_after n
 counts n = le-min (omega arith) (omega arith)
 
-pub request_sendable : (k : ℕ) (c : Client) (o : Option Greeted) (asked : Call) → 1 ≤ k → k ≤ 16 → IsSendable asked → frames.IsSendable (request_in k c o asked)
-request_sendable k c None asked from_one to_last h = (record { from_one = from_one; to_last = to_last; counted = omega arith }, tt)
-request_sendable k c (Some g) asked from_one to_last h = (record { from_one = from_one; to_last = to_last; counted = counts g.last }, h)
+asked_sendable : (a : Asking) (asked : Call) → IsSendable asked → IsSendable (call_asked a asked)
+asked_sendable (asking.Join t) asked h = tt
+asked_sendable asking.Call asked h = h
+asked_sendable asking.Collect asked h = h
+
+pub request_sendable : (k : ℕ) (c : Client) (l : Line) (o : Option Greeted) (asked : Call) → 1 ≤ k → k ≤ 16 → IsSendable asked → frames.IsSendable (request_in k c l o asked)
+request_sendable k c l None asked from_one to_last h = (record { from_one = from_one; to_last = to_last; counted = omega arith }, tt)
+request_sendable k c l (Some g) asked from_one to_last h =
+    (record { from_one = from_one; to_last = to_last; counted = counts g.last }, asked_sendable (asking_for g.joined c.trans l next.Call) asked h)
 
 -- pages are locked in modes that have a spelling there
 of_page_mode : (lock : Mode) → IsPageMode lock → is_run_mode lock ≡ true

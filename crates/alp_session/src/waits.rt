@@ -1,0 +1,84 @@
+//! The calls of a client that wait.
+ghost use Rattle.std.specs.Prelude.{◌≡◌, ◌∷◌, [], OnOk, OnErr};
+ghost use Rattle.std.specs.Option.{option_copied as copied};
+ghost use Rattle.alp_session.specs.Heard.{is_waiting_at, others, first_of, asked_once_more};
+
+use crate::Waiting;
+use alp_base::OutOfMemory;
+use std::alloc::Global;
+use std::marker::Model;
+
+/// The calls of a client that wait, at most one at each server, the last that came to wait first.
+#[derive(Drop)]
+pub struct Waits {
+    calls: Vec<Waiting>,
+}
+
+impl Model for Waits {
+    ghost use Rattle.std.specs.Prelude.{List};
+    ghost use Rattle.alp_session.specs.declared.waiting.Waiting.{Waiting};
+
+    ghost Value = { List Waiting };
+
+    ghost view = { λ w. w.calls.items };
+}
+
+impl Waits {
+    pub fn new(alloc: Global) -> Waits
+        ensures { result ≡ [] }
+    {
+        Waits {
+            calls: Vec::new(alloc),
+        }
+    }
+
+    /// Whether a call waits at the server.
+    pub fn has(&self, server: u8) -> bool
+        ensures { result ≡ is_waiting_at self.now server }
+    {
+        self.calls.iter().any(|call| call.server == server)
+    }
+
+    /// The call that came to wait last.
+    pub fn first(&self) -> Option<&Waiting>
+        ensures { copied result ≡ first_of self.now }
+    {
+        self.calls.first()
+    }
+
+    /// A call waits from now on.
+    pub fn put(&mut self, call: Waiting) -> Result<(), OutOfMemory>
+        ensures ok { OnOk result (self.new ≡ call ∷ self.old) }
+        ensures err { OnErr result (self.new ≡ self.old) }
+    {
+        self.calls.insert(0, call)?;
+        Ok(())
+    }
+
+    /// The call that came to wait last waits no more.
+    pub fn take(&mut self)
+        ensures { self.new ≡ others self.old }
+    {
+        if !self.calls.is_empty() {
+            let _ = self.calls.remove(0);
+        }
+    }
+
+    /// One collect more of that call was answered that it waits. Gives how many were.
+    pub fn ask_again(&mut self) -> Option<u32>
+        ensures { (self.new, result) ≡ asked_once_more self.old }
+    {
+        if self.calls.is_empty() {
+            return None;
+        }
+        let asked = self.calls[0].asked.saturating_add(1);
+        self.calls[0].asked = asked;
+        Some(asked)
+    }
+
+    pub fn clear(&mut self)
+        ensures { self.new ≡ [] }
+    {
+        self.calls.clear();
+    }
+}
