@@ -1,6 +1,6 @@
 -- the calls of lines have frames
 use Rattle.std.specs.Prelude.{Option, None, Some, IfSome}
-use Rattle.std.proofs.Common.{◌≡◌, ℕ, ◌≤◌, ◌^◌, List, [], ◌∷◌, true, refl, sym, arith}
+use Rattle.std.proofs.Common.{◌≡◌, ℕ, ◌≤◌, ◌^◌, true, refl, sym, arith}
 use Rattle.std.proofs.Math.Nat.{le-min}
 use Rattle.std.proofs.lemmas.List.{length-replicate}
 use Rattle.alp_base.specs.declared.ids.TransId.{TransId}
@@ -15,6 +15,7 @@ use Rattle.alp_modes.specs.declared.Mode.TheVariants as mode
 use Rattle.alp_rpc.specs.Calls.{is_run_mode, IsSendable}
 use Rattle.alp_rpc.specs.Frames as frames
 use Rattle.alp_session.specs.Maps.{WordMap}
+use Rattle.alp_session.specs.Clients.{first_of}
 use Rattle.alp_session.specs.Calls.{owner_call, making_call, props_call, file_call, page_call, call_in, call_with, collect_of, outcome_of, call_by, asking_for, call_asked, IsAskable}
 use Rattle.alp_session.specs.Frames.{number_after, request_in}
 use Rattle.alp_session.specs.declared.asking.Asking.{Asking}
@@ -65,9 +66,9 @@ with_trans : (words : WordMap) (c : Client) (o : Option TransId) (l : Line) → 
 with_trans words c None l h = tt
 with_trans words c (Some t) l h = in_trans words c t l h
 
-collect_sendable : (ws : List Waiting) → Sendable (collect_of ws)
-collect_sendable [] = tt
-collect_sendable (w ∷ ws) = tt
+collect_sendable : (o : Option Waiting) → Sendable (collect_of o)
+collect_sendable None = tt
+collect_sendable (Some w) = tt
 
 outcome_sendable : (o : Option TransId) → Sendable (outcome_of o)
 outcome_sendable None = tt
@@ -76,7 +77,7 @@ outcome_sendable (Some t) = tt
 pub call_sendable : (words : WordMap) (c : Client) (l : Line) → c.told.ts ≤ 2 ^ 62 → IsAskable l → Sendable (call_by words c l)
 call_sendable words c (line.Begin client server) told h = told
 call_sendable words c (line.Outcome client) told h = outcome_sendable c.begun
-call_sendable words c (line.Collect client) told h = collect_sendable c.waiting
+call_sendable words c (line.Collect client) told h = collect_sendable (first_of c.waiting)
 call_sendable words c l told h = with_trans words c c.trans l h
 
 -- and so have the requests of clients

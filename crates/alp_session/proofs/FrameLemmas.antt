@@ -23,9 +23,10 @@ use Rattle.alp_rpc.specs.declared.frame.Request.{Request}
 use Rattle.alp_rpc.specs.declared.frame.ReplyFrame.{ReplyFrame}
 use Rattle.alp_rpc.proofs.FrameLaws.{request_law, reply_frame_law}
 use Rattle.alp_session.specs.Maps.{WordMap}
+use Rattle.alp_session.specs.Clients.{first_of}
 use Rattle.alp_session.specs.Calls.{call_by, server_for, asking_for}
 use Rattle.alp_session.specs.Frames.{number_after, request_in, request_of, addressed, frame_of, mark_of, told_by, read_as, sent_by, IsRequestOf, KeepsRequests}
-use Rattle.alp_session.specs.Heard.{left, told_refusal, told_only, started, created, opened, told_end, learned_reply, greeted, is_waiting_at, waiting_for, collects_by_itself, purpose_of, awaiting, called, joined_reply, is_part, part_known, joined_late, opened_late, late_reply, collected_reply, purpose_in, waits_on, collected, answered, counted, heard_own, heard_again, keeps, heard}
+use Rattle.alp_session.specs.Heard.{left, told_refusal, told_only, started, created, opened, told_end, learned_reply, greeted, is_waiting_at, waiting_for, collects_by_itself, purpose_of, awaiting, called, joined_reply, is_part, part_known, joined_late, opened_late, late_reply, collected_reply, purpose_in, collected, answered, counted, heard_own, heard_again, keeps, heard}
 use Rattle.alp_session.specs.declared.asking.Asking.{Asking}
 use Rattle.alp_session.specs.declared.asking.Asking.TheVariants as asking
 use Rattle.alp_session.specs.declared.asking.Sending.{Sending}
@@ -38,7 +39,6 @@ use Rattle.alp_session.specs.declared.waiting.Next.TheVariants as next
 use Rattle.alp_session.specs.declared.waiting.Purpose.{Purpose}
 use Rattle.alp_session.specs.declared.waiting.Purpose.TheVariants as purpose
 use Rattle.alp_session.specs.declared.waiting.Settings.{Settings}
-use Rattle.alp_session.specs.declared.waiting.Waiting.{Waiting}
 
 -- all bytes of a spelling are read as what they spell
 whole_back : {T : Type 0} (form : Form T) → IsForm form → (v : T) → form.Fits v → whole form (form.spell v) ≡ Some v
@@ -179,13 +179,9 @@ collected_reply_stays c server p l r = go (is_part p) (joined_late c server r) (
     go true x y hx hy = hx
     go false x y hx hy = hy
 
-waits_on_stays : (s : Settings) (c : Client) (ws : List Waiting) → (waits_on s c ws).0.frames ≡ c.frames
-waits_on_stays s c [] = refl
-waits_on_stays s c (w ∷ ws) = refl
-
 collected_stays : (c : Client) (q : Sending) (l : Line) (r : Reply) → (collected c q l r).0.frames ≡ c.frames
-collected_stays c q l (reply.Refused refusal.NotYet) = waits_on_stays q.settings c c.waiting
-collected_stays c q l r = collected_reply_stays c q.server (purpose_in c.waiting) l r
+collected_stays c q l (reply.Refused refusal.NotYet) = refl
+collected_stays c q l r = collected_reply_stays c q.server (purpose_in (first_of c.waiting)) l r
 
 answered_stays : (words : WordMap) (c : Client) (q : Sending) (l : Line) (a : Asking) (r : Option Reply) → (answered words c q l a r).0.frames ≡ c.frames
 answered_stays words c q l a None = refl

@@ -1,4 +1,5 @@
 pub mod MapLemmas
+pub mod WaitLemmas
 pub mod CrowdLemmas
 pub mod CallLemmas
 pub mod FrameLemmas

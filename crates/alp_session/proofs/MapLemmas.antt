@@ -1,5 +1,5 @@
 -- the orders of words and of ids are total, and only equal keys tie; and a put is taken back
-use Rattle.std.specs.Prelude.{Option, None, Some, cond, Bool, true, false, Result, Ok, Err, OnOk, OnErr}
+use Rattle.std.specs.Prelude.{Option, None, Some, IsSome, cond, Bool, true, false, Result, Ok, Err, OnOk, OnErr}
 use Rattle.std.specs.declared.cmp.Ordering.{Ordering}
 use Rattle.std.specs.declared.cmp.Ordering.TheVariants.{Less, Equal, Greater}
 use Rattle.std.specs.Cmp.{IsTotalOrder, eq_by_cmp_equiv}
@@ -7,7 +7,7 @@ use Rattle.std.specs.Cmp.Lexicographic.{nat_list_cmp_total as bytes_total}
 use Rattle.std.specs.Ordering.{eq_by_cmp, is_eq}
 use Rattle.std.specs.FinMap as map
 use Rattle.std.specs.FinMap.{get-insert, get-remove, same_map}
-use Rattle.std.proofs.Common.{◌≡◌, ℕ, List, refl, sym, ◌∙◌, ap}
+use Rattle.std.proofs.Common.{◌≡◌, ℕ, List, refl, sym, ◌∙◌, ap, subst}
 use Rattle.std.proofs.lemmas.Map.Lookups.{CmpEqualImpliesEq, exact_bytes as bytes_exact}
 use Rattle.alp_base.specs.contracts.ids.FileIdOrd.TheImpl.Laws as id_laws
 use Rattle.alp_base.specs.KeyLaws.{file_cmp, exact_files as ids_exact}
@@ -31,6 +31,12 @@ exact_files = ids_exact
 cond_twice : {A : Type 0} (b : Bool) (x y z : A) → cond b x (cond b y z) ≡ cond b x z
 cond_twice true x y z = refl
 cond_twice false x y z = refl
+
+-- a put that is refused only where nothing stands is none where something does
+pub put_stood : {K X : Type 0} {R : K → K → Ordering} (m new : map.FinMap R X) (k : K) (d : X) → IsSome (map.get m k) → {A E : Type 0} (r : Result A E) → OnOk r (new ≡ map.insert m k d) → OnErr r (map.get m k ≡ None)
+    → new ≡ map.insert m k d
+put_stood {K} {X} {R} m new k d some (Ok x) ok absent = ok
+put_stood {K} {X} {R} m new k d some (Err e) ok absent = absurd (subst (λ (o : Option X). IsSome o) absent some)
 
 module _ {K X : Type 0} {R : K → K → Ordering} (total : IsTotalOrder R) (exact : CmpEqualImpliesEq R) where
   put_twice : (m : map.FinMap R X) (k : K) (c d : X) → map.insert (map.insert m k c) k d ≡ map.insert m k d
@@ -60,7 +66,7 @@ module _ {K X : Type 0} {R : K → K → Ordering} (total : IsTotalOrder R) (exa
   put_stands m now k c put =
       ap (λ (x : map.FinMap R X). map.get x k) put ∙ get-insert total m k c k ∙ ap (λ (b : Bool). cond b (Some c) (map.get m k)) (at_itself k)
 
-  -- a put that is refused where nothing stands is none where something does
+  -- and so it is behind another put
   pub put_again : (m now new : map.FinMap R X) (k : K) (c d : X) → Some d ≡ map.get m k → now ≡ map.insert m k c
       → {A E : Type 0} (r : Result A E) → OnOk r (new ≡ map.insert now k d) → OnErr r (map.get now k ≡ None) → new ≡ m
   put_again m now new k c d stood put (Ok x) ok absent = ok ∙ put_back m now k c d stood put

@@ -1,5 +1,5 @@
 -- The call that a client's line is for, and the server that it goes to, by what the client knows and what words stand for.
-use Rattle.std.specs.Prelude.{◌≡◌, ℕ, ◌≤◌, Bool, true, false, not, ◌&&◌, List, [], ◌∷◌, replicate, length, Option, None, Some, if◌then◌else◌}
+use Rattle.std.specs.Prelude.{◌≡◌, ℕ, ◌≤◌, Bool, true, false, not, ◌&&◌, replicate, length, Option, None, Some, if◌then◌else◌}
 use Rattle.alp_base.specs.declared.ids.TransId.{TransId}
 use Rattle.alp_base.specs.Pages.{page_of}
 use Rattle.alp_files.specs.declared.call.Call.{Call}
@@ -9,7 +9,7 @@ use Rattle.alp_lines.specs.declared.line.Line.TheVariants as line
 use Rattle.alp_rpc.specs.Calls.{is_run_mode}
 use Rattle.alp_session.specs.Maps.{WordMap}
 use Rattle.alp_session.specs.Props.{new_props}
-use Rattle.alp_session.specs.Clients.{file_of, open_at, is_joined}
+use Rattle.alp_session.specs.Clients.{file_of, open_at, is_joined, first_of}
 use Rattle.alp_session.specs.declared.asking.Asking.{Asking}
 use Rattle.alp_session.specs.declared.asking.Asking.TheVariants as asking
 use Rattle.alp_session.specs.declared.client.Client.{Client}
@@ -61,9 +61,9 @@ call_with words c None l = None
 call_with words c (Some t) l = call_in words c t l
 
 -- the collect of the call that came to wait last, if one waits
-abbrev pub collect_of : List Waiting → Option Call
-collect_of [] = None
-collect_of (w ∷ ws) = Some (call.Collect w.number)
+abbrev pub collect_of : Option Waiting → Option Call
+collect_of None = None
+collect_of (Some w) = Some (call.Collect w.number)
 
 -- what asks how a transaction ended, if there is one
 abbrev pub outcome_of : Option TransId → Option Call
@@ -74,7 +74,7 @@ outcome_of (Some t) = Some (call.Outcome t)
 abbrev pub call_by : WordMap → Client → Line → Option Call
 call_by words c (line.Begin client server) = Some (call.Begin c.told)
 call_by words c (line.Outcome client) = outcome_of c.begun
-call_by words c (line.Collect client) = collect_of c.waiting
+call_by words c (line.Collect client) = collect_of (first_of c.waiting)
 call_by words c l = call_with words c c.trans l
 
 -- ---- where calls go
@@ -83,9 +83,9 @@ abbrev pub home_of : Option TransId → ℕ
 home_of None = 0
 home_of (Some t) = t.server
 
-abbrev pub waits_in : List Waiting → ℕ
-waits_in [] = 0
-waits_in (w ∷ ws) = w.server
+abbrev pub waits_in : Option Waiting → ℕ
+waits_in None = 0
+waits_in (Some w) = w.server
 
 -- The server that a line's call goes to: the one that the line names, or that of its file; that of the transaction for a line that
 -- ends it or asks how it ended; and that of the call which a collect is for. A line without a call has none, which is 0 here.
@@ -107,7 +107,7 @@ server_for words c (line.WriteProps client file change choice) = (file_of words 
 server_for words c (line.Commit client) = home_of c.trans
 server_for words c (line.Abort client) = home_of c.trans
 server_for words c (line.Outcome client) = home_of c.begun
-server_for words c (line.Collect client) = waits_in c.waiting
+server_for words c (line.Collect client) = waits_in (first_of c.waiting)
 server_for words c l = 0
 
 -- ---- what a frame in a session asks

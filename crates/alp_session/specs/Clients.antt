@@ -11,6 +11,7 @@ use Rattle.alp_session.specs.Maps.{WordMap}
 use Rattle.alp_session.specs.declared.meaning.Meaning.{Meaning}
 use Rattle.alp_session.specs.declared.meaning.Meaning.TheVariants as meaning
 use Rattle.alp_session.specs.declared.waiting.Settings.{Settings}
+use Rattle.alp_session.specs.declared.waiting.Waiting.{Waiting}
 use Rattle.alp_session.specs.declared.client.Client.{Client}
 use Rattle.alp_session.specs.declared.frames.Frames.{Frames}
 
@@ -63,3 +64,8 @@ open_at words c file = open_of c (file_of words file)
 abbrev pub is_joined : Option TransId → TransId → Bool
 is_joined None t = false
 is_joined (Some joined) t = same_trans joined t
+
+-- the call that came to wait last, if one waits
+abbrev pub first_of : List Waiting → Option Waiting
+first_of [] = None
+first_of (w ∷ ws) = Some w

@@ -6,7 +6,7 @@ use Rattle.alp_journal.specs.declared.log.Item.{Item}
 use Rattle.alp_lines.specs.declared.line.Line.{Line}
 use Rattle.alp_lines.specs.declared.line.Line.TheVariants as line
 use Rattle.alp_session.specs.Maps.{WordMap}
-use Rattle.alp_session.specs.Clients.{new_client, first_settings}
+use Rattle.alp_session.specs.Clients.{new_client, first_settings, first_of}
 use Rattle.alp_session.specs.Frames.{request_of, frame_of, IsOfFrame}
 use Rattle.alp_session.specs.Heard.{heard, words_heard, begins, words_at, due_in}
 use Rattle.alp_session.specs.Crowd.{Crowd}
@@ -60,7 +60,7 @@ declares c l = c
 
 -- the server at which the client's transaction times out, and the transaction, where this is what a client does next
 abbrev pub times_out : Crowd → ℕ → Next → Option (ℕ × TransId)
-times_out c k next.TimeOut = due_in (client_at c k).waiting (client_at c k).trans
+times_out c k next.TimeOut = due_in (first_of (client_at c k).waiting) (client_at c k).trans
 times_out c k n = None
 
 -- These items are those of a line of the client, behind them this transaction times out at this server, if one does, and that is known

@@ -14,7 +14,7 @@ use Rattle.alp_lines.specs.declared.line.Line.{Line}
 use Rattle.alp_lines.specs.declared.line.Line.TheVariants as line
 use Rattle.alp_session.specs.Maps.{WordMap, SessionMap}
 use Rattle.alp_session.specs.Props.{later}
-use Rattle.alp_session.specs.Clients.{no_file, is_awaited, file_of}
+use Rattle.alp_session.specs.Clients.{no_file, is_awaited, file_of, first_of}
 use Rattle.alp_session.specs.Calls.{asking_for}
 use Rattle.alp_session.specs.Frames.{number_after}
 use Rattle.alp_session.specs.declared.client.Client.{Client}
@@ -127,14 +127,19 @@ awaiting c q p = if is_waiting_at c.waiting q.server then (c, next.Over) else (r
 abbrev pub asked_again : Waiting → Waiting
 asked_again w = record w { asked = min (w.asked + 1) (2 ^ 32 - 1) }
 
--- and that was so many of the call that came to wait last
-abbrev pub asked_once_more : List Waiting → List Waiting × Option ℕ
-asked_once_more [] = ([], None)
-asked_once_more (w ∷ ws) = (asked_again w ∷ ws, Some (asked_again w).asked)
+-- that of the call that came to wait last
+abbrev pub one_more : List Waiting → List Waiting
+one_more [] = []
+one_more (w ∷ ws) = asked_again w ∷ ws
+
+-- and how many those are then
+abbrev pub times_asked : List Waiting → Option ℕ
+times_asked [] = None
+times_asked (w ∷ ws) = Some (asked_again w).asked
 
 -- the transaction of the client whose call waits times out at the server where it does
-abbrev pub due_in : List Waiting → Option TransId → Option (ℕ × TransId)
-due_in (w ∷ ws) (Some t) = Some (w.server, t)
+abbrev pub due_in : Option Waiting → Option TransId → Option (ℕ × TransId)
+due_in (Some w) (Some t) = Some (w.server, t)
 due_in _ _ = None
 
 -- what a client does behind so many collects of one call
@@ -184,14 +189,9 @@ late_reply c server p l _ = c
 abbrev pub collected_reply : Client → ℕ → Purpose → Line → Reply → Client
 collected_reply c server p l r = if is_part p then joined_late c server r else late_reply c server p l r
 
-abbrev pub purpose_in : List Waiting → Purpose
-purpose_in [] = purpose.Nothing
-purpose_in (w ∷ ws) = w.purpose
-
--- the call that came to wait last
-abbrev pub first_of : List Waiting → Option Waiting
-first_of [] = None
-first_of (w ∷ ws) = Some w
+abbrev pub purpose_in : Option Waiting → Purpose
+purpose_in None = purpose.Nothing
+purpose_in (Some w) = w.purpose
 
 -- the calls that wait beside the last that came to wait
 abbrev pub others : List Waiting → List Waiting
@@ -206,15 +206,18 @@ abbrev pub goes_on : Purpose → Reply → Next → Next
 goes_on purpose.Part reply.Joined next.Collect = next.Call
 goes_on p r n = next.Over
 
+abbrev pub patient_behind : Settings → Option ℕ → Next
+patient_behind s None = next.Over
+patient_behind s (Some asked) = patient s asked
+
 -- the call waits on
-abbrev pub waits_on : Settings → Client → List Waiting → Client × Next
-waits_on s c [] = (c, next.Over)
-waits_on s c (w ∷ ws) = (record c { waiting = asked_again w ∷ ws }, patient s (asked_again w).asked)
+abbrev pub waits_on : Settings → Client → Client × Next
+waits_on s c = (record c { waiting = one_more c.waiting }, patient_behind s (times_asked c.waiting))
 
 -- the answer to a collect: the call waits on, or it waits no more
 abbrev pub collected : Client → Sending → Line → Reply → Client × Next
-collected c q l (reply.Refused refusal.NotYet) = waits_on q.settings c c.waiting
-collected c q l r = (without_last (collected_reply c q.server (purpose_in c.waiting) l r), goes_on (purpose_in c.waiting) r q.next)
+collected c q l (reply.Refused refusal.NotYet) = waits_on q.settings c
+collected c q l r = (without_last (collected_reply c q.server (purpose_in (first_of c.waiting)) l r), goes_on (purpose_in (first_of c.waiting)) r q.next)
 
 -- the answer to the call of a line
 abbrev pub called : WordMap → Client → Sending → Line → Reply → Client × Next
@@ -288,7 +291,7 @@ words_late_told words t server p r = words
 
 abbrev pub words_answered : WordMap → Client → ℕ → Line → Asking → Option Reply → WordMap
 words_answered words c server l a None = words
-words_answered words c server l asking.Collect (Some r) = words_late_told words c.trans server (purpose_in c.waiting) r
+words_answered words c server l asking.Collect (Some r) = words_late_told words c.trans server (purpose_in (first_of c.waiting)) r
 words_answered words c server l (asking.Join t) (Some r) = words
 words_answered words c server l asking.Call (Some r) = words_called words c server l r
 

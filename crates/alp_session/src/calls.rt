@@ -123,7 +123,7 @@ fn home_of(trans: Option<TransId>) -> u8
 }
 
 impl Client {
-    ghost use Rattle.alp_session.specs.Clients.{open_of as open_said, open_at as open_at_said};
+    ghost use Rattle.alp_session.specs.Clients.{open_of as open_said, open_at as open_at_said, first_of};
     ghost use Rattle.alp_session.specs.Calls.{props_call as props_call_said, file_call as file_call_said, page_call as page_call_said, call_in as call_in_said, collect_of as collect_said, outcome_of as outcome_said, call_by as call_said, waits_in as waits_in_said, server_for as server_said, IsAskable};
 
     // The open number last given to the client for the file, or 0.
@@ -303,7 +303,7 @@ impl Client {
 
     // The collect of the call that came to wait last, if one waits.
     fn collect(&self) -> Option<Call>
-        ensures { result ≡ collect_said self.now.waiting }
+        ensures { result ≡ collect_said (first_of self.now.waiting) }
     {
         match self.waiting.first() {
             Some(waiting) => Some(Call::Collect {
@@ -350,7 +350,7 @@ impl Client {
 
     // The server of the call that came to wait last.
     fn waits_in(&self) -> u8
-        ensures { result ≡ waits_in_said self.now.waiting }
+        ensures { result ≡ waits_in_said (first_of self.now.waiting) }
     {
         match self.waiting.first() {
             Some(waiting) => waiting.server,

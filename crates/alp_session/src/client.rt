@@ -1,11 +1,11 @@
 //! A client of the script: what it was told, what it sends for a line, and what it makes of a reply.
-ghost use Rattle.std.specs.Prelude.{◌≡◌, false, OnOk, OnErr, IfOk, IfSome, Some};
+ghost use Rattle.std.specs.Prelude.{◌≡◌, ◌∷◌, false, OnOk, OnErr, IfOk, IfSome, Some};
 ghost use Rattle.std.specs.Option.{option_map};
 ghost use Rattle.alp_rpc.specs.Frames.{request, IsSendable};
 ghost use Rattle.alp_session.specs.Props.{later as later_said};
 ghost use Rattle.std.specs.FinMap as map;
 ghost use Rattle.alp_session.specs.Frames.{told_by as told_said};
-ghost use Rattle.alp_session.specs.Heard.{is_not_yet as is_not_yet_said, is_part as is_part_said, goes_on as goes_on_said, purpose_of as purpose_said, purpose_in as purpose_in_said, patient as patient_said};
+ghost use Rattle.alp_session.specs.Heard.{is_not_yet as is_not_yet_said, is_part as is_part_said, goes_on as goes_on_said, purpose_of as purpose_said, purpose_in as purpose_in_said, collects_by_itself, patient as patient_said};
 ghost use Rattle.alp_session.specs.declared.meaning.Meaning.TheVariants as meaning;
 
 use crate::asking::{asking_for, call_asked};
@@ -56,10 +56,11 @@ fn told_by(alloc: Global, handed: &Option<Bytes>) -> Result<Option<Reply>, OutOf
 }
 
 impl Client {
-    ghost use Rattle.alp_session.specs.Clients.{new_client};
+    ghost use Rattle.alp_session.specs.Clients.{new_client, first_of};
+    ghost use Rattle.alp_session.specs.declared.waiting.Purpose.TheVariants as purpose;
     ghost use Rattle.alp_session.specs.Calls.{server_for, asking_for as asking_said, IsAskable};
     ghost use Rattle.alp_session.specs.Frames.{number_after, request_in, request_for, request_of, addressed, frame_of, IsReady};
-    ghost use Rattle.alp_session.specs.Heard.{begins as begins_said, knows_part as knows_part_said, started as started_said, forgets as forgets_said, learned_reply, created as created_said, opened as opened_said, bound, told_refusal, told_end as told_end_said, told_only as told_only_said, left as left_said, greeted as greeted_said, is_waiting_at, due_in, awaiting, is_not_yet, called as called_said, joined_reply as joined_said, joined_late as joined_late_said, opened_late as opened_late_said, late_reply, collected_reply, purpose_in, waits_on as waits_on_said, collected as collected_said, answered as answered_said, counted, heard_own, heard_again as again_said, heard, words_awaiting, words_called, words_late, words_late_told, words_answered, words_in_session, words_heard};
+    ghost use Rattle.alp_session.specs.Heard.{begins as begins_said, knows_part as knows_part_said, started as started_said, forgets as forgets_said, learned_reply, created as created_said, opened as opened_said, bound, told_refusal, told_end as told_end_said, told_only as told_only_said, left as left_said, greeted as greeted_said, is_waiting_at, waiting_for, due_in, awaiting, is_not_yet, part_known as part_known_said, called as called_said, joined_reply as joined_said, joined_late as joined_late_said, opened_late as opened_late_said, late_reply, collected_reply, purpose_in, waits_on as waits_on_said, collected as collected_said, answered as answered_said, counted, heard_own, heard_again as again_said, heard, words_awaiting, words_called, words_late, words_late_told, words_answered, words_in_session, words_heard};
 
     pub fn new(alloc: Global) -> Client
         ensures { result ≡ new_client }
@@ -360,28 +361,33 @@ impl Client {
         Ok(next)
     }
 
-    // The call is to wait, and becomes the one that waits at the server where there is none.
-    fn waits(&mut self, sending: Sending, purpose: Purpose) -> Result<Next, OutOfMemory>
-        ensures client { IfOk result (λ next. (self.new, next) ≡ awaiting self.old sending purpose) }
+    // The call waits from now on.
+    fn comes_to_wait(&mut self, sending: Sending, purpose: Purpose) -> Result<(), OutOfMemory>
+        ensures ok { OnOk result (self.new ≡ record self.old { waiting = waiting_for sending purpose ∷ self.old.waiting }) }
         ensures err { OnErr result (self.new ≡ self.old) }
     {
-        if self.waiting.has(sending.server) {
-            return Ok(Next::Over);
-        }
         self.waiting.put(Waiting {
             server: sending.server,
             number: sending.number,
             purpose,
             asked: 0,
-        })?;
-        Ok(if sending.settings.collects {
-            Next::Collect
-        } else {
-            Next::Over
         })
     }
 
-    // The call of a line is to wait. What it creates is awaited by its word then.
+    // The `Join` is to wait, and becomes the call that waits at the server where there is none.
+    fn join_waits(&mut self, sending: Sending) -> Result<Next, OutOfMemory>
+        ensures client { IfOk result (λ next. (self.new, next) ≡ awaiting self.old sending purpose.Part) }
+        ensures err { OnErr result (self.new ≡ self.old) }
+    {
+        if self.waiting.has(sending.server) {
+            return Ok(Next::Over);
+        }
+        self.comes_to_wait(sending, Purpose::Part)?;
+        Ok(collecting(sending.settings))
+    }
+
+    // The call of a line is to wait, and becomes the one that waits at the server where there is none. What it creates is awaited by its
+    // word then.
     fn call_waits(
         &mut self,
         words: &mut Words,
@@ -394,12 +400,11 @@ impl Client {
         ensures words_err { OnErr result (words.new ≡ words.old) }
     {
         if self.waiting.has(sending.server) {
-            return self.waits(sending, Purpose::Nothing);
+            return Ok(Next::Over);
         }
-        let purpose = purpose_of(words, line);
-        let next = self.waits(sending, purpose)?;
+        self.comes_to_wait(sending, purpose_of(words, line))?;
         match words.awaiting(line, self.trans, sending.server) {
-            Ok(()) => Ok(next),
+            Ok(()) => Ok(collecting(sending.settings)),
             Err(OutOfMemory) => {
                 self.waiting.take();
                 Err(OutOfMemory)
@@ -437,16 +442,23 @@ impl Client {
         ensures client { IfOk result (λ next. (self.new, next) ≡ joined_said self.old sending trans reply.now) }
         ensures err { OnErr result (self.new ≡ self.old) }
     {
-        match reply {
-            Reply::Joined => {
-                self.knows_part(sending.server, trans);
-                Ok(Next::Call)
-            }
-            Reply::Refused(Refusal::NotYet) => self.waits(sending, Purpose::Part),
-            _ => {
-                self.told_only(sending.server, reply);
-                Ok(Next::Over)
-            }
+        if is_not_yet(reply) {
+            return self.join_waits(sending);
+        }
+        if let Reply::Joined = reply {
+            self.knows_part(sending.server, trans);
+            return Ok(Next::Call);
+        }
+        self.told_only(sending.server, reply);
+        Ok(Next::Over)
+    }
+
+    // The client knows of a part of its transaction at the server, if it has one.
+    fn part_known(&mut self, server: u8)
+        ensures { self.new ≡ part_known_said self.old server self.old.trans }
+    {
+        if let Some(trans) = self.trans {
+            self.knows_part(server, trans);
         }
     }
 
@@ -454,11 +466,11 @@ impl Client {
     fn joined_late(&mut self, server: u8, reply: &Reply)
         ensures { self.new ≡ joined_late_said self.old server reply.now }
     {
-        match (reply, self.trans) {
-            (Reply::Joined, Some(trans)) => self.knows_part(server, trans),
-            (Reply::Joined, None) => {}
-            _ => self.told_only(server, reply),
+        if let Reply::Joined = reply {
+            self.part_known(server);
+            return;
         }
+        self.told_only(server, reply);
     }
 
     // A file that a call created which waited: its id is bound to the word that awaits it, and its open number is kept.
@@ -525,6 +537,7 @@ impl Client {
     }
 
     // What the reply of a call that waited tells.
+    #[tactic(auto, using(crate::proofs::WaitLemmas::part_binds_nothing))]
     fn learn_collected(
         &mut self,
         words: &mut Words,
@@ -547,7 +560,7 @@ impl Client {
 
     // The call waits on.
     fn waits_on(&mut self, settings: Settings) -> Next
-        ensures { (self.new, result) ≡ waits_on_said settings self.old self.old.waiting }
+        ensures { (self.new, result) ≡ waits_on_said settings self.old }
     {
         match self.waiting.ask_again() {
             Some(asked) => patient(settings, asked),
@@ -564,14 +577,14 @@ impl Client {
         reply: &Reply,
     ) -> Result<Next, OutOfMemory>
         ensures client { IfOk result (λ next. (self.new, next) ≡ collected_said self.old sending line.now reply.now) }
-        ensures words { OnOk result (words.new ≡ words_late_told words.old self.old.trans sending.server (purpose_in self.old.waiting) reply.now) }
+        ensures words { OnOk result (words.new ≡ words_late_told words.old self.old.trans sending.server (purpose_in (first_of self.old.waiting)) reply.now) }
         ensures err { OnErr result (self.new ≡ self.old) }
         ensures words_err { OnErr result (words.new ≡ words.old) }
     {
         if is_not_yet(reply) {
             return Ok(self.waits_on(sending.settings));
         }
-        let purpose = purpose_in(&self.waiting);
+        let purpose = purpose_in(self.waiting.first());
         self.learn_collected(words, sending.server, purpose, line, reply)?;
         self.waiting.take();
         Ok(goes_on(purpose, reply, sending.next))
@@ -603,7 +616,7 @@ impl Client {
 
     /// The server of the call that came to wait last, at which the transaction times out, and the transaction.
     pub fn due(&self) -> Option<(u8, TransId)>
-        ensures { result ≡ due_in self.now.waiting self.now.trans }
+        ensures { result ≡ due_in (first_of self.now.waiting) self.now.trans }
     {
         match (self.waiting.first(), self.trans) {
             (Some(waiting), Some(trans)) => Some((waiting.server, trans)),
@@ -731,13 +744,24 @@ fn purpose_of(words: &Words, line: &Line) -> Purpose
     }
 }
 
-// What the answer to the call that came to wait last is good for.
-fn purpose_in(waiting: &Waits) -> Purpose
-    ensures { result ≡ purpose_in_said waiting.now }
+// What the answer to a call that waits is good for.
+fn purpose_in(waiting: Option<Waiting>) -> Purpose
+    ensures { result ≡ purpose_in_said waiting }
 {
-    match waiting.first() {
+    match waiting {
         Some(waiting) => waiting.purpose,
         None => Purpose::Nothing,
+    }
+}
+
+// What a client does next whose call is to wait.
+fn collecting(settings: Settings) -> Next
+    ensures { result ≡ collects_by_itself settings.collects }
+{
+    if settings.collects {
+        Next::Collect
+    } else {
+        Next::Over
     }
 }
 

@@ -1,5 +1,5 @@
 //! The sessions of a client, at most one at each server.
-ghost use Rattle.std.specs.Prelude.{◌≡◌, OnOk, OnErr, IsSome, Some};
+ghost use Rattle.std.specs.Prelude.{◌≡◌, OnOk, OnErr, IsSome, None, Some};
 ghost use Rattle.std.specs.FinMap as map;
 ghost use Rattle.alp_session.specs.Maps.{SessionMap as ASessionMap};
 ghost use Rattle.alp_session.specs.declared.greeted.Greeted.{Greeted as AGreeted};
@@ -49,6 +49,7 @@ impl Sessions {
     pub fn put(&mut self, server: u8, greeted: Greeted) -> Result<(), OutOfMemory>
         ensures ok { OnOk result (self.new ≡ map.insert self.old server greeted) }
         ensures err { OnErr result (self.new ≡ self.old) }
+        ensures absent { OnErr result (map.get self.old server ≡ None) }
     {
         self.greeted.insert(server, greeted)?;
         Ok(())
@@ -59,14 +60,14 @@ impl Sessions {
         requires { IsSome (map.get self.old server) }
         ensures { self.new ≡ map.insert self.old server greeted }
     {
-        let _ = self.greeted.insert(server, greeted);
+        let _ = self.put(server, greeted);
     }
 
     /// The session is again what it was before it was updated.
     pub fn restore(&mut self, server: u8, greeted: Greeted)
         ensures { (m : ASessionMap) (now : AGreeted) → Some greeted ≡ map.get m server → self.old ≡ map.insert m server now → self.new ≡ m }
     {
-        let _ = self.greeted.insert(server, greeted);
+        let _ = self.put(server, greeted);
     }
 
     /// The client has no session at the server.

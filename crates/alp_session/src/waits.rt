@@ -1,7 +1,7 @@
 //! The calls of a client that wait.
 ghost use Rattle.std.specs.Prelude.{◌≡◌, ◌∷◌, [], OnOk, OnErr};
-ghost use Rattle.std.specs.Option.{option_copied as copied};
-ghost use Rattle.alp_session.specs.Heard.{is_waiting_at, others, first_of, asked_once_more};
+ghost use Rattle.alp_session.specs.Clients.{first_of};
+ghost use Rattle.alp_session.specs.Heard.{is_waiting_at, others, one_more, times_asked};
 
 use crate::Waiting;
 use alp_base::OutOfMemory;
@@ -40,10 +40,11 @@ impl Waits {
     }
 
     /// The call that came to wait last.
-    pub fn first(&self) -> Option<&Waiting>
-        ensures { copied result ≡ first_of self.now }
+    #[tactic(auto, using(crate::proofs::WaitLemmas::first_got))]
+    pub fn first(&self) -> Option<Waiting>
+        ensures { result ≡ first_of self.now }
     {
-        self.calls.first()
+        self.calls.first().copied()
     }
 
     /// A call waits from now on.
@@ -56,6 +57,7 @@ impl Waits {
     }
 
     /// The call that came to wait last waits no more.
+    #[tactic(auto, using(crate::proofs::WaitLemmas::{behind_first, none_behind}))]
     pub fn take(&mut self)
         ensures { self.new ≡ others self.old }
     {
@@ -66,13 +68,20 @@ impl Waits {
 
     /// One collect more of that call was answered that it waits. Gives how many were.
     pub fn ask_again(&mut self) -> Option<u32>
-        ensures { (self.new, result) ≡ asked_once_more self.old }
+        ensures calls { self.new ≡ one_more self.old }
+        ensures count { result ≡ times_asked self.old }
     {
         if self.calls.is_empty() {
             return None;
         }
-        let asked = self.calls[0].asked.saturating_add(1);
-        self.calls[0].asked = asked;
+        let first = self.calls[0];
+        let asked = first.asked.saturating_add(1);
+        self.calls[0] = Waiting {
+            server: first.server,
+            number: first.number,
+            purpose: first.purpose,
+            asked,
+        };
         Some(asked)
     }
 
