@@ -3,3 +3,4 @@ pub mod WaitLemmas
 pub mod CrowdLemmas
 pub mod CallLemmas
 pub mod FrameLemmas
+pub mod AheadLemmas

@@ -4,5 +4,6 @@ pub mod Clients
 pub mod Calls
 pub mod Frames
 pub mod Heard
+pub mod Ahead
 pub mod Crowd
 pub mod Crowds
