@@ -132,7 +132,7 @@ same_servers k x t e same = same ∙ ap (λ (y : Known). y.servers) e
 pub servers_after : (k t : Known) (l : Line) → IsForm l → has_servers k ≡ true → after k l ≡ Some t → k.servers ≡ t.servers
 unfolding after after_servers after_setting after_timeout after_volume after_client after_file
 servers_after k t l (form.servers count) declared h =
-    let none : not (has_servers k) ≡ true = (and_parts (not (has_servers k)) _ (and_parts (not (has_servers k) && nat_le 1 count) _ (tested _ _ t h).0).0).0 in
+    let none : not (has_servers k) ≡ true = (and_parts (not (has_servers k)) _ (tested _ _ t h).0).0 in
     absurd (no_both (has_servers k) declared none)
 servers_after k t l (form.volume server home area limits) declared h = same_servers k _ t ((tested _ _ t h).1) refl
 servers_after k t l (form.client number name) declared h = same_servers k _ t ((tested _ _ t h).1) refl

@@ -57,7 +57,7 @@ is_bound servers words (file_word.Id id) = is_server servers (Some id.server)
 
 -- the servers are declared first and once, and there are 1 to 8
 unfoldable pub after_servers : Known → ℕ → Option Known
-after_servers k count = when (not (has_servers k) && nat_le 1 count && nat_le count SERVERS) (record k { servers = count })
+after_servers k count = when (not (has_servers k) && is_server SERVERS (Some count)) (record k { servers = count })
 
 -- a setting, or what happens at a server, stands anywhere behind the servers
 unfoldable pub after_setting : Known → Option Known

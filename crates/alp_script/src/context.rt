@@ -103,7 +103,8 @@ impl Context {
     fn take_servers(&mut self, count: u8) -> Result<(), LineFault>
         ensures { TellsBy (λ _. self.new) result (after_servers self.old count) }
     {
-        if self.has_servers() || count < 1 || SERVERS < count {
+        let within = is_server(SERVERS, Some(count));
+        if self.has_servers() || !within {
             return Err(LineFault::Outside);
         }
         self.servers = count;

@@ -3,7 +3,10 @@ use Rattle.std.specs.Prelude.{Bool, true, false, cond, not, nat_le, ◌&&◌, �
 use Rattle.std.specs.Option.{option_map}
 use Rattle.std.specs.FinMap as map
 use Rattle.std.specs.Cmp.{nat_cmp_total}
-use Rattle.std.specs.FinMap.{nat_cmp-IsAntisymmetric}
+use Rattle.std.specs.FinMap.{nat_cmp-IsAntisymmetric, get-insert}
+use Rattle.std.specs.Ordering.{nat_cmp, is_eq}
+use Rattle.std.specs.declared.cmp.Ordering.{Ordering}
+use Rattle.std.specs.declared.cmp.Ordering.TheVariants.{Less, Equal, Greater}
 use Rattle.std.proofs.Common.{◌≡◌, ℕ, ◌+◌, ◌<◌, ◌≤◌, length, refl, sym, ◌∙◌, ap, subst, arith}
 use Rattle.std.proofs.lemmas.Bool.{and_parts}
 use Rattle.std.proofs.lemmas.Option.{same_Some}
@@ -21,7 +24,7 @@ use Rattle.alp_session.specs.Maps.{WordMap, SessionMap}
 use Rattle.alp_session.specs.Clients.{is_joined, first_of}
 use Rattle.alp_session.specs.Calls.{home_of, waits_in, server_for, needs_part, is_collect, asking_of, asking_for}
 use Rattle.alp_session.specs.Frames.{number_after, request_for, addressed, mark_of}
-use Rattle.alp_session.specs.Heard.{joined_in, knows_part, greeted, purpose_of, collects_by_itself, is_waiting_at, waiting_for, awaiting, patient_behind, joined_reply, is_part, part_known, collected_reply, purpose_in, without_last, one_more, times_asked, goes_on, collected, called, answered, counted, heard_own, heard, keeps, words_late_told, words_called, words_answered, words_in_session, words_heard}
+use Rattle.alp_session.specs.Heard.{joined_in, knows_part, greeted, purpose_of, collects_by_itself, is_waiting_at, waiting_for, awaiting, patient_behind, joined_reply, is_part, part_known, collected_reply, purpose_in, without_last, one_more, times_asked, goes_on, collected, called, answered, counted_in, counted, sending_in, heard_own, heard, keeps, words_late_told, words_called, words_answered, words_in_session, words_heard}
 use Rattle.alp_session.specs.Ahead.{greeting_ahead, joined_at, asked_ahead, call_ahead, collect_ahead, ahead, IsOnItsWay, frame_next, Fewer}
 use Rattle.alp_session.specs.Crowd.{Crowd}
 use Rattle.alp_session.specs.Crowds.{client_at, asks, hears}
@@ -180,7 +183,7 @@ joined_fewer words c q t l g there at is needs reply.Joined =
     (tt, omega (arith, here))
 joined_fewer words c q t l g there at is needs (reply.Refused refusal.NotYet) =
     let d : Client = record c { waiting = waiting_for q purpose.Part ∷ c.waiting } in
-    awaiting_fewer words c q purpose.Part l 4 g there (λ _. (at ∙ same_there words c d l needs, subst (λ (o : Option TransId). IsSome o) (sym is) tt, needs)) (omega arith)
+    awaiting_fewer words c q purpose.Part l 4 g there (λ _. (at ∙ same_there words c d l needs, subst (λ (o : Option TransId). IsSome o) (sym is) refl, needs)) (omega arith)
 joined_fewer words c q t l g there at is needs r = (tt, omega arith)
 
 called_fewer : (words after : WordMap) (c : Client) (q : Sending) (l : Line) (g : Greeted) → map.get c.sessions q.server ≡ Some g → (r : Reply) → Fewer after l 2 (called words c q l r)
@@ -202,7 +205,7 @@ collected_call words c q l m some is r =
     (ap (goes_on (purpose_in (first_of c.waiting)) r) is ∙ goes_call (purpose_in (first_of c.waiting)) r)
 
 trans_of : (o : Option TransId) → IsSome o → (t : TransId) × (o ≡ Some t)
-trans_of None some = absurd some
+trans_of None some = cc
 trans_of (Some t) some = (t, refl)
 
 -- behind the collect of a `Join` in its line
@@ -236,39 +239,63 @@ collected_fewer words c q l g there is way r =
 
 -- ---- in a session
 
--- the session has come to its next number
-abbrev next_in : Greeted → Greeted
-next_in g = record g { last = number_after g.last }
-
-abbrev sending_in : ℕ → Greeted → Next → Settings → Sending
-sending_in server g n s = record { server = server; number = number_after g.last; next = n; settings = s }
-
-answered_call : (words : WordMap) (s : Settings) (c : Client) (server : ℕ) (g : Greeted) (l : Line) → server ≡ server_for words c l → (a : Asking) → asking_for g.joined c.trans l next.Call ≡ a
-    → (r : Option Reply) → Fewer (words_answered words c server l a r) l (0 + asked_ahead a) (answered words (counted c server g) (sending_in server g next.Call s) l a r)
-answered_call words s c server g l at a is None = (tt, omega (arith, asked_some a))
-answered_call words s c server g l at asking.Collect is (Some r) =
-    collected_call (words_late_told words c.trans server (purpose_in (first_of c.waiting)) r) (counted c server g) (sending_in server g next.Call s) l 1 (omega arith) refl r
-answered_call words s c server g l at (asking.Join t) is (Some r) =
+answered_call : (words : WordMap) (s : Settings) (c : Client) (server : ℕ) (g : Greeted) (l : Line) → map.get c.sessions server ≡ Some g → server ≡ server_for words c l → (a : Asking)
+    → asking_for g.joined c.trans l next.Call ≡ a → (r : Option Reply) → Fewer (words_answered words c server l a r) l (0 + asked_ahead a) (answered words c (sending_in server g next.Call s) l a r)
+answered_call words s c server g l there at a is None = (tt, omega (arith, asked_some a))
+answered_call words s c server g l there at asking.Collect is (Some r) =
+    collected_call (words_late_told words c.trans server (purpose_in (first_of c.waiting)) r) c (sending_in server g next.Call s) l 1 (omega arith) refl r
+answered_call words s c server g l there at (asking.Join t) is (Some r) =
     let means = join_means g.joined c.trans l t is in
-    joined_fewer words (counted c server g) (sending_in server g next.Call s) t l (next_in g) (put_got c.sessions server (next_in g)) (at ∙ same_there words c (counted c server g) l means.1) means.0 means.1 r
-answered_call words s c server g l at asking.Call is (Some r) =
-    called_fewer words (words_called words c server l r) (counted c server g) (sending_in server g next.Call s) l (next_in g) (put_got c.sessions server (next_in g)) r
+    joined_fewer words c (sending_in server g next.Call s) t l g there at means.0 means.1 r
+answered_call words s c server g l there at asking.Call is (Some r) =
+    called_fewer words (words_called words c server l r) c (sending_in server g next.Call s) l g there r
 
-own_call : (words : WordMap) (s : Settings) (c : Client) (server : ℕ) (l : Line) → server ≡ server_for words c l → (o : Option Greeted) → (r : Option Reply)
+-- what is ahead hangs on whether there is a session, and what it joined
+abbrev seen : Option Greeted → ℕ × Option TransId
+seen o = (greeting_ahead o, joined_at o)
+
+-- and not on its number
+counted_seen : (m : SessionMap) (server number s : ℕ) (o : Option Greeted) → map.get m server ≡ o → seen (map.get (counted_in m server number o) s) ≡ seen (map.get m s)
+counted_seen m server number s None there = refl
+counted_seen m server number s (Some g) there = ap seen (get-insert nat_cmp_total m server (record g { last = number }) s) ∙ go (nat_cmp s server) refl
+  where
+    go : (o : Ordering) → nat_cmp s server ≡ o → seen (cond (is_eq o) (Some (record g { last = number })) (map.get m s)) ≡ seen (map.get m s)
+    go Equal e = sym (ap seen (ap (map.get m) (nat_cmp-IsAntisymmetric s server e) ∙ there))
+    go Less e = refl
+    go Greater e = refl
+
+counted_fewer : (words : WordMap) (l : Line) (m : ℕ) (d : Client) (n : Next) (server number : ℕ) → Fewer words l m (d, n) → Fewer words l m (counted d server number, n)
+counted_fewer words l m d next.Call server number h =
+    let e : Client = counted d server number in
+    let same : ahead words e l next.Call ≡ ahead words d l next.Call =
+    ap (λ (s : ℕ). call_ahead d l (map.get e.sessions s)) (same_server words e d l refl refl refl)
+    ∙ ap (λ (p : ℕ × Option TransId). p.0 + asked_ahead (asking_for p.1 d.trans l next.Call)) (counted_seen d.sessions server number (server_for words d l) (map.get d.sessions server) refl) in
+    (tt, omega (arith, h.1, same))
+counted_fewer words l m d next.Collect server number h =
+    let e : Client = counted d server number in
+    let same : ahead words e l next.Collect ≡ ahead words d l next.Collect =
+    ap (λ (p : ℕ × Option TransId). p.0 + cond (is_part (purpose_in (first_of d.waiting))) 3 1) (counted_seen d.sessions server number (waits_in (first_of d.waiting)) (map.get d.sessions server) refl) in
+    ((λ p. let w = h.0 p in (w.0 ∙ same_there words d e l w.2, w.1, w.2)), omega (arith, h.1, same))
+counted_fewer words l m d next.TimeOut server number h = (tt, h.1)
+counted_fewer words l m d next.Over server number h = (tt, h.1)
+
+own_call : (words : WordMap) (s : Settings) (c : Client) (server : ℕ) (l : Line) → server ≡ server_for words c l → (o : Option Greeted) → map.get c.sessions server ≡ o → (r : Option Reply)
     → Fewer (words_in_session words c server o l next.Call r) l (call_ahead c l o) (heard_own words s c server o l next.Call r)
-own_call words s c server l at None r = greeted_fewer words c server l at r
-own_call words s c server l at (Some g) r = answered_call words s c server g l at (asking_for g.joined c.trans l next.Call) refl r
+own_call words s c server l at None there r = greeted_fewer words c server l at r
+own_call words s c server l at (Some g) there r =
+    let h : Client × Next = answered words c (sending_in server g next.Call s) l (asking_for g.joined c.trans l next.Call) r in
+    counted_fewer (words_answered words c server l (asking_for g.joined c.trans l next.Call) r) l (0 + asked_ahead (asking_for g.joined c.trans l next.Call)) h.0 h.1 server (number_after g.last)
+    (answered_call words s c server g l there at (asking_for g.joined c.trans l next.Call) refl r)
 
 -- at the collect
-answered_collect : (words : WordMap) (s : Settings) (c : Client) (server : ℕ) (g : Greeted) (l : Line) → server ≡ waits_in (first_of c.waiting) → IsOnItsWay words c l next.Collect
-    → (a : Asking) → a ≡ asking.Collect → (r : Option Reply)
-    → Fewer (words_answered words c server l a r) l (0 + cond (is_part (purpose_in (first_of c.waiting))) 3 1) (answered words (counted c server g) (sending_in server g next.Collect s) l a r)
-answered_collect words s c server g l at way a is None = (tt, omega (arith, one_few (is_part (purpose_in (first_of c.waiting)))))
-answered_collect words s c server g l at way asking.Collect is (Some r) =
-    collected_fewer words (counted c server g) (sending_in server g next.Collect s) l (next_in g) (put_got c.sessions server (next_in g)) refl
-    (λ h. let w = way h in (at ∙ w.0 ∙ same_there words c (counted c server g) l w.2, w.1, w.2)) r
-answered_collect words s c server g l at way (asking.Join t) is (Some r) = cc
-answered_collect words s c server g l at way asking.Call is (Some r) = cc
+answered_collect : (words : WordMap) (s : Settings) (c : Client) (server : ℕ) (g : Greeted) (l : Line) → map.get c.sessions server ≡ Some g → server ≡ waits_in (first_of c.waiting)
+    → IsOnItsWay words c l next.Collect → (a : Asking) → a ≡ asking.Collect → (r : Option Reply)
+    → Fewer (words_answered words c server l a r) l (0 + cond (is_part (purpose_in (first_of c.waiting))) 3 1) (answered words c (sending_in server g next.Collect s) l a r)
+answered_collect words s c server g l there at way a is None = (tt, omega (arith, one_few (is_part (purpose_in (first_of c.waiting)))))
+answered_collect words s c server g l there at way asking.Collect is (Some r) =
+    collected_fewer words c (sending_in server g next.Collect s) l g there refl (λ h. let w = way h in (at ∙ w.0, w.1, w.2)) r
+answered_collect words s c server g l there at way (asking.Join t) is (Some r) = cc
+answered_collect words s c server g l there at way asking.Call is (Some r) = cc
 
 greeted_collect : (words : WordMap) (c : Client) (server : ℕ) (l : Line) → server ≡ waits_in (first_of c.waiting) → IsOnItsWay words c l next.Collect → (r : Option Reply)
     → Fewer words l (collect_ahead None (purpose_in (first_of c.waiting))) (greeted c server next.Collect r)
@@ -282,10 +309,14 @@ greeted_collect words c server l at way (Some (reply.Welcome epoch)) =
     ((λ h. let w = way h in (w.0 ∙ same_there words c d l w.2, w.1, w.2)), omega (arith, here))
 greeted_collect words c server l at way (Some r) = (tt, omega arith)
 
-own_collect : (words : WordMap) (s : Settings) (c : Client) (server : ℕ) (l : Line) → server ≡ waits_in (first_of c.waiting) → IsOnItsWay words c l next.Collect → (o : Option Greeted) → (r : Option Reply)
+own_collect : (words : WordMap) (s : Settings) (c : Client) (server : ℕ) (l : Line) → server ≡ waits_in (first_of c.waiting) → IsOnItsWay words c l next.Collect → (o : Option Greeted)
+    → map.get c.sessions server ≡ o → (r : Option Reply)
     → Fewer (words_in_session words c server o l next.Collect r) l (collect_ahead o (purpose_in (first_of c.waiting))) (heard_own words s c server o l next.Collect r)
-own_collect words s c server l at way None r = greeted_collect words c server l at way r
-own_collect words s c server l at way (Some g) r = answered_collect words s c server g l at way (asking_for g.joined c.trans l next.Collect) (asks_collect g.joined c.trans l) r
+own_collect words s c server l at way None there r = greeted_collect words c server l at way r
+own_collect words s c server l at way (Some g) there r =
+    let h : Client × Next = answered words c (sending_in server g next.Collect s) l (asking_for g.joined c.trans l next.Collect) r in
+    counted_fewer (words_answered words c server l (asking_for g.joined c.trans l next.Collect) r) l (0 + cond (is_part (purpose_in (first_of c.waiting))) 3 1) h.0 h.1 server (number_after g.last)
+    (answered_collect words s c server g l there at way (asking_for g.joined c.trans l next.Collect) (asks_collect g.joined c.trans l) r)
 
 -- ---- and so for each line
 
@@ -325,10 +356,10 @@ heard_at : (words : WordMap) (s : Settings) (k : ℕ) (c : Client) (l : Line) (n
     → Fewer (words_in_session words c frame.server (map.get c.sessions frame.server) l n r) l (ahead words c l n) (heard_own words s c frame.server (map.get c.sessions frame.server) l n r)
 heard_at words s k c l next.Call frame r way at some =
     subst (λ (m : ℕ). Fewer (words_in_session words c frame.server (map.get c.sessions frame.server) l next.Call r) l m (heard_own words s c frame.server (map.get c.sessions frame.server) l next.Call r))
-    (ap (λ (s : ℕ). call_ahead c l (map.get c.sessions s)) at) (own_call words s c frame.server l at (map.get c.sessions frame.server) r)
+    (ap (λ (s : ℕ). call_ahead c l (map.get c.sessions s)) at) (own_call words s c frame.server l at (map.get c.sessions frame.server) refl r)
 heard_at words s k c l next.Collect frame r way at some =
     subst (λ (m : ℕ). Fewer (words_in_session words c frame.server (map.get c.sessions frame.server) l next.Collect r) l m (heard_own words s c frame.server (map.get c.sessions frame.server) l next.Collect r))
-    (ap (λ (s : ℕ). collect_ahead (map.get c.sessions s) (purpose_in (first_of c.waiting))) at) (own_collect words s c frame.server l at way (map.get c.sessions frame.server) r)
+    (ap (λ (s : ℕ). collect_ahead (map.get c.sessions s) (purpose_in (first_of c.waiting))) at) (own_collect words s c frame.server l at way (map.get c.sessions frame.server) refl r)
 heard_at words s k c l next.TimeOut frame r way at some = absurd (omega (arith, some))
 heard_at words s k c l next.Over frame r way at some = absurd (omega (arith, some))
 

@@ -26,7 +26,7 @@ use Rattle.alp_session.specs.Maps.{WordMap}
 use Rattle.alp_session.specs.Clients.{first_of}
 use Rattle.alp_session.specs.Calls.{call_by, server_for, asking_for}
 use Rattle.alp_session.specs.Frames.{number_after, request_in, request_of, addressed, frame_of, mark_of, told_by, read_as, sent_by, IsRequestOf, KeepsRequests}
-use Rattle.alp_session.specs.Heard.{left, told_refusal, told_only, started, created, opened, told_end, learned_reply, greeted, is_waiting_at, waiting_for, collects_by_itself, purpose_of, awaiting, called, joined_reply, is_part, part_known, joined_late, opened_late, late_reply, collected_reply, purpose_in, collected, answered, counted, heard_own, heard_again, keeps, heard}
+use Rattle.alp_session.specs.Heard.{left, told_refusal, told_only, started, created, opened, told_end, learned_reply, greeted, is_waiting_at, waiting_for, collects_by_itself, purpose_of, awaiting, called, joined_reply, is_part, part_known, joined_late, opened_late, late_reply, collected_reply, purpose_in, collected, answered, sending_in, heard_own, heard_again, keeps, heard}
 use Rattle.alp_session.specs.declared.asking.Asking.{Asking}
 use Rattle.alp_session.specs.declared.asking.Asking.TheVariants as asking
 use Rattle.alp_session.specs.declared.asking.Sending.{Sending}
@@ -191,8 +191,7 @@ answered_stays words c q l asking.Call (Some r) = called_stays words c q l r
 
 pub own_stays : (words : WordMap) (s : Settings) (c : Client) (server : ℕ) (o : Option Greeted) (l : Line) (n : Next) (r : Option Reply) → (heard_own words s c server o l n r).0.frames ≡ c.frames
 own_stays words s c server None l n r = greeted_stays c server n r
-own_stays words s c server (Some g) l n r =
-    answered_stays words (counted c server g) (record { server = server; number = number_after g.last; next = n; settings = s }) l (asking_for g.joined c.trans l n) r
+own_stays words s c server (Some g) l n r = answered_stays words c (sending_in server g n s) l (asking_for g.joined c.trans l n) r
 
 pub kept_as : (k : ℕ) (c d : Client) → d.frames ≡ c.frames → KeepsRequests k c → KeepsRequests k d
 kept_as k c d same kept = record {

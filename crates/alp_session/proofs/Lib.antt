@@ -4,3 +4,4 @@ pub mod CrowdLemmas
 pub mod CallLemmas
 pub mod FrameLemmas
 pub mod AheadLemmas
+pub mod OursLemmas

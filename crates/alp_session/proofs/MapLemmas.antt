@@ -36,7 +36,7 @@ cond_twice false x y z = refl
 pub put_stood : {K X : Type 0} {R : K → K → Ordering} (m new : map.FinMap R X) (k : K) (d : X) → IsSome (map.get m k) → {A E : Type 0} (r : Result A E) → OnOk r (new ≡ map.insert m k d) → OnErr r (map.get m k ≡ None)
     → new ≡ map.insert m k d
 put_stood {K} {X} {R} m new k d some (Ok x) ok absent = ok
-put_stood {K} {X} {R} m new k d some (Err e) ok absent = absurd (subst (λ (o : Option X). IsSome o) absent some)
+put_stood {K} {X} {R} m new k d some (Err e) ok absent = let wrong : false ≡ true = subst (λ (o : Option X). IsSome o) absent some in cc
 
 module _ {K X : Type 0} {R : K → K → Ordering} (total : IsTotalOrder R) (exact : CmpEqualImpliesEq R) where
   put_twice : (m : map.FinMap R X) (k : K) (c d : X) → map.insert (map.insert m k c) k d ≡ map.insert m k d

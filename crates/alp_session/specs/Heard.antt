@@ -231,15 +231,24 @@ answered words c q l asking.Collect (Some r) = collected c q l r
 answered words c q l (asking.Join t) (Some r) = joined_reply c q t r
 answered words c q l asking.Call (Some r) = called words c q l r
 
--- the session has come to its next number
-abbrev pub counted : Client → ℕ → Greeted → Client
-counted c server g = record c { sessions = map.insert c.sessions server (record g { last = number_after g.last }) }
+-- the session at the server, where it stands still, has come to this number
+abbrev pub counted_in : SessionMap → ℕ → ℕ → Option Greeted → SessionMap
+counted_in sessions server number None = sessions
+counted_in sessions server number (Some g) = map.insert sessions server (record g { last = number })
+
+abbrev pub counted : Client → ℕ → ℕ → Client
+counted c server number = record c { sessions = counted_in c.sessions server number (map.get c.sessions server) }
+
+-- where a frame of a session was sent, and under which number
+abbrev pub sending_in : ℕ → Greeted → Next → Settings → Sending
+sending_in server g n s = record { server = server; number = number_after g.last; next = n; settings = s }
 
 -- what the client knows after the reply to the frame of its own line, and what it does next
 abbrev pub heard_own : WordMap → Settings → Client → ℕ → Option Greeted → Line → Next → Option Reply → Client × Next
 heard_own words s c server None l n r = greeted c server n r
 heard_own words s c server (Some g) l n r =
-    answered words (counted c server g) (record { server = server; number = number_after g.last; next = n; settings = s }) l (asking_for g.joined c.trans l n) r
+    let h : Client × Next = answered words c (sending_in server g n s) l (asking_for g.joined c.trans l n) r in
+    (counted h.0 server (number_after g.last), h.1)
 
 abbrev pub heard_again : Client → ℕ → Option Reply → Client
 heard_again c server None = c

@@ -7,3 +7,4 @@ pub mod Heard
 pub mod Ahead
 pub mod Crowd
 pub mod Crowds
+pub mod Ours

@@ -633,38 +633,41 @@ impl Client {
         }
     }
 
+    // The session at the server, where it stands still, has come to this number.
+    fn counts(&mut self, server: u8, number: u32)
+        ensures { self.new ≡ counted self.old server number }
+    {
+        let Some(greeted) = self.sessions.get(server) else {
+            return;
+        };
+        self.sessions.update(
+            server,
+            Greeted {
+                epoch: greeted.epoch,
+                last: number,
+                joined: greeted.joined,
+            },
+        );
+    }
+
     // The reply to a frame of the client's own line, in the session there.
     fn hears_in(
         &mut self,
         words: &mut Words,
         sending: Sending,
-        greeted: Greeted,
+        joined: Option<TransId>,
         line: &Line,
         told: &Option<Reply>,
     ) -> Result<Next, OutOfMemory>
-        requires session { map.get self.old.sessions sending.server ≡ Some greeted }
-        requires number { sending.number ≡ number_after greeted.last }
-        ensures client { IfOk result (λ after. (self.new, after) ≡ answered_said words.old (counted self.old sending.server greeted) sending line.now (asking_said greeted.joined self.old.trans line.now sending.next) told.now) }
-        ensures words { OnOk result (words.new ≡ words_answered words.old self.old sending.server line.now (asking_said greeted.joined self.old.trans line.now sending.next) told.now) }
+        ensures client { IfOk result (λ after. (self.new, after) ≡ (counted (answered_said words.old self.old sending line.now (asking_said joined self.old.trans line.now sending.next) told.now).0 sending.server sending.number, (answered_said words.old self.old sending line.now (asking_said joined self.old.trans line.now sending.next) told.now).1)) }
+        ensures words { OnOk result (words.new ≡ words_answered words.old self.old sending.server line.now (asking_said joined self.old.trans line.now sending.next) told.now) }
         ensures err { OnErr result (self.new ≡ self.old) }
         ensures words_err { OnErr result (words.new ≡ words.old) }
     {
-        let asking = asking_for(greeted.joined, self.trans, line, sending.next);
-        self.sessions.update(
-            sending.server,
-            Greeted {
-                epoch: greeted.epoch,
-                last: sending.number,
-                joined: greeted.joined,
-            },
-        );
-        match self.answered(words, sending, line, asking, told) {
-            Ok(after) => Ok(after),
-            Err(OutOfMemory) => {
-                self.sessions.restore(sending.server, greeted);
-                Err(OutOfMemory)
-            }
-        }
+        let asking = asking_for(joined, self.trans, line, sending.next);
+        let after = self.answered(words, sending, line, asking, told)?;
+        self.counts(sending.server, sending.number);
+        Ok(after)
     }
 
     // The reply to a frame of the client's own line.
@@ -691,7 +694,7 @@ impl Client {
             next,
             settings,
         };
-        self.hears_in(words, sending, greeted, line, told)
+        self.hears_in(words, sending, greeted.joined, line, told)
     }
 
     /// What the client makes of the bytes that it is handed for a frame that it sent for a line. Gives what it does next for it.

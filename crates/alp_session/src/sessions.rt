@@ -1,8 +1,6 @@
 //! The sessions of a client, at most one at each server.
-ghost use Rattle.std.specs.Prelude.{◌≡◌, OnOk, OnErr, IsSome, None, Some};
+ghost use Rattle.std.specs.Prelude.{◌≡◌, OnOk, OnErr, IsSome, None};
 ghost use Rattle.std.specs.FinMap as map;
-ghost use Rattle.alp_session.specs.Maps.{SessionMap as ASessionMap};
-ghost use Rattle.alp_session.specs.declared.greeted.Greeted.{Greeted as AGreeted};
 
 use crate::Greeted;
 use alp_base::OutOfMemory;
@@ -55,17 +53,10 @@ impl Sessions {
         Ok(())
     }
 
-    /// And so it is where there is one already, which takes no memory.
+    /// So it is where there is one already, which takes no memory.
     pub fn update(&mut self, server: u8, greeted: Greeted)
         requires { IsSome (map.get self.old server) }
         ensures { self.new ≡ map.insert self.old server greeted }
-    {
-        let _ = self.put(server, greeted);
-    }
-
-    /// The session is again what it was before it was updated.
-    pub fn restore(&mut self, server: u8, greeted: Greeted)
-        ensures { (m : ASessionMap) (now : AGreeted) → Some greeted ≡ map.get m server → self.old ≡ map.insert m server now → self.new ≡ m }
     {
         let _ = self.put(server, greeted);
     }

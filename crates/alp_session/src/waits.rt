@@ -16,9 +16,13 @@ pub struct Waits {
 
 impl Model for Waits {
     ghost use Rattle.std.specs.Prelude.{List};
+    ghost use Rattle.std.specs.Coded.{coded_list};
     ghost use Rattle.alp_session.specs.declared.waiting.Waiting.{Waiting};
+    ghost use Rattle.alp_session.specs.contracts.waiting.Waiting as waiting_type;
 
     ghost Value = { List Waiting };
+
+    ghost coded = { coded_list waiting_type.the_row.coded };
 
     ghost view = { λ w. w.calls.items };
 }
@@ -57,7 +61,7 @@ impl Waits {
     }
 
     /// The call that came to wait last waits no more.
-    #[tactic(auto, using(crate::proofs::WaitLemmas::{behind_first, none_behind}))]
+    #[tactic(auto, using(crate::proofs::WaitLemmas::behind_first, crate::proofs::WaitLemmas::none_behind))]
     pub fn take(&mut self)
         ensures { self.new ≡ others self.old }
     {
@@ -67,6 +71,7 @@ impl Waits {
     }
 
     /// One collect more of that call was answered that it waits. Gives how many were.
+    #[tactic(auto, using(crate::proofs::WaitLemmas::none_more, crate::proofs::WaitLemmas::none_asked, crate::proofs::WaitLemmas::first_asked, crate::proofs::WaitLemmas::first_count))]
     pub fn ask_again(&mut self) -> Option<u32>
         ensures calls { self.new ≡ one_more self.old }
         ensures count { result ≡ times_asked self.old }
