@@ -181,44 +181,51 @@ counted count t e h =
     let both = and_parts (nat_le 1 count) _ h in
     (same, subst (λ (n : ℕ). 1 ≤ n) same (leb-true _ _ both.0), subst (λ (n : ℕ). n ≤ SERVERS) same (leb-true _ _ both.1))
 
+-- nothing is both
+never : {A : Type 0} → false ≡ true → A
+never wrong = cc
+
+none_some : {A B : Type 0} (x : A) → None ≡ Some x → B
+none_some x wrong = cc
+
 first_by : (l : Line) (t : Known) → IsForm l → is_known [] (client_named l) ≡ true → after nothing_known l ≡ Some t
     → (servers_in l ≡ t.servers) × (1 ≤ t.servers) × (t.servers ≤ SERVERS)
 unfolding client_named after after_servers after_setting after_timeout after_volume after_client after_file
 first_by l t (form.servers count) known h = counted count t ((tested _ _ t h).1) ((tested _ _ t h).0)
-first_by l t (form.volume server home area limits) known h = cc ((tested _ _ t h).0)
-first_by l t (form.client number name) known h = cc ((tested _ _ t h).0)
-first_by l t (form.patience count some few) known h = cc ((tested _ _ t h).0)
-first_by l t (form.auto_said on) known h = cc ((tested _ _ t h).0)
-first_by l t (form.timeout server number most) known h = cc ((tested _ _ t h).0)
-first_by l t (form.tick server) known h = cc ((tested _ _ t h).0)
-first_by l t (form.force server) known h = cc ((tested _ _ t h).0)
-first_by l t (form.stop server calls small) known h = cc ((tested _ _ t h).0)
-first_by l t (form.restart server pick small) known h = cc ((tested _ _ t h).0)
-first_by l t form.settle known h = cc ((tested _ _ t h).0)
-first_by l t (form.carry from to) known h = cc ((tested _ _ t h).0)
-first_by l t (form.lose from to) known h = cc ((tested _ _ t h).0)
-first_by l t (form.again from to) known h = cc ((tested _ _ t h).0)
-first_by l t (form.begin number server) known h = cc known
-first_by l t (form.commit number) known h = cc known
-first_by l t (form.abort number) known h = cc known
-first_by l t (form.outcome number) known h = cc known
-first_by l t (form.collect number) known h = cc known
-first_by l t (form.repeat number) known h = cc known
-first_by l t (form.old number) known h = cc known
-first_by l t (form.raw number server bytes some) known h = cc known
-first_by l t (form.owner number server name quota create wish few) known h = cc known
-first_by l t (form.read_owner number server name wish) known h = cc known
-first_by l t (form.quota number server name quota wish) known h = cc known
-first_by l t (form.create number server word name size read modify wish small few_read few_modify) known h = cc known
-first_by l t (form.open_file number file purpose lock wish) known h = cc known
-first_by l t (form.close number file) known h = cc known
-first_by l t (form.delete number file wish) known h = cc known
-first_by l t (form.write number file run text wish few short) known h = cc known
-first_by l t (form.read number file run lock wish few fit) known h = cc known
-first_by l t (form.lock number file run lock wish few fit) known h = cc known
-first_by l t (form.size number file size wish small) known h = cc known
-first_by l t (form.props number file) known h = cc known
-first_by l t (form.change number file change wish formed) known h = cc known
+first_by l t (form.volume server home area limits) known h = none_some t h
+first_by l t (form.client number name) known h = none_some t h
+first_by l t (form.patience count some few) known h = none_some t h
+first_by l t (form.auto_said on) known h = none_some t h
+first_by l t (form.timeout server number most) known h = none_some t h
+first_by l t (form.tick server) known h = none_some t h
+first_by l t (form.force server) known h = none_some t h
+first_by l t (form.stop server calls small) known h = none_some t h
+first_by l t (form.restart server pick small) known h = none_some t h
+first_by l t form.settle known h = none_some t h
+first_by l t (form.carry from to) known h = none_some t h
+first_by l t (form.lose from to) known h = none_some t h
+first_by l t (form.again from to) known h = none_some t h
+first_by l t (form.begin number server) known h = never known
+first_by l t (form.commit number) known h = never known
+first_by l t (form.abort number) known h = never known
+first_by l t (form.outcome number) known h = never known
+first_by l t (form.collect number) known h = never known
+first_by l t (form.repeat number) known h = never known
+first_by l t (form.old number) known h = never known
+first_by l t (form.raw number server bytes some) known h = never known
+first_by l t (form.owner number server name quota create wish few) known h = never known
+first_by l t (form.read_owner number server name wish) known h = never known
+first_by l t (form.quota number server name quota wish) known h = never known
+first_by l t (form.create number server word name size read modify wish small few_read few_modify) known h = never known
+first_by l t (form.open_file number file purpose lock wish) known h = never known
+first_by l t (form.close number file) known h = never known
+first_by l t (form.delete number file wish) known h = never known
+first_by l t (form.write number file run text wish few short) known h = never known
+first_by l t (form.read number file run lock wish few fit) known h = never known
+first_by l t (form.lock number file run lock wish few fit) known h = never known
+first_by l t (form.size number file size wish small) known h = never known
+first_by l t (form.props number file) known h = never known
+first_by l t (form.change number file change wish formed) known h = never known
 
 -- the first line of all declares them
 pub first_servers : (l : Line) (t : Known) → IsForm l → next nothing_known l ≡ Some t → (servers_in l ≡ t.servers) × (1 ≤ t.servers) × (t.servers ≤ SERVERS)

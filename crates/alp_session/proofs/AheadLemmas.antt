@@ -137,8 +137,8 @@ joined_ahead words d server t l g there joined is at needs =
 
 -- ---- what a client hears leaves fewer frames
 
-over : (words : WordMap) (c : Client) (l : Line) (m : ℕ) → 0 < m → (n : Next) → n ≡ next.Over → Fewer words l m (c, n)
-over words c l m some n is = subst (λ (n : Next). Fewer words l m (c, n)) (sym is) (tt, some)
+over_fewer : (words : WordMap) (c : Client) (l : Line) (m : ℕ) → 0 < m → (n : Next) → n ≡ next.Over → Fewer words l m (c, n)
+over_fewer words c l m some n is = subst (λ (n : Next). Fewer words l m (c, n)) (sym is) (tt, some)
 
 patient_fewer : (words : WordMap) (c : Client) (l : Line) (m : ℕ) → 0 < m → (s : Settings) (o : Option ℕ) → Fewer words l m (c, patient_behind s o)
 patient_fewer words c l m some s None = (tt, some)
@@ -159,9 +159,9 @@ greeted_fewer words c server l at (Some (reply.Welcome epoch)) =
     (tt, omega (arith, here))
 greeted_fewer words c server l at (Some r) = (tt, omega arith)
 
-waits_fewer : (words : WordMap) (c d : Client) (l : Line) (m : ℕ) → 0 < m → IsOnItsWay words d l next.Collect → ahead words d l next.Collect < m → (b collects : Bool)
-    → Fewer words l m (cond b (c, next.Over) (d, collects_by_itself collects))
-waits_fewer words c d l m some way few true collects = (tt, some)
+waits_fewer : (words : WordMap) (c d : Client) (l : Line) (m : ℕ) → 0 < m → IsOnItsWay words d l next.Collect → ahead words d l next.Collect < m → (b itself : Bool)
+    → Fewer words l m (cond b (c, next.Over) (d, collects_by_itself itself))
+waits_fewer words c d l m some way few true itself = (tt, some)
 waits_fewer words c d l m some way few false true = (way, few)
 waits_fewer words c d l m some way few false false = (tt, some)
 
@@ -201,7 +201,7 @@ goes_call p r = refl
 collected_call : (words : WordMap) (c : Client) (q : Sending) (l : Line) (m : ℕ) → 0 < m → q.next ≡ next.Call → (r : Reply) → Fewer words l m (collected c q l r)
 collected_call words c q l m some is (reply.Refused refusal.NotYet) = patient_fewer words (record c { waiting = one_more c.waiting }) l m some q.settings (times_asked c.waiting)
 collected_call words c q l m some is r =
-    over words (without_last (collected_reply c q.server (purpose_in (first_of c.waiting)) l r)) l m some (goes_on (purpose_in (first_of c.waiting)) r q.next)
+    over_fewer words (without_last (collected_reply c q.server (purpose_in (first_of c.waiting)) l r)) l m some (goes_on (purpose_in (first_of c.waiting)) r q.next)
     (ap (goes_on (purpose_in (first_of c.waiting)) r) is ∙ goes_call (purpose_in (first_of c.waiting)) r)
 
 trans_of : (o : Option TransId) → IsSome o → (t : TransId) × (o ≡ Some t)
@@ -387,11 +387,11 @@ heard_fewer words s k c l n frame r way h =
 
 -- at its first frame a line has at most five ahead
 pub first_few : (words : WordMap) (c : Client) (l : Line) → ahead words c l next.Call ≤ 5
-first_few words c l = by (map.get c.sessions (server_for words c l))
+first_few words c l = go (map.get c.sessions (server_for words c l))
   where
-    by : (o : Option Greeted) → call_ahead c l o ≤ 5
-    by None = omega (arith, asked_few (asking_for None c.trans l next.Call))
-    by (Some g) = omega (arith, asked_few (asking_for g.joined c.trans l next.Call))
+    go : (o : Option Greeted) → call_ahead c l o ≤ 5
+    go None = omega (arith, asked_few (asking_for None c.trans l next.Call))
+    go (Some g) = omega (arith, asked_few (asking_for g.joined c.trans l next.Call))
 
 next_is : (c : Crowd) (k : ℕ) (l : Line) (n : Next) (frame : Addressed) → asks c k l n ≡ Some frame → frame_next c.words k (client_at c k) l n ≡ Some frame
 next_is c k l next.Call frame h = h

@@ -57,8 +57,8 @@ waits_there n [] ours some = cc
 waits_there n (w ∷ ws) ours some = ours.0
 
 file_there : (n : ℕ) (words : WordMap) (file : FileWord) → AreWordsOf n words → IsFileOf n file → IsServer n (file_of words file).server
-file_there n words (file_word.Word name) ours of = ours name
-file_there n words (file_word.Id id) ours of = of
+file_there n words (file_word.Word name) ours speaks = ours name
+file_there n words (file_word.Id id) ours speaks = speaks
 
 with_some : (words : WordMap) (c : Client) (o : Option TransId) (l : Line) → IsSome (call_with words c o l) → IsSome o
 with_some words c None l some = cc
@@ -78,25 +78,25 @@ no_with words c l none (Some t) some = let wrong : false ≡ true = subst (λ (x
 
 -- a line that has a call has it for one of the servers
 call_there : (n : ℕ) (words : WordMap) (c : Client) (l : Line) → AreWordsOf n words → IsClientOf n c → SpeaksOf n l → IsSome (call_by words c l) → IsServer n (server_for words c l)
-call_there n words c (line.Begin client server) ours is of some = of
-call_there n words c (line.Create client server word owner size read modify choice) ours is of some = of
-call_there n words c (line.ReadOwner client server owner choice) ours is of some = of
-call_there n words c (line.MakeOwner client server owner quota create choice) ours is of some = of
-call_there n words c (line.SetQuota client server owner quota choice) ours is of some = of
-call_there n words c (line.OpenFile client file access mode choice) ours is of some = file_there n words file ours of
-call_there n words c (line.CloseFile client file) ours is of some = file_there n words file ours of
-call_there n words c (line.DeleteFile client file choice) ours is of some = file_there n words file ours of
-call_there n words c (line.ReadPages client file run mode choice) ours is of some = file_there n words file ours of
-call_there n words c (line.WritePages client file run text choice) ours is of some = file_there n words file ours of
-call_there n words c (line.LockPages client file run mode choice) ours is of some = file_there n words file ours of
-call_there n words c (line.SetSize client file size choice) ours is of some = file_there n words file ours of
-call_there n words c (line.ReadProps client file) ours is of some = file_there n words file ours of
-call_there n words c (line.WriteProps client file change choice) ours is of some = file_there n words file ours of
-call_there n words c (line.Commit client) ours is of some = there_of n c.trans is.0 (with_some words c c.trans (line.Commit client) some)
-call_there n words c (line.Abort client) ours is of some = there_of n c.trans is.0 (with_some words c c.trans (line.Abort client) some)
-call_there n words c (line.Outcome client) ours is of some = there_of n c.begun is.1 (outcome_some c.begun some)
-call_there n words c (line.Collect client) ours is of some = waits_there n c.waiting is.2 (collect_some (first_of c.waiting) some)
-call_there n words c l ours is of some = absurd (no_with words c l (λ t. refl) c.trans some)
+call_there n words c (line.Begin client server) ours is speaks some = speaks
+call_there n words c (line.Create client server word owner size read modify choice) ours is speaks some = speaks
+call_there n words c (line.ReadOwner client server owner choice) ours is speaks some = speaks
+call_there n words c (line.MakeOwner client server owner quota create choice) ours is speaks some = speaks
+call_there n words c (line.SetQuota client server owner quota choice) ours is speaks some = speaks
+call_there n words c (line.OpenFile client file access mode choice) ours is speaks some = file_there n words file ours speaks
+call_there n words c (line.CloseFile client file) ours is speaks some = file_there n words file ours speaks
+call_there n words c (line.DeleteFile client file choice) ours is speaks some = file_there n words file ours speaks
+call_there n words c (line.ReadPages client file run mode choice) ours is speaks some = file_there n words file ours speaks
+call_there n words c (line.WritePages client file run text choice) ours is speaks some = file_there n words file ours speaks
+call_there n words c (line.LockPages client file run mode choice) ours is speaks some = file_there n words file ours speaks
+call_there n words c (line.SetSize client file size choice) ours is speaks some = file_there n words file ours speaks
+call_there n words c (line.ReadProps client file) ours is speaks some = file_there n words file ours speaks
+call_there n words c (line.WriteProps client file change choice) ours is speaks some = file_there n words file ours speaks
+call_there n words c (line.Commit client) ours is speaks some = there_of n c.trans is.0 (with_some words c c.trans (line.Commit client) some)
+call_there n words c (line.Abort client) ours is speaks some = there_of n c.trans is.0 (with_some words c c.trans (line.Abort client) some)
+call_there n words c (line.Outcome client) ours is speaks some = there_of n c.begun is.1 (outcome_some c.begun some)
+call_there n words c (line.Collect client) ours is speaks some = waits_there n c.waiting is.2 (collect_some (first_of c.waiting) some)
+call_there n words c l ours is speaks some = absurd (no_with words c l (λ t. refl) c.trans some)
 
 asked_some : (server : ℕ) (X : Call → Request) (o : Option Call) (f : Addressed) → option_map (addressed server) (option_map X o) ≡ Some f → (f.server ≡ server) × IsSome o
 asked_some server X None f h = cc
@@ -104,21 +104,21 @@ asked_some server X (Some asked) f h = (sym (ap (λ (a : Addressed). a.server) (
 
 own_there : (n : ℕ) (words : WordMap) (k : ℕ) (c : Client) (l : Line) (f : Addressed) → AreWordsOf n words → IsClientOf n c → SpeaksOf n l
     → option_map (addressed (server_for words c l)) (request_for words k c l) ≡ Some f → IsServer n f.server
-own_there n words k c l f ours is of h =
+own_there n words k c l f ours is speaks h =
     let both = asked_some (server_for words c l) (request_in k c l (map.get c.sessions (server_for words c l))) (call_by words c l) f h in
-    subst (λ (s : ℕ). IsServer n s) (sym both.0) (call_there n words c l ours is of both.1)
+    subst (λ (s : ℕ). IsServer n s) (sym both.0) (call_there n words c l ours is speaks both.1)
 
 -- a frame goes to a server of the run
 pub sent_there : (n : ℕ) (words : WordMap) (k : ℕ) (c : Client) (l : Line) (x : Next) (f : Addressed) → AreWordsOf n words → IsClientOf n c → SpeaksOf n l → frame_next words k c l x ≡ Some f
     → IsServer n f.server
-sent_there n words k c (line.Repeat client) next.Call f ours is of h = subst (λ (o : Option Addressed). IfSome o (GoesThere n)) h is.3
-sent_there n words k c (line.Old client) next.Call f ours is of h = subst (λ (o : Option Addressed). IfSome o (GoesThere n)) h is.4
-sent_there n words k c (line.Raw client server bytes) next.Call f ours is of h =
-    subst (λ (s : ℕ). IsServer n s) (ap (λ (a : Addressed). a.server) (same_Some (record { server = server; bytes = bytes }) f h)) of
-sent_there n words k c l next.Call f ours is of h = own_there n words k c l f ours is of h
-sent_there n words k c l next.Collect f ours is of h = own_there n words k c (line.Collect k) f ours is tt h
-sent_there n words k c l next.TimeOut f ours is of h = cc
-sent_there n words k c l next.Over f ours is of h = cc
+sent_there n words k c (line.Repeat client) next.Call f ours is speaks h = subst (λ (o : Option Addressed). IfSome o (GoesThere n)) h is.3
+sent_there n words k c (line.Old client) next.Call f ours is speaks h = subst (λ (o : Option Addressed). IfSome o (GoesThere n)) h is.4
+sent_there n words k c (line.Raw client server bytes) next.Call f ours is speaks h =
+    subst (λ (s : ℕ). IsServer n s) (ap (λ (a : Addressed). a.server) (same_Some (record { server = server; bytes = bytes }) f h)) speaks
+sent_there n words k c l next.Call f ours is speaks h = own_there n words k c l f ours is speaks h
+sent_there n words k c l next.Collect f ours is speaks h = own_there n words k c (line.Collect k) f ours is tt h
+sent_there n words k c l next.TimeOut f ours is speaks h = cc
+sent_there n words k c l next.Over f ours is speaks h = cc
 
 -- ---- what a client hears
 
@@ -262,11 +262,11 @@ heard_ours n words s c l x f r is here gives =
 
 put_ours : (n : ℕ) (words : WordMap) (w : List ℕ) (m : Meaning) → AreWordsOf n words → IsServer n (meant (Some m)).server → AreWordsOf n (map.insert words w m)
 put_ours n words w m ours is name =
-    subst (λ (o : Option Meaning). IsServer n (meant o).server) (sym (get-insert nat_list_cmp_total words w m name)) (by (eq_by_cmp name_cmp name w))
+    subst (λ (o : Option Meaning). IsServer n (meant o).server) (sym (get-insert nat_list_cmp_total words w m name)) (go (eq_by_cmp name_cmp name w))
   where
-    by : (b : Bool) → IsServer n (meant (cond b (Some m) (map.get words name))).server
-    by true = is
-    by false = ours name
+    go : (b : Bool) → IsServer n (meant (cond b (Some m) (map.get words name))).server
+    go true = is
+    go false = ours name
 
 bound_ours : (n : ℕ) (words : WordMap) (l : Line) (m : Meaning) → AreWordsOf n words → IsServer n (meant (Some m)).server → AreWordsOf n (bound words l m)
 bound_ours n words (line.Create client server word owner size read modify choice) m ours is = put_ours n words word m ours is
@@ -315,8 +315,8 @@ heard_words n words c (line.Raw client at bytes) x server r ours here gives = ou
 heard_words n words c l x server r ours here gives = session_words n words c server (map.get c.sessions server) l x r ours here gives
 
 line_words : (n : ℕ) (words : WordMap) (l : Line) → AreWordsOf n words → SpeaksOf n l → AreWordsOf n (words_at words l)
-line_words n words (line.Create client server word owner size read modify choice) ours of = put_ours n words word (meaning.File (no_file server)) ours of
-line_words n words l ours of = ours
+line_words n words (line.Create client server word owner size read modify choice) ours speaks = put_ours n words word (meaning.File (no_file server)) ours speaks
+line_words n words l ours speaks = ours
 
 begins_ours : (n : ℕ) (c : Client) (l : Line) → IsClientOf n c → IsClientOf n (begins c l)
 begins_ours n c (line.Begin client server) is = (tt, is.1, tt, is.3, is.4)
@@ -336,10 +336,10 @@ with_ours n c words k d is ours new = record { words = ours; each = λ j. set_ke
 
 -- where the next frame goes
 pub asks_ours : (n : ℕ) (c : Crowd) (k : ℕ) (l : Line) (x : Next) (f : Addressed) → IsCrowdOf n c → SpeaksOf n l → asks c k l x ≡ Some f → IsServer n f.server
-asks_ours n c k l next.Call f is of h = sent_there n c.words k (client_at c k) l next.Call f is.words (is.each k) of h
-asks_ours n c k l next.Collect f is of h = sent_there n c.words k (client_at c k) l next.Collect f is.words (is.each k) of h
-asks_ours n c k l next.TimeOut f is of h = cc
-asks_ours n c k l next.Over f is of h = cc
+asks_ours n c k l next.Call f is speaks h = sent_there n c.words k (client_at c k) l next.Call f is.words (is.each k) speaks h
+asks_ours n c k l next.Collect f is speaks h = sent_there n c.words k (client_at c k) l next.Collect f is.words (is.each k) speaks h
+asks_ours n c k l next.TimeOut f is speaks h = cc
+asks_ours n c k l next.Over f is speaks h = cc
 
 -- behind what a client hears
 pub hears_ours : (n : ℕ) (c : Crowd) (k : ℕ) (l : Line) (x : Next) (f : Addressed) (r : Option Reply) → IsCrowdOf n c → IsServer n f.server → IfSome r (GivesOf n) → IsCrowdOf n (hears c k l x f r).0
@@ -349,7 +349,7 @@ hears_ours n c k l x f r is here gives =
 
 -- at a line, behind a declaration, and before all lines
 pub line_ours : (n : ℕ) (c : Crowd) (k : ℕ) (l : Line) → IsCrowdOf n c → SpeaksOf n l → IsCrowdOf n (at_line c k l)
-line_ours n c k l is of = with_ours n c (words_at c.words l) k (begins (client_at c k) l) is (line_words n c.words l is.words of) (begins_ours n (client_at c k) l (is.each k))
+line_ours n c k l is speaks = with_ours n c (words_at c.words l) k (begins (client_at c k) l) is (line_words n c.words l is.words speaks) (begins_ours n (client_at c k) l (is.each k))
 
 pub declares_ours : (n : ℕ) (c : Crowd) (l : Line) → IsCrowdOf n c → IsCrowdOf n (declares c l)
 declares_ours n c (line.Client client name) is = with_ours n c c.words client (record (client_at c client) { name = name }) is is.words (is.each client)
