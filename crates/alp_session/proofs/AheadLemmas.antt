@@ -171,7 +171,7 @@ awaiting_fewer : (words : WordMap) (c : Client) (q : Sending) (p : Purpose) (l :
     → cond (is_part p) 3 1 < m → Fewer words l m (awaiting c q p)
 awaiting_fewer words c q p l m g there way few =
     let d : Client = record c { waiting = waiting_for q p ∷ c.waiting } in
-    let here : ahead words d l next.Collect ≡ cond (is_part p) 3 1 = ap (λ (o : Option Greeted). collect_ahead o p) there in
+    let here : ahead words d l next.Collect ≡ 0 + cond (is_part p) 3 1 = ap (λ (o : Option Greeted). collect_ahead o p) there in
     waits_fewer words c d l m (omega (arith, few)) way (omega (arith, few, here)) (is_waiting_at c.waiting q.server) q.settings.collects
 
 joined_fewer : (words : WordMap) (c : Client) (q : Sending) (t : TransId) (l : Line) (g : Greeted) → map.get c.sessions q.server ≡ Some g → q.server ≡ server_for words c l → c.trans ≡ Some t

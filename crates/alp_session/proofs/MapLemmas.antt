@@ -38,6 +38,9 @@ pub put_stood : {K X : Type 0} {R : K → K → Ordering} (m new : map.FinMap R 
 put_stood {K} {X} {R} m new k d some (Ok x) ok absent = ok
 put_stood {K} {X} {R} m new k d some (Err e) ok absent = let wrong : false ≡ true = subst (λ (o : Option X). IsSome o) absent some in cc
 
+at_itself : {K : Type 0} {R : K → K → Ordering} → IsTotalOrder R → (k : K) → eq_by_cmp R k k ≡ true
+at_itself total k = (eq_by_cmp_equiv total).refl k
+
 module _ {K X : Type 0} {R : K → K → Ordering} (total : IsTotalOrder R) (exact : CmpEqualImpliesEq R) where
   put_twice : (m : map.FinMap R X) (k : K) (c d : X) → map.insert (map.insert m k c) k d ≡ map.insert m k d
   put_twice m k c d = same_map total exact _ _ (λ q.
@@ -45,9 +48,6 @@ module _ {K X : Type 0} {R : K → K → Ordering} (total : IsTotalOrder R) (exa
       ∙ ap (cond (eq_by_cmp R q k) (Some d)) (get-insert total m k c q)
       ∙ cond_twice (eq_by_cmp R q k) (Some d) (Some c) (map.get m q)
       ∙ sym (get-insert total m k d q))
-
-  at_itself : (k : K) → eq_by_cmp R k k ≡ true
-  at_itself k = (eq_by_cmp_equiv total).refl k
 
   put_same : (m : map.FinMap R X) (k : K) (d : X) → Some d ≡ map.get m k → map.insert m k d ≡ m
   put_same m k d h = same_map total exact _ _ (λ q. get-insert total m k d q ∙ go q (R q k) refl)
@@ -64,7 +64,7 @@ module _ {K X : Type 0} {R : K → K → Ordering} (total : IsTotalOrder R) (exa
   -- where something is put, something stands
   pub put_stands : (m now : map.FinMap R X) (k : K) (c : X) → now ≡ map.insert m k c → map.get now k ≡ Some c
   put_stands m now k c put =
-      ap (λ (x : map.FinMap R X). map.get x k) put ∙ get-insert total m k c k ∙ ap (λ (b : Bool). cond b (Some c) (map.get m k)) (at_itself k)
+      ap (λ (x : map.FinMap R X). map.get x k) put ∙ get-insert total m k c k ∙ ap (λ (b : Bool). cond b (Some c) (map.get m k)) (at_itself total k)
 
   -- and so it is behind another put
   pub put_again : (m now new : map.FinMap R X) (k : K) (c d : X) → Some d ≡ map.get m k → now ≡ map.insert m k c
