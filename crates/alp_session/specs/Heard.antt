@@ -243,12 +243,16 @@ counted c server number = record c { sessions = counted_in c.sessions server num
 abbrev pub sending_in : ℕ → Greeted → Next → Settings → Sending
 sending_in server g n s = record { server = server; number = number_after g.last; next = n; settings = s }
 
--- what the client knows after the reply to the frame of its own line, and what it does next
+-- what the client knows after the reply to what it sent in a session that joined that transaction, if any, and what it does next
+abbrev pub heard_in : WordMap → Client → Sending → Option TransId → Line → Option Reply → Client × Next
+heard_in words c q joined l r =
+    let h : Client × Next = answered words c q l (asking_for joined c.trans l q.next) r in
+    (counted h.0 q.server q.number, h.1)
+
+-- what it knows after the reply to the frame of its own line
 abbrev pub heard_own : WordMap → Settings → Client → ℕ → Option Greeted → Line → Next → Option Reply → Client × Next
 heard_own words s c server None l n r = greeted c server n r
-heard_own words s c server (Some g) l n r =
-    let h : Client × Next = answered words c (sending_in server g n s) l (asking_for g.joined c.trans l n) r in
-    (counted h.0 server (number_after g.last), h.1)
+heard_own words s c server (Some g) l n r = heard_in words c (sending_in server g n s) g.joined l r
 
 abbrev pub heard_again : Client → ℕ → Option Reply → Client
 heard_again c server None = c

@@ -57,10 +57,10 @@ fn told_by(alloc: Global, handed: &Option<Bytes>) -> Result<Option<Reply>, OutOf
 
 impl Client {
     ghost use Rattle.alp_session.specs.Clients.{new_client, first_of};
-    ghost use Rattle.alp_session.specs.declared.waiting.Purpose.TheVariants as purpose;
+    ghost use Rattle.alp_session.specs.declared.waiting.Purpose.TheVariants as purposes;
     ghost use Rattle.alp_session.specs.Calls.{server_for, asking_for as asking_said, IsAskable};
     ghost use Rattle.alp_session.specs.Frames.{number_after, request_in, request_for, request_of, addressed, frame_of, IsReady};
-    ghost use Rattle.alp_session.specs.Heard.{begins as begins_said, knows_part as knows_part_said, started as started_said, forgets as forgets_said, learned_reply, created as created_said, opened as opened_said, bound, told_refusal, told_end as told_end_said, told_only as told_only_said, left as left_said, greeted as greeted_said, is_waiting_at, waiting_for, due_in, awaiting, is_not_yet, part_known as part_known_said, called as called_said, joined_reply as joined_said, joined_late as joined_late_said, opened_late as opened_late_said, late_reply, collected_reply, purpose_in, waits_on as waits_on_said, collected as collected_said, answered as answered_said, counted, heard_own, heard_again as again_said, heard, words_awaiting, words_called, words_late, words_late_told, words_answered, words_in_session, words_heard};
+    ghost use Rattle.alp_session.specs.Heard.{begins as begins_said, knows_part as knows_part_said, started as started_said, forgets as forgets_said, learned_reply, created as created_said, opened as opened_said, bound, told_refusal, told_end as told_end_said, told_only as told_only_said, left as left_said, greeted as greeted_said, is_waiting_at, waiting_for, due_in, awaiting, is_not_yet, part_known as part_known_said, called as called_said, joined_reply as joined_said, joined_late as joined_late_said, opened_late as opened_late_said, late_reply, collected_reply, purpose_in, waits_on as waits_on_said, collected as collected_said, answered as answered_said, counted, heard_in, heard_own, heard_again as again_said, heard, words_awaiting, words_called, words_late, words_late_told, words_answered, words_in_session, words_heard};
 
     pub fn new(alloc: Global) -> Client
         ensures { result ≡ new_client }
@@ -376,7 +376,7 @@ impl Client {
 
     // The `Join` is to wait, and becomes the call that waits at the server where there is none.
     fn join_waits(&mut self, sending: Sending) -> Result<Next, OutOfMemory>
-        ensures client { IfOk result (λ next. (self.new, next) ≡ awaiting self.old sending purpose.Part) }
+        ensures client { IfOk result (λ next. (self.new, next) ≡ awaiting self.old sending purposes.Part) }
         ensures err { OnErr result (self.new ≡ self.old) }
     {
         if self.waiting.has(sending.server) {
@@ -478,30 +478,30 @@ impl Client {
         &mut self,
         words: &mut Words,
         server: u8,
-        purpose: Purpose,
+        purpose: &Purpose,
         file: FileId,
         open_no: u32,
     ) -> Result<(), OutOfMemory>
         ensures client { OnOk result (self.new ≡ record self.old { opens = map.insert self.old.opens file open_no }) }
-        ensures words { OnOk result (words.new ≡ words_late words.old self.old.trans server purpose file) }
+        ensures words { OnOk result (words.new ≡ words_late words.old self.old.trans server purpose.now file) }
         ensures err { OnErr result (self.new ≡ self.old) }
         ensures words_err { OnErr result (words.new ≡ words.old) }
     {
         if let Purpose::Word(word) = purpose {
-            if words.awaits(&word, self.trans, server) {
-                return self.binds(words, &word, file, open_no);
+            if words.awaits(word, self.trans, server) {
+                return self.binds(words, word, file, open_no);
             }
         }
         self.opens.give(file, open_no)
     }
 
     // The open number of a file that a call opened which waited is kept.
-    fn opened_late(&mut self, purpose: Purpose, open_no: u32) -> Result<(), OutOfMemory>
-        ensures ok { OnOk result (self.new ≡ opened_late_said self.old purpose open_no) }
+    fn opened_late(&mut self, purpose: &Purpose, open_no: u32) -> Result<(), OutOfMemory>
+        ensures ok { OnOk result (self.new ≡ opened_late_said self.old purpose.now open_no) }
         ensures err { OnErr result (self.new ≡ self.old) }
     {
         if let Purpose::Open(file) = purpose {
-            self.opens.give(file, open_no)?;
+            self.opens.give(*file, open_no)?;
         }
         Ok(())
     }
@@ -511,12 +511,12 @@ impl Client {
         &mut self,
         words: &mut Words,
         server: u8,
-        purpose: Purpose,
+        purpose: &Purpose,
         line: &Line,
         reply: &Reply,
     ) -> Result<(), OutOfMemory>
-        ensures client { OnOk result (self.new ≡ late_reply self.old server purpose line.now reply.now) }
-        ensures words { OnOk result (words.new ≡ words_late_told words.old self.old.trans server purpose reply.now) }
+        ensures client { OnOk result (self.new ≡ late_reply self.old server purpose.now line.now reply.now) }
+        ensures words { OnOk result (words.new ≡ words_late_told words.old self.old.trans server purpose.now reply.now) }
         ensures err { OnErr result (self.new ≡ self.old) }
         ensures words_err { OnErr result (words.new ≡ words.old) }
     {
@@ -542,12 +542,12 @@ impl Client {
         &mut self,
         words: &mut Words,
         server: u8,
-        purpose: Purpose,
+        purpose: &Purpose,
         line: &Line,
         reply: &Reply,
     ) -> Result<(), OutOfMemory>
-        ensures client { OnOk result (self.new ≡ collected_reply self.old server purpose line.now reply.now) }
-        ensures words { OnOk result (words.new ≡ words_late_told words.old self.old.trans server purpose reply.now) }
+        ensures client { OnOk result (self.new ≡ collected_reply self.old server purpose.now line.now reply.now) }
+        ensures words { OnOk result (words.new ≡ words_late_told words.old self.old.trans server purpose.now reply.now) }
         ensures err { OnErr result (self.new ≡ self.old) }
         ensures words_err { OnErr result (words.new ≡ words.old) }
     {
@@ -585,9 +585,9 @@ impl Client {
             return Ok(self.waits_on(sending.settings));
         }
         let purpose = purpose_in(self.waiting.first());
-        self.learn_collected(words, sending.server, purpose, line, reply)?;
+        self.learn_collected(words, sending.server, &purpose, line, reply)?;
         self.waiting.take();
-        Ok(goes_on(purpose, reply, sending.next))
+        Ok(goes_on(&purpose, reply, sending.next))
     }
 
     // The reply to what was asked for a line, in a session.
@@ -659,7 +659,7 @@ impl Client {
         line: &Line,
         told: &Option<Reply>,
     ) -> Result<Next, OutOfMemory>
-        ensures client { IfOk result (λ after. (self.new, after) ≡ (counted (answered_said words.old self.old sending line.now (asking_said joined self.old.trans line.now sending.next) told.now).0 sending.server sending.number, (answered_said words.old self.old sending line.now (asking_said joined self.old.trans line.now sending.next) told.now).1)) }
+        ensures client { IfOk result (λ after. (self.new, after) ≡ heard_in words.old self.old sending joined line.now told.now) }
         ensures words { OnOk result (words.new ≡ words_answered words.old self.old sending.server line.now (asking_said joined self.old.trans line.now sending.next) told.now) }
         ensures err { OnErr result (self.new ≡ self.old) }
         ensures words_err { OnErr result (words.new ≡ words.old) }
@@ -769,15 +769,15 @@ fn collecting(settings: Settings) -> Next
 }
 
 // Whether a `Join` waited.
-fn is_part(purpose: Purpose) -> bool
-    ensures { result ≡ is_part_said purpose }
+fn is_part(purpose: &Purpose) -> bool
+    ensures { result ≡ is_part_said purpose.now }
 {
     matches!(purpose, Purpose::Part)
 }
 
 // Behind a `Join` that was collected in its line the line goes on.
-fn goes_on(purpose: Purpose, reply: &Reply, next: Next) -> Next
-    ensures { result ≡ goes_on_said purpose reply.now next }
+fn goes_on(purpose: &Purpose, reply: &Reply, next: Next) -> Next
+    ensures { result ≡ goes_on_said purpose.now reply.now next }
 {
     match (purpose, reply, next) {
         (Purpose::Part, Reply::Joined, Next::Collect) => Next::Call,
