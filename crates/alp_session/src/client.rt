@@ -366,12 +366,7 @@ impl Client {
         ensures ok { OnOk result (self.new ≡ record self.old { waiting = waiting_for sending purpose ∷ self.old.waiting }) }
         ensures err { OnErr result (self.new ≡ self.old) }
     {
-        self.waiting.put(Waiting {
-            server: sending.server,
-            number: sending.number,
-            purpose,
-            asked: 0,
-        })
+        self.waiting.put(sending.server, sending.number, purpose)
     }
 
     // The `Join` is to wait, and becomes the call that waits at the server where there is none.

@@ -3,7 +3,7 @@ ghost use Rattle.std.specs.Prelude.{◌≡◌, ◌∷◌, [], OnOk, OnErr};
 ghost use Rattle.alp_session.specs.Clients.{first_of};
 ghost use Rattle.alp_session.specs.Heard.{is_waiting_at, others, one_more, times_asked};
 
-use crate::Waiting;
+use crate::{Purpose, Waiting};
 use alp_base::OutOfMemory;
 use std::alloc::Global;
 use std::marker::Model;
@@ -51,11 +51,17 @@ impl Waits {
         self.calls.first().copied()
     }
 
-    /// A call waits from now on.
-    pub fn put(&mut self, call: Waiting) -> Result<(), OutOfMemory>
-        ensures ok { OnOk result (self.new ≡ call ∷ self.old) }
+    /// A call of that number waits at the server from now on, whose answer is good for this. It was not asked for yet.
+    pub fn put(&mut self, server: u8, number: u32, purpose: Purpose) -> Result<(), OutOfMemory>
+        ensures ok { OnOk result (self.new ≡ record { server = server; number = number; purpose = purpose; asked = 0 } ∷ self.old) }
         ensures err { OnErr result (self.new ≡ self.old) }
     {
+        let call = Waiting {
+            server,
+            number,
+            purpose,
+            asked: 0,
+        };
         self.calls.insert(0, call)?;
         Ok(())
     }
