@@ -26,10 +26,17 @@ line_text number items = decimal number ++ codes " " ++ items_text items ++ 10 �
 abbrev pub files_text : ℕ → ℕ → List ℕ
 files_text files pages = codes " files " ++ decimal files ++ codes " pages " ++ decimal pages ++ 10 ∷ []
 
-abbrev pub server_text : ℕ → ℕ → ℕ → Cells → List ℕ
-server_text server epoch clock cells =
-    codes "server " ++ decimal server ++ codes " epoch " ++ decimal epoch ++ codes " clock " ++ decimal clock
-    ++ files_text (length (sizes_of cells)) (sum (sizes_of cells))
+-- what a server holds at the end of a run: its cells, with its epoch and its clock then
+pub record Holding : Type 0 where
+  pub server : ℕ
+  pub epoch : ℕ
+  pub clock : ℕ
+  pub cells : Cells
+
+abbrev pub server_text : Holding → List ℕ
+server_text h =
+    codes "server " ++ decimal h.server ++ codes " epoch " ++ decimal h.epoch ++ codes " clock " ++ decimal h.clock
+    ++ files_text (length (sizes_of h.cells)) (sum (sizes_of h.cells))
 
 abbrev pub owner_line : ℕ → OwnerRecord → List ℕ
 owner_line server o = codes "owner " ++ decimal server ++ codes " " ++ o.name ++ codes " charge " ++ decimal o.charge ++ codes " quota " ++ decimal o.quota ++ 10 ∷ []
@@ -40,7 +47,10 @@ owners_text server owners = flat_map (owner_line server) owners
 abbrev pub count_text : ℕ → ℕ → List ℕ
 count_text committed aborted = codes "committed " ++ decimal committed ++ codes " aborted " ++ decimal aborted ++ 10 ∷ []
 
--- what the server holds at the end, and how its transactions ended
-abbrev pub summary_text : ℕ → ℕ → ℕ → Cells → ℕ → ℕ → List ℕ
-summary_text server epoch clock cells committed aborted =
-    server_text server epoch clock cells ++ owners_text server (owners_of cells) ++ count_text committed aborted
+-- the owners of a server, in the order of their names
+abbrev pub owned_by : Holding → List ℕ
+owned_by h = owners_text h.server (owners_of h.cells)
+
+-- what the servers hold at the end: a line for each, and then one for each owner of each; and how the run's transactions ended
+abbrev pub summary_text : List Holding → ℕ → ℕ → List ℕ
+summary_text servers committed aborted = flat_map server_text servers ++ flat_map owned_by servers ++ count_text committed aborted

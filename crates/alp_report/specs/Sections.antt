@@ -1,10 +1,11 @@
 -- Sections of the texts, each written by one function.
-use Rattle.std.specs.Prelude.{ℕ, List, [], ◌∷◌, ◌++◌, codes, sum_by}
+use Rattle.std.specs.Prelude.{ℕ, List, [], ◌∷◌, ◌++◌, codes, flat_map, sum_by}
 use Rattle.std.specs.Fmt.{decimal}
 use Rattle.alp_base.specs.declared.cell.Props.{Props}
 use Rattle.alp_base.specs.declared.cell.OwnerRecord.{OwnerRecord}
 use Rattle.alp_report.specs.Replies.{names_text}
 use Rattle.alp_report.specs.Reports.{files_text, owners_text, count_text}
+use Rattle.alp_report.specs.declared.summary.Held.{Held}
 use Rattle.alp_report.specs.declared.summary.Summary.{Summary}
 
 -- who owns a file, and what it is called
@@ -26,11 +27,15 @@ abbrev pub charges_of : List OwnerRecord → ℕ
 charges_of owners = sum_by (λ o. o.charge) owners
 
 -- a server, and the files that it holds
-abbrev pub held_text : Summary → List ℕ
-held_text s =
-    codes "server " ++ decimal s.server ++ codes " epoch " ++ decimal s.epoch ++ codes " clock " ++ decimal s.clock
-    ++ files_text s.files (charges_of s.owners.now)
+abbrev pub held_text : Held → List ℕ
+held_text h =
+    codes "server " ++ decimal h.server ++ codes " epoch " ++ decimal h.epoch ++ codes " clock " ++ decimal h.clock
+    ++ files_text h.files (charges_of h.owners.items)
 
--- the summary of what a server holds
+-- its owners
+abbrev pub owned_text : Held → List ℕ
+owned_text h = owners_text h.server h.owners.items
+
+-- the summary of what the servers hold
 abbrev pub printed : Summary → List ℕ
-printed s = held_text s ++ owners_text s.server s.owners.now ++ count_text s.committed s.aborted
+printed s = flat_map held_text s.servers.now ++ flat_map owned_text s.servers.now ++ count_text s.committed s.aborted

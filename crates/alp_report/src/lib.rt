@@ -10,4 +10,4 @@ mod summary;
 mod tests;
 
 pub use lines::put_line;
-pub use summary::{Summary, put_summary};
+pub use summary::{Held, Summary, put_summary};

@@ -340,12 +340,16 @@ fn a_run(rt: HostRuntime) -> Result<(), Fail> {
     put_line(&mut text, 3, &begun)?;
     put_line(&mut text, 4, &vec![in alloc; item(None)]?)?;
     put_line(&mut text, 10, &[])?;
-    let summary = Summary {
+    let mut servers = Vec::new(alloc);
+    servers.push(Held {
         server: 1,
         epoch: 2,
         clock: 567,
         files: 1,
-        owners: &owners,
+        owners,
+    })?;
+    let summary = Summary {
+        servers: servers.as_slice(),
         committed: 8,
         aborted: 9,
     };
@@ -377,6 +381,33 @@ fn raw_lines(rt: HostRuntime) -> Result<(), Fail> {
     silent.mark = Mark::Raw;
     put_line(&mut text, 7, &vec![in alloc; silent]?)?;
     let want = "5 refused 1\n6 ok committed 567 1.2.34\n7 silent\n";
+    assert!(rt; text.as_slice() == want.as_bytes());
+    Ok(())
+}
+
+// First come the lines of all servers, then those of their owners.
+#[test]
+fn servers_before_owners(rt: HostRuntime) -> Result<(), Fail> {
+    let alloc = rt.alloc();
+    let mut servers = Vec::new(alloc);
+    for server in 1..3 {
+        servers.push(Held {
+            server,
+            epoch: 1,
+            clock: 2,
+            files: 0,
+            owners: vec![in alloc; owner(alloc)?]?,
+        })?;
+    }
+    let mut text = Vec::new(alloc);
+    let summary = Summary {
+        servers: servers.as_slice(),
+        committed: 2,
+        aborted: 0,
+    };
+    put_summary(&mut text, &summary)?;
+    let want =
+        "server 1 epoch 1 clock 2 files 0 pages 4\nserver 2 epoch 1 clock 2 files 0 pages 4\nowner 1 ann charge 4 quota 10\nowner 2 ann charge 4 quota 10\ncommitted 2 aborted 0\n";
     assert!(rt; text.as_slice() == want.as_bytes());
     Ok(())
 }

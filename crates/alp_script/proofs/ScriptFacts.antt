@@ -91,6 +91,26 @@ two_clients : script (codes "servers 1" ++ line_end ++ codes "client 16 Admin" +
 unfolding script read_at text_said line_said words_of line_by servers_line client_line event_by line_of_client line_by_verb create_line file_line line_on_file purpose_of mode_of open_line bare_line access_of list_of names_of choice_of within number_of name_of id_of file_word_of new_word_of next is_declared names_ours client_named server_named receiver_named after after_servers after_client after_file
 two_clients = refl
 
+-- lines of several servers, of which one opens a file by an id
+several_servers : script (codes "servers 2" ++ line_end ++ codes "client 1 Admin" ++ line_end ++ codes "1 begin 2" ++ line_end ++ codes "1 open 2.1.7 read r" ++ line_end)
+    ≡ Ok (
+    numbered 1 (line.Servers 2)
+    ∷ numbered 2 (line.Client 1 (codes "Admin"))
+    ∷ numbered 3 (line.Begin 1 2)
+    ∷ numbered 4 (line.OpenFile 1 (file_word.Id (record { server = 2; epoch = 1; counter = 7 })) access.ReadOnly mode.Read choice.Fail)
+    ∷ []
+    )
+unfolding script read_at text_said line_said words_of line_by servers_line client_line event_by line_of_client line_by_verb begin_line line_on_file purpose_of mode_of open_line choice_of within number_of name_of id_of file_word_of next is_declared names_ours client_named server_named receiver_named after after_servers after_client after_file
+several_servers = refl
+
+undeclared_server : script (codes "servers 2" ++ line_end ++ codes "client 1 Admin" ++ line_end ++ codes "1 begin 3") ≡ Err (fault.Bad 3)
+unfolding script flaw_at read_at text_said line_said words_of line_by servers_line client_line event_by line_of_client line_by_verb begin_line within number_of name_of next is_declared names_ours client_named server_named receiver_named after after_servers after_client
+undeclared_server = refl
+
+undeclared_id : script (codes "servers 2" ++ line_end ++ codes "client 1 Admin" ++ line_end ++ codes "1 open 3.1.7 read r") ≡ Err (fault.Bad 3)
+unfolding script flaw_at read_at text_said line_said words_of line_by servers_line client_line event_by line_of_client line_by_verb line_on_file purpose_of mode_of open_line choice_of within number_of name_of id_of file_word_of next is_declared names_ours client_named server_named receiver_named after after_servers after_client after_file
+undeclared_id = refl
+
 late_declaration : script (codes "servers 1" ++ line_end ++ codes "client 1 Admin" ++ line_end ++ codes "1 begin 1" ++ line_end ++ codes "client 2 Admin" ++ line_end) ≡ Err (fault.Bad 4)
 unfolding script flaw_at read_at text_said line_said words_of line_by servers_line client_line event_by line_of_client line_by_verb begin_line within number_of name_of next is_declared names_ours client_named server_named receiver_named after after_servers after_client
 late_declaration = refl

@@ -12,7 +12,7 @@ use Rattle.std.proofs.lemmas.List.Elements.{All-push}
 use Rattle.std.proofs.lemmas.List.Sums.{sum_by_more}
 use Rattle.alp_tokens.specs.Words.{◌>>=◌, is_ascii}
 use Rattle.alp_lines.specs.Grammar.{text_said}
-use Rattle.alp_script.specs.Known.{Known, nothing_known}
+use Rattle.alp_script.specs.Known.{Known, nothing_known, has_servers}
 use Rattle.alp_script.specs.Script.{flaw_at, read_at, with_front, numbered, line_then, script_from, script, ended}
 use Rattle.alp_script.specs.Progress.{Progress, at_start, IsUnfinished, resume, room, line_ends, unended, Follows, IsOutside, Takes, Gives}
 use Rattle.alp_script.specs.declared.fault.ScriptFault.{ScriptFault}
@@ -279,7 +279,7 @@ line-later n None more later = flaw_later n
 line-later n (Some p) more later = behind_front n (numbered n p.0) (more p.1) (from_earlier n (more p.1) (later p.1))
 
 script_from-later : (k : Known) (n : ℕ) (texts : List (List ℕ)) → OutsideFrom n (script_from k n texts)
-script_from-later k n [] = elim k.servers as (λ v. OutsideFrom n (cond v (Ok []) (Err (fault.Bad n)))) [ true ↦ tt | false ↦ omega arith ]
+script_from-later k n [] = elim (has_servers k) as (λ v. OutsideFrom n (cond v (Ok []) (Err (fault.Bad n)))) [ true ↦ tt | false ↦ omega arith ]
 script_from-later k n (text ∷ texts) = line-later n (read_at k n text) (λ t. script_from t (n + 1) texts) (λ t. script_from-later t (n + 1) texts)
 
 -- no line that was whole is outside

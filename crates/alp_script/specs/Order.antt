@@ -8,24 +8,26 @@ use Rattle.std.specs.BTreeMap.{is_at}
 use Rattle.std.specs.BTreeSet.{insert_key}
 use Rattle.alp_tokens.specs.Words.{when}
 use Rattle.alp_lines.specs.Named.{client_named, server_named, receiver_named}
-use Rattle.alp_script.specs.Known.{Known}
-use Rattle.alp_base.specs.declared.limits.TheConstants.{CLIENTS}
+use Rattle.alp_script.specs.Known.{Known, has_servers}
+use Rattle.alp_base.specs.declared.limits.TheConstants.{SERVERS, CLIENTS}
 use Rattle.alp_lines.specs.declared.line.FileWord.{FileWord}
 use Rattle.alp_lines.specs.declared.line.FileWord.TheVariants as file_word
 use Rattle.alp_lines.specs.declared.line.Line.{Line}
 use Rattle.alp_lines.specs.declared.line.Line.TheVariants as line
 
-abbrev pub is_one : Option ℕ → Bool
-is_one None = true
-is_one (Some n) = n == 1
+-- a server, if any, is one of so many
+abbrev pub is_server : ℕ → Option ℕ → Bool
+is_server servers None = true
+is_server servers (Some n) = nat_le 1 n && nat_le n servers
 
 abbrev pub is_client : Option ℕ → Bool
 is_client None = true
 is_client (Some n) = nat_le 1 n && nat_le n CLIENTS
 
--- whom the line names is of the run: a client from 1 to the most, and server 1, from which and to which its messages go
-unfoldable pub names_ours : Line → Bool
-names_ours l = is_client (client_named l) && is_one (server_named l) && is_one (receiver_named l)
+-- whom the line names is of a run of so many servers: a client from 1 to the most, and servers from 1 to the last, from which and
+-- to which its messages go
+unfoldable pub names_ours : ℕ → Line → Bool
+names_ours servers l = is_client (client_named l) && is_server servers (server_named l) && is_server servers (receiver_named l)
 
 -- the number is one of these
 abbrev pub is_among : List ℕ → ℕ → Bool
@@ -37,36 +39,41 @@ is_known clients (Some client) = is_among clients client
 
 -- and the client is declared
 unfoldable pub is_declared : Known → Line → Bool
-is_declared k l = names_ours l && is_known k.clients (client_named l)
+is_declared k l = names_ours k.servers l && is_known k.clients (client_named l)
 
 -- the order of words
 abbrev pub word_cmp : List ℕ → List ℕ → Ordering
 word_cmp = slice_cmp nat_cmp
 
--- a word that a create line bound, or an id of server 1
-abbrev pub is_bound : List (List ℕ) → FileWord → Bool
-is_bound words (file_word.Word name) = list_any (is_at (word_cmp name)) words
-is_bound words (file_word.Id id) = id.server == 1
+-- an id is of one of so many servers
+abbrev pub is_of_servers : ℕ → FileWord → Bool
+is_of_servers servers (file_word.Word name) = true
+is_of_servers servers (file_word.Id id) = is_server servers (Some id.server)
 
--- the servers are declared first and once, and there is one
+-- a word that a create line bound, or an id of a declared server
+abbrev pub is_bound : ℕ → List (List ℕ) → FileWord → Bool
+is_bound servers words (file_word.Word name) = list_any (is_at (word_cmp name)) words
+is_bound servers words (file_word.Id id) = is_server servers (Some id.server)
+
+-- the servers are declared first and once, and there are 1 to 8
 unfoldable pub after_servers : Known → ℕ → Option Known
-after_servers k count = when (not k.servers && count == 1) (record k { servers = true })
+after_servers k count = when (not (has_servers k) && is_server SERVERS (Some count)) (record k { servers = count })
 
 -- a setting, or what happens at a server, stands anywhere behind the servers
 unfoldable pub after_setting : Known → Option Known
-after_setting k = when k.servers k
+after_setting k = when (has_servers k) k
 
--- a client may time out at the one server, wherever both are declared
+-- a client may time out at any server, wherever both are declared
 unfoldable pub after_timeout : Known → ℕ → Option Known
-after_timeout k client = when (k.servers && is_among k.clients client) k
+after_timeout k client = when (has_servers k && is_among k.clients client) k
 
 -- a client, of whatever principal, is declared once and before the first line of a client
 unfoldable pub after_client : Known → ℕ → Option Known
-after_client k client = when (k.servers && not k.begun && not (is_among k.clients client)) (record k { clients = k.clients ++ client ∷ [] })
+after_client k client = when (has_servers k && not k.begun && not (is_among k.clients client)) (record k { clients = k.clients ++ client ∷ [] })
 
 -- the sizes of a volume, maybe again, are said before the first line of a client
 unfoldable pub after_volume : Known → Option Known
-after_volume k = when (k.servers && not k.begun) k
+after_volume k = when (has_servers k && not k.begun) k
 
 -- a line of a client stands anywhere behind its declaration
 abbrev pub after_call : Known → Known
@@ -78,7 +85,7 @@ after_create k word = record k { begun = true; words = insert_key word_cmp k.wor
 
 -- a line on a file names a bound word or an id
 unfoldable pub after_file : Known → FileWord → Option Known
-after_file k file = when (is_bound k.words file) (after_call k)
+after_file k file = when (is_bound k.servers k.words file) (after_call k)
 
 unfoldable pub after : Known → Line → Option Known
 after k (line.Servers count) = after_servers k count

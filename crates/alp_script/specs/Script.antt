@@ -3,7 +3,7 @@ use Rattle.std.specs.Prelude.{ℕ, ◌+◌, nat_le, List, [], ◌∷◌, ◌++�
 use Rattle.std.specs.Str.Lines.{lines}
 use Rattle.alp_tokens.specs.Words.{◌>>=◌}
 use Rattle.alp_lines.specs.Grammar.{text_said}
-use Rattle.alp_script.specs.Known.{Known, nothing_known}
+use Rattle.alp_script.specs.Known.{Known, nothing_known, has_servers}
 use Rattle.alp_script.specs.Order.{next}
 use Rattle.alp_lines.specs.declared.line.Line.{Line}
 use Rattle.alp_script.specs.declared.fault.ScriptFault.{ScriptFault}
@@ -34,7 +34,7 @@ with_front front (Err flaw) = Err flaw
 
 -- a script has its `servers` line; one without it is outside at the line after its last
 abbrev pub ended : Known → ℕ → Result (List NumberedLine) ScriptFault
-ended k n = if k.servers then Ok [] else Err (fault.Bad n)
+ended k n = if has_servers k then Ok [] else Err (fault.Bad n)
 
 -- the n-th line, where it says something
 abbrev pub numbered : ℕ → Option Line → List NumberedLine

@@ -1,10 +1,10 @@
 //! What the lines of a script so far tell, and which line may come next.
 ghost use Rattle.std.specs.Prelude.{◌≡◌, Some};
 ghost use Rattle.alp_tokens.specs.Telling.{TellsBy};
-ghost use Rattle.alp_script.specs.Known.{nothing_known};
-ghost use Rattle.alp_script.specs.Order.{is_one as is_one_said, is_client as is_client_said, names_ours as names_ours_said, is_known as is_known_said, is_declared as is_declared_said, is_bound as is_bound_said, after_servers, after_setting, after_timeout, after_volume, after_client, after_call, after_create, after_file, after, next as next_said};
+ghost use Rattle.alp_script.specs.Known.{nothing_known, has_servers as has_servers_said};
+ghost use Rattle.alp_script.specs.Order.{is_server as is_server_said, is_client as is_client_said, names_ours as names_ours_said, is_known as is_known_said, is_declared as is_declared_said, is_bound as is_bound_said, after_servers, after_setting, after_timeout, after_volume, after_client, after_call, after_create, after_file, after, next as next_said};
 
-use alp_base::{CLIENTS, Name};
+use alp_base::{CLIENTS, Name, SERVERS};
 use alp_lines::{FileWord, Line};
 use alp_tokens::LineFault;
 use std::alloc::Global;
@@ -14,7 +14,8 @@ use std::marker::Model;
 /// What earlier lines declared and bound.
 #[derive(Drop)]
 pub(crate) struct Context {
-    servers: bool,
+    /// How many servers there are, and 0 as long as they are not declared.
+    servers: u8,
     clients: Vec<u8>,
     begun: bool,
     words: BTreeSet<Name>,
@@ -28,11 +29,11 @@ impl Model for Context {
     ghost view = { λ c. record { servers = c.servers; clients = c.clients.items; begun = c.begun; words = c.words.keys } };
 }
 
-fn is_one(number: Option<u8>) -> bool
-    ensures { result ≡ is_one_said number }
+fn is_server(servers: u8, number: Option<u8>) -> bool
+    ensures { result ≡ is_server_said servers number }
 {
     match number {
-        Some(number) => number == 1,
+        Some(number) => 1 <= number && number <= servers,
         None => true,
     }
 }
@@ -47,10 +48,12 @@ fn is_client(number: Option<u8>) -> bool
 }
 
 #[tactic(auto, unfolding(crate::specs::Order::names_ours))]
-fn names_ours(line: &Line) -> bool
-    ensures { result ≡ names_ours_said line.now }
+fn names_ours(servers: u8, line: &Line) -> bool
+    ensures { result ≡ names_ours_said servers line.now }
 {
-    is_client(line.client()) && is_one(line.server()) && is_one(line.receiver())
+    is_client(line.client())
+        && is_server(servers, line.server())
+        && is_server(servers, line.receiver())
 }
 
 fn is_known(clients: &[u8], client: Option<u8>) -> bool
@@ -62,12 +65,12 @@ fn is_known(clients: &[u8], client: Option<u8>) -> bool
     }
 }
 
-fn is_bound(words: &BTreeSet<Name>, file: &FileWord) -> bool
-    ensures { result ≡ is_bound_said words.now.keys file.now }
+fn is_bound(servers: u8, words: &BTreeSet<Name>, file: &FileWord) -> bool
+    ensures { result ≡ is_bound_said servers words.now.keys file.now }
 {
     match file {
         FileWord::Word(name) => words.contains(name),
-        FileWord::Id(id) => id.server == 1,
+        FileWord::Id(id) => is_server(servers, Some(id.server)),
     }
 }
 
@@ -76,7 +79,7 @@ impl Context {
         ensures { result ≡ nothing_known }
     {
         Context {
-            servers: false,
+            servers: 0,
             clients: Vec::new(alloc),
             begun: false,
             words: BTreeSet::new(alloc),
@@ -84,26 +87,27 @@ impl Context {
     }
 
     pub(crate) fn has_servers(&self) -> bool
-        ensures { result ≡ self.now.servers }
+        ensures { result ≡ has_servers_said self.now }
     {
-        self.servers
+        1 <= self.servers
     }
 
     #[tactic(auto, unfolding(crate::specs::Order::is_declared))]
     fn is_declared(&self, line: &Line) -> bool
         ensures { result ≡ is_declared_said self.now line.now }
     {
-        names_ours(line) && is_known(self.clients.as_slice(), line.client())
+        names_ours(self.servers, line) && is_known(self.clients.as_slice(), line.client())
     }
 
     #[tactic(auto, unfolding(crate::specs::Order::after_servers))]
     fn take_servers(&mut self, count: u8) -> Result<(), LineFault>
         ensures { TellsBy (λ _. self.new) result (after_servers self.old count) }
     {
-        if self.servers || count != 1 {
+        let within = is_server(SERVERS, Some(count));
+        if self.has_servers() || !within {
             return Err(LineFault::Outside);
         }
-        self.servers = true;
+        self.servers = count;
         Ok(())
     }
 
@@ -111,7 +115,7 @@ impl Context {
     fn take_setting(&mut self) -> Result<(), LineFault>
         ensures { TellsBy (λ _. self.new) result (after_setting self.old) }
     {
-        if !self.servers {
+        if !self.has_servers() {
             return Err(LineFault::Outside);
         }
         Ok(())
@@ -122,7 +126,7 @@ impl Context {
         ensures { TellsBy (λ _. self.new) result (after_timeout self.old client) }
     {
         let declared = self.clients.contains(&client);
-        if !self.servers || !declared {
+        if !self.has_servers() || !declared {
             return Err(LineFault::Outside);
         }
         Ok(())
@@ -132,7 +136,7 @@ impl Context {
     fn take_volume(&mut self) -> Result<(), LineFault>
         ensures { TellsBy (λ _. self.new) result (after_volume self.old) }
     {
-        if !self.servers || self.begun {
+        if !self.has_servers() || self.begun {
             return Err(LineFault::Outside);
         }
         Ok(())
@@ -143,7 +147,7 @@ impl Context {
         ensures { TellsBy (λ _. self.new) result (after_client self.old client) }
     {
         let again = self.clients.contains(&client);
-        if !self.servers || self.begun || again {
+        if !self.has_servers() || self.begun || again {
             return Err(LineFault::Outside);
         }
         self.clients.push(client)?;
@@ -169,7 +173,7 @@ impl Context {
     fn take_file(&mut self, file: &FileWord) -> Result<(), LineFault>
         ensures { TellsBy (λ _. self.new) result (after_file self.old file.now) }
     {
-        if !is_bound(&self.words, file) {
+        if !is_bound(self.servers, &self.words, file) {
             return Err(LineFault::Outside);
         }
         self.begun = true;

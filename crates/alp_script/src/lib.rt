@@ -7,6 +7,7 @@ mod numbered;
 mod numbers;
 mod read;
 mod reader;
+mod servers;
 mod sizes;
 
 pub use alp_lines::{
@@ -17,6 +18,7 @@ pub use fault::ScriptFault;
 pub use numbered::{NumberedLine, SCRIPT_LINES_MOST};
 pub use numbers::numbers_are_fixed;
 pub use read::{accepted_lines, read_script};
+pub use servers::servers_of;
 pub use sizes::{NEW_AREA, NEW_HOME, sizes_of};
 
 #[cfg(test)]

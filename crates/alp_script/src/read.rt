@@ -35,8 +35,9 @@ pub fn read_script<S: Source>(
 }
 
 /// The lines of a script stand where they may and are of the language's forms, their numbers rise,
-/// there is at least one and there are not too many, and each names a client and the server of the
-/// run, the client behind its declaration.
+/// there is at least one and there are not too many. The first declares from 1 to 8 servers, and
+/// each names a client and servers of the run, also by an id of a file, the client behind its
+/// declaration.
 pub fn accepted_lines()
     ensures { (bytes : List ℕ) (lines : List NumberedLine) → script bytes ≡ Ok lines → IsAccepted lines }
 {}

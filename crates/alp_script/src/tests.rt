@@ -68,7 +68,7 @@ fn finds_the_first_bad_line(rt: HostRuntime) -> Result<(), Fail> {
         (b" \n", 1),
         (b"# \xc3\xa9\n", 1),
         (b"servers 9\n", 1),
-        (b"servers 2\n", 1),
+        (b"servers 0\n", 1),
         (b"servers 01\n", 1),
         (b"client 1 Admin\n", 1),
         (b"servers 1\nservers 1\n", 2),
@@ -86,6 +86,40 @@ fn finds_the_first_bad_line(rt: HostRuntime) -> Result<(), Fail> {
     for (text, line) in cases {
         assert_eq!(rt; count(alloc, text), Err(ScriptFault::Bad { line }));
     }
+    Ok(())
+}
+
+// Lines name servers of the run alone, also by the id of a file.
+#[test]
+fn names_servers_of_the_run(rt: HostRuntime) -> Result<(), Fail> {
+    let alloc = rt.alloc();
+    let cases: [(&[u8], bool); 14] = [
+        (b"volume 3 512 64", true),
+        (b"volume 4 512 64", false),
+        (b"1 begin 3", true),
+        (b"1 begin 4", false),
+        (b"1 create 3 F ann 1", true),
+        (b"1 open 3.1.1 read r", true),
+        (b"1 open 4.1.1 read r", false),
+        (b"1 open 0.1.1 read r", false),
+        (b"1 raw 3 00", true),
+        (b"1 raw 4 00", false),
+        (b"carry 3 1", true),
+        (b"carry 1 4", false),
+        (b"timeout 2 1", true),
+        (b"restart 4 0", false),
+    ];
+    for (line, inside) in cases {
+        let mut text = Vec::from_slice(alloc, b"servers 3\nclient 1 Admin\n")?;
+        text.extend_from_slice(line)?;
+        let said = if inside {
+            Ok(3)
+        } else {
+            Err(ScriptFault::Bad { line: 3 })
+        };
+        assert_eq!(rt; count(alloc, text.as_slice()), said);
+    }
+    assert_eq!(rt; count(alloc, b"servers 8\ntick 8\n"), Ok(2));
     Ok(())
 }
 

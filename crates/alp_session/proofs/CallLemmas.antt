@@ -15,10 +15,14 @@ use Rattle.alp_modes.specs.declared.Mode.TheVariants as mode
 use Rattle.alp_rpc.specs.Calls.{is_run_mode, IsSendable}
 use Rattle.alp_rpc.specs.Frames as frames
 use Rattle.alp_session.specs.Maps.{WordMap}
-use Rattle.alp_session.specs.Calls.{owner_call, making_call, props_call, file_call, page_call, call_in, call_with, collect_of, outcome_of, call_by, IsAskable}
+use Rattle.alp_session.specs.Clients.{first_of}
+use Rattle.alp_session.specs.Calls.{owner_call, making_call, props_call, file_call, page_call, call_in, call_with, collect_of, outcome_of, call_by, asking_for, call_asked, IsAskable}
 use Rattle.alp_session.specs.Frames.{number_after, request_in}
+use Rattle.alp_session.specs.declared.asking.Asking.{Asking}
+use Rattle.alp_session.specs.declared.asking.Asking.TheVariants as asking
 use Rattle.alp_session.specs.declared.client.Client.{Client}
-use Rattle.alp_session.specs.declared.client.Greeted.{Greeted}
+use Rattle.alp_session.specs.declared.greeted.Greeted.{Greeted}
+use Rattle.alp_session.specs.declared.waiting.Next.TheVariants as next
 use Rattle.alp_session.specs.declared.waiting.Waiting.{Waiting}
 
 -- a call, if any, that has a frame
@@ -73,7 +77,7 @@ outcome_sendable (Some t) = tt
 pub call_sendable : (words : WordMap) (c : Client) (l : Line) → c.told.ts ≤ 2 ^ 62 → IsAskable l → Sendable (call_by words c l)
 call_sendable words c (line.Begin client server) told h = told
 call_sendable words c (line.Outcome client) told h = outcome_sendable c.begun
-call_sendable words c (line.Collect client) told h = collect_sendable c.waiting
+call_sendable words c (line.Collect client) told h = collect_sendable (first_of c.waiting)
 call_sendable words c l told h = with_trans words c c.trans l h
 
 -- and so have the requests of clients
@@ -81,9 +85,15 @@ call_sendable words c l told h = with_trans words c c.trans l h
 counts : (n : ℕ) → 1 ≤ number_after n
 counts n = le-min (omega arith) (omega arith)
 
-pub request_sendable : (k : ℕ) (c : Client) (o : Option Greeted) (asked : Call) → 1 ≤ k → k ≤ 16 → IsSendable asked → frames.IsSendable (request_in k c o asked)
-request_sendable k c None asked from_one to_last h = (record { from_one = from_one; to_last = to_last; counted = omega arith }, tt)
-request_sendable k c (Some g) asked from_one to_last h = (record { from_one = from_one; to_last = to_last; counted = counts g.last }, h)
+asked_sendable : (a : Asking) (asked : Call) → IsSendable asked → IsSendable (call_asked a asked)
+asked_sendable (asking.Join t) asked h = tt
+asked_sendable asking.Call asked h = h
+asked_sendable asking.Collect asked h = h
+
+pub request_sendable : (k : ℕ) (c : Client) (l : Line) (o : Option Greeted) (asked : Call) → 1 ≤ k → k ≤ 16 → IsSendable asked → frames.IsSendable (request_in k c l o asked)
+request_sendable k c l None asked from_one to_last h = (record { from_one = from_one; to_last = to_last; counted = omega arith }, tt)
+request_sendable k c l (Some g) asked from_one to_last h =
+    (record { from_one = from_one; to_last = to_last; counted = counts g.last }, asked_sendable (asking_for g.joined c.trans l next.Call) asked h)
 
 -- pages are locked in modes that have a spelling there
 of_page_mode : (lock : Mode) → IsPageMode lock → is_run_mode lock ≡ true

@@ -1,5 +1,5 @@
--- The call that a client's line is for, by what the client knows and what words stand for.
-use Rattle.std.specs.Prelude.{◌≡◌, ◌≤◌, true, false, replicate, length, Option, None, Some}
+-- The call that a client's line is for, and the server that it goes to, by what the client knows and what words stand for.
+use Rattle.std.specs.Prelude.{◌≡◌, ℕ, ◌≤◌, Bool, true, false, not, ◌&&◌, replicate, length, Option, None, Some, if◌then◌else◌}
 use Rattle.alp_base.specs.declared.ids.TransId.{TransId}
 use Rattle.alp_base.specs.Pages.{page_of}
 use Rattle.alp_files.specs.declared.call.Call.{Call}
@@ -9,8 +9,12 @@ use Rattle.alp_lines.specs.declared.line.Line.TheVariants as line
 use Rattle.alp_rpc.specs.Calls.{is_run_mode}
 use Rattle.alp_session.specs.Maps.{WordMap}
 use Rattle.alp_session.specs.Props.{new_props}
-use Rattle.alp_session.specs.Clients.{file_of, open_at}
+use Rattle.alp_session.specs.Clients.{file_of, open_at, is_joined, first_of}
+use Rattle.alp_session.specs.declared.asking.Asking.{Asking}
+use Rattle.alp_session.specs.declared.asking.Asking.TheVariants as asking
 use Rattle.alp_session.specs.declared.client.Client.{Client}
+use Rattle.alp_session.specs.declared.waiting.Next.{Next}
+use Rattle.alp_session.specs.declared.waiting.Next.TheVariants as next
 use Rattle.alp_session.specs.declared.waiting.Waiting.{Waiting}
 
 -- a line on an owner that is there
@@ -56,7 +60,7 @@ abbrev pub call_with : WordMap → Client → Option TransId → Line → Option
 call_with words c None l = None
 call_with words c (Some t) l = call_in words c t l
 
--- the collect of a call that waits, if one does
+-- the collect of the call that came to wait last, if one waits
 abbrev pub collect_of : Option Waiting → Option Call
 collect_of None = None
 collect_of (Some w) = Some (call.Collect w.number)
@@ -70,8 +74,72 @@ outcome_of (Some t) = Some (call.Outcome t)
 abbrev pub call_by : WordMap → Client → Line → Option Call
 call_by words c (line.Begin client server) = Some (call.Begin c.told)
 call_by words c (line.Outcome client) = outcome_of c.begun
-call_by words c (line.Collect client) = collect_of c.waiting
+call_by words c (line.Collect client) = collect_of (first_of c.waiting)
 call_by words c l = call_with words c c.trans l
+
+-- ---- where calls go
+
+abbrev pub home_of : Option TransId → ℕ
+home_of None = 0
+home_of (Some t) = t.server
+
+abbrev pub waits_in : Option Waiting → ℕ
+waits_in None = 0
+waits_in (Some w) = w.server
+
+-- The server that a line's call goes to: the one that the line names, or that of its file; that of the transaction for a line that
+-- ends it or asks how it ended; and that of the call which a collect is for. A line without a call has none, which is 0 here.
+abbrev pub server_for : WordMap → Client → Line → ℕ
+server_for words c (line.Begin client server) = server
+server_for words c (line.Create client server word owner size read modify choice) = server
+server_for words c (line.ReadOwner client server owner choice) = server
+server_for words c (line.MakeOwner client server owner quota create choice) = server
+server_for words c (line.SetQuota client server owner quota choice) = server
+server_for words c (line.OpenFile client file access mode choice) = (file_of words file).server
+server_for words c (line.CloseFile client file) = (file_of words file).server
+server_for words c (line.DeleteFile client file choice) = (file_of words file).server
+server_for words c (line.ReadPages client file run mode choice) = (file_of words file).server
+server_for words c (line.WritePages client file run text choice) = (file_of words file).server
+server_for words c (line.LockPages client file run mode choice) = (file_of words file).server
+server_for words c (line.SetSize client file size choice) = (file_of words file).server
+server_for words c (line.ReadProps client file) = (file_of words file).server
+server_for words c (line.WriteProps client file change choice) = (file_of words file).server
+server_for words c (line.Commit client) = home_of c.trans
+server_for words c (line.Abort client) = home_of c.trans
+server_for words c (line.Outcome client) = home_of c.begun
+server_for words c (line.Collect client) = waits_in (first_of c.waiting)
+server_for words c l = 0
+
+-- ---- what a frame in a session asks
+
+-- a call of a file or of an owner is one of a part of the transaction; a line that begins, ends, asks or collects needs none
+abbrev pub needs_part : Line → Bool
+needs_part (line.Begin client server) = false
+needs_part (line.Commit client) = false
+needs_part (line.Abort client) = false
+needs_part (line.Outcome client) = false
+needs_part (line.Collect client) = false
+needs_part l = true
+
+-- a line that collects, or that has come to its collect
+abbrev pub is_collect : Line → Next → Bool
+is_collect l next.Collect = true
+is_collect (line.Collect client) n = true
+is_collect l n = false
+
+-- the call of the line itself; before it a `Join`, where it is one of a part and the client knows of no part there
+abbrev pub asking_of : Option TransId → Option TransId → Line → Asking
+asking_of joined None l = asking.Call
+asking_of joined (Some t) l = if needs_part l && not (is_joined joined t) then asking.Join t else asking.Call
+
+-- what a client asks for its line in a session that joined this transaction, if any
+abbrev pub asking_for : Option TransId → Option TransId → Line → Next → Asking
+asking_for joined t l n = if is_collect l n then asking.Collect else asking_of joined t l
+
+-- the call that it sends for that
+abbrev pub call_asked : Asking → Call → Call
+call_asked (asking.Join t) asked = call.Join t
+call_asked a asked = asked
 
 -- What a line has to be for its call to have a frame: a run is not empty, a text fits a page, and pages are read and locked
 -- in a mode that is no intention.

@@ -4,5 +4,7 @@ pub mod Clients
 pub mod Calls
 pub mod Frames
 pub mod Heard
+pub mod Ahead
 pub mod Crowd
 pub mod Crowds
+pub mod Ours

@@ -1,8 +1,8 @@
-//! The call that a line of a client is for.
+//! The call that a line of a client is for, and the server that it goes to.
 ghost use Rattle.std.specs.Prelude.{◌≡◌, ◌≤◌, IfOk, length, replicate};
 ghost use Rattle.alp_base.specs.Pages.{page_of};
 ghost use Rattle.alp_session.specs.Props.{new_props as props_said};
-ghost use Rattle.alp_session.specs.Calls.{making_call as making_call_said, owner_call as owner_call_said};
+ghost use Rattle.alp_session.specs.Calls.{making_call as making_call_said, owner_call as owner_call_said, home_of as home_said};
 
 use crate::{Client, Words};
 use alp_base::{
@@ -112,9 +112,19 @@ fn making_call(alloc: Global, trans: TransId, line: &Line) -> Result<Option<Call
     Ok(Some(call))
 }
 
+// The server that began the transaction.
+fn home_of(trans: Option<TransId>) -> u8
+    ensures { result ≡ home_said trans }
+{
+    match trans {
+        Some(trans) => trans.server,
+        None => 0,
+    }
+}
+
 impl Client {
-    ghost use Rattle.alp_session.specs.Clients.{open_of as open_said, open_at as open_at_said};
-    ghost use Rattle.alp_session.specs.Calls.{props_call as props_call_said, file_call as file_call_said, page_call as page_call_said, call_in as call_in_said, collect_of as collect_said, outcome_of as outcome_said, call_by as call_said, IsAskable};
+    ghost use Rattle.alp_session.specs.Clients.{open_of as open_said, open_at as open_at_said, first_of};
+    ghost use Rattle.alp_session.specs.Calls.{props_call as props_call_said, file_call as file_call_said, page_call as page_call_said, call_in as call_in_said, collect_of as collect_said, outcome_of as outcome_said, call_by as call_said, waits_in as waits_in_said, server_for as server_said, IsAskable};
 
     // The open number last given to the client for the file, or 0.
     fn open_of(&self, file: &FileId) -> u32
@@ -291,11 +301,11 @@ impl Client {
         Ok(Some(call))
     }
 
-    // The collect of the call that waits, if one does.
+    // The collect of the call that came to wait last, if one waits.
     fn collect(&self) -> Option<Call>
-        ensures { result ≡ collect_said self.now.waiting }
+        ensures { result ≡ collect_said (first_of self.now.waiting) }
     {
-        match &self.waiting {
+        match self.waiting.first() {
             Some(waiting) => Some(Call::Collect {
                 number: waiting.number,
             }),
@@ -335,6 +345,43 @@ impl Client {
         match self.trans {
             Some(trans) => self.call_in(alloc, words, trans, line),
             None => Ok(None),
+        }
+    }
+
+    // The server of the call that came to wait last.
+    fn waits_in(&self) -> u8
+        ensures { result ≡ waits_in_said (first_of self.now.waiting) }
+    {
+        match self.waiting.first() {
+            Some(waiting) => waiting.server,
+            None => 0,
+        }
+    }
+
+    /// The server that the call of a line goes to, and 0 where the line has none.
+    pub(crate) fn server_for(&self, words: &Words, line: &Line) -> u8
+        ensures { result ≡ server_said words.now self.now line.now }
+    {
+        match line {
+            Line::Begin { server, .. } => *server,
+            Line::Create { server, .. } => *server,
+            Line::ReadOwner { server, .. } => *server,
+            Line::MakeOwner { server, .. } => *server,
+            Line::SetQuota { server, .. } => *server,
+            Line::OpenFile { file, .. } => words.file_of(file).server,
+            Line::CloseFile { file, .. } => words.file_of(file).server,
+            Line::DeleteFile { file, .. } => words.file_of(file).server,
+            Line::ReadPages { file, .. } => words.file_of(file).server,
+            Line::WritePages { file, .. } => words.file_of(file).server,
+            Line::LockPages { file, .. } => words.file_of(file).server,
+            Line::SetSize { file, .. } => words.file_of(file).server,
+            Line::ReadProps { file, .. } => words.file_of(file).server,
+            Line::WriteProps { file, .. } => words.file_of(file).server,
+            Line::Commit { .. } => home_of(self.trans),
+            Line::Abort { .. } => home_of(self.trans),
+            Line::Outcome { .. } => home_of(self.begun),
+            Line::Collect { .. } => self.waits_in(),
+            _ => 0,
         }
     }
 }

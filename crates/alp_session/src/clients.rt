@@ -6,7 +6,7 @@ ghost use Rattle.alp_session.specs.Calls.{IsAskable};
 ghost use Rattle.alp_session.specs.Frames.{request_of, frame_of, told_by, IsReady};
 ghost use Rattle.alp_session.specs.Crowds.{new_crowd, client_at, request_next, times_out, asks as asks_said, hears as heard, at_line as at_said, declares as declared};
 
-use crate::{Client, Next, Settings, Words};
+use crate::{Addressed, Client, Next, Settings, Words};
 use alp_base::{Bytes, CLIENTS, OutOfMemory, TransId};
 use alp_lines::Line;
 use std::alloc::Global;
@@ -62,7 +62,12 @@ impl Clients {
     }
 
     // The frame of the call or of the collect of a line.
-    fn frame(&self, alloc: Global, number: u8, line: &Line) -> Result<Option<Bytes>, OutOfMemory>
+    fn frame(
+        &self,
+        alloc: Global,
+        number: u8,
+        line: &Line,
+    ) -> Result<Option<Addressed>, OutOfMemory>
         requires line { IsAskable line.now }
         requires ready { IsReady number (client_at self.now number) }
         ensures frame { IfOk result (λ frame. frame ≡ frame_of self.now.words number (client_at self.now number) line.now) }
@@ -71,14 +76,15 @@ impl Clients {
         self.places[number as usize].asks(alloc, number, &self.words, line)
     }
 
-    /// The frame that the client sends next for a line, or nothing.
+    /// The frame that the client sends next for a line, and the server that it goes to, or nothing. At `Next::Collect` messages are
+    /// carried before.
     pub fn asks(
         &self,
         alloc: Global,
         number: u8,
         line: &Line,
         next: Next,
-    ) -> Result<Option<Bytes>, OutOfMemory>
+    ) -> Result<Option<Addressed>, OutOfMemory>
         requires line { IsAskable line.now }
         requires ready { IsReady number (client_at self.now number) }
         ensures frame { IfOk result (λ frame. frame ≡ asks_said self.now number line.now next) }
@@ -99,7 +105,7 @@ impl Clients {
         number: u8,
         line: &Line,
         next: Next,
-        frame: Bytes,
+        frame: Addressed,
         handed: &Option<Bytes>,
     ) -> Result<Next, OutOfMemory>
         requires client { number ≤ 16 }
@@ -117,13 +123,13 @@ impl Clients {
         )
     }
 
-    /// The transaction that times out where this is what the client does next.
-    pub fn due(&self, number: u8, next: Next) -> Option<TransId>
+    /// The server at which the client's transaction times out, and the transaction, where this is what the client does next.
+    pub fn due(&self, number: u8, next: Next) -> Option<(u8, TransId)>
         requires { number ≤ 16 }
         ensures { result ≡ times_out self.now number next }
     {
         match next {
-            Next::TimeOut => self.trans_of(number),
+            Next::TimeOut => self.places[number as usize].due(),
             _ => None,
         }
     }

@@ -6,6 +6,6 @@ use alp_base::{FileId, TransId};
 pub enum Meaning {
     /// A file, or the id that no file has.
     File(FileId),
-    /// What a call of this transaction that waits creates, and no file until then.
-    Awaited(TransId),
+    /// What a call of this transaction creates that waits at this server, and no file until then.
+    Awaited(TransId, u8),
 }

@@ -1,8 +1,8 @@
 //! What is remembered of files: what words stand for, and a client's opens of ids.
-ghost use Rattle.std.specs.Prelude.{◌≡◌, IfOk, OnOk, OnErr, None};
+ghost use Rattle.std.specs.Prelude.{◌≡◌, IfOk, OnOk, OnErr, None, false};
 ghost use Rattle.std.specs.FinMap as map;
 ghost use Rattle.std.specs.Option.{option_copied as copied};
-ghost use Rattle.alp_session.specs.Clients.{no_file, meant as meant_said, is_awaited, file_of as file_said};
+ghost use Rattle.alp_session.specs.Clients.{no_file as no_file_said, meant as meant_said, is_awaited, file_of as file_said};
 ghost use Rattle.alp_session.specs.Heard.{words_at, words_awaiting};
 ghost use Rattle.alp_session.specs.Maps.{WordMap as AWordMap};
 ghost use Rattle.alp_session.specs.declared.meaning.Meaning.{Meaning as AMeaning};
@@ -14,12 +14,16 @@ use std::alloc::Global;
 use std::collections::BTreeMap;
 use std::marker::Model;
 
-/// What a word stands for before its file is created.
-const NO_FILE: FileId = FileId {
-    server: 1,
-    epoch: 0,
-    counter: 0,
-};
+// What a word stands for before its file is created.
+fn no_file(server: u8) -> FileId
+    ensures { result ≡ no_file_said server }
+{
+    FileId {
+        server,
+        epoch: 0,
+        counter: 0,
+    }
+}
 
 /// What the words of the script stand for.
 #[derive(Drop)]
@@ -46,16 +50,17 @@ fn meant(meaning: Option<Meaning>) -> FileId
 {
     match meaning {
         Some(Meaning::File(id)) => id,
-        _ => NO_FILE,
+        Some(Meaning::Awaited(_, server)) => no_file(server),
+        None => no_file(1),
     }
 }
 
-// Whether what a word stands for is created by a call of this transaction that waits.
-fn is_by(meaning: Option<Meaning>, trans: Option<TransId>) -> bool
-    ensures { result ≡ is_awaited meaning trans }
+// Whether what a word stands for is created by a call of this transaction that waits at the server.
+fn is_by(meaning: Option<Meaning>, trans: Option<TransId>, server: u8) -> bool
+    ensures { result ≡ is_awaited meaning trans server }
 {
     match (meaning, trans) {
-        (Some(Meaning::Awaited(by)), Some(trans)) => by == trans,
+        (Some(Meaning::Awaited(by, at)), Some(trans)) => by == trans && at == server,
         _ => false,
     }
 }
@@ -85,36 +90,41 @@ impl Words {
         }
     }
 
-    /// A `create` binds its word at the line, to no file.
+    /// A `create` binds its word at the line, to no file of its server.
     pub fn at_line(&mut self, line: &Line) -> Result<(), OutOfMemory>
         ensures ok { OnOk result (self.new ≡ words_at self.old line.now) }
         ensures err { OnErr result (self.new ≡ self.old) }
     {
-        if let Line::Create { word, .. } = line {
-            self.bind(*word, Meaning::File(NO_FILE))?;
+        if let Line::Create { word, server, .. } = line {
+            self.bind(*word, Meaning::File(no_file(*server)))?;
         }
         Ok(())
     }
 
-    /// What the call of a line creates is awaited by its word, where the call is of this transaction.
-    pub fn awaiting(&mut self, line: &Line, trans: Option<TransId>) -> Result<(), OutOfMemory>
-        ensures ok { OnOk result (self.new ≡ words_awaiting self.old line.now None trans) }
+    /// What the call of a line creates, which waits at the server, is awaited by its word, where the call is of this transaction.
+    pub fn awaiting(
+        &mut self,
+        line: &Line,
+        trans: Option<TransId>,
+        server: u8,
+    ) -> Result<(), OutOfMemory>
+        ensures ok { OnOk result (self.new ≡ words_awaiting self.old line.now false trans server) }
         ensures err { OnErr result (self.new ≡ self.old) }
     {
         let Some(trans) = trans else {
             return Ok(());
         };
         if let Line::Create { word, .. } = line {
-            self.bind(*word, Meaning::Awaited(trans))?;
+            self.bind(*word, Meaning::Awaited(trans, server))?;
         }
         Ok(())
     }
 
-    /// Whether the word stands for what a call of this transaction creates that waits.
-    pub fn awaits(&self, word: &Name, trans: Option<TransId>) -> bool
-        ensures { result ≡ is_awaited (map.get self.now word.now) trans }
+    /// Whether the word stands for what a call of this transaction creates that waits at the server.
+    pub fn awaits(&self, word: &Name, trans: Option<TransId>, server: u8) -> bool
+        ensures { result ≡ is_awaited (map.get self.now word.now) trans server }
     {
-        is_by(self.get(word).copied(), trans)
+        is_by(self.get(word).copied(), trans, server)
     }
 
     /// The word stands for that from now on. Gives what it stood for.

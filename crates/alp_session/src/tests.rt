@@ -26,7 +26,12 @@ const FILE: FileId = FileId {
 // A client in its transaction, to which open 7 of the file was given.
 fn client(alloc: Global) -> Result<Client, OutOfMemory> {
     let mut client = Client::new(alloc);
-    client.session = Some(Greeted { epoch: 2, last: 5 });
+    let session = Greeted {
+        epoch: 2,
+        last: 5,
+        joined: Some(TRANS),
+    };
+    client.sessions.put(1, session)?;
     client.trans = Some(TRANS);
     client.opens.give(FILE, 7)?;
     Ok(client)
@@ -51,6 +56,14 @@ fn is_ready(client: &Client) -> bool
     client.told.ts <= 1 << 62
 }
 
+// The bytes of a frame, if there is one.
+fn bytes_of(frame: Option<Addressed>) -> Option<Bytes> {
+    match frame {
+        Some(frame) => Some(frame.bytes),
+        None => None,
+    }
+}
+
 // The frame that client 1 sends for the line, which is a call.
 fn sent(alloc: Global, client: &Client, words: &Words, line: &Line) -> Result<Option<Bytes>, Fail>
     requires { IsAskable line.now }
@@ -58,7 +71,7 @@ fn sent(alloc: Global, client: &Client, words: &Words, line: &Line) -> Result<Op
     if !is_ready(client) {
         return Err("a stamp of a clock".into());
     }
-    Ok(client.asks(alloc, 1, words, line)?)
+    Ok(bytes_of(client.asks(alloc, 1, words, line)?))
 }
 
 // What it asks for by that.
@@ -99,7 +112,12 @@ fn frame(alloc: Global, client: &Client, line: &Line) -> Result<Option<Bytes>, F
     if !is_ready(client) {
         return Err("a stamp of a clock".into());
     }
-    Ok(client.asks(alloc, 2, &Words::new(alloc), line)?)
+    Ok(bytes_of(client.asks(alloc, 2, &Words::new(alloc), line)?))
+}
+
+// A frame that goes to server 1.
+fn to_first(bytes: Bytes) -> Addressed {
+    Addressed { server: 1, bytes }
 }
 
 // A call that is to wait is collected in its line, and the second collect is one too many.
@@ -119,6 +137,7 @@ fn is_over(
 {
     let sent = frame(alloc, client, line)?.ok_or("a frame")?;
     let mut words = Words::new(alloc);
+    let sent = to_first(sent);
     let next = client.hears(alloc, &mut words, SETTINGS, line, Next::Call, sent, &handed)?;
     Ok(next == Next::Over)
 }
@@ -285,7 +304,7 @@ fn next_by(
     } else {
         frame(alloc, client, line)?
     };
-    let sent = asked.ok_or("a frame")?;
+    let sent = to_first(asked.ok_or("a frame")?);
     let handed = reply(alloc, told)?;
     Ok(client.hears(alloc, words, SETTINGS, line, next, sent, &handed)?)
 }
@@ -363,7 +382,7 @@ fn knows_what_a_collect_tells(rt: HostRuntime) -> Result<(), Fail> {
     };
     let call = Next::Call;
     let over = next_by(alloc, &mut client, &mut words, &COLLECT, call, created)?;
-    assert!(rt; over == Next::Over && client.waiting.is_none());
+    assert!(rt; over == Next::Over && client.waiting.first().is_none());
     assert!(rt; words.file_of(&file) == FILE);
     assert!(rt; client.opens.get(&FILE) == Some(&7));
     Ok(())
@@ -408,14 +427,14 @@ fn keeps_its_transaction_behind_a_collect(rt: HostRuntime) -> Result<(), Fail> {
         cause: Cause::TimedOut,
     });
     next_by(alloc, &mut client, &mut words, &COLLECT, Next::Call, dead)?;
-    assert!(rt; client.waiting.is_none() && client.trans.is_some());
+    assert!(rt; client.waiting.first().is_none() && client.trans.is_some());
     next_by(alloc, &mut client, &mut words, &line, Next::Call, NOT_YET)?;
     let abort = Line::Abort { client: 2 };
     let asked = Reply::Refused(Refusal::Aborted {
         cause: Cause::Asked,
     });
     next_by(alloc, &mut client, &mut words, &abort, Next::Call, asked)?;
-    assert!(rt; client.waiting.is_none() && client.trans.is_none());
+    assert!(rt; client.waiting.first().is_none() && client.trans.is_none());
     Ok(())
 }
 
@@ -485,7 +504,7 @@ fn greets_behind_a_stale_session(rt: HostRuntime) -> Result<(), Fail> {
     let mut words = Words::new(alloc);
     let stale = Reply::Refused(Refusal::StaleSession { epoch: 2 });
     let over = next_by(alloc, &mut client, &mut words, &OUTCOME, Next::Call, stale)?;
-    assert!(rt; over == Next::Over && client.session.is_none());
+    assert!(rt; over == Next::Over && client.sessions.get(1).is_none());
     assert!(rt; client.trans == Some(TRANS));
     assert_eq!(rt;
         frame(alloc, &client, &OUTCOME)?
@@ -597,9 +616,9 @@ fn hears_that_a_server_is_down(rt: HostRuntime) -> Result<(), Fail> {
     let alloc = rt.alloc();
     let (mut client, mut words) = waiting(alloc)?;
     next_by(alloc, &mut client, &mut words, &COMMIT, Next::Call, DOWN)?;
-    assert!(rt; client.waiting.is_some() && client.trans.is_some());
+    assert!(rt; client.waiting.first().is_some() && client.trans.is_some());
     next_by(alloc, &mut client, &mut words, &COLLECT, Next::Call, DOWN)?;
-    assert!(rt; client.waiting.is_none() && client.trans.is_some());
+    assert!(rt; client.waiting.first().is_none() && client.trans.is_some());
     let next = asked(alloc, &client, &COMMIT)?;
     assert!(rt; next.epoch == 1 && next.number == 6);
     Ok(())
@@ -627,13 +646,231 @@ fn begins_by_its_own_line_alone(rt: HostRuntime) -> Result<(), Fail> {
 fn numbers_have_an_end(rt: HostRuntime) -> Result<(), Fail> {
     let alloc = rt.alloc();
     let mut client = begun(alloc)?;
-    client.session = Some(Greeted {
+    let session = Greeted {
         epoch: 1,
         last: u32::MAX - 1,
-    });
+        joined: None,
+    };
+    client.sessions.put(1, session)?;
     let mut words = Words::new(alloc);
     assert_eq!(rt; asked(alloc, &client, &COMMIT)?.number, u32::MAX);
     next_by(alloc, &mut client, &mut words, &COMMIT, Next::Call, DOWN)?;
     assert_eq!(rt; asked(alloc, &client, &COMMIT)?.number, u32::MAX);
+    Ok(())
+}
+
+// The line by which client 2 asks for an owner of server 2.
+fn owner_there(alloc: Global) -> Result<Line, Fail>
+    ensures { IfOk result IsAskable }
+{
+    let _ = alloc;
+    Ok(Line::ReadOwner {
+        client: 2,
+        server: 2,
+        owner: name(b"ann")?,
+        choice: Choice::Wait,
+    })
+}
+
+// What client 2 asks for by a frame of the line, and where.
+fn asked_at(
+    alloc: Global,
+    client: &Client,
+    words: &Words,
+    line: &Line,
+) -> Result<(u8, Request), Fail>
+    requires { IsAskable line.now }
+{
+    if !is_ready(client) {
+        return Err("a stamp of a clock".into());
+    }
+    let sent = client.asks(alloc, 2, words, line)?.ok_or("a frame")?;
+    let request = decode_request(alloc, sent.bytes.as_slice())?;
+    Ok((sent.server, request.ok_or("a request")?))
+}
+
+// What client 2 does next behind the reply to a frame of its line that went where it goes.
+fn next_at(
+    alloc: Global,
+    client: &mut Client,
+    words: &mut Words,
+    line: &Line,
+    next: Next,
+    told: Reply,
+) -> Result<Next, Fail>
+    requires line { IsAskable line.now }
+    requires told { IsSendable told }
+{
+    if !is_ready(client) {
+        return Err("a stamp of a clock".into());
+    }
+    let asked = if next == Next::Collect {
+        client.asks(alloc, 2, words, &COLLECT)?
+    } else {
+        client.asks(alloc, 2, words, line)?
+    };
+    let handed = reply(alloc, told)?;
+    Ok(client.hears(
+        alloc,
+        words,
+        SETTINGS,
+        line,
+        next,
+        asked.ok_or("a frame")?,
+        &handed,
+    )?)
+}
+
+const JOIN: Call = Call::Join { trans: TRANS };
+
+// At another server a client greets, and joins its transaction before its first call there.
+#[test]
+fn joins_at_another_server(rt: HostRuntime) -> Result<(), Fail> {
+    let alloc = rt.alloc();
+    let mut client = begun(alloc)?;
+    let (mut words, line) = (Words::new(alloc), owner_there(alloc)?);
+    let call = Next::Call;
+    let (at, hello) = asked_at(alloc, &client, &words, &line)?;
+    assert!(rt; at == 2 && hello.number == 1 && matches!(hello.call, Call::Hello { .. }));
+    let welcome = Reply::Welcome { epoch: 4 };
+    let goes = next_at(alloc, &mut client, &mut words, &line, call, welcome)?;
+    assert!(rt; goes == Next::Call);
+    let (at, join) = asked_at(alloc, &client, &words, &line)?;
+    assert!(rt; at == 2 && join.epoch == 4 && join.number == 2 && join.call == JOIN);
+    let goes = next_at(alloc, &mut client, &mut words, &line, call, Reply::Joined)?;
+    assert!(rt; goes == Next::Call);
+    let (at, read) = asked_at(alloc, &client, &words, &line)?;
+    assert!(rt; at == 2 && read.number == 3 && matches!(read.call, Call::ReadOwner { .. }));
+    let over = next_at(alloc, &mut client, &mut words, &line, call, Reply::Plain)?;
+    assert!(rt; over == Next::Over);
+    // It ends the transaction where that began.
+    let (at, end) = asked_at(alloc, &client, &words, &COMMIT)?;
+    assert!(rt; at == 1 && end.epoch == 1 && end.number == 3);
+    // Its next transaction has no part at the other server yet.
+    client.begins(&BEGIN);
+    let begun = Reply::Begun { trans: OTHER };
+    next_at(alloc, &mut client, &mut words, &BEGIN, call, begun)?;
+    let (at, join) = asked_at(alloc, &client, &words, &line)?;
+    assert!(rt; at == 2 && join.number == 4 && join.call == Call::Join { trans: OTHER });
+    Ok(())
+}
+
+const OTHER: TransId = TransId {
+    server: 1,
+    epoch: 2,
+    counter: 4,
+};
+
+// Client 2 with a session at server 2, where its transaction has no part.
+fn greeted_there(alloc: Global) -> Result<(Client, Words, Line), Fail>
+    ensures { IfOk result (λ x. IsAskable x.2) }
+{
+    let mut client = begun(alloc)?;
+    let (mut words, line) = (Words::new(alloc), owner_there(alloc)?);
+    let welcome = Reply::Welcome { epoch: 4 };
+    next_at(alloc, &mut client, &mut words, &line, Next::Call, welcome)?;
+    Ok((client, words, line))
+}
+
+// A join that waits is collected as any call, and the line goes on behind that collect.
+#[test]
+fn collects_a_join(rt: HostRuntime) -> Result<(), Fail> {
+    let alloc = rt.alloc();
+    let (mut client, mut words, line) = greeted_there(alloc)?;
+    let waits = next_at(alloc, &mut client, &mut words, &line, Next::Call, NOT_YET)?;
+    assert!(rt; waits == Next::Collect);
+    let (at, collect) = asked_at(alloc, &client, &words, &COLLECT)?;
+    assert!(rt; at == 2 && collect.number == 3 && collect.call == Call::Collect { number: 2 });
+    let collect = Next::Collect;
+    let goes = next_at(
+        alloc,
+        &mut client,
+        &mut words,
+        &line,
+        collect,
+        Reply::Joined,
+    )?;
+    assert!(rt; goes == Next::Call && client.waiting.first().is_none());
+    let (_, read) = asked_at(alloc, &client, &words, &line)?;
+    assert!(rt; read.number == 4 && matches!(read.call, Call::ReadOwner { .. }));
+    Ok(())
+}
+
+// A join that waits on is known of by a line of its own that collects it, and until then the client joins again. The last that came
+// to wait is collected first.
+#[test]
+fn collects_the_last_first(rt: HostRuntime) -> Result<(), Fail> {
+    let alloc = rt.alloc();
+    let (mut client, mut words, line) = greeted_there(alloc)?;
+    let call = Next::Call;
+    let waits = next_at(alloc, &mut client, &mut words, &COMMIT, call, NOT_YET)?;
+    assert!(rt; waits == Next::Collect);
+    next_at(alloc, &mut client, &mut words, &line, call, NOT_YET)?;
+    let (_, join) = asked_at(alloc, &client, &words, &line)?;
+    assert!(rt; join.call == JOIN);
+    let over = next_at(alloc, &mut client, &mut words, &line, call, NOT_YET)?;
+    assert!(rt; over == Next::Over);
+    let (at, _) = asked_at(alloc, &client, &words, &COLLECT)?;
+    assert!(rt; at == 2);
+    let over = next_at(
+        alloc,
+        &mut client,
+        &mut words,
+        &COLLECT,
+        call,
+        Reply::Joined,
+    )?;
+    assert!(rt; over == Next::Over);
+    let (_, read) = asked_at(alloc, &client, &words, &line)?;
+    assert!(rt; matches!(read.call, Call::ReadOwner { .. }));
+    let (at, _) = asked_at(alloc, &client, &words, &COLLECT)?;
+    assert!(rt; at == 1);
+    assert!(rt; client.due() == Some((1, TRANS)));
+    Ok(())
+}
+
+// A stale session takes with it what the client knew there, and nothing at other servers.
+#[test]
+fn joins_again_behind_a_restart(rt: HostRuntime) -> Result<(), Fail> {
+    let alloc = rt.alloc();
+    let (mut client, mut words, line) = greeted_there(alloc)?;
+    let call = Next::Call;
+    next_at(alloc, &mut client, &mut words, &line, call, Reply::Joined)?;
+    let stale = Reply::Refused(Refusal::StaleSession { epoch: 5 });
+    next_at(alloc, &mut client, &mut words, &line, call, stale)?;
+    let (at, hello) = asked_at(alloc, &client, &words, &line)?;
+    assert!(rt; at == 2 && matches!(hello.call, Call::Hello { .. }));
+    let welcome = Reply::Welcome { epoch: 5 };
+    next_at(alloc, &mut client, &mut words, &line, call, welcome)?;
+    let (_, join) = asked_at(alloc, &client, &words, &line)?;
+    assert!(rt; join.epoch == 5 && join.call == JOIN);
+    let gone = Reply::Refused(Refusal::UnknownTrans);
+    let over = next_at(alloc, &mut client, &mut words, &line, call, gone)?;
+    assert!(rt; over == Next::Over && client.trans == Some(TRANS));
+    let (at, end) = asked_at(alloc, &client, &words, &COMMIT)?;
+    assert!(rt; at == 1 && end.epoch == 1);
+    Ok(())
+}
+
+// A word stands for no file of its server before its file is created; a line on it goes there.
+#[test]
+fn words_are_of_any_server(rt: HostRuntime) -> Result<(), Fail> {
+    let alloc = rt.alloc();
+    let client = begun(alloc)?;
+    let mut words = Words::new(alloc);
+    words.at_line(&Line::Create {
+        client: 2,
+        server: 2,
+        word: name(b"F")?,
+        owner: name(b"ann")?,
+        size: 0,
+        read: AccessList::new(Vec::new(alloc)),
+        modify: AccessList::new(Vec::new(alloc)),
+        choice: Choice::Wait,
+    })?;
+    let file = FileWord::Word(name(b"F")?);
+    assert!(rt; words.file_of(&file).server == 2 && words.file_of(&file).counter == 0);
+    let (at, _) = asked_at(alloc, &client, &words, &Line::ReadProps { client: 2, file })?;
+    assert!(rt; at == 2);
     Ok(())
 }

@@ -1,17 +1,20 @@
 //! Calls that wait, and what a client does next for a line.
 use alp_base::{FileId, Name};
 
-/// What the answer to a call that waits is good for: a word that it binds, a file that it opens, or nothing more.
-#[derive(Drop)]
+/// What the answer to a call that waits is good for: a word that it binds, a file that it opens, a part of the transaction that it
+/// makes, or nothing more.
+#[derive(Clone, Copy)]
 pub enum Purpose {
     Word(Name),
     Open(FileId),
+    Part,
     Nothing,
 }
 
-/// A call that was answered that it waits.
-#[derive(Drop)]
+/// A call that was answered that it waits: where, and its number there.
+#[derive(Clone, Copy)]
 pub struct Waiting {
+    pub server: u8,
     pub number: u32,
     pub purpose: Purpose,
     /// How many collects of it were answered so too.
@@ -23,7 +26,7 @@ pub struct Waiting {
 pub enum Next {
     /// It sends the frame of the line.
     Call,
-    /// It collects the call that waits.
+    /// It collects the call that came to wait last, once messages were carried.
     Collect,
     /// Its patience is at an end, and its transaction times out.
     TimeOut,

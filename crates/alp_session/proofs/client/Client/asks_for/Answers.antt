@@ -1,3 +1,4 @@
+use Rattle.std.specs.FinMap as map
 use Rattle.std.specs.Prelude.{Option, Some, IfSome}
 use Rattle.std.proofs.Common.{◌≡◌, sym, subst}
 use Rattle.alp_files.specs.declared.call.Call.{Call}
@@ -13,4 +14,4 @@ returns-clause-sendable c =
     let sendable : calls.IsSendable c.in-Some.call =
     subst (λ (o : Option Call). IfSome o calls.IsSendable) called (call_sendable c.args.words.now c.args.self.now c.args.line.now c.requires.ready.told c.requires.line) in
     subst frames.IsSendable (sym c.request.ensures)
-    (request_sendable c.args.number c.args.self.now c.args.self.now.session c.in-Some.call c.requires.ready.from_one c.requires.ready.to_last sendable)
+    (request_sendable c.args.number c.args.self.now c.args.line.now (map.get c.args.self.now.sessions c.server_for-server.result) c.in-Some.call c.requires.ready.from_one c.requires.ready.to_last sendable)
