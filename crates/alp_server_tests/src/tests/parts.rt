@@ -3,9 +3,10 @@ ghost use Rattle.std.specs.Prelude.{◌≡◌, IfOk, true};
 ghost use Rattle.alp_calls.specs.Regained.{IsNoted};
 ghost use Rattle.alp_vault.specs.Stages.{is_serving};
 
-use alp_base::{FileId, Key, OutOfMemory, Page, PageRef, Sizes};
+use alp_base::{
+    Cell, Change, CutList, FileId, FileList, Key, OutOfMemory, Page, PageRef, PutList, Sizes,
+};
 use alp_calls::{CallFault, regained_part};
-use alp_files::{Cell, Change, CutList, FileList, PutList};
 use alp_trans::Part;
 use alp_vault::MemVault;
 use std::alloc::Global;

@@ -2,7 +2,7 @@ use Rattle.std.specs.Prelude.{OnOk}
 use Rattle.std.proofs.Common.{List, length, ap, ◌∙◌, subst, arith}
 use Rattle.std.proofs.lemmas.List.{length-map}
 use Rattle.alp_base.specs.declared.key.Key.{Key}
-use Rattle.alp_files.specs.declared.cell.Cell.{Cell}
+use Rattle.alp_base.specs.declared.cell.Cell.{Cell}
 use Rattle.alp_files.specs.Edits.{Edit, Put}
 use Rattle.alp_files.specs.Undo.{puts_of}
 use Rattle.alp_vault.specs.Volumes.{fit_keys}

@@ -1,7 +1,7 @@
 use Rattle.std.specs.Prelude.{Bool}
 use Rattle.std.proofs.Common.{List, ◌++◌, ap, ◌∙◌, subst}
 use Rattle.alp_base.specs.declared.key.Key.{Key}
-use Rattle.alp_files.specs.declared.cell.Cell.{Cell}
+use Rattle.alp_base.specs.declared.cell.Cell.{Cell}
 use Rattle.alp_files.specs.Cells.{Cells}
 use Rattle.alp_files.specs.Needs.{intents_from, changed_by}
 use Rattle.alp_files.specs.Undo.{puts_of}
