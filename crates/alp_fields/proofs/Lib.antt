@@ -8,6 +8,7 @@ pub mod ModeFieldLaw
 pub mod PropsFieldLaw
 pub mod OwnerFieldLaw
 pub mod ItemLemmas
+pub mod WrittenLemmas
 pub mod ChangeFieldLaw
 pub mod ReadyNoteLaw
 pub mod DecisionNoteLaw

@@ -22,7 +22,7 @@ loop-preserved g c =
     let bytes = c.taken-bytes.result.now in
     let is = subst (λ (bs : List ℕ). bytes ≡ take (length bs - length c.read.new.reader) bs) c.rest-before.ensures c.taken-bytes.ensures in
     rw (c.in_ok-push.ensures.items, c.rise_on-rises.ensures)
-    (read_goes_on form c.requires c.args.count c.loop.counter c.loop.items.items c.loop.reader c.args.reader.now c.read.new.reader c.loop.rises c.loop.last bytes c.in-Some.next c.loop-test.true
+    (read_goes_on form c.requires c.args.count c.loop.counter c.loop.items.items c.loop.reader c.args.reader.now c.read.new.reader c.loop.rises c.loop.last.now bytes c.in-Some.next c.loop-test.true
     (subst (IsRead form c.loop.reader c.read.new.reader) c.in-Some.is c.in_ok-next.ensures) is c.loop.invariant)
 
 pub returns-clause-read : goal.returns-clause-read
