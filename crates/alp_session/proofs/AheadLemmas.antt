@@ -188,7 +188,7 @@ joined_fewer words c q t l g there at is needs r = (tt, omega arith)
 
 called_fewer : (words after : WordMap) (c : Client) (q : Sending) (l : Line) (g : Greeted) → map.get c.sessions q.server ≡ Some g → (r : Reply) → Fewer after l 2 (called words c q l r)
 called_fewer words after c q l g there (reply.Refused refusal.NotYet) =
-    let one : cond (is_part (purpose_of words l)) 3 1 ≡ 1 = ap (λ (b : Bool). cond b 3 1) (not_part words l) in
+    let one : ◌≡◌ {A = ℕ} (cond (is_part (purpose_of words l)) 3 1) 1 = ap (λ (b : Bool). cond b 3 1) (not_part words l) in
     awaiting_fewer after c q (purpose_of words l) l 2 g there (λ h. let wrong : true ≡ false = sym h ∙ not_part words l in cc) (omega (arith, one))
 called_fewer words after c q l g there r = (tt, omega arith)
 

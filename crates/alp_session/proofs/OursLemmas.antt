@@ -362,8 +362,8 @@ all_new zero k = refl
 all_new (suc m) zero = refl
 all_new (suc m) (suc k) = all_new m k
 
-pub new_ours : (n : ℕ) → 1 ≤ n → IsCrowdOf n new_crowd
-new_ours n some = record {
-  words = λ name. (omega arith, some);
+pub new_ours : (n : ℕ) → 1 ≤ n → ((name : List ℕ) → map.get new_crowd.words name ≡ None) → IsCrowdOf n new_crowd
+new_ours n some none = record {
+  words = λ name. subst (λ (o : Option Meaning). IsServer n (meant o).server) (sym (none name)) (omega arith, some);
   each = λ k. subst (λ (c : Client). IsClientOf n c) (sym (all_new 17 k)) (tt, tt, tt, tt, tt);
 }

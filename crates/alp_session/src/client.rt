@@ -689,7 +689,8 @@ impl Client {
             next,
             settings,
         };
-        self.hears_in(words, sending, greeted.joined, line, told)
+        let after = self.hears_in(words, sending, greeted.joined, line, told)?;
+        Ok(after)
     }
 
     /// What the client makes of the bytes that it is handed for a frame that it sent for a line. Gives what it does next for it.
